@@ -35,8 +35,8 @@ use Rattle.am_model.specs.Receiving.{spread_row, bcast_row, order_row, accept_ro
 use Rattle.am_model.specs.Joining.{join_ask_row, welcome_row, leave_ask_row, gone_row}
 use Rattle.am_model.specs.Resets.{invite_row, vote_row, fetch_row, piece_row, result_row, hand_over_row}
 use Rattle.am_model.specs.Hearing.{hear_row}
-use Rattle.am_model.specs.Step.{row, step, hear, refused}
-use Rattle.am_model.specs.World.{unchanged, stepped, happens, happen}
+use Rattle.am_model.specs.Step.{row, step, hear, hear_refusal}
+use Rattle.am_model.specs.World.{with_record, with_step, happens, happen}
 use Rattle.am_model.specs.Lawful.{is_complete, is_lawful, greatest_complete, watch, watch_all}
 use Rattle.am_model.specs.Settle.{running, hearings_from, waves, rounds, settle_events}
 use Rattle.am_model.specs.Text.{name_text, stamp_text, names_text, body_text, resilience_text, entry_text, outcome_word, outcome_parts, outcome_text, act_word, act_parts, event_text, kind_word, addressees_text, letter_text, record_line, records_text, group_line, group_text, log_line, empty_log_line, log_text, logs_text, mark_line, play_text}
@@ -109,16 +109,22 @@ def act(event, resilience):
                      "return": "Return"}[do]
 
 
+def codes(line):
+    """A line of a text, in parts where it is longer than others are."""
+    parts = ['codes "%s"' % line[at:at + 120] for at in range(0, len(line), 120)]
+    return parts[0] if len(parts) == 1 else "(%s)" % "\n    ++ ".join(parts)
+
+
 def statement(title, script, text):
     """The statement of a case: the text of its events is this one."""
     play = script["play"]
     resilience = play.get("resilience", 0)
     events = ["on %d %s" % (e["node"], act(e, resilience)) for e in play["events"]]
-    founding = "(founded %s %d %d %d)" % (name_list(play["founders"]), resilience, play.get("window", 64),
+    founding = "(rules_with %s %d %d %d)" % (name_list(play["founders"]), resilience, play.get("window", 64),
                                           play.get("pb_up_to", 256))
     words = "settled_text_of" if play.get("settle") else "text_of"
     run = fitted("%s = %s %s (" % (title, words, founding)) + "\n" + "".join(packed(events)) + "    [])"
-    lines = "".join('    codes "%s" ∷\n' % line for line in text.splitlines())
+    lines = "".join("    %s ∷\n" % codes(line) for line in text.splitlines())
     return "abbrev pub %s : Type 0\n%s ≡ lines (\n%s    [])\n" % (title, run, lines)
 
 
@@ -126,10 +132,10 @@ def titled(case):
     return "".join(part.capitalize() for part in case.replace("-", "_").split("_"))
 
 
-SPECS_HEAD = """use Rattle.std.specs.Prelude.{◌≡◌, [], ◌∷◌, codes}
+SPECS_HEAD = """use Rattle.std.specs.Prelude.{◌≡◌, [], ◌∷◌, ◌++◌, codes}
 use Rattle.am_group.specs.declared.event.Act.TheVariants as act
 use Rattle.am_model.specs.Play.{text_of, settled_text_of}
-use Rattle.am_rows.specs.Scripts.{founded, on, lines}
+use Rattle.am_rows.specs.Scripts.{rules_with, on, lines}
 """
 
 
@@ -150,7 +156,7 @@ def is_used(name, text):
     """Whether a text uses a name; an operator by its sign."""
     if name.endswith("."):
         return re.search(r"\b" + re.escape(name), text) is not None
-    if name in ("◌≡◌", "◌∷◌", "[]"):
+    if name in ("◌≡◌", "◌∷◌", "◌++◌", "[]"):
         return name.strip("◌") in text
     return re.search(r"(?<![\w.])" + re.escape(name) + r"(?![\w])", text) is not None
 

@@ -9,7 +9,7 @@ use Rattle.am_sender.specs.Sends as own
 use Rattle.am_model.specs.declared.status.Status.{Status}
 use Rattle.am_model.specs.declared.status.Status.TheVariants.{Stranger, Asking, Member, Departed}
 use Rattle.am_model.specs.Group.{has_log}
-use Rattle.am_model.specs.Node.{Node, told, view, is_member}
+use Rattle.am_model.specs.Node.{Node, image_of, view, is_member}
 use Rattle.am_handlers.specs.Keeps.{NodeKeeps, IsDue}
 use Rattle.am_handlers.proofs.Keeping.{keeps_steady, own_for, member_log, MaySend}
 
@@ -46,7 +46,7 @@ pub may_submit : (m : Node) (sends : own.Sends) → NodeKeeps m → is_member m.
     → own.next_request sends ≡ own.next_request m.sends → MaySend m sends
 may_submit m sends keeps member stays next = record {
   settled = λ leaves. absurd (let e = sym stays ∙ leaves in cc);
-  due = subst (λ n. IsDue (at_place (told m) m.core.who) (life_of m.core.who) n) (sym next) keeps.due;
+  due = subst (λ n. IsDue (at_place (image_of m) m.core.who) (life_of m.core.who) n) (sym next) keeps.due;
   unsent = λ none. absurd (let e = sym (member_log m.status member) ∙ none in cc);
 }
 
@@ -69,6 +69,6 @@ pub may_collect : (m : Node) (req : ℕ) (sends : own.Sends) → NodeKeeps m →
     → MaySend m sends
 may_collect m req sends keeps is next = record {
   settled = λ leaves. ap own.waiting is ∙ collect_waits req m.sends (keeps.settled leaves);
-  due = subst (λ n. IsDue (at_place (told m) m.core.who) (life_of m.core.who) n) (sym next) keeps.due;
+  due = subst (λ n. IsDue (at_place (image_of m) m.core.who) (life_of m.core.who) n) (sym next) keeps.due;
   unsent = λ none. let few = keeps.unsent none in omega arith;
 }

@@ -15,7 +15,7 @@ use Rattle.am_sender.specs.declared.OwnSend.{OwnSend}
 use Rattle.am_sender.specs.Sends as own
 use Rattle.am_sender.proofs.Lines.{waiting_next}
 use Rattle.am_sequencer.proofs.Numbers.{members_pushed}
-use Rattle.am_model.specs.Node.{Node, top, told, view, others, only_name, own_row, acts, has_room, is_sequencer, waiting, pushed}
+use Rattle.am_model.specs.Node.{Node, top, image_of, view, others, only_name, own_row, acts, has_room, is_sequencer, waiting, push_entry}
 use Rattle.am_model.specs.Emit.{quiet}
 use Rattle.am_model.specs.Calls.{emit, hand_in}
 use Rattle.am_handlers.specs.Keeps.{NodeKeeps}
@@ -85,7 +85,7 @@ emit_full m answer req body is test leads room = emit_some m answer req body is 
 
 pub emit_numbers : (m mid : Node) (answer : Outcome) (req : ℕ) (body to : List ℕ) (told_it : Note) → own.waiting_send m.sends ≡ Some (req, body)
     → (acts m && nat_lt (own_row m).last req) ≡ true → is_sequencer m ≡ true → has_room m ≡ true
-    → to ≡ others m → told_it ≡ note.Bcast (top m + 1) (Data m.core.who req body) → mid ≡ pushed m (Data m.core.who req body)
+    → to ≡ others m → told_it ≡ note.Bcast (top m + 1) (Data m.core.who req body) → mid ≡ push_entry m (Data m.core.who req body)
     → emit m (waiting m) answer ≡ noting true mid answer to told_it
 emit_numbers m mid answer req body to told_it is test leads room set tells node =
     emit_some m answer req body is ∙ rw (test, leads, room) (λ k. noting true (sym node k) answer (sym set k) (sym tells k))
@@ -107,13 +107,13 @@ member_row image who is =
     row_by_life (at_place image who) (life_of who) (omega arith) (ap (λ k. k == life_of who) (sym there) ∙ is)
 
 pub may_number : (m : Node) (req : ℕ) (body : List ℕ) → NodeKeeps m → is_sequencer m ≡ true → own.waiting_send m.sends ≡ Some (req, body)
-    → (own_row m).last < req → fits (told m) (Data m.core.who req body) ≡ true
+    → (own_row m).last < req → fits (image_of m) (Data m.core.who req body) ≡ true
 unfolding fits
 may_number m req body keeps leads waits new =
     let member = keeps.leads leads in
-    let row = member_row (told m) m.core.who member in
-    let same : ((at_place (told m) m.core.who).life == life_of m.core.who) ≡ true = let e = row.same in grind (arith, nat_tests) in
-    let last : (own_row m).last ≡ (at_place (told m) m.core.who).last = rw same refl in
+    let row = member_row (image_of m) m.core.who member in
+    let same : ((at_place (image_of m) m.core.who).life == life_of m.core.who) ≡ true = let e = row.same in grind (arith, nat_tests) in
+    let last : (own_row m).last ≡ (at_place (image_of m) m.core.who).last = rw same refl in
     let w = waits_is (waiting m) req body waits in
     let first = waiting_next m.sends.last m.sends.queue w.send w.is ∙ w.request in
     let due = keeps.due in
@@ -122,7 +122,7 @@ may_number m req body keeps leads waits new =
     rw (member, next) refl
 
 pub keeps_number : (m : Node) (capacity req : ℕ) (body : List ℕ) → NodeKeeps m → IsKept m.core.log capacity → is_sequencer m ≡ true
-    → fits (told m) (Data m.core.who req body) ≡ true → NodeKeeps (pushed m (Data m.core.who req body))
+    → fits (image_of m) (Data m.core.who req body) ≡ true → NodeKeeps (push_entry m (Data m.core.who req body))
 keeps_number m capacity req body keeps kept leads fit =
     keeps_pushed m (Data m.core.who req body) refl fit capacity kept (leading_log m leads)
     (λ is. ap (λ set. has set m.core.who) (members_pushed m.core.log m.core.who req body) ∙ keeps.leads is)

@@ -25,10 +25,10 @@ use Rattle.am_sender.specs.declared.OwnSend.{OwnSend}
 use Rattle.am_sender.specs.Sends as own
 use Rattle.am_model.specs.declared.status.Status.{Status}
 use Rattle.am_model.specs.declared.status.Status.TheVariants as status
-use Rattle.am_model.specs.Node.{Node, top, told, view, members, others, only_name, lowest_or_first, waiting, unsettled, has_room, is_member, is_sequencer}
-use Rattle.am_model.specs.Node.{pushed}
+use Rattle.am_model.specs.Node.{Node, top, image_of, view, members, others, only_name, lowest_or_first, waiting, unsettled_count, has_room, is_member, is_sequencer}
+use Rattle.am_model.specs.Node.{push_entry}
 use Rattle.am_model.specs.Emit.{Plan, quiet, finish, with_accept}
-use Rattle.am_model.specs.Refresh.{refresh, lead, settle, settled, refresh_at_end, led_of, with_led}
+use Rattle.am_model.specs.Refresh.{refresh, lead, settle, settle_waiting, refresh_at_end, led_of, with_led}
 use Rattle.am_model.specs.Calls.{go, is_unfinished, leave_now, leave_row, leave_by}
 use Rattle.am_model.specs.Ends.{IsEndOf}
 use Rattle.am_handlers.specs.Keeps.{NodeKeeps, IsSteady}
@@ -51,10 +51,10 @@ members_left image number name long up is =
     rw test (map-set member_life image.rows (place_of name) (record (at_place image name) { left = number })
     ∙ sym (leaves_member image name (record (at_place image name) { left = number }) long life life up))
 
-pub left_members : (m : Node) (capacity : ℕ) → IsKept m.core.log capacity → has (members m) m.core.who ≡ true → members (pushed m (Leave m.core.who)) ≡ others m
+pub left_members : (m : Node) (capacity : ℕ) → IsKept m.core.log capacity → has (members m) m.core.who ≡ true → members (push_entry m (Leave m.core.who)) ≡ others m
 left_members m capacity kept is =
     ap members_of (told-push m.core.log (Leave m.core.who))
-    ∙ members_left (told m) (top m + 1) m.core.who (long_fold m.core.log.image (m.core.log.start + 1) m.core.log.entries kept.image.places) (omega arith) is
+    ∙ members_left (image_of m) (top m + 1) m.core.who (long_fold m.core.log.image (m.core.log.start + 1) m.core.log.entries kept.image.places) (omega arith) is
 
 -- ---- who has left leads once more
 
@@ -75,7 +75,7 @@ last_entry log e =
     ap (entry_at (with_entry log e)) at ∙ entry_after log e (length log.entries) refl
 
 pub may_lead_left : (m : Node) (capacity : ℕ) → IsKept m.core.log capacity → has (members m) m.core.who ≡ true → size (others m) ≡ 0
-    → MayLead (pushed m (Leave m.core.who)).core
+    → MayLead (push_entry m (Leave m.core.who)).core
 may_lead_left m capacity kept is alone = inr (last_entry m.core.log (Leave m.core.who), ap size (left_members m capacity kept is) ∙ alone)
 
 -- ---- leading
@@ -91,7 +91,7 @@ departed m = record m { status = status.Departed }
 
 settle_none : (m : Node) → waiting m ≡ None → settle m ≡ m
 unfolding settle
-settle_none m none = ap (settled m) none
+settle_none m none = ap (settle_waiting m) none
 
 lead_waits : (m : Node) → waiting m ≡ None → waiting (lead m) ≡ None
 unfolding lead
@@ -111,14 +111,14 @@ at_end_leads m none leads = ap settle (refresh_leads m leads) ∙ settle_none (l
 
 -- the end of a step of who has left is that of a leading node that has departed
 pub depart_end : (m : Node) → waiting m ≡ None → is_sequencer m ≡ true
-    → departed (refresh_at_end (pushed m (Leave m.core.who))) ≡ lead (pushed (departed m) (Leave m.core.who))
+    → departed (refresh_at_end (push_entry m (Leave m.core.who))) ≡ lead (push_entry (departed m) (Leave m.core.who))
 depart_end m none leads =
-    let gone = pushed m (Leave m.core.who) in
+    let gone = push_entry m (Leave m.core.who) in
     ap departed (at_end_leads gone none (leads_pushed m (Leave m.core.who) refl ∙ leads)) ∙ lead_departed gone
 
 -- ---- what is kept of it
 
-pub leave_fits : (m : Node) → has (members m) m.core.who ≡ true → fits (told m) (Leave m.core.who) ≡ true
+pub leave_fits : (m : Node) → has (members m) m.core.who ≡ true → fits (image_of m) (Leave m.core.who) ≡ true
 unfolding fits
 leave_fits m is = is
 
@@ -126,7 +126,7 @@ no_leader : (a b : Bool) → ((false && a) && b) ≡ true → ⊥
 no_leader a b is = cc
 
 pub keeps_left : (m : Node) (capacity : ℕ) → IsKept m.core.log capacity → has (members m) m.core.who ≡ true → NodeKeeps (departed m)
-    → NodeKeeps (pushed (departed m) (Leave m.core.who))
+    → NodeKeeps (push_entry (departed m) (Leave m.core.who))
 keeps_left m capacity kept is keeps =
     keeps_pushed (departed m) (Leave m.core.who) refl (leave_fits m is) capacity kept refl
     (λ leads. absurd (no_leader (stamp_eq m.core.promise (view m)) ((view m).by == m.core.who) leads)) keeps
@@ -156,7 +156,7 @@ and_none false b = refl
 
 -- the last member is told of nobody, and departs
 abbrev pub leaving_last : Node → Outcome → Plan
-leaving_last m answer = record (quiet m answer) { node = pushed m (Leave m.core.who); outcome = λ n. said.Departed; numbers = true; departs = true }
+leaving_last m answer = record (quiet m answer) { node = push_entry m (Leave m.core.who); outcome = λ n. said.Departed; numbers = true; departs = true }
 
 pub go_departs : (m : Node) (answer : Outcome) → is_sequencer m ≡ true → size (others m) ≡ 0 → has_room m ≡ true → go (quiet m answer) ≡ leaving_last m answer
 go_departs m answer leads none room =
@@ -164,7 +164,7 @@ go_departs m answer leads none room =
     rw (leads, test, room) refl
 
 pub departs_done : (before : ℕ) (m new : Node) (answer : Outcome) (box : List Letter) → box ≡ []
-    → IsEndOf (departed (refresh_at_end (pushed m (Leave m.core.who)))) new → Done before (leaving_last m answer) said.Departed box new
+    → IsEndOf (departed (refresh_at_end (push_entry m (Leave m.core.who)))) new → Done before (leaving_last m answer) said.Departed box new
 unfolding finish
 departs_done before m new answer box empty end = λ first acc. record {
   node = end;
@@ -172,9 +172,9 @@ departs_done before m new answer box empty end = λ first acc. record {
   sent = empty ∙ sym (told first);
 }
   where
-    told : (first : Node) → with_accept first (leaving_last m answer) (refresh_at_end (pushed m (Leave m.core.who))) [] ≡ []
-    told first = rw (and_none (is_sequencer (refresh_at_end (pushed m (Leave m.core.who))))
-        (nat_lt first.core.acc (refresh_at_end (pushed m (Leave m.core.who))).core.acc)) refl
+    told : (first : Node) → with_accept first (leaving_last m answer) (refresh_at_end (push_entry m (Leave m.core.who))) [] ≡ []
+    told first = rw (and_none (is_sequencer (refresh_at_end (push_entry m (Leave m.core.who))))
+        (nat_lt first.core.acc (refresh_at_end (push_entry m (Leave m.core.who))).core.acc)) refl
 
 -- whether there is somebody else
 pub some_others : (m : Node) {set : List ℕ} {count : ℕ} → count ≡ size set → set ≡ others m → 0 < count → 0 < size (others m)
@@ -186,12 +186,12 @@ no_others m {set} {count} count_is set_is none = let is : count ≡ size (others
 pub leave_leaving : (m : Node) → m.leaving ≡ true → leave_now m ≡ quiet m said.Leaving
 leave_leaving m is = rw is refl
 
-pub leave_busy : (m : Node) (count : ℕ) → m.leaving ≡ false → (nat_lt 0 (unsettled m) || is_unfinished m.ballot) ≡ true → count ≡ unsettled m
+pub leave_busy : (m : Node) (count : ℕ) → m.leaving ≡ false → (nat_lt 0 (unsettled_count m) || is_unfinished m.ballot) ≡ true → count ≡ unsettled_count m
     → leave_now m ≡ quiet m (said.Busy count)
 leave_busy m count is busy counts = λ k. if is k then quiet m said.Leaving else if busy k then quiet m (said.Busy (sym counts k)) else go
     (quiet (record m { leaving = true }) said.Asked)
 
-pub leave_goes : (m : Node) → m.leaving ≡ false → (nat_lt 0 (unsettled m) || is_unfinished m.ballot) ≡ false
+pub leave_goes : (m : Node) → m.leaving ≡ false → (nat_lt 0 (unsettled_count m) || is_unfinished m.ballot) ≡ false
     → leave_now m ≡ go (quiet (record m { leaving = true }) said.Asked)
 leave_goes m is idle = rw (is, idle) refl
 
@@ -227,8 +227,8 @@ none_waits (s ∷ ss) none =
     (λ f. let rest : count_by own.is_unsettled (s ∷ ss) ≡ 0 + count_by own.is_unsettled ss = more
     ∙ ap (λ (b : Bool). (if b then 1 else 0) + count_by own.is_unsettled ss) f in rw f (none_waits ss (omega arith)))
 
-pub idle_none : (m : Node) → (nat_lt 0 (unsettled m) || is_unfinished m.ballot) ≡ false → waiting m ≡ None
-idle_none m idle = none_waits m.sends.queue (none_left (unsettled m) (is_unfinished m.ballot) idle)
+pub idle_none : (m : Node) → (nat_lt 0 (unsettled_count m) || is_unfinished m.ballot) ≡ false → waiting m ≡ None
+idle_none m idle = none_waits m.sends.queue (none_left (unsettled_count m) (is_unfinished m.ballot) idle)
   where
     none_left : (k : ℕ) (b : Bool) → (nat_lt 0 k || b) ≡ false → k ≡ 0
     none_left k b h = grind (arith, nat_tests)
@@ -258,9 +258,9 @@ steady_others : (m n : Node) → IsSteady m n → others n ≡ others m
 steady_others m n s = λ k. without_name (members_of (s.told k)) (s.who k)
 
 pub left_alone : (m : Node) (capacity : ℕ) → IsKept m.core.log capacity → has (members m) m.core.who ≡ true → waiting m ≡ None → is_sequencer m ≡ true
-    → size (others m) ≡ 0 → size (others (refresh_at_end (pushed m (Leave m.core.who)))) ≡ 0
+    → size (others m) ≡ 0 → size (others (refresh_at_end (push_entry m (Leave m.core.who)))) ≡ 0
 left_alone m capacity kept is none leads alone =
-    let gone = pushed m (Leave m.core.who) in
+    let gone = push_entry m (Leave m.core.who) in
     let still : is_sequencer gone ≡ true = leads_pushed m (Leave m.core.who) refl ∙ leads in
     ap (λ (x : Node). size (others x)) (at_end_leads gone none still ∙ sym (refresh_leads gone still))
     ∙ ap size (steady_others gone (refresh gone) (refresh_steady gone))

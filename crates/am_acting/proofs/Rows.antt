@@ -14,8 +14,8 @@ use Rattle.am_model.specs.declared.status.Status.{Status}
 use Rattle.am_model.specs.declared.status.Status.TheVariants as status
 use Rattle.am_model.specs.Node.{Node, is_member, waiting}
 use Rattle.am_model.specs.Emit.{quiet}
-use Rattle.am_model.specs.Calls.{send_row, done_row, take_row, given, join_row, join_by, queue, queued, emit}
-use Rattle.am_model.specs.Receiving.{spread_row, hold_row, held_up}
+use Rattle.am_model.specs.Calls.{send_row, done_row, take_row, give_out, join_row, join_by, queue, with_queued, emit}
+use Rattle.am_model.specs.Receiving.{spread_row, hold_row, answer_hold}
 use Rattle.am_model.specs.Sequencing.{row_at}
 use Rattle.am_model.specs.Joining.{gone_row}
 use Rattle.am_acting.specs.Forms.{waits_for}
@@ -44,7 +44,7 @@ pub hold_waits : (m : Node) (base high req : ℕ) → waits_for (waiting m) req 
 unfolding hold_row
 hold_waits m base high req is = by_send (waiting m) is
   where
-    by_send : (w : Option OwnSend) → waits_for w req ≡ true → held_up m base high req w ≡ quiet m (said.PutOff req base high)
+    by_send : (w : Option OwnSend) → waits_for w req ≡ true → answer_hold m base high req w ≡ quiet m (said.PutOff req base high)
     by_send None is = absurd (cc)
     by_send (Some s) is = rw is refl
 
@@ -52,7 +52,7 @@ pub hold_idle : (m : Node) (base high req : ℕ) → waits_for (waiting m) req �
 unfolding hold_row
 hold_idle m base high req is = by_send (waiting m) is
   where
-    by_send : (w : Option OwnSend) → waits_for w req ≡ false → held_up m base high req w ≡ quiet m said.Known
+    by_send : (w : Option OwnSend) → waits_for w req ≡ false → answer_hold m base high req w ≡ quiet m said.Known
     by_send None is = refl
     by_send (Some s) is = rw is refl
 
@@ -87,7 +87,7 @@ pub take_given : (m : Node) (number : ℕ) (e : Entry) → is_member m.status �
 unfolding take_row
 take_given m number e is low next there =
     let test : (m.core.taken == m.core.acc) ≡ false = grind (arith, nat_tests) in
-    rw (is, test) (ap (given m) there ∙ ap (λ k. quiet (record m { core = record (m.core) { taken = k } }) (said.Took k e)) (sym next))
+    rw (is, test) (ap (give_out m) there ∙ ap (λ k. quiet (record m { core = record (m.core) { taken = k } }) (said.Took k e)) (sym next))
 
 -- ---- sends
 
@@ -114,13 +114,13 @@ send_queues m body is stays few =
 pub send_waits : (m : Node) (body : List ℕ) (req : ℕ) → is_member m.status ≡ true → m.leaving ≡ false → length m.sends.queue < 4 → is_some (waiting m) ≡ true
     → req ≡ m.sends.last + 1
     → send_row m body ≡ quiet (record m { sends = own.submit body m.sends }) (said.Queued req)
-send_waits m body req is stays few waits next = send_queues m body is stays few ∙ rw waits (ap (λ k. quiet (queued m body) (said.Queued k)) (sym next))
+send_waits m body req is stays few waits next = send_queues m body is stays few ∙ rw waits (ap (λ k. quiet (with_queued m body) (said.Queued k)) (sym next))
 
 pub send_emits : (m : Node) (body : List ℕ) (req : ℕ) → is_member m.status ≡ true → m.leaving ≡ false → length m.sends.queue < 4 → is_some (waiting m) ≡ false
     → req ≡ m.sends.last + 1
     → send_row m body ≡ emit (record m { sends = own.submit body m.sends }) (waiting (record m { sends = own.submit body m.sends })) (said.Queued req)
 send_emits m body req is stays few waits next = send_queues m body is stays few
-    ∙ rw waits (ap (λ k. emit (queued m body) (waiting (queued m body)) (said.Queued k)) (sym next))
+    ∙ rw waits (ap (λ k. emit (with_queued m body) (waiting (with_queued m body)) (said.Queued k)) (sym next))
 
 pub done_is : (m : Node) (req : ℕ) → done_row m req ≡ quiet (record m { sends = own.collect req m.sends }) (own.collect_outcome req m.sends)
 unfolding done_row

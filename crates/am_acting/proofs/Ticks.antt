@@ -12,7 +12,7 @@ use Rattle.am_packet.specs.Boxes.{Letter, with_letter}
 use Rattle.am_sender.specs.Sends as own
 use Rattle.am_model.specs.declared.status.Status.{Status}
 use Rattle.am_model.specs.declared.status.Status.TheVariants as status
-use Rattle.am_model.specs.Node.{Node, Ballot, top, view, others, only_name, lowest_or_first, acts, own_row, has_room, is_sequencer, waiting, pushed}
+use Rattle.am_model.specs.Node.{Node, Ballot, top, view, others, only_name, lowest_or_first, acts, own_row, has_room, is_sequencer, waiting, push_entry}
 use Rattle.am_model.specs.Emit.{Plan, quiet, finish, with_accept, accept_of}
 use Rattle.am_model.specs.Refresh.{refresh_at_end}
 use Rattle.am_model.specs.Calls.{would_emit, emit, go}
@@ -26,7 +26,7 @@ use Rattle.am_acting.specs.declared.note.Note.{Note}
 use Rattle.am_acting.specs.declared.note.Note.TheVariants as note
 use Rattle.am_acting.specs.declared.ticking.Again.{Again}
 use Rattle.am_acting.specs.Notes.{packet_of}
-use Rattle.am_acting.specs.Forms.{noting, polled, handing, and_view, again_of, unfinished_of, by_again, own_send}
+use Rattle.am_acting.specs.Forms.{noting, and_poll, handing, and_view, again_of, again_of_ballot, by_again, own_send}
 use Rattle.am_acting.proofs.Emits.{waits_is, waits_none, emit_stays, emit_full, emit_numbers}
 use Rattle.am_acting.proofs.Leaves.{departed}
 
@@ -41,7 +41,7 @@ abbrev pub acts_or_asks : Node → Option (Option Again) → Plan
 acts_or_asks m None = tick_acting m
 acts_or_asks m (Some a) = by_again m a
 
-pub tick_unfinished : (m : Node) (b : Option Ballot) → tick_with m b ≡ acts_or_asks m (unfinished_of b)
+pub tick_unfinished : (m : Node) (b : Option Ballot) → tick_with m b ≡ acts_or_asks m (again_of_ballot b)
 tick_unfinished m None = refl
 tick_unfinished m (Some b) = split b.is_over
     (λ t. rw t refl)
@@ -85,14 +85,14 @@ emits_none m is = ap (would_emit m) (waits_none (waiting m) is)
 
 -- ---- the sequencer
 
-pub leads_leaving : (m : Node) → m.leaving ≡ true → waiting m ≡ None → tick_sequencer m ≡ go (polled (quiet m said.Ticked))
-leads_leaving m is none = λ k. if is k then go (polled (emit m (none k) (put_off m (none k)))) else polled (emit m (none k) (put_off m (none k)))
+pub leads_leaving : (m : Node) → m.leaving ≡ true → waiting m ≡ None → tick_sequencer m ≡ go (and_poll (quiet m said.Ticked))
+leads_leaving m is none = λ k. if is k then go (and_poll (emit m (none k) (put_off m (none k)))) else and_poll (emit m (none k) (put_off m (none k)))
 
-leads_stays : (m : Node) → m.leaving ≡ false → tick_sequencer m ≡ polled (emit m (waiting m) (put_off m (waiting m)))
-leads_stays m is = ap (λ b. if b then go (polled (emit m (waiting m) (put_off m (waiting m)))) else polled (emit m (waiting m) (put_off m (waiting m)))) is
+leads_stays : (m : Node) → m.leaving ≡ false → tick_sequencer m ≡ and_poll (emit m (waiting m) (put_off m (waiting m)))
+leads_stays m is = ap (λ b. if b then go (and_poll (emit m (waiting m) (put_off m (waiting m)))) else and_poll (emit m (waiting m) (put_off m (waiting m)))) is
 
-pub leads_idle : (m : Node) → m.leaving ≡ false → own.waiting_send m.sends ≡ None → tick_sequencer m ≡ polled (quiet m said.Ticked)
-leads_idle m is none = leads_stays m is ∙ ap (λ w. polled (emit m w (put_off m w))) (waits_none (waiting m) none)
+pub leads_idle : (m : Node) → m.leaving ≡ false → own.waiting_send m.sends ≡ None → tick_sequencer m ≡ and_poll (quiet m said.Ticked)
+leads_idle m is none = leads_stays m is ∙ ap (λ w. and_poll (emit m w (put_off m w))) (waits_none (waiting m) none)
 
 put_off_some : (m : Node) (req : ℕ) (body : List ℕ) → own.waiting_send m.sends ≡ Some (req, body) → put_off m (waiting m) ≡ put_off m (Some (own_send req body))
 put_off_some m req body is =
@@ -100,45 +100,45 @@ put_off_some m req body is =
     ap (put_off m) w.is ∙ (λ k. put_off m (Some (own_send (w.request k) (w.text k))))
 
 pub leads_numbered : (m : Node) (req : ℕ) (body : List ℕ) → m.leaving ≡ false → own.waiting_send m.sends ≡ Some (req, body)
-    → (acts m && nat_lt (own_row m).last req) ≡ false → tick_sequencer m ≡ polled (quiet m said.Ticked)
+    → (acts m && nat_lt (own_row m).last req) ≡ false → tick_sequencer m ≡ and_poll (quiet m said.Ticked)
 leads_numbered m req body is waits test =
     let none : put_off m (waiting m) ≡ said.Ticked = put_off_some m req body waits ∙ rw test refl in
-    leads_stays m is ∙ ap (λ o. polled (emit m (waiting m) o)) none ∙ ap polled (emit_stays m said.Ticked req body waits test)
+    leads_stays m is ∙ ap (λ o. and_poll (emit m (waiting m) o)) none ∙ ap and_poll (emit_stays m said.Ticked req body waits test)
 
 pub leads_full : (m : Node) (req : ℕ) (body : List ℕ) (answer : Outcome) → m.leaving ≡ false → own.waiting_send m.sends ≡ Some (req, body)
     → (acts m && nat_lt (own_row m).last req) ≡ true → is_sequencer m ≡ true → has_room m ≡ false
-    → answer ≡ said.PutOff req m.core.base (top m) → tick_sequencer m ≡ polled (quiet m answer)
+    → answer ≡ said.PutOff req m.core.base (top m) → tick_sequencer m ≡ and_poll (quiet m answer)
 leads_full m req body answer is waits test leads room says =
     let off : put_off m (waiting m) ≡ answer = put_off_some m req body waits ∙ rw (test, room) (sym says) in
-    leads_stays m is ∙ ap (λ o. polled (emit m (waiting m) o)) off ∙ ap polled (emit_full m answer req body waits test leads room)
+    leads_stays m is ∙ ap (λ o. and_poll (emit m (waiting m) o)) off ∙ ap and_poll (emit_full m answer req body waits test leads room)
 
 pub leads_numbers : (m mid : Node) (req : ℕ) (body to : List ℕ) (told_it : Note) → m.leaving ≡ false → own.waiting_send m.sends ≡ Some (req, body)
     → (acts m && nat_lt (own_row m).last req) ≡ true → is_sequencer m ≡ true → has_room m ≡ true
-    → to ≡ others m → told_it ≡ note.Bcast (top m + 1) (Data m.core.who req body) → mid ≡ pushed m (Data m.core.who req body)
-    → tick_sequencer m ≡ polled (noting true mid said.Ticked to told_it)
+    → to ≡ others m → told_it ≡ note.Bcast (top m + 1) (Data m.core.who req body) → mid ≡ push_entry m (Data m.core.who req body)
+    → tick_sequencer m ≡ and_poll (noting true mid said.Ticked to told_it)
 leads_numbers m mid req body to told_it is waits test leads room set tells node =
     let off : put_off m (waiting m) ≡ said.Ticked = put_off_some m req body waits ∙ rw (test, room) refl in
-    leads_stays m is ∙ ap (λ o. polled (emit m (waiting m) o)) off
-    ∙ ap polled (emit_numbers m mid said.Ticked req body to told_it waits test leads room set tells node)
+    leads_stays m is ∙ ap (λ o. and_poll (emit m (waiting m) o)) off
+    ∙ ap and_poll (emit_numbers m mid said.Ticked req body to told_it waits test leads room set tells node)
 
 -- ---- the sequencer goes on leaving
 
 pub polls_hands : (m : Node) (to : List ℕ) → is_sequencer m ≡ true → 0 < size (others m) → to ≡ only_name (lowest_or_first (others m))
-    → go (polled (quiet m said.Ticked)) ≡ handing m to
+    → go (and_poll (quiet m said.Ticked)) ≡ handing m to
 polls_hands m to leads some is =
     let test : nat_lt 0 (size (others m)) ≡ true = grind (arith, nat_tests) in
     rw (leads, test) (ap (handing m) (sym is))
 
 pub polls_held : (m : Node) (o : Outcome) → is_sequencer m ≡ true → size (others m) ≡ 0 → has_room m ≡ false → o ≡ said.Held m.core.base (top m)
-    → go (polled (quiet m said.Ticked)) ≡ polled (quiet m o)
+    → go (and_poll (quiet m said.Ticked)) ≡ and_poll (quiet m o)
 polls_held m o leads none room is =
     let test : nat_lt 0 (size (others m)) ≡ false = grind (arith, nat_tests) in
-    rw (leads, test, room) (ap (λ x. polled (quiet m x)) (sym is))
+    rw (leads, test, room) (ap (λ x. and_poll (quiet m x)) (sym is))
 
 abbrev pub polling_last : Node → Plan
-polling_last m = record (polled (quiet m said.Ticked)) { node = pushed m (Leave m.core.who); outcome = λ n. said.Departed; numbers = true; departs = true }
+polling_last m = record (and_poll (quiet m said.Ticked)) { node = push_entry m (Leave m.core.who); outcome = λ n. said.Departed; numbers = true; departs = true }
 
-pub polls_departs : (m : Node) → is_sequencer m ≡ true → size (others m) ≡ 0 → has_room m ≡ true → go (polled (quiet m said.Ticked)) ≡ polling_last m
+pub polls_departs : (m : Node) → is_sequencer m ≡ true → size (others m) ≡ 0 → has_room m ≡ true → go (and_poll (quiet m said.Ticked)) ≡ polling_last m
 polls_departs m leads none room =
     let test : nat_lt 0 (size (others m)) ≡ false = grind (arith, nat_tests) in
     rw (leads, test, room) refl
@@ -157,17 +157,17 @@ and_note to note letters n = with_letter to (packet_of note n) letters
 
 pub polled_done : (before : ℕ) (m new : Node) (answer : Outcome) (box sent letters : List Letter) → box ≡ [] → m.core.base ≡ m.core.log.start
     → Changes refresh_at_end m new
-    → Tells (and_view box) new sent → Tells (with_told before true false sent) new letters → Done before (polled (quiet m answer)) answer letters new
+    → Tells (and_view box) new sent → Tells (with_told before true false sent) new letters → Done before (and_poll (quiet m answer)) answer letters new
 polled_done before m new answer box sent letters empty kept end views told_it =
-    done before (polled (quiet m answer)) m new answer sent letters refl (end_self m kept) end (λ n e. refl)
+    done before (and_poll (quiet m answer)) m new answer sent letters refl (end_self m kept) end (λ n e. refl)
     (tells_then (λ n. []) and_view new box sent (box_tells new box empty) views) told_it
 
 pub numbered_done : (before : ℕ) (m new : Node) (to : List ℕ) (note : Note) (box first sent letters : List Letter) → box ≡ [] → m.core.base ≡ m.core.log.start
     → Changes refresh_at_end m new
     → Tells (λ n. with_letter to (packet_of note n) box) new first → Tells (and_view first) new sent → Tells (with_told before true true sent) new letters
-    → Done before (polled (noting true m said.Ticked to note)) said.Ticked letters new
+    → Done before (and_poll (noting true m said.Ticked to note)) said.Ticked letters new
 numbered_done before m new to note box first sent letters empty kept end puts views told_it =
-    done before (polled (noting true m said.Ticked to note)) m new said.Ticked sent letters refl (end_self m kept) end (λ n e. refl)
+    done before (and_poll (noting true m said.Ticked to note)) m new said.Ticked sent letters refl (end_self m kept) end (λ n e. refl)
     (tells_then (and_note to note []) and_view new first sent (tells_then (λ n. []) (and_note to note) new box first (box_tells new box empty) puts) views)
     told_it
 
@@ -187,16 +187,16 @@ no_letter : (a : Bool) (to : List ℕ) (p : Node → List Letter → List Letter
 no_letter true to p n ls is = is
 no_letter false to p n ls is = refl
 
-pub departs_polling : (before : ℕ) (m new : Node) (box letters : List Letter) → box ≡ [] → size (others (refresh_at_end (pushed m (Leave m.core.who)))) ≡ 0
-    → IsEndOf (departed (refresh_at_end (pushed m (Leave m.core.who)))) new
+pub departs_polling : (before : ℕ) (m new : Node) (box letters : List Letter) → box ≡ [] → size (others (refresh_at_end (push_entry m (Leave m.core.who)))) ≡ 0
+    → IsEndOf (departed (refresh_at_end (push_entry m (Leave m.core.who)))) new
     → Tells (and_view box) new letters → Done before (polling_last m) said.Departed letters new
 unfolding finish
 departs_polling before m new box letters empty alone end views = λ first acc. record {
   node = end;
   answer = refl;
-  sent = views (departed (refresh_at_end (pushed m (Leave m.core.who)))) end
-      ∙ ap (λ ls. and_view ls (refresh_at_end (pushed m (Leave m.core.who)))) empty
-      ∙ sym (told_it first (refresh_at_end (pushed m (Leave m.core.who))) alone);
+  sent = views (departed (refresh_at_end (push_entry m (Leave m.core.who)))) end
+      ∙ ap (λ ls. and_view ls (refresh_at_end (push_entry m (Leave m.core.who)))) empty
+      ∙ sym (told_it first (refresh_at_end (push_entry m (Leave m.core.who))) alone);
 }
   where
     told_it : (first n : Node) → size (others n) ≡ 0 → with_accept first (polling_last m) n (and_view [] n) ≡ and_view [] n

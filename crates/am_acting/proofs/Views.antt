@@ -7,7 +7,7 @@ use Rattle.am_base.specs.Lists.{told_by, members_of, entry_at}
 use Rattle.am_core.proofs.Ends.{end-entry}
 use Rattle.am_packet.specs.declared.packet.Packet.{Packet}
 use Rattle.am_packet.specs.Boxes.{Letter, with_letter}
-use Rattle.am_model.specs.Node.{Node, told, others, those}
+use Rattle.am_model.specs.Node.{Node, image_of, others, those}
 use Rattle.am_model.specs.Emit.{result_of}
 use Rattle.am_model.specs.Ticks.{viewed_by}
 use Rattle.am_model.specs.Ends.{with_log, Tells}
@@ -15,16 +15,16 @@ use Rattle.am_handlers.specs.Cores.{CoreTells}
 use Rattle.am_handlers.proofs.Ends.{tells, told_same}
 use Rattle.am_acting.specs.Forms.{and_view}
 
-pub view_none : (m : Node) (box : List Letter) → (told m).view_number ≤ m.core.base → Tells (and_view box) m box
+pub view_none : (m : Node) (box : List Letter) → (image_of m).view_number ≤ m.core.base → Tells (and_view box) m box
 view_none m box low = tells (and_view box) m box (λ all s.
     let same = ap (λ (i : Image). i.view_number) (told_same m all s) in
     let test : nat_lt m.core.base (told_by all).view_number ≡ false = grind (arith, nat_tests) in
     rw test refl)
 
 pub view_some : (m : Node) (box letters : List Letter) (number : ℕ) (to members : List ℕ) (resilience : ℕ) (packet : Packet) → m.core.base ≡ m.core.log.start
-    → m.core.base < number → number ≡ (told m).view_number
+    → m.core.base < number → number ≡ (image_of m).view_number
     → to ≡ those (λ name. nat_lt (m.reports name).stored number) (others m) → members ≡ viewed_by (entry_at m.core.log number)
-    → resilience ≡ (told m).resilience
+    → resilience ≡ (image_of m).resilience
     → CoreTells (λ n. result_of n number members resilience) m.core packet → letters ≡ with_letter to packet box → Tells (and_view box) m letters
 view_some m box letters number to members resilience packet kept high is set named most told_it puts = tells (and_view box) m letters (λ all s.
     let t = sym (told_same m all s) in

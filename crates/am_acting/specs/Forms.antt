@@ -6,7 +6,7 @@ use Rattle.am_base.specs.Lists.{entry_at}
 use Rattle.am_sender.specs.declared.OwnSend.{OwnSend}
 use Rattle.am_model.specs.Node.{Node}
 use Rattle.am_packet.specs.Boxes.{Letter, with_letter}
-use Rattle.am_model.specs.Node.{Ballot, only_name, told}
+use Rattle.am_model.specs.Node.{Ballot, only_name, image_of}
 use Rattle.am_model.specs.Emit.{Plan, quiet, telling, and_telling, result_of, hand_over_of}
 use Rattle.am_model.specs.Ticks.{behind_view, viewed_by, and_result}
 use Rattle.am_acting.specs.declared.note.Note.{Note}
@@ -31,16 +31,16 @@ waits_for (Some send) req = send.req == req
 
 -- the letters with the last View, for those that haven't stored it
 abbrev pub and_view : List Letter → Node → List Letter
-and_view letters n = with_letter (behind_view n) (result_of n (told n).view_number (viewed_by (entry_at n.core.log (told n).view_number)) (told n).resilience)
+and_view letters n = with_letter (behind_view n) (result_of n (image_of n).view_number (viewed_by (entry_at n.core.log (image_of n).view_number)) (image_of n).resilience)
     letters
 
 -- a plan that polls, and tells the last View again
-abbrev pub polled : Plan → Plan
-polled p = and_result (record p { polls = true })
+abbrev pub and_poll : Plan → Plan
+and_poll p = and_result (record p { polls = true })
 
 -- the same, which hands over to some names
 abbrev pub handing : Node → List ℕ → Plan
-handing m to = and_telling (polled (quiet m said.Ticked)) to hand_over_of
+handing m to = and_telling (and_poll (quiet m said.Ticked)) to hand_over_of
 
 -- what a ballot asks for again that came to this
 abbrev pub again_of : Outcome → Option Again
@@ -49,9 +49,9 @@ again_of (said.Fetching from want) = Some (record { to = only_name from; fetches
 again_of _ = None
 
 -- the same of an unfinished ballot
-abbrev pub unfinished_of : Option Ballot → Option (Option Again)
-unfinished_of None = None
-unfinished_of (Some b) = if b.is_over then None else Some (again_of b.answer)
+abbrev pub again_of_ballot : Option Ballot → Option (Option Again)
+again_of_ballot None = None
+again_of_ballot (Some b) = if b.is_over then None else Some (again_of b.answer)
 
 abbrev pub by_again : Node → Option Again → Plan
 by_again m None = quiet m said.Ticked

@@ -1,12 +1,9 @@
 ghost use Rattle.std.specs.Prelude.{◌≡◌, ◌<◌, ◌≤◌, ◌+◌, length, true, false, None, IfOk, IfErr, IsOk, OnOk, OnErr, ◌↔◌};
-ghost use Rattle.am_base.specs.Most.{most_number};
+ghost use Rattle.am_handlers.specs.Prelude.{most_number, has_log, is_member, waiting, node_of};
 ghost use Rattle.am_sender.specs.Sends.{submit, collect, collect_outcome};
 ghost use Rattle.am_bodies.specs.Bodies.{keep_body};
-ghost use Rattle.am_model.specs.Group.{has_log};
-ghost use Rattle.am_model.specs.Node.{waiting, is_member};
-ghost use Rattle.am_handlers.specs.Parts.{node_of};
 
-use am_base::body::Body;
+use am_base::body::{Body, SentBody};
 use am_base::name::Name;
 use am_base::outcome::Outcome;
 use am_handlers::parts::Parts;
@@ -70,14 +67,14 @@ pub fn keep_body(parts: &mut Parts, from: Name, req: u32, body: &Body)
 }
 
 /// Queues a send and gives its request number. Busy exactly where four sends aren't collected.
-pub fn submit(parts: &mut Parts, body: Body) -> Result<u32, Busy>
+pub fn submit(parts: &mut Parts, body: &SentBody) -> Result<u32, Busy>
     requires last { parts.old.sender.last < most_number }
     requires member { is_member parts.old.status ≡ true }
     requires stays { parts.old.leaving ≡ false }
     ensures variant { IsOk result ↔ (length parts.old.sender.queue < 4) }
     ensures number { IfOk result (λ req. req ≡ parts.old.sender.last + 1) }
     ensures ok { OnOk result (node_of parts.new
-        ≡ record (node_of parts.old) { sends = submit body parts.old.sender }) }
+        ≡ record (node_of parts.old) { sends = submit body.now parts.old.sender }) }
     ensures busy { IfErr result (λ busy. busy.queued ≡ 4) }
     ensures err { OnErr result (node_of parts.new ≡ node_of parts.old) }
 {

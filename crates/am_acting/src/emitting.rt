@@ -1,15 +1,11 @@
-ghost use Rattle.std.specs.Prelude.{◌≡◌, ◌<◌, ◌≤◌, ◌+◌, ◌&&◌, nat_lt, nat_le, [], length, true, Some, IfSome, is_some, option_map};
-ghost use Rattle.am_base.specs.Most.{most_number};
+ghost use Rattle.std.specs.Prelude.{◌≡◌, ◌<◌, ◌+◌, ◌&&◌, nat_lt, nat_le, [], length, true, Some, IfSome, is_some, option_map};
+ghost use Rattle.am_handlers.specs.Prelude.{most_number, IsNumber, top_of, acts, is_sequencer, others, push_entry, top, view, waiting, node_of, Finishes};
 ghost use Rattle.am_base.specs.declared.entry.Entry.TheVariants.{Data};
-ghost use Rattle.am_base.specs.Limits.{IsNumber};
-ghost use Rattle.am_base.specs.Lists.{top_of};
 ghost use Rattle.am_sender.specs.Sends.{waiting_send};
-ghost use Rattle.am_model.specs.Node.{top, view, others, acts, own_row, waiting, pushed, is_sequencer};
+ghost use Rattle.am_model.specs.Node.{own_row};
 ghost use Rattle.am_model.specs.Calls.{hand_in, emit};
-ghost use Rattle.am_handlers.specs.Parts.{node_of};
 ghost use Rattle.am_acting.specs.declared.note.Note.TheVariants as note;
 ghost use Rattle.am_acting.specs.Notes.{IsNoteWithin};
-ghost use Rattle.am_handlers.specs.Finishing.{Done};
 ghost use Rattle.am_acting.specs.Forms.{own_send};
 
 use crate::finishing::finish_noting;
@@ -44,7 +40,7 @@ pub fn next_send(parts: &Parts) -> Option<WaitingSend>
     let (req, body) = parts.sender.waiting()?;
     Some(WaitingSend {
         req,
-        body: body.copied(),
+        body: body.copy(),
     })
 }
 
@@ -101,8 +97,8 @@ fn hand_in(
 ) -> Outcome
     requires empty { out.old ≡ [] }
     requires req { IsNumber send.req }
-    ensures { Done before (hand_in (node_of parts.old) (own_send send.req send.body) answer) result
-        out.new (node_of parts.new) }
+    ensures { Finishes before (hand_in (node_of parts.old) (own_send send.req send.body) answer)
+        result out.new parts.new }
 {
     let WaitingSend { req, body } = send;
     if is_short(parts, &body) {
@@ -137,21 +133,21 @@ pub fn number_send(parts: &mut Parts, send: WaitingSend) -> Note
     requires room { length parts.old.core.log.entries < parts.old.core.rules.window + 15 }
     requires req { IsNumber send.req }
     requires number { top_of parts.old.core.log < most_number }
-    ensures node { node_of parts.new ≡ pushed (node_of parts.old)
+    ensures node { node_of parts.new ≡ push_entry (node_of parts.old)
         (Data parts.old.core.who send.req send.body) }
     ensures note { result ≡ note.Bcast (top (node_of parts.old) + 1)
         (Data parts.old.core.who send.req send.body) }
     ensures within { IsNoteWithin result }
 {
     let WaitingSend { req, body } = send;
-    let _before = parts.accepted();
+    let _before = parts.accept_front();
     let number = next_number(parts);
     let entry = Entry::Data {
         from: who(parts),
         req,
         body,
     };
-    parts.push(entry.copied());
+    parts.push(entry.copy());
     Note::Bcast { number, entry }
 }
 
@@ -160,8 +156,8 @@ pub fn number_send(parts: &mut Parts, send: WaitingSend) -> Note
 pub fn emit(parts: &mut Parts, before: u32, answer: Outcome, out: &mut OutBox) -> Outcome
     requires empty { out.old ≡ [] }
     requires number { top_of parts.old.core.log < most_number }
-    ensures { Done before (emit (node_of parts.old) (waiting (node_of parts.old)) answer) result
-        out.new (node_of parts.new) }
+    ensures { Finishes before (emit (node_of parts.old) (waiting (node_of parts.old)) answer)
+        result out.new parts.new }
 {
     let Some(send) = next_send(parts) else {
         return finish_quietly(parts, before, answer, out);

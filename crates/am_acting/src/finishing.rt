@@ -1,8 +1,5 @@
 ghost use Rattle.std.specs.Prelude.{◌≡◌, ◌+◌, ◌<◌, ◌≤◌, [], length};
-ghost use Rattle.am_packet.specs.Boxes.{with_letter};
-ghost use Rattle.am_model.specs.Ends.{Tells};
-ghost use Rattle.am_handlers.specs.Parts.{node_of};
-ghost use Rattle.am_handlers.specs.Finishing.{Done};
+ghost use Rattle.am_handlers.specs.Prelude.{with_letter, Tells, node_of, Finishes};
 ghost use Rattle.am_acting.specs.Notes.{packet_of, IsNoteWithin};
 ghost use Rattle.am_acting.specs.Forms.{noting};
 
@@ -36,10 +33,10 @@ pub fn finish_noting(
 ) -> Outcome
     requires empty { out.old ≡ [] }
     requires within { IsNoteWithin note.now }
-    ensures { Done before (noting numbers (node_of parts.old) answer to note.now) result out.new
-        (node_of parts.new) }
+    ensures { Finishes before (noting numbers (node_of parts.old) answer to note.now)
+        result out.new parts.new }
 {
-    let _before = parts.accepted();
+    let _before = parts.accept_front();
     parts.end();
     tell(parts, to, note, out);
     parts.tell_accepted(before, false, numbers, out);

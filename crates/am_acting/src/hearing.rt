@@ -1,12 +1,10 @@
 ghost use Rattle.std.specs.Prelude.{◌≡◌, [], ◌||◌, nat_le};
 ghost use Rattle.std.specs.List.{list_any};
+ghost use Rattle.am_handlers.specs.Prelude.{waiting, node_of, Performs};
 ghost use Rattle.am_bodies.specs.Bodies.{is_of};
 ghost use Rattle.am_model.specs.Sequencing.{row_at};
-ghost use Rattle.am_model.specs.Node.{waiting};
 ghost use Rattle.am_model.specs.Receiving.{spread_row, hold_row};
 ghost use Rattle.am_model.specs.Joining.{gone_row};
-ghost use Rattle.am_model.specs.Ends.{Does};
-ghost use Rattle.am_handlers.specs.Parts.{node_of};
 ghost use Rattle.am_acting.specs.Forms.{waits_for};
 
 use crate::changing::{is_leaving, keep_body, set_status};
@@ -31,10 +29,9 @@ fn is_known(parts: &Parts, from: Name, req: u32) -> bool
 /// or its body is kept already; else Kept.
 pub fn on_spread(parts: &mut Parts, from: Name, req: u32, body: &Body, out: &mut OutBox) -> Outcome
     requires { out.old ≡ [] }
-    ensures { Does (λ m. spread_row m from req body.now) (node_of parts.old) result out.new
-        (node_of parts.new) }
+    ensures { Performs (λ m. spread_row m from req body.now) parts.old result out.new parts.new }
 {
-    let before = parts.accepted();
+    let before = parts.accept_front();
     if is_known(parts, from, req) {
         return finish_quietly(parts, before, Outcome::Known, out);
     }
@@ -55,10 +52,9 @@ fn waits_for(parts: &Parts, req: u32) -> bool
 /// The sequencer has no room for a send: PutOff where that is the waiting send, else Known.
 pub fn on_hold(parts: &mut Parts, base: u32, top: u32, req: u32, out: &mut OutBox) -> Outcome
     requires { out.old ≡ [] }
-    ensures { Does (λ m. hold_row m base top req) (node_of parts.old) result out.new
-        (node_of parts.new) }
+    ensures { Performs (λ m. hold_row m base top req) parts.old result out.new parts.new }
 {
-    let before = parts.accepted();
+    let before = parts.accept_front();
     if waits_for(parts, req) {
         return finish_quietly(parts, before, Outcome::PutOff { req, base, top }, out);
     }
@@ -68,9 +64,9 @@ pub fn on_hold(parts: &mut Parts, base: u32, top: u32, req: u32, out: &mut OutBo
 /// The node may go: Departed where it is leaving, else Known.
 pub fn on_gone(parts: &mut Parts, out: &mut OutBox) -> Outcome
     requires { out.old ≡ [] }
-    ensures { Does gone_row (node_of parts.old) result out.new (node_of parts.new) }
+    ensures { Performs gone_row parts.old result out.new parts.new }
 {
-    let before = parts.accepted();
+    let before = parts.accept_front();
     if is_leaving(parts) {
         set_status(parts, Status::Departed);
         return finish_quietly(parts, before, Outcome::Departed, out);

@@ -1,11 +1,9 @@
-ghost use Rattle.std.specs.Prelude.{◌≡◌, ◌==◌, ℕ, ◌<◌, if◌then◌else◌, [], IfSome, IfNone};
-ghost use Rattle.am_base.specs.Names.{place_of, by_place};
+ghost use Rattle.std.specs.Prelude.{◌≡◌, ◌==◌, ◌<◌, if◌then◌else◌, [], IfSome, IfNone};
+ghost use Rattle.am_handlers.specs.Prelude.{node_of, Finishes, Performs};
+ghost use Rattle.am_base.specs.Names.{by_place};
 ghost use Rattle.am_model.specs.Calls.{everywhere_else, ask_to_join, join_row, state_row};
 ghost use Rattle.am_model.specs.declared.status.Status.TheVariants as status;
 ghost use Rattle.am_model.specs.Emit.{quiet};
-ghost use Rattle.am_model.specs.Ends.{Does};
-ghost use Rattle.am_handlers.specs.Parts.{node_of};
-ghost use Rattle.am_handlers.specs.Finishing.{Done};
 
 use crate::changing::{is_leaving, set_status, status};
 use crate::finishing::finish_noting;
@@ -47,8 +45,7 @@ fn start(parts: &Parts) -> u32
 /// Asks everybody else to be let in.
 pub fn ask_to_join(parts: &mut Parts, before: u32, answer: Outcome, out: &mut OutBox) -> Outcome
     requires { out.old ≡ [] }
-    ensures { Done before (ask_to_join (node_of parts.old) answer) result out.new
-        (node_of parts.new) }
+    ensures { Finishes before (ask_to_join (node_of parts.old) answer) result out.new parts.new }
 {
     let to = everywhere_else(parts);
     finish_noting(parts, before, false, answer, to, &Note::JoinAsk, out)
@@ -75,9 +72,9 @@ fn join_answer(parts: &Parts) -> Option<Outcome>
 /// NotMember once it has departed.
 pub fn on_join(parts: &mut Parts, out: &mut OutBox) -> Outcome
     requires { out.old ≡ [] }
-    ensures { Does join_row (node_of parts.old) result out.new (node_of parts.new) }
+    ensures { Performs join_row parts.old result out.new parts.new }
 {
-    let before = parts.accepted();
+    let before = parts.accept_front();
     match join_answer(parts) {
         Some(answer) => finish_quietly(parts, before, answer, out),
         None => {
@@ -110,9 +107,9 @@ fn standing(parts: &Parts) -> Outcome
 /// The application asks how the node stands to its group: Stranger, Asked, Leaving, Joined with its number, or Departed.
 pub fn on_state(parts: &mut Parts, out: &mut OutBox) -> Outcome
     requires { out.old ≡ [] }
-    ensures { Does state_row (node_of parts.old) result out.new (node_of parts.new) }
+    ensures { Performs state_row parts.old result out.new parts.new }
 {
-    let before = parts.accepted();
+    let before = parts.accept_front();
     let answer = standing(parts);
     finish_quietly(parts, before, answer, out)
 }

@@ -1,17 +1,12 @@
 ghost use Rattle.std.specs.Prelude.{◌≡◌, ◌<◌, ◌≤◌, ◌+◌, ◌||◌, nat_lt, [], true, false, length, None};
-ghost use Rattle.am_base.specs.Most.{most_number};
+ghost use Rattle.am_handlers.specs.Prelude.{most_number, top_of, size, is_member, is_sequencer, others, push_entry, waiting, IsEndOf, node_of, Finishes, Performs};
 ghost use Rattle.am_base.specs.declared.entry.Entry.TheVariants.{Leave};
-ghost use Rattle.am_base.specs.Names.{size};
-ghost use Rattle.am_base.specs.Lists.{top_of};
 ghost use Rattle.am_fronts.specs.Refresh.{MayLead};
 ghost use Rattle.am_model.specs.declared.status.Status.TheVariants as status;
-ghost use Rattle.am_model.specs.Node.{others, waiting, unsettled, pushed, is_sequencer, is_member, lowest_or_first, top};
+ghost use Rattle.am_model.specs.Node.{unsettled_count, lowest_or_first};
 ghost use Rattle.am_model.specs.Emit.{quiet};
 ghost use Rattle.am_model.specs.Refresh.{lead, refresh_at_end};
 ghost use Rattle.am_model.specs.Calls.{go, is_unfinished, leave_now, leave_row};
-ghost use Rattle.am_model.specs.Ends.{IsEndOf, Does};
-ghost use Rattle.am_handlers.specs.Parts.{node_of};
-ghost use Rattle.am_handlers.specs.Finishing.{Done};
 
 use crate::changing::{begin_leaving, is_leaving, is_member, set_status, status};
 use crate::emitting::{others, who};
@@ -22,7 +17,7 @@ use am_base::name::Name;
 use am_base::names::Names;
 use am_base::outcome::Outcome;
 use am_core::log::Log;
-use am_handlers::asking::{has_room, held};
+use am_handlers::asking::{has_room, held_answer};
 use am_handlers::finishing::finish_quietly;
 use am_handlers::packets::only;
 use am_handlers::parts::Parts;
@@ -40,19 +35,19 @@ pub fn is_unfinished(parts: &Parts) -> bool
 }
 
 /// How many sends aren't settled.
-fn unsettled(parts: &Parts) -> u32
-    ensures value { result ≡ unsettled (node_of parts.now) }
+fn unsettled_count(parts: &Parts) -> u32
+    ensures value { result ≡ unsettled_count (node_of parts.now) }
     ensures few { result ≤ 4 }
 {
-    parts.sender.unsettled()
+    parts.sender.unsettled_count()
 }
 
 /// Whether a send isn't settled, or a ballot isn't over.
 fn is_busy(parts: &Parts) -> bool
-    ensures { result ≡ (nat_lt 0 (unsettled (node_of parts.now))
+    ensures { result ≡ (nat_lt 0 (unsettled_count (node_of parts.now))
         || is_unfinished (node_of parts.now).ballot) }
 {
-    0 < unsettled(parts) || is_unfinished(parts)
+    0 < unsettled_count(parts) || is_unfinished(parts)
 }
 
 /// The lowest of some names; the first of all where there is none.
@@ -71,7 +66,7 @@ fn lead(parts: &mut Parts)
     requires outside { is_member parts.old.status ≡ false }
     ensures { IsEndOf (lead (node_of parts.old)) (node_of parts.new) }
 {
-    let _before = parts.accepted();
+    let _before = parts.accept_front();
     parts.fronts.refresh(&mut parts.core);
 }
 
@@ -83,13 +78,13 @@ pub fn depart(parts: &mut Parts)
     requires room { length parts.old.core.log.entries < parts.old.core.rules.window + 15 }
     requires number { top_of parts.old.core.log < most_number }
     ensures end { IsEndOf (record (refresh_at_end
-        (pushed (node_of parts.old) (Leave parts.old.core.who))) { status = status.Departed })
+        (push_entry (node_of parts.old) (Leave parts.old.core.who))) { status = status.Departed })
         (node_of parts.new) }
     ensures alone { size (others (refresh_at_end
-        (pushed (node_of parts.old) (Leave parts.old.core.who)))) ≡ 0 }
+        (push_entry (node_of parts.old) (Leave parts.old.core.who)))) ≡ 0 }
 {
     set_status(parts, Status::Departed);
-    let _before = parts.accepted();
+    let _before = parts.accept_front();
     let who = who(parts);
     parts.push(Entry::Leave(who));
     lead(parts);
@@ -101,8 +96,7 @@ pub fn go_on_leaving(parts: &mut Parts, before: u32, answer: Outcome, out: &mut 
     requires empty { out.old ≡ [] }
     requires idle { waiting (node_of parts.old) ≡ None }
     requires number { top_of parts.old.core.log < most_number }
-    ensures { Done before (go (quiet (node_of parts.old) answer)) result out.new
-        (node_of parts.new) }
+    ensures { Finishes before (go (quiet (node_of parts.old) answer)) result out.new parts.new }
 {
     let others = others(parts);
     if !parts.is_sequencer() {
@@ -113,7 +107,7 @@ pub fn go_on_leaving(parts: &mut Parts, before: u32, answer: Outcome, out: &mut 
         return finish_noting(parts, before, false, answer, to, &Note::HandOver, out);
     }
     if !has_room(parts) {
-        let answer = held(parts);
+        let answer = held_answer(parts);
         return finish_quietly(parts, before, answer, out);
     }
     depart(parts);
@@ -124,13 +118,13 @@ pub fn go_on_leaving(parts: &mut Parts, before: u32, answer: Outcome, out: &mut 
 fn leave_now(parts: &mut Parts, before: u32, out: &mut OutBox) -> Outcome
     requires empty { out.old ≡ [] }
     requires number { top_of parts.old.core.log < most_number }
-    ensures { Done before (leave_now (node_of parts.old)) result out.new (node_of parts.new) }
+    ensures { Finishes before (leave_now (node_of parts.old)) result out.new parts.new }
 {
     if is_leaving(parts) {
         return finish_quietly(parts, before, Outcome::Leaving, out);
     }
     if is_busy(parts) {
-        let queued = unsettled(parts) as u8;
+        let queued = unsettled_count(parts) as u8;
         return finish_quietly(parts, before, Outcome::Busy { queued }, out);
     }
     begin_leaving(parts);
@@ -154,9 +148,9 @@ fn outside(parts: &Parts) -> Outcome
 pub fn on_leave(parts: &mut Parts, out: &mut OutBox) -> Outcome
     requires empty { out.old ≡ [] }
     requires number { top_of parts.old.core.log < most_number }
-    ensures { Does leave_row (node_of parts.old) result out.new (node_of parts.new) }
+    ensures { Performs leave_row parts.old result out.new parts.new }
 {
-    let before = parts.accepted();
+    let before = parts.accept_front();
     if is_member(parts) {
         return leave_now(parts, before, out);
     }

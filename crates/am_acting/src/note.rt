@@ -1,12 +1,12 @@
-ghost use Rattle.am_codec.specs.Limits.{IsWithin};
-ghost use Rattle.am_handlers.specs.Cores.{CoreTells};
+ghost use Rattle.am_handlers.specs.Prelude.{IsWithin, CoreTells};
 ghost use Rattle.am_acting.specs.Notes.{packet_of, IsNoteWithin};
 
 use am_base::body::Body;
 use am_base::entry::Entry;
 use am_core::log::Log;
 use am_core::state::Core;
-use am_handlers::packets;
+use am_handlers::packet_from;
+use am_handlers::packets::{ack, bcast, report};
 use am_packet::packet::Packet;
 
 /// What a letter is to tell: a packet without the values that its sender has after the step.
@@ -33,20 +33,29 @@ pub enum Note {
 }
 
 /// The packet that a node makes of a note.
+#[tactic(auto, unfolding(am_codec::specs::Limits::IsWithin))]
 pub fn packet<L: Log>(note: &Note, core: &Core<L>) -> Packet
     requires { IsNoteWithin note.now }
     ensures value { CoreTells (packet_of note.now) core.now result }
     ensures within { IsWithin result }
 {
     match note {
-        Note::Request { req, body } => packets::request(core, *req, body),
-        Note::Spread { req, body } => packets::spread(core, *req, body),
-        Note::Bcast { number, entry } => packets::bcast(core, *number, entry),
-        Note::Ack => packets::ack(core),
-        Note::JoinAsk => packets::join_ask(core),
-        Note::LeaveAsk => packets::leave_ask(core),
-        Note::Invite => packets::invite(core),
-        Note::Fetch => packets::fetch(core),
-        Note::HandOver => packets::hand_over(core),
+        Note::Request { req, body } => packet_from!(core => Request {
+            report: report(core),
+            req: *req,
+            body: body.copy(),
+        }),
+        Note::Spread { req, body } => packet_from!(core => Spread {
+            report: report(core),
+            req: *req,
+            body: body.copy(),
+        }),
+        Note::Bcast { number, entry } => bcast(core, *number, entry),
+        Note::Ack => ack(core),
+        Note::JoinAsk => packet_from!(core => JoinAsk {}),
+        Note::LeaveAsk => packet_from!(core => LeaveAsk { report: report(core) }),
+        Note::Invite => packet_from!(core => Invite {}),
+        Note::Fetch => packet_from!(core => Fetch { stored: core.log.top() }),
+        Note::HandOver => packet_from!(core => HandOver {}),
     }
 }

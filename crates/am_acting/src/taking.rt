@@ -1,8 +1,6 @@
-ghost use Rattle.std.specs.Prelude.{◌≡◌, ◌≤◌, ◌+◌, [], Some, IsNone, IfSome, ◌↔◌};
-ghost use Rattle.am_base.specs.Lists.{entry_at};
+ghost use Rattle.std.specs.Prelude.{◌≡◌, ◌≢◌, ◌≤◌, ◌+◌, [], Some, IsNone, IsSome, IfSome, ◌↔◌};
+ghost use Rattle.am_handlers.specs.Prelude.{entry_at, Performs};
 ghost use Rattle.am_model.specs.Calls.{take_row};
-ghost use Rattle.am_model.specs.Ends.{Does};
-ghost use Rattle.am_handlers.specs.Parts.{node_of};
 
 use crate::changing::{is_member, set_taken};
 use am_base::boxed::Boxed;
@@ -15,7 +13,8 @@ use am_letter::out_box::OutBox;
 
 /// The entry after those that the application has taken, with its number; None exactly where all that is accepted is taken.
 /// It is put where a spare one was.
-fn next(parts: &Parts, mut spare: Boxed<Entry>) -> Option<(u32, Boxed<Entry>)>
+fn next(parts: &Parts, spare: Option<Boxed<Entry>>) -> Option<(u32, Boxed<Entry>)>
+    requires place { parts.now.core.taken ≢ parts.now.core.acc → IsSome spare }
     ensures none { IsNone result ↔ (parts.now.core.taken ≡ parts.now.core.acc) }
     ensures number { IfSome result (λ given. given.0 ≡ parts.now.core.taken + 1) }
     ensures accepted { IfSome result (λ given. given.0 ≤ parts.now.core.acc) }
@@ -26,17 +25,19 @@ fn next(parts: &Parts, mut spare: Boxed<Entry>) -> Option<(u32, Boxed<Entry>)>
         return None;
     }
     let number = parts.core.taken + 1;
-    spare.set(parts.core.log.entry(number)?.copied());
-    Some((number, spare))
+    let mut place = spare?;
+    place.set(parts.core.log.entry(number)?.copy());
+    Some((number, place))
 }
 
 /// The application takes the next entry (docs/PROTOCOL.md, "Calls"). NotMember where the node is none; Empty where all that
 /// is accepted is taken; else Took, with the entry where the spare one was.
-pub fn on_take(parts: &mut Parts, spare: Boxed<Entry>, out: &mut OutBox) -> Outcome
-    requires { out.old ≡ [] }
-    ensures { Does take_row (node_of parts.old) result out.new (node_of parts.new) }
+pub fn on_take(parts: &mut Parts, spare: Option<Boxed<Entry>>, out: &mut OutBox) -> Outcome
+    requires place { parts.old.core.taken ≢ parts.old.core.acc → IsSome spare }
+    requires empty { out.old ≡ [] }
+    ensures { Performs take_row parts.old result out.new parts.new }
 {
-    let before = parts.accepted();
+    let before = parts.accept_front();
     if !is_member(parts) {
         return finish_quietly(parts, before, Outcome::NotMember, out);
     }

@@ -1,16 +1,10 @@
-ghost use Rattle.std.specs.Prelude.{◌≡◌, ◌==◌, ◌<◌, ◌≤◌, [], true, false, None};
-ghost use Rattle.am_base.specs.Most.{most_number};
+ghost use Rattle.std.specs.Prelude.{◌≡◌, ◌==◌, ◌<◌, [], true, false, None};
+ghost use Rattle.am_handlers.specs.Prelude.{most_number, top_of, is_sequencer, top, waiting, node_of, Finishes, Performs};
 ghost use Rattle.am_base.specs.declared.outcome.Outcome.TheVariants as said;
-ghost use Rattle.am_base.specs.Lists.{top_of};
-ghost use Rattle.am_model.specs.Node.{waiting, is_sequencer, top};
 ghost use Rattle.am_model.specs.Emit.{quiet};
 ghost use Rattle.am_model.specs.Calls.{would_emit, go};
 ghost use Rattle.am_model.specs.Ticks.{tick_promised, tick_member, tick_sequencer, tick_acting, tick_with, tick_row};
-ghost use Rattle.am_model.specs.Ends.{Does};
-ghost use Rattle.am_handlers.specs.Parts.{node_of};
-ghost use Rattle.am_handlers.specs.Finishing.{Done};
-ghost use Rattle.am_acting.specs.Notes.{IsNoteWithin};
-ghost use Rattle.am_acting.specs.Forms.{noting, polled, handing, again_of, unfinished_of, by_again};
+ghost use Rattle.am_acting.specs.Forms.{and_poll, handing, again_of, again_of_ballot, by_again};
 
 use crate::changing::{is_leaving, status};
 use crate::emitting::{emit, leader, next_send, number_send, others, would_emit};
@@ -23,7 +17,7 @@ use am_base::name::Name;
 use am_base::names::Names;
 use am_base::outcome::Outcome;
 use am_core::log::Log;
-use am_handlers::asking::{has_room, held};
+use am_handlers::asking::{has_room, held_answer};
 use am_handlers::finishing::finish_quietly;
 use am_handlers::packets::only;
 use am_handlers::parts::Parts;
@@ -40,7 +34,7 @@ pub struct Again {
 }
 
 /// What a ballot asks for again that came to this; None where it waits for nothing.
-fn asked_again(answer: &Outcome) -> Option<Again>
+fn again_of(answer: &Outcome) -> Option<Again>
     ensures { result ≡ again_of answer.now }
 {
     match answer {
@@ -57,8 +51,8 @@ fn asked_again(answer: &Outcome) -> Option<Again>
 }
 
 /// What the node's unfinished ballot asks for again; None where there is no such ballot.
-fn unfinished(parts: &Parts) -> Option<Option<Again>>
-    ensures { result ≡ unfinished_of (node_of parts.now).ballot }
+fn again_of_ballot(parts: &Parts) -> Option<Option<Again>>
+    ensures { result ≡ again_of_ballot (node_of parts.now).ballot }
 {
     match &parts.ballot {
         None => None,
@@ -66,7 +60,7 @@ fn unfinished(parts: &Parts) -> Option<Option<Again>>
             if ballot.is_over() {
                 return None;
             }
-            Some(asked_again(ballot.answer()))
+            Some(again_of(ballot.answer()))
         }
     }
 }
@@ -74,7 +68,7 @@ fn unfinished(parts: &Parts) -> Option<Option<Again>>
 /// A coordinator asks again for what its ballot waits for.
 fn ask_again(parts: &mut Parts, before: u32, again: Option<Again>, out: &mut OutBox) -> Outcome
     requires { out.old ≡ [] }
-    ensures { Done before (by_again (node_of parts.old) again) result out.new (node_of parts.new) }
+    ensures { Finishes before (by_again (node_of parts.old) again) result out.new parts.new }
 {
     let Some(again) = again else {
         return finish_quietly(parts, before, Outcome::Ticked, out);
@@ -118,7 +112,7 @@ fn has_promised_itself(parts: &Parts) -> bool
 /// A member that doesn't act fetches from the name that it promised.
 fn tick_promised(parts: &mut Parts, before: u32, out: &mut OutBox) -> Outcome
     requires { out.old ≡ [] }
-    ensures { Done before (tick_promised (node_of parts.old)) result out.new (node_of parts.new) }
+    ensures { Finishes before (tick_promised (node_of parts.old)) result out.new parts.new }
 {
     if has_promised_itself(parts) {
         return finish_quietly(parts, before, Outcome::Ticked, out);
@@ -141,7 +135,7 @@ fn would_emit_waiting(parts: &Parts) -> bool
 fn tick_member(parts: &mut Parts, before: u32, out: &mut OutBox) -> Outcome
     requires empty { out.old ≡ [] }
     requires number { top_of parts.old.core.log < most_number }
-    ensures { Done before (tick_member (node_of parts.old)) result out.new (node_of parts.new) }
+    ensures { Finishes before (tick_member (node_of parts.old)) result out.new parts.new }
 {
     if is_leaving(parts) {
         return go_on_leaving(parts, before, Outcome::Ticked, out);
@@ -156,43 +150,21 @@ fn tick_member(parts: &mut Parts, before: u32, out: &mut OutBox) -> Outcome
 /// The end of a step that polls the members, and tells the last View again to those that haven't stored it.
 fn finish_polling(parts: &mut Parts, before: u32, answer: Outcome, out: &mut OutBox) -> Outcome
     requires { out.old ≡ [] }
-    ensures { Done before (polled (quiet (node_of parts.old) answer)) result out.new
-        (node_of parts.new) }
+    ensures { Finishes before (and_poll (quiet (node_of parts.old) answer)) result out.new parts.new }
 {
-    let _before = parts.accepted();
+    let _before = parts.accept_front();
     parts.end();
     tell_view(parts, out);
     parts.tell_accepted(before, true, false, out);
     answer
 }
 
-/// The same where an entry was numbered.
-fn finish_numbering(
-    parts: &mut Parts,
-    before: u32,
-    to: Names,
-    note: &Note,
-    out: &mut OutBox,
-) -> Outcome
-    requires empty { out.old ≡ [] }
-    requires within { IsNoteWithin note.now }
-    ensures { Done before (polled (noting true (node_of parts.old) said.Ticked to note.now)) result
-        out.new (node_of parts.new) }
-{
-    let _before = parts.accepted();
-    parts.end();
-    tell(parts, to, note, out);
-    tell_view(parts, out);
-    parts.tell_accepted(before, true, true, out);
-    Outcome::Ticked
-}
-
 /// The same for a sequencer that hands over.
 fn finish_handing(parts: &mut Parts, before: u32, to: Names, out: &mut OutBox) -> Outcome
     requires { out.old ≡ [] }
-    ensures { Done before (handing (node_of parts.old) to) result out.new (node_of parts.new) }
+    ensures { Finishes before (handing (node_of parts.old) to) result out.new parts.new }
 {
-    let _before = parts.accepted();
+    let _before = parts.accept_front();
     parts.end();
     tell_view(parts, out);
     tell(parts, to, &Note::HandOver, out);
@@ -206,8 +178,8 @@ fn poll_leaving(parts: &mut Parts, before: u32, out: &mut OutBox) -> Outcome
     requires leads { is_sequencer (node_of parts.old) ≡ true }
     requires idle { waiting (node_of parts.old) ≡ None }
     requires number { top_of parts.old.core.log < most_number }
-    ensures { Done before (go (polled (quiet (node_of parts.old) said.Ticked))) result out.new
-        (node_of parts.new) }
+    ensures { Finishes before (go (and_poll (quiet (node_of parts.old) said.Ticked)))
+        result out.new parts.new }
 {
     let others = others(parts);
     if 0 < others.len() {
@@ -215,7 +187,7 @@ fn poll_leaving(parts: &mut Parts, before: u32, out: &mut OutBox) -> Outcome
         return finish_handing(parts, before, to, out);
     }
     if !has_room(parts) {
-        let answer = held(parts);
+        let answer = held_answer(parts);
         return finish_polling(parts, before, answer, out);
     }
     depart(parts);
@@ -239,7 +211,7 @@ fn tick_sequencer(parts: &mut Parts, before: u32, out: &mut OutBox) -> Outcome
     requires empty { out.old ≡ [] }
     requires leads { is_sequencer (node_of parts.old) ≡ true }
     requires number { top_of parts.old.core.log < most_number }
-    ensures { Done before (tick_sequencer (node_of parts.old)) result out.new (node_of parts.new) }
+    ensures { Finishes before (tick_sequencer (node_of parts.old)) result out.new parts.new }
 {
     if is_leaving(parts) {
         return poll_leaving(parts, before, out);
@@ -256,14 +228,19 @@ fn tick_sequencer(parts: &mut Parts, before: u32, out: &mut OutBox) -> Outcome
     }
     let to = others(parts);
     let note = number_send(parts, send);
-    finish_numbering(parts, before, to, &note, out)
+    let _before = parts.accept_front();
+    parts.end();
+    tell(parts, to, &note, out);
+    tell_view(parts, out);
+    parts.tell_accepted(before, true, true, out);
+    Outcome::Ticked
 }
 
 /// The tick of a member without an unfinished ballot.
 fn tick_acting(parts: &mut Parts, before: u32, out: &mut OutBox) -> Outcome
     requires empty { out.old ≡ [] }
     requires number { top_of parts.old.core.log < most_number }
-    ensures { Done before (tick_acting (node_of parts.old)) result out.new (node_of parts.new) }
+    ensures { Finishes before (tick_acting (node_of parts.old)) result out.new parts.new }
 {
     if !parts.acts() {
         return tick_promised(parts, before, out);
@@ -278,10 +255,10 @@ fn tick_acting(parts: &mut Parts, before: u32, out: &mut OutBox) -> Outcome
 fn tick_with(parts: &mut Parts, before: u32, out: &mut OutBox) -> Outcome
     requires empty { out.old ≡ [] }
     requires number { top_of parts.old.core.log < most_number }
-    ensures { Done before (tick_with (node_of parts.old) (node_of parts.old).ballot) result out.new
-        (node_of parts.new) }
+    ensures { Finishes before (tick_with (node_of parts.old) (node_of parts.old).ballot)
+        result out.new parts.new }
 {
-    let Some(again) = unfinished(parts) else {
+    let Some(again) = again_of_ballot(parts) else {
         return tick_acting(parts, before, out);
     };
     ask_again(parts, before, again, out)
@@ -294,9 +271,9 @@ fn tick_with(parts: &mut Parts, before: u32, out: &mut OutBox) -> Outcome
 pub fn on_tick(parts: &mut Parts, out: &mut OutBox) -> Outcome
     requires empty { out.old ≡ [] }
     requires number { top_of parts.old.core.log < most_number }
-    ensures { Does tick_row (node_of parts.old) result out.new (node_of parts.new) }
+    ensures { Performs tick_row parts.old result out.new parts.new }
 {
-    let before = parts.accepted();
+    let before = parts.accept_front();
     match status(parts) {
         Status::Asking => ask_to_join(parts, before, Outcome::Ticked, out),
         Status::Member => tick_with(parts, before, out),

@@ -1,14 +1,9 @@
 ghost use Rattle.std.specs.Prelude.{◌≡◌, ◌<◌, ◌≤◌, ◌+◌, nat_lt, length};
 ghost use Rattle.std.specs.Option.{option_copied};
-ghost use Rattle.am_base.specs.Most.{most_number};
-ghost use Rattle.am_base.specs.Lists.{entry_at};
-ghost use Rattle.am_packet.specs.Boxes.{with_letter};
+ghost use Rattle.am_handlers.specs.Prelude.{most_number, entry_at, others, image_of, Tells, node_of};
 ghost use Rattle.am_fronts.specs.Reports.{reports_of};
-ghost use Rattle.am_model.specs.Node.{name_where, those, others, told};
-ghost use Rattle.am_model.specs.Emit.{result_of};
-ghost use Rattle.am_model.specs.Ticks.{behind_view, viewed_by};
-ghost use Rattle.am_model.specs.Ends.{Tells};
-ghost use Rattle.am_handlers.specs.Parts.{node_of};
+ghost use Rattle.am_model.specs.Node.{name_where, those};
+ghost use Rattle.am_model.specs.Ticks.{viewed_by};
 ghost use Rattle.am_acting.specs.Forms.{and_view};
 
 use crate::emitting::others;
@@ -75,7 +70,7 @@ fn viewed_at(parts: &Parts, number: u32) -> Names
 
 /// The number of the last View.
 fn view_number(parts: &Parts) -> u32
-    ensures value { result ≡ (told (node_of parts.now)).view_number }
+    ensures value { result ≡ (image_of (node_of parts.now)).view_number }
     ensures within { result ≤ most_number }
 {
     parts.core.log.view_number()
@@ -83,7 +78,7 @@ fn view_number(parts: &Parts) -> u32
 
 /// The resilience of the last View.
 fn resilience(parts: &Parts) -> u8
-    ensures value { result ≡ (told (node_of parts.now)).resilience }
+    ensures value { result ≡ (image_of (node_of parts.now)).resilience }
     ensures within { result ≤ 15 }
 {
     parts.core.log.resilience()

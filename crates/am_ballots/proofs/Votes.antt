@@ -1,6 +1,6 @@
 -- Votes by the names' bytes, and the best of them.
-use Rattle.std.proofs.Common.{◌≡◌, ℕ, zero, suc, ◌+◌, ◌-◌, ◌*◌, ◌/◌, ◌%◌, ◌<◌, ◌≤◌, List, ◌∷◌, map, replicate, length, refl, sym, ◌∙◌, ap, subst, Bool, true}
-use Rattle.std.proofs.Common.{◌==◌, Option, Some, slice_index, slice_index_or, ⊎_elim, arith}
+use Rattle.std.proofs.Common.{◌≡◌, ℕ, zero, suc, ◌+◌, ◌-◌, ◌*◌, ◌/◌, ◌%◌, ◌<◌, ◌≤◌, List, ◌∷◌, map, replicate, length, refl, sym, ◌∙◌, ap, subst, Bool, true, false}
+use Rattle.std.proofs.Common.{◌==◌, ◌&&◌, if◌then◌else◌, Option, Some, slice_index, slice_index_or, ⊎_elim, arith}
 use Rattle.std.specs.Option.{IfSome}
 use Rattle.std.specs.List.{range_with_len}
 use Rattle.std.proofs.lemmas.List.{get_or-replicate, get_or_past, length-replicate}
@@ -8,7 +8,7 @@ use Rattle.std.proofs.lemmas.Bool.{cases_lt}
 use Rattle.std.proofs.lemmas.Bool.Decides.{nat_tests}
 use Rattle.am_base.specs.declared.image.Vote.{Vote}
 use Rattle.am_base.specs.Names.{IsSet, place_of, life_of, name_at, names_of, has}
-use Rattle.am_base.proofs.Places.{by_place_all}
+use Rattle.am_base.proofs.Places.{by_place_all, slice_index-by_place, length-by_place}
 use Rattle.am_fronts.specs.Reports.{least_of}
 use Rattle.am_fronts.proofs.Leaders.{least_in}
 use Rattle.am_model.specs.Node.{Ballot, name_where, those}
@@ -30,6 +30,27 @@ pub those_all : (test : ℕ → Bool) (set xs : List ℕ) → length xs ≡ 16 �
     → xs ≡ those test set
 unfolding those
 those_all test set xs long each = by_place_all (λ place. name_where test place (slice_index set place)) xs 0 long each
+
+-- a life whose name passes one test and then another
+pick : (place life : ℕ) (other : ℕ → Bool) (one : Bool) → (life == 0) ≡ false
+    → name_where other place (if one then life else 0) ≡ (if one && other (name_at place life) then life else 0)
+pick place life other true some = rw some refl
+pick place life other false some = refl
+
+where_both : (one other : ℕ → Bool) (place life : ℕ) (none : Bool) → (life == 0) ≡ none
+    → name_where other place (name_where one place life) ≡ name_where (λ name. one name && other name) place life
+where_both one other place life true none = rw none refl
+where_both one other place life false some = rw some (pick place life other (one (name_at place life)) some)
+
+-- the names of a set that pass one test and then another
+pub those_twice : (one other : ℕ → Bool) (set : List ℕ) → those other (those one set) ≡ those (λ name. one name && other name) set
+unfolding those
+those_twice one other set =
+    let once = λ (place : ℕ). name_where one place (slice_index set place) in
+    those_all (λ name. one name && other name) set (those other (those one set)) (length-by_place (λ (place : ℕ). name_where other place
+    (slice_index (those one set) place)))
+    (λ k h. slice_index-by_place (λ (place : ℕ). name_where other place (slice_index (those one set) place)) k h
+    ∙ ap (λ (life : ℕ). name_where other k life) (slice_index-by_place once k h) ∙ where_both one other k (slice_index set k) (slice_index set k == 0) refl)
 
 -- the coordinator's own is at least the least of those with it
 pub least_own : (who taken : ℕ) (b : Ballot) (set : List ℕ) (o : Option ℕ) → IsSet set → o ≡ least_of (taken_by who taken b) (names_of set) → has set who ≡ true

@@ -7,6 +7,7 @@ use am_base::image::Vote;
 use am_base::name::{Name, Stamp};
 use am_base::names::Names;
 use am_base::outcome::Outcome;
+use am_fronts::fronts::lesser;
 use std::marker::Model;
 
 /// Whether a vote is below another: by view, then by top.
@@ -19,18 +20,18 @@ fn is_below(vote: &Vote, other: &Vote) -> bool
     vote.view.round == other.view.round && vote.view.by == other.view.by && vote.top < other.top
 }
 
-fn lesser(least: Option<u32>, number: Option<u32>) -> Option<u32>
-    ensures { result ≡ lesser least number }
+/// A life where a test holds of its name, else 0.
+fn life_where(holds: bool, life: u8) -> u8
+    ensures { result ≡ (if holds then life else 0) }
 {
-    match (least, number) {
-        (None, other) => other,
-        (Some(least), None) => Some(least),
-        (Some(least), Some(other)) => Some(least.min(other)),
+    if holds {
+        return life;
     }
+    0
 }
 
 /// The same vote.
-fn copied(vote: &Vote) -> Vote
+fn copy_of(vote: &Vote) -> Vote
     ensures { result ≡ vote.now }
 {
     Vote {
@@ -119,7 +120,7 @@ impl Ballot {
     ghost use Rattle.am_base.specs.Votes.{better_of, best_vote};
     ghost use Rattle.am_fronts.specs.Reports.{least_of};
     ghost use Rattle.am_model.specs.Node.{those, name_where};
-    ghost use Rattle.am_model.specs.Ballots.{overtaken, has_voted, is_waited_for, left_in, taken_by, unfinished, finished, new_ballot, with_vote, without_voter};
+    ghost use Rattle.am_model.specs.Ballots.{overtake, has_voted, is_waited_for, left_in, taken_by, with_answer, with_end, new_ballot, with_vote, without_voter};
     ghost use Rattle.am_model.specs.Resets.{is_open, fetches_from};
     ghost use Rattle.am_ballots.specs.Kept.{ballot_of};
 
@@ -183,7 +184,7 @@ impl Ballot {
 
     /// A stamp is promised: an unfinished ballot of a lower stamp ends, overtaken by it.
     pub fn overtake(&mut self, by: Stamp)
-        ensures { Some (ballot_of self.new) ≡ overtaken by (Some (ballot_of self.old)) }
+        ensures { Some (ballot_of self.new) ≡ overtake by (Some (ballot_of self.old)) }
     {
         let (round, name) = (by.round, by.by);
         if !self.is_over && self.stamp.is_below(by) {
@@ -197,18 +198,18 @@ impl Ballot {
     /// The ballot goes on, and this was decided on it.
     pub fn go_on(&mut self, answer: &Outcome)
         requires { is_took answer.now ≡ false }
-        ensures { ballot_of self.new ≡ unfinished (ballot_of self.old) answer.now }
+        ensures { ballot_of self.new ≡ with_answer (ballot_of self.old) answer.now }
     {
-        self.answer = answer.copied();
+        self.answer = answer.copy();
         self.is_over = false;
     }
 
     /// The ballot ends with this.
     pub fn end(&mut self, answer: &Outcome)
         requires { is_took answer.now ≡ false }
-        ensures { ballot_of self.new ≡ finished (ballot_of self.old) answer.now }
+        ensures { ballot_of self.new ≡ with_end (ballot_of self.old) answer.now }
     {
-        self.answer = answer.copied();
+        self.answer = answer.copy();
         self.is_over = true;
     }
 
@@ -216,7 +217,7 @@ impl Ballot {
     pub fn keep(&mut self, name: Name, vote: &Vote)
         ensures { ballot_of self.new ≡ with_vote (ballot_of self.old) name vote.now }
     {
-        self.votes[usize::from(name.get())] = Some(copied(vote));
+        self.votes[usize::from(name.get())] = Some(copy_of(vote));
     }
 
     /// Gives up a name: its vote is dropped.
@@ -251,6 +252,7 @@ impl Ballot {
         }
     }
 
+    /// The better of the best so far and a name's vote; the earlier where neither is greater.
     fn better(&self, best: Best, name: Name) -> Best
         ensures { result ≡ better_of best name ((ballot_of self.now).votes name) }
     {
@@ -260,7 +262,7 @@ impl Ballot {
                 if is_below(&best.vote, vote) {
                     return Best {
                         by: name,
-                        vote: copied(vote),
+                        vote: copy_of(vote),
                     };
                 }
                 best
@@ -276,46 +278,12 @@ impl Ballot {
     {
         let mut best = Best {
             by: coordinator,
-            vote: copied(own),
+            vote: copy_of(own),
         };
         for rank in 0..256u16 {
             best = self.better(best, Name::of_byte((rank / 16 + 16 * (rank % 16)) as u8));
         }
         best
-    }
-
-    /// A life of a place that is waited for, else 0.
-    fn waited_life(&self, coordinator: Name, place: u8, life: u8) -> u8
-        requires { (place < 16) × (life ≤ 16) }
-        ensures value { result ≡ name_where (is_waited_for coordinator (ballot_of self.now)) place
-            life }
-        ensures fits { result ≤ 16 }
-    {
-        match Name::of(place, life) {
-            None => 0,
-            Some(name) => {
-                if self.has_voted(coordinator, name) || self.has_given_up(name) {
-                    return 0;
-                }
-                life
-            }
-        }
-    }
-
-    /// The names of a set that have neither voted nor been given up.
-    pub fn waited_for(&self, coordinator: Name, needed: Names) -> Names
-        ensures { result ≡ those (is_waited_for coordinator (ballot_of self.now)) needed }
-    {
-        let lives = needed.each_life();
-        let mut waited = [0; 16];
-        for place in 0..16u8 {
-            waited[usize::from(place)] = self.waited_life(
-                coordinator,
-                place,
-                lives[usize::from(place)],
-            );
-        }
-        Names::of_lives(waited)
     }
 
     /// A life of a place that isn't given up, else 0.
@@ -327,12 +295,7 @@ impl Ballot {
     {
         match Name::of(place, life) {
             None => 0,
-            Some(name) => {
-                if self.has_given_up(name) {
-                    return 0;
-                }
-                life
-            }
+            Some(name) => life_where(!self.has_given_up(name), life),
         }
     }
 
@@ -357,21 +320,16 @@ impl Ballot {
     {
         match Name::of(place, life) {
             None => 0,
-            Some(name) => {
-                if self.has_voted(coordinator, name) {
-                    return 0;
-                }
-                life
-            }
+            Some(name) => life_where(!self.has_voted(coordinator, name), life),
         }
     }
 
-    /// The names of a set that another doesn't have, and that haven't voted.
-    pub fn newly_needed(&self, coordinator: Name, needed: Names, before: Names) -> Names
+    /// The names of a set that haven't voted.
+    fn silent_in(&self, coordinator: Name, needed: Names) -> Names
         ensures { result ≡ those (λ name. not (has_voted coordinator (ballot_of self.now) name))
-            (minus needed before) }
+            needed }
     {
-        let lives = needed.minus(before).each_life();
+        let lives = needed.each_life();
         let mut silent = [0; 16];
         for place in 0..16u8 {
             silent[usize::from(place)] = self.silent_life(
@@ -381,6 +339,21 @@ impl Ballot {
             );
         }
         Names::of_lives(silent)
+    }
+
+    /// The names of a set that have neither voted nor been given up.
+    pub fn waited_for(&self, coordinator: Name, needed: Names) -> Names
+        ensures { result ≡ those (is_waited_for coordinator (ballot_of self.now)) needed }
+    {
+        self.left_in(self.silent_in(coordinator, needed))
+    }
+
+    /// The names of a set that another doesn't have, and that haven't voted.
+    pub fn newly_needed(&self, coordinator: Name, needed: Names, before: Names) -> Names
+        ensures { result ≡ those (λ name. not (has_voted coordinator (ballot_of self.now) name))
+            (minus needed before) }
+    {
+        self.silent_in(coordinator, needed.minus(before))
     }
 
     /// How far a voter has taken the list, the coordinator this far; 0 where it hasn't voted.
@@ -396,6 +369,7 @@ impl Ballot {
         }
     }
 
+    /// How far the name of a place and a life has taken the list, where there is such a name.
     fn taken_at(&self, coordinator: Name, taken: u32, place: u8, life: u8) -> Option<u32>
         requires { (place < 16) × (life ≤ 16) }
         ensures { result ≡ (if nat_lt 0 life then Some
@@ -407,8 +381,8 @@ impl Ballot {
         }
     }
 
-    #[tactic(auto, using(am_fronts::proofs::ReportLaws::least_laws))]
     /// The least that the names of a set have taken, the coordinator this much; None exactly where the set is empty.
+    #[tactic(auto, using(am_fronts::proofs::ReportLaws::least_laws))]
     pub fn least_taken(&self, coordinator: Name, taken: u32, names: Names) -> Option<u32>
         ensures value { result ≡ least_of (taken_by coordinator taken (ballot_of self.now))
             (names_of names) }

@@ -73,30 +73,24 @@ masked_step : (life mask lives : ℕ) → life ≤ 16 → (if ((if life == 0 the
     ≡ true
 masked_step life mask lives h = grind (arith, nat_tests)
 
--- a set is the set of its mask and lives
+-- a set is the set of its mask and lives, and has no life outside its mask
+of_set : (n : ℕ) (xs : List ℕ) → length xs ≡ n → ((k : ℕ) → get_or xs k 0 ≤ 16)
+    → (places_of n (mask_of xs) (lives_of xs) ≡ xs) × (is_masked n (mask_of xs) (lives_of xs) ≡ true)
+unfolding places_of is_masked mask_of lives_of
+of_set zero [] long fits = (refl, refl)
+of_set zero (x ∷ xs) long fits = absurd (omega (arith, long))
+of_set (suc n) [] long fits = absurd (omega (arith, long))
+of_set (suc n) (x ∷ xs) long fits =
+    let rest = of_set n xs (omega (arith, long)) (λ k. fits (suc k)) in
+    let mask = mask_half x (mask_of xs) in
+    let lives = lives_rest x (lives_of xs) (fits 0) in
+    (rw (back_step x (mask_of xs) (lives_of xs) (fits 0), mask, lives, rest.0) refl, rw (masked_step x (mask_of xs) (lives_of xs) (fits 0), mask, lives) rest.1)
+
 pub places_of-set : (n : ℕ) (xs : List ℕ) → length xs ≡ n → ((k : ℕ) → get_or xs k 0 ≤ 16) → places_of n (mask_of xs) (lives_of xs) ≡ xs
-unfolding places_of mask_of lives_of
-places_of-set zero [] long fits = refl
-places_of-set zero (x ∷ xs) long fits = absurd (omega (arith, long))
-places_of-set (suc n) [] long fits = absurd (omega (arith, long))
-places_of-set (suc n) (x ∷ xs) long fits =
-    rw (
-      back_step x (mask_of xs) (lives_of xs) (fits 0),
-      mask_half x (mask_of xs),
-      lives_rest x (lives_of xs) (fits 0),
-      places_of-set n xs (omega (arith, long)) (λ k. fits (suc k)),
-    ) refl
+places_of-set n xs long fits = (of_set n xs long fits).0
 
 pub is_masked-set : (n : ℕ) (xs : List ℕ) → length xs ≡ n → ((k : ℕ) → get_or xs k 0 ≤ 16) → is_masked n (mask_of xs) (lives_of xs) ≡ true
-unfolding is_masked mask_of lives_of
-is_masked-set zero xs long fits = refl
-is_masked-set (suc n) [] long fits = absurd (omega (arith, long))
-is_masked-set (suc n) (x ∷ xs) long fits =
-    rw (
-      masked_step x (mask_of xs) (lives_of xs) (fits 0),
-      mask_half x (mask_of xs),
-      lives_rest x (lives_of xs) (fits 0),
-    ) (is_masked-set n xs (omega (arith, long)) (λ k. fits (suc k)))
+is_masked-set n xs long fits = (of_set n xs long fits).1
 
 -- ---- the steps of the loops
 

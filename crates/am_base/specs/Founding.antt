@@ -10,6 +10,9 @@ pub record Rules : Type 0 where
   pub window : ℕ
   pub pb_up_to : ℕ
 
+abbrev pub rules_of : List ℕ → ℕ → ℕ → ℕ → Rules
+rules_of founders resilience window pb_up_to = record { founders = founders; resilience = resilience; window = window; pb_up_to = pb_up_to }
+
 -- there is somebody, everybody has life 1, and each number is within its limit
 pub record MayFound (r : Rules) : Type 0 where
   pub names : IsSet r.founders

@@ -43,8 +43,8 @@ abbrev pub with_row : Image → ℕ → Row → Image
 with_row image name r = record image { rows = slice_set image.rows (place_of name) r }
 
 -- a place's row after a View: where the list was empty, its members joined at 1; else a member that it leaves out has gone
-abbrev pub viewed : Bool → ℕ → ℕ → Row → Row
-viewed first number life r =
+abbrev pub row_after_view : Bool → ℕ → ℕ → Row → Row
+row_after_view first number life r =
     if first then (if life == 0 then r else record { life = life; joined = 1; left = 0; last = 0 })
     else if nat_lt 0 (member_life r) && not (member_life r == life) then record r { left = number }
     else r
@@ -60,7 +60,7 @@ after image number (View stamp members resilience) = record {
   view = stamp;
   view_number = number;
   resilience = resilience;
-  rows = by_place (λ place. viewed (is_blank image) number (slice_index members place) (slice_index_or image.rows place blank_row));
+  rows = by_place (λ place. row_after_view (is_blank image) number (slice_index members place) (slice_index_or image.rows place blank_row));
 }
 
 -- what may come next: a member's next send; a name whose place is free; a member's going; a greater view of some of the

@@ -51,7 +51,7 @@ impl Body {
     }
 
     /// The same body. It takes no memory.
-    pub fn copied(&self) -> Body
+    pub fn copy(&self) -> Body
         ensures { result ≡ self.now }
     {
         Body::of(self.bytes()).unwrap()
@@ -78,7 +78,15 @@ impl SentBody {
     pub fn of(alloc: Global, body: &Body) -> Result<SentBody, AllocError>
         ensures { IfOk result (λ b. b ≡ body.now) }
     {
-        Ok(SentBody(Vec::from_slice(alloc, body.bytes())?))
+        SentBody::of_bytes(alloc, body.bytes())
+    }
+
+    /// A body of these bytes. It is an error where there is no memory for it.
+    pub fn of_bytes(alloc: Global, bytes: &[u8]) -> Result<SentBody, AllocError>
+        requires { length bytes.now ≤ most_body }
+        ensures { IfOk result (λ b. b ≡ bytes.now) }
+    {
+        Ok(SentBody(Vec::from_slice(alloc, bytes)?))
     }
 
     /// Its bytes.

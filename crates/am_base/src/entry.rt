@@ -37,14 +37,14 @@ impl Default for Entry {
 
 impl Entry {
     /// The same entry. It takes no memory.
-    pub fn copied(&self) -> Entry
+    pub fn copy(&self) -> Entry
         ensures { result ≡ self.now }
     {
         match self {
             Entry::Data { from, req, body } => Entry::Data {
                 from: *from,
                 req: *req,
-                body: body.copied(),
+                body: body.copy(),
             },
             Entry::Join(name) => Entry::Join(*name),
             Entry::Leave(name) => Entry::Leave(*name),

@@ -1,5 +1,4 @@
-use crate::body::Body;
-use crate::boxed::Boxed;
+use crate::body::SentBody;
 use crate::items::Items;
 use crate::name::Name;
 
@@ -7,7 +6,7 @@ use crate::name::Name;
 #[derive(Drop, Debug)]
 pub enum NodeEvent {
     /// Sends a body to the group.
-    Send(Boxed<Body>),
+    Send(SentBody),
     /// Asks what came of a send.
     Done(u32),
     /// Takes the next accepted entry.

@@ -1,5 +1,5 @@
 ghost use Rattle.std.specs.Prelude.{◌≡◌, ◌↔◌, IsSome, IfSome};
-ghost use Rattle.am_base.specs.Founding.{MayFound};
+ghost use Rattle.am_base.specs.Founding.{MayFound, rules_of};
 
 use crate::limits::{MOST_BODY, MOST_RESILIENCE, MOST_WINDOW};
 use crate::names::Names;
@@ -31,8 +31,8 @@ impl Model for Founding {
 impl Founding {
     /// A founding; None exactly where there is no founder, a founder's life isn't 1, or a number is outside its limit.
     pub fn new(founders: Names, resilience: u8, window: u16, pb_up_to: u16) -> Option<Founding>
-        ensures variant { IsSome result ↔ MayFound (record { founders = founders; resilience = resilience; window = window; pb_up_to = pb_up_to }) }
-        ensures value { IfSome result (λ f. f ≡ record { founders = founders; resilience = resilience; window = window; pb_up_to = pb_up_to }) }
+        ensures variant { IsSome result ↔ MayFound (rules_of founders resilience window pb_up_to) }
+        ensures value { IfSome result (λ f. f ≡ rules_of founders resilience window pb_up_to) }
     {
         if 0 < founders.len()
             && founders.are_first_lives()

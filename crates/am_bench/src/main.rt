@@ -112,6 +112,7 @@ fn look_up_many(journal: &Journal, count: u32) -> u64 {
     sum
 }
 
+/// Times each part as often as the first word says, and tells what it took; without one it does each once.
 fn main(rt: HostRuntime) -> io::Result<()> {
     let alloc = rt.alloc();
     let words: Vec<String> = env::args(&rt)?.collect(alloc)?;

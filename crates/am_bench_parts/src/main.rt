@@ -36,6 +36,7 @@ struct Spent {
     gave: u64,
 }
 
+/// The first life of each place.
 fn all_places() -> Names {
     let mut names = Names::empty();
     for place in 0..16u8 {
@@ -44,6 +45,7 @@ fn all_places() -> Names {
     names
 }
 
+/// Adds an entry where there is room for it and it fits; whether it did.
 fn push(history: &mut History, room: u32, entry: Entry) -> bool
     requires capacity { history.old.capacity ≡ room }
     requires entry { IsEntry entry }
@@ -59,7 +61,8 @@ fn push(history: &mut History, room: u32, entry: Entry) -> bool
     true
 }
 
-fn founded(alloc: Global, window: u16, resilience: u8) -> Result<History, AllocError>
+/// The history of sixteen founders.
+fn founding_history(alloc: Global, window: u16, resilience: u8) -> Result<History, AllocError>
     requires window { (1 ≤ window) × (window ≤ most_window) }
     requires resilience { resilience ≤ 15 }
     ensures { IfOk result (λ history. history.capacity ≡ window + 15) }
@@ -77,6 +80,7 @@ fn founded(alloc: Global, window: u16, resilience: u8) -> Result<History, AllocE
     Ok(history)
 }
 
+/// Adds sends behind a last request until so many were tried; the last request then.
 fn fill(history: &mut History, room: u32, last: u32, body: &Body) -> u32
     requires { history.old.capacity ≡ room }
     ensures { history.new.capacity ≡ room }
@@ -98,6 +102,7 @@ fn fill(history: &mut History, room: u32, last: u32, body: &Body) -> u32
     req
 }
 
+/// The sum of the requests in a history.
 fn read(history: &History) -> u64 {
     let mut sum = 0u64;
     for number in history.base()..history.top() {
@@ -108,6 +113,7 @@ fn read(history: &History) -> u64 {
     sum
 }
 
+/// After how many entries the fourth place is a member, weighed by its life.
 fn count_members(history: &History) -> u64 {
     let mut sum = 0u64;
     for number in history.base()..history.top() {
@@ -116,6 +122,7 @@ fn count_members(history: &History) -> u64 {
     sum
 }
 
+/// Trims a history entry by entry.
 fn empty(history: &mut History, room: u32)
     requires { history.old.capacity ≡ room }
     ensures { history.new.capacity ≡ room }
@@ -128,10 +135,12 @@ fn empty(history: &mut History, room: u32)
     }
 }
 
+/// The nanoseconds since a start.
 fn nanos(rt: &impl Clock, start: &Instant) -> io::Result<u64> {
     Ok(u64::try_from(start.elapsed(rt)?.as_nanos()).unwrap_or(u64::MAX))
 }
 
+/// Fills, reads and empties a history once, and adds what each took; the last request then.
 fn round(
     rt: &impl Clock,
     history: &mut History,
@@ -160,6 +169,7 @@ fn round(
     Ok(req)
 }
 
+/// The time of one call.
 fn each(spent: u64, calls: u64) -> u64 {
     if calls == 0 { 0 } else { spent / calls }
 }
@@ -174,7 +184,7 @@ fn measure(
     requires { (1 ≤ window) × (window ≤ most_window) }
 {
     let room = u32::from(window) + 15;
-    let mut history = founded(rt.alloc(), window, 15)?;
+    let mut history = founding_history(rt.alloc(), window, 15)?;
     empty(&mut history, room);
     let rounds = if timed { ROUNDS } else { 2 };
     let mut req = 0;
@@ -205,7 +215,7 @@ fn measure_fronts(
     body: &Body,
     timed: bool,
 ) -> io::Result<()> {
-    let mut history = founded(rt.alloc(), 112, 15)?;
+    let mut history = founding_history(rt.alloc(), 112, 15)?;
     let _ = fill(&mut history, 127, 0, body);
     let mut fronts = Fronts::new();
     for place in 0..16u8 {
@@ -235,6 +245,7 @@ fn measure_fronts(
     Ok(())
 }
 
+/// Measures histories of two sizes, and then the accept front.
 fn main(rt: HostRuntime) -> io::Result<()> {
     let alloc = rt.alloc();
     let words: Vec<String> = env::args(&rt)?.collect(alloc)?;
@@ -253,6 +264,7 @@ mod tests {
 
     const REPORTS: [(u8, u32); 3] = [(0, 3), (1, 2), (2, 1)];
 
+    /// The names of three founders.
     fn three() -> Names {
         Names::empty()
             .with(Name::of_byte(0))
@@ -293,7 +305,8 @@ mod tests {
         Ok(history)
     }
 
-    fn reported() -> Fronts {
+    /// What three members report.
+    fn first_fronts() -> Fronts {
         let mut fronts = Fronts::new();
         for (place, stored) in REPORTS {
             fronts.report(Name::of_byte(place), Report { stored, taken: 0 });
@@ -303,7 +316,7 @@ mod tests {
 
     #[test]
     fn fronts_by_resilience(rt: HostRuntime) {
-        let fronts = reported();
+        let fronts = first_fronts();
         for (resilience, want) in [(0, 3), (1, 2), (2, 1)] {
             let made = list_of_three(rt.alloc(), resilience);
             assert!(rt; made.is_ok());
@@ -317,7 +330,7 @@ mod tests {
 
     #[test]
     fn a_refresh_accepts_and_trims(rt: HostRuntime) {
-        let mut fronts = reported();
+        let mut fronts = first_fronts();
         let who = Name::of_byte(0);
         if let (Ok(log), Some(rules)) = (
             list_of_three(rt.alloc(), 1),

@@ -33,7 +33,7 @@ impl Wanted {
     fn has_come(self, node: &Node) -> bool {
         match self {
             Wanted::Entry => may_take(node),
-            Wanted::Settled(req) => node.settled(req),
+            Wanted::Settled(req) => node.is_settled(req),
         }
     }
 
@@ -60,7 +60,7 @@ impl Whole {
     }
 
     /// The number of the send that was queued last; None where the last event was none.
-    fn queued(&self) -> Option<u32> {
+    fn queued_request(&self) -> Option<u32> {
         match self.world.journal().records().last()?.outcome {
             Outcome::Queued { req } => Some(req),
             _ => None,
@@ -72,9 +72,9 @@ impl Whole {
         if let Act::Take = act {
             return Ok(Some(Wanted::Entry));
         }
-        let act = act.copied()?;
+        let act = act.try_copy()?;
         self.world.step(&Event { node, act })?;
-        Ok(self.queued().map(Wanted::Settled))
+        Ok(self.queued_request().map(Wanted::Settled))
     }
 
     /// One look: a turn, or the end of the call. Whether it was the end.

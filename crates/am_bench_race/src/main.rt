@@ -35,7 +35,7 @@ fn calls(alloc: Global, many: u32) -> Result<Items<Act>, NoMemory> {
     let body = Body::of(b"a").unwrap_or_default();
     for number in 0..many {
         if number % 2 == 0 {
-            calls.push(Act::send(alloc, body.copied())?)?;
+            calls.push(Act::send(alloc, body.copy())?)?;
         } else {
             calls.push(Act::Take)?;
         }

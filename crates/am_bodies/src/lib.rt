@@ -92,7 +92,7 @@ impl Pool {
         let kept = KeptBody {
             from,
             req,
-            body: body.copied(),
+            body: body.copy(),
         };
         if self.bodies.is_full() {
             self.bodies.remove(0);

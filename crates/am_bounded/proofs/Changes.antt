@@ -1,57 +1,22 @@
 -- What each change keeps. A coordinator that isn't given up is itself a member of the view that it decides.
-use Rattle.std.proofs.Common.{◌≡◌, ℕ, zero, suc, ◌+◌, ◌-◌, ◌<◌, ◌≤◌, max, Bool, true, false, not, ◌==◌, nat_lt, if◌then◌else◌, List, [], ◌∷◌, length}
-use Rattle.std.proofs.Common.{slice_index, unwrap_or, refl, sym, ap, subst, ◌∙◌, arith}
+use Rattle.std.proofs.Common.{◌≡◌, ℕ, ◌+◌, ◌-◌, ◌≤◌, max, false, not, ◌==◌}
+use Rattle.std.proofs.Common.{unwrap_or, refl, sym, ap, subst, ◌∙◌, arith}
 use Rattle.std.proofs.lemmas.Bool.Decides.{nat_tests}
 use Rattle.am_base.specs.declared.entry.Entry.{Entry}
 use Rattle.am_base.specs.declared.entry.Entry.TheVariants.{Leave, View}
 use Rattle.am_base.specs.declared.outcome.Outcome.{Outcome}
 use Rattle.am_base.specs.Founding.{Rules}
-use Rattle.am_base.specs.Names.{place_of, life_of, name_at, has, size, names_of, by_place}
-use Rattle.am_base.proofs.Places.{slice_index-by_place, length-by_place}
+use Rattle.am_base.specs.Names.{size, names_of}
 use Rattle.am_fronts.specs.Reports.{least_of}
-use Rattle.am_fronts.proofs.ReportLaws.{count_cons}
-use Rattle.am_model.specs.Node.{Node, Ballot, top, told, name_where, those, pushed, trimmed}
-use Rattle.am_model.specs.Ballots.{Verdict, need_of, left_in, taken_by, trimmed_for}
+use Rattle.am_model.specs.Node.{Node, Ballot, top, image_of, push_entry, trim_up_to}
+use Rattle.am_model.specs.Ballots.{Verdict, need_of, left_in, taken_by, trim_for}
+use Rattle.am_model.proofs.Sets.{has_size, has_those}
 use Rattle.am_effects.specs.Causes.{Cause}
 use Rattle.am_effects.specs.Looks.{Looks, finds_itself_out, waits, fetches_from_best, finds_too_few, finds_no_room, decides, HasOpen, Balloting, with_more}
 use Rattle.am_effects.specs.Looks.{without_one, as_it_is}
 use Rattle.am_effects.specs.Changes.{MayStore, Change, refreshes, settles, numbers, notes, stores, begins_list}
 use Rattle.am_effects.specs.Changes.{promises, opens, looks, fetches, stores_view, closes}
 use Rattle.am_bounded.proofs.Kept.{HasItself, Keeps, kept_next, kept_pushed, kept_trimmed, kept_promised, kept_refresh, kept_settle, kept_at_end}
-
--- ---- a set with a name in it isn't empty
-
-size_cons : (life : ℕ) (lives : List ℕ) → size (life ∷ lives) ≡ (if nat_lt 0 life then 1 else 0) + size lives
-size_cons life lives = count_cons (λ x. nat_lt 0 x) life lives
-
-some_size : (set : List ℕ) (place : ℕ) → place < length set → 0 < slice_index set place → 0 < size set
-some_size [] place within is = absurd (omega arith)
-some_size (life ∷ lives) zero within is =
-    let t : nat_lt 0 life ≡ true = grind (arith, nat_tests) in
-    let e : size (life ∷ lives) ≡ 1 + size lives = size_cons life lives ∙ ap (λ (b : Bool). (if b then 1 else 0) + size lives) t in
-    omega arith
-some_size (life ∷ lives) (suc place) within is =
-    let h = some_size lives place (omega arith) is in
-    let e = size_cons life lives in
-    omega arith
-
--- the place of a name that passes has its life
-life_there : (test : ℕ → Bool) (who : ℕ) → test who ≡ true → name_where test (place_of who) (life_of who) ≡ life_of who
-life_there test who t =
-    let some : (life_of who == 0) ≡ false = grind (arith, nat_tests) in
-    let same : name_at (place_of who) (life_of who) ≡ who = omega arith in
-    let passes : test (name_at (place_of who) (life_of who)) ≡ true = ap test same ∙ t in
-    rw (some, passes) refl
-
-pub some_left : (test : ℕ → Bool) (set : List ℕ) (who : ℕ) → has set who ≡ true → test who ≡ true → 0 < size (those test set)
-unfolding those
-some_left test set who there passes =
-    let f : ℕ → ℕ = λ place. name_where test place (slice_index set place) in
-    let place : place_of who < 16 = omega arith in
-    let is : slice_index set (place_of who) ≡ life_of who = grind (arith, nat_tests) in
-    let value = slice_index-by_place f (place_of who) place ∙ ap (name_where test (place_of who)) is ∙ life_there test who passes in
-    let long = length-by_place f in
-    some_size (by_place f) (place_of who) (omega arith) (omega arith)
 
 -- ---- looks at a ballot
 
@@ -76,19 +41,19 @@ kept_look rules m b v (finds_no_room x) own h =
     record { founding = k.founding; few = k.few; itself = own }
 kept_look rules m b v (decides may) own h =
     let names = left_in b (need_of m b) in
-    let before = trimmed_for m b names in
-    let some = some_left (λ name. not (b.given_up name)) (need_of m b) m.core.who may.learned.needed (ap not own) in
+    let before = trim_for m b names in
+    let some = has_size names m.core.who (has_those (λ name. not (b.given_up name)) (need_of m b) m.core.who may.learned.needed (ap not own)) in
     let same = ap (λ (r : Rules). r.window) h.founding in
     let room = may.room in
     let low : top m + 1 - before.core.base ≤ m.core.rules.window + 16 - size names = grind (arith, nat_tests) in
     let k = kept_trimmed rules m (unwrap_or (least_of (taken_by m.core.who m.core.taken b) (names_of names)) 0) h in
-    let l = kept_next rules before (View b.stamp names (max b.resilience (told m).resilience)) k (omega arith) in
+    let l = kept_next rules before (View b.stamp names (max b.resilience (image_of m).resilience)) k (omega arith) in
     record { founding = l.founding; few = l.few; itself = own }
 
 -- ---- entries that are stored
 
 -- the next number is within the bound
-kept_stored : (rules : Rules) (m : Node) (base number : ℕ) (e : Entry) → MayStore m m.core.base base number e → Keeps rules m → Keeps rules (pushed m e)
+kept_stored : (rules : Rules) (m : Node) (base number : ℕ) (e : Entry) → MayStore m m.core.base base number e → Keeps rules m → Keeps rules (push_entry m e)
 kept_stored rules m base number e may h =
     let next = may.next in
     let within = may.within in
@@ -97,8 +62,8 @@ kept_stored rules m base number e may h =
     kept_next rules m e h (omega arith)
 
 kept_fetched : (rules : Rules) (m : Node) (base number : ℕ) (e : Entry) → MayStore m (max m.core.base base) base number e → Keeps rules m
-    → Keeps rules (pushed (trimmed m base) e)
-kept_fetched rules m base number e may h = kept_stored rules (trimmed m base) base number e
+    → Keeps rules (push_entry (trim_up_to m base) e)
+kept_fetched rules m base number e may h = kept_stored rules (trim_up_to m base) base number e
     (record { next = may.next; taken = may.taken; stays = may.stays; fits = may.fits; within = may.within }) (kept_trimmed rules m base h)
 
 same_bounds : (rules : Rules) (m n : Node) → n.core.rules ≡ m.core.rules → n.core.who ≡ m.core.who → n.core.base ≡ m.core.base → top n ≡ top m
@@ -117,7 +82,7 @@ kept_change rules m n settles h = kept_settle rules m h
 kept_change rules m n (numbers e leads room why) h = kept_pushed rules m e room h
 kept_change rules m n (notes s v base acc by heard) h = kept_trimmed rules m _ h
 kept_change rules m n (stores s v base acc number e by heard plain may) h =
-    same_bounds rules (pushed m e) n refl refl refl refl refl (kept_stored rules m base number e may h)
+    same_bounds rules (push_entry m e) n refl refl refl refl refl (kept_stored rules m base number e may h)
 kept_change rules m n (begins_list s v base join image is o may) h = record { founding = h.founding; few = omega arith; itself = h.itself }
 kept_change rules m n (promises v low why) h = kept_promised rules m v h
 kept_change rules m n (opens least resilience by may) h = record { founding = h.founding; few = h.few; itself = refl }
@@ -125,5 +90,5 @@ kept_change rules m n (looks b verdict over why look is) h = kept_look rules m b
 kept_change rules m n (fetches s v base number e is heard promise below from may) h = kept_fetched rules m base number e may h
 kept_change rules m n (stores_view s v base number names resilience is heard own other promise below may) h =
     kept_fetched rules m base number (View v names resilience) may h
-kept_change rules m n (closes leads leaves alone room) h = kept_at_end rules (pushed m (Leave m.core.who)) (kept_pushed rules m (Leave m.core.who) room h)
+kept_change rules m n (closes leads leaves alone room) h = kept_at_end rules (push_entry m (Leave m.core.who)) (kept_pushed rules m (Leave m.core.who) room h)
 kept_change rules m n _ h = h

@@ -8,9 +8,9 @@ use Rattle.am_base.specs.Founding.{Rules}
 use Rattle.am_core.specs.Cores.{accept, pass_over}
 use Rattle.am_fronts.specs.Refresh.{base_after, own_report, tell, go_on, let_go}
 use Rattle.am_sender.specs.declared.OwnSend.{OwnSend}
-use Rattle.am_model.specs.Node.{Node, Ballot, top, has_room, is_within_bound, is_sequencer, pushed, trimmed, waiting}
-use Rattle.am_model.specs.Refresh.{advance, lead, refresh, accepted_at, settled_at, settled, settle, refresh_at_end}
-use Rattle.am_model.specs.Ballots.{overtaken, promised}
+use Rattle.am_model.specs.Node.{Node, Ballot, top, has_room, is_within_bound, is_sequencer, push_entry, trim_up_to, waiting}
+use Rattle.am_model.specs.Refresh.{advance, lead, refresh, accepted_at, settle_at, settle_waiting, settle, refresh_at_end}
+use Rattle.am_model.specs.Ballots.{overtake, with_promise}
 use Rattle.am_model.proofs.Greatest.{split}
 
 -- a ballot hasn't given up its own coordinator
@@ -30,33 +30,33 @@ Keeps rules m = IsKept rules m.core.rules m.core.who m.core.base (top m) m.ballo
 -- ---- entries
 
 -- the next number, where that is within the bound
-pub kept_next : (rules : Rules) (m : Node) (e : Entry) → Keeps rules m → top m + 1 ≤ m.core.base + (rules.window + 15) → Keeps rules (pushed m e)
+pub kept_next : (rules : Rules) (m : Node) (e : Entry) → Keeps rules m → top m + 1 ≤ m.core.base + (rules.window + 15) → Keeps rules (push_entry m e)
 kept_next rules m e h low = record { founding = h.founding; few = simp length-append (omega arith); itself = h.itself }
 
-pub kept_pushed : (rules : Rules) (m : Node) (e : Entry) → has_room m ≡ true → Keeps rules m → Keeps rules (pushed m e)
+pub kept_pushed : (rules : Rules) (m : Node) (e : Entry) → has_room m ≡ true → Keeps rules m → Keeps rules (push_entry m e)
 kept_pushed rules m e room h =
     let same = ap (λ (r : Rules). r.window) h.founding in
     let low : top m + 1 - m.core.base ≤ m.core.rules.window = grind (arith, nat_tests) in
     kept_next rules m e h (omega arith)
 
 pub kept_within : (rules : Rules) (m : Node) (number : ℕ) (e : Entry) → top m + 1 ≤ number → is_within_bound m m.core.base number ≡ true → Keeps rules m
-    → Keeps rules (pushed m e)
+    → Keeps rules (push_entry m e)
 kept_within rules m number e next within h =
     let same = ap (λ (r : Rules). r.window) h.founding in
     let low : number - m.core.base ≤ m.core.rules.window + 15 = grind (arith, nat_tests) in
     kept_next rules m e h (omega arith)
 
 -- a base that goes up
-pub kept_trimmed : (rules : Rules) (m : Node) (base : ℕ) → Keeps rules m → Keeps rules (trimmed m base)
+pub kept_trimmed : (rules : Rules) (m : Node) (base : ℕ) → Keeps rules m → Keeps rules (trim_up_to m base)
 kept_trimmed rules m base h = let f = h.few in record { founding = h.founding; few = omega arith; itself = h.itself }
 
 -- ---- promises
 
-has_itself_still : (who : ℕ) (by : Stamp) (ballot : Option Ballot) → HasItself who ballot → HasItself who (overtaken by ballot)
+has_itself_still : (who : ℕ) (by : Stamp) (ballot : Option Ballot) → HasItself who ballot → HasItself who (overtake by ballot)
 has_itself_still who by None h = tt
 has_itself_still who by (Some b) h = split (not b.is_over && stamp_lt b.stamp by) (λ t. rw t h) (λ f. rw f h)
 
-pub kept_promised : (rules : Rules) (m : Node) (stamp : Stamp) → Keeps rules m → Keeps rules (promised m stamp)
+pub kept_promised : (rules : Rules) (m : Node) (stamp : Stamp) → Keeps rules m → Keeps rules (with_promise m stamp)
 kept_promised rules m stamp h = record { founding = h.founding; few = h.few; itself = has_itself_still m.core.who stamp m.ballot h.itself }
 
 -- ---- the refresh
@@ -80,11 +80,11 @@ kept_refresh rules m h = split (is_sequencer m) (λ t. rw t (kept_lead rules m h
 
 -- ---- the end of a step
 
-kept_settled_at : (rules : Rules) (m : Node) (req : ℕ) (at : Option ℕ) → Keeps rules m → Keeps rules (settled_at m req at)
+kept_settled_at : (rules : Rules) (m : Node) (req : ℕ) (at : Option ℕ) → Keeps rules m → Keeps rules (settle_at m req at)
 kept_settled_at rules m req None h = h
 kept_settled_at rules m req (Some k) h = h
 
-kept_settled : (rules : Rules) (m : Node) (w : Option OwnSend) → Keeps rules m → Keeps rules (settled m w)
+kept_settled : (rules : Rules) (m : Node) (w : Option OwnSend) → Keeps rules m → Keeps rules (settle_waiting m w)
 kept_settled rules m None h = h
 kept_settled rules m (Some s) h = kept_settled_at rules m s.req (accepted_at m s.req) h
 

@@ -3,7 +3,7 @@ use Rattle.std.proofs.Common.{ℕ, ◌==◌, Bool, true, false, if◌then◌else
 use Rattle.am_base.specs.Founding.{Rules}
 use Rattle.am_base.specs.Names.{has}
 use Rattle.am_model.specs.Node.{Node, set_at, founder, stranger}
-use Rattle.am_model.specs.World.{World, start, unchanged, stepped}
+use Rattle.am_model.specs.World.{World, start, with_record, with_step}
 use Rattle.am_effects.specs.Events.{actor, idles, stops, returns, steps}
 use Rattle.am_effects.proofs.Runs.{along, EachKeeps, runs_keep}
 use Rattle.am_bounded.specs.Claim.{BoundedHolds}
@@ -23,7 +23,7 @@ set_kept rules nodes name n h k other = one (other == name)
     one false = h other
 
 each_keeps : (rules : Rules) → EachKeeps (AllKept rules)
-unfolding unchanged stepped
+unfolding with_record with_step
 each_keeps rules w e v (idles o idle) h = record { each = h.each }
 each_keeps rules w e v (stops runs) h = record { each = h.each }
 each_keeps rules w e v (returns place is gone more) h = record { each = h.each }

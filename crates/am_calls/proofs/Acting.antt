@@ -4,6 +4,7 @@ use Rattle.std.proofs.Common.{Some, None, sym, refl, ap, ◌∙◌, subst, arith
 use Rattle.std.specs.Prelude.{if◌then◌else◌, not, ◌==◌}
 use Rattle.std.proofs.lemmas.Bool.Decides.{nat_tests}
 use Rattle.std.proofs.lemmas.List.{length-map}
+use Rattle.std.proofs.lemmas.Option.{none-some}
 use Rattle.am_base.specs.Most.{most_events}
 use Rattle.am_base.specs.declared.outcome.Outcome.TheVariants as said
 use Rattle.am_base.specs.declared.event.NodeEvent.{NodeEvent}
@@ -22,10 +23,10 @@ use Rattle.am_group.specs.Addressed.{is_for}
 use Rattle.am_group.specs.Journals.{letters_of, letter_at}
 use Rattle.am_model.specs.Emit.{Step}
 use Rattle.am_model.specs.Step.{step, hear, row}
-use Rattle.am_model.specs.World.{World, is_stopped, unchanged, stepped, does_event, heard, acts_as, happens, record_of, current, no_caller}
+use Rattle.am_model.specs.World.{World, is_stopped, with_record, with_step, does_event, hears_letter, acts_as, happens, record_of, current, no_caller}
 use Rattle.am_model.specs.World.{run, happen}
 use Rattle.am_model.specs.Node.{Node}
-use Rattle.am_model.specs.Group.{tagged}
+use Rattle.am_model.specs.Group.{with_tag}
 use Rattle.am_model.specs.Ends.{IsEndOf, Does}
 use Rattle.am_model.proofs.Bytes.{spelling_is_heard}
 use Rattle.am_node.specs.Nodes.{HasNumbersLeft}
@@ -35,7 +36,7 @@ use Rattle.am_world.proofs.Numbers.{low}
 use Rattle.am_wire.specs.declared.rule.Terms.{Terms}
 use Rattle.am_wire.specs.Seats.{Follows}
 use Rattle.am_wire.specs.Stops.{has_stopped}
-use Rattle.am_calls.specs.Told.{told, IsNext}
+use Rattle.am_calls.specs.Told.{world_after, IsNext}
 use Rattle.am_calls.specs.Lawful.{IsLawful}
 use Rattle.am_calls.specs.Boxes.{what_of, MayAct}
 use Rattle.am_calls.proofs.Legality.{next_tells}
@@ -47,7 +48,7 @@ pub events_of : List Record → List Event
 events_of records = map (λ r. r.event) records
 
 IsTheRun : Rules → List Record → Type 0
-IsTheRun rules before = told rules before ≡ run rules (events_of before)
+IsTheRun rules before = world_after rules before ≡ run rules (events_of before)
 
 events_more : (before : List Record) (r : Record) → events_of (before ++ r ∷ []) ≡ events_of before ++ r.event ∷ []
 unfolding events_of
@@ -56,20 +57,20 @@ events_more (q ∷ before) r = ap (λ (es : List Event). q.event ∷ es) (events
 
 -- what a lawful journal tells is the run of its events
 told_runs : (terms : Terms) (before : List Record) → Follows (IsLawful terms) before → IsTheRun terms.founding before
-unfolding IsTheRun told events_of happen
+unfolding IsTheRun world_after events_of happen
 told_runs terms before follows =
     each_keeps (IsTheRun terms.founding) (IsLawful terms)
     (λ done r lawful so_far. told_more terms.founding done r ∙ next_tells terms.founding done r lawful.next ∙ ap (λ (w : World). happens w r.event) so_far
     ∙ sym (ap (run terms.founding) (events_more done r) ∙ replay_after (record { rules = terms.founding; events = events_of done }) r.event))
     [] before refl follows
 
-pub told_is_run : (terms : Terms) (before : List Record) → Follows (IsLawful terms) before → told terms.founding before ≡ run terms.founding (events_of before)
+pub told_is_run : (terms : Terms) (before : List Record) → Follows (IsLawful terms) before → world_after terms.founding before ≡ run terms.founding (events_of before)
 unfolding IsTheRun
 told_is_run terms before follows = told_runs terms before follows
 
 -- the numbers of a node are within a step's limits
 pub numbers_left : (terms : Terms) (before : List Record) (name : ℕ) (m : Node) → Follows (IsLawful terms) before → length before ≤ most_events
-    → IsEndOf ((told terms.founding before).nodes name) m → HasNumbersLeft m
+    → IsEndOf ((world_after terms.founding before).nodes name) m → HasNumbersLeft m
 unfolding IsTheRun events_of
 numbers_left terms before name m follows few is =
     let its = subst (λ (w : World). IsEndOf (w.nodes name) m) (told_runs terms before follows) is in
@@ -99,30 +100,23 @@ if_stopped true x y e = refl
 if_stopped false x y e = absurd (true≢false (sym e))
 
 does_steps : (w : World) (e : Event) (name : ℕ) (mine what : NodeEvent) → Some mine ≡ Some what → is_stopped w name ≡ false
-    → does_event w e name mine ≡ stepped w e name (step (w.nodes name) what)
+    → does_event w e name mine ≡ with_step w e name (step (w.nodes name) what)
 does_steps w e name mine what is runs =
-    if_runs (is_stopped w name) (unchanged w e said.IsStopped) (stepped w e name (step (w.nodes name) mine)) runs
-    ∙ ap (λ (x : NodeEvent). stepped w e name (step (w.nodes name) x)) (some_is mine what is)
+    if_runs (is_stopped w name) (with_record w e said.IsStopped) (with_step w e name (step (w.nodes name) mine)) runs
+    ∙ ap (λ (x : NodeEvent). with_step w e name (step (w.nodes name) x)) (some_is mine what is)
 
 hears_steps : (w : World) (e : Event) (name : ℕ) (l : Letter) (what : NodeEvent) → Some (does.Hear (spelling l.packet)) ≡ Some what → is_stopped w name ≡ false
-    → is_for l name ≡ true → IsPacket l.packet → heard w e name (hear (w.nodes name)) (Some l) ≡ stepped w e name (step (w.nodes name) what)
+    → is_for l name ≡ true → IsPacket l.packet → hears_letter w e name (hear (w.nodes name)) (Some l) ≡ with_step w e name (step (w.nodes name) what)
 hears_steps w e name l what is runs its packet =
-    let hears : World = stepped w e name (hear (w.nodes name) l.packet) in
-    if_runs (not (is_for l name)) (unchanged w e said.NotAddressed) (if is_stopped w name then unchanged w e said.IsStopped else hears) (ap not its)
-    ∙ if_runs (is_stopped w name) (unchanged w e said.IsStopped) hears runs
-    ∙ ap (stepped w e name) (sym (spelling_is_heard (w.nodes name) l.packet packet))
-    ∙ ap (λ (x : NodeEvent). stepped w e name (step (w.nodes name) x)) (some_is (does.Hear (spelling l.packet)) what is)
-
-none_some : {A : Type 0} (x : A) → None ≡ Some x → ⊥
-none_some {A = A} x e = true≢false (ap (λ (o : Option A). is_nothing o) e)
-  where
-    is_nothing : Option A → Bool
-    is_nothing None = true
-    is_nothing (Some z) = false
+    let hears : World = with_step w e name (hear (w.nodes name) l.packet) in
+    if_runs (not (is_for l name)) (with_record w e said.NotAddressed) (if is_stopped w name then with_record w e said.IsStopped else hears) (ap not its)
+    ∙ if_runs (is_stopped w name) (with_record w e said.IsStopped) hears runs
+    ∙ ap (with_step w e name) (sym (spelling_is_heard (w.nodes name) l.packet packet))
+    ∙ ap (λ (x : NodeEvent). with_step w e name (step (w.nodes name) x)) (some_is (does.Hear (spelling l.packet)) what is)
 
 pub acts_step : (w : World) (e : Event) (before : List Record) (name : ℕ) (a : Act) (l : Option Letter) (what : NodeEvent) → what_of a l ≡ Some what
     → is_stopped w name ≡ false → w.letters ≡ letters_of before → ((k : ℕ) → is_stopped w k ≡ has_stopped before k) → MayAct before name a l
-    → acts_as w e name a ≡ stepped w e name (step (w.nodes name) what)
+    → acts_as w e name a ≡ with_step w e name (step (w.nodes name) what)
 acts_step w e before name (act.Send body) l what is runs sent stopped may = does_steps w e name (does.Send body) what is runs
 acts_step w e before name (act.Done req) l what is runs sent stopped may = does_steps w e name (does.Done req) what is runs
 acts_step w e before name act.Take l what is runs sent stopped may = does_steps w e name does.Take what is runs
@@ -132,18 +126,18 @@ acts_step w e before name act.Leave l what is runs sent stopped may = does_steps
 acts_step w e before name (act.Reset least resilience) l what is runs sent stopped may = does_steps w e name (does.Reset least resilience) what is runs
 acts_step w e before name (act.Ask round) l what is runs sent stopped may = does_steps w e name (does.Ask round) what is runs
 acts_step w e before name (act.GiveUp other) l what is runs sent stopped may =
-    let given : World = stepped w e name (step (w.nodes name) (does.GiveUp other)) in
-    let not_stopped : World = unchanged w e said.NotStopped in
-    if_runs (is_stopped w name) (unchanged w e said.IsStopped) (if is_stopped w other then given else not_stopped) runs
+    let given : World = with_step w e name (step (w.nodes name) (does.GiveUp other)) in
+    let not_stopped : World = with_record w e said.NotStopped in
+    if_runs (is_stopped w name) (with_record w e said.IsStopped) (if is_stopped w other then given else not_stopped) runs
     ∙ if_stopped (is_stopped w other) given not_stopped (stopped other ∙ may.given other refl)
-    ∙ ap (λ (x : NodeEvent). stepped w e name (step (w.nodes name) x)) (some_is (does.GiveUp other) what is)
-acts_step w e before name act.Stop l what is runs sent stopped may = absurd (none_some what is)
+    ∙ ap (λ (x : NodeEvent). with_step w e name (step (w.nodes name) x)) (some_is (does.GiveUp other) what is)
+acts_step w e before name act.Stop l what is runs sent stopped may = absurd (none-some what is)
 acts_step w e before name act.Tick l what is runs sent stopped may = does_steps w e name does.Tick what is runs
 acts_step w e before name (act.Hear number) l what is runs sent stopped may =
     let h = may.hears number refl in
     let there : letter_at w.letters number ≡ Some h.letter = ap (λ (ls : List Letter). letter_at ls number) sent ∙ h.sent in
     let same : Some (does.Hear (spelling h.letter.packet)) ≡ Some what = sym (ap (what_of (act.Hear number)) h.is) ∙ is in
-    ap (heard w e name (hear (w.nodes name))) there ∙ hears_steps w e name h.letter what same runs h.its h.packet
+    ap (hears_letter w e name (hear (w.nodes name))) there ∙ hears_steps w e name h.letter what same runs h.its h.packet
 acts_step w e before name (act.Cut number keep) l what is runs sent stopped may = absurd (true≢false (sym may.race))
 acts_step w e before name act.Return l what is runs sent stopped may = absurd (true≢false (sym may.race))
 
@@ -152,24 +146,24 @@ acts_step w e before name act.Return l what is runs sent stopped may = absurd (t
 -- the record that an act's step makes, and the node that it leaves
 pub record Comes (rules : Rules) (before : List Record) (name : ℕ) (n : Node) (item : Record) : Type 0 where
   pub next : IsNext rules before item
-  pub node : IsEndOf ((told rules (before ++ item ∷ [])).nodes name) n
+  pub node : IsEndOf ((world_after rules (before ++ item ∷ [])).nodes name) n
 
-own_node : (w : World) (e : Event) (name : ℕ) (s : Step) → (stepped w e name s).nodes name ≡ s.node
-unfolding stepped
+own_node : (w : World) (e : Event) (name : ℕ) (s : Step) → (with_step w e name s).nodes name ≡ s.node
+unfolding with_step
 own_node w e name s = let same : (name == name) ≡ true = grind (arith, nat_tests) in rw same refl
 
-stepped_adds : (w : World) (e : Event) (name : ℕ) (s : Step) → (stepped w e name s).records ≡ w.records ++ record_of w e s.outcome s.letters ∷ []
-unfolding stepped
+stepped_adds : (w : World) (e : Event) (name : ℕ) (s : Step) → (with_step w e name s).records ≡ w.records ++ record_of w e s.outcome s.letters ∷ []
+unfolding with_step
 stepped_adds w e name s = refl
 
 pub step_comes : (terms : Terms) (before : List Record) (name : ℕ) (m n : Node) (l : Option Letter) (what : NodeEvent) (item : Record)
     → Follows (IsLawful terms) before → name < 16
     → item.event.node ≡ name → item.life ≡ 1 → MayAct before name item.event.act l → what_of item.event.act l ≡ Some what
-    → IsEndOf ((told terms.founding before).nodes name) m → IsInOrder m.core → Does (λ k. row k what) m item.outcome item.packets n
+    → IsEndOf ((world_after terms.founding before).nodes name) m → IsInOrder m.core → Does (λ k. row k what) m item.outcome item.packets n
     → Comes terms.founding before name n item
 unfolding happens
 step_comes terms before name m n l what item follows low_name node life may is end order does =
-    let w : World = told terms.founding before in
+    let w : World = world_after terms.founding before in
     let kn = knows terms before follows in
     let e : Event = item.event in
     let here : current w (place_of e.node) ≡ name = name_now terms.founding before kn (place_of e.node) ∙ ap (λ (k : ℕ). name_at (place_of k) 1) node
@@ -177,9 +171,9 @@ step_comes terms before name m n l what item follows low_name node life may is e
     let runs : is_stopped w name ≡ false = kn.stopped name ∙ may.runs in
     let s : Step = step (w.nodes name) what in
     let c = step_end (w.nodes name) m n what item.outcome item.packets end order does in
-    let did : happens w e ≡ stepped w e name s = ap (λ (k : ℕ). acts_as w e k e.act) here
+    let did : happens w e ≡ with_step w e name s = ap (λ (k : ℕ). acts_as w e k e.act) here
     ∙ acts_step w e before name e.act l what is runs kn.letters kn.stopped may in
-    let made : record_of w e s.outcome s.letters ≡ tagged no_caller item =
+    let made : record_of w e s.outcome s.letters ≡ with_tag no_caller item =
     λ i. record { event = e; life = (kn.lives (place_of e.node) ∙ sym life) i; by = no_caller; outcome = sym c.answer i; packets = sym c.sent i }
     in
     let next : IsNext terms.founding before item = ap (λ (v : World). v.records) did ∙ stepped_adds w e name s

@@ -6,7 +6,7 @@ use Rattle.std.proofs.lemmas.List.Folds.{list_any-append}
 use Rattle.std.proofs.lemmas.List.Elements.{filter-append}
 use Rattle.am_base.specs.Names.{place_of}
 use Rattle.am_group.specs.declared.event.Record.{Record}
-use Rattle.am_calls.specs.Tags.{is_either, known}
+use Rattle.am_calls.specs.Tags.{is_either, up_to_last}
 use Rattle.am_calls.specs.Laws.{OthersAreApart}
 
 -- a record that doesn't pass a test is left out
@@ -15,7 +15,7 @@ left_out test before r fails =
     let alone : filter test (r ∷ []) ≡ [] = ap (λ (b : Bool). cond b (r ∷ []) []) fails in
     filter-append test before (r ∷ []) ∙ ap (λ (l : List Record). filter test before ++ l) alone ∙ append-nil (filter test before)
 
-or_false : (b : Bool) → (b || false) ≡ b
+pub or_false : (b : Bool) → (b || false) ≡ b
 or_false true = refl
 or_false false = refl
 
@@ -25,11 +25,11 @@ any_left test before r fails =
     list_any-append test before (r ∷ []) ∙ ap (λ (b : Bool). list_any test before || b) alone ∙ or_false (list_any test before)
 
 pub known_left : (place caller : ℕ) (before : List Record) (r : Record) → is_either place caller r ≡ false
-    → known place caller (before ++ r ∷ []) ≡ known place caller before
-unfolding known
+    → up_to_last place caller (before ++ r ∷ []) ≡ up_to_last place caller before
+unfolding up_to_last
 known_left place caller [] r fails = ap (λ (b : Bool). if b || false then r ∷ [] else []) fails
 known_left place caller (q ∷ before) r fails =
-    ap (λ (b : Bool). if b then q ∷ known place caller (before ++ r ∷ []) else []) (any_left (is_either place caller) (q ∷ before) r fails)
+    ap (λ (b : Bool). if b then q ∷ up_to_last place caller (before ++ r ∷ []) else []) (any_left (is_either place caller) (q ∷ before) r fails)
     ∙ ap (λ (l : List Record). if list_any (is_either place caller) (q ∷ before) then q ∷ l else []) (known_left place caller before r fails)
 
 pub others_are_apart : OthersAreApart

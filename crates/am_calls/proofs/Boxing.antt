@@ -5,6 +5,7 @@ use Rattle.std.proofs.Common.{append-nil, length-append, eq-eqb}
 use Rattle.std.specs.Prelude.{if◌then◌else◌, ◌==◌, ◌&&◌, ◌||◌, All}
 use Rattle.std.proofs.Math.Seq.{drop-append_seam}
 use Rattle.std.proofs.lemmas.List.Elements.{filter-append}
+use Rattle.std.proofs.lemmas.Option.{none-some}
 use Rattle.std.proofs.lemmas.Grind.{fold-append}
 use Rattle.am_base.specs.Most.{most_events}
 use Rattle.atomic_table.specs.Seated.{TableId}
@@ -27,8 +28,8 @@ use Rattle.std.proofs.lemmas.List.Concat.{flat_map-append}
 use Rattle.am_model.specs.Claims.{heard_by}
 use Rattle.am_model.specs.Node.{Node}
 use Rattle.am_node.specs.Nodes.{HasNumbersLeft}
-use Rattle.am_model.specs.World.{World, is_stopped, unchanged, acts_as, happens, current, no_caller, record_of}
-use Rattle.am_model.specs.Group.{tagged}
+use Rattle.am_model.specs.World.{World, is_stopped, with_record, acts_as, happens, current, no_caller, record_of}
+use Rattle.am_model.specs.Group.{with_tag}
 use Rattle.am_model.specs.Ends.{IsEndOf}
 use Rattle.am_wire.specs.declared.rule.Key.{Key}
 use Rattle.am_wire.specs.declared.rule.Key.TheVariants.{Place, Caller}
@@ -40,12 +41,12 @@ use Rattle.am_wire.specs.Passes.{Known, IsReady, Committed, Sees}
 use Rattle.am_wire.specs.Seats.{Follows, GoesOn}
 use Rattle.am_wire.specs.Stops.{is_stop, has_stopped}
 use Rattle.am_wire.proofs.Views.{rest_of, times_cons}
-use Rattle.am_calls.specs.Told.{told, IsNext}
+use Rattle.am_calls.specs.Told.{world_after, IsNext}
 use Rattle.am_calls.specs.Tags.{of_place}
-use Rattle.am_calls.specs.Turns.{is_turn, greatest, passed, cursor, last_heard, lost_by, unless_nought, or_nought}
+use Rattle.am_calls.specs.Turns.{is_turn, greatest, passed_number, cursor, last_heard, lost_by, unless_nought, or_nought}
 use Rattle.am_calls.specs.Laws.{IsApart}
 use Rattle.am_calls.specs.Lawful.{plan_by, terms_of, IsLawful}
-use Rattle.am_calls.specs.Boxes.{what_of, Steps, MayAct, Boxed, Keeps, IsBox, IsShareOf, IsTurn, Acted, Looks, IsRefused, refused}
+use Rattle.am_calls.specs.Boxes.{what_of, Steps, MayAct, Boxed, Keeps, IsBox, IsShareOf, IsTurn, Acted, Looks, IsRefused, refusal_answer}
 use Rattle.am_calls.specs.declared.ready.Came.{Came}
 use Rattle.am_calls.specs.Ready.{round_in}
 use Rattle.am_calls.proofs.Knows.{knows, name_now, told_more, stopped_more}
@@ -147,64 +148,63 @@ may_still terms seen more name a l low follows far may = record {
 
 -- ---- a stop
 
-some_none : (x : NodeEvent) → Some x ≡ None → ⊥
-some_none x same = true≢false (ap is_some same)
-  where
-    is_some : Option NodeEvent → Bool
-    is_some None = false
-    is_some (Some y) = true
-
 -- where nothing is asked of the node, the act is its stop
 stops_then : (before : List Record) (name : ℕ) (a : Act) (l : Option Letter) → MayAct before name a l → what_of a l ≡ None → a ≡ act.Stop
-stops_then before name (act.Send body) l may e = absurd (some_none _ e)
-stops_then before name (act.Done req) l may e = absurd (some_none _ e)
-stops_then before name act.Take l may e = absurd (some_none _ e)
-stops_then before name act.Join l may e = absurd (some_none _ e)
-stops_then before name act.State l may e = absurd (some_none _ e)
-stops_then before name act.Leave l may e = absurd (some_none _ e)
-stops_then before name (act.Reset least resilience) l may e = absurd (some_none _ e)
-stops_then before name (act.Ask round) l may e = absurd (some_none _ e)
-stops_then before name (act.GiveUp other) l may e = absurd (some_none _ e)
+stops_then before name (act.Send body) l may e = absurd (none-some _ (sym e))
+stops_then before name (act.Done req) l may e = absurd (none-some _ (sym e))
+stops_then before name act.Take l may e = absurd (none-some _ (sym e))
+stops_then before name act.Join l may e = absurd (none-some _ (sym e))
+stops_then before name act.State l may e = absurd (none-some _ (sym e))
+stops_then before name act.Leave l may e = absurd (none-some _ (sym e))
+stops_then before name (act.Reset least resilience) l may e = absurd (none-some _ (sym e))
+stops_then before name (act.Ask round) l may e = absurd (none-some _ (sym e))
+stops_then before name (act.GiveUp other) l may e = absurd (none-some _ (sym e))
 stops_then before name act.Stop l may e = refl
-stops_then before name act.Tick l may e = absurd (some_none _ e)
-stops_then before name (act.Hear number) l may e = let h = may.hears number refl in absurd (some_none _ (sym (ap (what_of (act.Hear number)) h.is) ∙ e))
+stops_then before name act.Tick l may e = absurd (none-some _ (sym e))
+stops_then before name (act.Hear number) l may e = let h = may.hears number refl in absurd (none-some _ (sym e ∙ ap (what_of (act.Hear number)) h.is))
 stops_then before name (act.Cut number keep) l may e = absurd (true≢false (sym may.race))
 stops_then before name act.Return l may e = absurd (true≢false (sym may.race))
 
 stop_now : (w : World) (e : Event) (name : ℕ) (b : Bool) → b ≡ false
-    → (if b then unchanged w e said.IsStopped else unchanged (record w { stopped = w.stopped ++ name ∷ [] }) e said.Stopped)
-    ≡ unchanged (record w { stopped = w.stopped ++ name ∷ [] }) e said.Stopped
+    → (if b then with_record w e said.IsStopped else with_record (record w { stopped = w.stopped ++ name ∷ [] }) e said.Stopped)
+    ≡ with_record (record w { stopped = w.stopped ++ name ∷ [] }) e said.Stopped
 stop_now w e name true runs = absurd (true≢false runs)
 stop_now w e name false runs = refl
 
 left_alone : (w : World) (e : Event) (name k : ℕ) (outcome : Outcome)
-    → (unchanged (record w { stopped = w.stopped ++ k ∷ [] }) e outcome).nodes name ≡ w.nodes name
-unfolding unchanged
+    → (with_record (record w { stopped = w.stopped ++ k ∷ [] }) e outcome).nodes name ≡ w.nodes name
+unfolding with_record
 left_alone w e name k outcome = refl
 
 one_more : (w : World) (e : Event) (k : ℕ) (outcome : Outcome)
-    → (unchanged (record w { stopped = w.stopped ++ k ∷ [] }) e outcome).records ≡ w.records ++ record_of w e outcome [] ∷ []
-unfolding unchanged
+    → (with_record (record w { stopped = w.stopped ++ k ∷ [] }) e outcome).records ≡ w.records ++ record_of w e outcome [] ∷ []
+unfolding with_record
 one_more w e k outcome = refl
 
 -- the record of an act
 abbrev pub item_of : ℕ → Act → By → Outcome → List Letter → Record
 item_of name a by outcome letters = record { event = record { node = name; act = a }; life = 1; by = by; outcome = outcome; packets = letters }
 
+-- a record of which nothing had come, filled with what came
+pub filled : {name : ℕ} {a : Act} {by : By} {blank : Record} {outcome outcome' : Outcome} {letters letters' : List Letter}
+    → blank ≡ item_of name a by said.Idle [] → outcome' ≡ outcome → letters' ≡ letters
+    → record blank { outcome = outcome'; packets = letters' } ≡ item_of name a by outcome letters
+filled item came sent = λ i. record (item i) { outcome = came i; packets = sent i }
+
 stop_comes : (terms : Terms) (before : List Record) (name : ℕ) (by : By) (m : Node) → Follows (IsLawful terms) before → name < 16
     → has_stopped before name ≡ false
-    → IsEndOf ((told terms.founding before).nodes name) m → Comes terms.founding before name m (item_of name act.Stop by said.Stopped [])
+    → IsEndOf ((world_after terms.founding before).nodes name) m → Comes terms.founding before name m (item_of name act.Stop by said.Stopped [])
 unfolding happens
 stop_comes terms before name by m follows low runs end =
     let item : Record = item_of name act.Stop by said.Stopped [] in
-    let w : World = told terms.founding before in
+    let w : World = world_after terms.founding before in
     let kn = knows terms before follows in
     let e : Event = item.event in
     let here : current w (place_of name) ≡ name = name_now terms.founding before kn (place_of name) ∙ first_name name low in
-    let did : happens w e ≡ unchanged (record w { stopped = w.stopped ++ name ∷ [] }) e said.Stopped =
+    let did : happens w e ≡ with_record (record w { stopped = w.stopped ++ name ∷ [] }) e said.Stopped =
     ap (λ (k : ℕ). acts_as w e k act.Stop) here ∙ stop_now w e name (is_stopped w name) (kn.stopped name ∙ runs)
     in
-    let made : record_of w e said.Stopped [] ≡ tagged no_caller item =
+    let made : record_of w e said.Stopped [] ≡ with_tag no_caller item =
     λ i. record { event = e; life = kn.lives (place_of name) i; by = no_caller; outcome = said.Stopped; packets = [] } in
     let next : IsNext terms.founding before item = ap (λ (v : World). v.records) did ∙ one_more w e name said.Stopped
     ∙ ap (λ (r : Record). w.records ++ r ∷ []) made in
@@ -220,12 +220,12 @@ stop_comes terms before name by m follows low runs end =
 -- the record comes next, by the law, and the node is its end
 pub record Lands (terms : Terms) (before : List Record) (name : ℕ) (n : Node) (item : Record) : Type 0 where
   pub lawful : IsLawful terms before item
-  pub node : IsEndOf ((told terms.founding (before ++ item ∷ [])).nodes name) n
+  pub node : IsEndOf ((world_after terms.founding (before ++ item ∷ [])).nodes name) n
   pub order : IsInOrder n.core
 
 comes : (terms : Terms) (before : List Record) (name : ℕ) (m n : Node) (a : Act) (by : By) (l : Option Letter) (what : Option NodeEvent) (outcome : Outcome)
     (letters : List Letter)
-    → Follows (IsLawful terms) before → name < 16 → MayAct before name a l → what ≡ what_of a l → IsEndOf ((told terms.founding before).nodes name) m
+    → Follows (IsLawful terms) before → name < 16 → MayAct before name a l → what ≡ what_of a l → IsEndOf ((world_after terms.founding before).nodes name) m
     → IsInOrder m.core
     → Steps what m outcome letters n → Comes terms.founding before name n (item_of name a by outcome letters) × IsInOrder n.core
 comes terms before name m n a by l (Some what) outcome letters follows low may is end order steps =
@@ -254,8 +254,8 @@ lands plan name seen before m n a by l what outcome letters low beyond_ follows 
     (may_still terms seen more name a l low whole beyond_.place_ may) in
     let far : All (λ r. place_of r.event.node ≢ place_of name) more =
     subst (λ (p : ℕ). All (λ (r : Record). place_of r.event.node ≢ p) more) (sym (low_place name low)) beyond_.place_ in
-    let end : IsEndOf ((told plan.founding before).nodes name) m =
-    subst (λ (v : Node). IsEndOf v m) (sym (ap (λ (rs : List Record). (told plan.founding rs).nodes name) beyond_.is
+    let end : IsEndOf ((world_after plan.founding before).nodes name) m =
+    subst (λ (v : Node). IsEndOf v m) (sym (ap (λ (rs : List Record). (world_after plan.founding rs).nodes name) beyond_.is
     ∙ nodes_stay plan.founding seen more name far)) keeps.end
     in
     let c = comes terms before name m n a by l what outcome letters follows low still is end keeps.order steps in
@@ -399,9 +399,9 @@ module _ (wire : TableId) (plan : RacePlan) (name : ℕ) (pass share : Known) (m
         keys = ap (λ (p : Known). p.keys) done.pass_after ∙ d.box.keys;
         place = d.box.place;
         lawful = subst (λ (t : Terms). Follows (IsLawful t) pass'.seen) d.box.terms lawful;
-        node = λ _. record { end = subst (λ (rs : List Record). IsEndOf ((told plan.founding rs).nodes name) n) (sym seen) both.1.node; order = both.1.order };
-        cursor_ = λ _. far_is ∙ max_thrice far (heard_by a) (lost_by by.part) ∙ ap (λ (k : ℕ). max k (passed r)) (d.box.cursor_ d.runs)
-            ∙ ap (λ (rs : List Record). max (greatest (map passed rs)) (passed r)) (sym same_place) ∙ sym (place_last passed name before r here)
+        node = λ _. record { end = subst (λ (rs : List Record). IsEndOf ((world_after plan.founding rs).nodes name) n) (sym seen) both.1.node; order = both.1.order };
+        cursor_ = λ _. far_is ∙ max_thrice far (heard_by a) (lost_by by.part) ∙ ap (λ (k : ℕ). max k (passed_number r)) (d.box.cursor_ d.runs)
+            ∙ ap (λ (rs : List Record). max (greatest (map passed_number rs)) (passed_number r)) (sym same_place) ∙ sym (place_last passed_number name before r here)
             ∙ ap (cursor name) (sym seen);
         last_ = λ _.
             let heard : Record → ℕ = λ q. heard_by q.event.act in
@@ -414,19 +414,12 @@ module _ (wire : TableId) (plan : RacePlan) (name : ℕ) (pass share : Known) (m
             ∙ sym (stopped_more before r name ∙ ap (λ (b : Bool). has_stopped before name || (is_stop a && b)) is_first
             ∙ ap (λ (b : Bool). has_stopped before name || b) (and_true (is_stop a)))
             ∙ ap (λ (rs : List Record). has_stopped rs name) (sym seen);
-        spent = λ e. absurd (none_closed (sym d.runs ∙ e));
+        spent = λ e. absurd (none-some _ (sym d.runs ∙ e));
       }
     where
       and_true : (b : Bool) → (b && true) ≡ b
       and_true true = refl
       and_true false = refl
-
-      none_closed : {x : WireRefusal} → None ≡ Some x → ⊥
-      none_closed e = true≢false (ap is_none e)
-        where
-          is_none : Option WireRefusal → Bool
-          is_none None = true
-          is_none (Some y) = false
 
 module _ (wire : TableId) (plan : RacePlan) (name : ℕ) (pass share : Known) (m n : Node) (far : ℕ) (last : Option ℕ) (stopped : Bool)
     (closed : Option WireRefusal)
@@ -481,31 +474,17 @@ open_sees wire plan name pass pass' m far last stopped closed box runs sees lawf
       place = box.place;
       lawful = follows;
       node = λ _. record {
-        end = subst (λ (v : Node). IsEndOf v m) (sym (ap (λ (rs : List Record). (told plan.founding rs).nodes name) is
+        end = subst (λ (v : Node). IsEndOf v m) (sym (ap (λ (rs : List Record). (world_after plan.founding rs).nodes name) is
             ∙ nodes_stay plan.founding pass.seen more name far_)) keeps.end;
         order = keeps.order;
       };
-      cursor_ = λ _. box.cursor_ runs ∙ ap (λ (rs : List Record). greatest (map passed rs)) (sym same_place);
+      cursor_ = λ _. box.cursor_ runs ∙ ap (λ (rs : List Record). greatest (map passed_number rs)) (sym same_place);
       last_ = λ _. box.last_ runs ∙ ap (λ (rs : List Record). unless_nought (greatest (map (λ q. heard_by q.event.act) rs))) (sym same_place);
       stopped_ = λ _. box.stopped_ runs
           ∙ sym (ap (λ (rs : List Record). has_stopped rs name) is ∙ stopped_in_more pass.seen more name
           ∙ or_none (has_stopped pass.seen name) (has_stopped more name) (none_stop more name far_ lives box.place));
-      spent = λ e. absurd (no_none (sym runs ∙ e));
+      spent = λ e. absurd (none-some _ (sym runs ∙ e));
     }
-  where
-    no_none : {x : WireRefusal} → None ≡ Some x → ⊥
-    no_none e = true≢false (ap is_none e)
-      where
-        is_none : Option WireRefusal → Bool
-        is_none None = true
-        is_none (Some y) = false
-
-some_not_none : (x : WireRefusal) → Some x ≡ None → ⊥
-some_not_none x e = true≢false (ap is_some e)
-  where
-    is_some : Option WireRefusal → Bool
-    is_some None = false
-    is_some (Some y) = true
 
 pub box_sees : (wire : TableId) (plan : RacePlan) (name : ℕ) (pass pass' : Known) (m : Node) (far : ℕ) (last : Option ℕ) (stopped : Bool)
     (closed : Option WireRefusal)
@@ -519,10 +498,10 @@ box_sees wire plan name pass pass' m far last stopped (Some refusal) box sees la
   keys = sees.keys ∙ box.keys;
   place = box.place;
   lawful = subst (λ (t : Terms). Follows (IsLawful t) pass'.seen) box.terms lawful;
-  node = λ e. absurd (some_not_none refusal e);
-  cursor_ = λ e. absurd (some_not_none refusal e);
-  last_ = λ e. absurd (some_not_none refusal e);
-  stopped_ = λ e. absurd (some_not_none refusal e);
+  node = λ e. absurd (none-some refusal (sym e));
+  cursor_ = λ e. absurd (none-some refusal (sym e));
+  last_ = λ e. absurd (none-some refusal (sym e));
+  stopped_ = λ e. absurd (none-some refusal (sym e));
   spent = λ e.
       let more : List Record = drop (length pass.seen) pass'.seen in
       let long : length pass'.seen ≡ length (pass.seen ++ more) = ap length (rest_of pass'.seen pass.seen sees.goes.begins) in
@@ -545,7 +524,7 @@ goes_place wire plan name pass pass' m far last stopped closed box sees = subst 
 
 pub refusal_of : (wire : TableId) (plan : RacePlan) (name : ℕ) (pass : Known) (m : Node) (far : ℕ) (last : Option ℕ) (stopped : Bool)
     (closed : Option WireRefusal) (refusal : WireRefusal)
-    → IsBox wire plan name pass m far last stopped closed → closed ≡ Some refusal → IsRefused pass.seen name (refused refusal)
+    → IsBox wire plan name pass m far last stopped closed → closed ≡ Some refusal → IsRefused pass.seen name (refusal_answer refusal)
 refusal_of wire plan name pass m far last stopped closed refusals.NoMemory box e = tt
 refusal_of wire plan name pass m far last stopped closed refusals.Spent box e = box.spent e
 

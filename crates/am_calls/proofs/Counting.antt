@@ -1,8 +1,9 @@
 -- A journal has no more records than its callers' calls have room for.
-use Rattle.std.proofs.Common.{◌≡◌, ℕ, zero, suc, ◌+◌, ◌*◌, ◌<◌, ◌≤◌, List, [], ◌∷◌, length, Bool, true, false, true≢false, cond, Option, Some, None, refl}
+use Rattle.std.proofs.Common.{◌≡◌, ℕ, zero, suc, ◌+◌, ◌*◌, ◌<◌, ◌≤◌, List, [], ◌∷◌, length, Bool, true, false, cond, Option, Some, None, refl}
 use Rattle.std.proofs.Common.{ap, ◌∙◌, subst, arith, eq-eqb, ne_eqb, slice_get}
 use Rattle.std.specs.Prelude.{All, ◌==◌, sum_by}
 use Rattle.std.proofs.lemmas.List.Sums.{sum_by-cons}
+use Rattle.std.proofs.lemmas.Option.{none-some}
 use Rattle.std.proofs.Math.Nat.{add-mul}
 use mathlib.Core.Logic.{dite}
 use native.Mathlib.Decide.{ℕ_discrete}
@@ -90,14 +91,7 @@ all_few each from (t ∷ threads) journal few =
 fewer : (each from i : ℕ) (t : ThreadPlan) (threads : List ThreadPlan) (journal : List Record) → AreFew each from threads journal → slice_get threads i ≡ Some t
     → length (of_caller (from + i) journal) < length t.calls * each → counted from threads journal < room threads each
 unfolding counted
-fewer each from i t [] journal few is less = absurd (nothing is)
-  where
-    is_none : Option ThreadPlan → Bool
-    is_none None = true
-    is_none (Some x) = false
-
-    nothing : None ≡ Some t → ⊥
-    nothing e = true≢false (ap is_none e)
+fewer each from i t [] journal few is less = absurd (none-some t is)
 fewer each from zero t (u ∷ threads) journal few is less =
     let f = first_few each from u threads journal few in
     let same : u ≡ t = some_is u t is in

@@ -4,6 +4,7 @@ use Rattle.std.proofs.Common.{true≢false, Option, Some, None, sym, refl, ap, �
 use Rattle.std.specs.Prelude.{if◌then◌else◌, not, ◌==◌, ◌&&◌, ◌||◌, All, count_by, nat_lt, is_none}
 use Rattle.std.specs.List.{list_any}
 use Rattle.std.proofs.lemmas.List.Concat.{flat_map-append}
+use Rattle.std.proofs.lemmas.Option.{none-some}
 use Rattle.am_base.specs.Names.{place_of, name_at, name_lt, names_of}
 use Rattle.am_packet.specs.Boxes.{Letter}
 use Rattle.am_group.specs.declared.event.Act.{Act}
@@ -24,11 +25,11 @@ use Rattle.am_pump.specs.Choices.{Luck, again, choice_of, act_of}
 use Rattle.am_wire.specs.declared.rule.Terms.{Terms}
 use Rattle.am_wire.specs.Seats.{Follows}
 use Rattle.am_wire.specs.Stops.{has_stopped}
-use Rattle.am_calls.specs.Told.{told}
-use Rattle.am_calls.specs.Tags.{of_place, of_call, own_of, is_turn_part, known, is_either}
+use Rattle.am_calls.specs.Told.{world_after}
+use Rattle.am_calls.specs.Tags.{of_place, of_call, own_of, is_turn_part, up_to_last, is_either}
 use Rattle.am_calls.specs.Ready.{is_ready}
-use Rattle.am_calls.specs.Turns.{cursor, last_heard, words_drawn, chosen, follows, is_waited, is_least, waits_in_vain, is_choice, is_turn_of, turns_at, is_turn}
-use Rattle.am_calls.specs.Turns.{greatest, passed, unless_nought}
+use Rattle.am_calls.specs.Turns.{cursor, last_heard, words_drawn, choice_after, follows, is_waited, is_least, waits_in_vain, is_choice, is_turn_of, turns_at, is_turn}
+use Rattle.am_calls.specs.Turns.{greatest, passed_number, unless_nought}
 use Rattle.am_model.specs.Claims.{heard_by}
 use Rattle.am_calls.specs.Laws.{IsApart, IsLeft}
 use Rattle.am_calls.specs.Lawful.{IsLawful, plan_by, terms_of}
@@ -51,13 +52,13 @@ use Rattle.am_calls.proofs.Turning.{ahead_is_sent}
 
 -- ---- what is known
 
-known_first : (place caller : ℕ) (before : List Record) → (rest : List Record) × (before ≡ known place caller before ++ rest)
-unfolding known
+known_first : (place caller : ℕ) (before : List Record) → (rest : List Record) × (before ≡ up_to_last place caller before ++ rest)
+unfolding up_to_last
 known_first place caller [] = ([], refl)
 known_first place caller (r ∷ before) = let k = known_first place caller before in by_any (list_any (is_either place caller) (r ∷ before)) k.0 k.1
   where
-    by_any : (b : Bool) (rest : List Record) → before ≡ known place caller before ++ rest
-        → (others : List Record) × (r ∷ before ≡ (if b then r ∷ known place caller before else []) ++ others)
+    by_any : (b : Bool) (rest : List Record) → before ≡ up_to_last place caller before ++ rest
+        → (others : List Record) × (r ∷ before ≡ (if b then r ∷ up_to_last place caller before else []) ++ others)
     by_any true rest is = (rest, ap (λ (rs : List Record). r ∷ rs) is)
     by_any false rest is = (r ∷ before, refl)
 
@@ -124,12 +125,8 @@ ahead_fewer knew rest name after none = by_ahead (next_for (letters_of knew) nam
     by_ahead : (o : Option ℕ) → next_for (letters_of knew) name after ≡ o → next_for (letters_of knew) name after ≡ None
     by_ahead None e = e
     by_ahead (Some n) e =
-        absurd (true≢false (ap some_ (sym (ap (λ (ls : List Letter). next_for ls name after) (letters_more knew rest)
-        ∙ next_stays (letters_of knew) (letters_of rest) name after n e) ∙ none)))
-      where
-        some_ : Option ℕ → Bool
-        some_ None = false
-        some_ (Some k) = true
+        absurd (none-some n (sym none ∙ ap (λ (ls : List Letter). next_for ls name after) (letters_more knew rest)
+        ∙ next_stays (letters_of knew) (letters_of rest) name after n e))
 
 -- ---- what a box finds
 
@@ -146,37 +143,11 @@ is_tick : Choice → Bool
 is_tick choice.Tick = true
 is_tick _ = false
 
-loses : Choice → ℕ → ℕ
-loses (choice.Lose number) other = number
-loses _ other = other
-
 lose_only : (b c : Bool) (n k : ℕ) (last : Option ℕ) → (if b then choice.Lose n else if c then again n last else choice.Hear n) ≡ choice.Lose k → n ≡ k
-unfolding loses
-lose_only true c n k last e = ap (λ (x : Choice). loses x 0) e
-lose_only false true n k None e = absurd (no_lose (ap is_lose e))
-  where
-    is_lose : Choice → Bool
-    is_lose (choice.Lose number) = true
-    is_lose _ = false
-
-    no_lose : false ≡ true → ⊥
-    no_lose f = true≢false (sym f)
-lose_only false true n k (Some l) e = absurd (no_lose (ap is_lose e))
-  where
-    is_lose : Choice → Bool
-    is_lose (choice.Lose number) = true
-    is_lose _ = false
-
-    no_lose : false ≡ true → ⊥
-    no_lose f = true≢false (sym f)
-lose_only false false n k last e = absurd (no_lose (ap is_lose e))
-  where
-    is_lose : Choice → Bool
-    is_lose (choice.Lose number) = true
-    is_lose _ = false
-
-    no_lose : false ≡ true → ⊥
-    no_lose f = true≢false (sym f)
+lose_only true c n k last e = cc
+lose_only false true n k None e = cc
+lose_only false true n k (Some l) e = cc
+lose_only false false n k last e = cc
 
 never_ticks : (b c : Bool) (n : ℕ) (last : Option ℕ) → is_tick (if b then choice.Lose n else if c then again n last else choice.Hear n) ≡ false
 unfolding is_tick
@@ -206,7 +177,7 @@ module _ (plan : RacePlan) (name caller call : ℕ) (seen one two three : List R
   place_same = omega arith
 
   abbrev knew : List Record
-  knew = known name caller three
+  knew = up_to_last name caller three
 
   -- what is known had been seen at each look
   knew_in : (rest : List Record) × (seen ≡ knew ++ rest)
@@ -232,7 +203,7 @@ module _ (plan : RacePlan) (name caller call : ℕ) (seen one two three : List R
       → is_turn (plan_by (terms_of plan)) three (record { node = name; act = a }) (record { caller = caller; call = call; part = Turn lost }) ≡ true
   unfolding is_turn
   turn_at a lost is =
-      let w : World = told plan.founding three in
+      let w : World = world_after plan.founding three in
       let e : Event = record { node = name; act = a } in
       let by : By = record { caller = caller; call = call; part = Turn lost } in
       let here : current w (place_of name) ≡ name = name_now plan.founding three (knows (terms_of plan) three whole) (place_of name)
@@ -241,8 +212,8 @@ module _ (plan : RacePlan) (name caller call : ℕ) (seen one two three : List R
       ap (λ (m : Node). not (is_ready m (own_of (of_call caller call three)))) node_seen
       ∙ ap (λ (rs : List Record). not (is_ready (node_by plan seen name) (own_of rs))) left.call ∙ ap not unready
       in
-      let turn : is_turn_of (plan_by (terms_of plan)) three (known (place_of name) caller three) (w.nodes name) name caller a lost ≡ true =
-      ap (λ (p : ℕ). is_turn_of (plan_by (terms_of plan)) three (known p caller three) (w.nodes name) name caller a lost) place_same ∙ is
+      let turn : is_turn_of (plan_by (terms_of plan)) three (up_to_last (place_of name) caller three) (w.nodes name) name caller a lost ≡ true =
+      ap (λ (p : ℕ). is_turn_of (plan_by (terms_of plan)) three (up_to_last p caller three) (w.nodes name) name caller a lost) place_same ∙ is
       in
       subst (λ (k : ℕ). turns_at (plan_by (terms_of plan)) three w k e by ≡ true) (sym here) (both _ _ ready turn)
 
@@ -263,14 +234,14 @@ module _ (plan : RacePlan) (name caller call : ℕ) (seen one two three : List R
       ∙ both _ _ waited least)
 
   same_cursor : cursor (place_of name) three ≡ cursor name seen
-  same_cursor = ap (λ (p : ℕ). cursor p three) place_same ∙ ap (λ (rs : List Record). greatest (map passed rs)) left.place
+  same_cursor = ap (λ (p : ℕ). cursor p three) place_same ∙ ap (λ (rs : List Record). greatest (map passed_number rs)) left.place
 
   same_last : last_heard (place_of name) three ≡ last_heard name seen
   same_last = ap (λ (p : ℕ). last_heard p three) place_same ∙ ap
       (λ (rs : List Record). unless_nought (greatest (map (λ r. heard_by r.event.act) rs))) left.place
 
   same_words : words_drawn caller three ≡ words_drawn caller seen
-  same_words = ap (λ (rs : List Record). count_by (λ r. is_turn_part r.by.part && nat_lt 0 (passed r)) rs) left.caller
+  same_words = ap (λ (rs : List Record). count_by (λ r. is_turn_part r.by.part && nat_lt 0 (passed_number r)) rs) left.caller
 
   nobody_known : waits_in_vain (node_by plan one name) one ≡ false → not (waits_in_vain (node_by plan three name) knew) ≡ true
   nobody_known none =
@@ -300,9 +271,9 @@ module _ (plan : RacePlan) (name caller call : ℕ) (seen one two three : List R
           ∙ letters_more two past_two)
           ∙ next_stays (letters_of two) (letters_of past_two) name (cursor name seen) n e
           in
-          let said_ : chosen (plan_by (terms_of plan)) caller (words_drawn caller three) (next_for (letters_of three) name (cursor (place_of name) three))
+          let said_ : choice_after (plan_by (terms_of plan)) caller (words_drawn caller three) (next_for (letters_of three) name (cursor (place_of name) three))
           (last_heard (place_of name) three) ≡ x =
-          ap (λ (k : ℕ). chosen (plan_by (terms_of plan)) caller k (next_for (letters_of three) name (cursor (place_of name) three))
+          ap (λ (k : ℕ). choice_after (plan_by (terms_of plan)) caller k (next_for (letters_of three) name (cursor (place_of name) three))
           (last_heard (place_of name) three)) same_words
           ∙ ap (λ (o : Option ℕ). choice_of luck o (last_heard (place_of name) three)) there ∙ ap (choice_of luck (Some n)) same_last ∙ sym is
           in
@@ -373,7 +344,7 @@ turn_found plan luck name caller call seen last three a lost low whole far first
       nobody = chose.nobody;
       is = chose.picked.is ∙ ap (λ (l : Luck). choice_of l (next_for (letters_of two) name (cursor name one)) (last_heard name one)) is
           ∙ ap (λ (k : ℕ). choice_of (luck_after plan caller (words_drawn caller seen)) (next_for (letters_of two) name k) (last_heard name one))
-          (ap (λ (rs : List Record). greatest (map passed rs)) same)
+          (ap (λ (rs : List Record). greatest (map passed_number rs)) same)
           ∙ ap (choice_of (luck_after plan caller (words_drawn caller seen)) (next_for (letters_of two) name (cursor name seen)))
           (ap (λ (rs : List Record). unless_nought (greatest (map (λ r. heard_by r.event.act) rs))) same);
       act_ = chose.picked.act_;

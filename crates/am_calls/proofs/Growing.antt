@@ -3,6 +3,7 @@ use Rattle.std.proofs.Common.{◌≡◌, ℕ, suc, ◌<◌, List, [], ◌∷◌,
 use Rattle.std.proofs.Common.{arith, append_assoc, append-nil, eq-eqb, ne_eqb}
 use Rattle.std.specs.Prelude.{All, ◌==◌, ◌&&◌}
 use Rattle.std.specs.List.{list_all}
+use Rattle.std.proofs.lemmas.Bool.{and_parts}
 use Rattle.std.proofs.lemmas.List.Elements.{filter-append}
 use Rattle.std.proofs.lemmas.List.Folds.{list_all-append}
 use Rattle.am_base.specs.Names.{place_of}
@@ -21,14 +22,6 @@ pub both : (a b : Bool) → a ≡ true → b ≡ true → (a && b) ≡ true
 both true b p q = q
 both false b p q = absurd (true≢false (sym p))
 
-pub left_of : (a b : Bool) → (a && b) ≡ true → a ≡ true
-left_of true b e = refl
-left_of false b e = absurd (true≢false (sym e))
-
-pub right_of : (a b : Bool) → (a && b) ≡ true → b ≡ true
-right_of true b e = e
-right_of false b e = absurd (true≢false (sym e))
-
 pub just_one : {A : Type 0} (p : A → Bool) (x : A) → p x ≡ true → list_all p (x ∷ []) ≡ true
 just_one p x is = both (p x) true is refl
 
@@ -38,8 +31,8 @@ all_more p xs ys a b = list_all-append p xs ys ∙ both (list_all p xs) (list_al
 all_kept : {A : Type 0} (p : A → Bool) (xs : List A) → list_all p xs ≡ true → filter p xs ≡ xs
 all_kept p [] is = refl
 all_kept {A = A} p (x ∷ xs) is =
-    ap (λ (b : Bool). cond b (x ∷ filter p xs) (filter p xs)) (left_of (p x) (list_all p xs) is)
-    ∙ ap (λ (l : List A). x ∷ l) (all_kept p xs (right_of (p x) (list_all p xs) is))
+    ap (λ (b : Bool). cond b (x ∷ filter p xs) (filter p xs)) (and_parts (p x) (list_all p xs) is).0
+    ∙ ap (λ (l : List A). x ∷ l) (all_kept p xs (and_parts (p x) (list_all p xs) is).1)
 
 none_kept : {A : Type 0} (p : A → Bool) (xs : List A) → All (λ x. p x ≡ false) xs → filter p xs ≡ []
 none_kept p [] none = refl

@@ -60,10 +60,6 @@ gets_key key p q p' j its =
 
 -- ---- places
 
-pub first_place : (p : Known) → p.keys ≡ Place 0 ∷ [] → HasPlaces 1 p
-first_place p its zero h = subst (λ (ks : List Key). 0 < times (Place 0) ks) (sym its) (own_key (Place 0))
-first_place p its (suc place) h = absurd (omega arith)
-
 pub place_more : (count : ℕ) (p q p' : Known) → HasPlaces count p → Joined p q p' → q.keys ≡ Place count ∷ [] → HasPlaces (count + 1) p'
 place_more count p q p' has j its place h = ⊎_elim
     (λ (below : place < count). keeps_key (Place place) p q p' j (has place below))

@@ -23,12 +23,13 @@ use Rattle.am_group.specs.Deliveries.{name_of}
 use Rattle.am_group.specs.Journals.{letters_of, letter_at}
 use Rattle.am_model.specs.Emit.{Step}
 use Rattle.am_model.specs.Step.{step, hear}
-use Rattle.am_model.specs.World.{World, start, is_stopped, unchanged, stepped, does_event, gives_up, heard, acts_as, happens, current}
+use Rattle.am_model.specs.World.{World, start, is_stopped, with_record, with_step, does_event, gives_up, hears_letter, acts_as, happens, current}
 use Rattle.am_wire.specs.declared.rule.Terms.{Terms}
 use Rattle.am_wire.specs.Seats.{Follows}
 use Rattle.am_wire.specs.Stops.{is_stop, has_stopped}
-use Rattle.am_calls.specs.Told.{tells, told}
+use Rattle.am_calls.specs.Told.{tells, world_after}
 use Rattle.am_calls.specs.Lawful.{is_of_race, IsLawful}
+use Rattle.am_calls.proofs.Apart.{or_false}
 
 -- ---- journals by record
 
@@ -41,8 +42,8 @@ each_keeps P next keeps done (r ∷ rest) p follows =
     let same : (done ++ r ∷ []) ++ rest ≡ done ++ r ∷ rest = append_assoc done (r ∷ []) rest in
     subst P same (each_keeps P next keeps (done ++ r ∷ []) rest (keeps done r (follows done rest r refl) p) (subst (Follows next) (sym same) follows))
 
-pub told_more : (rules : Rules) (before : List Record) (r : Record) → told rules (before ++ r ∷ []) ≡ tells (told rules before) r
-unfolding told
+pub told_more : (rules : Rules) (before : List Record) (r : Record) → world_after rules (before ++ r ∷ []) ≡ tells (world_after rules before) r
+unfolding world_after
 told_more rules before r = fold-append tells (start rules) before (r ∷ [])
 
 -- ---- what an event leaves
@@ -52,12 +53,12 @@ pub record Still (w w' : World) : Type 0 where
   pub lives : w'.lives ≡ w.lives
   pub stopped : w'.stopped ≡ w.stopped
 
-unchanged_still : (w : World) (e : Event) (outcome : Outcome) → Still w (unchanged w e outcome)
-unfolding unchanged
+unchanged_still : (w : World) (e : Event) (outcome : Outcome) → Still w (with_record w e outcome)
+unfolding with_record
 unchanged_still w e outcome = record { lives = refl; stopped = refl }
 
-stepped_still : (w : World) (e : Event) (name : ℕ) (s : Step) → Still w (stepped w e name s)
-unfolding stepped
+stepped_still : (w : World) (e : Event) (name : ℕ) (s : Step) → Still w (with_step w e name s)
+unfolding with_step
 stepped_still w e name s = record { lives = refl; stopped = refl }
 
 either_still : (w x y : World) (b : Bool) → Still w x → Still w y → Still w (if b then x else y)
@@ -66,23 +67,23 @@ either_still w x y false p q = q
 
 does_still : (w : World) (e : Event) (name : ℕ) (event : NodeEvent) → Still w (does_event w e name event)
 does_still w e name event =
-    either_still w (unchanged w e said.IsStopped) (stepped w e name (step (w.nodes name) event)) (is_stopped w name) (unchanged_still w e said.IsStopped)
+    either_still w (with_record w e said.IsStopped) (with_step w e name (step (w.nodes name) event)) (is_stopped w name) (unchanged_still w e said.IsStopped)
     (stepped_still w e name (step (w.nodes name) event))
 
 gives_up_still : (w : World) (e : Event) (name other : ℕ) → Still w (gives_up w e name other)
 gives_up_still w e name other =
-    let given : World = stepped w e name (step (w.nodes name) (does.GiveUp other)) in
-    let not_stopped : World = unchanged w e said.NotStopped in
-    either_still w (unchanged w e said.IsStopped) (if is_stopped w other then given else not_stopped) (is_stopped w name) (unchanged_still w e said.IsStopped)
+    let given : World = with_step w e name (step (w.nodes name) (does.GiveUp other)) in
+    let not_stopped : World = with_record w e said.NotStopped in
+    either_still w (with_record w e said.IsStopped) (if is_stopped w other then given else not_stopped) (is_stopped w name) (unchanged_still w e said.IsStopped)
     (either_still w given not_stopped (is_stopped w other) (stepped_still w e name (step (w.nodes name) (does.GiveUp other)))
     (unchanged_still w e said.NotStopped))
 
-heard_still : (w : World) (e : Event) (name : ℕ) (hearing : Packet → Step) (letter : Option Letter) → Still w (heard w e name hearing letter)
+heard_still : (w : World) (e : Event) (name : ℕ) (hearing : Packet → Step) (letter : Option Letter) → Still w (hears_letter w e name hearing letter)
 heard_still w e name hearing None = unchanged_still w e said.NoPacket
 heard_still w e name hearing (Some letter) =
-    let hears : World = stepped w e name (hearing letter.packet) in
-    let stopped : World = unchanged w e said.IsStopped in
-    either_still w (unchanged w e said.NotAddressed) (if is_stopped w name then stopped else hears) (not (is_for letter name))
+    let hears : World = with_step w e name (hearing letter.packet) in
+    let stopped : World = with_record w e said.IsStopped in
+    either_still w (with_record w e said.NotAddressed) (if is_stopped w name then stopped else hears) (not (is_for letter name))
     (unchanged_still w e said.NotAddressed)
     (either_still w stopped hears (is_stopped w name) (unchanged_still w e said.IsStopped) (stepped_still w e name (hearing letter.packet)))
 
@@ -108,8 +109,8 @@ record Stops (w w' : World) (name : ℕ) : Type 0 where
   stopped : w'.stopped ≡ w.stopped ++ name ∷ []
 
 stop_case : (w : World) (e : Event) (name : ℕ) (b : Bool) → b ≡ false
-    → Stops w (if b then unchanged w e said.IsStopped else unchanged (record w { stopped = w.stopped ++ name ∷ [] }) e said.Stopped) name
-unfolding unchanged
+    → Stops w (if b then with_record w e said.IsStopped else with_record (record w { stopped = w.stopped ++ name ∷ [] }) e said.Stopped) name
+unfolding with_record
 stop_case w e name true runs = absurd (true≢false runs)
 stop_case w e name false runs = record { lives = refl; stopped = refl }
 
@@ -133,17 +134,13 @@ stop_acts w e name act.Return its runs = absurd (true≢false (sym its))
 
 -- those stopped that the records say, each place has its first life, and the letters are those of the records
 pub record Knows (rules : Rules) (before : List Record) : Type 0 where
-  pub stopped : (name : ℕ) → is_stopped (told rules before) name ≡ has_stopped before name
-  pub lives : (place : ℕ) → (told rules before).lives place ≡ 1
-  pub letters : (told rules before).letters ≡ letters_of before
+  pub stopped : (name : ℕ) → is_stopped (world_after rules before) name ≡ has_stopped before name
+  pub lives : (place : ℕ) → (world_after rules before).lives place ≡ 1
+  pub letters : (world_after rules before).letters ≡ letters_of before
 
 -- the name that acts next at a place
-pub name_now : (rules : Rules) (before : List Record) → Knows rules before → (place : ℕ) → current (told rules before) place ≡ name_at place 1
+pub name_now : (rules : Rules) (before : List Record) → Knows rules before → (place : ℕ) → current (world_after rules before) place ≡ name_at place 1
 name_now rules before knows place = ap (name_at place) (knows.lives place)
-
-or_false : (b : Bool) → (b || false) ≡ b
-or_false true = refl
-or_false false = refl
 
 pub stopped_more : (before : List Record) (r : Record) (name : ℕ)
     → has_stopped (before ++ r ∷ []) name ≡ (has_stopped before name || (is_stop r.event.act && (name_of r == name)))
@@ -161,7 +158,7 @@ unfolding happens
 knows_next terms before r lawful knows = by_stop (is_stop r.event.act) refl
   where
     w : World
-    w = told terms.founding before
+    w = world_after terms.founding before
 
     name : ℕ
     name = current w (place_of r.event.node)
@@ -169,10 +166,10 @@ knows_next terms before r lawful knows = by_stop (is_stop r.event.act) refl
     its : name ≡ name_of r
     its = name_now terms.founding before knows (place_of r.event.node) ∙ ap (name_at (place_of r.event.node)) (sym lawful.life)
 
-    more : told terms.founding (before ++ r ∷ []) ≡ tells w r
+    more : world_after terms.founding (before ++ r ∷ []) ≡ tells w r
     more = told_more terms.founding before r
 
-    letters : (told terms.founding (before ++ r ∷ [])).letters ≡ letters_of (before ++ r ∷ [])
+    letters : (world_after terms.founding (before ++ r ∷ [])).letters ≡ letters_of (before ++ r ∷ [])
     letters = ap (λ (v : World). v.letters) more ∙ ap (λ (ls : List Letter). ls ++ r.packets) knows.letters
         ∙ sym (flat_map-append (λ (q : Record). q.packets) before (r ∷ []) ∙ ap (λ (ls : List Letter). letters_of before ++ ls) (append-nil r.packets))
 
@@ -195,7 +192,7 @@ knows_next terms before r lawful knows = by_stop (is_stop r.event.act) refl
         }
 
 pub knows : (terms : Terms) (before : List Record) → Follows (IsLawful terms) before → Knows terms.founding before
-unfolding told
+unfolding world_after
 knows terms before follows =
     each_keeps (Knows terms.founding) (IsLawful terms) (knows_next terms) [] before
     (record { stopped = λ name. refl; lives = λ place. refl; letters = refl }) follows

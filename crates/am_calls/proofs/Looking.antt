@@ -1,9 +1,10 @@
 -- One look at a node: a turn, an own act or an end, and what the caller's hand is then.
-use Rattle.std.proofs.Common.{◌≡◌, ℕ, zero, suc, ◌+◌, ◌<◌, List, [], ◌∷◌, ◌++◌, length, cond, max, Bool, true, false, true≢false, Option, Some}
-use Rattle.std.proofs.Common.{None, Result, Ok, Err, IfOk, IfErr, sym, refl, ap, ◌∙◌, subst, arith, nat_lt, count_by, sum_by}
+use Rattle.std.proofs.Common.{◌≡◌, ℕ, zero, suc, ◌+◌, ◌<◌, ◌≤◌, List, [], ◌∷◌, ◌++◌, length, cond, max, Bool, true, false, true≢false, Option, Some}
+use Rattle.std.proofs.Common.{None, Result, Ok, Err, IfOk, IfErr, OnOk, sym, refl, ap, ◌∙◌, subst, arith, nat_lt, count_by, sum_by}
 use Rattle.std.specs.Prelude.{◌==◌, ◌&&◌, if◌then◌else◌, not}
-use Rattle.std.proofs.lemmas.Bool.{lt-ltb}
+use Rattle.std.proofs.lemmas.Bool.{and_parts, lt-ltb}
 use Rattle.std.proofs.lemmas.List.Sums.{sum_by-cons, sum_by-append}
+use Rattle.std.proofs.lemmas.Option.{none-some}
 use Rattle.atomic_table.specs.Seated.{TableId}
 use Rattle.am_base.specs.Most.{most_events}
 use Rattle.am_base.specs.declared.outcome.Outcome.{Outcome}
@@ -24,7 +25,7 @@ use Rattle.am_model.specs.World.{World, current}
 use Rattle.am_model.specs.Ends.{IsEndOf}
 use Rattle.am_pump.specs.declared.chooser.Choice.{Choice}
 use Rattle.am_pump.specs.declared.chooser.Choice.TheVariants as choice
-use Rattle.am_pump.specs.Choices.{Luck, again, turn_by, draw, drawn, choice_of, act_of}
+use Rattle.am_pump.specs.Choices.{Luck, again, draw, after_draw, choice_of, act_of}
 use Rattle.am_pump.specs.Choices as pump
 use Rattle.am_world.proofs.Acts.{step_end}
 use Rattle.am_wire.specs.declared.rule.Key.{Key}
@@ -40,18 +41,18 @@ use Rattle.am_calls.specs.declared.caller.Tag.{Tag}
 use Rattle.am_calls.specs.declared.node_box.Looked.{Looked}
 use Rattle.am_calls.specs.declared.node_box.Looked.TheVariants as looked
 use Rattle.am_calls.specs.declared.ready.Came.{Came}
-use Rattle.am_calls.specs.Told.{told}
-use Rattle.am_calls.specs.Tags.{of_caller, of_call, own_of, is_own, is_turn_part, known}
+use Rattle.am_calls.specs.Told.{world_after}
+use Rattle.am_calls.specs.Tags.{of_caller, of_call, own_of, is_own, is_turn_part, up_to_last}
 use Rattle.am_calls.specs.Answers.{is_take}
-use Rattle.am_calls.specs.Turns.{passed, lost_by, words_drawn, later, is_waited, is_least, is_turn_of, is_turn, unless_nought}
+use Rattle.am_calls.specs.Turns.{passed_number, lost_by, words_drawn, later, is_waited, is_least, is_turn_of, is_turn, unless_nought}
 use Rattle.am_calls.specs.Ready.{is_ready, is_ready_after, may_take}
 use Rattle.am_calls.specs.Lawful.{is_of_race, plan_by, terms_of}
 use Rattle.am_calls.specs.Callings.{IsHand, luck_after}
 use Rattle.am_calls.specs.Plans.{is_call}
-use Rattle.am_calls.specs.Boxes.{what_of, Steps, MayAct, Hears, Boxed, Keeps, IsBox, IsShareOf, IsTurn, Acted, IsRefused, refused, Looks, node_by}
+use Rattle.am_calls.specs.Boxes.{what_of, Steps, MayAct, Hears, Boxed, Keeps, IsBox, IsShareOf, IsTurn, Acted, IsRefused, refusal_answer, Looks, node_by}
 use Rattle.am_calls.specs.Boxes.{lost_in, event_at}
 use Rattle.am_calls.specs.Going.{by_of, end_act, end_part, IsOwn, IsCame, luck_behind, is_asked, ToldBy, EndTells, Grown, Asked, Began, Turned}
-use Rattle.am_calls.specs.Going.{Ended, HasSpent, HasEnded, HasLooked, WasRefused, Grows}
+use Rattle.am_calls.specs.Going.{Ended, HasSpent, HasEnded, HasLooked, WasRefused, Grows, Meets}
 use Rattle.am_calls.proofs.Acting.{told_is_run, events_of}
 use Rattle.am_calls.proofs.Boxing.{same_closed}
 use Rattle.am_calls.proofs.Growing.{one_grown, not_grown, call_grows}
@@ -61,8 +62,8 @@ use Rattle.am_calls.proofs.Telling.{after_tells, take_tells}
 -- ---- words
 
 -- where a letter was heard or lost, one word was drawn
-one_word : (luck : Luck) (a : Act) (lost : ℕ) → 0 < max (heard_by a) lost → record luck { words = drawn luck.words } ≡ luck_behind luck a lost
-one_word luck a lost some = sym (ap (λ (b : Bool). if b then record luck { words = drawn luck.words } else luck) (lt-ltb 0 (max (heard_by a) lost) some))
+one_word : (luck : Luck) (a : Act) (lost : ℕ) → 0 < max (heard_by a) lost → record luck { words = after_draw luck.words } ≡ luck_behind luck a lost
+one_word luck a lost some = sym (ap (λ (b : Bool). if b then record luck { words = after_draw luck.words } else luck) (lt-ltb 0 (max (heard_by a) lost) some))
 
 pub luck_drawn : (luck : Luck) (ahead last : Option ℕ) → ((n : ℕ) → ahead ≡ Some n → 0 < n) → ((k : ℕ) → last ≡ Some k → 0 < k)
     → pump.luck_after luck ahead ≡ luck_behind luck (act_of (choice_of luck ahead last)) (lost_in (choice_of luck ahead last))
@@ -73,7 +74,7 @@ luck_drawn luck (Some n) last a l = by_tests (nat_lt (draw luck.words 100) luck.
     some = a n refl
 
     by_tests : (b c : Bool) (o : Option ℕ) → ((k : ℕ) → o ≡ Some k → 0 < k)
-        → record luck { words = drawn luck.words }
+        → record luck { words = after_draw luck.words }
         ≡ luck_behind luck (act_of (if b then choice.Lose n else if c then again n o else choice.Hear n))
         (lost_in (if b then choice.Lose n else if c then again n o else choice.Hear n))
     by_tests true c o h = one_word luck act.Tick n (let s = some in omega arith)
@@ -89,11 +90,7 @@ drawn_by luck luck' ahead last said a lost high low drew is did lost_is =
     drew ∙ luck_drawn luck ahead last high low ∙ (λ i. luck_behind luck (sym (did ∙ ap act_of is) i) (sym (lost_is ∙ ap lost_in is) i))
 
 pub last_high : (number k : ℕ) → unless_nought number ≡ Some k → 0 < k
-last_high zero k e = absurd (true≢false (ap is_none_ e))
-  where
-    is_none_ : Option ℕ → Bool
-    is_none_ None = true
-    is_none_ (Some x) = false
+last_high zero k e = absurd (none-some k e)
 last_high (suc n) k e = let s : suc n ≡ k = ap or_this e in omega arith
   where
     or_this : Option ℕ → ℕ
@@ -101,7 +98,7 @@ last_high (suc n) k e = let s : suc n ≡ k = ap or_this e in omega arith
     or_this (Some x) = x
 
 counts_word : Record → Bool
-counts_word r = is_turn_part r.by.part && nat_lt 0 (passed r)
+counts_word r = is_turn_part r.by.part && nat_lt 0 (passed_number r)
 
 -- a record more of a caller
 words_more : (place : ℕ) (tag : Tag) (old new : List Record) (item : Record) → Grows place tag old new (item ∷ [])
@@ -115,7 +112,7 @@ words_more place tag old new item grows =
     omega arith
 
 words_same : (place : ℕ) (tag : Tag) (old new : List Record) → Grows place tag old new [] → words_drawn tag.caller new ≡ words_drawn tag.caller old
-words_same place tag old new grows = ap (count_by (λ r. is_turn_part r.by.part && nat_lt 0 (passed r))) (grows.all ∙ nothing_behind (of_caller tag.caller old))
+words_same place tag old new grows = ap (count_by (λ r. is_turn_part r.by.part && nat_lt 0 (passed_number r))) (grows.all ∙ nothing_behind (of_caller tag.caller old))
   where
     nothing_behind : (l : List Record) → l ++ [] ≡ l
     nothing_behind [] = refl
@@ -149,11 +146,11 @@ hand_asks wire plan by share share' luck item hand its grown is no_turn =
     let grows = one_grown (place_of item.event.node) tag share.seen share'.seen item grown refl (ap (λ (b : By). b.caller) is) (ap (λ (b : By). b.call) is) in
     let more = words_more (place_of item.event.node) tag share.seen share'.seen item grows in
     let none : ◌≡◌ {A = ℕ} (cond (counts_word item) 1 0) 0 =
-    ap (λ (b : Bool). cond (b && nat_lt 0 (passed item)) 1 0) (ap (λ (b : By). is_turn_part b.part) is ∙ no_turn) in
+    ap (λ (b : Bool). cond (b && nat_lt 0 (passed_number item)) 1 0) (ap (λ (b : By). is_turn_part b.part) is ∙ no_turn) in
     let same : words_drawn by.caller share'.seen ≡ words_drawn by.caller share.seen = omega arith in
     record { own = its.own; terms = its.terms; keys = its.keys; luck_ = hand.luck_ ∙ ap (luck_after plan by.caller) (sym same) }
 
-next_word : (plan : RacePlan) (caller count : ℕ) → record (luck_after plan caller count) { words = drawn (luck_after plan caller count).words }
+next_word : (plan : RacePlan) (caller count : ℕ) → record (luck_after plan caller count) { words = after_draw (luck_after plan caller count).words }
     ≡ luck_after plan caller (suc count)
 unfolding later
 next_word plan caller count = refl
@@ -182,9 +179,9 @@ hand_turns wire plan by share share' luck luck' a lost item hand its grown is pa
     }
   where
     by_word : (b : Bool) (count : ℕ) → count ≡ words_drawn by.caller share.seen + cond b 1 0
-        → (if b then record luck { words = drawn luck.words } else luck) ≡ luck_after plan by.caller count
+        → (if b then record luck { words = after_draw luck.words } else luck) ≡ luck_after plan by.caller count
     by_word true count e =
-        ap (λ (l : Luck). record l { words = drawn l.words }) hand.luck_ ∙ next_word plan by.caller (words_drawn by.caller share.seen)
+        ap (λ (l : Luck). record l { words = after_draw l.words }) hand.luck_ ∙ next_word plan by.caller (words_drawn by.caller share.seen)
         ∙ ap (luck_after plan by.caller) (let s : suc (words_drawn by.caller share.seen) ≡ count = omega arith in s)
     by_word false count e = hand.luck_ ∙ ap (luck_after plan by.caller) (let s : words_drawn by.caller share.seen ≡ count = omega arith in s)
 
@@ -260,17 +257,10 @@ turn_may plan before name number m caller (act.GiveUp gone) lost knew is = (refl
     gone_of (act.GiveUp x) = x
     gone_of _ = 0
 
-    right_of : (x y : Bool) → (x && y) ≡ true → y ≡ true
-    right_of true y e = e
-    right_of false y e = absurd (true≢false (sym e))
-
-    left_of : (x y : Bool) → (x && y) ≡ true → x ≡ true
-    left_of true y e = refl
-    left_of false y e = absurd (true≢false (sym e))
-
     stopped_by : is_turn_of plan before knew m name caller (act.GiveUp gone) lost ≡ true → has_stopped before gone ≡ true
-    stopped_by t = right_of _ (has_stopped before gone) (left_of (is_waited m before gone) (is_least m knew gone)
-        (right_of (lost == 0) (is_waited m before gone && is_least m knew gone) t))
+    stopped_by t =
+        let waits = (and_parts (lost == 0) (is_waited m before gone && is_least m knew gone) t).1 in
+        (and_parts _ (has_stopped before gone) (and_parts (is_waited m before gone) (is_least m knew gone) waits).0).1
 turn_may plan before name number m caller act.Tick lost knew is = (refl, λ other e. absurd (true≢false (ap is_tick_ e)))
   where
     is_tick_ : Act → Bool
@@ -287,15 +277,11 @@ pub may_turn : (plan : RacePlan) (seen : List Record) (name : ℕ) (a : Act) (by
     → is_turn plan seen (event_at name a) by ≡ true → ((number : ℕ) → a ≡ act.Hear number → Hears seen name number heard) → MayAct seen name a heard
 unfolding is_turn
 may_turn plan seen name a by heard runs turn hears =
-    let w : World = told plan.founding seen in
+    let w : World = world_after plan.founding seen in
     let k : ℕ = current w (place_of name) in
-    let its = turn_may plan seen k 0 (w.nodes k) by.caller a (lost_by by.part) (known (place_of k) by.caller seen)
-    (right_of (not (is_ready (w.nodes k) (own_of (of_call by.caller by.call seen)))) _ turn) in
+    let its = turn_may plan seen k 0 (w.nodes k) by.caller a (lost_by by.part) (up_to_last (place_of k) by.caller seen)
+    (and_parts (not (is_ready (w.nodes k) (own_of (of_call by.caller by.call seen)))) _ turn).1 in
     record { race = its.0; runs = runs; hears = hears; given = its.1 }
-  where
-    right_of : (x y : Bool) → (x && y) ≡ true → y ≡ true
-    right_of true y e = e
-    right_of false y e = absurd (true≢false (sym e))
 
 asked_race : (a : Act) → is_asked a ≡ true → is_of_race a ≡ true
 asked_race (act.Cut number keep) e = e
@@ -368,12 +354,12 @@ pub share_still : (wire : TableId) (plan : RacePlan) (caller : ℕ) (share share
 share_still wire plan caller share share' its sees = record { own = sees.wire ∙ its.own; terms = sees.terms ∙ its.terms; keys = sees.keys ∙ its.keys }
 
 pub refused_for : (seen : List Record) (name : ℕ) (refusal : WireRefusal) → (refusal ≡ refusals.Spent → length seen ≡ most_events)
-    → IsRefused seen name (refused refusal)
+    → IsRefused seen name (refusal_answer refusal)
 refused_for seen name refusals.NoMemory full = tt
 refused_for seen name refusals.Spent full = full refl
 
 pub refused_as : (name : ℕ) (seen shown : List Record) (refusal : WireRefusal) (its : Answer) → shown ≡ seen
-    → (refusal ≡ refusals.Spent → length seen ≡ most_events) → its ≡ refused refusal
+    → (refusal ≡ refusals.Spent → length seen ≡ most_events) → its ≡ refusal_answer refusal
     → IsRefused shown name its
 refused_as name seen shown refusal its same full is =
     subst (λ (a : Answer). IsRefused shown name a) (sym is) (refused_for shown name refusal (λ e. ap length same ∙ full e))
@@ -425,11 +411,13 @@ module _ (wire : TableId) (plan : RacePlan) (tag : Tag) (old middle new : Boxed)
   turn_grown came did = record {
     item = did.item;
     grown = grown came did;
-    node = did.is.node ∙ looks.name;
-    caller = ap (λ (b : By). b.caller) (did.is.by_ ∙ is);
-    call = ap (λ (b : By). b.call) (did.is.by_ ∙ is);
-    part = ap (λ (b : By). is_turn_part b.part) (did.is.by_ ∙ is);
-    came = did.is.outcome;
+    is = record {
+      node = did.is.node ∙ looks.name;
+      caller = ap (λ (b : By). b.caller) (did.is.by_ ∙ is);
+      call = ap (λ (b : By). b.call) (did.is.by_ ∙ is);
+      part = ap (λ (b : By). is_turn_part b.part) (did.is.by_ ∙ is);
+      came = did.is.outcome;
+    };
   }
 
   pub turn_refused : GoesOn between.keys between.seen share'.seen → GoesOn (Caller tag.caller ∷ []) share.seen share'.seen
@@ -469,6 +457,13 @@ pub hand_meets : (wire : TableId) (plan : RacePlan) (caller : ℕ) (share share'
 hand_meets wire plan caller share share' luck hand sees =
     let its = hand_share wire plan caller share luck hand in
     hand_sees wire plan caller share share' luck hand (share_still wire plan caller share share' its sees) (share_goes wire plan caller share share' its sees)
+
+-- where its box does more, the hand meets it
+pub meets : (wire : TableId) (plan : RacePlan) (caller : ℕ) (box : Boxed) (share : Known) (luck : Luck) (r : Result (Unit {0}) Answer)
+    → IsHand wire plan caller share luck → length box.seen ≤ most_events → share.seen ≡ box.seen → OnOk r (box.closed ≡ None)
+    → OnOk r (has_stopped box.seen box.name ≡ false) → OnOk r (Meets wire plan caller box share luck)
+meets wire plan caller box share luck (Err its) hand few same open_ runs = tt
+meets wire plan caller box share luck (Ok x) hand few same open_ runs = record { hand = hand; open_ = open_; runs = runs; few = few; same = same }
 
 pub meets_goes : (wire : TableId) (plan : RacePlan) (caller : ℕ) (share share' : Known) (luck : Luck) → IsHand wire plan caller share luck → Sees share share'
     → GoesOn (Caller caller ∷ []) share.seen share'.seen
@@ -517,10 +512,7 @@ end_done plan name tag a came did old new asked = (
   record {
     item = asked.item;
     grown = asked.grown;
-    node = asked.is.node;
-    act_ = asked.is.act_;
-    by_ = asked.is.by_;
-    told = asked.is.outcome;
+    is = record { node = asked.is.node; act_ = asked.is.act_; by_ = asked.is.by_; told = asked.is.outcome };
   },
 )
 
@@ -530,10 +522,7 @@ ended_since : (name : ℕ) (tag : Tag) (a : Act) (came : Option Came) (outcome :
 ended_since name tag a came outcome old middle new goes e = record {
   item = e.item;
   grown = grown_since tag.caller old middle new e.item goes e.grown;
-  node = e.node;
-  act_ = e.act_;
-  by_ = e.by_;
-  told = e.told;
+  is = e.is;
 }
 
 -- without a turn left
@@ -563,15 +552,7 @@ turn_looked name tag a came has_turn old middle new (Err its) has goes ok = tt
 turn_looked name tag a came has_turn old middle new (Ok (looked.End outcome)) has goes ok = absurd ok
 turn_looked name tag a came has_turn old middle new (Ok (looked.Turn outcome)) has goes t = (
   has,
-  record {
-    item = t.item;
-    grown = grown_since tag.caller old middle new t.item goes t.grown;
-    node = t.node;
-    caller = t.caller;
-    call = t.call;
-    part = t.part;
-    came = t.came;
-  },
+  record { item = t.item; grown = grown_since tag.caller old middle new t.item goes t.grown; is = t.is },
 )
 
 -- what came of the own act is so, whatever others added

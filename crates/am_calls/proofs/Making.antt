@@ -1,11 +1,12 @@
 -- A call that is made: its turns so far, its end, and what its caller then has.
 use Rattle.std.proofs.Common.{◌≡◌, ℕ, zero, suc, ◌+◌, ◌-◌, ◌<◌, ◌≤◌, List, [], ◌∷◌, ◌++◌, length, get_or, take, drop, cond, Bool, true, false}
-use Rattle.std.proofs.Common.{true≢false, Option, Some, None, is_some, sym, refl, ap, ◌∙◌, subst, arith, append-nil, length-append}
+use Rattle.std.proofs.Common.{true≢false, Option, Some, None, sym, refl, ap, ◌∙◌, subst, arith, append-nil, length-append}
 use Rattle.std.proofs.Common.{ne_eqb, nat_le, unwrap_or, slice_get}
 use Rattle.std.specs.Prelude.{All, ◌==◌, ◌&&◌, if◌then◌else◌}
 use Rattle.std.specs.List.{list_all, prefix_len}
-use Rattle.std.proofs.lemmas.Bool.{le-leb, eqb-true}
+use Rattle.std.proofs.lemmas.Bool.{and_parts, le-leb, eqb-true}
 use Rattle.std.proofs.lemmas.List.Elements.{All-append}
+use Rattle.std.proofs.lemmas.Option.{none-some}
 use Rattle.am_base.specs.declared.outcome.Outcome.{Outcome}
 use Rattle.am_base.specs.declared.outcome.Outcome.TheVariants as said
 use Rattle.am_base.specs.Names.{place_of}
@@ -26,12 +27,12 @@ use Rattle.am_calls.specs.Answers.{own_answer, or_else, late_after, late, is_tak
 use Rattle.am_calls.specs.Boxes.{IsRefused}
 use Rattle.am_calls.specs.Callers.{same_act, is_one_call, is_receive, at_one_place, first_call, behind, are_calls, is_callers}
 use Rattle.am_calls.specs.Callings.{Calling, IsAnswer, HasMade, Called}
-use Rattle.am_calls.specs.Plans.{calls_of, is_call}
-use Rattle.am_calls.specs.Going.{has_check, told_at_end, request_in_call, IsCame, HasBegun, Began, Turned, Ended}
+use Rattle.am_calls.specs.Plans.{calls_of, is_call, has_check}
+use Rattle.am_calls.specs.Going.{told_at_end, request_in_call, IsCame, HasBegun, Began, Turned, Ended}
 use Rattle.am_calls.specs.Going.{WasRefused, Grows, Made}
 use Rattle.am_calls.proofs.Boxing.{own_key}
 use Rattle.am_calls.proofs.Finishing.{none_called}
-use Rattle.am_calls.proofs.Growing.{both, left_of, right_of, all_more, just_one, none_of_call, call_grows, not_grown, one_grown, grows_through}
+use Rattle.am_calls.proofs.Growing.{both, all_more, just_one, none_of_call, call_grows, not_grown, one_grown, grows_through}
 use Rattle.am_calls.proofs.Shapes.{AreTurns, IsEnd, ended_answer, same_call, turns_planned, end_planned, end_answers, own_answers, late_more}
 use Rattle.am_calls.proofs.Shapes.{other_alone, other_call, is_plain, all_plain, plain_own, plain_at_end, plain_lates, own_first, no_own, head_turn}
 use Rattle.am_calls.proofs.Shapes.{tail_turns}
@@ -78,13 +79,13 @@ pub one_turned : (plan : RacePlan) (node : ℕ) (tag : Tag) (request : Option �
     → HasTurned plan node tag request old middle spent its → Turned (place_of node) tag outcome middle new
     → HasTurned plan node tag request old new (spent + 1) (late_after request its outcome)
 one_turned plan node tag request old middle new spent its outcome so t =
-    let one = one_grown (place_of node) tag middle new t.item t.grown (its_place node t.item t.node) t.caller t.call in record {
+    let one = one_grown (place_of node) tag middle new t.item t.grown (its_place node t.item t.is.node) t.is.caller t.is.call in record {
       mine = so.mine ++ t.item ∷ [];
       grows = grows_through (place_of node) tag old middle new so.mine (t.item ∷ []) so.grows one;
       turns = all_more (λ (r : Record). is_turn_part r.by.part) so.mine (t.item ∷ []) so.turns
-          (just_one (λ (r : Record). is_turn_part r.by.part) t.item t.part);
+          (just_one (λ (r : Record). is_turn_part r.by.part) t.item t.is.part);
       count = let l = length-append so.mine (t.item ∷ []) in let c = so.count in omega arith;
-      late_ = ap (λ (x : Answer). late_after request x outcome) so.late_ ∙ ap (late_after request (late plan.turns request so.mine)) (sym t.came)
+      late_ = ap (λ (x : Answer). late_after request x outcome) so.late_ ∙ ap (late_after request (late plan.turns request so.mine)) (sym t.is.came)
           ∙ sym (late_more plan.turns request so.mine t.item);
     }
 
@@ -145,9 +146,9 @@ pub ended_call : (plan : RacePlan) (node : ℕ) (tag : Tag) (a : Act) (came : Op
 ended_call plan node tag a came old middle new spent its outcome begun so le used end =
     let first : List Record = of_call tag.caller tag.call old in
     let request : Option ℕ = request_in_call a came in
-    let one = one_grown (place_of node) tag middle new end.item end.grown (its_place node end.item end.node) (ap (λ (by : By). by.caller) end.by_)
-    (ap (λ (by : By). by.call) end.by_) in
-    let is : IsEnd a came end.item = record { act_ = end.act_; part = ap (λ (by : By). by.part) end.by_ } in
+    let one = one_grown (place_of node) tag middle new end.item end.grown (its_place node end.item end.is.node) (ap (λ (by : By). by.caller) end.is.by_)
+    (ap (λ (by : By). by.call) end.is.by_) in
+    let is : IsEnd a came end.item = record { act_ = end.is.act_; part = ap (λ (by : By). by.part) end.is.by_ } in
     let few = first_few a came first begun in
     let c = so.count in
     let l = length-append first (so.mine ++ end.item ∷ []) in
@@ -156,7 +157,7 @@ ended_call plan node tag a came old middle new spent its outcome begun so le use
     let plain_ = plain_at_end a request outcome its plain in
     let told : ended_answer plan.turns a request so.mine end.item ≡ Some (unwrap_or (told_at_end a outcome) (late_after request its outcome)) =
     ap (λ (o : Outcome). or_else (told_at_end a o) (if nat_le plan.turns (length so.mine) then Some
-    (late_after request (late plan.turns request so.mine) o) else None)) end.told
+    (late_after request (late plan.turns request so.mine) o) else None)) end.is.told
     ∙ ap (λ (x : Answer). or_else (told_at_end a outcome) (if nat_le plan.turns (length so.mine) then Some (late_after request x outcome) else None))
     (sym so.late_)
     ∙ told_or_late plan.turns (length so.mine) (told_at_end a outcome) (late_after request its outcome) (λ none. let u = used none in omega arith)
@@ -171,10 +172,6 @@ ended_call plan node tag a came old middle new spent its outcome begun so le use
     }
 
 -- ---- a call's beginning
-
-pub made_by : (plan : RacePlan) (node : ℕ) (tag : Tag) (a : Act) (old new first : List Record) (its : Answer) → first ≡ []
-    → Made plan node tag a first old new its → Made plan node tag a [] old new its
-made_by plan node tag a old new first its none made = subst (λ (l : List Record). Made plan node tag a l old new its) none made
 
 pub receive_begins : (a : Act) (first : List Record) → is_take a ≡ true → first ≡ [] → HasBegun a None first
 receive_begins a first take none = (take, none)
@@ -223,9 +220,6 @@ own_call plan node tag a came old new its call no_ began told =
       answer_ = answer_is plan.turns (began.item ∷ []) new node its plain (own_answers plan.turns a came began.item its began.own told);
     }
 
-some_no_none : (x : Answer) → Some x ≡ None → ⊥
-some_no_none x e = true≢false (ap is_some e)
-
 -- a call without an answer has a check
 checks_then : (a : Act) (outcome : Outcome) → is_call a ≡ true → is_take a ≡ false → (a ≡ act.Stop → outcome ≡ said.Stopped) → own_answer a outcome ≡ None
     → has_check a ≡ true
@@ -235,7 +229,7 @@ checks_then act.Take outcome call no_ stops none = absurd (true≢false no_)
 checks_then act.Join outcome call no_ stops none = refl
 checks_then act.Leave outcome call no_ stops none = refl
 checks_then (act.Reset least resilience) outcome call no_ stops none = refl
-checks_then act.Stop outcome call no_ stops none = absurd (some_no_none answer.StopDone (sym (ap (own_answer act.Stop) (stops refl)) ∙ none))
+checks_then act.Stop outcome call no_ stops none = absurd (none-some answer.StopDone (sym none ∙ ap (own_answer act.Stop) (stops refl)))
 checks_then _ outcome call no_ stops none = absurd (true≢false (sym call))
 
 -- it goes on behind its own act
@@ -382,14 +376,7 @@ pub calls_more : (turns n call : ℕ) (calls : List Act) (a : Act) (done mine : 
     → All (λ r. r.by.call < call) done → AreOf call mine → is_one_call turns a mine ≡ true → at_one_place mine ≡ true
     → are_calls turns n calls (done ++ mine) ≡ true
 unfolding are_calls
-calls_more turns n call [] a done mine le there is low own one at = absurd (none_there there)
-  where
-    is_none_ : Option Act → Bool
-    is_none_ None = true
-    is_none_ (Some x) = false
-
-    none_there : None ≡ Some a → ⊥
-    none_there e = true≢false (ap is_none_ e)
+calls_more turns n call [] a done mine le there is low own one at = absurd (none-some a there)
 calls_more turns n call (b ∷ calls) a done mine le there is low own one at =
     by_order (call - n) refl there (λ next at_ rest.
     calls_more turns (n + 1) call calls a (behind n done) mine next at_ rest
@@ -447,8 +434,8 @@ all_low : (call : ℕ) (mine : List Record) → AreOf call mine → (k : ℕ) (d
 unfolding AreOf
 all_low call [] own k d h = absurd (omega arith)
 all_low call (r ∷ rs) own zero d h =
-    let e : r.by.call ≡ call = eqb-true r.by.call call (left_of (r.by.call == call) (list_all (λ q. q.by.call == call) rs) own) in omega arith
-all_low call (r ∷ rs) own (suc k) d h = all_low call rs (right_of (r.by.call == call) (list_all (λ q. q.by.call == call) rs) own) k d (omega arith)
+    let e : r.by.call ≡ call = eqb-true r.by.call call (and_parts (r.by.call == call) (list_all (λ q. q.by.call == call) rs) own).0 in omega arith
+all_low call (r ∷ rs) own (suc k) d h = all_low call rs (and_parts (r.by.call == call) (list_all (λ q. q.by.call == call) rs) own).1 k d (omega arith)
 
 -- one call more was made
 pub has_made_more : (plan : RacePlan) (node number calls : ℕ) (a : Act) (old new : List Record) (its : Answer) → HasMade plan number calls old

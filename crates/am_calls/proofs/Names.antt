@@ -2,7 +2,7 @@
 use Rattle.std.proofs.Common.{◌≡◌, ℕ, zero, suc, ◌<◌, List, [], ◌∷◌, ◌++◌, length, Bool, true, false, true≢false, sym, refl}
 use Rattle.std.proofs.Common.{ap, ◌∙◌, arith, eq-eqb, ne_eqb}
 use Rattle.std.specs.Prelude.{if◌then◌else◌, ◌==◌, ◌&&◌, ◌||◌, slice_index, slice_set, replicate, nat_lt, nat_le}
-use Rattle.std.proofs.lemmas.Bool.{eqb-true}
+use Rattle.std.proofs.lemmas.Bool.{eqb-true, or_right}
 use Rattle.std.proofs.lemmas.Grind.{fold-append}
 use mathlib.Core.Logic.{dite}
 use native.Mathlib.Decide.{ℕ_discrete}
@@ -11,8 +11,9 @@ use Rattle.am_group.specs.declared.event.Record.{Record}
 use Rattle.am_group.specs.Deliveries.{name_of}
 use Rattle.am_wire.specs.declared.rule.Terms.{Terms}
 use Rattle.am_wire.specs.Seats.{Follows}
-use Rattle.am_wire.specs.Stops.{is_stop, has_life, with_stop, stopped_in, has_stopped}
+use Rattle.am_wire.specs.Stops.{is_stop, has_life, with_stop, stopped_names, has_stopped}
 use Rattle.am_calls.specs.Lawful.{IsLawful}
+use Rattle.am_calls.proofs.Apart.{or_false}
 use Rattle.am_calls.proofs.Knows.{each_keeps, stopped_more}
 
 -- ---- who stopped
@@ -36,25 +37,13 @@ set_many (x ∷ lives) (suc place) life = ap suc (set_many lives place life)
 
 -- the set of those that stopped has just their names, which have their first lives
 pub record AreStopped (before : List Record) : Type 0 where
-  pub many : length (stopped_in before) ≡ 16
-  pub each : (name : ℕ) → has (stopped_in before) name ≡ has_stopped before name
+  pub many : length (stopped_names before) ≡ 16
+  pub each : (name : ℕ) → has (stopped_names before) name ≡ has_stopped before name
   pub low : (name : ℕ) → has_stopped before name ≡ true → name < 16
-
-or_false : (b : Bool) → (b || false) ≡ b
-or_false true = refl
-or_false false = refl
-
-or_true : (b : Bool) → (b || true) ≡ true
-or_true true = refl
-or_true false = refl
 
 either_true : (a b : Bool) → (a || b) ≡ true → (a ≡ false → b ≡ true)
 either_true true b e none = absurd (true≢false none)
 either_true false b e none = e
-
-by_bool : (P : Bool → Type 0) → P true → P false → (b : Bool) → P b
-by_bool P yes_ no_ true = yes_
-by_bool P yes_ no_ false = no_
 
 -- a place is in the set with its first life
 added : (set : List ℕ) (place name : ℕ) (was : ℕ → Bool) → place < 16 → length set ≡ 16 → ((k : ℕ) → has set k ≡ was k) → was place ≡ false
@@ -66,7 +55,7 @@ added set place name was few many each fresh low = dite (ℕ_discrete (place_of 
     let one : slice_index (slice_set set place 1) (place_of name) ≡ 1 = ap (slice_index (slice_set set place 1)) here ∙ set_here set place 1 (omega arith) in
     let life : life_of name ≡ 1 = omega arith in
     eq-eqb (slice_index (slice_set set place 1) (place_of name)) (life_of name) (one ∙ sym life)
-    ∙ sym (ap (λ (b : Bool). was name || b) (eq-eqb place name is) ∙ or_true (was name)))
+    ∙ sym (ap (λ (b : Bool). was name || b) (eq-eqb place name is) ∙ or_right (was name) true refl))
     (λ isnt.
     let one : slice_index (slice_set set place 1) (place_of name) ≡ 1 = ap (slice_index (slice_set set place 1)) here ∙ set_here set place 1 (omega arith) in
     let high : was name ≡ false = not_true (was name) (λ w. let l = low name w in absurd (omega arith)) in
@@ -85,9 +74,9 @@ added set place name was few many each fresh low = dite (ℕ_discrete (place_of 
 with_next : (before : List Record) (r : Record) (b : Bool) → is_stop r.event.act ≡ b → r.life ≡ 1 → has_stopped before (name_of r) ≡ false → AreStopped before
     → AreStopped (before ++ r ∷ [])
 with_next before r false other_act life fresh so_far =
-    let set : stopped_in (before ++ r ∷ []) ≡ with_stop (stopped_in before) r = fold-append with_stop nobody before (r ∷ []) in
-    let same : stopped_in (before ++ r ∷ []) ≡ stopped_in before =
-    set ∙ ap (λ (b : Bool). if b && has_life r then with_name (stopped_in before) (name_of r) else stopped_in before) other_act
+    let set : stopped_names (before ++ r ∷ []) ≡ with_stop (stopped_names before) r = fold-append with_stop nobody before (r ∷ []) in
+    let same : stopped_names (before ++ r ∷ []) ≡ stopped_names before =
+    set ∙ ap (λ (b : Bool). if b && has_life r then with_name (stopped_names before) (name_of r) else stopped_names before) other_act
     in
     let now : (name : ℕ) → has_stopped (before ++ r ∷ []) name ≡ has_stopped before name = λ name.
     stopped_more before r name ∙ ap (λ (b : Bool). has_stopped before name || (b && (name_of r == name))) other_act ∙ or_false (has_stopped before name) in
@@ -101,20 +90,20 @@ with_next before r true its_stop life fresh so_far =
     let few : place < 16 = omega arith in
     let first : name_of r ≡ place = ap (name_at place) life ∙ omega arith in
     let lives : has_life r ≡ true = ap (λ (n : ℕ). nat_lt 0 n && nat_le n 16) life in
-    let set : stopped_in (before ++ r ∷ []) ≡ with_stop (stopped_in before) r = fold-append with_stop nobody before (r ∷ []) in
+    let set : stopped_names (before ++ r ∷ []) ≡ with_stop (stopped_names before) r = fold-append with_stop nobody before (r ∷ []) in
     let p : place_of place ≡ place = omega arith in
     let l : life_of place ≡ 1 = omega arith in
-    let now : stopped_in (before ++ r ∷ []) ≡ slice_set (stopped_in before) place 1 =
-    set ∙ ap (λ (b : Bool). if b && has_life r then with_name (stopped_in before) (name_of r) else stopped_in before) its_stop
-    ∙ ap (λ (b : Bool). if b then with_name (stopped_in before) (name_of r) else stopped_in before) lives ∙ ap (with_name (stopped_in before)) first
-    ∙ ap (λ (k : ℕ). slice_set (stopped_in before) k (life_of place)) p ∙ ap (slice_set (stopped_in before) place) l
+    let now : stopped_names (before ++ r ∷ []) ≡ slice_set (stopped_names before) place 1 =
+    set ∙ ap (λ (b : Bool). if b && has_life r then with_name (stopped_names before) (name_of r) else stopped_names before) its_stop
+    ∙ ap (λ (b : Bool). if b then with_name (stopped_names before) (name_of r) else stopped_names before) lives ∙ ap (with_name (stopped_names before)) first
+    ∙ ap (λ (k : ℕ). slice_set (stopped_names before) k (life_of place)) p ∙ ap (slice_set (stopped_names before) place) l
     in
     let more : (name : ℕ) → has_stopped (before ++ r ∷ []) name ≡ (has_stopped before name || (place == name)) = λ name.
     stopped_more before r name ∙ ap (λ (b : Bool). has_stopped before name || (b && (name_of r == name))) its_stop
     ∙ ap (λ (k : ℕ). has_stopped before name || (k == name)) first in record {
-      many = ap length now ∙ set_many (stopped_in before) place 1 ∙ so_far.many;
+      many = ap length now ∙ set_many (stopped_names before) place 1 ∙ so_far.many;
       each = λ name. ap (λ (s : List ℕ). has s name) now
-          ∙ added (stopped_in before) place name (has_stopped before) few so_far.many so_far.each (ap (has_stopped before) (sym first) ∙ fresh) so_far.low
+          ∙ added (stopped_names before) place name (has_stopped before) few so_far.many so_far.each (ap (has_stopped before) (sym first) ∙ fresh) so_far.low
           ∙ sym (more name);
       low = λ name e. is_low before name place few so_far (has_stopped before name) refl (sym (more name) ∙ e);
     }

@@ -1,8 +1,9 @@
 -- What others' records leave of a name: its node, whether it stopped, and the letters that were sent.
-use Rattle.std.proofs.Common.{◌≡◌, ◌≢◌, ℕ, zero, suc, ◌<◌, List, [], ◌∷◌, ◌++◌, Bool, true, false, true≢false}
-use Rattle.std.proofs.Common.{Option, Some, None, sym, refl, ap, ◌∙◌, subst, arith, append_assoc, append-nil, ne_eqb}
+use Rattle.std.proofs.Common.{◌≡◌, ◌≢◌, ℕ, zero, suc, ◌<◌, List, [], ◌∷◌, ◌++◌, Bool, true, false}
+use Rattle.std.proofs.Common.{Some, sym, refl, ap, ◌∙◌, subst, arith, append_assoc, append-nil, ne_eqb}
 use Rattle.std.specs.Prelude.{◌==◌, ◌&&◌, ◌||◌, All, slice_get}
 use Rattle.std.proofs.lemmas.List.Folds.{list_any-append}
+use Rattle.std.proofs.lemmas.Option.{none-some}
 use Rattle.am_base.specs.Founding.{Rules}
 use Rattle.am_base.specs.Names.{place_of, name_at}
 use Rattle.am_group.specs.declared.event.Record.{Record}
@@ -11,7 +12,7 @@ use Rattle.am_group.specs.Journals.{item_at}
 use Rattle.am_wire.specs.declared.rule.Terms.{Terms}
 use Rattle.am_wire.specs.Seats.{Follows}
 use Rattle.am_wire.specs.Stops.{is_stop, has_stopped}
-use Rattle.am_calls.specs.Told.{told}
+use Rattle.am_calls.specs.Told.{world_after}
 use Rattle.am_calls.specs.Lawful.{IsLawful}
 use Rattle.am_calls.proofs.Others.{others_stay}
 use Rattle.am_calls.proofs.Stays.{first_apart, same_place}
@@ -19,11 +20,11 @@ use Rattle.am_calls.proofs.Stays.{first_apart, same_place}
 -- ---- others' records
 
 pub nodes_stay : (rules : Rules) (before more : List Record) (name : ℕ) → All (λ r. place_of r.event.node ≢ place_of name) more
-    → (told rules (before ++ more)).nodes name ≡ (told rules before).nodes name
-nodes_stay rules before [] name apart = ap (λ (rs : List Record). (told rules rs).nodes name) (append-nil before)
+    → (world_after rules (before ++ more)).nodes name ≡ (world_after rules before).nodes name
+nodes_stay rules before [] name apart = ap (λ (rs : List Record). (world_after rules rs).nodes name) (append-nil before)
 nodes_stay rules before (r ∷ rest) name apart =
     let a = first_apart (λ (q : Record). place_of q.event.node ≢ place_of name) r rest apart in
-    ap (λ (rs : List Record). (told rules rs).nodes name) (sym (append_assoc before (r ∷ []) rest)) ∙ nodes_stay rules (before ++ r ∷ []) rest name a.1
+    ap (λ (rs : List Record). (world_after rules rs).nodes name) (sym (append_assoc before (r ∷ []) rest)) ∙ nodes_stay rules (before ++ r ∷ []) rest name a.1
     ∙ (others_stay rules before r name (λ s. a.0 (sym s))).0
 
 -- whoever stopped in a beginning
@@ -52,20 +53,13 @@ pub or_none : (a b : Bool) → b ≡ false → (a || b) ≡ a
 or_none true b e = refl
 or_none false b e = e
 
-pub nothing_there : {A : Type 0} (x : A) → None ≡ Some x → ⊥
-nothing_there {A = A} x same = true≢false (ap is_none same)
-  where
-    is_none : Option A → Bool
-    is_none None = true
-    is_none (Some k) = false
-
 get_more : {A : Type 0} (items more : List A) (index : ℕ) (x : A) → slice_get items index ≡ Some x → slice_get (items ++ more) index ≡ Some x
-get_more [] more index x is = absurd (nothing_there x is)
+get_more [] more index x is = absurd (none-some x is)
 get_more (y ∷ items) more zero x is = is
 get_more (y ∷ items) more (suc index) x is = get_more items more index x is
 
 pub item_more : {A : Type 0} (items more : List A) (number : ℕ) (x : A) → item_at items number ≡ Some x → item_at (items ++ more) number ≡ Some x
-item_more items more zero x e = absurd (nothing_there x e)
+item_more items more zero x e = absurd (none-some x e)
 item_more items more (suc k) x e = get_more items more k x e
 
 pub all_cons : (P : Record → Type 0) (r : Record) (rs : List Record) → P r → All P rs → All P (r ∷ rs)
@@ -77,20 +71,3 @@ lives_of terms before [] follows = λ k d h. absurd (omega arith)
 lives_of terms before (r ∷ rest) follows =
     all_cons (λ (q : Record). q.life ≡ 1) r rest (follows before rest r refl).life
     (lives_of terms (before ++ r ∷ []) rest (subst (Follows (IsLawful terms)) (sym (append_assoc before (r ∷ []) rest)) follows))
-
-place_one : (n : ℕ) → place_of (name_at (place_of n) 1) ≡ place_of n
-place_one n = omega arith
-
-low_place : (n : ℕ) → name_at (place_of n) 1 < 16
-low_place n = omega arith
-
-pub runs_stays : (terms : Terms) (before more : List Record) (r : Record) → Follows (IsLawful terms) (before ++ more)
-    → All (λ q. place_of q.event.node ≢ place_of r.event.node) more → r.life ≡ 1 → has_stopped before (name_of r) ≡ false
-    → has_stopped (before ++ more) (name_of r) ≡ false
-runs_stays terms before more r follows apart life runs =
-    let its : name_of r ≡ name_at (place_of r.event.node) 1 = ap (name_at (place_of r.event.node)) life in
-    let far : All (λ q. place_of q.event.node ≢ place_of (name_of r)) more = subst (λ (p : ℕ). All (λ (q : Record). place_of q.event.node ≢ p) more)
-    (sym (ap place_of its ∙ place_one r.event.node)) apart in
-    let few : name_of r < 16 = subst (λ (n : ℕ). n < 16) (sym its) (low_place r.event.node) in
-    stopped_in_more before more (name_of r) ∙ or_none (has_stopped before (name_of r)) (has_stopped more (name_of r))
-    (none_stop more (name_of r) far (lives_of terms before more follows) few) ∙ runs

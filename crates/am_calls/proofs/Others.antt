@@ -18,9 +18,9 @@ use Rattle.am_group.specs.Addressed.{is_for}
 use Rattle.am_group.specs.Journals.{letter_at}
 use Rattle.am_model.specs.Emit.{Step}
 use Rattle.am_model.specs.Step.{step, hear}
-use Rattle.am_model.specs.World.{World, start, is_stopped, has_departed, hear_cut, unchanged, stepped, does_event, gives_up, stops, heard, lives_on, returned}
+use Rattle.am_model.specs.World.{World, start, is_stopped, has_departed, hear_cut, with_record, with_step, does_event, gives_up, stops, hears_letter, lives_on, comes_back}
 use Rattle.am_model.specs.World.{acts_as, happens, current}
-use Rattle.am_calls.specs.Told.{tells, told}
+use Rattle.am_calls.specs.Told.{tells, world_after}
 use Rattle.am_calls.specs.Laws.{OthersStay}
 
 -- the names and lives of other places are as they were
@@ -28,15 +28,15 @@ record Stays (place : ℕ) (w w' : World) : Type 0 where
   pub nodes : (name : ℕ) → place_of name ≢ place → w'.nodes name ≡ w.nodes name
   pub lives : (other : ℕ) → other ≢ place → w'.lives other ≡ w.lives other
 
-unchanged_stays : (place : ℕ) (w : World) (e : Event) (outcome : Outcome) → Stays place w (unchanged w e outcome)
-unfolding unchanged
+unchanged_stays : (place : ℕ) (w : World) (e : Event) (outcome : Outcome) → Stays place w (with_record w e outcome)
+unfolding with_record
 unchanged_stays place w e outcome = record { nodes = λ name far. refl; lives = λ other far. refl }
 
 elsewhere : (place name at : ℕ) → place_of at ≡ place → place_of name ≢ place → name ≢ at
 elsewhere place name at its far same = far (ap place_of same ∙ its)
 
-stepped_stays : (place : ℕ) (w : World) (e : Event) (at : ℕ) (s : Step) → place_of at ≡ place → Stays place w (stepped w e at s)
-unfolding stepped
+stepped_stays : (place : ℕ) (w : World) (e : Event) (at : ℕ) (s : Step) → place_of at ≡ place → Stays place w (with_step w e at s)
+unfolding with_step
 stepped_stays place w e at s its = record {
   nodes = λ name far. ap (λ (b : Bool). if b then s.node else w.nodes name) (ne_eqb name at (elsewhere place name at its far));
   lives = λ other far. refl;
@@ -48,48 +48,48 @@ either_stays place w x y false p q = q
 
 does_stays : (place : ℕ) (w : World) (e : Event) (name : ℕ) (event : NodeEvent) → place_of name ≡ place → Stays place w (does_event w e name event)
 does_stays place w e name event its =
-    either_stays place w (unchanged w e said.IsStopped) (stepped w e name (step (w.nodes name) event)) (is_stopped w name)
+    either_stays place w (with_record w e said.IsStopped) (with_step w e name (step (w.nodes name) event)) (is_stopped w name)
     (unchanged_stays place w e said.IsStopped) (stepped_stays place w e name (step (w.nodes name) event) its)
 
 gives_up_stays : (place : ℕ) (w : World) (e : Event) (name other : ℕ) → place_of name ≡ place → Stays place w (gives_up w e name other)
 gives_up_stays place w e name other its =
-    let given : World = stepped w e name (step (w.nodes name) (does.GiveUp other)) in
-    let not_stopped : World = unchanged w e said.NotStopped in
-    either_stays place w (unchanged w e said.IsStopped) (if is_stopped w other then given else not_stopped) (is_stopped w name)
+    let given : World = with_step w e name (step (w.nodes name) (does.GiveUp other)) in
+    let not_stopped : World = with_record w e said.NotStopped in
+    either_stays place w (with_record w e said.IsStopped) (if is_stopped w other then given else not_stopped) (is_stopped w name)
     (unchanged_stays place w e said.IsStopped)
     (either_stays place w given not_stopped (is_stopped w other) (stepped_stays place w e name (step (w.nodes name) (does.GiveUp other)) its)
     (unchanged_stays place w e said.NotStopped))
 
 stops_stays : (place : ℕ) (w : World) (e : Event) (name : ℕ) → Stays place w (stops w e name)
-unfolding unchanged
+unfolding with_record
 stops_stays place w e name =
-    either_stays place w (unchanged w e said.IsStopped) (unchanged (record w { stopped = w.stopped ++ name ∷ [] }) e said.Stopped) (is_stopped w name)
+    either_stays place w (with_record w e said.IsStopped) (with_record (record w { stopped = w.stopped ++ name ∷ [] }) e said.Stopped) (is_stopped w name)
     (unchanged_stays place w e said.IsStopped)
     (record { nodes = λ other far. refl; lives = λ other far. refl })
 
 heard_stays : (place : ℕ) (w : World) (e : Event) (name : ℕ) (hearing : Packet → Step) (letter : Option Letter) → place_of name ≡ place
-    → Stays place w (heard w e name hearing letter)
+    → Stays place w (hears_letter w e name hearing letter)
 heard_stays place w e name hearing None its = unchanged_stays place w e said.NoPacket
 heard_stays place w e name hearing (Some letter) its =
-    let hears : World = stepped w e name (hearing letter.packet) in
-    let stopped : World = unchanged w e said.IsStopped in
-    either_stays place w (unchanged w e said.NotAddressed) (if is_stopped w name then stopped else hears) (not (is_for letter name))
+    let hears : World = with_step w e name (hearing letter.packet) in
+    let stopped : World = with_record w e said.IsStopped in
+    either_stays place w (with_record w e said.NotAddressed) (if is_stopped w name then stopped else hears) (not (is_for letter name))
     (unchanged_stays place w e said.NotAddressed)
     (either_stays place w stopped hears (is_stopped w name) (unchanged_stays place w e said.IsStopped)
     (stepped_stays place w e name (hearing letter.packet) its))
 
-back_stays : (place : ℕ) (w : World) (e : Event) (outcome : Outcome) → Stays place w (lives_on (unchanged w e outcome) place)
-unfolding unchanged
+back_stays : (place : ℕ) (w : World) (e : Event) (outcome : Outcome) → Stays place w (lives_on (with_record w e outcome) place)
+unfolding with_record
 back_stays place w e outcome = record {
   nodes = λ name far. refl;
   lives = λ other far. ap (λ (b : Bool). if b then w.lives place + 1 else w.lives other) (ne_eqb other place far);
 }
 
-returned_stays : (place : ℕ) (w : World) (e : Event) → Stays place w (returned w e place)
+returned_stays : (place : ℕ) (w : World) (e : Event) → Stays place w (comes_back w e place)
 returned_stays place w e =
-    let again : World = lives_on (unchanged w e (said.Returned (w.lives place + 1))) place in
-    let none : World = unchanged w e said.NoLife in
-    either_stays place w (unchanged w e (said.Running (w.lives place))) (if w.lives place == 16 then none else again)
+    let again : World = lives_on (with_record w e (said.Returned (w.lives place + 1))) place in
+    let none : World = with_record w e said.NoLife in
+    either_stays place w (with_record w e (said.Running (w.lives place))) (if w.lives place == 16 then none else again)
     (not (is_stopped w (current w place) || has_departed (w.nodes (current w place)).status)) (unchanged_stays place w e (said.Running (w.lives place)))
     (either_stays place w none again (w.lives place == 16) (unchanged_stays place w e said.NoLife) (back_stays place w e (said.Returned (w.lives place + 1))))
 
@@ -107,7 +107,7 @@ acts_stays place w e name act.Stop its = stops_stays place w e name
 acts_stays place w e name act.Tick its = does_stays place w e name does.Tick its
 acts_stays place w e name (act.Hear number) its = heard_stays place w e name (hear (w.nodes name)) (letter_at w.letters number) its
 acts_stays place w e name (act.Cut number keep) its = heard_stays place w e name (hear_cut (w.nodes name) keep) (letter_at w.letters number) its
-acts_stays place w e name act.Return its = subst (λ (p : ℕ). Stays place w (returned w e p)) (sym its) (returned_stays place w e)
+acts_stays place w e name act.Return its = subst (λ (p : ℕ). Stays place w (comes_back w e p)) (sym its) (returned_stays place w e)
 
 -- the place of a life's name
 place_at : (place k : ℕ) → place < 16 → (place + 16 * k) % 16 ≡ place
@@ -119,7 +119,7 @@ happens_stays w e = acts_stays (place_of e.node) w e (current w (place_of e.node
     (place_at (place_of e.node) (w.lives (place_of e.node) - 1) (mod-lt e.node (omega arith)))
 
 pub others_stay : OthersStay
-unfolding told
+unfolding world_after
 others_stay rules before r name far =
     let s = happens_stays (fold tells (start rules) before) r.event in
     let e = fold-append tells (start rules) before (r ∷ []) in

@@ -4,7 +4,7 @@ use Rattle.std.proofs.Common.{cond, Option, Some, None, sym, refl, ap, ◌∙◌
 use Rattle.std.specs.Prelude.{All, if◌then◌else◌, ◌&&◌, ◌==◌}
 use Rattle.std.specs.List.{list_all, prefix_len}
 use Rattle.std.proofs.Math.Seq.{take-append_seam, drop-append_seam}
-use Rattle.std.proofs.lemmas.Bool.{eqb-true}
+use Rattle.std.proofs.lemmas.Bool.{and_parts, eqb-true}
 use Rattle.std.proofs.Math.Nat.{add-mul}
 use Rattle.std.proofs.lemmas.Nat.{mul-le}
 use Rattle.std.proofs.lemmas.List.{drop_all}
@@ -33,10 +33,6 @@ use Rattle.am_calls.specs.Ran.{HasPlayed, HasRun, most_of, refusal_in, ends_thre
 IsOf : ℕ → List Record → Type 0
 IsOf call records = All (λ r. (r.by.call == call) ≡ true) records
 
-right_of : (a b : Bool) → (a && b) ≡ true → b ≡ true
-right_of true b e = e
-right_of false b e = absurd (true≢false (sym e))
-
 its_call : (caller call : ℕ) (seen : List Record) → IsOf call (of_call caller call seen)
 unfolding IsOf
 its_call caller call [] = λ k d h. absurd (omega arith)
@@ -45,7 +41,7 @@ its_call caller call (r ∷ rest) = by_test (its_call caller call rest) ((r.by.c
     by_test : All (λ (q : Record). (q.by.call == call) ≡ true) (of_call caller call rest) → (b : Bool) → ((r.by.caller == caller) && (r.by.call == call)) ≡ b
         → All (λ (q : Record). (q.by.call == call) ≡ true) (cond b (r ∷ of_call caller call rest) (of_call caller call rest))
     by_test others false e k d h = others k d h
-    by_test others true e zero d h = right_of (r.by.caller == caller) (r.by.call == call) e
+    by_test others true e zero d h = (and_parts (r.by.caller == caller) (r.by.call == call) e).1
     by_test others true e (suc k) d h = others k d (omega arith)
 
 prefix_is : (call : ℕ) (mine more : List Record) → IsOf call mine → All (λ r. call + 1 ≤ r.by.call) more

@@ -5,7 +5,7 @@ use Rattle.std.specs.Prelude.{All, ◌==◌}
 use Rattle.std.specs.List.{list_all, range_with_len}
 use Rattle.std.proofs.lemmas.List.{get_or-map, length-map}
 use Rattle.std.proofs.lemmas.List.FromFn.{get_or-range_with_len, length-range_with_len}
-use Rattle.std.proofs.lemmas.Option.{slice_get_cases}
+use Rattle.std.proofs.lemmas.Option.{none-some, slice_get_cases}
 use Rattle.am_base.specs.Names.{place_of}
 use Rattle.am_group.specs.declared.event.Record.{Record}
 use Rattle.am_group.specs.declared.plan.RacePlan.{RacePlan}
@@ -108,11 +108,7 @@ none_at : (each : List (Option WireRefusal)) (i : ℕ) → first_refusal each �
 none_at [] i e = refl
 none_at (None ∷ each) zero e = refl
 none_at (None ∷ each) (suc i) e = none_at each i e
-none_at (Some r ∷ each) i e = absurd (true≢false (ap is_some e))
-  where
-    is_some : Option WireRefusal → Bool
-    is_some None = false
-    is_some (Some x) = true
+none_at (Some r ∷ each) i e = absurd (none-some r (sym e))
 
 pub are_played : (plan : RacePlan) (journal : List Record) (each : List (Option WireRefusal)) → AllDid plan journal each → first_refusal each ≡ None
     → ArePlayed plan journal
@@ -123,23 +119,12 @@ are_played plan journal each all none caller thread is =
     let did = all.1 caller t.1 in
     subst (λ (n : ℕ). is_played plan.turns thread n journal ≡ true) did.number_
     (played_in plan.turns thread journal did.c did.ends (did.ran.played (none_at each caller none) thread (ap (slice_get plan.threads) did.number_ ∙ is))))
-    (λ (past : (length plan.threads ≤ caller) × (slice_get plan.threads caller ≡ None)). absurd (nothing (sym past.1 ∙ is)))
+    (λ (past : (length plan.threads ≤ caller) × (slice_get plan.threads caller ≡ None)). absurd (none-some thread (sym past.1 ∙ is)))
     (slice_get_cases plan.threads caller).1
-  where
-    is_there : Option ThreadPlan → Bool
-    is_there None = false
-    is_there (Some x) = true
-
-    nothing : None ≡ Some thread → ⊥
-    nothing e = true≢false (sym (ap is_there e))
 
 -- a refusal is that of one of them
 refused_at : (each : List (Option WireRefusal)) (r : WireRefusal) → first_refusal each ≡ Some r → (i : ℕ) × (i < length each) × (get_or each i None ≡ Some r)
-refused_at [] r e = absurd (true≢false (sym (ap is_some e)))
-  where
-    is_some : Option WireRefusal → Bool
-    is_some None = false
-    is_some (Some x) = true
+refused_at [] r e = absurd (none-some r e)
 refused_at (None ∷ each) r e = let found = refused_at each r e in (suc found.0, omega (arith, found.1), found.2)
 refused_at (Some x ∷ each) r e = (0, omega arith, e)
 

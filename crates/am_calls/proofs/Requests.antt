@@ -13,10 +13,10 @@ use Rattle.am_sender.specs.declared.OwnSend.{OwnSend}
 use Rattle.am_sender.specs.Sends as own
 use Rattle.am_sender.specs.Sends.{Sends}
 use Rattle.am_group.specs.declared.event.Event.{Event}
-use Rattle.am_model.specs.Node.{Node, pushed, waiting}
+use Rattle.am_model.specs.Node.{Node, push_entry, waiting}
 use Rattle.am_model.specs.Ballots.{Verdict}
-use Rattle.am_model.specs.Refresh.{refresh, accepted_at, settled_at, settled, settle, refresh_at_end}
-use Rattle.am_model.specs.World.{World, start, unchanged, stepped, run}
+use Rattle.am_model.specs.Refresh.{refresh, accepted_at, settle_at, settle_waiting, settle, refresh_at_end}
+use Rattle.am_model.specs.World.{World, start, with_record, with_step, run}
 use Rattle.am_model.proofs.Greatest.{split}
 use Rattle.am_effects.specs.Causes.{Cause}
 use Rattle.am_effects.specs.Looks.{Looks, finds_itself_out, waits, fetches_from_best, finds_too_few, finds_no_room, decides}
@@ -101,11 +101,11 @@ once_settle req number s h = record {
 abbrev pub NodeOnce : Node → Type 0
 NodeOnce m = Once m.sends
 
-once_settled_at : (m : Node) (req : ℕ) (at : Option ℕ) → NodeOnce m → NodeOnce (settled_at m req at)
+once_settled_at : (m : Node) (req : ℕ) (at : Option ℕ) → NodeOnce m → NodeOnce (settle_at m req at)
 once_settled_at m req None h = h
 once_settled_at m req (Some k) h = once_settle req (m.core.base + 1 + k) m.sends h
 
-once_settled : (m : Node) (w : Option OwnSend) → NodeOnce m → NodeOnce (settled m w)
+once_settled : (m : Node) (w : Option OwnSend) → NodeOnce m → NodeOnce (settle_waiting m w)
 once_settled m None h = h
 once_settled m (Some s) h = once_settled_at m s.req (accepted_at m s.req) h
 
@@ -149,32 +149,29 @@ change_once m n (collects req is) h = once_collect req m.sends h
 change_once m n (takes e is o member some there) h = h
 change_once m n (asks_to_join is was) h = h
 change_once m n (asks_to_leave is was stays done) h = h
-change_once m n (closes leads leaves alone room) h = once_refreshed_at_end (pushed m (Leave m.core.who)) h
+change_once m n (closes leads leaves alone room) h = once_refreshed_at_end (push_entry m (Leave m.core.who)) h
 
 -- ---- runs
 
-record AllOnce (w : World) : Type 0 where
-  each : (name : ℕ) → NodeOnce (w.nodes name)
+abbrev AllOnce : World → Type 0
+AllOnce w = (name : ℕ) → NodeOnce (w.nodes name)
 
 each_once : EachKeeps AllOnce
-unfolding unchanged stepped
-each_once w e v (idles o idle) h = record { each = h.each }
-each_once w e v (stops runs) h = record { each = h.each }
-each_once w e v (returns place is left more) h = record { each = h.each }
-each_once w e v (steps c s runs cause effect) h = record {
-  each = λ name. split (name == actor w e)
-      (λ t. rw t (along NodeOnce change_once effect.changes (h.each (actor w e))))
-      (λ f. rw f (h.each name));
-}
+unfolding with_record with_step
+each_once w e v (idles o idle) h = h
+each_once w e v (stops runs) h = h
+each_once w e v (returns place is left more) h = h
+each_once w e v (steps c s runs cause effect) h =
+    λ name. split (name == actor w e) (λ t. rw t (along NodeOnce change_once effect.changes (h (actor w e)))) (λ f. rw f (h name))
 
 once_start : (rules : Rules) → AllOnce (start rules)
-once_start rules = record { each = λ name. split (has rules.founders name) (λ t. rw t first) (λ f. rw f first) }
+once_start rules name = split (has rules.founders name) (λ t. rw t first) (λ f. rw f first)
   where
     first : Once own.no_sends
     first = record { low = λ k d lt. absurd (omega arith); apart = tt }
 
 pub requests_once : (rules : Rules) (events : List Event) (name : ℕ) → Once ((run rules events).nodes name).sends
-requests_once rules events name = (runs_keep AllOnce each_once (start rules) events (once_start rules)).each name
+requests_once rules events = runs_keep AllOnce each_once (start rules) events (once_start rules)
 
 -- ---- what is settled is told
 

@@ -1,22 +1,17 @@
 -- The threads of a plan: what each may call, and what all of them give.
-use Rattle.std.proofs.Common.{◌≡◌, ℕ, zero, suc, ◌+◌, ◌*◌, ◌<◌, ◌≤◌, List, [], ◌∷◌, ◌++◌, length, map, drop, get_or, Bool, true, false, true≢false, Option}
-use Rattle.std.proofs.Common.{Some, None, sym, refl, ap, ◌∙◌, subst, arith, slice_get}
-use Rattle.std.specs.Prelude.{sum_by, ◌&&◌}
-use Rattle.std.specs.List.{list_all}
+use Rattle.std.proofs.Common.{◌≡◌, ℕ, suc, ◌+◌, ◌<◌, List, [], ◌∷◌, ◌++◌, length, map, drop, get_or, Option}
+use Rattle.std.proofs.Common.{Some, None, sym, refl, ap, ◌∙◌, arith, slice_get}
 use Rattle.std.specs.Option.{option_or}
 use Rattle.std.proofs.Math.Seq.{drop-cons}
-use Rattle.std.proofs.lemmas.Nat.{mul-le}
 use Rattle.std.proofs.lemmas.List.{map-append}
-use Rattle.std.proofs.lemmas.Option.{slice_get_within, slice_get_read, get_or_from_slice_get}
-use Rattle.std.proofs.lemmas.List.Sums.{get_or-le-sum_by}
-use Rattle.am_base.specs.Most.{most_events}
+use Rattle.std.proofs.lemmas.Option.{slice_get_read}
 use Rattle.am_group.specs.declared.event.Act.{Act}
 use Rattle.am_group.specs.declared.plan.RacePlan.{RacePlan}
 use Rattle.am_group.specs.declared.plan.ThreadPlan.{ThreadPlan}
 use Rattle.am_wire.specs.declared.wire.WireRefusal.{WireRefusal}
 use Rattle.am_calls.specs.Callings.{Calling}
-use Rattle.am_calls.specs.Plans.{calls_of, calls_in, is_call, MayRace}
-use Rattle.am_calls.specs.Ran.{fresh_caller, numbers_of, HasRun, first_refusal}
+use Rattle.am_calls.specs.Plans.{calls_of, calls_in}
+use Rattle.am_calls.specs.Ran.{numbers_of, first_refusal}
 
 -- ---- the calls of a thread
 
@@ -32,60 +27,6 @@ pub next_call : (calls : List Act) (i : ℕ) (a : Act) → i < length calls → 
 next_call calls i a below there =
     let one : suc i ≡ i + 1 = omega arith in
     drop-cons calls i a below ∙ ap (λ (n : ℕ). get_or calls i a ∷ drop n calls) one ∙ ap (λ (x : Act). x ∷ drop (i + 1) calls) (sym there)
-
-first_holds : (a b : Bool) → (a && b) ≡ true → a ≡ true
-first_holds true b e = refl
-first_holds false b e = absurd (true≢false (sym e))
-
-second_holds : (a b : Bool) → (a && b) ≡ true → b ≡ true
-second_holds true b e = e
-second_holds false b e = absurd (true≢false (sym e))
-
-pub each_passes : {X : Type 0} (test : X → Bool) (xs : List X) (i : ℕ) (d : X) → list_all test xs ≡ true → i < length xs → test (get_or xs i d) ≡ true
-each_passes test [] i d all below = absurd (omega arith)
-each_passes test (x ∷ xs) zero d all below = first_holds (test x) (list_all test xs) all
-each_passes test (x ∷ xs) (suc i) d all below = each_passes test xs i d (second_holds (test x) (list_all test xs) all) (omega arith)
-
-pub is_its_call : (calls : List Act) (i : ℕ) (a : Act) → list_all is_call calls ≡ true → i < length calls → a ≡ get_or calls i a → is_call a ≡ true
-is_its_call calls i a all below there = ap is_call there ∙ each_passes is_call calls i a all below
-
--- each thread of a plan that may race makes calls, and few
-pub has_its_calls : (plan : RacePlan) (number : ℕ) (thread : ThreadPlan) → MayRace plan → slice_get plan.threads number ≡ Some thread
-    → list_all is_call thread.calls ≡ true
-has_its_calls plan number thread may its =
-    ap (λ (t : ThreadPlan). list_all is_call t.calls) (sym (get_or_from_slice_get plan.threads number thread thread its))
-    ∙ each_passes (λ (t : ThreadPlan). list_all is_call t.calls) plan.threads number thread may.calls (slice_get_within plan.threads number thread its)
-
-pub few_calls : (plan : RacePlan) (number : ℕ) (thread : ThreadPlan) → MayRace plan → slice_get plan.threads number ≡ Some thread
-    → length thread.calls ≤ most_events
-few_calls plan number thread may its =
-    let whole : ℕ = sum_by (λ (t : ThreadPlan). length t.calls) plan.threads in
-    let among : length (get_or plan.threads number thread).calls ≤ whole =
-    get_or-le-sum_by (λ (t : ThreadPlan). length t.calls) plan.threads number thread (slice_get_within plan.threads number thread its) in
-    let same : length (get_or plan.threads number thread).calls ≡ length thread.calls =
-    ap (λ (t : ThreadPlan). length t.calls) (get_or_from_slice_get plan.threads number thread thread its) in
-    let more : whole * 1 ≤ whole * (plan.turns + 2) = mul-le whole 1 whole (plan.turns + 2) (omega arith) (omega arith) in
-    let most = may.most in
-    omega arith
-
--- ---- threads that the plan doesn't have
-
-is_some : {X : Type 0} → Option X → Bool
-is_some None = false
-is_some (Some x) = true
-
-none_some : {X : Type 0} (x : X) → None ≡ Some x → ⊥
-unfolding is_some
-none_some x e = true≢false (sym (ap is_some e))
-
-pub none_run : (plan : RacePlan) (c : Calling) → c ≡ fresh_caller c.number → slice_get plan.threads c.number ≡ None → HasRun plan c None
-none_run plan c fresh none =
-    let unseen : c.seen ≡ [] = ap (λ (x : Calling). x.seen) fresh in
-    subst (λ (x : Calling). HasRun plan x None) (sym fresh) (record {
-      most = omega arith;
-      spent = λ e. absurd (none_some _ e);
-      played = λ e thread is. absurd (none_some thread (sym none ∙ is));
-    })
 
 -- ---- what threads give
 

@@ -3,7 +3,7 @@ use Rattle.std.proofs.Common.{◌≡◌, ℕ, ◌-◌, ◌≤◌, List, [], ◌�
 use Rattle.std.proofs.Common.{is_some, sym, refl, ap, ◌∙◌, arith, eq-eqb, nat_lt, nat_le, unwrap_or, count_by, sum_by}
 use Rattle.std.specs.Prelude.{◌==◌, ◌&&◌, ◌||◌, if◌then◌else◌, fold}
 use Rattle.std.specs.List.{list_all, list_any}
-use Rattle.std.proofs.lemmas.Bool.{lt-ltb}
+use Rattle.std.proofs.lemmas.Bool.{and_parts, lt-ltb}
 use Rattle.std.proofs.lemmas.List.Sums.{sum_by-cons, sum_by-append}
 use Rattle.std.proofs.lemmas.Grind.{fold-append}
 use Rattle.am_base.specs.declared.outcome.Outcome.{Outcome}
@@ -18,13 +18,13 @@ use Rattle.am_calls.specs.declared.answer.Answer.TheVariants as answer
 use Rattle.am_calls.specs.declared.ready.Came.{Came}
 use Rattle.am_calls.specs.Tags.{is_own, is_turn_part, is_check, own_of}
 use Rattle.am_calls.specs.Answers.{ballot_answer, join_answer, leave_answer, left_answer, send_answer, take_answer, stop_answer, own_answer, end_answer}
-use Rattle.am_calls.specs.Answers.{or_else, queued_in, request_in, request_of, request_by, put_off_in, late_after, late, answer_in, act_of_call, first_answer}
+use Rattle.am_calls.specs.Answers.{or_else, queued_request, request_in, request_of, request_by, put_off_in, late_after, late, answer_in, act_of_call, first_answer}
 use Rattle.am_calls.specs.Answers.{is_take, is_end, answer_of}
 use Rattle.am_calls.specs.Callers.{same_bytes, same_act, is_empty, asks, checks, is_followed, is_receive, is_other, is_one_call}
 use Rattle.am_calls.specs.Ready.{round_in}
-use Rattle.am_calls.specs.Plans.{is_call}
-use Rattle.am_calls.specs.Going.{has_check, end_act, end_part, told_at_end, request_in_call, IsOwn, HasBegun}
-use Rattle.am_calls.proofs.Growing.{both, left_of, right_of}
+use Rattle.am_calls.specs.Plans.{is_call, has_check}
+use Rattle.am_calls.specs.Going.{end_act, end_part, told_at_end, request_in_call, IsOwn, HasBegun}
+use Rattle.am_calls.proofs.Growing.{both}
 
 -- ---- parts
 
@@ -47,10 +47,10 @@ own_turns (Turn lost) e = absurd (true≢false (sym e))
 own_turns Check e = refl
 
 pub head_turn : (r : Record) (rs : List Record) → AreTurns (r ∷ rs) → is_turn_part r.by.part ≡ true
-head_turn r rs all = left_of (is_turn_part r.by.part) (list_all (λ q. is_turn_part q.by.part) rs) all
+head_turn r rs all = (and_parts (is_turn_part r.by.part) (list_all (λ q. is_turn_part q.by.part) rs) all).0
 
 pub tail_turns : (r : Record) (rs : List Record) → AreTurns (r ∷ rs) → AreTurns rs
-tail_turns r rs all = right_of (is_turn_part r.by.part) (list_all (λ q. is_turn_part q.by.part) rs) all
+tail_turns r rs all = (and_parts (is_turn_part r.by.part) (list_all (λ q. is_turn_part q.by.part) rs) all).1
 
 -- ---- planned
 
@@ -280,15 +280,11 @@ pub late_more : (turns : ℕ) (request : Option ℕ) (xs : List Record) (e : Rec
     → late turns request (xs ++ e ∷ []) ≡ late_after request (late turns request xs) e.outcome
 late_more turns request xs e = fold-append (λ a (r : Record). late_after request a r.outcome) (answer.Late turns) xs (e ∷ [])
 
-late_none : (turns : ℕ) (xs : List Record) → late turns None xs ≡ answer.Late turns
-late_none turns [] = refl
-late_none turns (x ∷ xs) = late_none turns xs
-
 -- an own act that queued a send puts nothing off
 own_puts_nothing_off : (a : Act) (o : Outcome) (its : Answer) → late_after (request_of a o) its o ≡ its
 own_puts_nothing_off (act.Send body) o its = by_outcome o
   where
-    by_outcome : (x : Outcome) → late_after (queued_in x) its x ≡ its
+    by_outcome : (x : Outcome) → late_after (queued_request x) its x ≡ its
     by_outcome (said.Queued req) = refl
     by_outcome _ = refl
 own_puts_nothing_off _ o its = refl
@@ -298,9 +294,21 @@ abbrev pub ended_answer : ℕ → Act → Option ℕ → List Record → Record 
 ended_answer turns a request ts e = or_else (told_at_end a e.outcome)
     (if nat_le turns (length ts) then Some (late_after request (late turns request ts) e.outcome) else None)
 
+-- what records answer, by what their end tells, how many turns they have, and how late they are
+ends_as : (turns many : ℕ) (recs : List Record) (told : Option Answer) (last : Answer) → first_answer (act_of_call (own_of recs)) recs ≡ told
+    → list_any is_end recs ≡ true → count_by (λ r. is_turn_part r.by.part) recs ≡ many → late turns (request_by (own_of recs)) recs ≡ last
+    → answer_of turns recs ≡ or_else told (if nat_le turns many then Some last else None)
+unfolding answer_of
+ends_as turns many recs told last first ends counted lates =
+    ap (λ (o : Option Answer). or_else o (if list_any is_end recs
+    && nat_le turns (count_by (λ r. is_turn_part r.by.part) recs) then Some (late turns (request_by (own_of recs)) recs) else None)) first
+    ∙ ap (λ (o : Option Answer). or_else told o)
+    (ap (λ (b : Bool). if b && nat_le turns (count_by (λ r. is_turn_part r.by.part) recs) then Some (late turns (request_by (own_of recs)) recs) else None) ends
+    ∙ ap (λ (n : ℕ). if nat_le turns n then Some (late turns (request_by (own_of recs)) recs) else None) counted
+    ∙ ap (λ (x : Answer). if nat_le turns many then Some x else None) lates)
+
 take_answers : (turns : ℕ) (a : Act) (ts : List Record) (e : Record) → is_take a ≡ true → AreTurns ts → is_own e.by.part ≡ true → e.event.act ≡ act.Take
     → answer_of turns (ts ++ e ∷ []) ≡ ended_answer turns a None ts e
-unfolding answer_of
 take_answers turns a ts e take all part is =
     let recs : List Record = ts ++ e ∷ [] in
     let own : own_of recs ≡ Some e = own_behind ts e all part in
@@ -315,12 +323,7 @@ take_answers turns a ts e take all part is =
     let lates : late turns (request_by (own_of recs)) recs ≡ late_after None (late turns None ts) e.outcome =
     ap (λ (o : Option Record). late turns (request_by o) recs) own ∙ ap (λ (x : Act). late turns (request_of x e.outcome) recs) is ∙ late_more turns None ts e
     in
-    ap (λ (o : Option Answer). or_else o (if list_any is_end recs
-    && nat_le turns (count_by (λ r. is_turn_part r.by.part) recs) then Some (late turns (request_by (own_of recs)) recs) else None)) first
-    ∙ ap (λ (o : Option Answer). or_else (told_at_end a e.outcome) o)
-    (ap (λ (b : Bool). if b && nat_le turns (count_by (λ r. is_turn_part r.by.part) recs) then Some (late turns (request_by (own_of recs)) recs) else None) ends
-    ∙ ap (λ (n : ℕ). if nat_le turns n then Some (late turns (request_by (own_of recs)) recs) else None) counted
-    ∙ ap (λ (x : Answer). if nat_le turns (length ts) then Some x else None) lates)
+    ends_as turns (length ts) recs (told_at_end a e.outcome) (late_after None (late turns None ts) e.outcome) first ends counted lates
   where
     or_true : (b c : Bool) → c ≡ true → (b || c) ≡ true
     or_true true c h = refl
@@ -329,7 +332,6 @@ take_answers turns a ts e take all part is =
 check_answers : (turns : ℕ) (a : Act) (came : Came) (own : Record) (ts : List Record) (e : Record) → has_check a ≡ true → own_answer a came.outcome ≡ None
     → IsOwn a came own → AreTurns ts
     → is_check e.by.part ≡ true → answer_of turns (own ∷ (ts ++ e ∷ [])) ≡ ended_answer turns a (request_of a came.outcome) ts e
-unfolding answer_of
 check_answers turns a came own ts e has none is all part =
     let rest : List Record = ts ++ e ∷ [] in
     let recs : List Record = own ∷ rest in
@@ -363,12 +365,7 @@ check_answers turns a came own ts e has none is all part =
     ap (λ (o : Option Record). late turns (request_by o) recs) found ∙ ap (λ (q : Option ℕ). late turns q recs) asked
     ∙ ap (λ (x : Answer). fold (λ y (r : Record). late_after request y r.outcome) x rest) begins ∙ late_more turns request ts e
     in
-    ap (λ (o : Option Answer). or_else o (if list_any is_end recs
-    && nat_le turns (count_by (λ r. is_turn_part r.by.part) recs) then Some (late turns (request_by (own_of recs)) recs) else None)) first
-    ∙ ap (λ (o : Option Answer). or_else (told_at_end a e.outcome) o)
-    (ap (λ (b : Bool). if b && nat_le turns (count_by (λ r. is_turn_part r.by.part) recs) then Some (late turns (request_by (own_of recs)) recs) else None) ends
-    ∙ ap (λ (n : ℕ). if nat_le turns n then Some (late turns (request_by (own_of recs)) recs) else None) counted
-    ∙ ap (λ (x : Answer). if nat_le turns (length ts) then Some x else None) lates)
+    ends_as turns (length ts) recs (told_at_end a e.outcome) (late_after request (late turns request ts) e.outcome) first ends counted lates
   where
     no_own_check : (p : Part) → is_check p ≡ true → is_own p ≡ false
     no_own_check Call h = absurd (true≢false (sym h))

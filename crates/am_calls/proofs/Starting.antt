@@ -1,6 +1,7 @@
 -- A box of a node to which nothing has happened.
-use Rattle.std.proofs.Common.{◌≡◌, ℕ, ◌<◌, List, [], ◌∷◌, ◌++◌, length, Bool, true, false, true≢false, Option, Some, None, if◌then◌else◌}
+use Rattle.std.proofs.Common.{◌≡◌, ℕ, ◌<◌, List, [], ◌∷◌, ◌++◌, length, Bool, true, false, None, if◌then◌else◌}
 use Rattle.std.proofs.Common.{sym, refl, ap, subst, arith, length-append}
+use Rattle.std.proofs.lemmas.Option.{none-some}
 use Rattle.atomic_table.specs.Seated.{TableId}
 use Rattle.am_base.specs.Founding.{Rules}
 use Rattle.am_base.specs.Names.{has}
@@ -12,10 +13,9 @@ use Rattle.am_model.specs.World.{first_node}
 use Rattle.am_model.specs.Ends.{IsEndOf}
 use Rattle.am_world.proofs.Begins.{own_end}
 use Rattle.am_wire.specs.declared.rule.Key.TheVariants.{Place}
-use Rattle.am_wire.specs.declared.wire.WireRefusal.{WireRefusal}
 use Rattle.am_wire.specs.Passes.{Known, fresh}
 use Rattle.am_wire.specs.Seats.{Follows}
-use Rattle.am_calls.specs.Told.{told}
+use Rattle.am_calls.specs.Told.{world_after}
 use Rattle.am_calls.specs.Lawful.{IsLawful, terms_of}
 use Rattle.am_calls.specs.Boxes.{Keeps, IsBox}
 
@@ -35,7 +35,7 @@ by_case rules name false = record {
 }
 
 keeps_first : (plan : RacePlan) (name : ℕ) (m : Node) → m ≡ first_node plan.founding name → Keeps plan name [] m
-unfolding told
+unfolding world_after
 keeps_first plan name m is =
     let b = by_case plan.founding name (has plan.founding.founders name) in
     subst (Keeps plan name []) (sym is) (record { end = b.end; order = b.order })
@@ -60,9 +60,5 @@ new_box wire plan name pass m low is new =
       cursor_ = λ _. refl;
       last_ = λ _. refl;
       stopped_ = λ _. refl;
-      spent = λ e. absurd (true≢false (ap is_none_ e));
+      spent = λ e. absurd (none-some _ e);
     })
-  where
-    is_none_ : Option WireRefusal → Bool
-    is_none_ None = true
-    is_none_ (Some x) = false

@@ -19,11 +19,11 @@ use Rattle.am_model.specs.Claims.{heard_by}
 use Rattle.am_model.specs.Node.{Node}
 use Rattle.am_model.specs.World.{World, current}
 use Rattle.am_wire.specs.Stops.{has_stopped}
-use Rattle.am_calls.specs.Told.{told}
-use Rattle.am_calls.specs.Tags.{of_place, of_caller, of_call, own_of, is_turn_part, known}
+use Rattle.am_calls.specs.Told.{world_after}
+use Rattle.am_calls.specs.Tags.{of_place, of_caller, of_call, own_of, is_turn_part, up_to_last}
 use Rattle.am_calls.specs.Ready.{is_ready}
-use Rattle.am_calls.specs.Turns.{cursor, last_heard, words_drawn, unless_nought, chosen, follows, is_waited, is_choice, is_turn_of, turns_at, is_turn, lost_by}
-use Rattle.am_calls.specs.Turns.{greatest, passed}
+use Rattle.am_calls.specs.Turns.{cursor, last_heard, words_drawn, unless_nought, choice_after, follows, is_waited, is_choice, is_turn_of, turns_at, is_turn, lost_by}
+use Rattle.am_calls.specs.Turns.{greatest, passed_number}
 use Rattle.am_calls.specs.Laws.{IsApart, IsLeft}
 use Rattle.am_calls.proofs.Apart.{others_are_apart}
 use Rattle.am_calls.proofs.Others.{others_stay}
@@ -73,9 +73,9 @@ hears _ lost = false
 
 choice_stays : (plan : RacePlan) (caller count : ℕ) (ahead later last : Option ℕ) (does : Act) (lost : ℕ)
     → ((n : ℕ) → ahead ≡ Some n → later ≡ Some n) → hears does lost ≡ true
-    → follows (chosen plan caller count ahead last) does lost ≡ true → follows (chosen plan caller count later last) does lost ≡ true
+    → follows (choice_after plan caller count ahead last) does lost ≡ true → follows (choice_after plan caller count later last) does lost ≡ true
 choice_stays plan caller count (Some n) later last does lost keeps is follow =
-    subst (λ (o : Option ℕ). follows (chosen plan caller count o last) does lost ≡ true) (sym (keeps n refl)) follow
+    subst (λ (o : Option ℕ). follows (choice_after plan caller count o last) does lost ≡ true) (sym (keeps n refl)) follow
 choice_stays plan caller count None later last (act.Hear number) lost keeps is follow = absurd (true≢false (sym follow))
 choice_stays plan caller count None later last act.Tick (suc lost) keeps is follow = let z = eqb-true (suc lost) 0 follow in absurd (omega arith)
 choice_stays plan caller count None later last act.Tick zero keeps is follow = absurd (true≢false (sym is))
@@ -120,13 +120,13 @@ turn_of_stays plan before knew r m name caller does lost place its is = by_act d
     more = before ++ r ∷ []
 
     same_cursor : cursor (place_of name) more ≡ cursor (place_of name) before
-    same_cursor = ap (λ (rs : List Record). greatest (map passed rs)) place
+    same_cursor = ap (λ (rs : List Record). greatest (map passed_number rs)) place
 
     picks : (a : Act) (l : ℕ) → hears a l ≡ true → is_choice plan before (place_of name) name caller a l ≡ true
         → is_choice plan more (place_of name) name caller a l ≡ true
     picks a l heard choice =
         let words : words_drawn caller more ≡ words_drawn caller before =
-        ap (λ (rs : List Record). count_by (λ q. is_turn_part q.by.part && nat_lt 0 (passed q)) rs) its in
+        ap (λ (rs : List Record). count_by (λ q. is_turn_part q.by.part && nat_lt 0 (passed_number q)) rs) its in
         let last : last_heard (place_of name) more ≡ last_heard (place_of name) before =
         ap (λ (rs : List Record). unless_nought (greatest (map (λ q. heard_by q.event.act) rs))) place in
         let ahead : Option ℕ = next_for (letters_of before) name (cursor (place_of name) before) in
@@ -135,7 +135,7 @@ turn_of_stays plan before knew r m name caller does lost place its is = by_act d
         (λ n e. ap (λ (ls : List Letter). next_for ls name (cursor (place_of name) before)) (letters_stay before r)
         ∙ next_stays (letters_of before) r.packets name (cursor (place_of name) before) n e)
         heard choice in
-        subst (λ (t : ℕ × ℕ × Option ℕ). follows (chosen plan caller t.0 (next_for (letters_of more) name t.1) t.2) a l ≡ true)
+        subst (λ (t : ℕ × ℕ × Option ℕ). follows (choice_after plan caller t.0 (next_for (letters_of more) name t.1) t.2) a l ≡ true)
         (λ i. (sym words i, sym same_cursor i, sym last i)) go
 
     by_act : (a : Act) (l : ℕ) → is_turn_of plan before knew m name caller a l ≡ true → is_turn_of plan more knew m name caller a l ≡ true
@@ -169,8 +169,8 @@ pub turn_stays : (plan : RacePlan) (before : List Record) (r : Record) (e : Even
     → is_turn plan before e by ≡ true → is_turn plan (before ++ r ∷ []) e by ≡ true
 unfolding is_turn
 turn_stays plan before r e by apart is =
-    let w : World = told plan.founding before in
-    let v : World = told plan.founding (before ++ r ∷ []) in
+    let w : World = world_after plan.founding before in
+    let v : World = world_after plan.founding (before ++ r ∷ []) in
     let p : ℕ = place_of e.node in
     let more : List Record = before ++ r ∷ [] in
     let first = others_stay plan.founding before r p (λ s. apart.place (sym s ∙ same_place e.node)) in
@@ -182,17 +182,17 @@ turn_stays plan before r e by apart is =
     let left : IsLeft p by.caller by.call before more = others_are_apart p by.caller by.call before r apart in
     let place : of_place (place_of name) more ≡ of_place (place_of name) before = ap (λ (k : ℕ). of_place k more) its ∙ left.place
     ∙ ap (λ (k : ℕ). of_place k before) (sym its) in
-    let knew : known (place_of name) by.caller more ≡ known (place_of name) by.caller before = ap (λ (k : ℕ). known k by.caller more) its ∙ left.known
-    ∙ ap (λ (k : ℕ). known k by.caller before) (sym its) in
+    let knew : up_to_last (place_of name) by.caller more ≡ up_to_last (place_of name) by.caller before = ap (λ (k : ℕ). up_to_last k by.caller more) its ∙ left.known
+    ∙ ap (λ (k : ℕ). up_to_last k by.caller before) (sym its) in
     let both = and_true _ _ is in
     let ready : not (is_ready (v.nodes name) (own_of (of_call by.caller by.call more))) ≡ true =
     subst (λ (m : Node). not (is_ready m (own_of (of_call by.caller by.call more))) ≡ true) (sym node)
     (subst (λ (rs : List Record). not (is_ready (w.nodes name) (own_of rs)) ≡ true) (sym left.call) both.0)
     in
-    let turn : is_turn_of plan more (known (place_of name) by.caller more) (v.nodes name) name by.caller e.act (lost_by by.part) ≡ true =
-    subst (λ (m : Node). is_turn_of plan more (known (place_of name) by.caller more) m name by.caller e.act (lost_by by.part) ≡ true) (sym node)
+    let turn : is_turn_of plan more (up_to_last (place_of name) by.caller more) (v.nodes name) name by.caller e.act (lost_by by.part) ≡ true =
+    subst (λ (m : Node). is_turn_of plan more (up_to_last (place_of name) by.caller more) m name by.caller e.act (lost_by by.part) ≡ true) (sym node)
     (subst (λ (rs : List Record). is_turn_of plan more rs (w.nodes name) name by.caller e.act (lost_by by.part) ≡ true) (sym knew)
-    (turn_of_stays plan before (known (place_of name) by.caller before) r (w.nodes name) name by.caller e.act (lost_by by.part) place left.caller both.1))
+    (turn_of_stays plan before (up_to_last (place_of name) by.caller before) r (w.nodes name) name by.caller e.act (lost_by by.part) place left.caller both.1))
     in
     subst (λ (k : ℕ). turns_at plan more v k e by ≡ true) (sym here) (both_true _ _ ready turn)
 

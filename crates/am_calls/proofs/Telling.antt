@@ -21,7 +21,7 @@ use Rattle.am_model.specs.declared.status.Status.TheVariants as status
 use Rattle.am_model.specs.Node.{Node, Ballot, is_member}
 use Rattle.am_model.specs.Emit.{quiet, finish}
 use Rattle.am_model.specs.Refresh.{refresh_at_end}
-use Rattle.am_model.specs.Calls.{done_row, take_row, given, state_by, state_row, ask_of, ask_row}
+use Rattle.am_model.specs.Calls.{done_row, take_row, give_out, state_by, state_row, ask_of, ask_row}
 use Rattle.am_model.specs.Step.{row, step}
 use Rattle.am_model.specs.Ends.{IsEndOf}
 use Rattle.am_model.specs.Group.{has_log}
@@ -63,8 +63,8 @@ entry_there all m is order less =
     first_of [] h = absurd (omega arith)
     first_of (e ∷ es) h = e
 
-took : (all : Node) (e : Entry) (o : Option Entry) → o ≡ Some e → (n : Node) → (given all o).outcome n ≡ said.Took (all.core.taken + 1) e
-took all e o is n = ap (λ (x : Option Entry). (given all x).outcome n) is
+took : (all : Node) (e : Entry) (o : Option Entry) → o ≡ Some e → (n : Node) → (give_out all o).outcome n ≡ said.Took (all.core.taken + 1) e
+took all e o is n = ap (λ (x : Option Entry). (give_out all x).outcome n) is
 
 take_told : (all : Node) (e : Entry) → is_member all.status ≡ true → (all.core.taken == all.core.acc) ≡ false
     → entry_at all.core.log (all.core.taken + 1) ≡ Some e

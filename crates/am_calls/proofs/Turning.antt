@@ -7,8 +7,9 @@ use Rattle.am_wire.specs.declared.wire.WireRefusal.{WireRefusal}
 use Rattle.std.specs.Prelude.{IfSome, IfNone, if◌then◌else◌, not, ◌==◌, ◌&&◌, ◌||◌, slice_index, slice_get}
 use Rattle.std.specs.List.{list_any}
 use Rattle.std.proofs.lemmas.Bool.{eqb-true, ltb-true}
+use Rattle.std.proofs.lemmas.Option.{none-some, same_Some}
 use Rattle.std.proofs.lemmas.List.Concat.{flat_map-append}
-use Rattle.am_base.specs.Names.{place_of, life_of, name_at, name_lt, rank_of, has, names_of, names_from, lowest_of, first_of}
+use Rattle.am_base.specs.Names.{place_of, life_of, name_at, name_lt, rank_of, has, names_of, names_from}
 use Rattle.am_packet.specs.Boxes.{Letter}
 use Rattle.am_group.specs.declared.event.Act.{Act}
 use Rattle.am_group.specs.declared.event.Act.TheVariants as act
@@ -24,7 +25,7 @@ use Rattle.am_model.specs.Node.{Node}
 use Rattle.am_node.specs.Info.{waited_for}
 use Rattle.am_wire.specs.declared.rule.Terms.{Terms}
 use Rattle.am_wire.specs.Seats.{Follows, StartsWith, GoesOn}
-use Rattle.am_wire.specs.Stops.{stopped_in, has_stopped}
+use Rattle.am_wire.specs.Stops.{stopped_names, has_stopped}
 use Rattle.am_calls.specs.Tags.{of_place}
 use Rattle.am_calls.specs.Turns.{is_waited, is_least, waits_in_vain, greatest, last_heard, unless_nought, or_nought}
 use Rattle.am_calls.specs.Lawful.{IsLawful, IsSent, is_of_race, terms_of}
@@ -35,7 +36,6 @@ use Rattle.am_pump.specs.Choices.{Luck, again, choice_of}
 use Rattle.am_wire.specs.declared.rule.Key.TheVariants.{Place}
 use Rattle.am_codec.specs.Limits.{IsPacket}
 use Rattle.am_wire.proofs.Views.{rest_of, goes_through}
-use Rattle.am_calls.proofs.Nexts.{nothing_there}
 use Rattle.std.proofs.lemmas.List.Elements.{filter-append}
 use Rattle.am_calls.proofs.Knows.{each_keeps}
 use Rattle.am_calls.proofs.Boxing.{place_last}
@@ -94,19 +94,6 @@ nobody_waits m seen waited stopped is many known none =
     bool_no (has waited (name_at k (slice_index waited k)) && has_stopped seen (name_at k (slice_index waited k)))
     (λ e. none k (omega arith) (in_both waited stopped k (omega arith) some (known (name_at k (slice_index waited k)) ∙ (two _ _ e).1))))
 
-pub nobody_there : (m : Node) (seen : List Record) (waited : List ℕ) → waited ≡ waited_for m.ballot → lowest_of waited ≡ None → waits_in_vain m seen ≡ false
-nobody_there m seen waited is none =
-    ap (λ (w : List ℕ). list_any (λ name. has w name && has_stopped seen name) (names_of w)) (sym is)
-    ∙ ap (list_any (λ name. has waited name && has_stopped seen name)) (empty (names_of waited) none)
-  where
-    empty : (names : List ℕ) → first_of names ≡ None → names ≡ []
-    empty [] e = refl
-    empty (n ∷ names) e = absurd (true≢false (ap is_some e))
-      where
-        is_some : Option ℕ → Bool
-        is_some None = false
-        is_some (Some k) = true
-
 pub least_waits : (m : Node) (seen : List Record) (waited stopped : List ℕ) (name : ℕ) → waited ≡ waited_for m.ballot → length waited ≡ 16
     → ((k : ℕ) → has stopped k ≡ has_stopped seen k)
     → IsLeastOf waited stopped name → (is_waited m seen name ≡ true) × (is_least m seen name ≡ true)
@@ -133,25 +120,14 @@ least_waits m seen waited stopped name is many known least = (
 
 first_there : (letters : List Letter) (from name n : ℕ) → first_for letters from name ≡ Some n → (k : ℕ) × (n ≡ from + k)
     × ((l : Letter) × ((slice_get letters k ≡ Some l) × (is_for l name ≡ true)))
-first_there [] from name n e = absurd (true≢false (ap is_none e))
-  where
-    is_none : Option ℕ → Bool
-    is_none None = true
-    is_none (Some k) = false
+first_there [] from name n e = absurd (none-some n e)
 first_there (l ∷ letters) from name n e = by_first (is_for l name) refl e (λ is. first_there letters (from + 1) name n is)
   where
     by_first : (b : Bool) → is_for l name ≡ b → (if b then Some from else first_for letters (from + 1) name) ≡ Some n
         → (first_for letters (from + 1) name ≡ Some n → (k : ℕ) × (n ≡ from + 1 + k)
         × ((x : Letter) × ((slice_get letters k ≡ Some x) × (is_for x name ≡ true))))
         → (k : ℕ) × (n ≡ from + k) × ((x : Letter) × ((slice_get (l ∷ letters) k ≡ Some x) × (is_for x name ≡ true)))
-    by_first true its is rest = (0, (let s = some_same from n is in omega arith), (l, (refl, its)))
-      where
-        or_this : Option ℕ → ℕ
-        or_this None = 0
-        or_this (Some k) = k
-
-        some_same : (a b : ℕ) → Some a ≡ Some b → a ≡ b
-        some_same a b same = ap or_this same
+    by_first true its is rest = (0, (let s = same_Some from n is in omega arith), (l, (refl, its)))
     by_first false its is rest = let r = rest is in (suc r.0, omega (arith, r.1), r.2)
 
 -- the next letter for a name was sent to it
@@ -178,11 +154,11 @@ sent_more before more name number s = record {
 
 -- ---- as a box finds them
 
-pub if_some : {A : Type 0} {P Q : A → Type 0} (o : Option A) → ((x : A) → P x → Q x) → IfSome o P → IfSome o Q
+if_some : {A : Type 0} {P Q : A → Type 0} (o : Option A) → ((x : A) → P x → Q x) → IfSome o P → IfSome o Q
 if_some None f h = tt
 if_some (Some x) f h = f x h
 
-pub if_none : {A : Type 0} {P Q : Type 0} (o : Option A) → (P → Q) → IfNone o P → IfNone o Q
+if_none : {A : Type 0} {P Q : Type 0} (o : Option A) → (P → Q) → IfNone o P → IfNone o Q
 if_none None f h = f h
 if_none (Some x) f h = tt
 
@@ -194,19 +170,22 @@ module _ (wire : TableId) (plan : RacePlan) (name : ℕ) (pass : Known) (m : Nod
   its : waited ≡ waited_for (node_by plan pass.seen name).ballot
   its = is ∙ waits_by (node_by plan pass.seen name) m (box.node runs).end
 
-  pub gives_up_by : gone ≡ stopped_in pass.seen → length waited ≡ 16 → (other : ℕ) → IsLeastOf waited gone other → GivesUp plan pass.seen name other
+  gives_up_by : gone ≡ stopped_names pass.seen → length waited ≡ 16 → (other : ℕ) → IsLeastOf waited gone other → GivesUp plan pass.seen name other
   gives_up_by known many other least =
       least_waits (node_by plan pass.seen name) pass.seen waited gone other its many
       (λ k. ap (λ (s : List ℕ). has s k) known ∙ (are_stopped (terms_of plan) pass.seen box.lawful).each k) least
 
-  pub nobody_by : gone ≡ stopped_in pass.seen → length waited ≡ 16 → ((place : ℕ) → place < 16 → InBoth waited gone place → ⊥)
+  nobody_by : gone ≡ stopped_names pass.seen → length waited ≡ 16 → ((place : ℕ) → place < 16 → InBoth waited gone place → ⊥)
       → waits_in_vain (node_by plan pass.seen name) pass.seen ≡ false
   nobody_by known many none =
       nobody_waits (node_by plan pass.seen name) pass.seen waited gone its many
       (λ k. ap (λ (s : List ℕ). has s k) known ∙ (are_stopped (terms_of plan) pass.seen box.lawful).each k) none
 
-  pub alone_by : lowest_of waited ≡ None → waits_in_vain (node_by plan pass.seen name) pass.seen ≡ false
-  alone_by none = nobody_there (node_by plan pass.seen name) pass.seen waited its none
+  -- what is found in both sets, or not
+  pub found_by : (found : Option ℕ) → gone ≡ stopped_names pass.seen → length waited ≡ 16 → IfSome found (λ other. IsLeastOf waited gone other)
+      → IfNone found ((place : ℕ) → place < 16 → InBoth waited gone place → ⊥)
+      → IfSome found (GivesUp plan pass.seen name) × IfNone found (waits_in_vain (node_by plan pass.seen name) pass.seen ≡ false)
+  found_by found known many some none = (if_some found (gives_up_by known many) some, if_none found (nobody_by known many) none)
 
 -- ---- what was heard last
 
@@ -282,11 +261,7 @@ last_is_sent terms name number before low follows e =
     (each_keeps (LastSent name) (IsLawful terms) (λ done r lawful so_far. last_next terms name done r low lawful so_far) [] before (inl refl) follows)
   where
     by_number : (n : ℕ) → unless_nought n ≡ Some number → is_nought_or before name n → IsSent before name number
-    by_number zero is p = absurd (true≢false (ap is_none is))
-      where
-        is_none : Option ℕ → Bool
-        is_none None = true
-        is_none (Some k) = false
+    by_number zero is p = absurd (none-some number is)
     by_number (suc n) is p = elim p [
       | inl z ↦ absurd (omega arith)
       | inr s ↦ subst (IsSent before name) (ap or_nought is) s
@@ -304,11 +279,7 @@ one_of (Some l) other = l
 
 pub not_there : (seen : List Record) (name number : ℕ) (found : Option Letter) → found ≡ letter_at (letters_of seen) number → IsSent seen name number
     → found ≡ None → ⊥
-not_there seen name number found is s none = true≢false (ap is_some (sym s.there ∙ sym is ∙ none))
-  where
-    is_some : Option Letter → Bool
-    is_some None = false
-    is_some (Some l) = true
+not_there seen name number found is s none = none-some s.letter (sym none ∙ is ∙ s.there)
 
 pub hears_it : (seen : List Record) (name number : ℕ) (found : Option Letter) (l : Letter) → found ≡ letter_at (letters_of seen) number
     → IsSent seen name number → found ≡ Some l
@@ -327,7 +298,7 @@ hears_it seen name number found l is s got packet =
 
 either_heard : (b c : Bool) (n number : ℕ) (last : Option ℕ) → heard_in (if b then choice.Lose n else if c then again n last else choice.Hear n) ≡ Some number
     → (Some n ≡ Some number) ⊎ (last ≡ Some number)
-either_heard true c n number last e = absurd (nothing_there number e)
+either_heard true c n number last e = absurd (none-some number e)
 either_heard false true n number None e = inl e
 either_heard false true n number (Some l) e = inr e
 either_heard false false n number last e = inl e
@@ -336,7 +307,7 @@ pub choice_sent : (terms : Terms) (seen : List Record) (name far : ℕ) (luck : 
     → ahead ≡ next_for (letters_of seen) name far → last ≡ last_heard name seen → (said : Choice) → said ≡ choice_of luck ahead last → (number : ℕ)
     → heard_in said ≡ Some number
     → IsSent seen name number
-choice_sent terms seen name far luck None last low follows next was said is number e = absurd (nothing_there number (ap heard_in (sym is) ∙ e))
+choice_sent terms seen name far luck None last low follows next was said is number e = absurd (none-some number (ap heard_in (sym is) ∙ e))
 choice_sent terms seen name far luck (Some n) last low follows next was said is number e =
     elim (either_heard _ _ n number last (ap heard_in (sym is) ∙ e)) [
       | inl same ↦ (ahead_is_sent seen name far number (sym next ∙ same)).0

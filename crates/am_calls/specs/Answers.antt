@@ -13,6 +13,12 @@ use Rattle.am_calls.specs.Tags.{is_own, is_turn_part, is_check, own_of}
 
 -- ---- outcomes that are answers
 
+-- that refuses a call
+abbrev pub refusal : Outcome → Option Answer
+refusal said.NotMember = Some answer.NotMember
+refusal said.Leaving = Some answer.Leaving
+refusal _ = None
+
 -- of a ballot
 abbrev pub ballot_answer : Outcome → Option Answer
 ballot_answer (said.Decided number members) = Some (answer.Decided number members)
@@ -20,30 +26,22 @@ ballot_answer (said.TooFew got least) = Some (answer.TooFew got least)
 ballot_answer (said.Crowded base top) = Some (answer.Crowded base top)
 ballot_answer (said.Overtaken by) = Some (answer.Overtaken by)
 ballot_answer (said.NotIn best) = Some (answer.NotIn best)
-ballot_answer said.NotMember = Some answer.NotMember
-ballot_answer said.Leaving = Some answer.Leaving
-ballot_answer _ = None
+ballot_answer outcome = refusal outcome
 
 abbrev pub join_answer : Outcome → Option Answer
 join_answer (said.Joined number) = Some (answer.Joined number)
-join_answer said.NotMember = Some answer.NotMember
 join_answer said.Departed = Some answer.NotMember
-join_answer said.Leaving = Some answer.Leaving
-join_answer _ = None
+join_answer outcome = refusal outcome
 
 abbrev pub leave_answer : Outcome → Option Answer
 leave_answer said.Departed = Some answer.Left
-leave_answer said.Leaving = Some answer.Leaving
-leave_answer said.NotMember = Some answer.NotMember
 leave_answer (said.Busy queued) = Some (answer.Busy queued)
-leave_answer _ = None
+leave_answer outcome = refusal outcome
 
 abbrev pub send_answer : Outcome → Option Answer
 send_answer (said.Sent req number) = Some (answer.Sent req number)
 send_answer (said.Busy queued) = Some (answer.Busy queued)
-send_answer said.NotMember = Some answer.NotMember
-send_answer said.Leaving = Some answer.Leaving
-send_answer _ = None
+send_answer outcome = refusal outcome
 
 abbrev pub take_answer : Outcome → Option Answer
 take_answer (said.Took number entry) = Some (answer.Took number entry)
@@ -56,13 +54,13 @@ stop_answer _ = None
 
 -- of a call's own act
 unfoldable pub own_answer : Act → Outcome → Option Answer
-own_answer (act.Send body) outcome = send_answer outcome
-own_answer act.Take outcome = take_answer outcome
-own_answer act.Join outcome = join_answer outcome
-own_answer act.Leave outcome = leave_answer outcome
-own_answer (act.Reset least resilience) outcome = ballot_answer outcome
-own_answer act.Stop outcome = stop_answer outcome
-own_answer _ outcome = None
+own_answer (act.Send body) = send_answer
+own_answer act.Take = take_answer
+own_answer act.Join = join_answer
+own_answer act.Leave = leave_answer
+own_answer (act.Reset least resilience) = ballot_answer
+own_answer act.Stop = stop_answer
+own_answer _ = λ outcome. None
 
 -- that a leave goes on is no answer at its check
 abbrev pub left_answer : Outcome → Option Answer
@@ -71,11 +69,11 @@ left_answer outcome = leave_answer outcome
 
 -- of the check at a call's end, by the call's own act
 unfoldable pub end_answer : Act → Outcome → Option Answer
-end_answer (act.Send body) outcome = send_answer outcome
-end_answer act.Join outcome = join_answer outcome
-end_answer act.Leave outcome = left_answer outcome
-end_answer (act.Reset least resilience) outcome = ballot_answer outcome
-end_answer _ outcome = None
+end_answer (act.Send body) = send_answer
+end_answer act.Join = join_answer
+end_answer act.Leave = left_answer
+end_answer (act.Reset least resilience) = ballot_answer
+end_answer _ = λ outcome. None
 
 -- ---- the answer of a call
 
@@ -88,12 +86,12 @@ abbrev pub request_in : Outcome → ℕ
 request_in (said.Queued req) = req
 request_in _ = 0
 
-abbrev pub queued_in : Outcome → Option ℕ
-queued_in (said.Queued req) = Some req
-queued_in _ = None
+abbrev pub queued_request : Outcome → Option ℕ
+queued_request (said.Queued req) = Some req
+queued_request _ = None
 
 abbrev pub request_of : Act → Outcome → Option ℕ
-request_of (act.Send body) outcome = queued_in outcome
+request_of (act.Send body) outcome = queued_request outcome
 request_of _ outcome = None
 
 -- the request of a send that was queued, by its own act

@@ -28,7 +28,7 @@ use Rattle.am_wire.specs.declared.wire.WireRefusal.TheVariants as refusals
 use Rattle.am_wire.specs.Passes.{Known}
 use Rattle.am_wire.specs.Seats.{Follows, GoesOn}
 use Rattle.am_wire.specs.Stops.{has_stopped}
-use Rattle.am_calls.specs.Told.{told}
+use Rattle.am_calls.specs.Told.{world_after}
 use Rattle.am_calls.specs.Turns.{cursor, last_heard, is_waited, is_least, waits_in_vain, is_turn}
 use Rattle.am_pump.specs.declared.chooser.Choice.{Choice}
 use Rattle.am_pump.specs.declared.chooser.Choice.TheVariants as choice
@@ -91,7 +91,7 @@ pub record Boxed : Type 0 where
 
 -- the node is that of what its pass has seen
 pub record Keeps (plan : RacePlan) (name : ℕ) (seen : List Record) (m : Node) : Type 0 where
-  pub end : IsEndOf ((told plan.founding seen).nodes name) m
+  pub end : IsEndOf ((world_after plan.founding seen).nodes name) m
   pub order : IsInOrder m.core
 
 -- how far the place has come, and whether its node stopped, are those of its records
@@ -147,9 +147,9 @@ IsRefused seen name answer.Spent = length seen ≡ most_events
 IsRefused seen name answer.NoMemory = Unit {0}
 IsRefused seen name _ = ⊥
 
-abbrev pub refused : WireRefusal → Answer
-refused refusals.NoMemory = answer.NoMemory
-refused refusals.Spent = answer.Spent
+abbrev pub refusal_answer : WireRefusal → Answer
+refusal_answer refusals.NoMemory = answer.NoMemory
+refusal_answer refusals.Spent = answer.Spent
 
 -- the same box, which has seen more, without a record of its place
 pub record Looks (old new : Boxed) : Type 0 where
@@ -161,7 +161,7 @@ pub record Looks (old new : Boxed) : Type 0 where
 
 -- the node of a name, by these records
 abbrev pub node_by : RacePlan → List Record → ℕ → Node
-node_by plan seen name = (told plan.founding seen).nodes name
+node_by plan seen name = (world_after plan.founding seen).nodes name
 
 -- the least name that the node waits for and that has stopped
 abbrev pub GivesUp : RacePlan → List Record → ℕ → ℕ → Type 0

@@ -2,6 +2,8 @@
 use Rattle.std.specs.Prelude.{◌≡◌, ℕ, ◌+◌, ◌≤◌, List, [], ◌∷◌, ◌++◌, length, max, Option, Some, None, is_some, Bool, true, false, ◌==◌, nat_lt}
 use Rattle.std.specs.Prelude.{if◌then◌else◌}
 use Rattle.std.specs.List.{list_all}
+use Rattle.atomic_table.specs.Seated.{TableId}
+use Rattle.am_base.specs.Most.{most_events}
 use Rattle.am_base.specs.declared.outcome.Outcome.{Outcome}
 use Rattle.am_base.specs.declared.outcome.Outcome.TheVariants as said
 use Rattle.am_base.specs.Names.{place_of}
@@ -16,9 +18,11 @@ use Rattle.am_base.specs.declared.event.NodeEvent.{NodeEvent}
 use Rattle.am_model.specs.Claims.{heard_by}
 use Rattle.am_model.specs.Node.{Node}
 use Rattle.am_model.specs.Step.{step}
-use Rattle.am_pump.specs.Choices.{Luck, drawn}
+use Rattle.am_pump.specs.Choices.{Luck, after_draw}
 use Rattle.am_wire.specs.declared.rule.Key.TheVariants.{Caller}
+use Rattle.am_wire.specs.Passes.{Known}
 use Rattle.am_wire.specs.Seats.{StartsWith, GoesOn}
+use Rattle.am_wire.specs.Stops.{has_stopped}
 use Rattle.am_calls.specs.declared.answer.Answer.{Answer}
 use Rattle.am_calls.specs.declared.answer.Answer.TheVariants as answer
 use Rattle.am_calls.specs.declared.caller.Tag.{Tag}
@@ -28,8 +32,9 @@ use Rattle.am_calls.specs.declared.ready.Came.{Came}
 use Rattle.am_calls.specs.Tags.{of_caller, is_own, is_turn_part}
 use Rattle.am_calls.specs.Answers.{own_answer, end_answer, request_in, request_of, is_take}
 use Rattle.am_calls.specs.Callers.{is_one_call}
-use Rattle.am_calls.specs.Callings.{IsAnswer}
-use Rattle.am_calls.specs.Boxes.{IsRefused, IsRecord, what_of, node_by}
+use Rattle.am_calls.specs.Callings.{IsAnswer, IsHand}
+use Rattle.am_calls.specs.Plans.{has_check}
+use Rattle.am_calls.specs.Boxes.{Boxed, IsRefused, IsRecord, what_of, node_by}
 use Rattle.am_calls.specs.Ready.{round_in}
 
 -- ---- a call's parts
@@ -37,14 +42,6 @@ use Rattle.am_calls.specs.Ready.{round_in}
 -- the tag of a record of a call
 abbrev pub by_of : Tag → Part → By
 by_of tag part = record { caller = tag.caller; call = tag.call; part = part }
-
--- the calls that end with a check
-abbrev pub has_check : Act → Bool
-has_check (act.Send body) = true
-has_check act.Join = true
-has_check act.Leave = true
-has_check (act.Reset least resilience) = true
-has_check _ = false
 
 -- what a call does at its end, by what came of its own act
 abbrev pub end_act : Act → Option Came → Act
@@ -89,9 +86,17 @@ HasBegun a (Some came) first = (has_check a ≡ true) × (own_answer a came.outc
 
 -- one word was drawn where the turn heard or lost a letter, and none where it didn't
 abbrev pub luck_behind : Luck → Act → ℕ → Luck
-luck_behind luck a lost = if nat_lt 0 (max (heard_by a) lost) then record luck { words = drawn luck.words } else luck
+luck_behind luck a lost = if nat_lt 0 (max (heard_by a) lost) then record luck { words = after_draw luck.words } else luck
 
 -- ---- one look
+
+-- a caller's hand at an open box that runs, of which it has seen as much as the box
+pub record Meets (wire : TableId) (plan : RacePlan) (caller : ℕ) (box : Boxed) (share : Known) (luck : Luck) : Type 0 where
+  pub hand : IsHand wire plan caller share luck
+  pub open_ : box.closed ≡ None
+  pub runs : has_stopped box.seen box.name ≡ false
+  pub few : length box.seen ≤ most_events
+  pub same : share.seen ≡ box.seen
 
 -- a record stands behind what a caller had seen and the others' records since, and the caller has seen it
 pub record Grown (caller : ℕ) (old new : List Record) (item : Record) : Type 0 where
@@ -132,24 +137,32 @@ pub record Began (name : ℕ) (tag : Tag) (a : Act) (came : Came) (old new : Lis
   pub own : IsOwn a came item
   pub stops : a ≡ act.Stop → came.outcome ≡ said.Stopped
 
--- a turn was made
-pub record Turned (name : ℕ) (tag : Tag) (outcome : Outcome) (old new : List Record) : Type 0 where
-  pub item : Record
-  pub grown : Grown tag.caller old new item
+-- the record of a turn
+pub record IsTurned (name : ℕ) (tag : Tag) (outcome : Outcome) (item : Record) : Type 0 where
   pub node : item.event.node ≡ name
   pub caller : item.by.caller ≡ tag.caller
   pub call : item.by.call ≡ tag.call
   pub part : is_turn_part item.by.part ≡ true
   pub came : item.outcome ≡ outcome
 
--- the end was made
-pub record Ended (name : ℕ) (tag : Tag) (a : Act) (came : Option Came) (outcome : Outcome) (old new : List Record) : Type 0 where
+-- a turn was made
+pub record Turned (name : ℕ) (tag : Tag) (outcome : Outcome) (old new : List Record) : Type 0 where
   pub item : Record
   pub grown : Grown tag.caller old new item
+  pub is : IsTurned name tag outcome item
+
+-- the record of an end
+pub record IsEnded (name : ℕ) (tag : Tag) (a : Act) (came : Option Came) (outcome : Outcome) (item : Record) : Type 0 where
   pub node : item.event.node ≡ name
   pub act_ : item.event.act ≡ end_act a came
   pub by_ : item.by ≡ by_of tag (end_part a)
   pub told : item.outcome ≡ outcome
+
+-- the end was made
+pub record Ended (name : ℕ) (tag : Tag) (a : Act) (came : Option Came) (outcome : Outcome) (old new : List Record) : Type 0 where
+  pub item : Record
+  pub grown : Grown tag.caller old new item
+  pub is : IsEnded name tag a came outcome item
 
 -- a look was a turn
 abbrev pub HasSpent : ℕ → Tag → List Record → List Record → Looked → Type 0

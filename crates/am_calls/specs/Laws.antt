@@ -11,11 +11,11 @@ use Rattle.am_wire.specs.declared.rule.Key.TheVariants.{Place, Caller}
 use Rattle.am_wire.specs.declared.rule.Terms.{Terms}
 use Rattle.am_wire.specs.Keys.{of_key}
 use Rattle.am_wire.specs.Seats.{Follows}
-use Rattle.am_wire.specs.Stops.{stopped_in, has_stopped}
-use Rattle.am_calls.specs.Told.{told, IsNext}
+use Rattle.am_wire.specs.Stops.{stopped_names, has_stopped}
+use Rattle.am_calls.specs.Told.{world_after, IsNext}
 use Rattle.am_calls.specs.Turns.{is_turn}
 use Rattle.am_calls.specs.Lawful.{IsLawful}
-use Rattle.am_calls.specs.Tags.{of_place, of_caller, of_call, known}
+use Rattle.am_calls.specs.Tags.{of_place, of_caller, of_call, up_to_last}
 
 -- a journal is legal where each record is what its event gives behind those before it
 abbrev pub EachIsNext : Type 0
@@ -25,12 +25,12 @@ EachIsNext = (rules : Rules) (journal : List Record) → IsLegal rules journal
 -- a record of another place leaves a name's node, and the life of its place
 abbrev pub OthersStay : Type 0
 OthersStay = (rules : Rules) (before : List Record) (r : Record) (name : ℕ) → place_of name ≢ place_of r.event.node
-    → ((told rules (before ++ r ∷ [])).nodes name ≡ (told rules before).nodes name)
-    × ((told rules (before ++ r ∷ [])).lives (place_of name) ≡ (told rules before).lives (place_of name))
+    → ((world_after rules (before ++ r ∷ [])).nodes name ≡ (world_after rules before).nodes name)
+    × ((world_after rules (before ++ r ∷ [])).lives (place_of name) ≡ (world_after rules before).lives (place_of name))
 
 -- what is known, what a place and a caller did, and the records of a call are the same
 pub record IsLeft (at by number : ℕ) (before after : List Record) : Type 0 where
-  pub known : known at by after ≡ known at by before
+  pub known : up_to_last at by after ≡ up_to_last at by before
   pub place : of_place at after ≡ of_place at before
   pub caller : of_caller by after ≡ of_caller by before
   pub call : of_call by number after ≡ of_call by number before
@@ -52,7 +52,7 @@ TurnsStay = (plan : RacePlan) (before more : List Record) (e : Event) (by : By) 
 
 -- in a lawful journal the set of the names that stopped has just those names
 abbrev pub StoppedAreKnown : Type 0
-StoppedAreKnown = (terms : Terms) (before : List Record) (name : ℕ) → Follows (IsLawful terms) before → has (stopped_in before) name ≡ has_stopped before name
+StoppedAreKnown = (terms : Terms) (before : List Record) (name : ℕ) → Follows (IsLawful terms) before → has (stopped_names before) name ≡ has_stopped before name
 
 -- the records of a place and of a caller are those of their keys
 pub record HaveKeys (records : List Record) : Type 0 where

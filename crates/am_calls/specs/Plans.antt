@@ -21,15 +21,19 @@ calls_of plan caller = calls_in (slice_get plan.threads caller)
 abbrev pub most_records : RacePlan → ℕ
 most_records plan = sum_by (λ (thread : ThreadPlan). length thread.calls) plan.threads * (plan.turns + 2)
 
--- the acts that are calls
+-- the calls that end with a check
+abbrev pub has_check : Act → Bool
+has_check (act.Send body) = true
+has_check act.Join = true
+has_check act.Leave = true
+has_check (act.Reset least resilience) = true
+has_check _ = false
+
+-- the acts that are calls: those, a receive, and a stop
 abbrev pub is_call : Act → Bool
-is_call (act.Send body) = true
 is_call act.Take = true
-is_call act.Join = true
-is_call act.Leave = true
-is_call (act.Reset least resilience) = true
 is_call act.Stop = true
-is_call _ = false
+is_call other = has_check other
 
 abbrev pub has_calls : RacePlan → Bool
 has_calls plan = list_all (λ (thread : ThreadPlan). list_all is_call thread.calls) plan.threads

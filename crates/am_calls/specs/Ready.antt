@@ -18,9 +18,9 @@ use Rattle.am_node.specs.Info.{ballot_end}
 use Rattle.am_calls.specs.Answers.{ballot_answer}
 
 -- the round of an Invite
-abbrev pub invited : Packet → Option ℕ
-invited (packets.Invite sender stamp) = Some stamp.round
-invited _ = None
+abbrev pub invite_round : Packet → Option ℕ
+invite_round (packets.Invite sender stamp) = Some stamp.round
+invite_round _ = None
 
 abbrev pub or_else_round : Option ℕ → ℕ → ℕ
 or_else_round None other = other
@@ -29,7 +29,7 @@ or_else_round (Some round) other = round
 -- the round of the ballot whose Invite went out
 abbrev pub round_in : List Letter → ℕ
 round_in [] = 0
-round_in (letter ∷ letters) = or_else_round (invited letter.packet) (round_in letters)
+round_in (letter ∷ letters) = or_else_round (invite_round letter.packet) (round_in letters)
 
 -- a ballot that is over has an answer
 abbrev pub is_ended : Option BallotEnd → Bool

@@ -43,6 +43,6 @@ abbrev pub is_either : ℕ → ℕ → Record → Bool
 is_either place caller r = (place_of r.event.node == place) || (r.by.caller == caller)
 
 -- the records up to the last one of a place or of a caller
-unfoldable pub known : ℕ → ℕ → List Record → List Record
-known place caller [] = []
-known place caller (r ∷ rs) = if list_any (is_either place caller) (r ∷ rs) then r ∷ known place caller rs else []
+unfoldable pub up_to_last : ℕ → ℕ → List Record → List Record
+up_to_last place caller [] = []
+up_to_last place caller (r ∷ rs) = if list_any (is_either place caller) (r ∷ rs) then r ∷ up_to_last place caller rs else []

@@ -20,10 +20,10 @@ use Rattle.am_model.specs.World.{World, current}
 use Rattle.am_node.specs.Info.{waited_for}
 use Rattle.am_pump.specs.declared.chooser.Choice.{Choice}
 use Rattle.am_pump.specs.declared.chooser.Choice.TheVariants as choice
-use Rattle.am_pump.specs.Choices.{words_of, drawn, choice_of}
+use Rattle.am_pump.specs.Choices.{words_of, after_draw, choice_of}
 use Rattle.am_wire.specs.Stops.{has_stopped}
-use Rattle.am_calls.specs.Told.{told}
-use Rattle.am_calls.specs.Tags.{of_place, of_caller, of_call, own_of, is_turn_part, known}
+use Rattle.am_calls.specs.Told.{world_after}
+use Rattle.am_calls.specs.Tags.{of_place, of_caller, of_call, own_of, is_turn_part, up_to_last}
 use Rattle.am_calls.specs.Ready.{is_ready}
 
 -- ---- how far a place has come with its letters
@@ -35,15 +35,15 @@ lost_by (Turn lost) = lost
 lost_by Check = 0
 
 -- the letter that a record heard or lost, or 0
-abbrev pub passed : Record → ℕ
-passed r = max (heard_by r.event.act) (lost_by r.by.part)
+abbrev pub passed_number : Record → ℕ
+passed_number r = max (heard_by r.event.act) (lost_by r.by.part)
 
 abbrev pub greatest : List ℕ → ℕ
 greatest numbers = fold max 0 numbers
 
 -- the last letter that a place heard or lost, of those in their order
 abbrev pub cursor : ℕ → List Record → ℕ
-cursor place records = greatest (map passed (of_place place records))
+cursor place records = greatest (map passed_number (of_place place records))
 
 abbrev pub unless_nought : ℕ → Option ℕ
 unless_nought zero = None
@@ -61,15 +61,15 @@ last_heard place records = unless_nought (greatest (map (λ r. heard_by r.event.
 
 -- how many words a caller's turns drew: one for each letter heard or lost
 abbrev pub words_drawn : ℕ → List Record → ℕ
-words_drawn caller records = count_by (λ r. is_turn_part r.by.part && nat_lt 0 (passed r)) (of_caller caller records)
+words_drawn caller records = count_by (λ r. is_turn_part r.by.part && nat_lt 0 (passed_number r)) (of_caller caller records)
 
 unfoldable pub later : ℕ → Lcg → Lcg
 later zero words = words
-later (suc count) words = drawn (later count words)
+later (suc count) words = after_draw (later count words)
 
 -- what the chooser of a caller says after so many words
-abbrev pub chosen : RacePlan → ℕ → ℕ → Option ℕ → Option ℕ → Choice
-chosen plan caller count ahead last = choice_of (record { words = later count (words_of plan.seed_number caller); loss = plan.loss; repeat = plan.repeat })
+abbrev pub choice_after : RacePlan → ℕ → ℕ → Option ℕ → Option ℕ → Choice
+choice_after plan caller count ahead last = choice_of (record { words = later count (words_of plan.seed_number caller); loss = plan.loss; repeat = plan.repeat })
     ahead last
 
 -- an act, with the letter that it lost, is what a choice says
@@ -96,7 +96,7 @@ waits_in_vain m records = list_any (is_waited m records) (names_of (waited_for m
 -- a choice by the letters of all records
 abbrev pub is_choice : RacePlan → List Record → ℕ → ℕ → ℕ → Act → ℕ → Bool
 is_choice plan before place name caller does lost =
-    follows (chosen plan caller (words_drawn caller before) (next_for (letters_of before) name (cursor place before)) (last_heard place before)) does lost
+    follows (choice_after plan caller (words_drawn caller before) (next_for (letters_of before) name (cursor place before)) (last_heard place before)) does lost
 
 -- a tick that lost nothing needs no letter in what was known; every other turn is the choice
 abbrev pub is_turn_of : RacePlan → List Record → List Record → Node → ℕ → ℕ → Act → ℕ → Bool
@@ -112,8 +112,8 @@ is_turn_of plan before knew m name caller _ lost = false
 abbrev pub turns_at : RacePlan → List Record → World → ℕ → Event → By → Bool
 turns_at plan before w name e by =
     not (is_ready (w.nodes name) (own_of (of_call by.caller by.call before)))
-    && is_turn_of plan before (known (place_of name) by.caller before) (w.nodes name) name by.caller e.act (lost_by by.part)
+    && is_turn_of plan before (up_to_last (place_of name) by.caller before) (w.nodes name) name by.caller e.act (lost_by by.part)
 
 -- behind these records, an event with this tag is a turn of its call, which isn't ready
 unfoldable pub is_turn : RacePlan → List Record → Event → By → Bool
-is_turn plan before e by = turns_at plan before (told plan.founding before) (current (told plan.founding before) (place_of e.node)) e by
+is_turn plan before e by = turns_at plan before (world_after plan.founding before) (current (world_after plan.founding before) (place_of e.node)) e by

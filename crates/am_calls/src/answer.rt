@@ -1,6 +1,10 @@
+ghost use Rattle.std.specs.Prelude.{◌≡◌};
+ghost use Rattle.am_calls.specs.Ran.{refusal_in};
+
 use am_base::entry::Entry;
 use am_base::name::Stamp;
 use am_base::names::Names;
+use am_wire::wire::WireRefusal;
 
 /// What a blocking call answers.
 #[derive(Drop, Debug)]
@@ -41,4 +45,17 @@ pub enum Answer {
     Spent,
     /// There was no memory.
     NoMemory,
+}
+
+impl Answer {
+    /// The refusal that it is, if it is one.
+    pub fn as_refusal(&self) -> Option<WireRefusal>
+        ensures { result ≡ refusal_in self.now }
+    {
+        match self {
+            Answer::NoMemory => Some(WireRefusal::NoMemory),
+            Answer::Spent => Some(WireRefusal::Spent),
+            _ => None,
+        }
+    }
 }

@@ -1,6 +1,4 @@
-ghost use Rattle.std.specs.Prelude.{◌≡◌, ◌≤◌, [], ◌∷◌, IfOk, vec_len, map, length, All};
-ghost use Rattle.am_model.specs.World.{first_node};
-ghost use Rattle.am_node.specs.Stands.{state_of};
+ghost use Rattle.std.specs.Prelude.{◌≡◌, ◌<◌, ◌≤◌, [], ◌∷◌, IfOk, vec_len, map, length, All};
 ghost use Rattle.am_wire.specs.declared.rule.Key.TheVariants.{Place};
 ghost use Rattle.am_wire.specs.Keys.{place_keys, caller_keys};
 ghost use Rattle.am_wire.specs.Passes.{fresh};
@@ -19,14 +17,23 @@ use am_wire::wire::{Pass, Share, Wire};
 use std::alloc::Global;
 use std::sync::{Mutex, Wait};
 
-/// A founder, or a name that no one has seen.
-fn first_node(alloc: Global, name: Name, founding: &Founding) -> Result<Node, NoMemory>
-    ensures { IfOk result (λ n. state_of n ≡ first_node founding.now name) }
+/// The box of a place, with its pass: of a founder, or of a name that no one has seen.
+fn box_of<N: Racing>(
+    alloc: Global,
+    founding: &Founding,
+    place: usize,
+    pass: Pass,
+) -> Result<NodeBox<N>, NoMemory>
+    requires founding { founding.now ≡ N.plan.founding }
+    requires its { (place < 16) × (pass ≡ fresh N.wire (terms_of N.plan) (Place place)) }
 {
-    if founding.founders().has(name) {
-        return Node::founder(alloc, name, founding);
-    }
-    Node::stranger(alloc, name, founding)
+    let name = Name::of_byte(place as u8);
+    let node = if founding.founders().has(name) {
+        Node::founder(alloc, name, founding)?
+    } else {
+        Node::stranger(alloc, name, founding)?
+    };
+    Ok(NodeBox::new(name, node, pass))
 }
 
 /// The boxes of the sixteen places, each with its pass.
@@ -41,9 +48,8 @@ pub fn boxes_of<N: Racing>(
 {
     let mut boxes = Vec::with_capacity(alloc, 16)?;
     for pass in passes {
-        let name = Name::of_byte(boxes.len() as u8);
-        let node = first_node(alloc, name, founding)?;
-        boxes.push(Mutex::new(NodeBox::new(name, node, pass)))?;
+        let node_box = box_of(alloc, founding, boxes.len(), pass)?;
+        boxes.push(Mutex::new(node_box))?;
     }
     Ok(boxes)
 }

@@ -1,5 +1,6 @@
 use am_base::name::Name;
 use am_group::event::By;
+use std::sync::atomic::{AtomicBool, Ordering};
 
 /// What is done under a node's lock, between a look and the act that it finds. A test waits there until another thread is
 /// there too.
@@ -13,4 +14,42 @@ pub struct NoGate;
 
 impl Gate for NoGate {
     fn between(&self, _node: Name, _by: &By) {}
+}
+
+/// How often a node at a meeting looks for the other.
+const MOST_LOOKS: u32 = 100_000_000;
+
+/// Each of two nodes, one at an even place and one at an odd place, waits until the other is there too.
+#[derive(Drop)]
+pub struct Meeting {
+    here: [AtomicBool; 2],
+    met: [AtomicBool; 2],
+}
+
+impl Meeting {
+    /// A meeting where nobody is yet.
+    pub fn new() -> Meeting {
+        Meeting {
+            here: [AtomicBool::new(false), AtomicBool::new(false)],
+            met: [AtomicBool::new(false), AtomicBool::new(false)],
+        }
+    }
+
+    /// Whether each of the two has seen the other there.
+    pub fn has_met(&self) -> bool {
+        self.met[0].load(Ordering::SeqCst) && self.met[1].load(Ordering::SeqCst)
+    }
+}
+
+impl Gate for Meeting {
+    fn between(&self, node: Name, _by: &By) {
+        let mine = usize::from(node.place() % 2);
+        self.here[mine].store(true, Ordering::SeqCst);
+        for _ in 0..MOST_LOOKS {
+            if self.here[1 - mine].load(Ordering::SeqCst) {
+                self.met[mine].store(true, Ordering::SeqCst);
+                return;
+            }
+        }
+    }
 }

@@ -1,29 +1,27 @@
-ghost use Rattle.std.specs.Prelude.{◌≡◌, ◌+◌, ◌<◌, ◌≤◌, [], ◌∷◌, Some, slice_get, IfOk, IfErr, true, vec_len, map, length, All};
+ghost use Rattle.std.specs.Prelude.{◌≡◌, ◌+◌, ◌<◌, ◌≤◌, [], ◌∷◌, IfOk, IfErr, true, vec_len, map, length, All};
 ghost use Rattle.std.specs.List.{range_with_len};
 ghost use Rattle.am_base.specs.Names.{place_of};
 ghost use Rattle.am_group.specs.declared.event.Act.TheVariants as acts;
-ghost use Rattle.am_model.specs.World.{first_node};
 ghost use Rattle.am_node.specs.Info.{info_of};
-ghost use Rattle.am_node.specs.Stands.{state_of};
-ghost use Rattle.am_wire.specs.declared.rule.Key.TheVariants.{Place, Caller as CallerKey};
+ghost use Rattle.am_wire.specs.declared.rule.Key.TheVariants.{Caller as CallerKey};
 ghost use Rattle.am_wire.specs.Keys.{place_keys, caller_keys};
 ghost use Rattle.am_wire.specs.Passes.{Sees, fresh};
 ghost use Rattle.am_wire.specs.Seats.{GoesOn};
 ghost use Rattle.am_calls.specs.Boxes.{node_by};
-ghost use Rattle.am_calls.specs.Callings.{Called, IsHand};
+ghost use Rattle.am_calls.specs.Callings.{Called, IsHand, MayCall};
 ghost use Rattle.am_calls.specs.Going.{IsCame, HasBegun, Began, HasLooked, WasRefused, Made};
 ghost use Rattle.am_calls.specs.Tags.{of_call, own_of};
 ghost use Rattle.am_calls.specs.Lawful.{terms_of};
 ghost use Rattle.am_calls.specs.Legal.{IsLegalWithTags};
 ghost use Rattle.am_calls.specs.Plans.{calls_of, is_call};
-ghost use Rattle.am_calls.specs.Ran.{fresh_callers, numbers_of, EndsFor, HasPlaces, IsIn};
+ghost use Rattle.am_calls.specs.Ran.{fresh_callers, numbers_of, EndsFor};
 
 use crate::answer::Answer;
 use crate::caller::{Caller, Hand, Tag};
 use crate::dealing::{all_places, boxes_of, callers_of, with_callers};
 use crate::gate::Gate;
 use crate::naming::{RaceLaw, Racing};
-use crate::node_box::{Looked, NodeBox};
+use crate::node_box::{Looked, NodeBox, Visit};
 use crate::outcomes::{answer_at_end, is_take, late_after, own_answer, request_in_call};
 use crate::ready::Came;
 use am_base::NoMemory;
@@ -85,6 +83,20 @@ impl<'g, N: Racing, G: Gate> Kernels<'g, N, G> {
         Ok((kernels, callers))
     }
 
+    /// What a call of this tag looks at a node with.
+    fn visit<'a, R>(&'a self, rt: &'a R, tag: Tag) -> Visit<'a, R, G>
+        ensures wire { result.wire.now.id ≡ N.wire }
+        ensures tag { result.tag ≡ tag }
+    {
+        Visit {
+            rt,
+            alloc: self.alloc,
+            wire: &self.wire,
+            gate: self.gate,
+            tag,
+        }
+    }
+
     /// The first look of a call that is no receive: its own act.
     fn begin<R: Wait>(
         &self,
@@ -105,7 +117,7 @@ impl<'g, N: Racing, G: Gate> Kernels<'g, N, G> {
         for _ in rt.forever() {
             let mut guard = self.boxes[usize::from(node.place())].lock(rt);
             if guard.name().place() == node.place() {
-                return guard.begin(rt, self.alloc, &self.wire, self.gate, hand, tag, act);
+                return guard.begin(&self.visit(rt, tag), hand, act);
             }
         }
         unreachable!()
@@ -135,9 +147,7 @@ impl<'g, N: Racing, G: Gate> Kernels<'g, N, G> {
         for _ in rt.forever() {
             let mut guard = self.boxes[usize::from(node.place())].lock(rt);
             if guard.name().place() == node.place() {
-                return guard.look(
-                    rt, self.alloc, &self.wire, self.gate, hand, tag, act, came, has_turn,
-                );
+                return guard.look(&self.visit(rt, tag), hand, act, came, has_turn);
             }
         }
         unreachable!()
@@ -201,10 +211,8 @@ impl<'g, N: Racing, G: Gate> Kernels<'g, N, G> {
     /// Makes a call, which is the caller's next planned one, and answers by its records (docs/PROTOCOL.md, "Races"). It ends
     /// after its own act, at most as many turns as the race says, and its check.
     pub fn make<R: Wait>(&self, rt: &R, caller: &mut Caller<N>, node: Name, act: &Act) -> Answer
-        requires planned { slice_get (calls_of N.plan caller.old.number) caller.old.calls
-            ≡ Some act.now }
+        requires next { MayCall N.plan caller.old act.now }
         requires call { is_call act.now ≡ true }
-        requires room { caller.old.calls < 4294967295 }
         ensures { Called N.plan node caller.old caller.new result }
     {
         let tag = caller.next_call();
@@ -215,9 +223,7 @@ impl<'g, N: Racing, G: Gate> Kernels<'g, N, G> {
 
     /// Sends a body to the group. Sent with its number in the list; Late or PutOff where its turns were used before.
     pub fn send<R: Wait>(&self, rt: &R, caller: &mut Caller<N>, node: Name, body: Body) -> Answer
-        requires planned { slice_get (calls_of N.plan caller.old.number) caller.old.calls
-            ≡ Some (acts.Send body) }
-        requires room { caller.old.calls < 4294967295 }
+        requires { MayCall N.plan caller.old (acts.Send body) }
         ensures { Called N.plan node caller.old caller.new result }
     {
         match Act::send(self.alloc, body) {
@@ -231,9 +237,7 @@ impl<'g, N: Racing, G: Gate> Kernels<'g, N, G> {
 
     /// Takes the next accepted entry. Took with it; Late where its turns were used before there was one.
     pub fn receive<R: Wait>(&self, rt: &R, caller: &mut Caller<N>, node: Name) -> Answer
-        requires planned { slice_get (calls_of N.plan caller.old.number) caller.old.calls
-            ≡ Some acts.Take }
-        requires room { caller.old.calls < 4294967295 }
+        requires { MayCall N.plan caller.old acts.Take }
         ensures { Called N.plan node caller.old caller.new result }
     {
         self.make(rt, caller, node, &Act::Take)
@@ -241,9 +245,7 @@ impl<'g, N: Racing, G: Gate> Kernels<'g, N, G> {
 
     /// Joins the group. Joined with the number of its Join; Late where its turns were used before.
     pub fn join<R: Wait>(&self, rt: &R, caller: &mut Caller<N>, node: Name) -> Answer
-        requires planned { slice_get (calls_of N.plan caller.old.number) caller.old.calls
-            ≡ Some acts.Join }
-        requires room { caller.old.calls < 4294967295 }
+        requires { MayCall N.plan caller.old acts.Join }
         ensures { Called N.plan node caller.old caller.new result }
     {
         self.make(rt, caller, node, &Act::Join)
@@ -251,9 +253,7 @@ impl<'g, N: Racing, G: Gate> Kernels<'g, N, G> {
 
     /// Leaves the group. Left, or Late where its turns were used before.
     pub fn leave<R: Wait>(&self, rt: &R, caller: &mut Caller<N>, node: Name) -> Answer
-        requires planned { slice_get (calls_of N.plan caller.old.number) caller.old.calls
-            ≡ Some acts.Leave }
-        requires room { caller.old.calls < 4294967295 }
+        requires { MayCall N.plan caller.old acts.Leave }
         ensures { Called N.plan node caller.old caller.new result }
     {
         self.make(rt, caller, node, &Act::Leave)
@@ -268,9 +268,7 @@ impl<'g, N: Racing, G: Gate> Kernels<'g, N, G> {
         least: u8,
         resilience: u8,
     ) -> Answer
-        requires planned { slice_get (calls_of N.plan caller.old.number) caller.old.calls
-            ≡ Some (acts.Reset least resilience) }
-        requires room { caller.old.calls < 4294967295 }
+        requires { MayCall N.plan caller.old (acts.Reset least resilience) }
         ensures { Called N.plan node caller.old caller.new result }
     {
         self.make(rt, caller, node, &Act::Reset { least, resilience })
@@ -278,9 +276,7 @@ impl<'g, N: Racing, G: Gate> Kernels<'g, N, G> {
 
     /// Stops the node for good.
     pub fn stop<R: Wait>(&self, rt: &R, caller: &mut Caller<N>, node: Name) -> Answer
-        requires planned { slice_get (calls_of N.plan caller.old.number) caller.old.calls
-            ≡ Some acts.Stop }
-        requires room { caller.old.calls < 4294967295 }
+        requires { MayCall N.plan caller.old acts.Stop }
         ensures { Called N.plan node caller.old caller.new result }
     {
         self.make(rt, caller, node, &Act::Stop)

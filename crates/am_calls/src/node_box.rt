@@ -1,7 +1,6 @@
 ghost use Rattle.std.specs.Prelude.{◌≡◌, ℕ, ◌<◌, ◌≤◌, [], ◌∷◌, None, Some, length, IfOk, IfErr, IfSome, IfNone, OnOk, OnErr, Option, true, false};
 ghost use Rattle.std.specs.Option.{option_copied};
 ghost use Rattle.am_base.specs.Most.{most_events};
-ghost use Rattle.am_model.specs.Claims.{heard_by};
 ghost use Rattle.am_model.specs.World.{first_node};
 ghost use Rattle.am_node.specs.Info.{info_of};
 ghost use Rattle.am_node.specs.Stands.{state_of};
@@ -11,16 +10,16 @@ ghost use Rattle.am_wire.specs.declared.wire.WireRefusal.TheVariants as refusals
 ghost use Rattle.am_wire.specs.Seats.{GoesOn};
 ghost use Rattle.am_wire.specs.Passes.{Sees, fresh};
 ghost use Rattle.am_wire.specs.Stops.{has_stopped};
-ghost use Rattle.am_calls.specs.Boxes.{what_of, MayAct, IsShareOf, IsTurn, Acted, IsRefused, Looks, refused, Hears, GivesUp, node_by, heard_in, lost_in, Picked, is_turn_act, Found, event_at, turn_by};
+ghost use Rattle.am_calls.specs.Boxes.{what_of, MayAct, IsShareOf, IsTurn, Acted, IsRefused, Looks, refusal_answer, Hears, GivesUp, node_by, heard_in, lost_in, Picked, is_turn_act, Found, event_at, turn_by};
 ghost use Rattle.am_calls.specs.Callings.{IsHand, luck_after};
-ghost use Rattle.am_calls.specs.Going.{end_act, end_part, luck_behind, is_asked, ToldBy, Asked, IsCame, EndTells, Began, HasSpent, HasEnded, HasLooked, WasRefused};
+ghost use Rattle.am_calls.specs.Going.{end_act, end_part, luck_behind, is_asked, ToldBy, Asked, IsCame, EndTells, Began, HasSpent, HasEnded, HasLooked, WasRefused, Meets};
 ghost use Rattle.am_calls.specs.Plans.{is_call};
 ghost use Rattle.am_calls.specs.Ready.{is_ready};
 ghost use Rattle.am_calls.specs.Tags.{of_call, own_of, is_turn_part};
 ghost use Rattle.am_pump.specs.Choices.{act_of};
 ghost use Rattle.am_group.specs.declared.event.Act.TheVariants as acts;
 ghost use Rattle.am_calls.specs.Lawful.{IsSent, plan_by, terms_of};
-ghost use Rattle.am_calls.specs.Turns.{lost_by, waits_in_vain, words_drawn, is_turn};
+ghost use Rattle.am_calls.specs.Turns.{waits_in_vain, words_drawn, is_turn};
 
 use crate::answer::Answer;
 use crate::caller::{Hand, Tag};
@@ -29,8 +28,8 @@ use crate::naming::{RaceLaw, Racing};
 use crate::outcomes::{is_take, request_in};
 use crate::ready::{Came, is_ready_after, may_take, round_in};
 use crate::steps::{
-    Room, copied, cursor_after, heard_by, last_after, least_of_both, lost_by, room_for, step,
-    stops_by,
+    Room, blank, copy_into, cursor_after, heard_by, last_after, least_of_both, lost_by, room_for,
+    step, stops_by,
 };
 use am_base::NoMemory;
 use am_base::boxed::Boxed;
@@ -89,8 +88,19 @@ impl<N: Racing> Model for NodeBox<N> {
     ghost invariant = { λ b. IsBox N.wire N.plan b.name b.pass (state_of b.node) b.cursor b.last b.is_stopped b.closed };
 }
 
+/// What a look at a node is made with, besides its caller's hand: what waits, where its record's memory is from, the journal,
+/// what is done between the look and its act, and whose call it is.
+#[derive(Drop)]
+pub struct Visit<'a, R, G> {
+    pub rt: &'a R,
+    pub alloc: Global,
+    pub wire: &'a Wire<RaceLaw>,
+    pub gate: &'a G,
+    pub tag: Tag,
+}
+
 fn answer_of(refusal: WireRefusal) -> Answer
-    ensures { result ≡ refused refusal }
+    ensures { result ≡ refusal_answer refusal }
 {
     match refusal {
         WireRefusal::NoMemory => Answer::NoMemory,
@@ -235,11 +245,13 @@ impl<N: Racing> NodeBox<N> {
         ensures spent { IfErr result (λ refusal. refusal ≡ refusals.Spent
             → length self.new.seen ≡ most_events) }
     {
-        let Ok(room) = room_for(alloc, self.name, &act, letter, by) else {
+        let Ok(mut item) = blank(alloc, self.name, &act, by) else {
+            return Err(WireRefusal::NoMemory);
+        };
+        let Ok(room) = room_for(alloc, &act, letter) else {
             return Err(WireRefusal::NoMemory);
         };
         let Room {
-            mut item,
             what,
             spare,
             given,
@@ -247,7 +259,7 @@ impl<N: Racing> NodeBox<N> {
         } = room;
         let outcome = step(&mut self.node, &mut out, &what, spare);
         let round = round_in(out.letters());
-        item.outcome = copied(&outcome, given);
+        item.outcome = copy_into(&outcome, given);
         item.packets = out.into_letters(alloc).0;
         match wire.commit(rt, &mut self.pass, share, item) {
             Ok(_number) => {
@@ -275,7 +287,7 @@ impl<N: Racing> NodeBox<N> {
     {
         let waited = self.node.waits_for();
         waited.lowest()?;
-        let stopped = wire.stopped(rt, &mut self.pass);
+        let stopped = wire.stopped_names(rt, &mut self.pass);
         least_of_both(waited, stopped)
     }
 
@@ -297,7 +309,7 @@ impl<N: Racing> NodeBox<N> {
     }
 
     /// What a choice does, which hears only what was sent to the node.
-    fn chosen<R: Wait>(&mut self, rt: &R, wire: &Wire<RaceLaw>, choice: Choice) -> Turn
+    fn turn_of_choice<R: Wait>(&mut self, rt: &R, wire: &Wire<RaceLaw>, choice: Choice) -> Turn
         requires own { wire.now.id ≡ N.wire }
         requires open_ { self.old.closed ≡ None }
         requires sent { (number : ℕ) → heard_in choice ≡ Some number
@@ -341,7 +353,7 @@ impl<N: Racing> NodeBox<N> {
     {
         let ahead = wire.next_for(rt, &mut self.pass, self.name, self.cursor);
         let choice = chooser.choose(ahead, self.last);
-        self.chosen(rt, wire, choice)
+        self.turn_of_choice(rt, wire, choice)
     }
 
     /// What its node does at a turn: it gives up the least name that it waits for and that has stopped, or does what the chooser
@@ -418,11 +430,9 @@ impl<N: Racing> NodeBox<N> {
         requires hand { IsHand N.wire N.plan tag.caller hand.old.share hand.old.chooser }
         ensures hand { IsHand N.wire N.plan tag.caller hand.new.share hand.new.chooser }
         ensures name { self.new.name ≡ self.old.name }
-        ensures both { hand.new.share.seen ≡ self.new.seen }
-        ensures few { length self.new.seen ≤ most_events }
-        ensures open_ { OnOk result (self.new.closed ≡ None) }
-        ensures runs { OnOk result (has_stopped self.new.seen self.new.name ≡ false) }
         ensures goes { GoesOn (CallerKey tag.caller ∷ []) hand.old.share.seen hand.new.share.seen }
+        ensures ok { OnOk result (Meets N.wire N.plan tag.caller self.new hand.new.share
+            hand.new.chooser) }
         ensures err { IfErr result (WasRefused self.old.name tag.caller hand.old.share.seen
             hand.new.share.seen) }
     {
@@ -432,34 +442,43 @@ impl<N: Racing> NodeBox<N> {
     /// A turn of a caller's call, which isn't ready.
     fn spend<R: Wait, G: Gate>(
         &mut self,
-        rt: &R,
-        alloc: Global,
-        wire: &Wire<RaceLaw>,
-        gate: &G,
+        visit: &Visit<R, G>,
         hand: &mut Hand,
-        tag: Tag,
     ) -> Result<Looked, Answer>
-        requires own { wire.now.id ≡ N.wire }
-        requires hand { IsHand N.wire N.plan tag.caller hand.old.share hand.old.chooser }
-        requires open_ { self.old.closed ≡ None }
-        requires runs { has_stopped self.old.seen self.old.name ≡ false }
-        requires met { hand.old.share.seen ≡ self.old.seen }
+        requires own { visit.now.wire.now.id ≡ N.wire }
+        requires met { Meets N.wire N.plan visit.now.tag.caller self.old hand.old.share
+            hand.old.chooser }
         requires unready { is_ready (node_by N.plan self.old.seen self.old.name)
-            (own_of (of_call tag.caller tag.call self.old.seen)) ≡ false }
-        ensures hand { IsHand N.wire N.plan tag.caller hand.new.share hand.new.chooser }
-        ensures ok { IfOk result (HasSpent self.old.name tag hand.old.share.seen
+            (own_of (of_call visit.now.tag.caller visit.now.tag.call self.old.seen)) ≡ false }
+        ensures hand { IsHand N.wire N.plan visit.now.tag.caller hand.new.share hand.new.chooser }
+        ensures ok { IfOk result (HasSpent self.old.name visit.now.tag hand.old.share.seen
             hand.new.share.seen) }
-        ensures err { IfErr result (WasRefused self.old.name tag.caller hand.old.share.seen
-            hand.new.share.seen) }
+        ensures err { IfErr result (WasRefused self.old.name visit.now.tag.caller
+            hand.old.share.seen hand.new.share.seen) }
     {
-        let Ok(mut chooser) = hand.chooser.copied() else {
+        let Ok(mut chooser) = hand.chooser.try_copy() else {
             return Err(Answer::NoMemory);
         };
-        let turn = self.turn(rt, wire, &mut hand.share, &mut chooser, tag);
-        let by = tag.with(Part::Turn(turn.lost));
-        gate.between(self.name, &by);
+        let turn = self.turn(
+            visit.rt,
+            visit.wire,
+            &mut hand.share,
+            &mut chooser,
+            visit.tag,
+        );
+        let by = visit.tag.with(Part::Turn(turn.lost));
+        visit.gate.between(self.name, &by);
         let Turn { act, letter, .. } = turn;
-        match self.act(rt, alloc, wire, &mut hand.share, act, letter.as_ref(), by) {
+        let share = &mut hand.share;
+        match self.act(
+            visit.rt,
+            visit.alloc,
+            visit.wire,
+            share,
+            act,
+            letter.as_ref(),
+            by,
+        ) {
             Ok(came) => {
                 hand.chooser = chooser;
                 Ok(Looked::Turn(came.outcome))
@@ -471,20 +490,13 @@ impl<N: Racing> NodeBox<N> {
     /// A call's own act, or its check.
     fn ask<R: Wait, G: Gate>(
         &mut self,
-        rt: &R,
-        alloc: Global,
-        wire: &Wire<RaceLaw>,
-        gate: &G,
+        visit: &Visit<R, G>,
         hand: &mut Hand,
         act: Act,
         by: By,
     ) -> Result<Came, Answer>
-        requires own { wire.now.id ≡ N.wire }
-        requires hand { IsHand N.wire N.plan by.caller hand.old.share hand.old.chooser }
-        requires open_ { self.old.closed ≡ None }
-        requires runs { has_stopped self.old.seen self.old.name ≡ false }
-        requires few { length self.old.seen ≤ most_events }
-        requires met { hand.old.share.seen ≡ self.old.seen }
+        requires own { visit.now.wire.now.id ≡ N.wire }
+        requires met { Meets N.wire N.plan by.caller self.old hand.old.share hand.old.chooser }
         requires asks { is_asked act ≡ true }
         requires no_turn { is_turn_part by.part ≡ false }
         ensures hand { IsHand N.wire N.plan by.caller hand.new.share hand.new.chooser }
@@ -493,8 +505,9 @@ impl<N: Racing> NodeBox<N> {
         ensures err { IfErr result (WasRefused self.old.name by.caller hand.old.share.seen
             hand.new.share.seen) }
     {
-        gate.between(self.name, &by);
-        match self.act(rt, alloc, wire, &mut hand.share, act, None, by) {
+        visit.gate.between(self.name, &by);
+        let share = &mut hand.share;
+        match self.act(visit.rt, visit.alloc, visit.wire, share, act, None, by) {
             Ok(came) => Ok(came),
             Err(refusal) => Err(answer_of(refusal)),
         }
@@ -503,30 +516,23 @@ impl<N: Racing> NodeBox<N> {
     /// The end of a call: its check, or the act of a receive.
     fn end<R: Wait, G: Gate>(
         &mut self,
-        rt: &R,
-        alloc: Global,
-        wire: &Wire<RaceLaw>,
-        gate: &G,
+        visit: &Visit<R, G>,
         hand: &mut Hand,
-        tag: Tag,
         act: &Act,
         came: &Option<Came>,
     ) -> Result<Looked, Answer>
-        requires own { wire.now.id ≡ N.wire }
-        requires hand { IsHand N.wire N.plan tag.caller hand.old.share hand.old.chooser }
-        requires open_ { self.old.closed ≡ None }
-        requires runs { has_stopped self.old.seen self.old.name ≡ false }
-        requires few { length self.old.seen ≤ most_events }
-        requires met { hand.old.share.seen ≡ self.old.seen }
-        ensures hand { IsHand N.wire N.plan tag.caller hand.new.share hand.new.chooser }
-        ensures ok { IfOk result (HasEnded N.plan self.old.name tag act.entry.now came.entry.now
+        requires own { visit.now.wire.now.id ≡ N.wire }
+        requires met { Meets N.wire N.plan visit.now.tag.caller self.old hand.old.share
+            hand.old.chooser }
+        ensures hand { IsHand N.wire N.plan visit.now.tag.caller hand.new.share hand.new.chooser }
+        ensures ok { IfOk result (HasEnded N.plan self.old.name visit.now.tag act.entry.now
+            came.entry.now hand.old.share.seen hand.new.share.seen) }
+        ensures err { IfErr result (WasRefused self.old.name visit.now.tag.caller
             hand.old.share.seen hand.new.share.seen) }
-        ensures err { IfErr result (WasRefused self.old.name tag.caller hand.old.share.seen
-            hand.new.share.seen) }
     {
         let last = end_act(act, came);
         let part = end_part(act);
-        match self.ask(rt, alloc, wire, gate, hand, last, tag.with(part)) {
+        match self.ask(visit, hand, last, visit.tag.with(part)) {
             Ok(came) => Ok(Looked::End(came.outcome)),
             Err(answer) => Err(answer),
         }
@@ -535,60 +541,52 @@ impl<N: Racing> NodeBox<N> {
     /// The first look of a call that is no receive: its own act.
     pub fn begin<R: Wait, G: Gate>(
         &mut self,
-        rt: &R,
-        alloc: Global,
-        wire: &Wire<RaceLaw>,
-        gate: &G,
+        visit: &Visit<R, G>,
         hand: &mut Hand,
-        tag: Tag,
         act: &Act,
     ) -> Result<Came, Answer>
-        requires own { wire.now.id ≡ N.wire }
-        requires hand { IsHand N.wire N.plan tag.caller hand.old.share hand.old.chooser }
+        requires own { visit.now.wire.now.id ≡ N.wire }
+        requires hand { IsHand N.wire N.plan visit.now.tag.caller hand.old.share hand.old.chooser }
         requires call { is_call act.now ≡ true }
-        ensures hand { IsHand N.wire N.plan tag.caller hand.new.share hand.new.chooser }
-        ensures ok { IfOk result (λ came. Began self.old.name tag act.entry.now came
+        ensures hand { IsHand N.wire N.plan visit.now.tag.caller hand.new.share hand.new.chooser }
+        ensures ok { IfOk result (λ came. Began self.old.name visit.now.tag act.entry.now came
             hand.old.share.seen hand.new.share.seen) }
-        ensures err { IfErr result (WasRefused self.old.name tag.caller hand.old.share.seen
-            hand.new.share.seen) }
+        ensures err { IfErr result (WasRefused self.old.name visit.now.tag.caller
+            hand.old.share.seen hand.new.share.seen) }
     {
-        self.meet_caller(wire, hand, tag)?;
-        let Ok(own) = act.copied() else {
+        self.meet_caller(visit.wire, hand, visit.tag)?;
+        let Ok(own) = act.try_copy() else {
             return Err(Answer::NoMemory);
         };
-        self.ask(rt, alloc, wire, gate, hand, own, tag.with(Part::Call))
+        self.ask(visit, hand, own, visit.tag.with(Part::Call))
     }
 
     /// A further look of a call: a turn, where it has one left and isn't ready, and else its end.
     pub fn look<R: Wait, G: Gate>(
         &mut self,
-        rt: &R,
-        alloc: Global,
-        wire: &Wire<RaceLaw>,
-        gate: &G,
+        visit: &Visit<R, G>,
         hand: &mut Hand,
-        tag: Tag,
         act: &Act,
         came: &Option<Came>,
         has_turn: bool,
     ) -> Result<Looked, Answer>
-        requires own { wire.now.id ≡ N.wire }
-        requires hand { IsHand N.wire N.plan tag.caller hand.old.share hand.old.chooser }
+        requires own { visit.now.wire.now.id ≡ N.wire }
+        requires hand { IsHand N.wire N.plan visit.now.tag.caller hand.old.share hand.old.chooser }
         requires came { IsCame act.now came.now
-            (own_of (of_call tag.caller tag.call hand.old.share.seen)) }
-        ensures hand { IsHand N.wire N.plan tag.caller hand.new.share hand.new.chooser }
-        ensures ok { IfOk result (HasLooked self.old.name tag act.entry.now came.entry.now has_turn
+            (own_of (of_call visit.now.tag.caller visit.now.tag.call hand.old.share.seen)) }
+        ensures hand { IsHand N.wire N.plan visit.now.tag.caller hand.new.share hand.new.chooser }
+        ensures ok { IfOk result (HasLooked self.old.name visit.now.tag act.entry.now came.entry.now
+            has_turn hand.old.share.seen hand.new.share.seen) }
+        ensures err { IfErr result (WasRefused self.old.name visit.now.tag.caller
             hand.old.share.seen hand.new.share.seen) }
-        ensures err { IfErr result (WasRefused self.old.name tag.caller hand.old.share.seen
-            hand.new.share.seen) }
     {
-        self.meet_caller(wire, hand, tag)?;
+        self.meet_caller(visit.wire, hand, visit.tag)?;
         if !has_turn {
-            return self.end(rt, alloc, wire, gate, hand, tag, act, came);
+            return self.end(visit, hand, act, came);
         }
         if self.is_ready(act, came) {
-            return self.end(rt, alloc, wire, gate, hand, tag, act, came);
+            return self.end(visit, hand, act, came);
         }
-        self.spend(rt, alloc, wire, gate, hand, tag)
+        self.spend(visit, hand)
     }
 }

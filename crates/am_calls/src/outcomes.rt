@@ -1,5 +1,5 @@
 ghost use Rattle.std.specs.Prelude.{◌≡◌, unwrap_or};
-ghost use Rattle.am_calls.specs.Answers.{ballot_answer, join_answer, leave_answer, left_answer, send_answer, take_answer, stop_answer, own_answer, end_answer, queued_in, request_in, put_off_in, late_after, is_take};
+ghost use Rattle.am_calls.specs.Answers.{refusal, ballot_answer, join_answer, leave_answer, left_answer, send_answer, take_answer, stop_answer, own_answer, end_answer, queued_request, request_in, put_off_in, late_after, is_take};
 ghost use Rattle.am_calls.specs.Going.{request_in_call, told_at_end};
 
 use crate::answer::Answer;
@@ -25,11 +25,22 @@ pub fn request_in(outcome: &Outcome) -> u32
 }
 
 /// The request of a send that was queued.
-fn queued(outcome: &Outcome) -> Option<u32>
-    ensures { result ≡ queued_in outcome.now }
+fn queued_request(outcome: &Outcome) -> Option<u32>
+    ensures { result ≡ queued_request outcome.now }
 {
     match outcome {
         Outcome::Queued { req } => Some(*req),
+        _ => None,
+    }
+}
+
+/// What an outcome that refuses a call answers.
+fn refusal(outcome: &Outcome) -> Option<Answer>
+    ensures { result ≡ refusal outcome.now }
+{
+    match outcome {
+        Outcome::NotMember => Some(Answer::NotMember),
+        Outcome::Leaving => Some(Answer::Leaving),
         _ => None,
     }
 }
@@ -52,9 +63,7 @@ pub(crate) fn ballot_answer(outcome: &Outcome) -> Option<Answer>
         }),
         Outcome::Overtaken { by } => Some(Answer::Overtaken { by: *by }),
         Outcome::NotIn { best } => Some(Answer::NotIn { best: *best }),
-        Outcome::NotMember => Some(Answer::NotMember),
-        Outcome::Leaving => Some(Answer::Leaving),
-        _ => None,
+        _ => refusal(outcome),
     }
 }
 
@@ -63,9 +72,8 @@ fn join_answer(outcome: &Outcome) -> Option<Answer>
 {
     match outcome {
         Outcome::Joined { number } => Some(Answer::Joined { number: *number }),
-        Outcome::NotMember | Outcome::Departed => Some(Answer::NotMember),
-        Outcome::Leaving => Some(Answer::Leaving),
-        _ => None,
+        Outcome::Departed => Some(Answer::NotMember),
+        _ => refusal(outcome),
     }
 }
 
@@ -74,10 +82,8 @@ fn leave_answer(outcome: &Outcome) -> Option<Answer>
 {
     match outcome {
         Outcome::Departed => Some(Answer::Left),
-        Outcome::Leaving => Some(Answer::Leaving),
-        Outcome::NotMember => Some(Answer::NotMember),
         Outcome::Busy { queued } => Some(Answer::Busy { queued: *queued }),
-        _ => None,
+        _ => refusal(outcome),
     }
 }
 
@@ -85,10 +91,10 @@ fn leave_answer(outcome: &Outcome) -> Option<Answer>
 fn left_answer(outcome: &Outcome) -> Option<Answer>
     ensures { result ≡ left_answer outcome.now }
 {
-    match outcome {
-        Outcome::Leaving => None,
-        _ => leave_answer(outcome),
+    if let Outcome::Leaving = outcome {
+        return None;
     }
+    leave_answer(outcome)
 }
 
 fn send_answer(outcome: &Outcome) -> Option<Answer>
@@ -100,9 +106,7 @@ fn send_answer(outcome: &Outcome) -> Option<Answer>
             number: *number,
         }),
         Outcome::Busy { queued } => Some(Answer::Busy { queued: *queued }),
-        Outcome::NotMember => Some(Answer::NotMember),
-        Outcome::Leaving => Some(Answer::Leaving),
-        _ => None,
+        _ => refusal(outcome),
     }
 }
 
@@ -112,7 +116,7 @@ fn take_answer(outcome: &Outcome) -> Option<Answer>
     match outcome {
         Outcome::Took { number, entry } => Some(Answer::Took {
             number: *number,
-            entry: entry.get().copied(),
+            entry: entry.get().copy(),
         }),
         Outcome::NotMember => Some(Answer::NotMember),
         _ => None,
@@ -145,15 +149,13 @@ pub fn own_answer(act: &Act, outcome: &Outcome) -> Option<Answer>
 }
 
 /// What the outcome of the check at a call's end answers; None where it tells none.
-#[tactic(auto, unfolding(crate::specs::Answers::end_answer))]
+#[tactic(auto, unfolding(crate::specs::Answers::own_answer, crate::specs::Answers::end_answer))]
 pub fn end_answer(act: &Act, outcome: &Outcome) -> Option<Answer>
     ensures { result ≡ end_answer act.now outcome.now }
 {
     match act {
-        Act::Send(_) => send_answer(outcome),
-        Act::Join => join_answer(outcome),
         Act::Leave => left_answer(outcome),
-        Act::Reset { .. } => ballot_answer(outcome),
+        Act::Send(_) | Act::Join | Act::Reset { .. } => own_answer(act, outcome),
         _ => None,
     }
 }
@@ -163,7 +165,7 @@ pub fn request_in_call(act: &Act, came: &Option<Came>) -> Option<u32>
     ensures { result ≡ request_in_call act.now came.now }
 {
     match (act, came) {
-        (Act::Send(_), Some(came)) => queued(&came.outcome),
+        (Act::Send(_), Some(came)) => queued_request(&came.outcome),
         _ => None,
     }
 }

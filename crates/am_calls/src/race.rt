@@ -6,7 +6,7 @@ ghost use Rattle.am_calls.specs.Legal.{IsLegalWithTags};
 ghost use Rattle.am_calls.specs.Plans.{calls_of, is_call, MayRace, ArePlayed};
 ghost use Rattle.am_wire.specs.Keys.{place_keys, caller_keys};
 ghost use Rattle.am_wire.specs.Passes.{fresh};
-ghost use Rattle.am_calls.specs.Ran.{fresh_caller, fresh_callers, numbers_of, HasRun, refusal_in, ends_thread, first_refusal};
+ghost use Rattle.am_calls.specs.Ran.{fresh_caller, fresh_callers, numbers_of, HasRun, ends_thread, first_refusal};
 
 use crate::answer::Answer;
 use crate::caller::Caller;
@@ -29,17 +29,6 @@ use std::thread::Threads;
 struct Ran<N: Racing> {
     caller: Caller<N>,
     refusal: Option<WireRefusal>,
-}
-
-/// The refusal that an answer is, if it is one.
-fn refusal_of(answer: &Answer) -> Option<WireRefusal>
-    ensures { result ≡ refusal_in answer.now }
-{
-    match answer {
-        Answer::NoMemory => Some(WireRefusal::NoMemory),
-        Answer::Spent => Some(WireRefusal::Spent),
-        _ => None,
-    }
 }
 
 /// Whether a thread ends with this answer.
@@ -73,7 +62,7 @@ fn play<R: Wait, N: Racing, G: Gate>(
     for act in thread.calls.as_slice() {
         let answer = kernels.make(rt, &mut caller, thread.node, act);
         if is_last(&answer) {
-            let refusal = refusal_of(&answer);
+            let refusal = answer.as_refusal();
             return Ran { caller, refusal };
         }
     }

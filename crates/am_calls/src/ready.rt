@@ -2,7 +2,7 @@ ghost use Rattle.std.specs.Prelude.{◌≡◌};
 ghost use Rattle.am_model.specs.Group.{has_log};
 ghost use Rattle.am_model.specs.World.{has_departed};
 ghost use Rattle.am_node.specs.Stands.{state_of};
-ghost use Rattle.am_calls.specs.Ready.{invited, round_in, is_ended, is_sent, is_ready_after, may_take};
+ghost use Rattle.am_calls.specs.Ready.{invite_round, round_in, is_ended, is_sent, is_ready_after, may_take};
 
 use crate::outcomes::ballot_answer;
 use am_base::outcome::Outcome;
@@ -21,8 +21,8 @@ pub struct Came {
 }
 
 /// The round of a packet that is an Invite.
-fn invited(packet: &Packet) -> Option<u32>
-    ensures { result ≡ invited packet.now }
+fn invite_round(packet: &Packet) -> Option<u32>
+    ensures { result ≡ invite_round packet.now }
 {
     match packet {
         Packet::Invite { stamp, .. } => Some(stamp.round),
@@ -35,7 +35,7 @@ pub fn round_in(letters: &[Letter]) -> u32
     ensures { result ≡ round_in letters.now }
 {
     for letter in letters {
-        if let Some(round) = invited(&letter.packet()) {
+        if let Some(round) = invite_round(&letter.packet()) {
             return round;
         }
     }
@@ -45,19 +45,13 @@ pub fn round_in(letters: &[Letter]) -> u32
 fn has_log(status: Status) -> bool
     ensures { result ≡ has_log status }
 {
-    match status {
-        Status::Stranger | Status::Asking => false,
-        Status::Member | Status::Departed => true,
-    }
+    matches!(status, Status::Member | Status::Departed)
 }
 
 fn has_departed(status: Status) -> bool
     ensures { result ≡ has_departed status }
 {
-    match status {
-        Status::Departed => true,
-        Status::Stranger | Status::Asking | Status::Member => false,
-    }
+    matches!(status, Status::Departed)
 }
 
 /// Whether a ballot is over, with an answer.
@@ -74,7 +68,7 @@ fn is_sent(node: &Node, outcome: &Outcome) -> bool
     ensures { result ≡ is_sent (state_of node.now) outcome.now }
 {
     match outcome {
-        Outcome::Queued { req } => node.settled(*req),
+        Outcome::Queued { req } => node.is_settled(*req),
         _ => false,
     }
 }
@@ -84,7 +78,7 @@ pub fn may_take(node: &Node) -> bool
     ensures { result ≡ may_take (state_of node.now) }
 {
     match node.status() {
-        Status::Member => node.info().taken < node.accepted(),
+        Status::Member => node.info().taken < node.accept_front(),
         Status::Stranger | Status::Asking | Status::Departed => false,
     }
 }

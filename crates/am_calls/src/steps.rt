@@ -10,6 +10,7 @@ ghost use Rattle.am_calls.specs.Boxes.{what_of, Steps, IsLeastOf, InBoth};
 ghost use Rattle.am_calls.specs.Turns.{lost_by, unless_nought, or_nought};
 
 use am_base::NoMemory;
+use am_base::body::SentBody;
 use am_base::boxed::Boxed;
 use am_base::entry::Entry;
 use am_base::event::NodeEvent;
@@ -24,7 +25,7 @@ use am_node::node::Node;
 use std::alloc::Global;
 
 /// What an act asks of a node that runs, with the letter that it hears; None where it is no step of one.
-fn asked(
+fn what_of(
     alloc: Global,
     act: &Act,
     letter: Option<&LetterCopy>,
@@ -32,7 +33,7 @@ fn asked(
     ensures { IfOk result (λ what. what ≡ what_of act.now (option_copied letter.entry)) }
 {
     Ok(match act {
-        Act::Send(body) => Some(NodeEvent::Send(Boxed::of(alloc, body.body())?)),
+        Act::Send(body) => Some(NodeEvent::Send(SentBody::of_bytes(alloc, body.bytes())?)),
         Act::Done(req) => Some(NodeEvent::Done(*req)),
         Act::Take => Some(NodeEvent::Take),
         Act::Join => Some(NodeEvent::Join),
@@ -71,7 +72,7 @@ pub fn step(
     match what {
         Some(what) => {
             let outcome = node.step(what, Some(spare), out);
-            let _accepted = node.accepted();
+            let _accepted = node.accept_front();
             outcome
         }
         None => Outcome::Stopped,
@@ -125,13 +126,13 @@ pub fn last_after(last: Option<u32>, heard: u32) -> Option<u32>
 }
 
 /// The record of an act of which nothing has come yet.
-fn blank(alloc: Global, name: Name, act: &Act, by: By) -> Result<Record, NoMemory>
+pub fn blank(alloc: Global, name: Name, act: &Act, by: By) -> Result<Record, NoMemory>
     ensures { IfOk result (λ r. r ≡ record { event = record { node = name; act = act.now }; life = 1; by = by; outcome = said.Idle; packets = [] }) }
 {
     Ok(Record {
         event: Event {
             node: name,
-            act: act.copied()?,
+            act: act.try_copy()?,
         },
         life: 1,
         by,
@@ -140,31 +141,23 @@ fn blank(alloc: Global, name: Name, act: &Act, by: By) -> Result<Record, NoMemor
     })
 }
 
-/// What an act takes memory for before it is done: its record, what it asks of the node, and room for an entry in the record
-/// and in the answer, and for letters.
+/// What an act takes memory for before it is done, besides its record: what it asks of the node, and room for an entry in the
+/// record and in the answer, and for letters.
 #[derive(Drop)]
 pub struct Room {
-    pub item: Record,
     pub what: Option<NodeEvent>,
     pub spare: Boxed<Entry>,
     pub given: Boxed<Entry>,
     pub out: OutBox,
 }
 
-pub fn room_for(
-    alloc: Global,
-    name: Name,
-    act: &Act,
-    letter: Option<&LetterCopy>,
-    by: By,
-) -> Result<Room, NoMemory>
-    ensures item { IfOk result (λ r. r.item ≡ record { event = record { node = name; act = act.now }; life = 1; by = by; outcome = said.Idle; packets = [] }) }
+/// The memory for an act.
+pub fn room_for(alloc: Global, act: &Act, letter: Option<&LetterCopy>) -> Result<Room, NoMemory>
     ensures what { IfOk result (λ r. r.what ≡ what_of act.now (option_copied letter.entry)) }
     ensures out { IfOk result (λ r. r.out ≡ []) }
 {
     Ok(Room {
-        item: blank(alloc, name, act, by)?,
-        what: asked(alloc, act, letter)?,
+        what: what_of(alloc, act, letter)?,
         spare: Boxed::of(alloc, Entry::default())?,
         given: Boxed::of(alloc, Entry::default())?,
         out: OutBox::new(alloc)?,
@@ -172,18 +165,18 @@ pub fn room_for(
 }
 
 /// The same outcome, with room for its entry.
-pub fn copied(outcome: &Outcome, mut room: Boxed<Entry>) -> Outcome
+pub fn copy_into(outcome: &Outcome, mut room: Boxed<Entry>) -> Outcome
     ensures { result ≡ outcome.now }
 {
     match outcome {
         Outcome::Took { number, entry } => {
-            room.set(entry.get().copied());
+            room.set(entry.get().copy());
             Outcome::Took {
                 number: *number,
                 entry: room,
             }
         }
-        other => other.copied(),
+        other => other.copy(),
     }
 }
 

@@ -1,6 +1,6 @@
 ghost use Rattle.std.specs.Prelude.{◌≡◌, IfOk};
 
-use crate::gate::Gate;
+use crate::gate::{Gate, Meeting};
 use crate::race::race;
 use am_base::body::Body;
 use am_base::founding::Founding;
@@ -10,35 +10,12 @@ use am_base::names::Names;
 use am_group::delivered::deliveries;
 use am_group::event::{Act, By};
 use am_group::plan::{RacePlan, ThreadPlan};
-use std::sync::atomic::{AtomicBool, AtomicU64, Ordering};
+use std::sync::atomic::{AtomicU64, Ordering};
 use std::test::*;
 use std::thread;
 
-/// How often a node's gate looks for the other.
-const MOST_LOOKS: u32 = 100_000_000;
-
 /// How often a node that is ahead looks whether the other has come as far.
 const MOST_WAITS: u32 = 1000;
-
-/// Each of two nodes waits until the other is there too.
-#[derive(Drop)]
-struct Meeting {
-    here: [AtomicBool; 2],
-    met: [AtomicBool; 2],
-}
-
-impl Gate for Meeting {
-    fn between(&self, node: Name, _by: &By) {
-        let mine = usize::from(node.place() % 2);
-        self.here[mine].store(true, Ordering::SeqCst);
-        for _ in 0..MOST_LOOKS {
-            if self.here[1 - mine].load(Ordering::SeqCst) {
-                self.met[mine].store(true, Ordering::SeqCst);
-                return;
-            }
-        }
-    }
-}
 
 /// Two nodes go in step, so that none spends all its turns while the other's thread doesn't run.
 #[derive(Drop)]
@@ -90,12 +67,9 @@ fn two_nodes_at_once(rt: HostRuntime) -> Result<(), Fail> {
     let first = thread_of(0, vec![in alloc; Act::Take]?);
     let second = thread_of(1, vec![in alloc; Act::Take]?);
     let plan = plan_of(vec![in alloc; first, second]?, 200)?;
-    let gate = Meeting {
-        here: [AtomicBool::new(false), AtomicBool::new(false)],
-        met: [AtomicBool::new(false), AtomicBool::new(false)],
-    };
+    let gate = Meeting::new();
     let journal = race(&rt, alloc, &plan, &gate).ok().ok_or("a journal")?;
-    assert!(rt; gate.met[0].load(Ordering::SeqCst) && gate.met[1].load(Ordering::SeqCst));
+    assert!(rt; gate.has_met());
     assert_eq!(rt; journal.records().len(), 2);
     Ok(())
 }

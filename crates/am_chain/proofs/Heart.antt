@@ -11,7 +11,7 @@ use Rattle.am_chain_lists.proofs.Prefixes.{begins_refl, begins_nil, begins_more,
 use Rattle.am_chain_lists.proofs.Prefixes.{length_push, begins_take, length_take, take_begins}
 use Rattle.am_chain_lists.proofs.Members.{mem_between, mem_nil, mem_viewed, viewed_mem, good_begins, leaver_in, leaver_out}
 use Rattle.am_chain_lists.proofs.Order.{view_up, resilience_up, resilience_viewed}
-use Rattle.am_chain_moves.specs.Group.{how_many, counted, opening, Group, chain_of, IsThere, IsUp, NoBetter}
+use Rattle.am_chain_moves.specs.Group.{how_many, counted_in, opening, Group, chain_of, IsThere, IsUp, NoBetter}
 use Rattle.am_chain_moves.specs.Moves.{MayDecide, Voted}
 use Rattle.am_chain_moves.specs.Runs.{counts_for, IsLawful}
 use Rattle.am_chain_moves.specs.Kept.{BallotOk, Kept}
@@ -33,8 +33,8 @@ pub record CountedAt (list : List Entry) (n : ℕ) : Type 0 where
   pub at : List Entry
   pub above : Begins (take (n - 1) list) at
   pub below : Begins at (take n list)
-  pub members : (h : ℕ) → has (counted list n) h ≡ true → mem at h ≡ true
-  pub back : (h : ℕ) → mem at h ≡ true → has (counted list n) h ≡ true
+  pub members : (h : ℕ) → has (counted_in list n) h ≡ true → mem at h ≡ true
+  pub back : (h : ℕ) → mem at h ≡ true → has (counted_in list n) h ≡ true
 
 take_step : (list : List Entry) (n : ℕ) (e : Entry) → 0 < n → slice_get list (n - 1) ≡ Some e → take n list ≡ take (n - 1) list ++ e ∷ []
 take_step list n e low h =
@@ -240,7 +240,7 @@ module _ (s : Group) (k : Kept s) (lawful : IsLawful s) (c : ℕ) (members : Lis
           let above = begins_trans up_to at.above in
           let good_at : IsGood at.at = good_begins (begins_trans at.below whole) good in
           too_few (take n s.group) at.at (begins_trans whole k.group) above at.below (omega arith)
-          (has (counted s.group n)) w.holders w.counts at.members at.back w.logs w.stored
+          (has (counted_in s.group n)) w.holders w.counts at.members at.back w.logs w.stored
           (λ h t u.
           let j = (k.each h).joined (w.logs h t) in
           let early = w.joined h t in

@@ -14,7 +14,7 @@ use Rattle.am_chain_moves.proofs.Start.{start_kept}
 use Rattle.am_chain_moves.proofs.Steps.{quiet_keeps}
 use Rattle.am_chain.proofs.Decide.{decides_keeps, chosen_old, decided_old, group_low}
 use Rattle.am_chain.proofs.Marks.{marks_keep}
-use Rattle.am_chain_lists.specs.Whole.{told}
+use Rattle.am_chain_lists.specs.Whole.{image_of}
 use Rattle.am_chain_lists.proofs.Prefixes.{begins_more}
 
 -- what grows along a run
@@ -41,7 +41,7 @@ grows_on k law (accepts {s = s} i n a b) = record {
   chosen = λ x h. refl;
   complete = λ x h. h;
 }
-grows_on k law (learns {s = s} i told acc a b c d e f g) = record { group = begins_refl s.group; decided = λ x h. h; chosen = λ x h. refl; complete = λ x h. h }
+grows_on k law (learns {s = s} i image_of acc a b c d e f g) = record { group = begins_refl s.group; decided = λ x h. h; chosen = λ x h. refl; complete = λ x h. h }
 grows_on k law (begins {s = s} i a b c d) = record { group = begins_refl s.group; decided = λ x h. h; chosen = λ x h. refl; complete = λ x h. h }
 grows_on k law (raises {s = s} i stamp a b) = record { group = begins_refl s.group; decided = λ x h. h; chosen = λ x h. refl; complete = λ x h. h }
 grows_on k law (shows {s = s} i a b c d e) = record { group = begins_refl s.group; decided = λ x h. h; chosen = λ x h. refl; complete = λ x h. h }

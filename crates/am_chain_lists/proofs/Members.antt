@@ -10,10 +10,10 @@ use Rattle.am_base.specs.declared.entry.Entry.{Entry}
 use Rattle.am_base.specs.declared.entry.Entry.TheVariants.{Leave, View}
 use Rattle.am_base.specs.Names.{has, place_of, life_of}
 use Rattle.am_base.specs.Lists.{blank_row, blank, after, fits, fold, AllFit, members_of, member_life}
-use Rattle.am_chain_lists.specs.Whole.{Begins, IsGood, AllSmall, SmallName, told, mem}
+use Rattle.am_chain_lists.specs.Whole.{Begins, IsGood, AllSmall, SmallName, image_of, mem}
 use Rattle.am_chain_lists.proofs.Prefixes.{begins_refl, begins_more, begins_trans, push_next}
-use Rattle.am_chain_lists.proofs.Rows.{row_at, In, Past, Was, Spares, by_cases, mod16, long_after, was_after, past_after, not_both, blank_joined, in_after}
-use Rattle.am_chain_lists.proofs.Rows.{in_viewed, viewed_member, out_after}
+use Rattle.am_chain_lists.proofs.Rows.{row_at, In, Past, Was, Spares, by_cases, Lasting, was_lasting, past_lasting, mod16, long_after, lasts_after, not_both, blank_joined}
+use Rattle.am_chain_lists.proofs.Rows.{in_after, in_viewed, viewed_member, out_after}
 
 pub fold_append : (image : Image) (n : ℕ) (a b : List Entry) → fold image n (a ++ b) ≡ fold (fold image n a) (n + length a) b
 unfolding fold
@@ -66,16 +66,16 @@ unfolding AllFit AllSmall
 good_nil = record { fit = tt; small = tt }
 
 -- one entry more that fits
-pub good_push : (a : List Entry) (e : Entry) → IsGood a → fits (told a) e ≡ true → SmallName e → IsGood (a ++ e ∷ [])
+pub good_push : (a : List Entry) (e : Entry) → IsGood a → fits (image_of a) e ≡ true → SmallName e → IsGood (a ++ e ∷ [])
 unfolding AllFit AllSmall
 good_push a e g f s = record { fit = fit_append blank 1 a (e ∷ []) g.fit (f, tt); small = small_append a (e ∷ []) g.small (s, tt) }
 
-pub told_push : (a : List Entry) (e : Entry) → told (a ++ e ∷ []) ≡ after (told a) (1 + length a) e
+pub told_push : (a : List Entry) (e : Entry) → image_of (a ++ e ∷ []) ≡ after (image_of a) (1 + length a) e
 unfolding fold
 told_push a e = fold_append blank 1 a (e ∷ [])
 
 -- of a good list with one entry more
-pub last_fits : (a : List Entry) (e : Entry) → IsGood (a ++ e ∷ []) → fits (told a) e ≡ true
+pub last_fits : (a : List Entry) (e : Entry) → IsGood (a ++ e ∷ []) → fits (image_of a) e ≡ true
 unfolding AllFit
 last_fits a e g = (fit_back blank 1 a (e ∷ []) g.fit).0
 
@@ -88,22 +88,15 @@ unfolding fold
 long_fold image n [] h = h
 long_fold image n (e ∷ es) h = long_fold (after image n e) (n + 1) es (long_after image n e h)
 
-pub long_told : (a : List Entry) → length (told a).rows ≡ 16
+pub long_told : (a : List Entry) → length (image_of a).rows ≡ 16
 long_told a = long_fold blank 1 a refl
 
-was_fold : (image : Image) (n : ℕ) (es : List Entry) (place life : ℕ) → length image.rows ≡ 16 → place < 16 → 0 < n → AllFit image n es
-    → Was (row_at image place) life → Was (row_at (fold image n es) place) life
+lasts_fold : (P : Row → Type 0) (image : Image) (n : ℕ) (es : List Entry) (place life : ℕ) → Lasting life P → length image.rows ≡ 16 → place < 16 → 0 < n
+    → AllFit image n es → P (row_at image place) → P (row_at (fold image n es) place)
 unfolding fold AllFit
-was_fold image n [] place life long low up f h = h
-was_fold image n (e ∷ es) place life long low up f h = was_fold (after image n e) (n + 1) es place life (long_after image n e long) low (omega arith) f.1
-    (was_after image n e place life long low up f.0 h)
-
-past_fold : (image : Image) (n : ℕ) (es : List Entry) (place life : ℕ) → length image.rows ≡ 16 → place < 16 → 0 < n → AllFit image n es
-    → Past (row_at image place) life → Past (row_at (fold image n es) place) life
-unfolding fold AllFit
-past_fold image n [] place life long low up f h = h
-past_fold image n (e ∷ es) place life long low up f h = past_fold (after image n e) (n + 1) es place life (long_after image n e long) low (omega arith) f.1
-    (past_after image n e place life long low up f.0 h)
+lasts_fold P image n [] place life k long low up f h = h
+lasts_fold P image n (e ∷ es) place life k long low up f h = lasts_fold P (after image n e) (n + 1) es place life k (long_after image n e long) low (omega arith) f.1
+    (lasts_after P image n e place life k long low up f.0 h)
 
 member_in : (r : Row) (life : ℕ) → 0 < life → (member_life r == life) ≡ true → In r life
 member_in r life pos h = by_cases (nat_lt 0 r.joined && (r.left == 0))
@@ -116,41 +109,41 @@ in_member r life h = let j = h.joined in let l = h.left in let i = h.is in grind
 index_members : (image : Image) (place : ℕ) → length image.rows ≡ 16 → place < 16 → slice_index (members_of image) place ≡ member_life (row_at image place)
 index_members image place long low = let w : place < length image.rows = omega arith in get_or-map member_life image.rows place blank_row 0 w
 
-pub mem_in : (a : List Entry) (name : ℕ) → mem a name ≡ true → In (row_at (told a) (place_of name)) (life_of name)
+pub mem_in : (a : List Entry) (name : ℕ) → mem a name ≡ true → In (row_at (image_of a) (place_of name)) (life_of name)
 unfolding mem
 mem_in a name h =
     let pos : 0 < life_of name = omega arith in
-    member_in (row_at (told a) (place_of name)) (life_of name) pos
-    (subst (λ x. (x == life_of name) ≡ true) (index_members (told a) (place_of name) (long_told a) (mod16 name)) h)
+    member_in (row_at (image_of a) (place_of name)) (life_of name) pos
+    (subst (λ x. (x == life_of name) ≡ true) (index_members (image_of a) (place_of name) (long_told a) (mod16 name)) h)
 
-pub in_mem : (a : List Entry) (name : ℕ) → In (row_at (told a) (place_of name)) (life_of name) → mem a name ≡ true
+pub in_mem : (a : List Entry) (name : ℕ) → In (row_at (image_of a) (place_of name)) (life_of name) → mem a name ≡ true
 unfolding mem
-in_mem a name h = subst (λ x. (x == life_of name) ≡ true) (sym (index_members (told a) (place_of name) (long_told a) (mod16 name)))
-    (in_member (row_at (told a) (place_of name)) (life_of name) h)
+in_mem a name h = subst (λ x. (x == life_of name) ≡ true) (sym (index_members (image_of a) (place_of name) (long_told a) (mod16 name)))
+    (in_member (row_at (image_of a) (place_of name)) (life_of name) h)
 
 -- what a beginning's row becomes
-pub was_begins : {a b : List Entry} (name : ℕ) → IsGood b → Begins a b → Was (row_at (told a) (place_of name)) (life_of name)
-    → Was (row_at (told b) (place_of name)) (life_of name)
-was_begins {a} {b} name g h w =
+lasts_begins : (P : Row → Type 0) {a b : List Entry} (name : ℕ) → Lasting (life_of name) P → IsGood b → Begins a b → P (row_at (image_of a) (place_of name))
+    → P (row_at (image_of b) (place_of name))
+lasts_begins P {a} {b} name k g h w =
     let f = fit_back blank 1 a h.rest (subst (AllFit blank 1) (sym h.same) g.fit) in
     let up : 0 < 1 + length a = omega arith in
-    subst (λ x. Was (row_at x (place_of name)) (life_of name)) (sym (fold_append blank 1 a h.rest)
-    ∙ ap told h.same) (was_fold (told a) (1 + length a) h.rest (place_of name) (life_of name) (long_told a) (mod16 name) up f w)
+    subst (λ x. P (row_at x (place_of name))) (sym (fold_append blank 1 a h.rest)
+    ∙ ap image_of h.same) (lasts_fold P (image_of a) (1 + length a) h.rest (place_of name) (life_of name) k (long_told a) (mod16 name) up f w)
 
-pub past_begins : {a b : List Entry} (name : ℕ) → IsGood b → Begins a b → Past (row_at (told a) (place_of name)) (life_of name)
-    → Past (row_at (told b) (place_of name)) (life_of name)
-past_begins {a} {b} name g h w =
-    let f = fit_back blank 1 a h.rest (subst (AllFit blank 1) (sym h.same) g.fit) in
-    let up : 0 < 1 + length a = omega arith in
-    subst (λ x. Past (row_at x (place_of name)) (life_of name)) (sym (fold_append blank 1 a h.rest)
-    ∙ ap told h.same) (past_fold (told a) (1 + length a) h.rest (place_of name) (life_of name) (long_told a) (mod16 name) up f w)
+pub was_begins : {a b : List Entry} (name : ℕ) → IsGood b → Begins a b → Was (row_at (image_of a) (place_of name)) (life_of name)
+    → Was (row_at (image_of b) (place_of name)) (life_of name)
+was_begins name g h w = lasts_begins (λ r. Was r (life_of name)) name (was_lasting (life_of name)) g h w
+
+past_begins : {a b : List Entry} (name : ℕ) → IsGood b → Begins a b → Past (row_at (image_of a) (place_of name)) (life_of name)
+    → Past (row_at (image_of b) (place_of name)) (life_of name)
+past_begins name g h w = lasts_begins (λ r. Past r (life_of name)) name (past_lasting (life_of name)) g h w
 
 -- a member before and after is a member between
 pub mem_between : {a b c : List Entry} (name : ℕ) → IsGood c → Begins a b → Begins b c → mem a name ≡ true → mem c name ≡ true → mem b name ≡ true
 mem_between {a} {b} {c} name g h k ma mc = ⊎_elim
-    (λ (x : In (row_at (told b) (place_of name)) (life_of name)). in_mem b name x)
-    (λ (x : Past (row_at (told b) (place_of name)) (life_of name)). absurd
-    (not_both (row_at (told c) (place_of name)) (life_of name) (mem_in c name mc) (past_begins name g k x)))
+    (λ (x : In (row_at (image_of b) (place_of name)) (life_of name)). in_mem b name x)
+    (λ (x : Past (row_at (image_of b) (place_of name)) (life_of name)). absurd
+    (not_both (row_at (image_of c) (place_of name)) (life_of name) (mem_in c name mc) (past_begins name g k x)))
     (was_begins name (good_begins k g) h (inl (mem_in a name ma)))
 
 -- nobody is a member of the empty list
@@ -162,7 +155,7 @@ mem_nil name h = let j = (mem_in [] name h).joined in let z = blank_joined blank
 pub mem_push : (a : List Entry) (e : Entry) (name : ℕ) → IsGood (a ++ e ∷ []) → Spares name e → mem a name ≡ true → mem (a ++ e ∷ []) name ≡ true
 mem_push a e name g s h =
     in_mem (a ++ e ∷ []) name (subst (λ x. In (row_at x (place_of name)) (life_of name)) (sym (told_push a e))
-    (in_after (told a) (1 + length a) e name (long_told a) (last_fits a e g) s (mem_in a name h)))
+    (in_after (image_of a) (1 + length a) e name (long_told a) (last_fits a e g) s (mem_in a name h)))
 
 -- a View's members, after it
 pub mem_viewed : (a : List Entry) (stamp : Stamp) (members : List ℕ) (resilience name : ℕ) → mem (a ++ View stamp members resilience ∷ []) name ≡ true
@@ -172,7 +165,7 @@ mem_viewed a stamp members resilience name h =
     (mem_in (a ++ View stamp members resilience ∷ []) name h) in
     let up : 0 < 1 + length a = omega arith in
     let pos : 0 < life_of name = omega arith in
-    let e = in_viewed (told a) (1 + length a) stamp members resilience (place_of name) (life_of name) (mod16 name) up pos i in
+    let e = in_viewed (image_of a) (1 + length a) stamp members resilience (place_of name) (life_of name) (mod16 name) up pos i in
     grind (arith, nat_tests)
 
 -- and its members are members after it
@@ -183,7 +176,7 @@ viewed_mem a stamp members resilience name g h =
     let up : 0 < 1 + length a = omega arith in
     in_mem (a ++ View stamp members resilience ∷ []) name (subst (λ x. In (row_at x (place_of name)) (life_of name))
     (sym (told_push a (View stamp members resilience)))
-    (viewed_member (told a) (1 + length a) stamp members resilience name (long_told a) up (last_fits a (View stamp members resilience) g) h
+    (viewed_member (image_of a) (1 + length a) stamp members resilience name (long_told a) up (last_fits a (View stamp members resilience) g) h
     (λ w. mem_in a name w)))
 
 -- who leaves was a member, and is none after it
@@ -194,7 +187,7 @@ leaver_in a name g = last_fits a (Leave name) g
 pub leaver_out : (a : List Entry) (name : ℕ) → IsGood (a ++ Leave name ∷ []) → mem (a ++ Leave name ∷ []) name ≡ true → ⊥
 leaver_out a name g h =
     let up : 0 < 1 + length a = omega arith in
-    out_after (told a) (1 + length a) name (long_told a) up (mem_in a name (leaver_in a name g))
+    out_after (image_of a) (1 + length a) name (long_told a) up (mem_in a name (leaver_in a name g))
     (subst (λ x. In (row_at x (place_of name)) (life_of name)) (told_push a (Leave name)) (mem_in (a ++ Leave name ∷ []) name h))
 
 -- where a membership ends

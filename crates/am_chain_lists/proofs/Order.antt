@@ -8,7 +8,7 @@ use Rattle.am_base.specs.declared.entry.Entry.TheVariants.{Data, Join, Leave, Vi
 use Rattle.am_base.specs.Names.{has, life_of, rank_of, is_within}
 use Rattle.am_base.specs.Stamps.{stamp_lt}
 use Rattle.am_base.specs.Lists.{blank, after, fits, fold, AllFit, members_of, at_place}
-use Rattle.am_chain_lists.specs.Whole.{Begins, IsGood, AllSmall, SmallName, NotView, told, view_of, resilience_of, key}
+use Rattle.am_chain_lists.specs.Whole.{Begins, IsGood, AllSmall, SmallName, NotView, image_of, view_of, resilience_of, key}
 use Rattle.am_chain_lists.proofs.Rows.{by_cases, view_parts}
 use Rattle.am_chain_lists.proofs.Members.{fold_append, fit_back, small_back, told_push, last_fits, last_small, good_begins}
 
@@ -73,14 +73,14 @@ rises_fold image n (e ∷ es) l f s =
     let a = one.view in let b = more.view in let c = one.resilience in let d = more.resilience in
     record { view = omega arith; resilience = omega arith; small = more.small }
 
-pub rises_begins : {a b : List Entry} → IsGood b → Begins a b → Rises (told a) (told b)
+pub rises_begins : {a b : List Entry} → IsGood b → Begins a b → Rises (image_of a) (image_of b)
 rises_begins {a} {b} g h =
     let ga = good_begins h g in
     let low : 0 < 256 = omega arith in
     let start = rises_fold blank 1 a low ga.fit ga.small in
     let f = fit_back blank 1 a h.rest (subst (AllFit blank 1) (sym h.same) g.fit) in
     let s = small_back a h.rest (subst AllSmall (sym h.same) g.small) in
-    subst (Rises (told a)) (sym (fold_append blank 1 a h.rest) ∙ ap told h.same) (rises_fold (told a) (1 + length a) h.rest start.small f s)
+    subst (Rises (image_of a)) (sym (fold_append blank 1 a h.rest) ∙ ap image_of h.same) (rises_fold (image_of a) (1 + length a) h.rest start.small f s)
 
 pub view_up : {a b : List Entry} → IsGood b → Begins a b → key (view_of a) ≤ key (view_of b)
 unfolding view_of
@@ -110,10 +110,10 @@ pub view_below : (a : List Entry) (stamp : Stamp) (members : List ℕ) (resilien
 unfolding fits view_of
 view_below a stamp members resilience g =
     let f = last_fits a (View stamp members resilience) g in
-    let lt = (view_parts (told a) stamp members resilience f).above in
-    key_lt (told a).view stamp (small_before a g) (last_small a (View stamp members resilience) g) lt
+    let lt = (view_parts (image_of a) stamp members resilience f).above in
+    key_lt (image_of a).view stamp (small_before a g) (last_small a (View stamp members resilience) g) lt
   where
-    small_before : (a : List Entry) → IsGood (a ++ View stamp members resilience ∷ []) → (told a).view.by < 256
+    small_before : (a : List Entry) → IsGood (a ++ View stamp members resilience ∷ []) → (image_of a).view.by < 256
     small_before a g = let h : Begins a (a ++ View stamp members resilience ∷ []) = record { rest = View stamp members resilience ∷ []; same = refl } in
         let ga = good_begins h g in let low : 0 < 256 = omega arith in (rises_fold blank 1 a low ga.fit ga.small).small
 
@@ -127,14 +127,14 @@ view_same image n (View stamp members resilience) h = absurd h
 -- an entry that is no View leaves the view
 pub view_push : (a : List Entry) (e : Entry) → NotView e → view_of (a ++ e ∷ []) ≡ view_of a
 unfolding view_of
-view_push a e h = ap (λ (i : Image). i.view) (told_push a e) ∙ view_same (told a) (1 + length a) e h
+view_push a e h = ap (λ (i : Image). i.view) (told_push a e) ∙ view_same (image_of a) (1 + length a) e h
 
 -- a View of some of the members, by one of them, with a greater stamp and no less resilience fits
 pub view_fits : (a : List Entry) (stamp : Stamp) (members : List ℕ) (resilience : ℕ) → IsGood a → stamp.by < 256 → key (view_of a) < key stamp
-    → is_within members (members_of (told a)) ≡ true → has members stamp.by ≡ true → resilience_of a ≤ resilience
-    → fits (told a) (View stamp members resilience) ≡ true
+    → is_within members (members_of (image_of a)) ≡ true → has members stamp.by ≡ true → resilience_of a ≤ resilience
+    → fits (image_of a) (View stamp members resilience) ≡ true
 unfolding fits view_of resilience_of
 view_fits a stamp members resilience g s up w h r =
     let low : 0 < 256 = omega arith in
-    let lt = lt_key (told a).view stamp (rises_fold blank 1 a low g.fit g.small).small s up in
+    let lt = lt_key (image_of a).view stamp (rises_fold blank 1 a low g.fit g.small).small s up in
     grind (arith, nat_tests)

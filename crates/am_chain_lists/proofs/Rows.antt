@@ -11,7 +11,7 @@ use Rattle.am_base.specs.declared.entry.Entry.{Entry}
 use Rattle.am_base.specs.declared.entry.Entry.TheVariants.{Data, Join, Leave, View}
 use Rattle.am_base.specs.Names.{has, place_of, life_of, is_within}
 use Rattle.am_base.specs.Stamps.{stamp_lt}
-use Rattle.am_base.specs.Lists.{blank_row, is_blank_row, is_blank, after, fits, members_of, member_life, at_place, with_row, viewed}
+use Rattle.am_base.specs.Lists.{blank_row, is_blank_row, is_blank, after, fits, members_of, member_life, at_place, with_row, row_after_view}
 use Rattle.am_base.proofs.Places.{get_or-by_place, length-by_place}
 
 -- the row of a place
@@ -146,88 +146,73 @@ blank_joined image place h =
 not_blank : (image : Image) (place : ℕ) → 0 < (row_at image place).joined → is_blank image ≡ false
 not_blank image place up = by_cases (is_blank image) (λ t. let z = blank_joined image place t in absurd (omega arith)) (λ f. f)
 
-was_viewed : (r : Row) (n life given : ℕ) → 0 < n → Was r life → Was (viewed false n given r) life
-was_viewed r n life given up h = by_cases (nat_lt 0 (member_life r) && not (member_life r == given))
-    (λ t. rw t (inr (⊎_elim (λ (x : In r life). in_left r n life up x) (λ (x : Past r life). past_left r n life up x) h)))
-    (λ f. rw f h)
-
-past_viewed : (r : Row) (n life given : ℕ) → 0 < n → Past r life → Past (viewed false n given r) life
-past_viewed r n life given up h = by_cases (nat_lt 0 (member_life r) && not (member_life r == given))
-    (λ t. rw t (past_left r n life up h))
-    (λ f. rw f h)
-
 pub row_view : (image : Image) (n : ℕ) (stamp : Stamp) (members : List ℕ) (resilience place : ℕ) → place < 16
-    → row_at (after image n (View stamp members resilience)) place ≡ viewed (is_blank image) n (slice_index members place) (row_at image place)
+    → row_at (after image n (View stamp members resilience)) place ≡ row_after_view (is_blank image) n (slice_index members place) (row_at image place)
 unfolding after
 row_view image n stamp members resilience place h = get_or-by_place
-    (λ p. viewed (is_blank image) n (slice_index members p) (get_or image.rows p blank_row)) place blank_row h
+    (λ p. row_after_view (is_blank image) n (slice_index members p) (get_or image.rows p blank_row)) place blank_row h
 
-pub was_after : (image : Image) (n : ℕ) (e : Entry) (place life : ℕ) → length image.rows ≡ 16 → place < 16 → 0 < n → fits image e ≡ true
-    → Was (row_at image place) life → Was (row_at (after image n e) place) life
+-- what every entry's change of a row keeps for this life of the place
+pub record Lasting (life : ℕ) (P : Row → Type 0) : Type 0 where
+  pub was : (r : Row) → P r → Was r life
+  pub past : (r : Row) → Past r life → P r
+  pub served : (r : Row) (req : ℕ) → P r → P (record r { last = req })
+  pub left : (r : Row) (n : ℕ) → 0 < n → P r → P (record r { left = n })
+
+pub was_lasting : (life : ℕ) → Lasting life (λ r. Was r life)
+was_lasting life = record {
+  was = λ r h. h;
+  past = λ r h. inr h;
+  served = λ r req h. ⊎_elim (λ (x : In r life). inl (in_data r req life x)) (λ (x : Past r life). inr (past_data r req life x)) h;
+  left = λ r n up h. inr (⊎_elim (λ (x : In r life). in_left r n life up x) (λ (x : Past r life). past_left r n life up x) h);
+}
+
+pub past_lasting : (life : ℕ) → Lasting life (λ r. Past r life)
+past_lasting life = record {
+  was = λ r h. inr h;
+  past = λ r h. h;
+  served = λ r req h. past_data r req life h;
+  left = λ r n up h. past_left r n life up h;
+}
+
+was_joined : (r : Row) (life : ℕ) → Was r life → 0 < r.joined
+was_joined r life h = ⊎_elim (λ (x : In r life). x.joined) (λ (x : Past r life). x.joined) h
+
+viewed_keeps : (P : Row → Type 0) (r : Row) (n life given : ℕ) → Lasting life P → 0 < n → P r → P (row_after_view false n given r)
+viewed_keeps P r n life given k up h = by_cases (nat_lt 0 (member_life r) && not (member_life r == given))
+    (λ t. rw t (k.left r n up h))
+    (λ f. rw f h)
+
+-- a change of a name's row keeps at any place what it keeps at the name's
+pub set_keeps : (P : Row → Type 0) (image : Image) (name place : ℕ) (r : Row) → length image.rows ≡ 16
+    → (place ≡ place_of name → P (at_place image name) → P r) → P (row_at image place) → P (row_at (with_row image name r) place)
+set_keeps P image name place r long keeps h = ⊎_elim
+    (λ (x : (place ≡ place_of name) × (row_at (with_row image name r) place ≡ r)). rw x.1 (keeps x.0 (subst (λ p. P (row_at image p)) x.0 h)))
+    (λ (x : (place ≢ place_of name) × (row_at (with_row image name r) place ≡ row_at image place)). rw x.1 h)
+    (row_set image name place r long)
+
+pub lasts_after : (P : Row → Type 0) (image : Image) (n : ℕ) (e : Entry) (place life : ℕ) → Lasting life P → length image.rows ≡ 16 → place < 16 → 0 < n
+    → fits image e ≡ true → P (row_at image place) → P (row_at (after image n e) place)
 unfolding after
-was_after image n (Data from req body) place life long low up f h = by_cases ((at_place image from).life == life_of from)
-    (λ t. rw t (⊎_elim
-    (λ (x : (place ≡ place_of from) × (row_at (with_row image from (record (at_place image from) { last = req })) place
-    ≡ record (at_place image from) { last = req })).
-    rw x.1 (let w = subst (λ p. Was (row_at image p) life) x.0 h in
-    ⊎_elim (λ (y : In (at_place image from) life). inl (in_data (at_place image from) req life y))
-    (λ (y : Past (at_place image from) life). inr (past_data (at_place image from) req life y)) w))
-    (λ (x : (place ≢ place_of from) × (row_at (with_row image from (record (at_place image from) { last = req })) place ≡ row_at image place)). rw x.1 h)
-    (row_set image from place (record (at_place image from) { last = req }) long)))
+lasts_after P image n (Data from req body) place life k long low up f h = by_cases ((at_place image from).life == life_of from)
+    (λ t. rw t (set_keeps P image from place (record (at_place image from) { last = req }) long (λ is x. k.served (at_place image from) req x) h))
     (λ f. rw f h)
-was_after image n (Join name) place life long low up f h = ⊎_elim
-    (λ (x : (place ≡ place_of name) × (row_at (with_row image name (record { life = life_of name; joined = n; left = 0; last = 0 })) place
-    ≡ record { life = life_of name; joined = n; left = 0; last = 0 })).
-    rw x.1 (inr (record { joined = up; gone = inl (join_fits image name life f (subst (λ p. Was (row_at image p) life) x.0 h)) })))
-    (λ (x : (place ≢ place_of name) × (row_at (with_row image name (record { life = life_of name; joined = n; left = 0; last = 0 })) place
-    ≡ row_at image place)). rw x.1 h)
-    (row_set image name place (record { life = life_of name; joined = n; left = 0; last = 0 }) long)
-was_after image n (Leave name) place life long low up f h = by_cases ((at_place image name).life == life_of name)
-    (λ t. rw t (⊎_elim
-    (λ (x : (place ≡ place_of name) × (row_at (with_row image name (record (at_place image name) { left = n })) place
-    ≡ record (at_place image name) { left = n })).
-    rw x.1 (inr (let w = subst (λ p. Was (row_at image p) life) x.0 h in
-    ⊎_elim (λ (y : In (at_place image name) life). in_left (at_place image name) n life up y)
-    (λ (y : Past (at_place image name) life). past_left (at_place image name) n life up y) w)))
-    (λ (x : (place ≢ place_of name) × (row_at (with_row image name (record (at_place image name) { left = n })) place ≡ row_at image place)). rw x.1 h)
-    (row_set image name place (record (at_place image name) { left = n }) long)))
+lasts_after P image n (Join name) place life k long low up f h =
+    let new : Row = record { life = life_of name; joined = n; left = 0; last = 0 } in
+    set_keeps P image name place new long
+    (λ is x. k.past new (record { joined = up; gone = inl (join_fits image name life f (k.was (at_place image name) x)) })) h
+lasts_after P image n (Leave name) place life k long low up f h = by_cases ((at_place image name).life == life_of name)
+    (λ t. rw t (set_keeps P image name place (record (at_place image name) { left = n }) long (λ is x. k.left (at_place image name) n up x) h))
     (λ f. rw f h)
-was_after image n (View stamp members resilience) place life long low up f h =
-    let j : 0 < (row_at image place).joined = ⊎_elim (λ (x : In (row_at image place) life). x.joined) (λ (x : Past (row_at image place) life). x.joined) h in
-    rw (row_view image n stamp members resilience place low, not_blank image place j) (was_viewed (row_at image place) n life (slice_index members place) up h)
+lasts_after P image n (View stamp members resilience) place life k long low up f h =
+    let joined = was_joined (row_at image place) life (k.was (row_at image place) h) in
+    rw (row_view image n stamp members resilience place low, not_blank image place joined)
+    (viewed_keeps P (row_at image place) n life (slice_index members place) k up h)
 
 -- a past one stays past
 pub past_after : (image : Image) (n : ℕ) (e : Entry) (place life : ℕ) → length image.rows ≡ 16 → place < 16 → 0 < n → fits image e ≡ true
     → Past (row_at image place) life → Past (row_at (after image n e) place) life
-unfolding after
-past_after image n (Data from req body) place life long low up f h = by_cases ((at_place image from).life == life_of from)
-    (λ t. rw t (⊎_elim
-    (λ (x : (place ≡ place_of from) × (row_at (with_row image from (record (at_place image from) { last = req })) place
-    ≡ record (at_place image from) { last = req })).
-    rw x.1 (past_data (at_place image from) req life (subst (λ p. Past (row_at image p) life) x.0 h)))
-    (λ (x : (place ≢ place_of from) × (row_at (with_row image from (record (at_place image from) { last = req })) place ≡ row_at image place)). rw x.1 h)
-    (row_set image from place (record (at_place image from) { last = req }) long)))
-    (λ f. rw f h)
-past_after image n (Join name) place life long low up f h = ⊎_elim
-    (λ (x : (place ≡ place_of name) × (row_at (with_row image name (record { life = life_of name; joined = n; left = 0; last = 0 })) place
-    ≡ record { life = life_of name; joined = n; left = 0; last = 0 })).
-    rw x.1 (record { joined = up; gone = inl (join_fits image name life f (inr (subst (λ p. Past (row_at image p) life) x.0 h))) }))
-    (λ (x : (place ≢ place_of name) × (row_at (with_row image name (record { life = life_of name; joined = n; left = 0; last = 0 })) place
-    ≡ row_at image place)). rw x.1 h)
-    (row_set image name place (record { life = life_of name; joined = n; left = 0; last = 0 }) long)
-past_after image n (Leave name) place life long low up f h = by_cases ((at_place image name).life == life_of name)
-    (λ t. rw t (⊎_elim
-    (λ (x : (place ≡ place_of name) × (row_at (with_row image name (record (at_place image name) { left = n })) place
-    ≡ record (at_place image name) { left = n })).
-    rw x.1 (past_left (at_place image name) n life up (subst (λ p. Past (row_at image p) life) x.0 h)))
-    (λ (x : (place ≢ place_of name) × (row_at (with_row image name (record (at_place image name) { left = n })) place ≡ row_at image place)). rw x.1 h)
-    (row_set image name place (record (at_place image name) { left = n }) long)))
-    (λ f. rw f h)
-past_after image n (View stamp members resilience) place life long low up f h =
-    rw (
-      row_view image n stamp members resilience place low,
-      not_blank image place h.joined,
-    ) (past_viewed (row_at image place) n life (slice_index members place) up h)
+past_after image n e place life long low up f h = lasts_after (λ r. Past r life) image n e place life (past_lasting life) long low up f h
 
 pub not_both : (r : Row) (life : ℕ) → In r life → Past r life → ⊥
 not_both r life h k = let a = h.left in let b = h.is in ⊎_elim (λ (x : life < r.life). let z : ⊥ = omega arith in
@@ -250,37 +235,25 @@ join_free image who life f x = let j = x.joined in let l = x.left in let z : ⊥
 pub in_after : (image : Image) (n : ℕ) (e : Entry) (name : ℕ) → length image.rows ≡ 16 → fits image e ≡ true → Spares name e
     → In (row_at image (place_of name)) (life_of name) → In (row_at (after image n e) (place_of name)) (life_of name)
 unfolding after
-in_after image n (Data from req body) name long f s h = by_cases ((at_place image from).life == life_of from)
-    (λ t. rw t (⊎_elim
-    (λ (x : (place_of name ≡ place_of from) × (row_at (with_row image from (record (at_place image from) { last = req })) (place_of name)
-    ≡ record (at_place image from) { last = req })).
-    rw x.1 (in_data (at_place image from) req (life_of name) (subst (λ p. In (row_at image p) (life_of name)) x.0 h)))
-    (λ (x : (place_of name ≢ place_of from) × (row_at (with_row image from (record (at_place image from) { last = req })) (place_of name)
-    ≡ row_at image (place_of name))). rw x.1 h)
-    (row_set image from (place_of name) (record (at_place image from) { last = req }) long)))
+in_after image n (Data from req body) name long f s h =
+    let P : Row → Type 0 = λ r. In r (life_of name) in
+    by_cases ((at_place image from).life == life_of from)
+    (λ t. rw t (set_keeps P image from (place_of name) (record (at_place image from) { last = req }) long
+    (λ is x. in_data (at_place image from) req (life_of name) x) h))
     (λ f. rw f h)
-in_after image n (Join who) name long f s h = ⊎_elim
-    (λ (x : (place_of name ≡ place_of who) × (row_at (with_row image who (record { life = life_of who; joined = n; left = 0; last = 0 })) (place_of name)
-    ≡ record { life = life_of who; joined = n; left = 0; last = 0 })).
-    let w : In (at_place image who) (life_of name) = subst (λ p. In (row_at image p) (life_of name)) x.0 h in absurd (join_free image who (life_of name) f w))
-    (λ (x : (place_of name ≢ place_of who) × (row_at (with_row image who (record { life = life_of who; joined = n; left = 0; last = 0 })) (place_of name)
-    ≡ row_at image (place_of name))). rw x.1 h)
-    (row_set image who (place_of name) (record { life = life_of who; joined = n; left = 0; last = 0 }) long)
-in_after image n (Leave who) name long f s h = by_cases ((at_place image who).life == life_of who)
-    (λ t. rw t (⊎_elim
-    (λ (x : (place_of name ≡ place_of who) × (row_at (with_row image who (record (at_place image who) { left = n })) (place_of name)
-    ≡ record (at_place image who) { left = n })).
-    let w : In (at_place image who) (life_of name) = subst (λ p. In (row_at image p) (life_of name)) x.0 h in
+in_after image n (Join who) name long f s h = set_keeps (λ r. In r (life_of name)) image who (place_of name)
+    (record { life = life_of who; joined = n; left = 0; last = 0 }) long (λ is x. absurd (join_free image who (life_of name) f x)) h
+in_after image n (Leave who) name long f s h =
+    let P : Row → Type 0 = λ r. In r (life_of name) in
+    by_cases ((at_place image who).life == life_of who)
+    (λ t. rw t (set_keeps P image who (place_of name) (record (at_place image who) { left = n }) long (λ is x.
     let l : (at_place image who).life ≡ life_of who = grind (arith, nat_tests) in
-    absurd (s (same_name who name (sym x.0) (sym l ∙ w.is))))
-    (λ (x : (place_of name ≢ place_of who) × (row_at (with_row image who (record (at_place image who) { left = n })) (place_of name)
-    ≡ row_at image (place_of name))). rw x.1 h)
-    (row_set image who (place_of name) (record (at_place image who) { left = n }) long)))
+    absurd (s (same_name who name (sym is) (sym l ∙ x.is)))) h))
     (λ f. rw f h)
 in_after image n (View stamp members resilience) name long f s h = absurd s
 
 -- a View's members are the members after it
-viewed_in : (first : Bool) (n life given : ℕ) (r : Row) → 0 < n → 0 < life → (first ≡ true → r.joined ≡ 0) → In (viewed first n given r) life → given ≡ life
+viewed_in : (first : Bool) (n life given : ℕ) (r : Row) → 0 < n → 0 < life → (first ≡ true → r.joined ≡ 0) → In (row_after_view first n given r) life → given ≡ life
 viewed_in true n life given r up pos free h = by_cases (given == 0)
     (λ t. let g : In r life = rw t at h in let j = g.joined in let z = free refl in absurd (omega arith))
     (λ f. let g : In (record { life = given; joined = 1; left = 0; last = 0 }) life = rw f at h in g.is)
@@ -304,12 +277,12 @@ within_at a b from (suc n) place h l u pos = by_cases (from == place)
     within_at a b (suc from) n place (let w : list_all (λ p. (slice_index a p == 0) || (slice_index a p == slice_index b p)) (range_with_len (suc from) n)
     ≡ true = grind (arith, nat_tests) in w) (omega arith) (omega arith) pos)
 
-first_member : (n given life : ℕ) (r : Row) → 0 < life → given ≡ life → In (viewed true n given r) life
+first_member : (n given life : ℕ) (r : Row) → 0 < life → given ≡ life → In (row_after_view true n given r) life
 first_member n given life r pos e = by_cases (given == 0)
     (λ t. let z : given ≡ 0 = grind (arith, nat_tests) in absurd (omega arith))
     (λ f. let one : 0 < 1 = omega arith in rw f (record { joined = one; left = refl; is = e }))
 
-kept_member : (n given life : ℕ) (r : Row) → given ≡ life → In r life → In (viewed false n given r) life
+kept_member : (n given life : ℕ) (r : Row) → given ≡ life → In r life → In (row_after_view false n given r) life
 kept_member n given life r e h = by_cases (nat_lt 0 (member_life r) && not (member_life r == given))
     (λ t. let j = h.joined in let l = h.left in let i = h.is in absurd (let z : ⊥ = grind (arith, nat_tests) in z))
     (λ f. rw f h)

@@ -19,18 +19,18 @@ pub record BeginsBelow (short long : List Entry) : Type 0 where
   pub same : short ++ next ∷ rest ≡ long
 
 -- what a whole list tells
-abbrev pub told : List Entry → Image
-told list = fold blank 1 list
+abbrev pub image_of : List Entry → Image
+image_of list = fold blank 1 list
 
 -- the name is a member at its end
 unfoldable pub mem : List Entry → ℕ → Bool
-mem list name = has (members_of (told list)) name
+mem list name = has (members_of (image_of list)) name
 
 unfoldable pub view_of : List Entry → Stamp
-view_of list = (told list).view
+view_of list = (image_of list).view
 
 unfoldable pub resilience_of : List Entry → ℕ
-resilience_of list = (told list).resilience
+resilience_of list = (image_of list).resilience
 
 -- stamps in order, as numbers: by round, then by name
 unfoldable pub key : Stamp → ℕ

@@ -7,12 +7,12 @@ use Rattle.am_base.specs.declared.entry.Entry.TheVariants.{Data, Join, Leave, Vi
 use Rattle.am_base.specs.Names.{has}
 use Rattle.am_base.specs.Lists.{members_of, fits}
 use Rattle.am_base.specs.Fronts.{counted_of}
-use Rattle.am_chain_lists.specs.Whole.{Begins, IsGood, NotView, SmallName, told, mem, view_of, key, resilience_of}
+use Rattle.am_chain_lists.specs.Whole.{Begins, IsGood, NotView, SmallName, image_of, mem, view_of, key, resilience_of}
 use Rattle.am_chain_lists.proofs.Prefixes.{begins_refl, begins_more, begins_trans, begins_length, begins_both, begins_pushed, begins_take, length_take}
 use Rattle.am_chain_lists.proofs.Rows.{Spares}
 use Rattle.am_chain_lists.proofs.Members.{mem_push, good_push}
 use Rattle.am_chain_lists.proofs.Order.{view_push}
-use Rattle.am_chain_moves.specs.Group.{put, how_many, counted, need_of, Node, opening, Views, Group, chain_of, IsThere, IsUp, Leads, MayAccept}
+use Rattle.am_chain_moves.specs.Group.{put, how_many, counted_in, need_of, Node, opening, Views, Group, chain_of, IsThere, IsUp, Leads, MayAccept}
 use Rattle.am_chain_moves.specs.Kept.{NodeOk, ServedOk, Witness, DepartedOk, ViewsOk, Kept}
 use Rattle.am_chain_moves.proofs.Puts.{put_cases, put_same, put_at, by_cases}
 use Rattle.am_chain_moves.proofs.Frames.{Later, later_all, shown_later, served_later, witness_later, departed_later}
@@ -26,17 +26,17 @@ get_more (e ∷ a) r zero l = refl
 get_more (e ∷ a) r (suc n) l = get_more a r n (omega arith)
 
 -- what counts at a number is the same in a longer list
-pub counted_more : {a b : List Entry} (n : ℕ) → Begins a b → 0 < n → n ≤ length a → counted b n ≡ counted a n
+pub counted_more : {a b : List Entry} (n : ℕ) → Begins a b → 0 < n → n ≤ length a → counted_in b n ≡ counted_in a n
 counted_more {a} {b} n h low l =
     let z : n - 1 ≤ length a = omega arith in
     let w : n - 1 < length a = omega arith in
-    ap (λ (x : List Entry). counted_of (slice_get b (n - 1)) (members_of (told x))) (take_more (n - 1) h z)
-    ∙ ap (λ o. counted_of o (members_of (told (take (n - 1) a)))) (ap (λ l. slice_get l (n - 1)) (sym h.same) ∙ get_more a h.rest (n - 1) w)
+    ap (λ (x : List Entry). counted_of (slice_get b (n - 1)) (members_of (image_of x))) (take_more (n - 1) h z)
+    ∙ ap (λ o. counted_of o (members_of (image_of (take (n - 1) a)))) (ap (λ l. slice_get l (n - 1)) (sym h.same) ∙ get_more a h.rest (n - 1) w)
 
 pub need_more : {a b : List Entry} (n : ℕ) → Begins a b → 0 < n → n ≤ length a → need_of b n ≡ need_of a n
 need_more {a} {b} n h low l =
     ap (λ m. min (resilience_of (take n b) + 1) (how_many (has m))) (counted_more n h low l)
-    ∙ ap (λ x. min (resilience_of x + 1) (how_many (has (counted a n)))) (take_more n h l)
+    ∙ ap (λ x. min (resilience_of x + 1) (how_many (has (counted_in a n)))) (take_more n h l)
 
 -- the same witness, of a longer list
 pub witness_more : (node : ℕ → Node) (a b : List Entry) (n : ℕ) → Begins a b → 0 < n → Witness node a n → Witness node b n
@@ -131,7 +131,7 @@ group_change s k list to is may =
     }
 
 -- One entry more of the chain, by its sequencer.
-module _ (s : Group) (k : Kept s) (i : ℕ) (e : Entry) (leads : Leads i (s.node i)) (fit : fits (told (s.node i).list) e ≡ true) (plain : NotView e) where
+module _ (s : Group) (k : Kept s) (i : ℕ) (e : Entry) (leads : Leads i (s.node i)) (fit : fits (image_of (s.node i).list) e ≡ true) (plain : NotView e) where
   pub list_is : (s.node i).list ≡ chain_of s.views
   list_is = ((k.each i).leads leads).chain
 

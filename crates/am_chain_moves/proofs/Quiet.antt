@@ -5,7 +5,7 @@ use Rattle.am_base.specs.declared.name.Stamp.{Stamp}
 use Rattle.am_base.specs.declared.entry.Entry.{Entry}
 use Rattle.am_base.specs.declared.entry.Entry.TheVariants.{Data, Join, Leave, View}
 use Rattle.am_base.specs.Lists.{fits}
-use Rattle.am_chain_lists.specs.Whole.{Begins, NotView, told, mem, view_of, key}
+use Rattle.am_chain_lists.specs.Whole.{Begins, NotView, image_of, mem, view_of, key}
 use Rattle.am_chain_lists.proofs.Prefixes.{begins_refl, begins_nil, begins_more, begins_trans, begins_length, begins_both, below_begins}
 use Rattle.am_chain_lists.proofs.Rows.{Spares}
 use Rattle.am_chain_lists.proofs.Members.{mem_between, mem_push}
@@ -32,7 +32,7 @@ later_longer m e = record {
 two : (a b : ℕ) → (a ≤ b) ⊎ (b < a)
 two a b = grind arith
 
-leave_fits : (list : List Entry) (i : ℕ) → mem list i ≡ true → fits (told list) (Leave i) ≡ true
+leave_fits : (list : List Entry) (i : ℕ) → mem list i ≡ true → fits (image_of list) (Leave i) ≡ true
 unfolding mem fits
 leave_fits list i h = h
 
@@ -232,7 +232,7 @@ module _ (s : Group) (k : Kept s) where
   spares_staying i (Leave name) h j l = λ same. let z = h.0 in let w = ap (λ x. (s.node x).leaving) same in absurd (cc)
   spares_staying i (View stamp members resilience) h j l = absurd h
 
-  pub numbers_keeps : (i : ℕ) (e : Entry) → Leads i (s.node i) → fits (told (s.node i).list) e ≡ true → MayNumber s.node i e
+  pub numbers_keeps : (i : ℕ) (e : Entry) → Leads i (s.node i) → fits (image_of (s.node i).list) e ≡ true → MayNumber s.node i e
       → Kept (with_line s i (longer (s.node i) e))
   numbers_keeps i e l fit may =
       let m = s.node i in

@@ -7,7 +7,7 @@ use Rattle.am_base.specs.declared.entry.Entry.TheVariants.{View}
 use Rattle.am_base.specs.Names.{has}
 use Rattle.am_base.specs.Lists.{members_of}
 use Rattle.am_base.specs.Fronts.{counted_of}
-use Rattle.am_chain_lists.specs.Whole.{Begins, told, mem, view_of, resilience_of, key}
+use Rattle.am_chain_lists.specs.Whole.{Begins, image_of, mem, view_of, resilience_of, key}
 
 -- a function with one value changed
 unfoldable pub put : {A : Type 0} → (ℕ → A) → ℕ → A → ℕ → A
@@ -101,17 +101,17 @@ abbrev pub IsOngoing : List Entry → ℕ → Type 0
 IsOngoing list name = (a : List Entry) → Begins a list → mem a name ≡ true → mem list name ≡ true
 
 -- whose storage of an entry counts: a View's own members, else the members before it
-abbrev pub counted : List Entry → ℕ → List ℕ
-counted list number = counted_of (slice_get list (number - 1)) (members_of (told (take (number - 1) list)))
+abbrev pub counted_in : List Entry → ℕ → List ℕ
+counted_in list number = counted_of (slice_get list (number - 1)) (members_of (image_of (take (number - 1) list)))
 
 -- how many of these must have stored it: one more than the resilience there, or all
 abbrev pub need_of : List Entry → ℕ → ℕ
-need_of list number = min (resilience_of (take number list) + 1) (how_many (has (counted list number)))
+need_of list number = min (resilience_of (take number list) + 1) (how_many (has (counted_in list number)))
 
 -- enough of those whose storage counts have stored this number of the list
 pub record IsHeld (node : ℕ → Node) (list : List Entry) (number : ℕ) : Type 0 where
   pub holders : ℕ → Bool
-  pub counts : (h : ℕ) → holders h ≡ true → has (counted list number) h ≡ true
+  pub counts : (h : ℕ) → holders h ≡ true → has (counted_in list number) h ≡ true
   pub logs : (h : ℕ) → holders h ≡ true → (node h).has_log ≡ true
   pub stored : (h : ℕ) → holders h ≡ true → Begins (take number list) (node h).list
   pub enough : need_of list number ≤ how_many holders

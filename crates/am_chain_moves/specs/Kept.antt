@@ -5,7 +5,7 @@ use Rattle.am_base.specs.declared.entry.Entry.{Entry}
 use Rattle.am_base.specs.declared.entry.Entry.TheVariants.{Leave}
 use Rattle.am_base.specs.Names.{has}
 use Rattle.am_chain_lists.specs.Whole.{Begins, BeginsBelow, IsGood, mem, view_of, key}
-use Rattle.am_chain_moves.specs.Group.{how_many, counted, need_of, Node, opening, Views, Group, chain_of, current_of, IsThere, IsUp, Leads}
+use Rattle.am_chain_moves.specs.Group.{how_many, counted_in, need_of, Node, opening, Views, Group, chain_of, current_of, IsThere, IsUp, Leads}
 
 -- what it was told is accepted, and what it gave out or may give out is what was accepted
 pub record FrontsOk (group : List Entry) (m : Node) : Type 0 where
@@ -84,7 +84,7 @@ pub record Witness (node : ℕ → Node) (group : List Entry) (n : ℕ) : Type 0
   pub above : n ≤ number
   pub within : number ≤ length group
   pub holders : ℕ → Bool
-  pub counts : (h : ℕ) → holders h ≡ true → has (counted group number) h ≡ true
+  pub counts : (h : ℕ) → holders h ≡ true → has (counted_in group number) h ≡ true
   pub logs : (h : ℕ) → holders h ≡ true → (node h).has_log ≡ true
   pub joined : (h : ℕ) → holders h ≡ true → (node h).start < n
   pub stored : (h : ℕ) → holders h ≡ true → Begins (take number group) (node h).list

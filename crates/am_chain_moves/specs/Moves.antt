@@ -5,7 +5,7 @@ use Rattle.am_base.specs.declared.entry.Entry.{Entry}
 use Rattle.am_base.specs.declared.entry.Entry.TheVariants.{Data, Join, Leave, View}
 use Rattle.am_base.specs.Names.{has, is_within}
 use Rattle.am_base.specs.Lists.{members_of, fits}
-use Rattle.am_chain_lists.specs.Whole.{Begins, told, mem, view_of, resilience_of, key}
+use Rattle.am_chain_lists.specs.Whole.{Begins, image_of, mem, view_of, resilience_of, key}
 use Rattle.am_chain_moves.specs.Group.{put, put2, Node, Chosen, opening, Group, IsThere, IsUp, Leads, IsOngoing, MayAccept, NoBetter}
 
 -- a sequencer numbers sends, Joins, and Leaves that others asked for
@@ -36,7 +36,7 @@ pub record MayDecide (s : Group) (i : ℕ) (members : List ℕ) (resilience : �
   pub ballot : (s.node i).ballot ≡ true
   pub needed : mem (s.node i).list i ≡ true
   pub votes : (j : ℕ) → mem (s.node i).list j ≡ true → IsThere (s.node j) → (j ≡ i) ⊎ Voted s (key (s.node i).promise) j (s.node i).list
-  pub within : is_within members (members_of (told (s.node i).list)) ≡ true
+  pub within : is_within members (members_of (image_of (s.node i).list)) ≡ true
   pub all : (j : ℕ) → mem (s.node i).list j ≡ true → IsThere (s.node j) → has members j ≡ true
   pub strong : resilience_of (s.node i).list ≤ resilience
 
@@ -96,7 +96,7 @@ with_choice s i members resilience = record s {
 
 pub data Move : Group → Group → Type 0 where
   -- the sequencer numbers an entry that fits: Request, Spread, Send and Tick of a sequencer, JoinAsk, LeaveAsk
-  numbers : {s : Group} (i : ℕ) (e : Entry) → Leads i (s.node i) → fits (told (s.node i).list) e ≡ true → MayNumber s.node i e
+  numbers : {s : Group} (i : ℕ) (e : Entry) → Leads i (s.node i) → fits (image_of (s.node i).list) e ≡ true → MayNumber s.node i e
       → Move s (with_line s i (longer (s.node i) e))
   -- a node takes the next entry of the line of its promise, of another's ballot, as long as its own Leave isn't in its list:
   -- Bcast, Order, a Piece of the promise's own name, Result

@@ -47,32 +47,31 @@ kind_at n =
     else None
 
 -- the least and the greatest number of bytes of a kind
+abbrev pub totals : Kind → ℕ × ℕ
+totals kinds.Request = (24, 1048)
+totals kinds.Spread = (24, 1048)
+totals kinds.Bcast = (25, 65535)
+totals kinds.Order = (29, 29)
+totals kinds.Accept = (25, 25)
+totals kinds.Ack = (20, 20)
+totals kinds.Nack = (20, 20)
+totals kinds.Hold = (24, 24)
+totals kinds.JoinAsk = (12, 12)
+totals kinds.Welcome = (238, 238)
+totals kinds.LeaveAsk = (20, 20)
+totals kinds.Gone = (16, 16)
+totals kinds.Invite = (12, 12)
+totals kinds.Vote = (35, 35)
+totals kinds.Fetch = (16, 16)
+totals kinds.Piece = (21, 65535)
+totals kinds.Result = (31, 31)
+totals kinds.HandOver = (12, 12)
+
 abbrev pub least_total : Kind → ℕ
-least_total kinds.Request = 24
-least_total kinds.Spread = 24
-least_total kinds.Bcast = 25
-least_total kinds.Order = 29
-least_total kinds.Accept = 25
-least_total kinds.Ack = 20
-least_total kinds.Nack = 20
-least_total kinds.Hold = 24
-least_total kinds.JoinAsk = 12
-least_total kinds.Welcome = 238
-least_total kinds.LeaveAsk = 20
-least_total kinds.Gone = 16
-least_total kinds.Invite = 12
-least_total kinds.Vote = 35
-least_total kinds.Fetch = 16
-least_total kinds.Piece = 21
-least_total kinds.Result = 31
-least_total kinds.HandOver = 12
+least_total kind = (totals kind).0
 
 abbrev pub most_total : Kind → ℕ
-most_total kinds.Request = 1048
-most_total kinds.Spread = 1048
-most_total kinds.Bcast = 65535
-most_total kinds.Piece = 65535
-most_total kind = least_total kind
+most_total kind = (totals kind).1
 
 abbrev pub is_total : Kind → ℕ → Bool
 is_total kind total = nat_le (least_total kind) total && nat_le total (most_total kind)

@@ -125,75 +125,42 @@ entry_at bytes at =
     else if slice_index bytes at == 4 then view_at bytes at
     else Err (BadField at)
 
+-- what comes of the two numbers behind the header
+abbrev pub two_at : List ℕ → (ℕ → ℕ → Read Packet) → Read Packet
+two_at bytes make = number_at bytes 12 >>= λ first. number_at bytes 16 >>= λ second. make first second
+
+-- what comes of the three numbers there
+abbrev pub three_at : List ℕ → (ℕ → ℕ → ℕ → Read Packet) → Read Packet
+three_at bytes make = two_at bytes (λ first second. number_at bytes 20 >>= λ third. make first second third)
+
 -- the packet of a kind, a sender and a stamp, by its fields after the header
 unfoldable pub packet_at : Kind → ℕ → Stamp → List ℕ → Read Packet
-packet_at kinds.Request sender stamp bytes = do
-  report ← report_at bytes 12
-  req ← number_at bytes 20
-  Ok (packets.Request sender stamp report req (drop 24 bytes))
-packet_at kinds.Spread sender stamp bytes = do
-  report ← report_at bytes 12
-  req ← number_at bytes 20
-  Ok (packets.Spread sender stamp report req (drop 24 bytes))
-packet_at kinds.Bcast sender stamp bytes = do
-  base ← number_at bytes 12
-  acc ← number_at bytes 16
-  number ← number_at bytes 20
-  entry ← entry_at bytes 24
-  Ok (packets.Bcast sender stamp base acc number entry)
-packet_at kinds.Order sender stamp bytes = do
-  base ← number_at bytes 12
-  acc ← number_at bytes 16
-  number ← number_at bytes 20
-  req ← number_at bytes 25
-  Ok (packets.Order sender stamp base acc number (slice_index bytes 24) req)
-packet_at kinds.Accept sender stamp bytes = do
-  base ← number_at bytes 12
-  acc ← number_at bytes 16
-  top ← number_at bytes 20
-  poll ← flag_at bytes 24
-  Ok (packets.Accept sender stamp base acc top poll)
-packet_at kinds.Ack sender stamp bytes = do
-  report ← report_at bytes 12
-  Ok (packets.Ack sender stamp report)
-packet_at kinds.Nack sender stamp bytes = do
-  report ← report_at bytes 12
-  Ok (packets.Nack sender stamp report)
-packet_at kinds.Hold sender stamp bytes = do
-  base ← number_at bytes 12
-  top ← number_at bytes 16
-  req ← number_at bytes 20
-  Ok (packets.Hold sender stamp base top req)
+packet_at kinds.Request sender stamp bytes =
+    report_at bytes 12 >>= λ report. number_at bytes 20 >>= λ req. Ok (packets.Request sender stamp report req (drop 24 bytes))
+packet_at kinds.Spread sender stamp bytes =
+    report_at bytes 12 >>= λ report. number_at bytes 20 >>= λ req. Ok (packets.Spread sender stamp report req (drop 24 bytes))
+packet_at kinds.Bcast sender stamp bytes =
+    three_at bytes (λ base acc number. entry_at bytes 24 >>= λ entry. Ok (packets.Bcast sender stamp base acc number entry))
+packet_at kinds.Order sender stamp bytes =
+    three_at bytes (λ base acc number. number_at bytes 25 >>= λ req. Ok (packets.Order sender stamp base acc number (slice_index bytes 24) req))
+packet_at kinds.Accept sender stamp bytes =
+    three_at bytes (λ base acc top. flag_at bytes 24 >>= λ poll. Ok (packets.Accept sender stamp base acc top poll))
+packet_at kinds.Ack sender stamp bytes = report_at bytes 12 >>= λ report. Ok (packets.Ack sender stamp report)
+packet_at kinds.Nack sender stamp bytes = report_at bytes 12 >>= λ report. Ok (packets.Nack sender stamp report)
+packet_at kinds.Hold sender stamp bytes = three_at bytes (λ base top req. Ok (packets.Hold sender stamp base top req))
 packet_at kinds.JoinAsk sender stamp bytes = Ok (packets.JoinAsk sender stamp)
-packet_at kinds.Welcome sender stamp bytes = do
-  base ← number_at bytes 12
-  join ← number_at bytes 16
-  image ← image_at bytes 20
-  Ok (packets.Welcome sender stamp base join image)
-packet_at kinds.LeaveAsk sender stamp bytes = do
-  report ← report_at bytes 12
-  Ok (packets.LeaveAsk sender stamp report)
-packet_at kinds.Gone sender stamp bytes = do
-  number ← number_at bytes 12
-  Ok (packets.Gone sender stamp number)
+packet_at kinds.Welcome sender stamp bytes =
+    two_at bytes (λ base join. image_at bytes 20 >>= λ image. Ok (packets.Welcome sender stamp base join image))
+packet_at kinds.LeaveAsk sender stamp bytes = report_at bytes 12 >>= λ report. Ok (packets.LeaveAsk sender stamp report)
+packet_at kinds.Gone sender stamp bytes = number_at bytes 12 >>= λ number. Ok (packets.Gone sender stamp number)
 packet_at kinds.Invite sender stamp bytes = Ok (packets.Invite sender stamp)
-packet_at kinds.Vote sender stamp bytes = do
-  vote ← vote_at bytes 12
-  Ok (packets.Vote sender stamp vote)
-packet_at kinds.Fetch sender stamp bytes = do
-  stored ← number_at bytes 12
-  Ok (packets.Fetch sender stamp stored)
-packet_at kinds.Piece sender stamp bytes = do
-  base ← number_at bytes 12
-  number ← number_at bytes 16
-  entry ← entry_at bytes 20
-  Ok (packets.Piece sender stamp base number entry)
-packet_at kinds.Result sender stamp bytes = do
-  base ← number_at bytes 12
-  number ← number_at bytes 16
-  members ← set_at bytes 20
-  resilience ← resilience_at bytes 30
-  Ok (packets.Result sender stamp base number members resilience)
+packet_at kinds.Vote sender stamp bytes = vote_at bytes 12 >>= λ vote. Ok (packets.Vote sender stamp vote)
+packet_at kinds.Fetch sender stamp bytes = number_at bytes 12 >>= λ stored. Ok (packets.Fetch sender stamp stored)
+packet_at kinds.Piece sender stamp bytes =
+    two_at bytes (λ base number. entry_at bytes 20 >>= λ entry. Ok (packets.Piece sender stamp base number entry))
+packet_at kinds.Result sender stamp bytes =
+    two_at bytes (λ base number. set_at bytes 20 >>= λ members. resilience_at bytes 30 >>= λ resilience. Ok
+    (packets.Result sender stamp base number members resilience))
 packet_at kinds.HandOver sender stamp bytes = Ok (packets.HandOver sender stamp)
 
 -- what stands in the header

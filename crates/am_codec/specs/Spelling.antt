@@ -47,6 +47,10 @@ stamp_of packet = (signature_of packet).stamp
 abbrev pub stamp_bytes : Stamp → List ℕ
 stamp_bytes stamp = big_bytes 4 stamp.round ++ stamp.by ∷ []
 
+-- two numbers
+abbrev pub two_bytes : ℕ → ℕ → List ℕ
+two_bytes first second = big_bytes 4 first ++ big_bytes 4 second
+
 abbrev pub report_bytes : Report → List ℕ
 report_bytes report = big_bytes 4 report.stored ++ big_bytes 4 report.taken
 

@@ -1,6 +1,6 @@
-ghost use Rattle.std.specs.Prelude.{◌≡◌, ◌+◌, ◌≤◌, ◌<◌, length, drop, slice_index};
+ghost use Rattle.std.specs.Prelude.{◌≡◌, ◌+◌, ◌≤◌, ◌<◌, ◌==◌, true, false, IfOk, IfErr, length, drop, slice_index};
 ghost use Rattle.am_base.specs.Most.{most_body};
-ghost use Rattle.am_codec.specs.Reading.{number_at, report_at, stamp_at, set_at, resilience_at, flag_at, life_at, row_at, rows_at, image_at, vote_at, entry_at, data_at, join_at, leave_at, view_at, view_fields_at};
+ghost use Rattle.am_codec.specs.Reading.{number_at, report_at, stamp_at, set_at, resilience_at, flag_at, life_at, row_at, rows_at, image_at, vote_at, entry_at, data_at, view_at, view_fields_at};
 
 use crate::refusal::PacketRefusal;
 use am_base::body::Body;
@@ -35,32 +35,26 @@ pub fn name(bytes: &[u8], at: u32) -> Name
 /// The report at an offset.
 #[tactic(auto, unfolding(crate::specs::Reading::report_at))]
 pub fn report(bytes: &[u8], at: u32) -> Result<Report, PacketRefusal>
-    requires long { at + 8 ≤ length bytes.now }
-    requires small { at < 1000 }
+    requires { (at + 8 ≤ length bytes.now) × (at < 1000) }
     ensures { result ≡ report_at bytes.now at }
 {
-    let stored = number(bytes, at)?;
-    let taken = number(bytes, at + 4)?;
-    Ok(Report { stored, taken })
+    read!(bytes, Report { stored: number @ at, taken: number @ at + 4 })
 }
 
 /// The stamp at an offset.
 #[tactic(auto, unfolding(crate::specs::Reading::stamp_at))]
 pub fn stamp(bytes: &[u8], at: u32) -> Result<Stamp, PacketRefusal>
-    requires long { at + 5 ≤ length bytes.now }
-    requires small { at < 1000 }
+    requires { (at + 5 ≤ length bytes.now) × (at < 1000) }
     ensures { result ≡ stamp_at bytes.now at }
 {
-    let round = number(bytes, at)?;
     let by = name(bytes, at + 4);
-    Ok(Stamp { round, by })
+    read!(bytes, Stamp { round: number @ at }, by)
 }
 
 /// The set of names at an offset.
 #[tactic(auto, unfolding(crate::specs::Reading::set_at))]
 pub fn set(bytes: &[u8], at: u32) -> Result<Names, PacketRefusal>
-    requires long { at + 10 ≤ length bytes.now }
-    requires small { at < 1000 }
+    requires { (at + 10 ≤ length bytes.now) × (at < 1000) }
     ensures { result ≡ set_at bytes.now at }
 {
     let mask = BigEndian::read_u16(&bytes[at as usize..]);
@@ -97,6 +91,7 @@ pub fn flag(bytes: &[u8], at: u32) -> Result<bool, PacketRefusal>
     }
 }
 
+/// The life at an offset, of a row whose Join has this number.
 #[tactic(auto, unfolding(crate::specs::Reading::life_at))]
 fn life(bytes: &[u8], at: u32, joined: u32) -> Result<u8, PacketRefusal>
     requires { at < length bytes.now }
@@ -109,27 +104,20 @@ fn life(bytes: &[u8], at: u32, joined: u32) -> Result<u8, PacketRefusal>
     Err(PacketRefusal::BadField { at })
 }
 
+/// The row of a place at an offset.
 #[tactic(auto, unfolding(crate::specs::Reading::row_at))]
 fn row(bytes: &[u8], at: u32) -> Result<Row, PacketRefusal>
-    requires long { at + 13 ≤ length bytes.now }
-    requires small { at < 1000 }
+    requires { (at + 13 ≤ length bytes.now) × (at < 1000) }
     ensures { result ≡ row_at bytes.now at }
 {
     let joined = number(bytes, at + 1)?;
     let life = life(bytes, at, joined)?;
-    let left = number(bytes, at + 5)?;
-    let last = number(bytes, at + 9)?;
-    Ok(Row {
-        life,
-        joined,
-        left,
-        last,
-    })
+    read!(bytes, Row { left: number @ at + 5, last: number @ at + 9 }, life, joined)
 }
 
+/// The rows of the sixteen places from an offset on.
 fn rows(bytes: &[u8], at: u32) -> Result<[Row; 16], PacketRefusal>
-    requires long { at + 208 ≤ length bytes.now }
-    requires small { at < 100 }
+    requires { (at + 208 ≤ length bytes.now) × (at < 100) }
     ensures { result ≡ rows_at 16 bytes.now at }
 {
     let mut rows = [Row::default(); 16];
@@ -142,39 +130,19 @@ fn rows(bytes: &[u8], at: u32) -> Result<[Row; 16], PacketRefusal>
 /// The image at an offset.
 #[tactic(auto, unfolding(crate::specs::Reading::image_at))]
 pub fn image(bytes: &[u8], at: u32) -> Result<Image, PacketRefusal>
-    requires long { at + 218 ≤ length bytes.now }
-    requires small { at < 50 }
+    requires { (at + 218 ≤ length bytes.now) × (at < 50) }
     ensures { result ≡ image_at bytes.now at }
 {
-    let view = stamp(bytes, at)?;
-    let view_number = number(bytes, at + 5)?;
-    let resilience = resilience(bytes, at + 9)?;
-    let rows = rows(bytes, at + 10)?;
-    Ok(Image {
-        view,
-        view_number,
-        resilience,
-        rows,
-    })
+    read!(bytes, Image { view: stamp @ at, view_number: number @ at + 5, resilience: resilience @ at + 9, rows: rows @ at + 10 })
 }
 
 /// The vote at an offset.
 #[tactic(auto, unfolding(crate::specs::Reading::vote_at))]
 pub fn vote(bytes: &[u8], at: u32) -> Result<Vote, PacketRefusal>
-    requires long { at + 23 ≤ length bytes.now }
-    requires small { at < 100 }
+    requires { (at + 23 ≤ length bytes.now) × (at < 100) }
     ensures { result ≡ vote_at bytes.now at }
 {
-    let view = stamp(bytes, at)?;
-    let top = number(bytes, at + 5)?;
-    let taken = number(bytes, at + 9)?;
-    let members = set(bytes, at + 13)?;
-    Ok(Vote {
-        view,
-        top,
-        taken,
-        members,
-    })
+    read!(bytes, Vote { view: stamp @ at, top: number @ at + 5, taken: number @ at + 9, members: set @ at + 13 })
 }
 
 /// The body that stands from an offset on.
@@ -186,10 +154,10 @@ pub fn body(bytes: &[u8], at: u32) -> Body
     Body::of(&bytes[at as usize..]).unwrap()
 }
 
+/// A send, whose body goes on to the end.
 #[tactic(auto, unfolding(crate::specs::Reading::data_at))]
 fn data(bytes: &[u8], at: u32) -> Result<Entry, PacketRefusal>
-    requires long { at < length bytes.now }
-    requires small { at < 100 }
+    requires { (at < length bytes.now) × (at < 100) }
     ensures { result ≡ data_at bytes.now at }
 {
     let at_body = at + 6;
@@ -202,44 +170,30 @@ fn data(bytes: &[u8], at: u32) -> Result<Entry, PacketRefusal>
     Ok(Entry::Data { from, req, body })
 }
 
-#[tactic(auto, unfolding(crate::specs::Reading::join_at))]
-fn join(bytes: &[u8], at: u32) -> Result<Entry, PacketRefusal>
+/// The name behind the tag of an entry that has nothing else.
+fn named(bytes: &[u8], at: u32) -> Result<Name, PacketRefusal>
     requires { at < 100 }
-    ensures { result ≡ join_at bytes.now at }
+    ensures ok { IfOk result (λ name. ((length bytes.now == at + 2) ≡ true)
+        × (name ≡ slice_index bytes.now (at + 1))) }
+    ensures err { IfErr result (λ e. ((length bytes.now == at + 2) ≡ false)
+        × (e ≡ PacketRefusal.BadField 10)) }
 {
     if bytes.len() == at as usize + 2 {
-        return Ok(Entry::Join(name(bytes, at + 1)));
+        return Ok(name(bytes, at + 1));
     }
     Err(PacketRefusal::BadField { at: 10 })
 }
 
-#[tactic(auto, unfolding(crate::specs::Reading::leave_at))]
-fn leave(bytes: &[u8], at: u32) -> Result<Entry, PacketRefusal>
-    requires { at < 100 }
-    ensures { result ≡ leave_at bytes.now at }
-{
-    if bytes.len() == at as usize + 2 {
-        return Ok(Entry::Leave(name(bytes, at + 1)));
-    }
-    Err(PacketRefusal::BadField { at: 10 })
-}
-
+/// What stands behind the tag of a View.
 #[tactic(auto, unfolding(crate::specs::Reading::view_fields_at))]
 fn view_fields(bytes: &[u8], at: u32) -> Result<Entry, PacketRefusal>
-    requires long { at + 17 ≤ length bytes.now }
-    requires small { at < 100 }
+    requires { (at + 17 ≤ length bytes.now) × (at < 100) }
     ensures { result ≡ view_fields_at bytes.now at }
 {
-    let stamp = stamp(bytes, at + 1)?;
-    let members = set(bytes, at + 6)?;
-    let resilience = resilience(bytes, at + 16)?;
-    Ok(Entry::View {
-        stamp,
-        members,
-        resilience,
-    })
+    read!(bytes, Entry::View { stamp: stamp @ at + 1, members: set @ at + 6, resilience: resilience @ at + 16 })
 }
 
+/// A View, where the bytes end behind it.
 #[tactic(auto, unfolding(crate::specs::Reading::view_at))]
 fn view(bytes: &[u8], at: u32) -> Result<Entry, PacketRefusal>
     requires { at < 100 }
@@ -252,16 +206,15 @@ fn view(bytes: &[u8], at: u32) -> Result<Entry, PacketRefusal>
 }
 
 /// The entry that stands from an offset on.
-#[tactic(auto, unfolding(crate::specs::Reading::entry_at))]
+#[tactic(auto, unfolding(crate::specs::Reading::entry_at, crate::specs::Reading::join_at, crate::specs::Reading::leave_at))]
 pub fn entry(bytes: &[u8], at: u32) -> Result<Entry, PacketRefusal>
-    requires long { at < length bytes.now }
-    requires small { at < 100 }
+    requires { (at < length bytes.now) × (at < 100) }
     ensures { result ≡ entry_at bytes.now at }
 {
     match bytes[at as usize] {
         1 => data(bytes, at),
-        2 => join(bytes, at),
-        3 => leave(bytes, at),
+        2 => Ok(Entry::Join(named(bytes, at)?)),
+        3 => Ok(Entry::Leave(named(bytes, at)?)),
         4 => view(bytes, at),
         _ => Err(PacketRefusal::BadField { at }),
     }

@@ -1,5 +1,5 @@
 ghost use Rattle.std.specs.Prelude.{◌≡◌};
-ghost use Rattle.am_codec.specs.Kinds.{kind_at, least_total, most_total, is_total};
+ghost use Rattle.am_codec.specs.Kinds.{kind_at, totals, is_total};
 
 /// The kinds of packets.
 #[derive(Clone, Copy)]
@@ -53,30 +53,23 @@ impl Kind {
         }
     }
 
-    fn least_total(self) -> usize
-        ensures { result ≡ least_total self }
+    /// The least and the greatest number of bytes that its packets have.
+    fn totals(self) -> (usize, usize)
+        ensures { result ≡ totals self }
     {
         match self {
-            Kind::Request | Kind::Spread | Kind::Hold => 24,
-            Kind::Bcast | Kind::Accept => 25,
-            Kind::Order => 29,
-            Kind::Ack | Kind::Nack | Kind::LeaveAsk => 20,
-            Kind::JoinAsk | Kind::Invite | Kind::HandOver => 12,
-            Kind::Welcome => 238,
-            Kind::Gone | Kind::Fetch => 16,
-            Kind::Vote => 35,
-            Kind::Piece => 21,
-            Kind::Result => 31,
-        }
-    }
-
-    fn most_total(self) -> usize
-        ensures { result ≡ most_total self }
-    {
-        match self {
-            Kind::Request | Kind::Spread => 1048,
-            Kind::Bcast | Kind::Piece => 65535,
-            _ => self.least_total(),
+            Kind::Request | Kind::Spread => (24, 1048),
+            Kind::Bcast => (25, 65535),
+            Kind::Order => (29, 29),
+            Kind::Accept => (25, 25),
+            Kind::Ack | Kind::Nack | Kind::LeaveAsk => (20, 20),
+            Kind::Hold => (24, 24),
+            Kind::JoinAsk | Kind::Invite | Kind::HandOver => (12, 12),
+            Kind::Welcome => (238, 238),
+            Kind::Gone | Kind::Fetch => (16, 16),
+            Kind::Vote => (35, 35),
+            Kind::Piece => (21, 65535),
+            Kind::Result => (31, 31),
         }
     }
 
@@ -84,6 +77,7 @@ impl Kind {
     pub fn is_total(self, total: usize) -> bool
         ensures { result ≡ is_total self total }
     {
-        self.least_total() <= total && total <= self.most_total()
+        let (least, most) = self.totals();
+        least <= total && total <= most
     }
 }

@@ -1,3 +1,4 @@
+//! Each kind is read by a function of its own: a function clears its large locals whenever it is entered.
 #![tactic(auto, unfolding(crate::specs::Reading::packet_at))]
 
 ghost use Rattle.std.specs.Prelude.{◌≡◌, ◌≤◌, length, Ok};
@@ -18,16 +19,8 @@ fn request(sender: Name, stamp: Stamp, bytes: &[u8]) -> Result<Packet, PacketRef
     requires most { length bytes.now ≤ 1048 }
     ensures { result ≡ packet_at kinds.Request sender stamp bytes.now }
 {
-    let report = report(bytes, 12)?;
-    let req = number(bytes, 20)?;
     let body = body(bytes, 24);
-    Ok(Packet::Request {
-        sender,
-        stamp,
-        report,
-        req,
-        body,
-    })
+    read!(bytes, Packet::Request { report: report @ 12, req: number @ 20 }, sender, stamp, body)
 }
 
 #[inline(never)]
@@ -36,16 +29,8 @@ fn spread(sender: Name, stamp: Stamp, bytes: &[u8]) -> Result<Packet, PacketRefu
     requires most { length bytes.now ≤ 1048 }
     ensures { result ≡ packet_at kinds.Spread sender stamp bytes.now }
 {
-    let report = report(bytes, 12)?;
-    let req = number(bytes, 20)?;
     let body = body(bytes, 24);
-    Ok(Packet::Spread {
-        sender,
-        stamp,
-        report,
-        req,
-        body,
-    })
+    read!(bytes, Packet::Spread { report: report @ 12, req: number @ 20 }, sender, stamp, body)
 }
 
 #[inline(never)]
@@ -53,18 +38,9 @@ fn bcast(sender: Name, stamp: Stamp, bytes: &[u8]) -> Result<Packet, PacketRefus
     requires { 25 ≤ length bytes.now }
     ensures { result ≡ packet_at kinds.Bcast sender stamp bytes.now }
 {
-    let base = number(bytes, 12)?;
-    let acc = number(bytes, 16)?;
-    let number = number(bytes, 20)?;
-    let entry = entry(bytes, 24)?;
-    Ok(Packet::Bcast {
-        sender,
-        stamp,
-        base,
-        acc,
-        number,
-        entry,
-    })
+    read!(bytes, Packet::Bcast {
+        base: number @ 12, acc: number @ 16, number: number @ 20, entry: entry @ 24
+    }, sender, stamp)
 }
 
 #[inline(never)]
@@ -72,20 +48,10 @@ fn order(sender: Name, stamp: Stamp, bytes: &[u8]) -> Result<Packet, PacketRefus
     requires { 29 ≤ length bytes.now }
     ensures { result ≡ packet_at kinds.Order sender stamp bytes.now }
 {
-    let base = number(bytes, 12)?;
-    let acc = number(bytes, 16)?;
-    let place = number(bytes, 20)?;
-    let req = number(bytes, 25)?;
     let from = name(bytes, 24);
-    Ok(Packet::Order {
-        sender,
-        stamp,
-        base,
-        acc,
-        number: place,
-        from,
-        req,
-    })
+    read!(bytes, Packet::Order {
+        base: number @ 12, acc: number @ 16, number: number @ 20, req: number @ 25
+    }, sender, stamp, from)
 }
 
 #[inline(never)]
@@ -93,18 +59,7 @@ fn accept(sender: Name, stamp: Stamp, bytes: &[u8]) -> Result<Packet, PacketRefu
     requires { 25 ≤ length bytes.now }
     ensures { result ≡ packet_at kinds.Accept sender stamp bytes.now }
 {
-    let base = number(bytes, 12)?;
-    let acc = number(bytes, 16)?;
-    let top = number(bytes, 20)?;
-    let poll = flag(bytes, 24)?;
-    Ok(Packet::Accept {
-        sender,
-        stamp,
-        base,
-        acc,
-        top,
-        poll,
-    })
+    read!(bytes, Packet::Accept { base: number @ 12, acc: number @ 16, top: number @ 20, poll: flag @ 24 }, sender, stamp)
 }
 
 #[inline(never)]
@@ -112,12 +67,7 @@ fn ack(sender: Name, stamp: Stamp, bytes: &[u8]) -> Result<Packet, PacketRefusal
     requires { 20 ≤ length bytes.now }
     ensures { result ≡ packet_at kinds.Ack sender stamp bytes.now }
 {
-    let report = report(bytes, 12)?;
-    Ok(Packet::Ack {
-        sender,
-        stamp,
-        report,
-    })
+    read!(bytes, Packet::Ack { report: report @ 12 }, sender, stamp)
 }
 
 #[inline(never)]
@@ -125,12 +75,7 @@ fn nack(sender: Name, stamp: Stamp, bytes: &[u8]) -> Result<Packet, PacketRefusa
     requires { 20 ≤ length bytes.now }
     ensures { result ≡ packet_at kinds.Nack sender stamp bytes.now }
 {
-    let report = report(bytes, 12)?;
-    Ok(Packet::Nack {
-        sender,
-        stamp,
-        report,
-    })
+    read!(bytes, Packet::Nack { report: report @ 12 }, sender, stamp)
 }
 
 #[inline(never)]
@@ -138,16 +83,7 @@ fn hold(sender: Name, stamp: Stamp, bytes: &[u8]) -> Result<Packet, PacketRefusa
     requires { 24 ≤ length bytes.now }
     ensures { result ≡ packet_at kinds.Hold sender stamp bytes.now }
 {
-    let base = number(bytes, 12)?;
-    let top = number(bytes, 16)?;
-    let req = number(bytes, 20)?;
-    Ok(Packet::Hold {
-        sender,
-        stamp,
-        base,
-        top,
-        req,
-    })
+    read!(bytes, Packet::Hold { base: number @ 12, top: number @ 16, req: number @ 20 }, sender, stamp)
 }
 
 #[inline(never)]
@@ -155,16 +91,7 @@ fn welcome(sender: Name, stamp: Stamp, bytes: &[u8]) -> Result<Packet, PacketRef
     requires { 238 ≤ length bytes.now }
     ensures { result ≡ packet_at kinds.Welcome sender stamp bytes.now }
 {
-    let base = number(bytes, 12)?;
-    let join = number(bytes, 16)?;
-    let image = image(bytes, 20)?;
-    Ok(Packet::Welcome {
-        sender,
-        stamp,
-        base,
-        join,
-        image,
-    })
+    read!(bytes, Packet::Welcome { base: number @ 12, join: number @ 16, image: image @ 20 }, sender, stamp)
 }
 
 #[inline(never)]
@@ -172,12 +99,7 @@ fn leave_ask(sender: Name, stamp: Stamp, bytes: &[u8]) -> Result<Packet, PacketR
     requires { 20 ≤ length bytes.now }
     ensures { result ≡ packet_at kinds.LeaveAsk sender stamp bytes.now }
 {
-    let report = report(bytes, 12)?;
-    Ok(Packet::LeaveAsk {
-        sender,
-        stamp,
-        report,
-    })
+    read!(bytes, Packet::LeaveAsk { report: report @ 12 }, sender, stamp)
 }
 
 #[inline(never)]
@@ -185,12 +107,7 @@ fn gone(sender: Name, stamp: Stamp, bytes: &[u8]) -> Result<Packet, PacketRefusa
     requires { 16 ≤ length bytes.now }
     ensures { result ≡ packet_at kinds.Gone sender stamp bytes.now }
 {
-    let number = number(bytes, 12)?;
-    Ok(Packet::Gone {
-        sender,
-        stamp,
-        number,
-    })
+    read!(bytes, Packet::Gone { number: number @ 12 }, sender, stamp)
 }
 
 #[inline(never)]
@@ -198,12 +115,7 @@ fn vote_of(sender: Name, stamp: Stamp, bytes: &[u8]) -> Result<Packet, PacketRef
     requires { 35 ≤ length bytes.now }
     ensures { result ≡ packet_at kinds.Vote sender stamp bytes.now }
 {
-    let vote = vote(bytes, 12)?;
-    Ok(Packet::Vote {
-        sender,
-        stamp,
-        vote,
-    })
+    read!(bytes, Packet::Vote { vote: vote @ 12 }, sender, stamp)
 }
 
 #[inline(never)]
@@ -211,12 +123,7 @@ fn fetch(sender: Name, stamp: Stamp, bytes: &[u8]) -> Result<Packet, PacketRefus
     requires { 16 ≤ length bytes.now }
     ensures { result ≡ packet_at kinds.Fetch sender stamp bytes.now }
 {
-    let stored = number(bytes, 12)?;
-    Ok(Packet::Fetch {
-        sender,
-        stamp,
-        stored,
-    })
+    read!(bytes, Packet::Fetch { stored: number @ 12 }, sender, stamp)
 }
 
 #[inline(never)]
@@ -224,16 +131,7 @@ fn piece(sender: Name, stamp: Stamp, bytes: &[u8]) -> Result<Packet, PacketRefus
     requires { 21 ≤ length bytes.now }
     ensures { result ≡ packet_at kinds.Piece sender stamp bytes.now }
 {
-    let base = number(bytes, 12)?;
-    let number = number(bytes, 16)?;
-    let entry = entry(bytes, 20)?;
-    Ok(Packet::Piece {
-        sender,
-        stamp,
-        base,
-        number,
-        entry,
-    })
+    read!(bytes, Packet::Piece { base: number @ 12, number: number @ 16, entry: entry @ 20 }, sender, stamp)
 }
 
 #[inline(never)]
@@ -241,18 +139,9 @@ fn result_of(sender: Name, stamp: Stamp, bytes: &[u8]) -> Result<Packet, PacketR
     requires { 31 ≤ length bytes.now }
     ensures { result ≡ packet_at kinds.Result sender stamp bytes.now }
 {
-    let base = number(bytes, 12)?;
-    let number = number(bytes, 16)?;
-    let members = set(bytes, 20)?;
-    let resilience = resilience(bytes, 30)?;
-    Ok(Packet::Result {
-        sender,
-        stamp,
-        base,
-        number,
-        members,
-        resilience,
-    })
+    read!(bytes, Packet::Result {
+        base: number @ 12, number: number @ 16, members: set @ 20, resilience: resilience @ 30
+    }, sender, stamp)
 }
 
 #[inline(never)]

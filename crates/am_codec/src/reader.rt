@@ -76,6 +76,7 @@ fn header(bytes: &[u8]) -> Result<Kind, PacketRefusal>
     kind_of(bytes)
 }
 
+/// The header, the stamp with the total, and then the fields.
 fn read(bytes: &[u8]) -> Result<Packet, PacketRefusal>
     ensures { result ≡ reading bytes.now }
 {

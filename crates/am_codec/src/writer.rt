@@ -3,7 +3,7 @@ ghost use Rattle.am_base.specs.Most.{most_body, most_packet};
 ghost use Rattle.byteorder.specs.Endian.{big_bytes};
 ghost use Rattle.am_base.specs.Names.{IsSet};
 ghost use Rattle.am_codec.specs.Limits.{IsWithin, IsPacket, HasParts, HasEntryParts};
-ghost use Rattle.am_codec.specs.Spelling.{spelling, header, fields_of, entry_bytes, image_bytes, vote_bytes, rows_bytes, row_bytes, set_bytes, report_bytes, stamp_bytes, flag_byte, sender_of, stamp_of};
+ghost use Rattle.am_codec.specs.Spelling.{spelling, header, fields_of, two_bytes, entry_bytes, image_bytes, vote_bytes, rows_bytes, row_bytes, set_bytes, report_bytes, stamp_bytes, flag_byte, sender_of, stamp_of};
 
 use am_base::body::{Body, PacketBytes};
 use am_base::entry::Entry;
@@ -11,10 +11,10 @@ use am_base::image::{Image, Report, Row, Vote};
 use am_base::name::{Name, Stamp};
 use am_base::names::Names;
 use am_packet::packet::Packet;
-use byteorder::{BigEndian, ByteOrder};
 
 const VERSION: u8 = 3;
 
+/// Writes one byte.
 fn put_byte(into: &mut PacketBytes, byte: u8)
     requires { length into.old < most_packet }
     ensures { into.new ≡ into.old ++ byte ∷ [] }
@@ -22,33 +22,31 @@ fn put_byte(into: &mut PacketBytes, byte: u8)
     into.extend(&[byte]);
 }
 
+/// Writes two bytes, the most significant first.
 fn put_short(into: &mut PacketBytes, number: u16)
     requires { length into.old + 2 ≤ most_packet }
     ensures { into.new ≡ into.old ++ big_bytes 2 number }
 {
-    let mut bytes = [0; 2];
-    BigEndian::write_u16(&mut bytes, number);
-    into.extend(&bytes);
+    into.extend(&number.to_be_bytes());
 }
 
+/// Writes four bytes, the most significant first.
 fn put_number(into: &mut PacketBytes, number: u32)
     requires { length into.old + 4 ≤ most_packet }
     ensures { into.new ≡ into.old ++ big_bytes 4 number }
 {
-    let mut bytes = [0; 4];
-    BigEndian::write_u32(&mut bytes, number);
-    into.extend(&bytes);
+    into.extend(&number.to_be_bytes());
 }
 
+/// Writes eight bytes, the most significant first.
 fn put_long(into: &mut PacketBytes, number: u64)
     requires { length into.old + 8 ≤ most_packet }
     ensures { into.new ≡ into.old ++ big_bytes 8 number }
 {
-    let mut bytes = [0; 8];
-    BigEndian::write_u64(&mut bytes, number);
-    into.extend(&bytes);
+    into.extend(&number.to_be_bytes());
 }
 
+/// Writes 1 where it holds, else 0.
 fn put_flag(into: &mut PacketBytes, flag: bool)
     requires { length into.old < most_packet }
     ensures { into.new ≡ into.old ++ flag_byte flag ∷ [] }
@@ -60,6 +58,7 @@ fn put_flag(into: &mut PacketBytes, flag: bool)
     }
 }
 
+/// Writes a round and the name that began it.
 fn put_stamp(into: &mut PacketBytes, stamp: Stamp)
     requires { length into.old + 5 ≤ most_packet }
     ensures { into.new ≡ into.old ++ stamp_bytes stamp }
@@ -68,6 +67,7 @@ fn put_stamp(into: &mut PacketBytes, stamp: Stamp)
     put_byte(into, stamp.by.get());
 }
 
+/// Writes what is stored and what is taken.
 fn put_report(into: &mut PacketBytes, report: Report)
     requires { length into.old + 8 ≤ most_packet }
     ensures { into.new ≡ into.old ++ report_bytes report }
@@ -76,6 +76,7 @@ fn put_report(into: &mut PacketBytes, report: Report)
     put_number(into, report.taken);
 }
 
+/// Writes the places of a set as a mask, and their lives.
 fn put_set(into: &mut PacketBytes, set: Names)
     requires { length into.old + 10 ≤ most_packet }
     ensures { into.new ≡ into.old ++ set_bytes set }
@@ -84,16 +85,16 @@ fn put_set(into: &mut PacketBytes, set: Names)
     put_long(into, set.lives());
 }
 
+/// Writes a place's life and its three numbers.
 fn put_row(into: &mut PacketBytes, row: Row)
     requires { length into.old + 13 ≤ most_packet }
     ensures { into.new ≡ into.old ++ row_bytes row }
 {
     put_byte(into, row.life);
-    put_number(into, row.joined);
-    put_number(into, row.left);
-    put_number(into, row.last);
+    put_numbers(into, row.joined, row.left, row.last);
 }
 
+/// Writes the sixteen rows one behind the other.
 fn put_rows(into: &mut PacketBytes, rows: &[Row; 16])
     requires { length into.old + 208 ≤ most_packet }
     ensures { into.new ≡ into.old ++ rows_bytes rows.now }
@@ -103,6 +104,7 @@ fn put_rows(into: &mut PacketBytes, rows: &[Row; 16])
     }
 }
 
+/// Writes a view and its table.
 fn put_image(into: &mut PacketBytes, image: &Image)
     requires { length into.old + 218 ≤ most_packet }
     ensures { into.new ≡ into.old ++ image_bytes image.now }
@@ -113,6 +115,7 @@ fn put_image(into: &mut PacketBytes, image: &Image)
     put_rows(into, &image.rows);
 }
 
+/// How many bytes sixteen rows take.
 fn rows_len(rows: &[Row; 16]) -> usize
     ensures value { result ≡ length (rows_bytes rows.now) }
     ensures fits { result ≤ 208 }
@@ -121,6 +124,7 @@ fn rows_len(rows: &[Row; 16]) -> usize
     13 * rows.len()
 }
 
+/// How many bytes an image takes.
 fn image_len(image: &Image) -> usize
     ensures value { result ≡ length (image_bytes image.now) }
     ensures fits { result ≤ 218 }
@@ -129,6 +133,7 @@ fn image_len(image: &Image) -> usize
     10 + rows_len(&image.rows)
 }
 
+/// Writes what a voter shows of its list.
 fn put_vote(into: &mut PacketBytes, vote: Vote)
     requires { length into.old + 23 ≤ most_packet }
     ensures { into.new ≡ into.old ++ vote_bytes vote }
@@ -139,6 +144,7 @@ fn put_vote(into: &mut PacketBytes, vote: Vote)
     put_set(into, vote.members);
 }
 
+/// How many bytes a set takes.
 fn set_len(set: Names) -> usize
     ensures value { result ≡ length (set_bytes set) }
     ensures parts { IsSet set }
@@ -146,6 +152,7 @@ fn set_len(set: Names) -> usize
     2 + set.each_life().len() / 2
 }
 
+/// How many bytes an entry takes.
 #[tactic(auto, unfolding(crate::specs::Spelling::entry_bytes))]
 fn entry_len(entry: &Entry) -> usize
     ensures value { result ≡ length (entry_bytes entry.now) }
@@ -160,6 +167,7 @@ fn entry_len(entry: &Entry) -> usize
     }
 }
 
+/// Writes an entry's tag, and then its fields.
 #[tactic(auto, unfolding(crate::specs::Spelling::entry_bytes))]
 fn put_entry(into: &mut PacketBytes, entry: &Entry)
     requires { length into.old ≤ 24 }
@@ -193,6 +201,7 @@ fn put_entry(into: &mut PacketBytes, entry: &Entry)
     }
 }
 
+/// How many bytes a body takes.
 fn body_len(body: &Body) -> usize
     ensures value { result ≡ length body.now }
     ensures fits { result ≤ most_body }
@@ -200,6 +209,7 @@ fn body_len(body: &Body) -> usize
     body.bytes().len()
 }
 
+/// How many bytes a packet's fields take.
 #[tactic(auto, unfolding(crate::specs::Spelling::fields_of, crate::specs::Limits::HasParts))]
 fn fields_len(packet: &Packet) -> usize
     ensures value { result ≡ length (fields_of packet.now) }
@@ -207,27 +217,22 @@ fn fields_len(packet: &Packet) -> usize
     ensures parts { HasParts packet.now }
 {
     match packet {
-        Packet::Request { body, .. } => 12 + body_len(body),
-        Packet::Spread { body, .. } => 12 + body_len(body),
+        Packet::Request { body, .. } | Packet::Spread { body, .. } => 12 + body_len(body),
         Packet::Bcast { entry, .. } => 12 + entry_len(entry),
         Packet::Order { .. } => 17,
         Packet::Accept { .. } => 13,
-        Packet::Ack { .. } => 8,
-        Packet::Nack { .. } => 8,
+        Packet::Ack { .. } | Packet::Nack { .. } | Packet::LeaveAsk { .. } => 8,
         Packet::Hold { .. } => 12,
-        Packet::JoinAsk { .. } => 0,
+        Packet::JoinAsk { .. } | Packet::Invite { .. } | Packet::HandOver { .. } => 0,
         Packet::Welcome { image, .. } => 8 + image_len(image),
-        Packet::LeaveAsk { .. } => 8,
-        Packet::Gone { .. } => 4,
-        Packet::Invite { .. } => 0,
+        Packet::Gone { .. } | Packet::Fetch { .. } => 4,
         Packet::Vote { vote, .. } => 13 + set_len(vote.members),
-        Packet::Fetch { .. } => 4,
         Packet::Piece { entry, .. } => 8 + entry_len(entry),
         Packet::Result { members, .. } => 9 + set_len(*members),
-        Packet::HandOver { .. } => 0,
     }
 }
 
+/// Writes what a Request and a Spread tell.
 fn put_send(into: &mut PacketBytes, report: Report, req: u32, body: &Body)
     requires { length into.old ≤ 12 }
     ensures { into.new ≡ into.old ++ (report_bytes report ++ big_bytes 4 req ++ body.now) }
@@ -237,6 +242,7 @@ fn put_send(into: &mut PacketBytes, report: Report, req: u32, body: &Body)
     into.extend(body.bytes());
 }
 
+/// Writes three numbers.
 fn put_numbers(into: &mut PacketBytes, first: u32, second: u32, third: u32)
     requires { length into.old + 12 ≤ most_packet }
     ensures { into.new ≡ into.old ++ (big_bytes 4 first ++ big_bytes 4 second
@@ -247,14 +253,16 @@ fn put_numbers(into: &mut PacketBytes, first: u32, second: u32, third: u32)
     put_number(into, third);
 }
 
+/// Writes two numbers.
 fn put_two(into: &mut PacketBytes, first: u32, second: u32)
     requires { length into.old + 8 ≤ most_packet }
-    ensures { into.new ≡ into.old ++ (big_bytes 4 first ++ big_bytes 4 second) }
+    ensures { into.new ≡ into.old ++ two_bytes first second }
 {
     put_number(into, first);
     put_number(into, second);
 }
 
+/// Writes what a Bcast tells.
 fn put_bcast(into: &mut PacketBytes, base: u32, acc: u32, number: u32, entry: &Entry)
     requires { length into.old ≤ 12 }
     ensures { into.new ≡ into.old ++ (big_bytes 4 base ++ big_bytes 4 acc ++ big_bytes 4 number
@@ -264,6 +272,7 @@ fn put_bcast(into: &mut PacketBytes, base: u32, acc: u32, number: u32, entry: &E
     put_entry(into, entry);
 }
 
+/// Writes what an Order tells.
 fn put_order(into: &mut PacketBytes, base: u32, acc: u32, number: u32, from: Name, req: u32)
     requires { length into.old ≤ 12 }
     ensures { into.new ≡ into.old ++ (big_bytes 4 base ++ big_bytes 4 acc ++ big_bytes 4 number
@@ -274,6 +283,7 @@ fn put_order(into: &mut PacketBytes, base: u32, acc: u32, number: u32, from: Nam
     put_number(into, req);
 }
 
+/// Writes what an Accept tells.
 fn put_accept(into: &mut PacketBytes, base: u32, acc: u32, top: u32, poll: bool)
     requires { length into.old ≤ 12 }
     ensures { into.new ≡ into.old ++ (big_bytes 4 base ++ big_bytes 4 acc ++ big_bytes 4 top
@@ -283,34 +293,16 @@ fn put_accept(into: &mut PacketBytes, base: u32, acc: u32, top: u32, poll: bool)
     put_flag(into, poll);
 }
 
+/// Writes what a Welcome tells.
 fn put_welcome(into: &mut PacketBytes, base: u32, join: u32, image: &Image)
     requires { length into.old ≤ 12 }
-    ensures { into.new ≡ into.old ++ (big_bytes 4 base ++ big_bytes 4 join
-        ++ image_bytes image.now) }
+    ensures { into.new ≡ into.old ++ (two_bytes base join ++ image_bytes image.now) }
 {
     put_two(into, base, join);
     put_image(into, image);
 }
 
-fn put_piece(into: &mut PacketBytes, base: u32, number: u32, entry: &Entry)
-    requires { length into.old ≤ 12 }
-    ensures { into.new ≡ into.old ++ (big_bytes 4 base ++ big_bytes 4 number
-        ++ entry_bytes entry.now) }
-{
-    put_two(into, base, number);
-    put_entry(into, entry);
-}
-
-fn put_result(into: &mut PacketBytes, base: u32, number: u32, members: Names, resilience: u8)
-    requires { length into.old ≤ 12 }
-    ensures { into.new ≡ into.old ++ (big_bytes 4 base ++ big_bytes 4 number ++ set_bytes members
-        ++ resilience ∷ []) }
-{
-    put_two(into, base, number);
-    put_set(into, members);
-    put_byte(into, resilience);
-}
-
+/// Writes what stands behind a packet's header.
 #[tactic(auto, using(crate::proofs::Pieces::nothing), unfolding(crate::specs::Spelling::fields_of))]
 fn put_fields(into: &mut PacketBytes, packet: &Packet)
     requires { length into.old ≤ 12 }
@@ -322,8 +314,8 @@ fn put_fields(into: &mut PacketBytes, packet: &Packet)
             req,
             body,
             ..
-        } => put_send(into, *report, *req, body),
-        Packet::Spread {
+        }
+        | Packet::Spread {
             report,
             req,
             body,
@@ -351,35 +343,41 @@ fn put_fields(into: &mut PacketBytes, packet: &Packet)
             poll,
             ..
         } => put_accept(into, *base, *acc, *top, *poll),
-        Packet::Ack { report, .. } => put_report(into, *report),
-        Packet::Nack { report, .. } => put_report(into, *report),
+        Packet::Ack { report, .. }
+        | Packet::Nack { report, .. }
+        | Packet::LeaveAsk { report, .. } => put_report(into, *report),
         Packet::Hold { base, top, req, .. } => put_numbers(into, *base, *top, *req),
-        Packet::JoinAsk { .. } => {}
+        Packet::JoinAsk { .. } | Packet::Invite { .. } | Packet::HandOver { .. } => {}
         Packet::Welcome {
             base,
             join,
             image,
             ..
         } => put_welcome(into, *base, *join, image),
-        Packet::LeaveAsk { report, .. } => put_report(into, *report),
-        Packet::Gone { number, .. } => put_number(into, *number),
-        Packet::Invite { .. } => {}
+        Packet::Gone { number, .. } | Packet::Fetch { stored: number, .. } => {
+            put_number(into, *number);
+        }
         Packet::Vote { vote, .. } => put_vote(into, *vote),
-        Packet::Fetch { stored, .. } => put_number(into, *stored),
         Packet::Piece {
             base,
             number,
             entry,
             ..
-        } => put_piece(into, *base, *number, entry),
+        } => {
+            put_two(into, *base, *number);
+            put_entry(into, entry);
+        }
         Packet::Result {
             base,
             number,
             members,
             resilience,
             ..
-        } => put_result(into, *base, *number, *members, *resilience),
-        Packet::HandOver { .. } => {}
+        } => {
+            put_two(into, *base, *number);
+            put_set(into, *members);
+            put_byte(into, *resilience);
+        }
     }
 }
 
@@ -410,6 +408,7 @@ fn signature(packet: &Packet) -> (Name, Stamp)
     }
 }
 
+/// Writes the mark, the version, the kind, who sends, the stamp and the total.
 fn put_header(into: &mut PacketBytes, kind: u8, sender: Name, stamp: Stamp, total: u16)
     requires { length into.old + 12 ≤ most_packet }
     ensures { into.new ≡ into.old ++ header kind sender stamp total }

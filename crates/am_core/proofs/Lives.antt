@@ -12,7 +12,7 @@ use Rattle.am_base.specs.declared.entry.Entry.{Entry}
 use Rattle.am_base.specs.declared.entry.Entry.TheVariants.{Data, Join, Leave, View}
 use Rattle.am_base.specs.Names.{place_of, life_of, has}
 use Rattle.am_base.specs.Stamps.{stamp_eq, no_stamp}
-use Rattle.am_base.specs.Lists.{Log, blank_row, is_blank, is_blank_row, at_place, member_life, members_of, members_at, viewed, with_row, after, fits, fold}
+use Rattle.am_base.specs.Lists.{Log, blank_row, is_blank, is_blank_row, at_place, member_life, members_of, members_at, row_after_view, with_row, after, fits, fold}
 use Rattle.am_base.specs.Lists.{AllFit, image_at, told_by, top_of}
 use Rattle.am_base.proofs.Places.{get_or-by_place, slice_index-by_place, length-by_place}
 use Rattle.am_base.specs.Limits.{IsImage}
@@ -48,8 +48,8 @@ with_row_used image name r is row = record {
       ⊎_elim (λ p. subst P (sym p.1) row) (λ p. subst P (sym p) (is.unused place h)) (with_row_at image name r place is.places h);
 }
 
-viewed_used : (first : Bool) (number life : ℕ) (r : Row) → (r.joined ≡ 0 → r.life ≡ 0) → (viewed first number life r).joined ≡ 0
-    → (viewed first number life r).life ≡ 0
+viewed_used : (first : Bool) (number life : ℕ) (r : Row) → (r.joined ≡ 0 → r.life ≡ 0) → (row_after_view first number life r).joined ≡ 0
+    → (row_after_view first number life r).life ≡ 0
 viewed_used first number life r is = grind (arith, nat_tests)
 
 pub used_after : (image : Image) (number : ℕ) (e : Entry) → 0 < number → IsUsed image → IsUsed (after image number e)
@@ -63,10 +63,10 @@ used_after image number (Leave name) n is = split ((at_place image name).life ==
     (λ t. rw t (with_row_used image name (record (at_place image name) { left = number }) is (is.unused (place_of name) (omega arith))))
     (λ f. rw f is)
 used_after image number (View stamp members resilience) n is = record {
-  places = length-by_place (λ place. viewed (is_blank image) number (slice_index members place) (row_at image place));
+  places = length-by_place (λ place. row_after_view (is_blank image) number (slice_index members place) (row_at image place));
   unused = λ place h.
       let P : Row → Type 0 = λ x. x.joined ≡ 0 → x.life ≡ 0 in
-      subst P (sym (get_or-by_place (λ place. viewed (is_blank image) number (slice_index members place) (row_at image place)) place blank_row h))
+      subst P (sym (get_or-by_place (λ place. row_after_view (is_blank image) number (slice_index members place) (row_at image place)) place blank_row h))
       (viewed_used (is_blank image) number (slice_index members place) (row_at image place) (is.unused place h));
 }
 
@@ -84,7 +84,7 @@ blank_lives [] place h = refl
 blank_lives (r ∷ rs) zero h = blank_row_life r (split (is_blank_row r) (λ t. t) (λ f. absurd (let g = rw f at h in cc)))
 blank_lives (r ∷ rs) (suc place) h = blank_lives rs place (split (is_blank_row r) (λ t. rw t at h) (λ f. absurd (let g = rw f at h in cc)))
 
-viewed_grows : (first : Bool) (number life : ℕ) (r : Row) → (first ≡ true → r.life ≡ 0) → r.life ≤ (viewed first number life r).life
+viewed_grows : (first : Bool) (number life : ℕ) (r : Row) → (first ≡ true → r.life ≡ 0) → r.life ≤ (row_after_view first number life r).life
 viewed_grows true number life r is = let z = is refl in omega arith
 viewed_grows false number life r is = grind (arith, nat_tests)
 
@@ -101,7 +101,32 @@ with_row_grows image name r place long h le = ⊎_elim
 join_grows : (r : Row) (life : ℕ) → (r.joined ≡ 0 → r.life ≡ 0) → ((r.joined == 0) || (nat_lt 0 r.left && nat_lt r.life life)) ≡ true → r.life ≤ life
 join_grows r life unused fit = grind (arith, nat_tests)
 
-pub life_after : (image : Image) (number : ℕ) (e : Entry) (place : ℕ) → place < 16 → IsUsed image → fits image e ≡ true
+-- ---- lists in which each Join fits
+
+abbrev pub JoinFits : Image → Entry → Type 0
+JoinFits image (Data from req body) = Unit {0}
+JoinFits image (Join name) = fits image (Join name) ≡ true
+JoinFits image (Leave name) = Unit {0}
+JoinFits image (View stamp names resilience) = Unit {0}
+
+pub any_fits : (image : Image) (e : Entry) → fits image e ≡ true → JoinFits image e
+any_fits image (Data from req body) h = tt
+any_fits image (Join name) h = h
+any_fits image (Leave name) h = tt
+any_fits image (View stamp names resilience) h = tt
+
+unfoldable pub JoinsFit : Image → ℕ → List Entry → Type 0
+JoinsFit image n [] = Unit {0}
+JoinsFit image n (e ∷ es) = JoinFits image e × JoinsFit (after image n e) (n + 1) es
+
+all_join : (image : Image) (n : ℕ) (es : List Entry) → AllFit image n es → JoinsFit image n es
+unfolding AllFit JoinsFit
+all_join image n [] h = tt
+all_join image n (e ∷ es) h = (any_fits image e h.0, all_join (after image n e) (n + 1) es h.1)
+
+-- ---- the lives of a place along them
+
+life_after : (image : Image) (number : ℕ) (e : Entry) (place : ℕ) → place < 16 → IsUsed image → JoinFits image e
     → (row_at image place).life ≤ (row_at (after image number e) place).life
 unfolding after fits
 life_after image number (Data from req body) place h is fit = split ((at_place image from).life == life_of from)
@@ -116,7 +141,7 @@ life_after image number (Leave name) place h is fit = split ((at_place image nam
     (λ f. rw f (omega arith))
 life_after image number (View stamp members resilience) place h is fit =
     let P : Row → Type 0 = λ x. (row_at image place).life ≤ x.life in
-    subst P (sym (get_or-by_place (λ place. viewed (is_blank image) number (slice_index members place) (row_at image place)) place blank_row h))
+    subst P (sym (get_or-by_place (λ place. row_after_view (is_blank image) number (slice_index members place) (row_at image place)) place blank_row h))
     (viewed_grows (is_blank image) number (slice_index members place) (row_at image place)
     (λ t. blank_lives image.rows place (blank_all (stamp_eq image.view no_stamp) (image.view_number == 0) (image.resilience == 0)
     (list_all is_blank_row image.rows) t)))
@@ -126,9 +151,9 @@ unfolding fold
 used_fold image number [] n is = is
 used_fold image number (e ∷ es) n is = used_fold (after image number e) (number + 1) es (omega arith) (used_after image number e n is)
 
-pub life_fold : (image : Image) (number : ℕ) (es : List Entry) (place : ℕ) → place < 16 → 0 < number → IsUsed image → AllFit image number es
+pub life_fold : (image : Image) (number : ℕ) (es : List Entry) (place : ℕ) → place < 16 → 0 < number → IsUsed image → JoinsFit image number es
     → (row_at image place).life ≤ (row_at (fold image number es) place).life
-unfolding fold AllFit
+unfolding fold JoinsFit
 life_fold image number [] place h n is fit = omega arith
 life_fold image number (e ∷ es) place h n is fit =
     let one = life_after image number e place h is fit.0 in
@@ -144,7 +169,8 @@ life_most log capacity number place is low high h =
     let P : ℕ → Type 0 = λ n. AllFit (image_at log number) n (drop k log.entries) in
     let fit = subst P at (AllFit-drop log.image (log.start + 1) k log.entries (omega arith) is.fit) in
     let used = used_fold log.image (log.start + 1) (take k log.entries) (omega arith) (used_image log.image is.image) in
-    let one = life_fold (image_at log number) (number + 1) (drop k log.entries) place h (omega arith) used fit in
+    let joins = all_join (image_at log number) (number + 1) (drop k log.entries) fit in
+    let one = life_fold (image_at log number) (number + 1) (drop k log.entries) place h (omega arith) used joins in
     let told = ap (λ (i : Image). (row_at i place).life) (end-told log (above log number) (end-above log log number (end-self log) low high)) in
     omega arith
 

@@ -60,8 +60,8 @@ since_accepted c = unions c.log c.acc (top_of c.log - c.acc)
 abbrev pub trim_to : ℕ → CoreState → CoreState
 trim_to base c = record c { base = max c.base base }
 
-abbrev pub trimmed : ℕ → CoreState → CoreState
-trimmed base c = if nat_lt c.base base then record c { log = above c.log base; base = base } else c
+abbrev pub trim_list : ℕ → CoreState → CoreState
+trim_list base c = if nat_lt c.base base then record c { log = above c.log base; base = base } else c
 
 -- the same core with this list
 abbrev pub whole : Log → CoreState → CoreState

@@ -56,7 +56,7 @@ impl<L: Log> Core<L> {
     ghost use Rattle.am_base.specs.Names.{has};
     ghost use Rattle.am_base.specs.Limits.{IsEntry};
     ghost use Rattle.am_base.specs.Lists.{top_of, told_by, members_of, fits, with_entry};
-    ghost use Rattle.am_core.specs.Cores.{Keeps, Adds, Sends, advance, since_accepted, trim_to, trimmed, IsInOrder};
+    ghost use Rattle.am_core.specs.Cores.{Keeps, Adds, Sends, advance, since_accepted, trim_to, trim_list, IsInOrder};
 
     /// What is accepted goes on to what is told, as far as the list is stored; and who joined passes over what is
     /// accepted below its Join.
@@ -77,7 +77,7 @@ impl<L: Log> Core<L> {
     #[tactic(auto, using(crate::proofs::CoreLaws::core_laws))]
     pub fn trim_to(&mut self, base: u32)
         requires { base ≤ self.old.taken }
-        ensures value { self.new ≡ trimmed base self.old }
+        ensures value { self.new ≡ trim_list base self.old }
         ensures keeps { Keeps (trim_to base) self.old self.new }
         ensures order { IsInOrder self.new }
     {

@@ -10,10 +10,10 @@ use Rattle.am_base.specs.declared.entry.Entry.TheVariants.{Data, Leave}
 use Rattle.am_base.specs.Names.{place_of, life_of, has, size, without_name}
 use Rattle.am_base.specs.Lists.{Log, told_by, at_place, members_of, member_life, after}
 use Rattle.am_base.proofs.Places.{slice_index-by_place, length-by_place}
-use Rattle.am_fronts.proofs.ReportLaws.{count_cons}
-use Rattle.am_model.specs.Node.{Node, top, told, name_where, those, others, pushed}
+use Rattle.am_model.specs.Node.{Node, top, image_of, name_where, those, others, push_entry}
 use Rattle.am_model.specs.Refresh.{refresh_at_end}
 use Rattle.am_model.proofs.Greatest.{split}
+use Rattle.am_model.proofs.Sets.{size_cons}
 use Rattle.am_effects.proofs.Rests.{rests_at_end}
 use Rattle.am_effects.proofs.Says.{told_pushed}
 
@@ -22,9 +22,6 @@ use Rattle.am_effects.proofs.Says.{told_pushed}
 -- at each place
 abbrev IsNone : List ℕ → Type 0
 IsNone set = (i : ℕ) → slice_index set i ≡ 0
-
-size_cons : (life : ℕ) (lives : List ℕ) → size (life ∷ lives) ≡ (if nat_lt 0 life then 1 else 0) + size lives
-size_cons life lives = count_cons (λ x. nat_lt 0 x) life lives
 
 none_of : (set : List ℕ) → size set ≡ 0 → IsNone set
 none_of [] none i = refl
@@ -88,23 +85,23 @@ sent_members image number who req body = split ((at_place image who).life == lif
 abbrev pub IsAlone : Node → Type 0
 IsAlone x = nat_lt 0 (size (others x)) ≡ false
 
-pub sent_others : (m : Node) (who req : ℕ) (body : List ℕ) → others (pushed m (Data who req body)) ≡ others m
+pub sent_others : (m : Node) (who req : ℕ) (body : List ℕ) → others (push_entry m (Data who req body)) ≡ others m
 sent_others m who req body = ap (λ set. without_name set m.core.who) (ap members_of (told_pushed m (Data who req body))
-    ∙ sent_members (told m) (top m + 1) who req body)
+    ∙ sent_members (image_of m) (top m + 1) who req body)
 
 -- the end of its step
 abbrev pub gone : Node → Node
-gone x = refresh_at_end (pushed x (Leave x.core.who))
+gone x = refresh_at_end (push_entry x (Leave x.core.who))
 
 pub alone_after : (x : Node) → IsAlone x → size (others (gone x)) ≡ 0
 alone_after x alone =
-    let r = rests_at_end (pushed x (Leave x.core.who)) in
+    let r = rests_at_end (push_entry x (Leave x.core.who)) in
     let none : size (others x) ≡ 0 = grind (arith, nat_tests) in
-    let is : others (gone x) ≡ without_name (members_of (after (told x) (top x + 1) (Leave x.core.who))) x.core.who =
+    let is : others (gone x) ≡ without_name (members_of (after (image_of x) (top x + 1) (Leave x.core.who))) x.core.who =
     ap (λ (l : Log). without_name (members_of (told_by l)) (gone x).core.who) r.log
     ∙ ap (λ set. without_name set (gone x).core.who) (ap members_of (told_pushed x (Leave x.core.who)))
-    ∙ ap (without_name (members_of (after (told x) (top x + 1) (Leave x.core.who)))) r.rests.who in
-    ap size is ∙ size_none _ (left_none (told x) (top x + 1) x.core.who (omega arith) (none_of (others x) none))
+    ∙ ap (without_name (members_of (after (image_of x) (top x + 1) (Leave x.core.who)))) r.rests.who in
+    ap size is ∙ size_none _ (left_none (image_of x) (top x + 1) x.core.who (omega arith) (none_of (others x) none))
 
 -- and some of them
 pub those_none : (test : ℕ → Bool) (set : List ℕ) → size set ≡ 0 → size (those test set) ≡ 0

@@ -11,9 +11,9 @@ use Rattle.am_base.specs.declared.event.NodeEvent.TheVariants as does
 use Rattle.am_base.specs.Names.{has, size, without_name}
 use Rattle.am_base.specs.Lists.{Log, entry_at, after}
 use Rattle.am_packet.specs.Boxes.{Letter, with_letter}
-use Rattle.am_model.specs.Node.{Node, Ballot, top, told, view, members, others, only_name, those, is_member, pushed}
+use Rattle.am_model.specs.Node.{Node, Ballot, top, image_of, view, members, others, only_name, those, is_member, push_entry}
 use Rattle.am_model.specs.Emit.{invite_of, fetch_of, result_of}
-use Rattle.am_model.specs.Ballots.{promised, Verdict, need_of, best_of, is_waited_for, left_in, trimmed_for, decide, with_result, with_fetch, answered}
+use Rattle.am_model.specs.Ballots.{with_promise, Verdict, need_of, best_of, is_waited_for, left_in, trim_for, decide, with_result, with_fetch, verdict_plan}
 use Rattle.am_model.specs.Ballots.{next_stamp, new_ballot, begin, with_vote, newly_needed, keep_vote, without_voter, give_up}
 use Rattle.am_model.specs.Ticks.{viewed_by}
 use Rattle.am_model.specs.Calls.{reset_row, give_up_of, give_up_row}
@@ -50,7 +50,7 @@ looks_at m b =
     (λ all. looks_if m b (not ((best_of m b).by == m.core.who)) _ _ (λ t. fetches_from_best there all (not_true _ t))
     (λ g. let learned : HasLearned m b = record { needed = there; all = all; own = not_false _ g } in
     looks_if m b (nat_lt (size names) b.least) _ _ (λ t. finds_too_few learned t)
-    (λ enough. looks_if m b (nat_lt (m.core.rules.window + 16 - size names) (top m + 1 - (trimmed_for m b names).core.base)) _ _ (λ t. finds_no_room learned)
+    (λ enough. looks_if m b (nat_lt (m.core.rules.window + 16 - size names) (top m + 1 - (trim_for m b names).core.base)) _ _ (λ t. finds_no_room learned)
     (λ room. decides (record { learned = learned; enough = enough; room = room }))))))
 
 -- what is answered tells no more
@@ -85,17 +85,17 @@ says_result : (m : Node) (c : Cause) (n p : Node) (b : Ballot) (v : Verdict) (le
     → AllSay m c n (with_result v.outcome n letters)
 says_result m c n p b v letters (decides x) r h =
     let names = left_in b (need_of p b) in
-    let before = trimmed_for p b names in
-    let e = View b.stamp names (max b.resilience (told p).resilience) in
+    let before = trim_for p b names in
+    let e = View b.stamp names (max b.resilience (image_of p).resilience) in
     let number = top p + 1 in
-    let image : told n ≡ after (told p) number e = ap Rattle.am_base.specs.Lists.told_by r.log ∙ told_pushed before e in
-    let is = viewed (told p) number b.stamp names (max b.resilience (told p).resilience) in
-    let high : number ≡ (told n).view_number = sym (ap (λ (i : Image). i.view_number) image ∙ is.0) in
+    let image : image_of n ≡ after (image_of p) number e = ap Rattle.am_base.specs.Lists.told_by r.log ∙ told_pushed before e in
+    let is = viewed (image_of p) number b.stamp names (max b.resilience (image_of p).resilience) in
+    let high : number ≡ (image_of n).view_number = sym (ap (λ (i : Image). i.view_number) image ∙ is.0) in
     let there : entry_at n.core.log number ≡ Some e = ap (λ l. entry_at l number) r.log
-    ∙ (entry_is (pushed before e).core.log number (length p.core.log.entries) (omega arith) ∙ get_last p.core.log.entries e) in
+    ∙ (entry_is (push_entry before e).core.log number (length p.core.log.entries) (omega arith) ∙ get_last p.core.log.entries e) in
     let stamp : view n ≡ b.stamp = ap (λ (i : Image). i.view) image ∙ is.1 in
     let o = said.Decided number names in
-    and_says m c n (without_name names n.core.who) (result_of n number names (told n).resilience) letters
+    and_says m c n (without_name names n.core.who) (result_of n number names (image_of n).resilience) letters
     (result (without_name names n.core.who) number names high (ap viewed_by there)
     (decided (record b { answer = o; is_over = true }) number names r.rests.ballot refl stamp)) h
 says_result m c n p b v letters _ r h = h
@@ -113,7 +113,7 @@ says_fetch m c n p b v letters _ r h = h
 -- ---- a look at the end of a row
 
 pub effect_answered : (m : Node) (c : Cause) (p : Node) (b : Ballot) (f : Node → List Letter) → Comes m c p → b.is_over ≡ false → Balloting c p b
-    → ((n : Node) → RestsWhole (decide p b).node n → AllSay m c n (f n)) → HasEffect m c (answered (decide p b) f)
+    → ((n : Node) → RestsWhole (decide p b).node n → AllSay m c n (f n)) → HasEffect m c (verdict_plan (decide p b) f)
 effect_answered m c p b f comes over why says =
     let v = decide p b in
     let l = looks_at p b in
@@ -122,9 +122,9 @@ effect_answered m c p b f comes over why says =
 
 -- the ballot is there once it was opened
 abbrev opened : Node → ℕ → ℕ → Node
-opened m least resilience = record (promised m (next_stamp m)) { ballot = Some (new_ballot (next_stamp m) least (min resilience 15)) }
+opened m least resilience = record (with_promise m (next_stamp m)) { ballot = Some (new_ballot (next_stamp m) least (min resilience 15)) }
 
-same_look : (m : Node) (least resilience : ℕ) → decide (promised m (next_stamp m)) (new_ballot (next_stamp m) least (min resilience 15))
+same_look : (m : Node) (least resilience : ℕ) → decide (with_promise m (next_stamp m)) (new_ballot (next_stamp m) least (min resilience 15))
     ≡ decide (opened m least resilience) (new_ballot (next_stamp m) least (min resilience 15))
 unfolding decide best_of
 same_look m least resilience = refl
@@ -139,11 +139,11 @@ row_begin m c least resilience by may =
     let p = opened m least resilience in
     let b = new_ballot (next_stamp m) least (min resilience 15) in
     let f : Node → List Letter = λ n. with_letter (others m) (invite_of n) [] in
-    let h : HasEffect m c (answered (decide p b) f) = effect_answered m c p b f (λ o. and_then nothing_yet (opens {m = m} least resilience by may) tt) refl
+    let h : HasEffect m c (verdict_plan (decide p b) f) = effect_answered m c p b f (λ o. and_then nothing_yet (opens {m = m} least resilience by may) tt) refl
     (as_it_is b (record { last = refl; open_ = refl }) (looks_on m c p by))
     (λ n r. and_says m c n (others m) (invite_of n) [] (let new = ballot_look p b (decide p b) (looks_at p b) in
     invite (others m) (has_begun new.0 (r.rests.ballot ∙ new.1) (r.rests.promise ∙ promise_look p b (decide p b) (looks_at p b)))) (none_says m c n)) in
-    subst (λ v. HasEffect m c (answered v f)) (sym (same_look m least resilience)) h
+    subst (λ v. HasEffect m c (verdict_plan v f)) (sym (same_look m least resilience)) h
 
 pub row_reset : (m : Node) (c : Cause) (least resilience : ℕ) → BeginsBy m c → HasEffect m c (reset_row m least resilience)
 unfolding reset_row

@@ -15,9 +15,9 @@ use Rattle.am_sender.specs.Sends as own
 use Rattle.am_model.specs.declared.status.Status.{Status}
 use Rattle.am_model.specs.declared.status.Status.TheVariants as status
 use Rattle.am_model.specs.Node.{Node, Ballot, top, view, own_row, others, only_name, lowest_or_first, acts, has_room, is_member, is_asking, is_sequencer}
-use Rattle.am_model.specs.Node.{waiting, unsettled, pushed}
+use Rattle.am_model.specs.Node.{waiting, unsettled_count, push_entry}
 use Rattle.am_model.specs.Emit.{Plan, quiet, join_ask_of, leave_ask_of, hand_over_of, request_of, spread_of, bcast_of}
-use Rattle.am_model.specs.Calls.{everywhere_else, would_emit, hand_in, number_send, emit, queued, queue, given, ask_to_join, join_by, state_by, go, leave_now}
+use Rattle.am_model.specs.Calls.{everywhere_else, would_emit, hand_in, number_send, emit, with_queued, queue, give_out, ask_to_join, join_by, state_by, go, leave_now}
 use Rattle.am_model.specs.Calls.{leave_by, is_unfinished, ask_of, send_row, done_row, take_row, join_row, state_row, leave_row, ask_row}
 use Rattle.am_model.proofs.Greatest.{and_both}
 use Rattle.am_effects.specs.Causes.{Cause, calls}
@@ -53,7 +53,7 @@ does_hand_in m c p s o h a acting f sent = does_if Rests m c (nat_le (length s.b
 
 -- the sequencer numbers its own send
 numbers_own : (m : Node) (c : Cause) (p : Node) (s : OwnSend) (o : Outcome) → Course c o m p → waiting p ≡ Some s → nat_lt (own_row p).last s.req ≡ true
-    → is_sequencer p ≡ true → has_room p ≡ true → Course c o m (pushed p (Data p.core.who s.req s.body))
+    → is_sequencer p ≡ true → has_room p ≡ true → Course c o m (push_entry p (Data p.core.who s.req s.body))
 numbers_own m c p s o h is last leads room = and_then h (numbers {m = p} (Data p.core.who s.req s.body) leads room (own_send s is last)) tt
 
 does_number_send : (m : Node) (c : Cause) (p : Node) (s : OwnSend) (o : Outcome) → Course c o m p → AllowsAfter m c o p.sends.last → waiting p ≡ Some s
@@ -93,10 +93,10 @@ row_queue : (m : Node) (body : List ℕ) → is_member m.status ≡ true → m.l
 row_queue m body member stays few =
     let c = calls (does.Send body) in
     let o = said.Queued (m.sends.last + 1) in
-    let h : Course c o m (queued m body) = and_then nothing_yet (queues {m = m} body refl refl member stays few) tt in
+    let h : Course c o m (with_queued m body) = and_then nothing_yet (queues {m = m} body refl refl member stays few) tt in
     effect_if m c (is_some (waiting m)) _ _ (λ t. effect_of m c _
-    (does_quiet RestsWhole m c (queued m body) o h (λ n r. inl (record { next = refl; more = r.rests.asked }))))
-    (λ f. effect_of m c _ (tightly m c _ (does_emit m c (queued m body) (waiting (queued m body)) o h
+    (does_quiet RestsWhole m c (with_queued m body) o h (λ n r. inl (record { next = refl; more = r.rests.asked }))))
+    (λ f. effect_of m c _ (tightly m c _ (does_emit m c (with_queued m body) (waiting (with_queued m body)) o h
     (λ n same. inl (record { next = refl; more = same })) refl)))
 
 pub row_send : (m : Node) (body : List ℕ) → HasEffect m (calls (does.Send body)) (send_row m body)
@@ -132,7 +132,7 @@ row_done m req =
 -- ---- what is accepted
 
 row_given : (m : Node) (e : Option Entry) → is_member m.status ≡ true → (m.core.taken == m.core.acc) ≡ false → entry_at m.core.log (m.core.taken + 1) ≡ e
-    → HasEffect m (calls does.Take) (given m e)
+    → HasEffect m (calls does.Take) (give_out m e)
 row_given m None member some is = search rows
 row_given m (Some e) member some is =
     let c = calls does.Take in
@@ -145,7 +145,7 @@ pub row_take : (m : Node) → HasEffect m (calls does.Take) (take_row m)
 unfolding take_row
 row_take m =
     let k : not (is_member m.status) ≡ false → (m.core.taken == m.core.acc) ≡ false
-    → HasEffect m (calls does.Take) (given m (entry_at m.core.log (m.core.taken + 1))) = λ a b. row_given m _ (not_false _ a) b refl in
+    → HasEffect m (calls does.Take) (give_out m (entry_at m.core.log (m.core.taken + 1))) = λ a b. row_given m _ (not_false _ a) b refl in
     search (rows, k) depth 9
 
 -- ---- joining and leaving
@@ -202,7 +202,7 @@ row_leave_now : (m : Node) → m.status ≡ status.Member → HasEffect m (calls
 row_leave_now m is =
     let c = calls does.Leave in
     let n = record m { leaving = true } in
-    let k : m.leaving ≡ false → (nat_lt 0 (unsettled m) || is_unfinished m.ballot) ≡ false → HasEffect m c (go (quiet n said.Asked)) = λ a b.
+    let k : m.leaving ≡ false → (nat_lt 0 (unsettled_count m) || is_unfinished m.ballot) ≡ false → HasEffect m c (go (quiet n said.Asked)) = λ a b.
     (let comes : Comes m c n = λ o. and_then nothing_yet (asks_to_leave {m = m} refl is a b) tt in
     row_go m c (quiet n said.Asked) does.Leave refl (does_quiet Rests m c n said.Asked (comes said.Asked) (λ x r. tt)) comes (λ x y z. tt) (λ alone. refl) refl
     (ap is_member is) refl) in

@@ -13,9 +13,9 @@ use Rattle.am_group.specs.Addressed.{is_for}
 use Rattle.am_group.specs.Journals.{letter_at}
 use Rattle.am_model.specs.Node.{Node}
 use Rattle.am_model.specs.Emit.{Step}
-use Rattle.am_model.specs.Step.{step, hear, refused}
+use Rattle.am_model.specs.Step.{step, hear, hear_refusal}
 use Rattle.am_model.specs.Lengths.{packet_length}
-use Rattle.am_model.specs.World.{World, current, is_stopped, has_departed, does_event, gives_up, heard, hear_cut, returned, acts_as, happens}
+use Rattle.am_model.specs.World.{World, current, is_stopped, has_departed, does_event, gives_up, hears_letter, hear_cut, comes_back, acts_as, happens}
 use Rattle.am_model.specs.Claims.{heard_by}
 use Rattle.am_effects.specs.Causes.{Cause, calls, hears, refuses}
 use Rattle.am_effects.specs.Effects.{Effect}
@@ -46,7 +46,7 @@ abbrev Hears : World → Event → (Packet → Step) → Type 0
 Hears w e hearing = (p : Packet) → WasSentTo w (actor w e) e.act p → (c : Cause) × IsCause w (actor w e) e.act c × Effect (w.nodes (actor w e)) c (hearing p)
 
 letter_happens : (w : World) (e : Event) (hearing : Packet → Step) (l : Option Letter) → letter_at w.letters (heard_by e.act) ≡ l → Hears w e hearing
-    → Happens w e (heard w e (actor w e) hearing l)
+    → Happens w e (hears_letter w e (actor w e) hearing l)
 letter_happens w e hearing None is h = idles said.NoPacket tt
 letter_happens w e hearing (Some l) is h =
     happens_if w e (not (is_for l (actor w e))) _ _ (λ t. idles said.NotAddressed tt)
@@ -62,12 +62,12 @@ hears_cut w e keep p sent = one (nat_le (packet_length p) keep) (nat_lt keep 12)
     m : Node
     m = w.nodes (actor w e)
 
-    one : (whole none : Bool) → (c : Cause) × IsCause w (actor w e) e.act c × Effect m c (if whole then hear m p else if none then refused m 1 else refused m 5)
+    one : (whole none : Bool) → (c : Cause) × IsCause w (actor w e) e.act c × Effect m c (if whole then hear m p else if none then hear_refusal m 1 else hear_refusal m 5)
     one true none = (hears p, sent, hearing_has_effects m p)
     one false true = (refuses, tt, refusing_has_effects m 1)
     one false false = (refuses, tt, refusing_has_effects m 5)
 
-return_happens : (w : World) (e : Event) (place : ℕ) → place ≡ place_of (actor w e) → Happens w e (returned w e place)
+return_happens : (w : World) (e : Event) (place : ℕ) → place ≡ place_of (actor w e) → Happens w e (comes_back w e place)
 return_happens w e place is =
     happens_if w e (not (is_stopped w (current w place) || has_departed (w.nodes (current w place)).status)) _ _ (λ t. idles _ tt)
     (λ f. happens_if w e (w.lives place == 16) _ _ (λ t. idles said.NoLife tt) (λ g. returns place is (not_false _ f) g))
@@ -83,7 +83,7 @@ act_happens w e a is = by_act a is
     called a event is call effect = event_happens w e event (subst (λ x. IsCall w x event) (sym is) call) effect
 
     by_letter : (hearing : Packet → Step) (number : ℕ) → heard_by e.act ≡ number → Hears w e hearing
-        → Happens w e (heard w e (actor w e) hearing (letter_at w.letters number))
+        → Happens w e (hears_letter w e (actor w e) hearing (letter_at w.letters number))
     by_letter hearing number is h = letter_happens w e hearing (letter_at w.letters number) (ap (letter_at w.letters) is) h
 
     by_act : (a : Act) → e.act ≡ a → Happens w e (acts_as w e (actor w e) a)

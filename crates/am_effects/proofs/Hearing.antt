@@ -8,13 +8,13 @@ use Rattle.am_base.specs.Stamps.{stamp_eq}
 use Rattle.am_packet.specs.declared.packet.Packet.{Packet}
 use Rattle.am_packet.specs.declared.packet.Packet.TheVariants as packet
 use Rattle.am_codec.specs.Reading.{Read, reading}
-use Rattle.am_model.specs.Node.{Node, told, view, acts, is_sequencer}
+use Rattle.am_model.specs.Node.{Node, image_of, view, acts, is_sequencer}
 use Rattle.am_model.specs.Emit.{Plan}
 use Rattle.am_model.specs.Sequencing.{request_row}
 use Rattle.am_model.specs.Receiving.{spread_row}
 use Rattle.am_model.specs.Resets.{hand_over_row}
 use Rattle.am_model.specs.Hearing.{hears_member, hears_asking, hears_in_view, hears_sequencer, where_heard, hear_row}
-use Rattle.am_model.specs.Step.{read_row, row, step, hear, refuse, refused}
+use Rattle.am_model.specs.Step.{read_row, row, step, hear, refuse, hear_refusal}
 use Rattle.am_model.proofs.Greatest.{and_both}
 use Rattle.am_effects.specs.Causes.{Cause, hears, refuses, by_request, by_spread, cause_of_read, cause_of}
 use Rattle.am_effects.specs.Looks.{by_reset, by_hand_over}
@@ -51,7 +51,7 @@ row_heard_spread m s v report req body t =
 
 row_hand_over : (m : Node) (s : ℕ) (v : Stamp) → hears_sequencer m s v ≡ true → HasEffect m (hears (packet.HandOver s v)) (hand_over_row m)
 unfolding hand_over_row
-row_hand_over m s v t = row_reset m (hears (packet.HandOver s v)) 1 (told m).resilience (by_hand_over s v t)
+row_hand_over m s v t = row_reset m (hears (packet.HandOver s v)) 1 (image_of m).resilience (by_hand_over s v t)
 
 row_hear : (m : Node) (p : Packet) → HasEffect m (hears p) (hear_row m p)
 unfolding hear_row
@@ -114,5 +114,5 @@ unfolding hear
 hearing_has_effects m p = (row_hear m p).effect
 
 pub refusing_has_effects : RefusingHasEffects
-unfolding refused
+unfolding hear_refusal
 refusing_has_effects m cause = (row_refuse m cause).effect

@@ -15,12 +15,12 @@ use Rattle.am_base.specs.Lists.{fits, row_of}
 use Rattle.am_packet.specs.declared.packet.Packet.TheVariants as packet
 use Rattle.am_sender.specs.declared.OwnSend.{OwnSend}
 use Rattle.am_bodies.specs.Bodies.{is_of, keep_body}
-use Rattle.am_model.specs.Node.{Node, top, told, view, only_name, acts, is_member, is_asking, has_own_leave, is_within_bound, waiting, pushed}
+use Rattle.am_model.specs.Node.{Node, top, image_of, view, only_name, acts, is_member, is_asking, has_own_leave, is_within_bound, waiting, push_entry}
 use Rattle.am_model.specs.Emit.{quiet, ack_of, nack_of, fetch_of}
-use Rattle.am_model.specs.Sequencing.{row_at, risen}
-use Rattle.am_model.specs.Receiving.{spread_row, is_view, noted, acknowledges, bodies_after, body_of, stored, store, received, bcast_row, data_of, order_row}
-use Rattle.am_model.specs.Receiving.{accept_row, held_up, hold_row}
-use Rattle.am_model.specs.Joining.{begun, welcomed, welcome_row, gone_row}
+use Rattle.am_model.specs.Sequencing.{row_at, if_risen}
+use Rattle.am_model.specs.Receiving.{spread_row, is_view, with_noted, acknowledges, bodies_after, body_of, store_fitting, store, receive_entry, bcast_row, data_of, order_row}
+use Rattle.am_model.specs.Receiving.{accept_row, answer_hold, hold_row}
+use Rattle.am_model.specs.Joining.{begin_list, ask_next, welcome_row, gone_row}
 use Rattle.am_model.specs.Hearing.{hears_member, hears_asking, hears_in_view, hears_sequencer}
 use Rattle.am_model.proofs.Greatest.{split, and_both}
 use Rattle.am_effects.specs.Causes.{Cause, hears, BringsFronts, with_entry, with_number, alone}
@@ -54,14 +54,20 @@ heard_acts m s v t =
     let b = (and_both (hears_member m s) (acts m && stamp_eq v (view m)) a).1 in
     (and_both (acts m) (stamp_eq v (view m)) b).0
 
+-- what comes next and passes the tests may be stored
+pub may_store : (m : Node) (above base number : ℕ) (e : Entry) → number ≡ top m + 1 → base ≤ m.core.taken → has_own_leave m ≡ false
+    → not (fits (image_of m) e) ≡ false → not (is_within_bound m above number) ≡ false → MayStore m above base number e
+may_store m above base number e next taken stays f w =
+    record { next = next; taken = taken; stays = stays; fits = not_false _ f; within = not_false _ w }
+
 -- it comes next, and fits
 row_stored : (m : Node) (c : Cause) (p : Node) (s : ℕ) (v : Stamp) (base acc number : ℕ) (e : Entry) → Comes m c p → Carries c p s v base acc number e
-    → hears_sequencer p s v ≡ true → is_view e ≡ false → MayStore p p.core.base base number e → HasEffect m c (stored p s number e)
+    → hears_sequencer p s v ≡ true → is_view e ≡ false → MayStore p p.core.base base number e → HasEffect m c (store_fitting p s number e)
 row_stored m c p s v base acc number e comes carries heard plain may =
-    let n = record (pushed p e) { bodies = bodies_after p.bodies e } in
+    let n = record (push_entry p e) { bodies = bodies_after p.bodies e } in
     let o = said.Stored number in
     let acting : acts n ≡ true = acts_pushed p e plain ∙ heard_acts p s v heard in
-    effect_of m c _ (does_where RestsWhole m c (acknowledges (pushed p e) s) (quiet n o) (only_name s) ack_of
+    effect_of m c _ (does_where RestsWhole m c (acknowledges (push_entry p e) s) (quiet n o) (only_name s) ack_of
     (does_quiet RestsWhole m c n o (and_then (comes o) (stores {m = p} s v base acc number e carries heard plain may) tt) (λ k r. tt))
     (λ k r t. tells_ack m c n (only_name s) acting k r))
 
@@ -73,23 +79,17 @@ row_store m c p s v base acc number None missing comes carries a heard next take
     (tells_nack m c p (only_name s) (heard_acts p s v heard)))
 row_store m c p s v base acc number (Some e) missing comes carries a heard next taken stays =
     let within = is_within_bound p p.core.base number in
-    effect_if m c (is_view e || (not (fits (told p) e) || not within)) _ _
+    effect_if m c (is_view e || (not (fits (image_of p) e) || not within)) _ _
     (λ t. effect_of m c _ (does_quiet RestsWhole m c p said.Unfit (comes said.Unfit) (λ n r. tt)))
     (λ f.
-    let rest = or_second (is_view e) (not (fits (told p) e) || not within) f in
-    row_stored m c p s v base acc number e comes (carries e refl) heard (or_first (is_view e) (not (fits (told p) e) || not within) f)
-    (record {
-      next = next;
-      taken = taken;
-      stays = stays;
-      fits = not_false _ (or_first (not (fits (told p) e)) (not within) rest);
-      within =
-          not_false _ (or_second (not (fits (told p) e)) (not within) rest);
-    }))
+    let rest = or_second (is_view e) (not (fits (image_of p) e) || not within) f in
+    row_stored m c p s v base acc number e comes (carries e refl) heard (or_first (is_view e) (not (fits (image_of p) e) || not within) f)
+    (may_store p p.core.base base number e next taken stays (or_first (not (fits (image_of p) e)) (not within) rest)
+    (or_second (not (fits (image_of p) e)) (not within) rest)))
 
 row_received : (m : Node) (c : Cause) (p : Node) (s : ℕ) (v : Stamp) (base acc number : ℕ) (e : Option Entry) (missing : Outcome) → Comes m c p
     → ((x : Entry) → e ≡ Some x → Carries c p s v base acc number x) → Allows m c missing → hears_sequencer p s v ≡ true
-    → HasEffect m c (received p s base number e missing)
+    → HasEffect m c (receive_entry p s base number e missing)
 row_received m c p s v base acc number e missing comes carries a heard =
     let quietly : (o : Outcome) → Allows m c o → HasEffect m c (quiet p o) = λ o b. effect_of m c _ (does_quiet RestsWhole m c p o (comes o) (λ n r. b n)) in
     effect_if m c (nat_le number (top p)) _ _ (λ t. quietly said.Known (λ n. tt))
@@ -104,7 +104,7 @@ row_received m c p s v base acc number e missing comes carries a heard =
     row_store m c p s v base acc number e missing comes carries a heard next taken stays))))
 
 comes_noted : (m : Node) (c : Cause) (s : ℕ) (v : Stamp) (base acc : ℕ) → BringsFronts c s v base acc → hears_sequencer m s v ≡ true
-    → Comes m c (noted m base acc)
+    → Comes m c (with_noted m base acc)
 comes_noted m c s v base acc by heard o = and_then nothing_yet (notes {m = m} s v base acc by heard) tt
 
 some_is : {A : Type 0} (a b : A) → Some a ≡ Some b → a ≡ b
@@ -115,7 +115,7 @@ pub row_bcast : (m : Node) (s : ℕ) (v : Stamp) (base acc number : ℕ) (e : En
 unfolding bcast_row
 row_bcast m s v base acc number e heard =
     let c = hears (packet.Bcast s v base acc number e) in
-    row_received m c (noted m base acc) s v base acc number (Some e) said.Known (comes_noted m c s v base acc (with_entry s v base acc number e) heard)
+    row_received m c (with_noted m base acc) s v base acc number (Some e) said.Known (comes_noted m c s v base acc (with_entry s v base acc number e) heard)
     (λ x is. whole_entry x (ap (λ y. hears (packet.Bcast s v base acc number y)) (some_is e x is))) (λ n. tt) heard
 
 pub row_order : (m : Node) (s : ℕ) (v : Stamp) (base acc number from req : ℕ) → hears_sequencer m s v ≡ true
@@ -123,7 +123,7 @@ pub row_order : (m : Node) (s : ℕ) (v : Stamp) (base acc number from req : ℕ
 unfolding order_row
 row_order m s v base acc number from req heard =
     let c = hears (packet.Order s v base acc number from req) in
-    let p = noted m base acc in
+    let p = with_noted m base acc in
     row_received m c p s v base acc number (data_of from req (body_of m from req)) (said.NoBody from req)
     (comes_noted m c s v base acc (with_number s v base acc number from req) heard)
     (λ x is. carries p (body_of m from req) x refl is) (λ n. tt) heard
@@ -141,20 +141,20 @@ pub row_accept : (m : Node) (s : ℕ) (v : Stamp) (base acc high : ℕ) (poll : 
 unfolding accept_row
 row_accept m s v base acc high poll heard =
     let c = hears (packet.Accept s v base acc high poll) in
-    let p = noted m base acc in
+    let p = with_noted m base acc in
     let comes = comes_noted m c s v base acc (alone s v base acc high poll) heard in
     let acting : acts p ≡ true = heard_acts m s v heard in
     effect_if m c (nat_lt (top m) high && not (has_own_leave m)) _ _
     (λ t. effect_of m c _ (does_telling RestsWhole m c p (said.Gap (top m + 1)) (only_name s) nack_of (comes _) (λ n r. tt)
     (tells_nack m c p (only_name s) acting)))
-    (λ f. effect_of m c _ (does_where RestsWhole m c (λ n. poll) (record (quiet p said.Known) { outcome = risen m said.Known (λ n. said.Advanced n.core.acc) })
+    (λ f. effect_of m c _ (does_where RestsWhole m c (λ n. poll) (record (quiet p said.Known) { outcome = if_risen m said.Known (λ n. said.Advanced n.core.acc) })
     (only_name s) ack_of
-    (does_saying RestsWhole m c p said.Known (risen m said.Known (λ n. said.Advanced n.core.acc)) (λ n. comes _)
+    (does_saying RestsWhole m c p said.Known (if_risen m said.Known (λ n. said.Advanced n.core.acc)) (λ n. comes _)
     (λ n r. split (nat_lt m.core.acc n.core.acc) (λ t. rw t tt) (λ g. rw g tt)))
     (λ n r t. tells_ack m c p (only_name s) acting n r)))
 
 row_held_up : (m : Node) (s : ℕ) (v : Stamp) (base high req : ℕ) (w : Option OwnSend)
-    → HasEffect m (hears (packet.Hold s v base high req)) (held_up m base high req w)
+    → HasEffect m (hears (packet.Hold s v base high req)) (answer_hold m base high req w)
 row_held_up m s v base high req None = search rows
 row_held_up m s v base high req (Some x) = search rows
 
@@ -179,10 +179,10 @@ asking m s v base join image h =
     grind arith
 
 row_welcomed : (m : Node) (s : ℕ) (v : Stamp) (base join : ℕ) (image : Image) → MayBeWelcomed m s v base join image → (s == m.core.who) ≡ false
-    → HasEffect m (hears (packet.Welcome s v base join image)) (welcomed (begun m v base join image) s v join)
+    → HasEffect m (hears (packet.Welcome s v base join image)) (ask_next (begin_list m v base join image) s v join)
 row_welcomed m s v base join image may other =
     let c = hears (packet.Welcome s v base join image) in
-    let p = begun m v base join image in
+    let p = begin_list m v base join image in
     let o = said.Welcomed join in
     let h : Course c o m p = and_then nothing_yet (begins_list {m = m} s v base join image refl refl may) tt in
     let a : (n : Node) → RestsWhole p n → Answers m c n o = λ n r. record {

@@ -12,11 +12,11 @@ use Rattle.am_base.specs.declared.outcome.Outcome.TheVariants as said
 use Rattle.am_base.specs.Stamps.{stamp_lt, stamp_eq}
 use Rattle.am_base.specs.Lists.{fits}
 use Rattle.am_packet.specs.declared.packet.Packet.TheVariants as packet
-use Rattle.am_model.specs.Node.{Node, Ballot, top, told, view, only_name, is_member, has_own_leave, is_within_bound, pushed, trimmed}
+use Rattle.am_model.specs.Node.{Node, Ballot, top, image_of, view, only_name, is_member, has_own_leave, is_within_bound, push_entry, trim_up_to}
 use Rattle.am_model.specs.Emit.{Plan, quiet, ack_of, fetch_of, piece_of}
 use Rattle.am_model.specs.Calls.{is_unfinished}
-use Rattle.am_model.specs.Ballots.{promised, vote_of}
-use Rattle.am_model.specs.Resets.{invite_row, is_open, voted_for, vote_row, may_fetch, fetch_row, is_view_past, fetched, caught_up, fetched_for, fetches_from}
+use Rattle.am_model.specs.Ballots.{with_promise, vote_of}
+use Rattle.am_model.specs.Resets.{invite_row, is_open, take_vote, vote_row, may_fetch, fetch_row, is_view_past, push_fetched, catch_up, decide_anew, fetches_from}
 use Rattle.am_model.specs.Resets.{piece_promised, piece_for, piece_row, hears_result, result_row}
 use Rattle.am_model.specs.Hearing.{hears_member, hears_asking}
 use Rattle.am_model.proofs.Greatest.{and_both}
@@ -29,6 +29,7 @@ use Rattle.am_effects.proofs.Tests.{not_false, not_true, or_first, or_second}
 use Rattle.am_effects.proofs.Rests.{RestsWhole}
 use Rattle.am_effects.proofs.Plans.{none_says, Comes, HasEffect, effect_if, effect_of, does_quiet, does_telling, does_where, rows}
 use Rattle.am_effects.proofs.Says.{told_pushed, says_served, tells_ack}
+use Rattle.am_effects.proofs.Receiving.{may_store}
 use Rattle.am_effects.proofs.Ballots.{viewed, effect_answered, row_keep_vote}
 use Rattle.am_effects.proofs.Calls.{Allows}
 
@@ -51,11 +52,11 @@ row_invite m s v heard own =
     let c = hears (packet.Invite s v) in
     effect_if m c (stamp_lt v m.core.promise) _ _
     (λ t. effect_of m c _ (does_telling RestsWhole m c m (said.Newer m.core.promise) (only_name s) vote_of nothing_yet (λ n r. tt) (λ n r. vote s v refl)))
-    (λ f. effect_of m c _ (does_telling RestsWhole m c (promised m v) said.Voted
+    (λ f. effect_of m c _ (does_telling RestsWhole m c (with_promise m v) said.Voted
     (only_name s) vote_of (and_then nothing_yet (promises {m = m} v f (invited s v refl heard own)) tt) (λ n r. tt) (λ n r. vote s v refl)))
 
 row_voted_for : (m : Node) (s : ℕ) (v : Stamp) (show : Vote) (b : Option Ballot) → m.ballot ≡ b → hears_member m s ≡ true → stamp_lt m.core.promise v ≡ false
-    → HasEffect m (hears (packet.Vote s v show)) (voted_for m s v show b)
+    → HasEffect m (hears (packet.Vote s v show)) (take_vote m s v show b)
 row_voted_for m s v show None is heard high = search rows
 row_voted_for m s v show (Some b) is heard high =
     let c = hears (packet.Vote s v show) in
@@ -74,7 +75,7 @@ row_vote m s v show heard =
     effect_if m c (stamp_lt m.core.promise v) _ _
     (λ t.
     let f : stamp_lt v m.core.promise ≡ false = grind (arith, nat_tests) in
-    effect_of m c _ (does_quiet RestsWhole m c (promised m v) (said.Overtaken v)
+    effect_of m c _ (does_quiet RestsWhole m c (with_promise m v) (said.Overtaken v)
     (and_then nothing_yet (promises {m = m} v f (overtaken s v show refl heard t)) tt) (λ n r. tt)))
     (λ f. row_voted_for m s v show m.ballot refl heard f)
 
@@ -99,28 +100,22 @@ row_fetch m s v low =
     })))
 
 row_fetched : (m : Node) (c : Cause) (v : Stamp) (base number : ℕ) (e : Entry) (in_ballot : Bool) (then_ : Node → Plan)
-    → (MayStore m (max m.core.base base) base number e → is_view_past v in_ballot e ≡ false → HasEffect m c (then_ (pushed (trimmed m base) e)))
-    → HasEffect m c (fetched m v base number e in_ballot then_)
+    → (MayStore m (max m.core.base base) base number e → is_view_past v in_ballot e ≡ false → HasEffect m c (then_ (push_entry (trim_up_to m base) e)))
+    → HasEffect m c (push_fetched m v base number e in_ballot then_)
 row_fetched m c v base number e in_ballot then_ goes =
     let within = is_within_bound m (max m.core.base base) number in
     effect_if m c (nat_le number (top m)) _ _ (λ t. search rows)
     (λ new. effect_if m c (has_own_leave m) _ _ (λ t. search rows)
     (λ stays. effect_if m c (nat_lt (top m + 1) number) _ _ (λ t. search rows)
     (λ near. effect_if m c (nat_lt m.core.taken base) _ _ (λ t. search rows)
-    (λ low. effect_if m c (not (fits (told m) e) || (is_view_past v in_ballot e || not within)) _ _ (λ t. search rows)
+    (λ low. effect_if m c (not (fits (image_of m) e) || (is_view_past v in_ballot e || not within)) _ _ (λ t. search rows)
     (λ f.
-    let rest = or_second (not (fits (told m) e)) (is_view_past v in_ballot e || not within) f in
+    let rest = or_second (not (fits (image_of m) e)) (is_view_past v in_ballot e || not within) f in
     let next : number ≡ top m + 1 = grind (arith, nat_tests) in
     let taken : base ≤ m.core.taken = grind (arith, nat_tests) in
-    goes (record {
-      next = next;
-      taken = taken;
-      stays = stays;
-      fits =
-          not_false _ (or_first (not (fits (told m) e)) (is_view_past v in_ballot e || not within) f);
-      within =
-          not_false _ (or_second (is_view_past v in_ballot e) (not within) rest);
-    }) (or_first (is_view_past v in_ballot e) (not within) rest))))))
+    goes (may_store m (max m.core.base base) base number e next taken stays
+    (or_first (not (fits (image_of m) e)) (is_view_past v in_ballot e || not within) f) (or_second (is_view_past v in_ballot e) (not within) rest))
+    (or_first (is_view_past v in_ballot e) (not within) rest))))))
 
 -- a Piece of a promise, or of a ballot
 record OfPromise (m : Node) (s : ℕ) (v : Stamp) : Type 0 where
@@ -138,9 +133,9 @@ row_piece_promised : (m : Node) (s : ℕ) (v : Stamp) (base number : ℕ) (e : E
     → HasEffect m (hears (packet.Piece s v base number e)) (piece_promised m s v base number e)
 row_piece_promised m s v base number e h none =
     let c = hears (packet.Piece s v base number e) in
-    let p = pushed (trimmed m base) e in
+    let p = push_entry (trim_up_to m base) e in
     effect_if m c (not (v.by == s)) _ _ (λ t. search rows)
-    (λ own. row_fetched m c v base number e false (caught_up s v number)
+    (λ own. row_fetched m c v base number e false (catch_up s v number)
     (λ may past.
     let change : Course c (said.Stored number) m p = and_then nothing_yet
     (fetches {m = m} s v base number e refl h.heard h.promise h.below (without_ballot none (not_false _ own) past) may) tt in
@@ -156,12 +151,12 @@ row_piece_for : (m : Node) (s : ℕ) (v : Stamp) (base number : ℕ) (e : Entry)
 row_piece_for m s v base number e None is h = row_piece_promised m s v base number e h (ap is_unfinished is)
 row_piece_for m s v base number e (Some b) is h =
     let c = hears (packet.Piece s v base number e) in
-    let p = pushed (trimmed m base) e in
+    let p = push_entry (trim_up_to m base) e in
     effect_if m c b.is_over _ _ (λ t. row_piece_promised m s v base number e h (ap is_unfinished is ∙ ap not t))
     (λ f.
     let has_open : HasOpen m b = record { last = is; open_ = f } in
     effect_if m c (not (fetches_from b.answer s)) _ _ (λ t. search rows)
-    (λ from. row_fetched m c v base number e true (fetched_for b)
+    (λ from. row_fetched m c v base number e true (decide_anew b)
     (λ may past.
     let comes : Comes m c p = λ o. and_then nothing_yet (fetches {m =
     m} s v base number e refl h.heard h.promise h.below (for_ballot b has_open (not_false _ from) past) may) tt in
@@ -189,10 +184,10 @@ stamp_reversed a b t = grind (arith, nat_tests)
 
 row_hears_result : (m : Node) (s : ℕ) (v : Stamp) (base number : ℕ) (names : List ℕ) (resilience : ℕ) → hears_member m s ≡ true → (v.by == s) ≡ true
     → (v.by == m.core.who) ≡ false → stamp_lt v m.core.promise ≡ false
-    → HasEffect m (hears (packet.Result s v base number names resilience)) (hears_result (promised m v) s v base number names resilience)
+    → HasEffect m (hears (packet.Result s v base number names resilience)) (hears_result (with_promise m v) s v base number names resilience)
 row_hears_result m s v base number names resilience heard own other low =
     let c = hears (packet.Result s v base number names resilience) in
-    let p = promised m v in
+    let p = with_promise m v in
     let e = View v names resilience in
     let member = member_heard m s heard in
     let comes : Comes m c p = λ o. and_then nothing_yet (promises {m = m} v low (told_result s v base number names resilience refl heard own other)) tt in
@@ -212,21 +207,14 @@ row_hears_result m s v base number names resilience heard own other low =
     (λ n r. fetch (only_name s) (of_promise ((λ i. (r.rests.promise i).by == r.rests.who i) ∙ other) (ap only_name (sym by)
     ∙ ap (λ (x : Stamp). only_name x.by) (sym r.rests.promise))))))
     (λ near. effect_if m c (nat_lt p.core.taken base) _ _ (λ t. quietly said.Behind (λ n. tt))
-    (λ up. effect_if m c (not (fits (told p) e) || not within) _ _ (λ t. quietly said.Unfit (λ n. tt))
+    (λ up. effect_if m c (not (fits (image_of p) e) || not within) _ _ (λ t. quietly said.Unfit (λ n. tt))
     (λ f.
     let next : number ≡ top p + 1 = grind (arith, nat_tests) in
     let taken : base ≤ p.core.taken = grind (arith, nat_tests) in
-    let n = pushed (trimmed p base) e in
-    let may : MayStore p (max p.core.base base) base number e =
-    record {
-      next = next;
-      taken = taken;
-      stays = stays;
-      fits = not_false _ (or_first (not (fits (told p) e)) (not within) f);
-      within =
-          not_false _ (or_second (not (fits (told p) e)) (not within) f);
-    } in
-    let stamp : view n ≡ v = ap (λ (i : Image). i.view) (told_pushed (trimmed p base) e) ∙ (viewed (told p) (top p + 1) v names resilience).1 in
+    let n = push_entry (trim_up_to p base) e in
+    let may : MayStore p (max p.core.base base) base number e = may_store p (max p.core.base base) base number e next taken stays
+    (or_first (not (fits (image_of p) e)) (not within) f) (or_second (not (fits (image_of p) e)) (not within) f) in
+    let stamp : view n ≡ v = ap (λ (i : Image). i.view) (told_pushed (trim_up_to p base) e) ∙ (viewed (image_of p) (top p + 1) v names resilience).1 in
     let same : stamp_eq v (view n) ≡ true = ap (stamp_eq v) stamp ∙ itself v in
     effect_of m c _ (does_telling RestsWhole m c n (said.Stored number)
     (only_name s) ack_of (and_then (comes _) (stores_view {m = p} s v base number names resilience refl heard own other refl below may) tt) (λ k r. tt)

@@ -7,14 +7,14 @@ use Rattle.am_base.specs.declared.entry.Entry.{Entry}
 use Rattle.am_base.specs.declared.entry.Entry.TheVariants.{Leave}
 use Rattle.am_base.specs.declared.image.Image.{Image}
 use Rattle.am_base.specs.Stamps.{stamp_eq}
-use Rattle.am_base.specs.Lists.{Log, at_place, after, fold}
+use Rattle.am_base.specs.Lists.{Log, at_place, after, fold, told_by}
 use Rattle.am_base.specs.Names.{life_of}
 use Rattle.am_core.specs.Cores.{accept, pass_over}
 use Rattle.am_fronts.specs.Refresh.{base_after, own_report, tell, go_on, let_go}
 use Rattle.am_sender.specs.declared.OwnSend.{OwnSend}
 use Rattle.am_sender.specs.Sends as own
-use Rattle.am_model.specs.Node.{Node, told, view, is_member, acts, is_sequencer, pushed, waiting}
-use Rattle.am_model.specs.Refresh.{advance, lead, refresh, accepted_at, settled_at, settled, settle, refresh_at_end}
+use Rattle.am_model.specs.Node.{Node, image_of, view, is_member, acts, is_sequencer, push_entry, waiting}
+use Rattle.am_model.specs.Refresh.{advance, lead, refresh, accepted_at, settle_at, settle_waiting, settle, refresh_at_end}
 use Rattle.am_model.proofs.Folds.{fold_append}
 use Rattle.am_model.proofs.Greatest.{split}
 use Rattle.am_effects.specs.Letters.{HasSend, Stands}
@@ -45,11 +45,11 @@ refresh_is m = split (is_sequencer m) (λ t. rw t (lead_is m)) (λ f. rw f (adva
 abbrev pub with_sends : Node → Node → Node
 with_sends m n = record m { sends = record m.sends { queue = n.sends.queue } }
 
-settled_at_is : (m : Node) (req : ℕ) (at : Option ℕ) → settled_at m req at ≡ with_sends m (settled_at m req at)
+settled_at_is : (m : Node) (req : ℕ) (at : Option ℕ) → settle_at m req at ≡ with_sends m (settle_at m req at)
 settled_at_is m req None = refl
 settled_at_is m req (Some k) = refl
 
-settled_is : (m : Node) (w : Option OwnSend) → settled m w ≡ with_sends m (settled m w)
+settled_is : (m : Node) (w : Option OwnSend) → settle_waiting m w ≡ with_sends m (settle_waiting m w)
 settled_is m None = refl
 settled_is m (Some s) = settled_at_is m s.req (accepted_at m s.req)
 
@@ -61,7 +61,7 @@ settle_is m = settled_is m (waiting m)
 same_send : (req number : ℕ) (s : OwnSend) → ((own.settle_send req number s).req ≡ s.req) × ((own.settle_send req number s).body ≡ s.body)
 same_send req number s = split (s.req == req) (λ t. rw t (refl, refl)) (λ f. rw f (refl, refl))
 
-sends_settled_at : (m : Node) (req : ℕ) (at : Option ℕ) (q : ℕ) (body : List ℕ) → HasSend m q body → HasSend (settled_at m req at) q body
+sends_settled_at : (m : Node) (req : ℕ) (at : Option ℕ) (q : ℕ) (body : List ℕ) → HasSend m q body → HasSend (settle_at m req at) q body
 sends_settled_at m req None q body h = h
 sends_settled_at m req (Some k) q body h =
     let f = own.settle_send req (m.core.base + 1 + k) in
@@ -74,7 +74,7 @@ sends_settled_at m req (Some k) q body h =
       body_ = same.1 ∙ h.body_;
     }
 
-sends_settled : (m : Node) (w : Option OwnSend) (q : ℕ) (body : List ℕ) → HasSend m q body → HasSend (settled m w) q body
+sends_settled : (m : Node) (w : Option OwnSend) (q : ℕ) (body : List ℕ) → HasSend m q body → HasSend (settle_waiting m w) q body
 sends_settled m None q body h = h
 sends_settled m (Some s) q body h = sends_settled_at m s.req (accepted_at m s.req) q body h
 
@@ -84,21 +84,36 @@ sends_settle m q body h = sends_settled m (waiting m) q body h
 
 -- ---- what stays
 
--- What a node keeps to the end of a step; its list may have its own Leave more, where it departs.
-pub record Rests (p n : Node) : Type 0 where
+-- who it is, and how it stands in the group
+pub record SameStanding (p n : Node) : Type 0 where
   pub who : n.core.who ≡ p.core.who
-  pub rules : n.core.rules ≡ p.core.rules
   pub promise : n.core.promise ≡ p.core.promise
   pub status : n.status ≡ p.status
   pub leaving : n.leaving ≡ p.leaving
   pub ballot : n.ballot ≡ p.ballot
-  pub start : n.core.log.start ≡ p.core.log.start
-  pub more : List Entry
-  pub entries : n.core.log.entries ≡ p.core.log.entries ++ more
-  pub view : view n ≡ view p
+
+-- its numbers don't fall
+pub record Rises (p n : Node) : Type 0 where
   pub base : p.core.base ≤ n.core.base
   pub acc : p.core.acc ≤ n.core.acc
   pub taken : p.core.taken ≤ n.core.taken
+
+-- a list may have more
+pub record Longer (old new : Log) : Type 0 where
+  pub start : new.start ≡ old.start
+  pub more : List Entry
+  pub entries : new.entries ≡ old.entries ++ more
+
+-- What a node keeps to the end of a step; its list may have its own Leave more, where it departs.
+pub record Rests (p n : Node) : Type 0 where
+  pub same : SameStanding p n
+  pub open same use *
+  pub rules : n.core.rules ≡ p.core.rules
+  pub longer : Longer p.core.log n.core.log
+  pub open longer use *
+  pub view : view n ≡ view p
+  pub rises : Rises p n
+  pub open rises use *
   pub asked : n.sends.last ≡ p.sends.last
   pub sends : (req : ℕ) (body : List ℕ) → HasSend p req body → HasSend n req body
 
@@ -112,12 +127,6 @@ pub record RestsWhole (p n : Node) : Type 0 where
 pub base_up : (least : Option ℕ) (base : ℕ) → base ≤ base_after least base
 base_up None base = omega arith
 base_up (Some to) base = omega arith
-
--- what a refresh does to numbers
-record Rises (m n : Node) : Type 0 where
-  base : m.core.base ≤ n.core.base
-  acc : m.core.acc ≤ n.core.acc
-  taken : m.core.taken ≤ n.core.taken
 
 passed : (taken acc start : ℕ) → taken ≤ (if nat_lt taken (start - 1) then max taken (min acc (start - 1)) else taken)
 passed taken acc start = split (nat_lt taken (start - 1)) (λ t. rw t (omega arith)) (λ f. rw f (omega arith))
@@ -134,62 +143,45 @@ rises_refresh : (m : Node) → Rises m (refresh m)
 unfolding refresh
 rises_refresh m = split (is_sequencer m) (λ t. rw t (rises_lead m)) (λ f. rw f (rises_advance m))
 
-rests_with : (m n : Node) → Rises m n → RestsWhole m (with_fronts m n)
-rests_with m n r = record {
-  rests = record {
-    who = refl;
-    rules = refl;
-    promise = refl;
-    status = refl;
-    leaving = refl;
-    ballot = refl;
-    start = refl;
-    more = [];
-    entries = sym (append-nil m.core.log.entries);
-    view = refl;
-    base = r.base;
-    acc = r.acc;
-    taken = r.taken;
-    asked = refl;
-    sends = λ req body h. record { index = h.index; send = h.send; there = h.there; request = h.request; body_ = h.body_ };
-  };
+abbrev KeepsSends : Node → Node → Type 0
+KeepsSends m n = (req : ℕ) (body : List ℕ) → HasSend m req body → HasSend n req body
+
+-- the node with another list
+abbrev with_list : Node → Log → Node
+with_list m log = record m { core = record (m.core) { log = log } }
+
+-- another list that goes on, with other fronts and other sends
+rests_with : (p n k : Node) (log : Log) → Longer p.core.log log → (told_by log).view ≡ view p → Rises p n → KeepsSends p k
+    → Rests p (with_sends (with_fronts (with_list p log) n) k)
+rests_with p n k log longer same_view r sends = record {
+  same = record { who = refl; promise = refl; status = refl; leaving = refl; ballot = refl };
+  rules = refl;
+  longer = longer;
+  view = same_view;
+  rises = record { base = r.base; acc = r.acc; taken = r.taken };
+  asked = refl;
+  sends = λ req body h. (let x = sends req body h in record { index = x.index; send = x.send; there = x.there; request = x.request; body_ = x.body_ });
+}
+
+rests_whole : (m n k : Node) → Rises m n → KeepsSends m k → RestsWhole m (with_sends (with_fronts m n) k)
+rests_whole m n k r sends = record {
+  rests = rests_with m n k m.core.log (record { start = refl; more = []; entries = sym (append-nil m.core.log.entries) }) refl r sends;
   log = refl;
   begins = refl;
 }
 
 pub rests_refresh : (m : Node) → RestsWhole m (refresh m)
-rests_refresh m = subst (RestsWhole m) (sym (refresh_is m)) (rests_with m (refresh m) (rises_refresh m))
+rests_refresh m = subst (RestsWhole m) (sym (refresh_is m)) (rests_whole m (refresh m) m (rises_refresh m) (λ req body h. h))
 
-rests_sends : (p m n : Node) → ((req : ℕ) (body : List ℕ) → HasSend m req body → HasSend n req body) → RestsWhole p m → RestsWhole p (with_sends m n)
-rests_sends p m n f h =
-    let r = h.rests in
-    record {
-      rests = record {
-        who = r.who;
-        rules = r.rules;
-        promise = r.promise;
-        status = r.status;
-        leaving = r.leaving;
-        ballot = r.ballot;
-        start = r.start;
-        more = r.more;
-        entries = r.entries;
-        view = r.view;
-        base = r.base;
-        acc = r.acc;
-        taken = r.taken;
-        asked = r.asked;
-        sends = λ req body s. let x = f req body (r.sends req body s) in
-            record { index = x.index; send = x.send; there = x.there; request = x.request; body_ = x.body_ };
-      };
-      log = h.log;
-      begins = h.begins;
-    }
+end_is : (m : Node) → refresh_at_end m ≡ with_sends (with_fronts m (refresh m)) (settle (refresh m))
+unfolding refresh_at_end
+end_is m = settle_is (refresh m) ∙ ap (λ (n : Node). with_sends n (settle (refresh m))) (refresh_is m)
+
+end_sends : (m : Node) → KeepsSends m (settle (refresh m))
+end_sends m req body h = sends_settle (refresh m) req body ((rests_refresh m).rests.sends req body h)
 
 pub rests_at_end : (m : Node) → RestsWhole m (refresh_at_end m)
-unfolding refresh_at_end
-rests_at_end m = subst (RestsWhole m) (sym (settle_is (refresh m)))
-    (rests_sends m (refresh m) (settle (refresh m)) (sends_settle (refresh m)) (rests_refresh m))
+rests_at_end m = subst (RestsWhole m) (sym (end_is m)) (rests_whole m (refresh m) (settle (refresh m)) (rises_refresh m) (end_sends m))
 
 -- ---- its own Leave more
 
@@ -198,32 +190,18 @@ view_left : (image : Image) (number name : ℕ) → (after image number (Leave n
 unfolding after
 view_left image number name = split ((at_place image name).life == life_of name) (λ t. rw t refl) (λ f. rw f refl)
 
-rests_left : (p n : Node) → RestsWhole (pushed p (Leave p.core.who)) n → Rests p n
+pub rests_closed : (p : Node) → Rests p (refresh_at_end (push_entry p (Leave p.core.who)))
 unfolding fold
-rests_left p n h =
-    let r = h.rests in
+rests_closed p =
     let e = Leave p.core.who in
-    record {
-      who = r.who;
-      rules = r.rules;
-      promise = r.promise;
-      status = r.status;
-      leaving = r.leaving;
-      ballot = r.ballot;
-      start = r.start;
-      more = e ∷ [];
-      entries = ap (λ (l : Log). l.entries) h.log;
-      view = r.view ∙ ap (λ (i : Image). i.view) (fold_append p.core.log.image (p.core.log.start + 1) p.core.log.entries (e ∷ []))
-          ∙ view_left (told p) (p.core.log.start + 1 + length p.core.log.entries) p.core.who;
-      base = r.base;
-      acc = r.acc;
-      taken = r.taken;
-      asked = r.asked;
-      sends = λ req body s. r.sends req body (record { index = s.index; send = s.send; there = s.there; request = s.request; body_ = s.body_ });
-    }
-
-pub rests_closed : (p : Node) → Rests p (refresh_at_end (pushed p (Leave p.core.who)))
-rests_closed p = rests_left p _ (rests_at_end (pushed p (Leave p.core.who)))
+    let m = push_entry p e in
+    let r = rises_refresh m in
+    let same_view = ap (λ (i : Image). i.view) (fold_append p.core.log.image (p.core.log.start + 1) p.core.log.entries (e ∷ []))
+    ∙ view_left (image_of p) (p.core.log.start + 1 + length p.core.log.entries) p.core.who in
+    let sends : KeepsSends p (settle (refresh m)) = λ req body h. end_sends m req body
+    (record { index = h.index; send = h.send; there = h.there; request = h.request; body_ = h.body_ }) in
+    subst (Rests p) (sym (end_is m)) (rests_with p (refresh m) (settle (refresh m)) m.core.log
+    (record { start = refl; more = e ∷ []; entries = refl }) same_view (record { base = r.base; acc = r.acc; taken = r.taken }) sends)
 
 -- ---- what follows
 

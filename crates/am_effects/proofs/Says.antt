@@ -14,8 +14,8 @@ use Rattle.am_packet.specs.Boxes.{Letter, with_letter}
 use Rattle.am_core.proofs.Folds.{slice_get-drop}
 use Rattle.am_sender.specs.declared.OwnSend.{OwnSend}
 use Rattle.am_sender.specs.Sends as own
-use Rattle.am_model.specs.Node.{Node, top, told, view, acts, is_member, is_sequencer, pushed, waiting}
-use Rattle.am_model.specs.Emit.{served, put_all, request_of, spread_of, bcast_of, ack_of, nack_of}
+use Rattle.am_model.specs.Node.{Node, top, image_of, view, acts, is_member, is_sequencer, push_entry, waiting}
+use Rattle.am_model.specs.Emit.{entries_to_serve, put_all, request_of, spread_of, bcast_of, ack_of, nack_of}
 use Rattle.am_model.specs.Receiving.{is_view}
 use Rattle.am_model.proofs.Folds.{fold_append}
 use Rattle.am_model.proofs.Greatest.{split}
@@ -40,22 +40,22 @@ view_after image number (Leave name) f = split ((at_place image name).life == li
 view_after image number (View stamp names resilience) f = absurd (cc)
 
 -- what the list tells with an entry more
-pub told_pushed : (m : Node) (e : Entry) → told (pushed m e) ≡ after (told m) (top m + 1) e
+pub told_pushed : (m : Node) (e : Entry) → image_of (push_entry m e) ≡ after (image_of m) (top m + 1) e
 unfolding fold
 told_pushed m e =
     let z : m.core.log.start + 1 + length m.core.log.entries ≡ top m + 1 = omega arith in
-    fold_append m.core.log.image (m.core.log.start + 1) m.core.log.entries (e ∷ []) ∙ ap (λ k. after (told m) k e) z
+    fold_append m.core.log.image (m.core.log.start + 1) m.core.log.entries (e ∷ []) ∙ ap (λ k. after (image_of m) k e) z
 
-pub view_pushed : (m : Node) (e : Entry) → is_view e ≡ false → view (pushed m e) ≡ view m
-view_pushed m e f = ap (λ (i : Image). i.view) (told_pushed m e) ∙ view_after (told m) (top m + 1) e f
+pub view_pushed : (m : Node) (e : Entry) → is_view e ≡ false → view (push_entry m e) ≡ view m
+view_pushed m e f = ap (λ (i : Image). i.view) (told_pushed m e) ∙ view_after (image_of m) (top m + 1) e f
 
-pub acts_pushed : (m : Node) (e : Entry) → is_view e ≡ false → acts (pushed m e) ≡ acts m
+pub acts_pushed : (m : Node) (e : Entry) → is_view e ≡ false → acts (push_entry m e) ≡ acts m
 acts_pushed m e f = ap (λ (v : Stamp). is_member m.status && stamp_eq m.core.promise v) (view_pushed m e f)
 
-pub leads_pushed : (m : Node) (e : Entry) → is_view e ≡ false → is_sequencer (pushed m e) ≡ is_sequencer m
+pub leads_pushed : (m : Node) (e : Entry) → is_view e ≡ false → is_sequencer (push_entry m e) ≡ is_sequencer m
 leads_pushed m e f = λ i. acts_pushed m e f i && ((view_pushed m e f i).by == m.core.who)
 
-pub stands_pushed : (m : Node) (base : ℕ) (e : Entry) → Stands (pushed m e).core.log base (top m + 1) e
+pub stands_pushed : (m : Node) (base : ℕ) (e : Entry) → Stands (push_entry m e).core.log base (top m + 1) e
 stands_pushed m base e = record {
   index = length m.core.log.entries;
   there = get_last m.core.log.entries e;
@@ -76,7 +76,7 @@ tells_spread m c p to req body a f h n r = spread to req body (acts_rests r ∙ 
 
 -- the entry that is numbered
 pub tells_bcast : (m : Node) (c : Cause) (p : Node) (to : List ℕ) (e : Entry) → is_sequencer p ≡ true → is_view e ≡ false
-    → Tells Rests m c (pushed p e) to (λ n. bcast_of n (top p + 1) e)
+    → Tells Rests m c (push_entry p e) to (λ n. bcast_of n (top p + 1) e)
 tells_bcast m c p to e leads plain n r = bcast to (top p + 1) e (leads_rests r ∙ leads_pushed p e plain
     ∙ leads) (stands_rests m.core.base (top p + 1) e r (stands_pushed p m.core.base e))
 
@@ -99,10 +99,10 @@ says_each m c n packet to number (e ∷ es) letters f h =
 
 -- a letter for each entry that stands above a number
 pub says_served : (m : Node) (c : Cause) (p n : Node) (packet : ℕ → Entry → Packet) (to : List ℕ) (low : ℕ) → m.core.base ≤ low → Rests p n
-    → ((k : ℕ) (e : Entry) → Stands n.core.log m.core.base k e → Says m c n to (packet k e)) → AllSay m c n (put_all packet to (low + 1) (served p low) [])
+    → ((k : ℕ) (e : Entry) → Stands n.core.log m.core.base k e → Says m c n to (packet k e)) → AllSay m c n (put_all packet to (low + 1) (entries_to_serve p low) [])
 says_served m c p n packet to low above r f =
     let skip = low - p.core.log.start in
-    says_each m c n packet to (low + 1) (served p low) []
+    says_each m c n packet to (low + 1) (entries_to_serve p low) []
     (λ i k e there is.
     let at = sym (slice_get-drop skip i p.core.log.entries) ∙ get_take 8 (drop skip p.core.log.entries) i e there in
     f k e (stands_rests m.core.base k e r (record {

@@ -12,10 +12,10 @@ use Rattle.am_base.specs.Names.{life_of}
 use Rattle.am_base.specs.Stamps.{stamp_eq}
 use Rattle.am_base.specs.Lists.{Log, top_of, fits, at_place, row_of, told_by}
 use Rattle.am_packet.specs.declared.packet.Packet.TheVariants as packet
-use Rattle.am_model.specs.Node.{Node, top, told, view, others, only_name, is_sequencer, has_room, report_fits, with_report, pushed}
+use Rattle.am_model.specs.Node.{Node, top, image_of, view, others, only_name, is_sequencer, has_room, report_fits, with_report, push_entry}
 use Rattle.am_model.specs.Emit.{Plan, quiet, polling, numbering, bcast_of, hold_of, welcome_of, gone_of}
-use Rattle.am_model.specs.Sequencing.{row_at, is_unknown, reported, requested, request_row, risen, ack_row, asked_again, nack_row}
-use Rattle.am_model.specs.Joining.{admitted, number_join, asks_to_join, join_ask_row, may_go, let_go, and_gone, asks_to_leave, counts_report, leave_ask_row}
+use Rattle.am_model.specs.Sequencing.{row_at, is_unknown, take_report, answer_request, request_row, if_risen, ack_row, serve_again, nack_row}
+use Rattle.am_model.specs.Joining.{with_admitted, number_join, asks_to_join, join_ask_row, may_go, let_go, and_gone, asks_to_leave, counts_report, leave_ask_row}
 use Rattle.am_model.proofs.Greatest.{split, and_both}
 use Rattle.am_effects.specs.Causes.{Cause, hears, BringsSend, BringsReport, with_send, by_ack, by_nack, by_leave_ask}
 use Rattle.am_effects.specs.Changes.{MayReport, takes_report, admits, numbers, asked_send, asked_join, asked_leave}
@@ -41,26 +41,26 @@ may_report m s v report h known fits = record { leads = h.leads; other = h.other
 
 -- the report is taken, and what follows from it
 comes_reported : (m : Node) (c : Cause) (s : ℕ) (v : Stamp) (report : Report) → BringsReport c s v report → MayReport m s v report
-    → Comes m c (reported m s report)
+    → Comes m c (take_report m s report)
 comes_reported m c s v report by may o = used_report s v report by may
 
-rests_reported : (m : Node) (s : ℕ) (report : Report) → RestsWhole (with_report m s report) (reported m s report)
+rests_reported : (m : Node) (s : ℕ) (report : Report) → RestsWhole (with_report m s report) (take_report m s report)
 rests_reported m s report = rests_refresh (with_report m s report)
 
-leads_reported : (m : Node) (s : ℕ) (report : Report) → is_sequencer m ≡ true → is_sequencer (reported m s report) ≡ true
+leads_reported : (m : Node) (s : ℕ) (report : Report) → is_sequencer m ≡ true → is_sequencer (take_report m s report) ≡ true
 leads_reported m s report t = leads_rests (rests_reported m s report).rests ∙ t
 
-row_reported : (m : Node) (s name : ℕ) (report : Report) → row_at (reported m s report) name ≡ row_at m name
+row_reported : (m : Node) (s name : ℕ) (report : Report) → row_at (take_report m s report) name ≡ row_at m name
 row_reported m s name report = ap (λ l. row_of (told_by l) name) (rests_reported m s report).log
 
-unknown_reported : (m : Node) (s : ℕ) (report : Report) → is_unknown m s ≡ false → is_unknown (reported m s report) s ≡ false
+unknown_reported : (m : Node) (s : ℕ) (report : Report) → is_unknown m s ≡ false → is_unknown (take_report m s report) s ≡ false
 unknown_reported m s report f = ap (λ (r : Row). r.joined == 0) (row_reported m s s report) ∙ f
 
 -- ---- sends
 
 row_requested : (m : Node) (c : Cause) (p : Node) (s : ℕ) (v : Stamp) (report : Report) (req : ℕ) (body : List ℕ) (by_order : Bool) → Comes m c p
     → is_sequencer p ≡ true → is_unknown p s ≡ false → BringsSend c s v report req body → (by_order ≡ true → c ≡ hears (packet.Spread s v report req body))
-    → HasEffect m c (requested p s req body by_order)
+    → HasEffect m c (answer_request p s req body by_order)
 row_requested m c p s v report req body by_order comes leads known by spread =
     let r = row_at p s in
     let quietly : (o : Outcome) → ((n : Node) → Answers m c n o)
@@ -87,8 +87,8 @@ pub row_request : (m : Node) (c : Cause) (s : ℕ) (v : Stamp) (report : Report)
     → HasEffect m c (request_row m s report req body by_order)
 unfolding request_row
 row_request m c s v report req body by_order from by spread =
-    let k : is_unknown m s ≡ false → not (report_fits m report) ≡ false → HasEffect m c (requested (reported m s report) s req body by_order) = λ known f.
-    row_requested m c (reported m s report) s v report req body by_order
+    let k : is_unknown m s ≡ false → not (report_fits m report) ≡ false → HasEffect m c (answer_request (take_report m s report) s req body by_order) = λ known f.
+    row_requested m c (take_report m s report) s v report req body by_order
     (comes_reported m c s v report (with_send s v report req body by) (may_report m s v report from known (not_false _ f)))
     (leads_reported m s report from.leads) (unknown_reported m s report known) by spread in
     search (rows, k) depth 9
@@ -98,8 +98,8 @@ unfolding ack_row
 row_ack m s v report from =
     let c = hears (packet.Ack s v report) in
     let k : is_unknown m s ≡ false → not (report_fits m report) ≡ false
-    → HasEffect m c (record (quiet (with_report m s report) said.Noted) { outcome = risen m said.Noted (λ n. said.Accepted n.core.acc) }) = λ known f.
-    effect_of m c _ (does_saying RestsWhole m c (with_report m s report) said.Noted (risen m said.Noted (λ n. said.Accepted n.core.acc))
+    → HasEffect m c (record (quiet (with_report m s report) said.Noted) { outcome = if_risen m said.Noted (λ n. said.Accepted n.core.acc) }) = λ known f.
+    effect_of m c _ (does_saying RestsWhole m c (with_report m s report) said.Noted (if_risen m said.Noted (λ n. said.Accepted n.core.acc))
     (λ n. and_then nothing_yet (takes_report {m = m} s v report (by_ack s v report) (may_report m s v report from known (not_false _ f))) tt)
     (λ n r. split (nat_lt m.core.acc n.core.acc) (λ t. rw t tt) (λ g. rw g tt))) in
     search (rows, k) depth 9
@@ -110,8 +110,8 @@ pub row_nack : (m : Node) (s : ℕ) (v : Stamp) (report : Report) → FromMember
 unfolding nack_row
 row_nack m s v report from =
     let c = hears (packet.Nack s v report) in
-    let p = reported m s report in
-    let k : is_unknown m s ≡ false → not (report_fits m report) ≡ false → HasEffect m c (asked_again p s report.stored) = λ known f.
+    let p = take_report m s report in
+    let k : is_unknown m s ≡ false → not (report_fits m report) ≡ false → HasEffect m c (serve_again p s report.stored) = λ known f.
     (let comes = comes_reported m c s v report (by_nack s v report) (may_report m s v report from known (not_false _ f)) in
     let up = (rests_reported m s report).rests.base in
     effect_if m c (nat_lt report.stored p.core.base) _ _ (λ t. effect_of m c _ (does_quiet RestsWhole m c p said.Behind (comes said.Behind) (λ n r. tt)))
@@ -128,20 +128,20 @@ row_nack m s v report from =
 
 -- ---- joining
 
-does_number_join : (m : Node) (s : ℕ) (v : Stamp) → is_sequencer m ≡ true → (s == m.core.who) ≡ false → fits (told m) (Join s) ≡ true → has_room m ≡ true
+does_number_join : (m : Node) (s : ℕ) (v : Stamp) → is_sequencer m ≡ true → (s == m.core.who) ≡ false → fits (image_of m) (Join s) ≡ true → has_room m ≡ true
     → Does RestsWhole m (hears (packet.JoinAsk s v)) (number_join m s)
 does_number_join m s v leads other fit room =
     let c = hears (packet.JoinAsk s v) in
-    let p = admitted m s in
+    let p = with_admitted m s in
     let e = Join s in
     let o = said.Numbered (top m + 1) in
-    let h : Course c o m (pushed p e) = and_then (and_then nothing_yet (admits {m = m} s v refl leads fit) tt)
+    let h : Course c o m (push_entry p e) = and_then (and_then nothing_yet (admits {m = m} s v refl leads fit) tt)
     (numbers {m = p} e leads room (asked_join s v refl other fit)) tt in
-    let lead : (n : Node) → RestsWhole (pushed p e) n → is_sequencer n ≡ true = λ n r. leads_rests r.rests ∙ leads_pushed p e refl ∙ leads in
-    let stands : (n : Node) → RestsWhole (pushed p e) n → Stands n.core.log m.core.base (top m + 1) e =
+    let lead : (n : Node) → RestsWhole (push_entry p e) n → is_sequencer n ≡ true = λ n r. leads_rests r.rests ∙ leads_pushed p e refl ∙ leads in
+    let stands : (n : Node) → RestsWhole (push_entry p e) n → Stands n.core.log m.core.base (top m + 1) e =
     λ n r. stands_rests m.core.base (top m + 1) e r.rests (stands_pushed p m.core.base e) in
     let long = length-append m.core.log.entries (e ∷ []) in
-    let high : (n : Node) → RestsWhole (pushed p e) n → top n ≡ top m + 1 = λ n r. ap (λ (l : Log). top_of l) r.log ∙ omega arith in
+    let high : (n : Node) → RestsWhole (push_entry p e) n → top n ≡ top m + 1 = λ n r. ap (λ (l : Log). top_of l) r.log ∙ omega arith in
     does_where RestsWhole m c (λ n. nat_le (top m + 1) n.core.acc) (numbering p e o (λ n. bcast_of n (top m + 1) e)) (only_name s) (λ n. welcome_of n s)
     (does_numbering RestsWhole m c p e o (λ n. bcast_of n (top m + 1) e) h (λ n r. tt) (λ n r. bcast (others p) (top m + 1) e (lead n r) (stands n r)))
     (λ n r t. let low : top m + 1 ≤ n.core.acc = grind (arith, nat_tests) in welcome s (lead n r) (just_joined (top m + 1) refl (high n r) low (stands n r)))
@@ -170,16 +170,16 @@ known_join life joined left mine acc low here occupied no_fit =
     let none : left ≡ 0 = grind (arith, nat_tests) in
     (λ lives. same, some, none))
 
-fit_is : (m : Node) (s : ℕ) → fits (told m) (Join s) ≡ false
-    → (((at_place (told m) s).joined == 0) || (nat_lt 0 (at_place (told m) s).left && nat_lt (at_place (told m) s).life (life_of s))) ≡ false
+fit_is : (m : Node) (s : ℕ) → fits (image_of m) (Join s) ≡ false
+    → (((at_place (image_of m) s).joined == 0) || (nat_lt 0 (at_place (image_of m) s).left && nat_lt (at_place (image_of m) s).life (life_of s))) ≡ false
 unfolding fits
 fit_is m s f = f
 
-row_asks_to_join : (m : Node) (s : ℕ) (v : Stamp) (q : Row) → at_place (told m) s ≡ q → is_sequencer m ≡ true → (s == m.core.who) ≡ false
+row_asks_to_join : (m : Node) (s : ℕ) (v : Stamp) (q : Row) → at_place (image_of m) s ≡ q → is_sequencer m ≡ true → (s == m.core.who) ≡ false
     → HasEffect m (hears (packet.JoinAsk s v)) (asks_to_join m s q)
 row_asks_to_join m s v q is leads other =
     let c = hears (packet.JoinAsk s v) in
-    let fit = fits (told m) (Join s) in
+    let fit = fits (image_of m) (Join s) in
     let quietly : (o : Outcome) → ((n : Node) → Answers m c n o)
     → HasEffect m c (quiet m o) = λ o a. effect_of m c _ (does_quiet RestsWhole m c m o nothing_yet (λ n r. a n)) in
     effect_if m c (nat_lt (life_of s) q.life) _ _ (λ t. quietly said.Stranger (λ n. tt))
@@ -203,7 +203,7 @@ row_asks_to_join m s v q is leads other =
 pub row_join_ask : (m : Node) (s : ℕ) (v : Stamp) → is_sequencer m ≡ true → (s == m.core.who) ≡ false
     → HasEffect m (hears (packet.JoinAsk s v)) (join_ask_row m s)
 unfolding join_ask_row
-row_join_ask m s v leads other = row_asks_to_join m s v (at_place (told m) s) refl leads other
+row_join_ask m s v leads other = row_asks_to_join m s v (at_place (image_of m) s) refl leads other
 
 -- ---- leaving
 
@@ -233,7 +233,7 @@ pub row_leave_ask : (m : Node) (s : ℕ) (v : Stamp) (report : Report) → is_se
 unfolding leave_ask_row
 row_leave_ask m s v report leads other =
     let c = hears (packet.LeaveAsk s v report) in
-    let p = reported m s report in
+    let p = take_report m s report in
     let who = (rests_reported m s report).rests.who in
     effect_if m c (is_unknown m s) _ _ (λ t. effect_of m c _ (does_quiet RestsWhole m c m said.Stranger nothing_yet (λ n r. tt)))
     (λ known. effect_if m c (counts_report m v report) _ _

@@ -11,7 +11,7 @@ use Rattle.am_base.specs.Lists.{entry_at}
 use Rattle.am_sender.specs.declared.OwnSend.{OwnSend}
 use Rattle.am_model.specs.declared.status.Status.{Status}
 use Rattle.am_model.specs.declared.status.Status.TheVariants as status
-use Rattle.am_model.specs.Node.{Node, Ballot, told, view, others, only_name, acts, has_room, is_asking, is_member, is_sequencer, waiting}
+use Rattle.am_model.specs.Node.{Node, Ballot, image_of, view, others, only_name, acts, has_room, is_asking, is_member, is_sequencer, waiting}
 use Rattle.am_model.specs.Emit.{quiet, ack_of, invite_of, fetch_of, result_of}
 use Rattle.am_model.specs.Calls.{would_emit, emit, go}
 use Rattle.am_model.specs.Ticks.{tick_ballot, tick_promised, tick_member, put_off, behind_view, viewed_by, and_result, tick_sequencer, tick_acting, tick_with}
@@ -103,8 +103,8 @@ quiet_emit m (Some s) o n alone lead = split (would_emit m (Some s))
     (λ f. rw f refl)
 
 quiet_view : (n : Node) → size (others n) ≡ 0 → size (behind_view n) ≡ 0
-quiet_view n none = split (nat_lt n.core.base (told n).view_number)
-    (λ t. rw t (those_none (λ name. nat_lt (n.reports name).stored (told n).view_number) (others n) none))
+quiet_view n none = split (nat_lt n.core.base (image_of n).view_number)
+    (λ t. rw t (those_none (λ name. nat_lt (n.reports name).stored (image_of n).view_number) (others n) none))
     (λ f. rw f refl)
 
 quiet_last : (m : Node) (o : Outcome) → is_sequencer m ≡ true → IsAlone (emit m (waiting m) o).node
@@ -126,9 +126,9 @@ row_tick_sequencer m member lead =
       stays = d.stays;
       changes = d.changes;
       answer = d.answer;
-      letters = λ n r. and_says m tick n (behind_view n) (result_of n (told n).view_number (viewed_by (entry_at n.core.log (told n).view_number))
-          (told n).resilience) (e.letters n)
-          (result (behind_view n) (told n).view_number (viewed_by (entry_at n.core.log (told n).view_number)) refl refl (leads (leads_rests r ∙ same.0 ∙ lead)))
+      letters = λ n r. and_says m tick n (behind_view n) (result_of n (image_of n).view_number (viewed_by (entry_at n.core.log (image_of n).view_number))
+          (image_of n).resilience) (e.letters n)
+          (result (behind_view n) (image_of n).view_number (viewed_by (entry_at n.core.log (image_of n).view_number)) refl refl (leads (leads_rests r ∙ same.0 ∙ lead)))
           (d.letters n r);
     } in
     effect_if m tick m.leaving (go p) p

@@ -9,7 +9,7 @@ use Rattle.am_base.specs.Names.{size}
 use Rattle.am_packet.specs.declared.packet.Packet.TheVariants as packet
 use Rattle.am_packet.specs.Boxes.{Letter}
 use Rattle.am_model.specs.declared.status.Status.TheVariants.{Departed}
-use Rattle.am_model.specs.Node.{Node, Ballot, view, others, is_sequencer, has_room, with_report, pushed}
+use Rattle.am_model.specs.Node.{Node, Ballot, view, others, is_sequencer, has_room, with_report, push_entry}
 use Rattle.am_model.specs.Refresh.{refresh, refresh_at_end}
 use Rattle.am_model.specs.Ballots.{Verdict}
 use Rattle.am_model.specs.Hearing.{hears_member}
@@ -45,4 +45,4 @@ pub data Ending (c : Cause) (o : Outcome) (m : Node) : List Letter → Node → 
       → Ending c o m [] (refresh_at_end (record m { status = Departed }))
   closing : {x : Node} (event : NodeEvent) → c ≡ calls event → Course c o m x → is_sequencer x ≡ true → x.leaving ≡ true → nat_lt 0 (size (others x)) ≡ false
       → has_room x ≡ true → view x ≡ view m
-      → Ending c o m [] (record (refresh_at_end (pushed x (Leave x.core.who))) { status = Departed })
+      → Ending c o m [] (record (refresh_at_end (push_entry x (Leave x.core.who))) { status = Departed })

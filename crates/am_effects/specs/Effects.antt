@@ -12,7 +12,7 @@ use Rattle.am_sender.specs.declared.OwnSend.{OwnSend}
 use Rattle.am_model.specs.declared.status.Status.TheVariants.{Member, Departed}
 use Rattle.am_model.specs.Node.{Node, Ballot, is_member, is_asking}
 use Rattle.am_model.specs.Emit.{Step}
-use Rattle.am_model.specs.Step.{step, hear, refused}
+use Rattle.am_model.specs.Step.{step, hear, hear_refusal}
 use Rattle.am_effects.specs.Causes.{Cause, calls, hears, refuses, cause_of}
 use Rattle.am_effects.specs.Changes.{Changes}
 use Rattle.am_effects.specs.Courses.{Ending}
@@ -93,4 +93,4 @@ abbrev pub HearingHasEffects : Type 0
 HearingHasEffects = (m : Node) (p : Packet) → Effect m (hears p) (hear m p)
 
 abbrev pub RefusingHasEffects : Type 0
-RefusingHasEffects = (m : Node) (cause : ℕ) → Effect m refuses (refused m cause)
+RefusingHasEffects = (m : Node) (cause : ℕ) → Effect m refuses (hear_refusal m cause)

@@ -13,7 +13,7 @@ use Rattle.am_group.specs.declared.event.Event.{Event}
 use Rattle.am_group.specs.Addressed.{is_for}
 use Rattle.am_group.specs.Journals.{letter_at}
 use Rattle.am_model.specs.Emit.{Step}
-use Rattle.am_model.specs.World.{World, current, is_stopped, has_departed, unchanged, stepped, lives_on, happens}
+use Rattle.am_model.specs.World.{World, current, is_stopped, has_departed, with_record, with_step, lives_on, happens}
 use Rattle.am_model.specs.Claims.{heard_by}
 use Rattle.am_effects.specs.Causes.{Cause, calls, hears, refuses}
 use Rattle.am_effects.specs.Effects.{Effect}
@@ -62,12 +62,12 @@ IsIdle (said.Welcomed number) = ⊥
 IsIdle _ = Unit {0}
 
 pub data Happens (w : World) (e : Event) : World → Type 0 where
-  idles : (o : Outcome) → IsIdle o → Happens w e (unchanged w e o)
-  stops : is_stopped w (actor w e) ≡ false → Happens w e (unchanged (record w { stopped = w.stopped ++ actor w e ∷ [] }) e said.Stopped)
+  idles : (o : Outcome) → IsIdle o → Happens w e (with_record w e o)
+  stops : is_stopped w (actor w e) ≡ false → Happens w e (with_record (record w { stopped = w.stopped ++ actor w e ∷ [] }) e said.Stopped)
   returns : (place : ℕ) → place ≡ place_of (actor w e) → (is_stopped w (current w place) || has_departed (w.nodes (current w place)).status) ≡ true
-      → (w.lives place == 16) ≡ false → Happens w e (lives_on (unchanged w e (said.Returned (w.lives place + 1))) place)
+      → (w.lives place == 16) ≡ false → Happens w e (lives_on (with_record w e (said.Returned (w.lives place + 1))) place)
   steps : (c : Cause) (s : Step) → is_stopped w (actor w e) ≡ false → IsCause w (actor w e) e.act c → Effect (w.nodes (actor w e)) c s
-      → Happens w e (stepped w e (actor w e) s)
+      → Happens w e (with_step w e (actor w e) s)
 
 -- each event of each world
 abbrev pub EventsHaveEffects : Type 0

@@ -12,7 +12,7 @@ use Rattle.am_packet.specs.declared.packet.Packet.TheVariants as packet
 use Rattle.am_packet.specs.Boxes.{Letter}
 use Rattle.am_packet.specs.Kinds.{goes_to_any}
 use Rattle.am_sender.specs.declared.OwnSend.{OwnSend}
-use Rattle.am_model.specs.Node.{Node, Ballot, top, told, view, only_name, acts, is_sequencer, is_member, is_asking}
+use Rattle.am_model.specs.Node.{Node, Ballot, top, image_of, view, only_name, acts, is_sequencer, is_member, is_asking}
 use Rattle.am_model.specs.Emit as emits
 use Rattle.am_model.specs.Ballots.{vote_of, next_stamp}
 use Rattle.am_model.specs.Sequencing.{row_at}
@@ -42,8 +42,8 @@ pub record Stands (log : Log) (base number : ℕ) (e : Entry) : Type 0 where
 -- a joiner is welcomed where its Join is accepted: once it was numbered, or where it asks again, is a member, and hasn't stored it
 pub data MayWelcome (m : Node) (n : Node) (s : ℕ) : Type 0 where
   just_joined : (number : ℕ) → number ≡ top m + 1 → top n ≡ number → number ≤ n.core.acc → Stands n.core.log m.core.base number (Join s) → MayWelcome m n s
-  asks_again : n.core.log ≡ m.core.log → ((at_place (told m) s).life ≢ 0 → (at_place (told m) s).life ≡ life_of s) → 0 < (at_place (told m) s).joined
-      → (at_place (told m) s).left ≡ 0 → (at_place (told m) s).joined ≤ m.core.acc → (m.reports s).stored < (at_place (told m) s).joined → MayWelcome m n s
+  asks_again : n.core.log ≡ m.core.log → ((at_place (image_of m) s).life ≢ 0 → (at_place (image_of m) s).life ≡ life_of s) → 0 < (at_place (image_of m) s).joined
+      → (at_place (image_of m) s).left ≡ 0 → (at_place (image_of m) s).joined ≤ m.core.acc → (m.reports s).stored < (at_place (image_of m) s).joined → MayWelcome m n s
 
 -- a vote is asked for by the ballot that the node has begun, or that was open before
 pub data MayInvite (m : Node) (n : Node) : Type 0 where
@@ -82,8 +82,8 @@ pub data Says (m : Node) (c : Cause) (n : Node) : List ℕ → Packet → Type 0
   fetch : (to : List ℕ) → MayFetch m n to → Says m c n to (emits.fetch_of n)
   piece : (s : ℕ) (v : Stamp) (stored number : ℕ) (e : Entry) → c ≡ hears (packet.Fetch s v stored) → may_fetch n s v ≡ true
       → Stands n.core.log m.core.base number e → Says m c n (only_name s) (emits.piece_of n number e)
-  result : (to : List ℕ) (number : ℕ) (names : List ℕ) → number ≡ (told n).view_number → viewed_by (entry_at n.core.log number) ≡ names → MayTell n
-      → Says m c n to (emits.result_of n number names (told n).resilience)
+  result : (to : List ℕ) (number : ℕ) (names : List ℕ) → number ≡ (image_of n).view_number → viewed_by (entry_at n.core.log number) ≡ names → MayTell n
+      → Says m c n to (emits.result_of n number names (image_of n).resilience)
   hand_over : (to : List ℕ) → is_sequencer n ≡ true → n.leaving ≡ true → Says m c n to (emits.hand_over_of n)
 
 -- a letter goes to any life only where its kind does

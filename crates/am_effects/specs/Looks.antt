@@ -9,8 +9,8 @@ use Rattle.am_base.specs.declared.event.NodeEvent.TheVariants.{Reset, GiveUp}
 use Rattle.am_base.specs.Names.{has, size}
 use Rattle.am_base.specs.Stamps.{stamp_lt, stamp_eq}
 use Rattle.am_packet.specs.declared.packet.Packet.TheVariants as packet
-use Rattle.am_model.specs.Node.{Node, Ballot, top, told, members, those, is_member, pushed}
-use Rattle.am_model.specs.Ballots.{Verdict, need_of, best_of, is_waited_for, left_in, goes_on, ends, restarted, trimmed_for, with_vote, without_voter}
+use Rattle.am_model.specs.Node.{Node, Ballot, top, image_of, members, those, is_member, push_entry}
+use Rattle.am_model.specs.Ballots.{Verdict, need_of, best_of, is_waited_for, left_in, goes_on, ends, restart_reports, trim_for, with_vote, without_voter}
 use Rattle.am_model.specs.Hearing.{hears_member, hears_sequencer}
 use Rattle.am_effects.specs.Causes.{Cause, calls, hears}
 
@@ -18,7 +18,7 @@ use Rattle.am_effects.specs.Causes.{Cause, calls, hears}
 
 -- the View that a ballot decides has the needed names that weren't given up, and no less resilience
 abbrev pub view_of : Node → Ballot → Node
-view_of m b = pushed (trimmed_for m b (left_in b (need_of m b))) (View b.stamp (left_in b (need_of m b)) (max b.resilience (told m).resilience))
+view_of m b = push_entry (trim_for m b (left_in b (need_of m b))) (View b.stamp (left_in b (need_of m b)) (max b.resilience (image_of m).resilience))
 
 -- the coordinator is among those it needs, nobody is waited for, and nobody has shown more than it has
 pub record HasLearned (m : Node) (b : Ballot) : Type 0 where
@@ -30,7 +30,7 @@ pub record HasLearned (m : Node) (b : Ballot) : Type 0 where
 pub record MayDecide (m : Node) (b : Ballot) : Type 0 where
   pub learned : HasLearned m b
   pub enough : nat_lt (size (left_in b (need_of m b))) b.least ≡ false
-  pub room : nat_lt (m.core.rules.window + 16 - size (left_in b (need_of m b))) (top m + 1 - (trimmed_for m b (left_in b (need_of m b))).core.base) ≡ false
+  pub room : nat_lt (m.core.rules.window + 16 - size (left_in b (need_of m b))) (top m + 1 - (trim_for m b (left_in b (need_of m b))).core.base) ≡ false
 
 -- a verdict, and why
 pub data Looks (m : Node) (b : Ballot) : Verdict → Type 0 where
@@ -41,9 +41,9 @@ pub data Looks (m : Node) (b : Ballot) : Verdict → Type 0 where
       → ((best_of m b).by == m.core.who) ≡ false → Looks m b (goes_on m b (said.Fetching (best_of m b).by (top m + 1)))
   finds_too_few : HasLearned m b → nat_lt (size (left_in b (need_of m b))) b.least ≡ true
       → Looks m b (ends m b (said.TooFew (size (left_in b (need_of m b))) b.least))
-  finds_no_room : HasLearned m b → Looks m b (ends (trimmed_for m b (left_in b (need_of m b))) b
-      (said.Crowded (trimmed_for m b (left_in b (need_of m b))).core.base (top m)))
-  decides : MayDecide m b → Looks m b (ends (restarted (view_of m b)) b (said.Decided (top m + 1) (left_in b (need_of m b))))
+  finds_no_room : HasLearned m b → Looks m b (ends (trim_for m b (left_in b (need_of m b))) b
+      (said.Crowded (trim_for m b (left_in b (need_of m b))).core.base (top m)))
+  decides : MayDecide m b → Looks m b (ends (restart_reports (view_of m b)) b (said.Decided (top m + 1) (left_in b (need_of m b))))
 
 -- ---- why it looks
 

@@ -11,24 +11,23 @@ use Rattle.am_base.specs.Votes.{Shown, best_vote}
 use Rattle.am_base.specs.Lists.{Log, members_of, with_entry}
 use Rattle.am_fronts.specs.Reports.{least_of}
 use Rattle.am_packet.specs.Boxes.{Letter, with_letter}
-use Rattle.am_model.specs.Node.{Node, Ballot, top, told, those, is_member, pushed, only_name}
+use Rattle.am_model.specs.Node.{Node, Ballot, top, image_of, those, is_member, push_entry, only_name}
 use Rattle.am_model.specs.Emit.{invite_of, result_of}
-use Rattle.am_model.specs.Ballots.{Verdict, promised, best_of, has_voted, is_waited_for, left_in, taken_by, goes_on, ends, restarted, decide_view, trimmed_for}
-use Rattle.am_model.specs.Ballots.{decide, with_result, with_fetch, answered, next_stamp, new_ballot, begin, with_vote, newly_needed, keep_vote, without_voter}
+use Rattle.am_model.specs.Ballots.{Verdict, with_promise, best_of, has_voted, is_waited_for, left_in, taken_by, ends, restart_reports, decide_view, trim_for}
+use Rattle.am_model.specs.Ballots.{decide, with_result, with_fetch, verdict_plan, next_stamp, new_ballot, begin, with_vote, newly_needed, keep_vote, without_voter}
 use Rattle.am_model.specs.Ballots.{give_up}
 use Rattle.am_model.specs.Calls.{reset_row, give_up_of, give_up_row}
-use Rattle.am_model.specs.Resets.{fetched_for}
+use Rattle.am_model.specs.Resets.{decide_anew}
 use Rattle.am_model.specs.Ends.{with_log}
-use Rattle.am_ends.proofs.Nodes.{Keeps, reads, keeps_pushed, keeps_trimmed}
+use Rattle.am_ends.proofs.Nodes.{Keeps, Whole, reads, keeps_pushed, keeps_trimmed}
 use Rattle.am_ends.proofs.Plans.{Says, Alike, same_others, says_fetch, alike_if, alike_case, alike_quiet}
 
 -- ---- verdicts
 
 -- the first comes to the node of the second with all of a list, and both have one answer
 pub record Agrees (v w : Verdict) : Type 0 where
-  pub log : Log
-  pub keeps : Keeps log w.node
-  pub node : v.node ≡ with_log w.node log
+  pub whole : Whole v.node w.node
+  pub open whole use *
   pub outcome : v.outcome ≡ w.outcome
 
 agrees_if : (b c : Bool) (u v w x : Verdict) → b ≡ c → Agrees u v → Agrees w x → Agrees (if b then u else w) (if c then v else x)
@@ -37,19 +36,18 @@ agrees_if true false u v w x e f g = absurd (cc)
 agrees_if false true u v w x e f g = absurd (cc)
 agrees_if false false u v w x e f g = g
 
-agrees_on : (all : Log) (m : Node) (b : Ballot) (o w : Outcome) → Keeps all m → o ≡ w → Agrees (goes_on (with_log m all) b o) (goes_on m b w)
-agrees_on all m b o w h e = record {
-  log = all;
-  keeps = record { kept = h.kept; order = h.order };
-  node = λ i. record (with_log m all) { ballot = Some (record b { answer = e i; is_over = false }) };
-  outcome = e;
-}
+-- the ballot has this answer, and is over or goes on
+abbrev answers : Bool → Node → Ballot → Outcome → Verdict
+answers over m b o = record { node = record m { ballot = Some (record b { answer = o; is_over = over }) }; outcome = o }
 
-agrees_over : (all : Log) (m : Node) (b : Ballot) (o w : Outcome) → Keeps all m → o ≡ w → Agrees (ends (with_log m all) b o) (ends m b w)
-agrees_over all m b o w h e = record {
-  log = all;
-  keeps = record { kept = h.kept; order = h.order };
-  node = λ i. record (with_log m all) { ballot = Some (record b { answer = e i; is_over = true }) };
+agrees_answer : (over : Bool) (all : Log) (m : Node) (b : Ballot) (o w : Outcome) → Keeps all m → o ≡ w
+    → Agrees (answers over (with_log m all) b o) (answers over m b w)
+agrees_answer over all m b o w h e = record {
+  whole = record {
+    log = all;
+    keeps = record { kept = h.kept; order = h.order };
+    node = λ i. record (with_log m all) { ballot = Some (record b { answer = e i; is_over = over }) };
+  };
   outcome = e;
 }
 
@@ -61,16 +59,18 @@ same_best all m b h = reads all m (λ i t. best_vote b.votes m.core.who (record 
 
 -- the view is pushed on both sides
 agrees_pushed : (all : Log) (m : Node) (b : Ballot) (names : List ℕ) (r s : ℕ) (o w : Outcome) → Keeps all m → r ≡ s → o ≡ w
-    → Agrees (ends (restarted (pushed (with_log m all) (View b.stamp names r))) b o) (ends (restarted (pushed m (View b.stamp names s))) b w)
+    → Agrees (ends (restart_reports (push_entry (with_log m all) (View b.stamp names r))) b o) (ends (restart_reports (push_entry m (View b.stamp names s))) b w)
 agrees_pushed all m b names r s o w h e f =
     let k = keeps_pushed all m (View b.stamp names s) h in
-    let n = restarted (pushed m (View b.stamp names s)) in
+    let n = restart_reports (push_entry m (View b.stamp names s)) in
     let kn : Keeps (with_entry all (View b.stamp names s)) n = record { kept = k.kept; order = k.order } in
-    let a = agrees_over (with_entry all (View b.stamp names s)) n b o w kn f in
+    let a = agrees_answer true (with_entry all (View b.stamp names s)) n b o w kn f in
     record {
-      log = a.log;
-      keeps = a.keeps;
-      node = ap (λ (x : ℕ). (ends (restarted (pushed (with_log m all) (View b.stamp names x))) b o).node) e ∙ a.node;
+      whole = record {
+        log = a.log;
+        keeps = a.keeps;
+        node = ap (λ (x : ℕ). (ends (restart_reports (push_entry (with_log m all) (View b.stamp names x))) b o).node) e ∙ a.node;
+      };
       outcome = f;
     }
 
@@ -80,7 +80,7 @@ agrees_view all m b names h =
     let crowded = reads all m (λ i t. said.Crowded m.core.base t) h in
     let r = reads all m (λ i t. max b.resilience i.resilience) h in
     let decided = reads all m (λ i t. said.Decided (t + 1) names) h in
-    agrees_if _ _ _ _ _ _ full (agrees_over all m b _ _ h crowded) (agrees_pushed all m b names _ _ _ _ h r decided)
+    agrees_if _ _ _ _ _ _ full (agrees_answer true all m b _ _ h crowded) (agrees_pushed all m b names _ _ _ _ h r decided)
 
 -- what is asked of the best vote alone
 best_reads : {X : Type 0} (all : Log) (m : Node) (b : Ballot) (f : Shown → ℕ → X) → Keeps all m
@@ -89,16 +89,14 @@ best_reads all m b f h = ap (λ s. f s (top (with_log m all))) (same_best all m 
 
 -- the names of the best vote's members that are left
 agrees_left : (all : Log) (m : Node) (b : Ballot) (names some : List ℕ) → Keeps all m → names ≡ some
-    → Agrees (decide_view (trimmed_for (with_log m all) b names) b names) (decide_view (trimmed_for m b some) b some)
+    → Agrees (decide_view (trim_for (with_log m all) b names) b names) (decide_view (trim_for m b some) b some)
 agrees_left all m b names some h e =
     let to = unwrap_or (least_of (taken_by m.core.who m.core.taken b) (names_of some)) 0 in
     let k = keeps_trimmed all m to h in
-    let a = agrees_view all (trimmed_for m b some) b some k in
-    let v = ap (λ set. decide_view (trimmed_for (with_log m all) b set) b set) e in
+    let a = agrees_view all (trim_for m b some) b some k in
+    let v = ap (λ set. decide_view (trim_for (with_log m all) b set) b set) e in
     record {
-      log = a.log;
-      keeps = a.keeps;
-      node = ap (λ (x : Verdict). x.node) v ∙ a.node;
+      whole = record { log = a.log; keeps = a.keeps; node = ap (λ (x : Verdict). x.node) v ∙ a.node };
       outcome = ap (λ (x : Verdict). x.outcome) v ∙ a.outcome;
     }
 
@@ -109,10 +107,10 @@ agrees_decide all m b h =
     let waiting = best_reads all m b (λ s t. said.Waiting (those (is_waited_for m.core.who b) s.vote.members)) h in
     let fetching = best_reads all m b (λ s t. said.Fetching s.by (t + 1)) h in
     let few = best_reads all m b (λ s t. said.TooFew (size (left_in b s.vote.members)) b.least) h in
-    agrees_if _ _ _ _ _ _ (best_reads all m b (λ s t. not (has s.vote.members m.core.who)) h) (agrees_over all m b _ _ h not_in)
-    (agrees_if _ _ _ _ _ _ (best_reads all m b (λ s t. nat_lt 0 (size (those (is_waited_for m.core.who b) s.vote.members))) h) (agrees_on all m b _ _ h waiting)
-    (agrees_if _ _ _ _ _ _ (best_reads all m b (λ s t. not (s.by == m.core.who)) h) (agrees_on all m b _ _ h fetching)
-    (agrees_if _ _ _ _ _ _ (best_reads all m b (λ s t. nat_lt (size (left_in b s.vote.members)) b.least) h) (agrees_over all m b _ _ h few)
+    agrees_if _ _ _ _ _ _ (best_reads all m b (λ s t. not (has s.vote.members m.core.who)) h) (agrees_answer true all m b _ _ h not_in)
+    (agrees_if _ _ _ _ _ _ (best_reads all m b (λ s t. nat_lt 0 (size (those (is_waited_for m.core.who b) s.vote.members))) h) (agrees_answer false all m b _ _ h waiting)
+    (agrees_if _ _ _ _ _ _ (best_reads all m b (λ s t. not (s.by == m.core.who)) h) (agrees_answer false all m b _ _ h fetching)
+    (agrees_if _ _ _ _ _ _ (best_reads all m b (λ s t. nat_lt (size (left_in b s.vote.members)) b.least) h) (agrees_answer true all m b _ _ h few)
     (agrees_left all m b _ _ h (best_reads all m b (λ s t. left_in b s.vote.members) h)))))
 
 -- ---- what a verdict sends
@@ -120,18 +118,16 @@ agrees_decide all m b h =
 with_result_same : (all : Log) (n : Node) (o : Outcome) (ls ks : List Letter) → Keeps all n → ls ≡ ks → with_result o (with_log n all) ls ≡ with_result o n ks
 with_result_same all n (said.Decided number names) ls ks h e =
     reads all n (λ i t. with_letter (without_name names n.core.who) (result_of n number names i.resilience) ls) h ∙ ap
-    (with_letter (without_name names n.core.who) (result_of n number names (told n).resilience)) e
+    (with_letter (without_name names n.core.who) (result_of n number names (image_of n).resilience)) e
 with_result_same all n _ ls ks h e = e
 
 with_fetch_same : (all : Log) (n : Node) (o : Outcome) (ls ks : List Letter) → Keeps all n → ls ≡ ks → with_fetch o (with_log n all) ls ≡ with_fetch o n ks
 with_fetch_same all n (said.Fetching from want) ls ks h e = λ i. with_letter (only_name from) (says_fetch all n h i) (e i)
 with_fetch_same all n _ ls ks h e = e
 
-pub alike_answered : (v w : Verdict) (f g : Node → List Letter) → Agrees v w → Says f g → Alike (answered v f) (answered w g)
+pub alike_answered : (v w : Verdict) (f g : Node → List Letter) → Agrees v w → Says f g → Alike (verdict_plan v f) (verdict_plan w g)
 alike_answered v w f g a says = record {
-  log = a.log;
-  keeps = a.keeps;
-  node = a.node;
+  whole = a.whole;
   outcome = λ all n k. a.outcome;
   letters = λ all n k. ap (λ o. with_result o (with_log n all) (f (with_log n all))) a.outcome ∙ with_result_same all n w.outcome
       (f (with_log n all)) (g n) k (says all n k);
@@ -142,7 +138,7 @@ alike_answered v w f g a says = record {
 
 -- ---- the rows of ballots
 
-pub keeps_promised : (all : Log) (m : Node) (v : Stamp) → Keeps all m → Keeps all (promised m v)
+pub keeps_promised : (all : Log) (m : Node) (v : Stamp) → Keeps all m → Keeps all (with_promise m v)
 keeps_promised all m v h =
     let o = h.order in
     record { kept = h.kept; order = record { base = o.base; taken = o.taken; given = o.given; accepted = o.accepted } }
@@ -151,7 +147,7 @@ pub alike_begin : (all : Log) (m : Node) (least resilience : ℕ) → Keeps all 
 unfolding begin
 alike_begin all m least resilience h =
     let stamp = next_stamp m in
-    alike_answered _ _ _ _ (agrees_decide all (promised m stamp) (new_ballot stamp least (min resilience 15)) (keeps_promised all m stamp h))
+    alike_answered _ _ _ _ (agrees_decide all (with_promise m stamp) (new_ballot stamp least (min resilience 15)) (keeps_promised all m stamp h))
     (λ a n k. ap (λ to. with_letter to (invite_of n) []) (same_others all m h))
 
 pub alike_keep_vote : (all : Log) (m : Node) (b : Ballot) (name : ℕ) (vote : Vote) → Keeps all m
@@ -173,7 +169,7 @@ alike_give_up all m b name h =
     alike_answered _ _ _ _ a (λ l n k. ap (λ o. with_fetch o (with_log n l) []) a.outcome ∙ with_fetch_same l n
     (decide m (without_voter b name)).outcome [] [] k refl)
 
-pub alike_fetched_for : (all : Log) (m : Node) (b : Ballot) → Keeps all m → Alike (fetched_for b (with_log m all)) (fetched_for b m)
+pub alike_fetched_for : (all : Log) (m : Node) (b : Ballot) → Keeps all m → Alike (decide_anew b (with_log m all)) (decide_anew b m)
 alike_fetched_for all m b h = alike_answered _ _ _ _ (agrees_decide all m b h) (λ l n k. refl)
 
 pub alike_reset : (all : Log) (m : Node) (least resilience : ℕ) → Keeps all m

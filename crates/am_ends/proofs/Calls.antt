@@ -16,17 +16,17 @@ use Rattle.am_sender.specs.declared.OwnSend.{OwnSend}
 use Rattle.am_sender.specs.Sends as own
 use Rattle.am_model.specs.declared.status.Status.{Status}
 use Rattle.am_model.specs.declared.status.Status.TheVariants as status
-use Rattle.am_model.specs.Node.{Node, Ballot, top, told, view, others, only_name, lowest_or_first, those, acts, is_member, is_sequencer, has_room, waiting}
-use Rattle.am_model.specs.Node.{unsettled, pushed}
+use Rattle.am_model.specs.Node.{Node, Ballot, top, image_of, view, others, only_name, lowest_or_first, those, acts, is_member, is_sequencer, has_room, waiting}
+use Rattle.am_model.specs.Node.{unsettled_count, push_entry}
 use Rattle.am_model.specs.Emit.{Plan, request_of, spread_of, bcast_of, join_ask_of, leave_ask_of, hand_over_of, invite_of, fetch_of, ack_of, result_of}
-use Rattle.am_model.specs.Calls.{everywhere_else, would_emit, hand_in, number_send, emit, queued, queue, send_row, done_row, given, take_row, ask_to_join}
+use Rattle.am_model.specs.Calls.{everywhere_else, would_emit, hand_in, number_send, emit, with_queued, queue, send_row, done_row, give_out, take_row, ask_to_join}
 use Rattle.am_model.specs.Calls.{join_by, join_row, state_by, state_row, go, is_unfinished, leave_now, leave_by, leave_row, ask_of, ask_row}
 use Rattle.am_model.specs.Ticks.{tick_ballot, tick_promised, tick_member, put_off, behind_view, viewed_by, and_result, tick_sequencer, tick_acting, tick_with}
 use Rattle.am_model.specs.Ticks.{tick_by, tick_row}
 use Rattle.am_model.specs.Ends.{with_log}
 use Rattle.am_ends.proofs.Nodes.{Keeps, reads, same_entry, same_sequencer, keeps_pushed}
 use Rattle.am_ends.proofs.Plans.{Alike, same_others, says_request, says_spread, says_ack, says_leave_ask, says_fetch, alike_if, alike_case, alike_quiet}
-use Rattle.am_ends.proofs.Plans.{alike_telling, alike_and, alike_numbering}
+use Rattle.am_ends.proofs.Plans.{alike_with, alike_telling, alike_and, alike_numbering}
 
 -- ---- what a node tells
 
@@ -65,14 +65,14 @@ alike_emit all m (Some s) o w h e =
     (λ g. alike_if _ _ _ _ _ _ (same_room all m h) (λ t. alike_number_send all m s o w h e)
     (λ k. alike_quiet all m o w h e)))
 
-keeps_queued : (all : Log) (m : Node) (body : List ℕ) → Keeps all m → Keeps all (queued m body)
+keeps_queued : (all : Log) (m : Node) (body : List ℕ) → Keeps all m → Keeps all (with_queued m body)
 keeps_queued all m body h = record { kept = h.kept; order = h.order }
 
 pub alike_queue : (all : Log) (m : Node) (body : List ℕ) → Keeps all m → Alike (queue (with_log m all) body) (queue m body)
 alike_queue all m body h =
     let k = keeps_queued all m body h in
-    alike_case (is_some (waiting m)) _ _ _ _ (λ t. alike_quiet all (queued m body) _ _ k refl)
-    (λ f. alike_emit all (queued m body) (waiting (queued m body)) _ _ k refl)
+    alike_case (is_some (waiting m)) _ _ _ _ (λ t. alike_quiet all (with_queued m body) _ _ k refl)
+    (λ f. alike_emit all (with_queued m body) (waiting (with_queued m body)) _ _ k refl)
 
 pub alike_send : (all : Log) (m : Node) (body : List ℕ) → Keeps all m → Alike (send_row (with_log m all) body) (send_row m body)
 unfolding send_row
@@ -88,7 +88,7 @@ alike_done all m req h = alike_quiet all (record m { sends = own.collect req m.s
 
 -- ---- what is accepted
 
-pub alike_given : (all : Log) (m : Node) (e : Option Entry) → Keeps all m → m.core.taken < m.core.acc → Alike (given (with_log m all) e) (given m e)
+pub alike_given : (all : Log) (m : Node) (e : Option Entry) → Keeps all m → m.core.taken < m.core.acc → Alike (give_out (with_log m all) e) (give_out m e)
 alike_given all m None h more = alike_quiet all m _ _ h refl
 alike_given all m (Some e) h more =
     let n : Node = record m { core = record (m.core) { taken = m.core.taken + 1 } } in
@@ -96,8 +96,8 @@ alike_given all m (Some e) h more =
     alike_quiet all n _ _ (record { kept = h.kept; order = record { base = o.base; taken = omega arith; given = omega arith; accepted = o.accepted } }) refl
 
 pub alike_given_same : (all : Log) (m : Node) (e w : Option Entry) → Keeps all m → m.core.taken < m.core.acc → e ≡ w
-    → Alike (given (with_log m all) e) (given m w)
-alike_given_same all m e w h more same = subst (λ x. Alike (given (with_log m all) x) (given m w)) (sym same) (alike_given all m w h more)
+    → Alike (give_out (with_log m all) e) (give_out m w)
+alike_given_same all m e w h more same = subst (λ x. Alike (give_out (with_log m all) x) (give_out m w)) (sym same) (alike_given all m w h more)
 
 pub alike_take : (all : Log) (m : Node) → Keeps all m → Alike (take_row (with_log m all)) (take_row m)
 unfolding take_row
@@ -136,15 +136,13 @@ alike_state all m h = alike_state_by all m m.status h
 
 -- the last member leaves
 abbrev last_leave : Plan → Plan
-last_leave p = record p { node = pushed p.node (Leave p.node.core.who); outcome = λ n. said.Departed; numbers = true; departs = true }
+last_leave p = record p { node = push_entry p.node (Leave p.node.core.who); outcome = λ n. said.Departed; numbers = true; departs = true }
 
 pub alike_last : (p q : Plan) → Alike p q → Alike (last_leave p) (last_leave q)
 alike_last p q h =
     let e = Leave q.node.core.who in
     record {
-      log = with_entry h.log e;
-      keeps = keeps_pushed h.log q.node e h.keeps;
-      node = ap (λ n. pushed n (Leave n.core.who)) h.node;
+      whole = record { log = with_entry h.log e; keeps = keeps_pushed h.log q.node e h.keeps; node = ap (λ n. push_entry n (Leave n.core.who)) h.node };
       outcome = λ a n k. refl;
       letters = h.letters;
       polls = h.polls;
@@ -155,9 +153,7 @@ alike_last p q h =
 pub alike_held : (p q : Plan) → Alike p q
     → Alike (record p { outcome = λ n. said.Held p.node.core.base (top p.node) }) (record q { outcome = λ n. said.Held q.node.core.base (top q.node) })
 alike_held p q h = record {
-  log = h.log;
-  keeps = h.keeps;
-  node = h.node;
+  whole = h.whole;
   outcome = λ a n k. ap (λ x. said.Held x.core.base (top x)) h.node ∙ reads h.log q.node (λ i t. said.Held q.node.core.base t) h.keeps;
   letters = h.letters;
   polls = h.polls;
@@ -179,7 +175,7 @@ alike_go p q h =
 pub alike_leave_now : (all : Log) (m : Node) → Keeps all m → Alike (leave_now (with_log m all)) (leave_now m)
 alike_leave_now all m h =
     alike_case m.leaving _ _ _ _ (λ t. alike_quiet all m _ _ h refl)
-    (λ f. alike_case (nat_lt 0 (unsettled m) || is_unfinished m.ballot) _ _ _ _ (λ t. alike_quiet all m _ _ h refl)
+    (λ f. alike_case (nat_lt 0 (unsettled_count m) || is_unfinished m.ballot) _ _ _ _ (λ t. alike_quiet all m _ _ h refl)
     (λ g. alike_go _ _ (alike_quiet all (record m { leaving = true }) said.Asked said.Asked (record { kept = h.kept; order = h.order }) refl)))
 
 pub alike_leave_by : (all : Log) (m : Node) (s : Status) → Keeps all m → Alike (leave_by (with_log m all) s) (leave_by m s)
@@ -234,45 +230,29 @@ same_behind all m h = reads all m
 
 -- the Result that a list gives
 abbrev view_by : Node → Log → Packet
-view_by n log = result_of n (told n).view_number (viewed_by (entry_at log (told n).view_number)) (told n).resilience
+view_by n log = result_of n (image_of n).view_number (viewed_by (entry_at log (image_of n).view_number)) (image_of n).resilience
 
 -- the View is read where it is kept; else it goes to nobody
 says_result : (all : Log) (n : Node) (ls : List Letter) → Keeps all n
     → with_letter (behind_view n) (view_by n all) ls ≡ with_letter (behind_view n) (view_by n n.core.log) ls
-says_result all n ls h = split (nat_lt n.core.base (told n).view_number)
+says_result all n ls h = split (nat_lt n.core.base (image_of n).view_number)
     (λ t.
     let o = h.order in
-    let above : n.core.log.start < (told n).view_number = grind (arith, nat_tests) in
-    ap (λ e. with_letter (behind_view n) (result_of n (told n).view_number (viewed_by e) (told n).resilience) ls)
-    (same_entry all n (told n).view_number h above))
+    let above : n.core.log.start < (image_of n).view_number = grind (arith, nat_tests) in
+    ap (λ e. with_letter (behind_view n) (result_of n (image_of n).view_number (viewed_by e) (image_of n).resilience) ls)
+    (same_entry all n (image_of n).view_number h above))
     (λ f. rw f refl)
 
 pub alike_result : (p q : Plan) → Alike p q → Alike (and_result p) (and_result q)
-alike_result p q h = record {
-  log = h.log;
-  keeps = h.keeps;
-  node = h.node;
-  outcome = h.outcome;
-  letters = λ a n k.
-      (λ j. with_letter (same_behind a n k j) (reads a n (λ i t. result_of n i.view_number (viewed_by (entry_at a i.view_number)) i.resilience) k j)
-      (h.letters a n k j))
-      ∙ says_result a n (q.letters n) k;
-  polls = h.polls;
-  numbers = h.numbers;
-  departs = h.departs;
-}
+alike_result p q h = alike_with p q (and_result p).letters (and_result q).letters p.polls q.polls h
+    (λ a n k.
+    (λ j. with_letter (same_behind a n k j) (reads a n (λ i t. result_of n i.view_number (viewed_by (entry_at a i.view_number)) i.resilience) k j)
+    (h.letters a n k j))
+    ∙ says_result a n (q.letters n) k)
+    h.polls
 
 pub alike_polls : (p q : Plan) → Alike p q → Alike (record p { polls = true }) (record q { polls = true })
-alike_polls p q h = record {
-  log = h.log;
-  keeps = h.keeps;
-  node = h.node;
-  outcome = h.outcome;
-  letters = h.letters;
-  polls = refl;
-  numbers = h.numbers;
-  departs = h.departs;
-}
+alike_polls p q h = alike_with p q p.letters q.letters true true h h.letters refl
 
 pub alike_tick_sequencer : (all : Log) (m : Node) → Keeps all m → Alike (tick_sequencer (with_log m all)) (tick_sequencer m)
 alike_tick_sequencer all m h =

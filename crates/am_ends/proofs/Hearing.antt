@@ -1,6 +1,6 @@
 -- What a member does with packets, and a whole step, on the kept end of a list as on all of it.
 use Rattle.std.proofs.Common.{◌≡◌, ℕ, ◌+◌, ◌≤◌, max, Bool, true, false, not, ◌&&◌, ◌||◌, ◌==◌, nat_lt, nat_le, List, [], length, take, Option, Some, None, refl}
-use Rattle.std.proofs.Common.{sym, ◌∙◌, ap, subst, arith}
+use Rattle.std.proofs.Common.{sym, ap, subst, arith}
 use Rattle.std.specs.Prelude.{Ok, Err}
 use Rattle.std.specs.List.{list_any}
 use Rattle.std.proofs.lemmas.Bool.Decides.{nat_tests}
@@ -17,24 +17,23 @@ use Rattle.am_base.specs.Stamps.{stamp_lt, stamp_eq}
 use Rattle.am_base.specs.Lists.{Log, fits, row_of, members_of, with_entry}
 use Rattle.am_core.specs.Cores.{IsInOrder}
 use Rattle.am_core.proofs.Ends.{end-self}
-use Rattle.am_packet.specs.Boxes.{Letter}
 use Rattle.am_packet.specs.declared.packet.Packet.{Packet}
 use Rattle.am_packet.specs.declared.packet.Packet.TheVariants as packet
 use Rattle.am_codec.specs.Reading.{Read, reading}
 use Rattle.am_sender.specs.declared.OwnSend.{OwnSend}
 use Rattle.am_bodies.specs.Bodies.{is_of, keep_body}
-use Rattle.am_model.specs.Node.{Node, Ballot, told, view, only_name, is_member, has_own_leave, is_within_bound, waiting, pushed, trimmed}
-use Rattle.am_model.specs.Emit.{Step, Plan, ack_of, nack_of, fetch_of, piece_of, put_all}
-use Rattle.am_model.specs.Sequencing.{risen}
-use Rattle.am_model.specs.Receiving.{spread_row, body_of, bodies_after, is_view, noted, acknowledges, stored, store, received, bcast_row, data_of, order_row}
-use Rattle.am_model.specs.Receiving.{accept_row, held_up, hold_row}
-use Rattle.am_model.specs.Ballots.{promised, vote_of}
-use Rattle.am_model.specs.Resets.{invite_row, is_open, voted_for, vote_row, serve_pieces, fetch_row, is_view_past, fetched, caught_up, fetched_for}
+use Rattle.am_model.specs.Node.{Node, Ballot, image_of, view, only_name, is_member, has_own_leave, is_within_bound, waiting, push_entry, trim_up_to}
+use Rattle.am_model.specs.Emit.{Plan, ack_of, nack_of, fetch_of, piece_of, put_all}
+use Rattle.am_model.specs.Sequencing.{if_risen}
+use Rattle.am_model.specs.Receiving.{spread_row, body_of, bodies_after, is_view, with_noted, acknowledges, store_fitting, store, receive_entry, bcast_row, data_of, order_row}
+use Rattle.am_model.specs.Receiving.{accept_row, answer_hold, hold_row}
+use Rattle.am_model.specs.Ballots.{with_promise, vote_of}
+use Rattle.am_model.specs.Resets.{invite_row, is_open, take_vote, vote_row, serve_pieces, fetch_row, is_view_past, push_fetched, catch_up, decide_anew}
 use Rattle.am_model.specs.Resets.{fetches_from, piece_promised, piece_for, piece_row, hears_result, result_row, hand_over_row}
 use Rattle.am_model.specs.Calls.{reset_row}
 use Rattle.am_model.specs.Hearing.{hears_member, hears_asking, hears_in_view, hears_as_sequencer, hears_sequencer, where_heard, hear_row}
 use Rattle.am_model.specs.Step.{read_row, row, step, hear}
-use Rattle.am_model.specs.Ends.{with_log, IsEndOf, StepsAlike, EndsStepAlike, ComesTo}
+use Rattle.am_model.specs.Ends.{with_log, IsEndOf, StepsAlike, EndsStepAlike}
 use Rattle.am_ends.specs.Order.{StepsKeepOrder}
 use Rattle.am_ends.proofs.Nodes.{Keeps, keeps_end, reads, same_sequencer, keeps_pushed, keeps_trimmed}
 use Rattle.am_ends.proofs.Plans.{Alike, says_ack, says_nack, says_fetch, says_vote, alike_if, alike_case, alike_quiet, alike_saying, alike_sending}
@@ -51,7 +50,7 @@ alike_spread all m s req body h =
     alike_if _ _ _ _ _ _ (reads all m (λ i t. nat_le req (row_of i s).last || list_any (is_of s req) m.bodies) h) (λ t. alike_quiet all m _ _ h refl)
     (λ f. alike_quiet all (record m { bodies = keep_body s req body m.bodies }) _ _ (record { kept = h.kept; order = h.order }) refl)
 
-keeps_noted : (all : Log) (m : Node) (base acc : ℕ) → Keeps all m → Keeps all (noted m base acc)
+keeps_noted : (all : Log) (m : Node) (base acc : ℕ) → Keeps all m → Keeps all (with_noted m base acc)
 keeps_noted all m base acc h = record {
   kept = h.kept;
   order = let o = h.order in record { base = omega arith; taken = o.taken; given = o.given; accepted = o.accepted };
@@ -60,13 +59,13 @@ keeps_noted all m base acc h = record {
 same_leave : (all : Log) (m : Node) → Keeps all m → has_own_leave (with_log m all) ≡ has_own_leave m
 same_leave all m h = reads all m (λ i t. nat_lt 0 (row_of i m.core.who).left) h
 
-pub alike_stored : (all : Log) (m : Node) (s number : ℕ) (e : Entry) → Keeps all m → Alike (stored (with_log m all) s number e) (stored m s number e)
+pub alike_stored : (all : Log) (m : Node) (s number : ℕ) (e : Entry) → Keeps all m → Alike (store_fitting (with_log m all) s number e) (store_fitting m s number e)
 alike_stored all m s number e h =
     let k = keeps_pushed all m e h in
-    alike_where (acknowledges (pushed (with_log m all) e) s) (acknowledges (pushed m e) s) _ _ (only_name s) (only_name s) ack_of ack_of
-    (λ a n l. reads (with_entry all e) (pushed m e)
+    alike_where (acknowledges (push_entry (with_log m all) e) s) (acknowledges (push_entry m e) s) _ _ (only_name s) (only_name s) ack_of ack_of
+    (λ a n l. reads (with_entry all e) (push_entry m e)
     (λ i t. list_any (λ name. name == n.core.who) (take i.resilience (names_of (without_name (members_of i) s)))) k)
-    (alike_quiet (with_entry all e) (record (pushed m e) { bodies = bodies_after m.bodies e }) (said.Stored number) (said.Stored number)
+    (alike_quiet (with_entry all e) (record (push_entry m e) { bodies = bodies_after m.bodies e }) (said.Stored number) (said.Stored number)
     (record { kept = k.kept; order = k.order }) refl)
     refl says_ack
 
@@ -79,7 +78,7 @@ alike_store all m s number (Some e) missing h =
     (λ f. alike_stored all m s number e h)
 
 pub alike_received : (all : Log) (m : Node) (s base number : ℕ) (e : Option Entry) (missing : Outcome) → Keeps all m
-    → Alike (received (with_log m all) s base number e missing) (received m s base number e missing)
+    → Alike (receive_entry (with_log m all) s base number e missing) (receive_entry m s base number e missing)
 alike_received all m s base number e missing h =
     alike_if _ _ _ _ _ _ (reads all m (λ i t. nat_le number t) h) (λ t. alike_quiet all m _ _ h refl)
     (λ f. alike_if _ _ _ _ _ _ (same_leave all m h) (λ t. alike_quiet all m _ _ h refl)
@@ -91,12 +90,12 @@ alike_received all m s base number e missing h =
 pub alike_bcast : (all : Log) (m : Node) (s base acc number : ℕ) (e : Entry) → Keeps all m
     → Alike (bcast_row (with_log m all) s base acc number e) (bcast_row m s base acc number e)
 unfolding bcast_row
-alike_bcast all m s base acc number e h = alike_received all (noted m base acc) s base number (Some e) said.Known (keeps_noted all m base acc h)
+alike_bcast all m s base acc number e h = alike_received all (with_noted m base acc) s base number (Some e) said.Known (keeps_noted all m base acc h)
 
 pub alike_order : (all : Log) (m : Node) (s base acc number from req : ℕ) → Keeps all m
     → Alike (order_row (with_log m all) s base acc number from req) (order_row m s base acc number from req)
 unfolding order_row
-alike_order all m s base acc number from req h = alike_received all (noted m base acc) s base number (data_of from req (body_of m from req))
+alike_order all m s base acc number from req h = alike_received all (with_noted m base acc) s base number (data_of from req (body_of m from req))
     (said.NoBody from req) (keeps_noted all m base acc h)
 
 pub alike_accept : (all : Log) (m : Node) (s base acc high : ℕ) (poll : Bool) → Keeps all m
@@ -105,13 +104,13 @@ unfolding accept_row
 alike_accept all m s base acc high poll h =
     let k = keeps_noted all m base acc h in
     alike_if _ _ _ _ _ _ (reads all m (λ i t. nat_lt t high && not (nat_lt 0 (row_of i m.core.who).left)) h)
-    (λ t. alike_telling all (noted m base acc) _ _ (only_name s) (only_name s) nack_of nack_of k (reads all m (λ i t. said.Gap (t + 1)) h) refl says_nack)
+    (λ t. alike_telling all (with_noted m base acc) _ _ (only_name s) (only_name s) nack_of nack_of k (reads all m (λ i t. said.Gap (t + 1)) h) refl says_nack)
     (λ f. alike_where (λ n. poll) (λ n. poll) _ _ (only_name s) (only_name s) ack_of ack_of (λ a n l. refl)
-    (alike_saying all (noted m base acc) said.Known said.Known (risen (with_log m all) said.Known (λ n. said.Advanced n.core.acc))
-    (risen m said.Known (λ n. said.Advanced n.core.acc)) k (λ a n l. refl)) refl says_ack)
+    (alike_saying all (with_noted m base acc) said.Known said.Known (if_risen (with_log m all) said.Known (λ n. said.Advanced n.core.acc))
+    (if_risen m said.Known (λ n. said.Advanced n.core.acc)) k (λ a n l. refl)) refl says_ack)
 
 pub alike_held_up : (all : Log) (m : Node) (base high req : ℕ) (w : Option OwnSend) → Keeps all m
-    → Alike (held_up (with_log m all) base high req w) (held_up m base high req w)
+    → Alike (answer_hold (with_log m all) base high req w) (answer_hold m base high req w)
 alike_held_up all m base high req None h = alike_quiet all m _ _ h refl
 alike_held_up all m base high req (Some s) h = alike_case (s.req == req) _ _ _ _ (λ t. alike_quiet all m _ _ h refl) (λ f. alike_quiet all m _ _ h refl)
 
@@ -125,10 +124,10 @@ pub alike_invite : (all : Log) (m : Node) (s : ℕ) (v : Stamp) → Keeps all m 
 unfolding invite_row
 alike_invite all m s v h =
     alike_case (stamp_lt v m.core.promise) _ _ _ _ (λ t. alike_telling all m _ _ (only_name s) (only_name s) vote_of vote_of h refl refl says_vote)
-    (λ f. alike_telling all (promised m v) _ _ (only_name s) (only_name s) vote_of vote_of (keeps_promised all m v h) refl refl says_vote)
+    (λ f. alike_telling all (with_promise m v) _ _ (only_name s) (only_name s) vote_of vote_of (keeps_promised all m v h) refl refl says_vote)
 
 pub alike_voted_for : (all : Log) (m : Node) (s : ℕ) (v : Stamp) (vote : Vote) (b : Option Ballot) → Keeps all m
-    → Alike (voted_for (with_log m all) s v vote b) (voted_for m s v vote b)
+    → Alike (take_vote (with_log m all) s v vote b) (take_vote m s v vote b)
 alike_voted_for all m s v vote None h = alike_quiet all m _ _ h refl
 alike_voted_for all m s v vote (Some b) h =
     alike_case (stamp_lt v m.core.promise || not (is_open v b)) _ _ _ _ (λ t. alike_quiet all m _ _ h refl)
@@ -137,7 +136,7 @@ alike_voted_for all m s v vote (Some b) h =
 pub alike_vote : (all : Log) (m : Node) (s : ℕ) (v : Stamp) (vote : Vote) → Keeps all m → Alike (vote_row (with_log m all) s v vote) (vote_row m s v vote)
 unfolding vote_row
 alike_vote all m s v vote h =
-    alike_case (stamp_lt m.core.promise v) _ _ _ _ (λ t. alike_quiet all (promised m v) _ _ (keeps_promised all m v h) refl)
+    alike_case (stamp_lt m.core.promise v) _ _ _ _ (λ t. alike_quiet all (with_promise m v) _ _ (keeps_promised all m v h) refl)
     (λ f. alike_voted_for all m s v vote m.ballot h)
 
 -- ---- fetching
@@ -157,8 +156,8 @@ alike_fetch all m s v stored h =
     (λ g. alike_serve_pieces all m s stored h (grind (arith, nat_tests))))
 
 pub alike_fetched : (all : Log) (m : Node) (v : Stamp) (base number : ℕ) (e : Entry) (in_ballot : Bool) (then_ : Node → Plan) → Keeps all m
-    → Alike (then_ (pushed (trimmed (with_log m all) base) e)) (then_ (pushed (trimmed m base) e))
-    → Alike (fetched (with_log m all) v base number e in_ballot then_) (fetched m v base number e in_ballot then_)
+    → Alike (then_ (push_entry (trim_up_to (with_log m all) base) e)) (then_ (push_entry (trim_up_to m base) e))
+    → Alike (push_fetched (with_log m all) v base number e in_ballot then_) (push_fetched m v base number e in_ballot then_)
 alike_fetched all m v base number e in_ballot then_ h next =
     alike_if _ _ _ _ _ _ (reads all m (λ i t. nat_le number t) h) (λ t. alike_quiet all m _ _ h refl)
     (λ f. alike_if _ _ _ _ _ _ (same_leave all m h) (λ t. alike_quiet all m _ _ h refl)
@@ -170,11 +169,11 @@ alike_fetched all m v base number e in_ballot then_ h next =
     (λ x. next)))))
 
 -- the node with a fetched entry
-keeps_fetched : (all : Log) (m : Node) (base : ℕ) (e : Entry) → Keeps all m → Keeps (with_entry all e) (pushed (trimmed m base) e)
-keeps_fetched all m base e h = keeps_pushed all (trimmed m base) e (keeps_trimmed all m base h)
+keeps_fetched : (all : Log) (m : Node) (base : ℕ) (e : Entry) → Keeps all m → Keeps (with_entry all e) (push_entry (trim_up_to m base) e)
+keeps_fetched all m base e h = keeps_pushed all (trim_up_to m base) e (keeps_trimmed all m base h)
 
 pub alike_caught_up : (all : Log) (m : Node) (s : ℕ) (v : Stamp) (number : ℕ) → Keeps all m
-    → Alike (caught_up s v number (with_log m all)) (caught_up s v number m)
+    → Alike (catch_up s v number (with_log m all)) (catch_up s v number m)
 alike_caught_up all m s v number h =
     alike_where (λ n. stamp_eq (view n) v) (λ n. stamp_eq (view n) v) _ _ (only_name s) (only_name s) ack_of ack_of
     (λ a n k. reads a n (λ i t. stamp_eq i.view v) k)
@@ -184,8 +183,8 @@ pub alike_piece_promised : (all : Log) (m : Node) (s : ℕ) (v : Stamp) (base nu
     → Alike (piece_promised (with_log m all) s v base number e) (piece_promised m s v base number e)
 alike_piece_promised all m s v base number e h =
     alike_case (not (v.by == s)) _ _ _ _ (λ t. alike_quiet all m _ _ h refl)
-    (λ f. alike_fetched all m v base number e false (caught_up s v number) h
-    (alike_caught_up (with_entry all e) (pushed (trimmed m base) e) s v number (keeps_fetched all m base e h)))
+    (λ f. alike_fetched all m v base number e false (catch_up s v number) h
+    (alike_caught_up (with_entry all e) (push_entry (trim_up_to m base) e) s v number (keeps_fetched all m base e h)))
 
 pub alike_piece_for : (all : Log) (m : Node) (s : ℕ) (v : Stamp) (base number : ℕ) (e : Entry) (b : Option Ballot) → Keeps all m
     → Alike (piece_for (with_log m all) s v base number e b) (piece_for m s v base number e b)
@@ -193,8 +192,8 @@ alike_piece_for all m s v base number e None h = alike_piece_promised all m s v 
 alike_piece_for all m s v base number e (Some b) h =
     alike_case b.is_over _ _ _ _ (λ t. alike_piece_promised all m s v base number e h)
     (λ f. alike_case (not (fetches_from b.answer s)) _ _ _ _ (λ t. alike_quiet all m _ _ h refl)
-    (λ g. alike_fetched all m v base number e true (fetched_for b) h
-    (alike_fetched_for (with_entry all e) (pushed (trimmed m base) e) b (keeps_fetched all m base e h))))
+    (λ g. alike_fetched all m v base number e true (decide_anew b) h
+    (alike_fetched_for (with_entry all e) (push_entry (trim_up_to m base) e) b (keeps_fetched all m base e h))))
 
 pub alike_piece : (all : Log) (m : Node) (s : ℕ) (v : Stamp) (base number : ℕ) (e : Entry) → Keeps all m
     → Alike (piece_row (with_log m all) s v base number e) (piece_row m s v base number e)
@@ -218,7 +217,7 @@ alike_hears_result all m s v base number names resilience h =
     (λ l. alike_case (nat_lt m.core.taken base) _ _ _ _ (λ t. alike_quiet all m _ _ h refl)
     (λ x. alike_if _ _ _ _ _ _ (reads all m (λ i t. not (fits i e) || not (is_within_bound m (max m.core.base base) number)) h)
     (λ t. alike_quiet all m _ _ h refl)
-    (λ y. alike_telling (with_entry all e) (pushed (trimmed m base) e) _ _ (only_name s) (only_name s) ack_of ack_of
+    (λ y. alike_telling (with_entry all e) (push_entry (trim_up_to m base) e) _ _ (only_name s) (only_name s) ack_of ack_of
     (keeps_fetched all m base e h) refl refl says_ack))))))
 
 pub alike_result_row : (all : Log) (m : Node) (s : ℕ) (v : Stamp) (base number : ℕ) (names : List ℕ) (resilience : ℕ) → Keeps all m
@@ -226,13 +225,13 @@ pub alike_result_row : (all : Log) (m : Node) (s : ℕ) (v : Stamp) (base number
 unfolding result_row
 alike_result_row all m s v base number names resilience h =
     alike_case ((v.by == m.core.who) || stamp_lt v m.core.promise) _ _ _ _ (λ t. alike_quiet all m _ _ h refl)
-    (λ f. alike_hears_result all (promised m v) s v base number names resilience (keeps_promised all m v h))
+    (λ f. alike_hears_result all (with_promise m v) s v base number names resilience (keeps_promised all m v h))
 
 pub alike_hand_over : (all : Log) (m : Node) → Keeps all m → Alike (hand_over_row (with_log m all)) (hand_over_row m)
 unfolding hand_over_row
 alike_hand_over all m h =
-    subst (λ r. Alike (reset_row (with_log m all) 1 r) (reset_row m 1 (told m).resilience)) (sym (reads all m (λ i t. i.resilience) h))
-    (alike_reset all m 1 (told m).resilience h)
+    subst (λ r. Alike (reset_row (with_log m all) 1 r) (reset_row m 1 (image_of m).resilience)) (sym (reads all m (λ i t. i.resilience) h))
+    (alike_reset all m 1 (image_of m).resilience h)
 
 -- ---- hearing
 

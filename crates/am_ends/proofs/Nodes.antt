@@ -15,8 +15,8 @@ use Rattle.am_fronts.specs.Reports.{least_taken}
 use Rattle.am_fronts.specs.Refresh.{Led, own_report, tell, go_on, let_go, base_after, go_up, whole_led}
 use Rattle.am_fronts.proofs.Refreshes.{go_up_whole}
 use Rattle.am_sender.specs.declared.OwnSend.{OwnSend}
-use Rattle.am_model.specs.Node.{Node, is_member, top, told, is_sequencer, waiting, entries_above, pushed, trimmed}
-use Rattle.am_model.specs.Refresh.{advance, lead, refresh, led_of, is_data_of, accepted_at, settled_at, settled, settle, refresh_at_end}
+use Rattle.am_model.specs.Node.{Node, is_member, top, image_of, is_sequencer, waiting, entries_above, push_entry, trim_up_to}
+use Rattle.am_model.specs.Refresh.{advance, lead, refresh, led_of, is_data_of, accepted_at, settle_at, settle_waiting, settle, refresh_at_end}
 use Rattle.am_model.specs.Ends.{with_log, IsEndOf}
 use Rattle.am_ends.specs.Order.{IsOrdered}
 
@@ -25,13 +25,19 @@ pub record Keeps (all : Log) (m : Node) : Type 0 where
   pub kept : IsEnd all m.core.log
   pub order : IsOrdered m.core
 
+-- the first node is the second with all of a list
+pub record Whole (m n : Node) : Type 0 where
+  pub log : Log
+  pub keeps : Keeps log n
+  pub node : m ≡ with_log n log
+
 low_acc : (all : Log) (m : Node) → Keeps all m → m.core.log.start ≤ m.core.acc
 low_acc all m h = let o = h.order in omega arith
 
 -- ---- what both tell
 
 -- what goes by the image and the top alone
-pub reads : {X : Type 0} (all : Log) (m : Node) (f : Image → ℕ → X) → Keeps all m → f (told (with_log m all)) (top (with_log m all)) ≡ f (told m) (top m)
+pub reads : {X : Type 0} (all : Log) (m : Node) (f : Image → ℕ → X) → Keeps all m → f (image_of (with_log m all)) (top (with_log m all)) ≡ f (image_of m) (top m)
 reads all m f h = ap (f (told_by all)) (sym (end-top all m.core.log h.kept)) ∙ ap (λ i. f i (top m)) (sym (end-told all m.core.log h.kept))
 
 entries_end : (all kept : Log) (number : ℕ) → IsEnd all kept → kept.start ≤ number
@@ -72,13 +78,13 @@ same_since all m h =
 
 -- ---- changes
 
-pub keeps_pushed : (all : Log) (m : Node) (e : Entry) → Keeps all m → Keeps (with_entry all e) (pushed m e)
+pub keeps_pushed : (all : Log) (m : Node) (e : Entry) → Keeps all m → Keeps (with_entry all e) (push_entry m e)
 keeps_pushed all m e h =
     let o = h.order in
     let l = length-append m.core.log.entries (e ∷ []) in
     record { kept = end-push all m.core.log e h.kept; order = record { base = o.base; taken = o.taken; given = o.given; accepted = omega arith } }
 
-pub keeps_trimmed : (all : Log) (m : Node) (base : ℕ) → Keeps all m → Keeps all (trimmed m base)
+pub keeps_trimmed : (all : Log) (m : Node) (base : ℕ) → Keeps all m → Keeps all (trim_up_to m base)
 keeps_trimmed all m base h = record {
   kept = h.kept;
   order = let o = h.order in record { base = omega arith; taken = o.taken; given = o.given; accepted = o.accepted };
@@ -169,26 +175,26 @@ accepted_end : (all : Log) (m : Node) (req : ℕ) → Keeps all m → accepted_a
 accepted_end all m req h = ap (λ (es : List Entry). position (is_data_of m.core.who req) (take (m.core.acc - m.core.base) es))
     (same_entries all m m.core.base h (omega arith))
 
-settled_at_end : (all : Log) (m : Node) (req : ℕ) (at : Option ℕ) → settled_at (with_log m all) req at ≡ with_log (settled_at m req at) all
+settled_at_end : (all : Log) (m : Node) (req : ℕ) (at : Option ℕ) → settle_at (with_log m all) req at ≡ with_log (settle_at m req at) all
 settled_at_end all m req None = refl
 settled_at_end all m req (Some k) = refl
 
-settled_end : (all : Log) (m : Node) (w : Option OwnSend) → Keeps all m → settled (with_log m all) w ≡ with_log (settled m w) all
+settled_end : (all : Log) (m : Node) (w : Option OwnSend) → Keeps all m → settle_waiting (with_log m all) w ≡ with_log (settle_waiting m w) all
 settled_end all m None h = refl
-settled_end all m (Some s) h = ap (settled_at (with_log m all) s.req) (accepted_end all m s.req h) ∙ settled_at_end all m s.req (accepted_at m s.req)
+settled_end all m (Some s) h = ap (settle_at (with_log m all) s.req) (accepted_end all m s.req h) ∙ settled_at_end all m s.req (accepted_at m s.req)
 
-keeps_settled_at : (all : Log) (m : Node) (req : ℕ) (at : Option ℕ) → Keeps all m → Keeps all (settled_at m req at)
+keeps_settled_at : (all : Log) (m : Node) (req : ℕ) (at : Option ℕ) → Keeps all m → Keeps all (settle_at m req at)
 keeps_settled_at all m req None h = h
 keeps_settled_at all m req (Some k) h = record { kept = h.kept; order = h.order }
 
-keeps_settled : (all : Log) (m : Node) (w : Option OwnSend) → Keeps all m → Keeps all (settled m w)
+keeps_settled : (all : Log) (m : Node) (w : Option OwnSend) → Keeps all m → Keeps all (settle_waiting m w)
 keeps_settled all m None h = h
 keeps_settled all m (Some s) h = keeps_settled_at all m s.req (accepted_at m s.req) h
 
 pub at_end : (all : Log) (m : Node) → Keeps all m → refresh_at_end (with_log m all) ≡ with_log (refresh_at_end m) all
 unfolding refresh_at_end settle
 at_end all m h =
-    ap (λ n. settled n (waiting n)) (refresh_end all m h) ∙ settled_end all (refresh m) (waiting (refresh m)) (keeps_refresh all m h)
+    ap (λ n. settle_waiting n (waiting n)) (refresh_end all m h) ∙ settled_end all (refresh m) (waiting (refresh m)) (keeps_refresh all m h)
 
 pub keeps_at_end : (all : Log) (m : Node) → Keeps all m → Keeps all (refresh_at_end m)
 unfolding refresh_at_end settle

@@ -9,23 +9,22 @@ use Rattle.am_packet.specs.declared.packet.Packet.{Packet}
 use Rattle.am_packet.specs.declared.packet.Packet.TheVariants as packet
 use Rattle.am_packet.specs.Boxes.{Letter, with_letter}
 use Rattle.am_model.specs.declared.status.Status.TheVariants.{Departed}
-use Rattle.am_model.specs.Node.{Node, told, others}
+use Rattle.am_model.specs.Node.{Node, image_of, others}
 use Rattle.am_model.specs.Refresh.{refresh_at_end}
 use Rattle.am_model.specs.Emit.{Step, Plan, quiet, telling, polling, and_telling, and_where, numbering, request_of, spread_of, ack_of, nack_of, hold_of}
 use Rattle.am_model.specs.Emit.{welcome_of, leave_ask_of, fetch_of, with_accept, finish}
 use Rattle.am_model.specs.Ballots.{vote_of}
 use Rattle.am_model.specs.Ends.{with_log, IsEndOf, ComesTo, StepsAlike}
 use Rattle.am_ends.specs.Order.{IsOrdered}
-use Rattle.am_ends.proofs.Nodes.{Keeps, reads, end_trans, same_base, keeps_pushed, same_sequencer, at_end, keeps_at_end}
+use Rattle.am_ends.proofs.Nodes.{Keeps, Whole, reads, end_trans, same_base, keeps_pushed, same_sequencer, at_end, keeps_at_end}
 
 -- the first says of a node with all of a list what the second says of the node
 abbrev pub Says : {X : Type 0} → (Node → X) → (Node → X) → Type 0
 Says f g = (all : Log) (n : Node) → Keeps all n → f (with_log n all) ≡ g n
 
 pub record Alike (p q : Plan) : Type 0 where
-  pub log : Log
-  pub keeps : Keeps log q.node
-  pub node : p.node ≡ with_log q.node log
+  pub whole : Whole p.node q.node
+  pub open whole use *
   pub outcome : Says p.outcome q.outcome
   pub letters : Says p.letters q.letters
   pub polls : p.polls ≡ q.polls
@@ -61,7 +60,7 @@ says_hold req all n h = reads all n (λ i t. packet.Hold n.core.who n.core.promi
 pub says_welcome : (name : ℕ) → Says (λ n. welcome_of n name) (λ n. welcome_of n name)
 says_welcome name all n h =
     reads all n (λ i t. packet.Welcome n.core.who n.core.promise n.core.base (row_of i name).joined (image_at all n.core.base)) h
-    ∙ ap (packet.Welcome n.core.who n.core.promise n.core.base (row_of (told n) name).joined) (same_base all n h)
+    ∙ ap (packet.Welcome n.core.who n.core.promise n.core.base (row_of (image_of n) name).joined) (same_base all n h)
 
 pub says_vote : Says vote_of vote_of
 says_vote all n h = reads all n
@@ -80,57 +79,36 @@ alike_if false false p q r s e f g = g refl
 pub alike_case : (b : Bool) (p q r s : Plan) → (b ≡ true → Alike p q) → (b ≡ false → Alike r s) → Alike (if b then p else r) (if b then q else s)
 alike_case b p q r s f g = alike_if b b p q r s refl f g
 
-pub alike_quiet : (all : Log) (m : Node) (o w : Outcome) → Keeps all m → o ≡ w → Alike (quiet (with_log m all) o) (quiet m w)
-alike_quiet all m o w h e = record {
-  log = all;
-  keeps = h;
-  node = refl;
-  outcome = λ a n k. e;
-  letters = λ a n k. refl;
+-- a plan that numbers nothing, of a node that stays
+abbrev plan_of : Node → Bool → (Node → Outcome) → (Node → List Letter) → Plan
+plan_of n polls answer letters = record { node = n; outcome = answer; letters = letters; polls = polls; numbers = false; departs = false }
+
+alike_plan : (all : Log) (m : Node) (polls : Bool) (f g : Node → Outcome) (ls ks : Node → List Letter) → Keeps all m → Says f g → Says ls ks
+    → Alike (plan_of (with_log m all) polls f ls) (plan_of m polls g ks)
+alike_plan all m polls f g ls ks h says sends = record {
+  whole = record { log = all; keeps = h; node = refl };
+  outcome = says;
+  letters = sends;
   polls = refl;
   numbers = refl;
   departs = refl;
 }
 
+pub alike_quiet : (all : Log) (m : Node) (o w : Outcome) → Keeps all m → o ≡ w → Alike (quiet (with_log m all) o) (quiet m w)
+alike_quiet all m o w h e = alike_plan all m false (λ n. o) (λ n. w) (λ n. []) (λ n. []) h (λ a n k. e) (λ a n k. refl)
+
 pub alike_polling : (all : Log) (m : Node) (o w : Outcome) → Keeps all m → o ≡ w → Alike (polling (with_log m all) o) (polling m w)
-alike_polling all m o w h e = record {
-  log = all;
-  keeps = h;
-  node = refl;
-  outcome = λ a n k. e;
-  letters = λ a n k. refl;
-  polls = refl;
-  numbers = refl;
-  departs = refl;
-}
+alike_polling all m o w h e = alike_plan all m true (λ n. o) (λ n. w) (λ n. []) (λ n. []) h (λ a n k. e) (λ a n k. refl)
 
 -- with an answer that the step tells
 pub alike_saying : (all : Log) (m : Node) (o w : Outcome) (f g : Node → Outcome) → Keeps all m → Says f g
     → Alike (record (quiet (with_log m all) o) { outcome = f }) (record (quiet m w) { outcome = g })
-alike_saying all m o w f g h says = record {
-  log = all;
-  keeps = h;
-  node = refl;
-  outcome = says;
-  letters = λ a n k. refl;
-  polls = refl;
-  numbers = refl;
-  departs = refl;
-}
+alike_saying all m o w f g h says = alike_plan all m false f g (λ n. []) (λ n. []) h says (λ a n k. refl)
 
 -- with letters of its own
 pub alike_sending : (all : Log) (m : Node) (o w : Outcome) (f g : Node → List Letter) → Keeps all m → o ≡ w → Says f g
     → Alike (record (quiet (with_log m all) o) { letters = f }) (record (quiet m w) { letters = g })
-alike_sending all m o w f g h e says = record {
-  log = all;
-  keeps = h;
-  node = refl;
-  outcome = λ a n k. e;
-  letters = says;
-  polls = refl;
-  numbers = refl;
-  departs = refl;
-}
+alike_sending all m o w f g h e says = alike_plan all m false (λ n. o) (λ n. w) f g h (λ a n k. e) says
 
 -- one letter more
 more : (to at : List ℕ) (p q : Packet) (ls ks : List Letter) → to ≡ at → p ≡ q → ls ≡ ks → with_letter to p ls ≡ with_letter at q ks
@@ -138,49 +116,34 @@ more to at p q ls ks e f g = λ i. with_letter (e i) (f i) (g i)
 
 pub alike_telling : (all : Log) (m : Node) (o w : Outcome) (to at : List ℕ) (p q : Node → Packet) → Keeps all m → o ≡ w → to ≡ at → Says p q
     → Alike (telling (with_log m all) o to p) (telling m w at q)
-alike_telling all m o w to at p q h e f says = record {
-  log = all;
-  keeps = h;
-  node = refl;
-  outcome = λ a n k. e;
-  letters = λ a n k. more to at
-      (p (with_log n a)) (q n) [] [] f (says a n k) refl;
-  polls = refl;
-  numbers = refl;
-  departs = refl;
+alike_telling all m o w to at p q h e f says = alike_plan all m false (λ n. o) (λ n. w) (λ n. with_letter to (p n) []) (λ n. with_letter at (q n) []) h
+    (λ a n k. e) (λ a n k. more to at (p (with_log n a)) (q n) [] [] f (says a n k) refl)
+
+-- a plan with other letters, and the members are polled or not
+pub alike_with : (p q : Plan) (ls ks : Node → List Letter) (b c : Bool) → Alike p q → Says ls ks → b ≡ c
+    → Alike (record p { letters = ls; polls = b }) (record q { letters = ks; polls = c })
+alike_with p q ls ks b c h says same = record {
+  whole = h.whole;
+  outcome = h.outcome;
+  letters = says;
+  polls = same;
+  numbers = h.numbers;
+  departs = h.departs;
 }
 
 pub alike_and : (p q : Plan) (to at : List ℕ) (f g : Node → Packet) → Alike p q → to ≡ at → Says f g → Alike (and_telling p to f) (and_telling q at g)
-alike_and p q to at f g h e says = record {
-  log = h.log;
-  keeps = h.keeps;
-  node = h.node;
-  outcome = h.outcome;
-  letters = λ a n k. more to at (f (with_log n a)) (g n) (p.letters (with_log n a)) (q.letters n) e (says a n k) (h.letters a n k);
-  polls = h.polls;
-  numbers = h.numbers;
-  departs = h.departs;
-}
+alike_and p q to at f g h e says = alike_with p q (and_telling p to f).letters (and_telling q at g).letters p.polls q.polls h
+    (λ a n k. more to at (f (with_log n a)) (g n) (p.letters (with_log n a)) (q.letters n) e (says a n k) (h.letters a n k)) h.polls
 
 pub alike_where : (t u : Node → Bool) (p q : Plan) (to at : List ℕ) (f g : Node → Packet) → Says t u → Alike p q → to ≡ at → Says f g
     → Alike (and_where t p to f) (and_where u q at g)
-alike_where t u p q to at f g tests h e says = record {
-  log = h.log;
-  keeps = h.keeps;
-  node = h.node;
-  outcome = h.outcome;
-  letters = λ a n k i. if tests a n k i then with_letter (e i) (says a n k i) (h.letters a n k i) else h.letters a n k i;
-  polls = h.polls;
-  numbers = h.numbers;
-  departs = h.departs;
-}
+alike_where t u p q to at f g tests h e says = alike_with p q (and_where t p to f).letters (and_where u q at g).letters p.polls q.polls h
+    (λ a n k i. if tests a n k i then with_letter (e i) (says a n k i) (h.letters a n k i) else h.letters a n k i) h.polls
 
 pub alike_numbering : (all : Log) (m : Node) (e : Entry) (o w : Outcome) (p q : Node → Packet) → Keeps all m → o ≡ w → Says p q
     → Alike (numbering (with_log m all) e o p) (numbering m e w q)
 alike_numbering all m e o w p q h same says = record {
-  log = with_entry all e;
-  keeps = keeps_pushed all m e h;
-  node = refl;
+  whole = record { log = with_entry all e; keeps = keeps_pushed all m e h; node = refl };
   outcome = λ a n k. same;
   letters = λ a n k. more (others (with_log m all)) (others m) (p (with_log n a)) (q n) [] [] (same_others all m h) (says a n k) refl;
   polls = refl;

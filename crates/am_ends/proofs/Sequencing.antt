@@ -14,10 +14,10 @@ use Rattle.am_base.specs.Lists.{Log, fits, at_place, row_of}
 use Rattle.am_core.specs.Cores.{whole, since_accepted}
 use Rattle.am_core.proofs.Ends.{end-self}
 use Rattle.am_model.specs.declared.status.Status.TheVariants as status
-use Rattle.am_model.specs.Node.{Node, top, told, only_name, is_member, is_within_bound, report_fits, with_report}
-use Rattle.am_model.specs.Emit.{Plan, bcast_of, order_of, hold_of, nack_of, welcome_of, gone_of, fetch_of, served, put_all}
-use Rattle.am_model.specs.Sequencing.{row_at, is_unknown, reported, number_data, requested, request_row, ack_row, serve, asked_again, nack_row}
-use Rattle.am_model.specs.Joining.{admitted, number_join, asks_to_join, join_ask_row, begun, welcomed, welcome_row, all_stored, may_go, let_go, and_gone}
+use Rattle.am_model.specs.Node.{Node, top, image_of, only_name, is_member, is_within_bound, report_fits, with_report}
+use Rattle.am_model.specs.Emit.{Plan, bcast_of, order_of, hold_of, nack_of, welcome_of, gone_of, fetch_of, entries_to_serve, put_all}
+use Rattle.am_model.specs.Sequencing.{row_at, is_unknown, take_report, number_data, answer_request, request_row, ack_row, serve, serve_again, nack_row}
+use Rattle.am_model.specs.Joining.{with_admitted, number_join, asks_to_join, join_ask_row, begin_list, ask_next, welcome_row, all_stored, may_go, let_go, and_gone}
 use Rattle.am_model.specs.Joining.{asks_to_leave, leave_ask_row, gone_row}
 use Rattle.am_model.specs.Ends.{with_log}
 use Rattle.am_ends.proofs.Nodes.{Keeps, reads, same_entries, same_since, refresh_end, keeps_refresh}
@@ -30,14 +30,14 @@ use Rattle.am_ends.proofs.Calls.{same_room}
 keeps_report : (all : Log) (m : Node) (s : ℕ) (report : Report) → Keeps all m → Keeps all (with_report m s report)
 keeps_report all m s report h = record { kept = h.kept; order = h.order }
 
-keeps_reported : (all : Log) (m : Node) (s : ℕ) (report : Report) → Keeps all m → Keeps all (reported m s report)
+keeps_reported : (all : Log) (m : Node) (s : ℕ) (report : Report) → Keeps all m → Keeps all (take_report m s report)
 keeps_reported all m s report h = keeps_refresh all (with_report m s report) (keeps_report all m s report h)
 
 -- what is done once a report is taken
 reported_end : (all : Log) (m : Node) (s : ℕ) (report : Report) (row : Node → Plan) → Keeps all m
-    → Alike (row (with_log (reported m s report) all)) (row (reported m s report))
-    → Alike (row (reported (with_log m all) s report)) (row (reported m s report))
-reported_end all m s report row h a = subst (λ x. Alike (row x) (row (reported m s report)))
+    → Alike (row (with_log (take_report m s report) all)) (row (take_report m s report))
+    → Alike (row (take_report (with_log m all) s report)) (row (take_report m s report))
+reported_end all m s report row h a = subst (λ x. Alike (row x) (row (take_report m s report)))
     (sym (refresh_end all (with_report m s report) (keeps_report all m s report h))) a
 
 same_unknown : (all : Log) (m : Node) (s : ℕ) → Keeps all m → is_unknown (with_log m all) s ≡ is_unknown m s
@@ -57,7 +57,7 @@ alike_number all m s req body by_order h =
     (λ a n k. reads all m (λ i t. if by_order then order_of n (t + 1) s req else bcast_of n (t + 1) (Data s req body)) h)
 
 pub alike_requested : (all : Log) (m : Node) (s req : ℕ) (body : List ℕ) (by_order : Bool) → Keeps all m
-    → Alike (requested (with_log m all) s req body by_order) (requested m s req body by_order)
+    → Alike (answer_request (with_log m all) s req body by_order) (answer_request m s req body by_order)
 alike_requested all m s req body by_order h =
     alike_if _ _ _ _ _ _ (reads all m (λ i t. nat_lt 0 (row_of i s).left) h) (λ t. alike_quiet all m _ _ h refl)
     (λ f. alike_if _ _ _ _ _ _ (reads all m (λ i t. nat_le req (row_of i s).last) h) (λ t. alike_quiet all m _ _ h refl)
@@ -74,8 +74,8 @@ unfolding request_row
 alike_request all m s report req body by_order h =
     alike_if _ _ _ _ _ _ (same_unknown all m s h) (λ t. alike_quiet all m _ _ h refl)
     (λ f. alike_if _ _ _ _ _ _ (same_fit all m report h) (λ t. alike_quiet all m _ _ h refl)
-    (λ g. reported_end all m s report (λ n. requested n s req body by_order) h
-    (alike_requested all (reported m s report) s req body by_order (keeps_reported all m s report h))))
+    (λ g. reported_end all m s report (λ n. answer_request n s req body by_order) h
+    (alike_requested all (take_report m s report) s req body by_order (keeps_reported all m s report h))))
 
 pub alike_ack : (all : Log) (m : Node) (s : ℕ) (report : Report) → Keeps all m → Alike (ack_row (with_log m all) s report) (ack_row m s report)
 unfolding ack_row
@@ -86,7 +86,7 @@ alike_ack all m s report h =
 
 -- ---- entries sent again
 
-pub same_served : (all : Log) (m : Node) (stored : ℕ) → Keeps all m → m.core.base ≤ stored → served (with_log m all) stored ≡ served m stored
+pub same_served : (all : Log) (m : Node) (stored : ℕ) → Keeps all m → m.core.base ≤ stored → entries_to_serve (with_log m all) stored ≡ entries_to_serve m stored
 same_served all m stored h low = ap (take 8) (same_entries all m stored h low)
 
 pub alike_serve : (all : Log) (m : Node) (s stored : ℕ) → Keeps all m → m.core.base ≤ stored → Alike (serve (with_log m all) s stored) (serve m s stored)
@@ -94,7 +94,7 @@ alike_serve all m s stored h low =
     let e = same_served all m stored h low in
     alike_sending all m _ _ _ _ h (ap (λ es. said.Served (length es)) e) (λ a n k. ap (λ es. put_all (bcast_of n) (only_name s) (stored + 1) es []) e)
 
-pub alike_asked_again : (all : Log) (m : Node) (s stored : ℕ) → Keeps all m → Alike (asked_again (with_log m all) s stored) (asked_again m s stored)
+pub alike_asked_again : (all : Log) (m : Node) (s stored : ℕ) → Keeps all m → Alike (serve_again (with_log m all) s stored) (serve_again m s stored)
 alike_asked_again all m s stored h =
     alike_case (nat_lt stored m.core.base) _ _ _ _ (λ t. alike_quiet all m _ _ h refl)
     (λ f. alike_serve all m s stored h (grind (arith, nat_tests)))
@@ -104,16 +104,16 @@ unfolding nack_row
 alike_nack all m s report h =
     alike_if _ _ _ _ _ _ (same_unknown all m s h) (λ t. alike_quiet all m _ _ h refl)
     (λ f. alike_if _ _ _ _ _ _ (same_fit all m report h) (λ t. alike_quiet all m _ _ h refl)
-    (λ g. reported_end all m s report (λ n. asked_again n s report.stored) h
-    (alike_asked_again all (reported m s report) s report.stored (keeps_reported all m s report h))))
+    (λ g. reported_end all m s report (λ n. serve_again n s report.stored) h
+    (alike_asked_again all (take_report m s report) s report.stored (keeps_reported all m s report h))))
 
 -- ---- joining
 
 pub alike_number_join : (all : Log) (m : Node) (s : ℕ) → Keeps all m → Alike (number_join (with_log m all) s) (number_join m s)
 alike_number_join all m s h =
-    let k : Keeps all (admitted m s) = record { kept = h.kept; order = h.order } in
+    let k : Keeps all (with_admitted m s) = record { kept = h.kept; order = h.order } in
     alike_where _ _ _ _ (only_name s) (only_name s) (λ n. welcome_of n s) (λ n. welcome_of n s) (λ a n l. reads all m (λ i t. nat_le (t + 1) n.core.acc) h)
-    (alike_numbering all (admitted m s) (Join s) _ _ (λ n. bcast_of n (top (with_log m all) + 1) (Join s)) _ k
+    (alike_numbering all (with_admitted m s) (Join s) _ _ (λ n. bcast_of n (top (with_log m all) + 1) (Join s)) _ k
     (reads all m (λ i t. said.Numbered (t + 1)) h) (λ a n l. reads all m (λ i t. bcast_of n (t + 1) (Join s)) h))
     refl (says_welcome s)
 
@@ -131,18 +131,18 @@ alike_asks_to_join all m s q h =
 pub alike_join_ask : (all : Log) (m : Node) (s : ℕ) → Keeps all m → Alike (join_ask_row (with_log m all) s) (join_ask_row m s)
 unfolding join_ask_row
 alike_join_ask all m s h =
-    subst (λ q. Alike (asks_to_join (with_log m all) s q) (asks_to_join m s (at_place (told m) s))) (sym (reads all m (λ i t. at_place i s) h))
-    (alike_asks_to_join all m s (at_place (told m) s) h)
+    subst (λ q. Alike (asks_to_join (with_log m all) s q) (asks_to_join m s (at_place (image_of m) s))) (sym (reads all m (λ i t. at_place i s) h))
+    (alike_asks_to_join all m s (at_place (image_of m) s) h)
 
 -- the list begins anew on both sides
-keeps_begun : (m : Node) (v : Stamp) (base join : ℕ) (image : Image) → Keeps (begun m v base join image).core.log (begun m v base join image)
+keeps_begun : (m : Node) (v : Stamp) (base join : ℕ) (image : Image) → Keeps (begin_list m v base join image).core.log (begin_list m v base join image)
 keeps_begun m v base join image = record {
   kept = end-self
-      (begun m v base join image).core.log;
+      (begin_list m v base join image).core.log;
   order = record { base = omega arith; taken = omega arith; given = omega arith; accepted = omega arith };
 }
 
-pub alike_welcomed : (all : Log) (m : Node) (s : ℕ) (v : Stamp) (join : ℕ) → Keeps all m → Alike (welcomed (with_log m all) s v join) (welcomed m s v join)
+pub alike_welcomed : (all : Log) (m : Node) (s : ℕ) (v : Stamp) (join : ℕ) → Keeps all m → Alike (ask_next (with_log m all) s v join) (ask_next m s v join)
 alike_welcomed all m s v join h =
     alike_if _ _ _ _ _ _ (reads all m (λ i t. stamp_eq i.view v) h)
     (λ t. alike_telling all m _ _ (only_name s) (only_name s) nack_of nack_of h refl refl says_nack)
@@ -157,7 +157,7 @@ alike_welcome all m s v base join image h =
     (λ g. alike_case (nat_le join base ||
     (not (is_within_bound m base join) || (stamp_lt v image.view || nat_lt 0 (row_of image m.core.who).joined))) _ _ _ _
     (λ t. alike_quiet all m _ _ h refl)
-    (λ k. alike_welcomed (begun m v base join image).core.log (begun m v base join image) s v join (keeps_begun m v base join image))))
+    (λ k. alike_welcomed (begin_list m v base join image).core.log (begin_list m v base join image) s v join (keeps_begun m v base join image))))
 
 -- ---- leaving
 
@@ -193,7 +193,7 @@ unfolding leave_ask_row
 alike_leave_ask all m s v report h =
     alike_if _ _ _ _ _ _ (same_unknown all m s h) (λ t. alike_quiet all m _ _ h refl)
     (λ f. alike_if _ _ _ _ _ _ (reads all m (λ i t. stamp_eq v i.view && (nat_le report.taken report.stored && nat_le report.stored t)) h)
-    (λ t. reported_end all m s report (λ n. asks_to_leave n s) h (alike_asks_to_leave all (reported m s report) s (keeps_reported all m s report h)))
+    (λ t. reported_end all m s report (λ n. asks_to_leave n s) h (alike_asks_to_leave all (take_report m s report) s (keeps_reported all m s report h)))
     (λ g. alike_asks_to_leave all m s h))
 
 pub alike_gone_row : (all : Log) (m : Node) → Keeps all m → Alike (gone_row (with_log m all)) (gone_row m)

@@ -9,7 +9,7 @@ use Rattle.am_base.specs.declared.entry.Entry.TheVariants.{Leave}
 use Rattle.am_base.specs.Names.{place_of, life_of, name_at, names_from, has, size}
 use Rattle.am_base.specs.Lists.{top_of, told_by, image_at, members_of, members_at, entry_at, fits}
 use Rattle.am_core.specs.Kept.{IsKept, above}
-use Rattle.am_core.specs.Cores.{CoreState, unions, since_accepted, trimmed}
+use Rattle.am_core.specs.Cores.{CoreState, unions, since_accepted, trim_list}
 use Rattle.am_core.proofs.Folds.{split}
 use Rattle.am_core.proofs.Ends.{end-self, end-above, end-told, end-top, end-entry, image-top, image-next, entry-get}
 use Rattle.am_core.proofs.Lives.{member_most, member_row, row_at, image_used, unions_most, unions_least, unions_long, fit_at, leave_life}
@@ -110,6 +110,19 @@ leader_in c capacity is low high leads = ⊎_elim
     (eq-or-lt_of_le high))
     leads
 
+-- what is let go is at most what a name of the union has taken
+pub least_reported : (reports : ℕ → Report) (c : CoreState) (to : ℕ) → length (since_accepted c) ≡ 16
+    → slice_index (since_accepted c) (place_of c.who) ≡ life_of c.who → (reports c.who).taken ≤ c.taken → least_taken reports (since_accepted c) ≡ Some to
+    → to ≤ c.taken
+least_reported reports c to long life own least =
+    let found = least_in (λ name. (reports name).taken) (since_accepted c) 0 (place_of c.who) (omega arith) (omega arith) in
+    let same : Some to ≡ Some found.0 = sym least ∙ found.1 in
+    let is : to ≡ found.0 = cc in
+    let at : name_at (0 + place_of c.who) (slice_index (since_accepted c) (place_of c.who)) ≡ c.who = omega arith in
+    let who = ap (λ n. (reports n).taken) at in
+    let most = found.2 in
+    omega arith
+
 -- no more is let go than it has taken
 pub let_go_within : (reports : ℕ → Report) (c : CoreState) (capacity to : ℕ) → IsKept c.log capacity → c.log.start ≤ c.acc → c.acc ≤ top_of c.log → MayLead c
     → (reports c.who).taken ≤ c.taken → least_taken reports (since_accepted c) ≡ Some to → to ≤ c.taken
@@ -117,14 +130,7 @@ unfolding least_of
 let_go_within reports c capacity to is low high leads own least = ⊎_elim
     (λ (life : slice_index (since_accepted c) (place_of c.who) ≡ life_of c.who).
     let used = image_used c.log capacity c.acc is in
-    let long = unions_long c.log c.acc (top_of c.log - c.acc) used.places in
-    let found = least_in (λ name. (reports name).taken) (since_accepted c) 0 (place_of c.who) (omega arith) (omega arith) in
-    let same : Some to ≡ Some found.0 = sym least ∙ found.1 in
-    let is : to ≡ found.0 = cc in
-    let at : name_at (0 + place_of c.who) (slice_index (since_accepted c) (place_of c.who)) ≡ c.who = omega arith in
-    let who = ap (λ n. (reports n).taken) at in
-    let most = found.2 in
-    omega arith)
+    least_reported reports c to (unions_long c.log c.acc (top_of c.log - c.acc) used.places) life own least)
     (λ (none : size (since_accepted c) ≡ 0).
     let e : None ≡ Some to = sym (ap (least_of (λ name. (reports name).taken)) (none_in (since_accepted c) 0 none)) ∙ least in
     absurd (cc))
@@ -159,7 +165,7 @@ leads_above c to low high below leads =
 
 -- who may lead still may after a trim
 pub leads_trimmed : (reports : ℕ → Report) (c : CoreState) (to : ℕ) → c.base ≡ c.log.start → c.acc ≤ top_of c.log → to ≤ c.acc
-    → least_taken reports (since_accepted c) ≡ Some to → MayLead c → MayLead (trimmed to c)
+    → least_taken reports (since_accepted c) ≡ Some to → MayLead c → MayLead (trim_list to c)
 leads_trimmed reports c to base high h least leads = split (nat_lt c.base to)
     (λ t.
     let l : c.base < to = grind (arith, nat_tests) in

@@ -5,32 +5,32 @@ use Rattle.am_base.specs.declared.image.Report.{Report}
 use Rattle.am_base.specs.Lists.{Log, top_of, told_by}
 use Rattle.am_base.specs.Fronts.{accept_front, is_held}
 use Rattle.am_core.specs.Kept.{IsKept}
-use Rattle.am_core.specs.Cores.{CoreState, Stands, Keeps, whole, accept, pass_over, advance, trim_to, trimmed, unions, since_accepted}
+use Rattle.am_core.specs.Cores.{CoreState, Stands, Keeps, whole, accept, pass_over, advance, trim_to, trim_list, unions, since_accepted}
 use Rattle.am_core.proofs.Folds.{split}
 use Rattle.am_core.proofs.Ends.{end-top}
 use Rattle.am_core.proofs.CoreLaws.{advance_whole, since_whole}
-use Rattle.am_fronts.specs.Reports.{reports_of, raised, reported, least_taken}
-use Rattle.am_fronts.specs.Refresh.{Led, report_of, own_report, tell, go_on, let_go, base_after, go_up, refresh, whole_led, led, LeadsBy, StaysAt, MayLead}
+use Rattle.am_fronts.specs.Reports.{reports_of, raise_report, after_report, least_taken}
+use Rattle.am_fronts.specs.Refresh.{Led, report_of, own_report, tell, go_on, let_go, base_after, go_up, refresh, whole_led, core_and_reports, LeadsBy, StaysAt, MayLead}
 use Rattle.am_fronts.proofs.Leaders.{let_go_within}
 use Rattle.am_fronts.proofs.Again.{greatest_low, accept_front_again}
 use Rattle.am_fronts.proofs.Walks.{front_by}
 use Rattle.am_fronts.proofs.Same.{front_same}
 
 -- reports of a name
-pub reported_self : (reports : ℕ → Report) (name : ℕ) (report : Report) → reported reports name report name ≡ raised (reports name) report
+pub reported_self : (reports : ℕ → Report) (name : ℕ) (report : Report) → after_report reports name report name ≡ raise_report (reports name) report
 reported_self reports name report = let t : (name == name) ≡ true = grind (arith, nat_tests) in rw t refl
 
-raised_below : (old report : Report) → report.stored ≤ old.stored → report.taken ≤ old.taken → raised old report ≡ old
+raised_below : (old report : Report) → report.stored ≤ old.stored → report.taken ≤ old.taken → raise_report old report ≡ old
 raised_below old report s t =
     let a : max old.stored report.stored ≡ old.stored = omega arith in
     let b : max old.taken report.taken ≡ old.taken = omega arith in
     λ i. record { stored = a i; taken = b i }
 
 reported_below : (reports : ℕ → Report) (name : ℕ) (report : Report) → report.stored ≤ (reports name).stored → report.taken ≤ (reports name).taken
-    → reported reports name report ≡ reports
+    → after_report reports name report ≡ reports
 reported_below reports name report s t = λ i other. (each other) i
   where
-    each : (other : ℕ) → reported reports name report other ≡ reports other
+    each : (other : ℕ) → after_report reports name report other ≡ reports other
     each other = split (other == name)
         (λ u. let e : other ≡ name = grind (arith, nat_tests) in rw u (raised_below (reports name) report s t ∙ ap reports (sym e)))
         (λ u. rw u refl)
@@ -82,7 +82,7 @@ front_stored reports others log acc each =
     ap (λ (stored : ℕ → ℕ). accept_front (λ name. record { stored = stored name; taken = 0 }) log acc) e
 
 same_stored : (reports : ℕ → Report) (name : ℕ) (report : Report) → report.stored ≤ (reports name).stored → (other : ℕ)
-    → (reported reports name report other).stored ≡ (reports other).stored
+    → (after_report reports name report other).stored ≡ (reports other).stored
 same_stored reports name report h other = split (other == name)
     (λ u. let e : other ≡ name = grind (arith, nat_tests) in let s = ap (λ n. (reports n).stored) e in rw u (omega arith))
     (λ u. rw u refl)
@@ -114,12 +114,12 @@ unfolding own_report tell go_on let_go accept pass_over
 is_refreshed s high =
     let c = s.core in
     let t = top_of c.log in
-    let first = reported s.reports c.who (report_of c) in
+    let first = after_report s.reports c.who (report_of c) in
     let front = accept_front first c.log c.acc in
     let acc = max c.acc (min front t) in
     let taken = if nat_lt c.taken (c.start - 1) then max c.taken (min acc (c.start - 1)) else c.taken in
     let report : Report = record { stored = t; taken = taken } in
-    let second = reported first c.who report in
+    let second = after_report first c.who report in
     let within = front_within first c.log c.acc high in
     let at : acc ≡ front = let a = within.0 in let b = within.1 in omega arith in
     let one = ap (λ (r : Report). r.stored) (reported_self s.reports c.who (report_of c)) in
@@ -146,7 +146,7 @@ unfolding own_report
 own_whole all s st = ap (λ (t : ℕ). let l : Led = record {
   core = whole all s.core;
   reports =
-      reported s.reports s.core.who (record { stored = t; taken = s.core.taken });
+      after_report s.reports s.core.who (record { stored = t; taken = s.core.taken });
 } in l) (sym (end-top all s.core.log st.kept))
 
 tell_whole : (all : Log) (s : Led) → Stands all s.core → s.core.base ≤ s.core.acc → tell (whole_led all s) ≡ whole_led all (tell s)
@@ -217,7 +217,7 @@ pub go_up_own : (s : Led) → (s.reports s.core.who).taken ≤ s.core.taken → 
 unfolding own_report tell go_on accept pass_over
 go_up_own s own =
     let c = s.core in
-    let first = reported s.reports c.who (report_of c) in
+    let first = after_report s.reports c.who (report_of c) in
     let acc = max c.acc (min (accept_front first c.log c.acc) (top_of c.log)) in
     let taken = if nat_lt c.taken (c.start - 1) then max c.taken (min acc (c.start - 1)) else c.taken in
     let report : Report = record { stored = top_of c.log; taken = taken } in
@@ -234,15 +234,15 @@ pub leads_up : (old now : Led) → now ≡ go_up old → MayLead old.core → Ma
 leads_up old now e leads = let P : Led → Type 0 = λ s. MayLead s.core in subst P (sym e) (go_up_leads old leads)
 
 -- the steps of the code
-pub go_up_is : (c0 core c3 : CoreState) (r0 r1 r4 : List Report) (front : ℕ) → core ≡ c0 → led c0 r1 ≡ own_report (led c0 r0)
-    → front ≡ accept_front (reports_of r1) core.log core.acc → c3 ≡ advance (record core { told = front }) → led c3 r4 ≡ own_report (led c3 r1)
-    → led c3 r4 ≡ go_up (led c0 r0)
+pub go_up_is : (c0 core c3 : CoreState) (r0 r1 r4 : List Report) (front : ℕ) → core ≡ c0 → core_and_reports c0 r1 ≡ own_report (core_and_reports c0 r0)
+    → front ≡ accept_front (reports_of r1) core.log core.acc → c3 ≡ advance (record core { told = front }) → core_and_reports c3 r4 ≡ own_report (core_and_reports c3 r1)
+    → core_and_reports c3 r4 ≡ go_up (core_and_reports c0 r0)
 unfolding tell go_on
 go_up_is c0 core c3 r0 r1 r4 front is first told next last =
     last
-    ∙ ap (λ x. own_report (led x r1)) next
-    ∙ ap (λ (t : ℕ). own_report (led (advance (record core { told = t })) r1)) told
-    ∙ ap (λ (x : CoreState). own_report (go_on (tell (led x r1)))) is
+    ∙ ap (λ x. own_report (core_and_reports x r1)) next
+    ∙ ap (λ (t : ℕ). own_report (core_and_reports (advance (record core { told = t })) r1)) told
+    ∙ ap (λ (x : CoreState). own_report (go_on (tell (core_and_reports x r1)))) is
     ∙ ap (λ s. own_report (go_on (tell s))) first
 
 -- no more is let go than it has taken
@@ -258,5 +258,5 @@ trims_within old now capacity to e leads own kept low high least =
 pub own_stays_taken : (old now : Led) → now ≡ go_up old → (old.reports old.core.who).taken ≤ old.core.taken → (now.reports now.core.who).taken ≡ now.core.taken
 own_stays_taken old now e own = let Q : Led → Type 0 = λ s. (s.reports s.core.who).taken ≡ s.core.taken in subst Q (sym e) (go_up_own old own)
 
-pub trimmed_own : (reports : ℕ → Report) (c : CoreState) (to : ℕ) → (reports c.who).taken ≡ c.taken → (reports (trimmed to c).who).taken ≡ (trimmed to c).taken
+pub trimmed_own : (reports : ℕ → Report) (c : CoreState) (to : ℕ) → (reports c.who).taken ≡ c.taken → (reports (trim_list to c).who).taken ≡ (trim_list to c).taken
 trimmed_own reports c to h = split (nat_lt c.base to) (λ t. rw t h) (λ t. rw t h)

@@ -6,7 +6,7 @@ use Rattle.am_base.specs.Names.{has, size}
 use Rattle.am_base.specs.Lists.{Log, top_of, told_by, entry_at, members_of}
 use Rattle.am_base.specs.Fronts.{accept_front}
 use Rattle.am_core.specs.Cores.{CoreState, Stands, whole, advance, since_accepted}
-use Rattle.am_fronts.specs.Reports.{reports_of, reported, least_taken}
+use Rattle.am_fronts.specs.Reports.{reports_of, after_report, least_taken}
 
 -- a core with what each name has reported
 pub record Led : Type 0 where
@@ -18,7 +18,7 @@ abbrev pub report_of : CoreState → Report
 report_of c = record { stored = top_of c.log; taken = c.taken }
 
 unfoldable pub own_report : Led → Led
-own_report s = record s { reports = reported s.reports s.core.who (report_of s.core) }
+own_report s = record s { reports = after_report s.reports s.core.who (report_of s.core) }
 
 -- what is told is the accept front
 unfoldable pub tell : Led → Led
@@ -49,8 +49,8 @@ refresh s = let_go (go_up s)
 abbrev pub whole_led : Log → Led → Led
 whole_led all s = record s { core = whole all s.core }
 
-abbrev pub led : CoreState → List Report → Led
-led core kept = record { core = core; reports = reports_of kept }
+abbrev pub core_and_reports : CoreState → List Report → Led
+core_and_reports core kept = record { core = core; reports = reports_of kept }
 
 -- core and reports change as the protocol's
 abbrev pub LeadsBy : (Led → Led) → Led → Led → Type 0

@@ -19,24 +19,24 @@ abbrev pub with_report : (ℕ → Report) → ℕ → Report → ℕ → Report
 with_report reports name report = λ other. if other == name then report else reports other
 
 -- both numbers of a report are raised
-abbrev pub raised : Report → Report → Report
-raised old report = record { stored = max old.stored report.stored; taken = max old.taken report.taken }
+abbrev pub raise_report : Report → Report → Report
+raise_report old report = record { stored = max old.stored report.stored; taken = max old.taken report.taken }
 
 -- a name reports
-abbrev pub reported : (ℕ → Report) → ℕ → Report → ℕ → Report
-reported reports name report = with_report reports name (raised (reports name) report)
+abbrev pub after_report : (ℕ → Report) → ℕ → Report → ℕ → Report
+after_report reports name report = with_report reports name (raise_report (reports name) report)
 
 -- all up to a number
 abbrev pub all_up_to : ℕ → Report
 all_up_to base = record { stored = base; taken = base }
 
 -- a name begins at a number
-abbrev pub admitted : (ℕ → Report) → ℕ → ℕ → ℕ → Report
-admitted reports name base = with_report reports name (all_up_to base)
+abbrev pub with_admitted : (ℕ → Report) → ℕ → ℕ → ℕ → Report
+with_admitted reports name base = with_report reports name (all_up_to base)
 
 -- each of the names begins at a number
-abbrev pub restarted : ℕ → ℕ → Report
-restarted base = λ name. if nat_lt name 256 then all_up_to base else no_report
+abbrev pub reports_from : ℕ → ℕ → Report
+reports_from base = λ name. if nat_lt name 256 then all_up_to base else no_report
 
 -- the lesser of two numbers that may be there
 abbrev pub lesser : Option ℕ → Option ℕ → Option ℕ

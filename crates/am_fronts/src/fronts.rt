@@ -2,7 +2,7 @@ ghost use Rattle.std.specs.Prelude.{◌≡◌, ℕ, ◌+◌, ◌-◌, ◌≤◌,
 ghost use Rattle.am_base.specs.Names.{names_of, name_at};
 ghost use Rattle.am_base.specs.Lists.{top_of, told_by};
 ghost use Rattle.am_base.specs.Fronts.{accept_front, is_held, counted_at};
-ghost use Rattle.am_fronts.specs.Reports.{reports_of, no_reports, reported, admitted, restarted, lesser, least_stored, least_taken};
+ghost use Rattle.am_fronts.specs.Reports.{reports_of, no_reports, after_report, with_admitted, reports_from, lesser, least_stored, least_taken};
 
 use am_base::entry::Entry;
 use am_base::image::Report;
@@ -33,7 +33,8 @@ impl Model for Fronts {
     ghost view = { λ f. f.reports };
 }
 
-fn lesser(least: Option<u32>, number: Option<u32>) -> Option<u32>
+/// The lesser of two numbers that are there.
+pub fn lesser(least: Option<u32>, number: Option<u32>) -> Option<u32>
     ensures { result ≡ lesser least number }
 {
     match (least, number) {
@@ -43,7 +44,8 @@ fn lesser(least: Option<u32>, number: Option<u32>) -> Option<u32>
     }
 }
 
-fn counted<L: Log>(log: &L, number: u32) -> Names
+/// Who counts at a number: the members before the entry there, or those of the View that it is.
+fn counted_at<L: Log>(log: &L, number: u32) -> Names
     requires low { (L.list log.now).start < number }
     requires high { number ≤ top_of (L.list log.now) }
     ensures { result ≡ counted_at (L.list log.now) number }
@@ -62,7 +64,7 @@ fn counted<L: Log>(log: &L, number: u32) -> Names
 impl Fronts {
     ghost use Rattle.am_core.specs.Kept.{IsKept};
     ghost use Rattle.am_core.specs.Cores.{IsInOrder};
-    ghost use Rattle.am_fronts.specs.Refresh.{led, own_report, go_up, refresh, LeadsBy, StaysAt, MayLead};
+    ghost use Rattle.am_fronts.specs.Refresh.{core_and_reports, own_report, go_up, refresh, LeadsBy, StaysAt, MayLead};
 
     /// Nobody has reported anything.
     pub fn new() -> Fronts
@@ -80,31 +82,26 @@ impl Fronts {
         self.reports[usize::from(name.get())]
     }
 
-    fn stored_at(&self, place: u8, life: u8) -> Option<u32>
+    /// What the name of a place and a life has stored, and what it has taken, where there is such a name.
+    fn numbers_at(&self, place: u8, life: u8) -> (Option<u32>, Option<u32>)
         requires { (place < 16) × (life ≤ 16) }
-        ensures { result ≡ (if nat_lt 0 life then Some
+        ensures stored { result.0 ≡ (if nat_lt 0 life then Some
             ((reports_of self.now (name_at place life)).stored) else None) }
-    {
-        match Name::of(place, life) {
-            Some(name) => Some(self.of(name).stored),
-            None => None,
-        }
-    }
-
-    fn taken_at(&self, place: u8, life: u8) -> Option<u32>
-        requires { (place < 16) × (life ≤ 16) }
-        ensures { result ≡ (if nat_lt 0 life then Some
+        ensures taken { result.1 ≡ (if nat_lt 0 life then Some
             ((reports_of self.now (name_at place life)).taken) else None) }
     {
         match Name::of(place, life) {
-            Some(name) => Some(self.of(name).taken),
-            None => None,
+            Some(name) => {
+                let report = self.of(name);
+                (Some(report.stored), Some(report.taken))
+            }
+            None => (None, None),
         }
     }
 
     /// A name reports: each number is raised, and none falls.
     pub fn report(&mut self, name: Name, report: Report)
-        ensures { reports_of self.new ≡ reported (reports_of self.old) name report }
+        ensures { reports_of self.new ≡ after_report (reports_of self.old) name report }
     {
         let old = self.of(name);
         self.reports[usize::from(name.get())] = Report {
@@ -115,7 +112,7 @@ impl Fronts {
 
     /// A name begins at a number.
     pub fn admit(&mut self, name: Name, base: u32)
-        ensures { reports_of self.new ≡ admitted (reports_of self.old) name base }
+        ensures { reports_of self.new ≡ with_admitted (reports_of self.old) name base }
     {
         self.reports[usize::from(name.get())] = Report {
             stored: base,
@@ -125,7 +122,7 @@ impl Fronts {
 
     /// Each name begins at a number.
     pub fn restart(&mut self, base: u32)
-        ensures { reports_of self.new ≡ restarted base }
+        ensures { reports_of self.new ≡ reports_from base }
     {
         self.reports = [Report {
             stored: base,
@@ -133,32 +130,38 @@ impl Fronts {
         }; 256];
     }
 
-    /// The least that the names of a set have taken; None exactly where the set is empty.
+    /// The least that the names of a set have stored, and the least that they have taken.
     #[tactic(auto, using(crate::proofs::ReportLaws::least_laws))]
+    fn least(&self, set: Names) -> (Option<u32>, Option<u32>)
+        ensures stored { result.0 ≡ least_stored (reports_of self.now) set }
+        ensures taken { result.1 ≡ least_taken (reports_of self.now) set }
+    {
+        let lives = set.each_life();
+        let mut least_stored = None;
+        let mut least_taken = None;
+        for place in 0..16u8 {
+            let (stored, taken) = self.numbers_at(place, lives[usize::from(place)]);
+            least_stored = lesser(least_stored, stored);
+            least_taken = lesser(least_taken, taken);
+        }
+        (least_stored, least_taken)
+    }
+
+    /// The least that the names of a set have taken; None exactly where the set is empty.
     pub fn least_taken(&self, set: Names) -> Option<u32>
         ensures { result ≡ least_taken (reports_of self.now) set }
     {
-        let lives = set.each_life();
-        let mut least = None;
-        for place in 0..16u8 {
-            least = lesser(least, self.taken_at(place, lives[usize::from(place)]));
-        }
-        least
+        self.least(set).1
     }
 
     /// The least that the names of a set have stored; None exactly where the set is empty.
-    #[tactic(auto, using(crate::proofs::ReportLaws::least_laws))]
     pub fn least_stored(&self, set: Names) -> Option<u32>
         ensures { result ≡ least_stored (reports_of self.now) set }
     {
-        let lives = set.each_life();
-        let mut least = None;
-        for place in 0..16u8 {
-            least = lesser(least, self.stored_at(place, lives[usize::from(place)]));
-        }
-        least
+        self.least(set).0
     }
 
+    /// Whether the name of a place and a life has stored up to a number.
     fn has_stored(&self, place: u8, life: u8, number: u32) -> bool
         requires { (place < 16) × (life ≤ 16) }
         ensures { result ≡ (nat_lt 0 life
@@ -170,6 +173,7 @@ impl Fronts {
         number <= self.reports[usize::from(place) + 16 * usize::from(life - 1)].stored
     }
 
+    /// How many names of a set have stored up to a number.
     #[tactic(auto, using(crate::proofs::ReportLaws::count_laws))]
     fn holders(&self, counted: Names, number: u32) -> u32
         ensures { result ≡ count_by (λ name. nat_le number (reports_of self.now name).stored)
@@ -183,6 +187,7 @@ impl Fronts {
         held
     }
 
+    /// Whether as many have stored the entry at a number as it needs.
     #[tactic(auto, using(crate::proofs::Views::resilience_at))]
     fn is_held<L: Log>(&self, log: &L, number: u32) -> bool
         requires low { (L.list log.now).start < number }
@@ -190,11 +195,12 @@ impl Fronts {
         requires view { (told_by (L.list log.now)).view_number ≤ number }
         ensures { result ≡ is_held (reports_of self.now) (L.list log.now) number }
     {
-        let counted = counted(log, number);
+        let counted = counted_at(log, number);
         let need = (u32::from(log.resilience()) + 1).min(counted.len());
         need <= self.holders(counted, number)
     }
 
+    /// The number before the first, above this one, that too few have stored.
     fn walk<L: Log>(&self, log: &L, from: u32) -> u32
         requires low { (L.list log.now).start ≤ from }
         requires high { from ≤ top_of (L.list log.now) }
@@ -237,9 +243,10 @@ impl Fronts {
         self.walk(log, view)
     }
 
+    /// Reports what the node itself has.
     #[tactic(auto, unfolding(crate::specs::Refresh::own_report))]
     fn report_own<L: Log>(&mut self, core: &Core<L>)
-        ensures { led core.now self.new ≡ own_report (led core.now self.old) }
+        ensures { core_and_reports core.now self.new ≡ own_report (core_and_reports core.now self.old) }
     {
         self.report(
             core.who,
@@ -250,8 +257,9 @@ impl Fronts {
         );
     }
 
+    /// Reports what the node itself has, and accepts as far as that goes.
     fn go_up<L: Log>(&mut self, core: &mut Core<L>)
-        ensures value { led core.new self.new ≡ go_up (led core.old self.old) }
+        ensures value { core_and_reports core.new self.new ≡ go_up (core_and_reports core.old self.old) }
         ensures was { IsInOrder core.old }
         ensures order { IsInOrder core.new }
         ensures kept { IsKept core.new.log (core.new.rules.window + 15) }
@@ -268,8 +276,8 @@ impl Fronts {
     pub fn refresh<L: Log>(&mut self, core: &mut Core<L>)
         requires own { (reports_of self.old core.old.who).taken ≤ core.old.taken }
         requires leads { MayLead core.old }
-        ensures value { LeadsBy refresh (led core.old self.old) (led core.new self.new) }
-        ensures again { StaysAt refresh (led core.old self.old) (led core.new self.new) }
+        ensures value { LeadsBy refresh (core_and_reports core.old self.old) (core_and_reports core.new self.new) }
+        ensures again { StaysAt refresh (core_and_reports core.old self.old) (core_and_reports core.new self.new) }
         ensures order { IsInOrder core.new }
         ensures own { (reports_of self.new core.new.who).taken ≡ core.new.taken }
         ensures leads { MayLead core.new }

@@ -19,31 +19,31 @@ pub record Standing : Type 0 where
 abbrev pub front_of : Standing → ℕ → Option ℕ
 front_of g name = slice_index_or g.fronts name None
 
-abbrev pub numbered : ℕ → Option Entry → Option (ℕ × Entry)
-numbered number None = None
-numbered number (Some entry) = Some (number, entry)
+abbrev pub numbered_entry : ℕ → Option Entry → Option (ℕ × Entry)
+numbered_entry number None = None
+numbered_entry number (Some entry) = Some (number, entry)
 
 -- the entry above a front, with its number
 abbrev pub above : List Entry → Option ℕ → Option (ℕ × Entry)
 above entries None = None
-above entries (Some front) = numbered (front + 1) (slice_get entries front)
+above entries (Some front) = numbered_entry (front + 1) (slice_get entries front)
 
 -- what a name takes next
 abbrev pub next_of : Standing → ℕ → Option (ℕ × Entry)
 next_of g name = above g.entries (front_of g name)
 
 -- the list with one entry more
-abbrev pub appended : List Entry → Entry → List Entry
-appended entries entry = entries ++ entry ∷ []
+abbrev pub list_with : List Entry → Entry → List Entry
+list_with entries entry = entries ++ entry ∷ []
 
 -- the fronts where a name is admitted at a number: its front is the number before
-abbrev pub admitted : List (Option ℕ) → ℕ → ℕ → List (Option ℕ)
-admitted fronts name number = slice_set fronts name (Some (number - 1))
+abbrev pub with_admitted : List (Option ℕ) → ℕ → ℕ → List (Option ℕ)
+with_admitted fronts name number = slice_set fronts name (Some (number - 1))
 
 -- the fronts where a name took what was next for it
-abbrev pub moved : List (Option ℕ) → ℕ → Option (ℕ × Entry) → List (Option ℕ)
-moved fronts name None = fronts
-moved fronts name (Some taken) = slice_set fronts name (Some taken.0)
+abbrev pub after_take : List (Option ℕ) → ℕ → Option (ℕ × Entry) → List (Option ℕ)
+after_take fronts name None = fronts
+after_take fronts name (Some taken) = slice_set fronts name (Some taken.0)
 
 -- each front is within the list
 pub record AreFronts (entries : List Entry) (fronts : List (Option ℕ)) : Type 0 where

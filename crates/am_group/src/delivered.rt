@@ -9,6 +9,7 @@ use am_base::name::Name;
 use am_base::outcome::Outcome;
 use std::alloc::Global;
 
+/// Whether a record is of this name: of its place and its life.
 fn is_of(item: &Record, node: Name) -> bool
     ensures { result ≡ (name_of item.now == node) }
 {
@@ -29,11 +30,12 @@ pub fn given_to(item: &Record, node: Name) -> Option<(u32, &Entry)>
     }
 }
 
+/// Adds the entry that a record gave to a name's application, if it gave one.
 fn put_given(item: &Record, node: Name, given: &mut Vec<(u32, Entry)>) -> Result<(), NoMemory>
     ensures { OnOk result (given.new.items ≡ given.old.items ++ given_to node item.now) }
 {
     if let Some((number, entry)) = given_to(item, node) {
-        given.push((number, entry.copied()))?;
+        given.push((number, entry.copy()))?;
     }
     Ok(())
 }

@@ -51,7 +51,7 @@ impl Act {
     }
 
     /// The same act.
-    pub fn copied(&self) -> Result<Act, NoMemory>
+    pub fn try_copy(&self) -> Result<Act, NoMemory>
         ensures { IfOk result (λ a. a ≡ self.now) }
     {
         self.clone()
@@ -66,8 +66,18 @@ pub struct Event {
 }
 
 impl Event {
+    /// An act of a place.
+    pub fn at(place: u8, act: Act) -> Event
+        ensures { result ≡ record { node = place; act = act } }
+    {
+        Event {
+            node: Name::of_byte(place),
+            act,
+        }
+    }
+
     /// The same event.
-    pub fn copied(&self) -> Result<Event, NoMemory>
+    pub fn try_copy(&self) -> Result<Event, NoMemory>
         ensures { IfOk result (λ e. e ≡ self.now) }
     {
         self.clone()
@@ -91,6 +101,19 @@ pub struct By {
     pub caller: u32,
     pub call: u32,
     pub part: Part,
+}
+
+impl By {
+    /// A call's own act.
+    pub fn call(caller: u32, call: u32) -> By
+        ensures { result ≡ record { caller = caller; call = call; part = Part.Call } }
+    {
+        By {
+            caller,
+            call,
+            part: Part::Call,
+        }
+    }
 }
 
 /// One event of a run with all that came of it.

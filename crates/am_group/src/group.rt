@@ -1,7 +1,7 @@
 ghost use Rattle.std.specs.Prelude.{◌≡◌, ◌+◌, ◌-◌, ◌<◌, ◌≤◌, [], ◌∷◌, length, OnOk, OnErr, IsOk, IfOk, is_ok, if◌then◌else◌, Some, None, option_map};
 ghost use Rattle.am_base.specs.Most.{most_number};
 ghost use Rattle.am_base.specs.Names.{has};
-ghost use Rattle.am_group.specs.Groups.{appended, admitted, moved, next_of, founders_view, founders_fronts, stamp_for};
+ghost use Rattle.am_group.specs.Groups.{list_with, with_admitted, after_take, next_of, founders_view, founders_fronts, stamp_for};
 
 use am_base::NoMemory;
 use am_base::entry::Entry;
@@ -29,6 +29,7 @@ impl Model for Group {
     ghost invariant = { λ g. AreFronts g.entries.items g.fronts };
 }
 
+/// The stamp of the founders' view, which the lowest of them begins.
 fn stamp_for(lowest: Option<Name>) -> Stamp
     ensures { result ≡ stamp_for lowest }
 {
@@ -41,6 +42,7 @@ fn stamp_for(lowest: Option<Name>) -> Stamp
     }
 }
 
+/// The founders' view, the first entry of the list.
 fn founders_view(founding: &Founding) -> Entry
     ensures { result ≡ founders_view founding.now }
 {
@@ -58,6 +60,7 @@ fn first_front(founders: Names, name: Name) -> Option<u32>
     if founders.has(name) { Some(0) } else { None }
 }
 
+/// The first front of each of the 256 names.
 fn founders_fronts(founders: Names) -> [Option<u32>; 256]
     ensures { result ≡ founders_fronts founders }
 {
@@ -102,7 +105,7 @@ impl Group {
     pub fn append(&mut self, entry: Entry) -> Result<(), NoMemory>
         requires { length self.old.entries < most_number }
         ensures entries { self.new.entries
-            ≡ (if is_ok result then appended self.old.entries entry else self.old.entries) }
+            ≡ (if is_ok result then list_with self.old.entries entry else self.old.entries) }
         ensures fronts { self.new.fronts ≡ self.old.fronts }
         ensures succeeds { 0 < self.old.room → IsOk result }
         ensures room { self.old.room ≤ self.new.room + 1 }
@@ -117,7 +120,7 @@ impl Group {
         requires least { 0 < number }
         requires most { number ≤ length self.old.entries + 1 }
         ensures entries { self.new.entries ≡ self.old.entries }
-        ensures fronts { self.new.fronts ≡ admitted self.old.fronts name number }
+        ensures fronts { self.new.fronts ≡ with_admitted self.old.fronts name number }
         ensures room { self.new.room ≡ self.old.room }
     {
         self.fronts[usize::from(name.get())] = Some(number - 1);
@@ -138,11 +141,11 @@ impl Group {
     pub fn take(&mut self, name: Name) -> Option<(u32, Entry)>
         ensures value { result ≡ next_of self.old name }
         ensures entries { self.new.entries ≡ self.old.entries }
-        ensures fronts { self.new.fronts ≡ moved self.old.fronts name (next_of self.old name) }
+        ensures fronts { self.new.fronts ≡ after_take self.old.fronts name (next_of self.old name) }
         ensures room { self.new.room ≡ self.old.room }
     {
         let (number, entry) = self.next(name)?;
-        let taken = entry.copied();
+        let taken = entry.copy();
         self.fronts[usize::from(name.get())] = Some(number);
         Some((number, taken))
     }

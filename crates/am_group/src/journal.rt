@@ -108,6 +108,7 @@ impl Journal {
     }
 }
 
+/// Where the letter of a number stands.
 fn place_at(places: &[Place], number: u32) -> Option<Place>
     ensures { result ≡ item_at places.now number }
 {
@@ -117,6 +118,7 @@ fn place_at(places: &[Place], number: u32) -> Option<Place>
     places.get(number as usize - 1).copied()
 }
 
+/// The letter at a place.
 fn letter_in(records: &[Record], place: Place) -> Option<&Letter>
     ensures { option_copied result ≡ letter_of (slice_get records.now place.number) place.index }
 {
@@ -126,6 +128,7 @@ fn letter_in(records: &[Record], place: Place) -> Option<&Letter>
     }
 }
 
+/// Adds the places of so many letters of one record.
 #[tactic(auto, using(crate::proofs::Places::places_next))]
 fn push_places(places: &mut Vec<Place>, number: u32, many: u32)
     requires { vec_len places.old + many ≤ vec_capacity places.old }

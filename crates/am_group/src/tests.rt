@@ -1,6 +1,6 @@
 use crate::addressed::is_for;
 use crate::delivered::deliveries;
-use crate::event::{Act, By, Event, Part, Record};
+use crate::event::{Act, By, Event, Record};
 use crate::group::Group;
 use crate::journal::Journal;
 use am_base::NoMemory;
@@ -12,6 +12,7 @@ use am_base::items::Items;
 use am_base::name::{Name, Stamp};
 use am_base::names::Names;
 use am_base::outcome::Outcome;
+use am_codec::decode;
 use am_letter::letter::Letter;
 use am_packet::packet::Packet;
 use std::alloc::Global;
@@ -21,16 +22,12 @@ fn founding_of(founders: u16) -> Result<Founding, Fail> {
     Ok(Founding::new(Names::of_mask(founders), 0, 64, 256).ok_or("a founding")?)
 }
 
-#[tactic(auto, unfolding(am_codec::specs::Limits::IsWithin))]
-fn invite_to(alloc: Global, to: Names) -> Result<Letter, NoMemory> {
-    let invite = Packet::Invite {
-        sender: Name::of_byte(0),
-        stamp: Stamp {
-            round: 2,
-            by: Name::of_byte(0),
-        },
-    };
-    Letter::of(alloc, to, &invite)
+/// An Invite of round 2 by the node 0.
+const INVITE: &[u8] = b"AG\x03\x0d\x00\x00\x00\x00\x02\x00\x00\x0c";
+
+fn invite_to(alloc: Global, to: Names) -> Result<Letter, Fail> {
+    let invite = decode(INVITE).ok().ok_or("an Invite")?;
+    Ok(Letter::of(alloc, to, &invite)?)
 }
 
 fn record_of(alloc: Global, node: u8, outcome: Outcome, to: &[u16]) -> Result<Record, Fail> {
@@ -38,17 +35,11 @@ fn record_of(alloc: Global, node: u8, outcome: Outcome, to: &[u16]) -> Result<Re
     for mask in to {
         packets.push(invite_to(alloc, Names::of_mask(*mask))?)?;
     }
+    let (event, by) = (Event::at(node, Act::Take), By::call(0, 0));
     Ok(Record {
-        event: Event {
-            node: Name::of_byte(node),
-            act: Act::Take,
-        },
+        event,
         life: 1,
-        by: By {
-            caller: 0,
-            call: 0,
-            part: Part::Call,
-        },
+        by,
         outcome,
         packets,
     })
@@ -154,7 +145,7 @@ fn a_name_has_its_deliveries(rt: HostRuntime) -> Result<(), Fail> {
     for (node, number) in [(1, 1), (0, 1), (1, 2)] {
         let outcome = Outcome::Took {
             number,
-            entry: Boxed::of(alloc, sent.copied())?,
+            entry: Boxed::of(alloc, sent.copy())?,
         };
         records.push(record_of(alloc, node, outcome, &[])?)?;
     }

@@ -5,7 +5,7 @@ use Rattle.std.proofs.lemmas.Bool.Decides.{nat_tests}
 use Rattle.am_base.specs.declared.image.Image.{Image}
 use Rattle.am_base.specs.declared.image.Row.{Row}
 use Rattle.am_base.specs.declared.entry.Entry.{Entry}
-use Rattle.am_base.specs.declared.entry.Entry.TheVariants.{Data, Join, Leave, View}
+use Rattle.am_base.specs.declared.entry.Entry.TheVariants.{Data}
 use Rattle.am_base.specs.Names.{place_of, life_of}
 use Rattle.am_base.specs.Lists.{Log, entry_at, told_by, at_place, after, fits, fold, AllFit}
 use Rattle.am_core.proofs.Folds.{split}
@@ -14,6 +14,7 @@ use Rattle.am_model.specs.Claims.{request_in}
 use Rattle.am_orders.proofs.Rows.{IsNext, entry_goes_on, own_request}
 use Rattle.am_core.specs.Kept.{IsKept}
 use Rattle.am_model.specs.Refresh.{is_data_of}
+use Rattle.am_model.proofs.Sends.{own_data}
 use Rattle.am_handlers.specs.Parts.{passes}
 use Rattle.am_handlers.specs.Keeps.{IsDue}
 use Rattle.am_handlers.proofs.Settling.{some_entry, entry_get}
@@ -147,15 +148,6 @@ pub due_stands : (image : Image) (n : ℕ) (es : List Entry) (name req : ℕ) (b
 due_stands image n es name req body k long up fit at =
     let last = next_stands image n es name req body 0 k long up fit (some_next (row_at image (place_of name)) (life_of name)) at in
     next_due (at_place (fold image n es) name) (life_of name) last.next (req + 1) last.is last.low
-
-own_data : (who req : ℕ) (e : Entry) → is_data_of who req e ≡ true → (body : List ℕ) × (e ≡ Data who req body)
-own_data who req (Data from r body) is =
-    let a : from ≡ who = grind (arith, nat_tests) in
-    let b : r ≡ req = grind (arith, nat_tests) in
-    (body, λ k. Data (a k) (b k) body)
-own_data who req (Join name) is = absurd (cc)
-own_data who req (Leave name) is = absurd (cc)
-own_data who req (View stamp members resilience) is = absurd (cc)
 
 -- a send of the node's own that stands in its list
 pub stands_due : (log : Log) (capacity who req before : ℕ) → IsKept log capacity → log.start ≤ before

@@ -23,19 +23,25 @@ use Rattle.am_sender.specs.declared.OwnSend.{OwnSend}
 use Rattle.am_sender.specs.Sends as sending
 use Rattle.am_sender.specs.Sends.{Sends, next_request}
 use Rattle.am_model.specs.Group.{has_log}
-use Rattle.am_fronts.specs.Reports.{reported}
+use Rattle.am_fronts.specs.Reports.{after_report}
 use Rattle.am_model.specs.declared.status.Status.{Status}
 use Rattle.am_model.specs.declared.status.Status.TheVariants.{Stranger, Asking, Member, Departed}
 use Rattle.am_model.specs.Receiving.{is_view}
-use Rattle.am_model.specs.Node.{Node, Ballot, top, told, view, members, acts, waiting, is_member, is_sequencer, pushed, with_report}
-use Rattle.am_model.specs.Refresh.{refresh, lead, led_of, with_led, accepted_at, settled_at, settled, settle, refresh_at_end}
+use Rattle.am_model.specs.Node.{Node, Ballot, top, image_of, view, members, acts, waiting, is_member, is_sequencer, push_entry, with_report}
+use Rattle.am_model.specs.Refresh.{refresh, lead, led_of, with_led, accepted_at, settle_at, settle_waiting, settle, refresh_at_end}
 use Rattle.am_model.specs.Ends.{IsEndOf}
 use Rattle.am_chain_lists.proofs.Rows.{long_after}
 use Rattle.am_handlers.proofs.Due.{due_after}
-use Rattle.am_handlers.specs.Keeps.{NodeKeeps, IsOwnBallot, IsSteady, IsDue}
+use Rattle.am_handlers.specs.Keeps.{NodeKeeps, IsOwnBallot, IsSteady, IsDue, MayServe}
 
 pub steady_leads : (m n : Node) → IsSteady m n → is_sequencer n ≡ is_sequencer m
 steady_leads m n s = λ k. (is_member (s.status k) && stamp_eq (s.promise k) (s.told k).view) && ((s.told k).view.by == s.who k)
+
+pub steady_serves : (m n : Node) (from : ℕ) → IsSteady m n → MayServe m from → MayServe n from
+steady_serves m n from s serves =
+    let top = s.top in
+    let number = serves.number in
+    record { leads = steady_leads m n s ∙ serves.leads; other = λ is. serves.other (is ∙ s.who); number = omega arith }
 
 -- a ballot stays the node's own where its promise, its name, its view and its list stay
 pub own_for : (m n : Node) (b : Ballot) → n.core.promise ≡ m.core.promise → n.core.who ≡ m.core.who → view n ≡ view m
@@ -77,8 +83,8 @@ keeps_steady m n s keeps own = record {
   ballot = λ b is. own_steady m n b s (keeps.ballot b (sym s.ballot ∙ is));
   settled = λ leaves. ap sending.waiting s.sends ∙ keeps.settled (sym s.leaving ∙ leaves);
   due = subst (λ (r : Row). IsDue r (life_of n.core.who) (next_request n.sends)) (sym (λ k. at_place (s.told k) (s.who k)))
-      (subst (λ (w : ℕ). IsDue (at_place (told m) m.core.who) (life_of w) (next_request n.sends)) (sym s.who)
-      (subst (λ (x : Sends). IsDue (at_place (told m) m.core.who) (life_of m.core.who) (next_request x)) (sym s.sends) keeps.due));
+      (subst (λ (w : ℕ). IsDue (at_place (image_of m) m.core.who) (life_of w) (next_request n.sends)) (sym s.who)
+      (subst (λ (x : Sends). IsDue (at_place (image_of m) m.core.who) (life_of m.core.who) (next_request x)) (sym s.sends) keeps.due));
   unsent = λ none.
       let before = keeps.unsent (ap has_log (sym s.status) ∙ none) in
       let same = ap next_request s.sends in
@@ -118,7 +124,7 @@ keeps_advance m core is keeps = subst (λ (x : CoreState). NodeKeeps (record m {
 -- other sends, and all else the same
 pub record MaySend (m : Node) (sends : Sends) : Type 0 where
   pub settled : m.leaving ≡ true → sending.waiting sends ≡ None
-  pub due : IsDue (at_place (told m) m.core.who) (life_of m.core.who) (next_request sends)
+  pub due : IsDue (at_place (image_of m) m.core.who) (life_of m.core.who) (next_request sends)
   pub unsent : has_log m.status ≡ false → next_request sends ≤ 1
 
 may_stay : (m : Node) → NodeKeeps m → MaySend m m.sends
@@ -150,10 +156,10 @@ keeps_ballot m o owns keeps = keeps_changed m m.leaving m.sends o (may_stay m ke
 
 -- the waiting send is settled, which stands in the list
 pub may_settle : (m : Node) (sends : Sends) (req : ℕ) → NodeKeeps m → option_map (λ (send : OwnSend). send.req) (sending.waiting m.sends) ≡ Some req
-    → next_request sends ≡ req + 1 → IsDue (at_place (told m) m.core.who) (life_of m.core.who) (req + 1) → 0 < top m → MaySend m sends
+    → next_request sends ≡ req + 1 → IsDue (at_place (image_of m) m.core.who) (life_of m.core.who) (req + 1) → 0 < top m → MaySend m sends
 may_settle m sends req keeps waits next due some = record {
   settled = λ leaves. let none = ap (option_map (λ (send : OwnSend). send.req)) (keeps.settled leaves) in absurd (cc);
-  due = subst (λ n. IsDue (at_place (told m) m.core.who) (life_of m.core.who) n) (sym next) due;
+  due = subst (λ n. IsDue (at_place (image_of m) m.core.who) (life_of m.core.who) n) (sym next) due;
   unsent = λ none. let blank = keeps.blank none in absurd (omega arith);
 }
 
@@ -171,7 +177,7 @@ report_steady m from report = record { who = refl; promise = refl; told = refl; 
 pub keeps_report : (m : Node) (from : ℕ) (report : Report) → from ≢ m.core.who → NodeKeeps m → NodeKeeps (with_report m from report)
 keeps_report m from report other keeps =
     let test : (m.core.who == from) ≡ false = grind (arith, nat_tests) in
-    let same : reported m.reports from report m.core.who ≡ m.reports m.core.who = rw test refl in
+    let same : after_report m.reports from report m.core.who ≡ m.reports m.core.who = rw test refl in
     let taken = ap (λ (r : Report). r.taken) same in
     keeps_steady m (with_report m from report) (report_steady m from report) keeps (let own = keeps.own in omega arith)
 
@@ -182,10 +188,10 @@ view_after image number (Join name) h = refl
 view_after image number (Leave name) h = split ((at_place image name).life == life_of name) (λ t. rw t refl) (λ f. rw f refl)
 view_after image number (View stamp names resilience) h = absurd (cc)
 
-pub view_pushed : (m : Node) (e : Entry) → is_view e ≡ false → view (pushed m e) ≡ view m
-view_pushed m e h = ap (λ (i : Image). i.view) (told-push m.core.log e) ∙ view_after (told m) (top m + 1) e h
+pub view_pushed : (m : Node) (e : Entry) → is_view e ≡ false → view (push_entry m e) ≡ view m
+view_pushed m e h = ap (λ (i : Image). i.view) (told-push m.core.log e) ∙ view_after (image_of m) (top m + 1) e h
 
-pub leads_pushed : (m : Node) (e : Entry) → is_view e ≡ false → is_sequencer (pushed m e) ≡ is_sequencer m
+pub leads_pushed : (m : Node) (e : Entry) → is_view e ≡ false → is_sequencer (push_entry m e) ≡ is_sequencer m
 leads_pushed m e h = ap (λ (v : Stamp). (is_member m.status && stamp_eq m.core.promise v) && (v.by == m.core.who)) (view_pushed m e h)
 
 pub long_fold : (image : Image) (n : ℕ) (es : List Entry) → length image.rows ≡ 16 → length (fold image n es).rows ≡ 16
@@ -194,22 +200,22 @@ long_fold image n [] long = long
 long_fold image n (e ∷ es) long = long_fold (after image n e) (n + 1) es (long_after image n e long)
 
 -- what is settled stands in the list with an entry more
-pub due_pushed : (m : Node) (e : Entry) (capacity : ℕ) → IsKept m.core.log capacity → fits (told m) e ≡ true → (next : ℕ)
-    → IsDue (at_place (told m) m.core.who) (life_of m.core.who) next → IsDue (at_place (told (pushed m e)) m.core.who) (life_of m.core.who) next
+pub due_pushed : (m : Node) (e : Entry) (capacity : ℕ) → IsKept m.core.log capacity → fits (image_of m) e ≡ true → (next : ℕ)
+    → IsDue (at_place (image_of m) m.core.who) (life_of m.core.who) next → IsDue (at_place (image_of (push_entry m e)) m.core.who) (life_of m.core.who) next
 due_pushed m e capacity kept fit next due =
     subst (λ (i : Image). IsDue (at_place i m.core.who) (life_of m.core.who) next) (sym (told-push m.core.log e))
-    (due_after (told m) (top m + 1) e m.core.who next (long_fold m.core.log.image (m.core.log.start + 1) m.core.log.entries kept.image.places)
+    (due_after (image_of m) (top m + 1) e m.core.who next (long_fold m.core.log.image (m.core.log.start + 1) m.core.log.entries kept.image.places)
     (omega arith) fit due)
 
 -- one that isn't a View, where who leads stays a member
-pub keeps_pushed : (m : Node) (e : Entry) → is_view e ≡ false → fits (told m) e ≡ true → (capacity : ℕ) → IsKept m.core.log capacity → has_log m.status ≡ true
-    → (is_sequencer m ≡ true → has (members (pushed m e)) m.core.who ≡ true) → NodeKeeps m → NodeKeeps (pushed m e)
+pub keeps_pushed : (m : Node) (e : Entry) → is_view e ≡ false → fits (image_of m) e ≡ true → (capacity : ℕ) → IsKept m.core.log capacity → has_log m.status ≡ true
+    → (is_sequencer m ≡ true → has (members (push_entry m e)) m.core.who ≡ true) → NodeKeeps m → NodeKeeps (push_entry m e)
 keeps_pushed m e plain fit capacity kept has_one stays keeps = record {
   own = keeps.own;
   leads = λ is. stays (sym (leads_pushed m e plain) ∙ is);
   promised = ap (stamp_lt m.core.promise) (view_pushed m e plain) ∙ keeps.promised;
   blank = λ none. absurd (cc);
-  ballot = λ b there. own_for m (pushed m e) b refl refl (view_pushed m e plain) (λ logged. logged) (keeps.ballot b there);
+  ballot = λ b there. own_for m (push_entry m e) b refl refl (view_pushed m e plain) (λ logged. logged) (keeps.ballot b there);
   settled = keeps.settled;
   due = due_pushed m e capacity kept fit (next_request m.sends) keeps.due;
   unsent = λ none. absurd (cc);
@@ -282,11 +288,11 @@ keeps_bodies m bodies keeps = keeps_steady m (record m { bodies = bodies })
     (record { who = refl; promise = refl; told = refl; top = refl; status = refl; ballot = refl; leaving = refl; sends = refl }) keeps keeps.own
 
 -- the end of a step leaves a node its name
-settled_at_who : (m : Node) (req : ℕ) (at : Option ℕ) → (settled_at m req at).core.who ≡ m.core.who
+settled_at_who : (m : Node) (req : ℕ) (at : Option ℕ) → (settle_at m req at).core.who ≡ m.core.who
 settled_at_who m req None = refl
 settled_at_who m req (Some k) = refl
 
-settled_who : (m : Node) (w : Option OwnSend) → (settled m w).core.who ≡ m.core.who
+settled_who : (m : Node) (w : Option OwnSend) → (settle_waiting m w).core.who ≡ m.core.who
 settled_who m None = refl
 settled_who m (Some s) = settled_at_who m s.req (accepted_at m s.req)
 

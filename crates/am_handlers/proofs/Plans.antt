@@ -6,7 +6,7 @@ use Rattle.am_core.specs.Cores.{IsInOrder}
 use Rattle.am_core.proofs.Ends.{end-top, end-told}
 use Rattle.am_packet.specs.declared.packet.Packet.{Packet}
 use Rattle.am_packet.specs.Boxes.{Letter, with_letter}
-use Rattle.am_model.specs.Node.{Node, top, told, only_name}
+use Rattle.am_model.specs.Node.{Node, top, image_of, only_name}
 use Rattle.am_model.specs.Emit.{Plan, finish}
 use Rattle.am_model.specs.Refresh.{refresh_at_end}
 use Rattle.am_model.specs.Ends.{with_log, IsEndOf, Tells, Changes, ComesTo, Does}
@@ -89,7 +89,7 @@ done_telling before p to packet new {outcome} {x} {set} {box} {sent} {letters} s
 pub end_tells : {A : Type 0} (f : Node → A) (m : Node) (x : A) → m.core.base ≡ m.core.log.start → Tells f m x → x ≡ f m
 end_tells f m x kept tells = tells m (end_self m kept)
 
-pub told_end : (x m : Node) → IsEndOf x m → told m ≡ told x
+pub told_end : (x m : Node) → IsEndOf x m → image_of m ≡ image_of x
 told_end x m end = end-told x.core.log m.core.log end.stands.kept
 
 pub top_end : (x m : Node) → IsEndOf x m → top m ≡ top x

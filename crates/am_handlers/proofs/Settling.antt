@@ -13,7 +13,7 @@ use Rattle.am_core.specs.Cores.{CoreState, Stands, IsInOrder}
 use Rattle.am_sender.specs.declared.OwnSend.{OwnSend}
 use Rattle.am_sender.specs.Sends as own
 use Rattle.am_model.specs.Node.{Node, waiting}
-use Rattle.am_model.specs.Refresh.{is_data_of, accepted_at, settled_at, settled, settle}
+use Rattle.am_model.specs.Refresh.{is_data_of, accepted_at, settle_at, settle_waiting, settle}
 use Rattle.am_model.specs.Ends.{with_log, Tells, Changes}
 use Rattle.am_handlers.specs.Parts.{passes, accepted_number}
 use Rattle.am_handlers.proofs.Ends.{tells, changes}
@@ -114,34 +114,34 @@ number_none m req order none =
 
 -- ---- the waiting send
 
-settled_none : (x : Node) (w : Option OwnSend) → None ≡ option_map (λ (send : OwnSend). send.req) w → settled x w ≡ x
+settled_none : (x : Node) (w : Option OwnSend) → None ≡ option_map (λ (send : OwnSend). send.req) w → settle_waiting x w ≡ x
 settled_none x None is = refl
 settled_none x (Some send) is = absurd (cc)
 
-at_none : (x : Node) (req : ℕ) (k : Option ℕ) → None ≡ option_map (λ (k : ℕ). x.core.base + 1 + k) k → settled_at x req k ≡ x
+at_none : (x : Node) (req : ℕ) (k : Option ℕ) → None ≡ option_map (λ (k : ℕ). x.core.base + 1 + k) k → settle_at x req k ≡ x
 at_none x req None is = refl
 at_none x req (Some k) is = absurd (cc)
 
 at_some : (x : Node) (req number : ℕ) (k : Option ℕ) → Some number ≡ option_map (λ (k : ℕ). x.core.base + 1 + k) k
-    → settled_at x req k ≡ record x { sends = own.settle req number x.sends }
+    → settle_at x req k ≡ record x { sends = own.settle req number x.sends }
 at_some x req number None is = absurd (cc)
 at_some x req number (Some k) is =
     let same : x.core.base + 1 + k ≡ number = cc in
     ap (λ (n : ℕ). record x { sends = own.settle req n x.sends }) same
 
 settled_unaccepted : (x : Node) (w : Option OwnSend) (req : ℕ) → Some req ≡ option_map (λ (send : OwnSend). send.req) w → None ≡ accepted_number x req
-    → settled x w ≡ x
+    → settle_waiting x w ≡ x
 settled_unaccepted x None req is at = refl
 settled_unaccepted x (Some send) req is at =
     let same : send.req ≡ req = cc in
-    ap (λ (r : ℕ). settled_at x r (accepted_at x r)) same ∙ at_none x req (accepted_at x req) at
+    ap (λ (r : ℕ). settle_at x r (accepted_at x r)) same ∙ at_none x req (accepted_at x req) at
 
 settled_accepted : (x : Node) (w : Option OwnSend) (req number : ℕ) → Some req ≡ option_map (λ (send : OwnSend). send.req) w
-    → Some number ≡ accepted_number x req → settled x w ≡ record x { sends = own.settle req number x.sends }
+    → Some number ≡ accepted_number x req → settle_waiting x w ≡ record x { sends = own.settle req number x.sends }
 settled_accepted x None req number is at = absurd (cc)
 settled_accepted x (Some send) req number is at =
     let same : send.req ≡ req = cc in
-    ap (λ (r : ℕ). settled_at x r (accepted_at x r)) same ∙ at_some x req number (accepted_at x req) at
+    ap (λ (r : ℕ). settle_at x r (accepted_at x r)) same ∙ at_some x req number (accepted_at x req) at
 
 pub settle_idle : (m : Node) → None ≡ option_map (λ (send : OwnSend). send.req) (waiting m) → Changes settle m m
 unfolding settle

@@ -1,31 +1,13 @@
 -- What packets tell of a core.
-use Rattle.std.proofs.Common.{◌≡◌, ℕ, List, sym, ◌∙◌, ap}
-use Rattle.am_base.specs.declared.name.Stamp.{Stamp}
+use Rattle.std.proofs.Common.{◌≡◌, ℕ, sym, ◌∙◌, ap}
 use Rattle.am_base.specs.declared.image.Image.{Image}
 use Rattle.am_base.specs.declared.image.Row.{Row}
-use Rattle.am_base.specs.Lists.{top_of, told_by, row_of, image_at, members_of, members_at}
+use Rattle.am_base.specs.Lists.{top_of, told_by, row_of, image_at}
 use Rattle.am_core.specs.Cores.{CoreState}
-use Rattle.am_core.proofs.Ends.{end-top, end-told, image-top}
+use Rattle.am_core.proofs.Ends.{end-top, end-told}
 use Rattle.am_packet.specs.declared.packet.Packet.TheVariants as packet
 use Rattle.am_model.specs.Emit.{hold_of, welcome_of}
-use Rattle.am_model.specs.Ballots.{vote_of}
 use Rattle.am_handlers.specs.Cores.{CoreTells}
-
-pub vote_told : (v c : CoreState) (view : Stamp) (high : ℕ) (members : List ℕ) → v ≡ c → view ≡ (told_by v.log).view → high ≡ top_of v.log
-    → members ≡ members_at v.log high
-    → CoreTells vote_of c (packet.Vote v.who v.promise (record { view = view; top = high; taken = v.taken; members = members }))
-vote_told v c view high members is at top names = λ m all s.
-    let told : members_at v.log high ≡ members_of (told_by v.log) = ap (members_at v.log) top ∙ ap members_of (image-top v.log) in
-    (λ k. packet.Vote v.who v.promise (record { view = at k; top = top k; taken = v.taken; members = (names ∙ told) k }))
-    ∙ ap (λ (x : CoreState). packet.Vote x.who x.promise (record {
-      view = (told_by x.log).view;
-      top = top_of x.log;
-      taken = x.taken;
-      members =
-          members_of (told_by x.log);
-    })) is
-    ∙ (let t = end-told all c.log s.kept in let h = end-top all c.log s.kept in
-    λ k. packet.Vote c.who c.promise (record { view = (t k).view; top = h k; taken = c.taken; members = members_of (t k) }))
 
 pub hold_told : (v c : CoreState) (base high req : ℕ) → v ≡ c → base ≡ v.log.start → high ≡ top_of v.log → v.base ≡ v.log.start
     → CoreTells (λ m. hold_of m req) c (packet.Hold v.who v.promise base high req)

@@ -1,7 +1,8 @@
 -- The node that some parts make, and what they keep between calls.
-use Rattle.std.specs.Prelude.{◌≡◌, ◌<◌, ◌≤◌, ◌+◌, ℕ, List, Option, Some, None, Bool, true, false, option_map}
+use Rattle.std.specs.Prelude.{◌≡◌, ◌≢◌, ◌<◌, ◌≤◌, ◌+◌, ℕ, List, length, Option, Some, None, Bool, true, false, option_map}
 use Rattle.am_base.specs.declared.image.Report.{Report}
 use Rattle.am_base.specs.declared.image.Row.{Row}
+use Rattle.am_base.specs.Most.{most_number}
 use Rattle.am_base.specs.Names.{has, life_of}
 use Rattle.am_base.specs.Lists.{at_place}
 use Rattle.am_base.specs.Stamps.{stamp_lt}
@@ -12,7 +13,7 @@ use Rattle.am_bodies.specs.declared.KeptBody.{KeptBody}
 use Rattle.am_ballots.specs.Kept.{Kept, ballot_of}
 use Rattle.am_model.specs.declared.status.Status.{Status}
 use Rattle.am_model.specs.Group.{has_log}
-use Rattle.am_model.specs.Node.{Node, Ballot, top, told, view, members, waiting, is_sequencer}
+use Rattle.am_model.specs.Node.{Node, Ballot, top, image_of, view, members, waiting, is_sequencer}
 
 -- a node of these parts
 abbrev pub node_with : CoreState → Status → Bool → Sends → List KeptBody → List Report → Option Kept → Node
@@ -57,14 +58,25 @@ pub record NodeKeeps (m : Node) : Type 0 where
   -- who leaves has no send that waits
   pub settled : m.leaving ≡ true → waiting m ≡ None
   -- what is settled of its sends stands in its list
-  pub due : IsDue (at_place (told m) m.core.who) (life_of m.core.who) (next_request m.sends)
+  pub due : IsDue (at_place (image_of m) m.core.who) (life_of m.core.who) (next_request m.sends)
   pub unsent : has_log m.status ≡ false → next_request m.sends ≤ 1
+
+-- another entry may be stored, and its number isn't the greatest
+pub record HasRoomLeft (m : Node) : Type 0 where
+  pub room : length m.core.log.entries < m.core.rules.window + 15
+  pub number : top m < most_number
+
+-- the sequencer may do what another name asks for
+pub record MayServe (m : Node) (from : ℕ) : Type 0 where
+  pub leads : is_sequencer m ≡ true
+  pub other : from ≢ m.core.who
+  pub number : top m < most_number
 
 -- what a node tells stays, and so do its name, its promise, its status, its sends and its ballot
 pub record IsSteady (m n : Node) : Type 0 where
   pub who : n.core.who ≡ m.core.who
   pub promise : n.core.promise ≡ m.core.promise
-  pub told : told n ≡ told m
+  pub told : image_of n ≡ image_of m
   pub top : top n ≡ top m
   pub status : n.status ≡ m.status
   pub ballot : n.ballot ≡ m.ballot

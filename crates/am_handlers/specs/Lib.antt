@@ -2,3 +2,4 @@ pub mod Keeps
 pub mod Parts
 pub mod Cores
 pub mod Finishing
+pub mod Prelude

@@ -1,10 +1,9 @@
 ghost use Rattle.std.specs.Prelude.{◌≡◌, ◌==◌, ◌≤◌, ◌<◌, ◌+◌, length, IsTrue};
-ghost use Rattle.am_base.specs.Most.{most_number};
+ghost use Rattle.am_handlers.specs.Prelude.{most_number, IsNumber, IsRow, IsInOrder, top, node_of};
 ghost use Rattle.am_base.specs.declared.outcome.Outcome.TheVariants as said;
-ghost use Rattle.am_base.specs.Limits.{IsNumber, IsRow};
-ghost use Rattle.am_model.specs.Node.{top, has_room, report_fits};
+ghost use Rattle.am_core.specs.Kept.{IsKept};
+ghost use Rattle.am_model.specs.Node.{has_room, report_fits};
 ghost use Rattle.am_model.specs.Sequencing.{row_at, is_unknown};
-ghost use Rattle.am_handlers.specs.Parts.{node_of};
 
 use crate::parts::Parts;
 use am_base::image::{Report, Row};
@@ -22,7 +21,7 @@ pub fn has_room(parts: &Parts) -> bool
 }
 
 /// The answer where there is no room.
-pub fn held(parts: &Parts) -> Outcome
+pub fn held_answer(parts: &Parts) -> Outcome
     ensures { result ≡ said.Held parts.now.core.base (top (node_of parts.now)) }
 {
     Outcome::Held {
@@ -36,6 +35,8 @@ pub fn next_number(parts: &Parts) -> u32
     requires { top (node_of parts.now) < most_number }
     ensures value { result ≡ top (node_of parts.now) + 1 }
     ensures within { IsNumber result }
+    ensures order { IsInOrder parts.now.core }
+    ensures kept { IsKept parts.now.core.log (parts.now.core.rules.window + 15) }
 {
     parts.core.log.top() + 1
 }

@@ -1,53 +1,96 @@
 ghost use Rattle.std.specs.Prelude.{◌≡◌, [], true, false};
+ghost use Rattle.am_codec.specs.Limits.{IsWithin};
 ghost use Rattle.am_model.specs.Node.{only_name};
-ghost use Rattle.am_model.specs.Emit.{quiet, polling, telling, nack_of};
+ghost use Rattle.am_model.specs.Emit.{quiet, polling, telling};
+ghost use Rattle.am_handlers.specs.Cores.{CoreTells};
 ghost use Rattle.am_handlers.specs.Parts.{node_of};
-ghost use Rattle.am_handlers.specs.Finishing.{Done};
+ghost use Rattle.am_handlers.specs.Finishing.{Finishes, letter_of};
 
-use crate::packets::{nack, only};
+use crate::packet_from;
+use crate::packets::{only, report, welcome};
 use crate::parts::Parts;
 use am_base::name::Name;
 use am_base::outcome::Outcome;
+use am_core::log::Log;
+use am_core::state::Core;
 use am_letter::out_box::OutBox;
+use am_packet::packet::Packet;
+
+/// The letter of a step that tells one name.
+#[derive(Clone, Copy, Debug)]
+pub enum OneLetter {
+    /// A Nack: the node asks for what comes next.
+    Nack,
+    /// A Fetch: it asks for what comes next in another view.
+    Fetch,
+    /// A Welcome for the name.
+    Welcome,
+}
+
+/// The end of a step that sends nothing of its own, and polls the members or not. It gives the answer back.
+fn finish_silently(
+    parts: &mut Parts,
+    before: u32,
+    polls: bool,
+    answer: Outcome,
+    out: &mut OutBox,
+) -> Outcome
+    requires { out.old ≡ [] }
+    ensures { Finishes before (record (quiet (node_of parts.old) answer) { polls = polls })
+        result out.new parts.new }
+{
+    let _before = parts.accept_front();
+    parts.end();
+    parts.tell_accepted(before, polls, false, out);
+    answer
+}
 
 /// The end of a step that sends nothing of its own, once so much was accepted before. It gives the answer back. The out
 /// box must be empty.
 pub fn finish_quietly(parts: &mut Parts, before: u32, answer: Outcome, out: &mut OutBox) -> Outcome
     requires { out.old ≡ [] }
-    ensures { Done before (quiet (node_of parts.old) answer) result out.new (node_of parts.new) }
+    ensures { Finishes before (quiet (node_of parts.old) answer) result out.new parts.new }
 {
-    let _before = parts.accepted();
-    parts.end();
-    parts.tell_accepted(before, false, false, out);
-    answer
+    finish_silently(parts, before, false, answer, out)
 }
 
 /// The same for a step that polls the members.
 pub fn finish_polling(parts: &mut Parts, before: u32, answer: Outcome, out: &mut OutBox) -> Outcome
     requires { out.old ≡ [] }
-    ensures { Done before (polling (node_of parts.old) answer) result out.new (node_of parts.new) }
+    ensures { Finishes before (polling (node_of parts.old) answer) result out.new parts.new }
 {
-    let _before = parts.accepted();
-    parts.end();
-    parts.tell_accepted(before, true, false, out);
-    answer
+    finish_silently(parts, before, true, answer, out)
 }
 
-/// The same for a step that asks a name for what comes next, by a Nack.
-pub fn finish_asking(
+/// The packet of such a letter to a name.
+#[tactic(auto, unfolding(am_codec::specs::Limits::IsWithin))]
+fn packet<L: Log>(core: &Core<L>, letter: OneLetter, to: Name) -> Packet
+    ensures value { CoreTells (λ n. letter_of letter to n) core.now result }
+    ensures within { IsWithin result }
+{
+    match letter {
+        OneLetter::Nack => packet_from!(core => Nack { report: report(core) }),
+        OneLetter::Fetch => packet_from!(core => Fetch { stored: core.log.top() }),
+        OneLetter::Welcome => welcome(core, to),
+    }
+}
+
+/// The same for a step that tells one name.
+pub fn finish_telling(
     parts: &mut Parts,
     before: u32,
     to: Name,
+    letter: OneLetter,
     answer: Outcome,
     out: &mut OutBox,
 ) -> Outcome
     requires { out.old ≡ [] }
-    ensures { Done before (telling (node_of parts.old) answer (only_name to) nack_of) result out.new
-        (node_of parts.new) }
+    ensures { Finishes before (telling (node_of parts.old) answer (only_name to)
+        (λ n. letter_of letter to n)) result out.new parts.new }
 {
-    let _before = parts.accepted();
+    let _before = parts.accept_front();
     parts.end();
-    out.put(only(to), &nack(&parts.core));
+    out.put(only(to), &packet(&parts.core, letter, to));
     parts.tell_accepted(before, false, false, out);
     answer
 }

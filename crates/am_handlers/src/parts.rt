@@ -3,6 +3,7 @@ ghost use Rattle.am_base.specs.Most.{most_number};
 ghost use Rattle.am_model.specs.Refresh.{is_data_of};
 ghost use Rattle.am_handlers.specs.Keeps.{node_with, NodeKeeps, IsSteady};
 
+use crate::packet_from;
 use am_ballots::ballot::Ballot;
 use am_base::entry::Entry;
 use am_base::image::Report;
@@ -58,8 +59,8 @@ impl Parts {
     ghost use Rattle.am_codec.specs.Limits.{IsWithin};
     ghost use Rattle.am_core.specs.Kept.{IsKept};
     ghost use Rattle.am_core.specs.Cores.{IsInOrder};
-    ghost use Rattle.am_model.specs.Node.{Node, acts, is_sequencer, others, pushed, told, top, waiting, with_report};
-    ghost use Rattle.am_model.specs.Sequencing.{reported};
+    ghost use Rattle.am_model.specs.Node.{Node, acts, is_sequencer, others, push_entry, image_of, top, waiting, with_report};
+    ghost use Rattle.am_model.specs.Sequencing.{take_report};
     ghost use Rattle.am_model.specs.Emit.{accept_of};
     ghost use Rattle.am_model.specs.Refresh.{refresh, settle, refresh_at_end};
     ghost use Rattle.am_model.specs.Ends.{Tells, Changes, IsEndOf};
@@ -67,7 +68,7 @@ impl Parts {
     ghost use Rattle.am_handlers.specs.Parts.{node_of, passes, accepted_number, with_told};
 
     /// Up to where the node knows the list to be accepted.
-    pub fn accepted(&self) -> u32
+    pub fn accept_front(&self) -> u32
         ensures value { result ≡ self.now.core.acc }
         ensures order { IsInOrder self.now.core }
         ensures kept { IsKept self.now.core.log (self.now.core.rules.window + 15) }
@@ -87,6 +88,7 @@ impl Parts {
             && self.core.promise.by == view.by
     }
 
+    /// Whether the node acts in a view of its own, for this value of it alone.
     fn leads(&self) -> bool
         ensures value { result ≡ is_sequencer (node_of self.now) }
         ensures order { IsInOrder self.now.core }
@@ -137,25 +139,25 @@ impl Parts {
     /// Takes a report of another name, and what follows from it.
     pub fn take_report(&mut self, from: Name, report: Report)
         requires { from ≢ self.old.core.who }
-        ensures end { IsEndOf (reported (node_of self.old) from report) (node_of self.new) }
+        ensures end { IsEndOf (take_report (node_of self.old) from report) (node_of self.new) }
         ensures again { refresh (node_of self.new) ≡ node_of self.new }
         ensures steady { IsSteady (node_of self.old) (node_of self.new) }
         ensures order { IsInOrder self.new.core }
     {
         self.report(from, report);
-        let _before = self.accepted();
+        let _before = self.accept_front();
         self.refresh();
-        let _after = self.accepted();
+        let _after = self.accept_front();
     }
 
     /// Adds an entry at the end of the list.
     pub fn push(&mut self, entry: Entry)
-        requires fits { fits (told (node_of self.old)) entry ≡ true }
+        requires fits { fits (image_of (node_of self.old)) entry ≡ true }
         requires room { length self.old.core.log.entries < self.old.core.rules.window + 15 }
         requires entry { IsEntry entry }
         requires number { top (node_of self.old) < most_number }
-        requires keeps { NodeKeeps (pushed (node_of self.old) entry) }
-        ensures node { node_of self.new ≡ pushed (node_of self.old) entry }
+        requires keeps { NodeKeeps (push_entry (node_of self.old) entry) }
+        ensures node { node_of self.new ≡ push_entry (node_of self.old) entry }
         ensures order { IsInOrder self.new.core }
     {
         self.core.push(entry);
@@ -181,7 +183,7 @@ impl Parts {
 
     /// Whether the last send of the node's own that its list tells of is an earlier one than this.
     fn is_past_last(&self, req: u32) -> bool
-        ensures { result ≡ true → IsDue (at_place (told (node_of self.now)) self.now.core.who)
+        ensures { result ≡ true → IsDue (at_place (image_of (node_of self.now)) self.now.core.who)
             (life_of self.now.core.who) (req + 1) → ⊥ }
     {
         let row = self.core.log.at_place(self.core.who);
@@ -192,11 +194,11 @@ impl Parts {
     fn accepted_number(&self, req: u32) -> Option<u32>
         ensures value { Tells (λ m. accepted_number m req) (node_of self.now) result }
         ensures due { IfSome result (λ number. IsDue
-            (at_place (told (node_of self.now)) self.now.core.who) (life_of self.now.core.who)
+            (at_place (image_of (node_of self.now)) self.now.core.who) (life_of self.now.core.who)
             (req + 1)) }
         ensures some { IfSome result (λ number. 0 < top (node_of self.now)) }
     {
-        let accepted = self.accepted();
+        let accepted = self.accept_front();
         if self.is_past_last(req) {
             return None;
         }
@@ -235,14 +237,12 @@ impl Parts {
         ensures value { Tells (λ n. accept_of n polls) (node_of self.now) result }
         ensures within { IsWithin result }
     {
-        Packet::Accept {
-            sender: self.core.who,
-            stamp: self.core.promise,
+        packet_from!(self.core => Accept {
             base: self.core.log.base(),
             acc: self.core.acc,
             top: self.core.log.top(),
             poll: polls,
-        }
+        })
     }
 
     /// The sequencer tells the other members what is accepted: where it polls them, or where that rose above what was

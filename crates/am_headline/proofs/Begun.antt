@@ -18,7 +18,7 @@ use Rattle.am_chain_moves.specs.Runs.{MayBegin, founded, first_choice, first_sta
 use Rattle.am_chain.proofs.Runs.{run_keeps}
 use Rattle.am_model.specs.Node.{lowest_or_first, founding_stamp}
 use Rattle.am_model.specs.World.{Decided, World, start, first_node, founders_decided, has_departed, happen, run}
-use Rattle.am_model.specs.Lawful.{Watch, watch_all, watched, watch_start, broken_at}
+use Rattle.am_model.specs.Lawful.{Watch, watch_all, watch_run, watch_start, broken_at}
 use Rattle.am_model.specs.Claims.{BecameComplete}
 use Rattle.am_model.proofs.Greatest.{split}
 use Rattle.am_model.proofs.Founders.{first_founder}
@@ -155,7 +155,7 @@ module _ (P : World → Group → Type 0) (rules : Rules) (keeps : KeptBy P rule
   held_of (suc n) events long whole =
       let r = split_last events n long in
       let all : broken_at rules (r.0 ++ r.1 ∷ []) ≡ None = ap (broken_at rules) (sym r.2) ∙ whole in
-      let before = unbroken (watched rules r.0) r.1 (ap (λ (x : Watch). x.broken) (sym (watch_push (watch_start rules) r.0 r.1)) ∙ all) in
+      let before = unbroken (watch_run rules r.0) r.1 (ap (λ (x : Watch). x.broken) (sym (watch_push (watch_start rules) r.0 r.1)) ∙ all) in
       subst (Held P rules) (sym r.2) (next P rules keeps moving may r.0 r.1 (held_of n r.0 r.3 before.before) all)
 
   pub held : (events : List Event) → broken_at rules events ≡ None → Held P rules events

@@ -17,8 +17,8 @@ use Rattle.am_core.proofs.Ends.{image-push, image-top}
 use Rattle.am_fronts.proofs.ReportLaws.{count_cons}
 use Rattle.am_packet.specs.declared.packet.Packet.TheVariants as packet
 use Rattle.am_chain_lists.proofs.Rows.{In, row_at, long_after, in_viewed}
-use Rattle.am_model.specs.Node.{Node, Ballot, top, told, has_room, pushed}
-use Rattle.am_model.specs.Ballots.{Verdict, need_of, left_in, trimmed_for}
+use Rattle.am_model.specs.Node.{Node, Ballot, top, image_of, has_room, push_entry}
+use Rattle.am_model.specs.Ballots.{Verdict, need_of, left_in, trim_for}
 use Rattle.am_model.proofs.Greatest.{split}
 use Rattle.am_effects.specs.Causes.{Cause, hears}
 use Rattle.am_effects.specs.Looks.{Looks, decides}
@@ -135,38 +135,38 @@ push_fits rules c x y e log up new h number above within =
 few_members : (x : Node) (e : Entry) → Fronts x → size (members_at (with_entry x.core.log e) (top x + 1)) ≤ 16
 few_members x e h =
     let used = told_used x h in
-    let rows = long_after (told x) (top x + 1) e used.places in
+    let rows = long_after (image_of x) (top x + 1) e used.places in
     let long = length-append x.core.log.entries (e ∷ []) in
     let all : top_of (with_entry x.core.log e) ≡ top x + 1 = omega arith in
-    let is : image_at (with_entry x.core.log e) (top x + 1) ≡ after (told x) (top x + 1) e = ap (image_at (with_entry x.core.log e)) (sym all)
+    let is : image_at (with_entry x.core.log e) (top x + 1) ≡ after (image_of x) (top x + 1) e = ap (image_at (with_entry x.core.log e)) (sym all)
     ∙ image-top (with_entry x.core.log e) ∙ told_pushed x e in
-    let count = length-map (after (told x) (top x + 1) e).rows member_life in
-    let most = few_size (members_of (after (told x) (top x + 1) e)) in
+    let count = length-map (after (image_of x) (top x + 1) e).rows member_life in
+    let most = few_size (members_of (after (image_of x) (top x + 1) e)) in
     let same = ap (λ i. size (members_of i)) is in
     omega arith
 
 -- what is numbered fits where there is room
 room_fits : (rules : Rules) (c : Cause) (x : Node) (e : Entry) → x.core.rules ≡ rules → Fronts x → has_room x ≡ true → Fitting rules c x
-    → Fitting rules c (pushed x e)
+    → Fitting rules c (push_entry x e)
 room_fits rules c x e same fronts room h =
     let few = few_members x e fronts in
     let window = ap (λ (r : Rules). r.window) same in
     let low : top x + 1 - x.core.base ≤ x.core.rules.window = grind (arith, nat_tests) in
-    push_fits rules c x (pushed x e) e refl (omega arith) (inl (omega arith)) h
+    push_fits rules c x (push_entry x e) e refl (omega arith) (inl (omega arith)) h
 
 -- and a View that is decided
 look_fits : (rules : Rules) (c : Cause) (x : Node) (b : Ballot) (v : Verdict) → x.core.rules ≡ rules → Fronts x → Looks x b v → Fitting rules c x
     → Fitting rules c v.node
 look_fits rules c x b v same fronts (decides may) h =
     let names = left_in b (need_of x b) in
-    let before = trimmed_for x b names in
-    let e = View b.stamp names (max b.resilience (told x).resilience) in
+    let before = trim_for x b names in
+    let e = View b.stamp names (max b.resilience (image_of x).resilience) in
     let used = told_used x fronts in
-    let few = viewed_few (told x) (top x + 1) b.stamp names (max b.resilience (told x).resilience) used.places (omega arith)
+    let few = viewed_few (image_of x) (top x + 1) b.stamp names (max b.resilience (image_of x).resilience) used.places (omega arith)
     (those_long (λ name. not (b.given_up name)) (need_of x b)) in
     let long = length-append x.core.log.entries (e ∷ []) in
     let all : top_of (with_entry x.core.log e) ≡ top x + 1 = omega arith in
-    let is : image_at (with_entry x.core.log e) (top x + 1) ≡ after (told x) (top x + 1) e = ap (image_at (with_entry x.core.log e)) (sym all)
+    let is : image_at (with_entry x.core.log e) (top x + 1) ≡ after (image_of x) (top x + 1) e = ap (image_at (with_entry x.core.log e)) (sym all)
     ∙ image-top (with_entry x.core.log e) ∙ told_pushed x e in
     let sizes = ap (λ i. size (members_of i)) is in
     let window = ap (λ (r : Rules). r.window) same in
@@ -200,7 +200,7 @@ fitting_change rules c o x y same fronts (fetches s v base number e is heard pro
 fitting_change rules c o x y same fronts (stores_view s v base number names resilience is heard own other promise below may) h =
     push_fits rules c x y (View v names resilience) refl (omega arith) (told_entry rules c x y number may.next (by_result s v base names resilience is)) h
 fitting_change rules c o x y same fronts (closes leads leaves alone room) h =
-    let p = pushed x (Leave x.core.who) in
+    let p = push_entry x (Leave x.core.who) in
     let r = rests_at_end p in
     same_fits rules c p y r.log r.rests.base (room_fits rules c x (Leave x.core.who) same fronts room h)
 fitting_change rules c o x y same fronts _ h = same_fits rules c x y refl (omega arith) h

@@ -16,7 +16,7 @@ use Rattle.am_packet.specs.declared.packet.Packet.TheVariants as packet
 use Rattle.am_packet.specs.Boxes.{Letter}
 use Rattle.am_group.specs.declared.event.Event.{Event}
 use Rattle.am_group.specs.Journals.{item_at}
-use Rattle.am_chain_lists.specs.Whole.{Begins, NotView, told, view_of, key}
+use Rattle.am_chain_lists.specs.Whole.{Begins, NotView, image_of, view_of, key}
 use Rattle.am_chain_lists.proofs.Order.{key_by, view_push, view_viewed}
 use Rattle.am_chain_lists.proofs.Members.{long_told}
 use Rattle.am_chain_lists.proofs.Prefixes.{begins_both, begins_length, begins_push, begins_trans}
@@ -24,7 +24,7 @@ use Rattle.am_chain_moves.specs.Group.{Group, IsUp}
 use Rattle.am_model.specs.declared.status.Status.{Status}
 use Rattle.am_model.specs.declared.status.Status.TheVariants as status
 use Rattle.am_model.specs.Calls.{is_unfinished}
-use Rattle.am_model.specs.Node.{Node, top, view, is_member, acts, founder, founders_view, lowest_or_first}
+use Rattle.am_model.specs.Node.{Node, top, view, is_member, acts, founder, founders_view}
 use Rattle.am_model.specs.Node as nodes
 use Rattle.am_model.specs.Emit.{Step}
 use Rattle.am_model.specs.Hearing.{hears_member, hears_in_view, hears_sequencer}
@@ -32,7 +32,7 @@ use Rattle.am_model.specs.Receiving.{is_view}
 use Rattle.am_model.specs.Claims.{heard_by, FitsView, ViewsFit}
 use Rattle.am_model.specs.Lawful.{lawful_front}
 use Rattle.am_model.specs.Hearing as rows
-use Rattle.am_model.specs.World.{World, start, has_departed, stepped, run}
+use Rattle.am_model.specs.World.{World, start, has_departed, with_step, run}
 use Rattle.am_model.proofs.Greatest.{split, and_both}
 use Rattle.am_model.proofs.Runs.{front_is_lawful}
 use Rattle.am_effects.specs.Causes.{Cause, hears}
@@ -49,7 +49,7 @@ use Rattle.am_laws.proofs.Views.{heard_names}
 use Rattle.am_watched.proofs.Lists.{lists_go_on}
 use Rattle.am_unballoted.proofs.Lists.{item_get, item_within}
 use Rattle.am_stands.specs.Letters as says
-use Rattle.am_stands.specs.Letters.{PacketSays, PieceSays, ResultSays}
+use Rattle.am_stands.specs.Letters.{PacketSays, PieceSays}
 use Rattle.am_stands.proofs.Changes.{told_all, long_all}
 use Rattle.am_stands.proofs.Parts.{number_low}
 use Rattle.am_stands.proofs.Silent.{departed_silent}
@@ -109,7 +109,7 @@ two a b = grind arith
 module _ (rules : Rules) (events : List Event) (e : Event) (c : Cause) (step : Step) (s t : Group) (one : OneStep rules events e c step s t)
     (h : Fitted rules (run rules events) s) where
   open parts rules events e step use {w, i, m, n, v}
-  open one use {may, runs, cause, effect, is, old, grows, shaped, new}
+  open one use {step_.{may, runs, cause, effect, is}, old, grows, shaped, new}
   open plain one use {few, kept_s, kept_t, opens_t, runs_v, node_run, stands_m, stands_n, group_grows}
 
   order_n : n.core.log.start ≤ n.core.base
@@ -391,7 +391,7 @@ module _ (rules : Rules) (events : List Event) (e : Event) (c : Cause) (step : S
   who_x : x.core.who ≡ i
   who_x = sym (ap (λ (q : CoreState). q.who) core_x) ∙ (lists_go_on rules events e c step may runs cause effect).own
 
-  view_low : nodes.told x ≡ told (t.node i).list → (nodes.told x).view_number ≤ top x
+  view_low : nodes.image_of x ≡ image_of (t.node i).list → (nodes.image_of x).view_number ≤ top x
   view_low same =
       let low = number_low (t.node i).list in
       let long = long_all v i n (t.node i) stands_n in
@@ -416,7 +416,7 @@ module _ (rules : Rules) (events : List Event) (e : Event) (c : Cause) (step : S
       by_piece_says (says.over other d) = over other d
   packet_sent stays to p (result _ number names is_ viewed may_) h_ = λ by.
       (let says_ = h_.1 by in
-      let same : nodes.told x ≡ told (t.node i).list = ap (λ (q : CoreState). told_by q.log) (sym core_x) ∙ sym (told_all v i n (t.node i) stands_n) in
+      let same : nodes.image_of x ≡ image_of (t.node i).list = ap (λ (q : CoreState). told_by q.log) (sym core_x) ∙ sym (told_all v i n (t.node i) stands_n) in
       sent_line stays number (let z = view_low same in omega arith)
       (item_within (t.views.line (key x.core.promise)) number _ says_.stands).1 says_.decided)
   packet_sent stays to p _ h_ = tt
@@ -429,7 +429,7 @@ module _ (rules : Rules) (events : List Event) (e : Event) (c : Cause) (step : S
       (λ f. f))
 
   fitted_step : Fitted rules v t
-  unfolding stepped
+  unfolding with_step
   fitted_step = record {
     nodes = λ j. split (j == i) (λ y. rw y node_now) (λ f. rw f (h.nodes j));
     letters = λ k l at. ⊎_elim
@@ -446,8 +446,8 @@ first_fits : (rules : Rules) (name number : ℕ) → MayFound rules → number �
 first_fits rules name number may within =
     let list = founders_view rules ∷ [] in
     let rows = long_told (take (number - 0) list) in
-    let count = length-map (told (take (number - 0) list)).rows member_life in
-    let most = few_size (members_of (told (take (number - 0) list))) in
+    let count = length-map (image_of (take (number - 0) list)).rows member_life in
+    let most = few_size (members_of (image_of (take (number - 0) list))) in
     let window = may.window_least in
     omega arith
 

@@ -18,14 +18,14 @@ use Rattle.am_chain_moves.specs.Runs.{Completes, counts_for}
 use Rattle.am_model.specs.Node.{Node, lowest_or_first}
 use Rattle.am_model.specs.Emit.{Step}
 use Rattle.am_model.specs.World as worlds
-use Rattle.am_model.specs.World.{Decided, World, start, current, is_stopped, views_after, unchanged, stepped, lives_on, happens, happen, run}
-use Rattle.am_model.specs.Lawful.{is_complete, is_lawful, Watch, watch_start, watched, greatest_complete, broken_at}
+use Rattle.am_model.specs.World.{Decided, World, start, current, is_stopped, views_after, with_record, with_step, lives_on, happens, run}
+use Rattle.am_model.specs.Lawful.{is_complete, is_lawful, Watch, watch_start, watch_run, greatest_complete, broken_at}
 use Rattle.am_model.specs.Claims.{BecameComplete}
 use Rattle.am_model.proofs.Greatest.{split, and_both}
 use Rattle.am_model.proofs.Runs.{watched_is_run}
 use Rattle.am_effects.specs.Causes.{Cause}
 use Rattle.am_effects.specs.Events as event
-use Rattle.am_effects.specs.Events.{actor, IsCause, IsIdle, Happens, idles, returns, steps}
+use Rattle.am_effects.specs.Events.{actor, IsIdle, Happens, idles, returns, steps}
 use Rattle.am_effects.proofs.Events.{events_have_effects}
 use Rattle.am_effects.proofs.Items.{all_get, get_front}
 use Rattle.am_effects.proofs.Runs.{runs_keep}
@@ -159,7 +159,7 @@ pub record Quiet (w v : World) (s t : Group) : Type 0 where
 
 pub record KeptBy (P : World → Group → Type 0) (rules : Rules) : Type 0 where
   pub by_step : {events : List Event} {e : Event} {c : Cause} {step : Step} {s t : Group} → OneStep rules events e c step s t
-      → P (run rules events) s → P (stepped (run rules events) e (actor (run rules events) e) step) t
+      → P (run rules events) s → P (with_step (run rules events) e (actor (run rules events) e) step) t
   pub by_quiet : (w v : World) (s t : Group) → Quiet w v s t → P w s → P v t
 
 -- it is marked, and noted
@@ -172,7 +172,7 @@ pub record Held (P : World → Group → Type 0) (rules : Rules) (events : List 
   pub to : Group
   pub follows : Following rules (run rules events) to
   pub shaped : Shaped to
-  pub tied : Tied (watched rules events) to
+  pub tied : Tied (watch_run rules events) to
   pub became : (d : Decided) → BecameComplete rules events d → Became (run rules events) to d
   pub is : P (run rules events) to
 
@@ -216,29 +216,26 @@ quiet_after P rules keeps events w v r is h same views idle records (stop i stan
 with_more : (xs ys : List ℕ) (name : ℕ) → list_any (λ x. x == name) xs ≡ true → list_any (λ x. x == name) (xs ++ ys) ≡ true
 with_more xs ys name there = list_any-append (λ x. x == name) xs ys ∙ rw there refl
 
-stays_idle : (w : World) (e : Event) (o : Outcome) → Stays w (unchanged w e o)
-unfolding unchanged
-stays_idle w e o = record { nodes = refl; letters = refl; group = refl; more = (worlds.record_of w e o [] ∷ [], refl); stopped = λ j z. z }
+-- an event that changes at most who has stopped, and how many lives places have
+stays_but : (w : World) (e : Event) (o : Outcome) (stopped : List ℕ) (lives : ℕ → ℕ)
+    → ((name : ℕ) → is_stopped w name ≡ true → list_any (λ x. x == name) stopped ≡ true)
+    → Stays w (record (with_record w e o) { stopped = stopped; lives = lives })
+unfolding with_record
+stays_but w e o stopped lives up =
+    record { nodes = refl; letters = refl; group = refl; more = (worlds.record_of w e o [] ∷ [], refl); stopped = up }
 
-stays_stop : (w : World) (e : Event) (o : Outcome) (name : ℕ) → Stays w (unchanged (record w { stopped = w.stopped ++ name ∷ [] }) e o)
-unfolding unchanged
-stays_stop w e o name = record {
-  nodes = refl;
-  letters = refl;
-  group = refl;
-  more = (worlds.record_of w e o [] ∷ [], refl);
-  stopped = λ j z. with_more w.stopped (name ∷ []) j z;
-}
+stays_idle : (w : World) (e : Event) (o : Outcome) → Stays w (with_record w e o)
+unfolding with_record
+stays_idle w e o = stays_but w e o w.stopped w.lives (λ j z. z)
 
-stays_return : (w : World) (e : Event) (o : Outcome) (place : ℕ) → Stays w (lives_on (unchanged w e o) place)
-unfolding unchanged
-stays_return w e o place = record {
-  nodes = refl;
-  letters = refl;
-  group = refl;
-  more = (worlds.record_of w e o [] ∷ [], refl);
-  stopped = λ j z. split (is_stopped w (current w place)) (λ t. rw t z) (λ f. rw f (with_more w.stopped (current w place ∷ []) j z));
-}
+stays_stop : (w : World) (e : Event) (o : Outcome) (name : ℕ) → Stays w (with_record (record w { stopped = w.stopped ++ name ∷ [] }) e o)
+unfolding with_record
+stays_stop w e o name = stays_but w e o (w.stopped ++ name ∷ []) w.lives (with_more w.stopped (name ∷ []))
+
+stays_return : (w : World) (e : Event) (o : Outcome) (place : ℕ) → Stays w (lives_on (with_record w e o) place)
+unfolding with_record
+stays_return w e o place = stays_but w e o (lives_on (with_record w e o) place).stopped (lives_on (with_record w e o) place).lives
+    (λ j z. split (is_stopped w (current w place)) (λ t. rw t z) (λ f. rw f (with_more w.stopped (current w place ∷ []) j z)))
 
 views_stay : (views : List Decided) (m n : Node) (k : ℕ) (d : Decided) → slice_get views k ≡ Some d → slice_get (views_after views m n) k ≡ Some d
 views_stay views m n k d at = split (worlds.decides m n) (λ t. rw t (get_front views (worlds.last_view n ∷ []) k d at)) (λ f. rw f at)
@@ -246,7 +243,7 @@ views_stay views m n k d at = split (worlds.decides m n) (λ t. rw t (get_front 
 module _ (P : World → Group → Type 0) (rules : Rules) (keeps : KeptBy P rules) (moving : StepsMove) (may : MayFound rules) where
   after_event : (events : List Event) (e : Event) (v : World) → Happens (run rules events) e v → v ≡ happens (run rules events) e → (h : Held P rules events)
       → After P rules (run rules events) v h.to
-  unfolding unchanged stepped
+  unfolding with_record with_step
   after_event events e v (idles o idle) is h =
       let w = run rules events in
       quiet_after P rules keeps events w v (worlds.record_of w e o []) refl h (stays_idle w e o) refl idle refl (idle_stands w e o h.to h.follows.stands)
@@ -268,11 +265,7 @@ module _ (P : World → Group → Type 0) (rules : Rules) (keeps : KeptBy P rule
         noted = λ k d at. views_stay w.views (w.nodes (actor w e)) step.node k d at;
         is = keeps.by_quiet v v f.to (given f.to) (record { stays = stays_same v; grows = grows_given f.to; current = refl; chosen = refl; idle = inl refl })
             (keeps.by_step (record {
-              may = may;
-              runs = runs;
-              cause = cause;
-              effect = effect;
-              is = is;
+              step_ = record { may = may; runs = runs; cause = cause; effect = effect; is = is };
               old = h.follows;
               path = f.path;
               grows = f.grows;
@@ -286,8 +279,8 @@ module _ (P : World → Group → Type 0) (rules : Rules) (keeps : KeptBy P rule
   next events e h whole =
       let w = run rules events in
       let all = events ++ e ∷ [] in
-      let old = watched rules events in
-      let new = watched rules all in
+      let old = watch_run rules events in
+      let new = watch_run rules all in
       let pushed = watch_push (watch_start rules) events e in
       let here : run rules all ≡ happens w e = run_push rules events e in
       let there : new.world ≡ run rules all = watched_is_run rules all in

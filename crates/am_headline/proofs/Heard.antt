@@ -14,8 +14,8 @@ use Rattle.am_group.specs.Journals.{letter_at}
 use Rattle.am_model.specs.Node.{Node}
 use Rattle.am_model.specs.Emit.{Step, finish}
 use Rattle.am_model.specs.Lengths.{packet_length}
-use Rattle.am_model.specs.Step.{hear, refused}
-use Rattle.am_model.specs.World.{World, is_stopped, has_departed, unchanged, stepped, heard, hear_cut, acts_as, happens}
+use Rattle.am_model.specs.Step.{hear, hear_refusal}
+use Rattle.am_model.specs.World.{World, is_stopped, has_departed, with_record, with_step, hears_letter, hear_cut, acts_as, happens}
 use Rattle.am_effects.specs.Causes.{Cause}
 use Rattle.am_effects.specs.Changes.{Change, refreshes, settles, begins_list, departs}
 use Rattle.am_effects.specs.Changes.{looks, asks_to_join, closes}
@@ -31,14 +31,14 @@ pub data HeardAs (m n : Node) (p : Packet) : Type 0 where
   whole_packet : n ≡ (hear m p).node → HeardAs m n p
   too_short : n.core.log ≡ m.core.log → m.core.base ≤ n.core.base → HeardAs m n p
 
-refused_so : (m : Node) (cause : ℕ) → ((refused m cause).node.core.log ≡ m.core.log) × (m.core.base ≤ (refused m cause).node.core.base)
-unfolding refused finish
+refused_so : (m : Node) (cause : ℕ) → ((hear_refusal m cause).node.core.log ≡ m.core.log) × (m.core.base ≤ (hear_refusal m cause).node.core.base)
+unfolding hear_refusal finish
 refused_so m cause = let r = rests_at_end m in (r.log, r.rests.base)
 
 cut_node : (m : Node) (keep : ℕ) (p : Packet) → HeardAs m (hear_cut m keep p).node p
 cut_node m keep p = by_test (nat_le (packet_length p) keep) (nat_lt keep 12)
   where
-    by_test : (whole none : Bool) → HeardAs m (if whole then hear m p else if none then refused m 1 else refused m 5).node p
+    by_test : (whole none : Bool) → HeardAs m (if whole then hear m p else if none then hear_refusal m 1 else hear_refusal m 5).node p
     by_test true none = whole_packet refl
     by_test false true = (let r = refused_so m 1 in too_short r.0 r.1)
     by_test false false = (let r = refused_so m 5 in too_short r.0 r.1)
@@ -52,13 +52,13 @@ gates true false u v s p q = refl
 gates false d u v s p q = absurd (cc)
 
 heard_node : (w : World) (e : Event) (name : ℕ) (hearing : Packet → Step) (o : Option Letter) (l : Letter) → o ≡ Some l → is_for l name ≡ true
-    → is_stopped w name ≡ false → (heard w e name hearing o).nodes name ≡ (hearing l.packet).node
-unfolding stepped
+    → is_stopped w name ≡ false → (hears_letter w e name hearing o).nodes name ≡ (hearing l.packet).node
+unfolding with_step
 heard_node w e name hearing None l is for_ runs = absurd (cc)
 heard_node w e name hearing (Some x) l is for_ runs =
     let same : x ≡ l = cc in
     let mine : is_for x name ≡ true = ap (λ y. is_for y name) same ∙ for_ in
-    let at = gates (is_for x name) (is_stopped w name) (unchanged w e said.NotAddressed) (unchanged w e said.IsStopped) (stepped w e name (hearing x.packet))
+    let at = gates (is_for x name) (is_stopped w name) (with_record w e said.NotAddressed) (with_record w e said.IsStopped) (with_step w e name (hearing x.packet))
     mine runs in
     ap (λ (v : World). v.nodes name) at ∙ set_here w.nodes name (hearing x.packet).node ∙ ap (λ (y : Letter). (hearing y.packet).node) same
 
@@ -73,8 +73,8 @@ acts_node w e name (act.Cut number keep) p h runs =
 acts_node w e name _ p h runs = absurd (let z = h.there in cc)
 
 pub heard_as : (w : World) (e : Event) (step : Step) (p : Packet) → WasSentTo w (actor w e) e.act p → is_stopped w (actor w e) ≡ false
-    → stepped w e (actor w e) step ≡ happens w e → HeardAs (w.nodes (actor w e)) step.node p
-unfolding happens stepped
+    → with_step w e (actor w e) step ≡ happens w e → HeardAs (w.nodes (actor w e)) step.node p
+unfolding happens with_step
 heard_as w e step p h runs is =
     let same : step.node ≡ (happens w e).nodes (actor w e) = sym (set_here w.nodes (actor w e) step.node) ∙ ap (λ (v : World). v.nodes (actor w e)) is in
     subst (λ n. HeardAs (w.nodes (actor w e)) n p) (sym same) (acts_node w e (actor w e) e.act p h runs)

@@ -19,7 +19,7 @@ use Rattle.am_chain_moves.specs.Kept as groups
 use Rattle.am_model.specs.Node.{view, lowest_or_first}
 use Rattle.am_model.specs.Group.{accepted_sends, has_log}
 use Rattle.am_model.specs.World.{Decided, World, happens, run}
-use Rattle.am_model.specs.Lawful.{Watch, watched, watch_start, broken_at, lawful_front}
+use Rattle.am_model.specs.Lawful.{Watch, watch_run, watch_start, broken_at, lawful_front}
 use Rattle.am_model.specs.Claims.{BeginsAt, Segment, line_of, BecameComplete, KeepsView, Holds, HeadlineHolds}
 use Rattle.am_model.proofs.Greatest.{split}
 use Rattle.am_model.proofs.Beginnings.{runs_begin}
@@ -65,7 +65,7 @@ before_whole : (rules : Rules) (a b : List Event) → broken_at rules (a ++ b) �
 before_whole rules a [] h = ap (broken_at rules) (sym (append-nil a)) ∙ h
 before_whole rules a (e ∷ b) h =
     let one = before_whole rules (a ++ e ∷ []) b (ap (broken_at rules) (append_assoc a (e ∷ []) b) ∙ h) in
-    (unbroken (watched rules a) e (ap (λ (x : Watch). x.broken) (sym (watch_push (watch_start rules) a e)) ∙ one)).before
+    (unbroken (watch_run rules a) e (ap (λ (x : Watch). x.broken) (sym (watch_push (watch_start rules) a e)) ∙ one)).before
 
 -- ---- a complete view
 

@@ -19,10 +19,10 @@ use Rattle.am_sender.specs.declared.OwnSend.{OwnSend}
 use Rattle.am_sender.specs.Sends as own
 use Rattle.am_model.specs.declared.status.Status.{Status}
 use Rattle.am_model.specs.declared.status.Status.TheVariants as status
-use Rattle.am_model.specs.Node.{Node, is_member, is_asking, is_sequencer, waiting, unsettled, pushed}
-use Rattle.am_model.specs.Joining.{begun}
+use Rattle.am_model.specs.Node.{Node, is_member, is_asking, is_sequencer, waiting, unsettled_count, push_entry}
+use Rattle.am_model.specs.Joining.{begin_list}
 use Rattle.am_model.specs.Group.{has_log}
-use Rattle.am_model.specs.Refresh.{advance, lead, refresh, settle, settled, settled_at, accepted_at, refresh_at_end}
+use Rattle.am_model.specs.Refresh.{advance, lead, refresh, settle, settle_waiting, settle_at, accepted_at, refresh_at_end}
 use Rattle.am_model.specs.World.{has_departed}
 use Rattle.am_model.proofs.Greatest.{split, and_both}
 use Rattle.am_group.specs.Journals.{item_at}
@@ -35,7 +35,7 @@ use Rattle.am_effects.proofs.Statuses.{logged, asking_log}
 use Rattle.am_unballoted.proofs.Chains.{front, Gave, nothing, took, began, at_least, gave_begun, still_log}
 use Rattle.am_unballoted.proofs.Changes.{found_at}
 use Rattle.am_headline.proofs.Ways as kinds
-use Rattle.am_headline.proofs.Ways.{Alike, Kind, closed, pushed_alike}
+use Rattle.am_headline.proofs.Ways.{Alike, Kind, pushed_alike}
 
 -- ---- sends that are settled
 
@@ -231,18 +231,12 @@ module _ (group : List Entry) (i : ℕ) (c : Cause) (o : Outcome) (m : Node) whe
   inside_alike x y a h =
       let log = ap has_log a.status in
       let front_ : front y ≡ front x = λ j. max (a.taken j) (a.start j - 1) in
-      let up = a.base in
-      let kept = h.kept in
-      let start = a.log_start in
-      let taken_ = a.taken in
-      let acc_ = a.acc in
-      let low = h.taken in
       record {
         gave = gave_still m x y front_ a.start log h.gave;
         order = record {
-          kept = omega arith;
-          taken = omega arith;
-          passed = λ below. (let st = ap (λ t. t - 1) a.start in let z = h.passed (omega arith) in omega arith);
+          kept = omega (arith, h.kept, a.log_start, a.base);
+          taken = omega (arith, h.taken, a.taken, a.acc);
+          passed = λ below. (let st = ap (λ t. t - 1) a.start in let given = a.taken in let z = h.passed (omega arith) in omega (arith, a.acc));
         };
         departed = λ t. (let d = h.departed t in (ap has_departed a.status ∙ d.0, front_ ∙ d.1));
         leaves = λ t. a.leaving ∙ h.leaves t;
@@ -250,7 +244,7 @@ module _ (group : List Entry) (i : ℕ) (c : Cause) (o : Outcome) (m : Node) whe
         silent = λ t. ap (λ (q : own.Sends). own.waiting q) a.sends ∙ h.silent (sym a.leaving ∙ t);
         bare = λ t. a.acc ∙ h.bare (sym log ∙ t);
         sends = subst (λ (q : own.Sends). All (SendIn group i m y) q.queue) (sym a.sends)
-            (sends_on group i m x y x.sends.queue (λ req number f. fresh_on m x y req number a.who a.log_start (a.more, a.entries) (omega arith) f) h.sends);
+            (sends_on group i m x y x.sends.queue (λ req number f. fresh_on m x y req number a.who a.log_start (a.more, a.entries) (omega (arith, a.acc)) f) h.sends);
       }
 
   inside_refreshed : (x : Node) → (has_log x.status ≡ false → x.core.told ≡ 0) → Inside group i c o m x → Inside group i c o m (refresh x)
@@ -282,12 +276,28 @@ module _ (group : List Entry) (i : ℕ) (c : Cause) (o : Outcome) (m : Node) whe
       (λ t. absurd (let none = h.silent (h.gone (h.departed t).0) in cc))
       (λ f. f)
 
+  -- only the sends change
+  inside_sends : (x : Node) (q : own.Sends) → (x.leaving ≡ true → own.waiting q ≡ None) → All (SendIn group i m x) q.queue → Inside group i c o m x
+      → Inside group i c o m (record x { sends = q })
+  inside_sends x q silent sends h =
+      let y = record x { sends = q } in
+      record {
+        gave = gave_still m x y refl refl refl h.gave;
+        order = h.order;
+        departed = h.departed;
+        leaves = h.leaves;
+        gone = h.gone;
+        silent = silent;
+        bare = h.bare;
+        sends = sends;
+      }
+
   inside_settled_at : (x : Node) (req : ℕ) (at : Option ℕ) → accepted_at x req ≡ at → has_departed m.status ≡ false → x.leaving ≡ false
-      → Inside group i c o m x → Inside group i c o m (settled_at x req at)
+      → Inside group i c o m x → Inside group i c o m (settle_at x req at)
   inside_settled_at x req None is up stays h = h
   inside_settled_at x req (Some k) is up stays h =
       let number = x.core.base + 1 + k in
-      let y = settled_at x req (Some k) in
+      let y = settle_at x req (Some k) in
       let f = found_at x req k is in
       let kept = h.kept in
       let low = f.low in
@@ -299,19 +309,10 @@ module _ (group : List Entry) (i : ℕ) (c : Cause) (o : Outcome) (m : Node) whe
         low = omega arith;
         stays = up;
       } in
-      record {
-        gave = gave_still m x y refl refl refl h.gave;
-        order = h.order;
-        departed = h.departed;
-        leaves = h.leaves;
-        gone = h.gone;
-        silent = λ t. absurd (cc);
-        bare = h.bare;
-        sends = All-map (SendIn group i m y) (own.settle_send req number) x.sends.queue
-            (All-weaker (SendIn group i m x) (λ s. SendIn group i m y (own.settle_send req number s))
-            (λ s old. now_settled x y req number s fresh old)
-            x.sends.queue h.sends);
-      }
+      inside_sends x y.sends (λ t. absurd (cc)) (All-map (SendIn group i m y) (own.settle_send req number) x.sends.queue
+      (All-weaker (SendIn group i m x) (λ s. SendIn group i m y (own.settle_send req number s))
+      (λ s old. now_settled x y req number s fresh old)
+      x.sends.queue h.sends)) h
     where
       now_settled : (x y : Node) (req number : ℕ) (s : OwnSend) → Fresh m y req number → SendIn group i m y s
           → SendIn group i m y (own.settle_send req number s)
@@ -319,15 +320,15 @@ module _ (group : List Entry) (i : ℕ) (c : Cause) (o : Outcome) (m : Node) whe
           (λ t. let same : req ≡ s.req = grind (arith, nat_tests) in rw t (inr (subst (λ r. Fresh m y r number) same fresh)))
           (λ f. rw f old)
 
-  inside_settled : (x : Node) (w : Option OwnSend) → waiting x ≡ w → Inside group i c o m x → Inside group i c o m (settled x w)
+  inside_settled : (x : Node) (w : Option OwnSend) → waiting x ≡ w → Inside group i c o m x → Inside group i c o m (settle_waiting x w)
   inside_settled x None is h = h
   inside_settled x (Some s) is h = inside_settled_at x s.req (accepted_at x s.req) refl (stays_up x s is h)
       (split x.leaving (λ t. absurd (let none = h.silent t in cc)) (λ f. f)) h
 
   inside_begun : (x : Node) (s : ℕ) (v : Stamp) (base join : ℕ) (image : Image) → c ≡ hears (packet.Welcome s v base join image) → o ≡ said.Welcomed join
-      → MayBeWelcomed x s v base join image → Inside group i c o m x → Inside group i c o m (begun x v base join image)
+      → MayBeWelcomed x s v base join image → Inside group i c o m x → Inside group i c o m (begin_list x v base join image)
   inside_begun x s v base join image is says may h =
-      let y = begun x v base join image in
+      let y = begin_list x v base join image in
       let none = asking_log x.status (asking x s v base join image may) in
       let bare = h.bare none in
       record {
@@ -357,22 +358,6 @@ module _ (group : List Entry) (i : ℕ) (c : Cause) (o : Outcome) (m : Node) whe
         sends = h.sends;
       }
 
-  -- only the sends change
-  inside_sends : (x : Node) (q : own.Sends) → (x.leaving ≡ true → own.waiting q ≡ None) → All (SendIn group i m x) q.queue → Inside group i c o m x
-      → Inside group i c o m (record x { sends = q })
-  inside_sends x q silent sends h =
-      let y = record x { sends = q } in
-      record {
-        gave = gave_still m x y refl refl refl h.gave;
-        order = h.order;
-        departed = h.departed;
-        leaves = h.leaves;
-        gone = h.gone;
-        silent = silent;
-        bare = h.bare;
-        sends = sends;
-      }
-
   inside_collected : (x : Node) (req : ℕ) → Inside group i c o m x → Inside group i c o m (record x { sends = own.collect req x.sends })
   inside_collected x req h = split (own.is_settled req x.sends)
       (λ t. rw t (inside_sends x (own.without_request req x.sends) (λ u. none_left (λ s. not (own.is_request req s)) x.sends.queue (h.silent u))
@@ -396,7 +381,7 @@ module _ (group : List Entry) (i : ℕ) (c : Cause) (o : Outcome) (m : Node) whe
         sends = h.sends;
       }
 
-  inside_asked : (x : Node) → nat_lt 0 (unsettled x) ≡ false → Inside group i c o m x → Inside group i c o m (record x { leaving = true })
+  inside_asked : (x : Node) → nat_lt 0 (unsettled_count x) ≡ false → Inside group i c o m x → Inside group i c o m (record x { leaving = true })
   inside_asked x none h =
       let y = record x { leaving = true } in
       record {
@@ -425,7 +410,7 @@ module _ (group : List Entry) (i : ℕ) (c : Cause) (o : Outcome) (m : Node) whe
       (λ t. absurd (let d = (h.departed t).0 in let s = ap has_departed was in cc)) (λ t. absurd (cc)) h
   inside_kind x y (kinds.asked_out was done) bare h = inside_asked x (or_first _ _ done) h
   inside_kind x y (kinds.gone member leaves) bare h =
-      let p = pushed x (Leave x.core.who) in
+      let p = push_entry x (Leave x.core.who) in
       let log = logged x.status member in
       let a = inside_alike x p (pushed_alike x (Leave x.core.who)) h in
       let b = inside_refreshed p (λ none. absurd (cc)) a in

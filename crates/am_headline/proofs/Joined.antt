@@ -13,7 +13,7 @@ use Rattle.am_packet.specs.Boxes.{Letter}
 use Rattle.am_packet.specs.Kinds.{goes_to_any}
 use Rattle.am_group.specs.Addressed.{is_for}
 use Rattle.am_group.specs.Journals.{item_at}
-use Rattle.am_chain_lists.specs.Whole.{Begins, IsGood, told, mem}
+use Rattle.am_chain_lists.specs.Whole.{Begins, IsGood, image_of, mem}
 use Rattle.am_chain_lists.proofs.Rows.{In, row_at}
 use Rattle.am_chain_lists.proofs.Prefixes.{begins_take, length_take}
 use Rattle.am_chain_lists.proofs.Members.{good_begins, told_push, long_told, mem_in, in_mem, mem_viewed}
@@ -48,11 +48,11 @@ becomes_at list name j good low member first =
     let here : mem (a ++ e ∷ []) name ≡ true = subst (λ l. mem l name ≡ true) r.1 member in
     let long = length_take j list (omega arith) in
     by_kind a e r.2 good_a (λ before. first a (begins_take j list) (omega arith) before) long
-    (became (told a) (1 + length a) e name (long_told a) (omega arith)
+    (became (image_of a) (1 + length a) e name (long_told a) (omega arith)
     (subst (λ (i : Image). In (row_at i (place_of name)) (life_of name)) (told_push a e) (mem_in (a ++ e ∷ []) name here)))
   where
     by_kind : (a : List Entry) (e : Entry) → slice_get list j ≡ Some e → IsGood a → (mem a name ≡ true → ⊥) → length a ≡ j
-        → Becomes (told a) (1 + length a) e name → (slice_get list j ≡ Some (Join name)) ⊎ (j ≡ 0)
+        → Becomes (image_of a) (1 + length a) e name → (slice_get list j ≡ Some (Join name)) ⊎ (j ≡ 0)
     by_kind a e at good_a none long (stayed old same) = absurd (none (in_mem a name old))
     by_kind a e at good_a none long (joins is same) = inl (at ∙ ap Some is)
     by_kind a e at good_a none long (founds viewed blank_ same) =

@@ -10,7 +10,7 @@ use Rattle.am_group.specs.declared.event.Event.{Event}
 use Rattle.am_group.specs.declared.event.Record.{Record}
 use Rattle.am_group.specs.Deliveries.{name_of}
 use Rattle.am_group.proofs.Places.{get_before}
-use Rattle.am_model.specs.World.{World, record_of, unchanged, stepped, happens, run}
+use Rattle.am_model.specs.World.{World, record_of, with_record, with_step, happens, run}
 use Rattle.am_model.proofs.Beginnings.{runs_begin}
 use Rattle.am_model.proofs.Runs.{one_record_each}
 use Rattle.am_effects.specs.Events as event
@@ -77,7 +77,7 @@ pub given_then : (rules : Rules) (events : List Event) (e : Event) (v : World) (
     → Told rules (run rules events)
     → Happens (run rules events) e v → slice_get v.records (length (run rules events).records) ≡ Some r → r.outcome ≡ said.Took number x
     → GivenThen (run rules events) e number x r
-unfolding unchanged stepped
+unfolding with_record with_step
 given_then rules events e v number x r may h (idles o idle) at says =
     let w = run rules events in
     let same = last_of w.records (record_of w e o []) r at in

@@ -8,7 +8,7 @@ use Rattle.am_chain_moves.specs.Group.{Group}
 use Rattle.am_chain_moves.specs.Kept.{Kept}
 use Rattle.am_model.specs.Node.{Node, lowest_or_first}
 use Rattle.am_model.specs.Emit.{Step}
-use Rattle.am_model.specs.World.{World, group_after, start, is_stopped, stepped, happens, happen, run}
+use Rattle.am_model.specs.World.{World, group_after, start, is_stopped, with_step, happens, happen, run}
 use Rattle.am_model.proofs.Runs.{runs_go_on}
 use Rattle.am_effects.specs.Causes.{Cause}
 use Rattle.am_effects.specs.Effects.{Effect}
@@ -38,20 +38,26 @@ parts rules events e step = record {
   i = actor (run rules events) e;
   m = (run rules events).nodes (actor (run rules events) e);
   n = step.node;
-  v = stepped (run rules events) e (actor (run rules events) e) step;
+  v = with_step (run rules events) e (actor (run rules events) e) step;
 }
 
-pub record OneStep (rules : Rules) (events : List Event) (e : Event) (c : Cause) (step : Step) (s t : Group) : Type 0 where
+-- that the event of this run is this step
+pub record IsStep (rules : Rules) (events : List Event) (e : Event) (c : Cause) (step : Step) : Type 0 where
   pub may : MayFound rules
   pub runs : is_stopped (run rules events) (actor (run rules events) e) ≡ false
   pub cause : IsCause (run rules events) (actor (run rules events) e) e.act c
   pub effect : Effect ((run rules events).nodes (actor (run rules events) e)) c step
-  pub is : stepped (run rules events) e (actor (run rules events) e) step ≡ happens (run rules events) e
+  pub is : with_step (run rules events) e (actor (run rules events) e) step ≡ happens (run rules events) e
+
+-- and what the group that follows the run comes to by it
+pub record OneStep (rules : Rules) (events : List Event) (e : Event) (c : Cause) (step : Step) (s t : Group) : Type 0 where
+  pub step_ : IsStep rules events e c step
+  pub open step_ use *
   pub old : Following rules (run rules events) s
   pub path : Moves s t
   pub grows : Grows s t
   pub shaped : Shaped t
-  pub new : Following rules (stepped (run rules events) e (actor (run rules events) e) step) t
+  pub new : Following rules (with_step (run rules events) e (actor (run rules events) e) step) t
 
 -- a run of one event more
 pub run_push : (rules : Rules) (events : List Event) (e : Event) → run rules (events ++ e ∷ []) ≡ happens (run rules events) e
@@ -80,7 +86,7 @@ pub record Plain (rules : Rules) (events : List Event) (e : Event) (step : Step)
 
 pub plain : {rules : Rules} {events : List Event} {e : Event} {c : Cause} {step : Step} {s t : Group} → OneStep rules events e c step s t
     → Plain rules events e step s t (parts rules events e step)
-unfolding stepped
+unfolding with_step
 plain {rules = rules} {events = events} {e = e} {step = step} {s = s} {t = t} x = record {
   few = few;
   kept_s = group_kept rules.founders (lowest_or_first rules.founders) rules.resilience s x.old.group;

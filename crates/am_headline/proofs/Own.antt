@@ -11,7 +11,7 @@ use Rattle.am_chain_moves.specs.Group.{Group}
 use Rattle.am_chain_moves.specs.Kept.{Kept}
 use Rattle.am_model.specs.Node.{Node, view}
 use Rattle.am_model.specs.Lawful.{whole}
-use Rattle.am_model.specs.World.{World, grown, group_after}
+use Rattle.am_model.specs.World.{World, group_with, group_after}
 use Rattle.am_model.proofs.Greatest.{split}
 use Rattle.am_stands.specs.Standing.{NameStands, FrontsStand}
 use Rattle.am_unballoted.proofs.Lists.{get_item, item_taken}
@@ -43,7 +43,7 @@ taken_in_group w s i number e k h f group low at =
 
 -- a new number of the group list has the entry of the name's list
 grown_item : (group : List Entry) (n : Node) (index number : ℕ) (e : Entry) → n.core.log.start ≤ length group → number ≡ n.core.log.start + index + 1
-    → length group < number → number ≤ n.core.acc → slice_get n.core.log.entries index ≡ Some e → item_at (grown group n.core) number ≡ Some e
+    → length group < number → number ≤ n.core.acc → slice_get n.core.log.entries index ≡ Some e → item_at (group_with group n.core) number ≡ Some e
 grown_item group n index number e start is above low at =
     let j = number - length group - 1 in
     let more = take (n.core.acc - length group) (drop (length group - n.core.log.start) n.core.log.entries) in

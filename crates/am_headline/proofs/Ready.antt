@@ -90,7 +90,7 @@ stands_marked v s complete h = record {
   fronts = h.fronts;
   views = record {
     noted = λ k d at. (let n = h.views.noted k d at in
-        record { decided = n.decided; stamp = n.stamp; members = n.members; resilience = n.resilience; number = n.number; line = n.line; opens = n.opens });
+        record { decided = n.decided; chose = n.chose; line = n.line; opens = n.opens });
     decided = h.views.decided;
     current = h.views.current;
   };

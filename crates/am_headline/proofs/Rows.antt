@@ -13,14 +13,14 @@ use Rattle.am_core.specs.Cores.{CoreState}
 use Rattle.am_packet.specs.declared.packet.Packet.{Packet}
 use Rattle.am_packet.specs.declared.packet.Packet.TheVariants as packet
 use Rattle.am_model.specs.declared.status.Status.TheVariants.{Departed}
-use Rattle.am_model.specs.Node.{Node, Ballot, top, told, view, has_own_leave, is_within_bound, pushed, trimmed}
+use Rattle.am_model.specs.Node.{Node, Ballot, top, image_of, view, has_own_leave, is_within_bound, push_entry, trim_up_to}
 use Rattle.am_model.specs.Emit.{Plan, quiet, finish}
-use Rattle.am_model.specs.Ballots.{promised, decide}
+use Rattle.am_model.specs.Ballots.{with_promise, decide}
 use Rattle.am_model.specs.Calls.{is_unfinished}
 use Rattle.am_model.specs.Hearing.{hears_member, hears_sequencer, hear_row}
-use Rattle.am_model.specs.Receiving.{is_view, noted, store, received, data_of, body_of, bcast_row, order_row}
+use Rattle.am_model.specs.Receiving.{is_view, with_noted, store, receive_entry, data_of, body_of, bcast_row, order_row}
 use Rattle.am_model.specs.Refresh.{refresh_at_end}
-use Rattle.am_model.specs.Resets.{fetched, caught_up, fetched_for, fetches_from, piece_promised, piece_for, piece_row, result_row}
+use Rattle.am_model.specs.Resets.{push_fetched, catch_up, decide_anew, fetches_from, piece_promised, piece_for, piece_row, result_row}
 use Rattle.am_model.specs.Step.{hear}
 use Rattle.am_model.proofs.Greatest.{split, and_both}
 use Rattle.am_effects.proofs.Rests.{rests_at_end}
@@ -69,7 +69,7 @@ from_same m p x base number e P log low (one why h) = one why (record {
 stored_one : (m : Node) (s base number : ℕ) (e : Entry) (missing : Outcome) → number ≡ top m + 1 → base ≤ m.core.base
     → Does m (store m s number (Some e) missing).node base number e (is_view e ≡ false)
 stored_one m s base number e missing next low = either m base number e (is_view e ≡ false)
-    (is_view e || (not (fits (told m) e) || not (is_within_bound m m.core.base number))) (quiet m said.Unfit) _
+    (is_view e || (not (fits (image_of m) e) || not (is_within_bound m m.core.base number))) (quiet m said.Unfit) _
     (λ t. nothing refl (omega arith))
     (λ f. one (or_first _ _ f) (record { next = next; base_ = low; start = refl; more = []; entries = sym (append-nil (m.core.log.entries ++ e ∷ [])) }))
   where
@@ -78,7 +78,7 @@ stored_one m s base number e missing next low = either m base number e (is_view 
     or_first false b h = refl
 
 received_one : (m p : Node) (s base number : ℕ) (e : Entry) (missing : Outcome) → p.core.log ≡ m.core.log → m.core.base ≤ p.core.base
-    → (nat_lt p.core.taken base ≡ false → base ≤ p.core.base) → Does m (received p s base number (Some e) missing).node base number e (is_view e ≡ false)
+    → (nat_lt p.core.taken base ≡ false → base ≤ p.core.base) → Does m (receive_entry p s base number (Some e) missing).node base number e (is_view e ≡ false)
 received_one m p s base number e missing log up low = from_same m p _ base number e (is_view e ≡ false) log up
     (either p base number e _ (nat_le number (top p)) (quiet p said.Known) _ (λ t. nothing refl (omega arith))
     (λ new. either p base number e _ (has_own_leave p) (quiet p said.Behind) _ (λ t. nothing refl (omega arith))
@@ -87,14 +87,14 @@ received_one m p s base number e missing log up low = from_same m p _ base numbe
     (λ f. (let next : number ≡ top p + 1 = grind (arith, nat_tests) in stored_one p s base number e missing next (low f)))))))
 
 missing_one : (m p : Node) (s base number : ℕ) (e : Entry) (missing : Outcome) (P : Type 0) → p.core.log ≡ m.core.log → m.core.base ≤ p.core.base
-    → Does m (received p s base number None missing).node base number e P
+    → Does m (receive_entry p s base number None missing).node base number e P
 missing_one m p s base number e missing P log up = from_same m p _ base number e P log up
     (either p base number e _ (nat_le number (top p)) (quiet p said.Known) _ (λ t. nothing refl (omega arith))
     (λ new. either p base number e _ (has_own_leave p) (quiet p said.Behind) _ (λ t. nothing refl (omega arith))
     (λ stays. either p base number e _ (nat_lt (top p + 1) number) _ _ (λ t. nothing refl (omega arith))
     (λ near. either p base number e _ (nat_lt p.core.taken base) (quiet p said.Behind) _ (λ t. nothing refl (omega arith)) (λ f. nothing refl (omega arith))))))
 
-noted_low : (m : Node) (base acc : ℕ) → nat_lt (noted m base acc).core.taken base ≡ false → base ≤ (noted m base acc).core.base
+noted_low : (m : Node) (base acc : ℕ) → nat_lt (with_noted m base acc).core.taken base ≡ false → base ≤ (with_noted m base acc).core.base
 noted_low m base acc f =
     let low : nat_le base m.core.taken ≡ true = grind (arith, nat_tests) in
     rw low (omega arith)
@@ -109,7 +109,7 @@ pub bcast_does : (m : Node) (s : ℕ) (v : Stamp) (base acc number : ℕ) (e : E
 unfolding hear_row bcast_row
 bcast_does m s v base acc number e = either m base number e _ (hears_sequencer m s v) _ (quiet m said.Elsewhere)
     (λ t. with_why m _ base number e (is_view e ≡ false) _ (λ plain. record { heard = t; plain = plain })
-    (received_one m (noted m base acc) s base number e said.Known refl (omega arith) (noted_low m base acc)))
+    (received_one m (with_noted m base acc) s base number e said.Known refl (omega arith) (noted_low m base acc)))
     (λ f. nothing refl (omega arith))
 
 -- a send whose body is there
@@ -121,7 +121,7 @@ pub order_does : (m : Node) (s : ℕ) (v : Stamp) (base acc number from req : �
     → OrderDoes m (hear_row m (packet.Order s v base acc number from req)).node s v base number from req
 unfolding hear_row order_row
 order_does m s v base acc number from req = split (hears_sequencer m s v)
-    (λ t. rw t (by_body t (body_of (noted m base acc) from req)))
+    (λ t. rw t (by_body t (body_of (with_noted m base acc) from req)))
     (λ f. rw f (nothing refl (omega arith)))
   where
     as_order : (x : Node) (body : List ℕ) → Does m x base number (Data from req body) (InView m s v (Data from req body))
@@ -130,17 +130,17 @@ order_does m s v base acc number from req = split (hears_sequencer m s v)
     as_order x body (one why h) = one body why h
 
     by_body : hears_sequencer m s v ≡ true → (o : Option (List ℕ))
-        → OrderDoes m (received (noted m base acc) s base number (data_of from req o) (said.NoBody from req)).node s v base number from req
-    by_body t None = as_order _ [] (missing_one m (noted m base acc) s base number (Data from req []) (said.NoBody from req) _ refl (omega arith))
+        → OrderDoes m (receive_entry (with_noted m base acc) s base number (data_of from req o) (said.NoBody from req)).node s v base number from req
+    by_body t None = as_order _ [] (missing_one m (with_noted m base acc) s base number (Data from req []) (said.NoBody from req) _ refl (omega arith))
     by_body t (Some body) = as_order _ body (with_why m _ base number (Data from req body) (is_view (Data from req body) ≡ false) _
         (λ plain. record { heard = t; plain = plain })
-        (received_one m (noted m base acc) s base number (Data from req body) (said.NoBody from req) refl (omega arith) (noted_low m base acc)))
+        (received_one m (with_noted m base acc) s base number (Data from req body) (said.NoBody from req) refl (omega arith) (noted_low m base acc)))
 
 -- ---- a fetched entry
 
 fetched_one : (m : Node) (v : Stamp) (base number : ℕ) (e : Entry) (in_ballot : Bool) (then_ : Node → Plan) (P : Type 0) → P
-    → (number ≡ top m + 1 → Stores m (then_ (pushed (trimmed m base) e)).node base number e)
-    → Does m (fetched m v base number e in_ballot then_).node base number e P
+    → (number ≡ top m + 1 → Stores m (then_ (push_entry (trim_up_to m base) e)).node base number e)
+    → Does m (push_fetched m v base number e in_ballot then_).node base number e P
 fetched_one m v base number e in_ballot then_ P why f =
     either m base number e P (nat_le number (top m)) (quiet m said.Known) _ (λ t. nothing refl (omega arith))
     (λ new. either m base number e P (has_own_leave m) (quiet m said.Behind) _ (λ t. nothing refl (omega arith))
@@ -149,7 +149,7 @@ fetched_one m v base number e in_ballot then_ P why f =
     (λ low. either m base number e P _ (quiet m said.Unfit) _ (λ t. nothing refl (omega arith))
     (λ g. (let next : number ≡ top m + 1 = grind (arith, nat_tests) in one why (f next)))))))
 
-pushed_one : (m : Node) (base number : ℕ) (e : Entry) → number ≡ top m + 1 → Stores m (pushed (trimmed m base) e) base number e
+pushed_one : (m : Node) (base number : ℕ) (e : Entry) → number ≡ top m + 1 → Stores m (push_entry (trim_up_to m base) e) base number e
 pushed_one m base number e next = record {
   next = next;
   base_ = omega arith;
@@ -160,9 +160,9 @@ pushed_one m base number e next = record {
 
 -- and what a look at the ballot makes of it
 looked_one : (m : Node) (base number : ℕ) (e : Entry) (b : Ballot) → number ≡ top m + 1
-    → Stores m (decide (pushed (trimmed m base) e) b).node base number e
+    → Stores m (decide (push_entry (trim_up_to m base) e) b).node base number e
 looked_one m base number e b next =
-    let y = pushed (trimmed m base) e in
+    let y = push_entry (trim_up_to m base) e in
     let a = decide_alike y b in
     let up = a.base in
     record {
@@ -202,7 +202,7 @@ piece_does m s v base number e = either m base number e _ (hears_member m s) _ (
     promised_one : hears_member m s ≡ true → stamp_eq v m.core.promise ≡ true → is_unfinished m.ballot ≡ false
         → Does m (piece_promised m s v base number e).node base number e (Piecewise m s v)
     promised_one t p none = either m base number e _ (not (v.by == s)) (quiet m said.Elsewhere) _ (λ u. nothing refl (omega arith))
-        (λ f. fetched_one m v base number e false (caught_up s v number) (Piecewise m s v)
+        (λ f. fetched_one m v base number e false (catch_up s v number) (Piecewise m s v)
         (record { member = t; promise = p; how = without none (not_false _ f) })
         (pushed_one m base number e))
 
@@ -212,7 +212,7 @@ piece_does m s v base number e = either m base number e _ (hears_member m s) _ (
     by_ballot t p (Some b) is = either m base number e _ b.is_over (piece_promised m s v base number e) _
         (λ u. promised_one t p (ap is_unfinished is ∙ ap not u))
         (λ f. either m base number e _ (not (fetches_from b.answer s)) (quiet m said.Elsewhere) _ (λ u. nothing refl (omega arith))
-        (λ g. fetched_one m v base number e true (fetched_for b) (Piecewise m s v)
+        (λ g. fetched_one m v base number e true (decide_anew b) (Piecewise m s v)
         (record { member = t; promise = p; how = for_ballot (ap is_unfinished is ∙ ap not f) })
         (looked_one m base number e b)))
 
@@ -227,7 +227,7 @@ pub result_does : (m : Node) (s : ℕ) (v : Stamp) (base number : ℕ) (names : 
 unfolding hear_row result_row
 result_does m s v base number names resilience =
     let e = View v names resilience in
-    let p = promised m v in
+    let p = with_promise m v in
     either m base number e _ (hears_member m s && (v.by == s)) _ (quiet m said.Elsewhere)
     (λ t. either m base number e _ ((v.by == m.core.who) || stamp_lt v m.core.promise) (quiet m said.Elsewhere) _ (λ u. nothing refl (omega arith))
     (λ f.

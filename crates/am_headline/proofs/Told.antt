@@ -23,12 +23,12 @@ use Rattle.am_chain_lists.specs.Whole.{IsGood}
 use Rattle.am_chain_lists.proofs.Prefixes.{begins_refl, begins_trans}
 use Rattle.am_chain_lists.proofs.Members.{good_begins}
 use Rattle.am_chain_moves.specs.Group as groups
-use Rattle.am_chain_moves.specs.Group.{Group, IsUp}
+use Rattle.am_chain_moves.specs.Group.{Group}
 use Rattle.am_model.specs.Node.{Node, set_at, waiting, is_asking, founder, stranger, founders_view, lowest_or_first}
 use Rattle.am_model.specs.Emit.{Step}
 use Rattle.am_model.specs.Group.{sent_in, accepted_sends, has_log}
 use Rattle.am_model.specs.Lawful.{whole}
-use Rattle.am_model.specs.World.{World, record_of, has_departed, start, stepped, run}
+use Rattle.am_model.specs.World.{World, record_of, has_departed, start, with_step, run}
 use Rattle.am_model.specs.Claims.{heard_by, welcomes}
 use Rattle.am_model.proofs.Greatest.{split}
 use Rattle.am_effects.specs.Causes.{Cause, hears}
@@ -109,12 +109,16 @@ pub record Same (w v : World) : Type 0 where
   pub letters : v.letters ≡ w.letters
   pub group : v.group ≡ w.group
 
+-- what is said of its parts goes along
+carried : (w v : World) (records : List Record) → Same w v → v.records ≡ records
+    → (P : (ℕ → Node) → List Letter → List Entry → List Record → Type 0) → P w.nodes w.letters w.group records → P v.nodes v.letters v.group v.records
+carried w v records is same P x =
+    subst (λ n. P n v.letters v.group v.records) (sym is.nodes) (subst (λ l. P w.nodes l v.group v.records) (sym is.letters)
+    (subst (λ g. P w.nodes w.letters g v.records) (sym is.group) (subst (P w.nodes w.letters w.group) (sym same) x)))
+
 pub told_same : (rules : Rules) (w v : World) → Same w v → v.records ≡ w.records → Told rules w → Told rules v
 told_same rules w v is records h =
-    let all : (P : (ℕ → Node) → List Letter → List Entry → List Record → Type 0) → P w.nodes w.letters w.group w.records → P v.nodes v.letters v.group
-    v.records = λ P x.
-    subst (λ n. P n v.letters v.group v.records) (sym is.nodes) (subst (λ l. P w.nodes l v.group v.records) (sym is.letters)
-    (subst (λ g. P w.nodes w.letters g v.records) (sym is.group) (subst (P w.nodes w.letters w.group) (sym records) x))) in
+    let all = carried w v w.records is records in
     record {
       opens = all (λ n l g r. Opens rules g) h.opens;
       any = all (λ n l g r. All AnyLetter l) h.any;
@@ -127,10 +131,7 @@ told_same rules w v is records h =
 
 pub told_idle : (rules : Rules) (w v : World) (r : Record) → Same w v → IsIdle r.outcome → v.records ≡ w.records ++ r ∷ [] → Told rules w → Told rules v
 told_idle rules w v r is idle records h =
-    let all : (P : (ℕ → Node) → List Letter → List Entry → List Record → Type 0) → P w.nodes w.letters w.group (w.records ++ r ∷ [])
-    → P v.nodes v.letters v.group v.records = λ P x.
-    subst (λ n. P n v.letters v.group v.records) (sym is.nodes) (subst (λ l. P w.nodes l v.group v.records) (sym is.letters)
-    (subst (λ g. P w.nodes w.letters g v.records) (sym is.group) (subst (P w.nodes w.letters w.group) (sym records) x))) in
+    let all = carried w v (w.records ++ r ∷ []) is records in
     record {
       opens = all (λ n l g rs. Opens rules g) h.opens;
       any = all (λ n l g rs. All AnyLetter l) h.any;
@@ -283,7 +284,7 @@ same_number a b t = grind (arith, nat_tests)
 module _ (rules : Rules) (events : List Event) (e : Event) (c : Cause) (step : Step) (s t : Group) (one : OneStep rules events e c step s t)
     (h : Told rules (run rules events)) where
   open parts rules events e step use {w, i, m, n, v}
-  open one use {may, runs, cause, effect, old, path}
+  open one use {step_.{may, runs, cause, effect}, old, path}
   open plain one use {few, kept_s, node_v, group_v, run_v, node_run, stands_n, group_grows}
 
   abbrev inside : Inside w.group i c step.outcome m n
@@ -445,7 +446,7 @@ module _ (rules : Rules) (events : List Event) (e : Event) (c : Cause) (step : S
   -- ---- the world after it
 
   pub told_step : Told rules v
-  unfolding stepped
+  unfolding with_step
   told_step =
       let r = record_of w e step.outcome step.letters in
       let own : (name_of r == i) ≡ true = itself i in

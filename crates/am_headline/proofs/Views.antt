@@ -10,7 +10,7 @@ use Rattle.am_base.specs.Lists.{members_of}
 use Rattle.am_packet.specs.declared.packet.Packet.{Packet}
 use Rattle.am_packet.specs.declared.packet.Packet.TheVariants as packet
 use Rattle.am_group.specs.Journals.{item_at}
-use Rattle.am_chain_lists.specs.Whole.{Begins, told, view_of, key}
+use Rattle.am_chain_lists.specs.Whole.{Begins, image_of, view_of, key}
 use Rattle.am_chain_lists.proofs.Prefixes.{begins_trans, begins_length, length_push}
 use Rattle.am_chain_moves.specs.Group as groups
 use Rattle.am_chain_moves.specs.Group.{Group, IsUp}
@@ -32,12 +32,12 @@ use Rattle.am_headline.proofs.Rows.{Stores}
 
 pub record FitIn (rules : Rules) (list : List Entry) (base number : ℕ) : Type 0 where
   pub within : number ≤ length list
-  pub fits : number - base ≤ rules.window + 16 - size (members_of (told (take number list)))
+  pub fits : number - base ≤ rules.window + 16 - size (members_of (image_of (take number list)))
 
 -- on a list that goes on
 pub fit_more : (rules : Rules) (a b : List Entry) (base number : ℕ) → Begins a b → FitIn rules a base number → FitIn rules b base number
 fit_more rules a b base number h f =
-    let same = ap (λ l. size (members_of (told l))) (taken_more number a b h f.within) in
+    let same = ap (λ l. size (members_of (image_of l))) (taken_more number a b h f.within) in
     let low = begins_length h in
     let within = f.within in
     let fits = f.fits in
@@ -46,7 +46,7 @@ fit_more rules a b base number h f =
 -- and so far as it has it, of one that begins it
 pub fit_less : (rules : Rules) (a b : List Entry) (base number : ℕ) → Begins a b → number ≤ length a → FitIn rules b base number → FitIn rules a base number
 fit_less rules a b base number h low f =
-    let same = ap (λ l. size (members_of (told l))) (taken_more number a b h low) in
+    let same = ap (λ l. size (members_of (image_of l))) (taken_more number a b h low) in
     let fits = f.fits in
     record { within = low; fits = omega arith }
 

@@ -11,10 +11,10 @@ use Rattle.am_base.specs.Names.{has, size}
 use Rattle.am_packet.specs.declared.packet.Packet.TheVariants as packet
 use Rattle.am_sender.specs.Sends as own
 use Rattle.am_model.specs.declared.status.Status.TheVariants as status
-use Rattle.am_model.specs.Node.{Node, Ballot, top, told, those, is_member, is_sequencer, pushed, unsettled}
-use Rattle.am_model.specs.Ballots.{Verdict, decide, ends, goes_on, restarted, trimmed_for, need_of, left_in, best_of, is_waited_for, decide_view}
-use Rattle.am_model.specs.Calls.{queued, is_unfinished}
-use Rattle.am_model.specs.Joining.{begun}
+use Rattle.am_model.specs.Node.{Node, Ballot, top, image_of, those, is_member, is_sequencer, push_entry, unsettled_count}
+use Rattle.am_model.specs.Ballots.{Verdict, decide, ends, goes_on, restart_reports, trim_for, need_of, left_in, best_of, is_waited_for, decide_view}
+use Rattle.am_model.specs.Calls.{with_queued, is_unfinished}
+use Rattle.am_model.specs.Joining.{begin_list}
 use Rattle.am_model.specs.Refresh.{refresh, settle, refresh_at_end}
 use Rattle.am_model.proofs.Greatest.{and_both}
 use Rattle.am_effects.specs.Causes.{Cause, hears}
@@ -37,21 +37,21 @@ pub record Alike (m n : Node) : Type 0 where
   pub entries : n.core.log.entries ≡ m.core.log.entries ++ more
 
 abbrev pub closed : Node → Node
-closed m = record (refresh_at_end (pushed m (Leave m.core.who))) { status = status.Departed }
+closed m = record (refresh_at_end (push_entry m (Leave m.core.who))) { status = status.Departed }
 
 pub data Kind (c : Cause) (o : Outcome) (m : Node) : Node → Type 0 where
   alike : {n : Node} → Alike m n → Kind c o m n
   refreshed : Kind c o m (refresh m)
   settled : Kind c o m (settle m)
   began : (s : ℕ) (v : Stamp) (base join : ℕ) (image : Image) → c ≡ hears (packet.Welcome s v base join image) → o ≡ said.Welcomed join
-      → MayBeWelcomed m s v base join image → Kind c o m (begun m v base join image)
+      → MayBeWelcomed m s v base join image → Kind c o m (begin_list m v base join image)
   left : is_member m.status ≡ true → m.leaving ≡ true → Kind c o m (record m { status = status.Departed })
-  sent : (body : List ℕ) → m.leaving ≡ false → Kind c o m (queued m body)
+  sent : (body : List ℕ) → m.leaving ≡ false → Kind c o m (with_queued m body)
   collected : (req : ℕ) → Kind c o m (record m { sends = own.collect req m.sends })
   took : (e : Entry) → o ≡ said.Took (m.core.taken + 1) e → is_member m.status ≡ true → (m.core.taken == m.core.acc) ≡ false
       → Kind c o m (record m { core = record (m.core) { taken = m.core.taken + 1 } })
   asked_in : m.status ≡ status.Stranger → Kind c o m (record m { status = status.Asking })
-  asked_out : m.status ≡ status.Member → (nat_lt 0 (unsettled m) || is_unfinished m.ballot) ≡ false → Kind c o m (record m { leaving = true })
+  asked_out : m.status ≡ status.Member → (nat_lt 0 (unsettled_count m) || is_unfinished m.ballot) ≡ false → Kind c o m (record m { leaving = true })
   gone : is_member m.status ≡ true → m.leaving ≡ true → Kind c o m (closed m)
 
 -- with more entries, and anything else but what is told here
@@ -81,8 +81,8 @@ same_log m n who base acc taken start status_ leaving sends log entries =
     pushes m n [] who base acc taken start status_ leaving sends log (entries ∙ sym (append-nil m.core.log.entries))
 
 -- with one entry more
-pub pushed_alike : (m : Node) (e : Entry) → Alike m (pushed m e)
-pushed_alike m e = pushes m (pushed m e) (e ∷ []) refl (omega arith) refl refl refl refl refl refl refl refl
+pub pushed_alike : (m : Node) (e : Entry) → Alike m (push_entry m e)
+pushed_alike m e = pushes m (push_entry m e) (e ∷ []) refl (omega arith) refl refl refl refl refl refl refl refl
 
 pub look_alike : (m : Node) (b : Ballot) (v : Verdict) → Looks m b v → Alike m v.node
 look_alike m b v (decides may) = pushes m v.node (_ ∷ []) refl (omega arith) refl refl refl refl refl refl refl refl
@@ -97,12 +97,12 @@ pub decide_alike : (m : Node) (b : Ballot) → Alike m (decide m b).node
 unfolding decide
 decide_alike m b =
     let names = left_in b (need_of m b) in
-    let view = View b.stamp names (max b.resilience (told m).resilience) in
+    let view = View b.stamp names (max b.resilience (image_of m).resilience) in
     let over : (o : Outcome) → Alike m (ends m b o).node = λ o. same_log m (ends m b o).node refl (omega arith) refl refl refl refl refl refl refl refl in
     let on : (o : Outcome) → Alike m (goes_on m b o).node = λ o. same_log m (goes_on m b o).node refl (omega arith) refl refl refl refl refl refl refl refl in
-    let before = trimmed_for m b names in
-    let last : (o : Outcome) → Alike m (ends (restarted (pushed before view)) b o).node = λ o.
-    pushes m (ends (restarted (pushed before view)) b o).node (view ∷ []) refl (omega arith) refl refl refl refl refl refl refl refl in
+    let before = trim_for m b names in
+    let last : (o : Outcome) → Alike m (ends (restart_reports (push_entry before view)) b o).node = λ o.
+    pushes m (ends (restart_reports (push_entry before view)) b o).node (view ∷ []) refl (omega arith) refl refl refl refl refl refl refl refl in
     let crowded : (o : Outcome) → Alike m (ends before b o).node = λ o. same_log m (ends before b o).node refl (omega arith) refl refl refl refl refl refl
     refl refl in
     let few = those (is_waited_for m.core.who b) (need_of m b) in
@@ -110,7 +110,7 @@ decide_alike m b =
     let done : Outcome = said.Decided (top before + 1) names in
     let decided : Alike m (decide_view before b names).node = alike_if m
     (nat_lt (before.core.rules.window + 16 - size names) (top before + 1 - before.core.base)) (ends before b crowd)
-    (ends (restarted (pushed before view)) b done)
+    (ends (restart_reports (push_entry before view)) b done)
     (crowded crowd) (last done) in
     let small : Outcome = said.TooFew (size names) b.least in
     let v4 : Verdict = if nat_lt (size names) b.least then ends m b small else decide_view before b names in

@@ -77,6 +77,7 @@ impl History {
         &self.ring
     }
 
+    /// Lets the lowest entry go, which the table below then has.
     fn let_go(&mut self)
         requires { 0 < length self.old.list.entries }
         ensures list { self.new.list ≡ above self.old.list (self.old.list.start + 1) }
@@ -178,7 +179,8 @@ mod tests {
     use super::*;
     use am_base::body::Body;
 
-    fn pushed(history: &mut History, entry: Entry) -> bool
+    /// Adds an entry where there is room for it and it fits; whether it did.
+    fn push_if_fits(history: &mut History, entry: Entry) -> bool
         requires capacity { history.old.capacity ≡ 16 }
         requires entry { IsEntry entry }
         ensures { history.new.capacity ≡ 16 }
@@ -193,6 +195,7 @@ mod tests {
         true
     }
 
+    /// A send of the first founder.
     fn data(req: u32) -> Entry
         requires { IsNumber req }
         ensures { IsEntry result }
@@ -219,11 +222,11 @@ mod tests {
                 members: Names::empty().with(first),
                 resilience: 0,
             };
-            assert!(rt; pushed(&mut history, view));
+            assert!(rt; push_if_fits(&mut history, view));
             for req in 1..16 {
-                assert!(rt; pushed(&mut history, data(req)), "at {req}");
+                assert!(rt; push_if_fits(&mut history, data(req)), "at {req}");
             }
-            assert!(rt; !pushed(&mut history, data(16)));
+            assert!(rt; !push_if_fits(&mut history, data(16)));
             assert_eq!(rt; history.ring().len(), 16);
             assert_eq!(rt; history.row(first).last, 15);
             let top = history.top();

@@ -1,11 +1,23 @@
-ghost use Rattle.std.specs.Prelude.{◌≡◌, ◌⊎◌, ◌↔◌, ◌+◌, ◌<◌, ◌≤◌, [], length, take, min, Some, IfOk, Contains};
+ghost use Rattle.std.specs.Prelude.{◌≡◌, ◌⊎◌, ◌↔◌, ◌+◌, ◌++◌, ◌<◌, ◌≤◌, [], length, take, min, Some, IfOk, Contains};
 ghost use Rattle.std.specs.Io.KnownBytes.{Consumes, Appends, Keeps};
 ghost use Rattle.am_io.specs.Outside.{ReadToEnd, IfTook, OnEnd, OnFailed, IfPut, OnRefused, next, faults_after, refusals_after};
-ghost use Rattle.am_io.specs.Memory.{Supply, Store};
+ghost use Rattle.am_io.specs.Memory.{Supply, Store, new_supply, new_store};
 
 use crate::outside::{Got, Put, Sink, Source};
 use std::alloc::{AllocError, Global};
 use std::marker::Model;
+
+/// Copies the first so many bytes to the front of a place, and gives the others.
+fn move_front<'a>(bytes: &'a [u8], into: &mut [u8], n: usize) -> &'a [u8]
+    requires there { n ≤ length bytes.now }
+    requires fits { n ≤ length into.old }
+    ensures bytes { bytes.now ≡ take n into.new ++ result.now }
+    ensures size { length into.new ≡ length into.old }
+{
+    let (first, rest) = bytes.split_at(n);
+    into[..n].copy_from_slice(first);
+    rest
+}
 
 /// Bytes in memory as a source without faults.
 #[derive(Drop)]
@@ -32,13 +44,11 @@ impl Source for PlainSource<'_> {
     }
 
     fn read(&mut self, into: &mut [u8]) -> Got {
-        let n = self.bytes.len().min(into.len());
-        if n == 0 {
+        if self.bytes.is_empty() {
             return Got::End;
         }
-        let (first, rest) = self.bytes.split_at(n);
-        into[..n].copy_from_slice(first);
-        self.bytes = rest;
+        let n = self.bytes.len().min(into.len());
+        self.bytes = move_front(self.bytes, into, n);
         Got::Took(n)
     }
 }
@@ -69,7 +79,7 @@ impl<'a> MemSource<'a> {
     /// The source of these bytes, which fails the calls of these numbers and gives at most so many bytes at once.
     pub fn new(bytes: &'a [u8], fail: &'a [u64], most: usize) -> MemSource<'a>
         requires { 0 < most }
-        ensures { result ≡ record { left = bytes.entry.now; fail = fail.entry.now; most = most; calls = 0; faults = 0 } }
+        ensures { result ≡ new_supply bytes.entry.now fail.entry.now most }
     {
         MemSource {
             bytes,
@@ -113,9 +123,7 @@ impl Source for MemSource<'_> {
         if n == 0 {
             return Got::End;
         }
-        let (first, rest) = self.bytes.split_at(n);
-        into[..n].copy_from_slice(first);
-        self.bytes = rest;
+        self.bytes = move_front(self.bytes, into, n);
         Got::Took(n)
     }
 }
@@ -152,7 +160,7 @@ impl<'a> MemSink<'a> {
         size: usize,
     ) -> Result<MemSink<'a>, AllocError>
         requires { 0 < most }
-        ensures { IfOk result (λ s. s ≡ record { held = []; fail = fail.entry.now; most = most; size = size; calls = 0; faults = 0 }) }
+        ensures { IfOk result (λ s. s ≡ new_store fail.entry.now most size) }
     {
         let bytes = Vec::with_capacity(alloc, size)?;
         Ok(MemSink {

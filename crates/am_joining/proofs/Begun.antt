@@ -12,7 +12,7 @@ use Rattle.am_model.specs.declared.status.Status.TheVariants.{Stranger, Asking, 
 use Rattle.am_model.specs.Group.{has_log}
 use Rattle.am_model.specs.Node.{Node, view, is_asking, is_member, only_name, is_within_bound}
 use Rattle.am_model.specs.Emit.{quiet, telling, nack_of, fetch_of}
-use Rattle.am_model.specs.Joining.{begun, welcomed, welcome_row}
+use Rattle.am_model.specs.Joining.{begin_list, ask_next, welcome_row}
 use Rattle.am_handlers.specs.Keeps.{NodeKeeps}
 use Rattle.am_joining.specs.Pieces.{is_unfit}
 
@@ -32,7 +32,7 @@ third false false true d h = absurd (cc)
 third false false false d h = refl
 
 pub begun_keeps : (m : Node) (v : Stamp) (base join : ℕ) (image : Image) → is_asking m.status ≡ true → v.by ≢ m.core.who → is_unfit m v base join image ≡ false
-    → IsInOrder m.core → NodeKeeps m → NodeKeeps (begun m v base join image)
+    → IsInOrder m.core → NodeKeeps m → NodeKeeps (begin_list m v base join image)
 unfolding fold
 begun_keeps m v base join image asking other fit order keeps =
     let none = asking_log m.status asking in
@@ -83,16 +83,16 @@ unfolding welcome_row
 welcome_unfit m from v base join image none there unfit = rw (none, there, unfit) refl
 
 pub welcome_begins : (m : Node) (from : ℕ) (v : Stamp) (base join : ℕ) (image : Image) → is_member m.status ≡ false → stamp_lt v m.core.promise ≡ false
-    → is_unfit m v base join image ≡ false → welcome_row m from v base join image ≡ welcomed (begun m v base join image) from v join
+    → is_unfit m v base join image ≡ false → welcome_row m from v base join image ≡ ask_next (begin_list m v base join image) from v join
 unfolding welcome_row
 welcome_begins m from v base join image none there fit = rw (none, there, fit) refl
 
 pub asks_nack : (m : Node) (from : ℕ) (v : Stamp) (join : ℕ) → stamp_eq (view m) v ≡ true
-    → welcomed m from v join ≡ telling m (said.Welcomed join) (only_name from) nack_of
+    → ask_next m from v join ≡ telling m (said.Welcomed join) (only_name from) nack_of
 asks_nack m from v join same = rw same refl
 
 pub asks_fetch : (m : Node) (from : ℕ) (v : Stamp) (join : ℕ) → stamp_eq (view m) v ≡ false
-    → welcomed m from v join ≡ telling m (said.Welcomed join) (only_name from) fetch_of
+    → ask_next m from v join ≡ telling m (said.Welcomed join) (only_name from) fetch_of
 asks_fetch m from v join other = rw other refl
 
 pub member_or_asks : (s : Status) → (is_member s || is_asking s) ≡ true → is_member s ≡ false → is_asking s ≡ true

@@ -10,10 +10,10 @@ use Rattle.am_base.specs.declared.entry.Entry.TheVariants.{Join}
 use Rattle.am_base.specs.Names.{life_of}
 use Rattle.am_base.specs.Lists.{at_place, fits}
 use Rattle.am_core.proofs.Folds.{split}
-use Rattle.am_fronts.specs.Reports.{admitted}
+use Rattle.am_fronts.specs.Reports.{with_admitted}
 use Rattle.am_packet.specs.Boxes.{Letter, with_letter}
 use Rattle.am_packet.specs.declared.packet.Packet.{Packet}
-use Rattle.am_model.specs.Node.{Node, top, told, others, only_name, has_room}
+use Rattle.am_model.specs.Node.{Node, top, image_of, others, only_name, has_room}
 use Rattle.am_model.specs.Emit.{Plan, quiet, telling, polling, bcast_of, welcome_of}
 use Rattle.am_model.specs.Joining.{asks_to_join, number_join, join_ask_row}
 use Rattle.am_model.specs.Ends.{Tells}
@@ -21,16 +21,16 @@ use Rattle.am_handlers.specs.Cores.{CoreTells}
 use Rattle.am_handlers.specs.Keeps.{NodeKeeps}
 use Rattle.am_handlers.proofs.Doing.{core_tells}
 use Rattle.am_handlers.proofs.Keeping.{keeps_steady}
-use Rattle.am_joining.specs.Pieces.{turned_down, needs_none, welcome_again, and_welcome}
+use Rattle.am_joining.specs.Pieces.{refusal_of, needs_none, welcome_again, and_welcome}
 
 -- ---- the reports of a joiner
 
-pub keeps_admitted : (m : Node) (name base : ℕ) → name ≢ m.core.who → NodeKeeps m → NodeKeeps (record m { reports = admitted m.reports name base })
+pub keeps_admitted : (m : Node) (name base : ℕ) → name ≢ m.core.who → NodeKeeps m → NodeKeeps (record m { reports = with_admitted m.reports name base })
 keeps_admitted m name base other keeps =
     let test : (m.core.who == name) ≡ false = grind (arith, nat_tests) in
-    let same : admitted m.reports name base m.core.who ≡ m.reports m.core.who = rw test refl in
+    let same : with_admitted m.reports name base m.core.who ≡ m.reports m.core.who = rw test refl in
     let taken = ap (λ (r : Report). r.taken) same in
-    keeps_steady m (record m { reports = admitted m.reports name base })
+    keeps_steady m (record m { reports = with_admitted m.reports name base })
     (record { who = refl; promise = refl; told = refl; top = refl; status = refl; ballot = refl; leaving = refl; sends = refl }) keeps (let own =
     keeps.own in omega arith)
 
@@ -39,15 +39,15 @@ keeps_admitted m name base other keeps =
 -- the rest of the row, where the name isn't turned down
 abbrev pub rest : Node → ℕ → Row → Plan
 rest m s q =
-    if fits (told m) (Join s) && not (has_room m) then polling m (said.Held m.core.base (top m))
-    else if fits (told m) (Join s) then number_join m s
+    if fits (image_of m) (Join s) && not (has_room m) then polling m (said.Held m.core.base (top m))
+    else if fits (image_of m) (Join s) then number_join m s
     else welcome_again m s q.joined
 
 abbrev pub by_answer : Option Outcome → Node → Plan → Plan
 by_answer None m p = p
 by_answer (Some o) m p = quiet m o
 
-asks_by : (m : Node) (s : ℕ) (q : Row) → asks_to_join m s q ≡ by_answer (turned_down m.core.acc s q) m (rest m s q)
+asks_by : (m : Node) (s : ℕ) (q : Row) → asks_to_join m s q ≡ by_answer (refusal_of m.core.acc s q) m (rest m s q)
 asks_by m s q = split (nat_lt (life_of s) q.life)
     (λ t. rw t refl)
     (λ f. rw f (split ((q.life == life_of s) && nat_lt 0 q.left)
@@ -56,23 +56,23 @@ asks_by m s q = split (nat_lt (life_of s) q.life)
     (λ t. rw t refl)
     (λ f. rw f refl)))))
 
-pub join_by : (m : Node) (from accepted : ℕ) (r : Row) (answer : Option Outcome) → r ≡ at_place (told m) from → accepted ≡ m.core.acc
-    → answer ≡ turned_down accepted from r → join_ask_row m from ≡ by_answer answer m (rest m from r)
+pub join_by : (m : Node) (from accepted : ℕ) (r : Row) (answer : Option Outcome) → r ≡ at_place (image_of m) from → accepted ≡ m.core.acc
+    → answer ≡ refusal_of accepted from r → join_ask_row m from ≡ by_answer answer m (rest m from r)
 unfolding join_ask_row
 join_by m from accepted r answer row acc is =
-    asks_by m from (at_place (told m) from)
-    ∙ ap (λ q. by_answer (turned_down m.core.acc from q) m (rest m from q)) (sym row)
-    ∙ ap (λ a. by_answer (turned_down a from r) m (rest m from r)) (sym acc)
+    asks_by m from (at_place (image_of m) from)
+    ∙ ap (λ q. by_answer (refusal_of m.core.acc from q) m (rest m from q)) (sym row)
+    ∙ ap (λ a. by_answer (refusal_of a from r) m (rest m from r)) (sym acc)
     ∙ ap (λ a. by_answer a m (rest m from r)) (sym is)
 
-pub rest_again : (m : Node) (from : ℕ) (r : Row) → fits (told m) (Join from) ≡ false → rest m from r ≡ welcome_again m from r.joined
+pub rest_again : (m : Node) (from : ℕ) (r : Row) → fits (image_of m) (Join from) ≡ false → rest m from r ≡ welcome_again m from r.joined
 rest_again m from r fit = rw fit refl
 
-pub rest_held : (m : Node) (from : ℕ) (r : Row) → fits (told m) (Join from) ≡ true → has_room m ≡ false
+pub rest_held : (m : Node) (from : ℕ) (r : Row) → fits (image_of m) (Join from) ≡ true → has_room m ≡ false
     → rest m from r ≡ polling m (said.Held m.core.base (top m))
 rest_held m from r fit room = rw (fit, room) refl
 
-pub rest_number : (m : Node) (from : ℕ) (r : Row) → fits (told m) (Join from) ≡ true → has_room m ≡ true → rest m from r ≡ number_join m from
+pub rest_number : (m : Node) (from : ℕ) (r : Row) → fits (image_of m) (Join from) ≡ true → has_room m ≡ true → rest m from r ≡ number_join m from
 rest_number m from r fit room = rw (fit, room) refl
 
 pub again_none : (m : Node) (from joined : ℕ) → needs_none m from joined ≡ true → welcome_again m from joined ≡ quiet m said.Again

@@ -12,9 +12,9 @@ use Rattle.am_base.specs.Lists.{row_of}
 use Rattle.am_packet.specs.declared.packet.Packet.{Packet}
 use Rattle.am_packet.specs.Boxes.{Letter, with_letter}
 use Rattle.am_core.specs.Cores.{Sends, since_accepted}
-use Rattle.am_model.specs.Node.{Node, top, told, others, only_name, has_room}
+use Rattle.am_model.specs.Node.{Node, top, image_of, others, only_name, has_room}
 use Rattle.am_model.specs.Emit.{quiet, polling, bcast_of, gone_of}
-use Rattle.am_model.specs.Sequencing.{row_at, is_unknown, reported}
+use Rattle.am_model.specs.Sequencing.{row_at, is_unknown, take_report}
 use Rattle.am_model.specs.Joining.{may_go, let_go, counts_report, asks_to_leave, leave_ask_row}
 use Rattle.am_model.specs.Ends.{with_log, Tells}
 use Rattle.am_handlers.specs.Cores.{CoreTells}
@@ -101,6 +101,6 @@ unfolding leave_ask_row
 leave_other m from v report known other = rw (known, other) refl
 
 pub leave_reported : (m : Node) (from : ℕ) (v : Stamp) (report : Report) → is_unknown m from ≡ false → counts_report m v report ≡ true
-    → leave_ask_row m from v report ≡ asks_to_leave (reported m from report) from
+    → leave_ask_row m from v report ≡ asks_to_leave (take_report m from report) from
 unfolding leave_ask_row
 leave_reported m from v report known counts = rw (known, counts) refl

@@ -1,5 +1,5 @@
 -- Pieces of the rows of joining and leaving.
-use Rattle.std.specs.Prelude.{ℕ, ◌+◌, List, [], Bool, true, not, ◌&&◌, ◌||◌, ◌==◌, nat_lt, nat_le, if◌then◌else◌, Option, Some, None}
+use Rattle.std.specs.Prelude.{ℕ, ◌+◌, List, Bool, true, not, ◌&&◌, ◌||◌, ◌==◌, nat_lt, nat_le, if◌then◌else◌, Option, Some, None}
 use Rattle.am_base.specs.declared.image.Row.{Row}
 use Rattle.am_base.specs.declared.image.Image.{Image}
 use Rattle.am_base.specs.declared.image.Report.{Report}
@@ -10,7 +10,6 @@ use Rattle.am_base.specs.Names.{place_of, life_of, name_at}
 use Rattle.am_base.specs.Stamps.{stamp_lt}
 use Rattle.am_base.specs.Lists.{row_of}
 use Rattle.am_base.specs.declared.entry.Entry.TheVariants.{Leave}
-use Rattle.am_core.specs.Cores.{CoreState}
 use Rattle.am_fronts.specs.Reports.{least_stored}
 use Rattle.am_packet.specs.Boxes.{Letter, with_letter}
 use Rattle.am_model.specs.Node.{Node, top, only_name, is_within_bound}
@@ -19,8 +18,8 @@ use Rattle.am_model.specs.Sequencing.{row_at}
 use Rattle.am_model.specs.Joining.{may_go, let_go, and_gone}
 
 -- why a name may not join, where the row of its place is this and so much is accepted
-abbrev pub turned_down : ℕ → ℕ → Row → Option Outcome
-turned_down accepted name row =
+abbrev pub refusal_of : ℕ → ℕ → Row → Option Outcome
+refusal_of accepted name row =
     if nat_lt (life_of name) row.life then Some said.Stranger
     else if (row.life == life_of name) && nat_lt 0 row.left then Some said.Stranger
     else if nat_lt row.life (life_of name) && (nat_lt 0 row.life && ((row.left == 0) || nat_lt accepted row.left)) then Some
@@ -63,15 +62,3 @@ leave_again m name = and_gone (record (quiet m said.Again) { outcome = let_go m 
 -- a Welcome that can't be this node's
 abbrev pub is_unfit : Node → Stamp → ℕ → ℕ → Image → Bool
 is_unfit m v base join image = nat_le join base || (not (is_within_bound m base join) || (stamp_lt v image.view || nat_lt 0 (row_of image m.core.who).joined))
-
--- a core whose list begins at the base, with what was told up to there
-abbrev pub begun_core : CoreState → Stamp → ℕ → ℕ → Image → CoreState
-begun_core c v base join image = record c {
-  log = record { start = base; image = image; entries = [] };
-  base = base;
-  promise = v;
-  told = base;
-  acc = base;
-  taken = base;
-  start = join;
-}

@@ -1,17 +1,8 @@
 ghost use Rattle.std.specs.Prelude.{◌≡◌, ◌≢◌, ◌<◌, ◌≤◌, ◌+◌, [], length, true, false};
-ghost use Rattle.am_base.specs.Most.{most_number};
-ghost use Rattle.am_base.specs.Limits.{IsNumber};
+ghost use Rattle.am_handlers.specs.Prelude.{members_of, has, is_sequencer, image_of, Tells, node_of, Finishes, Performs, HasRoomLeft, MayServe};
 ghost use Rattle.am_fronts.specs.Reports.{reports_of};
-ghost use Rattle.am_model.specs.Node.{told, top, is_sequencer, only_name};
-ghost use Rattle.am_model.specs.Emit.{gone_of};
 ghost use Rattle.am_model.specs.Sequencing.{is_unknown};
 ghost use Rattle.am_model.specs.Joining.{may_go, counts_report, asks_to_leave, leave_ask_row};
-ghost use Rattle.am_packet.specs.Boxes.{with_letter};
-ghost use Rattle.am_model.specs.Ends.{Tells, Does};
-ghost use Rattle.am_base.specs.Names.{has};
-ghost use Rattle.am_base.specs.Lists.{members_of};
-ghost use Rattle.am_handlers.specs.Parts.{node_of};
-ghost use Rattle.am_handlers.specs.Finishing.{Done};
 ghost use Rattle.am_joining.specs.Pieces.{is_stored, and_let_go, number_leave, leave_again};
 
 use am_base::entry::Entry;
@@ -21,9 +12,9 @@ use am_base::names::Names;
 use am_base::outcome::Outcome;
 use am_core::log::Log;
 use am_fronts::fronts::Fronts;
-use am_handlers::asking::{has_room, held, is_unknown, next_number, report_fits, row};
+use am_handlers::asking::{has_room, held_answer, is_unknown, next_number, report_fits, row};
 use am_handlers::finishing::{finish_polling, finish_quietly};
-use am_handlers::packets::{bcast, gone, only};
+use am_handlers::packets::{bcast, gone_packet, only};
 use am_handlers::parts::Parts;
 use am_letter::out_box::OutBox;
 
@@ -53,7 +44,7 @@ fn may_go(parts: &Parts, name: Name) -> bool
     ensures { Tells (λ n. may_go n name) (node_of parts.now) result }
 {
     let left = row(parts, name).left;
-    let accepted = parts.accepted();
+    let accepted = parts.accept_front();
     let others = parts.core.since_accepted().without(name);
     is_stored(&parts.fronts, accepted, left, others)
 }
@@ -70,7 +61,7 @@ fn let_go(parts: &Parts, name: Name, out: &mut OutBox) -> bool
     if !may_go(parts, name) {
         return false;
     }
-    out.put(only(name), &gone(&parts.core, row.left));
+    out.put(only(name), &gone_packet(&parts.core, row.left));
     true
 }
 
@@ -78,21 +69,17 @@ fn let_go(parts: &Parts, name: Name, out: &mut OutBox) -> bool
 #[tactic(auto, using(am_model::proofs::Letters::one_more))]
 fn number_leave(parts: &mut Parts, before: u32, from: Name, out: &mut OutBox) -> Outcome
     requires leads { is_sequencer (node_of parts.old) ≡ true }
-    requires leaver { has (members_of (told (node_of parts.old))) from ≡ true }
+    requires leaver { has (members_of (image_of (node_of parts.old))) from ≡ true }
     requires other { from ≢ parts.old.core.who }
-    requires room { length parts.old.core.log.entries < parts.old.core.rules.window + 15 }
-    requires number { top (node_of parts.old) < most_number }
+    requires room { HasRoomLeft (node_of parts.old) }
     requires empty { out.old ≡ [] }
-    ensures { Done before (number_leave (node_of parts.old) from) result out.new
-        (node_of parts.new) }
+    ensures { Finishes before (number_leave (node_of parts.old) from) result out.new parts.new }
 {
-    let _before = parts.accepted();
     let number = next_number(parts);
     let others = parts.others();
-    let entry = Entry::Leave(from);
     parts.push(Entry::Leave(from));
     parts.end();
-    out.put(others, &bcast(&parts.core, number, &entry));
+    out.put(others, &bcast(&parts.core, number, &Entry::Leave(from)));
     let _goes = let_go(parts, from, out);
     Outcome::Numbered { number }
 }
@@ -101,10 +88,9 @@ fn number_leave(parts: &mut Parts, before: u32, from: Name, out: &mut OutBox) ->
 #[tactic(auto, using(am_model::proofs::Letters::one_more))]
 fn leave_again(parts: &mut Parts, before: u32, from: Name, out: &mut OutBox) -> Outcome
     requires { out.old ≡ [] }
-    ensures { Done before (leave_again (node_of parts.old) from) result out.new
-        (node_of parts.new) }
+    ensures { Finishes before (leave_again (node_of parts.old) from) result out.new parts.new }
 {
-    let _before = parts.accepted();
+    let _before = parts.accept_front();
     let row = row(parts, from);
     parts.end();
     let goes = let_go(parts, from, out);
@@ -117,20 +103,17 @@ fn leave_again(parts: &mut Parts, before: u32, from: Name, out: &mut OutBox) -> 
 
 /// Does what a member's request to leave asks for, where so much was accepted before.
 fn asks_to_leave(parts: &mut Parts, before: u32, from: Name, out: &mut OutBox) -> Outcome
-    requires leads { is_sequencer (node_of parts.old) ≡ true }
+    requires serves { MayServe (node_of parts.old) from }
     requires known { is_unknown (node_of parts.old) from ≡ false }
-    requires other { from ≢ parts.old.core.who }
-    requires number { top (node_of parts.old) < most_number }
     requires empty { out.old ≡ [] }
-    ensures { Done before (asks_to_leave (node_of parts.old) from) result out.new
-        (node_of parts.new) }
+    ensures { Finishes before (asks_to_leave (node_of parts.old) from) result out.new parts.new }
 {
     let row = row(parts, from);
     if 0 < row.left {
         return leave_again(parts, before, from, out);
     }
     if !has_room(parts) {
-        let answer = held(parts);
+        let answer = held_answer(parts);
         return finish_polling(parts, before, answer, out);
     }
     number_leave(parts, before, from, out)
@@ -147,14 +130,11 @@ pub fn on_leave_ask(
     report: Report,
     out: &mut OutBox,
 ) -> Outcome
-    requires leads { is_sequencer (node_of parts.old) ≡ true }
-    requires other { from ≢ parts.old.core.who }
-    requires number { top (node_of parts.old) < most_number }
+    requires serves { MayServe (node_of parts.old) from }
     requires empty { out.old ≡ [] }
-    ensures { Does (λ m. leave_ask_row m from stamp report) (node_of parts.old) result out.new
-        (node_of parts.new) }
+    ensures { Performs (λ m. leave_ask_row m from stamp report) parts.old result out.new parts.new }
 {
-    let before = parts.accepted();
+    let before = parts.accept_front();
     if is_unknown(parts, from) {
         return finish_quietly(parts, before, Outcome::Stranger, out);
     }

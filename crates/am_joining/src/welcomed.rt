@@ -1,23 +1,15 @@
 ghost use Rattle.std.specs.Prelude.{◌≡◌, ◌≢◌, ◌||◌, [], true, false, nat_lt};
-ghost use Rattle.am_base.specs.Limits.{IsNumber, IsStamp, IsImage};
-ghost use Rattle.am_base.specs.Lists.{row_of, top_of};
-ghost use Rattle.am_base.specs.Stamps.{stamp_eq, stamp_lt};
-ghost use Rattle.am_model.specs.Node.{view, is_member, is_asking, only_name};
-ghost use Rattle.am_model.specs.Emit.{telling, fetch_of};
-ghost use Rattle.am_model.specs.Joining.{begun, welcomed, welcome_row};
-ghost use Rattle.am_model.specs.Ends.{Does};
-ghost use Rattle.am_core.specs.Cores.{IsInOrder};
-ghost use Rattle.am_handlers.specs.Parts.{node_of};
-ghost use Rattle.am_handlers.specs.Finishing.{Done};
-ghost use Rattle.am_joining.specs.Pieces.{is_unfit, begun_core};
+ghost use Rattle.am_handlers.specs.Prelude.{IsNumber, IsStamp, IsImage, row_of, top_of, stamp_eq, stamp_lt, is_member, view, node_of, Finishes, Performs};
+ghost use Rattle.am_model.specs.Node.{is_asking};
+ghost use Rattle.am_model.specs.Joining.{begin_list, begun_core, ask_next, welcome_row};
+ghost use Rattle.am_joining.specs.Pieces.{is_unfit};
 
 use am_base::image::Image;
 use am_base::name::{Name, Stamp};
 use am_base::outcome::Outcome;
 use am_core::log::Log;
 use am_core::state::Core;
-use am_handlers::finishing::{finish_asking, finish_quietly};
-use am_handlers::packets::{fetch, only};
+use am_handlers::finishing::{OneLetter, finish_quietly, finish_telling};
 use am_handlers::parts::Parts;
 use am_letter::out_box::OutBox;
 use am_model::status::Status;
@@ -78,30 +70,11 @@ fn begin(parts: &mut Parts, stamp: Stamp, base: u32, join: u32, image: &Image)
     requires stamp { IsStamp stamp }
     requires base { IsNumber base }
     requires image { IsImage image.now }
-    ensures { node_of parts.new ≡ begun (node_of parts.old) stamp base join image.now }
+    ensures { node_of parts.new ≡ begin_list (node_of parts.old) stamp base join image.now }
 {
-    let _before = parts.accepted();
+    let _before = parts.accept_front();
     begin_core(&mut parts.core, stamp, base, join, image);
     parts.status = Status::Member;
-}
-
-/// The end of a step that asks a name for the view that the node begins in. It gives the answer back.
-fn finish_fetching(
-    parts: &mut Parts,
-    before: u32,
-    to: Name,
-    answer: Outcome,
-    out: &mut OutBox,
-) -> Outcome
-    requires { out.old ≡ [] }
-    ensures { Done before (telling (node_of parts.old) answer (only_name to) fetch_of) result
-        out.new (node_of parts.new) }
-{
-    let _before = parts.accepted();
-    parts.end();
-    out.put(only(to), &fetch(&parts.core));
-    parts.tell_accepted(before, false, false, out);
-    answer
 }
 
 /// Whether the node's view is this one.
@@ -122,14 +95,14 @@ fn ask_on(
     out: &mut OutBox,
 ) -> Outcome
     requires { out.old ≡ [] }
-    ensures { Done before (welcomed (node_of parts.old) from stamp join) result out.new
-        (node_of parts.new) }
+    ensures { Finishes before (ask_next (node_of parts.old) from stamp join)
+        result out.new parts.new }
 {
     let answer = Outcome::Welcomed { number: join };
     if has_view(parts, stamp) {
-        return finish_asking(parts, before, from, answer, out);
+        return finish_telling(parts, before, from, OneLetter::Nack, answer, out);
     }
-    finish_fetching(parts, before, from, answer, out)
+    finish_telling(parts, before, from, OneLetter::Fetch, answer, out)
 }
 
 /// Takes a Welcome of the sequencer of a view, at a node that has asked to join or is a member. Known: it is a member.
@@ -151,10 +124,10 @@ pub fn on_welcome(
     requires base { IsNumber base }
     requires image { IsImage image.now }
     requires empty { out.old ≡ [] }
-    ensures { Does (λ m. welcome_row m from stamp base join image.now)
-        (node_of parts.old) result out.new (node_of parts.new) }
+    ensures { Performs (λ m. welcome_row m from stamp base join image.now) parts.old
+        result out.new parts.new }
 {
-    let before = parts.accepted();
+    let before = parts.accept_front();
     if is_member(parts) {
         return finish_quietly(parts, before, Outcome::Known, out);
     }

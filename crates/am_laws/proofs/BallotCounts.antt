@@ -8,8 +8,8 @@ use Rattle.am_base.specs.declared.outcome.Outcome.TheVariants as said
 use Rattle.am_base.specs.Names.{names_of}
 use Rattle.am_fronts.specs.Reports as reports
 use Rattle.am_fronts.specs.Reports.{least_of}
-use Rattle.am_model.specs.Node.{Node, Ballot, top, told, pushed}
-use Rattle.am_model.specs.Ballots.{Verdict, promised, taken_by, goes_on, ends as ended, decide_view, trimmed_for, restarted, decide, next_stamp, new_ballot}
+use Rattle.am_model.specs.Node.{Node, Ballot, top, image_of, push_entry}
+use Rattle.am_model.specs.Ballots.{Verdict, with_promise, taken_by, goes_on, ends as ended, decide_view, trim_for, restart_reports, decide, next_stamp, new_ballot}
 use Rattle.am_model.specs.Ballots.{begin, with_vote, keep_vote, without_voter, give_up}
 use Rattle.am_model.specs.Calls.{give_up_of, give_up_row, reset_row}
 use Rattle.am_model.proofs.Greatest.{split}
@@ -37,7 +37,7 @@ with_ballot most g m b votes h = record {
   tells = record { reported = h.reported; votes = votes; known = h.known };
 }
 
-with_restart : (most : Bounds) (g : ℕ) (m : Node) → Low most g m → Low most g (restarted m)
+with_restart : (most : Bounds) (g : ℕ) (m : Node) → Low most g m → Low most g (restart_reports m)
 with_restart most g m h = record {
   counts = h.counts;
   order = h.order;
@@ -46,7 +46,7 @@ with_restart most g m h = record {
   tells = record { reported = λ name. restart_low g m.core.base name h.trims; votes = h.votes; known = h.known };
 }
   where
-    restart_low : (g base name : ℕ) → base ≤ g → (reports.restarted base name).taken ≤ g
+    restart_low : (g base name : ℕ) → base ≤ g → (reports.reports_from base name).taken ≤ g
     restart_low g base name low = split (nat_lt name 256) (λ t. rw t low) (λ f. rw f (omega arith))
 
 comes_on : (most : Bounds) (g : ℕ) (m : Node) (b : Ballot) (o : Outcome) → VotesKnown g (Some b) → Low (up most) g m → Comes most g (goes_on m b o)
@@ -71,20 +71,20 @@ or_nought g (Some x) h = h x refl
 comes_view : (most : Bounds) (g : ℕ) (m : Node) (b : Ballot) (names : List ℕ) → top m ≤ most.lists → VotesKnown g (Some b) → Behind g m → Low (up most) g m
     → Comes most g (decide_view m b names)
 comes_view most g m b names low votes k h =
-    let e = View b.stamp names (max b.resilience (told m).resilience) in
+    let e = View b.stamp names (max b.resilience (image_of m).resilience) in
     let n = low_viewed (up most) g m e (omega arith) k h in
     let over : Comes most g (ended m b (said.Crowded m.core.base (top m))) = comes_over most g m b (said.Crowded m.core.base (top m)) votes h in
-    let done : Comes most g (ended (restarted (pushed m e)) b (said.Decided (top m + 1) names)) =
-    comes_over most g (restarted (pushed m e)) b (said.Decided (top m + 1) names) votes (with_restart (up most) g (pushed m e) n) in
+    let done : Comes most g (ended (restart_reports (push_entry m e)) b (said.Decided (top m + 1) names)) =
+    comes_over most g (restart_reports (push_entry m e)) b (said.Decided (top m + 1) names) votes (with_restart (up most) g (push_entry m e) n) in
     search (comes_if, over, done)
 
 comes_trimmed : (most : Bounds) (g : ℕ) (m : Node) (b : Ballot) (names : List ℕ) → top m ≤ most.lists → VotesKnown g (Some b) → Behind g m → Low (up most) g m
-    → Comes most g (decide_view (trimmed_for m b names) b names)
+    → Comes most g (decide_view (trim_for m b names) b names)
 comes_trimmed most g m b names low votes k h =
     let to = unwrap_or (least_of (taken_by m.core.who m.core.taken b) (names_of names)) 0 in
     let taken : to ≤ g = or_nought g (least_of (taken_by m.core.who m.core.taken b) (names_of names))
     (λ y is. least_low g (taken_by m.core.who m.core.taken b) (names_of names) (taken_low g m b h.took votes) y is) in
-    comes_view most g (trimmed_for m b names) b names low votes (record { told = k.told; acc = k.acc }) (low_trimmed (up most) g m to taken h)
+    comes_view most g (trim_for m b names) b names low votes (record { told = k.told; acc = k.acc }) (low_trimmed (up most) g m to taken h)
 
 comes_decide : (most : Bounds) (g : ℕ) (m : Node) (b : Ballot) → top m ≤ most.lists → VotesKnown g (Some b) → Behind g m → Low (up most) g m
     → Comes most g (decide m b)
@@ -108,7 +108,7 @@ ends_begin most g m least resilience k h =
     let low = h.rounds in
     let n = low_promised (up most) g m stamp (omega arith) (low_more most g m h) in
     let votes : VotesKnown g (Some (new_ballot stamp least (min resilience 15))) = λ name vote is. absurd (cc) in
-    ends_next most g _ (low_decide most g (promised m stamp) (new_ballot stamp least (min resilience 15)) h.entries votes
+    ends_next most g _ (low_decide most g (with_promise m stamp) (new_ballot stamp least (min resilience 15)) h.entries votes
     (record { told = k.told; acc = k.acc }) n)
 
 -- the votes with one more, or without one

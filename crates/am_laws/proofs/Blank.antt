@@ -11,7 +11,7 @@ use Rattle.am_model.specs.Node.{Node, Ballot, is_member, is_sequencer}
 use Rattle.am_model.specs.Ballots.{Verdict}
 use Rattle.am_model.specs.Refresh.{refresh}
 use Rattle.am_model.specs.Group.{has_log}
-use Rattle.am_model.specs.World.{World, start, first_node, unchanged, stepped, run}
+use Rattle.am_model.specs.World.{World, start, first_node, with_record, with_step, run}
 use Rattle.am_model.proofs.Greatest.{split}
 use Rattle.am_effects.specs.Causes.{Cause}
 use Rattle.am_effects.specs.Changes.{Change, refreshes, settles, numbers, notes, stores, begins_list, departs}
@@ -92,7 +92,7 @@ pub record AllBlank (rules : Rules) (w : World) : Type 0 where
   pub each : (name : ℕ) → name < 256 → Blanked (w.nodes name)
 
 pub each_blank : (rules : Rules) → EachKeeps (AllBlank rules)
-unfolding unchanged stepped
+unfolding with_record with_step
 each_blank rules w e v (idles o idle) h = record { views = each_views rules w e v (idles o idle) h.views; each = h.each }
 each_blank rules w e v (stops runs) h = record { views = each_views rules w e v (stops runs) h.views; each = h.each }
 each_blank rules w e v (returns place is left more) h = record { views = each_views rules w e v (returns place is left more) h.views; each = h.each }

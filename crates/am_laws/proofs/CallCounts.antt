@@ -12,9 +12,9 @@ use Rattle.am_sender.specs.Sends.{Sends}
 use Rattle.am_sender.specs.Sends as own
 use Rattle.am_model.specs.declared.status.Status.{Status}
 use Rattle.am_model.specs.declared.status.Status.TheVariants as status
-use Rattle.am_model.specs.Node.{Node, Ballot, top, pushed, waiting, unsettled}
+use Rattle.am_model.specs.Node.{Node, Ballot, top, push_entry, waiting, unsettled_count}
 use Rattle.am_model.specs.Emit.{Plan, quiet}
-use Rattle.am_model.specs.Calls.{number_send, emit, queued, queue, given, join_by, state_by, go, is_unfinished, leave_now, leave_by, ask_of, send_row, done_row}
+use Rattle.am_model.specs.Calls.{number_send, emit, with_queued, queue, give_out, join_by, state_by, go, is_unfinished, leave_now, leave_by, ask_of, send_row, done_row}
 use Rattle.am_model.specs.Calls.{take_row, join_row, state_row, leave_row, ask_row}
 use Rattle.am_model.specs.Receiving.{is_view}
 use Rattle.am_model.specs.Ticks.{tick_ballot, tick_member, put_off, and_result, tick_sequencer, tick_acting, tick_with, tick_by, tick_row}
@@ -31,7 +31,7 @@ ends_queued most g m (Some s) o low h =
     let k = low_sent most g m (Data m.core.who s.req s.body) refl low h in
     search (ends_if, ends_next, k)
   where
-    low_sent : (most : Bounds) (g : ℕ) (m : Node) (e : Entry) → is_view e ≡ false → top m ≤ most.lists → Low (up most) g m → Low (up most) g (pushed m e)
+    low_sent : (most : Bounds) (g : ℕ) (m : Node) (e : Entry) → is_view e ≡ false → top m ≤ most.lists → Low (up most) g m → Low (up most) g (push_entry m e)
     low_sent most g m e other low h = let p = low_pushed (up most) g m e other h in
         record {
           counts = record { entries = simp length-append (omega arith); rounds = h.rounds; sends = h.sends };
@@ -52,14 +52,14 @@ ends_queue most g m body stays h =
     let last = h.sends in
     let few = h.entries in
     let low = h.rounds in
-    let now : Low (up most) g (queued m body) = record {
+    let now : Low (up most) g (with_queued m body) = record {
       counts = record { entries = omega arith; rounds = omega arith; sends = omega arith };
       order = h.order;
       within = h.within;
       quits = λ t. absurd (cc);
       tells = h.tells;
     } in
-    let k = ends_queued most g (queued m body) (waiting (queued m body)) (said.Queued (m.sends.last + 1)) few now in
+    let k = ends_queued most g (with_queued m body) (waiting (with_queued m body)) (said.Queued (m.sends.last + 1)) few now in
     search (ends_if, ends_next, k)
 
 pub ends_send : (most : Bounds) (g : ℕ) (m : Node) (body : List ℕ) → Low most g m → Ends most g (send_row m body)
@@ -95,7 +95,7 @@ ends_done most g m req h = ends_at most g _ (record {
 
 -- ---- what is accepted
 
-ends_given : (most : Bounds) (g : ℕ) (m : Node) (e : Option Entry) → (m.core.taken == m.core.acc) ≡ false → Behind g m → Low most g m → Ends most g (given m e)
+ends_given : (most : Bounds) (g : ℕ) (m : Node) (e : Option Entry) → (m.core.taken == m.core.acc) ≡ false → Behind g m → Low most g m → Ends most g (give_out m e)
 ends_given most g m None more k h = ends_at most g _ h
 ends_given most g m (Some e) more k h =
     let given = h.given in
@@ -112,7 +112,7 @@ ends_given most g m (Some e) more k h =
 pub ends_take : (most : Bounds) (g : ℕ) (m : Node) → Behind g m → Low most g m → Ends most g (take_row m)
 unfolding take_row
 ends_take most g m k h =
-    let l : (m.core.taken == m.core.acc) ≡ false → Ends most g (given m (entry_at m.core.log (m.core.taken + 1))) =
+    let l : (m.core.taken == m.core.acc) ≡ false → Ends most g (give_out m (entry_at m.core.log (m.core.taken + 1))) =
     λ f. ends_given most g m (entry_at m.core.log (m.core.taken + 1)) f k h in
     search (ends, l)
 
@@ -141,7 +141,7 @@ ends_state most g m h = ends_state_by most g m m.status h
 -- the last member's own Leave
 ends_go : (most : Bounds) (g : ℕ) (p : Plan) → Low most g p.node → Ends most g (go p)
 ends_go most g p h =
-    let k : Low (up most) g (pushed p.node (Leave p.node.core.who)) = low_pushed most g p.node (Leave p.node.core.who) refl h in
+    let k : Low (up most) g (push_entry p.node (Leave p.node.core.who)) = low_pushed most g p.node (Leave p.node.core.who) refl h in
     search (ends, ends_next, k)
 
 low_leaving : (most : Bounds) (g : ℕ) (m : Node) → waiting m ≡ None → Low most g m → Low most g (record m { leaving = true })
@@ -157,8 +157,8 @@ low_leaving most g m none h = record {
 ends_leave_now : (most : Bounds) (g : ℕ) (m : Node) → Low most g m → Ends most g (leave_now m)
 ends_leave_now most g m h =
     let p = quiet (record m { leaving = true }) said.Asked in
-    let k : (nat_lt 0 (unsettled m) || is_unfinished m.ballot) ≡ false → Ends most g (go p) = λ f.
-    ends_go most g p (low_leaving most g m (none_waits m (no_more (unsettled m) (is_unfinished m.ballot) f)) h) in
+    let k : (nat_lt 0 (unsettled_count m) || is_unfinished m.ballot) ≡ false → Ends most g (go p) = λ f.
+    ends_go most g p (low_leaving most g m (none_waits m (no_more (unsettled_count m) (is_unfinished m.ballot) f)) h) in
     search (ends, k)
   where
     no_more : (n : ℕ) (t : Bool) → (nat_lt 0 n || t) ≡ false → n ≡ 0

@@ -15,10 +15,10 @@ use Rattle.am_fronts.specs.Reports.{least_of, lesser}
 use Rattle.am_fronts.specs.Refresh.{base_after, own_report, tell, go_on, let_go}
 use Rattle.am_sender.specs.declared.OwnSend.{OwnSend}
 use Rattle.am_sender.specs.Sends.{is_unsettled}
-use Rattle.am_model.specs.Node.{Node, Ballot, top, view, acts, is_sequencer, pushed, trimmed, waiting, unsettled, with_report}
-use Rattle.am_model.specs.Refresh.{advance, lead, refresh, accepted_at, settled_at, settled, settle, refresh_at_end}
+use Rattle.am_model.specs.Node.{Node, Ballot, top, view, acts, is_sequencer, push_entry, trim_up_to, waiting, unsettled_count, with_report}
+use Rattle.am_model.specs.Refresh.{advance, lead, refresh, accepted_at, settle_at, settle_waiting, settle, refresh_at_end}
 use Rattle.am_model.specs.Emit.{Plan, finish}
-use Rattle.am_model.specs.Ballots.{overtaken, promised}
+use Rattle.am_model.specs.Ballots.{overtake, with_promise}
 use Rattle.am_model.specs.Receiving.{is_view}
 use Rattle.am_model.proofs.Greatest.{split}
 use Rattle.am_model.proofs.AcceptFronts.{accept_front_is}
@@ -111,10 +111,10 @@ both false b h = absurd (cc)
 -- ---- entries
 
 -- an entry that is no View
-pub low_pushed : (b : Bounds) (g : ℕ) (m : Node) (e : Entry) → is_view e ≡ false → Low b g m → Low (up b) g (pushed m e)
+pub low_pushed : (b : Bounds) (g : ℕ) (m : Node) (e : Entry) → is_view e ≡ false → Low b g m → Low (up b) g (push_entry m e)
 low_pushed b g m e other h =
     let f = h.entries in let r = h.rounds in let s = h.sends in let a = h.accepted in
-    let same : (view m).by ≡ (view (pushed m e)).by = ap (λ (s : Stamp). s.by) (sym (view_pushed m e other)) in
+    let same : (view m).by ≡ (view (push_entry m e)).by = ap (λ (s : Stamp). s.by) (sym (view_pushed m e other)) in
     record {
       counts = record { entries = simp length-append (omega arith); rounds = omega arith; sends = omega arith };
       order = record { given = h.given; accepted = simp length-append (omega arith); kept = h.kept };
@@ -128,7 +128,7 @@ low_pushed b g m e other h =
     }
 
 -- any entry, where nothing is accepted that the group hasn't
-pub low_viewed : (b : Bounds) (g : ℕ) (m : Node) (e : Entry) → top m + 1 ≤ b.lists → Behind g m → Low b g m → Low b g (pushed m e)
+pub low_viewed : (b : Bounds) (g : ℕ) (m : Node) (e : Entry) → top m + 1 ≤ b.lists → Behind g m → Low b g m → Low b g (push_entry m e)
 low_viewed b g m e low k h =
     let a = h.accepted in
     record {
@@ -139,18 +139,18 @@ low_viewed b g m e low k h =
       tells = record { reported = h.reported; votes = h.votes; known = inl (k.told, k.acc) };
     }
 
-pub low_any : (b : Bounds) (g : ℕ) (m : Node) (e : Entry) → Behind g m → Low b g m → Low (up b) g (pushed m e)
+pub low_any : (b : Bounds) (g : ℕ) (m : Node) (e : Entry) → Behind g m → Low b g m → Low (up b) g (push_entry m e)
 low_any b g m e k h = let f = h.entries in low_viewed (up b) g m e (omega arith) k (low_more b g m h)
 
 -- an entry of a number that was there before
 pub low_within : (b : Bounds) (g : ℕ) (m : Node) (number : ℕ) (e : Entry) → nat_le number (top m) ≡ false → number ≤ b.lists → Behind g m → Low b g m
-    → Low b g (pushed m e)
+    → Low b g (push_entry m e)
 low_within b g m number e above low k h =
     let t : top m < number = grind (arith, nat_tests) in
     low_viewed b g m e (omega arith) k h
 
 -- a base up to what is accepted
-pub low_trimmed : (b : Bounds) (g : ℕ) (m : Node) (base : ℕ) → base ≤ g → Low b g m → Low b g (trimmed m base)
+pub low_trimmed : (b : Bounds) (g : ℕ) (m : Node) (base : ℕ) → base ≤ g → Low b g m → Low b g (trim_up_to m base)
 low_trimmed b g m base low h = let t = h.trims in let k = h.kept in record {
   counts = h.counts;
   order = record { given = h.given; accepted = h.accepted; kept = omega arith };
@@ -161,11 +161,11 @@ low_trimmed b g m base low h = let t = h.trims in let k = h.kept in record {
 
 -- ---- promises
 
-votes_overtaken : (g : ℕ) (by : Stamp) (ballot : Option Ballot) → VotesKnown g ballot → VotesKnown g (overtaken by ballot)
+votes_overtaken : (g : ℕ) (by : Stamp) (ballot : Option Ballot) → VotesKnown g ballot → VotesKnown g (overtake by ballot)
 votes_overtaken g by None h = tt
 votes_overtaken g by (Some b) h = split (not b.is_over && stamp_lt b.stamp by) (λ t. rw t h) (λ f. rw f h)
 
-pub low_promised : (b : Bounds) (g : ℕ) (m : Node) (stamp : Stamp) → stamp.round ≤ b.rounds → Low b g m → Low b g (promised m stamp)
+pub low_promised : (b : Bounds) (g : ℕ) (m : Node) (stamp : Stamp) → stamp.round ≤ b.rounds → Low b g m → Low b g (with_promise m stamp)
 low_promised b g m stamp low h = record {
   counts = record { entries = h.entries; rounds = low; sends = h.sends };
   order = h.order;
@@ -192,7 +192,7 @@ none_left (s ∷ queue) h = split (is_unsettled s)
     ∙ ap (λ (b : Bool). (if b then 1 else 0) + count_by is_unsettled queue) f in
     rw f (none_left queue (omega arith)))
 
-pub none_waits : (m : Node) → unsettled m ≡ 0 → waiting m ≡ None
+pub none_waits : (m : Node) → unsettled_count m ≡ 0 → waiting m ≡ None
 none_waits m h = none_left m.sends.queue h
 
 -- ---- reports
@@ -304,7 +304,7 @@ low_refresh b g m h = split (is_sequencer m) (λ t. rw t (low_lead b g m (sequen
 -- ---- the end of a step
 
 -- who has something to send isn't leaving
-low_settled_at : (b : Bounds) (g : ℕ) (m : Node) (s : OwnSend) (at : Option ℕ) → waiting m ≡ Some s → Low b g m → Low b g (settled_at m s.req at)
+low_settled_at : (b : Bounds) (g : ℕ) (m : Node) (s : OwnSend) (at : Option ℕ) → waiting m ≡ Some s → Low b g m → Low b g (settle_at m s.req at)
 low_settled_at b g m s None is h = h
 low_settled_at b g m s (Some k) is h = record {
   counts = h.counts;
@@ -314,7 +314,7 @@ low_settled_at b g m s (Some k) is h = record {
   tells = h.tells;
 }
 
-low_settled : (b : Bounds) (g : ℕ) (m : Node) (w : Option OwnSend) → waiting m ≡ w → Low b g m → Low b g (settled m w)
+low_settled : (b : Bounds) (g : ℕ) (m : Node) (w : Option OwnSend) → waiting m ≡ w → Low b g m → Low b g (settle_waiting m w)
 low_settled b g m None is h = h
 low_settled b g m (Some s) is h = low_settled_at b g m s (accepted_at m s.req) is h
 

@@ -13,9 +13,9 @@ use Rattle.am_group.specs.Addressed.{is_for}
 use Rattle.am_group.specs.Journals.{letter_at}
 use Rattle.am_model.specs.Node.{Node}
 use Rattle.am_model.specs.Emit.{Step}
-use Rattle.am_model.specs.Step.{step, hear, refused}
+use Rattle.am_model.specs.Step.{step, hear, hear_refusal}
 use Rattle.am_model.specs.Lengths.{packet_length}
-use Rattle.am_model.specs.World.{World, is_stopped, unchanged, stepped, heard, hear_cut, lives_on, acts_as, happens}
+use Rattle.am_model.specs.World.{World, is_stopped, with_record, with_step, hears_letter, hear_cut, lives_on, acts_as, happens}
 use Rattle.am_model.specs.Claims.{heard_by}
 use Rattle.am_effects.specs.Events.{actor}
 use Rattle.am_laws.specs.Packets.{Bounds, up, UpTo}
@@ -30,43 +30,43 @@ more_if : (b : Bounds) (g name : ℕ) (t : Bool) (v w : World) → OneMore b g n
 more_if b g name true v w f h = f
 more_if b g name false v w f h = h
 
-more_unchanged : (b : Bounds) (g name : ℕ) (w : World) (e : Event) (o : Outcome) → Low b g (w.nodes name) → OneMore b g name (unchanged w e o)
-unfolding unchanged
+more_unchanged : (b : Bounds) (g name : ℕ) (w : World) (e : Event) (o : Outcome) → Low b g (w.nodes name) → OneMore b g name (with_record w e o)
+unfolding with_record
 more_unchanged b g name w e o h = record { node = low_more b g (w.nodes name) h }
 
 more_stops : (b : Bounds) (g name : ℕ) (w : World) (e : Event) (o : Outcome) (stopped : List ℕ) → Low b g (w.nodes name)
-    → OneMore b g name (unchanged (record w { stopped = stopped }) e o)
-unfolding unchanged
+    → OneMore b g name (with_record (record w { stopped = stopped }) e o)
+unfolding with_record
 more_stops b g name w e o stopped h = record { node = low_more b g (w.nodes name) h }
 
 more_lives : (b : Bounds) (g name : ℕ) (w : World) (e : Event) (o : Outcome) (place : ℕ) → Low b g (w.nodes name)
-    → OneMore b g name (lives_on (unchanged w e o) place)
-unfolding unchanged
+    → OneMore b g name (lives_on (with_record w e o) place)
+unfolding with_record
 more_lives b g name w e o place h = record { node = low_more b g (w.nodes name) h }
 
 is_itself : (name : ℕ) → (name == name) ≡ true
 is_itself name = grind (arith, nat_tests)
 
-more_stepped : (b : Bounds) (g name : ℕ) (w : World) (e : Event) (s : Step) → Low (up b) g s.node → OneMore b g name (stepped w e name s)
-unfolding stepped
+more_stepped : (b : Bounds) (g name : ℕ) (w : World) (e : Event) (s : Step) → Low (up b) g s.node → OneMore b g name (with_step w e name s)
+unfolding with_step
 more_stepped b g name w e s h = record { node = rw (is_itself name) h }
 
 ruleset mores = (more_if, more_unchanged, more_stops, more_lives)
 
 more_event : (b : Bounds) (g name : ℕ) (w : World) (e : Event) (event : NodeEvent) → IsDone event → Behind g (w.nodes name) → Low b g (w.nodes name)
-    → OneMore b g name (stepped w e name (step (w.nodes name) event))
+    → OneMore b g name (with_step w e name (step (w.nodes name) event))
 more_event b g name w e event d k h = more_stepped b g name w e (step (w.nodes name) event) (low_step b g (w.nodes name) event d k h)
 
 low_cut : (b : Bounds) (g : ℕ) (m : Node) (keep : ℕ) (p : Packet) → UpTo b g p → Behind g m → Low b g m → Low (up b) g (hear_cut m keep p).node
 low_cut b g m keep p u k h = one (nat_le (packet_length p) keep) (nat_lt keep 12)
   where
-    one : (whole none : Bool) → Low (up b) g (if whole then hear m p else if none then refused m 1 else refused m 5).node
+    one : (whole none : Bool) → Low (up b) g (if whole then hear m p else if none then hear_refusal m 1 else hear_refusal m 5).node
     one true none = low_hear b g m p u k h
     one false true = low_refused b g m 1 h
     one false false = low_refused b g m 5 h
 
 more_heard : (b : Bounds) (g name : ℕ) (w : World) (e : Event) (hearing : Packet → Step) (l : Option Letter) → Low b g (w.nodes name)
-    → ((letter : Letter) → l ≡ Some letter → Low (up b) g (hearing letter.packet).node) → OneMore b g name (heard w e name hearing l)
+    → ((letter : Letter) → l ≡ Some letter → Low (up b) g (hearing letter.packet).node) → OneMore b g name (hears_letter w e name hearing l)
 more_heard b g name w e hearing None h k = search mores
 more_heard b g name w e hearing (Some l) h k =
     more_if b g name (not (is_for l name)) _ _ (more_unchanged b g name w e said.NotAddressed h)

@@ -13,10 +13,10 @@ use Rattle.am_base.specs.Names.{has}
 use Rattle.am_base.specs.Stamps.{stamp_lt}
 use Rattle.am_group.specs.declared.event.Act.{Act}
 use Rattle.am_group.specs.declared.event.Event.{Event}
-use Rattle.am_model.specs.Node.{Node, Ballot, pushed}
-use Rattle.am_model.specs.Ballots.{Verdict, overtaken}
+use Rattle.am_model.specs.Node.{Node, Ballot, push_entry}
+use Rattle.am_model.specs.Ballots.{Verdict, overtake}
 use Rattle.am_model.specs.Refresh.{refresh, refresh_at_end}
-use Rattle.am_model.specs.World.{World, start, current, is_stopped, unchanged, stepped, run}
+use Rattle.am_model.specs.World.{World, start, current, is_stopped, with_record, with_step, run}
 use Rattle.am_model.proofs.Greatest.{split}
 use Rattle.am_effects.specs.Causes.{Cause, calls}
 use Rattle.am_effects.specs.Looks.{HasOpen, Balloting, with_more, without_one, as_it_is, Looks, finds_itself_out}
@@ -33,7 +33,7 @@ abbrev GivesUp : (ℕ → Type 0) → Option Ballot → Type 0
 GivesUp S None = Unit {0}
 GivesUp S (Some b) = (other : ℕ) → b.given_up other ≡ true → S other
 
-still_overtaken : (S : ℕ → Type 0) (by : Stamp) (ballot : Option Ballot) → GivesUp S ballot → GivesUp S (overtaken by ballot)
+still_overtaken : (S : ℕ → Type 0) (by : Stamp) (ballot : Option Ballot) → GivesUp S ballot → GivesUp S (overtake by ballot)
 still_overtaken S by None h = tt
 still_overtaken S by (Some b) h = split (not b.is_over && stamp_lt b.stamp by) (λ t. rw t h) (λ f. rw f h)
 
@@ -68,7 +68,7 @@ change_gives S called m n (promises v low why) h = still_overtaken S v m.ballot 
 change_gives S called m n (opens least resilience by may) h = λ other up. absurd (cc)
 change_gives S called m n (looks b verdict over why look is) h = look_gives S m b verdict look (looked_at S called m b why h)
 change_gives S called m n (closes leads leaves alone room) h =
-    same_ballot S m (refresh_at_end (pushed m (Leave m.core.who))) (rests_at_end (pushed m (Leave m.core.who))).rests.ballot h
+    same_ballot S m (refresh_at_end (push_entry m (Leave m.core.who))) (rests_at_end (push_entry m (Leave m.core.who))).rests.ballot h
 change_gives S called m n _ h = h
 
 -- ---- worlds
@@ -97,7 +97,7 @@ given_stopped w v nodes more h = record {
 }
 
 each_gives : EachKeeps AllGiven
-unfolding unchanged stepped
+unfolding with_record with_step
 each_gives w e v (idles o idle) h = given_stopped w v refl (λ other s. s) h
 each_gives w e v (stops runs) h = given_stopped w v refl (λ other s. any_more (λ x. x == other) w.stopped _ s) h
 each_gives w e v (returns place is left more) h = given_stopped w v refl

@@ -19,16 +19,16 @@ use Rattle.am_base.specs.Lists.{at_place, fits}
 use Rattle.am_packet.specs.declared.packet.Packet.{Packet}
 use Rattle.am_packet.specs.declared.packet.Packet.TheVariants as packet
 use Rattle.am_sender.specs.declared.OwnSend.{OwnSend}
-use Rattle.am_model.specs.Node.{Node, Ballot, top, told, is_within_bound, pushed, trimmed, with_report, waiting}
+use Rattle.am_model.specs.Node.{Node, Ballot, top, image_of, is_within_bound, push_entry, trim_up_to, with_report, waiting}
 use Rattle.am_model.specs.Emit.{Plan}
-use Rattle.am_model.specs.Sequencing.{reported, number_data, requested, request_row, ack_row, asked_again, nack_row}
-use Rattle.am_model.specs.Receiving.{spread_row, is_view, stored, store, noted, received, bcast_row, data_of, body_of, order_row, accept_row, held_up, hold_row}
-use Rattle.am_model.specs.Joining.{admitted, number_join, asks_to_join, join_ask_row, begun, welcome_row, asks_to_leave, leave_ask_row, gone_row}
-use Rattle.am_model.specs.Ballots.{promised}
-use Rattle.am_model.specs.Resets.{invite_row, voted_for, vote_row, fetch_row, fetched, caught_up, fetched_for, piece_promised, piece_for, piece_row}
+use Rattle.am_model.specs.Sequencing.{take_report, number_data, answer_request, request_row, ack_row, serve_again, nack_row}
+use Rattle.am_model.specs.Receiving.{spread_row, is_view, store_fitting, store, with_noted, receive_entry, bcast_row, data_of, body_of, order_row, accept_row, answer_hold, hold_row}
+use Rattle.am_model.specs.Joining.{with_admitted, number_join, asks_to_join, join_ask_row, begin_list, welcome_row, asks_to_leave, leave_ask_row, gone_row}
+use Rattle.am_model.specs.Ballots.{with_promise}
+use Rattle.am_model.specs.Resets.{invite_row, take_vote, vote_row, fetch_row, push_fetched, catch_up, decide_anew, piece_promised, piece_for, piece_row}
 use Rattle.am_model.specs.Resets.{hears_result, result_row, hand_over_row}
 use Rattle.am_model.specs.Hearing.{hear_row}
-use Rattle.am_model.specs.Step.{row, step, hear, refused, refuse}
+use Rattle.am_model.specs.Step.{row, step, hear, hear_refusal, refuse}
 use Rattle.am_model.proofs.Greatest.{split}
 use Rattle.am_effects.proofs.Tests.{or_first}
 use Rattle.am_laws.specs.Packets.{Bounds, up, UpTo}
@@ -39,10 +39,10 @@ use Rattle.am_laws.proofs.CallCounts.{ends_send, ends_done, ends_take, ends_join
 
 -- ---- the sequencer
 
-low_reported : (most : Bounds) (g : ℕ) (m : Node) (s : ℕ) (report : Report) → report.taken ≤ g → Low most g m → Low most g (reported m s report)
+low_reported : (most : Bounds) (g : ℕ) (m : Node) (s : ℕ) (report : Report) → report.taken ≤ g → Low most g m → Low most g (take_report m s report)
 low_reported most g m s report taken h = low_refresh most g (with_report m s report) (low_report most g m s report taken h)
 
-ends_requested : (most : Bounds) (g : ℕ) (m : Node) (s req : ℕ) (body : List ℕ) (by_order : Bool) → Low most g m → Ends most g (requested m s req body by_order)
+ends_requested : (most : Bounds) (g : ℕ) (m : Node) (s req : ℕ) (body : List ℕ) (by_order : Bool) → Low most g m → Ends most g (answer_request m s req body by_order)
 ends_requested most g m s req body by_order h =
     let k : Ends most g (number_data m s req body by_order) = ends_next most g _ (low_pushed most g m (Data s req body) refl h) in
     search (ends, k)
@@ -51,7 +51,7 @@ ends_request : (most : Bounds) (g : ℕ) (m : Node) (s : ℕ) (report : Report) 
     → Ends most g (request_row m s report req body by_order)
 unfolding request_row
 ends_request most g m s report req body by_order taken h =
-    let k = ends_requested most g (reported m s report) s req body by_order (low_reported most g m s report taken h) in
+    let k = ends_requested most g (take_report m s report) s req body by_order (low_reported most g m s report taken h) in
     search (ends, k)
 
 ends_ack : (most : Bounds) (g : ℕ) (m : Node) (s : ℕ) (report : Report) → report.taken ≤ g → Low most g m → Ends most g (ack_row m s report)
@@ -60,13 +60,13 @@ ends_ack most g m s report taken h =
     let k = low_report most g m s report taken h in
     search (ends, k)
 
-ends_asked_again : (most : Bounds) (g : ℕ) (m : Node) (s k : ℕ) → Low most g m → Ends most g (asked_again m s k)
+ends_asked_again : (most : Bounds) (g : ℕ) (m : Node) (s k : ℕ) → Low most g m → Ends most g (serve_again m s k)
 ends_asked_again most g m s k h = search ends
 
 ends_nack : (most : Bounds) (g : ℕ) (m : Node) (s : ℕ) (report : Report) → report.taken ≤ g → Low most g m → Ends most g (nack_row m s report)
 unfolding nack_row
 ends_nack most g m s report taken h =
-    let k = ends_asked_again most g (reported m s report) s report.stored (low_reported most g m s report taken h) in
+    let k = ends_asked_again most g (take_report m s report) s report.stored (low_reported most g m s report taken h) in
     search (ends, k)
 
 -- ---- a member
@@ -79,18 +79,18 @@ ends_spread most g m s req body h = search ends
 ends_store : (most : Bounds) (g : ℕ) (m : Node) (s number : ℕ) (e : Option Entry) (missing : Outcome) → Low most g m → Ends most g (store m s number e missing)
 ends_store most g m s number None missing h = search ends
 ends_store most g m s number (Some e) missing h =
-    let k : (is_view e || (not (fits (told m) e) || not (is_within_bound m m.core.base number))) ≡ false → Ends most g (stored m s number e) =
+    let k : (is_view e || (not (fits (image_of m) e) || not (is_within_bound m m.core.base number))) ≡ false → Ends most g (store_fitting m s number e) =
     λ f. ends_next most g _ (low_pushed most g m e (or_first (is_view e) _ f) h) in
     search (ends, k)
 
 ends_received : (most : Bounds) (g : ℕ) (m : Node) (s base number : ℕ) (e : Option Entry) (missing : Outcome) → Low most g m
-    → Ends most g (received m s base number e missing)
+    → Ends most g (receive_entry m s base number e missing)
 ends_received most g m s base number e missing h =
     let k = ends_store most g m s number e missing h in
     search (ends, k)
 
 -- what the sequencer has accepted the group has accepted
-low_noted : (most : Bounds) (g : ℕ) (m : Node) (base acc : ℕ) → acc ≤ g → Low most g m → Low most g (noted m base acc)
+low_noted : (most : Bounds) (g : ℕ) (m : Node) (base acc : ℕ) → acc ≤ g → Low most g m → Low most g (with_noted m base acc)
 low_noted most g m base acc low h =
     let to = if nat_le base m.core.taken then base else m.core.base in
     let taken = h.took in
@@ -112,11 +112,11 @@ low_noted most g m base acc low h =
 
 ends_bcast : (most : Bounds) (g : ℕ) (m : Node) (s base acc number : ℕ) (e : Entry) → acc ≤ g → Low most g m → Ends most g (bcast_row m s base acc number e)
 unfolding bcast_row
-ends_bcast most g m s base acc number e low h = ends_received most g (noted m base acc) s base number (Some e) said.Known (low_noted most g m base acc low h)
+ends_bcast most g m s base acc number e low h = ends_received most g (with_noted m base acc) s base number (Some e) said.Known (low_noted most g m base acc low h)
 
 ends_order : (most : Bounds) (g : ℕ) (m : Node) (s base acc number from req : ℕ) → acc ≤ g → Low most g m → Ends most g (order_row m s base acc number from req)
 unfolding order_row
-ends_order most g m s base acc number from req low h = ends_received most g (noted m base acc) s base number (data_of from req (body_of m from req))
+ends_order most g m s base acc number from req low h = ends_received most g (with_noted m base acc) s base number (data_of from req (body_of m from req))
     (said.NoBody from req) (low_noted most g m base acc low h)
 
 ends_accept : (most : Bounds) (g : ℕ) (m : Node) (s base acc high : ℕ) (poll : Bool) → acc ≤ g → Low most g m → Ends most g (accept_row m s base acc high poll)
@@ -125,7 +125,7 @@ ends_accept most g m s base acc high poll low h =
     let k = low_noted most g m base acc low h in
     search (ends, k)
 
-ends_held_up : (most : Bounds) (g : ℕ) (m : Node) (base high req : ℕ) (w : Option OwnSend) → Low most g m → Ends most g (held_up m base high req w)
+ends_held_up : (most : Bounds) (g : ℕ) (m : Node) (base high req : ℕ) (w : Option OwnSend) → Low most g m → Ends most g (answer_hold m base high req w)
 ends_held_up most g m base high req None h = search ends
 ends_held_up most g m base high req (Some s) h = search ends
 
@@ -136,7 +136,7 @@ ends_hold most g m base high req h = ends_held_up most g m base high req (waitin
 -- ---- joining and leaving
 
 -- a joiner's reports begin at the base
-low_admitted : (most : Bounds) (g : ℕ) (m : Node) (s : ℕ) → Low most g m → Low most g (admitted m s)
+low_admitted : (most : Bounds) (g : ℕ) (m : Node) (s : ℕ) → Low most g m → Low most g (with_admitted m s)
 low_admitted most g m s h = record {
   counts = h.counts;
   order = h.order;
@@ -147,16 +147,16 @@ low_admitted most g m s h = record {
 
 ends_asks_to_join : (most : Bounds) (g : ℕ) (m : Node) (s : ℕ) (q : Row) → Low most g m → Ends most g (asks_to_join m s q)
 ends_asks_to_join most g m s q h =
-    let k : Ends most g (number_join m s) = ends_next most g _ (low_pushed most g (admitted m s) (Join s) refl (low_admitted most g m s h)) in
+    let k : Ends most g (number_join m s) = ends_next most g _ (low_pushed most g (with_admitted m s) (Join s) refl (low_admitted most g m s h)) in
     search (ends, k) depth 9
 
 ends_join_ask : (most : Bounds) (g : ℕ) (m : Node) (s : ℕ) → Low most g m → Ends most g (join_ask_row m s)
 unfolding join_ask_row
-ends_join_ask most g m s h = ends_asks_to_join most g m s (at_place (told m) s) h
+ends_join_ask most g m s h = ends_asks_to_join most g m s (at_place (image_of m) s) h
 
 -- the list begins with nothing above the base
 low_begun : (most : Bounds) (g : ℕ) (m : Node) (v : Stamp) (base join : ℕ) (image : Image) → v.round ≤ most.rounds → base ≤ most.lists → base ≤ g → join ≤ g
-    → Low most g m → Low most g (begun m v base join image)
+    → Low most g m → Low most g (begin_list m v base join image)
 low_begun most g m v base join image round low from start h =
     record {
       counts = record { entries = omega arith; rounds = round; sends = h.sends };
@@ -175,14 +175,14 @@ ends_welcome most g m s v base join image round low from start h =
 
 ends_asks_to_leave : (most : Bounds) (g : ℕ) (m : Node) (s : ℕ) → Low most g m → Ends most g (asks_to_leave m s)
 ends_asks_to_leave most g m s h =
-    let k : Low (up most) g (pushed m (Leave s)) = low_pushed most g m (Leave s) refl h in
+    let k : Low (up most) g (push_entry m (Leave s)) = low_pushed most g m (Leave s) refl h in
     search (ends, ends_next, k)
 
 ends_leave_ask : (most : Bounds) (g : ℕ) (m : Node) (s : ℕ) (v : Stamp) (report : Report) → report.taken ≤ g → Low most g m
     → Ends most g (leave_ask_row m s v report)
 unfolding leave_ask_row
 ends_leave_ask most g m s v report taken h =
-    let k = ends_asks_to_leave most g (reported m s report) s (low_reported most g m s report taken h) in
+    let k = ends_asks_to_leave most g (take_report m s report) s (low_reported most g m s report taken h) in
     let l = ends_asks_to_leave most g m s h in
     search (ends, k, l)
 
@@ -199,7 +199,7 @@ ends_invite most g m s v round h =
     search (ends, k)
 
 ends_voted_for : (most : Bounds) (g : ℕ) (m : Node) (s : ℕ) (v : Stamp) (vote : Vote) (b : Option Ballot) → vote.taken ≤ g → VotesKnown g b → Behind g m
-    → Low most g m → Ends most g (voted_for m s v vote b)
+    → Low most g m → Ends most g (take_vote m s v vote b)
 ends_voted_for most g m s v vote None low votes k h = search ends
 ends_voted_for most g m s v vote (Some b) low votes k h =
     let l = ends_keep_vote most g m b s vote low votes k h in
@@ -219,26 +219,26 @@ ends_fetch most g m s v k h = search ends
 
 -- the next fetched entry is pushed: it has a number that was there before
 ends_fetched : (most : Bounds) (g : ℕ) (m : Node) (v : Stamp) (base number : ℕ) (e : Entry) (in_ballot : Bool) (then_ : Node → Plan) → number ≤ most.lists
-    → base ≤ g → (Low most g (pushed (trimmed m base) e) → Ends most g (then_ (pushed (trimmed m base) e))) → Behind g m → Low most g m
-    → Ends most g (fetched m v base number e in_ballot then_)
+    → base ≤ g → (Low most g (push_entry (trim_up_to m base) e) → Ends most g (then_ (push_entry (trim_up_to m base) e))) → Behind g m → Low most g m
+    → Ends most g (push_fetched m v base number e in_ballot then_)
 ends_fetched most g m v base number e in_ballot then_ low from goes k h =
-    let l : nat_le number (top m) ≡ false → Ends most g (then_ (pushed (trimmed m base) e)) =
-    λ f. goes (low_within most g (trimmed m base) number e f low (record { told = k.told; acc = k.acc }) (low_trimmed most g m base from h)) in
+    let l : nat_le number (top m) ≡ false → Ends most g (then_ (push_entry (trim_up_to m base) e)) =
+    λ f. goes (low_within most g (trim_up_to m base) number e f low (record { told = k.told; acc = k.acc }) (low_trimmed most g m base from h)) in
     search (ends_if, ends_at, h, l) depth 8
 
 ends_piece_promised : (most : Bounds) (g : ℕ) (m : Node) (s : ℕ) (v : Stamp) (base number : ℕ) (e : Entry) → number ≤ most.lists → base ≤ g → Behind g m
     → Low most g m → Ends most g (piece_promised m s v base number e)
 ends_piece_promised most g m s v base number e low from k h =
-    let l = ends_fetched most g m v base number e false (caught_up s v number) low from (λ n. ends_at most g _ n) k h in
+    let l = ends_fetched most g m v base number e false (catch_up s v number) low from (λ n. ends_at most g _ n) k h in
     search (ends, l)
 
 ends_piece_for : (most : Bounds) (g : ℕ) (m : Node) (s : ℕ) (v : Stamp) (base number : ℕ) (e : Entry) (b : Option Ballot) → number ≤ most.lists → base ≤ g
     → VotesKnown g b → Behind g m → Low most g m → Ends most g (piece_for m s v base number e b)
 ends_piece_for most g m s v base number e None low from votes k h = ends_piece_promised most g m s v base number e low from k h
 ends_piece_for most g m s v base number e (Some b) low from votes k h =
-    let goes : Low most g (pushed (trimmed m base) e) → Ends most g (fetched_for b (pushed (trimmed m base) e)) =
-    λ n. ends_next most g _ (low_look most g (pushed (trimmed m base) e) b votes (record { told = k.told; acc = k.acc }) n) in
-    let l = ends_fetched most g m v base number e true (fetched_for b) low from goes k h in
+    let goes : Low most g (push_entry (trim_up_to m base) e) → Ends most g (decide_anew b (push_entry (trim_up_to m base) e)) =
+    λ n. ends_next most g _ (low_look most g (push_entry (trim_up_to m base) e) b votes (record { told = k.told; acc = k.acc }) n) in
+    let l = ends_fetched most g m v base number e true (decide_anew b) low from goes k h in
     let p = ends_piece_promised most g m s v base number e low from k h in
     search (ends_if, ends_at, h, l, p)
 
@@ -252,21 +252,21 @@ ends_piece most g m s v base number e low from k h =
 ends_hears_result : (most : Bounds) (g : ℕ) (m : Node) (s : ℕ) (v : Stamp) (base number : ℕ) (names : List ℕ) (resilience : ℕ) → base ≤ g → Behind g m
     → Low most g m → Ends most g (hears_result m s v base number names resilience)
 ends_hears_result most g m s v base number names resilience from k h =
-    let l : Low (up most) g (pushed (trimmed m base) (View v names resilience)) =
-    low_any most g (trimmed m base) (View v names resilience) (record { told = k.told; acc = k.acc }) (low_trimmed most g m base from h) in
+    let l : Low (up most) g (push_entry (trim_up_to m base) (View v names resilience)) =
+    low_any most g (trim_up_to m base) (View v names resilience) (record { told = k.told; acc = k.acc }) (low_trimmed most g m base from h) in
     search (ends_if, ends_at, ends_next, h, l) depth 8
 
 ends_result : (most : Bounds) (g : ℕ) (m : Node) (s : ℕ) (v : Stamp) (base number : ℕ) (names : List ℕ) (resilience : ℕ) → v.round ≤ most.rounds → base ≤ g
     → Behind g m → Low most g m → Ends most g (result_row m s v base number names resilience)
 unfolding result_row
 ends_result most g m s v base number names resilience round from k h =
-    let l = ends_hears_result most g (promised m v) s v base number names resilience from (record { told = k.told; acc = k.acc })
+    let l = ends_hears_result most g (with_promise m v) s v base number names resilience from (record { told = k.told; acc = k.acc })
     (low_promised most g m v round h) in
     search (ends, l)
 
 ends_hand_over : (most : Bounds) (g : ℕ) (m : Node) → Behind g m → Low most g m → Ends most g (hand_over_row m)
 unfolding hand_over_row
-ends_hand_over most g m k h = ends_reset most g m 1 (told m).resilience k h
+ends_hand_over most g m k h = ends_reset most g m 1 (image_of m).resilience k h
 
 -- ---- a step
 
@@ -332,6 +332,6 @@ pub low_hear : (most : Bounds) (g : ℕ) (m : Node) (p : Packet) → UpTo most g
 unfolding hear
 low_hear most g m p u k h = low_finish most g m (hear_row m p) (ends_hear most g m p u k h)
 
-pub low_refused : (most : Bounds) (g : ℕ) (m : Node) (cause : ℕ) → Low most g m → Low (up most) g (refused m cause).node
-unfolding refused
+pub low_refused : (most : Bounds) (g : ℕ) (m : Node) (cause : ℕ) → Low most g m → Low (up most) g (hear_refusal m cause).node
+unfolding hear_refusal
 low_refused most g m cause h = low_finish most g m (refuse m cause) (ends_at most g _ h)

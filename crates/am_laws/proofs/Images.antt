@@ -10,7 +10,7 @@ use Rattle.am_base.specs.declared.entry.Entry.TheVariants.{Data, Join, Leave, Vi
 use Rattle.am_base.specs.declared.image.Row.{Row}
 use Rattle.am_base.specs.declared.image.Image.{Image}
 use Rattle.am_base.specs.Names.{place_of, life_of, by_place}
-use Rattle.am_base.specs.Lists.{Log, blank_row, blank, is_blank, at_place, row_of, member_life, viewed, after, fold, top_of, image_at, told_by}
+use Rattle.am_base.specs.Lists.{Log, blank_row, blank, is_blank, at_place, row_of, member_life, row_after_view, after, fold, top_of, image_at, told_by}
 use Rattle.am_model.proofs.Greatest.{split}
 
 -- ---- rows
@@ -38,7 +38,7 @@ pub all_places : {A : Type 0} (P : A → Type 0) (f : ℕ → A) (places : List 
 all_places P f [] h = All-nil (λ place. P (f place))
 all_places P f (place ∷ places) h = All-cons (λ place. P (f place)) place places (h place) (all_places P f places h)
 
-viewed_up : (n : ℕ) (first : Bool) (life : ℕ) (r : Row) → RowUp n r → RowUp (n + 1) (viewed first (n + 1) life r)
+viewed_up : (n : ℕ) (first : Bool) (life : ℕ) (r : Row) → RowUp n r → RowUp (n + 1) (row_after_view first (n + 1) life r)
 viewed_up n true life r h = split (life == 0) (λ t. rw t (row_more n r h)) (λ f. rw f (record { joined = omega arith; left = omega arith }))
 viewed_up n false life r h = split (nat_lt 0 (member_life r) && not (member_life r == life))
     (λ t. rw t (let j = h.joined in record { joined = omega arith; left = omega arith }))
@@ -79,7 +79,7 @@ after_up n image (Leave name) h =
     }))
     (λ f. rw f more)
 after_up n image (View stamp members resilience) h =
-    let f : ℕ → Row = λ place. viewed (is_blank image) (n + 1) (slice_index members place) (slice_index_or image.rows place blank_row) in
+    let f : ℕ → Row = λ place. row_after_view (is_blank image) (n + 1) (slice_index members place) (slice_index_or image.rows place blank_row) in
     record {
       view = omega arith;
       rows = All-map (RowUp (n + 1)) f (range_with_len 0 16)

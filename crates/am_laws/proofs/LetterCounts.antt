@@ -6,7 +6,7 @@ use Rattle.std.proofs.lemmas.List.Elements.{All-nil, All-cons}
 use Rattle.am_base.specs.Names.{life_of}
 use Rattle.am_base.specs.Lists.{Log, at_place, row_of, told_by}
 use Rattle.am_packet.specs.declared.packet.Packet.{Packet}
-use Rattle.am_model.specs.Node.{Node, top, told}
+use Rattle.am_model.specs.Node.{Node, top, image_of}
 use Rattle.am_model.specs.Sequencing.{row_at}
 use Rattle.am_model.specs.Joining.{may_go}
 use Rattle.am_model.proofs.Greatest.{split}
@@ -35,7 +35,7 @@ pub record Sends (b : Bounds) (g : ℕ) (c : Cause) (m n : Node) : Type 0 where
   pub behind : Behind g n
   pub group : g ≤ b.lists
   -- its list has one entry more at most, where it welcomes
-  pub next : (s : ℕ) → MayWelcome m n s → (row_of (told n) s).joined ≤ g
+  pub next : (s : ℕ) → MayWelcome m n s → (row_of (image_of n) s).joined ≤ g
   pub image : ImageUp n.core.log.start n.core.log.image
 
 -- a leaver that may go has an accepted Leave
@@ -110,8 +110,8 @@ says_low b g m n c to p h (welcome s l may) =
     let group = h.group in
     record {
       round = t.round;
-      numbers = two_low b.lists n.core.base (row_of (told n) s).joined t.base (omega arith);
-      accepted = two_low g n.core.base (row_of (told n) s).joined t.trims join;
+      numbers = two_low b.lists n.core.base (row_of (image_of n) s).joined t.base (omega arith);
+      accepted = two_low g n.core.base (row_of (image_of n) s).joined t.trims join;
     }
 says_low b g m n c to p h (leave_ask _ a l) =
     let t = told_of b g c m n h in
@@ -142,13 +142,13 @@ says_low b g m n c to p h (hand_over _ l leaves) = record { round = h.low.rounds
 
 -- a joiner's Join is accepted by the group
 pub welcome_low : (g : ℕ) (m n : Node) (s : ℕ) → m.core.acc ≤ g → n.core.acc ≤ g → ImageUp n.core.log.start n.core.log.image → MayWelcome m n s
-    → (row_of (told n) s).joined ≤ g
+    → (row_of (image_of n) s).joined ≤ g
 welcome_low g m n s old new image (just_joined number is high low at) =
-    let all = (row_up (top n) (told n) s (told_up n.core.log image)).joined in
+    let all = (row_up (top n) (image_of n) s (told_up n.core.log image)).joined in
     omega arith
 welcome_low g m n s old new image (asks_again same life some stays low more) =
-    let there : at_place (told n) s ≡ at_place (told m) s = ap (λ (l : Log). at_place (told_by l) s) same in
-    let low_ : (at_place (told n) s).joined ≤ g = rw there (omega arith) in
-    split ((at_place (told n) s).life == life_of s)
+    let there : at_place (image_of n) s ≡ at_place (image_of m) s = ap (λ (l : Log). at_place (told_by l) s) same in
+    let low_ : (at_place (image_of n) s).joined ≤ g = rw there (omega arith) in
+    split ((at_place (image_of n) s).life == life_of s)
     (λ t. rw t low_)
     (λ f. rw f (omega arith))

@@ -12,14 +12,15 @@ use Rattle.am_base.specs.Lists.{Log, entry_at}
 use Rattle.am_packet.specs.declared.packet.Packet.{Packet}
 use Rattle.am_packet.specs.declared.packet.Packet.TheVariants as packet
 use Rattle.am_codec.specs.Limits.{IsPacket, IsWithin, HasParts}
-use Rattle.am_model.specs.Node.{Node, top, told}
+use Rattle.am_model.specs.Node.{Node, top, image_of}
 use Rattle.am_model.specs.Ticks.{viewed_by}
 use Rattle.am_model.proofs.Greatest.{split}
 use Rattle.am_effects.specs.Causes.{Cause, hears}
 use Rattle.am_effects.specs.Letters.{HasSend, Says, request, spread, bcast, order, hold, welcome, vote}
 use Rattle.am_effects.specs.Letters.{piece, result}
 use Rattle.am_effects.proofs.Items.{all_get}
-use Rattle.am_laws.specs.Packets.{Bounds, UpTo, stamp_of}
+use Rattle.am_codec.specs.Spelling.{stamp_of}
+use Rattle.am_laws.specs.Packets.{Bounds, UpTo}
 use Rattle.am_laws.proofs.Images.{told_up}
 use Rattle.am_laws.proofs.ListImages.{WelcomeUp, ListUp}
 use Rattle.am_laws.proofs.Limits.{EntryWithin, AreNumbers, is_nobody, members_within, told_within, image_at_within, is_entry, is_image}
@@ -55,7 +56,7 @@ says_within b m n c to p h up_ low heard (order _ number from req v report body 
     (all_get (EntryWithin b) n.core.log.entries s.index (Data from req body) h.entries s.there).0
 says_within b m n c to p h up_ low heard (hold _ s v report req body by l) = req_brought b c s v report req body by heard
 says_within b m n c to p h up_ low heard (welcome s l may) = image_at_within b n.core.log n.core.base h.entries h.image
-says_within b m n c to p h up_ low heard (vote s v is) = let k = told_within b n.core.log h.entries h.image in (members_within b (told n) k, k.round)
+says_within b m n c to p h up_ low heard (vote s v is) = let k = told_within b n.core.log h.entries h.image in (members_within b (image_of n) k, k.round)
 says_within b m n c to p h up_ low heard (piece s v stored number e is may at) = all_get (EntryWithin b) n.core.log.entries at.index e h.entries at.there
 says_within b m n c to p h up_ low heard (result _ number names is viewed may) =
     let k = told_within b n.core.log h.entries h.image in
@@ -113,13 +114,9 @@ is_packet b g (packet.Accept s v base acc high poll) n h =
     let k = three_of b base acc high n h.up_to.numbers in
     record { within = (round, k.0, k.1, k.2); parts = tt }
 is_packet b g (packet.Ack s v report) n h =
-    let round = is_round b g (packet.Ack s v report) n h.up_to in
-    let report_ = is_report b report n h.up_to.numbers in
-    record { within = (round, report_); parts = tt }
+    record { within = (is_round b g (packet.Ack s v report) n h.up_to, is_report b report n h.up_to.numbers); parts = tt }
 is_packet b g (packet.Nack s v report) n h =
-    let round = is_round b g (packet.Nack s v report) n h.up_to in
-    let report_ = is_report b report n h.up_to.numbers in
-    record { within = (round, report_); parts = tt }
+    record { within = (is_round b g (packet.Nack s v report) n h.up_to, is_report b report n h.up_to.numbers); parts = tt }
 is_packet b g (packet.Hold s v base high req) n h =
     let round = is_round b g (packet.Hold s v base high req) n h.up_to in
     let k = two_of b base high n h.up_to.numbers in
@@ -136,9 +133,7 @@ is_packet b g (packet.Welcome s v base join image) n h =
           h.within.places;
     }
 is_packet b g (packet.LeaveAsk s v report) n h =
-    let round = is_round b g (packet.LeaveAsk s v report) n h.up_to in
-    let report_ = is_report b report n h.up_to.numbers in
-    record { within = (round, report_); parts = tt }
+    record { within = (is_round b g (packet.LeaveAsk s v report) n h.up_to, is_report b report n h.up_to.numbers); parts = tt }
 is_packet b g (packet.Gone s v number) n h =
     let round = is_round b g (packet.Gone s v number) n h.up_to in
     record { within = (round, first_of b number [] n h.up_to.numbers); parts = tt }

@@ -13,7 +13,7 @@ use Rattle.am_base.specs.declared.image.Row.{Row}
 use Rattle.am_base.specs.declared.image.Image.{Image}
 use Rattle.am_base.specs.Names.{IsSet, nobody, place_of, life_of, name_at, by_place}
 use Rattle.am_base.specs.Limits.{IsImage, IsEntry}
-use Rattle.am_base.specs.Lists.{Log, blank_row, blank, is_blank, at_place, member_life, members_of, viewed, after, fold, image_at, told_by}
+use Rattle.am_base.specs.Lists.{Log, blank_row, blank, is_blank, at_place, member_life, members_of, row_after_view, after, fold, image_at, told_by}
 use Rattle.am_codec.specs.Limits.{HasEntryParts}
 use Rattle.am_model.specs.Node.{name_where, those}
 use Rattle.am_model.proofs.Greatest.{split}
@@ -113,7 +113,7 @@ with_row_within : (b : Bounds) (rows : List Row) (place : ℕ) (r : Row) → Row
     → All (RowWithin b) (set rows place r) × (length (set rows place r) ≡ 16)
 with_row_within b rows place r h k long = (All-set (RowWithin b) rows place r h k, length-set rows place r ∙ long)
 
-viewed_within : (b : Bounds) (first : Bool) (number life : ℕ) (r : Row) → life ≤ 16 → RowWithin b r → RowWithin b (viewed first number life r)
+viewed_within : (b : Bounds) (first : Bool) (number life : ℕ) (r : Row) → life ≤ 16 → RowWithin b r → RowWithin b (row_after_view first number life r)
 viewed_within b true number life r low h = split (life == 0)
     (λ t. rw t h)
     (λ f. rw f (record { life = low; unused = λ e. absurd (omega arith); used = λ e. absurd (grind (arith, nat_tests)); last = omega arith }))
@@ -142,7 +142,7 @@ after_within b image number (Leave name) e h =
     (λ t. rw t (record { places = k.1; rows = k.0; round = h.round; resilience = h.resilience }))
     (λ f. rw f h)
 after_within b image number (View stamp names resilience) e h =
-    let f : ℕ → Row = λ place. viewed (is_blank image) (number + 1) (slice_index names place) (slice_index_or image.rows place blank_row) in
+    let f : ℕ → Row = λ place. row_after_view (is_blank image) (number + 1) (slice_index names place) (slice_index_or image.rows place blank_row) in
     let low = lives_within names e.1 in
     record {
       places = refl;

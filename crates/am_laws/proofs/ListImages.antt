@@ -5,7 +5,7 @@ use Rattle.am_base.specs.declared.outcome.Outcome.{Outcome}
 use Rattle.am_base.specs.declared.entry.Entry.TheVariants.{Leave}
 use Rattle.am_packet.specs.declared.packet.Packet.{Packet}
 use Rattle.am_packet.specs.declared.packet.Packet.TheVariants as packet
-use Rattle.am_model.specs.Node.{Node, Ballot, pushed}
+use Rattle.am_model.specs.Node.{Node, Ballot, push_entry}
 use Rattle.am_model.specs.Ballots.{Verdict}
 use Rattle.am_model.specs.Refresh.{refresh, refresh_at_end}
 use Rattle.am_effects.specs.Causes.{Cause, hears}
@@ -41,8 +41,8 @@ change_list heard m n refreshes h = same_list m (refresh m) (rests_refresh m).lo
 change_list heard m n settles h = subst ListUp (sym (settle_is m)) h
 change_list heard m n (begins_list s v base join image is o may) h = heard (packet.Welcome s v base join image) is
 change_list heard m n (looks b verdict over why look is) h = look_list m b verdict look h
-change_list heard m n (closes leads leaves alone room) h = same_list (pushed m (Leave m.core.who)) (refresh_at_end (pushed m (Leave m.core.who)))
-    (rests_at_end (pushed m (Leave m.core.who))).log h
+change_list heard m n (closes leads leaves alone room) h = same_list (push_entry m (Leave m.core.who)) (refresh_at_end (push_entry m (Leave m.core.who)))
+    (rests_at_end (push_entry m (Leave m.core.who))).log h
 change_list heard m n _ h = h
 
 pub changes_list : {c : Cause} {o : Outcome} (m n : Node) → HeardUp c → Changes c o m n → ListUp m → ListUp n

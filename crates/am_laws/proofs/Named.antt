@@ -10,10 +10,10 @@ use Rattle.am_base.specs.Names.{place_of, life_of, has}
 use Rattle.am_packet.specs.declared.packet.Packet.{Packet}
 use Rattle.am_packet.specs.Boxes.{Letter}
 use Rattle.am_group.specs.declared.event.Event.{Event}
-use Rattle.am_model.specs.Node.{Node, Ballot, pushed, set_at, stranger}
+use Rattle.am_model.specs.Node.{Node, Ballot, push_entry, set_at, stranger}
 use Rattle.am_model.specs.Ballots.{Verdict}
 use Rattle.am_model.specs.Emit.{Step}
-use Rattle.am_model.specs.World.{World, start, first_node, unchanged, stepped, run}
+use Rattle.am_model.specs.World.{World, start, first_node, with_record, with_step, run}
 use Rattle.am_model.proofs.Greatest.{split}
 use Rattle.am_effects.specs.Causes.{Cause}
 use Rattle.am_effects.specs.Looks.{Looks, finds_itself_out}
@@ -26,7 +26,7 @@ use Rattle.am_effects.specs.Events.{actor, idles, stops, returns, steps}
 use Rattle.am_effects.proofs.Items.{all_item}
 use Rattle.am_effects.proofs.Rests.{rests_refresh, rests_at_end, settle_is}
 use Rattle.am_effects.proofs.Runs.{along, EachKeeps, runs_keep}
-use Rattle.am_laws.specs.Packets.{sender_of}
+use Rattle.am_codec.specs.Spelling.{sender_of}
 use Rattle.am_laws.specs.Named.{NamesHold}
 
 -- ---- a node keeps its name
@@ -42,7 +42,7 @@ pub change_named : (name : ℕ) {c : Cause} {o : Outcome} (m n : Node) → Chang
 change_named name m n refreshes h = (rests_refresh m).rests.who ∙ h
 change_named name m n settles h = ap (λ (x : Node). x.core.who) (settle_is m) ∙ h
 change_named name m n (looks b verdict over why look is) h = look_named name m b verdict look h
-change_named name m n (closes leads leaves alone room) h = (rests_at_end (pushed m (Leave m.core.who))).rests.who ∙ h
+change_named name m n (closes leads leaves alone room) h = (rests_at_end (push_entry m (Leave m.core.who))).rests.who ∙ h
 change_named name m n _ h = h
 
 -- and its letters have it
@@ -77,8 +77,8 @@ actor_born rules w e h low =
     omega arith
 
 named_step : (rules : Rules) (w : World) (e : Event) (c : Cause) (s : Step) → Effect (w.nodes (actor w e)) c s → AllNamed rules w
-    → AllNamed rules (stepped w e (actor w e) s)
-unfolding stepped
+    → AllNamed rules (with_step w e (actor w e) s)
+unfolding with_step
 named_step rules w e c s effect h =
     let name = actor w e in
     let who = along (IsNamed name) (change_named name) effect.changes (h.who name) in
@@ -121,7 +121,7 @@ named_lives rules w place more v nodes letters lives h =
     }
 
 pub each_named : (rules : Rules) → EachKeeps (AllNamed rules)
-unfolding unchanged
+unfolding with_record
 each_named rules w e v (idles o idle) h = record { who = h.who; least = h.least; most = h.most; senders = h.senders; unborn = h.unborn }
 each_named rules w e v (stops runs) h = record { who = h.who; least = h.least; most = h.most; senders = h.senders; unborn = h.unborn }
 each_named rules w e v (returns place is left more) h = named_lives rules w place more v refl refl refl h

@@ -22,10 +22,10 @@ use Rattle.am_sender.specs.declared.OwnSend.{OwnSend}
 use Rattle.am_sender.specs.Sends as own
 use Rattle.am_bodies.specs.declared.KeptBody.{KeptBody}
 use Rattle.am_bodies.specs.Bodies.{is_of, find_body, keep_body}
-use Rattle.am_model.specs.Node.{Node, Ballot, told, waiting, pushed}
-use Rattle.am_model.specs.Ballots.{Verdict, overtaken, own_vote, best_of, need_of, left_in}
+use Rattle.am_model.specs.Node.{Node, Ballot, image_of, waiting, push_entry}
+use Rattle.am_model.specs.Ballots.{Verdict, overtake, own_vote, best_of, need_of, left_in}
 use Rattle.am_model.specs.Receiving.{own_body, first_body, body_of, bodies_after}
-use Rattle.am_model.specs.Refresh.{refresh, accepted_at, settled_at, settled, settle, refresh_at_end}
+use Rattle.am_model.specs.Refresh.{refresh, accepted_at, settle_at, settle_waiting, settle, refresh_at_end}
 use Rattle.am_model.proofs.Greatest.{split}
 use Rattle.am_effects.specs.Causes.{Cause, calls, hears, BringsSend, by_request, by_spread}
 use Rattle.am_effects.specs.Looks.{HasOpen, Balloting, with_more, without_one, as_it_is, Looks, finds_itself_out, waits, fetches_from_best, finds_too_few}
@@ -35,7 +35,8 @@ use Rattle.am_effects.specs.Changes.{changed, refreshes, settles, takes_report, 
 use Rattle.am_effects.specs.Changes.{opens, looks, fetches, stores_view, queues, collects, takes, asks_to_join, asks_to_leave, closes}
 use Rattle.am_effects.proofs.Items.{all_find}
 use Rattle.am_effects.proofs.Rests.{with_fronts, refresh_is, rests_refresh, rests_at_end, settle_is}
-use Rattle.am_laws.specs.Packets.{Bounds, up, sender_of}
+use Rattle.am_codec.specs.Spelling.{sender_of}
+use Rattle.am_laws.specs.Packets.{Bounds, up}
 use Rattle.am_laws.proofs.Limits.{ImageWithin, EntryWithin, image_more, entry_more, members_within, told_within, set_those}
 
 -- ---- what a node has
@@ -115,7 +116,7 @@ packet_more b _ h = tt
 
 -- ---- entries
 
-pub pushed_within : (b : Bounds) (m : Node) (e : Entry) → EntryWithin b e → Within b m → Within b (pushed m e)
+pub pushed_within : (b : Bounds) (m : Node) (e : Entry) → EntryWithin b e → Within b m → Within b (push_entry m e)
 pushed_within b m e is h = record {
   image = h.image;
   entries = All-append (EntryWithin b) m.core.log.entries (e ∷ []) h.entries (All-cons (EntryWithin b) e [] is (All-nil (EntryWithin b)));
@@ -192,7 +193,7 @@ kept_within s req body bodies low h = split (list_any (is_of s req) bodies)
 settled_send : (b : Bounds) (req number : ℕ) (s : OwnSend) → SendWithin b s → SendWithin b (own.settle_send req number s)
 settled_send b req number s h = split (s.req == req) (λ t. rw t (record { req = h.req; body = h.body })) (λ f. rw f h)
 
-settled_at_within : (b : Bounds) (m : Node) (req : ℕ) (at : Option ℕ) → Within b m → Within b (settled_at m req at)
+settled_at_within : (b : Bounds) (m : Node) (req : ℕ) (at : Option ℕ) → Within b m → Within b (settle_at m req at)
 settled_at_within b m req None h = h
 settled_at_within b m req (Some k) h =
     let f = own.settle_send req (m.core.base + 1 + k) in
@@ -205,7 +206,7 @@ settled_at_within b m req (Some k) h =
       ballot = h.ballot;
     }
 
-settled_within : (b : Bounds) (m : Node) (w : Option OwnSend) → Within b m → Within b (settled m w)
+settled_within : (b : Bounds) (m : Node) (w : Option OwnSend) → Within b m → Within b (settle_waiting m w)
 settled_within b m None h = h
 settled_within b m (Some s) h = settled_at_within b m s.req (accepted_at m s.req) h
 
@@ -231,7 +232,7 @@ at_end_within b m h = settle_within b (refresh m) (refresh_within b m h)
 
 -- ---- ballots
 
-overtaken_within : (b : Bounds) (by : Stamp) (ballot : Option Ballot) → BallotWithin b ballot → BallotWithin b (overtaken by ballot)
+overtaken_within : (b : Bounds) (by : Stamp) (ballot : Option Ballot) → BallotWithin b ballot → BallotWithin b (overtake by ballot)
 overtaken_within b by None h = tt
 overtaken_within b by (Some x) h = split (not x.is_over && stamp_lt x.stamp by)
     (λ t. rw t (record { round = h.round; resilience = h.resilience; votes = h.votes }))
@@ -276,11 +277,11 @@ need_within : (b : Bounds) (m : Node) (x : Ballot) → VotesWithin b x → Withi
 unfolding best_of
 need_within b m x k h =
     best_is (λ (v : Vote). IsSet v.members) x.votes (record { by = m.core.who; vote = own_vote m }) all_names
-    (members_within b (told m) (told_within b m.core.log h.entries h.image)) k.votes
+    (members_within b (image_of m) (told_within b m.core.log h.entries h.image)) k.votes
 
 -- the View that is decided
 view_within : (b : Bounds) (m : Node) (x : Ballot) → VotesWithin b x → Within b m
-    → EntryWithin b (View x.stamp (left_in x (need_of m x)) (max x.resilience (told m).resilience))
+    → EntryWithin b (View x.stamp (left_in x (need_of m x)) (max x.resilience (image_of m).resilience))
 view_within b m x k h =
     let t = (told_within b m.core.log h.entries h.image).resilience in
     let r = k.resilience in
@@ -331,7 +332,7 @@ change_rises m n (opens least resilience by may) = record { round = omega arith;
 change_rises m n (looks b verdict over why look is) = look_rises m b verdict look
 change_rises m n (queues body is o member stays few) = record { round = omega arith; last = omega arith }
 change_rises m n (collects req is) = same_rises m n refl (last_collected req m.sends)
-change_rises m n (closes leads leaves alone room) = let r = (rests_at_end (pushed m (Leave m.core.who))).rests in same_rises m n r.promise r.asked
+change_rises m n (closes leads leaves alone room) = let r = (rests_at_end (push_entry m (Leave m.core.who))).rests in same_rises m n r.promise r.asked
 change_rises m n _ = same_rises m n refl refl
 
 rises_on : (m n k : Node) → Rises m n → Rises n k → Rises m k
@@ -420,7 +421,7 @@ change_within b m n from round last (asks_to_join is was) h =
 change_within b m n from round last (asks_to_leave is was stays done) h =
     record { image = h.image; entries = h.entries; sends = h.sends; bodies = h.bodies; ballot = h.ballot }
 change_within b m n from round last (closes leads leaves alone room) h =
-    let k = at_end_within b (pushed m (Leave m.core.who)) (pushed_within b m (Leave m.core.who) tt h) in
+    let k = at_end_within b (push_entry m (Leave m.core.who)) (pushed_within b m (Leave m.core.who) tt h) in
     record { image = k.image; entries = k.entries; sends = k.sends; bodies = k.bodies; ballot = k.ballot }
 
 pub changes_within : (b : Bounds) {c : Cause} {o : Outcome} (m n : Node) → CauseWithin b c → n.core.promise.round ≤ b.rounds → n.sends.last ≤ b.requests

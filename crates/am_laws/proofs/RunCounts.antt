@@ -13,9 +13,9 @@ use Rattle.am_packet.specs.declared.packet.Packet.{Packet}
 use Rattle.am_packet.specs.Boxes.{Letter}
 use Rattle.am_group.specs.declared.event.Event.{Event}
 use Rattle.am_group.specs.Journals.{letter_at}
-use Rattle.am_model.specs.Node.{Node, Ballot, top, told, set_at, founder, stranger}
+use Rattle.am_model.specs.Node.{Node, Ballot, top, image_of, set_at, founder, stranger}
 use Rattle.am_model.specs.Emit.{Step}
-use Rattle.am_model.specs.World.{World, start, first_node, grown, group_after, unchanged, stepped, happens, happen, run}
+use Rattle.am_model.specs.World.{World, start, first_node, group_with, group_after, with_record, with_step, happens, happen, run}
 use Rattle.am_model.specs.Claims.{heard_by}
 use Rattle.am_model.proofs.Greatest.{split}
 use Rattle.am_effects.specs.Causes.{Cause, hears}
@@ -79,7 +79,7 @@ grown_long : (g acc start many : ℕ) → start ≤ g → acc ≤ start + many �
 grown_long g acc start many h k = omega arith
 
 long_grown : (group : List Entry) (m : Node) → m.core.log.start ≤ length group → m.core.acc ≤ top m
-    → length (grown group m.core) ≡ max (length group) m.core.acc
+    → length (group_with group m.core) ≡ max (length group) m.core.acc
 long_grown group m h k =
     let rest = drop (length group - m.core.log.start) m.core.log.entries in
     let a = length-append group (take (m.core.acc - length group) rest) in
@@ -91,7 +91,7 @@ long_grown group m h k =
 grew : (b : Bounds) (group : List Entry) (m : Node) → length group ≤ b.lists → Low (up b) (length group) m → Grew b group m
 grew b group m few h = split (leads m)
     (λ t.
-    let long : length (group_after group m) ≡ max (length group) m.core.acc = ap (λ (x : Bool). length (if x then grown group m.core else group)) t
+    let long : length (group_after group m) ≡ max (length group) m.core.acc = ap (λ (x : Bool). length (if x then group_with group m.core else group)) t
     ∙ long_grown group m h.listed h.accepted in
     let a = h.accepted in
     let e = h.entries in
@@ -101,7 +101,7 @@ grew b group m few h = split (leads m)
     h.known in
     record { more = omega arith; few = omega arith; behind = record { told = omega arith; acc = omega arith } })
     (λ f.
-    let long : length (group_after group m) ≡ length group = ap (λ (x : Bool). length (if x then grown group m.core else group)) f in
+    let long : length (group_after group m) ≡ length group = ap (λ (x : Bool). length (if x then group_with group m.core else group)) f in
     let known : (m.core.told ≤ length group) × (m.core.acc ≤ length group) = ⊎_elim
     (λ (x : (m.core.told ≤ length group) × (m.core.acc ≤ length group)). x)
     (λ (x : (leads m ≡ true) × (m.core.told ≤ max (length group) m.core.acc)). let y = x.0 in absurd (cc))
@@ -174,8 +174,8 @@ heard_up b w e c h cause p is =
     subst WelcomeUp was.is (all_item (λ (l : Letter). WelcomeUp l.packet) w.letters (heard_by e.act) was.letter h.welcomes was.there)
 
 low_stepped : (b : Bounds) (w : World) (e : Event) (c : Cause) (s : Step) → IsCause w (actor w e) e.act c → Effect (w.nodes (actor w e)) c s
-    → RaisedBy w (stepped w e (actor w e) s) (actor w e) (heard_by e.act) → AllLow b w → AllLow (up b) (stepped w e (actor w e) s)
-unfolding stepped
+    → RaisedBy w (with_step w e (actor w e) s) (actor w e) (heard_by e.act) → AllLow b w → AllLow (up b) (with_step w e (actor w e) s)
+unfolding with_step
 low_stepped b w e c s cause effect raised h =
     let name = actor w e in
     let m = w.nodes name in
@@ -191,7 +191,7 @@ low_stepped b w e c s cause effect raised h =
     let wide : Low (up b) k n = low_wider (up b) g k n more low in
     let sender = effect.sender in
     let accepted = (h.behind name).acc in
-    let next : (j : ℕ) → MayWelcome m sender j → (row_of (told sender) j).joined ≤ k =
+    let next : (j : ℕ) → MayWelcome m sender j → (row_of (image_of sender) j).joined ≤ k =
     λ j may. welcome_low k m sender j (omega arith) (sender_behind k n sender effect.is grown.behind).acc (sender_list n sender effect.is list) may in
     let sends : Sends (up b) k c m sender = record {
       low = sender_low (up b) k n sender effect.is wide;
@@ -217,7 +217,7 @@ low_stepped b w e c s cause effect raised h =
 -- ---- each event
 
 low_event : (b : Bounds) (w : World) (e : Event) (v : World) → Happens w e v → RaisedBy w v (actor w e) (heard_by e.act) → AllLow b w → AllLow (up b) v
-unfolding unchanged
+unfolding with_record
 low_event b w e v (idles o idle) raised h = low_same b w v refl refl refl h
 low_event b w e v (stops runs) raised h = low_same b w v refl refl refl h
 low_event b w e v (returns place is left more) raised h = low_same b w v refl refl refl h

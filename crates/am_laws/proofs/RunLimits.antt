@@ -19,7 +19,7 @@ use Rattle.am_group.specs.Addressed.{is_for}
 use Rattle.am_group.specs.Journals.{letter_at}
 use Rattle.am_model.specs.Node.{Node, founder, stranger, founders_view}
 use Rattle.am_model.specs.Emit.{Step}
-use Rattle.am_model.specs.World.{World, start, is_stopped, unchanged, stepped, heard, acts_as, happens, happen, run}
+use Rattle.am_model.specs.World.{World, start, is_stopped, with_record, with_step, hears_letter, acts_as, happens, happen, run}
 use Rattle.am_model.specs.Claims.{heard_by}
 use Rattle.am_model.proofs.Bytes.{spelling_is_heard, cut_is_heard}
 use Rattle.am_effects.specs.Causes.{Cause, hears}
@@ -29,7 +29,8 @@ use Rattle.am_effects.specs.Events.{actor, WasSentTo, IsCall, IsCause, Happens, 
 use Rattle.am_effects.specs.Events as event
 use Rattle.am_effects.proofs.Items.{all_item}
 use Rattle.am_effects.proofs.Events.{events_have_effects}
-use Rattle.am_laws.specs.Packets.{Bounds, up, sender_of, UpTo}
+use Rattle.am_codec.specs.Spelling.{sender_of}
+use Rattle.am_laws.specs.Packets.{Bounds, up, UpTo}
 use Rattle.am_laws.specs.Bytes.{BodyWithin, IsShort, LettersArePackets, LettersAreRead, acts_by_bytes, happen_by_bytes, RunsAreOfBytes}
 use Rattle.am_laws.proofs.Limits.{EntryWithin, AreNumbers, is_blank_within}
 use Rattle.am_laws.proofs.NodeLimits.{SendWithin, KeptWithin, Within, PacketWithin, CauseWithin, within_more, packet_more, changes_within}
@@ -86,8 +87,8 @@ is_itself name = grind (arith, nat_tests)
 
 -- the numbers of the node after it are those of the run
 within_stepped : (rules : Rules) (b : Bounds) (w : World) (e : Event) (c : Cause) (s : Step) → BodyWithin e.act → IsCause w (actor w e) e.act c
-    → Effect (w.nodes (actor w e)) c s → AllLow (up b) (stepped w e (actor w e) s) → Limited rules b w → AllWithin (up b) (stepped w e (actor w e) s)
-unfolding stepped
+    → Effect (w.nodes (actor w e)) c s → AllLow (up b) (with_step w e (actor w e) s) → Limited rules b w → AllWithin (up b) (with_step w e (actor w e) s)
+unfolding with_step
 within_stepped rules b w e c s body cause effect low h =
     let name = actor w e in
     let m = w.nodes name in
@@ -113,7 +114,7 @@ within_stepped rules b w e c s body cause effect low h =
 
 within_event : (rules : Rules) (b : Bounds) (w : World) (e : Event) (v : World) → BodyWithin e.act → Happens w e v → AllLow (up b) v → Limited rules b w
     → AllWithin (up b) v
-unfolding unchanged
+unfolding with_record
 within_event rules b w e v body (idles o idle) low h = within_same b w v refl refl h.within
 within_event rules b w e v body (stops runs) low h = within_same b w v refl refl h.within
 within_event rules b w e v body (returns place is left more) low h = within_same b w v refl refl h.within
@@ -132,10 +133,10 @@ limited_happens rules b w e body h =
 -- ---- a heard packet and its bytes
 
 by_letter : (w : World) (e : Event) (name : ℕ) (f g : Packet → Step) (found : Option Letter)
-    → ((letter : Letter) → found ≡ Some letter → f letter.packet ≡ g letter.packet) → heard w e name f found ≡ heard w e name g found
+    → ((letter : Letter) → found ≡ Some letter → f letter.packet ≡ g letter.packet) → hears_letter w e name f found ≡ hears_letter w e name g found
 by_letter w e name f g None h = refl
-by_letter w e name f g (Some letter) h = ap (λ s. if not (is_for letter name) then unchanged w e said.NotAddressed else if is_stopped w name then unchanged w e
-    said.IsStopped else stepped w e name s) (h letter refl)
+by_letter w e name f g (Some letter) h = ap (λ s. if not (is_for letter name) then with_record w e said.NotAddressed else if is_stopped w name then with_record w e
+    said.IsStopped else with_step w e name s) (h letter refl)
 
 abbrev HoldsPackets : World → Type 0
 HoldsPackets w = (number : ℕ) (letter : Letter) → letter_at w.letters number ≡ Some letter → IsPacket letter.packet

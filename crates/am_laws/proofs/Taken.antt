@@ -16,12 +16,12 @@ use Rattle.am_base.proofs.Places.{slice_index-by_place, length-by_place}
 use Rattle.am_packet.specs.declared.packet.Packet.{Packet}
 use Rattle.am_packet.specs.declared.packet.Packet.TheVariants as packet
 use Rattle.am_fronts.specs.Reports as reports
-use Rattle.am_fronts.specs.Reports.{least_of, least_taken}
+use Rattle.am_fronts.specs.Reports.{least_of}
 use Rattle.am_fronts.proofs.Leaders.{least_in}
 use Rattle.am_chain_lists.proofs.Rows.{Spares, mod16, long_after, in_after}
-use Rattle.am_model.specs.Node.{Node, Ballot, top, told, view, members, name_where, those, is_member, is_asking, acts, is_sequencer, pushed, trimmed}
+use Rattle.am_model.specs.Node.{Node, Ballot, top, image_of, view, members, name_where, those, is_member, is_asking, acts, is_sequencer, push_entry, trim_up_to}
 use Rattle.am_model.specs.Refresh.{refresh, refresh_at_end}
-use Rattle.am_model.specs.Ballots.{Verdict, overtaken, promised, next_stamp, own_vote, best_of, need_of, left_in, taken_by, trimmed_for}
+use Rattle.am_model.specs.Ballots.{Verdict, overtake, with_promise, next_stamp, own_vote, best_of, need_of, left_in, taken_by, trim_for}
 use Rattle.am_model.specs.Receiving.{is_view}
 use Rattle.am_model.specs.Sequencing.{is_unknown}
 use Rattle.am_model.specs.Sequencing as sequencing
@@ -40,7 +40,8 @@ use Rattle.am_effects.proofs.Statuses.{asking_log}
 use Rattle.am_effects.proofs.Says.{told_pushed, view_pushed}
 use Rattle.am_bounded.proofs.Kept.{HasItself}
 use Rattle.am_bounded.proofs.Changes.{itself}
-use Rattle.am_laws.proofs.LeaderRows.{JoinFits, any_fits, JoinsFit, is_in, in_is, data_member, view_member}
+use Rattle.am_core.proofs.Lives.{JoinFits, any_fits, JoinsFit}
+use Rattle.am_laws.proofs.LeaderRows.{is_in, in_is, data_member, view_member}
 use Rattle.am_laws.proofs.Stamps.{not_above_itself, at_most_below, same_stamp}
 use Rattle.am_laws.proofs.ViewSteps.{view_last}
 use Rattle.am_laws.proofs.ViewChanges.{Balloted, next_above}
@@ -52,38 +53,38 @@ use Rattle.am_laws.proofs.Trims.{closed_leads, reporting}
 -- ---- what a sequencer numbers
 
 -- who is known and hasn't left is a member
-pub known_member : (m : Node) (s : ℕ) → length (told m).rows ≡ 16 → is_unknown m s ≡ false → (sequencing.row_at m s).left ≡ 0 → has (members m) s ≡ true
-known_member m s long known stays = split ((at_place (told m) s).life == life_of s)
-    (λ t. let j : ((at_place (told m) s).joined == 0) ≡ false = rw t at known in
-    let l : (at_place (told m) s).left ≡ 0 = rw t at stays in
-    let is : (at_place (told m) s).life ≡ life_of s = grind (arith, nat_tests) in
-    in_is (told m) s long (record { joined = grind (arith, nat_tests); left = l; is = is }))
+pub known_member : (m : Node) (s : ℕ) → length (image_of m).rows ≡ 16 → is_unknown m s ≡ false → (sequencing.row_at m s).left ≡ 0 → has (members m) s ≡ true
+known_member m s long known stays = split ((at_place (image_of m) s).life == life_of s)
+    (λ t. let j : ((at_place (image_of m) s).joined == 0) ≡ false = rw t at known in
+    let l : (at_place (image_of m) s).left ≡ 0 = rw t at stays in
+    let is : (at_place (image_of m) s).life ≡ life_of s = grind (arith, nat_tests) in
+    in_is (image_of m) s long (record { joined = grind (arith, nat_tests); left = l; is = is }))
     (λ f. absurd (let k = rw f at known in cc))
 
 pub leave_fits : (image : Image) (name : ℕ) → has (members_of image) name ≡ true → fits image (Leave name) ≡ true
 unfolding fits
 leave_fits image name h = h
 
-spared : (m : Node) (e : Entry) (name : ℕ) → Fronts m → fits (told m) e ≡ true → Spares name e → has (members m) name ≡ true
-    → has (members (pushed m e)) name ≡ true
+spared : (m : Node) (e : Entry) (name : ℕ) → Fronts m → fits (image_of m) e ≡ true → Spares name e → has (members m) name ≡ true
+    → has (members (push_entry m e)) name ≡ true
 spared m e name h fit spares member =
     let used = told_used m h in
-    let longer = long_after (told m) (top m + 1) e used.places in
-    let k = in_after (told m) (top m + 1) e name used.places fit spares (is_in (told m) name used.places member) in
-    ap (λ (i : Image). has (members_of i) name) (told_pushed m e) ∙ in_is (after (told m) (top m + 1) e) name longer k
+    let longer = long_after (image_of m) (top m + 1) e used.places in
+    let k = in_after (image_of m) (top m + 1) e name used.places fit spares (is_in (image_of m) name used.places member) in
+    ap (λ (i : Image). has (members_of i) name) (told_pushed m e) ∙ in_is (after (image_of m) (top m + 1) e) name longer k
 
 sent_member : (m : Node) (from req : ℕ) (body : List ℕ) (name : ℕ) → Fronts m → has (members m) name ≡ true
-    → has (members (pushed m (Data from req body))) name ≡ true
+    → has (members (push_entry m (Data from req body))) name ≡ true
 sent_member m from req body name h member =
     let used = told_used m h in
     let e = Data from req body in
     ap (λ (i : Image). has (members_of i) name) (told_pushed m e)
-    ∙ data_member (told m) (top m + 1) from req body name used.places (long_after (told m) (top m + 1) e used.places) member
+    ∙ data_member (image_of m) (top m + 1) from req body name used.places (long_after (image_of m) (top m + 1) e used.places) member
 
 record Numbered (m : Node) (e : Entry) : Type 0 where
   plain : is_view e ≡ false
-  fit : JoinFits (told m) e
-  member : has (members (pushed m e)) m.core.who ≡ true
+  fit : JoinFits (image_of m) e
+  member : has (members (push_entry m e)) m.core.who ≡ true
 
 numbered : (c : Cause) (m : Node) (e : Entry) → Numbers c m e → Fronts m → has (members m) m.core.who ≡ true → Numbered m e
 numbered c m e (asked_send s v report req body by known stays next) h member =
@@ -92,13 +93,13 @@ numbered c m e (own_send s is last) h member = record { plain = refl; fit = tt; 
 numbered c m e (asked_join s v is other fit) h member = record { plain = refl; fit = fit; member = spared m (Join s) m.core.who h fit tt member }
 numbered c m e (asked_leave s v report is other known stays) h member =
     let left : (sequencing.row_at m s).left ≡ 0 = grind (arith, nat_tests) in
-    let fit = leave_fits (told m) s (known_member m s (told_used m h).places known left) in
+    let fit = leave_fits (image_of m) s (known_member m s (told_used m h).places known left) in
     let spares : s ≢ m.core.who = λ same. (let t : (s == m.core.who) ≡ true = grind (arith, nat_tests) in cc) in
     record { plain = refl; fit = tt; member = spared m (Leave s) m.core.who h fit spares member }
 
 -- ---- ballots
 
-no_vote_overtaken : (who : ℕ) (by : Stamp) (ballot : Option Ballot) → NoOwnVote who ballot → NoOwnVote who (overtaken by ballot)
+no_vote_overtaken : (who : ℕ) (by : Stamp) (ballot : Option Ballot) → NoOwnVote who ballot → NoOwnVote who (overtake by ballot)
 no_vote_overtaken who by None h = tt
 no_vote_overtaken who by (Some b) h = split (not b.is_over && stamp_lt b.stamp by) (λ t. rw t h) (λ f. rw f h)
 
@@ -175,7 +176,7 @@ trims_own : (m : Node) (b : Ballot) → has (need_of m b) m.core.who ≡ true �
 unfolding those
 trims_own m b needed stays = trimmed_own m b (left_in b (need_of m b)) (length-by_place _) (in_view m b needed stays)
 
-restarted_own : (m : Node) (base : ℕ) → base ≤ m.core.taken → (reports.restarted base m.core.who).taken ≤ m.core.taken
+restarted_own : (m : Node) (base : ℕ) → base ≤ m.core.taken → (reports.reports_from base m.core.who).taken ≤ m.core.taken
 restarted_own m base low = split (nat_lt m.core.who 256) (λ t. rw t low) (λ f. rw f (omega arith))
 
 -- another answer, or an end
@@ -193,14 +194,14 @@ look_own m b v (finds_no_room learned) none stays h =
 look_own m b v (decides may) none stays h =
     let needed = may.learned.needed in
     let names = left_in b (need_of m b) in
-    let before = trimmed_for m b names in
-    let r = max b.resilience (told m).resilience in
+    let before = trim_for m b names in
+    let r = max b.resilience (image_of m).resilience in
     let e = View b.stamp names r in
     let f = trimmed_fronts m _ (trims_own m b needed stays) h.fronts in
     let g = pushed_fronts before e tt f in
     let used = told_used m h.fronts in
     let member : has (members m) m.core.who ≡ true = subst (λ set. has set m.core.who ≡ true) (own_need m b may.learned.own none) needed in
-    let after_ = view_member (told m) (top m + 1) b.stamp names r m.core.who used.places (long_after (told m) (top m + 1) e used.places) member
+    let after_ = view_member (image_of m) (top m + 1) b.stamp names r m.core.who used.places (long_after (image_of m) (top m + 1) e used.places) member
     (in_view m b needed stays) in
     record {
       fronts = reporting _ (restarted_own m before.core.base f.base) g;
@@ -277,38 +278,38 @@ fetched_view m s v stamp names resilience (for_ballot b open_ from past) other s
 
 -- and no fetched entry makes a sequencer
 fetch_follows : (m : Node) (s : ℕ) (v : Stamp) (base : ℕ) (e : Entry) → Fetches m s v e → (s == m.core.who) ≡ false → stamp_eq v m.core.promise ≡ true
-    → stamp_eq (view m) v ≡ false → is_sequencer (pushed (trimmed m base) e) ≡ true → ⊥
+    → stamp_eq (view m) v ≡ false → is_sequencer (push_entry (trim_up_to m base) e) ≡ true → ⊥
 fetch_follows m s v base (Data from req body) why other same below t =
-    let p = promise_is (pushed (trimmed m base) (Data from req body)) t ∙ view_pushed (trimmed m base) (Data from req body) refl in
+    let p = promise_is (push_entry (trim_up_to m base) (Data from req body)) t ∙ view_pushed (trim_up_to m base) (Data from req body) refl in
     let z : stamp_eq (view m) v ≡ true = subst (λ x. stamp_eq x v
     ≡ true) p (subst (λ x. stamp_eq m.core.promise x ≡ true) (sym (same_stamp v m.core.promise same)) (same_is_equal m.core.promise)) in
     cc
 fetch_follows m s v base (Join name) why other same below t =
-    let p = promise_is (pushed (trimmed m base) (Join name)) t ∙ view_pushed (trimmed m base) (Join name) refl in
+    let p = promise_is (push_entry (trim_up_to m base) (Join name)) t ∙ view_pushed (trim_up_to m base) (Join name) refl in
     let z : stamp_eq (view m) v ≡ true = subst (λ x. stamp_eq x v
     ≡ true) p (subst (λ x. stamp_eq m.core.promise x ≡ true) (sym (same_stamp v m.core.promise same)) (same_is_equal m.core.promise)) in
     cc
 fetch_follows m s v base (Leave name) why other same below t =
-    let p = promise_is (pushed (trimmed m base) (Leave name)) t ∙ view_pushed (trimmed m base) (Leave name) refl in
+    let p = promise_is (push_entry (trim_up_to m base) (Leave name)) t ∙ view_pushed (trim_up_to m base) (Leave name) refl in
     let z : stamp_eq (view m) v ≡ true = subst (λ x. stamp_eq x v
     ≡ true) p (subst (λ x. stamp_eq m.core.promise x ≡ true) (sym (same_stamp v m.core.promise same)) (same_is_equal m.core.promise)) in
     cc
 fetch_follows m s v base (View stamp names resilience) why other same below t =
-    let n = pushed (trimmed m base) (View stamp names resilience) in
-    let last = view_last (trimmed m base) stamp names resilience in
+    let n = push_entry (trim_up_to m base) (View stamp names resilience) in
+    let last = view_last (trim_up_to m base) stamp names resilience in
     let is : stamp ≡ v = sym (promise_is n t ∙ last) ∙ sym (same_stamp v m.core.promise same) in
     not_own n stamp.by (ap (λ (x : Stamp). x.by) last) (fetched_view m s v stamp names resilience why other is) t
 
 -- a promise that isn't below the view, by whom it is made
-promised_follows : (c : Cause) (m : Node) (v : Stamp) → Promises c m v → stamp_lt v m.core.promise ≡ false → Balloted m → is_sequencer (promised m v) ≡ true → ⊥
+promised_follows : (c : Cause) (m : Node) (v : Stamp) → Promises c m v → stamp_lt v m.core.promise ≡ false → Balloted m → is_sequencer (with_promise m v) ≡ true → ⊥
 promised_follows c m v (invited s _ is heard own) low k t =
-    let p = promise_is (promised m v) t in
-    not_own (promised m v) s (ap (λ (x : Stamp). x.by) (sym p) ∙ stamp_by v s own) (other_asks m s heard) t
+    let p = promise_is (with_promise m v) t in
+    not_own (with_promise m v) s (ap (λ (x : Stamp). x.by) (sym p) ∙ stamp_by v s own) (other_asks m s heard) t
 promised_follows c m v (told_result s _ base number names resilience is heard own other) low k t =
-    let p = promise_is (promised m v) t in
-    not_own (promised m v) v.by (ap (λ (x : Stamp). x.by) (sym p)) other t
+    let p = promise_is (with_promise m v) t in
+    not_own (with_promise m v) v.by (ap (λ (x : Stamp). x.by) (sym p)) other t
 promised_follows c m v (overtaken_by s _ shown is heard above) low k t =
-    not_above_view (promised m v) (at_most_below (view m) m.core.promise v k.high above) t
+    not_above_view (with_promise m v) (at_most_below (view m) m.core.promise v k.high above) t
 
 abbrev pub HeardUsed : Cause → Type 0
 HeardUsed c = (p : Packet) → c ≡ hears p → WelcomeUsed p
@@ -352,7 +353,7 @@ change_owned c o m n heard own k blanked (notes s v base acc by from) h =
     record { fronts = g; leads = h.leads; vote = h.vote }
 change_owned c o m n heard own k blanked (stores s v base acc number e by from plain may) h =
     let other = heard_other m s v from in
-    let g = pushed_fronts m e (any_fits (told m) e may.fits) h.fronts in
+    let g = pushed_fronts m e (any_fits (image_of m) e may.fits) h.fronts in
     let by_s : (view n).by ≡ s = ap (λ (x : Stamp). x.by) (view_pushed m e plain) ∙ other.0 in
     record { fronts = g; leads = λ t. absurd (not_own n s by_s other.1 t); vote = h.vote }
 change_owned c o m n heard own k blanked (begins_list s v base join image is says may) h =
@@ -390,7 +391,7 @@ change_owned c o m n heard own k blanked (looks b verdict over why look is) h =
 change_owned c o m n heard own k blanked (fetches s v base number e is by promise below why may) h =
     let f = trimmed_fronts m base may.taken h.fronts in
     record {
-      fronts = pushed_fronts (trimmed m base) e (any_fits (told m) e may.fits) f;
+      fronts = pushed_fronts (trim_up_to m base) e (any_fits (image_of m) e may.fits) f;
       leads = λ t. absurd (fetch_follows m s v base e why (other_member m s by) promise below t);
       vote = h.vote;
     }
@@ -398,8 +399,8 @@ change_owned c o m n heard own k blanked (stores_view s v base number names resi
     let f = trimmed_fronts m base may.taken h.fronts in
     let e = View v names resilience in
     record {
-      fronts = pushed_fronts (trimmed m base) e tt f;
-      leads = λ t. absurd (not_own n v.by (ap (λ (x : Stamp). x.by) (view_last (trimmed m base) v names resilience)) other t);
+      fronts = pushed_fronts (trim_up_to m base) e tt f;
+      leads = λ t. absurd (not_own n v.by (ap (λ (x : Stamp). x.by) (view_last (trim_up_to m base) v names resilience)) other t);
       vote = h.vote;
     }
 change_owned c o m n heard own k blanked (queues body is says member stays few) h = record { fronts = h.fronts; leads = h.leads; vote = h.vote }
@@ -428,7 +429,7 @@ change_owned c o m n heard own k blanked (asks_to_join is was) h = record { fron
 change_owned c o m n heard own k blanked (asks_to_leave is was stays done) h = record { fronts = h.fronts; leads = h.leads; vote = h.vote }
 change_owned c o m n heard own k blanked (closes leads leaves alone room) h =
     let e = Leave m.core.who in
-    let p = pushed m e in
+    let p = push_entry m e in
     let r = rests_at_end p in
     let f = closed_fronts p (closed_leads m h.fronts (h.leads leads) alone) (pushed_fronts m e tt h.fronts) in
     record {

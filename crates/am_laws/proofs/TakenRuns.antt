@@ -1,5 +1,5 @@
 -- In each run no node trims more than its own application has taken.
-use Rattle.std.proofs.Common.{◌≡◌, ℕ, ◌+◌, ◌<◌, ◌==◌, true, List, slice_index, refl, subst, arith}
+use Rattle.std.proofs.Common.{◌≡◌, ℕ, ◌+◌, ◌<◌, ◌==◌, true, List, slice_index, subst, arith}
 use Rattle.std.specs.Prelude.{All}
 use Rattle.std.proofs.lemmas.Bool.Decides.{nat_tests}
 use Rattle.std.proofs.lemmas.List.Elements.{All-nil, All-append, All-weaker}
@@ -12,23 +12,22 @@ use Rattle.am_packet.specs.Boxes.{Letter}
 use Rattle.am_core.proofs.Lives.{used_fold}
 use Rattle.am_group.specs.declared.event.Event.{Event}
 use Rattle.am_model.specs.Node.{Node, founder, stranger, founding_stamp}
-use Rattle.am_model.specs.Emit.{Step}
-use Rattle.am_model.specs.World.{World, start, unchanged, stepped, run}
+use Rattle.am_model.specs.World.{World, start, with_step, run}
 use Rattle.am_model.specs.Claims.{heard_by}
 use Rattle.am_model.proofs.Greatest.{split}
 use Rattle.am_effects.specs.Causes.{Cause}
 use Rattle.am_effects.specs.Letters.{Says, welcome}
 use Rattle.am_effects.specs.Letters.{LetterSays}
 use Rattle.am_effects.specs.Changes.{Changes, unchanged as no_change, changed}
-use Rattle.am_effects.specs.Effects.{Effect}
-use Rattle.am_effects.specs.Events.{actor, WasSentTo, IsCause, steps, Happens}
+use Rattle.am_effects.specs.Events.{actor, WasSentTo, IsCause}
 use Rattle.am_effects.proofs.Items.{all_item}
-use Rattle.am_effects.proofs.Runs.{EachKeeps, runs_keep}
+use Rattle.am_effects.proofs.Runs.{EachKeeps, StepsKeep, SameParts, law_keeps, runs_keep}
 use Rattle.am_bounded.proofs.Kept.{Keeps}
 use Rattle.am_bounded.proofs.Changes.{kept_change}
 use Rattle.am_bounded.proofs.Runs.{kept_founder, kept_stranger}
 use Rattle.am_laws.specs.Taken.{TakenHolds}
-use Rattle.am_laws.proofs.LeaderRows.{JoinsFit, first_member, used_blank}
+use Rattle.am_core.proofs.Lives.{JoinsFit}
+use Rattle.am_laws.proofs.LeaderRows.{first_member, used_blank}
 use Rattle.am_laws.proofs.Named.{few_names}
 use Rattle.am_laws.proofs.ViewNames.{HasNames, HeardNames, change_names}
 use Rattle.am_laws.proofs.ViewChanges.{Balloted, change_does}
@@ -68,11 +67,16 @@ welcomes_used m n c to p h _ = tt
 abbrev UsedLetter : Letter → Type 0
 UsedLetter l = WelcomeUsed l.packet
 
+-- of nodes and letters
+pub record OwnedKept (rules : Rules) (nodes : ℕ → Node) (sent : List Letter) : Type 0 where
+  pub kept : (name : ℕ) → Keeps rules (nodes name)
+  pub each : (name : ℕ) → name < 256 → Owned (nodes name)
+  pub letters : All UsedLetter sent
+
 pub record AllOwned (rules : Rules) (w : World) : Type 0 where
   pub blanks : AllBlank rules w
-  pub kept : (name : ℕ) → Keeps rules (w.nodes name)
-  pub each : (name : ℕ) → name < 256 → Owned (w.nodes name)
-  pub letters : All UsedLetter w.letters
+  pub owned : OwnedKept rules w.nodes w.letters
+  pub open owned use *
 
 pub heard_used : (rules : Rules) (w : World) (e : Event) (c : Cause) → AllOwned rules w → IsCause w (actor w e) e.act c → HeardUsed c
 heard_used rules w e c h cause p is =
@@ -84,36 +88,31 @@ each_along rules w name few h =
     let k = h.blanks.views.each name few in
     record { names = k.names; balloted = k.balloted; blanked = h.blanks.each name few; kept = h.kept name; owned = h.each name few }
 
-owned_step : (rules : Rules) (w : World) (e : Event) (c : Cause) (s : Step) → IsCause w (actor w e) e.act c → Effect (w.nodes (actor w e)) c s
-    → AllBlank rules (stepped w e (actor w e) s) → AllOwned rules w → AllOwned rules (stepped w e (actor w e) s)
-unfolding stepped
+owned_step : (rules : Rules) → StepsKeep (AllBlank rules) (AllOwned rules)
+unfolding with_step
 owned_step rules w e c s cause effect blanks h =
     let name = actor w e in
     let m = w.nodes name in
-    let n = s.node in
     let few = few_names rules w e h.blanks.views.named in
-    let a = along_changes rules m n (heard_names rules w e c h.blanks.views cause) (heard_used rules w e c h cause) effect.changes
+    let a = along_changes rules m s.node (heard_names rules w e c h.blanks.views cause) (heard_used rules w e c h cause) effect.changes
     (each_along rules w name few h) in
     let sender = effect.sender in
     let fronts : Fronts sender = subst Fronts effect.is a.owned.fronts in
     record {
       blanks = blanks;
-      kept = λ other. split (other == name) (λ t. rw t a.kept) (λ f. rw f (h.kept other));
-      each = λ other low. split (other == name) (λ t. rw t a.owned) (λ f. rw f (h.each other low));
-      letters = All-append UsedLetter w.letters s.letters h.letters
-          (All-weaker (LetterSays m c sender) UsedLetter (λ l x. welcomes_used m sender c l.to l.packet fronts x.says) s.letters effect.letters);
+      owned = record {
+        kept = λ other. split (other == name) (λ t. rw t a.kept) (λ f. rw f (h.kept other));
+        each = λ other low. split (other == name) (λ t. rw t a.owned) (λ f. rw f (h.each other low));
+        letters = All-append UsedLetter w.letters s.letters h.letters
+            (All-weaker (LetterSays m c sender) UsedLetter (λ l x. welcomes_used m sender c l.to l.packet fronts x.says) s.letters effect.letters);
+      };
     }
 
-owned_same : (rules : Rules) (w v : World) → v.nodes ≡ w.nodes → v.letters ≡ w.letters → AllBlank rules v → AllOwned rules w → AllOwned rules v
-owned_same rules w v nodes letters blanks h = record { blanks = blanks; kept = rw nodes h.kept; each = rw nodes h.each; letters = rw letters h.letters }
-
-owned_after : (rules : Rules) (w : World) (e : Event) (v : World) → Happens w e v → AllBlank rules v → AllOwned rules w → AllOwned rules v
-unfolding unchanged
-owned_after rules w e v (steps c s runs cause effect) blanks h = owned_step rules w e c s cause effect blanks h
-owned_after rules w e v _ blanks h = owned_same rules w v refl refl blanks h
+owned_same : (rules : Rules) (w v : World) → SameParts w v → AllBlank rules v → AllOwned rules w → AllOwned rules v
+owned_same rules w v same blanks h = record { blanks = blanks; owned = rw (same.nodes, same.letters) h.owned }
 
 pub each_owned : (rules : Rules) → EachKeeps (AllOwned rules)
-each_owned rules w e v happens h = owned_after rules w e v happens (each_blank rules w e v happens h.blanks) h
+each_owned rules = law_keeps (AllBlank rules) (AllOwned rules) (each_blank rules) (λ w h. h.blanks) (owned_step rules) (owned_same rules)
 
 -- ---- the start
 
@@ -156,9 +155,11 @@ stranger_owned rules name = record {
 pub owned_start : (rules : Rules) → MayFound rules → AllOwned rules (start rules)
 owned_start rules may = record {
   blanks = record { views = views_start rules may; each = λ name low. first_blank rules name };
-  kept = λ name. split (has rules.founders name) (λ t. rw t (kept_founder rules name)) (λ f. rw f (kept_stranger rules name));
-  each = λ name low. split (has rules.founders name) (λ t. rw t (founder_owned rules name t)) (λ f. rw f (stranger_owned rules name));
-  letters = All-nil UsedLetter;
+  owned = record {
+    kept = λ name. split (has rules.founders name) (λ t. rw t (kept_founder rules name)) (λ f. rw f (kept_stranger rules name));
+    each = λ name low. split (has rules.founders name) (λ t. rw t (founder_owned rules name t)) (λ f. rw f (stranger_owned rules name));
+    letters = All-nil UsedLetter;
+  };
 }
 
 pub run_owned : (rules : Rules) (events : List Event) → MayFound rules → AllOwned rules (run rules events)

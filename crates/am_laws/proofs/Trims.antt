@@ -19,12 +19,13 @@ use Rattle.am_fronts.specs.Reports.{least_of, least_taken}
 use Rattle.am_fronts.specs.Refresh.{base_after, own_report, tell, go_on, let_go}
 use Rattle.am_fronts.proofs.ReportLaws.{count_cons}
 use Rattle.am_chain_lists.proofs.Rows.{mod16}
-use Rattle.am_model.specs.Node.{Node, Ballot, top, told, members, others, is_sequencer, pushed, trimmed}
+use Rattle.am_model.specs.Node.{Node, Ballot, top, image_of, members, others, is_sequencer, push_entry, trim_up_to}
 use Rattle.am_model.specs.Refresh.{advance, lead, refresh, settle, refresh_at_end}
 use Rattle.am_model.proofs.Greatest.{split}
 use Rattle.am_effects.proofs.Rests.{settle_is}
 use Rattle.am_effects.proofs.Says.{told_pushed}
-use Rattle.am_laws.proofs.LeaderRows.{JoinFits, JoinsFit, joins_push, is_in, least_within}
+use Rattle.am_core.proofs.Lives.{JoinFits, JoinsFit}
+use Rattle.am_laws.proofs.LeaderRows.{joins_push, is_in, least_within}
 
 -- ---- what a node has
 
@@ -61,12 +62,12 @@ abbrev pub WelcomeUsed : Packet → Type 0
 WelcomeUsed (packet.Welcome s v base join image) = IsUsed image
 WelcomeUsed _ = Unit {0}
 
-pub told_used : (m : Node) → Fronts m → IsUsed (told m)
+pub told_used : (m : Node) → Fronts m → IsUsed (image_of m)
 told_used m h = used_fold m.core.log.image (m.core.log.start + 1) m.core.log.entries (omega arith) h.used
 
 -- ---- an entry more
 
-pub pushed_fronts : (m : Node) (e : Entry) → JoinFits (told m) e → Fronts m → Fronts (pushed m e)
+pub pushed_fronts : (m : Node) (e : Entry) → JoinFits (image_of m) e → Fronts m → Fronts (push_entry m e)
 pushed_fronts m e fit h =
     let a = h.accepted in
     record {
@@ -79,7 +80,7 @@ pushed_fronts m e fit h =
       reported = h.reported;
     }
 
-pub trimmed_fronts : (m : Node) (base : ℕ) → base ≤ m.core.taken → Fronts m → Fronts (trimmed m base)
+pub trimmed_fronts : (m : Node) (base : ℕ) → base ≤ m.core.taken → Fronts m → Fronts (trim_up_to m base)
 trimmed_fronts m base low h =
     let a = h.kept in let b = h.base in
     record { used = h.used; joins = h.joins; kept = omega arith; base = omega arith; given = h.given; accepted = h.accepted; reported = h.reported }
@@ -193,24 +194,24 @@ none_least : (f : ℕ → ℕ) (names : List ℕ) (to : ℕ) → size names ≡ 
 unfolding least_of
 none_least f names to none is = let e : None ≡ Some to = sym (ap (least_of f) (none_from names 0 none)) ∙ is in cc
 
-pub closed_leads : (m : Node) → Fronts m → has (members m) m.core.who ≡ true → nat_lt 0 (size (others m)) ≡ false → MayLead (pushed m (Leave m.core.who))
+pub closed_leads : (m : Node) → Fronts m → has (members m) m.core.who ≡ true → nat_lt 0 (size (others m)) ≡ false → MayLead (push_entry m (Leave m.core.who))
 unfolding unions
 closed_leads m h member alone =
     let who = m.core.who in
     let e = Leave who in
-    let p = pushed m e in
+    let p = push_entry m e in
     let n = top m + 1 in
     let told_is = told_pushed m e in
     let used = told_used m h in
     let used_p = pushed_fronts m e tt h in
     let high_p : top p ≡ n = simp length-append (omega arith) in
-    let members_p : members p ≡ others m = ap members_of told_is ∙ closed_row (told m) n who (omega arith) used.places member
+    let members_p : members p ≡ others m = ap members_of told_is ∙ closed_row (image_of m) n who (omega arith) used.places member
     ∙ sym (ap (λ (b : Bool). if b then set (members m) (place_of who) 0 else members m) member) in
     let nobody : size (members p) ≡ 0 = ap size members_p ∙ (let z : size (others m) ≡ 0 = grind (arith, nat_tests) in z) in
     let before : has (members_at p.core.log (top m)) who ≡ true =
     ap (λ (i : Image). has (members_of i) who) (image-push m.core.log e (top m) (omega arith) ∙ image-top m.core.log) ∙ member in
-    let life : (row_at (told p) (place_of who)).life ≡ life_of who = ap (λ (i : Image). (row_at i (place_of who)).life) told_is
-    ∙ leave_life (told m) n who (place_of who) (mod16 who) used ∙ member_row (told m) who used member in
+    let life : (row_at (image_of p) (place_of who)).life ≡ life_of who = ap (λ (i : Image). (row_at i (place_of who)).life) told_is
+    ∙ leave_life (image_of m) n who (place_of who) (mod16 who) used ∙ member_row (image_of m) who used member in
     record {
       least = λ reports c to log is low high own least. (let used_c : IsUsed c.log.image = subst (λ (l : Log). IsUsed l.image) (sym log) used_p.used in
           let joins : JoinsFit c.log.image (c.log.start + 1) c.log.entries =
@@ -221,7 +222,7 @@ closed_leads m h member alone =
           ≡ true) (sym log) (subst (λ w. has (members_at p.core.log (top m)) w ≡ true) (sym is) before) in
           let row : (row_at (told_by c.log) (place_of c.who)).life ≡ life_of c.who =
           subst (λ (l : Log). (row_at (told_by l) (place_of c.who)).life
-          ≡ life_of c.who) (sym log) (subst (λ w. (row_at (told p) (place_of w)).life ≡ life_of w) (sym is) life) in
+          ≡ life_of c.who) (sym log) (subst (λ w. (row_at (image_of p) (place_of w)).life ≡ life_of w) (sym is) life) in
           ⊎_elim
           (λ (below : c.acc < n). least_within reports c (top m) to used_c joins low (omega arith) (omega arith) there row own least)
           (λ (all : n ≤ c.acc).

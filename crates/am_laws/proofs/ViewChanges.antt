@@ -12,8 +12,8 @@ use Rattle.am_base.specs.Lists.{Log, fits, fold, told_by}
 use Rattle.am_packet.specs.declared.packet.Packet.TheVariants as packet
 use Rattle.am_model.specs.declared.status.Status.{Status}
 use Rattle.am_model.specs.declared.status.Status.TheVariants as status
-use Rattle.am_model.specs.Node.{Node, Ballot, told, view, acts, is_sequencer, is_member, is_asking, pushed, trimmed}
-use Rattle.am_model.specs.Ballots.{Verdict, overtaken, need_of, left_in, trimmed_for, next_stamp}
+use Rattle.am_model.specs.Node.{Node, Ballot, image_of, view, acts, is_sequencer, is_member, is_asking, push_entry, trim_up_to}
+use Rattle.am_model.specs.Ballots.{Verdict, overtake, need_of, left_in, trim_for, next_stamp}
 use Rattle.am_model.specs.Calls.{is_unfinished}
 use Rattle.am_model.specs.Receiving.{is_view}
 use Rattle.am_model.specs.Refresh.{refresh}
@@ -70,11 +70,11 @@ does_same m n who stays promise log ballot h = record {
 
 -- an entry that is no View
 does_plain : (m n : Node) (e : Entry) → is_view e ≡ false → n.core.who ≡ m.core.who → has_log n.status ≡ true → n.core.promise ≡ m.core.promise
-    → n.core.log ≡ (pushed m e).core.log → n.ballot ≡ m.ballot → Balloted m → Does m n
+    → n.core.log ≡ (push_entry m e).core.log → n.ballot ≡ m.ballot → Balloted m → Does m n
 does_plain m n e plain who stays promise log ballot h =
     let v : view n ≡ view m = ap (λ (l : Log). (told_by l).view) log ∙ view_pushed m e plain in
     record {
-      goes = λ t. goes_then m.core.log (pushed m e).core.log n.core.log (goes_plain m e plain) (goes_to (pushed m e).core.log n.core.log log);
+      goes = λ t. goes_then m.core.log (push_entry m e).core.log n.core.log (goes_plain m e plain) (goes_to (push_entry m e).core.log n.core.log log);
       log_ = λ t. stays;
       balloted = record {
         high = (λ i. stamp_lt (promise i) (v i)) ∙ h.high;
@@ -122,7 +122,7 @@ ballot_log m b is h = split (has_log m.status) (λ t. t) (λ f. absurd (let none
 -- ---- promises
 
 overtaken_open : (who : ℕ) (promise v by : Stamp) (ballot : Option Ballot) → (by.by < 256) → promise.by < 256 → stamp_lt by promise ≡ false
-    → OpenBallot who promise v ballot → OpenBallot who by v (overtaken by ballot)
+    → OpenBallot who promise v ballot → OpenBallot who by v (overtake by ballot)
 overtaken_open who promise v by None k l low h = tt
 overtaken_open who promise v by (Some b) k l low h = split (not b.is_over && stamp_lt b.stamp by)
     (λ t. rw t (λ over. absurd (cc)))
@@ -133,8 +133,8 @@ overtaken_open who promise v by (Some b) k l low h = split (not b.is_over && sta
     let same : by ≡ promise = equal_stamps by promise k l low up in
     record { above = o.above; promised = same ∙ o.promised; own = o.own }))
 
-none_overtaken : (by : Stamp) (ballot : Option Ballot) → ballot ≡ None → overtaken by ballot ≡ None
-none_overtaken by ballot is = ap (overtaken by) is
+none_overtaken : (by : Stamp) (ballot : Option Ballot) → ballot ≡ None → overtake by ballot ≡ None
+none_overtaken by ballot is = ap (overtake by) is
 
 pub next_above : (promise : Stamp) (who : ℕ) → stamp_lt promise (record { round = promise.round + 1; by = who }) ≡ true
 next_above promise who = let t : nat_lt promise.round (promise.round + 1) ≡ true = grind (arith, nat_tests) in rw t refl
@@ -185,11 +185,11 @@ look_does m b v (finds_no_room x) l h =
     }
 look_does m b v (decides may) l h =
     let names = left_in b (need_of m b) in
-    let before = trimmed_for m b names in
-    let r = max b.resilience (told m).resilience in
+    let before = trim_for m b names in
+    let r = max b.resilience (image_of m).resilience in
     let e = View b.stamp names r in
     let o = l.open_ in
-    let same : view (pushed before e) ≡ b.stamp = view_last before b.stamp names r in
+    let same : view (push_entry before e) ≡ b.stamp = view_last before b.stamp names r in
     record {
       goes = λ t. goes_view before b.stamp names r o.above;
       log_ = λ t. t;
@@ -226,12 +226,12 @@ fetched_high m s v stamp names resilience is few named (for_ballot b open_ from 
     )
 
 does_fetch : (m : Node) (s : ℕ) (v : Stamp) (base : ℕ) (e : Entry) → m.core.promise ≡ v → ViewNamed e → HasNames m → has_log m.status ≡ true → Fetches m s v e
-    → fits (told m) e ≡ true → Balloted m → Does m (pushed (trimmed m base) e)
+    → fits (image_of m) e ≡ true → Balloted m → Does m (push_entry (trim_up_to m base) e)
 does_fetch m s v base (View stamp names resilience) is few named log from fit h =
     let k = fetched_high m s v stamp names resilience is few named from h in
-    let same : view (pushed (trimmed m base) (View stamp names resilience)) ≡ stamp = view_last (trimmed m base) stamp names resilience in
+    let same : view (push_entry (trim_up_to m base) (View stamp names resilience)) ≡ stamp = view_last (trim_up_to m base) stamp names resilience in
     record {
-      goes = λ t. goes_fit (trimmed m base) (View stamp names resilience) fit;
+      goes = λ t. goes_fit (trim_up_to m base) (View stamp names resilience) fit;
       log_ = λ t. t;
       balloted = record {
         high = subst (λ (x : Stamp). stamp_lt m.core.promise x ≡ false) (sym same) k.0;
@@ -240,13 +240,13 @@ does_fetch m s v base (View stamp names resilience) is few named log from fit h 
       };
     }
 does_fetch m s v base (Data from_ req body) is few named log from fit h =
-    let d = does_plain (trimmed m base) (pushed (trimmed m base) (Data from_ req body)) (Data from_ req body) refl refl log refl refl refl h in
+    let d = does_plain (trim_up_to m base) (push_entry (trim_up_to m base) (Data from_ req body)) (Data from_ req body) refl refl log refl refl refl h in
     record { goes = d.goes; log_ = d.log_; balloted = d.balloted }
 does_fetch m s v base (Join name) is few named log from fit h =
-    let d = does_plain (trimmed m base) (pushed (trimmed m base) (Join name)) (Join name) refl refl log refl refl refl h in
+    let d = does_plain (trim_up_to m base) (push_entry (trim_up_to m base) (Join name)) (Join name) refl refl log refl refl refl h in
     record { goes = d.goes; log_ = d.log_; balloted = d.balloted }
 does_fetch m s v base (Leave name) is few named log from fit h =
-    let d = does_plain (trimmed m base) (pushed (trimmed m base) (Leave name)) (Leave name) refl refl log refl refl refl h in
+    let d = does_plain (trim_up_to m base) (push_entry (trim_up_to m base) (Leave name)) (Leave name) refl refl log refl refl refl h in
     record { goes = d.goes; log_ = d.log_; balloted = d.balloted }
 
 -- the View of a Result is of another name
@@ -260,11 +260,11 @@ other_open who promise w v (Some b) is other h = λ over. absurd (
     cc)
 
 does_result : (m : Node) (v : Stamp) (base : ℕ) (names : List ℕ) (resilience : ℕ) → m.core.promise ≡ v → (v.by == m.core.who) ≡ false
-    → fits (told m) (View v names resilience) ≡ true → Balloted m → Does m (pushed (trimmed m base) (View v names resilience))
+    → fits (image_of m) (View v names resilience) ≡ true → Balloted m → Does m (push_entry (trim_up_to m base) (View v names resilience))
 does_result m v base names resilience is other fit h =
-    let same : view (pushed (trimmed m base) (View v names resilience)) ≡ v = view_last (trimmed m base) v names resilience in
+    let same : view (push_entry (trim_up_to m base) (View v names resilience)) ≡ v = view_last (trim_up_to m base) v names resilience in
     record {
-      goes = λ t. goes_fit (trimmed m base) (View v names resilience) fit;
+      goes = λ t. goes_fit (trim_up_to m base) (View v names resilience) fit;
       log_ = λ t. t;
       balloted = record {
         high = subst (λ (x : Stamp). stamp_lt m.core.promise x ≡ false) (sym same) (subst (λ (p : Stamp). stamp_lt p v ≡ false) (sym is) (not_above_itself v));
@@ -345,7 +345,7 @@ change_does heard m n (asks_to_join is was) k h = record {
   balloted = record { high = h.high; none = λ f. h.none (ap has_log was); opened = h.opened };
 }
 change_does heard m n (closes leads leaves alone room) k h =
-    let p = pushed m (Leave m.core.who) in
+    let p = push_entry m (Leave m.core.who) in
     let r = rests_at_end p in
     does_plain m n (Leave m.core.who) refl r.rests.who refl r.rests.promise r.log r.rests.ballot h
 change_does heard m n _ k h = does_same m n refl refl refl refl refl h

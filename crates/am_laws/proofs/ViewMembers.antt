@@ -8,7 +8,7 @@ use Rattle.am_base.specs.declared.image.Row.{Row}
 use Rattle.am_base.specs.declared.image.Image.{Image}
 use Rattle.am_base.specs.declared.name.Stamp.{Stamp}
 use Rattle.am_base.specs.Names.{place_of, life_of, name_at}
-use Rattle.am_base.specs.Lists.{is_blank, at_place, member_life, members_of, viewed, after}
+use Rattle.am_base.specs.Lists.{is_blank, at_place, member_life, members_of, row_after_view, after}
 use Rattle.am_base.proofs.Places.{slice_index-by_place, length-by_place}
 use Rattle.am_core.proofs.Lives.{row_at, member_at}
 use Rattle.am_chain_lists.proofs.Rows.{mod16, row_view, long_after, blank_joined}
@@ -36,7 +36,7 @@ data_members image n from req body long = split ((at_place image from).life == l
     (λ f. rw f refl)
 
 -- a View of some of the members makes them the members
-view_life : (n given : ℕ) (r : Row) → 0 < n → (given ≡ 0) ⊎ (given ≡ member_life r) → member_life (viewed false n given r) ≡ given
+view_life : (n given : ℕ) (r : Row) → 0 < n → (given ≡ 0) ⊎ (given ≡ member_life r) → member_life (row_after_view false n given r) ≡ given
 view_life n given r up why = split (nat_lt 0 (member_life r) && not (member_life r == given))
     (λ t. rw t (⊎_elim
     (λ (none : given ≡ 0). (let gone : member_life (record r { left = n }) ≡ 0 = grind (arith, nat_tests) in gone ∙ sym none))
@@ -47,7 +47,7 @@ view_life n given r up why = split (nat_lt 0 (member_life r) && not (member_life
     (λ (is : given ≡ member_life r). sym is)
     why))
 
-first_life : (n given : ℕ) (r : Row) → r.joined ≡ 0 → (given ≡ 0) ⊎ (given ≡ member_life r) → member_life (viewed true n given r) ≡ given
+first_life : (n given : ℕ) (r : Row) → r.joined ≡ 0 → (given ≡ 0) ⊎ (given ≡ member_life r) → member_life (row_after_view true n given r) ≡ given
 first_life n given r free why =
     let none : member_life r ≡ 0 = grind (arith, nat_tests) in
     let zero_ : given ≡ 0 = ⊎_elim (λ (z : given ≡ 0). z) (λ (is : given ≡ member_life r). is ∙ none) why in
@@ -55,7 +55,7 @@ first_life n given r free why =
     rw t (none ∙ sym zero_)
 
 any_life : (first : Bool) (n given : ℕ) (r : Row) → 0 < n → (first ≡ true → r.joined ≡ 0) → (given ≡ 0) ⊎ (given ≡ member_life r)
-    → member_life (viewed first n given r) ≡ given
+    → member_life (row_after_view first n given r) ≡ given
 any_life true n given r up free why = first_life n given r (free refl) why
 any_life false n given r up free why = view_life n given r up why
 

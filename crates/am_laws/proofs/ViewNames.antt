@@ -10,8 +10,8 @@ use Rattle.am_base.specs.declared.entry.Entry.TheVariants.{Data, Join, Leave, Vi
 use Rattle.am_base.specs.Stamps.{stamp_lt}
 use Rattle.am_packet.specs.declared.packet.Packet.{Packet}
 use Rattle.am_packet.specs.declared.packet.Packet.TheVariants as packet
-use Rattle.am_model.specs.Node.{Node, Ballot, pushed}
-use Rattle.am_model.specs.Ballots.{Verdict, overtaken}
+use Rattle.am_model.specs.Node.{Node, Ballot, push_entry}
+use Rattle.am_model.specs.Ballots.{Verdict, overtake}
 use Rattle.am_model.specs.Receiving.{is_view}
 use Rattle.am_model.specs.Refresh.{refresh, refresh_at_end}
 use Rattle.am_model.proofs.Greatest.{split}
@@ -25,7 +25,7 @@ use Rattle.am_effects.specs.Changes.{refreshes, settles, numbers, stores, begins
 use Rattle.am_effects.specs.Changes.{fetches, stores_view, closes}
 use Rattle.am_effects.proofs.Items.{all_get}
 use Rattle.am_effects.proofs.Rests.{rests_refresh, rests_at_end, settle_is}
-use Rattle.am_laws.specs.Packets.{sender_of, stamp_of}
+use Rattle.am_codec.specs.Spelling.{sender_of, stamp_of}
 
 -- a View's stamp is of one of the 256 names
 abbrev pub ViewNamed : Entry → Type 0
@@ -70,10 +70,10 @@ numbers_no_view c m e (asked_leave s v report is other known stays) = tt
 one_more : (m : Node) (e : Entry) → ViewNamed e → All ViewNamed m.core.log.entries → All ViewNamed (m.core.log.entries ++ e ∷ [])
 one_more m e is h = All-append ViewNamed m.core.log.entries (e ∷ []) h (All-cons ViewNamed e [] is (All-nil ViewNamed))
 
-pub names_pushed : (m : Node) (e : Entry) → ViewNamed e → HasNames m → HasNames (pushed m e)
+pub names_pushed : (m : Node) (e : Entry) → ViewNamed e → HasNames m → HasNames (push_entry m e)
 names_pushed m e is h = record { who_ = h.who_; promise_ = h.promise_; entries_ = one_more m e is h.entries_; ballot_ = h.ballot_ }
 
-ballot_overtaken : (by : Stamp) (ballot : Option Ballot) → BallotNamed ballot → BallotNamed (overtaken by ballot)
+ballot_overtaken : (by : Stamp) (ballot : Option Ballot) → BallotNamed ballot → BallotNamed (overtake by ballot)
 ballot_overtaken by None h = tt
 ballot_overtaken by (Some b) h = split (not b.is_over && stamp_lt b.stamp by) (λ t. rw t h) (λ f. rw f h)
 
@@ -128,7 +128,7 @@ change_names heard m n (stores_view s v base number names resilience is by own o
     let low : v.by < 256 = omega arith in
     record { who_ = h.who_; promise_ = h.promise_; entries_ = one_more m (View v names resilience) low h.entries_; ballot_ = h.ballot_ }
 change_names heard m n (closes leads leaves alone room) h =
-    let p = pushed m (Leave m.core.who) in
+    let p = push_entry m (Leave m.core.who) in
     let r = rests_at_end p in
     let k = same_names p (refresh_at_end p) r.rests.who r.rests.promise r.log r.rests.ballot (names_pushed m (Leave m.core.who) tt h) in
     record { who_ = k.who_; promise_ = k.promise_; entries_ = k.entries_; ballot_ = k.ballot_ }

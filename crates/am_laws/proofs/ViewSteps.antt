@@ -8,7 +8,7 @@ use Rattle.am_base.specs.declared.entry.Entry.TheVariants.{Data, Join, Leave, Vi
 use Rattle.am_base.specs.Names.{life_of}
 use Rattle.am_base.specs.Stamps.{stamp_lt}
 use Rattle.am_base.specs.Lists.{Log, at_place, after, fits, entry_at, told_by, with_entry}
-use Rattle.am_model.specs.Node.{Node, top, told, view, pushed}
+use Rattle.am_model.specs.Node.{Node, top, image_of, view, push_entry}
 use Rattle.am_model.specs.Receiving.{is_view}
 use Rattle.am_model.proofs.Greatest.{split}
 use Rattle.am_effects.proofs.Items.{get_front, get_last}
@@ -25,8 +25,8 @@ entry_stays log e x (suc before) h = split (nat_le log.start before)
     (λ t. rw t (get_front log.entries (e ∷ []) (before - log.start) x (rw t at h)))
     (λ f. absurd (let g = rw f at h in cc))
 
-pub entry_last : (m : Node) (e : Entry) → entry_at (pushed m e).core.log (top m + 1) ≡ Some e
-entry_last m e = entry_is (pushed m e).core.log (top m + 1) (length m.core.log.entries) (omega arith) ∙ get_last m.core.log.entries e
+pub entry_last : (m : Node) (e : Entry) → entry_at (push_entry m e).core.log (top m + 1) ≡ Some e
+entry_last m e = entry_is (push_entry m e).core.log (top m + 1) (length m.core.log.entries) (omega arith) ∙ get_last m.core.log.entries e
 
 -- ---- views
 
@@ -100,9 +100,9 @@ goes_then a b c h k = record {
 
 -- ---- an entry more
 
-goes_other : (m : Node) (e : Entry) → is_view e ≡ false → Goes m.core.log (pushed m e).core.log
+goes_other : (m : Node) (e : Entry) → is_view e ≡ false → Goes m.core.log (push_entry m e).core.log
 goes_other m e plain =
-    let same = after_same (told m) (top m + 1) e plain in
+    let same = after_same (image_of m) (top m + 1) e plain in
     let is = told_pushed m e in
     record {
       stays = λ number x h. entry_stays m.core.log e x number h;
@@ -114,32 +114,35 @@ goes_other m e plain =
     }
 
 -- the view that a View makes
-pub view_last : (m : Node) (stamp : Stamp) (names : List ℕ) (resilience : ℕ) → view (pushed m (View stamp names resilience)) ≡ stamp
+pub view_last : (m : Node) (stamp : Stamp) (names : List ℕ) (resilience : ℕ) → view (push_entry m (View stamp names resilience)) ≡ stamp
 view_last m stamp names resilience = ap (λ (i : Image). i.view) (told_pushed m (View stamp names resilience))
-    ∙ (after_view (told m) (top m + 1) stamp names resilience).0
+    ∙ (after_view (image_of m) (top m + 1) stamp names resilience).0
 
-pub goes_view : (m : Node) (stamp : Stamp) (names : List ℕ) (resilience : ℕ) → stamp_lt (view m) stamp ≡ true
-    → Goes m.core.log (pushed m (View stamp names resilience)).core.log
-goes_view m stamp names resilience above =
+-- and stands where it is told
+pub view_there : (m : Node) (stamp : Stamp) (names : List ℕ) (resilience : ℕ)
+    → entry_at (push_entry m (View stamp names resilience)).core.log (image_of (push_entry m (View stamp names resilience))).view_number
+    ≡ Some (View (view (push_entry m (View stamp names resilience))) names (image_of (push_entry m (View stamp names resilience))).resilience)
+view_there m stamp names resilience =
     let e = View stamp names resilience in
     let is = told_pushed m e in
-    let new = after_view (told m) (top m + 1) stamp names resilience in
-    let v : view (pushed m e) ≡ stamp = ap (λ (i : Image). i.view) is ∙ new.0 in
-    let n : (told (pushed m e)).view_number ≡ top m + 1 = ap (λ (i : Image). i.view_number) is ∙ new.1 in
-    let r : (told (pushed m e)).resilience ≡ resilience = ap (λ (i : Image). i.resilience) is ∙ new.2 in
-    record {
-      stays = λ number x h. entry_stays m.core.log e x number h;
-      view = inr (
-        subst (λ (s : Stamp). stamp_lt (view m) s ≡ true) (sym v) above,
-        record {
-          names = names;
-          there = ap (entry_at (pushed m e).core.log) n ∙ entry_last m e ∙ (λ i. Some (View (sym v i) names (sym r i)));
-        },
-      );
-    }
+    let new = after_view (image_of m) (top m + 1) stamp names resilience in
+    let v : view (push_entry m e) ≡ stamp = ap (λ (i : Image). i.view) is ∙ new.0 in
+    let n : (image_of (push_entry m e)).view_number ≡ top m + 1 = ap (λ (i : Image). i.view_number) is ∙ new.1 in
+    let r : (image_of (push_entry m e)).resilience ≡ resilience = ap (λ (i : Image). i.resilience) is ∙ new.2 in
+    ap (entry_at (push_entry m e).core.log) n ∙ entry_last m e ∙ (λ i. Some (View (sym v i) names (sym r i)))
+
+pub goes_view : (m : Node) (stamp : Stamp) (names : List ℕ) (resilience : ℕ) → stamp_lt (view m) stamp ≡ true
+    → Goes m.core.log (push_entry m (View stamp names resilience)).core.log
+goes_view m stamp names resilience above = record {
+  stays = λ number x h. entry_stays m.core.log (View stamp names resilience) x number h;
+  view = inr (
+    subst (λ (s : Stamp). stamp_lt (view m) s ≡ true) (sym (view_last m stamp names resilience)) above,
+    record { names = names; there = view_there m stamp names resilience },
+  );
+}
 
 -- any entry that fits
-pub goes_fit : (m : Node) (e : Entry) → fits (told m) e ≡ true → Goes m.core.log (pushed m e).core.log
+pub goes_fit : (m : Node) (e : Entry) → fits (image_of m) e ≡ true → Goes m.core.log (push_entry m e).core.log
 unfolding fits
 goes_fit m (Data from req body) fit = goes_other m (Data from req body) refl
 goes_fit m (Join name) fit = goes_other m (Join name) refl
@@ -147,5 +150,5 @@ goes_fit m (Leave name) fit = goes_other m (Leave name) refl
 goes_fit m (View stamp names resilience) fit = goes_view m stamp names resilience
     (split (stamp_lt (view m) stamp) (λ t. t) (λ f. absurd (let g = rw f at fit in cc)))
 
-pub goes_plain : (m : Node) (e : Entry) → is_view e ≡ false → Goes m.core.log (pushed m e).core.log
+pub goes_plain : (m : Node) (e : Entry) → is_view e ≡ false → Goes m.core.log (push_entry m e).core.log
 goes_plain m e plain = goes_other m e plain

@@ -13,20 +13,18 @@ use Rattle.am_base.specs.Lists.{entry_at, fold, after}
 use Rattle.am_packet.specs.declared.packet.Packet.{Packet}
 use Rattle.am_packet.specs.Boxes.{Letter}
 use Rattle.am_group.specs.declared.event.Event.{Event}
-use Rattle.am_model.specs.Node.{Node, told, view, set_at, is_member, founder, stranger, lowest_or_first, founders_view}
-use Rattle.am_model.specs.Emit.{Step}
+use Rattle.am_model.specs.Node.{Node, image_of, view, set_at, is_member, founder, stranger, lowest_or_first, founders_view}
 use Rattle.am_model.specs.Group.{has_log}
-use Rattle.am_model.specs.World.{Decided, World, start, first_node, founders_decided, last_view, decides, views_after, unchanged, stepped, run}
+use Rattle.am_model.specs.World.{Decided, World, start, first_node, founders_decided, last_view, decides, views_after, with_step, run}
 use Rattle.am_model.specs.Claims.{heard_by}
 use Rattle.am_model.proofs.Greatest.{split}
 use Rattle.am_effects.specs.Causes.{Cause}
 use Rattle.am_effects.specs.Letters.{Says, request}
 use Rattle.am_effects.specs.Letters.{LetterSays}
-use Rattle.am_effects.specs.Effects.{Effect}
-use Rattle.am_effects.specs.Events.{actor, WasSentTo, IsCause, steps, Happens}
+use Rattle.am_effects.specs.Events.{actor, WasSentTo, IsCause}
 use Rattle.am_effects.proofs.Items.{all_get, all_item}
-use Rattle.am_effects.proofs.Runs.{EachKeeps, runs_keep}
-use Rattle.am_laws.specs.Packets.{sender_of, stamp_of}
+use Rattle.am_effects.proofs.Runs.{EachKeeps, StepsKeep, SameParts, law_keeps, runs_keep}
+use Rattle.am_codec.specs.Spelling.{sender_of, stamp_of}
 use Rattle.am_laws.specs.Views.{ViewsHold}
 use Rattle.am_laws.proofs.Named.{AllNamed, each_named, few_names, start_named}
 use Rattle.am_laws.proofs.Stamps.{at_most, not_above, not_above_itself}
@@ -56,13 +54,18 @@ PieceLetter l = PieceNamed l.packet
 abbrev StampLetter : Letter → Type 0
 StampLetter l = (stamp_of l.packet).by < 256
 
+-- of nodes, letters and noted views
+pub record ViewsKept (nodes : ℕ → Node) (letters : List Letter) (views : List Decided) : Type 0 where
+  pub each : (name : ℕ) → name < 256 → NodeKept (nodes name)
+  pub pieces : All PieceLetter letters
+  pub stamps : All StampLetter letters
+  pub noted : All (IsNoted nodes) views
+  pub once : (i j : ℕ) (u v : Decided) → slice_get views i ≡ Some u → slice_get views j ≡ Some v → u.stamp ≡ v.stamp → i ≡ j
+
 pub record AllViews (rules : Rules) (w : World) : Type 0 where
   pub named : AllNamed rules w
-  pub each : (name : ℕ) → name < 256 → NodeKept (w.nodes name)
-  pub pieces : All PieceLetter w.letters
-  pub stamps : All StampLetter w.letters
-  pub noted : All (IsNoted w.nodes) w.views
-  pub once : (i j : ℕ) (u v : Decided) → slice_get w.views i ≡ Some u → slice_get w.views j ≡ Some v → u.stamp ≡ v.stamp → i ≡ j
+  pub kept : ViewsKept w.nodes w.letters w.views
+  pub open kept use *
 
 -- ---- a step
 
@@ -80,7 +83,7 @@ heard_names rules w e c h cause = record {
 -- the view doesn't fall
 view_rises : (m n : Node) → Goes m.core.log n.core.log → stamp_lt (view n) (view m) ≡ false
 view_rises m n g = ⊎_elim
-    (λ (s : SameView (told n) (told m)). subst (λ (v : Stamp). stamp_lt v (view m) ≡ false) (sym s.view) (not_above_itself (view m)))
+    (λ (s : SameView (image_of n) (image_of m)). subst (λ (v : Stamp). stamp_lt v (view m) ≡ false) (sym s.view) (not_above_itself (view m)))
     (λ (s : (stamp_lt (view m) (view n) ≡ true) × Stood n.core.log). not_above (view m) (view n) s.0)
     g.view
 
@@ -126,7 +129,7 @@ is_new m n d h =
     let log_m = log_of_member m.status a.0 in
     let g = d.goes log_m in
     ⊎_elim
-    (λ (s : SameView (told n) (told m)). absurd (
+    (λ (s : SameView (image_of n) (image_of m)). absurd (
     let e : stamp_eq (view m) (view n) ≡ true = ap (λ (v : Stamp). stamp_eq (view m) v) s.view ∙ same_is_equal (view m) in
     let x = rw e at b.1 in cc))
     (λ (s : (stamp_lt (view m) (view n) ≡ true) × Stood n.core.log). record { own = grind (arith, nat_tests); log_ = log_m; above = s.0; stood = s.1 })
@@ -185,7 +188,7 @@ noted_after nodes name n views few who d h once =
       log_ = ap (λ (x : Node). has_log x.status) at ∙ d.log_ new.log_;
       low = ap (λ (x : Node). stamp_lt (view x) (view n)) at ∙ not_above_itself (view n);
       names = new.stood.names;
-      there = ap (λ (x : Node). entry_at x.core.log (told n).view_number) at ∙ new.stood.there;
+      there = ap (λ (x : Node). entry_at x.core.log (image_of n).view_number) at ∙ new.stood.there;
     } in
     let differs : (k : ℕ) (u : Decided) → slice_get views k ≡ Some u → u.stamp ≡ view n → ⊥ =
     λ k u g e. (let o = all_get (IsNoted nodes) views k u h g in
@@ -209,52 +212,39 @@ pub says_stamp : (m n : Node) (c : Cause) (to : List ℕ) (p : Packet) → Says 
 says_stamp m n c to p (request _ req body a f s) = refl
 says_stamp m n c to p _ = refl
 
-views_step : (rules : Rules) (w : World) (e : Event) (c : Cause) (s : Step) → IsCause w (actor w e) e.act c → Effect (w.nodes (actor w e)) c s
-    → AllNamed rules (stepped w e (actor w e) s) → AllViews rules w → AllViews rules (stepped w e (actor w e) s)
-unfolding stepped
+views_step : (rules : Rules) → StepsKeep (AllNamed rules) (AllViews rules)
+unfolding with_step
 views_step rules w e c s cause effect named h =
     let name = actor w e in
     let m = w.nodes name in
-    let n = s.node in
     let few = few_names rules w e h.named in
     let kept = h.each name few in
-    let g = changes_do m n (heard_names rules w e c h cause) effect.changes kept.names kept.balloted in
-    let who : n.core.who ≡ name = ap (λ (b : Bool). (if b then n else m).core.who) (sym (is_itself name)) ∙ named.who name in
-    let after = noted_after w.nodes name n w.views few who g.does h.noted h.once in
+    let g = changes_do m s.node (heard_names rules w e c h cause) effect.changes kept.names kept.balloted in
+    let who : s.node.core.who ≡ name = ap (λ (b : Bool). (if b then s.node else m).core.who) (sym (is_itself name)) ∙ named.who name in
+    let after = noted_after w.nodes name s.node w.views few who g.does h.noted h.once in
     let sender = effect.sender in
-    let names = sender_names n sender effect.is g.names in
+    let names = sender_names s.node sender effect.is g.names in
     record {
       named = named;
-      each = λ other low. split (other == name)
-          (λ t. rw t (record { names = g.names; balloted = g.does.balloted }))
-          (λ f. rw f (h.each other low));
-      pieces = All-append PieceLetter w.letters s.letters h.pieces
-          (All-weaker (LetterSays m c sender) PieceLetter (λ l x. pieces_named m sender c l.to l.packet names x.says) s.letters effect.letters);
-      stamps = All-append StampLetter w.letters s.letters h.stamps
-          (All-weaker (LetterSays m c sender) StampLetter (λ l x. subst (λ (v : Stamp). v.by < 256)
-          (sym (says_stamp m sender c l.to l.packet x.says)) names.promise_) s.letters effect.letters);
-      noted = after.noted;
-      once = after.once;
+      kept = record {
+        each = λ other low. split (other == name)
+            (λ t. rw t (record { names = g.names; balloted = g.does.balloted }))
+            (λ f. rw f (h.each other low));
+        pieces = All-append PieceLetter w.letters s.letters h.pieces
+            (All-weaker (LetterSays m c sender) PieceLetter (λ l x. pieces_named m sender c l.to l.packet names x.says) s.letters effect.letters);
+        stamps = All-append StampLetter w.letters s.letters h.stamps
+            (All-weaker (LetterSays m c sender) StampLetter (λ l x. subst (λ (v : Stamp). v.by < 256)
+            (sym (says_stamp m sender c l.to l.packet x.says)) names.promise_) s.letters effect.letters);
+        noted = after.noted;
+        once = after.once;
+      };
     }
 
-views_same : (rules : Rules) (w v : World) → v.nodes ≡ w.nodes → v.letters ≡ w.letters → v.views ≡ w.views → AllNamed rules v → AllViews rules w
-    → AllViews rules v
-views_same rules w v nodes letters views named h = record {
-  named = named;
-  each = rw nodes h.each;
-  pieces = rw letters h.pieces;
-  stamps = rw letters h.stamps;
-  noted = rw (nodes, views) h.noted;
-  once = rw views h.once;
-}
-
-views_after_event : (rules : Rules) (w : World) (e : Event) (v : World) → Happens w e v → AllNamed rules v → AllViews rules w → AllViews rules v
-unfolding unchanged
-views_after_event rules w e v (steps c s runs cause effect) named h = views_step rules w e c s cause effect named h
-views_after_event rules w e v _ named h = views_same rules w v refl refl refl named h
+views_same : (rules : Rules) (w v : World) → SameParts w v → AllNamed rules v → AllViews rules w → AllViews rules v
+views_same rules w v same named h = record { named = named; kept = rw (same.nodes, same.letters, same.views) h.kept }
 
 pub each_views : (rules : Rules) → EachKeeps (AllViews rules)
-each_views rules w e v happens h = views_after_event rules w e v happens (each_named rules w e v happens h.named) h
+each_views rules = law_keeps (AllNamed rules) (AllViews rules) (each_named rules) (λ w h. h.named) (views_step rules) (views_same rules)
 
 -- ---- the start
 
@@ -303,11 +293,13 @@ founding_noted rules may =
 pub views_start : (rules : Rules) → MayFound rules → AllViews rules (start rules)
 views_start rules may = record {
   named = start_named rules may;
-  each = λ name few. split (has rules.founders name) (λ t. rw t (kept_founder rules name few may)) (λ f. rw f (kept_stranger rules name few));
-  pieces = All-nil PieceLetter;
-  stamps = All-nil StampLetter;
-  noted = All-cons (IsNoted (first_node rules)) (founders_decided rules) [] (founding_noted rules may) (All-nil (IsNoted (first_node rules)));
-  once = only_one (founders_decided rules);
+  kept = record {
+    each = λ name few. split (has rules.founders name) (λ t. rw t (kept_founder rules name few may)) (λ f. rw f (kept_stranger rules name few));
+    pieces = All-nil PieceLetter;
+    stamps = All-nil StampLetter;
+    noted = All-cons (IsNoted (first_node rules)) (founders_decided rules) [] (founding_noted rules may) (All-nil (IsNoted (first_node rules)));
+    once = only_one (founders_decided rules);
+  };
 }
 
 pub views_hold : ViewsHold

@@ -1,49 +1,9 @@
--- The parts that every packet has, and how high its numbers are.
+-- How high the numbers of a packet are.
 use Rattle.std.specs.Prelude.{ℕ, ◌+◌, ◌≤◌, List, [], ◌∷◌, All}
-use Rattle.am_base.specs.declared.name.Stamp.{Stamp}
+use Rattle.am_codec.specs.Spelling.{stamp_of}
 use Rattle.am_packet.specs.declared.packet.Packet.{Packet}
 use Rattle.am_packet.specs.declared.packet.Packet.TheVariants.{Request, Spread, Bcast, Order, Accept, Ack, Nack, Hold, JoinAsk, Welcome, LeaveAsk, Gone, Invite}
 use Rattle.am_packet.specs.declared.packet.Packet.TheVariants.{Vote, Fetch, Piece, Result, HandOver}
-
-abbrev pub sender_of : Packet → ℕ
-sender_of (Request s v report req body) = s
-sender_of (Spread s v report req body) = s
-sender_of (Bcast s v base acc number e) = s
-sender_of (Order s v base acc number from req) = s
-sender_of (Accept s v base acc high poll) = s
-sender_of (Ack s v report) = s
-sender_of (Nack s v report) = s
-sender_of (Hold s v base high req) = s
-sender_of (JoinAsk s v) = s
-sender_of (Welcome s v base join image) = s
-sender_of (LeaveAsk s v report) = s
-sender_of (Gone s v number) = s
-sender_of (Invite s v) = s
-sender_of (Vote s v vote) = s
-sender_of (Fetch s v stored) = s
-sender_of (Piece s v base number e) = s
-sender_of (Result s v base number names resilience) = s
-sender_of (HandOver s v) = s
-
-abbrev pub stamp_of : Packet → Stamp
-stamp_of (Request s v report req body) = v
-stamp_of (Spread s v report req body) = v
-stamp_of (Bcast s v base acc number e) = v
-stamp_of (Order s v base acc number from req) = v
-stamp_of (Accept s v base acc high poll) = v
-stamp_of (Ack s v report) = v
-stamp_of (Nack s v report) = v
-stamp_of (Hold s v base high req) = v
-stamp_of (JoinAsk s v) = v
-stamp_of (Welcome s v base join image) = v
-stamp_of (LeaveAsk s v report) = v
-stamp_of (Gone s v number) = v
-stamp_of (Invite s v) = v
-stamp_of (Vote s v vote) = v
-stamp_of (Fetch s v stored) = v
-stamp_of (Piece s v base number e) = v
-stamp_of (Result s v base number names resilience) = v
-stamp_of (HandOver s v) = v
 
 -- the numbers of entries that it tells, but for that of a View
 abbrev pub numbers_of : Packet → List ℕ

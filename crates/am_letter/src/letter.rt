@@ -109,6 +109,7 @@ impl Letter {
         }
     }
 
+    /// The bytes, wherever they stand.
     fn spelling(&self) -> &[u8]
         ensures value { result.now ≡ spelling self.now.packet }
         ensures spelled { IsSpelled result.now }
@@ -160,7 +161,7 @@ impl Letter {
     }
 
     /// The same letter in a place of fixed size. It takes no memory.
-    pub fn copied(&self) -> LetterCopy
+    pub fn copy(&self) -> LetterCopy
         ensures { result ≡ self.now }
     {
         let mut bytes = PacketBytes::default();

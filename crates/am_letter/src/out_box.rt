@@ -106,6 +106,7 @@ impl OutBox {
         (Items::of(letters), left)
     }
 
+    /// How many letters are of this kind or a lower one, which come first.
     fn place_for(&self, kind: u8) -> usize
         ensures value { result ≡ place_for kind self.now }
         ensures fits { result ≤ length self.now }

@@ -1,84 +1,69 @@
+ghost use Rattle.std.specs.Prelude.{IfOk};
 ghost use Rattle.am_codec.specs.Limits.{IsWithin};
 
 use crate::letter::Letter;
 use crate::out_box::OutBox;
-use am_base::NoMemory;
-use am_base::image::Report;
-use am_base::name::{Name, Stamp};
 use am_base::names::Names;
+use am_codec::decode;
 use am_packet::packet::Packet;
-use std::alloc::Global;
 use std::test::*;
 
-#[tactic(auto, unfolding(am_codec::specs::Limits::IsWithin))]
-fn join_ask(alloc: Global, to: Names) -> Result<Letter, NoMemory> {
-    let ask = Packet::JoinAsk {
-        sender: Name::of_byte(17),
-        stamp: Stamp {
-            round: 0,
-            by: Name::of_byte(0),
-        },
-    };
-    Letter::of(alloc, to, &ask)
+const JOIN_ASK: &[u8] = b"AG\x03\x09\x11\x00\x00\x00\x00\x00\x00\x0c";
+
+const ACK: &[u8] = b"AG\x03\x06\x01\x00\x00\x00\x02\x00\x00\x14\x00\x00\x00\x05\x00\x00\x00\x04";
+
+const NACK: &[u8] = b"AG\x03\x07\x01\x00\x00\x00\x02\x00\x00\x14\x00\x00\x00\x05\x00\x00\x00\x04";
+
+/// A Request of 65 bytes, one more than stand within a letter.
+const LONG: &[u8] =
+    b"AG\x03\x01\x01\x00\x00\x00\x02\x00\x00\x41\x00\x00\x00\x05\x00\x00\x00\x04\x00\x00\x00\x0301234567890123456789012345678901234567890";
+
+/// The packet that these bytes spell.
+fn packet(bytes: &[u8]) -> Result<Packet, Fail>
+    ensures { IfOk result IsWithin }
+{
+    Ok(decode(bytes).ok().ok_or("a packet")?)
 }
 
 #[test]
 fn a_letter_has_its_bytes(rt: HostRuntime) -> Result<(), Fail> {
-    let letter = join_ask(rt.alloc(), Names::of_mask(6))?;
-    assert_eq!(rt;
-        letter.bytes(),
-        b"AG\x03\x09\x11\x00\x00\x00\x00\x00\x00\x0c".as_slice()
-    );
+    let letter = Letter::of(rt.alloc(), Names::of_mask(6), &packet(JOIN_ASK)?)?;
+    assert_eq!(rt; letter.bytes(), JOIN_ASK);
     assert!(rt; letter.is_for_any());
     assert_eq!(rt; letter.to().mask(), 6);
     assert_eq!(rt; letter.kind(), 9);
     assert_eq!(rt; letter.packet().kind(), 9);
-    assert!(rt; letter.copied().bytes() == letter.bytes());
+    assert!(rt; letter.copy().bytes() == letter.bytes());
     Ok(())
 }
 
-#[tactic(auto, unfolding(am_codec::specs::Limits::IsWithin))]
-fn ack() -> Packet
-    ensures { IsWithin result }
-{
-    Packet::Ack {
-        sender: Name::of_byte(1),
-        stamp: Stamp {
-            round: 2,
-            by: Name::of_byte(0),
-        },
-        report: Report {
-            stored: 5,
-            taken: 4,
-        },
+#[test]
+fn a_long_letter_has_its_bytes(rt: HostRuntime) -> Result<(), Fail> {
+    let mut out = OutBox::new(rt.alloc())?;
+    out.put(Names::of_mask(6), &packet(LONG)?);
+    let (letters, _) = out.into_letters(rt.alloc());
+    let letter = letters.as_slice().first().ok_or("a letter")?;
+    assert_eq!(rt; letter.bytes(), LONG);
+    assert!(rt; letter.copy().bytes() == LONG);
+    match letter.packet() {
+        Packet::Request { req, body, .. } => {
+            assert!(rt; req == 3 && body.bytes().len() == 41 && body.bytes().ends_with(b"67890"));
+        }
+        _ => assert!(rt; false),
     }
-}
-
-#[tactic(auto, unfolding(am_codec::specs::Limits::IsWithin))]
-fn nack() -> Packet
-    ensures { IsWithin result }
-{
-    Packet::Nack {
-        sender: Name::of_byte(1),
-        stamp: Stamp {
-            round: 2,
-            by: Name::of_byte(0),
-        },
-        report: Report {
-            stored: 5,
-            taken: 4,
-        },
-    }
+    Ok(())
 }
 
 #[test]
 fn letters_stand_by_their_kinds(rt: HostRuntime) -> Result<(), Fail> {
+    let ack = packet(ACK)?;
+    let nack = packet(NACK)?;
     let mut out = OutBox::new(rt.alloc())?;
-    out.put(Names::of_mask(1), &nack());
-    out.put(Names::of_mask(2), &ack());
-    out.put(Names::of_mask(4), &nack());
-    out.put(Names::empty(), &ack());
-    out.put(Names::of_mask(8), &ack());
+    out.put(Names::of_mask(1), &nack);
+    out.put(Names::of_mask(2), &ack);
+    out.put(Names::of_mask(4), &nack);
+    out.put(Names::empty(), &ack);
+    out.put(Names::of_mask(8), &ack);
     let wanted = [(6, 2), (6, 8), (7, 1), (7, 4)];
     assert_eq!(rt; out.letters().len(), wanted.len());
     for (letter, (kind, mask)) in out.letters().iter().zip(wanted) {
@@ -90,7 +75,7 @@ fn letters_stand_by_their_kinds(rt: HostRuntime) -> Result<(), Fail> {
     assert_eq!(rt; letters.as_slice().len(), wanted.len());
     let mut out = OutBox::over(rt.alloc(), rooms)?;
     assert!(rt; out.letters().is_empty());
-    out.put(Names::of_mask(1), &nack());
+    out.put(Names::of_mask(1), &nack);
     assert_eq!(rt; out.letters().len(), 1);
     Ok(())
 }

@@ -180,25 +180,26 @@ looked_at votes name best (Some v) is h = split (vote_lt best.vote v)
 at_first : {G : Type 0} (a other : ℕ) → a ≤ other → (other ≡ a → G) → (a + 1 ≤ other → G) → G
 at_first a other h f g = elim (cases_lt a other) [ inl up ↦ g (omega arith) | inr same ↦ f (omega arith) ]
 
+-- one found after the first of a range is that of the whole range, where it is greater than the best before and than the first
+found_after : (votes : ℕ → Option Vote) (a k : ℕ) (now best r : Shown) (rank : ℕ) → IsFound votes (a + 1) k now r rank → LowerVote best.vote r.vote
+    → ((v : Vote) → votes (name_of a) ≡ Some v → LowerVote v r.vote) → IsFound votes a (suc k) best r rank
+found_after votes a k now best r rank f greater than_first =
+    let lo = f.low in let hi = f.high in record {
+      low = omega arith;
+      high = omega arith;
+      by = f.by;
+      shown = f.shown;
+      greater = greater;
+      first = λ other v l m e. at_first a other l (λ z. than_first v (ap (λ n. votes (name_of n)) (sym z) ∙ e)) (λ up. f.first other v up m e);
+    }
+
 -- it stayed the best
 found_kept : (votes : ℕ → Option Vote) (a k : ℕ) (best r : Shown) → ((v : Vote) → votes (name_of a) ≡ Some v → ¬ (LowerVote best.vote v))
     → Found votes (a + 1) k best r → Found votes a (suc k) best r
 found_kept votes a k best r under h = record {
   from = elim h.from [
     | inl same ↦ inl same
-    | inr w ↦ (let f = w.1 in let lo = f.low in let hi = f.high in inr (
-      w.0,
-      record {
-        low = omega arith;
-        high = omega arith;
-        by = f.by;
-        shown = f.shown;
-        greater = f.greater;
-        first = λ other v l m e. at_first a other l
-            (λ z. votes_under best.vote v r.vote (under v (ap (λ n. votes (name_of n)) (sym z) ∙ e)) f.greater)
-            (λ up. f.first other v up m e);
-      },
-    ))
+    | inr w ↦ (let f = w.1 in inr (w.0, found_after votes a k best best r w.0 f f.greater (λ v e. votes_under best.vote v r.vote (under v e) f.greater)))
   ];
   above = λ other v l m e. at_first a other l
       (λ z. let u = under v (ap (λ n. votes (name_of n)) (sym z) ∙ e) in elim h.from [
@@ -224,18 +225,10 @@ found_taken votes a k best r mine is low h = record {
         first = λ other v l m e. absurd (omega arith);
       },
     )
-    | inr w ↦ (let f = w.1 in let lo = f.low in let hi = f.high in inr (
+    | inr w ↦ (let f = w.1 in inr (
       w.0,
-      record {
-        low = omega arith;
-        high = omega arith;
-        by = f.by;
-        shown = f.shown;
-        greater = votes_trans best.vote mine r.vote low f.greater;
-        first = λ other v l m e. at_first a other l
-            (λ z. subst (λ (x : Vote). LowerVote x r.vote) (some_is mine v (sym is ∙ (ap (λ n. votes (name_of n)) (sym z) ∙ e))) f.greater)
-            (λ up. f.first other v up m e);
-      },
+      found_after votes a k (shown_by (name_of a) mine) best r w.0 f (votes_trans best.vote mine r.vote low f.greater)
+          (λ v e. subst (λ (x : Vote). LowerVote x r.vote) (some_is mine v (sym is ∙ e)) f.greater),
     ))
   ];
   above = λ other v l m e. at_first a other l

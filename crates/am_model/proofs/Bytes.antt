@@ -16,7 +16,7 @@ use Rattle.am_codec.proofs.Again.{length-spelling, spelling_again}
 use Rattle.am_codec.proofs.Whole.{part_refused}
 use Rattle.am_model.specs.Node.{Node}
 use Rattle.am_model.specs.Emit.{finish}
-use Rattle.am_model.specs.Step.{read_row, row, step, hear, refused}
+use Rattle.am_model.specs.Step.{read_row, row, step, hear, hear_refusal}
 use Rattle.am_model.specs.Lengths.{entry_length, packet_length}
 use Rattle.am_model.specs.Laws.{SpellingIsHeard, CutIsHeard}
 use Rattle.am_model.proofs.Greatest.{split}
@@ -50,7 +50,7 @@ pub long : (packet : Packet) → IsPacket packet → length (spelling packet) �
 long packet is = length-spelling packet ∙ length-fields packet is.parts
 
 pub cut_is_heard : CutIsHeard
-unfolding refused
+unfolding hear_refusal
 cut_is_heard m packet keep is =
     let many = long packet is in
     let bytes = spelling packet in

@@ -10,10 +10,10 @@ use Rattle.am_base.specs.Lists.{Log, row_of, told_by, top_of, with_entry}
 use Rattle.am_core.specs.Cores.{CoreState, accept, pass_over}
 use Rattle.am_fronts.specs.Refresh.{own_report, tell, go_on, let_go}
 use Rattle.am_sender.specs.declared.OwnSend.{OwnSend}
-use Rattle.am_model.specs.Node.{Node, top, report_fits, has_room, is_sequencer, only_name, waiting, pushed, with_report}
+use Rattle.am_model.specs.Node.{Node, top, report_fits, has_room, is_sequencer, only_name, waiting, push_entry, with_report}
 use Rattle.am_model.specs.Emit.{Plan, quiet, polling, and_telling, hold_of, finish}
-use Rattle.am_model.specs.Refresh.{refresh, lead, advance, accepted_at, settled_at, settled, settle, refresh_at_end}
-use Rattle.am_model.specs.Sequencing.{row_at, is_unknown, reported, number_data, requested, request_row}
+use Rattle.am_model.specs.Refresh.{refresh, lead, advance, accepted_at, settle_at, settle_waiting, settle, refresh_at_end}
+use Rattle.am_model.specs.Sequencing.{row_at, is_unknown, take_report, number_data, answer_request, request_row}
 use Rattle.am_model.specs.Hearing.{hears_in_view, hears_as_sequencer, hear_row}
 use Rattle.am_model.specs.Step.{hear}
 use Rattle.am_model.specs.Laws.{send_packet, IsNextSend, IsHeld, HeldExactly, IsTurnedDown, elsewhere, stranger, unfit, again, early, IsAnswered, numbered}
@@ -34,7 +34,7 @@ refresh_log : (m : Node) → (refresh m).core.log ≡ m.core.log
 unfolding refresh
 refresh_log m = split (is_sequencer m) (λ t. rw t (lead_log m)) (λ f. rw f (advance_log m))
 
-same_row : (m : Node) (s : ℕ) (report : Report) → row_at (reported m s report) s ≡ row_at m s
+same_row : (m : Node) (s : ℕ) (report : Report) → row_at (take_report m s report) s ≡ row_at m s
 same_row m s report = ap (λ log. row_of (told_by log) s) (refresh_log (with_report m s report))
 
 -- once the report is taken
@@ -43,7 +43,7 @@ record IsNext (m : Node) (s req : ℕ) : Type 0 where
   next : req ≡ (row_at m s).last + 1
   full : has_room m ≡ false
 
-requested_held : (m n : Node) (s req : ℕ) (body : List ℕ) (by_order : Bool) → IsHeld ((requested m s req body by_order).outcome n) → IsNext m s req
+requested_held : (m n : Node) (s req : ℕ) (body : List ℕ) (by_order : Bool) → IsHeld ((answer_request m s req body by_order).outcome n) → IsNext m s req
 requested_held m n s req body by_order h = split (nat_lt 0 (row_at m s).left)
     (λ a. let x : IsHeld said.Stranger = rw a at h in let y = x.2 in absurd (cc))
     (λ a. let h1 = rw a at h in split (nat_le req (row_at m s).last)
@@ -54,7 +54,7 @@ requested_held m n s req body by_order h = split (nat_lt 0 (row_at m s).left)
     (λ d. let x : IsHeld (said.Numbered (top m + 1)) = rw d at h3 in let y = x.2 in absurd (cc))
     (λ d. record { stays = grind (arith, nat_tests); next = grind (arith, nat_tests); full = d }))))
 
-held_requested : (m n : Node) (s req : ℕ) (body : List ℕ) (by_order : Bool) → IsNext m s req → IsHeld ((requested m s req body by_order).outcome n)
+held_requested : (m n : Node) (s req : ℕ) (body : List ℕ) (by_order : Bool) → IsNext m s req → IsHeld ((answer_request m s req body by_order).outcome n)
 held_requested m n s req body by_order h =
     let st = h.stays in let nx = h.next in
     let a : nat_lt 0 (row_at m s).left ≡ false = grind (arith, nat_tests) in
@@ -63,25 +63,25 @@ held_requested m n s req body by_order h =
     rw (a, b, c, h.full) (m.core.base, top m, refl)
 
 request_held : (m n : Node) (s : ℕ) (report : Report) (req : ℕ) (body : List ℕ) (by_order : Bool)
-    → IsHeld ((request_row m s report req body by_order).outcome n) → IsNextSend m s report req × (has_room (reported m s report) ≡ false)
+    → IsHeld ((request_row m s report req body by_order).outcome n) → IsNextSend m s report req × (has_room (take_report m s report) ≡ false)
 unfolding request_row
 request_held m n s report req body by_order h = split (is_unknown m s)
     (λ a. let x : IsHeld said.Stranger = rw a at h in let y = x.2 in absurd (cc))
     (λ a. let h1 = rw a at h in split (report_fits m report)
     (λ b. let h2 = rw b at h1 in
-    let r = requested_held (reported m s report) n s req body by_order h2 in
+    let r = requested_held (take_report m s report) n s req body by_order h2 in
     let row = same_row m s report in
     (record { known = grind (arith, nat_tests); fits = b; stays = ap (λ r. r.left) (sym row) ∙ r.stays; next = r.next ∙ ap (λ r. r.last + 1) row }, r.full))
     (λ b. let x : IsHeld said.Unfit = rw b at h1 in let y = x.2 in absurd (cc)))
 
 held_request : (m n : Node) (s : ℕ) (report : Report) (req : ℕ) (body : List ℕ) (by_order : Bool) → IsNextSend m s report req
-    × (has_room (reported m s report) ≡ false) → IsHeld ((request_row m s report req body by_order).outcome n)
+    × (has_room (take_report m s report) ≡ false) → IsHeld ((request_row m s report req body by_order).outcome n)
 unfolding request_row
 held_request m n s report req body by_order h =
     let k = h.0.known in
     let a : is_unknown m s ≡ false = grind (arith, nat_tests) in
     let row = same_row m s report in
-    rw (a, h.0.fits) (held_requested (reported m s report) n s req body by_order
+    rw (a, h.0.fits) (held_requested (take_report m s report) n s req body by_order
     (record { stays = ap (λ r. r.left) row ∙ h.0.stays; next = h.0.next ∙ ap (λ r. r.last + 1) (sym row); full = h.1 }))
 
 -- ---- heard
@@ -106,11 +106,11 @@ held_exactly m s v report req body spread gate =
 
 -- ---- every answer
 
-settled_core : (m : Node) (req : ℕ) (at : Option ℕ) → (settled_at m req at).core ≡ m.core
+settled_core : (m : Node) (req : ℕ) (at : Option ℕ) → (settle_at m req at).core ≡ m.core
 settled_core m req None = refl
 settled_core m req (Some k) = refl
 
-settle_by : (m : Node) (w : Option OwnSend) → (settled m w).core ≡ m.core
+settle_by : (m : Node) (w : Option OwnSend) → (settle_waiting m w).core ≡ m.core
 settle_by m None = refl
 settle_by m (Some s) = settled_core m s.req (accepted_at m s.req)
 
@@ -137,7 +137,7 @@ answered_if m s req body true p q f g = f
 answered_if m s req body false p q f g = g
 
 requested_answered : (m n : Node) (s req : ℕ) (body : List ℕ) (spread : Bool) → n.core.log ≡ m.core.log
-    → IsAnswered m s req body (finish m (requested (refresh n) s req body spread))
+    → IsAnswered m s req body (finish m (answer_request (refresh n) s req body spread))
 unfolding finish
 requested_answered m n s req body spread was =
     let r = refresh n in
@@ -147,7 +147,7 @@ requested_answered m n s req body spread was =
     let put_off : IsAnswered m s req body (finish m (and_telling (polling r (said.Held r.core.base (top r))) (only_name s) (λ n. hold_of n req))) =
     held (ap (λ (c : CoreState). said.Held c.base (top_of c.log)) (sym later)) (ap (λ (c : CoreState). c.log) later ∙ same) in
     let next : IsAnswered m s req body (finish m (number_data r s req body spread)) =
-    numbered (ap (λ (l : Log). said.Numbered (top_of l + 1)) same) (end_log (pushed r e) ∙ ap (λ (l : Log). with_entry l e) same) in
+    numbered (ap (λ (l : Log). said.Numbered (top_of l + 1)) same) (end_log (push_entry r e) ∙ ap (λ (l : Log). with_entry l e) same) in
     let down : (o : Outcome) → IsTurnedDown o → IsAnswered m s req body (finish m (quiet r o)) = λ o h. turned_down_at m r s req body o h same in
     answered_if m s req body (nat_lt 0 (row_at r s).left) _ _ (down said.Stranger stranger)
     (answered_if m s req body (nat_le req (row_at r s).last) _ _ (down said.Again again)

@@ -16,14 +16,14 @@ use Rattle.am_packet.specs.Boxes.{Letter}
 use Rattle.am_packet.specs.Kinds.{kind_of}
 use Rattle.am_packet.specs.Boxes.{letter_to, place_for, with_letter}
 use Rattle.am_sender.specs.declared.OwnSend.{OwnSend}
-use Rattle.am_model.specs.Node.{Node, Ballot, told, others, only_name, lowest_or_first, waiting, is_sequencer, has_room}
+use Rattle.am_model.specs.Node.{Node, Ballot, image_of, others, only_name, lowest_or_first, waiting, is_sequencer, has_room}
 use Rattle.am_model.specs.Emit.{Plan, quiet, telling, and_telling, and_where, numbering, polling, leave_ask_of, hand_over_of, invite_of, fetch_of, result_of}
 use Rattle.am_model.specs.Emit.{put_all}
-use Rattle.am_model.specs.Ballots.{Verdict, promised, next_stamp, new_ballot, decide, answered, with_result, with_fetch, begin, with_vote, newly_needed}
+use Rattle.am_model.specs.Ballots.{Verdict, with_promise, next_stamp, new_ballot, decide, verdict_plan, with_result, with_fetch, begin, with_vote, newly_needed}
 use Rattle.am_model.specs.Ballots.{keep_vote, without_voter, give_up}
 use Rattle.am_model.specs.Ticks.{tick_ballot, tick_member, put_off, behind_view, viewed_by, and_result, tick_sequencer, tick_acting, tick_with, tick_by}
 use Rattle.am_model.specs.Ticks.{tick_row}
-use Rattle.am_model.specs.Calls.{emit, given, join_by, state_by, go, leave_now, leave_by, ask_of, give_up_of, send_row, done_row, take_row, join_row, state_row}
+use Rattle.am_model.specs.Calls.{emit, give_out, join_by, state_by, go, leave_now, leave_by, ask_of, give_up_of, send_row, done_row, take_row, join_row, state_row}
 use Rattle.am_model.specs.Calls.{leave_row, reset_row, ask_row, give_up_row}
 use Rattle.am_model.proofs.Greatest.{split}
 
@@ -86,7 +86,7 @@ pub few_done : (m : Node) (req : ℕ) → Few 8 (done_row m req)
 unfolding done_row
 few_done m req = search few
 
-pub few_given : (m : Node) (e : Option Entry) → Few 8 (given m e)
+pub few_given : (m : Node) (e : Option Entry) → Few 8 (give_out m e)
 few_given m None = search few
 few_given m (Some e) = search few
 
@@ -94,21 +94,13 @@ pub few_take : (m : Node) → Few 8 (take_row m)
 unfolding take_row
 few_take m = search (few, few_given)
 
-pub few_join_by : (m : Node) (s : Status) → Few 8 (join_by m s)
-few_join_by m status.Stranger = search few
-few_join_by m _ = search few
-
 pub few_join : (m : Node) → Few 8 (join_row m)
 unfolding join_row
-few_join m = few_join_by m m.status
-
-pub few_state_by : (m : Node) (s : Status) → Few 8 (state_by m s)
-few_state_by m status.Stranger = search few
-few_state_by m _ = search few
+few_join m = elim m.status as (λ s. Few 8 (join_by m s)) [ status.Stranger ↦ search few | _ ↦ search few ]
 
 pub few_state : (m : Node) → Few 8 (state_row m)
 unfolding state_row
-few_state m = few_state_by m m.status
+few_state m = elim m.status as (λ s. Few 8 (state_by m s)) [ status.Stranger ↦ search few | _ ↦ search few ]
 
 -- leaving adds one letter
 pub few_same : (most less : ℕ) (p q : Plan) → less ≤ most → p.letters ≡ q.letters → Few less p → Few most q
@@ -138,7 +130,7 @@ few_leave m = few_leave_by m m.status
 -- ---- ballots
 
 with_result_more : (o : Outcome) (n : Node) (letters : List Letter) → length (with_result o n letters) ≤ length letters + 1
-with_result_more (said.Decided number names) n letters = one_more (without_name names n.core.who) (result_of n number names (told n).resilience) letters
+with_result_more (said.Decided number names) n letters = one_more (without_name names n.core.who) (result_of n number names (image_of n).resilience) letters
 with_result_more _ n letters = omega arith
 
 with_fetch_more : (o : Outcome) (n : Node) (letters : List Letter) → length (with_fetch o n letters) ≤ length letters + 1
@@ -146,12 +138,12 @@ with_fetch_more (said.Fetching from want) n letters = one_more (only_name from) 
 with_fetch_more _ n letters = omega arith
 
 pub few_answered : (most less : ℕ) (v : Verdict) (letters : Node → List Letter) → less < most → ((n : Node) → length (letters n) ≤ less)
-    → Few most (answered v letters)
+    → Few most (verdict_plan v letters)
 few_answered most less v letters low h = record { each = λ n. (let k = h n in let l = with_result_more v.outcome n (letters n) in omega arith) }
 
 pub few_begin : (m : Node) (least resilience : ℕ) → Few 8 (begin m least resilience)
 unfolding begin
-few_begin m least resilience = few_answered 8 1 (decide (promised m (next_stamp m)) (new_ballot (next_stamp m) least (min resilience 15)))
+few_begin m least resilience = few_answered 8 1 (decide (with_promise m (next_stamp m)) (new_ballot (next_stamp m) least (min resilience 15)))
     (λ n. with_letter (others m) (invite_of n) []) (omega arith) (λ n. one_more (others m) (invite_of n) [])
 
 pub few_keep_vote : (m : Node) (b : Ballot) (name : ℕ) (vote : Vote) → Few 8 (keep_vote m b name vote)
@@ -202,7 +194,7 @@ few_tick_member m = let h = few_go 8 7 (quiet m said.Ticked) (omega arith) (few_
 pub few_result : (most less : ℕ) (p : Plan) → less < most → Few less p → Few most (and_result p)
 few_result most less p low h = record {
   each = λ n. (let k = h.each n in
-      let l = one_more (behind_view n) (result_of n (told n).view_number (viewed_by (entry_at n.core.log (told n).view_number)) (told n).resilience)
+      let l = one_more (behind_view n) (result_of n (image_of n).view_number (viewed_by (entry_at n.core.log (image_of n).view_number)) (image_of n).resilience)
       (p.letters n) in omega arith);
 }
 

@@ -18,17 +18,17 @@ use Rattle.am_base.specs.declared.event.NodeEvent.{NodeEvent}
 use Rattle.am_base.specs.declared.event.NodeEvent.TheVariants as does
 use Rattle.am_codec.specs.Reading.{Read, reading}
 use Rattle.am_sender.specs.declared.OwnSend.{OwnSend}
-use Rattle.am_model.specs.Node.{Node, Ballot, top, told, others, only_name, pushed, trimmed, waiting}
+use Rattle.am_model.specs.Node.{Node, Ballot, top, image_of, others, only_name, push_entry, trim_up_to, waiting}
 use Rattle.am_model.specs.Refresh.{refresh_at_end}
-use Rattle.am_model.specs.Emit.{Plan, quiet, polling, numbering, tells_accepted, accept_of, ack_of, bcast_of, hold_of, piece_of, welcome_of, gone_of, served}
+use Rattle.am_model.specs.Emit.{Plan, quiet, polling, numbering, tells_accepted, accept_of, ack_of, bcast_of, hold_of, piece_of, welcome_of, gone_of, entries_to_serve}
 use Rattle.am_model.specs.Emit.{put_all, with_accept, finish}
-use Rattle.am_model.specs.Sequencing.{row_at, number_data, requested, request_row, risen, ack_row, asked_again, nack_row}
-use Rattle.am_model.specs.Receiving.{spread_row, acknowledges, bodies_after, stored, store, noted, received, bcast_row, data_of, body_of, order_row}
-use Rattle.am_model.specs.Receiving.{accepted_to, accept_row, held_up, hold_row}
-use Rattle.am_model.specs.Joining.{admitted, number_join, asks_to_join, join_ask_row, welcomed, welcome_row, may_go, let_go, and_gone, asks_to_leave}
+use Rattle.am_model.specs.Sequencing.{row_at, number_data, answer_request, request_row, if_risen, ack_row, serve_again, nack_row}
+use Rattle.am_model.specs.Receiving.{spread_row, acknowledges, bodies_after, store_fitting, store, with_noted, receive_entry, bcast_row, data_of, body_of, order_row}
+use Rattle.am_model.specs.Receiving.{answer_accept, accept_row, answer_hold, hold_row}
+use Rattle.am_model.specs.Joining.{with_admitted, number_join, asks_to_join, join_ask_row, ask_next, welcome_row, may_go, let_go, and_gone, asks_to_leave}
 use Rattle.am_model.specs.Joining.{leave_ask_row, gone_row}
 use Rattle.am_model.specs.Ballots.{decide}
-use Rattle.am_model.specs.Resets.{invite_row, voted_for, vote_row, fetch_row, fetched, caught_up, fetched_for, piece_promised, piece_for, piece_row}
+use Rattle.am_model.specs.Resets.{invite_row, take_vote, vote_row, fetch_row, push_fetched, catch_up, decide_anew, piece_promised, piece_for, piece_row}
 use Rattle.am_model.specs.Resets.{hears_result, result_row, hand_over_row}
 use Rattle.am_model.specs.Hearing.{hear_row}
 use Rattle.am_model.specs.Step.{row, step, read_row}
@@ -45,7 +45,7 @@ few_saying most m o f = record { each = λ n. omega arith }
 few_number : (m : Node) (s req : ℕ) (body : List ℕ) (by_order : Bool) → Few 8 (number_data m s req body by_order)
 few_number m s req body by_order = search few
 
-few_requested : (m : Node) (s req : ℕ) (body : List ℕ) (by_order : Bool) → Few 8 (requested m s req body by_order)
+few_requested : (m : Node) (s req : ℕ) (body : List ℕ) (by_order : Bool) → Few 8 (answer_request m s req body by_order)
 few_requested m s req body by_order =
     let h = few_and 8 1 (polling m (said.Held m.core.base (top m))) (only_name s) (λ n. hold_of n req) (omega arith)
     (few_polling 1 m (said.Held m.core.base (top m))) in
@@ -60,16 +60,16 @@ unfolding ack_row
 few_ack m s report = search (few, few_saying)
 
 -- at most eight entries
-served_few : (m : Node) (k : ℕ) → length (served m k) ≤ 8
+served_few : (m : Node) (k : ℕ) → length (entries_to_serve m k) ≤ 8
 served_few m k = simp length-take (omega arith)
 
 few_served : (m k : Node) (o : Outcome) (f : Node → ℕ → Entry → Packet) (to : List ℕ) (number : ℕ) (es : List Entry) → length es ≤ 8
     → Few 8 (record (quiet m o) { letters = λ n. put_all (f n) to number es [] })
 few_served m k o f to number es h = record { each = λ n. (let l = all_more (f n) to number es [] in omega arith) }
 
-few_asked_again : (m : Node) (s k : ℕ) → Few 8 (asked_again m s k)
+few_asked_again : (m : Node) (s k : ℕ) → Few 8 (serve_again m s k)
 few_asked_again m s k =
-    let h = few_served m m (said.Served (length (served m k))) bcast_of (only_name s) (k + 1) (served m k) (served_few m k) in search (few, h)
+    let h = few_served m m (said.Served (length (entries_to_serve m k))) bcast_of (only_name s) (k + 1) (entries_to_serve m k) (served_few m k) in search (few, h)
 
 few_nack : (m : Node) (s : ℕ) (report : Report) → Few 8 (nack_row m s report)
 unfolding nack_row
@@ -81,34 +81,34 @@ few_spread : (m : Node) (s req : ℕ) (body : List ℕ) → Few 8 (spread_row m 
 unfolding spread_row
 few_spread m s req body = search few
 
-few_stored : (m : Node) (s number : ℕ) (e : Entry) → Few 8 (stored m s number e)
-few_stored m s number e = few_where 8 1 (acknowledges (pushed m e) s) (quiet (record (pushed m e) { bodies = bodies_after m.bodies e }) (said.Stored number))
-    (only_name s) ack_of (omega arith) (few_quiet 1 (record (pushed m e) { bodies = bodies_after m.bodies e }) (said.Stored number))
+few_stored : (m : Node) (s number : ℕ) (e : Entry) → Few 8 (store_fitting m s number e)
+few_stored m s number e = few_where 8 1 (acknowledges (push_entry m e) s) (quiet (record (push_entry m e) { bodies = bodies_after m.bodies e }) (said.Stored number))
+    (only_name s) ack_of (omega arith) (few_quiet 1 (record (push_entry m e) { bodies = bodies_after m.bodies e }) (said.Stored number))
 
 few_store : (m : Node) (s number : ℕ) (e : Option Entry) (missing : Outcome) → Few 8 (store m s number e missing)
 few_store m s number None missing = search few
 few_store m s number (Some e) missing = search (few, few_stored)
 
-few_received : (m : Node) (s base number : ℕ) (e : Option Entry) (missing : Outcome) → Few 8 (received m s base number e missing)
+few_received : (m : Node) (s base number : ℕ) (e : Option Entry) (missing : Outcome) → Few 8 (receive_entry m s base number e missing)
 few_received m s base number e missing = search (few, few_store)
 
 few_bcast : (m : Node) (s base acc number : ℕ) (e : Entry) → Few 8 (bcast_row m s base acc number e)
 unfolding bcast_row
-few_bcast m s base acc number e = few_received (noted m base acc) s base number (Some e) said.Known
+few_bcast m s base acc number e = few_received (with_noted m base acc) s base number (Some e) said.Known
 
 few_order : (m : Node) (s base acc number from req : ℕ) → Few 8 (order_row m s base acc number from req)
 unfolding order_row
-few_order m s base acc number from req = few_received (noted m base acc) s base number (data_of from req (body_of m from req)) (said.NoBody from req)
+few_order m s base acc number from req = few_received (with_noted m base acc) s base number (data_of from req (body_of m from req)) (said.NoBody from req)
 
-few_accepted_to : (m old : Node) (s : ℕ) (poll : Bool) → Few 8 (accepted_to m old s poll)
-few_accepted_to m old s poll = few_where 8 1 (λ n. poll) (record (quiet m said.Known) { outcome = risen old said.Known (λ n. said.Advanced n.core.acc) })
-    (only_name s) ack_of (omega arith) (few_saying 1 m said.Known (risen old said.Known (λ n. said.Advanced n.core.acc)))
+few_accepted_to : (m old : Node) (s : ℕ) (poll : Bool) → Few 8 (answer_accept m old s poll)
+few_accepted_to m old s poll = few_where 8 1 (λ n. poll) (record (quiet m said.Known) { outcome = if_risen old said.Known (λ n. said.Advanced n.core.acc) })
+    (only_name s) ack_of (omega arith) (few_saying 1 m said.Known (if_risen old said.Known (λ n. said.Advanced n.core.acc)))
 
 few_accept : (m : Node) (s base acc high : ℕ) (poll : Bool) → Few 8 (accept_row m s base acc high poll)
 unfolding accept_row
 few_accept m s base acc high poll = search (few, few_accepted_to)
 
-few_held_up : (m : Node) (base high req : ℕ) (w : Option OwnSend) → Few 8 (held_up m base high req w)
+few_held_up : (m : Node) (base high req : ℕ) (w : Option OwnSend) → Few 8 (answer_hold m base high req w)
 few_held_up m base high req None = search few
 few_held_up m base high req (Some s) = search few
 
@@ -120,17 +120,17 @@ few_hold m base high req = few_held_up m base high req (waiting m)
 
 few_number_join : (m : Node) (s : ℕ) → Few 8 (number_join m s)
 few_number_join m s = few_where 8 1 (λ n. nat_le (top m + 1) n.core.acc)
-    (numbering (admitted m s) (Join s) (said.Numbered (top m + 1)) (λ n. bcast_of n (top m + 1) (Join s))) (only_name s) (λ n. welcome_of n s) (omega arith)
-    (few_numbering 1 (admitted m s) (Join s) (said.Numbered (top m + 1)) (λ n. bcast_of n (top m + 1) (Join s)) (omega arith))
+    (numbering (with_admitted m s) (Join s) (said.Numbered (top m + 1)) (λ n. bcast_of n (top m + 1) (Join s))) (only_name s) (λ n. welcome_of n s) (omega arith)
+    (few_numbering 1 (with_admitted m s) (Join s) (said.Numbered (top m + 1)) (λ n. bcast_of n (top m + 1) (Join s)) (omega arith))
 
 few_asks_to_join : (m : Node) (s : ℕ) (q : Row) → Few 8 (asks_to_join m s q)
 few_asks_to_join m s q = search (few, few_number_join)
 
 few_join_ask : (m : Node) (s : ℕ) → Few 8 (join_ask_row m s)
 unfolding join_ask_row
-few_join_ask m s = few_asks_to_join m s (at_place (told m) s)
+few_join_ask m s = few_asks_to_join m s (at_place (image_of m) s)
 
-few_welcomed : (m : Node) (s : ℕ) (v : Stamp) (join : ℕ) → Few 8 (welcomed m s v join)
+few_welcomed : (m : Node) (s : ℕ) (v : Stamp) (join : ℕ) → Few 8 (ask_next m s v join)
 few_welcomed m s v join = search few
 
 few_welcome : (m : Node) (s : ℕ) (v : Stamp) (base join : ℕ) (image : Image) → Few 8 (welcome_row m s v base join image)
@@ -161,7 +161,7 @@ few_invite : (m : Node) (s : ℕ) (v : Stamp) → Few 8 (invite_row m s v)
 unfolding invite_row
 few_invite m s v = search few
 
-few_voted_for : (m : Node) (s : ℕ) (v : Stamp) (vote : Vote) (b : Option Ballot) → Few 8 (voted_for m s v vote b)
+few_voted_for : (m : Node) (s : ℕ) (v : Stamp) (vote : Vote) (b : Option Ballot) → Few 8 (take_vote m s v vote b)
 few_voted_for m s v vote None = search few
 few_voted_for m s v vote (Some b) = search (few, few_keep_vote)
 
@@ -172,25 +172,25 @@ few_vote m s v vote = search (few, few_voted_for)
 few_fetch : (m : Node) (s : ℕ) (v : Stamp) (k : ℕ) → Few 8 (fetch_row m s v k)
 unfolding fetch_row
 few_fetch m s v k =
-    let h = few_served m m (said.Served (length (served m k))) piece_of (only_name s) (k + 1) (served m k) (served_few m k) in search (few, h)
+    let h = few_served m m (said.Served (length (entries_to_serve m k))) piece_of (only_name s) (k + 1) (entries_to_serve m k) (served_few m k) in search (few, h)
 
-few_fetched : (m : Node) (v : Stamp) (base number : ℕ) (e : Entry) (in_ballot : Bool) (then_ : Node → Plan) → Few 8 (then_ (pushed (trimmed m base) e))
-    → Few 8 (fetched m v base number e in_ballot then_)
+few_fetched : (m : Node) (v : Stamp) (base number : ℕ) (e : Entry) (in_ballot : Bool) (then_ : Node → Plan) → Few 8 (then_ (push_entry (trim_up_to m base) e))
+    → Few 8 (push_fetched m v base number e in_ballot then_)
 few_fetched m v base number e in_ballot then_ h = search (few, h)
 
-few_caught_up : (s : ℕ) (v : Stamp) (number : ℕ) (m : Node) → Few 8 (caught_up s v number m)
+few_caught_up : (s : ℕ) (v : Stamp) (number : ℕ) (m : Node) → Few 8 (catch_up s v number m)
 few_caught_up s v number m = few_where 8 1 _ (quiet m (said.Stored number)) (only_name s) ack_of (omega arith) (few_quiet 1 m (said.Stored number))
 
-few_fetched_for : (b : Ballot) (m : Node) → Few 8 (fetched_for b m)
+few_fetched_for : (b : Ballot) (m : Node) → Few 8 (decide_anew b m)
 few_fetched_for b m = few_answered 8 1 (decide m b) (λ n. []) (omega arith) (λ n. omega arith)
 
 few_piece_promised : (m : Node) (s : ℕ) (v : Stamp) (base number : ℕ) (e : Entry) → Few 8 (piece_promised m s v base number e)
-few_piece_promised m s v base number e = let h = few_fetched m v base number e false (caught_up s v number)
-    (few_caught_up s v number (pushed (trimmed m base) e)) in search (few, h)
+few_piece_promised m s v base number e = let h = few_fetched m v base number e false (catch_up s v number)
+    (few_caught_up s v number (push_entry (trim_up_to m base) e)) in search (few, h)
 
 few_piece_for : (m : Node) (s : ℕ) (v : Stamp) (base number : ℕ) (e : Entry) (b : Option Ballot) → Few 8 (piece_for m s v base number e b)
 few_piece_for m s v base number e None = few_piece_promised m s v base number e
-few_piece_for m s v base number e (Some b) = let h = few_fetched m v base number e true (fetched_for b) (few_fetched_for b (pushed (trimmed m base) e)) in
+few_piece_for m s v base number e (Some b) = let h = few_fetched m v base number e true (decide_anew b) (few_fetched_for b (push_entry (trim_up_to m base) e)) in
     search (few, few_piece_promised, h)
 
 few_piece : (m : Node) (s : ℕ) (v : Stamp) (base number : ℕ) (e : Entry) → Few 8 (piece_row m s v base number e)
@@ -206,7 +206,7 @@ few_result_row m s v base number names resilience = search (few, few_hears_resul
 
 few_hand_over : (m : Node) → Few 8 (hand_over_row m)
 unfolding hand_over_row
-few_hand_over m = few_reset m 1 (told m).resilience
+few_hand_over m = few_reset m 1 (image_of m).resilience
 
 -- ---- a step
 

@@ -8,10 +8,10 @@ use Rattle.am_base.specs.Lists.{Log, top_of, told_by}
 use Rattle.am_base.specs.Fronts.{is_held, is_satisfied, accept_front}
 use Rattle.am_core.specs.Cores as cores
 use Rattle.am_core.specs.Cores.{CoreState, accept, pass_over}
-use Rattle.am_fronts.specs.Reports.{raised, least_taken}
+use Rattle.am_fronts.specs.Reports.{raise_report, least_taken}
 use Rattle.am_fronts.specs.Refresh.{base_after, own_report, tell, go_on, let_go}
 use Rattle.am_model.specs.Node.{Node, top, is_sequencer, report_of, set_at, with_report}
-use Rattle.am_model.specs.Refresh.{concerned, advance, lead, refresh}
+use Rattle.am_model.specs.Refresh.{concerned_names, advance, lead, refresh}
 use Rattle.am_model.specs.Laws.{IsGreatestFront, RefreshOnce}
 use Rattle.am_model.proofs.Greatest.{split, and_both}
 use Rattle.am_model.proofs.AcceptFronts.{above_view, below_view, one_front, accept_front_is}
@@ -31,7 +31,7 @@ abbrev find_front : Node → Node
 find_front m = record m { core = record (m.core) { told = accept_front m.reports m.core.log m.core.acc } }
 
 abbrev trim : Node → Node
-trim m = record m { core = record (m.core) { base = base_after (least_taken m.reports (concerned m)) m.core.base } }
+trim m = record m { core = record (m.core) { base = base_after (least_taken m.reports (concerned_names m)) m.core.base } }
 
 lead_is : (m : Node) → lead m ≡ trim (report_self (advance (find_front (report_self m))))
 unfolding lead own_report tell go_on let_go
@@ -58,7 +58,7 @@ trim_again (Some n) b = omega arith
 is_same : (n : ℕ) → (n == n) ≡ true
 is_same n = grind (arith, nat_tests)
 
-raise_again : (old report : Report) → raised (raised old report) report ≡ raised old report
+raise_again : (old report : Report) → raise_report (raise_report old report) report ≡ raise_report old report
 raise_again old report =
     let s : max (max old.stored report.stored) report.stored ≡ max old.stored report.stored = omega arith in
     let t : max (max old.taken report.taken) report.taken ≡ max old.taken report.taken = omega arith in
@@ -72,8 +72,8 @@ set_held f k x e j = split (j == k)
     (λ t. rw t (let z : j ≡ k = grind (arith, nat_tests) in sym (ap f z ∙ e)))
     (λ u. rw u refl)
 
-self_again : (m : Node) → raised (m.reports m.core.who) (report_of m) ≡ m.reports m.core.who → report_self m ≡ m
-self_again m e = λ i. record m { reports = λ j. set_held m.reports m.core.who (raised (m.reports m.core.who) (report_of m)) (sym e) j i }
+self_again : (m : Node) → raise_report (m.reports m.core.who) (report_of m) ≡ m.reports m.core.who → report_self m ≡ m
+self_again m e = λ i. record m { reports = λ j. set_held m.reports m.core.who (raise_report (m.reports m.core.who) (report_of m)) (sym e) j i }
 
 -- what a name has stored isn't changed by what another, or the name again, has
 set_stored : (f : ℕ → Report) (k : ℕ) (x : Report) → x.stored ≡ (f k).stored → (j : ℕ) → (set_at f k x j).stored ≡ (f j).stored
@@ -128,11 +128,11 @@ front_again f g log acc e =
 
 -- a node that knows all this stays as it is
 record IsFresh (m : Node) : Type 0 where
-  self : raised (m.reports m.core.who) (report_of m) ≡ m.reports m.core.who
+  self : raise_report (m.reports m.core.who) (report_of m) ≡ m.reports m.core.who
   told : accept_front m.reports m.core.log m.core.acc ≡ m.core.told
   known : known_accepted m.core ≡ m.core.acc
   passed : passed_over m.core.taken m.core.acc m.core.start ≡ m.core.taken
-  base : base_after (least_taken m.reports (concerned m)) m.core.base ≡ m.core.base
+  base : base_after (least_taken m.reports (concerned_names m)) m.core.base ≡ m.core.base
 
 tell_again : (m : Node) → accept_front m.reports m.core.log m.core.acc ≡ m.core.told → find_front m ≡ m
 tell_again m e = λ i. record m { core = record (m.core) { told = e i } }
@@ -144,7 +144,7 @@ advanced_again c e f = (λ i. record c { acc = e i; taken = passed_over c.taken 
 advance_again : (m : Node) → known_accepted m.core ≡ m.core.acc → passed_over m.core.taken m.core.acc m.core.start ≡ m.core.taken → advance m ≡ m
 advance_again m e f = λ i. record m { core = advanced_again m.core e f i }
 
-base_again : (m : Node) → base_after (least_taken m.reports (concerned m)) m.core.base ≡ m.core.base → trim m ≡ m
+base_again : (m : Node) → base_after (least_taken m.reports (concerned_names m)) m.core.base ≡ m.core.base → trim m ≡ m
 base_again m e = λ i. record m { core = record (m.core) { base = e i } }
 
 lead_fresh : (m : Node) → IsFresh m → lead m ≡ m
@@ -160,19 +160,19 @@ lead_fresh m h =
 leads_fresh : (m : Node) → IsFresh (trim (report_self (advance (find_front (report_self m)))))
 unfolding accept pass_over
 leads_fresh m =
-    let first = set_at m.reports m.core.who (raised (m.reports m.core.who) (report_of m)) in
+    let first = set_at m.reports m.core.who (raise_report (m.reports m.core.who) (report_of m)) in
     let n = advance (find_front (report_self m)) in
-    let same = set_same m.reports m.core.who (raised (m.reports m.core.who) (report_of m)) in
-    let again = set_same first m.core.who (raised (first m.core.who) (report_of n)) in
+    let same = set_same m.reports m.core.who (raise_report (m.reports m.core.who) (report_of m)) in
+    let again = set_same first m.core.who (raise_report (first m.core.who) (report_of n)) in
     let stored : max (max (m.reports m.core.who).stored (top m)) (top m) ≡ max (m.reports m.core.who).stored (top m) = omega arith in
     let kept = ap (λ (x : Report). max x.stored (top m)) same ∙ stored ∙ sym (ap (λ (x : Report). x.stored) same) in
     record {
-      self = ap (λ (x : Report). raised x (report_of n)) again ∙ raise_again (first m.core.who) (report_of n) ∙ sym again;
-      told = front_again first (set_at first m.core.who (raised (first m.core.who) (report_of n))) m.core.log m.core.acc
-          (set_stored first m.core.who (raised (first m.core.who) (report_of n)) kept);
+      self = ap (λ (x : Report). raise_report x (report_of n)) again ∙ raise_again (first m.core.who) (report_of n) ∙ sym again;
+      told = front_again first (set_at first m.core.who (raise_report (first m.core.who) (report_of n))) m.core.log m.core.acc
+          (set_stored first m.core.who (raise_report (first m.core.who) (report_of n)) kept);
       known = known_again m.core.acc (accept_front first m.core.log m.core.acc) (top m);
       passed = pass_again m.core.taken (max m.core.acc (min (accept_front first m.core.log m.core.acc) (top m))) m.core.start;
-      base = trim_again (least_taken (report_self n).reports (concerned (report_self n))) m.core.base;
+      base = trim_again (least_taken (report_self n).reports (concerned_names (report_self n))) m.core.base;
     }
 
 is_fresh : (m : Node) → IsFresh (lead m)

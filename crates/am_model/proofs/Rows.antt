@@ -15,9 +15,9 @@ use Rattle.am_base.specs.declared.entry.Entry.TheVariants.{Data, Join, Leave, Vi
 use Rattle.am_base.specs.declared.name.Stamp.{Stamp}
 use Rattle.am_base.specs.Stamps.{stamp_eq, no_stamp}
 use Rattle.am_base.specs.Names.{place_of, life_of, has}
-use Rattle.am_base.specs.Lists.{blank_row, is_blank_row, is_blank, at_place, row_of, member_life, members_of, with_row, viewed, after, fits, fold, AllFit}
+use Rattle.am_base.specs.Lists.{blank_row, is_blank_row, is_blank, at_place, row_of, member_life, members_of, with_row, row_after_view, after, fits, fold, AllFit}
 use Rattle.am_base.proofs.Places.{get_or-by_place}
-use Rattle.am_model.specs.Laws.{RowStep, RowsGoOn, DataGoesOn, GoesOn, MembershipsGoOn}
+use Rattle.am_model.specs.Laws.{RowStep, RowsGoOn, DataGoesOn, IsSameMembership, GoesOn, MembershipsGoOn}
 use Rattle.am_model.proofs.Greatest.{split, and_both}
 
 -- ---- rows by place
@@ -170,7 +170,7 @@ member_stays r h = split (nat_lt 0 r.joined && (r.left == 0))
     (λ t. test_same r.left 0 (and_both (nat_lt 0 r.joined) (r.left == 0) t).1)
     (λ f. let z = rw f at h in absurd (omega arith))
 
-viewed_row : (number life : ℕ) (r : Row) → RowStep number r (viewed false number life r)
+viewed_row : (number life : ℕ) (r : Row) → RowStep number r (row_after_view false number life r)
 viewed_row number life r = split (nat_lt 0 (member_life r) && not (member_life r == life))
     (λ t. let b = and_both (nat_lt 0 (member_life r)) (not (member_life r == life)) t in
     rw t (inr (inl (member_stays r (test_less 0 (member_life r) b.0), refl))))
@@ -192,9 +192,9 @@ view_row : (image : Image) (number : ℕ) (v : Stamp) (names : List ℕ) (resili
     → RowStep number (at_place image name) (at_place (after image number (View v names resilience)) name)
 unfolding after
 view_row image number v names resilience name j =
-    let f = λ (place : ℕ). viewed (is_blank image) number (slice_index names place) (slice_index_or image.rows place blank_row) in
+    let f = λ (place : ℕ). row_after_view (is_blank image) number (slice_index names place) (slice_index_or image.rows place blank_row) in
     let e = get_or-by_place f (place_of name) blank_row (omega arith) in
-    let b = ap (λ t. viewed t number (slice_index names (place_of name)) (at_place image name)) (not_blank image name j) in
+    let b = ap (λ t. row_after_view t number (slice_index names (place_of name)) (at_place image name)) (not_blank image name j) in
     subst (λ (r : Row). RowStep number (at_place image name) r) (sym (e ∙ b)) (viewed_row number (slice_index names (place_of name)) (at_place image name))
 
 -- ---- any entry, and a list of them
@@ -211,28 +211,17 @@ still_joined number r s n j (inl (inr e)) = subst (λ (x : Row). 0 < x.joined) (
 still_joined number r s n j (inr (inl e)) = subst (λ (x : Row). 0 < x.joined) (sym e.1) j
 still_joined number r s n j (inr (inr e)) = subst (λ (x : Row). 0 < x.joined) (sym e.3) n
 
+-- a row goes on in the one that an entry makes of it
+goes_on_as : (r made s : Row) → s ≡ made → IsSameMembership r made → GoesOn r s
+goes_on_as r made s is h = inl (subst (λ (x : Row). IsSameMembership r x) (sym is) h)
+
 step_goes_on : (number : ℕ) (r s : Row) → RowStep number r s → GoesOn r s
-step_goes_on number r s (inl (inl e)) = inl (record {
-  life = ap (λ (x : Row). x.life) e;
-  joined = ap (λ (x : Row). x.joined) e;
-  last =
-      (let l = ap (λ (x : Row). x.last) e in omega arith);
-  left = λ h. ap (λ (x : Row). x.left) e;
-})
-step_goes_on number r s (inl (inr e)) = inl (record {
-  life = ap (λ (x : Row). x.life) e;
-  joined = ap (λ (x : Row). x.joined) e;
-  last =
-      (let l = ap (λ (x : Row). x.last) e in omega arith);
-  left = λ h. ap (λ (x : Row). x.left) e;
-})
-step_goes_on number r s (inr (inl e)) = inl (record {
-  life = ap (λ (x : Row). x.life) e.1;
-  joined = ap (λ (x : Row). x.joined) e.1;
-  last =
-      (let l = ap (λ (x : Row). x.last) e.1 in omega arith);
-  left = λ h. (let z = e.0 in absurd (omega arith));
-})
+step_goes_on number r s (inl (inl e)) = goes_on_as r r s e (record { life = refl; joined = refl; last = omega arith; left = λ h. refl })
+step_goes_on number r s (inl (inr e)) =
+    goes_on_as r (record r { last = r.last + 1 }) s e (record { life = refl; joined = refl; last = omega arith; left = λ h. refl })
+step_goes_on number r s (inr (inl e)) =
+    let z = e.0 in
+    goes_on_as r (record r { left = number }) s e.1 (record { life = refl; joined = refl; last = omega arith; left = λ h. absurd (omega arith) })
 step_goes_on number r s (inr (inr e)) = inr (let l = ap (λ (x : Row). x.life) e.3 in let b = e.1 in omega arith)
 
 goes_on_trans : (q r s : Row) → GoesOn q r → GoesOn r s → GoesOn q s

@@ -1,21 +1,14 @@
 -- Runs that go on, and what is watched of them.
-use Rattle.std.proofs.Common.{◌≡◌, ℕ, suc, ◌+◌, ◌-◌, ◌<◌, ◌⊎◌, Bool, true, false, if◌then◌else◌, List, [], ◌∷◌, length, take, Option, Some, None, refl, sym, ap}
+use Rattle.std.proofs.Common.{◌≡◌, ℕ, suc, ◌+◌, ◌-◌, ◌<◌, ◌⊎◌, if◌then◌else◌, List, [], ◌∷◌, length, take, Option, Some, None, refl, sym, ap}
 use Rattle.std.proofs.Common.{◌∙◌, inl, inr, arith}
 use Rattle.std.proofs.lemmas.List.{length-append}
-use Rattle.am_base.specs.Names.{place_of}
 use Rattle.am_base.specs.Founding.{Rules}
-use Rattle.am_base.specs.declared.outcome.Outcome.{Outcome}
-use Rattle.am_packet.specs.declared.packet.Packet.{Packet}
-use Rattle.am_packet.specs.Boxes.{Letter}
-use Rattle.am_group.specs.declared.event.Act.{Act}
-use Rattle.am_group.specs.declared.event.Act.TheVariants as act
 use Rattle.am_group.specs.declared.event.Event.{Event}
-use Rattle.am_group.specs.Journals.{letter_at}
-use Rattle.am_model.specs.Emit.{Step}
-use Rattle.am_model.specs.World.{World, start, current, unchanged, stepped, heard, hear_cut, lives_on, acts_as, happens, happen}
+use Rattle.am_model.specs.World.{World, start, with_record, with_step, happens, happen}
 use Rattle.am_model.specs.Lawful.{Watch, watch_start, watch, watch_all, greatest_complete, is_lawful, broken_now, broken_at, before_break}
 use Rattle.am_model.specs.Laws.{RunsGoOn, WatchedIsRun, OneRecordEach, FrontIsLawful}
 use Rattle.am_model.proofs.Greatest.{split}
+use Rattle.am_model.proofs.Events.{holds_happens}
 
 pub runs_go_on : RunsGoOn
 unfolding happen
@@ -32,43 +25,14 @@ watched_is_run rules events = watch_world (watch_start rules) events
 
 -- ---- one record for each event
 
-record Adds (w v : World) : Type 0 where
-  one : length v.records ≡ length w.records + 1
-
-adds_if : (w : World) (b : Bool) (x y : World) → Adds w x → Adds w y → Adds w (if b then x else y)
-adds_if w true x y f g = f
-adds_if w false x y f g = g
-
-adds_unchanged : (w : World) (e : Event) (o : Outcome) → Adds w (unchanged w e o)
-unfolding unchanged
-adds_unchanged w e o = record { one = simp length-append refl }
-
-adds_stepped : (w : World) (e : Event) (name : ℕ) (s : Step) → Adds w (stepped w e name s)
-unfolding stepped
-adds_stepped w e name s = record { one = simp length-append refl }
-
-adds_stops : (w : World) (e : Event) (o : Outcome) (stopped : List ℕ) → Adds w (unchanged (record w { stopped = stopped }) e o)
-unfolding unchanged
-adds_stops w e o stopped = record { one = simp length-append refl }
-
-adds_lives : (w : World) (e : Event) (o : Outcome) (place : ℕ) → Adds w (lives_on (unchanged w e o) place)
-unfolding unchanged
-adds_lives w e o place = record { one = simp length-append refl }
-
-ruleset adds = (adds_if, adds_unchanged, adds_stepped, adds_stops, adds_lives)
-
-adds_heard : (w : World) (e : Event) (name : ℕ) (hearing : Packet → Step) (l : Option Letter) → Adds w (heard w e name hearing l)
-adds_heard w e name hearing None = search adds
-adds_heard w e name hearing (Some l) = search adds
-
-adds_acts : (w : World) (e : Event) (name : ℕ) (a : Act) → Adds w (acts_as w e name a)
-adds_acts w e name (act.Hear number) = adds_heard w e name _ (letter_at w.letters number)
-adds_acts w e name (act.Cut number keep) = adds_heard w e name (hear_cut (w.nodes name) keep) (letter_at w.letters number)
-adds_acts w e name _ = search adds
-
 pub happens_adds : (w : World) (e : Event) → length (happens w e).records ≡ length w.records + 1
-unfolding happens
-happens_adds w e = (adds_acts w e (current w (place_of e.node)) e.act).one
+unfolding with_record with_step
+happens_adds w e = holds_happens (λ u v. length v.records ≡ length u.records + 1) w e (record {
+  as_it_was = λ e o. simp length-append refl;
+  a_step = λ e name s. simp length-append refl;
+  a_stop = λ e o stopped. simp length-append refl;
+  a_life = λ e o place. simp length-append refl;
+})
 
 happen_adds : (w : World) (es : List Event) → length (happen w es).records ≡ length w.records + length es
 unfolding happen

@@ -4,7 +4,7 @@ use Rattle.std.specs.List.{range_with_len}
 use Rattle.am_base.specs.declared.entry.Entry.{Entry}
 use Rattle.am_group.specs.declared.event.Record.{Record}
 use Rattle.am_group.specs.Deliveries.{name_of, taken_in}
-use Rattle.am_group.specs.Groups.{above, appended, admitted, moved}
+use Rattle.am_group.specs.Groups.{above, list_with, with_admitted, after_take}
 use Rattle.am_model.specs.Node.{Node}
 use Rattle.am_model.specs.Group.{has_log}
 use Rattle.am_model.specs.World.{World}
@@ -22,9 +22,9 @@ next_of g name = above g.entries (slice_index_or g.fronts name None)
 
 -- the list gets an entry; or a name that has no front yet is admitted at a number
 pub data Move : Group → Group → Type 0 where
-  append : {g : Group} (e : Entry) → Move g (record g { entries = appended g.entries e })
+  append : {g : Group} (e : Entry) → Move g (record g { entries = list_with g.entries e })
   admit : {g : Group} (name number : ℕ) → slice_get g.fronts name ≡ Some None → 0 < number → number ≤ length g.entries + 1
-      → Move g (record g { fronts = admitted g.fronts name number })
+      → Move g (record g { fronts = with_admitted g.fronts name number })
 
 -- some of these in turn: no front that is there moves
 pub data Grows : Group → Group → Type 0 where
@@ -34,7 +34,7 @@ pub data Grows : Group → Group → Type 0 where
 -- what is given out to a name was next for it, and its front goes on by as many
 abbrev pub GivesOut : ℕ → List (ℕ × Entry) → Group → Group → Type 0
 GivesOut name [] g h = h ≡ g
-GivesOut name (given ∷ later) g h = (next_of g name ≡ Some given) × GivesOut name later (record g { fronts = moved g.fronts name (Some given) }) h
+GivesOut name (given ∷ later) g h = (next_of g name ≡ Some given) × GivesOut name later (record g { fronts = after_take g.fronts name (Some given) }) h
 
 -- what a record does: its name takes what the record gave out, and nobody takes anything else
 pub record EventMoves (r : Record) (g h : Group) : Type 0 where

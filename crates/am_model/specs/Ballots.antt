@@ -15,19 +15,19 @@ use Rattle.am_packet.specs.Boxes.{Letter}
 use Rattle.am_packet.specs.Boxes.{with_letter}
 use Rattle.am_fronts.specs.Reports as reports
 use Rattle.am_fronts.specs.Reports.{least_of}
-use Rattle.am_model.specs.Node.{Node, Ballot, top, told, members, view, others, only_name, those, set_at, pushed, trimmed}
+use Rattle.am_model.specs.Node.{Node, Ballot, top, image_of, members, view, others, only_name, those, set_at, push_entry, trim_up_to}
 use Rattle.am_model.specs.Emit.{Plan, quiet, invite_of, fetch_of, result_of}
 
 -- ---- promises
 
 -- an unfinished ballot of a lower stamp is overtaken
-abbrev pub overtaken : Stamp → Option Ballot → Option Ballot
-overtaken by None = None
-overtaken by (Some b) = if not b.is_over && stamp_lt b.stamp by then Some (record b { answer = said.Overtaken by; is_over = true }) else Some b
+abbrev pub overtake : Stamp → Option Ballot → Option Ballot
+overtake by None = None
+overtake by (Some b) = if not b.is_over && stamp_lt b.stamp by then Some (record b { answer = said.Overtaken by; is_over = true }) else Some b
 
 -- the promise becomes this stamp
-abbrev pub promised : Node → Stamp → Node
-promised m stamp = record m { core = record (m.core) { promise = stamp }; ballot = overtaken stamp m.ballot }
+abbrev pub with_promise : Node → Stamp → Node
+with_promise m stamp = record m { core = record (m.core) { promise = stamp }; ballot = overtake stamp m.ballot }
 
 -- ---- votes
 
@@ -68,31 +68,31 @@ pub record Verdict : Type 0 where
   pub outcome : Outcome
 
 -- the ballot goes on, or has ended, with this answer
-abbrev pub unfinished : Ballot → Outcome → Ballot
-unfinished b outcome = record b { answer = outcome; is_over = false }
+abbrev pub with_answer : Ballot → Outcome → Ballot
+with_answer b outcome = record b { answer = outcome; is_over = false }
 
-abbrev pub finished : Ballot → Outcome → Ballot
-finished b outcome = record b { answer = outcome; is_over = true }
+abbrev pub with_end : Ballot → Outcome → Ballot
+with_end b outcome = record b { answer = outcome; is_over = true }
 
 abbrev pub goes_on : Node → Ballot → Outcome → Verdict
-goes_on m b outcome = record { node = record m { ballot = Some (unfinished b outcome) }; outcome = outcome }
+goes_on m b outcome = record { node = record m { ballot = Some (with_answer b outcome) }; outcome = outcome }
 
 abbrev pub ends : Node → Ballot → Outcome → Verdict
-ends m b outcome = record { node = record m { ballot = Some (finished b outcome) }; outcome = outcome }
+ends m b outcome = record { node = record m { ballot = Some (with_end b outcome) }; outcome = outcome }
 
 -- the reports of all names begin anew
-abbrev pub restarted : Node → Node
-restarted m = record m { reports = reports.restarted m.core.base }
+abbrev pub restart_reports : Node → Node
+restart_reports m = record m { reports = reports.reports_from m.core.base }
 
 -- the view is pushed, where there is room for so many members
 abbrev pub decide_view : Node → Ballot → List ℕ → Verdict
 decide_view m b names =
     if nat_lt (m.core.rules.window + 16 - size names) (top m + 1 - m.core.base) then ends m b (said.Crowded m.core.base (top m))
-    else ends (restarted (pushed m (View b.stamp names (max b.resilience (told m).resilience)))) b (said.Decided (top m + 1) names)
+    else ends (restart_reports (push_entry m (View b.stamp names (max b.resilience (image_of m).resilience)))) b (said.Decided (top m + 1) names)
 
 -- trimmed to what all of these have taken
-abbrev pub trimmed_for : Node → Ballot → List ℕ → Node
-trimmed_for m b names = trimmed m (unwrap_or (least_of (taken_by m.core.who m.core.taken b) (names_of names)) 0)
+abbrev pub trim_for : Node → Ballot → List ℕ → Node
+trim_for m b names = trim_up_to m (unwrap_or (least_of (taken_by m.core.who m.core.taken b) (names_of names)) 0)
 
 unfoldable pub decide : Node → Ballot → Verdict
 decide m b =
@@ -101,13 +101,13 @@ decide m b =
     (said.Waiting (those (is_waited_for m.core.who b) (need_of m b)))
     else if not ((best_of m b).by == m.core.who) then goes_on m b (said.Fetching (best_of m b).by (top m + 1))
     else if nat_lt (size (left_in b (need_of m b))) b.least then ends m b (said.TooFew (size (left_in b (need_of m b))) b.least)
-    else decide_view (trimmed_for m b (left_in b (need_of m b))) b (left_in b (need_of m b))
+    else decide_view (trim_for m b (left_in b (need_of m b))) b (left_in b (need_of m b))
 
 -- ---- what a verdict sends
 
 -- a decided view is told to its members
 abbrev pub with_result : Outcome → Node → List Letter → List Letter
-with_result (said.Decided number names) n letters = with_letter (without_name names n.core.who) (result_of n number names (told n).resilience) letters
+with_result (said.Decided number names) n letters = with_letter (without_name names n.core.who) (result_of n number names (image_of n).resilience) letters
 with_result _ n letters = letters
 
 -- and what is to be fetched is asked for
@@ -115,8 +115,8 @@ abbrev pub with_fetch : Outcome → Node → List Letter → List Letter
 with_fetch (said.Fetching from want) n letters = with_letter (only_name from) (fetch_of n) letters
 with_fetch _ n letters = letters
 
-abbrev pub answered : Verdict → (Node → List Letter) → Plan
-answered verdict letters = record (quiet verdict.node verdict.outcome) { letters = λ n. with_result verdict.outcome n (letters n) }
+abbrev pub verdict_plan : Verdict → (Node → List Letter) → Plan
+verdict_plan verdict letters = record (quiet verdict.node verdict.outcome) { letters = λ n. with_result verdict.outcome n (letters n) }
 
 -- ---- rows of ballots
 
@@ -137,7 +137,7 @@ new_ballot stamp least resilience = record {
 
 -- a ballot begins, with a resilience of at most 15
 unfoldable pub begin : Node → ℕ → ℕ → Plan
-begin m least resilience = answered (decide (promised m (next_stamp m)) (new_ballot (next_stamp m) least (min resilience 15)))
+begin m least resilience = verdict_plan (decide (with_promise m (next_stamp m)) (new_ballot (next_stamp m) least (min resilience 15)))
     (λ n. with_letter (others m) (invite_of n) [])
 
 abbrev pub with_vote : Ballot → ℕ → Vote → Ballot
@@ -152,7 +152,7 @@ unfoldable pub keep_vote : Node → Ballot → ℕ → Vote → Plan
 keep_vote m b name vote =
     let new = with_vote b name vote in
     let verdict = decide m new in
-    answered verdict (λ n. with_fetch verdict.outcome n (with_letter (newly_needed m b new) (invite_of n) []))
+    verdict_plan verdict (λ n. with_fetch verdict.outcome n (with_letter (newly_needed m b new) (invite_of n) []))
 
 abbrev pub without_voter : Ballot → ℕ → Ballot
 without_voter b name = record b { votes = set_at b.votes name None; given_up = set_at b.given_up name true }
@@ -161,4 +161,4 @@ without_voter b name = record b { votes = set_at b.votes name None; given_up = s
 unfoldable pub give_up : Node → Ballot → ℕ → Plan
 give_up m b name =
     let verdict = decide m (without_voter b name) in
-    answered verdict (λ n. with_fetch verdict.outcome n [])
+    verdict_plan verdict (λ n. with_fetch verdict.outcome n [])

@@ -12,7 +12,7 @@ use Rattle.am_sender.specs.Sends as own
 use Rattle.am_model.specs.declared.status.Status.{Status}
 use Rattle.am_model.specs.declared.status.Status.TheVariants as status
 use Rattle.am_model.specs.Node.{Node, Ballot, top, view, members, own_row, others, only_name, lowest_or_first, acts, is_sequencer, is_member, has_room, waiting}
-use Rattle.am_model.specs.Node.{unsettled, pushed}
+use Rattle.am_model.specs.Node.{unsettled_count, push_entry}
 use Rattle.am_model.specs.Emit.{Plan, quiet, telling, and_telling, numbering, request_of, spread_of, bcast_of, join_ask_of, leave_ask_of, hand_over_of}
 use Rattle.am_model.specs.Ballots.{begin, give_up}
 
@@ -48,13 +48,13 @@ emit m (Some s) outcome =
     else quiet m outcome
 
 -- the next send is queued; where none waits before it, it goes out
-abbrev pub queued : Node → List ℕ → Node
-queued m body = record m { sends = own.submit body m.sends }
+abbrev pub with_queued : Node → List ℕ → Node
+with_queued m body = record m { sends = own.submit body m.sends }
 
 abbrev pub queue : Node → List ℕ → Plan
 queue m body =
-    if is_some (waiting m) then quiet (queued m body) (said.Queued (m.sends.last + 1))
-    else emit (queued m body) (waiting (queued m body)) (said.Queued (m.sends.last + 1))
+    if is_some (waiting m) then quiet (with_queued m body) (said.Queued (m.sends.last + 1))
+    else emit (with_queued m body) (waiting (with_queued m body)) (said.Queued (m.sends.last + 1))
 
 unfoldable pub send_row : Node → List ℕ → Plan
 send_row m body =
@@ -69,15 +69,15 @@ done_row m req = quiet (record m { sends = own.collect req m.sends }) (own.colle
 
 -- ---- what is accepted
 
-abbrev pub given : Node → Option Entry → Plan
-given m None = quiet m said.Empty
-given m (Some e) = quiet (record m { core = record (m.core) { taken = m.core.taken + 1 } }) (said.Took (m.core.taken + 1) e)
+abbrev pub give_out : Node → Option Entry → Plan
+give_out m None = quiet m said.Empty
+give_out m (Some e) = quiet (record m { core = record (m.core) { taken = m.core.taken + 1 } }) (said.Took (m.core.taken + 1) e)
 
 unfoldable pub take_row : Node → Plan
 take_row m =
     if not (is_member m.status) then quiet m said.NotMember
     else if m.core.taken == m.core.acc then quiet m said.Empty
-    else given m (entry_at m.core.log (m.core.taken + 1))
+    else give_out m (entry_at m.core.log (m.core.taken + 1))
 
 -- ---- joining and leaving
 
@@ -108,7 +108,7 @@ abbrev pub go : Plan → Plan
 go p =
     if not (is_sequencer p.node) then and_telling p (others p.node) leave_ask_of
     else if nat_lt 0 (size (others p.node)) then and_telling p (only_name (lowest_or_first (others p.node))) hand_over_of
-    else if has_room p.node then record p { node = pushed p.node (Leave p.node.core.who); outcome = λ n. said.Departed; numbers = true; departs = true }
+    else if has_room p.node then record p { node = push_entry p.node (Leave p.node.core.who); outcome = λ n. said.Departed; numbers = true; departs = true }
     else record p { outcome = λ n. said.Held p.node.core.base (top p.node) }
 
 abbrev pub is_unfinished : Option Ballot → Bool
@@ -118,7 +118,7 @@ is_unfinished (Some b) = not b.is_over
 abbrev pub leave_now : Node → Plan
 leave_now m =
     if m.leaving then quiet m said.Leaving
-    else if nat_lt 0 (unsettled m) || is_unfinished m.ballot then quiet m (said.Busy (unsettled m))
+    else if nat_lt 0 (unsettled_count m) || is_unfinished m.ballot then quiet m (said.Busy (unsettled_count m))
     else go (quiet (record m { leaving = true }) said.Asked)
 
 abbrev pub leave_by : Node → Status → Plan

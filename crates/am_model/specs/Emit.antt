@@ -8,7 +8,7 @@ use Rattle.am_packet.specs.declared.packet.Packet.TheVariants as packet
 use Rattle.am_packet.specs.Boxes.{Letter}
 use Rattle.am_packet.specs.Boxes.{with_letter}
 use Rattle.am_model.specs.declared.status.Status.TheVariants.{Departed}
-use Rattle.am_model.specs.Node.{Node, top, told, others, is_sequencer, pushed, report_of, entries_above}
+use Rattle.am_model.specs.Node.{Node, top, image_of, others, is_sequencer, push_entry, report_of, entries_above}
 use Rattle.am_model.specs.Refresh.{refresh_at_end}
 
 -- what a row says: the node before the refresh at the end; the answer and the letters, of the node after it; whether
@@ -58,7 +58,7 @@ join_ask_of n = packet.JoinAsk n.core.who n.core.promise
 
 -- a Welcome tells where the list begins for the joiner, its number, and what stands up to the base
 abbrev pub welcome_of : Node → ℕ → Packet
-welcome_of n name = packet.Welcome n.core.who n.core.promise n.core.base (row_of (told n) name).joined (image_at n.core.log n.core.base)
+welcome_of n name = packet.Welcome n.core.who n.core.promise n.core.base (row_of (image_of n) name).joined (image_at n.core.log n.core.base)
 
 abbrev pub leave_ask_of : Node → Packet
 leave_ask_of n = packet.LeaveAsk n.core.who n.core.promise (report_of n)
@@ -105,13 +105,13 @@ and_where test p to packet = record p { letters = λ n. if test n then with_lett
 
 -- the sequencer numbers an entry, and tells those who were members before it
 abbrev pub numbering : Node → Entry → Outcome → (Node → Packet) → Plan
-numbering m e outcome packet = record (telling (pushed m e) outcome (others m) packet) { numbers = true }
+numbering m e outcome packet = record (telling (push_entry m e) outcome (others m) packet) { numbers = true }
 
 -- ---- entries sent again
 
 -- the entries above a number, eight at most
-abbrev pub served : Node → ℕ → List Entry
-served m stored = take 8 (entries_above m stored)
+abbrev pub entries_to_serve : Node → ℕ → List Entry
+entries_to_serve m stored = take 8 (entries_above m stored)
 
 -- a letter for each entry, from this number on
 unfoldable pub put_all : (ℕ → Entry → Packet) → List ℕ → ℕ → List Entry → List Letter → List Letter

@@ -13,8 +13,8 @@ use Rattle.am_model.specs.declared.status.Status.TheVariants.{Stranger, Asking, 
 use Rattle.am_model.specs.World.{World}
 
 -- the same record with a caller's tag
-abbrev pub tagged : By → Record → Record
-tagged by r = record r { by = by }
+abbrev pub with_tag : By → Record → Record
+with_tag by r = record r { by = by }
 
 -- ---- accepted sends
 

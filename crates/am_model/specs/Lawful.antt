@@ -75,22 +75,22 @@ broken_now w v count (Some k) = Some k
 broken_now w v count None = if is_lawful w v then None else Some count
 
 -- the world after an event, where this view is the greatest complete one
-abbrev pub looked : Watch → World → Decided → Watch
-looked s w best = record { world = w; complete = best; count = s.count + 1; broken = broken_now w best (s.count + 1) s.broken }
+abbrev pub watch_with : Watch → World → Decided → Watch
+watch_with s w best = record { world = w; complete = best; count = s.count + 1; broken = broken_now w best (s.count + 1) s.broken }
 
 unfoldable pub watch : Watch → Event → Watch
-watch s e = let w = happens s.world e in looked s w (greatest_complete w s.complete w.views)
+watch s e = let w = happens s.world e in watch_with s w (greatest_complete w s.complete w.views)
 
 unfoldable pub watch_all : Watch → List Event → Watch
 watch_all s [] = s
 watch_all s (e ∷ es) = watch_all (watch s e) es
 
-abbrev pub watched : Rules → List Event → Watch
-watched rules events = watch_all (watch_start rules) events
+abbrev pub watch_run : Rules → List Event → Watch
+watch_run rules events = watch_all (watch_start rules) events
 
 -- the number of the first event after which the run isn't lawful
 abbrev pub broken_at : Rules → List Event → Option ℕ
-broken_at rules events = (watched rules events).broken
+broken_at rules events = (watch_run rules events).broken
 
 -- the lawful front: the events before that, or all
 abbrev pub before_break : List Event → Option ℕ → List Event

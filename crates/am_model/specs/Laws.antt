@@ -18,14 +18,14 @@ use Rattle.am_packet.specs.declared.packet.Packet.{Packet}
 use Rattle.am_packet.specs.declared.packet.Packet.TheVariants as packet
 use Rattle.am_codec.specs.Limits.{IsPacket}
 use Rattle.am_codec.specs.Spelling.{spelling}
-use Rattle.am_model.specs.Node.{Node, top, told, report_fits, has_room, is_sequencer}
+use Rattle.am_model.specs.Node.{Node, top, image_of, report_fits, has_room, is_sequencer}
 use Rattle.am_model.specs.Emit.{Step}
-use Rattle.am_model.specs.Sequencing.{reported}
+use Rattle.am_model.specs.Sequencing.{take_report}
 use Rattle.am_model.specs.Hearing.{hears_as_sequencer}
 use Rattle.am_base.specs.declared.outcome.Outcome.{Outcome}
 use Rattle.am_base.specs.declared.outcome.Outcome.TheVariants as said
 use Rattle.am_model.specs.World.{World, hear_cut, happen, run}
-use Rattle.am_model.specs.Lawful.{watched, broken_at, lawful_front}
+use Rattle.am_model.specs.Lawful.{watch_run, broken_at, lawful_front}
 use Rattle.am_base.specs.Founding.{Rules}
 use Rattle.am_group.specs.declared.event.Event.{Event}
 use Rattle.am_model.specs.Refresh.{refresh}
@@ -155,7 +155,7 @@ RunsGoOn = (w : World) (xs ys : List Event) → happen w (xs ++ ys) ≡ happen (
 
 -- watching a run changes nothing of it
 abbrev pub WatchedIsRun : Type 0
-WatchedIsRun = (rules : Rules) (events : List Event) → (watched rules events).world ≡ run rules events
+WatchedIsRun = (rules : Rules) (events : List Event) → (watch_run rules events).world ≡ run rules events
 
 -- each event leaves one record
 abbrev pub OneRecordEach : Type 0
@@ -174,10 +174,10 @@ send_packet false s v report req body = packet.Request s v report req body
 
 -- a member's next send, with a report that fits
 pub record IsNextSend (m : Node) (s : ℕ) (report : Report) (req : ℕ) : Type 0 where
-  pub known : 0 < (row_of (told m) s).joined
+  pub known : 0 < (row_of (image_of m) s).joined
   pub fits : report_fits m report ≡ true
-  pub stays : (row_of (told m) s).left ≡ 0
-  pub next : req ≡ (row_of (told m) s).last + 1
+  pub stays : (row_of (image_of m) s).left ≡ 0
+  pub next : req ≡ (row_of (image_of m) s).last + 1
 
 abbrev pub IsHeld : Outcome → Type 0
 IsHeld outcome = (base : ℕ) × (high : ℕ) × (outcome ≡ said.Held base high)
@@ -186,7 +186,7 @@ IsHeld outcome = (base : ℕ) × (high : ℕ) × (outcome ≡ said.Held base hig
 -- once that is taken
 abbrev pub HeldExactly : Type 0
 HeldExactly = (m : Node) (s : ℕ) (v : Stamp) (report : Report) (req : ℕ) (body : List ℕ) (spread : Bool) → hears_as_sequencer m s v ≡ true
-    → IsHeld (hear m (send_packet spread s v report req body)).outcome ↔ (IsNextSend m s report req × (has_room (reported m s report) ≡ false))
+    → IsHeld (hear m (send_packet spread s v report req body)).outcome ↔ (IsNextSend m s report req × (has_room (take_report m s report) ≡ false))
 
 -- why a send stays without a number, where it isn't held
 pub data IsTurnedDown : Outcome → Type 0 where

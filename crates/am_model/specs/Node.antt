@@ -14,7 +14,7 @@ use Rattle.am_base.specs.Stamps.{stamp_eq, no_stamp}
 use Rattle.am_base.specs.Founding.{Rules}
 use Rattle.am_base.specs.Lists.{blank, top_of, told_by, members_of, row_of}
 use Rattle.am_core.specs.Cores.{CoreState}
-use Rattle.am_fronts.specs.Reports.{no_report, no_reports, reported}
+use Rattle.am_fronts.specs.Reports.{no_report, no_reports, after_report}
 use Rattle.am_sender.specs.declared.OwnSend.{OwnSend}
 use Rattle.am_sender.specs.Sends as own
 use Rattle.am_bodies.specs.declared.KeptBody.{KeptBody}
@@ -62,17 +62,17 @@ abbrev pub top : Node → ℕ
 top m = top_of m.core.log
 
 -- what the whole list tells
-abbrev pub told : Node → Image
-told m = told_by m.core.log
+abbrev pub image_of : Node → Image
+image_of m = told_by m.core.log
 
 abbrev pub members : Node → List ℕ
-members m = members_of (told m)
+members m = members_of (image_of m)
 
 abbrev pub view : Node → Stamp
-view m = (told m).view
+view m = (image_of m).view
 
 abbrev pub own_row : Node → Row
-own_row m = row_of (told m) m.core.who
+own_row m = row_of (image_of m) m.core.who
 
 -- the members without the node itself
 abbrev pub others : Node → List ℕ
@@ -126,8 +126,8 @@ abbrev pub waiting : Node → Option OwnSend
 waiting m = own.waiting m.sends
 
 -- how many aren't settled
-abbrev pub unsettled : Node → ℕ
-unsettled m = own.unsettled m.sends
+abbrev pub unsettled_count : Node → ℕ
+unsettled_count m = own.unsettled_count m.sends
 
 -- ---- changes
 
@@ -135,15 +135,15 @@ unsettled m = own.unsettled m.sends
 abbrev pub set_at : {A : Type 0} → (ℕ → A) → ℕ → A → ℕ → A
 set_at f k x j = if j == k then x else f j
 
-abbrev pub pushed : Node → Entry → Node
-pushed m e = record m { core = record (m.core) { log = record (m.core.log) { entries = m.core.log.entries ++ e ∷ [] } } }
+abbrev pub push_entry : Node → Entry → Node
+push_entry m e = record m { core = record (m.core) { log = record (m.core.log) { entries = m.core.log.entries ++ e ∷ [] } } }
 
 -- trimmed up to a number, where that is greater
-abbrev pub trimmed : Node → ℕ → Node
-trimmed m base = record m { core = record (m.core) { base = max m.core.base base } }
+abbrev pub trim_up_to : Node → ℕ → Node
+trim_up_to m base = record m { core = record (m.core) { base = max m.core.base base } }
 
 abbrev pub with_report : Node → ℕ → Report → Node
-with_report m name report = record m { reports = reported m.reports name report }
+with_report m name report = record m { reports = after_report m.reports name report }
 
 -- ---- the first states
 

@@ -7,7 +7,7 @@ use Rattle.am_group.specs.declared.event.Event.{Event}
 use Rattle.am_model.specs.Text.{newline, mark_line, play_text}
 use Rattle.am_model.specs.World.{World}
 use Rattle.am_model.specs.Group.{logs}
-use Rattle.am_model.specs.Lawful.{Watch, watched, watch_all}
+use Rattle.am_model.specs.Lawful.{Watch, watch_run, watch_all}
 use Rattle.am_model.specs.Settle.{settle_events}
 
 -- of a run that was watched: its events, the group list, what each name was given, and whether it is lawful
@@ -16,14 +16,14 @@ watched_text rules s = play_text rules s.world.records s.world.group (logs s.wor
 
 -- of these events
 abbrev pub text_of : Rules → List Event → List ℕ
-text_of rules events = watched_text rules (watched rules events)
+text_of rules events = watched_text rules (watch_run rules events)
 
 -- a run that is settled behind its own events
-abbrev pub settled : Rules → Watch → Watch
-settled rules s = watch_all s (settle_events rules s.world)
+abbrev pub settle_run : Rules → Watch → Watch
+settle_run rules s = watch_all s (settle_events rules s.world)
 
 abbrev pub settled_text_of : Rules → List Event → List ℕ
-settled_text_of rules events = watched_text rules (settled rules (watched rules events))
+settled_text_of rules events = watched_text rules (settle_run rules (watch_run rules events))
 
 -- ---- the summary of a run
 
@@ -31,8 +31,8 @@ settled_text_of rules events = watched_text rules (settled rules (watched rules 
 abbrev pub count_line : List ℕ → ℕ → List ℕ
 count_line word count = word ++ (codes " " ++ (decimal count ++ newline))
 
-abbrev pub counted : World → (Outcome → Bool) → ℕ
-counted w test = count_by (λ r. test r.outcome) w.records
+abbrev pub count_outcomes : World → (Outcome → Bool) → ℕ
+count_outcomes w test = count_by (λ r. test r.outcome) w.records
 
 -- how many events there were, letters, entries of the group list, and events that took, were sent, and were held
 abbrev pub summary_of : Watch → List ℕ
@@ -40,10 +40,10 @@ summary_of s =
     count_line (codes "events") (length s.world.records)
     ++ (count_line (codes "packets") (length s.world.letters)
     ++ (count_line (codes "entries") (length s.world.group)
-    ++ (count_line (codes "took") (counted s.world is_took)
-    ++ (count_line (codes "sent") (counted s.world is_sent)
-    ++ (count_line (codes "held") (counted s.world is_held)
+    ++ (count_line (codes "took") (count_outcomes s.world is_took)
+    ++ (count_line (codes "sent") (count_outcomes s.world is_sent)
+    ++ (count_line (codes "held") (count_outcomes s.world is_held)
     ++ mark_line s.broken)))))
 
 abbrev pub summary_text_of : Rules → List Event → List ℕ
-summary_text_of rules events = summary_of (watched rules events)
+summary_text_of rules events = summary_of (watch_run rules events)

@@ -11,9 +11,9 @@ use Rattle.am_base.specs.Lists.{fits}
 use Rattle.am_sender.specs.declared.OwnSend.{OwnSend}
 use Rattle.am_bodies.specs.declared.KeptBody.{KeptBody}
 use Rattle.am_bodies.specs.Bodies.{is_of, find_body, keep_body, drop_bodies}
-use Rattle.am_model.specs.Node.{Node, top, told, members, only_name, has_own_leave, is_within_bound, waiting, pushed, trimmed}
+use Rattle.am_model.specs.Node.{Node, top, image_of, members, only_name, has_own_leave, is_within_bound, waiting, push_entry, trim_up_to}
 use Rattle.am_model.specs.Emit.{Plan, quiet, telling, and_where, ack_of, nack_of}
-use Rattle.am_model.specs.Sequencing.{row_at, risen}
+use Rattle.am_model.specs.Sequencing.{row_at, if_risen}
 
 -- ---- bodies
 
@@ -51,28 +51,28 @@ is_view (Leave name) = false
 is_view (View stamp names resilience) = true
 
 -- what the sequencer's packet tells of its fronts
-abbrev pub noted : Node → ℕ → ℕ → Node
-noted m base acc = trimmed (record m { core = record (m.core) { told = max m.core.told acc } }) (if nat_le base m.core.taken then base else m.core.base)
+abbrev pub with_noted : Node → ℕ → ℕ → Node
+with_noted m base acc = trim_up_to (record m { core = record (m.core) { told = max m.core.told acc } }) (if nat_le base m.core.taken then base else m.core.base)
 
 -- this node is among so many lowest members other than the sequencer
 abbrev pub acknowledges : Node → ℕ → Node → Bool
-acknowledges m s n = list_any (λ name. name == n.core.who) (take (told m).resilience (names_of (without_name (members m) s)))
+acknowledges m s n = list_any (λ name. name == n.core.who) (take (image_of m).resilience (names_of (without_name (members m) s)))
 
 -- the entry is stored; some members acknowledge it at once
-abbrev pub stored : Node → ℕ → ℕ → Entry → Plan
-stored m s number e =
-    and_where (acknowledges (pushed m e) s) (quiet (record (pushed m e) { bodies = bodies_after m.bodies e }) (said.Stored number)) (only_name s) ack_of
+abbrev pub store_fitting : Node → ℕ → ℕ → Entry → Plan
+store_fitting m s number e =
+    and_where (acknowledges (push_entry m e) s) (quiet (record (push_entry m e) { bodies = bodies_after m.bodies e }) (said.Stored number)) (only_name s) ack_of
 
 -- a numbered entry, whose body may be missing
 abbrev pub store : Node → ℕ → ℕ → Option Entry → Outcome → Plan
 store m s number None missing = telling m missing (only_name s) nack_of
 store m s number (Some e) missing =
-    if is_view e || (not (fits (told m) e) || not (is_within_bound m m.core.base number)) then quiet m said.Unfit
-    else stored m s number e
+    if is_view e || (not (fits (image_of m) e) || not (is_within_bound m m.core.base number)) then quiet m said.Unfit
+    else store_fitting m s number e
 
 -- once what it tells is noted
-abbrev pub received : Node → ℕ → ℕ → ℕ → Option Entry → Outcome → Plan
-received m s base number e missing =
+abbrev pub receive_entry : Node → ℕ → ℕ → ℕ → Option Entry → Outcome → Plan
+receive_entry m s base number e missing =
     if nat_le number (top m) then quiet m said.Known
     else if has_own_leave m then quiet m said.Behind
     else if nat_lt (top m + 1) number then telling m (said.Gap (top m + 1)) (only_name s) nack_of
@@ -80,29 +80,29 @@ received m s base number e missing =
     else store m s number e missing
 
 unfoldable pub bcast_row : Node → ℕ → ℕ → ℕ → ℕ → Entry → Plan
-bcast_row m s base acc number e = received (noted m base acc) s base number (Some e) said.Known
+bcast_row m s base acc number e = receive_entry (with_noted m base acc) s base number (Some e) said.Known
 
 abbrev pub data_of : ℕ → ℕ → Option (List ℕ) → Option Entry
 data_of from req None = None
 data_of from req (Some body) = Some (Data from req body)
 
 unfoldable pub order_row : Node → ℕ → ℕ → ℕ → ℕ → ℕ → ℕ → Plan
-order_row m s base acc number from req = received (noted m base acc) s base number (data_of from req (body_of m from req)) (said.NoBody from req)
+order_row m s base acc number from req = receive_entry (with_noted m base acc) s base number (data_of from req (body_of m from req)) (said.NoBody from req)
 
 -- how far the list is accepted, and with a poll a report
-abbrev pub accepted_to : Node → Node → ℕ → Bool → Plan
-accepted_to m old s poll = and_where (λ n. poll) (record (quiet m said.Known) { outcome = risen old said.Known (λ n. said.Advanced n.core.acc) })
+abbrev pub answer_accept : Node → Node → ℕ → Bool → Plan
+answer_accept m old s poll = and_where (λ n. poll) (record (quiet m said.Known) { outcome = if_risen old said.Known (λ n. said.Advanced n.core.acc) })
     (only_name s) ack_of
 
 unfoldable pub accept_row : Node → ℕ → ℕ → ℕ → ℕ → Bool → Plan
 accept_row m s base acc high poll =
-    if nat_lt (top m) high && not (has_own_leave m) then telling (noted m base acc) (said.Gap (top m + 1)) (only_name s) nack_of
-    else accepted_to (noted m base acc) m s poll
+    if nat_lt (top m) high && not (has_own_leave m) then telling (with_noted m base acc) (said.Gap (top m + 1)) (only_name s) nack_of
+    else answer_accept (with_noted m base acc) m s poll
 
 -- the waiting send is put off
-abbrev pub held_up : Node → ℕ → ℕ → ℕ → Option OwnSend → Plan
-held_up m base high req None = quiet m said.Known
-held_up m base high req (Some s) = if s.req == req then quiet m (said.PutOff req base high) else quiet m said.Known
+abbrev pub answer_hold : Node → ℕ → ℕ → ℕ → Option OwnSend → Plan
+answer_hold m base high req None = quiet m said.Known
+answer_hold m base high req (Some s) = if s.req == req then quiet m (said.PutOff req base high) else quiet m said.Known
 
 unfoldable pub hold_row : Node → ℕ → ℕ → ℕ → Plan
-hold_row m base high req = held_up m base high req (waiting m)
+hold_row m base high req = answer_hold m base high req (waiting m)

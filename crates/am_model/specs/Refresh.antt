@@ -12,8 +12,8 @@ use Rattle.am_sender.specs.Sends as own
 use Rattle.am_model.specs.Node.{Node, is_sequencer, entries_above, waiting}
 
 -- whose reports hold back the base: whoever is a member after some number from what is accepted up to the top
-abbrev pub concerned : Node → List ℕ
-concerned m = since_accepted m.core
+abbrev pub concerned_names : Node → List ℕ
+concerned_names m = since_accepted m.core
 
 -- the least that some names have stored, where there is one
 abbrev pub least_stored : Node → List ℕ → Option ℕ
@@ -50,17 +50,17 @@ is_data_of who req (View stamp members resilience) = false
 abbrev pub accepted_at : Node → ℕ → Option ℕ
 accepted_at m req = position (is_data_of m.core.who req) (take (m.core.acc - m.core.base) (entries_above m m.core.base))
 
-abbrev pub settled_at : Node → ℕ → Option ℕ → Node
-settled_at m req None = m
-settled_at m req (Some k) = record m { sends = own.settle req (m.core.base + 1 + k) m.sends }
+abbrev pub settle_at : Node → ℕ → Option ℕ → Node
+settle_at m req None = m
+settle_at m req (Some k) = record m { sends = own.settle req (m.core.base + 1 + k) m.sends }
 
 -- the waiting send is settled where it is accepted
-abbrev pub settled : Node → Option OwnSend → Node
-settled m None = m
-settled m (Some s) = settled_at m s.req (accepted_at m s.req)
+abbrev pub settle_waiting : Node → Option OwnSend → Node
+settle_waiting m None = m
+settle_waiting m (Some s) = settle_at m s.req (accepted_at m s.req)
 
 unfoldable pub settle : Node → Node
-settle m = settled m (waiting m)
+settle m = settle_waiting m (waiting m)
 
 unfoldable pub refresh_at_end : Node → Node
 refresh_at_end m = settle (refresh m)

@@ -8,9 +8,9 @@ use Rattle.am_base.specs.declared.outcome.Outcome.{Outcome}
 use Rattle.am_base.specs.declared.outcome.Outcome.TheVariants as said
 use Rattle.am_base.specs.Stamps.{stamp_lt, stamp_eq}
 use Rattle.am_base.specs.Lists.{fits}
-use Rattle.am_model.specs.Node.{Node, Ballot, top, told, view, has_own_leave, only_name, is_within_bound, pushed, trimmed}
-use Rattle.am_model.specs.Emit.{Plan, quiet, telling, and_where, ack_of, fetch_of, piece_of, served, put_all}
-use Rattle.am_model.specs.Ballots.{promised, vote_of, decide, answered, keep_vote}
+use Rattle.am_model.specs.Node.{Node, Ballot, top, image_of, view, has_own_leave, only_name, is_within_bound, push_entry, trim_up_to}
+use Rattle.am_model.specs.Emit.{Plan, quiet, telling, and_where, ack_of, fetch_of, piece_of, entries_to_serve, put_all}
+use Rattle.am_model.specs.Ballots.{with_promise, vote_of, decide, verdict_plan, keep_vote}
 use Rattle.am_model.specs.Calls.{reset_row}
 
 -- ---- votes
@@ -18,23 +18,23 @@ use Rattle.am_model.specs.Calls.{reset_row}
 unfoldable pub invite_row : Node → ℕ → Stamp → Plan
 invite_row m s v =
     if stamp_lt v m.core.promise then telling m (said.Newer m.core.promise) (only_name s) vote_of
-    else telling (promised m v) said.Voted (only_name s) vote_of
+    else telling (with_promise m v) said.Voted (only_name s) vote_of
 
 -- an unfinished ballot of this stamp
 abbrev pub is_open : Stamp → Ballot → Bool
 is_open v b = not b.is_over && stamp_eq b.stamp v
 
-abbrev pub voted_for : Node → ℕ → Stamp → Vote → Option Ballot → Plan
-voted_for m s v vote None = quiet m said.Elsewhere
-voted_for m s v vote (Some b) =
+abbrev pub take_vote : Node → ℕ → Stamp → Vote → Option Ballot → Plan
+take_vote m s v vote None = quiet m said.Elsewhere
+take_vote m s v vote (Some b) =
     if stamp_lt v m.core.promise || not (is_open v b) then quiet m said.Elsewhere
     else if b.given_up s then quiet m said.Known
     else keep_vote m b s vote
 
 unfoldable pub vote_row : Node → ℕ → Stamp → Vote → Plan
 vote_row m s v vote =
-    if stamp_lt m.core.promise v then quiet (promised m v) (said.Overtaken v)
-    else voted_for m s v vote m.ballot
+    if stamp_lt m.core.promise v then quiet (with_promise m v) (said.Overtaken v)
+    else take_vote m s v vote m.ballot
 
 -- ---- fetching
 
@@ -43,9 +43,9 @@ abbrev pub may_fetch : Node → ℕ → Stamp → Bool
 may_fetch m s v = stamp_eq v m.core.promise && ((v.by == s) || ((v.by == m.core.who) && stamp_eq (view m) v))
 
 abbrev pub serve_pieces : Node → ℕ → ℕ → Plan
-serve_pieces m s stored = record (quiet m (said.Served (length (served m stored)))) {
+serve_pieces m s stored = record (quiet m (said.Served (length (entries_to_serve m stored)))) {
   letters =
-      λ n. put_all (piece_of n) (only_name s) (stored + 1) (served m stored) [];
+      λ n. put_all (piece_of n) (only_name s) (stored + 1) (entries_to_serve m stored) [];
 }
 
 unfoldable pub fetch_row : Node → ℕ → Stamp → ℕ → Plan
@@ -62,22 +62,22 @@ is_view_past v in_ballot (Leave name) = false
 is_view_past v in_ballot (View stamp names resilience) = stamp_lt v stamp || (in_ballot && stamp_eq stamp v)
 
 -- a fetched entry that comes next is pushed above this base; nobody follows a list past its own Leave
-abbrev pub fetched : Node → Stamp → ℕ → ℕ → Entry → Bool → (Node → Plan) → Plan
-fetched m v base number e in_ballot then_ =
+abbrev pub push_fetched : Node → Stamp → ℕ → ℕ → Entry → Bool → (Node → Plan) → Plan
+push_fetched m v base number e in_ballot then_ =
     if nat_le number (top m) then quiet m said.Known
     else if has_own_leave m then quiet m said.Behind
     else if nat_lt (top m + 1) number then quiet m (said.Gap (top m + 1))
     else if nat_lt m.core.taken base then quiet m said.Behind
-    else if not (fits (told m) e) || (is_view_past v in_ballot e || not (is_within_bound m (max m.core.base base) number)) then quiet m said.Unfit
-    else then_ (pushed (trimmed m base) e)
+    else if not (fits (image_of m) e) || (is_view_past v in_ballot e || not (is_within_bound m (max m.core.base base) number)) then quiet m said.Unfit
+    else then_ (push_entry (trim_up_to m base) e)
 
 -- without a ballot it is stored, and reported where the view is reached
-abbrev pub caught_up : ℕ → Stamp → ℕ → Node → Plan
-caught_up s v number m = and_where (λ n. stamp_eq (view n) v) (quiet m (said.Stored number)) (only_name s) ack_of
+abbrev pub catch_up : ℕ → Stamp → ℕ → Node → Plan
+catch_up s v number m = and_where (λ n. stamp_eq (view n) v) (quiet m (said.Stored number)) (only_name s) ack_of
 
 -- with one, the ballot is looked at anew
-abbrev pub fetched_for : Ballot → Node → Plan
-fetched_for b m = answered (decide m b) (λ n. [])
+abbrev pub decide_anew : Ballot → Node → Plan
+decide_anew b m = verdict_plan (decide m b) (λ n. [])
 
 -- the ballot fetches from this name
 abbrev pub fetches_from : Outcome → ℕ → Bool
@@ -87,14 +87,14 @@ fetches_from _ s = false
 abbrev pub piece_promised : Node → ℕ → Stamp → ℕ → ℕ → Entry → Plan
 piece_promised m s v base number e =
     if not (v.by == s) then quiet m said.Elsewhere
-    else fetched m v base number e false (caught_up s v number)
+    else push_fetched m v base number e false (catch_up s v number)
 
 abbrev pub piece_for : Node → ℕ → Stamp → ℕ → ℕ → Entry → Option Ballot → Plan
 piece_for m s v base number e None = piece_promised m s v base number e
 piece_for m s v base number e (Some b) =
     if b.is_over then piece_promised m s v base number e
     else if not (fetches_from b.answer s) then quiet m said.Elsewhere
-    else fetched m v base number e true (fetched_for b)
+    else push_fetched m v base number e true (decide_anew b)
 
 unfoldable pub piece_row : Node → ℕ → Stamp → ℕ → ℕ → Entry → Plan
 piece_row m s v base number e =
@@ -111,14 +111,14 @@ hears_result m s v base number names resilience =
     else if has_own_leave m then quiet m said.Behind
     else if nat_lt (top m + 1) number then telling m (said.Catching (top m + 1)) (only_name s) fetch_of
     else if nat_lt m.core.taken base then quiet m said.Behind
-    else if not (fits (told m) (View v names resilience)) || not (is_within_bound m (max m.core.base base) number) then quiet m said.Unfit
-    else telling (pushed (trimmed m base) (View v names resilience)) (said.Stored number) (only_name s) ack_of
+    else if not (fits (image_of m) (View v names resilience)) || not (is_within_bound m (max m.core.base base) number) then quiet m said.Unfit
+    else telling (push_entry (trim_up_to m base) (View v names resilience)) (said.Stored number) (only_name s) ack_of
 
 unfoldable pub result_row : Node → ℕ → Stamp → ℕ → ℕ → List ℕ → ℕ → Plan
 result_row m s v base number names resilience =
     if (v.by == m.core.who) || stamp_lt v m.core.promise then quiet m said.Elsewhere
-    else hears_result (promised m v) s v base number names resilience
+    else hears_result (with_promise m v) s v base number names resilience
 
 -- the sequencer hands over
 unfoldable pub hand_over_row : Node → Plan
-hand_over_row m = reset_row m 1 (told m).resilience
+hand_over_row m = reset_row m 1 (image_of m).resilience

@@ -44,5 +44,5 @@ unfoldable pub hear : Node → Packet → Step
 hear m packet = finish m (hear_row m packet)
 
 -- what it makes of bytes that are no packet
-unfoldable pub refused : Node → ℕ → Step
-refused m cause = finish m (refuse m cause)
+unfoldable pub hear_refusal : Node → ℕ → Step
+hear_refusal m cause = finish m (refuse m cause)

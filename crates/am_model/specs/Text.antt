@@ -31,13 +31,13 @@ unfoldable pub stamp_text : Stamp → List ℕ
 stamp_text stamp = decimal stamp.round ++ (codes "." ++ name_text stamp.by)
 
 -- names with commas between them, or a dash
-abbrev pub listed : List ℕ → List ℕ
-listed [] = codes "-"
-listed (first ∷ others) = name_text first ++ flat_map (λ name. codes "," ++ name_text name) others
+abbrev pub list_text : List ℕ → List ℕ
+list_text [] = codes "-"
+list_text (first ∷ others) = name_text first ++ flat_map (λ name. codes "," ++ name_text name) others
 
 -- a set of names, ascending
 unfoldable pub names_text : List ℕ → List ℕ
-names_text set = listed (names_of set)
+names_text set = list_text (names_of set)
 
 -- two lower-case hexadecimal digits
 abbrev pub hex_byte : ℕ → List ℕ

@@ -10,7 +10,7 @@ use Rattle.am_packet.specs.Boxes.{with_letter}
 use Rattle.am_model.specs.declared.status.Status.{Status}
 use Rattle.am_model.specs.declared.status.Status.TheVariants as status
 use Rattle.am_sender.specs.declared.OwnSend.{OwnSend}
-use Rattle.am_model.specs.Node.{Node, Ballot, top, told, view, others, only_name, those, acts, is_sequencer, has_room, waiting}
+use Rattle.am_model.specs.Node.{Node, Ballot, top, image_of, view, others, only_name, those, acts, is_sequencer, has_room, waiting}
 use Rattle.am_model.specs.Emit.{Plan, quiet, telling, ack_of, invite_of, fetch_of, result_of}
 use Rattle.am_model.specs.Calls.{would_emit, emit, ask_to_join, go}
 
@@ -41,7 +41,7 @@ put_off m (Some s) = if would_emit m (Some s) && not (has_room m) then said.PutO
 -- the members that haven't stored the last View, while that is kept
 abbrev pub behind_view : Node → List ℕ
 behind_view n =
-    if nat_lt n.core.base (told n).view_number then those (λ name. nat_lt (n.reports name).stored (told n).view_number) (others n)
+    if nat_lt n.core.base (image_of n).view_number then those (λ name. nat_lt (n.reports name).stored (image_of n).view_number) (others n)
     else nobody
 
 -- the members that a View names
@@ -56,7 +56,7 @@ viewed_by (Some (View stamp names resilience)) = names
 abbrev pub and_result : Plan → Plan
 and_result p = record p {
   letters = λ n. with_letter (behind_view n)
-      (result_of n (told n).view_number (viewed_by (entry_at n.core.log (told n).view_number)) (told n).resilience) (p.letters n);
+      (result_of n (image_of n).view_number (viewed_by (entry_at n.core.log (image_of n).view_number)) (image_of n).resilience) (p.letters n);
 }
 
 abbrev pub going : Node → Plan → Plan

@@ -24,9 +24,9 @@ use Rattle.am_group.specs.Journals.{letter_at}
 use Rattle.am_group.specs.Addressed.{is_for}
 use Rattle.am_model.specs.declared.status.Status.{Status}
 use Rattle.am_model.specs.declared.status.Status.TheVariants.{Stranger, Asking, Member, Departed}
-use Rattle.am_model.specs.Node.{Node, is_member, told, view, members, set_at, founder, stranger, founding_stamp, founders_view}
+use Rattle.am_model.specs.Node.{Node, is_member, image_of, view, members, set_at, founder, stranger, founding_stamp, founders_view}
 use Rattle.am_model.specs.Emit.{Step}
-use Rattle.am_model.specs.Step.{step, hear, refused}
+use Rattle.am_model.specs.Step.{step, hear, hear_refusal}
 use Rattle.am_model.specs.Lengths.{packet_length}
 
 -- a view that was decided: its number, and what its View says
@@ -86,18 +86,18 @@ has_departed Departed = true
 -- ---- the group list
 
 -- the list, with what a node has accepted beyond it
-abbrev pub grown : List Entry → CoreState → List Entry
-grown group core = group ++ take (core.acc - length group) (drop (length group - core.log.start) core.log.entries)
+abbrev pub group_with : List Entry → CoreState → List Entry
+group_with group core = group ++ take (core.acc - length group) (drop (length group - core.log.start) core.log.entries)
 
 -- only a node in a view of its own adds to it
 abbrev pub group_after : List Entry → Node → List Entry
-group_after group m = if (view m).by == m.core.who then grown group m.core else group
+group_after group m = if (view m).by == m.core.who then group_with group m.core else group
 
 -- ---- decided views
 
 -- the view in which a node's list ends, as its View says it
 abbrev pub last_view : Node → Decided
-last_view n = record { number = (told n).view_number; stamp = view n; members = members n; resilience = (told n).resilience }
+last_view n = record { number = (image_of n).view_number; stamp = view n; members = members n; resilience = (image_of n).resilience }
 
 -- a member's step decided a view where it brought a View of the member's own stamp; an Ask about it later brings none
 abbrev pub decides : Node → Node → Bool
@@ -117,12 +117,12 @@ abbrev pub record_of : World → Event → Outcome → List Letter → Record
 record_of w e outcome letters = record { event = e; life = w.lives (place_of e.node); by = no_caller; outcome = outcome; packets = letters }
 
 -- an event that changes no node
-unfoldable pub unchanged : World → Event → Outcome → World
-unchanged w e outcome = record w { records = w.records ++ record_of w e outcome [] ∷ [] }
+unfoldable pub with_record : World → Event → Outcome → World
+with_record w e outcome = record w { records = w.records ++ record_of w e outcome [] ∷ [] }
 
 -- a name's step
-unfoldable pub stepped : World → Event → ℕ → Step → World
-stepped w e name s = record w {
+unfoldable pub with_step : World → Event → ℕ → Step → World
+with_step w e name s = record w {
   nodes = set_at w.nodes name s.node;
   letters = w.letters ++ s.letters;
   records = w.records ++ record_of w e s.outcome s.letters ∷ [];
@@ -132,34 +132,34 @@ stepped w e name s = record w {
 
 -- a node's own event, which a stopped one doesn't do
 abbrev pub does_event : World → Event → ℕ → NodeEvent → World
-does_event w e name event = if is_stopped w name then unchanged w e said.IsStopped else stepped w e name (step (w.nodes name) event)
+does_event w e name event = if is_stopped w name then with_record w e said.IsStopped else with_step w e name (step (w.nodes name) event)
 
 -- only a stopped name is given up
 abbrev pub gives_up : World → Event → ℕ → ℕ → World
 gives_up w e name other =
-    if is_stopped w name then unchanged w e said.IsStopped
-    else if is_stopped w other then stepped w e name (step (w.nodes name) (does.GiveUp other))
-    else unchanged w e said.NotStopped
+    if is_stopped w name then with_record w e said.IsStopped
+    else if is_stopped w other then with_step w e name (step (w.nodes name) (does.GiveUp other))
+    else with_record w e said.NotStopped
 
 abbrev pub stops : World → Event → ℕ → World
 stops w e name =
-    if is_stopped w name then unchanged w e said.IsStopped
-    else unchanged (record w { stopped = w.stopped ++ name ∷ [] }) e said.Stopped
+    if is_stopped w name then with_record w e said.IsStopped
+    else with_record (record w { stopped = w.stopped ++ name ∷ [] }) e said.Stopped
 
 -- hearing a letter, by a step
-abbrev pub heard : World → Event → ℕ → (Packet → Step) → Option Letter → World
-heard w e name hearing None = unchanged w e said.NoPacket
-heard w e name hearing (Some letter) =
-    if not (is_for letter name) then unchanged w e said.NotAddressed
-    else if is_stopped w name then unchanged w e said.IsStopped
-    else stepped w e name (hearing letter.packet)
+abbrev pub hears_letter : World → Event → ℕ → (Packet → Step) → Option Letter → World
+hears_letter w e name hearing None = with_record w e said.NoPacket
+hears_letter w e name hearing (Some letter) =
+    if not (is_for letter name) then with_record w e said.NotAddressed
+    else if is_stopped w name then with_record w e said.IsStopped
+    else with_step w e name (hearing letter.packet)
 
 -- the first bytes of a packet: too few for a header, or fewer than its length says, are refused
 abbrev pub hear_cut : Node → ℕ → Packet → Step
 hear_cut m keep packet =
     if nat_le (packet_length packet) keep then hear m packet
-    else if nat_lt keep 12 then refused m 1
-    else refused m 5
+    else if nat_lt keep 12 then hear_refusal m 1
+    else hear_refusal m 5
 
 -- the next life of a place begins, and the name before it has stopped
 abbrev pub lives_on : World → ℕ → World
@@ -169,11 +169,11 @@ lives_on w place = record w {
 }
 
 -- a place returns where its name has gone or stopped, sixteen lives at most
-abbrev pub returned : World → Event → ℕ → World
-returned w e place =
-    if not (is_stopped w (current w place) || has_departed (w.nodes (current w place)).status) then unchanged w e (said.Running (w.lives place))
-    else if w.lives place == 16 then unchanged w e said.NoLife
-    else lives_on (unchanged w e (said.Returned (w.lives place + 1))) place
+abbrev pub comes_back : World → Event → ℕ → World
+comes_back w e place =
+    if not (is_stopped w (current w place) || has_departed (w.nodes (current w place)).status) then with_record w e (said.Running (w.lives place))
+    else if w.lives place == 16 then with_record w e said.NoLife
+    else lives_on (with_record w e (said.Returned (w.lives place + 1))) place
 
 -- an act of a place's current name
 abbrev pub acts_as : World → Event → ℕ → Act → World
@@ -188,9 +188,9 @@ acts_as w e name (act.Ask round) = does_event w e name (does.Ask round)
 acts_as w e name (act.GiveUp other) = gives_up w e name other
 acts_as w e name act.Stop = stops w e name
 acts_as w e name act.Tick = does_event w e name does.Tick
-acts_as w e name (act.Hear number) = heard w e name (hear (w.nodes name)) (letter_at w.letters number)
-acts_as w e name (act.Cut number keep) = heard w e name (hear_cut (w.nodes name) keep) (letter_at w.letters number)
-acts_as w e name act.Return = returned w e (place_of name)
+acts_as w e name (act.Hear number) = hears_letter w e name (hear (w.nodes name)) (letter_at w.letters number)
+acts_as w e name (act.Cut number keep) = hears_letter w e name (hear_cut (w.nodes name) keep) (letter_at w.letters number)
+acts_as w e name act.Return = comes_back w e (place_of name)
 
 -- what an event makes of a world
 unfoldable pub happens : World → Event → World

@@ -9,11 +9,11 @@ use Rattle.am_base.specs.declared.image.Report.{Report}
 use Rattle.am_base.specs.declared.image.Row.{Row}
 use Rattle.am_base.specs.Founding.{Rules, MayFound}
 use Rattle.am_base.specs.Names.{place_of, has, by_place}
-use Rattle.am_base.specs.Lists.{top_of, told_by, blank, blank_row, member_life, viewed, fold, after, fits}
+use Rattle.am_base.specs.Lists.{top_of, told_by, blank, blank_row, member_life, row_after_view, fold, after, fits}
 use Rattle.am_base.proofs.Places.{by_place_all, get_or-by_place, length-by_place}
 use Rattle.am_core.specs.Cores.{CoreState}
 use Rattle.am_core.proofs.Folds.{split}
-use Rattle.am_fronts.specs.Reports.{no_report, no_reports, reported}
+use Rattle.am_fronts.specs.Reports.{no_report, no_reports, after_report}
 use Rattle.am_model.specs.Node.{Node, members, stranger, founder, founders_view}
 use Rattle.am_model.proofs.Founders.{first_founder}
 use Rattle.am_handlers.specs.Keeps.{NodeKeeps}
@@ -50,18 +50,18 @@ blank_at place = split (nat_lt place 16)
     (λ f. get_or_past (replicate 16 blank_row) place blank_row (grind (arith, nat_tests)))
 
 founders_row : List ℕ → ℕ → Row
-founders_row founders place = viewed true 1 (slice_index founders place) blank_row
+founders_row founders place = row_after_view true 1 (slice_index founders place) blank_row
 
-life_back : (life : ℕ) → member_life (viewed true 1 life blank_row) ≡ life
+life_back : (life : ℕ) → member_life (row_after_view true 1 life blank_row) ≡ life
 life_back life = split (life == 0) (λ t. rw t (grind (arith, nat_tests))) (λ f. rw f refl)
 
 -- the founders are the members
 pub founders_members : (rules : Rules) (who : ℕ) → MayFound rules → members (founder rules who) ≡ rules.founders
 unfolding fold after
 founders_members rules who may =
-    let g : ℕ → Row = λ place. viewed true 1 (slice_index rules.founders place) blank_row in
+    let g : ℕ → Row = λ place. row_after_view true 1 (slice_index rules.founders place) blank_row in
     let rows : members (founder rules who) ≡ map member_life (by_place g) =
-    λ i. map member_life (by_place (λ place. viewed true 1 (slice_index rules.founders place) (blank_at place i))) in
+    λ i. map member_life (by_place (λ place. row_after_view true 1 (slice_index rules.founders place) (blank_at place i))) in
     rows
     ∙ by_place_all (slice_index rules.founders) (map member_life (by_place g)) 0 (length-map (by_place g) member_life ∙ length-by_place g)
     (λ k low. get_or-map member_life (by_place g) k blank_row ∙ ap member_life (get_or-by_place g k blank_row low) ∙ life_back (slice_index rules.founders k))
@@ -109,7 +109,7 @@ first_none founders reports is = λ name.
     ap (λ (r : ℕ → Report). r name) is ∙ rw low refl
 
 pub first_more : (founders : List ℕ) (reports new : ℕ → Report) (high : ℕ) → FirstReports founders reports high
-    → new ≡ (if has founders high then reported reports high (record { stored = 1; taken = 0 }) else reports) → FirstReports founders new (high + 1)
+    → new ≡ (if has founders high then after_report reports high (record { stored = 1; taken = 0 }) else reports) → FirstReports founders new (high + 1)
 first_more founders reports new high before is = λ name.
     let past : nat_lt high high ≡ false = grind (arith, nat_tests) in
     let zero : reports high ≡ no_report = before high ∙ rw past refl in
@@ -117,7 +117,7 @@ first_more founders reports new high before is = λ name.
     ap (λ (r : ℕ → Report). r name) is ∙ split (name == high)
     (λ e.
     let same : name ≡ high = grind (arith, nat_tests) in
-    subst (λ n. (if has founders high then reported reports high (record { stored = 1; taken = 0 }) else reports) n
+    subst (λ n. (if has founders high then after_report reports high (record { stored = 1; taken = 0 }) else reports) n
     ≡ (if nat_lt n (high + 1) && has founders n then record { stored = 1; taken = 0 } else no_report)) (sym same)
     (split (has founders high)
     (λ t. let own : (high == high) ≡ true = grind (arith, nat_tests) in rw (t, next, own, zero) refl)

@@ -1,11 +1,11 @@
 -- A packet is heard where its kind is, by the row of its kind.
-use Rattle.std.proofs.Common.{◌≡◌, ◌∙◌, ℕ, Bool, true, false, refl}
+use Rattle.std.proofs.Common.{◌≡◌, ◌∙◌, true, false, refl}
 use Rattle.am_packet.specs.declared.packet.Packet.{Packet}
 use Rattle.am_packet.specs.declared.packet.Packet.TheVariants.{Request, Spread, Bcast, Order, Accept, Ack, Nack, Hold, JoinAsk, Welcome, LeaveAsk, Gone, Invite}
 use Rattle.am_packet.specs.declared.packet.Packet.TheVariants.{Vote, Fetch, Piece, Result, HandOver}
 use Rattle.am_base.specs.declared.outcome.Outcome.TheVariants as said
 use Rattle.am_model.specs.Node.{Node}
-use Rattle.am_model.specs.Emit.{Plan, quiet}
+use Rattle.am_model.specs.Emit.{quiet}
 use Rattle.am_model.specs.Hearing.{where_heard, hear_row}
 use Rattle.am_node.specs.Heard.{is_heard, heard_row}
 

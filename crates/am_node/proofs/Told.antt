@@ -3,7 +3,7 @@ use Rattle.std.proofs.Common.{◌≡◌, ℕ, ◌&&◌, ◌==◌, if◌then◌el
 use Rattle.am_base.specs.declared.image.Image.{Image}
 use Rattle.am_base.specs.Lists.{members_of}
 use Rattle.am_base.specs.Stamps.{stamp_eq}
-use Rattle.am_model.specs.Node.{Node, top, told, is_member}
+use Rattle.am_model.specs.Node.{Node, top, image_of, is_member}
 use Rattle.am_model.specs.Ends.{IsEndOf}
 use Rattle.am_handlers.proofs.Plans.{told_end, top_end}
 use Rattle.am_node.specs.declared.info.Info.{Info}
@@ -29,5 +29,5 @@ info_with m image last = record {
 pub info_at_end : (x m : Node) → IsEndOf x m → info_of m ≡ info_of x
 info_at_end x m end =
     ap (λ image. info_with m image (top m)) (told_end x m end)
-    ∙ ap (λ last. info_with m (told x) last) (top_end x m end)
+    ∙ ap (λ last. info_with m (image_of x) last) (top_end x m end)
     ∙ ap info_of end.same

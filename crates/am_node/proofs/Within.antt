@@ -1,5 +1,5 @@
 -- The numbers of a packet that is heard are within their limits, by its kind.
-use Rattle.std.proofs.Common.{ℕ, ◌≤◌, List, Bool}
+use Rattle.std.proofs.Common.{ℕ, ◌≤◌, List}
 use Rattle.am_base.specs.declared.entry.Entry.{Entry}
 use Rattle.am_base.specs.declared.image.Image.{Image}
 use Rattle.am_base.specs.declared.image.Report.{Report}

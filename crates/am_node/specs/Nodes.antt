@@ -1,9 +1,10 @@
 -- What a node wants before a step.
-use Rattle.std.specs.Prelude.{◌≡◌, ◌+◌, ◌<◌, Option, IsSome}
+use Rattle.std.specs.Prelude.{◌≡◌, ◌≢◌, ◌+◌, ◌<◌, List, [], Option, IsSome}
 use Rattle.am_base.specs.declared.entry.Entry.{Entry}
 use Rattle.am_base.specs.declared.event.NodeEvent.{NodeEvent}
 use Rattle.am_base.specs.declared.event.NodeEvent.TheVariants as does
 use Rattle.am_base.specs.Most.{most_number}
+use Rattle.am_packet.specs.Boxes.{Letter}
 use Rattle.am_model.specs.Node.{Node, top}
 
 -- none of its numbers is at its end
@@ -13,5 +14,11 @@ pub record HasNumbersLeft (m : Node) : Type 0 where
   pub requests : m.sends.last < most_number
 
 -- where an entry is taken, there is a place for it
-abbrev pub HasPlace : NodeEvent → Option Entry → Type 0
-HasPlace event spare = event ≡ does.Take → IsSome spare
+abbrev pub HasPlace : Node → NodeEvent → Option Entry → Type 0
+HasPlace m event spare = event ≡ does.Take → m.core.taken ≢ m.core.acc → IsSome spare
+
+-- a node may do a step of this event, with this place for an entry, and with what is in the box for its letters
+pub record MayStep (m : Node) (event : NodeEvent) (spare : Option Entry) (letters : List Letter) : Type 0 where
+  pub numbers : HasNumbersLeft m
+  pub place : HasPlace m event spare
+  pub empty : letters ≡ []

@@ -1,9 +1,8 @@
 ghost use Rattle.std.specs.Prelude.{◌≡◌, ◌≤◌, EachIndex, slice_index, true, IfOk, if◌then◌else◌};
+ghost use Rattle.am_handlers.specs.Prelude.{has, node_of};
 ghost use Rattle.am_base.specs.Founding.{MayFound};
-ghost use Rattle.am_base.specs.Names.{has};
-ghost use Rattle.am_fronts.specs.Reports.{reports_of, reported, no_report};
+ghost use Rattle.am_fronts.specs.Reports.{reports_of, after_report, no_report};
 ghost use Rattle.am_model.specs.Node.{founder, stranger, founders_view, founding_stamp};
-ghost use Rattle.am_handlers.specs.Parts.{node_of};
 
 use am_base::entry::Entry;
 use am_base::founding::Founding;
@@ -78,7 +77,7 @@ pub fn stranger(alloc: Global, name: Name, founding: &Founding) -> Result<Parts,
 
 /// A founder has stored the founders' View.
 fn report_first(fronts: &mut Fronts, founders: Names, name: Name)
-    ensures { reports_of fronts.new ≡ (if has founders name then reported
+    ensures { reports_of fronts.new ≡ (if has founders name then after_report
         (reports_of fronts.old) name (record { stored = 1; taken = 0 }) else
         reports_of fronts.old) }
 {
@@ -105,7 +104,7 @@ fn first_reports(founders: Names) -> Fronts
 }
 
 /// The core of a founder.
-fn founded(alloc: Global, name: Name, founding: &Founding) -> Result<Core<History>, AllocError>
+fn founder_core(alloc: Global, name: Name, founding: &Founding) -> Result<Core<History>, AllocError>
     ensures { IfOk result (λ core. core ≡ (founder founding.now name).core) }
 {
     let mut core = blank(alloc, name, founding)?;
@@ -123,7 +122,7 @@ pub fn founder(alloc: Global, name: Name, founding: &Founding) -> Result<Parts, 
     ensures { IfOk result (λ p. node_of p ≡ founder founding.now name) }
 {
     let fronts = first_reports(founding.founders());
-    let core = founded(alloc, name, founding)?;
+    let core = founder_core(alloc, name, founding)?;
     Ok(Parts {
         core,
         status: Status::Member,

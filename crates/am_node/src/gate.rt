@@ -1,6 +1,6 @@
 ghost use Rattle.std.specs.Prelude.{◌≡◌};
+ghost use Rattle.am_handlers.specs.Prelude.{node_of};
 ghost use Rattle.am_model.specs.Hearing.{hears_member, hears_asking, hears_in_view, hears_as_sequencer, hears_sequencer};
-ghost use Rattle.am_handlers.specs.Parts.{node_of};
 ghost use Rattle.am_node.specs.Heard.{is_heard};
 
 use am_base::name::{Name, Stamp};

@@ -1,11 +1,8 @@
-ghost use Rattle.std.specs.Prelude.{◌≡◌, ◌≢◌, [], true, false, if◌then◌else◌};
-ghost use Rattle.am_base.specs.Limits.{IsNumber};
-ghost use Rattle.am_codec.specs.Limits.{IsWithin};
+ghost use Rattle.std.specs.Prelude.{◌≡◌, ◌≢◌, [], true, false};
+ghost use Rattle.am_handlers.specs.Prelude.{IsNumber, IsWithin, node_of, Performs};
 ghost use Rattle.am_codec.specs.Reading.{reading};
-ghost use Rattle.am_model.specs.Hearing.{hear_row, hears_in_view};
+ghost use Rattle.am_model.specs.Hearing.{hear_row};
 ghost use Rattle.am_model.specs.Step.{read_row};
-ghost use Rattle.am_model.specs.Ends.{Does};
-ghost use Rattle.am_handlers.specs.Parts.{node_of};
 ghost use Rattle.am_node.specs.Heard.{is_heard, heard_row, spread_at};
 ghost use Rattle.am_node.specs.Nodes.{HasNumbersLeft};
 
@@ -42,8 +39,8 @@ fn on_body(
     requires req { IsNumber req }
     requires numbers { HasNumbersLeft (node_of parts.old) }
     requires empty { out.old ≡ [] }
-    ensures { Does (λ m. spread_at m from report req body.now) (node_of parts.old) result out.new
-        (node_of parts.new) }
+    ensures { Performs (λ m. spread_at m from report req body.now) parts.old
+        result out.new parts.new }
 {
     if parts.is_sequencer() {
         return on_request(parts, from, report, req, body, true, out);
@@ -52,13 +49,12 @@ fn on_body(
 }
 
 /// Does the row of a packet of the view in which the node acts, or that names join and leave by.
-fn heard(parts: &mut Parts, packet: &Packet, out: &mut OutBox) -> Outcome
+fn heard_row(parts: &mut Parts, packet: &Packet, out: &mut OutBox) -> Outcome
     requires heard { is_heard (node_of parts.old) packet.now ≡ true }
     requires within { IsWithin packet.now }
     requires numbers { HasNumbersLeft (node_of parts.old) }
     requires empty { out.old ≡ [] }
-    ensures { Does (λ m. heard_row m packet.now) (node_of parts.old) result out.new
-        (node_of parts.new) }
+    ensures { Performs (λ m. heard_row m packet.now) parts.old result out.new parts.new }
 {
     match packet {
         Packet::Request {
@@ -161,13 +157,12 @@ pub fn on_packet(parts: &mut Parts, packet: &Packet, out: &mut OutBox) -> Outcom
     requires within { IsWithin packet.now }
     requires numbers { HasNumbersLeft (node_of parts.old) }
     requires empty { out.old ≡ [] }
-    ensures { Does (λ m. hear_row m packet.now) (node_of parts.old) result out.new
-        (node_of parts.new) }
+    ensures { Performs (λ m. hear_row m packet.now) parts.old result out.new parts.new }
 {
     if is_heard(parts, packet) {
-        return heard(parts, packet, out);
+        return heard_row(parts, packet, out);
     }
-    let before = parts.accepted();
+    let before = parts.accept_front();
     finish_quietly(parts, before, Outcome::Elsewhere, out)
 }
 
@@ -176,13 +171,12 @@ pub fn on_packet(parts: &mut Parts, packet: &Packet, out: &mut OutBox) -> Outcom
 pub fn on_bytes(parts: &mut Parts, bytes: &[u8], out: &mut OutBox) -> Outcome
     requires numbers { HasNumbersLeft (node_of parts.old) }
     requires empty { out.old ≡ [] }
-    ensures { Does (λ m. read_row m (reading bytes.now)) (node_of parts.old) result out.new
-        (node_of parts.new) }
+    ensures { Performs (λ m. read_row m (reading bytes.now)) parts.old result out.new parts.new }
 {
     match &decode(bytes) {
         Ok(packet) => on_packet(parts, packet, out),
         Err(refusal) => {
-            let before = parts.accepted();
+            let before = parts.accept_front();
             let cause = refusal.cause();
             finish_quietly(parts, before, Outcome::Refused { cause }, out)
         }

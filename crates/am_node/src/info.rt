@@ -1,6 +1,6 @@
 ghost use Rattle.std.specs.Prelude.{◌≡◌, option_map};
+ghost use Rattle.am_handlers.specs.Prelude.{node_of};
 ghost use Rattle.am_ballots.specs.Kept.{ballot_of};
-ghost use Rattle.am_handlers.specs.Parts.{node_of};
 ghost use Rattle.am_node.specs.Info.{role_by, role_of, info_of, waited_in, waited_for, end_of, ballot_end};
 
 use am_ballots::ballot::Ballot;
@@ -58,6 +58,7 @@ pub enum BallotEnd {
     Ended(Outcome),
 }
 
+/// The role that a status gives to who leads nothing.
 fn role_by(status: Status) -> Role
     ensures { result ≡ role_by status }
 {
@@ -69,6 +70,7 @@ fn role_by(status: Status) -> Role
     }
 }
 
+/// The role of a node: that of its unfinished ballot, that of its own view, or that of its status.
 fn role_of(parts: &Parts) -> Role
     ensures { result ≡ role_of (node_of parts.now) }
 {
@@ -100,6 +102,7 @@ pub fn info_of(parts: &Parts) -> Info
     }
 }
 
+/// The names whose votes a ballot waits for that was last answered this.
 fn waited_in(answer: &Outcome) -> Names
     ensures { result ≡ waited_in answer.now }
 {
@@ -119,10 +122,11 @@ pub fn waited_for(ballot: &Option<Ballot>) -> Names
     }
 }
 
+/// How a ballot stands.
 fn end_of(ballot: &Ballot) -> BallotEnd
     ensures { result ≡ end_of (ballot_of ballot.now) }
 {
-    let answer = ballot.answer().copied();
+    let answer = ballot.answer().copy();
     if ballot.is_over() {
         return BallotEnd::Ended(answer);
     }

@@ -1,4 +1,4 @@
-ghost use Rattle.am_base.specs.Most.{most_number};
+ghost use Rattle.am_handlers.specs.Prelude.{most_number};
 
 use crate::acting::on_event;
 use crate::founding;
@@ -24,15 +24,11 @@ pub struct Node {
 }
 
 impl Node {
-    ghost use Rattle.std.specs.Prelude.{◌≡◌, ◌≤◌, [], length, true, false, IfOk};
-    ghost use Rattle.std.specs.Prelude.{option_map};
+    ghost use Rattle.std.specs.Prelude.{◌≡◌, ◌==◌, ◌≤◌, [], length, not, true, IfOk};
     ghost use Rattle.std.specs.Option.{option_copied};
-    ghost use Rattle.am_base.specs.Names.{has};
-    ghost use Rattle.am_base.specs.Lists.{entry_at};
-    ghost use Rattle.am_core.specs.Cores.{IsInOrder};
-    ghost use Rattle.am_model.specs.Node.{founder, stranger, top, told, view, members};
+    ghost use Rattle.am_handlers.specs.Prelude.{entry_at, has, IsInOrder, members, image_of, top, view, Does, Tells};
+    ghost use Rattle.am_model.specs.Node.{founder, stranger};
     ghost use Rattle.am_model.specs.Step.{row};
-    ghost use Rattle.am_model.specs.Ends.{Tells, Does};
     ghost use Rattle.am_sender.specs.Sends.{is_settled};
     ghost use Rattle.am_node.specs.Info.{info_of, ballot_end, waited_for};
     ghost use Rattle.am_node.specs.Nodes.{HasNumbersLeft, HasPlace};
@@ -40,8 +36,8 @@ impl Node {
 
     /// Does one step: answer, letters and next state are those of the table of steps (docs/PROTOCOL.md, "Steps of a
     /// node"), for any event and any bytes. Bytes that spell no packet are refused by their cause. It takes no memory: an
-    /// entry that is taken goes where the spare one was, which only a Take wants. The out box must be empty, and no number of
-    /// the node at its end.
+    /// entry that is taken goes where the spare one was, which only a Take wants that finds one. The out box must be empty,
+    /// and no number of the node at its end.
     pub fn step(
         &mut self,
         event: &NodeEvent,
@@ -49,7 +45,7 @@ impl Node {
         out: &mut OutBox,
     ) -> Outcome
         requires numbers { HasNumbersLeft (state_of self.old) }
-        requires place { HasPlace event.now spare }
+        requires place { HasPlace (state_of self.old) event.now spare }
         requires empty { out.old ≡ [] }
         ensures does { Does (λ m. row m event.now) (state_of self.old) result out.new
             (state_of self.new) }
@@ -86,10 +82,10 @@ impl Node {
     }
 
     /// Whether its send of a request has its number, and isn't collected yet.
-    pub fn settled(&self, req: u32) -> bool
+    pub fn is_settled(&self, req: u32) -> bool
         ensures { result ≡ is_settled req (state_of self.now).sends }
     {
-        self.parts.sender.settled(req)
+        self.parts.sender.is_settled(req)
     }
 
     /// How its ballot of a round stands; None where its last ballot's round is lower, or it had none.
@@ -104,6 +100,13 @@ impl Node {
         ensures { result ≡ waited_for (state_of self.now).ballot }
     {
         info::waited_for(&self.parts.ballot)
+    }
+
+    /// Whether there is an accepted entry that its application hasn't taken.
+    pub fn has_next(&self) -> bool
+        ensures { result ≡ not ((state_of self.now).core.taken == (state_of self.now).core.acc) }
+    {
+        self.parts.core.taken != self.parts.core.acc
     }
 
     /// Its name.
@@ -135,11 +138,11 @@ impl Node {
     }
 
     /// Up to where it knows the list to be accepted.
-    pub fn accepted(&self) -> u32
+    pub fn accept_front(&self) -> u32
         ensures value { result ≡ (state_of self.now).core.acc }
         ensures order { IsInOrder (state_of self.now).core }
     {
-        self.parts.accepted()
+        self.parts.accept_front()
     }
 
     /// The number of its last entry.
@@ -166,14 +169,14 @@ impl Node {
 
     /// The number of the last View.
     pub fn view_number(&self) -> u32
-        ensures { result ≡ (told (state_of self.now)).view_number }
+        ensures { result ≡ (image_of (state_of self.now)).view_number }
     {
         self.parts.core.log.view_number()
     }
 
     /// The resilience of the last View.
     pub fn resilience(&self) -> u8
-        ensures { result ≡ (told (state_of self.now)).resilience }
+        ensures { result ≡ (image_of (state_of self.now)).resilience }
     {
         self.parts.core.log.resilience()
     }

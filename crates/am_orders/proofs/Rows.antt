@@ -9,7 +9,7 @@ use Rattle.am_base.specs.declared.image.Row.{Row}
 use Rattle.am_base.specs.declared.entry.Entry.{Entry}
 use Rattle.am_base.specs.declared.entry.Entry.TheVariants.{Data, Join, Leave, View}
 use Rattle.am_base.specs.Names.{has, place_of, life_of}
-use Rattle.am_base.specs.Lists.{blank_row, blank, is_blank, row_of, member_life, members_of, with_row, viewed, after, fits}
+use Rattle.am_base.specs.Lists.{blank_row, blank, is_blank, row_of, member_life, members_of, with_row, row_after_view, after, fits}
 use Rattle.am_model.specs.Claims.{request_in}
 use Rattle.am_chain_lists.proofs.Rows.{row_at, In, by_cases, and_left, and_right, mod16, row_set, row_view, blank_joined}
 
@@ -47,12 +47,12 @@ next_joined r joiner n life next up may h = record {
   own = λ j l. ⊎_elim (λ (x : r.joined ≡ 0). h.free x) (λ (x : r.life < joiner). let y : r.life < life = omega arith in h.younger y) may;
 }
 
-next_first : (r : Row) (n given life next : ℕ) → r.joined ≡ 0 → IsNext r life next → IsNext (viewed true n given r) life next
+next_first : (r : Row) (n given life next : ℕ) → r.joined ≡ 0 → IsNext r life next → IsNext (row_after_view true n given r) life next
 next_first r n given life next z h = by_cases (given == 0)
     (λ t. rw t h)
     (λ f. let one : 0 < 1 = omega arith in rw f (next_joined r given 1 life next one (inl z) h))
 
-next_viewed : (r : Row) (n given life next : ℕ) → IsNext r life next → IsNext (viewed false n given r) life next
+next_viewed : (r : Row) (n given life next : ℕ) → IsNext r life next → IsNext (row_after_view false n given r) life next
 next_viewed r n given life next h = by_cases (nat_lt 0 (member_life r) && not (member_life r == given))
     (λ t. rw t (next_left r n life next h))
     (λ f. rw f h)

@@ -12,8 +12,8 @@ use Rattle.am_base.specs.Founding.{Rules}
 use Rattle.am_base.specs.Names.{has}
 use Rattle.am_group.specs.declared.event.Act.{Act}
 use Rattle.am_model.specs.Node.{Node, Ballot, is_member}
-use Rattle.am_model.specs.Ballots.{Verdict, overtaken}
-use Rattle.am_model.specs.World.{World, start, current, is_stopped, unchanged, stepped}
+use Rattle.am_model.specs.Ballots.{Verdict, overtake}
+use Rattle.am_model.specs.World.{World, start, current, is_stopped, with_record, with_step}
 use Rattle.am_model.specs.Group.{has_log}
 use Rattle.am_model.proofs.Greatest.{split, and_both}
 use Rattle.am_effects.specs.Causes.{Cause, calls, hears, refuses}
@@ -97,7 +97,7 @@ balloted c m b (as_it_is old o on) z = let y = o.last in absurd (cc)
 balloting_log : (w : World) (i : ℕ) (c : Cause) (m : Node) (b : Ballot) → Balloting c m b → NodeOk w i m → has_log m.status ≡ true
 balloting_log w i c m b why h = split (has_log m.status) (λ t. t) (λ f. absurd (balloted c m b why (h.blank f)))
 
-overtaken_ok : (w : World) (i : ℕ) (promise v : Stamp) (b : Option Ballot) → AtMost promise v → LastOk w i promise b → LastOk w i v (overtaken v b)
+overtaken_ok : (w : World) (i : ℕ) (promise v : Stamp) (b : Option Ballot) → AtMost promise v → LastOk w i promise b → LastOk w i v (overtake v b)
 overtaken_ok w i promise v None low h = tt
 overtaken_ok w i promise v (Some b) low h = split (not b.is_over && stamp_lt b.stamp v)
     (λ t. rw t (record { own = h.own; low = λ f. absurd (cc); high = λ f. absurd (cc); given = h.given; answer = tt }))
@@ -109,8 +109,8 @@ overtaken_ok w i promise v (Some b) low h = split (not b.is_over && stamp_lt b.s
       answer = h.answer;
     }))
 
-overtaken_none : (v : Stamp) (b : Option Ballot) → b ≡ None → overtaken v b ≡ None
-overtaken_none v b e = ap (overtaken v) e
+overtaken_none : (v : Stamp) (b : Option Ballot) → b ≡ None → overtake v b ≡ None
+overtaken_none v b e = ap (overtake v) e
 
 ballot_change : (w : World) (i : ℕ) (c : Cause) (o : Outcome) (m n : Node) → MayGive w c → Change c o m n → NodeOk w i m → NodeOk w i n
 ballot_change w i c o m n g refreshes h = let r = (rests_refresh m).rests in same_ballot w i m n r.who r.promise r.ballot (ap has_log r.status) h
@@ -165,7 +165,7 @@ cause_gives w i a (hears p) is = tt
 cause_gives w i a refuses is = tt
 
 each_keeps : EachKeeps AllOk
-unfolding unchanged stepped
+unfolding with_record with_step
 each_keeps w e v (idles o idle) h = record { each = λ i. more_stopped w v i (w.nodes i) (λ name t. t) (h.each i) }
 each_keeps w e v (stops runs) h = record { each = λ i. more_stopped w v i (w.nodes i) (λ name t. still_stopped w.stopped (actor w e) name t) (h.each i) }
 each_keeps w e v (returns place is gone more) h = record {

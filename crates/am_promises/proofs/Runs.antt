@@ -11,7 +11,7 @@ use Rattle.am_packet.specs.Boxes.{Letter}
 use Rattle.am_codec.specs.Spelling.{sender_of, stamp_of}
 use Rattle.am_group.specs.declared.event.Act.{Act}
 use Rattle.am_model.specs.Node.{Node, set_at, founding_stamp}
-use Rattle.am_model.specs.World.{World, start, unchanged, stepped, run}
+use Rattle.am_model.specs.World.{World, start, with_record, with_step, run}
 use Rattle.am_model.specs.Claims.{heard_by}
 use Rattle.am_model.proofs.Greatest.{split}
 use Rattle.am_effects.specs.Causes.{Cause, calls, hears, refuses}
@@ -60,7 +60,7 @@ own_begun nodes i n p = ⊎_elim
     p.begun
 
 pub each_keeps : EachKeeps AllBegun
-unfolding unchanged stepped
+unfolding with_record with_step
 each_keeps w e v (idles o idle) h = record { who = h.who; each = h.each; letters = h.letters }
 each_keeps w e v (stops runs) h = record { who = h.who; each = h.each; letters = h.letters }
 each_keeps w e v (returns place is gone more) h = record { who = h.who; each = h.each; letters = h.letters }

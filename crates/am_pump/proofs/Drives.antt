@@ -3,13 +3,14 @@ use Rattle.std.proofs.Common.{◌≡◌, ℕ, zero, suc, ◌+◌, ◌≤◌, ◌
 use Rattle.std.proofs.lemmas.List.{length-append}
 use Rattle.std.proofs.lemmas.List.Sums.{count_by-le-length}
 use Rattle.am_base.specs.Founding.{Rules}
+use Rattle.rand_pcg.specs.Lcg.{Lcg}
 use Rattle.am_group.specs.declared.event.Act.{Act}
 use Rattle.am_model.specs.World.{World}
 use Rattle.am_base.specs.Outcomes.{is_sent}
 use Rattle.am_model.specs.Settle.{event_at}
 use Rattle.am_world.specs.Runs.{Play, after}
-use Rattle.am_pump.specs.Choices.{draw, drawn}
-use Rattle.am_pump.specs.Generating.{Drive, generated_rules, sent_by, begun, turn_of, act_at, turned, done_at, driven, drive, generated}
+use Rattle.am_pump.specs.Choices.{draw, after_draw}
+use Rattle.am_pump.specs.Generating.{Drive, generated_rules, sent_by, first_drive, turn_of, act_at, after_turn, do_turn, drive_once, drive, events_of_seed}
 use Rattle.am_pump.specs.declared.generator.Turn.{Turn}
 use Rattle.am_pump.specs.declared.generator.Turn.TheVariants as turn
 
@@ -20,37 +21,43 @@ few_sent w place = count_by-le-length (λ r. is_sent r.outcome && (r.event.node 
 
 -- ---- one event
 
-turned_play : (d : Drive) (place : ℕ) (t : Turn) → (turned d place t).play ≡ d.play
-unfolding turned
+turned_play : (d : Drive) (place : ℕ) (t : Turn) → (after_turn d place t).play ≡ d.play
+unfolding after_turn
 turned_play d place turn.Send = refl
 turned_play d place turn.Done = refl
 turned_play d place turn.Take = refl
 turned_play d place turn.Tick = refl
 turned_play d place turn.Choose = refl
 
+-- two words are drawn
+pub drawn_twice : {d inside : Drive} {first second : Lcg} → inside ≡ d → first ≡ after_draw inside.words → second ≡ after_draw first
+    → record inside { words = second } ≡ record d { words = after_draw (after_draw d.words) }
+drawn_twice {d} {inside} {first} {second} same one two =
+    ap (λ (w : Lcg). record inside { words = w }) (two ∙ ap after_draw one) ∙ ap (λ (x : Drive). record x { words = after_draw (after_draw x.words) }) same
+
 -- all is drawn, a place turns, and its act happens
-pub step_is : (d mid next new : Drive) (place : ℕ) (t : Turn) (a : Act) → mid ≡ record d { words = drawn (drawn d.words) } → place ≡ draw d.words 4
-    → t ≡ turn_of (draw (drawn d.words) 16)
-    → a ≡ act_at mid place t → next ≡ turned mid place t → new ≡ record next { play = after next.play (event_at place a) } → new ≡ driven d
-unfolding driven
+pub step_is : (d mid next new : Drive) (place : ℕ) (t : Turn) (a : Act) → mid ≡ record d { words = after_draw (after_draw d.words) } → place ≡ draw d.words 4
+    → t ≡ turn_of (draw (after_draw d.words) 16)
+    → a ≡ act_at mid place t → next ≡ after_turn mid place t → new ≡ record next { play = after next.play (event_at place a) } → new ≡ drive_once d
+unfolding drive_once
 step_is d mid next new place t a words at turns acts goes is =
-    let done : Play → Drive = λ p. record (turned mid place t) { play = after p (event_at place (act_at mid place t)) } in
+    let done : Play → Drive = λ p. record (after_turn mid place t) { play = after p (event_at place (act_at mid place t)) } in
     is
     ∙ (λ k. record (goes k) { play = after (goes k).play (event_at place (acts k)) })
     ∙ ap done (turned_play mid place t)
-    ∙ (λ k. done_at (words k) (at k) (turns k))
+    ∙ (λ k. do_turn (words k) (at k) (turns k))
 
-pub same_play : (d mid next : Drive) (place : ℕ) (t : Turn) → mid ≡ record d { words = drawn (drawn d.words) } → next ≡ turned mid place t → next.play ≡ d.play
+pub same_play : (d mid next : Drive) (place : ℕ) (t : Turn) → mid ≡ record d { words = after_draw (after_draw d.words) } → next ≡ after_turn mid place t → next.play ≡ d.play
 same_play d mid next place t words goes = ap (λ x. x.play) goes ∙ turned_play mid place t ∙ ap (λ x. x.play) words
 
 -- ---- how many events there are
 
-pub one_more : (d : Drive) → length (driven d).play.events ≡ length d.play.events + 1
-unfolding driven
+pub one_more : (d : Drive) → length (drive_once d).play.events ≡ length d.play.events + 1
+unfolding drive_once
 one_more d = length-append d.play.events (_ ∷ [])
 
-pub rules_stay : (d : Drive) → (driven d).play.rules ≡ d.play.rules
-unfolding driven
+pub rules_stay : (d : Drive) → (drive_once d).play.rules ≡ d.play.rules
+unfolding drive_once
 rules_stay d = refl
 
 pub so_many : (count : ℕ) (d : Drive) → length (drive count d).play.events ≡ length d.play.events + count
@@ -63,11 +70,11 @@ unfolding drive
 same_rules zero d = refl
 same_rules (suc count) d = rules_stay (drive count d) ∙ same_rules count d
 
-pub drive_next : (count : ℕ) (d : Drive) → drive (count + 1) d ≡ driven (drive count d)
+pub drive_next : (count : ℕ) (d : Drive) → drive (count + 1) d ≡ drive_once (drive count d)
 unfolding drive
 drive_next count d = let next : count + 1 ≡ suc count = omega arith in ap (λ k. drive k d) next
 
 -- the whole run
-pub play_is : (seed count : ℕ) → (drive count (begun seed)).play ≡ record { rules = generated_rules; events = generated seed count }
-unfolding generated
-play_is seed count = ap (λ (r : Rules). record { rules = r; events = (drive count (begun seed)).play.events }) (same_rules count (begun seed))
+pub play_is : (seed count : ℕ) → (drive count (first_drive seed)).play ≡ record { rules = generated_rules; events = events_of_seed seed count }
+unfolding events_of_seed
+play_is seed count = ap (λ (r : Rules). record { rules = r; events = (drive count (first_drive seed)).play.events }) (same_rules count (first_drive seed))

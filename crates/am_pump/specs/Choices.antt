@@ -18,8 +18,8 @@ words_of seed stream = started 64 multiplier_64 seed (increment_of 64 stream)
 abbrev pub draw : Lcg → ℕ → ℕ
 draw words bound = (pcg32 words).0 % bound
 
-abbrev pub drawn : Lcg → Lcg
-drawn words = (pcg32 words).1
+abbrev pub after_draw : Lcg → Lcg
+after_draw words = (pcg32 words).1
 
 -- ---- choices
 
@@ -49,7 +49,7 @@ choice_of luck (Some ahead) last = turn_by luck.loss luck.repeat (draw luck.word
 -- a word is drawn where one is
 abbrev pub luck_after : Luck → Option ℕ → Luck
 luck_after luck None = luck
-luck_after luck (Some ahead) = record luck { words = drawn luck.words }
+luck_after luck (Some ahead) = record luck { words = after_draw luck.words }
 
 -- what a node does by a choice
 abbrev pub act_of : Choice → Act
@@ -59,8 +59,8 @@ act_of (choice.Hear number) = act.Hear number
 act_of (choice.Repeat number) = act.Hear number
 
 -- how far it is then
-abbrev pub progressed : Progress → Choice → Progress
-progressed p choice.Tick = p
-progressed p (choice.Lose number) = record p { cursor = number }
-progressed p (choice.Hear number) = record { cursor = number; last = Some number }
-progressed p (choice.Repeat number) = p
+abbrev pub progress_after : Progress → Choice → Progress
+progress_after p choice.Tick = p
+progress_after p (choice.Lose number) = record p { cursor = number }
+progress_after p (choice.Hear number) = record { cursor = number; last = Some number }
+progress_after p (choice.Repeat number) = p

@@ -13,7 +13,7 @@ use Rattle.am_model.specs.World.{World}
 use Rattle.am_base.specs.Outcomes.{is_sent}
 use Rattle.am_model.specs.Settle.{event_at}
 use Rattle.am_world.specs.Runs.{Play, replay, after}
-use Rattle.am_pump.specs.Choices.{words_of, draw, drawn, Luck, choice_of, luck_after, act_of, progressed}
+use Rattle.am_pump.specs.Choices.{words_of, draw, after_draw, Luck, choice_of, luck_after, act_of, progress_after}
 use Rattle.am_pump.specs.declared.chooser.Choice.{Choice}
 use Rattle.am_pump.specs.declared.generator.Turn.{Turn}
 use Rattle.am_pump.specs.declared.generator.Turn.TheVariants as turn
@@ -30,16 +30,16 @@ pub record Drive : Type 0 where
   pub luck : Luck
   pub progress : List Progress
 
-abbrev pub unheard : Progress
-unheard = record { cursor = 0; last = None }
+abbrev pub no_progress : Progress
+no_progress = record { cursor = 0; last = None }
 
 -- of a hundred letters ten are lost, and five more repeated
-abbrev pub begun : ℕ → Drive
-begun seed = record {
+abbrev pub first_drive : ℕ → Drive
+first_drive seed = record {
   play = record { rules = generated_rules; events = [] };
   words = words_of seed 1000;
   luck = record { words = words_of seed 1001; loss = 10; repeat = 5 };
-  progress = replicate 4 unheard;
+  progress = replicate 4 no_progress;
 }
 
 -- what a number below 16 asks for
@@ -64,11 +64,11 @@ abbrev pub sent_by : World → ℕ → ℕ
 sent_by w place = count_by (λ r. is_sent r.outcome && (r.event.node == place)) w.records
 
 abbrev pub progress_at : Drive → ℕ → Progress
-progress_at d place = slice_index_or d.progress place unheard
+progress_at d place = slice_index_or d.progress place no_progress
 
 -- what the chooser says for a place
-abbrev pub chosen : Drive → ℕ → Choice
-chosen d place = choice_of d.luck (next_for (replay d.play).letters place (progress_at d place).cursor) (progress_at d place).last
+abbrev pub choice_at : Drive → ℕ → Choice
+choice_at d place = choice_of d.luck (next_for (replay d.play).letters place (progress_at d place).cursor) (progress_at d place).last
 
 -- what a place does at a turn
 unfoldable pub act_at : Drive → ℕ → Turn → Act
@@ -76,32 +76,32 @@ act_at d place turn.Send = act.Send (counting (number_after (replay d.play)) (dr
 act_at d place turn.Done = act.Done (sent_by (replay d.play) place + 1)
 act_at d place turn.Take = act.Take
 act_at d place turn.Tick = act.Tick
-act_at d place turn.Choose = act_of (chosen d place)
+act_at d place turn.Choose = act_of (choice_at d place)
 
 -- what is drawn for that, and how far the place is then
-unfoldable pub turned : Drive → ℕ → Turn → Drive
-turned d place turn.Send = record d { words = drawn d.words }
-turned d place turn.Done = d
-turned d place turn.Take = d
-turned d place turn.Tick = d
-turned d place turn.Choose = record d {
+unfoldable pub after_turn : Drive → ℕ → Turn → Drive
+after_turn d place turn.Send = record d { words = after_draw d.words }
+after_turn d place turn.Done = d
+after_turn d place turn.Take = d
+after_turn d place turn.Tick = d
+after_turn d place turn.Choose = record d {
   luck = luck_after d.luck (next_for (replay d.play).letters place (progress_at d place).cursor);
-  progress = slice_set d.progress place (progressed (progress_at d place) (chosen d place));
+  progress = slice_set d.progress place (progress_after (progress_at d place) (choice_at d place));
 }
 
 -- a place's turn is done
-abbrev pub done_at : Drive → ℕ → Turn → Drive
-done_at d place t = record (turned d place t) { play = after d.play (event_at place (act_at d place t)) }
+abbrev pub do_turn : Drive → ℕ → Turn → Drive
+do_turn d place t = record (after_turn d place t) { play = after d.play (event_at place (act_at d place t)) }
 
 -- one event more: the first word says which place it is, and the second what it does
-unfoldable pub driven : Drive → Drive
-driven d = done_at (record d { words = drawn (drawn d.words) }) (draw d.words 4) (turn_of (draw (drawn d.words) 16))
+unfoldable pub drive_once : Drive → Drive
+drive_once d = do_turn (record d { words = after_draw (after_draw d.words) }) (draw d.words 4) (turn_of (draw (after_draw d.words) 16))
 
 -- so many events more
 unfoldable pub drive : ℕ → Drive → Drive
 drive zero d = d
-drive (suc count) d = driven (drive count d)
+drive (suc count) d = drive_once (drive count d)
 
 -- the first events of a seed
-unfoldable pub generated : ℕ → ℕ → List Event
-generated seed count = (drive count (begun seed)).play.events
+unfoldable pub events_of_seed : ℕ → ℕ → List Event
+events_of_seed seed count = (drive count (first_drive seed)).play.events

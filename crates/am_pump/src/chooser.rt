@@ -75,7 +75,7 @@ impl Chooser {
     }
 
     /// The same chooser.
-    pub fn copied(&self) -> Result<Chooser, NoMemory>
+    pub fn try_copy(&self) -> Result<Chooser, NoMemory>
         ensures { IfOk result (λ chooser. chooser ≡ self.now) }
     {
         Ok(Chooser {

@@ -1,6 +1,6 @@
 ghost use Rattle.std.specs.Prelude.{◌≡◌, ◌<◌, length, IfOk, IfErr};
 ghost use Rattle.am_base.specs.Most.{most_events};
-ghost use Rattle.am_pump.specs.Generating.{generated_rules, generated};
+ghost use Rattle.am_pump.specs.Generating.{generated_rules, events_of_seed};
 ghost use Rattle.am_world.specs.declared.world.WorldRefusal.TheVariants as refusals;
 
 use crate::generator::Generator;
@@ -12,7 +12,7 @@ use std::alloc::Global;
 /// more than 100,000.
 pub fn generate(alloc: Global, seed: u64, count: u32) -> Result<World, WorldRefusal>
     ensures world { IfOk result (λ world. world
-        ≡ record { rules = generated_rules; events = generated seed count }) }
+        ≡ record { rules = generated_rules; events = events_of_seed seed count }) }
     ensures count { IfOk result (λ world. length world.events ≡ count) }
     ensures spent { IfErr result (λ refusal. refusal ≡ refusals.Spent → most_events < count) }
 {

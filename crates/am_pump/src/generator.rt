@@ -1,13 +1,13 @@
-ghost use Rattle.std.specs.Prelude.{◌≡◌, ◌<◌, ◌≤◌};
+ghost use Rattle.std.specs.Prelude.{◌≡◌, ◌<◌, ◌≤◌, IfOk};
 ghost use Rattle.am_base.specs.Most.{most_events};
-ghost use Rattle.am_pump.specs.Choices.{draw, drawn};
+ghost use Rattle.am_pump.specs.Choices.{draw, after_draw};
 ghost use Rattle.am_pump.specs.Counts.{ends_sent};
 ghost use Rattle.am_pump.specs.Generating.{generated_rules, turn_of, counting};
 
 use crate::chooser::Chooser;
 use crate::progress::Progress;
 use am_base::NoMemory;
-use am_base::body::Body;
+use am_base::body::SentBody;
 use am_base::founding::Founding;
 use am_base::name::Name;
 use am_base::names::Names;
@@ -54,25 +54,22 @@ fn turn_of(number: u32) -> Turn
 fn draw(words: &mut Lcg64Xsh32, bound: u32) -> u32
     requires { 0 < bound }
     ensures value { result ≡ draw words.old bound }
-    ensures drawn { words.new ≡ drawn words.old }
+    ensures drawn { words.new ≡ after_draw words.old }
 {
     words.next_word() % bound
 }
 
 /// A body whose bytes count on from a number.
-fn counting(number: usize, size: usize) -> Body
+fn counting(alloc: Global, number: usize, size: usize) -> Result<SentBody, NoMemory>
     requires number { number ≤ 100001 }
     requires size { size ≤ 512 }
-    ensures { result ≡ counting number size }
+    ensures { IfOk result (λ body. body ≡ counting number size) }
 {
     let mut bytes = [0; MOST_DRAWN];
     for index in 0..size {
         bytes[index] = ((number + index) % 256) as u8;
     }
-    match Body::of(&bytes[..size]) {
-        Some(body) => body,
-        None => unreachable!(),
-    }
+    Ok(SentBody::of_bytes(alloc, &bytes[..size])?)
 }
 
 /// Whether the last of the records tells that a send stands in the list.
@@ -122,13 +119,13 @@ impl Model for Generator {
 impl Generator {
     ghost use Rattle.std.specs.Prelude.{OnOk, IfOk, IfErr, length};
     ghost use Rattle.am_model.specs.Settle.{event_at};
-    ghost use Rattle.am_pump.specs.Generating.{begun, act_at, sent_by, turned, driven};
+    ghost use Rattle.am_pump.specs.Generating.{first_drive, act_at, sent_by, after_turn, drive_once};
     ghost use Rattle.am_world.specs.Runs.{after, replay};
     ghost use Rattle.am_world.specs.declared.world.WorldRefusal.TheVariants as refusals;
 
     /// The run of a seed, to which nothing has happened.
     pub fn new(alloc: Global, seed: u64) -> Result<Generator, NoMemory>
-        ensures { IfOk result (λ g. g ≡ begun seed) }
+        ensures { IfOk result (λ g. g ≡ first_drive seed) }
     {
         Ok(Generator {
             alloc,
@@ -152,11 +149,11 @@ impl Generator {
     }
 
     /// What the chooser says for a place.
-    #[tactic(auto, unfolding(crate::specs::Generating::act_at, crate::specs::Generating::turned))]
+    #[tactic(auto, unfolding(crate::specs::Generating::act_at, crate::specs::Generating::after_turn))]
     fn choose(&mut self, place: u8) -> Act
         requires { place < 4 }
         ensures act { result ≡ act_at self.old place Turn.Choose }
-        ensures turned { self.new ≡ turned self.old place Turn.Choose }
+        ensures turned { self.new ≡ after_turn self.old place Turn.Choose }
     {
         let at = usize::from(place);
         let progress = self.progress[at];
@@ -167,22 +164,22 @@ impl Generator {
     }
 
     /// A place sends a body of a drawn size.
-    #[tactic(auto, unfolding(crate::specs::Generating::act_at, crate::specs::Generating::turned))]
+    #[tactic(auto, unfolding(crate::specs::Generating::act_at, crate::specs::Generating::after_turn))]
     fn send(&mut self, place: u8) -> Result<Act, NoMemory>
         ensures act { IfOk result (λ a. a ≡ act_at self.old place Turn.Send) }
-        ensures turned { self.new ≡ turned self.old place Turn.Send }
+        ensures turned { self.new ≡ after_turn self.old place Turn.Send }
     {
         let number = self.world.journal().records().len() + 1;
         let size = draw(&mut self.words, 513) as usize;
-        Act::send(self.alloc, counting(number, size))
+        Ok(Act::Send(counting(self.alloc, number, size)?))
     }
 
     /// What a place does at its turn, where all is drawn that is to be drawn for it.
-    #[tactic(auto, unfolding(crate::specs::Generating::act_at, crate::specs::Generating::turned))]
+    #[tactic(auto, unfolding(crate::specs::Generating::act_at, crate::specs::Generating::after_turn))]
     fn act(&mut self, place: u8, turn: Turn) -> Result<Act, NoMemory>
         requires { place < 4 }
         ensures act { IfOk result (λ a. a ≡ act_at self.old place turn) }
-        ensures turned { self.new ≡ turned self.old place turn }
+        ensures turned { self.new ≡ after_turn self.old place turn }
     {
         match turn {
             Turn::Send => self.send(place),
@@ -211,9 +208,9 @@ impl Generator {
 
     /// Does the next event. After a refusal nothing more is to be done: NoMemory where there is no memory for it, and Spent
     /// only where 100,000 events were done.
-    #[tactic(auto, unfolding(crate::specs::Generating::driven))]
+    #[tactic(auto, unfolding(crate::specs::Generating::drive_once))]
     pub fn step(&mut self) -> Result<(), WorldRefusal>
-        ensures ok { OnOk result (self.new ≡ driven self.old) }
+        ensures ok { OnOk result (self.new ≡ drive_once self.old) }
         ensures spent { IfErr result (λ refusal. refusal ≡ refusals.Spent
             → length self.old.play.events ≡ most_events) }
     {

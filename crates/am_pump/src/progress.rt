@@ -1,7 +1,7 @@
 ghost use Rattle.std.specs.Prelude.{◌≡◌, None};
 ghost use Rattle.am_group.specs.Addressed.{next_for};
 ghost use Rattle.am_group.specs.Journals.{letters_of};
-ghost use Rattle.am_pump.specs.Choices.{progressed};
+ghost use Rattle.am_pump.specs.Choices.{progress_after};
 
 use crate::chooser::Choice;
 use am_base::name::Name;
@@ -36,7 +36,7 @@ impl Progress {
 
     /// How far it is after a choice: a letter that is heard or lost moves the cursor, and one that is repeated nothing.
     pub fn after(self, choice: Choice) -> Progress
-        ensures { result ≡ progressed self choice }
+        ensures { result ≡ progress_after self choice }
     {
         match choice {
             Choice::Lose(number) => Progress {

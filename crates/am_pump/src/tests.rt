@@ -34,7 +34,7 @@ fn a_generated_run_has_these_packets(rt: HostRuntime) -> Result<(), Fail> {
         let world = generate(rt.alloc(), seed, count).ok().ok_or("a world")?;
         assert_eq!(rt; world.journal().packets(), packets);
         assert_eq!(rt; world.group().len(), entries);
-        assert_eq!(rt; world.broken(), None);
+        assert_eq!(rt; world.broken_at(), None);
     }
     Ok(())
 }

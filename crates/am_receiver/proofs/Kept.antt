@@ -4,10 +4,10 @@ use Rattle.std.specs.List.{list_any}
 use Rattle.am_base.specs.declared.entry.Entry.{Entry}
 use Rattle.am_base.specs.Names.{names_of, without_name}
 use Rattle.am_packet.specs.Boxes.{Letter, with_letter}
-use Rattle.am_model.specs.Node.{Node, told, members, only_name, pushed}
+use Rattle.am_model.specs.Node.{Node, image_of, members, only_name, push_entry}
 use Rattle.am_model.specs.Emit.{ack_of}
 use Rattle.am_model.specs.Refresh.{refresh_at_end}
-use Rattle.am_model.specs.Receiving.{bodies_after, acknowledges, stored}
+use Rattle.am_model.specs.Receiving.{bodies_after, acknowledges, store_fitting}
 use Rattle.am_model.specs.Ends.{IsEndOf, Tells}
 use Rattle.am_receiver.specs.Pieces.{ack_where}
 use Rattle.am_handlers.proofs.Keeping.{at_end_who}
@@ -17,11 +17,11 @@ end_who : (mid new : Node) → IsEndOf (refresh_at_end mid) new → (n : Node) �
 end_who mid new end n is = sym (ap (λ (x : Node). x.core.who) is.same) ∙ ap (λ (x : Node). x.core.who) end.same ∙ at_end_who mid
 
 pub stored_letters : (m : Node) (e : Entry) (to : ℕ) (is_due : Bool) (mid new : Node) (letters : List Letter)
-    → is_due ≡ acknowledges (pushed m e) to (pushed m e) → mid ≡ record (pushed m e) { bodies = bodies_after m.bodies e } → IsEndOf (refresh_at_end mid) new
+    → is_due ≡ acknowledges (push_entry m e) to (push_entry m e) → mid ≡ record (push_entry m e) { bodies = bodies_after m.bodies e } → IsEndOf (refresh_at_end mid) new
     → Tells (ack_where is_due to) new letters
-    → Tells (stored m to 0 e).letters new letters
+    → Tells (store_fitting m to 0 e).letters new letters
 stored_letters m e to is_due mid new letters due node end tells = λ n is.
     let who = end_who mid new end n is ∙ ap (λ (x : Node). x.core.who) node in
-    let same : is_due ≡ acknowledges (pushed m e) to n = due
-    ∙ ap (λ w. list_any (λ name. name == w) (take (told (pushed m e)).resilience (names_of (without_name (members (pushed m e)) to)))) (sym who) in
+    let same : is_due ≡ acknowledges (push_entry m e) to n = due
+    ∙ ap (λ w. list_any (λ name. name == w) (take (image_of (push_entry m e)).resilience (names_of (without_name (members (push_entry m e)) to)))) (sym who) in
     tells n is ∙ ap (λ b. if b then with_letter (only_name to) (ack_of n) [] else []) same

@@ -8,7 +8,7 @@ use Rattle.am_handlers.specs.Finishing.{Done}
 use Rattle.am_handlers.proofs.Plans.{done_whole}
 use Rattle.am_core.specs.Cores.{CoreState, Keeps, IsInOrder}
 use Rattle.am_model.specs.Node.{Node}
-use Rattle.am_model.specs.Receiving.{noted, received}
+use Rattle.am_model.specs.Receiving.{with_noted, receive_entry}
 use Rattle.am_model.specs.Ends.{IsEndOf}
 use Rattle.am_handlers.specs.Keeps.{NodeKeeps, IsSteady}
 use Rattle.am_handlers.proofs.Doing.{core_changes}
@@ -17,22 +17,22 @@ use Rattle.am_handlers.proofs.Keeping.{keeps_steady, end_steady, end_keeps, stea
 use Rattle.am_receiver.specs.Pieces.{note}
 
 pub noted_end : (m : Node) (core : CoreState) (base acc : ℕ) → m.core.base ≡ m.core.log.start → Keeps (note base acc) m.core core
-    → IsEndOf (noted m base acc) (record m { core = core })
+    → IsEndOf (with_noted m base acc) (record m { core = core })
 noted_end m core base acc kept keeps = core_changes (note base acc) m core keeps m (end_self m kept)
 
-noted_steady : (m : Node) (base acc : ℕ) → IsSteady m (noted m base acc)
+noted_steady : (m : Node) (base acc : ℕ) → IsSteady m (with_noted m base acc)
 noted_steady m base acc = record { who = refl; promise = refl; told = refl; top = refl; status = refl; ballot = refl; leaving = refl; sends = refl }
 
-pub end_noted_steady : (m n : Node) (base acc : ℕ) → IsEndOf (noted m base acc) n → IsSteady m n
-end_noted_steady m n base acc end = steady_then m (noted m base acc) n (noted_steady m base acc) (end_steady (noted m base acc) n end)
+pub end_noted_steady : (m n : Node) (base acc : ℕ) → IsEndOf (with_noted m base acc) n → IsSteady m n
+end_noted_steady m n base acc end = steady_then m (with_noted m base acc) n (noted_steady m base acc) (end_steady (with_noted m base acc) n end)
 
-pub end_noted_keeps : (m n : Node) (base acc : ℕ) → IsEndOf (noted m base acc) n → NodeKeeps m → NodeKeeps n
-end_noted_keeps m n base acc end keeps = end_keeps (noted m base acc) n end (keeps_steady m (noted m base acc) (noted_steady m base acc) keeps keeps.own)
+pub end_noted_keeps : (m n : Node) (base acc : ℕ) → IsEndOf (with_noted m base acc) n → NodeKeeps m → NodeKeeps n
+end_noted_keeps m n base acc end keeps = end_keeps (with_noted m base acc) n end (keeps_steady m (with_noted m base acc) (noted_steady m base acc) keeps keeps.own)
 
 -- what is done of an entry with the noted fronts, the whole node does
 pub noted_done : (before : ℕ) (m mid new : Node) (base acc from number : ℕ) (found : Option Entry) (missing answer : Outcome) (letters : List Letter)
-    → IsEndOf (noted m base acc) mid → IsInOrder mid.core → Done before (received mid from base number found missing) answer letters new
-    → Done before (received (noted m base acc) from base number found missing) answer letters new
+    → IsEndOf (with_noted m base acc) mid → IsInOrder mid.core → Done before (receive_entry mid from base number found missing) answer letters new
+    → Done before (receive_entry (with_noted m base acc) from base number found missing) answer letters new
 noted_done before m mid new base acc from number found missing answer letters end order did =
-    done_whole before (λ n. received n from base number found missing) (noted m base acc) mid new answer letters end order
+    done_whole before (λ n. receive_entry n from base number found missing) (with_noted m base acc) mid new answer letters end order
     (λ all keeps. alike_received all mid from base number found missing keeps) did

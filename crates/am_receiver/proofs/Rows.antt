@@ -5,9 +5,9 @@ use Rattle.am_base.specs.declared.entry.Entry.{Entry}
 use Rattle.am_base.specs.declared.outcome.Outcome.{Outcome}
 use Rattle.am_base.specs.declared.outcome.Outcome.TheVariants as said
 use Rattle.am_base.specs.Lists.{Log, fits}
-use Rattle.am_model.specs.Node.{Node, top, told, only_name, has_own_leave, is_within_bound}
+use Rattle.am_model.specs.Node.{Node, top, image_of, only_name, has_own_leave, is_within_bound}
 use Rattle.am_model.specs.Emit.{quiet, telling, ack_of, nack_of}
-use Rattle.am_model.specs.Receiving.{noted, accept_row, received, is_view, stored, store}
+use Rattle.am_model.specs.Receiving.{with_noted, accept_row, receive_entry, is_view, store_fitting, store}
 use Rattle.am_model.specs.Ends.{with_log, Tells}
 use Rattle.am_ends.proofs.Nodes.{Keeps}
 use Rattle.am_ends.proofs.Plans.{Alike, says_ack, says_nack, alike_saying, alike_telling, alike_where}
@@ -17,12 +17,12 @@ use Rattle.am_receiver.specs.Pieces.{accepting}
 -- ---- an Accept
 
 pub accept_short : (m : Node) (from base acc high stored : ℕ) (poll : Bool) → stored ≡ top m → (nat_lt (top m) high && not (has_own_leave m)) ≡ true
-    → accept_row m from base acc high poll ≡ telling (noted m base acc) (said.Gap (stored + 1)) (only_name from) nack_of
+    → accept_row m from base acc high poll ≡ telling (with_noted m base acc) (said.Gap (stored + 1)) (only_name from) nack_of
 unfolding accept_row
-accept_short m from base acc high stored poll is short = rw short (ap (λ k. telling (noted m base acc) (said.Gap (k + 1)) (only_name from) nack_of) (sym is))
+accept_short m from base acc high stored poll is short = rw short (ap (λ k. telling (with_noted m base acc) (said.Gap (k + 1)) (only_name from) nack_of) (sym is))
 
 pub accept_all : (m : Node) (from base acc high : ℕ) (poll : Bool) → (nat_lt (top m) high && not (has_own_leave m)) ≡ false
-    → accept_row m from base acc high poll ≡ accepting m.core.acc poll from (noted m base acc)
+    → accept_row m from base acc high poll ≡ accepting m.core.acc poll from (with_noted m base acc)
 unfolding accept_row
 accept_all m from base acc high poll none = rw none refl
 
@@ -52,26 +52,26 @@ accept_same before acc poll to n m is same =
 -- ---- a numbered entry
 
 pub received_known : (m : Node) (from base number : ℕ) (e : Option Entry) (missing : Outcome) → number ≤ top m
-    → received m from base number e missing ≡ quiet m said.Known
+    → receive_entry m from base number e missing ≡ quiet m said.Known
 received_known m from base number e missing low =
     let test : nat_le number (top m) ≡ true = grind (arith, nat_tests) in
     rw test refl
 
 pub received_left : (m : Node) (from base number : ℕ) (e : Option Entry) (missing : Outcome) → top m < number → has_own_leave m ≡ true
-    → received m from base number e missing ≡ quiet m said.Behind
+    → receive_entry m from base number e missing ≡ quiet m said.Behind
 received_left m from base number e missing high left =
     let test : nat_le number (top m) ≡ false = grind (arith, nat_tests) in
     rw (test, left) refl
 
 pub received_gap : (m : Node) (from base number want : ℕ) (e : Option Entry) (missing : Outcome) → want ≡ top m → want + 1 < number → has_own_leave m ≡ false
-    → received m from base number e missing ≡ telling m (said.Gap (want + 1)) (only_name from) nack_of
+    → receive_entry m from base number e missing ≡ telling m (said.Gap (want + 1)) (only_name from) nack_of
 received_gap m from base number want e missing is high stays =
     let test : nat_le number (top m) ≡ false = grind (arith, nat_tests) in
     let far : nat_lt (top m + 1) number ≡ true = grind (arith, nat_tests) in
     rw (test, stays, far) (ap (λ k. telling m (said.Gap (k + 1)) (only_name from) nack_of) (sym is))
 
 pub received_past : (m : Node) (from base number : ℕ) (e : Option Entry) (missing : Outcome) → number ≡ top m + 1 → has_own_leave m ≡ false
-    → m.core.taken < base → received m from base number e missing ≡ quiet m said.Behind
+    → m.core.taken < base → receive_entry m from base number e missing ≡ quiet m said.Behind
 received_past m from base number e missing next stays past =
     let test : nat_le number (top m) ≡ false = grind (arith, nat_tests) in
     let near : nat_lt (top m + 1) number ≡ false = grind (arith, nat_tests) in
@@ -79,7 +79,7 @@ received_past m from base number e missing next stays past =
     rw (test, stays, near, low) refl
 
 pub received_next : (m : Node) (from base number : ℕ) (e : Option Entry) (missing : Outcome) → number ≡ top m + 1 → has_own_leave m ≡ false
-    → base ≤ m.core.taken → received m from base number e missing ≡ store m from number e missing
+    → base ≤ m.core.taken → receive_entry m from base number e missing ≡ store m from number e missing
 received_next m from base number e missing next stays low =
     let test : nat_le number (top m) ≡ false = grind (arith, nat_tests) in
     let near : nat_lt (top m + 1) number ≡ false = grind (arith, nat_tests) in
@@ -87,18 +87,18 @@ received_next m from base number e missing next stays low =
     rw (test, stays, near, there) refl
 
 pub store_unfit : (m : Node) (from number : ℕ) (e : Entry) (missing : Outcome)
-    → (is_view e || (not (fits (told m) e) || not (is_within_bound m m.core.base number))) ≡ true → store m from number (Some e) missing ≡ quiet m said.Unfit
+    → (is_view e || (not (fits (image_of m) e) || not (is_within_bound m m.core.base number))) ≡ true → store m from number (Some e) missing ≡ quiet m said.Unfit
 store_unfit m from number e missing unfit = rw unfit refl
 
 pub store_fit : (m : Node) (from number : ℕ) (e : Entry) (missing : Outcome)
-    → (is_view e || (not (fits (told m) e) || not (is_within_bound m m.core.base number))) ≡ false
-    → store m from number (Some e) missing ≡ stored m from number e
+    → (is_view e || (not (fits (image_of m) e) || not (is_within_bound m m.core.base number))) ≡ false
+    → store m from number (Some e) missing ≡ store_fitting m from number e
 store_fit m from number e missing fit = rw fit refl
 
 -- what an entry has that isn't unfit
 pub record IsFit (m : Node) (number : ℕ) (e : Entry) : Type 0 where
   pub plain : is_view e ≡ false
-  pub fits : fits (told m) e ≡ true
+  pub fits : fits (image_of m) e ≡ true
   pub bound : number - m.core.base ≤ m.core.rules.window + 15
 
 bound_of : (number base most : ℕ) → not (nat_le (number - base) most) ≡ false → number - base ≤ most
@@ -110,8 +110,8 @@ fit_by false false b h = absurd (cc)
 fit_by false true true h = (refl, refl, refl)
 fit_by false true false h = absurd (cc)
 
-pub is_fit : (m : Node) (number : ℕ) (e : Entry) → (is_view e || (not (fits (told m) e) || not (is_within_bound m m.core.base number))) ≡ false
+pub is_fit : (m : Node) (number : ℕ) (e : Entry) → (is_view e || (not (fits (image_of m) e) || not (is_within_bound m m.core.base number))) ≡ false
     → IsFit m number e
 is_fit m number e h =
-    let is = fit_by (is_view e) (fits (told m) e) (is_within_bound m m.core.base number) h in
+    let is = fit_by (is_view e) (fits (image_of m) e) (is_within_bound m m.core.base number) h in
     record { plain = is.0; fits = is.1; bound = bound_of number m.core.base (m.core.rules.window + 15) is.2 }

@@ -1,15 +1,9 @@
-ghost use Rattle.std.specs.Prelude.{◌≡◌, ℕ, ◌+◌, ◌≤◌, ◌<◌, [], Some, true, false, nat_lt, ◌&&◌, not, length, IfSome};
+ghost use Rattle.std.specs.Prelude.{◌≡◌, ◌+◌, ◌≤◌, ◌<◌, [], Some, false, nat_lt, ◌&&◌, not, length, IfSome};
 ghost use Rattle.std.specs.Option.{option_copied};
-ghost use Rattle.am_base.specs.Limits.{IsNumber, IsEntry};
-ghost use Rattle.am_core.specs.Cores.{Keeps, IsInOrder};
-ghost use Rattle.am_model.specs.Node.{top, waiting, is_member, is_sequencer, has_own_leave};
-ghost use Rattle.am_model.specs.Receiving.{noted, accept_row, bcast_row, order_row, received, own_body, body_of, data_of};
-ghost use Rattle.am_model.specs.Ends.{IsEndOf, Does};
-ghost use Rattle.am_handlers.specs.Parts.{node_of};
-ghost use Rattle.am_handlers.specs.Cores.{CoreTells};
-ghost use Rattle.am_handlers.specs.Keeps.{IsSteady};
-ghost use Rattle.am_handlers.specs.Finishing.{Done};
-ghost use Rattle.am_receiver.specs.Pieces.{note, ack_where, accepting};
+ghost use Rattle.am_handlers.specs.Prelude.{IsNumber, IsEntry, IsInOrder, has_own_leave, is_sequencer, top, waiting, IsEndOf, CoreTells, IsSteady, node_of, Finishes, Performs};
+ghost use Rattle.am_core.specs.Cores.{Keeps};
+ghost use Rattle.am_model.specs.Receiving.{with_noted, accept_row, bcast_row, order_row, receive_entry, own_body, body_of, data_of};
+ghost use Rattle.am_receiver.specs.Pieces.{note, ack_where, accepting, Follows};
 
 use crate::storing::store;
 use am_base::body::Body;
@@ -18,7 +12,7 @@ use am_base::name::Name;
 use am_base::outcome::Outcome;
 use am_core::log::Log;
 use am_core::state::Core;
-use am_handlers::finishing::{finish_asking, finish_quietly};
+use am_handlers::finishing::{OneLetter, finish_quietly, finish_telling};
 use am_handlers::packets::{ack, only};
 use am_handlers::parts::Parts;
 use am_letter::out_box::OutBox;
@@ -35,15 +29,15 @@ fn note_fronts<L: Log>(core: &mut Core<L>, base: u32, acc: u32)
 
 /// Notes what the sequencer's packet tells of its fronts.
 fn note(parts: &mut Parts, base: u32, acc: u32)
-    ensures end { IsEndOf (noted (node_of parts.old) base acc) (node_of parts.new) }
+    ensures end { IsEndOf (with_noted (node_of parts.old) base acc) (node_of parts.new) }
     ensures steady { IsSteady (node_of parts.old) (node_of parts.new) }
     ensures status { parts.new.status ≡ parts.old.status }
     ensures leads { is_sequencer (node_of parts.new) ≡ is_sequencer (node_of parts.old) }
     ensures order { IsInOrder parts.new.core }
 {
-    let _before = parts.accepted();
+    let _before = parts.accept_front();
     note_fronts(&mut parts.core, base, acc);
-    let _after = parts.accepted();
+    let _after = parts.accept_front();
 }
 
 /// Whether the node's own Leave stands in its list.
@@ -74,16 +68,22 @@ pub fn send_ack_where<L: Log>(is_due: bool, core: &Core<L>, to: Name, out: &mut 
 }
 
 /// The end of a step that noted how far the list is accepted. It tells whether that rose.
-fn accepted_to(parts: &mut Parts, before: u32, poll: bool, from: Name, out: &mut OutBox) -> Outcome
+fn finish_accepting(
+    parts: &mut Parts,
+    before: u32,
+    poll: bool,
+    from: Name,
+    out: &mut OutBox,
+) -> Outcome
     requires { out.old ≡ [] }
-    ensures { Done before (accepting before poll from (node_of parts.old)) result out.new
-        (node_of parts.new) }
+    ensures { Finishes before (accepting before poll from (node_of parts.old))
+        result out.new parts.new }
 {
-    let _before = parts.accepted();
+    let _before = parts.accept_front();
     parts.end();
     send_ack_where(poll, &parts.core, from, out);
     parts.tell_accepted(before, false, false, out);
-    let acc = parts.accepted();
+    let acc = parts.accept_front();
     if before < acc {
         return Outcome::Advanced { acc };
     }
@@ -103,21 +103,22 @@ pub fn on_accept(
     out: &mut OutBox,
 ) -> Outcome
     requires { out.old ≡ [] }
-    ensures { Does (λ m. accept_row m from base acc high poll) (node_of parts.old) result out.new
-        (node_of parts.new) }
+    ensures { Performs (λ m. accept_row m from base acc high poll) parts.old
+        result out.new parts.new }
 {
-    let before = parts.accepted();
+    let before = parts.accept_front();
     let stored = parts.core.log.top();
     let short = is_short_of(parts, high);
     note(parts, base, acc);
     if short {
-        return finish_asking(parts, before, from, Outcome::Gap { want: stored + 1 }, out);
+        let answer = Outcome::Gap { want: stored + 1 };
+        return finish_telling(parts, before, from, OneLetter::Nack, answer, out);
     }
-    accepted_to(parts, before, poll, from, out)
+    finish_accepting(parts, before, poll, from, out)
 }
 
 /// Does what a numbered entry asks for, once its fronts are noted.
-fn received(
+fn receive_entry(
     parts: &mut Parts,
     before: u32,
     from: Name,
@@ -127,13 +128,12 @@ fn received(
     missing: Outcome,
     out: &mut OutBox,
 ) -> Outcome
-    requires member { is_member (node_of parts.old).status ≡ true }
-    requires follows { is_sequencer (node_of parts.old) ≡ false }
+    requires follows { Follows (node_of parts.old) }
     requires number { IsNumber number }
     requires entry { IfSome found (λ e. IsEntry e.now) }
     requires empty { out.old ≡ [] }
-    ensures { Done before (received (node_of parts.old) from base number
-        (option_copied found.entry) missing) result out.new (node_of parts.new) }
+    ensures { Finishes before (receive_entry (node_of parts.old) from base number
+        (option_copied found.entry) missing) result out.new parts.new }
 {
     let top = parts.core.log.top();
     if number <= top {
@@ -143,14 +143,15 @@ fn received(
         return finish_quietly(parts, before, Outcome::Behind, out);
     }
     if top + 1 < number {
-        return finish_asking(parts, before, from, Outcome::Gap { want: top + 1 }, out);
+        let answer = Outcome::Gap { want: top + 1 };
+        return finish_telling(parts, before, from, OneLetter::Nack, answer, out);
     }
     if parts.core.taken < base {
         return finish_quietly(parts, before, Outcome::Behind, out);
     }
     match found {
         Some(entry) => store(parts, before, from, number, entry, out),
-        None => finish_asking(parts, before, from, missing, out),
+        None => finish_telling(parts, before, from, OneLetter::Nack, missing, out),
     }
 }
 
@@ -168,17 +169,16 @@ pub fn on_bcast(
     entry: &Entry,
     out: &mut OutBox,
 ) -> Outcome
-    requires member { is_member (node_of parts.old).status ≡ true }
-    requires follows { is_sequencer (node_of parts.old) ≡ false }
+    requires follows { Follows (node_of parts.old) }
     requires number { IsNumber number }
     requires entry { IsEntry entry.now }
     requires empty { out.old ≡ [] }
-    ensures { Does (λ m. bcast_row m from base acc number entry.now)
-        (node_of parts.old) result out.new (node_of parts.new) }
+    ensures { Performs (λ m. bcast_row m from base acc number entry.now) parts.old
+        result out.new parts.new }
 {
-    let before = parts.accepted();
+    let before = parts.accept_front();
     note(parts, base, acc);
-    received(
+    receive_entry(
         parts,
         before,
         from,
@@ -203,7 +203,7 @@ fn own_body(parts: &Parts, from: Name, req: u32) -> Option<&Body>
 }
 
 /// The Data of a send whose body was spread; None where the node has no such body.
-fn ordered(parts: &Parts, from: Name, req: u32) -> Option<Entry>
+fn data_of(parts: &Parts, from: Name, req: u32) -> Option<Entry>
     requires { IsNumber req }
     ensures value { result ≡ data_of from req (body_of (node_of parts.now) from req) }
     ensures within { IfSome result (λ e. IsEntry e) }
@@ -212,7 +212,7 @@ fn ordered(parts: &Parts, from: Name, req: u32) -> Option<Entry>
     Some(Entry::Data {
         from,
         req,
-        body: body.copied(),
+        body: body.copy(),
     })
 }
 
@@ -229,19 +229,18 @@ pub fn on_order(
     req: u32,
     out: &mut OutBox,
 ) -> Outcome
-    requires member { is_member (node_of parts.old).status ≡ true }
-    requires follows { is_sequencer (node_of parts.old) ≡ false }
+    requires follows { Follows (node_of parts.old) }
     requires number { IsNumber number }
     requires req { IsNumber req }
     requires empty { out.old ≡ [] }
-    ensures { Does (λ m. order_row m sequencer base acc number from req)
-        (node_of parts.old) result out.new (node_of parts.new) }
+    ensures { Performs (λ m. order_row m sequencer base acc number from req) parts.old
+        result out.new parts.new }
 {
-    let before = parts.accepted();
+    let before = parts.accept_front();
     let missing = Outcome::NoBody { from, req };
-    let found = ordered(parts, from, req);
+    let found = data_of(parts, from, req);
     note(parts, base, acc);
-    received(
+    receive_entry(
         parts,
         before,
         sequencer,

@@ -1,13 +1,9 @@
-ghost use Rattle.std.specs.Prelude.{◌≡◌, ℕ, ◌+◌, ◌-◌, ◌≤◌, ◌<◌, ◌==◌, [], Some, true, false, nat_lt, take, count_by, ◌||◌, not, length};
+ghost use Rattle.std.specs.Prelude.{◌≡◌, ◌+◌, ◌-◌, ◌<◌, ◌==◌, [], Some, true, false, nat_lt, take, count_by, ◌||◌, not};
 ghost use Rattle.std.specs.List.{list_any};
+ghost use Rattle.am_handlers.specs.Prelude.{IsNumber, IsEntry, fits, IsSet, names_of, is_within_bound, image_of, top, node_of, Finishes};
 ghost use Rattle.am_base.specs.declared.outcome.Outcome.{Outcome};
-ghost use Rattle.am_base.specs.Limits.{IsNumber, IsEntry};
-ghost use Rattle.am_base.specs.Lists.{fits};
-ghost use Rattle.am_base.specs.Names.{IsSet, names_of};
-ghost use Rattle.am_model.specs.Node.{told, top, is_member, is_sequencer, is_within_bound};
-ghost use Rattle.am_model.specs.Receiving.{is_view, bodies_after, acknowledges, stored, store};
-ghost use Rattle.am_handlers.specs.Parts.{node_of};
-ghost use Rattle.am_handlers.specs.Finishing.{Done};
+ghost use Rattle.am_model.specs.Receiving.{is_view, bodies_after, acknowledges, store};
+ghost use Rattle.am_receiver.specs.Pieces.{Follows};
 
 use crate::receiver::send_ack_where;
 use am_base::entry::Entry;
@@ -20,6 +16,7 @@ use am_handlers::finishing::finish_quietly;
 use am_handlers::parts::Parts;
 use am_letter::out_box::OutBox;
 
+/// Whether an entry is a View.
 fn is_view(entry: &Entry) -> bool
     ensures { result ≡ is_view entry.now }
 {
@@ -34,7 +31,7 @@ fn is_view(entry: &Entry) -> bool
 /// Whether an entry may not be stored with this number.
 fn is_unfit(parts: &Parts, number: u32, entry: &Entry) -> bool
     ensures value { result ≡ (is_view entry.now
-        || (not (fits (told (node_of parts.now)) entry.now)
+        || (not (fits (image_of (node_of parts.now)) entry.now)
         || not (is_within_bound (node_of parts.now) parts.now.core.base number))) }
     ensures kept { parts.now.core.base ≡ parts.now.core.log.start }
 {
@@ -63,6 +60,7 @@ fn drop_bodies(parts: &mut Parts, entry: &Entry)
     drop_from(&mut parts.pool, entry);
 }
 
+/// How many names of a set stand at lower places than this.
 fn lives_below(set: Names, place: u8) -> usize
     requires { place < 16 }
     ensures value { result ≡ count_by (λ life. nat_lt 0 life) (take place set) }
@@ -75,6 +73,7 @@ fn lives_below(set: Names, place: u8) -> usize
         .count()
 }
 
+/// Whether a name is among so many lowest ones of a set.
 fn is_among_lowest(set: Names, count: u8, name: Name) -> bool
     ensures { result ≡ list_any (λ other. other == name) (take count (names_of set)) }
 {
@@ -95,38 +94,8 @@ fn acknowledges(parts: &Parts, sequencer: Name) -> bool
     )
 }
 
-/// Stores an entry that fits behind the last one, and acknowledges it where that is due.
-fn keep(
-    parts: &mut Parts,
-    before: u32,
-    from: Name,
-    number: u32,
-    entry: &Entry,
-    out: &mut OutBox,
-) -> Outcome
-    requires plain { is_view entry.now ≡ false }
-    requires fits { fits (told (node_of parts.old)) entry.now ≡ true }
-    requires room { length parts.old.core.log.entries < parts.old.core.rules.window + 15 }
-    requires entry { IsEntry entry.now }
-    requires number { IsNumber number }
-    requires next { number ≡ top (node_of parts.old) + 1 }
-    requires member { is_member (node_of parts.old).status ≡ true }
-    requires follows { is_sequencer (node_of parts.old) ≡ false }
-    requires empty { out.old ≡ [] }
-    ensures { Done before (stored (node_of parts.old) from number entry.now) result out.new
-        (node_of parts.new) }
-{
-    let _before = parts.accepted();
-    parts.push(entry.copied());
-    drop_bodies(parts, entry);
-    let is_due = acknowledges(parts, from);
-    parts.end();
-    send_ack_where(is_due, &parts.core, from, out);
-    parts.tell_accepted(before, false, false, out);
-    Outcome::Stored { number }
-}
-
-/// Stores the entry that is told next, where it fits. Unfit where it doesn't, else Stored.
+/// Stores the entry that is told next, where it fits, and acknowledges it where that is due. Unfit where it doesn't fit, else
+/// Stored.
 pub fn store(
     parts: &mut Parts,
     before: u32,
@@ -138,15 +107,20 @@ pub fn store(
     requires entry { IsEntry entry.now }
     requires number { IsNumber number }
     requires next { number ≡ top (node_of parts.old) + 1 }
-    requires member { is_member (node_of parts.old).status ≡ true }
-    requires follows { is_sequencer (node_of parts.old) ≡ false }
+    requires follows { Follows (node_of parts.old) }
     requires empty { out.old ≡ [] }
-    ensures { (missing : Outcome) → Done before
-        (store (node_of parts.old) from number (Some entry.now) missing) result out.new
-        (node_of parts.new) }
+    ensures { (missing : Outcome) → Finishes before (store
+        (node_of parts.old) from number (Some entry.now) missing) result out.new parts.new }
 {
     if is_unfit(parts, number, entry) {
         return finish_quietly(parts, before, Outcome::Unfit, out);
     }
-    keep(parts, before, from, number, entry, out)
+    let _before = parts.accept_front();
+    parts.push(entry.copy());
+    drop_bodies(parts, entry);
+    let is_due = acknowledges(parts, from);
+    parts.end();
+    send_ack_where(is_due, &parts.core, from, out);
+    parts.tell_accepted(before, false, false, out);
+    Outcome::Stored { number }
 }

@@ -12,14 +12,15 @@ use Rattle.am_base.specs.Founding.{Rules}
 use Rattle.am_base.specs.Names.{place_of, has, names_of}
 use Rattle.am_base.specs.Fronts.{counted_at}
 use Rattle.am_group.specs.declared.event.Act.TheVariants as act
+use Rattle.am_group.specs.declared.event.Event.{Event}
 use Rattle.am_sender.specs.declared.OwnSend.{OwnSend}
-use Rattle.am_model.specs.Node.{Node, top, told, view, acts, is_sequencer, has_room, waiting, pushed}
+use Rattle.am_model.specs.Node.{Node, top, image_of, view, acts, is_sequencer, has_room, waiting, push_entry}
 use Rattle.am_model.specs.Emit.{Plan, finish}
 use Rattle.am_model.specs.Step.{step, row}
 use Rattle.am_model.specs.Calls.{would_emit, emit}
 use Rattle.am_model.specs.Ticks.{tick_row, and_result, put_off}
 use Rattle.am_model.specs.Settle.{event_at, running}
-use Rattle.am_model.specs.World.{World}
+use Rattle.am_model.specs.World.{World, happens}
 use Rattle.am_model.proofs.Greatest.{split, and_both}
 use Rattle.am_effects.proofs.Calls.{node_if}
 use Rattle.am_effects.proofs.Says.{told_pushed}
@@ -29,29 +30,29 @@ use Rattle.am_repair.specs.Calm.{Repair, Leads}
 use Rattle.am_repair.proofs.Ends.{fronts_rise}
 use Rattle.am_repair.proofs.Lists.{grows_push, counted_stays}
 use Rattle.am_repair.proofs.Ticks.{emitted, acting_row, leads_row, goes_not}
-use Rattle.am_repair.specs.Rounds.{ticks as our_ticks}
+use Rattle.am_repair.specs.Rounds.{IsOurs, ticks as our_ticks}
 use Rattle.am_repair.proofs.Schedules.{Hits, acts_hit}
 use Rattle.am_repair.proofs.Fine.{Fine, fine_goes, grow_goes, member_there, tick_is}
 use Rattle.am_repair.proofs.Ticking.{runs_there, Bounds, node_is, ticks_poll, ticks_report}
-use Rattle.am_repair.proofs.FirstWave.{Knows, first_wave_reports, Accepts, first_wave_accepts}
+use Rattle.am_repair.proofs.FirstWave.{Reaches, Knows, first_wave_reports, Accepts, first_wave_accepts}
 use Rattle.am_repair.proofs.ThirdWave.{HasStored}
 use Rattle.am_repair.proofs.Rounds.{wave_keep, after_ticks, after_waves, Stable, stored_stable, later_waves, ticks_keep}
 
 -- ---- the sequencer's tick
 
-reports_pushed : (m : Node) (high req : ℕ) (body : List ℕ) → HasReports m high → HasReports (pushed m (Data m.core.who req body)) high
+reports_pushed : (m : Node) (high req : ℕ) (body : List ℕ) → HasReports m high → HasReports (push_entry m (Data m.core.who req body)) high
 reports_pushed m high req body h =
     let e = Data m.core.who req body in
     let stored = h.stored in
-    let more : top (pushed m e) ≡ top m + 1 = simp length-append (omega arith) in
-    let number : (told (pushed m e)).view_number ≡ (told m).view_number = ap (λ (i : Image). i.view_number) (told_pushed m e)
-    ∙ (after_same (told m) (top m + 1) e refl).number in
+    let more : top (push_entry m e) ≡ top m + 1 = simp length-append (omega arith) in
+    let number : (image_of (push_entry m e)).view_number ≡ (image_of m).view_number = ap (λ (i : Image). i.view_number) (told_pushed m e)
+    ∙ (after_same (image_of m) (top m + 1) e refl).number in
     let view_ = h.view in
     record {
       stored = omega arith;
       view = omega arith;
       each = λ k above within low. subst (λ set. All (HasReported m high) (names_of set))
-          (sym (counted_stays m.core.log (pushed m e).core.log k (grows_push m.core.log e) (omega arith))) (h.each k above within (omega arith));
+          (sym (counted_stays m.core.log (push_entry m e).core.log k (grows_push m.core.log e) (omega arith))) (h.each k above within (omega arith));
     }
 
 emit_reports : (m : Node) (w : Option OwnSend) (o : Outcome) (high : ℕ) → HasReports m high → HasReports (emit m w o).node high
@@ -107,13 +108,17 @@ known_bound rules r = record {
       omega arith);
 }
 
+-- a number that the schedule's events raise
+reaches_stable : (rules : Rules) (r : Repair) (number : World → ℕ)
+    → ((w : World) (e : Event) → IsOurs r e → Fine rules r w → number w ≤ number (happens w e)) → Stable r (Reaches rules r number)
+reaches_stable rules r number up = record {
+  keeps = λ w e is h. (let a = up w e is h.fine in let b = h.high in record { fine = fine_goes rules r w e is h.fine; high = omega arith });
+}
+
 -- ---- the round in which all report
 
 knows_stable : (rules : Rules) (r : Repair) (i : ℕ) → has r.members i ≡ true → Stable r (Knows rules r i)
-knows_stable rules r i there = record {
-  keeps = λ w e is h. (let a = (grow_goes rules r w e is h.fine).kept i there in
-      let b = h.known in record { fine = fine_goes rules r w e is h.fine; known = omega arith });
-}
+knows_stable rules r i there = reaches_stable rules r (λ u. ((u.nodes r.by).reports i).stored) (λ w e is h. (grow_goes rules r w e is h).kept i there)
 
 pub round_reports : (rules : Rules) (r : Repair) (i : ℕ) (w : World) → r.sent ≤ length w.letters → has r.members i ≡ true → (i == r.by) ≡ false
     → HasStored rules r i r.high w → Knows rules r i (after_waves w)
@@ -126,10 +131,7 @@ round_reports rules r i w low there other h =
 -- ---- the round in which all accept
 
 accepts_stable : (rules : Rules) (r : Repair) (i : ℕ) → has r.members i ≡ true → Stable r (Accepts rules r i)
-accepts_stable rules r i there = record {
-  keeps = λ w e is h. (let a = (grow_goes rules r w e is h.fine).acc i there in
-      let b = h.accepted in record { fine = fine_goes rules r w e is h.fine; accepted = omega arith });
-}
+accepts_stable rules r i there = reaches_stable rules r (λ u. (u.nodes i).core.acc) (λ w e is h. (grow_goes rules r w e is h).acc i there)
 
 pub round_accepts : (rules : Rules) (r : Repair) (i : ℕ) (w : World) → r.sent ≤ length w.letters → has r.members i ≡ true → (i == r.by) ≡ false
     → HasStored rules r i r.high w → AllKnown r w → Accepts rules r i (after_waves w)
@@ -144,7 +146,7 @@ round_accepts rules r i w low there other h known =
 leader_ticks : (rules : Rules) (r : Repair) (w : World) → Fine rules r w → AllKnown r w → Accepts rules r r.by (after_ticks w)
 leader_ticks rules r w h known =
     let z = acts_hit P Q act.Tick (place_of r.by) hits (running w) w (runs_there w r.by (member_there rules r w r.by h h.calm.listed)) (h, known) in
-    record { fine = z.0.0; accepted = z.1 }
+    record { fine = z.0.0; high = z.1 }
   where
     P : World → Type 0
     P u = Fine rules r u × AllKnown r u

@@ -3,7 +3,7 @@ use Rattle.std.proofs.Common.{◌≡◌, ◌==◌, true, false, refl, sym, ap, �
 use Rattle.am_base.specs.declared.name.Stamp.{Stamp}
 use Rattle.am_base.specs.declared.outcome.Outcome.{Outcome}
 use Rattle.am_model.specs.Node.{Node, Ballot, view, is_member, is_sequencer}
-use Rattle.am_model.specs.Ballots.{overtaken}
+use Rattle.am_model.specs.Ballots.{overtake}
 use Rattle.am_model.specs.World.{World, has_departed}
 use Rattle.am_effects.specs.Causes.{Cause}
 use Rattle.am_effects.specs.Looks.{HasOpen}
@@ -75,7 +75,7 @@ apart_change r w c o m x y by other calm (promises v low why) h =
       who = h.who;
       there = h.there;
       apart = record {
-        no_ballot = ap (overtaken v) h.apart.no_ballot;
+        no_ballot = ap (overtake v) h.apart.no_ballot;
         stays = h.apart.stays;
         promised = λ member. promised_view r w c x v calm why;
       };

@@ -8,7 +8,7 @@ use Rattle.am_base.specs.Lists.{members_of, members_at}
 use Rattle.am_core.proofs.Ends.{image-top}
 use Rattle.am_model.specs.declared.status.Status.{Status}
 use Rattle.am_model.specs.declared.status.Status.TheVariants as status
-use Rattle.am_model.specs.Node.{Node, top, told, view, members, acts, is_member, stranger}
+use Rattle.am_model.specs.Node.{Node, top, image_of, view, members, acts, is_member, stranger}
 use Rattle.am_model.specs.Group.{has_log}
 use Rattle.am_model.specs.World.{World, current, is_stopped, has_departed, run}
 use Rattle.am_model.specs.Claims.{MayRepair}
@@ -76,7 +76,7 @@ abbrev repair_of : World → ℕ → Repair
 repair_of w q = record {
   by = q;
   view = view (w.nodes q);
-  at = (told (w.nodes q)).view_number;
+  at = (image_of (w.nodes q)).view_number;
   members = members (w.nodes q);
   high = top (w.nodes q);
   sent = length w.letters;
@@ -134,12 +134,7 @@ follows_first rules w place name b there =
       acts_ = act.0;
       view_ = act.1;
       rest = at_rest rules w place name b act.0;
-      reached = g.reached;
-      low = g.low;
-      within = g.within;
-      told_ = g.told_;
-      base = g.base;
-      reported = g.reported;
+      agrees = g;
     }
 
 apart_first : (rules : Rules) (w : World) (place name : ℕ) → Begun rules w place
@@ -167,12 +162,14 @@ calm_first rules w place b =
     let q = current w place in
     let m = w.nodes q in
     record {
-      own = (leading m b.may.leads).1 ∙ b.laws.blanks.views.named.who q;
-      listed = listed rules w place b;
-      who = b.laws.blanks.views.named.who;
-      leads = leads_first rules w place b;
-      follows = λ name there other. follows_first rules w place name b there;
-      apart = λ name none there. apart_first rules w place name b none there;
+      nodes = record {
+        own = (leading m b.may.leads).1 ∙ b.laws.blanks.views.named.who q;
+        listed = listed rules w place b;
+        who = b.laws.blanks.views.named.who;
+        leads = leads_first rules w place b;
+        follows = λ name there other. follows_first rules w place name b there;
+        apart = λ name none there. apart_first rules w place name b none there;
+      };
       current_ = λ name there. (there_now rules w place name b.laws b.old b.may (b.may.all_act name there).0).current_;
       runs = λ name there. (there_now rules w place name b.laws b.old b.may (b.may.all_act name there).0).runs;
       letters = λ number l late there. absurd (let within = letter_within w.letters number l there in omega arith);

@@ -13,7 +13,7 @@ use Rattle.am_packet.specs.Boxes.{letter_to}
 use Rattle.am_core.specs.Cores.{CoreState, accept, pass_over}
 use Rattle.am_fronts.specs.Reports as reports
 use Rattle.am_fronts.specs.Refresh.{own_report, tell, go_on, let_go}
-use Rattle.am_model.specs.Node.{Node, top, told, view, acts, is_member, is_sequencer, report_of}
+use Rattle.am_model.specs.Node.{Node, top, image_of, view, acts, is_member, is_sequencer, report_of}
 use Rattle.am_model.specs.Refresh.{lead, refresh, refresh_at_end}
 use Rattle.am_model.specs.Emit.{telling, finish}
 use Rattle.am_model.specs.Hearing.{hears_member, hears_in_view, hears_sequencer}
@@ -70,7 +70,7 @@ pub record NoLess (old new : Report) : Type 0 where
   pub stored : old.stored ≤ new.stored
   pub taken : old.taken ≤ new.taken
 
-pub raise_up : (kept : ℕ → Report) (who : ℕ) (r : Report) (name : ℕ) → NoLess (kept name) (reports.reported kept who r name)
+pub raise_up : (kept : ℕ → Report) (who : ℕ) (r : Report) (name : ℕ) → NoLess (kept name) (reports.after_report kept who r name)
 raise_up kept who r name = split (name == who)
     (λ t. let e : name ≡ who = grind (arith, nat_tests) in rw (t, e) (record { stored = omega arith; taken = omega arith }))
     (λ f. rw f (record { stored = omega arith; taken = omega arith }))
@@ -78,7 +78,7 @@ raise_up kept who r name = split (name == who)
 pub lead_reports : (m : Node) (name : ℕ) → NoLess (m.reports name) ((lead m).reports name)
 unfolding lead own_report tell go_on let_go accept pass_over
 lead_reports m name =
-    let first = reports.reported m.reports m.core.who (report_of m) in
+    let first = reports.after_report m.reports m.core.who (report_of m) in
     let a = raise_up m.reports m.core.who (report_of m) name in
     let b = raise_up first m.core.who (record { stored = top m; taken = (lead m).core.taken }) name in
     record { stored = omega arith; taken = omega arith }
@@ -94,7 +94,7 @@ reports_stay m name = subst (λ (f : ℕ → Report). (m.reports name).stored �
 -- ---- how far the sequencer accepts
 
 own_reports : Node → ℕ → Report
-own_reports m = reports.reported m.reports m.core.who (report_of m)
+own_reports m = reports.after_report m.reports m.core.who (report_of m)
 
 lead_front : (m : Node) → (lead m).core.acc ≡ max m.core.acc (min (accept_front (own_reports m) m.core.log m.core.acc) (top m))
 unfolding lead own_report tell go_on let_go accept pass_over own_reports
@@ -108,7 +108,7 @@ has_stored m high number name stored within h = ⊎_elim
     (λ (told_ : high ≤ (m.reports name).stored). let up = (raise_up m.reports m.core.who (report_of m) name).stored in grind (arith, nat_tests))
     h
 
-all_hold : (m : Node) (high number : ℕ) → HasReports m high → m.core.acc < number → number ≤ high → (told m).view_number ≤ number
+all_hold : (m : Node) (high number : ℕ) → HasReports m high → m.core.acc < number → number ≤ high → (image_of m).view_number ≤ number
     → is_held (own_reports m) m.core.log number ≡ true
 all_hold m high number h low within view =
     let set = counted_at m.core.log number in
@@ -119,13 +119,13 @@ all_hold m high number h low within view =
 
 all_satisfied : (m : Node) (high : ℕ) → HasReports m high → AllSatisfied (own_reports m) m.core.log m.core.acc high
 all_satisfied m high h n low within = ⊎_elim
-    (λ (above : (told m).view_number ≤ n). above_view (own_reports m) m.core.log high n above ∙ all_hold m high n h low within above)
-    (λ (below : n < (told m).view_number).
+    (λ (above : (image_of m).view_number ≤ n). above_view (own_reports m) m.core.log high n above ∙ all_hold m high n h low within above)
+    (λ (below : n < (image_of m).view_number).
     let reached = h.view in
-    let v : nat_le (told m).view_number high ≡ true = grind (arith, nat_tests) in
-    let held = all_hold m high (told m).view_number h (omega arith) reached (omega arith) in
+    let v : nat_le (image_of m).view_number high ≡ true = grind (arith, nat_tests) in
+    let held = all_hold m high (image_of m).view_number h (omega arith) reached (omega arith) in
     below_view (own_reports m) m.core.log high n below ∙ rw (v, held) refl)
-    (elim (cases_lt n (told m).view_number) [ inl a ↦ inr a | inr b ↦ inl b ])
+    (elim (cases_lt n (image_of m).view_number) [ inl a ↦ inr a | inr b ↦ inl b ])
 
 pub fronts_rise : FrontsRise
 unfolding refresh

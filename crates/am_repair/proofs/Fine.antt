@@ -15,7 +15,7 @@ use Rattle.am_group.proofs.Places.{get_behind}
 use Rattle.am_model.specs.Emit.{Step}
 use Rattle.am_model.specs.Step.{step, hear}
 use Rattle.am_model.specs.Settle.{event_at}
-use Rattle.am_model.specs.World.{World, current, is_stopped, stepped, does_event, heard, happens}
+use Rattle.am_model.specs.World.{World, current, is_stopped, with_step, does_event, hears_letter, happens}
 use Rattle.am_model.proofs.Beginnings.{happens_begins}
 use Rattle.am_effects.proofs.Items.{get_front}
 use Rattle.am_effects.proofs.Events.{events_have_effects}
@@ -73,19 +73,19 @@ acts_now : (w : World) (name : ℕ) → IsThere w name → current w (place_of (
 acts_now w name h = let same : place_of (place_of name) ≡ place_of name = omega arith in ap (current w) same ∙ h.current_
 
 pub tick_is : (w : World) (name : ℕ) → IsThere w name
-    → (let e = event_at (place_of name) act.Tick in happens w e ≡ stepped w e name (step (w.nodes name) does.Tick))
+    → (let e = event_at (place_of name) act.Tick in happens w e ≡ with_step w e name (step (w.nodes name) does.Tick))
 unfolding happens
 tick_is w name h =
     let e = event_at (place_of name) act.Tick in
     ap (λ x. does_event w e x does.Tick) (acts_now w name h) ∙ rw (h.runs) refl
 
 pub hear_is : (w : World) (name k : ℕ) (l : Letter) → IsThere w name → letter_at w.letters k ≡ Some l → is_for l name ≡ true
-    → (let e = event_at (place_of name) (act.Hear k) in happens w e ≡ stepped w e name (hear (w.nodes name) l.packet))
+    → (let e = event_at (place_of name) (act.Hear k) in happens w e ≡ with_step w e name (hear (w.nodes name) l.packet))
 unfolding happens
 hear_is w name k l h there meant =
     let e = event_at (place_of name) (act.Hear k) in
-    ap (λ x. heard w e x (hear (w.nodes x)) (letter_at w.letters k)) (acts_now w name h)
-    ∙ ap (heard w e name (hear (w.nodes name))) there ∙ rw (meant, h.runs) refl
+    ap (λ x. hears_letter w e x (hear (w.nodes x)) (letter_at w.letters k)) (acts_now w name h)
+    ∙ ap (hears_letter w e name (hear (w.nodes name))) there ∙ rw (meant, h.runs) refl
 
 -- ---- what a step sends is there
 
@@ -96,13 +96,13 @@ append_at xs ys j l there =
 
 -- by its number in the world after it
 pub sent_at : (w : World) (e : Event) (name : ℕ) (s : Step) (j : ℕ) (l : Letter) → slice_get s.letters j ≡ Some l
-    → letter_at (stepped w e name s).letters (length w.letters + 1 + j) ≡ Some l
-unfolding stepped
+    → letter_at (with_step w e name s).letters (length w.letters + 1 + j) ≡ Some l
+unfolding with_step
 sent_at w e name s j l there = append_at w.letters s.letters j l there
 
 pub contained_at : (ls : List Letter) (l : Letter) → Contains ls l → (j : ℕ) × (slice_get ls j ≡ Some l)
 contained_at ls l h = (h.0, slice_get-get_or ls h.0 l h.1 ∙ ap Some h.2)
 
-pub stepped_node : (w : World) (e : Event) (name : ℕ) (s : Step) → (stepped w e name s).nodes name ≡ s.node
-unfolding stepped
+pub stepped_node : (w : World) (e : Event) (name : ℕ) (s : Step) → (with_step w e name s).nodes name ≡ s.node
+unfolding with_step
 stepped_node w e name s = let t : (name == name) ≡ true = grind (arith, nat_tests) in rw t refl

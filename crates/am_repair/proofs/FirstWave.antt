@@ -16,7 +16,7 @@ use Rattle.am_group.specs.declared.event.Act.TheVariants as act
 use Rattle.am_group.specs.declared.event.Event.{Event}
 use Rattle.am_group.specs.Addressed.{is_for}
 use Rattle.am_group.specs.Journals.{letter_at}
-use Rattle.am_model.specs.Node.{Node, top, told, view, members, only_name, report_of, report_fits}
+use Rattle.am_model.specs.Node.{Node, top, image_of, view, members, only_name, report_of, report_fits}
 use Rattle.am_model.specs.Emit.{nack_of}
 use Rattle.am_model.specs.Step.{hear}
 use Rattle.am_model.specs.Settle.{event_at, hearings}
@@ -75,12 +75,12 @@ hears_members r q i l who other =
     both_true _ _ (both_true _ _ (both_true _ _ t member) (both_true _ _ acts_ view_)) l.leads
 
 -- a member's Join stands in the sequencer's list
-pub is_known : (m : Node) (i : ℕ) → IsUsed (told m) → has (members m) i ≡ true → is_unknown m i ≡ false
+pub is_known : (m : Node) (i : ℕ) → IsUsed (image_of m) → has (members m) i ≡ true → is_unknown m i ≡ false
 is_known m i used there =
-    let k = is_in (told m) i used.places there in
+    let k = is_in (image_of m) i used.places there in
     let life = k.is in
     let joined = k.joined in
-    let same : ((at_place (told m) i).life == life_of i) ≡ true = grind (arith, nat_tests) in
+    let same : ((at_place (image_of m) i).life == life_of i) ≡ true = grind (arith, nat_tests) in
     rw same (grind (arith, nat_tests))
 
 -- ---- a wave's letters
@@ -119,14 +119,7 @@ heard_cause w u high after k name h skips late within refuses is = tt
 -- ---- a member asks for what is missing
 
 asked_goes : (r : Repair) (i after stored : ℕ) (w : World) (e : Event) → Asked r i after stored w → Asked r i after stored (happens w e)
-asked_goes r i after stored w e h = record {
-  letter = h.letter;
-  sent = sent_goes w e after r.by h.letter h.sent;
-  report = h.report;
-  is = h.is;
-  fits = h.fits;
-  exact = h.exact;
-}
+asked_goes r i after stored w e h = record { letter = h.letter; sent = sent_goes w e after r.by h.letter h.sent; asks = h.asks }
 
 same_nack : (n : Node) (s : ℕ) (v : Stamp) → n.core.who ≡ s → n.core.promise ≡ v → nack_of n ≡ Nack s v (report_of n)
 same_nack n s v a b = cc
@@ -178,10 +171,12 @@ asked_hear rules r i after stored k l base acc high u h there other late low at 
       letter = answer;
       sent = step_sends u e i r.by after s answer is (subst (λ (ls : List Letter). Contains ls answer) (sym asks.letters) (0, omega arith, refl))
           (only_has r.by) low;
-      report = report_of n;
-      is = same_nack n i r.view mine.who mine.promise;
-      fits = mine.given;
-      exact = asks.stored ∙ at;
+      asks = record {
+        report = report_of n;
+        is = same_nack n i r.view mine.who mine.promise;
+        fits = mine.given;
+        exact = asks.stored ∙ at;
+      };
     }
 
 pub heard_there : (rules : Rules) (r : Repair) (w : World) (after name : ℕ) (l : Letter) → Fine rules r w → has r.members name ≡ true
@@ -270,17 +265,21 @@ report_hear rules r i k high l report u h there other late letter meant is_ fits
     let same = ap (λ (x : Node). (x.reports i).stored) node in
     omega arith
 
--- the sequencer knows that a member has stored so much
-pub record Knows (rules : Rules) (r : Repair) (i : ℕ) (u : World) : Type 0 where
+-- a number of the world is as high as the sequencer's list went
+pub record Reaches (rules : Rules) (r : Repair) (number : World → ℕ) (u : World) : Type 0 where
   pub fine : Fine rules r u
-  pub known : r.high ≤ ((u.nodes r.by).reports i).stored
+  pub high : r.high ≤ number u
+
+-- the sequencer knows that a member has stored so much
+abbrev pub Knows : Rules → Repair → ℕ → World → Type 0
+Knows rules r i = Reaches rules r (λ u. ((u.nodes r.by).reports i).stored)
 
 pub first_wave_reports : (rules : Rules) (r : Repair) (i after : ℕ) (w : World) → r.sent ≤ after → Fine rules r w → Reported r i after r.high w
     → has r.members i ≡ true → (i == r.by) ≡ false → Knows rules r i (happen w (hearings w after))
 first_wave_reports rules r i after w low h x there other =
     let z = wave_hits P Q w after x.sent.number (place_of r.by) (heard_there rules r w after r.by x.letter h h.calm.listed x.sent) hits
     (h, stays_same w) in
-    record { fine = z.0.0; known = z.1 }
+    record { fine = z.0.0; high = z.1 }
   where
     P : World → Type 0
     P u = Fine rules r u × Stays w u
@@ -320,9 +319,8 @@ front_hear rules r i k l base acc high u h there other letter meant is_ far stor
     omega arith
 
 -- a member has accepted so much
-pub record Accepts (rules : Rules) (r : Repair) (i : ℕ) (u : World) : Type 0 where
-  pub fine : Fine rules r u
-  pub accepted : r.high ≤ (u.nodes i).core.acc
+abbrev pub Accepts : Rules → Repair → ℕ → World → Type 0
+Accepts rules r i = Reaches rules r (λ u. (u.nodes i).core.acc)
 
 pub first_wave_accepts : (rules : Rules) (r : Repair) (i after : ℕ) (w : World) → r.sent ≤ after → Fine rules r w → Polled r i after r.high w
     → has r.members i ≡ true → (i == r.by) ≡ false → r.high ≤ top (w.nodes i)
@@ -330,7 +328,7 @@ pub first_wave_accepts : (rules : Rules) (r : Repair) (i after : ℕ) (w : World
 first_wave_accepts rules r i after w low h poll there other stored =
     let z = wave_hits P Q w after poll.sent.number (place_of i) (heard_there rules r w after i poll.letter h there poll.sent) hits
     (h, stored, stays_same w) in
-    record { fine = z.0.0; accepted = z.1 }
+    record { fine = z.0.0; high = z.1 }
   where
     P : World → Type 0
     P u = Fine rules r u × (r.high ≤ top (u.nodes i)) × Stays w u

@@ -7,9 +7,9 @@ use Rattle.am_base.specs.declared.entry.Entry.TheVariants.{Data}
 use Rattle.am_base.specs.declared.outcome.Outcome.{Outcome}
 use Rattle.am_base.specs.Lists.{Log, top_of, told_by, entry_at, image_at, after}
 use Rattle.am_core.proofs.Ends.{image-next}
-use Rattle.am_model.specs.Node.{Node, Ballot, top, told, is_sequencer, pushed}
+use Rattle.am_model.specs.Node.{Node, Ballot, top, image_of, is_sequencer, push_entry}
 use Rattle.am_model.specs.Calls.{is_unfinished}
-use Rattle.am_model.specs.Ballots.{overtaken, promised}
+use Rattle.am_model.specs.Ballots.{overtake, with_promise}
 use Rattle.am_model.specs.Receiving.{is_view, bodies_after}
 use Rattle.am_model.specs.World.{World}
 use Rattle.am_packet.specs.declared.packet.Packet.TheVariants as packet
@@ -53,12 +53,14 @@ follows_as r c q m x y a h =
         acts_ = acts_alike a ∙ f.acts_;
         view_ = view_alike a ∙ f.view_;
         rest = rest_alike a f.rest;
-        reached = omega arith;
-        low = omega arith;
-        within = omega arith;
-        told_ = ap told_by a.log ∙ f.told_ ∙ ap (image_at q.core.log) (sym same);
-        base = omega arith;
-        reported = omega arith;
+        agrees = record {
+          reached = omega arith;
+          low = omega arith;
+          within = omega arith;
+          told_ = ap told_by a.log ∙ f.told_ ∙ ap (image_at q.core.log) (sym same);
+          base = omega arith;
+          reported = omega arith;
+        };
       };
       stored = omega arith;
       taken = omega arith;
@@ -70,11 +72,11 @@ follows_as r c q m x y a h =
 follows_pushed : (r : Repair) (c : Cause) (q m x : Node) (e there : Entry) → (Skips (top m) c → top x + 1 ≢ top m + 1) → is_view e ≡ false
     → entry_at q.core.log (top x + 1) ≡ Some there
     → ((image : Image) → after image (top x + 1) e ≡ after image (top x + 1) there) → FollowsOn r c q m x
-    → FollowsOn r c q m (record (pushed x e) { bodies = bodies_after x.bodies e })
+    → FollowsOn r c q m (record (push_entry x e) { bodies = bodies_after x.bodies e })
 follows_pushed r c q m x e there skips plain is same h =
     let f = h.follows in
     let low = f.low in let stored = h.stored in let reached = f.reached in
-    let more : top (pushed x e) ≡ top x + 1 = simp length-append (omega arith) in
+    let more : top (push_entry x e) ≡ top x + 1 = simp length-append (omega arith) in
     let within = (entry_within q.core.log (top x + 1) there is).1 in
     let next = image-next q.core.log (top x) there low is in
     record {
@@ -83,12 +85,14 @@ follows_pushed r c q m x e there skips plain is same h =
         acts_ = acts_pushed x e plain ∙ f.acts_;
         view_ = view_pushed x e plain ∙ f.view_;
         rest = record { stays = f.rest.stays; no_ballot = f.rest.no_ballot };
-        reached = omega arith;
-        low = omega arith;
-        within = omega arith;
-        told_ = told_pushed x e ∙ same (told x) ∙ ap (λ (i : Image). after i (top x + 1) there) f.told_ ∙ sym next ∙ ap (image_at q.core.log) (sym more);
-        base = f.base;
-        reported = f.reported;
+        agrees = record {
+          reached = omega arith;
+          low = omega arith;
+          within = omega arith;
+          told_ = told_pushed x e ∙ same (image_of x) ∙ ap (λ (i : Image). after i (top x + 1) there) f.told_ ∙ sym next ∙ ap (image_at q.core.log) (sym more);
+          base = f.base;
+          reported = f.reported;
+        };
       };
       stored = omega arith;
       taken = h.taken;
@@ -111,17 +115,17 @@ carried r w c x s v base acc number e calm (by_number from req body is there) =
     let k = subst (CalmCause r w) is calm in (Data from req k.0, k.1, λ image. same_after image number from req body k.0)
 
 -- a promise of its own view changes nothing
-overtaken_same : (v : Stamp) (o : Option Ballot) → is_unfinished o ≡ false → overtaken v o ≡ o
+overtaken_same : (v : Stamp) (o : Option Ballot) → is_unfinished o ≡ false → overtake v o ≡ o
 overtaken_same v None h = refl
 overtaken_same v (Some b) h = let over = not_false b.is_over h in rw over refl
 
-promised_same : (r : Repair) (w : World) (c : Cause) (q x : Node) (v : Stamp) → CalmCause r w c → Follows r q x → Promises c x v → Alike x (promised x v)
+promised_same : (r : Repair) (w : World) (c : Cause) (q x : Node) (v : Stamp) → CalmCause r w c → Follows r q x → Promises c x v → Alike x (with_promise x v)
 promised_same r w c q x v calm f (invited s v_ is heard own) = absurd (subst (CalmCause r w) is calm)
 promised_same r w c q x v calm f (overtaken_by s v_ vote is heard above) = absurd (subst (CalmCause r w) is calm)
 promised_same r w c q x v calm f (told_result s v_ base number names resilience is heard own other) =
     let same : v ≡ r.view = subst (CalmCause r w) is calm in
     let promise = same ∙ sym f.view_ ∙ sym (acting x f.acts_).1 in
-    alike_here x (promised x v) refl refl promise refl refl (overtaken_same v x.ballot f.rest.no_ballot) (omega arith) (omega arith)
+    alike_here x (with_promise x v) refl refl promise refl refl (overtaken_same v x.ballot f.rest.no_ballot) (omega arith) (omega arith)
 
 no_leader : (r : Repair) (c : Cause) (q m x : Node) → r.view.by ≡ r.by → (m.core.who == r.by) ≡ false → FollowsOn r c q m x → is_sequencer x ≡ true → ⊥
 no_leader r c q m x by other h t = leads_not x r.by (ap (λ (v : Stamp). v.by) h.follows.view_ ∙ by) (ap (λ k. k == r.by) h.who ∙ other) t

@@ -15,7 +15,7 @@ use Rattle.am_model.specs.Node.{Node, is_member}
 use Rattle.am_model.specs.Emit.{Step}
 use Rattle.am_model.specs.Step.{step, hear}
 use Rattle.am_model.specs.Settle.{event_at}
-use Rattle.am_model.specs.World.{World, is_stopped, has_departed, unchanged, stepped, happens, heard}
+use Rattle.am_model.specs.World.{World, is_stopped, has_departed, with_record, with_step, happens, hears_letter}
 use Rattle.am_effects.specs.Causes.{Cause, calls, hears}
 use Rattle.am_effects.specs.Changes.{Changes, unchanged as no_change, changed}
 use Rattle.am_effects.specs.Effects.{Effect}
@@ -44,8 +44,8 @@ pub record OurStep (r : Repair) (w : World) (e : Event) (s : Step) : Type 0 wher
   pub still : has_departed (w.nodes (actor w e)).status ≡ true → IsStill (w.nodes (actor w e)) s
 
 pub data Ours (r : Repair) (w : World) (e : Event) : World → Type 0 where
-  idles : (o : Outcome) → Ours r w e (unchanged w e o)
-  steps : (s : Step) → OurStep r w e s → Ours r w e (stepped w e (actor w e) s)
+  idles : (o : Outcome) → Ours r w e (with_record w e o)
+  steps : (s : Step) → OurStep r w e s → Ours r w e (with_step w e (actor w e) s)
 
 ours_if : (r : Repair) (w : World) (e : Event) (b : Bool) (u v : World) → Ours r w e u → (b ≡ false → Ours r w e v) → Ours r w e (if b then u else v)
 ours_if r w e true u v f g = f
@@ -66,7 +66,7 @@ our_tick r w place =
     }))
 
 our_letter : (r : Repair) (w : World) (place number : ℕ) (l : Option Letter) → letter_at w.letters number ≡ l → r.sent < number → Calm r w
-    → (let e = event_at place (act.Hear number) in Ours r w e (heard w e (actor w e) (hear (w.nodes (actor w e))) l))
+    → (let e = event_at place (act.Hear number) in Ours r w e (hears_letter w e (actor w e) (hear (w.nodes (actor w e))) l))
 our_letter r w place number None is late h = idles said.NoPacket
 our_letter r w place number (Some l) is late h =
     let e = event_at place (act.Hear number) in

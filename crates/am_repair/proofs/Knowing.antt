@@ -15,10 +15,10 @@ use Rattle.am_packet.specs.declared.packet.Packet.TheVariants as packet
 use Rattle.am_chain_lists.proofs.Rows.{row_at, In, row_set, long_after}
 use Rattle.am_core.specs.Cores.{accept, pass_over}
 use Rattle.am_fronts.specs.Refresh.{own_report, tell, go_on, let_go}
-use Rattle.am_model.specs.Node.{Node, Ballot, top, told, view, members, is_member, is_asking, is_sequencer, pushed, trimmed, with_report}
+use Rattle.am_model.specs.Node.{Node, Ballot, top, image_of, view, members, is_member, is_asking, is_sequencer, push_entry, trim_up_to, with_report}
 use Rattle.am_model.specs.Refresh.{lead, refresh, settle, refresh_at_end}
-use Rattle.am_model.specs.Ballots.{Verdict, promised, next_stamp}
-use Rattle.am_model.specs.Joining.{admitted}
+use Rattle.am_model.specs.Ballots.{Verdict, with_promise, next_stamp}
+use Rattle.am_model.specs.Joining.{with_admitted}
 use Rattle.am_model.specs.Hearing.{hears_member, hears_asking}
 use Rattle.am_model.specs.Receiving.{is_view}
 use Rattle.am_model.proofs.Greatest.{split, and_both}
@@ -83,14 +83,14 @@ join_back image n name i long other h = ⊎_elim
     (row_set image name (place_of i) (record { life = life_of name; joined = n; left = 0; last = 0 }) long)
 
 -- a member of a longer list
-member_back : (m : Node) (e : Entry) (i : ℕ) → Fronts m → (length (told m).rows ≡ 16 → In (row_at (after (told m) (top m + 1) e) (place_of i)) (life_of i)
-    → In (row_at (told m) (place_of i)) (life_of i))
-    → has (members (pushed m e)) i ≡ true → has (members m) i ≡ true
+member_back : (m : Node) (e : Entry) (i : ℕ) → Fronts m → (length (image_of m).rows ≡ 16 → In (row_at (after (image_of m) (top m + 1) e) (place_of i)) (life_of i)
+    → In (row_at (image_of m) (place_of i)) (life_of i))
+    → has (members (push_entry m e)) i ≡ true → has (members m) i ≡ true
 member_back m e i f back there =
     let used = told_used m f in
-    let longer = long_after (told m) (top m + 1) e used.places in
+    let longer = long_after (image_of m) (top m + 1) e used.places in
     let here = ap (λ (x : Image). has (members_of x) i) (sym (told_pushed m e)) ∙ there in
-    in_is (told m) i used.places (back used.places (is_in (after (told m) (top m + 1) e) i longer here))
+    in_is (image_of m) i used.places (back used.places (is_in (after (image_of m) (top m + 1) e) i longer here))
 
 -- ---- a refresh
 
@@ -122,32 +122,32 @@ known_report : (m : Node) (s : ℕ) (report : Report) → TrimsKnown m → Trims
 known_report m s report h t i few there = let a = h t i few there in let b = (raise_up m.reports s report i).taken in omega arith
 
 -- no more members than before
-known_pushed : (m : Node) (e : Entry) → is_sequencer (pushed m e) ≡ is_sequencer m
-    → ((i : ℕ) → has (members (pushed m e)) i ≡ true → has (members m) i ≡ true) → TrimsKnown m → TrimsKnown (pushed m e)
+known_pushed : (m : Node) (e : Entry) → is_sequencer (push_entry m e) ≡ is_sequencer m
+    → ((i : ℕ) → has (members (push_entry m e)) i ≡ true → has (members m) i ≡ true) → TrimsKnown m → TrimsKnown (push_entry m e)
 known_pushed m e same back h t i few there = h (sym same ∙ t) i few (back i there)
 
 -- a joiner begins at the base
-pub known_joined : (m : Node) (s : ℕ) → Fronts m → TrimsKnown m → TrimsKnown (pushed (admitted m s) (Join s))
+pub known_joined : (m : Node) (s : ℕ) → Fronts m → TrimsKnown m → TrimsKnown (push_entry (with_admitted m s) (Join s))
 known_joined m s f h t i few there = split (i == s)
     (λ same. rw same (omega arith))
     (λ other. rw other (h (sym (leads_pushed m (Join s) refl) ∙ t) i few
-    (member_back m (Join s) i f (λ long x. join_back (told m) (top m + 1) s i long other x) there)))
+    (member_back m (Join s) i f (λ long x. join_back (image_of m) (top m + 1) s i long other x) there)))
 
 abbrev pub NoJoin : Cause → Type 0
 NoJoin c = (s : ℕ) (v : Stamp) → c ≡ hears (packet.JoinAsk s v) → ⊥
 
-known_numbered : (c : Cause) (m : Node) (e : Entry) → NoJoin c → Numbers c m e → Fronts m → TrimsKnown m → TrimsKnown (pushed m e)
+known_numbered : (c : Cause) (m : Node) (e : Entry) → NoJoin c → Numbers c m e → Fronts m → TrimsKnown m → TrimsKnown (push_entry m e)
 known_numbered c m e none (asked_send s v report req body by known left next) f h =
     known_pushed m (Data s req body) (leads_pushed m (Data s req body) refl)
-    (λ i there. member_back m (Data s req body) i f (λ long x. data_back (told m) (top m + 1) s req i body long x) there) h
+    (λ i there. member_back m (Data s req body) i f (λ long x. data_back (image_of m) (top m + 1) s req i body long x) there) h
 known_numbered c m e none (own_send s is last) f h =
     let d = Data m.core.who s.req s.body in
     known_pushed m d (leads_pushed m d refl) (λ i there. member_back m d i f
-    (λ long x. data_back (told m) (top m + 1) m.core.who s.req i s.body long x) there) h
+    (λ long x. data_back (image_of m) (top m + 1) m.core.who s.req i s.body long x) there) h
 known_numbered c m e none (asked_join s v is other fit) f h = absurd (none s v is)
 known_numbered c m e none (asked_leave s v report is other known stays) f h =
     known_pushed m (Leave s) (leads_pushed m (Leave s) refl) (λ i there. member_back m (Leave s) i f
-    (λ long x. leave_back (told m) (top m + 1) s i long (omega arith) x) there) h
+    (λ long x. leave_back (image_of m) (top m + 1) s i long (omega arith) x) there) h
 
 -- ---- who doesn't lead
 
@@ -177,12 +177,12 @@ other_member m s h = not_true (s == m.core.who) (and_both (not (s == m.core.who)
 by_sender : (v : Stamp) (s : ℕ) → (v.by == s) ≡ true → v.by ≡ s
 by_sender v s h = grind (arith, nat_tests)
 
-promised_leads : (c : Cause) (m : Node) (v : Stamp) → Promises c m v → Balloted m → is_sequencer (promised m v) ≡ true → ⊥
+promised_leads : (c : Cause) (m : Node) (v : Stamp) → Promises c m v → Balloted m → is_sequencer (with_promise m v) ≡ true → ⊥
 promised_leads c m v (invited s _ is heard own) k t =
-    other_view (promised m v) s (ap (λ (x : Stamp). x.by) (sym (leader_promise (promised m v) t)) ∙ by_sender v s own) (other_asking m s heard) t
+    other_view (with_promise m v) s (ap (λ (x : Stamp). x.by) (sym (leader_promise (with_promise m v) t)) ∙ by_sender v s own) (other_asking m s heard) t
 promised_leads c m v (told_result s _ base number names resilience is heard own other) k t =
-    other_view (promised m v) v.by (ap (λ (x : Stamp). x.by) (sym (leader_promise (promised m v) t))) other t
-promised_leads c m v (overtaken s _ vote is heard above) k t = above_view (promised m v) (at_most_below (view m) m.core.promise v k.high above) t
+    other_view (with_promise m v) v.by (ap (λ (x : Stamp). x.by) (sym (leader_promise (with_promise m v) t))) other t
+promised_leads c m v (overtaken s _ vote is heard above) k t = above_view (with_promise m v) (at_most_below (view m) m.core.promise v k.high above) t
 
 -- an open ballot's node doesn't act
 open_leads : (m : Node) (b : Ballot) → HasOpen m b → Balloted m → is_sequencer m ≡ true → ⊥
@@ -195,21 +195,21 @@ known_look m b v _ none = λ t i few there. absurd (none t)
 -- what is fetched is no View of its own
 fetch_leads : (m : Node) (s : ℕ) (v : Stamp) (base : ℕ) (e : Entry) → Fetches m s v e → (s == m.core.who) ≡ false → stamp_eq v m.core.promise ≡ true
     → stamp_eq (view m) v ≡ false
-    → is_sequencer (pushed (trimmed m base) e) ≡ true → ⊥
+    → is_sequencer (push_entry (trim_up_to m base) e) ≡ true → ⊥
 fetch_leads m s v base e why other same below t = split (is_view e) (λ is. viewed e why is t) (λ plain. unviewed e plain t)
   where
     promise : v ≡ m.core.promise
     promise = same_stamp v m.core.promise same
 
-    unviewed : (e : Entry) → is_view e ≡ false → is_sequencer (pushed (trimmed m base) e) ≡ true → ⊥
+    unviewed : (e : Entry) → is_view e ≡ false → is_sequencer (push_entry (trim_up_to m base) e) ≡ true → ⊥
     unviewed e plain t =
-        let p = leader_promise (pushed (trimmed m base) e) t ∙ view_pushed (trimmed m base) e plain in
+        let p = leader_promise (push_entry (trim_up_to m base) e) t ∙ view_pushed (trim_up_to m base) e plain in
         let z : stamp_eq (view m) v ≡ true = ap (λ x. stamp_eq x v) (sym p ∙ sym promise) ∙ same_is_equal v in
         cc
 
     by_name : (stamp : Stamp) (names : List ℕ) (resilience : ℕ) → Fetches m s v (View stamp names resilience) → stamp ≡ v
-        → ((stamp.by == m.core.who) ≡ false → is_sequencer (pushed (trimmed m base) (View stamp names resilience)) ≡ true → ⊥)
-        → is_sequencer (pushed (trimmed m base) (View stamp names resilience)) ≡ true → ⊥
+        → ((stamp.by == m.core.who) ≡ false → is_sequencer (push_entry (trim_up_to m base) (View stamp names resilience)) ≡ true → ⊥)
+        → is_sequencer (push_entry (trim_up_to m base) (View stamp names resilience)) ≡ true → ⊥
     by_name stamp names resilience (without_ballot none own past) at f t =
         let a = by_sender v s own in
         let b = ap (λ (x : Stamp). x.by) at in
@@ -219,13 +219,13 @@ fetch_leads m s v base e why other same below t = split (is_view e) (λ is. view
         let u : stamp_eq stamp v ≡ true = ap (stamp_eq stamp) (sym at) ∙ same_is_equal stamp in
         absurd (split (stamp_lt v stamp) (λ x. let p = rw x at past in cc) (λ x. let p = rw (x, u) at past in cc))
 
-    viewed : (e : Entry) → Fetches m s v e → is_view e ≡ true → is_sequencer (pushed (trimmed m base) e) ≡ true → ⊥
+    viewed : (e : Entry) → Fetches m s v e → is_view e ≡ true → is_sequencer (push_entry (trim_up_to m base) e) ≡ true → ⊥
     viewed (Data from req body) why is t = absurd (cc)
     viewed (Join name) why is t = absurd (cc)
     viewed (Leave name) why is t = absurd (cc)
     viewed (View stamp names resilience) why is t =
-        let n = pushed (trimmed m base) (View stamp names resilience) in
-        let last = view_last (trimmed m base) stamp names resilience in
+        let n = push_entry (trim_up_to m base) (View stamp names resilience) in
+        let last = view_last (trim_up_to m base) stamp names resilience in
         let at : stamp ≡ v = sym (leader_promise n t ∙ last) ∙ sym promise in
         by_name stamp names resilience why at (other_view n stamp.by (ap (λ (x : Stamp). x.by) last)) t
 
@@ -254,7 +254,7 @@ known_change c o m n none k f (looks b verdict over why look is) h = (let old = 
 known_change c o m n none k f (fetches s v base number e is heard promise below why may) h = λ t i few there. absurd
     (fetch_leads m s v base e why (other_member m s heard) promise below t)
 known_change c o m n none k f (stores_view s v base number names resilience is heard own other promise below may) h = λ t i few there. absurd (
-    other_view n v.by (ap (λ (x : Stamp). x.by) (view_last (trimmed m base) v names resilience)) other t)
+    other_view n v.by (ap (λ (x : Stamp). x.by) (view_last (trim_up_to m base) v names resilience)) other t)
 known_change c o m n none k f (asks_to_join is was) h = λ t i few there. absurd (cc)
 known_change c o m n none k f (closes leads leaves alone room) h = λ t i few there. absurd (cc)
 known_change c o m n none k f _ h = h

@@ -18,13 +18,13 @@ use Rattle.am_group.specs.declared.event.Act.TheVariants as act
 use Rattle.am_group.specs.declared.event.Event.{Event}
 use Rattle.am_group.specs.Addressed.{is_for}
 use Rattle.am_group.specs.Journals.{letter_at}
-use Rattle.am_model.specs.Node.{Node, told, is_sequencer, has_room, pushed}
+use Rattle.am_model.specs.Node.{Node, image_of, is_sequencer, has_room, push_entry}
 use Rattle.am_model.specs.Emit.{Plan, Step, finish}
-use Rattle.am_model.specs.Step.{hear, refused}
+use Rattle.am_model.specs.Step.{hear, hear_refusal}
 use Rattle.am_model.specs.Lengths.{packet_length}
-use Rattle.am_model.specs.Joining.{admitted, asks_to_join, join_ask_row}
+use Rattle.am_model.specs.Joining.{with_admitted, asks_to_join, join_ask_row}
 use Rattle.am_model.specs.Hearing.{hears_member, hear_row}
-use Rattle.am_model.specs.World.{World, start, is_stopped, unchanged, stepped, heard, hear_cut, acts_as, happens, happen}
+use Rattle.am_model.specs.World.{World, start, is_stopped, with_record, with_step, hears_letter, hear_cut, acts_as, happens, happen}
 use Rattle.am_model.specs.Claims.{heard_by}
 use Rattle.am_model.proofs.Greatest.{split}
 use Rattle.am_effects.specs.Causes.{Cause}
@@ -51,9 +51,9 @@ known_changes rules m n none names used (changed {n = x} one more) a h =
 
 -- ---- a request to join
 
-joined_fronts : (m : Node) (s : ℕ) → Fronts m → fits (told m) (Join s) ≡ true → Fronts (pushed (admitted m s) (Join s))
+joined_fronts : (m : Node) (s : ℕ) → Fronts m → fits (image_of m) (Join s) ≡ true → Fronts (push_entry (with_admitted m s) (Join s))
 joined_fronts m s f fit =
-    pushed_fronts (admitted m s) (Join s) fit (reporting _ (split (m.core.who == s) (λ t. rw t f.base) (λ g. rw g f.reported)) f)
+    pushed_fronts (with_admitted m s) (Join s) fit (reporting _ (split (m.core.who == s) (λ t. rw t f.base) (λ g. rw g f.reported)) f)
 
 -- a plan whose node keeps it
 record PlanKnown (p : Plan) : Type 0 where
@@ -75,18 +75,18 @@ asked_known m s q f h =
     (λ a. plan_if ((q.life == life_of s) && nat_lt 0 q.left) _ _ (λ t. record { stays = refl; fronts = f; known = h })
     (λ b. plan_if (nat_lt q.life (life_of s) && (nat_lt 0 q.life && ((q.left == 0) || nat_lt m.core.acc q.left))) _ _
     (λ t. record { stays = refl; fronts = f; known = h })
-    (λ c. plan_if (fits (told m) (Join s) && not (has_room m)) _ _ (λ t. record { stays = refl; fronts = f; known = h })
-    (λ d. plan_if (fits (told m) (Join s)) _ _ (λ fit. record { stays = refl; fronts = joined_fronts m s f fit; known = known_joined m s f h })
+    (λ c. plan_if (fits (image_of m) (Join s) && not (has_room m)) _ _ (λ t. record { stays = refl; fronts = f; known = h })
+    (λ d. plan_if (fits (image_of m) (Join s)) _ _ (λ fit. record { stays = refl; fronts = joined_fronts m s f fit; known = known_joined m s f h })
     (λ e. plan_if (nat_le q.joined (m.reports s).stored || nat_lt m.core.acc q.joined) _ _ (λ t. record { stays = refl; fronts = f; known = h })
     (λ t. record { stays = refl; fronts = f; known = h }))))))
 
 join_ends : (m : Node) (s : ℕ) (v : Stamp) → Fronts m → TrimsKnown m → TrimsKnown (hear m (packet.JoinAsk s v)).node
 unfolding hear hear_row join_ask_row
-join_ends m s v f h = plan_known m _ (plan_if (hears_member m s && is_sequencer m) _ _ (λ t. asked_known m s (at_place (told m) s) f h)
+join_ends m s v f h = plan_known m _ (plan_if (hears_member m s && is_sequencer m) _ _ (λ t. asked_known m s (at_place (image_of m) s) f h)
     (λ t. record { stays = refl; fronts = f; known = h }))
 
-refused_known : (m : Node) (cause : ℕ) → Fronts m → TrimsKnown m → TrimsKnown (refused m cause).node
-unfolding refused finish
+refused_known : (m : Node) (cause : ℕ) → Fronts m → TrimsKnown m → TrimsKnown (hear_refusal m cause).node
+unfolding hear_refusal finish
 refused_known m cause f h = known_end m f h
 
 -- a request to join, among packets
@@ -107,16 +107,16 @@ cut_known m keep p t f h = split (nat_le (packet_length p) keep)
 abbrev AllTrim : World → Type 0
 AllTrim w = (name : ℕ) → name < 256 → TrimsKnown (w.nodes name)
 
-trim_step : (w : World) (e : Event) (name : ℕ) (s : Step) → AllTrim w → TrimsKnown s.node → AllTrim (stepped w e name s)
-unfolding stepped
+trim_step : (w : World) (e : Event) (name : ℕ) (s : Step) → AllTrim w → TrimsKnown s.node → AllTrim (with_step w e name s)
+unfolding with_step
 trim_step w e name s h k other few = split (other == name) (λ t. rw t k) (λ f. rw f (h other few))
 
 trim_if : (b : Bool) (u v : World) → AllTrim u → AllTrim v → AllTrim (if b then u else v)
 trim_if true u v f g = f
 trim_if false u v f g = g
 
-trim_unchanged : (w : World) (e : Event) (o : Outcome) → AllTrim w → AllTrim (unchanged w e o)
-unfolding unchanged
+trim_unchanged : (w : World) (e : Event) (o : Outcome) → AllTrim w → AllTrim (with_record w e o)
+unfolding with_record
 trim_unchanged w e o h = h
 
 abbrev is_join : Option Letter → Bool
@@ -125,7 +125,7 @@ is_join (Some l) = kind_of l.packet == 9
 
 -- a request to join is heard, whole or in part
 trim_letter : (w : World) (e : Event) (name : ℕ) (hearing : Packet → Step) (o : Option Letter)
-    → ((p : Packet) → (kind_of p == 9) ≡ true → TrimsKnown (hearing p).node) → is_join o ≡ true → AllTrim w → AllTrim (heard w e name hearing o)
+    → ((p : Packet) → (kind_of p == 9) ≡ true → TrimsKnown (hearing p).node) → is_join o ≡ true → AllTrim w → AllTrim (hears_letter w e name hearing o)
 trim_letter w e name hearing None k t h = absurd (cc)
 trim_letter w e name hearing (Some l) k t h =
     trim_if (not (is_for l name)) _ _ (trim_unchanged w e said.NotAddressed h)
@@ -148,7 +148,7 @@ trim_join rules w e _ laws h t = absurd (cc)
 -- anything else
 trim_happens : (rules : Rules) (w : World) (e : Event) (v : World) → AllOwned rules w → AllTrim w → is_join (letter_at w.letters (heard_by e.act)) ≡ false
     → Happens w e v → AllTrim v
-unfolding unchanged stepped
+unfolding with_record with_step
 trim_happens rules w e v laws h none (idles o idle) = h
 trim_happens rules w e v laws h none (stops runs) = h
 trim_happens rules w e v laws h none (returns place is left more) = h

@@ -6,7 +6,7 @@ use Rattle.std.proofs.lemmas.List.Folds.{list_any-append}
 use Rattle.am_group.specs.declared.event.Event.{Event}
 use Rattle.am_fronts.proofs.ReportLaws.{count_cons}
 use Rattle.am_model.specs.Node.{Node}
-use Rattle.am_model.specs.World.{Decided, World, is_stopped, has_departed, current, unchanged, stepped, happens, happen}
+use Rattle.am_model.specs.World.{Decided, World, is_stopped, has_departed, current, with_record, with_step, happens, happen}
 use Rattle.am_model.specs.Lawful.{is_lost, is_lawful, Watch, watch_start, greatest_complete, watch, watch_all, broken_now, before_break}
 use Rattle.am_model.proofs.Greatest.{split}
 use Rattle.am_effects.specs.Events.{actor, idles, stops, returns, steps}
@@ -23,7 +23,7 @@ with_more : (xs ys : List ℕ) (name : ℕ) → list_any (λ x. x == name) xs �
 with_more xs ys name there = list_any-append (λ x. x == name) xs ys ∙ rw there refl
 
 each_stays : (name : ℕ) (m : Node) → EachKeeps (StaysStopped name m)
-unfolding unchanged stepped
+unfolding with_record with_step
 each_stays name m w e v (idles o idle) h = record { stopped = h.stopped; node = h.node }
 each_stays name m w e v (stops runs) h = record { stopped = with_more w.stopped (actor w e ∷ []) name h.stopped; node = h.node }
 each_stays name m w e v (returns place is left more) h = record {

@@ -19,9 +19,9 @@ use Rattle.am_core.proofs.Ends.{image-top}
 use Rattle.am_core.proofs.Lives.{IsUsed, used_fold, member_row}
 use Rattle.am_fronts.specs.Reports.{least_taken}
 use Rattle.am_fronts.specs.Refresh.{base_after, own_report, tell, go_on, let_go}
-use Rattle.am_model.specs.Node.{Node, Ballot, top, told, view, members, acts, is_member, pushed, with_report}
+use Rattle.am_model.specs.Node.{Node, Ballot, top, image_of, view, members, acts, is_member, push_entry, with_report}
 use Rattle.am_model.specs.Refresh.{lead, refresh, settle}
-use Rattle.am_model.specs.Joining.{admitted}
+use Rattle.am_model.specs.Joining.{with_admitted}
 use Rattle.am_model.specs.World.{World}
 use Rattle.am_model.proofs.Greatest.{split, and_both}
 use Rattle.am_effects.specs.Causes.{Cause, BringsReport, with_send, by_request, by_spread, by_ack, by_nack, by_leave_ask}
@@ -32,7 +32,8 @@ use Rattle.am_effects.specs.Changes.{stores_view, queues, collects, takes, asks_
 use Rattle.am_effects.proofs.Rests.{settle_is}
 use Rattle.am_effects.proofs.Says.{told_pushed, view_pushed, leads_pushed}
 use Rattle.am_laws.proofs.Stamps.{same_stamp}
-use Rattle.am_laws.proofs.LeaderRows.{JoinsFit, least_within, is_in}
+use Rattle.am_core.proofs.Lives.{JoinsFit}
+use Rattle.am_laws.proofs.LeaderRows.{least_within, is_in}
 use Rattle.am_laws.proofs.Trims.{Fronts, told_used}
 use Rattle.am_laws.proofs.ViewSteps.{after_same}
 use Rattle.am_repair.specs.Calm.{Repair, Leads, ReportIs}
@@ -179,7 +180,7 @@ trusts_report r taken m s report low t = record {
       (λ differs. rw differs (t.reported name there other));
 }
 
-trusts_admitted : (r : Repair) (taken : ℕ → ℕ) (m : Node) (s : ℕ) → Trusts r taken m → Trusts r taken (admitted m s)
+trusts_admitted : (r : Repair) (taken : ℕ → ℕ) (m : Node) (s : ℕ) → Trusts r taken m → Trusts r taken (with_admitted m s)
 trusts_admitted r taken m s t = record {
   base = t.base;
   reported = λ name there other. split (name == s) (λ same. rw same (t.base name there other)) (λ differs. rw differs (t.reported name there other));
@@ -197,18 +198,18 @@ member_joins image name long member fit =
     let l = k.left in
     let z : ⊥ = grind (arith, nat_tests) in z
 
-admitted_stay : (r : Repair) (m : Node) (s : ℕ) → Leads r m → Fronts m → fits (told m) (Join s) ≡ true → (name : ℕ) → has r.members name ≡ true
-    → (m.reports name).stored ≤ ((admitted m s).reports name).stored
+admitted_stay : (r : Repair) (m : Node) (s : ℕ) → Leads r m → Fronts m → fits (image_of m) (Join s) ≡ true → (name : ℕ) → has r.members name ≡ true
+    → (m.reports name).stored ≤ ((with_admitted m s).reports name).stored
 admitted_stay r m s h f fit name there = split (name == s)
     (λ t. absurd (
     let same : name ≡ s = grind (arith, nat_tests) in
     let used = told_used m f in
-    member_joins (told m) s used.places (subst (λ i. has (members m) i ≡ true) same (is_member_now r m name h there)) fit))
+    member_joins (image_of m) s used.places (subst (λ i. has (members m) i ≡ true) same (is_member_now r m name h there)) fit))
     (λ t. rw t (omega arith))
 
 -- ---- an entry more
 
-numbered_plain : (r : Repair) (w : World) (c : Cause) (m : Node) (e : Entry) → CalmCause r w c → Numbers c m e → IsJoinOrData (told m) e
+numbered_plain : (r : Repair) (w : World) (c : Cause) (m : Node) (e : Entry) → CalmCause r w c → Numbers c m e → IsJoinOrData (image_of m) e
 numbered_plain r w c m e h (asked_send s v report req body by known left next) = is_data s req body
 numbered_plain r w c m e h (own_send s is last) = is_data m.core.who s.req s.body
 numbered_plain r w c m e h (asked_join s v is other fit) = is_join s fit
@@ -221,38 +222,38 @@ fit_on : (r : Repair) (a b : Log) → r.high ≤ top_of a → LogGrows a b → (
 fit_on r a b high grows h k e low is = ap (λ (i : Image). fits i e) (grows.image (k - 1) (omega arith))
     ∙ h k e low (sym (grows.entry k (omega arith)) ∙ is)
 
-leads_pushed_ : (r : Repair) (m : Node) (e : Entry) → Fronts m → IsJoinOrData (told m) e → Leads r m → Leads r (pushed m e)
+leads_pushed_ : (r : Repair) (m : Node) (e : Entry) → Fronts m → IsJoinOrData (image_of m) e → Leads r m → Leads r (push_entry m e)
 leads_pushed_ r m e f joins h =
-    let p = plain (told m) e joins in
+    let p = plain (image_of m) e joins in
     let high = h.high in
-    let more : top (pushed m e) ≡ top m + 1 = simp length-append (omega arith) in
+    let more : top (push_entry m e) ≡ top m + 1 = simp length-append (omega arith) in
     let image = told_pushed m e in
     let grows = grows_push m.core.log e in
     let used = told_used m f in
     record {
       leads = leads_pushed m e p ∙ h.leads;
       view_ = view_pushed m e p ∙ h.view_;
-      number = ap (λ (i : Image). i.view_number) image ∙ (after_same (told m) (top m + 1) e p).number ∙ h.number;
+      number = ap (λ (i : Image). i.view_number) image ∙ (after_same (image_of m) (top m + 1) e p).number ∙ h.number;
       rest = record { stays = h.rest.stays; no_ballot = h.rest.no_ballot };
       high = omega arith;
       reached = h.reached;
-      fit = fit_on r m.core.log (pushed m e).core.log high grows h.fit;
+      fit = fit_on r m.core.log (push_entry m e).core.log high grows h.fit;
       members_ = λ name k there above within. elim (cases_lt k (top m + 1)) [
         | inl old ↦ ap (λ (i : Image). has (members_of i) name) (grows.image k (omega arith)) ∙ h.members_ name k there above (omega arith)
-        | inr new ↦ (let last : k ≡ top (pushed m e) = omega arith in
-            ap (λ (i : Image). has (members_of i) name) (ap (image_at (pushed m e).core.log) last ∙ image-top (pushed m e).core.log ∙ image)
-            ∙ member_after (told m) (top m + 1) e name used.places joins (is_member_now r m name h there))
+        | inr new ↦ (let last : k ≡ top (push_entry m e) = omega arith in
+            ap (λ (i : Image). has (members_of i) name) (ap (image_at (push_entry m e).core.log) last ∙ image-top (push_entry m e).core.log ∙ image)
+            ∙ member_after (image_of m) (top m + 1) e name used.places joins (is_member_now r m name h there))
       ];
       counted = λ k above within view. subst (λ set. All (λ name. has r.members name ≡ true) (names_of set))
-          (sym (counted_stays m.core.log (pushed m e).core.log k grows (omega arith))) (h.counted k above within view);
+          (sym (counted_stays m.core.log (push_entry m e).core.log k grows (omega arith))) (h.counted k above within view);
     }
 
-goes_pushed : (r : Repair) (taken : ℕ → ℕ) (q m : Node) (e : Entry) → Fronts m → IsJoinOrData (told m) e → Goes r taken q m → Goes r taken q (pushed m e)
+goes_pushed : (r : Repair) (taken : ℕ → ℕ) (q m : Node) (e : Entry) → Fronts m → IsJoinOrData (image_of m) e → Goes r taken q m → Goes r taken q (push_entry m e)
 goes_pushed r taken q m e f joins h = record {
   own = h.own;
   leads = leads_pushed_ r m e f joins h.leads;
   trusts = record { base = h.trusts.base; reported = h.trusts.reported };
-  grows = grows_then q.core.log m.core.log (pushed m e).core.log h.grows (grows_push m.core.log e);
+  grows = grows_then q.core.log m.core.log (push_entry m e).core.log h.grows (grows_push m.core.log e);
   up = h.up;
   acc = h.acc;
   kept = h.kept;

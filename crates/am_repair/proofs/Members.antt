@@ -3,12 +3,12 @@ use Rattle.std.proofs.Common.{◌≡◌, ℕ, ◌+◌, ◌-◌, ◌&&◌, not, m
 use Rattle.std.proofs.lemmas.Bool.Decides.{nat_tests}
 use Rattle.am_base.specs.declared.outcome.Outcome.TheVariants as said
 use Rattle.am_base.specs.Lists.{Log, top_of}
-use Rattle.am_model.specs.Node.{Node, top, only_name, is_sequencer, has_own_leave, pushed, trimmed}
+use Rattle.am_model.specs.Node.{Node, top, only_name, is_sequencer, has_own_leave, push_entry, trim_up_to}
 use Rattle.am_model.specs.Refresh.{refresh_at_end}
 use Rattle.am_model.specs.Emit.{Plan, nack_of, finish}
 use Rattle.am_model.specs.Step.{hear}
 use Rattle.am_model.specs.Hearing.{hear_row}
-use Rattle.am_model.specs.Receiving.{noted, bodies_after, accept_row, bcast_row}
+use Rattle.am_model.specs.Receiving.{with_noted, bodies_after, accept_row, bcast_row}
 use Rattle.am_effects.proofs.Rests.{rests_at_end}
 use Rattle.am_repair.specs.Rows.{HearsFront, FrontsAreHeard, GapsAreAsked, EntriesAreStored}
 use Rattle.am_repair.proofs.Sets.{only_some}
@@ -21,7 +21,7 @@ end_top m = ap (λ (l : Log). top_of l) (rests_at_end m).log
 -- ---- how far the list goes
 
 abbrev Noted : Node → ℕ → ℕ → Plan → Type 0
-Noted m base acc p = (p.node ≡ noted m base acc) × (p.departs ≡ false)
+Noted m base acc p = (p.node ≡ with_noted m base acc) × (p.departs ≡ false)
 
 noted_if : (m : Node) (base acc : ℕ) (b : Bool) (p q : Plan) → Noted m base acc p → Noted m base acc q → Noted m base acc (if b then p else q)
 noted_if m base acc true p q f g = f
@@ -30,7 +30,7 @@ noted_if m base acc false p q f g = g
 hears_plan : (m : Node) (base acc : ℕ) (p : Plan) → is_sequencer m ≡ false → Noted m base acc p → HearsFront m acc (finish m p).node
 unfolding finish
 hears_plan m base acc p follow is =
-    let n = noted m base acc in
+    let n = with_noted m base acc in
     let told : (refresh_at_end n).core.acc ≡ max m.core.acc (min (max m.core.told acc) (top m)) = follower_accepts n follow in
     rw (is.1, is.0) (record { stored = end_top n; accepted = omega arith })
 
@@ -45,7 +45,7 @@ fronts_are_heard m s v base acc high poll heard =
 pub gaps_are_asked : GapsAreAsked
 unfolding hear hear_row accept_row finish
 gaps_are_asked m s v base acc high poll heard gap stays =
-    let n = noted m base acc in
+    let n = with_noted m base acc in
     let below : nat_lt (top m) high ≡ true = grind (arith, nat_tests) in
     rw (heard, below, stays) (record {
       stored = end_top n;
@@ -57,8 +57,8 @@ gaps_are_asked m s v base acc high poll heard gap stays =
 pub entries_are_stored : EntriesAreStored
 unfolding hear hear_row bcast_row finish
 entries_are_stored m s v base acc number e heard h =
-    let n = trimmed (record m { core = record (m.core) { told = max m.core.told acc } }) base in
-    let k = record (pushed n e) { bodies = bodies_after m.bodies e } in
+    let n = trim_up_to (record m { core = record (m.core) { told = max m.core.told acc } }) base in
+    let k = record (push_entry n e) { bodies = bodies_after m.bodies e } in
     let next = h.next in
     let low = h.taken in
     let room = h.within in

@@ -18,10 +18,10 @@ use Rattle.am_group.specs.declared.event.Event.{Event}
 use Rattle.am_group.specs.Addressed.{is_for}
 use Rattle.am_group.specs.Journals.{letter_at}
 use Rattle.am_model.specs.Node.{Node, top, only_name, with_report}
-use Rattle.am_model.specs.Emit.{Step, bcast_of, served}
+use Rattle.am_model.specs.Emit.{Step, bcast_of, entries_to_serve}
 use Rattle.am_model.specs.Step.{hear}
 use Rattle.am_model.specs.Settle.{event_at, hearings}
-use Rattle.am_model.specs.Sequencing.{reported}
+use Rattle.am_model.specs.Sequencing.{take_report}
 use Rattle.am_model.specs.World.{World, happens, happen}
 use Rattle.am_effects.specs.Causes.{Cause, calls, hears, refuses, BringsReport, with_send, by_request, by_spread, by_ack, by_nack, by_leave_ask}
 use Rattle.am_effects.specs.Events.{IsCause}
@@ -59,7 +59,7 @@ bcasts_get n to number (x ∷ es) (suc k) e there =
     bcasts_get n to (number + 1) es k e there ∙ ap (λ j. Some (letter_to to (bcast_of n j e))) at
 
 -- the entries above a number
-served_long : (q : Node) (stored : ℕ) → q.core.log.start ≤ stored → length (served q stored) ≡ min 8 (top q - stored)
+served_long : (q : Node) (stored : ℕ) → q.core.log.start ≤ stored → length (entries_to_serve q stored) ≡ min 8 (top q - stored)
 served_long q stored low =
     let entries = q.core.log.entries in
     let skip = stored - q.core.log.start in
@@ -67,7 +67,7 @@ served_long q stored low =
     let b = length-drop skip entries in
     omega arith
 
-served_get : (q : Node) (stored k : ℕ) (e : Entry) → q.core.log.start ≤ stored → slice_get (served q stored) k ≡ Some e
+served_get : (q : Node) (stored k : ℕ) (e : Entry) → q.core.log.start ≤ stored → slice_get (entries_to_serve q stored) k ≡ Some e
     → entry_at q.core.log (stored + 1 + k) ≡ Some e
 served_get q stored k e low there =
     let entries = q.core.log.entries in
@@ -78,7 +78,7 @@ served_get q stored k e low there =
 -- the sequencer trims no more than was taken, with a member's report
 report_trims : (rules : Rules) (r : Repair) (taken : ℕ → ℕ) (q : Node) (i : ℕ) (report : Report) → Leads r q → q.core.who ≡ r.by → Fronts q
     → Trusts r taken q → has r.members i ≡ true → (i == r.by) ≡ false → report.taken ≤ taken i
-    → (reported q i report).core.base ≤ taken i
+    → (take_report q i report).core.base ≤ taken i
 report_trims rules r taken q i report l who f t there other low =
     let p = with_report q i report in
     let own : (q.core.who == i) ≡ false = grind (arith, nat_tests) in
@@ -141,15 +141,15 @@ served_by rules r i stored u v s h fine there other low node serves sent =
     record {
       first = length u.letters;
       late = omega arith;
-      many = length (served q stored);
+      many = length (entries_to_serve q stored);
       enough = omega arith;
       each = λ k below.
-          (let some = get_some (served q stored) k below in
+          (let some = get_some (entries_to_serve q stored) k below in
           let e = some.0 in
           let stands = served_get q stored k e low some.1 in
           let within = (entry_within q.core.log (stored + 1 + k) e stands).1 in
           let letter = ap (λ ls. slice_get ls k) serves.letters ∙ get_front _ serves.more k _
-          (bcasts_get n (only_name i) (stored + 1) (served q stored) k e some.1) in
+          (bcasts_get n (only_name i) (stored + 1) (entries_to_serve q stored) k e some.1) in
           record {
             base = n.core.base;
             acc = n.core.acc;

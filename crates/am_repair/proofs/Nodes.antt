@@ -13,7 +13,7 @@ use Rattle.am_model.proofs.Greatest.{split, and_both}
 use Rattle.am_effects.specs.Causes.{Cause, calls, hears, refuses}
 use Rattle.am_effects.specs.Looks.{HasOpen}
 use Rattle.am_effects.proofs.Tests.{not_false}
-use Rattle.am_effects.proofs.Rests.{rests_refresh, settle_is}
+use Rattle.am_effects.proofs.Rests.{SameStanding, with_sends, rests_refresh, settle_is}
 use Rattle.am_laws.proofs.Stamps.{same_stamp, not_above_itself}
 use Rattle.am_laws.proofs.ViewChanges.{Balloted, OpenBallot}
 use Rattle.am_repair.specs.Rows.{IsAtRest}
@@ -59,47 +59,28 @@ not_open m b o h = let f = subst (λ x. is_unfinished x ≡ false) o.last h in l
 -- ---- alike
 
 pub record Alike (m n : Node) : Type 0 where
+  pub same : SameStanding m n
+  pub open same use *
   pub log : n.core.log ≡ m.core.log
-  pub who : n.core.who ≡ m.core.who
-  pub promise : n.core.promise ≡ m.core.promise
-  pub status : n.status ≡ m.status
-  pub leaving : n.leaving ≡ m.leaving
-  pub ballot : n.ballot ≡ m.ballot
   pub acc : m.core.acc ≤ n.core.acc
   pub taken : m.core.taken ≤ n.core.taken
 
 pub alike_here : (m n : Node) → n.core.log ≡ m.core.log → n.core.who ≡ m.core.who → n.core.promise ≡ m.core.promise → n.status ≡ m.status
     → n.leaving ≡ m.leaving
     → n.ballot ≡ m.ballot → m.core.acc ≤ n.core.acc → m.core.taken ≤ n.core.taken → Alike m n
-alike_here m n a b d e f g acc taken = record { log = a; who = b; promise = d; status = e; leaving = f; ballot = g; acc = acc; taken = taken }
-
-pub alike_refresh : (m : Node) → Alike m (refresh m)
-alike_refresh m = let h = rests_refresh m in let r = h.rests in record {
-  log = h.log;
-  who = r.who;
-  promise = r.promise;
-  status = r.status;
-  leaving = r.leaving;
-  ballot = r.ballot;
-  acc = r.acc;
-  taken = r.taken;
+alike_here m n a b d e f g acc taken = record {
+  same = record { who = b; promise = d; status = e; leaving = f; ballot = g };
+  log = a;
+  acc = acc;
+  taken = taken;
 }
 
+pub alike_refresh : (m : Node) → Alike m (refresh m)
+alike_refresh m = let h = rests_refresh m in let r = h.rests in record { same = r.same; log = h.log; acc = r.acc; taken = r.taken }
+
 pub alike_settle : (m : Node) → Alike m (settle m)
-alike_settle m =
-    let is = settle_is m in
-    let acc = ap (λ (n : Node). n.core.acc) is in
-    let taken = ap (λ (n : Node). n.core.taken) is in
-    record {
-      log = ap (λ (n : Node). n.core.log) is;
-      who = ap (λ (n : Node). n.core.who) is;
-      promise = ap (λ (n : Node). n.core.promise) is;
-      status = ap (λ (n : Node). n.status) is;
-      leaving = ap (λ (n : Node). n.leaving) is;
-      ballot = ap (λ (n : Node). n.ballot) is;
-      acc = omega arith;
-      taken = omega arith;
-    }
+alike_settle m = subst (Alike m) (sym (settle_is m))
+    (alike_here m (with_sends m (settle m)) refl refl refl refl refl refl (omega arith) (omega arith))
 
 pub view_alike : {m n : Node} → Alike m n → view n ≡ view m
 view_alike h = ap (λ (l : Log). (told_by l).view) h.log

@@ -6,7 +6,7 @@ use Rattle.std.proofs.lemmas.List.Folds.{list_any-append}
 use Rattle.am_base.specs.Founding.{Rules}
 use Rattle.am_base.specs.Names.{place_of, life_of}
 use Rattle.am_group.specs.declared.event.Event.{Event}
-use Rattle.am_model.specs.World.{World, start, current, is_stopped, unchanged, stepped, run}
+use Rattle.am_model.specs.World.{World, start, current, is_stopped, with_record, with_step, run}
 use Rattle.am_model.proofs.Greatest.{split}
 use Rattle.am_effects.specs.Events.{actor, idles, stops, returns, steps}
 use Rattle.am_effects.proofs.Runs.{EachKeeps, runs_keep}
@@ -28,7 +28,7 @@ old_life place lives name at low f = let differs : life_of name ≡ lives → �
 
 -- whoever acts at a place is a name of that place
 each_old : EachKeeps OldStopped
-unfolding unchanged stepped
+unfolding with_record with_step
 each_old w e v (idles o idle) h = record { born = h.born; old = h.old }
 each_old w e v (stops runs) h = record { born = h.born; old = λ name low. still_there w.stopped (actor w e ∷ []) name (h.old name low) }
 each_old w e v (steps c s runs cause effect) h = record { born = h.born; old = h.old }

@@ -16,7 +16,7 @@ use Rattle.am_chain_lists.proofs.Members.{fold_append, good_begins}
 use Rattle.am_chain_lists.proofs.Prefixes.{begins_length, begins_take, length_take, take_begins, begins_both, begins_push}
 use Rattle.am_chain_lists.proofs.Order.{view_up, view_below}
 use Rattle.am_group.proofs.Places.{get_behind}
-use Rattle.am_model.specs.Node.{Node, top, told, view, members}
+use Rattle.am_model.specs.Node.{Node, top, image_of, view, members}
 use Rattle.am_model.specs.Lawful as lists
 use Rattle.am_model.specs.World.{World}
 use Rattle.am_model.proofs.Greatest.{split}
@@ -41,27 +41,27 @@ whole_long w m low =
 
 -- up to a number from its start on
 pub whole_part : (w : World) (q m : Node) (k : ℕ) → IsBeginning w q m → m.core.log.start ≤ k
-    → whole.told (take k (lists.whole w m)) ≡ image_at m.core.log k
+    → whole.image_of (take k (lists.whole w m)) ≡ image_at m.core.log k
 whole_part w q m k h low =
     let start = m.core.log.start in
     let before = take start w.group in
     let long = length_take start w.group h.within in
     let at : k ≡ length before + (k - start) = omega arith in
     let next : 1 + length before ≡ start + 1 = omega arith in
-    ap (λ n. whole.told (take n (lists.whole w m))) at
-    ∙ ap (λ es. whole.told es) (take-append-add before m.core.log.entries (k - start))
+    ap (λ n. whole.image_of (take n (lists.whole w m))) at
+    ∙ ap (λ es. whole.image_of es) (take-append-add before m.core.log.entries (k - start))
     ∙ fold_append blank 1 before (take (k - start) m.core.log.entries)
-    ∙ ap (λ n. fold (whole.told before) n (take (k - start) m.core.log.entries)) next
+    ∙ ap (λ n. fold (whole.image_of before) n (take (k - start) m.core.log.entries)) next
     ∙ ap (λ i. fold i (start + 1) (take (k - start) m.core.log.entries)) (sym h.image)
 
-pub whole_told : (w : World) (q m : Node) → IsBeginning w q m → whole.told (lists.whole w m) ≡ told m
+pub whole_told : (w : World) (q m : Node) → IsBeginning w q m → whole.image_of (lists.whole w m) ≡ image_of m
 whole_told w q m h =
     let start = m.core.log.start in
     let before = take start w.group in
     let long = length_take start w.group h.within in
     let next : 1 + length before ≡ start + 1 = omega arith in
     fold_append blank 1 before m.core.log.entries
-    ∙ ap (λ n. fold (whole.told before) n m.core.log.entries) next
+    ∙ ap (λ n. fold (whole.image_of before) n m.core.log.entries) next
     ∙ ap (λ i. fold i (start + 1) m.core.log.entries) (sym h.image)
 
 pub whole_entry : (w : World) (m : Node) (number : ℕ) (e : Entry) → m.core.log.start ≤ length w.group → entry_at m.core.log number ≡ Some e
@@ -79,11 +79,11 @@ whole_entry w m (suc before) e low there = split (nat_le m.core.log.start before
 -- ---- what a member's list tells
 
 -- the sequencer's up to there
-pub tells_same : (w : World) (q m : Node) → IsBeginning w q q → IsBeginning w q m → q.core.log.start ≤ top m → told m ≡ image_at q.core.log (top m)
+pub tells_same : (w : World) (q m : Node) → IsBeginning w q q → IsBeginning w q m → q.core.log.start ≤ top m → image_of m ≡ image_at q.core.log (top m)
 tells_same w q m own h low =
     sym (whole_told w q m h)
-    ∙ ap (λ es. whole.told es) (sym (take_begins h.begins))
-    ∙ ap (λ n. whole.told (take n (lists.whole w q))) (whole_long w m h.within)
+    ∙ ap (λ es. whole.image_of es) (sym (take_begins h.begins))
+    ∙ ap (λ n. whole.image_of (take n (lists.whole w q))) (whole_long w m h.within)
     ∙ whole_part w q q (top m) own low
 
 pub goes_no_further : (w : World) (q m : Node) → IsBeginning w q q → IsBeginning w q m → top m ≤ top q
@@ -142,7 +142,7 @@ view_in image n (e ∷ es) = ⊎_elim
     (view_in (after image n e) (n + 1) es)
 
 -- a list with the same view as the sequencer's has its last View
-no_less : (w : World) (q m : Node) → IsGood (lists.whole w q) → IsBeginning w q q → IsBeginning w q m → view m ≡ view q → top m < (told q).view_number → ⊥
+no_less : (w : World) (q m : Node) → IsGood (lists.whole w q) → IsBeginning w q q → IsBeginning w q m → view m ≡ view q → top m < (image_of q).view_number → ⊥
 unfolding view_of Unviewed
 no_less w q m good own h same short = ⊎_elim
     (λ (x : ViewIn blank 1 (lists.whole w q)).
@@ -150,7 +150,7 @@ no_less w q m good own h same short = ⊎_elim
     let tells = whole_told w q q own in
     let at = x.number in
     let number = ap (λ (i : Image). i.view_number) tells in
-    let stamp = (whole.told list).view in
+    let stamp = (whole.image_of list).view in
     let long = whole_long w m h.within in
     let within = slice_get_within list x.index (View stamp x.names x.resilience) x.there in
     let before = length_take x.index list (omega arith) in
@@ -168,8 +168,8 @@ no_less w q m good own h same short = ⊎_elim
     (view_in blank 1 (lists.whole w q))
 
 pub has_last_view : (w : World) (q m : Node) → IsGood (lists.whole w q) → IsBeginning w q q → IsBeginning w q m → view m ≡ view q
-    → (told q).view_number ≤ top m
-has_last_view w q m good own h same = elim (cases_lt (top m) (told q).view_number) [
+    → (image_of q).view_number ≤ top m
+has_last_view w q m good own h same = elim (cases_lt (top m) (image_of q).view_number) [
   | inl short ↦ absurd (no_less w q m good own h same short)
   | inr reached ↦ reached
 ]

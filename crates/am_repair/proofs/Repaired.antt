@@ -1,6 +1,5 @@
 -- Many rounds: all is stored, then reported, then accepted.
 use Rattle.std.proofs.Common.{◌≡◌, ℕ, zero, suc, ◌+◌, ◌*◌, ◌/◌, ◌≤◌, ◌==◌, min, true, false, List, [], length, refl, sym, ap, ◌∙◌, subst, arith}
-use Rattle.std.proofs.lemmas.Bool.Decides.{nat_tests}
 use Rattle.am_base.specs.Founding.{Rules}
 use Rattle.am_base.specs.Names.{has}
 use Rattle.am_group.specs.declared.event.Event.{Event}
@@ -14,6 +13,7 @@ use Rattle.am_repair.proofs.Fine.{Fine, fine_goes, letters_more}
 use Rattle.am_repair.proofs.ThirdWave.{HasStored}
 use Rattle.am_repair.proofs.Rounds.{after_waves, round_is, Stable, round_keeps, round_stores}
 use Rattle.am_repair.proofs.Accepting.{AllKnown, round_reports, round_accepts, leader_accepts}
+use Rattle.am_repair.proofs.Steps.{as_same}
 
 -- ---- the schedule's worlds
 
@@ -90,17 +90,17 @@ last_rounds : (rules : Rules) (r : Repair) (stored : ℕ) (w : World) → r.high
     → HasCaughtUp ((after_waves (after_waves w)).nodes i) r.high
 last_rounds rules r stored w far h i there =
     let v = after_waves w in
-    let known : AllKnown r v = λ j here other. (round_reports rules r j w h.sent here other (all_high rules r stored w far h j here other)).known in
+    let known : AllKnown r v = λ j here other. (round_reports rules r j w h.sent here other (all_high rules r stored w far h j here other)).high in
     let one = one_round rules r stored w h in
     let two = one_round rules r (stored + 8) v one in
     split (i == r.by)
     (λ t.
-    let same : i ≡ r.by = grind (arith, nat_tests) in
+    let same = as_same i r.by t in
     subst (λ j. HasCaughtUp ((after_waves v).nodes j) r.high) (sym same)
-    (record { stored = two.fine.calm.leads.high; accepted = (leader_accepts rules r v one.sent one.fine known).accepted }))
+    (record { stored = two.fine.calm.leads.high; accepted = (leader_accepts rules r v one.sent one.fine known).high }))
     (λ f. record {
       stored = (all_high rules r (stored + 8 + 8) (after_waves v) (omega arith) two i there f).stored_;
-      accepted = (round_accepts rules r i v one.sent there f (all_high rules r (stored + 8) v (omega arith) one i there f) known).accepted;
+      accepted = (round_accepts rules r i v one.sent there f (all_high rules r (stored + 8) v (omega arith) one i there f) known).high;
     })
 
 -- from a calm world in which each member has at least what leaves no more than the window and 15

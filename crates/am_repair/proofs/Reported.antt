@@ -11,8 +11,8 @@ use Rattle.am_fronts.specs.Refresh.{go_on, let_go, tell, own_report}
 use Rattle.am_model.proofs.Greatest.{split, and_both}
 use Rattle.am_model.specs.Ballots.{Verdict}
 use Rattle.am_model.specs.Group.{has_log}
-use Rattle.am_model.specs.Joining.{admitted}
-use Rattle.am_model.specs.Node.{Ballot, is_sequencer, with_report, is_member, is_asking, pushed, Node}
+use Rattle.am_model.specs.Joining.{with_admitted}
+use Rattle.am_model.specs.Node.{Ballot, is_sequencer, with_report, is_member, is_asking, push_entry, Node}
 use Rattle.am_model.specs.Refresh.{refresh_at_end, lead, refresh}
 use Rattle.std.proofs.lemmas.Bool.Decides.{nat_tests}
 use Rattle.am_model.specs.declared.status.Status.TheVariants.{Member}
@@ -91,7 +91,7 @@ truly_report nodes m s report low h name other = split (name == s)
     (λ t. let e : name ≡ s = grind (arith, nat_tests) in let a = h s (ap (λ k. k == m.core.who) (sym e) ∙ other) in rw (t, e) (omega arith))
     (λ f. rw f (h name other))
 
-truly_admitted : (nodes : ℕ → Node) (m : Node) (s : ℕ) → Truly nodes m → Truly nodes (admitted m s)
+truly_admitted : (nodes : ℕ → Node) (m : Node) (s : ℕ) → Truly nodes m → Truly nodes (with_admitted m s)
 truly_admitted nodes m s h name other = split (name == s) (λ t. rw t (omega arith)) (λ f. rw f (h name other))
 
 truly_look : (nodes : ℕ → Node) (m : Node) (b : Ballot) (v : Verdict) → Looks m b v → Truly nodes m → Truly nodes v.node
@@ -137,7 +137,7 @@ truly_change nodes c o m n w k (fetches s v base number e is heard promise below
 truly_change nodes c o m n w k (stores_view s v base number names resilience is heard own other promise below may) h =
     truly_more nodes m n refl (omega arith) (λ name other. refl) h
 truly_change nodes c o m n w k (closes leads leaves alone room) h =
-    (let r = (rests_at_end (pushed m (Leave m.core.who))).rests in truly_more nodes m n r.who r.base (end_same (pushed m (Leave m.core.who))) h)
+    (let r = (rests_at_end (push_entry m (Leave m.core.who))).rests in truly_more nodes m n r.who r.base (end_same (push_entry m (Leave m.core.who))) h)
 truly_change nodes c o m n w k _ h = h
 
 pub rises_change : (c : Cause) (o : Outcome) (m n : Node) → Blanked m → Fronts m → Change c o m n → Rises m n
@@ -156,7 +156,7 @@ rises_change c o m n k f (stores_view s v base number names resilience is heard 
     record { base = omega arith; taken = omega arith }
 rises_change c o m n k f (takes e is says member some there_) = record { base = omega arith; taken = omega arith }
 rises_change c o m n k f (closes leads leaves alone room) =
-    (let r = (rests_at_end (pushed m (Leave m.core.who))).rests in record { base = r.base; taken = r.taken })
+    (let r = (rests_at_end (push_entry m (Leave m.core.who))).rests in record { base = r.base; taken = r.taken })
 rises_change c o m n k f _ = rises_same m n refl refl
 
 -- what a letter of a step reports

@@ -8,7 +8,6 @@ use Rattle.am_laws.proofs.Taken.{HeardUsed}
 use Rattle.am_laws.proofs.ViewNames.{HeardNames}
 use Rattle.am_laws.proofs.Views.{heard_names}
 use Rattle.am_model.proofs.Greatest.{split}
-use Rattle.am_model.specs.Emit.{Step}
 use Rattle.am_model.specs.Node.{Node}
 use Rattle.am_packet.specs.declared.packet.Packet.{Packet}
 use Rattle.am_packet.specs.declared.packet.Packet.TheVariants as packet
@@ -17,15 +16,14 @@ use Rattle.std.proofs.Common.{◌≡◌, ℕ, ◌<◌, ◌≤◌, ◌==◌, true
 use Rattle.std.specs.Prelude.{All}
 use Rattle.std.proofs.lemmas.List.Elements.{All-nil, All-append, All-weaker}
 use Rattle.am_packet.specs.Boxes.{Letter}
-use Rattle.am_model.specs.World.{World, start, unchanged, stepped, run}
+use Rattle.am_model.specs.World.{World, start, with_step, run}
 use Rattle.am_model.specs.Claims.{heard_by}
 use Rattle.am_effects.specs.Causes.{Cause, calls, hears, refuses}
 use Rattle.am_effects.specs.Letters.{LetterSays}
 use Rattle.am_effects.specs.Changes.{Changes, unchanged as no_change, changed}
-use Rattle.am_effects.specs.Effects.{Effect}
-use Rattle.am_effects.specs.Events.{actor, WasSentTo, IsCause, steps, Happens}
+use Rattle.am_effects.specs.Events.{actor, WasSentTo, IsCause}
 use Rattle.am_effects.proofs.Items.{all_item}
-use Rattle.am_effects.proofs.Runs.{EachKeeps, runs_keep}
+use Rattle.am_effects.proofs.Runs.{EachKeeps, StepsKeep, SameParts, law_keeps, runs_keep}
 use Rattle.am_laws.proofs.TakenRuns.{Along, along_changes, AllOwned, heard_used, each_along, each_owned, owned_start}
 use Rattle.am_repair.specs.Known.{KnownIsTaken}
 use Rattle.am_repair.proofs.Reported.{ReportTaken, CauseTaken, Truly, Rises, truly_change, rises_change, says_taken}
@@ -82,17 +80,15 @@ cause_taken w e (hears p) all cause =
 cause_taken w e (calls x) all cause = tt
 cause_taken w e refuses all cause = tt
 
-told_step : (rules : Rules) (w : World) (e : Event) (c : Cause) (s : Step) → IsCause w (actor w e) e.act c → Effect (w.nodes (actor w e)) c s
-    → AllOwned rules (stepped w e (actor w e) s) → AllTold rules w → AllTold rules (stepped w e (actor w e) s)
-unfolding stepped
+told_step : (rules : Rules) → StepsKeep (AllOwned rules) (AllTold rules)
+unfolding with_step
 told_step rules w e c s cause effect laws h =
     let name = actor w e in
-    let m = w.nodes name in
     let n = s.node in
     let few = few_names rules w e h.laws.blanks.views.named in
-    let a = told_changes rules w.nodes m n (heard_names rules w e c h.laws.blanks.views cause) (heard_used rules w e c h.laws cause)
+    let a = told_changes rules w.nodes (w.nodes name) n (heard_names rules w e c h.laws.blanks.views cause) (heard_used rules w e c h.laws cause)
     (cause_taken w e c h.letters cause) effect.changes (each_along rules w name few h.laws) (h.each name few) in
-    let v = stepped w e name s in
+    let v = with_step w e name s in
     let itself_ = itself name in
     let here : v.nodes name ≡ n = rw itself_ refl in
     let up : (other : ℕ) → (w.nodes other).core.taken ≤ (v.nodes other).core.taken = λ other. split (other == name)
@@ -110,24 +106,19 @@ told_step rules w e c s cause effect laws h =
           (λ f. rw f (more_truly w.nodes v.nodes up (w.nodes other) (h.each other small)));
       letters = All-append (LetterTaken v.nodes) w.letters s.letters
           (All-weaker (LetterTaken w.nodes) (LetterTaken v.nodes) (λ l x. more_taken w.nodes v.nodes up l.packet x) w.letters h.letters)
-          (All-weaker (LetterSays m c sender) (LetterTaken v.nodes)
-          (λ l x. says_taken v.nodes m sender c l.to l.packet low x.says) s.letters effect.letters);
+          (All-weaker (LetterSays (w.nodes name) c sender) (LetterTaken v.nodes)
+          (λ l x. says_taken v.nodes (w.nodes name) sender c l.to l.packet low x.says) s.letters effect.letters);
     }
 
-told_same : (rules : Rules) (w v : World) → v.nodes ≡ w.nodes → v.letters ≡ w.letters → AllOwned rules v → AllTold rules w → AllTold rules v
-told_same rules w v nodes letters laws h = record {
+told_same : (rules : Rules) (w v : World) → SameParts w v → AllOwned rules v → AllTold rules w → AllTold rules v
+told_same rules w v same laws h = record {
   laws = laws;
-  each = rw nodes h.each;
-  letters = rw (nodes, letters) h.letters;
+  each = rw same.nodes h.each;
+  letters = rw (same.nodes, same.letters) h.letters;
 }
 
-told_after : (rules : Rules) (w : World) (e : Event) (v : World) → Happens w e v → AllOwned rules v → AllTold rules w → AllTold rules v
-unfolding unchanged
-told_after rules w e v (steps c s runs cause effect) laws h = told_step rules w e c s cause effect laws h
-told_after rules w e v _ laws h = told_same rules w v refl refl laws h
-
 each_told : (rules : Rules) → EachKeeps (AllTold rules)
-each_told rules w e v happens h = told_after rules w e v happens (each_owned rules w e v happens h.laws) h
+each_told rules = law_keeps (AllOwned rules) (AllTold rules) (each_owned rules) (λ w h. h.laws) (told_step rules) (told_same rules)
 
 told_start : (rules : Rules) → MayFound rules → AllTold rules (start rules)
 told_start rules may = record {

@@ -6,10 +6,10 @@ use Rattle.am_base.specs.declared.image.Report.{Report}
 use Rattle.am_base.specs.Lists.{Log}
 use Rattle.am_model.specs.Node.{Node, only_name, is_sequencer, has_room, with_report, report_fits}
 use Rattle.am_model.specs.Refresh.{refresh_at_end}
-use Rattle.am_model.specs.Emit.{Plan, served, put_all, bcast_of, finish, with_accept}
+use Rattle.am_model.specs.Emit.{Plan, entries_to_serve, put_all, bcast_of, finish, with_accept}
 use Rattle.am_model.specs.Step.{hear}
 use Rattle.am_model.specs.Hearing.{hears_in_view, hear_row}
-use Rattle.am_model.specs.Sequencing.{row_at, is_unknown, reported, serve, requested, request_row, ack_row, nack_row}
+use Rattle.am_model.specs.Sequencing.{row_at, is_unknown, take_report, serve, answer_request, request_row, ack_row, nack_row}
 use Rattle.am_model.proofs.Greatest.{and_both}
 use Rattle.am_effects.proofs.Rests.{rests_refresh, rests_at_end}
 use Rattle.am_repair.specs.Rows.{ack, nack, request, spread, ReportsAreTaken, bcasts, Serves, NacksAreServed}
@@ -34,11 +34,11 @@ done_has m s stored p h = let a = h.0 in let b = reports_stay p.node s in rw h.1
 with_has : (m : Node) (s : ℕ) (report : Report) → report.stored ≤ ((with_report m s report).reports s).stored
 with_has m s report = let t : (s == s) ≡ true = grind (arith, nat_tests) in rw t (omega arith)
 
-reported_has : (m : Node) (s : ℕ) (report : Report) → report.stored ≤ ((reported m s report).reports s).stored
+reported_has : (m : Node) (s : ℕ) (report : Report) → report.stored ≤ ((take_report m s report).reports s).stored
 reported_has m s report = let a = with_has m s report in let b = refreshed_stay (with_report m s report) s in omega arith
 
 requested_has : (m : Node) (s : ℕ) (stored req : ℕ) (body : List ℕ) (by_order : Bool) → stored ≤ (m.reports s).stored
-    → Has s stored (requested m s req body by_order)
+    → Has s stored (answer_request m s req body by_order)
 requested_has m s stored req body by_order h =
     has_if s stored (nat_lt 0 (row_at m s).left) _ _ (h, refl)
     (has_if s stored (nat_le req (row_at m s).last) _ _ (h, refl)
@@ -49,13 +49,13 @@ request_has : (m : Node) (s : ℕ) (report : Report) (req : ℕ) (body : List �
     → Has s report.stored (request_row m s report req body by_order)
 unfolding request_row
 request_has m s report req body by_order known fits = rw (known, fits)
-    (requested_has (reported m s report) s report.stored req body by_order (reported_has m s report))
+    (requested_has (take_report m s report) s report.stored req body by_order (reported_has m s report))
 
 pub reports_are_taken : ReportsAreTaken
 unfolding hear hear_row ack_row nack_row
 reports_are_taken m p s v report (ack s_ v_ report_) heard known fits = rw (heard, known, fits) (done_has m s report.stored _ (with_has m s report, refl))
 reports_are_taken m p s v report (nack s_ v_ report_) heard known fits =
-    rw (heard, known, fits) (done_has m s report.stored _ (has_if s report.stored (nat_lt report.stored (reported m s report).core.base) _ _
+    rw (heard, known, fits) (done_has m s report.stored _ (has_if s report.stored (nat_lt report.stored (take_report m s report).core.base) _ _
     (reported_has m s report, refl) (reported_has m s report, refl)))
 reports_are_taken m p s v report (request s_ v_ report_ req body) heard known fits = rw heard
     (done_has m s report.stored _ (request_has m s report req body false known fits))
@@ -66,15 +66,15 @@ reports_are_taken m p s v report (spread s_ v_ report_ req body) heard known fit
 -- ---- what is sent again
 
 -- its list is that before it took the report
-same_log : (m : Node) (s : ℕ) (report : Report) → (reported m s report).core.log ≡ m.core.log
+same_log : (m : Node) (s : ℕ) (report : Report) → (take_report m s report).core.log ≡ m.core.log
 same_log m s report = (rests_refresh (with_report m s report)).log
 
 serves_plan : (m p : Node) (s stored : ℕ) → p.core.log ≡ m.core.log → Serves m s stored (finish m (serve p s stored))
 unfolding finish
 serves_plan m p s stored same =
     let n = refresh_at_end p in
-    let es = served m stored in
-    let is : served p stored ≡ es = ap (λ (l : Log). served (record m { core = record (m.core) { log = l } }) stored) same in
+    let es = entries_to_serve m stored in
+    let is : entries_to_serve p stored ≡ es = ap (λ (l : Log). entries_to_serve (record m { core = record (m.core) { log = l } }) stored) same in
     let letters = ap (λ xs. put_all (bcast_of n) (only_name s) (stored + 1) xs []) is
     ∙ put_bcasts n (only_name s) (stored + 1) es [] (All-nil _) (only_some s) in
     let last = accept_last m (serve p s stored) n (bcasts n (only_name s) (stored + 1) es) (bcasts_low n (only_name s) (stored + 1) es) in
@@ -83,6 +83,6 @@ serves_plan m p s stored same =
 pub nacks_are_served : NacksAreServed
 unfolding hear hear_row nack_row
 nacks_are_served m s v report heard known fits low =
-    let p = reported m s report in
+    let p = take_report m s report in
     let b : nat_lt report.stored p.core.base ≡ false = grind (arith, nat_tests) in
     rw (heard, known, fits, b) (serves_plan m p s report.stored (same_log m s report))

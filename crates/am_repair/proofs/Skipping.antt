@@ -2,7 +2,6 @@
 use Rattle.std.proofs.Common.{◌≡◌, ◌⊎◌, inl, ⊎_elim, ℕ, ◌+◌, ◌<◌, ◌==◌, not, nat_le, Bool, true, false, if◌then◌else◌, List, [], length, Option, Some, None}
 use Rattle.std.proofs.Common.{slice_get, refl, sym, ap, ◌∙◌, subst, arith}
 use Rattle.std.specs.Prelude.{All}
-use Rattle.std.proofs.lemmas.Bool.Decides.{nat_tests}
 use Rattle.std.proofs.lemmas.List.Elements.{All-nil}
 use Rattle.am_base.specs.declared.name.Stamp.{Stamp}
 use Rattle.am_base.specs.declared.entry.Entry.TheVariants.{Data}
@@ -19,14 +18,14 @@ use Rattle.am_group.specs.Journals.{letter_at}
 use Rattle.am_sender.specs.declared.OwnSend.{OwnSend}
 use Rattle.am_model.specs.declared.status.Status.{Status}
 use Rattle.am_model.specs.declared.status.Status.TheVariants as status
-use Rattle.am_model.specs.Node.{Node, top, told, view, acts, others, only_name, is_sequencer, has_room, waiting}
+use Rattle.am_model.specs.Node.{Node, top, image_of, view, acts, others, only_name, is_sequencer, has_room, waiting}
 use Rattle.am_model.specs.Emit.{Plan, quiet, telling, bcast_of, ack_of, fetch_of, request_of, spread_of, join_ask_of, accept_of, result_of, tells_accepted}
 use Rattle.am_model.specs.Emit.{with_accept, finish}
 use Rattle.am_model.specs.Step.{step, row}
 use Rattle.am_model.specs.Calls.{is_unfinished, would_emit, emit, everywhere_else}
 use Rattle.am_model.specs.Ticks.{tick_row, tick_by, tick_acting, and_result, put_off, behind_view, viewed_by}
 use Rattle.am_model.specs.Settle.{event_at, running, ticks}
-use Rattle.am_model.specs.World.{World, is_stopped, has_departed, unchanged, stepped, happens, happen}
+use Rattle.am_model.specs.World.{World, is_stopped, has_departed, with_record, with_step, happens, happen}
 use Rattle.am_model.proofs.Greatest.{split}
 use Rattle.am_effects.specs.Causes.{Cause, calls, hears, refuses}
 use Rattle.am_effects.specs.Events.{actor, IsCause}
@@ -39,7 +38,7 @@ use Rattle.am_repair.proofs.Nodes.{acting, leading, leads_not}
 use Rattle.am_repair.proofs.Following.{Skips}
 use Rattle.am_repair.proofs.Departed.{departed_ticks}
 use Rattle.am_repair.proofs.Ticks.{without_ballot, goes_not}
-use Rattle.am_repair.proofs.Steps.{letter_either}
+use Rattle.am_repair.proofs.Steps.{as_same, letter_either}
 use Rattle.am_repair.specs.Rounds.{ticks as our_ticks}
 use Rattle.am_repair.proofs.Schedules.{acts_keep}
 use Rattle.am_repair.proofs.Fine.{Fine, fine_goes}
@@ -100,8 +99,8 @@ acting_skips high m stays far =
     let e = emit m (waiting m) (put_off m (waiting m)) in
     let p = and_result (record e { polls = true }) in
     let skips : PlanSkips high p = record {
-      each = λ n. all_letter (SkipsLetter high) (behind_view n) (result_of n (told n).view_number (viewed_by (entry_at n.core.log (told n).view_number))
-          (told n).resilience) (e.letters n) tt
+      each = λ n. all_letter (SkipsLetter high) (behind_view n) (result_of n (image_of n).view_number (viewed_by (entry_at n.core.log (image_of n).view_number))
+          (image_of n).resilience) (e.letters n) tt
           ((emit_skips high m (waiting m) (put_off m (waiting m)) far).each n);
     } in
     subst (PlanSkips high) (sym (goes_not m p stays)) skips)
@@ -127,7 +126,7 @@ AllSkip high after w = (k : ℕ) (l : Letter) → after < k → letter_at w.lett
 
 tick_either : (w : World) (place k : ℕ) (l : Letter) → (let e = event_at place act.Tick in letter_at (happens w e).letters k ≡ Some l
     → (letter_at w.letters k ≡ Some l) ⊎ ((j : ℕ) × (slice_get (step (w.nodes (actor w e)) does.Tick).letters j ≡ Some l)))
-unfolding happens unchanged stepped
+unfolding happens with_record with_step
 tick_either w place k l there =
     let e = event_at place act.Tick in
     split (is_stopped w (actor w e)) (λ t. inl (rw t at there)) (λ f. letter_either w.letters (step (w.nodes (actor w e)) does.Tick).letters k l
@@ -139,7 +138,7 @@ tick_letters : (rules : Rules) (r : Repair) (w : World) (name high : ℕ) → Fi
 tick_letters rules r w name high h low = split (has_departed m.status)
     (λ t. subst (All (SkipsLetter high)) (sym (departed_ticks m t).letters) (All-nil (SkipsLetter high)))
     (λ f. split (name == r.by)
-    (λ t. let same : name ≡ r.by = grind (arith, nat_tests) in
+    (λ t. let same = as_same name r.by t in
     let l = h.calm.leads in
     let far = l.high in
     subst (λ i. All (SkipsLetter high) (step (w.nodes i) does.Tick).letters) (sym same) (tick_skips high (w.nodes r.by) l.rest (λ u. omega arith)))

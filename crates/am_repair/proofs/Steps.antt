@@ -14,7 +14,7 @@ use Rattle.am_model.specs.Node.{Node, top, is_sequencer}
 use Rattle.am_model.specs.Calls.{is_unfinished}
 use Rattle.am_model.specs.Ballots.{next_stamp}
 use Rattle.am_model.specs.Emit.{Step}
-use Rattle.am_model.specs.World.{World, has_departed, unchanged, stepped, happens}
+use Rattle.am_model.specs.World.{World, has_departed, with_record, with_step, happens}
 use Rattle.am_model.proofs.Greatest.{split}
 use Rattle.am_effects.specs.Causes.{Cause}
 use Rattle.am_effects.specs.Letters.{LetterSays}
@@ -42,7 +42,7 @@ not_same a b same f = let z : ⊥ = grind (arith, nat_tests) in z
 is_same : (a b : ℕ) → a ≡ b → (a == b) ≡ true
 is_same a b same = grind (arith, nat_tests)
 
-as_same : (a b : ℕ) → (a == b) ≡ true → a ≡ b
+pub as_same : (a b : ℕ) → (a == b) ≡ true → a ≡ b
 as_same a b t = grind (arith, nat_tests)
 
 is_other : (a b : ℕ) → (a == b) ≡ false → (b == a) ≡ false
@@ -73,18 +73,13 @@ same_grows r w v same = subst (λ nodes. Grow r w (record v { nodes = nodes })) 
       kept = λ name there. omega arith;
     })
 
-calm_unchanged : (r : Repair) (w : World) (e : Event) (o : Outcome) → Calm r w → Calm r (unchanged w e o)
-unfolding unchanged
+calm_unchanged : (r : Repair) (w : World) (e : Event) (o : Outcome) → Calm r w → Calm r (with_record w e o)
+unfolding with_record
 calm_unchanged r w e o h = record {
-  own = h.own;
-  listed = h.listed;
-  who = h.who;
-  leads = h.leads;
-  follows = h.follows;
-  apart = h.apart;
+  nodes = h.nodes;
   current_ = h.current_;
   runs = h.runs;
-  letters = λ number l late there. calm_stays r w (unchanged w e o) l.packet (same_grows r w (unchanged w e o) refl) (h.letters number l late there);
+  letters = λ number l late there. calm_stays r w (with_record w e o) l.packet (same_grows r w (with_record w e o) refl) (h.letters number l late there);
 }
 
 -- ---- a step
@@ -98,20 +93,22 @@ record StepKeeps (r : Repair) (w v : World) (name : ℕ) (s : Step) : Type 0 whe
   grow : Grow r w v
   letters : (k : ℕ) (l : Letter) → slice_get s.letters k ≡ Some l → IsCalm r v l.packet
 
-calm_stepped : (r : Repair) (w : World) (e : Event) (name : ℕ) (s : Step) → Calm r w → StepKeeps r w (stepped w e name s) name s
-    → Calm r (stepped w e name s)
-unfolding stepped
+calm_stepped : (r : Repair) (w : World) (e : Event) (name : ℕ) (s : Step) → Calm r w → StepKeeps r w (with_step w e name s) name s
+    → Calm r (with_step w e name s)
+unfolding with_step
 calm_stepped r w e name s h k = record {
-  own = h.own;
-  listed = h.listed;
-  who = λ other. split (other == name) (λ t. rw t (k.who ∙ sym (as_same other name t))) (λ f. rw f (h.who other));
-  leads = k.leads;
-  follows = k.follows;
-  apart = k.apart;
+  nodes = record {
+    own = h.own;
+    listed = h.listed;
+    who = λ other. split (other == name) (λ t. rw t (k.who ∙ sym (as_same other name t))) (λ f. rw f (h.who other));
+    leads = k.leads;
+    follows = k.follows;
+    apart = k.apart;
+  };
   current_ = h.current_;
   runs = h.runs;
   letters = λ number l late there. ⊎_elim
-      (λ (old : letter_at w.letters number ≡ Some l). calm_stays r w (stepped w e name s) l.packet k.grow (h.letters number l late old))
+      (λ (old : letter_at w.letters number ≡ Some l). calm_stays r w (with_step w e name s) l.packet k.grow (h.letters number l late old))
       (λ (new : (j : ℕ) × (slice_get s.letters j ≡ Some l)). k.letters new.0 l new.1)
       (letter_either w.letters s.letters number l there);
 }
@@ -131,8 +128,8 @@ record OneChanged (w v : World) (name : ℕ) (n : Node) : Type 0 where
   here : v.nodes name ≡ n
   others : (other : ℕ) → (other == name) ≡ false → v.nodes other ≡ w.nodes other
 
-one_changed : (w : World) (e : Event) (name : ℕ) (s : Step) → OneChanged w (stepped w e name s) name s.node
-unfolding stepped
+one_changed : (w : World) (e : Event) (name : ℕ) (s : Step) → OneChanged w (with_step w e name s) name s.node
+unfolding with_step
 one_changed w e name s = record { here = (let t = is_same name name refl in rw t refl); others = λ other f. rw f refl }
 
 abbrev NoLess : Node → Node → Type 0
@@ -200,22 +197,24 @@ follows_on r w n name h there other g =
       acts_ = f.acts_;
       view_ = f.view_;
       rest = f.rest;
-      reached = f.reached;
-      low = omega arith;
-      within = omega arith;
-      told_ = f.told_ ∙ sym (g.grows.image (top (w.nodes name)) within);
-      base = g.trusts.base name there other;
-      reported = subst (λ k. (n.reports k).taken ≤ (w.nodes name).core.taken) (sym (h.who name)) (g.trusts.reported name there other);
+      agrees = record {
+        reached = f.reached;
+        low = omega arith;
+        within = omega arith;
+        told_ = f.told_ ∙ sym (g.grows.image (top (w.nodes name)) within);
+        base = g.trusts.base name there other;
+        reported = subst (λ k. (n.reports k).taken ≤ (w.nodes name).core.taken) (sym (h.who name)) (g.trusts.reported name there other);
+      };
     }
 
 leader_step : (rules : Rules) (r : Repair) (w : World) (e : Event) (s : Step) → AllOwned rules w → Calm r w → (k : OurStep r w e s) → actor w e ≡ r.by
-    → StepKeeps r w (stepped w e (actor w e) s) (actor w e) s
+    → StepKeeps r w (with_step w e (actor w e) s) (actor w e) s
 leader_step rules r w e s laws h k same =
     let name = actor w e in
     let n = s.node in
     let q = w.nodes r.by in
     let c = k.cause in
-    let v = stepped w e name s in
+    let v = with_step w e name s in
     let ch = one_changed w e name s in
     let effect = subst (λ i. Effect (w.nodes i) c s) same k.effect in
     let along = subst (λ i. Along rules (w.nodes i)) same (each_along rules w name (few_names rules w e laws.blanks.views.named) laws) in
@@ -257,14 +256,14 @@ leader_step rules r w e s laws h k same =
 -- ---- a member's step
 
 member_step : (r : Repair) (w : World) (e : Event) (s : Step) → Calm r w → (k : OurStep r w e s) → (actor w e == r.by) ≡ false
-    → has r.members (actor w e) ≡ true → StepKeeps r w (stepped w e (actor w e) s) (actor w e) s
+    → has r.members (actor w e) ≡ true → StepKeeps r w (with_step w e (actor w e) s) (actor w e) s
 member_step r w e s h k other there =
     let name = actor w e in
     let m = w.nodes name in
     let n = s.node in
     let q = w.nodes r.by in
     let c = k.cause in
-    let v = stepped w e name s in
+    let v = with_step w e name s in
     let ch = one_changed w e name s in
     let own : (m.core.who == r.by) ≡ false = ap (λ i. i == r.by) (h.who name) ∙ other in
     let f = h.follows name there other in
@@ -307,12 +306,12 @@ member_step r w e s h k other there =
 elsewhere_step : (r : Repair) (w : World) (e : Event) (s : Step) → Calm r w → (actor w e == r.by) ≡ false → has r.members (actor w e) ≡ false
     → s.node.core.who ≡ actor w e
     → (has_departed s.node.status ≡ false → IsApart r s.node) → ((k : ℕ) (l : Letter) → slice_get s.letters k ≡ Some l
-    → IsCalm r (stepped w e (actor w e) s) l.packet) → StepKeeps r w (stepped w e (actor w e) s) (actor w e) s
+    → IsCalm r (with_step w e (actor w e) s) l.packet) → StepKeeps r w (with_step w e (actor w e) s) (actor w e) s
 elsewhere_step r w e s h other none who apart letters =
     let name = actor w e in
     let n = s.node in
     let q = w.nodes r.by in
-    let v = stepped w e name s in
+    let v = with_step w e name s in
     let ch = one_changed w e name s in
     let node : v.nodes r.by ≡ q = ch.others r.by (is_other name r.by other) in
     record {
@@ -332,13 +331,13 @@ elsewhere_step r w e s h other none who apart letters =
 
 apart_step : (r : Repair) (w : World) (e : Event) (s : Step) → Calm r w → (k : OurStep r w e s) → (actor w e == r.by) ≡ false
     → has r.members (actor w e) ≡ false → has_departed (w.nodes (actor w e)).status ≡ false
-    → StepKeeps r w (stepped w e (actor w e) s) (actor w e) s
+    → StepKeeps r w (with_step w e (actor w e) s) (actor w e) s
 apart_step r w e s h k other none there =
     let name = actor w e in
     let m = w.nodes name in
     let n = s.node in
     let c = k.cause in
-    let v = stepped w e name s in
+    let v = with_step w e name s in
     let ch = one_changed w e name s in
     let own : (m.core.who == r.by) ≡ false = ap (λ i. i == r.by) (h.who name) ∙ other in
     let a = h.apart name none there in
@@ -361,7 +360,7 @@ apart_step r w e s h k other none there =
 
 gone_step : (r : Repair) (w : World) (e : Event) (s : Step) → Calm r w → (k : OurStep r w e s) → (actor w e == r.by) ≡ false
     → has r.members (actor w e) ≡ false → has_departed (w.nodes (actor w e)).status ≡ true
-    → StepKeeps r w (stepped w e (actor w e) s) (actor w e) s
+    → StepKeeps r w (with_step w e (actor w e) s) (actor w e) s
 gone_step r w e s h k other none gone =
     let still = k.still gone in
     let status = ap has_departed still.status ∙ gone in
@@ -371,7 +370,7 @@ gone_step r w e s h k other none gone =
 -- ---- each event
 
 step_keeps : (rules : Rules) (r : Repair) (w : World) (e : Event) (s : Step) → AllOwned rules w → Calm r w → OurStep r w e s
-    → StepKeeps r w (stepped w e (actor w e) s) (actor w e) s
+    → StepKeeps r w (with_step w e (actor w e) s) (actor w e) s
 step_keeps rules r w e s laws h k = split (actor w e == r.by)
     (λ t. leader_step rules r w e s laws h k (as_same (actor w e) r.by t))
     (λ f. split (has r.members (actor w e))
@@ -390,7 +389,7 @@ calm_goes rules r w e is laws h = calm_ours rules r w e (happens w e) laws h (ou
 -- ---- what it makes more
 
 ours_grow_by : (rules : Rules) (r : Repair) (w : World) (e : Event) (v : World) → AllOwned rules w → Calm r w → Ours r w e v → Grow r w v
-unfolding unchanged
+unfolding with_record
 ours_grow_by rules r w e v laws h (idles o) = same_grows r w v refl
 ours_grow_by rules r w e v laws h (steps s k) = (step_keeps rules r w e s laws h k).grow
 
@@ -400,7 +399,7 @@ ours_grow rules r w e is laws h = ours_grow_by rules r w e (happens w e) laws h 
 -- a member whose letter isn't the next entry stores nothing
 skip_step : (r : Repair) (w : World) (e : Event) (s : Step) (i : ℕ) → Calm r w → (k : OurStep r w e s) → has r.members i ≡ true → (i == r.by) ≡ false
     → Skips (top (w.nodes i)) k.cause
-    → top ((stepped w e (actor w e) s).nodes i) ≡ top (w.nodes i)
+    → top ((with_step w e (actor w e) s).nodes i) ≡ top (w.nodes i)
 skip_step r w e s i h k there other skips = split (i == actor w e)
     (λ t.
     let name = actor w e in
@@ -413,13 +412,13 @@ skip_step r w e s i h k there other skips = split (i == actor w e)
     (record { who = refl; follows = f; stored = omega arith; taken = omega arith; acc = omega arith; skips = λ x. refl }) in
     let stays = g.skips (subst (λ j. Skips (top (w.nodes j)) k.cause) same skips) in
     let ch = one_changed w e name s in
-    ap (λ j. top ((stepped w e name s).nodes j)) same ∙ ap (λ (x : Node). top x) ch.here ∙ stays ∙ ap (λ j. top (w.nodes j)) (sym same))
+    ap (λ j. top ((with_step w e name s).nodes j)) same ∙ ap (λ (x : Node). top x) ch.here ∙ stays ∙ ap (λ j. top (w.nodes j)) (sym same))
     (λ f. ap (λ (x : Node). top x) ((one_changed w e (actor w e) s).others i f))
 
 ours_skip_by : (r : Repair) (w : World) (e : Event) (v : World) (i : ℕ) → Calm r w → Ours r w e v → has r.members i ≡ true → (i == r.by) ≡ false
     → ((c : Cause) → IsCause w (actor w e) e.act c → Skips (top (w.nodes i)) c)
     → top (v.nodes i) ≡ top (w.nodes i)
-unfolding unchanged
+unfolding with_record
 ours_skip_by r w e v i h (idles o) there other skips = refl
 ours_skip_by r w e v i h (steps s k) there other skips = skip_step r w e s i h k there other (skips k.cause k.is)
 
@@ -431,7 +430,7 @@ ours_skip r w e i is h there other skips = ours_skip_by r w e (happens w e) i h 
 -- the sequencer goes on to trust what was taken at some time
 trust_step : (rules : Rules) (r : Repair) (taken : ℕ → ℕ) (w : World) (e : Event) (s : Step) → AllOwned rules w → Calm r w → (k : OurStep r w e s)
     → TellsTaken r taken k.cause → Trusts r taken (w.nodes r.by)
-    → Trusts r taken ((stepped w e (actor w e) s).nodes r.by)
+    → Trusts r taken ((with_step w e (actor w e) s).nodes r.by)
 trust_step rules r taken w e s laws h k tells t = split (actor w e == r.by)
     (λ same_.
     let name = actor w e in
@@ -450,14 +449,14 @@ trust_step rules r taken w e s laws h k tells t = split (actor w e == r.by)
       acc = omega arith;
       kept = λ i there. omega arith;
     }) in
-    let node : (stepped w e name s).nodes r.by ≡ s.node = ap (λ i. (stepped w e name s).nodes i) (sym same) ∙ (one_changed w e name s).here in
+    let node : (with_step w e name s).nodes r.by ≡ s.node = ap (λ i. (with_step w e name s).nodes i) (sym same) ∙ (one_changed w e name s).here in
     subst (Trusts r taken) (sym node) g.trusts)
     (λ f. subst (Trusts r taken) (sym ((one_changed w e (actor w e) s).others r.by (is_other (actor w e) r.by f))) t)
 
 ours_trust_by : (rules : Rules) (r : Repair) (taken : ℕ → ℕ) (w : World) (e : Event) (v : World) → AllOwned rules w → Calm r w → Ours r w e v
     → ((c : Cause) → IsCause w (actor w e) e.act c → TellsTaken r taken c)
     → Trusts r taken (w.nodes r.by) → Trusts r taken (v.nodes r.by)
-unfolding unchanged
+unfolding with_record
 ours_trust_by rules r taken w e v laws h (idles o) tells t = t
 ours_trust_by rules r taken w e v laws h (steps s k) tells t = trust_step rules r taken w e s laws h k (tells k.cause k.is) t
 

@@ -17,7 +17,7 @@ use Rattle.am_model.specs.Node.{Node, top, view, members, others, is_sequencer, 
 use Rattle.am_model.specs.Emit.{Step, accept_of}
 use Rattle.am_model.specs.Step.{step}
 use Rattle.am_model.specs.Settle.{event_at, running, ticks}
-use Rattle.am_model.specs.World.{World, is_stopped, stepped, happens, happen}
+use Rattle.am_model.specs.World.{World, is_stopped, with_step, happens, happen}
 use Rattle.am_model.proofs.Greatest.{split}
 use Rattle.am_repair.specs.Rows.{IsReport}
 use Rattle.am_repair.specs.Calm.{Repair, Leads, Follows}
@@ -49,17 +49,10 @@ polled_goes r i after accepted w e h = record {
 }
 
 pub reported_goes : (r : Repair) (i after stored : ℕ) (w : World) (e : Event) → Reported r i after stored w → Reported r i after stored (happens w e)
-reported_goes r i after stored w e h = record {
-  letter = h.letter;
-  sent = sent_goes w e after r.by h.letter h.sent;
-  report = h.report;
-  is = h.is;
-  fits = h.fits;
-  much = h.much;
-}
+reported_goes r i after stored w e h = record { letter = h.letter; sent = sent_goes w e after r.by h.letter h.sent; reports = h.reports }
 
 -- a letter of a step that an event is
-pub step_sends : (w : World) (e : Event) (name other after : ℕ) (s : Step) (l : Letter) → happens w e ≡ stepped w e name s → Contains s.letters l
+pub step_sends : (w : World) (e : Event) (name other after : ℕ) (s : Step) (l : Letter) → happens w e ≡ with_step w e name s → Contains s.letters l
     → is_for l other ≡ true → after ≤ length w.letters → IsSent (happens w e) after other l
 step_sends w e name other after s l is there meant low =
     let c = contained_at s.letters l there in
@@ -70,7 +63,7 @@ step_sends w e name other after s l is there meant low =
       meant = meant;
     }
 
-pub node_is : (w : World) (e : Event) (name : ℕ) (s : Step) → happens w e ≡ stepped w e name s → (happens w e).nodes name ≡ s.node
+pub node_is : (w : World) (e : Event) (name : ℕ) (s : Step) → happens w e ≡ with_step w e name s → (happens w e).nodes name ≡ s.node
 node_is w e name s is = ap (λ (v : World). v.nodes name) is ∙ stepped_node w e name s
 
 -- ---- the poll
@@ -179,11 +172,13 @@ reported_tick rules r i after w h there other low far =
     record {
       letter = says.letter;
       sent = step_sends w e i r.by after s says.letter is says.there meant low;
-      report = report_of n;
-      is = subst (λ k. IsReport says.letter.packet k r.view (report_of n)) who
-          (subst (λ x. IsReport says.letter.packet n.core.who x (report_of n)) promise says.says);
-      fits = omega arith;
-      much = omega arith;
+      reports = record {
+        report = report_of n;
+        is = subst (λ k. IsReport says.letter.packet k r.view (report_of n)) who
+            (subst (λ x. IsReport says.letter.packet n.core.who x (report_of n)) promise says.says);
+        fits = omega arith;
+        much = omega arith;
+      };
     }
 
 pub ticks_report : (rules : Rules) (r : Repair) (i : ℕ) (w : World) → Fine rules r w → has r.members i ≡ true → (i == r.by) ≡ false

@@ -12,7 +12,7 @@ use Rattle.am_packet.specs.declared.packet.Packet.TheVariants.{Request, Spread, 
 use Rattle.am_packet.specs.declared.packet.Packet.TheVariants.{Vote, Fetch, Piece, Result, HandOver}
 use Rattle.am_packet.specs.Boxes.{Letter}
 use Rattle.am_group.specs.Journals.{letter_at}
-use Rattle.am_model.specs.Node.{Node, top, told, view, acts, is_member, is_sequencer}
+use Rattle.am_model.specs.Node.{Node, top, image_of, view, acts, is_member, is_sequencer}
 use Rattle.am_model.specs.World.{World, current, is_stopped, has_departed}
 use Rattle.am_repair.specs.Rows.{IsAtRest}
 
@@ -33,7 +33,7 @@ pub record Repair : Type 0 where
 pub record Leads (r : Repair) (m : Node) : Type 0 where
   pub leads : is_sequencer m ≡ true
   pub view_ : view m ≡ r.view
-  pub number : (told m).view_number ≡ r.at
+  pub number : (image_of m).view_number ≡ r.at
   pub rest : IsAtRest m
   pub high : r.high ≤ top m
   pub reached : r.at ≤ r.high
@@ -41,18 +41,23 @@ pub record Leads (r : Repair) (m : Node) : Type 0 where
   pub members_ : (name k : ℕ) → has r.members name ≡ true → r.high ≤ k → k ≤ top m → has (members_at m.core.log k) name ≡ true
   pub counted : (k : ℕ) → m.core.acc < k → k ≤ r.high → r.at ≤ k → All (λ name. has r.members name ≡ true) (names_of (counted_at m.core.log k))
 
--- a member: its list has the view's View, and tells what the sequencer's tells up to there; and the sequencer trims and knows no more of it than
--- it has taken
+-- a member's list goes to this number at least, and tells what the sequencer's tells up to there; and the sequencer trims and knows no more of
+-- it than it has taken
+pub record AgreesFrom (at : ℕ) (q m : Node) : Type 0 where
+  pub reached : at ≤ top m
+  pub low : q.core.log.start ≤ top m
+  pub within : top m ≤ top q
+  pub told_ : image_of m ≡ image_at q.core.log (top m)
+  pub base : q.core.base ≤ m.core.taken
+  pub reported : (q.reports m.core.who).taken ≤ m.core.taken
+
+-- a member, whose list has the view's View
 pub record Follows (r : Repair) (q m : Node) : Type 0 where
   pub acts_ : acts m ≡ true
   pub view_ : view m ≡ r.view
   pub rest : IsAtRest m
-  pub reached : r.at ≤ top m
-  pub low : q.core.log.start ≤ top m
-  pub within : top m ≤ top q
-  pub told_ : told m ≡ image_at q.core.log (top m)
-  pub base : q.core.base ≤ m.core.taken
-  pub reported : (q.reports m.core.who).taken ≤ m.core.taken
+  pub agrees : AgreesFrom r.at q m
+  pub open agrees use *
 
 -- anybody else that is there: no ballot, no leaving, and who was welcomed has promised the view
 pub record IsApart (r : Repair) (m : Node) : Type 0 where
@@ -92,13 +97,18 @@ IsCalm r w (HandOver s v) = ⊥
 
 -- ---- the whole
 
-pub record Calm (r : Repair) (w : World) : Type 0 where
+-- the sequencer leads, members follow, and anybody else is apart
+pub record CalmNodes (r : Repair) (nodes : ℕ → Node) : Type 0 where
   pub own : r.view.by ≡ r.by
   pub listed : has r.members r.by ≡ true
-  pub who : (name : ℕ) → (w.nodes name).core.who ≡ name
-  pub leads : Leads r (w.nodes r.by)
-  pub follows : (name : ℕ) → has r.members name ≡ true → (name == r.by) ≡ false → Follows r (w.nodes r.by) (w.nodes name)
-  pub apart : (name : ℕ) → has r.members name ≡ false → has_departed (w.nodes name).status ≡ false → IsApart r (w.nodes name)
+  pub who : (name : ℕ) → (nodes name).core.who ≡ name
+  pub leads : Leads r (nodes r.by)
+  pub follows : (name : ℕ) → has r.members name ≡ true → (name == r.by) ≡ false → Follows r (nodes r.by) (nodes name)
+  pub apart : (name : ℕ) → has r.members name ≡ false → has_departed (nodes name).status ≡ false → IsApart r (nodes name)
+
+pub record Calm (r : Repair) (w : World) : Type 0 where
+  pub nodes : CalmNodes r w.nodes
+  pub open nodes use *
   -- members are there
   pub current_ : (name : ℕ) → has r.members name ≡ true → current w (place_of name) ≡ name
   pub runs : (name : ℕ) → has r.members name ≡ true → is_stopped w name ≡ false

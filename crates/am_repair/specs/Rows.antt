@@ -10,12 +10,12 @@ use Rattle.am_base.specs.Fronts.{counted_at}
 use Rattle.am_packet.specs.declared.packet.Packet.{Packet}
 use Rattle.am_packet.specs.declared.packet.Packet.TheVariants.{Request, Spread, Bcast, Accept, Ack, Nack}
 use Rattle.am_packet.specs.Boxes.{Letter, letter_to}
-use Rattle.am_model.specs.Node.{Node, top, told, view, members, others, only_name, acts, is_sequencer, has_own_leave, report_of, report_fits}
+use Rattle.am_model.specs.Node.{Node, top, image_of, view, members, others, only_name, acts, is_sequencer, has_own_leave, report_of, report_fits}
 use Rattle.am_model.specs.Refresh.{refresh_at_end}
-use Rattle.am_model.specs.Emit.{Step, bcast_of, accept_of, nack_of, served}
+use Rattle.am_model.specs.Emit.{Step, bcast_of, accept_of, nack_of, entries_to_serve}
 use Rattle.am_model.specs.Step.{step, hear}
 use Rattle.am_model.specs.Calls.{is_unfinished}
-use Rattle.am_model.specs.Sequencing.{is_unknown, reported}
+use Rattle.am_model.specs.Sequencing.{is_unknown, take_report}
 use Rattle.am_model.specs.Receiving.{is_view}
 use Rattle.am_model.specs.Hearing.{hears_sequencer, hears_as_sequencer}
 
@@ -86,11 +86,11 @@ bcasts n to number (e ∷ es) = letter_to to (bcast_of n number e) ∷ bcasts n 
 pub record Serves (m : Node) (s stored : ℕ) (step : Step) : Type 0 where
   pub same : step.node.core.log ≡ m.core.log
   pub more : List Letter
-  pub letters : step.letters ≡ bcasts step.node (only_name s) (stored + 1) (served m stored) ++ more
+  pub letters : step.letters ≡ bcasts step.node (only_name s) (stored + 1) (entries_to_serve m stored) ++ more
 
 abbrev pub NacksAreServed : Type 0
 NacksAreServed = (m : Node) (s : ℕ) (v : Stamp) (report : Report) → hears_as_sequencer m s v ≡ true → is_unknown m s ≡ false → report_fits m report ≡ true
-    → (reported m s report).core.base ≤ report.stored → Serves m s report.stored (hear m (Nack s v report))
+    → (take_report m s report).core.base ≤ report.stored → Serves m s report.stored (hear m (Nack s v report))
 
 -- ---- a member hears an entry
 
@@ -100,7 +100,7 @@ pub record ComesNext (m : Node) (base number : ℕ) (e : Entry) : Type 0 where
   pub stays : has_own_leave m ≡ false
   pub taken : base ≤ m.core.taken
   pub plain : is_view e ≡ false
-  pub fits : fits (told m) e ≡ true
+  pub fits : fits (image_of m) e ≡ true
   pub within : number - base ≤ m.core.rules.window + 15
 
 abbrev pub EntriesAreStored : Type 0
@@ -116,8 +116,8 @@ HasReported m high name = (name ≡ m.core.who) ⊎ (high ≤ (m.reports name).s
 -- each name whose storage counts, of what isn't accepted up to a number, has reported all up to there
 pub record HasReports (m : Node) (high : ℕ) : Type 0 where
   pub stored : high ≤ top m
-  pub view : (told m).view_number ≤ high
-  pub each : (number : ℕ) → m.core.acc < number → number ≤ high → (told m).view_number ≤ number
+  pub view : (image_of m).view_number ≤ high
+  pub each : (number : ℕ) → m.core.acc < number → number ≤ high → (image_of m).view_number ≤ number
       → All (HasReported m high) (names_of (counted_at m.core.log number))
 
 -- it accepts all of that at the end of its step

@@ -6,23 +6,18 @@ use Rattle.am_base.specs.Names.{has, names_of}
 use Rattle.am_base.specs.Lists.{image_at, entry_at, fits}
 use Rattle.am_base.specs.Fronts.{counted_at}
 use Rattle.am_group.specs.declared.event.Event.{Event}
-use Rattle.am_model.specs.Node.{Node, top, told, members, is_member}
+use Rattle.am_model.specs.Node.{Node, top, image_of, members, is_member}
 use Rattle.am_model.specs.Settle.{settle_events}
 use Rattle.am_model.specs.World.{World, current, happen, run}
 use Rattle.am_chain_lists.specs.Whole as whole
 use Rattle.am_model.specs.Lawful as lists
 use Rattle.am_model.specs.Lawful.{lawful_front}
 use Rattle.am_model.specs.Claims.{MayRepair, HasCaughtUp}
+use Rattle.am_repair.specs.Calm.{AgreesFrom}
 
--- a member's list has the sequencer's last View, and tells what the sequencer's tells up to there; and the sequencer trims and knows no more
--- of it than it has taken
-pub record Agrees (q m : Node) : Type 0 where
-  pub reached : (told q).view_number ≤ top m
-  pub low : q.core.log.start ≤ top m
-  pub within : top m ≤ top q
-  pub told_ : told m ≡ image_at q.core.log (top m)
-  pub base : q.core.base ≤ m.core.taken
-  pub reported : (q.reports m.core.who).taken ≤ m.core.taken
+-- a member's list has the sequencer's last View, and agrees with it from there
+abbrev pub Agrees : Node → Node → Type 0
+Agrees q m = AgreesFrom (image_of q).view_number q m
 
 -- of the sequencer of a group that may be repaired
 pub record Agree (w : World) (q : Node) : Type 0 where
@@ -32,7 +27,7 @@ pub record Agree (w : World) (q : Node) : Type 0 where
   -- its entries fit
   pub fit : (number : ℕ) (e : Entry) → entry_at q.core.log number ≡ Some e → fits (image_at q.core.log (number - 1)) e ≡ true
   -- from the last View on, whose storage counts for what isn't accepted yet is a member still
-  pub counted : (number : ℕ) → q.core.acc < number → number ≤ top q → (told q).view_number ≤ number
+  pub counted : (number : ℕ) → q.core.acc < number → number ≤ top q → (image_of q).view_number ≤ number
       → All (λ name. has (members q) name ≡ true) (names_of (counted_at q.core.log number))
 
 -- where lists agree so, a lossless schedule brings each member to where the sequencer stood
@@ -48,7 +43,7 @@ RepairsWhereListsAgree = (rules : Rules) (events : List Event) (place : ℕ) →
 -- a node's whole list begins the sequencer's; and where it begins itself, the group had accepted so much, and its image tells just that
 pub record IsBeginning (w : World) (q m : Node) : Type 0 where
   pub within : m.core.log.start ≤ length w.group
-  pub image : m.core.log.image ≡ whole.told (take m.core.log.start w.group)
+  pub image : m.core.log.image ≡ whole.image_of (take m.core.log.start w.group)
   pub begins : whole.Begins (lists.whole w m) (lists.whole w q)
 
 -- the sequencer's whole list fits, each Member's begins it, and each Member is a member by it
@@ -60,7 +55,7 @@ pub record IsOneList (w : World) (q : Node) : Type 0 where
 -- what is left: the sequencer trims no more than each member has taken, and who has left is accepted to have left
 pub record IsSettled (w : World) (q : Node) : Type 0 where
   pub trims : (name : ℕ) → has (members q) name ≡ true → q.core.base ≤ (w.nodes name).core.taken
-  pub counted : (number : ℕ) → q.core.acc < number → number ≤ top q → (told q).view_number ≤ number
+  pub counted : (number : ℕ) → q.core.acc < number → number ≤ top q → (image_of q).view_number ≤ number
       → All (λ name. has (members q) name ≡ true) (names_of (counted_at q.core.log number))
 
 abbrev pub OneListAgrees : Type 0

@@ -4,6 +4,7 @@ use Rattle.am_base.specs.declared.image.Report.{Report}
 use Rattle.am_base.specs.declared.entry.Entry.{Entry}
 use Rattle.am_base.specs.Founding.{Rules}
 use Rattle.am_base.specs.Lists.{entry_at}
+use Rattle.am_packet.specs.declared.packet.Packet.{Packet}
 use Rattle.am_packet.specs.declared.packet.Packet.TheVariants.{Bcast, Accept, Nack}
 use Rattle.am_packet.specs.Boxes.{Letter, letter_to}
 use Rattle.am_group.specs.Addressed.{is_for}
@@ -31,23 +32,33 @@ pub record Polled (r : Repair) (i after accepted : ℕ) (w : World) : Type 0 whe
   pub far : r.high ≤ high
   pub told : accepted ≤ acc
 
--- and so is a member's report, of at least so much stored
+-- a member's report, of at least so much stored
+pub record ReportsFrom (r : Repair) (i stored : ℕ) (p : Packet) : Type 0 where
+  pub report : Report
+  pub is : IsReport p i r.view report
+  pub fits : report.taken ≤ report.stored
+  pub much : stored ≤ report.stored
+
+-- and so is such a report
 pub record Reported (r : Repair) (i after stored : ℕ) (w : World) : Type 0 where
   pub letter : Letter
   pub sent : IsSent w after r.by letter
+  pub reports : ReportsFrom r i stored letter.packet
+  pub open reports use *
+
+-- a member's question, of just so much stored
+pub record AsksFrom (r : Repair) (i stored : ℕ) (p : Packet) : Type 0 where
   pub report : Report
-  pub is : IsReport letter.packet i r.view report
+  pub is : p ≡ Nack i r.view report
   pub fits : report.taken ≤ report.stored
-  pub much : stored ≤ report.stored
+  pub exact : report.stored ≡ stored
 
 -- after the first wave: a member that has less has asked for what is missing
 pub record Asked (r : Repair) (i after stored : ℕ) (w : World) : Type 0 where
   pub letter : Letter
   pub sent : IsSent w after r.by letter
-  pub report : Report
-  pub is : letter.packet ≡ Nack i r.view report
-  pub fits : report.taken ≤ report.stored
-  pub exact : report.stored ≡ stored
+  pub asks : AsksFrom r i stored letter.packet
+  pub open asks use *
 
 -- an entry of the sequencer's list on its way to a member, which may store it where it comes next
 pub record IsServed (rules : Rules) (r : Repair) (i letter number : ℕ) (w : World) : Type 0 where

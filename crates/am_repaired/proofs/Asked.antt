@@ -17,14 +17,14 @@ use Rattle.am_group.specs.declared.event.Act.TheVariants as act
 use Rattle.am_group.specs.declared.event.Event.{Event}
 use Rattle.am_group.specs.Addressed.{is_for}
 use Rattle.am_group.specs.Journals.{letter_at}
-use Rattle.am_model.specs.Node.{Node, told, is_sequencer, has_room}
+use Rattle.am_model.specs.Node.{Node, image_of, is_sequencer, has_room}
 use Rattle.am_model.specs.Emit.{Plan, Step, finish}
-use Rattle.am_model.specs.Step.{hear, refused}
-use Rattle.am_model.specs.Joining.{admitted, asks_to_join, join_ask_row}
+use Rattle.am_model.specs.Step.{hear, hear_refusal}
+use Rattle.am_model.specs.Joining.{with_admitted, asks_to_join, join_ask_row}
 use Rattle.am_model.specs.Hearing.{hears_member, hear_row}
 use Rattle.am_model.specs.Lengths.{packet_length}
 use Rattle.am_model.specs.Refresh.{refresh_at_end}
-use Rattle.am_model.specs.World.{World, is_stopped, unchanged, stepped, heard, hear_cut, acts_as, happens}
+use Rattle.am_model.specs.World.{World, is_stopped, with_record, with_step, hears_letter, hear_cut, acts_as, happens}
 use Rattle.am_model.specs.Claims.{heard_by}
 use Rattle.am_model.proofs.Greatest.{split, and_both}
 use Rattle.am_effects.specs.Events.{actor}
@@ -34,7 +34,7 @@ use Rattle.am_repaired.proofs.Came.{other_member}
 -- as before, but that a joiner whose Join fits the sequencer's list begins at the base
 pub data Asked (m y : Node) (s : ℕ) : Type 0 where
   as_before : ((j : ℕ) → (j == m.core.who) ≡ false → y.reports j ≡ m.reports j) → Asked m y s
-  admitted_ : (s == m.core.who) ≡ false → is_sequencer m ≡ true → fits (told m) (Join s) ≡ true → (y.reports s).taken ≡ m.core.base
+  admitted_ : (s == m.core.who) ≡ false → is_sequencer m ≡ true → fits (image_of m) (Join s) ≡ true → (y.reports s).taken ≡ m.core.base
       → ((j : ℕ) → (j == m.core.who) ≡ false → (j == s) ≡ false → y.reports j ≡ m.reports j) → Asked m y s
 
 record PlanAsked (m : Node) (s : ℕ) (p : Plan) : Type 0 where
@@ -68,8 +68,8 @@ row_asked m s q not_own leads =
     plan_if m s (nat_lt (life_of s) q.life) _ _ (λ t. same_plan m s _ refl refl)
     (λ a. plan_if m s ((q.life == life_of s) && nat_lt 0 q.left) _ _ (λ t. same_plan m s _ refl refl)
     (λ b. plan_if m s (nat_lt q.life (life_of s) && (nat_lt 0 q.life && ((q.left == 0) || nat_lt m.core.acc q.left))) _ _ (λ t. same_plan m s _ refl refl)
-    (λ c. plan_if m s (fits (told m) (Join s) && not (has_room m)) _ _ (λ t. same_plan m s _ refl refl)
-    (λ d. plan_if m s (fits (told m) (Join s)) _ _ (λ fit. record {
+    (λ c. plan_if m s (fits (image_of m) (Join s) && not (has_room m)) _ _ (λ t. same_plan m s _ refl refl)
+    (λ d. plan_if m s (fits (image_of m) (Join s)) _ _ (λ fit. record {
       stays = refl;
       who = refl;
       asked = admitted_ not_own leads fit (begins_at m s)
@@ -78,7 +78,7 @@ row_asked m s q not_own leads =
     (λ e. plan_if m s (nat_le q.joined (m.reports s).stored || nat_lt m.core.acc q.joined) _ _ (λ t. same_plan m s _ refl refl)
     (λ t. same_plan m s _ refl refl))))))
   where
-    begins_at : (m : Node) (s : ℕ) → ((admitted m s).reports s).taken ≡ m.core.base
+    begins_at : (m : Node) (s : ℕ) → ((with_admitted m s).reports s).taken ≡ m.core.base
     begins_at m s = let t : (s == s) ≡ true = grind (arith, nat_tests) in rw t refl
 
 -- whoever hears it
@@ -87,11 +87,11 @@ unfolding hear hear_row join_ask_row
 asked m s v = plan_ends m s _ (plan_if m s (hears_member m s && is_sequencer m) _ _
     (λ t.
     let both = and_both (hears_member m s) (is_sequencer m) t in
-    row_asked m s (at_place (told m) s) (other_member m s both.0) both.1)
+    row_asked m s (at_place (image_of m) s) (other_member m s both.0) both.1)
     (λ t. same_plan m s _ refl refl))
 
-refused_asked : (m : Node) (s cause : ℕ) → Asked m (refused m cause).node s
-unfolding refused finish
+refused_asked : (m : Node) (s cause : ℕ) → Asked m (hear_refusal m cause).node s
+unfolding hear_refusal finish
 refused_asked m s cause = as_before (λ j other. end_same m j other)
 
 cut_asked : (m : Node) (keep s : ℕ) (v : Stamp) → Asked m (hear_cut m keep (packet.JoinAsk s v)).node s
@@ -108,16 +108,16 @@ asked_if : (w : World) (name s : ℕ) (b : Bool) (u v : World) → AskedIn w nam
 asked_if w name s true u v f g = f
 asked_if w name s false u v f g = g
 
-asked_same : (w : World) (e : Event) (name s : ℕ) (o : Outcome) → AskedIn w name s (unchanged w e o)
-unfolding unchanged
+asked_same : (w : World) (e : Event) (name s : ℕ) (o : Outcome) → AskedIn w name s (with_record w e o)
+unfolding with_record
 asked_same w e name s o = as_before (λ j other. refl)
 
-asked_step : (w : World) (e : Event) (name s : ℕ) (step : Step) → Asked (w.nodes name) step.node s → AskedIn w name s (stepped w e name step)
-unfolding stepped
+asked_step : (w : World) (e : Event) (name s : ℕ) (step : Step) → Asked (w.nodes name) step.node s → AskedIn w name s (with_step w e name step)
+unfolding with_step
 asked_step w e name s step h = let t : (name == name) ≡ true = grind (arith, nat_tests) in rw t h
 
 asked_letter : (w : World) (e : Event) (name s : ℕ) (v : Stamp) (hearing : Packet → Step) (l : Letter)
-    → Asked (w.nodes name) (hearing (packet.JoinAsk s v)).node s → l.packet ≡ packet.JoinAsk s v → AskedIn w name s (heard w e name hearing (Some l))
+    → Asked (w.nodes name) (hearing (packet.JoinAsk s v)).node s → l.packet ≡ packet.JoinAsk s v → AskedIn w name s (hears_letter w e name hearing (Some l))
 asked_letter w e name s v hearing l h is =
     asked_if w name s (not (is_for l name)) _ _ (asked_same w e name s said.NotAddressed)
     (asked_if w name s (is_stopped w name) _ _ (asked_same w e name s said.IsStopped)
@@ -126,9 +126,9 @@ asked_letter w e name s v hearing l h is =
 -- who hears it, by an act that names its letter
 asked_act : (w : World) (e : Event) (name s : ℕ) (v : Stamp) (a : Act) (l : Letter) → letter_at w.letters (heard_by a) ≡ Some l
     → l.packet ≡ packet.JoinAsk s v → AskedIn w name s (acts_as w e name a)
-asked_act w e name s v (act.Hear number) l at is = subst (λ o. AskedIn w name s (heard w e name (hear (w.nodes name)) o)) (sym at)
+asked_act w e name s v (act.Hear number) l at is = subst (λ o. AskedIn w name s (hears_letter w e name (hear (w.nodes name)) o)) (sym at)
     (asked_letter w e name s v (hear (w.nodes name)) l (asked (w.nodes name) s v) is)
-asked_act w e name s v (act.Cut number keep) l at is = subst (λ o. AskedIn w name s (heard w e name (hear_cut (w.nodes name) keep) o)) (sym at)
+asked_act w e name s v (act.Cut number keep) l at is = subst (λ o. AskedIn w name s (hears_letter w e name (hear_cut (w.nodes name) keep) o)) (sym at)
     (asked_letter w e name s v (hear_cut (w.nodes name) keep) l (cut_asked (w.nodes name) keep s v) is)
 asked_act w e name s v _ l at is = absurd (cc)
 

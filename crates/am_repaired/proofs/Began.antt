@@ -30,13 +30,19 @@ rises_along rules m n heard used (changed {n = x} one more) a =
 
 -- ---- who begins
 
-pub record Began (c : Cause) (y : Node) : Type 0 where
+-- a Welcome that is heard
+pub record HearsWelcome (c : Cause) : Type 0 where
   pub from : ℕ
   pub stamp : Stamp
   pub base : ℕ
   pub join : ℕ
   pub image : Image
   pub says : c ≡ hears (packet.Welcome from stamp base join image)
+
+-- a list that it began
+pub record Began (c : Cause) (y : Node) : Type 0 where
+  pub welcome : HearsWelcome c
+  pub open welcome use *
   pub taken : base ≤ y.core.taken
 
 -- it has no list, or a Welcome began it
@@ -44,16 +50,7 @@ abbrev pub Blank : Cause → Node → Type 0
 Blank c y = (has_log y.status ≡ false) ⊎ Began c y
 
 began_up : (c : Cause) (x y : Node) → x.core.taken ≤ y.core.taken → Began c x → Began c y
-began_up c x y up b = record {
-  from = b.from;
-  stamp = b.stamp;
-  base = b.base;
-  join = b.join;
-  image = b.image;
-  says = b.says;
-  taken = let t = b.taken in omega
-      arith;
-}
+began_up c x y up b = record { welcome = b.welcome; taken = let t = b.taken in omega arith }
 
 on : (c : Cause) (x y : Node) → x.core.taken ≤ y.core.taken → (has_log x.status ≡ false → has_log y.status ≡ false) → Blank c x → Blank c y
 on c x y up none h = ⊎_elim (λ (f : has_log x.status ≡ false). inl (none f)) (λ (b : Began c x). inr (began_up c x y up b)) h
@@ -63,7 +60,7 @@ blank_kind c o x y (ways.alike a) h = let t = a.taken in on c x y (omega arith) 
 blank_kind c o x y ways.refreshed h = let r = (rests_refresh x).rests in on c x y r.taken (λ f. ap has_log r.status ∙ f) h
 blank_kind c o x y ways.settled h = subst (Blank c) (sym (settle_is x)) (on c x _ (omega arith) (λ f. f) h)
 blank_kind c o x y (ways.began s v base join image is says may) h =
-    inr (record { from = s; stamp = v; base = base; join = join; image = image; says = is; taken = omega arith })
+    inr (record { welcome = record { from = s; stamp = v; base = base; join = join; image = image; says = is }; taken = omega arith })
 blank_kind c o x y (ways.left member leaves) h = on c x y (omega arith) (λ f. absurd (let t = logged x.status member in cc)) h
 blank_kind c o x y (ways.sent body stays) h = on c x y (omega arith) (λ f. f) h
 blank_kind c o x y (ways.collected req) h = on c x y (omega arith) (λ f. f) h

@@ -10,8 +10,8 @@ use Rattle.am_base.specs.Founding.{Rules}
 use Rattle.am_base.specs.Stamps.{stamp_lt, stamp_eq}
 use Rattle.am_base.specs.Lists.{Log, blank, fold, told_by}
 use Rattle.am_packet.specs.declared.packet.Packet.TheVariants as packet
-use Rattle.am_model.specs.Node.{Node, Ballot, view, told, acts, is_member, is_asking, pushed, trimmed}
-use Rattle.am_model.specs.Ballots.{Verdict, promised, next_stamp, trimmed_for, left_in, need_of}
+use Rattle.am_model.specs.Node.{Node, Ballot, view, image_of, acts, is_member, is_asking, push_entry, trim_up_to}
+use Rattle.am_model.specs.Ballots.{Verdict, with_promise, next_stamp, trim_for, left_in, need_of}
 use Rattle.am_model.specs.Receiving.{is_view}
 use Rattle.am_model.specs.Group.{has_log}
 use Rattle.am_model.specs.Hearing.{hears_member, hears_asking}
@@ -76,7 +76,7 @@ came_on c m x y s (told_so from v base tells v_is by other low) =
 stays_alike : (x y : Node) → Alike x y → Stays x y
 stays_alike x y h = record { who = h.who; view_ = view_alike h; acts_ = λ t. sym (acts_alike h) ∙ t; taken = h.taken }
 
-stays_pushed : (x y : Node) (e : Entry) → is_view e ≡ false → y.core.who ≡ x.core.who → view y ≡ view (pushed x e) → y.core.promise ≡ x.core.promise
+stays_pushed : (x y : Node) (e : Entry) → is_view e ≡ false → y.core.who ≡ x.core.who → view y ≡ view (push_entry x e) → y.core.promise ≡ x.core.promise
     → y.status ≡ x.status → x.core.taken ≤ y.core.taken → Stays x y
 stays_pushed x y e plain who viewed promise status taken =
     let v = viewed ∙ view_pushed x e plain in
@@ -110,27 +110,27 @@ came_look c m x b v (fetches_from_best w u z) mine above h t = came_on c m x v.n
 came_look c m x b v (finds_too_few w u) mine above h t = came_on c m x v.node (record { who = refl; view_ = refl; acts_ = λ a. a; taken = omega arith }) (h t)
 came_look c m x b v (finds_no_room w) mine above h t = came_on c m x v.node (record { who = refl; view_ = refl; acts_ = λ a. a; taken = omega arith }) (h t)
 came_look c m x b v (decides may) mine above h t =
-    let is : view v.node ≡ b.stamp = view_last (trimmed_for x b (left_in b (need_of x b))) b.stamp (left_in b (need_of x b))
-    (max b.resilience (told x).resilience) in
+    let is : view v.node ≡ b.stamp = view_last (trim_for x b (left_in b (need_of x b))) b.stamp (left_in b (need_of x b))
+    (max b.resilience (image_of x).resilience) in
     own (ap (λ (u : Stamp). u.by) is ∙ mine) (ap (stamp_lt (view m)) is ∙ above)
 
 -- a promise of the view that the node is in is no new one
-promised_acts : (x : Node) (v : Stamp) → HasNames x → v.by < 256 → Balloted x → stamp_lt v x.core.promise ≡ false → acts (promised x v) ≡ true → acts x ≡ true
+promised_acts : (x : Node) (v : Stamp) → HasNames x → v.by < 256 → Balloted x → stamp_lt v x.core.promise ≡ false → acts (with_promise x v) ≡ true → acts x ≡ true
 promised_acts x v names few k low t =
-    let a = acting (promised x v) t in
+    let a = acting (with_promise x v) t in
     let up : stamp_lt x.core.promise v ≡ false = ap (stamp_lt x.core.promise) a.1 ∙ k.high in
     let same : v ≡ x.core.promise = equal_stamps v x.core.promise few names.promise_ low up in
     sym (ap (λ s. is_member x.status && stamp_eq s (view x)) same) ∙ t
 
 -- what is fetched is no View, or that of the promise, from its own name
 fetched_view : (x : Node) (s : ℕ) (v : Stamp) (base : ℕ) (e : Entry) → Fetches x s v e → v ≡ x.core.promise → is_view e ≡ true
-    → acts (pushed (trimmed x base) e) ≡ true → (view (pushed (trimmed x base) e) ≡ v) × (v.by ≡ s)
+    → acts (push_entry (trim_up_to x base) e) ≡ true → (view (push_entry (trim_up_to x base) e) ≡ v) × (v.by ≡ s)
 fetched_view x s v base (Data from req body) why promise is t = absurd (cc)
 fetched_view x s v base (Join name) why promise is t = absurd (cc)
 fetched_view x s v base (Leave name) why promise is t = absurd (cc)
 fetched_view x s v base (View stamp names resilience) why promise is t =
-    let last = view_last (trimmed x base) stamp names resilience in
-    let at : stamp ≡ v = sym ((acting (pushed (trimmed x base) (View stamp names resilience)) t).1 ∙ last) ∙ sym promise in
+    let last = view_last (trim_up_to x base) stamp names resilience in
+    let at : stamp ≡ v = sym ((acting (push_entry (trim_up_to x base) (View stamp names resilience)) t).1 ∙ last) ∙ sym promise in
     (last ∙ at, by_name why at)
   where
     by_name : Fetches x s v (View stamp names resilience) → stamp ≡ v → v.by ≡ s
@@ -175,7 +175,7 @@ came_change c o m x y heard names after k low (fetches s v base number e is hear
     told_so s v base (subst (λ z. Tells z s v base) (sym is) (by_piece s v base number e)) at.0 at.1 (other_member x s heard_) may.taken)
     (λ f. let s_ = stays_pushed x y e f refl refl refl refl (omega arith) in came_on c m x y s_ (h (s_.acts_ t)))
 came_change c o m x y heard names after k low (stores_view s v base number names_ resilience is heard_ own_ other promise below may) h t =
-    told_so s v base (subst (λ z. Tells z s v base) (sym is) (by_result s v base number names_ resilience)) (view_last (trimmed x base) v names_ resilience)
+    told_so s v base (subst (λ z. Tells z s v base) (sym is) (by_result s v base number names_ resilience)) (view_last (trim_up_to x base) v names_ resilience)
     (by_sender v s own_) (other_member x s heard_) may.taken
 came_change c o m x y heard names after k low (queues body is says member stays few) h t = came_on c m x y (plain_stay x y refl refl refl refl (omega arith))
     (h t)

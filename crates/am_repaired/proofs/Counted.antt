@@ -12,12 +12,12 @@ use Rattle.am_base.specs.Lists.{fold, blank, members_of}
 use Rattle.am_base.specs.Fronts.{counted_at}
 use Rattle.am_group.specs.declared.event.Event.{Event}
 use Rattle.am_fronts.proofs.Views.{view_grows}
-use Rattle.am_chain_lists.specs.Whole.{Begins, IsGood, told, mem, view_of, key}
+use Rattle.am_chain_lists.specs.Whole.{Begins, IsGood, image_of, mem, view_of, key}
 use Rattle.am_chain_lists.proofs.Prefixes.{begins_trans, begins_length, length_push}
 use Rattle.am_chain_lists.proofs.Members.{good_begins, told_push, mem_push, ends_of}
-use Rattle.am_chain_moves.specs.Group.{Group, Leads, counted, opening, chain_of, current_of}
+use Rattle.am_chain_moves.specs.Group.{Group, Leads, counted_in, opening, chain_of, current_of}
 use Rattle.am_chain_moves.specs.Kept.{Kept}
-use Rattle.am_model.specs.Node.{Node, top, told as told_at, members, lowest_or_first}
+use Rattle.am_model.specs.Node.{Node, top, image_of as told_at, members, lowest_or_first}
 use Rattle.am_model.specs.Claims.{MayRepair}
 use Rattle.am_model.specs.World.{World, current, run}
 use Rattle.am_model.proofs.Folds.{fold_append}
@@ -45,7 +45,7 @@ use Rattle.am_repaired.proofs.Upheld.{Upheld, upheld_start, upheld_keeps}
 -- ---- how a membership ends behind the last View
 
 -- by its own Leave, as no View stands there
-leaves_last : (list before : List Entry) (name : ℕ) (e : Entry) → IsGood list → Begins (before ++ e ∷ []) list → (told list).view_number ≤ length before
+leaves_last : (list before : List Entry) (name : ℕ) (e : Entry) → IsGood list → Begins (before ++ e ∷ []) list → (image_of list).view_number ≤ length before
     → mem before name ≡ true → mem (before ++ e ∷ []) name ≡ false → e ≡ Leave name
 leaves_last list before name (Data from req body) good within view_ is none =
     absurd (let z = mem_push before (Data from req body) name (good_begins within good) tt is in cc)
@@ -63,19 +63,19 @@ leaves_last list before name (Leave leaver) good within view_ is none = split (l
 leaves_last list before name (View stamp names resilience) good within view_ is none = absurd (
     let a = before ++ View stamp names resilience ∷ [] in
     let long = length_push before (View stamp names resilience) in
-    let its = after_view (told before) (1 + length before) stamp names resilience in
-    let here : (told a).view_number ≡ 1 + length before = ap (λ (g : Image). g.view_number) (told_push before (View stamp names resilience)) ∙ its.1 in
-    let all : told list ≡ fold (told a) (1 + length a) within.rest = ap told (sym within.same) ∙ fold_append blank 1 a within.rest in
+    let its = after_view (image_of before) (1 + length before) stamp names resilience in
+    let here : (image_of a).view_number ≡ 1 + length before = ap (λ (g : Image). g.view_number) (told_push before (View stamp names resilience)) ∙ its.1 in
+    let all : image_of list ≡ fold (image_of a) (1 + length a) within.rest = ap image_of (sym within.same) ∙ fold_append blank 1 a within.rest in
     let number = ap (λ (g : Image). g.view_number) all in
-    let more = view_grows (told a) (1 + length a) within.rest (omega arith) in
+    let more = view_grows (image_of a) (1 + length a) within.rest (omega arith) in
     omega arith)
 
 -- ---- of a group
 
 -- who counts for a number that the sequencer hasn't accepted, behind the last View, is a member at the list's end
 stays_member : (s : Group) (q : ℕ) (list : List Entry) (n name : ℕ) → Kept s → AllLeft s → Leads q (s.node q) → list ≡ chain_of s.views
-    → length s.group < n → n ≤ length list → (told list).view_number ≤ n → ((s.node name).leaving ≡ true → (s.node name).departed ≡ true)
-    → has (counted list n) name ≡ true → mem list name ≡ true
+    → length s.group < n → n ≤ length list → (image_of list).view_number ≤ n → ((s.node name).leaving ≡ true → (s.node name).departed ≡ true)
+    → has (counted_in list n) name ≡ true → mem list name ≡ true
 stays_member s q list n name k left leads is low high view_ leaves h = split (mem list name)
     (λ t. t)
     (λ f. absurd (
@@ -158,7 +158,7 @@ module _ (rules : Rules) (events : List Event) (place : ℕ) (may : MayFound rul
     is : list ≡ chain_of s.views
     is = ((kept.each q).leads leads).chain
 
-    numbered : (told list).view_number ≡ (told_at m).view_number
+    numbered : (image_of list).view_number ≡ (told_at m).view_number
     numbered = ap (λ (g : Image). g.view_number) (told_all w q m (s.node q) stands)
 
     viewed : view_of list ≡ s.views.current
@@ -180,16 +180,16 @@ module _ (rules : Rules) (events : List Event) (place : ℕ) (may : MayFound rul
       where
         reached : (before : List Entry)
             → Begins (before ++ View (current_of s.views).stamp (current_of s.views).members (current_of s.views).resilience ∷ []) list
-            → length before < (told list).view_number
+            → length before < (image_of list).view_number
         reached before on =
             let e = View (current_of s.views).stamp (current_of s.views).members (current_of s.views).resilience in
             let a = before ++ e ∷ [] in
             let long = length_push before e in
-            let its = after_view (told before) (1 + length before) (current_of s.views).stamp (current_of s.views).members (current_of s.views).resilience in
-            let here : (told a).view_number ≡ 1 + length before = ap (λ (g : Image). g.view_number) (told_push before e) ∙ its.1 in
-            let all : told list ≡ fold (told a) (1 + length a) on.rest = ap told (sym on.same) ∙ fold_append blank 1 a on.rest in
+            let its = after_view (image_of before) (1 + length before) (current_of s.views).stamp (current_of s.views).members (current_of s.views).resilience in
+            let here : (image_of a).view_number ≡ 1 + length before = ap (λ (g : Image). g.view_number) (told_push before e) ∙ its.1 in
+            let all : image_of list ≡ fold (image_of a) (1 + length a) on.rest = ap image_of (sym on.same) ∙ fold_append blank 1 a on.rest in
             let same = ap (λ (g : Image). g.view_number) all in
-            let more = view_grows (told a) (1 + length a) on.rest (omega arith) in
+            let more = view_grows (image_of a) (1 + length a) on.rest (omega arith) in
             omega arith
 
     start_low : m.core.log.start < number
@@ -205,7 +205,7 @@ module _ (rules : Rules) (events : List Event) (place : ℕ) (may : MayFound rul
     each name small h =
         let long = long_all w q m (s.node q) stands in
         let num = numbered in
-        let counts : has (counted list number) name ≡ true = ap (λ set. has set name) (sym (counted_whole w q number m (s.node q) stands start_low)) ∙ h in
+        let counts : has (counted_in list number) name ≡ true = ap (λ set. has set name) (sym (counted_whole w q number m (s.node q) stands start_low)) ∙ h in
         let b = old.stands.each name small in
         let leaves : (s.node name).leaving ≡ true → (s.node name).departed ≡ true = λ t. b.departed ∙ repair.nobody_leaves name (sym b.leaving ∙ t) in
         let there : mem list name ≡ true = stays_member s q list number name kept left leads is behind (omega arith) (omega arith) leaves counts in

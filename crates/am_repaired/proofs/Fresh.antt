@@ -8,6 +8,7 @@ use Rattle.am_base.specs.declared.name.Stamp.{Stamp}
 use Rattle.am_base.specs.Founding.{Rules}
 use Rattle.am_base.specs.Names.{place_of, life_of, has}
 use Rattle.am_base.specs.Lists.{at_place, fits}
+use Rattle.am_packet.specs.declared.packet.Packet.{Packet}
 use Rattle.am_packet.specs.declared.packet.Packet.TheVariants as packet
 use Rattle.am_packet.specs.Boxes.{Letter}
 use Rattle.am_packet.specs.Kinds.{kind_of}
@@ -19,7 +20,7 @@ use Rattle.am_chain_lists.proofs.Members.{mem_in, was_begins}
 use Rattle.am_chain_lists.proofs.Prefixes.{begins_take, begins_trans}
 use Rattle.am_chain_moves.specs.Group.{Group, IsUp, chain_of}
 use Rattle.am_chain_moves.specs.Kept.{Kept}
-use Rattle.am_model.specs.Node.{Node, told, acts, is_member, is_sequencer}
+use Rattle.am_model.specs.Node.{Node, image_of, acts, is_member, is_sequencer}
 use Rattle.am_model.specs.Group.{has_log}
 use Rattle.am_model.specs.World.{World, is_stopped, has_departed}
 use Rattle.am_model.specs.declared.status.Status.{Status}
@@ -46,17 +47,22 @@ join_none image name f h = ⊎_elim
     x.gone)
     h
 
--- a Welcome to a name, of a base
+-- a Welcome of a base
+pub record IsWelcome (base : ℕ) (p : Packet) : Type 0 where
+  pub from : ℕ
+  pub stamp : Stamp
+  pub join : ℕ
+  pub image : Image
+  pub is : p ≡ packet.Welcome from stamp base join image
+
+-- one to a name
 pub record Welcomed (w : World) (j base : ℕ) : Type 0 where
   pub number : ℕ
   pub letter : Letter
   pub there : slice_get w.letters number ≡ Some letter
   pub addressed : is_for letter j ≡ true
-  pub from : ℕ
-  pub stamp : Stamp
-  pub join : ℕ
-  pub image : Image
-  pub is : letter.packet ≡ packet.Welcome from stamp base join image
+  pub welcome : IsWelcome base letter.packet
+  pub open welcome use *
 
 -- the same letter, in another world
 pub welcomed_in : (w v : World) (j base : ℕ) (h : Welcomed w j base) (k : ℕ) → slice_get v.letters k ≡ Some h.letter → Welcomed v j base
@@ -65,11 +71,7 @@ welcomed_in w v j base h k there = record {
   letter = h.letter;
   there = there;
   addressed = h.addressed;
-  from = h.from;
-  stamp = h.stamp;
-  join = h.join;
-  image = h.image;
-  is = h.is;
+  welcome = h.welcome;
 }
 
 unlogged_here : (t : Status) → has_log t ≡ false → has_departed t ≡ false
@@ -80,7 +82,7 @@ unlogged_here status.Departed f = absurd (cc)
 
 module _ (rules : Rules) (w : World) (s : Group) (q j : ℕ) (old : Following rules w s) (k : Kept s) (small : q < 256) (few : j < 256)
     (who : (w.nodes q).core.who ≡ q)
-    (leads : is_sequencer (w.nodes q) ≡ true) (runs : is_stopped w q ≡ false) (fit : fits (told (w.nodes q)) (Join j) ≡ true) where
+    (leads : is_sequencer (w.nodes q) ≡ true) (runs : is_stopped w q ≡ false) (fit : fits (image_of (w.nodes q)) (Join j) ≡ true) where
   m : Node
   m = w.nodes q
 
@@ -99,14 +101,14 @@ module _ (rules : Rules) (w : World) (s : Group) (q j : ℕ) (old : Following ru
   chain : (s.node q).list ≡ chain_of s.views
   chain = ((k.each q).leads (leading w q (w.nodes q) s (record { kept = k; stands = a_stands; up = up; who = who }) leads).leads).chain
 
-  told_ : whole.told (chain_of s.views) ≡ told (w.nodes q)
-  told_ = ap whole.told (sym chain) ∙ told_all w q (w.nodes q) (s.node q) a_stands
+  told_ : whole.image_of (chain_of s.views) ≡ image_of (w.nodes q)
+  told_ = ap whole.image_of (sym chain) ∙ told_all w q (w.nodes q) (s.node q) a_stands
 
   -- it was no member of what was accepted
   none : (a : List Entry) → Begins a s.group → mem a j ≡ true → ⊥
   none a begins_ there =
       let was = was_begins j k.views.good (begins_trans begins_ k.group) (inl (mem_in a j there)) in
-      join_none (told (w.nodes q)) j fit (subst (λ (i : Image). Was (row_at i (place_of j)) (life_of j)) told_ was)
+      join_none (image_of (w.nodes q)) j fit (subst (λ (i : Image). Was (row_at i (place_of j)) (life_of j)) told_ was)
 
   pub no_list : has_log (w.nodes j).status ≡ false
   no_list = split (has_log (w.nodes j).status)

@@ -6,8 +6,8 @@ use Rattle.am_base.specs.declared.entry.Entry.TheVariants.{Leave}
 use Rattle.am_base.specs.declared.outcome.Outcome.{Outcome}
 use Rattle.am_base.specs.Founding.{Rules}
 use Rattle.am_base.specs.Stamps.{stamp_lt}
-use Rattle.am_model.specs.Node.{Node, Ballot, view, told, pushed}
-use Rattle.am_model.specs.Ballots.{Verdict, trimmed_for, left_in, need_of}
+use Rattle.am_model.specs.Node.{Node, Ballot, view, image_of, push_entry}
+use Rattle.am_model.specs.Ballots.{Verdict, trim_for, left_in, need_of}
 use Rattle.am_model.specs.Refresh.{refresh}
 use Rattle.am_model.proofs.Greatest.{split}
 use Rattle.am_effects.specs.Causes.{Cause}
@@ -43,8 +43,8 @@ same nodes x y who is = knew who (λ j other. let b = ap (λ (r : Report). r.tak
 
 know_look : (nodes : ℕ → Node) (x : Node) (b : Ballot) (v : Verdict) → Looks x b v → stamp_lt (view x) b.stamp ≡ true → Know nodes x v.node
 know_look nodes x b v (decides may) above =
-    let is : view v.node ≡ b.stamp = view_last (trimmed_for x b (left_in b (need_of x b))) b.stamp (left_in b (need_of x b))
-    (max b.resilience (told x).resilience) in
+    let is : view v.node ≡ b.stamp = view_last (trim_for x b (left_in b (need_of x b))) b.stamp (left_in b (need_of x b))
+    (max b.resilience (image_of x).resilience) in
     anew (ap (stamp_lt (view x)) is ∙ above)
 know_look nodes x b v _ above = same nodes x v.node refl (λ j other. refl)
 
@@ -59,7 +59,7 @@ know_change nodes c o x y none w k (admits s v is leads fit) = absurd (none s v 
 know_change nodes c o x y none w k (looks b verdict over why look is) = know_look nodes x b verdict look (looked_at x b why k).open_.above
 know_change nodes c o x y none w k (stores_view s v base number names resilience is heard own other promise below_ may) = same nodes x y refl (λ j other_. refl)
 know_change nodes c o x y none w k (closes leads leaves alone room) =
-    same nodes x y (rests_at_end (pushed x (Leave x.core.who))).rests.who (end_same (pushed x (Leave x.core.who)))
+    same nodes x y (rests_at_end (push_entry x (Leave x.core.who))).rests.who (end_same (push_entry x (Leave x.core.who)))
 know_change nodes c o x y none w k _ = same nodes x y refl (λ j other. refl)
 
 then_know : (nodes : ℕ → Node) (m x y : Node) → stamp_lt (view x) (view m) ≡ false → stamp_lt (view y) (view x) ≡ false → Know nodes m x → Know nodes x y

@@ -9,7 +9,7 @@ use Rattle.am_packet.specs.declared.packet.Packet.TheVariants as packet
 use Rattle.am_packet.specs.Boxes.{Letter}
 use Rattle.am_group.specs.declared.event.Event.{Event}
 use Rattle.am_chain_moves.specs.Group.{Group}
-use Rattle.am_model.specs.Node.{Node, told, view, acts, is_sequencer}
+use Rattle.am_model.specs.Node.{Node, image_of, view, acts, is_sequencer}
 use Rattle.am_model.specs.Group.{has_log}
 use Rattle.am_model.specs.Emit.{Step}
 use Rattle.am_model.specs.World.{World, is_stopped, run}
@@ -101,7 +101,7 @@ module _ (rules : Rules) (events : List Event) (e : Event) (c : Cause) (step : S
       by_kind (halts stop) = halts (trims.stopped_v rules events e c step s t x j ∙ stop)
 
   -- a name whose Join was numbered now
-  known_joined : (j : ℕ) → j < 256 → (j == i) ≡ false → fits (told m) (Join j) ≡ true → (n.reports j).taken ≡ m.core.base → Knows v was.low n j
+  known_joined : (j : ℕ) → j < 256 → (j == i) ≡ false → fits (image_of m) (Join j) ≡ true → (n.reports j).taken ≡ m.core.base → Knows v was.low n j
   known_joined j few other fit base = split (is_stopped w j)
       (λ stop. halts (trims.stopped_v rules events e c step s t x j ∙ stop))
       (λ goes.
@@ -139,7 +139,7 @@ module _ (rules : Rules) (events : List Event) (e : Event) (c : Cause) (step : S
           by_ask (admitted_ apart leads_ fit base h) = split (j == a.from)
               (λ u.
               let is_ = equal j a.from u in
-              known_joined j few other (ap (λ k. fits (told m) (Join k)) is_ ∙ fit) (ap (λ k. (n.reports k).taken) is_ ∙ base))
+              known_joined j few other (ap (λ k. fits (image_of m) (Join k)) is_ ∙ fit) (ap (λ k. (n.reports k).taken) is_ ∙ base))
               (λ f. known_on j few other (let z = h j own f in let y = ap (λ r. r.taken) z in omega arith))
 
   acting_v : (j : ℕ) → j < 256 → acts (v.nodes j) ≡ true → view (v.nodes j) ≡ view (v.nodes i) → was.low ≤ (v.nodes j).core.taken

@@ -4,7 +4,7 @@ use Rattle.am_base.specs.declared.entry.Entry.{Entry}
 use Rattle.am_base.specs.declared.entry.Entry.TheVariants.{Data, Join, Leave, View}
 use Rattle.am_base.specs.declared.image.Image.{Image}
 use Rattle.am_base.specs.Names.{place_of, life_of}
-use Rattle.am_chain_lists.specs.Whole.{Begins, IsGood, told, mem, view_of, key}
+use Rattle.am_chain_lists.specs.Whole.{Begins, IsGood, image_of, mem, view_of, key}
 use Rattle.am_chain_lists.proofs.Rows.{In, row_at}
 use Rattle.am_chain_lists.proofs.Prefixes.{begins_refl, begins_more, begins_trans, begins_both, begins_same, begins_length, begins_pushed, length_push}
 use Rattle.am_chain_lists.proofs.Members.{good_begins, told_push, long_told, mem_in, in_mem, mem_between, leaver_in, leaver_out}
@@ -51,10 +51,10 @@ same_leave a b h = cc
 
 -- a Leave adds nobody
 none_more : (list : List Entry) (name j : ℕ) → mem (list ++ Leave name ∷ []) j ≡ true → mem list j ≡ true
-none_more list name j h = by_kind (became (told list) (1 + length list) (Leave name) j (long_told list) (omega arith)
+none_more list name j h = by_kind (became (image_of list) (1 + length list) (Leave name) j (long_told list) (omega arith)
     (subst (λ (i : Image). In (row_at i (place_of j)) (life_of j)) (told_push list (Leave name)) (mem_in (list ++ Leave name ∷ []) j h)))
   where
-    by_kind : Becomes (told list) (1 + length list) (Leave name) j → mem list j ≡ true
+    by_kind : Becomes (image_of list) (1 + length list) (Leave name) j → mem list j ≡ true
     by_kind (stayed old same) = in_mem list j old
     by_kind (joins is same) = absurd (cc)
     by_kind (founds is blank_ same) = absurd (cc)

@@ -122,11 +122,7 @@ module _ (rules : Rules) (events : List Event) (e : Event) (c : Cause) (step : S
         letter = sent.letter;
         there = at.1;
         addressed = sent.addressed;
-        from = b.from;
-        stamp = b.stamp;
-        join = b.join;
-        image = b.image;
-        is = sent.is;
+        welcome = record { from = b.from; stamp = b.stamp; join = b.join; image = b.image; is = sent.is };
       }
 
   known_i : Knows w h.low (w.nodes q) i → Knows v h.low (w.nodes q) i

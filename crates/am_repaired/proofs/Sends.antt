@@ -10,7 +10,7 @@ use Rattle.am_model.specs.declared.status.Status.TheVariants as status
 use Rattle.am_model.specs.Ballots.{Verdict}
 use Rattle.am_model.specs.Emit.{Step}
 use Rattle.am_model.specs.Node.{Node, Ballot, with_report}
-use Rattle.am_model.specs.World.{has_departed, stepped, happens, run}
+use Rattle.am_model.specs.World.{has_departed, with_step, happens, run}
 use Rattle.am_model.proofs.Greatest.{split}
 use Rattle.am_effects.specs.Causes.{Cause}
 use Rattle.am_effects.specs.Looks.{Looks, finds_itself_out}
@@ -65,7 +65,7 @@ same_sender m c step effect h = ⊎_elim
 
 pub sent_by : (rules : Rules) (events : List Event) (e : Event) (c : Cause) (step : Step) (s : Group)
     → (effect : Effect ((run rules events).nodes (actor (run rules events) e)) c step)
-    → stepped (run rules events) e (actor (run rules events) e) step ≡ happens (run rules events) e → actor (run rules events) e < 256
+    → with_step (run rules events) e (actor (run rules events) e) step ≡ happens (run rules events) e → actor (run rules events) e < 256
     → Following rules (run rules events) s → (step.letters ≡ []) ⊎ (effect.sender ≡ step.node)
 sent_by rules events e c step s effect is few old =
     let w = run rules events in

@@ -21,7 +21,7 @@ use Rattle.am_chain_moves.specs.Group.{Group}
 use Rattle.am_model.specs.Node.{Node, view, acts, is_member, is_sequencer}
 use Rattle.am_model.specs.Group.{has_log}
 use Rattle.am_model.specs.Emit.{Step}
-use Rattle.am_model.specs.World.{World, is_stopped, stepped, run}
+use Rattle.am_model.specs.World.{World, is_stopped, with_step, run}
 use Rattle.am_model.specs.Claims.{heard_by}
 use Rattle.am_model.proofs.Greatest.{and_both}
 use Rattle.am_effects.specs.Causes.{Cause}
@@ -117,11 +117,11 @@ module _ (rules : Rules) (events : List Event) (e : Event) (c : Cause) (step : S
   who_n = ap (λ (y : Node). y.core.who) (sym node_v) ∙ who_v i
 
   pub stopped_v : (j : ℕ) → is_stopped v j ≡ is_stopped w j
-  unfolding stepped
+  unfolding with_step
   stopped_v j = refl
 
   letters_v : v.letters ≡ w.letters ++ step.letters
-  unfolding stepped
+  unfolding with_step
   letters_v = refl
 
   sent_now : All (Sent w m n c) step.letters

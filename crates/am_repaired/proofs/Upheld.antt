@@ -13,7 +13,7 @@ use Rattle.am_chain_lists.specs.Whole.{Begins, view_of, key}
 use Rattle.am_chain_lists.proofs.Order.{key_by, view_small, view_up, view_viewed}
 use Rattle.am_chain_lists.proofs.Prefixes.{begins_refl, begins_take, begins_trans, begins_both, begins_same, begins_length, length_take, length_push}
 use Rattle.am_chain_moves.specs.Group as groups
-use Rattle.am_chain_moves.specs.Group.{Group, IsUp, opening, current_of, chain_of}
+use Rattle.am_chain_moves.specs.Group.{Group, opening, current_of, chain_of}
 use Rattle.am_chain_moves.specs.Kept.{Kept}
 use Rattle.am_model.specs.declared.status.Status.TheVariants as status
 use Rattle.am_model.specs.Node.{Node, top, view, is_member, founding_stamp, lowest_or_first}
@@ -21,7 +21,7 @@ use Rattle.am_model.specs.Group.{has_log}
 use Rattle.am_model.specs.Emit.{Step}
 use Rattle.am_model.specs.Calls.{is_unfinished}
 use Rattle.am_packet.specs.Boxes.{Letter}
-use Rattle.am_model.specs.World.{Decided, World, start, founders_decided, has_departed, grown, run}
+use Rattle.am_model.specs.World.{Decided, World, start, founders_decided, has_departed, group_with, run}
 use Rattle.am_model.proofs.Greatest.{split, and_both}
 use Rattle.am_effects.specs.Causes.{Cause}
 use Rattle.am_effects.specs.Changes.{Changes, unchanged, changed}
@@ -119,7 +119,7 @@ current_listed rules events s may old k =
 
 -- the list that a sequencer added to the group's is that of its own list
 grown_begins : (w v : World) (s t : Group) (i : ℕ) (n : Node) → NameStands v i n (t.node i) → s.group ≡ w.group → Begins w.group v.group → Part s t i
-    → n.core.log.start ≤ length w.group → length w.group ≤ length (t.node i).list → v.group ≡ grown w.group n.core → Begins v.group (t.node i).list
+    → n.core.log.start ≤ length w.group → length w.group ≤ length (t.node i).list → v.group ≡ group_with w.group n.core → Begins v.group (t.node i).list
 grown_begins w v s t i n stands group grows part start long is =
     let list = (t.node i).list in
     let g = length w.group in
@@ -159,7 +159,7 @@ departed_low m n letters (closing {x = x} ev call course leads leaves alone room
 module _ (rules : Rules) (events : List Event) (e : Event) (c : Cause) (step : Step) (s t : Group) (one : OneStep rules events e c step s t)
     (h : Upheld (run rules events) s) where
   open parts rules events e step use {w, i, m, n, v}
-  open one use {may, runs, cause, effect, old, path, grows, shaped, new}
+  open one use {step_.{may, runs, cause, effect}, old, path, grows, shaped, new}
   open plain one use {few, kept_s, kept_t, opens_t, node_v, others_v, group_v, node_run, stands_n, group_grows}
 
   -- nobody accepts less than it did
@@ -221,7 +221,7 @@ module _ (rules : Rules) (events : List Event) (e : Event) (c : Cause) (step : S
   view_n = ap (λ g. g.view) (told_all v i n (t.node i) stands_n)
 
   -- where it does, its name is the current view's, or it reaches no further than the View
-  adds : length w.group < length v.group → v.group ≡ grown w.group n.core → (view n).by ≡ n.core.who → length v.group ≤ n.core.acc → Upheld v t
+  adds : length w.group < length v.group → v.group ≡ group_with w.group n.core → (view n).by ≡ n.core.who → length v.group ≤ n.core.acc → Upheld v t
   adds more is_ own high =
       let adds_ = lists_go_on rules events e c step may runs cause effect in
       let stays : has_departed m.status ≡ false = split (has_departed m.status) (λ d. absurd (let z = departed_adds d in omega arith)) (λ f. f) in
@@ -257,7 +257,7 @@ module _ (rules : Rules) (events : List Event) (e : Event) (c : Cause) (step : S
       two : (a b : ℕ) → (a ≤ b) ⊎ (b < a)
       two a b = grind arith
 
-  grown_low : (g : List Entry) → length (grown g n.core) ≤ max (length g) n.core.acc
+  grown_low : (g : List Entry) → length (group_with g n.core) ≤ max (length g) n.core.acc
   grown_low g =
       let rest = drop (length g - n.core.log.start) n.core.log.entries in
       let a = length-append g (take (n.core.acc - length g) rest) in
@@ -270,11 +270,11 @@ module _ (rules : Rules) (events : List Event) (e : Event) (c : Cause) (step : S
       (λ (more : length w.group < length v.group). split ((view n).by == n.core.who)
       (λ u.
       let own : (view n).by ≡ n.core.who = grind (arith, nat_tests) in
-      let is_ : v.group ≡ grown w.group n.core = group_v ∙ ap (λ b. if b then grown w.group n.core else w.group) u in
+      let is_ : v.group ≡ group_with w.group n.core = group_v ∙ ap (λ b. if b then group_with w.group n.core else w.group) u in
       let size = ap length is_ in
       let most = grown_low w.group in
       adds more is_ own (omega arith))
-      (λ f. absurd (let size = ap length (group_v ∙ ap (λ b. if b then grown w.group n.core else w.group) f) in omega arith)))
+      (λ f. absurd (let size = ap length (group_v ∙ ap (λ b. if b then group_with w.group n.core else w.group) f) in omega arith)))
       (two (length v.group) (length w.group))
     where
       two : (a b : ℕ) → (a ≤ b) ⊎ (b < a)

@@ -4,13 +4,13 @@ use Rattle.am_base.specs.Founding.{Rules, MayFound}
 use Rattle.am_base.specs.Names.{has, names_of}
 use Rattle.am_base.specs.Fronts.{counted_at}
 use Rattle.am_group.specs.declared.event.Event.{Event}
-use Rattle.am_model.specs.Node.{Node, top, told, members}
+use Rattle.am_model.specs.Node.{Node, top, image_of, members}
 use Rattle.am_model.specs.World.{World, current, run}
 use Rattle.am_model.specs.Claims.{MayRepair}
 
 -- from the last View on, whose storage counts for what isn't accepted yet is a member still
 abbrev pub CountsMembers : Node → Type 0
-CountsMembers q = (number : ℕ) → q.core.acc < number → number ≤ top q → (told q).view_number ≤ number
+CountsMembers q = (number : ℕ) → q.core.acc < number → number ≤ top q → (image_of q).view_number ≤ number
     → All (λ name. has (members q) name ≡ true) (names_of (counted_at q.core.log number))
 
 abbrev pub RepairableCounts : Type 0

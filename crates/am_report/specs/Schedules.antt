@@ -51,12 +51,12 @@ abbrev pub others_json : Rules → List Event → List ℕ
 others_json rules events = flat_map (λ event. codes "," ++ event_json rules event) events
 
 -- events with commas between them
-unfoldable pub listed : Rules → List Event → List ℕ
-listed rules [] = []
-listed rules (first ∷ others) = event_json rules first ++ others_json rules others
+unfoldable pub list_json : Rules → List Event → List ℕ
+list_json rules [] = []
+list_json rules (first ∷ others) = event_json rules first ++ others_json rules others
 
 unfoldable pub events_json : Rules → List Event → List ℕ
-events_json rules events = codes "\"events\":[" ++ (listed rules events ++ codes "]")
+events_json rules events = codes "\"events\":[" ++ (list_json rules events ++ codes "]")
 
 -- founders have life 1, so that their names are their places
 unfoldable pub founders_json : Rules → List ℕ

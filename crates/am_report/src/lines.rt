@@ -1,3 +1,5 @@
+#![tactic(auto, unfolding(am_model::specs::Text::record_line, am_model::specs::Text::group_line, am_model::specs::Text::log_line, am_model::specs::Text::empty_log_line, am_model::specs::Text::mark_line))]
+
 ghost use Rattle.std.specs.Prelude.{◌≡◌, ◌++◌, OnOk, string_bytes};
 ghost use Rattle.am_model.specs.Text.{record_line, group_line, log_line, empty_log_line, mark_line};
 
@@ -13,7 +15,6 @@ use am_base::name::Name;
 use am_group::event::Record;
 
 /// Adds the line of an event of this number, before which so many letters were sent.
-#[tactic(auto, unfolding(am_model::specs::Text::record_line))]
 pub fn push_record(
     out: &mut String,
     founding: &Founding,
@@ -38,7 +39,6 @@ pub fn push_record(
 }
 
 /// Adds the line of an entry of the group's list.
-#[tactic(auto, unfolding(am_model::specs::Text::group_line))]
 pub fn push_group_line(
     out: &mut String,
     founding: &Founding,
@@ -53,18 +53,17 @@ pub fn push_group_line(
     out.push_str("\n")
 }
 
-/// Adds the line of an entry that was given to a name's application.
-#[tactic(auto, unfolding(am_model::specs::Text::log_line))]
+/// Adds the line of an entry, with its number, that was given to a name's application.
 pub fn push_log_line(
     out: &mut String,
     founding: &Founding,
     name: Name,
-    number: u32,
-    entry: &Entry,
+    given: (u32, &Entry),
 ) -> Result<(), NoMemory>
     ensures { OnOk result (string_bytes out.new
-        ≡ string_bytes out.old ++ log_line founding.now name number entry.now) }
+        ≡ string_bytes out.old ++ log_line founding.now name given.entry.0 given.entry.1.now) }
 {
+    let (number, entry) = given;
     out.push_str("log ")?;
     push_name(out, name)?;
     write!(out, " {number} ")?;
@@ -73,7 +72,6 @@ pub fn push_log_line(
 }
 
 /// Adds the line of a name whose application was given nothing.
-#[tactic(auto, unfolding(am_model::specs::Text::empty_log_line))]
 pub fn push_empty_log(out: &mut String, name: Name) -> Result<(), NoMemory>
     ensures { OnOk result (string_bytes out.new ≡ string_bytes out.old ++ empty_log_line name) }
 {
@@ -83,7 +81,6 @@ pub fn push_empty_log(out: &mut String, name: Name) -> Result<(), NoMemory>
 }
 
 /// Adds the last line: `lawful`, or which event broke the run.
-#[tactic(auto, unfolding(am_model::specs::Text::mark_line))]
 pub fn push_mark(out: &mut String, broken: Option<u32>) -> Result<(), NoMemory>
     ensures { OnOk result (string_bytes out.new ≡ string_bytes out.old ++ mark_line broken) }
 {

@@ -114,31 +114,20 @@ fn push_parts(out: &mut String, founding: &Founding, outcome: &Outcome) -> Resul
             write!(out, " {number} ")?;
             push_entry(out, founding, entry.get())
         }
-        Outcome::NoBody { from, req } => {
+        Outcome::NoBody { from, req: number } | Outcome::Fetching { from, want: number } => {
             out.push_str(" ")?;
             push_name(out, *from)?;
-            write!(out, " {req}")
+            write!(out, " {number}")
         }
-        Outcome::Newer { promise } => {
+        Outcome::Newer { promise: stamp }
+        | Outcome::Overtaken { by: stamp }
+        | Outcome::NotIn { best: stamp } => {
             out.push_str(" ")?;
-            push_stamp(out, *promise)
+            push_stamp(out, *stamp)
         }
         Outcome::Waiting { names } => {
             out.push_str(" ")?;
             push_names(out, *names)
-        }
-        Outcome::Fetching { from, want } => {
-            out.push_str(" ")?;
-            push_name(out, *from)?;
-            write!(out, " {want}")
-        }
-        Outcome::Overtaken { by } => {
-            out.push_str(" ")?;
-            push_stamp(out, *by)
-        }
-        Outcome::NotIn { best } => {
-            out.push_str(" ")?;
-            push_stamp(out, *best)
         }
         Outcome::Decided { number, members } => {
             write!(out, " {number} ")?;

@@ -54,10 +54,10 @@ fn push_given(
         ≡ string_bytes out.old ++ given_lines founding.now name (given_to name item.now)) }
     ensures some { IfOk result (λ some. some ≡ nat_lt 0 (length (given_to name item.now))) }
 {
-    let Some((number, entry)) = given_to(item, name) else {
+    let Some(given) = given_to(item, name) else {
         return Ok(false);
     };
-    push_log_line(out, founding, name, number, entry)?;
+    push_log_line(out, founding, name, given)?;
     Ok(true)
 }
 

@@ -1,5 +1,5 @@
 ghost use Rattle.std.specs.Prelude.{◌≡◌, ◌++◌, OnOk, IfOk, string_bytes};
-ghost use Rattle.am_report.specs.Schedules.{life_json, resilience_json, body_json, keys_before, keys_behind, word_json, event_json, others_json, listed, events_json, founders_json, numbers_json, script_text};
+ghost use Rattle.am_report.specs.Schedules.{life_json, resilience_json, body_json, keys_before, keys_behind, word_json, event_json, others_json, list_json, events_json, founders_json, numbers_json, script_text};
 
 use crate::entry::push_bytes;
 use crate::event::act_word;
@@ -119,10 +119,10 @@ fn push_others(out: &mut String, founding: &Founding, events: &[Event]) -> Resul
 }
 
 // Adds events with commas between them.
-#[tactic(auto, unfolding(crate::specs::Schedules::listed))]
+#[tactic(auto, unfolding(crate::specs::Schedules::list_json))]
 fn push_listed(out: &mut String, founding: &Founding, events: &[Event]) -> Result<(), NoMemory>
     ensures { OnOk result (string_bytes out.new
-        ≡ string_bytes out.old ++ listed founding.now events.now) }
+        ≡ string_bytes out.old ++ list_json founding.now events.now) }
 {
     match events {
         [] => Ok(()),

@@ -7,7 +7,7 @@ use am_group::event::{Act, Event};
 use std::test::Fail;
 
 /// What is done at a name, and what stands of it in a script of a group whose resilience is 2.
-fn done() -> [(u8, Act, &'static str); 14] {
+fn acts_with_texts() -> [(u8, Act, &'static str); 14] {
     let kept = Act::Reset {
         least: 3,
         resilience: 2,
@@ -65,7 +65,7 @@ fn founding(names: &[u8], resilience: u8, window: u16, pb_up_to: u16) -> Option<
 #[test]
 fn each_act_in_a_script(rt: HostRuntime) -> Result<(), Fail> {
     let founding = founding(&[14, 0, 3], 2, 1008, 1024).ok_or("a founding")?;
-    for (byte, act, event) in done() {
+    for (byte, act, event) in acts_with_texts() {
         let node = Name::of_byte(byte);
         let events = [Event { node, act }];
         let text = script_text(rt.alloc(), &founding, &events)?;

@@ -37,6 +37,7 @@ struct Tally {
     held: usize,
 }
 
+// Counts what came of the events.
 fn counts(records: &[Record]) -> Tally
     ensures took { result.took ≡ count_by (λ r. is_took r.outcome) records.now }
     ensures sent { result.sent ≡ count_by (λ r. is_sent r.outcome) records.now }

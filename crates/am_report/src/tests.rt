@@ -12,7 +12,8 @@ use am_base::items::Items;
 use am_base::name::{Name, Stamp};
 use am_base::names::Names;
 use am_base::outcome::Outcome;
-use am_group::event::{Act, By, Event, Part, Record};
+use am_codec::decode;
+use am_group::event::{Act, By, Event, Record};
 use am_group::journal::Journal;
 use am_letter::letter::Letter;
 use am_packet::packet::Packet;
@@ -38,16 +39,12 @@ fn stamp(round: u32, by: u8) -> Stamp {
     }
 }
 
-#[tactic(auto, unfolding(am_codec::specs::Limits::IsWithin))]
-fn invite_to(alloc: Global, to: Names) -> Result<Letter, NoMemory> {
-    let invite = Packet::Invite {
-        sender: Name::of_byte(0),
-        stamp: Stamp {
-            round: 2,
-            by: Name::of_byte(0),
-        },
-    };
-    Letter::of(alloc, to, &invite)
+/// An Invite of round 2 by the node 0.
+const INVITE: &[u8] = b"AG\x03\x0d\x00\x00\x00\x00\x02\x00\x00\x0c";
+
+fn invite_to(alloc: Global, to: Names) -> Result<Letter, Fail> {
+    let invite = decode(INVITE).ok().ok_or("an Invite")?;
+    Ok(Letter::of(alloc, to, &invite)?)
 }
 
 fn both(alloc: Global, first: Letter, second: Letter) -> Result<Items<Letter>, NoMemory> {
@@ -57,20 +54,13 @@ fn both(alloc: Global, first: Letter, second: Letter) -> Result<Items<Letter>, N
     Ok(packets)
 }
 
-fn happened(place: u8, act: Act, outcome: Outcome, packets: Items<Letter>) -> Record
+fn record_of(place: u8, act: Act, outcome: Outcome, packets: Items<Letter>) -> Record
     ensures { result.packets ≡ packets }
 {
     Record {
-        event: Event {
-            node: Name::of_byte(place),
-            act,
-        },
+        event: Event::at(place, act),
         life: 1,
-        by: By {
-            caller: 0,
-            call: 0,
-            part: Part::Call,
-        },
+        by: By::call(0, 0),
         outcome,
         packets,
     }
@@ -149,7 +139,7 @@ fn events_without_letters(rt: HostRuntime) -> Result<(), Fail> {
             "4 hear 0 1 : occupied 1\n",
         ),
     ] {
-        let item = happened(place, act, outcome, Items::new(rt.alloc()));
+        let item = record_of(place, act, outcome, Items::new(rt.alloc()));
         let mut out = String::new(rt.alloc());
         push_record(&mut out, &founding, number, 0, &item)?;
         assert_eq!(rt; out.as_str(), want);
@@ -210,7 +200,7 @@ fn events_with_letters(rt: HostRuntime) -> Result<(), Fail> {
             "1 join 0 : asked | 4 JoinAsk to all | 5 JoinAsk to all\n",
         ),
     ] {
-        let item = happened(0, act, outcome, packets);
+        let item = record_of(0, act, outcome, packets);
         let mut out = String::new(rt.alloc());
         push_record(&mut out, &founding, 1, 3, &item)?;
         assert_eq!(rt; out.as_str(), want);
@@ -229,7 +219,7 @@ fn lines_behind_the_events(rt: HostRuntime) -> Result<(), Fail> {
     let mut out = String::new(rt.alloc());
     push_group_line(&mut out, &founding, 3, &Entry::Join(Name::of_byte(17)))?;
     push_group_line(&mut out, &founding, 4, &Entry::Leave(Name::of_byte(2)))?;
-    push_log_line(&mut out, &founding, Name::of_byte(0), 2, &sent)?;
+    push_log_line(&mut out, &founding, Name::of_byte(0), (2, &sent))?;
     push_empty_log(&mut out, Name::of_byte(17))?;
     push_mark(&mut out, Some(6))?;
     push_mark(&mut out, None)?;
@@ -250,15 +240,15 @@ fn whole_text(rt: HostRuntime) -> Result<(), Fail> {
     };
     let took = Outcome::Took {
         number: 1,
-        entry: Boxed::of(rt.alloc(), view.copied())?,
+        entry: Boxed::of(rt.alloc(), view.copy())?,
     };
     let mut packets = Items::new(rt.alloc());
     packets.push(invite_to(rt.alloc(), set(&[1, 2]))?)?;
     let mut journal = Journal::new(rt.alloc(), &founding);
     journal.reserve()?;
-    journal.push(happened(0, Act::Tick, Outcome::Ticked, packets));
+    journal.push(record_of(0, Act::Tick, Outcome::Ticked, packets));
     journal.reserve()?;
-    journal.push(happened(0, Act::Take, took, Items::new(rt.alloc())));
+    journal.push(record_of(0, Act::Take, took, Items::new(rt.alloc())));
     let names = [Name::of_byte(0), Name::of_byte(17)];
     let group = [view];
     let text = play_text(rt.alloc(), &journal, &group, &names, Some(2))?;

@@ -15,7 +15,7 @@ use Rattle.am_core.proofs.CoreLaws.{stands_self}
 use Rattle.am_core.proofs.Folds.{split}
 use Rattle.am_fronts.specs.Reports as reports
 use Rattle.am_model.specs.Group.{has_log}
-use Rattle.am_model.specs.Node.{Node, Ballot, top, told, view, members, acts, is_member, is_sequencer, pushed}
+use Rattle.am_model.specs.Node.{Node, Ballot, top, image_of, view, members, acts, is_member, is_sequencer, push_entry}
 use Rattle.am_core.specs.Kept.{IsKept}
 use Rattle.am_sender.specs.Sends.{next_request}
 use Rattle.am_handlers.specs.Keeps.{NodeKeeps, IsSteady}
@@ -68,7 +68,7 @@ keeps_trimmed m core base e keeps is =
 pub top_push : (log : Log) (e : Entry) → top_of (with_entry log e) ≡ top_of log + 1
 top_push log e = let h = length-append log.entries (e ∷ []) in omega arith
 
-pub steady_pushed : (m n : Node) (e : Entry) → IsSteady m n → IsSteady (pushed m e) (pushed n e)
+pub steady_pushed : (m n : Node) (e : Entry) → IsSteady m n → IsSteady (push_entry m e) (push_entry n e)
 steady_pushed m n e s = record {
   who = s.who;
   promise = s.promise;
@@ -85,44 +85,44 @@ pub record HasView (m n : Node) : Type 0 where
   pub up_to : stamp_lt m.core.promise (view n) ≡ false
   pub own : has (members n) (view n).by ≡ true
 
-pub view_pushed : (m : Node) (e : Entry) → fits (told m) e ≡ true → IsUpTo m.core.promise e → (view (pushed m e) ≡ view m) ⊎ HasView m (pushed m e)
+pub view_pushed : (m : Node) (e : Entry) → fits (image_of m) e ≡ true → IsUpTo m.core.promise e → (view (push_entry m e) ≡ view m) ⊎ HasView m (push_entry m e)
 view_pushed m (Data from req body) fit up_to = inl (ap (λ (i : Image). i.view) (told-push m.core.log (Data from req body))
-    ∙ view_stays_data (told m) (top m + 1) from req body)
-view_pushed m (Join name) fit up_to = inl (ap (λ (i : Image). i.view) (told-push m.core.log (Join name)) ∙ view_stays_join (told m) (top m + 1) name)
-view_pushed m (Leave name) fit up_to = inl (ap (λ (i : Image). i.view) (told-push m.core.log (Leave name)) ∙ view_stays_leave (told m) (top m + 1) name)
+    ∙ view_stays_data (image_of m) (top m + 1) from req body)
+view_pushed m (Join name) fit up_to = inl (ap (λ (i : Image). i.view) (told-push m.core.log (Join name)) ∙ view_stays_join (image_of m) (top m + 1) name)
+view_pushed m (Leave name) fit up_to = inl (ap (λ (i : Image). i.view) (told-push m.core.log (Leave name)) ∙ view_stays_leave (image_of m) (top m + 1) name)
 view_pushed m (View stamp names resilience) fit up_to =
     let e : Entry = View stamp names resilience in
     let same = told-push m.core.log e in
-    let v : view (pushed m e) ≡ stamp = ap (λ (i : Image). i.view) same ∙ view_is (told m) (top m + 1) stamp names resilience in
+    let v : view (push_entry m e) ≡ stamp = ap (λ (i : Image). i.view) same ∙ view_is (image_of m) (top m + 1) stamp names resilience in
     inr (record {
       up_to = ap (stamp_lt m.core.promise) v ∙ up_to;
-      own = (λ k. has (members_of (same k)) (v k).by) ∙ view_has (told m) (top m + 1) stamp names resilience fit;
+      own = (λ k. has (members_of (same k)) (v k).by) ∙ view_has (image_of m) (top m + 1) stamp names resilience fit;
     })
 
-pub keeps_pushed : (m : Node) (e : Entry) (capacity : ℕ) → IsKept m.core.log capacity → NodeKeeps m → fits (told m) e ≡ true → IsUpTo m.core.promise e
-    → acts m ≡ false → has_log m.status ≡ true → ((b : Ballot) → m.ballot ≡ Some b → b.is_over ≡ true) → NodeKeeps (pushed m e)
+pub keeps_pushed : (m : Node) (e : Entry) (capacity : ℕ) → IsKept m.core.log capacity → NodeKeeps m → fits (image_of m) e ≡ true → IsUpTo m.core.promise e
+    → acts m ≡ false → has_log m.status ≡ true → ((b : Ballot) → m.ballot ≡ Some b → b.is_over ≡ true) → NodeKeeps (push_entry m e)
 keeps_pushed m e capacity kept keeps fit up_to idle logged over = record {
   own = keeps.own;
   leads = λ is. ⊎_elim
-      (λ (same : view (pushed m e) ≡ view m).
-      let none : is_sequencer (pushed m e) ≡ false = ap (λ (v : Stamp). (is_member m.status && stamp_eq m.core.promise v) && (v.by == m.core.who)) same
+      (λ (same : view (push_entry m e) ≡ view m).
+      let none : is_sequencer (push_entry m e) ≡ false = ap (λ (v : Stamp). (is_member m.status && stamp_eq m.core.promise v) && (v.by == m.core.who)) same
       ∙ idle_leads m idle in
       absurd (let x = sym none ∙ is in cc))
-      (λ (new : HasView m (pushed m e)).
-      let by : ((view (pushed m e)).by == m.core.who) ≡ true =
-      split_right (is_member m.status && stamp_eq m.core.promise (view (pushed m e))) ((view (pushed m e)).by == m.core.who) is in
-      let who : (view (pushed m e)).by ≡ m.core.who = grind (arith, nat_tests) in
-      sym (ap (has (members (pushed m e))) who) ∙ new.own)
+      (λ (new : HasView m (push_entry m e)).
+      let by : ((view (push_entry m e)).by == m.core.who) ≡ true =
+      split_right (is_member m.status && stamp_eq m.core.promise (view (push_entry m e))) ((view (push_entry m e)).by == m.core.who) is in
+      let who : (view (push_entry m e)).by ≡ m.core.who = grind (arith, nat_tests) in
+      sym (ap (has (members (push_entry m e))) who) ∙ new.own)
       (view_pushed m e fit up_to);
   promised = ⊎_elim
-      (λ (same : view (pushed m e) ≡ view m). ap (stamp_lt m.core.promise) same ∙ keeps.promised)
-      (λ (new : HasView m (pushed m e)). new.up_to)
+      (λ (same : view (push_entry m e) ≡ view m). ap (stamp_lt m.core.promise) same ∙ keeps.promised)
+      (λ (new : HasView m (push_entry m e)). new.up_to)
       (view_pushed m e fit up_to);
   blank = λ none. absurd (let x = sym logged ∙ none in cc);
   settled = keeps.settled;
   due = due_pushed m e capacity kept fit (next_request m.sends) keeps.due;
   unsent = keeps.unsent;
-  ballot = λ b there. over_own (pushed m e) b (over b there) (keeps.ballot b there).resilience;
+  ballot = λ b there. over_own (push_entry m e) b (over b there) (keeps.ballot b there).resilience;
 }
   where
     split_right : (a b : Bool) → (a && b) ≡ true → b ≡ true
@@ -131,7 +131,7 @@ keeps_pushed m e capacity kept keeps fit up_to idle logged over = record {
 
 -- what may be stored, once the list is trimmed
 pub keeps_stored : (m n : Node) (base : ℕ) (e : Entry) (capacity : ℕ) → IsKept n.core.log capacity → MayStore m base e → IsSteady m n → NodeKeeps n
-    → NodeKeeps (pushed n e)
+    → NodeKeeps (push_entry n e)
 keeps_stored m n base e capacity kept may s keeps = keeps_pushed n e capacity kept keeps
     (ap (λ (i : Image). fits i e) s.told ∙ may.fits)
     (subst (λ (p : Stamp). IsUpTo p e) (sym s.promise) may.up_to)
@@ -154,7 +154,7 @@ taken_idle m b is =
     and_false false b h = refl
 
 -- the reports begin anew
-pub keeps_restarted : (m : Node) (base : ℕ) → base ≤ m.core.taken → NodeKeeps m → NodeKeeps (record m { reports = reports.restarted base })
-keeps_restarted m base low keeps = keeps_steady m (record m { reports = reports.restarted base })
+pub keeps_restarted : (m : Node) (base : ℕ) → base ≤ m.core.taken → NodeKeeps m → NodeKeeps (record m { reports = reports.reports_from base })
+keeps_restarted m base low keeps = keeps_steady m (record m { reports = reports.reports_from base })
     (record { who = refl; promise = refl; told = refl; top = refl; status = refl; ballot = refl; leaving = refl; sends = refl }) keeps
     (split (nat_lt m.core.who 256) (λ t. rw t low) (λ f. rw f (omega arith)))

@@ -16,10 +16,10 @@ use Rattle.am_core.specs.Cores.{IsInOrder}
 use Rattle.am_core.proofs.Ends.{told-push}
 use Rattle.am_core.proofs.Folds.{split}
 use Rattle.am_model.specs.Group.{has_log}
-use Rattle.am_model.specs.Node.{Node, Ballot, top, told, view, acts, is_member, pushed, trimmed}
+use Rattle.am_model.specs.Node.{Node, Ballot, top, image_of, view, acts, is_member, push_entry, trim_up_to}
 use Rattle.am_model.specs.Emit.{Plan, quiet}
-use Rattle.am_model.specs.Ballots.{Verdict, promised, decide}
-use Rattle.am_model.specs.Resets.{is_view_past, fetched, caught_up, fetched_for, fetches_from, piece_promised, piece_for, piece_row, hears_result, result_row}
+use Rattle.am_model.specs.Ballots.{Verdict, with_promise, decide}
+use Rattle.am_model.specs.Resets.{is_view_past, push_fetched, catch_up, decide_anew, fetches_from, piece_promised, piece_for, piece_row, hears_result, result_row}
 use Rattle.am_model.specs.Ends.{IsEndOf}
 use Rattle.am_handlers.specs.Keeps.{NodeKeeps, IsOwnBallot, IsSteady}
 use Rattle.am_handlers.specs.Finishing.{unless}
@@ -81,21 +81,21 @@ may_store m v base number e in_ballot order logged is idle over within room next
 -- ---- the rows
 
 pub fetched_unless : (m n : Node) (v : Stamp) (base number : ℕ) (e : Entry) (in_ballot : Bool) (then_ : Node → Plan) (x : Option Outcome) (o : Outcome)
-    → fetched m v base number e in_ballot then_ ≡ unless x m (then_ (pushed (trimmed m base) e)) → x ≡ Some o → IsEndOf m n
-    → Replies (fetched m v base number e in_ballot then_) o tell.Nothing n
+    → push_fetched m v base number e in_ballot then_ ≡ unless x m (then_ (push_entry (trim_up_to m base) e)) → x ≡ Some o → IsEndOf m n
+    → Replies (push_fetched m v base number e in_ballot then_) o tell.Nothing n
 fetched_unless m n v base number e in_ballot then_ x o is some end =
-    by_plan (fetched m v base number e in_ballot then_) (quiet m o) o tell.Nothing n (is
-    ∙ ap (λ (y : Option Outcome). unless y m (then_ (pushed (trimmed m base) e))) some) (replies_quiet m n o end)
+    by_plan (push_fetched m v base number e in_ballot then_) (quiet m o) o tell.Nothing n (is
+    ∙ ap (λ (y : Option Outcome). unless y m (then_ (push_entry (trim_up_to m base) e))) some) (replies_quiet m n o end)
 
 pub fetched_then : (m n : Node) (v : Stamp) (base number : ℕ) (e : Entry) (in_ballot : Bool) (then_ : Node
     → Plan) (x : Option Outcome) (o : Outcome) (t : Telling)
-    → fetched m v base number e in_ballot then_ ≡ unless x m (then_ (pushed (trimmed m base) e)) → x ≡ None → Replies (then_ (pushed (trimmed m base) e)) o t n
-    → Replies (fetched m v base number e in_ballot then_) o t n
+    → push_fetched m v base number e in_ballot then_ ≡ unless x m (then_ (push_entry (trim_up_to m base) e)) → x ≡ None → Replies (then_ (push_entry (trim_up_to m base) e)) o t n
+    → Replies (push_fetched m v base number e in_ballot then_) o t n
 fetched_then m n v base number e in_ballot then_ x o t is none r =
-    by_plan (fetched m v base number e in_ballot then_) (then_ (pushed (trimmed m base) e)) o t n (is
-    ∙ ap (λ (y : Option Outcome). unless y m (then_ (pushed (trimmed m base) e))) none) r
+    by_plan (push_fetched m v base number e in_ballot then_) (then_ (push_entry (trim_up_to m base) e)) o t n (is
+    ∙ ap (λ (y : Option Outcome). unless y m (then_ (push_entry (trim_up_to m base) e))) none) r
 
-pub replies_caught : (m n : Node) (s : ℕ) (v : Stamp) (number : ℕ) → IsEndOf m n → Replies (caught_up s v number m) (said.Stored number) (tell.AckIn v s) n
+pub replies_caught : (m n : Node) (s : ℕ) (v : Stamp) (number : ℕ) → IsEndOf m n → Replies (catch_up s v number m) (said.Stored number) (tell.AckIn v s) n
 replies_caught m n s v number e = record { node = e; answer = λ x. refl; letters = λ x. refl; polls = refl; numbers = refl; departs = refl }
 
 pub promised_other : (m n : Node) (s : ℕ) (v : Stamp) (base number : ℕ) (e : Entry) → (v.by == s) ≡ false → IsEndOf m n
@@ -103,52 +103,52 @@ pub promised_other : (m n : Node) (s : ℕ) (v : Stamp) (base number : ℕ) (e :
 promised_other m n s v base number e f end = rw f (replies_quiet m n said.Elsewhere end)
 
 pub promised_own : (m n : Node) (s : ℕ) (v : Stamp) (base number : ℕ) (e : Entry) (o : Outcome) (t : Telling) → (v.by == s) ≡ true
-    → Replies (fetched m v base number e false (caught_up s v number)) o t n → Replies (piece_promised m s v base number e) o t n
+    → Replies (push_fetched m v base number e false (catch_up s v number)) o t n → Replies (piece_promised m s v base number e) o t n
 promised_own m n s v base number e o t is r = rw is r
 
 -- ---- a ballot that fetches
 
-ahead_pushed : (m : Node) (v : Stamp) (e : Entry) → stamp_lt (view m) v ≡ true → IsBelow v e → stamp_lt (view (pushed m e)) v ≡ true
+ahead_pushed : (m : Node) (v : Stamp) (e : Entry) → stamp_lt (view m) v ≡ true → IsBelow v e → stamp_lt (view (push_entry m e)) v ≡ true
 ahead_pushed m v (View stamp names resilience) ahead below = ap (λ (i : Image). stamp_lt i.view v) (told-push m.core.log (View stamp names resilience))
-    ∙ ap (λ (s : Stamp). stamp_lt s v) (view_is (told m) (top m + 1) stamp names resilience) ∙ below
+    ∙ ap (λ (s : Stamp). stamp_lt s v) (view_is (image_of m) (top m + 1) stamp names resilience) ∙ below
 ahead_pushed m v (Data from req body) ahead below = ap (λ (i : Image). stamp_lt i.view v) (told-push m.core.log (Data from req body))
-    ∙ ap (λ (s : Stamp). stamp_lt s v) (view_stays_data (told m) (top m + 1) from req body) ∙ ahead
+    ∙ ap (λ (s : Stamp). stamp_lt s v) (view_stays_data (image_of m) (top m + 1) from req body) ∙ ahead
 ahead_pushed m v (Join name) ahead below = ap (λ (i : Image). stamp_lt i.view v) (told-push m.core.log (Join name))
-    ∙ ap (λ (s : Stamp). stamp_lt s v) (view_stays_join (told m) (top m + 1) name) ∙ ahead
+    ∙ ap (λ (s : Stamp). stamp_lt s v) (view_stays_join (image_of m) (top m + 1) name) ∙ ahead
 ahead_pushed m v (Leave name) ahead below = ap (λ (i : Image). stamp_lt i.view v) (told-push m.core.log (Leave name))
-    ∙ ap (λ (s : Stamp). stamp_lt s v) (view_stays_leave (told m) (top m + 1) name) ∙ ahead
+    ∙ ap (λ (s : Stamp). stamp_lt s v) (view_stays_leave (image_of m) (top m + 1) name) ∙ ahead
 
 -- it is still taken out once the entry is stored
 pub taken_pushed : (m n : Node) (b : Ballot) (v : Stamp) (e : Entry) → v ≡ m.core.promise → IsTakenOut m b → IsBelow v e → IsInOrder n.core
-    → top n < most_number → IsSteady (pushed m e) n → IsTakenOut n b
+    → top n < most_number → IsSteady (push_entry m e) n → IsTakenOut n b
 taken_pushed m n b v e is taken below order room s =
     let own = taken.own in
     let stamp : b.stamp ≡ v = own.stamp taken.is_open ∙ sym is in
-    let pushed_own : IsOwnBallot (pushed m e) b = record {
+    let pushed_own : IsOwnBallot (push_entry m e) b = record {
       stamp = own.stamp;
       by = own.by;
-      ahead = λ open_. ap (stamp_lt (view (pushed m e))) stamp ∙ ahead_pushed m v e (ap (stamp_lt (view m)) (sym stamp) ∙ own.ahead open_) below;
+      ahead = λ open_. ap (stamp_lt (view (push_entry m e))) stamp ∙ ahead_pushed m v e (ap (stamp_lt (view m)) (sym stamp) ∙ own.ahead open_) below;
       logged = own.logged;
       itself = own.itself;
       unvoted = own.unvoted;
       resilience = own.resilience;
     } in
-    record { order = order; out = s.ballot ∙ taken.out; own = own_steady (pushed m e) n b s pushed_own; is_open = taken.is_open; number = room }
+    record { order = order; out = s.ballot ∙ taken.out; own = own_steady (push_entry m e) n b s pushed_own; is_open = taken.is_open; number = room }
 
 pub replies_fetched : (m n : Node) (b : Ballot) (x : Option Ballot) (base : ℕ) (e : Entry) (o : Outcome) (set : List ℕ)
-    → ComesTo (decide (pushed (trimmed m base) e) b) o n → set ≡ nobody
-    → Replies (fetched_for b (pushed (trimmed (record m { ballot = x }) base) e)) o (tell.Ballot set false) n
+    → ComesTo (decide (push_entry (trim_up_to m base) e) b) o n → set ≡ nobody
+    → Replies (decide_anew b (push_entry (trim_up_to (record m { ballot = x }) base) e)) o (tell.Ballot set false) n
 replies_fetched m n b x base e o set c is =
-    let w : Node = pushed (trimmed m base) e in
+    let w : Node = push_entry (trim_up_to m base) e in
     replies_looked (decide (record w { ballot = x }) b) n o set (subst (λ (v : Verdict). ComesTo v o n) (sym (decide_with w x b)) c) is
 
 pub piece_elsewhere : (m n : Node) (s : ℕ) (v : Stamp) (base number : ℕ) (e : Entry) (b : Ballot) → b.is_over ≡ false → fetches_from b.answer s ≡ false
     → IsEndOf m n → Replies (piece_for m s v base number e (Some b)) said.Elsewhere tell.Nothing n
 piece_elsewhere m n s v base number e b f g end =
     by_plan (piece_for m s v base number e (Some b)) (quiet m said.Elsewhere) said.Elsewhere tell.Nothing n
-    (if_no b.is_over (piece_promised m s v base number e) (if not (fetches_from b.answer s) then quiet m said.Elsewhere else fetched m v base number e true
-    (fetched_for b)) f
-    ∙ ap (λ (x : Bool). if not x then quiet m said.Elsewhere else fetched m v base number e true (fetched_for b)) g)
+    (if_no b.is_over (piece_promised m s v base number e) (if not (fetches_from b.answer s) then quiet m said.Elsewhere else push_fetched m v base number e true
+    (decide_anew b)) f
+    ∙ ap (λ (x : Bool). if not x then quiet m said.Elsewhere else push_fetched m v base number e true (decide_anew b)) g)
     (replies_quiet m n said.Elsewhere end)
 
 pub piece_apart : (m n : Node) (s : ℕ) (v : Stamp) (base number : ℕ) (e : Entry) → (not (stamp_eq v m.core.promise) || stamp_eq (view m) v) ≡ true → IsEndOf m n
@@ -210,7 +210,7 @@ unfolding result_row
 result_elsewhere m n s v base number names resilience t end = rw t (replies_quiet m n said.Elsewhere end)
 
 pub result_heard : (m mid n : Node) (s : ℕ) (v : Stamp) (base number : ℕ) (names : List ℕ) (resilience : ℕ) (o : Outcome) (t : Telling)
-    → ((v.by == m.core.who) || stamp_lt v m.core.promise) ≡ false → mid ≡ promised m v → Replies (hears_result mid s v base number names resilience) o t n
+    → ((v.by == m.core.who) || stamp_lt v m.core.promise) ≡ false → mid ≡ with_promise m v → Replies (hears_result mid s v base number names resilience) o t n
     → Replies (result_row m s v base number names resilience) o t n
 unfolding result_row
 result_heard m mid n s v base number names resilience o t f is r =

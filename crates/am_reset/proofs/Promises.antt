@@ -8,7 +8,7 @@ use Rattle.am_base.specs.declared.outcome.Outcome.TheVariants.{Overtaken}
 use Rattle.am_base.specs.Stamps.{stamp_lt, stamp_eq}
 use Rattle.am_core.proofs.Folds.{split}
 use Rattle.am_model.specs.Node.{Node, Ballot, top, view, is_member}
-use Rattle.am_model.specs.Ballots.{overtaken, promised, with_vote, without_voter, next_stamp, new_ballot}
+use Rattle.am_model.specs.Ballots.{overtake, with_promise, with_vote, without_voter, next_stamp, new_ballot}
 use Rattle.am_core.specs.Cores.{IsInOrder}
 use Rattle.am_model.specs.Group.{has_log}
 use Rattle.am_base.specs.declared.image.Vote.{Vote}
@@ -20,7 +20,7 @@ use Rattle.am_handlers.proofs.Keeping.{own_for, over_own}
 use Rattle.am_reset.proofs.Orders.{lt_self, lt_next, lt_none, lt_or, lt_apart, same_stamp}
 
 -- the ballot of a stamp that isn't below stays
-stays : (v : Stamp) (o : Option Ballot) → ((b : Ballot) → o ≡ Some b → b.is_over ≡ false → b.stamp ≡ v) → overtaken v o ≡ o
+stays : (v : Stamp) (o : Option Ballot) → ((b : Ballot) → o ≡ Some b → b.is_over ≡ false → b.stamp ≡ v) → overtake v o ≡ o
 stays v None is = refl
 stays v (Some b) is = split b.is_over
     (λ t. rw t refl)
@@ -31,26 +31,26 @@ some_is : (a b : Ballot) → Some a ≡ Some b → a ≡ b
 some_is a b e = cc
 
 over : (v : Stamp) (o : Option Ballot) (b : Ballot) → ((b : Ballot) → o ≡ Some b → b.is_over ≡ false → stamp_lt b.stamp v ≡ true)
-    → ((b : Ballot) → o ≡ Some b → b.resilience ≤ 15) → overtaken v o ≡ Some b → (b.is_over ≡ true) × (b.resilience ≤ 15)
+    → ((b : Ballot) → o ≡ Some b → b.resilience ≤ 15) → overtake v o ≡ Some b → (b.is_over ≡ true) × (b.resilience ≤ 15)
 over v None b low few = λ e. absurd (cc)
 over v (Some a) b low few = split a.is_over
     (λ t.
-    let st : overtaken v (Some a) ≡ Some a = stays v (Some a) (λ x is open_. absurd (let y = ap (λ (z : Ballot). z.is_over) (some_is a x is) in cc)) in
+    let st : overtake v (Some a) ≡ Some a = stays v (Some a) (λ x is open_. absurd (let y = ap (λ (z : Ballot). z.is_over) (some_is a x is) in cc)) in
     λ e. let same = some_is a b (sym st ∙ e) in (ap (λ (x : Ballot). x.is_over) (sym same) ∙ t, subst (λ (x : Ballot). x.resilience ≤ 15) same (few a refl)))
     (λ f.
     let lt = low a refl f in
-    let ov : overtaken v (Some a) ≡ Some (record a { answer = Overtaken v; is_over = true }) = rw (f, lt) refl in
+    let ov : overtake v (Some a) ≡ Some (record a { answer = Overtaken v; is_over = true }) = rw (f, lt) refl in
     λ e. let same = some_is (record a { answer = Overtaken v; is_over = true }) b (sym ov ∙ e) in
     (ap (λ (x : Ballot). x.is_over) (sym same), subst (λ (x : Ballot). x.resilience ≤ 15) same (few a refl)))
 
-pub promised_same : (m : Node) (v : Stamp) → NodeKeeps m → stamp_eq v m.core.promise ≡ true → m ≡ promised m v
+pub promised_same : (m : Node) (v : Stamp) → NodeKeeps m → stamp_eq v m.core.promise ≡ true → m ≡ with_promise m v
 promised_same m v keeps e =
     let same = same_stamp v m.core.promise e in
     let o = stays v m.ballot (λ b there open_. (keeps.ballot b there).stamp open_ ∙ sym same) in
     λ k. record m { core = record (m.core) { promise = sym same k }; ballot = sym o k }
 
 pub keeps_promised : (m : Node) (v : Stamp) → NodeKeeps m → v.by < 256 → m.core.promise.by < 256 → stamp_lt v m.core.promise ≡ false
-    → stamp_eq v m.core.promise ≡ false → NodeKeeps (promised m v)
+    → stamp_eq v m.core.promise ≡ false → NodeKeeps (with_promise m v)
 keeps_promised m v keeps small little higher apart =
     let above = lt_or v m.core.promise small little higher apart in
     record {
@@ -66,7 +66,7 @@ keeps_promised m v keeps small little higher apart =
           let is = over v m.ballot b
           (λ a is open_. ap (λ (s : Stamp). stamp_lt s v) ((keeps.ballot a is).stamp open_) ∙ above)
           (λ a is. (keeps.ballot a is).resilience) there in
-          over_own (promised m v) b is.0 is.1;
+          over_own (with_promise m v) b is.0 is.1;
     }
   where
     leads_not : (a b c : Bool) → b ≡ false → ((a && b) && c) ≡ true → ⊥

@@ -15,7 +15,7 @@ use Rattle.am_packet.specs.Boxes.{Letter, with_letter}
 use Rattle.am_model.specs.Node.{Node, Ballot, only_name, those}
 use Rattle.am_model.specs.Emit.{Plan, quiet, telling, ack_of, fetch_of, invite_of, result_of, finish}
 use Rattle.am_model.specs.Refresh.{refresh_at_end}
-use Rattle.am_model.specs.Ballots.{Verdict, vote_of, own_vote, with_result, with_fetch, answered, decide, keep_vote, give_up, best_of, has_voted, newly_needed}
+use Rattle.am_model.specs.Ballots.{Verdict, vote_of, own_vote, with_result, with_fetch, verdict_plan, decide, keep_vote, give_up, best_of, has_voted, newly_needed}
 use Rattle.am_model.specs.Ends as ends
 use Rattle.am_model.specs.Ends.{IsEndOf, with_log, Changes, Tells}
 use Rattle.am_handlers.specs.Parts.{with_told}
@@ -99,7 +99,7 @@ pub replies_fetch : (m n : Node) (o : Outcome) (to : ℕ) → IsEndOf m n → Re
 replies_fetch m n o to e = record { node = e; answer = λ x. refl; letters = λ x. refl; polls = refl; numbers = refl; departs = refl }
 
 pub replies_asking : (v : Verdict) (n : Node) (o : Outcome) (to set : List ℕ) → ComesTo v o n → set ≡ to
-    → Replies (answered v (λ x. with_fetch v.outcome x (with_letter to (invite_of x) []))) o (tell.Ballot set true) n
+    → Replies (verdict_plan v (λ x. with_fetch v.outcome x (with_letter to (invite_of x) []))) o (tell.Ballot set true) n
 replies_asking v n o to set c is = record {
   node = c.node;
   answer = λ x. c.answer;
@@ -110,7 +110,7 @@ replies_asking v n o to set c is = record {
 }
 
 pub replies_ballot : (v : Verdict) (n : Node) (o : Outcome) (to set : List ℕ) → ComesTo v o n → set ≡ to
-    → Replies (answered v (λ x. with_letter to (invite_of x) [])) o (tell.Ballot set false) n
+    → Replies (verdict_plan v (λ x. with_letter to (invite_of x) [])) o (tell.Ballot set false) n
 replies_ballot v n o to set c is = record {
   node = c.node;
   answer = λ x. c.answer;
@@ -125,11 +125,11 @@ nobody_invited x = refl
 
 -- nobody is invited
 pub replies_silent : (v : Verdict) (n : Node) (o : Outcome) (set : List ℕ) → ComesTo v o n → set ≡ nobody
-    → Replies (answered v (λ x. with_fetch v.outcome x [])) o (tell.Ballot set true) n
+    → Replies (verdict_plan v (λ x. with_fetch v.outcome x [])) o (tell.Ballot set true) n
 replies_silent v n o set c is = replies_asking v n o nobody set c is
 
 pub replies_looked : (v : Verdict) (n : Node) (o : Outcome) (set : List ℕ) → ComesTo v o n → set ≡ nobody
-    → Replies (answered v (λ x. [])) o (tell.Ballot set false) n
+    → Replies (verdict_plan v (λ x. [])) o (tell.Ballot set false) n
 replies_looked v n o set c is = replies_ballot v n o nobody set c is
 
 -- ---- the ballot of the node itself isn't looked at

@@ -13,7 +13,7 @@ use Rattle.am_base.specs.Lists.{Log, top_of, entry_at}
 use Rattle.am_packet.specs.declared.packet.Packet.{Packet}
 use Rattle.am_packet.specs.Boxes.{Letter, with_letter}
 use Rattle.am_model.specs.Node.{Node, top, only_name}
-use Rattle.am_model.specs.Emit.{served, put_all, piece_of, finish}
+use Rattle.am_model.specs.Emit.{entries_to_serve, put_all, piece_of, finish}
 use Rattle.am_model.specs.Refresh.{refresh_at_end}
 use Rattle.am_model.specs.Resets.{fetch_row, may_fetch, serve_pieces}
 use Rattle.am_model.specs.Ends as ends
@@ -41,15 +41,15 @@ copied_next log stored number old new low from high before more =
 
 -- all of those to be served are copied
 pub copied_all : (m : Node) (stored last : ℕ) → m.core.log.start ≤ stored → stored ≤ top m → last ≡ min (top m) (stored + 8)
-    → take (last - stored) (kept_above m.core.log stored) ≡ served m stored
+    → take (last - stored) (kept_above m.core.log stored) ≡ entries_to_serve m stored
 copied_all m stored last low high is =
     let few : last - stored ≡ min (length (kept_above m.core.log stored)) 8 = simp length-drop (omega arith) in
     take_few (kept_above m.core.log stored) (last - stored) few
 
-pub served_within : (m : Node) (stored : ℕ) → All IsEntry m.core.log.entries → All IsEntry (served m stored)
+pub served_within : (m : Node) (stored : ℕ) → All IsEntry m.core.log.entries → All IsEntry (entries_to_serve m stored)
 served_within m stored is = All-take IsEntry 8 (kept_above m.core.log stored) (All-drop IsEntry (stored - m.core.log.start) m.core.log.entries is)
 
-pub served_numbers : (m : Node) (stored : ℕ) → m.core.log.start ≤ stored → stored ≤ top m → stored + length (served m stored) ≤ top m
+pub served_numbers : (m : Node) (stored : ℕ) → m.core.log.start ≤ stored → stored ≤ top m → stored + length (entries_to_serve m stored) ≤ top m
 served_numbers m stored low high = simp (length-take, length-drop) (omega arith)
 
 any_default : (es : List Entry) (i : ℕ) (a b : Entry) → i < length es → slice_index_or es i a ≡ slice_index_or es i b
@@ -68,14 +68,14 @@ piece_next f to stored number i es e old new h at is before more =
 -- ---- the row
 
 pub serve_ends : (m old new : Node) (to stored : ℕ) (o : Outcome) (entries : List Entry) (letters sent : List Letter)
-    → IsEndOf old old → Changes refresh_at_end old new → entries ≡ served old stored → o ≡ said.Served (length entries)
+    → IsEndOf old old → Changes refresh_at_end old new → entries ≡ entries_to_serve old stored → o ≡ said.Served (length entries)
     → letters ≡ put_all (piece_of new) (only_name to) (stored + 1) entries [] → Tells (with_told m.core.acc false false letters) new sent
     → ends.ComesTo (finish m (serve_pieces old to stored)) o sent new
 serve_ends m old new to stored o entries letters sent self end copied answer is tells =
     ends_with m (serve_pieces old to stored) old new o letters sent self refl refl refl end
     (λ n e. sym (answer ∙ ap (λ xs. said.Served (length xs)) copied))
     (λ n e. is ∙ ap (λ xs. put_all (piece_of new) (only_name to) (stored + 1) xs []) copied
-    ∙ ap (λ (f : ℕ → Entry → Packet). put_all f (only_name to) (stored + 1) (served old stored) []) (ap piece_of e.same))
+    ∙ ap (λ (f : ℕ → Entry → Packet). put_all f (only_name to) (stored + 1) (entries_to_serve old stored) []) (ap piece_of e.same))
     tells
 
 -- the row's other cases

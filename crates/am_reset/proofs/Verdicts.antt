@@ -15,8 +15,8 @@ use Rattle.am_core.specs.Cores.{Stands}
 use Rattle.am_core.proofs.Folds.{split}
 use Rattle.am_fronts.specs.Reports as reports
 use Rattle.am_fronts.specs.Reports.{least_of}
-use Rattle.am_model.specs.Node.{Node, Ballot, top, told, those, pushed, trimmed}
-use Rattle.am_model.specs.Ballots.{Verdict, own_vote, best_of, is_waited_for, left_in, taken_by, unfinished, finished, goes_on, ends, decide_view, trimmed_for}
+use Rattle.am_model.specs.Node.{Node, Ballot, top, image_of, those, push_entry, trim_up_to}
+use Rattle.am_model.specs.Ballots.{Verdict, own_vote, best_of, is_waited_for, left_in, taken_by, with_answer, with_end, goes_on, ends, decide_view, trim_for}
 use Rattle.am_model.specs.Ballots.{decide}
 use Rattle.am_model.specs.Ends.{IsEndOf, with_log}
 use Rattle.am_handlers.proofs.Ends.{told_same, top_same}
@@ -34,24 +34,24 @@ end_with all m n b e is = subst (λ (x : Node). IsEndOf (record all { ballot = b
     (record { stands = e.stands; same = ap (λ (x : Node). record x { ballot = b }) e.same })
 
 pub end_reports : (all m n : Node) (base : ℕ) (b : Option Ballot) → IsEndOf all m → all.core.base ≡ base
-    → n ≡ record m { reports = reports.restarted base; ballot = b } → IsEndOf (record all { reports = reports.restarted all.core.base; ballot = b }) n
+    → n ≡ record m { reports = reports.reports_from base; ballot = b } → IsEndOf (record all { reports = reports.reports_from all.core.base; ballot = b }) n
 end_reports all m n base b e at is =
-    subst (λ (x : Node). IsEndOf (record all { reports = reports.restarted all.core.base; ballot = b }) x)
-    (sym (is ∙ ap (λ k. record m { reports = reports.restarted k; ballot = b }) (sym at)))
-    (record { stands = e.stands; same = ap (λ (x : Node). record x { reports = reports.restarted all.core.base; ballot = b }) e.same })
+    subst (λ (x : Node). IsEndOf (record all { reports = reports.reports_from all.core.base; ballot = b }) x)
+    (sym (is ∙ ap (λ k. record m { reports = reports.reports_from k; ballot = b }) (sym at)))
+    (record { stands = e.stands; same = ap (λ (x : Node). record x { reports = reports.reports_from all.core.base; ballot = b }) e.same })
 
 -- an answer that ends the ballot, or lets it go on
-pub ends_comes : (all m n : Node) (b : Ballot) (o p : Outcome) → IsEndOf all m → o ≡ p → n ≡ record m { ballot = Some (finished b o) }
+pub ends_comes : (all m n : Node) (b : Ballot) (o p : Outcome) → IsEndOf all m → o ≡ p → n ≡ record m { ballot = Some (with_end b o) }
     → ComesTo (ends all b p) o n
 ends_comes all m n b o p e same is = record {
-  node = end_with all m n (Some (finished b p)) e (is ∙ ap (λ (x : Outcome). record m { ballot = Some (finished b x) }) same);
+  node = end_with all m n (Some (with_end b p)) e (is ∙ ap (λ (x : Outcome). record m { ballot = Some (with_end b x) }) same);
   answer = sym same;
 }
 
-pub goes_comes : (all m n : Node) (b : Ballot) (o p : Outcome) → IsEndOf all m → o ≡ p → n ≡ record m { ballot = Some (unfinished b o) }
+pub goes_comes : (all m n : Node) (b : Ballot) (o p : Outcome) → IsEndOf all m → o ≡ p → n ≡ record m { ballot = Some (with_answer b o) }
     → ComesTo (goes_on all b p) o n
 goes_comes all m n b o p e same is = record {
-  node = end_with all m n (Some (unfinished b p)) e (is ∙ ap (λ (x : Outcome). record m { ballot = Some (unfinished b x) }) same);
+  node = end_with all m n (Some (with_answer b p)) e (is ∙ ap (λ (x : Outcome). record m { ballot = Some (with_answer b x) }) same);
   answer = sym same;
 }
 
@@ -61,7 +61,7 @@ end_here m all s = record { stands = s; same = refl }
 -- ---- the view
 
 pub crowded_comes : (m n : Node) (b : Ballot) (names : List ℕ) (o : Outcome) → nat_lt (m.core.rules.window + 16 - size names) (top m + 1 - m.core.base) ≡ true
-    → o ≡ said.Crowded m.core.base (top m) → n ≡ record m { ballot = Some (finished b o) } → (all : Node) → IsEndOf all m
+    → o ≡ said.Crowded m.core.base (top m) → n ≡ record m { ballot = Some (with_end b o) } → (all : Node) → IsEndOf all m
     → ComesTo (decide_view all b names) o n
 crowded_comes m n b names o test answer is = comes (λ x. decide_view x b names) m n o (λ all s.
     let t = top_same m all s in
@@ -72,8 +72,8 @@ crowded_comes m n b names o test answer is = comes (λ x. decide_view x b names)
 
 pub decided_comes : (m mid n : Node) (b : Ballot) (names : List ℕ) (o : Outcome)
     → nat_lt (m.core.rules.window + 16 - size names) (top m + 1 - m.core.base) ≡ false
-    → ((all : Node) → IsEndOf all m → IsEndOf (pushed all (View b.stamp names (max b.resilience (told m).resilience))) mid)
-    → o ≡ said.Decided (top m + 1) names → n ≡ record mid { reports = reports.restarted m.core.base; ballot = Some (finished b o) }
+    → ((all : Node) → IsEndOf all m → IsEndOf (push_entry all (View b.stamp names (max b.resilience (image_of m).resilience))) mid)
+    → o ≡ said.Decided (top m + 1) names → n ≡ record mid { reports = reports.reports_from m.core.base; ballot = Some (with_end b o) }
     → (all : Node) → IsEndOf all m → ComesTo (decide_view all b names) o n
 decided_comes m mid n b names o test pushes answer is = comes (λ x. decide_view x b names) m n o (λ all s.
     let t = top_same m all s in
@@ -81,13 +81,13 @@ decided_comes m mid n b names o test pushes answer is = comes (λ x. decide_view
     let there : nat_lt (m.core.rules.window + 16 - size names) (top_of all + 1 - m.core.base) ≡ false =
     ap (λ k. nat_lt (m.core.rules.window + 16 - size names) (k + 1 - m.core.base)) t ∙ test in
     let same : o ≡ said.Decided (top_of all + 1) names = answer ∙ ap (λ k. said.Decided (k + 1) names) (sym t) in
-    let e : Entry = View b.stamp names (max b.resilience (told w).resilience) in
-    let e_is : View b.stamp names (max b.resilience (told m).resilience) ≡ e =
+    let e : Entry = View b.stamp names (max b.resilience (image_of w).resilience) in
+    let e_is : View b.stamp names (max b.resilience (image_of m).resilience) ≡ e =
     ap (λ (i : Image). View b.stamp names (max b.resilience i.resilience)) (sym (told_same m all s)) in
-    let p : IsEndOf (pushed w e) mid = subst (λ (x : Entry). IsEndOf (pushed w x) mid) e_is (pushes w (end_here m all s)) in
+    let p : IsEndOf (push_entry w e) mid = subst (λ (x : Entry). IsEndOf (push_entry w x) mid) e_is (pushes w (end_here m all s)) in
     rw there (record {
-      node = end_reports (pushed w e) mid n m.core.base (Some (finished b (said.Decided (top_of all + 1) names))) p refl (is
-          ∙ ap (λ (x : Outcome). record mid { reports = reports.restarted m.core.base; ballot = Some (finished b x) }) same);
+      node = end_reports (push_entry w e) mid n m.core.base (Some (with_end b (said.Decided (top_of all + 1) names))) p refl (is
+          ∙ ap (λ (x : Outcome). record mid { reports = reports.reports_from m.core.base; ballot = Some (with_end b x) }) same);
       answer = sym same;
     }))
 
@@ -101,7 +101,7 @@ by_best m b best =
     (said.Waiting (those (is_waited_for m.core.who b) best.vote.members))
     else if not (best.by == m.core.who) then goes_on m b (said.Fetching best.by (top m + 1))
     else if nat_lt (size (left_in b best.vote.members)) b.least then ends m b (said.TooFew (size (left_in b best.vote.members)) b.least)
-    else decide_view (trimmed_for m b (left_in b best.vote.members)) b (left_in b best.vote.members)
+    else decide_view (trim_for m b (left_in b best.vote.members)) b (left_in b best.vote.members)
 
 decide_by : (m : Node) (b : Ballot) → decide m b ≡ by_best m b (best_of m b)
 unfolding decide
@@ -128,21 +128,21 @@ pub comes_best : (m n : Node) (b : Ballot) (best : Shown) (o : Outcome) → best
 comes_best m n b best o is by = comes (λ x. decide x b) m n o (λ all s. subst (λ (v : Verdict). ComesTo v o n) (sym (decide_best m b best all s is)) (by all s))
 
 -- an answer is the one that the ballot was given
-pub ended : (m n : Node) (b : Ballot) {o p : Outcome} → o ≡ p → n ≡ record m { ballot = Some (finished b p) } → n ≡ record m { ballot = Some (finished b o) }
-ended m n b answer is = is ∙ ap (λ (x : Outcome). record m { ballot = Some (finished b x) }) (sym answer)
+pub ended : (m n : Node) (b : Ballot) {o p : Outcome} → o ≡ p → n ≡ record m { ballot = Some (with_end b p) } → n ≡ record m { ballot = Some (with_end b o) }
+ended m n b answer is = is ∙ ap (λ (x : Outcome). record m { ballot = Some (with_end b x) }) (sym answer)
 
-pub kept_on : (m n : Node) (b : Ballot) {o p : Outcome} → o ≡ p → n ≡ record m { ballot = Some (unfinished b p) }
-    → n ≡ record m { ballot = Some (unfinished b o) }
-kept_on m n b answer is = is ∙ ap (λ (x : Outcome). record m { ballot = Some (unfinished b x) }) (sym answer)
+pub kept_on : (m n : Node) (b : Ballot) {o p : Outcome} → o ≡ p → n ≡ record m { ballot = Some (with_answer b p) }
+    → n ≡ record m { ballot = Some (with_answer b o) }
+kept_on m n b answer is = is ∙ ap (λ (x : Outcome). record m { ballot = Some (with_answer b x) }) (sym answer)
 
 pub not_in_comes : {m : Node} {b : Ballot} {best : Shown} {who : ℕ} {needed : List ℕ} (n : Node) (o : Outcome) → Looked m b best who needed
-    → has best.vote.members m.core.who ≡ false → o ≡ said.NotIn best.vote.view → n ≡ record m { ballot = Some (finished b o) } → (all : Node) → IsEndOf all m
+    → has best.vote.members m.core.who ≡ false → o ≡ said.NotIn best.vote.view → n ≡ record m { ballot = Some (with_end b o) } → (all : Node) → IsEndOf all m
     → ComesTo (decide all b) o n
 not_in_comes {m} {b} {best} n o seen out answer is = comes_best m n b best o seen.best_is
     (λ all s. rw out (ends_comes (with_log m all) m n b o (said.NotIn best.vote.view) (end_here m all s) answer is))
 
 pub waiting_comes : {m : Node} {b : Ballot} {best : Shown} {who count : ℕ} {needed waited : List ℕ} (n : Node) (o : Outcome)
-    → Waited m b best who needed waited count → 0 < count → o ≡ said.Waiting waited → n ≡ record m { ballot = Some (unfinished b o) } → (all : Node)
+    → Waited m b best who needed waited count → 0 < count → o ≡ said.Waiting waited → n ≡ record m { ballot = Some (with_answer b o) } → (all : Node)
     → IsEndOf all m → ComesTo (decide all b) o n
 waiting_comes {m} {b} {best} n o waits some answer is = comes_best m n b best o waits.looked.best_is
     (λ all s. rw (waits.inside, some_waited waits some)
@@ -150,7 +150,7 @@ waiting_comes {m} {b} {best} n o waits some answer is = comes_best m n b best o 
     (answer ∙ ap said.Waiting waits.waited_is) is))
 
 pub fetching_comes : {m : Node} {b : Ballot} {best : Shown} {who : ℕ} {needed : List ℕ} (n : Node) (o : Outcome) → Idle m b best who needed
-    → (best.by == m.core.who) ≡ false → o ≡ said.Fetching best.by (top m + 1) → n ≡ record m { ballot = Some (unfinished b o) } → (all : Node)
+    → (best.by == m.core.who) ≡ false → o ≡ said.Fetching best.by (top m + 1) → n ≡ record m { ballot = Some (with_answer b o) } → (all : Node)
     → IsEndOf all m → ComesTo (decide all b) o n
 fetching_comes {m} {b} {best} n o idle other answer is =
     comes_best m n b best o idle.looked.best_is (λ all s. rw (
@@ -162,7 +162,7 @@ fetching_comes {m} {b} {best} n o idle other answer is =
 
 pub too_few_comes : {m : Node} {b : Ballot} {best : Shown} {who got least : ℕ} {needed left : List ℕ} (n : Node) (o : Outcome) → Idle m b best who needed
     → (best.by == m.core.who) ≡ true → Counted b best left got least → got < least → o ≡ said.TooFew got least
-    → n ≡ record m { ballot = Some (finished b o) } → (all : Node) → IsEndOf all m → ComesTo (decide all b) o n
+    → n ≡ record m { ballot = Some (with_end b o) } → (all : Node) → IsEndOf all m → ComesTo (decide all b) o n
 too_few_comes {m} {b} {best} n o idle own count below answer is =
     comes_best m n b best o idle.looked.best_is (λ all s. rw (
       idle.inside,
@@ -174,11 +174,11 @@ too_few_comes {m} {b} {best} n o idle own count below answer is =
 
 pub view_comes : {m : Node} {b : Ballot} {best : Shown} {who got least : ℕ} {needed left : List ℕ} (n : Node) (o : Outcome) → Idle m b best who needed
     → (best.by == m.core.who) ≡ true → Counted b best left got least → least ≤ got
-    → ((all : Node) → IsEndOf all m → ComesTo (decide_view (trimmed_for all b left) b left) o n)
+    → ((all : Node) → IsEndOf all m → ComesTo (decide_view (trim_for all b left) b left) o n)
     → (all : Node) → IsEndOf all m → ComesTo (decide all b) o n
 view_comes {m} {b} {best} n o idle own count above then_ = comes_best m n b best o idle.looked.best_is
     (λ all s. rw (idle.inside, idle.none, own, enough count above)
-    (subst (λ (names : List ℕ). ComesTo (decide_view (trimmed_for (with_log m all) b names) b names) o n) count.left_is
+    (subst (λ (names : List ℕ). ComesTo (decide_view (trim_for (with_log m all) b names) b names) o n) count.left_is
     (then_ (with_log m all) (end_here m all s))))
 
 -- ---- the coordinator's own vote
@@ -212,9 +212,9 @@ least_within (Some x) taken h = h
 
 pub trimmed_comes : (m mid n : Node) (b : Ballot) (names : List ℕ) (o : Outcome) (least : ℕ)
     → least ≡ unwrap_or (least_of (taken_by m.core.who m.core.taken b) (names_of names)) 0
-    → ((all : Node) → IsEndOf all m → IsEndOf (trimmed all least) mid)
+    → ((all : Node) → IsEndOf all m → IsEndOf (trim_up_to all least) mid)
     → ((all : Node) → IsEndOf all mid → ComesTo (decide_view all b names) o n)
-    → (all : Node) → IsEndOf all m → ComesTo (decide_view (trimmed_for all b names) b names) o n
-trimmed_comes m mid n b names o least is trims then_ = comes (λ x. decide_view (trimmed_for x b names) b names) m n o (λ all s.
+    → (all : Node) → IsEndOf all m → ComesTo (decide_view (trim_for all b names) b names) o n
+trimmed_comes m mid n b names o least is trims then_ = comes (λ x. decide_view (trim_for x b names) b names) m n o (λ all s.
     let w = with_log m all in
-    subst (λ (k : ℕ). ComesTo (decide_view (trimmed w k) b names) o n) is (then_ (trimmed w least) (trims w (end_here m all s))))
+    subst (λ (k : ℕ). ComesTo (decide_view (trim_up_to w k) b names) o n) is (then_ (trim_up_to w least) (trims w (end_here m all s))))

@@ -1,5 +1,5 @@
 -- What a View that fits does to the members and to the view.
-use Rattle.std.proofs.Common.{◌≡◌, ⊎_elim, ℕ, ◌<◌, ◌≤◌, List, length, Bool, true, false, ◌==◌, ◌&&◌, ◌||◌, nat_lt, nat_le, slice_index, refl, sym, ap, ◌∙◌}
+use Rattle.std.proofs.Common.{◌≡◌, ⊎_elim, ℕ, ◌<◌, ◌≤◌, List, length, true, false, ◌==◌, ◌&&◌, ◌||◌, nat_lt, nat_le, slice_index, refl, sym, ap, ◌∙◌}
 use Rattle.std.proofs.Common.{arith}
 use Rattle.std.proofs.lemmas.Bool.Decides.{nat_tests}
 use Rattle.std.proofs.lemmas.Bool.{cases_lt}
@@ -10,19 +10,12 @@ use Rattle.am_base.specs.declared.name.Stamp.{Stamp}
 use Rattle.am_base.specs.declared.entry.Entry.TheVariants.{Data, Join, Leave, View}
 use Rattle.am_base.specs.Names.{place_of, life_of, has, is_within}
 use Rattle.am_base.specs.Stamps.{stamp_lt}
-use Rattle.am_base.specs.Lists.{blank_row, is_blank, at_place, member_life, members_of, viewed, after, fits}
+use Rattle.am_base.specs.Lists.{blank_row, is_blank, at_place, member_life, members_of, row_after_view, after, fits}
 use Rattle.am_base.proofs.Places.{get_or-by_place, length-by_place}
 use Rattle.am_core.proofs.Folds.{split}
 use Rattle.am_core.proofs.Lives.{row_at, member_at}
 use Rattle.am_table.proofs.Rows.{within_none}
-
-pub and_left : (a b : Bool) → (a && b) ≡ true → a ≡ true
-and_left true b h = refl
-and_left false b h = absurd (cc)
-
-pub and_right : (a b : Bool) → (a && b) ≡ true → b ≡ true
-and_right true b h = h
-and_right false b h = absurd (cc)
+use Rattle.am_model.proofs.Greatest.{and_both}
 
 -- the parts of a View that fits
 pub record FitsAsView (image : Image) (stamp : Stamp) (names : List ℕ) (resilience : ℕ) : Type 0 where
@@ -39,15 +32,11 @@ view_parts image stamp names resilience h =
     let b = is_blank image || is_within names (members_of image) in
     let c = has names stamp.by in
     let d = nat_le image.resilience resilience in
-    let bcd = and_right a (b && (c && d)) h in
-    let cd = and_right b (c && d) bcd in
-    let within = and_left b (c && d) bcd in
-    record {
-      above = and_left a (b && (c && d)) h;
-      within = λ full. rw full at within;
-      own = and_left c d cd;
-      no_less = and_right c d cd;
-    }
+    let abcd = and_both a (b && (c && d)) h in
+    let bcd = and_both b (c && d) abcd.1 in
+    let cd = and_both c d bcd.1 in
+    let within = bcd.0 in
+    record { above = abcd.0; within = λ full. rw full at within; own = cd.0; no_less = cd.1 }
 
 -- and made of them
 pub fits_view : (image : Image) (stamp : Stamp) (names : List ℕ) (resilience : ℕ) → stamp_lt image.view stamp ≡ true → is_within names (members_of image) ≡ true
@@ -61,10 +50,10 @@ within_at : (a b : List ℕ) (place : ℕ) → place < 16 → is_within a b ≡ 
 within_at a b place h is = split ((slice_index a place == 0) || (slice_index a place == slice_index b place)) (λ t. t)
     (λ f. absurd (let g = within_none a b place h f in cc))
 
-viewed_first : (number life : ℕ) (r : Row) → 0 < life → member_life (viewed true number life r) ≡ life
+viewed_first : (number life : ℕ) (r : Row) → 0 < life → member_life (row_after_view true number life r) ≡ life
 viewed_first number life r h = let e : (life == 0) ≡ false = grind (arith, nat_tests) in rw e refl
 
-viewed_stays : (number life : ℕ) (r : Row) → member_life r ≡ life → member_life (viewed false number life r) ≡ life
+viewed_stays : (number life : ℕ) (r : Row) → member_life r ≡ life → member_life (row_after_view false number life r) ≡ life
 viewed_stays number life r e =
     let t : (member_life r == life) ≡ true = grind (arith, nat_tests) in
     split (nat_lt 0 (member_life r))
@@ -82,11 +71,11 @@ view_has image number stamp names resilience h =
     let low : place < 16 = omega arith in
     let life : slice_index names place ≡ life_of stamp.by = grind (arith, nat_tests) in
     let new = after image number (View stamp names resilience) in
-    let f : ℕ → Row = λ k. viewed (is_blank image) number (slice_index names k) (row_at image k) in
+    let f : ℕ → Row = λ k. row_after_view (is_blank image) number (slice_index names k) (row_at image k) in
     let long = length-by_place f in
-    let at : slice_index (members_of new) place ≡ member_life (viewed (is_blank image) number (slice_index names place) (row_at image place)) =
+    let at : slice_index (members_of new) place ≡ member_life (row_after_view (is_blank image) number (slice_index names place) (row_at image place)) =
     member_at new place (omega arith) ∙ ap member_life (get_or-by_place f place blank_row low) in
-    let is : member_life (viewed (is_blank image) number (slice_index names place) (row_at image place)) ≡ slice_index names place = split (is_blank image)
+    let is : member_life (row_after_view (is_blank image) number (slice_index names place) (row_at image place)) ≡ slice_index names place = split (is_blank image)
     (λ t. rw t (viewed_first number (slice_index names place) (row_at image place) (omega arith)))
     (λ t.
     let w = within_at names (members_of image) place low (parts.within t) in

@@ -7,8 +7,8 @@ use Rattle.am_base.specs.declared.outcome.Outcome.TheVariants as said
 use Rattle.am_base.specs.Stamps.{stamp_lt}
 use Rattle.am_model.specs.Node.{Node, Ballot, only_name, members, is_member}
 use Rattle.am_model.specs.Emit.{Plan, quiet, telling}
-use Rattle.am_model.specs.Ballots.{promised, vote_of, keep_vote, give_up, begin}
-use Rattle.am_model.specs.Resets.{invite_row, vote_row, voted_for, is_open}
+use Rattle.am_model.specs.Ballots.{with_promise, vote_of, keep_vote, give_up, begin}
+use Rattle.am_model.specs.Resets.{invite_row, vote_row, take_vote, is_open}
 use Rattle.am_model.specs.Calls.{reset_row, give_up_row, give_up_of}
 use Rattle.am_base.specs.Names.{has}
 use Rattle.am_model.specs.Ends.{IsEndOf}
@@ -32,8 +32,8 @@ by_plan p q o t n e r = subst (λ (x : Plan). Replies x o t n) (sym e) r
 pub end_as : (m n : Node) → m.core.base ≡ m.core.log.start → n ≡ m → IsEndOf m n
 end_as m n e is = subst (λ (x : Node). IsEndOf m x) (sym is) (end_self m e)
 
-pub end_promised : (m n : Node) (v : Stamp) → m.core.base ≡ m.core.log.start → n ≡ promised m v → IsEndOf (promised m v) n
-end_promised m n v e is = end_as (promised m v) n e is
+pub end_promised : (m n : Node) (v : Stamp) → m.core.base ≡ m.core.log.start → n ≡ with_promise m v → IsEndOf (with_promise m v) n
+end_promised m n v e is = end_as (with_promise m v) n e is
 
 -- a ballot that is put back
 pub back : (m n k : Node) (o : Option Ballot) → m.ballot ≡ o → n ≡ record m { ballot = None } → k ≡ record n { ballot = o } → k ≡ m
@@ -49,36 +49,36 @@ invite_newer m n s v p e below end =
     rw t (subst (λ (x : Stamp). Replies (telling m (said.Newer m.core.promise) (only_name s) vote_of) (said.Newer x) (tell.Vote s) n) (sym e)
     (replies_vote m n (said.Newer m.core.promise) s end))
 
-pub invite_voted : (m n : Node) (s : ℕ) (v p : Stamp) → p ≡ m.core.promise → stamp_lt v p ≡ false → IsEndOf (promised m v) n
+pub invite_voted : (m n : Node) (s : ℕ) (v p : Stamp) → p ≡ m.core.promise → stamp_lt v p ≡ false → IsEndOf (with_promise m v) n
     → Replies (invite_row m s v) said.Voted (tell.Vote s) n
 unfolding invite_row
 invite_voted m n s v p e below end =
     let t : stamp_lt v m.core.promise ≡ false = ap (stamp_lt v) (sym e) ∙ below in
-    rw t (replies_vote (promised m v) n said.Voted s end)
+    rw t (replies_vote (with_promise m v) n said.Voted s end)
 
 -- ---- votes
 
-pub vote_overtaken : (m n : Node) (s : ℕ) (v : Stamp) (vote : Vote) → stamp_lt m.core.promise v ≡ true → IsEndOf (promised m v) n
+pub vote_overtaken : (m n : Node) (s : ℕ) (v : Stamp) (vote : Vote) → stamp_lt m.core.promise v ≡ true → IsEndOf (with_promise m v) n
     → Replies (vote_row m s v vote) (said.Overtaken v) tell.Nothing n
 unfolding vote_row
-vote_overtaken m n s v vote t end = rw t (replies_quiet (promised m v) n (said.Overtaken v) end)
+vote_overtaken m n s v vote t end = rw t (replies_quiet (with_promise m v) n (said.Overtaken v) end)
 
 pub vote_by : (m n : Node) (s : ℕ) (v : Stamp) (vote : Vote) (o : Outcome) (t : Telling) (b : Option Ballot) → stamp_lt m.core.promise v ≡ false → m.ballot ≡ b
-    → Replies (voted_for m s v vote b) o t n → Replies (vote_row m s v vote) o t n
+    → Replies (take_vote m s v vote b) o t n → Replies (vote_row m s v vote) o t n
 unfolding vote_row
-vote_by m n s v vote o t b f is r = rw f (subst (λ (x : Option Ballot). Replies (voted_for m s v vote x) o t n) (sym is) r)
+vote_by m n s v vote o t b f is r = rw f (subst (λ (x : Option Ballot). Replies (take_vote m s v vote x) o t n) (sym is) r)
 
 pub voted_elsewhere : (m n : Node) (s : ℕ) (v : Stamp) (vote : Vote) (b : Ballot) → (stamp_lt v m.core.promise || not (is_open v b)) ≡ true → IsEndOf m n
-    → Replies (voted_for m s v vote (Some b)) said.Elsewhere tell.Nothing n
+    → Replies (take_vote m s v vote (Some b)) said.Elsewhere tell.Nothing n
 voted_elsewhere m n s v vote b t end = rw t (replies_quiet m n said.Elsewhere end)
 
 pub voted_known : (m n : Node) (s : ℕ) (v : Stamp) (vote : Vote) (b : Ballot) → (stamp_lt v m.core.promise || not (is_open v b)) ≡ false → b.given_up s ≡ true
-    → IsEndOf m n → Replies (voted_for m s v vote (Some b)) said.Known tell.Nothing n
+    → IsEndOf m n → Replies (take_vote m s v vote (Some b)) said.Known tell.Nothing n
 voted_known m n s v vote b f t end = rw (f, t) (replies_quiet m n said.Known end)
 
 pub voted_kept : (m n : Node) (s : ℕ) (v : Stamp) (vote : Vote) (b : Ballot) (x : Option Ballot) (o : Outcome) (t : Telling)
     → (stamp_lt v m.core.promise || not (is_open v b)) ≡ false → b.given_up s ≡ false → Replies (keep_vote m b s vote) o t n
-    → Replies (voted_for (record m { ballot = x }) s v vote (Some b)) o t n
+    → Replies (take_vote (record m { ballot = x }) s v vote (Some b)) o t n
 voted_kept m n s v vote b x o t f g r = rw (f, g) (by_plan _ (keep_vote m b s vote) o t n (keep_with m x b s vote) r)
 
 -- ---- names given up

@@ -6,7 +6,7 @@ use Rattle.am_base.specs.declared.name.Stamp.{Stamp}
 use Rattle.am_base.specs.Stamps.{stamp_lt, stamp_eq}
 use Rattle.am_base.specs.declared.outcome.Outcome.{Outcome}
 use Rattle.am_base.specs.Lists.{fits}
-use Rattle.am_model.specs.Node.{Node, Ballot, top, view, told, is_within_bound}
+use Rattle.am_model.specs.Node.{Node, Ballot, top, view, image_of, is_within_bound}
 use Rattle.am_model.specs.Emit.{Plan, quiet}
 use Rattle.am_model.specs.Resets.{is_view_past}
 use Rattle.am_reset.specs.declared.replies.Reply.{Reply}
@@ -28,7 +28,7 @@ IsBelow v (View stamp names resilience) = stamp_lt stamp v ≡ true
 pub record ComesNext (m : Node) (v : Stamp) (base number : ℕ) (e : Entry) (in_ballot : Bool) : Type 0 where
   pub next : number ≡ top m + 1
   pub taken : base ≤ m.core.taken
-  pub fits : fits (told m) e ≡ true
+  pub fits : fits (image_of m) e ≡ true
   pub past : is_view_past v in_ballot e ≡ false
   pub below : in_ballot ≡ true → IsBelow v e
   pub bound : is_within_bound m (max m.core.base base) number ≡ true
@@ -47,5 +47,5 @@ pub record FollowsAsView (m : Node) (v : Stamp) (base number : ℕ) (names : Lis
   pub apart : stamp_eq (view m) v ≡ false
   pub next : number ≡ top m + 1
   pub taken : base ≤ m.core.taken
-  pub fits : fits (told m) (View v names resilience) ≡ true
+  pub fits : fits (image_of m) (View v names resilience) ≡ true
   pub bound : is_within_bound m (max m.core.base base) number ≡ true

@@ -1,27 +1,17 @@
-ghost use Rattle.std.specs.Prelude.{◌≡◌, ◌≢◌, ◌<◌, ◌≤◌, ◌+◌, ◌==◌, ◌||◌, ◌&&◌, not, Option, Some, None, IfNone, IfSome, true, false, [], max};
-ghost use Rattle.am_base.specs.Most.{most_number};
-ghost use Rattle.am_base.specs.Limits.{IsStamp, IsEntry, IsNumber};
-ghost use Rattle.am_base.specs.Lists.{top_of, told_by, fits};
-ghost use Rattle.am_core.specs.Cores.{IsInOrder};
+ghost use Rattle.std.specs.Prelude.{◌≡◌, ◌≢◌, ◌<◌, ◌≤◌, ◌+◌, ◌==◌, ◌||◌, ◌&&◌, not, Option, Some, None, IfNone, IfSome, true, false, []};
+ghost use Rattle.am_handlers.specs.Prelude.{most_number, IsEntry, IsStamp, fits, top_of, stamp_eq, stamp_lt, IsInOrder, has_log, Node, only_name, push_entry, image_of, trim_up_to, view, IsOwnBallot, node_of, Performs};
 ghost use Rattle.am_ballots.specs.Kept.{ballot_of};
-ghost use Rattle.am_model.specs.Group.{has_log};
 ghost use Rattle.am_model.specs.Node as node;
-ghost use Rattle.am_model.specs.Node.{Node, told, view, only_name, pushed, trimmed};
 ghost use Rattle.am_model.specs.Emit.{Plan, telling, ack_of};
-ghost use Rattle.am_model.specs.Resets.{piece_row, result_row, hears_result, fetched, is_view_past, caught_up, fetched_for, piece_promised, piece_for};
-ghost use Rattle.am_model.specs.Ends.{Does};
-ghost use Rattle.am_handlers.specs.Keeps.{IsOwnBallot};
-ghost use Rattle.am_handlers.specs.Parts.{node_of};
-ghost use Rattle.am_base.specs.Stamps.{stamp_lt, stamp_eq};
+ghost use Rattle.am_model.specs.Resets.{piece_row, result_row, hears_result, push_fetched, is_view_past, decide_anew, piece_promised, piece_for};
 ghost use Rattle.am_handlers.specs.Finishing.{unless};
 ghost use Rattle.am_reset.specs.Catching.{unless_reply, with_ballot, ComesNext, FollowsAsView, IsBelow};
-ghost use Rattle.am_reset.specs.Deciding.{IsTakenOut, IsUpTo, MayStore};
+ghost use Rattle.am_reset.specs.Deciding.{IsTakenOut};
 ghost use Rattle.am_reset.specs.Replies.{Replies, MayTell};
 
 use crate::deciding::{decide, store};
 use crate::reading::{
-    accepted_of, copy_of, has_own_leave, is_beyond, is_same, is_view, last_of, name_of, promise_of,
-    taken_of,
+    copy_of, has_own_leave, is_beyond, is_same, is_view, last_of, name_of, promise_of, taken_of,
 };
 use crate::replies::{Reply, Telling, finish, quiet};
 use crate::voting::{put_back, raise_promise, take_ballot};
@@ -59,7 +49,7 @@ fn is_view_past(stamp: &Stamp, in_ballot: bool, entry: &Entry) -> bool
 
 /// Whether an entry fits behind the list.
 fn fits(parts: &Parts, entry: &Entry) -> bool
-    ensures { result ≡ fits (told (node_of parts.now)) entry.now }
+    ensures { result ≡ fits (image_of (node_of parts.now)) entry.now }
 {
     parts.core.log.fits(entry)
 }
@@ -74,9 +64,9 @@ fn refusal(
     in_ballot: bool,
 ) -> Option<Outcome>
     ensures value { (x : Option node.Ballot) (then_ : Node → Plan)
-        → fetched (with_ballot (node_of parts.now) x) stamp.now base number entry.now in_ballot
+        → push_fetched (with_ballot (node_of parts.now) x) stamp.now base number entry.now in_ballot
         then_ ≡ unless result (with_ballot (node_of parts.now) x)
-        (then_ (pushed (trimmed (with_ballot (node_of parts.now) x) base) entry.now)) }
+        (then_ (push_entry (trim_up_to (with_ballot (node_of parts.now) x) base) entry.now)) }
     ensures next { IfNone result (ComesNext
         (node_of parts.now) stamp.now base number entry.now in_ballot) }
 {
@@ -160,8 +150,8 @@ fn piece_in_ballot(
     requires promise { stamp.now ≡ parts.old.core.promise }
     requires entry { IsEntry entry.now }
     requires number { top_of parts.old.core.log + 1 < most_number }
-    ensures replies { Replies (fetched (with_ballot (node_of parts.old) (Some (ballot_of ballot)))
-        stamp.now base number entry.now true (fetched_for (ballot_of ballot))) result.outcome
+    ensures replies { Replies (push_fetched (with_ballot (node_of parts.old) (Some (ballot_of ballot)))
+        stamp.now base number entry.now true (decide_anew (ballot_of ballot))) result.outcome
         result.telling (node_of parts.new) }
     ensures told { MayTell result.telling result.outcome }
 {
@@ -218,6 +208,7 @@ fn piece_for(
     piece_in_ballot(parts, &stamp, base, number, entry, ballot)
 }
 
+/// What becomes of a fetched entry.
 fn piece(
     parts: &mut Parts,
     from: Name,
@@ -259,10 +250,10 @@ pub fn on_piece(
     requires logged { has_log parts.old.status ≡ true }
     requires entry { IsEntry entry.now }
     requires number { top_of parts.old.core.log + 1 < most_number }
-    ensures { Does (λ m. piece_row m from stamp base number entry.now)
-        (node_of parts.old) result out.new (node_of parts.new) }
+    ensures { Performs (λ m. piece_row m from stamp base number entry.now) parts.old
+        result out.new parts.new }
 {
-    let before = accepted_of(parts);
+    let before = parts.accept_front();
     let reply = piece(parts, from, stamp, base, number, entry);
     finish(parts, before, reply, out)
 }
@@ -290,7 +281,7 @@ fn result_refusal(
 ) -> Option<Reply>
     ensures value { hears_result (node_of parts.now) from stamp.now base number members resilience
         ≡ unless_reply result (node_of parts.now)
-        (telling (pushed (trimmed (node_of parts.now) base)
+        (telling (push_entry (trim_up_to (node_of parts.now) base)
         (Entry.View stamp.now members resilience)) (Outcome.Stored number)
         (only_name from) ack_of) }
     ensures next { IfNone result (FollowsAsView
@@ -366,6 +357,7 @@ fn is_passed(parts: &Parts, stamp: &Stamp) -> bool
     stamp.by == name_of(parts) || copy_of(stamp).is_below(promise_of(parts))
 }
 
+/// What becomes of a decided view.
 fn result_row(
     parts: &mut Parts,
     from: Name,
@@ -410,10 +402,10 @@ pub fn on_result(
     requires within { IsStamp stamp }
     requires resilience { resilience ≤ 15 }
     requires number { top_of parts.old.core.log < most_number }
-    ensures { Does (λ m. result_row m from stamp base number members resilience)
-        (node_of parts.old) result out.new (node_of parts.new) }
+    ensures { Performs (λ m. result_row m from stamp base number members resilience) parts.old
+        result out.new parts.new }
 {
-    let before = accepted_of(parts);
+    let before = parts.accept_front();
     let reply = result_row(parts, from, stamp, base, number, members, resilience);
     finish(parts, before, reply, out)
 }

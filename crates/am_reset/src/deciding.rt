@@ -1,18 +1,10 @@
-ghost use Rattle.std.specs.Prelude.{◌≡◌, ◌<◌, ◌≤◌, ◌+◌, ◌-◌, max, nat_lt, Some, None, true, false, length, unwrap_or};
+ghost use Rattle.std.specs.Prelude.{◌≡◌, ◌<◌, ◌≤◌, ◌+◌, ◌-◌, max, nat_lt, Some, true, false, length, unwrap_or};
+ghost use Rattle.am_handlers.specs.Prelude.{most_number, IsEntry, fits, told_by, top_of, has, names_of, size, IsInOrder, Node, push_entry, trim_up_to, Changes, IsEndOf, IsOwnBallot, IsSteady, NodeKeeps, node_of};
 ghost use Rattle.am_base.specs.Outcomes.{is_took};
-ghost use Rattle.am_base.specs.Most.{most_number};
-ghost use Rattle.am_base.specs.Names.{has, size, names_of};
-ghost use Rattle.am_base.specs.Limits.{IsEntry};
-ghost use Rattle.am_base.specs.Lists.{fits, top_of, told_by};
-ghost use Rattle.am_core.specs.Cores.{IsInOrder};
-ghost use Rattle.am_model.specs.Node.{Node, acts, pushed, trimmed};
-ghost use Rattle.am_model.specs.Ballots.{finished, unfinished, decide, decide_view, trimmed_for, taken_by};
-ghost use Rattle.am_fronts.specs.Reports.{restarted, least_of};
-ghost use Rattle.am_model.specs.Ends.{IsEndOf, Changes};
+ghost use Rattle.am_model.specs.Ballots.{with_end, with_answer, decide, decide_view, trim_for, taken_by};
+ghost use Rattle.am_fronts.specs.Reports.{reports_from, least_of};
 ghost use Rattle.am_ballots.specs.Kept.{ballot_of};
-ghost use Rattle.am_handlers.specs.Keeps.{NodeKeeps, IsOwnBallot, IsSteady};
-ghost use Rattle.am_handlers.specs.Parts.{node_of};
-ghost use Rattle.am_reset.specs.Deciding.{IsTakenOut, MayBeView, MayStore};
+ghost use Rattle.am_reset.specs.Deciding.{Answered, IsTakenOut, MayBeView, MayStore};
 ghost use Rattle.am_reset.specs.Replies.{ComesTo, IsTold};
 
 use crate::reading::{base_of, name_of, own_vote};
@@ -27,7 +19,7 @@ use am_handlers::parts::Parts;
 pub fn trim(parts: &mut Parts, base: u32)
     requires order { IsInOrder parts.old.core }
     requires taken { base ≤ parts.old.core.taken }
-    ensures changes { Changes (λ m. trimmed m base) (node_of parts.old) (node_of parts.new) }
+    ensures changes { Changes (λ m. trim_up_to m base) (node_of parts.old) (node_of parts.new) }
     ensures steady { IsSteady (node_of parts.old) (node_of parts.new) }
     ensures base { parts.new.core.base ≡ max parts.old.core.base base }
     ensures rules { parts.new.core.rules ≡ parts.old.core.rules }
@@ -43,9 +35,9 @@ fn push(parts: &mut Parts, entry: Entry)
     requires room { length parts.old.core.log.entries < parts.old.core.rules.window + 15 }
     requires entry { IsEntry entry }
     requires number { top_of parts.old.core.log < most_number }
-    requires keeps { NodeKeeps (pushed (node_of parts.old) entry) }
-    ensures value { node_of parts.new ≡ pushed (node_of parts.old) entry }
-    ensures changes { Changes (λ m. pushed m entry) (node_of parts.old) (node_of parts.new) }
+    requires keeps { NodeKeeps (push_entry (node_of parts.old) entry) }
+    ensures value { node_of parts.new ≡ push_entry (node_of parts.old) entry }
+    ensures changes { Changes (λ m. push_entry m entry) (node_of parts.old) (node_of parts.new) }
     ensures order { IsInOrder parts.new.core }
 {
     parts.core.push(entry);
@@ -54,40 +46,34 @@ fn push(parts: &mut Parts, entry: Entry)
 /// Trims the list up to a base, where that is greater, and stores an entry behind it.
 pub fn store(parts: &mut Parts, base: u32, entry: &Entry)
     requires { MayStore (node_of parts.old) base entry.now }
-    ensures changes { Changes (λ m. pushed (trimmed m base) entry.now) (node_of parts.old)
+    ensures changes { Changes (λ m. push_entry (trim_up_to m base) entry.now) (node_of parts.old)
         (node_of parts.new) }
-    ensures steady { IsSteady (pushed (node_of parts.old) entry.now) (node_of parts.new) }
+    ensures steady { IsSteady (push_entry (node_of parts.old) entry.now) (node_of parts.new) }
     ensures order { IsInOrder parts.new.core }
 {
     trim(parts, base);
-    let _before = parts.accepted();
-    push(parts, entry.copied());
+    let _before = parts.accept_front();
+    push(parts, entry.copy());
 }
 
 /// The ballot ends with this answer.
-fn close(parts: &mut Parts, ballot: Ballot, answer: Outcome) -> Outcome
+fn close(parts: &mut Parts, mut ballot: Ballot, answer: Outcome) -> Outcome
     requires resilience { ballot.resilience ≤ 15 }
     requires plain { is_took answer ≡ false }
-    ensures node { node_of parts.new ≡ record (node_of parts.old)
-        { ballot = Some (finished (ballot_of ballot) answer) } }
-    ensures answer { result ≡ answer }
+    ensures { Answered parts.old (with_end (ballot_of ballot) answer) answer result parts.new }
 {
-    let mut ballot = ballot;
     ballot.end(&answer);
     parts.ballot = Some(ballot);
     answer
 }
 
 /// The ballot goes on, and this is its answer.
-fn keep_on(parts: &mut Parts, ballot: Ballot, answer: Outcome) -> Outcome
+fn keep_on(parts: &mut Parts, mut ballot: Ballot, answer: Outcome) -> Outcome
     requires own { IsOwnBallot (node_of parts.old) (ballot_of ballot) }
     requires is_open { ballot.is_over ≡ false }
     requires plain { is_took answer ≡ false }
-    ensures node { node_of parts.new ≡ record (node_of parts.old)
-        { ballot = Some (unfinished (ballot_of ballot) answer) } }
-    ensures answer { result ≡ answer }
+    ensures { Answered parts.old (with_answer (ballot_of ballot) answer) answer result parts.new }
 {
-    let mut ballot = ballot;
     ballot.go_on(&answer);
     parts.ballot = Some(ballot);
     answer
@@ -103,7 +89,7 @@ fn is_crowded(parts: &Parts, names: Names) -> bool
 }
 
 /// The answer where there is no room.
-fn crowded(parts: &Parts) -> Outcome
+fn crowded_answer(parts: &Parts) -> Outcome
     ensures { result ≡ Outcome.Crowded parts.now.core.base (top_of parts.now.core.log) }
 {
     Outcome::Crowded {
@@ -113,7 +99,7 @@ fn crowded(parts: &Parts) -> Outcome
 }
 
 /// The answer where the next entry is the view of these members.
-fn decided(parts: &Parts, names: Names) -> Outcome
+fn decided_answer(parts: &Parts, names: Names) -> Outcome
     requires { top_of parts.now.core.log < most_number }
     ensures value { result ≡ Outcome.Decided (top_of parts.now.core.log + 1) names }
     ensures told { IsTold result }
@@ -142,7 +128,7 @@ fn view_of(parts: &Parts, ballot: &Ballot, names: Names) -> Entry
 /// All reports begin anew at the base.
 fn restart(parts: &mut Parts, base: u32)
     requires { base ≤ parts.old.core.taken }
-    ensures { node_of parts.new ≡ record (node_of parts.old) { reports = restarted base } }
+    ensures { node_of parts.new ≡ record (node_of parts.old) { reports = reports_from base } }
 {
     parts.fronts.restart(base);
 }
@@ -157,8 +143,8 @@ fn push_view(parts: &mut Parts, ballot: Ballot, names: Names) -> Outcome
         → ComesTo (decide_view all (ballot_of ballot) names) result (node_of parts.new) }
     ensures told { IsTold result }
 {
-    let _before = parts.accepted();
-    let answer = decided(parts, names);
+    let _before = parts.accept_front();
+    let answer = decided_answer(parts, names);
     let base = base_of(parts);
     push(parts, view_of(parts, &ballot, names));
     restart(parts, base);
@@ -174,7 +160,7 @@ fn decide_view(parts: &mut Parts, ballot: Ballot, names: Names) -> Outcome
     ensures told { IsTold result }
 {
     if is_crowded(parts, names) {
-        return close(parts, ballot, crowded(parts));
+        return close(parts, ballot, crowded_answer(parts));
     }
     push_view(parts, ballot, names)
 }
@@ -194,7 +180,7 @@ fn trim_and_decide(parts: &mut Parts, ballot: Ballot, names: Names) -> Outcome
     requires ballot { IsTakenOut (node_of parts.old) (ballot_of ballot) }
     requires names { MayBeView (node_of parts.old) names }
     ensures comes { (all : Node) → IsEndOf all (node_of parts.old)
-        → ComesTo (decide_view (trimmed_for all (ballot_of ballot) names) (ballot_of ballot) names)
+        → ComesTo (decide_view (trim_for all (ballot_of ballot) names) (ballot_of ballot) names)
         result (node_of parts.new) }
     ensures told { IsTold result }
 {

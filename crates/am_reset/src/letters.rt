@@ -1,13 +1,9 @@
-ghost use Rattle.std.specs.Prelude.{◌≡◌, ◌<◌, ◌≤◌, ◌+◌, length, [], if◌then◌else◌};
-ghost use Rattle.am_base.specs.Limits.{IsNumber, IsVote};
-ghost use Rattle.am_base.specs.Stamps.{stamp_eq};
-ghost use Rattle.am_packet.specs.Boxes.{with_letter};
-ghost use Rattle.am_codec.specs.Limits.{IsWithin};
-ghost use Rattle.am_core.specs.Cores.{IsInOrder};
-ghost use Rattle.am_model.specs.Node.{told, view, only_name};
+#![tactic(auto, using(am_model::proofs::Letters::one_more), unfolding(am_codec::specs::Limits::IsWithin))]
+
+ghost use Rattle.std.specs.Prelude.{◌≡◌, ◌<◌, ◌≤◌, ◌+◌, length, []};
+ghost use Rattle.am_handlers.specs.Prelude.{IsNumber, IsWithin, image_of, view, node_of};
 ghost use Rattle.am_model.specs.Emit.{ack_of, fetch_of, invite_of, result_of};
 ghost use Rattle.am_model.specs.Ballots.{vote_of, own_vote, with_result, with_fetch};
-ghost use Rattle.am_handlers.specs.Parts.{node_of};
 ghost use Rattle.am_reset.specs.Replies.{letters_of, IsTold, MayTell};
 
 use crate::reading::own_vote;
@@ -17,87 +13,66 @@ use am_base::name::{Name, Stamp};
 use am_base::names::Names;
 use am_base::outcome::Outcome;
 use am_core::log::Log;
+use am_handlers::packet_from;
+use am_handlers::packets::only;
 use am_handlers::parts::Parts;
 use am_letter::out_box::OutBox;
 use am_packet::packet::Packet;
 
-/// The set of one name.
-fn only(name: Name) -> Names
-    ensures { result ≡ only_name name }
-{
-    Names::empty().with(name)
-}
-
-#[tactic(auto, unfolding(am_codec::specs::Limits::IsWithin))]
+/// An Ack.
 fn ack(parts: &Parts) -> Packet
     ensures value { result ≡ ack_of (node_of parts.now) }
     ensures within { IsWithin result }
 {
-    Packet::Ack {
-        sender: parts.core.who,
-        stamp: parts.core.promise,
+    packet_from!(parts.core => Ack {
         report: Report {
             stored: parts.core.log.top(),
             taken: parts.core.taken,
         },
-    }
+    })
 }
 
-#[tactic(auto, unfolding(am_codec::specs::Limits::IsWithin))]
+/// A Fetch of what comes next.
 fn fetch(parts: &Parts) -> Packet
     ensures value { result ≡ fetch_of (node_of parts.now) }
     ensures within { IsWithin result }
 {
-    Packet::Fetch {
-        sender: parts.core.who,
-        stamp: parts.core.promise,
-        stored: parts.core.log.top(),
-    }
+    packet_from!(parts.core => Fetch { stored: parts.core.log.top() })
 }
 
-#[tactic(auto, unfolding(am_codec::specs::Limits::IsWithin))]
+/// What the node shows in a ballot.
 fn vote(parts: &Parts) -> Packet
     ensures value { result ≡ vote_of (node_of parts.now) }
     ensures within { IsWithin result }
 {
-    Packet::Vote {
-        sender: parts.core.who,
-        stamp: parts.core.promise,
-        vote: own_vote(parts),
-    }
+    packet_from!(parts.core => Vote { vote: own_vote(parts) })
 }
 
-#[tactic(auto, unfolding(am_codec::specs::Limits::IsWithin))]
+/// An Invite to the ballot that the node has promised.
 fn invite(parts: &Parts) -> Packet
     ensures value { result ≡ invite_of (node_of parts.now) }
     ensures within { IsWithin result }
 {
     let _top = parts.core.log.top();
-    Packet::Invite {
-        sender: parts.core.who,
-        stamp: parts.core.promise,
-    }
+    packet_from!(parts.core => Invite {})
 }
 
-#[tactic(auto, unfolding(am_codec::specs::Limits::IsWithin))]
+/// The result of a ballot: the number of its View and its members.
 fn result_packet(parts: &Parts, number: u32, members: Names) -> Packet
     requires { IsNumber number }
     ensures value { result ≡ result_of (node_of parts.now) number members
-        (told (node_of parts.now)).resilience }
+        (image_of (node_of parts.now)).resilience }
     ensures within { IsWithin result }
 {
-    Packet::Result {
-        sender: parts.core.who,
-        stamp: parts.core.promise,
+    packet_from!(parts.core => Result {
         base: parts.core.log.base(),
         number,
         members,
         resilience: parts.core.log.resilience(),
-    }
+    })
 }
 
 /// A decided view is told to its other members.
-#[tactic(auto, using(am_model::proofs::Letters::one_more))]
 fn tell_result(parts: &Parts, outcome: &Outcome, out: &mut OutBox)
     requires room { length out.old < 24 }
     requires told { IsTold outcome.now }
@@ -116,7 +91,6 @@ fn tell_result(parts: &Parts, outcome: &Outcome, out: &mut OutBox)
 }
 
 /// What the answer is to fetch is asked for.
-#[tactic(auto, using(am_model::proofs::Letters::one_more))]
 fn tell_fetch(parts: &Parts, outcome: &Outcome, out: &mut OutBox)
     requires room { length out.old < 24 }
     ensures letters { out.new ≡ with_fetch outcome.now (node_of parts.now) out.old }
@@ -129,7 +103,6 @@ fn tell_fetch(parts: &Parts, outcome: &Outcome, out: &mut OutBox)
 }
 
 /// What goes out of a ballot.
-#[tactic(auto, using(am_model::proofs::Letters::one_more))]
 fn tell_ballot(parts: &Parts, outcome: &Outcome, invited: Names, fetches: bool, out: &mut OutBox)
     requires empty { out.old ≡ [] }
     requires told { IsTold outcome.now }
@@ -145,7 +118,6 @@ fn tell_ballot(parts: &Parts, outcome: &Outcome, invited: Names, fetches: bool, 
 }
 
 /// An Ack to a name, where this is the view.
-#[tactic(auto, using(am_model::proofs::Letters::one_more))]
 fn tell_ack_in(parts: &Parts, view: Stamp, to: Name, out: &mut OutBox)
     requires { out.old ≡ [] }
     ensures letters { out.new ≡ letters_of Outcome.Known (Telling.AckIn view to)
@@ -159,7 +131,6 @@ fn tell_ack_in(parts: &Parts, view: Stamp, to: Name, out: &mut OutBox)
 }
 
 /// Puts what goes out beside an answer, with the values that stand now.
-#[tactic(auto, using(am_model::proofs::Letters::one_more))]
 pub fn tell(parts: &Parts, outcome: &Outcome, telling: &Telling, out: &mut OutBox)
     requires empty { out.old ≡ [] }
     requires told { MayTell telling.now outcome.now }

@@ -1,13 +1,6 @@
-ghost use Rattle.std.specs.Prelude.{◌≡◌, ◌<◌, ◌≤◌, ◌+◌, ◌==◌, ◌&&◌, max, not, nat_lt, nat_le};
-ghost use Rattle.am_base.specs.Most.{most_number};
-ghost use Rattle.am_base.specs.Limits.{IsVote};
-ghost use Rattle.am_base.specs.Names.{has};
-ghost use Rattle.am_base.specs.Lists.{top_of, told_by};
-ghost use Rattle.am_base.specs.Stamps.{stamp_eq};
-ghost use Rattle.am_core.specs.Cores.{IsInOrder};
-ghost use Rattle.am_model.specs.Node.{view, members, others, is_member, has_own_leave, is_within_bound};
+ghost use Rattle.std.specs.Prelude.{◌≡◌, ◌<◌, ◌≤◌, ◌+◌, ◌==◌, ◌&&◌, max, not};
+ghost use Rattle.am_handlers.specs.Prelude.{most_number, IsVote, top_of, has, stamp_eq, IsInOrder, has_own_leave, is_member, is_within_bound, members, others, view, node_of};
 ghost use Rattle.am_model.specs.Ballots.{own_vote};
-ghost use Rattle.am_handlers.specs.Parts.{node_of};
 
 use am_base::image::Vote;
 use am_base::name::{Name, Stamp};
@@ -62,14 +55,6 @@ pub fn taken_of(parts: &Parts) -> u32
     ensures { result ≡ parts.now.core.taken }
 {
     parts.core.taken
-}
-
-/// The number up to which its list is accepted.
-pub fn accepted_of(parts: &Parts) -> u32
-    ensures value { result ≡ parts.now.core.acc }
-    ensures order { IsInOrder parts.now.core }
-{
-    parts.core.acc
 }
 
 /// The number of its last entry.

@@ -1,8 +1,7 @@
 ghost use Rattle.std.specs.Prelude.{◌≡◌, []};
-ghost use Rattle.am_model.specs.Node.{Node};
+ghost use Rattle.am_handlers.specs.Prelude.{Node, node_of};
 ghost use Rattle.am_model.specs.Emit.{Plan, finish};
 ghost use Rattle.am_model.specs.Ends as ends;
-ghost use Rattle.am_handlers.specs.Parts.{node_of};
 ghost use Rattle.am_reset.specs.Replies.{Replies, MayTell};
 
 use crate::letters::tell;

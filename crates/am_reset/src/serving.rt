@@ -1,26 +1,19 @@
-ghost use Rattle.std.specs.Prelude.{◌≡◌, ◌<◌, ◌≤◌, ◌+◌, ◌++◌, ◌∷◌, ◌||◌, ◌&&◌, ◌==◌, All, Some, [], length, min, nat_lt, slice_index_or};
-ghost use Rattle.am_base.specs.Most.{most_number};
+ghost use Rattle.std.specs.Prelude.{◌≡◌, ◌<◌, ◌≤◌, ◌+◌, ◌++◌, ◌∷◌, ◌||◌, ◌&&◌, ◌==◌, All, Some, [], length, min, nat_lt};
+ghost use Rattle.am_handlers.specs.Prelude.{most_number, IsNumber, IsEntry, entry_at, top_of, IsInOrder, with_letter, Node, only_name, node_of, Performs};
 ghost use Rattle.am_base.specs.declared.entry.Entry.{Entry};
-ghost use Rattle.am_base.specs.Limits.{IsEntry, IsNumber};
-ghost use Rattle.am_base.specs.Lists.{top_of, entry_at};
-ghost use Rattle.am_base.specs.Stamps.{stamp_eq};
-ghost use Rattle.am_codec.specs.Limits.{IsWithin};
-ghost use Rattle.am_core.specs.Cores.{IsInOrder};
-ghost use Rattle.am_packet.specs.Boxes.{with_letter};
-ghost use Rattle.am_model.specs.Node.{Node, only_name};
-ghost use Rattle.am_model.specs.Emit.{piece_of, served, put_all, finish};
+ghost use Rattle.am_model.specs.Emit.{piece_of, entries_to_serve, put_all, finish};
 ghost use Rattle.am_model.specs.Resets.{fetch_row, may_fetch, serve_pieces};
 ghost use Rattle.am_model.specs.Ends as ends;
-ghost use Rattle.am_model.specs.Ends.{Does};
-ghost use Rattle.am_handlers.specs.Parts.{node_of};
 
-use crate::reading::{accepted_of, is_same, is_view, name_of, promise_of};
+use crate::reading::{is_same, is_view, name_of, promise_of};
 use crate::replies::{finish, quiet};
 use am_base::entry::Entry;
 use am_base::name::{Name, Stamp};
 use am_base::names::Names;
 use am_base::outcome::Outcome;
 use am_core::log::Log;
+use am_handlers::packet_from;
+use am_handlers::packets::only;
 use am_handlers::parts::Parts;
 use am_letter::out_box::OutBox;
 use am_packet::packet::Packet;
@@ -37,7 +30,7 @@ fn copy_entry(parts: &Parts, number: u32, entries: &mut ArrayVec<Entry, 8>)
     ensures few { length entries.new.items ≤ length entries.old.items + 1 }
 {
     match parts.core.log.entry(number) {
-        Some(entry) => entries.push(entry.copied()),
+        Some(entry) => entries.push(entry.copy()),
         None => {}
     }
 }
@@ -57,7 +50,7 @@ fn copies(parts: &Parts, stored: u32) -> ArrayVec<Entry, 8>
     requires order { IsInOrder parts.now.core }
     requires low { parts.now.core.base ≤ stored }
     requires high { stored ≤ top_of parts.now.core.log }
-    ensures items { result.items ≡ served (node_of parts.now) stored }
+    ensures items { result.items ≡ entries_to_serve (node_of parts.now) stored }
     ensures within { All IsEntry result.items }
     ensures numbers { stored + length result.items ≤ most_number }
 {
@@ -79,14 +72,12 @@ fn tell_piece(parts: &Parts, to: Name, number: u32, entry: &Entry, out: &mut Out
         (piece_of (node_of parts.now) number entry.now) out.old }
     ensures few { length out.new ≤ length out.old + 1 }
 {
-    let packet = Packet::Piece {
-        sender: parts.core.who,
-        stamp: parts.core.promise,
+    let piece = packet_from!(parts.core => Piece {
         base: parts.core.log.base(),
         number,
-        entry: entry.copied(),
-    };
-    out.put(Names::empty().with(to), &packet);
+        entry: entry.copy(),
+    });
+    out.put(only(to), &piece);
 }
 
 /// A Piece to a name for each of these entries, of which the first is the one above a number.
@@ -151,10 +142,9 @@ pub fn on_fetch(
     out: &mut OutBox,
 ) -> Outcome
     requires { out.old ≡ [] }
-    ensures { Does (λ m. fetch_row m from stamp stored) (node_of parts.old) result out.new
-        (node_of parts.new) }
+    ensures { Performs (λ m. fetch_row m from stamp stored) parts.old result out.new parts.new }
 {
-    let before = accepted_of(parts);
+    let before = parts.accept_front();
     if !may_fetch(parts, from, &stamp) {
         return finish(parts, before, quiet(Outcome::Elsewhere), out);
     }

@@ -1,26 +1,15 @@
-ghost use Rattle.std.specs.Prelude.{◌≡◌, ◌≢◌, ◌<◌, ◌≤◌, ◌+◌, Some, None, IfSome, min, true, false, not, ◌||◌, option_map, []};
-ghost use Rattle.am_base.specs.Most.{most_number};
-ghost use Rattle.am_base.specs.Limits.{IsStamp};
-ghost use Rattle.am_base.specs.Lists.{top_of};
-ghost use Rattle.am_base.specs.Stamps.{stamp_lt};
-ghost use Rattle.am_core.specs.Cores.{IsInOrder};
+ghost use Rattle.std.specs.Prelude.{◌≡◌, ◌≢◌, ◌<◌, ◌+◌, Some, None, IfSome, min, true, false, not, ◌||◌, option_map, []};
+ghost use Rattle.am_handlers.specs.Prelude.{most_number, IsStamp, top_of, stamp_lt, IsInOrder, has_log, Node, IsOwnBallot, node_of, Performs};
 ghost use Rattle.am_ballots.specs.Kept.{ballot_of};
-ghost use Rattle.am_model.specs.Group.{has_log};
-ghost use Rattle.am_model.specs.Node.{Node};
 ghost use Rattle.am_model.specs.Emit as emit;
-ghost use Rattle.am_model.specs.Ballots.{promised, overtaken, keep_vote, give_up, begin, next_stamp};
-ghost use Rattle.am_model.specs.Resets.{invite_row, vote_row, voted_for, is_open, hand_over_row};
+ghost use Rattle.am_model.specs.Ballots.{with_promise, overtake, keep_vote, give_up, begin, next_stamp};
+ghost use Rattle.am_model.specs.Resets.{invite_row, vote_row, take_vote, is_open, hand_over_row};
 ghost use Rattle.am_model.specs.Calls.{reset_row, ask_row, ask_of, give_up_row, give_up_of};
-ghost use Rattle.am_model.specs.Ends.{Does};
-ghost use Rattle.am_handlers.specs.Keeps.{IsOwnBallot};
-ghost use Rattle.am_handlers.specs.Parts.{node_of};
 ghost use Rattle.am_reset.specs.Deciding.{IsTakenOut};
 ghost use Rattle.am_reset.specs.Replies.{Replies, MayTell};
 
 use crate::deciding::decide;
-use crate::reading::{
-    accepted_of, copy_of, is_member, is_same, name_of, others_of, own_vote, promise_of,
-};
+use crate::reading::{copy_of, is_member, is_same, name_of, others_of, own_vote, promise_of};
 use crate::replies::{Reply, Telling, finish, quiet};
 use am_ballots::ballot::Ballot;
 use am_base::image::Vote;
@@ -37,7 +26,7 @@ use am_model::status::Status;
 
 /// An unfinished ballot of a lower stamp is overtaken.
 fn overtake(ballot: &mut Option<Ballot>, by: &Stamp)
-    ensures { option_map ballot_of ballot.new ≡ overtaken by.now (option_map ballot_of ballot.old) }
+    ensures { option_map ballot_of ballot.new ≡ overtake by.now (option_map ballot_of ballot.old) }
 {
     if let Some(ballot) = ballot {
         ballot.overtake(Stamp {
@@ -59,7 +48,7 @@ fn raise(core: &mut Core<History>, stamp: Stamp)
 pub fn raise_promise(parts: &mut Parts, stamp: Stamp)
     requires within { IsStamp stamp }
     requires higher { stamp_lt stamp parts.old.core.promise ≡ false }
-    ensures { node_of parts.new ≡ promised (node_of parts.old) stamp }
+    ensures { node_of parts.new ≡ with_promise (node_of parts.old) stamp }
 {
     if is_same(&stamp, &promise_of(parts)) {
         return;
@@ -139,13 +128,13 @@ fn is_stale(parts: &Parts, stamp: &Stamp, ballot: &Ballot) -> bool
 }
 
 /// What a vote does to a ballot that was taken out of the parts.
-fn voted_for(parts: &mut Parts, from: Name, stamp: Stamp, vote: &Vote, ballot: Ballot) -> Reply
+fn take_vote(parts: &mut Parts, from: Name, stamp: Stamp, vote: &Vote, ballot: Ballot) -> Reply
     requires order { IsInOrder parts.old.core }
     requires out { (node_of parts.old).ballot ≡ None }
     requires own { IsOwnBallot (node_of parts.old) (ballot_of ballot) }
     requires number { top_of parts.old.core.log < most_number }
     requires other { from ≢ parts.old.core.who }
-    ensures replies { Replies (voted_for (record (node_of parts.old)
+    ensures replies { Replies (take_vote (record (node_of parts.old)
         { ballot = Some (ballot_of ballot) }) from stamp vote.now (Some (ballot_of ballot)))
         result.outcome result.telling (node_of parts.new) }
     ensures told { MayTell result.telling result.outcome }
@@ -161,6 +150,7 @@ fn voted_for(parts: &mut Parts, from: Name, stamp: Stamp, vote: &Vote, ballot: B
     keep_vote(parts, from, vote, ballot)
 }
 
+/// What becomes of a vote.
 fn vote(parts: &mut Parts, from: Name, stamp: Stamp, vote: &Vote) -> Reply
     requires within { IsStamp stamp }
     requires number { top_of parts.old.core.log < most_number }
@@ -176,10 +166,11 @@ fn vote(parts: &mut Parts, from: Name, stamp: Stamp, vote: &Vote) -> Reply
     }
     match take_ballot(parts) {
         None => quiet(Outcome::Elsewhere),
-        Some(ballot) => voted_for(parts, from, stamp, vote, ballot),
+        Some(ballot) => take_vote(parts, from, stamp, vote, ballot),
     }
 }
 
+/// What becomes of an invitation.
 fn invite(parts: &mut Parts, from: Name, stamp: Stamp) -> Reply
     requires within { IsStamp stamp }
     ensures replies { Replies (invite_row (node_of parts.old) from stamp) result.outcome
@@ -223,6 +214,7 @@ fn give_up_of(parts: &mut Parts, name: Name, ballot: Ballot) -> Reply
     give_up(parts, name, ballot)
 }
 
+/// What becomes of a call to give up a name.
 fn give_up_row(parts: &mut Parts, name: Name) -> Reply
     requires order { IsInOrder parts.old.core }
     requires number { top_of parts.old.core.log < most_number }
@@ -282,6 +274,7 @@ fn begin(parts: &mut Parts, least: u8, resilience: u8) -> Reply
     }
 }
 
+/// What becomes of a call for a ballot.
 fn reset(parts: &mut Parts, least: u8, resilience: u8) -> Reply
     requires order { IsInOrder parts.old.core }
     requires round { parts.old.core.promise.round < most_number }
@@ -300,7 +293,7 @@ fn reset(parts: &mut Parts, least: u8, resilience: u8) -> Reply
 }
 
 /// What a ballot answers to who asks for a round.
-fn asked(ballot: &Ballot, round: u32) -> Outcome
+fn answer_of(ballot: &Ballot, round: u32) -> Outcome
     ensures { (m : Node) → ask_of m round (Some (ballot_of ballot.now)) ≡ emit.quiet m result }
 {
     let stamp = ballot.stamp();
@@ -310,16 +303,17 @@ fn asked(ballot: &Ballot, round: u32) -> Outcome
     if round < stamp.round {
         return Outcome::Overtaken { by: stamp };
     }
-    ballot.answer().copied()
+    ballot.answer().copy()
 }
 
+/// What the last ballot answers to who asks for a round; Unknown where there is none.
 #[tactic(auto, unfolding(am_model::specs::Calls::ask_row))]
 fn ask(parts: &Parts, round: u32) -> Outcome
     ensures { ask_row (node_of parts.now) round ≡ emit.quiet (node_of parts.now) result }
 {
     match &parts.ballot {
         None => Outcome::Unknown,
-        Some(ballot) => asked(ballot, round),
+        Some(ballot) => answer_of(ballot, round),
     }
 }
 
@@ -328,10 +322,9 @@ fn ask(parts: &Parts, round: u32) -> Outcome
 pub fn on_invite(parts: &mut Parts, from: Name, stamp: Stamp, out: &mut OutBox) -> Outcome
     requires empty { out.old ≡ [] }
     requires within { IsStamp stamp }
-    ensures { Does (λ m. invite_row m from stamp) (node_of parts.old) result out.new
-        (node_of parts.new) }
+    ensures { Performs (λ m. invite_row m from stamp) parts.old result out.new parts.new }
 {
-    let before = accepted_of(parts);
+    let before = parts.accept_front();
     let reply = invite(parts, from, stamp);
     finish(parts, before, reply, out)
 }
@@ -349,10 +342,9 @@ pub fn on_vote(
     requires within { IsStamp stamp }
     requires other { from ≢ parts.old.core.who }
     requires number { top_of parts.old.core.log < most_number }
-    ensures { Does (λ m. vote_row m from stamp shown.now) (node_of parts.old) result out.new
-        (node_of parts.new) }
+    ensures { Performs (λ m. vote_row m from stamp shown.now) parts.old result out.new parts.new }
 {
-    let before = accepted_of(parts);
+    let before = parts.accept_front();
     let reply = vote(parts, from, stamp, shown);
     finish(parts, before, reply, out)
 }
@@ -362,10 +354,9 @@ pub fn on_vote(
 pub fn on_give_up(parts: &mut Parts, name: Name, out: &mut OutBox) -> Outcome
     requires empty { out.old ≡ [] }
     requires number { top_of parts.old.core.log < most_number }
-    ensures { Does (λ m. give_up_row m name) (node_of parts.old) result out.new
-        (node_of parts.new) }
+    ensures { Performs (λ m. give_up_row m name) parts.old result out.new parts.new }
 {
-    let before = accepted_of(parts);
+    let before = parts.accept_front();
     let reply = give_up_row(parts, name);
     finish(parts, before, reply, out)
 }
@@ -375,10 +366,9 @@ pub fn on_reset(parts: &mut Parts, least: u8, resilience: u8, out: &mut OutBox) 
     requires empty { out.old ≡ [] }
     requires round { parts.old.core.promise.round < most_number }
     requires number { top_of parts.old.core.log < most_number }
-    ensures { Does (λ m. reset_row m least resilience) (node_of parts.old) result out.new
-        (node_of parts.new) }
+    ensures { Performs (λ m. reset_row m least resilience) parts.old result out.new parts.new }
 {
-    let before = accepted_of(parts);
+    let before = parts.accept_front();
     let reply = reset(parts, least, resilience);
     finish(parts, before, reply, out)
 }
@@ -389,7 +379,7 @@ pub fn on_hand_over(parts: &mut Parts, out: &mut OutBox) -> Outcome
     requires empty { out.old ≡ [] }
     requires round { parts.old.core.promise.round < most_number }
     requires number { top_of parts.old.core.log < most_number }
-    ensures { Does (λ m. hand_over_row m) (node_of parts.old) result out.new (node_of parts.new) }
+    ensures { Performs (λ m. hand_over_row m) parts.old result out.new parts.new }
 {
     let resilience = parts.core.log.resilience();
     on_reset(parts, 1, resilience, out)
@@ -398,9 +388,9 @@ pub fn on_hand_over(parts: &mut Parts, out: &mut OutBox) -> Outcome
 /// The application asks how the ballot of a round stands: Unknown, Overtaken by a later one, or what was last decided on it.
 pub fn on_ask(parts: &mut Parts, round: u32, out: &mut OutBox) -> Outcome
     requires empty { out.old ≡ [] }
-    ensures { Does (λ m. ask_row m round) (node_of parts.old) result out.new (node_of parts.new) }
+    ensures { Performs (λ m. ask_row m round) parts.old result out.new parts.new }
 {
-    let before = accepted_of(parts);
+    let before = parts.accept_front();
     let reply = quiet(ask(parts, round));
     finish(parts, before, reply, out)
 }

@@ -1,11 +1,11 @@
 -- Scripts and their texts. Written by tools/rows.py from cases/scenarios_all.
-use Rattle.std.specs.Prelude.{◌≡◌, [], ◌∷◌, codes}
+use Rattle.std.specs.Prelude.{◌≡◌, [], ◌∷◌, ◌++◌, codes}
 use Rattle.am_group.specs.declared.event.Act.TheVariants as act
 use Rattle.am_model.specs.Play.{text_of}
-use Rattle.am_rows.specs.Scripts.{founded, on, lines}
+use Rattle.am_rows.specs.Scripts.{rules_with, on, lines}
 
 abbrev pub All1 : Type 0
-All1 = text_of (founded (1 ∷ []) 1 1 0) (
+All1 = text_of (rules_with (1 ∷ []) 1 1 0) (
     on 2 (act.Done 3) ∷ on 1 act.Take ∷ on 2 act.Take ∷ on 0 act.Tick ∷ on 0 act.Take ∷ on 2 act.Tick ∷ on 0 (act.Done 1) ∷ on 2 (act.Done 1) ∷
     on 2 (act.Ask 1) ∷ on 1 act.Join ∷ on 2 act.Take ∷ on 2 act.Join ∷ on 1 (act.Cut 1 24) ∷ on 2 (act.Hear 2) ∷ on 2 (act.Hear 2) ∷
     []) ≡ lines (
@@ -32,7 +32,7 @@ All1 = text_of (founded (1 ∷ []) 1 1 0) (
     [])
 
 abbrev pub All10 : Type 0
-All10 = text_of (founded (0 ∷ 1 ∷ 2 ∷ []) 1 16 0) (
+All10 = text_of (rules_with (0 ∷ 1 ∷ 2 ∷ []) 1 16 0) (
     on 1 act.Take ∷ on 0 act.Take ∷ on 2 act.Take ∷ on 0 (act.Ask 3) ∷ on 0 act.Leave ∷ on 1 (act.Hear 1) ∷ on 2 (act.Hear 2) ∷ on 0 (act.Hear 2) ∷
     on 1 (act.GiveUp 2) ∷ on 1 (act.GiveUp 2) ∷ on 1 (act.Hear 3) ∷ on 0 act.Take ∷ on 1 (act.Hear 4) ∷ on 0 (act.Cut 5 12) ∷ on 2 (act.Hear 5) ∷
     on 1 (act.Hear 6) ∷ on 2 (act.Hear 7) ∷ on 2 act.Take ∷ on 0 (act.Hear 7) ∷ on 1 act.Join ∷ on 1 act.Join ∷ on 0 act.Take ∷ on 2 act.Take ∷
@@ -78,7 +78,7 @@ All10 = text_of (founded (0 ∷ 1 ∷ 2 ∷ []) 1 16 0) (
     [])
 
 abbrev pub All2 : Type 0
-All2 = text_of (founded (1 ∷ 2 ∷ 3 ∷ 4 ∷ []) 1 64 0) (
+All2 = text_of (rules_with (1 ∷ 2 ∷ 3 ∷ 4 ∷ []) 1 64 0) (
     on 2 act.Tick ∷ on 0 act.Tick ∷ on 0 act.Tick ∷ on 1 (act.Hear 1) ∷ on 4 act.Tick ∷ on 3 (act.Send (250 ∷ [])) ∷ on 4 (act.Hear 3) ∷ on 2 act.Join
     ∷
     on 2 act.Tick ∷ on 4 (act.Send (64 ∷ 116 ∷ 145 ∷ 106 ∷ 239 ∷ [])) ∷ on 3 (act.Hear 5) ∷ on 0 act.Tick ∷ on 0 (act.Send (190 ∷ [])) ∷
@@ -108,7 +108,7 @@ All2 = text_of (founded (1 ∷ 2 ∷ 3 ∷ 4 ∷ []) 1 64 0) (
     [])
 
 abbrev pub All3 : Type 0
-All3 = text_of (founded (0 ∷ 1 ∷ 2 ∷ 3 ∷ []) 0 3 0) (
+All3 = text_of (rules_with (0 ∷ 1 ∷ 2 ∷ 3 ∷ []) 0 3 0) (
     on 0 act.Tick ∷ on 0 (act.Hear 1) ∷ on 1 (act.Hear 1) ∷ on 0 act.Join ∷ on 3 (act.Hear 1) ∷ on 0 (act.Ask 2) ∷ on 1 (act.Hear 1) ∷
     on 1 (act.Hear 1) ∷ on 0 (act.Hear 4) ∷ on 1 act.Take ∷ on 2 (act.Done 3) ∷ on 3 act.Join ∷ on 0 (act.Hear 2) ∷ on 2 (act.Hear 1) ∷
     on 0 (act.Hear 4) ∷
@@ -137,7 +137,7 @@ All3 = text_of (founded (0 ∷ 1 ∷ 2 ∷ 3 ∷ []) 0 3 0) (
     [])
 
 abbrev pub All4 : Type 0
-All4 = text_of (founded (0 ∷ 1 ∷ 2 ∷ 3 ∷ []) 0 64 0) (
+All4 = text_of (rules_with (0 ∷ 1 ∷ 2 ∷ 3 ∷ []) 0 64 0) (
     on 1 act.State ∷ on 0 (act.Send (210 ∷ [])) ∷ on 1 (act.Hear 1) ∷ on 2 (act.Hear 1) ∷ on 1 (act.Reset 3 0) ∷ on 1 act.Take ∷ on 3 (act.Hear 1) ∷
     on 1 (act.Hear 1) ∷ on 0 (act.Hear 2) ∷ on 3 (act.Hear 2) ∷ on 0 (act.Hear 2) ∷ on 2 act.Leave ∷ on 1 (act.Hear 1) ∷
     on 2 (act.Send (147 ∷ 19 ∷ 129 ∷ 146 ∷ 234 ∷ [])) ∷ on 1 act.Tick ∷
@@ -167,7 +167,7 @@ All4 = text_of (founded (0 ∷ 1 ∷ 2 ∷ 3 ∷ []) 0 64 0) (
     [])
 
 abbrev pub All5 : Type 0
-All5 = text_of (founded (0 ∷ 2 ∷ 3 ∷ []) 0 2 0) (
+All5 = text_of (rules_with (0 ∷ 2 ∷ 3 ∷ []) 0 2 0) (
     on 2 act.Tick ∷ on 0 (act.Hear 1) ∷
     on 3 (act.Send (172 ∷ 87 ∷ 48 ∷ 107 ∷ 131 ∷ 108 ∷ 239 ∷ 251 ∷ 143 ∷ 102 ∷ 76 ∷ 1 ∷ 204 ∷ 18 ∷ 248 ∷ 244 ∷ 211 ∷ 188 ∷ 62 ∷ 27 ∷ 94 ∷ 78 ∷ 135 ∷ 46
     ∷ 222 ∷ 214 ∷ 44 ∷ 139 ∷ 252 ∷ 131 ∷ 31 ∷ 3 ∷ 31 ∷ 161 ∷ 64 ∷ 200 ∷ 196 ∷ 220 ∷ 138 ∷ 222 ∷ [])) ∷
@@ -198,7 +198,7 @@ All5 = text_of (founded (0 ∷ 2 ∷ 3 ∷ []) 0 2 0) (
     [])
 
 abbrev pub All6 : Type 0
-All6 = text_of (founded (0 ∷ 1 ∷ 2 ∷ []) 0 64 0) (
+All6 = text_of (rules_with (0 ∷ 1 ∷ 2 ∷ []) 0 64 0) (
     on 0 act.Tick ∷ on 1 (act.Hear 1) ∷ on 0 (act.Hear 2) ∷ on 2 act.State ∷ on 0 (act.Hear 2) ∷ on 0 (act.Hear 2) ∷ on 0 (act.Hear 2) ∷
     on 1 (act.Hear 1) ∷ on 0 (act.Hear 3) ∷
     on 3 (act.Send (97 ∷ 68 ∷ 186 ∷ 140 ∷ 18 ∷ 136 ∷ 13 ∷ 246 ∷ 15 ∷ 199 ∷ 97 ∷ 227 ∷ 111 ∷ 22 ∷ 198 ∷ 0 ∷ 250 ∷ 78 ∷ 253 ∷ 246 ∷ 240 ∷ 70 ∷ 47 ∷ 93 ∷
@@ -222,7 +222,11 @@ All6 = text_of (founded (0 ∷ 1 ∷ 2 ∷ []) 0 64 0) (
     codes "7 hear 0 2 : noted" ∷
     codes "8 hear 1 1 : known | 3 Ack to 0" ∷
     codes "9 hear 0 3 : noted" ∷
-    codes "10 send 3 6144ba8c12880df60fc761e36f16c600fa4efdf6f0462f5dce14d1aa1c4d23af861d418fa48718a99d4547c12c0a83e6220f403c3429ecbccfb62428f370496af49000d32737f96708eb626dae008331150ff4c5afbacabf40468552c7f712d9f7725ddaf92aa72ff3b36e976f9c406449fc629b38de9c0dc70352c93e570f3ed7fc9c86f417bf69b4851e7e910a3a5733f5fc4992aa77059338c3ee8b2dc9e35ccab1efc1cca3855be2db7ad9fa7ad4c82a6ec112c2cd7369ffc3c45a2699c5b42b52d6d77f4164af61c2c5bee17d5edac3a54bfabc2aa9ab0ac48228c2dc615cac4e464e8c99e2cf58cdd944d9451833b6b2f84ca5222e013467132eec3763 : not-member" ∷
+    (codes "10 send 3 6144ba8c12880df60fc761e36f16c600fa4efdf6f0462f5dce14d1aa1c4d23af861d418fa48718a99d4547c12c0a83e6220f403c3429ec"
+    ++ codes "bccfb62428f370496af49000d32737f96708eb626dae008331150ff4c5afbacabf40468552c7f712d9f7725ddaf92aa72ff3b36e976f9c406449fc62"
+    ++ codes "9b38de9c0dc70352c93e570f3ed7fc9c86f417bf69b4851e7e910a3a5733f5fc4992aa77059338c3ee8b2dc9e35ccab1efc1cca3855be2db7ad9fa7a"
+    ++ codes "d4c82a6ec112c2cd7369ffc3c45a2699c5b42b52d6d77f4164af61c2c5bee17d5edac3a54bfabc2aa9ab0ac48228c2dc615cac4e464e8c99e2cf58cd"
+    ++ codes "d944d9451833b6b2f84ca5222e013467132eec3763 : not-member") ∷
     codes "11 hear 2 1 : known | 4 Ack to 0" ∷
     codes "12 take 3 : not-member" ∷
     codes "13 hear 2 1 : known | 5 Ack to 0" ∷
@@ -236,7 +240,7 @@ All6 = text_of (founded (0 ∷ 1 ∷ 2 ∷ []) 0 64 0) (
     [])
 
 abbrev pub All7 : Type 0
-All7 = text_of (founded (0 ∷ 1 ∷ 2 ∷ []) 2 16 256) (
+All7 = text_of (rules_with (0 ∷ 1 ∷ 2 ∷ []) 2 16 256) (
     on 2 act.Tick ∷ on 0 (act.Hear 1) ∷ on 0 (act.Cut 1 40) ∷ on 2 (act.Send (29 ∷ [])) ∷ on 0 (act.Hear 2) ∷ on 0 act.Leave ∷ on 1 (act.Hear 3) ∷
     on 0 (act.Hear 5) ∷ on 1 (act.Hear 4) ∷ on 1 (act.Hear 3) ∷ on 0 (act.Hear 6) ∷ on 1 (act.Hear 4) ∷ on 2 (act.Hear 6) ∷ on 2 (act.Hear 6) ∷
     on 1 (act.Hear 4) ∷ on 1 (act.GiveUp 0) ∷ on 2 (act.Hear 3) ∷ on 0 (act.Hear 2) ∷ on 1 (act.Done 1) ∷ on 0 act.Take ∷ on 2 (act.Hear 6) ∷
@@ -281,7 +285,7 @@ All7 = text_of (founded (0 ∷ 1 ∷ 2 ∷ []) 2 16 256) (
     [])
 
 abbrev pub All8 : Type 0
-All8 = text_of (founded (0 ∷ 1 ∷ 3 ∷ []) 0 16 4) (
+All8 = text_of (rules_with (0 ∷ 1 ∷ 3 ∷ []) 0 16 4) (
     on 0 (act.Done 4) ∷ on 3 act.Tick ∷ on 0 (act.Hear 1) ∷ on 0 (act.Reset 1 0) ∷ on 1 (act.Hear 2) ∷ on 0 (act.Hear 3) ∷ on 1 (act.Hear 2) ∷
     on 1 (act.Hear 2) ∷ on 0 (act.GiveUp 3) ∷ on 0 (act.Hear 3) ∷ on 0 (act.Hear 5) ∷ on 1 (act.Done 2) ∷ on 0 (act.GiveUp 3) ∷ on 1 act.Take ∷
     on 2 (act.Hear 5) ∷ on 0 (act.GiveUp 3) ∷ on 1 (act.Done 3) ∷ on 2 (act.Done 2) ∷ on 3 (act.Hear 2) ∷ on 3 act.Take ∷ on 1 act.Take ∷
@@ -327,7 +331,7 @@ All8 = text_of (founded (0 ∷ 1 ∷ 3 ∷ []) 0 16 4) (
     [])
 
 abbrev pub All9 : Type 0
-All9 = text_of (founded (3 ∷ []) 1 3 4) (
+All9 = text_of (rules_with (3 ∷ []) 1 3 4) (
     on 2 act.Tick ∷ on 0 (act.Reset 1 1) ∷ on 0 act.Stop ∷ on 4 act.Stop ∷ on 1 act.Tick ∷ on 2 act.Join ∷ on 1 (act.Hear 1) ∷ on 1 (act.Hear 1) ∷
     on 2 (act.Send (148 ∷ 30 ∷ 194 ∷ 94 ∷ 100 ∷ 163 ∷ 70 ∷ 38 ∷ 31 ∷ 223 ∷ 38 ∷ 234 ∷ 244 ∷ 237 ∷ 203 ∷ 255 ∷ 111 ∷ 43 ∷ 23 ∷ 163 ∷ 229 ∷ 200 ∷ 52 ∷ 7
     ∷ 189 ∷ 227 ∷ 160 ∷ 80 ∷ 106 ∷ 62 ∷ 157 ∷ 33 ∷ 175 ∷ 237 ∷ 148 ∷ 15 ∷ 23 ∷ 174 ∷ 158 ∷ 209 ∷ [])) ∷

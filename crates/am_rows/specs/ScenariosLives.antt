@@ -1,11 +1,11 @@
 -- Scripts and their texts. Written by tools/rows.py from cases/scenarios_lives.
-use Rattle.std.specs.Prelude.{◌≡◌, [], ◌∷◌, codes}
+use Rattle.std.specs.Prelude.{◌≡◌, [], ◌∷◌, ◌++◌, codes}
 use Rattle.am_group.specs.declared.event.Act.TheVariants as act
 use Rattle.am_model.specs.Play.{text_of}
-use Rattle.am_rows.specs.Scripts.{founded, on, lines}
+use Rattle.am_rows.specs.Scripts.{rules_with, on, lines}
 
 abbrev pub Lives1 : Type 0
-Lives1 = text_of (founded (1 ∷ 2 ∷ []) 1 2 0) (
+Lives1 = text_of (rules_with (1 ∷ 2 ∷ []) 1 2 0) (
     on 1 act.Tick ∷ on 2 (act.Hear 1) ∷ on 2 (act.Hear 1) ∷ on 1 act.Tick ∷ on 0 act.Tick ∷ on 1 act.Stop ∷ on 2 (act.Hear 4) ∷ on 0 (act.Send []) ∷
     on 2 (act.Hear 4) ∷ on 2 act.Take ∷ on 2 (act.Reset 3 1) ∷ on 2 (act.GiveUp 1) ∷ on 2 (act.Hear 4) ∷ on 2 (act.Hear 4) ∷ on 0 act.Take ∷
     []) ≡ lines (
@@ -31,7 +31,7 @@ Lives1 = text_of (founded (1 ∷ 2 ∷ []) 1 2 0) (
     [])
 
 abbrev pub Lives10 : Type 0
-Lives10 = text_of (founded (0 ∷ 1 ∷ []) 1 16 4) (
+Lives10 = text_of (rules_with (0 ∷ 1 ∷ []) 1 16 4) (
     on 0 act.Tick ∷ on 0 act.Tick ∷ on 1 act.Take ∷ on 1 (act.Hear 1) ∷ on 1 (act.Hear 2) ∷ on 0 (act.Reset 1 1) ∷ on 0 act.Join ∷ on 1 (act.Hear 5) ∷
     on 1 (act.Hear 2) ∷ on 0 (act.Hear 4) ∷ on 1 (act.Reset 1 1) ∷ on 0 (act.Hear 7) ∷ on 0 (act.Hear 4) ∷ on 1 act.Tick ∷ on 1 (act.GiveUp 0) ∷
     on 1 (act.Hear 8) ∷ on 0 act.Tick ∷ on 0 (act.Hear 6) ∷ on 1 act.Take ∷ on 0 act.Take ∷ on 0 (act.Hear 7) ∷ on 0 (act.Hear 7) ∷ on 0 act.Tick ∷
@@ -76,7 +76,11 @@ Lives10 = text_of (founded (0 ∷ 1 ∷ []) 1 16 4) (
     codes "26 hear 1 12 : elsewhere" ∷
     codes "27 take 0 : empty" ∷
     codes "28 hear 0 15 : stored 2 | 17 Ack to 1" ∷
-    codes "29 send 1 a386d55dbd2feda7408dbaded09515e385a510afe48c41a25293a5c3546ccfa5d8343bc8ff617d1e25ae43bbaa19aa2c1d0695e7520ca336624bbd52f35aa15aec7fbd77975013c92c8f960000cb06124e4414e46d715e124603c7428d6e1bfc02e9bb1c016101f3051204655784a63a0de30c57701f3c9e5941265acc1047a03017aa48bd1c92b5328e7bdeca5b569d7141bc27e6de6591f8bb321cda3d4dacc77c2af46171e4716b03d8f93ac5e26999981a36d8833d8205deba0a41c8095b42ef14dae0809bc0811c8a9d4344627abfacf83cc2e7310227b1e5379352027fd1f9315850dd8724fea2200763aeb8e65fce9372c204b297a4f1140d7ec8d193 : queued 1 | 18 Bcast to 0" ∷
+    (codes "29 send 1 a386d55dbd2feda7408dbaded09515e385a510afe48c41a25293a5c3546ccfa5d8343bc8ff617d1e25ae43bbaa19aa2c1d0695e7520ca3"
+    ++ codes "36624bbd52f35aa15aec7fbd77975013c92c8f960000cb06124e4414e46d715e124603c7428d6e1bfc02e9bb1c016101f3051204655784a63a0de30c"
+    ++ codes "57701f3c9e5941265acc1047a03017aa48bd1c92b5328e7bdeca5b569d7141bc27e6de6591f8bb321cda3d4dacc77c2af46171e4716b03d8f93ac5e2"
+    ++ codes "6999981a36d8833d8205deba0a41c8095b42ef14dae0809bc0811c8a9d4344627abfacf83cc2e7310227b1e5379352027fd1f9315850dd8724fea220"
+    ++ codes "0763aeb8e65fce9372c204b297a4f1140d7ec8d193 : queued 1 | 18 Bcast to 0") ∷
     codes "30 hear 1 13 : elsewhere" ∷
     codes "group 1 view 1.0 0,1" ∷
     codes "log 0 1 view 1.0 0,1" ∷
@@ -85,7 +89,7 @@ Lives10 = text_of (founded (0 ∷ 1 ∷ []) 1 16 4) (
     [])
 
 abbrev pub Lives2 : Type 0
-Lives2 = text_of (founded (0 ∷ 1 ∷ 2 ∷ 3 ∷ 4 ∷ []) 1 1 256) (
+Lives2 = text_of (rules_with (0 ∷ 1 ∷ 2 ∷ 3 ∷ 4 ∷ []) 1 1 256) (
     on 3 act.Take ∷ on 1 act.Return ∷ on 3 (act.Reset 3 0) ∷
     on 0 (act.Send (111 ∷ 207 ∷ 254 ∷ 209 ∷ 81 ∷ 223 ∷ 73 ∷ 206 ∷ 190 ∷ 216 ∷ 207 ∷ 113 ∷ 142 ∷ 65 ∷ 24 ∷ 88 ∷ 69 ∷ 108 ∷ 184 ∷ 152 ∷ 155 ∷ 4 ∷ 162 ∷
     191 ∷ 226 ∷ 180 ∷ 169 ∷ 255 ∷ 195 ∷ 33 ∷ 68 ∷ 122 ∷ 129 ∷ 127 ∷ 74 ∷ 112 ∷ 123 ∷ 61 ∷ 219 ∷ 122 ∷ [])) ∷
@@ -117,7 +121,7 @@ Lives2 = text_of (founded (0 ∷ 1 ∷ 2 ∷ 3 ∷ 4 ∷ []) 1 1 256) (
     [])
 
 abbrev pub Lives3 : Type 0
-Lives3 = text_of (founded (0 ∷ 2 ∷ []) 0 3 256) (
+Lives3 = text_of (rules_with (0 ∷ 2 ∷ []) 0 3 256) (
     on 1 act.Tick ∷ on 1 act.Tick ∷ on 1 act.Tick ∷ on 2 act.Tick ∷ on 0 act.Join ∷ on 0 (act.Hear 1) ∷ on 0 (act.Hear 1) ∷ on 2 (act.Hear 1) ∷
     on 2 act.Take ∷ on 2 act.Take ∷ on 0 act.Tick ∷ on 2 act.Tick ∷ on 2 (act.Hear 2) ∷ on 2 act.Take ∷ on 1 act.Tick ∷ on 0 (act.Hear 3) ∷
     on 1 act.Take ∷ on 0 act.Take ∷ on 2 (act.Hear 2) ∷ on 2 (act.Done 3) ∷ on 2 act.Take ∷ on 2 act.Stop ∷ on 0 act.Take ∷ on 2 act.Return ∷
@@ -160,7 +164,7 @@ Lives3 = text_of (founded (0 ∷ 2 ∷ []) 0 3 256) (
     [])
 
 abbrev pub Lives4 : Type 0
-Lives4 = text_of (founded (4 ∷ []) 2 64 256) (
+Lives4 = text_of (rules_with (4 ∷ []) 2 64 256) (
     on 1 act.Return ∷ on 0 act.Tick ∷ on 1 (act.Reset 1 2) ∷ on 0 act.Return ∷ on 3 act.Tick ∷ on 3 act.Tick ∷ on 4 act.Leave ∷ on 2 act.Tick ∷
     on 1 act.Tick ∷ on 3 act.Take ∷ on 1 act.Join ∷ on 4 act.Join ∷ on 2 (act.Hear 1) ∷ on 4 (act.Hear 1) ∷ on 4 (act.Hear 1) ∷ on 0 (act.Hear 1) ∷
     on 3 (act.Hear 1) ∷ on 2 act.Tick ∷
@@ -206,7 +210,7 @@ Lives4 = text_of (founded (4 ∷ []) 2 64 256) (
     [])
 
 abbrev pub Lives5 : Type 0
-Lives5 = text_of (founded (0 ∷ 4 ∷ []) 3 2 4) (
+Lives5 = text_of (rules_with (0 ∷ 4 ∷ []) 3 2 4) (
     on 4 (act.Send (254 ∷ 220 ∷ 35 ∷ 6 ∷ 1 ∷ [])) ∷ on 0 (act.Hear 1) ∷ on 4 (act.Hear 2) ∷ on 3 act.Leave ∷ on 0 (act.Hear 3) ∷ on 3 act.Take ∷
     on 5 act.Join ∷ on 4 act.Take ∷ on 1 act.Join ∷ on 0 (act.Hear 5) ∷ on 2 (act.Hear 5) ∷ on 1 act.Take ∷ on 0 (act.Hear 6) ∷ on 5 (act.Hear 6) ∷
     on 4 (act.Hear 4) ∷ on 3 (act.Hear 5) ∷ on 3 (act.Hear 6) ∷ on 2 (act.Hear 6) ∷ on 4 (act.Hear 5) ∷ on 4 (act.Hear 6) ∷ on 2 act.Join ∷
@@ -251,7 +255,7 @@ Lives5 = text_of (founded (0 ∷ 4 ∷ []) 3 2 4) (
     [])
 
 abbrev pub Lives6 : Type 0
-Lives6 = text_of (founded (2 ∷ []) 2 3 0) (
+Lives6 = text_of (rules_with (2 ∷ []) 2 3 0) (
     on 0 (act.Send (177 ∷ 1 ∷ 2 ∷ 44 ∷ 206 ∷ 40 ∷ 229 ∷ 65 ∷ 175 ∷ 4 ∷ 235 ∷ 61 ∷ 125 ∷ 9 ∷ 35 ∷ 246 ∷ 16 ∷ 148 ∷ 169 ∷ 89 ∷ 66 ∷ 126 ∷ 192 ∷ 60 ∷ 77
     ∷ 29 ∷ 40 ∷ 24 ∷ 105 ∷ 158 ∷ 79 ∷ 194 ∷ 31 ∷ 11 ∷ 196 ∷ 175 ∷ 71 ∷ 162 ∷ 247 ∷ 177 ∷ 45 ∷ 63 ∷ 40 ∷ 21 ∷ 105 ∷ 137 ∷ 12 ∷ 219 ∷ 68 ∷ 105 ∷ 199 ∷
     72 ∷ 116 ∷ 242 ∷ 157 ∷ 161 ∷ 205 ∷ 80 ∷ 34 ∷ 144 ∷ 183 ∷ 243 ∷ 124 ∷ 88 ∷ 18 ∷ 223 ∷ 107 ∷ 40 ∷ 112 ∷ 243 ∷ 125 ∷ 138 ∷ 58 ∷ 112 ∷ 13 ∷ 213 ∷ 162
@@ -265,7 +269,11 @@ Lives6 = text_of (founded (2 ∷ []) 2 3 0) (
     on 2 act.Join ∷ on 2 act.Join ∷ on 1 act.Tick ∷ on 1 (act.Send (121 ∷ [])) ∷ on 1 act.Join ∷ on 0 (act.Hear 1) ∷ on 0 (act.Hear 1) ∷
     on 2 (act.Hear 1) ∷ on 3 (act.Hear 1) ∷ on 0 (act.Hear 1) ∷ on 3 (act.Hear 1) ∷ on 1 (act.Hear 2) ∷ on 2 (act.Hear 3) ∷ on 2 act.Return ∷
     []) ≡ lines (
-    codes "1 send 0 b101022cce28e541af04eb3d7d0923f61094a959427ec03c4d1d2818699e4fc21f0bc4af47a2f7b12d3f281569890cdb4469c74874f29da1cd502290b7f37c5812df6b2870f37d8a3a700dd5a2736165d7395ecb43bd9b748adbf2b76375fd85c8a14eb4a81238edd27f74ee0bb2ed658d00897a29a54f810e2dc0413a941e5bb5adf3e79f8fb56af64360fdbd2d140f0fc418dc5871e7faf702240e8059f0f47a70370e68abbe9d7a5de571c78a296b7a5db34a65ecaa18078e9d0d410d3b42bc9c7b8374ef7d9ba1e372e5b56a2d2c6f4462f68f9ed9cb723ae4071dc70a072c944b86c5d62b9323c1a709f242aaef43383655ad24973b079b858d73a4b5c38b : not-member" ∷
+    (codes "1 send 0 b101022cce28e541af04eb3d7d0923f61094a959427ec03c4d1d2818699e4fc21f0bc4af47a2f7b12d3f281569890cdb4469c74874f29da"
+    ++ codes "1cd502290b7f37c5812df6b2870f37d8a3a700dd5a2736165d7395ecb43bd9b748adbf2b76375fd85c8a14eb4a81238edd27f74ee0bb2ed658d00897"
+    ++ codes "a29a54f810e2dc0413a941e5bb5adf3e79f8fb56af64360fdbd2d140f0fc418dc5871e7faf702240e8059f0f47a70370e68abbe9d7a5de571c78a296"
+    ++ codes "b7a5db34a65ecaa18078e9d0d410d3b42bc9c7b8374ef7d9ba1e372e5b56a2d2c6f4462f68f9ed9cb723ae4071dc70a072c944b86c5d62b9323c1a70"
+    ++ codes "9f242aaef43383655ad24973b079b858d73a4b5c38b : not-member") ∷
     codes "2 join 2 : joined 1" ∷
     codes "3 join 2 : joined 1" ∷
     codes "4 tick 1 : idle" ∷
@@ -288,7 +296,7 @@ Lives6 = text_of (founded (2 ∷ []) 2 3 0) (
     [])
 
 abbrev pub Lives7 : Type 0
-Lives7 = text_of (founded (2 ∷ []) 0 3 4) (
+Lives7 = text_of (rules_with (2 ∷ []) 0 3 4) (
     on 2 (act.Done 2) ∷ on 0 act.Stop ∷ on 2 (act.Send []) ∷ on 1 (act.Done 1) ∷ on 2 act.Tick ∷ on 2 act.Tick ∷ on 0 act.Return ∷ on 0 act.Join ∷
     on 2 (act.Hear 1) ∷ on 1 (act.Hear 1) ∷ on 2 (act.Hear 1) ∷
     on 1 (act.Send (222 ∷ 43 ∷ 64 ∷ 174 ∷ 47 ∷ 66 ∷ 224 ∷ 232 ∷ 177 ∷ 231 ∷ 210 ∷ 82 ∷ 210 ∷ 206 ∷ 28 ∷ 110 ∷ 169 ∷ 40 ∷ 121 ∷ 79 ∷ 138 ∷ 148 ∷ 219 ∷
@@ -314,7 +322,11 @@ Lives7 = text_of (founded (2 ∷ []) 0 3 4) (
     codes "9 hear 2 1 : numbered 3 | 2 Welcome to 0/2" ∷
     codes "10 hear 1 1 : elsewhere" ∷
     codes "11 hear 2 1 : welcomed 3 | 3 Welcome to 0/2" ∷
-    codes "12 send 1 de2b40ae2f42e0e8b1e7d252d2ce1c6ea928794f8a94db7a7edae6f58a46a0a74a27d2a0fd00f5e57f567e096329ca8c2dd894ef154da03a590dbdec693ae04c9895b9e33fc81f35baea10e901edef8104552cb8eba4f2f66aee588f18dca388df71bc7dec7824bcb6ee3e18aad0dd0bb59b03d8c63bee1ecb659ee4a84564b099112597a786c595dc76f92d325cd9b952732a67211193dbe859c50c4c1c35d2dcd70db77ecaa6f7ecd98fdd65572aa0d992c3e97f075c45be6d4c47758b588547d328b5a96dadee4bfd7794f32d633649615a442f64d62e43b305d7a9f602c256c8102c01bea3d11895d6392d016ddf7e9c65f3de32a6cdbc9d6cbc5983df30 : not-member" ∷
+    (codes "12 send 1 de2b40ae2f42e0e8b1e7d252d2ce1c6ea928794f8a94db7a7edae6f58a46a0a74a27d2a0fd00f5e57f567e096329ca8c2dd894ef154da0"
+    ++ codes "3a590dbdec693ae04c9895b9e33fc81f35baea10e901edef8104552cb8eba4f2f66aee588f18dca388df71bc7dec7824bcb6ee3e18aad0dd0bb59b03"
+    ++ codes "d8c63bee1ecb659ee4a84564b099112597a786c595dc76f92d325cd9b952732a67211193dbe859c50c4c1c35d2dcd70db77ecaa6f7ecd98fdd65572a"
+    ++ codes "a0d992c3e97f075c45be6d4c47758b588547d328b5a96dadee4bfd7794f32d633649615a442f64d62e43b305d7a9f602c256c8102c01bea3d11895d6"
+    ++ codes "392d016ddf7e9c65f3de32a6cdbc9d6cbc5983df30 : not-member") ∷
     codes "13 hear 0 2 : welcomed 3 | 4 Fetch to 2" ∷
     codes "14 reset 0 1 : not-member" ∷
     codes "15 take 1 : not-member" ∷
@@ -327,7 +339,7 @@ Lives7 = text_of (founded (2 ∷ []) 0 3 4) (
     [])
 
 abbrev pub Lives8 : Type 0
-Lives8 = text_of (founded (0 ∷ 2 ∷ []) 2 5 0) (
+Lives8 = text_of (rules_with (0 ∷ 2 ∷ []) 2 5 0) (
     on 0 act.Take ∷ on 2 act.Take ∷ on 0 (act.Reset 1 2) ∷ on 1 act.Take ∷ on 2 (act.Hear 1) ∷ on 1 (act.Send []) ∷ on 1 act.Take ∷ on 1 (act.Hear 1)
     ∷
     on 1 act.Take ∷ on 0 (act.GiveUp 2) ∷ on 0 (act.Hear 2) ∷ on 2 (act.Hear 3) ∷
@@ -376,7 +388,7 @@ Lives8 = text_of (founded (0 ∷ 2 ∷ []) 2 5 0) (
     [])
 
 abbrev pub Lives9 : Type 0
-Lives9 = text_of (founded (0 ∷ 1 ∷ 2 ∷ 3 ∷ 4 ∷ []) 2 64 4) (
+Lives9 = text_of (rules_with (0 ∷ 1 ∷ 2 ∷ 3 ∷ 4 ∷ []) 2 64 4) (
     on 4 (act.Done 3) ∷ on 3 act.Leave ∷ on 2 (act.Hear 1) ∷ on 0 (act.Hear 1) ∷ on 1 (act.Hear 1) ∷
     on 2 (act.Send (1 ∷ 126 ∷ 223 ∷ 208 ∷ 1 ∷ 125 ∷ 19 ∷ 159 ∷ 189 ∷ 51 ∷ 215 ∷ 43 ∷ 138 ∷ 9 ∷ 60 ∷ 113 ∷ 113 ∷ 240 ∷ 95 ∷ 166 ∷ 214 ∷ 121 ∷ 28 ∷ 134
     ∷ 173 ∷ 209 ∷ 122 ∷ 60 ∷ 238 ∷ 20 ∷ 23 ∷ 71 ∷ 144 ∷ 40 ∷ 180 ∷ 49 ∷ 91 ∷ 186 ∷ 131 ∷ 14 ∷ 181 ∷ 213 ∷ 226 ∷ 159 ∷ 73 ∷ 52 ∷ 171 ∷ 14 ∷ 148 ∷ 5 ∷
@@ -398,7 +410,11 @@ Lives9 = text_of (founded (0 ∷ 1 ∷ 2 ∷ 3 ∷ 4 ∷ []) 2 64 4) (
     codes "3 hear 2 1 : elsewhere" ∷
     codes "4 hear 0 1 : numbered 2 | 2 Bcast to 1,2,3,4" ∷
     codes "5 hear 1 1 : elsewhere" ∷
-    codes "6 send 2 017edfd0017d139fbd33d72b8a093c7171f05fa6d6791c86add17a3cee1417479028b4315bba830eb5d5e29f4934ab0e9405a664eb440221a3c861f221210dd100fdbdce37a3ff5670dfa252fdf664074eae41afa897c127b63837e45831d4432b9b953b675045529af7a6ae3cc032cad46745205fcc2b1c07472eb8ff9ea97cb5ebcb046aaf2e4ac8e9f2a43d9533156d63f1341d66a240a1d6b1f9be89cb5a7c2199d00942bae878025618ed339a4fe1aa767d36bd014de02945f81ed711127dd0d07c0d3a10977274330cf6e42b39b59751ebbfe67cb3d6d5f05eea230ccb456ec61272fab0f156f9d8eef5cd847b428f67409c1ee9f296392fab14f3e7c5 : queued 1 | 3 Spread to 0,1,3,4" ∷
+    (codes "6 send 2 017edfd0017d139fbd33d72b8a093c7171f05fa6d6791c86add17a3cee1417479028b4315bba830eb5d5e29f4934ab0e9405a664eb44022"
+    ++ codes "1a3c861f221210dd100fdbdce37a3ff5670dfa252fdf664074eae41afa897c127b63837e45831d4432b9b953b675045529af7a6ae3cc032cad467452"
+    ++ codes "05fcc2b1c07472eb8ff9ea97cb5ebcb046aaf2e4ac8e9f2a43d9533156d63f1341d66a240a1d6b1f9be89cb5a7c2199d00942bae878025618ed339a4"
+    ++ codes "fe1aa767d36bd014de02945f81ed711127dd0d07c0d3a10977274330cf6e42b39b59751ebbfe67cb3d6d5f05eea230ccb456ec61272fab0f156f9d8e"
+    ++ codes "ef5cd847b428f67409c1ee9f296392fab14f3e7c5 : queued 1 | 3 Spread to 0,1,3,4") ∷
     codes "7 hear 3 2 : stored 2" ∷
     codes "8 hear 1 2 : stored 2 | 4 Ack to 0" ∷
     codes "9 hear 2 2 : stored 2 | 5 Ack to 0" ∷

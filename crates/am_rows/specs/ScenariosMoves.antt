@@ -1,11 +1,11 @@
 -- Scripts and their texts. Written by tools/rows.py from cases/scenarios_moves.
-use Rattle.std.specs.Prelude.{◌≡◌, [], ◌∷◌, codes}
+use Rattle.std.specs.Prelude.{◌≡◌, [], ◌∷◌, ◌++◌, codes}
 use Rattle.am_group.specs.declared.event.Act.TheVariants as act
 use Rattle.am_model.specs.Play.{text_of}
-use Rattle.am_rows.specs.Scripts.{founded, on, lines}
+use Rattle.am_rows.specs.Scripts.{rules_with, on, lines}
 
 abbrev pub Moves1 : Type 0
-Moves1 = text_of (founded (0 ∷ []) 1 16 256) (
+Moves1 = text_of (rules_with (0 ∷ []) 1 16 256) (
     on 0 act.Tick ∷ on 2 act.Tick ∷ on 0 act.Tick ∷ on 0 act.Take ∷ on 0 (act.Send (173 ∷ 24 ∷ 110 ∷ 98 ∷ 222 ∷ [])) ∷ on 0 act.Take ∷ on 0 act.Take ∷
     on 3 act.Tick ∷ on 0 act.Tick ∷ on 1 act.Take ∷ on 3 act.Take ∷ on 0 act.Take ∷ on 0 act.Tick ∷ on 3 act.Take ∷ on 1 act.Tick ∷
     []) ≡ lines (
@@ -32,7 +32,7 @@ Moves1 = text_of (founded (0 ∷ []) 1 16 256) (
     [])
 
 abbrev pub Moves10 : Type 0
-Moves10 = text_of (founded (0 ∷ 2 ∷ 3 ∷ 4 ∷ []) 1 16 0) (
+Moves10 = text_of (rules_with (0 ∷ 2 ∷ 3 ∷ 4 ∷ []) 1 16 0) (
     on 2 (act.Done 4) ∷ on 2 act.Tick ∷ on 0 (act.Hear 1) ∷ on 3 (act.Done 3) ∷ on 1 (act.Send (81 ∷ 156 ∷ [])) ∷ on 0 (act.Hear 1) ∷ on 3 act.Take ∷
     on 3 (act.Done 1) ∷ on 3 (act.Done 3) ∷ on 0 act.Take ∷ on 3 act.Join ∷ on 2 (act.Done 4) ∷ on 0 (act.Send []) ∷ on 2 (act.Send (101 ∷ [])) ∷
     on 0 act.Join ∷ on 4 (act.Hear 3) ∷ on 4 act.State ∷
@@ -67,7 +67,11 @@ Moves10 = text_of (founded (0 ∷ 2 ∷ 3 ∷ 4 ∷ []) 1 16 0) (
     codes "15 join 0 : joined 1" ∷
     codes "16 hear 4 3 : kept" ∷
     codes "17 state 4 : joined 1" ∷
-    codes "18 send 0 803473cffb97d2430bb96488380056c243232c9b4a8d3dd2d940704a5e28a94ad324c63d30305bd771d1023ce77ba837472ed375a0f8fdc7e7c37e7930e9bec46da2a54203780a0dfdd0edd9120190709a9fcd4a016d32008af6efb3f8543fc22fa019eaae90e272eb48f09ba1196e0b0f59cc7f79b0d780b1168cec0266041b495495b8c3d7710fc5ddfd6e54f319e787e1c066ce5ea80bfb2c911cb8590bbbc3ff1e822e69fc4b97b3170b7039e88385c520622ba33fc98517429fe6396df4a481f6c257f5e46e35ab707209ed5ac51bf8a680254e6eb9a05cf917dd6c3979cb85ba2e68a1d96c127706c12475eddd033fa0144a39c4bf04b7c762cfc908fd : queued 2" ∷
+    (codes "18 send 0 803473cffb97d2430bb96488380056c243232c9b4a8d3dd2d940704a5e28a94ad324c63d30305bd771d1023ce77ba837472ed375a0f8fd"
+    ++ codes "c7e7c37e7930e9bec46da2a54203780a0dfdd0edd9120190709a9fcd4a016d32008af6efb3f8543fc22fa019eaae90e272eb48f09ba1196e0b0f59cc"
+    ++ codes "7f79b0d780b1168cec0266041b495495b8c3d7710fc5ddfd6e54f319e787e1c066ce5ea80bfb2c911cb8590bbbc3ff1e822e69fc4b97b3170b7039e8"
+    ++ codes "8385c520622ba33fc98517429fe6396df4a481f6c257f5e46e35ab707209ed5ac51bf8a680254e6eb9a05cf917dd6c3979cb85ba2e68a1d96c127706"
+    ++ codes "c12475eddd033fa0144a39c4bf04b7c762cfc908fd : queued 2") ∷
     codes "19 join 2 : joined 1" ∷
     codes "20 done 3 5 : unknown" ∷
     codes "21 hear 0 3 : numbered 3 | 4 Order to 2,3,4" ∷
@@ -89,7 +93,7 @@ Moves10 = text_of (founded (0 ∷ 2 ∷ 3 ∷ 4 ∷ []) 1 16 0) (
     [])
 
 abbrev pub Moves2 : Type 0
-Moves2 = text_of (founded (0 ∷ []) 1 3 0) (
+Moves2 = text_of (rules_with (0 ∷ []) 1 3 0) (
     on 2 act.Tick ∷ on 0 act.Tick ∷ on 0 act.Tick ∷ on 2 act.Join ∷ on 1 (act.Hear 1) ∷ on 1 act.Tick ∷ on 1 act.Tick ∷ on 0 act.Tick ∷
     on 2 (act.Done 3) ∷ on 1 act.Join ∷ on 0 (act.Hear 1) ∷ on 1 (act.Send (157 ∷ 11 ∷ 198 ∷ 79 ∷ 112 ∷ [])) ∷ on 2 act.Tick ∷ on 1 (act.Done 5) ∷
     on 1 (act.Hear 4) ∷
@@ -116,7 +120,7 @@ Moves2 = text_of (founded (0 ∷ []) 1 3 0) (
     [])
 
 abbrev pub Moves3 : Type 0
-Moves3 = text_of (founded (0 ∷ 1 ∷ []) 0 64 256) (
+Moves3 = text_of (rules_with (0 ∷ 1 ∷ []) 0 64 256) (
     on 3 act.Take ∷ on 0 act.Tick ∷ on 0 (act.Send (73 ∷ 116 ∷ 59 ∷ 85 ∷ 75 ∷ [])) ∷ on 3 act.Leave ∷ on 1 (act.Hear 1) ∷ on 0 (act.Hear 3) ∷
     on 1 (act.Hear 1) ∷ on 1 act.Join ∷ on 3 act.Tick ∷ on 5 act.Join ∷ on 4 (act.Hear 5) ∷ on 3 (act.Hear 5) ∷ on 2 (act.Hear 5) ∷ on 0 (act.Hear 4)
     ∷
@@ -145,7 +149,7 @@ Moves3 = text_of (founded (0 ∷ 1 ∷ []) 0 64 256) (
     [])
 
 abbrev pub Moves4 : Type 0
-Moves4 = text_of (founded (0 ∷ 2 ∷ 4 ∷ 5 ∷ []) 0 5 256) (
+Moves4 = text_of (rules_with (0 ∷ 2 ∷ 4 ∷ 5 ∷ []) 0 5 256) (
     on 4 act.Take ∷ on 4 (act.Done 1) ∷ on 5 act.Take ∷ on 1 (act.Done 3) ∷ on 4 act.Tick ∷ on 2 act.Tick ∷ on 3 act.Tick ∷ on 0 act.Tick ∷
     on 1 act.Leave ∷ on 5 act.Take ∷ on 4 act.Take ∷ on 0 (act.Hear 1) ∷ on 1 act.Tick ∷ on 3 act.Tick ∷ on 2 (act.Hear 3) ∷
     []) ≡ lines (
@@ -173,7 +177,7 @@ Moves4 = text_of (founded (0 ∷ 2 ∷ 4 ∷ 5 ∷ []) 0 5 256) (
     [])
 
 abbrev pub Moves5 : Type 0
-Moves5 = text_of (founded (0 ∷ 1 ∷ 2 ∷ 3 ∷ 4 ∷ []) 1 64 4) (
+Moves5 = text_of (rules_with (0 ∷ 1 ∷ 2 ∷ 3 ∷ 4 ∷ []) 1 64 4) (
     on 4 act.Tick ∷ on 0 (act.Hear 1) ∷ on 0 act.Tick ∷ on 1 act.Tick ∷ on 4 act.Tick ∷ on 4 act.Tick ∷ on 1 act.Tick ∷ on 3 (act.Hear 2) ∷
     on 2 (act.Hear 2) ∷ on 0 (act.Hear 3) ∷ on 1 act.State ∷ on 0 act.Tick ∷ on 3 act.Tick ∷ on 1 (act.Done 4) ∷ on 1 (act.Hear 9) ∷
     []) ≡ lines (
@@ -202,7 +206,7 @@ Moves5 = text_of (founded (0 ∷ 1 ∷ 2 ∷ 3 ∷ 4 ∷ []) 1 64 4) (
     [])
 
 abbrev pub Moves6 : Type 0
-Moves6 = text_of (founded (0 ∷ []) 1 16 0) (
+Moves6 = text_of (rules_with (0 ∷ []) 1 16 0) (
     on 0 act.Tick ∷ on 1 act.Tick ∷ on 1 act.Take ∷ on 0 act.Tick ∷ on 1 act.Take ∷ on 2 (act.Done 5) ∷ on 0 act.Tick ∷ on 1 (act.Done 1) ∷
     on 2 act.Take ∷ on 2 act.Tick ∷
     on 1 (act.Send (184 ∷ 193 ∷ 249 ∷ 205 ∷ 153 ∷ 166 ∷ 195 ∷ 38 ∷ 72 ∷ 141 ∷ 215 ∷ 169 ∷ 183 ∷ 137 ∷ 228 ∷ 163 ∷ 125 ∷ 138 ∷ 178 ∷ 151 ∷ 162 ∷ 241 ∷
@@ -249,7 +253,7 @@ Moves6 = text_of (founded (0 ∷ []) 1 16 0) (
     [])
 
 abbrev pub Moves7 : Type 0
-Moves7 = text_of (founded (0 ∷ []) 0 64 0) (
+Moves7 = text_of (rules_with (0 ∷ []) 0 64 0) (
     on 1 act.Tick ∷ on 0 act.State ∷ on 0 act.State ∷ on 0 act.Take ∷ on 2 act.Take ∷ on 2 act.Take ∷ on 2 act.Take ∷ on 0 act.Tick ∷ on 0 act.Join ∷
     on 1 act.Leave ∷ on 1 (act.Send (223 ∷ 50 ∷ 229 ∷ 154 ∷ 217 ∷ [])) ∷
     on 2 (act.Send (82 ∷ 184 ∷ 74 ∷ 207 ∷ 97 ∷ 37 ∷ 161 ∷ 95 ∷ 85 ∷ 18 ∷ 61 ∷ 66 ∷ 95 ∷ 213 ∷ 136 ∷ 241 ∷ 35 ∷ 104 ∷ 174 ∷ 232 ∷ 12 ∷ 200 ∷ 133 ∷ 77 ∷
@@ -275,7 +279,11 @@ Moves7 = text_of (founded (0 ∷ []) 0 64 0) (
     codes "9 join 0 : joined 1" ∷
     codes "10 leave 1 : not-member" ∷
     codes "11 send 1 df32e59ad9 : not-member" ∷
-    codes "12 send 2 52b84acf6125a15f55123d425fd588f12368aee80cc8854dba9234efa6afd79b744c04b30870d16cf5706bff966c84260b60d92a8bd9932449bd99f39e5b5a659a42f4925b305bb67e89853d6472af06feba7a7a62d9876615a1fdc412ee637cc763fd48bafae17a7166007ecfb318b5639e3afe5e1929f837877b74c3702f601540bc65b624bf89297d96595b616174128f4241178d413413e6b0d4dc68b885150a0f377cc9e5ffbbdb7de6f8c1fc43a480e82d2230ec30bef444685b0ce6f474da97e7fedcb22c26f6c59c498408d24a46df219c3e30fba2bb17eef0a72751870a75e28d42fcdf58ba5644a83007dcd6737da16f3a07d8a5b61daa2b52580655 : not-member" ∷
+    (codes "12 send 2 52b84acf6125a15f55123d425fd588f12368aee80cc8854dba9234efa6afd79b744c04b30870d16cf5706bff966c84260b60d92a8bd993"
+    ++ codes "2449bd99f39e5b5a659a42f4925b305bb67e89853d6472af06feba7a7a62d9876615a1fdc412ee637cc763fd48bafae17a7166007ecfb318b5639e3a"
+    ++ codes "fe5e1929f837877b74c3702f601540bc65b624bf89297d96595b616174128f4241178d413413e6b0d4dc68b885150a0f377cc9e5ffbbdb7de6f8c1fc"
+    ++ codes "43a480e82d2230ec30bef444685b0ce6f474da97e7fedcb22c26f6c59c498408d24a46df219c3e30fba2bb17eef0a72751870a75e28d42fcdf58ba56"
+    ++ codes "44a83007dcd6737da16f3a07d8a5b61daa2b52580655 : not-member") ∷
     codes "13 take 1 : not-member" ∷
     codes "14 take 2 : not-member" ∷
     codes "15 tick 1 : idle" ∷
@@ -285,7 +293,7 @@ Moves7 = text_of (founded (0 ∷ []) 0 64 0) (
     [])
 
 abbrev pub Moves8 : Type 0
-Moves8 = text_of (founded (0 ∷ 1 ∷ []) 0 64 256) (
+Moves8 = text_of (rules_with (0 ∷ 1 ∷ []) 0 64 256) (
     on 1 act.Join ∷ on 1 act.Take ∷ on 1 act.Tick ∷ on 1 act.Tick ∷ on 0 (act.Hear 2) ∷ on 1 act.Take ∷ on 1 act.Tick ∷ on 0 (act.Hear 3) ∷
     on 0 act.Take ∷ on 0 act.Tick ∷ on 0 act.Tick ∷ on 1 (act.Hear 4) ∷ on 1 (act.Hear 5) ∷
     on 0 (act.Send (138 ∷ 158 ∷ 146 ∷ 114 ∷ 146 ∷ 141 ∷ 254 ∷ 74 ∷ 93 ∷ 102 ∷ 224 ∷ 48 ∷ 144 ∷ 14 ∷ 145 ∷ 53 ∷ 171 ∷ 149 ∷ 142 ∷ 91 ∷ 133 ∷ 144 ∷ 114
@@ -333,7 +341,7 @@ Moves8 = text_of (founded (0 ∷ 1 ∷ []) 0 64 256) (
     [])
 
 abbrev pub Moves9 : Type 0
-Moves9 = text_of (founded (2 ∷ 3 ∷ 4 ∷ []) 0 2 0) (
+Moves9 = text_of (rules_with (2 ∷ 3 ∷ 4 ∷ []) 0 2 0) (
     on 0 act.Tick ∷ on 0 act.Take ∷ on 3 act.Take ∷ on 4 (act.Send (94 ∷ [])) ∷ on 2 (act.Hear 1) ∷ on 3 (act.Hear 1) ∷ on 3 (act.Hear 2) ∷
     on 4 (act.Hear 2) ∷ on 3 (act.Done 2) ∷ on 2 (act.Done 1) ∷ on 2 (act.Hear 1) ∷ on 2 act.Take ∷ on 2 (act.Hear 1) ∷ on 1 act.Tick ∷ on 1 act.State
     ∷

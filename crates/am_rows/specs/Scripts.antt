@@ -11,8 +11,8 @@ set_of [] = nobody
 set_of (name ∷ names) = with_name (set_of names) name
 
 -- a founding by its founders, resilience, window and greatest short body
-abbrev pub founded : List ℕ → ℕ → ℕ → ℕ → Rules
-founded founders resilience window pb_up_to = record { founders = set_of founders; resilience = resilience; window = window; pb_up_to = pb_up_to }
+abbrev pub rules_with : List ℕ → ℕ → ℕ → ℕ → Rules
+rules_with founders resilience window pb_up_to = record { founders = set_of founders; resilience = resilience; window = window; pb_up_to = pb_up_to }
 
 -- an act of a place
 abbrev pub on : ℕ → Act → Event

@@ -15,7 +15,7 @@ use Rattle.am_script.specs.Events.{events_from}
 use Rattle.am_script.specs.Races.{race_from}
 use Rattle.am_script.specs.Limits.{ScriptWithin}
 use Rattle.am_script.specs.Scripts.{play_keys, parts_of_play, play_from, IsKind, IsOfKind, script_from, document_from}
-use Rattle.am_script.proofs.Steps.{same_ok, ok_then, if_ok}
+use Rattle.am_script.proofs.Steps.{same_ok, ok_then, if_ok, object_ok}
 use Rattle.am_script.proofs.Limits.{play_from_within}
 use Rattle.am_script.proofs.Races.{race_within}
 
@@ -48,10 +48,10 @@ others_are_plays _ d other = refl
 
 a_play : (d : Data) (s : Script) → play_from d ≡ Ok s → IsOfKind key.Play s
 unfolding play_from parts_of_play
-a_play d s h = if_ok (is_some (as_object d)) _ _ s h (λ is_play parts. if_ok (has_only play_keys d) _ _ s parts
-    (λ few whole. ok_then (founding_in d) _ s whole (λ founding founded rest. ok_then (flag_or false key.Settle 0 d) _ s rest (λ settle told more.
+a_play d s h = object_ok play_keys key.Play d _ s h (λ whole. ok_then (founding_in d) _ s whole
+    (λ founding founded rest. ok_then (flag_or false key.Settle 0 d) _ s rest (λ settle told more.
     ok_then (value_in key.Events 0 d) _ s more (λ v there later. ok_then (events_from founding.resilience v) _ s later (λ events listed is.
-    subst (λ (x : Script). IsOfKind key.Play x) (same_ok _ s is) tt))))))
+    subst (λ (x : Script). IsOfKind key.Play x) (same_ok _ s is) tt)))))
 
 a_race : (d : Data) (s : Script) → (race_from d >>= λ plan. Ok (Race plan)) ≡ Ok s → IsOfKind key.Race s
 a_race d s h = ok_then (race_from d) _ s h (λ plan told is. subst (λ (x : Script). IsOfKind key.Race x) (same_ok (Race plan) s is) tt)

@@ -26,11 +26,11 @@ use Rattle.am_script.specs.declared.refusal.ScriptRefusal.TheVariants.{BadValue}
 use Rattle.am_script.specs.Keys.{has_only}
 use Rattle.am_script.specs.Refusals.{Read}
 use Rattle.am_script.specs.Values.{value_in, text_in, number_from, number_in, number_or, flag_or, are_pairs, bytes_in, body_from}
-use Rattle.am_script.specs.Events.{keys_of, kind_in, send_in, reset_in, give_up_in, cut_in, act_in, event_as, event_from, each_event, events_from}
+use Rattle.am_script.specs.Events.{keys_of, kind_in, send_in, reset_in, give_up_in, cut_in, act_in, event_as, event_from, events_from}
 use Rattle.am_script.specs.Founders.{AreFounders, each_founder, founders_from, founding_in}
 use Rattle.am_script.specs.Limits.{IsCount, ActWithin, EventWithin, IsWithin, ScriptWithin}
 use Rattle.am_script.specs.Scripts.{play_keys, parts_of_play, play_from}
-use Rattle.am_script.proofs.Steps.{same_ok, ok_then, if_ok, none_or, both, number_within, number_in_within, number_or_within}
+use Rattle.am_script.proofs.Steps.{same_ok, ok_then, if_ok, object_ok, none_or, both, each_from_within, number_within, number_in_within, number_or_within}
 
 -- ---- bodies
 
@@ -113,16 +113,10 @@ unfolding event_from
 event_within founding place d e low h = if_ok (is_some (as_object d)) _ _ e h
     (λ there inner. ok_then (kind_in place d) _ e inner (λ kind known told. event_as_within kind founding place d e low told))
 
-each_within : (founding place : ℕ) (ds : Items) (es : List Event) → founding ≤ 15 → each_event founding place ds ≡ Ok es → All EventWithin es
-each_within founding place no_items es low h = subst (λ (xs : List Event). All EventWithin xs) (same_ok [] es h) (λ k d lt. absurd (omega arith))
-each_within founding place (item d ds) es low h = ok_then (event_from founding place d) _ es h
-    (λ e told rest. ok_then (each_event founding (place + 1) ds) _ es rest (λ more others is.
-    subst (λ (xs : List Event). All EventWithin xs) (same_ok _ es is)
-    (All-cons EventWithin e more (event_within founding place d e low told) (each_within founding (place + 1) ds more low others))))
-
 events_within : (founding : ℕ) (d : Data) (es : List Event) → founding ≤ 15 → events_from founding d ≡ Ok es → All EventWithin es
 unfolding events_from
-events_within founding d es low h = ok_then (ok_or (as_array d) (BadValue key.Events 0)) _ es h (λ ds there told. each_within founding 1 ds es low told)
+events_within founding d es low h = ok_then (ok_or (as_array d) (BadValue key.Events 0)) _ es h (λ ds there told.
+    each_from_within EventWithin (event_from founding) (λ place one e is. event_within founding place one e low is) 1 ds es told)
 
 -- ---- founders
 
@@ -212,4 +206,4 @@ play_within d s h = ok_then (founding_in d) _ s h (λ founding founded rest. ok_
 
 pub play_from_within : (d : Data) (s : Script) → play_from d ≡ Ok s → ScriptWithin s
 unfolding play_from
-play_from_within d s h = if_ok (is_some (as_object d)) _ _ s h (λ is_play parts. if_ok (has_only play_keys d) _ _ s parts (λ few whole. play_within d s whole))
+play_from_within d s h = object_ok play_keys key.Play d _ s h (λ whole. play_within d s whole)

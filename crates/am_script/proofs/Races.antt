@@ -24,10 +24,10 @@ use Rattle.am_script.specs.Refusals.{Read, ◌>>=◌}
 use Rattle.am_script.specs.Values.{value_in, text_in, number_in, number_or, body_from}
 use Rattle.am_script.specs.Events.{kind_in, send_in, reset_in, act_in}
 use Rattle.am_script.specs.Founders.{founding_in}
-use Rattle.am_script.specs.Races.{is_call, call_keys_of, call_kind_in, call_as, call_from, each_call, calls_from, thread_keys, parts_of_thread, thread_from}
+use Rattle.am_script.specs.Races.{is_call, call_keys_of, call_kind_in, call_as, call_from, calls_from, thread_keys, parts_of_thread, thread_from}
 use Rattle.am_script.specs.Races.{each_thread, threads_from, calls_of, records_of, of_right_size, race_keys, parts_of_race, race_from}
 use Rattle.am_script.specs.Limits.{CallWithin, ThreadWithin, RaceWithin}
-use Rattle.am_script.proofs.Steps.{same_ok, ok_then, if_ok, both, number_in_within, number_or_within}
+use Rattle.am_script.proofs.Steps.{same_ok, ok_then, if_ok, object_ok, both, each_from_within, number_in_within, number_or_within}
 use Rattle.am_script.proofs.Limits.{body_within, founding_within}
 
 -- ---- calls
@@ -66,17 +66,10 @@ call_within founding place d a low h = if_ok (is_some (as_object d)) _ _ a h (λ
     if_ok (is_call found) _ _ kind right (λ may same. call_act_within kind founding place d a low
     (subst (λ (k : Kind). is_call k ≡ true) (same_ok found kind same) may) is)))))
 
-each_call_within : (founding place : ℕ) (ds : Items) (calls : List Act) → founding ≤ 15 → each_call founding place ds ≡ Ok calls → All CallWithin calls
-each_call_within founding place no_items calls low h = subst (λ (xs : List Act). All CallWithin xs) (same_ok [] calls h) (λ k d lt. absurd (omega arith))
-each_call_within founding place (item d ds) calls low h = ok_then (call_from founding place d) _ calls h
-    (λ a told rest. ok_then (each_call founding (place + 1) ds) _ calls rest (λ more others is.
-    subst (λ (xs : List Act). All CallWithin xs) (same_ok _ calls is)
-    (All-cons CallWithin a more (call_within founding place d a low told) (each_call_within founding (place + 1) ds more low others))))
-
 calls_within : (founding place : ℕ) (d : Data) (calls : List Act) → founding ≤ 15 → calls_from founding place d ≡ Ok calls → All CallWithin calls
 unfolding calls_from
 calls_within founding place d calls low h = ok_then (ok_or (as_array d) (BadValue key.Calls 0)) _ calls h
-    (λ ds there told. each_call_within founding place ds calls low told)
+    (λ ds there told. each_from_within CallWithin (call_from founding) (λ number one a is. call_within founding number one a low is) place ds calls told)
 
 -- ---- threads
 
@@ -90,8 +83,7 @@ parts_within founding place d thread low h = ok_then (number_in key.Node 0 0 15 
 
 thread_within : (founding place : ℕ) (d : Data) (thread : ThreadPlan) → founding ≤ 15 → thread_from founding place d ≡ Ok thread → ThreadWithin thread
 unfolding thread_from
-thread_within founding place d thread low h = if_ok (is_some (as_object d)) _ _ thread h
-    (λ there inner. if_ok (has_only thread_keys d) _ _ thread inner (λ only told. parts_within founding place d thread low told))
+thread_within founding place d thread low h = object_ok thread_keys key.Threads d _ thread h (λ told. parts_within founding place d thread low told)
 
 -- one thread more of those that are read in turn
 read_more : (thread : ThreadPlan) (threads : List ThreadPlan) (later : Read (List ThreadPlan))
@@ -193,5 +185,4 @@ race_parts_within d plan h = ok_then (founding_in d) _ plan h
 
 pub race_within : (d : Data) (plan : RacePlan) → race_from d ≡ Ok plan → RaceWithin plan
 unfolding race_from
-race_within d plan h = if_ok (is_some (as_object d)) _ _ plan h
-    (λ is_race inner. if_ok (has_only race_keys d) _ _ plan inner (λ only told. race_parts_within d plan told))
+race_within d plan h = object_ok race_keys key.Race d _ plan h (λ told. race_parts_within d plan told)

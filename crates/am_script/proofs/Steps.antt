@@ -1,16 +1,17 @@
 -- What is read was read step by step; numbers are within their limits.
-use Rattle.std.proofs.Common.{◌≡◌, ℕ, ◌≤◌, Option, Some, None, Ok, Err, Bool, true, false, ◌&&◌, nat_le, refl, subst, cond}
+use Rattle.std.proofs.Common.{◌≡◌, ℕ, ◌+◌, ◌≤◌, List, [], ◌∷◌, All, Option, Some, None, Ok, Err, Bool, true, false, is_some, ◌&&◌, nat_le, refl, subst, cond, arith}
 use Rattle.std.specs.Option.{ok_or, option_map_or}
 use Rattle.std.specs.Prelude.{option_and_then}
 use Rattle.std.proofs.lemmas.Bool.{leb-true}
-use Rattle.serde_json.specs.Data.{Data}
-use Rattle.serde_json.specs.Find.{as_number, as_u64}
+use Rattle.std.proofs.lemmas.List.Elements.{All-cons}
+use Rattle.serde_json.specs.Data.{Data, Items, no_items, item}
+use Rattle.serde_json.specs.Find.{as_number, as_u64, as_object}
 use Rattle.am_script.specs.declared.key.Key.{Key}
 use Rattle.am_script.specs.declared.refusal.ScriptRefusal.{ScriptRefusal}
 use Rattle.am_script.specs.declared.refusal.ScriptRefusal.TheVariants.{BadValue}
-use Rattle.am_script.specs.Keys.{value_at}
+use Rattle.am_script.specs.Keys.{has_only, value_at}
 use Rattle.am_script.specs.Refusals.{Read, ◌>>=◌}
-use Rattle.am_script.specs.Values.{value_in, number_from, number_in, number_or}
+use Rattle.am_script.specs.Values.{object_with, each_from, value_in, number_from, number_in, number_or}
 
 pub same_ok : {A : Type 0} (x y : A) → (let r : Read A = Ok x in r) ≡ Ok y → x ≡ y
 same_ok x y h = cc
@@ -30,6 +31,18 @@ none_or false a e y h then = then h
 pub both : (a b : Bool) → (a && b) ≡ true → (a ≡ true) × (b ≡ true)
 both true b h = (refl, h)
 both false b h = cc
+
+-- what was read of an object of these keys
+pub object_ok : {A P : Type 0} (keys : List Key) (k : Key) (d : Data) (a : Read A) (y : A) → object_with keys k d a ≡ Ok y → (a ≡ Ok y → P) → P
+object_ok keys k d a y h then = if_ok (is_some (as_object d)) _ _ y h (λ is_one inner. if_ok (has_only keys d) _ _ y inner (λ only told. then told))
+
+-- what holds of each item holds of all
+pub each_from_within : {A : Type 0} (P : A → Type 0) (one : ℕ → Data → Read A) → ((place : ℕ) (d : Data) (x : A) → one place d ≡ Ok x → P x)
+    → (place : ℕ) (ds : Items) (xs : List A) → each_from one place ds ≡ Ok xs → All P xs
+each_from_within P one fits place no_items xs h = subst (λ ys. All P ys) (same_ok [] xs h) (λ k d lt. absurd (omega arith))
+each_from_within P one fits place (item d ds) xs h = ok_then (one place d) _ xs h
+    (λ x told rest. ok_then (each_from one (place + 1) ds) _ xs rest (λ more others is.
+    subst (λ ys. All P ys) (same_ok _ xs is) (All-cons P x more (fits place d x told) (each_from_within P one fits (place + 1) ds more others))))
 
 pub number_within : (k : Key) (place least most : ℕ) (d : Data) (n : ℕ) → number_from k place least most d ≡ Ok n → (least ≤ n) × (n ≤ most)
 unfolding number_from

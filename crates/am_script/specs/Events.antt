@@ -1,8 +1,8 @@
 -- Events of a script.
-use Rattle.std.specs.Prelude.{ℕ, ◌+◌, List, [], ◌∷◌, if◌then◌else◌, Option, Some, None, is_some, Ok, Err, codes, bytes_eq}
+use Rattle.std.specs.Prelude.{ℕ, List, [], ◌∷◌, if◌then◌else◌, Option, Some, None, is_some, Ok, Err, codes, bytes_eq}
 use Rattle.std.specs.Option.{ok_or}
 use Rattle.am_base.specs.Most.{most_number, most_packet}
-use Rattle.serde_json.specs.Data.{Data, Items, no_items, item}
+use Rattle.serde_json.specs.Data.{Data}
 use Rattle.serde_json.specs.Find.{as_array, as_object}
 use Rattle.am_base.specs.Names.{name_at}
 use Rattle.am_group.specs.declared.event.Act.{Act}
@@ -15,26 +15,19 @@ use Rattle.am_script.specs.declared.kind.Kind.TheVariants.{Send, Done, Take, Joi
 use Rattle.am_script.specs.declared.refusal.ScriptRefusal.TheVariants.{Unknown, BadValue}
 use Rattle.am_script.specs.Keys.{has_only}
 use Rattle.am_script.specs.Refusals.{Read, ◌>>=◌}
-use Rattle.am_script.specs.Values.{text_in, number_in, number_or, body_from}
+use Rattle.am_script.specs.Values.{of_object, each_from, text_in, number_in, number_or, body_from}
+
+-- the first kind that has this word
+abbrev pub named : List ℕ → List (List ℕ × Kind) → Option Kind
+named word [] = None
+named word (one ∷ others) = if bytes_eq word one.0 then Some one.1 else named word others
 
 -- the kind of an event by its word
 unfoldable pub kind_of : List ℕ → Option Kind
 kind_of word =
-    if bytes_eq word (codes "send") then Some Send
-    else if bytes_eq word (codes "done") then Some Done
-    else if bytes_eq word (codes "take") then Some Take
-    else if bytes_eq word (codes "join") then Some Join
-    else if bytes_eq word (codes "state") then Some State
-    else if bytes_eq word (codes "leave") then Some Leave
-    else if bytes_eq word (codes "reset") then Some Reset
-    else if bytes_eq word (codes "ask") then Some Ask
-    else if bytes_eq word (codes "giveup") then Some GiveUp
-    else if bytes_eq word (codes "stop") then Some Stop
-    else if bytes_eq word (codes "tick") then Some Tick
-    else if bytes_eq word (codes "hear") then Some Hear
-    else if bytes_eq word (codes "cut") then Some Cut
-    else if bytes_eq word (codes "return") then Some Return
-    else None
+    named word ((codes "send", Send) ∷ (codes "done", Done) ∷ (codes "take", Take) ∷ (codes "join", Join) ∷ (codes "state", State) ∷ (codes "leave", Leave)
+    ∷ (codes "reset", Reset) ∷ (codes "ask", Ask) ∷ (codes "giveup", GiveUp) ∷ (codes "stop", Stop) ∷ (codes "tick", Tick) ∷ (codes "hear", Hear)
+    ∷ (codes "cut", Cut) ∷ (codes "return", Return) ∷ [])
 
 -- the keys of an event of a kind
 abbrev pub keys_of : Kind → List Key
@@ -110,17 +103,8 @@ event_as kind founding place d =
 
 -- an event
 unfoldable pub event_from : ℕ → ℕ → Data → Read Event
-event_from founding place d =
-    if is_some (as_object d)
-    then (kind_in place d >>= λ kind. event_as kind founding place d)
-    else Err (BadValue key.Events place)
-
--- events in order, the first of which has this number
-abbrev pub each_event : ℕ → ℕ → Items → Read (List Event)
-each_event founding place no_items = Ok []
-each_event founding place (item d ds) =
-    event_from founding place d >>= λ event. each_event founding (place + 1) ds >>= λ events. Ok (event ∷ events)
+event_from founding place d = of_object key.Events place d (kind_in place d >>= λ kind. event_as kind founding place d)
 
 -- an array of any number of events, which are counted from 1
 unfoldable pub events_from : ℕ → Data → Read (List Event)
-events_from founding d = ok_or (as_array d) (BadValue key.Events 0) >>= each_event founding 1
+events_from founding d = ok_or (as_array d) (BadValue key.Events 0) >>= each_from (event_from founding) 1

@@ -16,7 +16,7 @@ use Rattle.am_script.specs.declared.kind.Kind.TheVariants.{Send, Take, Join, Lea
 use Rattle.am_script.specs.declared.refusal.ScriptRefusal.TheVariants.{Unknown, BadValue, OutOfRange}
 use Rattle.am_script.specs.Keys.{has_only}
 use Rattle.am_script.specs.Refusals.{Read, ◌>>=◌}
-use Rattle.am_script.specs.Values.{value_in, number_in, number_or}
+use Rattle.am_script.specs.Values.{of_object, object_with, each_from, value_in, number_in, number_or}
 use Rattle.am_script.specs.Events.{kind_in, act_in}
 use Rattle.am_script.specs.Founders.{founding_in}
 
@@ -48,20 +48,11 @@ call_as kind founding place d = if has_only (call_keys_of kind) d then act_in ki
 
 -- a call
 unfoldable pub call_from : ℕ → ℕ → Data → Read Act
-call_from founding place d =
-    if is_some (as_object d)
-    then (call_kind_in place d >>= λ kind. call_as kind founding place d)
-    else Err (BadValue key.Calls place)
-
--- calls in order, the first of which has this number
-abbrev pub each_call : ℕ → ℕ → Items → Read (List Act)
-each_call founding place no_items = Ok []
-each_call founding place (item d ds) =
-    call_from founding place d >>= λ call. each_call founding (place + 1) ds >>= λ calls. Ok (call ∷ calls)
+call_from founding place d = of_object key.Calls place d (call_kind_in place d >>= λ kind. call_as kind founding place d)
 
 -- an array of any number of calls
 unfoldable pub calls_from : ℕ → ℕ → Data → Read (List Act)
-calls_from founding place d = ok_or (as_array d) (BadValue key.Calls 0) >>= each_call founding place
+calls_from founding place d = ok_or (as_array d) (BadValue key.Calls 0) >>= each_from (call_from founding) place
 
 -- ---- threads
 
@@ -78,10 +69,7 @@ parts_of_thread founding place d = do
 
 -- a thread, the first of whose calls has this number: an object, with no other key
 unfoldable pub thread_from : ℕ → ℕ → Data → Read ThreadPlan
-thread_from founding place d =
-    if is_some (as_object d)
-    then (if has_only thread_keys d then parts_of_thread founding place d else Err (Unknown 0))
-    else Err (BadValue key.Threads 0)
+thread_from founding place d = object_with thread_keys key.Threads d (parts_of_thread founding place d)
 
 -- threads in order: calls are counted over all of them
 abbrev pub each_thread : ℕ → ℕ → Items → Read (List ThreadPlan)
@@ -131,4 +119,4 @@ parts_of_race d = do
 
 -- a race: an object, with no other key
 unfoldable pub race_from : Data → Read RacePlan
-race_from d = if is_some (as_object d) then (if has_only race_keys d then parts_of_race d else Err (Unknown 0)) else Err (BadValue key.Race 0)
+race_from d = object_with race_keys key.Race d (parts_of_race d)

@@ -12,7 +12,7 @@ use Rattle.am_script.specs.declared.script.Script.TheVariants.{Play, Race}
 use Rattle.am_script.specs.declared.refusal.ScriptRefusal.TheVariants.{NotJson, Unknown, BadValue}
 use Rattle.am_script.specs.Keys.{has_only}
 use Rattle.am_script.specs.Refusals.{Read, ◌>>=◌}
-use Rattle.am_script.specs.Values.{value_in, flag_or}
+use Rattle.am_script.specs.Values.{of_object, object_with, value_in, flag_or}
 use Rattle.am_script.specs.Founders.{founding_in}
 use Rattle.am_script.specs.Events.{events_from}
 use Rattle.am_script.specs.Races.{race_from}
@@ -31,7 +31,7 @@ parts_of_play d = do
 
 -- a play: an object, with no other key
 unfoldable pub play_from : Data → Read Script
-play_from d = if is_some (as_object d) then (if has_only play_keys d then parts_of_play d else Err (Unknown 0)) else Err (BadValue key.Play 0)
+play_from d = object_with play_keys key.Play d (parts_of_play d)
 
 -- the keys of the two kinds of scripts
 abbrev pub IsKind : Key → Type 0
@@ -53,9 +53,7 @@ script_from _ d = play_from d
 -- a document: the key that is asked for, no other key, and what is behind it
 unfoldable pub document_from : Key → Data → Read Script
 document_from asked d =
-    if is_some (as_object d)
-    then (value_in asked 0 d >>= λ v. if has_only (asked ∷ []) d then script_from asked v else Err (Unknown 0))
-    else Err (BadValue key.Top 0)
+    of_object key.Top 0 d (value_in asked 0 d >>= λ v. if has_only (asked ∷ []) d then script_from asked v else Err (Unknown 0))
 
 -- the document that bytes are JSON of
 unfoldable pub document_in : List ℕ → Option Data

@@ -1,16 +1,30 @@
 -- Values at keys of an object, each of its kind and within its limits. A place is the number of an event or a call, or 0.
-use Rattle.std.specs.Prelude.{ℕ, ◌/◌, ◌%◌, ◌==◌, ◌&&◌, ◌||◌, nat_le, List, length, Bool, if◌then◌else◌, Result, Ok, Err, option_and_then}
+use Rattle.std.specs.Prelude.{ℕ, ◌+◌, ◌/◌, ◌%◌, ◌==◌, ◌&&◌, ◌||◌, nat_le, List, [], ◌∷◌, length, Bool, if◌then◌else◌, is_some, Result, Ok, Err}
+use Rattle.std.specs.Prelude.{option_and_then}
 use Rattle.std.specs.List.{list_all}
 use Rattle.std.specs.Option.{option_map_or, ok_or}
 use Rattle.am_base.specs.Most.{most_body}
 use Rattle.hex.specs.Hex.{decode_of}
-use Rattle.serde_json.specs.Data.{Data}
-use Rattle.serde_json.specs.Find.{as_bool, as_str, as_number, as_u64}
+use Rattle.serde_json.specs.Data.{Data, Items, no_items, item}
+use Rattle.serde_json.specs.Find.{as_bool, as_str, as_number, as_u64, as_object}
 use Rattle.am_script.specs.declared.key.Key.{Key}
 use Rattle.am_script.specs.declared.key.Key.TheVariants.{Body}
-use Rattle.am_script.specs.declared.refusal.ScriptRefusal.TheVariants.{Missing, BadValue, OutOfRange}
-use Rattle.am_script.specs.Keys.{value_at}
+use Rattle.am_script.specs.declared.refusal.ScriptRefusal.TheVariants.{Missing, Unknown, BadValue, OutOfRange}
+use Rattle.am_script.specs.Keys.{has_only, value_at}
 use Rattle.am_script.specs.Refusals.{Read, ◌>>=◌}
+
+-- what an object tells
+abbrev pub of_object : {A : Type 0} → Key → ℕ → Data → Read A → Read A
+of_object key place d inner = if is_some (as_object d) then inner else Err (BadValue key place)
+
+-- what an object tells that has no other keys than these
+abbrev pub object_with : {A : Type 0} → List Key → Key → Data → Read A → Read A
+object_with keys key d inner = of_object key 0 d (if has_only keys d then inner else Err (Unknown 0))
+
+-- the items of an array, each as one is read, by their numbers from this one on
+abbrev pub each_from : {A : Type 0} → (ℕ → Data → Read A) → ℕ → Items → Read (List A)
+each_from one place no_items = Ok []
+each_from one place (item d ds) = one place d >>= λ x. each_from one (place + 1) ds >>= λ xs. Ok (x ∷ xs)
 
 -- the value at a key that must be there
 abbrev pub value_in : Key → ℕ → Data → Read Data

@@ -6,10 +6,10 @@ ghost use Rattle.am_script.specs.Refusals.{Answers};
 ghost use Rattle.am_script.specs.Values.{is_digit, are_pairs, body_from, number_in};
 ghost use Rattle.am_script.specs.Events.{kind_in, send_in, reset_in, give_up_in, cut_in, act_in, event_as, event_from};
 
-use crate::fields::{number_in, number_or, only, text_in};
+use crate::fields::{known, number_in, number_or, object, text_in};
 use crate::key::Key;
 use crate::kind::Kind;
-use crate::refusal::ScriptRefusal;
+use crate::refusal::{Read, ScriptRefusal};
 use am_base::body::Body;
 use am_base::limits::{MOST_BODY, MOST_NUMBER, MOST_PACKET};
 use am_base::name::Name;
@@ -19,16 +19,13 @@ use std::alloc::Global;
 
 /// The kind of an event or a call.
 #[tactic(auto, unfolding(crate::specs::Events::kind_in))]
-pub fn kind(event: &Value, place: u64) -> Result<Kind, ScriptRefusal>
+pub fn kind(event: &Value, place: u64) -> Read<Kind>
     ensures { result ≡ kind_in place (view event.now) }
 {
     let word = text_in(event, Key::Do, place)?;
     match Kind::of(word) {
         Some(kind) => Ok(kind),
-        None => Err(ScriptRefusal::BadValue {
-            key: Key::Do,
-            place,
-        }),
+        None => Err(ScriptRefusal::bad_value(Key::Do, place)),
     }
 }
 
@@ -49,25 +46,22 @@ fn are_pairs(text: &str) -> bool
 
 /// The body that a text of digits gives.
 #[tactic(auto, unfolding(crate::specs::Values::body_from))]
-fn body(text: &str, place: u64) -> Result<Body, ScriptRefusal>
+fn body(text: &str, place: u64) -> Read<Body>
     ensures { result ≡ body_from place text.now }
 {
-    let refusal = ScriptRefusal::BadValue {
-        key: Key::Body,
-        place,
-    };
+    let refusal = ScriptRefusal::bad_value(Key::Body, place);
     if !are_pairs(text) {
         return Err(refusal);
     }
     let pairs = text.len() / 2;
     if MOST_BODY < pairs {
-        return Err(ScriptRefusal::OutOfRange {
-            key: Key::Body,
+        return Err(ScriptRefusal::out_of_range(
+            Key::Body,
             place,
-            found: pairs as u64,
-            least: 0,
-            most: MOST_BODY as u64,
-        });
+            pairs as u64,
+            0,
+            MOST_BODY as u64,
+        ));
     }
     let mut bytes = [0u8; MOST_BODY];
     match hex::decode_to_slice(text, &mut bytes[..pairs]) {
@@ -77,7 +71,7 @@ fn body(text: &str, place: u64) -> Result<Body, ScriptRefusal>
 }
 
 /// The number of a request, a round or a packet at a key of an event.
-fn count(event: &Value, key: Key, place: u64) -> Result<u32, ScriptRefusal>
+fn count(event: &Value, key: Key, place: u64) -> Read<u32>
     ensures { result ≡ number_in key place 1 most_number (view event.now) }
 {
     Ok(number_in(event, key, place, 1, u64::from(MOST_NUMBER))? as u32)
@@ -85,7 +79,7 @@ fn count(event: &Value, key: Key, place: u64) -> Result<u32, ScriptRefusal>
 
 /// A send.
 #[tactic(auto, unfolding(crate::specs::Events::send_in))]
-fn send(alloc: Global, event: &Value, place: u64) -> Result<Act, ScriptRefusal>
+fn send(alloc: Global, event: &Value, place: u64) -> Read<Act>
     ensures { Answers (send_in place (view event.now)) result }
 {
     let text = text_in(event, Key::Body, place)?;
@@ -94,7 +88,7 @@ fn send(alloc: Global, event: &Value, place: u64) -> Result<Act, ScriptRefusal>
 
 /// A reset, which keeps the founding's resilience where none is said.
 #[tactic(auto, unfolding(crate::specs::Events::reset_in))]
-fn reset(event: &Value, place: u64, founding: u8) -> Result<Act, ScriptRefusal>
+fn reset(event: &Value, place: u64, founding: u8) -> Read<Act>
     requires { founding ≤ 15 }
     ensures { result ≡ reset_in founding place (view event.now) }
 {
@@ -108,7 +102,7 @@ fn reset(event: &Value, place: u64, founding: u8) -> Result<Act, ScriptRefusal>
 
 /// The giving up of a name, of life 1 where none is said.
 #[tactic(auto, unfolding(crate::specs::Events::give_up_in))]
-fn give_up(event: &Value, place: u64) -> Result<Act, ScriptRefusal>
+fn give_up(event: &Value, place: u64) -> Read<Act>
     ensures { result ≡ give_up_in place (view event.now) }
 {
     let seat = number_in(event, Key::Name, place, 0, 15)?;
@@ -118,7 +112,7 @@ fn give_up(event: &Value, place: u64) -> Result<Act, ScriptRefusal>
 
 /// The hearing of the first bytes of a packet.
 #[tactic(auto, unfolding(crate::specs::Events::cut_in))]
-fn cut(event: &Value, place: u64) -> Result<Act, ScriptRefusal>
+fn cut(event: &Value, place: u64) -> Read<Act>
     ensures { result ≡ cut_in place (view event.now) }
 {
     let packet = count(event, Key::Packet, place)?;
@@ -131,13 +125,7 @@ fn cut(event: &Value, place: u64) -> Result<Act, ScriptRefusal>
 
 /// The act of an event or a call of a kind.
 #[tactic(auto, unfolding(crate::specs::Events::act_in))]
-pub fn act(
-    alloc: Global,
-    kind: Kind,
-    event: &Value,
-    place: u64,
-    founding: u8,
-) -> Result<Act, ScriptRefusal>
+pub fn act(alloc: Global, kind: Kind, event: &Value, place: u64, founding: u8) -> Read<Act>
     requires { founding ≤ 15 }
     ensures { Answers (act_in kind founding place (view event.now)) result }
 {
@@ -161,40 +149,23 @@ pub fn act(
 
 /// An event of a kind.
 #[tactic(auto, unfolding(crate::specs::Events::event_as))]
-fn event_of_kind(
-    alloc: Global,
-    kind: Kind,
-    event: &Value,
-    place: u64,
-    founding: u8,
-) -> Result<Event, ScriptRefusal>
+fn event_of_kind(alloc: Global, kind: Kind, event: &Value, place: u64, founding: u8) -> Read<Event>
     requires { founding ≤ 15 }
     ensures { Answers (event_as kind founding place (view event.now)) result }
 {
-    if !only(kind.keys(), event) {
-        return Err(ScriptRefusal::Unknown { place });
-    }
+    known(kind.keys(), event, place)?;
     let node = number_in(event, Key::Node, place, 0, 15)?;
-    let act = act(alloc, kind, event, place, founding)?;
-    Ok(Event {
-        node: Name::of_byte(node as u8),
-        act,
-    })
+    Ok(Event::at(node as u8, act(alloc, kind, event, place, founding)?))
 }
 
 /// The event that a value tells. A refusal but NoMemory is the first cause that it tells none. `place` is its number,
 /// `founding` the founding's resilience.
 #[tactic(auto, unfolding(crate::specs::Events::event_from))]
-pub fn event(alloc: Global, value: &Value, place: u64, founding: u8) -> Result<Event, ScriptRefusal>
+pub fn event(alloc: Global, value: &Value, place: u64, founding: u8) -> Read<Event>
     requires { founding ≤ 15 }
     ensures { Answers (event_from founding place (view value.now)) result }
 {
-    if !value.is_object() {
-        return Err(ScriptRefusal::BadValue {
-            key: Key::Events,
-            place,
-        });
-    }
+    object(value, Key::Events, place)?;
     let kind = kind(value, place)?;
     event_of_kind(alloc, kind, value, place, founding)
 }

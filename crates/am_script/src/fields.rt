@@ -1,12 +1,13 @@
-ghost use Rattle.std.specs.Prelude.{◌≡◌, ◌≤◌, IfOk, map, string_bytes};
+ghost use Rattle.std.specs.Prelude.{◌≡◌, ◌≤◌, true, false, is_some, IfOk, OnOk, IfErr, map, string_bytes};
 ghost use Rattle.std.specs.List.{list_all};
 ghost use Rattle.std.specs.Result.{result_map_both};
 ghost use Rattle.serde_json.specs.View.{view};
+ghost use Rattle.serde_json.specs.Find.{as_object};
 ghost use Rattle.am_script.specs.Keys.{is_among, has_only};
 ghost use Rattle.am_script.specs.Values.{value_in, text_in, number_from, number_in, number_or, flag_or};
 
 use crate::key::Key;
-use crate::refusal::ScriptRefusal;
+use crate::refusal::{Read, ScriptRefusal};
 use serde_json::{Map, Value};
 
 /// Whether a word is that of one of the keys.
@@ -25,7 +26,7 @@ fn are_known(keys: &[Key], members: &Map<String, Value>) -> bool
 }
 
 /// Whether an object has no other keys than these.
-pub fn only(keys: &[Key], value: &Value) -> bool
+fn only(keys: &[Key], value: &Value) -> bool
     ensures { result ≡ has_only keys.now (view value.now) }
 {
     match value.as_object() {
@@ -34,8 +35,32 @@ pub fn only(keys: &[Key], value: &Value) -> bool
     }
 }
 
+/// Refuses a value that is no object, with BadValue at the key that it stands at.
+pub fn object(value: &Value, key: Key, place: u64) -> Read<()>
+    ensures ok { OnOk result (is_some (as_object (view value.now)) ≡ true) }
+    ensures err { IfErr result (λ e. (is_some (as_object (view value.now)) ≡ false)
+        × (e ≡ ScriptRefusal.BadValue key place)) }
+{
+    if value.is_object() {
+        return Ok(());
+    }
+    Err(ScriptRefusal::bad_value(key, place))
+}
+
+/// Refuses, with Unknown, an object that has other keys than these.
+pub fn known(keys: &[Key], value: &Value, place: u64) -> Read<()>
+    ensures ok { OnOk result (has_only keys.now (view value.now) ≡ true) }
+    ensures err { IfErr result (λ e. (has_only keys.now (view value.now) ≡ false)
+        × (e ≡ ScriptRefusal.Unknown place)) }
+{
+    if only(keys, value) {
+        return Ok(());
+    }
+    Err(ScriptRefusal::Unknown { place })
+}
+
 /// The value at a key of an object; Missing where the key isn't there.
-pub fn value_in(object: &Value, key: Key, place: u64) -> Result<&Value, ScriptRefusal>
+pub fn value_in(object: &Value, key: Key, place: u64) -> Read<&Value>
     ensures { result_map_both (λ v. view v.now) (λ e. e) result
         ≡ value_in key place (view object.now) }
 {
@@ -46,7 +71,7 @@ pub fn value_in(object: &Value, key: Key, place: u64) -> Result<&Value, ScriptRe
 }
 
 /// The text at a key of an object; BadValue where it is another value.
-pub fn text_in(object: &Value, key: Key, place: u64) -> Result<&str, ScriptRefusal>
+pub fn text_in(object: &Value, key: Key, place: u64) -> Read<&str>
     ensures { result_map_both (λ s. s.now) (λ e. e) result ≡ text_in key place (view object.now) }
 {
     let value = value_in(object, key, place)?;
@@ -58,13 +83,7 @@ pub fn text_in(object: &Value, key: Key, place: u64) -> Result<&str, ScriptRefus
 
 /// A whole number within its limits; BadValue where it is another value, OutOfRange where it is outside them.
 #[tactic(auto, unfolding(crate::specs::Values::number_from))]
-pub fn number(
-    value: &Value,
-    key: Key,
-    place: u64,
-    least: u64,
-    most: u64,
-) -> Result<u64, ScriptRefusal>
+pub fn number(value: &Value, key: Key, place: u64, least: u64, most: u64) -> Read<u64>
     ensures value { result ≡ number_from key place least most (view value.now) }
     ensures at_least { IfOk result (λ n. least ≤ n) }
     ensures at_most { IfOk result (λ n. n ≤ most) }
@@ -85,13 +104,7 @@ pub fn number(
 }
 
 /// The number at a key of an object, within its limits.
-pub fn number_in(
-    object: &Value,
-    key: Key,
-    place: u64,
-    least: u64,
-    most: u64,
-) -> Result<u64, ScriptRefusal>
+pub fn number_in(object: &Value, key: Key, place: u64, least: u64, most: u64) -> Read<u64>
     ensures value { result ≡ number_in key place least most (view object.now) }
     ensures at_least { IfOk result (λ n. least ≤ n) }
     ensures at_most { IfOk result (λ n. n ≤ most) }
@@ -108,7 +121,7 @@ pub fn number_or(
     place: u64,
     least: u64,
     most: u64,
-) -> Result<u64, ScriptRefusal>
+) -> Read<u64>
     requires at_least { least ≤ otherwise }
     requires at_most { otherwise ≤ most }
     ensures value { result ≡ number_or otherwise key place least most (view object.now) }
@@ -122,7 +135,7 @@ pub fn number_or(
 }
 
 /// Whether there is true at a key of an object, or what is said where the key isn't there; BadValue where it is another value.
-pub fn flag_or(otherwise: bool, object: &Value, key: Key, place: u64) -> Result<bool, ScriptRefusal>
+pub fn flag_or(otherwise: bool, object: &Value, key: Key, place: u64) -> Read<bool>
     ensures { result ≡ flag_or otherwise key place (view object.now) }
 {
     let Some(value) = object.get(key.word()) else {

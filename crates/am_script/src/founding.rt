@@ -5,7 +5,7 @@ ghost use Rattle.am_script.specs.Founders.{each_founder, founders_from, founding
 
 use crate::fields::{number, number_or, value_in};
 use crate::key::Key;
-use crate::refusal::ScriptRefusal;
+use crate::refusal::{Read, ScriptRefusal};
 use am_base::founding::Founding;
 use am_base::limits::{MOST_BODY, MOST_WINDOW};
 use am_base::name::Name;
@@ -13,7 +13,7 @@ use am_base::names::Names;
 use serde_json::Value;
 
 /// The names of places, each of which is new.
-fn each_founder(list: &[Value]) -> Result<Names, ScriptRefusal>
+fn each_founder(list: &[Value]) -> Read<Names>
     ensures { result ≡ each_founder nobody (items_view list.now) }
 {
     let mut names = Names::empty();
@@ -21,10 +21,7 @@ fn each_founder(list: &[Value]) -> Result<Names, ScriptRefusal>
         let place = number(value, Key::Founders, 0, 0, 15)?;
         let name = Name::of_byte(place as u8);
         if names.has(name) {
-            return Err(ScriptRefusal::BadValue {
-                key: Key::Founders,
-                place: 0,
-            });
+            return Err(ScriptRefusal::bad_value(Key::Founders, 0));
         }
         names = names.with(name);
     }
@@ -33,30 +30,21 @@ fn each_founder(list: &[Value]) -> Result<Names, ScriptRefusal>
 
 /// The founders: 1 to 16 places, each once.
 #[tactic(auto, using(crate::proofs::Json::items_len_view), unfolding(crate::specs::Founders::founders_from))]
-fn founders(value: &Value) -> Result<Names, ScriptRefusal>
+fn founders(value: &Value) -> Read<Names>
     ensures { result ≡ founders_from (view value.now) }
 {
     let Some(list) = value.as_array() else {
-        return Err(ScriptRefusal::BadValue {
-            key: Key::Founders,
-            place: 0,
-        });
+        return Err(ScriptRefusal::bad_value(Key::Founders, 0));
     };
     if list.is_empty() || 16 < list.len() {
-        return Err(ScriptRefusal::OutOfRange {
-            key: Key::Founders,
-            place: 0,
-            found: list.len() as u64,
-            least: 1,
-            most: 16,
-        });
+        return Err(ScriptRefusal::out_of_range(Key::Founders, 0, list.len() as u64, 1, 16));
     }
     each_founder(list.as_slice())
 }
 
 /// How a group begins, by the keys that a play and a race both have. A refusal is the first cause that it says none.
 #[tactic(auto, using(crate::proofs::Limits::founders_are), unfolding(crate::specs::Founders::founding_in))]
-pub fn founding(value: &Value) -> Result<Founding, ScriptRefusal>
+pub fn founding(value: &Value) -> Read<Founding>
     ensures { result ≡ founding_in (view value.now) }
 {
     let founders = founders(value_in(value, Key::Founders, 0)?)?;

@@ -1,14 +1,15 @@
 ghost use Rattle.std.specs.Prelude.{◌≡◌, ◌≤◌};
 ghost use Rattle.serde_json.specs.View.{view, items_view};
 ghost use Rattle.am_script.specs.Refusals.{Answers};
-ghost use Rattle.am_script.specs.Events.{each_event, events_from};
-ghost use Rattle.am_script.specs.Scripts.{parts_of_play, play_from};
+ghost use Rattle.am_script.specs.Events.{event_from, events_from};
+ghost use Rattle.am_script.specs.Values.{each_from};
+ghost use Rattle.am_script.specs.Scripts.{play_from};
 
 use crate::event::event;
-use crate::fields::{flag_or, only, value_in};
+use crate::fields::{flag_or, known, object, value_in};
 use crate::founding::founding;
 use crate::key::Key;
-use crate::refusal::ScriptRefusal;
+use crate::refusal::{Read, ScriptRefusal};
 use crate::script::Script;
 use am_base::items::Items;
 use am_group::event::Event;
@@ -26,9 +27,9 @@ const PLAY_KEYS: [Key; 6] = [
 ];
 
 /// The events that values tell, in order, counted from 1.
-fn each_event(alloc: Global, list: &[Value], founding: u8) -> Result<Items<Event>, ScriptRefusal>
+fn each_event(alloc: Global, list: &[Value], founding: u8) -> Read<Items<Event>>
     requires { founding ≤ 15 }
-    ensures { Answers (each_event founding 1 (items_view list.now)) result }
+    ensures { Answers (each_from (event_from founding) 1 (items_view list.now)) result }
 {
     let mut events = Items::new(alloc);
     for (before, value) in list.iter().enumerate() {
@@ -39,24 +40,23 @@ fn each_event(alloc: Global, list: &[Value], founding: u8) -> Result<Items<Event
 
 /// The events of a play.
 #[tactic(auto, unfolding(crate::specs::Events::events_from))]
-fn events(alloc: Global, value: &Value, founding: u8) -> Result<Items<Event>, ScriptRefusal>
+fn events(alloc: Global, value: &Value, founding: u8) -> Read<Items<Event>>
     requires { founding ≤ 15 }
     ensures { Answers (events_from founding (view value.now)) result }
 {
     let Some(list) = value.as_array() else {
-        return Err(ScriptRefusal::BadValue {
-            key: Key::Events,
-            place: 0,
-        });
+        return Err(ScriptRefusal::bad_value(Key::Events, 0));
     };
     each_event(alloc, list.as_slice(), founding)
 }
 
-/// A play's parts.
-#[tactic(auto, unfolding(crate::specs::Scripts::parts_of_play))]
-fn parts(alloc: Global, value: &Value) -> Result<Script, ScriptRefusal>
-    ensures { Answers (parts_of_play (view value.now)) result }
+/// A play: how its group begins, its events, and whether it is settled at the end.
+#[tactic(auto, unfolding(crate::specs::Scripts::play_from, crate::specs::Scripts::parts_of_play))]
+pub fn play(alloc: Global, value: &Value) -> Read<Script>
+    ensures { Answers (play_from (view value.now)) result }
 {
+    object(value, Key::Play, 0)?;
+    known(&PLAY_KEYS, value, 0)?;
     let founding = founding(value)?;
     let settle = flag_or(false, value, Key::Settle, 0)?;
     let list = value_in(value, Key::Events, 0)?;
@@ -66,21 +66,4 @@ fn parts(alloc: Global, value: &Value) -> Result<Script, ScriptRefusal>
         events,
         settle,
     })
-}
-
-/// A play: how its group begins, its events, and whether it is settled at the end.
-#[tactic(auto, unfolding(crate::specs::Scripts::play_from))]
-pub fn play(alloc: Global, value: &Value) -> Result<Script, ScriptRefusal>
-    ensures { Answers (play_from (view value.now)) result }
-{
-    if !value.is_object() {
-        return Err(ScriptRefusal::BadValue {
-            key: Key::Play,
-            place: 0,
-        });
-    }
-    if !only(&PLAY_KEYS, value) {
-        return Err(ScriptRefusal::Unknown { place: 0 });
-    }
-    parts(alloc, value)
 }

@@ -1,14 +1,15 @@
 ghost use Rattle.std.specs.Prelude.{◌≡◌, ◌≤◌, ◌<◌, ◌+◌, ◌*◌, ◌^◌, length, IfOk};
 ghost use Rattle.serde_json.specs.View.{view, items_view};
 ghost use Rattle.am_script.specs.Refusals.{Answers};
-ghost use Rattle.am_script.specs.Races.{call_kind_in, call_as, call_from, each_call, calls_from, parts_of_thread, thread_from, each_thread, threads_from, calls_of, of_right_size, parts_of_race, race_from};
+ghost use Rattle.am_script.specs.Values.{each_from};
+ghost use Rattle.am_script.specs.Races.{call_kind_in, call_as, call_from, calls_from, parts_of_thread, thread_from, each_thread, threads_from, calls_of, of_right_size, parts_of_race, race_from};
 
 use crate::event::{act, kind};
-use crate::fields::{number_in, number_or, only, value_in};
+use crate::fields::{known, number_in, number_or, object, value_in};
 use crate::founding::founding;
 use crate::key::Key;
 use crate::kind::Kind;
-use crate::refusal::ScriptRefusal;
+use crate::refusal::{Read, ScriptRefusal};
 use am_base::items::Items;
 use am_base::limits::MOST_EVENTS;
 use am_base::name::Name;
@@ -38,63 +39,42 @@ const MOST_CALLS: u64 = 1000;
 
 /// The kind of a call.
 #[tactic(auto, unfolding(crate::specs::Races::call_kind_in))]
-fn call_kind(call: &Value, place: u64) -> Result<Kind, ScriptRefusal>
+fn call_kind(call: &Value, place: u64) -> Read<Kind>
     ensures { result ≡ call_kind_in place (view call.now) }
 {
     let kind = kind(call, place)?;
     if !kind.is_call() {
-        return Err(ScriptRefusal::BadValue {
-            key: Key::Do,
-            place,
-        });
+        return Err(ScriptRefusal::bad_value(Key::Do, place));
     }
     Ok(kind)
 }
 
 /// The act of a call of a kind.
 #[tactic(auto, unfolding(crate::specs::Races::call_as))]
-fn call_of_kind(
-    alloc: Global,
-    kind: Kind,
-    call: &Value,
-    place: u64,
-    founding: u8,
-) -> Result<Act, ScriptRefusal>
+fn call_of_kind(alloc: Global, kind: Kind, call: &Value, place: u64, founding: u8) -> Read<Act>
     requires { founding ≤ 15 }
     ensures { Answers (call_as kind founding place (view call.now)) result }
 {
-    if !only(kind.call_keys(), call) {
-        return Err(ScriptRefusal::Unknown { place });
-    }
+    known(kind.call_keys(), call, place)?;
     act(alloc, kind, call, place, founding)
 }
 
 /// The act that a call tells, by its number over all threads and the founding's resilience.
 #[tactic(auto, unfolding(crate::specs::Races::call_from))]
-fn call(alloc: Global, value: &Value, place: u64, founding: u8) -> Result<Act, ScriptRefusal>
+fn call(alloc: Global, value: &Value, place: u64, founding: u8) -> Read<Act>
     requires { founding ≤ 15 }
     ensures { Answers (call_from founding place (view value.now)) result }
 {
-    if !value.is_object() {
-        return Err(ScriptRefusal::BadValue {
-            key: Key::Calls,
-            place,
-        });
-    }
+    object(value, Key::Calls, place)?;
     let kind = call_kind(value, place)?;
     call_of_kind(alloc, kind, value, place, founding)
 }
 
 /// The calls that values tell, in order, of which the first has this number.
-fn each_call(
-    alloc: Global,
-    list: &[Value],
-    first: u64,
-    founding: u8,
-) -> Result<Items<Act>, ScriptRefusal>
+fn each_call(alloc: Global, list: &[Value], first: u64, founding: u8) -> Read<Items<Act>>
     requires founding { founding ≤ 15 }
     requires first { first ≤ 2 ^ 63 }
-    ensures { Answers (each_call founding first (items_view list.now)) result }
+    ensures { Answers (each_from (call_from founding) first (items_view list.now)) result }
 {
     let mut calls = Items::new(alloc);
     for (before, value) in list.iter().enumerate() {
@@ -105,33 +85,20 @@ fn each_call(
 
 /// The calls of a thread.
 #[tactic(auto, unfolding(crate::specs::Races::calls_from))]
-fn calls(
-    alloc: Global,
-    value: &Value,
-    first: u64,
-    founding: u8,
-) -> Result<Items<Act>, ScriptRefusal>
+fn calls(alloc: Global, value: &Value, first: u64, founding: u8) -> Read<Items<Act>>
     requires founding { founding ≤ 15 }
     requires first { first ≤ 2 ^ 63 }
     ensures { Answers (calls_from founding first (view value.now)) result }
 {
     let Some(list) = value.as_array() else {
-        return Err(ScriptRefusal::BadValue {
-            key: Key::Calls,
-            place: 0,
-        });
+        return Err(ScriptRefusal::bad_value(Key::Calls, 0));
     };
     each_call(alloc, list.as_slice(), first, founding)
 }
 
 /// A thread's parts.
 #[tactic(auto, unfolding(crate::specs::Races::parts_of_thread))]
-fn parts_of_thread(
-    alloc: Global,
-    value: &Value,
-    first: u64,
-    founding: u8,
-) -> Result<ThreadPlan, ScriptRefusal>
+fn parts_of_thread(alloc: Global, value: &Value, first: u64, founding: u8) -> Read<ThreadPlan>
     requires founding { founding ≤ 15 }
     requires first { first ≤ 2 ^ 63 }
     ensures { Answers (parts_of_thread founding first (view value.now)) result }
@@ -147,34 +114,18 @@ fn parts_of_thread(
 
 /// A thread, whose first call has this number.
 #[tactic(auto, unfolding(crate::specs::Races::thread_from))]
-fn thread(
-    alloc: Global,
-    value: &Value,
-    first: u64,
-    founding: u8,
-) -> Result<ThreadPlan, ScriptRefusal>
+fn thread(alloc: Global, value: &Value, first: u64, founding: u8) -> Read<ThreadPlan>
     requires founding { founding ≤ 15 }
     requires first { first ≤ 2 ^ 63 }
     ensures { Answers (thread_from founding first (view value.now)) result }
 {
-    if !value.is_object() {
-        return Err(ScriptRefusal::BadValue {
-            key: Key::Threads,
-            place: 0,
-        });
-    }
-    if !only(&THREAD_KEYS, value) {
-        return Err(ScriptRefusal::Unknown { place: 0 });
-    }
+    object(value, Key::Threads, 0)?;
+    known(&THREAD_KEYS, value, 0)?;
     parts_of_thread(alloc, value, first, founding)
 }
 
 /// The threads that values tell, in order, whose calls are counted from 1 over all of them.
-fn each_thread(
-    alloc: Global,
-    list: &[Value],
-    founding: u8,
-) -> Result<Items<ThreadPlan>, ScriptRefusal>
+fn each_thread(alloc: Global, list: &[Value], founding: u8) -> Read<Items<ThreadPlan>>
     requires founding { founding ≤ 15 }
     requires few { length list.now ≤ 16 }
     ensures { Answers (each_thread founding 1 (items_view list.now)) result }
@@ -191,24 +142,15 @@ fn each_thread(
 
 /// The threads of a race: 1 to 16.
 #[tactic(auto, using(crate::proofs::Json::items_len_view), unfolding(crate::specs::Races::threads_from))]
-fn threads(alloc: Global, value: &Value, founding: u8) -> Result<Items<ThreadPlan>, ScriptRefusal>
+fn threads(alloc: Global, value: &Value, founding: u8) -> Read<Items<ThreadPlan>>
     requires { founding ≤ 15 }
     ensures { Answers (threads_from founding (view value.now)) result }
 {
     let Some(list) = value.as_array() else {
-        return Err(ScriptRefusal::BadValue {
-            key: Key::Threads,
-            place: 0,
-        });
+        return Err(ScriptRefusal::bad_value(Key::Threads, 0));
     };
     if list.is_empty() || 16 < list.len() {
-        return Err(ScriptRefusal::OutOfRange {
-            key: Key::Threads,
-            place: 0,
-            found: list.len() as u64,
-            least: 1,
-            most: 16,
-        });
+        return Err(ScriptRefusal::out_of_range(Key::Threads, 0, list.len() as u64, 1, 16));
     }
     each_thread(alloc, list.as_slice(), founding)
 }
@@ -225,40 +167,28 @@ fn calls_of(threads: &[ThreadPlan]) -> u64
     count
 }
 
-/// The refusal of a count over all threads.
-fn too_many(found: u64, most: u64) -> ScriptRefusal
-    ensures { result ≡ ScriptRefusal.OutOfRange Key.Threads 0 found 0 most }
-{
-    ScriptRefusal::OutOfRange {
-        key: Key::Threads,
-        place: 0,
-        found,
-        least: 0,
-        most,
-    }
-}
-
 /// The race, where it has no more calls than there may be, and no more records.
 #[tactic(auto, unfolding(crate::specs::Races::of_right_size))]
-fn of_right_size(plan: RacePlan) -> Result<RacePlan, ScriptRefusal>
+fn of_right_size(plan: RacePlan) -> Read<RacePlan>
     requires threads { length plan.threads ≤ 16 }
     requires turns { plan.turns ≤ 10000 }
     ensures { result ≡ of_right_size plan }
 {
     let calls = calls_of(plan.threads.as_slice());
     if MOST_CALLS < calls {
-        return Err(too_many(calls, MOST_CALLS));
+        return Err(ScriptRefusal::out_of_range(Key::Threads, 0, calls, 0, MOST_CALLS));
     }
     let records = calls * (u64::from(plan.turns) + 2);
-    if (MOST_EVENTS as u64) < records {
-        return Err(too_many(records, MOST_EVENTS as u64));
+    let most = MOST_EVENTS as u64;
+    if most < records {
+        return Err(ScriptRefusal::out_of_range(Key::Threads, 0, records, 0, most));
     }
     Ok(plan)
 }
 
 /// A race's parts.
 #[tactic(auto, using(crate::proofs::Races::few_threads), unfolding(crate::specs::Races::parts_of_race))]
-fn parts(alloc: Global, value: &Value) -> Result<RacePlan, ScriptRefusal>
+fn parts(alloc: Global, value: &Value) -> Read<RacePlan>
     ensures { Answers (parts_of_race (view value.now)) result }
 {
     let founding = founding(value)?;
@@ -281,17 +211,10 @@ fn parts(alloc: Global, value: &Value) -> Result<RacePlan, ScriptRefusal>
 /// A race: how its group begins, by which numbers its chooser chooses, and its threads with their calls. A refusal but
 /// NoMemory is the first cause that the value tells none.
 #[tactic(auto, unfolding(crate::specs::Races::race_from))]
-pub fn race(alloc: Global, value: &Value) -> Result<RacePlan, ScriptRefusal>
+pub fn race(alloc: Global, value: &Value) -> Read<RacePlan>
     ensures { Answers (race_from (view value.now)) result }
 {
-    if !value.is_object() {
-        return Err(ScriptRefusal::BadValue {
-            key: Key::Race,
-            place: 0,
-        });
-    }
-    if !only(&RACE_KEYS, value) {
-        return Err(ScriptRefusal::Unknown { place: 0 });
-    }
+    object(value, Key::Race, 0)?;
+    known(&RACE_KEYS, value, 0)?;
     parts(alloc, value)
 }

@@ -85,14 +85,16 @@ const CALLS: [(&str, u8); 19] = [
 ];
 
 /// What a text is read as: its refusal, if it is no race.
-fn refused(alloc: Global, text: &str) -> Option<ScriptRefusal> {
+fn refusal_of(alloc: Global, text: &str) -> Option<ScriptRefusal> {
     read_script(alloc, Key::Race, text.as_bytes()).err()
 }
 
-/// The number and the place of a refusal.
-fn told(refusal: Option<ScriptRefusal>) -> Option<(u8, u64)> {
-    let refusal = refusal?;
-    Some((refusal.number(), refusal.place()))
+/// Whether a text is refused with this number and this place.
+fn is_told(alloc: Global, text: &str, number: u8, place: u64) -> bool {
+    match refusal_of(alloc, text) {
+        Some(refusal) => refusal.number() == number && refusal.place() == place,
+        None => false,
+    }
 }
 
 /// A race of these keys, with one thread of no call.
@@ -123,7 +125,7 @@ fn long_race(alloc: Global, turns: u32, takes: usize, call: &str) -> Result<Stri
 }
 
 /// The refusal of a count over all threads.
-fn counted(found: u64, most: u64) -> ScriptRefusal {
+fn count_refusal(found: u64, most: u64) -> ScriptRefusal {
     ScriptRefusal::OutOfRange {
         key: Key::Threads,
         place: 0,
@@ -136,47 +138,28 @@ fn counted(found: u64, most: u64) -> ScriptRefusal {
 #[test]
 fn documents_refused(rt: HostRuntime) -> Result<(), Fail> {
     for (text, number, place) in DOCUMENTS {
-        assert!(rt;
-            told(refused(rt.alloc(), text)) == Some((number, place)),
-            "{text}"
-        );
+        assert!(rt; is_told(rt.alloc(), text, number, place), "{text}");
     }
     Ok(())
 }
 
 #[test]
-fn keys_refused(rt: HostRuntime) -> Result<(), Fail> {
+fn parts_refused(rt: HostRuntime) -> Result<(), Fail> {
     for (keys, number) in KEYS {
         let text = race_with(rt.alloc(), keys)?;
-        assert!(rt;
-            told(refused(rt.alloc(), text.as_str())) == Some((number, 0)),
-            "{keys}"
-        );
+        assert!(rt; is_told(rt.alloc(), text.as_str(), number, 0), "{keys}");
     }
-    Ok(())
-}
-
-#[test]
-fn threads_refused(rt: HostRuntime) -> Result<(), Fail> {
     for (threads, number, place) in THREADS {
         let text = race_of(rt.alloc(), threads)?;
         assert!(rt;
-            told(refused(rt.alloc(), text.as_str())) == Some((number, place)),
+            is_told(rt.alloc(), text.as_str(), number, place),
             "{threads}"
         );
     }
-    Ok(())
-}
-
-#[test]
-fn calls_refused(rt: HostRuntime) -> Result<(), Fail> {
     for (call, number) in CALLS {
         let threads = format!(in rt.alloc(); r#"{{"node":2,"calls":[{{"do":"join"}},{call}]}}"#)?;
         let text = race_of(rt.alloc(), threads.as_str())?;
-        assert!(rt;
-            told(refused(rt.alloc(), text.as_str())) == Some((number, 4)),
-            "{call}"
-        );
+        assert!(rt; is_told(rt.alloc(), text.as_str(), number, 4), "{call}");
     }
     Ok(())
 }
@@ -188,15 +171,9 @@ fn seventeen_threads_refused(rt: HostRuntime) -> Result<(), Fail> {
         threads.push_str("7,")?;
     }
     threads.push_str("7")?;
-    let sixteen = ScriptRefusal::OutOfRange {
-        key: Key::Threads,
-        place: 0,
-        found: 17,
-        least: 1,
-        most: 16,
-    };
+    let sixteen = ScriptRefusal::out_of_range(Key::Threads, 0, 17, 1, 16);
     let text = race_of(rt.alloc(), threads.as_str())?;
-    assert!(rt; refused(rt.alloc(), text.as_str()) == Some(sixteen));
+    assert!(rt; refusal_of(rt.alloc(), text.as_str()) == Some(sixteen));
     Ok(())
 }
 
@@ -205,10 +182,10 @@ fn limits() -> [(u32, usize, &'static str, Option<ScriptRefusal>); 6] {
     let take = r#"{"do":"take"}"#;
     [
         (98, 998, take, None),
-        (99, 998, take, Some(counted(101_000, 100_000))),
-        (10_000, 8, take, Some(counted(100_020, 100_000))),
+        (99, 998, take, Some(count_refusal(101_000, 100_000))),
+        (10_000, 8, take, Some(count_refusal(100_020, 100_000))),
         (10_000, 7, take, None),
-        (10_000, 999, take, Some(counted(1001, 1000))),
+        (10_000, 999, take, Some(count_refusal(1001, 1000))),
         (
             1,
             1000,
@@ -226,7 +203,7 @@ fn counts_refused(rt: HostRuntime) -> Result<(), Fail> {
     for (turns, takes, call, refusal) in limits() {
         let text = long_race(rt.alloc(), turns, takes, call)?;
         assert!(rt;
-            refused(rt.alloc(), text.as_str()) == refusal,
+            refusal_of(rt.alloc(), text.as_str()) == refusal,
             "{turns} {takes}"
         );
     }

@@ -4,11 +4,11 @@ ghost use Rattle.am_script.specs.Refusals.{Answers};
 ghost use Rattle.am_script.specs.Limits.{ScriptWithin};
 ghost use Rattle.am_script.specs.Scripts.{IsKind, IsOfKind, script_from, document_in, document_from, reading};
 
-use crate::fields::{only, value_in};
+use crate::fields::{known, object, value_in};
 use crate::key::Key;
 use crate::play::play;
 use crate::race::race;
-use crate::refusal::ScriptRefusal;
+use crate::refusal::{Read, ScriptRefusal};
 use crate::script::Script;
 use serde_json::Value;
 use serde_json::error::Category;
@@ -16,7 +16,7 @@ use std::alloc::Global;
 
 /// The script behind its key.
 #[tactic(auto, using(crate::proofs::Answered::others_are_plays))]
-fn script(alloc: Global, asked: Key, value: &Value) -> Result<Script, ScriptRefusal>
+fn script(alloc: Global, asked: Key, value: &Value) -> Read<Script>
     requires { IsKind asked }
     ensures { Answers (script_from asked (view value.now)) result }
 {
@@ -28,26 +28,19 @@ fn script(alloc: Global, asked: Key, value: &Value) -> Result<Script, ScriptRefu
 
 /// The script of a document.
 #[tactic(auto, unfolding(crate::specs::Scripts::document_from))]
-fn document(alloc: Global, asked: Key, value: &Value) -> Result<Script, ScriptRefusal>
+fn document(alloc: Global, asked: Key, value: &Value) -> Read<Script>
     requires { IsKind asked }
     ensures { Answers (document_from asked (view value.now)) result }
 {
-    if !value.is_object() {
-        return Err(ScriptRefusal::BadValue {
-            key: Key::Top,
-            place: 0,
-        });
-    }
+    object(value, Key::Top, 0)?;
     let inner = value_in(value, asked, 0)?;
-    if !only(&[asked], value) {
-        return Err(ScriptRefusal::Unknown { place: 0 });
-    }
+    known(&[asked], value, 0)?;
     script(alloc, asked, inner)
 }
 
 /// The document that bytes are JSON of.
 #[tactic(auto, using(crate::proofs::Documents::document_there, crate::proofs::Documents::document_none, crate::proofs::Documents::read_some))]
-fn parsed(alloc: Global, bytes: &[u8]) -> Result<Value, ScriptRefusal>
+fn parse(alloc: Global, bytes: &[u8]) -> Read<Value>
     ensures ok { IfOk result (λ v. document_in bytes.now ≡ Some (view v)) }
     ensures some { OnOk result (0 < length bytes.now) }
     ensures refused { IfErr result (λ e. e ≢ ScriptRefusal.NoMemory → (e ≡ ScriptRefusal.NotJson)
@@ -75,6 +68,6 @@ pub fn read_script(alloc: Global, asked: Key, bytes: &[u8]) -> Result<Script, Sc
         → reading asked bytes.now ≡ Err e) }
     ensures memory { IfErr result (λ e. e ≡ ScriptRefusal.NoMemory → 0 < length bytes.now) }
 {
-    let value = parsed(alloc, bytes)?;
+    let value = parse(alloc, bytes)?;
     document(alloc, asked, &value)
 }

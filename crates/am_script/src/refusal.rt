@@ -37,7 +37,36 @@ pub enum ScriptRefusal {
     NoMemory,
 }
 
+/// What is read, or the first cause that it can't be.
+pub type Read<T> = Result<T, ScriptRefusal>;
+
 impl ScriptRefusal {
+    /// BadValue at a key.
+    pub(crate) fn bad_value(key: Key, place: u64) -> ScriptRefusal
+        ensures { result ≡ ScriptRefusal.BadValue key place }
+    {
+        ScriptRefusal::BadValue { key, place }
+    }
+
+    /// OutOfRange at a key, where there are limits.
+    pub(crate) fn out_of_range(
+        key: Key,
+        place: u64,
+        found: u64,
+        least: u64,
+        most: u64,
+    ) -> ScriptRefusal
+        ensures { result ≡ ScriptRefusal.OutOfRange key place found least most }
+    {
+        ScriptRefusal::OutOfRange {
+            key,
+            place,
+            found,
+            least,
+            most,
+        }
+    }
+
     /// Its number, 1 to 6.
     pub fn number(self) -> u8
         ensures { result ≡ number_of self }

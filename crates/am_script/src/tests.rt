@@ -2,6 +2,8 @@ use crate::key::Key;
 use crate::read::read_script;
 use crate::refusal::ScriptRefusal;
 use crate::script::Script;
+use am_base::founding::Founding;
+use am_base::items::Items;
 use am_group::event::{Act, Event};
 use std::alloc::{AllocError, Global};
 use std::test::Fail;
@@ -102,7 +104,7 @@ const EVENTS: [(&str, u8); 32] = [
 ];
 
 /// What a text is read as: the number and the place of its refusal, if it is none.
-fn refused(alloc: Global, text: &str) -> Option<(u8, u64)> {
+fn refusal_of(alloc: Global, text: &str) -> Option<(u8, u64)> {
     match read_script(alloc, Key::Play, text.as_bytes()) {
         Ok(_) => None,
         Err(refusal) => Some((refusal.number(), refusal.place())),
@@ -131,7 +133,7 @@ fn send_of(alloc: Global, bytes: usize) -> Result<String, AllocError> {
 fn documents_refused(rt: HostRuntime) -> Result<(), Fail> {
     for (text, number, place) in DOCUMENTS {
         assert!(rt;
-            refused(rt.alloc(), text) == Some((number, place)),
+            refusal_of(rt.alloc(), text) == Some((number, place)),
             "{text}"
         );
     }
@@ -144,7 +146,7 @@ fn events_refused(rt: HostRuntime) -> Result<(), Fail> {
         let events = format!(in rt.alloc(); r#"{{"do":"take","node":0}},{event}"#)?;
         let text = play_of(rt.alloc(), events.as_str())?;
         assert!(rt;
-            refused(rt.alloc(), text.as_str()) == Some((number, 2)),
+            refusal_of(rt.alloc(), text.as_str()) == Some((number, 2)),
             "{event}"
         );
     }
@@ -154,7 +156,7 @@ fn events_refused(rt: HostRuntime) -> Result<(), Fail> {
 #[test]
 fn long_bodies(rt: HostRuntime) -> Result<(), Fail> {
     let longest = play_of(rt.alloc(), send_of(rt.alloc(), 1024)?.as_str())?;
-    assert!(rt; refused(rt.alloc(), longest.as_str()).is_none());
+    assert!(rt; refusal_of(rt.alloc(), longest.as_str()).is_none());
     let longer = play_of(rt.alloc(), send_of(rt.alloc(), 1025)?.as_str())?;
     let wanted = ScriptRefusal::OutOfRange {
         key: Key::Body,

@@ -32,8 +32,8 @@ abbrev pub waiting_send : Sends → Option (ℕ × List ℕ)
 waiting_send sends = option_map (λ send. (send.req, send.body)) (waiting sends)
 
 -- how many sends aren't settled
-abbrev pub unsettled : Sends → ℕ
-unsettled sends = count_by is_unsettled sends.queue
+abbrev pub unsettled_count : Sends → ℕ
+unsettled_count sends = count_by is_unsettled sends.queue
 
 -- a send with this request is there and settled
 abbrev pub is_settled : ℕ → Sends → Bool

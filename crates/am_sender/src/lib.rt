@@ -4,9 +4,9 @@
 ghost use Rattle.std.specs.Prelude.{ℕ, List, find, map, IsTrue, ◌≡◌, ◌<◌, ◌≤◌, ◌+◌, length, OnOk, OnErr, IfOk, IfErr, IsOk, ◌↔◌, Some, IfSome, option_map};
 ghost use Rattle.std.specs.Option.{option_copied};
 ghost use Rattle.am_base.specs.Most.{most_number};
-ghost use Rattle.am_sender.specs.Sends.{no_sends, without_request, is_request, waiting_send, collected_of, unsettled, is_settled, settle_send, submit, settle, collect, collect_outcome, next_request, AreKept};
+ghost use Rattle.am_sender.specs.Sends.{no_sends, without_request, is_request, waiting_send, collected_of, unsettled_count, is_settled, settle_send, submit, settle, collect, collect_outcome, next_request, AreKept};
 
-use am_base::body::Body;
+use am_base::body::{Body, SentBody};
 use am_base::outcome::Outcome;
 use arrayvec::ArrayVec;
 use std::marker::Model;
@@ -95,11 +95,11 @@ impl Sender {
 
     /// Queues a send and gives its request number, one more than the last. Busy exactly where four sends aren't
     /// collected; then nothing changes.
-    pub fn submit(&mut self, body: Body) -> Result<u32, Busy>
+    pub fn submit(&mut self, body: &SentBody) -> Result<u32, Busy>
         requires { self.old.last < most_number }
         ensures variant { IsOk result ↔ (length self.old.queue < 4) }
         ensures number { IfOk result (λ req. req ≡ self.old.last + 1) }
-        ensures ok { OnOk result (self.new ≡ submit body self.old) }
+        ensures ok { OnOk result (self.new ≡ submit body.now self.old) }
         ensures next { next_request self.new ≡ next_request self.old }
         ensures busy { IfErr result (λ busy. busy.queued ≡ 4) }
         ensures err { OnErr result (self.new ≡ self.old) }
@@ -110,12 +110,13 @@ impl Sender {
         self.last += 1;
         self.queue.push(OwnSend {
             req: self.last,
-            body,
+            body: body.body(),
             number: None,
         });
         Ok(self.last)
     }
 
+    /// The oldest send that has no number.
     fn first_unsettled(&self) -> Option<(u32, &Body)>
         ensures kept { AreKept self.now.last self.now.queue }
         ensures value { option_map {U = ℕ × List ℕ} (λ send. (send.0, send.1.now)) result
@@ -147,6 +148,7 @@ impl Sender {
         settle_in(self.queue.as_mut_slice(), req, number);
     }
 
+    /// Whether a send of this request has a number.
     fn has_settled(&self, req: u32) -> bool
         ensures kept { AreKept self.now.last self.now.queue }
         ensures value { result ≡ is_settled req self.now }
@@ -158,7 +160,7 @@ impl Sender {
     }
 
     /// Whether a send with this request is there and settled.
-    pub fn settled(&self, req: u32) -> bool
+    pub fn is_settled(&self, req: u32) -> bool
         ensures value { result ≡ is_settled req self.now }
         ensures low { IsTrue result → req < next_request self.now }
     {
@@ -166,8 +168,8 @@ impl Sender {
     }
 
     /// How many sends aren't settled.
-    pub fn unsettled(&self) -> u32
-        ensures value { result ≡ unsettled self.now }
+    pub fn unsettled_count(&self) -> u32
+        ensures value { result ≡ unsettled_count self.now }
         ensures few { result ≤ 4 }
     {
         self.queue
@@ -185,12 +187,13 @@ impl Sender {
         ensures next { next_request self.new ≡ next_request self.old }
     {
         let outcome = self.outcome(req);
-        if self.settled(req) {
+        if self.is_settled(req) {
             self.remove(req);
         }
         outcome
     }
 
+    /// The send of a request.
     fn find(&self, req: u32) -> Option<&OwnSend>
         ensures { option_copied result ≡ find (is_request req) self.now.queue }
     {
@@ -206,6 +209,7 @@ impl Sender {
         }
     }
 
+    /// Forgets the sends of a request.
     fn remove(&mut self, req: u32)
         requires { req < next_request self.old }
         ensures value { self.new ≡ without_request req self.old }
@@ -218,12 +222,14 @@ impl Sender {
 #[cfg(test)]
 mod tests {
     use super::*;
+    use std::alloc::AllocError;
 
     #[test]
-    fn four_sends_until_one_is_collected(rt: HostRuntime) {
+    fn four_sends_until_one_is_collected(rt: HostRuntime) -> Result<(), AllocError> {
         let mut sender = Sender::new();
+        let body = SentBody::of(rt.alloc(), &Body::default())?;
         for want in [Ok(1), Ok(2), Ok(3), Ok(4), Err(Busy { queued: 4 })] {
-            assert!(rt; sender.submit(Body::default()) == want);
+            assert!(rt; sender.submit(&body) == want);
         }
         assert!(rt; matches!(sender.collect(1), Outcome::Pending { req: 1 }));
         assert!(rt; matches!(sender.collect(5), Outcome::Unknown));
@@ -231,9 +237,10 @@ mod tests {
             assert_eq!(rt; req, 1);
             sender.settle(req, 7);
         }
-        assert!(rt; sender.settled(1));
-        assert_eq!(rt; sender.unsettled(), 3);
+        assert!(rt; sender.is_settled(1));
+        assert_eq!(rt; sender.unsettled_count(), 3);
         assert!(rt; matches!(sender.collect(1), Outcome::Sent { req: 1, number: 7 }));
-        assert!(rt; sender.submit(Body::default()) == Ok(5));
+        assert!(rt; sender.submit(&body) == Ok(5));
+        Ok(())
     }
 }

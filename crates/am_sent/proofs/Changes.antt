@@ -15,7 +15,7 @@ use Rattle.am_group.specs.declared.event.Record.{Record}
 use Rattle.am_sender.specs.declared.OwnSend.{OwnSend}
 use Rattle.am_bodies.specs.declared.KeptBody.{KeptBody}
 use Rattle.am_bodies.specs.Bodies.{is_of, find_body}
-use Rattle.am_model.specs.Node.{Node, Ballot, pushed, trimmed, waiting}
+use Rattle.am_model.specs.Node.{Node, Ballot, push_entry, trim_up_to, waiting}
 use Rattle.am_model.specs.Receiving.{own_body, first_body, body_of, bodies_after}
 use Rattle.am_model.specs.Ballots.{Verdict}
 use Rattle.am_model.specs.Emit.{Step}
@@ -137,9 +137,9 @@ change_sent all who c o m n sent (promises v low why) h = h
 change_sent all who c o m n sent (opens least resilience by may) h = h
 change_sent all who c o m n sent (looks b verdict over why look is) h = look_sent all who m b verdict look h
 change_sent all who c o m n sent (fetches s v base number e is heard promise below from may) h =
-    kept_pushed all who (trimmed m base) e (subst (CauseSent all who o) is sent) h
+    kept_pushed all who (trim_up_to m base) e (subst (CauseSent all who o) is sent) h
 change_sent all who c o m n sent (stores_view s v base number names resilience is heard own other promise below may) h =
-    kept_pushed all who (trimmed m base) (View v names resilience) tt h
+    kept_pushed all who (trim_up_to m base) (View v names resilience) tt h
 change_sent all who c o m n sent (queues body is a member stays few) h =
     kept_queued all who m body ((subst (CauseSent all who o) is sent) (m.sends.last + 1) a) h
 change_sent all who c o m n sent (collects req is) h = kept_collected all who m req h
@@ -147,7 +147,7 @@ change_sent all who c o m n sent (takes e is a member some there) h = h
 change_sent all who c o m n sent (asks_to_join is was) h = h
 change_sent all who c o m n sent (asks_to_leave is was stays done) h = h
 change_sent all who c o m n sent (closes leads leaves alone room) h =
-    kept_at_end all who (pushed m (Leave m.core.who)) (kept_pushed all who m (Leave m.core.who) tt h)
+    kept_at_end all who (push_entry m (Leave m.core.who)) (kept_pushed all who m (Leave m.core.who) tt h)
 
 -- ---- letters
 

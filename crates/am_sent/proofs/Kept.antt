@@ -15,9 +15,9 @@ use Rattle.am_sender.specs.declared.OwnSend.{OwnSend}
 use Rattle.am_sender.specs.Sends as own
 use Rattle.am_bodies.specs.declared.KeptBody.{KeptBody}
 use Rattle.am_bodies.specs.Bodies.{is_of, with_body, keep_body}
-use Rattle.am_model.specs.Node.{Node, is_sequencer, pushed, waiting}
-use Rattle.am_model.specs.Refresh.{advance, lead, refresh, accepted_at, settled_at, settled, settle, refresh_at_end}
-use Rattle.am_model.specs.Calls.{queued}
+use Rattle.am_model.specs.Node.{Node, is_sequencer, push_entry, waiting}
+use Rattle.am_model.specs.Refresh.{advance, lead, refresh, accepted_at, settle_at, settle_waiting, settle, refresh_at_end}
+use Rattle.am_model.specs.Calls.{with_queued}
 use Rattle.am_model.specs.Claims.{IsSend}
 use Rattle.am_model.proofs.Greatest.{split}
 use Rattle.am_effects.proofs.Items.{get_front, all_find}
@@ -100,7 +100,7 @@ kept_more all more who m h = record {
 pub as_sent : (all : List Record) (who : ℕ) (m : Node) (req : ℕ) (body : List ℕ) → Keeps all who m → WasSent all who req body → WasSent all m.core.who req body
 as_sent all who m req body h was = subst (λ name. WasSent all name req body) (sym h.name) was
 
-pub kept_pushed : (all : List Record) (who : ℕ) (m : Node) (e : Entry) → EntrySent all e → Keeps all who m → Keeps all who (pushed m e)
+pub kept_pushed : (all : List Record) (who : ℕ) (m : Node) (e : Entry) → EntrySent all e → Keeps all who m → Keeps all who (push_entry m e)
 kept_pushed all who m e sent h = record {
   name = h.name;
   entries = All-push (EntrySent all) m.core.log.entries e h.entries sent;
@@ -110,7 +110,7 @@ kept_pushed all who m e sent h = record {
 }
 
 pub kept_queued : (all : List Record) (who : ℕ) (m : Node) (body : List ℕ) → WasSent all who (m.sends.last + 1) body → Keeps all who m
-    → Keeps all who (queued m body)
+    → Keeps all who (with_queued m body)
 kept_queued all who m body sent h = record {
   name = h.name;
   entries = h.entries;
@@ -168,7 +168,7 @@ kept_refresh all who m h = split (is_sequencer m) (λ t. rw t (kept_lead all who
 same_send : (all : List Record) (who req number : ℕ) (s : OwnSend) → SendSent all who s → SendSent all who (own.settle_send req number s)
 same_send all who req number s h = split (s.req == req) (λ t. rw t h) (λ f. rw f h)
 
-kept_settled_at : (all : List Record) (who : ℕ) (m : Node) (req : ℕ) (at : Option ℕ) → Keeps all who m → Keeps all who (settled_at m req at)
+kept_settled_at : (all : List Record) (who : ℕ) (m : Node) (req : ℕ) (at : Option ℕ) → Keeps all who m → Keeps all who (settle_at m req at)
 kept_settled_at all who m req None h = h
 kept_settled_at all who m req (Some k) h =
     let f = own.settle_send req (m.core.base + 1 + k) in
@@ -180,7 +180,7 @@ kept_settled_at all who m req (Some k) h =
       bodies = h.bodies;
     }
 
-kept_settled : (all : List Record) (who : ℕ) (m : Node) (w : Option OwnSend) → Keeps all who m → Keeps all who (settled m w)
+kept_settled : (all : List Record) (who : ℕ) (m : Node) (w : Option OwnSend) → Keeps all who m → Keeps all who (settle_waiting m w)
 kept_settled all who m None h = h
 kept_settled all who m (Some s) h = kept_settled_at all who m s.req (accepted_at m s.req) h
 

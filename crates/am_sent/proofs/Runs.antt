@@ -16,7 +16,7 @@ use Rattle.am_group.specs.declared.event.Event.{Event}
 use Rattle.am_group.specs.declared.event.Record.{Record}
 use Rattle.am_model.specs.Node.{Node, view, set_at, founder, stranger, founders_view}
 use Rattle.am_model.specs.Emit.{Step}
-use Rattle.am_model.specs.World.{World, start, record_of, group_after, unchanged, stepped, run}
+use Rattle.am_model.specs.World.{World, start, record_of, group_after, with_record, with_step, run}
 use Rattle.am_model.specs.Claims.{heard_by}
 use Rattle.am_model.proofs.Greatest.{split}
 use Rattle.am_effects.specs.Causes.{Cause, calls, hears, refuses}
@@ -70,8 +70,8 @@ abbrev pub after_step : World → Event → Step → List Record
 after_step w e s = w.records ++ record_of w e s.outcome s.letters ∷ []
 
 -- a step of a name
-sent_stepped : (w : World) (e : Event) (name : ℕ) (s : Step) → AllSent w → StepSent (after_step w e s) name s → AllSent (stepped w e name s)
-unfolding stepped
+sent_stepped : (w : World) (e : Event) (name : ℕ) (s : Step) → AllSent w → StepSent (after_step w e s) name s → AllSent (with_step w e name s)
+unfolding with_step
 sent_stepped w e name s h k =
     let all = after_step w e s in
     let old = all_sent_more w.records (record_of w e s.outcome s.letters ∷ []) w.nodes w.letters w.group h.all in
@@ -113,7 +113,7 @@ cause_sent w e s (hears p) h is =
 cause_sent w e s refuses h is = tt
 
 pub each_keeps : EachKeeps AllSent
-unfolding unchanged
+unfolding with_record
 each_keeps w e v (idles o idle) h = record { all = all_sent_more w.records _ w.nodes w.letters w.group h.all }
 each_keeps w e v (stops runs) h = record { all = all_sent_more w.records _ w.nodes w.letters w.group h.all }
 each_keeps w e v (returns place is gone more) h = record { all = all_sent_more w.records _ w.nodes w.letters w.group h.all }

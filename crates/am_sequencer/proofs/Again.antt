@@ -8,7 +8,7 @@ use Rattle.am_packet.specs.declared.packet.Packet.{Packet}
 use Rattle.am_core.proofs.CoreLaws.{stands_self}
 use Rattle.am_model.specs.Node.{Node, only_name, stranger}
 use Rattle.am_sequencer.specs.Pieces.{bcast_from}
-use Rattle.am_model.specs.Emit.{bcast_of, served, put_all}
+use Rattle.am_model.specs.Emit.{bcast_of, entries_to_serve, put_all}
 use Rattle.am_model.specs.Ends.{Tells}
 use Rattle.am_ends.proofs.Nodes.{keeps_end}
 use Rattle.am_ends.proofs.Sequencing.{same_served}
@@ -16,23 +16,23 @@ use Rattle.am_handlers.specs.Cores.{CoreTells}
 use Rattle.am_handlers.proofs.Doing.{core_tells}
 use Rattle.am_handlers.proofs.Plans.{end_tells}
 
-served_core : (m n : Node) (stored : ℕ) → n.core ≡ m.core → served n stored ≡ served m stored
-served_core m n stored same = ap (λ (c : CoreState). let x : Node = record m { core = c } in served x stored) same
+served_core : (m n : Node) (stored : ℕ) → n.core ≡ m.core → entries_to_serve n stored ≡ entries_to_serve m stored
+served_core m n stored same = ap (λ (c : CoreState). let x : Node = record m { core = c } in entries_to_serve x stored) same
 
-pub serves_count : (m n : Node) (stored count : ℕ) → n.core ≡ m.core → IsInOrder n.core → CoreTells (λ x. length (served x stored)) n.core count
-    → Tells (λ x. said.Served (length (served m stored))) n (said.Served count)
+pub serves_count : (m n : Node) (stored count : ℕ) → n.core ≡ m.core → IsInOrder n.core → CoreTells (λ x. length (entries_to_serve x stored)) n.core count
+    → Tells (λ x. said.Served (length (entries_to_serve m stored))) n (said.Served count)
 serves_count m n stored count same order told = λ x end.
-    let here : count ≡ length (served n stored) = end_tells (λ y. length (served y stored)) n count order.kept
-    (core_tells (λ y. length (served y stored)) n count told) in
+    let here : count ≡ length (entries_to_serve n stored) = end_tells (λ y. length (entries_to_serve y stored)) n count order.kept
+    (core_tells (λ y. length (entries_to_serve y stored)) n count told) in
     ap said.Served (here ∙ ap length (served_core m n stored same))
 
 pub serves_letters : (m n : Node) (to stored : ℕ) (letters : List Letter) → n.core ≡ m.core → IsInOrder n.core → n.core.base ≤ stored
-    → CoreTells (λ x. put_all (bcast_of x) (only_name to) (stored + 1) (served x stored) []) n.core letters
-    → Tells (λ x. put_all (bcast_of x) (only_name to) (stored + 1) (served m stored) []) n letters
+    → CoreTells (λ x. put_all (bcast_of x) (only_name to) (stored + 1) (entries_to_serve x stored) []) n.core letters
+    → Tells (λ x. put_all (bcast_of x) (only_name to) (stored + 1) (entries_to_serve m stored) []) n letters
 serves_letters m n to stored letters same order low told = λ x end.
-    let all_of : served x stored ≡ served n stored = ap (λ (y : Node). served y stored) (sym end.same)
+    let all_of : entries_to_serve x stored ≡ entries_to_serve n stored = ap (λ (y : Node). entries_to_serve y stored) (sym end.same)
     ∙ same_served x.core.log n stored (keeps_end x n end order) low in
-    core_tells (λ y. put_all (bcast_of y) (only_name to) (stored + 1) (served y stored) []) n letters told x end
+    core_tells (λ y. put_all (bcast_of y) (only_name to) (stored + 1) (entries_to_serve y stored) []) n letters told x end
     ∙ ap (λ es. put_all (bcast_of x) (only_name to) (stored + 1) es []) (all_of ∙ served_core m n stored same)
 
 -- a core alone says what a Bcast of it is

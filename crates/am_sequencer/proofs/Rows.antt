@@ -8,7 +8,7 @@ use Rattle.am_base.specs.declared.outcome.Outcome.TheVariants as said
 use Rattle.am_model.specs.Node.{Node, top, only_name, has_room, report_fits, with_report}
 use Rattle.am_model.specs.Emit.{Plan, quiet, polling, and_telling, hold_of}
 use Rattle.am_model.specs.Ends.{Tells}
-use Rattle.am_model.specs.Sequencing.{row_at, is_unknown, reported, ack_row, asked_again, serve, nack_row, requested, number_data, request_row}
+use Rattle.am_model.specs.Sequencing.{row_at, is_unknown, take_report, ack_row, serve_again, serve, nack_row, answer_request, number_data, request_row}
 use Rattle.am_handlers.proofs.Ends.{tells}
 use Rattle.am_handlers.specs.Finishing.{unless}
 use Rattle.am_sequencer.specs.Pieces.{following, report_refusal}
@@ -33,16 +33,16 @@ unfolding ack_row
 ack_by m from report refusal is = by_refusal m from report refusal (following m.core.acc (with_report m from report)) is
 
 pub nack_by : (m : Node) (from : ℕ) (report : Report) (refusal : Option Outcome) → refusal ≡ report_refusal m from report
-    → nack_row m from report ≡ unless refusal m (asked_again (reported m from report) from report.stored)
+    → nack_row m from report ≡ unless refusal m (serve_again (take_report m from report) from report.stored)
 unfolding nack_row
-nack_by m from report refusal is = by_refusal m from report refusal (asked_again (reported m from report) from report.stored) is
+nack_by m from report refusal is = by_refusal m from report refusal (serve_again (take_report m from report) from report.stored) is
 
 pub request_by : (m : Node) (from : ℕ) (report : Report) (req : ℕ) (body : List ℕ) (by_order : Bool) (refusal : Option Outcome)
     → refusal ≡ report_refusal m from report
-    → request_row m from report req body by_order ≡ unless refusal m (requested (reported m from report) from req body by_order)
+    → request_row m from report req body by_order ≡ unless refusal m (answer_request (take_report m from report) from req body by_order)
 unfolding request_row
 request_by m from report req body by_order refusal is =
-    by_refusal m from report refusal (requested (reported m from report) from req body by_order) is
+    by_refusal m from report refusal (answer_request (take_report m from report) from req body by_order) is
 
 -- ---- an Ack
 
@@ -58,12 +58,12 @@ follow_same before acc n is same =
 
 -- ---- a Nack
 
-pub again_behind : (m : Node) (to stored : ℕ) → stored < m.core.base → asked_again m to stored ≡ quiet m said.Behind
+pub again_behind : (m : Node) (to stored : ℕ) → stored < m.core.base → serve_again m to stored ≡ quiet m said.Behind
 again_behind m to stored low =
     let test : nat_lt stored m.core.base ≡ true = grind (arith, nat_tests) in
     rw test refl
 
-pub again_served : (m : Node) (to stored : ℕ) → m.core.base ≤ stored → asked_again m to stored ≡ serve m to stored
+pub again_served : (m : Node) (to stored : ℕ) → m.core.base ≤ stored → serve_again m to stored ≡ serve m to stored
 again_served m to stored low =
     let test : nat_lt stored m.core.base ≡ false = grind (arith, nat_tests) in
     rw test refl
@@ -71,14 +71,14 @@ again_served m to stored low =
 -- ---- a send
 
 pub requested_left : (m : Node) (from req : ℕ) (body : List ℕ) (by_order : Bool) (r : Row) → r ≡ row_at m from → 0 < r.left
-    → requested m from req body by_order ≡ quiet m said.Stranger
+    → answer_request m from req body by_order ≡ quiet m said.Stranger
 requested_left m from req body by_order r is left =
     let e = ap (λ (x : Row). x.left) is in
     let test : nat_lt 0 (row_at m from).left ≡ true = grind (arith, nat_tests) in
     rw test refl
 
 pub requested_again : (m : Node) (from req : ℕ) (body : List ℕ) (by_order : Bool) (r : Row) → r ≡ row_at m from → r.left ≤ 0 → req ≤ r.last
-    → requested m from req body by_order ≡ quiet m said.Again
+    → answer_request m from req body by_order ≡ quiet m said.Again
 requested_again m from req body by_order r is stays low =
     let e = ap (λ (x : Row). x.left) is in
     let f = ap (λ (x : Row). x.last) is in
@@ -87,7 +87,7 @@ requested_again m from req body by_order r is stays low =
     rw (left, last) refl
 
 pub requested_early : (m : Node) (from req : ℕ) (body : List ℕ) (by_order : Bool) (r : Row) → r ≡ row_at m from → r.left ≤ 0 → r.last + 1 < req
-    → requested m from req body by_order ≡ quiet m (said.Early r.last)
+    → answer_request m from req body by_order ≡ quiet m (said.Early r.last)
 requested_early m from req body by_order r is stays early =
     let e = ap (λ (x : Row). x.left) is in
     let f = ap (λ (x : Row). x.last) is in
@@ -109,10 +109,10 @@ new_send m from req r is stays new =
 
 pub requested_held : (m : Node) (from req : ℕ) (body : List ℕ) (by_order : Bool) (r : Row) → r ≡ row_at m from → r.left ≤ 0 → req ≡ r.last + 1
     → has_room m ≡ false
-    → requested m from req body by_order ≡ and_telling (polling m (said.Held m.core.base (top m))) (only_name from) (λ n. hold_of n req)
+    → answer_request m from req body by_order ≡ and_telling (polling m (said.Held m.core.base (top m))) (only_name from) (λ n. hold_of n req)
 requested_held m from req body by_order r is stays new full = let t = new_send m from req r is stays new in rw (t.0, t.1, t.2, full) refl
 
 pub requested_next : (m : Node) (from req : ℕ) (body : List ℕ) (by_order : Bool) (r : Row) → r ≡ row_at m from → r.left ≤ 0 → req ≡ r.last + 1
     → has_room m ≡ true
-    → requested m from req body by_order ≡ number_data m from req body by_order
+    → answer_request m from req body by_order ≡ number_data m from req body by_order
 requested_next m from req body by_order r is stays new room = let t = new_send m from req r is stays new in rw (t.0, t.1, t.2, room) refl

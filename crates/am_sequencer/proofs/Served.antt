@@ -10,7 +10,7 @@ use Rattle.am_base.specs.Lists.{Log, top_of, entry_at}
 use Rattle.am_packet.specs.declared.packet.Packet.{Packet}
 use Rattle.am_packet.specs.Boxes.{Letter, with_letter}
 use Rattle.am_core.specs.Cores.{CoreState}
-use Rattle.am_model.specs.Emit.{put_all, served, bcast_of}
+use Rattle.am_model.specs.Emit.{put_all, entries_to_serve, bcast_of}
 use Rattle.am_handlers.specs.Cores.{CoreTells}
 use Rattle.am_sequencer.specs.Pieces.{bcast_from}
 
@@ -74,7 +74,7 @@ serve_next c to stored number letters more low from high before sent =
     ∙ ap (λ k. put_all (bcast_from c) to (stored + 1) (take k es) []) next
 
 -- what all of the list tells of it
-pub served_kept : (c : CoreState) (stored : ℕ) → c.log.start ≤ stored → CoreTells (λ m. served m stored) c (take 8 (kept_above c.log stored))
+pub served_kept : (c : CoreState) (stored : ℕ) → c.log.start ≤ stored → CoreTells (λ m. entries_to_serve m stored) c (take 8 (kept_above c.log stored))
 served_kept c stored low = λ m all s.
     let is = s.kept in
     let least = is.low in
@@ -92,13 +92,13 @@ take_few es i is = go (nat_lt (length es) 8) refl
 pub served_letters : (c : CoreState) (to : List ℕ) (stored last : ℕ) (letters : List Letter) → c.log.start ≤ stored → stored ≤ top_of c.log
     → last ≡ min (top_of c.log) (stored + 8)
     → letters ≡ put_all (bcast_from c) to (stored + 1) (take (last - stored) (kept_above c.log stored)) []
-    → CoreTells (λ m. put_all (bcast_of m) to (stored + 1) (served m stored) []) c letters
+    → CoreTells (λ m. put_all (bcast_of m) to (stored + 1) (entries_to_serve m stored) []) c letters
 served_letters c to stored last letters low high is sent = λ m all s.
     let few : last - stored ≡ min (length (kept_above c.log stored)) 8 = simp length-drop (omega arith) in
     sent ∙ ap (λ es. put_all (bcast_from c) to (stored + 1) es []) (take_few (kept_above c.log stored) (last - stored) few ∙ served_kept c stored low m all s)
 
 pub served_count : (c : CoreState) (stored last : ℕ) → c.log.start ≤ stored → stored ≤ top_of c.log → last ≡ min (top_of c.log) (stored + 8)
-    → CoreTells (λ m. length (served m stored)) c (last - stored)
+    → CoreTells (λ m. length (entries_to_serve m stored)) c (last - stored)
 served_count c stored last low high is = λ m all s.
     let few : last - stored ≡ min 8 (length (kept_above c.log stored)) = simp length-drop (omega arith) in
     few ∙ sym (length-take 8 (kept_above c.log stored)) ∙ ap length (served_kept c stored low m all s)

@@ -21,8 +21,8 @@ abbrev pub report_refusal : Node → ℕ → Report → Option Outcome
 report_refusal m from report = if is_unknown m from then Some said.Stranger else if not (report_fits m report) then Some said.Unfit else None
 
 -- the packet of a numbered send: its number alone where everybody has its body
-abbrev pub data_told : ℕ → ℕ → ℕ → List ℕ → Bool → Node → Packet
-data_told number from req body by_order n = if by_order then order_of n number from req else bcast_of n number (Data from req body)
+abbrev pub data_packet : ℕ → ℕ → ℕ → List ℕ → Bool → Node → Packet
+data_packet number from req body by_order n = if by_order then order_of n number from req else bcast_of n number (Data from req body)
 
 -- a numbered entry, with the fronts of a core
 abbrev pub bcast_from : CoreState → ℕ → Entry → Packet

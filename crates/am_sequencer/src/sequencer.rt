@@ -1,15 +1,10 @@
-ghost use Rattle.std.specs.Prelude.{◌≡◌, ◌≢◌, ◌<◌, ◌≤◌, [], true, false, IfNone};
-ghost use Rattle.am_base.specs.Most.{most_number};
-ghost use Rattle.am_base.specs.Limits.{IsNumber};
-ghost use Rattle.am_model.specs.Node.{top, is_sequencer};
+ghost use Rattle.std.specs.Prelude.{◌≡◌, ◌≢◌, ◌<◌, ◌≤◌, [], false, IfNone};
+ghost use Rattle.am_handlers.specs.Prelude.{IsNumber, top, node_of, Finishes, Performs, MayServe};
 ghost use Rattle.am_model.specs.Sequencing.{is_unknown, ack_row, nack_row, request_row};
-ghost use Rattle.am_model.specs.Ends.{Does};
-ghost use Rattle.am_handlers.specs.Parts.{node_of};
-ghost use Rattle.am_handlers.specs.Finishing.{Done};
 ghost use Rattle.am_sequencer.specs.Pieces.{following, report_refusal};
 
-use crate::numbering::requested;
-use crate::serving::asked_again;
+use crate::numbering::answer_request;
+use crate::serving::serve_again;
 use am_base::body::Body;
 use am_base::image::Report;
 use am_base::name::Name;
@@ -38,13 +33,12 @@ fn report_refusal(parts: &Parts, from: Name, report: Report) -> Option<Outcome>
 /// The end of a step whose report is taken, and before which so much was accepted. It tells whether that rose.
 fn follow(parts: &mut Parts, before: u32, out: &mut OutBox) -> Outcome
     requires { out.old ≡ [] }
-    ensures { Done before (following before (node_of parts.old)) result out.new
-        (node_of parts.new) }
+    ensures { Finishes before (following before (node_of parts.old)) result out.new parts.new }
 {
-    let _before = parts.accepted();
+    let _before = parts.accept_front();
     parts.end();
     parts.tell_accepted(before, false, false, out);
-    let acc = parts.accepted();
+    let acc = parts.accept_front();
     if before < acc {
         return Outcome::Accepted { acc };
     }
@@ -56,10 +50,9 @@ fn follow(parts: &mut Parts, before: u32, out: &mut OutBox) -> Outcome
 pub fn on_ack(parts: &mut Parts, from: Name, report: Report, out: &mut OutBox) -> Outcome
     requires other { from ≢ parts.old.core.who }
     requires empty { out.old ≡ [] }
-    ensures { Does (λ m. ack_row m from report) (node_of parts.old) result out.new
-        (node_of parts.new) }
+    ensures { Performs (λ m. ack_row m from report) parts.old result out.new parts.new }
 {
-    let before = parts.accepted();
+    let before = parts.accept_front();
     if let Some(answer) = report_refusal(parts, from, report) {
         return finish_quietly(parts, before, answer, out);
     }
@@ -73,15 +66,14 @@ pub fn on_ack(parts: &mut Parts, from: Name, report: Report, out: &mut OutBox) -
 pub fn on_nack(parts: &mut Parts, from: Name, report: Report, out: &mut OutBox) -> Outcome
     requires other { from ≢ parts.old.core.who }
     requires empty { out.old ≡ [] }
-    ensures { Does (λ m. nack_row m from report) (node_of parts.old) result out.new
-        (node_of parts.new) }
+    ensures { Performs (λ m. nack_row m from report) parts.old result out.new parts.new }
 {
-    let before = parts.accepted();
+    let before = parts.accept_front();
     if let Some(answer) = report_refusal(parts, from, report) {
         return finish_quietly(parts, before, answer, out);
     }
     parts.take_report(from, report);
-    asked_again(parts, before, from, report.stored, out)
+    serve_again(parts, before, from, report.stored, out)
 }
 
 /// Takes a send of another name, with its report; `by_order` where its body was spread. Stranger: no Join of its
@@ -97,18 +89,16 @@ pub fn on_request(
     by_order: bool,
     out: &mut OutBox,
 ) -> Outcome
-    requires leads { is_sequencer (node_of parts.old) ≡ true }
-    requires other { from ≢ parts.old.core.who }
-    requires number { top (node_of parts.old) < most_number }
+    requires serves { MayServe (node_of parts.old) from }
     requires req { IsNumber req }
     requires empty { out.old ≡ [] }
-    ensures { Does (λ m. request_row m from report req body.now by_order)
-        (node_of parts.old) result out.new (node_of parts.new) }
+    ensures { Performs (λ m. request_row m from report req body.now by_order) parts.old
+        result out.new parts.new }
 {
-    let before = parts.accepted();
+    let before = parts.accept_front();
     if let Some(answer) = report_refusal(parts, from, report) {
         return finish_quietly(parts, before, answer, out);
     }
     parts.take_report(from, report);
-    requested(parts, before, from, req, body, by_order, out)
+    answer_request(parts, before, from, req, body, by_order, out)
 }

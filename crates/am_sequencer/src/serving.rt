@@ -1,15 +1,9 @@
-ghost use Rattle.std.specs.Prelude.{◌≡◌, ◌<◌, ◌≤◌, ◌+◌, min, [], length, Some, nat_lt};
+ghost use Rattle.std.specs.Prelude.{◌≡◌, ◌<◌, ◌≤◌, ◌+◌, min, [], length, Some};
+ghost use Rattle.am_handlers.specs.Prelude.{IsNumber, entry_at, top_of, with_letter, only_name, top, CoreTells, node_of, Finishes};
 ghost use Rattle.am_base.specs.declared.entry.Entry.{Entry};
-ghost use Rattle.am_base.specs.Limits.{IsNumber};
-ghost use Rattle.am_base.specs.Lists.{top_of, entry_at};
-ghost use Rattle.am_packet.specs.Boxes.{with_letter};
-ghost use Rattle.am_model.specs.Node.{only_name, top};
-ghost use Rattle.am_model.specs.Emit.{bcast_of, served, put_all};
+ghost use Rattle.am_model.specs.Emit.{bcast_of, entries_to_serve, put_all};
 ghost use Rattle.am_model.specs.Refresh.{refresh};
-ghost use Rattle.am_model.specs.Sequencing.{serve, asked_again};
-ghost use Rattle.am_handlers.specs.Parts.{node_of};
-ghost use Rattle.am_handlers.specs.Cores.{CoreTells};
-ghost use Rattle.am_handlers.specs.Finishing.{Done};
+ghost use Rattle.am_model.specs.Sequencing.{serve, serve_again};
 ghost use Rattle.am_sequencer.specs.Pieces.{bcast_from};
 
 use am_base::name::Name;
@@ -54,9 +48,9 @@ fn put_entries<L: Log>(core: &Core<L>, to: Name, stored: u32, out: &mut OutBox) 
     requires high { stored ≤ top_of core.now.log }
     requires kept { core.now.base ≡ core.now.log.start }
     requires empty { out.old ≡ [] }
-    ensures count { CoreTells (λ m. length (served m stored)) core.now result }
+    ensures count { CoreTells (λ m. length (entries_to_serve m stored)) core.now result }
     ensures letters { CoreTells (λ m. put_all (bcast_of m) (only_name to) (stored + 1)
-        (served m stored) []) core.now out.new }
+        (entries_to_serve m stored) []) core.now out.new }
     ensures few { length out.new ≤ 8 }
 {
     let last = last_served(core, stored);
@@ -72,9 +66,9 @@ fn serve(parts: &mut Parts, before: u32, to: Name, stored: u32, out: &mut OutBox
     requires high { stored ≤ top (node_of parts.old) }
     requires again { refresh (node_of parts.old) ≡ node_of parts.old }
     requires empty { out.old ≡ [] }
-    ensures { Done before (serve (node_of parts.old) to stored) result out.new (node_of parts.new) }
+    ensures { Finishes before (serve (node_of parts.old) to stored) result out.new parts.new }
 {
-    let _before = parts.accepted();
+    let _before = parts.accept_front();
     parts.settle();
     let count = put_entries(&parts.core, to, stored, out);
     parts.tell_accepted(before, false, false, out);
@@ -83,7 +77,7 @@ fn serve(parts: &mut Parts, before: u32, to: Name, stored: u32, out: &mut OutBox
 
 /// Answers who stored the list up to a number, and sends it what comes next, in a step that refreshed the node already.
 /// Behind where that is trimmed, else Served.
-pub fn asked_again(
+pub fn serve_again(
     parts: &mut Parts,
     before: u32,
     to: Name,
@@ -93,8 +87,7 @@ pub fn asked_again(
     requires high { stored ≤ top (node_of parts.old) }
     requires again { refresh (node_of parts.old) ≡ node_of parts.old }
     requires empty { out.old ≡ [] }
-    ensures { Done before (asked_again (node_of parts.old) to stored) result out.new
-        (node_of parts.new) }
+    ensures { Finishes before (serve_again (node_of parts.old) to stored) result out.new parts.new }
 {
     if stored < parts.core.log.base() {
         return finish_quietly(parts, before, Outcome::Behind, out);

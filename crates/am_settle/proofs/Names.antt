@@ -9,7 +9,7 @@ use Rattle.am_group.specs.declared.event.Act.TheVariants as act
 use Rattle.am_group.specs.declared.event.Event.{Event}
 use Rattle.am_group.specs.Journals.{letter_at}
 use Rattle.am_model.specs.Emit.{Step}
-use Rattle.am_model.specs.World.{World, unchanged, stepped, heard, happens, happen}
+use Rattle.am_model.specs.World.{World, with_record, with_step, hears_letter, happens, happen}
 use Rattle.am_model.specs.Settle.{event_at, running, hearings_of}
 use Rattle.am_settle.specs.Settling.{is_running, is_meant}
 
@@ -33,12 +33,12 @@ goes_then u v w a b = record {
 
 -- ---- ticks and hearings
 
-goes_unchanged : (w : World) (e : Event) (o : Outcome) → GoesOn w (unchanged w e o)
-unfolding unchanged
+goes_unchanged : (w : World) (e : Event) (o : Outcome) → GoesOn w (with_record w e o)
+unfolding with_record
 goes_unchanged w e o = record { lives = refl; stopped = refl; more = []; letters = sym (append-nil w.letters) }
 
-goes_stepped : (w : World) (e : Event) (name : ℕ) (s : Step) → GoesOn w (stepped w e name s)
-unfolding stepped
+goes_stepped : (w : World) (e : Event) (name : ℕ) (s : Step) → GoesOn w (with_step w e name s)
+unfolding with_step
 goes_stepped w e name s = record { lives = refl; stopped = refl; more = s.letters; letters = refl }
 
 goes_if : (w : World) (b : Bool) (x y : World) → GoesOn w x → GoesOn w y → GoesOn w (if b then x else y)
@@ -47,7 +47,7 @@ goes_if w false x y f g = g
 
 ruleset goes = (goes_if, goes_unchanged, goes_stepped)
 
-goes_heard : (w : World) (e : Event) (name : ℕ) (hearing : Packet → Step) (l : Option Letter) → GoesOn w (heard w e name hearing l)
+goes_heard : (w : World) (e : Event) (name : ℕ) (hearing : Packet → Step) (l : Option Letter) → GoesOn w (hears_letter w e name hearing l)
 goes_heard w e name hearing None = search goes
 goes_heard w e name hearing (Some l) = search goes
 

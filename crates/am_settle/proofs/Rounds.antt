@@ -6,16 +6,16 @@ use Rattle.am_model.specs.Settle.{Settling, and_then, ticks, hearings, waves, ro
 use Rattle.am_model.proofs.Runs.{runs_go_on}
 use Rattle.am_world.specs.Runs.{Play, replay}
 use Rattle.am_world.specs.declared.world.WorldRefusal.{WorldRefusal}
-use Rattle.am_settle.specs.Settling.{unsettled, round_events, Did, Stuck}
+use Rattle.am_settle.specs.Settling.{settling_of, round_events, Did, Stuck}
 use Rattle.am_settle.proofs.Going.{Going, did_replay, setting_out, arrived, going_as, stuck_in, goes_more}
 
 -- the events of so many waves, the first of the letters above a number
 unfoldable pub wave_events : ℕ → ℕ → World → List Event
-wave_events left after w = (waves left after (unsettled w)).events
+wave_events left after w = (waves left after (settling_of w)).events
 
 -- the events of so many rounds
 unfoldable pub rounds_events : ℕ → World → List Event
-rounds_events left w = (rounds left (unsettled w)).events
+rounds_events left w = (rounds left (settling_of w)).events
 
 -- ---- events before
 
@@ -44,18 +44,18 @@ rounds_before zero es s = refl
 rounds_before (suc left) es s = ap (rounds left) (round_before es s) ∙ rounds_before left es (round s)
 
 -- what was done is before the rest
-done_first : (es : List Event) (w : World) → record { world = w; events = es } ≡ before es (unsettled w)
+done_first : (es : List Event) (w : World) → record { world = w; events = es } ≡ before es (settling_of w)
 done_first es w = ap (λ (all : List Event). record { world = w; events = all }) (sym (append-nil es))
 
 waves_from : (left after : ℕ) (es : List Event) (w : World) → (waves left after (record { world = w; events = es })).events ≡ es ++ wave_events left after w
 unfolding wave_events
 waves_from left after es w =
-    ap (λ (s : Settling). (waves left after s).events) (done_first es w) ∙ ap (λ (s : Settling). s.events) (waves_before left after es (unsettled w))
+    ap (λ (s : Settling). (waves left after s).events) (done_first es w) ∙ ap (λ (s : Settling). s.events) (waves_before left after es (settling_of w))
 
 rounds_from : (left : ℕ) (es : List Event) (w : World) → (rounds left (record { world = w; events = es })).events ≡ es ++ rounds_events left w
 unfolding rounds_events
 rounds_from left es w =
-    ap (λ (s : Settling). (rounds left s).events) (done_first es w) ∙ ap (λ (s : Settling). s.events) (rounds_before left es (unsettled w))
+    ap (λ (s : Settling). (rounds left s).events) (done_first es w) ∙ ap (λ (s : Settling). s.events) (rounds_before left es (settling_of w))
 
 -- ---- a step more
 
@@ -76,14 +76,14 @@ waves_world w (suc left) after s is =
     waves_world w left (length s.world.letters) (and_then s (hearings s.world after))
     (ap (λ (v : World). happen v (hearings s.world after)) is ∙ sym (runs_go_on w s.events (hearings s.world after)))
 
-round_world : (w : World) → (round (unsettled w)).world ≡ happen w (round_events w)
+round_world : (w : World) → (round (settling_of w)).world ≡ happen w (round_events w)
 unfolding round_events
 round_world w = waves_world w 5 (length w.letters) (record { world = happen w (ticks w); events = ticks w }) refl
 
 pub rounds_more : (left : ℕ) (w : World) → rounds_events (suc left) w ≡ round_events w ++ rounds_events left (happen w (round_events w))
 unfolding rounds_events round_events rounds
 rounds_more left w =
-    rounds_from left (round (unsettled w)).events (round (unsettled w)).world
+    rounds_from left (round (settling_of w)).events (round (settling_of w)).world
     ∙ ap (λ (v : World). round_events w ++ rounds_events left v) (round_world w)
 
 -- ---- the way through a round
@@ -173,4 +173,4 @@ settled count round old now high way =
 -- all rounds are the whole schedule
 pub whole : (old : Play) (count : ℕ) → count ≡ round_count old.rules → rounds_events count (replay old) ≡ settle_events old.rules (replay old)
 unfolding rounds_events settle_events
-whole old count is = ap (λ k. (rounds k (unsettled (replay old))).events) is
+whole old count is = ap (λ k. (rounds k (settling_of (replay old))).events) is

@@ -6,8 +6,8 @@ use Rattle.am_group.specs.declared.event.Act.{Act}
 use Rattle.am_group.specs.declared.event.Event.{Event}
 use Rattle.am_group.specs.Addressed.{is_for}
 use Rattle.am_model.specs.World.{World, current, is_stopped}
-use Rattle.am_model.specs.Settle.{Settling, event_at, round}
-use Rattle.am_world.specs.Runs.{Play}
+use Rattle.am_model.specs.Settle.{Settling, event_at, round, settle_events}
+use Rattle.am_world.specs.Runs.{Play, replay}
 use Rattle.am_world.specs.declared.world.WorldRefusal.{WorldRefusal}
 use Rattle.am_world.specs.declared.world.WorldRefusal.TheVariants.{Spent}
 
@@ -24,12 +24,16 @@ abbrev pub act_at : Bool → Act → ℕ → List Event
 act_at passes act place = if passes then event_at place act ∷ [] else []
 
 -- a world, with nothing done yet
-abbrev pub unsettled : World → Settling
-unsettled w = record { world = w; events = [] }
+abbrev pub settling_of : World → Settling
+settling_of w = record { world = w; events = [] }
 
 -- the events of one round
 unfoldable pub round_events : World → List Event
-round_events w = (round (unsettled w)).events
+round_events w = (round (settling_of w)).events
+
+-- the lossless schedule of a world
+abbrev pub schedule_of : Play → List Event
+schedule_of w = settle_events w.rules (replay w)
 
 -- the world did these events more, or a beginning of them
 abbrev pub Did : List Event → Play → Play → Type 0

@@ -1,9 +1,9 @@
 ghost use Rattle.std.specs.Prelude.{◌≡◌, ◌<◌, ◌&&◌, OnOk, IfOk, IfErr, Some, length};
 ghost use Rattle.am_packet.specs.Boxes as boxes;
 ghost use Rattle.am_group.specs.Journals.{letter_at};
-ghost use Rattle.am_model.specs.Settle.{ticks, hearings_of, hearings, round_count, settle_events};
+ghost use Rattle.am_model.specs.Settle.{ticks, hearings_of, hearings, round_count};
 ghost use Rattle.am_world.specs.Runs.{replay};
-ghost use Rattle.am_settle.specs.Settling.{is_running, is_meant, act_at, round_events, Did, Stuck};
+ghost use Rattle.am_settle.specs.Settling.{schedule_of, is_running, is_meant, act_at, round_events, Did, Stuck};
 
 use am_base::name::Name;
 use am_group::addressed::is_for;
@@ -144,12 +144,11 @@ fn event_count(world: &World) -> usize
 /// beginning of the schedule was done: NoMemory where there was no memory for the next event, Spent where 100,000 events are
 /// too few for the whole (docs/PROTOCOL.md, "Schedules").
 pub fn settle(world: &mut World) -> Result<Settled, WorldRefusal>
-    ensures ok { OnOk result (Did (settle_events world.old.rules (replay world.old)) world.old world.new) }
+    ensures ok { OnOk result (Did (schedule_of world.old) world.old world.new) }
     ensures rounds { IfOk result (λ settled. settled.rounds ≡ round_count world.old.rules) }
-    ensures events { IfOk result (λ settled. settled.events
-        ≡ length (settle_events world.old.rules (replay world.old))) }
-    ensures err { IfErr result (λ refusal. Stuck
-        (settle_events world.old.rules (replay world.old)) world.old world.new refusal) }
+    ensures events { IfOk result (λ settled. settled.events ≡ length (schedule_of world.old)) }
+    ensures err { IfErr result (λ refusal. Stuck (schedule_of world.old)
+        world.old world.new refusal) }
 {
     let before = event_count(world);
     let rounds = round_count(world);

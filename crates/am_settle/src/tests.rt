@@ -37,6 +37,7 @@ fn who_runs_ticks_in_each_round(rt: HostRuntime) -> Result<(), Fail> {
     Ok(())
 }
 
+// Sixteen places that have stopped do nothing more.
 #[test]
 fn nobody_who_stopped_ticks(rt: HostRuntime) -> Result<(), Fail> {
     let founding = Founding::new(Names::of_mask(3), 0, 1, 256).ok_or("a founding")?;

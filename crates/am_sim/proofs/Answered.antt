@@ -6,7 +6,7 @@ use Rattle.am_base.specs.Founding.{Rules, MayFound}
 use Rattle.am_group.specs.declared.event.Event.{Event}
 use Rattle.am_group.specs.declared.plan.RacePlan.{RacePlan}
 use Rattle.am_model.specs.World.{run}
-use Rattle.am_model.specs.Lawful.{Watch, watch_start, watch, watch_all, watched}
+use Rattle.am_model.specs.Lawful.{Watch, watch_start, watch, watch_all, watch_run}
 use Rattle.am_model.specs.Play.{watched_text, text_of, summary_text_of}
 use Rattle.am_model.specs.Settle.{settle_events}
 use Rattle.am_model.proofs.Runs.{watched_is_run}
@@ -15,7 +15,7 @@ use Rattle.am_headline.proofs.Holds.{headline_holds}
 use Rattle.am_sent.proofs.Runs.{sent_holds}
 use Rattle.am_unballoted.proofs.Holds.{unballoted_holds}
 use Rattle.am_repaired.proofs.Settled.{settled_is_repaired}
-use Rattle.am_pump.specs.Generating.{generated_rules, generated}
+use Rattle.am_pump.specs.Generating.{generated_rules, events_of_seed}
 use Rattle.am_pump.proofs.Rules.{may_found}
 use Rattle.am_words.specs.declared.form.Numbers.{Numbers}
 use Rattle.am_script.specs.declared.script.Script.{Script}
@@ -23,11 +23,9 @@ use Rattle.am_script.specs.declared.script.Script.TheVariants.{Play, Race}
 use Rattle.am_script.specs.declared.key.Key.TheVariants as key
 use Rattle.am_script.specs.Scripts.{reading}
 use Rattle.am_script.specs.Limits.{RaceWithin, ScriptWithin}
-use Rattle.am_sim.specs.declared.simulate.Unplayed.{Unplayed}
-use Rattle.am_sim.specs.declared.simulate.Unplayed.TheVariants as unplayed
 use Rattle.am_sim.specs.Playing.{done_of, IsRunText}
 use Rattle.am_sim.specs.Racing.{events_of, IsRaceText}
-use Rattle.am_sim.specs.Simulation.{Keeps, Repaired, Played, Raced, Generated, IsText, IsUnrun, IsUnplayed, run_text}
+use Rattle.am_sim.specs.Simulation.{Keeps, Repaired, Played, Raced, Generated, IsText, run_text}
 
 -- ---- a run that is settled behind its own events
 
@@ -40,7 +38,7 @@ watched_then s (x ∷ xs) ys = watched_then (watch s x) xs ys
 text_is : (rules : Rules) (events : List Event) (settles : Bool) → text_of rules (done_of rules events settles) ≡ run_text rules events settles
 text_is rules events false = refl
 text_is rules events true =
-    let s = watched rules events in
+    let s = watch_run rules events in
     let world = watched_is_run rules events in
     ap (watched_text rules) (watched_then (watch_start rules) events (settle_events rules (run rules events))
     ∙ ap (λ w. watch_all s (settle_events rules w)) (sym world))
@@ -85,21 +83,12 @@ raced_by bytes text plan is within (journal, raced, same) = record {
   keeps = keeps_all plan.founding (events_of journal) within.may_found;
 }
 
--- why there is no text
-pub unplayed_by : (bytes : List ℕ) (script : Script) (e : Unplayed) → reading key.Play bytes ≡ Ok script → IsUnrun script e → IsUnplayed bytes e
-unplayed_by bytes (Play founding events settle) (unplayed.BadScript cause) is h = absurd h
-unplayed_by bytes (Play founding events settle) unplayed.Spent is h = (founding, events, settle, is, h)
-unplayed_by bytes (Play founding events settle) unplayed.NoMemory is h = tt
-unplayed_by bytes (Race plan) (unplayed.BadScript cause) is h = absurd h
-unplayed_by bytes (Race plan) unplayed.Spent is h = absurd h
-unplayed_by bytes (Race plan) unplayed.NoMemory is h = absurd h
-
 -- ---- a generated run
 
-pub generated_by : (numbers : Numbers) (text : List ℕ) → text ≡ summary_text_of generated_rules (generated numbers.seed numbers.count)
-    → length (generated numbers.seed numbers.count) ≡ numbers.count → Generated numbers text
+pub generated_by : (numbers : Numbers) (text : List ℕ) → text ≡ summary_text_of generated_rules (events_of_seed numbers.seed numbers.count)
+    → length (events_of_seed numbers.seed numbers.count) ≡ numbers.count → Generated numbers text
 generated_by numbers text is many =
-    let done = generated numbers.seed numbers.count in
+    let done = events_of_seed numbers.seed numbers.count in
     record {
       written = is;
       count = many;
@@ -113,6 +102,13 @@ pub gave_whole : (limit : ℕ) (before after : Option (List ℕ)) (bytes : List 
     → GaveAtMost limit before after
 gave_whole limit (Some left) after bytes whole few = (bytes, subst (λ a. Consumes (Some left) a bytes) (sym whole.1) (whole.0 ∙ sym (append-nil bytes)), few)
 gave_whole limit None after bytes whole few = (bytes, tt, few)
+
+-- what was written is a text of what was read
+pub written_of : (Is : List ℕ → List ℕ → Type 0) (Wrote : List ℕ → Type 0) (before after : Option (List ℕ)) (items bytes text written : List ℕ)
+    → ReadToEnd before after items → bytes ≡ items → Is bytes text → written ≡ text → Wrote written
+    → (t : List ℕ) × ((b : List ℕ) × ReadToEnd before after b × Is b t) × Wrote t
+written_of Is Wrote before after items bytes text written whole same is shown wrote =
+    (text, (bytes, subst (ReadToEnd before after) (sym same) whole, is), subst Wrote shown wrote)
 
 pub gave_none : (limit : ℕ) (left : Option (List ℕ)) → GaveAtMost limit left left
 gave_none limit (Some left) = ([], refl, omega arith)

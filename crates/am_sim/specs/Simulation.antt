@@ -24,7 +24,7 @@ use Rattle.am_world.specs.declared.world.WorldRefusal.TheVariants as refusals
 use Rattle.am_sim.specs.Playing.{done_of, IsRunText, IsLong}
 use Rattle.am_sim.specs.Racing.{events_of, race_text, IsRaced}
 use Rattle.am_io.specs.Outside.{next, ReadToEnd}
-use Rattle.am_pump.specs.Generating.{generated_rules, generated}
+use Rattle.am_pump.specs.Generating.{generated_rules, events_of_seed}
 use Rattle.am_words.specs.Forms.{form_of}
 use Rattle.am_words.specs.declared.form.Form.{Form}
 use Rattle.am_words.specs.declared.form.Form.TheVariants as form
@@ -39,8 +39,8 @@ abbrev pub most_input : ℕ
 most_input = 16777216
 
 -- the form of words
-abbrev pub asked : List (Bor (List ℕ)) → Option Form
-asked words = form_of (map (λ word. word.now) words)
+abbrev pub form_of_words : List (Bor (List ℕ)) → Option Form
+form_of_words words = form_of (map (λ word. word.now) words)
 
 -- the text of a script's run, which is settled behind its own events where that is asked for
 abbrev pub run_text : Rules → List Event → Bool → List ℕ
@@ -86,9 +86,9 @@ pub record Raced (bytes text : List ℕ) : Type 0 where
 
 -- what was written is the summary of the run of two numbers, and that run keeps what is claimed
 pub record Generated (numbers : Numbers) (text : List ℕ) : Type 0 where
-  pub written : text ≡ summary_text_of generated_rules (generated numbers.seed numbers.count)
-  pub count : length (generated numbers.seed numbers.count) ≡ numbers.count
-  pub keeps : Keeps generated_rules (generated numbers.seed numbers.count)
+  pub written : text ≡ summary_text_of generated_rules (events_of_seed numbers.seed numbers.count)
+  pub count : length (events_of_seed numbers.seed numbers.count) ≡ numbers.count
+  pub keeps : Keeps generated_rules (events_of_seed numbers.seed numbers.count)
 
 -- a text is that of the script that was read to the end of what was left
 abbrev pub IsPlayed : Option (List ℕ) → Option (List ℕ) → List ℕ → Type 0

@@ -1,6 +1,6 @@
 ghost use Rattle.std.specs.Prelude.{◌≡◌, ◌≤◌, IfOk, length, string_bytes};
 ghost use Rattle.am_base.specs.Most.{most_events};
-ghost use Rattle.am_pump.specs.Generating.{generated_rules, generated};
+ghost use Rattle.am_pump.specs.Generating.{generated_rules, events_of_seed};
 ghost use Rattle.am_sim.specs.Simulation.{Generated};
 
 use am_base::NoMemory;
@@ -14,7 +14,7 @@ use std::alloc::Global;
 fn generated_world(alloc: Global, numbers: Numbers) -> Result<World, NoMemory>
     requires { numbers.count ≤ most_events }
     ensures world { IfOk result (λ world. world
-        ≡ record { rules = generated_rules; events = generated numbers.seed numbers.count }) }
+        ≡ record { rules = generated_rules; events = events_of_seed numbers.seed numbers.count }) }
     ensures count { IfOk result (λ world. length world.events ≡ numbers.count) }
 {
     match generate(alloc, numbers.seed, numbers.count) {
@@ -30,7 +30,7 @@ pub fn summary_of_run(alloc: Global, numbers: Numbers) -> Result<String, NoMemor
     ensures { IfOk result (λ text. Generated numbers (string_bytes text)) }
 {
     let world = generated_world(alloc, numbers)?;
-    let broken = world.broken();
+    let broken = world.broken_at();
     let text = summary_text(alloc, world.journal(), world.group(), broken)?;
     Ok(text)
 }

@@ -46,7 +46,7 @@ fn text_of_world(alloc: Global, world: &World) -> Result<String, NoMemory>
     ensures { IfOk result (λ text. string_bytes text ≡ text_of world.now.rules world.now.events) }
 {
     let names = logged_names(alloc, world)?;
-    let broken = world.broken();
+    let broken = world.broken_at();
     let text = play_text(
         alloc,
         world.journal(),
@@ -73,7 +73,7 @@ fn do_events(world: &mut World, events: &[Event]) -> Result<(), WorldRefusal>
 /// The world after a script's events, and those that settle it where that is asked for. It is Spent where these are more than
 /// 100,000.
 #[tactic(auto, using(am_model::proofs::Runs::one_record_each))]
-fn played(
+fn play_out(
     alloc: Global,
     founding: &Founding,
     events: &[Event],
@@ -108,6 +108,6 @@ pub fn text_of_run(
     ensures spent { IfErr result (λ e. e ≡ refusals.Spent
         → IsLong founding.now events.now settles) }
 {
-    let world = played(alloc, founding, events, settles)?;
+    let world = play_out(alloc, founding, events, settles)?;
     Ok(text_of_world(alloc, &world)?)
 }

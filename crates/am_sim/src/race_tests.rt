@@ -1,11 +1,8 @@
 use crate::simulate::{Status, simulate, simulate_alone};
-use am_base::name::Name;
-use am_calls::gate::{Gate, NoGate};
-use am_group::event::By;
+use am_calls::gate::{Gate, Meeting, NoGate};
 use am_io::memory::{MemSink, MemSource};
 use std::alloc::{AllocError, Global};
 use std::sync::Wait;
-use std::sync::atomic::{AtomicBool, Ordering};
 use std::test::Fail;
 use std::thread::Threads;
 
@@ -45,31 +42,8 @@ fn busy_race(alloc: Global) -> Result<String, AllocError> {
 const TWO_TAKES: &str =
     r#"{"race":{"founders":[0,1],"seed":1,"threads":[{"node":0,"calls":[{"do":"take"}]},{"node":1,"calls":[{"do":"take"}]}]}}"#;
 
-/// How often a node looks for the other.
-const MOST_LOOKS: u32 = 100_000_000;
-
-/// Each of two nodes waits under its lock until the other is there too.
-#[derive(Drop)]
-struct Meeting {
-    here: [AtomicBool; 2],
-    met: [AtomicBool; 2],
-}
-
-impl Gate for Meeting {
-    fn between(&self, node: Name, _by: &By) {
-        let mine = usize::from(node.place() % 2);
-        self.here[mine].store(true, Ordering::SeqCst);
-        for _ in 0..MOST_LOOKS {
-            if self.here[1 - mine].load(Ordering::SeqCst) {
-                self.met[mine].store(true, Ordering::SeqCst);
-                return;
-            }
-        }
-    }
-}
-
 /// What a race writes, with its status.
-fn raced<R: Threads + Wait + Sync, G: Gate + Sync>(
+fn race_of<R: Threads + Wait + Sync, G: Gate + Sync>(
     rt: &R,
     alloc: Global,
     gate: &G,
@@ -82,7 +56,7 @@ fn raced<R: Threads + Wait + Sync, G: Gate + Sync>(
 }
 
 /// What a play writes, with its status.
-fn played(alloc: Global, text: &[u8]) -> Result<(Option<Status>, MemSink<'static>), AllocError> {
+fn play_of(alloc: Global, text: &[u8]) -> Result<(Option<Status>, MemSink<'static>), AllocError> {
     let mut source = MemSource::new(text, &[], 1024);
     let mut sink = MemSink::new(alloc, &[], 4096, ROOM)?;
     let status = simulate_alone(alloc, &["play"], &mut source, &mut sink);
@@ -91,7 +65,7 @@ fn played(alloc: Global, text: &[u8]) -> Result<(Option<Status>, MemSink<'static
 
 #[test]
 fn smallest_race(rt: HostRuntime) -> Result<(), Fail> {
-    let (status, sink) = raced(&rt, rt.alloc(), &NoGate, SMALLEST)?;
+    let (status, sink) = race_of(&rt, rt.alloc(), &NoGate, SMALLEST)?;
     assert!(rt; status == Status::Done);
     assert!(rt; sink.bytes() == SMALLEST_TEXT.as_bytes());
     Ok(())
@@ -100,13 +74,13 @@ fn smallest_race(rt: HostRuntime) -> Result<(), Fail> {
 #[test]
 fn a_race_is_a_play_again(rt: HostRuntime) -> Result<(), Fail> {
     let race = busy_race(rt.alloc())?;
-    let (status, sink) = raced(&rt, rt.alloc(), &NoGate, race.as_str())?;
+    let (status, sink) = race_of(&rt, rt.alloc(), &NoGate, race.as_str())?;
     assert!(rt; status == Status::Done);
     let written = sink.bytes();
     let Some(end) = written.iter().position(|byte| *byte == b'\n') else {
         return Err(Fail::from("a line"));
     };
-    let (again, text) = played(rt.alloc(), &written[..end])?;
+    let (again, text) = play_of(rt.alloc(), &written[..end])?;
     assert!(rt; again == Some(Status::Done));
     assert!(rt; text.bytes() == &written[end + 1..]);
     Ok(())
@@ -123,12 +97,9 @@ fn a_race_is_for_several(rt: HostRuntime) -> Result<(), Fail> {
 
 #[test]
 fn two_nodes_at_once(rt: HostRuntime) -> Result<(), Fail> {
-    let gate = Meeting {
-        here: [AtomicBool::new(false), AtomicBool::new(false)],
-        met: [AtomicBool::new(false), AtomicBool::new(false)],
-    };
-    let (status, _sink) = raced(&rt, rt.alloc(), &gate, TWO_TAKES)?;
+    let gate = Meeting::new();
+    let (status, _sink) = race_of(&rt, rt.alloc(), &gate, TWO_TAKES)?;
     assert!(rt; status == Status::Done);
-    assert!(rt; gate.met[0].load(Ordering::SeqCst) && gate.met[1].load(Ordering::SeqCst));
+    assert!(rt; gate.has_met());
     Ok(())
 }

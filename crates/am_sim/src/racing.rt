@@ -26,7 +26,7 @@ fn events_of(alloc: Global, records: &[Record]) -> Result<Items<Event>, NoMemory
 {
     let mut events = Items::new(alloc);
     for record in records {
-        events.push(record.event.copied()?)?;
+        events.push(record.event.try_copy()?)?;
     }
     Ok(events)
 }

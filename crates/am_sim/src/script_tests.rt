@@ -27,7 +27,7 @@ const SCRIPTS: [(&str, &str); 3] = [
 const ROOM: usize = 4096;
 
 /// What is written of a script; None where there is no memory, or the text is none.
-fn written_back(alloc: Global, text: &str) -> Option<String> {
+fn write_back(alloc: Global, text: &str) -> Option<String> {
     let script = read_script(alloc, Key::Play, text.as_bytes()).ok()?;
     match &script {
         Script::Play {
@@ -40,7 +40,7 @@ fn written_back(alloc: Global, text: &str) -> Option<String> {
 }
 
 /// The text of a script's run.
-fn played(alloc: Global, text: &str) -> Result<(Option<Status>, MemSink), AllocError> {
+fn play_of(alloc: Global, text: &str) -> Result<(Option<Status>, MemSink), AllocError> {
     let mut source = MemSource::new(text.as_bytes(), &[], 1024);
     let mut sink = MemSink::new(alloc, &[], 1024, ROOM)?;
     let status = simulate_alone(alloc, &["play"], &mut source, &mut sink);
@@ -51,11 +51,11 @@ fn played(alloc: Global, text: &str) -> Result<(Option<Status>, MemSink), AllocE
 fn scripts_written_back(rt: HostRuntime) -> Result<(), Fail> {
     for (script, wanted) in SCRIPTS {
         for text in [script, wanted] {
-            let again = written_back(rt.alloc(), text).ok_or("a script")?;
+            let again = write_back(rt.alloc(), text).ok_or("a script")?;
             assert!(rt; again.as_str() == wanted, "{text}");
         }
-        let (status, first) = played(rt.alloc(), script)?;
-        let (again, second) = played(rt.alloc(), wanted)?;
+        let (status, first) = play_of(rt.alloc(), script)?;
+        let (again, second) = play_of(rt.alloc(), wanted)?;
         assert!(rt; status == Some(Status::Done) && again == Some(Status::Done));
         assert!(rt; !first.bytes().is_empty() && first.bytes() == second.bytes());
     }

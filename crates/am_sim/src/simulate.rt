@@ -8,7 +8,7 @@ ghost use Rattle.am_script.specs.Scripts.{IsOfKind, reading};
 ghost use Rattle.am_sim.specs.declared.simulate.Unplayed.TheVariants as unplayed;
 ghost use Rattle.am_words.specs.declared.form.Form.TheVariants as form;
 ghost use Rattle.am_words.specs.Forms.{IsGen};
-ghost use Rattle.am_sim.specs.Simulation.{asked, most_input, Reads, key_for, EndsGen, IsAnswer, IsPlayed, IsRacedText, IsSummary, OnDone, OnWriteFault, IfBadScript, Writes, Played, Raced, WrotePart, IsSpent, IsText, IsUnrun, IsUnplayed, unplayed_for, reads_after, writes_after, number_of};
+ghost use Rattle.am_sim.specs.Simulation.{form_of_words, most_input, Reads, key_for, EndsGen, IsAnswer, IsPlayed, IsRacedText, IsSummary, OnDone, OnWriteFault, IfBadScript, Writes, Played, Raced, WrotePart, IsSpent, IsText, IsUnrun, IsUnplayed, unplayed_for, reads_after, writes_after, number_of};
 
 use crate::generating::summary_of_run;
 use crate::playing::text_of_run;
@@ -84,10 +84,10 @@ pub fn simulate<R: Threads + Wait + Sync, S: Source, K: Sink, G: Gate + Sync>(
     source: &mut S,
     sink: &mut K,
 ) -> Status
-    ensures usage { (result ≡ Status.Usage) ↔ (asked words.now ≡ None) }
-    ensures unread { (Reads (asked words.now) → ⊥) → source.new ≡ source.old }
-    ensures generates { IsGen (asked words.now) → EndsGen result }
-    ensures races { asked words.now ≡ Some form.Race → result ≢ Status.Spent }
+    ensures usage { (result ≡ Status.Usage) ↔ (form_of_words words.now ≡ None) }
+    ensures unread { (Reads (form_of_words words.now) → ⊥) → source.new ≡ source.old }
+    ensures generates { IsGen (form_of_words words.now) → EndsGen result }
+    ensures races { form_of_words words.now ≡ Some form.Race → result ≢ Status.Spent }
     ensures reads { S.count source.new ≡ reads_after result (S.count source.old) }
     ensures writes { K.count sink.new ≡ writes_after result (K.count sink.old) }
     ensures too_long { result ≡ Status.TooLong
@@ -96,14 +96,14 @@ pub fn simulate<R: Threads + Wait + Sync, S: Source, K: Sink, G: Gate + Sync>(
         → GaveAtMost most_input (S.left source.old) (S.left source.new) }
     ensures bad_script { IfBadScript result (λ cause. (bytes : List ℕ)
         × ReadToEnd (S.left source.old) (S.left source.new) bytes
-        × (reading (key_for (asked words.now)) bytes ≡ Err cause)) }
+        × (reading (key_for (form_of_words words.now)) bytes ≡ Err cause)) }
     ensures spent { result ≡ Status.Spent → (bytes : List ℕ)
         × ReadToEnd (S.left source.old) (S.left source.new) bytes × IsSpent bytes }
     ensures part { OnWriteFault result ((text : List ℕ)
-        × IsAnswer (asked words.now) (S.left source.old) (S.left source.new) text
+        × IsAnswer (form_of_words words.now) (S.left source.old) (S.left source.new) text
         × WrotePart (K.contents sink.old) (K.contents sink.new) text) }
     ensures done { OnDone result ((text : List ℕ)
-        × IsAnswer (asked words.now) (S.left source.old) (S.left source.new) text
+        × IsAnswer (form_of_words words.now) (S.left source.old) (S.left source.new) text
         × Appends (K.contents sink.old) (K.contents sink.new) text) }
     ensures unwritten { (Writes result → ⊥) → sink.new ≡ sink.old }
 {
@@ -118,7 +118,7 @@ pub fn simulate<R: Threads + Wait + Sync, S: Source, K: Sink, G: Gate + Sync>(
 
 /// Whether words are the one word `race`.
 fn is_race(words: &[&str]) -> bool
-    ensures { (result ≡ true) ↔ (asked words.now ≡ Some form.Race) }
+    ensures { (result ≡ true) ↔ (form_of_words words.now ≡ Some form.Race) }
 {
     match form_of(words) {
         Some(Form::Race) => true,
@@ -137,12 +137,12 @@ pub fn simulate_alone<S: Source, K: Sink>(
     source: &mut S,
     sink: &mut K,
 ) -> Option<Status>
-    ensures variant { (result ≡ None) ↔ (asked words.now ≡ Some form.Race) }
+    ensures variant { (result ≡ None) ↔ (form_of_words words.now ≡ Some form.Race) }
     ensures untouched_source { result ≡ None → source.new ≡ source.old }
     ensures untouched_sink { result ≡ None → sink.new ≡ sink.old }
-    ensures usage { IfSome result (λ status. (status ≡ Status.Usage) ↔ (asked words.now ≡ None)) }
-    ensures unread { (Reads (asked words.now) → ⊥) → source.new ≡ source.old }
-    ensures generates { IsGen (asked words.now) → IfSome result EndsGen }
+    ensures usage { IfSome result (λ status. (status ≡ Status.Usage) ↔ (form_of_words words.now ≡ None)) }
+    ensures unread { (Reads (form_of_words words.now) → ⊥) → source.new ≡ source.old }
+    ensures generates { IsGen (form_of_words words.now) → IfSome result EndsGen }
     ensures reads { IfSome result (λ status. S.count source.new
         ≡ reads_after status (S.count source.old)) }
     ensures writes { IfSome result (λ status. K.count sink.new
@@ -153,14 +153,14 @@ pub fn simulate_alone<S: Source, K: Sink>(
         → GaveAtMost most_input (S.left source.old) (S.left source.new)) }
     ensures bad_script { IfSome result (λ status. IfBadScript status (λ cause. (bytes : List ℕ)
         × ReadToEnd (S.left source.old) (S.left source.new) bytes
-        × (reading (key_for (asked words.now)) bytes ≡ Err cause))) }
+        × (reading (key_for (form_of_words words.now)) bytes ≡ Err cause))) }
     ensures spent { IfSome result (λ status. status ≡ Status.Spent → (bytes : List ℕ)
         × ReadToEnd (S.left source.old) (S.left source.new) bytes × IsSpent bytes) }
     ensures part { IfSome result (λ status. OnWriteFault status ((text : List ℕ)
-        × IsAnswer (asked words.now) (S.left source.old) (S.left source.new) text
+        × IsAnswer (form_of_words words.now) (S.left source.old) (S.left source.new) text
         × WrotePart (K.contents sink.old) (K.contents sink.new) text)) }
     ensures done { IfSome result (λ status. OnDone status ((text : List ℕ)
-        × IsAnswer (asked words.now) (S.left source.old) (S.left source.new) text
+        × IsAnswer (form_of_words words.now) (S.left source.old) (S.left source.new) text
         × Appends (K.contents sink.old) (K.contents sink.new) text)) }
     ensures unwritten { IfSome result (λ status. (Writes status → ⊥) → sink.new ≡ sink.old) }
 {
@@ -174,12 +174,12 @@ pub fn simulate_alone<S: Source, K: Sink>(
 
 /// Makes the run of the words of `gen`, and writes its summary.
 fn generate_run<K: Sink>(alloc: Global, words: &[&str], sink: &mut K) -> Status
-    requires { IsGen (asked words.now) }
+    requires { IsGen (form_of_words words.now) }
     ensures generates { EndsGen result }
     ensures writes { K.count sink.new ≡ writes_after result (K.count sink.old) }
-    ensures part { OnWriteFault result ((text : List ℕ) × IsSummary (asked words.now) text
+    ensures part { OnWriteFault result ((text : List ℕ) × IsSummary (form_of_words words.now) text
         × WrotePart (K.contents sink.old) (K.contents sink.new) text) }
-    ensures done { OnDone result ((text : List ℕ) × IsSummary (asked words.now) text
+    ensures done { OnDone result ((text : List ℕ) × IsSummary (form_of_words words.now) text
         × Appends (K.contents sink.old) (K.contents sink.new) text) }
     ensures unwritten { (Writes result → ⊥) → sink.new ≡ sink.old }
 {
@@ -194,8 +194,8 @@ fn generate_run<K: Sink>(alloc: Global, words: &[&str], sink: &mut K) -> Status
 
 /// The summary of the run of the words of `gen`.
 fn summary_of(alloc: Global, words: &[&str]) -> Result<String, NoMemory>
-    requires { IsGen (asked words.now) }
-    ensures { IfOk result (λ text. IsSummary (asked words.now) (string_bytes text)) }
+    requires { IsGen (form_of_words words.now) }
+    ensures { IfOk result (λ text. IsSummary (form_of_words words.now) (string_bytes text)) }
 {
     let numbers = gen_numbers(alloc, words)?;
     summary_of_run(alloc, numbers)

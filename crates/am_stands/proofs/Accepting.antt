@@ -10,13 +10,13 @@ use Rattle.am_base.specs.Lists.{Log, top_of, told_by}
 use Rattle.am_base.specs.Fronts.{counted_at, need_at, holders_at, is_held, is_satisfied, is_front, accept_front}
 use Rattle.am_core.specs.Cores.{accept, pass_over}
 use Rattle.am_core.proofs.Ranges.{all_at}
-use Rattle.am_fronts.specs.Reports.{reported}
+use Rattle.am_fronts.specs.Reports.{after_report}
 use Rattle.am_fronts.specs.Refresh.{own_report, tell, go_on, let_go}
 use Rattle.am_fronts.proofs.Again.{greatest_low, greatest_there}
-use Rattle.am_chain_lists.specs.Whole.{Begins, told}
+use Rattle.am_chain_lists.specs.Whole.{Begins, image_of}
 use Rattle.am_chain_lists.proofs.Prefixes.{begins_take, begins_trans, begins_both, begins_length, length_take}
 use Rattle.am_chain_moves.specs.Group as groups
-use Rattle.am_chain_moves.specs.Group.{how_many, counted, IsHeld, MayAccept}
+use Rattle.am_chain_moves.specs.Group.{how_many, counted_in, IsHeld, MayAccept}
 use Rattle.am_model.specs.Node as nodes
 use Rattle.am_model.specs.Node.{Node, is_sequencer}
 use Rattle.am_model.specs.Refresh.{lead, refresh}
@@ -33,7 +33,7 @@ use Rattle.am_stands.proofs.Parts.{counted_whole, need_whole, counted_concerned}
 
 -- who reported a number has stored it
 reached : (node : ℕ → groups.Node) (x : Node) (list : List Entry) (reports : ℕ → Report) (n h : ℕ) → Reporting node list x.core.base reports
-    → MayCount x list → h < 256 → 0 < n → n ≤ length list → x.core.base < n → (told list).view_number ≤ n → has (counted list n) h ≡ true
+    → MayCount x list → h < 256 → 0 < n → n ≤ length list → x.core.base < n → (image_of list).view_number ≤ n → has (counted_in list n) h ≡ true
     → n ≤ (reports h).stored → Begins (take n list) (node h).list
 reached node x list reports n h r may few some low above high counts up =
     let within = r.within h in
@@ -51,7 +51,7 @@ logged a part blank some h = split a.has_log (λ t. t)
 
 pub number_held : (v : World) (i n : ℕ) (x : Node) (a : groups.Node) (node : ℕ → groups.Node) (reports : ℕ → Report) → NameStands v i x a
     → MayCount x a.list → Reporting node a.list x.core.base reports → ((h : ℕ) → (node h).has_log ≡ false → (node h).list ≡ [])
-    → x.core.acc < n → n ≤ nodes.top x → (nodes.told x).view_number ≤ n → is_held reports x.core.log n ≡ true → IsHeld node a.list n
+    → x.core.acc < n → n ≤ nodes.top x → (nodes.image_of x).view_number ≤ n → is_held reports x.core.log n ≡ true → IsHeld node a.list n
 number_held v i n x a node reports stands may r blank above low high held =
     let log = x.core.log in
     let kept = may.kept in
@@ -59,13 +59,13 @@ number_held v i n x a node reports stands may r blank above low high held =
     let taken = may.taken in
     let long = long_all v i x a stands in
     let same = counted_whole v i n x a stands (omega arith) in
-    let last : (told a.list).view_number ≡ (nodes.told x).view_number = ap (λ (g : Image). g.view_number) (told_all v i x a stands) in
+    let last : (image_of a.list).view_number ≡ (nodes.image_of x).view_number = ap (λ (g : Image). g.view_number) (told_all v i x a stands) in
     let set = may.sets n (omega arith) in
     let passes : ℕ → Bool = λ h. nat_le n (reports h).stored in
     let holders : ℕ → Bool = λ h. has (counted_at log n) h && passes h in
     let all : count_by passes (names_of (counted_at log n)) ≤ how_many holders = names_pass passes (counted_at log n) set in
     let need = need_whole v i n x a stands (omega arith) set in
-    let counts : (h : ℕ) → holders h ≡ true → has (counted a.list n) h ≡ true = λ h t. ap (λ m. has m h) (sym same)
+    let counts : (h : ℕ) → holders h ≡ true → has (counted_in a.list n) h ≡ true = λ h t. ap (λ m. has m h) (sym same)
     ∙ (and_both (has (counted_at log n) h) (passes h) t).0 in
     let stored : (h : ℕ) → holders h ≡ true → Begins (take n a.list) (node h).list = λ h t.
     (let both = and_both (has (counted_at log n) h) (passes h) t in
@@ -123,7 +123,7 @@ front_held v i x a node reports stands may r blank =
 -- its own report is true of itself
 pub own_reporting : (node : ℕ → groups.Node) (list : List Entry) (base who taken : ℕ) (reports : ℕ → Report) → taken ≤ length list → (node who).list ≡ list
     → Reporting node list base reports
-    → Reporting node list base (reported reports who (record { stored = length list; taken = taken }))
+    → Reporting node list base (after_report reports who (record { stored = length list; taken = taken }))
 own_reporting node list base who taken reports low own r = record {
   within = λ name. split (name == who)
       (λ t. (let low = r.within who in rw t (omega arith)))
@@ -133,22 +133,22 @@ own_reporting node list base who taken reports low own r = record {
       (λ f. rw f (r.taken name));
   true_ = λ name few concerned. split (name == who)
       (λ t. λ above. (let same : name ≡ who = grind (arith, nat_tests) in
-      let k = (reported reports who (record { stored = length list; taken = taken }) name).stored in
+      let k = (after_report reports who (record { stored = length list; taken = taken }) name).stored in
       subst (λ l. Begins (take k list) l) (sym (ap (λ j. (node j).list) same ∙ own)) (begins_take k list)))
       (λ f. rw f (r.true_ name few concerned));
 }
 
 pub lead_acc : (x : Node) → x.core.acc ≤ nodes.top x
-    → (lead x).core.acc ≡ accept_front (reported x.reports x.core.who (nodes.report_of x)) x.core.log x.core.acc
+    → (lead x).core.acc ≡ accept_front (after_report x.reports x.core.who (nodes.report_of x)) x.core.log x.core.acc
 unfolding lead own_report tell go_on let_go accept pass_over
 lead_acc x within =
-    let reports = reported x.reports x.core.who (nodes.report_of x) in
+    let reports = after_report x.reports x.core.who (nodes.report_of x) in
     let low = greatest_low (is_front reports x.core.log x.core.acc) x.core.acc (top_of x.core.log - x.core.acc) in
     let up = low.0 in
     let top = low.1 in
     omega arith
 
-pub lead_told : (x : Node) → (lead x).core.told ≡ accept_front (reported x.reports x.core.who (nodes.report_of x)) x.core.log x.core.acc
+pub lead_told : (x : Node) → (lead x).core.told ≡ accept_front (after_report x.reports x.core.who (nodes.report_of x)) x.core.log x.core.acc
 unfolding lead own_report tell go_on let_go accept pass_over
 lead_told x = refl
 
@@ -159,7 +159,7 @@ refresh_accepts v i x a node stands leads may among =
     let taken = may.taken in
     let within = may.within in
     let r = own_reporting node a.list x.core.base x.core.who x.core.taken x.reports (omega arith) among.own among.reports in
-    let same : reported x.reports x.core.who (record { stored = length a.list; taken = x.core.taken }) ≡ reported x.reports x.core.who (nodes.report_of x) =
-    ap (λ k. reported x.reports x.core.who (record { stored = k; taken = x.core.taken })) long in
+    let same : after_report x.reports x.core.who (record { stored = length a.list; taken = x.core.taken }) ≡ after_report x.reports x.core.who (nodes.report_of x) =
+    ap (λ k. after_report x.reports x.core.who (record { stored = k; taken = x.core.taken })) long in
     let held = front_held v i x a node _ stands may (subst (Reporting node a.list x.core.base) same r) among.blank in
     rw leads (subst (MayAccept node a.list x.core.acc) (sym (lead_acc x may.within)) held)

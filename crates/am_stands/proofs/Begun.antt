@@ -48,9 +48,7 @@ module _ (rules : Rules) (s : Group) (gs : GroupFor rules s) (h : Stands (start 
       let size_ = ap length is in
       record {
         good = founder_good i few there;
-        votes = tt;
-        fetches = tt;
-        last = tt;
+        ballots = record { votes = tt; fetches = tt; last = tt };
         opens = λ open_. absurd (cc);
         reports = record {
           within = λ j. split (has rules.founders j) (λ t. rw t (omega arith)) (λ f. rw f (omega arith));
@@ -77,9 +75,7 @@ module _ (rules : Rules) (s : Group) (gs : GroupFor rules s) (h : Stands (start 
       let is : (s.node i).list ≡ [] = stands.list in
       record {
         good = subst IsGood (sym is) (good_begins (begins_nil (chain_of s.views)) kept.views.good);
-        votes = tt;
-        fetches = tt;
-        last = tt;
+        ballots = record { votes = tt; fetches = tt; last = tt };
         opens = λ open_. absurd (cc);
         reports = record {
           within = λ j. omega arith;

@@ -8,16 +8,16 @@ use Rattle.am_base.specs.declared.name.Stamp.{Stamp}
 use Rattle.am_base.specs.Names.{place_of, life_of, has, is_within}
 use Rattle.am_base.specs.Lists.{members_of}
 use Rattle.am_core.proofs.Ranges.{all_at}
-use Rattle.am_chain_lists.specs.Whole.{Begins, BeginsBelow, IsGood, told, mem, view_of, key}
+use Rattle.am_chain_lists.specs.Whole.{Begins, BeginsBelow, IsGood, image_of, mem, view_of, key}
 use Rattle.am_chain_lists.proofs.Prefixes.{begins_refl, begins_nil, begins_more, begins_trans, begins_both, begins_take, below_of}
 use Rattle.am_chain_lists.proofs.Prefixes.{below_length, length_push}
 use Rattle.am_chain_lists.proofs.Rows.{mod16}
 use Rattle.am_chain_lists.proofs.Members.{good_begins, mem_between, mem_viewed}
 use Rattle.am_chain_lists.proofs.Order.{key_by, view_up}
 use Rattle.am_chain_moves.specs.Group as groups
-use Rattle.am_chain_moves.specs.Group.{Group, put, put2, opening, chain_of, IsUp, IsThere, NoBetter}
+use Rattle.am_chain_moves.specs.Group.{Group, put, put2, opening, chain_of, IsUp, NoBetter}
 use Rattle.am_chain_moves.specs.Moves as group
-use Rattle.am_chain_moves.specs.Moves.{Move, MayDecide, Voted, with_choice, choice_of, own_stamp, longer}
+use Rattle.am_chain_moves.specs.Moves.{MayDecide, Voted, with_choice, choice_of, own_stamp, longer}
 use Rattle.am_chain_moves.specs.Kept.{Kept}
 use Rattle.am_chain_moves.specs.Runs.{IsLawful, first_choice}
 use Rattle.am_chain_moves.proofs.Start.{start_kept}
@@ -70,7 +70,7 @@ module _ (s : Group) (k : Kept s) (lawful : IsLawful s) (c : ℕ) (members : Lis
 
   in_chosen : (j : ℕ) → has members j ≡ true → mem chosen j ≡ true
   unfolding mem
-  in_chosen j h = within_has members (members_of (told chosen)) j d.within h
+  in_chosen j h = within_has members (members_of (image_of chosen)) j d.within h
 
   -- on one branch with the coordinator's list, a name of the View has no more
   low_on : (j : ℕ) (branch : List Entry) → has members j ≡ true → (s.node j).departed ≡ false → IsGood branch → Begins chosen branch
@@ -324,21 +324,21 @@ choice_branches s k lawful c members resilience d voted kept b =
     (λ up ballot is. absurd (cc))
     (λ y other up ballot is. inr (up, ballot, is, omega arith)) x) b
 
-pub moves_branch : MovesBranch
-moves_branch s t (group.numbers i e leads fit may) voted k law kt b = one_name s t i (longer (s.node i) e) kt (record {
-  node = refl;
-  shown = refl;
-  chain = subst (Begins (chain_of s.views)) (sym (longer_chain s i (longer (s.node i) e) e k leads refl)) (begins_more (chain_of s.views) (e ∷ []));
-  steady = λ stays. inl (up_as (s.node i) (longer (s.node i) e) refl refl refl leads.up);
-  opened = λ up ballot. (leads.up, ballot, refl, more_list (s.node i).list e);
-}) b
-moves_branch s t (group.stores i e up decided other stays next) voted k law kt b = one_name s t i (longer (s.node i) e) kt (record {
-  node = refl;
-  shown = refl;
-  chain = same_chain s;
-  steady = λ z. inl (up_as (s.node i) _ refl refl refl up);
+-- a name that gets an entry more
+longer_name : (s t : Group) (i : ℕ) (e : Entry) → t.node ≡ put s.node i (longer (s.node i) e) → t.shown ≡ s.shown
+    → Begins (chain_of s.views) (chain_of t.views) → IsUp (s.node i) → OneName s t i (longer (s.node i) e)
+longer_name s t i e node shown chain up = record {
+  node = node;
+  shown = shown;
+  chain = chain;
+  steady = λ stays. inl (up_as (s.node i) (longer (s.node i) e) refl refl refl up);
   opened = λ z ballot. (up, ballot, refl, more_list (s.node i).list e);
-}) b
+}
+
+pub moves_branch : MovesBranch
+moves_branch s t (group.numbers i e leads fit may) voted k law kt b = one_name s t i (longer (s.node i) e) kt (longer_name s t i e refl refl
+    (subst (Begins (chain_of s.views)) (sym (longer_chain s i (longer (s.node i) e) e k leads refl)) (begins_more (chain_of s.views) (e ∷ []))) leads.up) b
+moves_branch s t (group.stores i e up decided other stays next) voted k law kt b = one_name s t i (longer (s.node i) e) kt (longer_name s t i e refl refl (same_chain s) up) b
 moves_branch s t (group.accepts i n leads may) voted k law kt b = no_name s t kt refl refl refl b
 moves_branch s t (group.learns i told acc up rises within before up_to given low) voted k law kt b = one_name s t i
     (record (s.node i) { told = told; acc = acc }) kt (record {
@@ -361,13 +361,7 @@ moves_branch s t (group.raises i stamp there above) voted k law kt b = one_name 
 moves_branch s t (group.shows i there small other begun none) voted k law kt b = branches_of s t kt (λ j stays. inr (refl, stays))
     (still_on s t (same_chain s)) (shown_open s i) b
 moves_branch s t (group.serves i list up shown others) voted k law kt b = no_name s t kt refl refl refl b
-moves_branch s t (group.fetches i f list e up ballot served shown next) voted k law kt b = one_name s t i (longer (s.node i) e) kt (record {
-  node = refl;
-  shown = refl;
-  chain = same_chain s;
-  steady = λ z. inl (up_as (s.node i) _ refl refl refl up);
-  opened = λ z open_. (up, open_, refl, more_list (s.node i).list e);
-}) b
+moves_branch s t (group.fetches i f list e up ballot served shown next) voted k law kt b = one_name s t i (longer (s.node i) e) kt (longer_name s t i e refl refl (same_chain s) up) b
 moves_branch s t (group.decides i members resilience may) voted k law kt b = choice_branches s k law i members resilience may voted.1 kt b
 moves_branch s t (group.gives_over i) voted k law kt b = one_name s t i (record (s.node i) { ballot = false }) kt (record {
   node = refl;

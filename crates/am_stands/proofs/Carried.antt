@@ -4,7 +4,7 @@ use Rattle.am_base.specs.declared.name.Stamp.{Stamp}
 use Rattle.am_base.specs.declared.entry.Entry.TheVariants.{View}
 use Rattle.am_base.specs.Stamps.{stamp_eq}
 use Rattle.am_chain_moves.specs.Group.{Group}
-use Rattle.am_model.specs.Node.{Node, view, acts, is_member, unsettled}
+use Rattle.am_model.specs.Node.{Node, view, acts, is_member, unsettled_count}
 use Rattle.am_model.specs.Calls.{is_unfinished}
 use Rattle.am_model.specs.Refresh.{refresh}
 use Rattle.am_model.specs.Hearing.{hears_member, hears_in_view, hears_sequencer}
@@ -87,6 +87,6 @@ changes_stand w name c o x y s (asks_to_join was asked) may is h = unmoved w nam
       start = refl;
     }) h
 changes_stand w name c o x y s (asks_to_leave was member stays done) may is h = ask_stands w name c x s may member
-    (or_last (nat_lt 0 (unsettled x)) (is_unfinished x.ballot) done) h
+    (or_last (nat_lt 0 (unsettled_count x)) (is_unfinished x.ballot) done) h
 changes_stand w name c o x y s (closes leads leaves alone room) may is h = absurd is
 changes_stand w name c o x y s _ may is h = same_to_it w name x y s refl refl refl refl refl refl h

@@ -10,21 +10,21 @@ use Rattle.am_base.specs.declared.entry.Entry.TheVariants.{Data, Join, Leave, Vi
 use Rattle.am_base.specs.declared.image.Row.{Row}
 use Rattle.am_base.specs.declared.image.Image.{Image}
 use Rattle.am_base.specs.Names.{IsSet, place_of, life_of, has}
-use Rattle.am_base.specs.Lists.{blank_row, blank, is_blank, at_place, member_life, members_of, with_row, viewed, after, fold, top_of}
+use Rattle.am_base.specs.Lists.{blank_row, blank, is_blank, at_place, member_life, members_of, with_row, row_after_view, after, fold, top_of}
 use Rattle.am_base.specs.Fronts.{counted_of}
 use Rattle.am_core.proofs.Lives.{unions_most, member_at}
-use Rattle.am_chain_lists.specs.Whole.{Begins, told, key}
+use Rattle.am_chain_lists.specs.Whole.{Begins, image_of, key}
 use Rattle.am_chain_lists.proofs.Rows.{by_cases, row_at, row_set, row_view, long_after, mod16}
 use Rattle.am_chain_lists.proofs.Members.{long_told}
 use Rattle.am_chain_moves.specs.Group as groups
-use Rattle.am_chain_moves.specs.Group.{Group, counted, opening, chain_of}
+use Rattle.am_chain_moves.specs.Group.{Group, counted_in, opening, chain_of}
 use Rattle.am_chain_moves.specs.Moves as group
 use Rattle.am_chain_moves.specs.Moves.{Move, choice_of, longer}
 use Rattle.am_chain_moves.proofs.Puts.{put_same}
 use Rattle.am_effects.proofs.Items.{all_get}
 use Rattle.am_model.specs.Node as nodes
 use Rattle.am_model.specs.Node.{Node}
-use Rattle.am_model.specs.Refresh.{concerned}
+use Rattle.am_model.specs.Refresh.{concerned_names}
 use Rattle.am_model.specs.World.{World}
 use Rattle.am_stands.specs.Moving.{NamesNamed}
 use Rattle.am_stands.specs.Standing.{NameStands}
@@ -75,7 +75,7 @@ put_named image who r long new h place low = ⊎_elim
     (λ (z : (place ≢ place_of who) × (row_at (with_row image who r) place ≡ row_at image place)). subst RowNamed (sym z.1) (h place low))
     (row_set image who place r long)
 
-viewed_named : (first : Bool) (n given : ℕ) (r : Row) → given ≤ 16 → RowNamed r → RowNamed (viewed first n given r)
+viewed_named : (first : Bool) (n given : ℕ) (r : Row) → given ≤ 16 → RowNamed r → RowNamed (row_after_view first n given r)
 viewed_named true n given r low h = by_cases (given == 0)
     (λ t. rw t h)
     (λ f. rw f (record { life = low; lives = λ z. absurd (grind (arith, nat_tests)) }))
@@ -106,27 +106,27 @@ fold_named image n [] long k h = h
 fold_named image n (e ∷ es) long k h = fold_named (after image n e) (n + 1) es (long_after image n e long) (All-tail NamesNamed e es k)
     (after_named image n e long (All-head NamesNamed e es k) h)
 
-rows_named : (list : List Entry) → All NamesNamed list → RowsNamed (told list)
+rows_named : (list : List Entry) → All NamesNamed list → RowsNamed (image_of list)
 rows_named list k = fold_named blank 1 list refl k
     (λ place low. subst RowNamed (sym (get_or-replicate 16 place blank_row blank_row low)) (record { life = omega arith; lives = λ z. refl }))
 
 member_named : (r : Row) → RowNamed r → member_life r ≤ 16
 member_named r h = by_cases (nat_lt 0 r.joined && (r.left == 0)) (λ t. rw t h.life) (λ f. rw f (omega arith))
 
-pub members_named : (list : List Entry) → All NamesNamed list → IsSet (members_of (told list))
+pub members_named : (list : List Entry) → All NamesNamed list → IsSet (members_of (image_of list))
 members_named list k =
     let long = long_told list in
-    let size = length-map (told list).rows member_life ∙ long in
+    let size = length-map (image_of list).rows member_life ∙ long in
     record {
       places = size;
       lives = λ place low. (let small : place < 16 = omega arith in
-          let is = member_at (told list) place (omega arith) in
-          let most = member_named (row_at (told list) place) (rows_named list k place small) in
+          let is = member_at (image_of list) place (omega arith) in
+          let most = member_named (row_at (image_of list) place) (rows_named list k place small) in
           omega arith);
     }
 
 counted_named : (list : List Entry) (n : ℕ) (o : Option Entry) → All NamesNamed list → ((e : Entry) → o ≡ Some e → NamesNamed e)
-    → IsSet (counted_of o (members_of (told (take n list))))
+    → IsSet (counted_of o (members_of (image_of (take n list))))
 counted_named list n None k its = members_named (take n list) (All-take NamesNamed n list k)
 counted_named list n (Some (Data from req body)) k its = members_named (take n list) (All-take NamesNamed n list k)
 counted_named list n (Some (Join name)) k its = members_named (take n list) (All-take NamesNamed n list k)
@@ -143,11 +143,11 @@ pub rows_live : (v : World) (i : ℕ) (x : Node) (a : groups.Node) → NameStand
 rows_live v i x a h k name none =
     let is = told_all v i x a h in
     let row = rows_named a.list k (place_of name) (mod16 name) in
-    let same : row_at (told a.list) (place_of name) ≡ at_place (nodes.told x) name = ap (λ (g : Image). at_place g name) is in
+    let same : row_at (image_of a.list) (place_of name) ≡ at_place (nodes.image_of x) name = ap (λ (g : Image). at_place g name) is in
     ap (λ (r : Row). r.joined) (sym same) ∙ row.lives (ap (λ (r : Row). r.life) same ∙ none)
 
 pub concerned_small : (v : World) (i : ℕ) (x : Node) (a : groups.Node) → NameStands v i x a → All NamesNamed a.list → x.core.log.start ≤ x.core.acc
-    → (j : ℕ) → has (concerned x) j ≡ true → j < 256
+    → (j : ℕ) → has (concerned_names x) j ≡ true → j < 256
 concerned_small v i x a h k low j in_ =
     let log = x.core.log in
     let place = mod16 j in
@@ -158,5 +158,5 @@ concerned_small v i x a h k low j in_ =
     let its = set.lives (place_of j) (omega arith) in
     let same = ap (λ m. slice_index m (place_of j)) is in
     omega arith)) in
-    let at : slice_index (concerned x) (place_of j) ≡ life_of j = grind (arith, nat_tests) in
+    let at : slice_index (concerned_names x) (place_of j) ≡ life_of j = grind (arith, nat_tests) in
     omega arith

@@ -9,7 +9,7 @@ use Rattle.am_base.specs.declared.image.Image.{Image}
 use Rattle.am_base.specs.Stamps.{stamp_lt}
 use Rattle.am_base.specs.Names.{has}
 use Rattle.am_base.specs.Lists.{Log, blank, members_of, fold}
-use Rattle.am_chain_lists.specs.Whole.{told, mem, key}
+use Rattle.am_chain_lists.specs.Whole.{image_of, mem, key}
 use Rattle.am_chain_lists.proofs.Order.{key_lt}
 use Rattle.am_chain_moves.specs.Group as groups
 use Rattle.am_chain_moves.specs.Group.{Group, Views, put, IsThere, IsUp}
@@ -19,10 +19,10 @@ use Rattle.am_chain_moves.proofs.Puts.{put_same}
 use Rattle.am_model.specs.declared.status.Status.{Status}
 use Rattle.am_model.specs.declared.status.Status.TheVariants as status
 use Rattle.am_model.specs.Node as nodes
-use Rattle.am_model.specs.Node.{Node, Ballot, members, is_member, is_asking, unsettled, set_at}
+use Rattle.am_model.specs.Node.{Node, Ballot, members, is_member, is_asking, unsettled_count, set_at}
 use Rattle.am_model.specs.Calls.{is_unfinished}
 use Rattle.am_model.specs.Refresh.{refresh}
-use Rattle.am_model.specs.Ballots.{Verdict, overtaken, promised, next_stamp}
+use Rattle.am_model.specs.Ballots.{Verdict, overtake, with_promise, next_stamp}
 use Rattle.am_model.specs.Hearing.{hears_member}
 use Rattle.am_model.specs.Group.{has_log}
 use Rattle.am_model.specs.World.{World, is_stopped, has_departed}
@@ -72,7 +72,7 @@ pub same_name : (w : World) (name i : ℕ) (x y : Node) (a : groups.Node) → Un
 same_name w name i x y a u h = record {
   begins = record {
     within = subst (λ (l : Log). l.start ≤ length w.group) (sym u.log) h.begins.within;
-    image = subst (λ (l : Log). l.image ≡ told (take l.start w.group)) (sym u.log) h.begins.image;
+    image = subst (λ (l : Log). l.image ≡ image_of (take l.start w.group)) (sym u.log) h.begins.image;
   };
   list = h.list ∙ ap (λ (l : Log). take l.start w.group ++ l.entries) (sym u.log);
   flags = record { log_ = h.log_ ∙ sym u.log_; stopped = h.stopped; departed = h.departed ∙ sym u.departed; leaving = h.leaving ∙ sym u.leaving };
@@ -125,7 +125,7 @@ name_as : (w : World) (name : ℕ) (x y : Node) (a : groups.Node) (stamp : Stamp
 name_as w name x y a stamp open_ log status leaving start_ promise ballot k = record {
   begins = record {
     within = subst (λ (l : Log). l.start ≤ length w.group) (sym log) k.begins.within;
-    image = subst (λ (l : Log). l.image ≡ told (take l.start w.group)) (sym log) k.begins.image;
+    image = subst (λ (l : Log). l.image ≡ image_of (take l.start w.group)) (sym log) k.begins.image;
   };
   list = k.list ∙ ap (λ (l : Log). take l.start w.group ++ l.entries) (sym log);
   flags = record {
@@ -170,16 +170,16 @@ is_up w name x a runs member h = record { log = h.log_ ∙ logged x.status membe
 
 -- ---- what a whole list tells
 
-pub told_all : (v : World) (i : ℕ) (x : Node) (a : groups.Node) → NameStands v i x a → told a.list ≡ nodes.told x
+pub told_all : (v : World) (i : ℕ) (x : Node) (a : groups.Node) → NameStands v i x a → image_of a.list ≡ nodes.image_of x
 told_all v i x a h =
     let start_ = x.core.log.start in
     let front = take start_ v.group in
     let long : length front ≡ start_ = (let b = h.begins.within in let c = length-take start_ v.group in omega arith) in
     let one : 1 + length front ≡ start_ + 1 = omega arith in
-    ap told h.list ∙ fold_append blank 1 front x.core.log.entries ∙ ap (λ (i : Image). fold i (1 + length front) x.core.log.entries) (sym h.begins.image)
+    ap image_of h.list ∙ fold_append blank 1 front x.core.log.entries ∙ ap (λ (i : Image). fold i (1 + length front) x.core.log.entries) (sym h.begins.image)
     ∙ ap (λ n. fold x.core.log.image n x.core.log.entries) one
 
-pub told_whole : (w : World) (name i : ℕ) (x : Node) (a : groups.Node) → NameStands (within w name x) i x a → told a.list ≡ nodes.told x
+pub told_whole : (w : World) (name i : ℕ) (x : Node) (a : groups.Node) → NameStands (within w name x) i x a → image_of a.list ≡ nodes.image_of x
 told_whole w name i x a h = told_all (within w name x) i x a h
 
 -- and how long it is
@@ -195,7 +195,7 @@ long_all v i x a h =
 
 -- an unfinished ballot of the promise is overtaken by what is above it
 over : (v : Stamp) (ballot : Option Ballot) → ((b : Ballot) → ballot ≡ Some b → b.is_over ≡ false → stamp_lt b.stamp v ≡ true)
-    → is_unfinished (overtaken v ballot) ≡ false
+    → is_unfinished (overtake v ballot) ≡ false
 over v None f = refl
 over v (Some b) f = split b.is_over
     (λ t. rw t refl)
@@ -203,7 +203,7 @@ over v (Some b) f = split b.is_over
 
 -- and by nothing else
 kept : (v : Stamp) (ballot : Option Ballot) → ((b : Ballot) → ballot ≡ Some b → b.is_over ≡ false → stamp_lt b.stamp v ≡ false)
-    → is_unfinished (overtaken v ballot) ≡ is_unfinished ballot
+    → is_unfinished (overtake v ballot) ≡ is_unfinished ballot
 kept v None f = refl
 kept v (Some b) f = split b.is_over
     (λ t. rw t refl)
@@ -216,7 +216,7 @@ promiser_stays c x v (told_result s _ base number names resilience is heard own 
     (and_both (not (s == x.core.who)) (is_member x.status) heard).1
 
 pub promise_stands : (w : World) (name : ℕ) (c : Cause) (x : Node) (v : Stamp) (s : Group) → MayMove w name c x s → stamp_lt v x.core.promise ≡ false
-    → Promises c x v → StandsBut name (within w name x) s → Onto name (within w name (promised x v)) s
+    → Promises c x v → StandsBut name (within w name x) s → Onto name (within w name (with_promise x v)) s
 promise_stands w name c x v s may low why h =
     let old = own_name w name x s may.few h in
     let begun = may.stamps v why in
@@ -228,16 +228,16 @@ promise_stands w name c x v s may low why h =
     let other : v.by ≢ name = λ e. (let b : key v ≤ key (s.node name).promise = subst (λ k. key v ≤ key (s.node k).promise) e begun.begun in
     let z : ⊥ = omega arith in z) in
     let above : IsAbove s.node name v = record { greater = omega arith; small = begun.small; other = other; begun = begun.begun } in
-    let ends : is_unfinished (overtaken v x.ballot) ≡ false = over v x.ballot
+    let ends : is_unfinished (overtake v x.ballot) ≡ false = over v x.ballot
     (λ b is open_. subst (λ u. stamp_lt u v ≡ true) (sym (may.ballot b is open_)) t) in
-    moved w name x (promised x v) s (record (s.node name) { promise = v; ballot = false }) refl
+    moved w name x (with_promise x v) s (record (s.node name) { promise = v; ballot = false }) refl
     (group.raises name v (is_there w name x (s.node name) may.runs (promiser_stays c x v why) old) above) tt refl refl
-    (λ k. name_as w name x (promised x v) (s.node name) _ _ refl refl refl refl refl (sym ends) k) h)
+    (λ k. name_as w name x (with_promise x v) (s.node name) _ _ refl refl refl refl refl (sym ends) k) h)
     (λ f.
     let same : v ≡ x.core.promise = equal_stamps v x.core.promise begun.small small low f in
-    let stays : is_unfinished (overtaken v x.ballot) ≡ is_unfinished x.ballot = kept v x.ballot
+    let stays : is_unfinished (overtake v x.ballot) ≡ is_unfinished x.ballot = kept v x.ballot
     (λ b is open_. subst (λ u. stamp_lt u v ≡ false) (sym (may.ballot b is open_)) f) in
-    unmoved w name x (promised x v) s (record { log = refl; log_ = refl; departed = refl; leaving = refl; promise = same; ballot = stays; start = refl }) h)
+    unmoved w name x (with_promise x v) s (record { log = refl; log_ = refl; departed = refl; leaving = refl; promise = same; ballot = stays; start = refl }) h)
 
 -- ---- ballots
 

@@ -5,20 +5,20 @@ use Rattle.am_base.specs.declared.name.Stamp.{Stamp}
 use Rattle.am_base.specs.declared.entry.Entry.TheVariants.{Leave}
 use Rattle.am_base.specs.Lists.{Log}
 use Rattle.am_group.specs.declared.event.Event.{Event}
-use Rattle.am_chain_lists.specs.Whole.{told}
+use Rattle.am_chain_lists.specs.Whole.{image_of}
 use Rattle.am_chain_moves.specs.Group as groups
 use Rattle.am_chain_moves.specs.Group.{Group, put}
 use Rattle.am_chain_moves.specs.Moves.{Move, with_line, longer}
 use Rattle.am_chain_moves.specs.Moves as group
-use Rattle.am_model.specs.Node.{Node, pushed, set_at}
+use Rattle.am_model.specs.Node.{Node, push_entry, set_at}
 use Rattle.am_model.specs.Emit.{Step}
 use Rattle.am_model.specs.Calls.{is_unfinished}
-use Rattle.am_model.specs.World.{Decided, World, has_departed, group_after, stepped}
+use Rattle.am_model.specs.World.{Decided, World, has_departed, group_after, with_step}
 use Rattle.am_model.specs.Claims.{up_to_next, line_of}
 use Rattle.am_model.proofs.Greatest.{split}
 use Rattle.am_effects.proofs.Rests.{rests_at_end}
 use Rattle.am_stands.specs.Standing.{NameStands, FrontsStand, StandsBut, Stands, within}
-use Rattle.am_stands.specs.Ends.{NeedsClose, closed, CloseStands}
+use Rattle.am_stands.specs.Ends.{NeedsClose, after_closing, CloseStands}
 use Rattle.am_stands.specs.Moving.{MoveOk}
 use Rattle.am_stands.proofs.Names.{one_move, views_noted}
 use Rattle.am_stands.proofs.Changes.{own_name, is_up}
@@ -30,14 +30,14 @@ is_itself name = grind (arith, nat_tests)
 
 -- what stands for who has gone so
 gone_name : (w : World) (name : ℕ) (x : Node) (b : groups.Node) → b.has_log ≡ true
-    → NameStands (within w name (pushed x (Leave x.core.who))) name (pushed x (Leave x.core.who)) b
-    → NameStands (within w name (closed x)) name (closed x) (record b { departed = true })
+    → NameStands (within w name (push_entry x (Leave x.core.who))) name (push_entry x (Leave x.core.who)) b
+    → NameStands (within w name (after_closing x)) name (after_closing x) (record b { departed = true })
 gone_name w name x b log h =
-    let r = rests_at_end (pushed x (Leave x.core.who)) in
+    let r = rests_at_end (push_entry x (Leave x.core.who)) in
     record {
       begins = record {
         within = subst (λ (g : Log). g.start ≤ length w.group) (sym r.log) h.begins.within;
-        image = subst (λ (g : Log). g.image ≡ told (take g.start w.group)) (sym r.log) h.begins.image;
+        image = subst (λ (g : Log). g.image ≡ image_of (take g.start w.group)) (sym r.log) h.begins.image;
       };
       list = h.list ∙ ap (λ (g : Log). take g.start w.group ++ g.entries) (sym r.log);
       flags = record { log_ = log; stopped = h.stopped; departed = refl; leaving = h.leaving ∙ sym r.rests.leaving };
@@ -46,9 +46,9 @@ gone_name w name x b log h =
       start = λ t. h.start (sym h.log_ ∙ log) ∙ sym r.begins;
     }
 
-module _ (w : World) (e : Event) (name : ℕ) (x : Node) (step : Step) (s : Group) (is : step.node ≡ closed x) (who : x.core.who ≡ name) (few : name < 256)
+module _ (w : World) (e : Event) (name : ℕ) (x : Node) (step : Step) (s : Group) (is : step.node ≡ after_closing x) (who : x.core.who ≡ name) (few : name < 256)
     (small : (k : ℕ) (v : Decided) → slice_get w.views k ≡ Some v → v.stamp.by < 256) (log : (s.node name).has_log ≡ true)
-    (needs : NeedsClose w s name step.node) (h : StandsBut name (within w name (pushed x (Leave x.core.who)))
+    (needs : NeedsClose w s name step.node) (h : StandsBut name (within w name (push_entry x (Leave x.core.who)))
     (with_line s name (longer (s.node name) (Leave x.core.who)))) where
   t : Group
   t = record (with_line s name (record (longer (s.node name) (Leave x.core.who)) { departed = true })) {
@@ -57,51 +57,51 @@ module _ (w : World) (e : Event) (name : ℕ) (x : Node) (step : Step) (s : Grou
   }
 
   -- the node is this one's
-  same_log : step.node.core.log ≡ (pushed x (Leave x.core.who)).core.log
-  same_log = ap (λ (n : Node). n.core.log) is ∙ (rests_at_end (pushed x (Leave x.core.who))).log
+  same_log : step.node.core.log ≡ (push_entry x (Leave x.core.who)).core.log
+  same_log = ap (λ (n : Node). n.core.log) is ∙ (rests_at_end (push_entry x (Leave x.core.who))).log
 
   grown : group_after w.group step.node ≡ take needs.upto ((s.node name).list ++ Leave x.core.who ∷ [])
   grown = needs.accepted ∙ ap (λ k. take needs.upto ((s.node name).list ++ Leave k ∷ [])) (sym who)
 
-  each : (i : ℕ) → i < 256 → NameStands (stepped w e name step) i (set_at w.nodes name step.node i)
+  each : (i : ℕ) → i < 256 → NameStands (with_step w e name step) i (set_at w.nodes name step.node i)
       (put s.node name (record (longer (s.node name) (Leave x.core.who)) { departed = true }) i)
-  unfolding put stepped
+  unfolding put with_step
   each i small_ = split (i == name)
       (λ u.
       let same : i ≡ name = grind (arith, nat_tests) in
-      let mine : NameStands (within w name (pushed x (Leave x.core.who))) name (pushed x (Leave x.core.who))
+      let mine : NameStands (within w name (push_entry x (Leave x.core.who))) name (push_entry x (Leave x.core.who))
       (longer (s.node name) (Leave x.core.who)) = rw (is_itself name) at (h.each name few) in
       let gone = gone_name w name x (longer (s.node name) (Leave x.core.who)) log mine in
-      let here : NameStands (within w name (closed x)) name step.node
-      (record (longer (s.node name) (Leave x.core.who)) { departed = true }) = subst (λ (n : Node). NameStands (within w name (closed x)) name n
+      let here : NameStands (within w name (after_closing x)) name step.node
+      (record (longer (s.node name) (Leave x.core.who)) { departed = true }) = subst (λ (n : Node). NameStands (within w name (after_closing x)) name n
       (record (longer (s.node name) (Leave x.core.who)) { departed = true })) (sym is) gone in
-      let k = name_grows (within w name (closed x)) (stepped w e name step) name step.node
+      let k = name_grows (within w name (after_closing x)) (with_step w e name step) name step.node
       (record (longer (s.node name) (Leave x.core.who)) { departed = true }) needs.grows refl here in
-      let at : NameStands (stepped w e name step) i step.node
-      (record (longer (s.node name) (Leave x.core.who)) { departed = true }) = subst (λ j. NameStands (stepped w e name step) j step.node
+      let at : NameStands (with_step w e name step) i step.node
+      (record (longer (s.node name) (Leave x.core.who)) { departed = true }) = subst (λ j. NameStands (with_step w e name step) j step.node
       (record (longer (s.node name) (Leave x.core.who)) { departed = true })) (sym same) k in
       rw u at)
       (λ f.
-      let old : NameStands (within w name (pushed x (Leave x.core.who))) i (w.nodes i) (s.node i) = rw f at (h.each i small_) in
-      rw f (name_grows (within w name (pushed x (Leave x.core.who))) (stepped w e name step) i (w.nodes i) (s.node i) needs.grows refl old))
+      let old : NameStands (within w name (push_entry x (Leave x.core.who))) i (w.nodes i) (s.node i) = rw f at (h.each i small_) in
+      rw f (name_grows (within w name (push_entry x (Leave x.core.who))) (with_step w e name step) i (w.nodes i) (s.node i) needs.grows refl old))
 
-  lines : (v : Stamp) → v.by < 256 → line_of (stepped w e name step) v ≡ line_of (within w name (pushed x (Leave x.core.who))) v
-  unfolding stepped put
+  lines : (v : Stamp) → v.by < 256 → line_of (with_step w e name step) v ≡ line_of (within w name (push_entry x (Leave x.core.who))) v
+  unfolding with_step put
   lines v low = split (v.by == name)
       (λ u.
-      let p = pushed x (Leave x.core.who) in
+      let p = push_entry x (Leave x.core.who) in
       let mine : NameStands (within w name p) name p (longer (s.node name) (Leave x.core.who)) = rw (is_itself name) at (h.each name few) in
       let front = taken_more p.core.log.start w.group (group_after w.group step.node) needs.grows mine.begins.within in
       rw u (ap (λ (g : Log). up_to_next v (take g.start (group_after w.group step.node) ++ g.entries)) same_log
       ∙ ap (λ l. up_to_next v (l ++ p.core.log.entries)) front))
       (λ f.
-      let old : NameStands (within w name (pushed x (Leave x.core.who))) v.by (w.nodes v.by) (s.node v.by) = rw f at (h.each v.by low) in
+      let old : NameStands (within w name (push_entry x (Leave x.core.who))) v.by (w.nodes v.by) (s.node v.by) = rw f at (h.each v.by low) in
       let m = w.nodes v.by in
       rw f (ap (λ l. up_to_next v (l ++ m.core.log.entries))
       (taken_more m.core.log.start w.group (group_after w.group step.node) needs.grows old.begins.within)))
 
-  stands : Stands (stepped w e name step) t
-  unfolding put stepped t
+  stands : Stands (with_step w e name step) t
+  unfolding put with_step t
   stands = record {
     each = each;
     fronts = λ i small_ d. split (i == name)
@@ -110,7 +110,7 @@ module _ (w : World) (e : Event) (name : ℕ) (x : Node) (step : Step) (s : Grou
         let old : has_departed (w.nodes i).status ≡ false → FrontsStand (w.nodes i) (s.node i) = rw f at (h.fronts i small_ other) in
         let z : has_departed (w.nodes i).status ≡ false = rw f at d in
         rw f (old z)));
-    views = views_noted (within w name (pushed x (Leave x.core.who))) (stepped w e name step)
+    views = views_noted (within w name (push_entry x (Leave x.core.who))) (with_step w e name step)
         (with_line s name (longer (s.node name) (Leave x.core.who))).views needs.no_view (λ k d at. lines d.stamp (small k d at)) h.views;
     group = sym grown;
   }
@@ -133,5 +133,5 @@ close_stands w e name c x step s may leads leaves is needs h =
           ((s.node name).list ++ Leave k ∷ []);
     })) × MoveOk m) (sym who)
     (group.closes name needs.upto (record { up = up; acts = leading.acts_; by = leading.by }) (old.leaving ∙ leaves) needs.alone needs.accepts, tt) in
-    one_move (Stands (stepped w e name step)) s (t w e name x step s is may.who may.few may.noted up.log needs plain) move.0 move.1
+    one_move (Stands (with_step w e name step)) s (t w e name x step s is may.who may.few may.noted up.log needs plain) move.0 move.1
     (stands w e name x step s is may.who may.few may.noted up.log needs plain)

@@ -5,7 +5,7 @@ use Rattle.am_base.specs.declared.entry.Entry.TheVariants.{Data, Join, Leave, Vi
 use Rattle.am_base.specs.declared.image.Report.{Report}
 use Rattle.am_base.specs.declared.image.Image.{Image}
 use Rattle.am_base.specs.Names.{place_of, life_of}
-use Rattle.am_chain_lists.specs.Whole.{Begins, NotView, told, mem}
+use Rattle.am_chain_lists.specs.Whole.{Begins, NotView, image_of, mem}
 use Rattle.am_chain_lists.proofs.Prefixes.{begins_refl, begins_more, begins_trans, begins_pushed, length_push}
 use Rattle.am_chain_lists.proofs.Rows.{row_at, In}
 use Rattle.am_chain_lists.proofs.Members.{told_push, long_told, mem_in, in_mem}
@@ -26,10 +26,10 @@ no_view (Leave name) h = refl
 no_view (View stamp names resilience) h = absurd h
 
 pub mem_back : (a : List Entry) (e : Entry) (name : ℕ) → NotView e → mem (a ++ e ∷ []) name ≡ true → (mem a name ≡ true) ⊎ (e ≡ Join name)
-mem_back a e name plain h = back (became (told a) (1 + length a) e name (long_told a) (omega arith)
+mem_back a e name plain h = back (became (image_of a) (1 + length a) e name (long_told a) (omega arith)
     (subst (λ (i : Image). In (row_at i (place_of name)) (life_of name)) (told_push a e) (mem_in (a ++ e ∷ []) name h)))
   where
-    back : Becomes (told a) (1 + length a) e name → (mem a name ≡ true) ⊎ (e ≡ Join name)
+    back : Becomes (image_of a) (1 + length a) e name → (mem a name ≡ true) ⊎ (e ≡ Join name)
     back (stayed in_ same) = inl (in_mem a name in_)
     back (joins is same) = inr is
     back (founds viewed blank_ same) = absurd (let z = no_view e plain in cc)
@@ -39,8 +39,8 @@ mem_back a e name plain h = back (became (told a) (1 + length a) e name (long_to
 pub concerned_push : (list : List Entry) (e : Entry) (name : ℕ) → NotView e → IsConcerned (list ++ e ∷ []) name
     → IsConcerned list name ⊎ (e ≡ Join name)
 concerned_push list e name plain h =
-    let same : (told (list ++ e ∷ [])).view_number ≡ (told list).view_number =
-    ap (λ (i : Image). i.view_number) (told_push list e) ∙ (after_same (told list) (1 + length list) e (no_view e plain)).number in
+    let same : (image_of (list ++ e ∷ [])).view_number ≡ (image_of list).view_number =
+    ap (λ (i : Image). i.view_number) (told_push list e) ∙ (after_same (image_of list) (1 + length list) e (no_view e plain)).number in
     let from_ = h.from in
     ⊎_elim
     (λ (z : Begins h.upto list). inl (record { upto = h.upto; begins = z; from = omega arith; member = h.member }))
@@ -53,7 +53,7 @@ concerned_push list e name plain h =
 -- ---- reports
 
 -- where names have no less, and who is concerned above the base was so before
-pub reporting_on : (node after_ : ℕ → groups.Node) (list : List Entry) (e : Entry) (base : ℕ) (reports : ℕ → Report)
+reporting_on : (node after_ : ℕ → groups.Node) (list : List Entry) (e : Entry) (base : ℕ) (reports : ℕ → Report)
     → ((name : ℕ) → base < (reports name).stored → IsConcerned (list ++ e ∷ []) name → IsConcerned list name)
     → ((i : ℕ) → Begins (node i).list (after_ i).list) → Reporting node list base reports → Reporting after_ (list ++ e ∷ []) base reports
 reporting_on node after_ list e base reports before grow r = record {
@@ -64,13 +64,25 @@ reporting_on node after_ list e base reports before grow r = record {
       (begins_trans (r.true_ name few (before name above concerned) above) (grow name));
 }
 
--- and a report of one that joins is at the base
+-- one that joins is concerned anew, and its report is at the base
+pub reporting_joins : (node after_ : ℕ → groups.Node) (list : List Entry) (e : Entry) (base : ℕ) (reports : ℕ → Report)
+    → ((name : ℕ) → IsConcerned (list ++ e ∷ []) name → IsConcerned list name ⊎ ((e ≡ Join name) ⊎ (list ≡ [])))
+    → ((i : ℕ) → Begins (node i).list (after_ i).list) → ((i : ℕ) → e ≡ Join i → (reports i).stored ≤ base)
+    → Reporting node list base reports → Reporting after_ (list ++ e ∷ []) base reports
+reporting_joins node after_ list e base reports before grow fresh r = reporting_on node after_ list e base reports
+    (λ name above concerned. ⊎_elim
+    (λ (z : IsConcerned list name). z)
+    (λ (z : (e ≡ Join name) ⊎ (list ≡ [])). absurd (⊎_elim
+    (λ (y : e ≡ Join name). (let low = fresh name y in let x : ⊥ = omega arith in x))
+    (λ (y : list ≡ []). (let low = r.within name in let none = ap length y in let x : ⊥ = omega arith in x))
+    z))
+    (before name concerned))
+    grow r
+
 pub reporting_push : (node after_ : ℕ → groups.Node) (list : List Entry) (e : Entry) (base : ℕ) (reports : ℕ → Report) → NotView e
     → ((i : ℕ) → Begins (node i).list (after_ i).list) → ((i : ℕ) → e ≡ Join i → (reports i).stored ≤ base)
     → Reporting node list base reports → Reporting after_ (list ++ e ∷ []) base reports
-reporting_push node after_ list e base reports plain grow fresh r = reporting_on node after_ list e base reports
-    (λ name above concerned. ⊎_elim
-    (λ (z : IsConcerned list name). z)
-    (λ (z : e ≡ Join name). absurd (let low = fresh name z in omega arith))
+reporting_push node after_ list e base reports plain = reporting_joins node after_ list e base reports (λ name concerned. ⊎_elim
+    (λ (z : IsConcerned list name). inl z)
+    (λ (z : e ≡ Join name). inr (inl z))
     (concerned_push list e name plain concerned))
-    grow r

@@ -12,20 +12,20 @@ use Rattle.am_base.specs.Lists.{Log}
 use Rattle.am_chain_lists.specs.Whole.{key}
 use Rattle.am_chain_moves.specs.Group as groups
 use Rattle.am_chain_moves.specs.Group.{Group, Views, put, opening}
-use Rattle.am_chain_moves.specs.Moves.{Move, with_choice, choice_of}
+use Rattle.am_chain_moves.specs.Moves.{with_choice, choice_of}
 use Rattle.am_chain_moves.specs.Moves as group
 use Rattle.am_chain_moves.proofs.Puts.{put_same}
 use Rattle.am_model.specs.Node as nodes
-use Rattle.am_model.specs.Node.{Node, Ballot, view, members, pushed, set_at}
+use Rattle.am_model.specs.Node.{Node, Ballot, view, members, push_entry}
 use Rattle.am_base.specs.declared.outcome.Outcome.TheVariants as said
-use Rattle.am_model.specs.Ballots.{need_of, left_in, restarted, finished}
+use Rattle.am_model.specs.Ballots.{need_of, left_in, restart_reports, with_end}
 use Rattle.am_model.specs.World.{Decided, World, last_view}
 use Rattle.am_model.specs.Lawful.{whole, is_view_of}
 use Rattle.am_model.specs.Claims.{up_to_view, up_to_next, line_of}
 use Rattle.am_model.proofs.Greatest.{split}
 use Rattle.am_effects.specs.Causes.{Cause}
 use Rattle.am_effects.specs.Looks as looks
-use Rattle.am_effects.specs.Looks.{MayDecide, HasOpen, Balloting, with_more, without_one, as_it_is}
+use Rattle.am_effects.specs.Looks.{HasOpen, Balloting, with_more, without_one, as_it_is}
 use Rattle.am_effects.proofs.Items.{get_front, get_last, get_push}
 use Rattle.am_effects.proofs.Says.{told_pushed}
 use Rattle.am_laws.proofs.ViewSteps.{after_view}
@@ -71,7 +71,7 @@ looked_promise w name c x b s may (as_it_is old o on) = open_promise w name c x 
 
 module _ (w : World) (name : ℕ) (x y : Node) (a : groups.Node) (views : Views) (v : Stamp) (names : List ℕ) (r : ℕ)
     (promised : a.promise ≡ v) (mine : v.by ≡ name) (old : NameStands (within w name x) name x a)
-    (log : y.core.log ≡ (pushed x (View v names r)).core.log) (same_members : members y ≡ names)
+    (log : y.core.log ≡ (push_entry x (View v names r)).core.log) (same_members : members y ≡ names)
     (fresh : views.decided (key v) ≡ false) (unseen : list_any (is_view_of v) a.list ≡ false) (h : ViewsStand (within w name x) views) where
   e : Entry
   e = View v names r
@@ -92,17 +92,17 @@ module _ (w : World) (name : ℕ) (x y : Node) (a : groups.Node) (views : Views)
   is_whole = ap (λ (g : Log). take g.start w.group ++ g.entries) log
       ∙ sym (append_assoc (take x.core.log.start w.group) x.core.log.entries (View v names r ∷ [])) ∙ ap (λ l. l ++ View v names r ∷ []) (sym old.list)
 
-  told_is : nodes.told y ≡ nodes.told (pushed x (View v names r))
-  told_is = ap (λ (g : Log). nodes.told (record y { core = record (y.core) { log = g } })) log
+  told_is : nodes.image_of y ≡ nodes.image_of (push_entry x (View v names r))
+  told_is = ap (λ (g : Log). nodes.image_of (record y { core = record (y.core) { log = g } })) log
 
   is_stamp : view y ≡ v
-  is_stamp = ap (λ (i : Image). i.view) (told_is ∙ told_pushed x (View v names r)) ∙ (after_view (nodes.told x) (nodes.top x + 1) v names r).0
+  is_stamp = ap (λ (i : Image). i.view) (told_is ∙ told_pushed x (View v names r)) ∙ (after_view (nodes.image_of x) (nodes.top x + 1) v names r).0
 
-  is_number : (nodes.told y).view_number ≡ nodes.top x + 1
-  is_number = ap (λ (i : Image). i.view_number) (told_is ∙ told_pushed x (View v names r)) ∙ (after_view (nodes.told x) (nodes.top x + 1) v names r).1
+  is_number : (nodes.image_of y).view_number ≡ nodes.top x + 1
+  is_number = ap (λ (i : Image). i.view_number) (told_is ∙ told_pushed x (View v names r)) ∙ (after_view (nodes.image_of x) (nodes.top x + 1) v names r).1
 
-  is_resilience : (nodes.told y).resilience ≡ r
-  is_resilience = ap (λ (i : Image). i.resilience) (told_is ∙ told_pushed x (View v names r)) ∙ (after_view (nodes.told x) (nodes.top x + 1) v names r).2
+  is_resilience : (nodes.image_of y).resilience ≡ r
+  is_resilience = ap (λ (i : Image). i.resilience) (told_is ∙ told_pushed x (View v names r)) ∙ (after_view (nodes.image_of x) (nodes.top x + 1) v names r).2
 
   long : length a.list ≡ nodes.top x
   long = long_all (within w name x) name x a old
@@ -127,10 +127,7 @@ module _ (w : World) (name : ℕ) (x y : Node) (a : groups.Node) (views : Views)
       (λ g. rw g refl) in
       record {
         decided = rw other n.decided;
-        stamp = rw other n.stamp;
-        members = rw other n.members;
-        resilience = rw other n.resilience;
-        number = rw other n.number;
+        chose = rw other n.chose;
         line = rw other (n.line ∙ sym stays);
         opens = rw other n.opens;
       }
@@ -148,10 +145,12 @@ module _ (w : World) (name : ℕ) (x y : Node) (a : groups.Node) (views : Views)
       ∙ line_opens v a.list names r unseen in
       record {
         decided = rw t refl;
-        stamp = rw t (promised ∙ sym is_stamp);
-        members = rw t (sym same_members);
-        resilience = rw t (sym is_resilience);
-        number = rw t (omega (arith, long, is_number));
+        chose = record {
+          stamp = rw t (promised ∙ sym is_stamp);
+          members = rw t (sym same_members);
+          resilience = rw t (sym is_resilience);
+          number = rw t (omega (arith, long, is_number));
+        };
         line = rw t (opened_ ∙ sym line_);
         opens = rw t (record { rest = []; same = append-nil (opening (choice_of a names r)) });
       }
@@ -175,14 +174,14 @@ module _ (w : World) (name : ℕ) (x y : Node) (a : groups.Node) (views : Views)
 
 pub decision_stands : (w : World) (name : ℕ) (c : Cause) (x : Node) (b : Ballot) (s : Group) → MayMove w name c x s → Balloting c x b
     → NeedsDecision s name x b → StandsBut name (within w name x) s
-    → Onto name (within (noting w (last_view (restarted (looks.view_of x b)))) name
-    (record (restarted (looks.view_of x b)) { ballot = Some (finished b (said.Decided (nodes.top x + 1) (left_in b (need_of x b)))) })) s
+    → Onto name (within (noting w (last_view (restart_reports (looks.view_of x b)))) name
+    (record (restart_reports (looks.view_of x b)) { ballot = Some (with_end b (said.Decided (nodes.top x + 1) (left_in b (need_of x b)))) })) s
 unfolding next made
 decision_stands w name c x b s may why needs h =
     let names = left_in b (need_of x b) in
-    let r = max b.resilience (nodes.told x).resilience in
-    let y = record (restarted (looks.view_of x b)) { ballot = Some (finished b (said.Decided (nodes.top x + 1) names)) } in
-    let w2 = noting w (last_view (restarted (looks.view_of x b))) in
+    let r = max b.resilience (nodes.image_of x).resilience in
+    let y = record (restart_reports (looks.view_of x b)) { ballot = Some (with_end b (said.Decided (nodes.top x + 1) names)) } in
+    let w2 = noting w (last_view (restart_reports (looks.view_of x b))) in
     let a = s.node name in
     let old = own_name w name x s may.few h in
     let same = looked_promise w name c x b s may why in

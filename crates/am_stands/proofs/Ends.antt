@@ -5,7 +5,7 @@ use Rattle.std.proofs.lemmas.Bool.Decides.{nat_tests}
 use Rattle.am_base.specs.declared.entry.Entry.{Entry}
 use Rattle.am_base.specs.declared.name.Stamp.{Stamp}
 use Rattle.am_group.specs.declared.event.Event.{Event}
-use Rattle.am_chain_lists.specs.Whole.{Begins, told}
+use Rattle.am_chain_lists.specs.Whole.{Begins, image_of}
 use Rattle.am_chain_lists.proofs.Prefixes.{begins_length}
 use Rattle.am_chain_moves.specs.Group as groups
 use Rattle.am_chain_moves.specs.Group.{Group, put}
@@ -13,7 +13,7 @@ use Rattle.am_chain_moves.specs.Moves.{Move, with_node}
 use Rattle.am_chain_moves.specs.Moves as group
 use Rattle.am_model.specs.Node.{Node, set_at}
 use Rattle.am_model.specs.Emit.{Step}
-use Rattle.am_model.specs.World.{Decided, World, is_stopped, has_departed, group_after, views_after, stepped}
+use Rattle.am_model.specs.World.{Decided, World, is_stopped, has_departed, group_after, views_after, with_step}
 use Rattle.am_model.specs.Claims.{up_to_next, line_of}
 use Rattle.am_model.proofs.Greatest.{split}
 use Rattle.am_stands.specs.Standing.{NameStands, FrontsStand, ViewsStand, Stands}
@@ -38,7 +38,7 @@ name_grows w v i m a grows stopped h =
     let more = begins_length grows in
     let same = taken_more m.core.log.start w.group v.group grows low in
     record {
-      begins = record { within = omega arith; image = h.begins.image ∙ ap told (sym same) };
+      begins = record { within = omega arith; image = h.begins.image ∙ ap image_of (sym same) };
       list = h.list ∙ ap (λ l. l ++ m.core.log.entries) (sym same);
       flags = record { log_ = h.log_; stopped = h.stopped ∙ sym stopped; departed = h.departed; leaving = h.leaving };
       promise = h.promise;
@@ -53,19 +53,19 @@ module _ (w : World) (e : Event) (name : ℕ) (step : Step) where
   before = before_end w name step.node
 
   after_ : World
-  after_ = stepped w e name step
+  after_ = with_step w e name step
 
   each_grows : (s : Group) → Begins w.group (group_after w.group step.node)
       → ((i : ℕ) → i < 256 → NameStands (before_end w name step.node) i ((before_end w name step.node).nodes i) (s.node i))
-      → (i : ℕ) → i < 256 → NameStands (stepped w e name step) i ((stepped w e name step).nodes i) (s.node i)
-  unfolding stepped
-  each_grows s grows h i few = name_grows (before_end w name step.node) (stepped w e name step) i (set_at w.nodes name step.node i) (s.node i) grows refl
+      → (i : ℕ) → i < 256 → NameStands (with_step w e name step) i ((with_step w e name step).nodes i) (s.node i)
+  unfolding with_step
+  each_grows s grows h i few = name_grows (before_end w name step.node) (with_step w e name step) i (set_at w.nodes name step.node i) (s.node i) grows refl
       (h i few)
 
   lines_grow : (s : Group) → Begins w.group (group_after w.group step.node)
       → ((i : ℕ) → i < 256 → NameStands (before_end w name step.node) i ((before_end w name step.node).nodes i) (s.node i))
-      → (v : Stamp) → v.by < 256 → line_of (stepped w e name step) v ≡ line_of (before_end w name step.node) v
-  unfolding stepped
+      → (v : Stamp) → v.by < 256 → line_of (with_step w e name step) v ≡ line_of (before_end w name step.node) v
+  unfolding with_step
   lines_grow s grows h v few =
       let m = set_at w.nodes name step.node v.by in
       ap (λ l. up_to_next v (l ++ m.core.log.entries)) (taken_more m.core.log.start w.group (group_after w.group step.node) grows (h v.by few).begins.within)
@@ -73,9 +73,9 @@ module _ (w : World) (e : Event) (name : ℕ) (step : Step) where
   views_grow : (s : Group) → Begins w.group (group_after w.group step.node)
       → ((k : ℕ) (v : Decided) → slice_get (views_after w.views (w.nodes name) step.node) k ≡ Some v → v.stamp.by < 256)
       → ((i : ℕ) → i < 256 → NameStands (before_end w name step.node) i ((before_end w name step.node).nodes i) (s.node i))
-      → ViewsStand (before_end w name step.node) s.views → ViewsStand (stepped w e name step) s.views
-  unfolding stepped
-  views_grow s grows small each h = views_noted (before_end w name step.node) (stepped w e name step) s.views refl
+      → ViewsStand (before_end w name step.node) s.views → ViewsStand (with_step w e name step) s.views
+  unfolding with_step
+  views_grow s grows small each h = views_noted (before_end w name step.node) (with_step w e name step) s.views refl
       (λ k d at. lines_grow s grows each d.stamp (small k d at)) h
 
 -- ---- what is accepted
@@ -96,16 +96,16 @@ is_itself name = grind (arith, nat_tests)
 
 -- all stands, but for the name's own fronts
 record Ended (w : World) (e : Event) (name : ℕ) (step : Step) (s : Group) : Type 0 where
-  each : (i : ℕ) → i < 256 → NameStands (stepped w e name step) i (set_at w.nodes name step.node i) (s.node i)
+  each : (i : ℕ) → i < 256 → NameStands (with_step w e name step) i (set_at w.nodes name step.node i) (s.node i)
   fronts : (i : ℕ) → i < 256 → i ≢ name → has_departed (set_at w.nodes name step.node i).status ≡ false
       → FrontsStand (set_at w.nodes name step.node i) (s.node i)
-  views : ViewsStand (stepped w e name step) s.views
+  views : ViewsStand (with_step w e name step) s.views
   group_ : s.group ≡ group_after w.group step.node
 
 -- and with them
 all_stands : (w : World) (e : Event) (name : ℕ) (step : Step) (s : Group) → Ended w e name step s
-    → (has_departed step.node.status ≡ false → FrontsStand step.node (s.node name)) → Stands (stepped w e name step) s
-unfolding stepped
+    → (has_departed step.node.status ≡ false → FrontsStand step.node (s.node name)) → Stands (with_step w e name step) s
+unfolding with_step
 all_stands w e name step s h own = record {
   each = h.each;
   fronts = λ i few. split (i == name)
@@ -124,9 +124,9 @@ unfolding put
 learned w e name step s told_ acc_ h = record {
   each = λ i few. split (i == name)
       (λ t. (let same : i ≡ name = grind (arith, nat_tests) in
-      let old : NameStands (stepped w e name step) i (set_at w.nodes name step.node i)
-      (s.node name) = subst (λ k. NameStands (stepped w e name step) i (set_at w.nodes name step.node i) (s.node k)) same (h.each i few) in
-      let new : NameStands (stepped w e name step) i (set_at w.nodes name step.node i)
+      let old : NameStands (with_step w e name step) i (set_at w.nodes name step.node i)
+      (s.node name) = subst (λ k. NameStands (with_step w e name step) i (set_at w.nodes name step.node i) (s.node k)) same (h.each i few) in
+      let new : NameStands (with_step w e name step) i (set_at w.nodes name step.node i)
       (record (s.node name) { told = told_; acc = acc_ }) = record {
         begins = old.begins;
         list = old.list;
@@ -135,9 +135,9 @@ learned w e name step s told_ acc_ h = record {
         ballot = old.ballot;
         start = old.start;
       } in
-      subst (λ (a : groups.Node). NameStands (stepped w e name step) i (set_at w.nodes name step.node i) a)
+      subst (λ (a : groups.Node). NameStands (with_step w e name step) i (set_at w.nodes name step.node i) a)
       (λ j. if sym t j then record (s.node name) { told = told_; acc = acc_ } else s.node i) new))
-      (λ f. subst (λ (a : groups.Node). NameStands (stepped w e name step) i (set_at w.nodes name step.node i) a)
+      (λ f. subst (λ (a : groups.Node). NameStands (with_step w e name step) i (set_at w.nodes name step.node i) a)
       (λ j. if sym f j then record (s.node name) { told = told_; acc = acc_ } else s.node i) (h.each i few));
   fronts = λ i few other. split (i == name)
       (λ t. absurd (let same : i ≡ name = grind (arith, nat_tests) in other same))
@@ -153,15 +153,15 @@ unfolding put
 own_fronts n name s told_ low = rw (is_itself name) (record { told = low; acc = refl })
 
 learn_stands : (w : World) (e : Event) (name : ℕ) (step : Step) (s : Group) → s.group ≡ group_after w.group step.node → Ended w e name step s
-    → (name < 256) → Learns w s name step.node → Leads (Stands (stepped w e name step)) s
-learn_stands w e name step s same h few (departed d) = no_move (Stands (stepped w e name step)) s (all_stands w e name step s h (λ f. absurd (cc)))
-learn_stands w e name step s same h few (bare f) = no_move (Stands (stepped w e name step)) s (all_stands w e name step s h (λ d. f))
+    → (name < 256) → Learns w s name step.node → Leads (Stands (with_step w e name step)) s
+learn_stands w e name step s same h few (departed d) = no_move (Stands (with_step w e name step)) s (all_stands w e name step s h (λ f. absurd (cc)))
+learn_stands w e name step s same h few (bare f) = no_move (Stands (with_step w e name step)) s (all_stands w e name step s h (λ d. f))
 learn_stands w e name step s same h few (learns m) =
     let n = step.node in
     let told_ = max (s.node name).told n.core.told in
     let long : told_ ≤ length s.group = subst (λ (g : List Entry). told_ ≤ length g) (sym same) m.told in
     let t = with_node s name (record (s.node name) { told = told_; acc = n.core.acc }) in
-    one_move (Stands (stepped w e name step)) s t (group.learns name told_ n.core.acc m.up (omega arith) long m.before m.up_to m.given m.within) tt
+    one_move (Stands (with_step w e name step)) s t (group.learns name told_ n.core.acc m.up (omega arith) long m.before m.up_to m.given m.within) tt
     (all_stands w e name step t (learned w e name step s told_ n.core.acc h) (λ d. own_fronts n name s told_ (omega arith)))
 
 -- ---- the end
@@ -173,7 +173,7 @@ same_learns w s g name n (bare f) = bare f
 same_learns w s g name n (learns m) = learns (record { up = m.up; told = m.told; before = m.before; up_to = m.up_to; given = m.given; within = m.within })
 
 pub ends_stand : EndsStand
-unfolding stepped
+unfolding with_step
 ends_stand w e name step s needs h =
     let n = step.node in
     let g = group_after w.group n in

@@ -9,7 +9,7 @@ use Rattle.am_base.specs.declared.entry.Entry.TheVariants.{View}
 use Rattle.am_base.specs.Names.{rank_of}
 use Rattle.am_base.specs.Stamps.{stamp_eq}
 use Rattle.am_base.specs.Lists.{Log, fits}
-use Rattle.am_chain_lists.specs.Whole.{Begins, told, view_of, key}
+use Rattle.am_chain_lists.specs.Whole.{Begins, image_of, view_of, key}
 use Rattle.am_chain_lists.proofs.Order.{key_by}
 use Rattle.am_chain_lists.proofs.Prefixes.{begins_trans, begins_more}
 use Rattle.am_chain_moves.specs.Group as groups
@@ -17,7 +17,7 @@ use Rattle.am_chain_moves.specs.Group.{Group, Views, put, IsUp, opening}
 use Rattle.am_chain_moves.specs.Moves.{Move, with_node, with_line, longer}
 use Rattle.am_chain_moves.specs.Moves as group
 use Rattle.am_chain_moves.proofs.Puts.{put_same}
-use Rattle.am_model.specs.Node.{Node, view, is_member, acts, is_sequencer, pushed}
+use Rattle.am_model.specs.Node.{Node, view, is_member, acts, is_sequencer, push_entry}
 use Rattle.am_model.specs.Calls.{is_unfinished}
 use Rattle.am_model.specs.Receiving.{is_view}
 use Rattle.am_model.specs.Group.{has_log}
@@ -25,7 +25,7 @@ use Rattle.am_model.specs.World.{Decided, World, is_stopped, has_departed}
 use Rattle.am_model.specs.Lawful.{whole}
 use Rattle.am_model.specs.Claims.{up_to_next, line_of}
 use Rattle.am_model.proofs.Greatest.{split, and_both}
-use Rattle.am_model.specs.Joining.{begun}
+use Rattle.am_model.specs.Joining.{begin_list}
 use Rattle.am_effects.specs.Causes.{Cause}
 use Rattle.am_effects.specs.Changes.{Numbers, asked_send, own_send, asked_join, asked_leave}
 use Rattle.am_laws.proofs.Stamps.{same_stamp}
@@ -39,7 +39,7 @@ use Rattle.am_stands.proofs.Lines.{HasViewOf, next_of_list, line_stays, line_end
 -- ---- one entry more
 
 pub record Longer (x y : Node) (e : Entry) : Type 0 where
-  pub log : y.core.log ≡ (pushed x e).core.log
+  pub log : y.core.log ≡ (push_entry x e).core.log
   pub stays : y.status ≡ x.status
   pub leaving : y.leaving ≡ x.leaving
   pub promise : y.core.promise ≡ x.core.promise
@@ -55,7 +55,7 @@ pub name_longer : (w : World) (name : ℕ) (x y : Node) (e : Entry) (a : groups.
 name_longer w name x y e a l h = record {
   begins = record {
     within = subst (λ (g : Log). g.start ≤ length w.group) (sym l.log) h.begins.within;
-    image = subst (λ (g : Log). g.image ≡ told (take g.start w.group)) (sym l.log) h.begins.image;
+    image = subst (λ (g : Log). g.image ≡ image_of (take g.start w.group)) (sym l.log) h.begins.image;
   };
   list = ap (λ k. k ++ e ∷ []) h.list ∙ sym (whole_longer w name x y e l);
   flags = record {
@@ -219,9 +219,9 @@ is_leading w name x a who leads old =
 pub numbered_stands : (w : World) (name : ℕ) (x : Node) (e : Entry) (s : Group) → name < 256 → IsLeading name x (s.node name)
     → ((k : ℕ) (v : Decided) → slice_get w.views k ≡ Some v → v.stamp.by < 256) → is_view e ≡ false
     → s.views.line (key (view_of (s.node name).list)) ≡ (s.node name).list
-    → StandsBut name (within w name x) s → StandsBut name (within w name (pushed x e)) (with_line s name (longer (s.node name) e))
+    → StandsBut name (within w name x) s → StandsBut name (within w name (push_entry x e)) (with_line s name (longer (s.node name) e))
 numbered_stands w name x e s few leading small plain chain h =
-    let y = pushed x e in
+    let y = push_entry x e in
     let a = s.node name in
     let old = own_name w name x s few h in
     let l : Longer x y e = record { log = refl; stays = refl; leaving = refl; promise = refl; ballot = refl; start = refl } in
@@ -234,13 +234,13 @@ numbered_stands w name x e s few leading small plain chain h =
     }
 
 pub number_stands : (w : World) (name : ℕ) (c : Cause) (x : Node) (e : Entry) (s : Group) → MayMove w name c x s → is_sequencer x ≡ true → Numbers c x e
-    → NeedsNumber s name x e → StandsBut name (within w name x) s → Onto name (within w name (pushed x e)) s
+    → NeedsNumber s name x e → StandsBut name (within w name x) s → Onto name (within w name (push_entry x e)) s
 number_stands w name c x e s may leads why needs h =
-    let y = pushed x e in
+    let y = push_entry x e in
     let a = s.node name in
     let old = own_name w name x s may.few h in
     let leading = is_leading w name x a may.who leads old in
-    let fit : fits (told a.list) e ≡ true = ap (λ (i : Image). fits i e) (told_whole w name name x a old) ∙ needs.fit in
+    let fit : fits (image_of a.list) e ≡ true = ap (λ (i : Image). fits i e) (told_whole w name name x a old) ∙ needs.fit in
     onto_move name (within w name y) s (with_line s name (longer a e))
     (group.numbers name e (record { up = is_up w name x a may.runs leading.member old; acts = leading.acts_; by = leading.by }) fit needs.may) needs.named
     (longer a e) (put_same s.node name (longer a e)) refl refl (numbered_stands w name x e s may.few leading may.noted (numbers_plain c x e why) needs.chain h)
@@ -253,10 +253,10 @@ none_opens (x ∷ before) e h = let z = h.same in absurd (cc)
 
 pub welcome_stands : (w : World) (name : ℕ) (c : Cause) (x : Node) (v : Stamp) (base join : ℕ) (image : Image) (s : Group) → MayMove w name c x s
     → NeedsWelcome s name v base join image → StandsBut name (within w name x) s
-    → Leads (λ t. StandsBut name (within w name (begun x v base join image)) t × FrontsBegin name base t) s
+    → Leads (λ t. StandsBut name (within w name (begin_list x v base join image)) t × FrontsBegin name base t) s
 unfolding up_to_next
 welcome_stands w name c x v base join image s may needs h =
-    let y = begun x v base join image in
+    let y = begin_list x v base join image in
     let old = own_name w name x s may.few h in
     let a = s.node name in
     let b = record a { list = take base s.group; has_log = true; start = join; promise = v; told = base; acc = base } in
@@ -274,7 +274,7 @@ welcome_stands w name c x v base join image s may needs h =
     one_move (λ t. StandsBut name (within w name y) t × FrontsBegin name base t) s (with_node s name b) (group.welcomes name v base join needs.may) tt (
       record {
         each = each_within w name x y s b (λ k. record {
-          begins = record { within = subst (λ (g : List Entry). base ≤ length g) h.group needs.within; image = needs.image_ ∙ ap told all_of };
+          begins = record { within = subst (λ (g : List Entry). base ≤ length g) h.group needs.within; image = needs.image_ ∙ ap image_of all_of };
           list = all_of ∙ sym (append-nil (take base w.group));
           flags = record { log_ = refl; stopped = k.stopped; departed = needs.may.there.stays; leaving = k.leaving };
           promise = refl;

@@ -8,13 +8,13 @@ use Rattle.am_base.specs.declared.outcome.Outcome.{Outcome}
 use Rattle.am_base.specs.declared.outcome.Outcome.TheVariants as said
 use Rattle.am_base.specs.declared.entry.Entry.{Entry}
 use Rattle.am_group.specs.declared.event.Event.{Event}
-use Rattle.am_chain_lists.specs.Whole.{told}
+use Rattle.am_chain_lists.specs.Whole.{image_of}
 use Rattle.am_chain_moves.specs.Group as groups
 use Rattle.am_chain_moves.specs.Group.{Group, put}
 use Rattle.am_chain_moves.specs.Moves.{with_node}
 use Rattle.am_model.specs.Node.{Node, set_at}
 use Rattle.am_model.specs.Claims.{up_to_next}
-use Rattle.am_model.specs.World.{World, current, is_stopped, has_departed, unchanged, lives_on}
+use Rattle.am_model.specs.World.{World, current, is_stopped, has_departed, with_record, lives_on}
 use Rattle.am_model.proofs.Greatest.{split}
 use Rattle.am_effects.specs.Events.{actor, idles, stops, returns, steps}
 use Rattle.am_stands.specs.Standing.{NameStands, FrontsStand, Stands}
@@ -23,12 +23,12 @@ use Rattle.am_stands.proofs.Names.{name_in, views_in}
 
 -- ---- a record more
 
-recorded : (w : World) (e : Event) (o : Outcome) (s : Group) → Stands w s → Stands (unchanged w e o) s
-unfolding unchanged
+recorded : (w : World) (e : Event) (o : Outcome) (s : Group) → Stands w s → Stands (with_record w e o) s
+unfolding with_record
 recorded w e o s h = record {
-  each = λ i few. name_in w (unchanged w e o) i (w.nodes i) (s.node i) refl refl (h.each i few);
+  each = λ i few. name_in w (with_record w e o) i (w.nodes i) (s.node i) refl refl (h.each i few);
   fronts = h.fronts;
-  views = views_in w (unchanged w e o) s.views refl (λ stamp. refl) h.views;
+  views = views_in w (with_record w e o) s.views refl (λ stamp. refl) h.views;
   group = h.group;
 }
 
@@ -50,7 +50,7 @@ with_stop : (w v : World) (i : ℕ) (m : Node) (a : groups.Node) → v.group ≡
 with_stop w v i m a group_ now h = record {
   begins = record {
     within = subst (λ (g : List Entry). m.core.log.start ≤ length g) (sym group_) h.begins.within;
-    image = h.begins.image ∙ ap (λ (g : List Entry). told (take m.core.log.start g)) (sym group_);
+    image = h.begins.image ∙ ap (λ (g : List Entry). image_of (take m.core.log.start g)) (sym group_);
   };
   list = h.list ∙ ap (λ (g : List Entry). take m.core.log.start g ++ m.core.log.entries) (sym group_);
   flags = record { log_ = h.log_; stopped = sym now; departed = h.departed; leaving = h.leaving };
@@ -94,12 +94,12 @@ stopped_more w v name s nodes group_ views stopped h =
 
 -- ---- each event that no node does
 
-pub idle_stands : (w : World) (e : Event) (o : Outcome) (s : Group) → Stands w s → EventStands (unchanged w e o) s
+pub idle_stands : (w : World) (e : Event) (o : Outcome) (s : Group) → Stands w s → EventStands (with_record w e o) s
 idle_stands w e o s h = no_move (recorded w e o s h)
 
 pub stop_stands : (w : World) (e : Event) (o : Outcome) (name : ℕ) (s : Group) → Stands w s
-    → EventStands (unchanged (record w { stopped = w.stopped ++ name ∷ [] }) e o) s
-unfolding unchanged
+    → EventStands (with_record (record w { stopped = w.stopped ++ name ∷ [] }) e o) s
+unfolding with_record
 stop_stands w e o name s h =
     let v = record w { stopped = w.stopped ++ name ∷ [] } in
     let next = with_node s name (record (s.node name) { stopped = true }) in
@@ -117,13 +117,13 @@ same_lives w v s nodes group_ views stopped h = record {
   group = h.group ∙ sym group_;
 }
 
-pub return_stands : (w : World) (e : Event) (o : Outcome) (place : ℕ) (s : Group) → Stands w s → EventStands (lives_on (unchanged w e o) place) s
-unfolding unchanged
+pub return_stands : (w : World) (e : Event) (o : Outcome) (place : ℕ) (s : Group) → Stands w s → EventStands (lives_on (with_record w e o) place) s
+unfolding with_record
 return_stands w e o place s h =
     by_stop (is_stopped w (current w place))
   where
     after_ : List ℕ → World
-    after_ names = record (unchanged w e o) { lives = set_at w.lives place (w.lives place + 1); stopped = names }
+    after_ names = record (with_record w e o) { lives = set_at w.lives place (w.lives place + 1); stopped = names }
 
     by_stop : (b : Bool) → EventStands (after_ (if b then w.stopped else w.stopped ++ current w place ∷ [])) s
     by_stop true = no_move (same_lives w (after_ w.stopped) s refl refl refl refl h)

@@ -11,15 +11,15 @@ use Rattle.am_base.specs.Lists.{top_of, members_of, members_at, row_of}
 use Rattle.am_core.specs.Cores.{unions}
 use Rattle.am_core.proofs.Lives.{unions_long, unions_most, unions_least}
 use Rattle.am_fronts.proofs.Leaders.{least_in}
-use Rattle.am_chain_lists.specs.Whole.{Begins, IsGood, told, mem}
+use Rattle.am_chain_lists.specs.Whole.{Begins, image_of, mem}
 use Rattle.am_chain_lists.proofs.Prefixes.{begins_refl, begins_more, begins_trans, begins_both, begins_take, length_push, length_take}
 use Rattle.am_chain_lists.proofs.Rows.{by_cases, mod16}
 use Rattle.am_chain_lists.proofs.Members.{good_begins, long_told, mem_between, leaver_out}
 use Rattle.am_chain_moves.specs.Group as groups
-use Rattle.am_chain_moves.specs.Group.{Group, IsThere, chain_of}
+use Rattle.am_chain_moves.specs.Group.{Group, IsThere}
 use Rattle.am_model.specs.Node as nodes
 use Rattle.am_model.specs.Node.{Node, is_sequencer, only_name}
-use Rattle.am_model.specs.Refresh.{concerned}
+use Rattle.am_model.specs.Refresh.{concerned_names}
 use Rattle.am_model.specs.Joining.{all_stored, may_go}
 use Rattle.am_model.specs.Sequencing.{row_at}
 use Rattle.am_model.specs.World.{World}
@@ -31,14 +31,14 @@ use Rattle.am_stands.specs.States.{ReportsStand, LeftOut}
 use Rattle.am_stands.proofs.Changes.{told_all, long_all}
 use Rattle.am_stands.proofs.Leaving.{LeavesAt, by_leave, by_view, leaves_at}
 use Rattle.am_stands.proofs.Parts.{image_whole, number_low}
-use Rattle.am_stands.proofs.Sent.{Speaks, leading}
+use Rattle.am_stands.proofs.Sent.{OnChain, on_chain, Speaks}
 use Rattle.am_stands.proofs.Votes.{only_one}
 
 -- ---- who is concerned, by numbers
 
 -- a member at each number from what is accepted on is one of those whose reports hold back
 pub concerned_has : (v : World) (i : ℕ) (n : Node) (a : groups.Node) (j : ℕ) → NameStands v i n a → n.core.log.start ≤ n.core.acc → n.core.acc ≤ nodes.top n
-    → ((k : ℕ) → n.core.acc ≤ k → k ≤ nodes.top n → mem (take k a.list) j ≡ true) → has (concerned n) j ≡ true
+    → ((k : ℕ) → n.core.acc ≤ k → k ≤ nodes.top n → mem (take k a.list) j ≡ true) → has (concerned_names n) j ≡ true
 unfolding mem
 concerned_has v i n a j h low high each =
     let log = n.core.log in
@@ -54,7 +54,7 @@ concerned_has v i n a j h low high each =
     let is : slice_index (unions log acc more) place ≡ life_of j = omega arith in
     grind (arith, nat_tests)
 
-pub concerned_long : (v : World) (i : ℕ) (n : Node) (a : groups.Node) → NameStands v i n a → n.core.log.start ≤ n.core.acc → length (concerned n) ≡ 16
+pub concerned_long : (v : World) (i : ℕ) (n : Node) (a : groups.Node) → NameStands v i n a → n.core.log.start ≤ n.core.acc → length (concerned_names n) ≡ 16
 concerned_long v i n a h low =
     unions_long n.core.log n.core.acc (top_of n.core.log - n.core.acc)
     (ap (λ (g : Image). length g.rows) (image_whole v i n.core.acc n a h low) ∙ long_told (take n.core.acc a.list))
@@ -99,25 +99,18 @@ pub record MayLetGo (v : World) (i : ℕ) (n : Node) (s : Group) : Type 0 where
   pub kept : n.core.log.start ≤ n.core.base
   pub base : n.core.base ≤ n.core.acc
   pub within : n.core.acc ≤ nodes.top n
-  pub names : (j : ℕ) → has (concerned n) j ≡ true → j < 256
+  pub names : (j : ℕ) → has (concerned_names n) j ≡ true → j < 256
   pub reports : ReportsStand s i n
   pub trimmed : Trimmed s n.core.base
   pub left_out : LeftOut s
 
 module _ (v : World) (i : ℕ) (n : Node) (s : Group) (h : MayLetGo v i n s) (name : ℕ) (left : ℕ) (before : List Entry) (size : length before + 1 ≡ left)
     (part : Begins (before ++ Leave name ∷ []) (s.node i).list) (low : left ≤ n.core.acc)
-    (all : all_stored n (without_name (concerned n) name) left ≡ true) where
+    (all : all_stored n (without_name (concerned_names n) name) left ≡ true) where
   abbrev list : List Entry
   list = (s.node i).list
 
-  chain : list ≡ chain_of s.views
-  chain = ((h.speaks.kept.each i).leads (leading v i n s h.speaks h.leads).leads).chain
-
-  good : IsGood list
-  good = subst IsGood (sym chain) h.speaks.kept.views.good
-
-  group_in : Begins s.group list
-  group_in = subst (Begins s.group) (sym chain) h.speaks.kept.group
+  open on_chain v i n s h.speaks h.leads use {chain, good, group_in}
 
   front : Begins before list
   front = begins_trans (begins_more before (Leave name ∷ [])) part
@@ -149,8 +142,8 @@ module _ (v : World) (i : ℕ) (n : Node) (s : Group) (h : MayLetGo v i n s) (na
       let in_all = concerned_has v i n (s.node i) j h.speaks.stands (omega arith) h.within
       (λ k from to. member_between j member last k (omega arith) (omega arith)) in
       let size_all = concerned_long v i n (s.node i) h.speaks.stands (omega arith) in
-      let others = without_has (concerned n) name j size_all in_all (no_leaver j member last) in
-      let stored = stored_by n (without_name (concerned n) name) left j (without_long (concerned n) name ∙ size_all) others all in
+      let others = without_has (concerned_names n) name j size_all in_all (no_leaver j member last) in
+      let stored = stored_by n (without_name (concerned_names n) name) left j (without_long (concerned_names n) name ∙ size_all) others all in
       let no_more = h.reports.within j in
       let fronts = (h.speaks.kept.each i).fronts in
       let told_ = fronts.told in
@@ -175,14 +168,17 @@ pub gone_said : (v : World) (i : ℕ) (n : Node) (s : Group) (name : ℕ) → Ma
 gone_said v i n s name h may =
     let list = (s.node i).list in
     let some = and_both (nat_lt 0 (row_at n name).left)
-    (nat_le (row_at n name).left n.core.acc && all_stored n (without_name (concerned n) name) (row_at n name).left) may in
-    let rest = and_both (nat_le (row_at n name).left n.core.acc) (all_stored n (without_name (concerned n) name) (row_at n name).left) some.1 in
+    (nat_le (row_at n name).left n.core.acc && all_stored n (without_name (concerned_names n) name) (row_at n name).left) may in
+    let rest = and_both (nat_le (row_at n name).left n.core.acc) (all_stored n (without_name (concerned_names n) name) (row_at n name).left) some.1 in
     let up : 0 < (row_at n name).left = (let z = some.0 in grind (arith, nat_tests)) in
     let low : (row_at n name).left ≤ n.core.acc = (let z = rest.0 in grind (arith, nat_tests)) in
-    let same : (row_of (told list) name).left ≡ (row_at n name).left = ap (λ (g : Image). (row_of g name).left) (told_all v i n (s.node i) h.speaks.stands) in
+    let same : (row_of (image_of list) name).left ≡ (row_at n name).left = ap (λ (g : Image). (row_of g name).left) (told_all v i n (s.node i) h.speaks.stands) in
     by_kind low rest.1 (subst (LeavesAt list name) same (leaves_at list name (omega arith)))
   where
-    by_kind : (row_at n name).left ≤ n.core.acc → all_stored n (without_name (concerned n) name) (row_at n name).left ≡ true
+    chained : OnChain s (s.node i).list
+    chained = on_chain v i n s h.speaks h.leads
+
+    by_kind : (row_at n name).left ≤ n.core.acc → all_stored n (without_name (concerned_names n) name) (row_at n name).left ≡ true
         → LeavesAt (s.node i).list name (row_at n name).left → GoneSays s (row_at n name).left name
     by_kind low all (by_leave before size part) =
         let fronts = (h.speaks.kept.each i).fronts in
@@ -191,12 +187,11 @@ gone_said v i n s name h may =
         let acc = h.fronts.acc in
         let more = length_push before (Leave name) in
         letters.may_go before size
-        (begins_both part (group_in v i n s h name (row_at n name).left before size part low all) (omega arith))
+        (begins_both part chained.group_in (omega arith))
         (has_stored_it v i n s h name (row_at n name).left before size part low all)
     by_kind low all (by_view before stamp names resilience size member out part) =
         has_stopped (h.left_out before stamp names resilience name
-        (subst (Begins (before ++ View stamp names resilience ∷ []))
-        ((h.speaks.kept.each i).leads (leading v i n s h.speaks h.leads).leads).chain part) member out)
+        (subst (Begins (before ++ View stamp names resilience ∷ [])) chained.chain part) member out)
 
 -- to the leaver alone
 pub gone_says : (v : World) (i : ℕ) (n : Node) (s : Group) (name : ℕ) → MayLetGo v i n s → may_go n name ≡ true → (j : ℕ) → has (only_name name) j ≡ true

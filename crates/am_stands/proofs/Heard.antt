@@ -12,7 +12,7 @@ use Rattle.am_base.specs.Lists.{row_of, fits, members_of}
 use Rattle.am_packet.specs.declared.packet.Packet.TheVariants as packet
 use Rattle.am_sender.specs.declared.OwnSend.{OwnSend}
 use Rattle.am_group.specs.Journals.{item_at}
-use Rattle.am_chain_lists.specs.Whole.{told, key}
+use Rattle.am_chain_lists.specs.Whole.{image_of, key}
 use Rattle.am_chain_moves.specs.Group.{Group, IsUp}
 use Rattle.am_chain_moves.specs.Moves.{MayNumber}
 use Rattle.am_chain_moves.specs.Kept.{Kept}
@@ -50,9 +50,9 @@ entry_needs w name number x v e s k who old up promise other others decided at n
     let promised : a.promise ≡ v = old.promise ∙ promise in
     let long = long_all (within w name x) name x a old in
     let told_is = told_whole w name name x a old in
-    let left : (row_of (told a.list) name).left ≡ 0 =
-    (let row : (row_of (told a.list) name).left ≡ (nodes.own_row x).left = ap (λ (i : Image). (row_of i name).left) told_is
-    ∙ ap (λ n. (row_of (nodes.told x) n).left) (sym who) in
+    let left : (row_of (image_of a.list) name).left ≡ 0 =
+    (let row : (row_of (image_of a.list) name).left ≡ (nodes.own_row x).left = ap (λ (i : Image). (row_of i name).left) told_is
+    ∙ ap (λ n. (row_of (nodes.image_of x) n).left) (sym who) in
     let none : (nodes.own_row x).left ≡ 0 = grind (arith, nat_tests) in
     row ∙ none) in
     record {
@@ -125,14 +125,14 @@ fits_data image name req body member next = let t : (req == (row_of image name).
 
 -- but for its own waiting send, of which it is to be known that it is the next one
 abbrev pub OwnFits : Node → Type 0
-OwnFits x = (q : OwnSend) → nodes.waiting x ≡ Some q → nat_lt (nodes.own_row x).last q.req ≡ true → fits (nodes.told x) (Data x.core.who q.req q.body) ≡ true
+OwnFits x = (q : OwnSend) → nodes.waiting x ≡ Some q → nat_lt (nodes.own_row x).last q.req ≡ true → fits (nodes.image_of x) (Data x.core.who q.req q.body) ≡ true
 
-number_fits : (c : Cause) (x : Node) (e : Entry) → length (nodes.told x).rows ≡ 16 → OwnFits x → Numbers c x e → fits (nodes.told x) e ≡ true
-number_fits c x e long own (asked_send from v report req body by known stays next) = fits_data (nodes.told x) from req body
+number_fits : (c : Cause) (x : Node) (e : Entry) → length (nodes.image_of x).rows ≡ 16 → OwnFits x → Numbers c x e → fits (nodes.image_of x) e ≡ true
+number_fits c x e long own (asked_send from v report req body by known stays next) = fits_data (nodes.image_of x) from req body
     (known_member x from long known (let z = stays in grind (arith, nat_tests))) next
 number_fits c x e long own (own_send q is last) = own q is last
 number_fits c x e long own (asked_join from v is other f) = f
-number_fits c x e long own (asked_leave from v report is other known stays) = leave_fits (nodes.told x) from
+number_fits c x e long own (asked_leave from v report is other known stays) = leave_fits (nodes.image_of x) from
     (known_member x from long known (let z = stays in grind (arith, nat_tests)))
 
 leaves_of : (s : Group) (from : ℕ) (v : Stamp) (report : Report) → LeaverSays s from v report → (s.node from).leaving ≡ true
@@ -157,7 +157,7 @@ number_named c x e small (asked_join from v is other f) = small from v is
 number_named c x e small (asked_leave from v report is other known stays) = tt
 
 pub number_needs : (w : World) (name : ℕ) (c : Cause) (x : Node) (e : Entry) (s : Group) → Kept s → x.core.who ≡ name → is_stopped w name ≡ false
-    → NameStands (within w name x) name x (s.node name) → IsLeading name x (s.node name) → length (nodes.told x).rows ≡ 16
+    → NameStands (within w name x) name x (s.node name) → IsLeading name x (s.node name) → length (nodes.image_of x).rows ≡ 16
     → OwnFits x → ((from : ℕ) (v : Stamp) (report : Report) → c ≡ hears (packet.LeaveAsk from v report) → LeaverSays s from v report)
     → ((from : ℕ) (v : Stamp) → c ≡ hears (packet.JoinAsk from v) → from < 256) → Numbers c x e → NeedsNumber s name x e
 number_needs w name c x e s k who runs old leading long own asks small why = record {

@@ -8,8 +8,8 @@ use Rattle.am_base.specs.declared.entry.Entry.TheVariants.{Data, Join, Leave, Vi
 use Rattle.am_base.specs.declared.image.Row.{Row}
 use Rattle.am_base.specs.declared.image.Image.{Image}
 use Rattle.am_base.specs.Names.{place_of, life_of, has}
-use Rattle.am_base.specs.Lists.{is_blank, at_place, row_of, member_life, members_of, with_row, viewed, fits, after}
-use Rattle.am_chain_lists.specs.Whole.{Begins, IsGood, told, mem}
+use Rattle.am_base.specs.Lists.{is_blank, at_place, row_of, member_life, members_of, with_row, row_after_view, fits, after}
+use Rattle.am_chain_lists.specs.Whole.{Begins, IsGood, image_of, mem}
 use Rattle.am_chain_lists.proofs.Prefixes.{begins_refl, begins_more, begins_both, begins_length, length_push, take_begins}
 use Rattle.am_chain_lists.proofs.Rows.{by_cases, and_left, row_at, row_view, In, Past, Was, mod16, row_set, blank_joined, past_after, not_both, view_parts}
 use Rattle.am_chain_lists.proofs.Members.{good_begins, told_push, last_fits, long_told, mem_in, in_mem, mem_nil, viewed_mem, was_begins}
@@ -23,22 +23,22 @@ unfolding after
 joined_in a name =
     let r : Row = record { life = life_of name; joined = 1 + length a; left = 0; last = 0 } in
     in_mem (a ++ Join name ∷ []) name (subst (λ (i : Image). In (row_at i (place_of name)) (life_of name)) (sym (told_push a (Join name))) (⊎_elim
-    (λ (z : (place_of name ≡ place_of name) × (row_at (with_row (told a) name r) (place_of name) ≡ r)). subst (λ q. In q (life_of name)) (sym z.1)
+    (λ (z : (place_of name ≡ place_of name) × (row_at (with_row (image_of a) name r) (place_of name) ≡ r)). subst (λ q. In q (life_of name)) (sym z.1)
     (record { joined = omega arith; left = refl; is = refl }))
-    (λ (z : (place_of name ≢ place_of name) × (row_at (with_row (told a) name r) (place_of name) ≡ row_at (told a) (place_of name))). absurd (z.0 refl))
-    (row_set (told a) name (place_of name) r (long_told a))))
+    (λ (z : (place_of name ≢ place_of name) × (row_at (with_row (image_of a) name r) (place_of name) ≡ row_at (image_of a) (place_of name))). absurd (z.0 refl))
+    (row_set (image_of a) name (place_of name) r (long_told a))))
 
 -- whose Join comes was no member before
-joined_once : (a : List Entry) (name : ℕ) → IsGood (a ++ Join name ∷ []) → Was (row_at (told a) (place_of name)) (life_of name) → ⊥
+joined_once : (a : List Entry) (name : ℕ) → IsGood (a ++ Join name ∷ []) → Was (row_at (image_of a) (place_of name)) (life_of name) → ⊥
 unfolding fits
 joined_once a name good was =
     let fit = last_fits a (Join name) good in
     let here = mem_in (a ++ Join name ∷ []) name (joined_in a name) in
     ⊎_elim
-    (λ (h : In (row_at (told a) (place_of name)) (life_of name)). (let j = h.joined in let l = h.left in let z : ⊥ = grind (arith, nat_tests) in z))
-    (λ (h : Past (row_at (told a) (place_of name)) (life_of name)).
-    (let gone = past_after (told a) (1 + length a) (Join name) (place_of name) (life_of name) (long_told a) (mod16 name) (omega arith) fit h in
-    not_both (row_at (told (a ++ Join name ∷ [])) (place_of name)) (life_of name) here
+    (λ (h : In (row_at (image_of a) (place_of name)) (life_of name)). (let j = h.joined in let l = h.left in let z : ⊥ = grind (arith, nat_tests) in z))
+    (λ (h : Past (row_at (image_of a) (place_of name)) (life_of name)).
+    (let gone = past_after (image_of a) (1 + length a) (Join name) (place_of name) (life_of name) (long_told a) (mod16 name) (omega arith) fit h in
+    not_both (row_at (image_of (a ++ Join name ∷ [])) (place_of name)) (life_of name) here
     (subst (λ (i : Image). Past (row_at i (place_of name)) (life_of name)) (sym (told_push a (Join name))) gone)))
     was
 
@@ -103,25 +103,25 @@ became image n (View stamp names resilience) name long some = λ h.
     let is = row_view image n stamp names resilience place (mod16 name) in
     let now = subst (λ q. In q (life_of name)) is h in
     by_cases (is_blank image)
-    (λ t. first t is (ap (λ b. viewed b n (slice_index names place) (row_at image place)) t) now)
-    (λ f. later is (ap (λ b. viewed b n (slice_index names place) (row_at image place)) f) now)
+    (λ t. first t is (ap (λ b. row_after_view b n (slice_index names place) (row_at image place)) t) now)
+    (λ f. later is (ap (λ b. row_after_view b n (slice_index names place) (row_at image place)) f) now)
   where
-    first : is_blank image ≡ true → row_at (after image n (View stamp names resilience)) (place_of name) ≡ viewed (is_blank image) n
+    first : is_blank image ≡ true → row_at (after image n (View stamp names resilience)) (place_of name) ≡ row_after_view (is_blank image) n
         (slice_index names (place_of name)) (row_at image (place_of name))
-        → viewed (is_blank image) n (slice_index names (place_of name)) (row_at image (place_of name)) ≡ viewed true n (slice_index names (place_of name))
+        → row_after_view (is_blank image) n (slice_index names (place_of name)) (row_at image (place_of name)) ≡ row_after_view true n (slice_index names (place_of name))
         (row_at image (place_of name))
-        → In (viewed (is_blank image) n (slice_index names (place_of name)) (row_at image (place_of name))) (life_of name)
+        → In (row_after_view (is_blank image) n (slice_index names (place_of name)) (row_at image (place_of name))) (life_of name)
         → Becomes image n (View stamp names resilience) name
     first t is same now = by_cases (slice_index names (place_of name) == 0)
         (λ u. absurd (let old : In (row_at image (place_of name)) (life_of name) = rw u at (subst (λ q. In q (life_of name)) same now) in
         let none = blank_joined image (place_of name) t in let j = old.joined in omega arith))
         (λ f. founds refl t (ap (λ (q : Row). q.joined) (is ∙ same) ∙ rw f refl))
 
-    later : row_at (after image n (View stamp names resilience)) (place_of name) ≡ viewed (is_blank image) n (slice_index names (place_of name))
+    later : row_at (after image n (View stamp names resilience)) (place_of name) ≡ row_after_view (is_blank image) n (slice_index names (place_of name))
         (row_at image (place_of name))
-        → viewed (is_blank image) n (slice_index names (place_of name)) (row_at image (place_of name)) ≡ viewed false n (slice_index names (place_of name))
+        → row_after_view (is_blank image) n (slice_index names (place_of name)) (row_at image (place_of name)) ≡ row_after_view false n (slice_index names (place_of name))
         (row_at image (place_of name))
-        → In (viewed (is_blank image) n (slice_index names (place_of name)) (row_at image (place_of name))) (life_of name)
+        → In (row_after_view (is_blank image) n (slice_index names (place_of name)) (row_at image (place_of name))) (life_of name)
         → Becomes image n (View stamp names resilience) name
     later is same now = by_cases (nat_lt 0 (member_life (row_at image (place_of name))) && not
         (member_life (row_at image (place_of name)) == slice_index names (place_of name)))
@@ -134,25 +134,25 @@ became image n (View stamp names resilience) name long some = λ h.
 some_was : (e : Entry) → IsGood ([] ++ e ∷ []) → (name : ℕ) × (mem ([] ++ e ∷ []) name ≡ true)
 unfolding fits mem
 some_was (Data from req body) good = absurd
-    (mem_nil from (and_left (has (members_of (told [])) from) (req == (row_of (told []) from).last + 1) (last_fits [] (Data from req body) good)))
+    (mem_nil from (and_left (has (members_of (image_of [])) from) (req == (row_of (image_of []) from).last + 1) (last_fits [] (Data from req body) good)))
 some_was (Join name) good = (name, joined_in [] name)
 some_was (Leave name) good = absurd (mem_nil name (last_fits [] (Leave name) good))
 some_was (View stamp names resilience) good = (
   stamp.by,
   viewed_mem [] stamp names resilience stamp.by good
-      (view_parts (told []) stamp names resilience (last_fits [] (View stamp names resilience) good)).by,
+      (view_parts (image_of []) stamp names resilience (last_fits [] (View stamp names resilience) good)).by,
 )
 
-pub blank_nil : (list : List Entry) → IsGood list → is_blank (told list) ≡ true → list ≡ []
+pub blank_nil : (list : List Entry) → IsGood list → is_blank (image_of list) ≡ true → list ≡ []
 blank_nil [] good blank_ = refl
 blank_nil (e ∷ es) good blank_ = absurd (
     let front = begins_more (e ∷ []) es in
     let one = some_was e (good_begins front good) in
     let was = was_begins one.0 good front (inl (mem_in (e ∷ []) one.0 one.1)) in
-    let none = blank_joined (told (e ∷ es)) (place_of one.0) blank_ in
+    let none = blank_joined (image_of (e ∷ es)) (place_of one.0) blank_ in
     ⊎_elim
-    (λ (h : In (row_at (told (e ∷ es)) (place_of one.0)) (life_of one.0)). (let j = h.joined in let z : ⊥ = omega arith in z))
-    (λ (h : Past (row_at (told (e ∷ es)) (place_of one.0)) (life_of one.0)). (let j = h.joined in let z : ⊥ = omega arith in z))
+    (λ (h : In (row_at (image_of (e ∷ es)) (place_of one.0)) (life_of one.0)). (let j = h.joined in let z : ⊥ = omega arith in z))
+    (λ (h : Past (row_at (image_of (e ∷ es)) (place_of one.0)) (life_of one.0)). (let j = h.joined in let z : ⊥ = omega arith in z))
     was)
 
 -- ---- the number where it joined
@@ -165,7 +165,7 @@ pub record JoinsAt (list : List Entry) (name join : ℕ) : Type 0 where
 
 -- by its row
 abbrev JoinsBy : List Entry → ℕ → Type 0
-JoinsBy list name = In (row_at (told list) (place_of name)) (life_of name) → JoinsAt list name (row_at (told list) (place_of name)).joined
+JoinsBy list name = In (row_at (image_of list) (place_of name)) (life_of name) → JoinsAt list name (row_at (image_of list) (place_of name)).joined
 
 -- it joined before
 joins_before : (a : List Entry) (e : Entry) (name join : ℕ) → JoinsAt a name join → JoinsAt (a ++ e ∷ []) name join
@@ -197,23 +197,23 @@ joins_push : (a : List Entry) (e : Entry) (name : ℕ) → IsGood (a ++ e ∷ []
 joins_push a e name good h = λ in_.
     let here = in_mem (a ++ e ∷ []) name in_ in
     let row = ap (λ (i : Image). (row_at i (place_of name)).joined) (told_push a e) in
-    by_kind here row (became (told a) (1 + length a) e name (long_told a) (omega arith)
+    by_kind here row (became (image_of a) (1 + length a) e name (long_told a) (omega arith)
     (subst (λ (i : Image). In (row_at i (place_of name)) (life_of name)) (told_push a e) in_))
   where
     nothing : (b : List Entry) → Begins b [] → b ≡ []
     nothing [] low = refl
     nothing (x ∷ xs) low = absurd (let long = begins_length low in omega arith)
 
-    by_kind : mem (a ++ e ∷ []) name ≡ true → (row_at (told (a ++ e ∷ [])) (place_of name)).joined ≡
-        (row_at (after (told a) (1 + length a) e) (place_of name)).joined
-        → Becomes (told a) (1 + length a) e name → JoinsAt (a ++ e ∷ []) name (row_at (told (a ++ e ∷ [])) (place_of name)).joined
+    by_kind : mem (a ++ e ∷ []) name ≡ true → (row_at (image_of (a ++ e ∷ [])) (place_of name)).joined ≡
+        (row_at (after (image_of a) (1 + length a) e) (place_of name)).joined
+        → Becomes (image_of a) (1 + length a) e name → JoinsAt (a ++ e ∷ []) name (row_at (image_of (a ++ e ∷ [])) (place_of name)).joined
     by_kind here row (stayed old same) = subst (JoinsAt (a ++ e ∷ []) name) (sym (row ∙ same)) (joins_before a e name _ (h old))
     by_kind here row (joins is same) = subst (JoinsAt (a ++ e ∷ []) name) (sym (row ∙ same)) (joins_now a e name here (λ b begins member.
         joined_once a name (subst (λ x. IsGood (a ++ x ∷ [])) is good)
         (was_begins name (good_begins (begins_more a (e ∷ [])) good) begins (inl (mem_in b name member)))))
     by_kind here row (founds viewed_ blank_ same) =
         let nil = blank_nil a (good_begins (begins_more a (e ∷ [])) good) blank_ in
-        let at : (row_at (told (a ++ e ∷ [])) (place_of name)).joined ≡ 1 + length a = (let z = ap length nil in omega (arith, row ∙ same)) in
+        let at : (row_at (image_of (a ++ e ∷ [])) (place_of name)).joined ≡ 1 + length a = (let z = ap length nil in omega (arith, row ∙ same)) in
         subst (JoinsAt (a ++ e ∷ []) name) (sym at)
         (joins_now a e name here (λ b begins member. mem_nil name (subst (λ l. mem l name ≡ true) (nothing b (subst (Begins b) nil begins)) member)))
 
@@ -230,5 +230,5 @@ joins_walk a (e ∷ es) name good h =
     (joins_push a e name (good_begins (begins_more (a ++ e ∷ []) es) good_again) h))
 
 -- a member's row tells where it joined
-pub joins_at : (list : List Entry) (name : ℕ) → IsGood list → mem list name ≡ true → JoinsAt list name (row_at (told list) (place_of name)).joined
+pub joins_at : (list : List Entry) (name : ℕ) → IsGood list → mem list name ≡ true → JoinsAt list name (row_at (image_of list) (place_of name)).joined
 joins_at list name good member = joins_walk [] list name good (λ h. absurd (mem_nil name (in_mem [] name h))) (mem_in list name member)

@@ -43,7 +43,7 @@ use Rattle.am_sent.proofs.Kept as sent
 use Rattle.am_sent.proofs.Changes.{MaySend, body_of_sent}
 use Rattle.am_stands.specs.Standing.{NameStands, within}
 use Rattle.am_stands.specs.Letters as says
-use Rattle.am_stands.specs.Letters.{Trimmed, VoteTells, VoteSays, AllShown, WasAsked, PacketSays, IsDecided, line}
+use Rattle.am_stands.specs.Letters.{WasAsked}
 use Rattle.am_stands.specs.States.{BodiesAsked}
 use Rattle.am_stands.specs.Steps.{WasBegun, MayMove, NeedsNumber, NeedsEntry, NeedsWelcome, Needs, NeedsLook, NeedsPiece}
 use Rattle.am_stands.specs.Sending.{KeptWhole}
@@ -86,14 +86,16 @@ module _ (rules : Rules) (w : World) (name : ℕ) (c : Cause) (x : Node) (s : Gr
 
   pub may_move : MayMove w name c x s
   may_move = record {
-    few = h.few;
+    so = record {
+      few = h.few;
+      who = h.who;
+      promise = h.along.names.promise_;
+      ballot = λ b is open_. sym ((subst (OpenBallot x.core.who x.core.promise (view x)) is h.along.balloted.opened) open_).promised;
+      stamps = promise_begun;
+      gone = λ from v number is. (let k = h.heard (packet.Gone from v number) is in k.says name k.addressed);
+    };
     runs = h.runs;
-    who = h.who;
-    promise = h.along.names.promise_;
-    ballot = λ b is open_. sym ((subst (OpenBallot x.core.who x.core.promise (view x)) is h.along.balloted.opened) open_).promised;
-    stamps = promise_begun;
     noted = h.noted;
-    gone = λ from v number is. (let k = h.heard (packet.Gone from v number) is in k.says name k.addressed);
   }
 
   -- the ballot that is looked at

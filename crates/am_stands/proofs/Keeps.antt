@@ -18,15 +18,15 @@ use Rattle.am_base.specs.Stamps.{stamp_lt, stamp_eq}
 use Rattle.am_base.specs.Lists.{fits, after, told_by}
 use Rattle.am_packet.specs.declared.packet.Packet.{Packet}
 use Rattle.am_packet.specs.declared.packet.Packet.TheVariants as packet
-use Rattle.am_fronts.specs.Reports.{least_of, reported}
+use Rattle.am_fronts.specs.Reports.{least_of, after_report}
 use Rattle.am_chain_lists.specs.Whole.{Begins, IsGood, key}
 use Rattle.am_chain_lists.proofs.Members.{good_begins}
 use Rattle.am_chain_moves.specs.Group.{Group, opening}
 use Rattle.am_model.specs.declared.status.Status.{Status}
 use Rattle.am_model.specs.declared.status.Status.TheVariants as status
 use Rattle.am_model.specs.Node as nodes
-use Rattle.am_model.specs.Node.{Node, Ballot, view, acts, unsettled, is_member, is_asking, is_sequencer, pushed, trimmed, lowest_or_first}
-use Rattle.am_model.specs.Ballots.{Verdict, overtaken as overtaken_by, need_of, left_in, taken_by}
+use Rattle.am_model.specs.Node.{Node, Ballot, view, acts, unsettled_count, is_member, is_asking, is_sequencer, push_entry, trim_up_to, lowest_or_first}
+use Rattle.am_model.specs.Ballots.{Verdict, overtake as overtaken_by, need_of, left_in, taken_by}
 use Rattle.am_model.specs.Calls.{is_unfinished}
 use Rattle.am_model.specs.Group.{has_log}
 use Rattle.am_model.specs.Refresh.{settle}
@@ -47,9 +47,9 @@ use Rattle.am_laws.proofs.TakenRuns.{Along}
 use Rattle.am_laws.proofs.Trims.{told_used}
 use Rattle.am_stands.specs.Standing.{NameStands, within}
 use Rattle.am_stands.specs.Letters as says
-use Rattle.am_stands.specs.Letters.{Trimmed, VoteTells, AllShown, PacketSays, IsDecided, line}
+use Rattle.am_stands.specs.Letters.{Trimmed, VoteTells, AllShown, line}
 use Rattle.am_stands.specs.Growing.{Grows}
-use Rattle.am_stands.specs.States.{VotesStand, FetchesStand, ReportsStand, ReportsFresh, OpensStand, IsNew, IsConcerned, Reporting}
+use Rattle.am_stands.specs.States.{FetchesStand, ReportsStand, ReportsFresh, OpensStand, IsNew, IsConcerned, Reporting}
 use Rattle.am_stands.proofs.Changes.{or_last, long_all}
 use Rattle.am_stands.proofs.Onward.{group_kept}
 use Rattle.am_stands.proofs.Entries.{key_stamp}
@@ -63,7 +63,7 @@ use Rattle.am_stands.proofs.Sent.{Speaks, Leading, leading}
 use Rattle.am_stands.proofs.Shown.{votes_grow}
 use Rattle.am_stands.proofs.Trimming.{trimmed_max, TakenKnown, votes_trim}
 use Rattle.am_stands.proofs.Votes.{best_shown}
-use Rattle.am_stands.specs.Keeping.{BallotStands, GroupFor, HeardSo, IsPlain, LastStands, NodeKeeps, OwnTurn, Stepping}
+use Rattle.am_stands.specs.Keeping.{BallotStands, Ballots, GroupFor, HeardSo, IsPlain, NodeKeeps, OwnTurn, Stepping}
 
 -- ---- what stays, as the group goes on
 
@@ -73,11 +73,6 @@ fetches_grow w s t (Some b) g h = λ open_ from want is. all_stay w w s t g ([],
 
 pub trimmed_grow : (w : World) (s t : Group) (base : ℕ) → Grows s t → Trimmed s base → Trimmed t base
 trimmed_grow w s t base g h = trimmed_stays w w s t g ([], sym (append-nil w.records)) base h
-
-pub record Ballots (w : World) (s : Group) (ballot : Option Ballot) : Type 0 where
-  pub votes : VotesStand s ballot
-  pub fetches : FetchesStand s ballot
-  pub last : LastStands w ballot
 
 pub ballots_grow : (w : World) (s t : Group) (ballot : Option Ballot) → Grows s t → Ballots w s ballot → Ballots w t ballot
 ballots_grow w s t ballot g h = record { votes = votes_grow s t ballot g h.votes; fetches = fetches_grow w s t ballot g h.fetches; last = h.last }
@@ -114,9 +109,6 @@ not_shown : (o : Outcome) → ((from want : ℕ) → o ≡ said.Fetching from wa
 not_shown o f = f
 
 module _ (rules : Rules) (w : World) (name : ℕ) (c : Cause) (x : Node) (s : Group) (h : Stepping rules w name c x s) where
-  pub ballots : Ballots w s x.ballot
-  ballots = record { votes = h.keeps.votes; fetches = h.keeps.fetches; last = h.keeps.last }
-
   -- a look
   looked : (b : Ballot) (v : Verdict) → Balloting c x b → Looks x b v → Ballots w s v.node.ballot
   looked b v why (finds_itself_out y) = ballots_over w s b _ (looked_last rules w name c x s h b why)
@@ -158,7 +150,7 @@ module _ (rules : Rules) (w v : World) (name : ℕ) (c : Cause) (x y : Node) (s 
   same_list : y.core.log ≡ x.core.log → (t.node name).list ≡ (s.node name).list
   same_list log = new.list ∙ (λ i. take (log i).start (group_ i) ++ (log i).entries) ∙ sym olds.list
 
-  more_list : (e : Entry) → y.core.log ≡ (pushed x e).core.log → (t.node name).list ≡ (s.node name).list ++ e ∷ []
+  more_list : (e : Entry) → y.core.log ≡ (push_entry x e).core.log → (t.node name).list ≡ (s.node name).list ++ e ∷ []
   more_list e log = new.list ∙ (λ i. take (log i).start (group_ i) ++ (log i).entries)
       ∙ sym (append_assoc (take x.core.log.start w.group) x.core.log.entries (e ∷ [])) ∙ ap (λ l. l ++ e ∷ []) (sym olds.list)
 
@@ -176,7 +168,7 @@ module _ (rules : Rules) (w v : World) (name : ℕ) (c : Cause) (x y : Node) (s 
   good_same log = subst IsGood (sym (same_list log)) k.good
 
   ballots_same : y.ballot ≡ x.ballot → Ballots w t y.ballot
-  ballots_same same = subst (Ballots w t) (sym same) (ballots_grow w s t x.ballot g (ballots rules w name c x s h))
+  ballots_same same = subst (Ballots w t) (sym same) (ballots_grow w s t x.ballot g h.keeps.ballots)
 
   opens_same : y.ballot ≡ x.ballot → y.status ≡ x.status → y.leaving ≡ x.leaving → OpensStand y
   opens_same ballot stays leaving open_ = (let o = k.opens (sym (ap is_unfinished ballot) ∙ open_) in (ap is_member stays ∙ o.0, leaving ∙ o.1))
@@ -187,7 +179,7 @@ module _ (rules : Rules) (w v : World) (name : ℕ) (c : Cause) (x y : Node) (s 
       (reporting_base t.node (s.node name).list x.core.base y.core.base x.reports base
       (reporting_grow s.node t.node (s.node name).list x.core.base x.reports grow k.reports)))
 
-  fresh_same : nodes.told y ≡ nodes.told x → y.reports ≡ x.reports → x.core.base ≤ y.core.base → ReportsFresh y
+  fresh_same : nodes.image_of y ≡ nodes.image_of x → y.reports ≡ x.reports → x.core.base ≤ y.core.base → ReportsFresh y
   fresh_same told_ reports base j new_ = (let old_ = k.fresh j (subst (λ (i : Image). IsNew i j) told_ new_) in
       let is : (y.reports j).stored ≡ (x.reports j).stored = ap (λ f. (f j).stored) reports in omega arith)
 
@@ -204,18 +196,7 @@ module _ (rules : Rules) (w v : World) (name : ℕ) (c : Cause) (x y : Node) (s 
   keep : IsGood (t.node name).list → Ballots w t y.ballot → OpensStand y → ReportsStand t name y → ReportsFresh y → Trimmed t y.core.base
       → OwnTurn y.core.who (t.node name).list y.sends
       → (y.leaving ≡ true → has_log y.status ≡ true) → NodeKeeps w t name y
-  keep fine b o r f tr tu l = record {
-    good = fine;
-    votes = b.votes;
-    fetches = b.fetches;
-    last = b.last;
-    opens = o;
-    reports = r;
-    fresh = f;
-    trimmed = tr;
-    turn = tu;
-    leaves = l;
-  }
+  keep fine b o r f tr tu l = record { good = fine; ballots = b; opens = o; reports = r; fresh = f; trimmed = tr; turn = tu; leaves = l }
 
   -- nothing of that changes but sends, and no list
   keep_same : y.core.log ≡ x.core.log → y.core.who ≡ x.core.who → y.core.base ≡ x.core.base → y.reports ≡ x.reports → y.ballot ≡ x.ballot → y.status ≡ x.status
@@ -225,7 +206,7 @@ module _ (rules : Rules) (w v : World) (name : ℕ) (c : Cause) (x y : Node) (s 
       (fresh_same (ap told_by log) reports (let z = base in omega arith)) (trimmed_same base) turn (leaves_same (ap has_log stays) leaving)
 
   -- an entry more, above a base that isn't lower
-  keep_pushed : (e : Entry) → is_member x.status ≡ true → y.core.log ≡ (pushed x e).core.log → fits (nodes.told x) e ≡ true → y.core.who ≡ x.core.who
+  keep_pushed : (e : Entry) → is_member x.status ≡ true → y.core.log ≡ (push_entry x e).core.log → fits (nodes.image_of x) e ≡ true → y.core.who ≡ x.core.who
       → x.core.base ≤ y.core.base → y.reports ≡ x.reports → y.ballot ≡ x.ballot → y.status ≡ x.status → y.leaving ≡ x.leaving → y.sends ≡ x.sends
       → Trimmed t y.core.base → NodeKeeps w t name y
   keep_pushed e member log fit who base reports ballot stays leaving sends trims =
@@ -233,9 +214,9 @@ module _ (rules : Rules) (w v : World) (name : ℕ) (c : Cause) (x y : Node) (s 
       (subst (Reporting t.node (t.node name).list y.core.base) (sym reports) (subst (λ l. Reporting t.node l y.core.base x.reports) (sym (more_list e log))
       (reporting_base t.node ((s.node name).list ++ e ∷ []) x.core.base y.core.base x.reports base
       (reporting_pushed s.node t.node (s.node name).list e x.core.base x.reports k.good grow
-      (λ i is. k.fresh i (fits_new (nodes.told x) i (subst (λ z. fits (nodes.told x) z ≡ true) is fit))) k.reports))))
-      (λ j new_. (let told_ : nodes.told y ≡ after (nodes.told x) (nodes.top x + 1) e = ap told_by log ∙ told_pushed x e in
-      let old_ = k.fresh j (new_before (nodes.told x) (nodes.top x + 1) e j (told_used x h.along.owned.fronts).places (omega arith) fit
+      (λ i is. k.fresh i (fits_new (nodes.image_of x) i (subst (λ z. fits (nodes.image_of x) z ≡ true) is fit))) k.reports))))
+      (λ j new_. (let told_ : nodes.image_of y ≡ after (nodes.image_of x) (nodes.top x + 1) e = ap told_by log ∙ told_pushed x e in
+      let old_ = k.fresh j (new_before (nodes.image_of x) (nodes.top x + 1) e j (told_used x h.along.owned.fronts).places (omega arith) fit
       (subst (λ (i : Image). IsNew i j) told_ new_)) in
       let is : (y.reports j).stored ≡ (x.reports j).stored = ap (λ f. (f j).stored) reports in
       omega arith))
@@ -305,7 +286,7 @@ module _ (rules : Rules) (w : World) (name : ℕ) (c : Cause) (x : Node) (s : Gr
       its
 
   taken_report : (from : ℕ) (v : Stamp) (report : Report) → BringsReport c from v report → MayReport x from v report
-      → Reporting s.node (s.node name).list x.core.base (reported x.reports from report)
+      → Reporting s.node (s.node name).list x.core.base (after_report x.reports from report)
   taken_report from v report by may =
       let long = long_all (within w name x) name x (s.node name) (old rules w name c x s h) in
       let fit = and_both (nat_le report.taken report.stored) (nat_le report.stored (nodes.top x)) may.fits in
@@ -460,7 +441,7 @@ keeps_next rules w v name c o x y s t (takes_report from u report by may) plain 
     (subst (λ l. Reporting t.node l y.core.base y.reports) (sym (same_list rules w v name c x y s t h g gt runs group_ new refl))
     (reporting_grow s.node t.node (s.node name).list y.core.base y.reports (λ i. (g.each i).list) taken_))
     (λ j new_. split (j == from)
-    (λ u_. absurd (let is : j ≡ from = grind (arith, nat_tests) in known_old (nodes.told x) from may.known (subst (IsNew (nodes.told x)) is new_)))
+    (λ u_. absurd (let is : j ≡ from = grind (arith, nat_tests) in known_old (nodes.image_of x) from may.known (subst (IsNew (nodes.image_of x)) is new_)))
     (λ f. rw f (h.keeps.fresh j new_)))
     (trimmed_same rules w v name c x y s t h g gt runs group_ new refl) (turn_same rules w v name c x y s t h g gt runs group_ new refl refl)
     (leaves_same rules w v name c x y s t h g gt runs group_ new refl refl)
@@ -520,7 +501,7 @@ keeps_next rules w v name c o x y s t (departs from u number is heard leaves) pl
     (trimmed_same rules w v name c x y s t h g gt runs group_ new refl) (turn_same rules w v name c x y s t h g gt runs group_ new refl refl) (λ u_. refl)
 keeps_next rules w v name c o x y s t (promises u low why) plain h g gt runs group_ new later =
     keep rules w v name c x y s t h g gt runs group_ new (good_same rules w v name c x y s t h g gt runs group_ new refl)
-    (ballots_grow w s t y.ballot g (ballots_overtaken w s u x.ballot (ballots rules w name c x s h))) (λ u_. h.keeps.opens (was_open u x.ballot u_))
+    (ballots_grow w s t y.ballot g (ballots_overtaken w s u x.ballot h.keeps.ballots)) (λ u_. h.keeps.opens (was_open u x.ballot u_))
     (reports_same rules w v name c x y s t h g gt runs group_ new refl refl (omega arith))
     (fresh_same rules w v name c x y s t h g gt runs group_ new refl refl (omega arith))
     (trimmed_same rules w v name c x y s t h g gt runs group_ new refl) (turn_same rules w v name c x y s t h g gt runs group_ new refl refl)
@@ -569,7 +550,7 @@ keeps_next rules w v name c o x y s t (asks_to_join is was) plain h g gt runs gr
 keeps_next rules w v name c o x y s t (asks_to_leave is was stays done) plain h g gt runs group_ new later =
     keep rules w v name c x y s t h g gt runs group_ new (good_same rules w v name c x y s t h g gt runs group_ new refl)
     (ballots_same rules w v name c x y s t h g gt runs group_ new refl)
-    (λ u_. absurd (let k = or_last (nat_lt 0 (unsettled x)) (is_unfinished x.ballot) done in cc))
+    (λ u_. absurd (let k = or_last (nat_lt 0 (unsettled_count x)) (is_unfinished x.ballot) done in cc))
     (reports_same rules w v name c x y s t h g gt runs group_ new refl refl (omega arith))
     (fresh_same rules w v name c x y s t h g gt runs group_ new refl refl (omega arith))
     (trimmed_same rules w v name c x y s t h g gt runs group_ new refl) (turn_same rules w v name c x y s t h g gt runs group_ new refl refl)

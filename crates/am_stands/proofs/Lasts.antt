@@ -1,8 +1,8 @@
 -- The last member's own Leave is accepted as far as enough names hold it.
-use Rattle.std.proofs.Common.{◌≡◌, ◌≢◌, ℕ, zero, suc, ◌+◌, ◌<◌, ◌≤◌, ◌==◌, ◌&&◌, not, max, nat_lt, Bool, true, false, if◌then◌else◌, List, [], ◌∷◌, ◌++◌}
+use Rattle.std.proofs.Common.{◌≡◌, ◌≢◌, ℕ, ◌+◌, ◌<◌, ◌≤◌, ◌==◌, ◌&&◌, not, max, nat_lt, Bool, true, false, List, [], ◌∷◌, ◌++◌}
 use Rattle.std.proofs.Common.{length, take, set, get_or, slice_index, refl, sym, ap, ◌∙◌, subst, arith}
 use Rattle.std.proofs.lemmas.Bool.Decides.{nat_tests}
-use Rattle.std.proofs.lemmas.List.{length-append, length-map, length-set, get_or-set_other}
+use Rattle.std.proofs.lemmas.List.{length-append, length-map, get_or-set_other}
 use Rattle.am_base.specs.declared.entry.Entry.{Entry}
 use Rattle.am_base.specs.declared.entry.Entry.TheVariants.{Leave}
 use Rattle.am_base.specs.declared.name.Stamp.{Stamp}
@@ -10,8 +10,7 @@ use Rattle.am_base.specs.Names.{place_of, life_of, has, size}
 use Rattle.am_base.specs.Stamps.{stamp_eq}
 use Rattle.am_base.specs.Lists.{member_life, members_of, told_by}
 use Rattle.am_core.specs.Cores.{CoreState}
-use Rattle.am_fronts.proofs.ReportLaws.{count_cons}
-use Rattle.am_chain_lists.specs.Whole.{Begins, told, mem}
+use Rattle.am_chain_lists.specs.Whole.{Begins, image_of, mem}
 use Rattle.am_chain_lists.proofs.Prefixes.{begins_refl, begins_more, begins_trans, begins_length, begins_both, begins_take, length_take}
 use Rattle.am_chain_lists.proofs.Rows.{mod16}
 use Rattle.am_chain_lists.proofs.Members.{good_push, long_told}
@@ -21,14 +20,15 @@ use Rattle.am_chain_moves.specs.Moves.{longer}
 use Rattle.am_chain_moves.specs.Kept.{Kept}
 use Rattle.am_chain_moves.proofs.Puts.{by_cases, put_same, put_at}
 use Rattle.am_model.specs.Node as nodes
-use Rattle.am_model.specs.Node.{Node, view, others, is_member, is_sequencer, pushed}
+use Rattle.am_model.specs.Node.{Node, view, others, is_member, is_sequencer, push_entry}
 use Rattle.am_model.specs.Refresh.{refresh, refresh_at_end}
-use Rattle.am_model.specs.World.{Decided, World, grown, group_after, views_after}
+use Rattle.am_model.specs.World.{Decided, World, group_with, group_after, views_after}
+use Rattle.am_model.proofs.Sets.{some_size}
 use Rattle.am_effects.proofs.Rests.{rests_refresh, settle_is, leads_rests}
 use Rattle.am_effects.proofs.Says.{leads_pushed, view_pushed}
 use Rattle.am_laws.proofs.Taken.{leave_fits}
 use Rattle.am_stands.specs.Standing.{NameStands, within}
-use Rattle.am_stands.specs.Ends.{NeedsClose, closed}
+use Rattle.am_stands.specs.Ends.{NeedsClose, after_closing}
 use Rattle.am_stands.specs.Accepting.{CountsNames, MayCount, CountsAmong, ComesTo, ClosingAccepts}
 use Rattle.am_stands.proofs.Changes.{same_name, told_all, is_up, unmoved_refresh}
 use Rattle.am_stands.proofs.Concerned.{reporting_push}
@@ -39,19 +39,6 @@ use Rattle.am_stands.proofs.Accepting.{refresh_accepts}
 use Rattle.am_stands.proofs.Learning.{same_by, grown_is}
 
 -- ---- nobody else
-
-some_size : (lives : List ℕ) (k : ℕ) → k < length lives → 0 < slice_index lives k → 0 < size lives
-some_size [] k low some = absurd (omega arith)
-some_size (life ∷ lives) zero low some =
-    let t : nat_lt 0 life ≡ true = grind (arith, nat_tests) in
-    let is = count_cons (λ x. nat_lt 0 x) life lives ∙ ap (λ (b : Bool). (if b then 1 else 0) + size lives) t in
-    omega arith
-some_size (life ∷ lives) (suc k) low some =
-    let rest = some_size lives k (omega arith) some in
-    let is = count_cons (λ x. nat_lt 0 x) life lives in
-    by_cases (nat_lt 0 life)
-    (λ t. let z = is ∙ ap (λ (b : Bool). (if b then 1 else 0) + size lives) t in omega arith)
-    (λ f. let z = is ∙ ap (λ (b : Bool). (if b then 1 else 0) + size lives) f in omega arith)
 
 -- who is left without one name
 left_alone : (names : List ℕ) (who j : ℕ) → length names ≡ 16 → has names who ≡ true → has names j ≡ true → size (set names (place_of who) 0) ≡ 0 → j ≡ who
@@ -67,17 +54,17 @@ left_alone names who j long mine its none =
     (λ f. absurd (
     let other : place_of j ≢ place_of who = (λ same. (let t : (place_of j == place_of who) ≡ true = grind (arith, nat_tests) in cc)) in
     let there : get_or (set names (place_of who) 0) (place_of j) 0 ≡ life_of j = get_or-set_other names (place_of who) (place_of j) 0 0 other ∙ at in
-    let more = some_size (set names (place_of who) 0) (place_of j) (omega (arith, length-set names (place_of who) 0)) (omega arith) in
+    let more = some_size (set names (place_of who) 0) (place_of j) (omega arith) in
     omega arith))
 
 alone : (v : World) (i : ℕ) (x : Node) (a : groups.Node) → NameStands v i x a → x.core.who ≡ i → mem a.list i ≡ true → nat_lt 0 (size (others x)) ≡ false
     → (j : ℕ) → mem a.list j ≡ true → j ≡ i
 unfolding mem
 alone v i x a stands who member none j its =
-    let set_is : members_of (told a.list) ≡ nodes.members x = ap members_of (told_all v i x a stands) in
+    let set_is : members_of (image_of a.list) ≡ nodes.members x = ap members_of (told_all v i x a stands) in
     let mine : has (nodes.members x) x.core.who ≡ true = ap (has (nodes.members x)) who ∙ ap (λ set_. has set_ i) (sym set_is) ∙ member in
     let theirs : has (nodes.members x) j ≡ true = ap (λ set_. has set_ j) (sym set_is) ∙ its in
-    let long : length (nodes.members x) ≡ 16 = ap length (sym set_is) ∙ length-map (told a.list).rows member_life ∙ long_told a.list in
+    let long : length (nodes.members x) ≡ 16 = ap length (sym set_is) ∙ length-map (image_of a.list).rows member_life ∙ long_told a.list in
     let rest : others x ≡ set (nodes.members x) (place_of x.core.who) 0 = rw mine refl in
     let nobody : size (others x) ≡ 0 = grind (arith, nat_tests) in
     left_alone (nodes.members x) x.core.who j long mine theirs (ap size (sym rest) ∙ nobody) ∙ who
@@ -111,7 +98,7 @@ no_decision views m n same =
     both_false false b = refl
 
 module _ (w : World) (s : Group) (name heard : ℕ) (x : Node) (k : Kept s) (h : ComesTo w s name heard x) (few : name < 256) (t : is_sequencer x ≡ true)
-    (sets : CountsNames (pushed x (Leave x.core.who))) where
+    (sets : CountsNames (push_entry x (Leave x.core.who))) where
   abbrev a : groups.Node
   a = s.node name
 
@@ -122,7 +109,7 @@ module _ (w : World) (s : Group) (name heard : ℕ) (x : Node) (k : Kept s) (h :
   list = a.list ++ Leave name ∷ []
 
   abbrev p : Node
-  p = pushed x e
+  p = push_entry x e
 
   abbrev among : ℕ → groups.Node
   among = put s.node name (longer a (Leave name))
@@ -149,7 +136,7 @@ module _ (w : World) (s : Group) (name heard : ℕ) (x : Node) (k : Kept s) (h :
       let top_ = may.within in
       let more : nodes.top p ≡ nodes.top x + 1 = (let z = length-append x.core.log.entries (e ∷ []) in omega arith) in
       record {
-        good = good_push a.list (Leave name) may.good (leave_fits (told a.list) name member) tt;
+        good = good_push a.list (Leave name) may.good (leave_fits (image_of a.list) name member) tt;
         kept = may.kept;
         base = may.base;
         taken = may.taken;
@@ -179,11 +166,11 @@ module _ (w : World) (s : Group) (name heard : ℕ) (x : Node) (k : Kept s) (h :
   stands_gone = same_name w name name p (refresh p) (longer a (Leave name)) (unmoved_refresh p) stands_then
 
   -- what the end leaves of it
-  closed_acc : (closed x).core ≡ (refresh p).core
+  closed_acc : (after_closing x).core ≡ (refresh p).core
   unfolding refresh_at_end
   closed_acc = ap (λ (n : Node). n.core) (settle_is (refresh p))
 
-  needs : nat_lt 0 (size (others x)) ≡ false → view (w.nodes name) ≡ view x → NeedsClose w s name (closed x)
+  needs : nat_lt 0 (size (others x)) ≡ false → view (w.nodes name) ≡ view x → NeedsClose w s name (after_closing x)
   needs none same_view =
       let l = leading (within w name x) name x s speaks t in
       let chain = ((k.each name).leads l.leads).chain in
@@ -197,12 +184,12 @@ module _ (w : World) (s : Group) (name heard : ℕ) (x : Node) (k : Kept s) (h :
       let low = h.acc in
       let rises = held.rises in
       let high = held.within in
-      let n = closed x in
+      let n = after_closing x in
       let r = rests_refresh p in
       let by : ((view n).by == n.core.who) ≡ true = ap (λ (c : CoreState). (told_by c.log).view.by == c.who) closed_acc
       ∙ same_by (refresh p) (leads_rests r.rests ∙ leads_then) in
       let is : group_after w.group n ≡ take upto list = rw by
-      (ap (grown w.group) closed_acc ∙ grown_is (within w name (refresh p)) name (refresh p) (longer a (Leave name)) stands_gone begins
+      (ap (group_with w.group) closed_acc ∙ grown_is (within w name (refresh p)) name (refresh p) (longer a (Leave name)) stands_gone begins
       ∙ ap (λ z. take (max z acc) list) (sym size_)) in
       let long : length (take upto list) ≡ upto = length_take upto list (omega arith) in
       record {

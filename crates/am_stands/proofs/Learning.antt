@@ -15,7 +15,7 @@ use Rattle.am_chain_moves.specs.Kept.{Kept}
 use Rattle.am_model.specs.Node as nodes
 use Rattle.am_model.specs.Node.{Node, view, acts, is_sequencer}
 use Rattle.am_model.specs.Refresh.{refresh}
-use Rattle.am_model.specs.World.{World, grown, group_after}
+use Rattle.am_model.specs.World.{World, group_with, group_after}
 use Rattle.am_model.proofs.Greatest.{split, and_both}
 use Rattle.am_effects.proofs.Rests.{rests_refresh, leads_rests}
 use Rattle.am_stands.specs.Standing.{NameStands, within}
@@ -33,7 +33,7 @@ same_by n t = (and_both (acts n) ((view n).by == n.core.who) t).1
 
 -- what is accepted beyond the group list is the list up to there
 pub grown_is : (v : World) (i : ℕ) (n : Node) (a : groups.Node) → NameStands v i n a → Begins v.group a.list
-    → grown v.group n.core ≡ take (max (length v.group) n.core.acc) a.list
+    → group_with v.group n.core ≡ take (max (length v.group) n.core.acc) a.list
 grown_is v i n a h begins =
     let start_ = n.core.log.start in
     let g = length v.group in
@@ -48,7 +48,7 @@ grown_is v i n a h begins =
     let high : g + (n.core.acc - g) ≡ max g n.core.acc = omega arith in
     ap (λ l. v.group ++ take (n.core.acc - g) l) rest ∙ sym (take-append-add v.group begins.rest (n.core.acc - g)) ∙ (λ i. take (high i) (begins.same i))
 
-pub same_group : (group : List Entry) (core : CoreState) → core.acc ≤ length group → grown group core ≡ group
+pub same_group : (group : List Entry) (core : CoreState) → core.acc ≤ length group → group_with group core ≡ group
 same_group group core low =
     let none : core.acc - length group ≡ 0 = omega arith in
     ap (λ k. group ++ take k (drop (length group - core.log.start) core.log.entries)) none ∙ append-nil group
@@ -58,7 +58,7 @@ no_more_group group n low = split ((view n).by == n.core.who) (λ t. rw t (same_
 
 -- ---- a sequencer
 
-grown_after : (group list : List Entry) (n : Node) → is_sequencer n ≡ true → grown group n.core ≡ list → group_after group n ≡ list
+grown_after : (group list : List Entry) (n : Node) → is_sequencer n ≡ true → group_with group n.core ≡ list → group_after group n ≡ list
 grown_after group list n t is = let by = same_by n t in rw by is
 
 -- what it tells is what it accepts

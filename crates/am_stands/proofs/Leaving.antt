@@ -9,8 +9,8 @@ use Rattle.am_base.specs.declared.image.Row.{Row}
 use Rattle.am_base.specs.declared.image.Image.{Image}
 use Rattle.am_base.specs.declared.name.Stamp.{Stamp}
 use Rattle.am_base.specs.Names.{place_of, life_of, has}
-use Rattle.am_base.specs.Lists.{blank_row, is_blank, at_place, row_of, member_life, with_row, viewed, after, fold}
-use Rattle.am_chain_lists.specs.Whole.{Begins, told, mem}
+use Rattle.am_base.specs.Lists.{blank_row, is_blank, at_place, row_of, member_life, with_row, row_after_view, after, fold}
+use Rattle.am_chain_lists.specs.Whole.{Begins, image_of, mem}
 use Rattle.am_chain_lists.proofs.Prefixes.{begins_refl, begins_more, begins_trans}
 use Rattle.am_chain_lists.proofs.Rows.{by_cases, row_at, row_view, In, mod16, row_set}
 use Rattle.am_chain_lists.proofs.Members.{told_push, long_told, in_mem}
@@ -127,7 +127,7 @@ view_left image n v names resilience name =
     let given = slice_index names (place_of name) in
     let r = row_at image (place_of name) in
     let is = row_view image n v names resilience (place_of name) (mod16 name) in
-    let at : (row_of (after image n e) name).left ≡ left_of (viewed (is_blank image) n given r) (life_of name) =
+    let at : (row_of (after image n e) name).left ≡ left_of (row_after_view (is_blank image) n given r) (life_of name) =
     row_left (after image n e) name ∙ ap (λ q. left_of q (life_of name)) is in
     by_cases (is_blank image)
     (λ t. by_cases (given == 0)
@@ -146,19 +146,19 @@ view_left image n v names resilience name =
     (λ other. none (here ∙ left_other next (life_of name) other)))
     (λ g. stayed (at ∙ ap (λ q. left_of q (life_of name)) (viewed_same given n r g f) ∙ sym (row_left image name))))
   where
-    viewed_first : (given n : ℕ) (r : Row) → (given == 0) ≡ true → is_blank image ≡ true → viewed (is_blank image) n given r ≡ r
+    viewed_first : (given n : ℕ) (r : Row) → (given == 0) ≡ true → is_blank image ≡ true → row_after_view (is_blank image) n given r ≡ r
     viewed_first given n r u t = rw (t, u) refl
 
     viewed_new : (given n : ℕ) (r : Row) → (given == 0) ≡ false → is_blank image ≡ true
-        → viewed (is_blank image) n given r ≡ record { life = given; joined = 1; left = 0; last = 0 }
+        → row_after_view (is_blank image) n given r ≡ record { life = given; joined = 1; left = 0; last = 0 }
     viewed_new given n r u t = rw (t, u) refl
 
     viewed_out : (given n : ℕ) (r : Row) → (nat_lt 0 (member_life r) && not (member_life r == given)) ≡ true → is_blank image ≡ false
-        → viewed (is_blank image) n given r ≡ record r { left = n }
+        → row_after_view (is_blank image) n given r ≡ record r { left = n }
     viewed_out given n r u f = rw (f, u) refl
 
     viewed_same : (given n : ℕ) (r : Row) → (nat_lt 0 (member_life r) && not (member_life r == given)) ≡ false → is_blank image ≡ false
-        → viewed (is_blank image) n given r ≡ r
+        → row_after_view (is_blank image) n given r ≡ r
     viewed_same given n r u f = rw (f, u) refl
 
 entry_left : (image : Image) (n : ℕ) (e : Entry) (name : ℕ) → length image.rows ≡ 16 → Leaves image n e name
@@ -175,7 +175,7 @@ pub data LeavesAt (list : List Entry) (name left : ℕ) : Type 0 where
       → Begins (before ++ View v names resilience ∷ []) list → LeavesAt list name left
 
 abbrev LeftBy : List Entry → ℕ → Type 0
-LeftBy list name = 0 < (row_of (told list) name).left → LeavesAt list name (row_of (told list) name).left
+LeftBy list name = 0 < (row_of (image_of list) name).left → LeavesAt list name (row_of (image_of list) name).left
 
 leaves_more : (a b : List Entry) (name left : ℕ) → Begins a b → LeavesAt a name left → LeavesAt b name left
 leaves_more a b name left h (by_leave before size part) = by_leave before size (begins_trans part h)
@@ -184,10 +184,10 @@ leaves_more a b name left h (by_view before v names resilience size member out p
 left_push : (a : List Entry) (e : Entry) (name : ℕ) → LeftBy a name → LeftBy (a ++ e ∷ []) name
 left_push a e name h = λ some.
     let row = ap (λ (i : Image). (row_of i name).left) (told_push a e) in
-    by_kind row some (entry_left (told a) (1 + length a) e name (long_told a))
+    by_kind row some (entry_left (image_of a) (1 + length a) e name (long_told a))
   where
-    by_kind : (row_of (told (a ++ e ∷ [])) name).left ≡ (row_of (after (told a) (1 + length a) e) name).left → 0 < (row_of (told (a ++ e ∷ [])) name).left
-        → Leaves (told a) (1 + length a) e name → LeavesAt (a ++ e ∷ []) name (row_of (told (a ++ e ∷ [])) name).left
+    by_kind : (row_of (image_of (a ++ e ∷ [])) name).left ≡ (row_of (after (image_of a) (1 + length a) e) name).left → 0 < (row_of (image_of (a ++ e ∷ [])) name).left
+        → Leaves (image_of a) (1 + length a) e name → LeavesAt (a ++ e ∷ []) name (row_of (image_of (a ++ e ∷ [])) name).left
     by_kind row some (stayed same) =
         let is = row ∙ same in
         subst (LeavesAt (a ++ e ∷ []) name) (sym is) (leaves_more a (a ++ e ∷ []) name _ (begins_more a (e ∷ [])) (h (omega arith)))
@@ -203,10 +203,10 @@ left_walk : (a es : List Entry) (name : ℕ) → LeftBy a name → LeftBy (a ++ 
 left_walk a [] name h = subst (λ l. LeftBy l name) (sym (append-nil a)) h
 left_walk a (e ∷ es) name h = subst (λ l. LeftBy l name) (append_assoc a (e ∷ []) es) (left_walk (a ++ e ∷ []) es name (left_push a e name h))
 
-left_nil : (name : ℕ) → (row_of (told []) name).left ≡ 0
+left_nil : (name : ℕ) → (row_of (image_of []) name).left ≡ 0
 unfolding fold
-left_nil name = row_left (told []) name ∙ left_none (row_at (told []) (place_of name)) (life_of name)
+left_nil name = row_left (image_of []) name ∙ left_none (row_at (image_of []) (place_of name)) (life_of name)
     (ap (λ (r : Row). r.left) (get_or-replicate 16 (place_of name) blank_row blank_row (mod16 name)))
 
-pub leaves_at : (list : List Entry) (name : ℕ) → 0 < (row_of (told list) name).left → LeavesAt list name (row_of (told list) name).left
+pub leaves_at : (list : List Entry) (name : ℕ) → 0 < (row_of (image_of list) name).left → LeavesAt list name (row_of (image_of list) name).left
 leaves_at list name some = left_walk [] list name (λ h. absurd (let z = left_nil name in omega arith)) some

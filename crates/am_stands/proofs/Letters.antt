@@ -13,7 +13,7 @@ use Rattle.am_packet.specs.declared.packet.Packet.TheVariants.{Request, Spread, 
 use Rattle.am_packet.specs.declared.packet.Packet.TheVariants.{Invite, Vote as VoteOf, Fetch, Piece, Result, HandOver}
 use Rattle.am_group.specs.Journals.{item_at}
 use Rattle.am_group.specs.declared.event.Record.{Record}
-use Rattle.am_chain_lists.specs.Whole.{Begins, told, mem, key}
+use Rattle.am_chain_lists.specs.Whole.{Begins, image_of, mem, key}
 use Rattle.am_chain_lists.proofs.Prefixes.{begins_trans, begins_take, begins_both, begins_length}
 use Rattle.am_chain_moves.specs.Group.{Group, Chosen, IsThere}
 use Rattle.am_model.specs.World.{World}
@@ -152,7 +152,7 @@ module _ (w v : World) (s t : Group) (g : Grows s t) (more : (rest : List Record
         accepted = omega arith;
         joined = subst (λ l. mem l name ≡ true) (sym same) h.joined;
         first = λ a begins short. h.first a (begins_both begins g.group (omega arith)) short;
-        image_ = h.image_ ∙ ap told (sym (taken_more base s.group t.group g.group (omega arith)));
+        image_ = h.image_ ∙ ap image_of (sym (taken_more base s.group t.group g.group (omega arith)));
         later = λ x d up. subst (λ l. Begins l (t.views.chosen x).before) (sym same) (⊎_elim
             (λ (old : s.views.decided x ≡ true).
             subst (λ (c : Chosen). Begins (take join s.group) c.before) (sym (g.decided x old).1) (h.later x old up))

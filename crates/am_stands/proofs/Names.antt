@@ -4,7 +4,7 @@ use Rattle.std.proofs.lemmas.Bool.Decides.{nat_tests}
 use Rattle.am_base.specs.declared.name.Stamp.{Stamp}
 use Rattle.am_base.specs.declared.entry.Entry.{Entry}
 use Rattle.am_base.specs.Lists.{Log}
-use Rattle.am_chain_lists.specs.Whole.{Begins, told, key}
+use Rattle.am_chain_lists.specs.Whole.{Begins, image_of, key}
 use Rattle.am_chain_moves.specs.Group as groups
 use Rattle.am_chain_moves.specs.Group.{Group, Views, put, opening}
 use Rattle.am_chain_moves.specs.Moves.{Move}
@@ -44,7 +44,7 @@ pub name_in : (w v : World) (i : ℕ) (m : Node) (a : groups.Node) → v.group �
 name_in w v i m a group stopped h = record {
   begins = record {
     within = subst (λ (g : List Entry). m.core.log.start ≤ length g) (sym group) h.begins.within;
-    image = h.begins.image ∙ ap (λ (g : List Entry). told (take m.core.log.start g)) (sym group);
+    image = h.begins.image ∙ ap (λ (g : List Entry). image_of (take m.core.log.start g)) (sym group);
   };
   list = h.list ∙ ap (λ (g : List Entry). take m.core.log.start g ++ m.core.log.entries) (sym group);
   flags = record { log_ = h.log_; stopped = h.stopped ∙ sym stopped; departed = h.departed; leaving = h.leaving };
@@ -58,15 +58,7 @@ name_in w v i m a group stopped h = record {
 -- with another line
 pub noted_line : (w v : World) (views : Views) (d : Decided) (line : ℕ → List Entry) → line (key d.stamp) ≡ line_of v d.stamp
     → Begins (opening (views.chosen (key d.stamp))) (line (key d.stamp)) → NotedStands w views d → NotedStands v (record views { line = line }) d
-noted_line w v views d line is opens n = record {
-  decided = n.decided;
-  stamp = n.stamp;
-  members = n.members;
-  resilience = n.resilience;
-  number = n.number;
-  line = is;
-  opens = opens;
-}
+noted_line w v views d line is opens n = record { decided = n.decided; chose = n.chose; line = is; opens = opens }
 
 -- where the lines of the noted views stay
 pub views_noted : (w v : World) (views : Views) → v.views ≡ w.views

@@ -8,8 +8,8 @@ use Rattle.am_base.specs.declared.name.Stamp.{Stamp}
 use Rattle.am_base.specs.declared.image.Row.{Row}
 use Rattle.am_base.specs.declared.image.Image.{Image}
 use Rattle.am_base.specs.Names.{place_of, life_of}
-use Rattle.am_base.specs.Lists.{is_blank, at_place, row_of, member_life, with_row, viewed, after}
-use Rattle.am_chain_lists.specs.Whole.{Begins, BeginsBelow, IsGood, told, mem}
+use Rattle.am_base.specs.Lists.{is_blank, at_place, row_of, member_life, with_row, row_after_view, after}
+use Rattle.am_chain_lists.specs.Whole.{Begins, BeginsBelow, IsGood, image_of, mem}
 use Rattle.am_chain_lists.proofs.Prefixes.{begins_same, begins_pushed}
 use Rattle.am_chain_lists.proofs.Rows.{by_cases, row_at, In, mod16, row_set, row_view, blank_joined}
 use Rattle.am_chain_lists.proofs.Members.{good_begins, told_push, long_told, mem_in, in_mem, mem_push}
@@ -37,7 +37,7 @@ left_row image n name long h =
     (row_set image name (place_of name) (record (at_place image name) { left = n }) long))
 
 -- after a View a member is one, or its row tells that it left
-view_row : (n given life : ℕ) (r : Row) → In r life → In (viewed false n given r) life ⊎ ((viewed false n given r) ≡ record r { left = n })
+view_row : (n given life : ℕ) (r : Row) → In r life → In (row_after_view false n given r) life ⊎ ((row_after_view false n given r) ≡ record r { left = n })
 view_row n given life r h = by_cases (nat_lt 0 (member_life r) && not (member_life r == given))
     (λ t. inr (rw t refl))
     (λ f. inl (rw f h))
@@ -52,35 +52,35 @@ viewed_row image n stamp names resilience name long h =
     let is = row_view image n stamp names resilience place (mod16 name) in
     let full : is_blank image ≡ false = by_cases (is_blank image) (λ t. absurd (let none = blank_joined image place t in let some = h.joined in omega arith))
     (λ f. f) in
-    let at : row_at next place ≡ viewed false n (slice_index names place) (row_at image place) = is
-    ∙ ap (λ b. viewed b n (slice_index names place) (row_at image place)) full in
+    let at : row_at next place ≡ row_after_view false n (slice_index names place) (row_at image place) = is
+    ∙ ap (λ b. row_after_view b n (slice_index names place) (row_at image place)) full in
     ⊎_elim
-    (λ (z : In (viewed false n (slice_index names place) (row_at image place)) (life_of name)). inl (subst (λ q. In q (life_of name)) (sym at) z))
-    (λ (z : viewed false n (slice_index names place) (row_at image place) ≡ record (row_at image place) { left = n }). inr
+    (λ (z : In (row_after_view false n (slice_index names place) (row_at image place)) (life_of name)). inl (subst (λ q. In q (life_of name)) (sym at) z))
+    (λ (z : row_after_view false n (slice_index names place) (row_at image place) ≡ record (row_at image place) { left = n }). inr
     (row_alive next name (record (row_at image place) { left = n }) (at ∙ z) h.is))
     (view_row n (slice_index names place) (life_of name) (row_at image place) h)
 
 -- ---- the last entry
 
-last_keeps : (a : List Entry) (e : Entry) (name : ℕ) → IsGood (a ++ e ∷ []) → mem a name ≡ true → (row_of (told (a ++ e ∷ [])) name).left ≡ 0
+last_keeps : (a : List Entry) (e : Entry) (name : ℕ) → IsGood (a ++ e ∷ []) → mem a name ≡ true → (row_of (image_of (a ++ e ∷ [])) name).left ≡ 0
     → mem (a ++ e ∷ []) name ≡ true
 last_keeps a (Data from req body) name good member left = mem_push a (Data from req body) name good tt member
 last_keeps a (Join joiner) name good member left = mem_push a (Join joiner) name good tt member
 last_keeps a (Leave leaver) name good member left = by_cases (leaver == name)
     (λ t. absurd (let same : leaver ≡ name = grind (arith, nat_tests) in
-    let row = left_row (told a) (1 + length a) name (long_told a) (mem_in a name member) in
-    let z : (row_of (told (a ++ Leave leaver ∷ [])) name).left ≡ 1 + length a = ap (λ k. (row_of (told (a ++ Leave k ∷ [])) name).left) same
+    let row = left_row (image_of a) (1 + length a) name (long_told a) (mem_in a name member) in
+    let z : (row_of (image_of (a ++ Leave leaver ∷ [])) name).left ≡ 1 + length a = ap (λ k. (row_of (image_of (a ++ Leave k ∷ [])) name).left) same
     ∙ ap (λ (i : Image). (row_of i name).left) (told_push a (Leave name)) ∙ row in
     omega arith))
     (λ f. mem_push a (Leave leaver) name good (λ same. (let t : (leaver == name) ≡ true = grind (arith, nat_tests) in cc)) member)
 last_keeps a (View stamp names resilience) name good member left =
     let e = View stamp names resilience in
     ⊎_elim
-    (λ (z : In (row_at (after (told a) (1 + length a) e) (place_of name)) (life_of name)). in_mem (a ++ e ∷ []) name
+    (λ (z : In (row_at (after (image_of a) (1 + length a) e) (place_of name)) (life_of name)). in_mem (a ++ e ∷ []) name
     (subst (λ (i : Image). In (row_at i (place_of name)) (life_of name)) (sym (told_push a e)) z))
-    (λ (z : (row_of (after (told a) (1 + length a) e) name).left ≡ 1 + length a). absurd
-    (let y : (row_of (told (a ++ e ∷ [])) name).left ≡ 1 + length a = ap (λ (i : Image). (row_of i name).left) (told_push a e) ∙ z in omega arith))
-    (viewed_row (told a) (1 + length a) stamp names resilience name (long_told a) (mem_in a name member))
+    (λ (z : (row_of (after (image_of a) (1 + length a) e) name).left ≡ 1 + length a). absurd
+    (let y : (row_of (image_of (a ++ e ∷ [])) name).left ≡ 1 + length a = ap (λ (i : Image). (row_of i name).left) (told_push a e) ∙ z in omega arith))
+    (viewed_row (image_of a) (1 + length a) stamp names resilience name (long_told a) (mem_in a name member))
 
 -- ---- the whole list
 
@@ -92,16 +92,16 @@ below_nothing : (a : List Entry) → length a < 0 → ⊥
 below_nothing a h = omega arith
 
 ongoing_of : (list : List Entry) (name : ℕ) → IsGood list → ((a d : List Entry) → BeginsBelow d list → Begins a d → mem a name ≡ true → mem d name ≡ true)
-    → (row_of (told list) name).left ≡ 0 → IsOngoing list name
+    → (row_of (image_of list) name).left ≡ 0 → IsOngoing list name
 ongoing_of [] name good own left = λ a h member. subst (λ l. mem l name ≡ true) (begins_same h (omega arith)) member
 ongoing_of (x ∷ xs) name good own left =
     let r = unsnoc x xs in
     λ a h member. ⊎_elim
     (λ (z : Begins a r.0). (let below : BeginsBelow r.0 (x ∷ xs) = record { next = r.1; rest = []; same = sym r.2 } in
     let before = own a r.0 below z member in
-    subst (λ l. mem l name ≡ true) (sym r.2) (last_keeps r.0 r.1 name (subst IsGood r.2 good) before (subst (λ l. (row_of (told l) name).left ≡ 0) r.2 left))))
+    subst (λ l. mem l name ≡ true) (sym r.2) (last_keeps r.0 r.1 name (subst IsGood r.2 good) before (subst (λ l. (row_of (image_of l) name).left ≡ 0) r.2 left))))
     (λ (z : a ≡ r.0 ++ r.1 ∷ []). subst (λ l. mem l name ≡ true) (z ∙ sym r.2) member)
     (begins_pushed r.1 (subst (Begins a) r.2 h))
 
-pub is_ongoing : (s : Group) (i : ℕ) → Kept s → IsUp (s.node i) → (row_of (told (s.node i).list) i).left ≡ 0 → IsOngoing (s.node i).list i
+pub is_ongoing : (s : Group) (i : ℕ) → Kept s → IsUp (s.node i) → (row_of (image_of (s.node i).list) i).left ≡ 0 → IsOngoing (s.node i).list i
 is_ongoing s i k up left = ongoing_of (s.node i).list i (good_begins ((k.each i).list up) k.views.good) ((k.each i).own up) left

@@ -26,9 +26,7 @@ last_stays w v (Some b) stopped h = record { given = λ j is. stopped j (h.given
 pub keeps_in : (w v : World) (s : Group) (i : ℕ) (x : Node) → ((j : ℕ) → is_stopped w j ≡ true → is_stopped v j ≡ true) → NodeKeeps w s i x → NodeKeeps v s i x
 keeps_in w v s i x stopped h = record {
   good = h.good;
-  votes = h.votes;
-  fetches = h.fetches;
-  last = last_stays w v x.ballot stopped h.last;
+  ballots = record { votes = h.votes; fetches = h.fetches; last = last_stays w v x.ballot stopped h.last };
   opens = h.opens;
   reports = h.reports;
   fresh = h.fresh;
@@ -42,9 +40,11 @@ others_keep w v s t i x stopped g h new grows k =
     let same = list_same w v i x (s.node i) (t.node i) h new grows in
     record {
       good = subst IsGood (sym same) k.good;
-      votes = votes_grow s t x.ballot g k.votes;
-      fetches = fetches_grow w s t x.ballot g k.fetches;
-      last = last_stays w v x.ballot stopped k.last;
+      ballots = record {
+        votes = votes_grow s t x.ballot g k.votes;
+        fetches = fetches_grow w s t x.ballot g k.fetches;
+        last = last_stays w v x.ballot stopped k.last;
+      };
       opens = k.opens;
       reports = subst (λ l. Reporting t.node l x.core.base x.reports) (sym same)
           (reporting_grow s.node t.node (s.node i).list x.core.base x.reports (λ j. (g.each j).list) k.reports);

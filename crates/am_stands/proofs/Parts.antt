@@ -11,11 +11,11 @@ use Rattle.am_base.specs.Lists.{blank, fold, after, members_of, entry_at, image_
 use Rattle.am_base.specs.Fronts.{counted_of, counted_at, need_at}
 use Rattle.am_core.proofs.Folds.{slice_get-drop}
 use Rattle.am_fronts.proofs.Views.{view_grows}
-use Rattle.am_chain_lists.specs.Whole.{IsGood, told, mem, resilience_of, Begins}
+use Rattle.am_chain_lists.specs.Whole.{IsGood, image_of, mem, resilience_of, Begins}
 use Rattle.am_chain_lists.proofs.Prefixes.{begins_take, begins_push, length_take, length_push, take_begins}
 use Rattle.am_chain_lists.proofs.Members.{good_begins, told_push, viewed_mem}
 use Rattle.am_chain_moves.specs.Group as groups
-use Rattle.am_chain_moves.specs.Group.{how_many, counted, need_of}
+use Rattle.am_chain_moves.specs.Group.{how_many, counted_in, need_of}
 use Rattle.am_model.specs.Node.{Node}
 use Rattle.am_model.specs.Receiving.{is_view}
 use Rattle.am_model.specs.World.{World}
@@ -33,7 +33,7 @@ pub part_get : (front entries : List Entry) (i : ℕ) → slice_get (front ++ en
 part_get front entries i = sym (slice_get-drop (length front) i (front ++ entries)) ∙ ap (λ l. slice_get l i) (drop-append_seam front entries)
 
 pub image_whole : (v : World) (i n : ℕ) (x : Node) (a : groups.Node) → NameStands v i x a → x.core.log.start ≤ n
-    → image_at x.core.log n ≡ told (take n a.list)
+    → image_at x.core.log n ≡ image_of (take n a.list)
 image_whole v i n x a h low =
     let start_ = x.core.log.start in
     let front = take start_ v.group in
@@ -43,7 +43,7 @@ image_whole v i n x a h low =
     let one : 1 + length front ≡ start_ + 1 = omega arith in
     let is : take n a.list ≡ front ++ part =
     ap (λ k. take k a.list) at ∙ ap (take (length front + (n - start_))) h.list ∙ take-append-add front x.core.log.entries (n - start_) in
-    sym (ap told is ∙ fold_append blank 1 front part ∙ ap (λ (g : Image). fold g (1 + length front) part) (sym h.begins.image)
+    sym (ap image_of is ∙ fold_append blank 1 front part ∙ ap (λ (g : Image). fold g (1 + length front) part) (sym h.begins.image)
     ∙ ap (λ m. fold x.core.log.image m part) one)
 
 pub entry_whole : (v : World) (i n : ℕ) (x : Node) (a : groups.Node) → NameStands v i x a → x.core.log.start < n
@@ -59,7 +59,7 @@ entry_whole v i n x a h low =
 
 -- who counts, and how many are needed
 pub counted_whole : (v : World) (i n : ℕ) (x : Node) (a : groups.Node) → NameStands v i x a → x.core.log.start < n
-    → counted_at x.core.log n ≡ counted a.list n
+    → counted_at x.core.log n ≡ counted_in a.list n
 counted_whole v i n x a h low =
     ap (λ o. counted_of o (members_at x.core.log (n - 1))) (entry_whole v i n x a h low)
     ∙ ap (λ (g : Image). counted_of (slice_get a.list (n - 1)) (members_of g)) (image_whole v i (n - 1) x a h (omega arith))
@@ -69,16 +69,16 @@ pub need_whole : (v : World) (i n : ℕ) (x : Node) (a : groups.Node) → NameSt
 unfolding resilience_of
 need_whole v i n x a h low set =
     let is = counted_whole v i n x a h low in
-    let strong : (image_at x.core.log n).resilience ≡ (told (take n a.list)).resilience = ap (λ (g : Image). g.resilience)
+    let strong : (image_at x.core.log n).resilience ≡ (image_of (take n a.list)).resilience = ap (λ (g : Image). g.resilience)
     (image_whole v i n x a h (omega arith)) in
-    let few : how_many (has (counted a.list n)) ≤ size (counted_at x.core.log n) =
+    let few : how_many (has (counted_in a.list n)) ≤ size (counted_at x.core.log n) =
     subst (λ m. how_many (has m) ≤ size (counted_at x.core.log n)) is (names_few (counted_at x.core.log n) set) in
     omega arith
 
 -- ---- the number of the last View
 
-plain_number : (a : List Entry) (e : Entry) → is_view e ≡ false → (told (a ++ e ∷ [])).view_number ≡ (told a).view_number
-plain_number a e f = ap (λ (g : Image). g.view_number) (told_push a e) ∙ (after_same (told a) (1 + length a) e f).number
+plain_number : (a : List Entry) (e : Entry) → is_view e ≡ false → (image_of (a ++ e ∷ [])).view_number ≡ (image_of a).view_number
+plain_number a e f = ap (λ (g : Image). g.view_number) (told_push a e) ∙ (after_same (image_of a) (1 + length a) e f).number
 
 pub view_its : (image : Image) (number : ℕ) (e : Entry) → is_view e ≡ true → (after image number e).view_number ≡ number
 unfolding after
@@ -99,14 +99,14 @@ number_kept image number (e ∷ es) h = split (is_view e)
     omega arith))
     (λ f. number_kept (after image number e) (number + 1) es (omega arith) ∙ (after_same image number e f).number)
 
-pub part_number : (list : List Entry) (n : ℕ) → n ≤ length list → (told list).view_number ≤ n → (told (take n list)).view_number ≡ (told list).view_number
+pub part_number : (list : List Entry) (n : ℕ) → n ≤ length list → (image_of list).view_number ≤ n → (image_of (take n list)).view_number ≡ (image_of list).view_number
 part_number list n low h =
     let long = length_take n list low in
-    let all : told list ≡ fold (told (take n list)) (1 + n) (drop n list) =
-    ap told (sym (take-append-drop n list)) ∙ fold_append blank 1 (take n list) (drop n list)
-    ∙ ap (λ k. fold (told (take n list)) (1 + k) (drop n list)) long in
+    let all : image_of list ≡ fold (image_of (take n list)) (1 + n) (drop n list) =
+    ap image_of (sym (take-append-drop n list)) ∙ fold_append blank 1 (take n list) (drop n list)
+    ∙ ap (λ k. fold (image_of (take n list)) (1 + k) (drop n list)) long in
     let same = ap (λ (g : Image). g.view_number) all in
-    sym (same ∙ number_kept (told (take n list)) (1 + n) (drop n list) (omega arith))
+    sym (same ∙ number_kept (image_of (take n list)) (1 + n) (drop n list) (omega arith))
 
 fold_low : (image : Image) (n : ℕ) (es : List Entry) → image.view_number < n → (fold image n es).view_number < n + length es
 unfolding fold
@@ -115,7 +115,7 @@ fold_low image n (e ∷ es) h = split (is_view e)
     (λ t. let z = view_its image n e t in let r = fold_low (after image n e) (n + 1) es (omega arith) in omega arith)
     (λ f. let z = (after_same image n e f).number in let r = fold_low (after image n e) (n + 1) es (omega arith) in omega arith)
 
-pub number_low : (list : List Entry) → (told list).view_number ≤ length list
+pub number_low : (list : List Entry) → (image_of list).view_number ≤ length list
 number_low list = let r = fold_low blank 1 list (omega arith) in omega arith
 
 -- ---- who counts is concerned
@@ -138,7 +138,7 @@ pub record Stood (list : List Entry) (n name : ℕ) : Type 0 where
   pub upto : List Entry
   pub begins_ : Begins upto list
   pub near : n ≤ length upto + 1
-  pub from : (told list).view_number ≤ length upto
+  pub from : (image_of list).view_number ≤ length upto
   pub member : mem upto name ≡ true
 
 no_none : (list : List Entry) (n : ℕ) → n < length list → slice_get list n ≡ None → ⊥
@@ -146,8 +146,8 @@ no_none [] n low is = omega arith
 no_none (e ∷ list) zero low is = cc
 no_none (e ∷ list) (suc n) low is = no_none list n (omega arith) is
 
-stood_view : (list : List Entry) (n name : ℕ) (e : Entry) → IsGood list → n < length list → (told list).view_number ≤ n + 1
-    → is_view e ≡ true → slice_get list n ≡ Some e → has (counted_of (Some e) (members_of (told (take n list)))) name ≡ true → Stood list (n + 1) name
+stood_view : (list : List Entry) (n name : ℕ) (e : Entry) → IsGood list → n < length list → (image_of list).view_number ≤ n + 1
+    → is_view e ≡ true → slice_get list n ≡ Some e → has (counted_of (Some e) (members_of (image_of (take n list)))) name ≡ true → Stood list (n + 1) name
 stood_view list n name (Data from req body) good low high t is h = absurd (cc)
 stood_view list n name (Join joiner) good low high t is h = absurd (cc)
 stood_view list n name (Leave leaver) good low high t is h = absurd (cc)
@@ -163,38 +163,38 @@ stood_view list n name (View stamp names resilience) good low high t is h =
       member = subst (λ l. mem l name ≡ true) (sym part) (viewed_mem (take n list) stamp names resilience name good_part h);
     }
 
-stood_plain : (list : List Entry) (n name : ℕ) (e : Entry) → n < length list → (told list).view_number ≤ n + 1
-    → is_view e ≡ false → slice_get list n ≡ Some e → has (counted_of (Some e) (members_of (told (take n list)))) name ≡ true → Stood list (n + 1) name
+stood_plain : (list : List Entry) (n name : ℕ) (e : Entry) → n < length list → (image_of list).view_number ≤ n + 1
+    → is_view e ≡ false → slice_get list n ≡ Some e → has (counted_of (Some e) (members_of (image_of (take n list)))) name ≡ true → Stood list (n + 1) name
 unfolding mem
 stood_plain list n name e low high f is h =
     let part = next_part list n e low is in
     let long : length (take n list) ≡ n = length_take n list (omega arith) in
     let same = part_number list (n + 1) (omega arith) high in
-    let before = ap (λ l. (told l).view_number) part ∙ plain_number (take n list) e f in
+    let before = ap (λ l. (image_of l).view_number) part ∙ plain_number (take n list) e f in
     let short = number_low (take n list) in
     record {
       upto = take n list;
       begins_ = begins_take n list;
       near = omega arith;
       from = omega arith;
-      member = ap (λ set. has set name) (sym (plain_counts e (members_of (told (take n list))) f)) ∙ h;
+      member = ap (λ set. has set name) (sym (plain_counts e (members_of (image_of (take n list))) f)) ∙ h;
     }
 
-stood_in : (list : List Entry) (n name : ℕ) (o : Option Entry) → IsGood list → n < length list → (told list).view_number ≤ n + 1
-    → slice_get list n ≡ o → has (counted_of o (members_of (told (take n list)))) name ≡ true → Stood list (n + 1) name
+stood_in : (list : List Entry) (n name : ℕ) (o : Option Entry) → IsGood list → n < length list → (image_of list).view_number ≤ n + 1
+    → slice_get list n ≡ o → has (counted_of o (members_of (image_of (take n list)))) name ≡ true → Stood list (n + 1) name
 stood_in list n name None good low high is h = absurd (no_none list n low is)
 stood_in list n name (Some e) good low high is h = split (is_view e)
     (λ t. stood_view list n name e good low high t is h)
     (λ f. stood_plain list n name e low high f is h)
 
-pub stood : (list : List Entry) (n name : ℕ) → IsGood list → 0 < n → n ≤ length list → (told list).view_number ≤ n → has (counted list n) name ≡ true
+pub stood : (list : List Entry) (n name : ℕ) → IsGood list → 0 < n → n ≤ length list → (image_of list).view_number ≤ n → has (counted_in list n) name ≡ true
     → Stood list n name
 stood list n name good low high view_ h =
     let one : n - 1 + 1 ≡ n = omega arith in
     subst (λ k. Stood list k name) one (stood_in list (n - 1) name (slice_get list (n - 1)) good (omega arith) (omega arith) refl h)
 
-pub counted_concerned : (list : List Entry) (n name : ℕ) → IsGood list → 0 < n → n ≤ length list → (told list).view_number ≤ n
-    → has (counted list n) name ≡ true → IsConcerned list name
+pub counted_concerned : (list : List Entry) (n name : ℕ) → IsGood list → 0 < n → n ≤ length list → (image_of list).view_number ≤ n
+    → has (counted_in list n) name ≡ true → IsConcerned list name
 counted_concerned list n name good low high from_ h =
     let s = stood list n name good low high from_ h in
     record { upto = s.upto; begins = s.begins_; from = s.from; member = s.member }

@@ -7,14 +7,14 @@ use Rattle.am_base.specs.declared.image.Report.{Report}
 use Rattle.am_base.specs.Founding.{Rules}
 use Rattle.am_base.specs.Lists.{told_by}
 use Rattle.am_core.specs.Cores.{accept, pass_over}
-use Rattle.am_fronts.specs.Reports.{reported}
+use Rattle.am_fronts.specs.Reports.{after_report}
 use Rattle.am_fronts.specs.Refresh.{own_report, tell, go_on, let_go}
-use Rattle.am_chain_lists.specs.Whole.{IsGood, told, mem}
+use Rattle.am_chain_lists.specs.Whole.{IsGood, image_of, mem}
 use Rattle.am_chain_lists.proofs.Members.{mem_in}
 use Rattle.am_chain_moves.specs.Group.{Group}
 use Rattle.am_chain_moves.specs.Kept.{Kept}
 use Rattle.am_model.specs.Node as nodes
-use Rattle.am_model.specs.Node.{Node, view, acts, is_member, is_sequencer, lowest_or_first}
+use Rattle.am_model.specs.Node.{Node, is_member, is_sequencer, lowest_or_first}
 use Rattle.am_model.specs.Calls.{is_unfinished}
 use Rattle.am_model.specs.Group.{has_log}
 use Rattle.am_model.specs.Refresh.{advance, lead, refresh}
@@ -31,17 +31,17 @@ use Rattle.am_stands.proofs.Accepting.{own_reporting}
 use Rattle.am_stands.proofs.Changes.{told_whole, long_all, is_up}
 use Rattle.am_stands.proofs.ChainNames.{concerned_small, front_named}
 use Rattle.am_stands.proofs.Keeping.{old, list_member, sequencer_member}
-use Rattle.am_stands.proofs.Keeps.{Ballots, ballots, ballots_grow, trimmed_grow}
+use Rattle.am_stands.proofs.Keeps.{ballots_grow, trimmed_grow}
 use Rattle.am_stands.proofs.Onward.{group_kept}
 use Rattle.am_stands.proofs.Reporting.{reporting_grow, reporting_base}
 use Rattle.am_stands.proofs.Trimming.{Refreshed, refresh_trims}
-use Rattle.am_stands.specs.Keeping.{GroupFor, NodeKeeps, OwnTurn, RefreshesKeep, Refreshing, Stepping}
+use Rattle.am_stands.specs.Keeping.{Ballots, GroupFor, NodeKeeps, OwnTurn, RefreshesKeep, Refreshing, Stepping}
 
 -- ---- what a refresh does to reports and base
 
 -- its own report, before what is accepted goes on and after it
 abbrev twice : Node → ℕ → Report
-twice x = λ name. reported (reported x.reports x.core.who (nodes.report_of x)) x.core.who (nodes.report_of (lead x)) name
+twice x = λ name. after_report (after_report x.reports x.core.who (nodes.report_of x)) x.core.who (nodes.report_of (lead x)) name
 
 lead_reports : (x : Node) → (lead x).reports ≡ twice x
 unfolding lead own_report tell go_on let_go accept pass_over
@@ -60,7 +60,7 @@ unfolding refresh
 follow_follows x f = rw f refl
 
 -- a member could not join anew
-pub member_old : (list : List Entry) (name : ℕ) → mem list name ≡ true → IsNew (told list) name → ⊥
+pub member_old : (list : List Entry) (name : ℕ) → mem list name ≡ true → IsNew (image_of list) name → ⊥
 member_old list name member new =
     let k = mem_in list name member in
     let j = k.joined in
@@ -93,7 +93,7 @@ module _ (rules : Rules) (w v : World) (name : ℕ) (c : Cause) (x : Node) (s t 
   base_up = (rests_refresh x).rests.base
 
   ballots_y : Ballots w t y.ballot
-  ballots_y = subst (Ballots w t) (sym (rests_refresh x).rests.ballot) (ballots_grow w s t x.ballot g (ballots rules w name c x s h))
+  ballots_y = subst (Ballots w t) (sym (rests_refresh x).rests.ballot) (ballots_grow w s t x.ballot g h.keeps.ballots)
 
   sends_y : y.sends ≡ x.sends
   sends_y = ap (λ (n : Node). n.sends) (refresh_is x)
@@ -112,9 +112,9 @@ module _ (rules : Rules) (w v : World) (name : ℕ) (c : Cause) (x : Node) (s t 
 
   -- with its own report, of what its application has taken
   own_more : (taken : ℕ) (reports : ℕ → Report) → taken ≤ nodes.top x → Reporting t.node (t.node name).list x.core.base reports
-      → Reporting t.node (t.node name).list x.core.base (reported reports x.core.who (record { stored = nodes.top x; taken = taken }))
+      → Reporting t.node (t.node name).list x.core.base (after_report reports x.core.who (record { stored = nodes.top x; taken = taken }))
   own_more taken reports low r = subst (λ z. Reporting t.node (t.node name).list x.core.base
-      (reported reports x.core.who (record { stored = z; taken = taken })))
+      (after_report reports x.core.who (record { stored = z; taken = taken })))
       long (own_reporting t.node (t.node name).list x.core.base x.core.who taken reports (let size_ = long in omega arith) (ap (λ j. (t.node j).list) h.who) r)
 
   -- ---- a sequencer's
@@ -134,14 +134,14 @@ module _ (rules : Rules) (w v : World) (name : ℕ) (c : Cause) (x : Node) (s t 
         let top_ : nodes.top y ≡ nodes.top x = ap (λ l. l.start + length l.entries) log in
         (omega arith, omega arith)
 
-    reports_are : y.reports ≡ reported (reported x.reports x.core.who (nodes.report_of x)) x.core.who (record { stored = nodes.top x; taken = y.core.taken })
+    reports_are : y.reports ≡ after_report (after_report x.reports x.core.who (nodes.report_of x)) x.core.who (record { stored = nodes.top x; taken = y.core.taken })
     reports_are = ap (λ (n : Node). n.reports) is ∙ lead_reports x
-        ∙ ap (λ z. reported (reported x.reports x.core.who (nodes.report_of x)) x.core.who z)
+        ∙ ap (λ z. after_report (after_report x.reports x.core.who (nodes.report_of x)) x.core.who z)
         (ap nodes.report_of (sym is) ∙ ap (λ z. record { stored = z; taken = y.core.taken }) (ap (λ l. l.start + length l.entries) log))
 
     reports_led : Reporting t.node (t.node name).list x.core.base y.reports
     reports_led = (let low = fronts_in in subst (Reporting t.node (t.node name).list x.core.base) (sym reports_are)
-        (own_more y.core.taken (reported x.reports x.core.who (nodes.report_of x)) low.0 (own_more x.core.taken x.reports low.1 reports_grow)))
+        (own_more y.core.taken (after_report x.reports x.core.who (nodes.report_of x)) low.0 (own_more x.core.taken x.reports low.1 reports_grow)))
 
     leads_y : is_sequencer y ≡ true
     leads_y = leads_rests (rests_refresh x).rests ∙ leads
@@ -174,7 +174,7 @@ module _ (rules : Rules) (w v : World) (name : ℕ) (c : Cause) (x : Node) (s t 
     fresh_led : ReportsFresh y
     fresh_led j new_ = split (j == x.core.who)
         (λ u. absurd (let same : j ≡ x.core.who = grind (arith, nat_tests) in
-        let told_ : nodes.told y ≡ told (s.node name).list = ap told_by log ∙ sym (told_whole w name name x (s.node name) olds) in
+        let told_ : nodes.image_of y ≡ image_of (s.node name).list = ap told_by log ∙ sym (told_whole w name name x (s.node name) olds) in
         member_old (s.node name).list j (subst (λ i. mem (s.node name).list i ≡ true) (sym (same ∙ h.who)) (list_member rules w name c x s h leads))
         (subst (λ (i : Image). IsNew i j) told_ new_)))
         (λ f. let old_ = k.fresh j (subst (λ (i : Image). IsNew i j) (ap told_by log) new_) in
@@ -203,9 +203,7 @@ module _ (rules : Rules) (w v : World) (name : ℕ) (c : Cause) (x : Node) (s t 
   pub keeps_refresh : NodeKeeps w t name (refresh x)
   keeps_refresh = record {
     good = subst IsGood (sym now.list) k.good;
-    votes = ballots_y.votes;
-    fetches = ballots_y.fetches;
-    last = ballots_y.last;
+    ballots = ballots_y;
     opens = opens_y;
     reports = reports_y;
     fresh = fresh_y;

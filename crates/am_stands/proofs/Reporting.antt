@@ -9,9 +9,9 @@ use Rattle.am_base.specs.declared.image.Row.{Row}
 use Rattle.am_base.specs.declared.image.Image.{Image}
 use Rattle.am_base.specs.declared.name.Stamp.{Stamp}
 use Rattle.am_base.specs.Names.{place_of, life_of}
-use Rattle.am_base.specs.Lists.{is_blank, at_place, row_of, member_life, with_row, viewed, fits, after}
-use Rattle.am_fronts.specs.Reports.{reported, admitted, restarted}
-use Rattle.am_chain_lists.specs.Whole.{Begins, IsGood, told, mem, view_of, key}
+use Rattle.am_base.specs.Lists.{is_blank, at_place, row_of, member_life, with_row, row_after_view, fits, after}
+use Rattle.am_fronts.specs.Reports.{after_report, with_admitted, reports_from}
+use Rattle.am_chain_lists.specs.Whole.{Begins, IsGood, image_of, mem, view_of, key}
 use Rattle.am_chain_lists.proofs.Prefixes.{begins_refl, begins_more, begins_trans, begins_both, begins_length, begins_take, begins_pushed, length_push}
 use Rattle.am_chain_lists.proofs.Prefixes.{length_take, take_begins}
 use Rattle.am_chain_lists.proofs.Rows.{row_at, In, mod16, row_set, row_view, blank_joined}
@@ -23,7 +23,7 @@ use Rattle.am_model.proofs.Greatest.{split}
 use Rattle.am_laws.proofs.ViewSteps.{after_same}
 use Rattle.am_stands.specs.Letters.{line, IsDecided, ReportSays, LeaverSays, of_view, before_it}
 use Rattle.am_stands.specs.States.{IsConcerned, Reporting, IsNew}
-use Rattle.am_stands.proofs.Concerned.{reporting_on}
+use Rattle.am_stands.proofs.Concerned.{reporting_joins}
 use Rattle.am_stands.proofs.Joins.{Becomes, stayed, joins, founds, became, blank_nil}
 use Rattle.am_stands.proofs.Parts.{number_low, view_its}
 use Rattle.am_stands.proofs.Results.{last_view_at}
@@ -49,7 +49,7 @@ reporting_base node list base more reports up r = record {
 }
 
 -- all begin anew
-pub reporting_anew : (node : ℕ → groups.Node) (list : List Entry) (base : ℕ) → base ≤ length list → Reporting node list base (restarted base)
+pub reporting_anew : (node : ℕ → groups.Node) (list : List Entry) (base : ℕ) → base ≤ length list → Reporting node list base (reports_from base)
 reporting_anew node list base low = record {
   within = λ name. split (nat_lt name 256) (λ t. rw t low) (λ f. rw f (omega arith));
   taken = λ name. split (nat_lt name 256) (λ t. rw t (omega arith)) (λ f. rw f (omega arith));
@@ -58,7 +58,7 @@ reporting_anew node list base low = record {
 
 -- one that begins at the base
 pub reporting_admit : (node : ℕ → groups.Node) (list : List Entry) (base who : ℕ) (reports : ℕ → Report) → base ≤ length list → Reporting node list base reports
-    → Reporting node list base (admitted reports who base)
+    → Reporting node list base (with_admitted reports who base)
 reporting_admit node list base who reports low r = record {
   within = λ name. split (name == who) (λ t. rw t low) (λ f. rw f (r.within name));
   taken = λ name. split (name == who) (λ t. rw t (omega arith)) (λ f. rw f (r.taken name));
@@ -68,7 +68,7 @@ reporting_admit node list base who reports low r = record {
 -- one more, that is true where its name is concerned
 pub reporting_more : (node : ℕ → groups.Node) (list : List Entry) (base who : ℕ) (report : Report) (reports : ℕ → Report) → report.stored ≤ length list
     → report.taken ≤ report.stored → (IsConcerned list who → Begins (take report.stored list) (node who).list) → Reporting node list base reports
-    → Reporting node list base (reported reports who report)
+    → Reporting node list base (after_report reports who report)
 reporting_more node list base who report reports low took its r = record {
   within = λ name. split (name == who) (λ t. (let old = r.within who in let same : name ≡ who = grind (arith, nat_tests) in
       rw t (let z = r.within name in omega arith))) (λ f. rw f (r.within name));
@@ -96,10 +96,10 @@ reporting_more node list base who report reports low took its r = record {
 -- ---- an entry more
 
 member_before : (a : List Entry) (e : Entry) (name : ℕ) → IsGood a → mem (a ++ e ∷ []) name ≡ true → (mem a name ≡ true) ⊎ ((e ≡ Join name) ⊎ (a ≡ []))
-member_before a e name good h = by_kind (became (told a) (1 + length a) e name (long_told a) (omega arith)
+member_before a e name good h = by_kind (became (image_of a) (1 + length a) e name (long_told a) (omega arith)
     (subst (λ (i : Image). In (row_at i (place_of name)) (life_of name)) (told_push a e) (mem_in (a ++ e ∷ []) name h)))
   where
-    by_kind : Becomes (told a) (1 + length a) e name → (mem a name ≡ true) ⊎ ((e ≡ Join name) ⊎ (a ≡ []))
+    by_kind : Becomes (image_of a) (1 + length a) e name → (mem a name ≡ true) ⊎ ((e ≡ Join name) ⊎ (a ≡ []))
     by_kind (stayed in_ same) = inl (in_mem a name in_)
     by_kind (joins is same) = inr (inl is)
     by_kind (founds viewed_ blank_ same) = inr (inr (blank_nil a good blank_))
@@ -113,27 +113,20 @@ concerned_before a e name good h = ⊎_elim
     (member_before a e name good (subst (λ l. mem l name ≡ true) z h.member)))
     (begins_pushed e h.begins)
   where
-    low : Begins h.upto a → (told a).view_number ≤ length h.upto
+    low : Begins h.upto a → (image_of a).view_number ≤ length h.upto
     low z =
         let from_ = h.from in
         let short = begins_length z in
         let last = ap (λ (i : Image). i.view_number) (told_push a e) in
         split (is_view e)
-        (λ t. absurd (let is = view_its (told a) (1 + length a) e t in omega arith))
-        (λ f. (let is = (after_same (told a) (1 + length a) e f).number in omega arith))
+        (λ t. absurd (let is = view_its (image_of a) (1 + length a) e t in omega arith))
+        (λ f. (let is = (after_same (image_of a) (1 + length a) e f).number in omega arith))
 
 pub reporting_pushed : (node after_ : ℕ → groups.Node) (list : List Entry) (e : Entry) (base : ℕ) (reports : ℕ → Report) → IsGood list
     → ((i : ℕ) → Begins (node i).list (after_ i).list) → ((i : ℕ) → e ≡ Join i → (reports i).stored ≤ base)
     → Reporting node list base reports → Reporting after_ (list ++ e ∷ []) base reports
-reporting_pushed node after_ list e base reports good grow fresh r = reporting_on node after_ list e base reports
-    (λ name above concerned. ⊎_elim
-    (λ (z : IsConcerned list name). z)
-    (λ (z : (e ≡ Join name) ⊎ (list ≡ [])). absurd (⊎_elim
-    (λ (y : e ≡ Join name). (let low = fresh name y in let x : ⊥ = omega arith in x))
-    (λ (y : list ≡ []). (let low = r.within name in let none = ap length y in let x : ⊥ = omega arith in x))
-    z))
-    (concerned_before list e name good concerned))
-    grow r
+reporting_pushed node after_ list e base reports good = reporting_joins node after_ list e base reports
+    (λ name concerned. concerned_before list e name good concerned)
 
 -- ---- who may join yet
 
@@ -167,7 +160,7 @@ join_row image joiner name n some new place h =
     (λ (y : (at_place image joiner).life < life_of joiner). inr (omega arith)) new)
     h)
 
-viewed_row : (first : Bool) (n given life : ℕ) (r : Row) → (first ≡ true → r.joined ≡ 0) → NewRow (viewed first n given r) life → NewRow r life
+viewed_row : (first : Bool) (n given life : ℕ) (r : Row) → (first ≡ true → r.joined ≡ 0) → NewRow (row_after_view first n given r) life → NewRow r life
 viewed_row true n given life r none = λ h. inl (none refl)
 viewed_row false n given life r none = split (nat_lt 0 (member_life r) && not (member_life r == given))
     (λ t. rw t (λ h. h))

@@ -10,7 +10,7 @@ use Rattle.am_base.specs.declared.image.Image.{Image}
 use Rattle.am_base.specs.declared.image.Row.{Row}
 use Rattle.am_base.specs.Names.{place_of, has}
 use Rattle.am_base.specs.Lists.{members_of, row_of}
-use Rattle.am_chain_lists.specs.Whole.{Begins, IsGood, told, mem}
+use Rattle.am_chain_lists.specs.Whole.{Begins, IsGood, image_of, mem}
 use Rattle.am_chain_lists.proofs.Rows.{row_at}
 use Rattle.am_chain_lists.proofs.Members.{mem_in}
 use Rattle.am_chain_moves.specs.Group as groups
@@ -19,7 +19,7 @@ use Rattle.am_sender.specs.Sends as own
 use Rattle.am_model.specs.Node as nodes
 use Rattle.am_model.specs.Node.{Node, waiting}
 use Rattle.am_model.specs.Claims.{requests_of, request_in}
-use Rattle.am_model.specs.Refresh.{accepted_at, settled_at, settled, settle}
+use Rattle.am_model.specs.Refresh.{accepted_at, settle_at, settle_waiting, settle}
 use Rattle.am_model.specs.World.{World}
 use Rattle.am_model.proofs.Greatest.{split}
 use Rattle.am_orders.proofs.Turns.{request_within, next_in}
@@ -55,7 +55,7 @@ turn_collected who req list sends k = record {
 
 -- its waiting send is settled where it stands
 settled_turn_at : (v : World) (i : ℕ) (x : Node) (a : groups.Node) (s : OwnSend) (at : Option ℕ) → NameStands v i x a → IsGood a.list → waiting x ≡ Some s
-    → accepted_at x s.req ≡ at → OwnTurn x.core.who a.list x.sends → OwnTurn x.core.who a.list (settled_at x s.req at).sends
+    → accepted_at x s.req ≡ at → OwnTurn x.core.who a.list x.sends → OwnTurn x.core.who a.list (settle_at x s.req at).sends
 settled_turn_at v i x a s None h good w is k = k
 settled_turn_at v i x a s (Some number) h good w is k =
     let same = waiting_is k.next k.next x.sends.last x.sends.queue s k.turn w in
@@ -74,7 +74,7 @@ settled_turn_at v i x a s (Some number) h good w is k =
     }
 
 settled_turn : (v : World) (i : ℕ) (x : Node) (a : groups.Node) (w : Option OwnSend) → NameStands v i x a → IsGood a.list → waiting x ≡ w
-    → OwnTurn x.core.who a.list x.sends → OwnTurn x.core.who a.list (settled x w).sends
+    → OwnTurn x.core.who a.list x.sends → OwnTurn x.core.who a.list (settle_waiting x w).sends
 settled_turn v i x a None h good w k = k
 settled_turn v i x a (Some s) h good w k = settled_turn_at v i x a s (accepted_at x s.req) h good w refl k
 
@@ -94,9 +94,9 @@ own_fits v i x a h good member k q is last =
     let next = next_in a.list who good.fit in
     let in_ = mem_in a.list who member in
     let row = next.own in_.joined in_.is in
-    let here : (nodes.own_row x).last ≡ (row_at (told a.list) (place_of who)).last =
+    let here : (nodes.own_row x).last ≡ (row_at (image_of a.list) (place_of who)).last =
     ap (λ (r : Row). r.last) (ap (λ (g : Image). row_of g who) (sym told_is) ∙ member_row a.list who member) in
     let above : (nodes.own_row x).last < q.req = grind (arith, nat_tests) in
     let low = k.low in
-    let listed : has (members_of (nodes.told x)) who ≡ true = ap (λ (g : Image). has (members_of g) who) (sym told_is) ∙ member in
-    fits_data (nodes.told x) who q.req q.body listed (omega arith)
+    let listed : has (members_of (nodes.image_of x)) who ≡ true = ap (λ (g : Image). has (members_of g) who) (sym told_is) ∙ member in
+    fits_data (nodes.image_of x) who q.req q.body listed (omega arith)

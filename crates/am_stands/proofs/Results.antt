@@ -9,7 +9,7 @@ use Rattle.am_base.specs.declared.name.Stamp.{Stamp}
 use Rattle.am_base.specs.Stamps.{stamp_eq}
 use Rattle.am_base.specs.Lists.{after, fold, entry_at}
 use Rattle.am_group.specs.Journals.{item_at}
-use Rattle.am_chain_lists.specs.Whole.{Begins, IsGood, told, view_of, key}
+use Rattle.am_chain_lists.specs.Whole.{Begins, IsGood, image_of, view_of, key}
 use Rattle.am_chain_lists.proofs.Prefixes.{next_of}
 use Rattle.am_chain_lists.proofs.Members.{fold_append, told_push}
 use Rattle.am_chain_lists.proofs.Order.{view_viewed}
@@ -44,16 +44,16 @@ plain_fold image n (e ∷ es) h = split (is_view e)
 
 pub last_view_at : (before : List Entry) (v : Stamp) (names : List ℕ) (resilience : ℕ) (list : List Entry) → IsGood list
     → Begins (before ++ View v names resilience ∷ []) list → view_of list ≡ v
-    → ((told list).view_number ≡ length before + 1) × ((told list).resilience ≡ resilience)
+    → ((image_of list).view_number ≡ length before + 1) × ((image_of list).resilience ≡ resilience)
 last_view_at before v names resilience list good h viewed =
     let e = View v names resilience in
     let a = before ++ e ∷ [] in
     let none = none_after a h.rest (subst IsGood (sym h.same) good) (ap view_of h.same ∙ viewed ∙ sym (view_viewed before v names resilience)) in
-    let rest = plain_fold (told a) (1 + length a) h.rest none in
-    let all : told list ≡ fold (told a) (1 + length a) h.rest = ap told (sym h.same) ∙ fold_append _ 1 a h.rest in
+    let rest = plain_fold (image_of a) (1 + length a) h.rest none in
+    let all : image_of list ≡ fold (image_of a) (1 + length a) h.rest = ap image_of (sym h.same) ∙ fold_append _ 1 a h.rest in
     let last = told_push before e in
-    let its = after_view (told before) (1 + length before) v names resilience in
-    let number : (told list).view_number ≡ 1 + length before = ap (λ (g : Image). g.view_number) all ∙ rest.0 ∙ ap (λ (g : Image). g.view_number) last
+    let its = after_view (image_of before) (1 + length before) v names resilience in
+    let number : (image_of list).view_number ≡ 1 + length before = ap (λ (g : Image). g.view_number) all ∙ rest.0 ∙ ap (λ (g : Image). g.view_number) last
     ∙ its.1 in
     (omega arith, ap (λ (g : Image). g.resilience) all ∙ rest.1 ∙ ap (λ (g : Image). g.resilience) last ∙ its.2)
 
@@ -76,8 +76,8 @@ tells_leads n member (decided b number names there answer at) told mine =
 pub result_said : (v : World) (i number : ℕ) (n : Node) (names : List ℕ) (s : Group) → Speaks v i n s → is_sequencer n ≡ true
     → (s.views.chosen (key n.core.promise)).stamp ≡ n.core.promise
     → Begins (opening (s.views.chosen (key n.core.promise))) (s.views.line (key n.core.promise))
-    → n.core.log.start < (nodes.told n).view_number → number ≡ (nodes.told n).view_number → viewed_by (entry_at n.core.log number) ≡ names
-    → ResultSays s i n.core.promise number names (nodes.told n).resilience
+    → n.core.log.start < (nodes.image_of n).view_number → number ≡ (nodes.image_of n).view_number → viewed_by (entry_at n.core.log number) ≡ names
+    → ResultSays s i n.core.promise number names (nodes.image_of n).resilience
 result_said v i number n names s h t stamp opens low is viewed =
     let a = s.node i in
     let l = leading v i n s h t in
@@ -91,7 +91,7 @@ result_said v i number n names s h t stamp opens low is viewed =
     let at : slice_get a.list (length c.before) ≡ Some (View n.core.promise c.members c.resilience) = next_of c.before
     (View n.core.promise c.members c.resilience) here in
     let where_ : number ≡ length c.before + 1 = is ∙ ap (λ (g : Image). g.view_number) (sym told_is) ∙ last.0 in
-    let strong : c.resilience ≡ (nodes.told n).resilience = sym last.1 ∙ ap (λ (g : Image). g.resilience) told_is in
+    let strong : c.resilience ≡ (nodes.image_of n).resilience = sym last.1 ∙ ap (λ (g : Image). g.resilience) told_is in
     let index : number - 1 ≡ length c.before = omega arith in
     let entry : entry_at n.core.log number ≡ Some (View n.core.promise c.members c.resilience) = entry_whole v i number n a h.stands (omega arith)
     ∙ ap (slice_get a.list) index ∙ at in

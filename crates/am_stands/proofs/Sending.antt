@@ -148,8 +148,8 @@ module _ (v : World) (i : ℕ) (c : Cause) (m n : Node) (s : Group) (h : Sender 
       says.for_ballot known.0 (λ j in_. subst (AllShown s n.core.promise) (sym (only_one from j (ap (λ set. has set j) (sym is) ∙ in_))) known.1)
 
   -- a View of its own
-  told_result : (number : ℕ) (names : List ℕ) → number ≡ (nodes.told n).view_number → viewed_by (entry_at n.core.log number) ≡ names → MayTell n
-      → n.core.promise.by ≡ i → ResultSays s i n.core.promise number names (nodes.told n).resilience
+  told_result : (number : ℕ) (names : List ℕ) → number ≡ (nodes.image_of n).view_number → viewed_by (entry_at n.core.log number) ≡ names → MayTell n
+      → n.core.promise.by ≡ i → ResultSays s i n.core.promise number names (nodes.image_of n).resilience
   told_result number names is viewed may mine =
       let member = logged_member (tells_log may) in
       let t = tells_leads n member may h.ballots.own (mine ∙ sym h.who) in
@@ -266,7 +266,7 @@ sent_says v i c m n s to p h (welcome name t may) =
     so v i c m n s h (only_name name) _ (
       h.trimmed,
       λ j in_.
-          subst (λ k. says.WelcomeTo s k n.core.promise n.core.base (row_of (nodes.told n) name).joined (image_at n.core.log n.core.base) j) (sym h.who)
+          subst (λ k. says.WelcomeTo s k n.core.promise n.core.base (row_of (nodes.image_of n) name).joined (image_at n.core.log n.core.base) j) (sym h.who)
           (welcome_says v i n s name (speaks_leading v i c m n s h t) t h.fronts h.numbers.kept (omega arith) is h.trimmed j in_),
     )
 sent_says v i c m n s to p h (leave_ask _ member leaves) = so v i c m n s h to _
@@ -314,7 +314,7 @@ sent_says v i c m n s to p h (piece from u stored number e is may at) =
     }
 sent_says v i c m n s to p h (result _ number names is viewed may) = so v i c m n s h to _ (
   h.trimmed,
-  λ mine. subst (λ j. ResultSays s j n.core.promise number names (nodes.told n).resilience) (sym h.who)
+  λ mine. subst (λ j. ResultSays s j n.core.promise number names (nodes.image_of n).resilience) (sym h.who)
       (told_result v i c m n s h number names is viewed may (mine ∙ h.who)),
 )
 sent_says v i c m n s to p h (hand_over _ t leaves) = so v i c m n s h to _ tt

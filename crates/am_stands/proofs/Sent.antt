@@ -9,7 +9,7 @@ use Rattle.am_base.specs.declared.name.Stamp.{Stamp}
 use Rattle.am_base.specs.declared.image.Image.{Image}
 use Rattle.am_base.specs.Stamps.{stamp_eq}
 use Rattle.am_group.specs.Journals.{item_at}
-use Rattle.am_chain_lists.specs.Whole.{Begins, view_of, key}
+use Rattle.am_chain_lists.specs.Whole.{Begins, IsGood, view_of, key}
 use Rattle.am_chain_lists.proofs.Prefixes.{begins_trans, take_begins, begins_refl}
 use Rattle.am_chain_moves.specs.Group as groups
 use Rattle.am_chain_moves.specs.Group.{Group, IsUp, chain_of}
@@ -108,6 +108,17 @@ leading v i n s h t =
       line_ = ap s.views.line (ap key (sym viewed)) ∙ leads_line s i h.kept leads;
       current = keys;
     }
+
+-- its list is the chain
+pub record OnChain (s : Group) (list : List Entry) : Type 0 where
+  pub chain : list ≡ chain_of s.views
+  pub good : IsGood list
+  pub group_in : Begins s.group list
+
+pub on_chain : (v : World) (i : ℕ) (n : Node) (s : Group) → Speaks v i n s → is_sequencer n ≡ true → OnChain s (s.node i).list
+on_chain v i n s h t =
+    let chain = ((h.kept.each i).leads (leading v i n s h t).leads).chain in
+    record { chain = chain; good = subst IsGood (sym chain) h.kept.views.good; group_in = subst (Begins s.group) (sym chain) h.kept.group }
 
 -- it has accepted no more than the group, and no later ballot was decided
 pub sequencer_said : (v : World) (i : ℕ) (n : Node) (s : Group) → Speaks v i n s → is_sequencer n ≡ true → FrontsStand n (s.node i)

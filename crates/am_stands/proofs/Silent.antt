@@ -14,7 +14,7 @@ use Rattle.am_model.specs.Ticks.{tick_row, tick_by}
 use Rattle.am_model.specs.Hearing.{hear_row, hears_member, hears_asking}
 use Rattle.am_model.specs.Refresh.{refresh_at_end}
 use Rattle.am_model.specs.Emit.{Plan, quiet, finish}
-use Rattle.am_model.specs.Step.{row, read_row, step, hear, refused}
+use Rattle.am_model.specs.Step.{row, read_row, step, hear, hear_refusal}
 use Rattle.am_model.proofs.Greatest.{split}
 use Rattle.am_effects.proofs.Rests.{rests_at_end}
 use Rattle.am_stands.specs.Sending.{DepartedSilent}
@@ -105,7 +105,7 @@ row_quiet m (Hear bytes) h over = read_quiet m (reading bytes) h
 -- ---- steps
 
 pub departed_silent : DepartedSilent
-unfolding step hear refused
+unfolding step hear hear_refusal
 departed_silent m h over = record {
   calls_ = λ event. finish_silent m (row m event) (row_quiet m event h over);
   hears_ = λ p. finish_silent m (hear_row m p) (hear_quiet m p h);

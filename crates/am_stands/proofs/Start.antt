@@ -1,25 +1,28 @@
 -- At the start each founder is told of the first entry, and then the group stands for the world.
-use Rattle.std.proofs.Common.{◌≡◌, ℕ, zero, suc, ◌+◌, ◌<◌, ◌==◌, ◌&&◌, nat_lt, if◌then◌else◌, [], ◌∷◌, length, Bool, true, false, Some, slice_get, refl, sym}
+use Rattle.std.proofs.Common.{◌≡◌, ℕ, zero, suc, ◌+◌, ◌<◌, ◌==◌, ◌&&◌, nat_lt, if◌then◌else◌, List, [], ◌∷◌, length, Bool, true, false, Some, slice_get, refl, sym}
 use Rattle.std.proofs.Common.{ap, ◌∙◌, subst, arith}
 use Rattle.std.proofs.lemmas.Bool.Decides.{nat_tests}
+use Rattle.am_base.specs.declared.entry.Entry.{Entry}
 use Rattle.am_base.specs.Founding.{Rules, MayFound}
 use Rattle.am_base.specs.Names.{has}
-use Rattle.am_base.specs.Stamps.{no_stamp}
 use Rattle.am_base.specs.Lists.{fold}
 use Rattle.am_chain_lists.specs.Whole.{key}
 use Rattle.am_chain_lists.proofs.Prefixes.{begins_refl}
 use Rattle.am_chain_moves.specs.Group as groups
 use Rattle.am_chain_moves.specs.Group.{Group, put, opening}
-use Rattle.am_chain_moves.specs.Moves.{Move, with_node}
+use Rattle.am_chain_moves.specs.Moves.{with_node}
 use Rattle.am_chain_moves.specs.Moves as group
 use Rattle.am_chain_moves.specs.Runs as begun
-use Rattle.am_model.specs.Node.{founder, stranger, lowest_or_first, founding_stamp, founders_view}
-use Rattle.am_model.specs.World.{Decided, start, first_node, founders_decided}
+use Rattle.am_model.specs.Node.{Node, founder, stranger, lowest_or_first, founding_stamp, founders_view}
+use Rattle.am_model.specs.Calls.{is_unfinished}
+use Rattle.am_model.specs.Group.{has_log}
+use Rattle.am_model.specs.World.{Decided, start, first_node, founders_decided, has_departed}
+use Rattle.am_model.specs.Lawful.{whole}
 use Rattle.am_model.specs.Claims.{up_to_view, up_to_next, line_of}
 use Rattle.am_model.proofs.Greatest.{split}
 use Rattle.am_model.proofs.Founders.{first_founder}
 use Rattle.am_laws.proofs.Views.{same_is_equal}
-use Rattle.am_stands.specs.Standing.{NameStands, FrontsStand, NotedStands, ViewsStand, StartStands}
+use Rattle.am_stands.specs.Standing.{BeginsIn, NameStands, FrontsStand, NotedStands, ViewsStand, StartStands}
 use Rattle.am_stands.specs.Moving.{none, moves, Leads}
 use Rattle.am_stands.proofs.Ends.{then_moves}
 use Rattle.am_stands.proofs.Decisions.{last_same}
@@ -151,61 +154,51 @@ told_all_to rules (suc k) =
 
 -- ---- what stands then
 
-abbrev founder_of : Rules → groups.Node
-founder_of rules = record {
-  list = opening (begun.first_choice rules.founders (lowest_or_first rules.founders) rules.resilience);
-  has_log = true;
+-- a name of the group that has what a node has
+abbrev name_of : Node → List Entry → ℕ → groups.Node
+name_of x list first = record {
+  list = list;
+  has_log = has_log x.status;
   stopped = false;
-  departed = false;
-  leaving = false;
-  start = 1;
-  promise = begun.first_stamp (lowest_or_first rules.founders);
-  told = 1;
-  acc = 1;
-  ballot = false;
+  departed = has_departed x.status;
+  leaving = x.leaving;
+  start = first;
+  promise = x.core.promise;
+  told = x.core.told;
+  acc = x.core.acc;
+  ballot = is_unfinished x.ballot;
+}
+
+abbrev founder_of : Rules → groups.Node
+founder_of rules = name_of (founder rules 0) (opening (begun.first_choice rules.founders (lowest_or_first rules.founders) rules.resilience)) 1
+
+abbrev stranger_of : Rules → groups.Node
+stranger_of rules = name_of (stranger rules 0) [] 1
+
+name_starts : (rules : Rules) (i : ℕ) (x : Node) (list : List Entry) (first : ℕ) → BeginsIn (start rules) x.core.log → list ≡ whole (start rules) x
+    → (has_log x.status ≡ true → first ≡ x.core.start) → NameStands (start rules) i x (name_of x list first)
+name_starts rules i x list first begins is at = record {
+  begins = begins;
+  list = is;
+  flags = record { log_ = refl; stopped = refl; departed = refl; leaving = refl };
+  promise = refl;
+  ballot = refl;
+  start = at;
 }
 
 founder_name : (rules : Rules) (i : ℕ) → NameStands (start rules) i (founder rules i) (founder_of rules)
 unfolding fold
-founder_name rules i = record {
-  begins = record { within = omega arith; image = refl };
-  list = refl;
-  flags = record { log_ = refl; stopped = refl; departed = refl; leaving = refl };
-  promise = refl;
-  ballot = refl;
-  start = λ t. refl;
-}
+founder_name rules i = name_starts rules i (founder rules i) (founder_of rules).list 1 (record { within = omega arith; image = refl }) refl (λ t. refl)
 
-abbrev stranger_of : groups.Node
-stranger_of = record {
-  list = [];
-  has_log = false;
-  stopped = false;
-  departed = false;
-  leaving = false;
-  start = 1;
-  promise = no_stamp;
-  told = 0;
-  acc = 0;
-  ballot = false;
-}
-
-stranger_name : (rules : Rules) (i : ℕ) → NameStands (start rules) i (stranger rules i) stranger_of
+stranger_name : (rules : Rules) (i : ℕ) → NameStands (start rules) i (stranger rules i) (stranger_of rules)
 unfolding fold
-stranger_name rules i = record {
-  begins = record { within = omega arith; image = refl };
-  list = refl;
-  flags = record { log_ = refl; stopped = refl; departed = refl; leaving = refl };
-  promise = refl;
-  ballot = refl;
-  start = λ t. absurd (cc);
-}
+stranger_name rules i = name_starts rules i (stranger rules i) [] 1 (record { within = omega arith; image = refl }) refl (λ t. absurd (cc))
 
 -- what has stood up to then
 told_founder : (rules : Rules) (i : ℕ) → i < 256 → has rules.founders i ≡ true → told_to rules 256 i ≡ founder_of rules
 told_founder rules i few t = let low : nat_lt i 256 ≡ true = grind (arith, nat_tests) in rw (t, low) refl
 
-told_stranger : (rules : Rules) (i : ℕ) → has rules.founders i ≡ false → told_to rules 256 i ≡ stranger_of
+told_stranger : (rules : Rules) (i : ℕ) → has rules.founders i ≡ false → told_to rules 256 i ≡ stranger_of rules
 told_stranger rules i f = rw f refl
 
 start_name : (rules : Rules) (s : Group) → ToldTo rules 256 s → (i : ℕ) → i < 256 → NameStands (start rules) i (first_node rules i) (s.node i)
@@ -232,10 +225,7 @@ start_views rules may =
     let itself : (x == x) ≡ true = grind (arith, nat_tests) in
     let noted : NotedStands (start rules) (first_group rules).views (founders_decided rules) = record {
       decided = itself;
-      stamp = refl;
-      members = refl;
-      resilience = refl;
-      number = refl;
+      chose = record { stamp = refl; members = refl; resilience = refl; number = refl };
       line = sym (first_line rules may);
       opens = begins_refl _;
     } in

@@ -15,7 +15,7 @@ use Rattle.am_effects.specs.Changes.{Change, refreshes, settles, begins_list}
 use Rattle.am_effects.specs.Changes.{looks, closes, unchanged, changed}
 use Rattle.am_effects.proofs.Items.{get_push}
 use Rattle.am_effects.proofs.Rests.{settle_is}
-use Rattle.am_laws.specs.Packets.{stamp_of}
+use Rattle.am_codec.specs.Spelling.{stamp_of}
 use Rattle.am_laws.proofs.Named.{change_named}
 use Rattle.am_laws.proofs.TakenRuns.{Along, along_changes}
 use Rattle.am_sent.proofs.Changes.{CauseSent, change_sent}
@@ -106,14 +106,12 @@ step_to rules w views name c o x y s t z plain h sent_ on stands noted along kee
     record {
       group = on.group_;
       stands = stands;
-      few = h.few;
+      by = h.by;
       who = change_named name x y z h.who;
       runs = h.runs;
       stopped = h.stopped;
       noted = noted;
       along = along;
-      names = h.names;
-      used = h.used;
       sent = change_sent w.records name c o x y sent_ z h.sent;
       once = once_same w views h.once;
       begun = λ p is. (let k = h.begun p is in let up = (g.each (stamp_of p).by).promise in let low = k.begun in

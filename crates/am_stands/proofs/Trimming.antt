@@ -10,16 +10,16 @@ use Rattle.am_core.specs.Cores.{accept, pass_over}
 use Rattle.am_fronts.specs.Reports.{least_of, least_taken}
 use Rattle.am_fronts.specs.Refresh.{base_after, own_report, tell, go_on, let_go}
 use Rattle.am_fronts.proofs.Leaders.{least_in}
-use Rattle.am_chain_lists.specs.Whole.{Begins, IsGood, told, mem, key}
+use Rattle.am_chain_lists.specs.Whole.{Begins, image_of, mem, key}
 use Rattle.am_chain_lists.proofs.Prefixes.{begins_nil, begins_trans, begins_both, begins_length, begins_take, length_take}
 use Rattle.am_chain_lists.proofs.Rows.{mod16}
 use Rattle.am_chain_lists.proofs.Members.{mem_between}
 use Rattle.am_chain_moves.specs.Group.{Group, IsThere, chain_of}
 use Rattle.am_chain_moves.specs.Kept.{Kept}
 use Rattle.am_model.specs.Node as nodes
-use Rattle.am_model.specs.Node.{Node, Ballot, those, is_sequencer}
+use Rattle.am_model.specs.Node.{Node, Ballot, is_sequencer}
 use Rattle.am_model.specs.Ballots.{need_of, left_in, taken_by}
-use Rattle.am_model.specs.Refresh.{concerned, lead}
+use Rattle.am_model.specs.Refresh.{concerned_names, lead}
 use Rattle.am_model.specs.World.{World}
 use Rattle.am_model.proofs.Greatest.{split}
 use Rattle.am_effects.specs.Looks.{HasLearned}
@@ -31,7 +31,7 @@ use Rattle.am_stands.specs.States.{Reporting}
 use Rattle.am_stands.proofs.Changes.{told_whole, long_all}
 use Rattle.am_stands.proofs.Going.{concerned_has, concerned_long}
 use Rattle.am_stands.proofs.Parts.{number_low}
-use Rattle.am_stands.proofs.Sent.{Speaks, leading}
+use Rattle.am_stands.proofs.Sent.{on_chain, Speaks}
 use Rattle.am_stands.proofs.Votes.{BallotKnown, some_vote, voted, not_waited}
 
 -- ---- the greater of two
@@ -66,11 +66,11 @@ pub record Refreshed (v : World) (i : ℕ) (x y : Node) (s : Group) : Type 0 whe
   pub base : y.core.base ≤ y.core.acc
   pub within : y.core.acc ≤ nodes.top y
   pub accepted : y.core.acc ≤ length s.group
-  pub names : (j : ℕ) → has (concerned y) j ≡ true → j < 256
+  pub names : (j : ℕ) → has (concerned_names y) j ≡ true → j < 256
   pub reports : Reporting s.node (s.node i).list x.core.base y.reports
   pub trimmed : Trimmed s x.core.base
 
-base_is : (x : Node) → (lead x).core.base ≡ base_after (least_taken (lead x).reports (concerned (lead x))) x.core.base
+base_is : (x : Node) → (lead x).core.base ≡ base_after (least_taken (lead x).reports (concerned_names (lead x))) x.core.base
 unfolding lead own_report tell go_on let_go accept pass_over
 base_is x = refl
 
@@ -78,21 +78,16 @@ module _ (v : World) (i : ℕ) (x y : Node) (s : Group) (h : Refreshed v i x y s
   abbrev list : List Entry
   list = (s.node i).list
 
-  chain : list ≡ chain_of s.views
-  chain = ((h.speaks.kept.each i).leads (leading v i y s h.speaks h.leads).leads).chain
+  open on_chain v i y s h.speaks h.leads use {chain, good, group_in}
 
-  good : IsGood list
-  good = subst IsGood (sym chain) h.speaks.kept.views.good
-
-  trimmed_to : (to : ℕ) → least_taken y.reports (concerned y) ≡ Some to → x.core.base < to → to ≤ y.core.base → Trimmed s to
+  trimmed_to : (to : ℕ) → least_taken y.reports (concerned_names y) ≡ Some to → x.core.base < to → to ≤ y.core.base → Trimmed s to
   trimmed_to to least up low =
       let long = long_all v i y (s.node i) h.speaks.stands in
       let base = h.base in
       let within_ = h.within in
       let start_ = h.start in
       let accepted = h.accepted in
-      let begins : Begins s.group list = subst (Begins s.group) (sym chain) h.speaks.kept.group in
-      let cut = begins_trans (begins_take to s.group) begins in
+      let cut = begins_trans (begins_take to s.group) group_in in
       let size_ = length_take to s.group (omega arith) in
       record {
         accepted = omega arith;
@@ -103,8 +98,8 @@ module _ (v : World) (i : ℕ) (x y : Node) (s : Group) (h : Refreshed v i x y s
             (let part = length_take k list (omega arith) in
             mem_between j good (begins_both cut (begins_take k list) (omega arith)) (begins_take k list) member last) in
             let in_ = concerned_has v i y (s.node i) j h.speaks.stands h.start h.within between in
-            let at : slice_index (concerned y) (place_of j) ≡ life_of j = grind (arith, nat_tests) in
-            let found = least_low (λ name. (y.reports name).taken) (concerned y) j (concerned_long v i y (s.node i) h.speaks.stands h.start) at in
+            let at : slice_index (concerned_names y) (place_of j) ≡ life_of j = grind (arith, nat_tests) in
+            let found = least_low (λ name. (y.reports name).taken) (concerned_names y) j (concerned_long v i y (s.node i) h.speaks.stands h.start) at in
             let same : Some to ≡ Some found.0 = sym least ∙ found.1 in
             let is : to ≡ found.0 = cc in
             let low_ = found.2 in
@@ -120,12 +115,12 @@ module _ (v : World) (i : ℕ) (x y : Node) (s : Group) (h : Refreshed v i x y s
       begins_take_all l = record { rest = []; same = append-nil l }
 
   pub refresh_trims : Trimmed s y.core.base
-  refresh_trims = by_least (least_taken y.reports (concerned y)) refl
+  refresh_trims = by_least (least_taken y.reports (concerned_names y)) refl
     where
-      base_y : y.core.base ≡ base_after (least_taken y.reports (concerned y)) x.core.base
-      base_y = subst (λ n. n.core.base ≡ base_after (least_taken n.reports (concerned n)) x.core.base) (sym h.is) (base_is x)
+      base_y : y.core.base ≡ base_after (least_taken y.reports (concerned_names y)) x.core.base
+      base_y = subst (λ n. n.core.base ≡ base_after (least_taken n.reports (concerned_names n)) x.core.base) (sym h.is) (base_is x)
 
-      by_least : (o : Option ℕ) → least_taken y.reports (concerned y) ≡ o → Trimmed s y.core.base
+      by_least : (o : Option ℕ) → least_taken y.reports (concerned_names y) ≡ o → Trimmed s y.core.base
       by_least None is = subst (Trimmed s) (sym (base_y ∙ ap (λ o. base_after o x.core.base) is)) h.trimmed
       by_least (Some to) is =
           let same : y.core.base ≡ max x.core.base to = base_y ∙ ap (λ o. base_after o x.core.base) is in
@@ -151,7 +146,7 @@ votes_trim w name x b s k h learned known =
     let names = left_in b (need_of x b) in
     let least = unwrap_or (least_of f (names_of names)) 0 in
     let need = own_need x b learned.own h.own in
-    let members_is : members_of (told a.list) ≡ nodes.members x = ap members_of (told_whole w name name x a h.stands) in
+    let members_is : members_of (image_of a.list) ≡ nodes.members x = ap members_of (told_whole w name name x a h.stands) in
     let long_names = those_long (λ j. not (b.given_up j)) (need_of x b) in
     let long = long_all (within w name x) name x a h.stands in
     let spared : (j : ℕ) → IsThere (s.node j)

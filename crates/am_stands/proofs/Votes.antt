@@ -12,7 +12,7 @@ use Rattle.am_base.proofs.Places.{slice_index-by_place}
 use Rattle.am_base.specs.Stamps.{stamp_lt, stamp_eq}
 use Rattle.am_base.specs.Votes.{vote_lt}
 use Rattle.am_base.specs.Lists.{member_life, members_of}
-use Rattle.am_chain_lists.specs.Whole.{Begins, told, mem, view_of, resilience_of, key}
+use Rattle.am_chain_lists.specs.Whole.{Begins, image_of, mem, view_of, resilience_of, key}
 use Rattle.am_chain_lists.proofs.Order.{key_lt, view_up}
 use Rattle.am_chain_lists.proofs.Prefixes.{begins_trans}
 use Rattle.am_chain_lists.proofs.Members.{told_push}
@@ -20,17 +20,17 @@ use Rattle.am_chain_moves.specs.Group.{Group, IsThere, IsUp}
 use Rattle.am_chain_moves.specs.Moves.{MayDecide, Voted}
 use Rattle.am_chain_moves.specs.Kept.{Kept}
 use Rattle.am_model.specs.Node as nodes
-use Rattle.am_model.specs.Node.{Node, Ballot, view, members, only_name, name_where, those, is_member}
+use Rattle.am_model.specs.Node.{Node, Ballot, view, members, only_name, name_where, those}
 use Rattle.am_base.specs.declared.entry.Entry.TheVariants.{View}
 use Rattle.std.proofs.lemmas.List.{append_assoc, length-map, get_or-set_same, get_or-set_other, get_or-replicate}
 use Rattle.am_chain_lists.proofs.Rows.{mod16}
 use Rattle.am_model.specs.Lawful.{is_view_of}
-use Rattle.am_model.specs.Ballots.{trimmed_for, own_vote, best_of, need_of, has_voted, is_waited_for, left_in}
+use Rattle.am_model.specs.Ballots.{trim_for, own_vote, best_of, need_of, has_voted, is_waited_for, left_in}
 use Rattle.am_model.specs.World.{World}
 use Rattle.am_model.proofs.BestVotes.{best_vote_is}
 use Rattle.am_model.proofs.Greatest.{split}
 use Rattle.am_effects.specs.Looks as looks
-use Rattle.am_bounded.proofs.Changes.{some_left}
+use Rattle.am_model.proofs.Sets.{has_size, has_those}
 use Rattle.am_laws.proofs.Limits.{set_those}
 use Rattle.am_laws.proofs.Stamps.{equal_stamps}
 use Rattle.am_laws.proofs.Taken.{own_need, those_at}
@@ -109,7 +109,7 @@ voted who j b waits stays other = split (is_some (b.votes j))
 pub not_waited : (x : Node) (b : Ballot) (j : ℕ) → nat_lt 0 (size (those (is_waited_for x.core.who b) (need_of x b))) ≡ false → has (need_of x b) j ≡ true
     → is_waited_for x.core.who b j ≡ false
 not_waited x b j none needed = split (is_waited_for x.core.who b j)
-    (λ t. absurd (let some = some_left (is_waited_for x.core.who b) (need_of x b) j needed t in
+    (λ t. absurd (let some = has_size (those (is_waited_for x.core.who b) (need_of x b)) j (has_those (is_waited_for x.core.who b) (need_of x b) j needed t) in
     let z : nat_lt 0 (size (those (is_waited_for x.core.who b) (need_of x b))) ≡ true = grind (arith, nat_tests) in cc))
     (λ f. f)
 
@@ -187,7 +187,7 @@ other_voted w name x b s j h may needed stays other =
 -- ---- the group's own test
 
 pub may_decide : (w : World) (name : ℕ) (x : Node) (b : Ballot) (s : Group) → BallotKnown w name x b s → looks.MayDecide x b
-    → MayDecide s name (left_in b (need_of x b)) (max b.resilience (nodes.told x).resilience)
+    → MayDecide s name (left_in b (need_of x b)) (max b.resilience (nodes.image_of x).resilience)
 unfolding mem view_of resilience_of
 may_decide w name x b s h may =
     let a = s.node name in
@@ -196,7 +196,7 @@ may_decide w name x b s h may =
     let long = long_all (within w name x) name x a h.stands in
     let need = own_need x b may.learned.own h.own in
     let test : ℕ → Bool = λ j. not (b.given_up j) in
-    let members_is : members_of (told a.list) ≡ members x = ap members_of told_is in
+    let members_is : members_of (image_of a.list) ≡ members x = ap members_of told_is in
     let in_need : (j : ℕ) → mem a.list j ≡ true → has (need_of x b) j ≡ true = λ j m. ap (λ set. has set j) (need ∙ sym members_is) ∙ m in
     let stamp : b.stamp ≡ a.promise = h.stamp ∙ sym h.stands.promise in
     let spared : (j : ℕ) → IsThere (s.node j)
@@ -212,7 +212,7 @@ may_decide w name x b s h may =
       within = subst (λ set. is_within (left_in b (need_of x b)) set ≡ true) (need ∙ sym members_is)
           (all_places _ 0 16 (λ place low. is_some_of test (need_of x b) place (omega arith)));
       all = λ j m there. (let at = those_at test (need_of x b) j (in_need j m) (ap not (spared j there)) in grind (arith, nat_tests));
-      strong = (let same : (told a.list).resilience ≡ (nodes.told x).resilience = ap (λ (i : Image). i.resilience) told_is in omega arith);
+      strong = (let same : (image_of a.list).resilience ≡ (nodes.image_of x).resilience = ap (λ (i : Image). i.resilience) told_is in omega arith);
     }
 
 -- ---- all that a decision needs
@@ -226,7 +226,7 @@ prefix_view v a (e ∷ b) h = split (is_view_of v e)
       a ++ e ∷ [],
       record { rest = b; same = append_assoc a (e ∷ []) b },
       ap (λ (i : Image). i.view) (told_push a e)
-          ∙ viewed_as v (told a) (1 + length a) e t,
+          ∙ viewed_as v (image_of a) (1 + length a) e t,
     ))
     (λ f. (let r = prefix_view v (a ++ e ∷ []) b (rw f at h) in (r.0, subst (Begins r.0) (append_assoc a (e ∷ []) b) r.1, r.2)))
 
@@ -248,18 +248,18 @@ undecided s i k up ballot = split (s.views.decided (key (s.node i).promise))
     (λ t. absurd (let above = ((k.each i).ballot up ballot).above in let most = k.views.order (key (s.node i).promise) t in omega arith))
     (λ f. f)
 
-view_members : (x : Node) (b : Ballot) → length (nodes.told x).rows ≡ 16 → need_of x b ≡ members x → members (looks.view_of x b) ≡ left_in b (need_of x b)
+view_members : (x : Node) (b : Ballot) → length (nodes.image_of x).rows ≡ 16 → need_of x b ≡ members x → members (looks.view_of x b) ≡ left_in b (need_of x b)
 view_members x b long need =
     let test : ℕ → Bool = λ name. not (b.given_up name) in
     let names = left_in b (need_of x b) in
-    let before = trimmed_for x b names in
-    let r = max b.resilience (nodes.told x).resilience in
+    let before = trim_for x b names in
+    let r = max b.resilience (nodes.image_of x).resilience in
     let some : (place : ℕ) → place < 16 → (slice_index names place ≡ 0) ⊎ (slice_index names place ≡ slice_index (members x) place) =
     λ place low. ⊎_elim (λ (z : slice_index names place ≡ 0). inl z)
     (λ (z : slice_index names place ≡ slice_index (need_of x b) place). inr (z ∙ ap (λ set. slice_index set place) need))
     (those_some test (need_of x b) place low) in
     ap members_of (told_pushed before (View b.stamp names r))
-    ∙ viewed_members (nodes.told x) (nodes.top x + 1) b.stamp names r long (omega arith) (those_long test (need_of x b)) some
+    ∙ viewed_members (nodes.image_of x) (nodes.top x + 1) b.stamp names r long (omega arith) (those_long test (need_of x b)) some
 
 -- each other name of the View has voted for no better list, whether it stopped or not
 all_voted : (w : World) (name : ℕ) (x : Node) (b : Ballot) (s : Group) → BallotKnown w name x b s → looks.MayDecide x b
@@ -284,7 +284,7 @@ decision_needs w name x b s k h own set may =
       own = own;
       fresh = ap (λ (u : Stamp). s.views.decided (key u)) (sym same) ∙ undecided s name k h.up h.ballot;
       unseen = ap (λ (u : Stamp). list_any (is_view_of u) (s.node name).list) (sym same) ∙ unseen s name k h.up h.ballot;
-      members_ = view_members x b (sym (length-map (nodes.told x).rows member_life) ∙ set.places) need;
+      members_ = view_members x b (sym (length-map (nodes.image_of x).rows member_life) ∙ set.places) need;
       set = set_those (λ j. not (b.given_up j)) (need_of x b) (subst IsSet (sym need) set);
       voted = all_voted w name x b s h may;
     }

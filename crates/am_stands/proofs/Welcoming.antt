@@ -9,7 +9,7 @@ use Rattle.am_base.specs.declared.name.Stamp.{Stamp}
 use Rattle.am_base.specs.Names.{place_of, life_of, has}
 use Rattle.am_base.specs.Lists.{Log, at_place, row_of, image_at, told_by}
 use Rattle.am_group.specs.Journals.{item_at}
-use Rattle.am_chain_lists.specs.Whole.{Begins, IsGood, told, mem}
+use Rattle.am_chain_lists.specs.Whole.{Begins, IsGood, image_of, mem}
 use Rattle.am_chain_lists.proofs.Prefixes.{begins_refl, begins_trans, begins_both, begins_length, begins_take, length_take, take_begins}
 use Rattle.am_chain_lists.proofs.Rows.{row_at, In}
 use Rattle.am_chain_lists.proofs.Members.{mem_in, in_mem, mem_between}
@@ -33,10 +33,10 @@ use Rattle.am_stands.proofs.Votes.{only_one}
 -- ---- who is welcomed
 
 -- the row of a member
-pub member_row : (list : List Entry) (name : ℕ) → mem list name ≡ true → row_of (told list) name ≡ row_at (told list) (place_of name)
+pub member_row : (list : List Entry) (name : ℕ) → mem list name ≡ true → row_of (image_of list) name ≡ row_at (image_of list) (place_of name)
 member_row list name member =
     let is = (mem_in list name member).is in
-    let t : ((at_place (told list) name).life == life_of name) ≡ true = grind (arith, nat_tests) in
+    let t : ((at_place (image_of list) name).life == life_of name) ≡ true = grind (arith, nat_tests) in
     rw t refl
 
 last_joined : (list : List Entry) (name : ℕ) → item_at list (length list) ≡ Some (Join name) → mem list name ≡ true
@@ -52,7 +52,7 @@ last_joined list name at = last (length list) refl at
 -- is a member, whose Join is accepted
 pub record IsWelcomed (n : Node) (list : List Entry) (name : ℕ) : Type 0 where
   pub member : mem list name ≡ true
-  pub accepted : (row_of (nodes.told n) name).joined ≤ n.core.acc
+  pub accepted : (row_of (nodes.image_of n) name).joined ≤ n.core.acc
 
 pub is_welcomed : (v : World) (i : ℕ) (m n : Node) (a : groups.Node) (name : ℕ) → NameStands v i n a → IsGood a.list → RowsLive n
     → n.core.log.start ≤ m.core.base → m.core.acc ≤ n.core.acc → MayWelcome m n name → IsWelcomed n a.list name
@@ -66,18 +66,18 @@ is_welcomed v i m n a name h good lives low up (just_joined number next high acc
     let row = ap (λ (r : Row). r.joined) (ap (λ (g : Image). row_of g name) (sym (told_all v i n a h)) ∙ member_row a.list name member) in
     record { member = member; accepted = omega arith }
 is_welcomed v i m n a name h good lives low up (asks_again same life some stays accepted behind) =
-    let told_ : nodes.told n ≡ nodes.told m = ap (λ (l : Log). told_by l) same in
+    let told_ : nodes.image_of n ≡ nodes.image_of m = ap (λ (l : Log). told_by l) same in
     let told_is = told_all v i n a h in
-    let q = at_place (nodes.told n) name in
-    let same_q : q ≡ at_place (nodes.told m) name = ap (λ (g : Image). at_place g name) told_ in
-    let joined : q.joined ≡ (at_place (nodes.told m) name).joined = ap (λ (r : Row). r.joined) same_q in
+    let q = at_place (nodes.image_of n) name in
+    let same_q : q ≡ at_place (nodes.image_of m) name = ap (λ (g : Image). at_place g name) told_ in
+    let joined : q.joined ≡ (at_place (nodes.image_of m) name).joined = ap (λ (r : Row). r.joined) same_q in
     let left : q.left ≡ 0 = ap (λ (r : Row). r.left) same_q ∙ stays in
     let its : q.life ≡ life_of name = ap (λ (r : Row). r.life) same_q
     ∙ life (λ none. (let z = lives name (ap (λ (r : Row). r.life) same_q ∙ none) in let y : ⊥ = omega arith in y)) in
-    let here : row_at (told a.list) (place_of name) ≡ q = ap (λ (g : Image). at_place g name) told_is in
+    let here : row_at (image_of a.list) (place_of name) ≡ q = ap (λ (g : Image). at_place g name) told_is in
     let in_ : In q (life_of name) = record { joined = omega arith; left = left; is = its } in
     let member = in_mem a.list name (subst (λ r. In r (life_of name)) (sym here) in_) in
-    let row : (row_of (nodes.told n) name).joined ≡ q.joined = ap (λ (r : Row). r.joined)
+    let row : (row_of (nodes.image_of n) name).joined ≡ q.joined = ap (λ (r : Row). r.joined)
     (ap (λ (g : Image). row_of g name) (sym told_is) ∙ member_row a.list name member ∙ here) in
     record { member = member; accepted = omega arith }
 
@@ -85,8 +85,8 @@ is_welcomed v i m n a name h good lives low up (asks_again same life some stays 
 
 pub welcome_said : (v : World) (i : ℕ) (n : Node) (s : Group) (name : ℕ) → Speaks v i n s → is_sequencer n ≡ true → FrontsStand n (s.node i)
     → n.core.log.start ≤ n.core.base → n.core.base ≤ n.core.acc → IsWelcomed n (s.node i).list name
-    → n.core.base < (row_of (nodes.told n) name).joined
-    → WelcomeSays s i n.core.promise n.core.base (row_of (nodes.told n) name).joined (image_at n.core.log n.core.base) name
+    → n.core.base < (row_of (nodes.image_of n) name).joined
+    → WelcomeSays s i n.core.promise n.core.base (row_of (nodes.image_of n) name).joined (image_at n.core.log n.core.base) name
 welcome_said v i n s name h t f low kept is above =
     let a = s.node i in
     let l = leading v i n s h t in
@@ -98,8 +98,8 @@ welcome_said v i n s name h t f low kept is above =
     let chain = ((h.kept.each i).leads l.leads).chain in
     let good : IsGood a.list = subst IsGood (sym chain) h.kept.views.good in
     let begins : Begins s.group a.list = subst (Begins s.group) (sym chain) h.kept.group in
-    let join = (row_of (nodes.told n) name).joined in
-    let row : join ≡ (row_at (told a.list) (place_of name)).joined =
+    let join = (row_of (nodes.image_of n) name).joined in
+    let row : join ≡ (row_at (image_of a.list) (place_of name)).joined =
     ap (λ (r : Row). r.joined) (ap (λ (g : Image). row_of g name) (sym (told_all v i n a h.stands)) ∙ member_row a.list name is.member) in
     let joins : JoinsAt a.list name join = subst (JoinsAt a.list name) (sym row) (joins_at a.list name good is.member) in
     let part : take join a.list ≡ take join s.group = taken_more join s.group a.list begins (omega arith) in
@@ -111,7 +111,7 @@ welcome_said v i n s name h t f low kept is above =
       accepted = omega arith;
       joined = subst (λ x. mem x name ≡ true) part joins.member;
       first = λ b starts short. joins.first b (begins_trans starts begins) short;
-      image_ = image_whole v i n.core.base n a h.stands low ∙ ap told front;
+      image_ = image_whole v i n.core.base n a h.stands low ∙ ap image_of front;
       later = λ x d up. absurd (let most = h.kept.views.order x d in let c = l.current in omega arith);
     }
 
@@ -119,10 +119,10 @@ welcome_said v i n s name h t f low kept is above =
 -- the joiner has begun, or will not.
 pub welcome_to : (v : World) (i : ℕ) (n : Node) (s : Group) (name : ℕ) → Speaks v i n s → is_sequencer n ≡ true → FrontsStand n (s.node i)
     → n.core.log.start ≤ n.core.base → n.core.base ≤ n.core.acc → IsWelcomed n (s.node i).list name → Trimmed s n.core.base
-    → WelcomeTo s i n.core.promise n.core.base (row_of (nodes.told n) name).joined (image_at n.core.log n.core.base) name
+    → WelcomeTo s i n.core.promise n.core.base (row_of (nodes.image_of n) name).joined (image_at n.core.log n.core.base) name
 welcome_to v i n s name h t f low kept is trimmed =
     let a = s.node i in
-    let join = (row_of (nodes.told n) name).joined in
+    let join = (row_of (nodes.image_of n) name).joined in
     split (nat_lt n.core.base join)
     (λ u. may_begin (welcome_said v i n s name h t f low kept is (let z : n.core.base < join = grind (arith, nat_tests) in z)))
     (λ g.
@@ -136,7 +136,7 @@ welcome_to v i n s name h t f low kept is trimmed =
     let chain = ((h.kept.each i).leads l.leads).chain in
     let good : IsGood a.list = subst IsGood (sym chain) h.kept.views.good in
     let begins : Begins s.group a.list = subst (Begins s.group) (sym chain) h.kept.group in
-    let row : join ≡ (row_at (told a.list) (place_of name)).joined =
+    let row : join ≡ (row_at (image_of a.list) (place_of name)).joined =
     ap (λ (r : Row). r.joined) (ap (λ (g : Image). row_of g name) (sym (told_all v i n a h.stands)) ∙ member_row a.list name is.member) in
     let joins : JoinsAt a.list name join = subst (JoinsAt a.list name) (sym row) (joins_at a.list name good is.member) in
     let some = joins.some in
@@ -154,7 +154,7 @@ welcome_to v i n s name h t f low kept is trimmed =
 pub welcome_says : (v : World) (i : ℕ) (n : Node) (s : Group) (name : ℕ) → Speaks v i n s → is_sequencer n ≡ true → FrontsStand n (s.node i)
     → n.core.log.start ≤ n.core.base → n.core.base ≤ n.core.acc → IsWelcomed n (s.node i).list name → Trimmed s n.core.base
     → (j : ℕ) → has (only_name name) j ≡ true
-    → WelcomeTo s i n.core.promise n.core.base (row_of (nodes.told n) name).joined (image_at n.core.log n.core.base) j
+    → WelcomeTo s i n.core.promise n.core.base (row_of (nodes.image_of n) name).joined (image_at n.core.log n.core.base) j
 welcome_says v i n s name h t f low kept is trimmed j in_ =
-    subst (WelcomeTo s i n.core.promise n.core.base (row_of (nodes.told n) name).joined (image_at n.core.log n.core.base)) (sym (only_one name j in_))
+    subst (WelcomeTo s i n.core.promise n.core.base (row_of (nodes.image_of n) name).joined (image_at n.core.log n.core.base)) (sym (only_one name j in_))
     (welcome_to v i n s name h t f low kept is trimmed)

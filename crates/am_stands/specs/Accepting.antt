@@ -9,13 +9,13 @@ use Rattle.am_chain_lists.specs.Whole.{Begins, IsGood, key}
 use Rattle.am_chain_moves.specs.Group as groups
 use Rattle.am_chain_moves.specs.Group.{Group, MayAccept}
 use Rattle.am_chain_moves.specs.Kept.{Kept}
-use Rattle.am_model.specs.Node.{Node, top, view, others, is_member, is_sequencer, pushed}
+use Rattle.am_model.specs.Node.{Node, top, view, others, is_member, is_sequencer, push_entry}
 use Rattle.am_model.specs.Refresh.{refresh}
 use Rattle.am_model.specs.World.{World, is_stopped, group_after}
 use Rattle.am_stands.specs.Standing.{NameStands, within}
 use Rattle.am_stands.specs.Letters.{SequencerSays}
 use Rattle.am_stands.specs.States.{Reporting, ReportsStand}
-use Rattle.am_stands.specs.Ends.{Accepts, MayLearn, NeedsClose, closed}
+use Rattle.am_stands.specs.Ends.{Accepts, MayLearn, NeedsClose, after_closing}
 
 -- who counts at each number above its list's start is a set of names
 abbrev pub CountsNames : Node → Type 0
@@ -48,21 +48,26 @@ pub data Word (s : Group) (name heard : ℕ) : Type 0 where
   nothing : heard ≡ 0 → Word s name heard
   of_sequencer : (from : ℕ) (v : Stamp) → key v ≤ key (s.node name).promise → SequencerSays s from v heard → Word s name heard
 
--- what a step of a name has come to before its last refresh: it has accepted no more than the group, and no less than before. A sequencer's
--- reports are true; who follows is told of no more than before, or than a sequencer's word
-pub record ComesTo (w : World) (s : Group) (name heard : ℕ) (x : Node) : Type 0 where
-  pub stands : NameStands (within w name x) name x (s.node name)
-  pub group : s.group ≡ w.group
+-- what a node knows of the group that it comes to, in any world
+pub record ComesSo (s : Group) (name heard : ℕ) (x : Node) : Type 0 where
   pub who : x.core.who ≡ name
-  pub runs : is_stopped w name ≡ false
   pub member : is_member x.status ≡ true
-  pub acc : x.core.acc ≤ length w.group
   pub up_to : (s.node name).acc ≤ x.core.acc
   pub given : x.core.acc ≤ max (s.node name).told x.core.told
   pub within : x.core.acc ≤ top x
   pub leads : is_sequencer x ≡ true → MayCount x (s.node name).list × ReportsStand s name x
   pub follows : is_sequencer x ≡ false → x.core.told ≤ max (s.node name).told heard
   pub word : Word s name heard
+
+-- what a step of a name has come to before its last refresh: it has accepted no more than the group, and no less than before. A sequencer's
+-- reports are true; who follows is told of no more than before, or than a sequencer's word
+pub record ComesTo (w : World) (s : Group) (name heard : ℕ) (x : Node) : Type 0 where
+  pub so : ComesSo s name heard x
+  pub open so use *
+  pub stands : NameStands (within w name x) name x (s.node name)
+  pub group : s.group ≡ w.group
+  pub runs : is_stopped w name ≡ false
+  pub acc : x.core.acc ≤ length w.group
 
 -- then the group accepts what it does, and the name learns of it
 pub record AcceptsAndLearns (w : World) (s : Group) (name : ℕ) (n : Node) : Type 0 where
@@ -78,4 +83,4 @@ RefreshLearns = (w : World) (s : Group) (name heard : ℕ) (x : Node) → Kept s
 -- where all others have gone, and its own Leave ends the step, that needs nothing else
 abbrev pub ClosingAccepts : Type 0
 ClosingAccepts = (w : World) (s : Group) (name heard : ℕ) (x : Node) → Kept s → ComesTo w s name heard x → name < 256 → is_sequencer x ≡ true
-    → nat_lt 0 (size (others x)) ≡ false → CountsNames (pushed x (Leave x.core.who)) → view (w.nodes name) ≡ view x → NeedsClose w s name (closed x)
+    → nat_lt 0 (size (others x)) ≡ false → CountsNames (push_entry x (Leave x.core.who)) → view (w.nodes name) ≡ view x → NeedsClose w s name (after_closing x)

@@ -8,11 +8,11 @@ use Rattle.am_chain_moves.specs.Group as groups
 use Rattle.am_chain_moves.specs.Group.{Group, IsUp, MayAccept, put}
 use Rattle.am_chain_moves.specs.Moves.{longer}
 use Rattle.am_model.specs.declared.status.Status.TheVariants.{Departed}
-use Rattle.am_model.specs.Node.{Node, set_at, is_sequencer, pushed}
+use Rattle.am_model.specs.Node.{Node, set_at, is_sequencer, push_entry}
 use Rattle.am_model.specs.Refresh.{refresh_at_end}
 use Rattle.am_effects.specs.Causes.{Cause}
 use Rattle.am_model.specs.Emit.{Step}
-use Rattle.am_model.specs.World.{Decided, World, has_departed, group_after, views_after, stepped}
+use Rattle.am_model.specs.World.{Decided, World, has_departed, group_after, views_after, with_step}
 use Rattle.am_stands.specs.Standing.{FrontsStand, StandsBut, Stands, within}
 use Rattle.am_stands.specs.Moving.{Leads}
 use Rattle.am_stands.specs.Steps.{MayMove}
@@ -53,7 +53,7 @@ before_end w name n = record w { nodes = set_at w.nodes name n; views = views_af
 
 abbrev pub EndsStand : Type 0
 EndsStand = (w : World) (e : Event) (name : ℕ) (step : Step) (s : Group) → NeedsEnd w s name step.node
-    → StandsBut name (before_end w name step.node) s → Leads (Stands (stepped w e name step)) s
+    → StandsBut name (before_end w name step.node) s → Leads (Stands (with_step w e name step)) s
 
 -- ---- the last member goes
 
@@ -68,11 +68,11 @@ pub record NeedsClose (w : World) (s : Group) (name : ℕ) (n : Node) : Type 0 w
   pub no_view : views_after w.views (w.nodes name) n ≡ w.views
 
 -- the node once it numbered its own Leave and departed
-abbrev pub closed : Node → Node
-closed x = record (refresh_at_end (pushed x (Leave x.core.who))) { status = Departed }
+abbrev pub after_closing : Node → Node
+after_closing x = record (refresh_at_end (push_entry x (Leave x.core.who))) { status = Departed }
 
 -- this ends its step
 abbrev pub CloseStands : Type 0
 CloseStands = (w : World) (e : Event) (name : ℕ) (c : Cause) (x : Node) (step : Step) (s : Group) → MayMove w name c x s → is_sequencer x ≡ true
-    → x.leaving ≡ true → step.node ≡ closed x
-    → NeedsClose w s name step.node → StandsBut name (within w name x) s → Leads (Stands (stepped w e name step)) s
+    → x.leaving ≡ true → step.node ≡ after_closing x
+    → NeedsClose w s name step.node → StandsBut name (within w name x) s → Leads (Stands (with_step w e name step)) s

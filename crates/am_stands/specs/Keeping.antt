@@ -21,7 +21,7 @@ use Rattle.am_effects.specs.Changes.{Change, refreshes, closes}
 use Rattle.am_laws.proofs.Taken.{HeardUsed}
 use Rattle.am_laws.proofs.TakenRuns.{Along}
 use Rattle.am_laws.proofs.ViewNames.{HeardNames}
-use Rattle.am_laws.specs.Packets.{stamp_of}
+use Rattle.am_codec.specs.Spelling.{stamp_of}
 use Rattle.am_sent.proofs.Kept as sent
 use Rattle.am_sent.proofs.Changes.{CauseSent}
 use Rattle.am_unballoted.proofs.Turns.{Turn}
@@ -61,11 +61,16 @@ pub record OwnTurn (who : ℕ) (list : List Entry) (sends : own.Sends) : Type 0 
   pub turn : Turn next next sends.queue sends.last
   pub low : next ≤ 1 + length (requests_of who list)
 
+-- its votes and its fetches stand, and those that it gave up have stopped
+pub record Ballots (w : World) (s : Group) (ballot : Option Ballot) : Type 0 where
+  pub votes : VotesStand s ballot
+  pub fetches : FetchesStand s ballot
+  pub last : LastStands w ballot
+
 pub record NodeKeeps (w : World) (s : Group) (i : ℕ) (x : Node) : Type 0 where
   pub good : IsGood (s.node i).list
-  pub votes : VotesStand s x.ballot
-  pub fetches : FetchesStand s x.ballot
-  pub last : LastStands w x.ballot
+  pub ballots : Ballots w s x.ballot
+  pub open ballots use *
   pub opens : OpensStand x
   pub reports : ReportsStand s i x
   pub fresh : ReportsFresh x
@@ -81,18 +86,23 @@ pub record HeardSo (w : World) (s : Group) (name : ℕ) (p : Packet) : Type 0 wh
   pub addressed : has to name ≡ true
   pub says : PacketSays w s to p
 
+-- the name that does a step, and the names and the images in what it hears, in any world
+pub record StepOf (name : ℕ) (c : Cause) : Type 0 where
+  pub few : name < 256
+  pub names : HeardNames c
+  pub used : HeardUsed c
+
 -- the world has the step's record already
 pub record Stepping (rules : Rules) (w : World) (name : ℕ) (c : Cause) (x : Node) (s : Group) : Type 0 where
   pub group : GroupFor rules s
   pub stands : StandsBut name (within w name x) s
-  pub few : name < 256
+  pub by : StepOf name c
+  pub open by use *
   pub who : x.core.who ≡ name
   pub runs : is_stopped w name ≡ false
   pub stopped : (j : ℕ) → is_stopped w j ≡ true → j < 256
   pub noted : (k : ℕ) (d : Decided) → slice_get w.views k ≡ Some d → d.stamp.by < 256
   pub along : Along rules x
-  pub names : HeardNames c
-  pub used : HeardUsed c
   pub sent : sent.Keeps w.records name x
   pub once : SendsOnce w
   pub begun : (p : Packet) → c ≡ hears p → WasBegun s (stamp_of p)

@@ -14,7 +14,7 @@ use Rattle.am_packet.specs.declared.packet.Packet.TheVariants.{Invite, Vote as V
 use Rattle.am_packet.specs.Boxes.{Letter}
 use Rattle.am_group.specs.Journals.{item_at}
 use Rattle.am_group.specs.declared.event.Record.{Record}
-use Rattle.am_chain_lists.specs.Whole.{Begins, told, mem, view_of, key}
+use Rattle.am_chain_lists.specs.Whole.{Begins, image_of, mem, view_of, key}
 use Rattle.am_chain_moves.specs.Group.{Group, IsThere}
 use Rattle.am_model.specs.World.{World}
 use Rattle.am_model.specs.Claims.{IsSend}
@@ -97,7 +97,7 @@ pub record WelcomeSays (s : Group) (sender : ℕ) (v : Stamp) (base join : ℕ) 
   pub accepted : join ≤ length s.group
   pub joined : mem (take join s.group) name ≡ true
   pub first : (a : List Entry) → Begins a s.group → length a < join → mem a name ≡ true → ⊥
-  pub image_ : image ≡ told (take base s.group)
+  pub image_ : image ≡ image_of (take base s.group)
   pub later : (x : ℕ) → s.views.decided x ≡ true → key v < x → Begins (take join s.group) (s.views.chosen x).before
 
 -- who has a log, or will have none, doesn't heed a Welcome
@@ -121,7 +121,7 @@ pub record VoteTells (s : Group) (sender : ℕ) (v : Stamp) (vote : Vote) : Type
   pub shown : s.shown (key v) sender ≡ Some list
   pub view : vote.view ≡ view_of list
   pub top : vote.top ≡ length list
-  pub members : vote.members ≡ members_of (told list)
+  pub members : vote.members ≡ members_of (image_of list)
   pub taken : vote.taken ≤ length list
 
 pub data VoteSays (s : Group) (sender : ℕ) (v : Stamp) (vote : Vote) : Type 0 where

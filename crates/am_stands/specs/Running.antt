@@ -6,7 +6,7 @@ use Rattle.am_group.specs.declared.event.Event.{Event}
 use Rattle.am_chain_moves.specs.Group.{Group}
 use Rattle.am_model.specs.Emit.{Step}
 use Rattle.am_model.specs.Calls.{is_unfinished}
-use Rattle.am_model.specs.World.{World, run, is_stopped, has_departed, stepped, happens}
+use Rattle.am_model.specs.World.{World, run, is_stopped, has_departed, with_step, happens}
 use Rattle.am_effects.specs.Causes.{Cause}
 use Rattle.am_effects.specs.Effects.{Effect}
 use Rattle.am_effects.specs.Events.{actor, IsCause}
@@ -38,6 +38,6 @@ StepsMove = (rules : Rules) (events : List Event) (e : Event) (c : Cause) (step 
     → is_stopped (run rules events) (actor (run rules events) e) ≡ false
     → IsCause (run rules events) (actor (run rules events) e) e.act c
     → Effect ((run rules events).nodes (actor (run rules events) e)) c step
-    → happens (run rules events) e ≡ stepped (run rules events) e (actor (run rules events) e) step
+    → happens (run rules events) e ≡ with_step (run rules events) e (actor (run rules events) e) step
     → Following rules (run rules events) s
-    → Follows rules (stepped (run rules events) e (actor (run rules events) e) step) s
+    → Follows rules (with_step (run rules events) e (actor (run rules events) e) step) s

@@ -11,11 +11,11 @@ use Rattle.am_packet.specs.declared.packet.Packet.TheVariants as packet
 use Rattle.am_chain_lists.specs.Whole.{key}
 use Rattle.am_chain_moves.specs.Group.{Group, IsThere}
 use Rattle.am_chain_moves.specs.Kept.{Kept}
-use Rattle.am_model.specs.Node.{Node, Ballot, top, told, is_sequencer}
+use Rattle.am_model.specs.Node.{Node, Ballot, top, image_of, is_sequencer}
 use Rattle.am_model.specs.declared.status.Status.TheVariants.{Departed}
 use Rattle.am_model.specs.Calls.{is_unfinished}
-use Rattle.am_model.specs.Step.{step, hear, refused}
-use Rattle.am_model.specs.Refresh.{concerned}
+use Rattle.am_model.specs.Step.{step, hear, hear_refusal}
+use Rattle.am_model.specs.Refresh.{concerned_names}
 use Rattle.am_model.specs.Group.{has_log}
 use Rattle.am_model.specs.World.{Decided, World}
 use Rattle.am_effects.specs.Causes.{Cause, hears}
@@ -28,7 +28,7 @@ use Rattle.am_stands.specs.States.{OwnDecided, ReportsStand, LinesOpen, RoundsOk
 
 -- a life of a place where somebody joined isn't none
 abbrev pub RowsLive : Node → Type 0
-RowsLive n = (name : ℕ) → (at_place (told n) name).life ≡ 0 → (at_place (told n) name).joined ≡ 0
+RowsLive n = (name : ℕ) → (at_place (image_of n) name).life ≡ 0 → (at_place (image_of n) name).joined ≡ 0
 
 -- what the group keeps
 pub record KeptWhole (s : Group) : Type 0 where
@@ -52,10 +52,10 @@ pub data ListBegins (c : Cause) (m n : Node) : Type 0 where
 
 -- what a sequencer knows of its names
 pub record LeaderStands (s : Group) (i : ℕ) (n : Node) : Type 0 where
-  pub names : (j : ℕ) → has (concerned n) j ≡ true → j < 256
+  pub names : (j : ℕ) → has (concerned_names n) j ≡ true → j < 256
   pub reports : ReportsStand s i n
   -- its last View stands in its log
-  pub viewed : n.core.log.start < (told n).view_number
+  pub viewed : n.core.log.start < (image_of n).view_number
 
 -- what it has of ballots: who has no log has none, and who fetches has been shown all that it needs
 pub record BallotStands (s : Group) (i : ℕ) (n : Node) : Type 0 where
@@ -110,7 +110,7 @@ SentSays = (v : World) (i : ℕ) (c : Cause) (m n : Node) (s : Group) (to : List
 pub record SendsNothing (m : Node) : Type 0 where
   pub calls_ : (event : NodeEvent) → (step m event).letters ≡ []
   pub hears_ : (p : Packet) → (hear m p).letters ≡ []
-  pub refuses_ : (cause : ℕ) → (refused m cause).letters ≡ []
+  pub refuses_ : (cause : ℕ) → (hear_refusal m cause).letters ≡ []
 
 -- where no ballot is left open
 abbrev pub DepartedSilent : Type 0

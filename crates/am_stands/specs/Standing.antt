@@ -1,9 +1,9 @@
 -- What stands for what: a world of the definitions, and a group of whole lists.
 use Rattle.std.specs.Prelude.{◌≡◌, ◌≢◌, ℕ, ◌+◌, ◌<◌, ◌≤◌, List, [], ◌∷◌, ◌++◌, length, take, Some, Bool, true, false, slice_get}
 use Rattle.am_base.specs.Lists.{Log}
-use Rattle.am_chain_lists.specs.Whole.{Begins, told, key}
+use Rattle.am_chain_lists.specs.Whole.{Begins, image_of, key}
 use Rattle.am_chain_moves.specs.Group as groups
-use Rattle.am_chain_moves.specs.Group.{Group, Views, opening}
+use Rattle.am_chain_moves.specs.Group.{Chosen, Group, Views, opening}
 use Rattle.am_chain_moves.specs.Runs as begun
 use Rattle.am_base.specs.Founding.{Rules, MayFound}
 use Rattle.am_stands.specs.Moving.{Leads}
@@ -20,7 +20,7 @@ use Rattle.am_model.specs.Claims.{line_of}
 -- where a list begins, the group had accepted so much, and the list's image tells just that
 pub record BeginsIn (w : World) (log : Log) : Type 0 where
   pub within : log.start ≤ length w.group
-  pub image : log.image ≡ told (take log.start w.group)
+  pub image : log.image ≡ image_of (take log.start w.group)
 
 -- whether a name has a log, has stopped, has departed, and leaves
 pub record FlagsStand (status : Status) (leaves stops : Bool) (log halted gone quits : Bool) : Type 0 where
@@ -47,13 +47,18 @@ pub record FrontsStand (m : Node) (a : groups.Node) : Type 0 where
 
 -- ---- decided views
 
+-- a ballot chose this view
+pub record ChoseView (chosen : Chosen) (v : Decided) : Type 0 where
+  pub stamp : chosen.stamp ≡ v.stamp
+  pub members : chosen.members ≡ v.members
+  pub resilience : chosen.resilience ≡ v.resilience
+  pub number : length chosen.before + 1 ≡ v.number
+
 -- a noted view is a decided one, with the list below its View, and its line is its coordinator's list up to before the next View
 pub record NotedStands (w : World) (views : Views) (v : Decided) : Type 0 where
   pub decided : views.decided (key v.stamp) ≡ true
-  pub stamp : (views.chosen (key v.stamp)).stamp ≡ v.stamp
-  pub members : (views.chosen (key v.stamp)).members ≡ v.members
-  pub resilience : (views.chosen (key v.stamp)).resilience ≡ v.resilience
-  pub number : length (views.chosen (key v.stamp)).before + 1 ≡ v.number
+  pub chose : ChoseView (views.chosen (key v.stamp)) v
+  pub open chose use *
   pub line : views.line (key v.stamp) ≡ line_of w v.stamp
   pub opens : Begins (opening (views.chosen (key v.stamp))) (views.line (key v.stamp))
 

@@ -9,7 +9,7 @@ use Rattle.am_base.specs.declared.outcome.Outcome.TheVariants as said
 use Rattle.am_base.specs.declared.image.Image.{Image}
 use Rattle.am_base.specs.Names.{life_of, has}
 use Rattle.am_base.specs.Lists.{at_place}
-use Rattle.am_chain_lists.specs.Whole.{Begins, told, mem, view_of, key}
+use Rattle.am_chain_lists.specs.Whole.{Begins, image_of, mem, view_of, key}
 use Rattle.am_chain_moves.specs.Group as groups
 use Rattle.am_chain_moves.specs.Group.{Group, opening, chain_of}
 use Rattle.am_model.specs.Node as nodes
@@ -39,7 +39,7 @@ OwnDecided m = (b : Ballot) (number : ℕ) (names : List ℕ) → m.ballot ≡ S
 pub record IsConcerned (list : List Entry) (name : ℕ) : Type 0 where
   pub upto : List Entry
   pub begins : Begins upto list
-  pub from : (told list).view_number ≤ length upto
+  pub from : (image_of list).view_number ≤ length upto
   pub member : mem upto name ≡ true
 
 -- A report goes no further than the list. Above the base it is true of a name that is concerned: of a name that was given up, or that
@@ -59,7 +59,7 @@ IsNew image name = ((at_place image name).joined ≡ 0) ⊎ ((at_place image nam
 
 -- what such a name reported, if it did, is no more than the base
 abbrev pub ReportsFresh : Node → Type 0
-ReportsFresh m = (name : ℕ) → IsNew (nodes.told m) name → (m.reports name).stored ≤ m.core.base
+ReportsFresh m = (name : ℕ) → IsNew (nodes.image_of m) name → (m.reports name).stored ≤ m.core.base
 
 -- an unfinished ballot that fetches has been shown all that it needs
 abbrev pub FetchesStand : Group → Option Ballot → Type 0

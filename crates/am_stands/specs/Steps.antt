@@ -14,7 +14,7 @@ use Rattle.am_chain_lists.specs.Whole as whole
 use Rattle.am_chain_lists.specs.Whole.{view_of, key}
 use Rattle.am_chain_moves.specs.Group.{Group, IsOngoing}
 use Rattle.am_chain_moves.specs.Moves.{with_node, MayNumber, MayWelcome, MayDecide}
-use Rattle.am_model.specs.Node.{Node, Ballot, told, view, members}
+use Rattle.am_model.specs.Node.{Node, Ballot, image_of, view, members}
 use Rattle.am_model.specs.Calls.{is_unfinished}
 use Rattle.am_model.specs.Receiving.{is_view}
 use Rattle.am_model.specs.Ballots.{Verdict, need_of, left_in}
@@ -34,24 +34,29 @@ pub record WasBegun (s : Group) (v : Stamp) : Type 0 where
   pub small : v.by < 256
   pub begun : key v ≤ key (s.node v.by).promise
 
--- the name that does a step runs, and what it hears is so
-pub record MayMove (w : World) (name : ℕ) (c : Cause) (x : Node) (s : Group) : Type 0 where
+-- what holds of the name that does a step, in any world; and what it hears is so
+pub record MovesSo (name : ℕ) (c : Cause) (x : Node) (s : Group) : Type 0 where
   pub few : name < 256
-  pub runs : is_stopped w name ≡ false
   pub who : x.core.who ≡ name
   pub promise : x.core.promise.by < 256
   -- an unfinished ballot's stamp is the promise
   pub ballot : (b : Ballot) → x.ballot ≡ Some b → b.is_over ≡ false → b.stamp ≡ x.core.promise
   pub stamps : (v : Stamp) → Promises c x v → WasBegun s v
-  pub noted : (k : ℕ) (v : Decided) → slice_get w.views k ≡ Some v → v.stamp.by < 256
   pub gone : (from : ℕ) (v : Stamp) (number : ℕ) → c ≡ hears (packet.Gone from v number) → GoneSays s number name
+
+-- and it runs
+pub record MayMove (w : World) (name : ℕ) (c : Cause) (x : Node) (s : Group) : Type 0 where
+  pub so : MovesSo name c x s
+  pub open so use *
+  pub runs : is_stopped w name ≡ false
+  pub noted : (k : ℕ) (v : Decided) → slice_get w.views k ≡ Some v → v.stamp.by < 256
 
 -- ---- what a change needs of the group besides, by what it makes of a list
 
 -- a sequencer has its view's line, and numbers what fits, and no Leave but of a name that leaves
 pub record NeedsNumber (s : Group) (name : ℕ) (x : Node) (e : Entry) : Type 0 where
   pub chain : s.views.line (key (view_of (s.node name).list)) ≡ (s.node name).list
-  pub fit : fits (told x) e ≡ true
+  pub fit : fits (image_of x) e ≡ true
   pub named : NamesNamed e
   pub may : MayNumber s.node name e
 
@@ -85,12 +90,12 @@ pub record NeedsWelcome (s : Group) (name : ℕ) (v : Stamp) (base join : ℕ) (
   pub may : MayWelcome s name v base join
   pub blank : (s.node name).list ≡ []
   pub within : base ≤ length s.group
-  pub image_ : image ≡ whole.told (take base s.group)
+  pub image_ : image ≡ whole.image_of (take base s.group)
 
 -- a coordinator may decide: by the group's own test, with a stamp of which nothing was decided and no View stands in its list; and the
 -- members that its View names are the members then
 pub record NeedsDecision (s : Group) (name : ℕ) (x : Node) (b : Ballot) : Type 0 where
-  pub may : MayDecide s name (left_in b (need_of x b)) (max b.resilience (told x).resilience)
+  pub may : MayDecide s name (left_in b (need_of x b)) (max b.resilience (image_of x).resilience)
   pub own : x.core.promise.by ≡ name
   pub fresh : s.views.decided (key x.core.promise) ≡ false
   pub unseen : list_any (is_view_of x.core.promise) (s.node name).list ≡ false

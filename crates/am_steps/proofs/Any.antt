@@ -7,9 +7,9 @@ use Rattle.std.proofs.Common.{List}
 use Rattle.am_packet.specs.Boxes.{Letter}
 use Rattle.am_packet.specs.Kinds.{goes_to_any}
 use Rattle.am_group.specs.declared.event.Event.{Event}
-use Rattle.am_model.specs.World.{World, start, unchanged, stepped, run}
+use Rattle.am_model.specs.World.{World, start, with_record, with_step, run}
 use Rattle.am_effects.specs.Letters.{LetterSays}
-use Rattle.am_effects.specs.Events.{actor, idles, stops, returns, steps}
+use Rattle.am_effects.specs.Events.{actor, steps}
 use Rattle.am_effects.proofs.Runs.{EachKeeps, runs_keep}
 
 abbrev pub GoesSo : Letter → Type 0
@@ -19,14 +19,12 @@ record AllGo (w : World) : Type 0 where
   letters : All GoesSo w.letters
 
 go_next : EachKeeps AllGo
-unfolding unchanged stepped
-go_next w e v (idles o idle) h = record { letters = h.letters }
-go_next w e v (stops runs) h = record { letters = h.letters }
-go_next w e v (returns place is gone more) h = record { letters = h.letters }
+unfolding with_record with_step
 go_next w e v (steps c s runs cause effect) h = record {
   letters = All-append GoesSo w.letters s.letters h.letters
       (All-weaker (LetterSays (w.nodes (actor w e)) c effect.sender) GoesSo (λ l x. x.any) s.letters effect.letters);
 }
+go_next w e v _ h = record { letters = h.letters }
 
 pub run_goes : (rules : Rules) (events : List Event) → All GoesSo (run rules events).letters
 run_goes rules events = (runs_keep AllGo go_next (start rules) events (record { letters = All-nil GoesSo })).letters

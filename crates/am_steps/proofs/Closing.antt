@@ -9,14 +9,14 @@ use Rattle.am_group.specs.declared.event.Record.{Record}
 use Rattle.am_chain_moves.specs.Group.{Group, chain_of}
 use Rattle.am_chain_moves.specs.Moves.{longer}
 use Rattle.am_chain_moves.specs.Kept.{Kept}
-use Rattle.am_model.specs.Node.{Node, view, others, is_member, is_sequencer, pushed}
+use Rattle.am_model.specs.Node.{Node, view, others, is_member, is_sequencer, push_entry}
 use Rattle.am_model.specs.Emit.{Step}
-use Rattle.am_model.specs.World.{World, stepped}
+use Rattle.am_model.specs.World.{World, with_step}
 use Rattle.am_effects.specs.Causes.{Cause}
 use Rattle.am_laws.proofs.ViewChanges.{leads_member}
 use Rattle.am_stands.specs.Standing.{NameStands, StandsBut, Stands, within}
 use Rattle.am_stands.specs.Accepting.{CountsNames, ComesTo}
-use Rattle.am_stands.specs.Ends.{NeedsClose, closed}
+use Rattle.am_stands.specs.Ends.{NeedsClose, after_closing}
 use Rattle.am_stands.specs.Moving.{NamesNamed, Leads}
 use Rattle.am_stands.specs.Steps.{MayMove}
 use Rattle.am_stands.specs.Keeping.{Stepping}
@@ -52,45 +52,23 @@ module _ (rules : Rules) (w : World) (records : List Record) (name : ℕ) (c : C
   comes_here : ComesTo w t name f.heard x
   comes_here =
       let a = comes rules (recorded w records) name c x t h f member (member_here x.status member) in
-      record {
-        stands = here;
-        group = a.group;
-        who = a.who;
-        runs = a.runs;
-        member = a.member;
-        acc = a.acc;
-        up_to = a.up_to;
-        given = a.given;
-        within = a.within;
-        leads = a.leads;
-        follows = a.follows;
-        word = a.word;
-      }
+      record { so = a.so; stands = here; group = a.group; runs = a.runs; acc = a.acc }
 
   -- who counts, with its own Leave
-  counts : CountsNames (pushed x (Leave x.core.who))
+  counts : CountsNames (push_entry x (Leave x.core.who))
   counts =
       let e = Leave x.core.who in
       let list = (t.node name).list in
       let named = front_named list (chain_of t.views) ((k.each name).list (is_up (recorded w records) name x (t.node name) h.runs member mine)) h.group.named in
-      counts_names (within w name (pushed x e)) name (pushed x e) (longer (t.node name) e)
-      (name_longer w name x (pushed x e) e (t.node name)
+      counts_names (within w name (push_entry x e)) name (push_entry x e) (longer (t.node name) e)
+      (name_longer w name x (push_entry x e) e (t.node name)
       (record { log = refl; stays = refl; leaving = refl; promise = refl; ballot = refl; start = refl }) here)
       (All-push NamesNamed list e named tt)
 
   moves_here : MayMove w name c x t
   moves_here =
       let a = may_move rules (recorded w records) name c x t h in
-      record {
-        few = a.few;
-        runs = a.runs;
-        who = a.who;
-        promise = a.promise;
-        ballot = a.ballot;
-        stamps = a.stamps;
-        noted = a.noted;
-        gone = a.gone;
-      }
+      record { so = a.so; runs = a.runs; noted = a.noted }
 
   stands_here : StandsBut name (within w name x) t
   stands_here =
@@ -103,8 +81,8 @@ module _ (rules : Rules) (w : World) (records : List Record) (name : ℕ) (c : C
         group = a.group;
       }
 
-  pub closes_on : (e : Event) (step : Step) → x.leaving ≡ true → nat_lt 0 (size (others x)) ≡ false → view (w.nodes name) ≡ view x → step.node ≡ closed x
-      → Leads (Stands (stepped w e name step)) t
+  pub closes_on : (e : Event) (step : Step) → x.leaving ≡ true → nat_lt 0 (size (others x)) ≡ false → view (w.nodes name) ≡ view x → step.node ≡ after_closing x
+      → Leads (Stands (with_step w e name step)) t
   closes_on e step leaves alone viewed is =
       let needs = closing_accepts w t name f.heard x k comes_here h.few leads alone counts viewed in
       close_stands w e name c x step t moves_here leads leaves is (subst (NeedsClose w t name) (sym is) needs) stands_here

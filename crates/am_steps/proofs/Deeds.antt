@@ -6,8 +6,8 @@ use Rattle.am_base.specs.declared.outcome.Outcome.{Outcome}
 use Rattle.am_base.specs.Founding.{Rules}
 use Rattle.am_base.specs.Stamps.{stamp_lt}
 use Rattle.am_chain_moves.specs.Group.{Group}
-use Rattle.am_model.specs.Node.{Node, Ballot, view, is_member, told}
-use Rattle.am_model.specs.Ballots.{Verdict, trimmed_for, left_in, need_of}
+use Rattle.am_model.specs.Node.{Node, Ballot, view, is_member, image_of}
+use Rattle.am_model.specs.Ballots.{Verdict, trim_for, left_in, need_of}
 use Rattle.am_model.specs.World.{Decided, World, last_view}
 use Rattle.am_effects.specs.Causes.{Cause}
 use Rattle.am_effects.specs.Looks.{Balloting, Looks, finds_itself_out, waits, fetches_from_best, finds_too_few, finds_no_room, decides}
@@ -19,16 +19,12 @@ use Rattle.am_laws.proofs.Stamps.{below, not_above}
 use Rattle.am_laws.proofs.ViewSteps.{SameView, Stood, view_last}
 use Rattle.am_laws.proofs.ViewChanges.{changes_do, looked_at, log_of_member}
 use Rattle.am_sent.proofs.Changes.{CauseSent}
-use Rattle.am_stands.specs.Growing.{Grows}
-use Rattle.am_stands.specs.Moving.{Moves}
 use Rattle.am_stands.specs.Steps.{after_look}
 use Rattle.am_stands.specs.Keeping.{Stepping}
 use Rattle.am_stands.proofs.Changes.{looked_open}
-use Rattle.am_stands.proofs.Ends.{then_moves}
-use Rattle.am_stands.proofs.Onward.{grows_trans}
 use Rattle.am_stands.proofs.Stepped.{changes_go_on}
 use Rattle.am_steps.proofs.Worlds.{growing}
-use Rattle.am_steps.proofs.Refreshed.{Fronted}
+use Rattle.am_steps.proofs.Refreshed.{Fronted, Changed, then_changed}
 use Rattle.am_steps.proofs.Courses.{was_welcomed, look_brings, both_ways, stays}
 use Rattle.am_steps.proofs.Fronts.{fronts_next}
 use Rattle.am_steps.proofs.Going.{Grown, as_before, by_reports, going_on}
@@ -51,11 +47,8 @@ pub data Seen (w : World) (m x : Node) (views : List Decided) : Type 0 where
 pub record Done (rules : Rules) (w : World) (name : ℕ) (c : Cause) (m x : Node) (s : Group) : Type 0 where
   pub group : List Entry
   pub views : List Decided
-  pub to : Group
-  pub path : Moves s to
-  pub grows : Grows s to
-  pub goes : Stepping rules (further w group views) name c x to
-  pub fronts : Fronted (further w group views) name x to
+  pub changed : Changed rules (further w group views) name c x s
+  pub open changed use *
   pub grown : Grown c w.group group x
   pub seen : Seen w m x views
 
@@ -83,7 +76,7 @@ seen_by {x = x} {b = b} {v = v} (decides may) w m member own above = one_new (re
 }) refl
   where
     is : view v.node ≡ b.stamp
-    is = view_last (trimmed_for x b (left_in b (need_of x b))) b.stamp (left_in b (need_of x b)) (max b.resilience (told x).resilience)
+    is = view_last (trim_for x b (left_in b (need_of x b))) b.stamp (left_in b (need_of x b)) (max b.resilience (image_of x).resilience)
 
 world_after : {x : Node} {b : Ballot} {v : Verdict} (look : Looks x b v) (w : World) (group : List Entry)
     → after_look look (growing w group) ≡ further w group (after_look look w).views
@@ -105,17 +98,7 @@ pub deeds_on : (rules : Rules) (w : World) (name : ℕ) (c : Cause) (o : Outcome
     → Fronted w name m s → CauseSent w.records name o c → Done rules w name c m x s
 deeds_on rules w name c o m x s (plainly course) h f sent =
     let g = going_on rules w name c o m x s course h f sent in
-    record {
-      group = g.group;
-      views = w.views;
-      to = g.to;
-      path = g.path;
-      grows = g.grows;
-      goes = g.goes;
-      fronts = g.fronts;
-      grown = g.grown;
-      seen = none_new refl;
-    }
+    record { group = g.group; views = w.views; changed = g.changed; grown = g.grown; seen = none_new refl }
 deeds_on rules w name c o m x s (looked {n = n} b verdict course over why look is) h f sent =
     let g = going_on rules w name c o m n s course h f sent in
     let now = growing w g.group in
@@ -127,17 +110,19 @@ deeds_on rules w name c o m x s (looked {n = n} b verdict course over why look i
     let member = course_member m n course (look_brings b why).welcomes (g.goes.keeps.opens (looked_open c n b why)).0 in
     let gone = changes_do m n h.names (course_changes course) h.along.names h.along.balloted in
     let up : (view n ≡ view m) ⊎ (stamp_lt (view m) (view n) ≡ true) = ⊎_elim
-    (λ (same : SameView (told n) (told m)). inl same.view)
+    (λ (same : SameView (image_of n) (image_of m)). inl same.view)
     (λ (k : (stamp_lt (view m) (view n) ≡ true) × Stood n.core.log). inr k.0)
     (gone.does.goes (log_of_member m.status member)).view in
     record {
       group = g.group;
       views = (after_look look w).views;
-      to = one.to;
-      path = then_moves g.path one.path;
-      grows = grows_trans s g.to one.to g.grows one.grows;
-      goes = goes;
-      fronts = record { low = fronts.low; heard = fronts.heard; word = fronts.word; acc = fronts.acc; told = fronts.told };
+      changed = then_changed g.path g.grows (record {
+        to = one.to;
+        path = one.path;
+        grows = one.grows;
+        goes = goes;
+        fronts = record { low = fronts.low; heard = fronts.heard; word = fronts.word; acc = fronts.acc; told = fronts.told };
+      });
       grown = before_look b w.group g.group why g.grown;
       seen = seen_by look w m member open_.own (view_up (view m) (view n) b.stamp up open_.above);
     }

@@ -12,7 +12,7 @@ use Rattle.am_chain_moves.specs.Group.{Group}
 use Rattle.am_model.specs.Node.{Node, Ballot, view, acts, is_member}
 use Rattle.am_model.specs.Ballots.{Verdict}
 use Rattle.am_model.specs.Hearing.{hears_member, hears_in_view, hears_sequencer}
-use Rattle.am_model.specs.Receiving.{noted}
+use Rattle.am_model.specs.Receiving.{with_noted}
 use Rattle.am_model.specs.World.{World, has_departed}
 use Rattle.am_model.proofs.Greatest.{split, and_both}
 use Rattle.am_effects.specs.Causes.{Cause, hears, BringsFronts, with_entry, with_number, alone}
@@ -61,7 +61,7 @@ heard_view x from v t =
 
 noted_fronts : (rules : Rules) (w : World) (name : ℕ) (c : Cause) (x : Node) (s t : Group) (from : ℕ) (v : Stamp) (base acc : ℕ)
     → BringsFronts c from v base acc → hears_sequencer x from v ≡ true → Stepping rules w name c x s → FrontsStay name s t → Grows s t → Fronted w name x s
-    → Fronted w name (noted x base acc) t
+    → Fronted w name (with_noted x base acc) t
 noted_fronts rules w name c x s t from v base acc by heard h stay g f =
     let says = fronts_said w s name c from v base acc by h.heard in
     let size = ap length h.stands.group in

@@ -13,17 +13,15 @@ use Rattle.am_effects.specs.Changes.{Change, takes_report}
 use Rattle.am_effects.specs.Courses.{IsPlain, Course, nothing_yet, used_report, and_then}
 use Rattle.am_effects.proofs.Rests.{rests_refresh, leads_rests}
 use Rattle.am_sent.proofs.Changes.{CauseSent}
-use Rattle.am_stands.specs.Growing.{Grows}
-use Rattle.am_stands.specs.Moving.{Moves, none}
+use Rattle.am_stands.specs.Moving.{none}
 use Rattle.am_stands.specs.Steps.{after_change}
 use Rattle.am_stands.specs.Keeping as plainly
-use Rattle.am_stands.specs.Keeping.{Next, Stepping}
-use Rattle.am_stands.proofs.Ends.{then_moves}
+use Rattle.am_stands.specs.Keeping.{Stepping}
 use Rattle.am_stands.proofs.Keeping.{old}
-use Rattle.am_stands.proofs.Onward.{grows_same, grows_trans}
+use Rattle.am_stands.proofs.Onward.{grows_same}
 use Rattle.am_stands.proofs.Stepped.{changes_go_on}
 use Rattle.am_steps.proofs.Worlds.{growing}
-use Rattle.am_steps.proofs.Refreshed.{Fronted, refresh_on}
+use Rattle.am_steps.proofs.Refreshed.{Changed, then_changed, Fronted, refresh_on}
 use Rattle.am_steps.proofs.Courses.{brings_report, brings_true, plain_too, none_noted, leads_on}
 use Rattle.am_steps.proofs.Fronts.{fronts_next}
 
@@ -32,24 +30,14 @@ pub data Grown (c : Cause) (old group : List Entry) (x : Node) : Type 0 where
   as_before : group ≡ old → Grown c old group x
   by_reports : brings_report c ≡ true → is_sequencer x ≡ true → x.core.log.start ≤ length old → group ≡ group_after old x → Grown c old group x
 
--- the moves so far, and what is known of the group that they lead to
+-- the moves so far, and the group list by then
 pub record Going (rules : Rules) (w : World) (name : ℕ) (c : Cause) (x : Node) (s : Group) : Type 0 where
   pub group : List Entry
-  pub to : Group
-  pub path : Moves s to
-  pub grows : Grows s to
-  pub goes : Stepping rules (growing w group) name c x to
-  pub fronts : Fronted (growing w group) name x to
+  pub changed : Changed rules (growing w group) name c x s
+  pub open changed use *
   pub grown : Grown c w.group group x
 
 -- ---- one change more
-
-pub record Changed (rules : Rules) (w : World) (name : ℕ) (c : Cause) (y : Node) (s : Group) : Type 0 where
-  pub to : Group
-  pub path : Moves s to
-  pub grows : Grows s to
-  pub goes : Stepping rules w name c y to
-  pub fronts : Fronted w name y to
 
 -- by a change that goes on, and notes no view
 pub change_on : (rules : Rules) (w : World) (name : ℕ) (c : Cause) (o : Outcome) (x y : Node) (s : Group) (z : Change c o x y) → plainly.IsPlain z
@@ -79,11 +67,7 @@ pub going_on : (rules : Rules) (w : World) (name : ℕ) (c : Cause) (o : Outcome
     → Fronted w name m s → CauseSent w.records name o c → Going rules w name c x s
 going_on rules w name c o m x s nothing_yet h f sent = record {
   group = w.group;
-  to = s;
-  path = none;
-  grows = grows_same s;
-  goes = h;
-  fronts = f;
+  changed = record { to = s; path = none; grows = grows_same s; goes = h; fronts = f };
   grown = as_before refl;
 }
 going_on rules w name c o m x s (used_report from v report by may) h f sent =
@@ -94,11 +78,7 @@ going_on rules w name c o m x s (used_report from v report by may) h f sent =
     let same = ap (λ (l : Log). l.start) (rests_refresh told).log in
     record {
       group = group_after w.group (refresh told);
-      to = two.to;
-      path = then_moves one.path two.path;
-      grows = grows_trans s one.to two.to one.grows two.grows;
-      goes = two.goes;
-      fronts = two.fronts;
+      changed = then_changed one.path one.grows two.changed;
       grown = by_reports (brings_true from v report by) (leads_rests (rests_refresh told).rests ∙ may.leads) (omega arith) refl;
     }
 going_on rules w name c o m x s (and_then {n = n} before z plain) h f sent =
@@ -107,10 +87,6 @@ going_on rules w name c o m x s (and_then {n = n} before z plain) h f sent =
     prior.fronts in
     record {
       group = prior.group;
-      to = one.to;
-      path = then_moves prior.path one.path;
-      grows = grows_trans s prior.to one.to prior.grows one.grows;
-      goes = one.goes;
-      fronts = one.fronts;
+      changed = then_changed prior.path prior.grows one;
       grown = grown_next w.group prior.group n x z plain prior.goes.along.owned.fronts.accepted prior.grown;
     }

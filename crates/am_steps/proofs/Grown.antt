@@ -8,8 +8,8 @@ use Rattle.am_base.specs.declared.entry.Entry.{Entry}
 use Rattle.am_base.specs.Lists.{top_of, with_entry}
 use Rattle.am_core.specs.Cores.{CoreState}
 use Rattle.am_model.specs.Receiving.{is_view}
-use Rattle.am_model.specs.Node.{Node, is_sequencer, pushed}
-use Rattle.am_model.specs.World.{grown, group_after}
+use Rattle.am_model.specs.Node.{Node, is_sequencer, push_entry}
+use Rattle.am_model.specs.World.{group_with, group_after}
 use Rattle.am_model.proofs.Greatest.{split}
 use Rattle.am_effects.proofs.Says.{leads_pushed}
 use Rattle.am_stands.proofs.Learning.{same_by, same_group}
@@ -22,7 +22,7 @@ acc_front xs e k d low =
     ap (take k) (drop-append-le d xs (e ∷ []) (omega arith)) ∙ take-append-le k (drop d xs) (e ∷ []) (omega arith)
 
 grown_push : (group : List Entry) (c : CoreState) (e : Entry) → c.log.start ≤ length group → c.acc ≤ top_of c.log
-    → grown group (record c { log = with_entry c.log e }) ≡ grown group c
+    → group_with group (record c { log = with_entry c.log e }) ≡ group_with group c
 grown_push group c e low high = split (nat_lt (length group) c.acc)
     (λ t. (let above : length group < c.acc = grind (arith, nat_tests) in
     ap (λ l. group ++ l) (acc_front c.log.entries e (c.acc - length group) (length group - c.log.start) (omega arith))))
@@ -30,16 +30,16 @@ grown_push group c e low high = split (nat_lt (length group) c.acc)
     ∙ sym (same_group group c high_)))
 
 pub pushed_group : (group : List Entry) (x : Node) (e : Entry) → is_sequencer x ≡ true → is_view e ≡ false → x.core.log.start ≤ length group
-    → x.core.acc ≤ top_of x.core.log → group_after group (pushed x e) ≡ group_after group x
+    → x.core.acc ≤ top_of x.core.log → group_after group (push_entry x e) ≡ group_after group x
 pushed_group group x e leads plain low high =
     let by = same_by x leads in
-    let by_next = same_by (pushed x e) (leads_pushed x e plain ∙ leads) in
+    let by_next = same_by (push_entry x e) (leads_pushed x e plain ∙ leads) in
     rw (by_next, by) (grown_push group x.core e low high)
 
 -- ---- more is accepted
 
 grown_twice : (group : List Entry) (c d : CoreState) → d.log ≡ c.log → c.log.start ≤ length group → c.acc ≤ d.acc → c.acc ≤ top_of c.log
-    → grown (grown group c) d ≡ grown group d
+    → group_with (group_with group c) d ≡ group_with group d
 grown_twice group c d log low up high = split (nat_lt (length group) c.acc)
     (λ t. (
     let above : length group < c.acc = grind (arith, nat_tests) in
@@ -49,18 +49,18 @@ grown_twice group c d log low up high = split (nat_lt (length group) c.acc)
     let long_rest : length rest ≡ length entries - (g - c.log.start) = length-drop (g - c.log.start) entries in
     let front = take (c.acc - g) rest in
     let long_front : length front ≡ c.acc - g = (let z = length-take (c.acc - g) rest in omega arith) in
-    let long : length (grown group c) ≡ c.acc = (let z = length-append group front in omega arith) in
+    let long : length (group_with group c) ≡ c.acc = (let z = length-append group front in omega arith) in
     let more : drop (c.acc - c.log.start) entries ≡ drop (c.acc - g) rest =
     ap (λ k. drop k entries) (let z : c.acc - c.log.start ≡ (g - c.log.start) + (c.acc - g) = omega arith in z)
     ∙ sym (drop-drop (c.acc - g) (g - c.log.start) entries) in
     let sum : d.acc - g ≡ (c.acc - g) + (d.acc - c.acc) = omega arith in
-    (λ i. grown group c ++ take (d.acc - long i) (drop (long i - (log i).start) (log i).entries))
+    (λ i. group_with group c ++ take (d.acc - long i) (drop (long i - (log i).start) (log i).entries))
     ∙ ap (λ l. (group ++ front) ++ take (d.acc - c.acc) l) more
     ∙ append_assoc group front (take (d.acc - c.acc) (drop (c.acc - g) rest))
     ∙ ap (λ l. group ++ l) (sym (take-add (c.acc - g) (d.acc - c.acc) rest))
     ∙ ap (λ k. group ++ take k rest) (sym sum)
     ∙ (λ i. group ++ take (d.acc - g) (drop (g - (sym log i).start) (sym log i).entries))))
-    (λ f. (let low_ : c.acc ≤ length group = grind (arith, nat_tests) in ap (λ l. grown l d) (same_group group c low_)))
+    (λ f. (let low_ : c.acc ≤ length group = grind (arith, nat_tests) in ap (λ l. group_with l d) (same_group group c low_)))
 
 pub accepted_twice : (group : List Entry) (x y : Node) → is_sequencer x ≡ true → is_sequencer y ≡ true → y.core.log ≡ x.core.log
     → x.core.log.start ≤ length group

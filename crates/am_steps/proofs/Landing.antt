@@ -12,7 +12,7 @@ use Rattle.am_chain_moves.specs.Group.{Group, Views}
 use Rattle.am_model.specs.Node.{set_at, lowest_or_first}
 use Rattle.am_model.specs.Emit.{Step}
 use Rattle.am_model.specs.Calls.{is_unfinished}
-use Rattle.am_model.specs.World.{World, has_departed, group_after, views_after, stepped}
+use Rattle.am_model.specs.World.{World, has_departed, group_after, views_after, with_step}
 use Rattle.am_model.proofs.Greatest.{split}
 use Rattle.am_effects.specs.Causes.{Cause}
 use Rattle.am_effects.proofs.Items.{all_get}
@@ -46,11 +46,11 @@ pub record Landed (rules : Rules) (v : World) (s t : Group) : Type 0 where
 
 -- from a group that stands for the world after the step, where the acting name keeps it
 pub landed : (rules : Rules) (w : World) (e : Event) (name : ℕ) (step : Step) (s t : Group) → Following rules w s → (path : Moves s t)
-    → Stands (stepped w e name step) t → (has_departed step.node.status ≡ false → NodeKeeps (stepped w e name step) t name step.node)
-    → (has_departed step.node.status ≡ true → is_unfinished step.node.ballot ≡ false) → Landed rules (stepped w e name step) s t
-unfolding stepped
+    → Stands (with_step w e name step) t → (has_departed step.node.status ≡ false → NodeKeeps (with_step w e name step) t name step.node)
+    → (has_departed step.node.status ≡ true → is_unfinished step.node.ballot ≡ false) → Landed rules (with_step w e name step) s t
+unfolding with_step
 landed rules w e name step s t h path stands mine closed =
-    let v = stepped w e name step in
+    let v = with_step w e name step in
     let on = goes_on rules.founders (lowest_or_first rules.founders) rules.resilience s t h.group path in
     let more : Begins w.group v.group = subst (λ g. Begins g v.group) h.stands.group (subst (Begins s.group) stands.group on.grows.group) in
     record {
@@ -80,12 +80,12 @@ at_end w e name step = further (recorded w (after_step w e step)) (group_after w
 
 -- what stands for it stands for the world after the step
 pub ended_stands : (w : World) (e : Event) (name : ℕ) (step : Step) (t : Group) → StandsBut name (within (at_end w e name step) name step.node) t
-    → (has_departed step.node.status ≡ false → FrontsStand step.node (t.node name)) → Stands (stepped w e name step) t
-unfolding stepped
+    → (has_departed step.node.status ≡ false → FrontsStand step.node (t.node name)) → Stands (with_step w e name step) t
+unfolding with_step
 ended_stands w e name step t k own =
     let n = step.node in
     let u = within (at_end w e name step) name n in
-    let v = stepped w e name step in
+    let v = with_step w e name step in
     record {
       each = λ i few. name_in u v i (set_at w.nodes name n i) (t.node i) refl refl (k.each i few);
       fronts = λ i few d. split (i == name)
@@ -100,9 +100,9 @@ ended_stands w e name step t k own =
     }
 
 pub ended_keeps : (rules : Rules) (w : World) (e : Event) (name : ℕ) (c : Cause) (step : Step) (t : Group)
-    → Stepping rules (at_end w e name step) name c step.node t → NodeKeeps (stepped w e name step) t name step.node
-unfolding stepped
-ended_keeps rules w e name c step t h = keeps_in (at_end w e name step) (stepped w e name step) t name step.node (λ j z. z) h.keeps
+    → Stepping rules (at_end w e name step) name c step.node t → NodeKeeps (with_step w e name step) t name step.node
+unfolding with_step
+ended_keeps rules w e name c step t h = keeps_in (at_end w e name step) (with_step w e name step) t name step.node (λ j z. z) h.keeps
 
 -- ---- with its letters
 
@@ -121,10 +121,10 @@ same_stands v s t same h = record {
 
 -- a group in which its letters are so follows
 pub landed_told : (rules : Rules) (w : World) (e : Event) (name : ℕ) (step : Step) (s t : Group) → Following rules w s
-    → Landed rules (stepped w e name step) s t → Told rules (stepped w e name step) step.letters t → Follows rules (stepped w e name step) s
-unfolding stepped
+    → Landed rules (with_step w e name step) s t → Told rules (with_step w e name step) step.letters t → Follows rules (with_step w e name step) s
+unfolding with_step
 landed_told rules w e name step s t h land told =
-    let v = stepped w e name step in
+    let v = with_step w e name step in
     let grows = grows_trans s t told.to land.grows told.grows in
     let stands = same_stands v t told.to told.same land.stands in
     let older : All (LetterSays v told.to) w.letters = get_all (LetterSays v told.to) w.letters

@@ -11,7 +11,7 @@ use Rattle.am_group.specs.declared.event.Event.{Event}
 use Rattle.am_model.specs.Node.{Node, Ballot, set_at}
 use Rattle.am_model.specs.Ballots.{Verdict}
 use Rattle.am_model.specs.Emit.{Step}
-use Rattle.am_model.specs.World.{World, start, record_of, unchanged, stepped, run}
+use Rattle.am_model.specs.World.{World, start, record_of, with_record, with_step, run}
 use Rattle.am_model.proofs.Greatest.{split}
 use Rattle.am_effects.specs.Causes.{Cause, calls}
 use Rattle.am_effects.specs.Looks.{Looks, finds_itself_out}
@@ -69,7 +69,7 @@ no_idle : (o : Outcome) (req : ℕ) → IsIdle o → o ≡ said.Queued req → �
 no_idle o req idle is = subst IsIdle is idle
 
 asked_next : EachKeeps AllAsked
-unfolding unchanged stepped
+unfolding with_record with_step
 asked_next w e v (idles o idle) h = record {
   asked = asked_other w.records w.nodes (record_of w e o [])
       (λ name req body is. no_idle o req idle is.answered) h.asked;

@@ -9,8 +9,8 @@ use Rattle.am_base.specs.Names.{has}
 use Rattle.am_base.specs.Stamps.{stamp_lt, no_stamp}
 use Rattle.am_group.specs.declared.event.Event.{Event}
 use Rattle.am_model.specs.Node.{Node, Ballot, is_member, is_asking}
-use Rattle.am_model.specs.Ballots.{Verdict, overtaken}
-use Rattle.am_model.specs.World.{World, start, unchanged, stepped, run}
+use Rattle.am_model.specs.Ballots.{Verdict, overtake}
+use Rattle.am_model.specs.World.{World, start, with_record, with_step, run}
 use Rattle.am_model.proofs.Greatest.{split, and_both}
 use Rattle.am_effects.specs.Causes.{Cause}
 use Rattle.am_effects.specs.Looks.{Looks, finds_itself_out, waits, fetches_from_best, finds_too_few, finds_no_room, decides}
@@ -43,7 +43,7 @@ same_owning x y who promise ballot h = subst (λ k. Owning k y.core.promise y.ba
     (subst (λ (v : Stamp). Owning x.core.who v y.ballot) (sym promise) (subst (Owning x.core.who x.core.promise) (sym ballot) h))
 
 -- a ballot that was decided isn't overtaken
-still_decided : (v : Stamp) (ballot : Option Ballot) (b : Ballot) (number : ℕ) (names : List ℕ) → overtaken v ballot ≡ Some b
+still_decided : (v : Stamp) (ballot : Option Ballot) (b : Ballot) (number : ℕ) (names : List ℕ) → overtake v ballot ≡ Some b
     → b.answer ≡ said.Decided number names
     → ballot ≡ Some b
 still_decided v None b number names is answer = is
@@ -67,7 +67,7 @@ record Knows (nodes : ℕ → Node) (i : ℕ) (x : Node) : Type 0 where
 
 promise_owns : (nodes : ℕ → Node) (i : ℕ) (c : Cause) (x : Node) (v : Stamp) → HeardNames c → CauseBegun nodes c → Promises c x v
     → stamp_lt v x.core.promise ≡ false
-    → IsBegun nodes v → Knows nodes i x → Owning x.core.who v (overtaken v x.ballot)
+    → IsBegun nodes v → Knows nodes i x → Owning x.core.who v (overtake v x.ballot)
 promise_owns nodes i c x v names begun why low is h b number all at answer mine =
     let old = still_decided v x.ballot b number all at answer in
     let who = h.promised.who in
@@ -135,7 +135,7 @@ pub record AllOwns (rules : Rules) (w : World) : Type 0 where
   pub each : (i : ℕ) → i < 256 → OwnDecided (w.nodes i)
 
 pub owns_next : (rules : Rules) → EachKeeps (AllOwns rules)
-unfolding unchanged stepped
+unfolding with_record with_step
 owns_next rules w e v (idles o idle) h = record {
   views = each_views rules w e v (idles o idle) h.views;
   begun = each_keeps w e v (idles o idle) h.begun;

@@ -7,7 +7,7 @@ use Rattle.am_base.specs.Lists.{top_of}
 use Rattle.am_chain_lists.specs.Whole.{Begins}
 use Rattle.am_chain_lists.proofs.Prefixes.{begins_refl}
 use Rattle.am_chain_moves.specs.Group as groups
-use Rattle.am_chain_moves.specs.Group.{Group, put, chain_of}
+use Rattle.am_chain_moves.specs.Group.{Group, chain_of}
 use Rattle.am_chain_moves.specs.Moves as group
 use Rattle.am_chain_moves.specs.Moves.{with_node}
 use Rattle.am_chain_moves.specs.Kept.{Kept}
@@ -20,7 +20,7 @@ use Rattle.am_model.proofs.Greatest.{split}
 use Rattle.am_effects.specs.Causes.{Cause}
 use Rattle.am_effects.specs.Changes.{refreshes, unchanged, changed}
 use Rattle.am_effects.proofs.Rests.{rests_refresh}
-use Rattle.am_laws.specs.Packets.{stamp_of}
+use Rattle.am_codec.specs.Spelling.{stamp_of}
 use Rattle.am_laws.proofs.TakenRuns.{Along, along_changes}
 use Rattle.am_laws.proofs.ViewChanges.{leads_member}
 use Rattle.am_sent.proofs.Kept.{kept_refresh}
@@ -35,7 +35,7 @@ use Rattle.am_stands.proofs.Ends.{accept_moves, then_moves}
 use Rattle.am_stands.proofs.Keeping.{kept, old}
 use Rattle.am_stands.proofs.Learning.{no_more_group, refresh_learns, advanced}
 use Rattle.am_stands.proofs.Letters.{letters_stay, sequencer_stays}
-use Rattle.am_stands.proofs.Onward.{goes_on, grows_same}
+use Rattle.am_stands.proofs.Onward.{grows_trans, goes_on, grows_same}
 use Rattle.am_stands.proofs.Refreshing.{refreshes_keep}
 use Rattle.am_stands.proofs.Others.{keeps_in}
 use Rattle.am_steps.proofs.Statuses.{bare_status, member_here}
@@ -63,13 +63,29 @@ no_leader x f = split (is_sequencer x) (λ t. absurd (let z = leads_member x t i
 
 -- ---- the refresh
 
--- what it leads to
-pub record Refreshed (rules : Rules) (w : World) (name : ℕ) (c : Cause) (x : Node) (s : Group) : Type 0 where
+-- the moves to a group, and what is known of it
+pub record Changed (rules : Rules) (w : World) (name : ℕ) (c : Cause) (y : Node) (s : Group) : Type 0 where
   pub to : Group
   pub path : Moves s to
   pub grows : Grows s to
-  pub goes : Stepping rules (growing w (group_after w.group (refresh x))) name c (refresh x) to
-  pub fronts : Fronted (growing w (group_after w.group (refresh x))) name (refresh x) to
+  pub goes : Stepping rules w name c y to
+  pub fronts : Fronted w name y to
+
+-- after other moves
+pub then_changed : {rules : Rules} {w : World} {name : ℕ} {c : Cause} {y : Node} {s t : Group} → Moves s t → Grows s t → Changed rules w name c y t
+    → Changed rules w name c y s
+then_changed {s = s} {t = t} path grows h = record {
+  to = h.to;
+  path = then_moves path h.path;
+  grows = grows_trans s t h.to grows h.grows;
+  goes = h.goes;
+  fronts = h.fronts;
+}
+
+-- what the refresh leads to
+pub record Refreshed (rules : Rules) (w : World) (name : ℕ) (c : Cause) (x : Node) (s : Group) : Type 0 where
+  pub changed : Changed rules (growing w (group_after w.group (refresh x))) name c (refresh x) s
+  pub open changed use *
   pub nothing_heard : fronts.heard ≡ 0
 
 module _ (rules : Rules) (w : World) (name : ℕ) (c : Cause) (x : Node) (s : Group) (h : Stepping rules w name c x s) (f : Fronted w name x s) where
@@ -93,14 +109,12 @@ module _ (rules : Rules) (w : World) (name : ℕ) (c : Cause) (x : Node) (s : Gr
       record {
         group = on.group_;
         stands = stands;
-        few = h.few;
+        by = h.by;
         who = (rests_refresh x).rests.who ∙ h.who;
         runs = h.runs;
         stopped = h.stopped;
         noted = h.noted;
         along = along;
-        names = h.names;
-        used = h.used;
         sent = kept_refresh w.records name x h.sent;
         once = once_in w v refl h.once;
         begun = λ p is. (let b = h.begun p is in let up = (on.grows.each (stamp_of p).by).promise in let begun_ = b.begun in
@@ -145,18 +159,20 @@ module _ (rules : Rules) (w : World) (name : ℕ) (c : Cause) (x : Node) (s : Gr
         let acc_ = f.acc here in
         let most = own.acc in
         record {
+          so = record {
+            who = h.who;
+            member = member;
+            up_to = omega arith;
+            given = omega arith;
+            within = h.along.owned.fronts.accepted;
+            leads = λ t. (counts, h.keeps.reports);
+            follows = λ u. f.told here;
+            word = f.word;
+          };
           stands = mine;
           group = h.stands.group;
-          who = h.who;
           runs = h.runs;
-          member = member;
           acc = h.accepted;
-          up_to = omega arith;
-          given = omega arith;
-          within = h.along.owned.fronts.accepted;
-          leads = λ t. (counts, h.keeps.reports);
-          follows = λ u. f.told here;
-          word = f.word;
         }
 
     learns : AcceptsAndLearns w s name y
@@ -196,16 +212,18 @@ module _ (rules : Rules) (w : World) (name : ℕ) (c : Cause) (x : Node) (s : Gr
         let most = l.told in
         let given = l.given in
         record {
-          to = next;
-          path = path;
-          grows = on.grows;
-          goes = gone_on after next path learns.grows stands (ap (λ (a : groups.Node). a.list) is) (omega arith);
-          fronts = record {
-            low = omega arith;
-            heard = 0;
-            word = nothing refl;
-            acc = λ d. ap (λ (a : groups.Node). a.acc) is;
-            told = λ d. (let told_ = ap (λ (a : groups.Node). a.told) is in omega arith);
+          changed = record {
+            to = next;
+            path = path;
+            grows = on.grows;
+            goes = gone_on after next path learns.grows stands (ap (λ (a : groups.Node). a.list) is) (omega arith);
+            fronts = record {
+              low = omega arith;
+              heard = 0;
+              word = nothing refl;
+              acc = λ d. ap (λ (a : groups.Node). a.acc) is;
+              told = λ d. (let told_ = ap (λ (a : groups.Node). a.told) is in omega arith);
+            };
           };
           nothing_heard = refl;
         }
@@ -222,16 +240,18 @@ module _ (rules : Rules) (w : World) (name : ℕ) (c : Cause) (x : Node) (s : Gr
 
     pub other_refreshed : Refreshed rules w name c x s
     other_refreshed = record {
-      to = s;
-      path = none;
-      grows = grows_same s;
-      goes = subst (λ g. Stepping rules (growing w g) name c y s) (sym same) other_goes;
-      fronts = record {
-        low = subst (λ g. y.core.told ≤ length g) (sym same) fronts.low;
-        heard = 0;
-        word = nothing refl;
-        acc = fronts.acc;
-        told = λ d. (let told_ = fronts.told d in let none_ = none_heard in omega arith);
+      changed = record {
+        to = s;
+        path = none;
+        grows = grows_same s;
+        goes = subst (λ g. Stepping rules (growing w g) name c y s) (sym same) other_goes;
+        fronts = record {
+          low = subst (λ g. y.core.told ≤ length g) (sym same) fronts.low;
+          heard = 0;
+          word = nothing refl;
+          acc = fronts.acc;
+          told = λ d. (let told_ = fronts.told d in let none_ = none_heard in omega arith);
+        };
       };
       nothing_heard = refl;
     }

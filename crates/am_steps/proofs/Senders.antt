@@ -11,7 +11,7 @@ use Rattle.am_packet.specs.declared.packet.Packet.TheVariants as packet
 use Rattle.am_chain_lists.specs.Whole.{key}
 use Rattle.am_chain_moves.specs.Group.{Group, IsThere, IsUp, chain_of}
 use Rattle.am_chain_moves.specs.Kept.{Kept}
-use Rattle.am_model.specs.Node.{Node, view, told, is_sequencer}
+use Rattle.am_model.specs.Node.{Node, view, image_of, is_sequencer}
 use Rattle.am_model.specs.Group.{has_log}
 use Rattle.am_model.specs.World.{World, has_departed}
 use Rattle.am_model.proofs.Greatest.{split}
@@ -62,7 +62,7 @@ module _ (rules : Rules) (w v : World) (name : ℕ) (c : Cause) (m n : Node) (t 
       record { kept = f.kept; base = f.base; taken = f.given; within = f.accepted; accepted = accepted }
 
   -- its last View was noted, so it stands in its own log
-  viewed : is_sequencer n ≡ true → n.core.log.start < (told n).view_number
+  viewed : is_sequencer n ≡ true → n.core.log.start < (image_of n).view_number
   viewed u =
       let speaks : Speaks v name n t = record { kept = k; stands = mine; up = up (logged n.status (leads_member n u)); who = h.who } in
       let l = leading v name n t speaks u in

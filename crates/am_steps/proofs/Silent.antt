@@ -15,9 +15,9 @@ use Rattle.am_group.specs.Addressed.{is_for}
 use Rattle.am_group.specs.Journals.{letter_at}
 use Rattle.am_model.specs.Node.{Node}
 use Rattle.am_model.specs.Emit.{Step}
-use Rattle.am_model.specs.Step.{step, hear, refused}
+use Rattle.am_model.specs.Step.{step, hear, hear_refusal}
 use Rattle.am_model.specs.Lengths.{packet_length}
-use Rattle.am_model.specs.World.{World, current, is_stopped, has_departed, unchanged, stepped, does_event, gives_up, heard, hear_cut, returned}
+use Rattle.am_model.specs.World.{World, current, is_stopped, has_departed, with_record, with_step, does_event, gives_up, hears_letter, hear_cut, comes_back}
 use Rattle.am_model.specs.World.{acts_as, happens}
 use Rattle.am_effects.specs.Events.{actor}
 use Rattle.am_unballoted.proofs.Steps.{nil_of}
@@ -30,12 +30,12 @@ same_if : (w : World) (b : Bool) (u v : World) → Same w u → Same w v → Sam
 same_if w true u v h k = h
 same_if w false u v h k = k
 
-quiet_step : (w : World) (e : Event) (name : ℕ) (s : Step) → s.letters ≡ [] → Same w (stepped w e name s)
-unfolding stepped
+quiet_step : (w : World) (e : Event) (name : ℕ) (s : Step) → s.letters ≡ [] → Same w (with_step w e name s)
+unfolding with_step
 quiet_step w e name s none = ap (λ l. w.letters ++ l) none ∙ append-nil w.letters
 
-same_unchanged : (w : World) (e : Event) (o : _) → Same w (unchanged w e o)
-unfolding unchanged
+same_unchanged : (w : World) (e : Event) (o : _) → Same w (with_record w e o)
+unfolding with_record
 same_unchanged w e o = refl
 
 module _ (w : World) (e : Event) (name : ℕ) (h : SendsNothing (w.nodes name)) where
@@ -50,7 +50,7 @@ module _ (w : World) (e : Event) (name : ℕ) (h : SendsNothing (w.nodes name)) 
       (same_if w (is_stopped w other) _ _ (quiet_step w e name (step (w.nodes name) (does.GiveUp other)) (h.calls_ (does.GiveUp other)))
       (same_unchanged w e said.NotStopped))
 
-  heard_so : (hearing : Packet → Step) (l : Option Letter) → ((p : Packet) → (hearing p).letters ≡ []) → Same w (heard w e name hearing l)
+  heard_so : (hearing : Packet → Step) (l : Option Letter) → ((p : Packet) → (hearing p).letters ≡ []) → Same w (hears_letter w e name hearing l)
   heard_so hearing None quiet = same_unchanged w e said.NoPacket
   heard_so hearing (Some l) quiet = same_if w (not (is_for l name)) _ _ (same_unchanged w e said.NotAddressed)
       (same_if w (is_stopped w name) _ _ (same_unchanged w e said.IsStopped) (quiet_step w e name (hearing l.packet) (quiet l.packet)))
@@ -59,18 +59,18 @@ module _ (w : World) (e : Event) (name : ℕ) (h : SendsNothing (w.nodes name)) 
   cut keep p = by_test (nat_le (packet_length p) keep) (nat_lt keep 12)
     where
       by_test : (whole none : Bool)
-          → (if whole then hear (w.nodes name) p else if none then refused (w.nodes name) 1 else refused (w.nodes name) 5).letters ≡ []
+          → (if whole then hear (w.nodes name) p else if none then hear_refusal (w.nodes name) 1 else hear_refusal (w.nodes name) 5).letters ≡ []
       by_test true none = h.hears_ p
       by_test false true = h.refuses_ 1
       by_test false false = h.refuses_ 5
 
-  gone_back : (place : ℕ) → Same w (returned w e place)
-  unfolding unchanged
+  gone_back : (place : ℕ) → Same w (comes_back w e place)
+  unfolding with_record
   gone_back place = same_if w (not (is_stopped w (current w place) || has_departed (w.nodes (current w place)).status)) _ _ refl
       (same_if w (w.lives place == 16) _ _ refl refl)
 
   acts : (a : Act) → Same w (acts_as w e name a)
-  unfolding unchanged
+  unfolding with_record
   acts (act.Send body) = called (does.Send body)
   acts (act.Done req) = called (does.Done req)
   acts act.Take = called does.Take
@@ -86,8 +86,8 @@ module _ (w : World) (e : Event) (name : ℕ) (h : SendsNothing (w.nodes name)) 
   acts (act.Cut number keep) = heard_so (hear_cut (w.nodes name) keep) (letter_at w.letters number) (cut keep)
   acts act.Return = gone_back (place_of name)
 
-pub departed_quiet : (w : World) (e : Event) (s : Step) → SendsNothing (w.nodes (actor w e)) → happens w e ≡ stepped w e (actor w e) s → s.letters ≡ []
-unfolding happens stepped
+pub departed_quiet : (w : World) (e : Event) (s : Step) → SendsNothing (w.nodes (actor w e)) → happens w e ≡ with_step w e (actor w e) s → s.letters ≡ []
+unfolding happens with_step
 departed_quiet w e s h is =
     let same : (happens w e).letters ≡ w.letters = acts w e (actor w e) h e.act in
     let all : w.letters ++ s.letters ≡ w.letters = sym (ap (λ (v : World). v.letters) is) ∙ same in

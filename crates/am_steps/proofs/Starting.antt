@@ -13,7 +13,6 @@ use Rattle.am_packet.specs.declared.packet.Packet.{Packet}
 use Rattle.am_packet.specs.declared.packet.Packet.TheVariants as packet
 use Rattle.am_packet.specs.Boxes.{Letter}
 use Rattle.am_packet.specs.Kinds.{goes_to_any}
-use Rattle.am_codec.specs.Spelling as spelled
 use Rattle.am_group.specs.declared.event.Act.{Act}
 use Rattle.am_group.specs.declared.event.Event.{Event}
 use Rattle.am_group.specs.declared.event.Record.{Record}
@@ -33,7 +32,7 @@ use Rattle.am_effects.specs.Events as event
 use Rattle.am_effects.specs.Events.{actor, WasSentTo, IsCall, IsCause}
 use Rattle.am_effects.proofs.Items.{all_get, all_item}
 use Rattle.am_effects.proofs.Runs.{runs_keep}
-use Rattle.am_laws.specs.Packets.{stamp_of}
+use Rattle.am_codec.specs.Spelling.{stamp_of}
 use Rattle.am_laws.proofs.Named.{few_names}
 use Rattle.am_laws.proofs.RunCounts.{numbers_hold}
 use Rattle.am_laws.proofs.Views.{IsNoted, heard_names}
@@ -80,10 +79,6 @@ stands_but w records name s h = subst (λ f. StandsBut name (record (recorded w 
 })
 
 -- ---- what is heard
-
-same_stamp_of : (p : Packet) → spelled.stamp_of p ≡ stamp_of p
-same_stamp_of (packet.Request s v report req body) = refl
-same_stamp_of _ = refl
 
 item_get : {A : Type 0} (xs : List A) (number : ℕ) (x : A) → item_at xs number ≡ Some x → (k : ℕ) × (slice_get xs k ≡ Some x)
 item_get xs zero x is = absurd (cc)
@@ -140,18 +135,24 @@ given_stopped w a ev other is _ = absurd (cc)
 pub run_sent : (rules : Rules) (events : List Event) → AllSent (run rules events)
 run_sent rules events = runs_keep AllSent each_keeps (start rules) events (sent_start rules)
 
+-- the world of a run, the name that an event is of, and its node
+pub record Acting : Type 0 where
+  pub w : World
+  pub name : ℕ
+  pub m : Node
+
+abbrev pub acting : Rules → List Event → Event → Acting
+acting rules events e = record {
+  w = run rules events;
+  name = actor (run rules events) e;
+  m = (run rules events).nodes (actor (run rules events) e);
+}
+
 module _ (rules : Rules) (events : List Event) (e : Event) (c : Cause) (step : Step) (s : Group) (may : MayFound rules)
     (runs : is_stopped (run rules events) (actor (run rules events) e) ≡ false) (cause : IsCause (run rules events) (actor (run rules events) e) e.act c)
     (effect : Effect ((run rules events).nodes (actor (run rules events) e)) c step) (h : Following rules (run rules events) s)
     (here : has_departed ((run rules events).nodes (actor (run rules events) e)).status ≡ false) where
-  abbrev w : World
-  w = run rules events
-
-  abbrev name : ℕ
-  name = actor (run rules events) e
-
-  abbrev m : Node
-  m = (run rules events).nodes (actor (run rules events) e)
+  open acting rules events e use {w, name, m}
 
   -- with the step's record
   abbrev pub begun_world : World
@@ -172,7 +173,7 @@ module _ (rules : Rules) (events : List Event) (e : Event) (c : Cause) (step : S
       let ok = all_item (StampOk w.nodes) w.letters (heard_by e.act) was.letter owns.begun.letters was.there in
       let names = heard_names rules w e c owned.blanks.views cause in
       begun_stands w s (stamp_of p) h.stands (λ i low. (owned.blanks.views.each i low).names.promise_) (names.stamps p is)
-      (subst (IsBegun w.nodes) (same_stamp_of p) (subst (λ (q : Packet). IsBegun w.nodes (spelled.stamp_of q)) was.is ok.begun))
+      (subst (λ (q : Packet). IsBegun w.nodes (stamp_of q)) was.is ok.begun)
 
   heard : (p : Packet) → c ≡ hears p → HeardSo begun_world s name p
   heard p is =
@@ -183,14 +184,12 @@ module _ (rules : Rules) (events : List Event) (e : Event) (c : Cause) (step : S
   stepping_begins = record {
     group = h.group;
     stands = stands_but w (after_step w e step) name s h.stands;
-    few = few;
+    by = record { few = few; names = heard_names rules w e c owned.blanks.views cause; used = heard_used rules w e c owned cause };
     who = owned.blanks.views.named.who name;
     runs = runs;
     stopped = few_stopped rules events may;
     noted = λ k d at. (all_get (IsNoted w.nodes) w.views k d owned.blanks.views.noted at).by;
     along = each_along rules w name few owned;
-    names = heard_names rules w e c owned.blanks.views cause;
-    used = heard_used rules w e c owned cause;
     sent = kept_more w.records _ name m ((run_sent rules events).all.each name);
     once = step_once rules events e c step cause effect;
     begun = begun;

@@ -17,12 +17,12 @@ use Rattle.am_packet.specs.Boxes.{Letter}
 use Rattle.am_group.specs.declared.event.Event.{Event}
 use Rattle.am_chain_moves.specs.Group.{Group}
 use Rattle.am_model.specs.declared.status.Status.TheVariants.{Departed}
-use Rattle.am_model.specs.Node.{Node, Ballot, view, acts, is_member, others, is_sequencer, pushed}
+use Rattle.am_model.specs.Node.{Node, Ballot, view, acts, is_member, others, is_sequencer, push_entry}
 use Rattle.am_model.specs.Calls.{is_unfinished}
 use Rattle.am_model.specs.Emit.{Step}
 use Rattle.am_model.specs.Hearing.{hears_member}
 use Rattle.am_model.specs.Refresh.{refresh, settle, refresh_at_end}
-use Rattle.am_model.specs.World.{Decided, World, is_stopped, has_departed, group_after, views_after, run, stepped, happens}
+use Rattle.am_model.specs.World.{Decided, World, is_stopped, has_departed, group_after, views_after, run, with_step, happens}
 use Rattle.am_model.proofs.Greatest.{split, and_both}
 use Rattle.am_effects.specs.Causes.{Cause, calls, hears}
 use Rattle.am_effects.specs.Letters as letters
@@ -52,7 +52,7 @@ use Rattle.am_stands.proofs.Learning.{no_more_group}
 use Rattle.am_stands.proofs.Silent.{departed_silent}
 use Rattle.am_steps.proofs.Statuses.{member_here, departed_is}
 use Rattle.am_steps.proofs.Owns.{owns_next, run_owns}
-use Rattle.am_steps.proofs.Starting.{recorded, stands_but, run_sent, stepping_begins}
+use Rattle.am_steps.proofs.Starting.{acting, recorded, stands_but, run_sent, stepping_begins}
 use Rattle.am_steps.proofs.Worlds.{growing, same_stands}
 use Rattle.am_steps.proofs.Refreshed.{Fronted}
 use Rattle.am_steps.proofs.Courses.{brings_report, was_welcomed, both_ways, stays}
@@ -75,7 +75,7 @@ by_ending : {c : Cause} {o : Outcome} {m : Node} (P : List Letter → Node → T
     → ((from : ℕ) (v : Stamp) (number : ℕ) → c ≡ hears (packet.Gone from v number) → hears_member m from ≡ true → m.leaving ≡ true
     → P [] (refresh_at_end (record m { status = Departed })))
     → ((x : Node) (event : NodeEvent) → c ≡ calls event → Course c o m x → is_sequencer x ≡ true → x.leaving ≡ true → nat_lt 0 (size (others x)) ≡ false
-    → view x ≡ view m → P [] (record (refresh_at_end (pushed x (Leave x.core.who))) { status = Departed }))
+    → view x ≡ view m → P [] (record (refresh_at_end (push_entry x (Leave x.core.who))) { status = Departed }))
     → (letters : List Letter) (n : Node) → Ending c o m letters n → P letters n
 by_ending P f g h letters n (ends_so {x = x} deeds) = f letters x deeds
 by_ending P f g h letters n (let_go from v number is heard leaves) = g from v number is heard leaves
@@ -157,38 +157,31 @@ sends_so m n P low (was_bare welcomed other up) f = f up (just_begun (bare_follo
 module _ (rules : Rules) (events : List Event) (e : Event) (c : Cause) (s : Group) (may : MayFound rules)
     (runs : is_stopped (run rules events) (actor (run rules events) e) ≡ false) (cause : IsCause (run rules events) (actor (run rules events) e) e.act c)
     (h : Following rules (run rules events) s) where
-  abbrev w : World
-  w = run rules events
-
-  abbrev name : ℕ
-  name = actor (run rules events) e
-
-  abbrev m : Node
-  m = (run rules events).nodes (actor (run rules events) e)
+  open acting rules events e use {w, name, m}
 
   few : name < 256
   few = few_names rules w e (run_owned rules events may).blanks.views.named
 
   abbrev after_ : Step → World
-  after_ step = stepped (run rules events) e (actor (run rules events) e) step
+  after_ step = with_step (run rules events) e (actor (run rules events) e) step
 
-  is_node : (step : Step) → (stepped (run rules events) e (actor (run rules events) e) step).nodes (actor (run rules events) e) ≡ step.node
-  unfolding stepped
+  is_node : (step : Step) → (with_step (run rules events) e (actor (run rules events) e) step).nodes (actor (run rules events) e) ≡ step.node
+  unfolding with_step
   is_node step = (let t : (name == name) ≡ true = grind (arith, nat_tests) in rw t refl)
 
   same_seen : (step : Step)
-      → (stepped (run rules events) e (actor (run rules events) e) step).views ≡ (at_end (run rules events) e (actor (run rules events) e) step).views
-  unfolding stepped
+      → (with_step (run rules events) e (actor (run rules events) e) step).views ≡ (at_end (run rules events) e (actor (run rules events) e) step).views
+  unfolding with_step
   same_seen step = refl
 
   same_records : (step : Step)
-      → (stepped (run rules events) e (actor (run rules events) e) step).records ≡ (at_end (run rules events) e (actor (run rules events) e) step).records
-  unfolding stepped
+      → (with_step (run rules events) e (actor (run rules events) e) step).records ≡ (at_end (run rules events) e (actor (run rules events) e) step).records
+  unfolding with_step
   same_records step = refl
 
   same_stopped : (step : Step)
-      → (stepped (run rules events) e (actor (run rules events) e) step).stopped ≡ (at_end (run rules events) e (actor (run rules events) e) step).stopped
-  unfolding stepped
+      → (with_step (run rules events) e (actor (run rules events) e) step).stopped ≡ (at_end (run rules events) e (actor (run rules events) e) step).stopped
+  unfolding with_step
   same_stopped step = refl
 
   -- how far it was told, and gives out, where it begins
@@ -290,11 +283,7 @@ module _ (rules : Rules) (events : List Event) (e : Event) (c : Cause) (s : Grou
         let done : Done rules begun name c m x s = record {
           group = w.group;
           views = w.views;
-          to = one.to;
-          path = one.path;
-          grows = one.grows;
-          goes = one.goes;
-          fronts = one.fronts;
+          changed = one;
           grown = as_before refl;
           seen = none_new refl;
         } in
@@ -314,10 +303,10 @@ module _ (rules : Rules) (events : List Event) (e : Event) (c : Cause) (s : Grou
     -- the last member, which numbers its own Leave
     closing_follows : (o : Outcome) (x : Node) (event : NodeEvent) → c ≡ calls event → Course c o m x → is_sequencer x ≡ true → x.leaving ≡ true
         → nat_lt 0 (size (others x)) ≡ false → view x ≡ view m
-        → Effect m c (record { node = record (refresh_at_end (pushed x (Leave x.core.who))) { status = Departed }; outcome = o; letters = [] })
-        → Follows rules (after_ (record { node = record (refresh_at_end (pushed x (Leave x.core.who))) { status = Departed }; outcome = o; letters = [] })) s
+        → Effect m c (record { node = record (refresh_at_end (push_entry x (Leave x.core.who))) { status = Departed }; outcome = o; letters = [] })
+        → Follows rules (after_ (record { node = record (refresh_at_end (push_entry x (Leave x.core.who))) { status = Departed }; outcome = o; letters = [] })) s
     closing_follows o x event called course leads leaves alone viewed effect =
-        let n = record (refresh_at_end (pushed x (Leave x.core.who))) { status = Departed } in
+        let n = record (refresh_at_end (push_entry x (Leave x.core.who))) { status = Departed } in
         let step : Step = record { node = n; outcome = o; letters = [] } in
         let begun = recorded w (after_step w e step) in
         let h0 = begins_so step effect in
@@ -328,7 +317,7 @@ module _ (rules : Rules) (events : List Event) (e : Event) (c : Cause) (s : Grou
         let one = closes_on rules w (after_step w e step) name c x g.to goes fronts leads e step leaves alone (sym viewed) refl in
         let closed = leader_closed x goes.along.balloted leads in
         let land = landed rules w e name step s one.to h (then_moves g.path one.path) one.is (λ d. absurd (cc))
-        (λ d. ap is_unfinished (rests_at_end (pushed x (Leave x.core.who))).rests.ballot ∙ closed) in
+        (λ d. ap is_unfinished (rests_at_end (push_entry x (Leave x.core.who))).rests.ballot ∙ closed) in
         landed_told rules w e name step s one.to h land (none_told rules (after_ step) one.to land.group)
 
   -- ---- each step

@@ -5,7 +5,7 @@ use Rattle.std.proofs.lemmas.Bool.Decides.{nat_tests}
 use Rattle.std.proofs.lemmas.List.Folds.{list_any-append}
 use Rattle.am_base.specs.Founding.{Rules, MayFound}
 use Rattle.am_group.specs.declared.event.Event.{Event}
-use Rattle.am_model.specs.World.{World, start, current, is_stopped, unchanged, stepped, run}
+use Rattle.am_model.specs.World.{World, start, current, is_stopped, with_record, with_step, run}
 use Rattle.am_model.proofs.Greatest.{split}
 use Rattle.am_effects.specs.Events.{actor, idles, stops, returns, steps}
 use Rattle.am_effects.proofs.Runs.{EachKeeps, runs_keep}
@@ -27,7 +27,7 @@ pub record Few (rules : Rules) (w : World) : Type 0 where
   pub few : AllFew w.stopped
 
 few_next : (rules : Rules) → EachKeeps (Few rules)
-unfolding unchanged stepped
+unfolding with_record with_step
 few_next rules w e v (idles o idle) h = record { named = each_named rules w e v (idles o idle) h.named; few = h.few }
 few_next rules w e v (stops runs) h = record {
   named = each_named rules w e v (stops runs) h.named;

@@ -12,7 +12,7 @@ use Rattle.am_base.specs.declared.image.Image.{Image}
 use Rattle.am_base.specs.declared.name.Stamp.{Stamp}
 use Rattle.am_base.specs.declared.entry.Entry.TheVariants.{View}
 use Rattle.am_base.specs.Names.{place_of, life_of, has, with_name, without_name, is_within}
-use Rattle.am_base.specs.Lists.{blank_row, at_place, members_of, member_life, viewed, with_row, is_blank, after}
+use Rattle.am_base.specs.Lists.{blank_row, at_place, members_of, member_life, row_after_view, with_row, is_blank, after}
 use Rattle.am_base.proofs.Places.{by_place_all}
 use Rattle.std.proofs.Math.Seq.{map-set_same}
 use Rattle.am_core.proofs.Folds.{split}
@@ -36,7 +36,7 @@ members_by_place rows lives long wide each =
     ∙ long) (λ k h. member_at rows k (omega arith)) in
     all ∙ sym those
 
-pub viewed_row : (first : Bool) (number life : ℕ) (r : Row) → IsRow r → life ≤ 16 → IsNumber number → IsRow (viewed first number life r)
+pub viewed_row : (first : Bool) (number life : ℕ) (r : Row) → IsRow r → life ≤ 16 → IsNumber number → IsRow (row_after_view first number life r)
 viewed_row first number life r is h n = record {
   life = let a = is.life in grind (arith, nat_tests);
   unused = let b = is.unused in grind (arith, nat_tests);
@@ -67,12 +67,12 @@ with_row_image image name r is row = record {
 -- the rows after a View
 pub viewed_image : (image : Image) (first : Bool) (number : ℕ) (stamp : Stamp) (members : List ℕ) (resilience : ℕ) (rows : List Row) → first ≡ is_blank image
     → length rows ≡ 16 → ((k : ℕ) → k < 16 → slice_index_or rows k blank_row
-    ≡ viewed first number (slice_index members k) (slice_index_or image.rows k blank_row))
+    ≡ row_after_view first number (slice_index members k) (slice_index_or image.rows k blank_row))
     → after image number (View stamp members resilience) ≡ record { view = stamp; view_number = number; resilience = resilience; rows = rows }
 unfolding after
 viewed_image image first number stamp members resilience rows e long each =
     rw (← e) (ap (λ l. let i : Image = record { view = stamp; view_number = number; resilience = resilience; rows = l } in
-    i) (sym (by_place_all (λ k. viewed first number (slice_index members k) (slice_index_or image.rows k blank_row)) rows blank_row long each)))
+    i) (sym (by_place_all (λ k. row_after_view first number (slice_index members k) (slice_index_or image.rows k blank_row)) rows blank_row long each)))
 
 pub viewed_within : (stamp : Stamp) (number resilience : ℕ) (rows : List Row) → IsStamp stamp → IsNumber number → resilience ≤ 15 → length rows ≡ 16
     → ((k : ℕ) → k < 16 → IsRow (slice_index_or rows k blank_row))

@@ -1,7 +1,7 @@
 ghost use Rattle.std.specs.Prelude.{map, ◌≡◌, ◌≤◌, ◌<◌, ℕ, slice_index_or, slice_set, ◌==◌};
 ghost use Rattle.std.specs.List.{list_all};
 ghost use Rattle.am_base.specs.Names.{place_of, has, is_within};
-ghost use Rattle.am_base.specs.Lists.{blank, blank_row, after, fits, members_of, member_life, at_place, row_of, with_row, viewed, is_blank, is_blank_row};
+ghost use Rattle.am_base.specs.Lists.{blank, blank_row, after, fits, members_of, member_life, at_place, row_of, with_row, row_after_view, is_blank, is_blank_row};
 ghost use Rattle.am_base.specs.Limits.{IsNumber, IsStamp, IsRow, IsImage, IsEntry};
 ghost use Rattle.am_base.specs.declared.entry.Entry.TheVariants.{View};
 
@@ -43,12 +43,14 @@ fn is_blank_row(row: &Row) -> bool
     row.life == 0 && row.joined == 0 && row.left == 0 && row.last == 0
 }
 
+/// Whether no place has ever joined.
 fn are_blank(rows: &[Row]) -> bool
     ensures { result ≡ list_all is_blank_row rows.now }
 {
     rows.iter().all(|row| is_blank_row(row))
 }
 
+/// The life of a row's member, 0 where it has none.
 fn member_life(row: &Row) -> u8
     ensures value { result ≡ member_life row.now }
     ensures most { result ≤ row.now.life }
@@ -60,6 +62,7 @@ fn member_life(row: &Row) -> u8
     }
 }
 
+/// The members that rows tell.
 #[tactic(auto, using(crate::proofs::Rows::member_life_most))]
 fn members_of(rows: &[Row; 16]) -> Names
     requires { (place : ℕ) → place < 16 → IsRow (slice_index_or rows.now place blank_row) }
@@ -72,12 +75,13 @@ fn members_of(rows: &[Row; 16]) -> Names
     Names::of_lives(lives)
 }
 
+/// A place's row behind a View: who is new in the first one joins there, and a member that it leaves out has left.
 #[tactic(auto, using(crate::proofs::Rows::viewed_row))]
-fn viewed(first: bool, number: u32, life: u8, row: &Row) -> Row
+fn row_after_view(first: bool, number: u32, life: u8, row: &Row) -> Row
     requires number { IsNumber number }
     requires life { life ≤ 16 }
     requires row { IsRow row.now }
-    ensures value { result ≡ viewed first number life row.now }
+    ensures value { result ≡ row_after_view first number life row.now }
     ensures within { IsRow result }
 {
     if first {
@@ -193,6 +197,7 @@ impl Table {
         self.members
     }
 
+    /// Whether no View has come yet.
     fn is_blank(&self) -> bool
         ensures { result ≡ is_blank self.now }
     {
@@ -205,12 +210,14 @@ impl Table {
         are_blank(&self.image.rows)
     }
 
+    /// Whether a name is a member.
     fn has_member(&self, name: Name) -> bool
         ensures { result ≡ has (members_of self.now) name }
     {
         self.members.has(name)
     }
 
+    /// Whether each name of a set is a member.
     fn are_members(&self, names: Names) -> bool
         ensures { result ≡ is_within names (members_of self.now) }
     {
@@ -247,6 +254,7 @@ impl Table {
         }
     }
 
+    /// Whether a View fits: a greater one, of members alone.
     #[tactic(auto, unfolding(am_base::specs::Lists::fits))]
     fn fits_view(&self, stamp: Stamp, members: Names, resilience: u8) -> bool
         ensures { result ≡ fits self.now (View stamp members resilience) }
@@ -261,6 +269,7 @@ impl Table {
         members.has(by) && self.resilience() <= resilience
     }
 
+    /// Writes a place's row, and the members that follow from it.
     #[tactic(auto, using(crate::proofs::Rows::with_row_image))]
     fn set_row(&mut self, name: Name, row: Row, members: Names)
         requires row { IsRow row }
@@ -321,6 +330,7 @@ impl Table {
         }
     }
 
+    /// Begins a View at this number.
     #[tactic(auto, unfolding(am_base::specs::Lists::after))]
     fn begin_view(&mut self, number: u32, stamp: Stamp, members: Names, resilience: u8)
         requires number { IsNumber number }
@@ -332,7 +342,7 @@ impl Table {
         let first = self.is_blank();
         let mut rows = self.image.rows;
         for place in 0..16u8 {
-            rows[usize::from(place)] = viewed(
+            rows[usize::from(place)] = row_after_view(
                 first,
                 number,
                 members.life_at(place),
@@ -356,9 +366,7 @@ mod tests {
     #[test]
     fn a_place_joins_again_with_a_greater_life(rt: HostRuntime) {
         let mut table = Table::blank();
-        let zero = Name::of_byte(0);
-        let one = Name::of_byte(1);
-        let again = Name::of_byte(17);
+        let (zero, one, again) = (Name::of_byte(0), Name::of_byte(1), Name::of_byte(17));
         let view = Entry::View {
             stamp: Stamp { round: 1, by: zero },
             members: Names::empty().with(zero).with(one),

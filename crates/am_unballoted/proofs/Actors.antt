@@ -20,7 +20,7 @@ use Rattle.am_group.specs.declared.event.Record.{Record}
 use Rattle.am_model.specs.declared.status.Status.TheVariants.{Departed}
 use Rattle.am_model.specs.Node.{Node, view, set_at}
 use Rattle.am_model.specs.Emit.{Step}
-use Rattle.am_model.specs.World.{World, record_of, group_after, stepped}
+use Rattle.am_model.specs.World.{World, record_of, group_after, with_step}
 use Rattle.am_model.specs.Group.{has_log}
 use Rattle.am_model.specs.Claims.{heard_by}
 use Rattle.am_model.proofs.Greatest.{split}
@@ -110,73 +110,79 @@ same_group group n low =
 accepted_within : (rules : Rules) (m : Node) → FirstBase rules m → m.core.acc ≤ length m.core.log.entries
 accepted_within rules m h = let w = h.node.fronts.within in let s = h.start in omega arith
 
--- what the step comes to
-pub other_chain : (rules : Rules) (w : World) (e : Event) (c : Cause) (s : Step) → WorldOk rules w → AllSent w → actor w e ≢ first_of rules
-    → IsCause w (actor w e) e.act c → Effect (w.nodes (actor w e)) c s → s.node.ballot ≡ None
-    → OtherOk rules (w.nodes (first_of rules)).core.log.entries (w.nodes (first_of rules)).core.acc (actor w e) (after_step w e s) c s.outcome
-    (w.nodes (actor w e)) s.node
-other_chain rules w e c s h sent d cause effect none =
-    let i = actor w e in
-    let m = w.nodes i in
-    let first = w.nodes (first_of rules) in
-    let list = first.core.log.entries in
-    let acc = first.core.acc in
-    let all = after_step w e s in
-    let old = all_sent_more w.records (record_of w e s.outcome s.letters ∷ []) w.nodes w.letters w.group sent.all in
-    let asked = asked_step w e c s h.asked effect none in
-    let within = accepted_within rules first h.first.base in
-    let ok = cause_ok rules list acc i w e.act c h.kept.letters cause in
-    let was : CauseSent all i s.outcome c = cause_sent w e s c sent cause in
-    let heard : Heard rules list acc i all s.outcome c = record {
-      cause = ok;
-      within = within;
-      unique = unique all (set_at w.nodes i s.node) asked;
-      sent =
-          (old.each (first_of rules)).entries;
-    } in
-    let before : OtherOk rules list acc i all c s.outcome m m = record { sent = old.each i; node = h.kept.each i; gave = nothing refl refl refl } in
-    quietly (OtherOk rules list acc i all c s.outcome m)
-    (λ x y z n q. record {
-      sent = change_sent all i c s.outcome x y was z q.sent;
-      node =
-          other_change rules list acc i all c s.outcome x y heard d z n q.sent q.node;
-      gave = gave_change rules list acc i m x y q.node z n q.gave;
-    })
-    effect.changes none before
+module _ (rules : Rules) (w : World) (e : Event) (c : Cause) (s : Step) (h : WorldOk rules w) (sent : AllSent w) (d : actor w e ≢ first_of rules)
+    (cause : IsCause w (actor w e) e.act c) (effect : Effect (w.nodes (actor w e)) c s) (none : s.node.ballot ≡ None) where
+  abbrev i : ℕ
+  i = actor w e
 
-pub other_step : (rules : Rules) (w : World) (e : Event) (c : Cause) (s : Step) → WorldOk rules w → AllSent w → actor w e ≢ first_of rules
-    → IsCause w (actor w e) e.act c → Effect (w.nodes (actor w e)) c s → s.node.ballot ≡ None → WorldOk rules (stepped w e (actor w e) s)
-unfolding stepped
-other_step rules w e c s h sent d cause effect none =
-    let i = actor w e in
-    let m = w.nodes i in
-    let first = w.nodes (first_of rules) in
-    let list = first.core.log.entries in
-    let acc = first.core.acc in
-    let asked = asked_step w e c s h.asked effect none in
-    let within = accepted_within rules first h.first.base in
-    let ok = cause_ok rules list acc i w e.act c h.kept.letters cause in
-    let p = other_chain rules w e c s h sent d cause effect none in
-    let back = append-nil list in
-    let node : NodeOk rules (list ++ []) acc i s.node = subst (λ l. NodeOk rules l acc i s.node) (sym back) p.node in
-    let sends = sends_of rules list acc i m c s effect p.node none in
-    let fetched = fetched_of rules list acc i m c s effect (h.kept.each i) none in
-    let says : (l : Letter) → LetterSays m c effect.sender l
-    → LetterOk rules (list ++ []) acc l = λ l x. subst (λ t. LetterOk rules t acc l) (sym back)
-    (letter_says rules list list acc acc i m effect.sender c l sends (λ q. absurd (d q)) fetched ok x) in
-    let low : s.node.core.acc ≤ length w.group = (let a = p.node.fronts.accepted in let b = length-take-le acc list within in let g = ap length h.kept.group in
-    omega arith) in
-    let group : group_after w.group s.node ≡ take acc (list ++ []) = same_group w.group s.node low ∙ h.kept.group ∙ ap (take acc) (sym back) in
-    let kept = kept_step rules list [] acc acc w e c s h.kept within (omega arith) node group
-    (All-weaker (LetterSays m c effect.sender) (LetterOk rules (list ++ []) acc) says s.letters effect.letters) p.gave cause effect.answer
-    (none_first effect.changes none) in
-    let differs : (first_of rules == i) ≡ false = split (first_of rules == i) (λ t. absurd (d (grind (arith, nat_tests)))) (λ f. f) in
-    let same : first ≡ set_at w.nodes i s.node (first_of rules) = rw differs refl in
-    record {
-      first = subst (FirstOk rules) same h.first;
-      kept = subst (λ (n : Node). Kept rules n.core.log.entries n.core.acc (stepped w e i s)) same (subst (λ l. Kept rules l acc (stepped w e i s)) back kept);
-      asked = asked;
-    }
+  abbrev m : Node
+  m = w.nodes (actor w e)
+
+  abbrev first : Node
+  first = w.nodes (first_of rules)
+
+  abbrev list : List Entry
+  list = (w.nodes (first_of rules)).core.log.entries
+
+  abbrev acc : ℕ
+  acc = (w.nodes (first_of rules)).core.acc
+
+  asked : AskedOk (after_step w e s) (set_at w.nodes i s.node)
+  asked = asked_step w e c s h.asked effect none
+
+  within : acc ≤ length list
+  within = accepted_within rules first h.first.base
+
+  ok : CauseOk rules list acc i c
+  ok = cause_ok rules list acc i w e.act c h.kept.letters cause
+
+  -- what the step comes to
+  pub other_chain : OtherOk rules list acc i (after_step w e s) c s.outcome m s.node
+  other_chain =
+      let all = after_step w e s in
+      let old = all_sent_more w.records (record_of w e s.outcome s.letters ∷ []) w.nodes w.letters w.group sent.all in
+      let was : CauseSent all i s.outcome c = cause_sent w e s c sent cause in
+      let heard : Heard rules list acc i all s.outcome c = record {
+        cause = ok;
+        within = within;
+        unique = unique all (set_at w.nodes i s.node) asked;
+        sent =
+            (old.each (first_of rules)).entries;
+      } in
+      let before : OtherOk rules list acc i all c s.outcome m m = record { sent = old.each i; node = h.kept.each i; gave = nothing refl refl refl } in
+      quietly (OtherOk rules list acc i all c s.outcome m)
+      (λ x y z n q. record {
+        sent = change_sent all i c s.outcome x y was z q.sent;
+        node =
+            other_change rules list acc i all c s.outcome x y heard d z n q.sent q.node;
+        gave = gave_change rules list acc i m x y q.node z n q.gave;
+      })
+      effect.changes none before
+
+  pub other_step : WorldOk rules (with_step w e i s)
+  unfolding with_step
+  other_step =
+      let p = other_chain in
+      let back = append-nil list in
+      let node : NodeOk rules (list ++ []) acc i s.node = subst (λ l. NodeOk rules l acc i s.node) (sym back) p.node in
+      let sends = sends_of rules list acc i m c s effect p.node none in
+      let fetched = fetched_of rules list acc i m c s effect (h.kept.each i) none in
+      let says : (l : Letter) → LetterSays m c effect.sender l
+      → LetterOk rules (list ++ []) acc l = λ l x. subst (λ t. LetterOk rules t acc l) (sym back)
+      (letter_says rules list list acc acc i m effect.sender c l sends (λ q. absurd (d q)) fetched ok x) in
+      let low : s.node.core.acc ≤ length w.group = (let a = p.node.fronts.accepted in let b = length-take-le acc list within in let g = ap length h.kept.group in
+      omega arith) in
+      let group : group_after w.group s.node ≡ take acc (list ++ []) = same_group w.group s.node low ∙ h.kept.group ∙ ap (take acc) (sym back) in
+      let kept = kept_step rules list [] acc acc w e c s h.kept within (omega arith) node group
+      (All-weaker (LetterSays m c effect.sender) (LetterOk rules (list ++ []) acc) says s.letters effect.letters) p.gave cause effect.answer
+      (none_first effect.changes none) in
+      let differs : (first_of rules == i) ≡ false = split (first_of rules == i) (λ t. absurd (d (grind (arith, nat_tests)))) (λ f. f) in
+      let same : first ≡ set_at w.nodes i s.node (first_of rules) = rw differs refl in
+      record {
+        first = subst (FirstOk rules) same h.first;
+        kept = subst (λ (n : Node). Kept rules n.core.log.entries n.core.acc (with_step w e i s)) same (subst (λ l. Kept rules l acc (with_step w e i s)) back kept);
+        asked = asked;
+      }
 
 -- ---- the first founder
 
@@ -266,19 +272,17 @@ pub first_chain : (rules : Rules) (w : World) (e : Event) (c : Cause) (s : Step)
 first_chain rules w e c s h eq cause effect none =
     let i = actor w e in
     let m = w.nodes i in
-    let list = m.core.log.entries in
-    let acc = m.core.acc in
     let now = first_now rules w e c h eq cause in
-    let ok_first : CauseOk rules list acc (first_of rules) c = subst (λ x. CauseOk rules list acc x c) eq now.cause in
+    let ok_first : CauseOk rules m.core.log.entries m.core.acc (first_of rules) c = subst (λ x. CauseOk rules m.core.log.entries m.core.acc x c) eq now.cause in
     let before : FirstGoes rules c s.outcome m m = record {
       ok = now.first;
-      grown = record { more = []; is = sym (append-nil list); up = omega arith };
+      grown = record { more = []; is = sym (append-nil m.core.log.entries); up = omega arith };
       gave =
           nothing refl refl refl;
     } in
     quietly (FirstGoes rules c s.outcome m)
     (λ x y z n q. record {
-      ok = first_change rules list acc c s.outcome x y ok_first z n q.ok;
+      ok = first_change rules m.core.log.entries m.core.acc c s.outcome x y ok_first z n q.ok;
       grown = grown_change rules m x y q.ok z n q.grown;
       gave =
           gave_change rules x.core.log.entries x.core.acc (first_of rules) m x y q.ok.base.node z n q.gave;
@@ -286,8 +290,8 @@ first_chain rules w e c s h eq cause effect none =
     effect.changes none before
 
 pub first_step : (rules : Rules) (w : World) (e : Event) (c : Cause) (s : Step) → WorldOk rules w → actor w e ≡ first_of rules → IsCause w (actor w e) e.act c
-    → Effect (w.nodes (actor w e)) c s → s.node.ballot ≡ None → WorldOk rules (stepped w e (actor w e) s)
-unfolding stepped
+    → Effect (w.nodes (actor w e)) c s → s.node.ballot ≡ None → WorldOk rules (with_step w e (actor w e) s)
+unfolding with_step
 first_step rules w e c s h eq cause effect none =
     let i = actor w e in
     let m = w.nodes i in
@@ -322,8 +326,8 @@ first_step rules w e c s h eq cause effect none =
     let same : n ≡ set_at w.nodes i n (first_of rules) = rw mine refl in
     record {
       first = subst (FirstOk rules) same p.ok;
-      kept = subst (λ (x : Node). Kept rules x.core.log.entries x.core.acc (stepped w e i s)) same
-          (subst (λ l. Kept rules l to (stepped w e i s)) (sym g.is) kept);
+      kept = subst (λ (x : Node). Kept rules x.core.log.entries x.core.acc (with_step w e i s)) same
+          (subst (λ l. Kept rules l to (with_step w e i s)) (sym g.is) kept);
       asked = asked_step w e c s h.asked effect none;
     }
 

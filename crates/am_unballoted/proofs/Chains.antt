@@ -16,10 +16,10 @@ use Rattle.am_packet.specs.declared.packet.Packet.TheVariants as packet
 use Rattle.am_sender.specs.Sends as own
 use Rattle.am_model.specs.declared.status.Status.{Status}
 use Rattle.am_model.specs.declared.status.Status.TheVariants as status
-use Rattle.am_model.specs.Node.{Node, Ballot, acts, is_member, is_sequencer, pushed}
+use Rattle.am_model.specs.Node.{Node, Ballot, acts, is_member, is_sequencer, push_entry}
 use Rattle.am_model.specs.Refresh.{advance, lead, refresh, settle, refresh_at_end}
-use Rattle.am_model.specs.Ballots.{overtaken}
-use Rattle.am_model.specs.Joining.{begun}
+use Rattle.am_model.specs.Ballots.{overtake}
+use Rattle.am_model.specs.Joining.{begin_list}
 use Rattle.am_model.specs.Group.{has_log}
 use Rattle.am_model.proofs.Greatest.{split, and_both}
 use Rattle.am_effects.specs.Causes.{Cause, hears}
@@ -40,7 +40,7 @@ none_before m n refreshes h = sym (rests_refresh m).rests.ballot ∙ h
 none_before m n settles h = subst (λ (x : Node). x.ballot ≡ None → m.ballot ≡ None) (sym (settle_is m)) (λ z. z) h
 none_before m n (promises v low why) h = still v m.ballot h
   where
-    still : (by : Stamp) (b : Option Ballot) → overtaken by b ≡ None → b ≡ None
+    still : (by : Stamp) (b : Option Ballot) → overtake by b ≡ None → b ≡ None
     still by None x = refl
     still by (Some b) x = split (not b.is_over && stamp_lt b.stamp by) (λ t. let y = rw t at x in absurd (cc)) (λ f. let y = rw f at x in absurd (cc))
 none_before m n (opens least resilience by may) h = absurd (cc)
@@ -171,7 +171,7 @@ pub still_log : (s : Status) → is_member s ≡ true → has_log status.Departe
 still_log s t = sym (logged s t)
 
 pub gave_begun : {c : Cause} {o : Outcome} (k m : Node) (s : ℕ) (v : Stamp) (base join : ℕ) (image : Image) → c ≡ hears (packet.Welcome s v base join image)
-    → o ≡ said.Welcomed join → MayBeWelcomed m s v base join image → Gave c o k m → Gave c o k (begun m v base join image)
+    → o ≡ said.Welcomed join → MayBeWelcomed m s v base join image → Gave c o k m → Gave c o k (begin_list m v base join image)
 gave_begun k m s v base join image is says may (nothing x y z) =
     let no = asking_log m.status (asking m s v base join image may) in
     let above = may.above in
@@ -194,6 +194,6 @@ gave_change rules list acc i k m n h (stores_view s v base number names resilien
 gave_change rules list acc i k m n h (takes e is says member some there) none g = gave_taken rules list acc i k m n e h member some says refl g
 gave_change rules list acc i k m n h (asks_to_join is was) none g = gave_still k m n refl refl (sym (ap has_log was)) g
 gave_change rules list acc i k m n h (closes leads leaves last room) none g =
-    let f = end_front (pushed m (Leave m.core.who)) in
+    let f = end_front (push_entry m (Leave m.core.who)) in
     gave_still k m n f.0 f.1 (still_log m.status (and_both (is_member m.status) _ (and_both (acts m) _ leads).0).0) g
 gave_change rules list acc i k m n h _ none g = gave_still k m n refl refl refl g

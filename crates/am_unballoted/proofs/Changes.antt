@@ -9,7 +9,7 @@ use Rattle.std.proofs.lemmas.Option.{slice_get-get_or}
 use Rattle.std.proofs.lemmas.List.Elements.{All-push, All-filter, All-map, All-weaker}
 use Rattle.am_base.specs.declared.name.Stamp.{Stamp}
 use Rattle.am_base.specs.declared.entry.Entry.{Entry}
-use Rattle.am_base.specs.declared.entry.Entry.TheVariants.{Data, Join, Leave, View}
+use Rattle.am_base.specs.declared.entry.Entry.TheVariants.{Data, Join}
 use Rattle.am_base.specs.Founding.{Rules}
 use Rattle.am_base.specs.Stamps.{stamp_eq}
 use Rattle.am_core.specs.Cores.{CoreState, accept, pass_over}
@@ -18,8 +18,9 @@ use Rattle.am_sender.specs.declared.OwnSend.{OwnSend}
 use Rattle.am_sender.specs.Sends as own
 use Rattle.am_group.specs.Journals.{item_at}
 use Rattle.am_model.specs.Node.{Node, view, is_member, acts, is_sequencer, entries_above, waiting}
-use Rattle.am_model.specs.Refresh.{is_data_of, accepted_at, settled_at, settled, settle}
+use Rattle.am_model.specs.Refresh.{is_data_of, accepted_at, settle_at, settle_waiting, settle}
 use Rattle.am_model.proofs.Greatest.{split, and_both}
+use Rattle.am_model.proofs.Sends.{own_data}
 use Rattle.am_effects.proofs.Statuses.{logged}
 use Rattle.am_effects.proofs.Items.{get_take}
 use Rattle.am_unballoted.proofs.Lists.{get_item, within_get}
@@ -74,15 +75,6 @@ advance_fronts first acc to i core up low h =
 
 -- ---- a send that is settled
 
-data_is : (who req : ℕ) (e : Entry) → is_data_of who req e ≡ true → (body : List ℕ) × (e ≡ Data who req body)
-data_is who req (Data from r body) t =
-    let a : from ≡ who = grind (arith, nat_tests) in
-    let b : r ≡ req = grind (arith, nat_tests) in
-    (body, λ i. Data (a i) (b i) body)
-data_is who req (Join name) t = absurd (cc)
-data_is who req (Leave name) t = absurd (cc)
-data_is who req (View stamp names resilience) t = absurd (cc)
-
 -- where a send of the node's own stands among what is accepted
 pub record Found (m : Node) (req k : ℕ) : Type 0 where
   pub body : List ℕ
@@ -96,7 +88,7 @@ found_at m req k is =
     let few = m.core.acc - m.core.base in
     let p = position-Some test (take few above) k (Join 0) is in
     let e = get_or (take few above) k (Join 0) in
-    let found = data_is m.core.who req e p.1 in
+    let found = own_data m.core.who req e p.1 in
     let low = p.0 in
     let long = length-take few above in
     let here = slice_get-get_or (take few above) k (Join 0) low in
@@ -127,7 +119,7 @@ with_queue : (rules : Rules) (list : List Entry) (acc i : ℕ) (m : Node) (sends
 with_queue rules list acc i m sends q h = record { who = h.who; log = h.log; fronts = h.fronts; status = h.status; sends = q }
 
 settled_at_ok : (rules : Rules) (list : List Entry) (acc i : ℕ) (m : Node) (req : ℕ) (at : Option ℕ) → accepted_at m req ≡ at → NodeOk rules list acc i m
-    → NodeOk rules list acc i (settled_at m req at)
+    → NodeOk rules list acc i (settle_at m req at)
 settled_at_ok rules list acc i m req None is h = h
 settled_at_ok rules list acc i m req (Some k) is h =
     let number = m.core.base + 1 + k in
@@ -137,7 +129,7 @@ settled_at_ok rules list acc i m req (Some k) is h =
     (All-weaker (SendOk list acc i) (λ s. SendOk list acc i (own.settle_send req number s))
     (λ s. settled_send list acc i req number s stands) m.sends.queue h.sends)) h
 
-settled_ok : (rules : Rules) (list : List Entry) (acc i : ℕ) (m : Node) (w : Option OwnSend) → NodeOk rules list acc i m → NodeOk rules list acc i (settled m w)
+settled_ok : (rules : Rules) (list : List Entry) (acc i : ℕ) (m : Node) (w : Option OwnSend) → NodeOk rules list acc i m → NodeOk rules list acc i (settle_waiting m w)
 settled_ok rules list acc i m None h = h
 settled_ok rules list acc i m (Some s) h = settled_at_ok rules list acc i m s.req (accepted_at m s.req) refl h
 

@@ -12,12 +12,12 @@ use Rattle.am_base.specs.Names.{life_of}
 use Rattle.am_base.specs.Lists.{Log, blank, fold, after, fits, at_place}
 use Rattle.am_sender.specs.Sends as own
 use Rattle.am_model.specs.Node as nodes
-use Rattle.am_model.specs.Node.{Node, top, own_row, is_member, is_sequencer, pushed, waiting, founders_view, founding_stamp}
+use Rattle.am_model.specs.Node.{Node, top, own_row, is_member, is_sequencer, push_entry, waiting, founders_view, founding_stamp}
 use Rattle.am_model.specs.Receiving.{is_view}
 use Rattle.am_model.specs.Group.{has_log}
 use Rattle.am_model.specs.Claims.{requests_of, request_in}
 use Rattle.am_model.proofs.Greatest.{split}
-use Rattle.am_chain_lists.specs.Whole.{IsGood, told, mem, SmallName}
+use Rattle.am_chain_lists.specs.Whole.{IsGood, image_of, mem, SmallName}
 use Rattle.am_chain_lists.proofs.Members.{good_push}
 use Rattle.am_effects.proofs.Items.{get_last}
 use Rattle.am_unballoted.proofs.Kept.{first_of, NodeOk, node_more}
@@ -66,12 +66,12 @@ founded : (rules : Rules) → FoundersView rules (after blank 1 (founders_view r
 unfolding after
 founded rules = record { view = refl; number = refl; resilience = refl }
 
-pub group_view : (rules : Rules) (list : List Entry) → IsGroup rules list → FoundersView rules (told list)
+pub group_view : (rules : Rules) (list : List Entry) → IsGroup rules list → FoundersView rules (image_of list)
 unfolding fold
 group_view rules list h =
     let a = founded rules in
     let b = same_fold (after blank 1 (founders_view rules)) (1 + 1) h.rest h.plain in
-    subst (λ l. FoundersView rules (told l)) (sym h.is) (record {
+    subst (λ l. FoundersView rules (image_of l)) (sym h.is) (record {
       view = b.view ∙ a.view;
       number = b.number ∙ a.number;
       resilience = b.resilience
@@ -111,11 +111,11 @@ pub record FirstOk (rules : Rules) (m : Node) : Type 0 where
   pub base : FirstBase rules m
   pub member : is_member m.status ≡ true → mem m.core.log.entries (first_of rules) ≡ true
 
-pub first_told : (rules : Rules) (m : Node) → FirstBase rules m → nodes.told m ≡ told m.core.log.entries
+pub first_told : (rules : Rules) (m : Node) → FirstBase rules m → nodes.image_of m ≡ image_of m.core.log.entries
 unfolding fold
 first_told rules m h =
     let list = m.core.log.entries in
-    let image : m.core.log.image ≡ blank = h.node.log.image ∙ ap (λ n. told (take n list)) h.start in
+    let image : m.core.log.image ≡ blank = h.node.log.image ∙ ap (λ n. image_of (take n list)) h.start in
     let one : m.core.log.start + 1 ≡ 1 = let s = h.start in omega arith in
     ap (λ i. fold i (m.core.log.start + 1) list) image ∙ ap (λ n. fold blank n list) one
 
@@ -137,8 +137,8 @@ own_push rules list e sends h =
     let d = length-append (requests_of (first_of rules) list) (requests_of (first_of rules) (e ∷ [])) in
     record { next = h.next; turn = h.turn; low = let l = h.low in omega arith }
 
-pub first_push : (rules : Rules) (m : Node) (e : Entry) → is_view e ≡ false → fits (told m.core.log.entries) e ≡ true → FirstBase rules m
-    → FirstBase rules (pushed m e)
+pub first_push : (rules : Rules) (m : Node) (e : Entry) → is_view e ≡ false → fits (image_of m.core.log.entries) e ≡ true → FirstBase rules m
+    → FirstBase rules (push_entry m e)
 first_push rules m e plain fit h =
     let list = m.core.log.entries in
     let i = first_of rules in

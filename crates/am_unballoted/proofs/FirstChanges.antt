@@ -20,14 +20,14 @@ use Rattle.am_sender.specs.Sends as own
 use Rattle.am_model.specs.declared.status.Status.{Status}
 use Rattle.am_model.specs.declared.status.Status.TheVariants as status
 use Rattle.am_model.specs.Node as nodes
-use Rattle.am_model.specs.Node.{Node, top, view, own_row, is_member, is_asking, acts, is_sequencer, pushed, waiting, founding_stamp}
-use Rattle.am_model.specs.Refresh.{advance, lead, refresh, accepted_at, settled_at, settled, settle, refresh_at_end}
+use Rattle.am_model.specs.Node.{Node, top, view, own_row, is_member, is_asking, acts, is_sequencer, push_entry, waiting, founding_stamp}
+use Rattle.am_model.specs.Refresh.{advance, lead, refresh, accepted_at, settle_at, settle_waiting, settle, refresh_at_end}
 use Rattle.am_model.specs.Receiving.{is_view}
 use Rattle.am_model.specs.Hearing.{hears_member, hears_in_view, hears_sequencer}
 use Rattle.am_model.specs.Group.{has_log}
 use Rattle.am_model.specs.Claims.{requests_of}
 use Rattle.am_model.proofs.Greatest.{split, and_both}
-use Rattle.am_chain_lists.specs.Whole.{told, mem}
+use Rattle.am_chain_lists.specs.Whole.{image_of, mem}
 use Rattle.am_chain_lists.proofs.Rows as rows
 use Rattle.am_chain_lists.proofs.Members.{mem_in, in_mem, mem_push}
 use Rattle.am_orders.proofs.Turns.{request_within, next_in}
@@ -137,7 +137,7 @@ asked_there rules m req k h is =
     request_within m.core.log.entries (first_of rules) req f.body ((m.core.base - m.core.log.start) + k) h.good.fit there
 
 first_settled_at : (rules : Rules) (m : Node) (s : OwnSend) (at : Option ℕ) → waiting m ≡ Some s → accepted_at m s.req ≡ at
-    → NodeOk rules m.core.log.entries m.core.acc (first_of rules) (settled_at m s.req at) → FirstBase rules m → FirstBase rules (settled_at m s.req at)
+    → NodeOk rules m.core.log.entries m.core.acc (first_of rules) (settle_at m s.req at) → FirstBase rules m → FirstBase rules (settle_at m s.req at)
 first_settled_at rules m s None w is n h = h
 first_settled_at rules m s (Some k) w is n h =
     let o = h.own in
@@ -152,8 +152,8 @@ first_settled_at rules m s (Some k) w is n h =
       low = omega arith;
     }) h
 
-first_settled : (rules : Rules) (m : Node) (w : Option OwnSend) → waiting m ≡ w → NodeOk rules m.core.log.entries m.core.acc (first_of rules) (settled m w)
-    → FirstBase rules m → FirstBase rules (settled m w)
+first_settled : (rules : Rules) (m : Node) (w : Option OwnSend) → waiting m ≡ w → NodeOk rules m.core.log.entries m.core.acc (first_of rules) (settle_waiting m w)
+    → FirstBase rules m → FirstBase rules (settle_waiting m w)
 first_settled rules m None w n h = h
 first_settled rules m (Some s) w n h = first_settled_at rules m s (accepted_at m s.req) w refl n h
 
@@ -174,49 +174,49 @@ row_is image name some = split ((at_place image name).life == life_of name)
     (λ f. let none = rw f at some in absurd (omega arith))
 
 -- a name whose Join stands and which hasn't left is a member
-known_member : (list : List Entry) (name : ℕ) → ((row_of (told list) name).joined == 0) ≡ false → (row_of (told list) name).left ≡ 0 → mem list name ≡ true
+known_member : (list : List Entry) (name : ℕ) → ((row_of (image_of list) name).joined == 0) ≡ false → (row_of (image_of list) name).left ≡ 0 → mem list name ≡ true
 known_member list name known stays =
-    let some : 0 < (row_of (told list) name).joined = grind (arith, nat_tests) in
-    let r = row_is (told list) name some in
+    let some : 0 < (row_of (image_of list) name).joined = grind (arith, nat_tests) in
+    let r = row_is (image_of list) name some in
     in_mem list name (record {
       joined = subst (λ (x : Row). 0 < x.joined) r.0 some;
       left = subst (λ (x : Row). x.left ≡ 0) r.0 stays;
       is = r.1;
     })
 
-fits_data : (list : List Entry) (name req : ℕ) (body : List ℕ) → mem list name ≡ true → req ≡ (row_of (told list) name).last + 1
-    → fits (told list) (Data name req body) ≡ true
+fits_data : (list : List Entry) (name req : ℕ) (body : List ℕ) → mem list name ≡ true → req ≡ (row_of (image_of list) name).last + 1
+    → fits (image_of list) (Data name req body) ≡ true
 unfolding fits mem
 fits_data list name req body member next =
-    let t : (req == (row_of (told list) name).last + 1) ≡ true = grind (arith, nat_tests) in
+    let t : (req == (row_of (image_of list) name).last + 1) ≡ true = grind (arith, nat_tests) in
     rw (member, t) refl
 
-fits_leave : (list : List Entry) (name : ℕ) → mem list name ≡ true → fits (told list) (Leave name) ≡ true
+fits_leave : (list : List Entry) (name : ℕ) → mem list name ≡ true → fits (image_of list) (Leave name) ≡ true
 unfolding fits mem
 fits_leave list name member = member
 
 -- of a member the last request is that of so many
 last_asked : (rules : Rules) (m : Node) → FirstBase rules m → mem m.core.log.entries (first_of rules) ≡ true
-    → (row_of (told m.core.log.entries) (first_of rules)).last ≡ length (requests_of (first_of rules) m.core.log.entries)
+    → (row_of (image_of m.core.log.entries) (first_of rules)).last ≡ length (requests_of (first_of rules) m.core.log.entries)
 last_asked rules m h member =
     let list = m.core.log.entries in
     let i = first_of rules in
     let in_ = mem_in list i member in
     let next = (next_in list i h.good.fit).own in_.joined in_.is in
-    let alive : ((at_place (told list) i).life == life_of i) ≡ true = (let e = in_.is in grind (arith, nat_tests)) in
-    let same : row_of (told list) i ≡ at_place (told list) i = rw alive refl in
+    let alive : ((at_place (image_of list) i).life == life_of i) ≡ true = (let e = in_.is in grind (arith, nat_tests)) in
+    let same : row_of (image_of list) i ≡ at_place (image_of list) i = rw alive refl in
     let last = ap (λ (r : Row). r.last) same in
     omega arith
 
 numbered_fits : (rules : Rules) (c : Cause) (m : Node) (e : Entry) → FirstBase rules m → mem m.core.log.entries (first_of rules) ≡ true → Numbers c m e
-    → (is_view e ≡ false) × (fits (told m.core.log.entries) e ≡ true)
+    → (is_view e ≡ false) × (fits (image_of m.core.log.entries) e ≡ true)
 numbered_fits rules c m e h member (asked_send s v report req body by known stays next) =
     let list = m.core.log.entries in
     let t = first_told rules m h in
-    let known_ : ((row_of (told list) s).joined == 0) ≡ false = ap (λ i. (row_of i s).joined == 0) (sym t) ∙ known in
-    let stays_ : nat_lt 0 (row_of (told list) s).left ≡ false = ap (λ i. nat_lt 0 (row_of i s).left) (sym t) ∙ stays in
-    let left : (row_of (told list) s).left ≡ 0 = grind (arith, nat_tests) in
-    let next_ : req ≡ (row_of (told list) s).last + 1 = next ∙ ap (λ i. (row_of i s).last + 1) t in
+    let known_ : ((row_of (image_of list) s).joined == 0) ≡ false = ap (λ i. (row_of i s).joined == 0) (sym t) ∙ known in
+    let stays_ : nat_lt 0 (row_of (image_of list) s).left ≡ false = ap (λ i. nat_lt 0 (row_of i s).left) (sym t) ∙ stays in
+    let left : (row_of (image_of list) s).left ≡ 0 = grind (arith, nat_tests) in
+    let next_ : req ≡ (row_of (image_of list) s).last + 1 = next ∙ ap (λ i. (row_of i s).last + 1) t in
     (refl, fits_data list s req body (known_member list s known_ left) next_)
 numbered_fits rules c m e h member (own_send s is last) =
     let list = m.core.log.entries in
@@ -227,18 +227,18 @@ numbered_fits rules c m e h member (own_send s is last) =
     let same = waiting_is o.next o.next m.sends.last m.sends.queue s o.turn is in
     let low = o.low in
     let asked = last_asked rules m h member in
-    let above : nat_lt (row_of (told list) i).last s.req ≡ true = ap (λ x. nat_lt (row_of x i).last s.req) (sym t)
-    ∙ ap (λ w. nat_lt (row_of (nodes.told m) w).last s.req) (sym who) ∙ last in
-    let less : (row_of (told list) i).last < s.req = grind (arith, nat_tests) in
-    let next : s.req ≡ (row_of (told list) i).last + 1 = omega arith in
-    (refl, ap (λ w. fits (told list) (Data w s.req s.body)) who ∙ fits_data list i s.req s.body member next)
+    let above : nat_lt (row_of (image_of list) i).last s.req ≡ true = ap (λ x. nat_lt (row_of x i).last s.req) (sym t)
+    ∙ ap (λ w. nat_lt (row_of (nodes.image_of m) w).last s.req) (sym who) ∙ last in
+    let less : (row_of (image_of list) i).last < s.req = grind (arith, nat_tests) in
+    let next : s.req ≡ (row_of (image_of list) i).last + 1 = omega arith in
+    (refl, ap (λ w. fits (image_of list) (Data w s.req s.body)) who ∙ fits_data list i s.req s.body member next)
 numbered_fits rules c m e h member (asked_join s v is other fit) = (refl, ap (λ i. fits i (Join s)) (sym (first_told rules m h)) ∙ fit)
 numbered_fits rules c m e h member (asked_leave s v report is other known stays) =
     let list = m.core.log.entries in
     let t = first_told rules m h in
-    let known_ : ((row_of (told list) s).joined == 0) ≡ false = ap (λ i. (row_of i s).joined == 0) (sym t) ∙ known in
-    let stays_ : ((row_of (told list) s).left == 0) ≡ true = ap (λ i. (row_of i s).left == 0) (sym t) ∙ stays in
-    let left : (row_of (told list) s).left ≡ 0 = grind (arith, nat_tests) in
+    let known_ : ((row_of (image_of list) s).joined == 0) ≡ false = ap (λ i. (row_of i s).joined == 0) (sym t) ∙ known in
+    let stays_ : ((row_of (image_of list) s).left == 0) ≡ true = ap (λ i. (row_of i s).left == 0) (sym t) ∙ stays in
+    let left : (row_of (image_of list) s).left ≡ 0 = grind (arith, nat_tests) in
     (refl, fits_leave list s (known_member list s known_ left))
 
 -- it spares itself
@@ -315,7 +315,7 @@ member_settled rules m h = subst (λ (n : Node). is_member n.status ≡ true →
 leader_member : (m : Node) → is_sequencer m ≡ true → is_member m.status ≡ true
 leader_member m t = (and_both (is_member m.status) _ (and_both (acts m) _ t).0).0
 
-numbered : (rules : Rules) (c : Cause) (m : Node) (e : Entry) → is_sequencer m ≡ true → Numbers c m e → FirstOk rules m → FirstOk rules (pushed m e)
+numbered : (rules : Rules) (c : Cause) (m : Node) (e : Entry) → is_sequencer m ≡ true → Numbers c m e → FirstOk rules m → FirstOk rules (push_entry m e)
 numbered rules c m e leads why h =
     let i = first_of rules in
     let member = h.member (leader_member m leads) in
@@ -324,13 +324,13 @@ numbered rules c m e leads why h =
     record { base = base; member = λ t. mem_push m.core.log.entries e i base.good (numbered_spares rules c m e h.base.node.who why) member }
 
 closed : (rules : Rules) (m : Node) → is_sequencer m ≡ true → FirstOk rules m
-    → FirstOk rules (record (refresh_at_end (pushed m (Leave m.core.who))) { status = status.Departed })
+    → FirstOk rules (record (refresh_at_end (push_entry m (Leave m.core.who))) { status = status.Departed })
 closed rules m leads h =
     let i = first_of rules in
     let list = m.core.log.entries in
     let member = h.member (leader_member m leads) in
-    let fit : fits (told list) (Leave m.core.who) ≡ true = fits_leave list m.core.who (ap (mem list) h.base.node.who ∙ member) in
-    let p = pushed m (Leave m.core.who) in
+    let fit : fits (image_of list) (Leave m.core.who) ≡ true = fits_leave list m.core.who (ap (mem list) h.base.node.who ∙ member) in
+    let p = push_entry m (Leave m.core.who) in
     let n = refresh_at_end p in
     let base = first_at_end rules p (first_push rules m (Leave m.core.who) refl fit h.base) in
     record {

@@ -13,7 +13,7 @@ use Rattle.am_group.specs.declared.event.Record.{Record}
 use Rattle.am_group.specs.Deliveries.{name_of, taken_in, given_to, deliveries}
 use Rattle.am_model.specs.Node.{Node, set_at}
 use Rattle.am_model.specs.Emit.{Step}
-use Rattle.am_model.specs.World.{World, record_of, group_after, stepped}
+use Rattle.am_model.specs.World.{World, record_of, group_after, with_step}
 use Rattle.am_model.specs.Group.{accepted_sends}
 use Rattle.am_model.specs.Claims.{welcomes}
 use Rattle.am_model.proofs.Greatest.{split}
@@ -43,8 +43,8 @@ pub kept_step : (rules : Rules) (list more : List Entry) (acc to : ℕ) (w : Wor
     → NodeOk rules (list ++ more) to (actor w e) s.node → group_after w.group s.node ≡ take to (list ++ more) → All (LetterOk rules (list ++ more) to) s.letters
     → Gave c s.outcome (w.nodes (actor w e)) s.node → IsCause w (actor w e) e.act c → Answers (w.nodes (actor w e)) c s.node s.outcome
     → (w.nodes (actor w e)).ballot ≡ None
-    → Kept rules (list ++ more) to (stepped w e (actor w e) s)
-unfolding stepped
+    → Kept rules (list ++ more) to (with_step w e (actor w e) s)
+unfolding with_step
 kept_step rules list more acc to w e c s h low up node group letters gave cause answer none =
     let i = actor w e in
     let m = w.nodes i in
@@ -64,7 +64,7 @@ kept_step rules list more acc to w e c s h low up node group letters gave cause 
           subst (GivenOk (list ++ more) to s.node) (sym (deliveries_push w.records r i ∙ ap (λ l. deliveries w.records i ++ l) mine)) new)
           (λ j d. given_same (list ++ more) to (w.nodes j) w.records r j (not_given r j d)
           (given_more list more acc to (w.nodes j) (deliveries w.records j) up (h.given j)));
-      welcomed = λ j. by_name (λ x n. has rules.founders x ≡ false → welcomes (stepped w e i s) x ≡ begins_at n) w.nodes i s.node
+      welcomed = λ j. by_name (λ x n. has rules.founders x ≡ false → welcomes (with_step w e i s) x ≡ begins_at n) w.nodes i s.node
           (λ f. welcomes_push w.letters s.letters i w.records r h.heard ∙ ap (λ l. l ++ welcome_in (w.letters ++ s.letters) i r) (h.welcomed i f)
           ∙ welcomed_step w i m s.node c r s.letters refl cause answer gave)
           (λ x d f. welcomes_push w.letters s.letters x w.records r h.heard ∙ ap (λ l. l ++ welcome_in (w.letters ++ s.letters) x r) (h.welcomed x f)

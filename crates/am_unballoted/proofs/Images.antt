@@ -16,7 +16,7 @@ use Rattle.am_group.specs.Journals.{item_at}
 use Rattle.am_model.specs.Node.{founders_view, founding_stamp}
 use Rattle.am_model.specs.Receiving.{is_view}
 use Rattle.am_model.proofs.Greatest.{split}
-use Rattle.am_chain_lists.specs.Whole.{told}
+use Rattle.am_chain_lists.specs.Whole.{image_of}
 use Rattle.am_chain_lists.proofs.Rows.{row_at, row_set, row_view}
 use Rattle.am_chain_lists.proofs.Members.{told_push, long_told}
 use Rattle.am_effects.proofs.Items.{get_last}
@@ -30,7 +30,7 @@ pub record RowOk (rules : Rules) (list : List Entry) (place : ℕ) (r : Row) : T
       → (has rules.founders name ≡ true) ⊎ (item_at list r.joined ≡ Some (Join name))
 
 pub record RowsOk (rules : Rules) (list : List Entry) : Type 0 where
-  pub each : (place : ℕ) → place < 16 → RowOk rules list place (row_at (told list) place)
+  pub each : (place : ℕ) → place < 16 → RowOk rules list place (row_at (image_of list) place)
 
 row_more : (rules : Rules) (list more : List Entry) (place : ℕ) (r s : Row) → s.joined ≡ r.joined → s.life ≡ r.life → RowOk rules list place r
     → RowOk rules (list ++ more) place s
@@ -65,20 +65,20 @@ row_by rules list e image name place r long f h = ⊎_elim
     (row_set image name place r long)
 
 row_after : (rules : Rules) (list : List Entry) (e : Entry) (place : ℕ) → place < 16 → is_view e ≡ false → RowsOk rules list
-    → RowOk rules (list ++ e ∷ []) place (row_at (after (told list) (1 + length list) e) place)
+    → RowOk rules (list ++ e ∷ []) place (row_at (after (image_of list) (1 + length list) e) place)
 unfolding after
 row_after rules list (Data from req body) place low plain h =
-    let image = told list in
+    let image = image_of list in
     let e = Data from req body in
     split ((at_place image from).life == life_of from)
     (λ t. rw t (row_by rules list e image from place _ (long_told list)
     (λ p. row_more rules list (e ∷ []) place (row_at image place) _ (ap (λ x. (row_at image x).joined) (sym p)) (ap (λ x. (row_at image x).life) (sym p))
     (h.each place low)) (h.each place low)))
     (λ f. rw f (row_more rules list (e ∷ []) place (row_at image place) (row_at image place) refl refl (h.each place low)))
-row_after rules list (Join name) place low plain h = row_by rules list (Join name) (told list) name place _ (long_told list)
+row_after rules list (Join name) place low plain h = row_by rules list (Join name) (image_of list) name place _ (long_told list)
     (λ p. row_new rules list place name (1 + length list) (omega arith) p) (h.each place low)
 row_after rules list (Leave name) place low plain h =
-    let image = told list in
+    let image = image_of list in
     let e = Leave name in
     split ((at_place image name).life == life_of name)
     (λ t. rw t (row_by rules list e image name place _ (long_told list)

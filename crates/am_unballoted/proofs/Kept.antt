@@ -21,7 +21,7 @@ use Rattle.am_model.specs.declared.status.Status.{Status}
 use Rattle.am_model.specs.Node.{Node, founding_stamp}
 use Rattle.am_model.specs.Group.{has_log}
 use Rattle.am_effects.specs.Causes.{Cause, calls, hears, refuses}
-use Rattle.am_chain_lists.specs.Whole.{told}
+use Rattle.am_chain_lists.specs.Whole.{image_of}
 use Rattle.am_unballoted.proofs.Lists.{item_more, Within, within_more}
 
 -- the founder whose view it is
@@ -38,7 +38,7 @@ pub record At (list : List Entry) (acc number : ℕ) (e : Entry) : Type 0 where
 -- its list is the whole one's from its start on, as far as it goes
 pub record ListOk (list : List Entry) (acc : ℕ) (log : Log) : Type 0 where
   pub start : log.start ≤ acc
-  pub image : log.image ≡ told (take log.start list)
+  pub image : log.image ≡ image_of (take log.start list)
   pub within : Within list log.start log.entries
 
 -- its numbers stand in their order, and it passes over what is below its Join as soon as that is accepted
@@ -49,6 +49,11 @@ pub record FrontsOk (first acc i : ℕ) (core : CoreState) : Type 0 where
   pub base : core.log.start ≤ core.base
   pub told : i ≢ first → core.told ≤ acc
   pub passed : core.taken < core.start - 1 → core.acc ≤ core.taken
+
+pub fronts_ok : (first acc i : ℕ) (core : CoreState) → core.acc ≤ acc → core.acc ≤ top_of core.log → core.taken ≤ core.acc → core.log.start ≤ core.base
+    → (i ≢ first → core.told ≤ acc) → (core.taken < core.start - 1 → core.acc ≤ core.taken) → FrontsOk first acc i core
+fronts_ok first acc i core accepted within taken base told passed =
+    record { accepted = accepted; within = within; taken = taken; base = base; told = told; passed = passed }
 
 -- where its list begins: a founder's at 1, a joiner's at its Join
 pub record BeginsOk (rules : Rules) (list : List Entry) (acc i start : ℕ) : Type 0 where
@@ -83,7 +88,7 @@ pub record NodeOk (rules : Rules) (list : List Entry) (acc i : ℕ) (m : Node) :
 pub record WelcomeOk (rules : Rules) (list : List Entry) (acc i : ℕ) (v : Stamp) (base join : ℕ) (image : Image) : Type 0 where
   pub stamp : v ≡ founding_stamp rules
   pub low : join ≤ acc
-  pub tells : base < join → image ≡ told (take base list)
+  pub tells : base < join → image ≡ image_of (take base list)
   pub joined : has rules.founders i ≡ false → item_at list join ≡ Some (Join i)
 
 abbrev pub PacketOk : Rules → List Entry → ℕ → ℕ → Packet → Type 0
@@ -118,7 +123,7 @@ settled_more list more acc to i req (Some number) up h = (h.0, at_more list more
 pub list_more : (list more : List Entry) (acc to : ℕ) (log : Log) → acc ≤ to → ListOk list acc log → ListOk (list ++ more) to log
 list_more list more acc to log up h = record {
   start = let low = h.start in omega arith;
-  image = h.image ∙ ap told (sym (take-append-le log.start list more h.within.low));
+  image = h.image ∙ ap image_of (sym (take-append-le log.start list more h.within.low));
   within = within_more list more log.start log.entries h.within;
 }
 
@@ -174,7 +179,7 @@ packet_more rules list more acc to i (Accept s v base a high poll) low up h = om
 packet_more rules list more acc to i (Welcome s v base join image) low up h = record {
   stamp = h.stamp;
   low = let a = h.low in omega arith;
-  tells = λ b. (let a = h.low in let z : base ≤ length list = omega arith in h.tells b ∙ ap told (sym (take-append-le base list more z)));
+  tells = λ b. (let a = h.low in let z : base ≤ length list = omega arith in h.tells b ∙ ap image_of (sym (take-append-le base list more z)));
   joined = λ f. item_more list more join (Join i) (h.joined f);
 }
 packet_more rules list more acc to i (Invite s v) low up h = absurd h

@@ -13,10 +13,10 @@ use Rattle.am_base.specs.Founding.{Rules}
 use Rattle.am_base.specs.Names.{place_of}
 use Rattle.am_group.specs.declared.event.Event.{Event}
 use Rattle.am_group.specs.Journals.{item_at}
-use Rattle.am_group.specs.Groups.{above, numbered, admitted}
+use Rattle.am_group.specs.Groups.{above, numbered_entry, with_admitted}
 use Rattle.am_group.specs.Deliveries.{taken_in}
 use Rattle.am_model.specs.Node.{Node, view, set_at}
-use Rattle.am_model.specs.World.{World, start, record_of, group_after, unchanged, stepped, happens, run}
+use Rattle.am_model.specs.World.{World, start, record_of, group_after, with_record, with_step, happens, run}
 use Rattle.am_model.specs.Group.{has_log}
 use Rattle.am_model.specs.AbstractGroup.{Group, next_of, admit, Grows, none, GivesOut, front_of, group_of}
 use Rattle.am_model.specs.Claims.{NoBallot, MovesOn, UnballotedMoves}
@@ -43,7 +43,7 @@ record LivesOk (w : World) : Type 0 where
   each : (place : ℕ) → (0 < w.lives place) × (w.lives place ≤ 16)
 
 lives_keep : EachKeeps LivesOk
-unfolding unchanged stepped
+unfolding with_record with_step
 lives_keep w e v (idles o idle) h = record { each = h.each }
 lives_keep w e v (stops runs) h = record { each = h.each }
 lives_keep w e v (returns place is gone more) h = record {
@@ -152,7 +152,7 @@ moves_step rules list next acc to w v i n c o small h low k_ high is grew none_ 
     let got : slice_get w.group k ≡ Some e = item_get w.group (k + 1) k e refl there in
     let at : slice_index_or (fronts_of w.nodes) i None ≡ Some k = get_or_from_slice_get (fronts_of w.nodes) i (front_of m) None (front_get w.nodes i small)
     ∙ log_front m lm ∙ ap Some a in
-    let next_ : next_of (group_is w.group w.nodes) i ≡ Some (k + 1, e) = ap (above w.group) at ∙ ap (λ x. numbered (k + 1) x) got in
+    let next_ : next_of (group_is w.group w.nodes) i ≡ Some (k + 1, e) = ap (above w.group) at ∙ ap (λ x. numbered_entry (k + 1) x) got in
     let new : front_of n ≡ Some (k + 1) = log_front n ln ∙ ap Some b in
     let fronts : slice_set (fronts_of w.nodes) i (Some (k + 1)) ≡ fronts_of (set_at w.nodes i n) = ap (slice_set (fronts_of w.nodes) i) (sym new)
     ∙ sym (fronts_set w.nodes i n small) in
@@ -173,9 +173,9 @@ moves_step rules list next acc to w v i n c o small h low k high is grew none_ a
     let mid : Group = record { entries = group_after w.group n; fronts = fronts_of w.nodes } in
     let blank : slice_get mid.fronts i ≡ Some None = front_get w.nodes i small ∙ ap Some (no_front m lm) in
     let new : Some (join - 1) ≡ front_of n = sym (log_front n ln ∙ ap Some f) in
-    let fronts : admitted mid.fronts i join ≡ fronts_of (set_at w.nodes i n) = ap (slice_set (fronts_of w.nodes) i) new ∙ sym (fronts_set w.nodes i n small) in
+    let fronts : with_admitted mid.fronts i join ≡ fronts_of (set_at w.nodes i n) = ap (slice_set (fronts_of w.nodes) i) new ∙ sym (fronts_set w.nodes i n small) in
     let grown_ : Grows g mid = grows_to w.group (fronts_of w.nodes) (fronts_of w.nodes) n refl in
-    let welcomed : Grows g (record mid { fronts = admitted mid.fronts i join }) = then_more grown_ (admit {g = mid} i join blank up (omega arith)) in
+    let welcomed : Grows g (record mid { fronts = with_admitted mid.fronts i join }) = then_more grown_ (admit {g = mid} i join blank up (omega arith)) in
     record {
       between = g;
       takes = subst (λ x. GivesOut i (taken_in x) g g) (sym says) refl;
@@ -200,7 +200,7 @@ idle_moves w v e o records group takes = record {
 }
 
 moves_by : (rules : Rules) (w : World) (e : Event) (v : World) → Unballoted rules w → LivesOk w → Happens w e v → NoBallot v → MovesOn w v
-unfolding unchanged stepped group_is fronts_of
+unfolding with_record with_step group_is fronts_of
 moves_by rules w e v u lives (idles o idle) free = idle_moves w v e o refl refl (idle_takes o idle)
 moves_by rules w e v u lives (stops runs) free = idle_moves w v e said.Stopped refl refl refl
 moves_by rules w e v u lives (returns place is gone more) free = idle_moves w v e _ refl refl refl

@@ -15,11 +15,11 @@ use Rattle.am_group.specs.declared.event.Record.{Record}
 use Rattle.am_group.specs.Journals.{item_at}
 use Rattle.am_model.specs.declared.status.Status.{Status}
 use Rattle.am_model.specs.declared.status.Status.TheVariants as status
-use Rattle.am_model.specs.Node.{Node, Ballot, top, is_member, is_sequencer, pushed, trimmed, founding_stamp}
+use Rattle.am_model.specs.Node.{Node, Ballot, top, is_member, is_sequencer, push_entry, trim_up_to, founding_stamp}
 use Rattle.am_model.specs.Refresh.{advance, refresh}
 use Rattle.am_model.specs.Ballots.{Verdict}
 use Rattle.am_model.specs.Receiving.{body_of}
-use Rattle.am_model.specs.Joining.{begun}
+use Rattle.am_model.specs.Joining.{begin_list}
 use Rattle.am_model.specs.Group.{has_log}
 use Rattle.am_model.proofs.Greatest.{split, and_both}
 use Rattle.am_effects.specs.Causes.{Cause, BringsFronts, with_entry, with_number, alone}
@@ -31,7 +31,7 @@ use Rattle.am_sent.proofs.Kept.{WasSent, EntrySent, Keeps}
 use Rattle.am_sent.proofs.Changes.{MaySend, body_of_sent}
 use Rattle.am_effects.proofs.Items.{all_item}
 use Rattle.am_unballoted.proofs.Lists.{item_get, within_push, within_none}
-use Rattle.am_unballoted.proofs.Kept.{first_of, ListOk, FrontsOk, BeginsOk, StatusOk, SendOk, NodeOk, WelcomeOk, CauseOk}
+use Rattle.am_unballoted.proofs.Kept.{first_of, ListOk, FrontsOk, fronts_ok, BeginsOk, StatusOk, SendOk, NodeOk, WelcomeOk, CauseOk}
 use Rattle.am_effects.proofs.Statuses.{logged, asking_log}
 use Rattle.am_effects.proofs.Receiving.{asking}
 use Rattle.am_unballoted.proofs.Changes.{leads_first, advance_fronts, settle_ok, queued_ok, collected_ok}
@@ -52,7 +52,7 @@ same_node rules list acc i m n a b c h = record {
 
 -- what comes next in the whole list is stored
 pub pushed_ok : (rules : Rules) (list : List Entry) (acc i : ℕ) (m : Node) (e : Entry) → slice_get list (top m) ≡ Some e → NodeOk rules list acc i m
-    → NodeOk rules list acc i (pushed m e)
+    → NodeOk rules list acc i (push_entry m e)
 pushed_ok rules list acc i m e is h =
     let f = h.fronts in
     let l = h.log in
@@ -106,16 +106,9 @@ pub with_promise : (rules : Rules) (list : List Entry) (acc i : ℕ) (m n : Node
     → NodeOk rules list acc i n
 with_promise rules list acc i m n v is e h = subst (NodeOk rules list acc i) (sym is) (record {
   who = h.who;
-  log = record { start = h.log.start; image = h.log.image; within = h.log.within };
-  fronts = record {
-    accepted = h.fronts.accepted;
-    within = h.fronts.within;
-    taken = h.fronts.taken;
-    base = h.fronts.base;
-    told = h.fronts.told;
-    passed =
-        h.fronts.passed;
-  };
+  log = h.log;
+  fronts = (let f = h.fronts in
+      fronts_ok (first_of rules) acc i (record (m.core) { promise = v }) f.accepted f.within f.taken f.base f.told f.passed);
   status = record { promise = λ t. e; founder = h.status.founder; blank = h.status.blank; begins = h.status.begins };
   sends = h.sends;
 })
@@ -179,7 +172,7 @@ refreshed_ok rules list acc i m other h = split (is_sequencer m)
 
 begun_ok : (rules : Rules) (list : List Entry) (acc i s : ℕ) (v : Stamp) (base join : ℕ) (image : Image) (m : Node) → acc ≤ length list
     → has rules.founders i ≡ false → WelcomeOk rules list acc i v base join image → base < join → NodeOk rules list acc i m
-    → NodeOk rules list acc i (begun m v base join image)
+    → NodeOk rules list acc i (begin_list m v base join image)
 begun_ok rules list acc i s v base join image m within no_founder w above h =
     let low = w.low in
     let begins : BeginsOk rules list acc i join = record {
@@ -191,15 +184,8 @@ begun_ok rules list acc i s v base join image m within no_founder w above h =
     record {
       who = h.who;
       log = record { start = omega arith; image = w.tells above; within = within_none list base (omega arith) };
-      fronts = record {
-        accepted = omega arith;
-        within = omega arith;
-        taken = omega arith;
-        base = omega arith;
-        told = λ d. omega arith;
-        passed =
-            λ b. omega arith;
-      };
+      fronts = fronts_ok (first_of rules) acc i (begin_list m v base join image).core (omega arith) (omega arith) (omega arith) (omega arith)
+          (λ d. omega arith) (λ b. omega arith);
       status = record { promise = λ t. w.stamp; founder = λ t. refl; blank = λ t. absurd (cc); begins = λ t. begins };
       sends = h.sends;
     }
@@ -272,7 +258,7 @@ other_change rules list acc i all c o m n w d (notes s v base a by heard) none k
     noted_ok rules list acc i m _ (max m.core.told a) (omega arith) (λ x. let t = told x in omega arith) h
 other_change rules list acc i all c o m n w d (stores s v base a number e by heard plain may) none k h =
     let is = carried_ok rules list acc i all c m s v base a number e w.unique w.sent k by w.cause in
-    same_node rules list acc i (pushed m e) n refl refl refl (pushed_ok rules list acc i m e (next_is list m number e may.next is) h)
+    same_node rules list acc i (push_entry m e) n refl refl refl (pushed_ok rules list acc i m e (next_is list m number e may.next is) h)
 other_change rules list acc i all c o m n w d (begins_list s v base join image is says may) none k h =
     let p : WelcomeOk rules list acc i v base join image = subst (CauseOk rules list acc i) is w.cause in
     let none_yet = asking_log m.status (asking m s v base join image may) in
@@ -286,11 +272,11 @@ other_change rules list acc i all c o m n w d (looks b verdict over why look is)
 other_change rules list acc i all c o m n w d (fetches s v base number e is heard promise below from may) none k h =
     let at = subst (CauseOk rules list acc i) is w.cause in
     let t = noted_ok rules list acc i m (max m.core.base base) m.core.told (omega arith) h.fronts.told h in
-    pushed_ok rules list acc i (trimmed m base) e (next_is list m number e may.next at) t
+    pushed_ok rules list acc i (trim_up_to m base) e (next_is list m number e may.next at) t
 other_change rules list acc i all c o m n w d (stores_view s v base number names resilience is heard own other promise below may) none k h =
     let at = subst (CauseOk rules list acc i) is w.cause in
     let t = noted_ok rules list acc i m (max m.core.base base) m.core.told (omega arith) h.fronts.told h in
-    pushed_ok rules list acc i (trimmed m base) (View v names resilience) (next_is list m number (View v names resilience) may.next at.1) t
+    pushed_ok rules list acc i (trim_up_to m base) (View v names resilience) (next_is list m number (View v names resilience) may.next at.1) t
 other_change rules list acc i all c o m n w d (queues body is says member stays few) none k h = queued_ok rules list acc i m body h
 other_change rules list acc i all c o m n w d (collects req is) none k h = collected_ok rules list acc i m req h
 other_change rules list acc i all c o m n w d (takes e is says member some there) none k h = taken_ok rules list acc i m member some h

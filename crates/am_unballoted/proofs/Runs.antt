@@ -1,14 +1,15 @@
 -- Each run in which nobody began a ballot keeps what a world keeps.
-use Rattle.std.proofs.Common.{◌≡◌, ℕ, ◌<◌, ◌==◌, nat_le, true, false, List, [], ◌∷◌, None, refl, ap, ◌∙◌, subst, arith}
+use Rattle.std.proofs.Common.{◌≡◌, ℕ, ◌<◌, ◌≤◌, ◌==◌, nat_le, true, false, List, [], ◌∷◌, None, refl, ap, ◌∙◌, subst, arith}
 use Rattle.std.proofs.lemmas.Bool.Decides.{nat_tests}
 use Rattle.std.proofs.lemmas.List.Elements.{All-nil}
 use Rattle.am_base.specs.declared.entry.Entry.{Entry}
 use Rattle.am_base.specs.Founding.{Rules, MayFound}
 use Rattle.am_base.specs.Names.{has}
-use Rattle.am_base.specs.Lists.{fold, AllFit, fits}
+use Rattle.am_base.specs.Lists.{fold, AllFit, fits, top_of}
+use Rattle.am_core.specs.Cores.{CoreState}
 use Rattle.am_group.specs.declared.event.Event.{Event}
 use Rattle.am_model.specs.Node.{Node, set_at, founder, stranger, founders_view, founding_stamp}
-use Rattle.am_model.specs.World.{World, start, record_of, unchanged, stepped, run}
+use Rattle.am_model.specs.World.{World, start, record_of, with_record, with_step, run}
 use Rattle.am_model.specs.Claims.{NoBallot}
 use Rattle.am_model.proofs.Greatest.{split}
 use Rattle.am_effects.specs.Events.{actor, idles, stops, returns, steps}
@@ -19,7 +20,7 @@ use Rattle.am_model.proofs.Founders.{first_founder}
 use Rattle.am_sent.proofs.Runs as sent
 use Rattle.am_sent.proofs.Runs.{AllSent, sent_start}
 use Rattle.am_unballoted.proofs.Lists.{within_all, within_none}
-use Rattle.am_unballoted.proofs.Kept.{first_of, NodeOk}
+use Rattle.am_unballoted.proofs.Kept.{first_of, FrontsOk, fronts_ok, NodeOk}
 use Rattle.am_unballoted.proofs.First.{FirstOk}
 use Rattle.am_unballoted.proofs.Turns.{Turn}
 use Rattle.am_unballoted.proofs.Chains.{none_first}
@@ -47,7 +48,7 @@ none_else nodes i n h own j = split (j == i)
     (λ f. rw f at (h j))
 
 pub each_keeps : (rules : Rules) → EachKeeps (Unballoted rules)
-unfolding unchanged stepped
+unfolding with_record with_step
 each_keeps rules w e v (idles o idle) h = record {
   sent = sent.each_keeps w e v (idles o idle) h.sent;
   ok = λ none. idle_ok rules w _ (record_of w e o []) refl refl refl refl idle (h.ok none);
@@ -88,20 +89,18 @@ good_start rules may =
     let b : nat_le 0 rules.resilience ≡ true = grind (arith, nat_tests) in
     record { fit = (rw (a, b) refl, tt); small = (first_low rules may, tt) }
 
+-- at the start nobody has anything to pass over
+start_fronts : (rules : Rules) (i : ℕ) (core : CoreState) → core.acc ≤ 1 → core.acc ≤ top_of core.log → core.taken ≤ core.acc → core.log.start ≤ core.base
+    → core.told ≤ 1 → core.start ≤ 1 → FrontsOk (first_of rules) 1 i core
+start_fronts rules i core accepted within taken base told start =
+    fronts_ok (first_of rules) 1 i core accepted within taken base (λ d. told) (λ b. absurd (omega arith))
+
 founder_ok : (rules : Rules) (i : ℕ) → has rules.founders i ≡ true → NodeOk rules (founders_list rules) 1 i (founder rules i)
 unfolding fold
 founder_ok rules i there = record {
   who = refl;
   log = record { start = omega arith; image = refl; within = within_all (founders_list rules) };
-  fronts = record {
-    accepted = omega arith;
-    within = omega arith;
-    taken = omega arith;
-    base = omega arith;
-    told = λ d. omega arith;
-    passed =
-        λ b. absurd (omega arith);
-  };
+  fronts = start_fronts rules i (founder rules i).core (omega arith) (omega arith) (omega arith) (omega arith) (omega arith) (omega arith);
   status = record {
     promise = λ t. refl;
     founder = λ t. refl;
@@ -117,15 +116,7 @@ unfolding fold
 stranger_ok rules i none = record {
   who = refl;
   log = record { start = omega arith; image = refl; within = within_none (founders_list rules) 0 (omega arith) };
-  fronts = record {
-    accepted = omega arith;
-    within = omega arith;
-    taken = omega arith;
-    base = omega arith;
-    told = λ d. omega arith;
-    passed =
-        λ b. absurd (omega arith);
-  };
+  fronts = start_fronts rules i (stranger rules i).core (omega arith) (omega arith) (omega arith) (omega arith) (omega arith) (omega arith);
   status = record { promise = λ t. absurd (cc); founder = λ t. absurd (cc); blank = λ t. (refl, refl); begins = λ t. absurd (cc) };
   sends = All-nil _;
 }

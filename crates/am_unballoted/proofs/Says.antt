@@ -20,7 +20,7 @@ use Rattle.am_model.specs.Node as nodes
 use Rattle.am_model.specs.Node.{Node, Ballot, top, only_name, is_member, is_sequencer, acts, founding_stamp, founders_view}
 use Rattle.am_model.specs.Ticks.{viewed_by}
 use Rattle.am_model.proofs.Greatest.{split, and_both}
-use Rattle.am_chain_lists.specs.Whole.{told}
+use Rattle.am_chain_lists.specs.Whole.{image_of}
 use Rattle.am_chain_lists.proofs.Rows.{row_at, row_set}
 use Rattle.am_chain_lists.proofs.Members.{told_push, long_told}
 use Rattle.am_chain_lists.proofs.Prefixes.{begins_take, begins_push, begins_same, length_take, length_push}
@@ -92,10 +92,10 @@ stands_item rules list acc i m n number e h low s =
 -- ---- what the first founder tells
 
 first_image : (rules : Rules) (list : List Entry) (acc i : ℕ) (m n : Node) (base : ℕ) → Sends rules list acc i m n → IsFirst rules list acc m n
-    → image_at n.core.log base ≡ told (take base list)
+    → image_at n.core.log base ≡ image_of (take base list)
 unfolding fold
 first_image rules list acc i m n base h f =
-    let image : n.core.log.image ≡ blank = h.log.image ∙ ap (λ k. told (take k list)) f.start in
+    let image : n.core.log.image ≡ blank = h.log.image ∙ ap (λ k. image_of (take k list)) f.start in
     let s = f.start in
     let one : n.core.log.start + 1 ≡ 1 = omega arith in
     let many : base - n.core.log.start ≡ base = omega arith in
@@ -104,16 +104,16 @@ first_image rules list acc i m n base h f =
     ∙ ap (λ k. fold blank 1 (take k n.core.log.entries)) many
     ∙ ap (λ l. fold blank 1 (take base l)) (sym f.list_)
 
-first_told : (rules : Rules) (list : List Entry) (acc i : ℕ) (m n : Node) → Sends rules list acc i m n → IsFirst rules list acc m n → nodes.told n ≡ told list
+first_told : (rules : Rules) (list : List Entry) (acc i : ℕ) (m n : Node) → Sends rules list acc i m n → IsFirst rules list acc m n → nodes.image_of n ≡ image_of list
 unfolding fold
 first_told rules list acc i m n h f =
-    let image : n.core.log.image ≡ blank = h.log.image ∙ ap (λ k. told (take k list)) f.start in
+    let image : n.core.log.image ≡ blank = h.log.image ∙ ap (λ k. image_of (take k list)) f.start in
     let s = f.start in
     let one : n.core.log.start + 1 ≡ 1 = omega arith in
     ap (λ x. fold x (n.core.log.start + 1) n.core.log.entries) image ∙ ap (λ k. fold blank k n.core.log.entries) one ∙ ap (λ l. fold blank 1 l) (sym f.list_)
 
 -- the row of a name whose Join is the last entry
-join_row : (list : List Entry) (k name : ℕ) → slice_get list k ≡ Some (Join name) → length list ≡ k + 1 → (row_of (told list) name).joined ≡ k + 1
+join_row : (list : List Entry) (k name : ℕ) → slice_get list k ≡ Some (Join name) → length list ≡ k + 1 → (row_of (image_of list) name).joined ≡ k + 1
 unfolding after
 join_row list k name there long =
     let a = take k list in
@@ -123,19 +123,19 @@ join_row list k name there long =
     let b = begins_push (Join name) (begins_take k list) next in
     let lb = length_push a (Join name) in
     let same : a ++ Join name ∷ [] ≡ list = begins_same b (omega arith) in
-    let image : told list ≡ after (told a) (1 + length a) (Join name) = ap told (sym same) ∙ told_push a (Join name) in
+    let image : image_of list ≡ after (image_of a) (1 + length a) (Join name) = ap image_of (sym same) ∙ told_push a (Join name) in
     let r : Row = record { life = life_of name; joined = 1 + length a; left = 0; last = 0 } in
-    let row : at_place (after (told a) (1 + length a) (Join name)) name ≡ r = ⊎_elim
-    (λ (x : (place_of name ≡ place_of name) × (row_at (with_row (told a) name r) (place_of name) ≡ r)). x.1)
-    (λ (x : (place_of name ≢ place_of name) × (row_at (with_row (told a) name r) (place_of name) ≡ row_at (told a) (place_of name))). absurd (x.0 refl))
-    (row_set (told a) name (place_of name) r (long_told a)) in
-    let alive : ((at_place (told list) name).life == life_of name) ≡ true =
+    let row : at_place (after (image_of a) (1 + length a) (Join name)) name ≡ r = ⊎_elim
+    (λ (x : (place_of name ≡ place_of name) × (row_at (with_row (image_of a) name r) (place_of name) ≡ r)). x.1)
+    (λ (x : (place_of name ≢ place_of name) × (row_at (with_row (image_of a) name r) (place_of name) ≡ row_at (image_of a) (place_of name))). absurd (x.0 refl))
+    (row_set (image_of a) name (place_of name) r (long_told a)) in
+    let alive : ((at_place (image_of list) name).life == life_of name) ≡ true =
     (let l = ap (λ x. (at_place x name).life) image ∙ ap (λ (y : Row). y.life) row in grind (arith, nat_tests)) in
-    let is : row_of (told list) name ≡ r = rw alive (ap (λ x. at_place x name) image ∙ row) in
+    let is : row_of (image_of list) name ≡ r = rw alive (ap (λ x. at_place x name) image ∙ row) in
     ap (λ (y : Row). y.joined) is ∙ omega arith
 
 welcome_says : (rules : Rules) (list : List Entry) (acc i : ℕ) (m n : Node) (s : ℕ) → Sends rules list acc i m n → IsFirst rules list acc m n
-    → is_sequencer n ≡ true → MayWelcome m n s → WelcomeOk rules list acc s n.core.promise n.core.base (row_of (nodes.told n) s).joined
+    → is_sequencer n ≡ true → MayWelcome m n s → WelcomeOk rules list acc s n.core.promise n.core.base (row_of (nodes.image_of n) s).joined
     (image_at n.core.log n.core.base)
 welcome_says rules list acc i m n s h f t (just_joined number next high low stands) =
     let told_ = first_told rules list acc i m n h f in
@@ -148,7 +148,7 @@ welcome_says rules list acc i m n s h f t (just_joined number next high low stan
     let long = ap length entries in
     let row = join_row list stands.index s there (omega arith) in
     let item = stands_item rules list acc i m n number (Join s) h zero stands in
-    let is : (row_of (nodes.told n) s).joined ≡ number = same ∙ row ∙ omega arith in
+    let is : (row_of (nodes.image_of n) s).joined ≡ number = same ∙ row ∙ omega arith in
     let a = f.acc_ in
     record {
       stamp = h.promise (sequencer_member n t);
@@ -157,17 +157,17 @@ welcome_says rules list acc i m n s h f t (just_joined number next high low stan
       joined = λ z. ap (item_at list) is ∙ item;
     }
 welcome_says rules list acc i m n s h f t (asks_again same lives some stays low behind) =
-    let image : nodes.told m ≡ told list = ap told_by (sym same) ∙ first_told rules list acc i m n h f in
-    let q = at_place (nodes.told m) s in
-    let is_q : q ≡ at_place (told list) s = ap (λ x. at_place x s) image in
+    let image : nodes.image_of m ≡ image_of list = ap told_by (sym same) ∙ first_told rules list acc i m n h f in
+    let q = at_place (nodes.image_of m) s in
+    let is_q : q ≡ at_place (image_of list) s = ap (λ x. at_place x s) image in
     let place : place_of s < 16 = omega arith in
     let row = (rows_ok rules list f.group).each (place_of s) place in
-    let up : 0 < (at_place (told list) s).joined = subst (λ (r : Row). 0 < r.joined) is_q some in
+    let up : 0 < (at_place (image_of list) s).joined = subst (λ (r : Row). 0 < r.joined) is_q some in
     let alive = row.lives up in
-    let life_ : (at_place (nodes.told m) s).life ≡ life_of s = lives (λ z. (let e = ap (λ (r : Row). r.life) is_q in let y : ⊥ = omega arith in y)) in
-    let life : (at_place (told list) s).life ≡ life_of s = sym (ap (λ (r : Row). r.life) is_q) ∙ life_ in
-    let now : ((at_place (nodes.told n) s).life == life_of s) ≡ true = (let e = ap (λ x. (at_place x s).life) (ap told_by same) in grind (arith, nat_tests)) in
-    let is : row_of (nodes.told n) s ≡ at_place (told list) s = rw now (ap (λ x. at_place x s) (first_told rules list acc i m n h f)) in
+    let life_ : (at_place (nodes.image_of m) s).life ≡ life_of s = lives (λ z. (let e = ap (λ (r : Row). r.life) is_q in let y : ⊥ = omega arith in y)) in
+    let life : (at_place (image_of list) s).life ≡ life_of s = sym (ap (λ (r : Row). r.life) is_q) ∙ life_ in
+    let now : ((at_place (nodes.image_of n) s).life == life_of s) ≡ true = (let e = ap (λ x. (at_place x s).life) (ap told_by same) in grind (arith, nat_tests)) in
+    let is : row_of (nodes.image_of n) s ≡ at_place (image_of list) s = rw now (ap (λ x. at_place x s) (first_told rules list acc i m n h f)) in
     let joined = ap (λ (r : Row). r.joined) is in
     let joined_q = ap (λ (r : Row). r.joined) is_q in
     let a = f.acc_ in
@@ -177,13 +177,13 @@ welcome_says rules list acc i m n s h f t (asks_again same lives some stays low 
       low = omega arith;
       tells = λ b. first_image rules list acc i m n n.core.base h f;
       joined = λ z. ⊎_elim (λ (x : has rules.founders s ≡ true). absurd (cc))
-          (λ (x : item_at list (at_place (told list) s).joined ≡ Some (Join s)). ap (item_at list) joined ∙ x) (row.joined s refl up life);
+          (λ (x : item_at list (at_place (image_of list) s).joined ≡ Some (Join s)). ap (item_at list) joined ∙ x) (row.joined s refl up life);
     }
 
 -- the founders' View, as it is told again
 result_says : (rules : Rules) (list : List Entry) (acc i : ℕ) (m n : Node) (number : ℕ) (names : List ℕ) → Sends rules list acc i m n
-    → IsFirst rules list acc m n → is_sequencer n ≡ true → number ≡ (nodes.told n).view_number → viewed_by (entry_at n.core.log number) ≡ names
-    → (n.core.promise ≡ founding_stamp rules) × (item_at list number ≡ Some (View n.core.promise names (nodes.told n).resilience))
+    → IsFirst rules list acc m n → is_sequencer n ≡ true → number ≡ (nodes.image_of n).view_number → viewed_by (entry_at n.core.log number) ≡ names
+    → (n.core.promise ≡ founding_stamp rules) × (item_at list number ≡ Some (View n.core.promise names (nodes.image_of n).resilience))
 result_says rules list acc i m n number names h f t high named =
     let told_ = first_told rules list acc i m n h f in
     let v = group_view rules list f.group in
@@ -194,7 +194,7 @@ result_says rules list acc i m n number names h f t high named =
     let there : entry_at n.core.log number ≡ Some (founders_view rules) = entry_is n.core.log number 0 (omega arith)
     ∙ (ap (λ l. slice_get l 0) (sym f.list_) ∙ first) in
     let founders : rules.founders ≡ names = sym (ap viewed_by there) ∙ named in
-    let strong : (nodes.told n).resilience ≡ rules.resilience = ap (λ (x : Image). x.resilience) told_ ∙ v.resilience in
+    let strong : (nodes.image_of n).resilience ≡ rules.resilience = ap (λ (x : Image). x.resilience) told_ ∙ v.resilience in
     (stamp, get_item list number 0 (founders_view rules) (omega arith) first ∙ (λ j. Some (View (sym stamp j) (founders j) (sym strong j))))
 
 -- ---- each letter
@@ -225,7 +225,7 @@ said rules list from acc low i m n c to p h f g w (accept x poll a) j t = h.fron
 said rules list from acc low i m n c to p h f g w (welcome s a b) j t =
     let same = only_is s j t in
     let first = f (sequencer_first rules list acc i m n h a) in
-    subst (λ x. WelcomeOk rules list acc x n.core.promise n.core.base (row_of (nodes.told n) s).joined (image_at n.core.log n.core.base)) (sym same)
+    subst (λ x. WelcomeOk rules list acc x n.core.promise n.core.base (row_of (nodes.image_of n) s).joined (image_at n.core.log n.core.base)) (sym same)
     (welcome_says rules list acc i m n s h first a b)
 said rules list from acc low i m n c to p h f g w (invite x (has_begun b is stamp)) j t = let z = h.none in absurd (cc)
 said rules list from acc low i m n c to p h f g w (invite x (goes_on b is)) j t = let z = h.before in let y = is.last in absurd (cc)

@@ -4,7 +4,7 @@ use Rattle.am_base.specs.declared.name.Stamp.{Stamp}
 use Rattle.am_base.specs.declared.entry.Entry.{Entry}
 use Rattle.am_base.specs.declared.entry.Entry.TheVariants.{Data, Join, Leave, View}
 use Rattle.am_watch.specs.declared.views.Pending.{Pending}
-use Rattle.am_watch.specs.Watching.{Watching, number_of, or_else, placed, placed_by, accepted}
+use Rattle.am_watch.specs.Watching.{Watching, number_of, or_else, place_among, place_view, accept}
 
 or_none : (o : Option ℕ) → or_else o None ≡ o
 or_none None = refl
@@ -18,26 +18,26 @@ both_each : {A : Type 0} (f g : A → A) → ((x : A) → f x ≡ g x) → (xs :
 both_each f g h [] = refl
 both_each f g h (x ∷ xs) = ap (λ y. y ∷ map f xs) (h x) ∙ ap (λ ys. g x ∷ ys) (both_each f g h xs)
 
-none_placed : (k : Watching) (number : ℕ) (e : Entry) → ((s : Stamp) → number_of s number (e ∷ []) ≡ None) → accepted k number (e ∷ []) ≡ k
+none_placed : (k : Watching) (number : ℕ) (e : Entry) → ((s : Stamp) → number_of s number (e ∷ []) ≡ None) → accept k number (e ∷ []) ≡ k
 none_placed k number e h =
-    let none : (v : Pending) → placed number (e ∷ []) v ≡ v =
+    let none : (v : Pending) → place_among number (e ∷ []) v ≡ v =
     λ v. ap (λ o. record v { number_in_group = o }) (ap (or_else v.number_in_group) (h v.view.stamp) ∙ or_none v.number_in_group) in
-    ap (λ ps. record k { pending = ps }) (same_each (placed number (e ∷ [])) none k.pending)
+    ap (λ ps. record k { pending = ps }) (same_each (place_among number (e ∷ [])) none k.pending)
 
-pub accepts_data : (k : Watching) (number from req : ℕ) (body : List ℕ) → accepted k number (Data from req body ∷ []) ≡ k
+pub accepts_data : (k : Watching) (number from req : ℕ) (body : List ℕ) → accept k number (Data from req body ∷ []) ≡ k
 unfolding number_of
 accepts_data k number from req body = none_placed k number (Data from req body) (λ s. refl)
 
-pub accepts_join : (k : Watching) (number name : ℕ) → accepted k number (Join name ∷ []) ≡ k
+pub accepts_join : (k : Watching) (number name : ℕ) → accept k number (Join name ∷ []) ≡ k
 unfolding number_of
 accepts_join k number name = none_placed k number (Join name) (λ s. refl)
 
-pub accepts_leave : (k : Watching) (number name : ℕ) → accepted k number (Leave name ∷ []) ≡ k
+pub accepts_leave : (k : Watching) (number name : ℕ) → accept k number (Leave name ∷ []) ≡ k
 unfolding number_of
 accepts_leave k number name = none_placed k number (Leave name) (λ s. refl)
 
 pub accepts_view : (k : Watching) (number : ℕ) (stamp : Stamp) (members : List ℕ) (resilience : ℕ)
-    → accepted k number (View stamp members resilience ∷ []) ≡ record k { pending = map (placed_by number stamp) k.pending }
+    → accept k number (View stamp members resilience ∷ []) ≡ record k { pending = map (place_view number stamp) k.pending }
 unfolding number_of
 accepts_view k number stamp members resilience = ap (λ ps. record k { pending = ps })
-    (both_each (placed number (View stamp members resilience ∷ [])) (placed_by number stamp) (λ v. refl) k.pending)
+    (both_each (place_among number (View stamp members resilience ∷ [])) (place_view number stamp) (λ v. refl) k.pending)

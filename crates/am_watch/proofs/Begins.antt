@@ -14,7 +14,7 @@ use Rattle.am_model.specs.Node.{founder, stranger, founding_stamp}
 use Rattle.am_model.specs.World.{first_node}
 use Rattle.am_model.proofs.Greatest.{split}
 use Rattle.am_watch.specs.Watching as kept
-use Rattle.am_watch.specs.Watching.{unseen, standing, first_standing, first_view, begun}
+use Rattle.am_watch.specs.Watching.{blank_standing, standing, first_standing, first_view, first_watching}
 use Rattle.am_watch.specs.Watches.{standing_of, Each, BeginningIsWatched}
 use Rattle.am_watch.proofs.Order.{lt_self}
 
@@ -23,7 +23,7 @@ founder_shown : (rules : Rules) (name : ℕ) → standing_of (founder rules name
 unfolding fold after
 founder_shown rules name = refl
 
-stranger_shown : (rules : Rules) (name : ℕ) → standing_of (stranger rules name) ≡ unseen
+stranger_shown : (rules : Rules) (name : ℕ) → standing_of (stranger rules name) ≡ blank_standing
 unfolding fold
 stranger_shown rules name = refl
 
@@ -42,20 +42,20 @@ nobody_else rules name may high = split (has rules.founders name)
     absurd (omega arith))
     (λ t. t)
 
-standing_first : (rules : Rules) (name : ℕ) → MayFound rules → standing (begun rules) name ≡ standing_of (first_node rules name)
+standing_first : (rules : Rules) (name : ℕ) → MayFound rules → standing (first_watching rules) name ≡ standing_of (first_node rules name)
 standing_first rules name may = elim (cases_lt name 256) [
-  | inl low ↦ get_or-map-range_with_len (first_standing rules) 0 256 name name unseen low (omega arith) ∙ first_shown rules name
+  | inl low ↦ get_or-map-range_with_len (first_standing rules) 0 256 name name blank_standing low (omega arith) ∙ first_shown rules name
   | inr high ↦ (
       let long = length-map-range_with_len (first_standing rules) 0 256 in
-      let past : standing (begun rules) name ≡ unseen = get_or_past (map (first_standing rules) (range_with_len 0 256)) name unseen (omega arith) in
-      past ∙ ap (λ b. if b then record { status = Member; view = founding_stamp rules; start = 1; from = 0 } else unseen)
+      let past : standing (first_watching rules) name ≡ blank_standing = get_or_past (map (first_standing rules) (range_with_len 0 256)) name blank_standing (omega arith) in
+      past ∙ ap (λ b. if b then record { status = Member; view = founding_stamp rules; start = 1; from = 0 } else blank_standing)
       (sym (nobody_else rules name may high)) ∙ first_shown rules name)
 ]
 
 begins_within : (rules : Rules) (name : ℕ) → (first_node rules name).core.log.start ≤ 1
 begins_within rules name = split (has rules.founders name) (λ t. rw t (omega arith)) (λ t. rw t (omega arith))
 
-lawful_first : (rules : Rules) → kept.is_lawful (begun rules) (first_view rules) ≡ true
+lawful_first : (rules : Rules) → kept.is_lawful (first_watching rules) (first_view rules) ≡ true
 unfolding kept.is_lawful
 lawful_first rules = grind (arith, nat_tests)
 

@@ -7,10 +7,10 @@ use Rattle.am_group.specs.declared.event.Event.{Event}
 use Rattle.am_model.specs.Node.{Node, view}
 use Rattle.am_model.specs.Emit.{Step}
 use Rattle.am_model.specs.World as run
-use Rattle.am_model.specs.World.{World, unchanged, lives_on, current, is_stopped, group_after, happens}
+use Rattle.am_model.specs.World.{World, with_record, lives_on, current, is_stopped, group_after, happens}
 use Rattle.am_model.specs.Lawful.{Watch, watch}
 use Rattle.am_model.proofs.Greatest.{split}
-use Rattle.am_watch.specs.Watches.{after, added, SameBut, SteppedTo}
+use Rattle.am_watch.specs.Watches.{after, additions, SameBut, SteppedTo}
 
 -- the watched run after an event
 pub watched_after : (s : Watch) (e : Event) → watch s e ≡ after s (happens s.world e)
@@ -18,26 +18,26 @@ unfolding watch
 watched_after s e = refl
 
 -- an event that changes no node
-pub same_unchanged : (w : World) (e : Event) (o : Outcome) → SameBut w (unchanged w e o) w.stopped
-unfolding unchanged
+pub same_unchanged : (w : World) (e : Event) (o : Outcome) → SameBut w (with_record w e o) w.stopped
+unfolding with_record
 same_unchanged w e o = record { nodes = refl; stopped = refl; views = refl; group = refl }
 
 -- a stop
-pub same_stopped : (w : World) (e : Event) (o : Outcome) (gone : List ℕ) → SameBut w (unchanged (record w { stopped = gone }) e o) gone
-unfolding unchanged
+pub same_stopped : (w : World) (e : Event) (o : Outcome) (gone : List ℕ) → SameBut w (with_record (record w { stopped = gone }) e o) gone
+unfolding with_record
 same_stopped w e o gone = record { nodes = refl; stopped = refl; views = refl; group = refl }
 
 -- a return: the name before counts as stopped, if it didn't before
 pub same_lives : (w : World) (e : Event) (o : Outcome) (place : ℕ)
-    → SameBut w (lives_on (unchanged w e o) place) (if is_stopped w (current w place) then w.stopped else w.stopped ++ current w place ∷ [])
-unfolding unchanged
+    → SameBut w (lives_on (with_record w e o) place) (if is_stopped w (current w place) then w.stopped else w.stopped ++ current w place ∷ [])
+unfolding with_record
 same_lives w e o place = record { nodes = refl; stopped = refl; views = refl; group = refl }
 
 -- what a node adds to the group list
-pub group_grows : (group : List Entry) (n : Node) → group_after group n ≡ group ++ added group n
+pub group_grows : (group : List Entry) (n : Node) → group_after group n ≡ group ++ additions group n
 group_grows group n = split ((view n).by == n.core.who) (λ t. rw t refl) (λ t. rw t (sym (append-nil group)))
 
 -- a name's step
-pub stepped_to : (w : World) (e : Event) (name : ℕ) (s : Step) → SteppedTo w (run.stepped w e name s) name s.node (added w.group s.node)
-unfolding run.stepped
+pub stepped_to : (w : World) (e : Event) (name : ℕ) (s : Step) → SteppedTo w (run.with_step w e name s) name s.node (additions w.group s.node)
+unfolding run.with_step
 stepped_to w e name s = record { nodes = refl; stopped = refl; views = refl; group = group_grows w.group s.node }

@@ -10,7 +10,7 @@ use Rattle.am_model.proofs.Greatest.{split}
 use Rattle.am_watch.specs.declared.views.DecidedView.{DecidedView}
 use Rattle.am_watch.specs.declared.views.Pending.{Pending}
 use Rattle.am_watch.specs.Watching as kept
-use Rattle.am_watch.specs.Watching.{Watching, standing, greater, greatest, is_above, ended, looked, passed}
+use Rattle.am_watch.specs.Watching.{Watching, standing, greater, greatest, is_above, end_event, look, pass}
 use Rattle.am_watch.specs.Watches.{decided_of, comes_after, Each, Sees, IsNoted, WatchesUpTo, after}
 use Rattle.am_watch.proofs.Folds.{IsUpTo, IsLeft, up_self, up_greatest, each_of, each_filter, map_filter, each_left, greatest_is, greatest_above, filter_above}
 use Rattle.am_watch.proofs.Complete.{each_kept, lawful_is}
@@ -63,11 +63,11 @@ lawful_cases k v None h = split (kept.is_lawful k v)
 
 -- ---- looked
 
-same_complete : (k : Watching) (best : DecidedView) (v : Pending) → kept.is_complete (ended k best) v ≡ kept.is_complete k v
+same_complete : (k : Watching) (best : DecidedView) (v : Pending) → kept.is_complete (end_event k best) v ≡ kept.is_complete k v
 unfolding kept.is_complete
 same_complete k best v = refl
 
-same_lawful : (k : Watching) (best v : DecidedView) → kept.is_lawful (ended k best) v ≡ kept.is_lawful k v
+same_lawful : (k : Watching) (best v : DecidedView) → kept.is_lawful (end_event k best) v ≡ kept.is_lawful k v
 unfolding kept.is_lawful
 same_lawful k best v = refl
 
@@ -82,17 +82,17 @@ left_over group k s w r =
     ∙ filter_above s.complete.stamp best.stamp w.views up
     ∙ ap (λ (v : Decided). filter (comes_after v.stamp) w.views) (best_is group k s w r)
 
-pub looks : (group : List Entry) (k : Watching) (s : Watch) (w : World) → IsReady group k s w → WatchesUpTo group (looked k) (after s w)
-unfolding looked
+pub looks : (group : List Entry) (k : Watching) (s : Watch) (w : World) → IsReady group k s w → WatchesUpTo group (look k) (after s w)
+unfolding look
 looks group k s w r =
     let best = greatest k k.complete k.pending in
     let is = best_is group k s w r in
     record {
-      sees = sees_as k (looked k) w group (λ name. refl) refl refl r.sees;
+      sees = sees_as k (look k) w group (λ name. refl) refl refl r.sees;
       due = refl;
       noted = each_of _ (IsNoted w group) (λ v h. h.0) _ (each_filter (IsNoted w group) (is_above best.stamp) k.pending r.noted);
       pending = left_over group k s w r;
-      rest = each_of _ (λ v. kept.is_complete (ended k best) v ≡ false) (λ v h. same_complete k best v
+      rest = each_of _ (λ v. kept.is_complete (end_event k best) v ≡ false) (λ v h. same_complete k best v
           ∙ h.0.waits h.1) _ (each_filter (IsLeft k best.stamp) (is_above best.stamp) k.pending (each_left k k.complete k.pending));
       complete = is;
       count = ap (λ c. c + 1) r.count;
@@ -114,11 +114,11 @@ stays k best (v ∷ vs) (h, hs) =
     either true b x y h = rw h refl
     either false b x y h = refl
 
-passed_complete : (k : Watching) (v : Pending) → kept.is_complete (passed k) v ≡ kept.is_complete k v
+passed_complete : (k : Watching) (v : Pending) → kept.is_complete (pass k) v ≡ kept.is_complete k v
 unfolding kept.is_complete
 passed_complete k v = refl
 
-passed_lawful : (k : Watching) (v : DecidedView) → kept.is_lawful (passed k) v ≡ kept.is_lawful k v
+passed_lawful : (k : Watching) (v : DecidedView) → kept.is_lawful (pass k) v ≡ kept.is_lawful k v
 unfolding kept.is_lawful
 passed_lawful k v = refl
 
@@ -127,17 +127,17 @@ unbroken w v count (Some at) h = refl
 unbroken w v count None h = let t = h refl in rw t refl
 
 pub passes : (group : List Entry) (k : Watching) (s : Watch) (w : World) → IsReady group k s w → k.is_due ≡ false
-    → Each (λ v. kept.is_complete k v ≡ false) k.pending → (k.broken ≡ None → kept.is_lawful k k.complete ≡ true) → WatchesUpTo group (passed k) (after s w)
+    → Each (λ v. kept.is_complete k v ≡ false) k.pending → (k.broken ≡ None → kept.is_lawful k k.complete ≡ true) → WatchesUpTo group (pass k) (after s w)
 passes group k s w r due rest lawful =
     let is : decided_of k.complete ≡ law.greatest_complete w s.complete w.views = ap decided_of (sym (stays k k.complete k.pending rest))
     ∙ best_is group k s w r in
     let same : s.complete ≡ law.greatest_complete w s.complete w.views = sym r.complete ∙ is in
     record {
-      sees = sees_as k (passed k) w group (λ name. refl) refl refl r.sees;
+      sees = sees_as k (pass k) w group (λ name. refl) refl refl r.sees;
       due = due;
       noted = r.noted;
       pending = r.pending ∙ ap (λ (v : Decided). filter (comes_after v.stamp) w.views) same;
-      rest = each_of (λ v. kept.is_complete k v ≡ false) (λ v. kept.is_complete (passed k) v ≡ false) (λ v h. passed_complete k v ∙ h) k.pending rest;
+      rest = each_of (λ v. kept.is_complete k v ≡ false) (λ v. kept.is_complete (pass k) v ≡ false) (λ v h. passed_complete k v ∙ h) k.pending rest;
       complete = is;
       count = ap (λ c. c + 1) r.count;
       broken = r.broken ∙ unbroken w (law.greatest_complete w s.complete w.views) (s.count + 1) s.broken (λ h. ap (law.is_lawful w) (sym is)

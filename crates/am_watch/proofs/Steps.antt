@@ -23,8 +23,8 @@ use Rattle.am_watch.specs.declared.views.DecidedView.{DecidedView}
 use Rattle.am_watch.specs.declared.views.Standing.{Standing}
 use Rattle.am_watch.specs.declared.views.Pending.{Pending}
 use Rattle.am_watch.specs.Watching as kept
-use Rattle.am_watch.specs.Watching.{Watching, unseen, standing, is_by, number_of, or_else, same_flag, is_alike, with_standing, unstored, decided, with_decided}
-use Rattle.am_watch.specs.Watching.{with_entries, stored_by, noted, noted_entry, is_view, finished, stepped, stopped, passed, looked, placed, accepted}
+use Rattle.am_watch.specs.Watching.{Watching, blank_standing, standing, is_by, number_of, or_else, same_flag, is_alike, with_standing, new_pending, decided_views, with_decided}
+use Rattle.am_watch.specs.Watching.{with_entries, store_view, note_entries, note_entry, is_view, finish, watch_step, stop, pass, look, place_among, accept}
 use Rattle.am_watch.specs.Watches.{standing_of, view_of, decided_of, has_in_list, comes_after, Each, Sees, IsNoted, WatchesUpTo, Watches, after, IsNew, Steps}
 use Rattle.am_watch.specs.Watches.{SteppedTo, SameBut, StepsAreWatched, StopsAreWatched, OthersAreWatched, EntriesGoOn, AcceptedGoesOn}
 use Rattle.am_watch.proofs.Order.{same_stamp}
@@ -62,8 +62,8 @@ or_true false = refl
 standing_one : (k : Watching) (name other : ℕ) (after : Standing) → name < length k.names
     → standing (with_standing k name after) other ≡ (if other == name then after else standing k other)
 standing_one k name other after h = split (other == name)
-    (λ t. let e : other ≡ name = grind (arith, nat_tests) in rw t (rw e (get_or-set_same k.names name after unseen h)))
-    (λ t. let e : other ≢ name = λ e. not_same other name e t in rw t (get_or-set_other k.names name other after unseen e))
+    (λ t. let e : other ≡ name = grind (arith, nat_tests) in rw t (rw e (get_or-set_same k.names name after blank_standing h)))
+    (λ t. let e : other ≢ name = λ e. not_same other name e t in rw t (get_or-set_other k.names name other after blank_standing e))
   where
     not_same : (a b : ℕ) → a ≡ b → (a == b) ≡ false → ⊥
     not_same a b e f = grind (arith, nat_tests)
@@ -144,7 +144,7 @@ noted_one w v name n entries more p steps to noted =
       placed = same_number entries name p ∙ noted.placed ∙ ap (λ (d : DecidedView). number_of d.stamp 1 w.group) (sym same);
     }
 
-is_new : (w : World) (n : Node) → IsNew w (view n) → IsNoted w w.group (unstored (view_of n))
+is_new : (w : World) (n : Node) → IsNew w (view n) → IsNoted w w.group (new_pending (view_of n))
 is_new w n new = record {
   stored = λ name. none_stored name ∙ sym (new.lists name);
   places = length-replicate 256 false;
@@ -175,21 +175,21 @@ map_twice f g h e (x ∷ xs) = ap (λ y. y ∷ map f (map g xs)) (e x) ∙ ap (�
 
 -- one entry and then the others
 entered_twice : (name : ℕ) (stamp : Stamp) (members : List ℕ) (resilience : ℕ) (es : List Entry) (v : Pending)
-    → entered name es (stored_by name stamp v) ≡ entered name (View stamp members resilience ∷ es) v
+    → entered name es (store_view name stamp v) ≡ entered name (View stamp members resilience ∷ es) v
 entered_twice name stamp members resilience es v = split (stamp_eq stamp v.view.stamp)
     (λ t. split (list_any (is_view_of v.view.stamp) es)
     (λ u. rw t (rw u (ap (λ stored. record v { stored = stored }) (set-set v.stored name true true))))
     (λ u. rw t (rw u refl)))
     (λ t. rw t refl)
 
-noted_is : (name : ℕ) (entries : List Entry) (ps : List Pending) → noted name entries ps ≡ map (entered name entries) ps
-unfolding noted
+noted_is : (name : ℕ) (entries : List Entry) (ps : List Pending) → note_entries name entries ps ≡ map (entered name entries) ps
+unfolding note_entries
 noted_is name [] ps = map_self ps
 noted_is name (Data from req body ∷ es) ps = noted_is name es ps
 noted_is name (Join joiner ∷ es) ps = noted_is name es ps
 noted_is name (Leave leaver ∷ es) ps = noted_is name es ps
-noted_is name (View stamp members resilience ∷ es) ps = noted_is name es (map (stored_by name stamp) ps)
-    ∙ map_twice (entered name es) (stored_by name stamp) (entered name (View stamp members resilience ∷ es)) (entered_twice name stamp members resilience es) ps
+noted_is name (View stamp members resilience ∷ es) ps = noted_is name es (map (store_view name stamp) ps)
+    ∙ map_twice (entered name es) (store_view name stamp) (entered name (View stamp members resilience ∷ es)) (entered_twice name stamp members resilience es) ps
 
 views_noted : (name : ℕ) (entries : List Entry) (ps : List Pending)
     → map (λ (p : Pending). decided_of p.view) (map (entered name entries) ps) ≡ map (λ (p : Pending). decided_of p.view) ps
@@ -199,7 +199,7 @@ views_noted name entries ps = map_same (entered name entries) (λ (p : Pending).
 abbrev pub one_above : Bool → Bool → Decided → List Decided
 one_above decides above d = if decides then (if above then d ∷ [] else []) else []
 
-decided_cases : (a c : Bool) (v : DecidedView) → map (λ (p : Pending). decided_of p.view) (if a && c then unstored v ∷ [] else [])
+decided_cases : (a c : Bool) (v : DecidedView) → map (λ (p : Pending). decided_of p.view) (if a && c then new_pending v ∷ [] else [])
     ≡ one_above a c (decided_of v)
 decided_cases true true v = refl
 decided_cases true false v = refl
@@ -212,12 +212,12 @@ after_cases false c views d = append-nil (filter (comes_after c) views)
 
 pending_step : (k : Watching) (s : Watch) (w : World) (name : ℕ) (n : Node) (entries more : List Entry) → Watches k s → Steps s.world name n entries
     → SteppedTo s.world w name n more
-    → map (λ (p : Pending). decided_of p.view) (k.pending ++ decided k name (standing_of n) (view_of n)) ≡ filter (comes_after s.complete.stamp) w.views
+    → map (λ (p : Pending). decided_of p.view) (k.pending ++ decided_views k name (standing_of n) (view_of n)) ≡ filter (comes_after s.complete.stamp) w.views
 pending_step k s w name n entries more is steps to =
     let dec : Pending → Decided = λ p. decided_of p.view in
     let m = s.world.nodes name in
-    map-append dec k.pending (decided k name (standing_of n) (view_of n))
-    ∙ ap (λ vs. vs ++ map dec (decided k name (standing_of n) (view_of n))) is.pending
+    map-append dec k.pending (decided_views k name (standing_of n) (view_of n))
+    ∙ ap (λ vs. vs ++ map dec (decided_views k name (standing_of n) (view_of n))) is.pending
     ∙ ap (λ vs. filter (comes_after s.complete.stamp) s.world.views ++ vs)
     (decided_cases (kept.decides (standing k name) name (standing_of n)) (stamp_lt k.complete.stamp (view n)) (view_of n)
     ∙ ap (λ a. one_above a (stamp_lt k.complete.stamp (view n)) (last_view n)) (decides_is k s.world name n (is.sees.names name) steps.own)
@@ -225,7 +225,7 @@ pending_step k s w name n entries more is steps to =
     ∙ after_cases (run.decides m n) s.complete.stamp s.world.views (last_view n)
     ∙ ap (filter (comes_after s.complete.stamp)) (sym to.views)
 
-decided_each : (a c : Bool) (w : World) (n : Node) → (a ≡ true → IsNew w (view n)) → Each (IsNoted w w.group) (if a && c then unstored (view_of n) ∷ [] else [])
+decided_each : (a c : Bool) (w : World) (n : Node) → (a ≡ true → IsNew w (view n)) → Each (IsNoted w w.group) (if a && c then new_pending (view_of n) ∷ [] else [])
 unfolding Each
 decided_each true true w n new = (is_new w n (new refl), tt)
 decided_each true false w n new = tt
@@ -241,11 +241,11 @@ stepping_ready : (k : Watching) (s : Watch) (w : World) (name : ℕ) (n : Node) 
     → SteppedTo s.world w name n more → IsReady s.world.group (stepping k name (standing_of n) (view_of n) entries) s w
 stepping_ready k s w name n entries more is steps to =
     let sees = sees_step k s.world w name n entries more is.sees steps to in
-    let all = k.pending ++ decided k name (standing_of n) (view_of n) in
-    let e : noted name entries all ≡ map (entered name entries) all = noted_is name entries all in
+    let all = k.pending ++ decided_views k name (standing_of n) (view_of n) in
+    let e : note_entries name entries all ≡ map (entered name entries) all = noted_is name entries all in
     let new = decided_each (kept.decides (standing k name) name (standing_of n)) (stamp_lt k.complete.stamp (view n)) s.world n
     (λ t. steps.new (sym (decides_is k s.world name n (is.sees.names name) steps.own) ∙ t)) in
-    let each = each_append (IsNoted s.world s.world.group) k.pending (decided k name (standing_of n) (view_of n)) is.noted new in
+    let each = each_append (IsNoted s.world s.world.group) k.pending (decided_views k name (standing_of n) (view_of n)) is.noted new in
     record {
       sees = record { names = sees.names; places = sees.places; stopped = sees.stopped; within = sees.within; more = sees.more; goes_on = sees.goes_on };
       noted = subst (Each (IsNoted w s.world.group)) (sym e)
@@ -360,18 +360,18 @@ not_true : (b : Bool) → not b ≡ true → b ≡ false
 not_true true h = sym h
 not_true false h = refl
 
-entry_none : (name : ℕ) (e : Entry) (ps : List Pending) → is_view e ≡ false → noted_entry name e ps ≡ ps
+entry_none : (name : ℕ) (e : Entry) (ps : List Pending) → is_view e ≡ false → note_entry name e ps ≡ ps
 entry_none name (Data from req body) ps h = refl
 entry_none name (Join joiner) ps h = refl
 entry_none name (Leave leaver) ps h = refl
 entry_none name (View stamp members resilience) ps h = absurd (cc)
 
-noted_none : (name : ℕ) (entries : List Entry) (ps : List Pending) → list_any is_view entries ≡ false → noted name entries ps ≡ ps
-unfolding noted
+noted_none : (name : ℕ) (entries : List Entry) (ps : List Pending) → list_any is_view entries ≡ false → note_entries name entries ps ≡ ps
+unfolding note_entries
 noted_none name [] ps h = refl
 noted_none name (e ∷ es) ps h =
     let both = or_parts (is_view e) (list_any is_view es) h in
-    noted_none name es (noted_entry name e ps) both.1 ∙ entry_none name e ps both.0
+    noted_none name es (note_entry name e ps) both.1 ∙ entry_none name e ps both.0
 
 stepping_complete : (k : Watching) (name : ℕ) (after : Standing) (view : DecidedView) (entries : List Entry) (v : Pending)
     → kept.is_complete (stepping k name after view entries) v ≡ kept.is_complete (with_standing k name after) v
@@ -388,12 +388,12 @@ stepping_same : (k : Watching) (name : ℕ) (after : Standing) (view : DecidedVi
     → list_any is_view entries ≡ false → (stepping k name after view entries).pending ≡ k.pending
 stepping_same k name after view entries same none =
     let test : kept.decides (standing k name) name after ≡ false = not_decided _ _ _ same in
-    let no : decided k name after view ≡ [] = ap (λ b. if b && stamp_lt k.complete.stamp view.stamp then unstored view ∷ [] else []) test in
-    noted_none name entries (k.pending ++ decided k name after view) none ∙ ap (λ vs. k.pending ++ vs) no ∙ append-nil k.pending
+    let no : decided_views k name after view ≡ [] = ap (λ b. if b && stamp_lt k.complete.stamp view.stamp then new_pending view ∷ [] else []) test in
+    noted_none name entries (k.pending ++ decided_views k name after view) none ∙ ap (λ vs. k.pending ++ vs) no ∙ append-nil k.pending
 
 alike_step : (k : Watching) (s : Watch) (w : World) (name : ℕ) (n : Node) (entries more : List Entry) → Watches k s → Steps s.world name n entries
     → SteppedTo s.world w name n more → (is_alike (standing k name) (standing_of n) && not (k.is_due || list_any is_view entries)) ≡ true
-    → WatchesUpTo s.world.group (passed (stepping k name (standing_of n) (view_of n) entries)) (after s w)
+    → WatchesUpTo s.world.group (pass (stepping k name (standing_of n) (view_of n) entries)) (after s w)
 alike_step k s w name n entries more is steps to both =
     let n1 = standing_of n in
     let h : name < length k.names = let p = is.sees.places in let q = steps.within in omega arith in
@@ -412,7 +412,7 @@ alike_step k s w name n entries more is steps to both =
 -- ---- the group list
 
 accepted_view : (w : World) (group more : List Entry) (p : Pending) → w.group ≡ group ++ more → IsNoted w group p
-    → IsNoted w w.group (placed (length group + 1) more p)
+    → IsNoted w w.group (place_among (length group + 1) more p)
 accepted_view w group more p e noted =
     let z : length group + 1 ≡ 1 + length group = omega arith in
     record {
@@ -423,7 +423,7 @@ accepted_view w group more p e noted =
           ∙ ap (number_of p.view.stamp 1) (sym e);
     }
 
-accepted_lawful : (k : Watching) (number : ℕ) (more : List Entry) (v : DecidedView) → kept.is_lawful (accepted k number more) v ≡ kept.is_lawful k v
+accepted_lawful : (k : Watching) (number : ℕ) (more : List Entry) (v : DecidedView) → kept.is_lawful (accept k number more) v ≡ kept.is_lawful k v
 unfolding kept.is_lawful
 accepted_lawful k number more v = refl
 
@@ -439,10 +439,10 @@ waiting_each k w group [] h g = tt
 waiting_each k w group (v ∷ vs) (h, hs) (g, gs) = (record { noted = h; waits = g }, waiting_each k w group vs hs gs)
 
 accepts : (group more : List Entry) (k : Watching) (s : Watch) → WatchesUpTo group k s → s.world.group ≡ group ++ more
-    → Watches (accepted k (length group + 1) more) s
+    → Watches (accept k (length group + 1) more) s
 accepts group more k s is e =
     let w = s.world in
-    let j = accepted k (length group + 1) more in
+    let j = accept k (length group + 1) more in
     let longer : length w.group ≡ length group + length more = ap length e ∙ length-append group more in
     let sees : Sees j w w.group = record {
       names = is.sees.names;
@@ -456,10 +456,10 @@ accepts group more k s is e =
     record {
       sees = sees;
       due = is.due;
-      noted = each_map (IsNoted w group) (IsNoted w w.group) (placed (length group + 1) more) (λ p h. accepted_view w group more p e h) k.pending is.noted;
-      pending = map_same (placed (length group + 1) more) (λ (p : Pending). decided_of p.view) (λ p. refl) k.pending ∙ is.pending;
+      noted = each_map (IsNoted w group) (IsNoted w w.group) (place_among (length group + 1) more) (λ p h. accepted_view w group more p e h) k.pending is.noted;
+      pending = map_same (place_among (length group + 1) more) (λ (p : Pending). decided_of p.view) (λ p. refl) k.pending ∙ is.pending;
       rest = each_map (IsWaiting k w group) (λ v. kept.is_complete j v
-          ≡ false) (placed (length group + 1) more) (λ p h. complete_is j w w.group (placed (length group + 1) more p) sees
+          ≡ false) (place_among (length group + 1) more) (λ p h. complete_is j w w.group (place_among (length group + 1) more p) sees
           (accepted_view w group more p e h.noted) ∙ sym (complete_is k w group p is.sees h.noted)
           ∙ h.waits) k.pending (waiting_each k w group k.pending is.noted is.rest);
       complete = is.complete;
@@ -471,14 +471,14 @@ accepts group more k s is e =
 -- ---- the laws
 
 step_is : (k : Watching) (s : Watch) (w : World) (name : ℕ) (n : Node) (entries more : List Entry) → Watches k s → Steps s.world name n entries
-    → SteppedTo s.world w name n more → WatchesUpTo s.world.group (stepped k name (standing_of n) (view_of n) entries) (after s w)
-unfolding finished
+    → SteppedTo s.world w name n more → WatchesUpTo s.world.group (watch_step k name (standing_of n) (view_of n) entries) (after s w)
+unfolding finish
 step_is k s w name n entries more is steps to = split (is_alike (standing k name) (standing_of n) && not (k.is_due || list_any is_view entries))
     (λ t. rw t (alike_step k s w name n entries more is steps to t))
     (λ t. rw t (looks s.world.group (stepping k name (standing_of n) (view_of n) entries) s w (stepping_ready k s w name n entries more is steps to)))
 
 pub steps_are_watched : StepsAreWatched
-steps_are_watched k s w name n entries more is steps to = accepts s.world.group more (stepped k name (standing_of n) (view_of n) entries) (after s w)
+steps_are_watched k s w name n entries more is steps to = accepts s.world.group more (watch_step k name (standing_of n) (view_of n) entries) (after s w)
     (step_is k s w name n entries more is steps to) to.group
 
 -- a world in which the lists and the views are the same
@@ -522,26 +522,26 @@ others_are_watched k s w is same = passes w.group k s w (subst (λ (g : List ℕ
     (same_ready k s w s.world.stopped is same)) is.due is.rest is.lawful
 
 placed_twice : (number : ℕ) (xs ys : List Entry) (ps : List Pending)
-    → map (placed number (xs ++ ys)) ps ≡ map (placed (number + length xs) ys) (map (placed number xs) ps)
+    → map (place_among number (xs ++ ys)) ps ≡ map (place_among (number + length xs) ys) (map (place_among number xs) ps)
 placed_twice number xs ys [] = refl
-placed_twice number xs ys (p ∷ ps) = ap (λ q. q ∷ map (placed number (xs ++ ys)) ps) (one number xs ys p)
-    ∙ ap (λ qs. placed (number + length xs) ys (placed number xs p) ∷ qs) (placed_twice number xs ys ps)
+placed_twice number xs ys (p ∷ ps) = ap (λ q. q ∷ map (place_among number (xs ++ ys)) ps) (one number xs ys p)
+    ∙ ap (λ qs. place_among (number + length xs) ys (place_among number xs p) ∷ qs) (placed_twice number xs ys ps)
   where
     assoc : (a b c : Option ℕ) → or_else a (or_else b c) ≡ or_else (or_else a b) c
     assoc None b c = refl
     assoc (Some x) b c = refl
 
-    one : (number : ℕ) (xs ys : List Entry) (p : Pending) → placed number (xs ++ ys) p ≡ placed (number + length xs) ys (placed number xs p)
+    one : (number : ℕ) (xs ys : List Entry) (p : Pending) → place_among number (xs ++ ys) p ≡ place_among (number + length xs) ys (place_among number xs p)
     one number xs ys p = ap (λ o. record p { number_in_group = o }) (ap (or_else p.number_in_group) (number_append p.view.stamp number xs ys)
         ∙ assoc p.number_in_group (number_of p.view.stamp number xs) (number_of p.view.stamp (number + length xs) ys))
 
 pub accepted_goes_on : AcceptedGoesOn
 accepted_goes_on k number xs ys = ap (λ ps. record k { pending = ps }) (placed_twice number xs ys k.pending)
 
-noted_push : (name : ℕ) (xs : List Entry) (e : Entry) (ps : List Pending) → noted name (xs ++ e ∷ []) ps ≡ noted_entry name e (noted name xs ps)
-unfolding noted
+noted_push : (name : ℕ) (xs : List Entry) (e : Entry) (ps : List Pending) → note_entries name (xs ++ e ∷ []) ps ≡ note_entry name e (note_entries name xs ps)
+unfolding note_entries
 noted_push name [] e ps = refl
-noted_push name (x ∷ xs) e ps = noted_push name xs e (noted_entry name x ps)
+noted_push name (x ∷ xs) e ps = noted_push name xs e (note_entry name x ps)
 
 any_push : (due : Bool) (xs : List Entry) (e : Entry) → (due || list_any is_view (xs ++ e ∷ [])) ≡ ((due || list_any is_view xs) || is_view e)
 any_push true xs e = refl

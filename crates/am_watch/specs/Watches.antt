@@ -6,14 +6,14 @@ use Rattle.am_base.specs.declared.name.Stamp.{Stamp}
 use Rattle.am_base.specs.declared.entry.Entry.{Entry}
 use Rattle.am_base.specs.Stamps.{stamp_lt}
 use Rattle.am_base.specs.Founding.{Rules, MayFound}
-use Rattle.am_model.specs.Node.{Node, told, view, members, set_at}
+use Rattle.am_model.specs.Node.{Node, image_of, view, members, set_at}
 use Rattle.am_model.specs.World.{Decided, World, decides, views_after}
-use Rattle.am_model.specs.Lawful.{Watch, watch_start, is_view_of, greatest_complete, looked}
+use Rattle.am_model.specs.Lawful.{Watch, watch_start, is_view_of, greatest_complete, watch_with}
 use Rattle.am_watch.specs.declared.views.DecidedView.{DecidedView}
 use Rattle.am_watch.specs.declared.views.Standing.{Standing}
 use Rattle.am_watch.specs.declared.views.Pending.{Pending}
 use Rattle.am_watch.specs.Watching as kept
-use Rattle.am_watch.specs.Watching.{Watching, standing, number_of, begun, with_entry, with_entries, stepped, stopped, passed, accepted}
+use Rattle.am_watch.specs.Watching.{Watching, standing, number_of, first_watching, with_entry, with_entries, watch_step, stop, pass, accept}
 
 -- ---- what a node shows
 
@@ -22,7 +22,7 @@ standing_of n = record { status = n.status; view = view n; start = n.core.start;
 
 -- the view in which its list ends
 abbrev pub view_of : Node → DecidedView
-view_of n = record { number = (told n).view_number; stamp = view n; members = members n; resilience = (told n).resilience }
+view_of n = record { number = (image_of n).view_number; stamp = view n; members = members n; resilience = (image_of n).resilience }
 
 abbrev pub decided_of : DecidedView → Decided
 decided_of v = record { number = v.number; stamp = v.stamp; members = v.members; resilience = v.resilience }
@@ -76,7 +76,7 @@ Watches k s = WatchesUpTo s.world.group k s
 
 -- the watched run after an event that comes to this world
 abbrev pub after : Watch → World → Watch
-after s w = looked s w (greatest_complete w s.complete w.views)
+after s w = watch_with s w (greatest_complete w s.complete w.views)
 
 -- nobody has the View of this stamp
 pub record IsNew (w : World) (v : Stamp) : Type 0 where
@@ -93,8 +93,8 @@ pub record Steps (w : World) (name : ℕ) (n : Node) (entries : List Entry) : Ty
   pub new : decides (w.nodes name) n ≡ true → IsNew w (view n)
 
 -- what a node adds to the group list: in a view of its own all that it accepted beyond it
-abbrev pub added : List Entry → Node → List Entry
-added group n = if (view n).by == n.core.who then take (n.core.acc - length group) (drop (length group - n.core.log.start) n.core.log.entries) else []
+abbrev pub additions : List Entry → Node → List Entry
+additions group n = if (view n).by == n.core.who then take (n.core.acc - length group) (drop (length group - n.core.log.start) n.core.log.entries) else []
 
 -- the world after it, where the group list goes on by these entries
 pub record SteppedTo (w v : World) (name : ℕ) (n : Node) (more : List Entry) : Type 0 where
@@ -114,21 +114,21 @@ pub record SameBut (w v : World) (gone : List ℕ) : Type 0 where
 
 -- what is kept of a run without events is that of one
 abbrev pub BeginningIsWatched : Type 0
-BeginningIsWatched = (rules : Rules) → MayFound rules → Watches (begun rules) (watch_start rules)
+BeginningIsWatched = (rules : Rules) → MayFound rules → Watches (first_watching rules) (watch_start rules)
 
 -- what is kept goes on with a run through each kind of event
 abbrev pub StepsAreWatched : Type 0
 StepsAreWatched = (k : Watching) (s : Watch) (w : World) (name : ℕ) (n : Node) (entries more : List Entry)
     → Watches k s → Steps s.world name n entries → SteppedTo s.world w name n more
-    → Watches (accepted (stepped k name (standing_of n) (view_of n) entries) (length s.world.group + 1) more) (after s w)
+    → Watches (accept (watch_step k name (standing_of n) (view_of n) entries) (length s.world.group + 1) more) (after s w)
 
 abbrev pub StopsAreWatched : Type 0
 StopsAreWatched = (k : Watching) (s : Watch) (w : World) (name : ℕ)
-    → Watches k s → SameBut s.world w (s.world.stopped ++ name ∷ []) → Watches (stopped k name) (after s w)
+    → Watches k s → SameBut s.world w (s.world.stopped ++ name ∷ []) → Watches (stop k name) (after s w)
 
 abbrev pub OthersAreWatched : Type 0
 OthersAreWatched = (k : Watching) (s : Watch) (w : World)
-    → Watches k s → SameBut s.world w s.world.stopped → Watches (passed k) (after s w)
+    → Watches k s → SameBut s.world w s.world.stopped → Watches (pass k) (after s w)
 
 -- the entries of a step, and those of the group list, one after another
 abbrev pub EntriesGoOn : Type 0
@@ -137,4 +137,4 @@ EntriesGoOn = (k : Watching) (name : ℕ) (xs : List Entry) (e : Entry)
 
 abbrev pub AcceptedGoesOn : Type 0
 AcceptedGoesOn = (k : Watching) (number : ℕ) (xs ys : List Entry)
-    → accepted k number (xs ++ ys) ≡ accepted (accepted k number xs) (number + length xs) ys
+    → accept k number (xs ++ ys) ≡ accept (accept k number xs) (number + length xs) ys

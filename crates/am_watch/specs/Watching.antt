@@ -19,8 +19,8 @@ use Rattle.am_watch.specs.declared.views.Standing.{Standing}
 use Rattle.am_watch.specs.declared.views.Pending.{Pending}
 
 -- what a name shows before its first step
-abbrev pub unseen : Standing
-unseen = record { status = Stranger; view = no_stamp; start = 0; from = 0 }
+abbrev pub blank_standing : Standing
+blank_standing = record { status = Stranger; view = no_stamp; start = 0; from = 0 }
 
 -- what is known of each name, who stopped, the views above the greatest complete one, whether a View was stored in this event,
 -- the greatest complete view, how many events there were, and the number of the first after which the run wasn't lawful
@@ -34,7 +34,7 @@ pub record Watching : Type 0 where
   pub broken : Option ℕ
 
 abbrev pub standing : Watching → ℕ → Standing
-standing k name = slice_index_or k.names name unseen
+standing k name = slice_index_or k.names name blank_standing
 
 abbrev pub has_stopped : Watching → ℕ → Bool
 has_stopped k name = list_any (λ other. other == name) k.stopped
@@ -86,8 +86,8 @@ abbrev pub is_above : Stamp → Pending → Bool
 is_above stamp v = stamp_lt stamp v.view.stamp
 
 -- an event is over, and this is the greatest complete view
-abbrev pub ended : Watching → DecidedView → Watching
-ended k best = record k {
+abbrev pub end_event : Watching → DecidedView → Watching
+end_event k best = record k {
   pending = filter (is_above best.stamp) k.pending;
   is_due = false;
   complete = best;
@@ -97,16 +97,16 @@ ended k best = record k {
 }
 
 -- an event is over after which a view may have become complete, or somebody was lost
-unfoldable pub looked : Watching → Watching
-looked k = ended k (greatest k k.complete k.pending)
+unfoldable pub look : Watching → Watching
+look k = end_event k (greatest k k.complete k.pending)
 
 -- one that changes nothing of that
-abbrev pub passed : Watching → Watching
-passed k = record k { count = k.count + 1 }
+abbrev pub pass : Watching → Watching
+pass k = record k { count = k.count + 1 }
 
 -- a name stops
-abbrev pub stopped : Watching → ℕ → Watching
-stopped k name = looked (record k { stopped = k.stopped ++ name ∷ [] })
+abbrev pub stop : Watching → ℕ → Watching
+stop k name = look (record k { stopped = k.stopped ++ name ∷ [] })
 
 -- ---- a name's step
 
@@ -115,31 +115,31 @@ abbrev pub decides : Standing → ℕ → Standing → Bool
 decides before name after = is_member before.status && ((after.view.by == name) && not (stamp_eq before.view after.view))
 
 -- a view that nobody has stored
-abbrev pub unstored : DecidedView → Pending
-unstored view = record { view = view; stored = replicate 256 false; number_in_group = None }
+abbrev pub new_pending : DecidedView → Pending
+new_pending view = record { view = view; stored = replicate 256 false; number_in_group = None }
 
 -- the view that the name decided, if it did
-abbrev pub decided : Watching → ℕ → Standing → DecidedView → List Pending
-decided k name after view = if decides (standing k name) name after && stamp_lt k.complete.stamp view.stamp then unstored view ∷ [] else []
+abbrev pub decided_views : Watching → ℕ → Standing → DecidedView → List Pending
+decided_views k name after view = if decides (standing k name) name after && stamp_lt k.complete.stamp view.stamp then new_pending view ∷ [] else []
 
 abbrev pub with_decided : Watching → ℕ → Standing → DecidedView → Watching
-with_decided k name after view = record k { pending = k.pending ++ decided k name after view }
+with_decided k name after view = record k { pending = k.pending ++ decided_views k name after view }
 
 -- the name stored the View of this stamp
-abbrev pub stored_by : ℕ → Stamp → Pending → Pending
-stored_by name stamp v = if stamp_eq stamp v.view.stamp then record v { stored = slice_set v.stored name true } else v
+abbrev pub store_view : ℕ → Stamp → Pending → Pending
+store_view name stamp v = if stamp_eq stamp v.view.stamp then record v { stored = slice_set v.stored name true } else v
 
 -- the name stored an entry
-abbrev pub noted_entry : ℕ → Entry → List Pending → List Pending
-noted_entry name (Data from req body) pending = pending
-noted_entry name (Join joiner) pending = pending
-noted_entry name (Leave leaver) pending = pending
-noted_entry name (View stamp members resilience) pending = map (stored_by name stamp) pending
+abbrev pub note_entry : ℕ → Entry → List Pending → List Pending
+note_entry name (Data from req body) pending = pending
+note_entry name (Join joiner) pending = pending
+note_entry name (Leave leaver) pending = pending
+note_entry name (View stamp members resilience) pending = map (store_view name stamp) pending
 
 -- the views that may become complete, once the name stored these entries
-unfoldable pub noted : ℕ → List Entry → List Pending → List Pending
-noted name [] pending = pending
-noted name (e ∷ es) pending = noted name es (noted_entry name e pending)
+unfoldable pub note_entries : ℕ → List Entry → List Pending → List Pending
+note_entries name [] pending = pending
+note_entries name (e ∷ es) pending = note_entries name es (note_entry name e pending)
 
 abbrev pub is_view : Entry → Bool
 is_view (Data from req body) = false
@@ -149,10 +149,10 @@ is_view (View stamp members resilience) = true
 
 -- a name stored an entry, and several
 abbrev pub with_entry : Watching → ℕ → Entry → Watching
-with_entry k name e = record k { pending = noted_entry name e k.pending; is_due = k.is_due || is_view e }
+with_entry k name e = record k { pending = note_entry name e k.pending; is_due = k.is_due || is_view e }
 
 abbrev pub with_entries : Watching → ℕ → List Entry → Watching
-with_entries k name entries = record k { pending = noted name entries k.pending; is_due = k.is_due || list_any is_view entries }
+with_entries k name entries = record k { pending = note_entries name entries k.pending; is_due = k.is_due || list_any is_view entries }
 
 -- the two are alike in what views ask for
 abbrev pub same_flag : Bool → Bool → Bool
@@ -168,14 +168,14 @@ abbrev pub with_standing : Watching → ℕ → Standing → Watching
 with_standing k name after = record k { names = slice_set k.names name after }
 
 -- a name's step is over
-unfoldable pub finished : Watching → ℕ → Standing → Watching
-finished k name after =
-    if is_alike (standing k name) after && not k.is_due then passed (with_standing k name after)
-    else looked (with_standing k name after)
+unfoldable pub finish : Watching → ℕ → Standing → Watching
+finish k name after =
+    if is_alike (standing k name) after && not k.is_due then pass (with_standing k name after)
+    else look (with_standing k name after)
 
 -- a name did a step: what it shows after that, the view in which its list ends, and the entries that it stored
-abbrev pub stepped : Watching → ℕ → Standing → DecidedView → List Entry → Watching
-stepped k name after view entries = finished (with_entries (with_decided k name after view) name entries) name after
+abbrev pub watch_step : Watching → ℕ → Standing → DecidedView → List Entry → Watching
+watch_step k name after view entries = finish (with_entries (with_decided k name after view) name entries) name after
 
 -- ---- the group list
 
@@ -189,29 +189,29 @@ or_else None b = b
 or_else (Some a) b = Some a
 
 -- the group list goes on by these entries, the first of which has this number
-abbrev pub placed : ℕ → List Entry → Pending → Pending
-placed number more v = record v { number_in_group = or_else v.number_in_group (number_of v.view.stamp number more) }
+abbrev pub place_among : ℕ → List Entry → Pending → Pending
+place_among number more v = record v { number_in_group = or_else v.number_in_group (number_of v.view.stamp number more) }
 
 -- by a View of this stamp alone
-abbrev pub placed_by : ℕ → Stamp → Pending → Pending
-placed_by number stamp v = record v { number_in_group = or_else v.number_in_group (if stamp_eq stamp v.view.stamp then Some number else None) }
+abbrev pub place_view : ℕ → Stamp → Pending → Pending
+place_view number stamp v = record v { number_in_group = or_else v.number_in_group (if stamp_eq stamp v.view.stamp then Some number else None) }
 
-abbrev pub accepted : Watching → ℕ → List Entry → Watching
-accepted k number more = record k { pending = map (placed number more) k.pending }
+abbrev pub accept : Watching → ℕ → List Entry → Watching
+accept k number more = record k { pending = map (place_among number more) k.pending }
 
 -- ---- the beginning
 
 -- what a name shows before anything happened
 abbrev pub first_standing : Rules → ℕ → Standing
-first_standing rules name = if has rules.founders name then record { status = Member; view = founding_stamp rules; start = 1; from = 0 } else unseen
+first_standing rules name = if has rules.founders name then record { status = Member; view = founding_stamp rules; start = 1; from = 0 } else blank_standing
 
 -- the founders' view
 abbrev pub first_view : Rules → DecidedView
 first_view rules = record { number = 1; stamp = founding_stamp rules; members = rules.founders; resilience = rules.resilience }
 
 -- what is kept of a run without events
-abbrev pub begun : Rules → Watching
-begun rules = record {
+abbrev pub first_watching : Rules → Watching
+first_watching rules = record {
   names = map (first_standing rules) (range_with_len 0 256);
   stopped = [];
   pending = [];

@@ -61,7 +61,7 @@ fn it_breaks_where_more_stop_than_the_resilience(rt: HostRuntime) -> Result<(), 
     let mut watcher = Watcher::new(rt.alloc(), &founding()?);
     for (name, broken) in [(2, None), (1, Some(2)), (0, Some(2))] {
         stop(&rt, &mut watcher, name)?;
-        assert!(rt; watcher.broken() == broken, "at {name}");
+        assert!(rt; watcher.broken_at() == broken, "at {name}");
     }
     Ok(())
 }
@@ -76,9 +76,9 @@ fn a_view_is_complete_once_nobody_lags(rt: HostRuntime) -> Result<(), Fail> {
     store(&rt, &mut watcher, 1, &view)?;
     assert_eq!(rt; watcher.complete().stamp.round, 2);
     stop(&rt, &mut watcher, 1)?;
-    assert!(rt; watcher.broken() == None);
+    assert!(rt; watcher.broken_at() == None);
     stop(&rt, &mut watcher, 0)?;
-    assert!(rt; watcher.broken() == Some(5));
+    assert!(rt; watcher.broken_at() == Some(5));
     Ok(())
 }
 
@@ -90,7 +90,7 @@ fn who_left_is_not_lost(rt: HostRuntime) -> Result<(), Fail> {
     watcher.finish(Name::of_byte(1), &gone);
     for (name, broken) in [(1, None), (2, None), (0, Some(4))] {
         stop(&rt, &mut watcher, name)?;
-        assert!(rt; watcher.broken() == broken, "at {name}");
+        assert!(rt; watcher.broken_at() == broken, "at {name}");
     }
     Ok(())
 }

@@ -2,7 +2,7 @@ ghost use Rattle.std.specs.Prelude.{◌≡◌, map, if◌then◌else◌};
 ghost use Rattle.am_base.specs.Stamps.{stamp_eq};
 ghost use Rattle.am_model.specs.Node.{is_member, founding_stamp};
 ghost use Rattle.am_model.specs.World.{has_departed};
-ghost use Rattle.am_watch.specs.Watching.{unseen, first_standing, first_view, same_flag, is_alike, decides, unstored, stored_by, or_else, placed_by};
+ghost use Rattle.am_watch.specs.Watching.{blank_standing, first_standing, first_view, same_flag, is_alike, decides, new_pending, store_view, or_else, place_view};
 
 use am_base::founding::Founding;
 use am_base::name::{Name, Stamp};
@@ -82,8 +82,8 @@ fn is_same_stamp(a: &Stamp, b: &Stamp) -> bool
 }
 
 /// What a name shows before its first step.
-pub fn unseen() -> Standing
-    ensures { result ≡ unseen }
+pub fn blank_standing() -> Standing
+    ensures { result ≡ blank_standing }
 {
     Standing {
         status: Status::Stranger,
@@ -110,7 +110,7 @@ pub fn first_standing(founding: &Founding, name: Name) -> Standing
     ensures { result ≡ first_standing founding.now name }
 {
     if !founding.founders().has(name) {
-        return unseen();
+        return blank_standing();
     }
     Standing {
         status: Status::Member,
@@ -150,8 +150,8 @@ pub fn decides(before: &Standing, name: Name, after: &Standing) -> bool
 }
 
 /// A view that nobody has stored.
-pub fn unstored(view: &DecidedView) -> Pending
-    ensures { result ≡ unstored view.now }
+pub fn new_pending(view: &DecidedView) -> Pending
+    ensures { result ≡ new_pending view.now }
 {
     Pending {
         view: *view,
@@ -161,7 +161,7 @@ pub fn unstored(view: &DecidedView) -> Pending
 }
 
 fn store(v: &mut Pending, name: Name, stamp: &Stamp)
-    ensures { v.new ≡ stored_by name stamp.now v.old }
+    ensures { v.new ≡ store_view name stamp.now v.old }
 {
     if is_same_stamp(stamp, &v.view.stamp) {
         v.stored[usize::from(name.get())] = true;
@@ -170,7 +170,7 @@ fn store(v: &mut Pending, name: Name, stamp: &Stamp)
 
 /// The name stored the View of this stamp.
 pub fn store_in_each(pending: &mut [Pending], name: Name, stamp: &Stamp)
-    ensures { pending.new ≡ map (stored_by name stamp.now) pending.old }
+    ensures { pending.new ≡ map (store_view name stamp.now) pending.old }
 {
     for v in pending.iter_mut() {
         store(v, name, stamp);
@@ -187,7 +187,7 @@ fn number_after(known: Option<u32>, is_it: bool, number: u32) -> Option<u32>
 }
 
 fn place(v: &mut Pending, number: u32, stamp: &Stamp)
-    ensures { v.new ≡ placed_by number stamp.now v.old }
+    ensures { v.new ≡ place_view number stamp.now v.old }
 {
     let is_it = is_same_stamp(stamp, &v.view.stamp);
     v.number_in_group = number_after(v.number_in_group, is_it, number);
@@ -195,7 +195,7 @@ fn place(v: &mut Pending, number: u32, stamp: &Stamp)
 
 /// The group list goes on by the View of this stamp, which has this number.
 pub fn place_in_each(pending: &mut [Pending], number: u32, stamp: &Stamp)
-    ensures { pending.new ≡ map (placed_by number stamp.now) pending.old }
+    ensures { pending.new ≡ map (place_view number stamp.now) pending.old }
 {
     for v in pending.iter_mut() {
         place(v, number, stamp);

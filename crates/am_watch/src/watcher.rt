@@ -1,12 +1,12 @@
 ghost use Rattle.std.specs.Prelude.{◌≡◌, ◌&&◌, ◌||◌, ◌+◌, ◌<◌, ◌≤◌, ◌∷◌, [], OnOk, true, not, nat_lt, count_by, map, filter, slice_index_or};
 ghost use Rattle.std.specs.List.{list_any, range_with_len};
 ghost use Rattle.am_base.specs.Names.{names_of, name_at};
-ghost use Rattle.am_watch.specs.Watching.{begun, unseen, first_standing, standing, has_stopped, is_by, has_stored, lags, is_complete, greater, greatest, is_lost, is_lawful, broken_now, looked, passed, stopped, is_alike, with_standing, with_decided, with_entry, finished, accepted, is_above, stored_by, placed_by};
+ghost use Rattle.am_watch.specs.Watching.{first_watching, blank_standing, first_standing, standing, has_stopped, is_by, has_stored, lags, is_complete, greater, greatest, is_lost, is_lawful, broken_now, look, pass, stop, is_alike, with_standing, with_decided, with_entry, finish, accept, is_above, store_view, place_view};
 ghost use Rattle.am_watch.specs.Watchers.{watching_of, HasRoom};
 
 use crate::views::{
-    DecidedView, Pending, Standing, decides, first_standing, first_view, has_departed, is_alike,
-    place_in_each, store_in_each, unseen, unstored,
+    DecidedView, Pending, Standing, blank_standing, decides, first_standing, first_view,
+    has_departed, is_alike, new_pending, place_in_each, store_in_each,
 };
 use am_base::NoMemory;
 use am_base::entry::Entry;
@@ -41,7 +41,7 @@ fn is_by(number: Option<u32>, from: u32) -> bool
 fn first_standings(founding: &Founding) -> [Standing; 256]
     ensures { result ≡ map (first_standing founding.now) (range_with_len 0 256) }
 {
-    let mut names = [unseen(); 256];
+    let mut names = [blank_standing(); 256];
     for byte in 0..256usize {
         names[byte] = first_standing(founding, Name::of_byte(byte as u8));
     }
@@ -55,13 +55,13 @@ fn keep_above(pending: &mut Vec<Pending>, stamp: Stamp)
 }
 
 fn store_in_all(pending: &mut Vec<Pending>, name: Name, stamp: &Stamp)
-    ensures { pending.new.items ≡ map (stored_by name stamp.now) pending.old.items }
+    ensures { pending.new.items ≡ map (store_view name stamp.now) pending.old.items }
 {
     store_in_each(pending.as_mut_slice(), name, stamp);
 }
 
 fn place_in_all(pending: &mut Vec<Pending>, number: u32, stamp: &Stamp)
-    ensures { pending.new.items ≡ map (placed_by number stamp.now) pending.old.items }
+    ensures { pending.new.items ≡ map (place_view number stamp.now) pending.old.items }
 {
     place_in_each(pending.as_mut_slice(), number, stamp);
 }
@@ -69,7 +69,7 @@ fn place_in_all(pending: &mut Vec<Pending>, number: u32, stamp: &Stamp)
 impl Watcher {
     /// Watches a run that has no events yet.
     pub fn new(alloc: Global, founding: &Founding) -> Watcher
-        ensures { watching_of result ≡ begun founding.now }
+        ensures { watching_of result ≡ first_watching founding.now }
     {
         Watcher {
             names: first_standings(founding),
@@ -83,7 +83,7 @@ impl Watcher {
     }
 
     /// The number of the first event after which the run wasn't lawful; None exactly as long as it is.
-    pub fn broken(&self) -> Option<u32>
+    pub fn broken_at(&self) -> Option<u32>
         ensures { result ≡ (watching_of self.now).broken }
     {
         self.broken
@@ -267,10 +267,10 @@ impl Watcher {
     }
 
     /// An event is over after which a view may have become complete, or somebody was lost.
-    #[tactic(auto, unfolding(crate::specs::Watching::looked))]
+    #[tactic(auto, unfolding(crate::specs::Watching::look))]
     fn look(&mut self)
         requires { (watching_of self.old).count < 4294967295 }
-        ensures { watching_of self.new ≡ looked (watching_of self.old) }
+        ensures { watching_of self.new ≡ look (watching_of self.old) }
     {
         let best = self.greatest();
         self.broken = self.broken_after(&best);
@@ -283,7 +283,7 @@ impl Watcher {
     /// An event of a kind that changes no node, after which nobody has stopped who hadn't.
     pub fn pass(&mut self)
         requires { (watching_of self.old).count < 4294967295 }
-        ensures { watching_of self.new ≡ passed (watching_of self.old) }
+        ensures { watching_of self.new ≡ pass (watching_of self.old) }
     {
         self.count += 1;
     }
@@ -292,7 +292,7 @@ impl Watcher {
     pub fn stop(&mut self, name: Name)
         requires room { HasRoom self.old }
         requires few { (watching_of self.old).count < 4294967295 }
-        ensures { watching_of self.new ≡ stopped (watching_of self.old) name }
+        ensures { watching_of self.new ≡ stop (watching_of self.old) name }
     {
         self.stopped.push_reserved(name);
         self.look();
@@ -306,7 +306,7 @@ impl Watcher {
             (watching_of self.old) name after.now view.now }
     {
         if decides(&self.standing(name), name, after) && self.complete.stamp.is_below(view.stamp) {
-            self.pending.push_reserved(unstored(view));
+            self.pending.push_reserved(new_pending(view));
         }
     }
 
@@ -342,7 +342,7 @@ impl Watcher {
     /// The name's step is over.
     pub fn finish(&mut self, name: Name, after: &Standing)
         requires { (watching_of self.old).count < 4294967295 }
-        ensures { watching_of self.new ≡ finished (watching_of self.old) name after.now }
+        ensures { watching_of self.new ≡ finish (watching_of self.old) name after.now }
     {
         if self.is_quiet(name, after) {
             self.stand(name, after);
@@ -355,7 +355,7 @@ impl Watcher {
 
     /// The group list goes on by an entry, which has this number.
     pub fn accept(&mut self, number: u32, entry: &Entry)
-        ensures { watching_of self.new ≡ accepted (watching_of self.old) number (entry.now ∷ []) }
+        ensures { watching_of self.new ≡ accept (watching_of self.old) number (entry.now ∷ []) }
     {
         match entry {
             Entry::Data { .. } => {}

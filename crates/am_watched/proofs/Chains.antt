@@ -10,7 +10,7 @@ use Rattle.am_base.specs.Lists.{Log}
 use Rattle.am_packet.specs.declared.packet.Packet.TheVariants as packet
 use Rattle.am_model.specs.declared.status.Status.{Status}
 use Rattle.am_model.specs.declared.status.Status.TheVariants as status
-use Rattle.am_model.specs.Node.{Node, Ballot, view, acts, is_sequencer, is_member, is_asking, pushed}
+use Rattle.am_model.specs.Node.{Node, Ballot, view, acts, is_sequencer, is_member, is_asking, push_entry}
 use Rattle.am_model.specs.Ballots.{Verdict}
 use Rattle.am_model.specs.Refresh.{refresh, settle}
 use Rattle.am_model.specs.Hearing.{hears_member, hears_in_view, hears_sequencer}
@@ -96,7 +96,7 @@ change_longer m x y (stores_view s v base number names resilience is by own othe
     longer_pushed m x y (View v names resilience) (hears_log x s by) refl h
 change_longer m x y (asks_to_join is was) k h = record { bare = λ f. h.bare (ap has_log was); more = h.more; is = h.is }
 change_longer m x y (closes leads leaves alone room) k h =
-    let p = pushed x (Leave x.core.who) in
+    let p = push_entry x (Leave x.core.who) in
     let r = rests_at_end p in
     longer_pushed m x y (Leave x.core.who) refl (ap (λ (l : Log). l.entries) r.log) h
 change_longer m x y _ k h = longer_same m x y refl refl h
@@ -122,7 +122,7 @@ change_begins g heard x y refreshes h = let e = ap (λ (l : Log). l.start) (rest
 change_begins g heard x y settles h = let e = ap (λ (n : Node). n.core.log.start) (settle_is x) in omega arith
 change_begins g heard x y (begins_list s v base join image is o may) h = heard.welcome s v base join image is
 change_begins g heard x y (looks b verdict over why look is) h = look_begins g x b verdict look h
-change_begins g heard x y (closes leads leaves alone room) h = let e = ap (λ (l : Log). l.start) (rests_at_end (pushed x (Leave x.core.who))).log in omega arith
+change_begins g heard x y (closes leads leaves alone room) h = let e = ap (λ (l : Log). l.start) (rests_at_end (push_entry x (Leave x.core.who))).log in omega arith
 change_begins g heard x y _ h = h
 
 -- a list that is there begins where it did
@@ -135,7 +135,7 @@ change_stays x y refreshes t = ap (λ (l : Log). l.start) (rests_refresh x).log
 change_stays x y settles t = ap (λ (n : Node). n.core.log.start) (settle_is x)
 change_stays x y (begins_list s v base join image is o may) t = absurd (let f = welcomed_none x s v base join image may in cc)
 change_stays x y (looks b verdict over why look is) t = look_stays x b verdict look
-change_stays x y (closes leads leaves alone room) t = ap (λ (l : Log). l.start) (rests_at_end (pushed x (Leave x.core.who))).log
+change_stays x y (closes leads leaves alone room) t = ap (λ (l : Log). l.start) (rests_at_end (push_entry x (Leave x.core.who))).log
 change_stays x y _ t = refl
 
 pub changes_stay : {c : Cause} {o : Outcome} (x n : Node) → HeardNames c → Changes c o x n → HasNames x → Balloted x → has_log x.status ≡ true

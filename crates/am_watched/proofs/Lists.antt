@@ -12,7 +12,7 @@ use Rattle.am_group.specs.declared.event.Event.{Event}
 use Rattle.am_model.specs.Node.{Node}
 use Rattle.am_model.specs.Emit.{Step}
 use Rattle.am_model.specs.Group.{has_log}
-use Rattle.am_model.specs.World.{World, start, first_node, unchanged, stepped, run}
+use Rattle.am_model.specs.World.{World, start, first_node, with_record, with_step, run}
 use Rattle.am_model.specs.Claims.{heard_by}
 use Rattle.am_model.proofs.Greatest.{split}
 use Rattle.am_effects.specs.Causes.{Cause}
@@ -46,7 +46,7 @@ step_longer rules w e c s cause effect h =
     (record { bare = h.bare (actor w e) few; more = []; is = sym (append-nil m.core.log.entries) })
 
 pub each_lists : (rules : Rules) → EachKeeps (AllLists rules)
-unfolding unchanged stepped
+unfolding with_record with_step
 each_lists rules w e v (idles o idle) h = record { views = each_views rules w e v (idles o idle) h.views; bare = h.bare }
 each_lists rules w e v (stops runs) h = record { views = each_views rules w e v (stops runs) h.views; bare = h.bare }
 each_lists rules w e v (returns place is left more) h = record { views = each_views rules w e v (returns place is left more) h.views; bare = h.bare }
@@ -85,7 +85,7 @@ is_itself : (name : ℕ) → (name == name) ≡ true
 is_itself name = grind (arith, nat_tests)
 
 pub lists_go_on : ListsGoOn
-unfolding stepped
+unfolding with_step
 lists_go_on rules events e c s may runs cause effect =
     let w = run rules events in
     let name = actor w e in
@@ -93,7 +93,7 @@ lists_go_on rules events e c s may runs cause effect =
     let n = s.node in
     let h = run_lists rules events may in
     let longer = step_longer rules w e c s cause effect h in
-    let named : AllNamed rules (stepped w e name s) = each_named rules w e (stepped w e name s) (steps c s runs cause effect) h.views.named in
+    let named : AllNamed rules (with_step w e name s) = each_named rules w e (with_step w e name s) (steps c s runs cause effect) h.views.named in
     let low : NodeNumbers (length events) (length w.group) m = (numbers_hold rules events).each name in
     let first : m.core.log.start ≤ length w.group = let a = low.kept in let b = low.base in omega arith in
     record {

@@ -12,8 +12,8 @@ use Rattle.am_base.specs.declared.event.NodeEvent.TheVariants as does
 use Rattle.am_base.specs.Stamps.{stamp_lt, stamp_eq}
 use Rattle.am_base.specs.Lists.{Log, members_of, fits, entry_at, told_by}
 use Rattle.am_packet.specs.declared.packet.Packet.TheVariants as packet
-use Rattle.am_model.specs.Node.{Node, Ballot, top, told, view, members, unsettled, pushed, trimmed}
-use Rattle.am_model.specs.Ballots.{Verdict, overtaken, need_of, left_in, trimmed_for}
+use Rattle.am_model.specs.Node.{Node, Ballot, top, image_of, view, members, unsettled_count, push_entry, trim_up_to}
+use Rattle.am_model.specs.Ballots.{Verdict, overtake, need_of, left_in, trim_for}
 use Rattle.am_model.specs.Calls.{is_unfinished}
 use Rattle.am_model.specs.Group.{has_log}
 use Rattle.am_model.specs.Receiving.{is_view}
@@ -28,7 +28,7 @@ use Rattle.am_effects.specs.Changes.{stores_view, asks_to_leave, closes}
 use Rattle.am_effects.proofs.Rests.{rests_refresh, rests_at_end, settle_is}
 use Rattle.am_effects.proofs.Says.{told_pushed, view_pushed}
 use Rattle.am_laws.proofs.Stamps.{same_stamp, at_most_below}
-use Rattle.am_laws.proofs.ViewSteps.{entry_stays, after_same, after_view, view_last, entry_last}
+use Rattle.am_laws.proofs.ViewSteps.{entry_stays, after_same, view_last, view_there}
 use Rattle.am_laws.proofs.ViewChanges.{Balloted}
 use Rattle.am_laws.proofs.Views.{same_is_equal}
 use Rattle.am_laws.proofs.ViewMembers.{data_members, viewed_members, those_some, those_long}
@@ -118,7 +118,7 @@ viewed_same c old x y who log stays (decided h) = decided (record {
 })
 
 -- an entry that is no View, where a decided view stays whole
-viewed_plain : (c : Cause) (old : Stamp) (x y : Node) (e : Entry) → is_view e ≡ false → y.core.who ≡ x.core.who → y.core.log ≡ (pushed x e).core.log
+viewed_plain : (c : Cause) (old : Stamp) (x y : Node) (e : Entry) → is_view e ≡ false → y.core.who ≡ x.core.who → y.core.log ≡ (push_entry x e).core.log
     → (IsFresh c x → IsFresh c y) → Viewed c old x → Viewed c old y
 viewed_plain c old x y e plain who log f (as_before h) = as_before (ap (λ (l : Log). (told_by l).view) log ∙ view_pushed x e plain ∙ h)
 viewed_plain c old x y e plain who log f (of_other h) = of_other ((λ i. (told_by (log i)).view.by == who i)
@@ -126,28 +126,23 @@ viewed_plain c old x y e plain who log f (of_other h) = of_other ((λ i. (told_b
 viewed_plain c old x y e plain who log f (decided h) = decided (f h)
 
 -- a send more
-whole_sent : (x : Node) (from req : ℕ) (body : List ℕ) → length (told x).rows ≡ 16 → Whole x.core.log → Whole (pushed x (Data from req body)).core.log
+whole_sent : (x : Node) (from req : ℕ) (body : List ℕ) → length (image_of x).rows ≡ 16 → Whole x.core.log → Whole (push_entry x (Data from req body)).core.log
 whole_sent x from req body long h =
     let e = Data from req body in
     let is = told_pushed x e in
-    let same = after_same (told x) (top x + 1) e refl in
-    let number : (told (pushed x e)).view_number ≡ (told x).view_number = ap (λ (i : Image). i.view_number) is ∙ same.number in
-    let v : view (pushed x e) ≡ view x = ap (λ (i : Image). i.view) is ∙ same.view in
-    let r : (told (pushed x e)).resilience ≡ (told x).resilience = ap (λ (i : Image). i.resilience) is ∙ same.resilience in
-    let m : members (pushed x e) ≡ members x = ap members_of is ∙ data_members (told x) (top x + 1) from req body long in
-    ap (entry_at (pushed x e).core.log) number ∙ entry_stays x.core.log e _ (told x).view_number h ∙ (λ i. Some (View (sym v i) (sym m i) (sym r i)))
+    let same = after_same (image_of x) (top x + 1) e refl in
+    let number : (image_of (push_entry x e)).view_number ≡ (image_of x).view_number = ap (λ (i : Image). i.view_number) is ∙ same.number in
+    let v : view (push_entry x e) ≡ view x = ap (λ (i : Image). i.view) is ∙ same.view in
+    let r : (image_of (push_entry x e)).resilience ≡ (image_of x).resilience = ap (λ (i : Image). i.resilience) is ∙ same.resilience in
+    let m : members (push_entry x e) ≡ members x = ap members_of is ∙ data_members (image_of x) (top x + 1) from req body long in
+    ap (entry_at (push_entry x e).core.log) number ∙ entry_stays x.core.log e _ (image_of x).view_number h ∙ (λ i. Some (View (sym v i) (sym m i) (sym r i)))
 
 -- the View that is decided
-whole_decided : (x : Node) (stamp : Stamp) (names : List ℕ) (resilience : ℕ) → members (pushed x (View stamp names resilience)) ≡ names
-    → Whole (pushed x (View stamp names resilience)).core.log
+whole_decided : (x : Node) (stamp : Stamp) (names : List ℕ) (resilience : ℕ) → members (push_entry x (View stamp names resilience)) ≡ names
+    → Whole (push_entry x (View stamp names resilience)).core.log
 whole_decided x stamp names resilience same =
-    let e = View stamp names resilience in
-    let is = told_pushed x e in
-    let new = after_view (told x) (top x + 1) stamp names resilience in
-    let v : view (pushed x e) ≡ stamp = ap (λ (i : Image). i.view) is ∙ new.0 in
-    let n : (told (pushed x e)).view_number ≡ top x + 1 = ap (λ (i : Image). i.view_number) is ∙ new.1 in
-    let r : (told (pushed x e)).resilience ≡ resilience = ap (λ (i : Image). i.resilience) is ∙ new.2 in
-    ap (entry_at (pushed x e).core.log) n ∙ entry_last x e ∙ (λ i. Some (View (sym v i) (sym same i) (sym r i)))
+    let n = push_entry x (View stamp names resilience) in
+    view_there x stamp names resilience ∙ (λ i. Some (View (view n) (sym same i) (image_of n).resilience))
 
 -- ---- who has an unfinished ballot doesn't leave
 
@@ -162,7 +157,7 @@ looked_quiet c m b (with_more old s v shown is by low high open_ same stays) h =
 looked_quiet c m b (without_one old name is open_ other) h = open_quiet m old open_ h
 looked_quiet c m b (as_it_is old open_ on) h = open_quiet m old open_ h
 
-overtaken_quiet : (by : Stamp) (ballot : Option Ballot) → is_unfinished (overtaken by ballot) ≡ true → is_unfinished ballot ≡ true
+overtaken_quiet : (by : Stamp) (ballot : Option Ballot) → is_unfinished (overtake by ballot) ≡ true → is_unfinished ballot ≡ true
 overtaken_quiet by None t = t
 overtaken_quiet by (Some b) t = split (not b.is_over && stamp_lt b.stamp by) (λ u. absurd (let z = rw u at t in cc)) (λ f. rw f at t)
 
@@ -180,8 +175,8 @@ change_quiet m n settles h = subst Quiet (sym (settle_is m)) h
 change_quiet m n (promises v low why) h = λ t. h (overtaken_quiet v m.ballot t)
 change_quiet m n (opens least resilience by may) h = λ t. may.stays
 change_quiet m n (looks b verdict over why look is) h = λ t. look_leaving m b verdict look ∙ looked_quiet _ m b why h
-change_quiet m n (asks_to_leave is was stays done) h = λ t. absurd (let f = or_last (nat_lt 0 (unsettled m)) (is_unfinished m.ballot) done in cc)
-change_quiet m n (closes leads leaves alone room) h = let r = (rests_at_end (pushed m (Leave m.core.who))).rests in
+change_quiet m n (asks_to_leave is was stays done) h = λ t. absurd (let f = or_last (nat_lt 0 (unsettled_count m)) (is_unfinished m.ballot) done in cc)
+change_quiet m n (closes leads leaves alone room) h = let r = (rests_at_end (push_entry m (Leave m.core.who))).rests in
     λ t. r.leaving ∙ h (sym (ap is_unfinished r.ballot) ∙ t)
 change_quiet m n _ h = h
 
@@ -193,7 +188,7 @@ numbers_plain c m e (own_send s is last) = refl
 numbers_plain c m e (asked_join s v is other fit) = refl
 numbers_plain c m e (asked_leave s v report is other known stays) = refl
 
-fresh_numbered : (c : Cause) (m : Node) (e : Entry) → Numbers c m e → length (told m).rows ≡ 16 → IsFresh c m → IsFresh c (pushed m e)
+fresh_numbered : (c : Cause) (m : Node) (e : Entry) → Numbers c m e → length (image_of m).rows ≡ 16 → IsFresh c m → IsFresh c (push_entry m e)
 fresh_numbered c m e (asked_send s v report req body by known stays next) long h =
     record { whole = whole_sent m s req body long h.whole; by = subst (LooksBy c) (sym (view_pushed m e refl)) h.by; stays = h.stays }
 fresh_numbered c m e (own_send s is last) long h = record {
@@ -209,21 +204,21 @@ carried_alters : (c : Cause) (m : Node) (s : ℕ) (v : Stamp) (base acc number :
 carried_alters c m s v base acc number e (whole_entry x is) = subst Alters (sym is) tt
 carried_alters c m s v base acc number e (by_number from req body is found) = subst Alters (sym is) tt
 
-look_viewed : (c : Cause) (old : Stamp) (m : Node) (b : Ballot) (v : Verdict) → Looks m b v → LooksBy c b.stamp → m.leaving ≡ false → length (told m).rows ≡ 16
+look_viewed : (c : Cause) (old : Stamp) (m : Node) (b : Ballot) (v : Verdict) → Looks m b v → LooksBy c b.stamp → m.leaving ≡ false → length (image_of m).rows ≡ 16
     → b.votes m.core.who ≡ None → Viewed c old m → Viewed c old v.node
 look_viewed c old m b v (decides may) by stays long none h =
     let test : ℕ → Bool = λ name. not (b.given_up name) in
     let names = left_in b (need_of m b) in
-    let before = trimmed_for m b names in
-    let r = max b.resilience (told m).resilience in
+    let before = trim_for m b names in
+    let r = max b.resilience (image_of m).resilience in
     let e = View b.stamp names r in
     let need = own_need m b may.learned.own none in
     let some : (place : ℕ) → place < 16 → (slice_index names place ≡ 0) ⊎ (slice_index names place ≡ slice_index (members m) place) =
     λ place low. ⊎_elim (λ (z : slice_index names place ≡ 0). inl z)
     (λ (z : slice_index names place ≡ slice_index (need_of m b) place). inr (z ∙ ap (λ set. slice_index set place) need))
     (those_some test (need_of m b) place low) in
-    let same : members (pushed before e) ≡ names = ap members_of (told_pushed before e)
-    ∙ viewed_members (told m) (top m + 1) b.stamp names r long (omega arith) (those_long test (need_of m b)) some in
+    let same : members (push_entry before e) ≡ names = ap members_of (told_pushed before e)
+    ∙ viewed_members (image_of m) (top m + 1) b.stamp names r long (omega arith) (those_long test (need_of m b)) some in
     decided (record {
       whole = whole_decided before b.stamp names r same;
       by = subst (LooksBy c) (sym (view_last before b.stamp names r)) by;
@@ -234,21 +229,21 @@ look_viewed c old m b v _ by stays long none h = viewed_same c old m v.node refl
 -- a fetched entry
 fetch_viewed : (c : Cause) (old : Stamp) (nodes : ℕ → Node) (name : ℕ) (m : Node) (s : ℕ) (v : Stamp) (base number : ℕ) (e : Entry)
     → c ≡ hears (packet.Piece s v base number e) → stamp_eq (view m) v ≡ false → m.core.who ≡ name → Known nodes e
-    → stamp_lt (view m) (view (nodes name)) ≡ false → fits (told m) e ≡ true → Viewed c old m → Viewed c old (pushed (trimmed m base) e)
+    → stamp_lt (view m) (view (nodes name)) ≡ false → fits (image_of m) e ≡ true → Viewed c old m → Viewed c old (push_entry (trim_up_to m base) e)
 unfolding fits
 fetch_viewed c old nodes name m s v base number (Data from req body) is below who known up fit h =
-    viewed_plain c old m (pushed (trimmed m base) (Data from req body)) (Data from req body) refl refl refl
+    viewed_plain c old m (push_entry (trim_up_to m base) (Data from req body)) (Data from req body) refl refl refl
     (λ k. absurd (fetched_for c (view m) k.by s v base number _ is below)) h
 fetch_viewed c old nodes name m s v base number (Join joiner) is below who known up fit h =
-    viewed_plain c old m (pushed (trimmed m base) (Join joiner)) (Join joiner) refl refl refl
+    viewed_plain c old m (push_entry (trim_up_to m base) (Join joiner)) (Join joiner) refl refl refl
     (λ k. absurd (fetched_for c (view m) k.by s v base number _ is below)) h
 fetch_viewed c old nodes name m s v base number (Leave leaver) is below who known up fit h =
-    viewed_plain c old m (pushed (trimmed m base) (Leave leaver)) (Leave leaver) refl refl refl
+    viewed_plain c old m (push_entry (trim_up_to m base) (Leave leaver)) (Leave leaver) refl refl refl
     (λ k. absurd (fetched_for c (view m) k.by s v base number _ is below)) h
 fetch_viewed c old nodes name m s v base number (View stamp names resilience) is below who known up fit h =
     let e = View stamp names resilience in
     let above = (and_both (stamp_lt (view m) stamp) _ fit).0 in
-    let last = view_last (trimmed m base) stamp names resilience in
+    let last = view_last (trim_up_to m base) stamp names resilience in
     split (stamp.by == m.core.who)
     (λ t.
     let mine : stamp.by ≡ name = (let x : stamp.by ≡ m.core.who = grind (arith, nat_tests) in x ∙ who) in
@@ -258,7 +253,7 @@ fetch_viewed c old nodes name m s v base number (View stamp names resilience) is
     (λ f. of_other (ap (λ (x : Stamp). x.by == m.core.who) last ∙ f))
 
 pub change_viewed : (nodes : ℕ → Node) (name : ℕ) (c : Cause) (o : Outcome) (old : Stamp) (m n : Node) → HeardOwn nodes c → Change c o m n
-    → has_log m.status ≡ true → m.core.who ≡ name → stamp_lt (view m) (view (nodes name)) ≡ false → length (told m).rows ≡ 16 → NoOwnVote m.core.who m.ballot
+    → has_log m.status ≡ true → m.core.who ≡ name → stamp_lt (view m) (view (nodes name)) ≡ false → length (image_of m).rows ≡ 16 → NoOwnVote m.core.who m.ballot
     → Balloted m → Quiet m → Viewed c old m → Viewed c old n
 change_viewed nodes name c o old m n heard refreshes log who up long none k q h = let r = rests_refresh m in
     viewed_same c old m (refresh m) r.rests.who r.log r.rests.leaving h
@@ -275,13 +270,13 @@ change_viewed nodes name c o old m n heard (looks b verdict over why look is) lo
 change_viewed nodes name c o old m n heard (fetches s v base number e is by promise below from may) log who up long none k q h =
     fetch_viewed c old nodes name m s v base number e is below who (heard.piece s v base number e is) up may.fits h
 change_viewed nodes name c o old m n heard (stores_view s v base number names resilience is by own other promise below may) log who up long none k q h =
-    of_other (ap (λ (x : Stamp). x.by == m.core.who) (view_last (trimmed m base) v names resilience) ∙ other)
+    of_other (ap (λ (x : Stamp). x.by == m.core.who) (view_last (trim_up_to m base) v names resilience) ∙ other)
 change_viewed nodes name c o old m n heard (asks_to_leave is was stays done) log who up long none k q (as_before x) = as_before x
 change_viewed nodes name c o old m n heard (asks_to_leave is was stays done) log who up long none k q (of_other x) = of_other x
 change_viewed nodes name c o old m n heard (asks_to_leave is was stays done) log who up long none k q (decided x) =
     absurd (never_both c (view m) x.by (subst Alters (sym is) tt))
 change_viewed nodes name c o old m n heard (closes leads leaves alone room) log who up long none k q h =
     let e = Leave m.core.who in
-    let r = rests_at_end (pushed m e) in
+    let r = rests_at_end (push_entry m e) in
     viewed_plain c old m n e refl r.rests.who r.log (λ z. absurd (let f = z.stays in cc)) h
 change_viewed nodes name c o old m n heard _ log who up long none k q h = viewed_same c old m n refl refl refl h

@@ -10,10 +10,10 @@ use Rattle.am_base.specs.Names.{has}
 use Rattle.am_base.specs.Stamps.{stamp_lt, stamp_eq}
 use Rattle.am_base.specs.Lists.{entry_at, after, fold}
 use Rattle.am_group.specs.declared.event.Event.{Event}
-use Rattle.am_model.specs.Node.{Node, told, view, set_at, is_member}
+use Rattle.am_model.specs.Node.{Node, image_of, view, set_at, is_member}
 use Rattle.am_model.specs.Emit.{Step}
 use Rattle.am_model.specs.Group.{has_log}
-use Rattle.am_model.specs.World.{Decided, World, start, first_node, founders_decided, last_view, views_after, unchanged, stepped, run}
+use Rattle.am_model.specs.World.{Decided, World, start, first_node, founders_decided, last_view, views_after, with_record, with_step, run}
 use Rattle.am_model.specs.World as runs
 use Rattle.am_model.proofs.Greatest.{split, and_both}
 use Rattle.am_effects.specs.Causes.{Cause}
@@ -100,7 +100,7 @@ views_whole nodes name n views d who new h =
     let at : set_at nodes name n (view n).by ≡ n = ap (set_at nodes name n) by ∙ ap (λ (q : Bool). if q then n else m) (is_itself name) in
     let one : WholeView (set_at nodes name n) (last_view n) = record {
       log_ = ap (λ (x : Node). has_log x.status) at ∙ d.log_ (log_of_member m.status a.0);
-      there = ap (λ (x : Node). entry_at x.core.log (told n).view_number) at ∙ new t;
+      there = ap (λ (x : Node). entry_at x.core.log (image_of n).view_number) at ∙ new t;
     } in
     rw t (All-append (WholeView (set_at nodes name n)) views (last_view n ∷ []) old
     (All-cons (WholeView (set_at nodes name n)) (last_view n) [] one (All-nil (WholeView (set_at nodes name n))))))
@@ -130,8 +130,8 @@ decided_whole c m n t (of_other f) = absurd (
 decided_whole c m n t (decided fresh) = fresh.whole
 
 members_step : (rules : Rules) (w : World) (e : Event) (c : Cause) (s : Step) → IsCause w (actor w e) e.act c → Effect (w.nodes (actor w e)) c s
-    → AllOwn rules (stepped w e (actor w e) s) → AllOwned rules (stepped w e (actor w e) s) → AllMembers rules w → AllMembers rules (stepped w e (actor w e) s)
-unfolding stepped
+    → AllOwn rules (with_step w e (actor w e) s) → AllOwned rules (with_step w e (actor w e) s) → AllMembers rules w → AllMembers rules (with_step w e (actor w e) s)
+unfolding with_step
 members_step rules w e c s cause effect own owned h =
     let name = actor w e in
     let m = w.nodes name in
@@ -167,7 +167,7 @@ members_same : (rules : Rules) (w v : World) → v.nodes ≡ w.nodes → v.views
 members_same rules w v nodes views own owned h = record { own = own; owned = owned; quiet = rw nodes h.quiet; whole = rw (nodes, views) h.whole }
 
 each_members : (rules : Rules) → EachKeeps (AllMembers rules)
-unfolding unchanged
+unfolding with_record
 each_members rules w e v (idles o idle) h = members_same rules w v refl refl (each_own rules w e v (idles o idle) h.own)
     (each_owned rules w e v (idles o idle) h.owned) h
 each_members rules w e v (stops runs_) h = members_same rules w v refl refl (each_own rules w e v (stops runs_) h.own)

@@ -20,7 +20,7 @@ use Rattle.am_model.specs.Node.{Node, view, acts, is_member, set_at, founders_vi
 use Rattle.am_model.specs.Emit.{Step}
 use Rattle.am_model.specs.Group.{has_log}
 use Rattle.am_model.specs.World as runs
-use Rattle.am_model.specs.World.{World, start, first_node, unchanged, stepped, group_after, run}
+use Rattle.am_model.specs.World.{World, start, first_node, with_step, group_after, run}
 use Rattle.am_model.specs.Lawful.{is_view_of}
 use Rattle.am_model.specs.Claims.{heard_by}
 use Rattle.am_model.proofs.Greatest.{split, and_both}
@@ -28,10 +28,10 @@ use Rattle.am_effects.specs.Causes.{Cause}
 use Rattle.am_effects.specs.Letters.{MayTell, leads, decided, Says}
 use Rattle.am_effects.specs.Letters.{piece, result, LetterSays}
 use Rattle.am_effects.specs.Effects.{Effect}
-use Rattle.am_effects.specs.Events.{actor, WasSentTo, IsCause, steps, Happens}
+use Rattle.am_effects.specs.Events.{actor, WasSentTo, IsCause}
 use Rattle.am_effects.proofs.Items.{all_get, all_item}
-use Rattle.am_effects.proofs.Runs.{EachKeeps, runs_keep}
-use Rattle.am_laws.specs.Packets.{stamp_of}
+use Rattle.am_effects.proofs.Runs.{EachKeeps, StepsKeep, SameParts, law_keeps, runs_keep}
+use Rattle.am_codec.specs.Spelling.{stamp_of}
 use Rattle.am_model.proofs.Founders.{first_founder}
 use Rattle.am_laws.proofs.Named.{few_names}
 use Rattle.am_laws.proofs.Stamps.{at_most, not_above_itself, same_stamp}
@@ -58,14 +58,19 @@ LetterKnown nodes l = PacketKnown nodes l.packet
 abbrev ToldNode : Node → Type 0
 ToldNode m = Told m.core.who m.core.promise m.ballot
 
+-- of nodes, letters and the group list
+pub record OwnKept (nodes : ℕ → Node) (letters : List Letter) (list : List Entry) : Type 0 where
+  pub promises : (name : ℕ) → Below nodes (nodes name).core.promise
+  pub told : (name : ℕ) → ToldNode (nodes name)
+  pub entries : (name : ℕ) → All (Known nodes) (nodes name).core.log.entries
+  pub stamps : All (StampBelow nodes) letters
+  pub heard : All (LetterKnown nodes) letters
+  pub group : All (Known nodes) list
+
 pub record AllOwn (rules : Rules) (w : World) : Type 0 where
   pub lists : AllLists rules w
-  pub promises : (name : ℕ) → Below w.nodes (w.nodes name).core.promise
-  pub told : (name : ℕ) → ToldNode (w.nodes name)
-  pub entries : (name : ℕ) → All (Known w.nodes) (w.nodes name).core.log.entries
-  pub stamps : All (StampBelow w.nodes) w.letters
-  pub heard : All (LetterKnown w.nodes) w.letters
-  pub group : All (Known w.nodes) w.group
+  pub own : OwnKept w.nodes w.letters w.group
+  pub open own use *
 
 -- ---- a step of a name
 
@@ -189,9 +194,8 @@ step_of rules w e c s cause effect h =
           changes_along w.nodes name (heard_own rules w e c h cause) names m s.node effect.changes kept.names kept.balloted first;
     }
 
-own_step : (rules : Rules) (w : World) (e : Event) (c : Cause) (s : Step) → IsCause w (actor w e) e.act c → Effect (w.nodes (actor w e)) c s
-    → AllLists rules (stepped w e (actor w e) s) → AllOwn rules w → AllOwn rules (stepped w e (actor w e) s)
-unfolding stepped
+own_step : (rules : Rules) → StepsKeep (AllLists rules) (AllOwn rules)
+unfolding with_step
 own_step rules w e c s cause effect lists h =
     let name = actor w e in
     let m = w.nodes name in
@@ -220,42 +224,31 @@ own_step rules w e c s cause effect lists h =
     })) in
     record {
       lists = lists;
-      promises = λ other. split (other == name)
-          (λ t. rw t promise)
-          (λ f. rw f (below_up w.nodes name n d a.rises (w.nodes other).core.promise (h.promises other)));
-      told = λ other. split (other == name) (λ t. rw t a.told) (λ f. rw f (h.told other));
-      entries = λ other. split (other == name)
-          (λ t. rw t mine)
-          (λ f. rw f (All-weaker (Known w.nodes) (Known next) up (w.nodes other).core.log.entries (h.entries other)));
-      stamps = All-append (StampBelow next) w.letters s.letters
-          (All-weaker (StampBelow w.nodes) (StampBelow next) (λ l k. below_up w.nodes name n d a.rises (stamp_of l.packet) k) w.letters h.stamps)
-          (All-weaker (LetterSays m c x) (StampBelow next) (λ l k. subst (Below next) (ap (λ y. y.promise) same
-          ∙ sym (says_stamp m x c l.to l.packet k.says)) promise) s.letters effect.letters);
-      heard = All-append (LetterKnown next) w.letters s.letters
-          (All-weaker (LetterKnown w.nodes) (LetterKnown next) (λ l k. packet_up w.nodes name n d a.rises l.packet k) w.letters h.heard)
-          (All-weaker (LetterSays m c x) (LetterKnown next) (λ l k. says_known next m x c l.to l.packet sender_entries sender_told own k.says) s.letters
-          effect.letters);
-      group = grown_known next w.group n (All-weaker (Known w.nodes) (Known next) up w.group h.group) mine;
+      own = record {
+        promises = λ other. split (other == name)
+            (λ t. rw t promise)
+            (λ f. rw f (below_up w.nodes name n d a.rises (w.nodes other).core.promise (h.promises other)));
+        told = λ other. split (other == name) (λ t. rw t a.told) (λ f. rw f (h.told other));
+        entries = λ other. split (other == name)
+            (λ t. rw t mine)
+            (λ f. rw f (All-weaker (Known w.nodes) (Known next) up (w.nodes other).core.log.entries (h.entries other)));
+        stamps = All-append (StampBelow next) w.letters s.letters
+            (All-weaker (StampBelow w.nodes) (StampBelow next) (λ l k. below_up w.nodes name n d a.rises (stamp_of l.packet) k) w.letters h.stamps)
+            (All-weaker (LetterSays m c x) (StampBelow next) (λ l k. subst (Below next) (ap (λ y. y.promise) same
+            ∙ sym (says_stamp m x c l.to l.packet k.says)) promise) s.letters effect.letters);
+        heard = All-append (LetterKnown next) w.letters s.letters
+            (All-weaker (LetterKnown w.nodes) (LetterKnown next) (λ l k. packet_up w.nodes name n d a.rises l.packet k) w.letters h.heard)
+            (All-weaker (LetterSays m c x) (LetterKnown next) (λ l k. says_known next m x c l.to l.packet sender_entries sender_told own k.says) s.letters
+            effect.letters);
+        group = grown_known next w.group n (All-weaker (Known w.nodes) (Known next) up w.group h.group) mine;
+      };
     }
 
-own_same : (rules : Rules) (w v : World) → v.nodes ≡ w.nodes → v.letters ≡ w.letters → v.group ≡ w.group → AllLists rules v → AllOwn rules w → AllOwn rules v
-own_same rules w v nodes letters group lists h = record {
-  lists = lists;
-  promises = rw nodes h.promises;
-  told = rw nodes h.told;
-  entries = rw nodes h.entries;
-  stamps = rw (nodes, letters) h.stamps;
-  heard = rw (nodes, letters) h.heard;
-  group = rw (nodes, group) h.group;
-}
-
-own_after : (rules : Rules) (w : World) (e : Event) (v : World) → Happens w e v → AllLists rules v → AllOwn rules w → AllOwn rules v
-unfolding unchanged
-own_after rules w e v (steps c s runs cause effect) lists h = own_step rules w e c s cause effect lists h
-own_after rules w e v _ lists h = own_same rules w v refl refl refl lists h
+own_same : (rules : Rules) (w v : World) → SameParts w v → AllLists rules v → AllOwn rules w → AllOwn rules v
+own_same rules w v same lists h = record { lists = lists; own = rw (same.nodes, same.letters, same.group) h.own }
 
 pub each_own : (rules : Rules) → EachKeeps (AllOwn rules)
-each_own rules w e v happens h = own_after rules w e v happens (each_lists rules w e v happens h.lists) h
+each_own rules = law_keeps (AllLists rules) (AllOwn rules) (each_lists rules) (λ w h. h.lists) (own_step rules) (own_same rules)
 
 -- ---- the start
 
@@ -291,12 +284,14 @@ entries_first rules may name = split (has rules.founders name)
 pub own_start : (rules : Rules) → MayFound rules → AllOwn rules (start rules)
 own_start rules may = record {
   lists = lists_start rules may;
-  promises = promise_first rules may;
-  told = told_first rules;
-  entries = entries_first rules may;
-  stamps = All-nil (StampBelow (first_node rules));
-  heard = All-nil (LetterKnown (first_node rules));
-  group = All-cons (Known (first_node rules)) (founders_view rules) [] (first_known rules may) (All-nil (Known (first_node rules)));
+  own = record {
+    promises = promise_first rules may;
+    told = told_first rules;
+    entries = entries_first rules may;
+    stamps = All-nil (StampBelow (first_node rules));
+    heard = All-nil (LetterKnown (first_node rules));
+    group = All-cons (Known (first_node rules)) (founders_view rules) [] (first_known rules may) (All-nil (Known (first_node rules)));
+  };
 }
 
 pub run_own : (rules : Rules) (events : List Event) → MayFound rules → AllOwn rules (run rules events)

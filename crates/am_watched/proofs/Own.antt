@@ -14,8 +14,8 @@ use Rattle.am_base.specs.Stamps.{stamp_lt}
 use Rattle.am_base.specs.Lists.{Log}
 use Rattle.am_packet.specs.declared.packet.Packet.{Packet}
 use Rattle.am_packet.specs.declared.packet.Packet.TheVariants as packet
-use Rattle.am_model.specs.Node.{Node, Ballot, view, is_member, is_asking, pushed}
-use Rattle.am_model.specs.Ballots.{Verdict, next_stamp, need_of, left_in, trimmed_for}
+use Rattle.am_model.specs.Node.{Node, Ballot, view, is_member, is_asking, push_entry}
+use Rattle.am_model.specs.Ballots.{Verdict, next_stamp, need_of, left_in, trim_for}
 use Rattle.am_model.specs.Refresh.{refresh, settle}
 use Rattle.am_model.specs.Receiving.{is_view}
 use Rattle.am_model.specs.Group.{has_log}
@@ -27,7 +27,7 @@ use Rattle.am_effects.specs.Changes.{Promises, invited, overtaken as overtaken_b
 use Rattle.am_effects.specs.Changes.{refreshes, settles, numbers, stores, begins_list, promises, opens, looks}
 use Rattle.am_effects.specs.Changes.{fetches, stores_view, closes, Changes, unchanged, changed}
 use Rattle.am_effects.proofs.Rests.{rests_refresh, rests_at_end, settle_is}
-use Rattle.am_laws.specs.Packets.{stamp_of}
+use Rattle.am_codec.specs.Spelling.{stamp_of}
 use Rattle.am_laws.proofs.Stamps.{at_most, not_above, not_above_itself}
 use Rattle.am_laws.proofs.ViewNames.{HasNames, HeardNames}
 use Rattle.am_laws.proofs.ViewSteps.{Goes, SameView, Stood, view_last}
@@ -177,7 +177,7 @@ look_along : (nodes : ℕ → Node) (name : ℕ) (x : Node) (b : Ballot) (v : Ve
     → has_log x.status ≡ true → Along nodes name x → Along nodes name v.node
 look_along nodes name x b v (decides may) d o log h =
     let names = left_in b (need_of x b) in
-    let same : view v.node ≡ b.stamp = view_last (trimmed_for x b names) b.stamp names _ in
+    let same : view v.node ≡ b.stamp = view_last (trim_for x b names) b.stamp names _ in
     let own : IsOwn name v.node b.stamp = record {
       by = o.own ∙ h.who;
       low =
@@ -256,7 +256,7 @@ change_along nodes name heard x y (fetches s v base number e is by promise below
 change_along nodes name heard x y (stores_view s v base number names resilience is by own other promise below may) d k h =
     along_pushed nodes name x y (View v names resilience) refl refl refl refl (inl (heard.result s v base number names resilience is own)) d h
 change_along nodes name heard x y (closes leads leaves alone room) d k h =
-    let r = rests_at_end (pushed x (Leave x.core.who)) in
+    let r = rests_at_end (push_entry x (Leave x.core.who)) in
     along_pushed nodes name x y (Leave x.core.who) r.rests.who r.rests.promise (ap (λ (l : Log). l.entries) r.log) r.rests.ballot tt d h
 change_along nodes name heard x y _ d k h = along_same nodes name x y refl refl refl refl d h
 

@@ -1,8 +1,7 @@
 -- What a commit leaves.
-use Rattle.std.proofs.Common.{◌≡◌, ℕ, ◌+◌, ◌*◌, ◌<◌, Bool, true, false, List, [], ◌∷◌, ◌++◌, length, take, drop, Result, Ok, Err, IfOk, OnOk, OnErr, sym, refl}
+use Rattle.std.proofs.Common.{◌≡◌, ℕ, ◌+◌, ◌<◌, Bool, true, false, List, [], ◌∷◌, ◌++◌, length, take, drop, Result, Ok, Err, IfOk, OnOk, OnErr, sym, refl}
 use Rattle.std.proofs.Common.{ap, ◌∙◌, subst, arith, eq-eqb}
-use Rattle.std.specs.Prelude.{All, if◌then◌else◌}
-use Rattle.std.proofs.lemmas.List.{length-take}
+use Rattle.std.specs.Prelude.{if◌then◌else◌}
 use Rattle.am_base.specs.Most.{most_events}
 use Rattle.atomic_table.specs.Seated.{TableId}
 use Rattle.am_group.specs.declared.event.Record.{Record}
@@ -68,19 +67,16 @@ once_alone key same =
     let g : times key (key ∷ []) ≡ one (same_key key key) + times key [] = e in
     omega arith
 
+once_among : (key : Key) (keys : List Key) → keys ≡ key ∷ [] → same_key key key ≡ true → times key keys ≡ 1
+once_among key keys is same = ap (times key) is ∙ once_alone key same
+
 pub has_place : (next : Terms → List Record → Record → Type 0) (p q : Known) (t : Sat) (place : ℕ) → Holds next p q t → p.keys ≡ Place place ∷ []
     → 0 < times (Place place) t.0.keys
-has_place next p q t place holds is =
-    let k = holds.keys (Place place) in
-    let o : times (Place place) p.keys ≡ 1 = ap (times (Place place)) is ∙ once_alone (Place place) (eq-eqb place place refl) in
-    omega arith
+has_place next p q t place holds is = omega (arith, holds.keys (Place place), once_among (Place place) p.keys is (eq-eqb place place refl))
 
 pub has_caller : (next : Terms → List Record → Record → Type 0) (p q : Known) (t : Sat) (caller : ℕ) → Holds next p q t → q.keys ≡ Caller caller ∷ []
     → 0 < times (Caller caller) t.0.keys
-has_caller next p q t caller holds is =
-    let k = holds.keys (Caller caller) in
-    let o : times (Caller caller) q.keys ≡ 1 = ap (times (Caller caller)) is ∙ once_alone (Caller caller) (eq-eqb caller caller refl) in
-    omega arith
+has_caller next p q t caller holds is = omega (arith, holds.keys (Caller caller), once_among (Caller caller) q.keys is (eq-eqb caller caller refl))
 
 -- by what others had added, the record comes next
 pub next_then : (next : Terms → List Record → Record → Type 0) (p q : Known) (t : Sat) (item : Record) → Holds next p q t

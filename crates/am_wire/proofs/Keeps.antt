@@ -1,5 +1,5 @@
 -- Each step of a wire keeps its rule.
-use Rattle.std.proofs.Common.{◌≡◌, ◌≢◌, ◌⊎◌, ℕ, zero, suc, ◌+◌, ◌*◌, ◌%◌, ◌^◌, ◌<◌, ◌≤◌, Bool, cond, true, false, true≢false, eqb, List, [], ◌∷◌, ◌++◌, length}
+use Rattle.std.proofs.Common.{◌≡◌, ◌≢◌, ◌⊎◌, ℕ, zero, suc, ◌+◌, ◌%◌, ◌^◌, ◌<◌, ◌≤◌, Bool, cond, true, false, true≢false, eqb, List, [], ◌∷◌, ◌++◌, length}
 use Rattle.std.proofs.Common.{take, drop, map, set, sym, refl, ap, ◌∙◌, subst, inl, inr, arith, append-nil, append_assoc, length-append, ap₂, eq-eqb}
 use Rattle.std.specs.Prelude.{slice_index, All, if◌then◌else◌}
 use Rattle.am_base.specs.Most.{most_events}
@@ -22,8 +22,8 @@ use Rattle.am_wire.specs.declared.rule.Terms.{Terms}
 use Rattle.am_wire.specs.declared.rule.View.{View}
 use Rattle.am_wire.specs.Keys.{is_of, of_key, same_key, times, is_key, all_keys}
 use Rattle.am_wire.specs.Stops.{Page}
-use Rattle.am_wire.specs.Seats.{view, sight_of, no_terms, longer, StartsWith, GoesOn, Follows, Shown, Sat, standing, Fits, IsFree, Stands, IsIdle, HasTurn}
-use Rattle.am_wire.specs.Seats.{took, carried, counted, gave, Looks, looked, Unites}
+use Rattle.am_wire.specs.Seats.{view, sight_of, no_terms, longer, StartsWith, GoesOn, Follows, Shown, Sat, standing, Fits, IsFree, IsTaken, Stands, IsIdle, HasTurn}
+use Rattle.am_wire.specs.Seats.{take_step, page_records, count_step, give_step, Looks, look_step, Unites}
 use Rattle.am_wire.specs.Passes.{HasAll}
 use Rattle.am_wire.proofs.Dealt.{each_once}
 use Rattle.am_wire.proofs.Views.{rest_of, starts_by, starts_through, key_append, goes_same, times_append, times_cons, BothGo, both_go, stand_set, stand_last}
@@ -34,19 +34,17 @@ page terms log = record { founding = terms.founding; records = log }
 
 -- ---- two words
 
-two_words : (ws : List ℕ) (n : ℕ) → length ws ≡ 2
-    → (length (set ws 0 n) ≡ 2) × (slice_index (set ws 0 n) 0 ≡ n) × (slice_index (set ws 0 n) 1 ≡ slice_index ws 1)
-two_words [] n e = absurd (omega arith)
-two_words (a ∷ []) n e = absurd (omega arith)
-two_words (a ∷ b ∷ []) n e = (refl, refl, refl)
-two_words (a ∷ b ∷ c ∷ ws) n e = absurd (omega arith)
+-- with another word at one of the two places
+record Written (ws : List ℕ) (n place other : ℕ) : Type 0 where
+  two : length (set ws place n) ≡ 2
+  here : slice_index (set ws place n) place ≡ n
+  there : slice_index (set ws place n) other ≡ slice_index ws other
 
-two_counts : (ws : List ℕ) (n : ℕ) → length ws ≡ 2
-    → (length (set ws 1 n) ≡ 2) × (slice_index (set ws 1 n) 1 ≡ n) × (slice_index (set ws 1 n) 0 ≡ slice_index ws 0)
-two_counts [] n e = absurd (omega arith)
-two_counts (a ∷ []) n e = absurd (omega arith)
-two_counts (a ∷ b ∷ []) n e = (refl, refl, refl)
-two_counts (a ∷ b ∷ c ∷ ws) n e = absurd (omega arith)
+written : (ws : List ℕ) (n : ℕ) → length ws ≡ 2 → Written ws n 0 1 × Written ws n 1 0
+written [] n e = absurd (omega arith)
+written (a ∷ []) n e = absurd (omega arith)
+written (a ∷ b ∷ []) n e = (record { two = refl; here = refl; there = refl }, record { two = refl; here = refl; there = refl })
+written (a ∷ b ∷ c ∷ ws) n e = absurd (omega arith)
 
 same_word : (ws : List ℕ) (n : ℕ) → length ws ≡ 2 → slice_index ws 0 ≡ n → set ws 0 n ≡ ws
 same_word [] n e is = absurd (omega arith)
@@ -86,6 +84,16 @@ nothing_there before rest r e = let n : length (before ++ r ∷ rest) ≡ 0 = ap
 
 none_older : (P : Sight → Type 0) → All P []
 none_older P = λ k d h. absurd (omega arith)
+
+-- what a seat has seen, without the turn
+unturned : (terms : Terms) (log : List Record) (v : View) → Fits terms log v → Fits terms log (view v.terms v.keys v.seen [] false)
+unturned terms log v fits = record {
+  goes = fits.goes;
+  older = none_older _;
+  founded = fits.founded;
+  whole = λ bad. absurd (true≢false (sym bad));
+  keyed = λ bad. absurd (true≢false (sym bad));
+}
 
 -- the whole journal, as the seat with the turn sees it
 all_seen : (terms : Terms) (log old : List Record) (v : View) → Fits terms old v → 0 < length v.keys → Fits terms log (view v.terms v.keys log [] true)
@@ -129,39 +137,75 @@ turns_through : (us vs ws : List View) → SameTurns us vs → SameTurns vs ws �
 unfolding SameTurns
 turns_through us vs ws p q = λ j u has. ((λ here. (q j u has).0 ((p j u has).0 here)), λ here. (p j u has).1 ((q j u has).1 here))
 
+-- the rule of the same journal
+same_log : (next : Terms → List Record → Record → Type 0) (terms : Terms) (s s' : Shown) (k : Stands next terms s) → length s'.words ≡ 2
+    → slice_index s'.words 1 ≡ slice_index s.words 1 → ((key : Key) → standing key s'.views ≡ (if is_key terms.callers key then 1 else 0))
+    → ((id : ℕ) (v : View) → get_elem? s'.views id ≡ some v → Fits terms k.log v) → IsFree terms s' k.log ⊎ IsTaken s' → Stands next terms s'
+same_log next terms s s' k two counts once fits turn =
+    record { log = k.log; two = two; count = counts ∙ k.count; most = k.most; lawful = k.lawful; callers = k.callers; once = once; fits = fits; turn = turn }
+
 -- the rule with other views
 with_views : (next : Terms → List Record → Record → Type 0) (terms : Terms) (s : Shown) (k : Stands next terms s) (vs : List View)
     → ((key : Key) → standing key vs ≡ (if is_key terms.callers key then 1 else 0))
     → ((id : ℕ) (v : View) → get_elem? vs id ≡ some v → Fits terms k.log v) → SameTurns s.views vs
     → Stands next terms (record { words = s.words; homes = s.homes; views = vs })
 unfolding SameTurns
-with_views next terms s k vs once fits turns = record {
-  log = k.log;
-  two = k.two;
-  count = k.count;
-  most = k.most;
-  lawful = k.lawful;
-  callers = k.callers;
-  once = once;
-  fits = fits;
-  turn = elim k.turn [
-    | inl free ↦ inl (record {
-      word = free.word;
-      home = free.home;
-      nobody = λ id v at. not_true v.turn (λ has. absurd (true≢false (sym has
-          ∙ free.nobody id v ((turns id v has).1 at))));
-    })
-    | inr taken ↦ inr (record {
-      word = taken.word;
-      home = taken.home;
-      holder = taken.holder;
-      its = taken.its;
-      there = (turns taken.holder taken.its taken.has).0 taken.there;
-      has = taken.has;
-      only = λ id v at has. taken.only id v ((turns id v has).1 at) has;
-    })
+with_views next terms s k vs once fits turns = same_log next terms s (record { words = s.words; homes = s.homes; views = vs }) k k.two refl once fits
+    (elim k.turn [
+      | inl free ↦ inl (record {
+        word = free.word;
+        home = free.home;
+        nobody = λ id v at. not_true v.turn (λ has. absurd (true≢false (sym has
+            ∙ free.nobody id v ((turns id v has).1 at))));
+      })
+      | inr taken ↦ inr (record {
+        word = taken.word;
+        home = taken.home;
+        holder = taken.holder;
+        its = taken.its;
+        there = (turns taken.holder taken.its taken.has).0 taken.there;
+        has = taken.has;
+        only = λ id v at has. taken.only id v ((turns id v has).1 at) has;
+      })
+    ])
+
+-- a seat has the turn
+holds_turn : (words : List ℕ) (homes : List (Option Page)) (views : List View) (id : ℕ) (v new : View) → slice_index words 0 ≡ 1 → homes ≡ none ∷ []
+    → get_elem? views id ≡ some v → new.turn ≡ true → ((j : ℕ) (u : View) → get_elem? views j ≡ some u → u.turn ≡ true → j ≡ id)
+    → IsTaken (record { words = words; homes = homes; views = set views id new })
+holds_turn words homes views id v new word home at has others = record {
+  word = word;
+  home = home;
+  holder = id;
+  its = new;
+  there = new_there views id v new at;
+  has = has;
+  only = λ j u here turn. elim (at_set views id j new u here) [
+    | inl t ↦ t.0
+    | inr t ↦ others j u t.1 turn
   ];
 }
+
+-- the turn is the seat's that has it
+its_turn : (next : Terms → List Record → Record → Type 0) (terms : Terms) (s : Shown) → Stands next terms s → (id : ℕ) (v : View)
+    → get_elem? s.views id ≡ some v → v.turn ≡ true → IsTaken s
+its_turn next terms s k id v at has = elim k.turn [
+  | inl free ↦ absurd (true≢false (sym has ∙ free.nobody id v at))
+  | inr taken ↦ taken
+]
+
+-- the rule where a seat takes the turn or gives it back
+seat_turns : (next : Terms → List Record → Record → Type 0) (terms : Terms) (s : Shown) (k : Stands next terms s) (n id : ℕ) (old new : View)
+    (homes : List (Option Page)) → get_elem? s.views id ≡ some old → new.keys ≡ old.keys → Fits terms k.log new
+    → IsFree terms (record { words = set s.words 0 n; homes = homes; views = set s.views id new }) k.log
+    ⊎ IsTaken (record { words = set s.words 0 n; homes = homes; views = set s.views id new })
+    → Stands next terms (record { words = set s.words 0 n; homes = homes; views = set s.views id new })
+seat_turns next terms s k n id old new homes at same fits turn = let w = (written s.words n k.two).0 in
+    same_log next terms s (record { words = set s.words 0 n; homes = homes; views = set s.views id new }) k w.two w.there
+    (kept_keys next terms s k id old new at same) (λ j v here. elim (at_set s.views id j new v here) [
+      | inl t ↦ subst (Fits terms k.log) t.1 fits
+      | inr t ↦ k.fits j v t.1
+    ]) turn
 
 -- ---- taking the slot
 
@@ -171,31 +215,9 @@ free_takes : (next : Terms → List Record → Record → Type 0) (terms : Terms
     → Stands next terms (stepped s 0 1 id me.1 (view me.0.terms me.0.keys k.log [] true) (takes 0 (page terms k.log)))
 free_takes next terms s k id me free keyed at =
     let new : View = view me.0.terms me.0.keys k.log [] true in
-    let w = two_words s.words 1 k.two in record {
-      log = k.log;
-      two = w.0;
-      count = w.2 ∙ k.count;
-      most = k.most;
-      lawful = k.lawful;
-      callers = k.callers;
-      once = kept_keys next terms s k id me.0 new at refl;
-      fits = λ j v here. elim (at_set s.views id j new v here) [
-        | inl t ↦ subst (Fits terms k.log) t.1 (all_seen terms k.log k.log me.0 (k.fits id me.0 at) keyed)
-        | inr t ↦ k.fits j v t.1
-      ];
-      turn = inr (record {
-        word = w.1;
-        home = ap (λ hs. set hs 0 none) free.home;
-        holder = id;
-        its = new;
-        there = new_there s.views id me.0 new at;
-        has = refl;
-        only = λ j v here has. elim (at_set s.views id j new v here) [
-          | inl t ↦ t.0
-          | inr t ↦ absurd (true≢false (sym has ∙ free.nobody j v t.1))
-        ];
-      });
-    }
+    seat_turns next terms s k 1 id me.0 new (set s.homes 0 none) at refl (all_seen terms k.log k.log me.0 (k.fits id me.0 at) keyed) (inr
+    (holds_turn (set s.words 0 1) (set s.homes 0 none) s.views id me.0 new (written s.words 1 k.two).0.here (ap (λ hs. set hs 0 none) free.home) at refl
+    (λ j v here has. absurd (true≢false (sym has ∙ free.nobody j v here)))))
 
 unmoved : (next : Terms → List Record → Record → Type 0) (terms : Terms) (s : Shown) (k : Stands next terms s) (n id : ℕ) (me : Sat) → slice_index s.words 0 ≡ n
     → get_elem? s.views id ≡ some me.0
@@ -206,7 +228,7 @@ unmoved next terms s k n id me is at =
     subst (λ (t : List ℕ × List View). Stands next terms (record { words = t.0; homes = s.homes; views = t.1 })) (λ i. (sym same_words i, sym same_views i)) k
 
 pub take_allows : (next : Terms → List Record → Record → Type 0) (terms : Terms) (slots id : ℕ) (me : Sat) → IsIdle me → 0 < length me.0.keys
-    → Allows (Stands next terms) slots id me 0 (λ n. either (eqb n 0) 1 n) (took next (step slots 0 0 1 none) me)
+    → Allows (Stands next terms) slots id me 0 (λ n. either (eqb n 0) 1 n) (take_step next (step slots 0 0 1 none) me)
 take_allows next terms slots id me idle keyed s k len at small = elim k.turn [
   | inl free ↦ let x : slice_index s.words 0 ≡ 0 = free.word in let new : View = view me.0.terms me.0.keys k.log [] true in (
     new,
@@ -244,50 +266,27 @@ take_allows next terms slots id me idle keyed s k len at small = elim k.turn [
 -- ---- giving it back
 
 pub give_allows : (next : Terms → List Record → Record → Type 0) (terms : Terms) (slots id : ℕ) (me : Sat) → HasTurn me
-    → Allows (Stands next terms) slots id me 0 (λ _. 0) (λ _. gave (step slots 0 0 0 none) me 0)
+    → Allows (Stands next terms) slots id me 0 (λ _. 0) (λ _. give_step (step slots 0 0 0 none) me 0)
 give_allows next terms slots id me has s k len at small =
     let mine = k.fits id me.0 at in
     let whole : me.0.seen ≡ k.log = mine.whole has.turn in
     let founded : me.0.terms ≡ terms = mine.founded (mine.keyed has.turn) in
     let new : View = view me.0.terms me.0.keys me.0.seen [] false in
-    let w = two_words s.words 0 k.two in
-    elim k.turn [
-      | inl free ↦ absurd (true≢false (sym has.turn ∙ free.nobody id me.0 at))
-      | inr taken ↦ (
-        new,
-        gives,
-        tt,
-        record {
-          log = k.log;
-          two = w.0;
-          count = w.2 ∙ k.count;
-          most = k.most;
-          lawful = k.lawful;
-          callers = k.callers;
-          once = kept_keys next terms s k id me.0 new at refl;
-          fits = λ j v here. elim (at_set s.views id j new v here) [
-            | inl t ↦ subst (Fits terms k.log) t.1 (record {
-              goes = mine.goes;
-              older = none_older _;
-              founded = mine.founded;
-              whole = λ bad. absurd (true≢false (sym bad));
-              keyed = λ bad. absurd (true≢false (sym bad));
-            })
-            | inr t ↦ k.fits j v t.1
-          ];
-          turn = inl (record {
-            word = w.1;
-            home = given s.homes me.1 (record { founding = me.0.terms.founding; records = me.0.seen }) (page terms k.log) taken.home has.page (ap₂
-                (λ (f : Terms) (l : List Record). record { founding = f.founding; records = l }) founded whole);
-            nobody = λ j v here. elim (at_set s.views id j new v here) [
-              | inl t ↦ ap (λ (x : View). x.turn) (sym t.1)
-              | inr t ↦ not_true v.turn (λ is. t.0 (taken.only j v t.1 is ∙ sym (taken.only id me.0 at has.turn)))
-            ];
-          });
-        },
-        ap (λ (c : List (ℕ × Page)). (new, rest c)) has.page,
-      )
-    ]
+    let taken = its_turn next terms s k id me.0 at has.turn in (
+      new,
+      gives,
+      tt,
+      seat_turns next terms s k 0 id me.0 new (put_back s.homes me.1) at refl (unturned terms k.log me.0 mine) (inl (record {
+        word = (written s.words 0 k.two).0.here;
+        home = given s.homes me.1 (record { founding = me.0.terms.founding; records = me.0.seen }) (page terms k.log) taken.home has.page (ap₂
+            (λ (f : Terms) (l : List Record). record { founding = f.founding; records = l }) founded whole);
+        nobody = λ j v here. elim (at_set s.views id j new v here) [
+          | inl t ↦ ap (λ (x : View). x.turn) (sym t.1)
+          | inr t ↦ not_true v.turn (λ is. t.0 (taken.only j v t.1 is ∙ sym (taken.only id me.0 at has.turn)))
+        ];
+      })),
+      ap (λ (c : List (ℕ × Page)). (new, rest c)) has.page,
+    )
   where
     given : (hs : List (Option Page)) (c : List (ℕ × Page)) (seen log : Page) → hs ≡ none ∷ [] → c ≡ (0, seen) ∷ [] → seen ≡ log → put_back hs c ≡ some log ∷ []
     given hs c seen log h e is = ap₂ put_back h e ∙ ap (λ (x : Page). some x ∷ []) is
@@ -398,16 +397,16 @@ others_fit next terms s k id me r may at j u apart here off = let old = k.fits j
 }
 
 pub count_allows : (next : Terms → List Record → Record → Type 0) (terms : Terms) (slots id : ℕ) (me : Sat) (r : Record) → MayCount next me r
-    → Allows (Stands next terms) slots id me 1 (λ n. (n + 1) % 2 ^ 64) (counted (step slots 1 1 0 none) me)
+    → Allows (Stands next terms) slots id me 1 (λ n. (n + 1) % 2 ^ 64) (count_step (step slots 1 1 0 none) me)
 count_allows next terms slots id me r may s k len at small =
     let x : ℕ = slice_index s.words 1 in
     let mine = k.fits id me.0 at in
     let whole : me.0.seen ≡ k.log = mine.whole may.turn in
     let more : List Record = k.log ++ r ∷ [] in
-    let is : carried me.1 ≡ more = ap carried may.page ∙ ap (λ (l : List Record). l ++ r ∷ []) whole in
-    let new : View = view me.0.terms me.0.keys (carried me.1) [] true in
+    let is : page_records me.1 ≡ more = ap page_records may.page ∙ ap (λ (l : List Record). l ++ r ∷ []) whole in
+    let new : View = view me.0.terms me.0.keys (page_records me.1) [] true in
     let n : ℕ = (x + 1) % 18446744073709551616 in
-    let w = two_counts s.words n k.two in
+    let w = (written s.words n k.two).1 in
     let at_x : x ≡ length k.log = k.count in
     let same : length me.0.seen ≡ length k.log = ap length whole in
     let grown : length more ≡ length k.log + 1 = length-append k.log (r ∷ []) in
@@ -417,43 +416,31 @@ count_allows next terms slots id me r may s k len at small =
     let lawful : Follows (next terms) more = follows_more (next terms) k.log r k.lawful
     (subst (λ (t : Terms). next t k.log r) founded (subst (λ (l : List Record). next me.0.terms l r) whole may.lawful)) in
     let caller : r.by.caller < terms.callers = ltb-true r.by.caller terms.callers (key_of_wire next terms s k (Caller r.by.caller) id me.0 at may.caller) in
-    elim k.turn [
-      | inl free ↦ absurd (true≢false (sym may.turn ∙ free.nobody id me.0 at))
-      | inr taken ↦ (
-        new,
-        keeps,
-        tt,
-        record {
-          log = more;
-          two = w.0;
-          count = w.1 ∙ counts;
-          most = omega arith;
-          lawful = lawful;
-          callers = All-append (λ (q : Record). q.by.caller < terms.callers) k.log (r ∷ []) k.callers (all_one
-              (λ (q : Record). q.by.caller < terms.callers) r caller);
-          once = kept_keys next terms s k id me.0 new at refl;
-          fits = λ j v here. elim (at_set s.views id j new v here) [
-            | inl t ↦ subst (Fits terms more) t.1
-                (subst (λ (l : List Record). Fits terms more (view me.0.terms me.0.keys l [] true)) (sym is) (all_seen terms more k.log me.0 mine
-                (mine.keyed may.turn)))
-            | inr t ↦ others_fit next terms s k id me r may at j v t.0 t.1 (λ has. absurd (t.0 (taken.only j v t.1 has ∙ sym (taken.only id me.0 at may.turn))))
-          ];
-          turn = inr (record {
-            word = w.2 ∙ taken.word;
-            home = taken.home;
-            holder = id;
-            its = new;
-            there = new_there s.views id me.0 new at;
-            has = refl;
-            only = λ j v here has. elim (at_set s.views id j new v here) [
-              | inl t ↦ t.0
-              | inr t ↦ taken.only j v t.1 has ∙ sym (taken.only id me.0 at may.turn)
-            ];
-          });
-        },
-        refl,
-      )
-    ]
+    let taken = its_turn next terms s k id me.0 at may.turn in
+    let only = λ (j : ℕ) (v : View) (there : get_elem? s.views j ≡ some v) (has : v.turn ≡ true). taken.only j v there has
+    ∙ sym (taken.only id me.0 at may.turn) in (
+      new,
+      keeps,
+      tt,
+      record {
+        log = more;
+        two = w.two;
+        count = w.here ∙ counts;
+        most = omega arith;
+        lawful = lawful;
+        callers = All-append (λ (q : Record). q.by.caller < terms.callers) k.log (r ∷ []) k.callers (all_one
+            (λ (q : Record). q.by.caller < terms.callers) r caller);
+        once = kept_keys next terms s k id me.0 new at refl;
+        fits = λ j v here. elim (at_set s.views id j new v here) [
+          | inl t ↦ subst (Fits terms more) t.1
+              (subst (λ (l : List Record). Fits terms more (view me.0.terms me.0.keys l [] true)) (sym is) (all_seen terms more k.log me.0 mine
+              (mine.keyed may.turn)))
+          | inr t ↦ others_fit next terms s k id me r may at j v t.0 t.1 (λ has. absurd (t.0 (only j v t.1 has)))
+        ];
+        turn = inr (holds_turn (set s.words 1 n) s.homes s.views id me.0 new (w.there ∙ taken.word) taken.home at refl only);
+      },
+      refl,
+    )
 
 -- ---- looking
 
@@ -461,7 +448,7 @@ no_longer : (log seen : List Record) → StartsWith log seen → length log ≤ 
 no_longer log seen begins most = omega (arith, length-take (length seen) log, ap length begins)
 
 pub look_allows : (next : Terms → List Record → Record → Type 0) (terms : Terms) (slots id : ℕ) (me : Sat) → me.0.turn ≡ false → me.1 ≡ []
-    → Allows (Stands next terms) slots id me 1 (λ n. n) (looked next (step slots 1 0 0 none) me)
+    → Allows (Stands next terms) slots id me 1 (λ n. n) (look_step next (step slots 1 0 0 none) me)
 look_allows next terms slots id me off empty s k len at small =
     let mine = k.fits id me.0 at in
     let new : View = view me.0.terms me.0.keys me.0.seen [] false in
@@ -473,13 +460,7 @@ look_allows next terms slots id me off empty s k len at small =
       subst (λ (ws : List ℕ). Stands next terms (record { words = ws; homes = s.homes; views = set s.views id new })) (sym same_words)
           (with_views next terms s k (set s.views id new) (kept_keys next terms s k id me.0 new at refl)
           (λ j v here. elim (at_set s.views id j new v here) [
-            | inl t ↦ subst (Fits terms k.log) t.1 (record {
-              goes = mine.goes;
-              older = none_older _;
-              founded = mine.founded;
-              whole = λ bad. absurd (true≢false (sym bad));
-              keyed = λ bad. absurd (true≢false (sym bad));
-            })
+            | inl t ↦ subst (Fits terms k.log) t.1 (unturned terms k.log me.0 mine)
             | inr t ↦ k.fits j v t.1
           ])
           (turns_set s.views id me.0 new at off refl)),

@@ -116,19 +116,19 @@ pub record Takes (next : Terms → List Record → Record → Type 0) (m m' : Sa
   pub terms : m'.0.terms ≡ m.0.terms
   pub lawful : Follows (next m'.0.terms) m'.0.seen
 
-abbrev pub took : (Terms → List Record → Record → Type 0) → Step Page → Sat → ℕ → Sat → Type 0
-took next st m n m' = (n ≡ 0 → Takes next m m') × (n ≢ 0 → m' ≡ m)
+abbrev pub take_step : (Terms → List Record → Record → Type 0) → Step Page → Sat → ℕ → Sat → Type 0
+take_step next st m n m' = (n ≡ 0 → Takes next m m') × (n ≢ 0 → m' ≡ m)
 
 -- the records that the seat carries
-abbrev pub carried : List (ℕ × Page) → List Record
-carried [] = []
-carried (x ∷ xs) = x.1.records
+abbrev pub page_records : List (ℕ × Page) → List Record
+page_records [] = []
+page_records (x ∷ xs) = x.1.records
 
-abbrev pub counted : Step Page → Sat → ℕ → Sat → Type 0
-counted st m n m' = m' ≡ (view m.0.terms m.0.keys (carried m.1) [] true, m.1)
+abbrev pub count_step : Step Page → Sat → ℕ → Sat → Type 0
+count_step st m n m' = m' ≡ (view m.0.terms m.0.keys (page_records m.1) [] true, m.1)
 
-abbrev pub gave : Step Page → Sat → ℕ → Sat → Type 0
-gave st m n m' = m' ≡ (view m.0.terms m.0.keys m.0.seen [] false, [])
+abbrev pub give_step : Step Page → Sat → ℕ → Sat → Type 0
+give_step st m n m' = m' ≡ (view m.0.terms m.0.keys m.0.seen [] false, [])
 
 -- what was seen goes on from each older sight, and each record of it comes next
 pub record Looks (next : Terms → List Record → Record → Type 0) (m m' : Sat) : Type 0 where
@@ -137,8 +137,8 @@ pub record Looks (next : Terms → List Record → Record → Type 0) (m m' : Sa
   pub lawful : 0 < length m.0.keys → Follows (next m.0.terms) m.0.seen
   pub few : length m.0.seen ≤ most_events
 
-abbrev pub looked : (Terms → List Record → Record → Type 0) → Step Page → Sat → ℕ → Sat → Type 0
-looked next st m n m' = Looks next m m'
+abbrev pub look_step : (Terms → List Record → Record → Type 0) → Step Page → Sat → ℕ → Sat → Type 0
+look_step next st m n m' = Looks next m m'
 
 -- one seat has the keys of both, and has seen the longer of what they had seen
 pub record Unites (next : Terms → List Record → Record → Type 0) (v w : View) (m : Sat) : Type 0 where

@@ -26,8 +26,8 @@ abbrev pub with_stop : List ℕ → Record → List ℕ
 with_stop stopped r = if is_stop r.event.act && has_life r then with_name stopped (name_of r) else stopped
 
 -- the names that stopped in these records
-abbrev pub stopped_in : List Record → List ℕ
-stopped_in records = fold with_stop nobody records
+abbrev pub stopped_names : List Record → List ℕ
+stopped_names records = fold with_stop nobody records
 
 -- a name has stopped in one of these records
 abbrev pub has_stopped : List Record → ℕ → Bool

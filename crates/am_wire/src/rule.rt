@@ -1,7 +1,7 @@
 //! The rule of the table on which a wire stands, and what its steps tell.
 ghost use Rattle.std.specs.Prelude.{[], ◌∷◌, ◌++◌, false, take, drop};
 ghost use Rattle.am_wire.specs.Keys.{all_keys};
-ghost use Rattle.am_wire.specs.Seats.{Stands, view, took, counted, gave, looked, longer, no_terms};
+ghost use Rattle.am_wire.specs.Seats.{Stands, view, take_step, count_step, give_step, look_step, longer, no_terms};
 
 use crate::sheet::Sheet;
 use am_base::founding::Founding;
@@ -66,28 +66,28 @@ impl<L: Law> TableRule<Sheet, View, Terms> for OneJournal<L> {
 pub struct Take<L: Law>(PhantomData<L>);
 
 impl<L: Law> Play<Sheet, View> for Take<L> {
-    ghost then = { took L.next };
+    ghost then = { take_step L.next };
 }
 
 /// Counts a record more.
 pub struct Count;
 
 impl Play<Sheet, View> for Count {
-    ghost then = { counted };
+    ghost then = { count_step };
 }
 
 /// Gives the slot back.
 pub struct Give;
 
 impl Play<Sheet, View> for Give {
-    ghost then = { gave };
+    ghost then = { give_step };
 }
 
 /// Looks at the count.
 pub struct Look<L: Law>(PhantomData<L>);
 
 impl<L: Law> Play<Sheet, View> for Look<L> {
-    ghost then = { looked L.next };
+    ghost then = { look_step L.next };
 }
 
 /// A new seat gets the first key.

@@ -2,7 +2,7 @@ ghost use Rattle.std.specs.Prelude.{◌≡◌, ◌<◌, ◌≤◌, ◌++◌, ◌
 ghost use Rattle.am_base.specs.Most.{most_events};
 ghost use Rattle.am_group.specs.Addressed.{next_for};
 ghost use Rattle.am_group.specs.Journals.{letters_of, letter_at};
-ghost use Rattle.am_wire.specs.Stops.{is_stop, with_stop, stopped_in};
+ghost use Rattle.am_wire.specs.Stops.{is_stop, with_stop, stopped_names};
 
 use am_base::NoMemory;
 use am_base::founding::Founding;
@@ -23,21 +23,23 @@ pub struct Sheet {
 
 impl Model for Sheet {
     ghost use Rattle.std.specs.Prelude.{◌≡◌};
-    ghost use Rattle.am_wire.specs.Stops.{Page, stopped_in};
+    ghost use Rattle.am_wire.specs.Stops.{Page, stopped_names};
 
     ghost Value = { Page };
 
     ghost view = { λ s. record { founding = s.journal.founding; records = s.journal.records } };
 
-    ghost invariant = { λ s. s.stopped ≡ stopped_in s.journal.records };
+    ghost invariant = { λ s. s.stopped ≡ stopped_names s.journal.records };
 }
 
+/// Whether an act is a stop.
 fn is_stop(act: &Act) -> bool
     ensures { result ≡ is_stop act.now }
 {
     matches!(act, Act::Stop)
 }
 
+/// The stopped names behind a record.
 fn with_stop(stopped: Names, item: &Record) -> Names
     ensures { result ≡ with_stop stopped item.now }
 {
@@ -88,7 +90,7 @@ impl Sheet {
         ensures { result ≡ letter_at (letters_of self.now.records) number }
     {
         match self.journal.packet(number) {
-            Some(letter) => Some(letter.copied()),
+            Some(letter) => Some(letter.copy()),
             None => None,
         }
     }
@@ -101,8 +103,8 @@ impl Sheet {
     }
 
     /// Who has stopped.
-    pub fn stopped(&self) -> Names
-        ensures { result ≡ stopped_in self.now.records }
+    pub fn stopped_names(&self) -> Names
+        ensures { result ≡ stopped_names self.now.records }
     {
         self.stopped
     }

@@ -139,7 +139,7 @@ fn two_threads_add(rt: HostRuntime) -> Result<(), Fail> {
     let (mut pass, mut share, done) = add_both(&rt, &wire, (one, mine, first), (two, its, second));
     assert!(rt; done);
     wire.meet(&mut pass, &mut share);
-    assert_eq!(rt; wire.stopped(&rt, &mut pass).mask(), 3);
+    assert_eq!(rt; wire.stopped_names(&rt, &mut pass).mask(), 3);
     let third = Name::of_byte(2);
     let found = [
         wire.next_for(&rt, &mut share, third, 0),

@@ -6,9 +6,9 @@ ghost use Rattle.am_group.specs.Journals.{letters_of, letter_at};
 ghost use Rattle.am_wire.specs.declared.rule.Key.TheVariants.{Place, Caller};
 ghost use Rattle.am_wire.specs.declared.wire.WireRefusal.TheVariants as refusals;
 ghost use Rattle.am_wire.specs.Keys.{place_keys, caller_keys, all_keys, times};
-ghost use Rattle.am_wire.specs.Stops.{stopped_in};
+ghost use Rattle.am_wire.specs.Stops.{stopped_names};
 ghost use Rattle.am_wire.specs.Seats.{IsIdle, HasTurn, Takes, Unites, Parts, Adds, Follows, view, longer};
-ghost use Rattle.am_wire.specs.Passes.{Rests, HasAll, Sees, Joined, IsReady, Committed, Gathered, fresh};
+ghost use Rattle.am_wire.specs.Passes.{Rests, HasAll, Sees, Joined, IsReady, Committed, Gathered, fresh, known_by};
 
 use crate::rule::{Count, FirstKey, Give, Law, Look, OneJournal, Take, Terms, Together, View};
 use crate::sheet::Sheet;
@@ -85,10 +85,11 @@ fn seat_in(badge: &mut Badge<View>) -> TableSeat
 }
 
 impl Pass {
+    /// The pass of a seat that has keys.
     fn of(seat: TableSeat) -> Pass
         requires idle { IsIdle seat.me }
         requires keyed { 0 < length seat.me.0.keys }
-        ensures { result ≡ record { wire = seat.table_id; terms = seat.me.0.terms; keys = seat.me.0.keys; seen = seat.me.0.seen } }
+        ensures { result ≡ known_by seat.table_id (seat.me.0 ∷ []) }
     {
         Pass {
             badge: seat.into_badge(),
@@ -332,15 +333,15 @@ impl<L: Law> Wire<L> {
     }
 
     /// The names that stopped in the journal that the pass has then seen.
-    pub fn stopped<R: Wait>(&self, rt: &R, pass: &mut Pass) -> Names
+    pub fn stopped_names<R: Wait>(&self, rt: &R, pass: &mut Pass) -> Names
         requires own { pass.old.wire ≡ self.now.id }
         ensures sees { Sees pass.old pass.new }
-        ensures value { result ≡ stopped_in pass.new.seen }
+        ensures value { result ≡ stopped_names pass.new.seen }
         ensures lawful { Follows (L.next pass.old.terms) pass.new.seen }
     {
         let mut seat = seat_in(&mut pass.badge);
         self.take(rt, &mut seat);
-        let stopped = seat.slot_mut(&self.table.shared, 0).stopped();
+        let stopped = seat.slot_mut(&self.table.shared, 0).stopped_names();
         self.give(&mut seat);
         pass.badge = seat.into_badge();
         stopped

@@ -1,5 +1,5 @@
 -- The words of `gen` fit its command.
-use Rattle.std.proofs.Common.{refl, sym, subst, codes, true, false, Bool, List, [], ◌∷◌, ◌≡◌, ◌≢◌, ◌==◌, ◌&&◌, ℕ, true≢false, Option, Some, None, option_map}
+use Rattle.std.proofs.Common.{refl, sym, ap, ◌∙◌, subst, codes, true, false, Bool, List, [], ◌∷◌, ◌≡◌, ◌≢◌, ◌==◌, ◌&&◌, ℕ, true≢false, Option, Some, None, option_map}
 use Rattle.std.proofs.Common.{arith}
 use Rattle.std.specs.Char.{is_ascii_digit}
 use Rattle.std.proofs.lemmas.Bool.Decides.{nat_tests}
@@ -28,33 +28,19 @@ seed_first s c = codes "gen" ∷ codes "--seed" ∷ s ∷ codes "--count" ∷ c 
 abbrev count_first : Text → Text → List Text
 count_first s c = codes "gen" ∷ codes "--count" ∷ c ∷ codes "--seed" ∷ s ∷ []
 
-taken : (d : ℕ) (ds : Text) (e : ℕ) (es : Text) → (d == 45) ≡ false → (e == 45) ≡ false → takes gen_app (seed_first (d ∷ ds) (e ∷ es)) ≡ true
-unfolding clap_on_literals
-taken d ds e es nd ne = simp (nd, ne) refl
+-- the command takes these words, which give its options these texts
+record Taken (words : List Text) (s c : Text) : Type 0 where
+  takes_them : takes gen_app words ≡ true
+  seed : first_of (codes "seed") (matches_of gen_app words) ≡ Some s
+  count : first_of (codes "count") (matches_of gen_app words) ≡ Some c
 
-taken_back : (d : ℕ) (ds : Text) (e : ℕ) (es : Text) → (d == 45) ≡ false → (e == 45) ≡ false → takes gen_app (count_first (d ∷ ds) (e ∷ es)) ≡ true
+in_order : (d : ℕ) (ds : Text) (e : ℕ) (es : Text) → (d == 45) ≡ false → (e == 45) ≡ false → Taken (seed_first (d ∷ ds) (e ∷ es)) (d ∷ ds) (e ∷ es)
 unfolding clap_on_literals
-taken_back d ds e es nd ne = simp (nd, ne) refl
+in_order d ds e es nd ne = record { takes_them = simp (nd, ne) refl; seed = simp (nd, ne) refl; count = simp (nd, ne) refl }
 
-seed_is : (d : ℕ) (ds : Text) (e : ℕ) (es : Text) → (d == 45) ≡ false → (e == 45) ≡ false
-    → first_of (codes "seed") (matches_of gen_app (seed_first (d ∷ ds) (e ∷ es))) ≡ Some (d ∷ ds)
+turned : (d : ℕ) (ds : Text) (e : ℕ) (es : Text) → (d == 45) ≡ false → (e == 45) ≡ false → Taken (count_first (d ∷ ds) (e ∷ es)) (d ∷ ds) (e ∷ es)
 unfolding clap_on_literals
-seed_is d ds e es nd ne = simp (nd, ne) refl
-
-count_is : (d : ℕ) (ds : Text) (e : ℕ) (es : Text) → (d == 45) ≡ false → (e == 45) ≡ false
-    → first_of (codes "count") (matches_of gen_app (seed_first (d ∷ ds) (e ∷ es))) ≡ Some (e ∷ es)
-unfolding clap_on_literals
-count_is d ds e es nd ne = simp (nd, ne) refl
-
-seed_back : (d : ℕ) (ds : Text) (e : ℕ) (es : Text) → (d == 45) ≡ false → (e == 45) ≡ false
-    → first_of (codes "seed") (matches_of gen_app (count_first (d ∷ ds) (e ∷ es))) ≡ Some (d ∷ ds)
-unfolding clap_on_literals
-seed_back d ds e es nd ne = simp (nd, ne) refl
-
-count_back : (d : ℕ) (ds : Text) (e : ℕ) (es : Text) → (d == 45) ≡ false → (e == 45) ≡ false
-    → first_of (codes "count") (matches_of gen_app (count_first (d ∷ ds) (e ∷ es))) ≡ Some (e ∷ es)
-unfolding clap_on_literals
-count_back d ds e es nd ne = simp (nd, ne) refl
+turned d ds e es nd ne = record { takes_them = simp (nd, ne) refl; seed = simp (nd, ne) refl; count = simp (nd, ne) refl }
 
 -- ---- texts of numbers begin with no hyphen
 
@@ -99,21 +85,18 @@ pub record Fits (words : List Text) : Type 0 where
   pub seed_of : first_of (codes "seed") (matches_of gen_app words) ≡ option_map (λ t. t.0) (texts_of words)
   pub count_of : first_of (codes "count") (matches_of gen_app words) ≡ option_map (λ t. t.1) (texts_of words)
 
-fits_first : (s c : Text) → IsWord s → IsWord c → Fits (seed_first s c)
-fits_first s c (word d ds nd) (word e es ne) = record {
-  takes_them = taken d ds e es nd ne;
-  seed_of = seed_is d ds e es nd ne;
-  count_of =
-      count_is d ds e es nd ne;
+fitting : (words : List Text) (s c : Text) → texts_of words ≡ Some (s, c) → Taken words s c → Fits words
+fitting words s c is taken = record {
+  takes_them = taken.takes_them;
+  seed_of = taken.seed ∙ sym (ap (option_map (λ t. t.0)) is);
+  count_of = taken.count ∙ sym (ap (option_map (λ t. t.1)) is);
 }
 
+fits_first : (s c : Text) → IsWord s → IsWord c → Fits (seed_first s c)
+fits_first s c (word d ds nd) (word e es ne) = fitting (seed_first s c) s c refl (in_order d ds e es nd ne)
+
 fits_back : (s c : Text) → IsWord s → IsWord c → Fits (count_first s c)
-fits_back s c (word d ds nd) (word e es ne) = record {
-  takes_them = taken_back d ds e es nd ne;
-  seed_of = seed_back d ds e es nd ne;
-  count_of =
-      count_back d ds e es nd ne;
-}
+fits_back s c (word d ds nd) (word e es ne) = fitting (count_first s c) s c refl (turned d ds e es nd ne)
 
 -- five words with options of these names in turn
 are_options : (w f a g b one other : Text) → has_options w f g one other ≡ true → w ∷ f ∷ a ∷ g ∷ b ∷ [] ≡ codes "gen" ∷ one ∷ a ∷ other ∷ b ∷ []

@@ -1,9 +1,9 @@
 -- Lists of one and of five words.
 use Rattle.std.proofs.Common.{◌≡◌, ◌≢◌, Bool, true, false, if◌then◌else◌, codes, ℕ, List, [], ◌∷◌, length, map, Bor, Some, None, slice_index_or, option_map}
-use Rattle.std.proofs.Common.{subst, refl, ap, arith}
+use Rattle.std.proofs.Common.{subst, refl, sym, ap, arith}
 use Rattle.am_words.specs.declared.form.Form.TheVariants as form
 use Rattle.am_words.specs.declared.form.Numbers.{Numbers}
-use Rattle.am_words.specs.Forms.{same, one_form, form_of, gen_of, IsGen}
+use Rattle.am_words.specs.Forms.{same, form_of, gen_of, IsGen}
 
 abbrev texts : List (Bor (List ℕ)) → List (List ℕ)
 texts words = map (λ w. w.now) words
@@ -36,11 +36,8 @@ no_form (a ∷ b ∷ c ∷ x ∷ y ∷ []) one five = absurd (five refl)
 no_form (a ∷ b ∷ c ∷ x ∷ y ∷ z ∷ ws) one five = refl
 
 -- one word has its form
-pub word_form : (words : List (Bor (List ℕ))) (d : Bor (List ℕ)) → length words ≡ 1 → one_form (slice_index_or words 0 d).now ≡ form_of (texts words)
-unfolding form_of
-word_form [] d one = absurd (omega arith)
-word_form (a ∷ []) d one = refl
-word_form (a ∷ c ∷ ws) d one = absurd (omega arith)
+pub word_form : (words : List (Bor (List ℕ))) (d : Bor (List ℕ)) → length words ≡ 1 → form_of ((slice_index_or words 0 d).now ∷ []) ≡ form_of (texts words)
+word_form words d one = ap form_of (sym (one_word words d one))
 
 one_is_not_gen : (play race : Bool) → IsGen (if play then Some form.Play else (if race then Some form.Race else None)) → ⊥
 one_is_not_gen true race is = is

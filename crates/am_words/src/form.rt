@@ -2,7 +2,7 @@ ghost use Rattle.std.specs.Prelude.{◌≡◌, ◌≤◌, [], ◌∷◌, map, If
 ghost use Rattle.std.specs.List.{list_all};
 ghost use Rattle.std.specs.Char.{is_ascii_digit};
 ghost use Rattle.am_base.specs.Most.{most_events};
-ghost use Rattle.am_words.specs.Forms.{one_form, form_of, number_of, numbers_of, has_options};
+ghost use Rattle.am_words.specs.Forms.{form_of, number_of, numbers_of, has_options};
 
 use am_base::limits::MOST_EVENTS;
 
@@ -80,8 +80,9 @@ fn form_of_five(word: &str, first: &str, one: &str, second: &str, other: &str) -
 }
 
 /// The form of one word.
+#[tactic(auto, unfolding(crate::specs::Forms::form_of))]
 fn form_of_one(word: &str) -> Option<Form>
-    ensures { result ≡ one_form word.now }
+    ensures { result ≡ form_of (word.now ∷ []) }
 {
     if word == "play" {
         return Some(Form::Play);

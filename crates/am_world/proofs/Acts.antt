@@ -20,7 +20,7 @@ use Rattle.am_model.specs.Node as protocol
 use Rattle.am_model.specs.Node.{top, view, set_at}
 use Rattle.am_model.specs.Step.{step, row}
 use Rattle.am_model.specs.World as model
-use Rattle.am_model.specs.World.{happens, current, stepped, grown, group_after, record_of}
+use Rattle.am_model.specs.World.{happens, current, with_step, group_with, group_after, record_of}
 use Rattle.am_model.specs.Ends.{IsEndOf, ComesTo, Does}
 use Rattle.am_node.specs.declared.node.Node.{Node}
 use Rattle.am_node.specs.Stands.{state_of}
@@ -55,7 +55,7 @@ pub end_accepted : (all m : protocol.Node) → IsEndOf all m → m.core.acc ≡ 
 end_accepted all m is = ap (λ (n : protocol.Node). n.core.acc) is.same
 
 -- the group list grows the same by a node and by its end, where that isn't trimmed beyond the group list
-grown_end : (group : List Entry) (all m : protocol.Node) → IsEndOf all m → m.core.base ≤ length group → grown group m.core ≡ grown group all.core
+grown_end : (group : List Entry) (all m : protocol.Node) → IsEndOf all m → m.core.base ≤ length group → group_with group m.core ≡ group_with group all.core
 grown_end group all m is base_low =
     let kept = is.stands.kept in
     let base = is.stands.base in
@@ -72,17 +72,17 @@ if_same b x y z e = ap (λ v. if b then v else z) e
 
 pub group_end : (group : List Entry) (all m : protocol.Node) → IsEndOf all m → m.core.base ≤ length group → group_after group m ≡ group_after group all
 group_end group all m is base_low =
-    if_same ((view m).by == m.core.who) (grown group m.core) (grown group all.core) group (grown_end group all m is base_low)
-    ∙ ap (λ k. if k == m.core.who then grown group all.core else group) (ap (λ (s : Stamp). s.by) (end_view all m is))
-    ∙ ap (λ k. if (view all).by == k then grown group all.core else group) (end_who all m is)
+    if_same ((view m).by == m.core.who) (group_with group m.core) (group_with group all.core) group (grown_end group all m is base_low)
+    ∙ ap (λ k. if k == m.core.who then group_with group all.core else group) (ap (λ (s : Stamp). s.by) (end_view all m is))
+    ∙ ap (λ k. if (view all).by == k then group_with group all.core else group) (end_who all m is)
 
-grown_short : (group : List Entry) (core : CoreState) (most : ℕ) → length group ≤ most → core.acc ≤ most → length (grown group core) ≤ most
+grown_short : (group : List Entry) (core : CoreState) (most : ℕ) → length group ≤ most → core.acc ≤ most → length (group_with group core) ≤ most
 grown_short group core most g a = simp (length-append, length-take, length-drop) (omega arith)
 
 pub group_short : (group : List Entry) (m : protocol.Node) (most : ℕ) → length group ≤ most → m.core.acc ≤ most → length (group_after group m) ≤ most
 group_short group m most g a = go ((view m).by == m.core.who)
   where
-    go : (b : Bool) → length (if b then grown group m.core else group) ≤ most
+    go : (b : Bool) → length (if b then group_with group m.core else group) ≤ most
     go true = grown_short group m.core most g a
     go false = g
 
@@ -102,7 +102,7 @@ next_world w e what = comes w e (Ok what)
 
 next_node : (w : model.World) (e : Event) (what : NodeEvent)
     → (next_world w e what).nodes (current w (place_of e.node)) ≡ (step (w.nodes (current w (place_of e.node))) what).node
-unfolding stepped
+unfolding with_step
 next_node w e what = let same : (current w (place_of e.node) == current w (place_of e.node)) ≡ true = grind (arith, nat_tests) in rw same refl
 
 numbers_left : (events accepted : ℕ) (all m : protocol.Node) → events < most_events → NodeNumbers events accepted all → IsEndOf all m → HasNumbersLeft m
@@ -158,7 +158,7 @@ ready_at p first nodes lives flags records group e what name stored room view ok
 
 nodes_step : (w : model.World) (e : Event) (what : NodeEvent) (nodes more : List Node) (place : ℕ) (n : Node) → place < 16 → place ≡ place_of e.node
     → more ≡ slice_set nodes place n → Keeps (step (w.nodes (current w place)) what).node (state_of n) → AreNodes nodes w → AreNodes more (next_world w e what)
-unfolding stepped
+unfolding with_step
 nodes_step w e what nodes more place n within here placed kept h =
     let count = h.count in
     record {
@@ -187,7 +187,7 @@ nodes_step w e what nodes more place n within here placed kept h =
 follows_step : (w : model.World) (e : Event) (what : NodeEvent) (outcome : Outcome) (letters : List Letter) → happens w e ≡ next_world w e what
     → outcome ≡ (step (w.nodes (current w (place_of e.node))) what).outcome → letters ≡ (step (w.nodes (current w (place_of e.node))) what).letters
     → Follows w (next_world w e what) e outcome letters
-unfolding stepped
+unfolding with_step
 follows_step w e what outcome letters is answer sent = record {
   happens_ = is;
   records = ap (λ o. w.records ++ record_of w e o (step (w.nodes (current w (place_of e.node))) what).letters ∷ []) (sym answer)
@@ -196,16 +196,16 @@ follows_step w e what outcome letters is answer sent = record {
 }
 
 lives_step : (w : model.World) (e : Event) (what : NodeEvent) (lives : List ℕ) → AreLives lives w → AreLives lives (next_world w e what)
-unfolding stepped
+unfolding with_step
 lives_step w e what lives h = record { count = h.count; each = h.each; within = h.within }
 
 flags_step : (w : model.World) (e : Event) (what : NodeEvent) (flags : List Bool) → AreFlags flags w → AreFlags flags (next_world w e what)
-unfolding stepped
+unfolding with_step
 flags_step w e what flags h = record { count = h.count; each = h.each }
 
 group_step : (w : model.World) (e : Event) (what : NodeEvent)
     → (next_world w e what).group ≡ group_after w.group (step (w.nodes (current w (place_of e.node))) what).node
-unfolding stepped
+unfolding with_step
 group_step w e what = refl
 
 pub act_goes_on : (p : Play) (first founding : Rules) (nodes more : List Node) (lives : List ℕ) (flags : List Bool) (records pushed : List Record)

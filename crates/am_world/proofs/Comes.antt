@@ -18,9 +18,9 @@ use Rattle.am_group.specs.Journals.{letter_at}
 use Rattle.am_group.specs.Addressed.{is_for}
 use Rattle.am_model.specs.Emit.{Step}
 use Rattle.am_model.specs.Step.{step, hear}
-use Rattle.am_model.specs.World.{World, current, is_stopped, has_departed, unchanged, stepped, heard, hear_cut, returned, lives_on, acts_as, happens}
+use Rattle.am_model.specs.World.{World, current, is_stopped, has_departed, with_record, with_step, hears_letter, hear_cut, comes_back, lives_on, acts_as, happens}
 use Rattle.am_model.proofs.Bytes.{spelling_is_heard, cut_is_heard}
-use Rattle.am_world.specs.Asked.{flag_of, if_running, kept, hears, gives_up, stops, returns, asked, SpellsPacket, answered, comes}
+use Rattle.am_world.specs.Asked.{flag_of, if_running, first_bytes, hears, gives_up, stops, returns, event_or_answer, SpellsPacket, after_answer, comes}
 
 -- ---- names of places
 
@@ -36,50 +36,50 @@ abbrev pub name_of : World → Event → ℕ
 name_of w e = current w (place_of e.node)
 
 run_case : (w : World) (e : Event) (what : NodeEvent) (b : Bool)
-    → (if b then unchanged w e said.IsStopped else stepped w e (name_of w e) (step (w.nodes (name_of w e)) what)) ≡ comes w e (if_running b what)
+    → (if b then with_record w e said.IsStopped else with_step w e (name_of w e) (step (w.nodes (name_of w e)) what)) ≡ comes w e (if_running b what)
 run_case w e what true = refl
 run_case w e what false = refl
 
 give_case : (w : World) (e : Event) (other : ℕ) (b c : Bool)
-    → (if b then unchanged w e said.IsStopped else if c then stepped w e (name_of w e)
-    (step (w.nodes (name_of w e)) (does.GiveUp other)) else unchanged w e said.NotStopped) ≡ comes w e (gives_up b c other)
+    → (if b then with_record w e said.IsStopped else if c then with_step w e (name_of w e)
+    (step (w.nodes (name_of w e)) (does.GiveUp other)) else with_record w e said.NotStopped) ≡ comes w e (gives_up b c other)
 give_case w e other true c = refl
 give_case w e other false true = refl
 give_case w e other false false = refl
 
-stop_case : (w : World) (e : Event) (b : Bool) → (if b then unchanged w e said.IsStopped else unchanged
-    (record w { stopped = w.stopped ++ name_of w e ∷ [] }) e said.Stopped) ≡ answered w e (stops b)
+stop_case : (w : World) (e : Event) (b : Bool) → (if b then with_record w e said.IsStopped else with_record
+    (record w { stopped = w.stopped ++ name_of w e ∷ [] }) e said.Stopped) ≡ after_answer w e (stops b)
 stop_case w e true = refl
 stop_case w e false = refl
 
 return_case : (w : World) (e : Event) (gone sixteen : Bool) (life : ℕ)
-    → (if not gone then unchanged w e (said.Running life) else if sixteen then unchanged w e said.NoLife else lives_on
-    (unchanged w e (said.Returned (life + 1))) (place_of e.node))
-    ≡ answered w e (if gone then (if sixteen then said.NoLife else said.Returned (life + 1)) else said.Running life)
+    → (if not gone then with_record w e (said.Running life) else if sixteen then with_record w e said.NoLife else lives_on
+    (with_record w e (said.Returned (life + 1))) (place_of e.node))
+    ≡ after_answer w e (if gone then (if sixteen then said.NoLife else said.Returned (life + 1)) else said.Running life)
 return_case w e true true life = refl
 return_case w e true false life = refl
 return_case w e false sixteen life = refl
 
 letter_case : (w : World) (e : Event) (addressed stopped : Bool) (what : NodeEvent) (s : Step)
     → OnOk (if addressed then if_running stopped what else Err said.NotAddressed) (step (w.nodes (name_of w e)) what ≡ s)
-    → (if not addressed then unchanged w e said.NotAddressed else if stopped then unchanged w e said.IsStopped else stepped w e (name_of w e) s)
+    → (if not addressed then with_record w e said.NotAddressed else if stopped then with_record w e said.IsStopped else with_step w e (name_of w e) s)
     ≡ comes w e (if addressed then if_running stopped what else Err said.NotAddressed)
 letter_case w e false stopped what s h = refl
 letter_case w e true true what s h = refl
-letter_case w e true false what s h = ap (stepped w e (name_of w e)) (sym h)
+letter_case w e true false what s h = ap (with_step w e (name_of w e)) (sym h)
 
 on_ok : {T E : Type 0} {P Q : Type 0} (r : Result T E) → (P → Q) → OnOk r P → OnOk r Q
 on_ok (Ok x) f h = f h
 on_ok (Err x) f h = h
 
 hear_case : (w : World) (e : Event) (keep : Option ℕ) (stopped : Bool) (hearing : Packet → Step) (found : Option Letter)
-    → ((p : Packet) → IsPacket p → step (w.nodes (name_of w e)) (does.Hear (kept keep (spelling p))) ≡ hearing p)
+    → ((p : Packet) → IsPacket p → step (w.nodes (name_of w e)) (does.Hear (first_bytes keep (spelling p))) ≡ hearing p)
     → OnOk (hears keep (name_of w e) stopped found) ((l : Letter) → found ≡ Some l → IsPacket l.packet) → is_stopped w (name_of w e) ≡ stopped
-    → heard w e (name_of w e) hearing found ≡ comes w e (hears keep (name_of w e) stopped found)
+    → hears_letter w e (name_of w e) hearing found ≡ comes w e (hears keep (name_of w e) stopped found)
 hear_case w e keep stopped hearing None same h is = refl
 hear_case w e keep stopped hearing (Some letter) same h is =
     let addressed = is_for letter (name_of w e) in
-    let what = does.Hear (kept keep (spelling letter.packet)) in
+    let what = does.Hear (first_bytes keep (spelling letter.packet)) in
     rw is
     (letter_case w e addressed stopped what (hearing letter.packet)
     (on_ok (if addressed then if_running stopped what else Err said.NotAddressed) (λ (all : (l : Letter) → Some letter ≡ Some l
@@ -89,12 +89,12 @@ abbrev pub gone_now : World → Event → Bool
 gone_now w e = has_departed (w.nodes (name_of w e)).status
 
 abbrev pub asked_now : World → Event → List Bool → Act → Result NodeEvent Outcome
-asked_now w e flags a = asked w.letters flags (gone_now w e) (name_of w e) a
+asked_now w e flags a = event_or_answer w.letters flags (gone_now w e) (name_of w e) a
 
 runs : (w : World) (e : Event) (flags : List Bool) (what : NodeEvent) → flag_of flags (name_of w e) ≡ is_stopped w (name_of w e)
-    → (if is_stopped w (name_of w e) then unchanged w e said.IsStopped else stepped w e (name_of w e) (step (w.nodes (name_of w e)) what))
+    → (if is_stopped w (name_of w e) then with_record w e said.IsStopped else with_step w e (name_of w e) (step (w.nodes (name_of w e)) what))
     ≡ comes w e (if_running (flag_of flags (name_of w e)) what)
-runs w e flags what agree = subst (λ b. (if b then unchanged w e said.IsStopped else stepped w e (name_of w e) (step (w.nodes (name_of w e)) what))
+runs w e flags what agree = subst (λ b. (if b then with_record w e said.IsStopped else with_step w e (name_of w e) (step (w.nodes (name_of w e)) what))
     ≡ comes w e (if_running (flag_of flags (name_of w e)) what)) agree (run_case w e what (flag_of flags (name_of w e)))
 
 gives : (w : World) (e : Event) (flags : List Bool) (other : ℕ) → ((name : ℕ) → flag_of flags name ≡ is_stopped w name)
@@ -104,19 +104,19 @@ gives w e flags other agree = give_case w e other (is_stopped w (name_of w e)) (
     ∙ ap (λ b. comes w e (gives_up (flag_of flags (name_of w e)) b other)) (sym (agree other))
 
 stop_now : (w : World) (e : Event) (flags : List Bool) → ((name : ℕ) → flag_of flags name ≡ is_stopped w name)
-    → acts_as w e (name_of w e) act.Stop ≡ answered w e (stops (flag_of flags (name_of w e)))
-stop_now w e flags agree = stop_case w e (is_stopped w (name_of w e)) ∙ ap (λ b. answered w e (stops b)) (sym (agree (name_of w e)))
+    → acts_as w e (name_of w e) act.Stop ≡ after_answer w e (stops (flag_of flags (name_of w e)))
+stop_now w e flags agree = stop_case w e (is_stopped w (name_of w e)) ∙ ap (λ b. after_answer w e (stops b)) (sym (agree (name_of w e)))
 
 return_now : (w : World) (e : Event) (flags : List Bool) → ((name : ℕ) → flag_of flags name ≡ is_stopped w name) → place_of e.node < 16
     → 0 < w.lives (place_of e.node) → acts_as w e (name_of w e) act.Return
-    ≡ answered w e (returns (flag_of flags (name_of w e) || gone_now w e) (life_of (name_of w e)))
+    ≡ after_answer w e (returns (flag_of flags (name_of w e) || gone_now w e) (life_of (name_of w e)))
 return_now w e flags agree within lives =
     let place = place_of e.node in
     let gone = gone_now w e in
-    ap (returned w e) (place_now place (w.lives place) within)
+    ap (comes_back w e) (place_now place (w.lives place) within)
     ∙ return_case w e (is_stopped w (name_of w e) || gone) (w.lives place == 16) (w.lives place)
-    ∙ ap (λ b. answered w e (returns (b || gone) (w.lives place))) (sym (agree (name_of w e)))
-    ∙ ap (λ l. answered w e (returns (flag_of flags (name_of w e) || gone) l)) (sym (life_now place (w.lives place) within lives))
+    ∙ ap (λ b. after_answer w e (returns (b || gone) (w.lives place))) (sym (agree (name_of w e)))
+    ∙ ap (λ l. after_answer w e (returns (flag_of flags (name_of w e) || gone) l)) (sym (life_now place (w.lives place) within lives))
 
 heard_now : (w : World) (e : Event) (flags : List Bool) (number : ℕ) → ((name : ℕ) → flag_of flags name ≡ is_stopped w name)
     → OnOk (asked_now w e flags (act.Hear number)) (SpellsPacket w.letters (act.Hear number))

@@ -19,7 +19,7 @@ use Rattle.am_group.specs.Addressed.{is_for}
 use Rattle.am_model.specs.Node.{Node, stranger}
 use Rattle.am_model.specs.Emit.{Step}
 use Rattle.am_model.specs.Step.{step, hear}
-use Rattle.am_model.specs.World.{World, start, run, current, is_stopped, unchanged, stepped, does_event, gives_up, stops, heard, hear_cut, returned, lives_on}
+use Rattle.am_model.specs.World.{World, start, run, current, is_stopped, with_record, with_step, does_event, gives_up, stops, hears_letter, hear_cut, comes_back, lives_on}
 use Rattle.am_model.specs.World.{acts_as, happens, happen, has_departed}
 use Rattle.am_world.proofs.Comes.{place_now, life_now}
 
@@ -35,12 +35,12 @@ fresh_if : (rules : Rules) (b : Bool) (v w : World) → Fresh rules v → Fresh 
 fresh_if rules true v w f g = f
 fresh_if rules false v w f g = g
 
-fresh_pass : (rules : Rules) (w : World) (e : Event) (o : Outcome) → Fresh rules w → Fresh rules (unchanged w e o)
-unfolding unchanged
+fresh_pass : (rules : Rules) (w : World) (e : Event) (o : Outcome) → Fresh rules w → Fresh rules (with_record w e o)
+unfolding with_record
 fresh_pass rules w e o h = h
 
-fresh_step : (rules : Rules) (w : World) (e : Event) (place : ℕ) (s : Step) → place < 16 → Fresh rules w → Fresh rules (stepped w e (current w place) s)
-unfolding stepped
+fresh_step : (rules : Rules) (w : World) (e : Event) (place : ℕ) (s : Step) → place < 16 → Fresh rules w → Fresh rules (with_step w e (current w place) s)
+unfolding with_step
 fresh_step rules w e place s within h = record {
   begun = h.begun;
   strangers = λ other life inside later.
@@ -82,44 +82,44 @@ fresh_lives rules w place h = record {
 fresh_does : (rules : Rules) (w : World) (e : Event) (what : NodeEvent) → Fresh rules w → Fresh rules (does_event w e (current w (place_of e.node)) what)
 fresh_does rules w e what h =
     let name = current w (place_of e.node) in
-    fresh_if rules (is_stopped w name) (unchanged w e said.IsStopped) (stepped w e name (step (w.nodes name) what)) (fresh_pass rules w e said.IsStopped h)
+    fresh_if rules (is_stopped w name) (with_record w e said.IsStopped) (with_step w e name (step (w.nodes name) what)) (fresh_pass rules w e said.IsStopped h)
     (fresh_step rules w e (place_of e.node) (step (w.nodes name) what) (omega arith) h)
 
 fresh_gives : (rules : Rules) (w : World) (e : Event) (other : ℕ) → Fresh rules w → Fresh rules (gives_up w e (current w (place_of e.node)) other)
 fresh_gives rules w e other h =
     let name = current w (place_of e.node) in
-    let given = stepped w e name (step (w.nodes name) (does.GiveUp other)) in
-    fresh_if rules (is_stopped w name) (unchanged w e said.IsStopped) (if is_stopped w other then given else unchanged w e said.NotStopped)
+    let given = with_step w e name (step (w.nodes name) (does.GiveUp other)) in
+    fresh_if rules (is_stopped w name) (with_record w e said.IsStopped) (if is_stopped w other then given else with_record w e said.NotStopped)
     (fresh_pass rules w e said.IsStopped h)
-    (fresh_if rules (is_stopped w other) given (unchanged w e said.NotStopped)
+    (fresh_if rules (is_stopped w other) given (with_record w e said.NotStopped)
     (fresh_step rules w e (place_of e.node) (step (w.nodes name) (does.GiveUp other)) (omega arith) h) (fresh_pass rules w e said.NotStopped h))
 
 fresh_stops : (rules : Rules) (w : World) (e : Event) (name : ℕ) → Fresh rules w → Fresh rules (stops w e name)
 fresh_stops rules w e name h =
     let after_ = record w { stopped = w.stopped ++ name ∷ [] } in
-    fresh_if rules (is_stopped w name) (unchanged w e said.IsStopped) (unchanged after_ e said.Stopped) (fresh_pass rules w e said.IsStopped h)
+    fresh_if rules (is_stopped w name) (with_record w e said.IsStopped) (with_record after_ e said.Stopped) (fresh_pass rules w e said.IsStopped h)
     (fresh_pass rules after_ e said.Stopped h)
 
 fresh_heard : (rules : Rules) (w : World) (e : Event) (hearing : Packet → Step) (found : Option Letter) → Fresh rules w
-    → Fresh rules (heard w e (current w (place_of e.node)) hearing found)
+    → Fresh rules (hears_letter w e (current w (place_of e.node)) hearing found)
 fresh_heard rules w e hearing None h = fresh_pass rules w e said.NoPacket h
 fresh_heard rules w e hearing (Some letter) h =
     let name = current w (place_of e.node) in
-    let done = stepped w e name (hearing letter.packet) in
-    let running = if is_stopped w name then unchanged w e said.IsStopped else done in
-    fresh_if rules (not (is_for letter name)) (unchanged w e said.NotAddressed) running (fresh_pass rules w e said.NotAddressed h)
-    (fresh_if rules (is_stopped w name) (unchanged w e said.IsStopped) done (fresh_pass rules w e said.IsStopped h)
+    let done = with_step w e name (hearing letter.packet) in
+    let running = if is_stopped w name then with_record w e said.IsStopped else done in
+    fresh_if rules (not (is_for letter name)) (with_record w e said.NotAddressed) running (fresh_pass rules w e said.NotAddressed h)
+    (fresh_if rules (is_stopped w name) (with_record w e said.IsStopped) done (fresh_pass rules w e said.IsStopped h)
     (fresh_step rules w e (place_of e.node) (hearing letter.packet) (omega arith) h))
 
-fresh_returned : (rules : Rules) (w : World) (e : Event) (place : ℕ) → Fresh rules w → Fresh rules (returned w e place)
+fresh_returned : (rules : Rules) (w : World) (e : Event) (place : ℕ) → Fresh rules w → Fresh rules (comes_back w e place)
 fresh_returned rules w e place h =
     let life = w.lives place in
     let gone = is_stopped w (current w place) || has_departed (w.nodes (current w place)).status in
-    let back = lives_on (unchanged w e (said.Returned (life + 1))) place in
-    fresh_if rules (not gone) (unchanged w e (said.Running life)) (if life == 16 then unchanged w e said.NoLife else back)
+    let back = lives_on (with_record w e (said.Returned (life + 1))) place in
+    fresh_if rules (not gone) (with_record w e (said.Running life)) (if life == 16 then with_record w e said.NoLife else back)
     (fresh_pass rules w e (said.Running life) h)
-    (fresh_if rules (life == 16) (unchanged w e said.NoLife) back (fresh_pass rules w e said.NoLife h)
-    (fresh_lives rules (unchanged w e (said.Returned (life + 1))) place (fresh_pass rules w e (said.Returned (life + 1)) h)))
+    (fresh_if rules (life == 16) (with_record w e said.NoLife) back (fresh_pass rules w e said.NoLife h)
+    (fresh_lives rules (with_record w e (said.Returned (life + 1))) place (fresh_pass rules w e (said.Returned (life + 1)) h)))
 
 fresh_acts : (rules : Rules) (w : World) (e : Event) (a : Act) → Fresh rules w → Fresh rules (acts_as w e (current w (place_of e.node)) a)
 fresh_acts rules w e (act.Send body) h = fresh_does rules w e (does.Send body) h

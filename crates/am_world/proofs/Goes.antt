@@ -12,7 +12,7 @@ use Rattle.am_group.specs.declared.event.Record.{Record}
 use Rattle.am_group.specs.Journals.{letters_of}
 use Rattle.am_group.proofs.Places.{letters_more}
 use Rattle.am_model.specs.World as model
-use Rattle.am_model.specs.World.{happens, happen, record_of, current, start, is_stopped, unchanged, has_departed}
+use Rattle.am_model.specs.World.{happens, happen, record_of, current, start, is_stopped, with_record, has_departed}
 use Rattle.am_model.specs.Node as protocol
 use Rattle.am_model.specs.Ends.{IsEndOf}
 use Rattle.am_model.specs.declared.status.Status.{Status}
@@ -21,7 +21,7 @@ use Rattle.std.specs.Prelude.{Result, Ok, Err, OnOk, IfOk}
 use Rattle.am_model.proofs.Runs.{runs_go_on}
 use Rattle.am_node.specs.declared.node.Node.{Node}
 use Rattle.am_world.specs.Runs.{Play, replay, after, AreNodes, AreLives, AreFlags, Shows, IsRun, play_of, the_record, Answers}
-use Rattle.am_world.specs.Asked.{asked, comes, SpellsPacket}
+use Rattle.am_world.specs.Asked.{event_or_answer, comes, SpellsPacket}
 use Rattle.am_world.proofs.Comes.{life_now, happens_comes}
 
 -- what holds of a value by two facts of it
@@ -99,36 +99,36 @@ goes_on p first founding nodes more lives longer flags set records pushed group 
 
 -- ---- an event that changes no node
 
-pub passes_nodes : (w : model.World) (e : Event) (outcome : Outcome) (nodes : List Node) → AreNodes nodes w → AreNodes nodes (unchanged w e outcome)
-unfolding unchanged
+pub passes_nodes : (w : model.World) (e : Event) (outcome : Outcome) (nodes : List Node) → AreNodes nodes w → AreNodes nodes (with_record w e outcome)
+unfolding with_record
 passes_nodes w e outcome nodes h = record { count = h.count; each = h.each }
 
-pub passes_lives : (w : model.World) (e : Event) (outcome : Outcome) (lives : List ℕ) → AreLives lives w → AreLives lives (unchanged w e outcome)
-unfolding unchanged
+pub passes_lives : (w : model.World) (e : Event) (outcome : Outcome) (lives : List ℕ) → AreLives lives w → AreLives lives (with_record w e outcome)
+unfolding with_record
 passes_lives w e outcome lives h = record { count = h.count; each = h.each; within = h.within }
 
-pub passes_flags : (w : model.World) (e : Event) (outcome : Outcome) (flags : List Bool) → AreFlags flags w → AreFlags flags (unchanged w e outcome)
-unfolding unchanged
+pub passes_flags : (w : model.World) (e : Event) (outcome : Outcome) (flags : List Bool) → AreFlags flags w → AreFlags flags (with_record w e outcome)
+unfolding with_record
 passes_flags w e outcome flags h = record { count = h.count; each = h.each }
 
-pub passes_follows : (w : model.World) (e : Event) (outcome : Outcome) → happens w e ≡ unchanged w e outcome → Follows w (unchanged w e outcome) e outcome []
-unfolding unchanged
+pub passes_follows : (w : model.World) (e : Event) (outcome : Outcome) → happens w e ≡ with_record w e outcome → Follows w (with_record w e outcome) e outcome []
+unfolding with_record
 passes_follows w e outcome is = record { happens_ = is; records = refl; letters_ = sym (append-nil w.letters) }
 
-passes_group : (w : model.World) (e : Event) (outcome : Outcome) → (unchanged w e outcome).group ≡ w.group
-unfolding unchanged
+passes_group : (w : model.World) (e : Event) (outcome : Outcome) → (with_record w e outcome).group ≡ w.group
+unfolding with_record
 passes_group w e outcome = refl
 
 pub pass_goes_on : (p : Play) (first founding : Rules) (nodes : List Node) (lives : List ℕ) (flags : List Bool) (records pushed : List Record)
     (group : List Entry) (e : Event) (outcome : Outcome)
     → play_of first records ≡ p → IsRun (play_of first records) nodes lives flags records group → length p.events < most_events
-    → IsRecorded (replay p) e outcome [] first founding records pushed → happens (replay p) e ≡ unchanged (replay p) e outcome
+    → IsRecorded (replay p) e outcome [] first founding records pushed → happens (replay p) e ≡ with_record (replay p) e outcome
     → IsRun (play_of founding pushed) nodes lives flags pushed group × Answers p e outcome
 pass_goes_on p first founding nodes lives flags records pushed group e outcome view ok few recorded is =
     let w = replay p in
     let was : Shows w nodes lives flags records group = subst (λ (q : Play). Shows (replay q) nodes lives flags records group) view ok.shows in
     let short : length group ≤ 1 + length p.events = subst (λ (q : Play). length group ≤ 1 + length q.events) view ok.short in
-    goes_on p first founding nodes nodes lives lives flags flags records pushed group group e outcome [] (unchanged w e outcome) view ok few recorded
+    goes_on p first founding nodes nodes lives lives flags flags records pushed group group e outcome [] (with_record w e outcome) view ok few recorded
     (passes_follows w e outcome is)
     (passes_nodes w e outcome nodes was.standing) (passes_lives w e outcome lives was.living) (passes_flags w e outcome flags was.stopped) (was.agreed
     ∙ sym (passes_group w e outcome)) (omega arith)
@@ -148,7 +148,7 @@ pub asked_comes : (p : Play) (first : Rules) (nodes : List Node) (lives : List �
     → play_of first records ≡ p → IsRun (play_of first records) nodes lives flags records group
     → name ≡ current (replay p) (place_of e.node) → IsEndOf ((replay p).nodes (current (replay p) (place_of e.node))) m → status ≡ m.status
     → departed ≡ has_departed status
-    → r ≡ asked (letters_of records) flags departed name e.act → OnOk r (SpellsPacket (letters_of records) e.act)
+    → r ≡ event_or_answer (letters_of records) flags departed name e.act → OnOk r (SpellsPacket (letters_of records) e.act)
     → happens (replay p) e ≡ comes (replay p) e r
 asked_comes p first nodes lives flags records group e m status departed name r view ok here end stands gone is spells =
     let w = replay p in
@@ -157,9 +157,9 @@ asked_comes p first nodes lives flags records group e m status departed name r v
     let was = shows_at p first nodes lives flags records group view ok in
     let gone_is : departed ≡ has_departed (w.nodes (current w place)).status = gone
     ∙ ap has_departed (stands ∙ ap (λ (n : protocol.Node). n.status) end.same) in
-    let now : r ≡ asked w.letters flags (has_departed (w.nodes (current w place)).status) (current w place) e.act =
-    is ∙ ap (λ ls. asked ls flags departed name e.act) was.sent ∙ ap (λ d. asked w.letters flags d name e.act) gone_is
-    ∙ ap (λ k. asked w.letters flags (has_departed (w.nodes (current w place)).status) k e.act) here in
+    let now : r ≡ event_or_answer w.letters flags (has_departed (w.nodes (current w place)).status) (current w place) e.act =
+    is ∙ ap (λ ls. event_or_answer ls flags departed name e.act) was.sent ∙ ap (λ d. event_or_answer w.letters flags d name e.act) gone_is
+    ∙ ap (λ k. event_or_answer w.letters flags (has_departed (w.nodes (current w place)).status) k e.act) here in
     let packets : OnOk r (SpellsPacket w.letters e.act) = subst (λ ls. OnOk r (SpellsPacket ls e.act)) was.sent spells in
     happens_comes w e flags was.stopped.each within (was.living.within place within).0 (subst (λ q. OnOk q (SpellsPacket w.letters e.act)) now packets)
     ∙ ap (comes w e) (sym now)

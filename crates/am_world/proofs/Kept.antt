@@ -14,23 +14,23 @@ use Rattle.am_group.specs.declared.event.Event.{Event}
 use Rattle.am_base.specs.Lists.{members_of}
 use Rattle.am_core.proofs.Ends.{end-told}
 use Rattle.am_model.specs.Node as protocol
-use Rattle.am_model.specs.Node.{view, told, set_at}
+use Rattle.am_model.specs.Node.{view, image_of, set_at}
 use Rattle.am_model.specs.Step.{step}
 use Rattle.am_model.specs.World as model
-use Rattle.am_model.specs.World.{run, happens, stepped, unchanged, lives_on, current, is_stopped, decides}
-use Rattle.am_model.specs.Lawful.{Watch, watch_start, watch, watch_all, watched, is_view_of}
+use Rattle.am_model.specs.World.{run, happens, with_step, with_record, lives_on, current, is_stopped, decides}
+use Rattle.am_model.specs.Lawful.{Watch, watch_start, watch, watch_all, watch_run, is_view_of}
 use Rattle.am_model.specs.Ends.{IsEndOf}
 use Rattle.am_model.proofs.Runs.{watched_is_run}
 use Rattle.am_watch.specs.declared.views.DecidedView.{DecidedView}
 use Rattle.am_watch.specs.declared.views.Standing.{Standing}
-use Rattle.am_watch.specs.Watching.{Watching, begun, standing, stepped as watched_step, stopped, passed, accepted}
-use Rattle.am_watch.specs.Watches.{Watches, Steps, SteppedTo, standing_of, view_of, added, after, IsNew}
+use Rattle.am_watch.specs.Watching.{Watching, first_watching, standing, watch_step as watched_step, stop, pass, accept}
+use Rattle.am_watch.specs.Watches.{Watches, Steps, SteppedTo, standing_of, view_of, additions, after, IsNew}
 use Rattle.am_watch.proofs.Events.{watched_after, group_grows, stepped_to}
 use Rattle.am_watch.proofs.Steps.{steps_are_watched}
 use Rattle.am_watched.proofs.Watched.{stop_is_watched, pass_is_watched, return_is_watched, beginning_is_kept, break_is_kept}
 use Rattle.am_world.specs.Runs as runs
 use Rattle.am_world.specs.Runs.{Play, replay}
-use Rattle.am_world.specs.Asked.{answered, comes}
+use Rattle.am_world.specs.Asked.{after_answer, comes}
 use Rattle.am_world.specs.Watched.{begins, standing_after, stored_of, told_step, stops_by, IsWatched}
 use Rattle.am_world.proofs.Comes.{place_now}
 use Rattle.std.proofs.lemmas.Bool.Decides.{nat_tests}
@@ -58,9 +58,9 @@ watch_push s [] e = refl
 watch_push s (x ∷ xs) e = watch_push (watch s x) xs e
 
 next_watched : (rules : Rules) (events : List Event) (e : Event) (v : model.World) → happens (run rules events) e ≡ v
-    → after (watched rules events) v ≡ watched rules (events ++ e ∷ [])
+    → after (watch_run rules events) v ≡ watch_run rules (events ++ e ∷ [])
 next_watched rules events e v is =
-    let s = watched rules events in
+    let s = watch_run rules events in
     sym (watch_push (watch_start rules) events e ∙ watched_after s e ∙ ap (λ (w : model.World). after s (happens w e)) (watched_is_run rules events)
     ∙ ap (after s) is)
 
@@ -89,21 +89,21 @@ drop_known (x ∷ group) more = drop_known group more
 
 told_as : (k : Watching) (name : ℕ) (what : NodeEvent) (m n : protocol.Node) (number count : ℕ) (group more : List Entry) (before : Standing)
     → standing k name ≡ before → standing_after before m ≡ standing_of n → view_of m ≡ view_of n → number ≡ count → group ≡ more
-    → told_step k name m what number group ≡ accepted (watched_step k name (standing_of n) (view_of n) (stored_of name before (standing_of n) (view_of n) what))
+    → told_step k name m what number group ≡ accept (watched_step k name (standing_of n) (view_of n) (stored_of name before (standing_of n) (view_of n) what))
     count more
 unfolding told_step
 told_as k name what m n number count group more before was stands ends counted grown =
-    ap (λ b. accepted (watched_step k name (standing_after b m) (view_of m) (stored_of name b (standing_after b m) (view_of m) what)) number group) was
-    ∙ ap (λ a. accepted (watched_step k name a (view_of m) (stored_of name before a (view_of m) what)) number group) stands
-    ∙ ap (λ v. accepted (watched_step k name (standing_of n) v (stored_of name before (standing_of n) v what)) number group) ends
-    ∙ ap (λ c. accepted (watched_step k name (standing_of n) (view_of n) (stored_of name before (standing_of n) (view_of n) what)) c group) counted
-    ∙ ap (λ g. accepted (watched_step k name (standing_of n) (view_of n) (stored_of name before (standing_of n) (view_of n) what)) count g) grown
+    ap (λ b. accept (watched_step k name (standing_after b m) (view_of m) (stored_of name b (standing_after b m) (view_of m) what)) number group) was
+    ∙ ap (λ a. accept (watched_step k name a (view_of m) (stored_of name before a (view_of m) what)) number group) stands
+    ∙ ap (λ v. accept (watched_step k name (standing_of n) v (stored_of name before (standing_of n) v what)) number group) ends
+    ∙ ap (λ c. accept (watched_step k name (standing_of n) (view_of n) (stored_of name before (standing_of n) (view_of n) what)) c group) counted
+    ∙ ap (λ g. accept (watched_step k name (standing_of n) (view_of n) (stored_of name before (standing_of n) (view_of n) what)) count g) grown
 
 is_itself : (name : ℕ) → (name == name) ≡ true
 is_itself name = grind (arith, nat_tests)
 
 lives_stay : (w : model.World) (e : Event) (what : NodeEvent) → current (comes w e (Ok what)) (place_of e.node) ≡ current w (place_of e.node)
-unfolding stepped
+unfolding with_step
 lives_stay w e what = refl
 
 act_at : (p : Play) (k : Watching) (e : Event) (what : NodeEvent) (m : protocol.Node) (known : ℕ) (group : List Entry)
@@ -112,12 +112,12 @@ act_at : (p : Play) (k : Watching) (e : Event) (what : NodeEvent) (m : protocol.
     → IsWatched (runs.after p e) (told_step k (actor (replay p) e) m what (known + 1) (drop known group))
 act_at p k e what m known group may kept within is end known_is group_is =
     let w = replay p in
-    let s = watched p.rules p.events in
+    let s = watch_run p.rules p.events in
     let name = actor w e in
     let old = w.nodes name in
     let st = step old what in
     let n = st.node in
-    let v = stepped w e name st in
+    let v = with_step w e name st in
     let to = stepped_to w e name st in
     let same : w ≡ s.world = sym (watched_is_run p.rules p.events) in
     let itself : set_at w.nodes name n name ≡ n = rw (is_itself name) refl in
@@ -125,9 +125,9 @@ act_at p k e what m known group may kept within is end known_is group_is =
     let now : replay (runs.after p e) ≡ v = replay_after p e ∙ is in
     let ends : IsEndOf n m = subst (λ x. IsEndOf x m) (ap (λ (x : model.World). x.nodes name) now ∙ node_is) end in
     let before : standing k name ≡ standing_of old = kept.sees.names name ∙ ap (λ (x : model.World). standing_of (x.nodes name)) (sym same) in
-    let more : drop known group ≡ added w.group n = ap (drop known) (group_is ∙ ap (λ (x : model.World). x.group) now ∙ to.group)
-    ∙ ap (λ c. drop c (w.group ++ added w.group n)) known_is ∙ drop_known w.group (added w.group n) in
-    let told_is = told_as k name what m n (known + 1) (length w.group + 1) (drop known group) (added w.group n) (standing_of old) before
+    let more : drop known group ≡ additions w.group n = ap (drop known) (group_is ∙ ap (λ (x : model.World). x.group) now ∙ to.group)
+    ∙ ap (λ c. drop c (w.group ++ additions w.group n)) known_is ∙ drop_known w.group (additions w.group n) in
+    let told_is = told_as k name what m n (known + 1) (length w.group + 1) (drop known group) (additions w.group n) (standing_of old) before
     (end_standing (standing_of old) n m ends (begins_at p.rules p.events e what may is)) (end_view_of n m ends) (ap (λ c. c + 1) known_is) more in
     let entries = stored_of name (standing_of old) (standing_of n) (view_of n) what in
     let facts = step_facts p.rules p.events e v may is in
@@ -138,12 +138,12 @@ act_at p k e what m known group may kept within is end known_is group_is =
       begins = subst (λ (x : protocol.Node). x.core.log.start ≤ length w.group) node_is facts.begins_;
       new = subst (λ (x : protocol.Node). decides old x ≡ true → IsNew w (view x)) node_is facts.new;
     } in
-    let P : model.World → Type 0 = λ x. Watches (accepted (watched_step k name (standing_of n) (view_of n) entries) (length x.group + 1) (added w.group n))
+    let P : model.World → Type 0 = λ x. Watches (accept (watched_step k name (standing_of n) (view_of n) entries) (length x.group + 1) (additions w.group n))
     (after s v) in
-    let watches = steps_are_watched k s v name n entries (added w.group n) kept (subst (λ x. Steps x name n entries) same done)
-    (subst (λ x. SteppedTo x v name n (added w.group n)) same to) in
-    subst (λ q. Watches q (watched p.rules (p.events ++ e ∷ []))) (sym told_is)
-    (subst (Watches (accepted (watched_step k name (standing_of n) (view_of n) entries) (length w.group + 1) (added w.group n)))
+    let watches = steps_are_watched k s v name n entries (additions w.group n) kept (subst (λ x. Steps x name n entries) same done)
+    (subst (λ x. SteppedTo x v name n (additions w.group n)) same to) in
+    subst (λ q. Watches q (watch_run p.rules (p.events ++ e ∷ []))) (sym told_is)
+    (subst (Watches (accept (watched_step k name (standing_of n) (view_of n) entries) (length w.group + 1) (additions w.group n)))
     (next_watched p.rules p.events e v is) (subst P (sym same) watches))
 
 pub act_is_watched : (p : Play) (k : Watching) (e : Event) (name : ℕ) (what : NodeEvent) (m : protocol.Node) (known : ℕ) (group : List Entry)
@@ -166,22 +166,22 @@ flip : (b : Bool) (k j : Watching) → (if b then k else j) ≡ (if not b then j
 flip true k j = refl
 flip false k j = refl
 
-answer_at : (p : Play) (k : Watching) (e : Event) (outcome : Outcome) → IsWatched p k → happens (replay p) e ≡ answered (replay p) e outcome
-    → IsWatched (runs.after p e) (if stops_by (is_stopped (replay p) (current (replay p) (place_of e.node))) outcome then stopped k
-    (current (replay p) (place_of e.node)) else passed k)
+answer_at : (p : Play) (k : Watching) (e : Event) (outcome : Outcome) → IsWatched p k → happens (replay p) e ≡ after_answer (replay p) e outcome
+    → IsWatched (runs.after p e) (if stops_by (is_stopped (replay p) (current (replay p) (place_of e.node))) outcome then stop k
+    (current (replay p) (place_of e.node)) else pass k)
 answer_at p k e said.Stopped kept is = stop_is_watched p.rules p.events e said.Stopped (current (replay p) (place_of e.node)) k is kept
 answer_at p k e (said.Returned life) kept is =
     let name = current (replay p) (place_of e.node) in
-    subst (IsWatched (runs.after p e)) (flip (is_stopped (replay p) name) (passed k) (stopped k name))
+    subst (IsWatched (runs.after p e)) (flip (is_stopped (replay p) name) (pass k) (stop k name))
     (return_is_watched p.rules p.events e (said.Returned life) (place_of e.node) k is kept)
 answer_at p k e outcome kept is = pass_is_watched p.rules p.events e outcome k is kept
 
 pub answer_is_watched : (p : Play) (k : Watching) (e : Event) (name : ℕ) (outcome : Outcome) (stops : Bool) → IsWatched p k
-    → name ≡ current (replay p) (place_of e.node) → happens (replay p) e ≡ answered (replay p) e outcome → stops ≡ stops_by (is_stopped (replay p) name) outcome
-    → IsWatched (runs.after p e) (if stops then stopped k name else passed k)
+    → name ≡ current (replay p) (place_of e.node) → happens (replay p) e ≡ after_answer (replay p) e outcome → stops ≡ stops_by (is_stopped (replay p) name) outcome
+    → IsWatched (runs.after p e) (if stops then stop k name else pass k)
 answer_is_watched p k e name outcome stops kept here is which =
     let now = answer_at p k e outcome kept is in
-    rw which (subst (λ j. IsWatched (runs.after p e) (if stops_by (is_stopped (replay p) j) outcome then stopped k j else passed k)) (sym here) now)
+    rw which (subst (λ j. IsWatched (runs.after p e) (if stops_by (is_stopped (replay p) j) outcome then stop k j else pass k)) (sym here) now)
 
 pub group_longer : (p : Play) (e : Event) (what : NodeEvent) → happens (replay p) e ≡ comes (replay p) e (Ok what)
     → length (replay p).group ≤ length (replay (runs.after p e)).group
@@ -189,11 +189,11 @@ group_longer p e what is =
     let w = replay p in
     let n = (step (w.nodes (actor w e)) what).node in
     let to = stepped_to w e (actor w e) (step (w.nodes (actor w e)) what) in
-    let now : (replay (runs.after p e)).group ≡ w.group ++ added w.group n = ap (λ (x : model.World). x.group) (replay_after p e ∙ is) ∙ to.group in
+    let now : (replay (runs.after p e)).group ≡ w.group ++ additions w.group n = ap (λ (x : model.World). x.group) (replay_after p e ∙ is) ∙ to.group in
     let long = ap length now in
-    let l = length-append w.group (added w.group n) in
+    let l = length-append w.group (additions w.group n) in
     omega arith
 
-pub begin_is_watched : (p : Play) (rules : Rules) (k : Watching) → MayFound rules → p ≡ record { rules = rules; events = [] } → k ≡ begun rules → IsWatched p k
+pub begin_is_watched : (p : Play) (rules : Rules) (k : Watching) → MayFound rules → p ≡ record { rules = rules; events = [] } → k ≡ first_watching rules → IsWatched p k
 begin_is_watched p rules k may is from = subst (λ q. IsWatched q k) (sym is)
     (subst (λ j. IsWatched (record { rules = rules; events = [] }) j) (sym from) (beginning_is_kept rules may))

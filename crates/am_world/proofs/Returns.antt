@@ -12,11 +12,11 @@ use Rattle.am_group.specs.declared.event.Event.{Event}
 use Rattle.am_group.specs.declared.event.Record.{Record}
 use Rattle.am_model.specs.Node.{stranger}
 use Rattle.am_model.specs.World as model
-use Rattle.am_model.specs.World.{happens, current, is_stopped, unchanged, lives_on}
+use Rattle.am_model.specs.World.{happens, current, is_stopped, with_record, lives_on}
 use Rattle.am_node.specs.declared.node.Node.{Node}
 use Rattle.am_node.specs.Stands.{state_of}
 use Rattle.am_world.specs.Runs.{Play, replay, AreNodes, AreLives, AreFlags, IsRun, play_of, Answers}
-use Rattle.am_world.specs.Asked.{answered}
+use Rattle.am_world.specs.Asked.{after_answer}
 use Rattle.am_world.proofs.Fresh.{fresh}
 use Rattle.std.proofs.lemmas.List.{get_or-set_same, get_or-set_other}
 use Rattle.am_world.proofs.Spots.{get_set_here, get_set_other}
@@ -87,10 +87,10 @@ pub return_goes_on : (p : Play) (first founding : Rules) (nodes : List Node) (li
     → play_of first records ≡ p → IsRun (play_of first records) nodes lives flags records group → length p.events < most_events
     → name ≡ current (replay p) (place_of e.node) → at ≡ place_of name → also ≡ place_of name → stop_at ≡ name → life ≡ life_of name + 1 → life ≤ 16
     → to ≡ name_at (place_of name) life → state_of n ≡ stranger first to
-    → IsRecorded (replay p) e (said.Returned life) [] first founding records pushed → happens (replay p) e ≡ answered (replay p) e (said.Returned life)
+    → IsRecorded (replay p) e (said.Returned life) [] first founding records pushed → happens (replay p) e ≡ after_answer (replay p) e (said.Returned life)
     → IsRun (play_of founding pushed) (slice_set nodes at n) (slice_set lives also life) (slice_set flags stop_at true) pushed group
     × Answers p e (said.Returned life)
-unfolding unchanged
+unfolding with_record
 return_goes_on p first founding nodes lives flags records pushed group e name at also to stop_at life n view ok few here there there_too stops next most goes
     new recorded is =
     let w = replay p in
@@ -106,7 +106,7 @@ return_goes_on p first founding nodes lives flags records pushed group e name at
     let name_is : to ≡ name_at place life = goes ∙ ap (λ k. name_at k life) placed in
     let begins : w.nodes (name_at place life) ≡ stranger p.rules (name_at place life) = fresh p.rules p.events place life may within (omega arith) in
     let node_is : state_of n ≡ stranger p.rules (name_at place life) = new ∙ ap (λ r. stranger r to) rules ∙ ap (stranger p.rules) name_is in
-    let v = lives_on (unchanged w e (said.Returned life)) place in
+    let v = lives_on (with_record w e (said.Returned life)) place in
     let nodes_are = nodes_more w p.rules nodes place life n within life_is begins node_is was.standing in
     let lives_are = lives_more w lives place life within life_is most was.living in
     let flags_are = flags_on w flags place (name_within w lives place within was.living) was.stopped in

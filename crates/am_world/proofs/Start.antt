@@ -18,7 +18,7 @@ use Rattle.am_model.specs.Ballots.{Verdict}
 use Rattle.am_model.specs.Refresh.{refresh, settle}
 use Rattle.am_model.specs.Emit.{Step}
 use Rattle.am_model.specs.Group.{has_log}
-use Rattle.am_model.specs.World.{World, run, happens, stepped, unchanged}
+use Rattle.am_model.specs.World.{World, run, happens, with_step, with_record}
 use Rattle.am_model.proofs.Greatest.{split, and_both}
 use Rattle.am_effects.specs.Causes.{Cause, calls, hears, refuses, BringsFronts, with_entry, with_number, alone}
 use Rattle.am_effects.specs.Looks.{BeginsBy, by_reset, by_hand_over, Balloting, with_more, without_one, as_it_is, Looks, finds_itself_out, waits}
@@ -217,7 +217,7 @@ begins_same m = rw (no_begin m.status) refl
 
 begins_in : (rules : Rules) (events : List Event) (e : Event) (v : World) → MayFound rules → Happens (run rules events) e v
     → BeginsAt ((run rules events).nodes (actor (run rules events) e)) (v.nodes (actor (run rules events) e))
-unfolding stepped unchanged
+unfolding with_step with_record
 begins_in rules events e _ may (idles o idle) = begins_same ((run rules events).nodes (actor (run rules events) e))
 begins_in rules events e _ may (stops running) = begins_same ((run rules events).nodes (actor (run rules events) e))
 begins_in rules events e _ may (returns place at gone few) = begins_same ((run rules events).nodes (actor (run rules events) e))
@@ -232,12 +232,12 @@ begins_in rules events e _ may (steps c s running cause effect) =
 
 -- where the list of a name's node begins once it did a step
 pub step_begins : (rules : Rules) (events : List Event) (e : Event) (s : Step) → MayFound rules
-    → happens (run rules events) e ≡ stepped (run rules events) e (actor (run rules events) e) s
+    → happens (run rules events) e ≡ with_step (run rules events) e (actor (run rules events) e) s
     → BeginsAt ((run rules events).nodes (actor (run rules events) e)) s.node
-unfolding stepped
+unfolding with_step
 step_begins rules events e s may is =
     let w = run rules events in
     let name = actor w e in
-    let h : BeginsAt (w.nodes name) ((stepped w e name s).nodes name) =
-    begins_in rules events e (stepped w e name s) may (subst (Happens w e) is (events_have_effects w e)) in
+    let h : BeginsAt (w.nodes name) ((with_step w e name s).nodes name) =
+    begins_in rules events e (with_step w e name s) may (subst (Happens w e) is (events_have_effects w e)) in
     rw (is_itself name) at h

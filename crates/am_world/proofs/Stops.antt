@@ -12,10 +12,10 @@ use Rattle.am_base.specs.Names.{place_of}
 use Rattle.am_group.specs.declared.event.Event.{Event}
 use Rattle.am_group.specs.declared.event.Record.{Record}
 use Rattle.am_model.specs.World as model
-use Rattle.am_model.specs.World.{happens, current, is_stopped, unchanged}
+use Rattle.am_model.specs.World.{happens, current, is_stopped, with_record}
 use Rattle.am_node.specs.declared.node.Node.{Node}
 use Rattle.am_world.specs.Runs.{Play, replay, AreLives, AreFlags, IsRun, play_of, Answers}
-use Rattle.am_world.specs.Asked.{answered}
+use Rattle.am_world.specs.Asked.{after_answer}
 use Rattle.am_world.proofs.Goes.{IsRecorded, goes_on, shows_at}
 
 same_suc : (a b : ℕ) → (suc a == suc b) ≡ (a == b)
@@ -73,9 +73,9 @@ pub stop_goes_on : (p : Play) (first founding : Rules) (nodes : List Node) (live
     (group : List Entry) (e : Event) (name at : ℕ)
     → play_of first records ≡ p → IsRun (play_of first records) nodes lives flags records group → length p.events < most_events
     → name ≡ current (replay p) (place_of e.node) → at ≡ name
-    → IsRecorded (replay p) e said.Stopped [] first founding records pushed → happens (replay p) e ≡ answered (replay p) e said.Stopped
+    → IsRecorded (replay p) e said.Stopped [] first founding records pushed → happens (replay p) e ≡ after_answer (replay p) e said.Stopped
     → IsRun (play_of founding pushed) nodes lives (slice_set flags at true) pushed group × Answers p e said.Stopped
-unfolding unchanged
+unfolding with_record
 stop_goes_on p first founding nodes lives flags records pushed group e name at view ok few here there recorded is =
     let w = replay p in
     let now = current w (place_of e.node) in
@@ -84,9 +84,9 @@ stop_goes_on p first founding nodes lives flags records pushed group e name at v
     let within : place_of e.node < 16 = omega arith in
     let more = flags_more w now flags (name_within w lives (place_of e.node) within was.living) was.stopped in
     goes_on p first founding nodes nodes lives lives flags (slice_set flags at true) records pushed group group e said.Stopped []
-    (unchanged (stopping w now) e said.Stopped) view ok few recorded
+    (with_record (stopping w now) e said.Stopped) view ok few recorded
     (record { happens_ = is; records = refl; letters_ = sym (append-nil w.letters) })
     (record { count = was.standing.count; each = was.standing.each }) (record { count = was.living.count; each = was.living.each; within = was.living.within })
-    (subst (λ k. AreFlags (slice_set flags k true) (unchanged (stopping w now) e said.Stopped)) (sym (there ∙ here))
+    (subst (λ k. AreFlags (slice_set flags k true) (with_record (stopping w now) e said.Stopped)) (sym (there ∙ here))
     (record { count = more.count; each = more.each }))
     was.agreed (omega arith)

@@ -11,7 +11,7 @@ use Rattle.am_base.specs.Stamps.{stamp_eq}
 use Rattle.am_group.specs.declared.event.Event.{Event}
 use Rattle.am_model.specs.Node.{Node, view, is_member}
 use Rattle.am_model.specs.Step.{step}
-use Rattle.am_model.specs.World.{World, run, happens, stepped, unchanged, lives_on, decides}
+use Rattle.am_model.specs.World.{World, run, happens, with_step, with_record, lives_on, decides}
 use Rattle.am_model.specs.Lawful.{is_view_of}
 use Rattle.am_effects.specs.Events.{actor, Happens, idles, stops, returns, steps}
 use Rattle.am_effects.proofs.Events.{events_have_effects}
@@ -28,7 +28,7 @@ use Rattle.am_world.proofs.StoredSteps.{step_adds, told_is}
 -- where the list of a name's node begins after a step
 pub begins_at : (rules : Rules) (events : List Event) (e : Event) (what : NodeEvent) → MayFound rules
     → let w = run rules events in let m = w.nodes (actor w e) in let n = (step m what).node in
-    happens w e ≡ stepped w e (actor w e) (step m what) → n.core.log.start ≡ (if begins (standing_of m) n.status then n.core.base else m.core.log.start)
+    happens w e ≡ with_step w e (actor w e) (step m what) → n.core.log.start ≡ (if begins (standing_of m) n.status then n.core.base else m.core.log.start)
 begins_at rules events e what may is =
     let w = run rules events in
     step_begins rules events e (step (w.nodes (actor w e)) what) may is
@@ -36,7 +36,7 @@ begins_at rules events e what may is =
 -- which Views stand in it
 pub stores : (rules : Rules) (events : List Event) (e : Event) (what : NodeEvent) → MayFound rules
     → let w = run rules events in let name = actor w e in let m = w.nodes name in let n = (step m what).node in
-    happens w e ≡ stepped w e name (step m what)
+    happens w e ≡ with_step w e name (step m what)
     → (v : Stamp) → list_any (is_view_of v) n.core.log.entries
     ≡ (list_any (is_view_of v) m.core.log.entries || list_any (is_view_of v) (stored_of name (standing_of m) (standing_of n) (view_of n) what))
 stores rules events e what may is v =
@@ -80,8 +80,8 @@ facts_same rules events e v may same =
 
 facts : (rules : Rules) (events : List Event) (e : Event) (v : World) → MayFound rules → happens (run rules events) e ≡ v → Happens (run rules events) e v
     → StepFacts (run rules events) v (actor (run rules events) e)
-unfolding stepped unchanged
-facts rules events e _ may is (idles o idle) = facts_same rules events e (unchanged (run rules events) e o) may refl
+unfolding with_step with_record
+facts rules events e _ may is (idles o idle) = facts_same rules events e (with_record (run rules events) e o) may refl
 facts rules events e _ may is (stops running) = facts_same rules events e _ may refl
 facts rules events e _ may is (returns place at gone few) = facts_same rules events e _ may refl
 facts rules events e _ may is (steps c s running cause effect) =

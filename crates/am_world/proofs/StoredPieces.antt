@@ -15,11 +15,11 @@ use Rattle.am_base.specs.Lists.{Log, fits, with_entry}
 use Rattle.am_packet.specs.declared.packet.Packet.TheVariants as packet
 use Rattle.am_model.specs.declared.status.Status.{Status}
 use Rattle.am_model.specs.Group.{has_log}
-use Rattle.am_model.specs.Node.{Node, Ballot, top, told, view, those, is_member, has_own_leave, is_within_bound, pushed, trimmed}
+use Rattle.am_model.specs.Node.{Node, Ballot, top, image_of, view, those, is_member, has_own_leave, is_within_bound, push_entry, trim_up_to}
 use Rattle.am_model.specs.Emit.{Plan, Step, quiet, finish}
-use Rattle.am_model.specs.Ballots.{Verdict, promised, need_of, best_of, is_waited_for, left_in, trimmed_for, decide, decide_view, ends, restarted}
+use Rattle.am_model.specs.Ballots.{Verdict, with_promise, need_of, best_of, is_waited_for, left_in, trim_for, decide, decide_view, ends, restart_reports}
 use Rattle.am_model.specs.Refresh.{refresh_at_end}
-use Rattle.am_model.specs.Resets.{is_view_past, fetched, caught_up, fetched_for, fetches_from, piece_promised, piece_for, piece_row, hears_result, result_row}
+use Rattle.am_model.specs.Resets.{is_view_past, push_fetched, catch_up, decide_anew, fetches_from, piece_promised, piece_for, piece_row, hears_result, result_row}
 use Rattle.am_model.specs.Hearing.{hears_member, hear_row}
 use Rattle.am_model.specs.Lawful.{is_view_of}
 use Rattle.am_model.proofs.Greatest.{split, and_both}
@@ -78,13 +78,13 @@ quietly name brought m o = record { stays = refl; adds = none (λ v. refl) refl 
 -- the list stays, or has the ballot's View more
 data ComesTo (p : Node) (b : Ballot) (v : Verdict) : Type 0 where
   stays : v.node.core.log ≡ p.core.log → v.node.status ≡ p.status → ComesTo p b v
-  decided : (names : List ℕ) (resilience : ℕ) → v.node.core.log ≡ (pushed p (View b.stamp names resilience)).core.log → v.node.status ≡ p.status → ComesTo p b v
+  decided : (names : List ℕ) (resilience : ℕ) → v.node.core.log ≡ (push_entry p (View b.stamp names resilience)).core.log → v.node.status ≡ p.status → ComesTo p b v
 
 view_comes : (p t : Node) (b : Ballot) (names : List ℕ) → t.core.log ≡ p.core.log → t.status ≡ p.status → ComesTo p b (decide_view t b names)
 view_comes p t b names log same =
-    let resilience = max b.resilience (told t).resilience in
+    let resilience = max b.resilience (image_of t).resilience in
     if_else (ComesTo p b) (nat_lt (t.core.rules.window + 16 - size names) (top t + 1 - t.core.base)) (ends t b (said.Crowded t.core.base (top t)))
-    (ends (restarted (pushed t (View b.stamp names resilience))) b (said.Decided (top t + 1) names))
+    (ends (restart_reports (push_entry t (View b.stamp names resilience))) b (said.Decided (top t + 1) names))
     (λ t. stays log same)
     (λ f. decided names resilience (ap (λ (l : Log). with_entry l (View b.stamp names resilience)) log) same)
 
@@ -98,7 +98,7 @@ comes_to p b =
     (λ f. if_else C (nat_lt 0 (size (those (is_waited_for p.core.who b) need))) _ _ (λ t. stays refl refl)
     (λ g. if_else C (not ((best_of p b).by == p.core.who)) _ _ (λ t. stays refl refl)
     (λ k. if_else C (nat_lt (size names) b.least) _ _ (λ t. stays refl refl)
-    (λ l. view_comes p (trimmed_for p b names) b names refl refl))))
+    (λ l. view_comes p (trim_for p b names) b names refl refl))))
 
 -- ---- an entry that comes
 
@@ -120,34 +120,34 @@ differs a b h = split (stamp_eq a b)
     (λ f. f)
 
 -- it stands alone
-came : (name : ℕ) (m : Node) (base : ℕ) (e : Entry) (s : Status) → is_member m.status ≡ true → fits (told m) e ≡ true
-    → Adds name (e ∷ []) m s (pushed (trimmed m base) e).core.log
+came : (name : ℕ) (m : Node) (base : ℕ) (e : Entry) (s : Status) → is_member m.status ≡ true → fits (image_of m) e ≡ true
+    → Adds name (e ∷ []) m s (push_entry (trim_up_to m base) e).core.log
 came name m base (Data from req body) s member fit = none (λ v. has_view_plain m _ v refl) (view_pushed m _ refl)
 came name m base (Join joiner) s member fit = none (λ v. has_view_plain m _ v refl) (view_pushed m _ refl)
 came name m base (Leave leaver) s member fit = none (λ v. has_view_plain m _ v refl) (view_pushed m _ refl)
 came name m base (View stamp names resilience) s member fit =
     let e = View stamp names resilience in
-    let same : view_in (pushed m e).core.log ≡ stamp = view_of_pushed m stamp names resilience in
-    let one : (v : Stamp) → (any_of (e ∷ []) v || stamp_eq (view_in (pushed m e).core.log) v) ≡ stamp_eq (view_in (pushed m e).core.log) v =
+    let same : view_in (push_entry m e).core.log ≡ stamp = view_of_pushed m stamp names resilience in
+    let one : (v : Stamp) → (any_of (e ∷ []) v || stamp_eq (view_in (push_entry m e).core.log) v) ≡ stamp_eq (view_in (push_entry m e).core.log) v =
     λ v. ap (λ (u : Stamp). (stamp_eq stamp v || false) || stamp_eq u v) same ∙ twice (stamp_eq stamp v) ∙ ap (λ (u : Stamp). stamp_eq u v) (sym same) in
     last
     (λ v. has_view_more m e v ∙ ap (λ (u : Stamp). has_view m.core.log v || stamp_eq u v) (sym same) ∙ ap (λ b. has_view m.core.log v || b) (sym (one v)))
-    (ap (λ (u : Stamp). stamp_lt (view m) u) same ∙ fits_above (told m) stamp names resilience fit)
+    (ap (λ (u : Stamp). stamp_lt (view m) u) same ∙ fits_above (image_of m) stamp names resilience fit)
     (λ t. member)
     (λ f. one)
 
 -- and then a decided View
 came_decided : (name : ℕ) (m : Node) (base : ℕ) (e : Entry) (s : Status) (stamp : Stamp) (names : List ℕ) (resilience : ℕ) → is_member m.status ≡ true
     → stamp_lt (view m) stamp ≡ true → stamp.by ≡ name
-    → Adds name (e ∷ []) m s (pushed (pushed (trimmed m base) e) (View stamp names resilience)).core.log
+    → Adds name (e ∷ []) m s (push_entry (push_entry (trim_up_to m base) e) (View stamp names resilience)).core.log
 came_decided name m base e s stamp names resilience member above own =
-    let p = pushed m e in
+    let p = push_entry m e in
     let d = View stamp names resilience in
-    let same : view_in (pushed p d).core.log ≡ stamp = view_of_pushed p stamp names resilience in
-    let by : ((view_in (pushed p d).core.log).by == name) ≡ true = let q : (view_in (pushed p d).core.log).by ≡ name = ap (λ (u : Stamp). u.by) same ∙ own in
+    let same : view_in (push_entry p d).core.log ≡ stamp = view_of_pushed p stamp names resilience in
+    let by : ((view_in (push_entry p d).core.log).by == name) ≡ true = let q : (view_in (push_entry p d).core.log).by ≡ name = ap (λ (u : Stamp). u.by) same ∙ own in
     is_name _ name q in
-    let up : stamp_lt (view m) (view_in (pushed p d).core.log) ≡ true = ap (λ (u : Stamp). stamp_lt (view m) u) same ∙ above in
-    let new = differs (view m) (view_in (pushed p d).core.log) up in
+    let up : stamp_lt (view m) (view_in (push_entry p d).core.log) ≡ true = ap (λ (u : Stamp). stamp_lt (view m) u) same ∙ above in
+    let new = differs (view m) (view_in (push_entry p d).core.log) up in
     last
     (λ v. has_view_more p d v ∙ ap (λ b. b || stamp_eq stamp v) (has_view_more m e v) ∙ or_swaps (has_view m.core.log v) (is_view_of v e) (stamp_eq stamp v)
     ∙ (λ i. has_view m.core.log v || (sym (or_none (is_view_of v e)) i || stamp_eq (sym same i) v)))
@@ -158,8 +158,8 @@ came_decided name m base e s stamp names resilience member above own =
 -- ---- a Piece
 
 fetched_adds : (name : ℕ) (m : Node) (v : Stamp) (base number : ℕ) (e : Entry) (in_ballot : Bool) (then_ : Node → Plan)
-    → (fits (told m) e ≡ true → PlanAdds name (e ∷ []) m (then_ (pushed (trimmed m base) e)))
-    → PlanAdds name (e ∷ []) m (fetched m v base number e in_ballot then_)
+    → (fits (image_of m) e ≡ true → PlanAdds name (e ∷ []) m (then_ (push_entry (trim_up_to m base) e)))
+    → PlanAdds name (e ∷ []) m (push_fetched m v base number e in_ballot then_)
 fetched_adds name m v base number e in_ballot then_ goes =
     let P : Plan → Type 0 = PlanAdds name (e ∷ []) m in
     let q = quietly name (e ∷ []) m in
@@ -167,17 +167,17 @@ fetched_adds name m v base number e in_ballot then_ goes =
     (λ f. if_else P (has_own_leave m) _ _ (λ t. q said.Behind)
     (λ g. if_else P (nat_lt (top m + 1) number) _ _ (λ t. q (said.Gap (top m + 1)))
     (λ k. if_else P (nat_lt m.core.taken base) _ _ (λ t. q said.Behind)
-    (λ l. if_else P (not (fits (told m) e) || (is_view_past v in_ballot e || not (is_within_bound m (max m.core.base base) number))) _ _ (λ t. q said.Unfit)
-    (λ u. goes (not_false _ (or_first (not (fits (told m) e)) _ u)))))))
+    (λ l. if_else P (not (fits (image_of m) e) || (is_view_past v in_ballot e || not (is_within_bound m (max m.core.base base) number))) _ _ (λ t. q said.Unfit)
+    (λ u. goes (not_false _ (or_first (not (fits (image_of m) e)) _ u)))))))
 
 promised_adds : (name : ℕ) (m : Node) (s : ℕ) (v : Stamp) (base number : ℕ) (e : Entry) → is_member m.status ≡ true
     → PlanAdds name (e ∷ []) m (piece_promised m s v base number e)
 promised_adds name m s v base number e member =
     if_else (PlanAdds name (e ∷ []) m) (not (v.by == s)) _ _ (λ t. quietly name (e ∷ []) m said.Elsewhere)
-    (λ f. fetched_adds name m v base number e false (caught_up s v number) (λ fit. record { stays = refl; adds = came name m base e m.status member fit }))
+    (λ f. fetched_adds name m v base number e false (catch_up s v number) (λ fit. record { stays = refl; adds = came name m base e m.status member fit }))
 
-decided_adds : (name : ℕ) (m : Node) (base : ℕ) (e : Entry) (b : Ballot) (v : Verdict) → ComesTo (pushed (trimmed m base) e) b v → m.core.who ≡ name
-    → is_member m.status ≡ true → IsOpen m.core.who m.core.promise (view m) b → fits (told m) e ≡ true → Adds name (e ∷ []) m v.node.status v.node.core.log
+decided_adds : (name : ℕ) (m : Node) (base : ℕ) (e : Entry) (b : Ballot) (v : Verdict) → ComesTo (push_entry (trim_up_to m base) e) b v → m.core.who ≡ name
+    → is_member m.status ≡ true → IsOpen m.core.who m.core.promise (view m) b → fits (image_of m) e ≡ true → Adds name (e ∷ []) m v.node.status v.node.core.log
 decided_adds name m base e b v (stays log same) who member open_ fit =
     subst (Adds name (e ∷ []) m v.node.status) (sym log) (came name m base e v.node.status member fit)
 decided_adds name m base e b v (decided names resilience log same) who member open_ fit =
@@ -191,8 +191,8 @@ piece_for_adds name m s v base number e (Some b) who member open_ =
     let P : Plan → Type 0 = PlanAdds name (e ∷ []) m in
     if_else P b.is_over _ _ (λ t. promised_adds name m s v base number e member)
     (λ f. if_else P (not (fetches_from b.answer s)) _ _ (λ t. quietly name (e ∷ []) m said.Elsewhere)
-    (λ g. fetched_adds name m v base number e true (fetched_for b)
-    (λ fit. let p = pushed (trimmed m base) e in record {
+    (λ g. fetched_adds name m v base number e true (decide_anew b)
+    (λ fit. let p = push_entry (trim_up_to m base) e in record {
       stays = refl;
       adds =
           decided_adds name m base e b (decide p b) (comes_to p b) who member (open_ f) fit;
@@ -211,30 +211,30 @@ piece_adds name m s v base number e who kept =
 -- ---- a Result
 
 viewed_adds : (name : ℕ) (m : Node) (stamp : Stamp) (names : List ℕ) (resilience : ℕ) → is_member m.status ≡ true
-    → fits (told m) (View stamp names resilience) ≡ true → Adds name [] m m.status (pushed m (View stamp names resilience)).core.log
+    → fits (image_of m) (View stamp names resilience) ≡ true → Adds name [] m m.status (push_entry m (View stamp names resilience)).core.log
 viewed_adds name m stamp names resilience member fit =
     let e = View stamp names resilience in
-    let same : view_in (pushed m e).core.log ≡ stamp = view_of_pushed m stamp names resilience in
+    let same : view_in (push_entry m e).core.log ≡ stamp = view_of_pushed m stamp names resilience in
     last
     (λ v. has_view_more m e v ∙ ap (λ (u : Stamp). has_view m.core.log v || stamp_eq u v) (sym same))
-    (ap (λ (u : Stamp). stamp_lt (view m) u) same ∙ fits_above (told m) stamp names resilience fit)
+    (ap (λ (u : Stamp). stamp_lt (view m) u) same ∙ fits_above (image_of m) stamp names resilience fit)
     (λ t. member)
     (λ f v. refl)
 
 promised_result : (name : ℕ) (m : Node) (s : ℕ) (v : Stamp) (base number : ℕ) (names : List ℕ) (resilience : ℕ) → is_member m.status ≡ true
-    → PlanAdds name [] m (hears_result (promised m v) s v base number names resilience)
+    → PlanAdds name [] m (hears_result (with_promise m v) s v base number names resilience)
 promised_result name m s v base number names resilience member =
     let P : Plan → Type 0 = PlanAdds name [] m in
-    let p = promised m v in
+    let p = with_promise m v in
     let e = View v names resilience in
     if_else P (stamp_eq (view p) v) _ _ (λ t. record { stays = refl; adds = none (λ u. refl) refl })
     (λ f. if_else P (nat_le number (top p)) _ _ (λ t. record { stays = refl; adds = none (λ u. refl) refl })
     (λ g. if_else P (has_own_leave p) _ _ (λ t. record { stays = refl; adds = none (λ u. refl) refl })
     (λ k. if_else P (nat_lt (top p + 1) number) _ _ (λ t. record { stays = refl; adds = none (λ u. refl) refl })
     (λ l. if_else P (nat_lt p.core.taken base) _ _ (λ t. record { stays = refl; adds = none (λ u. refl) refl })
-    (λ q. if_else P (not (fits (told p) e) || not (is_within_bound p (max p.core.base base) number)) _ _
+    (λ q. if_else P (not (fits (image_of p) e) || not (is_within_bound p (max p.core.base base) number)) _ _
     (λ t. record { stays = refl; adds = none (λ u. refl) refl })
-    (λ u. record { stays = refl; adds = viewed_adds name m v names resilience member (not_false _ (or_first (not (fits (told p) e)) _ u)) }))))))
+    (λ u. record { stays = refl; adds = viewed_adds name m v names resilience member (not_false _ (or_first (not (fits (image_of p) e)) _ u)) }))))))
 
 pub result_adds : (name : ℕ) (m : Node) (s : ℕ) (v : Stamp) (base number : ℕ) (names : List ℕ) (resilience : ℕ)
     → PlanAdds name [] m (hear_row m (packet.Result s v base number names resilience))

@@ -19,7 +19,7 @@ use Rattle.am_model.specs.declared.status.Status.TheVariants as status
 use Rattle.am_model.specs.Node.{Node, Ballot, view, is_member}
 use Rattle.am_model.specs.Emit.{Step, finish}
 use Rattle.am_model.specs.Hearing.{hear_row}
-use Rattle.am_model.specs.Step.{read_row, step, row, hear, refused}
+use Rattle.am_model.specs.Step.{read_row, step, row, hear, hear_refusal}
 use Rattle.am_model.specs.Group.{has_log}
 use Rattle.am_laws.proofs.ViewChanges.{log_of_member}
 use Rattle.am_model.specs.Lawful.{is_view_of}
@@ -31,7 +31,7 @@ use Rattle.am_laws.proofs.ViewChanges.{Balloted, OpenBallot}
 use Rattle.am_watch.specs.Watching.{decides}
 use Rattle.am_watch.specs.Watches.{standing_of, view_of}
 use Rattle.am_watched.proofs.Lists.{IsBare}
-use Rattle.am_world.specs.Watched.{begins, one_of, piece_in, fetched_from, fetched, last_view, stored_of}
+use Rattle.am_world.specs.Watched.{begins, one_of, piece_in, fetched_from, entry_in, last_view, stored_of}
 use Rattle.am_world.proofs.StoredViews.{has_view, or_none, IsAbove, BringsNone, Walked, still, more, new, walked}
 use Rattle.am_world.proofs.StoredPieces.{any_of, Adds, none, last, began, StepAdds, finish_adds, differs, piece_adds, result_adds}
 
@@ -92,12 +92,12 @@ hear_adds name m (HandOver s v) who kept bare = packet_adds name m _ refl kept b
 
 read_adds : (name : ℕ) (m : Node) (r : Read Packet) → m.core.who ≡ name → Balloted m → IsBare m
     → StepAdds name (one_of (fetched_from r)) m (finish m (read_row m r))
-unfolding hear refused
+unfolding hear hear_refusal
 read_adds name m (Ok p) who kept bare = hear_adds name m p who kept bare
-read_adds name m (Err refusal) who kept bare = plain_adds name m refuses (refused m (cause_of refusal)) refl kept bare
+read_adds name m (Err refusal) who kept bare = plain_adds name m refuses (hear_refusal m (cause_of refusal)) refl kept bare
     (refusing_has_effects m (cause_of refusal))
 
-pub step_adds : (name : ℕ) (m : Node) (what : NodeEvent) → m.core.who ≡ name → Balloted m → IsBare m → StepAdds name (one_of (fetched what)) m (step m what)
+pub step_adds : (name : ℕ) (m : Node) (what : NodeEvent) → m.core.who ≡ name → Balloted m → IsBare m → StepAdds name (one_of (entry_in what)) m (step m what)
 unfolding step row
 step_adds name m (does.Send body) who kept bare = plain_adds name m _ (step m (does.Send body)) refl kept bare (steps_have_effects m (does.Send body))
 step_adds name m (does.Done req) who kept bare = plain_adds name m _ (step m (does.Done req)) refl kept bare (steps_have_effects m (does.Done req))
@@ -139,18 +139,18 @@ itself : (a : Stamp) → stamp_eq a a ≡ true
 itself a = grind (arith, nat_tests)
 
 -- the Views of what is told are those that were added
-pub told_is : (name : ℕ) (m n : Node) (what : NodeEvent) (v : Stamp) → Adds name (one_of (fetched what)) m n.status n.core.log
+pub told_is : (name : ℕ) (m n : Node) (what : NodeEvent) (v : Stamp) → Adds name (one_of (entry_in what)) m n.status n.core.log
     → has_view n.core.log v ≡ (has_view m.core.log v || any_of (stored_of name (standing_of m) (standing_of n) (view_of n) what) v)
 told_is name m n what v (none views same) =
     let old = has_view m.core.log v in
-    let told : Bool → List Entry = λ b. if b then [] else (if decides (standing_of m) name (standing_of n) then one_of (fetched what) else [])
+    let told : Bool → List Entry = λ b. if b then [] else (if decides (standing_of m) name (standing_of n) then one_of (entry_in what) else [])
     ++ last_view (view_of n) ∷ [] in
     let is : (begins (standing_of m) n.status || stamp_eq (view m) (view n)) ≡ true =
     or_true (begins (standing_of m) n.status) _ (ap (stamp_eq (view m)) same ∙ itself (view m)) in
     views v ∙ sym (or_none old) ∙ ap (λ b. old || any_of (told b) v) (sym is)
 told_is name m n what v (last views above member absorbed) =
     let old = has_view m.core.log v in
-    let es = one_of (fetched what) in
+    let es = one_of (entry_in what) in
     let l = last_view (view_of n) in
     let same = stamp_eq (view n) v in
     let with_ : Bool → List Entry = λ d. (if d then es else []) ++ l ∷ [] in
@@ -165,7 +165,7 @@ told_is name m n what v (last views above member absorbed) =
     views v ∙ ap (λ b. old || b) all ∙ ap (λ b. old || any_of (told b) v) (sym is)
 told_is name m n what v (began views bare was is_) =
     let old = has_view m.core.log v in
-    let told : Bool → List Entry = λ b. if b then [] else (if decides (standing_of m) name (standing_of n) then one_of (fetched what) else [])
+    let told : Bool → List Entry = λ b. if b then [] else (if decides (standing_of m) name (standing_of n) then one_of (entry_in what) else [])
     ++ last_view (view_of n) ∷ [] in
     let is : (begins (standing_of m) n.status || stamp_eq (view m) (view n)) ≡ true =
     first_true (begins (standing_of m) n.status) _ (just_begun (has_log m.status) (is_member n.status) was is_) in

@@ -14,11 +14,11 @@ use Rattle.am_base.specs.Stamps.{stamp_lt, stamp_eq}
 use Rattle.am_base.specs.Lists.{Log, told_by}
 use Rattle.am_packet.specs.declared.packet.Packet.TheVariants as packet
 use Rattle.am_model.specs.declared.status.Status.TheVariants as status
-use Rattle.am_model.specs.Node.{Node, Ballot, top, told, view, acts, is_sequencer, is_member, pushed}
-use Rattle.am_model.specs.Ballots.{Verdict, overtaken, need_of, left_in, trimmed_for, next_stamp}
+use Rattle.am_model.specs.Node.{Node, Ballot, top, image_of, view, acts, is_sequencer, is_member, push_entry}
+use Rattle.am_model.specs.Ballots.{Verdict, overtake, need_of, left_in, trim_for, next_stamp}
 use Rattle.am_model.specs.Refresh.{refresh, settle, refresh_at_end}
 use Rattle.am_model.specs.Receiving.{is_view}
-use Rattle.am_model.specs.Joining.{begun}
+use Rattle.am_model.specs.Joining.{begin_list}
 use Rattle.am_model.specs.Group.{has_log}
 use Rattle.am_model.specs.Lawful.{is_view_of}
 use Rattle.am_model.proofs.Greatest.{split, and_both}
@@ -59,15 +59,15 @@ plain_is_none v (Join name) f = refl
 plain_is_none v (Leave name) f = refl
 plain_is_none v (View stamp names resilience) f = absurd (cc)
 
-pub has_view_more : (m : Node) (e : Entry) (v : Stamp) → has_view (pushed m e).core.log v ≡ (has_view m.core.log v || is_view_of v e)
+pub has_view_more : (m : Node) (e : Entry) (v : Stamp) → has_view (push_entry m e).core.log v ≡ (has_view m.core.log v || is_view_of v e)
 has_view_more m e v = list_any-append (is_view_of v) m.core.log.entries (e ∷ []) ∙ ap (λ b. has_view m.core.log v || b) (or_none (is_view_of v e))
 
-pub has_view_plain : (m : Node) (e : Entry) (v : Stamp) → is_view e ≡ false → has_view (pushed m e).core.log v ≡ has_view m.core.log v
+pub has_view_plain : (m : Node) (e : Entry) (v : Stamp) → is_view e ≡ false → has_view (push_entry m e).core.log v ≡ has_view m.core.log v
 has_view_plain m e v plain = has_view_more m e v ∙ ap (λ b. has_view m.core.log v || b) (plain_is_none v e plain) ∙ or_none (has_view m.core.log v)
 
-pub view_of_pushed : (m : Node) (stamp : Stamp) (names : List ℕ) (resilience : ℕ) → view (pushed m (View stamp names resilience)) ≡ stamp
+pub view_of_pushed : (m : Node) (stamp : Stamp) (names : List ℕ) (resilience : ℕ) → view (push_entry m (View stamp names resilience)) ≡ stamp
 view_of_pushed m stamp names resilience = ap (λ (i : Image). i.view) (told_pushed m (View stamp names resilience))
-    ∙ (viewed (told m) (top m + 1) stamp names resilience).1
+    ∙ (viewed (image_of m) (top m + 1) stamp names resilience).1
 
 numbers_plain : (c : Cause) (m : Node) (e : Entry) → Numbers c m e → is_view e ≡ false
 numbers_plain c m e (asked_send s v report req body by known stays next) = refl
@@ -137,10 +137,10 @@ still_same m x y stays promise log ballot h = record {
   bare = λ f. h.bare (ap has_log (sym stays) ∙ f);
 }
 
-still_plain : (m x y : Node) (e : Entry) → is_view e ≡ false → y.status ≡ x.status → y.core.promise ≡ x.core.promise → y.core.log ≡ (pushed x e).core.log
+still_plain : (m x y : Node) (e : Entry) → is_view e ≡ false → y.status ≡ x.status → y.core.promise ≡ x.core.promise → y.core.log ≡ (push_entry x e).core.log
     → y.ballot ≡ x.ballot → Still m x → Still m y
 still_plain m x y e plain stays promise log ballot h =
-    let p = pushed x e in
+    let p = push_entry x e in
     let k : Still m p = record {
       views = λ v. has_view_plain x e v plain ∙ h.views v;
       same = view_pushed x e plain ∙ h.same;
@@ -161,7 +161,7 @@ departed m x y core ballot gone h = record {
   bare = λ f. absurd (let u = ap has_log gone in cc);
 }
 
-above_overtaken : (v by : Stamp) (ballot : Option Ballot) → IsAbove v ballot → IsAbove v (overtaken by ballot)
+above_overtaken : (v by : Stamp) (ballot : Option Ballot) → IsAbove v ballot → IsAbove v (overtake by ballot)
 above_overtaken v by None h = tt
 above_overtaken v by (Some b) h = split (not b.is_over && stamp_lt b.stamp by)
     (λ t. rw t (λ over. absurd (cc)))
@@ -198,7 +198,7 @@ look_still o m x b v (finds_too_few y z) is up h = still (still_ballot m x v.nod
 look_still o m x b v (finds_no_room y) is up h = still (still_ballot m x v.node refl refl refl (λ over. absurd (cc)) h)
 look_still o m x b v (decides may) is up h =
     let names = left_in b (need_of x b) in
-    let t = trimmed_for x b names in
+    let t = trim_for x b names in
     let stamp : view v.node ≡ b.stamp = view_of_pushed t b.stamp names _ in
     more (record {
       views = λ s. has_view_more t _ s ∙ (λ i. h.views s i || stamp_eq (sym stamp i) s);
@@ -211,7 +211,7 @@ look_still o m x b v (decides may) is up h =
     })
 
 welcomed_still : {c : Cause} {o : Outcome} (m x : Node) (s : ℕ) (v : Stamp) (base join : ℕ) (image : Image) → c ≡ hears (packet.Welcome s v base join image)
-    → o ≡ said.Welcomed join → MayBeWelcomed x s v base join image → Still m x → Walked c o m (begun x v base join image)
+    → o ≡ said.Welcomed join → MayBeWelcomed x s v base join image → Still m x → Walked c o m (begin_list x v base join image)
 welcomed_still m x s v base join image is o may h =
     let asks = may.asks in
     let other = not_true (s == x.core.who) (and_both (not (s == x.core.who)) _ asks).0 in
@@ -278,7 +278,7 @@ change_still m x y brings (asks_to_join is was) h = still (record {
 })
 change_still m x y brings (asks_to_leave is was stays done) h = still (still_same m x y refl refl refl refl h)
 change_still m x y brings (closes leads leaves alone room) h =
-    let p = pushed x (Leave x.core.who) in
+    let p = push_entry x (Leave x.core.who) in
     let r = rests_at_end p in
     let k = still_plain m x (refresh_at_end p) (Leave x.core.who) refl r.rests.status r.rests.promise r.log r.rests.ballot h in
     still (departed m (refresh_at_end p) y refl refl refl k)
@@ -297,9 +297,9 @@ more_same o m x y stays log h = record {
 }
 
 more_plain : (o : Outcome) (m x y : Node) (e : Entry) → is_view e ≡ false → (is_member y.status ≡ true → is_member x.status ≡ true)
-    → y.core.log ≡ (pushed x e).core.log → OneMore o m x → OneMore o m y
+    → y.core.log ≡ (push_entry x e).core.log → OneMore o m x → OneMore o m y
 more_plain o m x y e plain stays log h =
-    let p = pushed x e in
+    let p = push_entry x e in
     let k : OneMore o m p = record {
       views = λ v. has_view_plain x e v plain ∙ h.views v ∙ ap (λ (u : Stamp). has_view m.core.log v || stamp_eq u v) (sym (view_pushed x e plain));
       above = ap (λ (u : Stamp). stamp_lt (view m) u) (view_pushed x e plain) ∙ h.above;
@@ -347,7 +347,7 @@ change_more {c} {o} m x y brings (takes e is says member some there) h = more_sa
 change_more {c} {o} m x y brings (asks_to_join is was) h = more_same o m x y (λ t. absurd (cc)) refl h
 change_more {c} {o} m x y brings (asks_to_leave is was stays done) h = more_same o m x y (λ t. t) refl h
 change_more {c} {o} m x y brings (closes leads leaves alone room) h =
-    let p = pushed x (Leave x.core.who) in
+    let p = push_entry x (Leave x.core.who) in
     let r = rests_at_end p in
     more_plain o m x y (Leave x.core.who) refl (λ t. absurd (cc)) r.log h
 

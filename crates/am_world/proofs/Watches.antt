@@ -1,17 +1,18 @@
 -- What a watcher is told, one after another.
-use Rattle.std.proofs.Common.{◌≡◌, ℕ, ◌+◌, ◌-◌, ◌<◌, ◌≤◌, ◌||◌, Bool, true, false, List, [], ◌∷◌, ◌++◌, length, take, drop, map, slice_index_or, get_or}
+use Rattle.std.proofs.Common.{◌≡◌, ℕ, ◌+◌, ◌-◌, ◌<◌, ◌≤◌, ◌&&◌, ◌||◌, ◌==◌, not, Bool, true, false, List, [], ◌∷◌, ◌++◌, length, take, drop, map, slice_index_or, get_or}
 use Rattle.std.proofs.Common.{if◌then◌else◌, Option, Some, None, refl, sym, ap, ◌∙◌, arith}
-use Rattle.std.proofs.lemmas.List.{get_or-drop, length-take, take_more, take_all}
+use Rattle.std.proofs.lemmas.List.{append-nil, get_or-drop, length-take, take_more, take_all}
 use Rattle.std.proofs.Common.{length-drop}
 use Rattle.am_base.specs.declared.entry.Entry.{Entry}
 use Rattle.am_watch.specs.declared.views.Pending.{Pending}
-use Rattle.am_watch.specs.Watching.{Watching, noted, with_entry, with_entries, with_decided, finished, standing, accepted, placed, number_of, or_else}
+use Rattle.am_base.specs.Stamps.{stamp_eq, stamp_lt}
+use Rattle.am_watch.specs.Watching.{Watching, note_entries, with_entry, with_entries, with_decided, decides, new_pending, finish, standing, accept, place_among, number_of, or_else}
 use Rattle.am_base.specs.declared.event.NodeEvent.{NodeEvent}
-use Rattle.am_model.specs.Node.{Node}
+use Rattle.am_model.specs.Node.{Node, is_member}
 use Rattle.am_watch.specs.declared.views.DecidedView.{DecidedView}
 use Rattle.am_watch.specs.declared.views.Standing.{Standing}
 use Rattle.am_watch.specs.Watches.{view_of}
-use Rattle.am_world.specs.Watched.{standing_after, stored_of, told_step}
+use Rattle.am_world.specs.Watched.{begins, standing_after, stored_of, with_views, told_step}
 use Rattle.am_watch.proofs.Steps.{entries_go_on, accepted_goes_on}
 
 or_none : (b : Bool) → (b || false) ≡ b
@@ -20,7 +21,7 @@ or_none false = refl
 
 -- nothing was stored, or one entry
 pub entries_none : (k : Watching) (name : ℕ) → with_entries k name [] ≡ k
-unfolding noted
+unfolding note_entries
 entries_none k name = ap (λ b. record k { is_due = b }) (or_none k.is_due)
 
 pub entries_one : (k : Watching) (name : ℕ) (e : Entry) → with_entries k name (e ∷ []) ≡ with_entry k name e
@@ -47,7 +48,7 @@ views_none k name b es is = rw is (sym (entries_none k name))
 
 -- ---- the group list
 
-placed_none : (number : ℕ) (v : Pending) → placed number [] v ≡ v
+placed_none : (number : ℕ) (v : Pending) → place_among number [] v ≡ v
 unfolding number_of
 placed_none number v = ap (λ n. record v { number_in_group = n }) (or_same v.number_in_group)
   where
@@ -59,18 +60,18 @@ map_same : (f : Pending → Pending) → ((v : Pending) → f v ≡ v) → (vs :
 map_same f h [] = refl
 map_same f h (v ∷ vs) = ap (λ x. x ∷ map f vs) (h v) ∙ ap (λ xs. v ∷ xs) (map_same f h vs)
 
-pub accepted_none : (k : Watching) (number : ℕ) → accepted k number [] ≡ k
-accepted_none k number = ap (λ ps. record k { pending = ps }) (map_same (placed number []) (placed_none number) k.pending)
+pub accepted_none : (k : Watching) (number : ℕ) → accept k number [] ≡ k
+accepted_none k number = ap (λ ps. record k { pending = ps }) (map_same (place_among number []) (placed_none number) k.pending)
 
 -- up to a number of the list, above what was known
 abbrev pub part : List Entry → ℕ → ℕ → List Entry
 part group known index = take (index - known) (drop known group)
 
-pub accepted_start : (k : Watching) (number : ℕ) (group : List Entry) (known : ℕ) → k ≡ accepted k number (part group known known)
+pub accepted_start : (k : Watching) (number : ℕ) (group : List Entry) (known : ℕ) → k ≡ accept k number (part group known known)
 accepted_start k number group known = let none : known - known ≡ 0 = omega arith in rw none (sym (accepted_none k number))
 
 pub accepted_next : (k now : Watching) (group : List Entry) (known index : ℕ) (e : Entry) → known ≤ index → index < length group → e ≡ get_or group index e
-    → now ≡ accepted k (known + 1) (part group known index) → accepted now (index + 1) (e ∷ []) ≡ accepted k (known + 1) (part group known (index + 1))
+    → now ≡ accept k (known + 1) (part group known index) → accept now (index + 1) (e ∷ []) ≡ accept k (known + 1) (part group known (index + 1))
 accepted_next k now group known index e low high is was =
     let rest = drop known group in
     let i = index - known in
@@ -80,29 +81,49 @@ accepted_next k now group known index e low high is was =
     let at : known + i ≡ index = omega arith in
     let there : get_or rest i e ≡ e = get_or-drop known group i e ∙ ap (λ j. get_or group j e) at ∙ sym is in
     let within : i < length rest = simp length-drop (omega arith) in
-    ap (λ q. accepted q (index + 1) (e ∷ [])) was ∙ ap (λ n. accepted (accepted k (known + 1) (part group known index)) n (e ∷ [])) number
+    ap (λ q. accept q (index + 1) (e ∷ [])) was ∙ ap (λ n. accept (accept k (known + 1) (part group known index)) n (e ∷ [])) number
     ∙ sym (accepted_goes_on k (known + 1) (part group known index) (e ∷ []))
-    ∙ ap (accepted k (known + 1)) (sym (ap (λ j. take j rest) one_more ∙ take_more rest i e within ∙ ap (λ x. take i rest ++ x ∷ []) there))
+    ∙ ap (accept k (known + 1)) (sym (ap (λ j. take j rest) one_more ∙ take_more rest i e within ∙ ap (λ x. take i rest ++ x ∷ []) there))
 
 pub accepted_all : (k : Watching) (group : List Entry) (known index : ℕ) → length group ≤ index
-    → accepted k (known + 1) (part group known index) ≡ accepted k (known + 1) (drop known group)
-accepted_all k group known index high = ap (accepted k (known + 1)) (take_all (index - known) (drop known group) (simp length-drop (omega arith)))
+    → accept k (known + 1) (part group known index) ≡ accept k (known + 1) (drop known group)
+accepted_all k group known index high = ap (accept k (known + 1)) (take_all (index - known) (drop known group) (simp length-drop (omega arith)))
 
 -- ---- a step
 
-abbrev told : Watching → ℕ → Node → NodeEvent → ℕ → List Entry → Standing → Standing → DecidedView → Watching
-told k name n what number more before after v = accepted (finished
-    (with_entries (with_decided k name after v) name (stored_of name before after v what)) name after) number more
+none_decided : (is_member is_own : Bool) → (is_member && (is_own && not true)) ≡ false
+none_decided false own = refl
+none_decided true false = refl
+none_decided true true = refl
 
-pub noted_is : (k decided_ stored_ finished_ new : Watching) (name : ℕ) (n : Node) (what : NodeEvent) (number : ℕ) (more : List Entry) (before after : Standing)
-    (v : DecidedView)
-    → before ≡ standing k name → after ≡ standing_after before n → v ≡ view_of n
-    → decided_ ≡ with_decided k name after v → stored_ ≡ with_entries decided_ name (stored_of name before after v what)
-    → finished_ ≡ finished stored_ name after → new ≡ accepted finished_ number more
+or_true : (b : Bool) → (b || true) ≡ true
+or_true false = refl
+or_true true = refl
+
+-- a step in which the last View stayed: none was decided, and none stored
+pub views_stay : (k : Watching) (name : ℕ) (before after : Standing) (v : DecidedView) (what : NodeEvent) → before ≡ standing k name
+    → stamp_eq before.view after.view ≡ true → k ≡ with_views k name before after v what
+views_stay k name before after v what was same =
+    let own = after.view.by == name in
+    let no : decides (standing k name) name after ≡ false = ap (λ s. decides s name after) (sym was)
+    ∙ ap (λ x. is_member before.status && (own && not x)) same ∙ none_decided (is_member before.status) own in
+    let still : with_decided k name after v ≡ k = ap (λ b. record k {
+      pending = k.pending
+          ++ (if b && stamp_lt k.complete.stamp v.stamp then new_pending v ∷ [] else []);
+    }) no ∙ ap (λ ps. record k { pending = ps }) (append-nil k.pending) in
+    let stays = ap (λ x. begins before after.status || x) same ∙ or_true (begins before after.status) in
+    views_none k name (begins before after.status || stamp_eq before.view after.view) _ stays
+    ∙ ap (λ q. with_entries q name (stored_of name before after v what)) (sym still)
+
+abbrev told : Watching → ℕ → Node → NodeEvent → ℕ → List Entry → Standing → Standing → Watching
+told k name n what number more before after = accept (finish (with_views k name before after (view_of n) what) name after) number more
+
+pub noted_is : (k views_ finished_ new : Watching) (name : ℕ) (n : Node) (what : NodeEvent) (number : ℕ) (more : List Entry) (before after : Standing)
+    → before ≡ standing k name → after ≡ standing_after before n → views_ ≡ with_views k name before after (view_of n) what
+    → finished_ ≡ finish views_ name after → new ≡ accept finished_ number more
     → new ≡ told_step k name n what number more
 unfolding told_step
-noted_is k decided_ stored_ finished_ new name n what number more before after v was stands ends d s f a =
-    a ∙ ap (λ q. accepted q number more) (f ∙ ap (λ q. finished q name after) (s ∙ ap (λ q. with_entries q name (stored_of name before after v what)) d))
-    ∙ ap (λ x. told k name n what number more before after x) ends
-    ∙ ap (λ x. told k name n what number more before x (view_of n)) stands
-    ∙ ap (λ x. told k name n what number more x (standing_after x n) (view_of n)) was
+noted_is k views_ finished_ new name n what number more before after was stands s f a =
+    a ∙ ap (λ q. accept q number more) (f ∙ ap (λ q. finish q name after) s)
+    ∙ ap (told k name n what number more before) stands
+    ∙ ap (λ x. told k name n what number more x (standing_after x n)) was

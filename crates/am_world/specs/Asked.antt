@@ -15,7 +15,7 @@ use Rattle.am_group.specs.declared.event.Event.{Event}
 use Rattle.am_group.specs.Journals.{letter_at}
 use Rattle.am_group.specs.Addressed.{is_for}
 use Rattle.am_model.specs.Step.{step}
-use Rattle.am_model.specs.World.{World, current, unchanged, stepped, lives_on}
+use Rattle.am_model.specs.World.{World, current, with_record, with_step, lives_on}
 
 -- whether a name has stopped, by the flags of all names
 abbrev pub flag_of : List Bool → ℕ → Bool
@@ -26,14 +26,14 @@ abbrev pub if_running : Bool → NodeEvent → Result NodeEvent Outcome
 if_running stopped what = if stopped then Err said.IsStopped else Ok what
 
 -- all of a packet, or only so many first bytes
-abbrev pub kept : Option ℕ → List ℕ → List ℕ
-kept None bytes = bytes
-kept (Some keep) bytes = take keep bytes
+abbrev pub first_bytes : Option ℕ → List ℕ → List ℕ
+first_bytes None bytes = bytes
+first_bytes (Some keep) bytes = take keep bytes
 
 abbrev pub hears : Option ℕ → ℕ → Bool → Option Letter → Result NodeEvent Outcome
 hears keep name stopped None = Err said.NoPacket
 hears keep name stopped (Some letter) = if is_for letter name then if_running stopped
-    (does.Hear (kept keep (spelling letter.packet))) else Err said.NotAddressed
+    (does.Hear (first_bytes keep (spelling letter.packet))) else Err said.NotAddressed
 
 abbrev pub gives_up : Bool → Bool → ℕ → Result NodeEvent Outcome
 gives_up stopped other_stopped other = if stopped then Err said.IsStopped else if other_stopped then Ok (does.GiveUp other) else Err said.NotStopped
@@ -46,21 +46,21 @@ abbrev pub returns : Bool → ℕ → Outcome
 returns gone life = if gone then (if life == 16 then said.NoLife else said.Returned (life + 1)) else said.Running life
 
 -- what an act asks of a name, where these letters were sent
-abbrev pub asked : List Letter → List Bool → Bool → ℕ → Act → Result NodeEvent Outcome
-asked letters flags departed name (act.Send body) = if_running (flag_of flags name) (does.Send body)
-asked letters flags departed name (act.Done req) = if_running (flag_of flags name) (does.Done req)
-asked letters flags departed name act.Take = if_running (flag_of flags name) does.Take
-asked letters flags departed name act.Join = if_running (flag_of flags name) does.Join
-asked letters flags departed name act.State = if_running (flag_of flags name) does.State
-asked letters flags departed name act.Leave = if_running (flag_of flags name) does.Leave
-asked letters flags departed name (act.Reset least resilience) = if_running (flag_of flags name) (does.Reset least resilience)
-asked letters flags departed name (act.Ask round) = if_running (flag_of flags name) (does.Ask round)
-asked letters flags departed name (act.GiveUp other) = gives_up (flag_of flags name) (flag_of flags other) other
-asked letters flags departed name act.Stop = Err (stops (flag_of flags name))
-asked letters flags departed name act.Tick = if_running (flag_of flags name) does.Tick
-asked letters flags departed name (act.Hear number) = hears None name (flag_of flags name) (letter_at letters number)
-asked letters flags departed name (act.Cut number keep) = hears (Some keep) name (flag_of flags name) (letter_at letters number)
-asked letters flags departed name act.Return = Err (returns (flag_of flags name || departed) (life_of name))
+abbrev pub event_or_answer : List Letter → List Bool → Bool → ℕ → Act → Result NodeEvent Outcome
+event_or_answer letters flags departed name (act.Send body) = if_running (flag_of flags name) (does.Send body)
+event_or_answer letters flags departed name (act.Done req) = if_running (flag_of flags name) (does.Done req)
+event_or_answer letters flags departed name act.Take = if_running (flag_of flags name) does.Take
+event_or_answer letters flags departed name act.Join = if_running (flag_of flags name) does.Join
+event_or_answer letters flags departed name act.State = if_running (flag_of flags name) does.State
+event_or_answer letters flags departed name act.Leave = if_running (flag_of flags name) does.Leave
+event_or_answer letters flags departed name (act.Reset least resilience) = if_running (flag_of flags name) (does.Reset least resilience)
+event_or_answer letters flags departed name (act.Ask round) = if_running (flag_of flags name) (does.Ask round)
+event_or_answer letters flags departed name (act.GiveUp other) = gives_up (flag_of flags name) (flag_of flags other) other
+event_or_answer letters flags departed name act.Stop = Err (stops (flag_of flags name))
+event_or_answer letters flags departed name act.Tick = if_running (flag_of flags name) does.Tick
+event_or_answer letters flags departed name (act.Hear number) = hears None name (flag_of flags name) (letter_at letters number)
+event_or_answer letters flags departed name (act.Cut number keep) = hears (Some keep) name (flag_of flags name) (letter_at letters number)
+event_or_answer letters flags departed name act.Return = Err (returns (flag_of flags name || departed) (life_of name))
 
 -- the number of the packet that an act hears
 abbrev pub heard_number : Act → Option ℕ
@@ -73,14 +73,14 @@ abbrev pub SpellsPacket : List Letter → Act → Type 0
 SpellsPacket letters a = (number : ℕ) (letter : Letter) → heard_number a ≡ Some number → letter_at letters number ≡ Some letter → IsPacket letter.packet
 
 -- what comes of it
-abbrev pub answered : World → Event → Outcome → World
-answered w e said.Stopped = unchanged (record w { stopped = w.stopped ++ current w (place_of e.node) ∷ [] }) e said.Stopped
-answered w e (said.Returned life) = lives_on (unchanged w e (said.Returned life)) (place_of e.node)
-answered w e outcome = unchanged w e outcome
+abbrev pub after_answer : World → Event → Outcome → World
+after_answer w e said.Stopped = with_record (record w { stopped = w.stopped ++ current w (place_of e.node) ∷ [] }) e said.Stopped
+after_answer w e (said.Returned life) = lives_on (with_record w e (said.Returned life)) (place_of e.node)
+after_answer w e outcome = with_record w e outcome
 
 abbrev pub comes : World → Event → Result NodeEvent Outcome → World
-comes w e (Ok what) = stepped w e (current w (place_of e.node)) (step (w.nodes (current w (place_of e.node))) what)
-comes w e (Err outcome) = answered w e outcome
+comes w e (Ok what) = with_step w e (current w (place_of e.node)) (step (w.nodes (current w (place_of e.node))) what)
+comes w e (Err outcome) = after_answer w e outcome
 
 -- a place that returns has the next of its sixteen lives
 abbrev pub IsNextLife : ℕ → Outcome → Type 0

@@ -13,10 +13,10 @@ use Rattle.am_codec.specs.Reading.{Read, reading}
 use Rattle.am_model.specs.declared.status.Status.{Status}
 use Rattle.am_model.specs.Node.{Node, view, is_member}
 use Rattle.am_model.specs.Group.{has_log}
-use Rattle.am_model.specs.Lawful.{watched}
+use Rattle.am_model.specs.Lawful.{watch_run}
 use Rattle.am_watch.specs.declared.views.DecidedView.{DecidedView}
 use Rattle.am_watch.specs.declared.views.Standing.{Standing}
-use Rattle.am_watch.specs.Watching.{Watching, standing, decides, stepped, accepted}
+use Rattle.am_watch.specs.Watching.{Watching, standing, decides, with_decided, with_entries, watch_step, accept}
 use Rattle.am_watch.specs.Watches.{Watches, view_of}
 use Rattle.am_world.specs.Runs.{Play}
 
@@ -42,9 +42,9 @@ abbrev pub fetched_from : Read Packet → Option Entry
 fetched_from (Ok packet) = piece_in packet
 fetched_from (Err refusal) = None
 
-abbrev pub fetched : NodeEvent → Option Entry
-fetched (Hear bytes) = fetched_from (reading bytes)
-fetched _ = None
+abbrev pub entry_in : NodeEvent → Option Entry
+entry_in (Hear bytes) = fetched_from (reading bytes)
+entry_in _ = None
 
 abbrev pub one_of : Option Entry → List Entry
 one_of None = []
@@ -59,17 +59,21 @@ last_view v = View v.stamp v.members v.resilience
 abbrev pub stored_of : ℕ → Standing → Standing → DecidedView → NodeEvent → List Entry
 stored_of name before after v what =
     if begins before after.status || stamp_eq before.view after.view then []
-    else (if decides before name after then one_of (fetched what) else []) ++ last_view v ∷ []
+    else (if decides before name after then one_of (entry_in what) else []) ++ last_view v ∷ []
+
+-- what is kept of the view that a name decided in a step, and of the Views that it stored
+abbrev pub with_views : Watching → ℕ → Standing → Standing → DecidedView → NodeEvent → Watching
+with_views k name before after v what = with_entries (with_decided k name after v) name (stored_of name before after v what)
 
 -- what is kept once a name did a step, which came to this node, and the group list went on by these entries
 unfoldable pub told_step : Watching → ℕ → Node → NodeEvent → ℕ → List Entry → Watching
 told_step k name n what number more =
     let after = standing_after (standing k name) n in
-    accepted (stepped k name after (view_of n) (stored_of name (standing k name) after (view_of n) what)) number more
+    accept (watch_step k name after (view_of n) (stored_of name (standing k name) after (view_of n) what)) number more
 
 -- what is kept is that of the watched run
 abbrev pub IsWatched : Play → Watching → Type 0
-IsWatched p k = Watches k (watched p.rules p.events)
+IsWatched p k = Watches k (watch_run p.rules p.events)
 
 -- a name that has or hasn't stopped stops by an answer: by its own event, or because its place returns
 abbrev pub stops_by : Bool → Outcome → Bool

@@ -7,11 +7,10 @@ ghost use Rattle.am_codec.specs.Limits.{IsPacket};
 ghost use Rattle.am_codec.specs.Spelling.{spelling};
 ghost use Rattle.am_group.specs.Journals.{letters_of, letter_at};
 ghost use Rattle.am_world.specs.Asked as asks;
-ghost use Rattle.am_world.specs.Asked.{flag_of, if_running, kept, SpellsPacket};
+ghost use Rattle.am_world.specs.Asked.{flag_of, if_running, first_bytes, SpellsPacket};
 
 use am_base::NoMemory;
 use am_base::body::SentBody;
-use am_base::boxed::Boxed;
 use am_base::event::NodeEvent;
 use am_base::items::Items;
 use am_base::name::Name;
@@ -39,8 +38,8 @@ fn if_running(stopped: bool, what: NodeEvent) -> Result<NodeEvent, Outcome>
 }
 
 /// The bytes, or only so many of the first of them.
-fn kept(bytes: &[u8], keep: Option<u32>) -> &[u8]
-    ensures { result.now ≡ kept keep bytes.now }
+fn first_bytes(bytes: &[u8], keep: Option<u32>) -> &[u8]
+    ensures { result.now ≡ first_bytes keep bytes.now }
 {
     match keep {
         None => bytes,
@@ -74,7 +73,7 @@ fn hears(
     if stopped {
         return Ok(Err(Outcome::IsStopped));
     }
-    let bytes = Vec::from_slice(alloc, kept(letter.bytes(), keep))?;
+    let bytes = Vec::from_slice(alloc, first_bytes(letter.bytes(), keep))?;
     Ok(Ok(NodeEvent::Hear(Items::of(bytes))))
 }
 
@@ -87,7 +86,7 @@ fn sends(
 ) -> Result<Result<NodeEvent, Outcome>, NoMemory>
     ensures { IfOk result (λ r. r ≡ if_running stopped (does.Send body.now)) }
 {
-    let body = Boxed::of(alloc, body.body())?;
+    let body = SentBody::of_bytes(alloc, body.bytes())?;
     Ok(if_running(stopped, NodeEvent::Send(body)))
 }
 
@@ -126,7 +125,7 @@ fn returns(is_gone: bool, name: Name) -> Outcome
 }
 
 /// What an act asks of a name's node, or how it is answered without one.
-pub fn asked(
+pub fn event_or_answer(
     alloc: Global,
     journal: &Journal,
     stopped: &[bool; 256],
@@ -134,7 +133,7 @@ pub fn asked(
     name: Name,
     act: &Act,
 ) -> Result<Result<NodeEvent, Outcome>, NoMemory>
-    ensures value { IfOk result (λ r. r ≡ asks.asked
+    ensures value { IfOk result (λ r. r ≡ asks.event_or_answer
         (letters_of journal.now.records) stopped.now has_departed name act.now) }
     ensures packet { IfOk result (λ r. OnOk r
         (SpellsPacket (letters_of journal.now.records) act.now)) }

@@ -2,11 +2,11 @@ ghost use Rattle.std.specs.Prelude.{◌≡◌, ◌+◌, ◌-◌, ◌<◌, ◌≤
 ghost use Rattle.am_base.specs.Names.{place_of};
 ghost use Rattle.am_core.specs.Cores.{IsInOrder};
 ghost use Rattle.am_model.specs.Step.{row};
-ghost use Rattle.am_model.specs.World.{grown, group_after};
+ghost use Rattle.am_model.specs.World.{group_with, group_after};
 ghost use Rattle.am_model.specs.Ends.{Does};
 ghost use Rattle.am_node.specs.Nodes.{HasPlace};
 ghost use Rattle.am_node.specs.Stands.{state_of};
-ghost use Rattle.am_world.specs.Moves.{IsReady, IsReadyAt, StepsAt};
+ghost use Rattle.am_world.specs.Moves.{HasPlaceAt, IsReady, IsReadyAt, StepsAt};
 
 use am_base::NoMemory;
 use am_base::boxed::Boxed;
@@ -38,14 +38,32 @@ pub fn packets_of(alloc: Global, out: OutBox, rooms: &mut Rooms) -> Items<Letter
     letters
 }
 
-/// A place for the entry that an event takes, where it takes one.
-pub fn spare_entry(alloc: Global, what: &NodeEvent) -> Result<Option<Boxed<Entry>>, NoMemory>
-    ensures { IfOk result (λ spare. HasPlace what.now spare) }
+/// A place for the entry that an event takes of a node, where it takes one.
+fn spare_entry(
+    alloc: Global,
+    node: &Node,
+    what: &NodeEvent,
+) -> Result<Option<Boxed<Entry>>, NoMemory>
+    ensures { IfOk result (λ spare. HasPlace (state_of node.now) what.now spare) }
 {
     match what {
-        NodeEvent::Take => Ok(Some(Boxed::of(alloc, Entry::default())?)),
+        NodeEvent::Take if node.has_next() => Ok(Some(Boxed::of(alloc, Entry::default())?)),
         _ => Ok(None),
     }
+}
+
+/// The same for the node of a name's place.
+pub fn spare_entry_at(
+    alloc: Global,
+    nodes: &[Node],
+    name: Name,
+    what: &NodeEvent,
+) -> Result<Option<Boxed<Entry>>, NoMemory>
+    requires places { length nodes.now ≡ 16 }
+    ensures { IfOk result (λ spare. HasPlaceAt nodes.now (place_of name) what.now spare) }
+{
+    let spare = spare_entry(alloc, &nodes[usize::from(name.place())], what)?;
+    Ok(spare)
 }
 
 /// Makes room for so many entries in all.
@@ -64,11 +82,11 @@ pub fn make_room(group: &mut Vec<Entry>, most: usize) -> Result<(), NoMemory>
 fn add_accepted(group: &mut Vec<Entry>, node: &Node)
     requires base { (state_of node.now).core.base ≤ vec_len group.old }
     requires room { max (state_of node.now).core.acc (vec_len group.old) ≤ vec_capacity group.old }
-    ensures { group.new.items ≡ grown group.old.items (state_of node.now).core }
+    ensures { group.new.items ≡ group_with group.old.items (state_of node.now).core }
 {
-    for before in group.len()..node.accepted() as usize {
+    for before in group.len()..node.accept_front() as usize {
         match node.entry(before as u32 + 1) {
-            Some(entry) => group.push_reserved(entry.copied()),
+            Some(entry) => group.push_reserved(entry.copy()),
             None => unreachable!(),
         }
     }
@@ -95,7 +113,7 @@ fn step_node(
 ) -> Outcome
     requires ready { IsReady (state_of node.old) what.now (vec_len group.old)
         (vec_capacity group.old) }
-    requires place { HasPlace what.now spare }
+    requires place { HasPlace (state_of node.old) what.now spare }
     requires empty { out.old ≡ [] }
     ensures does { Does (λ k. row k what.now) (state_of node.old) result out.new
         (state_of node.new) }
@@ -104,7 +122,7 @@ fn step_node(
     ensures grows { group.new.items ≡ group_after group.old.items (state_of node.new) }
 {
     let outcome = node.step(what, spare, out);
-    let _accepted = node.accepted();
+    let _accepted = node.accept_front();
     grow(group, node);
     outcome
 }
@@ -121,7 +139,7 @@ pub fn step_at(
     requires places { length nodes.old ≡ 16 }
     requires ready { IsReadyAt nodes.old (place_of name) what.now (vec_len group.old)
         (vec_capacity group.old) }
-    requires place { HasPlace what.now spare }
+    requires place { HasPlaceAt nodes.old (place_of name) what.now spare }
     requires empty { out.old ≡ [] }
     ensures steps { StepsAt nodes.old nodes.new group.old.items group.new.items
         (place_of name) what.now result out.new }

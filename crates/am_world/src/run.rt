@@ -7,8 +7,8 @@ ghost use Rattle.am_model.specs.Ends.{IsEndOf};
 ghost use Rattle.am_node.specs.Stands.{state_of};
 ghost use Rattle.am_world.specs.Runs.{AreNodes, AreFirst, the_record};
 
-use crate::asked::{asked, is_stopped};
-use crate::nodes::{empty_box, make_room, packets_of, spare_entry, step_at};
+use crate::asked::{event_or_answer, is_stopped};
+use crate::nodes::{empty_box, make_room, packets_of, spare_entry_at, step_at};
 use am_base::NoMemory;
 use am_base::entry::Entry;
 use am_base::event::NodeEvent;
@@ -53,7 +53,7 @@ fn new_record(alloc: Global, event: &Event, life: u8, outcome: Outcome) -> Resul
     ensures { IfOk result (λ r. r ≡ the_record event.now life outcome []) }
 {
     Ok(Record {
-        event: event.copied()?,
+        event: event.try_copy()?,
         life,
         by: By {
             caller: 0,
@@ -103,9 +103,9 @@ impl Run {
     ghost use Rattle.am_base.specs.Names.{place_of};
     ghost use Rattle.am_base.specs.declared.outcome.Outcome.TheVariants as said;
     ghost use Rattle.am_group.specs.Journals.{letters_of};
-    ghost use Rattle.am_model.specs.World.{current, is_stopped, unchanged, happens};
+    ghost use Rattle.am_model.specs.World.{current, is_stopped, with_record, happens};
     ghost use Rattle.am_world.specs.Runs.{after, replay, IsOneMore};
-    ghost use Rattle.am_world.specs.Asked.{answered, comes, IsNextLife};
+    ghost use Rattle.am_world.specs.Asked.{after_answer, comes, IsNextLife};
 
     /// The group of a founding, to which nothing has happened.
     #[tactic(auto, using(crate::proofs::Begins::begins))]
@@ -183,7 +183,7 @@ impl Run {
         requires few { length self.old.events < most_events }
         requires name { name ≡ current (replay self.old) (place_of event.now.node) }
         requires comes { happens (replay self.old) event.now
-            ≡ unchanged (replay self.old) event.now outcome }
+            ≡ with_record (replay self.old) event.now outcome }
         ensures ok { OnOk result (self.new ≡ after self.old event.now) }
         ensures one { OnOk result (IsOneMore self.old event.now) }
         ensures err { OnErr result (self.new ≡ self.old) }
@@ -199,7 +199,7 @@ impl Run {
         requires few { length self.old.events < most_events }
         requires name { name ≡ current (replay self.old) (place_of event.now.node) }
         requires comes { happens (replay self.old) event.now
-            ≡ answered (replay self.old) event.now said.Stopped }
+            ≡ after_answer (replay self.old) event.now said.Stopped }
         ensures ok { OnOk result (self.new ≡ after self.old event.now) }
         ensures one { OnOk result (IsOneMore self.old event.now) }
         ensures err { OnErr result (self.new ≡ self.old) }
@@ -218,7 +218,7 @@ impl Run {
         requires next { life ≡ life_of name + 1 }
         requires most { life ≤ 16 }
         requires comes { happens (replay self.old) event.now
-            ≡ answered (replay self.old) event.now (said.Returned life) }
+            ≡ after_answer (replay self.old) event.now (said.Returned life) }
         ensures ok { OnOk result (self.new ≡ after self.old event.now) }
         ensures one { OnOk result (IsOneMore self.old event.now) }
         ensures err { OnErr result (self.new ≡ self.old) }
@@ -244,7 +244,7 @@ impl Run {
         requires name { name ≡ current (replay self.old) (place_of event.now.node) }
         requires next { IsNextLife name outcome }
         requires comes { happens (replay self.old) event.now
-            ≡ answered (replay self.old) event.now outcome }
+            ≡ after_answer (replay self.old) event.now outcome }
         ensures ok { OnOk result (self.new ≡ after self.old event.now) }
         ensures one { OnOk result (IsOneMore self.old event.now) }
         ensures err { OnErr result (self.new ≡ self.old) }
@@ -268,7 +268,7 @@ impl Run {
     {
         self.journal.reserve()?;
         let mut record = new_record(self.alloc, event, name.life(), Outcome::Idle)?;
-        let spare = spare_entry(self.alloc, what)?;
+        let spare = spare_entry_at(self.alloc, &self.nodes, name, what)?;
         make_room(&mut self.group, self.journal.records().len() + 2)?;
         let mut out = empty_box(self.alloc, &mut self.rooms)?;
         record.outcome = step_at(
@@ -285,7 +285,7 @@ impl Run {
     }
 
     /// What an event asks of its name's node, or how it is answered without one.
-    pub fn asked(&self, event: &Event) -> Result<Result<NodeEvent, Outcome>, NoMemory>
+    pub fn event_or_answer(&self, event: &Event) -> Result<Result<NodeEvent, Outcome>, NoMemory>
         ensures comes { IfOk result (λ r. happens (replay self.now) event.now
             ≡ comes (replay self.now) event.now r) }
         ensures next { IfOk result (λ r. IfErr r
@@ -293,7 +293,7 @@ impl Run {
     {
         let name = self.name_at(event.node);
         let has_departed = has_departed(self.node(event.node).status());
-        asked(
+        event_or_answer(
             self.alloc,
             &self.journal,
             &self.stopped,

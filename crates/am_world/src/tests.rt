@@ -108,7 +108,7 @@ fn an_event_without_memory_is_done_again(rt: HostRuntime) -> Result<(), Fail> {
         Err(_) => World::new(rt.alloc(), &founding)?,
     };
     let body = Body::of(&[7; 9]).ok_or("a body")?;
-    let send = match Act::send(rt.alloc(), body.copied()) {
+    let send = match Act::send(rt.alloc(), body.copy()) {
         Ok(send) => send,
         Err(_) => Act::send(rt.alloc(), body)?,
     };

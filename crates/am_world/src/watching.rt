@@ -5,9 +5,9 @@ ghost use Rattle.am_model.specs.Group.{has_log};
 ghost use Rattle.am_model.specs.Node.{is_member};
 ghost use Rattle.am_node.specs.Stands.{state_of};
 ghost use Rattle.am_watch.specs.Watches.{view_of};
-ghost use Rattle.am_watch.specs.Watching.{is_view, stepped, accepted, with_entries};
+ghost use Rattle.am_watch.specs.Watching.{standing, accept, pass, stop, with_entries};
 ghost use Rattle.am_watch.specs.Watchers.{watching_of, HasRoom};
-ghost use Rattle.am_world.specs.Watched.{fetched, begins, standing_after, one_of, stored_of, last_view, told_step};
+ghost use Rattle.am_world.specs.Watched.{entry_in, begins, standing_after, one_of, stored_of, last_view, with_views, told_step};
 
 use am_base::entry::Entry;
 use am_base::event::NodeEvent;
@@ -89,8 +89,8 @@ fn is_same_stamp(a: Stamp, b: Stamp) -> bool
 }
 
 /// The entry of a Piece, where an event brings one.
-fn fetched(what: &NodeEvent) -> Option<Entry>
-    ensures { result ≡ fetched what.now }
+fn entry_in(what: &NodeEvent) -> Option<Entry>
+    ensures { result ≡ entry_in what.now }
 {
     let NodeEvent::Hear(bytes) = what else {
         return None;
@@ -114,9 +114,9 @@ fn store_one(watcher: &mut Watcher, name: Name, found: Option<Entry>)
 
 /// What a name fetched, where it then decided a view.
 fn fetched_before(is_decided: bool, what: &NodeEvent) -> Option<Entry>
-    ensures { one_of result ≡ (if is_decided then one_of (fetched what.now) else []) }
+    ensures { one_of result ≡ (if is_decided then one_of (entry_in what.now) else []) }
 {
-    if is_decided { fetched(what) } else { None }
+    if is_decided { entry_in(what) } else { None }
 }
 
 /// The watcher is told which Views a name stored in a step in which its view became another: what it fetched, where it then
@@ -130,7 +130,7 @@ fn store_new_views(
     what: &NodeEvent,
 )
     ensures { watching_of watcher.new ≡ with_entries (watching_of watcher.old) name
-        ((if is_decided then one_of (fetched what.now) else []) ++ last_view view.now ∷ []) }
+        ((if is_decided then one_of (entry_in what.now) else []) ++ last_view view.now ∷ []) }
 {
     let earlier = fetched_before(is_decided, what);
     store_one(watcher, name, earlier);
@@ -155,11 +155,47 @@ fn store_views(
     store_new_views(watcher, name, decides(before, name, after), view, what);
 }
 
+/// The watcher is told which view a name decided in a step, and which Views it stored: none where its last View stayed.
+fn note_views(
+    watcher: &mut Watcher,
+    name: Name,
+    node: &Node,
+    before: &Standing,
+    after: &Standing,
+    what: &NodeEvent,
+)
+    requires room { HasRoom watcher.old }
+    requires before { before.now ≡ standing (watching_of watcher.old) name }
+    ensures { watching_of watcher.new ≡ with_views (watching_of watcher.old) name
+        before.now after.now (view_of (state_of node.now)) what.now }
+{
+    if is_same_stamp(before.view, after.view) {
+        return;
+    }
+    let view = view_of(node);
+    watcher.decide(name, after, &view);
+    store_views(watcher, name, before, after, &view, what);
+}
+
+/// The watcher is told of an event that is no step of a node, after which a name has stopped or not.
+pub fn note_answer(watcher: &mut Watcher, name: Name, stops: bool)
+    requires room { HasRoom watcher.old }
+    requires few { (watching_of watcher.old).count < 4294967295 }
+    ensures { watching_of watcher.new ≡ (if stops then stop (watching_of watcher.old) name
+        else pass (watching_of watcher.old)) }
+{
+    if stops {
+        watcher.stop(name);
+    } else {
+        watcher.pass();
+    }
+}
+
 /// The watcher is told how the group list goes on above a number.
 fn accept_above(watcher: &mut Watcher, group: &[Entry], known: usize)
     requires known { known ≤ length group.now }
     requires few { length group.now ≤ most_number }
-    ensures { watching_of watcher.new ≡ accepted (watching_of watcher.old) (known + 1)
+    ensures { watching_of watcher.new ≡ accept (watching_of watcher.old) (known + 1)
         (drop known group.now) }
 {
     for index in known..group.len() {
@@ -185,9 +221,7 @@ pub fn note_step(
 {
     let before = watcher.standing(name);
     let after = standing_after(&before, node);
-    let view = view_of(node);
-    watcher.decide(name, &after, &view);
-    store_views(watcher, name, &before, &after, &view, what);
+    note_views(watcher, name, node, &before, &after, what);
     watcher.finish(name, &after);
     accept_above(watcher, group, known);
 }

@@ -4,7 +4,7 @@ ghost use Rattle.am_world.specs.Watched.{stops_by};
 ghost use Rattle.am_base.specs.Names.{place_of};
 
 use crate::run::Run;
-use crate::watching::{has_log, note_step};
+use crate::watching::{has_log, note_answer, note_step};
 use am_base::NoMemory;
 use am_base::entry::Entry;
 use am_base::event::NodeEvent;
@@ -81,7 +81,7 @@ impl World {
     ghost use Rattle.am_node.specs.Info.{info_of};
     ghost use Rattle.am_node.specs.Stands.{state_of};
     ghost use Rattle.am_world.specs.Runs.{after, replay, IsOneMore};
-    ghost use Rattle.am_world.specs.Asked.{answered, comes, IsNextLife};
+    ghost use Rattle.am_world.specs.Asked.{after_answer, comes, IsNextLife};
 
     /// The group of a founding, to which nothing has happened.
     pub fn new(alloc: Global, founding: &Founding) -> Result<World, NoMemory>
@@ -158,10 +158,10 @@ impl World {
     }
 
     /// The number of the first event after which the run wasn't lawful; None exactly as long as it is.
-    pub fn broken(&self) -> Option<u32>
+    pub fn broken_at(&self) -> Option<u32>
         ensures { result ≡ broken_at self.now.rules self.now.events }
     {
-        self.watcher.broken()
+        self.watcher.broken_at()
     }
 
     /// An event that is no step of a node: a name has stopped, or nothing changed that is watched.
@@ -170,7 +170,7 @@ impl World {
         requires name { name ≡ current (replay self.old) (place_of event.now.node) }
         requires next { IsNextLife name outcome }
         requires comes { happens (replay self.old) event.now
-            ≡ answered (replay self.old) event.now outcome }
+            ≡ after_answer (replay self.old) event.now outcome }
         ensures ok { OnOk result (self.new ≡ after self.old event.now) }
         ensures one { OnOk result (IsOneMore self.old event.now) }
         ensures err { OnErr result (self.new ≡ self.old) }
@@ -178,11 +178,7 @@ impl World {
         self.watcher.reserve()?;
         let stops = stops_by(self.run.is_stopped(name), &outcome);
         self.run.answer(event, name, outcome)?;
-        if stops {
-            self.watcher.stop(name);
-        } else {
-            self.watcher.pass();
-        }
+        note_answer(&mut self.watcher, name, stops);
         Ok(())
     }
 
@@ -221,7 +217,7 @@ impl World {
             return Err(WorldRefusal::Spent);
         }
         let name = self.run.name_at(event.node);
-        match self.run.asked(event)? {
+        match self.run.event_or_answer(event)? {
             Ok(what) => self.act(event, name, &what)?,
             Err(outcome) => self.answer(event, name, outcome)?,
         }

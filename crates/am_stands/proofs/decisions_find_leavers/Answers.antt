@@ -2,14 +2,5 @@ use Rattle.am_stands.proofs.ChainNames.{moves_named}
 use Rattle.am_stands.proofs.Branches.{branches_begin, moves_branch, decisions_are_new}
 use Rattle.am_stands.proofs.decisions_find_leavers.Goals as goal
 
-pub returns-clause-begin : goal.returns-clause-begin
-returns-clause-begin c = branches_begin
-
-pub returns-clause-moves : goal.returns-clause-moves
-returns-clause-moves c = moves_branch
-
-pub returns-clause-new : goal.returns-clause-new
-returns-clause-new c = decisions_are_new
-
-pub returns-clause-names : goal.returns-clause-names
-returns-clause-names c = moves_named
+pub returns : goal.returns
+returns c = record { begin = branches_begin; moves = moves_branch; new = decisions_are_new; names = moves_named }

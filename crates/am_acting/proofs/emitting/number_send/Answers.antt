@@ -2,7 +2,7 @@ use Rattle.std.proofs.Common.{◌≡◌, ◌+◌, sym, ap, ◌∙◌, subst}
 use Rattle.am_base.specs.declared.entry.Entry.{Entry}
 use Rattle.am_base.specs.declared.entry.Entry.TheVariants.{Data}
 use Rattle.am_base.specs.Lists.{fits}
-use Rattle.am_model.specs.Node.{told, pushed}
+use Rattle.am_model.specs.Node.{image_of, push_entry}
 use Rattle.am_handlers.specs.Keeps.{NodeKeeps}
 use Rattle.am_handlers.specs.Parts.{node_of}
 use Rattle.am_acting.proofs.Emits.{may_number, keeps_number}
@@ -11,15 +11,15 @@ use Rattle.am_acting.proofs.emitting.number_send.Goals as goal
 pub push-requires-clause-fits : goal.push-requires-clause-fits
 push-requires-clause-fits c =
     let m = (node_of c.args.parts.now) in
-    let is : c.copied.result ≡ Data m.core.who c.args.send.req c.args.send.body = c.copied.ensures
+    let is : c.copy.result ≡ Data m.core.who c.args.send.req c.args.send.body = c.copy.ensures
     ∙ ap (λ who. Data who c.args.send.req c.args.send.body) c.who.ensures in
-    ap (λ e. fits (told m) e) is ∙ may_number m c.args.send.req c.args.send.body c.args.parts.now.keeps c.requires.leads c.requires.waits c.requires.new
+    ap (λ e. fits (image_of m) e) is ∙ may_number m c.args.send.req c.args.send.body c.args.parts.now.keeps c.requires.leads c.requires.waits c.requires.new
 
 pub push-requires-clause-keeps : goal.push-requires-clause-keeps
 push-requires-clause-keeps c =
     let m = (node_of c.args.parts.now) in
-    let is : c.copied.result ≡ Data m.core.who c.args.send.req c.args.send.body = c.copied.ensures
+    let is : c.copy.result ≡ Data m.core.who c.args.send.req c.args.send.body = c.copy.ensures
     ∙ ap (λ who. Data who c.args.send.req c.args.send.body) c.who.ensures in
-    subst (λ (e : Entry). NodeKeeps (pushed m e)) (sym is) (keeps_number m
-    (m.core.rules.window + 15) c.args.send.req c.args.send.body c.args.parts.now.keeps c.accepted-before.ensures.kept c.requires.leads
+    subst (λ (e : Entry). NodeKeeps (push_entry m e)) (sym is) (keeps_number m
+    (m.core.rules.window + 15) c.args.send.req c.args.send.body c.args.parts.now.keeps c.accept_front-before.ensures.kept c.requires.leads
     (may_number m c.args.send.req c.args.send.body c.args.parts.now.keeps c.requires.leads c.requires.waits c.requires.new))

@@ -4,4 +4,4 @@ use Rattle.am_handlers.proofs.Plans.{does_now}
 use Rattle.am_acting.proofs.joining.on_state.Goals as goal
 
 pub returns : goal.returns
-returns c = does_now state_row (node_of c.args.parts.now) c.accepted-before.ensures.value c.standing-answer.ensures c.finish_quietly.ensures
+returns c = does_now state_row (node_of c.args.parts.now) c.accept_front-before.ensures.value c.standing-answer.ensures c.finish_quietly.ensures

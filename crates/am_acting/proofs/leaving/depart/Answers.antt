@@ -3,7 +3,7 @@ use Rattle.am_base.specs.declared.entry.Entry.TheVariants.{Leave}
 use Rattle.am_base.specs.Lists.{fits}
 use Rattle.am_core.specs.Kept.{IsKept}
 use Rattle.am_fronts.specs.Refresh.{MayLead}
-use Rattle.am_model.specs.Node.{Node, told, pushed}
+use Rattle.am_model.specs.Node.{Node, image_of, push_entry}
 use Rattle.am_model.specs.Refresh.{lead}
 use Rattle.am_model.specs.Ends.{IsEndOf}
 use Rattle.am_handlers.specs.Keeps.{NodeKeeps}
@@ -16,7 +16,7 @@ push-requires-clause-fits c =
     let m = node_of c.args.parts.now in
     let member = c.args.parts.now.keeps.leads c.requires.leads in
     let who : c.who-who.result ≡ m.core.who = c.who-who.ensures ∙ ap (λ (x : Node). x.core.who) c.set_status.ensures in
-    ap (λ k. fits (told (node_of c.set_status.new.parts)) (Leave k)) who ∙ ap (λ (x : Node). fits (told x) (Leave m.core.who)) c.set_status.ensures
+    ap (λ k. fits (image_of (node_of c.set_status.new.parts)) (Leave k)) who ∙ ap (λ (x : Node). fits (image_of x) (Leave m.core.who)) c.set_status.ensures
     ∙ leave_fits m member
 
 pub push-requires-clause-keeps : goal.push-requires-clause-keeps
@@ -26,9 +26,9 @@ push-requires-clause-keeps c =
     let who : c.who-who.result ≡ m.core.who = c.who-who.ensures ∙ ap (λ (x : Node). x.core.who) c.set_status.ensures in
     let keeps : NodeKeeps (departed m) = subst (λ (x : Node). NodeKeeps x) c.set_status.ensures c.set_status.new.parts.keeps in
     let kept : IsKept m.core.log (m.core.rules.window + 15) =
-    subst (λ (x : Node). IsKept x.core.log (x.core.rules.window + 15)) c.set_status.ensures c.accepted-before.ensures.kept in
-    subst (λ (k : ℕ). NodeKeeps (pushed (node_of c.set_status.new.parts) (Leave k))) (sym who)
-    (subst (λ (x : Node). NodeKeeps (pushed x (Leave m.core.who))) (sym c.set_status.ensures) (keeps_left m (m.core.rules.window + 15) kept member keeps))
+    subst (λ (x : Node). IsKept x.core.log (x.core.rules.window + 15)) c.set_status.ensures c.accept_front-before.ensures.kept in
+    subst (λ (k : ℕ). NodeKeeps (push_entry (node_of c.set_status.new.parts) (Leave k))) (sym who)
+    (subst (λ (x : Node). NodeKeeps (push_entry x (Leave m.core.who))) (sym c.set_status.ensures) (keeps_left m (m.core.rules.window + 15) kept member keeps))
 
 pub lead-requires-clause-leads : goal.lead-requires-clause-leads
 lead-requires-clause-leads c =
@@ -36,17 +36,17 @@ lead-requires-clause-leads c =
     let member = c.args.parts.now.keeps.leads c.requires.leads in
     let who : c.who-who.result ≡ m.core.who = c.who-who.ensures ∙ ap (λ (x : Node). x.core.who) c.set_status.ensures in
     let kept : IsKept m.core.log (m.core.rules.window + 15) =
-    subst (λ (x : Node). IsKept x.core.log (x.core.rules.window + 15)) c.set_status.ensures c.accepted-before.ensures.kept in
-    let node : node_of c.push.new.self ≡ pushed (departed m) (Leave m.core.who) = c.push.ensures.node
-    ∙ (λ k. pushed (c.set_status.ensures k) (Leave (who k))) in
+    subst (λ (x : Node). IsKept x.core.log (x.core.rules.window + 15)) c.set_status.ensures c.accept_front-before.ensures.kept in
+    let node : node_of c.push.new.self ≡ push_entry (departed m) (Leave m.core.who) = c.push.ensures.node
+    ∙ (λ k. push_entry (c.set_status.ensures k) (Leave (who k))) in
     subst (λ (x : Node). MayLead x.core) (sym node) (may_lead_left m (m.core.rules.window + 15) kept member c.requires.alone)
 
 pub returns-clause-end : goal.returns-clause-end
 returns-clause-end c =
     let m = node_of c.args.parts.now in
     let who : c.who-who.result ≡ m.core.who = c.who-who.ensures ∙ ap (λ (x : Node). x.core.who) c.set_status.ensures in
-    let node : node_of c.push.new.self ≡ pushed (departed m) (Leave m.core.who) = c.push.ensures.node
-    ∙ (λ k. pushed (c.set_status.ensures k) (Leave (who k))) in
+    let node : node_of c.push.new.self ≡ push_entry (departed m) (Leave m.core.who) = c.push.ensures.node
+    ∙ (λ k. push_entry (c.set_status.ensures k) (Leave (who k))) in
     subst (λ (x : Node). IsEndOf x (node_of c.lead.new.parts)) (ap lead node ∙ sym (depart_end m c.requires.idle c.requires.leads)) c.lead.ensures
 
 pub returns-clause-alone : goal.returns-clause-alone
@@ -54,5 +54,5 @@ returns-clause-alone c =
     let m = node_of c.args.parts.now in
     let member = c.args.parts.now.keeps.leads c.requires.leads in
     let kept : IsKept m.core.log (m.core.rules.window + 15) =
-    subst (λ (x : Node). IsKept x.core.log (x.core.rules.window + 15)) c.set_status.ensures c.accepted-before.ensures.kept in
+    subst (λ (x : Node). IsKept x.core.log (x.core.rules.window + 15)) c.set_status.ensures c.accept_front-before.ensures.kept in
     left_alone m (m.core.rules.window + 15) kept member c.requires.idle c.requires.leads c.requires.alone

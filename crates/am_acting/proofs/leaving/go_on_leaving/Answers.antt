@@ -24,8 +24,8 @@ pub returns-then-not-has_room : goal.returns-then-not-has_room
 returns-then-not-has_room c =
     let none = no_others (node_of c.args.parts.now) c.len.ensures.value c.others-others.ensures c.if-len-gt0.false in
     done_as
-    (go_held (node_of c.args.parts.now) c.args.answer c.held-answer.result (sym c.is_sequencer.ensures.value ∙ c.if-not-is_sequencer.false) none
-    (sym c.has_room.ensures.value ∙ c.if-not-has_room.true) c.held-answer.ensures)
+    (go_held (node_of c.args.parts.now) c.args.answer c.held_answer-answer.result (sym c.is_sequencer.ensures.value ∙ c.if-not-is_sequencer.false) none
+    (sym c.has_room.ensures.value ∙ c.if-not-has_room.true) c.held_answer-answer.ensures)
     c.finish_quietly.ensures
 
 pub returns : goal.returns

@@ -1,6 +1,6 @@
 use Rattle.std.proofs.Common.{arith}
 use Rattle.am_model.specs.Refresh.{with_led}
-use Rattle.am_fronts.specs.Refresh.{led}
+use Rattle.am_fronts.specs.Refresh.{core_and_reports}
 use Rattle.am_handlers.specs.Parts.{node_of}
 use Rattle.am_handlers.proofs.Keeping.{keeps_steady, steady_led}
 use Rattle.am_acting.proofs.Leaves.{lead_end}
@@ -9,13 +9,13 @@ use Rattle.am_acting.proofs.leaving.lead.Goals as goal
 pub invariant_of-parts : goal.invariant_of-parts
 invariant_of-parts c =
     let old = node_of c.args.parts.now in
-    let new = led c.refresh.new.core c.refresh.new.self in
+    let new = core_and_reports c.refresh.new.core c.refresh.new.self in
     let own = c.refresh.ensures.own in
     record {
-      keeps = keeps_steady old (with_led old new) (steady_led old new c.accepted-before.ensures.order c.refresh.ensures.value) c.args.parts.now.keeps
+      keeps = keeps_steady old (with_led old new) (steady_led old new c.accept_front-before.ensures.order c.refresh.ensures.value) c.args.parts.now.keeps
           (omega arith);
     }
 
 pub returns : goal.returns
 returns c =
-    lead_end (node_of c.args.parts.now) (led c.refresh.new.core c.refresh.new.self) c.accepted-before.ensures.order.kept c.refresh.ensures.value
+    lead_end (node_of c.args.parts.now) (core_and_reports c.refresh.new.core c.refresh.new.self) c.accept_front-before.ensures.order.kept c.refresh.ensures.value

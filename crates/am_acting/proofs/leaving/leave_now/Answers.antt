@@ -15,8 +15,8 @@ returns-then-is_leaving c =
 pub returns-then-is_busy : goal.returns-then-is_busy
 returns-then-is_busy c =
     done_as
-    (leave_busy (node_of c.args.parts.now) c.unsettled-queued.result (sym c.is_leaving.ensures ∙ c.if-is_leaving.false)
-    (sym c.is_busy.ensures ∙ c.if-is_busy.true) c.unsettled-queued.ensures.value)
+    (leave_busy (node_of c.args.parts.now) c.unsettled_count-queued.result (sym c.is_leaving.ensures ∙ c.if-is_leaving.false)
+    (sym c.is_busy.ensures ∙ c.if-is_busy.true) c.unsettled_count-queued.ensures.value)
     c.finish_quietly-then-is_busy.ensures
 
 pub returns : goal.returns

@@ -9,7 +9,7 @@ use Rattle.am_acting.proofs.sending.on_done.Goals as goal
 
 pub returns : goal.returns
 returns c =
-    does_rest (λ m. done_row m c.args.req) (λ m. quiet m c.collect-answer.result) (node_of c.args.parts.now) c.accepted-before.ensures.value
+    does_rest (λ m. done_row m c.args.req) (λ m. quiet m c.collect-answer.result) (node_of c.args.parts.now) c.accept_front-before.ensures.value
     c.collect-answer.ensures.rest
     (done_is (node_of c.args.parts.now) c.args.req ∙ ap (λ o. quiet (record (node_of c.args.parts.now) {
       sends = own.collect c.args.req

@@ -18,8 +18,8 @@ pub returns-then-not-has_room : goal.returns-then-not-has_room
 returns-then-not-has_room c =
     let none = no_others (node_of c.args.parts.now) c.len.ensures.value c.others-others.ensures c.if-len-gt0.false in
     done_as
-    (ticks.polls_held (node_of c.args.parts.now) c.held-answer.result c.requires.leads none (sym c.has_room.ensures.value ∙ c.if-not-has_room.true)
-    c.held-answer.ensures)
+    (ticks.polls_held (node_of c.args.parts.now) c.held_answer-answer.result c.requires.leads none (sym c.has_room.ensures.value ∙ c.if-not-has_room.true)
+    c.held_answer-answer.ensures)
     c.finish_polling.ensures
 
 pub depart-requires-clause-alone : goal.depart-requires-clause-alone

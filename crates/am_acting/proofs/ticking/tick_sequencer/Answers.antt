@@ -42,4 +42,6 @@ returns c =
     c.number_send-note.result (sym c.is_leaving.ensures ∙ c.if-is_leaving.false) (sym c.in-Some.ensures.value)
     (sym c.would_emit.ensures ∙ c.if-not-would_emit.false) c.requires.leads (sym c.has_room.ensures.value ∙ c.if-not-has_room.false) c.others-to.ensures
     c.number_send-note.ensures.note c.number_send-note.ensures.node)
-    c.finish_numbering.ensures
+    (ticks.numbered_done c.args.before (node_of c.number_send-note.new.parts)
+    (node_of c.end.new.self) c.others-to.result c.number_send-note.result c.args.out.now _ _ _ c.requires.empty c.accept_front-before.ensures.order.kept c.end.ensures
+    c.tell.ensures.letters c.tell_view.ensures.letters c.tell_accepted.ensures)

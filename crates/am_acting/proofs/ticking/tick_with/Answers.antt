@@ -8,12 +8,12 @@ pub returns-in_default : goal.returns-in_default
 returns-in_default c =
     done_as
     (ticks.tick_unfinished (node_of c.args.parts.now) ((node_of c.args.parts.now).ballot) ∙ ap (ticks.acts_or_asks (node_of c.args.parts.now))
-    (sym c.unfinished.ensures ∙ c.in_default.is))
+    (sym c.again_of_ballot.ensures ∙ c.in_default.is))
     c.tick_acting.ensures
 
 pub returns : goal.returns
 returns c =
     done_as
     (ticks.tick_unfinished (node_of c.args.parts.now) ((node_of c.args.parts.now).ballot) ∙ ap (ticks.acts_or_asks (node_of c.args.parts.now))
-    (sym c.unfinished.ensures ∙ c.in-Some.is))
+    (sym c.again_of_ballot.ensures ∙ c.in-Some.is))
     c.ask_again.ensures

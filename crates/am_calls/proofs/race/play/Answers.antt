@@ -13,7 +13,7 @@ returns-then-is_last-clause-ran g c =
     let below : c.loop-act.act-index < length c.args.thread.now.calls =
     subst (λ (l : List Act). c.loop-act.act-index < length l) c.as_slice-act-items.ensures c.loop-act-test.true in
     let there = c.act-item.is ∙ ap (λ (l : List Act). get_or l c.loop-act.act-index c.act-item.result) c.as_slice-act-items.ensures in
-    subst (HasRun g.N.Racing.plan c.make-answer.new.caller) (sym c.refusal_of-refusal.ensures)
+    subst (HasRun g.N.Racing.plan c.make-answer.new.caller) (sym c.as_refusal-refusal.ensures)
     (thread_ends g.N.Racing.plan c.args.thread.now c.args.caller.number c.loop-act.act-index c.act-item.result c.loop-act.caller c.make-answer.new.caller
     c.make-answer.result
     c.requires.its c.loop-act.invariant c.make-answer.ensures (sym c.is_last.ensures ∙ c.if-is_last.true) below

@@ -1,9 +1,9 @@
-use Rattle.std.proofs.Common.{[], ◌∷◌}
+use Rattle.std.proofs.Common.{[], ◌∷◌, ◌++◌}
 use Rattle.byteorder.specs.Endian.{big_bytes}
-use Rattle.am_codec.proofs.Pieces.{four}
+use Rattle.am_codec.proofs.Pieces.{after}
 use Rattle.am_codec.proofs.writer.put_row.Goals as goal
 
 pub returns : goal.returns
-returns c = four c.args.into.now c.put_byte.new.into c.put_number.new.into c.put_number-2.new.into c.put_number-3.new.into
-    (c.args.row.life ∷ []) (big_bytes 4 c.args.row.joined) (big_bytes 4 c.args.row.left) (big_bytes 4 c.args.row.last)
-    c.put_byte.ensures c.put_number.ensures c.put_number-2.ensures c.put_number-3.ensures
+returns c = after c.args.into.now c.put_byte.new.into c.put_numbers.new.into
+    (c.args.row.life ∷ []) (big_bytes 4 c.args.row.joined ++ big_bytes 4 c.args.row.left ++ big_bytes 4 c.args.row.last)
+    c.put_numbers.ensures c.put_byte.ensures

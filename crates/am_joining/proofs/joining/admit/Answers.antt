@@ -1,6 +1,6 @@
 use Rattle.std.proofs.Common.{ℕ, ap, sym, ◌∙◌, subst}
 use Rattle.am_base.specs.declared.image.Report.{Report}
-use Rattle.am_fronts.specs.Reports.{admitted, reports_of}
+use Rattle.am_fronts.specs.Reports.{with_admitted, reports_of}
 use Rattle.am_model.specs.Node.{Node}
 use Rattle.am_handlers.specs.Keeps.{NodeKeeps}
 use Rattle.am_handlers.specs.Parts.{node_of}
@@ -20,4 +20,4 @@ returns c =
     let old = node_of c.args.parts.now in
     let base = c.base_of-base.ensures in
     ap (λ (r : ℕ → Report). let n : Node = record old { reports = r } in
-    n) (c.admit.ensures ∙ ap (λ b. admitted (reports_of c.args.parts.now.fronts) c.args.name b) base)
+    n) (c.admit.ensures ∙ ap (λ b. with_admitted (reports_of c.args.parts.now.fronts) c.args.name b) base)

@@ -6,7 +6,7 @@ use Rattle.am_base.specs.Names.{has}
 use Rattle.am_base.specs.Lists.{members_of, fits}
 use Rattle.am_core.proofs.Ends.{told-push}
 use Rattle.am_packet.specs.Boxes.{Letter, with_letter}
-use Rattle.am_model.specs.Node.{Node, top, told, others, pushed}
+use Rattle.am_model.specs.Node.{Node, top, image_of, others, push_entry}
 use Rattle.am_model.specs.Ends.{IsEndOf}
 use Rattle.am_handlers.specs.Cores.{CoreTells}
 use Rattle.am_handlers.specs.Keeps.{NodeKeeps}
@@ -14,22 +14,22 @@ use Rattle.am_handlers.specs.Parts.{node_of}
 use Rattle.am_handlers.proofs.Ends.{end_self}
 use Rattle.am_handlers.proofs.Keeping.{keeps_pushed, leading_log}
 use Rattle.am_handlers.proofs.Plans.{done, end_tells, told_numbered}
-use Rattle.am_model.specs.Joining.{admitted, number_join}
+use Rattle.am_model.specs.Joining.{with_admitted, number_join}
 use Rattle.am_joining.specs.Pieces.{and_welcome}
 use Rattle.am_joining.proofs.Joins.{keeps_admitted, join_letters}
 use Rattle.am_joining.proofs.Members.{stays_by_join}
 use Rattle.am_joining.proofs.joining.number_join.Goals as goal
 
 pub push-requires-clause-fits : goal.push-requires-clause-fits
-push-requires-clause-fits c = subst (λ (x : Node). fits (told x) (Join c.args.from) ≡ true) (sym c.admit.ensures) c.requires.fits
+push-requires-clause-fits c = subst (λ (x : Node). fits (image_of x) (Join c.args.from) ≡ true) (sym c.admit.ensures) c.requires.fits
 
 pub push-requires-clause-keeps : goal.push-requires-clause-keeps
 push-requires-clause-keeps c =
     let old = node_of c.args.parts.now in
     let keeps = keeps_admitted old c.args.from old.core.base c.requires.other c.args.parts.now.keeps in
-    let member = stays_by_join (told old) (top old + 1) c.args.from old.core.who c.requires.fits (c.args.parts.now.keeps.leads c.requires.leads) in
-    subst (λ (x : Node). NodeKeeps (pushed x (Join c.args.from))) (sym c.admit.ensures)
-    (keeps_pushed (admitted old c.args.from) (Join c.args.from) refl c.requires.fits (old.core.rules.window + 15) c.accepted-before.ensures.kept
+    let member = stays_by_join (image_of old) (top old + 1) c.args.from old.core.who c.requires.fits (c.args.parts.now.keeps.leads c.requires.leads) in
+    subst (λ (x : Node). NodeKeeps (push_entry x (Join c.args.from))) (sym c.admit.ensures)
+    (keeps_pushed (with_admitted old c.args.from) (Join c.args.from) refl c.requires.fits (old.core.rules.window + 15) c.next_number-number.ensures.kept
     (leading_log old c.requires.leads)
     (λ leads. ap (λ (i : Image). has (members_of i) old.core.who) (told-push old.core.log (Join c.args.from)) ∙ member) keeps)
 
@@ -38,11 +38,11 @@ returns c =
     let old = node_of c.args.parts.now in
     let mid = node_of c.push.new.self in
     let new = node_of c.end.new.self in
-    let node : mid ≡ pushed (admitted old c.args.from) (Join c.args.from) = c.push.ensures.node
-    ∙ ap (λ (x : Node). pushed x (Join c.args.from)) c.admit.ensures in
-    let end : IsEndOf (pushed (admitted old c.args.from) (Join c.args.from)) mid = subst (λ (x : Node). IsEndOf x mid) node
+    let node : mid ≡ push_entry (with_admitted old c.args.from) (Join c.args.from) = c.push.ensures.node
+    ∙ ap (λ (x : Node). push_entry x (Join c.args.from)) c.admit.ensures in
+    let end : IsEndOf (push_entry (with_admitted old c.args.from) (Join c.args.from)) mid = subst (λ (x : Node). IsEndOf x mid) node
     (end_self mid c.push.ensures.order.kept) in
-    let to : c.others-others.result ≡ others old = end_tells others old c.others-others.result c.accepted-before.ensures.order.kept c.others-others.ensures in
+    let to : c.others-others.result ≡ others old = end_tells others old c.others-others.result c.next_number-number.ensures.order.kept c.others-others.ensures in
     let number : c.next_number-number.result ≡ top old + 1 = c.next_number-number.ensures.value in
     let put = c.put.ensures ∙ ap (λ set. with_letter set c.bcast.result c.args.out.now) to ∙ ap (with_letter (others old) c.bcast.result) c.requires.empty in
     let Q : List Letter → Type 0 = λ letters. CoreTells (and_welcome c.next_number-number.result c.args.from letters) new.core c.welcome_accepted.new.out in

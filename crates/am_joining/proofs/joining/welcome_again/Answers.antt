@@ -12,6 +12,6 @@ returns-then-needs_none c =
 
 pub returns : goal.returns
 returns c =
-    let P : Plan → Type 0 = λ p. Done c.args.before p c.finish_welcoming.result c.finish_welcoming.new.out (node_of c.finish_welcoming.new.parts) in
+    let P : Plan → Type 0 = λ p. Done c.args.before p c.finish_telling.result c.finish_telling.new.out (node_of c.finish_telling.new.parts) in
     subst P (sym (again_welcome (node_of c.args.parts.now) c.args.from c.args.joined (sym c.needs_none.ensures ∙ c.if-needs_none.false)))
-    c.finish_welcoming.ensures
+    c.finish_telling.ensures

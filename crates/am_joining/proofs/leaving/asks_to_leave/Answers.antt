@@ -1,7 +1,7 @@
 use Rattle.std.proofs.Common.{sym, ap, ◌∙◌, subst, arith}
 use Rattle.am_base.specs.declared.image.Row.{Row}
 use Rattle.am_base.specs.declared.outcome.Outcome.{Outcome}
-use Rattle.am_model.specs.Node.{told}
+use Rattle.am_model.specs.Node.{image_of}
 use Rattle.am_model.specs.Emit.{Plan, polling}
 use Rattle.am_handlers.specs.Parts.{node_of}
 use Rattle.am_handlers.specs.Finishing.{Done}
@@ -20,12 +20,12 @@ returns-then-not-has_room c =
     let P : Plan → Type 0 = λ p. Done c.args.before p c.finish_polling.result c.finish_polling.new.out (node_of c.finish_polling.new.parts) in
     let Q : Outcome → Type 0 = λ o. P (polling old o) in
     subst P (sym (asks_held old c.args.from c.row-row.result c.row-row.ensures.value c.if-row-gt0.false (sym c.has_room.ensures.value
-    ∙ c.if-not-has_room.true))) (subst Q c.held-answer.ensures c.finish_polling.ensures)
+    ∙ c.if-not-has_room.true))) (subst Q c.held_answer-answer.ensures c.finish_polling.ensures)
 
 pub number_leave-requires-clause-leaver : goal.number_leave-requires-clause-leaver
 number_leave-requires-clause-leaver c =
     let left = ap (λ (r : Row). r.left) c.row-row.ensures.value in
-    member_by_row (told (node_of c.args.parts.now)) c.args.from c.requires.known (omega arith)
+    member_by_row (image_of (node_of c.args.parts.now)) c.args.from c.requires.known (omega arith)
 
 pub returns : goal.returns
 returns c =

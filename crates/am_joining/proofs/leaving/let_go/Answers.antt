@@ -17,6 +17,6 @@ returns-clause-letters c =
     let m = node_of c.args.parts.now in
     let P : Bool → Type 0 = λ b. Tells (λ n. may_go n c.args.name) m b in
     let Q : List Letter → Type 0 = λ letters. Tells (and_let_go c.args.name c.args.out.now) m letters in
-    subst Q (sym (c.put.ensures ∙ ap (λ (to : List ℕ). with_letter to c.gone.result c.args.out.now) c.only.ensures))
-    (goes_away m c.args.name c.row-row.result c.gone.result c.args.out.now c.row-row.ensures.value
-    (subst P c.if-not-may_go.false c.may_go.ensures) c.gone.ensures.value)
+    subst Q (sym (c.put.ensures ∙ ap (λ (to : List ℕ). with_letter to c.gone_packet.result c.args.out.now) c.only.ensures))
+    (goes_away m c.args.name c.row-row.result c.gone_packet.result c.args.out.now c.row-row.ensures.value
+    (subst P c.if-not-may_go.false c.may_go.ensures) c.gone_packet.ensures.value)

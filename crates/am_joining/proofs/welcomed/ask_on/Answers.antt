@@ -7,12 +7,12 @@ use Rattle.am_joining.proofs.welcomed.ask_on.Goals as goal
 
 pub returns-then-has_view : goal.returns-then-has_view
 returns-then-has_view c =
-    let P : Plan → Type 0 = λ p. Done c.args.before p c.finish_asking.result c.finish_asking.new.out (node_of c.finish_asking.new.parts) in
+    let P : Plan → Type 0 = λ p. Done c.args.before p c.finish_telling.result c.finish_telling.new.out (node_of c.finish_telling.new.parts) in
     subst P (sym (asks_nack (node_of c.args.parts.now) c.args.from c.args.stamp c.args.join (sym c.has_view.ensures ∙ c.if-has_view.true)))
-    c.finish_asking.ensures
+    c.finish_telling.ensures
 
 pub returns : goal.returns
 returns c =
-    let P : Plan → Type 0 = λ p. Done c.args.before p c.finish_fetching.result c.finish_fetching.new.out (node_of c.finish_fetching.new.parts) in
+    let P : Plan → Type 0 = λ p. Done c.args.before p c.finish_telling-2.result c.finish_telling-2.new.out (node_of c.finish_telling-2.new.parts) in
     subst P (sym (asks_fetch (node_of c.args.parts.now) c.args.from c.args.stamp c.args.join (sym c.has_view.ensures ∙ c.if-has_view.false)))
-    c.finish_fetching.ensures
+    c.finish_telling-2.ensures

@@ -16,7 +16,7 @@ invariant_of-parts c =
     record {
       keeps = subst (λ (x : CoreState). NodeKeeps (record old { core = x; status = Member })) (sym c.begin_core.ensures)
           (begun_keeps old c.args.stamp c.args.base c.args.join c.args.image.now c.requires.asking c.requires.other c.requires.fits
-          c.accepted-before.ensures.order c.args.parts.now.keeps);
+          c.accept_front-before.ensures.order c.args.parts.now.keeps);
     }
 
 pub returns : goal.returns

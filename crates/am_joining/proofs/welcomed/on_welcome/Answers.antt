@@ -1,6 +1,6 @@
 use Rattle.std.proofs.Common.{sym, ◌∙◌, subst}
 use Rattle.am_model.specs.Node.{Node}
-use Rattle.am_model.specs.Joining.{welcomed, welcome_row}
+use Rattle.am_model.specs.Joining.{ask_next, welcome_row}
 use Rattle.am_handlers.specs.Parts.{node_of}
 use Rattle.am_handlers.specs.Finishing.{Done}
 use Rattle.am_handlers.proofs.Plans.{does_now}
@@ -10,14 +10,14 @@ use Rattle.am_joining.proofs.welcomed.on_welcome.Goals as goal
 pub returns-then-is_member : goal.returns-then-is_member
 returns-then-is_member c =
     let old = node_of c.args.parts.now in
-    does_now (λ m. welcome_row m c.args.from c.args.stamp c.args.base c.args.join c.args.image.now) old c.accepted-before.ensures.value
+    does_now (λ m. welcome_row m c.args.from c.args.stamp c.args.base c.args.join c.args.image.now) old c.accept_front-before.ensures.value
     (welcome_known old c.args.from c.args.stamp c.args.base c.args.join c.args.image.now (sym c.is_member.ensures ∙ c.if-is_member.true))
     c.finish_quietly.ensures
 
 pub returns-then-has_promised_more : goal.returns-then-has_promised_more
 returns-then-has_promised_more c =
     let old = node_of c.args.parts.now in
-    does_now (λ m. welcome_row m c.args.from c.args.stamp c.args.base c.args.join c.args.image.now) old c.accepted-before.ensures.value
+    does_now (λ m. welcome_row m c.args.from c.args.stamp c.args.base c.args.join c.args.image.now) old c.accept_front-before.ensures.value
     (welcome_elsewhere old c.args.from c.args.stamp c.args.base c.args.join c.args.image.now (sym c.is_member.ensures ∙ c.if-is_member.false)
     (sym c.has_promised_more.ensures ∙ c.if-has_promised_more.true))
     c.finish_quietly-then-has_promised_more.ensures
@@ -25,7 +25,7 @@ returns-then-has_promised_more c =
 pub returns-then-is_unfit : goal.returns-then-is_unfit
 returns-then-is_unfit c =
     let old = node_of c.args.parts.now in
-    does_now (λ m. welcome_row m c.args.from c.args.stamp c.args.base c.args.join c.args.image.now) old c.accepted-before.ensures.value
+    does_now (λ m. welcome_row m c.args.from c.args.stamp c.args.base c.args.join c.args.image.now) old c.accept_front-before.ensures.value
     (welcome_unfit old c.args.from c.args.stamp c.args.base c.args.join c.args.image.now (sym c.is_member.ensures ∙ c.if-is_member.false)
     (sym c.has_promised_more.ensures ∙ c.if-has_promised_more.false) (sym c.is_unfit.ensures ∙ c.if-is_unfit.true))
     c.finish_quietly-then-is_unfit.ensures
@@ -36,9 +36,9 @@ begin-requires-clause-asking c = member_or_asks (node_of c.args.parts.now).statu
 pub returns : goal.returns
 returns c =
     let old = node_of c.args.parts.now in
-    let P : Node → Type 0 = λ x. Done c.accepted-before.result (welcomed x c.args.from c.args.stamp c.args.join) c.ask_on.result c.ask_on.new.out
+    let P : Node → Type 0 = λ x. Done c.accept_front-before.result (ask_next x c.args.from c.args.stamp c.args.join) c.ask_on.result c.ask_on.new.out
     (node_of c.ask_on.new.parts) in
-    does_now (λ m. welcome_row m c.args.from c.args.stamp c.args.base c.args.join c.args.image.now) old c.accepted-before.ensures.value
+    does_now (λ m. welcome_row m c.args.from c.args.stamp c.args.base c.args.join c.args.image.now) old c.accept_front-before.ensures.value
     (welcome_begins old c.args.from c.args.stamp c.args.base c.args.join c.args.image.now (sym c.is_member.ensures ∙ c.if-is_member.false)
     (sym c.has_promised_more.ensures ∙ c.if-has_promised_more.false) (sym c.is_unfit.ensures ∙ c.if-is_unfit.false))
     (subst P c.begin.ensures c.ask_on.ensures)

@@ -1,6 +1,5 @@
 use Rattle.std.proofs.Common.{refl, ap, ℕ, arith}
 use Rattle.am_base.specs.declared.image.Report.{Report}
-use Rattle.am_handlers.specs.Parts.{node_of}
 use Rattle.am_model.specs.Node.{stranger}
 use Rattle.am_node.proofs.Founders.{stranger_keeps, keeps_as}
 use Rattle.am_node.proofs.founding.stranger.Goals as goal

@@ -10,7 +10,7 @@ use Rattle.am_node.proofs.hearing.on_bytes.Goals as goal
 pub returns-in-Err : goal.returns-in-Err
 returns-in-Err c =
     let old = node_of c.args.parts.now in
-    does_plan (λ m. read_row m (reading c.args.bytes.now)) (quiet old (said.Refused c.cause-cause.result)) c.accepted-before.result old _ _ _
-    c.accepted-before.ensures.value
+    does_plan (λ m. read_row m (reading c.args.bytes.now)) (quiet old (said.Refused c.cause-cause.result)) c.accept_front-before.result old _ _ _
+    c.accept_front-before.ensures.value
     (ap (read_row old) (sym c.decode.ensures.exact ∙ c.in-Err.is)
     ∙ ap (λ (k : ℕ). quiet old (said.Refused k)) (sym c.cause-cause.ensures.value)) c.finish_quietly.ensures

@@ -1,7 +1,7 @@
 use Rattle.std.proofs.Common.{◌≡◌, length, sym, ap, ◌∙◌, arith}
 use Rattle.std.proofs.lemmas.Result.{err_from_is_err_and}
 use Rattle.am_world.specs.Runs.{Play}
-use Rattle.am_pump.specs.Generating.{Drive, begun, drive, driven}
+use Rattle.am_pump.specs.Generating.{Drive, first_drive, drive, drive_once}
 use Rattle.am_pump.proofs.Drives.{drive_next, so_many, play_is}
 use Rattle.am_pump.proofs.generate.generate.Goals as goal
 
@@ -10,23 +10,23 @@ unfolding drive
 loop-done-init c = c.in_ok-generator.ensures
 
 pub loop-done-preserved : goal.loop-done-preserved
-loop-done-preserved c = c.in_ok-step.ensures.ok ∙ ap driven c.loop-done.invariant ∙ sym (drive_next c.loop-done._done (begun c.args.seed))
+loop-done-preserved c = c.in_ok-step.ensures.ok ∙ ap drive_once c.loop-done.invariant ∙ sym (drive_next c.loop-done._done (first_drive c.args.seed))
 
 pub returns-in_err-step-clause-spent : goal.returns-in_err-step-clause-spent
 returns-in_err-step-clause-spent c =
     let p = err_from_is_err_and c.from_residual-in_err-step.result c.from_residual-in_err-step.ensures.1 in
     rw (p.1, p.2) (λ is.
-    let many = ap (λ (d : Drive). length d.play.events) c.loop-done.invariant ∙ so_many c.loop-done._done (begun c.args.seed) in
+    let many = ap (λ (d : Drive). length d.play.events) c.loop-done.invariant ∙ so_many c.loop-done._done (first_drive c.args.seed) in
     let full = c.in_err-step.ensures.spent is in
     omega (arith, c.loop-done-test.true))
 
 pub returns-clause-world : goal.returns-clause-world
 returns-clause-world c =
     let all : c.loop-done._done ≡ c.args.count = omega (arith, c.loop-done-test.false, c.loop-done.auto._done-end) in
-    c.into_world.ensures ∙ ap (λ (d : Drive). d.play) (c.loop-done.invariant ∙ ap (λ n. drive n (begun c.args.seed)) all) ∙ play_is c.args.seed c.args.count
+    c.into_world.ensures ∙ ap (λ (d : Drive). d.play) (c.loop-done.invariant ∙ ap (λ n. drive n (first_drive c.args.seed)) all) ∙ play_is c.args.seed c.args.count
 
 pub returns-clause-count : goal.returns-clause-count
 returns-clause-count c =
     let many = ap (λ (p : Play). length p.events) c.into_world.ensures ∙ ap (λ (d : Drive). length d.play.events) c.loop-done.invariant
-    ∙ so_many c.loop-done._done (begun c.args.seed) in
+    ∙ so_many c.loop-done._done (first_drive c.args.seed) in
     omega (arith, c.loop-done-test.false, c.loop-done.auto._done-end)

@@ -4,6 +4,6 @@ use Rattle.am_pump.proofs.generator.counting.Goals as goal
 
 pub returns : goal.returns
 returns c =
-    c.in-Some.ensures.value
+    c.in_ok-of_bytes.ensures
     ∙ filled c.loop-index.bytes c.args.number c.args.size c.loop-index.index c.loop-index.invariant.0 c.requires.size c.loop-index-test.false
     c.loop-index.invariant.1

@@ -6,14 +6,14 @@ use Rattle.am_receiver.proofs.receiver.note.Goals as goal
 pub invariant_of-parts : goal.invariant_of-parts
 invariant_of-parts c =
     let old = node_of c.args.parts.now in
-    let order = c.accepted-before.ensures.order in
+    let order = c.accept_front-before.ensures.order in
     record {
       keeps = end_noted_keeps old _ c.args.base c.args.acc
           (noted_end old c.note_fronts.new.core c.args.base c.args.acc order.kept c.note_fronts.ensures) c.args.parts.now.keeps;
     }
 
 pub returns-clause-end : goal.returns-clause-end
-returns-clause-end c = let order = c.accepted-before.ensures.order in
+returns-clause-end c = let order = c.accept_front-before.ensures.order in
     noted_end (node_of c.args.parts.now) c.note_fronts.new.core c.args.base c.args.acc order.kept c.note_fronts.ensures
 
 pub returns-clause-steady : goal.returns-clause-steady

@@ -1,6 +1,7 @@
-use Rattle.std.proofs.Common.{refl, Some}
+use Rattle.std.proofs.Common.{refl, ap, ◌∙◌, Some}
 use Rattle.am_base.specs.declared.outcome.Outcome.TheVariants as said
 use Rattle.am_model.specs.Receiving.{bcast_row}
+use Rattle.am_model.specs.Node.{is_member}
 use Rattle.am_handlers.specs.Parts.{node_of}
 use Rattle.am_handlers.proofs.Plans.{does_now}
 use Rattle.am_receiver.proofs.Notes.{noted_done}
@@ -10,6 +11,10 @@ pub returns : goal.returns
 unfolding bcast_row
 returns c =
     let old = node_of c.args.parts.now in
-    does_now (λ m. bcast_row m c.args.from c.args.base c.args.acc c.args.number c.args.entry.now) old c.accepted-before.ensures.value refl
-    (noted_done c.accepted-before.result old (node_of c.note.new.parts) _ c.args.base c.args.acc c.args.from c.args.number (Some c.args.entry.now) said.Known
-    _ _ c.note.ensures.end c.note.ensures.order c.received.ensures)
+    does_now (λ m. bcast_row m c.args.from c.args.base c.args.acc c.args.number c.args.entry.now) old c.accept_front-before.ensures.value refl
+    (noted_done c.accept_front-before.result old (node_of c.note.new.parts) _ c.args.base c.args.acc c.args.from c.args.number (Some c.args.entry.now) said.Known
+    _ _ c.note.ensures.end c.note.ensures.order c.receive_entry.ensures)
+
+pub receive_entry-requires-clause-follows : goal.receive_entry-requires-clause-follows
+receive_entry-requires-clause-follows c =
+    record { member = ap is_member c.note.ensures.status ∙ c.requires.follows.member; follows = c.note.ensures.leads ∙ c.requires.follows.follows }

@@ -1,9 +1,9 @@
 use Rattle.std.proofs.Common.{◌≡◌, ◌++◌, drop, string_bytes}
 use Rattle.am_base.specs.Names.{names_from}
-use Rattle.am_model.specs.Text.{listed}
+use Rattle.am_model.specs.Text.{list_text}
 use Rattle.am_report.specs.Names.{rest_text}
 use Rattle.am_report.proofs.name.push_names.Given as goal
 
 abbrev pub invariant-loop-place : goal.invariant-loop-place
 invariant-loop-place l = string_bytes l.out ++ rest_text l.first (names_from l.place (drop l.place l.names))
-    ≡ string_bytes l.fn.out ++ listed (names_from 0 l.names)
+    ≡ string_bytes l.fn.out ++ list_text (names_from 0 l.names)

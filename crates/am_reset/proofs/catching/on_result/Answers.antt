@@ -6,4 +6,4 @@ use Rattle.am_reset.proofs.catching.on_result.Goals as goal
 pub returns : goal.returns
 returns c = c.finish.ensures (node_of c.args.parts.now) (result_row
     (node_of c.args.parts.now) c.args.from c.args.stamp c.args.base c.args.number c.args.members c.args.resilience)
-    (sym c.accepted_of-before.ensures.value) c.result_row-reply.ensures.replies
+    (sym c.accept_front-before.ensures.value) c.result_row-reply.ensures.replies

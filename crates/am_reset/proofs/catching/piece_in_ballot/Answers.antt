@@ -2,8 +2,8 @@ use Rattle.std.proofs.Common.{true, false, Some, refl, sym, ◌∙◌, arith}
 use Rattle.am_ballots.specs.Kept.{ballot_of}
 use Rattle.am_handlers.specs.Parts.{node_of}
 use Rattle.am_handlers.proofs.Ends.{end_self}
-use Rattle.am_model.specs.Node.{pushed, trimmed}
-use Rattle.am_model.specs.Resets.{fetched, fetched_for}
+use Rattle.am_model.specs.Node.{push_entry, trim_up_to}
+use Rattle.am_model.specs.Resets.{push_fetched, decide_anew}
 use Rattle.am_reset.specs.Catching.{with_ballot}
 use Rattle.am_reset.specs.declared.replies.Telling.TheVariants as tell
 use Rattle.am_reset.proofs.VoteRows.{end_as, by_reply}
@@ -17,9 +17,9 @@ returns-in-Some-clause-replies c =
     let m = with_ballot (node_of c.args.parts.now) (Some b) in
     let new = node_of c.put_back.new.parts in
     let e = c.args.entry.now in
-    by_reply (fetched m c.args.stamp.now c.args.base c.args.number e true (fetched_for b)) c.quiet.result c.in-Some.outcome tell.Nothing new c.quiet.ensures
-    (fetched_unless m new c.args.stamp.now c.args.base c.args.number e true (fetched_for b) c.refusal.result c.in-Some.outcome
-    (c.refusal.ensures.value (Some b) (fetched_for b)) c.in-Some.is (end_as m new c.requires.ballot.order.kept c.put_back.ensures))
+    by_reply (push_fetched m c.args.stamp.now c.args.base c.args.number e true (decide_anew b)) c.quiet.result c.in-Some.outcome tell.Nothing new c.quiet.ensures
+    (fetched_unless m new c.args.stamp.now c.args.base c.args.number e true (decide_anew b) c.refusal.result c.in-Some.outcome
+    (c.refusal.ensures.value (Some b) (decide_anew b)) c.in-Some.is (end_as m new c.requires.ballot.order.kept c.put_back.ensures))
 
 pub returns-in-None-clause-replies : goal.returns-in-None-clause-replies
 returns-in-None-clause-replies c =
@@ -28,9 +28,9 @@ returns-in-None-clause-replies c =
     let m = with_ballot old (Some b) in
     let new = node_of c.decide-outcome.new.parts in
     let e = c.args.entry.now in
-    let comes = c.decide-outcome.ensures.comes (pushed (trimmed old c.args.base) e) (c.store.ensures.changes old (end_self old c.requires.ballot.order.kept)) in
-    fetched_then m new c.args.stamp.now c.args.base c.args.number e true (fetched_for b) c.refusal.result c.decide-outcome.result
-    (tell.Ballot c.empty.result false) (c.refusal.ensures.value (Some b) (fetched_for b)) c.in-None.is
+    let comes = c.decide-outcome.ensures.comes (push_entry (trim_up_to old c.args.base) e) (c.store.ensures.changes old (end_self old c.requires.ballot.order.kept)) in
+    fetched_then m new c.args.stamp.now c.args.base c.args.number e true (decide_anew b) c.refusal.result c.decide-outcome.result
+    (tell.Ballot c.empty.result false) (c.refusal.ensures.value (Some b) (decide_anew b)) c.in-None.is
     (replies_fetched old new b (Some b) c.args.base e c.decide-outcome.result c.empty.result comes c.empty.ensures)
 
 pub store-requires : goal.store-requires

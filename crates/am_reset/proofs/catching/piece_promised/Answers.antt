@@ -2,8 +2,8 @@ use Rattle.std.proofs.Common.{false, ◌==◌, sym, ◌∙◌}
 use Rattle.am_base.specs.declared.outcome.Outcome.TheVariants as said
 use Rattle.am_handlers.specs.Parts.{node_of}
 use Rattle.am_handlers.proofs.Ends.{end_self}
-use Rattle.am_model.specs.Node.{pushed, trimmed}
-use Rattle.am_model.specs.Resets.{piece_promised, caught_up}
+use Rattle.am_model.specs.Node.{push_entry, trim_up_to}
+use Rattle.am_model.specs.Resets.{piece_promised, catch_up}
 use Rattle.am_reset.specs.declared.replies.Telling.TheVariants as tell
 use Rattle.am_reset.proofs.VoteRows.{by_reply}
 use Rattle.am_reset.proofs.Pieces.{may_store, other_view, fetched_unless, fetched_then, replies_caught, promised_other, promised_own}
@@ -26,8 +26,8 @@ returns-in-Some-clause-replies c =
     c.quiet-in-Some.ensures
     (promised_own old old c.args.from c.args.stamp c.args.base c.args.number e c.in-Some.outcome tell.Nothing
     (not-false (c.args.stamp.by == c.args.from) (sym c.ne.ensures ∙ c.if-ne.false))
-    (fetched_unless old old c.args.stamp c.args.base c.args.number e false (caught_up c.args.from c.args.stamp c.args.number) c.refusal.result c.in-Some.outcome
-    (c.refusal.ensures.value old.ballot (caught_up c.args.from c.args.stamp c.args.number)) c.in-Some.is (end_self old c.requires.order.kept)))
+    (fetched_unless old old c.args.stamp c.args.base c.args.number e false (catch_up c.args.from c.args.stamp c.args.number) c.refusal.result c.in-Some.outcome
+    (c.refusal.ensures.value old.ballot (catch_up c.args.from c.args.stamp c.args.number)) c.in-Some.is (end_self old c.requires.order.kept)))
 
 pub returns-in-None-clause-replies : goal.returns-in-None-clause-replies
 returns-in-None-clause-replies c =
@@ -36,10 +36,10 @@ returns-in-None-clause-replies c =
     let e = c.args.entry.now in
     promised_own old new c.args.from c.args.stamp c.args.base c.args.number e (said.Stored c.args.number) (tell.AckIn c.args.stamp c.args.from)
     (not-false (c.args.stamp.by == c.args.from) (sym c.ne.ensures ∙ c.if-ne.false))
-    (fetched_then old new c.args.stamp c.args.base c.args.number e false (caught_up c.args.from c.args.stamp c.args.number) c.refusal.result
+    (fetched_then old new c.args.stamp c.args.base c.args.number e false (catch_up c.args.from c.args.stamp c.args.number) c.refusal.result
     (said.Stored c.args.number) (tell.AckIn c.args.stamp c.args.from)
-    (c.refusal.ensures.value old.ballot (caught_up c.args.from c.args.stamp c.args.number)) c.in-None.is
-    (replies_caught (pushed (trimmed old c.args.base) e) new c.args.from c.args.stamp c.args.number
+    (c.refusal.ensures.value old.ballot (catch_up c.args.from c.args.stamp c.args.number)) c.in-None.is
+    (replies_caught (push_entry (trim_up_to old c.args.base) e) new c.args.from c.args.stamp c.args.number
     (c.store.ensures.changes old (end_self old c.requires.order.kept))))
 
 pub store-requires : goal.store-requires

@@ -2,7 +2,7 @@ use Rattle.std.proofs.Common.{sym, ap, ◌∙◌}
 use Rattle.am_base.specs.declared.outcome.Outcome.TheVariants as said
 use Rattle.am_handlers.specs.Parts.{node_of}
 use Rattle.am_handlers.proofs.Ends.{end_self}
-use Rattle.am_model.specs.Ballots.{promised}
+use Rattle.am_model.specs.Ballots.{with_promise}
 use Rattle.am_model.specs.Resets.{result_row}
 use Rattle.am_reset.specs.declared.replies.Telling.TheVariants as tell
 use Rattle.am_reset.proofs.VoteRows.{by_reply}
@@ -23,4 +23,4 @@ returns-clause-replies c =
     let mid = node_of c.raise_promise.new.parts in
     result_heard old mid (node_of c.hears_result.new.parts) c.args.from c.args.stamp c.args.base c.args.number c.args.members c.args.resilience
     c.hears_result.result.outcome c.hears_result.result.telling (sym c.is_passed.ensures ∙ c.if-is_passed.false)
-    (c.raise_promise.ensures ∙ ap (promised old) c.copy_of.ensures) c.hears_result.ensures.replies
+    (c.raise_promise.ensures ∙ ap (with_promise old) c.copy_of.ensures) c.hears_result.ensures.replies

@@ -7,7 +7,8 @@ use Rattle.am_handlers.specs.Parts.{node_of}
 use Rattle.am_ballots.specs.Kept.{ballot_of}
 use Rattle.am_model.specs.Node.{members}
 use Rattle.am_model.specs.Ballots.{own_vote}
-use Rattle.am_reset.proofs.Sets.{has_those, those_within}
+use Rattle.am_model.proofs.Sets.{has_those}
+use Rattle.am_reset.proofs.Sets.{those_within}
 use Rattle.am_reset.proofs.Looked.{looked, inside_is, waited, idle, own_is, counted}
 use Rattle.am_reset.proofs.Verdicts.{ended, kept_on, not_in_comes, waiting_comes, fetching_comes, too_few_comes, view_comes, best_own}
 use Rattle.am_reset.proofs.deciding.decide.Goals as goal

@@ -8,15 +8,15 @@ use Rattle.am_base.specs.Lists.{fits}
 use Rattle.am_base.specs.Names.{size, has}
 use Rattle.am_base.specs.Stamps.{stamp_lt}
 use Rattle.am_core.specs.Kept.{IsKept}
-use Rattle.am_fronts.specs.Reports.{restarted}
+use Rattle.am_fronts.specs.Reports.{reports_from}
 use Rattle.am_handlers.specs.Keeps.{NodeKeeps}
 use Rattle.am_handlers.specs.Parts.{node_of}
 use Rattle.am_ballots.specs.Kept.{ballot_of}
-use Rattle.am_model.specs.Node.{Node, Ballot, told, pushed}
-use Rattle.am_model.specs.Ballots.{finished}
+use Rattle.am_model.specs.Node.{Node, Ballot, image_of, push_entry}
+use Rattle.am_model.specs.Ballots.{with_end}
 use Rattle.am_model.specs.Ends.{IsEndOf}
 use Rattle.am_reset.proofs.Orders.{lt_self}
-use Rattle.am_reset.proofs.Sets.{has_size}
+use Rattle.am_model.proofs.Sets.{has_size}
 use Rattle.am_reset.proofs.Views.{fits_view}
 use Rattle.am_reset.proofs.Nodes.{keeps_pushed, taken_idle}
 use Rattle.am_reset.proofs.Verdicts.{decided_comes}
@@ -25,22 +25,22 @@ use Rattle.am_reset.specs.Deciding.{IsTakenOut, MayBeView}
 
 -- the View of a ballot that was taken out fits
 own_view_fits : (m : Node) (b : Ballot) (names : List ℕ) → IsTakenOut m b → MayBeView m names
-    → fits (told m) (View b.stamp names (max b.resilience (told m).resilience)) ≡ true
+    → fits (image_of m) (View b.stamp names (max b.resilience (image_of m).resilience)) ≡ true
 own_view_fits m b names is may =
     let by = (is.own).by is.is_open in
-    fits_view (told m) b.stamp names (max b.resilience (told m).resilience) ((is.own).ahead is.is_open) may.within (ap (has names) by
+    fits_view (image_of m) b.stamp names (max b.resilience (image_of m).resilience) ((is.own).ahead is.is_open) may.within (ap (has names) by
     ∙ may.itself) (omega arith)
 
 own_view_keeps : (m : Node) (b : Ballot) (names : List ℕ) (capacity : ℕ) → IsKept m.core.log capacity → IsTakenOut m b → MayBeView m names → NodeKeeps m
-    → NodeKeeps (pushed m (View b.stamp names (max b.resilience (told m).resilience)))
+    → NodeKeeps (push_entry m (View b.stamp names (max b.resilience (image_of m).resilience)))
 own_view_keeps m b names capacity kept is may keeps =
     let stamp = (is.own).stamp is.is_open in
-    keeps_pushed m (View b.stamp names (max b.resilience (told m).resilience)) capacity kept keeps (own_view_fits m b names is may)
+    keeps_pushed m (View b.stamp names (max b.resilience (image_of m).resilience)) capacity kept keeps (own_view_fits m b names is may)
     (ap (λ (p : Stamp). stamp_lt p b.stamp) (sym stamp) ∙ lt_self b.stamp)
     (taken_idle m b is) ((is.own).logged is.is_open) (λ other there. absurd (let x = sym is.out ∙ there in cc))
 
 pub push-requires-clause-fits : goal.push-requires-clause-fits
-push-requires-clause-fits c = ap (fits (told (node_of c.args.parts.now))) c.view_of.ensures.value
+push-requires-clause-fits c = ap (fits (image_of (node_of c.args.parts.now))) c.view_of.ensures.value
     ∙ own_view_fits (node_of c.args.parts.now) (ballot_of c.args.ballot) c.args.names c.requires.ballot c.requires.names
 
 pub push-requires-clause-room : goal.push-requires-clause-room
@@ -55,19 +55,19 @@ push-requires-clause-room c =
 pub push-requires-clause-keeps : goal.push-requires-clause-keeps
 push-requires-clause-keeps c =
     let old = node_of c.args.parts.now in
-    subst (λ (e : Entry). NodeKeeps (pushed old e)) (sym c.view_of.ensures.value)
+    subst (λ (e : Entry). NodeKeeps (push_entry old e)) (sym c.view_of.ensures.value)
     (own_view_keeps old (ballot_of c.args.ballot) c.args.names
-    (old.core.rules.window + 15) c.accepted-before.ensures.kept c.requires.ballot c.requires.names c.args.parts.now.keeps)
+    (old.core.rules.window + 15) c.accept_front-before.ensures.kept c.requires.ballot c.requires.names c.args.parts.now.keeps)
 
 pub returns-clause-comes : goal.returns-clause-comes
 returns-clause-comes c =
     let old = node_of c.args.parts.now in
     let mid = node_of c.push.new.parts in
     let b = ballot_of c.args.ballot in
-    let e = View b.stamp c.args.names (max b.resilience (told old).resilience) in
+    let e = View b.stamp c.args.names (max b.resilience (image_of old).resilience) in
     decided_comes old mid (node_of c.close.new.parts) b c.args.names c.close.result c.requires.room
-    (λ all end. subst (λ (x : Entry). IsEndOf (pushed all x) mid) c.view_of.ensures.value (c.push.ensures.changes all end))
-    (c.close.ensures.answer ∙ c.decided-answer.ensures.value)
-    (c.close.ensures.node ∙ ap (λ (x : Node). record x { ballot = Some (finished b c.decided-answer.result) }) c.restart.ensures
-    ∙ ap (λ k. record mid { reports = restarted k; ballot = Some (finished b c.decided-answer.result) }) c.base_of-base.ensures
-    ∙ ap (λ (o : Outcome). record mid { reports = restarted old.core.base; ballot = Some (finished b o) }) (sym c.close.ensures.answer))
+    (λ all end. subst (λ (x : Entry). IsEndOf (push_entry all x) mid) c.view_of.ensures.value (c.push.ensures.changes all end))
+    (c.close.ensures.answer ∙ c.decided_answer-answer.ensures.value)
+    (c.close.ensures.node ∙ ap (λ (x : Node). record x { ballot = Some (with_end b c.decided_answer-answer.result) }) c.restart.ensures
+    ∙ ap (λ k. record mid { reports = reports_from k; ballot = Some (with_end b c.decided_answer-answer.result) }) c.base_of-base.ensures
+    ∙ ap (λ (o : Outcome). record mid { reports = reports_from old.core.base; ballot = Some (with_end b o) }) (sym c.close.ensures.answer))

@@ -1,7 +1,7 @@
 use Rattle.std.proofs.Common.{◌+◌, ap, sym, subst, arith}
 use Rattle.am_base.specs.declared.entry.Entry.{Entry}
 use Rattle.am_base.specs.Founding.{Rules}
-use Rattle.am_model.specs.Node.{Node, pushed, trimmed}
+use Rattle.am_model.specs.Node.{Node, push_entry, trim_up_to}
 use Rattle.am_model.specs.Ends.{IsEndOf}
 use Rattle.am_handlers.specs.Keeps.{NodeKeeps, IsSteady}
 use Rattle.am_handlers.specs.Parts.{node_of}
@@ -20,20 +20,20 @@ push-requires-clause-room c =
 pub push-requires-clause-keeps : goal.push-requires-clause-keeps
 push-requires-clause-keeps c =
     let mid = node_of c.trim.new.parts in
-    subst (λ (e : Entry). NodeKeeps (pushed mid e)) (sym c.copied.ensures)
+    subst (λ (e : Entry). NodeKeeps (push_entry mid e)) (sym c.copy.ensures)
     (keeps_stored (node_of c.args.parts.now) mid c.args.base c.args.entry.now
-    (mid.core.rules.window + 15) c.accepted-before.ensures.kept c.requires c.trim.ensures.steady c.trim.new.parts.keeps)
+    (mid.core.rules.window + 15) c.accept_front-before.ensures.kept c.requires c.trim.ensures.steady c.trim.new.parts.keeps)
 
 pub returns-clause-changes : goal.returns-clause-changes
 returns-clause-changes c = λ all e.
     let new = node_of c.push.new.parts in
-    subst (λ (x : Entry). IsEndOf (pushed (trimmed all c.args.base) x) new) c.copied.ensures
-    (c.push.ensures.changes (trimmed all c.args.base) (c.trim.ensures.changes all e))
+    subst (λ (x : Entry). IsEndOf (push_entry (trim_up_to all c.args.base) x) new) c.copy.ensures
+    (c.push.ensures.changes (trim_up_to all c.args.base) (c.trim.ensures.changes all e))
 
 pub returns-clause-steady : goal.returns-clause-steady
 returns-clause-steady c =
     let old = node_of c.args.parts.now in
     let mid = node_of c.trim.new.parts in
     let e = c.args.entry.now in
-    subst (λ (x : Node). IsSteady (pushed old e) x) (sym c.push.ensures.value)
-    (subst (λ (x : Entry). IsSteady (pushed old e) (pushed mid x)) (sym c.copied.ensures) (steady_pushed old mid e c.trim.ensures.steady))
+    subst (λ (x : Node). IsSteady (push_entry old e) x) (sym c.push.ensures.value)
+    (subst (λ (x : Entry). IsSteady (push_entry old e) (push_entry mid x)) (sym c.copy.ensures) (steady_pushed old mid e c.trim.ensures.steady))

@@ -14,23 +14,23 @@ pub returns-then-not-may_fetch : goal.returns-then-not-may_fetch
 returns-then-not-may_fetch c =
     let old = node_of c.args.parts.now in
     let row = fetch_row old c.args.from c.args.stamp c.args.stored in
-    c.finish.ensures old row (sym c.accepted_of-before.ensures.value)
+    c.finish.ensures old row (sym c.accept_front-before.ensures.value)
     (by_reply row c.quiet.result said.Elsewhere tell.Nothing old c.quiet.ensures
     (fetch_elsewhere old old c.args.from c.args.stamp c.args.stored (sym c.may_fetch.ensures
-    ∙ c.if-not-may_fetch.true) (end_self old c.accepted_of-before.ensures.order.kept)))
+    ∙ c.if-not-may_fetch.true) (end_self old c.accept_front-before.ensures.order.kept)))
 
 pub returns-then-is_out_of_reach : goal.returns-then-is_out_of_reach
 returns-then-is_out_of_reach c =
     let old = node_of c.args.parts.now in
     let row = fetch_row old c.args.from c.args.stamp c.args.stored in
-    c.finish-then-is_out_of_reach.ensures old row (sym c.accepted_of-before.ensures.value)
+    c.finish-then-is_out_of_reach.ensures old row (sym c.accept_front-before.ensures.value)
     (by_reply row c.quiet-then-is_out_of_reach.result said.Behind tell.Nothing old c.quiet-then-is_out_of_reach.ensures
     (fetch_behind old old c.args.from c.args.stamp c.args.stored (sym c.may_fetch.ensures ∙ c.if-not-may_fetch.false) (sym c.is_out_of_reach.ensures
-    ∙ c.if-is_out_of_reach.true) (end_self old c.accepted_of-before.ensures.order.kept)))
+    ∙ c.if-is_out_of_reach.true) (end_self old c.accept_front-before.ensures.order.kept)))
 
 pub returns : goal.returns
 returns c =
     let old = node_of c.args.parts.now in
     subst (λ (p : Plan). ComesTo (finish old p) c.serve.result c.serve.new.out (node_of c.serve.new.parts))
     (sym (fetch_serves old c.args.from c.args.stamp c.args.stored (sym c.may_fetch.ensures ∙ c.if-not-may_fetch.false) (sym c.is_out_of_reach.ensures
-    ∙ c.if-is_out_of_reach.false))) (c.serve.ensures old (sym c.accepted_of-before.ensures.value))
+    ∙ c.if-is_out_of_reach.false))) (c.serve.ensures old (sym c.accept_front-before.ensures.value))

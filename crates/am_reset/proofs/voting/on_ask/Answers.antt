@@ -13,5 +13,5 @@ returns c =
     let old = node_of c.args.parts.now in
     let row = ask_row old c.args.round in
     let r = by_plan row (emit.quiet old c.ask.result) c.ask.result tell.Nothing old c.ask.ensures
-    (replies_quiet old old c.ask.result (end_self old c.accepted_of-before.ensures.order.kept)) in
-    c.finish.ensures old row (sym c.accepted_of-before.ensures.value) (by_reply row c.quiet-reply.result c.ask.result tell.Nothing old c.quiet-reply.ensures r)
+    (replies_quiet old old c.ask.result (end_self old c.accept_front-before.ensures.order.kept)) in
+    c.finish.ensures old row (sym c.accept_front-before.ensures.value) (by_reply row c.quiet-reply.result c.ask.result tell.Nothing old c.quiet-reply.ensures r)

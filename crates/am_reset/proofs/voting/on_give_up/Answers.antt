@@ -5,4 +5,4 @@ use Rattle.am_reset.proofs.voting.on_give_up.Goals as goal
 
 pub returns : goal.returns
 returns c = c.finish.ensures (node_of c.args.parts.now) (give_up_row (node_of c.args.parts.now) c.args.name)
-    (sym c.accepted_of-before.ensures.value) c.give_up_row-reply.ensures.replies
+    (sym c.accept_front-before.ensures.value) c.give_up_row-reply.ensures.replies

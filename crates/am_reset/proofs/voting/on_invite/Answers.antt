@@ -5,4 +5,4 @@ use Rattle.am_reset.proofs.voting.on_invite.Goals as goal
 
 pub returns : goal.returns
 returns c = c.finish.ensures (node_of c.args.parts.now) (invite_row (node_of c.args.parts.now) c.args.from c.args.stamp)
-    (sym c.accepted_of-before.ensures.value) c.invite-reply.ensures.replies
+    (sym c.accept_front-before.ensures.value) c.invite-reply.ensures.replies

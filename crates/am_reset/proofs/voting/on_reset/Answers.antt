@@ -5,4 +5,4 @@ use Rattle.am_reset.proofs.voting.on_reset.Goals as goal
 
 pub returns : goal.returns
 returns c = c.finish.ensures (node_of c.args.parts.now) (reset_row (node_of c.args.parts.now) c.args.least c.args.resilience)
-    (sym c.accepted_of-before.ensures.value) c.reset-reply.ensures.replies
+    (sym c.accept_front-before.ensures.value) c.reset-reply.ensures.replies

@@ -3,7 +3,7 @@ use Rattle.am_base.specs.declared.name.Stamp.{Stamp}
 use Rattle.am_base.specs.Stamps.{stamp_eq}
 use Rattle.am_core.specs.Cores.{CoreState}
 use Rattle.am_model.specs.Node.{Ballot}
-use Rattle.am_model.specs.Ballots.{overtaken}
+use Rattle.am_model.specs.Ballots.{overtake}
 use Rattle.am_handlers.specs.Keeps.{NodeKeeps}
 use Rattle.am_handlers.specs.Parts.{node_of}
 use Rattle.am_reset.proofs.Promises.{promised_same, keeps_promised}
@@ -24,5 +24,5 @@ invariant_of-parts c =
     let keeps = keeps_promised old c.args.stamp c.args.parts.now.keeps small.0 little c.requires.higher apart in
     record {
       keeps = subst (λ (b : Option Ballot). NodeKeeps (record old { core = c.raise.new.core; ballot = b })) (sym c.overtake.ensures)
-          (subst (λ (x : CoreState). NodeKeeps (record old { core = x; ballot = overtaken c.args.stamp old.ballot })) (sym c.raise.ensures) keeps);
+          (subst (λ (x : CoreState). NodeKeeps (record old { core = x; ballot = overtake c.args.stamp old.ballot })) (sym c.raise.ensures) keeps);
     }

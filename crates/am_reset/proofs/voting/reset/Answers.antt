@@ -6,7 +6,7 @@ use Rattle.am_handlers.proofs.Ends.{end_self}
 use Rattle.am_model.specs.Node.{members, is_member}
 use Rattle.am_model.specs.Calls.{reset_row}
 use Rattle.am_reset.specs.declared.replies.Telling.TheVariants as tell
-use Rattle.am_reset.proofs.Views.{and_left}
+use Rattle.am_model.proofs.Greatest.{and_both}
 use Rattle.am_handlers.proofs.Keeping.{member_log}
 use Rattle.am_reset.proofs.VoteRows.{reset_outside, reset_leaving, reset_begins, by_reply}
 use Rattle.am_reset.proofs.voting.reset.Goals as goal
@@ -33,4 +33,4 @@ returns-clause-replies c =
 pub begin-requires-clause-logged : goal.begin-requires-clause-logged
 begin-requires-clause-logged c =
     let old = node_of c.args.parts.now in
-    member_log old.status (and_left (is_member old.status) (has (members old) old.core.who) (sym c.is_member.ensures ∙ c.if-not-is_member.false))
+    member_log old.status (and_both (is_member old.status) (has (members old) old.core.who) (sym c.is_member.ensures ∙ c.if-not-is_member.false)).0

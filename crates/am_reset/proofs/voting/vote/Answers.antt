@@ -3,7 +3,7 @@ use Rattle.am_base.specs.declared.outcome.Outcome.TheVariants as said
 use Rattle.am_ballots.specs.Kept.{ballot_of}
 use Rattle.am_handlers.specs.Parts.{node_of}
 use Rattle.am_model.specs.Node.{Node}
-use Rattle.am_model.specs.Resets.{voted_for, vote_row}
+use Rattle.am_model.specs.Resets.{take_vote, vote_row}
 use Rattle.am_reset.specs.declared.replies.Telling.TheVariants as tell
 use Rattle.am_reset.specs.Replies.{Replies}
 use Rattle.am_reset.proofs.Replying.{replies_quiet}
@@ -34,10 +34,10 @@ returns-in-None-clause-replies c =
 pub returns-in-Some-clause-replies : goal.returns-in-Some-clause-replies
 returns-in-Some-clause-replies c =
     let old = node_of c.args.parts.now in
-    let new = node_of c.voted_for.new.parts in
+    let new = node_of c.take_vote.new.parts in
     let b = ballot_of c.in-Some.ballot in
     let above = above_is old c.args.stamp c.promise_of.ensures.value c.copy_of.ensures c.is_below.ensures c.if-is_below.false in
     let taken = one_taken old (node_of c.take_ballot.new.parts) c.take_ballot.ensures.ballot c.take_ballot.ensures.rest c.in-Some.is in
-    vote_by old new c.args.from c.args.stamp c.args.vote.now c.voted_for.result.outcome c.voted_for.result.telling (Some b) above taken.0
-    (subst (λ (x : Node). Replies (voted_for x c.args.from c.args.stamp c.args.vote.now (Some b)) c.voted_for.result.outcome c.voted_for.result.telling new)
-    taken.1 c.voted_for.ensures.replies)
+    vote_by old new c.args.from c.args.stamp c.args.vote.now c.take_vote.result.outcome c.take_vote.result.telling (Some b) above taken.0
+    (subst (λ (x : Node). Replies (take_vote x c.args.from c.args.stamp c.args.vote.now (Some b)) c.take_vote.result.outcome c.take_vote.result.telling new)
+    taken.1 c.take_vote.ensures.replies)

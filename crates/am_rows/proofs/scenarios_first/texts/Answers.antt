@@ -18,8 +18,8 @@ use Rattle.am_model.specs.Receiving.{spread_row, bcast_row, order_row, accept_ro
 use Rattle.am_model.specs.Joining.{join_ask_row, welcome_row, leave_ask_row, gone_row}
 use Rattle.am_model.specs.Resets.{invite_row, vote_row, fetch_row, piece_row, result_row, hand_over_row}
 use Rattle.am_model.specs.Hearing.{hear_row}
-use Rattle.am_model.specs.Step.{row, step, hear, refused}
-use Rattle.am_model.specs.World.{unchanged, stepped, happens, happen}
+use Rattle.am_model.specs.Step.{row, step, hear, hear_refusal}
+use Rattle.am_model.specs.World.{with_record, with_step, happens, happen}
 use Rattle.am_model.specs.Lawful.{is_complete, is_lawful, greatest_complete, watch, watch_all}
 use Rattle.am_model.specs.Settle.{running, hearings_from, waves, rounds, settle_events}
 use Rattle.am_model.specs.Text.{name_text, stamp_text, names_text, body_text, resilience_text, entry_text, outcome_word, outcome_parts, outcome_text, act_word}
@@ -33,98 +33,98 @@ pub returns-clause-first_1 : goal.returns-clause-first_1
 unfolding by_place after fits fold greatest best_from those accept pass_over unions least_of own_report tell go_on let_go lead refresh settle
     refresh_at_end put_all finish best_of decide begin keep_vote give_up everywhere_else send_row done_row take_row join_row state_row leave_row
     reset_row ask_row give_up_row tick_row request_row ack_row nack_row spread_row bcast_row order_row accept_row hold_row join_ask_row welcome_row
-    leave_ask_row gone_row invite_row vote_row fetch_row piece_row result_row hand_over_row hear_row row step hear refused unchanged stepped happens
-    happen is_complete is_lawful greatest_complete watch watch_all running hearings_from waves rounds settle_events name_text stamp_text names_text
-    body_text resilience_text entry_text outcome_word outcome_parts outcome_text act_word act_parts event_text kind_word addressees_text letter_text
-    record_line records_text group_line group_text log_line empty_log_line log_text logs_text mark_line play_text digits set_of
+    leave_ask_row gone_row invite_row vote_row fetch_row piece_row result_row hand_over_row hear_row row step hear hear_refusal with_record with_step
+    happens happen is_complete is_lawful greatest_complete watch watch_all running hearings_from waves rounds settle_events name_text stamp_text
+    names_text body_text resilience_text entry_text outcome_word outcome_parts outcome_text act_word act_parts event_text kind_word addressees_text
+    letter_text record_line records_text group_line group_text log_line empty_log_line log_text logs_text mark_line play_text digits set_of
 returns-clause-first_1 c = refl
 
 pub returns-clause-first_10 : goal.returns-clause-first_10
 unfolding by_place after fits fold greatest best_from those accept pass_over unions least_of own_report tell go_on let_go lead refresh settle
     refresh_at_end put_all finish best_of decide begin keep_vote give_up everywhere_else send_row done_row take_row join_row state_row leave_row
     reset_row ask_row give_up_row tick_row request_row ack_row nack_row spread_row bcast_row order_row accept_row hold_row join_ask_row welcome_row
-    leave_ask_row gone_row invite_row vote_row fetch_row piece_row result_row hand_over_row hear_row row step hear refused unchanged stepped happens
-    happen is_complete is_lawful greatest_complete watch watch_all running hearings_from waves rounds settle_events name_text stamp_text names_text
-    body_text resilience_text entry_text outcome_word outcome_parts outcome_text act_word act_parts event_text kind_word addressees_text letter_text
-    record_line records_text group_line group_text log_line empty_log_line log_text logs_text mark_line play_text digits set_of
+    leave_ask_row gone_row invite_row vote_row fetch_row piece_row result_row hand_over_row hear_row row step hear hear_refusal with_record with_step
+    happens happen is_complete is_lawful greatest_complete watch watch_all running hearings_from waves rounds settle_events name_text stamp_text
+    names_text body_text resilience_text entry_text outcome_word outcome_parts outcome_text act_word act_parts event_text kind_word addressees_text
+    letter_text record_line records_text group_line group_text log_line empty_log_line log_text logs_text mark_line play_text digits set_of
 returns-clause-first_10 c = refl
 
 pub returns-clause-first_2 : goal.returns-clause-first_2
 unfolding by_place after fits fold greatest best_from those accept pass_over unions least_of own_report tell go_on let_go lead refresh settle
     refresh_at_end put_all finish best_of decide begin keep_vote give_up everywhere_else send_row done_row take_row join_row state_row leave_row
     reset_row ask_row give_up_row tick_row request_row ack_row nack_row spread_row bcast_row order_row accept_row hold_row join_ask_row welcome_row
-    leave_ask_row gone_row invite_row vote_row fetch_row piece_row result_row hand_over_row hear_row row step hear refused unchanged stepped happens
-    happen is_complete is_lawful greatest_complete watch watch_all running hearings_from waves rounds settle_events name_text stamp_text names_text
-    body_text resilience_text entry_text outcome_word outcome_parts outcome_text act_word act_parts event_text kind_word addressees_text letter_text
-    record_line records_text group_line group_text log_line empty_log_line log_text logs_text mark_line play_text digits set_of
+    leave_ask_row gone_row invite_row vote_row fetch_row piece_row result_row hand_over_row hear_row row step hear hear_refusal with_record with_step
+    happens happen is_complete is_lawful greatest_complete watch watch_all running hearings_from waves rounds settle_events name_text stamp_text
+    names_text body_text resilience_text entry_text outcome_word outcome_parts outcome_text act_word act_parts event_text kind_word addressees_text
+    letter_text record_line records_text group_line group_text log_line empty_log_line log_text logs_text mark_line play_text digits set_of
 returns-clause-first_2 c = refl
 
 pub returns-clause-first_3 : goal.returns-clause-first_3
 unfolding by_place after fits fold greatest best_from those accept pass_over unions least_of own_report tell go_on let_go lead refresh settle
     refresh_at_end put_all finish best_of decide begin keep_vote give_up everywhere_else send_row done_row take_row join_row state_row leave_row
     reset_row ask_row give_up_row tick_row request_row ack_row nack_row spread_row bcast_row order_row accept_row hold_row join_ask_row welcome_row
-    leave_ask_row gone_row invite_row vote_row fetch_row piece_row result_row hand_over_row hear_row row step hear refused unchanged stepped happens
-    happen is_complete is_lawful greatest_complete watch watch_all running hearings_from waves rounds settle_events name_text stamp_text names_text
-    body_text resilience_text entry_text outcome_word outcome_parts outcome_text act_word act_parts event_text kind_word addressees_text letter_text
-    record_line records_text group_line group_text log_line empty_log_line log_text logs_text mark_line play_text digits set_of
+    leave_ask_row gone_row invite_row vote_row fetch_row piece_row result_row hand_over_row hear_row row step hear hear_refusal with_record with_step
+    happens happen is_complete is_lawful greatest_complete watch watch_all running hearings_from waves rounds settle_events name_text stamp_text
+    names_text body_text resilience_text entry_text outcome_word outcome_parts outcome_text act_word act_parts event_text kind_word addressees_text
+    letter_text record_line records_text group_line group_text log_line empty_log_line log_text logs_text mark_line play_text digits set_of
 returns-clause-first_3 c = refl
 
 pub returns-clause-first_4 : goal.returns-clause-first_4
 unfolding by_place after fits fold greatest best_from those accept pass_over unions least_of own_report tell go_on let_go lead refresh settle
     refresh_at_end put_all finish best_of decide begin keep_vote give_up everywhere_else send_row done_row take_row join_row state_row leave_row
     reset_row ask_row give_up_row tick_row request_row ack_row nack_row spread_row bcast_row order_row accept_row hold_row join_ask_row welcome_row
-    leave_ask_row gone_row invite_row vote_row fetch_row piece_row result_row hand_over_row hear_row row step hear refused unchanged stepped happens
-    happen is_complete is_lawful greatest_complete watch watch_all running hearings_from waves rounds settle_events name_text stamp_text names_text
-    body_text resilience_text entry_text outcome_word outcome_parts outcome_text act_word act_parts event_text kind_word addressees_text letter_text
-    record_line records_text group_line group_text log_line empty_log_line log_text logs_text mark_line play_text digits set_of
+    leave_ask_row gone_row invite_row vote_row fetch_row piece_row result_row hand_over_row hear_row row step hear hear_refusal with_record with_step
+    happens happen is_complete is_lawful greatest_complete watch watch_all running hearings_from waves rounds settle_events name_text stamp_text
+    names_text body_text resilience_text entry_text outcome_word outcome_parts outcome_text act_word act_parts event_text kind_word addressees_text
+    letter_text record_line records_text group_line group_text log_line empty_log_line log_text logs_text mark_line play_text digits set_of
 returns-clause-first_4 c = refl
 
 pub returns-clause-first_5 : goal.returns-clause-first_5
 unfolding by_place after fits fold greatest best_from those accept pass_over unions least_of own_report tell go_on let_go lead refresh settle
     refresh_at_end put_all finish best_of decide begin keep_vote give_up everywhere_else send_row done_row take_row join_row state_row leave_row
     reset_row ask_row give_up_row tick_row request_row ack_row nack_row spread_row bcast_row order_row accept_row hold_row join_ask_row welcome_row
-    leave_ask_row gone_row invite_row vote_row fetch_row piece_row result_row hand_over_row hear_row row step hear refused unchanged stepped happens
-    happen is_complete is_lawful greatest_complete watch watch_all running hearings_from waves rounds settle_events name_text stamp_text names_text
-    body_text resilience_text entry_text outcome_word outcome_parts outcome_text act_word act_parts event_text kind_word addressees_text letter_text
-    record_line records_text group_line group_text log_line empty_log_line log_text logs_text mark_line play_text digits set_of
+    leave_ask_row gone_row invite_row vote_row fetch_row piece_row result_row hand_over_row hear_row row step hear hear_refusal with_record with_step
+    happens happen is_complete is_lawful greatest_complete watch watch_all running hearings_from waves rounds settle_events name_text stamp_text
+    names_text body_text resilience_text entry_text outcome_word outcome_parts outcome_text act_word act_parts event_text kind_word addressees_text
+    letter_text record_line records_text group_line group_text log_line empty_log_line log_text logs_text mark_line play_text digits set_of
 returns-clause-first_5 c = refl
 
 pub returns-clause-first_6 : goal.returns-clause-first_6
 unfolding by_place after fits fold greatest best_from those accept pass_over unions least_of own_report tell go_on let_go lead refresh settle
     refresh_at_end put_all finish best_of decide begin keep_vote give_up everywhere_else send_row done_row take_row join_row state_row leave_row
     reset_row ask_row give_up_row tick_row request_row ack_row nack_row spread_row bcast_row order_row accept_row hold_row join_ask_row welcome_row
-    leave_ask_row gone_row invite_row vote_row fetch_row piece_row result_row hand_over_row hear_row row step hear refused unchanged stepped happens
-    happen is_complete is_lawful greatest_complete watch watch_all running hearings_from waves rounds settle_events name_text stamp_text names_text
-    body_text resilience_text entry_text outcome_word outcome_parts outcome_text act_word act_parts event_text kind_word addressees_text letter_text
-    record_line records_text group_line group_text log_line empty_log_line log_text logs_text mark_line play_text digits set_of
+    leave_ask_row gone_row invite_row vote_row fetch_row piece_row result_row hand_over_row hear_row row step hear hear_refusal with_record with_step
+    happens happen is_complete is_lawful greatest_complete watch watch_all running hearings_from waves rounds settle_events name_text stamp_text
+    names_text body_text resilience_text entry_text outcome_word outcome_parts outcome_text act_word act_parts event_text kind_word addressees_text
+    letter_text record_line records_text group_line group_text log_line empty_log_line log_text logs_text mark_line play_text digits set_of
 returns-clause-first_6 c = refl
 
 pub returns-clause-first_7 : goal.returns-clause-first_7
 unfolding by_place after fits fold greatest best_from those accept pass_over unions least_of own_report tell go_on let_go lead refresh settle
     refresh_at_end put_all finish best_of decide begin keep_vote give_up everywhere_else send_row done_row take_row join_row state_row leave_row
     reset_row ask_row give_up_row tick_row request_row ack_row nack_row spread_row bcast_row order_row accept_row hold_row join_ask_row welcome_row
-    leave_ask_row gone_row invite_row vote_row fetch_row piece_row result_row hand_over_row hear_row row step hear refused unchanged stepped happens
-    happen is_complete is_lawful greatest_complete watch watch_all running hearings_from waves rounds settle_events name_text stamp_text names_text
-    body_text resilience_text entry_text outcome_word outcome_parts outcome_text act_word act_parts event_text kind_word addressees_text letter_text
-    record_line records_text group_line group_text log_line empty_log_line log_text logs_text mark_line play_text digits set_of
+    leave_ask_row gone_row invite_row vote_row fetch_row piece_row result_row hand_over_row hear_row row step hear hear_refusal with_record with_step
+    happens happen is_complete is_lawful greatest_complete watch watch_all running hearings_from waves rounds settle_events name_text stamp_text
+    names_text body_text resilience_text entry_text outcome_word outcome_parts outcome_text act_word act_parts event_text kind_word addressees_text
+    letter_text record_line records_text group_line group_text log_line empty_log_line log_text logs_text mark_line play_text digits set_of
 returns-clause-first_7 c = refl
 
 pub returns-clause-first_8 : goal.returns-clause-first_8
 unfolding by_place after fits fold greatest best_from those accept pass_over unions least_of own_report tell go_on let_go lead refresh settle
     refresh_at_end put_all finish best_of decide begin keep_vote give_up everywhere_else send_row done_row take_row join_row state_row leave_row
     reset_row ask_row give_up_row tick_row request_row ack_row nack_row spread_row bcast_row order_row accept_row hold_row join_ask_row welcome_row
-    leave_ask_row gone_row invite_row vote_row fetch_row piece_row result_row hand_over_row hear_row row step hear refused unchanged stepped happens
-    happen is_complete is_lawful greatest_complete watch watch_all running hearings_from waves rounds settle_events name_text stamp_text names_text
-    body_text resilience_text entry_text outcome_word outcome_parts outcome_text act_word act_parts event_text kind_word addressees_text letter_text
-    record_line records_text group_line group_text log_line empty_log_line log_text logs_text mark_line play_text digits set_of
+    leave_ask_row gone_row invite_row vote_row fetch_row piece_row result_row hand_over_row hear_row row step hear hear_refusal with_record with_step
+    happens happen is_complete is_lawful greatest_complete watch watch_all running hearings_from waves rounds settle_events name_text stamp_text
+    names_text body_text resilience_text entry_text outcome_word outcome_parts outcome_text act_word act_parts event_text kind_word addressees_text
+    letter_text record_line records_text group_line group_text log_line empty_log_line log_text logs_text mark_line play_text digits set_of
 returns-clause-first_8 c = refl
 
 pub returns-clause-first_9 : goal.returns-clause-first_9
 unfolding by_place after fits fold greatest best_from those accept pass_over unions least_of own_report tell go_on let_go lead refresh settle
     refresh_at_end put_all finish best_of decide begin keep_vote give_up everywhere_else send_row done_row take_row join_row state_row leave_row
     reset_row ask_row give_up_row tick_row request_row ack_row nack_row spread_row bcast_row order_row accept_row hold_row join_ask_row welcome_row
-    leave_ask_row gone_row invite_row vote_row fetch_row piece_row result_row hand_over_row hear_row row step hear refused unchanged stepped happens
-    happen is_complete is_lawful greatest_complete watch watch_all running hearings_from waves rounds settle_events name_text stamp_text names_text
-    body_text resilience_text entry_text outcome_word outcome_parts outcome_text act_word act_parts event_text kind_word addressees_text letter_text
-    record_line records_text group_line group_text log_line empty_log_line log_text logs_text mark_line play_text digits set_of
+    leave_ask_row gone_row invite_row vote_row fetch_row piece_row result_row hand_over_row hear_row row step hear hear_refusal with_record with_step
+    happens happen is_complete is_lawful greatest_complete watch watch_all running hearings_from waves rounds settle_events name_text stamp_text
+    names_text body_text resilience_text entry_text outcome_word outcome_parts outcome_text act_word act_parts event_text kind_word addressees_text
+    letter_text record_line records_text group_line group_text log_line empty_log_line log_text logs_text mark_line play_text digits set_of
 returns-clause-first_9 c = refl

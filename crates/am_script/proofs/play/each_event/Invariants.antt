@@ -1,9 +1,10 @@
 use Rattle.std.proofs.Common.{◌≡◌, ◌+◌, ◌++◌, drop, Ok}
 use Rattle.serde_json.specs.View.{items_view}
 use Rattle.am_script.specs.Refusals.{◌>>=◌}
-use Rattle.am_script.specs.Events.{each_event}
+use Rattle.am_script.specs.Values.{each_from}
+use Rattle.am_script.specs.Events.{event_from}
 use Rattle.am_script.proofs.play.each_event.Given as goal
 
 abbrev pub invariant-loop-before : goal.invariant-loop-before
-invariant-loop-before l = each_event l.fn.founding 1 (items_view l.list)
-    ≡ (each_event l.fn.founding (l.before + 1) (items_view (drop l.before l.list)) >>= λ later. Ok (l.events ++ later))
+invariant-loop-before l = each_from (event_from l.fn.founding) 1 (items_view l.list)
+    ≡ (each_from (event_from l.fn.founding) (l.before + 1) (items_view (drop l.before l.list)) >>= λ later. Ok (l.events ++ later))

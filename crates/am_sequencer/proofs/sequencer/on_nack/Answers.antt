@@ -1,6 +1,6 @@
 use Rattle.std.proofs.Common.{Some, None, sym, ◌∙◌}
 use Rattle.am_model.specs.Node.{Node}
-use Rattle.am_model.specs.Sequencing.{reported, nack_row, asked_again}
+use Rattle.am_model.specs.Sequencing.{take_report, nack_row, serve_again}
 use Rattle.am_handlers.specs.Parts.{node_of}
 use Rattle.am_handlers.proofs.Plans.{does_now, done_whole}
 use Rattle.std.proofs.Common.{arith}
@@ -11,11 +11,11 @@ use Rattle.am_sequencer.proofs.sequencer.on_nack.Goals as goal
 pub returns-in-Some : goal.returns-in-Some
 returns-in-Some c =
     let old = node_of c.args.parts.now in
-    does_now (λ m. nack_row m c.args.from c.args.report) old c.accepted-before.ensures.value
+    does_now (λ m. nack_row m c.args.from c.args.report) old c.accept_front-before.ensures.value
     (nack_by old c.args.from c.args.report (Some c.in-Some.answer) (sym c.in-Some.is ∙ c.report_refusal.ensures.value)) c.finish_quietly.ensures
 
-pub asked_again-requires-clause-high : goal.asked_again-requires-clause-high
-asked_again-requires-clause-high c =
+pub serve_again-requires-clause-high : goal.serve_again-requires-clause-high
+serve_again-requires-clause-high c =
     let top = c.take_report.ensures.steady.top in
     let stored = c.in_default.ensures.stored in
     omega arith
@@ -23,9 +23,9 @@ asked_again-requires-clause-high c =
 pub returns : goal.returns
 returns c =
     let old = node_of c.args.parts.now in
-    let rest : Node → _ = λ m. asked_again m c.args.from c.args.report.stored in
-    does_now (λ m. nack_row m c.args.from c.args.report) old c.accepted-before.ensures.value
+    let rest : Node → _ = λ m. serve_again m c.args.from c.args.report.stored in
+    does_now (λ m. nack_row m c.args.from c.args.report) old c.accept_front-before.ensures.value
     (nack_by old c.args.from c.args.report None (sym c.in_default.is ∙ c.report_refusal.ensures.value))
-    (done_whole c.accepted-before.result rest (reported old c.args.from c.args.report) (node_of c.take_report.new.self) _ _ _ c.take_report.ensures.end
+    (done_whole c.accept_front-before.result rest (take_report old c.args.from c.args.report) (node_of c.take_report.new.self) _ _ _ c.take_report.ensures.end
     c.take_report.ensures.order (λ all keeps. alike_asked_again all (node_of c.take_report.new.self) c.args.from c.args.report.stored keeps)
-    c.asked_again.ensures)
+    c.serve_again.ensures)

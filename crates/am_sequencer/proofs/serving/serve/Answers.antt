@@ -11,7 +11,7 @@ pub returns : goal.returns
 returns c =
     let old = node_of c.args.parts.now in
     let new = node_of c.settle.new.self in
-    let order = c.accepted-before.ensures.order in
+    let order = c.accept_front-before.ensures.order in
     let same : new.core ≡ old.core = c.settle.ensures.core in
     let later : IsInOrder new.core = subst (λ (x : CoreState). IsInOrder x) (sym same) order in
     let base = ap (λ (x : CoreState). x.base) same in

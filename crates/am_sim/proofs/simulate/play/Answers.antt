@@ -1,20 +1,15 @@
-use Rattle.std.proofs.Common.{sym, string_bytes}
-use Rattle.am_sim.proofs.Answered.{gave_whole}
+use Rattle.std.specs.Io.KnownBytes.{Appends}
+use Rattle.am_sim.specs.Simulation.{Played, WrotePart}
+use Rattle.am_sim.proofs.Answered.{gave_whole, written_of}
 use Rattle.am_sim.proofs.simulate.play.Goals as goal
 
 pub returns-in-Ok-write_all-clause-done : goal.returns-in-Ok-write_all-clause-done
-returns-in-Ok-write_all-clause-done g c = (
-  string_bytes c.in-Ok-answer.text,
-  (c.as_slice.result.now, rw (sym c.as_slice.ensures.value) at (c.in-Ok.ensures.ok), c.in-Ok-answer.ensures.played),
-  rw c.as_bytes.ensures.value at (c.in-Ok-write_all.ensures.ok),
-)
+returns-in-Ok-write_all-clause-done g c = written_of Played (Appends _ _) _ _ _ _ _ _ c.in-Ok.ensures.ok c.as_slice.ensures.value
+    c.in-Ok-answer.ensures.played c.as_bytes.ensures.value c.in-Ok-write_all.ensures.ok
 
 pub returns-clause-part : goal.returns-clause-part
-returns-clause-part g c = (
-  string_bytes c.in-Ok-answer.text,
-  (c.as_slice.result.now, rw (sym c.as_slice.ensures.value) at (c.in-Ok.ensures.ok), c.in-Ok-answer.ensures.played),
-  (c.in-Err.field-0.written, rw c.as_bytes.ensures.value at (c.in-Err.ensures.part)),
-)
+returns-clause-part g c = written_of Played (WrotePart _ _) _ _ _ _ _ _ c.in-Ok.ensures.ok c.as_slice.ensures.value
+    c.in-Ok-answer.ensures.played c.as_bytes.ensures.value (c.in-Err.field-0.written, c.in-Err.ensures.part)
 
 pub returns-in-Ok-write_all-clause-within : goal.returns-in-Ok-write_all-clause-within
 returns-in-Ok-write_all-clause-within g c = λ other. gave_whole _ _ _ _ c.in-Ok.ensures.ok c.in-Ok.ensures.within

@@ -5,41 +5,38 @@ use Rattle.am_words.specs.declared.form.Form.{Form}
 use Rattle.am_words.specs.declared.form.Form.TheVariants as form
 use Rattle.am_words.specs.Forms.{IsGen}
 use Rattle.am_script.specs.Scripts.{reading}
-use Rattle.am_sim.specs.Simulation.{asked, Reads, key_for, IsAnswer, IfBadScript, OnDone, OnWriteFault, WrotePart}
+use Rattle.am_sim.specs.Simulation.{form_of_words, Reads, key_for, IsAnswer, IfBadScript, OnDone, OnWriteFault, WrotePart}
+use Rattle.am_sim.proofs.simulate.simulate.Given.{Over}
 use Rattle.am_sim.proofs.simulate.simulate.Goals as goal
+
+is_asked : (g : Over) (c : goal.After-race_script g) → form_of_words c.args.words.now ≡ Some form.Race
+is_asked g c = c.is_race.ensures.0 c.if-is_race.true
 
 pub returns-then-is_race-clause-usage : goal.returns-then-is_race-clause-usage
 returns-then-is_race-clause-usage g c =
-    let same : asked c.args.words.now ≡ Some form.Race = c.is_race.ensures.0 c.if-is_race.true in
+    let same = is_asked g c in
     (λ e. absurd (c.race_script.ensures.not_usage e), λ e. cc)
 
 pub returns-then-is_race-clause-unread : goal.returns-then-is_race-clause-unread
-returns-then-is_race-clause-unread g c =
-    let same : asked c.args.words.now ≡ Some form.Race = c.is_race.ensures.0 c.if-is_race.true in
-    λ none. absurd (none (subst Reads (sym same) tt))
+returns-then-is_race-clause-unread g c = λ none. absurd (none (subst Reads (sym (is_asked g c)) tt))
 
 pub returns-then-is_race-clause-generates : goal.returns-then-is_race-clause-generates
-returns-then-is_race-clause-generates g c =
-    let same : asked c.args.words.now ≡ Some form.Race = c.is_race.ensures.0 c.if-is_race.true in
-    λ gen. absurd (subst IsGen same gen)
+returns-then-is_race-clause-generates g c = λ gen. absurd (subst IsGen (is_asked g c) gen)
 
 pub returns-then-is_race-clause-bad_script : goal.returns-then-is_race-clause-bad_script
 returns-then-is_race-clause-bad_script g c =
-    let same : asked c.args.words.now ≡ Some form.Race = c.is_race.ensures.0 c.if-is_race.true in
     subst (λ (a : Option Form). IfBadScript c.race_script.result (λ cause. (x : List ℕ)
     × ReadToEnd (g.S.Source.left c.args.source.now) (g.S.Source.left c.race_script.new.source) x
-    × (reading (key_for a) x ≡ Err cause))) (sym same) c.race_script.ensures.bad_script
+    × (reading (key_for a) x ≡ Err cause))) (sym (is_asked g c)) c.race_script.ensures.bad_script
 
 pub returns-then-is_race-clause-part : goal.returns-then-is_race-clause-part
 returns-then-is_race-clause-part g c =
-    let same : asked c.args.words.now ≡ Some form.Race = c.is_race.ensures.0 c.if-is_race.true in
     subst (λ (a : Option Form). OnWriteFault c.race_script.result ((x : List ℕ)
     × IsAnswer a (g.S.Source.left c.args.source.now) (g.S.Source.left c.race_script.new.source) x
-    × WrotePart (g.K.Sink.contents c.args.sink.now) (g.K.Sink.contents c.race_script.new.sink) x)) (sym same) c.race_script.ensures.part
+    × WrotePart (g.K.Sink.contents c.args.sink.now) (g.K.Sink.contents c.race_script.new.sink) x)) (sym (is_asked g c)) c.race_script.ensures.part
 
 pub returns-then-is_race-clause-done : goal.returns-then-is_race-clause-done
 returns-then-is_race-clause-done g c =
-    let same : asked c.args.words.now ≡ Some form.Race = c.is_race.ensures.0 c.if-is_race.true in
     subst (λ (a : Option Form). OnDone c.race_script.result ((x : List ℕ)
     × IsAnswer a (g.S.Source.left c.args.source.now) (g.S.Source.left c.race_script.new.source) x
-    × Appends (g.K.Sink.contents c.args.sink.now) (g.K.Sink.contents c.race_script.new.sink) x)) (sym same) c.race_script.ensures.done
+    × Appends (g.K.Sink.contents c.args.sink.now) (g.K.Sink.contents c.race_script.new.sink) x)) (sym (is_asked g c)) c.race_script.ensures.done

@@ -1,7 +1,7 @@
 use Rattle.std.proofs.Common.{◌≡◌, ◌++◌, take, drop, map}
-use Rattle.am_watch.specs.Watching.{placed_by}
+use Rattle.am_watch.specs.Watching.{place_view}
 use Rattle.am_watch.proofs.views.place_in_each.Given as goal
 
 abbrev pub invariant-loop-v : goal.invariant-loop-v
-invariant-loop-v l = take l.v-index l.pending ++ map (placed_by l.number l.stamp) (drop l.v-index l.pending)
-    ≡ map (placed_by l.number l.stamp) l.initial.pending
+invariant-loop-v l = take l.v-index l.pending ++ map (place_view l.number l.stamp) (drop l.v-index l.pending)
+    ≡ map (place_view l.number l.stamp) l.initial.pending

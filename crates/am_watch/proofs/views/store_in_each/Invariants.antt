@@ -1,6 +1,6 @@
 use Rattle.std.proofs.Common.{◌≡◌, ◌++◌, take, drop, map}
-use Rattle.am_watch.specs.Watching.{stored_by}
+use Rattle.am_watch.specs.Watching.{store_view}
 use Rattle.am_watch.proofs.views.store_in_each.Given as goal
 
 abbrev pub invariant-loop-v : goal.invariant-loop-v
-invariant-loop-v l = take l.v-index l.pending ++ map (stored_by l.name l.stamp) (drop l.v-index l.pending) ≡ map (stored_by l.name l.stamp) l.initial.pending
+invariant-loop-v l = take l.v-index l.pending ++ map (store_view l.name l.stamp) (drop l.v-index l.pending) ≡ map (store_view l.name l.stamp) l.initial.pending

@@ -15,8 +15,8 @@ returns-in_err-matches-clause-err c =
     let h = c.in_err-matches.ensures.passes (ap (λ a. takes a words) app_is ∙ (fits words c.requires).takes_them) in
     search rules
 
-pub returns-clause-seed : goal.returns-clause-seed
-returns-clause-seed c =
+pub returns : goal.returns
+returns c =
     let seed_rule : rule_of c.action-seed.result ≡ option_rule (codes "seed") = search rules in
     let count_rule : rule_of c.action-count.result ≡ option_rule (codes "count") = search rules in
     let app_is : app_of c.in_ok-command.command ≡ gen_app = c.in_ok-command.ensures.shape (search rules)
@@ -24,17 +24,10 @@ returns-clause-seed c =
     let words = map (λ w. w.now) c.args.words.now in
     let found = found_of c.in_ok-matches.matches in
     let rows = (c.in_ok-matches.ensures.matches (ap is_simple app_is ∙ simple)).0 in
-    c.get_str.ensures ∙ first_value-rows found (codes "seed") ∙ ap (first_of (codes "seed")) rows
-    ∙ ap (λ (a : App). first_of (codes "seed") (matches_of a words)) app_is ∙ (fits words c.requires).seed_of
-
-pub returns-clause-count : goal.returns-clause-count
-returns-clause-count c =
-    let seed_rule : rule_of c.action-seed.result ≡ option_rule (codes "seed") = search rules in
-    let count_rule : rule_of c.action-count.result ≡ option_rule (codes "count") = search rules in
-    let app_is : app_of c.in_ok-command.command ≡ gen_app = c.in_ok-command.ensures.shape (search rules)
-    ∙ ap₂ with_rule (c.in_ok-arg.ensures.shape (search rules) ∙ ap₂ with_rule c.new-3.ensures.app seed_rule) count_rule in
-    let words = map (λ w. w.now) c.args.words.now in
-    let found = found_of c.in_ok-matches.matches in
-    let rows = (c.in_ok-matches.ensures.matches (ap is_simple app_is ∙ simple)).0 in
-    c.get_str-2.ensures ∙ first_value-rows found (codes "count") ∙ ap (first_of (codes "count")) rows
-    ∙ ap (λ (a : App). first_of (codes "count") (matches_of a words)) app_is ∙ (fits words c.requires).count_of
+    record {
+      seed = c.get_str.ensures ∙ first_value-rows found (codes "seed") ∙ ap (first_of (codes "seed")) rows
+          ∙ ap (λ (a : App). first_of (codes "seed") (matches_of a words)) app_is ∙ (fits words c.requires).seed_of;
+      count = c.get_str-2.ensures ∙ first_value-rows found (codes "count") ∙ ap (first_of (codes "count")) rows
+          ∙ ap (λ (a : App). first_of (codes "count") (matches_of a words)) app_is ∙ (fits words c.requires).count_of;
+      err = search rules;
+    }

@@ -9,7 +9,7 @@ loop-before-preserved c =
     let old = c.args.group.now.items in
     let had = vec_len c.args.group.now in
     let before = c.loop-before.before in
-    let low = c.accepted-before-end.ensures.order.kept in
+    let low = c.accept_front-before-end.ensures.order.kept in
     let base = c.requires.base in
     let e = c.in-Some.entry.now in
     let more = next_between core.log had before e (omega arith) (omega arith) (sym c.in-Some.ensures) in
@@ -17,8 +17,8 @@ loop-before-preserved c =
       most = omega arith;
       stored = omega arith;
       room = c.push_reserved.ensures.capacity ∙ c.loop-before.invariant.room;
-      items = c.push_reserved.ensures.items ∙ ap (λ xs. xs ++ c.copied.result ∷ []) c.loop-before.invariant.items
-          ∙ ap (λ x. (old ++ between core.log had before) ++ x ∷ []) c.copied.ensures ∙ append_assoc old (between core.log had before) (e ∷ [])
+      items = c.push_reserved.ensures.items ∙ ap (λ xs. xs ++ c.copy.result ∷ []) c.loop-before.invariant.items
+          ∙ ap (λ x. (old ++ between core.log had before) ++ x ∷ []) c.copy.ensures ∙ append_assoc old (between core.log had before) (e ∷ [])
           ∙ ap (λ xs. old ++ xs) (sym more);
     }
 

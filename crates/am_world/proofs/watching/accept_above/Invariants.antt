@@ -1,8 +1,8 @@
 use Rattle.std.proofs.Common.{◌≡◌, ◌+◌}
-use Rattle.am_watch.specs.Watching.{accepted}
+use Rattle.am_watch.specs.Watching.{accept}
 use Rattle.am_watch.specs.Watchers.{watching_of}
 use Rattle.am_world.proofs.Watches.{part}
 use Rattle.am_world.proofs.watching.accept_above.Given as goal
 
 abbrev pub invariant-loop-index : goal.invariant-loop-index
-invariant-loop-index l = watching_of l.watcher ≡ accepted (watching_of l.fn.watcher) (l.known + 1) (part l.group l.known l.index)
+invariant-loop-index l = watching_of l.watcher ≡ accept (watching_of l.fn.watcher) (l.known + 1) (part l.group l.known l.index)

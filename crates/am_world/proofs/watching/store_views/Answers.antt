@@ -2,7 +2,7 @@ use Rattle.std.proofs.Common.{[], ◌∷◌, ◌++◌, ◌||◌, true, false, if
 use Rattle.am_base.specs.Stamps.{stamp_eq}
 use Rattle.am_watch.specs.Watching.{decides, with_entries}
 use Rattle.am_watch.specs.Watchers.{watching_of}
-use Rattle.am_world.specs.Watched.{begins, fetched, one_of, last_view, stored_of}
+use Rattle.am_world.specs.Watched.{begins, entry_in, one_of, last_view, stored_of}
 use Rattle.am_world.proofs.Watches.{views_new, views_none}
 use Rattle.am_world.proofs.watching.store_views.Goals as goal
 use Rattle.am_world.proofs.watching.store_views.Goals.{then-begins-via-then-begins, then-begins-via-else-begins+then-is_same_stamp}
@@ -10,7 +10,7 @@ use Rattle.am_world.proofs.watching.store_views.Goals.{then-begins-via-then-begi
 pub returns : goal.returns
 returns c =
     let k = watching_of c.args.watcher.now in
-    let found = one_of (fetched c.args.what.now) in
+    let found = one_of (entry_in c.args.what.now) in
     let last = last_view c.args.view.now ∷ [] in
     c.store_new_views.ensures ∙ ap (λ b. with_entries k c.args.name ((if b then found else []) ++ last)) c.decides.ensures
     ∙ views_new k c.args.name (begins c.args.before.now c.args.after.now.status) (stamp_eq c.args.before.now.view c.args.after.now.view) _
@@ -21,7 +21,7 @@ returns-then-begins c =
     let k = watching_of c.args.watcher.now in
     let begun = begins c.args.before.now c.args.after.now.status in
     let same = stamp_eq c.args.before.now.view c.args.after.now.view in
-    let es = (if decides c.args.before.now c.args.name c.args.after.now then one_of (fetched c.args.what.now) else []) ++ last_view c.args.view.now ∷ [] in
+    let es = (if decides c.args.before.now c.args.name c.args.after.now then one_of (entry_in c.args.what.now) else []) ++ last_view c.args.view.now ∷ [] in
     elim c.then-begins.branch [
       | then-begins-via-then-begins w ↦ views_none k c.args.name (begun || same) es (ap (λ b. b || same) (sym c.begins.ensures ∙ w.if-begins.true))
       | then-begins-via-else-begins+then-is_same_stamp w ↦ views_none k c.args.name (begun || same) es

@@ -1,13 +1,13 @@
-use Rattle.std.proofs.Common.{ℕ, Bool, ◌∙◌, ap, arith}
+use Rattle.std.proofs.Common.{ℕ, Bool, not, ◌∙◌, ap}
 use Rattle.am_model.specs.Node.{those}
-use Rattle.am_model.specs.Ballots.{is_waited_for}
+use Rattle.am_model.specs.Ballots.{has_voted, left_in}
 use Rattle.am_ballots.specs.Kept.{ballot_of}
-use Rattle.am_ballots.proofs.Votes.{those_all}
+use Rattle.am_ballots.proofs.Votes.{those_twice}
 use Rattle.am_ballots.proofs.ballot.Ballot.waited_for.Goals as goal
 
 pub returns : goal.returns
 returns c =
-    let test : ℕ → Bool = is_waited_for c.args.coordinator (ballot_of c.args.self.now) in
-    c.of_lives.ensures
-    ∙ those_all test c.each_life-lives.result c.loop-place.waited c.loop-place.invariant.long (λ k h. c.loop-place.invariant.filled k (omega arith))
-    ∙ ap (those test) (c.each_life-lives.ensures.value)
+    let ballot = ballot_of c.args.self.now in
+    let silent : ℕ → Bool = (λ name. not (has_voted c.args.coordinator ballot name)) in
+    let left : ℕ → Bool = (λ name. not (ballot.given_up name)) in
+    c.left_in.ensures ∙ ap (left_in ballot) c.silent_in.ensures ∙ those_twice silent left c.args.needed

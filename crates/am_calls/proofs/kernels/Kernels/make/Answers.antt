@@ -23,7 +23,7 @@ invariant_of-caller g c = (
       c.do_call-answer.ensures.hand,
   make_has g.N.Racing.plan c.caller.inside.number c.caller.inside.calls _ c.args.caller.now c.next_call-tag.result c.caller.view_is c.next_call-tag.ensures
       c.caller.invariant.1
-      c.args.node c.args.act.now _ c.do_call-answer.result c.requires.planned c.do_call-answer.ensures.made,
+      c.args.node c.args.act.now _ c.do_call-answer.result c.requires.next.planned c.do_call-answer.ensures.made,
 )
 
 pub returns : goal.returns

@@ -2,27 +2,27 @@ use Rattle.am_calls.proofs.Looking.{may_ask, no_turn_asked, ask_hand, ask_done, 
 use Rattle.am_calls.proofs.node_box.NodeBox.ask.Goals as goal
 
 pub act-requires-clause-may : goal.act-requires-clause-may
-act-requires-clause-may g c κs within = may_ask c.args.self.now.seen c.args.self.now.name c.args.act c.requires.runs c.requires.asks
+act-requires-clause-may g c κs within = may_ask c.args.self.now.seen c.args.self.now.name c.args.act c.requires.met.runs c.requires.asks
 
 pub act-requires-clause-turn : goal.act-requires-clause-turn
 act-requires-clause-turn g c κs within = no_turn_asked g.N.Racing.plan c.args.self.now.seen _ c.args.by c.requires.no_turn
 
 pub returns-in-Ok-clause-hand : goal.returns-in-Ok-clause-hand
 returns-in-Ok-clause-hand g c =
-    ask_hand _ _ c.args.self.now c.act.new.self _ _ _ c.args.act c.args.by c.requires.hand c.act.ensures.share c.in-Ok.came c.requires.no_turn
+    ask_hand _ _ c.args.self.now c.act.new.self _ _ _ c.args.act c.args.by c.requires.met.hand c.act.ensures.share c.in-Ok.came c.requires.no_turn
     c.in-Ok.ensures.ok
 
 pub returns-in-Ok-clause-ok : goal.returns-in-Ok-clause-ok
 returns-in-Ok-clause-ok g c =
-    ask_done _ _ c.args.self.now c.act.new.self _ _ _ c.args.act c.args.by c.requires.hand c.act.ensures.share c.in-Ok.came c.requires.met c.in-Ok.ensures.ok
+    ask_done _ _ c.args.self.now c.act.new.self _ _ _ c.args.act c.args.by c.requires.met.hand c.act.ensures.share c.in-Ok.came c.requires.met.same c.in-Ok.ensures.ok
     c.in-Ok.ensures.told
 
 pub returns-in-Err-clause-hand : goal.returns-in-Err-clause-hand
-returns-in-Err-clause-hand g c = ask_refused _ _ c.args.self.now c.act.new.self _ _ _ c.args.act c.args.by c.requires.hand c.act.ensures.share
+returns-in-Err-clause-hand g c = ask_refused _ _ c.args.self.now c.act.new.self _ _ _ c.args.act c.args.by c.requires.met.hand c.act.ensures.share
     c.in-Err.ensures.caller
 
 pub returns-in-Err-clause-err : goal.returns-in-Err-clause-err
 returns-in-Err-clause-err g c = (
-  ask_goes _ _ c.args.self.now c.act.new.self _ _ _ c.args.act c.args.by c.requires.hand c.act.ensures.share c.in-Err.ensures.caller,
+  ask_goes _ _ c.args.self.now c.act.new.self _ _ _ c.args.act c.args.by c.requires.met.hand c.act.ensures.share c.in-Err.ensures.caller,
   refused_as c.args.self.now.name c.act.new.self.seen c.act.new.share.seen c.in-Err.refusal _ c.act.ensures.both c.in-Err.ensures.spent c.answer_of.ensures,
 )

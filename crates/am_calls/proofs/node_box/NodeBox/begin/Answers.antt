@@ -23,15 +23,15 @@ asked_as plan name name' a a' by by' old new (Ok came) n e b ok =
 
 pub returns-clause-ok : goal.returns-clause-ok
 returns-clause-ok g c =
-    began_all g.N.Racing.plan c.args.self.now.name c.args.tag c.args.act.now c.args.hand.now.share.seen c.meet_caller.new.hand.share.seen
+    began_all g.N.Racing.plan c.args.self.now.name c.args.visit.now.tag c.args.act.now c.args.hand.now.share.seen c.meet_caller.new.hand.share.seen
     c.ask.new.hand.share.seen c.ask.result c.meet_caller.ensures.goes
-    (asked_as g.N.Racing.plan c.args.self.now.name c.meet_caller.new.self.name c.args.act.now c.in-Ok.own (by_of c.args.tag Call) c.with.result _ _ c.ask.result
+    (asked_as g.N.Racing.plan c.args.self.now.name c.meet_caller.new.self.name c.args.act.now c.in-Ok.own (by_of c.args.visit.now.tag Call) c.with.result _ _ c.ask.result
     c.meet_caller.ensures.name c.in-Ok.ensures c.with.ensures c.ask.ensures.ok)
 
 pub returns-clause-err : goal.returns-clause-err
 returns-clause-err g c =
-    subst (λ (n : ℕ). IfErr c.ask.result (WasRefused n c.args.tag.caller c.args.hand.now.share.seen c.ask.new.hand.share.seen)) c.meet_caller.ensures.name
-    (all_refused_since c.meet_caller.new.self.name c.args.tag.caller c.args.hand.now.share.seen c.meet_caller.new.hand.share.seen c.ask.new.hand.share.seen
+    subst (λ (n : ℕ). IfErr c.ask.result (WasRefused n c.args.visit.now.tag.caller c.args.hand.now.share.seen c.ask.new.hand.share.seen)) c.meet_caller.ensures.name
+    (all_refused_since c.meet_caller.new.self.name c.args.visit.now.tag.caller c.args.hand.now.share.seen c.meet_caller.new.hand.share.seen c.ask.new.hand.share.seen
     c.ask.result c.meet_caller.ensures.goes
     (subst (λ (n : ℕ). IfErr c.ask.result (WasRefused c.meet_caller.new.self.name n c.meet_caller.new.hand.share.seen c.ask.new.hand.share.seen))
     (ap (λ (b : By). b.caller) c.with.ensures) c.ask.ensures.err))

@@ -8,8 +8,8 @@ pub invariant_of-self : goal.invariant_of-self
 invariant_of-self g c = sees_more _ _ _ _ _ _ _ _ _ _ _ c.self.view_is c.self.invariant c.requires.open_ c.next_for-ahead.ensures.sees
     c.next_for-ahead.ensures.lawful
 
-pub chosen-requires-clause-sent : goal.chosen-requires-clause-sent
-chosen-requires-clause-sent g c κs within =
+pub turn_of_choice-requires-clause-sent : goal.turn_of_choice-requires-clause-sent
+turn_of_choice-requires-clause-sent g c κs within =
     let after = sees_more _ _ _ _ _ _ _ _ _ _ _ c.self.view_is c.self.invariant c.requires.open_ c.next_for-ahead.ensures.sees c.next_for-ahead.ensures.lawful
     in
     choice_sent _ _ _ _ c.args.chooser.now _ _ after.place after.lawful c.next_for-ahead.ensures.value
@@ -17,7 +17,7 @@ chosen-requires-clause-sent g c κs within =
 
 pub returns-clause-looks : goal.returns-clause-looks
 returns-clause-looks g c =
-    looks_through _ _ _ _ _ _ c.self.view_is (goes_place _ _ _ _ _ _ _ _ _ _ c.self.invariant c.next_for-ahead.ensures.sees) c.chosen.ensures.looks
+    looks_through _ _ _ _ _ _ c.self.view_is (goes_place _ _ _ _ _ _ _ _ _ _ c.self.invariant c.next_for-ahead.ensures.sees) c.turn_of_choice.ensures.looks
 
 above : (a n : ℕ) → a < n → 0 < n
 above a n h = omega arith
@@ -29,4 +29,4 @@ returns-clause-drawn g c =
     let last = after.last_ (same_closed _ _ _ _ c.self.view_is c.requires.open_) in
     drawn_by c.args.chooser.now c.choose-choice.new.self _ _ _ _ _
     (λ n e. above _ n (ahead_is_sent c.next_for-ahead.new.pass.seen c.self.inside.name c.self.inside.cursor n (sym c.next_for-ahead.ensures.value ∙ e)).1)
-    (λ k e. last_high _ k (sym last ∙ e)) c.choose-choice.ensures.drawn c.choose-choice.ensures.choice c.chosen.ensures.act_ c.chosen.ensures.lost_
+    (λ k e. last_high _ k (sym last ∙ e)) c.choose-choice.ensures.drawn c.choose-choice.ensures.choice c.turn_of_choice.ensures.act_ c.turn_of_choice.ensures.lost_

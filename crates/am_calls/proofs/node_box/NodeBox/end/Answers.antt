@@ -15,8 +15,8 @@ ask-requires-clause-no_turn g c κs within =
 
 pub returns-in-Ok-clause-ok : goal.returns-in-Ok-clause-ok
 returns-in-Ok-clause-ok g c =
-    end_done g.N.Racing.plan c.args.self.now.name c.args.tag c.args.act.now c.args.came.now c.in-Ok.came _ _
+    end_done g.N.Racing.plan c.args.self.now.name c.args.visit.now.tag c.args.act.now c.args.came.now c.in-Ok.came _ _
     (subst (λ (x : Act). Asked g.N.Racing.plan c.args.self.now.name x
-    (by_of c.args.tag (end_part c.args.act.now)) c.in-Ok.came c.args.hand.now.share.seen c.ask.new.hand.share.seen) c.end_act-last.ensures
+    (by_of c.args.visit.now.tag (end_part c.args.act.now)) c.in-Ok.came c.args.hand.now.share.seen c.ask.new.hand.share.seen) c.end_act-last.ensures
     (subst (λ (b : By). Asked g.N.Racing.plan c.args.self.now.name c.end_act-last.result b c.in-Ok.came c.args.hand.now.share.seen c.ask.new.hand.share.seen)
-    (c.with.ensures ∙ ap (by_of c.args.tag) c.end_part-part.ensures) c.in-Ok.ensures.ok))
+    (c.with.ensures ∙ ap (by_of c.args.visit.now.tag) c.end_part-part.ensures) c.in-Ok.ensures.ok))

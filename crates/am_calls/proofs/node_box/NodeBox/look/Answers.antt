@@ -8,57 +8,57 @@ use Rattle.am_calls.proofs.node_box.NodeBox.look.Goals as goal
 
 pub spend-requires-clause-unready : goal.spend-requires-clause-unready
 spend-requires-clause-unready g c κs within =
-    sym (c.is_ready.ensures.ready (own_of (of_call c.args.tag.caller c.args.tag.call c.meet_caller.new.self.seen))
-    (came_seen c.args.tag c.args.act.now c.args.came.now c.args.hand.now.share.seen c.meet_caller.new.hand.share.seen c.meet_caller.new.self.seen
-    c.meet_caller.ensures.goes c.meet_caller.ensures.both c.requires.came))
+    sym (c.is_ready.ensures.ready (own_of (of_call c.args.visit.now.tag.caller c.args.visit.now.tag.call c.meet_caller.new.self.seen))
+    (came_seen c.args.visit.now.tag c.args.act.now c.args.came.now c.args.hand.now.share.seen c.meet_caller.new.hand.share.seen c.meet_caller.new.self.seen
+    c.meet_caller.ensures.goes c.in_ok-meet_caller.ensures.ok.same c.requires.came))
     ∙ c.if-is_ready.false
 
 pub returns-then-not-has_turn-clause-ok : goal.returns-then-not-has_turn-clause-ok
 returns-then-not-has_turn-clause-ok g c =
-    subst (λ (n : ℕ). IfOk c.end.result (HasLooked n c.args.tag c.args.act.now c.args.came.now c.args.has_turn c.args.hand.now.share.seen
+    subst (λ (n : ℕ). IfOk c.end.result (HasLooked n c.args.visit.now.tag c.args.act.now c.args.came.now c.args.has_turn c.args.hand.now.share.seen
     c.end.new.hand.share.seen)) c.meet_caller.ensures.name
-    (last_looked g.N.Racing.plan c.meet_caller.new.self.name c.args.tag c.args.act.now c.args.came.now c.args.has_turn c.args.hand.now.share.seen
+    (last_looked g.N.Racing.plan c.meet_caller.new.self.name c.args.visit.now.tag c.args.act.now c.args.came.now c.args.has_turn c.args.hand.now.share.seen
     c.meet_caller.new.hand.share.seen c.end.new.hand.share.seen
     c.end.result c.if-not-has_turn.true c.meet_caller.ensures.goes c.end.ensures.ok)
 
 pub returns-then-not-has_turn-clause-err : goal.returns-then-not-has_turn-clause-err
 returns-then-not-has_turn-clause-err g c =
-    subst (λ (n : ℕ). IfErr c.end.result (WasRefused n c.args.tag.caller c.args.hand.now.share.seen c.end.new.hand.share.seen)) c.meet_caller.ensures.name
-    (all_refused_since c.meet_caller.new.self.name c.args.tag.caller c.args.hand.now.share.seen c.meet_caller.new.hand.share.seen c.end.new.hand.share.seen
+    subst (λ (n : ℕ). IfErr c.end.result (WasRefused n c.args.visit.now.tag.caller c.args.hand.now.share.seen c.end.new.hand.share.seen)) c.meet_caller.ensures.name
+    (all_refused_since c.meet_caller.new.self.name c.args.visit.now.tag.caller c.args.hand.now.share.seen c.meet_caller.new.hand.share.seen c.end.new.hand.share.seen
     c.end.result c.meet_caller.ensures.goes c.end.ensures.err)
 
 pub returns-then-is_ready-clause-ok : goal.returns-then-is_ready-clause-ok
 returns-then-is_ready-clause-ok g c =
-    subst (λ (n : ℕ). IfOk c.end-then-is_ready.result (HasLooked n c.args.tag c.args.act.now c.args.came.now c.args.has_turn c.args.hand.now.share.seen
+    subst (λ (n : ℕ). IfOk c.end-then-is_ready.result (HasLooked n c.args.visit.now.tag c.args.act.now c.args.came.now c.args.has_turn c.args.hand.now.share.seen
     c.end-then-is_ready.new.hand.share.seen)) c.meet_caller.ensures.name
-    (ready_looked g.N.Racing.plan c.meet_caller.new.self.name c.args.tag c.args.act.now c.args.came.now c.args.has_turn c.args.hand.now.share.seen
+    (ready_looked g.N.Racing.plan c.meet_caller.new.self.name c.args.visit.now.tag c.args.act.now c.args.came.now c.args.has_turn c.args.hand.now.share.seen
     c.meet_caller.new.hand.share.seen c.end-then-is_ready.new.hand.share.seen
     c.end-then-is_ready.result
     (subst (λ (rs : List Record). EndTells (node_by g.N.Racing.plan rs c.meet_caller.new.self.name) c.args.act.now c.args.came.now)
-    (sym c.meet_caller.ensures.both)
-    (c.is_ready.ensures.told (own_of (of_call c.args.tag.caller c.args.tag.call c.meet_caller.new.self.seen))
-    (came_seen c.args.tag c.args.act.now c.args.came.now c.args.hand.now.share.seen c.meet_caller.new.hand.share.seen c.meet_caller.new.self.seen
-    c.meet_caller.ensures.goes c.meet_caller.ensures.both c.requires.came)
+    (sym c.in_ok-meet_caller.ensures.ok.same)
+    (c.is_ready.ensures.told (own_of (of_call c.args.visit.now.tag.caller c.args.visit.now.tag.call c.meet_caller.new.self.seen))
+    (came_seen c.args.visit.now.tag c.args.act.now c.args.came.now c.args.hand.now.share.seen c.meet_caller.new.hand.share.seen c.meet_caller.new.self.seen
+    c.meet_caller.ensures.goes c.in_ok-meet_caller.ensures.ok.same c.requires.came)
     c.if-is_ready.true))
     c.meet_caller.ensures.goes c.end-then-is_ready.ensures.ok)
 
 pub returns-then-is_ready-clause-err : goal.returns-then-is_ready-clause-err
 returns-then-is_ready-clause-err g c =
-    subst (λ (n : ℕ). IfErr c.end-then-is_ready.result (WasRefused n c.args.tag.caller c.args.hand.now.share.seen c.end-then-is_ready.new.hand.share.seen))
+    subst (λ (n : ℕ). IfErr c.end-then-is_ready.result (WasRefused n c.args.visit.now.tag.caller c.args.hand.now.share.seen c.end-then-is_ready.new.hand.share.seen))
     c.meet_caller.ensures.name
-    (all_refused_since c.meet_caller.new.self.name c.args.tag.caller c.args.hand.now.share.seen c.meet_caller.new.hand.share.seen
+    (all_refused_since c.meet_caller.new.self.name c.args.visit.now.tag.caller c.args.hand.now.share.seen c.meet_caller.new.hand.share.seen
     c.end-then-is_ready.new.hand.share.seen c.end-then-is_ready.result c.meet_caller.ensures.goes c.end-then-is_ready.ensures.err)
 
 pub returns-clause-ok : goal.returns-clause-ok
 returns-clause-ok g c =
-    subst (λ (n : ℕ). IfOk c.spend.result (HasLooked n c.args.tag c.args.act.now c.args.came.now c.args.has_turn c.args.hand.now.share.seen
+    subst (λ (n : ℕ). IfOk c.spend.result (HasLooked n c.args.visit.now.tag c.args.act.now c.args.came.now c.args.has_turn c.args.hand.now.share.seen
     c.spend.new.hand.share.seen)) c.meet_caller.ensures.name
-    (turn_looked c.meet_caller.new.self.name c.args.tag c.args.act.now c.args.came.now c.args.has_turn c.args.hand.now.share.seen
+    (turn_looked c.meet_caller.new.self.name c.args.visit.now.tag c.args.act.now c.args.came.now c.args.has_turn c.args.hand.now.share.seen
     c.meet_caller.new.hand.share.seen c.spend.new.hand.share.seen
     c.spend.result c.if-not-has_turn.false c.meet_caller.ensures.goes c.spend.ensures.ok)
 
 pub returns-clause-err : goal.returns-clause-err
 returns-clause-err g c =
-    subst (λ (n : ℕ). IfErr c.spend.result (WasRefused n c.args.tag.caller c.args.hand.now.share.seen c.spend.new.hand.share.seen)) c.meet_caller.ensures.name
-    (all_refused_since c.meet_caller.new.self.name c.args.tag.caller c.args.hand.now.share.seen c.meet_caller.new.hand.share.seen c.spend.new.hand.share.seen
+    subst (λ (n : ℕ). IfErr c.spend.result (WasRefused n c.args.visit.now.tag.caller c.args.hand.now.share.seen c.spend.new.hand.share.seen)) c.meet_caller.ensures.name
+    (all_refused_since c.meet_caller.new.self.name c.args.visit.now.tag.caller c.args.hand.now.share.seen c.meet_caller.new.hand.share.seen c.spend.new.hand.share.seen
     c.spend.result c.meet_caller.ensures.goes c.spend.ensures.err)

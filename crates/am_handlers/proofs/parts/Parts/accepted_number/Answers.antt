@@ -11,10 +11,10 @@ use Rattle.am_handlers.proofs.parts.Parts.accepted_number.Goals as goal
 -- src/parts.rt:133:17
 pub returns-then-stands_at-clause-value : goal.returns-then-stands_at-clause-value
 returns-then-stands_at-clause-value c =
-    let order = c.accepted-accepted.ensures.order in
+    let order = c.accept_front-accepted.ensures.order in
     let kept = order.kept in
     let base = c.base-before.ensures.value ∙ ap (λ (p : Parts). p.core.log.start) c.self.view_is in
-    let acc = c.accepted-accepted.ensures.value in
+    let acc = c.accept_front-accepted.ensures.value in
     let low = c.loop-before.auto.before in
     let high = c.loop-before-test.true in
     number_found (node_of c.args.self.now) c.args.req c.loop-before.before order (omega arith) (omega arith) (sym c.stands_at.ensures
@@ -24,19 +24,19 @@ returns-then-stands_at-clause-value c =
 pub returns-then-is_past_last-clause-value : goal.returns-then-is_past_last-clause-value
 returns-then-is_past_last-clause-value c =
     let core = c.args.self.now.core in
-    let order = c.accepted-accepted.ensures.order in
+    let order = c.accept_front-accepted.ensures.order in
     let kept = order.kept in
     let no = c.is_past_last.ensures c.if-is_past_last.true in
     number_none (node_of c.args.self.now) c.args.req order (λ number low below.
     split (passes (is_data_of core.who c.args.req) (entry_at core.log (number + 1)))
-    (λ there. absurd (no (stands_due core.log (core.rules.window + 15) core.who c.args.req number c.accepted-accepted.ensures.kept (omega arith) there)))
+    (λ there. absurd (no (stands_due core.log (core.rules.window + 15) core.who c.args.req number c.accept_front-accepted.ensures.kept (omega arith) there)))
     (λ none. none))
 
 -- src/parts.rt:128:5
 pub returns-clause-value : goal.returns-clause-value
 returns-clause-value c =
-    let order = c.accepted-accepted.ensures.order in
-    let acc = c.accepted-accepted.ensures.value in
+    let order = c.accept_front-accepted.ensures.order in
+    let acc = c.accept_front-accepted.ensures.value in
     let high = c.loop-before-test.false in
     number_none (node_of c.args.self.now) c.args.req order (λ number low below. c.loop-before.invariant number low (omega arith))
 
@@ -45,4 +45,4 @@ returns-then-stands_at-clause-due c =
     let base = c.base-before.ensures.value ∙ ap (λ (p : Parts). p.core.log.start) c.self.view_is in
     let low = c.loop-before.auto.before in
     stands_due c.args.self.now.core.log (c.args.self.now.core.rules.window + 15) c.args.self.now.core.who c.args.req c.loop-before.before
-    c.accepted-accepted.ensures.kept (omega arith) (sym c.stands_at.ensures ∙ c.if-stands_at.true)
+    c.accept_front-accepted.ensures.kept (omega arith) (sym c.stands_at.ensures ∙ c.if-stands_at.true)

@@ -1,7 +1,7 @@
 use Rattle.std.proofs.Common.{sym, ap, ◌∙◌, arith}
 use Rattle.am_core.specs.Cores.{CoreState}
 use Rattle.am_model.specs.Refresh.{with_led}
-use Rattle.am_fronts.specs.Refresh.{led}
+use Rattle.am_fronts.specs.Refresh.{core_and_reports}
 use Rattle.am_handlers.specs.Parts.{node_of}
 use Rattle.am_handlers.proofs.Ends.{lead_changes, advance_changes, lead_again, advance_again}
 use Rattle.am_handlers.proofs.Keeping.{keeps_steady, keeps_advance, steady_led, may_lead}
@@ -11,7 +11,7 @@ use Rattle.am_handlers.proofs.parts.Parts.refresh.Goals as goal
 pub invariant_of-self : goal.invariant_of-self
 invariant_of-self c =
     let old = node_of c.args.self.now in
-    let new = with_led old (led c.refresh.new.core c.refresh.new.self) in
+    let new = with_led old (core_and_reports c.refresh.new.core c.refresh.new.self) in
     let own = c.refresh.ensures.own in
     record { keeps = keeps_steady old new (steady_led old _ c.is_sequencer.ensures.order c.refresh.ensures.value) c.args.self.now.keeps (omega arith) }
 
@@ -24,7 +24,7 @@ invariant_of-self-else-is_sequencer c = record {
 
 -- src/parts.rt:57:5
 pub returns-then-is_sequencer-clause-changes : goal.returns-then-is_sequencer-clause-changes
-returns-then-is_sequencer-clause-changes c = lead_changes (node_of c.args.self.now) (led c.refresh.new.core c.refresh.new.self)
+returns-then-is_sequencer-clause-changes c = lead_changes (node_of c.args.self.now) (core_and_reports c.refresh.new.core c.refresh.new.self)
     (sym c.is_sequencer.ensures.value ∙ c.if-is_sequencer.true) c.refresh.ensures.value
 
 -- src/parts.rt:57:5
@@ -40,7 +40,7 @@ pub refresh-requires-clause-own : goal.refresh-requires-clause-own
 refresh-requires-clause-own c = c.args.self.now.keeps.own
 
 pub returns-then-is_sequencer-clause-again : goal.returns-then-is_sequencer-clause-again
-returns-then-is_sequencer-clause-again c = lead_again (node_of c.args.self.now) (led c.refresh.new.core c.refresh.new.self) (sym c.is_sequencer.ensures.value
+returns-then-is_sequencer-clause-again c = lead_again (node_of c.args.self.now) (core_and_reports c.refresh.new.core c.refresh.new.self) (sym c.is_sequencer.ensures.value
     ∙ c.if-is_sequencer.true) c.refresh.ensures.value c.refresh.ensures.again
 
 pub returns-else-is_sequencer-clause-again : goal.returns-else-is_sequencer-clause-again

@@ -1,52 +1,31 @@
-use Rattle.std.proofs.Common.{◌≡◌, ◌<◌, length, true, false, if◌then◌else◌, sym, ap, ◌∙◌, subst, arith}
+use Rattle.std.proofs.Common.{◌≡◌, ◌<◌, length, if◌then◌else◌, sym, ap, ◌∙◌, subst, arith}
 use Rattle.am_base.specs.Names.{place_of}
-use Rattle.am_world.specs.Asked.{answered}
+use Rattle.am_world.specs.Asked.{after_answer}
 use Rattle.am_model.specs.World.{current, is_stopped, happens}
-use Rattle.am_watch.specs.Watching.{Watching, stopped, passed}
+use Rattle.am_watch.specs.Watching.{Watching}
 use Rattle.am_watch.specs.Watchers.{watching_of}
 use Rattle.am_world.specs.Runs.{Play, after, replay}
 use Rattle.am_world.specs.Watched.{IsWatched, stops_by}
 use Rattle.am_world.proofs.Kept.{count_of, answer_is_watched}
 use Rattle.am_world.proofs.world.World.answer.Goals as goal
 
-pub stop-requires-clause-few : goal.stop-requires-clause-few
-stop-requires-clause-few c =
+pub note_answer-requires-clause-few : goal.note_answer-requires-clause-few
+note_answer-requires-clause-few c =
     let count = ap (λ (k : Watching). k.count) c.reserve.ensures.same in
     let events = count_of c.self.inside.run (watching_of c.self.inside.watcher) c.self.invariant in
     let long = ap (λ (p : Play). length p.events) c.self.view_is in
     let few = c.requires.few in
     omega arith
 
-pub pass-requires : goal.pass-requires
-pass-requires c =
-    let count = ap (λ (k : Watching). k.count) c.reserve.ensures.same in
-    let events = count_of c.self.inside.run (watching_of c.self.inside.watcher) c.self.invariant in
-    let long = ap (λ (p : Play). length p.events) c.self.view_is in
-    let few = c.requires.few in
-    omega arith
-
-pub invariant_of-self-then-stops : goal.invariant_of-self-then-stops
-invariant_of-self-then-stops c =
+pub invariant_of-self-2 : goal.invariant_of-self-2
+invariant_of-self-2 c =
     let e = c.args.event.now in
     let p = c.self.inside.run in
     let k = watching_of c.reserve.new.self in
     let made = c.in_ok-answer.ensures.ok in
     let kept = subst (IsWatched p) (sym c.reserve.ensures.same) c.self.invariant in
     let here = subst (λ (q : Play). c.args.name ≡ current (replay q) (place_of e.node)) (sym c.self.view_is) c.requires.name in
-    let is = subst (λ (q : Play). happens (replay q) e ≡ answered (replay q) e c.args.outcome) (sym c.self.view_is) c.requires.comes in
-    let done = answer_is_watched p k e c.args.name c.args.outcome true kept here is (c.if-stops.ensures
+    let is = subst (λ (q : Play). happens (replay q) e ≡ after_answer (replay q) e c.args.outcome) (sym c.self.view_is) c.requires.comes in
+    let done = answer_is_watched p k e c.args.name c.args.outcome c.stops_by-stops.result kept here is (c.stops_by-stops.ensures
     ∙ ap (λ b. stops_by b c.args.outcome) c.is_stopped.ensures) in
-    subst (λ q. IsWatched q (watching_of c.stop.new.self)) (sym made) (subst (IsWatched (after p e)) (sym c.stop.ensures) done)
-
-pub invariant_of-self-else-stops : goal.invariant_of-self-else-stops
-invariant_of-self-else-stops c =
-    let e = c.args.event.now in
-    let p = c.self.inside.run in
-    let k = watching_of c.reserve.new.self in
-    let made = c.in_ok-answer.ensures.ok in
-    let kept = subst (IsWatched p) (sym c.reserve.ensures.same) c.self.invariant in
-    let here = subst (λ (q : Play). c.args.name ≡ current (replay q) (place_of e.node)) (sym c.self.view_is) c.requires.name in
-    let is = subst (λ (q : Play). happens (replay q) e ≡ answered (replay q) e c.args.outcome) (sym c.self.view_is) c.requires.comes in
-    let done = answer_is_watched p k e c.args.name c.args.outcome false kept here is (c.if-stops.ensures
-    ∙ ap (λ b. stops_by b c.args.outcome) c.is_stopped.ensures) in
-    subst (λ q. IsWatched q (watching_of c.pass.new.self)) (sym made) (subst (IsWatched (after p e)) (sym c.pass.ensures) done)
+    subst (λ q. IsWatched q (watching_of c.note_answer.new.watcher)) (sym made) (subst (IsWatched (after p e)) (sym c.note_answer.ensures) done)

@@ -1,0 +1,13 @@
+use Rattle.std.proofs.Common.{◌≡◌, ℕ, ◌<◌, ◌≤◌, length, slice_index, not}
+use Rattle.am_model.specs.Node.{name_where}
+use Rattle.am_model.specs.Ballots.{has_voted}
+use Rattle.am_ballots.specs.Kept.{ballot_of}
+use Rattle.am_ballots.proofs.ballot.Ballot.silent_in.Given as goal
+
+abbrev pub invariant-loop-place : goal.invariant-loop-place
+invariant-loop-place l = record {
+  long : length l.silent ≡ 16;
+  filled : (k : ℕ) → k < l.place → slice_index l.silent k ≡ name_where (λ name. not (has_voted l.coordinator (ballot_of l.self) name)) k
+      (slice_index l.lives k);
+  fits : (k : ℕ) → k < 16 → slice_index l.silent k ≤ 16;
+}

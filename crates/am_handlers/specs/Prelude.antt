@@ -1,0 +1,16 @@
+-- The words that the contracts of a node's handlers are said in, of the crates that they come from.
+pub use Rattle.am_base.specs.Most.{most_number}
+pub use Rattle.am_base.specs.Limits.{IsNumber, IsEntry, IsRow, IsVote, IsStamp, IsImage}
+pub use Rattle.am_base.specs.Lists.{at_place, entry_at, fits, members_of, row_of, told_by, top_of}
+pub use Rattle.am_base.specs.Names.{IsSet, has, names_of, size}
+pub use Rattle.am_base.specs.Stamps.{stamp_eq, stamp_lt}
+pub use Rattle.am_core.specs.Cores.{IsInOrder}
+pub use Rattle.am_packet.specs.Boxes.{with_letter}
+pub use Rattle.am_codec.specs.Limits.{IsWithin}
+pub use Rattle.am_model.specs.Group.{has_log}
+pub use Rattle.am_model.specs.Node.{Node, acts, has_own_leave, is_member, is_sequencer, is_within_bound, members, only_name, others, push_entry, image_of, top, trim_up_to, view, waiting}
+pub use Rattle.am_model.specs.Ends.{Changes, Does, IsEndOf, Tells}
+pub use Rattle.am_handlers.specs.Cores.{CoreTells}
+pub use Rattle.am_handlers.specs.Keeps.{HasRoomLeft, IsOwnBallot, IsSteady, MayServe, NodeKeeps}
+pub use Rattle.am_handlers.specs.Parts.{node_of}
+pub use Rattle.am_handlers.specs.Finishing.{Done, Finishes, Performs}

@@ -1,0 +1,45 @@
+-- The names of a set, and those of them that pass a test.
+use Rattle.std.proofs.Common.{◌≡◌, ℕ, zero, suc, ◌+◌, ◌<◌, List, [], ◌∷◌, Bool, true, false, ◌==◌, nat_lt, if◌then◌else◌, slice_index, refl, ap, ◌∙◌, arith}
+use Rattle.std.proofs.lemmas.Bool.Decides.{nat_tests}
+use Rattle.am_base.specs.Names.{place_of, life_of, name_at, has, size, by_place}
+use Rattle.am_base.proofs.Places.{slice_index-by_place}
+use Rattle.am_fronts.proofs.ReportLaws.{count_cons}
+use Rattle.am_model.specs.Node.{name_where, those}
+
+pub size_cons : (life : ℕ) (lives : List ℕ) → size (life ∷ lives) ≡ (if nat_lt 0 life then 1 else 0) + size lives
+size_cons life lives = count_cons (λ x. nat_lt 0 x) life lives
+
+-- a set with a life in it isn't empty
+pub some_size : (set : List ℕ) (place : ℕ) → 0 < slice_index set place → 0 < size set
+some_size [] place is = absurd (omega arith)
+some_size (life ∷ lives) zero is =
+    let t : nat_lt 0 life ≡ true = grind (arith, nat_tests) in
+    let e : size (life ∷ lives) ≡ 1 + size lives = size_cons life lives ∙ ap (λ (b : Bool). (if b then 1 else 0) + size lives) t in
+    omega arith
+some_size (life ∷ lives) (suc place) is =
+    let h = some_size lives place is in
+    let e = size_cons life lives in
+    omega arith
+
+-- nor one with a name in it
+pub has_size : (set : List ℕ) (who : ℕ) → has set who ≡ true → 0 < size set
+has_size set who h = let is : slice_index set (place_of who) ≡ life_of who = grind (arith, nat_tests) in some_size set (place_of who) (omega arith)
+
+-- the place of a name that passes has its life
+life_there : (test : ℕ → Bool) (who : ℕ) → test who ≡ true → name_where test (place_of who) (life_of who) ≡ life_of who
+life_there test who t =
+    let some : (life_of who == 0) ≡ false = grind (arith, nat_tests) in
+    let same : name_at (place_of who) (life_of who) ≡ who = omega arith in
+    let passes : test (name_at (place_of who) (life_of who)) ≡ true = ap test same ∙ t in
+    rw (some, passes) refl
+
+-- a name of the set that passes is among those
+pub has_those : (test : ℕ → Bool) (set : List ℕ) (who : ℕ) → has set who ≡ true → test who ≡ true → has (those test set) who ≡ true
+unfolding those
+has_those test set who there passes =
+    let f : ℕ → ℕ = λ place. name_where test place (slice_index set place) in
+    let place : place_of who < 16 = omega arith in
+    let is : slice_index set (place_of who) ≡ life_of who = grind (arith, nat_tests) in
+    let value : slice_index (by_place f) (place_of who) ≡ life_of who = slice_index-by_place f (place_of who) place ∙ ap (name_where test (place_of who)) is
+    ∙ life_there test who passes in
+    grind (arith, nat_tests)

@@ -1,0 +1,12 @@
+use Rattle.std.proofs.Common.{ap, ◌∙◌}
+use Rattle.am_base.specs.Lists.{told_by, blank, fold, fits}
+use Rattle.am_core.specs.Cores.{CoreState}
+use Rattle.am_node.proofs.Founders.{founders_fit}
+use Rattle.am_node.proofs.founding.founder_core.Goals as goal
+
+pub push-requires-clause-fits : goal.push-requires-clause-fits
+unfolding fold
+push-requires-clause-fits c =
+    ap (λ (x : CoreState). fits (told_by x.log) c.founders_view.result) c.in_ok-core.ensures.value
+    ∙ ap (fits blank) c.founders_view.ensures.value
+    ∙ founders_fit c.args.founding.now c.founders_view.ensures.within

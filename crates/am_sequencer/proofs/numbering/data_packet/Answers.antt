@@ -1,0 +1,12 @@
+use Rattle.std.proofs.Common.{ap, ◌∙◌, List, ℕ}
+use Rattle.am_base.specs.declared.entry.Entry.TheVariants.{Data}
+use Rattle.am_model.specs.Emit.{bcast_of}
+use Rattle.am_handlers.specs.Cores.{with_core}
+use Rattle.am_sequencer.proofs.numbering.data_packet.Goals as goal
+
+pub returns-then-by_order-clause-value : goal.returns-then-by_order-clause-value
+returns-then-by_order-clause-value g c = λ m all s. rw (c.if-by_order.true) (c.order.ensures.value m all s)
+
+pub returns-clause-value : goal.returns-clause-value
+returns-clause-value g c = λ m all s. rw (c.if-by_order.false) (c.bcast.ensures.value m all s
+    ∙ ap (λ (body : List ℕ). bcast_of (with_core m all c.args.core.now) c.args.number (Data c.args.from c.args.req body)) c.copy.ensures)
