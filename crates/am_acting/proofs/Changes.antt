@@ -8,8 +8,7 @@ use Rattle.am_sender.specs.declared.OwnSend.{OwnSend}
 use Rattle.am_sender.specs.Sends as own
 use Rattle.am_model.specs.declared.status.Status.{Status}
 use Rattle.am_model.specs.declared.status.Status.TheVariants.{Stranger, Asking, Member, Departed}
-use Rattle.am_model.specs.Group.{has_log}
-use Rattle.am_model.specs.Node.{Node, image_of, view, is_member}
+use Rattle.am_model.specs.Node.{has_log, Node, image_of, view, is_member}
 use Rattle.am_handlers.specs.Keeps.{NodeKeeps, IsDue}
 use Rattle.am_handlers.proofs.Keeping.{keeps_steady, own_for, member_log, MaySend}
 

@@ -14,7 +14,7 @@ use Rattle.am_core.proofs.Folds.{split}
 use Rattle.am_sender.specs.declared.OwnSend.{OwnSend}
 use Rattle.am_sender.specs.Sends as own
 use Rattle.am_sender.proofs.Lines.{waiting_next}
-use Rattle.am_sequencer.proofs.Numbers.{members_pushed}
+use Rattle.am_core.proofs.Members.{members_pushed}
 use Rattle.am_model.specs.Node.{Node, top, image_of, view, others, only_name, own_row, acts, has_room, is_sequencer, waiting, push_entry}
 use Rattle.am_model.specs.Emit.{quiet}
 use Rattle.am_model.specs.Calls.{emit, hand_in}

@@ -25,7 +25,8 @@ use Rattle.am_sender.specs.declared.OwnSend.{OwnSend}
 use Rattle.am_sender.specs.Sends as own
 use Rattle.am_model.specs.declared.status.Status.{Status}
 use Rattle.am_model.specs.declared.status.Status.TheVariants as status
-use Rattle.am_model.specs.Node.{Node, top, image_of, view, members, others, only_name, lowest_or_first, waiting, unsettled_count, has_room, is_member, is_sequencer}
+use Rattle.am_model.specs.Node.{Node, top, image_of, view, members, others, only_name, lowest_or_first, waiting, unsettled_count, has_room, is_member}
+use Rattle.am_model.specs.Node.{is_sequencer}
 use Rattle.am_model.specs.Node.{push_entry}
 use Rattle.am_model.specs.Emit.{Plan, quiet, finish, with_accept}
 use Rattle.am_model.specs.Refresh.{refresh, lead, settle, settle_waiting, refresh_at_end, led_of, with_led}
@@ -51,7 +52,8 @@ members_left image number name long up is =
     rw test (map-set member_life image.rows (place_of name) (record (at_place image name) { left = number })
     ∙ sym (leaves_member image name (record (at_place image name) { left = number }) long life life up))
 
-pub left_members : (m : Node) (capacity : ℕ) → IsKept m.core.log capacity → has (members m) m.core.who ≡ true → members (push_entry m (Leave m.core.who)) ≡ others m
+pub left_members : (m : Node) (capacity : ℕ) → IsKept m.core.log capacity → has (members m) m.core.who ≡ true → members (push_entry m (Leave m.core.who))
+    ≡ others m
 left_members m capacity kept is =
     ap members_of (told-push m.core.log (Leave m.core.who))
     ∙ members_left (image_of m) (top m + 1) m.core.who (long_fold m.core.log.image (m.core.log.start + 1) m.core.log.entries kept.image.places) (omega arith) is

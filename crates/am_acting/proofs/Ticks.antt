@@ -1,7 +1,6 @@
 -- The rows of the tick, by what their tests say.
 use Rattle.std.proofs.Common.{◌≡◌, ◌≢◌, ℕ, ◌+◌, ◌<◌, List, [], Bool, true, false, not, ◌&&◌, ◌==◌, nat_lt, if◌then◌else◌, Option, Some, None, refl, sym}
-use Rattle.std.proofs.Common.{◌∙◌, ap}
-use Rattle.std.proofs.Common.{arith}
+use Rattle.std.proofs.Common.{option_map, is_some, ◌∙◌, ap, arith}
 use Rattle.std.proofs.lemmas.Bool.Decides.{nat_tests}
 use Rattle.am_base.specs.declared.entry.Entry.TheVariants.{Data, Leave}
 use Rattle.am_base.specs.declared.outcome.Outcome.{Outcome}
@@ -9,6 +8,7 @@ use Rattle.am_base.specs.declared.outcome.Outcome.TheVariants as said
 use Rattle.am_base.specs.Names.{size}
 use Rattle.am_core.proofs.Folds.{split}
 use Rattle.am_packet.specs.Boxes.{Letter, with_letter}
+use Rattle.am_sender.specs.declared.OwnSend.{OwnSend}
 use Rattle.am_sender.specs.Sends as own
 use Rattle.am_model.specs.declared.status.Status.{Status}
 use Rattle.am_model.specs.declared.status.Status.TheVariants as status
@@ -94,6 +94,13 @@ leads_stays m is = ap (λ b. if b then go (and_poll (emit m (waiting m) (put_off
 pub leads_idle : (m : Node) → m.leaving ≡ false → own.waiting_send m.sends ≡ None → tick_sequencer m ≡ and_poll (quiet m said.Ticked)
 leads_idle m is none = leads_stays m is ∙ ap (λ w. and_poll (emit m w (put_off m w))) (waits_none (waiting m) none)
 
+none_waits : (w : Option OwnSend) → is_some w ≡ false → option_map {U = ℕ × List ℕ} (λ (send : OwnSend). (send.req, send.body)) w ≡ None
+none_waits None h = refl
+none_waits (Some send) h = absurd (cc)
+
+pub leads_none : (m : Node) → m.leaving ≡ false → is_some (waiting m) ≡ false → tick_sequencer m ≡ and_poll (quiet m said.Ticked)
+leads_none m is none = leads_idle m is (none_waits (waiting m) none)
+
 put_off_some : (m : Node) (req : ℕ) (body : List ℕ) → own.waiting_send m.sends ≡ Some (req, body) → put_off m (waiting m) ≡ put_off m (Some (own_send req body))
 put_off_some m req body is =
     let w = waits_is (waiting m) req body is in
@@ -136,7 +143,12 @@ polls_held m o leads none room is =
     rw (leads, test, room) (ap (λ x. and_poll (quiet m x)) (sym is))
 
 abbrev pub polling_last : Node → Plan
-polling_last m = record (and_poll (quiet m said.Ticked)) { node = push_entry m (Leave m.core.who); outcome = λ n. said.Departed; numbers = true; departs = true }
+polling_last m = record (and_poll (quiet m said.Ticked)) {
+  node = push_entry m (Leave m.core.who);
+  outcome = λ n. said.Departed;
+  numbers = true;
+  departs = true;
+}
 
 pub polls_departs : (m : Node) → is_sequencer m ≡ true → size (others m) ≡ 0 → has_room m ≡ true → go (and_poll (quiet m said.Ticked)) ≡ polling_last m
 polls_departs m leads none room =

@@ -4,9 +4,8 @@ use Rattle.am_base.specs.declared.outcome.Outcome.{Outcome}
 use Rattle.am_base.specs.declared.outcome.Outcome.TheVariants as said
 use Rattle.am_base.specs.Lists.{entry_at}
 use Rattle.am_sender.specs.declared.OwnSend.{OwnSend}
-use Rattle.am_model.specs.Node.{Node}
+use Rattle.am_model.specs.Node.{Node, Ballot, only_name, image_of}
 use Rattle.am_packet.specs.Boxes.{Letter, with_letter}
-use Rattle.am_model.specs.Node.{Ballot, only_name, image_of}
 use Rattle.am_model.specs.Emit.{Plan, quiet, telling, and_telling, result_of, hand_over_of}
 use Rattle.am_model.specs.Ticks.{behind_view, viewed_by, and_result}
 use Rattle.am_acting.specs.declared.note.Note.{Note}
@@ -31,8 +30,8 @@ waits_for (Some send) req = send.req == req
 
 -- the letters with the last View, for those that haven't stored it
 abbrev pub and_view : List Letter → Node → List Letter
-and_view letters n = with_letter (behind_view n) (result_of n (image_of n).view_number (viewed_by (entry_at n.core.log (image_of n).view_number)) (image_of n).resilience)
-    letters
+and_view letters n = with_letter (behind_view n) (result_of n (image_of n).view_number (viewed_by (entry_at n.core.log (image_of n).view_number))
+    (image_of n).resilience) letters
 
 -- a plan that polls, and tells the last View again
 abbrev pub and_poll : Plan → Plan

@@ -3,7 +3,7 @@ ghost use Rattle.am_handlers.specs.Prelude.{most_number, has_log, is_member, wai
 ghost use Rattle.am_sender.specs.Sends.{submit, collect, collect_outcome};
 ghost use Rattle.am_bodies.specs.Bodies.{keep_body};
 
-use am_base::body::{Body, SentBody};
+use am_base::body::{BodyRef, SentBody};
 use am_base::name::Name;
 use am_base::outcome::Outcome;
 use am_handlers::parts::Parts;
@@ -59,7 +59,7 @@ pub fn set_taken(parts: &mut Parts, number: u32)
 }
 
 /// Keeps a body, unless one of the same send is there.
-pub fn keep_body(parts: &mut Parts, from: Name, req: u32, body: &Body)
+pub fn keep_body(parts: &mut Parts, from: Name, req: u32, body: &BodyRef)
     ensures { node_of parts.new ≡ record (node_of parts.old)
         { bodies = keep_body from req body.now parts.old.pool } }
 {

@@ -11,7 +11,7 @@ ghost use Rattle.am_acting.specs.Forms.{own_send};
 use crate::finishing::finish_noting;
 use crate::note::Note;
 use am_base::body::Body;
-use am_base::entry::Entry;
+use am_base::entry::{EntryParts, EntryRef};
 use am_base::name::Name;
 use am_base::names::Names;
 use am_base::outcome::Outcome;
@@ -91,17 +91,18 @@ pub fn others(parts: &Parts) -> Names
 fn hand_in(
     parts: &mut Parts,
     before: u32,
-    send: WaitingSend,
+    send: &WaitingSend,
     answer: Outcome,
     out: &mut OutBox,
 ) -> Outcome
     requires empty { out.old ≡ [] }
-    requires req { IsNumber send.req }
-    ensures { Finishes before (hand_in (node_of parts.old) (own_send send.req send.body) answer)
-        result out.new parts.new }
+    requires req { IsNumber send.now.req }
+    ensures { Finishes before (hand_in (node_of parts.old) (own_send send.now.req send.now.body)
+        answer) result out.new parts.new }
 {
-    let WaitingSend { req, body } = send;
-    if is_short(parts, &body) {
+    let req = send.req;
+    let body = send.body.as_ref();
+    if is_short(parts, &send.body) {
         let to = only(leader(parts));
         return finish_noting(
             parts,
@@ -126,33 +127,33 @@ fn hand_in(
 }
 
 /// Numbers the node's own send, and gives what is to be told of it.
-pub fn number_send(parts: &mut Parts, send: WaitingSend) -> Note
+pub fn number_send<'a>(parts: &mut Parts, send: &'a WaitingSend) -> Note<'a>
     requires leads { is_sequencer (node_of parts.old) ≡ true }
-    requires waits { waiting_send parts.old.sender ≡ Some (send.req, send.body) }
-    requires new { (own_row (node_of parts.old)).last < send.req }
+    requires waits { waiting_send parts.old.sender ≡ Some (send.now.req, send.now.body) }
+    requires new { (own_row (node_of parts.old)).last < send.now.req }
     requires room { length parts.old.core.log.entries < parts.old.core.rules.window + 15 }
-    requires req { IsNumber send.req }
+    requires req { IsNumber send.now.req }
     requires number { top_of parts.old.core.log < most_number }
     ensures node { node_of parts.new ≡ push_entry (node_of parts.old)
-        (Data parts.old.core.who send.req send.body) }
+        (Data parts.old.core.who send.now.req send.now.body) }
     ensures note { result ≡ note.Bcast (top (node_of parts.old) + 1)
-        (Data parts.old.core.who send.req send.body) }
+        (Data parts.old.core.who send.now.req send.now.body) }
     ensures within { IsNoteWithin result }
 {
-    let WaitingSend { req, body } = send;
     let _before = parts.accept_front();
     let number = next_number(parts);
-    let entry = Entry::Data {
+    let entry = EntryRef::of(EntryParts::Data {
         from: who(parts),
-        req,
-        body,
-    };
-    parts.push(entry.copy());
+        req: send.req,
+        body: send.body.as_ref(),
+    });
+    parts.push(entry.to_entry());
     Note::Bcast { number, entry }
 }
 
 /// Emits the waiting send: a member hands it in, and the sequencer numbers it where there is room. Nothing is emitted where
 /// none waits, or where it wouldn't go out. It gives the answer back.
+#[inline(never)]
 pub fn emit(parts: &mut Parts, before: u32, answer: Outcome, out: &mut OutBox) -> Outcome
     requires empty { out.old ≡ [] }
     requires number { top_of parts.old.core.log < most_number }
@@ -166,12 +167,12 @@ pub fn emit(parts: &mut Parts, before: u32, answer: Outcome, out: &mut OutBox) -
         return finish_quietly(parts, before, answer, out);
     }
     if !parts.is_sequencer() {
-        return hand_in(parts, before, send, answer, out);
+        return hand_in(parts, before, &send, answer, out);
     }
     if !has_room(parts) {
         return finish_quietly(parts, before, answer, out);
     }
     let to = others(parts);
-    let note = number_send(parts, send);
+    let note = number_send(parts, &send);
     finish_noting(parts, before, true, answer, to, &note, out)
 }

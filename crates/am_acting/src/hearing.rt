@@ -8,7 +8,7 @@ ghost use Rattle.am_model.specs.Joining.{gone_row};
 ghost use Rattle.am_acting.specs.Forms.{waits_for};
 
 use crate::changing::{is_leaving, keep_body, set_status};
-use am_base::body::Body;
+use am_base::body::BodyRef;
 use am_base::name::Name;
 use am_base::outcome::Outcome;
 use am_core::log::Log;
@@ -27,7 +27,13 @@ fn is_known(parts: &Parts, from: Name, req: u32) -> bool
 
 /// A name spreads a body, at a member that isn't the sequencer (docs/PROTOCOL.md, "Spread"). Known where the send is numbered
 /// or its body is kept already; else Kept.
-pub fn on_spread(parts: &mut Parts, from: Name, req: u32, body: &Body, out: &mut OutBox) -> Outcome
+pub fn on_spread(
+    parts: &mut Parts,
+    from: Name,
+    req: u32,
+    body: &BodyRef,
+    out: &mut OutBox,
+) -> Outcome
     requires { out.old ≡ [] }
     ensures { Performs (λ m. spread_row m from req body.now) parts.old result out.new parts.new }
 {

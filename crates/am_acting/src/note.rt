@@ -1,8 +1,8 @@
 ghost use Rattle.am_handlers.specs.Prelude.{IsWithin, CoreTells};
 ghost use Rattle.am_acting.specs.Notes.{packet_of, IsNoteWithin};
 
-use am_base::body::Body;
-use am_base::entry::Entry;
+use am_base::body::BodyRef;
+use am_base::entry::EntryRef;
 use am_core::log::Log;
 use am_core::state::Core;
 use am_handlers::packet_from;
@@ -11,13 +11,13 @@ use am_packet::packet::Packet;
 
 /// What a letter is to tell: a packet without the values that its sender has after the step.
 #[derive(Drop, Debug)]
-pub enum Note {
+pub enum Note<'a> {
     /// A send for the sequencer to number.
-    Request { req: u32, body: Body },
+    Request { req: u32, body: BodyRef<'a> },
     /// A send for everybody.
-    Spread { req: u32, body: Body },
+    Spread { req: u32, body: BodyRef<'a> },
     /// A numbered entry.
-    Bcast { number: u32, entry: Entry },
+    Bcast { number: u32, entry: EntryRef<'a> },
     /// A report.
     Ack,
     /// The sender would join.
@@ -34,7 +34,7 @@ pub enum Note {
 
 /// The packet that a node makes of a note.
 #[tactic(auto, unfolding(am_codec::specs::Limits::IsWithin))]
-pub fn packet<L: Log>(note: &Note, core: &Core<L>) -> Packet
+pub fn packet<'a, L: Log>(note: &Note<'a>, core: &Core<L>) -> Packet<'a>
     requires { IsNoteWithin note.now }
     ensures value { CoreTells (packet_of note.now) core.now result }
     ensures within { IsWithin result }
@@ -43,14 +43,14 @@ pub fn packet<L: Log>(note: &Note, core: &Core<L>) -> Packet
         Note::Request { req, body } => packet_from!(core => Request {
             report: report(core),
             req: *req,
-            body: body.copy(),
+            body: body.again(),
         }),
         Note::Spread { req, body } => packet_from!(core => Spread {
             report: report(core),
             req: *req,
-            body: body.copy(),
+            body: body.again(),
         }),
-        Note::Bcast { number, entry } => bcast(core, *number, entry),
+        Note::Bcast { number, entry } => bcast(core, *number, entry.again()),
         Note::Ack => ack(core),
         Note::JoinAsk => packet_from!(core => JoinAsk {}),
         Note::LeaveAsk => packet_from!(core => LeaveAsk { report: report(core) }),

@@ -7,7 +7,7 @@ ghost use Rattle.am_model.specs.Ticks.{tick_promised, tick_member, tick_sequence
 ghost use Rattle.am_acting.specs.Forms.{and_poll, handing, again_of, again_of_ballot, by_again};
 
 use crate::changing::{is_leaving, status};
-use crate::emitting::{emit, leader, next_send, number_send, others, would_emit};
+use crate::emitting::{emit, has_waiting, leader, next_send, number_send, others, would_emit};
 use crate::finishing::{finish_noting, tell};
 use crate::joining::ask_to_join;
 use crate::leaving::{depart, go_on_leaving, lowest_or_first};
@@ -125,9 +125,9 @@ fn tick_promised(parts: &mut Parts, before: u32, out: &mut OutBox) -> Outcome
 fn would_emit_waiting(parts: &Parts) -> bool
     ensures { result ≡ would_emit (node_of parts.now) (waiting (node_of parts.now)) }
 {
-    match next_send(parts) {
+    match parts.waiting_request() {
         None => false,
-        Some(send) => would_emit(parts, send.req),
+        Some(req) => would_emit(parts, req),
     }
 }
 
@@ -150,7 +150,8 @@ fn tick_member(parts: &mut Parts, before: u32, out: &mut OutBox) -> Outcome
 /// The end of a step that polls the members, and tells the last View again to those that haven't stored it.
 fn finish_polling(parts: &mut Parts, before: u32, answer: Outcome, out: &mut OutBox) -> Outcome
     requires { out.old ≡ [] }
-    ensures { Finishes before (and_poll (quiet (node_of parts.old) answer)) result out.new parts.new }
+    ensures { Finishes before (and_poll (quiet (node_of parts.old) answer))
+        result out.new parts.new }
 {
     let _before = parts.accept_front();
     parts.end();
@@ -206,16 +207,15 @@ fn put_off(parts: &Parts, req: u32) -> Outcome
     }
 }
 
-/// The sequencer numbers its own send, polls, tells its View again, and goes on leaving.
-fn tick_sequencer(parts: &mut Parts, before: u32, out: &mut OutBox) -> Outcome
+/// The sequencer numbers its own send where that would go out, polls, and tells its View again.
+#[inline(never)]
+fn tick_sending(parts: &mut Parts, before: u32, out: &mut OutBox) -> Outcome
     requires empty { out.old ≡ [] }
+    requires stays { parts.old.leaving ≡ false }
     requires leads { is_sequencer (node_of parts.old) ≡ true }
     requires number { top_of parts.old.core.log < most_number }
     ensures { Finishes before (tick_sequencer (node_of parts.old)) result out.new parts.new }
 {
-    if is_leaving(parts) {
-        return poll_leaving(parts, before, out);
-    }
     let Some(send) = next_send(parts) else {
         return finish_polling(parts, before, Outcome::Ticked, out);
     };
@@ -227,13 +227,29 @@ fn tick_sequencer(parts: &mut Parts, before: u32, out: &mut OutBox) -> Outcome
         return finish_polling(parts, before, answer, out);
     }
     let to = others(parts);
-    let note = number_send(parts, send);
+    let note = number_send(parts, &send);
     let _before = parts.accept_front();
     parts.end();
     tell(parts, to, &note, out);
     tell_view(parts, out);
     parts.tell_accepted(before, true, true, out);
     Outcome::Ticked
+}
+
+/// The sequencer numbers its own send, polls, tells its View again, and goes on leaving.
+fn tick_sequencer(parts: &mut Parts, before: u32, out: &mut OutBox) -> Outcome
+    requires empty { out.old ≡ [] }
+    requires leads { is_sequencer (node_of parts.old) ≡ true }
+    requires number { top_of parts.old.core.log < most_number }
+    ensures { Finishes before (tick_sequencer (node_of parts.old)) result out.new parts.new }
+{
+    if is_leaving(parts) {
+        return poll_leaving(parts, before, out);
+    }
+    if !has_waiting(parts) {
+        return finish_polling(parts, before, Outcome::Ticked, out);
+    }
+    tick_sending(parts, before, out)
 }
 
 /// The tick of a member without an unfinished ballot.

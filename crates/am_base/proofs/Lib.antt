@@ -1,2 +1,4 @@
 pub mod Places
 pub mod Masks
+pub mod Greatest
+pub mod Folds

@@ -7,3 +7,4 @@ pub mod Fronts
 pub mod Votes
 pub mod Limits
 pub mod Outcomes
+pub mod Entries

@@ -1,7 +1,7 @@
 -- The list of a group, and what it tells: its members, its last view, and a row for each place.
 use Rattle.std.specs.Prelude.{◌≡◌, ℕ, zero, suc, ◌+◌, ◌-◌, List, [], ◌∷◌, ◌++◌, length, take, map, replicate, Option, None, Bool, true, not, ◌==◌, ◌&&◌, ◌||◌}
 use Rattle.std.specs.Prelude.{nat_lt, nat_le, if◌then◌else◌, slice_get, slice_set, slice_index, slice_index_or}
-use Rattle.std.specs.List.{list_all}
+use Rattle.std.specs.List.{list_all, flat_map}
 use Rattle.am_base.specs.declared.image.Row.{Row}
 use Rattle.am_base.specs.declared.image.Image.{Image}
 use Rattle.am_base.specs.declared.entry.Entry.{Entry}
@@ -111,3 +111,14 @@ told_by log = fold log.image (log.start + 1) log.entries
 -- the same list with one entry more
 abbrev pub with_entry : Log → Entry → Log
 with_entry log e = record log { entries = log.entries ++ e ∷ [] }
+
+-- ---- the requests of a name that stand in a list, in turn
+
+abbrev pub request_in : ℕ → Entry → List ℕ
+request_in name (Data from req body) = if from == name then req ∷ [] else []
+request_in name (Join joiner) = []
+request_in name (Leave leaver) = []
+request_in name (View stamp names resilience) = []
+
+abbrev pub requests_of : ℕ → List Entry → List ℕ
+requests_of name list = flat_map (request_in name) list

@@ -50,11 +50,68 @@ impl Body {
         self.0.as_slice()
     }
 
+    /// The body where it stands.
+    pub fn as_ref(&self) -> BodyRef<'_>
+        ensures { result ≡ self.now }
+    {
+        BodyRef(self.bytes())
+    }
+
     /// The same body. It takes no memory.
     pub fn copy(&self) -> Body
         ensures { result ≡ self.now }
     {
-        Body::of(self.bytes()).unwrap()
+        self.as_ref().to_body()
+    }
+}
+
+/// A body where it stands: among a packet's bytes, or in what holds it. Contracts see it as its bytes.
+#[derive(Drop, Debug)]
+pub struct BodyRef<'a>(&'a [u8]);
+
+impl<'a> Model for BodyRef<'a> {
+    ghost use Rattle.std.specs.Prelude.{ℕ, List, ◌≤◌, length};
+    ghost use Rattle.am_base.specs.Most.{most_body};
+
+    ghost Value = { List ℕ };
+
+    ghost view = { λ b. b.0.now };
+
+    ghost invariant = { λ b. length b.0.now ≤ most_body };
+}
+
+impl<'a> BodyRef<'a> {
+    /// These bytes as a body; None exactly where there are more than 1,024.
+    pub fn of(bytes: &'a [u8]) -> Option<BodyRef<'a>>
+        ensures variant { IsSome result ↔ (length bytes.now ≤ most_body) }
+        ensures value { IfSome result (λ b. b ≡ bytes.now) }
+    {
+        if bytes.len() <= MOST_BODY {
+            return Some(BodyRef(bytes));
+        }
+        None
+    }
+
+    /// Its bytes.
+    pub fn bytes(&self) -> &'a [u8]
+        ensures value { result.now ≡ self.now }
+        ensures fits { length result.now ≤ most_body }
+    {
+        self.0
+    }
+
+    /// The same body, where it stands.
+    pub fn again(&self) -> BodyRef<'a>
+        ensures { result ≡ self.now }
+    {
+        BodyRef(self.0)
+    }
+
+    /// The same body in a place of its own. It takes no memory.
+    pub fn to_body(&self) -> Body
+        ensures { result ≡ self.now }
+    {
+        Body::of(self.0).unwrap()
     }
 }
 
@@ -97,38 +154,37 @@ impl SentBody {
         self.0.as_slice()
     }
 
-    /// The same body in a place of fixed size. It takes no memory.
-    pub fn body(&self) -> Body
+    /// The body where it stands.
+    pub fn as_ref(&self) -> BodyRef<'_>
         ensures { result ≡ self.now }
     {
-        Body::of(self.bytes()).unwrap()
+        BodyRef(self.bytes())
     }
 }
 
-/// The bytes of a packet: at most 1,152. Contracts see it as its bytes.
-#[derive(Drop, Debug)]
-pub struct PacketBytes(ArrayVec<u8, MOST_PACKET>);
+/// The bytes of a packet: at most 1,152, and room for as many. Contracts see it as its bytes.
+#[derive(Drop)]
+pub struct PacketBytes(Vec<u8>);
 
 impl Model for PacketBytes {
-    ghost use Rattle.std.specs.Prelude.{ℕ, List, ◌≤◌, length};
+    ghost use Rattle.std.specs.Prelude.{ℕ, List, ◌≤◌, length, vec_capacity};
     ghost use Rattle.am_base.specs.Most.{most_packet};
 
     ghost Value = { List ℕ };
 
     ghost view = { λ b. b.0.items };
 
-    ghost invariant = { λ b. length b.0.items ≤ most_packet };
-}
-
-impl Default for PacketBytes {
-    ghost is_default = { λ bytes. bytes ≡ [] };
-
-    fn default() -> PacketBytes {
-        PacketBytes(ArrayVec::new())
-    }
+    ghost invariant = { λ b. (length b.0.items ≤ most_packet) × (most_packet ≤ vec_capacity b.0) };
 }
 
 impl PacketBytes {
+    /// No bytes yet. It is an error where there is no memory for those of any packet.
+    pub fn new(alloc: Global) -> Result<PacketBytes, AllocError>
+        ensures { IfOk result (λ b. b ≡ []) }
+    {
+        Ok(PacketBytes(Vec::with_capacity(alloc, MOST_PACKET)?))
+    }
+
     /// The bytes.
     pub fn bytes(&self) -> &[u8]
         ensures value { result.now ≡ self.now }
@@ -149,6 +205,15 @@ impl PacketBytes {
         requires { length self.old + length bytes.now ≤ most_packet }
         ensures { self.new ≡ self.old ++ bytes.now }
     {
-        let _ = self.0.try_extend_from_slice(bytes);
+        let _ = self.0.extend_from_slice(bytes);
+    }
+
+    /// The bytes alone, without the room behind them.
+    pub fn into_bytes(self) -> Vec<u8>
+        ensures { result.items ≡ self }
+    {
+        let mut bytes = self.0;
+        bytes.shrink_to_fit();
+        bytes
     }
 }

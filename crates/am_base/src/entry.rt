@@ -1,8 +1,11 @@
 ghost use Rattle.std.specs.Prelude.{◌≡◌};
+ghost use Rattle.am_base.specs.declared.entry.Entry.TheVariants as entries;
+ghost use Rattle.am_base.specs.Entries.{entry_of};
 
-use crate::body::Body;
+use crate::body::{Body, BodyRef};
 use crate::name::{Name, Stamp};
 use crate::names::Names;
+use std::marker::Model;
 
 /// An entry of a group's list (docs/PROTOCOL.md, "The list").
 #[derive(Drop, Debug)]
@@ -36,19 +39,141 @@ impl Default for Entry {
 }
 
 impl Entry {
+    /// The entry where it stands.
+    pub fn as_ref(&self) -> EntryRef<'_>
+        ensures { result ≡ self.now }
+    {
+        EntryRef::of(match self {
+            Entry::Data { from, req, body } => EntryParts::Data {
+                from: *from,
+                req: *req,
+                body: body.as_ref(),
+            },
+            Entry::Join(name) => EntryParts::Join(*name),
+            Entry::Leave(name) => EntryParts::Leave(*name),
+            Entry::View {
+                stamp,
+                members,
+                resilience,
+            } => EntryParts::View {
+                stamp: *stamp,
+                members: *members,
+                resilience: *resilience,
+            },
+        })
+    }
+
     /// The same entry. It takes no memory.
     pub fn copy(&self) -> Entry
         ensures { result ≡ self.now }
     {
-        match self {
-            Entry::Data { from, req, body } => Entry::Data {
+        self.as_ref().to_entry()
+    }
+}
+
+/// What an entry is, with a body where it stands.
+#[derive(Drop, Debug)]
+pub enum EntryParts<'a> {
+    /// A send of a member: its request number, from 1, and its body.
+    Data {
+        from: Name,
+        req: u32,
+        body: BodyRef<'a>,
+    },
+    /// A name becomes a member.
+    Join(Name),
+    /// A member goes.
+    Leave(Name),
+    /// A view begins.
+    View {
+        stamp: Stamp,
+        members: Names,
+        resilience: u8,
+    },
+}
+
+/// An entry where it stands: among a packet's bytes, or in a list. Contracts see it as the entry.
+#[derive(Drop, Debug)]
+pub struct EntryRef<'a> {
+    parts: EntryParts<'a>,
+}
+
+impl<'a> Model for EntryRef<'a> {
+    ghost use Rattle.am_base.specs.declared.entry.Entry.{Entry};
+
+    ghost Value = { Entry };
+
+    ghost use Rattle.am_base.specs.Entries.{entry_of};
+
+    ghost view = { λ e. entry_of e.parts };
+}
+
+impl<'a> EntryRef<'a> {
+    /// The entry of these parts.
+    pub fn of(parts: EntryParts<'a>) -> EntryRef<'a>
+        ensures { result ≡ entry_of parts.entry }
+    {
+        EntryRef { parts }
+    }
+
+    /// A Join of a name.
+    pub fn join(name: Name) -> EntryRef<'a>
+        ensures { result ≡ entries.Join name }
+    {
+        EntryRef::of(EntryParts::Join(name))
+    }
+
+    /// A Leave of a name.
+    pub fn leave(name: Name) -> EntryRef<'a>
+        ensures { result ≡ entries.Leave name }
+    {
+        EntryRef::of(EntryParts::Leave(name))
+    }
+
+    /// Its parts.
+    pub fn parts(&self) -> &EntryParts<'a>
+        ensures { entry_of result.now ≡ self.now }
+    {
+        &self.parts
+    }
+
+    /// The same entry, where it stands.
+    pub fn again(&self) -> EntryRef<'a>
+        ensures { result ≡ self.now }
+    {
+        EntryRef::of(match &self.parts {
+            EntryParts::Data { from, req, body } => EntryParts::Data {
                 from: *from,
                 req: *req,
-                body: body.copy(),
+                body: body.again(),
             },
-            Entry::Join(name) => Entry::Join(*name),
-            Entry::Leave(name) => Entry::Leave(*name),
-            Entry::View {
+            EntryParts::Join(name) => EntryParts::Join(*name),
+            EntryParts::Leave(name) => EntryParts::Leave(*name),
+            EntryParts::View {
+                stamp,
+                members,
+                resilience,
+            } => EntryParts::View {
+                stamp: *stamp,
+                members: *members,
+                resilience: *resilience,
+            },
+        })
+    }
+
+    /// The same entry in a place of its own. It takes no memory.
+    pub fn to_entry(&self) -> Entry
+        ensures { result ≡ self.now }
+    {
+        match &self.parts {
+            EntryParts::Data { from, req, body } => Entry::Data {
+                from: *from,
+                req: *req,
+                body: body.to_body(),
+            },
+            EntryParts::Join(name) => Entry::Join(*name),
+            EntryParts::Leave(name) => Entry::Leave(*name),
+            EntryParts::View {
                 stamp,
                 members,
                 resilience,

@@ -9,7 +9,8 @@ use am_base::items::Items;
 use am_base::name::{Name, Stamp};
 use am_base::names::Names;
 use am_base::outcome::Outcome;
-use am_codec::{decode, encode};
+use am_decoding::decode;
+use am_encoding::encode;
 use am_group::event::{Act, By, Event, Part, Record};
 use am_group::journal::Journal;
 use am_letter::letter::Letter;
@@ -40,11 +41,16 @@ fn decode_many(bytes: &mut [u8], count: u32) -> u64 {
 }
 
 /// Encodes two packets in turn, so many times.
-fn encode_many(first: &Packet, second: &Packet, count: u32) -> u64
+fn encode_many(
+    alloc: Global,
+    first: &Packet,
+    second: &Packet,
+    count: u32,
+) -> Result<u64, AllocError>
     requires first { IsWithin first.now }
     requires second { IsWithin second.now }
 {
-    let mut written = PacketBytes::default();
+    let mut written = PacketBytes::new(alloc)?;
     let mut sum = 0u64;
     for i in 0..count {
         if i % 2 == 0 {
@@ -56,7 +62,7 @@ fn encode_many(first: &Packet, second: &Packet, count: u32) -> u64
             sum = sum.wrapping_add(u64::from(*last));
         }
     }
-    sum
+    Ok(sum)
 }
 
 /// A letter for these names.
@@ -131,15 +137,15 @@ fn main(rt: HostRuntime) -> io::Result<()> {
         let read = decode_many(&mut bytes, count);
         let decoding = start.elapsed(&rt)?.as_nanos() / u128::from(count);
         if 0 < asked {
-            println!(rt; "am_codec decode {what}: {decoding} ns ({read})")?;
+            println!(rt; "proved   decode {what}: {decoding} ns ({read})")?;
         }
         bytes.truncate(total);
         if let (Ok(first), Ok(second)) = (decode(&bytes), decode(&bytes)) {
             let start = Instant::now(&rt)?;
-            let written = encode_many(&first, &second, count);
+            let written = encode_many(rt.alloc(), &first, &second, count)?;
             let encoding = start.elapsed(&rt)?.as_nanos() / u128::from(count);
             if 0 < asked {
-                println!(rt; "am_codec encode {what}: {encoding} ns ({written})")?;
+                println!(rt; "proved   encode {what}: {encoding} ns ({written})")?;
             }
         }
     }

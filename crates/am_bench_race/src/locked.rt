@@ -1,11 +1,11 @@
 use am_base::name::Name;
 use am_base::outcome::Outcome;
 use am_calls::ready::may_take;
+use am_chooser::chooser::Chooser;
+use am_chooser::progress::Progress;
 use am_group::event::{Act, Event};
 use am_group::plan::{RacePlan, ThreadPlan};
 use am_node::node::Node;
-use am_pump::chooser::Chooser;
-use am_pump::progress::Progress;
 use am_world::world::{World, WorldRefusal};
 use std::alloc::Global;
 use std::sync::{Mutex, Wait};

@@ -5,7 +5,7 @@ ghost use Rattle.std.specs.Prelude.{◌≡◌, ◌≤◌, [], length, option_map
 ghost use Rattle.std.specs.List.{list_any};
 ghost use Rattle.am_bodies.specs.Bodies.{is_of, find_body, keep_body, drop_bodies};
 
-use am_base::body::Body;
+use am_base::body::{Body, BodyRef};
 use am_base::name::Name;
 use arrayvec::ArrayVec;
 use std::marker::Model;
@@ -82,7 +82,7 @@ impl Pool {
     }
 
     /// Keeps a body, unless one of the same send is there; a full pool gives up its oldest.
-    pub fn keep(&mut self, from: Name, req: u32, body: &Body)
+    pub fn keep(&mut self, from: Name, req: u32, body: &BodyRef)
         ensures value { self.new ≡ keep_body from req body.now self.old }
         ensures few { length self.new ≤ 16 }
     {
@@ -92,7 +92,7 @@ impl Pool {
         let kept = KeptBody {
             from,
             req,
-            body: body.copy(),
+            body: body.to_body(),
         };
         if self.bodies.is_full() {
             self.bodies.remove(0);
@@ -121,12 +121,12 @@ mod tests {
         let one = Name::of_byte(1);
         let body = Body::of(b"0123").unwrap_or(Body::default());
         for req in 1..17 {
-            pool.keep(one, req, &body);
+            pool.keep(one, req, &body.as_ref());
         }
         assert!(rt; pool.find(one, 1).is_some());
-        pool.keep(Name::of_byte(2), 1, &Body::default());
+        pool.keep(Name::of_byte(2), 1, &Body::default().as_ref());
         assert!(rt; pool.find(one, 1).is_none());
-        pool.keep(one, 2, &Body::default());
+        pool.keep(one, 2, &Body::default().as_ref());
         for (req, there) in [(2, true), (16, true), (17, false)] {
             let found = pool.find(one, req);
             assert_eq!(rt; found.is_some(), there, "at {req}");

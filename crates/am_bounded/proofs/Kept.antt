@@ -11,7 +11,7 @@ use Rattle.am_sender.specs.declared.OwnSend.{OwnSend}
 use Rattle.am_model.specs.Node.{Node, Ballot, top, has_room, is_within_bound, is_sequencer, push_entry, trim_up_to, waiting}
 use Rattle.am_model.specs.Refresh.{advance, lead, refresh, accepted_at, settle_at, settle_waiting, settle, refresh_at_end}
 use Rattle.am_model.specs.Ballots.{overtake, with_promise}
-use Rattle.am_model.proofs.Greatest.{split}
+use Rattle.am_base.proofs.Greatest.{split}
 
 -- a ballot hasn't given up its own coordinator
 abbrev pub HasItself : ℕ → Option Ballot → Type 0

@@ -3,7 +3,7 @@ use Rattle.std.proofs.Common.{ℕ, ◌==◌, Bool, true, false, if◌then◌else
 use Rattle.am_base.specs.Founding.{Rules}
 use Rattle.am_base.specs.Names.{has}
 use Rattle.am_model.specs.Node.{Node, set_at, founder, stranger}
-use Rattle.am_model.specs.World.{World, start, with_record, with_step}
+use Rattle.am_play.specs.World.{World, start, with_record, with_step}
 use Rattle.am_effects.specs.Events.{actor, idles, stops, returns, steps}
 use Rattle.am_effects.proofs.Runs.{along, EachKeeps, runs_keep}
 use Rattle.am_bounded.specs.Claim.{BoundedHolds}

@@ -2,7 +2,7 @@
 use Rattle.std.specs.Prelude.{List}
 use Rattle.am_base.specs.Founding.{Rules, MayFound}
 use Rattle.am_group.specs.declared.event.Event.{Event}
-use Rattle.am_model.specs.Claims.{Bounded}
+use Rattle.am_play.specs.Claims.{Bounded}
 
 -- Each node of every run of every founding.
 abbrev pub BoundedHolds : Type 0

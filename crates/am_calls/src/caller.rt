@@ -1,36 +1,15 @@
 ghost use Rattle.std.specs.Prelude.{◌≡◌, ◌<◌, [], ◌∷◌};
 ghost use Rattle.am_wire.specs.declared.rule.Key.TheVariants.{Caller as CallerKey};
 ghost use Rattle.am_wire.specs.Passes.{fresh};
-ghost use Rattle.am_calls.specs.Callings.{HasMade, luck_after};
-ghost use Rattle.am_calls.specs.Going.{by_of};
-ghost use Rattle.am_calls.specs.Lawful.{terms_of};
+ghost use Rattle.am_races.specs.Callings.{HasMade, luck_after};
+ghost use Rattle.am_races.specs.Lawful.{terms_of};
 
 use crate::naming::Racing;
-use am_group::event::{By, Part};
+use am_chooser::chooser::Chooser;
 use am_group::plan::RacePlan;
-use am_pump::chooser::Chooser;
+use am_races::call::Tag;
 use am_wire::wire::Share;
 use std::marker::{Model, PhantomData};
-
-/// Which call it is: whose, and the number of the call.
-#[derive(Clone, Copy, PartialEq, Eq, Debug)]
-pub struct Tag {
-    pub caller: u32,
-    pub call: u32,
-}
-
-impl Tag {
-    /// The tag of a record of the call, of this part.
-    pub fn with(self, part: Part) -> By
-        ensures { result ≡ by_of self part }
-    {
-        By {
-            caller: self.caller,
-            call: self.call,
-            part,
-        }
-    }
-}
 
 /// What a caller acts with: its share, and its chooser, which stands behind the words that its turns drew.
 #[derive(Drop)]
@@ -63,7 +42,7 @@ pub struct Caller<N: Racing> {
 }
 
 impl<N: Racing> Model for Caller<N> {
-    ghost use Rattle.am_calls.specs.Callings.{Calling, IsHand, HasMade};
+    ghost use Rattle.am_races.specs.Callings.{Calling, IsHand, HasMade};
     ghost use Rattle.std.specs.Prelude.{◌≡◌};
 
     ghost Value = { Calling };

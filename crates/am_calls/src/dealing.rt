@@ -2,8 +2,8 @@ ghost use Rattle.std.specs.Prelude.{◌≡◌, ◌<◌, ◌≤◌, [], ◌∷◌
 ghost use Rattle.am_wire.specs.declared.rule.Key.TheVariants.{Place};
 ghost use Rattle.am_wire.specs.Keys.{place_keys, caller_keys};
 ghost use Rattle.am_wire.specs.Passes.{fresh};
-ghost use Rattle.am_calls.specs.Lawful.{terms_of};
-ghost use Rattle.am_calls.specs.Ran.{fresh_callers, HasPlaces, IsIn};
+ghost use Rattle.am_races.specs.Lawful.{terms_of};
+ghost use Rattle.am_races.specs.Ran.{fresh_callers, HasPlaces, IsIn};
 
 use crate::caller::Caller;
 use crate::naming::{RaceLaw, Racing};

@@ -1,15 +1,12 @@
-//! The calls of a race's threads: what they answer, and which journals they leave.
+//! The calls of a race's threads, at their nodes.
 #![tactic(auto)]
 
-pub mod answer;
 pub mod caller;
 mod dealing;
 pub mod gate;
 pub mod kernels;
-pub mod laws;
 pub mod naming;
 pub mod node_box;
-pub mod outcomes;
 pub mod plans;
 pub mod race;
 pub mod ready;

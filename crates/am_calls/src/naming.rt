@@ -1,5 +1,5 @@
 ghost use Rattle.std.specs.Prelude.{[]};
-ghost use Rattle.am_calls.specs.Lawful.{IsLawful};
+ghost use Rattle.am_races.specs.Lawful.{IsLawful};
 
 use am_wire::Law;
 use std::marker::Brand;
@@ -27,7 +27,7 @@ impl Racing for Brand {
 pub struct RaceLaw;
 
 impl Law for RaceLaw {
-    ghost use Rattle.am_calls.specs.Lawful.{IsLawful};
+    ghost use Rattle.am_races.specs.Lawful.{IsLawful};
 
     ghost next = { IsLawful };
 }

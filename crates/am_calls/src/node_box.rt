@@ -1,8 +1,8 @@
 ghost use Rattle.std.specs.Prelude.{◌≡◌, ℕ, ◌<◌, ◌≤◌, [], ◌∷◌, None, Some, length, IfOk, IfErr, IfSome, IfNone, OnOk, OnErr, Option, true, false};
 ghost use Rattle.std.specs.Option.{option_copied};
 ghost use Rattle.am_base.specs.Most.{most_events};
-ghost use Rattle.am_model.specs.World.{first_node};
-ghost use Rattle.am_node.specs.Info.{info_of};
+ghost use Rattle.am_play.specs.World.{first_node};
+ghost use Rattle.am_info.specs.Info.{info_of};
 ghost use Rattle.am_node.specs.Stands.{state_of};
 ghost use Rattle.am_group.specs.declared.event.Record.{Record};
 ghost use Rattle.am_wire.specs.declared.rule.Key.TheVariants.{Place, Caller as CallerKey};
@@ -10,49 +10,42 @@ ghost use Rattle.am_wire.specs.declared.wire.WireRefusal.TheVariants as refusals
 ghost use Rattle.am_wire.specs.Seats.{GoesOn};
 ghost use Rattle.am_wire.specs.Passes.{Sees, fresh};
 ghost use Rattle.am_wire.specs.Stops.{has_stopped};
-ghost use Rattle.am_calls.specs.Boxes.{what_of, MayAct, IsShareOf, IsTurn, Acted, IsRefused, Looks, refusal_answer, Hears, GivesUp, node_by, heard_in, lost_in, Picked, is_turn_act, Found, event_at, turn_by};
-ghost use Rattle.am_calls.specs.Callings.{IsHand, luck_after};
-ghost use Rattle.am_calls.specs.Going.{end_act, end_part, luck_behind, is_asked, ToldBy, Asked, IsCame, EndTells, Began, HasSpent, HasEnded, HasLooked, WasRefused, Meets};
-ghost use Rattle.am_calls.specs.Plans.{is_call};
-ghost use Rattle.am_calls.specs.Ready.{is_ready};
-ghost use Rattle.am_calls.specs.Tags.{of_call, own_of, is_turn_part};
-ghost use Rattle.am_pump.specs.Choices.{act_of};
+ghost use Rattle.am_races.specs.Boxes.{what_of, MayAct, IsShareOf, IsTurn, Acted, IsRefused, Looks, refusal_answer, Hears, GivesUp, node_by, heard_in, lost_in, Picked, is_turn_act, Found, event_at, turn_by};
+ghost use Rattle.am_races.specs.Callings.{IsHand, luck_after};
+ghost use Rattle.am_races.specs.Going.{end_act, end_part, luck_behind, is_asked, ToldBy, Asked, IsCame, EndTells, Began, HasSpent, HasEnded, HasLooked, WasRefused, Meets};
+ghost use Rattle.am_races.specs.Plans.{is_call};
+ghost use Rattle.am_races.specs.Ready.{is_ready};
+ghost use Rattle.am_races.specs.Tags.{of_call, own_of, is_turn_part};
+ghost use Rattle.am_chooser.specs.Choices.{act_of};
 ghost use Rattle.am_group.specs.declared.event.Act.TheVariants as acts;
-ghost use Rattle.am_calls.specs.Lawful.{IsSent, plan_by, terms_of};
-ghost use Rattle.am_calls.specs.Turns.{waits_in_vain, words_drawn, is_turn};
+ghost use Rattle.am_races.specs.Lawful.{IsSent, plan_by, terms_of};
+ghost use Rattle.am_races.specs.Turns.{waits_in_vain, words_drawn, is_turn};
 
-use crate::answer::Answer;
-use crate::caller::{Hand, Tag};
+use crate::caller::Hand;
 use crate::gate::Gate;
 use crate::naming::{RaceLaw, Racing};
-use crate::outcomes::{is_take, request_in};
-use crate::ready::{Came, is_ready_after, may_take, round_in};
-use crate::steps::{
+use crate::ready::{is_ready_after, may_take, round_in};
+use crate::steps::step;
+use am_answers::acts::{
     Room, blank, copy_into, cursor_after, heard_by, last_after, least_of_both, lost_by, room_for,
-    step, stops_by,
+    stops_by,
 };
+use am_answers::outcomes::{is_take, request_in};
 use am_base::NoMemory;
 use am_base::boxed::Boxed;
 use am_base::name::Name;
 use am_base::outcome::Outcome;
+use am_chooser::chooser::{Choice, Chooser};
 use am_group::event::{Act, By, Part, Record};
+use am_info::info::Info;
 use am_letter::letter::LetterCopy;
-use am_node::info::Info;
 use am_node::node::Node;
-use am_pump::chooser::{Choice, Chooser};
+use am_races::answer::Answer;
+use am_races::call::{Came, Looked, Tag};
 use am_wire::wire::{Pass, Share, Wire, WireRefusal};
 use std::alloc::Global;
 use std::marker::{Model, PhantomData};
 use std::sync::Wait;
-
-/// What a look at a node did.
-#[derive(Drop)]
-pub enum Looked {
-    /// A turn, of which this came.
-    Turn(Outcome),
-    /// The end of the call: its check, or the act of a receive.
-    End(Outcome),
-}
 
 /// A turn: what the node does, the letter that it hears, and the number of the letter that it lost, or 0.
 #[derive(Drop)]
@@ -79,7 +72,7 @@ pub struct NodeBox<N: Racing> {
 
 impl<N: Racing> Model for NodeBox<N> {
     ghost use Rattle.am_node.specs.Stands.{state_of};
-    ghost use Rattle.am_calls.specs.Boxes.{Boxed, IsBox};
+    ghost use Rattle.am_races.specs.Boxes.{Boxed, IsBox};
 
     ghost Value = { Boxed };
 

@@ -1,14 +1,13 @@
 ghost use Rattle.std.specs.List.{list_all};
 ghost use Rattle.std.specs.Prelude.{◌≡◌, ◌≤◌, true, IfOk, Some, map, length, slice_get, All};
 ghost use Rattle.am_base.specs.Most.{most_events};
-ghost use Rattle.am_calls.specs.Lawful.{terms_of};
-ghost use Rattle.am_calls.specs.Legal.{IsLegalWithTags};
-ghost use Rattle.am_calls.specs.Plans.{calls_of, is_call, MayRace, ArePlayed};
+ghost use Rattle.am_races.specs.Lawful.{terms_of};
+ghost use Rattle.am_races.specs.Legal.{IsLegalWithTags};
+ghost use Rattle.am_races.specs.Plans.{calls_of, is_call, MayRace, ArePlayed};
 ghost use Rattle.am_wire.specs.Keys.{place_keys, caller_keys};
 ghost use Rattle.am_wire.specs.Passes.{fresh};
-ghost use Rattle.am_calls.specs.Ran.{fresh_caller, fresh_callers, numbers_of, HasRun, ends_thread, first_refusal};
+ghost use Rattle.am_races.specs.Ran.{fresh_caller, fresh_callers, numbers_of, HasRun, ends_thread, first_refusal};
 
-use crate::answer::Answer;
 use crate::caller::Caller;
 use crate::gate::Gate;
 use crate::kernels::Kernels;
@@ -16,6 +15,7 @@ use crate::naming::{RaceLaw, Racing};
 use am_base::NoMemory;
 use am_group::journal::Journal;
 use am_group::plan::{RacePlan, ThreadPlan};
+use am_races::answer::Answer;
 use am_wire::Terms;
 use am_wire::wire::{Pass, Share, Wire, WireRefusal};
 use std::alloc::Global;

@@ -1,24 +1,17 @@
 ghost use Rattle.std.specs.Prelude.{◌≡◌};
-ghost use Rattle.am_model.specs.Group.{has_log};
-ghost use Rattle.am_model.specs.World.{has_departed};
+ghost use Rattle.am_model.specs.Node.{has_log, has_departed};
 ghost use Rattle.am_node.specs.Stands.{state_of};
-ghost use Rattle.am_calls.specs.Ready.{invite_round, round_in, is_ended, is_sent, is_ready_after, may_take};
+ghost use Rattle.am_races.specs.Ready.{invite_round, round_in, is_ended, is_sent, is_ready_after, may_take};
 
-use crate::outcomes::ballot_answer;
+use am_answers::outcomes::ballot_answer;
 use am_base::outcome::Outcome;
 use am_group::event::Act;
+use am_info::info::BallotEnd;
 use am_letter::letter::Letter;
 use am_model::status::Status;
-use am_node::info::BallotEnd;
 use am_node::node::Node;
 use am_packet::packet::Packet;
-
-/// What came of a call's own act: its outcome, and the round of the ballot that it began, 0 where it began none.
-#[derive(Drop)]
-pub struct Came {
-    pub outcome: Outcome,
-    pub round: u32,
-}
+use am_races::call::Came;
 
 /// The round of a packet that is an Invite.
 fn invite_round(packet: &Packet) -> Option<u32>

@@ -41,7 +41,8 @@ grows_on k law (accepts {s = s} i n a b) = record {
   chosen = λ x h. refl;
   complete = λ x h. h;
 }
-grows_on k law (learns {s = s} i image_of acc a b c d e f g) = record { group = begins_refl s.group; decided = λ x h. h; chosen = λ x h. refl; complete = λ x h. h }
+grows_on k law (learns {s = s} i image_of acc a b c d e f g) = record
+    { group = begins_refl s.group; decided = λ x h. h; chosen = λ x h. refl; complete = λ x h. h }
 grows_on k law (begins {s = s} i a b c d) = record { group = begins_refl s.group; decided = λ x h. h; chosen = λ x h. refl; complete = λ x h. h }
 grows_on k law (raises {s = s} i stamp a b) = record { group = begins_refl s.group; decided = λ x h. h; chosen = λ x h. refl; complete = λ x h. h }
 grows_on k law (shows {s = s} i a b c d e) = record { group = begins_refl s.group; decided = λ x h. h; chosen = λ x h. refl; complete = λ x h. h }

@@ -2,3 +2,4 @@ pub mod Prefixes
 pub mod Rows
 pub mod Members
 pub mod Order
+pub mod Requests

@@ -12,7 +12,8 @@ use Rattle.am_base.specs.Names.{has, place_of, life_of}
 use Rattle.am_base.specs.Lists.{blank_row, blank, after, fits, fold, AllFit, members_of, member_life}
 use Rattle.am_chain_lists.specs.Whole.{Begins, IsGood, AllSmall, SmallName, image_of, mem}
 use Rattle.am_chain_lists.proofs.Prefixes.{begins_refl, begins_more, begins_trans, push_next}
-use Rattle.am_chain_lists.proofs.Rows.{row_at, In, Past, Was, Spares, by_cases, Lasting, was_lasting, past_lasting, mod16, long_after, lasts_after, not_both, blank_joined}
+use Rattle.am_chain_lists.proofs.Rows.{row_at, In, Past, Was, Spares, by_cases, Lasting, was_lasting, past_lasting, mod16, long_after, lasts_after, not_both}
+use Rattle.am_chain_lists.proofs.Rows.{blank_joined}
 use Rattle.am_chain_lists.proofs.Rows.{in_after, in_viewed, viewed_member, out_after}
 
 pub fold_append : (image : Image) (n : ℕ) (a b : List Entry) → fold image n (a ++ b) ≡ fold (fold image n a) (n + length a) b
@@ -95,8 +96,8 @@ lasts_fold : (P : Row → Type 0) (image : Image) (n : ℕ) (es : List Entry) (p
     → AllFit image n es → P (row_at image place) → P (row_at (fold image n es) place)
 unfolding fold AllFit
 lasts_fold P image n [] place life k long low up f h = h
-lasts_fold P image n (e ∷ es) place life k long low up f h = lasts_fold P (after image n e) (n + 1) es place life k (long_after image n e long) low (omega arith) f.1
-    (lasts_after P image n e place life k long low up f.0 h)
+lasts_fold P image n (e ∷ es) place life k long low up f h = lasts_fold P (after image n e) (n + 1) es place life k (long_after image n e long) low
+    (omega arith) f.1 (lasts_after P image n e place life k long low up f.0 h)
 
 member_in : (r : Row) (life : ℕ) → 0 < life → (member_life r == life) ≡ true → In r life
 member_in r life pos h = by_cases (nat_lt 0 r.joined && (r.left == 0))

@@ -253,7 +253,8 @@ in_after image n (Leave who) name long f s h =
 in_after image n (View stamp members resilience) name long f s h = absurd s
 
 -- a View's members are the members after it
-viewed_in : (first : Bool) (n life given : ℕ) (r : Row) → 0 < n → 0 < life → (first ≡ true → r.joined ≡ 0) → In (row_after_view first n given r) life → given ≡ life
+viewed_in : (first : Bool) (n life given : ℕ) (r : Row) → 0 < n → 0 < life → (first ≡ true → r.joined ≡ 0) → In (row_after_view first n given r) life → given
+    ≡ life
 viewed_in true n life given r up pos free h = by_cases (given == 0)
     (λ t. let g : In r life = rw t at h in let j = g.joined in let z = free refl in absurd (omega arith))
     (λ f. let g : In (record { life = given; joined = 1; left = 0; last = 0 }) life = rw f at h in g.is)

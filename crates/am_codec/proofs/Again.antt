@@ -16,7 +16,7 @@ use Rattle.am_base.specs.Limits.{IsNumber}
 use Rattle.am_codec.specs.Limits.{IsWithin, HasParts, HasEntryParts, IsPacket}
 use Rattle.am_codec.specs.Spelling.{spelling, fields_of, sender_of, stamp_of, entry_bytes}
 use Rattle.am_codec.specs.Reading.{number_at, packet_at, fields_at, of_kind_at, reading, total_in}
-use Rattle.am_codec.proofs.Pieces.{length-rows_bytes}
+use Rattle.am_codec.proofs.Lengths.{length-rows_bytes}
 use Rattle.am_codec.proofs.Fields.{later, peek, number_again, report_again, stamp_again, set_again, resilience_again, flag_again}
 use Rattle.am_codec.proofs.Parts.{image_again, vote_again, entry_again}
 

@@ -14,7 +14,7 @@ use Rattle.am_codec.specs.Reading.{Read, ◌>>=◌, number_at, report_at, stamp_
 use Rattle.am_codec.specs.Reading.{entry_at, data_at, join_at, leave_at, view_at, view_fields_at, packet_at, fields_at}
 use Rattle.am_codec.specs.Faults.{Field, field, first_wrong, number_field, report_fields, set_field, resilience_field, flag_field, is_life, life_field}
 use Rattle.am_codec.specs.Faults.{row_fields, rows_fields, image_fields, vote_fields, entry_fields, kind_fields, packet_fields}
-use Rattle.am_codec.proofs.Fields.{passed, ok_is}
+use Rattle.am_codec.proofs.Fields.{number_is}
 
 -- reading fails exactly as its fields do
 abbrev pub Fails : {A : Type 0} → Read A → List Field → Type 0
@@ -71,10 +71,6 @@ either false r s fs gs first second = second
 number_fails : (bytes : List ℕ) (at : ℕ) → Fails (number_at bytes at) (number_field bytes at ∷ [])
 unfolding number_at
 number_fails bytes at = one _ at (big_number 4 (drop at bytes))
-
-number_is : (bytes : List ℕ) (at n : ℕ) → number_at bytes at ≡ Ok n → big_number 4 (drop at bytes) ≡ n
-unfolding number_at
-number_is bytes at n read = ok_is _ n (passed _ (Ok (big_number 4 (drop at bytes))) (BadField at) n read).1
 
 report_fails : (bytes : List ℕ) (at : ℕ) → Fails (report_at bytes at) (report_fields bytes at)
 unfolding report_at

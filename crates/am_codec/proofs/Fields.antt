@@ -39,6 +39,14 @@ pub chosen : {A : Type 0} (b : Bool) (r s : Read A) (y : A) → cond b r s ≡ O
 chosen true r s y e = inl (refl, e)
 chosen false r s y e = inr (refl, e)
 
+pub number_is : (bytes : List ℕ) (at n : ℕ) → number_at bytes at ≡ Ok n → big_number 4 (drop at bytes) ≡ n
+unfolding number_at
+number_is bytes at n read = ok_is _ n (passed _ (Ok (big_number 4 (drop at bytes))) (BadField at) n read).1
+
+pub resilience_is : (bytes : List ℕ) (at n : ℕ) → resilience_at bytes at ≡ Ok n → slice_index bytes at ≡ n
+unfolding resilience_at
+resilience_is bytes at n read = ok_is _ n (passed _ (Ok (slice_index bytes at)) (BadField at) n read).1
+
 -- ---- what was read stands there
 
 -- from one place to the next these bytes stand

@@ -1,5 +1,4 @@
-pub mod Rows
-pub mod Pieces
+pub mod Lengths
 pub mod Numbers
 pub mod Fields
 pub mod Parts

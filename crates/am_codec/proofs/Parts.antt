@@ -32,7 +32,7 @@ both_or_none true false life n d e = absurd cc
 both_or_none false true life n d e = absurd cc
 both_or_none false false life n d e = (ok_is life n e, refl)
 
-life_is : (bytes : List ℕ) (at joined n : ℕ) → life_at bytes at joined ≡ Ok n → (slice_index bytes at ≡ n) × (n ≤ 16) × (eqb n 0 ≡ eqb joined 0)
+pub life_is : (bytes : List ℕ) (at joined n : ℕ) → life_at bytes at joined ≡ Ok n → (slice_index bytes at ≡ n) × (n ≤ 16) × (eqb n 0 ≡ eqb joined 0)
 unfolding life_at
 life_is bytes at joined n read =
     let life = slice_index bytes at in

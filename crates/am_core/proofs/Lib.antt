@@ -3,3 +3,4 @@ pub mod Ends
 pub mod CoreLaws
 pub mod Ranges
 pub mod Lives
+pub mod Members

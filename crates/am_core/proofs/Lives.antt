@@ -10,16 +10,18 @@ use Rattle.am_base.specs.declared.image.Row.{Row}
 use Rattle.am_base.specs.declared.image.Image.{Image}
 use Rattle.am_base.specs.declared.entry.Entry.{Entry}
 use Rattle.am_base.specs.declared.entry.Entry.TheVariants.{Data, Join, Leave, View}
-use Rattle.am_base.specs.Names.{place_of, life_of, has}
+use Rattle.am_base.specs.Names.{place_of, life_of, has, union_of}
 use Rattle.am_base.specs.Stamps.{stamp_eq, no_stamp}
-use Rattle.am_base.specs.Lists.{Log, blank_row, is_blank, is_blank_row, at_place, member_life, members_of, members_at, row_after_view, with_row, after, fits, fold}
+use Rattle.am_base.specs.Lists.{Log, blank_row, is_blank, is_blank_row, at_place, member_life, members_of, members_at, row_after_view, with_row, after, fits}
+use Rattle.am_base.specs.Lists.{fold}
 use Rattle.am_base.specs.Lists.{AllFit, image_at, told_by, top_of}
-use Rattle.am_base.proofs.Places.{get_or-by_place, slice_index-by_place, length-by_place}
+use Rattle.am_base.proofs.Places.{get_or-by_place, slice_index-by_place, length-by_place, by_place_all}
 use Rattle.am_base.specs.Limits.{IsImage}
 use Rattle.am_core.specs.Kept.{IsKept, above}
 use Rattle.am_core.specs.Cores.{unions}
 use Rattle.am_core.proofs.Folds.{split, AllFit-drop}
 use Rattle.am_core.proofs.Ends.{end-self, end-above, end-told}
+use Rattle.am_core.proofs.CoreLaws.{unions_more}
 
 abbrev pub row_at : Image → ℕ → Row
 row_at image place = slice_index_or image.rows place blank_row
@@ -231,6 +233,21 @@ unions_least log from (suc more) place k h l u =
     (λ (s : k ≡ from + suc more). let t = ap (λ n. slice_index (members_at log n) place) s in omega arith)
     (λ (s : k < from + suc more). let a = unions_least log from more place k h l (omega arith) in omega arith)
     (eq-or-lt_of_le u)
+
+-- who is in the first set with no lesser life adds nothing to it
+union_within : (a b : List ℕ) → length a ≡ 16 → ((place : ℕ) → place < 16 → slice_index b place ≤ slice_index a place) → union_of a b ≡ a
+union_within a b long each = sym (by_place_all (λ place. max (slice_index a place) (slice_index b place)) a 0 long
+    (λ place h. let le = each place h in omega arith))
+
+-- where the members stay, the unions do
+pub unions_stay : (log : Log) (capacity from number : ℕ) → IsKept log capacity → log.start ≤ from → from ≤ number
+    → members_at log (number + 1) ≡ members_at log number → unions log from (number + 1 - from) ≡ unions log from (number - from)
+unions_stay log capacity from number is low h same =
+    let used = image_used log capacity from is in
+    unions_more log from number h ∙ union_within (unions log from (number - from)) (members_at log (number + 1))
+    (unions_long log from (number - from) used.places)
+    (λ place inside. let e = ap (λ m. slice_index m place) same in
+    let le = unions_least log from (number - from) place number inside h (omega arith) in omega arith)
 
 -- an entry fits what is told before it
 pub fit_at : (image : Image) (number k : ℕ) (es : List Entry) (e : Entry) → AllFit image number es → slice_get es k ≡ Some e

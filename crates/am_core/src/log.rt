@@ -65,9 +65,9 @@ pub trait Log {
         ensures within { IsRow result };
 
     /// What is told up to the base.
-    fn image_at_base(&self) -> Image
-        ensures value { result ≡ (list self.now).image }
-        ensures within { IsImage result };
+    fn image_at_base(&self) -> &Image
+        ensures value { result.now ≡ (list self.now).image }
+        ensures within { IsImage result.now };
 
     /// Whether an entry fits behind the last one.
     fn fits(&self, entry: &Entry) -> bool

@@ -1,5 +1,6 @@
-ghost use Rattle.std.specs.Prelude.{◌≡◌, ◌≤◌};
+ghost use Rattle.std.specs.Prelude.{◌≡◌, ◌≤◌, ◌<◌, ◌-◌, true};
 ghost use Rattle.am_base.specs.Most.{most_number};
+ghost use Rattle.am_base.specs.Lists.{top_of, members_at};
 
 use crate::log::Log;
 use am_base::entry::Entry;
@@ -51,11 +52,22 @@ impl<L: Log> Model for Core<L> {
     ghost invariant = { λ c. CoreKeeps (L.list c.log) (L.capacity c.log) c.rules c.promise c.acc c.taken };
 }
 
+/// Whether the entry of a number is a Data, which changes no member.
+#[tactic(auto, using(crate::proofs::Members::members_stay))]
+fn is_data<L: Log>(log: &L, number: u32) -> bool
+    requires low { (L.list log.now).start < number }
+    requires high { number ≤ top_of (L.list log.now) }
+    ensures { result ≡ true → members_at (L.list log.now) number
+        ≡ members_at (L.list log.now) (number - 1) }
+{
+    matches!(log.entry(number), Some(Entry::Data { .. }))
+}
+
 impl<L: Log> Core<L> {
-    ghost use Rattle.std.specs.Prelude.{◌+◌, ◌<◌, true, length};
+    ghost use Rattle.std.specs.Prelude.{◌+◌, length};
     ghost use Rattle.am_base.specs.Names.{has};
     ghost use Rattle.am_base.specs.Limits.{IsEntry};
-    ghost use Rattle.am_base.specs.Lists.{top_of, told_by, members_of, fits, with_entry};
+    ghost use Rattle.am_base.specs.Lists.{told_by, members_of, fits, with_entry};
     ghost use Rattle.am_core.specs.Cores.{Keeps, Adds, Sends, advance, since_accepted, trim_to, trim_list, IsInOrder};
 
     /// What is accepted goes on to what is told, as far as the list is stored; and who joined passes over what is
@@ -108,7 +120,9 @@ impl<L: Log> Core<L> {
     {
         let mut names = self.log.members_after(self.acc);
         for number in self.acc..self.log.top() {
-            names = names.union(self.log.members_after(number + 1));
+            if !is_data(&self.log, number + 1) {
+                names = names.union(self.log.members_after(number + 1));
+            }
         }
         names
     }

@@ -12,7 +12,7 @@ use Rattle.am_base.specs.Lists.{Log, told_by, at_place, members_of, member_life,
 use Rattle.am_base.proofs.Places.{slice_index-by_place, length-by_place}
 use Rattle.am_model.specs.Node.{Node, top, image_of, name_where, those, others, push_entry}
 use Rattle.am_model.specs.Refresh.{refresh_at_end}
-use Rattle.am_model.proofs.Greatest.{split}
+use Rattle.am_base.proofs.Greatest.{split}
 use Rattle.am_model.proofs.Sets.{size_cons}
 use Rattle.am_effects.proofs.Rests.{rests_at_end}
 use Rattle.am_effects.proofs.Says.{told_pushed}

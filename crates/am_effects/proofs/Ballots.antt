@@ -17,13 +17,13 @@ use Rattle.am_model.specs.Ballots.{with_promise, Verdict, need_of, best_of, is_w
 use Rattle.am_model.specs.Ballots.{next_stamp, new_ballot, begin, with_vote, newly_needed, keep_vote, without_voter, give_up}
 use Rattle.am_model.specs.Ticks.{viewed_by}
 use Rattle.am_model.specs.Calls.{reset_row, give_up_of, give_up_row}
-use Rattle.am_model.proofs.Greatest.{and_both}
+use Rattle.am_base.proofs.Greatest.{and_both}
 use Rattle.am_effects.specs.Causes.{Cause, calls}
 use Rattle.am_effects.specs.Looks.{HasLearned, Looks, finds_itself_out, waits, fetches_from_best, finds_too_few, finds_no_room, decides, MayBegin, BeginsBy}
 use Rattle.am_effects.specs.Looks.{by_reset, by_hand_over, MayLook, was_reset, was_handed, HasOpen, Balloting, as_it_is, without_one}
 use Rattle.am_effects.specs.Changes.{opens}
 use Rattle.am_effects.specs.Courses.{nothing_yet, and_then, looked}
-use Rattle.am_effects.specs.Letters.{invite, fetch, result, MayInvite, has_begun, for_ballot, MayTell, decided}
+use Rattle.am_effects.specs.Letters.{invite, fetch, result, has_begun, for_ballot, decided}
 use Rattle.am_effects.specs.Letters as letters
 use Rattle.am_effects.specs.Effects.{Answers}
 use Rattle.am_effects.proofs.Tests.{not_false, not_true}

@@ -17,9 +17,10 @@ use Rattle.am_model.specs.declared.status.Status.TheVariants as status
 use Rattle.am_model.specs.Node.{Node, Ballot, top, view, own_row, others, only_name, lowest_or_first, acts, has_room, is_member, is_asking, is_sequencer}
 use Rattle.am_model.specs.Node.{waiting, unsettled_count, push_entry}
 use Rattle.am_model.specs.Emit.{Plan, quiet, join_ask_of, leave_ask_of, hand_over_of, request_of, spread_of, bcast_of}
-use Rattle.am_model.specs.Calls.{everywhere_else, would_emit, hand_in, number_send, emit, with_queued, queue, give_out, ask_to_join, join_by, state_by, go, leave_now}
+use Rattle.am_model.specs.Calls.{everywhere_else, would_emit, hand_in, number_send, emit, with_queued, queue, give_out, ask_to_join, join_by, state_by, go}
+use Rattle.am_model.specs.Calls.{leave_now}
 use Rattle.am_model.specs.Calls.{leave_by, is_unfinished, ask_of, send_row, done_row, take_row, join_row, state_row, leave_row, ask_row}
-use Rattle.am_model.proofs.Greatest.{and_both}
+use Rattle.am_base.proofs.Greatest.{and_both}
 use Rattle.am_effects.specs.Causes.{Cause, calls}
 use Rattle.am_effects.specs.Changes.{numbers, own_send, queues, collects, takes, asks_to_join, asks_to_leave}
 use Rattle.am_effects.specs.Courses.{Course, nothing_yet, and_then}

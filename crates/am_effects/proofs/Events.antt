@@ -11,12 +11,12 @@ use Rattle.am_group.specs.declared.event.Act.TheVariants as act
 use Rattle.am_group.specs.declared.event.Event.{Event}
 use Rattle.am_group.specs.Addressed.{is_for}
 use Rattle.am_group.specs.Journals.{letter_at}
-use Rattle.am_model.specs.Node.{Node}
+use Rattle.am_model.specs.Node.{Node, has_departed}
 use Rattle.am_model.specs.Emit.{Step}
 use Rattle.am_model.specs.Step.{step, hear, hear_refusal}
 use Rattle.am_model.specs.Lengths.{packet_length}
-use Rattle.am_model.specs.World.{World, current, is_stopped, has_departed, does_event, gives_up, hears_letter, hear_cut, comes_back, acts_as, happens}
-use Rattle.am_model.specs.Claims.{heard_by}
+use Rattle.am_play.specs.World.{World, current, is_stopped, does_event, gives_up, hears_letter, hear_cut, comes_back, acts_as, happens}
+use Rattle.am_play.specs.Claims.{heard_by}
 use Rattle.am_effects.specs.Causes.{Cause, calls, hears, refuses}
 use Rattle.am_effects.specs.Effects.{Effect}
 use Rattle.am_effects.specs.Events.{actor, WasSentTo, IsCall, send, done, take, join, state, leave, reset, ask, give_up, tick, IsCause, Happens, idles, stops}
@@ -62,7 +62,8 @@ hears_cut w e keep p sent = one (nat_le (packet_length p) keep) (nat_lt keep 12)
     m : Node
     m = w.nodes (actor w e)
 
-    one : (whole none : Bool) → (c : Cause) × IsCause w (actor w e) e.act c × Effect m c (if whole then hear m p else if none then hear_refusal m 1 else hear_refusal m 5)
+    one : (whole none : Bool) → (c : Cause) × IsCause w (actor w e) e.act c
+        × Effect m c (if whole then hear m p else if none then hear_refusal m 1 else hear_refusal m 5)
     one true none = (hears p, sent, hearing_has_effects m p)
     one false true = (refuses, tt, refusing_has_effects m 1)
     one false false = (refuses, tt, refusing_has_effects m 5)

@@ -15,7 +15,7 @@ use Rattle.am_model.specs.Receiving.{spread_row}
 use Rattle.am_model.specs.Resets.{hand_over_row}
 use Rattle.am_model.specs.Hearing.{hears_member, hears_asking, hears_in_view, hears_sequencer, where_heard, hear_row}
 use Rattle.am_model.specs.Step.{read_row, row, step, hear, refuse, hear_refusal}
-use Rattle.am_model.proofs.Greatest.{and_both}
+use Rattle.am_base.proofs.Greatest.{and_both}
 use Rattle.am_effects.specs.Causes.{Cause, hears, refuses, by_request, by_spread, cause_of_read, cause_of}
 use Rattle.am_effects.specs.Looks.{by_reset, by_hand_over}
 use Rattle.am_effects.specs.Effects.{StepsHaveEffects, HearingHasEffects, RefusingHasEffects}

@@ -8,7 +8,7 @@ use Rattle.am_packet.specs.declared.packet.Packet.{Packet}
 use Rattle.am_packet.specs.Boxes.{Letter, letter_to, place_for, with_letter}
 use Rattle.am_packet.specs.Kinds.{kind_of}
 use Rattle.am_group.specs.Journals.{item_at}
-use Rattle.am_model.proofs.Greatest.{split}
+use Rattle.am_base.proofs.Greatest.{split}
 
 -- ---- an item
 

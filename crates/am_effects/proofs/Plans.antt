@@ -19,7 +19,7 @@ use Rattle.am_model.specs.declared.status.Status.TheVariants.{Departed}
 use Rattle.am_model.specs.Node.{Node, view, others, is_member, is_sequencer, has_room, with_report, push_entry}
 use Rattle.am_model.specs.Refresh.{refresh, refresh_at_end}
 use Rattle.am_model.specs.Emit.{Plan, quiet, telling, polling, and_telling, and_where, numbering, accept_of, tells_accepted, with_accept, finish}
-use Rattle.am_model.proofs.Greatest.{split, and_both}
+use Rattle.am_base.proofs.Greatest.{split, and_both}
 use Rattle.am_model.specs.Hearing.{hears_member}
 use Rattle.am_effects.specs.Causes.{Cause, calls, hears}
 use Rattle.am_effects.specs.Changes.{Change, refreshes, settles, takes_report, departs, looks, closes, Changes, unchanged, changed}
@@ -148,7 +148,8 @@ does_where R m c test p to packet h t = record {
   letters = λ n r. split (test n) (λ b. rw b (and_says m c n to (packet n) (p.letters n) (t n r b) (h.letters n r))) (λ b. rw b (h.letters n r));
 }
 
-pub does_numbering : (R : Node → Node → Type 0) (m : Node) (c : Cause) (p : Node) (e : Entry) (o : Outcome) (packet : Node → Packet) → Course c o m (push_entry p e)
+pub does_numbering : (R : Node → Node → Type 0) (m : Node) (c : Cause) (p : Node) (e : Entry) (o : Outcome) (packet : Node → Packet)
+    → Course c o m (push_entry p e)
     → Answered R m c (push_entry p e) (λ n. o) → Tells R m c (push_entry p e) (others p) packet → Does R m c (numbering p e o packet)
 does_numbering R m c p e o packet h a t = record {
   stays = refl;
@@ -220,8 +221,8 @@ row_let_go m c s v number is heard leaves =
 pub row_closing : (m : Node) (c : Cause) (p : Plan) (event : NodeEvent) → c ≡ calls event → Course c said.Departed m p.node → is_sequencer p.node ≡ true
     → p.node.leaving ≡ true
     → nat_lt 0 (size (others p.node)) ≡ false → has_room p.node ≡ true → view p.node ≡ view m
-    → size (others (refresh_at_end (push_entry p.node (Leave p.node.core.who)))) ≡ 0 → p.letters (refresh_at_end (push_entry p.node (Leave p.node.core.who))) ≡ []
-    → HasEffect m c (record p { node = push_entry p.node (Leave p.node.core.who); outcome = λ n. said.Departed; numbers = true; departs = true })
+    → size (others (refresh_at_end (push_entry p.node (Leave p.node.core.who)))) ≡ 0 → p.letters (refresh_at_end (push_entry p.node (Leave p.node.core.who)))
+    ≡ [] → HasEffect m c (record p { node = push_entry p.node (Leave p.node.core.who); outcome = λ n. said.Departed; numbers = true; departs = true })
 unfolding finish
 row_closing m c p event called comes leads leaves alone room viewed none quietly =
     let n = refresh_at_end (push_entry p.node (Leave p.node.core.who)) in

@@ -18,11 +18,12 @@ use Rattle.am_bodies.specs.Bodies.{is_of, keep_body}
 use Rattle.am_model.specs.Node.{Node, top, image_of, view, only_name, acts, is_member, is_asking, has_own_leave, is_within_bound, waiting, push_entry}
 use Rattle.am_model.specs.Emit.{quiet, ack_of, nack_of, fetch_of}
 use Rattle.am_model.specs.Sequencing.{row_at, if_risen}
-use Rattle.am_model.specs.Receiving.{spread_row, is_view, with_noted, acknowledges, bodies_after, body_of, store_fitting, store, receive_entry, bcast_row, data_of, order_row}
+use Rattle.am_model.specs.Receiving.{spread_row, is_view, with_noted, acknowledges, bodies_after, body_of, store_fitting, store, receive_entry, bcast_row}
+use Rattle.am_model.specs.Receiving.{data_of, order_row}
 use Rattle.am_model.specs.Receiving.{accept_row, answer_hold, hold_row}
 use Rattle.am_model.specs.Joining.{begin_list, ask_next, welcome_row, gone_row}
 use Rattle.am_model.specs.Hearing.{hears_member, hears_asking, hears_in_view, hears_sequencer}
-use Rattle.am_model.proofs.Greatest.{split, and_both}
+use Rattle.am_base.proofs.Greatest.{split, and_both}
 use Rattle.am_effects.specs.Causes.{Cause, hears, BringsFronts, with_entry, with_number, alone}
 use Rattle.am_effects.specs.Changes.{MayStore, Carries, whole_entry, by_number, MayBeWelcomed, keeps_body, notes, stores, begins_list}
 use Rattle.am_effects.specs.Courses.{Course, nothing_yet, and_then}
@@ -147,7 +148,8 @@ row_accept m s v base acc high poll heard =
     effect_if m c (nat_lt (top m) high && not (has_own_leave m)) _ _
     (λ t. effect_of m c _ (does_telling RestsWhole m c p (said.Gap (top m + 1)) (only_name s) nack_of (comes _) (λ n r. tt)
     (tells_nack m c p (only_name s) acting)))
-    (λ f. effect_of m c _ (does_where RestsWhole m c (λ n. poll) (record (quiet p said.Known) { outcome = if_risen m said.Known (λ n. said.Advanced n.core.acc) })
+    (λ f. effect_of m c _ (does_where RestsWhole m c (λ n. poll)
+    (record (quiet p said.Known) { outcome = if_risen m said.Known (λ n. said.Advanced n.core.acc) })
     (only_name s) ack_of
     (does_saying RestsWhole m c p said.Known (if_risen m said.Known (λ n. said.Advanced n.core.acc)) (λ n. comes _)
     (λ n r. split (nat_lt m.core.acc n.core.acc) (λ t. rw t tt) (λ g. rw g tt)))

@@ -16,10 +16,11 @@ use Rattle.am_model.specs.Node.{Node, Ballot, top, image_of, view, only_name, is
 use Rattle.am_model.specs.Emit.{Plan, quiet, ack_of, fetch_of, piece_of}
 use Rattle.am_model.specs.Calls.{is_unfinished}
 use Rattle.am_model.specs.Ballots.{with_promise, vote_of}
-use Rattle.am_model.specs.Resets.{invite_row, is_open, take_vote, vote_row, may_fetch, fetch_row, is_view_past, push_fetched, catch_up, decide_anew, fetches_from}
+use Rattle.am_model.specs.Resets.{invite_row, is_open, take_vote, vote_row, may_fetch, fetch_row, is_view_past, push_fetched, catch_up, decide_anew}
+use Rattle.am_model.specs.Resets.{fetches_from}
 use Rattle.am_model.specs.Resets.{piece_promised, piece_for, piece_row, hears_result, result_row}
 use Rattle.am_model.specs.Hearing.{hears_member, hears_asking}
-use Rattle.am_model.proofs.Greatest.{and_both}
+use Rattle.am_base.proofs.Greatest.{and_both}
 use Rattle.am_effects.specs.Causes.{Cause, hears}
 use Rattle.am_effects.specs.Looks.{HasOpen, with_more, as_it_is, was_fetched}
 use Rattle.am_effects.specs.Changes.{MayStore, without_ballot, for_ballot, invited, overtaken, told_result, promises, fetches, stores_view}

@@ -15,8 +15,8 @@ use Rattle.am_sender.specs.declared.OwnSend.{OwnSend}
 use Rattle.am_sender.specs.Sends as own
 use Rattle.am_model.specs.Node.{Node, image_of, view, is_member, acts, is_sequencer, push_entry, waiting}
 use Rattle.am_model.specs.Refresh.{advance, lead, refresh, accepted_at, settle_at, settle_waiting, settle, refresh_at_end}
-use Rattle.am_model.proofs.Folds.{fold_append}
-use Rattle.am_model.proofs.Greatest.{split}
+use Rattle.am_base.proofs.Folds.{fold_append}
+use Rattle.am_base.proofs.Greatest.{split}
 use Rattle.am_effects.specs.Letters.{HasSend, Stands}
 use Rattle.am_effects.proofs.Items.{get_front}
 

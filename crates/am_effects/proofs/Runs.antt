@@ -4,7 +4,7 @@ use Rattle.am_base.specs.declared.outcome.Outcome.{Outcome}
 use Rattle.am_group.specs.declared.event.Event.{Event}
 use Rattle.am_model.specs.Node.{Node}
 use Rattle.am_model.specs.Emit.{Step}
-use Rattle.am_model.specs.World.{World, with_record, with_step, happens, happen}
+use Rattle.am_play.specs.World.{World, with_record, with_step, happens, happen}
 use Rattle.am_effects.specs.Causes.{Cause}
 use Rattle.am_effects.specs.Changes.{Change, Changes, unchanged as no_change, changed}
 use Rattle.am_effects.specs.Effects.{Effect}

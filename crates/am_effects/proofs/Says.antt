@@ -17,8 +17,8 @@ use Rattle.am_sender.specs.Sends as own
 use Rattle.am_model.specs.Node.{Node, top, image_of, view, acts, is_member, is_sequencer, push_entry, waiting}
 use Rattle.am_model.specs.Emit.{entries_to_serve, put_all, request_of, spread_of, bcast_of, ack_of, nack_of}
 use Rattle.am_model.specs.Receiving.{is_view}
-use Rattle.am_model.proofs.Folds.{fold_append}
-use Rattle.am_model.proofs.Greatest.{split}
+use Rattle.am_base.proofs.Folds.{fold_append}
+use Rattle.am_base.proofs.Greatest.{split}
 use Rattle.am_effects.specs.Causes.{Cause}
 use Rattle.am_effects.specs.Letters.{HasSend, Stands, Says, request, spread, bcast, ack, nack}
 use Rattle.am_effects.proofs.Items.{find_get, get_last, get_take}
@@ -99,7 +99,8 @@ says_each m c n packet to number (e ∷ es) letters f h =
 
 -- a letter for each entry that stands above a number
 pub says_served : (m : Node) (c : Cause) (p n : Node) (packet : ℕ → Entry → Packet) (to : List ℕ) (low : ℕ) → m.core.base ≤ low → Rests p n
-    → ((k : ℕ) (e : Entry) → Stands n.core.log m.core.base k e → Says m c n to (packet k e)) → AllSay m c n (put_all packet to (low + 1) (entries_to_serve p low) [])
+    → ((k : ℕ) (e : Entry) → Stands n.core.log m.core.base k e → Says m c n to (packet k e))
+    → AllSay m c n (put_all packet to (low + 1) (entries_to_serve p low) [])
 says_served m c p n packet to low above r f =
     let skip = low - p.core.log.start in
     says_each m c n packet to (low + 1) (entries_to_serve p low) []

@@ -15,8 +15,9 @@ use Rattle.am_packet.specs.declared.packet.Packet.TheVariants as packet
 use Rattle.am_model.specs.Node.{Node, top, image_of, view, others, only_name, is_sequencer, has_room, report_fits, with_report, push_entry}
 use Rattle.am_model.specs.Emit.{Plan, quiet, polling, numbering, bcast_of, hold_of, welcome_of, gone_of}
 use Rattle.am_model.specs.Sequencing.{row_at, is_unknown, take_report, answer_request, request_row, if_risen, ack_row, serve_again, nack_row}
-use Rattle.am_model.specs.Joining.{with_admitted, number_join, asks_to_join, join_ask_row, may_go, let_go, and_gone, asks_to_leave, counts_report, leave_ask_row}
-use Rattle.am_model.proofs.Greatest.{split, and_both}
+use Rattle.am_model.specs.Joining.{with_admitted, number_join, asks_to_join, join_ask_row, may_go, let_go, and_gone, asks_to_leave, counts_report}
+use Rattle.am_model.specs.Joining.{leave_ask_row}
+use Rattle.am_base.proofs.Greatest.{split, and_both}
 use Rattle.am_effects.specs.Causes.{Cause, hears, BringsSend, BringsReport, with_send, by_ack, by_nack, by_leave_ask}
 use Rattle.am_effects.specs.Changes.{MayReport, takes_report, admits, numbers, asked_send, asked_join, asked_leave}
 use Rattle.am_effects.specs.Courses.{Course, nothing_yet, used_report, and_then}
@@ -87,7 +88,8 @@ pub row_request : (m : Node) (c : Cause) (s : ℕ) (v : Stamp) (report : Report)
     → HasEffect m c (request_row m s report req body by_order)
 unfolding request_row
 row_request m c s v report req body by_order from by spread =
-    let k : is_unknown m s ≡ false → not (report_fits m report) ≡ false → HasEffect m c (answer_request (take_report m s report) s req body by_order) = λ known f.
+    let k : is_unknown m s ≡ false → not (report_fits m report) ≡ false
+    → HasEffect m c (answer_request (take_report m s report) s req body by_order) = λ known f.
     row_requested m c (take_report m s report) s v report req body by_order
     (comes_reported m c s v report (with_send s v report req body by) (may_report m s v report from known (not_false _ f)))
     (leads_reported m s report from.leads) (unknown_reported m s report known) by spread in

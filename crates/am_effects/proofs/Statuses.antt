@@ -2,8 +2,7 @@
 use Rattle.std.proofs.Common.{◌≡◌, true, false, refl}
 use Rattle.am_model.specs.declared.status.Status.{Status}
 use Rattle.am_model.specs.declared.status.Status.TheVariants as status
-use Rattle.am_model.specs.Node.{is_member, is_asking}
-use Rattle.am_model.specs.Group.{has_log}
+use Rattle.am_model.specs.Node.{is_member, is_asking, has_log}
 
 -- a member has one
 pub logged : (s : Status) → is_member s ≡ true → has_log s ≡ true

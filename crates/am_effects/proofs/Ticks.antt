@@ -16,7 +16,7 @@ use Rattle.am_model.specs.Emit.{quiet, ack_of, invite_of, fetch_of, result_of}
 use Rattle.am_model.specs.Calls.{would_emit, emit, go}
 use Rattle.am_model.specs.Ticks.{tick_ballot, tick_promised, tick_member, put_off, behind_view, viewed_by, and_result, tick_sequencer, tick_acting, tick_with}
 use Rattle.am_model.specs.Ticks.{tick_by, tick_row}
-use Rattle.am_model.proofs.Greatest.{split}
+use Rattle.am_base.proofs.Greatest.{split}
 use Rattle.am_effects.specs.Causes.{Cause, calls}
 use Rattle.am_effects.specs.Courses.{nothing_yet}
 use Rattle.am_effects.specs.Looks.{HasOpen}
@@ -128,8 +128,8 @@ row_tick_sequencer m member lead =
       answer = d.answer;
       letters = λ n r. and_says m tick n (behind_view n) (result_of n (image_of n).view_number (viewed_by (entry_at n.core.log (image_of n).view_number))
           (image_of n).resilience) (e.letters n)
-          (result (behind_view n) (image_of n).view_number (viewed_by (entry_at n.core.log (image_of n).view_number)) refl refl (leads (leads_rests r ∙ same.0 ∙ lead)))
-          (d.letters n r);
+          (result (behind_view n) (image_of n).view_number (viewed_by (entry_at n.core.log (image_of n).view_number)) refl refl
+          (leads (leads_rests r ∙ same.0 ∙ lead))) (d.letters n r);
     } in
     effect_if m tick m.leaving (go p) p
     (λ t. row_go m tick p does.Tick refl h (comes_emit m tick m (waiting m) o (λ k. nothing_yet) refl) (λ x y z. tt) (quiet_last m o lead) same.3

@@ -17,7 +17,8 @@ use Rattle.am_sender.specs.declared.OwnSend.{OwnSend}
 use Rattle.am_sender.specs.Sends as own
 use Rattle.am_bodies.specs.Bodies.{keep_body}
 use Rattle.am_model.specs.declared.status.Status.TheVariants as status
-use Rattle.am_model.specs.Node.{Node, Ballot, top, image_of, view, own_row, others, is_member, is_sequencer, has_room, has_own_leave, is_within_bound, report_fits}
+use Rattle.am_model.specs.Node.{Node, Ballot, top, image_of, view, own_row, others, is_member, is_sequencer, has_room, has_own_leave, is_within_bound}
+use Rattle.am_model.specs.Node.{report_fits}
 use Rattle.am_model.specs.Node.{with_report, push_entry, trim_up_to, waiting, unsettled_count}
 use Rattle.am_model.specs.Refresh.{refresh, settle, refresh_at_end}
 use Rattle.am_model.specs.Ballots.{Verdict, with_promise, next_stamp, new_ballot}
@@ -100,7 +101,8 @@ pub data Change (c : Cause) (o : Outcome) : Node → Node → Type 0 where
   settles : {m : Node} → Change c o m (settle m)
   -- the sequencer takes a report, lets a joiner's begin, and numbers an entry
   takes_report : {m : Node} (s : ℕ) (v : Stamp) (report : Report) → BringsReport c s v report → MayReport m s v report → Change c o m (with_report m s report)
-  admits : {m : Node} (s : ℕ) (v : Stamp) → c ≡ hears (packet.JoinAsk s v) → is_sequencer m ≡ true → fits (image_of m) (Join s) ≡ true → Change c o m (with_admitted m s)
+  admits : {m : Node} (s : ℕ) (v : Stamp) → c ≡ hears (packet.JoinAsk s v) → is_sequencer m ≡ true → fits (image_of m) (Join s) ≡ true
+      → Change c o m (with_admitted m s)
   numbers : {m : Node} (e : Entry) → is_sequencer m ≡ true → has_room m ≡ true → Numbers c m e → Change c o m (push_entry m e)
   -- a member keeps a body that was spread, notes the sequencer's fronts, and stores an entry
   keeps_body : {m : Node} (s : ℕ) (v : Stamp) (report : Report) (req : ℕ) (body : List ℕ) → c ≡ hears (packet.Spread s v report req body)
@@ -137,8 +139,8 @@ pub data Change (c : Cause) (o : Outcome) : Node → Node → Type 0 where
   takes : {m : Node} (e : Entry) → c ≡ calls does.Take → o ≡ said.Took (m.core.taken + 1) e → is_member m.status ≡ true → (m.core.taken == m.core.acc) ≡ false
       → entry_at m.core.log (m.core.taken + 1) ≡ Some e → Change c o m (record m { core = record (m.core) { taken = m.core.taken + 1 } })
   asks_to_join : {m : Node} → c ≡ calls does.Join → m.status ≡ status.Stranger → Change c o m (record m { status = status.Asking })
-  asks_to_leave : {m : Node} → c ≡ calls does.Leave → m.status ≡ status.Member → m.leaving ≡ false → (nat_lt 0 (unsettled_count m) || is_unfinished m.ballot) ≡ false
-      → Change c o m (record m { leaving = true })
+  asks_to_leave : {m : Node} → c ≡ calls does.Leave → m.status ≡ status.Member → m.leaving ≡ false → (nat_lt 0 (unsettled_count m) || is_unfinished m.ballot)
+      ≡ false → Change c o m (record m { leaving = true })
   -- the last member, which is leaving, numbers its own Leave and departs
   closes : {m : Node} → is_sequencer m ≡ true → m.leaving ≡ true → nat_lt 0 (size (others m)) ≡ false → has_room m ≡ true
       → Change c o m (record (refresh_at_end (push_entry m (Leave m.core.who))) { status = status.Departed })

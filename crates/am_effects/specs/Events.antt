@@ -13,8 +13,9 @@ use Rattle.am_group.specs.declared.event.Event.{Event}
 use Rattle.am_group.specs.Addressed.{is_for}
 use Rattle.am_group.specs.Journals.{letter_at}
 use Rattle.am_model.specs.Emit.{Step}
-use Rattle.am_model.specs.World.{World, current, is_stopped, has_departed, with_record, with_step, lives_on, happens}
-use Rattle.am_model.specs.Claims.{heard_by}
+use Rattle.am_play.specs.World.{World, current, is_stopped, with_record, with_step, lives_on, happens}
+use Rattle.am_model.specs.Node.{has_departed}
+use Rattle.am_play.specs.Claims.{heard_by}
 use Rattle.am_effects.specs.Causes.{Cause, calls, hears, refuses}
 use Rattle.am_effects.specs.Effects.{Effect}
 

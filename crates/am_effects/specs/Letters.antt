@@ -42,8 +42,10 @@ pub record Stands (log : Log) (base number : ℕ) (e : Entry) : Type 0 where
 -- a joiner is welcomed where its Join is accepted: once it was numbered, or where it asks again, is a member, and hasn't stored it
 pub data MayWelcome (m : Node) (n : Node) (s : ℕ) : Type 0 where
   just_joined : (number : ℕ) → number ≡ top m + 1 → top n ≡ number → number ≤ n.core.acc → Stands n.core.log m.core.base number (Join s) → MayWelcome m n s
-  asks_again : n.core.log ≡ m.core.log → ((at_place (image_of m) s).life ≢ 0 → (at_place (image_of m) s).life ≡ life_of s) → 0 < (at_place (image_of m) s).joined
-      → (at_place (image_of m) s).left ≡ 0 → (at_place (image_of m) s).joined ≤ m.core.acc → (m.reports s).stored < (at_place (image_of m) s).joined → MayWelcome m n s
+  asks_again : n.core.log ≡ m.core.log → ((at_place (image_of m) s).life ≢ 0 → (at_place (image_of m) s).life ≡ life_of s)
+      → 0 < (at_place (image_of m) s).joined
+      → (at_place (image_of m) s).left ≡ 0 → (at_place (image_of m) s).joined ≤ m.core.acc → (m.reports s).stored < (at_place (image_of m) s).joined
+      → MayWelcome m n s
 
 -- a vote is asked for by the ballot that the node has begun, or that was open before
 pub data MayInvite (m : Node) (n : Node) : Type 0 where

@@ -14,7 +14,8 @@ use Rattle.am_packet.specs.Boxes.{Letter, with_letter}
 use Rattle.am_model.specs.Node.{Node, Ballot, top, image_of, those, is_member, push_entry, only_name}
 use Rattle.am_model.specs.Emit.{invite_of, result_of}
 use Rattle.am_model.specs.Ballots.{Verdict, with_promise, best_of, has_voted, is_waited_for, left_in, taken_by, ends, restart_reports, decide_view, trim_for}
-use Rattle.am_model.specs.Ballots.{decide, with_result, with_fetch, verdict_plan, next_stamp, new_ballot, begin, with_vote, newly_needed, keep_vote, without_voter}
+use Rattle.am_model.specs.Ballots.{decide, with_result, with_fetch, verdict_plan, next_stamp, new_ballot, begin, with_vote, newly_needed, keep_vote}
+use Rattle.am_model.specs.Ballots.{without_voter}
 use Rattle.am_model.specs.Ballots.{give_up}
 use Rattle.am_model.specs.Calls.{reset_row, give_up_of, give_up_row}
 use Rattle.am_model.specs.Resets.{decide_anew}
@@ -59,7 +60,8 @@ same_best all m b h = reads all m (λ i t. best_vote b.votes m.core.who (record 
 
 -- the view is pushed on both sides
 agrees_pushed : (all : Log) (m : Node) (b : Ballot) (names : List ℕ) (r s : ℕ) (o w : Outcome) → Keeps all m → r ≡ s → o ≡ w
-    → Agrees (ends (restart_reports (push_entry (with_log m all) (View b.stamp names r))) b o) (ends (restart_reports (push_entry m (View b.stamp names s))) b w)
+    → Agrees (ends (restart_reports (push_entry (with_log m all) (View b.stamp names r))) b o)
+    (ends (restart_reports (push_entry m (View b.stamp names s))) b w)
 agrees_pushed all m b names r s o w h e f =
     let k = keeps_pushed all m (View b.stamp names s) h in
     let n = restart_reports (push_entry m (View b.stamp names s)) in
@@ -108,7 +110,8 @@ agrees_decide all m b h =
     let fetching = best_reads all m b (λ s t. said.Fetching s.by (t + 1)) h in
     let few = best_reads all m b (λ s t. said.TooFew (size (left_in b s.vote.members)) b.least) h in
     agrees_if _ _ _ _ _ _ (best_reads all m b (λ s t. not (has s.vote.members m.core.who)) h) (agrees_answer true all m b _ _ h not_in)
-    (agrees_if _ _ _ _ _ _ (best_reads all m b (λ s t. nat_lt 0 (size (those (is_waited_for m.core.who b) s.vote.members))) h) (agrees_answer false all m b _ _ h waiting)
+    (agrees_if _ _ _ _ _ _ (best_reads all m b (λ s t. nat_lt 0 (size (those (is_waited_for m.core.who b) s.vote.members))) h)
+    (agrees_answer false all m b _ _ h waiting)
     (agrees_if _ _ _ _ _ _ (best_reads all m b (λ s t. not (s.by == m.core.who)) h) (agrees_answer false all m b _ _ h fetching)
     (agrees_if _ _ _ _ _ _ (best_reads all m b (λ s t. nat_lt (size (left_in b s.vote.members)) b.least) h) (agrees_answer true all m b _ _ h few)
     (agrees_left all m b _ _ h (best_reads all m b (λ s t. left_in b s.vote.members) h)))))

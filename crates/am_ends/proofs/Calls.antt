@@ -19,7 +19,8 @@ use Rattle.am_model.specs.declared.status.Status.TheVariants as status
 use Rattle.am_model.specs.Node.{Node, Ballot, top, image_of, view, others, only_name, lowest_or_first, those, acts, is_member, is_sequencer, has_room, waiting}
 use Rattle.am_model.specs.Node.{unsettled_count, push_entry}
 use Rattle.am_model.specs.Emit.{Plan, request_of, spread_of, bcast_of, join_ask_of, leave_ask_of, hand_over_of, invite_of, fetch_of, ack_of, result_of}
-use Rattle.am_model.specs.Calls.{everywhere_else, would_emit, hand_in, number_send, emit, with_queued, queue, send_row, done_row, give_out, take_row, ask_to_join}
+use Rattle.am_model.specs.Calls.{everywhere_else, would_emit, hand_in, number_send, emit, with_queued, queue, send_row, done_row, give_out, take_row}
+use Rattle.am_model.specs.Calls.{ask_to_join}
 use Rattle.am_model.specs.Calls.{join_by, join_row, state_by, state_row, go, is_unfinished, leave_now, leave_by, leave_row, ask_of, ask_row}
 use Rattle.am_model.specs.Ticks.{tick_ballot, tick_promised, tick_member, put_off, behind_view, viewed_by, and_result, tick_sequencer, tick_acting, tick_with}
 use Rattle.am_model.specs.Ticks.{tick_by, tick_row}

@@ -25,7 +25,8 @@ use Rattle.am_bodies.specs.Bodies.{is_of, keep_body}
 use Rattle.am_model.specs.Node.{Node, Ballot, image_of, view, only_name, is_member, has_own_leave, is_within_bound, waiting, push_entry, trim_up_to}
 use Rattle.am_model.specs.Emit.{Plan, ack_of, nack_of, fetch_of, piece_of, put_all}
 use Rattle.am_model.specs.Sequencing.{if_risen}
-use Rattle.am_model.specs.Receiving.{spread_row, body_of, bodies_after, is_view, with_noted, acknowledges, store_fitting, store, receive_entry, bcast_row, data_of, order_row}
+use Rattle.am_model.specs.Receiving.{spread_row, body_of, bodies_after, is_view, with_noted, acknowledges, store_fitting, store, receive_entry, bcast_row}
+use Rattle.am_model.specs.Receiving.{data_of, order_row}
 use Rattle.am_model.specs.Receiving.{accept_row, answer_hold, hold_row}
 use Rattle.am_model.specs.Ballots.{with_promise, vote_of}
 use Rattle.am_model.specs.Resets.{invite_row, is_open, take_vote, vote_row, serve_pieces, fetch_row, is_view_past, push_fetched, catch_up, decide_anew}
@@ -59,7 +60,8 @@ keeps_noted all m base acc h = record {
 same_leave : (all : Log) (m : Node) → Keeps all m → has_own_leave (with_log m all) ≡ has_own_leave m
 same_leave all m h = reads all m (λ i t. nat_lt 0 (row_of i m.core.who).left) h
 
-pub alike_stored : (all : Log) (m : Node) (s number : ℕ) (e : Entry) → Keeps all m → Alike (store_fitting (with_log m all) s number e) (store_fitting m s number e)
+pub alike_stored : (all : Log) (m : Node) (s number : ℕ) (e : Entry) → Keeps all m
+    → Alike (store_fitting (with_log m all) s number e) (store_fitting m s number e)
 alike_stored all m s number e h =
     let k = keeps_pushed all m e h in
     alike_where (acknowledges (push_entry (with_log m all) e) s) (acknowledges (push_entry m e) s) _ _ (only_name s) (only_name s) ack_of ack_of

@@ -4,3 +4,4 @@ pub mod Ballots
 pub mod Calls
 pub mod Sequencing
 pub mod Hearing
+pub mod Steps

@@ -37,7 +37,8 @@ low_acc all m h = let o = h.order in omega arith
 -- ---- what both tell
 
 -- what goes by the image and the top alone
-pub reads : {X : Type 0} (all : Log) (m : Node) (f : Image → ℕ → X) → Keeps all m → f (image_of (with_log m all)) (top (with_log m all)) ≡ f (image_of m) (top m)
+pub reads : {X : Type 0} (all : Log) (m : Node) (f : Image → ℕ → X) → Keeps all m → f (image_of (with_log m all)) (top (with_log m all))
+    ≡ f (image_of m) (top m)
 reads all m f h = ap (f (told_by all)) (sym (end-top all m.core.log h.kept)) ∙ ap (λ i. f i (top m)) (sym (end-told all m.core.log h.kept))
 
 entries_end : (all kept : Log) (number : ℕ) → IsEnd all kept → kept.start ≤ number

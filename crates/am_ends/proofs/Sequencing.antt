@@ -17,7 +17,8 @@ use Rattle.am_model.specs.declared.status.Status.TheVariants as status
 use Rattle.am_model.specs.Node.{Node, top, image_of, only_name, is_member, is_within_bound, report_fits, with_report}
 use Rattle.am_model.specs.Emit.{Plan, bcast_of, order_of, hold_of, nack_of, welcome_of, gone_of, fetch_of, entries_to_serve, put_all}
 use Rattle.am_model.specs.Sequencing.{row_at, is_unknown, take_report, number_data, answer_request, request_row, ack_row, serve, serve_again, nack_row}
-use Rattle.am_model.specs.Joining.{with_admitted, number_join, asks_to_join, join_ask_row, begin_list, ask_next, welcome_row, all_stored, may_go, let_go, and_gone}
+use Rattle.am_model.specs.Joining.{with_admitted, number_join, asks_to_join, join_ask_row, begin_list, ask_next, welcome_row, all_stored, may_go, let_go}
+use Rattle.am_model.specs.Joining.{and_gone}
 use Rattle.am_model.specs.Joining.{asks_to_leave, leave_ask_row, gone_row}
 use Rattle.am_model.specs.Ends.{with_log}
 use Rattle.am_ends.proofs.Nodes.{Keeps, reads, same_entries, same_since, refresh_end, keeps_refresh}
@@ -86,7 +87,8 @@ alike_ack all m s report h =
 
 -- ---- entries sent again
 
-pub same_served : (all : Log) (m : Node) (stored : ℕ) → Keeps all m → m.core.base ≤ stored → entries_to_serve (with_log m all) stored ≡ entries_to_serve m stored
+pub same_served : (all : Log) (m : Node) (stored : ℕ) → Keeps all m → m.core.base ≤ stored → entries_to_serve (with_log m all) stored
+    ≡ entries_to_serve m stored
 same_served all m stored h low = ap (take 8) (same_entries all m stored h low)
 
 pub alike_serve : (all : Log) (m : Node) (s stored : ℕ) → Keeps all m → m.core.base ≤ stored → Alike (serve (with_log m all) s stored) (serve m s stored)

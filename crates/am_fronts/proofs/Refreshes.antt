@@ -10,7 +10,8 @@ use Rattle.am_core.proofs.Folds.{split}
 use Rattle.am_core.proofs.Ends.{end-top}
 use Rattle.am_core.proofs.CoreLaws.{advance_whole, since_whole}
 use Rattle.am_fronts.specs.Reports.{reports_of, raise_report, after_report, least_taken}
-use Rattle.am_fronts.specs.Refresh.{Led, report_of, own_report, tell, go_on, let_go, base_after, go_up, refresh, whole_led, core_and_reports, LeadsBy, StaysAt, MayLead}
+use Rattle.am_fronts.specs.Refresh.{Led, report_of, own_report, tell, go_on, let_go, base_after, go_up, refresh, whole_led, core_and_reports, LeadsBy, StaysAt}
+use Rattle.am_fronts.specs.Refresh.{MayLead}
 use Rattle.am_fronts.proofs.Leaders.{let_go_within}
 use Rattle.am_fronts.proofs.Again.{greatest_low, accept_front_again}
 use Rattle.am_fronts.proofs.Walks.{front_by}
@@ -235,8 +236,8 @@ leads_up old now e leads = let P : Led → Type 0 = λ s. MayLead s.core in subs
 
 -- the steps of the code
 pub go_up_is : (c0 core c3 : CoreState) (r0 r1 r4 : List Report) (front : ℕ) → core ≡ c0 → core_and_reports c0 r1 ≡ own_report (core_and_reports c0 r0)
-    → front ≡ accept_front (reports_of r1) core.log core.acc → c3 ≡ advance (record core { told = front }) → core_and_reports c3 r4 ≡ own_report (core_and_reports c3 r1)
-    → core_and_reports c3 r4 ≡ go_up (core_and_reports c0 r0)
+    → front ≡ accept_front (reports_of r1) core.log core.acc → c3 ≡ advance (record core { told = front }) → core_and_reports c3 r4
+    ≡ own_report (core_and_reports c3 r1) → core_and_reports c3 r4 ≡ go_up (core_and_reports c0 r0)
 unfolding tell go_on
 go_up_is c0 core c3 r0 r1 r4 front is first told next last =
     last
@@ -258,5 +259,6 @@ trims_within old now capacity to e leads own kept low high least =
 pub own_stays_taken : (old now : Led) → now ≡ go_up old → (old.reports old.core.who).taken ≤ old.core.taken → (now.reports now.core.who).taken ≡ now.core.taken
 own_stays_taken old now e own = let Q : Led → Type 0 = λ s. (s.reports s.core.who).taken ≡ s.core.taken in subst Q (sym e) (go_up_own old own)
 
-pub trimmed_own : (reports : ℕ → Report) (c : CoreState) (to : ℕ) → (reports c.who).taken ≡ c.taken → (reports (trim_list to c).who).taken ≡ (trim_list to c).taken
+pub trimmed_own : (reports : ℕ → Report) (c : CoreState) (to : ℕ) → (reports c.who).taken ≡ c.taken → (reports (trim_list to c).who).taken
+    ≡ (trim_list to c).taken
 trimmed_own reports c to h = split (nat_lt c.base to) (λ t. rw t h) (λ t. rw t h)

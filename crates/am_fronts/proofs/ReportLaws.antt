@@ -5,7 +5,7 @@ use Rattle.std.proofs.lemmas.List.{get_or-replicate, get_or_past, length-replica
 use Rattle.std.proofs.lemmas.List.Sums.{sum_by-cons}
 use Rattle.std.proofs.lemmas.Bool.Decides.{nat_tests}
 use Rattle.am_base.specs.declared.image.Report.{Report}
-use Rattle.am_base.specs.Names.{names_from, name_at}
+use Rattle.am_base.specs.Names.{names_from, name_at, size}
 use Rattle.am_core.proofs.Folds.{split}
 use Rattle.am_fronts.specs.Reports.{no_report, no_reports, reports_of, all_up_to, lesser, least_of}
 
@@ -88,6 +88,15 @@ count_more p set place h =
 pub count_end : (p : ℕ → Bool) (set : List ℕ) (place : ℕ) → length set ≤ place → count_by p (names_from place (drop place set)) ≡ 0
 count_end p set place h = ap (count_by p) (names_end set place h)
 
-pub ruleset count_laws = (count_more, count_end)
+-- how many names there are, from a place on
+pub size_more : (set : List ℕ) (place : ℕ) → place < length set
+    → size (drop place set) ≡ (if nat_lt 0 (slice_index set place) then 1 else 0) + size (drop (place + 1) set)
+size_more set place h = ap size (drop_more set place 0 h)
+    ∙ sum_by-cons (λ life. if nat_lt 0 life then 1 else 0) (slice_index set place) (drop (place + 1) set)
+
+pub size_end : (set : List ℕ) (place : ℕ) → length set ≤ place → size (drop place set) ≡ 0
+size_end set place h = ap size (drop_all place set h)
+
+pub ruleset count_laws = (count_more, count_end, size_more, size_end)
 
 pub ruleset least_laws = (least_more, least_end)

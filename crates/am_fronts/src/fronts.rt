@@ -1,5 +1,5 @@
 ghost use Rattle.std.specs.Prelude.{◌≡◌, ℕ, ◌+◌, ◌-◌, ◌≤◌, ◌<◌, nat_le, count_by, Some, None, true, false, nat_lt, ◌&&◌, if◌then◌else◌};
-ghost use Rattle.am_base.specs.Names.{names_of, name_at};
+ghost use Rattle.am_base.specs.Names.{names_of, name_at, size};
 ghost use Rattle.am_base.specs.Lists.{top_of, told_by};
 ghost use Rattle.am_base.specs.Fronts.{accept_front, is_held, counted_at};
 ghost use Rattle.am_fronts.specs.Reports.{reports_of, no_reports, after_report, with_admitted, reports_from, lesser, least_stored, least_taken};
@@ -173,18 +173,22 @@ impl Fronts {
         number <= self.reports[usize::from(place) + 16 * usize::from(life - 1)].stored
     }
 
-    /// How many names of a set have stored up to a number.
+    /// How many names a set has, and how many of them have stored up to a number.
     #[tactic(auto, using(crate::proofs::ReportLaws::count_laws))]
-    fn holders(&self, counted: Names, number: u32) -> u32
-        ensures { result ≡ count_by (λ name. nat_le number (reports_of self.now name).stored)
+    fn holders(&self, counted: Names, number: u32) -> (u32, u32)
+        ensures names { result.0 ≡ size counted }
+        ensures held { result.1 ≡ count_by (λ name. nat_le number (reports_of self.now name).stored)
             (names_of counted) }
     {
         let lives = counted.each_life();
+        let mut names = 0;
         let mut held = 0;
         for place in 0..16u8 {
-            held += u32::from(self.has_stored(place, lives[usize::from(place)], number));
+            let life = lives[usize::from(place)];
+            names += u32::from(0 < life);
+            held += u32::from(self.has_stored(place, life, number));
         }
-        held
+        (names, held)
     }
 
     /// Whether as many have stored the entry at a number as it needs.
@@ -195,9 +199,9 @@ impl Fronts {
         requires view { (told_by (L.list log.now)).view_number ≤ number }
         ensures { result ≡ is_held (reports_of self.now) (L.list log.now) number }
     {
-        let counted = counted_at(log, number);
-        let need = (u32::from(log.resilience()) + 1).min(counted.len());
-        need <= self.holders(counted, number)
+        let (names, held) = self.holders(counted_at(log, number), number);
+        let need = (u32::from(log.resilience()) + 1).min(names);
+        need <= held
     }
 
     /// The number before the first, above this one, that too few have stored.
@@ -246,7 +250,8 @@ impl Fronts {
     /// Reports what the node itself has.
     #[tactic(auto, unfolding(crate::specs::Refresh::own_report))]
     fn report_own<L: Log>(&mut self, core: &Core<L>)
-        ensures { core_and_reports core.now self.new ≡ own_report (core_and_reports core.now self.old) }
+        ensures { core_and_reports core.now self.new
+            ≡ own_report (core_and_reports core.now self.old) }
     {
         self.report(
             core.who,
@@ -259,7 +264,8 @@ impl Fronts {
 
     /// Reports what the node itself has, and accepts as far as that goes.
     fn go_up<L: Log>(&mut self, core: &mut Core<L>)
-        ensures value { core_and_reports core.new self.new ≡ go_up (core_and_reports core.old self.old) }
+        ensures value { core_and_reports core.new self.new
+            ≡ go_up (core_and_reports core.old self.old) }
         ensures was { IsInOrder core.old }
         ensures order { IsInOrder core.new }
         ensures kept { IsKept core.new.log (core.new.rules.window + 15) }
@@ -276,8 +282,10 @@ impl Fronts {
     pub fn refresh<L: Log>(&mut self, core: &mut Core<L>)
         requires own { (reports_of self.old core.old.who).taken ≤ core.old.taken }
         requires leads { MayLead core.old }
-        ensures value { LeadsBy refresh (core_and_reports core.old self.old) (core_and_reports core.new self.new) }
-        ensures again { StaysAt refresh (core_and_reports core.old self.old) (core_and_reports core.new self.new) }
+        ensures value { LeadsBy refresh (core_and_reports core.old self.old)
+            (core_and_reports core.new self.new) }
+        ensures again { StaysAt refresh (core_and_reports core.old self.old)
+            (core_and_reports core.new self.new) }
         ensures order { IsInOrder core.new }
         ensures own { (reports_of self.new core.new.who).taken ≡ core.new.taken }
         ensures leads { MayLead core.new }

@@ -76,6 +76,14 @@ impl Journal {
         self.places.reserve(24)
     }
 
+    /// Makes room for so many records more, beside their letters, and changes nothing else.
+    pub fn reserve_records(&mut self, more: usize) -> Result<(), NoMemory>
+        ensures founding { self.new.founding ≡ self.old.founding }
+        ensures records { self.new.records ≡ self.old.records }
+    {
+        Ok(self.records.reserve_exact(more)?)
+    }
+
     /// Adds a record at the end. It takes no memory.
     pub fn push(&mut self, item: Record)
         requires room { self.old.has_room ≡ true }

@@ -12,7 +12,7 @@ use am_base::items::Items;
 use am_base::name::{Name, Stamp};
 use am_base::names::Names;
 use am_base::outcome::Outcome;
-use am_codec::decode;
+use am_decoding::decode;
 use am_letter::letter::Letter;
 use am_packet::packet::Packet;
 use std::alloc::Global;

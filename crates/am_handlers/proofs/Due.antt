@@ -7,11 +7,10 @@ use Rattle.am_base.specs.declared.image.Row.{Row}
 use Rattle.am_base.specs.declared.entry.Entry.{Entry}
 use Rattle.am_base.specs.declared.entry.Entry.TheVariants.{Data}
 use Rattle.am_base.specs.Names.{place_of, life_of}
-use Rattle.am_base.specs.Lists.{Log, entry_at, told_by, at_place, after, fits, fold, AllFit}
+use Rattle.am_base.specs.Lists.{Log, entry_at, told_by, at_place, after, fits, fold, AllFit, request_in}
 use Rattle.am_core.proofs.Folds.{split}
 use Rattle.am_chain_lists.proofs.Rows.{row_at, long_after}
-use Rattle.am_model.specs.Claims.{request_in}
-use Rattle.am_orders.proofs.Rows.{IsNext, entry_goes_on, own_request}
+use Rattle.am_chain_lists.proofs.Requests.{IsNext, entry_goes_on, own_request}
 use Rattle.am_core.specs.Kept.{IsKept}
 use Rattle.am_model.specs.Refresh.{is_data_of}
 use Rattle.am_model.proofs.Sends.{own_data}

@@ -22,12 +22,11 @@ use Rattle.am_bodies.specs.declared.KeptBody.{KeptBody}
 use Rattle.am_sender.specs.declared.OwnSend.{OwnSend}
 use Rattle.am_sender.specs.Sends as sending
 use Rattle.am_sender.specs.Sends.{Sends, next_request}
-use Rattle.am_model.specs.Group.{has_log}
+use Rattle.am_model.specs.Node.{has_log, Node, Ballot, top, image_of, view, members, acts, waiting, is_member, is_sequencer, push_entry, with_report}
 use Rattle.am_fronts.specs.Reports.{after_report}
 use Rattle.am_model.specs.declared.status.Status.{Status}
 use Rattle.am_model.specs.declared.status.Status.TheVariants.{Stranger, Asking, Member, Departed}
 use Rattle.am_model.specs.Receiving.{is_view}
-use Rattle.am_model.specs.Node.{Node, Ballot, top, image_of, view, members, acts, waiting, is_member, is_sequencer, push_entry, with_report}
 use Rattle.am_model.specs.Refresh.{refresh, lead, led_of, with_led, accepted_at, settle_at, settle_waiting, settle, refresh_at_end}
 use Rattle.am_model.specs.Ends.{IsEndOf}
 use Rattle.am_chain_lists.proofs.Rows.{long_after}
@@ -208,8 +207,8 @@ due_pushed m e capacity kept fit next due =
     (omega arith) fit due)
 
 -- one that isn't a View, where who leads stays a member
-pub keeps_pushed : (m : Node) (e : Entry) → is_view e ≡ false → fits (image_of m) e ≡ true → (capacity : ℕ) → IsKept m.core.log capacity → has_log m.status ≡ true
-    → (is_sequencer m ≡ true → has (members (push_entry m e)) m.core.who ≡ true) → NodeKeeps m → NodeKeeps (push_entry m e)
+pub keeps_pushed : (m : Node) (e : Entry) → is_view e ≡ false → fits (image_of m) e ≡ true → (capacity : ℕ) → IsKept m.core.log capacity → has_log m.status
+    ≡ true → (is_sequencer m ≡ true → has (members (push_entry m e)) m.core.who ≡ true) → NodeKeeps m → NodeKeeps (push_entry m e)
 keeps_pushed m e plain fit capacity kept has_one stays keeps = record {
   own = keeps.own;
   leads = λ is. stays (sym (leads_pushed m e plain) ∙ is);

@@ -5,3 +5,5 @@ pub mod Doing
 pub mod Telling
 pub mod Due
 pub mod Plans
+pub mod Served
+pub mod Shown

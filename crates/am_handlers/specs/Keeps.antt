@@ -12,8 +12,7 @@ use Rattle.am_sender.specs.Sends.{Sends, next_request}
 use Rattle.am_bodies.specs.declared.KeptBody.{KeptBody}
 use Rattle.am_ballots.specs.Kept.{Kept, ballot_of}
 use Rattle.am_model.specs.declared.status.Status.{Status}
-use Rattle.am_model.specs.Group.{has_log}
-use Rattle.am_model.specs.Node.{Node, Ballot, top, image_of, view, members, waiting, is_sequencer}
+use Rattle.am_model.specs.Node.{has_log, Node, Ballot, top, image_of, view, members, waiting, is_sequencer}
 
 -- a node of these parts
 abbrev pub node_with : CoreState → Status → Bool → Sends → List KeptBody → List Report → Option Kept → Node

@@ -3,3 +3,4 @@ pub mod Parts
 pub mod Cores
 pub mod Finishing
 pub mod Prelude
+pub mod Verdicts

@@ -27,31 +27,16 @@ pub enum OneLetter {
     Welcome,
 }
 
-/// The end of a step that sends nothing of its own, and polls the members or not. It gives the answer back.
-fn finish_silently(
-    parts: &mut Parts,
-    before: u32,
-    polls: bool,
-    answer: Outcome,
-    out: &mut OutBox,
-) -> Outcome
-    requires { out.old ≡ [] }
-    ensures { Finishes before (record (quiet (node_of parts.old) answer) { polls = polls })
-        result out.new parts.new }
-{
-    let _before = parts.accept_front();
-    parts.end();
-    parts.tell_accepted(before, polls, false, out);
-    answer
-}
-
 /// The end of a step that sends nothing of its own, once so much was accepted before. It gives the answer back. The out
 /// box must be empty.
 pub fn finish_quietly(parts: &mut Parts, before: u32, answer: Outcome, out: &mut OutBox) -> Outcome
     requires { out.old ≡ [] }
     ensures { Finishes before (quiet (node_of parts.old) answer) result out.new parts.new }
 {
-    finish_silently(parts, before, false, answer, out)
+    let _before = parts.accept_front();
+    parts.end();
+    parts.tell_accepted(before, false, false, out);
+    answer
 }
 
 /// The same for a step that polls the members.
@@ -59,12 +44,15 @@ pub fn finish_polling(parts: &mut Parts, before: u32, answer: Outcome, out: &mut
     requires { out.old ≡ [] }
     ensures { Finishes before (polling (node_of parts.old) answer) result out.new parts.new }
 {
-    finish_silently(parts, before, true, answer, out)
+    let _before = parts.accept_front();
+    parts.end();
+    parts.tell_accepted(before, true, false, out);
+    answer
 }
 
 /// The packet of such a letter to a name.
 #[tactic(auto, unfolding(am_codec::specs::Limits::IsWithin))]
-fn packet<L: Log>(core: &Core<L>, letter: OneLetter, to: Name) -> Packet
+fn packet<'a, L: Log>(core: &'a Core<L>, letter: OneLetter, to: Name) -> Packet<'a>
     ensures value { CoreTells (λ n. letter_of letter to n) core.now result }
     ensures within { IsWithin result }
 {

@@ -5,3 +5,4 @@ pub mod asking;
 pub mod finishing;
 pub mod packets;
 pub mod parts;
+pub mod votes;

@@ -7,12 +7,13 @@ ghost use Rattle.am_model.specs.Node.{only_name, report_of};
 ghost use Rattle.am_model.specs.Emit.{bcast_of, order_of, hold_of, welcome_of, gone_of, ack_of, result_of};
 ghost use Rattle.am_handlers.specs.Cores.{CoreTells};
 
-use am_base::entry::Entry;
+use am_base::entry::EntryRef;
 use am_base::image::Report;
 use am_base::name::Name;
 use am_base::names::Names;
 use am_core::log::Log;
 use am_core::state::Core;
+use am_packet::image_ref::ImageRef;
 use am_packet::packet::Packet;
 
 /// The packet of a kind that the node with a core sends now: with its name, its promise, and these fields.
@@ -46,22 +47,22 @@ pub fn report<L: Log>(core: &Core<L>) -> Report
 }
 
 /// A Bcast of a numbered entry.
-pub fn bcast<L: Log>(core: &Core<L>, number: u32, entry: &Entry) -> Packet
+pub fn bcast<'a, L: Log>(core: &Core<L>, number: u32, entry: EntryRef<'a>) -> Packet<'a>
     requires number { IsNumber number }
-    requires entry { IsEntry entry.now }
-    ensures value { CoreTells (λ n. bcast_of n number entry.now) core.now result }
+    requires entry { IsEntry entry }
+    ensures value { CoreTells (λ n. bcast_of n number entry.entry) core.now result }
     ensures within { IsWithin result }
 {
     packet_from!(core => Bcast {
         base: core.log.base(),
         acc: core.acc,
         number,
-        entry: entry.copy(),
+        entry,
     })
 }
 
 /// An Order: the number of a send whose body was spread.
-pub fn order<L: Log>(core: &Core<L>, number: u32, from: Name, req: u32) -> Packet
+pub fn order<'a, L: Log>(core: &Core<L>, number: u32, from: Name, req: u32) -> Packet<'a>
     requires number { IsNumber number }
     requires req { IsNumber req }
     ensures value { CoreTells (λ n. order_of n number from req) core.now result }
@@ -71,7 +72,7 @@ pub fn order<L: Log>(core: &Core<L>, number: u32, from: Name, req: u32) -> Packe
 }
 
 /// A Hold for a send.
-pub fn hold<L: Log>(core: &Core<L>, req: u32) -> Packet
+pub fn hold<'a, L: Log>(core: &Core<L>, req: u32) -> Packet<'a>
     requires { IsNumber req }
     ensures value { CoreTells (λ n. hold_of n req) core.now result }
     ensures within { IsWithin result }
@@ -80,19 +81,19 @@ pub fn hold<L: Log>(core: &Core<L>, req: u32) -> Packet
 }
 
 /// A Welcome for a name.
-pub fn welcome<L: Log>(core: &Core<L>, name: Name) -> Packet
+pub fn welcome<'a, L: Log>(core: &'a Core<L>, name: Name) -> Packet<'a>
     ensures value { CoreTells (λ n. welcome_of n name) core.now result }
     ensures within { IsWithin result }
 {
     packet_from!(core => Welcome {
         base: core.log.base(),
         join: core.log.row(name).joined,
-        image: core.log.image_at_base(),
+        image: ImageRef::of(core.log.image_at_base()),
     })
 }
 
 /// A Gone with the number of a Leave.
-pub fn gone_packet<L: Log>(core: &Core<L>, number: u32) -> Packet
+pub fn gone_packet<'a, L: Log>(core: &Core<L>, number: u32) -> Packet<'a>
     requires { IsNumber number }
     ensures value { CoreTells (λ n. gone_of n number) core.now result }
     ensures within { IsWithin result }
@@ -101,7 +102,7 @@ pub fn gone_packet<L: Log>(core: &Core<L>, number: u32) -> Packet
 }
 
 /// An Ack.
-pub fn ack<L: Log>(core: &Core<L>) -> Packet
+pub fn ack<'a, L: Log>(core: &Core<L>) -> Packet<'a>
     ensures value { CoreTells ack_of core.now result }
     ensures within { IsWithin result }
 {
@@ -109,7 +110,7 @@ pub fn ack<L: Log>(core: &Core<L>) -> Packet
 }
 
 /// The result of a ballot: its View's number, members and resilience.
-pub fn result<L: Log>(core: &Core<L>, number: u32, members: Names, resilience: u8) -> Packet
+pub fn result<'a, L: Log>(core: &Core<L>, number: u32, members: Names, resilience: u8) -> Packet<'a>
     requires number { IsNumber number }
     requires resilience { resilience ≤ 15 }
     ensures value { CoreTells (λ n. result_of n number members resilience) core.now result }

@@ -1,5 +1,6 @@
 ghost use Rattle.std.specs.Prelude.{◌≡◌, true};
 ghost use Rattle.am_base.specs.Most.{most_number};
+ghost use Rattle.am_packet.specs.Boxes.{with_letter};
 ghost use Rattle.am_model.specs.Refresh.{is_data_of};
 ghost use Rattle.am_handlers.specs.Keeps.{node_with, NodeKeeps, IsSteady};
 
@@ -175,7 +176,7 @@ impl Parts {
     }
 
     /// The request of the waiting send.
-    fn waiting_request(&self) -> Option<u32>
+    pub fn waiting_request(&self) -> Option<u32>
         ensures { result ≡ option_map (λ send. send.req) (waiting (node_of self.now)) }
     {
         self.sender.waiting().map(|send| send.0)
@@ -233,7 +234,7 @@ impl Parts {
 
     /// An Accept.
     #[tactic(auto, unfolding(am_codec::specs::Limits::IsWithin))]
-    fn accept(&self, polls: bool) -> Packet
+    fn accept(&self, polls: bool) -> Packet<'_>
         ensures value { Tells (λ n. accept_of n polls) (node_of self.now) result }
         ensures within { IsWithin result }
     {

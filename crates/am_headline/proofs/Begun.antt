@@ -14,13 +14,13 @@ use Rattle.am_chain_lists.proofs.Prefixes.{begins_refl, begins_nil}
 use Rattle.am_chain_lists.proofs.Members.{good_begins}
 use Rattle.am_chain_moves.specs.Group.{Group, chain_of}
 use Rattle.am_chain_moves.specs.Runs as begun
-use Rattle.am_chain_moves.specs.Runs.{MayBegin, founded, first_choice, first_stamp}
+use Rattle.am_chain_moves.specs.Runs.{MayBegin, founded}
 use Rattle.am_chain.proofs.Runs.{run_keeps}
-use Rattle.am_model.specs.Node.{lowest_or_first, founding_stamp}
-use Rattle.am_model.specs.World.{Decided, World, start, first_node, founders_decided, has_departed, happen, run}
-use Rattle.am_model.specs.Lawful.{Watch, watch_all, watch_run, watch_start, broken_at}
-use Rattle.am_model.specs.Claims.{BecameComplete}
-use Rattle.am_model.proofs.Greatest.{split}
+use Rattle.am_model.specs.Node.{lowest_or_first, founding_stamp, has_departed}
+use Rattle.am_play.specs.World.{Decided, World, start, first_node, founders_decided, happen, run}
+use Rattle.am_play.specs.Lawful.{Watch, watch_all, watch_run, watch_start, broken_at}
+use Rattle.am_play.specs.Claims.{BecameComplete}
+use Rattle.am_base.proofs.Greatest.{split}
 use Rattle.am_model.proofs.Founders.{first_founder}
 use Rattle.am_stands.specs.Moving.{NamesNamed}
 use Rattle.am_stands.specs.Keeping.{GroupFor}

@@ -19,7 +19,7 @@ use Rattle.am_packet.specs.declared.packet.Packet.TheVariants as packet
 use Rattle.am_chain_lists.proofs.Rows.{In, row_at, long_after, in_viewed}
 use Rattle.am_model.specs.Node.{Node, Ballot, top, image_of, has_room, push_entry}
 use Rattle.am_model.specs.Ballots.{Verdict, need_of, left_in, trim_for}
-use Rattle.am_model.proofs.Greatest.{split}
+use Rattle.am_base.proofs.Greatest.{split}
 use Rattle.am_effects.specs.Causes.{Cause, hears}
 use Rattle.am_effects.specs.Looks.{Looks, decides}
 use Rattle.am_effects.specs.Changes.{Carries, whole_entry, by_number, Change, refreshes, settles, numbers, stores}

@@ -24,17 +24,17 @@ use Rattle.am_chain_moves.specs.Group.{Group, IsUp}
 use Rattle.am_model.specs.declared.status.Status.{Status}
 use Rattle.am_model.specs.declared.status.Status.TheVariants as status
 use Rattle.am_model.specs.Calls.{is_unfinished}
-use Rattle.am_model.specs.Node.{Node, top, view, is_member, acts, founder, founders_view}
+use Rattle.am_model.specs.Node.{Node, top, view, is_member, acts, founder, founders_view, has_departed}
 use Rattle.am_model.specs.Node as nodes
 use Rattle.am_model.specs.Emit.{Step}
 use Rattle.am_model.specs.Hearing.{hears_member, hears_in_view, hears_sequencer}
 use Rattle.am_model.specs.Receiving.{is_view}
-use Rattle.am_model.specs.Claims.{heard_by, FitsView, ViewsFit}
-use Rattle.am_model.specs.Lawful.{lawful_front}
+use Rattle.am_play.specs.Claims.{heard_by, FitsView, ViewsFit}
+use Rattle.am_play.specs.Lawful.{lawful_front}
 use Rattle.am_model.specs.Hearing as rows
-use Rattle.am_model.specs.World.{World, start, has_departed, with_step, run}
-use Rattle.am_model.proofs.Greatest.{split, and_both}
-use Rattle.am_model.proofs.Runs.{front_is_lawful}
+use Rattle.am_play.specs.World.{World, start, with_step, run}
+use Rattle.am_base.proofs.Greatest.{split, and_both}
+use Rattle.am_play.proofs.Runs.{front_is_lawful}
 use Rattle.am_effects.specs.Causes.{Cause, hears}
 use Rattle.am_effects.specs.Letters.{Says, bcast, order}
 use Rattle.am_effects.specs.Letters.{piece}

@@ -17,12 +17,12 @@ use Rattle.am_chain_moves.specs.Moves.{Move, numbers}
 use Rattle.am_chain_moves.specs.Runs.{Completes, counts_for}
 use Rattle.am_model.specs.Node.{Node, lowest_or_first}
 use Rattle.am_model.specs.Emit.{Step}
-use Rattle.am_model.specs.World as worlds
-use Rattle.am_model.specs.World.{Decided, World, start, current, is_stopped, views_after, with_record, with_step, lives_on, happens, run}
-use Rattle.am_model.specs.Lawful.{is_complete, is_lawful, Watch, watch_start, watch_run, greatest_complete, broken_at}
-use Rattle.am_model.specs.Claims.{BecameComplete}
-use Rattle.am_model.proofs.Greatest.{split, and_both}
-use Rattle.am_model.proofs.Runs.{watched_is_run}
+use Rattle.am_play.specs.World as worlds
+use Rattle.am_play.specs.World.{Decided, World, start, current, is_stopped, views_after, with_record, with_step, lives_on, happens, run}
+use Rattle.am_play.specs.Lawful.{is_complete, is_lawful, Watch, watch_start, watch_run, greatest_complete, broken_at}
+use Rattle.am_play.specs.Claims.{BecameComplete}
+use Rattle.am_base.proofs.Greatest.{split, and_both}
+use Rattle.am_play.proofs.Runs.{watched_is_run}
 use Rattle.am_effects.specs.Causes.{Cause}
 use Rattle.am_effects.specs.Events as event
 use Rattle.am_effects.specs.Events.{actor, IsIdle, Happens, idles, returns, steps}

@@ -6,9 +6,9 @@ use Rattle.am_base.specs.Stamps.{stamp_lt}
 use Rattle.am_group.specs.declared.event.Event.{Event}
 use Rattle.am_chain_lists.specs.Whole.{key}
 use Rattle.am_chain_lists.proofs.Order.{key_lt, lt_key}
-use Rattle.am_model.specs.World.{Decided, World, happens}
-use Rattle.am_model.specs.Lawful.{is_complete, is_lawful, Watch, watch, watch_all, greater_complete, greatest_complete, broken_now}
-use Rattle.am_model.proofs.Greatest.{split}
+use Rattle.am_play.specs.World.{Decided, World, happens}
+use Rattle.am_play.specs.Lawful.{is_complete, is_lawful, Watch, watch, watch_all, greater_complete, greatest_complete, broken_now}
+use Rattle.am_base.proofs.Greatest.{split}
 
 -- ---- one item that passes
 

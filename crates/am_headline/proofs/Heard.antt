@@ -11,11 +11,11 @@ use Rattle.am_group.specs.declared.event.Act.TheVariants as act
 use Rattle.am_group.specs.declared.event.Event.{Event}
 use Rattle.am_group.specs.Addressed.{is_for}
 use Rattle.am_group.specs.Journals.{letter_at}
-use Rattle.am_model.specs.Node.{Node}
+use Rattle.am_model.specs.Node.{Node, has_departed}
 use Rattle.am_model.specs.Emit.{Step, finish}
 use Rattle.am_model.specs.Lengths.{packet_length}
 use Rattle.am_model.specs.Step.{hear, hear_refusal}
-use Rattle.am_model.specs.World.{World, is_stopped, has_departed, with_record, with_step, hears_letter, hear_cut, acts_as, happens}
+use Rattle.am_play.specs.World.{World, is_stopped, with_record, with_step, hears_letter, hear_cut, acts_as, happens}
 use Rattle.am_effects.specs.Causes.{Cause}
 use Rattle.am_effects.specs.Changes.{Change, refreshes, settles, begins_list, departs}
 use Rattle.am_effects.specs.Changes.{looks, asks_to_join, closes}
@@ -58,8 +58,8 @@ heard_node w e name hearing None l is for_ runs = absurd (cc)
 heard_node w e name hearing (Some x) l is for_ runs =
     let same : x ≡ l = cc in
     let mine : is_for x name ≡ true = ap (λ y. is_for y name) same ∙ for_ in
-    let at = gates (is_for x name) (is_stopped w name) (with_record w e said.NotAddressed) (with_record w e said.IsStopped) (with_step w e name (hearing x.packet))
-    mine runs in
+    let at = gates (is_for x name) (is_stopped w name) (with_record w e said.NotAddressed) (with_record w e said.IsStopped)
+    (with_step w e name (hearing x.packet)) mine runs in
     ap (λ (v : World). v.nodes name) at ∙ set_here w.nodes name (hearing x.packet).node ∙ ap (λ (y : Letter). (hearing y.packet).node) same
 
 acts_node : (w : World) (e : Event) (name : ℕ) (a : Act) (p : Packet) → WasSentTo w name a p → is_stopped w name ≡ false

@@ -16,14 +16,14 @@ use Rattle.am_chain_lists.proofs.Prefixes.{begins_both, begins_take, begins_tran
 use Rattle.am_chain_lists.proofs.Members.{good_begins}
 use Rattle.am_chain_moves.specs.Group.{Group, opening}
 use Rattle.am_chain_moves.specs.Kept as groups
-use Rattle.am_model.specs.Node.{view, lowest_or_first}
-use Rattle.am_model.specs.Group.{accepted_sends, has_log}
-use Rattle.am_model.specs.World.{Decided, World, happens, run}
-use Rattle.am_model.specs.Lawful.{Watch, watch_run, watch_start, broken_at, lawful_front}
-use Rattle.am_model.specs.Claims.{BeginsAt, Segment, line_of, BecameComplete, KeepsView, Holds, HeadlineHolds}
-use Rattle.am_model.proofs.Greatest.{split}
-use Rattle.am_model.proofs.Beginnings.{runs_begin}
-use Rattle.am_model.proofs.Runs.{front_is_lawful}
+use Rattle.am_model.specs.Node.{view, lowest_or_first, has_log}
+use Rattle.am_play.specs.Group.{accepted_sends}
+use Rattle.am_play.specs.World.{Decided, World, happens, run}
+use Rattle.am_play.specs.Lawful.{Watch, watch_run, watch_start, broken_at, lawful_front}
+use Rattle.am_play.specs.Claims.{BeginsAt, Segment, line_of, BecameComplete, KeepsView, Holds, HeadlineHolds}
+use Rattle.am_base.proofs.Greatest.{split}
+use Rattle.am_play.proofs.Beginnings.{runs_begin}
+use Rattle.am_play.proofs.Runs.{front_is_lawful}
 use Rattle.am_effects.specs.Events.{actor, IsIdle}
 use Rattle.am_effects.proofs.Events.{events_have_effects}
 use Rattle.am_effects.proofs.Items.{all_get}

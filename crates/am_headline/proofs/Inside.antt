@@ -19,12 +19,10 @@ use Rattle.am_sender.specs.declared.OwnSend.{OwnSend}
 use Rattle.am_sender.specs.Sends as own
 use Rattle.am_model.specs.declared.status.Status.{Status}
 use Rattle.am_model.specs.declared.status.Status.TheVariants as status
-use Rattle.am_model.specs.Node.{Node, is_member, is_asking, is_sequencer, waiting, unsettled_count, push_entry}
+use Rattle.am_model.specs.Node.{Node, is_member, is_asking, is_sequencer, waiting, unsettled_count, push_entry, has_log, has_departed}
 use Rattle.am_model.specs.Joining.{begin_list}
-use Rattle.am_model.specs.Group.{has_log}
 use Rattle.am_model.specs.Refresh.{advance, lead, refresh, settle, settle_waiting, settle_at, accepted_at, refresh_at_end}
-use Rattle.am_model.specs.World.{has_departed}
-use Rattle.am_model.proofs.Greatest.{split, and_both}
+use Rattle.am_base.proofs.Greatest.{split, and_both}
 use Rattle.am_group.specs.Journals.{item_at}
 use Rattle.am_effects.specs.Causes.{Cause, hears}
 use Rattle.am_effects.specs.Changes.{MayBeWelcomed}
@@ -244,7 +242,8 @@ module _ (group : List Entry) (i : ℕ) (c : Cause) (o : Outcome) (m : Node) whe
         silent = λ t. ap (λ (q : own.Sends). own.waiting q) a.sends ∙ h.silent (sym a.leaving ∙ t);
         bare = λ t. a.acc ∙ h.bare (sym log ∙ t);
         sends = subst (λ (q : own.Sends). All (SendIn group i m y) q.queue) (sym a.sends)
-            (sends_on group i m x y x.sends.queue (λ req number f. fresh_on m x y req number a.who a.log_start (a.more, a.entries) (omega (arith, a.acc)) f) h.sends);
+            (sends_on group i m x y x.sends.queue (λ req number f. fresh_on m x y req number a.who a.log_start (a.more, a.entries) (omega (arith, a.acc)) f)
+            h.sends);
       }
 
   inside_refreshed : (x : Node) → (has_log x.status ≡ false → x.core.told ≡ 0) → Inside group i c o m x → Inside group i c o m (refresh x)

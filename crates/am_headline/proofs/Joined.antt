@@ -20,8 +20,8 @@ use Rattle.am_chain_lists.proofs.Members.{good_begins, told_push, long_told, mem
 use Rattle.am_chain_moves.specs.Group.{Group}
 use Rattle.am_model.specs.declared.status.Status.{Status}
 use Rattle.am_model.specs.declared.status.Status.TheVariants as status
-use Rattle.am_model.specs.Node.{is_asking, founders_view}
-use Rattle.am_model.specs.World.{World, is_stopped, has_departed}
+use Rattle.am_model.specs.Node.{is_asking, founders_view, has_departed}
+use Rattle.am_play.specs.World.{World, is_stopped}
 use Rattle.am_effects.proofs.Items.{all_get}
 use Rattle.am_effects.proofs.Statuses.{asking_log}
 use Rattle.am_stands.specs.Letters.{PacketSays, WelcomeSays, WelcomeTo, has_begun, has_gone, has_left, is_leaving, may_begin}

@@ -11,10 +11,10 @@ use Rattle.am_chain_lists.specs.Whole.{key}
 use Rattle.am_chain_lists.proofs.Prefixes.{length_push}
 use Rattle.am_chain_moves.specs.Group.{Group, count, how_many, opening}
 use Rattle.am_chain_moves.specs.Runs.{counts_for}
-use Rattle.am_model.specs.Group.{has_log}
-use Rattle.am_model.specs.World.{Decided, World, has_departed}
-use Rattle.am_model.specs.Lawful.{counts, is_lost, is_lawful}
-use Rattle.am_model.proofs.Greatest.{split, and_both}
+use Rattle.am_model.specs.Node.{has_log, has_departed}
+use Rattle.am_play.specs.World.{Decided, World}
+use Rattle.am_play.specs.Lawful.{counts, is_lost, is_lawful}
+use Rattle.am_base.proofs.Greatest.{split, and_both}
 use Rattle.am_stands.specs.Standing.{NotedStands, Stands}
 use Rattle.am_stands.proofs.Counting.{count_up_to}
 

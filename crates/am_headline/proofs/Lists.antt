@@ -11,9 +11,9 @@ use Rattle.am_chain_lists.proofs.Prefixes.{begins_nil, begins_both, begins_more,
 use Rattle.am_chain_lists.proofs.Members.{good_begins}
 use Rattle.am_chain_lists.proofs.Order.{view_up, view_below, view_viewed}
 use Rattle.am_model.specs.Receiving.{is_view}
-use Rattle.am_model.specs.Lawful.{is_view_of}
-use Rattle.am_model.specs.Claims.{up_to_view, up_to_next}
-use Rattle.am_model.proofs.Greatest.{split}
+use Rattle.am_play.specs.Lawful.{is_view_of}
+use Rattle.am_play.specs.Claims.{up_to_view, up_to_next}
+use Rattle.am_base.proofs.Greatest.{split}
 use Rattle.am_laws.proofs.Stamps.{same_stamp}
 use Rattle.am_unballoted.proofs.Lists.{item_more}
 

@@ -15,10 +15,11 @@ use Rattle.am_chain_lists.proofs.Order.{lt_key, view_small, view_viewed}
 use Rattle.am_chain_moves.specs.Group.{Group, how_many, opening, IsThere}
 use Rattle.am_chain_moves.specs.Runs.{Completes}
 use Rattle.am_model.specs.Node as nodes
-use Rattle.am_model.specs.World.{Decided, World, is_stopped, has_departed}
-use Rattle.am_model.specs.Lawful.{is_view_of, has_stored, lags, is_complete}
-use Rattle.am_model.specs.Claims.{up_to_next}
-use Rattle.am_model.proofs.Greatest.{split, and_both}
+use Rattle.am_play.specs.World.{Decided, World, is_stopped}
+use Rattle.am_model.specs.Node.{has_departed}
+use Rattle.am_play.specs.Lawful.{is_view_of, has_stored, lags, is_complete}
+use Rattle.am_play.specs.Claims.{up_to_next}
+use Rattle.am_base.proofs.Greatest.{split, and_both}
 use Rattle.am_stands.specs.Standing.{NotedStands, Stands}
 use Rattle.am_stands.specs.States.{LinesOpen}
 use Rattle.am_stands.proofs.Changes.{told_all}

@@ -10,9 +10,9 @@ use Rattle.am_group.specs.declared.event.Event.{Event}
 use Rattle.am_group.specs.declared.event.Record.{Record}
 use Rattle.am_group.specs.Deliveries.{name_of}
 use Rattle.am_group.proofs.Places.{get_before}
-use Rattle.am_model.specs.World.{World, record_of, with_record, with_step, happens, run}
-use Rattle.am_model.proofs.Beginnings.{runs_begin}
-use Rattle.am_model.proofs.Runs.{one_record_each}
+use Rattle.am_play.specs.World.{World, record_of, with_record, with_step, happens, run}
+use Rattle.am_play.proofs.Beginnings.{runs_begin}
+use Rattle.am_play.proofs.Runs.{one_record_each}
 use Rattle.am_effects.specs.Events as event
 use Rattle.am_effects.specs.Events.{actor, IsIdle, Happens, idles, returns, steps}
 use Rattle.am_effects.proofs.Items.{get_last}

@@ -8,8 +8,8 @@ use Rattle.am_chain_moves.specs.Group.{Group}
 use Rattle.am_chain_moves.specs.Kept.{Kept}
 use Rattle.am_model.specs.Node.{Node, lowest_or_first}
 use Rattle.am_model.specs.Emit.{Step}
-use Rattle.am_model.specs.World.{World, group_after, start, is_stopped, with_step, happens, happen, run}
-use Rattle.am_model.proofs.Runs.{runs_go_on}
+use Rattle.am_play.specs.World.{World, group_after, start, is_stopped, with_step, happens, happen, run}
+use Rattle.am_play.proofs.Runs.{runs_go_on}
 use Rattle.am_effects.specs.Causes.{Cause}
 use Rattle.am_effects.specs.Effects.{Effect}
 use Rattle.am_effects.specs.Events.{actor, IsCause}

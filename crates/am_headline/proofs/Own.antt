@@ -10,9 +10,9 @@ use Rattle.am_chain_lists.specs.Whole.{Begins}
 use Rattle.am_chain_moves.specs.Group.{Group}
 use Rattle.am_chain_moves.specs.Kept.{Kept}
 use Rattle.am_model.specs.Node.{Node, view}
-use Rattle.am_model.specs.Lawful.{whole}
-use Rattle.am_model.specs.World.{World, group_with, group_after}
-use Rattle.am_model.proofs.Greatest.{split}
+use Rattle.am_play.specs.Lawful.{whole}
+use Rattle.am_play.specs.World.{World, group_with, group_after}
+use Rattle.am_base.proofs.Greatest.{split}
 use Rattle.am_stands.specs.Standing.{NameStands, FrontsStand}
 use Rattle.am_unballoted.proofs.Lists.{get_item, item_taken}
 use Rattle.am_headline.proofs.Lists.{item_begins}

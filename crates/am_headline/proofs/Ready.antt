@@ -7,13 +7,13 @@ use Rattle.am_group.specs.declared.event.Record.{Record}
 use Rattle.am_chain_lists.specs.Whole.{Begins, BeginsBelow, key}
 use Rattle.am_chain_lists.proofs.Prefixes.{begins_refl}
 use Rattle.am_chain_moves.specs.Group as groups
-use Rattle.am_chain_moves.specs.Group.{Group, Views, IsUp, put}
+use Rattle.am_chain_moves.specs.Group.{Group, IsUp, put}
 use Rattle.am_chain_moves.specs.Moves.{Move, with_node, gives_over, stops}
 use Rattle.am_chain_moves.specs.Runs.{Completes, IsLawful, Run, more}
 use Rattle.am_chain_moves.proofs.Puts.{put_cases, put_other}
-use Rattle.am_model.specs.Node.{Node, lowest_or_first}
+use Rattle.am_model.specs.Node.{Node, lowest_or_first, has_departed}
 use Rattle.am_model.specs.Calls.{is_unfinished}
-use Rattle.am_model.specs.World.{World, is_stopped, has_departed}
+use Rattle.am_play.specs.World.{World, is_stopped}
 use Rattle.am_stands.specs.Standing.{NameStands, FrontsStand, Stands}
 use Rattle.am_stands.specs.Letters.{LetterSays}
 use Rattle.am_stands.specs.States.{LinesOpen}

@@ -22,7 +22,7 @@ use Rattle.am_model.specs.Receiving.{is_view, with_noted, store, receive_entry, 
 use Rattle.am_model.specs.Refresh.{refresh_at_end}
 use Rattle.am_model.specs.Resets.{push_fetched, catch_up, decide_anew, fetches_from, piece_promised, piece_for, piece_row, result_row}
 use Rattle.am_model.specs.Step.{hear}
-use Rattle.am_model.proofs.Greatest.{split, and_both}
+use Rattle.am_base.proofs.Greatest.{split, and_both}
 use Rattle.am_effects.proofs.Rests.{rests_at_end}
 use Rattle.am_headline.proofs.Ways.{decide_alike}
 

@@ -24,13 +24,13 @@ use Rattle.am_chain_lists.proofs.Prefixes.{begins_refl, begins_trans}
 use Rattle.am_chain_lists.proofs.Members.{good_begins}
 use Rattle.am_chain_moves.specs.Group as groups
 use Rattle.am_chain_moves.specs.Group.{Group}
-use Rattle.am_model.specs.Node.{Node, set_at, waiting, is_asking, founder, stranger, founders_view, lowest_or_first}
+use Rattle.am_model.specs.Node.{Node, set_at, waiting, is_asking, founder, stranger, founders_view, lowest_or_first, has_log, has_departed}
 use Rattle.am_model.specs.Emit.{Step}
-use Rattle.am_model.specs.Group.{sent_in, accepted_sends, has_log}
-use Rattle.am_model.specs.Lawful.{whole}
-use Rattle.am_model.specs.World.{World, record_of, has_departed, start, with_step, run}
-use Rattle.am_model.specs.Claims.{heard_by, welcomes}
-use Rattle.am_model.proofs.Greatest.{split}
+use Rattle.am_play.specs.Group.{sent_in, accepted_sends}
+use Rattle.am_play.specs.Lawful.{whole}
+use Rattle.am_play.specs.World.{World, record_of, start, with_step, run}
+use Rattle.am_play.specs.Claims.{heard_by, welcomes}
+use Rattle.am_base.proofs.Greatest.{split}
 use Rattle.am_effects.specs.Causes.{Cause, hears}
 use Rattle.am_effects.specs.Changes.{Changes, unchanged, changed}
 use Rattle.am_effects.specs.Effects.{Effect, Answers, HasTaken, AnswersAsk, WasSettled}

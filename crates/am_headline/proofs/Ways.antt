@@ -16,7 +16,7 @@ use Rattle.am_model.specs.Ballots.{Verdict, decide, ends, goes_on, restart_repor
 use Rattle.am_model.specs.Calls.{with_queued, is_unfinished}
 use Rattle.am_model.specs.Joining.{begin_list}
 use Rattle.am_model.specs.Refresh.{refresh, settle, refresh_at_end}
-use Rattle.am_model.proofs.Greatest.{and_both}
+use Rattle.am_base.proofs.Greatest.{and_both}
 use Rattle.am_effects.specs.Causes.{Cause, hears}
 use Rattle.am_effects.specs.Looks.{Looks, decides}
 use Rattle.am_effects.specs.Changes.{MayBeWelcomed, Change, refreshes, settles, numbers, stores, begins_list, departs}

@@ -2,7 +2,7 @@
 //! name is moves of the group that stands for its world (`am_steps`).
 #![tactic(auto)]
 
-ghost use Rattle.am_model.specs.Claims.{HeadlineHolds, ViewsFit};
+ghost use Rattle.am_play.specs.Claims.{HeadlineHolds, ViewsFit};
 
 /// Up to its lawful front each run keeps the headline: each name is given a gapless segment of the group's list, which has each accepted send
 /// once, and only what was sent before, each sender's requests in turn; and a complete view keeps what was given out before it. And each node is

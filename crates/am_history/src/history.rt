@@ -146,7 +146,7 @@ impl Log for History {
         self.above.row(name)
     }
 
-    fn image_at_base(&self) -> Image {
+    fn image_at_base(&self) -> &Image {
         self.below.image()
     }
 
@@ -212,7 +212,7 @@ mod tests {
         let made = History::new(rt.alloc(), 1);
         assert!(rt; made.is_ok());
         if let Ok(mut history) = made {
-            history.begin(0, &Table::blank().image());
+            history.begin(0, Table::blank().image());
             let first = Name::of_byte(0);
             let view = Entry::View {
                 stamp: Stamp {

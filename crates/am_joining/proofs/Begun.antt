@@ -9,8 +9,7 @@ use Rattle.am_base.specs.Lists.{fold, row_of}
 use Rattle.am_core.specs.Cores.{IsInOrder}
 use Rattle.am_model.specs.declared.status.Status.{Status}
 use Rattle.am_model.specs.declared.status.Status.TheVariants.{Stranger, Asking, Member, Departed}
-use Rattle.am_model.specs.Group.{has_log}
-use Rattle.am_model.specs.Node.{Node, view, is_asking, is_member, only_name, is_within_bound}
+use Rattle.am_model.specs.Node.{has_log, Node, view, is_asking, is_member, only_name, is_within_bound}
 use Rattle.am_model.specs.Emit.{quiet, telling, nack_of, fetch_of}
 use Rattle.am_model.specs.Joining.{begin_list, ask_next, welcome_row}
 use Rattle.am_handlers.specs.Keeps.{NodeKeeps}

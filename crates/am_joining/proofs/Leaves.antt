@@ -12,7 +12,7 @@ use Rattle.am_base.specs.Lists.{row_of}
 use Rattle.am_packet.specs.declared.packet.Packet.{Packet}
 use Rattle.am_packet.specs.Boxes.{Letter, with_letter}
 use Rattle.am_core.specs.Cores.{Sends, since_accepted}
-use Rattle.am_model.specs.Node.{Node, top, image_of, others, only_name, has_room}
+use Rattle.am_model.specs.Node.{Node, top, others, only_name, has_room}
 use Rattle.am_model.specs.Emit.{quiet, polling, bcast_of, gone_of}
 use Rattle.am_model.specs.Sequencing.{row_at, is_unknown, take_report}
 use Rattle.am_model.specs.Joining.{may_go, let_go, counts_report, asks_to_leave, leave_ask_row}

@@ -4,7 +4,7 @@ ghost use Rattle.am_base.specs.declared.entry.Entry.TheVariants.{Join};
 ghost use Rattle.am_model.specs.Joining.{with_admitted, number_join, join_ask_row};
 ghost use Rattle.am_joining.specs.Pieces.{refusal_of, needs_none, welcome_again, and_welcome};
 
-use am_base::entry::Entry;
+use am_base::entry::{Entry, EntryRef};
 use am_base::image::Row;
 use am_base::name::Name;
 use am_base::outcome::Outcome;
@@ -89,7 +89,7 @@ fn number_join(parts: &mut Parts, before: u32, from: Name, out: &mut OutBox) -> 
     admit(parts, from);
     parts.push(Entry::Join(from));
     parts.end();
-    out.put(others, &bcast(&parts.core, number, &Entry::Join(from)));
+    out.put(others, &bcast(&parts.core, number, EntryRef::join(from)));
     welcome_accepted(&parts.core, number, from, out);
     Outcome::Numbered { number }
 }

@@ -13,6 +13,7 @@ use am_handlers::finishing::{OneLetter, finish_quietly, finish_telling};
 use am_handlers::parts::Parts;
 use am_letter::out_box::OutBox;
 use am_model::status::Status;
+use am_packet::image_ref::ImageRef;
 
 /// Whether the node is a member.
 fn is_member(parts: &Parts) -> bool
@@ -108,13 +109,14 @@ fn ask_on(
 /// Takes a Welcome of the sequencer of a view, at a node that has asked to join or is a member. Known: it is a member.
 /// Elsewhere: the node has promised to more. Unfit: the Join is out of bounds, the image is of a later view, or the name
 /// stands in it. Else the list begins at the base and the node asks for what comes next: Welcomed. The out box must be empty.
+#[inline(never)]
 pub fn on_welcome(
     parts: &mut Parts,
     from: Name,
     stamp: Stamp,
     base: u32,
     join: u32,
-    image: &Image,
+    image: &ImageRef,
     out: &mut OutBox,
 ) -> Outcome
     requires hears { (is_member (node_of parts.old).status || is_asking (node_of parts.old).status)
@@ -134,9 +136,10 @@ pub fn on_welcome(
     if has_promised_more(parts, stamp) {
         return finish_quietly(parts, before, Outcome::Elsewhere, out);
     }
-    if is_unfit(parts, &stamp, base, join, image) {
+    let image = image.to_image();
+    if is_unfit(parts, &stamp, base, join, &image) {
         return finish_quietly(parts, before, Outcome::Unfit, out);
     }
-    begin(parts, stamp, base, join, image);
+    begin(parts, stamp, base, join, &image);
     ask_on(parts, before, from, stamp, join, out)
 }

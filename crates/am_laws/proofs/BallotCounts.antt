@@ -9,10 +9,11 @@ use Rattle.am_base.specs.Names.{names_of}
 use Rattle.am_fronts.specs.Reports as reports
 use Rattle.am_fronts.specs.Reports.{least_of}
 use Rattle.am_model.specs.Node.{Node, Ballot, top, image_of, push_entry}
-use Rattle.am_model.specs.Ballots.{Verdict, with_promise, taken_by, goes_on, ends as ended, decide_view, trim_for, restart_reports, decide, next_stamp, new_ballot}
+use Rattle.am_model.specs.Ballots.{Verdict, with_promise, taken_by, goes_on, ends as ended, decide_view, trim_for, restart_reports, decide, next_stamp}
+use Rattle.am_model.specs.Ballots.{new_ballot}
 use Rattle.am_model.specs.Ballots.{begin, with_vote, keep_vote, without_voter, give_up}
 use Rattle.am_model.specs.Calls.{give_up_of, give_up_row, reset_row}
-use Rattle.am_model.proofs.Greatest.{split}
+use Rattle.am_base.proofs.Greatest.{split}
 use Rattle.am_laws.specs.Packets.{Bounds, up}
 use Rattle.am_laws.proofs.Counts.{Low, Behind, VotesKnown, low_more, low_viewed, low_trimmed, low_promised, least_low, Ends, ends_next, ends as plans}
 

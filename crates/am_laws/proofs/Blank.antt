@@ -7,12 +7,11 @@ use Rattle.am_base.specs.Lists.{Log, blank, top_of}
 use Rattle.am_core.specs.Cores.{accept, pass_over}
 use Rattle.am_model.specs.declared.status.Status.{Status}
 use Rattle.am_model.specs.declared.status.Status.TheVariants as status
-use Rattle.am_model.specs.Node.{Node, Ballot, is_member, is_sequencer}
+use Rattle.am_model.specs.Node.{Node, Ballot, is_member, is_sequencer, has_log}
 use Rattle.am_model.specs.Ballots.{Verdict}
 use Rattle.am_model.specs.Refresh.{refresh}
-use Rattle.am_model.specs.Group.{has_log}
-use Rattle.am_model.specs.World.{World, start, first_node, with_record, with_step, run}
-use Rattle.am_model.proofs.Greatest.{split}
+use Rattle.am_play.specs.World.{World, start, first_node, with_record, with_step, run}
+use Rattle.am_base.proofs.Greatest.{split}
 use Rattle.am_effects.specs.Causes.{Cause}
 use Rattle.am_effects.specs.Changes.{Change, refreshes, settles, numbers, notes, stores, begins_list, departs}
 use Rattle.am_effects.specs.Changes.{looks, fetches, stores_view, asks_to_join, closes, Changes}

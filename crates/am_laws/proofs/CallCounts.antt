@@ -14,11 +14,12 @@ use Rattle.am_model.specs.declared.status.Status.{Status}
 use Rattle.am_model.specs.declared.status.Status.TheVariants as status
 use Rattle.am_model.specs.Node.{Node, Ballot, top, push_entry, waiting, unsettled_count}
 use Rattle.am_model.specs.Emit.{Plan, quiet}
-use Rattle.am_model.specs.Calls.{number_send, emit, with_queued, queue, give_out, join_by, state_by, go, is_unfinished, leave_now, leave_by, ask_of, send_row, done_row}
+use Rattle.am_model.specs.Calls.{number_send, emit, with_queued, queue, give_out, join_by, state_by, go, is_unfinished, leave_now, leave_by, ask_of, send_row}
+use Rattle.am_model.specs.Calls.{done_row}
 use Rattle.am_model.specs.Calls.{take_row, join_row, state_row, leave_row, ask_row}
 use Rattle.am_model.specs.Receiving.{is_view}
 use Rattle.am_model.specs.Ticks.{tick_ballot, tick_member, put_off, and_result, tick_sequencer, tick_acting, tick_with, tick_by, tick_row}
-use Rattle.am_model.proofs.Greatest.{split}
+use Rattle.am_base.proofs.Greatest.{split}
 use Rattle.am_laws.specs.Packets.{Bounds, up}
 use Rattle.am_laws.proofs.Counts.{Low, Behind, Ends, ends_if, ends_at, ends_next, ends, low_pushed, none_waits}
 
@@ -95,7 +96,8 @@ ends_done most g m req h = ends_at most g _ (record {
 
 -- ---- what is accepted
 
-ends_given : (most : Bounds) (g : ℕ) (m : Node) (e : Option Entry) → (m.core.taken == m.core.acc) ≡ false → Behind g m → Low most g m → Ends most g (give_out m e)
+ends_given : (most : Bounds) (g : ℕ) (m : Node) (e : Option Entry) → (m.core.taken == m.core.acc) ≡ false → Behind g m → Low most g m
+    → Ends most g (give_out m e)
 ends_given most g m None more k h = ends_at most g _ h
 ends_given most g m (Some e) more k h =
     let given = h.given in

@@ -20,8 +20,8 @@ use Rattle.am_model.specs.Refresh.{advance, lead, refresh, accepted_at, settle_a
 use Rattle.am_model.specs.Emit.{Plan, finish}
 use Rattle.am_model.specs.Ballots.{overtake, with_promise}
 use Rattle.am_model.specs.Receiving.{is_view}
-use Rattle.am_model.proofs.Greatest.{split}
-use Rattle.am_model.proofs.AcceptFronts.{accept_front_is}
+use Rattle.am_base.proofs.Greatest.{split}
+use Rattle.am_meaning.proofs.AcceptFronts.{accept_front_is}
 use Rattle.am_effects.proofs.Says.{view_pushed}
 use Rattle.am_laws.specs.Packets.{Bounds, up}
 

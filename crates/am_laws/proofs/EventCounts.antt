@@ -15,8 +15,8 @@ use Rattle.am_model.specs.Node.{Node}
 use Rattle.am_model.specs.Emit.{Step}
 use Rattle.am_model.specs.Step.{step, hear, hear_refusal}
 use Rattle.am_model.specs.Lengths.{packet_length}
-use Rattle.am_model.specs.World.{World, is_stopped, with_record, with_step, hears_letter, hear_cut, lives_on, acts_as, happens}
-use Rattle.am_model.specs.Claims.{heard_by}
+use Rattle.am_play.specs.World.{World, is_stopped, with_record, with_step, hears_letter, hear_cut, lives_on, acts_as, happens}
+use Rattle.am_play.specs.Claims.{heard_by}
 use Rattle.am_effects.specs.Events.{actor}
 use Rattle.am_laws.specs.Packets.{Bounds, up, UpTo}
 use Rattle.am_laws.proofs.Counts.{Low, Behind, low_more}

@@ -3,10 +3,10 @@ use Rattle.std.proofs.Common.{ℕ, ◌-◌, List, length, Option, Some, None, su
 use Rattle.std.proofs.Math.Seq.{take-length}
 use Rattle.am_base.specs.Founding.{Rules}
 use Rattle.am_group.specs.declared.event.Event.{Event}
-use Rattle.am_model.specs.World.{run}
-use Rattle.am_model.specs.Claims.{Begins}
-use Rattle.am_model.specs.Lawful.{broken_at, before_break}
-use Rattle.am_model.proofs.Beginnings.{runs_begin}
+use Rattle.am_play.specs.World.{run}
+use Rattle.am_play.specs.Claims.{Begins}
+use Rattle.am_play.specs.Lawful.{broken_at, before_break}
+use Rattle.am_play.proofs.Beginnings.{runs_begin}
 use Rattle.am_laws.specs.Begins.{FrontBegins}
 
 before_begins : (rules : Rules) (events : List Event) (o : Option ℕ) → Begins (run rules (before_break events o)) (run rules events)

@@ -16,13 +16,13 @@ use Rattle.am_group.specs.declared.event.Event.{Event}
 use Rattle.am_model.specs.Node.{Node, Ballot, push_entry}
 use Rattle.am_model.specs.Ballots.{Verdict, overtake}
 use Rattle.am_model.specs.Refresh.{refresh, refresh_at_end}
-use Rattle.am_model.specs.World.{World, start, current, is_stopped, with_record, with_step, run}
-use Rattle.am_model.proofs.Greatest.{split}
+use Rattle.am_play.specs.World.{World, start, current, is_stopped, with_record, with_step, run}
+use Rattle.am_base.proofs.Greatest.{split}
 use Rattle.am_effects.specs.Causes.{Cause, calls}
 use Rattle.am_effects.specs.Looks.{HasOpen, Balloting, with_more, without_one, as_it_is, Looks, finds_itself_out}
 use Rattle.am_effects.specs.Changes.{Change, refreshes, settles, promises}
 use Rattle.am_effects.specs.Changes.{opens, looks, closes}
-use Rattle.am_effects.specs.Events.{actor, IsCall, IsCause, Happens, idles, stops, returns, steps}
+use Rattle.am_effects.specs.Events.{actor, IsCall, IsCause, idles, stops, returns, steps}
 use Rattle.am_effects.specs.Events as event
 use Rattle.am_effects.proofs.Rests.{rests_refresh, rests_at_end, settle_is}
 use Rattle.am_effects.proofs.Runs.{along, EachKeeps, runs_keep}

@@ -22,14 +22,15 @@ use Rattle.am_sender.specs.declared.OwnSend.{OwnSend}
 use Rattle.am_model.specs.Node.{Node, Ballot, top, image_of, is_within_bound, push_entry, trim_up_to, with_report, waiting}
 use Rattle.am_model.specs.Emit.{Plan}
 use Rattle.am_model.specs.Sequencing.{take_report, number_data, answer_request, request_row, ack_row, serve_again, nack_row}
-use Rattle.am_model.specs.Receiving.{spread_row, is_view, store_fitting, store, with_noted, receive_entry, bcast_row, data_of, body_of, order_row, accept_row, answer_hold, hold_row}
+use Rattle.am_model.specs.Receiving.{spread_row, is_view, store_fitting, store, with_noted, receive_entry, bcast_row, data_of, body_of, order_row, accept_row}
+use Rattle.am_model.specs.Receiving.{answer_hold, hold_row}
 use Rattle.am_model.specs.Joining.{with_admitted, number_join, asks_to_join, join_ask_row, begin_list, welcome_row, asks_to_leave, leave_ask_row, gone_row}
 use Rattle.am_model.specs.Ballots.{with_promise}
 use Rattle.am_model.specs.Resets.{invite_row, take_vote, vote_row, fetch_row, push_fetched, catch_up, decide_anew, piece_promised, piece_for, piece_row}
 use Rattle.am_model.specs.Resets.{hears_result, result_row, hand_over_row}
 use Rattle.am_model.specs.Hearing.{hear_row}
 use Rattle.am_model.specs.Step.{row, step, hear, hear_refusal, refuse}
-use Rattle.am_model.proofs.Greatest.{split}
+use Rattle.am_base.proofs.Greatest.{split}
 use Rattle.am_effects.proofs.Tests.{or_first}
 use Rattle.am_laws.specs.Packets.{Bounds, up, UpTo}
 use Rattle.am_laws.proofs.Counts.{IsKnown, VotesKnown, leads, Low, Behind, low_pushed, low_any, low_within, low_trimmed, low_report, low_promised, low_refresh}
@@ -42,7 +43,8 @@ use Rattle.am_laws.proofs.CallCounts.{ends_send, ends_done, ends_take, ends_join
 low_reported : (most : Bounds) (g : ℕ) (m : Node) (s : ℕ) (report : Report) → report.taken ≤ g → Low most g m → Low most g (take_report m s report)
 low_reported most g m s report taken h = low_refresh most g (with_report m s report) (low_report most g m s report taken h)
 
-ends_requested : (most : Bounds) (g : ℕ) (m : Node) (s req : ℕ) (body : List ℕ) (by_order : Bool) → Low most g m → Ends most g (answer_request m s req body by_order)
+ends_requested : (most : Bounds) (g : ℕ) (m : Node) (s req : ℕ) (body : List ℕ) (by_order : Bool) → Low most g m
+    → Ends most g (answer_request m s req body by_order)
 ends_requested most g m s req body by_order h =
     let k : Ends most g (number_data m s req body by_order) = ends_next most g _ (low_pushed most g m (Data s req body) refl h) in
     search (ends, k)
@@ -112,7 +114,8 @@ low_noted most g m base acc low h =
 
 ends_bcast : (most : Bounds) (g : ℕ) (m : Node) (s base acc number : ℕ) (e : Entry) → acc ≤ g → Low most g m → Ends most g (bcast_row m s base acc number e)
 unfolding bcast_row
-ends_bcast most g m s base acc number e low h = ends_received most g (with_noted m base acc) s base number (Some e) said.Known (low_noted most g m base acc low h)
+ends_bcast most g m s base acc number e low h = ends_received most g (with_noted m base acc) s base number (Some e) said.Known
+    (low_noted most g m base acc low h)
 
 ends_order : (most : Bounds) (g : ℕ) (m : Node) (s base acc number from req : ℕ) → acc ≤ g → Low most g m → Ends most g (order_row m s base acc number from req)
 unfolding order_row

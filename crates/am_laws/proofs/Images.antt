@@ -11,7 +11,7 @@ use Rattle.am_base.specs.declared.image.Row.{Row}
 use Rattle.am_base.specs.declared.image.Image.{Image}
 use Rattle.am_base.specs.Names.{place_of, life_of, by_place}
 use Rattle.am_base.specs.Lists.{Log, blank_row, blank, is_blank, at_place, row_of, member_life, row_after_view, after, fold, top_of, image_at, told_by}
-use Rattle.am_model.proofs.Greatest.{split}
+use Rattle.am_base.proofs.Greatest.{split}
 
 -- ---- rows
 

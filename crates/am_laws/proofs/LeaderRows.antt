@@ -18,7 +18,7 @@ use Rattle.am_core.proofs.Lives.{JoinFits, JoinsFit, IsUsed, row_at, used_after,
 use Rattle.am_chain_lists.proofs.Rows.{In, mod16, long_after, set_keeps, row_view}
 use Rattle.am_fronts.specs.Reports.{least_taken}
 use Rattle.am_fronts.proofs.Leaders.{least_reported}
-use Rattle.am_model.proofs.Greatest.{split}
+use Rattle.am_base.proofs.Greatest.{split}
 
 -- ---- lists in which each Join fits
 

@@ -9,7 +9,7 @@ use Rattle.am_packet.specs.declared.packet.Packet.{Packet}
 use Rattle.am_model.specs.Node.{Node, top, image_of}
 use Rattle.am_model.specs.Sequencing.{row_at}
 use Rattle.am_model.specs.Joining.{may_go}
-use Rattle.am_model.proofs.Greatest.{split}
+use Rattle.am_base.proofs.Greatest.{split}
 use Rattle.am_effects.specs.Causes.{Cause}
 use Rattle.am_effects.specs.Letters.{MayWelcome, just_joined, asks_again, Says, request, spread, bcast, order, accept, ack, nack, hold, join_ask, welcome}
 use Rattle.am_effects.specs.Letters.{leave_ask, gone, invite, vote, fetch, piece, result, hand_over}

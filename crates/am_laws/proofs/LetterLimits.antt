@@ -14,7 +14,7 @@ use Rattle.am_packet.specs.declared.packet.Packet.TheVariants as packet
 use Rattle.am_codec.specs.Limits.{IsPacket, IsWithin, HasParts}
 use Rattle.am_model.specs.Node.{Node, top, image_of}
 use Rattle.am_model.specs.Ticks.{viewed_by}
-use Rattle.am_model.proofs.Greatest.{split}
+use Rattle.am_base.proofs.Greatest.{split}
 use Rattle.am_effects.specs.Causes.{Cause, hears}
 use Rattle.am_effects.specs.Letters.{HasSend, Says, request, spread, bcast, order, hold, welcome, vote}
 use Rattle.am_effects.specs.Letters.{piece, result}

@@ -16,7 +16,7 @@ use Rattle.am_base.specs.Limits.{IsImage, IsEntry}
 use Rattle.am_base.specs.Lists.{Log, blank_row, blank, is_blank, at_place, member_life, members_of, row_after_view, after, fold, image_at, told_by}
 use Rattle.am_codec.specs.Limits.{HasEntryParts}
 use Rattle.am_model.specs.Node.{name_where, those}
-use Rattle.am_model.proofs.Greatest.{split}
+use Rattle.am_base.proofs.Greatest.{split}
 use Rattle.am_laws.specs.Packets.{Bounds, up}
 use Rattle.am_laws.proofs.Images.{ImageUp, all_places, up_at}
 

@@ -26,7 +26,7 @@ use Rattle.am_model.specs.Node.{Node, Ballot, image_of, waiting, push_entry}
 use Rattle.am_model.specs.Ballots.{Verdict, overtake, own_vote, best_of, need_of, left_in}
 use Rattle.am_model.specs.Receiving.{own_body, first_body, body_of, bodies_after}
 use Rattle.am_model.specs.Refresh.{refresh, accepted_at, settle_at, settle_waiting, settle, refresh_at_end}
-use Rattle.am_model.proofs.Greatest.{split}
+use Rattle.am_base.proofs.Greatest.{split}
 use Rattle.am_effects.specs.Causes.{Cause, calls, hears, BringsSend, by_request, by_spread}
 use Rattle.am_effects.specs.Looks.{HasOpen, Balloting, with_more, without_one, as_it_is, Looks, finds_itself_out, waits, fetches_from_best, finds_too_few}
 use Rattle.am_effects.specs.Looks.{finds_no_room, decides}

@@ -19,9 +19,9 @@ use Rattle.am_group.specs.Addressed.{is_for}
 use Rattle.am_group.specs.Journals.{letter_at}
 use Rattle.am_model.specs.Node.{Node, founder, stranger, founders_view}
 use Rattle.am_model.specs.Emit.{Step}
-use Rattle.am_model.specs.World.{World, start, is_stopped, with_record, with_step, hears_letter, acts_as, happens, happen, run}
-use Rattle.am_model.specs.Claims.{heard_by}
-use Rattle.am_model.proofs.Bytes.{spelling_is_heard, cut_is_heard}
+use Rattle.am_play.specs.World.{World, start, is_stopped, with_record, with_step, hears_letter, acts_as, happens, happen, run}
+use Rattle.am_play.specs.Claims.{heard_by}
+use Rattle.am_meaning.proofs.Bytes.{spelling_is_heard, cut_is_heard}
 use Rattle.am_effects.specs.Causes.{Cause, hears}
 use Rattle.am_effects.specs.Letters.{LetterSays}
 use Rattle.am_effects.specs.Effects.{Effect}
@@ -135,8 +135,8 @@ limited_happens rules b w e body h =
 by_letter : (w : World) (e : Event) (name : ℕ) (f g : Packet → Step) (found : Option Letter)
     → ((letter : Letter) → found ≡ Some letter → f letter.packet ≡ g letter.packet) → hears_letter w e name f found ≡ hears_letter w e name g found
 by_letter w e name f g None h = refl
-by_letter w e name f g (Some letter) h = ap (λ s. if not (is_for letter name) then with_record w e said.NotAddressed else if is_stopped w name then with_record w e
-    said.IsStopped else with_step w e name s) (h letter refl)
+by_letter w e name f g (Some letter) h = ap (λ s. if not (is_for letter name) then with_record w e said.NotAddressed else if is_stopped w name then with_record
+    w e said.IsStopped else with_step w e name s) (h letter refl)
 
 abbrev HoldsPackets : World → Type 0
 HoldsPackets w = (number : ℕ) (letter : Letter) → letter_at w.letters number ≡ Some letter → IsPacket letter.packet

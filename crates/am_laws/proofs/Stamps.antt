@@ -4,7 +4,7 @@ use Rattle.std.proofs.lemmas.Bool.Decides.{nat_tests}
 use Rattle.am_base.specs.declared.name.Stamp.{Stamp}
 use Rattle.am_base.specs.Names.{rank_of}
 use Rattle.am_base.specs.Stamps.{stamp_lt, stamp_eq}
-use Rattle.am_model.proofs.Greatest.{split}
+use Rattle.am_base.proofs.Greatest.{split}
 
 -- of two pairs of numbers
 abbrev Lower : ℕ → ℕ → ℕ → ℕ → Type 0

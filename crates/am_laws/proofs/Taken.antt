@@ -26,8 +26,8 @@ use Rattle.am_model.specs.Receiving.{is_view}
 use Rattle.am_model.specs.Sequencing.{is_unknown}
 use Rattle.am_model.specs.Sequencing as sequencing
 use Rattle.am_model.specs.Hearing.{hears_member, hears_asking, hears_sequencer, hears_in_view}
-use Rattle.am_model.specs.Group.{has_log}
-use Rattle.am_model.proofs.Greatest.{split, and_both}
+use Rattle.am_model.specs.Node.{has_log}
+use Rattle.am_base.proofs.Greatest.{split, and_both}
 use Rattle.am_effects.specs.Causes.{Cause, hears}
 use Rattle.am_effects.specs.Looks.{HasOpen, Balloting, with_more, without_one, as_it_is, Looks, finds_itself_out, waits, fetches_from_best, finds_too_few}
 use Rattle.am_effects.specs.Looks.{finds_no_room, decides}
@@ -301,7 +301,8 @@ fetch_follows m s v base (View stamp names resilience) why other same below t =
     not_own n stamp.by (ap (λ (x : Stamp). x.by) last) (fetched_view m s v stamp names resilience why other is) t
 
 -- a promise that isn't below the view, by whom it is made
-promised_follows : (c : Cause) (m : Node) (v : Stamp) → Promises c m v → stamp_lt v m.core.promise ≡ false → Balloted m → is_sequencer (with_promise m v) ≡ true → ⊥
+promised_follows : (c : Cause) (m : Node) (v : Stamp) → Promises c m v → stamp_lt v m.core.promise ≡ false → Balloted m → is_sequencer (with_promise m v) ≡ true
+    → ⊥
 promised_follows c m v (invited s _ is heard own) low k t =
     let p = promise_is (with_promise m v) t in
     not_own (with_promise m v) s (ap (λ (x : Stamp). x.by) (sym p) ∙ stamp_by v s own) (other_asks m s heard) t

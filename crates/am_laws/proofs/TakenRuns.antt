@@ -12,9 +12,9 @@ use Rattle.am_packet.specs.Boxes.{Letter}
 use Rattle.am_core.proofs.Lives.{used_fold}
 use Rattle.am_group.specs.declared.event.Event.{Event}
 use Rattle.am_model.specs.Node.{Node, founder, stranger, founding_stamp}
-use Rattle.am_model.specs.World.{World, start, with_step, run}
-use Rattle.am_model.specs.Claims.{heard_by}
-use Rattle.am_model.proofs.Greatest.{split}
+use Rattle.am_play.specs.World.{World, start, with_step, run}
+use Rattle.am_play.specs.Claims.{heard_by}
+use Rattle.am_base.proofs.Greatest.{split}
 use Rattle.am_effects.specs.Causes.{Cause}
 use Rattle.am_effects.specs.Letters.{Says, welcome}
 use Rattle.am_effects.specs.Letters.{LetterSays}

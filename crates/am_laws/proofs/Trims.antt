@@ -21,7 +21,7 @@ use Rattle.am_fronts.proofs.ReportLaws.{count_cons}
 use Rattle.am_chain_lists.proofs.Rows.{mod16}
 use Rattle.am_model.specs.Node.{Node, Ballot, top, image_of, members, others, is_sequencer, push_entry, trim_up_to}
 use Rattle.am_model.specs.Refresh.{advance, lead, refresh, settle, refresh_at_end}
-use Rattle.am_model.proofs.Greatest.{split}
+use Rattle.am_base.proofs.Greatest.{split}
 use Rattle.am_effects.proofs.Rests.{settle_is}
 use Rattle.am_effects.proofs.Says.{told_pushed}
 use Rattle.am_core.proofs.Lives.{JoinFits, JoinsFit}

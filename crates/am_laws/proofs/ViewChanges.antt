@@ -12,14 +12,13 @@ use Rattle.am_base.specs.Lists.{Log, fits, fold, told_by}
 use Rattle.am_packet.specs.declared.packet.Packet.TheVariants as packet
 use Rattle.am_model.specs.declared.status.Status.{Status}
 use Rattle.am_model.specs.declared.status.Status.TheVariants as status
-use Rattle.am_model.specs.Node.{Node, Ballot, image_of, view, acts, is_sequencer, is_member, is_asking, push_entry, trim_up_to}
+use Rattle.am_model.specs.Node.{Node, Ballot, image_of, view, acts, is_sequencer, is_member, is_asking, push_entry, trim_up_to, has_log}
 use Rattle.am_model.specs.Ballots.{Verdict, overtake, need_of, left_in, trim_for, next_stamp}
 use Rattle.am_model.specs.Calls.{is_unfinished}
 use Rattle.am_model.specs.Receiving.{is_view}
 use Rattle.am_model.specs.Refresh.{refresh}
 use Rattle.am_model.specs.Hearing.{hears_member, hears_in_view, hears_sequencer}
-use Rattle.am_model.specs.Group.{has_log}
-use Rattle.am_model.proofs.Greatest.{split}
+use Rattle.am_base.proofs.Greatest.{split}
 use Rattle.am_effects.specs.Causes.{Cause}
 use Rattle.am_effects.specs.Looks.{HasOpen, Balloting, with_more, without_one, as_it_is, Looks, finds_itself_out, waits, fetches_from_best, finds_too_few}
 use Rattle.am_effects.specs.Looks.{finds_no_room, decides}

@@ -13,7 +13,7 @@ use Rattle.am_base.proofs.Places.{slice_index-by_place, length-by_place}
 use Rattle.am_core.proofs.Lives.{row_at, member_at}
 use Rattle.am_chain_lists.proofs.Rows.{mod16, row_view, long_after, blank_joined}
 use Rattle.am_model.specs.Node.{name_where, those}
-use Rattle.am_model.proofs.Greatest.{split}
+use Rattle.am_base.proofs.Greatest.{split}
 
 -- ---- members, place by place
 

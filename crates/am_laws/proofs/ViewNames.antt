@@ -14,7 +14,7 @@ use Rattle.am_model.specs.Node.{Node, Ballot, push_entry}
 use Rattle.am_model.specs.Ballots.{Verdict, overtake}
 use Rattle.am_model.specs.Receiving.{is_view}
 use Rattle.am_model.specs.Refresh.{refresh, refresh_at_end}
-use Rattle.am_model.proofs.Greatest.{split}
+use Rattle.am_base.proofs.Greatest.{split}
 use Rattle.am_effects.specs.Causes.{Cause, hears}
 use Rattle.am_effects.specs.Looks.{HasOpen, Balloting, with_more, without_one, as_it_is, Looks}
 use Rattle.am_effects.specs.Looks.{decides}

@@ -10,7 +10,7 @@ use Rattle.am_base.specs.Stamps.{stamp_lt}
 use Rattle.am_base.specs.Lists.{Log, at_place, after, fits, entry_at, told_by, with_entry}
 use Rattle.am_model.specs.Node.{Node, top, image_of, view, push_entry}
 use Rattle.am_model.specs.Receiving.{is_view}
-use Rattle.am_model.proofs.Greatest.{split}
+use Rattle.am_base.proofs.Greatest.{split}
 use Rattle.am_effects.proofs.Items.{get_front, get_last}
 use Rattle.am_effects.proofs.Says.{told_pushed}
 use Rattle.am_effects.proofs.Ballots.{entry_is}

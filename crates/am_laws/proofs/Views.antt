@@ -13,11 +13,10 @@ use Rattle.am_base.specs.Lists.{entry_at, fold, after}
 use Rattle.am_packet.specs.declared.packet.Packet.{Packet}
 use Rattle.am_packet.specs.Boxes.{Letter}
 use Rattle.am_group.specs.declared.event.Event.{Event}
-use Rattle.am_model.specs.Node.{Node, image_of, view, set_at, is_member, founder, stranger, lowest_or_first, founders_view}
-use Rattle.am_model.specs.Group.{has_log}
-use Rattle.am_model.specs.World.{Decided, World, start, first_node, founders_decided, last_view, decides, views_after, with_step, run}
-use Rattle.am_model.specs.Claims.{heard_by}
-use Rattle.am_model.proofs.Greatest.{split}
+use Rattle.am_model.specs.Node.{Node, image_of, view, set_at, is_member, founder, stranger, lowest_or_first, founders_view, has_log}
+use Rattle.am_play.specs.World.{Decided, World, start, first_node, founders_decided, last_view, decides, views_after, with_step, run}
+use Rattle.am_play.specs.Claims.{heard_by}
+use Rattle.am_base.proofs.Greatest.{split}
 use Rattle.am_effects.specs.Causes.{Cause}
 use Rattle.am_effects.specs.Letters.{Says, request}
 use Rattle.am_effects.specs.Letters.{LetterSays}

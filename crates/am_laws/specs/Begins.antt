@@ -2,9 +2,9 @@
 use Rattle.std.specs.Prelude.{ℕ, List, take}
 use Rattle.am_base.specs.Founding.{Rules}
 use Rattle.am_group.specs.declared.event.Event.{Event}
-use Rattle.am_model.specs.World.{run}
-use Rattle.am_model.specs.Claims.{Begins}
-use Rattle.am_model.specs.Lawful.{lawful_front}
+use Rattle.am_play.specs.World.{run}
+use Rattle.am_play.specs.Claims.{Begins}
+use Rattle.am_play.specs.Lawful.{lawful_front}
 
 -- the records, the letters and the group list of a run's first events begin the run's
 abbrev pub RunsBegin : Type 0

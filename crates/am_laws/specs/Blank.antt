@@ -3,9 +3,8 @@ use Rattle.std.specs.Prelude.{◌≡◌, ℕ, ◌<◌, List, [], None, false}
 use Rattle.am_base.specs.Founding.{Rules, MayFound}
 use Rattle.am_base.specs.Lists.{blank}
 use Rattle.am_group.specs.declared.event.Event.{Event}
-use Rattle.am_model.specs.Node.{Node}
-use Rattle.am_model.specs.Group.{has_log}
-use Rattle.am_model.specs.World.{run}
+use Rattle.am_model.specs.Node.{Node, has_log}
+use Rattle.am_play.specs.World.{run}
 
 -- nothing is told, accepted or taken, and no ballot was begun
 pub record IsBlank (m : Node) : Type 0 where

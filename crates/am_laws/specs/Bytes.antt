@@ -13,7 +13,7 @@ use Rattle.am_group.specs.declared.event.Act.TheVariants as act
 use Rattle.am_group.specs.declared.event.Event.{Event}
 use Rattle.am_group.specs.Journals.{letter_at}
 use Rattle.am_model.specs.Step.{step}
-use Rattle.am_model.specs.World.{World, start, current, hears_letter, acts_as, run}
+use Rattle.am_play.specs.World.{World, start, current, hears_letter, acts_as, run}
 
 -- a body that is sent has at most 1,024 bytes
 abbrev pub BodyWithin : Act → Type 0
@@ -40,7 +40,8 @@ LettersAreRead = (rules : Rules) (events : List Event) → IsShort rules events 
 
 abbrev pub acts_by_bytes : World → Event → ℕ → Act → World
 acts_by_bytes w e name (act.Hear number) = hears_letter w e name (λ p. step (w.nodes name) (does.Hear (spelling p))) (letter_at w.letters number)
-acts_by_bytes w e name (act.Cut number keep) = hears_letter w e name (λ p. step (w.nodes name) (does.Hear (take keep (spelling p)))) (letter_at w.letters number)
+acts_by_bytes w e name (act.Cut number keep) = hears_letter w e name (λ p. step (w.nodes name) (does.Hear (take keep (spelling p))))
+    (letter_at w.letters number)
 acts_by_bytes w e name a = acts_as w e name a
 
 unfoldable pub happen_by_bytes : World → List Event → World

@@ -3,7 +3,7 @@ use Rattle.std.specs.Prelude.{◌≡◌, ℕ, List, Some, true}
 use Rattle.am_base.specs.Founding.{Rules}
 use Rattle.am_group.specs.declared.event.Event.{Event}
 use Rattle.am_model.specs.Node.{Ballot}
-use Rattle.am_model.specs.World.{is_stopped, run}
+use Rattle.am_play.specs.World.{is_stopped, run}
 
 -- who is given up has stopped
 abbrev pub OnlyStoppedGivenUp : Type 0

@@ -5,7 +5,7 @@ use Rattle.am_packet.specs.Boxes.{Letter}
 use Rattle.am_group.specs.declared.event.Event.{Event}
 use Rattle.am_group.specs.Journals.{letter_at}
 use Rattle.am_model.specs.Node.{Node, top}
-use Rattle.am_model.specs.World.{run}
+use Rattle.am_play.specs.World.{run}
 use Rattle.am_laws.specs.Packets.{UpTo}
 
 -- of a node, after k events, where the group has accepted g entries

@@ -2,7 +2,7 @@
 use Rattle.std.specs.Prelude.{ℕ, ◌<◌, ◌≤◌, List}
 use Rattle.am_base.specs.Founding.{Rules, MayFound}
 use Rattle.am_group.specs.declared.event.Event.{Event}
-use Rattle.am_model.specs.World.{run}
+use Rattle.am_play.specs.World.{run}
 
 abbrev pub TakenHolds : Type 0
 TakenHolds = (rules : Rules) (events : List Event) (name : ℕ) → MayFound rules → name < 256

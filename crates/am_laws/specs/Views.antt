@@ -4,7 +4,7 @@ use Rattle.am_base.specs.declared.entry.Entry.TheVariants.{View}
 use Rattle.am_base.specs.Founding.{Rules, MayFound}
 use Rattle.am_base.specs.Lists.{entry_at}
 use Rattle.am_group.specs.declared.event.Event.{Event}
-use Rattle.am_model.specs.World.{Decided, World, run}
+use Rattle.am_play.specs.World.{Decided, World, run}
 
 -- no two have the same stamp
 abbrev pub NotedOnce : World → Type 0

@@ -1,1 +1,2 @@
+pub mod Nobody
 pub mod Read

@@ -6,11 +6,12 @@ ghost use Rattle.am_codec.specs.Limits.{IsWithin, IsPacket};
 ghost use Rattle.am_codec.specs.Spelling.{spelling};
 ghost use Rattle.am_letter.specs.Letters.{packet_in, bytes_in, IsSpelled};
 
-use crate::room::Room;
 use am_base::NoMemory;
 use am_base::body::PacketBytes;
+use am_base::limits::MOST_PACKET;
 use am_base::names::Names;
-use am_codec::{decode, encode};
+use am_decoding::decode;
+use am_encoding::encode;
 use am_packet::packet::Packet;
 use arrayvec::ArrayVec;
 use std::alloc::Global;
@@ -57,18 +58,6 @@ fn bytes_in<'a>(within: &'a [u8], apart: &'a Option<Vec<u8>>) -> &'a [u8]
     }
 }
 
-/// Bytes where there is room for those of any packet; what they don't take of it is let go.
-fn apart(bytes: &[u8], room: Room) -> Vec<u8>
-    requires { length bytes.now ≤ most_packet }
-    ensures { result.items ≡ bytes.now }
-{
-    let mut apart = room.into_bytes();
-    apart.clear();
-    let _ = apart.extend_from_slice(bytes);
-    apart.shrink_to_fit();
-    apart
-}
-
 impl Letter {
     /// A packet for the names of a set, or, where it is a request to join, for every life of their places.
     pub fn of(alloc: Global, to: Names, packet: &Packet) -> Result<Letter, NoMemory>
@@ -76,23 +65,24 @@ impl Letter {
         ensures { IfOk result (λ l. l ≡ letter_to to packet.now) }
     {
         let mut rooms = Vec::new(alloc);
-        rooms.push(Room::new(alloc)?)?;
+        rooms.push(PacketBytes::new(alloc)?)?;
         Ok(Letter::over(to, packet, &mut rooms))
     }
 
-    /// The same letter. Where its bytes are many they stand in one of these rooms, which is theirs then. It takes no memory.
+    /// The same letter. Its bytes are written into one of these rooms; where they are many it is theirs then. It takes no memory.
     #[tactic(auto, using(crate::proofs::Read::read_spelled))]
-    pub(crate) fn over(to: Names, packet: &Packet, rooms: &mut Vec<Room>) -> Letter
+    pub(crate) fn over(to: Names, packet: &Packet, rooms: &mut Vec<PacketBytes>) -> Letter
         requires within { IsWithin packet.now }
         requires room { 0 < vec_len rooms.old }
         ensures value { result ≡ letter_to to packet.now }
         ensures left { vec_len rooms.old ≤ vec_len rooms.new + 1 }
     {
-        let mut written = PacketBytes::default();
+        let mut written = rooms.pop().unwrap();
         encode(packet, &mut written);
         let any = packet.kind() == JOIN_ASK;
         let mut within = ArrayVec::new();
         if within.try_extend_from_slice(written.bytes()).is_ok() {
+            rooms.push_reserved(written);
             return Letter {
                 to,
                 any,
@@ -100,12 +90,11 @@ impl Letter {
                 apart: None,
             };
         }
-        let room = rooms.pop().unwrap();
         Letter {
             to,
             any,
             within,
-            apart: Some(apart(written.bytes(), room)),
+            apart: Some(written.into_bytes()),
         }
     }
 
@@ -151,7 +140,7 @@ impl Letter {
     }
 
     /// The packet that its bytes spell.
-    pub fn packet(&self) -> Packet
+    pub fn packet(&self) -> Packet<'_>
         ensures { result ≡ self.now.packet }
     {
         match decode(self.spelling()) {
@@ -164,8 +153,8 @@ impl Letter {
     pub fn copy(&self) -> LetterCopy
         ensures { result ≡ self.now }
     {
-        let mut bytes = PacketBytes::default();
-        bytes.extend(self.bytes());
+        let mut bytes = ArrayVec::new();
+        let _ = bytes.try_extend_from_slice(self.bytes());
         LetterCopy {
             to: self.to,
             any: self.any,
@@ -179,7 +168,7 @@ impl Letter {
 pub struct LetterCopy {
     to: Names,
     any: bool,
-    bytes: PacketBytes,
+    bytes: ArrayVec<u8, MOST_PACKET>,
 }
 
 impl Model for LetterCopy {
@@ -188,9 +177,9 @@ impl Model for LetterCopy {
 
     ghost Value = { boxes.Letter };
 
-    ghost view = { λ l. record { to = l.to; any = l.any; packet = packet_in l.bytes } };
+    ghost view = { λ l. record { to = l.to; any = l.any; packet = packet_in l.bytes.items } };
 
-    ghost invariant = { λ l. IsSpelled l.bytes };
+    ghost invariant = { λ l. IsSpelled l.bytes.items };
 }
 
 impl LetterCopy {
@@ -199,6 +188,6 @@ impl LetterCopy {
         ensures value { result.now ≡ spelling self.now.packet }
         ensures packet { IsPacket self.now.packet }
     {
-        self.bytes.bytes()
+        self.bytes.as_slice()
     }
 }

@@ -3,6 +3,5 @@
 
 pub mod letter;
 pub mod out_box;
-mod room;
 #[cfg(test)]
 mod tests;

@@ -1,10 +1,11 @@
-ghost use Rattle.std.specs.Prelude.{◌≡◌, ◌<◌, ◌≤◌, [], length, vec_len, IfOk, OnOk};
+ghost use Rattle.std.specs.Prelude.{◌≡◌, ◌==◌, ◌<◌, ◌≤◌, [], length, vec_len, IfOk, OnOk};
+ghost use Rattle.am_base.specs.Names.{size};
 ghost use Rattle.am_packet.specs.Boxes.{with_letter, place_for};
 ghost use Rattle.am_codec.specs.Limits.{IsWithin};
 
 use crate::letter::Letter;
-use crate::room::Room;
 use am_base::NoMemory;
+use am_base::body::PacketBytes;
 use am_base::items::Items;
 use am_base::names::Names;
 use am_packet::packet::Packet;
@@ -18,7 +19,8 @@ const MOST_LETTERS: usize = 24;
 #[derive(Drop)]
 pub struct Rooms {
     letters: Vec<Letter>,
-    rooms: Vec<Room>,
+    single: Vec<Letter>,
+    rooms: Vec<PacketBytes>,
 }
 
 impl Rooms {
@@ -26,38 +28,52 @@ impl Rooms {
     pub fn new(alloc: Global) -> Rooms {
         Rooms {
             letters: Vec::new(alloc),
+            single: Vec::new(alloc),
             rooms: Vec::new(alloc),
         }
     }
 }
 
 /// Makes as many rooms as a step may have letters.
-fn fill(alloc: Global, rooms: &mut Vec<Room>) -> Result<(), NoMemory>
+fn fill(alloc: Global, rooms: &mut Vec<PacketBytes>) -> Result<(), NoMemory>
     ensures { OnOk result (24 ≤ vec_len rooms.new) }
 {
     for _count in rooms.len()..MOST_LETTERS {
-        let room = Room::new(alloc)?;
+        let room = PacketBytes::new(alloc)?;
         rooms.push(room)?;
     }
     Ok(())
 }
 
-/// The letters of one step, at most 24. It has room for all of them from the beginning. Contracts see it as their list.
+/// Whether a set has no names.
+fn has_nobody(set: Names) -> bool
+    ensures { result ≡ (size set == 0) }
+{
+    match set.lowest() {
+        Some(_) => false,
+        None => true,
+    }
+}
+
+/// The letters of one step, at most 24. It has room for all of them from the beginning, and apart for one that is alone, as
+/// it mostly is: the large room then stays. Contracts see it as their list.
 #[derive(Drop)]
 pub struct OutBox {
     letters: Vec<Letter>,
-    rooms: Vec<Room>,
+    single: Vec<Letter>,
+    rooms: Vec<PacketBytes>,
 }
 
 impl Model for OutBox {
-    ghost use Rattle.std.specs.Prelude.{◌≤◌, ◌+◌, List, length, vec_len, vec_capacity};
+    ghost use Rattle.std.specs.Prelude.{◌≡◌, ◌<◌, ◌≤◌, ◌+◌, List, [], length, vec_len, vec_capacity};
     ghost use Rattle.am_packet.specs.Boxes as boxes;
 
     ghost Value = { List boxes.Letter };
 
     ghost view = { λ b. b.letters.items };
 
-    ghost invariant = { λ b. (length b.letters.items ≤ 24) × (24 ≤ vec_capacity b.letters) × (24 ≤ length b.letters.items + vec_len b.rooms) };
+    ghost invariant = { λ b. (length b.letters.items ≤ 24) × (24 ≤ vec_capacity b.letters) × (24 ≤ length b.letters.items + vec_len b.rooms)
+        × (b.single.items ≡ []) × (vec_len b.single < vec_capacity b.single) };
 }
 
 impl OutBox {
@@ -74,12 +90,19 @@ impl OutBox {
     {
         let Rooms {
             mut letters,
+            mut single,
             mut rooms,
         } = rooms;
         letters.clear();
         letters.reserve(MOST_LETTERS)?;
+        single.clear();
+        single.reserve_exact(1)?;
         fill(alloc, &mut rooms)?;
-        Ok(OutBox { letters, rooms })
+        Ok(OutBox {
+            letters,
+            single,
+            rooms,
+        })
     }
 
     /// The letters in their order.
@@ -94,16 +117,35 @@ impl OutBox {
     pub fn into_letters(self, alloc: Global) -> (Items<Letter>, Rooms)
         ensures { result.0 ≡ self }
     {
-        let OutBox { mut letters, rooms } = self;
-        if letters.is_empty() {
-            return (Items::new(alloc), Rooms { letters, rooms });
+        let OutBox {
+            mut letters,
+            mut single,
+            rooms,
+        } = self;
+        if letters.len() > 1 {
+            letters.shrink_to_fit();
+            let left = Rooms {
+                letters: Vec::new(alloc),
+                single,
+                rooms,
+            };
+            return (Items::of(letters), left);
         }
-        letters.shrink_to_fit();
+        if let Some(letter) = letters.pop() {
+            single.push_reserved(letter);
+            let left = Rooms {
+                letters,
+                single: Vec::new(alloc),
+                rooms,
+            };
+            return (Items::of(single), left);
+        }
         let left = Rooms {
-            letters: Vec::new(alloc),
+            letters,
+            single,
             rooms,
         };
-        (Items::of(letters), left)
+        (Items::new(alloc), left)
     }
 
     /// How many letters are of this kind or a lower one, which come first.
@@ -124,7 +166,7 @@ impl OutBox {
         requires within { IsWithin packet.now }
         ensures { self.new ≡ with_letter to packet.now self.old }
     {
-        if to.len() == 0 {
+        if has_nobody(to) {
             return;
         }
         let at = self.place_for(packet.kind());

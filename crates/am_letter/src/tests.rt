@@ -4,15 +4,12 @@ ghost use Rattle.am_codec.specs.Limits.{IsWithin};
 use crate::letter::Letter;
 use crate::out_box::OutBox;
 use am_base::names::Names;
-use am_codec::decode;
+use am_codec::vectors::{ACK, ALL, NACK};
+use am_decoding::decode;
 use am_packet::packet::Packet;
 use std::test::*;
 
 const JOIN_ASK: &[u8] = b"AG\x03\x09\x11\x00\x00\x00\x00\x00\x00\x0c";
-
-const ACK: &[u8] = b"AG\x03\x06\x01\x00\x00\x00\x02\x00\x00\x14\x00\x00\x00\x05\x00\x00\x00\x04";
-
-const NACK: &[u8] = b"AG\x03\x07\x01\x00\x00\x00\x02\x00\x00\x14\x00\x00\x00\x05\x00\x00\x00\x04";
 
 /// A Request of 65 bytes, one more than stand within a letter.
 const LONG: &[u8] =
@@ -23,6 +20,15 @@ fn packet(bytes: &[u8]) -> Result<Packet, Fail>
     ensures { IfOk result IsWithin }
 {
     Ok(decode(bytes).ok().ok_or("a packet")?)
+}
+
+#[test]
+fn each_kind_has_its_bytes(rt: HostRuntime) -> Result<(), Fail> {
+    for bytes in ALL {
+        let letter = Letter::of(rt.alloc(), Names::of_mask(6), &packet(bytes)?)?;
+        assert_eq!(rt; letter.bytes(), bytes);
+    }
+    Ok(())
 }
 
 #[test]
@@ -61,8 +67,11 @@ fn letters_stand_by_their_kinds(rt: HostRuntime) -> Result<(), Fail> {
     let mut out = OutBox::new(rt.alloc())?;
     out.put(Names::of_mask(1), &nack);
     out.put(Names::of_mask(2), &ack);
+    assert_eq!(rt; out.letters().len(), 2);
     out.put(Names::of_mask(4), &nack);
+    assert_eq!(rt; out.letters().len(), 3);
     out.put(Names::empty(), &ack);
+    assert_eq!(rt; out.letters().len(), 3);
     out.put(Names::of_mask(8), &ack);
     let wanted = [(6, 2), (6, 8), (7, 1), (7, 4)];
     assert_eq!(rt; out.letters().len(), wanted.len());

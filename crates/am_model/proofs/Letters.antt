@@ -1,6 +1,6 @@
 -- How many letters a step sends.
-use Rattle.std.proofs.Common.{◌≡◌, ℕ, zero, suc, ◌+◌, ◌-◌, ◌<◌, ◌≤◌, min, Bool, true, false, ◌&&◌, ◌||◌, ◌==◌, not, if◌then◌else◌, nat_lt, nat_le, List, []}
-use Rattle.std.proofs.Common.{◌∷◌, length, take, Option, Some, None, find, refl, sym, ap, ◌∙◌, arith}
+use Rattle.std.proofs.Common.{◌≡◌, ℕ, zero, suc, ◌+◌, ◌-◌, ◌<◌, ◌≤◌, min, Bool, true, false, ◌==◌, not, if◌then◌else◌, nat_lt, List, []}
+use Rattle.std.proofs.Common.{◌∷◌, length, Option, Some, None, refl, ap, arith}
 use Rattle.std.proofs.lemmas.List.{length-take}
 use Rattle.std.proofs.lemmas.List.Edits.{length-insert}
 use Rattle.am_base.specs.declared.image.Vote.{Vote}
@@ -23,9 +23,10 @@ use Rattle.am_model.specs.Ballots.{Verdict, with_promise, next_stamp, new_ballot
 use Rattle.am_model.specs.Ballots.{keep_vote, without_voter, give_up}
 use Rattle.am_model.specs.Ticks.{tick_ballot, tick_member, put_off, behind_view, viewed_by, and_result, tick_sequencer, tick_acting, tick_with, tick_by}
 use Rattle.am_model.specs.Ticks.{tick_row}
-use Rattle.am_model.specs.Calls.{emit, give_out, join_by, state_by, go, leave_now, leave_by, ask_of, give_up_of, send_row, done_row, take_row, join_row, state_row}
+use Rattle.am_model.specs.Calls.{emit, give_out, join_by, state_by, go, leave_now, leave_by, ask_of, give_up_of, send_row, done_row, take_row, join_row}
+use Rattle.am_model.specs.Calls.{state_row}
 use Rattle.am_model.specs.Calls.{leave_row, reset_row, ask_row, give_up_row}
-use Rattle.am_model.proofs.Greatest.{split}
+use Rattle.am_base.proofs.Greatest.{split}
 
 -- one more at most
 pub one_more : (to : List ℕ) (p : Packet) (letters : List Letter) → length (with_letter to p letters) ≤ length letters + 1

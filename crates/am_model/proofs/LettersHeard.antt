@@ -20,10 +20,12 @@ use Rattle.am_codec.specs.Reading.{Read, reading}
 use Rattle.am_sender.specs.declared.OwnSend.{OwnSend}
 use Rattle.am_model.specs.Node.{Node, Ballot, top, image_of, others, only_name, push_entry, trim_up_to, waiting}
 use Rattle.am_model.specs.Refresh.{refresh_at_end}
-use Rattle.am_model.specs.Emit.{Plan, quiet, polling, numbering, tells_accepted, accept_of, ack_of, bcast_of, hold_of, piece_of, welcome_of, gone_of, entries_to_serve}
+use Rattle.am_model.specs.Emit.{Plan, quiet, polling, numbering, tells_accepted, accept_of, ack_of, bcast_of, hold_of, piece_of, welcome_of, gone_of}
+use Rattle.am_model.specs.Emit.{entries_to_serve}
 use Rattle.am_model.specs.Emit.{put_all, with_accept, finish}
 use Rattle.am_model.specs.Sequencing.{row_at, number_data, answer_request, request_row, if_risen, ack_row, serve_again, nack_row}
-use Rattle.am_model.specs.Receiving.{spread_row, acknowledges, bodies_after, store_fitting, store, with_noted, receive_entry, bcast_row, data_of, body_of, order_row}
+use Rattle.am_model.specs.Receiving.{spread_row, acknowledges, bodies_after, store_fitting, store, with_noted, receive_entry, bcast_row, data_of, body_of}
+use Rattle.am_model.specs.Receiving.{order_row}
 use Rattle.am_model.specs.Receiving.{answer_accept, accept_row, answer_hold, hold_row}
 use Rattle.am_model.specs.Joining.{with_admitted, number_join, asks_to_join, join_ask_row, ask_next, welcome_row, may_go, let_go, and_gone, asks_to_leave}
 use Rattle.am_model.specs.Joining.{leave_ask_row, gone_row}
@@ -32,8 +34,7 @@ use Rattle.am_model.specs.Resets.{invite_row, take_vote, vote_row, fetch_row, pu
 use Rattle.am_model.specs.Resets.{hears_result, result_row, hand_over_row}
 use Rattle.am_model.specs.Hearing.{hear_row}
 use Rattle.am_model.specs.Step.{row, step, read_row}
-use Rattle.am_model.specs.Laws.{FewLetters}
-use Rattle.am_model.proofs.Greatest.{split}
+use Rattle.am_base.proofs.Greatest.{split}
 use Rattle.am_model.proofs.Letters.{one_more, all_more, Few, few_quiet, few_numbering, few_polling, few_and, few_where, few, few_answered, few_keep_vote}
 use Rattle.am_model.proofs.Letters.{few_reset, few_send, few_done, few_take, few_join, few_state, few_leave, few_ask, few_give_up_row, few_tick}
 
@@ -69,7 +70,8 @@ few_served m k o f to number es h = record { each = λ n. (let l = all_more (f n
 
 few_asked_again : (m : Node) (s k : ℕ) → Few 8 (serve_again m s k)
 few_asked_again m s k =
-    let h = few_served m m (said.Served (length (entries_to_serve m k))) bcast_of (only_name s) (k + 1) (entries_to_serve m k) (served_few m k) in search (few, h)
+    let h = few_served m m (said.Served (length (entries_to_serve m k))) bcast_of (only_name s) (k + 1) (entries_to_serve m k) (served_few m k) in search
+    (few, h)
 
 few_nack : (m : Node) (s : ℕ) (report : Report) → Few 8 (nack_row m s report)
 unfolding nack_row
@@ -82,7 +84,8 @@ unfolding spread_row
 few_spread m s req body = search few
 
 few_stored : (m : Node) (s number : ℕ) (e : Entry) → Few 8 (store_fitting m s number e)
-few_stored m s number e = few_where 8 1 (acknowledges (push_entry m e) s) (quiet (record (push_entry m e) { bodies = bodies_after m.bodies e }) (said.Stored number))
+few_stored m s number e = few_where 8 1 (acknowledges (push_entry m e) s)
+    (quiet (record (push_entry m e) { bodies = bodies_after m.bodies e }) (said.Stored number))
     (only_name s) ack_of (omega arith) (few_quiet 1 (record (push_entry m e) { bodies = bodies_after m.bodies e }) (said.Stored number))
 
 few_store : (m : Node) (s number : ℕ) (e : Option Entry) (missing : Outcome) → Few 8 (store m s number e missing)
@@ -120,8 +123,8 @@ few_hold m base high req = few_held_up m base high req (waiting m)
 
 few_number_join : (m : Node) (s : ℕ) → Few 8 (number_join m s)
 few_number_join m s = few_where 8 1 (λ n. nat_le (top m + 1) n.core.acc)
-    (numbering (with_admitted m s) (Join s) (said.Numbered (top m + 1)) (λ n. bcast_of n (top m + 1) (Join s))) (only_name s) (λ n. welcome_of n s) (omega arith)
-    (few_numbering 1 (with_admitted m s) (Join s) (said.Numbered (top m + 1)) (λ n. bcast_of n (top m + 1) (Join s)) (omega arith))
+    (numbering (with_admitted m s) (Join s) (said.Numbered (top m + 1)) (λ n. bcast_of n (top m + 1) (Join s))) (only_name s) (λ n. welcome_of n s)
+    (omega arith) (few_numbering 1 (with_admitted m s) (Join s) (said.Numbered (top m + 1)) (λ n. bcast_of n (top m + 1) (Join s)) (omega arith))
 
 few_asks_to_join : (m : Node) (s : ℕ) (q : Row) → Few 8 (asks_to_join m s q)
 few_asks_to_join m s q = search (few, few_number_join)
@@ -172,7 +175,8 @@ few_vote m s v vote = search (few, few_voted_for)
 few_fetch : (m : Node) (s : ℕ) (v : Stamp) (k : ℕ) → Few 8 (fetch_row m s v k)
 unfolding fetch_row
 few_fetch m s v k =
-    let h = few_served m m (said.Served (length (entries_to_serve m k))) piece_of (only_name s) (k + 1) (entries_to_serve m k) (served_few m k) in search (few, h)
+    let h = few_served m m (said.Served (length (entries_to_serve m k))) piece_of (only_name s) (k + 1) (entries_to_serve m k) (served_few m k) in search
+    (few, h)
 
 few_fetched : (m : Node) (v : Stamp) (base number : ℕ) (e : Entry) (in_ballot : Bool) (then_ : Node → Plan) → Few 8 (then_ (push_entry (trim_up_to m base) e))
     → Few 8 (push_fetched m v base number e in_ballot then_)
@@ -190,7 +194,8 @@ few_piece_promised m s v base number e = let h = few_fetched m v base number e f
 
 few_piece_for : (m : Node) (s : ℕ) (v : Stamp) (base number : ℕ) (e : Entry) (b : Option Ballot) → Few 8 (piece_for m s v base number e b)
 few_piece_for m s v base number e None = few_piece_promised m s v base number e
-few_piece_for m s v base number e (Some b) = let h = few_fetched m v base number e true (decide_anew b) (few_fetched_for b (push_entry (trim_up_to m base) e)) in
+few_piece_for m s v base number e (Some b) = let h = few_fetched m v base number e true (decide_anew b) (few_fetched_for b (push_entry (trim_up_to m base) e))
+    in
     search (few, few_piece_promised, h)
 
 few_piece : (m : Node) (s : ℕ) (v : Stamp) (base number : ℕ) (e : Entry) → Few 8 (piece_row m s v base number e)
@@ -255,7 +260,7 @@ with_accept_more m p n letters = split (tells_accepted m p n)
     (λ t. rw t (one_more (others n) (accept_of n p.polls) letters))
     (λ f. rw f (omega arith))
 
-pub few_letters : FewLetters
+pub few_letters : (m : Node) (event : NodeEvent) → length (step m event).letters ≤ 9
 unfolding step finish
 few_letters m event =
     let p = row m event in

@@ -1,16 +1,5 @@
-pub mod Folds
-pub mod Greatest
 pub mod Sets
-pub mod AcceptFronts
-pub mod Refreshes
 pub mod Letters
 pub mod LettersHeard
-pub mod BestVotes
-pub mod Rows
 pub mod Sends
-pub mod Events
-pub mod Runs
-pub mod Beginnings
 pub mod Founders
-pub mod Held
-pub mod Bytes

@@ -57,6 +57,19 @@ is_member Asking = false
 is_member Member = true
 is_member Departed = false
 
+abbrev pub has_departed : Status → Bool
+has_departed Stranger = false
+has_departed Asking = false
+has_departed Member = false
+has_departed Departed = true
+
+-- it has or had a list
+abbrev pub has_log : Status → Bool
+has_log Stranger = false
+has_log Asking = false
+has_log Member = true
+has_log Departed = true
+
 -- the number of the last entry
 abbrev pub top : Node → ℕ
 top m = top_of m.core.log

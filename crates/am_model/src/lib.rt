@@ -1,6 +1,4 @@
-//! The definitions of the protocol: a node's state, the table of its steps, runs of a whole group, what is claimed, and
-//! what is printed.
+//! The definitions of a node: its state, and the table of its steps, one function for each row.
 #![tactic(auto)]
 
-pub mod laws;
 pub mod status;

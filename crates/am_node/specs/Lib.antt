@@ -1,4 +1,2 @@
-pub mod Info
-pub mod Nodes
 pub mod Stands
 pub mod Heard

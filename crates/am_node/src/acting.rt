@@ -1,8 +1,7 @@
 ghost use Rattle.am_handlers.specs.Prelude.{node_of, Performs};
 ghost use Rattle.am_model.specs.Step.{row};
-ghost use Rattle.am_node.specs.Nodes.{HasNumbersLeft, MayStep};
+ghost use Rattle.am_info.specs.Nodes.{HasNumbersLeft, MayStep};
 
-use crate::hearing::on_bytes;
 use am_acting::joining::{on_join, on_state};
 use am_acting::leaving::on_leave;
 use am_acting::sending::{on_done, on_send};
@@ -14,12 +13,12 @@ use am_base::event::NodeEvent;
 use am_base::outcome::Outcome;
 use am_handlers::parts::Parts;
 use am_letter::out_box::OutBox;
-use am_reset::voting::{on_ask, on_give_up, on_reset};
+use am_voting::voting::{on_ask, on_give_up, on_reset};
 
-/// One step: what a node does where its application calls, where time passes, and where bytes come (docs/PROTOCOL.md, "Steps
+/// One step that hears nothing: what a node does where its application calls, and where time passes (docs/PROTOCOL.md, "Steps
 /// of a node").
 #[tactic(auto, unfolding(am_model::specs::Step::row))]
-pub fn on_event(
+pub fn on_call(
     parts: &mut Parts,
     event: &NodeEvent,
     spare: Option<Boxed<Entry>>,
@@ -39,6 +38,6 @@ pub fn on_event(
         NodeEvent::Ask(round) => on_ask(parts, *round, out),
         NodeEvent::GiveUp(name) => on_give_up(parts, *name, out),
         NodeEvent::Tick => on_tick(parts, out),
-        NodeEvent::Hear(bytes) => on_bytes(parts, bytes.as_slice(), out),
+        NodeEvent::Hear(_) => unreachable!(),
     }
 }

@@ -1,19 +1,12 @@
-ghost use Rattle.std.specs.Prelude.{◌≡◌, ◌≢◌, [], true, false};
-ghost use Rattle.am_handlers.specs.Prelude.{IsNumber, IsWithin, node_of, Performs};
-ghost use Rattle.am_codec.specs.Reading.{reading};
-ghost use Rattle.am_model.specs.Hearing.{hear_row};
-ghost use Rattle.am_model.specs.Step.{read_row};
-ghost use Rattle.am_node.specs.Heard.{is_heard, heard_row, spread_at};
-ghost use Rattle.am_node.specs.Nodes.{HasNumbersLeft};
+ghost use Rattle.std.specs.Prelude.{◌≡◌, [], true};
+ghost use Rattle.am_handlers.specs.Prelude.{IsWithin, node_of, Performs};
+ghost use Rattle.am_node.specs.Heard.{is_heard, heard_row};
+ghost use Rattle.am_info.specs.Nodes.{HasNumbersLeft};
 
-use crate::gate::is_heard;
 use am_acting::hearing::{on_gone, on_hold, on_spread};
-use am_base::body::Body;
-use am_base::image::Report;
-use am_base::name::Name;
 use am_base::outcome::Outcome;
-use am_codec::decode;
-use am_handlers::finishing::finish_quietly;
+use am_catching::catching::{on_piece, on_result};
+use am_catching::serving::on_fetch;
 use am_handlers::parts::Parts;
 use am_joining::joining::on_join_ask;
 use am_joining::leaving::on_leave_ask;
@@ -21,35 +14,12 @@ use am_joining::welcomed::on_welcome;
 use am_letter::out_box::OutBox;
 use am_packet::packet::Packet;
 use am_receiver::receiver::{on_accept, on_bcast, on_order};
-use am_reset::catching::{on_piece, on_result};
-use am_reset::serving::on_fetch;
-use am_reset::voting::{on_hand_over, on_invite, on_vote};
 use am_sequencer::sequencer::{on_ack, on_nack, on_request};
+use am_voting::voting::{on_hand_over, on_invite, on_vote};
 
-/// A body comes that its sender spread: the sequencer numbers it, another member keeps it.
-fn on_body(
-    parts: &mut Parts,
-    from: Name,
-    report: Report,
-    req: u32,
-    body: &Body,
-    out: &mut OutBox,
-) -> Outcome
-    requires other { from ≢ parts.old.core.who }
-    requires req { IsNumber req }
-    requires numbers { HasNumbersLeft (node_of parts.old) }
-    requires empty { out.old ≡ [] }
-    ensures { Performs (λ m. spread_at m from report req body.now) parts.old
-        result out.new parts.new }
-{
-    if parts.is_sequencer() {
-        return on_request(parts, from, report, req, body, true, out);
-    }
-    on_spread(parts, from, req, body, out)
-}
-
-/// Does the row of a packet of the view in which the node acts, or that names join and leave by.
-fn heard_row(parts: &mut Parts, packet: &Packet, out: &mut OutBox) -> Outcome
+/// Does the row of a packet of the view in which the node acts, or that names join and leave by. A body that its sender spread
+/// is numbered by the sequencer, and kept by another member.
+pub fn heard_row(parts: &mut Parts, packet: &Packet, out: &mut OutBox) -> Outcome
     requires heard { is_heard (node_of parts.old) packet.now ≡ true }
     requires within { IsWithin packet.now }
     requires numbers { HasNumbersLeft (node_of parts.old) }
@@ -70,7 +40,12 @@ fn heard_row(parts: &mut Parts, packet: &Packet, out: &mut OutBox) -> Outcome
             req,
             body,
             ..
-        } => on_body(parts, *sender, *report, *req, body, out),
+        } => {
+            if parts.is_sequencer() {
+                return on_request(parts, *sender, *report, *req, body, true, out);
+            }
+            on_spread(parts, *sender, *req, body, out)
+        }
         Packet::Bcast {
             sender,
             base,
@@ -149,36 +124,5 @@ fn heard_row(parts: &mut Parts, packet: &Packet, out: &mut OutBox) -> Outcome
             out,
         ),
         Packet::HandOver { .. } => on_hand_over(parts, out),
-    }
-}
-
-/// A packet comes: it does its row where it may be heard, and else the answer is Elsewhere (docs/PROTOCOL.md, "Packets").
-pub fn on_packet(parts: &mut Parts, packet: &Packet, out: &mut OutBox) -> Outcome
-    requires within { IsWithin packet.now }
-    requires numbers { HasNumbersLeft (node_of parts.old) }
-    requires empty { out.old ≡ [] }
-    ensures { Performs (λ m. hear_row m packet.now) parts.old result out.new parts.new }
-{
-    if is_heard(parts, packet) {
-        return heard_row(parts, packet, out);
-    }
-    let before = parts.accept_front();
-    finish_quietly(parts, before, Outcome::Elsewhere, out)
-}
-
-/// Bytes come: what they spell is heard, and what spells no packet is refused by its cause.
-#[inline(never)]
-pub fn on_bytes(parts: &mut Parts, bytes: &[u8], out: &mut OutBox) -> Outcome
-    requires numbers { HasNumbersLeft (node_of parts.old) }
-    requires empty { out.old ≡ [] }
-    ensures { Performs (λ m. read_row m (reading bytes.now)) parts.old result out.new parts.new }
-{
-    match &decode(bytes) {
-        Ok(packet) => on_packet(parts, packet, out),
-        Err(refusal) => {
-            let before = parts.accept_front();
-            let cause = refusal.cause();
-            finish_quietly(parts, before, Outcome::Refused { cause }, out)
-        }
     }
 }

@@ -1,8 +1,9 @@
 ghost use Rattle.am_handlers.specs.Prelude.{most_number};
 
-use crate::acting::on_event;
-use crate::founding;
-use crate::info::{self, BallotEnd, Info};
+use crate::acting::on_call;
+use crate::gate::is_heard;
+use crate::hearing::heard_row;
+use crate::{founding, info};
 use am_base::boxed::Boxed;
 use am_base::entry::Entry;
 use am_base::event::NodeEvent;
@@ -11,7 +12,10 @@ use am_base::name::{Name, Stamp};
 use am_base::names::Names;
 use am_base::outcome::Outcome;
 use am_core::log::Log;
+use am_decoding::decode;
+use am_handlers::finishing::finish_quietly;
 use am_handlers::parts::Parts;
+use am_info::info::{BallotEnd, Info};
 use am_letter::out_box::OutBox;
 use am_model::status::Status;
 use std::alloc::{AllocError, Global};
@@ -30,14 +34,14 @@ impl Node {
     ghost use Rattle.am_model.specs.Node.{founder, stranger};
     ghost use Rattle.am_model.specs.Step.{row};
     ghost use Rattle.am_sender.specs.Sends.{is_settled};
-    ghost use Rattle.am_node.specs.Info.{info_of, ballot_end, waited_for};
-    ghost use Rattle.am_node.specs.Nodes.{HasNumbersLeft, HasPlace};
+    ghost use Rattle.am_info.specs.Info.{info_of, ballot_end, waited_for};
+    ghost use Rattle.am_info.specs.Nodes.{HasNumbersLeft, HasPlace};
     ghost use Rattle.am_node.specs.Stands.{state_of};
 
     /// Does one step: answer, letters and next state are those of the table of steps (docs/PROTOCOL.md, "Steps of a
     /// node"), for any event and any bytes. Bytes that spell no packet are refused by their cause. It takes no memory: an
     /// entry that is taken goes where the spare one was, which only a Take wants that finds one. The out box must be empty,
-    /// and no number of the node at its end.
+    /// and no number of the node at its end. A packet that isn't heard by its kind is Elsewhere.
     pub fn step(
         &mut self,
         event: &NodeEvent,
@@ -51,7 +55,23 @@ impl Node {
             (state_of self.new) }
         ensures few { length out.new ≤ 9 }
     {
-        on_event(&mut self.parts, event, spare, out)
+        match event {
+            NodeEvent::Hear(bytes) => match &decode(bytes.as_slice()) {
+                Ok(packet) => {
+                    if is_heard(&self.parts, packet) {
+                        return heard_row(&mut self.parts, packet, out);
+                    }
+                    let before = self.parts.accept_front();
+                    finish_quietly(&mut self.parts, before, Outcome::Elsewhere, out)
+                }
+                Err(refusal) => {
+                    let before = self.parts.accept_front();
+                    let cause = refusal.cause();
+                    finish_quietly(&mut self.parts, before, Outcome::Refused { cause }, out)
+                }
+            },
+            _ => on_call(&mut self.parts, event, spare, out),
+        }
     }
 
     /// A founder of the group. It is an error where there is no memory.

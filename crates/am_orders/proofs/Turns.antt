@@ -6,11 +6,10 @@ use Rattle.am_base.specs.declared.image.Image.{Image}
 use Rattle.am_base.specs.declared.entry.Entry.{Entry}
 use Rattle.am_base.specs.declared.entry.Entry.TheVariants.{Data, Join, Leave, View}
 use Rattle.am_base.specs.Names.{place_of, life_of}
-use Rattle.am_base.specs.Lists.{blank, after, fold, AllFit}
-use Rattle.am_model.specs.Claims.{request_in, requests_of}
+use Rattle.am_base.specs.Lists.{blank, after, fold, AllFit, request_in, requests_of}
 use Rattle.am_chain_lists.proofs.Rows.{row_at, by_cases, long_after}
 use Rattle.am_orders.specs.Claims.{InTurn, RequestsInTurn, NoSendTwice, SendersInOrder, SendStandsOnce}
-use Rattle.am_orders.proofs.Rows.{IsNext, own_request, entry_goes_on, next_at_first}
+use Rattle.am_chain_lists.proofs.Requests.{IsNext, own_request, entry_goes_on, next_at_first}
 
 -- ---- one entry before a list
 

@@ -3,10 +3,10 @@ use Rattle.std.specs.Prelude.{◌≡◌, ℕ, List, length, Some}
 use Rattle.std.specs.List.{range_with_len}
 use Rattle.am_base.specs.declared.entry.Entry.{Entry}
 use Rattle.am_base.specs.declared.entry.Entry.TheVariants.{Data}
-use Rattle.am_base.specs.Lists.{blank, AllFit}
+use Rattle.am_base.specs.Lists.{blank, AllFit, requests_of}
 use Rattle.am_group.specs.Journals.{item_at}
-use Rattle.am_model.specs.World.{World}
-use Rattle.am_model.specs.Claims.{requests_of, SendersOrder, StandsOnce}
+use Rattle.am_play.specs.World.{World}
+use Rattle.am_play.specs.Claims.{SendersOrder, StandsOnce}
 
 -- the requests of a name are this one, the next, and so on
 abbrev pub InTurn : ℕ → ℕ → List Entry → Type 0

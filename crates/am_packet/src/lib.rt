@@ -1,4 +1,5 @@
 //! What nodes tell each other.
 #![tactic(auto)]
 
+pub mod image_ref;
 pub mod packet;

@@ -1,23 +1,24 @@
 ghost use Rattle.std.specs.Prelude.{◌≡◌};
 ghost use Rattle.am_packet.specs.Kinds.{kind_of};
 
-use am_base::body::Body;
-use am_base::entry::Entry;
-use am_base::image::{Image, Report, Vote};
+use crate::image_ref::ImageRef;
+use am_base::body::BodyRef;
+use am_base::entry::EntryRef;
+use am_base::image::{Report, Vote};
 use am_base::name::{Name, Stamp};
 use am_base::names::Names;
 
 /// What nodes tell each other (docs/PROTOCOL.md, "Packets"). Each has its sender and a stamp. Numbers, rounds and
-/// requests are at most 2,000,000,000.
+/// requests are at most 2,000,000,000. Bodies, entries and images stand elsewhere: among a packet's bytes, or in what a node keeps.
 #[derive(Drop, Debug)]
-pub enum Packet {
+pub enum Packet<'a> {
     /// A send for the sequencer to number.
     Request {
         sender: Name,
         stamp: Stamp,
         report: Report,
         req: u32,
-        body: Body,
+        body: BodyRef<'a>,
     },
     /// A send for everybody, which the sequencer is to number.
     Spread {
@@ -25,7 +26,7 @@ pub enum Packet {
         stamp: Stamp,
         report: Report,
         req: u32,
-        body: Body,
+        body: BodyRef<'a>,
     },
     /// A numbered entry.
     Bcast {
@@ -34,7 +35,7 @@ pub enum Packet {
         base: u32,
         acc: u32,
         number: u32,
-        entry: Entry,
+        entry: EntryRef<'a>,
     },
     /// The number of a send that was spread.
     Order {
@@ -86,7 +87,7 @@ pub enum Packet {
         stamp: Stamp,
         base: u32,
         join: u32,
-        image: Image,
+        image: ImageRef<'a>,
     },
     /// The sender would leave.
     LeaveAsk {
@@ -123,7 +124,7 @@ pub enum Packet {
         stamp: Stamp,
         base: u32,
         number: u32,
-        entry: Entry,
+        entry: EntryRef<'a>,
     },
     /// A ballot's view.
     Result {
@@ -141,7 +142,7 @@ pub enum Packet {
     },
 }
 
-impl Packet {
+impl<'a> Packet<'a> {
     /// The number of its kind, 1 to 18.
     pub fn kind(&self) -> u8
         ensures value { result ≡ kind_of self.now }

@@ -11,11 +11,10 @@ use Rattle.am_base.specs.Stamps.{stamp_lt}
 use Rattle.am_base.specs.Founding.{Rules}
 use Rattle.am_base.specs.Names.{has}
 use Rattle.am_group.specs.declared.event.Act.{Act}
-use Rattle.am_model.specs.Node.{Node, Ballot, is_member}
+use Rattle.am_model.specs.Node.{Node, Ballot, is_member, has_log}
 use Rattle.am_model.specs.Ballots.{Verdict, overtake}
-use Rattle.am_model.specs.World.{World, start, current, is_stopped, with_record, with_step}
-use Rattle.am_model.specs.Group.{has_log}
-use Rattle.am_model.proofs.Greatest.{split, and_both}
+use Rattle.am_play.specs.World.{World, start, current, is_stopped, with_record, with_step}
+use Rattle.am_base.proofs.Greatest.{split, and_both}
 use Rattle.am_effects.specs.Causes.{Cause, calls, hears, refuses}
 use Rattle.am_effects.specs.Looks.{Looks, finds_itself_out, waits, fetches_from_best, finds_too_few, finds_no_room, decides, HasOpen, Balloting, with_more}
 use Rattle.am_effects.specs.Looks.{without_one, as_it_is}

@@ -11,9 +11,9 @@ use Rattle.am_packet.specs.Boxes.{Letter}
 use Rattle.am_codec.specs.Spelling.{sender_of, stamp_of}
 use Rattle.am_group.specs.declared.event.Act.{Act}
 use Rattle.am_model.specs.Node.{Node, set_at, founding_stamp}
-use Rattle.am_model.specs.World.{World, start, with_record, with_step, run}
-use Rattle.am_model.specs.Claims.{heard_by}
-use Rattle.am_model.proofs.Greatest.{split}
+use Rattle.am_play.specs.World.{World, start, with_record, with_step, run}
+use Rattle.am_play.specs.Claims.{heard_by}
+use Rattle.am_base.proofs.Greatest.{split}
 use Rattle.am_effects.specs.Causes.{Cause, calls, hears, refuses}
 use Rattle.am_effects.specs.Letters.{LetterSays}
 use Rattle.am_effects.specs.Events.{actor, IsCause, idles, stops, returns, steps}

@@ -5,9 +5,8 @@ use Rattle.am_base.specs.declared.outcome.Outcome.{Outcome}
 use Rattle.am_base.specs.declared.outcome.Outcome.TheVariants as said
 use Rattle.am_base.specs.Founding.{Rules, MayFound}
 use Rattle.am_group.specs.declared.event.Event.{Event}
-use Rattle.am_model.specs.Node.{Ballot}
-use Rattle.am_model.specs.Group.{has_log}
-use Rattle.am_model.specs.World.{World, is_stopped, run}
+use Rattle.am_model.specs.Node.{Ballot, has_log}
+use Rattle.am_play.specs.World.{World, is_stopped, run}
 use Rattle.am_promises.specs.Claim.{AtMost}
 
 -- what a ballot may be answered with

@@ -7,7 +7,7 @@ use Rattle.am_packet.specs.Boxes.{Letter}
 use Rattle.am_codec.specs.Spelling.{sender_of, stamp_of}
 use Rattle.am_group.specs.declared.event.Event.{Event}
 use Rattle.am_model.specs.Node.{Node}
-use Rattle.am_model.specs.World.{World, run}
+use Rattle.am_play.specs.World.{World, run}
 
 -- the first stamp isn't above the second
 abbrev pub AtMost : Stamp → Stamp → Type 0

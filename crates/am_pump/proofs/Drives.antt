@@ -5,11 +5,11 @@ use Rattle.std.proofs.lemmas.List.Sums.{count_by-le-length}
 use Rattle.am_base.specs.Founding.{Rules}
 use Rattle.rand_pcg.specs.Lcg.{Lcg}
 use Rattle.am_group.specs.declared.event.Act.{Act}
-use Rattle.am_model.specs.World.{World}
+use Rattle.am_play.specs.World.{World}
 use Rattle.am_base.specs.Outcomes.{is_sent}
-use Rattle.am_model.specs.Settle.{event_at}
+use Rattle.am_play.specs.Settle.{event_at}
 use Rattle.am_world.specs.Runs.{Play, after}
-use Rattle.am_pump.specs.Choices.{draw, after_draw}
+use Rattle.am_chooser.specs.Choices.{draw, after_draw}
 use Rattle.am_pump.specs.Generating.{Drive, generated_rules, sent_by, first_drive, turn_of, act_at, after_turn, do_turn, drive_once, drive, events_of_seed}
 use Rattle.am_pump.specs.declared.generator.Turn.{Turn}
 use Rattle.am_pump.specs.declared.generator.Turn.TheVariants as turn
@@ -47,7 +47,8 @@ step_is d mid next new place t a words at turns acts goes is =
     ∙ ap done (turned_play mid place t)
     ∙ (λ k. do_turn (words k) (at k) (turns k))
 
-pub same_play : (d mid next : Drive) (place : ℕ) (t : Turn) → mid ≡ record d { words = after_draw (after_draw d.words) } → next ≡ after_turn mid place t → next.play ≡ d.play
+pub same_play : (d mid next : Drive) (place : ℕ) (t : Turn) → mid ≡ record d { words = after_draw (after_draw d.words) } → next ≡ after_turn mid place t
+    → next.play ≡ d.play
 same_play d mid next place t words goes = ap (λ x. x.play) goes ∙ turned_play mid place t ∙ ap (λ x. x.play) words
 
 -- ---- how many events there are

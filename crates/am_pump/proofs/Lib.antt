@@ -1,4 +1,5 @@
 mod Bodies
 pub mod Drives
 pub mod Rules
+pub mod Seen
 pub mod Sends

@@ -7,7 +7,7 @@ use Rattle.std.proofs.lemmas.List.Sums.{sum_by-append}
 use mir.Val.{bool_byte}
 use Rattle.am_base.specs.Outcomes.{is_sent}
 use Rattle.am_group.specs.declared.event.Record.{Record}
-use Rattle.am_model.specs.World.{World}
+use Rattle.am_play.specs.World.{World}
 use Rattle.am_pump.specs.Counts.{AreSent, is_sent_in, ends_sent}
 use Rattle.am_pump.specs.Generating.{sent_by}
 

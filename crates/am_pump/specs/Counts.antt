@@ -1,9 +1,15 @@
 -- What a generator counts.
-use Rattle.std.specs.Prelude.{◌≡◌, ℕ, ◌-◌, ◌<◌, List, length, Option, Some, None, Bool, false, slice_get, slice_index}
+use Rattle.std.specs.Prelude.{◌≡◌, ℕ, ◌-◌, ◌<◌, ◌≤◌, List, length, take, Option, Some, None, Bool, false, slice_get, slice_index, slice_index_or}
 use Rattle.am_base.specs.Outcomes.{is_sent}
+use Rattle.am_packet.specs.Boxes.{Letter}
 use Rattle.am_group.specs.declared.event.Record.{Record}
-use Rattle.am_model.specs.World.{World}
-use Rattle.am_pump.specs.Generating.{sent_by}
+use Rattle.am_group.specs.Addressed.{next_for}
+use Rattle.am_group.specs.Journals.{letters_of}
+use Rattle.am_play.specs.World.{World}
+use Rattle.am_chooser.specs.declared.chooser.Choice.{Choice}
+use Rattle.am_chooser.specs.declared.chooser.Choice.TheVariants as choice
+use Rattle.am_chooser.specs.declared.progress.Progress.{Progress}
+use Rattle.am_pump.specs.Generating.{sent_by, no_progress}
 
 -- how often each place was told that a send of its own stands in the list
 pub record AreSent (sent : List ℕ) (w : World) : Type 0 where
@@ -17,3 +23,27 @@ is_sent_in (Some r) = is_sent r.outcome
 
 abbrev pub ends_sent : List Record → Bool
 ends_sent records = is_sent_in (slice_get records (length records - 1))
+
+-- the letters up to a number were looked through: none of them above the cursor is for the place
+pub record IsSeen (letters : List Letter) (place cursor seen : ℕ) : Type 0 where
+  pub low : cursor ≤ seen
+  pub high : seen ≤ length letters
+  pub none : next_for (take seen letters) place cursor ≡ None
+
+-- up to which number each place has looked through the letters
+pub record AreSeen (seen : List ℕ) (progress : List Progress) (letters : List Letter) : Type 0 where
+  pub count : length seen ≡ 4
+  pub places : length progress ≡ 4
+  pub each : (place : ℕ) → place < 4 → IsSeen letters place (slice_index_or progress place no_progress).cursor (slice_index seen place)
+
+-- up to which number they were looked through after a choice, where there are so many
+abbrev pub seen_after : Choice → ℕ → ℕ → ℕ
+seen_after choice.Tick seen many = many
+seen_after (choice.Lose number) seen many = number
+seen_after (choice.Hear number) seen many = number
+seen_after (choice.Repeat number) seen many = seen
+
+-- what a generator keeps beside its drive
+pub record AreCounts (sent seen : List ℕ) (progress : List Progress) (w : World) : Type 0 where
+  pub counted : AreSent sent w
+  pub looked : AreSeen seen progress (letters_of w.records)

@@ -16,7 +16,7 @@ pub fn generate(alloc: Global, seed: u64, count: u32) -> Result<World, WorldRefu
     ensures count { IfOk result (λ world. length world.events ≡ count) }
     ensures spent { IfErr result (λ refusal. refusal ≡ refusals.Spent → most_events < count) }
 {
-    let mut generator = Generator::new(alloc, seed)?;
+    let mut generator = Generator::new(alloc, seed, count)?;
     for _done in 0..count {
         generator.step()?;
     }

@@ -1,17 +1,17 @@
 ghost use Rattle.std.specs.Prelude.{◌≡◌, ◌<◌, ◌≤◌, IfOk};
 ghost use Rattle.am_base.specs.Most.{most_events};
-ghost use Rattle.am_pump.specs.Choices.{draw, after_draw};
-ghost use Rattle.am_pump.specs.Counts.{ends_sent};
+ghost use Rattle.am_chooser.specs.Choices.{draw, after_draw};
+ghost use Rattle.am_pump.specs.Counts.{ends_sent, seen_after};
 ghost use Rattle.am_pump.specs.Generating.{generated_rules, turn_of, counting};
 
-use crate::chooser::Chooser;
-use crate::progress::Progress;
 use am_base::NoMemory;
 use am_base::body::SentBody;
 use am_base::founding::Founding;
 use am_base::name::Name;
 use am_base::names::Names;
 use am_base::outcome::Outcome;
+use am_chooser::chooser::{Choice, Chooser};
+use am_chooser::progress::Progress;
 use am_group::event::{Act, Event, Record};
 use am_world::world::{World, WorldRefusal};
 use rand_pcg::Lcg64Xsh32;
@@ -82,6 +82,17 @@ fn ends_sent(records: &[Record]) -> bool
     }
 }
 
+/// Up to which number a place has looked through the letters after a choice, where there are so many.
+fn seen_after(choice: Choice, seen: u32, many: u32) -> u32
+    ensures { result ≡ seen_after choice seen many }
+{
+    match choice {
+        Choice::Tick => many,
+        Choice::Lose(number) | Choice::Hear(number) => number,
+        Choice::Repeat(_) => seen,
+    }
+}
+
 /// Places 0 to 3 found the group of a generated run.
 #[tactic(auto, using(crate::proofs::Rules::may_found))]
 fn founding() -> Founding
@@ -93,7 +104,8 @@ fn founding() -> Founding
     }
 }
 
-/// A run that goes on by the words of a seed.
+/// A run that goes on by the words of a seed. Beside that it keeps how often each place was told that a send of its own
+/// stands in the list, and up to which letter it was looked whether one is for it.
 #[derive(Drop)]
 pub struct Generator {
     alloc: Global,
@@ -102,38 +114,43 @@ pub struct Generator {
     chooser: Chooser,
     progress: [Progress; 4],
     sent: [u32; 4],
+    seen: [u32; 4],
 }
 
 impl Model for Generator {
     ghost use Rattle.am_pump.specs.Generating.{Drive};
-    ghost use Rattle.am_pump.specs.Counts.{AreSent};
+    ghost use Rattle.am_pump.specs.Counts.{AreCounts};
     ghost use Rattle.am_world.specs.Runs.{replay};
 
     ghost Value = { Drive };
 
     ghost view = { λ g. record { play = g.world; words = g.words; luck = g.chooser; progress = g.progress } };
 
-    ghost invariant = { λ g. AreSent g.sent (replay g.world) };
+    ghost invariant = { λ g. AreCounts g.sent g.seen g.progress (replay g.world) };
 }
 
 impl Generator {
     ghost use Rattle.std.specs.Prelude.{OnOk, IfOk, IfErr, length};
-    ghost use Rattle.am_model.specs.Settle.{event_at};
-    ghost use Rattle.am_pump.specs.Generating.{first_drive, act_at, sent_by, after_turn, drive_once};
+    ghost use Rattle.am_play.specs.Settle.{event_at};
+    ghost use Rattle.am_group.specs.Addressed.{next_for};
+    ghost use Rattle.am_pump.specs.Generating.{first_drive, progress_at, act_at, sent_by, after_turn, drive_once};
     ghost use Rattle.am_world.specs.Runs.{after, replay};
     ghost use Rattle.am_world.specs.declared.world.WorldRefusal.TheVariants as refusals;
 
-    /// The run of a seed, to which nothing has happened.
-    pub fn new(alloc: Global, seed: u64) -> Result<Generator, NoMemory>
+    /// The run of a seed, to which nothing has happened, with room for so many events.
+    pub fn new(alloc: Global, seed: u64, count: u32) -> Result<Generator, NoMemory>
         ensures { IfOk result (λ g. g ≡ first_drive seed) }
     {
+        let mut world = World::new(alloc, &founding())?;
+        world.reserve(count as usize)?;
         Ok(Generator {
             alloc,
-            world: World::new(alloc, &founding())?,
+            world,
             words: Lcg64Xsh32::new(seed, 1000),
             chooser: Chooser::new(seed, 1001, 10, 5),
             progress: [Progress::new(); 4],
             sent: [0; 4],
+            seen: [0; 4],
         })
     }
 
@@ -148,6 +165,16 @@ impl Generator {
         self.sent[usize::from(place)]
     }
 
+    /// The least letter above a place's cursor that is for it. It is looked for above what was looked through.
+    fn ahead(&self, place: u8) -> Option<u32>
+        requires { place < 4 }
+        ensures { result ≡ next_for (replay self.now.play).letters place
+            (progress_at self.now place).cursor }
+    {
+        let seen = self.seen[usize::from(place)];
+        self.world.journal().next_for(Name::of_byte(place), seen)
+    }
+
     /// What the chooser says for a place.
     #[tactic(auto, unfolding(crate::specs::Generating::act_at, crate::specs::Generating::after_turn))]
     fn choose(&mut self, place: u8) -> Act
@@ -157,9 +184,10 @@ impl Generator {
     {
         let at = usize::from(place);
         let progress = self.progress[at];
-        let ahead = progress.ahead(self.world.journal(), Name::of_byte(place));
+        let ahead = self.ahead(place);
         let choice = self.chooser.choose(ahead, progress.last);
         self.progress[at] = progress.after(choice);
+        self.seen[at] = seen_after(choice, self.seen[at], self.world.journal().packets());
         choice.act()
     }
 

@@ -1,9 +1,7 @@
-//! Runs from a seed: a chooser of turns by drawn words, and a generator of events.
+//! Runs from a seed: a generator of events.
 #![tactic(auto)]
 
-pub mod chooser;
 pub mod generate;
 mod generator;
-pub mod progress;
 #[cfg(test)]
 mod tests;

@@ -27,7 +27,8 @@ pub end_noted_steady : (m n : Node) (base acc : ℕ) → IsEndOf (with_noted m b
 end_noted_steady m n base acc end = steady_then m (with_noted m base acc) n (noted_steady m base acc) (end_steady (with_noted m base acc) n end)
 
 pub end_noted_keeps : (m n : Node) (base acc : ℕ) → IsEndOf (with_noted m base acc) n → NodeKeeps m → NodeKeeps n
-end_noted_keeps m n base acc end keeps = end_keeps (with_noted m base acc) n end (keeps_steady m (with_noted m base acc) (noted_steady m base acc) keeps keeps.own)
+end_noted_keeps m n base acc end keeps = end_keeps (with_noted m base acc) n end
+    (keeps_steady m (with_noted m base acc) (noted_steady m base acc) keeps keeps.own)
 
 -- what is done of an entry with the noted fronts, the whole node does
 pub noted_done : (before : ℕ) (m mid new : Node) (base acc from number : ℕ) (found : Option Entry) (missing answer : Outcome) (letters : List Letter)

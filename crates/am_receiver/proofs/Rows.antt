@@ -19,7 +19,8 @@ use Rattle.am_receiver.specs.Pieces.{accepting}
 pub accept_short : (m : Node) (from base acc high stored : ℕ) (poll : Bool) → stored ≡ top m → (nat_lt (top m) high && not (has_own_leave m)) ≡ true
     → accept_row m from base acc high poll ≡ telling (with_noted m base acc) (said.Gap (stored + 1)) (only_name from) nack_of
 unfolding accept_row
-accept_short m from base acc high stored poll is short = rw short (ap (λ k. telling (with_noted m base acc) (said.Gap (k + 1)) (only_name from) nack_of) (sym is))
+accept_short m from base acc high stored poll is short = rw short
+    (ap (λ k. telling (with_noted m base acc) (said.Gap (k + 1)) (only_name from) nack_of) (sym is))
 
 pub accept_all : (m : Node) (from base acc high : ℕ) (poll : Bool) → (nat_lt (top m) high && not (has_own_leave m)) ≡ false
     → accept_row m from base acc high poll ≡ accepting m.core.acc poll from (with_noted m base acc)
@@ -87,7 +88,8 @@ received_next m from base number e missing next stays low =
     rw (test, stays, near, there) refl
 
 pub store_unfit : (m : Node) (from number : ℕ) (e : Entry) (missing : Outcome)
-    → (is_view e || (not (fits (image_of m) e) || not (is_within_bound m m.core.base number))) ≡ true → store m from number (Some e) missing ≡ quiet m said.Unfit
+    → (is_view e || (not (fits (image_of m) e) || not (is_within_bound m m.core.base number))) ≡ true → store m from number (Some e) missing
+    ≡ quiet m said.Unfit
 store_unfit m from number e missing unfit = rw unfit refl
 
 pub store_fit : (m : Node) (from number : ℕ) (e : Entry) (missing : Outcome)

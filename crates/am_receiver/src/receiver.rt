@@ -7,7 +7,7 @@ ghost use Rattle.am_receiver.specs.Pieces.{note, ack_where, accepting, Follows};
 
 use crate::storing::store;
 use am_base::body::Body;
-use am_base::entry::Entry;
+use am_base::entry::{Entry, EntryRef};
 use am_base::name::Name;
 use am_base::outcome::Outcome;
 use am_core::log::Log;
@@ -166,7 +166,7 @@ pub fn on_bcast(
     base: u32,
     acc: u32,
     number: u32,
-    entry: &Entry,
+    entry: &EntryRef,
     out: &mut OutBox,
 ) -> Outcome
     requires follows { Follows (node_of parts.old) }
@@ -177,6 +177,7 @@ pub fn on_bcast(
         result out.new parts.new }
 {
     let before = parts.accept_front();
+    let entry = entry.to_entry();
     note(parts, base, acc);
     receive_entry(
         parts,
@@ -184,7 +185,7 @@ pub fn on_bcast(
         from,
         base,
         number,
-        Some(entry),
+        Some(&entry),
         Outcome::Known,
         out,
     )

@@ -19,9 +19,9 @@ use Rattle.am_model.specs.Emit.{Plan, finish}
 use Rattle.am_model.specs.Step.{step, row}
 use Rattle.am_model.specs.Calls.{would_emit, emit}
 use Rattle.am_model.specs.Ticks.{tick_row, and_result, put_off}
-use Rattle.am_model.specs.Settle.{event_at, running}
-use Rattle.am_model.specs.World.{World, happens}
-use Rattle.am_model.proofs.Greatest.{split, and_both}
+use Rattle.am_play.specs.Settle.{event_at, running}
+use Rattle.am_play.specs.World.{World, happens}
+use Rattle.am_base.proofs.Greatest.{split, and_both}
 use Rattle.am_effects.proofs.Calls.{node_if}
 use Rattle.am_effects.proofs.Says.{told_pushed}
 use Rattle.am_laws.proofs.ViewSteps.{after_same}

@@ -2,9 +2,9 @@
 use Rattle.std.proofs.Common.{◌≡◌, ◌==◌, true, false, refl, sym, ap, ◌∙◌, subst}
 use Rattle.am_base.specs.declared.name.Stamp.{Stamp}
 use Rattle.am_base.specs.declared.outcome.Outcome.{Outcome}
-use Rattle.am_model.specs.Node.{Node, Ballot, view, is_member, is_sequencer}
+use Rattle.am_model.specs.Node.{Node, Ballot, view, is_member, is_sequencer, has_departed}
 use Rattle.am_model.specs.Ballots.{overtake}
-use Rattle.am_model.specs.World.{World, has_departed}
+use Rattle.am_play.specs.World.{World}
 use Rattle.am_effects.specs.Causes.{Cause}
 use Rattle.am_effects.specs.Looks.{HasOpen}
 use Rattle.am_effects.specs.Changes.{Promises, invited, overtaken as overtaken_by, told_result, Change, refreshes, settles, takes_report, admits, numbers}

@@ -8,10 +8,9 @@ use Rattle.am_base.specs.Lists.{members_of, members_at}
 use Rattle.am_core.proofs.Ends.{image-top}
 use Rattle.am_model.specs.declared.status.Status.{Status}
 use Rattle.am_model.specs.declared.status.Status.TheVariants as status
-use Rattle.am_model.specs.Node.{Node, top, image_of, view, members, acts, is_member, stranger}
-use Rattle.am_model.specs.Group.{has_log}
-use Rattle.am_model.specs.World.{World, current, is_stopped, has_departed, run}
-use Rattle.am_model.specs.Claims.{MayRepair}
+use Rattle.am_model.specs.Node.{Node, top, image_of, view, members, acts, is_member, stranger, has_log, has_departed}
+use Rattle.am_play.specs.World.{World, current, is_stopped, run}
+use Rattle.am_play.specs.Claims.{MayRepair}
 use Rattle.am_laws.proofs.TakenRuns.{AllOwned, run_owned}
 use Rattle.am_repair.specs.Rows.{IsAtRest}
 use Rattle.am_repair.specs.Calm.{Repair, Leads, Follows, IsApart, Calm}

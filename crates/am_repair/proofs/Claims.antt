@@ -5,9 +5,9 @@ use Rattle.std.proofs.lemmas.List.Elements.{All-head, All-tail}
 use Rattle.am_base.specs.Founding.{Rules}
 use Rattle.am_group.specs.declared.event.Event.{Event}
 use Rattle.am_model.specs.Node.{top}
-use Rattle.am_model.specs.Settle.{Settling}
-use Rattle.am_model.specs.World.{World, start, happens, happen, run}
-use Rattle.am_model.proofs.Runs.{runs_go_on}
+use Rattle.am_play.specs.Settle.{Settling}
+use Rattle.am_play.specs.World.{World, start, happens, happen, run}
+use Rattle.am_play.proofs.Runs.{runs_go_on}
 use Rattle.am_laws.proofs.TakenRuns.{run_owned}
 use Rattle.am_repair.specs.Calm.{Repair, Calm}
 use Rattle.am_repair.specs.Rounds.{IsOurs, CalmStays, RoundsStore}

@@ -9,13 +9,12 @@ use Rattle.am_packet.specs.declared.packet.Packet.TheVariants.{Request, Spread, 
 use Rattle.am_packet.specs.declared.packet.Packet.TheVariants.{Vote, Fetch, Piece, Result, HandOver}
 use Rattle.am_model.specs.declared.status.Status.{Status}
 use Rattle.am_model.specs.declared.status.Status.TheVariants as status
-use Rattle.am_model.specs.Node.{Node, is_member, is_asking, is_sequencer}
+use Rattle.am_model.specs.Node.{Node, is_member, is_asking, is_sequencer, has_departed}
 use Rattle.am_model.specs.Refresh.{refresh_at_end}
 use Rattle.am_model.specs.Emit.{Plan, Step, quiet, finish}
 use Rattle.am_model.specs.Step.{step, row, hear}
 use Rattle.am_model.specs.Ticks.{tick_row, tick_by}
 use Rattle.am_model.specs.Hearing.{hears_member, hears_asking, hears_in_view, where_heard, hear_row}
-use Rattle.am_model.specs.World.{has_departed}
 use Rattle.am_effects.proofs.Rests.{rests_at_end, leads_rests}
 
 departed_status : (s : Status) → has_departed s ≡ true → s ≡ status.Departed

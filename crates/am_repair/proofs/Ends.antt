@@ -17,9 +17,9 @@ use Rattle.am_model.specs.Node.{Node, top, image_of, view, acts, is_member, is_s
 use Rattle.am_model.specs.Refresh.{lead, refresh, refresh_at_end}
 use Rattle.am_model.specs.Emit.{telling, finish}
 use Rattle.am_model.specs.Hearing.{hears_member, hears_in_view, hears_sequencer}
-use Rattle.am_model.specs.Laws.{AllSatisfied}
-use Rattle.am_model.proofs.Greatest.{split, and_both}
-use Rattle.am_model.proofs.AcceptFronts.{accept_front_is, above_view, below_view}
+use Rattle.am_meaning.specs.Laws.{AllSatisfied}
+use Rattle.am_base.proofs.Greatest.{split, and_both}
+use Rattle.am_meaning.proofs.AcceptFronts.{accept_front_is, above_view, below_view}
 use Rattle.am_effects.proofs.Tests.{not_true}
 use Rattle.am_effects.proofs.Rests.{settle_is, rests_at_end, leads_rests}
 use Rattle.am_laws.proofs.Stamps.{same_stamp}

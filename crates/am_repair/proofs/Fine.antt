@@ -14,9 +14,9 @@ use Rattle.am_group.specs.Journals.{letter_at}
 use Rattle.am_group.proofs.Places.{get_behind}
 use Rattle.am_model.specs.Emit.{Step}
 use Rattle.am_model.specs.Step.{step, hear}
-use Rattle.am_model.specs.Settle.{event_at}
-use Rattle.am_model.specs.World.{World, current, is_stopped, with_step, does_event, hears_letter, happens}
-use Rattle.am_model.proofs.Beginnings.{happens_begins}
+use Rattle.am_play.specs.Settle.{event_at}
+use Rattle.am_play.specs.World.{World, current, is_stopped, with_step, does_event, hears_letter, happens}
+use Rattle.am_play.proofs.Beginnings.{happens_begins}
 use Rattle.am_effects.proofs.Items.{get_front}
 use Rattle.am_effects.proofs.Events.{events_have_effects}
 use Rattle.am_laws.proofs.TakenRuns.{AllOwned, each_owned}

@@ -19,10 +19,10 @@ use Rattle.am_group.specs.Journals.{letter_at}
 use Rattle.am_model.specs.Node.{Node, top, image_of, view, members, only_name, report_of, report_fits}
 use Rattle.am_model.specs.Emit.{nack_of}
 use Rattle.am_model.specs.Step.{hear}
-use Rattle.am_model.specs.Settle.{event_at, hearings}
+use Rattle.am_play.specs.Settle.{event_at, hearings}
 use Rattle.am_model.specs.Sequencing.{is_unknown}
 use Rattle.am_model.specs.Hearing.{hears_sequencer, hears_as_sequencer}
-use Rattle.am_model.specs.World.{World, is_stopped, happens, happen}
+use Rattle.am_play.specs.World.{World, is_stopped, happens, happen}
 use Rattle.am_core.proofs.Lives.{IsUsed}
 use Rattle.am_effects.specs.Causes.{Cause, calls, hears, refuses}
 use Rattle.am_effects.specs.Events.{IsCause}

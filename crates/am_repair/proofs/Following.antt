@@ -11,7 +11,7 @@ use Rattle.am_model.specs.Node.{Node, Ballot, top, image_of, is_sequencer, push_
 use Rattle.am_model.specs.Calls.{is_unfinished}
 use Rattle.am_model.specs.Ballots.{overtake, with_promise}
 use Rattle.am_model.specs.Receiving.{is_view, bodies_after}
-use Rattle.am_model.specs.World.{World}
+use Rattle.am_play.specs.World.{World}
 use Rattle.am_packet.specs.declared.packet.Packet.TheVariants as packet
 use Rattle.am_effects.specs.Causes.{Cause, hears}
 use Rattle.am_effects.specs.Changes.{Promises, invited, overtaken as overtaken_by, told_result, Carries, whole_entry, by_number, Change, refreshes, settles}

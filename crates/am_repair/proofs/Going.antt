@@ -11,11 +11,11 @@ use Rattle.am_group.specs.Addressed.{is_for}
 use Rattle.am_group.specs.Journals.{letter_at}
 use Rattle.am_model.specs.declared.status.Status.{Status}
 use Rattle.am_model.specs.declared.status.Status.TheVariants as status
-use Rattle.am_model.specs.Node.{Node, is_member}
+use Rattle.am_model.specs.Node.{Node, is_member, has_departed}
 use Rattle.am_model.specs.Emit.{Step}
 use Rattle.am_model.specs.Step.{step, hear}
-use Rattle.am_model.specs.Settle.{event_at}
-use Rattle.am_model.specs.World.{World, is_stopped, has_departed, with_record, with_step, happens, hears_letter}
+use Rattle.am_play.specs.Settle.{event_at}
+use Rattle.am_play.specs.World.{World, is_stopped, with_record, with_step, happens, hears_letter}
 use Rattle.am_effects.specs.Causes.{Cause, calls, hears}
 use Rattle.am_effects.specs.Changes.{Changes, unchanged as no_change, changed}
 use Rattle.am_effects.specs.Effects.{Effect}

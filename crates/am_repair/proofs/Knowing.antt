@@ -21,7 +21,7 @@ use Rattle.am_model.specs.Ballots.{Verdict, with_promise, next_stamp}
 use Rattle.am_model.specs.Joining.{with_admitted}
 use Rattle.am_model.specs.Hearing.{hears_member, hears_asking}
 use Rattle.am_model.specs.Receiving.{is_view}
-use Rattle.am_model.proofs.Greatest.{split, and_both}
+use Rattle.am_base.proofs.Greatest.{split, and_both}
 use Rattle.am_effects.specs.Causes.{Cause, hears}
 use Rattle.am_effects.specs.Looks.{HasOpen, Looks, decides}
 use Rattle.am_effects.specs.Changes.{Promises, invited, overtaken, told_result, Numbers, asked_send, own_send, asked_join, asked_leave, Fetches, without_ballot}
@@ -83,7 +83,8 @@ join_back image n name i long other h = ⊎_elim
     (row_set image name (place_of i) (record { life = life_of name; joined = n; left = 0; last = 0 }) long)
 
 -- a member of a longer list
-member_back : (m : Node) (e : Entry) (i : ℕ) → Fronts m → (length (image_of m).rows ≡ 16 → In (row_at (after (image_of m) (top m + 1) e) (place_of i)) (life_of i)
+member_back : (m : Node) (e : Entry) (i : ℕ) → Fronts m → (length (image_of m).rows ≡ 16
+    → In (row_at (after (image_of m) (top m + 1) e) (place_of i)) (life_of i)
     → In (row_at (image_of m) (place_of i)) (life_of i))
     → has (members (push_entry m e)) i ≡ true → has (members m) i ≡ true
 member_back m e i f back there =

@@ -24,9 +24,9 @@ use Rattle.am_model.specs.Step.{hear, hear_refusal}
 use Rattle.am_model.specs.Lengths.{packet_length}
 use Rattle.am_model.specs.Joining.{with_admitted, asks_to_join, join_ask_row}
 use Rattle.am_model.specs.Hearing.{hears_member, hear_row}
-use Rattle.am_model.specs.World.{World, start, is_stopped, with_record, with_step, hears_letter, hear_cut, acts_as, happens, happen}
-use Rattle.am_model.specs.Claims.{heard_by}
-use Rattle.am_model.proofs.Greatest.{split}
+use Rattle.am_play.specs.World.{World, start, is_stopped, with_record, with_step, hears_letter, hear_cut, acts_as, happens, happen}
+use Rattle.am_play.specs.Claims.{heard_by}
+use Rattle.am_base.proofs.Greatest.{split}
 use Rattle.am_effects.specs.Causes.{Cause}
 use Rattle.am_effects.specs.Changes.{Changes, unchanged as no_change, changed}
 use Rattle.am_effects.specs.Events.{actor, IsCause, Happens, idles, stops, returns, steps}

@@ -5,10 +5,10 @@ use Rattle.std.proofs.lemmas.Bool.Decides.{nat_tests}
 use Rattle.std.proofs.lemmas.List.Folds.{list_any-append}
 use Rattle.am_group.specs.declared.event.Event.{Event}
 use Rattle.am_fronts.proofs.ReportLaws.{count_cons}
-use Rattle.am_model.specs.Node.{Node}
-use Rattle.am_model.specs.World.{Decided, World, is_stopped, has_departed, current, with_record, with_step, happens, happen}
-use Rattle.am_model.specs.Lawful.{is_lost, is_lawful, Watch, watch_start, greatest_complete, watch, watch_all, broken_now, before_break}
-use Rattle.am_model.proofs.Greatest.{split}
+use Rattle.am_model.specs.Node.{Node, has_departed}
+use Rattle.am_play.specs.World.{Decided, World, is_stopped, current, with_record, with_step, happens, happen}
+use Rattle.am_play.specs.Lawful.{is_lost, is_lawful, Watch, watch_start, greatest_complete, watch, watch_all, broken_now, before_break}
+use Rattle.am_base.proofs.Greatest.{split}
 use Rattle.am_effects.specs.Events.{actor, idles, stops, returns, steps}
 use Rattle.am_effects.proofs.Runs.{EachKeeps, runs_keep}
 use Rattle.am_repair.specs.Standing.{RepairableIsLawful}

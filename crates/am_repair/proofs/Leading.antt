@@ -22,8 +22,8 @@ use Rattle.am_fronts.specs.Refresh.{base_after, own_report, tell, go_on, let_go}
 use Rattle.am_model.specs.Node.{Node, Ballot, top, image_of, view, members, acts, is_member, push_entry, with_report}
 use Rattle.am_model.specs.Refresh.{lead, refresh, settle}
 use Rattle.am_model.specs.Joining.{with_admitted}
-use Rattle.am_model.specs.World.{World}
-use Rattle.am_model.proofs.Greatest.{split, and_both}
+use Rattle.am_play.specs.World.{World}
+use Rattle.am_base.proofs.Greatest.{split, and_both}
 use Rattle.am_effects.specs.Causes.{Cause, BringsReport, with_send, by_request, by_spread, by_ack, by_nack, by_leave_ask}
 use Rattle.am_effects.specs.Looks.{HasOpen, BeginsBy, by_reset, by_hand_over, Balloting, with_more, without_one, as_it_is}
 use Rattle.am_effects.specs.Changes.{Promises, invited, overtaken, told_result, Numbers, asked_send, own_send, asked_join, asked_leave, Change, refreshes}
@@ -248,7 +248,8 @@ leads_pushed_ r m e f joins h =
           (sym (counted_stays m.core.log (push_entry m e).core.log k grows (omega arith))) (h.counted k above within view);
     }
 
-goes_pushed : (r : Repair) (taken : ℕ → ℕ) (q m : Node) (e : Entry) → Fronts m → IsJoinOrData (image_of m) e → Goes r taken q m → Goes r taken q (push_entry m e)
+goes_pushed : (r : Repair) (taken : ℕ → ℕ) (q m : Node) (e : Entry) → Fronts m → IsJoinOrData (image_of m) e → Goes r taken q m
+    → Goes r taken q (push_entry m e)
 goes_pushed r taken q m e f joins h = record {
   own = h.own;
   leads = leads_pushed_ r m e f joins h.leads;

@@ -14,7 +14,7 @@ use Rattle.am_packet.specs.Kinds.{kind_of}
 use Rattle.am_model.specs.Node.{Node, others}
 use Rattle.am_model.specs.Emit.{Plan, bcast_of, accept_of, put_all, tells_accepted, with_accept}
 use Rattle.std.proofs.lemmas.Bool.Decides.{nat_tests}
-use Rattle.am_model.proofs.Greatest.{split}
+use Rattle.am_base.proofs.Greatest.{split}
 use Rattle.am_repair.specs.Rows.{bcasts}
 
 -- ---- one letter more

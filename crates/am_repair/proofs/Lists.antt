@@ -12,7 +12,7 @@ use Rattle.am_group.proofs.Places.{get_before}
 use Rattle.am_core.proofs.Ends.{image-push}
 use Rattle.am_chain_lists.proofs.Rows.{long_after, in_after}
 use Rattle.am_model.specs.Receiving.{is_view}
-use Rattle.am_model.proofs.Greatest.{split}
+use Rattle.am_base.proofs.Greatest.{split}
 use Rattle.am_laws.proofs.LeaderRows.{is_in, in_is, data_member}
 
 -- ---- a list that goes on

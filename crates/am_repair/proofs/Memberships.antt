@@ -12,7 +12,7 @@ use Rattle.am_core.proofs.Lives.{IsUsed, used_fold}
 use Rattle.am_chain_lists.proofs.Rows.{row_at, Past, past_after, not_both, mod16}
 use Rattle.am_model.specs.Node.{Node, top, has_own_leave}
 use Rattle.am_model.specs.Receiving.{is_view}
-use Rattle.am_model.proofs.Greatest.{split}
+use Rattle.am_base.proofs.Greatest.{split}
 use Rattle.am_laws.proofs.LeaderRows.{is_in}
 use Rattle.am_laws.proofs.ViewSteps.{after_same}
 use Rattle.am_repair.specs.Calm.{Repair, Leads, Follows}

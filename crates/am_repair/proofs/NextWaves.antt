@@ -20,14 +20,14 @@ use Rattle.am_group.specs.Journals.{letter_at}
 use Rattle.am_model.specs.Node.{Node, top, only_name, with_report}
 use Rattle.am_model.specs.Emit.{Step, bcast_of, entries_to_serve}
 use Rattle.am_model.specs.Step.{hear}
-use Rattle.am_model.specs.Settle.{event_at, hearings}
+use Rattle.am_play.specs.Settle.{event_at, hearings}
 use Rattle.am_model.specs.Sequencing.{take_report}
-use Rattle.am_model.specs.World.{World, happens, happen}
+use Rattle.am_play.specs.World.{World, happens, happen}
 use Rattle.am_effects.specs.Causes.{Cause, calls, hears, refuses, BringsReport, with_send, by_request, by_spread, by_ack, by_nack, by_leave_ask}
 use Rattle.am_effects.specs.Events.{IsCause}
 use Rattle.am_effects.proofs.Items.{get_take, get_front}
 use Rattle.am_laws.proofs.Trims.{Fronts, reporting, told_used}
-use Rattle.am_repair.specs.Rows.{bcasts, Serves, ComesNext}
+use Rattle.am_repair.specs.Rows.{bcasts, Serves}
 use Rattle.am_repair.specs.Rows as rows
 use Rattle.am_repair.specs.Calm.{Repair, Leads, IsCalm}
 use Rattle.am_repair.specs.Waves.{IsServed, Served}

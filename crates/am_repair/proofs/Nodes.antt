@@ -8,8 +8,8 @@ use Rattle.am_base.specs.Lists.{Log, told_by}
 use Rattle.am_model.specs.Node.{Node, Ballot, view, acts, is_member, is_sequencer}
 use Rattle.am_model.specs.Calls.{is_unfinished}
 use Rattle.am_model.specs.Refresh.{refresh, settle}
-use Rattle.am_model.specs.World.{World}
-use Rattle.am_model.proofs.Greatest.{split, and_both}
+use Rattle.am_play.specs.World.{World}
+use Rattle.am_base.proofs.Greatest.{split, and_both}
 use Rattle.am_effects.specs.Causes.{Cause, calls, hears, refuses}
 use Rattle.am_effects.specs.Looks.{HasOpen}
 use Rattle.am_effects.proofs.Tests.{not_false}

@@ -6,8 +6,8 @@ use Rattle.std.proofs.lemmas.List.Folds.{list_any-append}
 use Rattle.am_base.specs.Founding.{Rules}
 use Rattle.am_base.specs.Names.{place_of, life_of}
 use Rattle.am_group.specs.declared.event.Event.{Event}
-use Rattle.am_model.specs.World.{World, start, current, is_stopped, with_record, with_step, run}
-use Rattle.am_model.proofs.Greatest.{split}
+use Rattle.am_play.specs.World.{World, start, current, is_stopped, with_record, with_step, run}
+use Rattle.am_base.proofs.Greatest.{split}
 use Rattle.am_effects.specs.Events.{actor, idles, stops, returns, steps}
 use Rattle.am_effects.proofs.Runs.{EachKeeps, runs_keep}
 

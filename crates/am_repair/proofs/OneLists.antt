@@ -11,16 +11,16 @@ use Rattle.am_base.specs.Names.{has}
 use Rattle.am_base.specs.Lists.{entry_at, image_at, blank, fold, after, fits, members_of}
 use Rattle.am_core.proofs.Lives.{fit_at}
 use Rattle.am_chain_lists.specs.Whole as whole
-use Rattle.am_chain_lists.specs.Whole.{Begins, IsGood, mem, view_of, key}
+use Rattle.am_chain_lists.specs.Whole.{IsGood, mem, view_of, key}
 use Rattle.am_chain_lists.proofs.Members.{fold_append, good_begins}
 use Rattle.am_chain_lists.proofs.Prefixes.{begins_length, begins_take, length_take, take_begins, begins_both, begins_push}
 use Rattle.am_chain_lists.proofs.Order.{view_up, view_below}
 use Rattle.am_group.proofs.Places.{get_behind}
 use Rattle.am_model.specs.Node.{Node, top, image_of, view, members}
-use Rattle.am_model.specs.Lawful as lists
-use Rattle.am_model.specs.World.{World}
-use Rattle.am_model.proofs.Greatest.{split}
-use Rattle.am_model.specs.World.{current, run}
+use Rattle.am_play.specs.Lawful as lists
+use Rattle.am_play.specs.World.{World}
+use Rattle.am_base.proofs.Greatest.{split}
+use Rattle.am_play.specs.World.{current, run}
 use Rattle.std.proofs.lemmas.Option.{slice_get_within}
 use Rattle.am_laws.proofs.Trims.{Fronts}
 use Rattle.am_laws.proofs.TakenRuns.{run_owned}

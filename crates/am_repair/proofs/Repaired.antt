@@ -3,11 +3,11 @@ use Rattle.std.proofs.Common.{◌≡◌, ℕ, zero, suc, ◌+◌, ◌*◌, ◌/�
 use Rattle.am_base.specs.Founding.{Rules}
 use Rattle.am_base.specs.Names.{has}
 use Rattle.am_group.specs.declared.event.Event.{Event}
-use Rattle.am_model.specs.Settle.{Settling, and_then, ticks, hearings, waves, round, rounds, round_count, settle_events}
-use Rattle.am_model.specs.World.{World, happen}
-use Rattle.am_model.specs.Claims.{HasCaughtUp}
-use Rattle.am_model.proofs.Greatest.{split}
-use Rattle.am_model.proofs.Runs.{runs_go_on}
+use Rattle.am_play.specs.Settle.{Settling, and_then, ticks, hearings, waves, round, rounds, round_count, settle_events}
+use Rattle.am_play.specs.World.{World, happen}
+use Rattle.am_play.specs.Claims.{HasCaughtUp}
+use Rattle.am_base.proofs.Greatest.{split}
+use Rattle.am_play.proofs.Runs.{runs_go_on}
 use Rattle.am_repair.specs.Calm.{Repair}
 use Rattle.am_repair.proofs.Fine.{Fine, fine_goes, letters_more}
 use Rattle.am_repair.proofs.ThirdWave.{HasStored}

@@ -8,14 +8,12 @@ use Rattle.am_base.specs.declared.outcome.Outcome.{Outcome}
 use Rattle.am_core.specs.Cores.{accept as accepts, pass_over}
 use Rattle.am_effects.proofs.Rests.{settle_is, rests_at_end, rests_refresh}
 use Rattle.am_fronts.specs.Refresh.{go_on, let_go, tell, own_report}
-use Rattle.am_model.proofs.Greatest.{split, and_both}
+use Rattle.am_base.proofs.Greatest.{split, and_both}
 use Rattle.am_model.specs.Ballots.{Verdict}
-use Rattle.am_model.specs.Group.{has_log}
+use Rattle.am_model.specs.Node.{has_log, Ballot, is_sequencer, with_report, is_member, is_asking, push_entry, Node}
 use Rattle.am_model.specs.Joining.{with_admitted}
-use Rattle.am_model.specs.Node.{Ballot, is_sequencer, with_report, is_member, is_asking, push_entry, Node}
 use Rattle.am_model.specs.Refresh.{refresh_at_end, lead, refresh}
 use Rattle.std.proofs.lemmas.Bool.Decides.{nat_tests}
-use Rattle.am_model.specs.declared.status.Status.TheVariants.{Member}
 use Rattle.std.proofs.Common.{◌≡◌, ℕ, ◌≤◌, ◌==◌, ◌||◌, not, max, nat_lt, nat_le, true, false, if◌then◌else◌, List, refl, sym, ap, ◌∙◌, subst, arith}
 use Rattle.am_effects.specs.Changes.{Change, refreshes, settles, takes_report, admits, notes, begins_list}
 use Rattle.am_effects.specs.Changes.{looks, fetches, stores_view, takes, closes, MayBeWelcomed}

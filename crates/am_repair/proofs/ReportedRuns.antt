@@ -7,7 +7,7 @@ use Rattle.am_laws.proofs.Named.{few_names}
 use Rattle.am_laws.proofs.Taken.{HeardUsed}
 use Rattle.am_laws.proofs.ViewNames.{HeardNames}
 use Rattle.am_laws.proofs.Views.{heard_names}
-use Rattle.am_model.proofs.Greatest.{split}
+use Rattle.am_base.proofs.Greatest.{split}
 use Rattle.am_model.specs.Node.{Node}
 use Rattle.am_packet.specs.declared.packet.Packet.{Packet}
 use Rattle.am_packet.specs.declared.packet.Packet.TheVariants as packet
@@ -16,8 +16,8 @@ use Rattle.std.proofs.Common.{◌≡◌, ℕ, ◌<◌, ◌≤◌, ◌==◌, true
 use Rattle.std.specs.Prelude.{All}
 use Rattle.std.proofs.lemmas.List.Elements.{All-nil, All-append, All-weaker}
 use Rattle.am_packet.specs.Boxes.{Letter}
-use Rattle.am_model.specs.World.{World, start, with_step, run}
-use Rattle.am_model.specs.Claims.{heard_by}
+use Rattle.am_play.specs.World.{World, start, with_step, run}
+use Rattle.am_play.specs.Claims.{heard_by}
 use Rattle.am_effects.specs.Causes.{Cause, calls, hears, refuses}
 use Rattle.am_effects.specs.Letters.{LetterSays}
 use Rattle.am_effects.specs.Changes.{Changes, unchanged as no_change, changed}

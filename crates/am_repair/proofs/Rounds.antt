@@ -6,9 +6,9 @@ use Rattle.am_base.specs.Names.{has}
 use Rattle.am_group.specs.declared.event.Act.TheVariants as act
 use Rattle.am_group.specs.declared.event.Event.{Event}
 use Rattle.am_model.specs.Node.{top}
-use Rattle.am_model.specs.Settle.{Settling, event_at, running, ticks, hearings, waves, round}
-use Rattle.am_model.specs.World.{World, happens, happen}
-use Rattle.am_model.proofs.Beginnings.{happen_begins}
+use Rattle.am_play.specs.Settle.{Settling, event_at, running, ticks, hearings, waves, round}
+use Rattle.am_play.specs.World.{World, happens, happen}
+use Rattle.am_play.proofs.Beginnings.{happen_begins}
 use Rattle.am_repair.specs.Calm.{Repair}
 use Rattle.am_repair.specs.Rounds.{IsOurs, ticks as our_ticks, hears as hears_}
 use Rattle.am_repair.proofs.Schedules.{acts_keep, wave_keeps}

@@ -11,11 +11,11 @@ use Rattle.am_packet.specs.declared.packet.Packet.TheVariants as packet
 use Rattle.am_model.specs.Node.{Node, Ballot, top, is_sequencer, report_of}
 use Rattle.am_model.specs.Calls.{is_unfinished}
 use Rattle.am_model.specs.Ballots.{next_stamp}
-use Rattle.am_model.specs.World.{World}
+use Rattle.am_play.specs.World.{World}
 use Rattle.am_effects.specs.Causes.{Cause}
 use Rattle.am_effects.specs.Letters as letters
-use Rattle.am_effects.specs.Letters.{MayInvite, has_begun, goes_on, MayTell, leads, decided, Says, request, spread, bcast, order, accept, ack, nack, hold}
-use Rattle.am_effects.specs.Letters.{join_ask, welcome, leave_ask, gone, invite, vote, fetch, piece, result, hand_over}
+use Rattle.am_effects.specs.Letters.{MayInvite, has_begun, goes_on, MayTell, leads, decided, Says, request, spread, bcast, order, ack, nack}
+use Rattle.am_effects.specs.Letters.{welcome, leave_ask, invite, vote, result, hand_over}
 use Rattle.am_repair.specs.Calm.{Repair, ReportIs, Stands, IsCalm}
 use Rattle.am_repair.proofs.Lists.{LogGrows, entry_stays}
 use Rattle.am_repair.proofs.Nodes.{CalmCause, not_open}

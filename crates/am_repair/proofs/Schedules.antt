@@ -12,10 +12,10 @@ use Rattle.am_group.specs.declared.event.Act.{Act}
 use Rattle.am_group.specs.declared.event.Act.TheVariants as act
 use Rattle.am_group.specs.Addressed.{is_for}
 use Rattle.am_group.specs.Journals.{letter_at}
-use Rattle.am_model.specs.World.{World, current, is_stopped, happens, happen}
-use Rattle.am_model.specs.Settle.{event_at, running, hearings_of, hearings_from, hearings}
-use Rattle.am_model.proofs.Greatest.{split}
-use Rattle.am_model.proofs.Runs.{runs_go_on}
+use Rattle.am_play.specs.World.{World, current, is_stopped, happens, happen}
+use Rattle.am_play.specs.Settle.{event_at, running, hearings_of, hearings_from, hearings}
+use Rattle.am_base.proofs.Greatest.{split}
+use Rattle.am_play.proofs.Runs.{runs_go_on}
 
 -- ---- an act of some places
 

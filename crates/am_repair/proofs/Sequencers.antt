@@ -10,7 +10,7 @@ use Rattle.am_model.specs.Emit.{Plan, entries_to_serve, put_all, bcast_of, finis
 use Rattle.am_model.specs.Step.{hear}
 use Rattle.am_model.specs.Hearing.{hears_in_view, hear_row}
 use Rattle.am_model.specs.Sequencing.{row_at, is_unknown, take_report, serve, answer_request, request_row, ack_row, nack_row}
-use Rattle.am_model.proofs.Greatest.{and_both}
+use Rattle.am_base.proofs.Greatest.{and_both}
 use Rattle.am_effects.proofs.Rests.{rests_refresh, rests_at_end}
 use Rattle.am_repair.specs.Rows.{ack, nack, request, spread, ReportsAreTaken, bcasts, Serves, NacksAreServed}
 use Rattle.am_repair.proofs.Sets.{only_some}

@@ -7,7 +7,7 @@ use Rattle.std.proofs.lemmas.List.Elements.{All-head, All-tail}
 use Rattle.am_base.specs.Names.{place_of, life_of, nobody, has, without_name, size, names_from}
 use Rattle.am_fronts.proofs.ReportLaws.{count_cons}
 use Rattle.am_model.specs.Node.{only_name}
-use Rattle.am_model.proofs.Greatest.{split}
+use Rattle.am_base.proofs.Greatest.{split}
 
 -- ---- who is there
 

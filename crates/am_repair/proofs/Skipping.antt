@@ -18,15 +18,15 @@ use Rattle.am_group.specs.Journals.{letter_at}
 use Rattle.am_sender.specs.declared.OwnSend.{OwnSend}
 use Rattle.am_model.specs.declared.status.Status.{Status}
 use Rattle.am_model.specs.declared.status.Status.TheVariants as status
-use Rattle.am_model.specs.Node.{Node, top, image_of, view, acts, others, only_name, is_sequencer, has_room, waiting}
+use Rattle.am_model.specs.Node.{Node, top, image_of, view, acts, others, only_name, is_sequencer, has_room, waiting, has_departed}
 use Rattle.am_model.specs.Emit.{Plan, quiet, telling, bcast_of, ack_of, fetch_of, request_of, spread_of, join_ask_of, accept_of, result_of, tells_accepted}
 use Rattle.am_model.specs.Emit.{with_accept, finish}
 use Rattle.am_model.specs.Step.{step, row}
 use Rattle.am_model.specs.Calls.{is_unfinished, would_emit, emit, everywhere_else}
 use Rattle.am_model.specs.Ticks.{tick_row, tick_by, tick_acting, and_result, put_off, behind_view, viewed_by}
-use Rattle.am_model.specs.Settle.{event_at, running, ticks}
-use Rattle.am_model.specs.World.{World, is_stopped, has_departed, with_record, with_step, happens, happen}
-use Rattle.am_model.proofs.Greatest.{split}
+use Rattle.am_play.specs.Settle.{event_at, running, ticks}
+use Rattle.am_play.specs.World.{World, is_stopped, with_record, with_step, happens, happen}
+use Rattle.am_base.proofs.Greatest.{split}
 use Rattle.am_effects.specs.Causes.{Cause, calls, hears, refuses}
 use Rattle.am_effects.specs.Events.{actor, IsCause}
 use Rattle.am_effects.proofs.Items.{all_letter, all_get}

@@ -10,12 +10,12 @@ use Rattle.am_base.specs.Names.{has}
 use Rattle.am_packet.specs.Boxes.{Letter}
 use Rattle.am_group.specs.declared.event.Event.{Event}
 use Rattle.am_group.specs.Journals.{letter_at}
-use Rattle.am_model.specs.Node.{Node, top, is_sequencer}
+use Rattle.am_model.specs.Node.{Node, top, is_sequencer, has_departed}
 use Rattle.am_model.specs.Calls.{is_unfinished}
 use Rattle.am_model.specs.Ballots.{next_stamp}
 use Rattle.am_model.specs.Emit.{Step}
-use Rattle.am_model.specs.World.{World, has_departed, with_record, with_step, happens}
-use Rattle.am_model.proofs.Greatest.{split}
+use Rattle.am_play.specs.World.{World, with_record, with_step, happens}
+use Rattle.am_base.proofs.Greatest.{split}
 use Rattle.am_effects.specs.Causes.{Cause}
 use Rattle.am_effects.specs.Letters.{LetterSays}
 use Rattle.am_effects.specs.Effects.{Effect}

@@ -13,8 +13,8 @@ use Rattle.am_group.specs.Addressed.{is_for}
 use Rattle.am_group.specs.Journals.{letter_at}
 use Rattle.am_model.specs.Node.{Node, top, only_name}
 use Rattle.am_model.specs.Step.{hear}
-use Rattle.am_model.specs.Settle.{event_at, running, hearings_of, hearings}
-use Rattle.am_model.specs.World.{World, current, is_stopped, happens, happen}
+use Rattle.am_play.specs.Settle.{event_at, running, hearings_of, hearings}
+use Rattle.am_play.specs.World.{World, current, is_stopped, happens, happen}
 use Rattle.am_repair.specs.Rows.{ComesNext}
 use Rattle.am_repair.specs.Calm.{Repair}
 use Rattle.am_repair.specs.Waves.{IsServed, Served}

@@ -16,9 +16,9 @@ use Rattle.am_group.specs.Journals.{letter_at}
 use Rattle.am_model.specs.Node.{Node, top, view, members, others, is_sequencer, report_of}
 use Rattle.am_model.specs.Emit.{Step, accept_of}
 use Rattle.am_model.specs.Step.{step}
-use Rattle.am_model.specs.Settle.{event_at, running, ticks}
-use Rattle.am_model.specs.World.{World, is_stopped, with_step, happens, happen}
-use Rattle.am_model.proofs.Greatest.{split}
+use Rattle.am_play.specs.Settle.{event_at, running, ticks}
+use Rattle.am_play.specs.World.{World, is_stopped, with_step, happens, happen}
+use Rattle.am_base.proofs.Greatest.{split}
 use Rattle.am_repair.specs.Rows.{IsReport}
 use Rattle.am_repair.specs.Calm.{Repair, Leads, Follows}
 use Rattle.am_repair.specs.Waves.{IsSent, Polled, Reported}

@@ -16,7 +16,7 @@ use Rattle.am_model.specs.Emit.{Plan, telling, ack_of, accept_of, request_of, sp
 use Rattle.am_model.specs.Step.{step, row}
 use Rattle.am_model.specs.Calls.{is_unfinished, would_emit, hand_in, emit}
 use Rattle.am_model.specs.Ticks.{tick_row, tick_by, tick_with, tick_acting, tick_member, tick_sequencer, and_result, put_off, going}
-use Rattle.am_model.proofs.Greatest.{and_both}
+use Rattle.am_base.proofs.Greatest.{and_both}
 use Rattle.am_effects.proofs.Tests.{not_false}
 use Rattle.am_effects.proofs.Rests.{rests_at_end, leads_rests}
 use Rattle.am_effects.proofs.Says.{leads_pushed}

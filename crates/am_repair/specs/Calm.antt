@@ -12,8 +12,8 @@ use Rattle.am_packet.specs.declared.packet.Packet.TheVariants.{Request, Spread, 
 use Rattle.am_packet.specs.declared.packet.Packet.TheVariants.{Vote, Fetch, Piece, Result, HandOver}
 use Rattle.am_packet.specs.Boxes.{Letter}
 use Rattle.am_group.specs.Journals.{letter_at}
-use Rattle.am_model.specs.Node.{Node, top, image_of, view, acts, is_member, is_sequencer}
-use Rattle.am_model.specs.World.{World, current, is_stopped, has_departed}
+use Rattle.am_model.specs.Node.{Node, top, image_of, view, acts, is_member, is_sequencer, has_departed}
+use Rattle.am_play.specs.World.{World, current, is_stopped}
 use Rattle.am_repair.specs.Rows.{IsAtRest}
 
 -- what a schedule is about: the sequencer, its view and where its View stands, the members of its list as it began, how far that list went

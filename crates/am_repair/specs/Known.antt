@@ -4,7 +4,7 @@ use Rattle.am_base.specs.Founding.{Rules, MayFound}
 use Rattle.am_base.specs.Names.{has}
 use Rattle.am_group.specs.declared.event.Event.{Event}
 use Rattle.am_model.specs.Node.{Node, members, is_sequencer}
-use Rattle.am_model.specs.World.{run}
+use Rattle.am_play.specs.World.{run}
 
 abbrev pub TrimsKnown : Node → Type 0
 TrimsKnown m = is_sequencer m ≡ true → (i : ℕ) → i < 256 → has (members m) i ≡ true → m.core.base ≤ (m.reports i).taken

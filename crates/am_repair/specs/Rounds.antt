@@ -5,8 +5,8 @@ use Rattle.am_base.specs.Names.{has}
 use Rattle.am_group.specs.declared.event.Act.TheVariants as act
 use Rattle.am_group.specs.declared.event.Event.{Event}
 use Rattle.am_model.specs.Node.{top}
-use Rattle.am_model.specs.Settle.{event_at, round}
-use Rattle.am_model.specs.World.{World, run}
+use Rattle.am_play.specs.Settle.{event_at, round}
+use Rattle.am_play.specs.World.{World, run}
 use Rattle.am_repair.specs.Calm.{Repair, Calm}
 
 -- ticks, and hearings of the schedule's own letters

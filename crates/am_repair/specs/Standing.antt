@@ -7,12 +7,12 @@ use Rattle.am_base.specs.Lists.{image_at, entry_at, fits}
 use Rattle.am_base.specs.Fronts.{counted_at}
 use Rattle.am_group.specs.declared.event.Event.{Event}
 use Rattle.am_model.specs.Node.{Node, top, image_of, members, is_member}
-use Rattle.am_model.specs.Settle.{settle_events}
-use Rattle.am_model.specs.World.{World, current, happen, run}
+use Rattle.am_play.specs.Settle.{settle_events}
+use Rattle.am_play.specs.World.{World, current, happen, run}
 use Rattle.am_chain_lists.specs.Whole as whole
-use Rattle.am_model.specs.Lawful as lists
-use Rattle.am_model.specs.Lawful.{lawful_front}
-use Rattle.am_model.specs.Claims.{MayRepair, HasCaughtUp}
+use Rattle.am_play.specs.Lawful as lists
+use Rattle.am_play.specs.Lawful.{lawful_front}
+use Rattle.am_play.specs.Claims.{MayRepair, HasCaughtUp}
 use Rattle.am_repair.specs.Calm.{AgreesFrom}
 
 -- a member's list has the sequencer's last View, and agrees with it from there

@@ -10,7 +10,7 @@ use Rattle.am_packet.specs.Boxes.{Letter, letter_to}
 use Rattle.am_group.specs.Addressed.{is_for}
 use Rattle.am_group.specs.Journals.{letter_at}
 use Rattle.am_model.specs.Node.{only_name}
-use Rattle.am_model.specs.World.{World}
+use Rattle.am_play.specs.World.{World}
 use Rattle.am_repair.specs.Rows.{IsReport}
 use Rattle.am_repair.specs.Calm.{Repair}
 

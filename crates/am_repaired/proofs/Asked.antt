@@ -24,9 +24,9 @@ use Rattle.am_model.specs.Joining.{with_admitted, asks_to_join, join_ask_row}
 use Rattle.am_model.specs.Hearing.{hears_member, hear_row}
 use Rattle.am_model.specs.Lengths.{packet_length}
 use Rattle.am_model.specs.Refresh.{refresh_at_end}
-use Rattle.am_model.specs.World.{World, is_stopped, with_record, with_step, hears_letter, hear_cut, acts_as, happens}
-use Rattle.am_model.specs.Claims.{heard_by}
-use Rattle.am_model.proofs.Greatest.{split, and_both}
+use Rattle.am_play.specs.World.{World, is_stopped, with_record, with_step, hears_letter, hear_cut, acts_as, happens}
+use Rattle.am_play.specs.Claims.{heard_by}
+use Rattle.am_base.proofs.Greatest.{split, and_both}
 use Rattle.am_effects.specs.Events.{actor}
 use Rattle.am_repair.proofs.Reported.{end_same}
 use Rattle.am_repaired.proofs.Came.{other_member}

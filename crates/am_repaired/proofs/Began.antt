@@ -5,8 +5,7 @@ use Rattle.am_base.specs.declared.name.Stamp.{Stamp}
 use Rattle.am_base.specs.declared.outcome.Outcome.{Outcome}
 use Rattle.am_base.specs.Founding.{Rules}
 use Rattle.am_packet.specs.declared.packet.Packet.TheVariants as packet
-use Rattle.am_model.specs.Group.{has_log}
-use Rattle.am_model.specs.Node.{Node}
+use Rattle.am_model.specs.Node.{has_log, Node}
 use Rattle.am_effects.specs.Causes.{Cause, hears}
 use Rattle.am_effects.specs.Changes.{Changes, unchanged, changed}
 use Rattle.am_effects.proofs.Rests.{rests_refresh, rests_closed, settle_is}

@@ -10,12 +10,11 @@ use Rattle.am_base.specs.Founding.{Rules}
 use Rattle.am_base.specs.Stamps.{stamp_lt, stamp_eq}
 use Rattle.am_base.specs.Lists.{Log, blank, fold, told_by}
 use Rattle.am_packet.specs.declared.packet.Packet.TheVariants as packet
-use Rattle.am_model.specs.Node.{Node, Ballot, view, image_of, acts, is_member, is_asking, push_entry, trim_up_to}
+use Rattle.am_model.specs.Node.{Node, Ballot, view, image_of, acts, is_member, is_asking, push_entry, trim_up_to, has_log}
 use Rattle.am_model.specs.Ballots.{Verdict, with_promise, next_stamp, trim_for, left_in, need_of}
 use Rattle.am_model.specs.Receiving.{is_view}
-use Rattle.am_model.specs.Group.{has_log}
 use Rattle.am_model.specs.Hearing.{hears_member, hears_asking}
-use Rattle.am_model.proofs.Greatest.{split, and_both}
+use Rattle.am_base.proofs.Greatest.{split, and_both}
 use Rattle.am_effects.specs.Causes.{Cause, hears}
 use Rattle.am_effects.specs.Looks.{Looks, finds_itself_out, waits, fetches_from_best, finds_too_few, finds_no_room, decides}
 use Rattle.am_effects.specs.Changes.{Numbers, asked_send, own_send, asked_join, asked_leave, Fetches, without_ballot}
@@ -115,7 +114,8 @@ came_look c m x b v (decides may) mine above h t =
     own (ap (λ (u : Stamp). u.by) is ∙ mine) (ap (stamp_lt (view m)) is ∙ above)
 
 -- a promise of the view that the node is in is no new one
-promised_acts : (x : Node) (v : Stamp) → HasNames x → v.by < 256 → Balloted x → stamp_lt v x.core.promise ≡ false → acts (with_promise x v) ≡ true → acts x ≡ true
+promised_acts : (x : Node) (v : Stamp) → HasNames x → v.by < 256 → Balloted x → stamp_lt v x.core.promise ≡ false → acts (with_promise x v) ≡ true → acts x
+    ≡ true
 promised_acts x v names few k low t =
     let a = acting (with_promise x v) t in
     let up : stamp_lt x.core.promise v ≡ false = ap (stamp_lt x.core.promise) a.1 ∙ k.high in

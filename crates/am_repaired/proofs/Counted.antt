@@ -18,10 +18,10 @@ use Rattle.am_chain_lists.proofs.Members.{good_begins, told_push, mem_push, ends
 use Rattle.am_chain_moves.specs.Group.{Group, Leads, counted_in, opening, chain_of, current_of}
 use Rattle.am_chain_moves.specs.Kept.{Kept}
 use Rattle.am_model.specs.Node.{Node, top, image_of as told_at, members, lowest_or_first}
-use Rattle.am_model.specs.Claims.{MayRepair}
-use Rattle.am_model.specs.World.{World, current, run}
-use Rattle.am_model.proofs.Folds.{fold_append}
-use Rattle.am_model.proofs.Greatest.{split}
+use Rattle.am_play.specs.Claims.{MayRepair}
+use Rattle.am_play.specs.World.{World, current, run}
+use Rattle.am_base.proofs.Folds.{fold_append}
+use Rattle.am_base.proofs.Greatest.{split}
 use Rattle.am_laws.proofs.Named.{names_hold}
 use Rattle.am_laws.proofs.RunCounts.{numbers_hold}
 use Rattle.am_laws.proofs.TakenRuns.{taken_holds}
@@ -185,7 +185,8 @@ module _ (rules : Rules) (events : List Event) (place : ℕ) (may : MayFound rul
             let e = View (current_of s.views).stamp (current_of s.views).members (current_of s.views).resilience in
             let a = before ++ e ∷ [] in
             let long = length_push before e in
-            let its = after_view (image_of before) (1 + length before) (current_of s.views).stamp (current_of s.views).members (current_of s.views).resilience in
+            let its = after_view (image_of before) (1 + length before) (current_of s.views).stamp (current_of s.views).members
+            (current_of s.views).resilience in
             let here : (image_of a).view_number ≡ 1 + length before = ap (λ (g : Image). g.view_number) (told_push before e) ∙ its.1 in
             let all : image_of list ≡ fold (image_of a) (1 + length a) on.rest = ap image_of (sym on.same) ∙ fold_append blank 1 a on.rest in
             let same = ap (λ (g : Image). g.view_number) all in

@@ -11,8 +11,8 @@ use Rattle.am_chain_lists.specs.Whole.{key}
 use Rattle.am_chain_moves.specs.Group.{Group}
 use Rattle.am_model.specs.Node.{Node, view, acts, is_sequencer}
 use Rattle.am_model.specs.Emit.{Step}
-use Rattle.am_model.specs.World.{World, run}
-use Rattle.am_model.proofs.Greatest.{split, and_both}
+use Rattle.am_play.specs.World.{World, run}
+use Rattle.am_base.proofs.Greatest.{split, and_both}
 use Rattle.am_effects.specs.Causes.{Cause}
 use Rattle.am_effects.specs.Events.{actor}
 use Rattle.am_effects.proofs.Items.{all_get}

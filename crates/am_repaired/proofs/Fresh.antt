@@ -20,12 +20,11 @@ use Rattle.am_chain_lists.proofs.Members.{mem_in, was_begins}
 use Rattle.am_chain_lists.proofs.Prefixes.{begins_take, begins_trans}
 use Rattle.am_chain_moves.specs.Group.{Group, IsUp, chain_of}
 use Rattle.am_chain_moves.specs.Kept.{Kept}
-use Rattle.am_model.specs.Node.{Node, image_of, acts, is_member, is_sequencer}
-use Rattle.am_model.specs.Group.{has_log}
-use Rattle.am_model.specs.World.{World, is_stopped, has_departed}
+use Rattle.am_model.specs.Node.{Node, image_of, acts, is_member, is_sequencer, has_log, has_departed}
+use Rattle.am_play.specs.World.{World, is_stopped}
 use Rattle.am_model.specs.declared.status.Status.{Status}
 use Rattle.am_model.specs.declared.status.Status.TheVariants as status
-use Rattle.am_model.proofs.Greatest.{split, and_both}
+use Rattle.am_base.proofs.Greatest.{split, and_both}
 use Rattle.am_effects.proofs.Statuses.{logged}
 use Rattle.am_stands.specs.Standing.{NameStands}
 use Rattle.am_stands.specs.Letters.{PacketSays, WelcomeTo, has_begun, has_gone, has_left, is_leaving, may_begin}

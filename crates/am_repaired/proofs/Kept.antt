@@ -10,11 +10,10 @@ use Rattle.am_packet.specs.Boxes.{Letter}
 use Rattle.am_group.specs.declared.event.Event.{Event}
 use Rattle.am_chain_lists.specs.Whole.{key}
 use Rattle.am_chain_moves.specs.Group.{Group}
-use Rattle.am_model.specs.Node.{Node, view, acts, is_sequencer, founding_stamp}
-use Rattle.am_model.specs.Group.{has_log}
+use Rattle.am_model.specs.Node.{Node, view, acts, is_sequencer, founding_stamp, has_log}
 use Rattle.am_model.specs.Emit.{Step}
-use Rattle.am_model.specs.World.{World, start, founders_decided, first_node, is_stopped}
-use Rattle.am_model.proofs.Greatest.{split}
+use Rattle.am_play.specs.World.{World, start, founders_decided, first_node, is_stopped}
+use Rattle.am_base.proofs.Greatest.{split}
 use Rattle.am_effects.specs.Causes.{Cause}
 use Rattle.am_stands.specs.Running.{Following}
 use Rattle.am_headline.proofs.Fold.{KeptBy, Quiet}

@@ -9,7 +9,7 @@ use Rattle.am_base.specs.Stamps.{stamp_lt}
 use Rattle.am_model.specs.Node.{Node, Ballot, view, image_of, push_entry}
 use Rattle.am_model.specs.Ballots.{Verdict, trim_for, left_in, need_of}
 use Rattle.am_model.specs.Refresh.{refresh}
-use Rattle.am_model.proofs.Greatest.{split}
+use Rattle.am_base.proofs.Greatest.{split}
 use Rattle.am_effects.specs.Causes.{Cause}
 use Rattle.am_effects.specs.Looks.{Looks, decides}
 use Rattle.am_effects.specs.Changes.{Change, refreshes, settles, takes_report, admits}

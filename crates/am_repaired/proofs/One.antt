@@ -3,11 +3,11 @@ use Rattle.std.proofs.Common.{◌≡◌, ℕ, ◌<◌, true, false, sym, ap, ◌
 use Rattle.am_base.specs.Founding.{Rules}
 use Rattle.am_chain_lists.specs.Whole.{view_of}
 use Rattle.am_chain_moves.specs.Group as groups
-use Rattle.am_chain_moves.specs.Group.{Group, IsUp, chain_of}
+use Rattle.am_chain_moves.specs.Group.{Group, IsUp}
 use Rattle.am_chain_moves.specs.Kept.{Kept}
 use Rattle.am_model.specs.Node.{acts, is_member, is_sequencer}
-use Rattle.am_model.specs.World.{World, is_stopped}
-use Rattle.am_model.proofs.Greatest.{and_both}
+use Rattle.am_play.specs.World.{World, is_stopped}
+use Rattle.am_base.proofs.Greatest.{and_both}
 use Rattle.am_effects.proofs.Statuses.{logged}
 use Rattle.am_stands.specs.Running.{Following}
 use Rattle.am_stands.proofs.Sent.{Leading, leading}

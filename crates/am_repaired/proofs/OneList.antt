@@ -10,11 +10,11 @@ use Rattle.am_chain_lists.proofs.Prefixes.{begins_take, begins_trans}
 use Rattle.am_chain_moves.specs.Group.{Group, IsUp, Leads, chain_of}
 use Rattle.am_chain_moves.specs.Kept.{Kept}
 use Rattle.am_model.specs.Node.{Node, acts, view, is_member, lowest_or_first}
-use Rattle.am_model.specs.Lawful.{whole, broken_at}
-use Rattle.am_model.specs.Claims.{MayRepair}
-use Rattle.am_model.specs.World.{World, current, is_stopped, run}
-use Rattle.am_model.proofs.Greatest.{split, and_both}
-use Rattle.am_model.proofs.Runs.{front_is_lawful}
+use Rattle.am_play.specs.Lawful.{whole, broken_at}
+use Rattle.am_play.specs.Claims.{MayRepair}
+use Rattle.am_play.specs.World.{World, current, is_stopped, run}
+use Rattle.am_base.proofs.Greatest.{split, and_both}
+use Rattle.am_play.proofs.Runs.{front_is_lawful}
 use Rattle.am_effects.proofs.Statuses.{logged}
 use Rattle.am_laws.proofs.Named.{names_hold}
 use Rattle.am_laws.proofs.Stamps.{same_stamp}

@@ -6,12 +6,11 @@ use Rattle.am_packet.specs.declared.packet.Packet.TheVariants as packet
 use Rattle.am_packet.specs.Boxes.{Letter}
 use Rattle.am_group.specs.declared.event.Event.{Event}
 use Rattle.am_chain_moves.specs.Group.{Group}
-use Rattle.am_model.specs.Node.{Node, view, acts, is_sequencer}
-use Rattle.am_model.specs.Group.{has_log}
+use Rattle.am_model.specs.Node.{Node, view, acts, is_sequencer, has_log}
 use Rattle.am_model.specs.Emit.{Step}
-use Rattle.am_model.specs.World.{is_stopped, run}
-use Rattle.am_model.specs.Claims.{heard_by}
-use Rattle.am_model.proofs.Greatest.{split, and_both}
+use Rattle.am_play.specs.World.{is_stopped, run}
+use Rattle.am_play.specs.Claims.{heard_by}
+use Rattle.am_base.proofs.Greatest.{split, and_both}
 use Rattle.am_effects.specs.Causes.{Cause}
 use Rattle.am_effects.specs.Events.{actor, WasSentTo, IsCause}
 use Rattle.am_headline.proofs.OneStep.{itself, parts, plain}

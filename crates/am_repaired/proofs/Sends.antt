@@ -9,9 +9,9 @@ use Rattle.am_model.specs.declared.status.Status.{Status}
 use Rattle.am_model.specs.declared.status.Status.TheVariants as status
 use Rattle.am_model.specs.Ballots.{Verdict}
 use Rattle.am_model.specs.Emit.{Step}
-use Rattle.am_model.specs.Node.{Node, Ballot, with_report}
-use Rattle.am_model.specs.World.{has_departed, with_step, happens, run}
-use Rattle.am_model.proofs.Greatest.{split}
+use Rattle.am_model.specs.Node.{Node, Ballot, with_report, has_departed}
+use Rattle.am_play.specs.World.{with_step, happens, run}
+use Rattle.am_base.proofs.Greatest.{split}
 use Rattle.am_effects.specs.Causes.{Cause}
 use Rattle.am_effects.specs.Looks.{Looks, finds_itself_out}
 use Rattle.am_effects.specs.Changes.{Change, refreshes, settles, begins_list, departs}

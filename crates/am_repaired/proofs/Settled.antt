@@ -5,11 +5,11 @@ use Rattle.am_base.specs.Founding.{Rules, MayFound}
 use Rattle.am_base.specs.Names.{has}
 use Rattle.am_group.specs.declared.event.Event.{Event}
 use Rattle.am_model.specs.Node.{is_member, top, members}
-use Rattle.am_model.specs.World.{World, start, current, is_stopped, run}
-use Rattle.am_model.specs.Settle.{settle_events}
-use Rattle.am_model.specs.Claims.{MayRepair, HasCaughtUp, Repairs}
-use Rattle.am_model.proofs.Greatest.{split}
-use Rattle.am_model.proofs.Runs.{runs_go_on}
+use Rattle.am_play.specs.World.{World, start, current, is_stopped, run}
+use Rattle.am_play.specs.Settle.{settle_events}
+use Rattle.am_play.specs.Claims.{MayRepair, HasCaughtUp, Repairs}
+use Rattle.am_base.proofs.Greatest.{split}
+use Rattle.am_play.proofs.Runs.{runs_go_on}
 use Rattle.am_laws.proofs.TakenRuns.{taken_holds}
 use Rattle.am_steps.proofs.Statuses.{member_here}
 use Rattle.am_steps.proofs.Steps.{steps_move}

@@ -16,13 +16,12 @@ use Rattle.am_chain_moves.specs.Group as groups
 use Rattle.am_chain_moves.specs.Group.{Group, opening, current_of, chain_of}
 use Rattle.am_chain_moves.specs.Kept.{Kept}
 use Rattle.am_model.specs.declared.status.Status.TheVariants as status
-use Rattle.am_model.specs.Node.{Node, top, view, is_member, founding_stamp, lowest_or_first}
-use Rattle.am_model.specs.Group.{has_log}
+use Rattle.am_model.specs.Node.{Node, top, view, is_member, founding_stamp, lowest_or_first, has_log, has_departed}
 use Rattle.am_model.specs.Emit.{Step}
 use Rattle.am_model.specs.Calls.{is_unfinished}
 use Rattle.am_packet.specs.Boxes.{Letter}
-use Rattle.am_model.specs.World.{Decided, World, start, founders_decided, has_departed, group_with, run}
-use Rattle.am_model.proofs.Greatest.{split, and_both}
+use Rattle.am_play.specs.World.{Decided, World, start, founders_decided, group_with, run}
+use Rattle.am_base.proofs.Greatest.{split, and_both}
 use Rattle.am_effects.specs.Causes.{Cause}
 use Rattle.am_effects.specs.Changes.{Changes, unchanged, changed}
 use Rattle.am_effects.specs.Courses.{Ending, at_end, let_go, closing}

@@ -5,8 +5,8 @@ use Rattle.am_base.specs.Names.{has, names_of}
 use Rattle.am_base.specs.Fronts.{counted_at}
 use Rattle.am_group.specs.declared.event.Event.{Event}
 use Rattle.am_model.specs.Node.{Node, top, image_of, members}
-use Rattle.am_model.specs.World.{World, current, run}
-use Rattle.am_model.specs.Claims.{MayRepair}
+use Rattle.am_play.specs.World.{World, current, run}
+use Rattle.am_play.specs.Claims.{MayRepair}
 
 -- from the last View on, whose storage counts for what isn't accepted yet is a member still
 abbrev pub CountsMembers : Node → Type 0

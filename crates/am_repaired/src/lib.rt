@@ -2,7 +2,7 @@
 //! list, and the claim.
 #![tactic(auto)]
 
-ghost use Rattle.am_model.specs.Claims.{Repairs};
+ghost use Rattle.am_play.specs.Claims.{Repairs};
 ghost use Rattle.am_repair.specs.Standing.{RepairableIsOneList};
 ghost use Rattle.am_repaired.specs.Trimmed.{RepairableCounts, RepairableTrims};
 

@@ -8,9 +8,10 @@ use Rattle.am_base.specs.Founding.{Rules}
 use Rattle.am_base.specs.Votes.{all_names}
 use Rattle.am_group.specs.declared.event.Record.{Record}
 use Rattle.am_group.specs.Deliveries.{deliveries, given_to}
-use Rattle.am_model.specs.Group.{has_log, logs}
-use Rattle.am_model.specs.World.{World}
-use Rattle.am_model.specs.Text.{log_text, logs_text, empty_log_line}
+use Rattle.am_model.specs.Node.{has_log}
+use Rattle.am_play.specs.Group.{logs}
+use Rattle.am_play.specs.World.{World}
+use Rattle.am_play.specs.Text.{log_text, logs_text, empty_log_line}
 use Rattle.am_report.specs.Logs.{logs_for, given_lines}
 
 -- what is left to be given

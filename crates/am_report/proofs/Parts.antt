@@ -5,7 +5,7 @@ use Rattle.am_base.specs.declared.entry.Entry.{Entry}
 use Rattle.am_base.specs.Founding.{Rules}
 use Rattle.am_group.specs.declared.event.Record.{Record}
 use Rattle.am_group.specs.Journals.{letters_of}
-use Rattle.am_model.specs.Text.{lines_from, record_line, group_from, group_line}
+use Rattle.am_play.specs.Text.{lines_from, record_line, group_from, group_line}
 
 pub lines_more : (rules : Rules) (number before : ℕ) (records : List Record) (i : ℕ) (d : Record) → i < length records
     → lines_from rules number before (drop i records) ≡ record_line rules number before (slice_index_or records i d)

@@ -3,7 +3,7 @@ use Rattle.std.proofs.Common.{◌≡◌, refl}
 use Rattle.am_packet.specs.declared.packet.Packet.{Packet}
 use Rattle.am_packet.specs.declared.packet.Packet.TheVariants as packets
 use Rattle.am_packet.specs.Kinds.{kind_of}
-use Rattle.am_model.specs.Text.{kind_word}
+use Rattle.am_play.specs.Text.{kind_word}
 use Rattle.am_report.specs.Kinds.{word_at}
 
 pub word_of_kind : (packet : Packet) → word_at (kind_of packet) ≡ kind_word packet

@@ -2,7 +2,7 @@
 use Rattle.std.specs.Prelude.{ℕ, zero, suc, Bool, true, false, List, ◌∷◌, ◌++◌, codes}
 use Rattle.std.specs.List.{flat_map}
 use Rattle.am_base.specs.Names.{name_at}
-use Rattle.am_model.specs.Text.{name_text, list_text}
+use Rattle.am_play.specs.Text.{name_text, list_text}
 
 -- what is still to be printed for names: with a dash for nobody where none was printed, else with a comma before each
 abbrev pub rest_text : Bool → List ℕ → List ℕ

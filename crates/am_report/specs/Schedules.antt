@@ -6,7 +6,7 @@ use Rattle.am_base.specs.Names.{place_of, life_of}
 use Rattle.am_group.specs.declared.event.Act.{Act}
 use Rattle.am_group.specs.declared.event.Act.TheVariants as acts
 use Rattle.am_group.specs.declared.event.Event.{Event}
-use Rattle.am_model.specs.Text.{names_text, hex_byte, act_word}
+use Rattle.am_play.specs.Text.{names_text, hex_byte, act_word}
 
 -- a life other than the first
 unfoldable pub life_json : ℕ → List ℕ

@@ -3,9 +3,9 @@ use Rattle.std.specs.Prelude.{ℕ, ◌++◌, List, length, count_by, codes, Opti
 use Rattle.am_base.specs.declared.entry.Entry.{Entry}
 use Rattle.am_group.specs.declared.event.Record.{Record}
 use Rattle.am_group.specs.Journals.{letters_of}
-use Rattle.am_model.specs.Text.{mark_line}
+use Rattle.am_play.specs.Text.{mark_line}
 use Rattle.am_base.specs.Outcomes.{is_took, is_sent, is_held}
-use Rattle.am_model.specs.Play.{count_line}
+use Rattle.am_play.specs.Play.{count_line}
 
 unfoldable pub summary_for : List Record → List Entry → Option ℕ → List ℕ
 summary_for records group broken =

@@ -1,6 +1,6 @@
 ghost use Rattle.std.specs.Prelude.{◌≡◌, ◌++◌, OnOk, string_bytes};
 ghost use Rattle.std.specs.List.{flat_map};
-ghost use Rattle.am_model.specs.Text.{hex_byte, body_text, resilience_text, entry_text};
+ghost use Rattle.am_play.specs.Text.{hex_byte, body_text, resilience_text, entry_text};
 
 use crate::name::{push_name, push_names, push_stamp};
 use am_base::NoMemory;
@@ -17,7 +17,7 @@ pub fn push_bytes(out: &mut String, bytes: &[u8]) -> Result<(), NoMemory>
 }
 
 /// Adds a body: its bytes, or a dash where there are none.
-#[tactic(auto, unfolding(am_model::specs::Text::body_text))]
+#[tactic(auto, unfolding(am_play::specs::Text::body_text))]
 pub fn push_body(out: &mut String, bytes: &[u8]) -> Result<(), NoMemory>
     ensures { OnOk result (string_bytes out.new ≡ string_bytes out.old ++ body_text bytes.now) }
 {
@@ -28,7 +28,7 @@ pub fn push_body(out: &mut String, bytes: &[u8]) -> Result<(), NoMemory>
 }
 
 /// Adds a resilience, where it isn't the founding's.
-#[tactic(auto, unfolding(am_model::specs::Text::resilience_text))]
+#[tactic(auto, unfolding(am_play::specs::Text::resilience_text))]
 pub fn push_resilience(
     out: &mut String,
     founding: &Founding,
@@ -44,7 +44,7 @@ pub fn push_resilience(
 }
 
 /// Adds an entry.
-#[tactic(auto, unfolding(am_model::specs::Text::entry_text))]
+#[tactic(auto, unfolding(am_play::specs::Text::entry_text))]
 pub fn push_entry(out: &mut String, founding: &Founding, entry: &Entry) -> Result<(), NoMemory>
     ensures { OnOk result (string_bytes out.new
         ≡ string_bytes out.old ++ entry_text founding.now entry.now) }

@@ -1,5 +1,5 @@
 ghost use Rattle.std.specs.Prelude.{◌≡◌, ◌++◌, OnOk, string_bytes};
-ghost use Rattle.am_model.specs.Text.{act_word, act_parts, event_text};
+ghost use Rattle.am_play.specs.Text.{act_word, act_parts, event_text};
 
 use crate::entry::{push_body, push_resilience};
 use crate::name::push_name;
@@ -8,7 +8,7 @@ use am_base::founding::Founding;
 use am_group::event::{Act, Event};
 
 /// An act's word.
-#[tactic(auto, unfolding(am_model::specs::Text::act_word))]
+#[tactic(auto, unfolding(am_play::specs::Text::act_word))]
 pub fn act_word(act: &Act) -> &'static str
     ensures { result.now ≡ act_word act.now }
 {
@@ -31,7 +31,7 @@ pub fn act_word(act: &Act) -> &'static str
 }
 
 // Adds what stands behind an act's node, with a blank before each part.
-#[tactic(auto, unfolding(am_model::specs::Text::act_parts))]
+#[tactic(auto, unfolding(am_play::specs::Text::act_parts))]
 fn push_parts(out: &mut String, founding: &Founding, act: &Act) -> Result<(), NoMemory>
     ensures { OnOk result (string_bytes out.new
         ≡ string_bytes out.old ++ act_parts founding.now act.now) }
@@ -60,7 +60,7 @@ fn push_parts(out: &mut String, founding: &Founding, act: &Act) -> Result<(), No
 }
 
 /// Adds an event: its act's word, the place of its node, and the rest.
-#[tactic(auto, unfolding(am_model::specs::Text::event_text))]
+#[tactic(auto, unfolding(am_play::specs::Text::event_text))]
 pub fn push_event(out: &mut String, founding: &Founding, event: &Event) -> Result<(), NoMemory>
     ensures { OnOk result (string_bytes out.new
         ≡ string_bytes out.old ++ event_text founding.now event.now) }

@@ -1,6 +1,6 @@
 ghost use Rattle.std.specs.Prelude.{◌≡◌, ◌+◌, ◌<◌, ◌++◌, OnOk, string_bytes};
 ghost use Rattle.am_report.specs.Kinds.{word_at};
-ghost use Rattle.am_model.specs.Text.{kind_word, addressees_text, letter_text, letters_text};
+ghost use Rattle.am_play.specs.Text.{kind_word, addressees_text, letter_text, letters_text};
 
 use crate::name::{is_everybody_else, push_names};
 use am_base::NoMemory;
@@ -41,7 +41,7 @@ pub fn kind_word(letter: &Letter) -> &'static str
 }
 
 // Adds for whom a letter of a node at this place is.
-#[tactic(auto, unfolding(am_model::specs::Text::addressees_text))]
+#[tactic(auto, unfolding(am_play::specs::Text::addressees_text))]
 fn push_addressees(out: &mut String, place: u8, letter: &Letter) -> Result<(), NoMemory>
     requires { place < 16 }
     ensures { OnOk result (string_bytes out.new
@@ -54,7 +54,7 @@ fn push_addressees(out: &mut String, place: u8, letter: &Letter) -> Result<(), N
 }
 
 // Adds a letter of a node at this place: its number, its kind and for whom it is.
-#[tactic(auto, unfolding(am_model::specs::Text::letter_text))]
+#[tactic(auto, unfolding(am_play::specs::Text::letter_text))]
 fn push_letter(out: &mut String, place: u8, number: u64, letter: &Letter) -> Result<(), NoMemory>
     requires { place < 16 }
     ensures { OnOk result (string_bytes out.new

@@ -1,7 +1,7 @@
-#![tactic(auto, unfolding(am_model::specs::Text::record_line, am_model::specs::Text::group_line, am_model::specs::Text::log_line, am_model::specs::Text::empty_log_line, am_model::specs::Text::mark_line))]
+#![tactic(auto, unfolding(am_play::specs::Text::record_line, am_play::specs::Text::group_line, am_play::specs::Text::log_line, am_play::specs::Text::empty_log_line, am_play::specs::Text::mark_line))]
 
 ghost use Rattle.std.specs.Prelude.{◌≡◌, ◌++◌, OnOk, string_bytes};
-ghost use Rattle.am_model.specs.Text.{record_line, group_line, log_line, empty_log_line, mark_line};
+ghost use Rattle.am_play.specs.Text.{record_line, group_line, log_line, empty_log_line, mark_line};
 
 use crate::entry::push_entry;
 use crate::event::push_event;

@@ -1,6 +1,6 @@
 ghost use Rattle.std.specs.Prelude.{◌≡◌, ℕ, List, ◌++◌, ◌<◌, IfOk, OnOk, string_bytes, slice_index, nat_le};
 ghost use Rattle.std.specs.List.{list_all};
-ghost use Rattle.am_model.specs.Text.{name_text, stamp_text, names_text, is_everybody_else};
+ghost use Rattle.am_play.specs.Text.{name_text, stamp_text, names_text, is_everybody_else};
 ghost use Rattle.am_report.specs.Names.{rest_text, with_life};
 
 use am_base::NoMemory;
@@ -8,7 +8,7 @@ use am_base::name::{Name, Stamp};
 use am_base::names::Names;
 
 /// Adds a name: its place, and a life other than the first behind a slash.
-#[tactic(auto, unfolding(am_model::specs::Text::name_text))]
+#[tactic(auto, unfolding(am_play::specs::Text::name_text))]
 pub fn push_name(out: &mut String, name: Name) -> Result<(), NoMemory>
     ensures { OnOk result (string_bytes out.new ≡ string_bytes out.old ++ name_text name) }
 {
@@ -21,7 +21,7 @@ pub fn push_name(out: &mut String, name: Name) -> Result<(), NoMemory>
 }
 
 /// Adds a stamp.
-#[tactic(auto, unfolding(am_model::specs::Text::stamp_text))]
+#[tactic(auto, unfolding(am_play::specs::Text::stamp_text))]
 pub fn push_stamp(out: &mut String, stamp: Stamp) -> Result<(), NoMemory>
     ensures { OnOk result (string_bytes out.new ≡ string_bytes out.old ++ stamp_text stamp) }
 {

@@ -1,5 +1,5 @@
 ghost use Rattle.std.specs.Prelude.{◌≡◌, ◌++◌, OnOk, string_bytes};
-ghost use Rattle.am_model.specs.Text.{outcome_word, numbers_text, outcome_numbers, outcome_parts, outcome_text};
+ghost use Rattle.am_play.specs.Text.{outcome_word, numbers_text, outcome_numbers, outcome_parts, outcome_text};
 
 use crate::entry::push_entry;
 use crate::name::{push_name, push_names, push_stamp};
@@ -8,7 +8,7 @@ use am_base::founding::Founding;
 use am_base::outcome::Outcome;
 
 /// An outcome's word.
-#[tactic(auto, unfolding(am_model::specs::Text::outcome_word))]
+#[tactic(auto, unfolding(am_play::specs::Text::outcome_word))]
 pub fn outcome_word(outcome: &Outcome) -> &'static str
     ensures { result.now ≡ outcome_word outcome.now }
 {
@@ -104,7 +104,7 @@ fn push_numbers(out: &mut String, outcome: &Outcome) -> Result<(), NoMemory>
 }
 
 // Adds what stands behind an outcome's word, with a blank before each part.
-#[tactic(auto, unfolding(am_model::specs::Text::outcome_parts))]
+#[tactic(auto, unfolding(am_play::specs::Text::outcome_parts))]
 fn push_parts(out: &mut String, founding: &Founding, outcome: &Outcome) -> Result<(), NoMemory>
     ensures { OnOk result (string_bytes out.new
         ≡ string_bytes out.old ++ outcome_parts founding.now outcome.now) }
@@ -142,7 +142,7 @@ fn push_parts(out: &mut String, founding: &Founding, outcome: &Outcome) -> Resul
 }
 
 /// Adds an outcome: its word and its parts.
-#[tactic(auto, unfolding(am_model::specs::Text::outcome_text))]
+#[tactic(auto, unfolding(am_play::specs::Text::outcome_text))]
 pub fn push_outcome(
     out: &mut String,
     founding: &Founding,

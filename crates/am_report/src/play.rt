@@ -2,7 +2,7 @@ ghost use Rattle.std.specs.Prelude.{◌≡◌, ◌≤◌, ◌<◌, ◌++◌, len
 ghost use Rattle.am_base.specs.Most.{most_events};
 ghost use Rattle.am_group.specs.Deliveries.{given_to, deliveries};
 ghost use Rattle.am_group.specs.Journals.{letters_of};
-ghost use Rattle.am_model.specs.Text.{records_text, group_text, log_text, logs_text, play_text};
+ghost use Rattle.am_play.specs.Text.{records_text, group_text, log_text, logs_text, play_text};
 ghost use Rattle.am_report.specs.Logs.{logs_for, given_lines};
 
 use crate::lines::{push_empty_log, push_group_line, push_log_line, push_mark, push_record};
@@ -16,7 +16,7 @@ use am_group::journal::Journal;
 use std::alloc::Global;
 
 // Adds the lines of a run's events.
-#[tactic(auto, using(crate::proofs::Parts::lines), unfolding(am_model::specs::Text::records_text))]
+#[tactic(auto, using(crate::proofs::Parts::lines), unfolding(am_play::specs::Text::records_text))]
 fn push_records(out: &mut String, founding: &Founding, records: &[Record]) -> Result<(), NoMemory>
     requires events { length records.now ≤ most_events }
     requires letters { length (letters_of records.now) ≤ 2400000 }
@@ -32,7 +32,7 @@ fn push_records(out: &mut String, founding: &Founding, records: &[Record]) -> Re
 }
 
 // Adds the lines of a group's list.
-#[tactic(auto, using(crate::proofs::Parts::lines), unfolding(am_model::specs::Text::group_text))]
+#[tactic(auto, using(crate::proofs::Parts::lines), unfolding(am_play::specs::Text::group_text))]
 fn push_group(out: &mut String, founding: &Founding, group: &[Entry]) -> Result<(), NoMemory>
     ensures { OnOk result (string_bytes out.new
         ≡ string_bytes out.old ++ group_text founding.now group.now) }
@@ -101,7 +101,7 @@ fn push_logs(
 
 /// All that is printed of a run: its events, the group's list, what each of these names was given, and which event broke
 /// it, if one did (docs/PROTOCOL.md, "Play text"). The names are those that have or had a list, ascending.
-#[tactic(auto, unfolding(am_model::specs::Text::play_text))]
+#[tactic(auto, unfolding(am_play::specs::Text::play_text))]
 pub fn play_text(
     alloc: Global,
     journal: &Journal,

@@ -1,6 +1,6 @@
 ghost use Rattle.std.specs.Prelude.{◌≡◌, ◌++◌, OnOk, IfOk, count_by, string_bytes};
 ghost use Rattle.am_base.specs.Outcomes.{is_took, is_sent, is_held};
-ghost use Rattle.am_model.specs.Play.{count_line};
+ghost use Rattle.am_play.specs.Play.{count_line};
 ghost use Rattle.am_report.specs.Summaries.{summary_for};
 
 use crate::lines::push_mark;

@@ -1,7 +1,7 @@
 -- Scripts and their texts. Written by tools/rows.py from cases/scenarios_window.
 use Rattle.std.specs.Prelude.{◌≡◌, [], ◌∷◌, ◌++◌, codes}
 use Rattle.am_group.specs.declared.event.Act.TheVariants as act
-use Rattle.am_model.specs.Play.{text_of}
+use Rattle.am_play.specs.Play.{text_of}
 use Rattle.am_rows.specs.Scripts.{rules_with, on, lines}
 
 abbrev pub Window1 : Type 0

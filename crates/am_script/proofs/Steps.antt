@@ -1,5 +1,6 @@
 -- What is read was read step by step; numbers are within their limits.
-use Rattle.std.proofs.Common.{◌≡◌, ℕ, ◌+◌, ◌≤◌, List, [], ◌∷◌, All, Option, Some, None, Ok, Err, Bool, true, false, is_some, ◌&&◌, nat_le, refl, subst, cond, arith}
+use Rattle.std.proofs.Common.{◌≡◌, ℕ, ◌+◌, ◌≤◌, List, [], All, Option, Some, None, Ok, Err, Bool, true, false, is_some, ◌&&◌, nat_le, refl, subst, cond}
+use Rattle.std.proofs.Common.{arith}
 use Rattle.std.specs.Option.{ok_or, option_map_or}
 use Rattle.std.specs.Prelude.{option_and_then}
 use Rattle.std.proofs.lemmas.Bool.{leb-true}

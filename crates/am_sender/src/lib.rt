@@ -110,7 +110,7 @@ impl Sender {
         self.last += 1;
         self.queue.push(OwnSend {
             req: self.last,
-            body: body.body(),
+            body: body.as_ref().to_body(),
             number: None,
         });
         Ok(self.last)

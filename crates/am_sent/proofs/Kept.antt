@@ -18,8 +18,8 @@ use Rattle.am_bodies.specs.Bodies.{is_of, with_body, keep_body}
 use Rattle.am_model.specs.Node.{Node, is_sequencer, push_entry, waiting}
 use Rattle.am_model.specs.Refresh.{advance, lead, refresh, accepted_at, settle_at, settle_waiting, settle, refresh_at_end}
 use Rattle.am_model.specs.Calls.{with_queued}
-use Rattle.am_model.specs.Claims.{IsSend}
-use Rattle.am_model.proofs.Greatest.{split}
+use Rattle.am_play.specs.Claims.{IsSend}
+use Rattle.am_base.proofs.Greatest.{split}
 use Rattle.am_effects.proofs.Items.{get_front, all_find}
 
 -- ---- what was sent

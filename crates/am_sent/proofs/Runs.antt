@@ -16,17 +16,17 @@ use Rattle.am_group.specs.declared.event.Event.{Event}
 use Rattle.am_group.specs.declared.event.Record.{Record}
 use Rattle.am_model.specs.Node.{Node, view, set_at, founder, stranger, founders_view}
 use Rattle.am_model.specs.Emit.{Step}
-use Rattle.am_model.specs.World.{World, start, record_of, group_after, with_record, with_step, run}
-use Rattle.am_model.specs.Claims.{heard_by}
-use Rattle.am_model.proofs.Greatest.{split}
+use Rattle.am_play.specs.World.{World, start, record_of, group_after, with_record, with_step, run}
+use Rattle.am_play.specs.Claims.{heard_by}
+use Rattle.am_base.proofs.Greatest.{split}
 use Rattle.am_effects.specs.Causes.{Cause, calls, hears, refuses}
 use Rattle.am_effects.specs.Events as event
 use Rattle.am_effects.specs.Events.{actor, IsCall, IsCause, idles, stops, returns, steps}
 use Rattle.am_effects.proofs.Items.{get_front, get_last, all_item}
 use Rattle.am_effects.proofs.Runs.{EachKeeps, runs_keep}
 use Rattle.am_sent.specs.Claim.{SentHolds}
-use Rattle.am_model.proofs.Runs.{one_record_each}
-use Rattle.am_model.proofs.Beginnings.{runs_begin}
+use Rattle.am_play.proofs.Runs.{one_record_each}
+use Rattle.am_play.proofs.Beginnings.{runs_begin}
 use Rattle.am_sent.proofs.Kept.{WasSent, EntrySent, PacketSent, LetterSent, Keeps, entry_more, letter_more, kept_more}
 use Rattle.am_sent.proofs.Changes.{CauseSent, StepSent, step_sent}
 

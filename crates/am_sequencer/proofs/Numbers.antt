@@ -1,25 +1,13 @@
--- A Data is numbered: whose it may be, and what it leaves as it was.
-use Rattle.std.proofs.Common.{◌≡◌, ℕ, ◌+◌, List, true, false, ◌==◌, nat_lt, refl, ap, ◌∙◌, arith, slice_index}
+-- A Data is numbered: whose it may be.
+use Rattle.std.proofs.Common.{◌≡◌, ℕ, ◌+◌, List, true, false, ◌==◌, nat_lt, ◌∙◌, arith, slice_index}
 use Rattle.std.proofs.lemmas.Bool.Decides.{nat_tests}
 use Rattle.std.proofs.Math.ListN.{get_or-map}
-use Rattle.std.proofs.Math.Seq.{map-set_same}
 use Rattle.am_base.specs.declared.image.Row.{Row}
 use Rattle.am_base.specs.declared.image.Image.{Image}
 use Rattle.am_base.specs.declared.entry.Entry.TheVariants.{Data}
 use Rattle.am_base.specs.Names.{place_of, life_of}
-use Rattle.am_base.specs.Lists.{at_place, row_of, blank_row, member_life, members_of, after, fits, told_by, top_of, Log, with_entry}
+use Rattle.am_base.specs.Lists.{at_place, row_of, blank_row, member_life, members_of, fits}
 use Rattle.am_core.proofs.Folds.{split}
-use Rattle.am_core.proofs.Ends.{told-push}
-
--- the members stay
-pub members_data : (image : Image) (number from req : ℕ) (body : List ℕ) → members_of (after image number (Data from req body)) ≡ members_of image
-unfolding after
-members_data image number from req body = split ((at_place image from).life == life_of from)
-    (λ t. rw t (map-set_same member_life image.rows (place_of from) (record (at_place image from) { last = req }) blank_row refl))
-    (λ f. rw f refl)
-
-pub members_pushed : (log : Log) (from req : ℕ) (body : List ℕ) → members_of (told_by (with_entry log (Data from req body))) ≡ members_of (told_by log)
-members_pushed log from req body = ap members_of (told-push log (Data from req body)) ∙ members_data (told_by log) (top_of log + 1) from req body
 
 known_life : (r : Row) (life : ℕ) → (r.life == life) ≡ true → nat_lt 0 r.joined ≡ true → r.left ≡ 0 → member_life r ≡ life
 known_life r life same joined stays = grind (arith, nat_tests)

@@ -5,8 +5,8 @@ ghost use Rattle.am_model.specs.Sequencing.{is_unknown, answer_request};
 ghost use Rattle.am_base.specs.declared.outcome.Outcome.TheVariants as said;
 ghost use Rattle.am_sequencer.specs.Pieces.{data_packet};
 
-use am_base::body::Body;
-use am_base::entry::Entry;
+use am_base::body::BodyRef;
+use am_base::entry::{Entry, EntryParts, EntryRef};
 use am_base::name::Name;
 use am_base::outcome::Outcome;
 use am_core::log::Log;
@@ -35,14 +35,14 @@ fn put_off(parts: &mut Parts, before: u32, to: Name, req: u32, out: &mut OutBox)
 }
 
 /// A numbered Data: an Order where its body was spread, else a Bcast.
-fn data_packet<L: Log>(
+fn data_packet<'a, L: Log>(
     core: &Core<L>,
     number: u32,
     from: Name,
     req: u32,
-    body: &Body,
+    body: &BodyRef<'a>,
     by_order: bool,
-) -> Packet
+) -> Packet<'a>
     requires number { IsNumber number }
     requires req { IsNumber req }
     ensures value { CoreTells (data_packet number from req body.now by_order) core.now result }
@@ -51,12 +51,12 @@ fn data_packet<L: Log>(
     if by_order {
         return order(core, number, from, req);
     }
-    let entry = Entry::Data {
+    let entry = EntryRef::of(EntryParts::Data {
         from,
         req,
-        body: body.copy(),
-    };
-    bcast(core, number, &entry)
+        body: body.again(),
+    });
+    bcast(core, number, entry)
 }
 
 /// Does what a member's send asks for, once its report is taken, and where so much was accepted before.
@@ -65,7 +65,7 @@ pub fn answer_request(
     before: u32,
     from: Name,
     req: u32,
-    body: &Body,
+    body: &BodyRef,
     by_order: bool,
     out: &mut OutBox,
 ) -> Outcome
@@ -95,7 +95,7 @@ pub fn answer_request(
     parts.push(Entry::Data {
         from,
         req,
-        body: body.copy(),
+        body: body.to_body(),
     });
     parts.end();
     let packet = data_packet(&parts.core, number, from, req, body, by_order);

@@ -5,7 +5,7 @@ ghost use Rattle.am_sequencer.specs.Pieces.{following, report_refusal};
 
 use crate::numbering::answer_request;
 use crate::serving::serve_again;
-use am_base::body::Body;
+use am_base::body::BodyRef;
 use am_base::image::Report;
 use am_base::name::Name;
 use am_base::outcome::Outcome;
@@ -85,7 +85,7 @@ pub fn on_request(
     from: Name,
     report: Report,
     req: u32,
-    body: &Body,
+    body: &BodyRef,
     by_order: bool,
     out: &mut OutBox,
 ) -> Outcome

@@ -18,21 +18,6 @@ use am_letter::out_box::OutBox;
 /// The most entries that are sent again for one request.
 const MOST_SERVED: u32 = 8;
 
-/// Sends a name the entry of a number.
-#[tactic(auto, using(am_model::proofs::Letters::one_more))]
-fn tell_entry<L: Log>(core: &Core<L>, to: Name, number: u32, out: &mut OutBox)
-    requires number { IsNumber number }
-    requires room { length out.old < 24 }
-    ensures letters { (e : Entry) → entry_at core.now.log number ≡ Some e
-        → out.new ≡ with_letter (only_name to) (bcast_from core.now number e) out.old }
-    ensures few { length out.new ≤ length out.old + 1 }
-{
-    match core.log.entry(number) {
-        Some(entry) => out.put(only(to), &bcast(core, number, entry)),
-        None => {}
-    }
-}
-
 /// The last number that is sent again to who stored the list up to a number.
 fn last_served<L: Log>(core: &Core<L>, stored: u32) -> u32
     requires { stored ≤ top_of core.now.log }
@@ -55,7 +40,10 @@ fn put_entries<L: Log>(core: &Core<L>, to: Name, stored: u32, out: &mut OutBox) 
 {
     let last = last_served(core, stored);
     for before in stored..last {
-        tell_entry(core, to, before + 1, out);
+        match core.log.entry(before + 1) {
+            Some(entry) => out.put(only(to), &bcast(core, before + 1, entry.as_ref())),
+            None => unreachable!(),
+        }
     }
     last - stored
 }

@@ -7,8 +7,8 @@ use Rattle.am_packet.specs.Boxes.{Letter}
 use Rattle.am_group.specs.declared.event.Act.{Act}
 use Rattle.am_group.specs.declared.event.Act.TheVariants as act
 use Rattle.am_group.specs.declared.event.Event.{Event}
-use Rattle.am_model.specs.World.{World}
-use Rattle.am_model.specs.Settle.{event_at, running, ticks, hearings_of}
+use Rattle.am_play.specs.World.{World}
+use Rattle.am_play.specs.Settle.{event_at, running, ticks, hearings_of}
 use Rattle.am_settle.specs.Settling.{is_running, is_meant, act_at}
 
 -- an act of each place from one on that is due

@@ -9,8 +9,8 @@ use Rattle.am_group.specs.declared.event.Act.TheVariants as act
 use Rattle.am_group.specs.declared.event.Event.{Event}
 use Rattle.am_group.specs.Journals.{letter_at}
 use Rattle.am_model.specs.Emit.{Step}
-use Rattle.am_model.specs.World.{World, with_record, with_step, hears_letter, happens, happen}
-use Rattle.am_model.specs.Settle.{event_at, running, hearings_of}
+use Rattle.am_play.specs.World.{World, with_record, with_step, hears_letter, happens, happen}
+use Rattle.am_play.specs.Settle.{event_at, running, hearings_of}
 use Rattle.am_settle.specs.Settling.{is_running, is_meant}
 
 -- the same lives, the same have stopped, and the letters go on

@@ -1,9 +1,9 @@
 -- Rounds and their waves, one after the other.
 use Rattle.std.proofs.Common.{◌≡◌, ℕ, zero, suc, ◌+◌, ◌-◌, ◌<◌, ◌≤◌, List, ◌++◌, length, refl, sym, ◌∙◌, ap, append_assoc, append-nil, arith}
 use Rattle.am_group.specs.declared.event.Event.{Event}
-use Rattle.am_model.specs.World.{World, happen}
-use Rattle.am_model.specs.Settle.{Settling, and_then, ticks, hearings, waves, round, rounds, round_count, settle_events}
-use Rattle.am_model.proofs.Runs.{runs_go_on}
+use Rattle.am_play.specs.World.{World, happen}
+use Rattle.am_play.specs.Settle.{Settling, and_then, ticks, hearings, waves, round, rounds, round_count, settle_events}
+use Rattle.am_play.proofs.Runs.{runs_go_on}
 use Rattle.am_world.specs.Runs.{Play, replay}
 use Rattle.am_world.specs.declared.world.WorldRefusal.{WorldRefusal}
 use Rattle.am_settle.specs.Settling.{settling_of, round_events, Did, Stuck}

@@ -7,8 +7,8 @@ use Rattle.am_group.specs.declared.event.Act.{Act}
 use Rattle.am_group.specs.declared.event.Act.TheVariants as act
 use Rattle.am_group.specs.declared.event.Event.{Event}
 use Rattle.am_group.specs.Journals.{letter_at}
-use Rattle.am_model.specs.World.{World, happens, happen}
-use Rattle.am_model.specs.Settle.{event_at, ticks, hearings_of, hearings_from, hearings}
+use Rattle.am_play.specs.World.{World, happens, happen}
+use Rattle.am_play.specs.Settle.{event_at, ticks, hearings_of, hearings_from, hearings}
 use Rattle.am_world.specs.Runs.{Play, replay}
 use Rattle.am_world.specs.declared.world.WorldRefusal.{WorldRefusal}
 use Rattle.am_settle.specs.Settling.{is_running, act_at, Did, Stuck}

@@ -5,8 +5,8 @@ use Rattle.am_packet.specs.Boxes.{Letter}
 use Rattle.am_group.specs.declared.event.Act.{Act}
 use Rattle.am_group.specs.declared.event.Event.{Event}
 use Rattle.am_group.specs.Addressed.{is_for}
-use Rattle.am_model.specs.World.{World, current, is_stopped}
-use Rattle.am_model.specs.Settle.{Settling, event_at, round, settle_events}
+use Rattle.am_play.specs.World.{World, current, is_stopped}
+use Rattle.am_play.specs.Settle.{Settling, event_at, round, settle_events}
 use Rattle.am_world.specs.Runs.{Play, replay}
 use Rattle.am_world.specs.declared.world.WorldRefusal.{WorldRefusal}
 use Rattle.am_world.specs.declared.world.WorldRefusal.TheVariants.{Spent}

@@ -1,4 +1,2 @@
 mod Answered
-mod Names
-mod Texts
 mod Raced

@@ -5,7 +5,7 @@ use Rattle.am_group.specs.declared.event.Act.{Act}
 use Rattle.am_group.specs.declared.event.Act.TheVariants as act
 use Rattle.am_group.specs.declared.plan.ThreadPlan.{ThreadPlan}
 use Rattle.am_group.specs.declared.plan.RacePlan.{RacePlan}
-use Rattle.am_calls.specs.Plans.{is_call, has_calls, most_records, MayRace}
+use Rattle.am_races.specs.Plans.{is_call, has_calls, most_records, MayRace}
 use Rattle.am_script.specs.Limits.{CallWithin, ThreadWithin, RaceWithin}
 
 both : (a b : Bool) → a ≡ true → b ≡ true → (a && b) ≡ true

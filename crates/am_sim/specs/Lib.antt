@@ -1,4 +1,3 @@
-pub mod Playing
 pub mod Racing
 pub mod Simulation
 pub mod Telling

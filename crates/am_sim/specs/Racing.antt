@@ -5,11 +5,11 @@ use Rattle.am_base.specs.Founding.{Rules}
 use Rattle.am_group.specs.declared.event.Event.{Event}
 use Rattle.am_group.specs.declared.event.Record.{Record}
 use Rattle.am_group.specs.declared.plan.RacePlan.{RacePlan}
-use Rattle.am_model.specs.Text.{newline}
-use Rattle.am_model.specs.Play.{text_of}
+use Rattle.am_play.specs.Text.{newline}
+use Rattle.am_play.specs.Play.{text_of}
 use Rattle.am_report.specs.Schedules.{script_text}
-use Rattle.am_calls.specs.Legal.{IsLegalWithTags}
-use Rattle.am_calls.specs.Plans.{calls_of, ArePlayed}
+use Rattle.am_races.specs.Legal.{IsLegalWithTags}
+use Rattle.am_races.specs.Plans.{calls_of, ArePlayed}
 
 -- what was done
 abbrev pub events_of : List Record → List Event

@@ -2,15 +2,14 @@
 //! did, or makes a run from two numbers and prints its summary.
 #![tactic(auto)]
 
-mod generating;
-mod playing;
 mod racing;
 pub mod simulate;
 mod telling;
 
 use am_calls::gate::NoGate;
 use am_io::standard::{StdSink, StdSource};
-use simulate::{Status, simulate};
+use am_runs::status::Status;
+use simulate::simulate;
 use std::alloc::Global;
 use std::process::ExitCode;
 use std::sync::Wait;

@@ -18,10 +18,10 @@ use Rattle.am_chain_lists.proofs.Prefixes.{begins_take, begins_trans, begins_bot
 use Rattle.am_chain_moves.specs.Group as groups
 use Rattle.am_chain_moves.specs.Group.{how_many, counted_in, IsHeld, MayAccept}
 use Rattle.am_model.specs.Node as nodes
-use Rattle.am_model.specs.Node.{Node, is_sequencer}
+use Rattle.am_model.specs.Node.{Node}
 use Rattle.am_model.specs.Refresh.{lead, refresh}
-use Rattle.am_model.specs.World.{World}
-use Rattle.am_model.proofs.Greatest.{split, and_both}
+use Rattle.am_play.specs.World.{World}
+use Rattle.am_base.proofs.Greatest.{split, and_both}
 use Rattle.am_stands.specs.Standing.{NameStands}
 use Rattle.am_stands.specs.States.{Reporting}
 use Rattle.am_stands.specs.Accepting.{MayCount, RefreshAccepts}
@@ -159,7 +159,8 @@ refresh_accepts v i x a node stands leads may among =
     let taken = may.taken in
     let within = may.within in
     let r = own_reporting node a.list x.core.base x.core.who x.core.taken x.reports (omega arith) among.own among.reports in
-    let same : after_report x.reports x.core.who (record { stored = length a.list; taken = x.core.taken }) ≡ after_report x.reports x.core.who (nodes.report_of x) =
+    let same : after_report x.reports x.core.who (record { stored = length a.list; taken = x.core.taken })
+    ≡ after_report x.reports x.core.who (nodes.report_of x) =
     ap (λ k. after_report x.reports x.core.who (record { stored = k; taken = x.core.taken })) long in
     let held = front_held v i x a node _ stands may (subst (Reporting node a.list x.core.base) same r) among.blank in
     rw leads (subst (MayAccept node a.list x.core.acc) (sym (lead_acc x may.within)) held)

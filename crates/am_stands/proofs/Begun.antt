@@ -10,8 +10,8 @@ use Rattle.am_chain_lists.proofs.Prefixes.{begins_refl, begins_nil}
 use Rattle.am_chain_moves.specs.Group.{Group, IsUp, chain_of}
 use Rattle.am_chain_moves.specs.Kept.{Kept}
 use Rattle.am_model.specs.Node.{Node, founder, stranger, founding_stamp, founders_view, lowest_or_first}
-use Rattle.am_model.specs.World.{start, first_node}
-use Rattle.am_model.proofs.Greatest.{split}
+use Rattle.am_play.specs.World.{start, first_node}
+use Rattle.am_base.proofs.Greatest.{split}
 use Rattle.am_laws.proofs.LeaderRows.{first_member}
 use Rattle.am_unballoted.proofs.Turns.{Turn}
 use Rattle.am_stands.specs.Standing.{NameStands, Stands}

@@ -4,18 +4,16 @@ use Rattle.am_base.specs.declared.name.Stamp.{Stamp}
 use Rattle.am_base.specs.declared.entry.Entry.TheVariants.{View}
 use Rattle.am_base.specs.Stamps.{stamp_eq}
 use Rattle.am_chain_moves.specs.Group.{Group}
-use Rattle.am_model.specs.Node.{Node, view, acts, is_member, unsettled_count}
+use Rattle.am_model.specs.Node.{Node, view, acts, is_member, unsettled_count, has_log, has_departed, Ballot}
 use Rattle.am_model.specs.Calls.{is_unfinished}
 use Rattle.am_model.specs.Refresh.{refresh}
 use Rattle.am_model.specs.Hearing.{hears_member, hears_in_view, hears_sequencer}
-use Rattle.am_model.specs.Group.{has_log}
-use Rattle.am_model.specs.World.{World, has_departed}
-use Rattle.am_model.proofs.Greatest.{and_both}
+use Rattle.am_play.specs.World.{World}
+use Rattle.am_base.proofs.Greatest.{and_both}
 use Rattle.am_effects.specs.Changes.{refreshes, settles, numbers, stores, begins_list, departs, promises, opens}
 use Rattle.am_effects.specs.Changes.{looks, fetches, stores_view, asks_to_join, asks_to_leave, closes}
 use Rattle.am_effects.proofs.Rests.{rests_refresh, settle_is}
 use Rattle.am_stands.specs.Standing.{StandsBut, within}
-use Rattle.am_model.specs.Node.{Ballot}
 use Rattle.am_model.specs.Ballots.{Verdict}
 use Rattle.am_effects.specs.Causes.{Cause}
 use Rattle.am_effects.specs.Looks.{Balloting, Looks, finds_itself_out, waits, fetches_from_best, finds_too_few, finds_no_room, decides}

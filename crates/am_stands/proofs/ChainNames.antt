@@ -17,15 +17,15 @@ use Rattle.am_chain_lists.specs.Whole.{Begins, image_of, key}
 use Rattle.am_chain_lists.proofs.Rows.{by_cases, row_at, row_set, row_view, long_after, mod16}
 use Rattle.am_chain_lists.proofs.Members.{long_told}
 use Rattle.am_chain_moves.specs.Group as groups
-use Rattle.am_chain_moves.specs.Group.{Group, counted_in, opening, chain_of}
+use Rattle.am_chain_moves.specs.Group.{opening, chain_of}
 use Rattle.am_chain_moves.specs.Moves as group
-use Rattle.am_chain_moves.specs.Moves.{Move, choice_of, longer}
+use Rattle.am_chain_moves.specs.Moves.{choice_of, longer}
 use Rattle.am_chain_moves.proofs.Puts.{put_same}
 use Rattle.am_effects.proofs.Items.{all_get}
 use Rattle.am_model.specs.Node as nodes
 use Rattle.am_model.specs.Node.{Node}
 use Rattle.am_model.specs.Refresh.{concerned_names}
-use Rattle.am_model.specs.World.{World}
+use Rattle.am_play.specs.World.{World}
 use Rattle.am_stands.specs.Moving.{NamesNamed}
 use Rattle.am_stands.specs.Standing.{NameStands}
 use Rattle.am_stands.specs.Accepting.{CountsNames}

@@ -12,22 +12,21 @@ use Rattle.am_base.specs.Lists.{Log, blank, members_of, fold}
 use Rattle.am_chain_lists.specs.Whole.{image_of, mem, key}
 use Rattle.am_chain_lists.proofs.Order.{key_lt}
 use Rattle.am_chain_moves.specs.Group as groups
-use Rattle.am_chain_moves.specs.Group.{Group, Views, put, IsThere, IsUp}
+use Rattle.am_chain_moves.specs.Group.{Group, IsThere, IsUp}
 use Rattle.am_chain_moves.specs.Moves.{Move, IsAbove, MayDepart, with_node, own_stamp}
 use Rattle.am_chain_moves.specs.Moves as group
 use Rattle.am_chain_moves.proofs.Puts.{put_same}
 use Rattle.am_model.specs.declared.status.Status.{Status}
 use Rattle.am_model.specs.declared.status.Status.TheVariants as status
 use Rattle.am_model.specs.Node as nodes
-use Rattle.am_model.specs.Node.{Node, Ballot, members, is_member, is_asking, unsettled_count, set_at}
+use Rattle.am_model.specs.Node.{Node, Ballot, members, is_member, is_asking, has_log, has_departed}
 use Rattle.am_model.specs.Calls.{is_unfinished}
 use Rattle.am_model.specs.Refresh.{refresh}
 use Rattle.am_model.specs.Ballots.{Verdict, overtake, with_promise, next_stamp}
 use Rattle.am_model.specs.Hearing.{hears_member}
-use Rattle.am_model.specs.Group.{has_log}
-use Rattle.am_model.specs.World.{World, is_stopped, has_departed}
-use Rattle.am_model.proofs.Folds.{fold_append}
-use Rattle.am_model.proofs.Greatest.{split, and_both}
+use Rattle.am_play.specs.World.{World, is_stopped}
+use Rattle.am_base.proofs.Folds.{fold_append}
+use Rattle.am_base.proofs.Greatest.{split, and_both}
 use Rattle.am_effects.specs.Causes.{Cause, hears}
 use Rattle.am_effects.specs.Looks.{Balloting, with_more, without_one, as_it_is, Looks, finds_itself_out, waits, fetches_from_best, finds_too_few}
 use Rattle.am_effects.specs.Looks.{finds_no_room, decides}

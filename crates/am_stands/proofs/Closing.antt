@@ -10,12 +10,12 @@ use Rattle.am_chain_moves.specs.Group as groups
 use Rattle.am_chain_moves.specs.Group.{Group, put}
 use Rattle.am_chain_moves.specs.Moves.{Move, with_line, longer}
 use Rattle.am_chain_moves.specs.Moves as group
-use Rattle.am_model.specs.Node.{Node, push_entry, set_at}
+use Rattle.am_model.specs.Node.{Node, push_entry, set_at, has_departed}
 use Rattle.am_model.specs.Emit.{Step}
 use Rattle.am_model.specs.Calls.{is_unfinished}
-use Rattle.am_model.specs.World.{Decided, World, has_departed, group_after, with_step}
-use Rattle.am_model.specs.Claims.{up_to_next, line_of}
-use Rattle.am_model.proofs.Greatest.{split}
+use Rattle.am_play.specs.World.{Decided, World, group_after, with_step}
+use Rattle.am_play.specs.Claims.{up_to_next, line_of}
+use Rattle.am_base.proofs.Greatest.{split}
 use Rattle.am_effects.proofs.Rests.{rests_at_end}
 use Rattle.am_stands.specs.Standing.{NameStands, FrontsStand, StandsBut, Stands, within}
 use Rattle.am_stands.specs.Ends.{NeedsClose, after_closing, CloseStands}

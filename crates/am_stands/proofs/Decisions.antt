@@ -19,10 +19,10 @@ use Rattle.am_model.specs.Node as nodes
 use Rattle.am_model.specs.Node.{Node, Ballot, view, members, push_entry}
 use Rattle.am_base.specs.declared.outcome.Outcome.TheVariants as said
 use Rattle.am_model.specs.Ballots.{need_of, left_in, restart_reports, with_end}
-use Rattle.am_model.specs.World.{Decided, World, last_view}
-use Rattle.am_model.specs.Lawful.{whole, is_view_of}
-use Rattle.am_model.specs.Claims.{up_to_view, up_to_next, line_of}
-use Rattle.am_model.proofs.Greatest.{split}
+use Rattle.am_play.specs.World.{Decided, World, last_view}
+use Rattle.am_play.specs.Lawful.{whole, is_view_of}
+use Rattle.am_play.specs.Claims.{up_to_view, up_to_next, line_of}
+use Rattle.am_base.proofs.Greatest.{split}
 use Rattle.am_effects.specs.Causes.{Cause}
 use Rattle.am_effects.specs.Looks as looks
 use Rattle.am_effects.specs.Looks.{HasOpen, Balloting, with_more, without_one, as_it_is}

@@ -9,13 +9,13 @@ use Rattle.am_chain_lists.specs.Whole.{Begins, image_of}
 use Rattle.am_chain_lists.proofs.Prefixes.{begins_length}
 use Rattle.am_chain_moves.specs.Group as groups
 use Rattle.am_chain_moves.specs.Group.{Group, put}
-use Rattle.am_chain_moves.specs.Moves.{Move, with_node}
+use Rattle.am_chain_moves.specs.Moves.{with_node}
 use Rattle.am_chain_moves.specs.Moves as group
-use Rattle.am_model.specs.Node.{Node, set_at}
+use Rattle.am_model.specs.Node.{Node, set_at, has_departed}
 use Rattle.am_model.specs.Emit.{Step}
-use Rattle.am_model.specs.World.{Decided, World, is_stopped, has_departed, group_after, views_after, with_step}
-use Rattle.am_model.specs.Claims.{up_to_next, line_of}
-use Rattle.am_model.proofs.Greatest.{split}
+use Rattle.am_play.specs.World.{Decided, World, is_stopped, group_after, views_after, with_step}
+use Rattle.am_play.specs.Claims.{up_to_next, line_of}
+use Rattle.am_base.proofs.Greatest.{split}
 use Rattle.am_stands.specs.Standing.{NameStands, FrontsStand, ViewsStand, Stands}
 use Rattle.am_stands.specs.Moving.{Moves, none, moves, Leads}
 use Rattle.am_stands.specs.Ends.{Accepts, no_more, rises, Learns, departed, bare, learns, before_end, EndsStand}

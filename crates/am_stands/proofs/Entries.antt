@@ -13,18 +13,17 @@ use Rattle.am_chain_lists.specs.Whole.{Begins, image_of, view_of, key}
 use Rattle.am_chain_lists.proofs.Order.{key_by}
 use Rattle.am_chain_lists.proofs.Prefixes.{begins_trans, begins_more}
 use Rattle.am_chain_moves.specs.Group as groups
-use Rattle.am_chain_moves.specs.Group.{Group, Views, put, IsUp, opening}
+use Rattle.am_chain_moves.specs.Group.{Group, Views, put, opening}
 use Rattle.am_chain_moves.specs.Moves.{Move, with_node, with_line, longer}
 use Rattle.am_chain_moves.specs.Moves as group
 use Rattle.am_chain_moves.proofs.Puts.{put_same}
-use Rattle.am_model.specs.Node.{Node, view, is_member, acts, is_sequencer, push_entry}
+use Rattle.am_model.specs.Node.{Node, view, is_member, acts, is_sequencer, push_entry, has_log, has_departed}
 use Rattle.am_model.specs.Calls.{is_unfinished}
 use Rattle.am_model.specs.Receiving.{is_view}
-use Rattle.am_model.specs.Group.{has_log}
-use Rattle.am_model.specs.World.{Decided, World, is_stopped, has_departed}
-use Rattle.am_model.specs.Lawful.{whole}
-use Rattle.am_model.specs.Claims.{up_to_next, line_of}
-use Rattle.am_model.proofs.Greatest.{split, and_both}
+use Rattle.am_play.specs.World.{Decided, World, is_stopped}
+use Rattle.am_play.specs.Lawful.{whole}
+use Rattle.am_play.specs.Claims.{up_to_next, line_of}
+use Rattle.am_base.proofs.Greatest.{split, and_both}
 use Rattle.am_model.specs.Joining.{begin_list}
 use Rattle.am_effects.specs.Causes.{Cause}
 use Rattle.am_effects.specs.Changes.{Numbers, asked_send, own_send, asked_join, asked_leave}

@@ -12,10 +12,10 @@ use Rattle.am_chain_lists.specs.Whole.{image_of}
 use Rattle.am_chain_moves.specs.Group as groups
 use Rattle.am_chain_moves.specs.Group.{Group, put}
 use Rattle.am_chain_moves.specs.Moves.{with_node}
-use Rattle.am_model.specs.Node.{Node, set_at}
-use Rattle.am_model.specs.Claims.{up_to_next}
-use Rattle.am_model.specs.World.{World, current, is_stopped, has_departed, with_record, lives_on}
-use Rattle.am_model.proofs.Greatest.{split}
+use Rattle.am_model.specs.Node.{Node, set_at, has_departed}
+use Rattle.am_play.specs.Claims.{up_to_next}
+use Rattle.am_play.specs.World.{World, current, is_stopped, with_record, lives_on}
+use Rattle.am_base.proofs.Greatest.{split}
 use Rattle.am_effects.specs.Events.{actor, idles, stops, returns, steps}
 use Rattle.am_stands.specs.Standing.{NameStands, FrontsStand, Stands}
 use Rattle.am_stands.specs.Steps.{EventsStand, EventStands, no_move, stop}

@@ -22,8 +22,8 @@ use Rattle.am_model.specs.Node.{Node, is_sequencer, only_name}
 use Rattle.am_model.specs.Refresh.{concerned_names}
 use Rattle.am_model.specs.Joining.{all_stored, may_go}
 use Rattle.am_model.specs.Sequencing.{row_at}
-use Rattle.am_model.specs.World.{World}
-use Rattle.am_model.proofs.Greatest.{and_both}
+use Rattle.am_play.specs.World.{World}
+use Rattle.am_base.proofs.Greatest.{and_both}
 use Rattle.am_stands.specs.Standing.{NameStands, FrontsStand}
 use Rattle.am_stands.specs.Letters as letters
 use Rattle.am_stands.specs.Letters.{Trimmed, GoneSays, has_stopped}
@@ -172,7 +172,8 @@ gone_said v i n s name h may =
     let rest = and_both (nat_le (row_at n name).left n.core.acc) (all_stored n (without_name (concerned_names n) name) (row_at n name).left) some.1 in
     let up : 0 < (row_at n name).left = (let z = some.0 in grind (arith, nat_tests)) in
     let low : (row_at n name).left ≤ n.core.acc = (let z = rest.0 in grind (arith, nat_tests)) in
-    let same : (row_of (image_of list) name).left ≡ (row_at n name).left = ap (λ (g : Image). (row_of g name).left) (told_all v i n (s.node i) h.speaks.stands) in
+    let same : (row_of (image_of list) name).left ≡ (row_at n name).left = ap (λ (g : Image). (row_of g name).left) (told_all v i n (s.node i) h.speaks.stands)
+    in
     by_kind low rest.1 (subst (LeavesAt list name) same (leaves_at list name (omega arith)))
   where
     chained : OnChain s (s.node i).list

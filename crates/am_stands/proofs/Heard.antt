@@ -17,11 +17,11 @@ use Rattle.am_chain_moves.specs.Group.{Group, IsUp}
 use Rattle.am_chain_moves.specs.Moves.{MayNumber}
 use Rattle.am_chain_moves.specs.Kept.{Kept}
 use Rattle.am_model.specs.Node as nodes
-use Rattle.am_model.specs.Node.{Node, view, members, is_member, acts, is_sequencer, has_own_leave}
+use Rattle.am_model.specs.Node.{Node, view, is_member, acts, has_own_leave}
 use Rattle.am_model.specs.Receiving.{body_of}
 use Rattle.am_model.specs.Hearing.{hears_member, hears_in_view, hears_sequencer}
-use Rattle.am_model.specs.World.{World, is_stopped}
-use Rattle.am_model.proofs.Greatest.{and_both}
+use Rattle.am_play.specs.World.{World, is_stopped}
+use Rattle.am_base.proofs.Greatest.{and_both}
 use Rattle.am_effects.specs.Causes.{Cause, hears}
 use Rattle.am_effects.specs.Changes.{MayStore, Numbers, asked_send, own_send, asked_join, asked_leave}
 use Rattle.am_laws.proofs.Stamps.{same_stamp}
@@ -125,7 +125,8 @@ fits_data image name req body member next = let t : (req == (row_of image name).
 
 -- but for its own waiting send, of which it is to be known that it is the next one
 abbrev pub OwnFits : Node → Type 0
-OwnFits x = (q : OwnSend) → nodes.waiting x ≡ Some q → nat_lt (nodes.own_row x).last q.req ≡ true → fits (nodes.image_of x) (Data x.core.who q.req q.body) ≡ true
+OwnFits x = (q : OwnSend) → nodes.waiting x ≡ Some q → nat_lt (nodes.own_row x).last q.req ≡ true → fits (nodes.image_of x) (Data x.core.who q.req q.body)
+    ≡ true
 
 number_fits : (c : Cause) (x : Node) (e : Entry) → length (nodes.image_of x).rows ≡ 16 → OwnFits x → Numbers c x e → fits (nodes.image_of x) e ≡ true
 number_fits c x e long own (asked_send from v report req body by known stays next) = fits_data (nodes.image_of x) from req body

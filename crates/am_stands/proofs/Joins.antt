@@ -108,8 +108,8 @@ became image n (View stamp names resilience) name long some = λ h.
   where
     first : is_blank image ≡ true → row_at (after image n (View stamp names resilience)) (place_of name) ≡ row_after_view (is_blank image) n
         (slice_index names (place_of name)) (row_at image (place_of name))
-        → row_after_view (is_blank image) n (slice_index names (place_of name)) (row_at image (place_of name)) ≡ row_after_view true n (slice_index names (place_of name))
-        (row_at image (place_of name))
+        → row_after_view (is_blank image) n (slice_index names (place_of name)) (row_at image (place_of name))
+        ≡ row_after_view true n (slice_index names (place_of name)) (row_at image (place_of name))
         → In (row_after_view (is_blank image) n (slice_index names (place_of name)) (row_at image (place_of name))) (life_of name)
         → Becomes image n (View stamp names resilience) name
     first t is same now = by_cases (slice_index names (place_of name) == 0)
@@ -119,8 +119,8 @@ became image n (View stamp names resilience) name long some = λ h.
 
     later : row_at (after image n (View stamp names resilience)) (place_of name) ≡ row_after_view (is_blank image) n (slice_index names (place_of name))
         (row_at image (place_of name))
-        → row_after_view (is_blank image) n (slice_index names (place_of name)) (row_at image (place_of name)) ≡ row_after_view false n (slice_index names (place_of name))
-        (row_at image (place_of name))
+        → row_after_view (is_blank image) n (slice_index names (place_of name)) (row_at image (place_of name))
+        ≡ row_after_view false n (slice_index names (place_of name)) (row_at image (place_of name))
         → In (row_after_view (is_blank image) n (slice_index names (place_of name)) (row_at image (place_of name))) (life_of name)
         → Becomes image n (View stamp names resilience) name
     later is same now = by_cases (nat_lt 0 (member_life (row_at image (place_of name))) && not

@@ -20,13 +20,12 @@ use Rattle.am_chain_moves.specs.Group.{Group, IsUp, chain_of}
 use Rattle.am_chain_moves.specs.Kept.{Kept}
 use Rattle.am_model.specs.declared.status.Status.{Status}
 use Rattle.am_model.specs.declared.status.Status.TheVariants as status
-use Rattle.am_model.specs.Node.{Node, Ballot, view, members, is_member, is_asking, is_sequencer, acts, lowest_or_first}
+use Rattle.am_model.specs.Node.{Node, Ballot, view, members, is_member, is_asking, is_sequencer, acts, lowest_or_first, has_log, has_departed}
 use Rattle.am_model.specs.Ballots.{Verdict}
 use Rattle.am_model.specs.Calls.{is_unfinished}
 use Rattle.am_model.specs.Hearing.{hears_member, hears_sequencer}
-use Rattle.am_model.specs.Group.{has_log}
-use Rattle.am_model.specs.World.{World, is_stopped, has_departed}
-use Rattle.am_model.proofs.Greatest.{split, and_both}
+use Rattle.am_play.specs.World.{World, is_stopped}
+use Rattle.am_base.proofs.Greatest.{split, and_both}
 use Rattle.am_effects.specs.Causes.{Cause, hears}
 use Rattle.am_effects.specs.Looks.{Balloting, Looks, decides, with_more}
 use Rattle.am_effects.specs.Looks.{without_one, as_it_is}

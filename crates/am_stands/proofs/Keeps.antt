@@ -25,13 +25,13 @@ use Rattle.am_chain_moves.specs.Group.{Group, opening}
 use Rattle.am_model.specs.declared.status.Status.{Status}
 use Rattle.am_model.specs.declared.status.Status.TheVariants as status
 use Rattle.am_model.specs.Node as nodes
-use Rattle.am_model.specs.Node.{Node, Ballot, view, acts, unsettled_count, is_member, is_asking, is_sequencer, push_entry, trim_up_to, lowest_or_first}
+use Rattle.am_model.specs.Node.{Node, Ballot, view, acts, unsettled_count, is_member, is_asking, is_sequencer, push_entry, lowest_or_first, has_log}
 use Rattle.am_model.specs.Ballots.{Verdict, overtake as overtaken_by, need_of, left_in, taken_by}
 use Rattle.am_model.specs.Calls.{is_unfinished}
-use Rattle.am_model.specs.Group.{has_log}
 use Rattle.am_model.specs.Refresh.{settle}
-use Rattle.am_model.specs.World.{World, is_stopped, has_departed}
-use Rattle.am_model.proofs.Greatest.{split, and_both}
+use Rattle.am_play.specs.World.{World, is_stopped}
+use Rattle.am_model.specs.Node.{has_departed}
+use Rattle.am_base.proofs.Greatest.{split, and_both}
 use Rattle.am_effects.specs.Causes.{Cause, hears, BringsSend, by_request, by_spread, BringsReport, with_send, by_ack, by_nack, by_leave_ask, BringsFronts}
 use Rattle.am_effects.specs.Causes.{with_entry, with_number, alone}
 use Rattle.am_effects.specs.Looks.{Balloting, Looks, finds_itself_out, waits, fetches_from_best, finds_too_few, finds_no_room, decides, HasLearned}
@@ -47,7 +47,7 @@ use Rattle.am_laws.proofs.TakenRuns.{Along}
 use Rattle.am_laws.proofs.Trims.{told_used}
 use Rattle.am_stands.specs.Standing.{NameStands, within}
 use Rattle.am_stands.specs.Letters as says
-use Rattle.am_stands.specs.Letters.{Trimmed, VoteTells, AllShown, line}
+use Rattle.am_stands.specs.Letters.{Trimmed, VoteTells, AllShown}
 use Rattle.am_stands.specs.Growing.{Grows}
 use Rattle.am_stands.specs.States.{FetchesStand, ReportsStand, ReportsFresh, OpensStand, IsNew, IsConcerned, Reporting}
 use Rattle.am_stands.proofs.Changes.{or_last, long_all}

@@ -22,7 +22,7 @@ use Rattle.am_chain_moves.proofs.Puts.{by_cases, put_same, put_at}
 use Rattle.am_model.specs.Node as nodes
 use Rattle.am_model.specs.Node.{Node, view, others, is_member, is_sequencer, push_entry}
 use Rattle.am_model.specs.Refresh.{refresh, refresh_at_end}
-use Rattle.am_model.specs.World.{Decided, World, group_with, group_after, views_after}
+use Rattle.am_play.specs.World.{Decided, World, group_with, group_after, views_after}
 use Rattle.am_model.proofs.Sets.{some_size}
 use Rattle.am_effects.proofs.Rests.{rests_refresh, settle_is, leads_rests}
 use Rattle.am_effects.proofs.Says.{leads_pushed, view_pushed}

@@ -7,7 +7,7 @@ use Rattle.am_chain_moves.specs.Group.{Group, IsUp}
 use Rattle.am_chain_moves.specs.Kept.{Kept}
 use Rattle.am_model.specs.Node as nodes
 use Rattle.am_model.specs.Node.{Node}
-use Rattle.am_model.specs.World.{World}
+use Rattle.am_play.specs.World.{World}
 use Rattle.am_stands.specs.Standing.{NameStands}
 use Rattle.am_stands.specs.Ends.{MayLearn}
 use Rattle.am_stands.specs.Accepting.{Word, nothing, of_sequencer}

@@ -15,8 +15,8 @@ use Rattle.am_chain_moves.specs.Kept.{Kept}
 use Rattle.am_model.specs.Node as nodes
 use Rattle.am_model.specs.Node.{Node, view, acts, is_sequencer}
 use Rattle.am_model.specs.Refresh.{refresh}
-use Rattle.am_model.specs.World.{World, group_with, group_after}
-use Rattle.am_model.proofs.Greatest.{split, and_both}
+use Rattle.am_play.specs.World.{World, group_with, group_after}
+use Rattle.am_base.proofs.Greatest.{split, and_both}
 use Rattle.am_effects.proofs.Rests.{rests_refresh, leads_rests}
 use Rattle.am_stands.specs.Standing.{NameStands, within}
 use Rattle.am_stands.specs.Ends.{no_more, rises}

@@ -186,7 +186,8 @@ left_push a e name h = λ some.
     let row = ap (λ (i : Image). (row_of i name).left) (told_push a e) in
     by_kind row some (entry_left (image_of a) (1 + length a) e name (long_told a))
   where
-    by_kind : (row_of (image_of (a ++ e ∷ [])) name).left ≡ (row_of (after (image_of a) (1 + length a) e) name).left → 0 < (row_of (image_of (a ++ e ∷ [])) name).left
+    by_kind : (row_of (image_of (a ++ e ∷ [])) name).left ≡ (row_of (after (image_of a) (1 + length a) e) name).left
+        → 0 < (row_of (image_of (a ++ e ∷ [])) name).left
         → Leaves (image_of a) (1 + length a) e name → LeavesAt (a ++ e ∷ []) name (row_of (image_of (a ++ e ∷ [])) name).left
     by_kind row some (stayed same) =
         let is = row ∙ same in

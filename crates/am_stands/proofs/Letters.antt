@@ -16,7 +16,7 @@ use Rattle.am_group.specs.declared.event.Record.{Record}
 use Rattle.am_chain_lists.specs.Whole.{Begins, image_of, mem, key}
 use Rattle.am_chain_lists.proofs.Prefixes.{begins_trans, begins_take, begins_both, begins_length}
 use Rattle.am_chain_moves.specs.Group.{Group, Chosen, IsThere}
-use Rattle.am_model.specs.World.{World}
+use Rattle.am_play.specs.World.{World}
 use Rattle.am_effects.proofs.Items.{get_front}
 use Rattle.am_stands.specs.Letters.{line, AllShown, Trimmed, SequencerSays, EntrySays, WasAsked, ReportSays, LeaverSays, of_view, before_it, WelcomeSays}
 use Rattle.am_stands.specs.Letters.{WelcomeTo, has_begun, has_gone, has_left, is_leaving, may_begin, GoneSays, has_stopped, may_go, VoteSays, own, tells}

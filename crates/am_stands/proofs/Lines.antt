@@ -10,9 +10,9 @@ use Rattle.am_base.specs.Stamps.{stamp_eq}
 use Rattle.am_base.specs.Lists.{blank, after, fold}
 use Rattle.am_chain_lists.specs.Whole.{Begins, view_of}
 use Rattle.am_model.specs.Receiving.{is_view}
-use Rattle.am_model.specs.Lawful.{is_view_of}
-use Rattle.am_model.specs.Claims.{up_to_view, up_to_next}
-use Rattle.am_model.proofs.Greatest.{split}
+use Rattle.am_play.specs.Lawful.{is_view_of}
+use Rattle.am_play.specs.Claims.{up_to_view, up_to_next}
+use Rattle.am_base.proofs.Greatest.{split}
 use Rattle.am_laws.proofs.Stamps.{same_stamp}
 use Rattle.am_laws.proofs.ViewSteps.{after_same, after_view}
 

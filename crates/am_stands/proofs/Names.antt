@@ -8,10 +8,10 @@ use Rattle.am_chain_lists.specs.Whole.{Begins, image_of, key}
 use Rattle.am_chain_moves.specs.Group as groups
 use Rattle.am_chain_moves.specs.Group.{Group, Views, put, opening}
 use Rattle.am_chain_moves.specs.Moves.{Move}
-use Rattle.am_model.specs.Node.{Node}
-use Rattle.am_model.specs.World.{Decided, World, is_stopped, has_departed}
-use Rattle.am_model.specs.Claims.{up_to_next, line_of}
-use Rattle.am_model.proofs.Greatest.{split}
+use Rattle.am_model.specs.Node.{Node, has_departed}
+use Rattle.am_play.specs.World.{Decided, World, is_stopped}
+use Rattle.am_play.specs.Claims.{up_to_next, line_of}
+use Rattle.am_base.proofs.Greatest.{split}
 use Rattle.am_stands.specs.Standing.{NameStands, NotedStands, FrontsStand, ViewsStand, StandsBut, within}
 use Rattle.am_stands.specs.Steps.{FrontsStay}
 use Rattle.am_stands.specs.Moving.{MoveOk, none, moves, Leads}

@@ -99,8 +99,8 @@ ongoing_of (x ∷ xs) name good own left =
     λ a h member. ⊎_elim
     (λ (z : Begins a r.0). (let below : BeginsBelow r.0 (x ∷ xs) = record { next = r.1; rest = []; same = sym r.2 } in
     let before = own a r.0 below z member in
-    subst (λ l. mem l name ≡ true) (sym r.2) (last_keeps r.0 r.1 name (subst IsGood r.2 good) before (subst (λ l. (row_of (image_of l) name).left ≡ 0) r.2 left))))
-    (λ (z : a ≡ r.0 ++ r.1 ∷ []). subst (λ l. mem l name ≡ true) (z ∙ sym r.2) member)
+    subst (λ l. mem l name ≡ true) (sym r.2) (last_keeps r.0 r.1 name (subst IsGood r.2 good) before
+    (subst (λ l. (row_of (image_of l) name).left ≡ 0) r.2 left)))) (λ (z : a ≡ r.0 ++ r.1 ∷ []). subst (λ l. mem l name ≡ true) (z ∙ sym r.2) member)
     (begins_pushed r.1 (subst (Begins a) r.2 h))
 
 pub is_ongoing : (s : Group) (i : ℕ) → Kept s → IsUp (s.node i) → (row_of (image_of (s.node i).list) i).left ≡ 0 → IsOngoing (s.node i).list i

@@ -4,7 +4,7 @@ use Rattle.am_chain_lists.specs.Whole.{Begins, IsGood}
 use Rattle.am_chain_moves.specs.Group as groups
 use Rattle.am_chain_moves.specs.Group.{Group}
 use Rattle.am_model.specs.Node.{Node, Ballot}
-use Rattle.am_model.specs.World.{World, is_stopped}
+use Rattle.am_play.specs.World.{World, is_stopped}
 use Rattle.am_stands.specs.Standing.{NameStands}
 use Rattle.am_stands.specs.States.{Reporting}
 use Rattle.am_stands.specs.Keeping.{LastStands, NodeKeeps, OwnTurn, OthersKeep}

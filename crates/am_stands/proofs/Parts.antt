@@ -18,9 +18,9 @@ use Rattle.am_chain_moves.specs.Group as groups
 use Rattle.am_chain_moves.specs.Group.{how_many, counted_in, need_of}
 use Rattle.am_model.specs.Node.{Node}
 use Rattle.am_model.specs.Receiving.{is_view}
-use Rattle.am_model.specs.World.{World}
-use Rattle.am_model.proofs.Folds.{fold_append}
-use Rattle.am_model.proofs.Greatest.{split}
+use Rattle.am_play.specs.World.{World}
+use Rattle.am_base.proofs.Folds.{fold_append}
+use Rattle.am_base.proofs.Greatest.{split}
 use Rattle.am_effects.proofs.Ballots.{entry_is}
 use Rattle.am_laws.proofs.ViewSteps.{after_same}
 use Rattle.am_stands.specs.Standing.{NameStands}
@@ -99,7 +99,8 @@ number_kept image number (e ∷ es) h = split (is_view e)
     omega arith))
     (λ f. number_kept (after image number e) (number + 1) es (omega arith) ∙ (after_same image number e f).number)
 
-pub part_number : (list : List Entry) (n : ℕ) → n ≤ length list → (image_of list).view_number ≤ n → (image_of (take n list)).view_number ≡ (image_of list).view_number
+pub part_number : (list : List Entry) (n : ℕ) → n ≤ length list → (image_of list).view_number ≤ n → (image_of (take n list)).view_number
+    ≡ (image_of list).view_number
 part_number list n low h =
     let long = length_take n list low in
     let all : image_of list ≡ fold (image_of (take n list)) (1 + n) (drop n list) =

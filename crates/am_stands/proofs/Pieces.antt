@@ -15,13 +15,13 @@ use Rattle.am_chain_lists.proofs.Members.{good_begins}
 use Rattle.am_chain_moves.specs.Group.{Group, IsUp}
 use Rattle.am_chain_moves.specs.Kept.{Kept}
 use Rattle.am_model.specs.Node as nodes
-use Rattle.am_model.specs.Node.{Node, Ballot, view, is_member, set_at}
+use Rattle.am_model.specs.Node.{Node, Ballot, view, is_member}
 use Rattle.am_model.specs.Calls.{is_unfinished}
 use Rattle.am_model.specs.Receiving.{is_view}
-use Rattle.am_model.specs.Lawful.{is_view_of}
-use Rattle.am_model.specs.Claims.{up_to_view, up_to_next}
-use Rattle.am_model.specs.World.{World, Decided, is_stopped}
-use Rattle.am_model.proofs.Greatest.{split}
+use Rattle.am_play.specs.Lawful.{is_view_of}
+use Rattle.am_play.specs.Claims.{up_to_view, up_to_next}
+use Rattle.am_play.specs.World.{World, Decided, is_stopped}
+use Rattle.am_base.proofs.Greatest.{split}
 use Rattle.am_effects.specs.Looks.{HasOpen}
 use Rattle.am_effects.specs.Changes.{MayStore, Fetches, without_ballot, for_ballot}
 use Rattle.am_laws.proofs.Stamps.{same_stamp}

@@ -14,12 +14,11 @@ use Rattle.am_chain_lists.proofs.Members.{mem_in}
 use Rattle.am_chain_moves.specs.Group.{Group}
 use Rattle.am_chain_moves.specs.Kept.{Kept}
 use Rattle.am_model.specs.Node as nodes
-use Rattle.am_model.specs.Node.{Node, is_member, is_sequencer, lowest_or_first}
+use Rattle.am_model.specs.Node.{Node, is_member, is_sequencer, lowest_or_first, has_log}
 use Rattle.am_model.specs.Calls.{is_unfinished}
-use Rattle.am_model.specs.Group.{has_log}
 use Rattle.am_model.specs.Refresh.{advance, lead, refresh}
-use Rattle.am_model.specs.World.{World}
-use Rattle.am_model.proofs.Greatest.{split}
+use Rattle.am_play.specs.World.{World}
+use Rattle.am_base.proofs.Greatest.{split}
 use Rattle.am_effects.specs.Causes.{Cause}
 use Rattle.am_effects.proofs.Rests.{rests_refresh, refresh_is, leads_rests}
 use Rattle.am_laws.proofs.TakenRuns.{Along}
@@ -134,7 +133,8 @@ module _ (rules : Rules) (w v : World) (name : ℕ) (c : Cause) (x : Node) (s t 
         let top_ : nodes.top y ≡ nodes.top x = ap (λ l. l.start + length l.entries) log in
         (omega arith, omega arith)
 
-    reports_are : y.reports ≡ after_report (after_report x.reports x.core.who (nodes.report_of x)) x.core.who (record { stored = nodes.top x; taken = y.core.taken })
+    reports_are : y.reports ≡ after_report (after_report x.reports x.core.who (nodes.report_of x)) x.core.who
+        (record { stored = nodes.top x; taken = y.core.taken })
     reports_are = ap (λ (n : Node). n.reports) is ∙ lead_reports x
         ∙ ap (λ z. after_report (after_report x.reports x.core.who (nodes.report_of x)) x.core.who z)
         (ap nodes.report_of (sym is) ∙ ap (λ z. record { stored = z; taken = y.core.taken }) (ap (λ l. l.start + length l.entries) log))

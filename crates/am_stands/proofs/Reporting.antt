@@ -19,7 +19,7 @@ use Rattle.am_chain_lists.proofs.Members.{good_begins, told_push, long_told, mem
 use Rattle.am_chain_moves.specs.Group as groups
 use Rattle.am_chain_moves.specs.Group.{Group, opening}
 use Rattle.am_model.specs.Receiving.{is_view}
-use Rattle.am_model.proofs.Greatest.{split}
+use Rattle.am_base.proofs.Greatest.{split}
 use Rattle.am_laws.proofs.ViewSteps.{after_same}
 use Rattle.am_stands.specs.Letters.{line, IsDecided, ReportSays, LeaverSays, of_view, before_it}
 use Rattle.am_stands.specs.States.{IsConcerned, Reporting, IsNew}

@@ -9,7 +9,7 @@ use Rattle.am_base.specs.declared.entry.Entry.TheVariants.{Data}
 use Rattle.am_base.specs.declared.image.Image.{Image}
 use Rattle.am_base.specs.declared.image.Row.{Row}
 use Rattle.am_base.specs.Names.{place_of, has}
-use Rattle.am_base.specs.Lists.{members_of, row_of}
+use Rattle.am_base.specs.Lists.{members_of, row_of, requests_of, request_in}
 use Rattle.am_chain_lists.specs.Whole.{Begins, IsGood, image_of, mem}
 use Rattle.am_chain_lists.proofs.Rows.{row_at}
 use Rattle.am_chain_lists.proofs.Members.{mem_in}
@@ -18,10 +18,9 @@ use Rattle.am_sender.specs.declared.OwnSend.{OwnSend}
 use Rattle.am_sender.specs.Sends as own
 use Rattle.am_model.specs.Node as nodes
 use Rattle.am_model.specs.Node.{Node, waiting}
-use Rattle.am_model.specs.Claims.{requests_of, request_in}
 use Rattle.am_model.specs.Refresh.{accepted_at, settle_at, settle_waiting, settle}
-use Rattle.am_model.specs.World.{World}
-use Rattle.am_model.proofs.Greatest.{split}
+use Rattle.am_play.specs.World.{World}
+use Rattle.am_base.proofs.Greatest.{split}
 use Rattle.am_orders.proofs.Turns.{request_within, next_in}
 use Rattle.am_unballoted.proofs.Changes.{found_at}
 use Rattle.am_unballoted.proofs.Turns.{Turn, waiting_is, one_more, waiting_settled, collected_turn}

@@ -15,11 +15,11 @@ use Rattle.am_chain_lists.proofs.Members.{fold_append, told_push}
 use Rattle.am_chain_lists.proofs.Order.{view_viewed}
 use Rattle.am_chain_moves.specs.Group.{Group, opening}
 use Rattle.am_model.specs.Node as nodes
-use Rattle.am_model.specs.Node.{Node, view, acts, is_member, is_sequencer}
+use Rattle.am_model.specs.Node.{Node, view, is_member, is_sequencer}
 use Rattle.am_model.specs.Receiving.{is_view}
 use Rattle.am_model.specs.Ticks.{viewed_by}
-use Rattle.am_model.specs.World.{World}
-use Rattle.am_model.proofs.Greatest.{split}
+use Rattle.am_play.specs.World.{World}
+use Rattle.am_base.proofs.Greatest.{split}
 use Rattle.am_effects.specs.Letters.{MayTell, leads, decided}
 use Rattle.am_laws.proofs.ViewSteps.{after_same, after_view}
 use Rattle.am_stands.specs.Letters.{ResultSays}

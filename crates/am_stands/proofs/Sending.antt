@@ -19,22 +19,21 @@ use Rattle.am_chain_moves.specs.Group.{Group, IsThere, opening}
 use Rattle.am_model.specs.declared.status.Status.{Status}
 use Rattle.am_model.specs.declared.status.Status.TheVariants as status
 use Rattle.am_model.specs.Node as nodes
-use Rattle.am_model.specs.Node.{Node, Ballot, view, is_member, acts, is_sequencer, only_name}
-use Rattle.am_model.specs.Group.{has_log}
+use Rattle.am_model.specs.Node.{Node, view, is_member, acts, is_sequencer, only_name, has_log, has_departed}
 use Rattle.am_model.specs.Ballots.{own_vote}
 use Rattle.am_model.specs.Resets.{may_fetch}
 use Rattle.am_model.specs.Ticks.{viewed_by}
-use Rattle.am_model.specs.World.{World, has_departed}
-use Rattle.am_model.proofs.Greatest.{split, and_both}
+use Rattle.am_play.specs.World.{World}
+use Rattle.am_base.proofs.Greatest.{split, and_both}
 use Rattle.am_effects.specs.Causes.{Cause, hears}
 use Rattle.am_effects.specs.Letters as letters
-use Rattle.am_effects.specs.Letters.{MayFetch, for_ballot, of_promise, MayTell, leads, decided, Says, request, spread, bcast, order, accept, ack, nack, hold}
+use Rattle.am_effects.specs.Letters.{MayFetch, for_ballot, of_promise, MayTell, leads, decided, request, spread, bcast, order, accept, ack, nack, hold}
 use Rattle.am_effects.specs.Letters.{join_ask, welcome}
 use Rattle.am_effects.specs.Letters.{leave_ask, gone, invite, vote, fetch, piece, result, hand_over}
 use Rattle.am_effects.proofs.Statuses.{logged}
 use Rattle.am_laws.proofs.Stamps.{same_stamp}
 use Rattle.am_stands.specs.Letters as says
-use Rattle.am_stands.specs.Letters.{line, IsDecided, AllShown, FetchSays, PacketSays, ResultSays}
+use Rattle.am_stands.specs.Letters.{IsDecided, AllShown, FetchSays, PacketSays, ResultSays}
 use Rattle.am_stands.specs.Moving.{none, Leads}
 use Rattle.am_stands.specs.Sending.{KeptWhole, ListBegins, as_before, just_begun, Sender, ShowsMore, SaysSo, SentSays}
 use Rattle.am_stands.proofs.Changes.{told_all, long_all}

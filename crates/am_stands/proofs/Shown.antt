@@ -11,16 +11,15 @@ use Rattle.am_packet.specs.declared.packet.Packet.TheVariants as packet
 use Rattle.am_group.specs.Journals.{item_at}
 use Rattle.am_chain_lists.specs.Whole.{mem, view_of, key}
 use Rattle.am_chain_moves.specs.Group as groups
-use Rattle.am_chain_moves.specs.Group.{Group, IsThere, IsUp, put2}
-use Rattle.am_chain_moves.specs.Moves.{Move}
+use Rattle.am_chain_moves.specs.Group.{Group, IsThere, put2}
 use Rattle.am_chain_moves.specs.Moves as group
 use Rattle.am_chain_moves.specs.Kept.{Kept}
 use Rattle.am_chain_moves.proofs.Puts.{put2_cases}
 use Rattle.am_model.specs.Node as nodes
 use Rattle.am_model.specs.Node.{Node, Ballot, is_member}
 use Rattle.am_model.specs.Ballots.{own_vote}
-use Rattle.am_model.specs.World.{World}
-use Rattle.am_model.proofs.Greatest.{split, and_both}
+use Rattle.am_play.specs.World.{World}
+use Rattle.am_base.proofs.Greatest.{split, and_both}
 use Rattle.am_effects.specs.Causes.{Cause, hears}
 use Rattle.am_effects.specs.Looks.{HasOpen, Balloting, with_more, without_one, as_it_is}
 use Rattle.am_stands.specs.Standing.{NameStands, ViewsStand, Stands}

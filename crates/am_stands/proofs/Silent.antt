@@ -15,7 +15,7 @@ use Rattle.am_model.specs.Hearing.{hear_row, hears_member, hears_asking}
 use Rattle.am_model.specs.Refresh.{refresh_at_end}
 use Rattle.am_model.specs.Emit.{Plan, quiet, finish}
 use Rattle.am_model.specs.Step.{row, read_row, step, hear, hear_refusal}
-use Rattle.am_model.proofs.Greatest.{split}
+use Rattle.am_base.proofs.Greatest.{split}
 use Rattle.am_effects.proofs.Rests.{rests_at_end}
 use Rattle.am_stands.specs.Sending.{DepartedSilent}
 

@@ -1,5 +1,6 @@
 -- At the start each founder is told of the first entry, and then the group stands for the world.
-use Rattle.std.proofs.Common.{◌≡◌, ℕ, zero, suc, ◌+◌, ◌<◌, ◌==◌, ◌&&◌, nat_lt, if◌then◌else◌, List, [], ◌∷◌, length, Bool, true, false, Some, slice_get, refl, sym}
+use Rattle.std.proofs.Common.{◌≡◌, ℕ, zero, suc, ◌+◌, ◌<◌, ◌==◌, ◌&&◌, nat_lt, if◌then◌else◌, List, [], ◌∷◌, length, Bool, true, false, Some, slice_get, refl}
+use Rattle.std.proofs.Common.{sym}
 use Rattle.std.proofs.Common.{ap, ◌∙◌, subst, arith}
 use Rattle.std.proofs.lemmas.Bool.Decides.{nat_tests}
 use Rattle.am_base.specs.declared.entry.Entry.{Entry}
@@ -13,13 +14,12 @@ use Rattle.am_chain_moves.specs.Group.{Group, put, opening}
 use Rattle.am_chain_moves.specs.Moves.{with_node}
 use Rattle.am_chain_moves.specs.Moves as group
 use Rattle.am_chain_moves.specs.Runs as begun
-use Rattle.am_model.specs.Node.{Node, founder, stranger, lowest_or_first, founding_stamp, founders_view}
+use Rattle.am_model.specs.Node.{Node, founder, stranger, lowest_or_first, founding_stamp, founders_view, has_log, has_departed}
 use Rattle.am_model.specs.Calls.{is_unfinished}
-use Rattle.am_model.specs.Group.{has_log}
-use Rattle.am_model.specs.World.{Decided, start, first_node, founders_decided, has_departed}
-use Rattle.am_model.specs.Lawful.{whole}
-use Rattle.am_model.specs.Claims.{up_to_view, up_to_next, line_of}
-use Rattle.am_model.proofs.Greatest.{split}
+use Rattle.am_play.specs.World.{Decided, start, first_node, founders_decided}
+use Rattle.am_play.specs.Lawful.{whole}
+use Rattle.am_play.specs.Claims.{up_to_view, up_to_next, line_of}
+use Rattle.am_base.proofs.Greatest.{split}
 use Rattle.am_model.proofs.Founders.{first_founder}
 use Rattle.am_laws.proofs.Views.{same_is_equal}
 use Rattle.am_stands.specs.Standing.{BeginsIn, NameStands, FrontsStand, NotedStands, ViewsStand, StartStands}

@@ -8,7 +8,7 @@ use Rattle.am_chain_lists.proofs.Order.{view_small}
 use Rattle.am_chain_moves.specs.Group.{Group}
 use Rattle.am_model.specs.Node.{Node, Ballot, view, lowest_or_first}
 use Rattle.am_model.specs.Ballots.{Verdict}
-use Rattle.am_model.specs.World.{Decided, World, last_view}
+use Rattle.am_play.specs.World.{Decided, World, last_view}
 use Rattle.am_effects.specs.Causes.{Cause}
 use Rattle.am_effects.specs.Looks.{Looks, finds_itself_out, waits, fetches_from_best, finds_too_few, finds_no_room, decides}
 use Rattle.am_effects.specs.Changes.{Change, refreshes, settles, begins_list}

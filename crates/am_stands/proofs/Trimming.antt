@@ -20,8 +20,8 @@ use Rattle.am_model.specs.Node as nodes
 use Rattle.am_model.specs.Node.{Node, Ballot, is_sequencer}
 use Rattle.am_model.specs.Ballots.{need_of, left_in, taken_by}
 use Rattle.am_model.specs.Refresh.{concerned_names, lead}
-use Rattle.am_model.specs.World.{World}
-use Rattle.am_model.proofs.Greatest.{split}
+use Rattle.am_play.specs.World.{World}
+use Rattle.am_base.proofs.Greatest.{split}
 use Rattle.am_effects.specs.Looks.{HasLearned}
 use Rattle.am_laws.proofs.Taken.{own_need, those_at}
 use Rattle.am_laws.proofs.ViewMembers.{those_long}

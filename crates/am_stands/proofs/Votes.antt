@@ -24,11 +24,11 @@ use Rattle.am_model.specs.Node.{Node, Ballot, view, members, only_name, name_whe
 use Rattle.am_base.specs.declared.entry.Entry.TheVariants.{View}
 use Rattle.std.proofs.lemmas.List.{append_assoc, length-map, get_or-set_same, get_or-set_other, get_or-replicate}
 use Rattle.am_chain_lists.proofs.Rows.{mod16}
-use Rattle.am_model.specs.Lawful.{is_view_of}
+use Rattle.am_play.specs.Lawful.{is_view_of}
 use Rattle.am_model.specs.Ballots.{trim_for, own_vote, best_of, need_of, has_voted, is_waited_for, left_in}
-use Rattle.am_model.specs.World.{World}
-use Rattle.am_model.proofs.BestVotes.{best_vote_is}
-use Rattle.am_model.proofs.Greatest.{split}
+use Rattle.am_play.specs.World.{World}
+use Rattle.am_meaning.proofs.BestVotes.{best_vote_is}
+use Rattle.am_base.proofs.Greatest.{split}
 use Rattle.am_effects.specs.Looks as looks
 use Rattle.am_model.proofs.Sets.{has_size, has_those}
 use Rattle.am_laws.proofs.Limits.{set_those}

@@ -11,11 +11,10 @@ use Rattle.am_chain_moves.specs.Group.{Group}
 use Rattle.am_chain_moves.specs.Kept.{Kept}
 use Rattle.am_model.specs.declared.status.Status.{Status}
 use Rattle.am_model.specs.declared.status.Status.TheVariants as status
-use Rattle.am_model.specs.Node.{Node, is_member, is_asking}
+use Rattle.am_model.specs.Node.{Node, is_member, is_asking, has_log, has_departed}
 use Rattle.am_model.specs.Calls.{is_unfinished}
-use Rattle.am_model.specs.Group.{has_log}
-use Rattle.am_model.specs.World.{World, is_stopped, has_departed}
-use Rattle.am_model.proofs.Greatest.{split, and_both}
+use Rattle.am_play.specs.World.{World, is_stopped}
+use Rattle.am_base.proofs.Greatest.{split, and_both}
 use Rattle.am_effects.specs.Changes.{MayBeWelcomed}
 use Rattle.am_laws.proofs.Stamps.{equal_stamps}
 use Rattle.am_stands.specs.Standing.{NameStands, within}

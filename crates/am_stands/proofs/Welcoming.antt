@@ -17,8 +17,8 @@ use Rattle.am_chain_moves.specs.Group as groups
 use Rattle.am_chain_moves.specs.Group.{Group}
 use Rattle.am_model.specs.Node as nodes
 use Rattle.am_model.specs.Node.{Node, is_sequencer, only_name}
-use Rattle.am_model.specs.World.{World}
-use Rattle.am_model.proofs.Greatest.{split}
+use Rattle.am_play.specs.World.{World}
+use Rattle.am_base.proofs.Greatest.{split}
 use Rattle.am_effects.specs.Letters.{MayWelcome, just_joined, asks_again}
 use Rattle.am_stands.specs.Standing.{NameStands, FrontsStand}
 use Rattle.am_stands.specs.Letters.{Trimmed, WelcomeSays, WelcomeTo, has_begun, has_gone, has_left, is_leaving, may_begin}

@@ -11,7 +11,7 @@ use Rattle.am_chain_moves.specs.Group.{Group, MayAccept}
 use Rattle.am_chain_moves.specs.Kept.{Kept}
 use Rattle.am_model.specs.Node.{Node, top, view, others, is_member, is_sequencer, push_entry}
 use Rattle.am_model.specs.Refresh.{refresh}
-use Rattle.am_model.specs.World.{World, is_stopped, group_after}
+use Rattle.am_play.specs.World.{World, is_stopped, group_after}
 use Rattle.am_stands.specs.Standing.{NameStands, within}
 use Rattle.am_stands.specs.Letters.{SequencerSays}
 use Rattle.am_stands.specs.States.{Reporting, ReportsStand}

@@ -8,11 +8,11 @@ use Rattle.am_chain_moves.specs.Group as groups
 use Rattle.am_chain_moves.specs.Group.{Group, IsUp, MayAccept, put}
 use Rattle.am_chain_moves.specs.Moves.{longer}
 use Rattle.am_model.specs.declared.status.Status.TheVariants.{Departed}
-use Rattle.am_model.specs.Node.{Node, set_at, is_sequencer, push_entry}
+use Rattle.am_model.specs.Node.{Node, set_at, is_sequencer, push_entry, has_departed}
 use Rattle.am_model.specs.Refresh.{refresh_at_end}
 use Rattle.am_effects.specs.Causes.{Cause}
 use Rattle.am_model.specs.Emit.{Step}
-use Rattle.am_model.specs.World.{Decided, World, has_departed, group_after, views_after, with_step}
+use Rattle.am_play.specs.World.{Decided, World, group_after, views_after, with_step}
 use Rattle.am_stands.specs.Standing.{FrontsStand, StandsBut, Stands, within}
 use Rattle.am_stands.specs.Moving.{Leads}
 use Rattle.am_stands.specs.Steps.{MayMove}

@@ -9,7 +9,7 @@ use Rattle.am_chain_moves.specs.Group as groups
 use Rattle.am_chain_moves.specs.Group.{Group}
 use Rattle.am_chain_moves.specs.Moves.{Move, decides}
 use Rattle.am_chain_moves.specs.Kept.{Kept}
-use Rattle.am_model.specs.World.{World}
+use Rattle.am_play.specs.World.{World}
 use Rattle.am_stands.specs.Letters.{PacketSays}
 
 -- a name keeps its list, and what ends stays ended

@@ -7,15 +7,14 @@ use Rattle.am_base.specs.declared.event.NodeEvent.TheVariants.{GiveUp}
 use Rattle.am_base.specs.Founding.{Rules}
 use Rattle.am_base.specs.Names.{has}
 use Rattle.am_packet.specs.declared.packet.Packet.{Packet}
-use Rattle.am_model.specs.Claims.{requests_of}
+use Rattle.am_base.specs.Lists.{requests_of}
 use Rattle.am_sender.specs.Sends as own
 use Rattle.am_chain_lists.specs.Whole.{Begins, IsGood}
 use Rattle.am_chain_moves.specs.Group.{Group}
 use Rattle.am_chain_moves.specs.Runs.{Run}
-use Rattle.am_model.specs.Node.{Node, Ballot, lowest_or_first}
-use Rattle.am_model.specs.Group.{has_log}
+use Rattle.am_model.specs.Node.{Node, Ballot, lowest_or_first, has_log}
 use Rattle.am_model.specs.Refresh.{refresh}
-use Rattle.am_model.specs.World.{Decided, World, start, first_node, is_stopped}
+use Rattle.am_play.specs.World.{Decided, World, start, first_node, is_stopped}
 use Rattle.am_effects.specs.Causes.{Cause, calls, hears}
 use Rattle.am_effects.specs.Changes.{Change, refreshes, closes}
 use Rattle.am_laws.proofs.Taken.{HeardUsed}

@@ -6,7 +6,8 @@ use Rattle.am_group.specs.declared.event.Event.{Event}
 use Rattle.am_chain_moves.specs.Group.{Group}
 use Rattle.am_model.specs.Emit.{Step}
 use Rattle.am_model.specs.Calls.{is_unfinished}
-use Rattle.am_model.specs.World.{World, run, is_stopped, has_departed, with_step, happens}
+use Rattle.am_play.specs.World.{World, run, is_stopped, with_step, happens}
+use Rattle.am_model.specs.Node.{has_departed}
 use Rattle.am_effects.specs.Causes.{Cause}
 use Rattle.am_effects.specs.Effects.{Effect}
 use Rattle.am_effects.specs.Events.{actor, IsCause}

@@ -11,13 +11,12 @@ use Rattle.am_packet.specs.declared.packet.Packet.TheVariants as packet
 use Rattle.am_chain_lists.specs.Whole.{key}
 use Rattle.am_chain_moves.specs.Group.{Group, IsThere}
 use Rattle.am_chain_moves.specs.Kept.{Kept}
-use Rattle.am_model.specs.Node.{Node, Ballot, top, image_of, is_sequencer}
+use Rattle.am_model.specs.Node.{Node, Ballot, top, image_of, is_sequencer, has_log}
 use Rattle.am_model.specs.declared.status.Status.TheVariants.{Departed}
 use Rattle.am_model.specs.Calls.{is_unfinished}
 use Rattle.am_model.specs.Step.{step, hear, hear_refusal}
 use Rattle.am_model.specs.Refresh.{concerned_names}
-use Rattle.am_model.specs.Group.{has_log}
-use Rattle.am_model.specs.World.{Decided, World}
+use Rattle.am_play.specs.World.{Decided, World}
 use Rattle.am_effects.specs.Causes.{Cause, hears}
 use Rattle.am_effects.specs.Looks.{HasOpen}
 use Rattle.am_effects.specs.Letters.{HasSend, Says}

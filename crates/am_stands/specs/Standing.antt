@@ -8,12 +8,11 @@ use Rattle.am_chain_moves.specs.Runs as begun
 use Rattle.am_base.specs.Founding.{Rules, MayFound}
 use Rattle.am_stands.specs.Moving.{Leads}
 use Rattle.am_model.specs.declared.status.Status.{Status}
-use Rattle.am_model.specs.Node.{Node, set_at, lowest_or_first}
+use Rattle.am_model.specs.Node.{Node, set_at, lowest_or_first, has_log, has_departed}
 use Rattle.am_model.specs.Calls.{is_unfinished}
-use Rattle.am_model.specs.Group.{has_log}
-use Rattle.am_model.specs.World.{Decided, World, start, is_stopped, has_departed}
-use Rattle.am_model.specs.Lawful.{whole}
-use Rattle.am_model.specs.Claims.{line_of}
+use Rattle.am_play.specs.World.{Decided, World, start, is_stopped}
+use Rattle.am_play.specs.Lawful.{whole}
+use Rattle.am_play.specs.Claims.{line_of}
 
 -- ---- one name
 

@@ -17,7 +17,7 @@ use Rattle.am_model.specs.Node.{Node, Ballot, is_member}
 use Rattle.am_model.specs.Calls.{is_unfinished}
 use Rattle.am_chain_moves.specs.Runs.{Run}
 use Rattle.am_model.specs.Receiving.{body_of}
-use Rattle.am_model.specs.World.{World}
+use Rattle.am_play.specs.World.{World}
 use Rattle.am_stands.specs.Letters.{VoteTells, AllShown, IsDecided, WasAsked, line}
 
 -- besides what LinesOpen has of the list of who is up: its view isn't above its promise, and it opens with what its view chose

@@ -18,8 +18,8 @@ use Rattle.am_model.specs.Node.{Node, Ballot, image_of, view, members}
 use Rattle.am_model.specs.Calls.{is_unfinished}
 use Rattle.am_model.specs.Receiving.{is_view}
 use Rattle.am_model.specs.Ballots.{Verdict, need_of, left_in}
-use Rattle.am_model.specs.Lawful.{is_view_of}
-use Rattle.am_model.specs.World.{Decided, World, is_stopped, last_view}
+use Rattle.am_play.specs.Lawful.{is_view_of}
+use Rattle.am_play.specs.World.{Decided, World, is_stopped, last_view}
 use Rattle.am_effects.specs.Causes.{Cause, hears}
 use Rattle.am_effects.specs.Looks as looks
 use Rattle.am_effects.specs.Looks.{Looks, decides}

@@ -7,7 +7,7 @@ use Rattle.std.proofs.Common.{List}
 use Rattle.am_packet.specs.Boxes.{Letter}
 use Rattle.am_packet.specs.Kinds.{goes_to_any}
 use Rattle.am_group.specs.declared.event.Event.{Event}
-use Rattle.am_model.specs.World.{World, start, with_record, with_step, run}
+use Rattle.am_play.specs.World.{World, start, with_record, with_step, run}
 use Rattle.am_effects.specs.Letters.{LetterSays}
 use Rattle.am_effects.specs.Events.{actor, steps}
 use Rattle.am_effects.proofs.Runs.{EachKeeps, runs_keep}

@@ -14,7 +14,7 @@ use Rattle.am_fronts.proofs.Views.{view_grows}
 use Rattle.am_model.specs.Node.{Node, Ballot, view, acts, is_member, is_asking, is_sequencer}
 use Rattle.am_model.specs.Ballots.{Verdict}
 use Rattle.am_model.specs.Receiving.{is_view}
-use Rattle.am_model.proofs.Greatest.{split, and_both}
+use Rattle.am_base.proofs.Greatest.{split, and_both}
 use Rattle.am_effects.specs.Causes.{Cause}
 use Rattle.am_effects.specs.Looks.{Looks, finds_itself_out}
 use Rattle.am_effects.specs.Changes.{Change, refreshes, settles}

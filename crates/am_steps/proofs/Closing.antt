@@ -11,7 +11,7 @@ use Rattle.am_chain_moves.specs.Moves.{longer}
 use Rattle.am_chain_moves.specs.Kept.{Kept}
 use Rattle.am_model.specs.Node.{Node, view, others, is_member, is_sequencer, push_entry}
 use Rattle.am_model.specs.Emit.{Step}
-use Rattle.am_model.specs.World.{World, with_step}
+use Rattle.am_play.specs.World.{World, with_step}
 use Rattle.am_effects.specs.Causes.{Cause}
 use Rattle.am_laws.proofs.ViewChanges.{leads_member}
 use Rattle.am_stands.specs.Standing.{NameStands, StandsBut, Stands, within}

@@ -7,9 +7,9 @@ use Rattle.am_base.specs.declared.outcome.Outcome.{Outcome}
 use Rattle.am_packet.specs.Kinds.{kind_of}
 use Rattle.am_model.specs.declared.status.Status.{Status}
 use Rattle.am_model.specs.declared.status.Status.TheVariants as status
-use Rattle.am_model.specs.Node.{Node, Ballot, top, is_member, is_asking, is_sequencer}
-use Rattle.am_model.specs.World.{World, has_departed, group_after}
-use Rattle.am_model.proofs.Greatest.{and_both}
+use Rattle.am_model.specs.Node.{Node, Ballot, top, is_member, is_asking, is_sequencer, has_departed}
+use Rattle.am_play.specs.World.{World, group_after}
+use Rattle.am_base.proofs.Greatest.{and_both}
 use Rattle.am_effects.specs.Causes.{Cause, hears, by_request, BringsReport, with_send}
 use Rattle.am_effects.specs.Causes.{BringsFronts, with_entry as by_entry, with_number, alone}
 use Rattle.am_effects.specs.Looks.{MayLook, was_reset, was_handed, was_fetched, Balloting, with_more, without_one, as_it_is, BeginsBy, by_reset, by_hand_over}

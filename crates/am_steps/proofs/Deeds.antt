@@ -8,7 +8,7 @@ use Rattle.am_base.specs.Stamps.{stamp_lt}
 use Rattle.am_chain_moves.specs.Group.{Group}
 use Rattle.am_model.specs.Node.{Node, Ballot, view, is_member, image_of}
 use Rattle.am_model.specs.Ballots.{Verdict, trim_for, left_in, need_of}
-use Rattle.am_model.specs.World.{Decided, World, last_view}
+use Rattle.am_play.specs.World.{Decided, World, last_view}
 use Rattle.am_effects.specs.Causes.{Cause}
 use Rattle.am_effects.specs.Looks.{Balloting, Looks, finds_itself_out, waits, fetches_from_best, finds_too_few, finds_no_room, decides}
 use Rattle.am_effects.specs.Changes.{looks}

@@ -4,13 +4,11 @@ use Rattle.am_base.specs.declared.name.Stamp.{Stamp}
 use Rattle.am_base.specs.declared.outcome.Outcome.{Outcome}
 use Rattle.am_model.specs.declared.status.Status.{Status}
 use Rattle.am_model.specs.declared.status.Status.TheVariants as status
-use Rattle.am_model.specs.Node.{Node, is_member, is_asking, is_sequencer}
+use Rattle.am_model.specs.Node.{Node, is_member, is_asking, is_sequencer, has_log, has_departed}
 use Rattle.am_model.specs.Calls.{is_unfinished}
-use Rattle.am_model.specs.Group.{has_log}
 use Rattle.am_model.specs.Hearing.{hears_member, hears_asking, hears_in_view, hears_sequencer}
 use Rattle.am_model.specs.Refresh.{refresh, settle, refresh_at_end}
-use Rattle.am_model.specs.World.{has_departed}
-use Rattle.am_model.proofs.Greatest.{split, and_both}
+use Rattle.am_base.proofs.Greatest.{split, and_both}
 use Rattle.am_effects.specs.Causes.{Cause}
 use Rattle.am_effects.specs.Changes.{Promises, invited, overtaken, told_result, Change, refreshes, settles, takes_report, admits, numbers, keeps_body}
 use Rattle.am_effects.specs.Changes.{notes, stores, begins_list, departs, promises, opens, looks, fetches, stores_view, queues, collects, takes, asks_to_join}

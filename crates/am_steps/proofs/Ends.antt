@@ -11,11 +11,10 @@ use Rattle.am_base.specs.Stamps.{stamp_lt, stamp_eq, no_stamp}
 use Rattle.am_chain_lists.specs.Whole.{view_of, key}
 use Rattle.am_chain_lists.proofs.Order.{view_small}
 use Rattle.am_chain_moves.specs.Group.{Group, IsUp}
-use Rattle.am_model.specs.Node.{Node, top, view, image_of, is_member}
-use Rattle.am_model.specs.Group.{has_log}
+use Rattle.am_model.specs.Node.{Node, top, view, image_of, is_member, has_log, has_departed}
 use Rattle.am_model.specs.Refresh.{refresh, settle}
-use Rattle.am_model.specs.World.{Decided, World, has_departed, decides, group_after, views_after}
-use Rattle.am_model.proofs.Greatest.{split, and_both}
+use Rattle.am_play.specs.World.{Decided, World, decides, group_after, views_after}
+use Rattle.am_base.proofs.Greatest.{split, and_both}
 use Rattle.am_effects.specs.Causes.{Cause}
 use Rattle.am_effects.specs.Changes.{settles}
 use Rattle.am_effects.proofs.Rests.{rests_refresh, leads_rests, settle_is}
@@ -139,8 +138,8 @@ none_decided rules w name c m n t group h goes log_ there noted is member own di
       there = record { goes = mine.stopped ∙ h.runs; stays = mine.departed ∙ there (member_here m.status member) };
     } in
     ⊎_elim
-    (λ (same : SameView (image_of n) (image_of m)). (let z : stamp_eq (view m) (view n) ≡ true = ap (stamp_eq (view m)) same.view ∙ stamp_itself (view m) in cc))
-    (λ (k : (stamp_lt (view m) (view n) ≡ true) × Stood n.core.log). (
+    (λ (same : SameView (image_of n) (image_of m)). (let z : stamp_eq (view m) (view n) ≡ true = ap (stamp_eq (view m)) same.view
+    ∙ stamp_itself (view m) in cc)) (λ (k : (stamp_lt (view m) (view n) ≡ true) × Stood n.core.log). (
     let viewed : view_of (t.node name).list ≡ view n = view_whole (further w group w.views) name n (t.node name) mine in
     let g = whole rules (further w group w.views) name c n t h in
     let some : (t.node name).list ≢ [] = λ none. (let z : view n ≡ no_stamp = sym viewed ∙ ap view_of none ∙ no_view in

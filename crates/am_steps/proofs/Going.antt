@@ -7,7 +7,7 @@ use Rattle.am_base.specs.Lists.{Log}
 use Rattle.am_chain_moves.specs.Group.{Group}
 use Rattle.am_model.specs.Node.{Node, top, is_sequencer, with_report}
 use Rattle.am_model.specs.Refresh.{refresh}
-use Rattle.am_model.specs.World.{World, group_after}
+use Rattle.am_play.specs.World.{World, group_after}
 use Rattle.am_effects.specs.Causes.{Cause}
 use Rattle.am_effects.specs.Changes.{Change, takes_report}
 use Rattle.am_effects.specs.Courses.{IsPlain, Course, nothing_yet, used_report, and_then}

@@ -9,8 +9,8 @@ use Rattle.am_base.specs.Lists.{top_of, with_entry}
 use Rattle.am_core.specs.Cores.{CoreState}
 use Rattle.am_model.specs.Receiving.{is_view}
 use Rattle.am_model.specs.Node.{Node, is_sequencer, push_entry}
-use Rattle.am_model.specs.World.{group_with, group_after}
-use Rattle.am_model.proofs.Greatest.{split}
+use Rattle.am_play.specs.World.{group_with, group_after}
+use Rattle.am_base.proofs.Greatest.{split}
 use Rattle.am_effects.proofs.Says.{leads_pushed}
 use Rattle.am_stands.proofs.Learning.{same_by, same_group}
 

@@ -8,12 +8,12 @@ use Rattle.am_group.specs.declared.event.Event.{Event}
 use Rattle.am_chain_lists.specs.Whole.{Begins}
 use Rattle.am_chain_lists.proofs.Prefixes.{begins_refl}
 use Rattle.am_chain_moves.specs.Group as groups
-use Rattle.am_chain_moves.specs.Group.{Group, Views}
-use Rattle.am_model.specs.Node.{set_at, lowest_or_first}
+use Rattle.am_chain_moves.specs.Group.{Group}
+use Rattle.am_model.specs.Node.{set_at, lowest_or_first, has_departed}
 use Rattle.am_model.specs.Emit.{Step}
 use Rattle.am_model.specs.Calls.{is_unfinished}
-use Rattle.am_model.specs.World.{World, has_departed, group_after, views_after, with_step}
-use Rattle.am_model.proofs.Greatest.{split}
+use Rattle.am_play.specs.World.{World, group_after, views_after, with_step}
+use Rattle.am_base.proofs.Greatest.{split}
 use Rattle.am_effects.specs.Causes.{Cause}
 use Rattle.am_effects.proofs.Items.{all_get}
 use Rattle.am_sent.proofs.Runs.{after_step}

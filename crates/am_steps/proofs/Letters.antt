@@ -8,9 +8,9 @@ use Rattle.am_packet.specs.Boxes.{Letter}
 use Rattle.am_group.specs.declared.event.Record.{Record}
 use Rattle.am_chain_lists.specs.Whole.{key}
 use Rattle.am_chain_moves.specs.Group as groups
-use Rattle.am_chain_moves.specs.Group.{Group, Views, IsThere}
+use Rattle.am_chain_moves.specs.Group.{Group, IsThere}
 use Rattle.am_model.specs.Node.{Node, lowest_or_first}
-use Rattle.am_model.specs.World.{World}
+use Rattle.am_play.specs.World.{World}
 use Rattle.am_effects.specs.Causes.{Cause}
 use Rattle.am_effects.specs.Letters as letters
 use Rattle.am_stands.specs.Standing.{NameStands, FrontsStand, ViewsStand}

@@ -11,8 +11,8 @@ use Rattle.am_group.specs.declared.event.Event.{Event}
 use Rattle.am_model.specs.Node.{Node, Ballot, set_at}
 use Rattle.am_model.specs.Ballots.{Verdict}
 use Rattle.am_model.specs.Emit.{Step}
-use Rattle.am_model.specs.World.{World, start, record_of, with_record, with_step, run}
-use Rattle.am_model.proofs.Greatest.{split}
+use Rattle.am_play.specs.World.{World, start, record_of, with_record, with_step, run}
+use Rattle.am_base.proofs.Greatest.{split}
 use Rattle.am_effects.specs.Causes.{Cause, calls}
 use Rattle.am_effects.specs.Looks.{Looks, finds_itself_out}
 use Rattle.am_effects.specs.Changes.{Change, refreshes, settles}

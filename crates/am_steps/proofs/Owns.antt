@@ -10,8 +10,8 @@ use Rattle.am_base.specs.Stamps.{stamp_lt, no_stamp}
 use Rattle.am_group.specs.declared.event.Event.{Event}
 use Rattle.am_model.specs.Node.{Node, Ballot, is_member, is_asking}
 use Rattle.am_model.specs.Ballots.{Verdict, overtake}
-use Rattle.am_model.specs.World.{World, start, with_record, with_step, run}
-use Rattle.am_model.proofs.Greatest.{split, and_both}
+use Rattle.am_play.specs.World.{World, start, with_record, with_step, run}
+use Rattle.am_base.proofs.Greatest.{split, and_both}
 use Rattle.am_effects.specs.Causes.{Cause}
 use Rattle.am_effects.specs.Looks.{Looks, finds_itself_out, waits, fetches_from_best, finds_too_few, finds_no_room, decides}
 use Rattle.am_effects.specs.Changes.{Promises, invited, overtaken as overtaken_by, told_result, Change, refreshes, settles}

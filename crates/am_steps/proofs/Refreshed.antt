@@ -13,10 +13,10 @@ use Rattle.am_chain_moves.specs.Moves.{with_node}
 use Rattle.am_chain_moves.specs.Kept.{Kept}
 use Rattle.am_chain_moves.proofs.Puts.{put_same}
 use Rattle.am_model.specs.Node as nodes
-use Rattle.am_model.specs.Node.{Node, is_member, is_sequencer, lowest_or_first}
+use Rattle.am_model.specs.Node.{Node, is_member, is_sequencer, lowest_or_first, has_departed}
 use Rattle.am_model.specs.Refresh.{refresh}
-use Rattle.am_model.specs.World.{World, has_departed, group_after}
-use Rattle.am_model.proofs.Greatest.{split}
+use Rattle.am_play.specs.World.{World, group_after}
+use Rattle.am_base.proofs.Greatest.{split}
 use Rattle.am_effects.specs.Causes.{Cause}
 use Rattle.am_effects.specs.Changes.{refreshes, unchanged, changed}
 use Rattle.am_effects.proofs.Rests.{rests_refresh}

@@ -13,12 +13,12 @@ use Rattle.am_group.specs.declared.event.Act.TheVariants as act
 use Rattle.am_group.specs.declared.event.Event.{Event}
 use Rattle.am_group.specs.Addressed.{is_for}
 use Rattle.am_group.specs.Journals.{letter_at}
-use Rattle.am_model.specs.Node.{Node}
+use Rattle.am_model.specs.Node.{Node, has_departed}
 use Rattle.am_model.specs.Emit.{Step}
 use Rattle.am_model.specs.Step.{step, hear, hear_refusal}
 use Rattle.am_model.specs.Lengths.{packet_length}
-use Rattle.am_model.specs.World.{World, current, is_stopped, has_departed, with_record, with_step, does_event, gives_up, hears_letter, hear_cut, comes_back}
-use Rattle.am_model.specs.World.{acts_as, happens}
+use Rattle.am_play.specs.World.{World, current, is_stopped, with_record, with_step, does_event, gives_up, hears_letter, hear_cut, comes_back}
+use Rattle.am_play.specs.World.{acts_as, happens}
 use Rattle.am_effects.specs.Events.{actor}
 use Rattle.am_unballoted.proofs.Steps.{nil_of}
 use Rattle.am_stands.specs.Sending.{SendsNothing}

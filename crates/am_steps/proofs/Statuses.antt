@@ -2,9 +2,7 @@
 use Rattle.std.proofs.Common.{◌≡◌, ◌||◌, true, false, refl}
 use Rattle.am_model.specs.declared.status.Status.{Status}
 use Rattle.am_model.specs.declared.status.Status.TheVariants as status
-use Rattle.am_model.specs.Node.{is_member, is_asking}
-use Rattle.am_model.specs.Group.{has_log}
-use Rattle.am_model.specs.World.{has_departed}
+use Rattle.am_model.specs.Node.{is_member, is_asking, has_log, has_departed}
 
 -- who is no member, and hasn't departed, has no list
 pub bare_status : (t : Status) → is_member t ≡ false → has_departed t ≡ false → has_log t ≡ false

@@ -17,13 +17,13 @@ use Rattle.am_packet.specs.Boxes.{Letter}
 use Rattle.am_group.specs.declared.event.Event.{Event}
 use Rattle.am_chain_moves.specs.Group.{Group}
 use Rattle.am_model.specs.declared.status.Status.TheVariants.{Departed}
-use Rattle.am_model.specs.Node.{Node, Ballot, view, acts, is_member, others, is_sequencer, push_entry}
+use Rattle.am_model.specs.Node.{Node, Ballot, view, acts, is_member, others, is_sequencer, push_entry, has_departed}
 use Rattle.am_model.specs.Calls.{is_unfinished}
 use Rattle.am_model.specs.Emit.{Step}
 use Rattle.am_model.specs.Hearing.{hears_member}
 use Rattle.am_model.specs.Refresh.{refresh, settle, refresh_at_end}
-use Rattle.am_model.specs.World.{Decided, World, is_stopped, has_departed, group_after, views_after, run, with_step, happens}
-use Rattle.am_model.proofs.Greatest.{split, and_both}
+use Rattle.am_play.specs.World.{Decided, World, is_stopped, group_after, views_after, run, with_step, happens}
+use Rattle.am_base.proofs.Greatest.{split, and_both}
 use Rattle.am_effects.specs.Causes.{Cause, calls, hears}
 use Rattle.am_effects.specs.Letters as letters
 use Rattle.am_effects.specs.Changes.{departs}
@@ -304,7 +304,8 @@ module _ (rules : Rules) (events : List Event) (e : Event) (c : Cause) (s : Grou
     closing_follows : (o : Outcome) (x : Node) (event : NodeEvent) → c ≡ calls event → Course c o m x → is_sequencer x ≡ true → x.leaving ≡ true
         → nat_lt 0 (size (others x)) ≡ false → view x ≡ view m
         → Effect m c (record { node = record (refresh_at_end (push_entry x (Leave x.core.who))) { status = Departed }; outcome = o; letters = [] })
-        → Follows rules (after_ (record { node = record (refresh_at_end (push_entry x (Leave x.core.who))) { status = Departed }; outcome = o; letters = [] })) s
+        → Follows rules (after_ (record { node = record (refresh_at_end (push_entry x (Leave x.core.who))) { status = Departed }; outcome = o; letters = [] }))
+        s
     closing_follows o x event called course leads leaves alone viewed effect =
         let n = record (refresh_at_end (push_entry x (Leave x.core.who))) { status = Departed } in
         let step : Step = record { node = n; outcome = o; letters = [] } in

@@ -4,11 +4,11 @@ use Rattle.am_base.specs.declared.entry.Entry.{Entry}
 use Rattle.am_group.specs.declared.event.Record.{Record}
 use Rattle.am_chain_lists.specs.Whole.{Begins}
 use Rattle.am_chain_moves.specs.Group as groups
-use Rattle.am_chain_moves.specs.Group.{Group, put}
+use Rattle.am_chain_moves.specs.Group.{Group}
 use Rattle.am_chain_moves.specs.Moves.{with_node}
 use Rattle.am_model.specs.Node.{Node}
-use Rattle.am_model.specs.World.{Decided, World}
-use Rattle.am_model.specs.Claims.{up_to_next}
+use Rattle.am_play.specs.World.{Decided, World}
+use Rattle.am_play.specs.Claims.{up_to_next}
 use Rattle.am_stands.specs.Standing.{NameStands, StandsBut, within}
 use Rattle.am_stands.specs.Letters.{WasAsked}
 use Rattle.am_stands.specs.States.{SendsOnce}

@@ -139,11 +139,11 @@ impl Table {
     }
 
     /// What the list tells as an image.
-    pub fn image(&self) -> Image
-        ensures value { result ≡ self.now }
-        ensures within { IsImage result }
+    pub fn image(&self) -> &Image
+        ensures value { result.now ≡ self.now }
+        ensures within { IsImage result.now }
     {
-        self.image
+        &self.image
     }
 
     /// The row of a name's place.

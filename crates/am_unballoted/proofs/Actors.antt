@@ -18,12 +18,11 @@ use Rattle.am_group.specs.declared.event.Act.{Act}
 use Rattle.am_group.specs.declared.event.Event.{Event}
 use Rattle.am_group.specs.declared.event.Record.{Record}
 use Rattle.am_model.specs.declared.status.Status.TheVariants.{Departed}
-use Rattle.am_model.specs.Node.{Node, view, set_at}
+use Rattle.am_model.specs.Node.{Node, view, set_at, has_log}
 use Rattle.am_model.specs.Emit.{Step}
-use Rattle.am_model.specs.World.{World, record_of, group_after, with_step}
-use Rattle.am_model.specs.Group.{has_log}
-use Rattle.am_model.specs.Claims.{heard_by}
-use Rattle.am_model.proofs.Greatest.{split}
+use Rattle.am_play.specs.World.{World, record_of, group_after, with_step}
+use Rattle.am_play.specs.Claims.{heard_by}
+use Rattle.am_base.proofs.Greatest.{split}
 use Rattle.am_effects.specs.Causes.{Cause, calls, hears, refuses}
 use Rattle.am_effects.specs.Changes.{Change, refreshes, settles, numbers, stores, begins_list}
 use Rattle.am_effects.specs.Changes.{opens, looks, fetches, stores_view, closes}
@@ -170,7 +169,8 @@ module _ (rules : Rules) (w : World) (e : Event) (c : Cause) (s : Step) (h : Wor
       let says : (l : Letter) → LetterSays m c effect.sender l
       → LetterOk rules (list ++ []) acc l = λ l x. subst (λ t. LetterOk rules t acc l) (sym back)
       (letter_says rules list list acc acc i m effect.sender c l sends (λ q. absurd (d q)) fetched ok x) in
-      let low : s.node.core.acc ≤ length w.group = (let a = p.node.fronts.accepted in let b = length-take-le acc list within in let g = ap length h.kept.group in
+      let low : s.node.core.acc ≤ length w.group = (let a = p.node.fronts.accepted in let b = length-take-le acc list within in let g = ap length h.kept.group
+      in
       omega arith) in
       let group : group_after w.group s.node ≡ take acc (list ++ []) = same_group w.group s.node low ∙ h.kept.group ∙ ap (take acc) (sym back) in
       let kept = kept_step rules list [] acc acc w e c s h.kept within (omega arith) node group
@@ -180,7 +180,8 @@ module _ (rules : Rules) (w : World) (e : Event) (c : Cause) (s : Step) (h : Wor
       let same : first ≡ set_at w.nodes i s.node (first_of rules) = rw differs refl in
       record {
         first = subst (FirstOk rules) same h.first;
-        kept = subst (λ (n : Node). Kept rules n.core.log.entries n.core.acc (with_step w e i s)) same (subst (λ l. Kept rules l acc (with_step w e i s)) back kept);
+        kept = subst (λ (n : Node). Kept rules n.core.log.entries n.core.acc (with_step w e i s)) same
+            (subst (λ l. Kept rules l acc (with_step w e i s)) back kept);
         asked = asked;
       }
 

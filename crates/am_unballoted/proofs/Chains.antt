@@ -16,12 +16,11 @@ use Rattle.am_packet.specs.declared.packet.Packet.TheVariants as packet
 use Rattle.am_sender.specs.Sends as own
 use Rattle.am_model.specs.declared.status.Status.{Status}
 use Rattle.am_model.specs.declared.status.Status.TheVariants as status
-use Rattle.am_model.specs.Node.{Node, Ballot, acts, is_member, is_sequencer, push_entry}
+use Rattle.am_model.specs.Node.{Node, Ballot, acts, is_member, is_sequencer, push_entry, has_log}
 use Rattle.am_model.specs.Refresh.{advance, lead, refresh, settle, refresh_at_end}
 use Rattle.am_model.specs.Ballots.{overtake}
 use Rattle.am_model.specs.Joining.{begin_list}
-use Rattle.am_model.specs.Group.{has_log}
-use Rattle.am_model.proofs.Greatest.{split, and_both}
+use Rattle.am_base.proofs.Greatest.{split, and_both}
 use Rattle.am_effects.specs.Causes.{Cause, hears}
 use Rattle.am_effects.specs.Changes.{MayBeWelcomed, Change, refreshes, settles, begins_list, departs}
 use Rattle.am_effects.specs.Changes.{promises, opens, looks, stores_view, queues, collects, takes, asks_to_join, closes, Changes}

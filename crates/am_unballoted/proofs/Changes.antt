@@ -19,7 +19,7 @@ use Rattle.am_sender.specs.Sends as own
 use Rattle.am_group.specs.Journals.{item_at}
 use Rattle.am_model.specs.Node.{Node, view, is_member, acts, is_sequencer, entries_above, waiting}
 use Rattle.am_model.specs.Refresh.{is_data_of, accepted_at, settle_at, settle_waiting, settle}
-use Rattle.am_model.proofs.Greatest.{split, and_both}
+use Rattle.am_base.proofs.Greatest.{split, and_both}
 use Rattle.am_model.proofs.Sends.{own_data}
 use Rattle.am_effects.proofs.Statuses.{logged}
 use Rattle.am_effects.proofs.Items.{get_take}
@@ -129,7 +129,8 @@ settled_at_ok rules list acc i m req (Some k) is h =
     (All-weaker (SendOk list acc i) (λ s. SendOk list acc i (own.settle_send req number s))
     (λ s. settled_send list acc i req number s stands) m.sends.queue h.sends)) h
 
-settled_ok : (rules : Rules) (list : List Entry) (acc i : ℕ) (m : Node) (w : Option OwnSend) → NodeOk rules list acc i m → NodeOk rules list acc i (settle_waiting m w)
+settled_ok : (rules : Rules) (list : List Entry) (acc i : ℕ) (m : Node) (w : Option OwnSend) → NodeOk rules list acc i m
+    → NodeOk rules list acc i (settle_waiting m w)
 settled_ok rules list acc i m None h = h
 settled_ok rules list acc i m (Some s) h = settled_at_ok rules list acc i m s.req (accepted_at m s.req) refl h
 

@@ -9,14 +9,12 @@ use Rattle.am_base.specs.declared.entry.Entry.{Entry}
 use Rattle.am_base.specs.declared.entry.Entry.TheVariants.{Data, Join, Leave, View}
 use Rattle.am_base.specs.Founding.{Rules}
 use Rattle.am_base.specs.Names.{life_of}
-use Rattle.am_base.specs.Lists.{Log, blank, fold, after, fits, at_place}
+use Rattle.am_base.specs.Lists.{Log, blank, fold, after, fits, at_place, requests_of, request_in}
 use Rattle.am_sender.specs.Sends as own
 use Rattle.am_model.specs.Node as nodes
-use Rattle.am_model.specs.Node.{Node, top, own_row, is_member, is_sequencer, push_entry, waiting, founders_view, founding_stamp}
+use Rattle.am_model.specs.Node.{Node, top, is_member, push_entry, founders_view, founding_stamp, has_log}
 use Rattle.am_model.specs.Receiving.{is_view}
-use Rattle.am_model.specs.Group.{has_log}
-use Rattle.am_model.specs.Claims.{requests_of, request_in}
-use Rattle.am_model.proofs.Greatest.{split}
+use Rattle.am_base.proofs.Greatest.{split}
 use Rattle.am_chain_lists.specs.Whole.{IsGood, image_of, mem, SmallName}
 use Rattle.am_chain_lists.proofs.Members.{good_push}
 use Rattle.am_effects.proofs.Items.{get_last}

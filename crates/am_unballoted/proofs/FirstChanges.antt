@@ -12,7 +12,7 @@ use Rattle.am_base.specs.declared.outcome.Outcome.{Outcome}
 use Rattle.am_base.specs.Founding.{Rules}
 use Rattle.am_base.specs.Names.{life_of}
 use Rattle.am_base.specs.Stamps.{stamp_eq}
-use Rattle.am_base.specs.Lists.{Log, fits, at_place, row_of}
+use Rattle.am_base.specs.Lists.{Log, fits, at_place, row_of, requests_of}
 use Rattle.am_core.specs.Cores.{accept, pass_over}
 use Rattle.am_fronts.specs.Refresh.{own_report, tell, go_on, let_go}
 use Rattle.am_sender.specs.declared.OwnSend.{OwnSend}
@@ -20,13 +20,11 @@ use Rattle.am_sender.specs.Sends as own
 use Rattle.am_model.specs.declared.status.Status.{Status}
 use Rattle.am_model.specs.declared.status.Status.TheVariants as status
 use Rattle.am_model.specs.Node as nodes
-use Rattle.am_model.specs.Node.{Node, top, view, own_row, is_member, is_asking, acts, is_sequencer, push_entry, waiting, founding_stamp}
+use Rattle.am_model.specs.Node.{Node, top, view, is_member, is_asking, acts, is_sequencer, push_entry, waiting, founding_stamp, has_log}
 use Rattle.am_model.specs.Refresh.{advance, lead, refresh, accepted_at, settle_at, settle_waiting, settle, refresh_at_end}
 use Rattle.am_model.specs.Receiving.{is_view}
 use Rattle.am_model.specs.Hearing.{hears_member, hears_in_view, hears_sequencer}
-use Rattle.am_model.specs.Group.{has_log}
-use Rattle.am_model.specs.Claims.{requests_of}
-use Rattle.am_model.proofs.Greatest.{split, and_both}
+use Rattle.am_base.proofs.Greatest.{split, and_both}
 use Rattle.am_chain_lists.specs.Whole.{image_of, mem}
 use Rattle.am_chain_lists.proofs.Rows as rows
 use Rattle.am_chain_lists.proofs.Members.{mem_in, in_mem, mem_push}
@@ -152,7 +150,8 @@ first_settled_at rules m s (Some k) w is n h =
       low = omega arith;
     }) h
 
-first_settled : (rules : Rules) (m : Node) (w : Option OwnSend) → waiting m ≡ w → NodeOk rules m.core.log.entries m.core.acc (first_of rules) (settle_waiting m w)
+first_settled : (rules : Rules) (m : Node) (w : Option OwnSend) → waiting m ≡ w
+    → NodeOk rules m.core.log.entries m.core.acc (first_of rules) (settle_waiting m w)
     → FirstBase rules m → FirstBase rules (settle_waiting m w)
 first_settled rules m None w n h = h
 first_settled rules m (Some s) w n h = first_settled_at rules m s (accepted_at m s.req) w refl n h
@@ -174,7 +173,8 @@ row_is image name some = split ((at_place image name).life == life_of name)
     (λ f. let none = rw f at some in absurd (omega arith))
 
 -- a name whose Join stands and which hasn't left is a member
-known_member : (list : List Entry) (name : ℕ) → ((row_of (image_of list) name).joined == 0) ≡ false → (row_of (image_of list) name).left ≡ 0 → mem list name ≡ true
+known_member : (list : List Entry) (name : ℕ) → ((row_of (image_of list) name).joined == 0) ≡ false → (row_of (image_of list) name).left ≡ 0 → mem list name
+    ≡ true
 known_member list name known stays =
     let some : 0 < (row_of (image_of list) name).joined = grind (arith, nat_tests) in
     let r = row_is (image_of list) name some in

@@ -5,7 +5,7 @@ use Rattle.std.specs.List.{range_with_len}
 use Rattle.std.proofs.lemmas.Bool.Decides.{nat_tests}
 use Rattle.am_base.specs.declared.entry.Entry.{Entry}
 use Rattle.am_model.specs.Node.{set_at}
-use Rattle.am_model.specs.AbstractGroup.{Group, Move, append, Grows, none, more}
+use Rattle.am_play.specs.AbstractGroup.{Group, Move, append, Grows, none, more}
 
 pub map_same : {A : Type 0} (f g : ℕ → A) (a n : ℕ) → ((j : ℕ) → a ≤ j → f j ≡ g j) → map f (range_with_len a n) ≡ map g (range_with_len a n)
 map_same f g a zero h = refl

@@ -13,10 +13,10 @@ use Rattle.am_group.specs.declared.event.Record.{Record}
 use Rattle.am_group.specs.Deliveries.{name_of, taken_in, given_to, deliveries}
 use Rattle.am_model.specs.Node.{Node, set_at}
 use Rattle.am_model.specs.Emit.{Step}
-use Rattle.am_model.specs.World.{World, record_of, group_after, with_step}
-use Rattle.am_model.specs.Group.{accepted_sends}
-use Rattle.am_model.specs.Claims.{welcomes}
-use Rattle.am_model.proofs.Greatest.{split}
+use Rattle.am_play.specs.World.{World, record_of, group_after, with_step}
+use Rattle.am_play.specs.Group.{accepted_sends}
+use Rattle.am_play.specs.Claims.{welcomes}
+use Rattle.am_base.proofs.Greatest.{split}
 use Rattle.am_effects.specs.Causes.{Cause}
 use Rattle.am_effects.specs.Effects.{Answers}
 use Rattle.am_effects.specs.Events.{actor, IsCause, IsIdle}

@@ -6,10 +6,11 @@ use Rattle.am_base.specs.Founding.{Rules}
 use Rattle.am_base.specs.Lists.{blank, AllFit}
 use Rattle.am_group.specs.Journals.{item_at}
 use Rattle.am_group.specs.Deliveries.{deliveries}
-use Rattle.am_model.specs.World.{World, run}
-use Rattle.am_model.specs.Group.{accepted_sends, has_log}
-use Rattle.am_model.specs.Claims.{BeginsAt, UnballotedHolds}
-use Rattle.am_model.proofs.Greatest.{split}
+use Rattle.am_play.specs.World.{World, run}
+use Rattle.am_play.specs.Group.{accepted_sends}
+use Rattle.am_model.specs.Node.{has_log}
+use Rattle.am_play.specs.Claims.{BeginsAt, UnballotedHolds}
+use Rattle.am_base.proofs.Greatest.{split}
 use Rattle.am_chain_lists.proofs.Members.{good_begins}
 use Rattle.am_chain_lists.proofs.Prefixes.{begins_take}
 use Rattle.am_orders.proofs.Turns.{senders_in_order, send_stands_once}

@@ -15,7 +15,7 @@ use Rattle.am_base.specs.Lists.{blank, blank_row, fold, after, at_place, with_ro
 use Rattle.am_group.specs.Journals.{item_at}
 use Rattle.am_model.specs.Node.{founders_view, founding_stamp}
 use Rattle.am_model.specs.Receiving.{is_view}
-use Rattle.am_model.proofs.Greatest.{split}
+use Rattle.am_base.proofs.Greatest.{split}
 use Rattle.am_chain_lists.specs.Whole.{image_of}
 use Rattle.am_chain_lists.proofs.Rows.{row_at, row_set, row_view}
 use Rattle.am_chain_lists.proofs.Members.{told_push, long_told}

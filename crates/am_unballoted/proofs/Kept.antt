@@ -18,8 +18,7 @@ use Rattle.am_group.specs.Addressed.{is_for}
 use Rattle.am_group.specs.Journals.{item_at}
 use Rattle.am_sender.specs.declared.OwnSend.{OwnSend}
 use Rattle.am_model.specs.declared.status.Status.{Status}
-use Rattle.am_model.specs.Node.{Node, founding_stamp}
-use Rattle.am_model.specs.Group.{has_log}
+use Rattle.am_model.specs.Node.{Node, founding_stamp, has_log}
 use Rattle.am_effects.specs.Causes.{Cause, calls, hears, refuses}
 use Rattle.am_chain_lists.specs.Whole.{image_of}
 use Rattle.am_unballoted.proofs.Lists.{item_more, Within, within_more}

@@ -15,12 +15,11 @@ use Rattle.am_group.specs.declared.event.Event.{Event}
 use Rattle.am_group.specs.Journals.{item_at}
 use Rattle.am_group.specs.Groups.{above, numbered_entry, with_admitted}
 use Rattle.am_group.specs.Deliveries.{taken_in}
-use Rattle.am_model.specs.Node.{Node, view, set_at}
-use Rattle.am_model.specs.World.{World, start, record_of, group_after, with_record, with_step, happens, run}
-use Rattle.am_model.specs.Group.{has_log}
-use Rattle.am_model.specs.AbstractGroup.{Group, next_of, admit, Grows, none, GivesOut, front_of, group_of}
-use Rattle.am_model.specs.Claims.{NoBallot, MovesOn, UnballotedMoves}
-use Rattle.am_model.proofs.Greatest.{split}
+use Rattle.am_model.specs.Node.{Node, view, set_at, has_log}
+use Rattle.am_play.specs.World.{World, start, record_of, group_after, with_record, with_step, happens, run}
+use Rattle.am_play.specs.AbstractGroup.{Group, next_of, admit, Grows, none, GivesOut, front_of, group_of}
+use Rattle.am_play.specs.Claims.{NoBallot, MovesOn, UnballotedMoves}
+use Rattle.am_base.proofs.Greatest.{split}
 use Rattle.am_effects.specs.Causes.{Cause}
 use Rattle.am_effects.specs.Effects.{Answers}
 use Rattle.am_effects.specs.Events.{actor, Happens, idles, stops, returns, steps}
@@ -173,7 +172,8 @@ moves_step rules list next acc to w v i n c o small h low k high is grew none_ a
     let mid : Group = record { entries = group_after w.group n; fronts = fronts_of w.nodes } in
     let blank : slice_get mid.fronts i ≡ Some None = front_get w.nodes i small ∙ ap Some (no_front m lm) in
     let new : Some (join - 1) ≡ front_of n = sym (log_front n ln ∙ ap Some f) in
-    let fronts : with_admitted mid.fronts i join ≡ fronts_of (set_at w.nodes i n) = ap (slice_set (fronts_of w.nodes) i) new ∙ sym (fronts_set w.nodes i n small) in
+    let fronts : with_admitted mid.fronts i join ≡ fronts_of (set_at w.nodes i n) = ap (slice_set (fronts_of w.nodes) i) new
+    ∙ sym (fronts_set w.nodes i n small) in
     let grown_ : Grows g mid = grows_to w.group (fronts_of w.nodes) (fronts_of w.nodes) n refl in
     let welcomed : Grows g (record mid { fronts = with_admitted mid.fronts i join }) = then_more grown_ (admit {g = mid} i join blank up (omega arith)) in
     record {

@@ -15,13 +15,12 @@ use Rattle.am_group.specs.declared.event.Record.{Record}
 use Rattle.am_group.specs.Journals.{item_at}
 use Rattle.am_model.specs.declared.status.Status.{Status}
 use Rattle.am_model.specs.declared.status.Status.TheVariants as status
-use Rattle.am_model.specs.Node.{Node, Ballot, top, is_member, is_sequencer, push_entry, trim_up_to, founding_stamp}
+use Rattle.am_model.specs.Node.{Node, Ballot, top, is_member, is_sequencer, push_entry, trim_up_to, founding_stamp, has_log}
 use Rattle.am_model.specs.Refresh.{advance, refresh}
 use Rattle.am_model.specs.Ballots.{Verdict}
 use Rattle.am_model.specs.Receiving.{body_of}
 use Rattle.am_model.specs.Joining.{begin_list}
-use Rattle.am_model.specs.Group.{has_log}
-use Rattle.am_model.proofs.Greatest.{split, and_both}
+use Rattle.am_base.proofs.Greatest.{split, and_both}
 use Rattle.am_effects.specs.Causes.{Cause, BringsFronts, with_entry, with_number, alone}
 use Rattle.am_effects.specs.Looks.{Looks, finds_itself_out}
 use Rattle.am_effects.specs.Changes.{Carries, whole_entry, by_number, Promises, invited, overtaken, told_result, Change, refreshes, settles, takes_report}

@@ -16,9 +16,9 @@ use Rattle.am_group.specs.Journals.{letter_at}
 use Rattle.am_group.specs.Deliveries.{name_of, taken_in, given_to, deliveries}
 use Rattle.am_group.proofs.Places.{get_before}
 use Rattle.am_model.specs.Node.{Node}
-use Rattle.am_model.specs.Group.{Accepted, sent_in, accepted_sends}
-use Rattle.am_model.specs.Claims.{heard_by, is_welcome, welcomed_in}
-use Rattle.am_model.proofs.Greatest.{split}
+use Rattle.am_play.specs.Group.{Accepted, sent_in, accepted_sends}
+use Rattle.am_play.specs.Claims.{heard_by, is_welcome, welcomed_in}
+use Rattle.am_base.proofs.Greatest.{split}
 use Rattle.am_effects.specs.Events.{IsIdle}
 use Rattle.am_unballoted.proofs.Kept.{at_more}
 use Rattle.am_unballoted.proofs.Worlds.{GivenOk, RecordOk, StandsAt}

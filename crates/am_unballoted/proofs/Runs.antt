@@ -9,9 +9,9 @@ use Rattle.am_base.specs.Lists.{fold, AllFit, fits, top_of}
 use Rattle.am_core.specs.Cores.{CoreState}
 use Rattle.am_group.specs.declared.event.Event.{Event}
 use Rattle.am_model.specs.Node.{Node, set_at, founder, stranger, founders_view, founding_stamp}
-use Rattle.am_model.specs.World.{World, start, record_of, with_record, with_step, run}
-use Rattle.am_model.specs.Claims.{NoBallot}
-use Rattle.am_model.proofs.Greatest.{split}
+use Rattle.am_play.specs.World.{World, start, record_of, with_record, with_step, run}
+use Rattle.am_play.specs.Claims.{NoBallot}
+use Rattle.am_base.proofs.Greatest.{split}
 use Rattle.am_effects.specs.Events.{actor, idles, stops, returns, steps}
 use Rattle.am_effects.proofs.Runs.{EachKeeps, runs_keep}
 use Rattle.am_chain_lists.specs.Whole.{IsGood, AllSmall, mem}

@@ -17,9 +17,9 @@ use Rattle.am_packet.specs.Boxes.{Letter}
 use Rattle.am_packet.specs.Kinds.{goes_to_any}
 use Rattle.am_group.specs.Journals.{item_at}
 use Rattle.am_model.specs.Node as nodes
-use Rattle.am_model.specs.Node.{Node, Ballot, top, only_name, is_member, is_sequencer, acts, founding_stamp, founders_view}
+use Rattle.am_model.specs.Node.{Node, only_name, is_member, is_sequencer, acts, founding_stamp, founders_view}
 use Rattle.am_model.specs.Ticks.{viewed_by}
-use Rattle.am_model.proofs.Greatest.{split, and_both}
+use Rattle.am_base.proofs.Greatest.{split, and_both}
 use Rattle.am_chain_lists.specs.Whole.{image_of}
 use Rattle.am_chain_lists.proofs.Rows.{row_at, row_set}
 use Rattle.am_chain_lists.proofs.Members.{told_push, long_told}
@@ -104,7 +104,8 @@ first_image rules list acc i m n base h f =
     ∙ ap (λ k. fold blank 1 (take k n.core.log.entries)) many
     ∙ ap (λ l. fold blank 1 (take base l)) (sym f.list_)
 
-first_told : (rules : Rules) (list : List Entry) (acc i : ℕ) (m n : Node) → Sends rules list acc i m n → IsFirst rules list acc m n → nodes.image_of n ≡ image_of list
+first_told : (rules : Rules) (list : List Entry) (acc i : ℕ) (m n : Node) → Sends rules list acc i m n → IsFirst rules list acc m n → nodes.image_of n
+    ≡ image_of list
 unfolding fold
 first_told rules list acc i m n h f =
     let image : n.core.log.image ≡ blank = h.log.image ∙ ap (λ k. image_of (take k list)) f.start in
@@ -166,7 +167,8 @@ welcome_says rules list acc i m n s h f t (asks_again same lives some stays low 
     let alive = row.lives up in
     let life_ : (at_place (nodes.image_of m) s).life ≡ life_of s = lives (λ z. (let e = ap (λ (r : Row). r.life) is_q in let y : ⊥ = omega arith in y)) in
     let life : (at_place (image_of list) s).life ≡ life_of s = sym (ap (λ (r : Row). r.life) is_q) ∙ life_ in
-    let now : ((at_place (nodes.image_of n) s).life == life_of s) ≡ true = (let e = ap (λ x. (at_place x s).life) (ap told_by same) in grind (arith, nat_tests)) in
+    let now : ((at_place (nodes.image_of n) s).life == life_of s)
+    ≡ true = (let e = ap (λ x. (at_place x s).life) (ap told_by same) in grind (arith, nat_tests)) in
     let is : row_of (nodes.image_of n) s ≡ at_place (image_of list) s = rw now (ap (λ x. at_place x s) (first_told rules list acc i m n h f)) in
     let joined = ap (λ (r : Row). r.joined) is in
     let joined_q = ap (λ (r : Row). r.joined) is_q in

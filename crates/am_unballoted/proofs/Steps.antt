@@ -13,8 +13,8 @@ use Rattle.am_base.specs.Lists.{Log, entry_at}
 use Rattle.am_group.specs.Journals.{item_at}
 use Rattle.am_group.specs.Deliveries.{taken_in}
 use Rattle.am_model.specs.Node.{Node}
-use Rattle.am_model.specs.Group.{sent_in}
-use Rattle.am_model.proofs.Greatest.{split}
+use Rattle.am_play.specs.Group.{sent_in}
+use Rattle.am_base.proofs.Greatest.{split}
 use Rattle.am_core.proofs.Ends.{entry-get}
 use Rattle.am_effects.specs.Causes.{Cause}
 use Rattle.am_effects.specs.Effects.{Answers, HasTaken, AnswersAsk, WasSettled}

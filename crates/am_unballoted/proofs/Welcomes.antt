@@ -13,11 +13,10 @@ use Rattle.am_group.specs.declared.event.Act.{Act}
 use Rattle.am_group.specs.declared.event.Record.{Record}
 use Rattle.am_group.specs.Journals.{letter_at}
 use Rattle.am_group.specs.Deliveries.{name_of}
-use Rattle.am_model.specs.Node.{Node}
-use Rattle.am_model.specs.World.{World}
-use Rattle.am_model.specs.Group.{has_log}
-use Rattle.am_model.specs.Claims.{heard_by, is_welcome, welcomed_in}
-use Rattle.am_model.proofs.Greatest.{split}
+use Rattle.am_model.specs.Node.{Node, has_log}
+use Rattle.am_play.specs.World.{World}
+use Rattle.am_play.specs.Claims.{heard_by, is_welcome, welcomed_in}
+use Rattle.am_base.proofs.Greatest.{split}
 use Rattle.am_effects.specs.Causes.{Cause, calls, hears, refuses}
 use Rattle.am_effects.specs.Effects.{Answers, HasBegun}
 use Rattle.am_effects.specs.Events as event

@@ -11,11 +11,11 @@ use Rattle.am_group.specs.declared.event.Act.{Act}
 use Rattle.am_group.specs.declared.event.Act.TheVariants as act
 use Rattle.am_group.specs.declared.event.Record.{Record}
 use Rattle.am_group.specs.Deliveries.{name_of, deliveries}
-use Rattle.am_model.specs.Node.{Node, set_at}
-use Rattle.am_model.specs.World.{World}
-use Rattle.am_model.specs.Group.{Accepted, accepted_sends, has_log}
-use Rattle.am_model.specs.Claims.{IsSend, heard_by, welcomed_in, welcomes}
-use Rattle.am_model.proofs.Greatest.{split}
+use Rattle.am_model.specs.Node.{Node, set_at, has_log}
+use Rattle.am_play.specs.World.{World}
+use Rattle.am_play.specs.Group.{Accepted, accepted_sends}
+use Rattle.am_play.specs.Claims.{IsSend, heard_by, welcomed_in, welcomes}
+use Rattle.am_base.proofs.Greatest.{split}
 use Rattle.am_effects.proofs.Items.{get_push}
 use Rattle.am_unballoted.proofs.Kept.{first_of, At, NodeOk, LetterOk}
 use Rattle.am_unballoted.proofs.Others.{Unique}

@@ -1,7 +1,7 @@
 //! Runs in which nobody began a ballot, whoever stops: what holds of each of them, proved on the definitions alone.
 #![tactic(auto)]
 
-ghost use Rattle.am_model.specs.Claims.{UnballotedHolds, UnballotedMoves};
+ghost use Rattle.am_play.specs.Claims.{UnballotedHolds, UnballotedMoves};
 
 /// Each name is given a gapless segment of the group's list, which has each accepted send once, and only what was sent before, each
 /// sender's requests in turn; and no node keeps more than the bound.

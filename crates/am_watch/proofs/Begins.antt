@@ -11,8 +11,8 @@ use Rattle.am_base.specs.Founding.{Rules, MayFound}
 use Rattle.am_base.specs.Stamps.{stamp_lt}
 use Rattle.am_model.specs.declared.status.Status.TheVariants.{Member}
 use Rattle.am_model.specs.Node.{founder, stranger, founding_stamp}
-use Rattle.am_model.specs.World.{first_node}
-use Rattle.am_model.proofs.Greatest.{split}
+use Rattle.am_play.specs.World.{first_node}
+use Rattle.am_base.proofs.Greatest.{split}
 use Rattle.am_watch.specs.Watching as kept
 use Rattle.am_watch.specs.Watching.{blank_standing, standing, first_standing, first_view, first_watching}
 use Rattle.am_watch.specs.Watches.{standing_of, Each, BeginningIsWatched}
@@ -47,7 +47,8 @@ standing_first rules name may = elim (cases_lt name 256) [
   | inl low ↦ get_or-map-range_with_len (first_standing rules) 0 256 name name blank_standing low (omega arith) ∙ first_shown rules name
   | inr high ↦ (
       let long = length-map-range_with_len (first_standing rules) 0 256 in
-      let past : standing (first_watching rules) name ≡ blank_standing = get_or_past (map (first_standing rules) (range_with_len 0 256)) name blank_standing (omega arith) in
+      let past : standing (first_watching rules) name ≡ blank_standing = get_or_past (map (first_standing rules) (range_with_len 0 256)) name blank_standing
+      (omega arith) in
       past ∙ ap (λ b. if b then record { status = Member; view = founding_stamp rules; start = 1; from = 0 } else blank_standing)
       (sym (nobody_else rules name may high)) ∙ first_shown rules name)
 ]

@@ -7,9 +7,10 @@ use Rattle.am_base.specs.declared.name.Stamp.{Stamp}
 use Rattle.am_base.specs.declared.entry.Entry.{Entry}
 use Rattle.am_base.specs.Names.{has, size, names_of}
 use Rattle.am_base.specs.Stamps.{stamp_lt}
-use Rattle.am_model.specs.World.{World, has_departed}
-use Rattle.am_model.specs.Lawful as law
-use Rattle.am_model.specs.Lawful.{is_view_of}
+use Rattle.am_play.specs.World.{World}
+use Rattle.am_model.specs.Node.{has_departed}
+use Rattle.am_play.specs.Lawful as law
+use Rattle.am_play.specs.Lawful.{is_view_of}
 use Rattle.am_watch.specs.declared.views.DecidedView.{DecidedView}
 use Rattle.am_watch.specs.declared.views.Standing.{Standing}
 use Rattle.am_watch.specs.declared.views.Pending.{Pending}

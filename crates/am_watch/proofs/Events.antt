@@ -6,10 +6,10 @@ use Rattle.am_base.specs.declared.outcome.Outcome.{Outcome}
 use Rattle.am_group.specs.declared.event.Event.{Event}
 use Rattle.am_model.specs.Node.{Node, view}
 use Rattle.am_model.specs.Emit.{Step}
-use Rattle.am_model.specs.World as run
-use Rattle.am_model.specs.World.{World, with_record, lives_on, current, is_stopped, group_after, happens}
-use Rattle.am_model.specs.Lawful.{Watch, watch}
-use Rattle.am_model.proofs.Greatest.{split}
+use Rattle.am_play.specs.World as run
+use Rattle.am_play.specs.World.{World, with_record, lives_on, current, is_stopped, group_after, happens}
+use Rattle.am_play.specs.Lawful.{Watch, watch}
+use Rattle.am_base.proofs.Greatest.{split}
 use Rattle.am_watch.specs.Watches.{after, additions, SameBut, SteppedTo}
 
 -- the watched run after an event

@@ -3,10 +3,10 @@ use Rattle.std.proofs.Common.{◌≡◌, ℕ, ◌+◌, Bool, true, false, ◌&&�
 use Rattle.std.proofs.Common.{Option, Some, None, refl, sym, ap, ◌∙◌, subst}
 use Rattle.am_base.specs.declared.entry.Entry.{Entry}
 use Rattle.am_base.specs.Stamps.{stamp_lt}
-use Rattle.am_model.specs.World.{Decided, World}
-use Rattle.am_model.specs.Lawful as law
-use Rattle.am_model.specs.Lawful.{Watch}
-use Rattle.am_model.proofs.Greatest.{split}
+use Rattle.am_play.specs.World.{Decided, World}
+use Rattle.am_play.specs.Lawful as law
+use Rattle.am_play.specs.Lawful.{Watch}
+use Rattle.am_base.proofs.Greatest.{split}
 use Rattle.am_watch.specs.declared.views.DecidedView.{DecidedView}
 use Rattle.am_watch.specs.declared.views.Pending.{Pending}
 use Rattle.am_watch.specs.Watching as kept

@@ -4,8 +4,8 @@ use Rattle.std.proofs.lemmas.Bool.Decides.{nat_tests}
 use Rattle.std.specs.List.{list_any}
 use Rattle.am_base.specs.declared.name.Stamp.{Stamp}
 use Rattle.am_base.specs.declared.entry.Entry.{Entry}
-use Rattle.am_model.specs.Lawful.{is_view_of}
-use Rattle.am_model.proofs.Greatest.{split}
+use Rattle.am_play.specs.Lawful.{is_view_of}
+use Rattle.am_base.proofs.Greatest.{split}
 use Rattle.am_watch.specs.Watching.{is_by, or_else, number_of}
 
 le_false : (a b : ℕ) → b < a → nat_le a b ≡ false

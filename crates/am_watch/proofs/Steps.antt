@@ -14,17 +14,18 @@ use Rattle.am_base.specs.declared.entry.Entry.{Entry}
 use Rattle.am_base.specs.declared.entry.Entry.TheVariants.{Data, Join, Leave, View}
 use Rattle.am_base.specs.Names.{has, size, names_of}
 use Rattle.am_base.specs.Stamps.{stamp_lt, stamp_eq}
-use Rattle.am_model.specs.Node.{Node, view, is_member, set_at}
-use Rattle.am_model.specs.World as run
-use Rattle.am_model.specs.World.{Decided, World, has_departed, last_view, views_after}
-use Rattle.am_model.specs.Lawful.{Watch, is_view_of}
-use Rattle.am_model.proofs.Greatest.{split, and_both}
+use Rattle.am_model.specs.Node.{Node, view, is_member, set_at, has_departed}
+use Rattle.am_play.specs.World as run
+use Rattle.am_play.specs.World.{Decided, World, last_view}
+use Rattle.am_play.specs.Lawful.{Watch, is_view_of}
+use Rattle.am_base.proofs.Greatest.{split, and_both}
 use Rattle.am_watch.specs.declared.views.DecidedView.{DecidedView}
 use Rattle.am_watch.specs.declared.views.Standing.{Standing}
 use Rattle.am_watch.specs.declared.views.Pending.{Pending}
 use Rattle.am_watch.specs.Watching as kept
-use Rattle.am_watch.specs.Watching.{Watching, blank_standing, standing, is_by, number_of, or_else, same_flag, is_alike, with_standing, new_pending, decided_views, with_decided}
-use Rattle.am_watch.specs.Watching.{with_entries, store_view, note_entries, note_entry, is_view, finish, watch_step, stop, pass, look, place_among, accept}
+use Rattle.am_watch.specs.Watching.{Watching, blank_standing, standing, is_by, number_of, or_else, same_flag, is_alike, with_standing, new_pending}
+use Rattle.am_watch.specs.Watching.{decided_views, with_decided}
+use Rattle.am_watch.specs.Watching.{with_entries, store_view, note_entries, note_entry, is_view, finish, watch_step, stop, pass, place_among, accept}
 use Rattle.am_watch.specs.Watches.{standing_of, view_of, decided_of, has_in_list, comes_after, Each, Sees, IsNoted, WatchesUpTo, Watches, after, IsNew, Steps}
 use Rattle.am_watch.specs.Watches.{SteppedTo, SameBut, StepsAreWatched, StopsAreWatched, OthersAreWatched, EntriesGoOn, AcceptedGoesOn}
 use Rattle.am_watch.proofs.Order.{same_stamp}
@@ -189,7 +190,8 @@ noted_is name (Data from req body ∷ es) ps = noted_is name es ps
 noted_is name (Join joiner ∷ es) ps = noted_is name es ps
 noted_is name (Leave leaver ∷ es) ps = noted_is name es ps
 noted_is name (View stamp members resilience ∷ es) ps = noted_is name es (map (store_view name stamp) ps)
-    ∙ map_twice (entered name es) (store_view name stamp) (entered name (View stamp members resilience ∷ es)) (entered_twice name stamp members resilience es) ps
+    ∙ map_twice (entered name es) (store_view name stamp) (entered name (View stamp members resilience ∷ es)) (entered_twice name stamp members resilience es)
+    ps
 
 views_noted : (name : ℕ) (entries : List Entry) (ps : List Pending)
     → map (λ (p : Pending). decided_of p.view) (map (entered name entries) ps) ≡ map (λ (p : Pending). decided_of p.view) ps
@@ -225,7 +227,8 @@ pending_step k s w name n entries more is steps to =
     ∙ after_cases (run.decides m n) s.complete.stamp s.world.views (last_view n)
     ∙ ap (filter (comes_after s.complete.stamp)) (sym to.views)
 
-decided_each : (a c : Bool) (w : World) (n : Node) → (a ≡ true → IsNew w (view n)) → Each (IsNoted w w.group) (if a && c then new_pending (view_of n) ∷ [] else [])
+decided_each : (a c : Bool) (w : World) (n : Node) → (a ≡ true → IsNew w (view n))
+    → Each (IsNoted w w.group) (if a && c then new_pending (view_of n) ∷ [] else [])
 unfolding Each
 decided_each true true w n new = (is_new w n (new refl), tt)
 decided_each true false w n new = tt

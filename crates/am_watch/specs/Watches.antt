@@ -7,8 +7,8 @@ use Rattle.am_base.specs.declared.entry.Entry.{Entry}
 use Rattle.am_base.specs.Stamps.{stamp_lt}
 use Rattle.am_base.specs.Founding.{Rules, MayFound}
 use Rattle.am_model.specs.Node.{Node, image_of, view, members, set_at}
-use Rattle.am_model.specs.World.{Decided, World, decides, views_after}
-use Rattle.am_model.specs.Lawful.{Watch, watch_start, is_view_of, greatest_complete, watch_with}
+use Rattle.am_play.specs.World.{Decided, World, decides, views_after}
+use Rattle.am_play.specs.Lawful.{Watch, watch_start, is_view_of, greatest_complete, watch_with}
 use Rattle.am_watch.specs.declared.views.DecidedView.{DecidedView}
 use Rattle.am_watch.specs.declared.views.Standing.{Standing}
 use Rattle.am_watch.specs.declared.views.Pending.{Pending}

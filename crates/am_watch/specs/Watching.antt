@@ -11,9 +11,8 @@ use Rattle.am_base.specs.Names.{has, size, names_of}
 use Rattle.am_base.specs.Stamps.{stamp_lt, stamp_eq, no_stamp}
 use Rattle.am_base.specs.Founding.{Rules}
 use Rattle.am_model.specs.declared.status.Status.TheVariants.{Stranger, Member}
-use Rattle.am_model.specs.Node.{is_member, founding_stamp}
-use Rattle.am_model.specs.World.{has_departed}
-use Rattle.am_model.specs.Lawful.{is_view_of}
+use Rattle.am_model.specs.Node.{is_member, founding_stamp, has_departed}
+use Rattle.am_play.specs.Lawful.{is_view_of}
 use Rattle.am_watch.specs.declared.views.DecidedView.{DecidedView}
 use Rattle.am_watch.specs.declared.views.Standing.{Standing}
 use Rattle.am_watch.specs.declared.views.Pending.{Pending}

@@ -1,7 +1,6 @@
 ghost use Rattle.std.specs.Prelude.{◌≡◌, map, if◌then◌else◌};
 ghost use Rattle.am_base.specs.Stamps.{stamp_eq};
-ghost use Rattle.am_model.specs.Node.{is_member, founding_stamp};
-ghost use Rattle.am_model.specs.World.{has_departed};
+ghost use Rattle.am_model.specs.Node.{is_member, founding_stamp, has_departed};
 ghost use Rattle.am_watch.specs.Watching.{blank_standing, first_standing, first_view, same_flag, is_alike, decides, new_pending, store_view, or_else, place_view};
 
 use am_base::founding::Founding;

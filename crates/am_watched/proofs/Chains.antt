@@ -10,12 +10,11 @@ use Rattle.am_base.specs.Lists.{Log}
 use Rattle.am_packet.specs.declared.packet.Packet.TheVariants as packet
 use Rattle.am_model.specs.declared.status.Status.{Status}
 use Rattle.am_model.specs.declared.status.Status.TheVariants as status
-use Rattle.am_model.specs.Node.{Node, Ballot, view, acts, is_sequencer, is_member, is_asking, push_entry}
+use Rattle.am_model.specs.Node.{Node, Ballot, view, acts, is_sequencer, is_member, is_asking, push_entry, has_log}
 use Rattle.am_model.specs.Ballots.{Verdict}
 use Rattle.am_model.specs.Refresh.{refresh, settle}
 use Rattle.am_model.specs.Hearing.{hears_member, hears_in_view, hears_sequencer}
-use Rattle.am_model.specs.Group.{has_log}
-use Rattle.am_model.proofs.Greatest.{split, and_both}
+use Rattle.am_base.proofs.Greatest.{split, and_both}
 use Rattle.am_effects.specs.Causes.{Cause, hears}
 use Rattle.am_effects.specs.Looks.{HasOpen, Balloting, with_more, without_one, as_it_is, Looks, finds_itself_out}
 use Rattle.am_effects.specs.Looks.{decides}
@@ -122,7 +121,8 @@ change_begins g heard x y refreshes h = let e = ap (λ (l : Log). l.start) (rest
 change_begins g heard x y settles h = let e = ap (λ (n : Node). n.core.log.start) (settle_is x) in omega arith
 change_begins g heard x y (begins_list s v base join image is o may) h = heard.welcome s v base join image is
 change_begins g heard x y (looks b verdict over why look is) h = look_begins g x b verdict look h
-change_begins g heard x y (closes leads leaves alone room) h = let e = ap (λ (l : Log). l.start) (rests_at_end (push_entry x (Leave x.core.who))).log in omega arith
+change_begins g heard x y (closes leads leaves alone room) h = let e = ap (λ (l : Log). l.start) (rests_at_end (push_entry x (Leave x.core.who))).log in omega
+    arith
 change_begins g heard x y _ h = h
 
 -- a list that is there begins where it did

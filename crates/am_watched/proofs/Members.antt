@@ -12,13 +12,12 @@ use Rattle.am_base.specs.declared.event.NodeEvent.TheVariants as does
 use Rattle.am_base.specs.Stamps.{stamp_lt, stamp_eq}
 use Rattle.am_base.specs.Lists.{Log, members_of, fits, entry_at, told_by}
 use Rattle.am_packet.specs.declared.packet.Packet.TheVariants as packet
-use Rattle.am_model.specs.Node.{Node, Ballot, top, image_of, view, members, unsettled_count, push_entry, trim_up_to}
+use Rattle.am_model.specs.Node.{Node, Ballot, top, image_of, view, members, unsettled_count, push_entry, trim_up_to, has_log}
 use Rattle.am_model.specs.Ballots.{Verdict, overtake, need_of, left_in, trim_for}
 use Rattle.am_model.specs.Calls.{is_unfinished}
-use Rattle.am_model.specs.Group.{has_log}
 use Rattle.am_model.specs.Receiving.{is_view}
 use Rattle.am_model.specs.Refresh.{refresh}
-use Rattle.am_model.proofs.Greatest.{split, and_both}
+use Rattle.am_base.proofs.Greatest.{split, and_both}
 use Rattle.am_effects.specs.Causes.{Cause, calls, hears}
 use Rattle.am_effects.specs.Looks.{was_reset, was_handed, was_fetched, HasOpen, Balloting, with_more, without_one, as_it_is, Looks, finds_itself_out}
 use Rattle.am_effects.specs.Looks.{decides}
@@ -204,8 +203,8 @@ carried_alters : (c : Cause) (m : Node) (s : ℕ) (v : Stamp) (base acc number :
 carried_alters c m s v base acc number e (whole_entry x is) = subst Alters (sym is) tt
 carried_alters c m s v base acc number e (by_number from req body is found) = subst Alters (sym is) tt
 
-look_viewed : (c : Cause) (old : Stamp) (m : Node) (b : Ballot) (v : Verdict) → Looks m b v → LooksBy c b.stamp → m.leaving ≡ false → length (image_of m).rows ≡ 16
-    → b.votes m.core.who ≡ None → Viewed c old m → Viewed c old v.node
+look_viewed : (c : Cause) (old : Stamp) (m : Node) (b : Ballot) (v : Verdict) → Looks m b v → LooksBy c b.stamp → m.leaving ≡ false → length (image_of m).rows
+    ≡ 16 → b.votes m.core.who ≡ None → Viewed c old m → Viewed c old v.node
 look_viewed c old m b v (decides may) by stays long none h =
     let test : ℕ → Bool = λ name. not (b.given_up name) in
     let names = left_in b (need_of m b) in
@@ -253,8 +252,8 @@ fetch_viewed c old nodes name m s v base number (View stamp names resilience) is
     (λ f. of_other (ap (λ (x : Stamp). x.by == m.core.who) last ∙ f))
 
 pub change_viewed : (nodes : ℕ → Node) (name : ℕ) (c : Cause) (o : Outcome) (old : Stamp) (m n : Node) → HeardOwn nodes c → Change c o m n
-    → has_log m.status ≡ true → m.core.who ≡ name → stamp_lt (view m) (view (nodes name)) ≡ false → length (image_of m).rows ≡ 16 → NoOwnVote m.core.who m.ballot
-    → Balloted m → Quiet m → Viewed c old m → Viewed c old n
+    → has_log m.status ≡ true → m.core.who ≡ name → stamp_lt (view m) (view (nodes name)) ≡ false → length (image_of m).rows ≡ 16
+    → NoOwnVote m.core.who m.ballot → Balloted m → Quiet m → Viewed c old m → Viewed c old n
 change_viewed nodes name c o old m n heard refreshes log who up long none k q h = let r = rests_refresh m in
     viewed_same c old m (refresh m) r.rests.who r.log r.rests.leaving h
 change_viewed nodes name c o old m n heard settles log who up long none k q h =

@@ -10,12 +10,11 @@ use Rattle.am_base.specs.Names.{has}
 use Rattle.am_base.specs.Stamps.{stamp_lt, stamp_eq}
 use Rattle.am_base.specs.Lists.{entry_at, after, fold}
 use Rattle.am_group.specs.declared.event.Event.{Event}
-use Rattle.am_model.specs.Node.{Node, image_of, view, set_at, is_member}
+use Rattle.am_model.specs.Node.{Node, image_of, view, set_at, is_member, has_log}
 use Rattle.am_model.specs.Emit.{Step}
-use Rattle.am_model.specs.Group.{has_log}
-use Rattle.am_model.specs.World.{Decided, World, start, first_node, founders_decided, last_view, views_after, with_record, with_step, run}
-use Rattle.am_model.specs.World as runs
-use Rattle.am_model.proofs.Greatest.{split, and_both}
+use Rattle.am_play.specs.World.{Decided, World, start, first_node, founders_decided, last_view, views_after, with_record, with_step, run}
+use Rattle.am_play.specs.World as runs
+use Rattle.am_base.proofs.Greatest.{split, and_both}
 use Rattle.am_effects.specs.Causes.{Cause}
 use Rattle.am_effects.specs.Changes.{Changes, unchanged as no_change, changed}
 use Rattle.am_effects.specs.Effects.{Effect}
@@ -130,7 +129,8 @@ decided_whole c m n t (of_other f) = absurd (
 decided_whole c m n t (decided fresh) = fresh.whole
 
 members_step : (rules : Rules) (w : World) (e : Event) (c : Cause) (s : Step) → IsCause w (actor w e) e.act c → Effect (w.nodes (actor w e)) c s
-    → AllOwn rules (with_step w e (actor w e) s) → AllOwned rules (with_step w e (actor w e) s) → AllMembers rules w → AllMembers rules (with_step w e (actor w e) s)
+    → AllOwn rules (with_step w e (actor w e) s) → AllOwned rules (with_step w e (actor w e) s) → AllMembers rules w
+    → AllMembers rules (with_step w e (actor w e) s)
 unfolding with_step
 members_step rules w e c s cause effect own owned h =
     let name = actor w e in

@@ -16,14 +16,13 @@ use Rattle.am_packet.specs.declared.packet.Packet.TheVariants as packet
 use Rattle.am_packet.specs.Boxes.{Letter}
 use Rattle.am_group.specs.declared.event.Event.{Event}
 use Rattle.am_model.specs.declared.status.Status.TheVariants as status
-use Rattle.am_model.specs.Node.{Node, view, acts, is_member, set_at, founders_view, lowest_or_first}
+use Rattle.am_model.specs.Node.{Node, view, acts, is_member, set_at, founders_view, lowest_or_first, has_log}
 use Rattle.am_model.specs.Emit.{Step}
-use Rattle.am_model.specs.Group.{has_log}
-use Rattle.am_model.specs.World as runs
-use Rattle.am_model.specs.World.{World, start, first_node, with_step, group_after, run}
-use Rattle.am_model.specs.Lawful.{is_view_of}
-use Rattle.am_model.specs.Claims.{heard_by}
-use Rattle.am_model.proofs.Greatest.{split, and_both}
+use Rattle.am_play.specs.World as runs
+use Rattle.am_play.specs.World.{World, start, first_node, with_step, group_after, run}
+use Rattle.am_play.specs.Lawful.{is_view_of}
+use Rattle.am_play.specs.Claims.{heard_by}
+use Rattle.am_base.proofs.Greatest.{split, and_both}
 use Rattle.am_effects.specs.Causes.{Cause}
 use Rattle.am_effects.specs.Letters.{MayTell, leads, decided, Says}
 use Rattle.am_effects.specs.Letters.{piece, result, LetterSays}

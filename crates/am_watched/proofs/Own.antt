@@ -14,12 +14,11 @@ use Rattle.am_base.specs.Stamps.{stamp_lt}
 use Rattle.am_base.specs.Lists.{Log}
 use Rattle.am_packet.specs.declared.packet.Packet.{Packet}
 use Rattle.am_packet.specs.declared.packet.Packet.TheVariants as packet
-use Rattle.am_model.specs.Node.{Node, Ballot, view, is_member, is_asking, push_entry}
+use Rattle.am_model.specs.Node.{Node, Ballot, view, is_member, is_asking, push_entry, has_log}
 use Rattle.am_model.specs.Ballots.{Verdict, next_stamp, need_of, left_in, trim_for}
 use Rattle.am_model.specs.Refresh.{refresh, settle}
 use Rattle.am_model.specs.Receiving.{is_view}
-use Rattle.am_model.specs.Group.{has_log}
-use Rattle.am_model.proofs.Greatest.{and_both}
+use Rattle.am_base.proofs.Greatest.{and_both}
 use Rattle.am_effects.specs.Causes.{Cause, hears}
 use Rattle.am_effects.specs.Looks.{HasOpen, Balloting, with_more, without_one, as_it_is, Looks}
 use Rattle.am_effects.specs.Looks.{decides}

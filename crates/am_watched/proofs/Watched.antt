@@ -6,11 +6,11 @@ use Rattle.am_base.specs.declared.entry.Entry.{Entry}
 use Rattle.am_base.specs.Founding.{Rules}
 use Rattle.am_group.specs.declared.event.Event.{Event}
 use Rattle.am_model.specs.Node.{Node, view}
-use Rattle.am_model.specs.World as runs
-use Rattle.am_model.specs.World.{World, run, happens, with_record, lives_on, current, is_stopped}
-use Rattle.am_model.specs.Lawful.{Watch, watch_start, watch, watch_all, watch_run, is_view_of}
-use Rattle.am_model.proofs.Greatest.{split}
-use Rattle.am_model.proofs.Runs.{watched_is_run}
+use Rattle.am_play.specs.World as runs
+use Rattle.am_play.specs.World.{World, run, happens, with_record, lives_on, current, is_stopped}
+use Rattle.am_play.specs.Lawful.{Watch, watch_start, watch, watch_all, watch_run, is_view_of}
+use Rattle.am_base.proofs.Greatest.{split}
+use Rattle.am_play.proofs.Runs.{watched_is_run}
 use Rattle.am_effects.specs.Events.{actor}
 use Rattle.am_watch.specs.Watching.{Watching, watch_step, stop, pass, accept}
 use Rattle.am_watch.specs.Watches.{Watches, standing_of, view_of, additions, after, IsNew, Steps, SteppedTo, SameBut}

@@ -3,10 +3,9 @@ use Rattle.std.specs.Prelude.{◌≡◌, true, false, ℕ, ◌<◌, ◌≤◌, L
 use Rattle.am_base.specs.declared.entry.Entry.{Entry}
 use Rattle.am_base.specs.Founding.{Rules, MayFound}
 use Rattle.am_group.specs.declared.event.Event.{Event}
-use Rattle.am_model.specs.Node.{Node}
+use Rattle.am_model.specs.Node.{Node, has_log}
 use Rattle.am_model.specs.Emit.{Step}
-use Rattle.am_model.specs.Group.{has_log}
-use Rattle.am_model.specs.World.{World, run, is_stopped}
+use Rattle.am_play.specs.World.{World, run, is_stopped}
 use Rattle.am_effects.specs.Causes.{Cause}
 use Rattle.am_effects.specs.Effects.{Effect}
 use Rattle.am_effects.specs.Events.{actor, IsCause}

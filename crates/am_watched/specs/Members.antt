@@ -4,7 +4,7 @@ use Rattle.am_base.specs.declared.entry.Entry.TheVariants.{View}
 use Rattle.am_base.specs.Founding.{Rules, MayFound}
 use Rattle.am_base.specs.Lists.{entry_at}
 use Rattle.am_group.specs.declared.event.Event.{Event}
-use Rattle.am_model.specs.World.{Decided, World, run}
+use Rattle.am_play.specs.World.{Decided, World, run}
 
 -- the View of a noted view, with its members, stands at its number in its coordinator's list
 abbrev pub StandsWhole : World → Decided → Type 0

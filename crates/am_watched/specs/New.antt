@@ -4,7 +4,7 @@ use Rattle.am_base.specs.Founding.{Rules, MayFound}
 use Rattle.am_group.specs.declared.event.Event.{Event}
 use Rattle.am_model.specs.Node.{view}
 use Rattle.am_model.specs.Emit.{Step}
-use Rattle.am_model.specs.World.{run, is_stopped, decides}
+use Rattle.am_play.specs.World.{run, is_stopped, decides}
 use Rattle.am_effects.specs.Causes.{Cause}
 use Rattle.am_effects.specs.Effects.{Effect}
 use Rattle.am_effects.specs.Events.{actor, IsCause}

@@ -5,9 +5,9 @@ use Rattle.am_base.specs.Founding.{Rules, MayFound}
 use Rattle.am_group.specs.declared.event.Event.{Event}
 use Rattle.am_model.specs.Node.{Node}
 use Rattle.am_model.specs.Emit.{Step}
-use Rattle.am_model.specs.World as runs
-use Rattle.am_model.specs.World.{World, run, happens, with_record, lives_on, current, is_stopped}
-use Rattle.am_model.specs.Lawful.{watch_run, broken_at}
+use Rattle.am_play.specs.World as runs
+use Rattle.am_play.specs.World.{World, run, happens, with_record, lives_on, current, is_stopped}
+use Rattle.am_play.specs.Lawful.{watch_run, broken_at}
 use Rattle.am_effects.specs.Causes.{Cause}
 use Rattle.am_effects.specs.Effects.{Effect}
 use Rattle.am_effects.specs.Events.{actor, IsCause}

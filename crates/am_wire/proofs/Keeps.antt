@@ -22,7 +22,8 @@ use Rattle.am_wire.specs.declared.rule.Terms.{Terms}
 use Rattle.am_wire.specs.declared.rule.View.{View}
 use Rattle.am_wire.specs.Keys.{is_of, of_key, same_key, times, is_key, all_keys}
 use Rattle.am_wire.specs.Stops.{Page}
-use Rattle.am_wire.specs.Seats.{view, sight_of, no_terms, longer, StartsWith, GoesOn, Follows, Shown, Sat, standing, Fits, IsFree, IsTaken, Stands, IsIdle, HasTurn}
+use Rattle.am_wire.specs.Seats.{view, sight_of, no_terms, longer, StartsWith, GoesOn, Follows, Shown, Sat, standing, Fits, IsFree, IsTaken, Stands, IsIdle}
+use Rattle.am_wire.specs.Seats.{HasTurn}
 use Rattle.am_wire.specs.Seats.{take_step, page_records, count_step, give_step, Looks, look_step, Unites}
 use Rattle.am_wire.specs.Passes.{HasAll}
 use Rattle.am_wire.proofs.Dealt.{each_once}

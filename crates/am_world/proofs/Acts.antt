@@ -13,22 +13,22 @@ use Rattle.am_base.specs.Founding.{Rules}
 use Rattle.am_base.specs.Names.{place_of}
 use Rattle.am_packet.specs.Boxes.{Letter}
 use Rattle.am_core.specs.Cores.{CoreState, IsInOrder}
-use Rattle.am_core.proofs.Ends.{end-told, end-top}
+use Rattle.am_core.proofs.Ends.{end-told}
 use Rattle.am_group.specs.declared.event.Event.{Event}
 use Rattle.am_group.specs.declared.event.Record.{Record}
 use Rattle.am_model.specs.Node as protocol
-use Rattle.am_model.specs.Node.{top, view, set_at}
-use Rattle.am_model.specs.Step.{step, row}
-use Rattle.am_model.specs.World as model
-use Rattle.am_model.specs.World.{happens, current, with_step, group_with, group_after, record_of}
-use Rattle.am_model.specs.Ends.{IsEndOf, ComesTo, Does}
+use Rattle.am_model.specs.Node.{view}
+use Rattle.am_model.specs.Step.{step}
+use Rattle.am_play.specs.World as model
+use Rattle.am_play.specs.World.{happens, current, with_step, group_with, group_after, record_of}
+use Rattle.am_model.specs.Ends.{IsEndOf}
 use Rattle.am_node.specs.declared.node.Node.{Node}
 use Rattle.am_node.specs.Stands.{state_of}
-use Rattle.am_node.specs.Nodes.{HasNumbersLeft}
+use Rattle.am_info.specs.Nodes.{HasNumbersLeft}
 use Rattle.am_world.specs.Runs.{Play, replay, after, AreNodes, AreLives, AreFlags, IsRun, play_of, Answers}
 use Rattle.am_world.specs.Asked.{comes}
 use Rattle.am_world.specs.Moves.{IsReadyAt, StepsAt}
-use Rattle.am_ends.proofs.Hearing.{ends_step_alike}
+use Rattle.am_ends.proofs.Steps.{end_high, step_end}
 use Rattle.am_laws.specs.Numbers.{NodeNumbers}
 use Rattle.am_world.proofs.Numbers.{low, trimmed_low}
 use Rattle.am_group.proofs.Places.{get_some}
@@ -41,9 +41,6 @@ use Rattle.am_world.proofs.Goes.{IsRecorded, Follows, goes_on, shows_at, replay_
 
 pub end_view : (all m : protocol.Node) → IsEndOf all m → view m ≡ view all
 end_view all m is = ap (λ (i : Image). i.view) (end-told all.core.log m.core.log is.stands.kept)
-
-pub end_high : (all m : protocol.Node) → IsEndOf all m → top m ≡ top all
-end_high all m is = end-top all.core.log m.core.log is.stands.kept
 
 pub end_who : (all m : protocol.Node) → IsEndOf all m → m.core.who ≡ all.core.who
 end_who all m is = ap (λ (n : protocol.Node). n.core.who) is.same
@@ -85,14 +82,6 @@ group_short group m most g a = go ((view m).by == m.core.who)
     go : (b : Bool) → length (if b then group_with group m.core else group) ≤ most
     go true = grown_short group m.core most g a
     go false = g
-
--- what the end does, all of it does
-pub step_end : (all m n : protocol.Node) (what : NodeEvent) (outcome : Outcome) (letters : List Letter) → IsEndOf all m → IsInOrder m.core
-    → Does (λ k. row k what) m outcome letters n → ComesTo (step all what) outcome letters n
-unfolding step
-step_end all m n what outcome letters is order does =
-    let s = ends_step_alike all m what is order in
-    record { node = s.node n does.node; answer = does.answer ∙ sym s.answer; sent = does.sent ∙ sym s.sent }
 
 -- ---- before the step
 

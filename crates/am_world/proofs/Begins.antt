@@ -5,19 +5,15 @@ use Rattle.std.proofs.lemmas.List.{length-replicate}
 use Rattle.am_base.specs.Founding.{Rules, MayFound}
 use Rattle.am_base.specs.Names.{has, name_at}
 use Rattle.am_core.specs.Cores.{IsInOrder}
-use Rattle.am_core.proofs.Ends.{end-self}
 use Rattle.am_model.specs.Node as protocol
 use Rattle.am_model.specs.Node.{founder, stranger, founders_view}
-use Rattle.am_model.specs.World.{start, first_node, happen}
+use Rattle.am_play.specs.World.{start, first_node, happen}
 use Rattle.am_model.specs.Ends.{IsEndOf}
+use Rattle.am_ends.proofs.Steps.{own_end}
 use Rattle.am_node.specs.declared.node.Node.{Node}
 use Rattle.am_node.specs.Stands.{state_of}
 use Rattle.am_world.specs.Runs.{AreNodes, AreFirst, AreLives, AreFlags, IsRun, play_of}
 use Rattle.am_effects.proofs.Items.{get_push}
-
--- a node of which nothing is trimmed is its own end
-pub own_end : (m : protocol.Node) → m.core.base ≡ m.core.log.start → IsEndOf m m
-own_end m h = record { stands = record { base = h; kept = end-self m.core.log }; same = refl }
 
 stranger_order : (rules : Rules) (name : ℕ) → IsInOrder (stranger rules name).core
 stranger_order rules name = record { kept = refl; let_go = omega arith; given = omega arith; accepted = omega arith }

@@ -18,8 +18,9 @@ use Rattle.am_group.specs.Journals.{letter_at}
 use Rattle.am_group.specs.Addressed.{is_for}
 use Rattle.am_model.specs.Emit.{Step}
 use Rattle.am_model.specs.Step.{step, hear}
-use Rattle.am_model.specs.World.{World, current, is_stopped, has_departed, with_record, with_step, hears_letter, hear_cut, comes_back, lives_on, acts_as, happens}
-use Rattle.am_model.proofs.Bytes.{spelling_is_heard, cut_is_heard}
+use Rattle.am_play.specs.World.{World, current, is_stopped, with_record, with_step, hears_letter, hear_cut, comes_back, lives_on, acts_as, happens}
+use Rattle.am_model.specs.Node.{has_departed}
+use Rattle.am_meaning.proofs.Bytes.{spelling_is_heard, cut_is_heard}
 use Rattle.am_world.specs.Asked.{flag_of, if_running, first_bytes, hears, gives_up, stops, returns, event_or_answer, SpellsPacket, after_answer, comes}
 
 -- ---- names of places

@@ -16,11 +16,12 @@ use Rattle.am_group.specs.declared.event.Act.TheVariants as act
 use Rattle.am_group.specs.declared.event.Event.{Event}
 use Rattle.am_group.specs.Journals.{letter_at}
 use Rattle.am_group.specs.Addressed.{is_for}
-use Rattle.am_model.specs.Node.{Node, stranger}
+use Rattle.am_model.specs.Node.{Node, stranger, has_departed}
 use Rattle.am_model.specs.Emit.{Step}
 use Rattle.am_model.specs.Step.{step, hear}
-use Rattle.am_model.specs.World.{World, start, run, current, is_stopped, with_record, with_step, does_event, gives_up, stops, hears_letter, hear_cut, comes_back, lives_on}
-use Rattle.am_model.specs.World.{acts_as, happens, happen, has_departed}
+use Rattle.am_play.specs.World.{World, start, run, current, is_stopped, with_record, with_step, does_event, gives_up, stops, hears_letter, hear_cut, comes_back}
+use Rattle.am_play.specs.World.{lives_on}
+use Rattle.am_play.specs.World.{acts_as, happens, happen}
 use Rattle.am_world.proofs.Comes.{place_now, life_now}
 
 -- every place has a life, and the names of greater ones are strangers

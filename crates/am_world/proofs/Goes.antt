@@ -11,14 +11,15 @@ use Rattle.am_group.specs.declared.event.Event.{Event}
 use Rattle.am_group.specs.declared.event.Record.{Record}
 use Rattle.am_group.specs.Journals.{letters_of}
 use Rattle.am_group.proofs.Places.{letters_more}
-use Rattle.am_model.specs.World as model
-use Rattle.am_model.specs.World.{happens, happen, record_of, current, start, is_stopped, with_record, has_departed}
+use Rattle.am_play.specs.World as model
+use Rattle.am_play.specs.World.{happens, happen, record_of, current, start, with_record}
+use Rattle.am_model.specs.Node.{has_departed}
 use Rattle.am_model.specs.Node as protocol
 use Rattle.am_model.specs.Ends.{IsEndOf}
 use Rattle.am_model.specs.declared.status.Status.{Status}
 use Rattle.am_base.specs.declared.event.NodeEvent.{NodeEvent}
 use Rattle.std.specs.Prelude.{Result, Ok, Err, OnOk, IfOk}
-use Rattle.am_model.proofs.Runs.{runs_go_on}
+use Rattle.am_play.proofs.Runs.{runs_go_on}
 use Rattle.am_node.specs.declared.node.Node.{Node}
 use Rattle.am_world.specs.Runs.{Play, replay, after, AreNodes, AreLives, AreFlags, Shows, IsRun, play_of, the_record, Answers}
 use Rattle.am_world.specs.Asked.{event_or_answer, comes, SpellsPacket}
@@ -111,7 +112,8 @@ pub passes_flags : (w : model.World) (e : Event) (outcome : Outcome) (flags : Li
 unfolding with_record
 passes_flags w e outcome flags h = record { count = h.count; each = h.each }
 
-pub passes_follows : (w : model.World) (e : Event) (outcome : Outcome) → happens w e ≡ with_record w e outcome → Follows w (with_record w e outcome) e outcome []
+pub passes_follows : (w : model.World) (e : Event) (outcome : Outcome) → happens w e ≡ with_record w e outcome
+    → Follows w (with_record w e outcome) e outcome []
 unfolding with_record
 passes_follows w e outcome is = record { happens_ = is; records = refl; letters_ = sym (append-nil w.letters) }
 

@@ -1,10 +1,8 @@
 -- A world's watcher keeps what is watched of its run.
-use Rattle.std.proofs.Common.{◌≡◌, ℕ, zero, suc, ◌+◌, ◌-◌, ◌<◌, ◌≤◌, ◌||◌, ◌==◌, not, Bool, true, false, if◌then◌else◌, List, [], ◌∷◌, ◌++◌, length, drop, Ok}
+use Rattle.std.proofs.Common.{◌≡◌, ℕ, ◌+◌, ◌<◌, ◌≤◌, ◌==◌, not, Bool, true, false, if◌then◌else◌, List, [], ◌∷◌, ◌++◌, length, drop, Ok}
 use Rattle.std.proofs.Common.{refl, sym, ap, ◌∙◌, subst, arith, length-append}
-use Rattle.std.specs.List.{list_any}
 use Rattle.am_base.specs.declared.entry.Entry.{Entry}
 use Rattle.am_base.specs.declared.image.Image.{Image}
-use Rattle.am_base.specs.declared.name.Stamp.{Stamp}
 use Rattle.am_base.specs.declared.outcome.Outcome.{Outcome}
 use Rattle.am_base.specs.declared.outcome.Outcome.TheVariants as said
 use Rattle.am_base.specs.declared.event.NodeEvent.{NodeEvent}
@@ -14,31 +12,29 @@ use Rattle.am_group.specs.declared.event.Event.{Event}
 use Rattle.am_base.specs.Lists.{members_of}
 use Rattle.am_core.proofs.Ends.{end-told}
 use Rattle.am_model.specs.Node as protocol
-use Rattle.am_model.specs.Node.{view, image_of, set_at}
+use Rattle.am_model.specs.Node.{view, set_at}
 use Rattle.am_model.specs.Step.{step}
-use Rattle.am_model.specs.World as model
-use Rattle.am_model.specs.World.{run, happens, with_step, with_record, lives_on, current, is_stopped, decides}
-use Rattle.am_model.specs.Lawful.{Watch, watch_start, watch, watch_all, watch_run, is_view_of}
+use Rattle.am_play.specs.World as model
+use Rattle.am_play.specs.World.{run, happens, with_step, current, is_stopped, decides}
+use Rattle.am_play.specs.Lawful.{Watch, watch_start, watch, watch_all, watch_run}
 use Rattle.am_model.specs.Ends.{IsEndOf}
-use Rattle.am_model.proofs.Runs.{watched_is_run}
-use Rattle.am_watch.specs.declared.views.DecidedView.{DecidedView}
+use Rattle.am_play.proofs.Runs.{watched_is_run}
 use Rattle.am_watch.specs.declared.views.Standing.{Standing}
 use Rattle.am_watch.specs.Watching.{Watching, first_watching, standing, watch_step as watched_step, stop, pass, accept}
 use Rattle.am_watch.specs.Watches.{Watches, Steps, SteppedTo, standing_of, view_of, additions, after, IsNew}
-use Rattle.am_watch.proofs.Events.{watched_after, group_grows, stepped_to}
+use Rattle.am_watch.proofs.Events.{watched_after, stepped_to}
 use Rattle.am_watch.proofs.Steps.{steps_are_watched}
-use Rattle.am_watched.proofs.Watched.{stop_is_watched, pass_is_watched, return_is_watched, beginning_is_kept, break_is_kept}
+use Rattle.am_watched.proofs.Watched.{stop_is_watched, pass_is_watched, return_is_watched, beginning_is_kept}
 use Rattle.am_world.specs.Runs as runs
 use Rattle.am_world.specs.Runs.{Play, replay}
 use Rattle.am_world.specs.Asked.{after_answer, comes}
 use Rattle.am_world.specs.Watched.{begins, standing_after, stored_of, told_step, stops_by, IsWatched}
-use Rattle.am_world.proofs.Comes.{place_now}
 use Rattle.std.proofs.lemmas.Bool.Decides.{nat_tests}
 use Rattle.am_effects.specs.Events.{actor}
 use Rattle.am_laws.proofs.Named.{few_names, run_named}
 use Rattle.am_world.proofs.Goes.{replay_after}
 use Rattle.am_world.proofs.Acts.{end_base}
-use Rattle.am_world.proofs.Stored.{StepFacts, step_facts, begins_at, stores}
+use Rattle.am_world.proofs.Stored.{step_facts, begins_at, stores}
 
 -- ---- how many events there were
 
@@ -177,8 +173,8 @@ answer_at p k e (said.Returned life) kept is =
 answer_at p k e outcome kept is = pass_is_watched p.rules p.events e outcome k is kept
 
 pub answer_is_watched : (p : Play) (k : Watching) (e : Event) (name : ℕ) (outcome : Outcome) (stops : Bool) → IsWatched p k
-    → name ≡ current (replay p) (place_of e.node) → happens (replay p) e ≡ after_answer (replay p) e outcome → stops ≡ stops_by (is_stopped (replay p) name) outcome
-    → IsWatched (runs.after p e) (if stops then stop k name else pass k)
+    → name ≡ current (replay p) (place_of e.node) → happens (replay p) e ≡ after_answer (replay p) e outcome → stops
+    ≡ stops_by (is_stopped (replay p) name) outcome → IsWatched (runs.after p e) (if stops then stop k name else pass k)
 answer_is_watched p k e name outcome stops kept here is which =
     let now = answer_at p k e outcome kept is in
     rw which (subst (λ j. IsWatched (runs.after p e) (if stops_by (is_stopped (replay p) j) outcome then stop k j else pass k)) (sym here) now)
@@ -194,6 +190,7 @@ group_longer p e what is =
     let l = length-append w.group (additions w.group n) in
     omega arith
 
-pub begin_is_watched : (p : Play) (rules : Rules) (k : Watching) → MayFound rules → p ≡ record { rules = rules; events = [] } → k ≡ first_watching rules → IsWatched p k
+pub begin_is_watched : (p : Play) (rules : Rules) (k : Watching) → MayFound rules → p ≡ record { rules = rules; events = [] } → k ≡ first_watching rules
+    → IsWatched p k
 begin_is_watched p rules k may is from = subst (λ q. IsWatched q k) (sym is)
     (subst (λ j. IsWatched (record { rules = rules; events = [] }) j) (sym from) (beginning_is_kept rules may))

@@ -3,7 +3,7 @@ use Rattle.std.proofs.Common.{◌≤◌, ℕ, List, length}
 use Rattle.am_base.specs.Founding.{Rules}
 use Rattle.am_packet.specs.Boxes.{Letter}
 use Rattle.am_group.specs.declared.event.Event.{Event}
-use Rattle.am_model.specs.World.{run, happens}
+use Rattle.am_play.specs.World.{run, happens}
 use Rattle.am_effects.specs.Events.{actor}
 use Rattle.am_laws.specs.Numbers.{NodeNumbers}
 use Rattle.am_laws.specs.Packets.{UpTo}

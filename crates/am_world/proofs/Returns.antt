@@ -11,8 +11,8 @@ use Rattle.am_base.specs.Names.{place_of, life_of, name_at}
 use Rattle.am_group.specs.declared.event.Event.{Event}
 use Rattle.am_group.specs.declared.event.Record.{Record}
 use Rattle.am_model.specs.Node.{stranger}
-use Rattle.am_model.specs.World as model
-use Rattle.am_model.specs.World.{happens, current, is_stopped, with_record, lives_on}
+use Rattle.am_play.specs.World as model
+use Rattle.am_play.specs.World.{happens, current, is_stopped, with_record, lives_on}
 use Rattle.am_node.specs.declared.node.Node.{Node}
 use Rattle.am_node.specs.Stands.{state_of}
 use Rattle.am_world.specs.Runs.{Play, replay, AreNodes, AreLives, AreFlags, IsRun, play_of, Answers}

@@ -13,13 +13,12 @@ use Rattle.am_group.specs.declared.event.Event.{Event}
 use Rattle.am_core.specs.Cores.{accept, pass_over}
 use Rattle.am_model.specs.declared.status.Status.{Status}
 use Rattle.am_model.specs.declared.status.Status.TheVariants as status
-use Rattle.am_model.specs.Node.{Node, Ballot, view, is_sequencer, is_member, is_asking}
+use Rattle.am_model.specs.Node.{Node, Ballot, view, is_sequencer, is_member, is_asking, has_log}
 use Rattle.am_model.specs.Ballots.{Verdict}
-use Rattle.am_model.specs.Refresh.{refresh, settle}
+use Rattle.am_model.specs.Refresh.{refresh}
 use Rattle.am_model.specs.Emit.{Step}
-use Rattle.am_model.specs.Group.{has_log}
-use Rattle.am_model.specs.World.{World, run, happens, with_step, with_record}
-use Rattle.am_model.proofs.Greatest.{split, and_both}
+use Rattle.am_play.specs.World.{World, run, happens, with_step, with_record}
+use Rattle.am_base.proofs.Greatest.{split, and_both}
 use Rattle.am_effects.specs.Causes.{Cause, calls, hears, refuses, BringsFronts, with_entry, with_number, alone}
 use Rattle.am_effects.specs.Looks.{BeginsBy, by_reset, by_hand_over, Balloting, with_more, without_one, as_it_is, Looks, finds_itself_out, waits}
 use Rattle.am_effects.specs.Looks.{fetches_from_best, finds_too_few, finds_no_room, decides}

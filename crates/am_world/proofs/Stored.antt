@@ -1,24 +1,22 @@
 -- What is so of a name's step in every run, as the world tells its watcher of it.
-use Rattle.std.proofs.Common.{◌≡◌, ℕ, ◌+◌, ◌<◌, ◌≤◌, ◌==◌, ◌&&◌, ◌||◌, not, Bool, true, false, if◌then◌else◌, List, [], ◌∷◌, ◌++◌, length, refl, sym, ap, ◌∙◌}
+use Rattle.std.proofs.Common.{◌≡◌, ℕ, ◌≤◌, ◌==◌, ◌&&◌, ◌||◌, not, Bool, true, false, if◌then◌else◌, List, length, refl, sym, ap}
 use Rattle.std.proofs.Common.{subst, arith}
 use Rattle.std.specs.List.{list_any}
 use Rattle.std.proofs.lemmas.Bool.Decides.{nat_tests}
 use Rattle.am_base.specs.declared.name.Stamp.{Stamp}
 use Rattle.am_base.specs.declared.event.NodeEvent.{NodeEvent}
 use Rattle.am_base.specs.Founding.{Rules, MayFound}
-use Rattle.am_base.specs.Names.{place_of}
 use Rattle.am_base.specs.Stamps.{stamp_eq}
 use Rattle.am_group.specs.declared.event.Event.{Event}
-use Rattle.am_model.specs.Node.{Node, view, is_member}
+use Rattle.am_model.specs.Node.{Node, view}
 use Rattle.am_model.specs.Step.{step}
-use Rattle.am_model.specs.World.{World, run, happens, with_step, with_record, lives_on, decides}
-use Rattle.am_model.specs.Lawful.{is_view_of}
+use Rattle.am_play.specs.World.{World, run, happens, with_step, with_record, decides}
+use Rattle.am_play.specs.Lawful.{is_view_of}
 use Rattle.am_effects.specs.Events.{actor, Happens, idles, stops, returns, steps}
 use Rattle.am_effects.proofs.Events.{events_have_effects}
 use Rattle.am_laws.proofs.Named.{few_names, names_hold}
 use Rattle.am_laws.proofs.RunCounts.{numbers_hold}
 use Rattle.am_watch.specs.Watches.{IsNew, standing_of, view_of}
-use Rattle.am_watched.specs.Lists.{AddsEntries}
 use Rattle.am_watched.proofs.Lists.{run_lists, lists_go_on}
 use Rattle.am_watched.proofs.New.{decided_are_new}
 use Rattle.am_world.specs.Watched.{begins, stored_of}

@@ -14,15 +14,15 @@ use Rattle.am_base.specs.Stamps.{stamp_lt, stamp_eq}
 use Rattle.am_base.specs.Lists.{Log, fits, with_entry}
 use Rattle.am_packet.specs.declared.packet.Packet.TheVariants as packet
 use Rattle.am_model.specs.declared.status.Status.{Status}
-use Rattle.am_model.specs.Group.{has_log}
-use Rattle.am_model.specs.Node.{Node, Ballot, top, image_of, view, those, is_member, has_own_leave, is_within_bound, push_entry, trim_up_to}
+use Rattle.am_model.specs.Node.{has_log, Node, Ballot, top, image_of, view, those, is_member, has_own_leave, is_within_bound, push_entry, trim_up_to}
 use Rattle.am_model.specs.Emit.{Plan, Step, quiet, finish}
 use Rattle.am_model.specs.Ballots.{Verdict, with_promise, need_of, best_of, is_waited_for, left_in, trim_for, decide, decide_view, ends, restart_reports}
 use Rattle.am_model.specs.Refresh.{refresh_at_end}
-use Rattle.am_model.specs.Resets.{is_view_past, push_fetched, catch_up, decide_anew, fetches_from, piece_promised, piece_for, piece_row, hears_result, result_row}
+use Rattle.am_model.specs.Resets.{is_view_past, push_fetched, catch_up, decide_anew, fetches_from, piece_promised, piece_for, piece_row, hears_result}
+use Rattle.am_model.specs.Resets.{result_row}
 use Rattle.am_model.specs.Hearing.{hears_member, hear_row}
-use Rattle.am_model.specs.Lawful.{is_view_of}
-use Rattle.am_model.proofs.Greatest.{split, and_both}
+use Rattle.am_play.specs.Lawful.{is_view_of}
+use Rattle.am_base.proofs.Greatest.{split, and_both}
 use Rattle.am_effects.proofs.Tests.{not_false, or_first}
 use Rattle.am_effects.proofs.Rests.{rests_at_end}
 use Rattle.am_effects.proofs.Says.{view_pushed}
@@ -78,7 +78,8 @@ quietly name brought m o = record { stays = refl; adds = none (λ v. refl) refl 
 -- the list stays, or has the ballot's View more
 data ComesTo (p : Node) (b : Ballot) (v : Verdict) : Type 0 where
   stays : v.node.core.log ≡ p.core.log → v.node.status ≡ p.status → ComesTo p b v
-  decided : (names : List ℕ) (resilience : ℕ) → v.node.core.log ≡ (push_entry p (View b.stamp names resilience)).core.log → v.node.status ≡ p.status → ComesTo p b v
+  decided : (names : List ℕ) (resilience : ℕ) → v.node.core.log ≡ (push_entry p (View b.stamp names resilience)).core.log → v.node.status ≡ p.status
+      → ComesTo p b v
 
 view_comes : (p t : Node) (b : Ballot) (names : List ℕ) → t.core.log ≡ p.core.log → t.status ≡ p.status → ComesTo p b (decide_view t b names)
 view_comes p t b names log same =
@@ -144,7 +145,8 @@ came_decided name m base e s stamp names resilience member above own =
     let p = push_entry m e in
     let d = View stamp names resilience in
     let same : view_in (push_entry p d).core.log ≡ stamp = view_of_pushed p stamp names resilience in
-    let by : ((view_in (push_entry p d).core.log).by == name) ≡ true = let q : (view_in (push_entry p d).core.log).by ≡ name = ap (λ (u : Stamp). u.by) same ∙ own in
+    let by : ((view_in (push_entry p d).core.log).by == name) ≡ true = let q : (view_in (push_entry p d).core.log).by ≡ name = ap (λ (u : Stamp). u.by) same
+    ∙ own in
     is_name _ name q in
     let up : stamp_lt (view m) (view_in (push_entry p d).core.log) ≡ true = ap (λ (u : Stamp). stamp_lt (view m) u) same ∙ above in
     let new = differs (view m) (view_in (push_entry p d).core.log) up in

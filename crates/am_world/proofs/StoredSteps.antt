@@ -14,16 +14,13 @@ use Rattle.am_packet.specs.declared.packet.Packet.{Packet}
 use Rattle.am_packet.specs.declared.packet.Packet.TheVariants.{Request, Spread, Bcast, Order, Accept, Ack, Nack, Hold, JoinAsk, Welcome, LeaveAsk, Gone, Invite}
 use Rattle.am_packet.specs.declared.packet.Packet.TheVariants.{Vote, Fetch, Piece, Result, HandOver}
 use Rattle.am_codec.specs.Reading.{Read, reading, cause_of}
-use Rattle.am_model.specs.declared.status.Status.{Status}
-use Rattle.am_model.specs.declared.status.Status.TheVariants as status
-use Rattle.am_model.specs.Node.{Node, Ballot, view, is_member}
+use Rattle.am_model.specs.Node.{Node, Ballot, view, is_member, has_log}
 use Rattle.am_model.specs.Emit.{Step, finish}
 use Rattle.am_model.specs.Hearing.{hear_row}
 use Rattle.am_model.specs.Step.{read_row, step, row, hear, hear_refusal}
-use Rattle.am_model.specs.Group.{has_log}
 use Rattle.am_laws.proofs.ViewChanges.{log_of_member}
-use Rattle.am_model.specs.Lawful.{is_view_of}
-use Rattle.am_model.proofs.Greatest.{split}
+use Rattle.am_play.specs.Lawful.{is_view_of}
+use Rattle.am_base.proofs.Greatest.{split}
 use Rattle.am_effects.specs.Causes.{Cause, hears, refuses}
 use Rattle.am_effects.specs.Effects.{Effect}
 use Rattle.am_effects.proofs.Hearing.{steps_have_effects, hearing_has_effects, refusing_has_effects}

@@ -14,14 +14,13 @@ use Rattle.am_base.specs.Stamps.{stamp_lt, stamp_eq}
 use Rattle.am_base.specs.Lists.{Log, told_by}
 use Rattle.am_packet.specs.declared.packet.Packet.TheVariants as packet
 use Rattle.am_model.specs.declared.status.Status.TheVariants as status
-use Rattle.am_model.specs.Node.{Node, Ballot, top, image_of, view, acts, is_sequencer, is_member, push_entry}
+use Rattle.am_model.specs.Node.{Node, Ballot, top, image_of, view, acts, is_sequencer, is_member, push_entry, has_log}
 use Rattle.am_model.specs.Ballots.{Verdict, overtake, need_of, left_in, trim_for, next_stamp}
 use Rattle.am_model.specs.Refresh.{refresh, settle, refresh_at_end}
 use Rattle.am_model.specs.Receiving.{is_view}
 use Rattle.am_model.specs.Joining.{begin_list}
-use Rattle.am_model.specs.Group.{has_log}
-use Rattle.am_model.specs.Lawful.{is_view_of}
-use Rattle.am_model.proofs.Greatest.{split, and_both}
+use Rattle.am_play.specs.Lawful.{is_view_of}
+use Rattle.am_base.proofs.Greatest.{split, and_both}
 use Rattle.am_effects.specs.Causes.{Cause, hears}
 use Rattle.am_effects.specs.Looks.{HasOpen, Balloting, with_more, without_one, as_it_is, Looks, finds_itself_out, waits, fetches_from_best, finds_too_few}
 use Rattle.am_effects.specs.Looks.{finds_no_room, decides, BeginsBy, by_reset, by_hand_over}

@@ -1,12 +1,14 @@
 -- What a watcher is told, one after another.
-use Rattle.std.proofs.Common.{◌≡◌, ℕ, ◌+◌, ◌-◌, ◌<◌, ◌≤◌, ◌&&◌, ◌||◌, ◌==◌, not, Bool, true, false, List, [], ◌∷◌, ◌++◌, length, take, drop, map, slice_index_or, get_or}
+use Rattle.std.proofs.Common.{◌≡◌, ℕ, ◌+◌, ◌-◌, ◌<◌, ◌≤◌, ◌&&◌, ◌||◌, ◌==◌, not, Bool, true, false, List, [], ◌∷◌, ◌++◌, length, take, drop, map}
+use Rattle.std.proofs.Common.{get_or}
 use Rattle.std.proofs.Common.{if◌then◌else◌, Option, Some, None, refl, sym, ap, ◌∙◌, arith}
 use Rattle.std.proofs.lemmas.List.{append-nil, get_or-drop, length-take, take_more, take_all}
 use Rattle.std.proofs.Common.{length-drop}
 use Rattle.am_base.specs.declared.entry.Entry.{Entry}
 use Rattle.am_watch.specs.declared.views.Pending.{Pending}
 use Rattle.am_base.specs.Stamps.{stamp_eq, stamp_lt}
-use Rattle.am_watch.specs.Watching.{Watching, note_entries, with_entry, with_entries, with_decided, decides, new_pending, finish, standing, accept, place_among, number_of, or_else}
+use Rattle.am_watch.specs.Watching.{Watching, note_entries, with_entry, with_entries, with_decided, decides, new_pending, finish, standing, accept, place_among}
+use Rattle.am_watch.specs.Watching.{number_of, or_else}
 use Rattle.am_base.specs.declared.event.NodeEvent.{NodeEvent}
 use Rattle.am_model.specs.Node.{Node, is_member}
 use Rattle.am_watch.specs.declared.views.DecidedView.{DecidedView}

@@ -15,7 +15,7 @@ use Rattle.am_group.specs.declared.event.Event.{Event}
 use Rattle.am_group.specs.Journals.{letter_at}
 use Rattle.am_group.specs.Addressed.{is_for}
 use Rattle.am_model.specs.Step.{step}
-use Rattle.am_model.specs.World.{World, current, with_record, with_step, lives_on}
+use Rattle.am_play.specs.World.{World, current, with_record, with_step, lives_on}
 
 -- whether a name has stopped, by the flags of all names
 abbrev pub flag_of : List Bool → ℕ → Bool

@@ -7,11 +7,11 @@ use Rattle.am_packet.specs.Boxes.{Letter}
 use Rattle.am_core.specs.Cores.{IsInOrder}
 use Rattle.am_model.specs.Node as model
 use Rattle.am_model.specs.Step.{row}
-use Rattle.am_model.specs.World.{group_after}
+use Rattle.am_play.specs.World.{group_after}
 use Rattle.am_model.specs.Ends.{Does}
 use Rattle.am_node.specs.declared.node.Node.{Node}
 use Rattle.am_node.specs.Stands.{state_of}
-use Rattle.am_node.specs.Nodes.{HasNumbersLeft, HasPlace}
+use Rattle.am_info.specs.Nodes.{HasNumbersLeft, HasPlace}
 
 -- whatever a step comes to, the node has trimmed nothing that the group list lacks, and knows no more to be accepted than
 -- there is room for

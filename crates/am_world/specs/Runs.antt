@@ -9,8 +9,8 @@ use Rattle.am_core.specs.Cores.{IsInOrder}
 use Rattle.am_group.specs.declared.event.Event.{Event}
 use Rattle.am_group.specs.declared.event.Record.{Record}
 use Rattle.am_group.specs.Journals.{letters_of}
-use Rattle.am_model.specs.World as model
-use Rattle.am_model.specs.World.{run, record_of, current, is_stopped, no_caller}
+use Rattle.am_play.specs.World as model
+use Rattle.am_play.specs.World.{run, record_of, current, is_stopped, no_caller}
 use Rattle.am_model.specs.Ends.{IsEndOf}
 use Rattle.am_node.specs.declared.node.Node.{Node}
 use Rattle.am_node.specs.Stands.{state_of}

@@ -1,5 +1,5 @@
 -- What a watcher is told of a step.
-use Rattle.std.specs.Prelude.{◌≡◌, ℕ, ◌+◌, List, [], ◌∷◌, ◌++◌, drop, length, Option, Some, None, Ok, Err, Bool, true, false, not, ◌&&◌, ◌||◌, if◌then◌else◌}
+use Rattle.std.specs.Prelude.{ℕ, List, [], ◌∷◌, ◌++◌, Option, Some, None, Ok, Err, Bool, true, false, not, ◌&&◌, ◌||◌, if◌then◌else◌}
 use Rattle.am_base.specs.declared.entry.Entry.{Entry}
 use Rattle.am_base.specs.declared.entry.Entry.TheVariants.{View}
 use Rattle.am_base.specs.declared.event.NodeEvent.{NodeEvent}
@@ -11,9 +11,8 @@ use Rattle.am_packet.specs.declared.packet.Packet.{Packet}
 use Rattle.am_packet.specs.declared.packet.Packet.TheVariants.{Piece}
 use Rattle.am_codec.specs.Reading.{Read, reading}
 use Rattle.am_model.specs.declared.status.Status.{Status}
-use Rattle.am_model.specs.Node.{Node, view, is_member}
-use Rattle.am_model.specs.Group.{has_log}
-use Rattle.am_model.specs.Lawful.{watch_run}
+use Rattle.am_model.specs.Node.{Node, view, is_member, has_log}
+use Rattle.am_play.specs.Lawful.{watch_run}
 use Rattle.am_watch.specs.declared.views.DecidedView.{DecidedView}
 use Rattle.am_watch.specs.declared.views.Standing.{Standing}
 use Rattle.am_watch.specs.Watching.{Watching, standing, decides, with_decided, with_entries, watch_step, accept}

@@ -1,12 +1,9 @@
-ghost use Rattle.std.specs.Prelude.{◌≡◌, ◌+◌, ◌-◌, ◌<◌, ◌≤◌, ◌++◌, [], length, max, take, drop, vec_len, vec_capacity, OnOk, IfOk};
+ghost use Rattle.std.specs.Prelude.{◌≡◌, ◌+◌, ◌-◌, ◌<◌, ◌≤◌, ◌++◌, ◌∷◌, [], length, max, take, drop, vec_len, vec_capacity, OnOk, IfOk};
 ghost use Rattle.am_base.specs.Names.{place_of};
-ghost use Rattle.am_core.specs.Cores.{IsInOrder};
-ghost use Rattle.am_model.specs.Step.{row};
-ghost use Rattle.am_model.specs.World.{group_with, group_after};
-ghost use Rattle.am_model.specs.Ends.{Does};
-ghost use Rattle.am_node.specs.Nodes.{HasPlace};
+ghost use Rattle.am_play.specs.World.{group_with, group_after};
+ghost use Rattle.am_info.specs.Nodes.{HasPlace};
 ghost use Rattle.am_node.specs.Stands.{state_of};
-ghost use Rattle.am_world.specs.Moves.{HasPlaceAt, IsReady, IsReadyAt, StepsAt};
+ghost use Rattle.am_world.specs.Moves.{HasPlaceAt, IsReadyAt, StepsAt};
 
 use am_base::NoMemory;
 use am_base::boxed::Boxed;
@@ -38,6 +35,12 @@ pub fn packets_of(alloc: Global, out: OutBox, rooms: &mut Rooms) -> Items<Letter
     letters
 }
 
+/// A place for an entry.
+#[inline(never)]
+fn entry_place(alloc: Global) -> Result<Boxed<Entry>, NoMemory> {
+    Ok(Boxed::of(alloc, Entry::default())?)
+}
+
 /// A place for the entry that an event takes of a node, where it takes one.
 fn spare_entry(
     alloc: Global,
@@ -47,7 +50,7 @@ fn spare_entry(
     ensures { IfOk result (λ spare. HasPlace (state_of node.now) what.now spare) }
 {
     match what {
-        NodeEvent::Take if node.has_next() => Ok(Some(Boxed::of(alloc, Entry::default())?)),
+        NodeEvent::Take if node.has_next() => Ok(Some(entry_place(alloc)?)),
         _ => Ok(None),
     }
 }
@@ -78,6 +81,17 @@ pub fn make_room(group: &mut Vec<Entry>, most: usize) -> Result<(), NoMemory>
     Ok(())
 }
 
+/// The list gets a copy of an entry. It takes no memory.
+#[inline(never)]
+fn add_entry(group: &mut Vec<Entry>, entry: &Entry)
+    requires { vec_len group.old < vec_capacity group.old }
+    ensures items { group.new.items ≡ group.old.items ++ entry.now ∷ [] }
+    ensures len { vec_len group.new ≡ vec_len group.old + 1 }
+    ensures capacity { vec_capacity group.new ≡ vec_capacity group.old }
+{
+    group.push_reserved(entry.copy());
+}
+
 /// The list gets what a node has accepted beyond it.
 fn add_accepted(group: &mut Vec<Entry>, node: &Node)
     requires base { (state_of node.now).core.base ≤ vec_len group.old }
@@ -86,14 +100,14 @@ fn add_accepted(group: &mut Vec<Entry>, node: &Node)
 {
     for before in group.len()..node.accept_front() as usize {
         match node.entry(before as u32 + 1) {
-            Some(entry) => group.push_reserved(entry.copy()),
+            Some(entry) => add_entry(group, entry),
             None => unreachable!(),
         }
     }
 }
 
 /// The group list after a step of this node: a node in a view of its own adds to it.
-fn grow(group: &mut Vec<Entry>, node: &Node)
+pub fn grow(group: &mut Vec<Entry>, node: &Node)
     requires base { (state_of node.now).core.base ≤ vec_len group.old }
     requires room { max (state_of node.now).core.acc (vec_len group.old) ≤ vec_capacity group.old }
     ensures { group.new.items ≡ group_after group.old.items (state_of node.now) }
@@ -101,55 +115,4 @@ fn grow(group: &mut Vec<Entry>, node: &Node)
     if node.view().by == node.name() {
         add_accepted(group, node);
     }
-}
-
-/// A node does a step, and the group list grows by it.
-fn step_node(
-    node: &mut Node,
-    what: &NodeEvent,
-    spare: Option<Boxed<Entry>>,
-    group: &mut Vec<Entry>,
-    out: &mut OutBox,
-) -> Outcome
-    requires ready { IsReady (state_of node.old) what.now (vec_len group.old)
-        (vec_capacity group.old) }
-    requires place { HasPlace (state_of node.old) what.now spare }
-    requires empty { out.old ≡ [] }
-    ensures does { Does (λ k. row k what.now) (state_of node.old) result out.new
-        (state_of node.new) }
-    ensures order { IsInOrder (state_of node.new).core }
-    ensures few { length out.new ≤ 9 }
-    ensures grows { group.new.items ≡ group_after group.old.items (state_of node.new) }
-{
-    let outcome = node.step(what, spare, out);
-    let _accepted = node.accept_front();
-    grow(group, node);
-    outcome
-}
-
-/// The place's node does a step, and the group list grows by it.
-pub fn step_at(
-    nodes: &mut [Node],
-    name: Name,
-    what: &NodeEvent,
-    spare: Option<Boxed<Entry>>,
-    group: &mut Vec<Entry>,
-    out: &mut OutBox,
-) -> Outcome
-    requires places { length nodes.old ≡ 16 }
-    requires ready { IsReadyAt nodes.old (place_of name) what.now (vec_len group.old)
-        (vec_capacity group.old) }
-    requires place { HasPlaceAt nodes.old (place_of name) what.now spare }
-    requires empty { out.old ≡ [] }
-    ensures steps { StepsAt nodes.old nodes.new group.old.items group.new.items
-        (place_of name) what.now result out.new }
-    ensures few { length out.new ≤ 9 }
-{
-    step_node(
-        &mut nodes[usize::from(name.place())],
-        what,
-        spare,
-        group,
-        out,
-    )
 }

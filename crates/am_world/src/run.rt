@@ -2,18 +2,20 @@ ghost use Rattle.std.specs.Prelude.{◌≡◌, ◌+◌, ◌<◌, ◌≤◌, ◌+
 ghost use Rattle.am_base.specs.Most.{most_events};
 ghost use Rattle.am_base.specs.Founding.{MayFound};
 ghost use Rattle.am_base.specs.Names.{has, name_at, life_of};
-ghost use Rattle.am_model.specs.World.{first_node, record_of, start, has_departed};
+ghost use Rattle.am_play.specs.World.{first_node, record_of, start};
+ghost use Rattle.am_model.specs.Node.{has_departed};
 ghost use Rattle.am_model.specs.Ends.{IsEndOf};
 ghost use Rattle.am_node.specs.Stands.{state_of};
 ghost use Rattle.am_world.specs.Runs.{AreNodes, AreFirst, the_record};
 
 use crate::asked::{event_or_answer, is_stopped};
-use crate::nodes::{empty_box, make_room, packets_of, spare_entry_at, step_at};
+use crate::nodes::{empty_box, grow, make_room, packets_of, spare_entry_at};
 use am_base::NoMemory;
 use am_base::entry::Entry;
 use am_base::event::NodeEvent;
 use am_base::founding::Founding;
 use am_base::items::Items;
+use am_base::limits::MOST_EVENTS;
 use am_base::name::Name;
 use am_base::outcome::Outcome;
 use am_group::event::{By, Event, Part, Record};
@@ -103,7 +105,7 @@ impl Run {
     ghost use Rattle.am_base.specs.Names.{place_of};
     ghost use Rattle.am_base.specs.declared.outcome.Outcome.TheVariants as said;
     ghost use Rattle.am_group.specs.Journals.{letters_of};
-    ghost use Rattle.am_model.specs.World.{current, is_stopped, with_record, happens};
+    ghost use Rattle.am_play.specs.World.{current, is_stopped, with_record, happens};
     ghost use Rattle.am_world.specs.Runs.{after, replay, IsOneMore};
     ghost use Rattle.am_world.specs.Asked.{after_answer, comes, IsNextLife};
 
@@ -133,6 +135,13 @@ impl Run {
         ensures few { result ≤ most_events }
     {
         self.journal.records().len()
+    }
+
+    /// Makes room for the records of so many events more, of no more than a run may have.
+    pub fn reserve(&mut self, more: usize) -> Result<(), NoMemory>
+        ensures { self.new ≡ self.old }
+    {
+        self.journal.reserve_records(more.min(MOST_EVENTS))
     }
 
     /// The records so far.
@@ -271,14 +280,10 @@ impl Run {
         let spare = spare_entry_at(self.alloc, &self.nodes, name, what)?;
         make_room(&mut self.group, self.journal.records().len() + 2)?;
         let mut out = empty_box(self.alloc, &mut self.rooms)?;
-        record.outcome = step_at(
-            &mut self.nodes,
-            name,
-            what,
-            spare,
-            &mut self.group,
-            &mut out,
-        );
+        let node = &mut self.nodes[usize::from(name.place())];
+        record.outcome = node.step(what, spare, &mut out);
+        let _accepted = node.accept_front();
+        grow(&mut self.group, node);
         record.packets = packets_of(self.alloc, out, &mut self.rooms);
         self.journal.push(record);
         Ok(())

@@ -1,8 +1,7 @@
 ghost use Rattle.std.specs.Prelude.{◌≡◌, ◌+◌, ◌<◌, ◌≤◌, ◌++◌, [], ◌∷◌, length, drop, if◌then◌else◌};
 ghost use Rattle.am_base.specs.Most.{most_number};
 ghost use Rattle.am_base.specs.Stamps.{stamp_eq};
-ghost use Rattle.am_model.specs.Group.{has_log};
-ghost use Rattle.am_model.specs.Node.{is_member};
+ghost use Rattle.am_model.specs.Node.{has_log, is_member};
 ghost use Rattle.am_node.specs.Stands.{state_of};
 ghost use Rattle.am_watch.specs.Watches.{view_of};
 ghost use Rattle.am_watch.specs.Watching.{standing, accept, pass, stop, with_entries};
@@ -12,7 +11,7 @@ ghost use Rattle.am_world.specs.Watched.{entry_in, begins, standing_after, one_o
 use am_base::entry::Entry;
 use am_base::event::NodeEvent;
 use am_base::name::{Name, Stamp};
-use am_codec::decode;
+use am_decoding::decode;
 use am_model::status::Status;
 use am_node::node::Node;
 use am_packet::packet::Packet;
@@ -96,7 +95,7 @@ fn entry_in(what: &NodeEvent) -> Option<Entry>
         return None;
     };
     match decode(bytes.as_slice()) {
-        Ok(Packet::Piece { entry, .. }) => Some(entry),
+        Ok(Packet::Piece { entry, .. }) => Some(entry.to_entry()),
         _ => None,
     }
 }

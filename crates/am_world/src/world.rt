@@ -1,5 +1,7 @@
 ghost use Rattle.std.specs.Prelude.{◌≡◌, ◌+◌, ◌≤◌, [], length, IfOk};
 ghost use Rattle.am_base.specs.Most.{most_events};
+ghost use Rattle.am_model.specs.Ends.{IsEndOf};
+ghost use Rattle.am_play.specs.Lawful.{broken_at};
 ghost use Rattle.am_world.specs.Watched.{stops_by};
 ghost use Rattle.am_base.specs.Names.{place_of};
 
@@ -7,14 +9,13 @@ use crate::run::Run;
 use crate::watching::{has_log, note_answer, note_step};
 use am_base::NoMemory;
 use am_base::entry::Entry;
-use am_base::event::NodeEvent;
 use am_base::founding::Founding;
 use am_base::limits::MOST_EVENTS;
 use am_base::name::Name;
 use am_base::outcome::Outcome;
 use am_group::event::Event;
 use am_group::journal::Journal;
-use am_node::info::Info;
+use am_info::info::Info;
 use am_node::node::Node;
 use am_watch::watcher::Watcher;
 use std::alloc::Global;
@@ -72,16 +73,14 @@ impl Model for World {
 }
 
 impl World {
-    ghost use Rattle.std.specs.Prelude.{◌<◌, ◌↔◌, OnOk, OnErr, Err, Ok};
+    ghost use Rattle.std.specs.Prelude.{◌<◌, ◌↔◌, OnOk, OnErr, Err};
     ghost use Rattle.am_group.specs.Journals.{letters_of};
-    ghost use Rattle.am_model.specs.World.{current, is_stopped, happens};
-    ghost use Rattle.am_model.specs.Group.{has_log};
-    ghost use Rattle.am_model.specs.Lawful.{broken_at};
-    ghost use Rattle.am_model.specs.Ends.{IsEndOf};
-    ghost use Rattle.am_node.specs.Info.{info_of};
+    ghost use Rattle.am_play.specs.World.{current, is_stopped, happens};
+    ghost use Rattle.am_model.specs.Node.{has_log};
+    ghost use Rattle.am_info.specs.Info.{info_of};
     ghost use Rattle.am_node.specs.Stands.{state_of};
     ghost use Rattle.am_world.specs.Runs.{after, replay, IsOneMore};
-    ghost use Rattle.am_world.specs.Asked.{after_answer, comes, IsNextLife};
+    ghost use Rattle.am_world.specs.Asked.{after_answer, IsNextLife};
 
     /// The group of a founding, to which nothing has happened.
     pub fn new(alloc: Global, founding: &Founding) -> Result<World, NoMemory>
@@ -93,6 +92,14 @@ impl World {
             run,
             watcher: Watcher::new(alloc, founding),
         })
+    }
+
+    /// Makes room for the records of so many events more, where so many are to come. It is an error where there is no memory
+    /// for them; nothing else changes.
+    pub fn reserve(&mut self, more: usize) -> Result<(), NoMemory>
+        ensures { self.new ≡ self.old }
+    {
+        self.run.reserve(more)
     }
 
     /// The records so far.
@@ -182,30 +189,6 @@ impl World {
         Ok(())
     }
 
-    /// A name's node does a step.
-    fn act(&mut self, event: &Event, name: Name, what: &NodeEvent) -> Result<(), NoMemory>
-        requires few { length self.old.events < most_events }
-        requires name { name ≡ current (replay self.old) (place_of event.now.node) }
-        requires comes { happens (replay self.old) event.now
-            ≡ comes (replay self.old) event.now (Ok what.now) }
-        ensures ok { OnOk result (self.new ≡ after self.old event.now) }
-        ensures one { OnOk result (IsOneMore self.old event.now) }
-        ensures err { OnErr result (self.new ≡ self.old) }
-    {
-        self.watcher.reserve()?;
-        let known = self.run.group().len();
-        self.run.act(event, name, what)?;
-        note_step(
-            &mut self.watcher,
-            name,
-            self.run.node(event.node),
-            what,
-            self.run.group(),
-            known,
-        );
-        Ok(())
-    }
-
     /// Does an event. After a refusal all is as it was. It is Spent exactly where 100,000 events were done.
     pub fn step(&mut self, event: &Event) -> Result<(), WorldRefusal>
         ensures ok { OnOk result (self.new ≡ after self.old event.now) }
@@ -218,7 +201,19 @@ impl World {
         }
         let name = self.run.name_at(event.node);
         match self.run.event_or_answer(event)? {
-            Ok(what) => self.act(event, name, &what)?,
+            Ok(what) => {
+                self.watcher.reserve()?;
+                let known = self.run.group().len();
+                self.run.act(event, name, &what)?;
+                note_step(
+                    &mut self.watcher,
+                    name,
+                    self.run.node(event.node),
+                    &what,
+                    self.run.group(),
+                    known,
+                );
+            }
             Err(outcome) => self.answer(event, name, outcome)?,
         }
         Ok(())

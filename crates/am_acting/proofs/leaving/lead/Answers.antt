@@ -18,4 +18,5 @@ invariant_of-parts c =
 
 pub returns : goal.returns
 returns c =
-    lead_end (node_of c.args.parts.now) (core_and_reports c.refresh.new.core c.refresh.new.self) c.accept_front-before.ensures.order.kept c.refresh.ensures.value
+    lead_end (node_of c.args.parts.now) (core_and_reports c.refresh.new.core c.refresh.new.self) c.accept_front-before.ensures.order.kept
+    c.refresh.ensures.value

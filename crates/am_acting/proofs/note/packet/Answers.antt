@@ -2,6 +2,7 @@ use Rattle.std.proofs.Common.{ap, sym, ◌∙◌, ℕ, List}
 use Rattle.am_base.specs.declared.image.Report.{Report}
 use Rattle.am_core.specs.Cores.{CoreState}
 use Rattle.am_packet.specs.declared.packet.Packet.TheVariants as packet
+use Rattle.am_model.specs.Emit.{bcast_of}
 use Rattle.am_handlers.specs.Cores.{with_core}
 use Rattle.am_acting.specs.declared.note.Note.{Note}
 use Rattle.am_acting.specs.Notes.{packet_of}
@@ -11,8 +12,8 @@ pub returns-in-Request-clause-value : goal.returns-in-Request-clause-value
 returns-in-Request-clause-value g c = λ m all s.
     let core = c.args.core.now in
     let send = c.in-Request in
-    ap (λ (x : CoreState). packet.Request x.who x.promise c.report.result send.req c.copy.result) c.core.view_is
-    ∙ ap (λ (body : List ℕ). packet.Request core.who core.promise c.report.result send.req body) c.copy.ensures
+    ap (λ (x : CoreState). packet.Request x.who x.promise c.report.result send.req c.again.result) c.core.view_is
+    ∙ ap (λ (body : List ℕ). packet.Request core.who core.promise c.report.result send.req body) c.again.ensures
     ∙ ap (λ (r : Report). packet.Request core.who core.promise r send.req send.body) (c.report.ensures.value m all s)
     ∙ ap (λ (x : Note). packet_of x (with_core m all core)) (sym send.is)
 
@@ -20,8 +21,8 @@ pub returns-in-Spread-clause-value : goal.returns-in-Spread-clause-value
 returns-in-Spread-clause-value g c = λ m all s.
     let core = c.args.core.now in
     let send = c.in-Spread in
-    ap (λ (x : CoreState). packet.Spread x.who x.promise c.report-in-Spread.result send.req c.copy-in-Spread.result) c.core.view_is
-    ∙ ap (λ (body : List ℕ). packet.Spread core.who core.promise c.report-in-Spread.result send.req body) c.copy-in-Spread.ensures
+    ap (λ (x : CoreState). packet.Spread x.who x.promise c.report-in-Spread.result send.req c.again-in-Spread.result) c.core.view_is
+    ∙ ap (λ (body : List ℕ). packet.Spread core.who core.promise c.report-in-Spread.result send.req body) c.again-in-Spread.ensures
     ∙ ap (λ (r : Report). packet.Spread core.who core.promise r send.req send.body) (c.report-in-Spread.ensures.value m all s)
     ∙ ap (λ (x : Note). packet_of x (with_core m all core)) (sym send.is)
 
@@ -33,7 +34,9 @@ returns-in-LeaveAsk-clause-value g c = λ m all s.
     ∙ ap (λ (x : Note). packet_of x (with_core m all core)) (sym c.in-LeaveAsk.is)
 
 pub returns-in-Bcast-clause-value : goal.returns-in-Bcast-clause-value
-returns-in-Bcast-clause-value g c = λ m all s. c.bcast.ensures.value m all s ∙ ap (λ (x : Note). packet_of x (with_core m all c.args.core.now)) (sym c.in-Bcast.is)
+returns-in-Bcast-clause-value g c = λ m all s. c.bcast.ensures.value m all s
+    ∙ ap (bcast_of (with_core m all c.args.core.now) c.in-Bcast.number) c.again-in-Bcast.ensures
+    ∙ ap (λ (x : Note). packet_of x (with_core m all c.args.core.now)) (sym c.in-Bcast.is)
 
 pub returns-in-Ack-clause-value : goal.returns-in-Ack-clause-value
 returns-in-Ack-clause-value g c = λ m all s. c.ack.ensures.value m all s ∙ ap (λ (x : Note). packet_of x (with_core m all c.args.core.now)) (sym c.in-Ack.is)

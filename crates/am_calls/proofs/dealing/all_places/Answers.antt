@@ -2,8 +2,8 @@ use Rattle.std.proofs.Common.{ℕ, [], ◌∷◌, length-append, refl, ap, ◌�
 use Rattle.std.proofs.lemmas.Iterator.Adapters.{YieldsList-from_vec}
 use Rattle.std.proofs.lemmas.Iterator.Consumers.{YieldsList-end}
 use Rattle.std.specs.Vec.Iter.{into_iter_items, into_iter_len}
-use Rattle.am_calls.specs.Ran.{HasPlaces}
-use Rattle.am_calls.proofs.Joined.{place_more}
+use Rattle.am_races.specs.Ran.{HasPlaces}
+use Rattle.am_races.proofs.Joined.{place_more}
 use Rattle.am_calls.proofs.dealing.all_places.Goals as goal
 
 pub loop-other-preserved : goal.loop-other-preserved

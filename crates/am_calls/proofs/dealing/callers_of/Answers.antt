@@ -3,9 +3,9 @@ use Rattle.std.proofs.lemmas.Iterator.Adapters.{YieldsList-from_vec}
 use Rattle.std.proofs.lemmas.Iterator.Consumers.{YieldsList-turn, YieldsList-end}
 use Rattle.am_wire.specs.declared.rule.Key.TheVariants.{Caller}
 use Rattle.am_wire.specs.Passes.{fresh}
-use Rattle.am_calls.specs.Lawful.{terms_of}
-use Rattle.am_calls.specs.Ran.{fresh_caller, fresh_callers}
-use Rattle.am_calls.proofs.Fresh.{share_at, many_shares, many_fresh, one_fresh}
+use Rattle.am_races.specs.Lawful.{terms_of}
+use Rattle.am_races.specs.Ran.{fresh_caller, fresh_callers}
+use Rattle.am_races.proofs.Fresh.{share_at, many_shares, many_fresh, one_fresh}
 use Rattle.am_calls.proofs.dealing.callers_of.Goals as goal
 
 pub overflow_cast-number : goal.overflow_cast-number

@@ -1,5 +1,5 @@
 use Rattle.std.proofs.Common.{◌∙◌}
-use Rattle.am_calls.proofs.Joined.{places_stay, in_more}
+use Rattle.am_races.proofs.Joined.{places_stay, in_more}
 use Rattle.am_calls.proofs.dealing.with_callers.Goals as goal
 
 pub loop-caller-preserved : goal.loop-caller-preserved

@@ -2,8 +2,8 @@ use Rattle.std.proofs.Common.{◌≡◌, ℕ, ◌≤◌, leb, true, length, sum_
 use Rattle.std.proofs.lemmas.Bool.Decides.{nat_tests}
 use Rattle.am_base.specs.Most.{most_events}
 use Rattle.am_group.specs.declared.plan.ThreadPlan.{ThreadPlan}
-use Rattle.am_calls.specs.Plans.{has_calls}
-use Rattle.am_calls.proofs.Mayings.{fits, fits_capped}
+use Rattle.am_races.specs.Plans.{has_calls}
+use Rattle.am_races.proofs.Mayings.{fits, fits_capped}
 use Rattle.am_calls.proofs.plans.may_race.Goals as goal
 
 at_most : (a b : ℕ) → leb a b ≡ true → a ≤ b

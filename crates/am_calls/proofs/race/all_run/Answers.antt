@@ -1,7 +1,7 @@
 use Rattle.std.proofs.Common.{rules, length, sym, ◌∙◌}
-use Rattle.am_calls.specs.Callings.{Calling}
-use Rattle.am_calls.proofs.Fresh.{fresh_at}
-use Rattle.am_calls.proofs.Running.{given_numbers}
+use Rattle.am_races.specs.Callings.{Calling}
+use Rattle.am_races.proofs.Fresh.{fresh_at}
+use Rattle.am_races.proofs.Running.{given_numbers}
 use Rattle.am_calls.proofs.race.all_run.Goals as goal
 
 pub map_vec-requires-after_bounds : goal.map_vec-requires-after_bounds

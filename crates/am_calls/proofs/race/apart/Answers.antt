@@ -1,5 +1,5 @@
 use Rattle.std.proofs.Common.{ℕ, ◌+◌, ◌≤◌, [], ◌∷◌, vec_len, length-append, sym, ap, ◌∙◌, subst}
-use Rattle.am_calls.proofs.Running.{mapped_more, refused_more}
+use Rattle.am_races.proofs.Running.{mapped_more, refused_more}
 use Rattle.am_calls.proofs.race.apart.Goals as goal
 
 pub loop-one-preserved : goal.loop-one-preserved

@@ -1,8 +1,8 @@
 use Rattle.std.proofs.Common.{◌<◌, ◌≤◌, List, length, get_or, sym, ap, ◌∙◌, subst, arith}
 use Rattle.am_group.specs.declared.event.Act.{Act}
-use Rattle.am_calls.specs.Ran.{HasRun}
-use Rattle.am_calls.proofs.Playing.{none_played, plays_on, thread_ends, all_played}
-use Rattle.am_calls.proofs.Running.{next_call}
+use Rattle.am_races.specs.Ran.{HasRun}
+use Rattle.am_races.proofs.Playing.{none_played, plays_on, thread_ends, all_played}
+use Rattle.am_races.proofs.Running.{next_call}
 use Rattle.am_calls.proofs.race.play.Goals as goal
 
 pub loop-act-init : goal.loop-act-init

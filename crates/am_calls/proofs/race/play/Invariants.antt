@@ -1,4 +1,4 @@
-use Rattle.am_calls.proofs.Playing.{Plays}
+use Rattle.am_races.proofs.Playing.{Plays}
 use Rattle.am_calls.proofs.race.play.Given as goal
 
 abbrev pub invariant-loop-act : goal.invariant-loop-act

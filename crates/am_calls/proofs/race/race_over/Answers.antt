@@ -1,7 +1,7 @@
 use Rattle.std.proofs.Common.{◌≡◌, length, Some, sym, ◌∙◌, subst}
 use Rattle.am_wire.specs.declared.wire.WireRefusal.{WireRefusal}
 use Rattle.am_wire.specs.declared.wire.WireRefusal.TheVariants as refusals
-use Rattle.am_calls.proofs.Raced.{run_numbers, run_did, are_played, not_spent}
+use Rattle.am_races.proofs.Raced.{run_numbers, run_did, are_played, not_spent}
 use Rattle.am_calls.proofs.race.race_over.Goals as goal
 
 pub finish-journal-requires-clause-callers : goal.finish-journal-requires-clause-callers

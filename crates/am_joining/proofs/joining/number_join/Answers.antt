@@ -8,7 +8,8 @@ use Rattle.am_core.proofs.Ends.{told-push}
 use Rattle.am_packet.specs.Boxes.{Letter, with_letter}
 use Rattle.am_model.specs.Node.{Node, top, image_of, others, push_entry}
 use Rattle.am_model.specs.Ends.{IsEndOf}
-use Rattle.am_handlers.specs.Cores.{CoreTells}
+use Rattle.am_model.specs.Emit.{bcast_of}
+use Rattle.am_handlers.specs.Cores.{CoreTells, with_core}
 use Rattle.am_handlers.specs.Keeps.{NodeKeeps}
 use Rattle.am_handlers.specs.Parts.{node_of}
 use Rattle.am_handlers.proofs.Ends.{end_self}
@@ -42,12 +43,14 @@ returns c =
     ∙ ap (λ (x : Node). push_entry x (Join c.args.from)) c.admit.ensures in
     let end : IsEndOf (push_entry (with_admitted old c.args.from) (Join c.args.from)) mid = subst (λ (x : Node). IsEndOf x mid) node
     (end_self mid c.push.ensures.order.kept) in
-    let to : c.others-others.result ≡ others old = end_tells others old c.others-others.result c.next_number-number.ensures.order.kept c.others-others.ensures in
+    let to : c.others-others.result ≡ others old = end_tells others old c.others-others.result c.next_number-number.ensures.order.kept c.others-others.ensures
+    in
     let number : c.next_number-number.result ≡ top old + 1 = c.next_number-number.ensures.value in
     let put = c.put.ensures ∙ ap (λ set. with_letter set c.bcast.result c.args.out.now) to ∙ ap (with_letter (others old) c.bcast.result) c.requires.empty in
     let Q : List Letter → Type 0 = λ letters. CoreTells (and_welcome c.next_number-number.result c.args.from letters) new.core c.welcome_accepted.new.out in
     done c.args.before (number_join old c.args.from) mid new _ c.welcome_accepted.new.out c.welcome_accepted.new.out refl end c.end.ensures
     (λ n is. ap said.Numbered number)
-    (join_letters old new c.args.from c.next_number-number.result c.bcast.result c.welcome_accepted.new.out number c.bcast.ensures.value
+    (join_letters old new c.args.from c.next_number-number.result c.bcast.result c.welcome_accepted.new.out number (λ m all s. c.bcast.ensures.value m all s
+    ∙ ap (bcast_of (with_core m all new.core) c.next_number-number.result) c.join.ensures)
     (subst Q put c.welcome_accepted.ensures))
     (told_numbered c.args.before c.welcome_accepted.new.out new)

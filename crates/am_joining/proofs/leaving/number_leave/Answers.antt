@@ -8,6 +8,8 @@ use Rattle.am_core.proofs.Ends.{told-push}
 use Rattle.am_packet.specs.Boxes.{with_letter}
 use Rattle.am_model.specs.Node.{Node, top, image_of, others, push_entry}
 use Rattle.am_model.specs.Ends.{IsEndOf}
+use Rattle.am_model.specs.Emit.{bcast_of}
+use Rattle.am_handlers.specs.Cores.{with_core}
 use Rattle.am_handlers.specs.Parts.{node_of}
 use Rattle.am_handlers.proofs.Ends.{end_self}
 use Rattle.am_handlers.proofs.Keeping.{keeps_pushed, leading_log}
@@ -25,8 +27,8 @@ push-requires-clause-keeps c =
     let old = node_of c.args.parts.now in
     let keeps = c.args.parts.now.keeps in
     let member = stays_by_leave (image_of old) (top old + 1) c.args.from old.core.who c.requires.other c.requires.leaver (keeps.leads c.requires.leads) in
-    keeps_pushed old (Leave c.args.from) refl (fits_leave (image_of old) c.args.from c.requires.leaver) (old.core.rules.window + 15) c.next_number-number.ensures.kept
-    (leading_log old c.requires.leads)
+    keeps_pushed old (Leave c.args.from) refl (fits_leave (image_of old) c.args.from c.requires.leaver)
+    (old.core.rules.window + 15) c.next_number-number.ensures.kept (leading_log old c.requires.leads)
     (λ leads. ap (λ (i : Image). has (members_of i) old.core.who) (told-push old.core.log (Leave c.args.from)) ∙ member) keeps
 
 pub returns : goal.returns
@@ -34,12 +36,15 @@ returns c =
     let old = node_of c.args.parts.now in
     let mid = node_of c.push.new.self in
     let new = node_of c.end.new.self in
-    let end : IsEndOf (push_entry old (Leave c.args.from)) mid = subst (λ (x : Node). IsEndOf x mid) c.push.ensures.node (end_self mid c.push.ensures.order.kept) in
-    let to : c.others-others.result ≡ others old = end_tells others old c.others-others.result c.next_number-number.ensures.order.kept c.others-others.ensures in
+    let end : IsEndOf (push_entry old (Leave c.args.from)) mid = subst (λ (x : Node). IsEndOf x mid) c.push.ensures.node
+    (end_self mid c.push.ensures.order.kept) in
+    let to : c.others-others.result ≡ others old = end_tells others old c.others-others.result c.next_number-number.ensures.order.kept c.others-others.ensures
+    in
     let number : c.next_number-number.result ≡ top old + 1 = c.next_number-number.ensures.value in
     let put = c.put.ensures ∙ ap (λ set. with_letter set c.bcast.result c.args.out.now) to ∙ ap (with_letter (others old) c.bcast.result) c.requires.empty in
     done c.args.before (number_leave old c.args.from) mid new _ c.let_go-goes.new.out c.let_go-goes.new.out refl end c.end.ensures
     (λ n is. ap said.Numbered number)
-    (leave_letters old new c.args.from c.next_number-number.result c.bcast.result c.put.new.self c.let_go-goes.new.out number c.bcast.ensures.value put
+    (leave_letters old new c.args.from c.next_number-number.result c.bcast.result c.put.new.self c.let_go-goes.new.out number
+    (λ m all s. c.bcast.ensures.value m all s ∙ ap (bcast_of (with_core m all new.core) c.next_number-number.result) c.leave.ensures) put
     c.let_go-goes.ensures.letters)
     (told_numbered c.args.before c.let_go-goes.new.out new)

@@ -1,9 +1,10 @@
-use Rattle.std.proofs.Common.{sym, ◌∙◌, subst}
+use Rattle.std.proofs.Common.{ap, sym, ◌∙◌, subst}
 use Rattle.am_model.specs.Node.{Node}
-use Rattle.am_model.specs.Joining.{ask_next, welcome_row}
+use Rattle.am_model.specs.Joining.{begin_list, ask_next, welcome_row}
 use Rattle.am_handlers.specs.Parts.{node_of}
 use Rattle.am_handlers.specs.Finishing.{Done}
 use Rattle.am_handlers.proofs.Plans.{does_now}
+use Rattle.am_joining.specs.Pieces.{is_unfit}
 use Rattle.am_joining.proofs.Begun.{welcome_known, welcome_elsewhere, welcome_unfit, welcome_begins, member_or_asks}
 use Rattle.am_joining.proofs.welcomed.on_welcome.Goals as goal
 
@@ -25,9 +26,10 @@ returns-then-has_promised_more c =
 pub returns-then-is_unfit : goal.returns-then-is_unfit
 returns-then-is_unfit c =
     let old = node_of c.args.parts.now in
+    let unfit = ap (is_unfit old c.args.stamp c.args.base c.args.join) (sym c.to_image-image.ensures) ∙ sym c.is_unfit.ensures ∙ c.if-is_unfit.true in
     does_now (λ m. welcome_row m c.args.from c.args.stamp c.args.base c.args.join c.args.image.now) old c.accept_front-before.ensures.value
     (welcome_unfit old c.args.from c.args.stamp c.args.base c.args.join c.args.image.now (sym c.is_member.ensures ∙ c.if-is_member.false)
-    (sym c.has_promised_more.ensures ∙ c.if-has_promised_more.false) (sym c.is_unfit.ensures ∙ c.if-is_unfit.true))
+    (sym c.has_promised_more.ensures ∙ c.if-has_promised_more.false) unfit)
     c.finish_quietly-then-is_unfit.ensures
 
 pub begin-requires-clause-asking : goal.begin-requires-clause-asking
@@ -36,9 +38,11 @@ begin-requires-clause-asking c = member_or_asks (node_of c.args.parts.now).statu
 pub returns : goal.returns
 returns c =
     let old = node_of c.args.parts.now in
+    let fit = ap (is_unfit old c.args.stamp c.args.base c.args.join) (sym c.to_image-image.ensures) ∙ sym c.is_unfit.ensures ∙ c.if-is_unfit.false in
+    let began = c.begin.ensures ∙ ap (begin_list old c.args.stamp c.args.base c.args.join) c.to_image-image.ensures in
     let P : Node → Type 0 = λ x. Done c.accept_front-before.result (ask_next x c.args.from c.args.stamp c.args.join) c.ask_on.result c.ask_on.new.out
     (node_of c.ask_on.new.parts) in
     does_now (λ m. welcome_row m c.args.from c.args.stamp c.args.base c.args.join c.args.image.now) old c.accept_front-before.ensures.value
     (welcome_begins old c.args.from c.args.stamp c.args.base c.args.join c.args.image.now (sym c.is_member.ensures ∙ c.if-is_member.false)
-    (sym c.has_promised_more.ensures ∙ c.if-has_promised_more.false) (sym c.is_unfit.ensures ∙ c.if-is_unfit.false))
-    (subst P c.begin.ensures c.ask_on.ensures)
+    (sym c.has_promised_more.ensures ∙ c.if-has_promised_more.false) fit)
+    (subst P began c.ask_on.ensures)

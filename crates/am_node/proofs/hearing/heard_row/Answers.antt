@@ -7,8 +7,8 @@ pub on_request-requires-clause-req : goal.on_request-requires-clause-req
 on_request-requires-clause-req c = request_req c.in-Request.sender c.in-Request.stamp c.in-Request.report c.in-Request.req c.in-Request.body
     (subst IsWithin c.in-Request.is c.requires.within)
 
-pub on_body-requires-clause-req : goal.on_body-requires-clause-req
-on_body-requires-clause-req c = spread_req c.in-Spread.sender c.in-Spread.stamp c.in-Spread.report c.in-Spread.req c.in-Spread.body
+pub on_request-requires-then-is_sequencer-clause-req : goal.on_request-requires-then-is_sequencer-clause-req
+on_request-requires-then-is_sequencer-clause-req c = spread_req c.in-Spread.sender c.in-Spread.stamp c.in-Spread.report c.in-Spread.req c.in-Spread.body
     (subst IsWithin c.in-Spread.is c.requires.within)
 
 pub on_bcast-requires-clause-number : goal.on_bcast-requires-clause-number

@@ -23,7 +23,8 @@ returns-in_err-step-clause-spent c =
 pub returns-clause-world : goal.returns-clause-world
 returns-clause-world c =
     let all : c.loop-done._done ≡ c.args.count = omega (arith, c.loop-done-test.false, c.loop-done.auto._done-end) in
-    c.into_world.ensures ∙ ap (λ (d : Drive). d.play) (c.loop-done.invariant ∙ ap (λ n. drive n (first_drive c.args.seed)) all) ∙ play_is c.args.seed c.args.count
+    c.into_world.ensures ∙ ap (λ (d : Drive). d.play) (c.loop-done.invariant ∙ ap (λ n. drive n (first_drive c.args.seed)) all)
+    ∙ play_is c.args.seed c.args.count
 
 pub returns-clause-count : goal.returns-clause-count
 returns-clause-count c =

@@ -16,8 +16,8 @@ returns c =
     let old = node_of c.args.parts.now in
     let missing = said.NoBody c.args.from c.args.req in
     let P : Option Entry → Type 0 = λ found. Done c.accept_front-before.result
-    (receive_entry (with_noted old c.args.base c.args.acc) c.args.sequencer c.args.base c.args.number found missing) c.receive_entry.result c.receive_entry.new.out
-    (node_of c.receive_entry.new.parts) in
+    (receive_entry (with_noted old c.args.base c.args.acc) c.args.sequencer c.args.base c.args.number found missing) c.receive_entry.result
+    c.receive_entry.new.out (node_of c.receive_entry.new.parts) in
     does_now (λ m. order_row m c.args.sequencer c.args.base c.args.acc c.args.number c.args.from c.args.req) old c.accept_front-before.ensures.value refl
     (subst P (c.as_ref.ensures.value ∙ c.data_of-found.ensures.value)
     (noted_done c.accept_front-before.result old (node_of c.note.new.parts) _ c.args.base c.args.acc c.args.sequencer c.args.number

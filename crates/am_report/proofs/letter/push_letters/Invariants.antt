@@ -1,5 +1,5 @@
 use Rattle.std.proofs.Common.{◌≡◌, ◌+◌, ◌++◌, drop, string_bytes}
-use Rattle.am_model.specs.Text.{letters_text}
+use Rattle.am_play.specs.Text.{letters_text}
 use Rattle.am_report.proofs.letter.push_letters.Given as goal
 
 abbrev pub invariant-loop-at : goal.invariant-loop-at

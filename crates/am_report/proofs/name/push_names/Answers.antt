@@ -1,6 +1,6 @@
 use Rattle.std.proofs.Common.{arith}
 use Rattle.std.proofs.lemmas.Grind.{common_steps}
-use Rattle.am_model.specs.Text.{names_text}
+use Rattle.am_play.specs.Text.{names_text}
 use Rattle.am_report.proofs.Names.{names_from_none}
 use Rattle.am_report.proofs.name.push_names.Goals as goal
 

@@ -1,6 +1,6 @@
 use Rattle.std.proofs.Common.{◌≡◌, ◌++◌, drop, string_bytes}
 use Rattle.am_base.specs.Names.{names_from}
-use Rattle.am_model.specs.Text.{list_text}
+use Rattle.am_play.specs.Text.{list_text}
 use Rattle.am_report.specs.Names.{rest_text}
 use Rattle.am_report.proofs.name.push_names.Given as goal
 

@@ -1,5 +1,5 @@
 use Rattle.std.proofs.Common.{◌≡◌, ◌+◌, ◌++◌, drop, string_bytes}
-use Rattle.am_model.specs.Text.{group_from}
+use Rattle.am_play.specs.Text.{group_from}
 use Rattle.am_report.proofs.play.push_group.Given as goal
 
 abbrev pub invariant-loop-at : goal.invariant-loop-at

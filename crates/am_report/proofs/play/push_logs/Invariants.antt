@@ -1,5 +1,5 @@
 use Rattle.std.proofs.Common.{◌≡◌, ◌++◌, drop, string_bytes}
-use Rattle.am_model.specs.Text.{logs_text}
+use Rattle.am_play.specs.Text.{logs_text}
 use Rattle.am_report.specs.Logs.{logs_for}
 use Rattle.am_report.proofs.play.push_logs.Given as goal
 

@@ -1,6 +1,6 @@
 use Rattle.std.proofs.Common.{◌≡◌, ◌+◌, ◌++◌, length, drop, string_bytes}
 use Rattle.am_group.specs.Journals.{letters_of}
-use Rattle.am_model.specs.Text.{lines_from}
+use Rattle.am_play.specs.Text.{lines_from}
 use Rattle.am_report.proofs.play.push_records.Given as goal
 
 abbrev pub invariant-loop-at : goal.invariant-loop-at

@@ -19,12 +19,12 @@ use Rattle.am_model.specs.Joining.{join_ask_row, welcome_row, leave_ask_row, gon
 use Rattle.am_model.specs.Resets.{invite_row, vote_row, fetch_row, piece_row, result_row, hand_over_row}
 use Rattle.am_model.specs.Hearing.{hear_row}
 use Rattle.am_model.specs.Step.{row, step, hear, hear_refusal}
-use Rattle.am_model.specs.World.{with_record, with_step, happens, happen}
-use Rattle.am_model.specs.Lawful.{is_complete, is_lawful, greatest_complete, watch, watch_all}
-use Rattle.am_model.specs.Settle.{running, hearings_from, waves, rounds, settle_events}
-use Rattle.am_model.specs.Text.{name_text, stamp_text, names_text, body_text, resilience_text, entry_text, outcome_word, outcome_parts, outcome_text, act_word}
-use Rattle.am_model.specs.Text.{act_parts, event_text, kind_word, addressees_text, letter_text, record_line, records_text, group_line, group_text, log_line}
-use Rattle.am_model.specs.Text.{empty_log_line, log_text, logs_text, mark_line, play_text}
+use Rattle.am_play.specs.World.{with_record, with_step, happens, happen}
+use Rattle.am_play.specs.Lawful.{is_complete, is_lawful, greatest_complete, watch, watch_all}
+use Rattle.am_play.specs.Settle.{running, hearings_from, waves, rounds, settle_events}
+use Rattle.am_play.specs.Text.{name_text, stamp_text, names_text, body_text, resilience_text, entry_text, outcome_word, outcome_parts, outcome_text, act_word}
+use Rattle.am_play.specs.Text.{act_parts, event_text, kind_word, addressees_text, letter_text, record_line, records_text, group_line, group_text, log_line}
+use Rattle.am_play.specs.Text.{empty_log_line, log_text, logs_text, mark_line, play_text}
 use Rattle.std.specs.Fmt.{digits}
 use Rattle.am_rows.specs.Scripts.{set_of}
 use Rattle.am_rows.proofs.worked_resets.texts.Goals as goal

@@ -16,7 +16,8 @@ use Rattle.am_handlers.proofs.Ends.{end_self}
 use Rattle.am_handlers.proofs.Keeping.{keeps_pushed, leading_log}
 use Rattle.am_handlers.proofs.Plans.{done, end_tells, letter_tells, told_numbered}
 use Rattle.am_sequencer.specs.Pieces.{data_packet}
-use Rattle.am_sequencer.proofs.Numbers.{members_pushed, next_fits}
+use Rattle.am_core.proofs.Members.{members_pushed}
+use Rattle.am_sequencer.proofs.Numbers.{next_fits}
 use Rattle.am_sequencer.proofs.Rows.{requested_left, requested_again, requested_early, requested_held, requested_next}
 use Rattle.am_sequencer.proofs.numbering.answer_request.Goals as goal
 
@@ -52,15 +53,15 @@ push-requires-clause-fits c =
     let there = c.row-row.ensures.value in
     let left = ap (λ (r : Row). r.left) there in
     let last = ap (λ (r : Row). r.last) there in
-    next_fits (image_of (node_of c.args.parts.now)) c.args.from c.args.req c.copy.result c.requires.known (omega arith) (omega arith)
+    next_fits (image_of (node_of c.args.parts.now)) c.args.from c.args.req c.to_body.result c.requires.known (omega arith) (omega arith)
 
 pub push-requires-clause-keeps : goal.push-requires-clause-keeps
 push-requires-clause-keeps c =
     let old = node_of c.args.parts.now in
     let keeps = c.args.parts.now.keeps in
-    keeps_pushed old (Data c.args.from c.args.req c.copy.result) refl (push-requires-clause-fits c)
+    keeps_pushed old (Data c.args.from c.args.req c.to_body.result) refl (push-requires-clause-fits c)
     (old.core.rules.window + 15) c.next_number-number.ensures.kept (leading_log old c.requires.leads)
-    (λ leads. ap (λ set. has set old.core.who) (members_pushed old.core.log c.args.from c.args.req c.copy.result) ∙ keeps.leads leads) keeps
+    (λ leads. ap (λ set. has set old.core.who) (members_pushed old.core.log c.args.from c.args.req c.to_body.result) ∙ keeps.leads leads) keeps
 
 pub returns : goal.returns
 returns c =
@@ -70,9 +71,10 @@ returns c =
     let e : Entry = Data c.args.from c.args.req c.args.body.now in
     let packet = c.data_packet-packet.result in
     let answer : Outcome = said.Numbered c.next_number-number.result in
-    let node : mid ≡ push_entry old e = c.push.ensures.node ∙ ap (λ (body : List ℕ). push_entry old (Data c.args.from c.args.req body)) c.copy.ensures in
+    let node : mid ≡ push_entry old e = c.push.ensures.node ∙ ap (λ (body : List ℕ). push_entry old (Data c.args.from c.args.req body)) c.to_body.ensures in
     let end : IsEndOf (push_entry old e) mid = subst (λ (x : Node). IsEndOf x mid) node (end_self mid c.push.ensures.order.kept) in
-    let to : c.others-others.result ≡ others old = end_tells others old c.others-others.result c.next_number-number.ensures.order.kept c.others-others.ensures in
+    let to : c.others-others.result ≡ others old = end_tells others old c.others-others.result c.next_number-number.ensures.order.kept c.others-others.ensures
+    in
     let number : c.next_number-number.result ≡ top old + 1 = c.next_number-number.ensures.value in
     let sent = c.put.ensures ∙ ap (λ set. with_letter set packet c.args.out.now) to ∙ ap (with_letter (others old) packet) c.requires.empty in
     let told = letter_tells (others old) (data_packet c.next_number-number.result c.args.from c.args.req c.args.body.now c.args.by_order) new packet

@@ -9,4 +9,5 @@ returns-then-by_order-clause-value g c = λ m all s. rw (c.if-by_order.true) (c.
 
 pub returns-clause-value : goal.returns-clause-value
 returns-clause-value g c = λ m all s. rw (c.if-by_order.false) (c.bcast.ensures.value m all s
-    ∙ ap (λ (body : List ℕ). bcast_of (with_core m all c.args.core.now) c.args.number (Data c.args.from c.args.req body)) c.copy.ensures)
+    ∙ ap (bcast_of (with_core m all c.args.core.now) c.args.number) c.of-entry.ensures
+    ∙ ap (λ (body : List ℕ). bcast_of (with_core m all c.args.core.now) c.args.number (Data c.args.from c.args.req body)) c.again.ensures)

@@ -19,7 +19,8 @@ returns-in-Some c =
     (sym c.in-Some.is ∙ c.report_refusal.ensures.value)) c.finish_quietly.ensures
 
 pub answer_request-requires-clause-leads : goal.answer_request-requires-clause-leads
-answer_request-requires-clause-leads c = steady_leads (node_of c.args.parts.now) (node_of c.take_report.new.self) c.take_report.ensures.steady ∙ c.requires.serves.leads
+answer_request-requires-clause-leads c = steady_leads (node_of c.args.parts.now) (node_of c.take_report.new.self) c.take_report.ensures.steady
+    ∙ c.requires.serves.leads
 
 pub answer_request-requires-clause-known : goal.answer_request-requires-clause-known
 answer_request-requires-clause-known c = ap (λ (i : Image). (row_of i c.args.from).joined == 0) c.take_report.ensures.steady.told

@@ -1,7 +1,15 @@
-use Rattle.std.proofs.Common.{◌≡◌, ◌+◌, ◌-◌, sym, ◌∙◌, arith}
+use Rattle.std.proofs.Common.{◌≡◌, ◌+◌, ◌-◌, List, ℕ, Some, ap, sym, ◌∙◌, arith}
+use Rattle.am_base.specs.declared.entry.Entry.{Entry}
+use Rattle.am_base.specs.Lists.{entry_at}
+use Rattle.am_packet.specs.declared.packet.Packet.{Packet}
+use Rattle.am_packet.specs.Boxes.{with_letter}
+use Rattle.am_core.specs.Cores.{CoreState}
 use Rattle.am_model.specs.Node.{only_name}
+use Rattle.am_model.proofs.Letters.{one_more}
 use Rattle.am_sequencer.specs.Pieces.{bcast_from}
-use Rattle.am_sequencer.proofs.Served.{kept_above, put_none, serve_next, served_letters, served_count}
+use Rattle.am_handlers.proofs.Served.{kept_above, put_none}
+use Rattle.am_sequencer.proofs.Again.{bcast_is}
+use Rattle.am_sequencer.proofs.Served.{serve_next, served_letters, served_count}
 use Rattle.am_sequencer.proofs.serving.put_entries.Goals as goal
 
 pub loop-before-init : goal.loop-before-init
@@ -13,12 +21,24 @@ loop-before-init g c = record {
 
 pub loop-before-preserved : goal.loop-before-preserved
 loop-before-preserved g c =
+    let core = c.args.core.now in
+    let number = c.loop-before.before + 1 in
     let kept = c.requires.kept in
     let before = c.loop-before.invariant.few in
+    let more = one_more (only_name c.args.to) c.bcast.result c.loop-before.out in
+    let put : c.put.new.self ≡ with_letter (only_name c.args.to) c.bcast.result c.loop-before.out = c.put.ensures
+    ∙ ap (λ (to : List ℕ). with_letter to c.bcast.result c.loop-before.out) c.only.ensures in
+    let tells : (e : Entry) → entry_at core.log number ≡ Some e → c.put.new.self ≡ with_letter (only_name c.args.to) (bcast_from core number e)
+    c.loop-before.out = λ e there.
+    let found : Some c.in-Some.entry.now ≡ Some e = c.in-Some.ensures.value ∙ ap (λ (x : CoreState). entry_at x.log number) c.core.view_is ∙ there in
+    let same : c.in-Some.entry.now ≡ e = cc in
+    let start = kept in
+    put ∙ ap (λ (p : Packet). with_letter (only_name c.args.to) p c.loop-before.out)
+    (bcast_is core number c.as_ref.result c.bcast.result start c.bcast.ensures.value ∙ ap (bcast_from core number) (c.as_ref.ensures ∙ same)) in
     record {
-      letters = serve_next c.args.core.now (only_name c.args.to) c.args.stored c.loop-before.before c.loop-before.out c.tell_entry.new.out (omega arith)
-          (omega arith) (omega arith) c.loop-before.invariant.letters c.tell_entry.ensures.letters;
-      few = omega arith;
+      letters = serve_next core (only_name c.args.to) c.args.stored c.loop-before.before c.loop-before.out c.put.new.self (omega arith)
+          (omega arith) (omega arith) c.loop-before.invariant.letters tells;
+      few = rw put (omega arith);
     }
 
 pub returns-clause-letters : goal.returns-clause-letters

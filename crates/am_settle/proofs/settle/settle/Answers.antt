@@ -1,7 +1,7 @@
 use Rattle.std.proofs.Common.{◌≡◌, ◌+◌, length, ap, ◌∙◌, subst, arith}
 use Rattle.std.proofs.lemmas.List.{length-append}
 use Rattle.std.proofs.lemmas.Result.{err_from_is_err_and}
-use Rattle.am_model.specs.Settle.{settle_events}
+use Rattle.am_play.specs.Settle.{settle_events}
 use Rattle.am_world.specs.Runs.{Play, replay}
 use Rattle.am_settle.specs.Settling.{Did, Stuck}
 use Rattle.am_settle.proofs.Rounds.{whole, settles, round_next, settle_stuck, settled}

@@ -16,9 +16,9 @@ loop-before-preserved c =
     record {
       most = omega arith;
       stored = omega arith;
-      room = c.push_reserved.ensures.capacity ∙ c.loop-before.invariant.room;
-      items = c.push_reserved.ensures.items ∙ ap (λ xs. xs ++ c.copy.result ∷ []) c.loop-before.invariant.items
-          ∙ ap (λ x. (old ++ between core.log had before) ++ x ∷ []) c.copy.ensures ∙ append_assoc old (between core.log had before) (e ∷ [])
+      room = c.add_entry.ensures.capacity ∙ c.loop-before.invariant.room;
+      items = c.add_entry.ensures.items ∙ ap (λ xs. xs ++ e ∷ []) c.loop-before.invariant.items
+          ∙ append_assoc old (between core.log had before) (e ∷ [])
           ∙ ap (λ xs. old ++ xs) (sym more);
     }
 

@@ -1,4 +1,4 @@
-use Rattle.am_model.specs.World.{start}
+use Rattle.am_play.specs.World.{start}
 use Rattle.am_world.specs.Runs.{AreFirst}
 use Rattle.am_world.proofs.run.sixteen.Given as goal
 

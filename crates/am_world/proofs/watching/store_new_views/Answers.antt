@@ -1,4 +1,4 @@
-use Rattle.std.proofs.Common.{[], if◌then◌else◌, true, false, refl, ◌∙◌}
+use Rattle.std.proofs.Common.{[], if◌then◌else◌, false, refl, ◌∙◌}
 use Rattle.am_watch.specs.Watchers.{watching_of}
 use Rattle.am_world.specs.Watched.{entry_in, one_of, last_view}
 use Rattle.am_world.proofs.Watches.{views_more}
@@ -7,5 +7,5 @@ use Rattle.am_world.proofs.watching.store_new_views.Goals as goal
 pub returns : goal.returns
 returns c =
     c.store.ensures ∙ views_more (watching_of c.args.watcher.now) (watching_of c.store_one.new.watcher) c.args.name false false
-    (if c.args.is_decided then one_of (entry_in c.args.what.now) else []) (one_of c.fetched_before-earlier.result) (last_view c.args.view.now) c.last_view.result
-    refl refl c.fetched_before-earlier.ensures c.last_view.ensures c.store_one.ensures
+    (if c.args.is_decided then one_of (entry_in c.args.what.now) else []) (one_of c.fetched_before-earlier.result)
+    (last_view c.args.view.now) c.last_view.result refl refl c.fetched_before-earlier.ensures c.last_view.ensures c.store_one.ensures

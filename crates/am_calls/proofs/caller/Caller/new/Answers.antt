@@ -1,4 +1,4 @@
-use Rattle.am_calls.proofs.Finishing.{fresh_hand}
+use Rattle.am_races.proofs.Finishing.{fresh_hand}
 use Rattle.am_calls.proofs.caller.Caller.new.Goals as goal
 
 pub invariant_of-result : goal.invariant_of-result

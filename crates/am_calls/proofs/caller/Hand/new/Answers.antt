@@ -1,4 +1,4 @@
-use Rattle.am_calls.proofs.Finishing.{fresh_luck}
+use Rattle.am_races.proofs.Finishing.{fresh_luck}
 use Rattle.am_calls.proofs.caller.Hand.new.Goals as goal
 
 pub returns-clause-chooser : goal.returns-clause-chooser

@@ -1,5 +1,5 @@
 use Rattle.std.proofs.Common.{sym, ◌∙◌}
-use Rattle.am_calls.proofs.Making.{receive_begins, refused_first, own_call, began_call, went_on}
+use Rattle.am_races.proofs.Making.{receive_begins, refused_first, own_call, began_call, went_on}
 use Rattle.am_calls.proofs.kernels.Kernels.do_call.Goals as goal
 
 pub go_on-requires-clause-begun : goal.go_on-requires-clause-begun

@@ -4,12 +4,12 @@ use Rattle.am_group.specs.declared.event.Record.{Record}
 use Rattle.am_wire.specs.declared.rule.Terms.{Terms}
 use Rattle.am_wire.specs.Passes.{HasAll}
 use Rattle.am_wire.specs.Seats.{Follows}
-use Rattle.am_calls.specs.Lawful.{IsLawful}
-use Rattle.am_calls.specs.Legal.{IsLegalWithTags}
-use Rattle.am_calls.specs.Plans.{calls_of}
-use Rattle.am_calls.specs.Ran.{EndsFor}
-use Rattle.am_calls.proofs.Finishing.{legal_with_tags}
-use Rattle.am_calls.proofs.Joined.{has_all, planned_in, all_end}
+use Rattle.am_races.specs.Lawful.{IsLawful}
+use Rattle.am_races.specs.Legal.{IsLegalWithTags}
+use Rattle.am_races.specs.Plans.{calls_of}
+use Rattle.am_races.specs.Ran.{EndsFor}
+use Rattle.am_races.proofs.Finishing.{legal_with_tags}
+use Rattle.am_races.proofs.Joined.{has_all, planned_in, all_end}
 use Rattle.am_calls.proofs.kernels.Kernels.finish.Goals as goal
 
 pub close-requires-clause-all : goal.close-requires-clause-all

@@ -1,13 +1,13 @@
 use Rattle.std.proofs.Common.{◌≡◌, ℕ, ◌+◌, ◌≤◌, Option, None, is_some, true, false, true≢false, unwrap_or, sym, refl, ap, ◌∙◌, subst}
 use Rattle.am_base.specs.Names.{place_of}
-use Rattle.am_calls.specs.declared.answer.Answer.{Answer}
-use Rattle.am_calls.specs.declared.answer.Answer.TheVariants as answer
-use Rattle.am_calls.specs.Answers.{late_after}
-use Rattle.am_calls.specs.Going.{told_at_end, request_in_call, HasLooked, Made}
-use Rattle.am_calls.specs.Tags.{of_call}
-use Rattle.am_calls.proofs.Growing.{not_grown}
-use Rattle.am_calls.proofs.Looking.{nothing_since}
-use Rattle.am_calls.proofs.Making.{HasTurned, none_turned, came_still, one_turned, refused_call, ended_call}
+use Rattle.am_races.specs.declared.answer.Answer.{Answer}
+use Rattle.am_races.specs.declared.answer.Answer.TheVariants as answer
+use Rattle.am_races.specs.Answers.{late_after}
+use Rattle.am_races.specs.Going.{told_at_end, request_in_call, HasLooked, Made}
+use Rattle.am_races.specs.Tags.{of_call}
+use Rattle.am_races.proofs.Growing.{not_grown}
+use Rattle.am_races.proofs.Looking.{nothing_since}
+use Rattle.am_races.proofs.Making.{HasTurned, none_turned, came_still, one_turned, refused_call, ended_call}
 use Rattle.am_calls.proofs.kernels.Kernels.go_on.Goals as goal
 
 some_told : (o : Option Answer) → is_some o ≡ true → (turns spent : ℕ) → o ≡ None → turns ≤ spent

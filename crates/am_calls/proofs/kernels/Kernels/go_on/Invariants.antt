@@ -1,6 +1,6 @@
-use Rattle.am_calls.specs.Callings.{IsHand}
-use Rattle.am_calls.specs.Going.{request_in_call}
-use Rattle.am_calls.proofs.Making.{HasTurned}
+use Rattle.am_races.specs.Callings.{IsHand}
+use Rattle.am_races.specs.Going.{request_in_call}
+use Rattle.am_races.proofs.Making.{HasTurned}
 use Rattle.am_calls.proofs.kernels.Kernels.go_on.Given as goal
 
 abbrev pub invariant-loop-spent : goal.invariant-loop-spent

@@ -1,9 +1,9 @@
 use Rattle.std.proofs.Common.{[], ◌∷◌, sym, subst}
 use Rattle.am_wire.specs.declared.rule.Key.TheVariants.{Caller}
 use Rattle.am_wire.specs.Seats.{GoesOn}
-use Rattle.am_calls.specs.Callings.{Calling, IsHand}
-use Rattle.am_calls.proofs.Looking.{hand_meets, meets_goes}
-use Rattle.am_calls.proofs.Making.{has_made_still}
+use Rattle.am_races.specs.Callings.{Calling, IsHand}
+use Rattle.am_races.proofs.Looking.{hand_meets, meets_goes}
+use Rattle.am_races.proofs.Making.{has_made_still}
 use Rattle.am_calls.proofs.kernels.Kernels.info.Goals as goal
 
 pub invariant_of-caller : goal.invariant_of-caller

@@ -1,6 +1,6 @@
 use Rattle.std.proofs.Common.{ℕ, sym, subst}
-use Rattle.am_calls.specs.Callings.{IsHand}
-use Rattle.am_calls.proofs.Making.{make_fresh, make_caller, make_has, make_called}
+use Rattle.am_races.specs.Callings.{IsHand}
+use Rattle.am_races.proofs.Making.{make_fresh, make_caller, make_has, make_called}
 use Rattle.am_calls.proofs.kernels.Kernels.make.Goals as goal
 
 pub do_call-answer-requires-clause-fresh : goal.do_call-answer-requires-clause-fresh

@@ -1,7 +1,7 @@
 use Rattle.std.proofs.Common.{refl}
 use Rattle.am_group.specs.declared.event.Act.TheVariants as act
-use Rattle.am_calls.specs.declared.answer.Answer.TheVariants as answer
-use Rattle.am_calls.proofs.Making.{none_made, make_has, make_called}
+use Rattle.am_races.specs.declared.answer.Answer.TheVariants as answer
+use Rattle.am_races.proofs.Making.{none_made, make_has, make_called}
 use Rattle.am_calls.proofs.kernels.Kernels.send.Goals as goal
 
 pub invariant_of-caller : goal.invariant_of-caller

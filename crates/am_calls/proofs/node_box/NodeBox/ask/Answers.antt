@@ -1,4 +1,4 @@
-use Rattle.am_calls.proofs.Looking.{may_ask, no_turn_asked, ask_hand, ask_done, ask_goes, ask_refused, refused_as}
+use Rattle.am_races.proofs.Looking.{may_ask, no_turn_asked, ask_hand, ask_done, ask_goes, ask_refused, refused_as}
 use Rattle.am_calls.proofs.node_box.NodeBox.ask.Goals as goal
 
 pub act-requires-clause-may : goal.act-requires-clause-may
@@ -14,8 +14,8 @@ returns-in-Ok-clause-hand g c =
 
 pub returns-in-Ok-clause-ok : goal.returns-in-Ok-clause-ok
 returns-in-Ok-clause-ok g c =
-    ask_done _ _ c.args.self.now c.act.new.self _ _ _ c.args.act c.args.by c.requires.met.hand c.act.ensures.share c.in-Ok.came c.requires.met.same c.in-Ok.ensures.ok
-    c.in-Ok.ensures.told
+    ask_done _ _ c.args.self.now c.act.new.self _ _ _ c.args.act c.args.by c.requires.met.hand c.act.ensures.share c.in-Ok.came c.requires.met.same
+    c.in-Ok.ensures.ok c.in-Ok.ensures.told
 
 pub returns-in-Err-clause-hand : goal.returns-in-Err-clause-hand
 returns-in-Err-clause-hand g c = ask_refused _ _ c.args.self.now c.act.new.self _ _ _ c.args.act c.args.by c.requires.met.hand c.act.ensures.share

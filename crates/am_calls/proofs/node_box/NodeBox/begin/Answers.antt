@@ -4,10 +4,10 @@ use Rattle.am_group.specs.declared.event.By.{By}
 use Rattle.am_group.specs.declared.event.Part.TheVariants.{Call}
 use Rattle.am_group.specs.declared.event.Record.{Record}
 use Rattle.am_group.specs.declared.plan.RacePlan.{RacePlan}
-use Rattle.am_calls.specs.declared.answer.Answer.{Answer}
-use Rattle.am_calls.specs.declared.ready.Came.{Came}
-use Rattle.am_calls.specs.Going.{by_of, is_asked, Asked, WasRefused}
-use Rattle.am_calls.proofs.Looking.{call_asks, began_all, all_refused_since}
+use Rattle.am_races.specs.declared.answer.Answer.{Answer}
+use Rattle.am_races.specs.declared.call.Came.{Came}
+use Rattle.am_races.specs.Going.{by_of, is_asked, Asked, WasRefused}
+use Rattle.am_races.proofs.Looking.{call_asks, began_all, all_refused_since}
 use Rattle.am_calls.proofs.node_box.NodeBox.begin.Goals as goal
 
 pub ask-requires-clause-asks : goal.ask-requires-clause-asks
@@ -25,13 +25,14 @@ pub returns-clause-ok : goal.returns-clause-ok
 returns-clause-ok g c =
     began_all g.N.Racing.plan c.args.self.now.name c.args.visit.now.tag c.args.act.now c.args.hand.now.share.seen c.meet_caller.new.hand.share.seen
     c.ask.new.hand.share.seen c.ask.result c.meet_caller.ensures.goes
-    (asked_as g.N.Racing.plan c.args.self.now.name c.meet_caller.new.self.name c.args.act.now c.in-Ok.own (by_of c.args.visit.now.tag Call) c.with.result _ _ c.ask.result
-    c.meet_caller.ensures.name c.in-Ok.ensures c.with.ensures c.ask.ensures.ok)
+    (asked_as g.N.Racing.plan c.args.self.now.name c.meet_caller.new.self.name c.args.act.now c.in-Ok.own (by_of c.args.visit.now.tag Call) c.with.result _ _
+    c.ask.result c.meet_caller.ensures.name c.in-Ok.ensures c.with.ensures c.ask.ensures.ok)
 
 pub returns-clause-err : goal.returns-clause-err
 returns-clause-err g c =
-    subst (λ (n : ℕ). IfErr c.ask.result (WasRefused n c.args.visit.now.tag.caller c.args.hand.now.share.seen c.ask.new.hand.share.seen)) c.meet_caller.ensures.name
-    (all_refused_since c.meet_caller.new.self.name c.args.visit.now.tag.caller c.args.hand.now.share.seen c.meet_caller.new.hand.share.seen c.ask.new.hand.share.seen
-    c.ask.result c.meet_caller.ensures.goes
+    subst (λ (n : ℕ). IfErr c.ask.result (WasRefused n c.args.visit.now.tag.caller c.args.hand.now.share.seen c.ask.new.hand.share.seen))
+    c.meet_caller.ensures.name
+    (all_refused_since c.meet_caller.new.self.name c.args.visit.now.tag.caller c.args.hand.now.share.seen c.meet_caller.new.hand.share.seen
+    c.ask.new.hand.share.seen c.ask.result c.meet_caller.ensures.goes
     (subst (λ (n : ℕ). IfErr c.ask.result (WasRefused c.meet_caller.new.self.name n c.meet_caller.new.hand.share.seen c.ask.new.hand.share.seen))
     (ap (λ (b : By). b.caller) c.with.ensures) c.ask.ensures.err))

@@ -1,7 +1,7 @@
 use Rattle.std.proofs.Common.{ℕ, ◌<◌, sym, ◌∙◌, arith}
-use Rattle.am_calls.proofs.Boxing.{sees_more, same_closed, goes_place}
-use Rattle.am_calls.proofs.Turning.{choice_sent, looks_through, ahead_is_sent}
-use Rattle.am_calls.proofs.Looking.{drawn_by, last_high}
+use Rattle.am_races.proofs.Boxing.{sees_more, same_closed, goes_place}
+use Rattle.am_races.proofs.Turning.{choice_sent, looks_through, ahead_is_sent}
+use Rattle.am_races.proofs.Looking.{drawn_by, last_high}
 use Rattle.am_calls.proofs.node_box.NodeBox.choose.Goals as goal
 
 pub invariant_of-self : goal.invariant_of-self
@@ -29,4 +29,5 @@ returns-clause-drawn g c =
     let last = after.last_ (same_closed _ _ _ _ c.self.view_is c.requires.open_) in
     drawn_by c.args.chooser.now c.choose-choice.new.self _ _ _ _ _
     (λ n e. above _ n (ahead_is_sent c.next_for-ahead.new.pass.seen c.self.inside.name c.self.inside.cursor n (sym c.next_for-ahead.ensures.value ∙ e)).1)
-    (λ k e. last_high _ k (sym last ∙ e)) c.choose-choice.ensures.drawn c.choose-choice.ensures.choice c.turn_of_choice.ensures.act_ c.turn_of_choice.ensures.lost_
+    (λ k e. last_high _ k (sym last ∙ e)) c.choose-choice.ensures.drawn c.choose-choice.ensures.choice c.turn_of_choice.ensures.act_
+    c.turn_of_choice.ensures.lost_

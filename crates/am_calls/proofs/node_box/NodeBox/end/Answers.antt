@@ -1,9 +1,9 @@
 use Rattle.std.proofs.Common.{ap, ◌∙◌, subst}
 use Rattle.am_group.specs.declared.event.Act.{Act}
 use Rattle.am_group.specs.declared.event.By.{By}
-use Rattle.am_calls.specs.Going.{by_of, is_asked, end_part, Asked}
-use Rattle.am_calls.specs.Tags.{is_turn_part}
-use Rattle.am_calls.proofs.Looking.{end_asks, end_no_turn, end_done}
+use Rattle.am_races.specs.Going.{by_of, is_asked, end_part, Asked}
+use Rattle.am_races.specs.Tags.{is_turn_part}
+use Rattle.am_races.proofs.Looking.{end_asks, end_no_turn, end_done}
 use Rattle.am_calls.proofs.node_box.NodeBox.end.Goals as goal
 
 pub ask-requires-clause-asks : goal.ask-requires-clause-asks

@@ -1,6 +1,6 @@
 use Rattle.std.proofs.Common.{rules}
-use Rattle.am_calls.specs.Boxes.{node_by}
-use Rattle.am_calls.proofs.Boxing.{box_sees}
+use Rattle.am_races.specs.Boxes.{node_by}
+use Rattle.am_races.proofs.Boxing.{box_sees}
 use Rattle.am_calls.proofs.node_box.NodeBox.info.Goals as goal
 
 pub invariant_of-self : goal.invariant_of-self

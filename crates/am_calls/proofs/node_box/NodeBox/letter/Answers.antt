@@ -1,8 +1,8 @@
 use Rattle.std.proofs.Common.{sym, subst}
-use Rattle.am_calls.specs.Boxes.{Boxed}
-use Rattle.am_calls.specs.Lawful.{IsSent}
-use Rattle.am_calls.proofs.Boxing.{sees_more}
-use Rattle.am_calls.proofs.Turning.{sent_by, not_there, hears_it}
+use Rattle.am_races.specs.Boxes.{Boxed}
+use Rattle.am_races.specs.Lawful.{IsSent}
+use Rattle.am_races.proofs.Boxing.{sees_more}
+use Rattle.am_races.proofs.Turning.{sent_by, not_there, hears_it}
 use Rattle.am_calls.proofs.node_box.NodeBox.letter.Goals as goal
 
 pub invariant_of-self : goal.invariant_of-self

@@ -1,9 +1,9 @@
 use Rattle.std.proofs.Common.{ℕ, List, IfOk, IfErr, sym, ◌∙◌, subst}
 use Rattle.am_group.specs.declared.event.Record.{Record}
-use Rattle.am_calls.specs.Boxes.{node_by}
-use Rattle.am_calls.specs.Tags.{of_call, own_of}
-use Rattle.am_calls.specs.Going.{HasLooked, WasRefused, EndTells}
-use Rattle.am_calls.proofs.Looking.{came_seen, last_looked, ready_looked, turn_looked, all_refused_since}
+use Rattle.am_races.specs.Boxes.{node_by}
+use Rattle.am_races.specs.Tags.{of_call, own_of}
+use Rattle.am_races.specs.Going.{HasLooked, WasRefused, EndTells}
+use Rattle.am_races.proofs.Looking.{came_seen, last_looked, ready_looked, turn_looked, all_refused_since}
 use Rattle.am_calls.proofs.node_box.NodeBox.look.Goals as goal
 
 pub spend-requires-clause-unready : goal.spend-requires-clause-unready
@@ -23,14 +23,15 @@ returns-then-not-has_turn-clause-ok g c =
 
 pub returns-then-not-has_turn-clause-err : goal.returns-then-not-has_turn-clause-err
 returns-then-not-has_turn-clause-err g c =
-    subst (λ (n : ℕ). IfErr c.end.result (WasRefused n c.args.visit.now.tag.caller c.args.hand.now.share.seen c.end.new.hand.share.seen)) c.meet_caller.ensures.name
-    (all_refused_since c.meet_caller.new.self.name c.args.visit.now.tag.caller c.args.hand.now.share.seen c.meet_caller.new.hand.share.seen c.end.new.hand.share.seen
-    c.end.result c.meet_caller.ensures.goes c.end.ensures.err)
+    subst (λ (n : ℕ). IfErr c.end.result (WasRefused n c.args.visit.now.tag.caller c.args.hand.now.share.seen c.end.new.hand.share.seen))
+    c.meet_caller.ensures.name
+    (all_refused_since c.meet_caller.new.self.name c.args.visit.now.tag.caller c.args.hand.now.share.seen c.meet_caller.new.hand.share.seen
+    c.end.new.hand.share.seen c.end.result c.meet_caller.ensures.goes c.end.ensures.err)
 
 pub returns-then-is_ready-clause-ok : goal.returns-then-is_ready-clause-ok
 returns-then-is_ready-clause-ok g c =
-    subst (λ (n : ℕ). IfOk c.end-then-is_ready.result (HasLooked n c.args.visit.now.tag c.args.act.now c.args.came.now c.args.has_turn c.args.hand.now.share.seen
-    c.end-then-is_ready.new.hand.share.seen)) c.meet_caller.ensures.name
+    subst (λ (n : ℕ). IfOk c.end-then-is_ready.result (HasLooked n c.args.visit.now.tag c.args.act.now c.args.came.now c.args.has_turn
+    c.args.hand.now.share.seen c.end-then-is_ready.new.hand.share.seen)) c.meet_caller.ensures.name
     (ready_looked g.N.Racing.plan c.meet_caller.new.self.name c.args.visit.now.tag c.args.act.now c.args.came.now c.args.has_turn c.args.hand.now.share.seen
     c.meet_caller.new.hand.share.seen c.end-then-is_ready.new.hand.share.seen
     c.end-then-is_ready.result
@@ -44,8 +45,8 @@ returns-then-is_ready-clause-ok g c =
 
 pub returns-then-is_ready-clause-err : goal.returns-then-is_ready-clause-err
 returns-then-is_ready-clause-err g c =
-    subst (λ (n : ℕ). IfErr c.end-then-is_ready.result (WasRefused n c.args.visit.now.tag.caller c.args.hand.now.share.seen c.end-then-is_ready.new.hand.share.seen))
-    c.meet_caller.ensures.name
+    subst (λ (n : ℕ). IfErr c.end-then-is_ready.result (WasRefused n c.args.visit.now.tag.caller c.args.hand.now.share.seen
+    c.end-then-is_ready.new.hand.share.seen)) c.meet_caller.ensures.name
     (all_refused_since c.meet_caller.new.self.name c.args.visit.now.tag.caller c.args.hand.now.share.seen c.meet_caller.new.hand.share.seen
     c.end-then-is_ready.new.hand.share.seen c.end-then-is_ready.result c.meet_caller.ensures.goes c.end-then-is_ready.ensures.err)
 
@@ -59,6 +60,7 @@ returns-clause-ok g c =
 
 pub returns-clause-err : goal.returns-clause-err
 returns-clause-err g c =
-    subst (λ (n : ℕ). IfErr c.spend.result (WasRefused n c.args.visit.now.tag.caller c.args.hand.now.share.seen c.spend.new.hand.share.seen)) c.meet_caller.ensures.name
-    (all_refused_since c.meet_caller.new.self.name c.args.visit.now.tag.caller c.args.hand.now.share.seen c.meet_caller.new.hand.share.seen c.spend.new.hand.share.seen
-    c.spend.result c.meet_caller.ensures.goes c.spend.ensures.err)
+    subst (λ (n : ℕ). IfErr c.spend.result (WasRefused n c.args.visit.now.tag.caller c.args.hand.now.share.seen c.spend.new.hand.share.seen))
+    c.meet_caller.ensures.name
+    (all_refused_since c.meet_caller.new.self.name c.args.visit.now.tag.caller c.args.hand.now.share.seen c.meet_caller.new.hand.share.seen
+    c.spend.new.hand.share.seen c.spend.result c.meet_caller.ensures.goes c.spend.ensures.err)

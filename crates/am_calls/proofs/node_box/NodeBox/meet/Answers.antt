@@ -1,7 +1,7 @@
 use Rattle.std.proofs.Common.{rules, sym, ◌∙◌, subst}
-use Rattle.am_calls.specs.Boxes.{IsRefused}
-use Rattle.am_calls.specs.declared.answer.Answer.{Answer}
-use Rattle.am_calls.proofs.Boxing.{box_sees, refusal_of}
+use Rattle.am_races.specs.Boxes.{IsRefused}
+use Rattle.am_races.specs.declared.answer.Answer.{Answer}
+use Rattle.am_races.proofs.Boxing.{box_sees, refusal_of}
 use Rattle.am_calls.proofs.node_box.NodeBox.meet.Goals as goal
 
 pub invariant_of-self : goal.invariant_of-self

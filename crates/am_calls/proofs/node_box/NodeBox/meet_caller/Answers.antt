@@ -1,4 +1,4 @@
-use Rattle.am_calls.proofs.Looking.{hand_meets, meets, meets_goes, meets_refused}
+use Rattle.am_races.proofs.Looking.{hand_meets, meets, meets_goes, meets_refused}
 use Rattle.am_calls.proofs.node_box.NodeBox.meet_caller.Goals as goal
 
 pub returns-clause-hand : goal.returns-clause-hand

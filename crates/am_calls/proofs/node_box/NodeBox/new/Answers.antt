@@ -1,4 +1,4 @@
-use Rattle.am_calls.proofs.Starting.{new_box}
+use Rattle.am_races.proofs.Starting.{new_box}
 use Rattle.am_calls.proofs.node_box.NodeBox.new.Goals as goal
 
 pub invariant_of-result : goal.invariant_of-result

@@ -1,8 +1,8 @@
 use Rattle.std.proofs.Common.{ap, ◌∙◌}
-use Rattle.am_pump.specs.Choices.{Luck}
-use Rattle.am_calls.specs.Going.{luck_behind}
-use Rattle.am_calls.proofs.Boxing.{still_runs}
-use Rattle.am_calls.proofs.Looking.{turn_is_may, turn_hand, turn_grown, turn_refused, refused_hand, refused_as}
+use Rattle.am_chooser.specs.Choices.{Luck}
+use Rattle.am_races.specs.Going.{luck_behind}
+use Rattle.am_races.proofs.Boxing.{still_runs}
+use Rattle.am_races.proofs.Looking.{turn_is_may, turn_hand, turn_grown, turn_refused, refused_hand, refused_as}
 use Rattle.am_calls.proofs.node_box.NodeBox.spend.Goals as goal
 
 pub act-requires-clause-may : goal.act-requires-clause-may
@@ -13,15 +13,15 @@ act-requires-clause-may g c κs within =
 
 pub returns-in-Ok-act-clause-hand : goal.returns-in-Ok-act-clause-hand
 returns-in-Ok-act-clause-hand g c =
-    turn_hand _ _ c.args.visit.now.tag c.args.self.now c.turn-turn.new.self _ _ _ _ _ _ _ _ _ c.requires.met.hand c.turn-turn.ensures.looks c.turn-turn.ensures.share
-    c.act.ensures.share c.with-by.ensures
+    turn_hand _ _ c.args.visit.now.tag c.args.self.now c.turn-turn.new.self _ _ _ _ _ _ _ _ _ c.requires.met.hand c.turn-turn.ensures.looks
+    c.turn-turn.ensures.share c.act.ensures.share c.with-by.ensures
     c.in-Ok-act.came c.in-Ok-act.ensures.ok (c.turn-turn.ensures.drawn
     ∙ ap (λ (l : Luck). luck_behind l c.turn-turn.result.act c.turn-turn.result.lost) c.in-Ok.ensures)
 
 pub returns-in-Ok-act-clause-ok : goal.returns-in-Ok-act-clause-ok
 returns-in-Ok-act-clause-ok g c =
-    turn_grown _ _ c.args.visit.now.tag c.args.self.now c.turn-turn.new.self _ _ _ _ _ c.turn-turn.new.chooser _ _ _ c.requires.met.hand c.turn-turn.ensures.looks
-    c.turn-turn.ensures.share c.act.ensures.share c.with-by.ensures
+    turn_grown _ _ c.args.visit.now.tag c.args.self.now c.turn-turn.new.self _ _ _ _ _ c.turn-turn.new.chooser _ _ _ c.requires.met.hand
+    c.turn-turn.ensures.looks c.turn-turn.ensures.share c.act.ensures.share c.with-by.ensures
     c.in-Ok-act.came c.in-Ok-act.ensures.ok
 
 pub returns-in-Err-clause-hand : goal.returns-in-Err-clause-hand
@@ -32,8 +32,8 @@ returns-in-Err-clause-hand g c =
 
 pub returns-in-Err-clause-err : goal.returns-in-Err-clause-err
 returns-in-Err-clause-err g c = (
-  turn_refused _ _ c.args.visit.now.tag c.args.self.now c.turn-turn.new.self c.act.new.self _ _ _ _ c.turn-turn.new.chooser c.turn-turn.result.act c.turn-turn.result.lost
-      _ c.requires.met.hand c.turn-turn.ensures.looks
+  turn_refused _ _ c.args.visit.now.tag c.args.self.now c.turn-turn.new.self c.act.new.self _ _ _ _ c.turn-turn.new.chooser c.turn-turn.result.act
+      c.turn-turn.result.lost _ c.requires.met.hand c.turn-turn.ensures.looks
       c.turn-turn.ensures.share c.act.ensures.share c.with-by.ensures c.in-Err.ensures.caller,
   refused_as c.args.self.now.name c.act.new.self.seen c.act.new.share.seen c.in-Err.refusal _ c.act.ensures.both c.in-Err.ensures.spent c.answer_of.ensures,
 )

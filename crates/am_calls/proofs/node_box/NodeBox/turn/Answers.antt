@@ -1,5 +1,5 @@
-use Rattle.am_calls.proofs.Boxing.{box_sees}
-use Rattle.am_calls.proofs.Finding.{turn_by_box}
+use Rattle.am_races.proofs.Boxing.{box_sees}
+use Rattle.am_races.proofs.Finding.{turn_by_box}
 use Rattle.am_calls.proofs.node_box.NodeBox.turn.Goals as goal
 
 pub invariant_of-self : goal.invariant_of-self

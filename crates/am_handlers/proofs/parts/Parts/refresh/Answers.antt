@@ -40,8 +40,8 @@ pub refresh-requires-clause-own : goal.refresh-requires-clause-own
 refresh-requires-clause-own c = c.args.self.now.keeps.own
 
 pub returns-then-is_sequencer-clause-again : goal.returns-then-is_sequencer-clause-again
-returns-then-is_sequencer-clause-again c = lead_again (node_of c.args.self.now) (core_and_reports c.refresh.new.core c.refresh.new.self) (sym c.is_sequencer.ensures.value
-    ∙ c.if-is_sequencer.true) c.refresh.ensures.value c.refresh.ensures.again
+returns-then-is_sequencer-clause-again c = lead_again (node_of c.args.self.now) (core_and_reports c.refresh.new.core c.refresh.new.self)
+    (sym c.is_sequencer.ensures.value ∙ c.if-is_sequencer.true) c.refresh.ensures.value c.refresh.ensures.again
 
 pub returns-else-is_sequencer-clause-again : goal.returns-else-is_sequencer-clause-again
 returns-else-is_sequencer-clause-again c = advance_again (node_of c.args.self.now) (sym c.is_sequencer.ensures.value ∙ c.if-is_sequencer.false)

@@ -1,10 +1,12 @@
 use Rattle.std.proofs.Common.{◌≡◌, ◌+◌, ◌++◌, [], ◌∷◌, slice_set, sym, ap, ◌∙◌, subst}
 use mir.Val.{bool_byte}
-use Rattle.am_model.specs.World.{record_of}
-use Rattle.am_model.specs.Settle.{event_at}
-use Rattle.am_pump.specs.Counts.{AreSent, ends_sent}
+use Rattle.am_play.specs.World.{record_of}
+use Rattle.am_group.specs.Journals.{letters_of}
+use Rattle.am_group.proofs.Places.{letters_more}
+use Rattle.am_pump.specs.Counts.{AreSent, AreSeen, ends_sent}
 use Rattle.am_pump.specs.Generating.{Drive, sent_by}
-use Rattle.am_world.specs.Runs.{Play, after, replay}
+use Rattle.am_world.specs.Runs.{Play, replay}
+use Rattle.am_pump.proofs.Seen.{seen_grown}
 use Rattle.am_pump.proofs.Sends.{more_sent}
 use Rattle.am_pump.proofs.generator.Generator.happen.Goals as goal
 
@@ -21,6 +23,11 @@ invariant_of-self-2 c =
     ∙ ap bool_byte (c.ends_sent-is_sent.ensures ∙ ap ends_sent (c.records.ensures.value ∙ c.journal.ensures.records)) in
     let count : c.sent_by-sent.result ≡ sent_by w place = c.sent_by-sent.ensures.value
     ∙ ap (λ (d : Drive). sent_by (replay d.play) place) (sym c.self.view_is) in
-    let done = more_sent sent w v r place c.from.result c.self.invariant c.requires records c.of_byte-node.ensures told in
-    subst (λ i. AreSent (slice_set sent i (c.sent_by-sent.result + c.from.result)) v) (sym c.from-2.ensures)
-    (subst (λ s. AreSent (slice_set sent place (s + c.from.result)) v) (sym count) done)
+    let done = more_sent sent w v r place c.from.result c.self.invariant.counted c.requires records c.of_byte-node.ensures told in
+    let letters : letters_of v.records ≡ letters_of w.records ++ r.packets = ap letters_of records ∙ letters_more w.records r in
+    record {
+      counted = subst (λ i. AreSent (slice_set sent i (c.sent_by-sent.result + c.from.result)) v) (sym c.from-2.ensures)
+          (subst (λ s. AreSent (slice_set sent place (s + c.from.result)) v) (sym count) done);
+      looked = subst (AreSeen c.self.inside.seen c.self.inside.progress) (sym letters)
+          (seen_grown c.self.inside.seen c.self.inside.progress (letters_of w.records) r.packets c.self.invariant.looked);
+    }

@@ -1,52 +1,99 @@
-use Rattle.std.proofs.Common.{◌≡◌, ◌++◌, length, drop, vec_len, vec_capacity, sym, ap, ◌∙◌, subst, arith}
+use Rattle.std.proofs.Common.{◌≡◌, ◌+◌, ◌<◌, ◌≤◌, ℕ, Bool, List, Some, max}
+use Rattle.std.proofs.Common.{length, slice_get, slice_index_or, slice_set, vec_len, vec_capacity, ap, ◌∙◌, subst, arith}
+use Rattle.am_base.specs.Most.{most_events}
 use Rattle.am_base.specs.Names.{place_of}
+use Rattle.am_base.specs.Founding.{Rules}
+use Rattle.am_base.specs.declared.entry.Entry.{Entry}
+use Rattle.am_base.specs.declared.event.NodeEvent.{NodeEvent}
+use Rattle.am_group.specs.declared.event.Event.{Event}
 use Rattle.am_group.specs.declared.event.Record.{Record}
-use Rattle.am_world.specs.Moves.{IsReadyAt}
-use Rattle.am_world.specs.Runs.{IsRun, play_of, replay, Answers, the_record}
-use Rattle.am_world.proofs.Spots.{written_back}
+use Rattle.am_play.specs.World.{current, happens}
+use Rattle.am_node.specs.declared.node.Node.{Node}
+use Rattle.am_node.specs.Stands.{state_of}
+use Rattle.am_world.specs.Moves.{HasPlaceAt, IsReady}
+use Rattle.am_world.specs.Runs.{Play, IsRun, play_of, replay, Answers, the_record}
+use Rattle.am_world.proofs.Spots.{read_here}
 use Rattle.am_world.proofs.Goes.{recorded, living_at, as_many}
-use Rattle.am_world.proofs.Acts.{ready_at, act_goes_on}
+use Rattle.am_world.proofs.Acts.{ready_at, next_world, act_goes_on}
 use Rattle.am_world.proofs.run.Run.act.Goals as goal
 use Rattle.am_world.proofs.run.Run.act.Goals.{After-push}
 
-pub step_at-requires-clause-ready : goal.step_at-requires-clause-ready
-step_at-requires-clause-ready c =
+-- the node of an index that is a name's place
+there : (nodes : List Node) (name i : ℕ) (n : Node) → length nodes ≡ 16 → i ≡ place_of name → n ≡ slice_index_or nodes i n
+    → slice_get nodes (place_of name) ≡ Some n
+there nodes name i n count at is = read_here nodes i (place_of name) n at (omega arith) is
+
+-- it is ready for its step, and the group list for what comes of that
+ready : (p : Play) (first : Rules) (nodes : List Node) (lives : List ℕ) (flags : List Bool) (records : List Record) (group : List Entry) (e : Event)
+    (what : NodeEvent) (name i stored room : ℕ) (n : Node) → play_of first records ≡ p → IsRun (play_of first records) nodes lives flags records group
+    → length p.events < most_events → name ≡ current (replay p) (place_of e.node) → happens (replay p) e ≡ next_world (replay p) e what
+    → stored ≡ length group → max (length records + 2) stored ≤ room → i ≡ place_of name → n ≡ slice_index_or nodes i n
+    → IsReady (state_of n) what stored room
+ready p first nodes lives flags records group e what name i stored room n view ok few here is all_stored has_room at found =
+    let events : length p.events ≡ length records = as_many p first records view in
+    ready_at p first nodes lives flags records group e what name stored room view ok few here is all_stored (omega arith) n
+    (there nodes name i n ok.shows.standing.count at found)
+
+pub step-requires-clause-numbers : goal.step-requires-clause-numbers
+step-requires-clause-numbers c =
     let w = c.self.inside in
-    let p = c.args.self.now in
     let group = c.make_room.new.group in
-    let events : length p.events ≡ length w.journal.records = as_many p w.journal.founding w.journal.records c.self.view_is in
     let kept = ap length (c.records.ensures.value ∙ c.reserve.ensures.records) in
     let room = c.in_ok-make_room.ensures.room in
-    subst (λ ns. IsReadyAt ns (place_of c.args.name) c.args.what.now (vec_len group) (vec_capacity group)) (sym c.deref_mut.ensures.value)
-    (ready_at p w.journal.founding w.nodes.items w.lives w.stopped w.journal.records w.group.items c.args.event.now c.args.what.now c.args.name (vec_len group)
-    (vec_capacity group)
-    c.self.view_is c.self.invariant c.requires.few c.requires.name c.requires.comes (c.make_room.ensures.stored ∙ w.group.ok.0) (omega arith))
+    (ready c.args.self.now w.journal.founding w.nodes.items w.lives w.stopped w.journal.records w.group.items
+    c.args.event.now c.args.what.now c.args.name c.from.result (vec_len group) (vec_capacity group) c.index_mut-node.result.now
+    c.self.view_is c.self.invariant c.requires.few c.requires.name c.requires.comes (c.make_room.ensures.stored ∙ w.group.ok.0) (omega arith)
+    (c.from.ensures ∙ c.place.ensures.value) c.index_mut-node.ensures.value).numbers
 
-made : (c : After-push) → IsRun (play_of c.push.new.self.founding c.push.new.self.records) c.step_at.new.nodes c.self.inside.lives c.self.inside.stopped
-    c.push.new.self.records c.step_at.new.group.items × Answers c.args.self.now c.args.event.now c.step_at.result
+pub step-requires-clause-place : goal.step-requires-clause-place
+step-requires-clause-place c =
+    let w = c.self.inside in
+    subst (λ ns. HasPlaceAt ns (place_of c.args.name) c.args.what.now c.in_ok-spare.spare) c.deref.ensures.value c.in_ok-spare.ensures
+    c.index_mut-node.result.now (there w.nodes.items c.args.name c.from.result c.index_mut-node.result.now c.self.invariant.shows.standing.count
+    (c.from.ensures ∙ c.place.ensures.value) c.index_mut-node.ensures.value)
+
+pub grow-requires : goal.grow-requires
+grow-requires c =
+    let w = c.self.inside in
+    let group = c.make_room.new.group in
+    let kept = ap length (c.records.ensures.value ∙ c.reserve.ensures.records) in
+    let room = c.in_ok-make_room.ensures.room in
+    let grows = (ready c.args.self.now w.journal.founding w.nodes.items w.lives w.stopped w.journal.records w.group.items
+    c.args.event.now c.args.what.now c.args.name c.from.result (vec_len group) (vec_capacity group)
+    c.index_mut-node.result.now c.self.view_is c.self.invariant c.requires.few c.requires.name c.requires.comes (c.make_room.ensures.stored ∙ w.group.ok.0)
+    (omega arith) (c.from.ensures ∙ c.place.ensures.value) c.index_mut-node.ensures.value).grows
+    c.step.result c.step.new.out (state_of c.step.new.self) c.step.ensures.does c.accept_front-accepted.ensures.order in
+    record { base = grows.0; room = grows.1 }
+
+made : (c : After-push) → IsRun (play_of c.push.new.self.founding c.push.new.self.records) (slice_set c.self.inside.nodes.items c.from.result c.step.new.self)
+    c.self.inside.lives c.self.inside.stopped c.push.new.self.records c.grow.new.group.items × Answers c.args.self.now c.args.event.now c.step.result
 made c =
     let w = c.self.inside in
     let p = c.args.self.now in
+    let place = c.from.ensures ∙ c.place.ensures.value in
     let living = living_at p w.journal.founding w.nodes.items w.lives w.stopped w.journal.records w.group.items c.self.view_is c.self.invariant in
-    let steps = c.step_at.ensures.steps in
-    act_goes_on p w.journal.founding c.push.new.self.founding w.nodes.items c.step_at.new.nodes w.lives w.stopped w.journal.records c.push.new.self.records
-    w.group.items c.step_at.new.group.items c.args.event.now c.args.what.now c.step_at.result c.step_at.new.out c.args.name
-    c.self.view_is c.self.invariant c.requires.few c.requires.name (rw (c.deref_mut.ensures.value, c.make_room.ensures.items) at steps)
-    (recorded (replay p) c.args.event.now c.step_at.result c.step_at.new.out w.lives c.args.name c.life.result _ w.journal.founding c.push.new.self.founding
+    act_goes_on p w.journal.founding c.push.new.self.founding w.nodes.items (slice_set w.nodes.items c.from.result c.step.new.self) w.lives w.stopped
+    w.journal.records c.push.new.self.records w.group.items c.grow.new.group.items c.args.event.now c.args.what.now c.step.result c.step.new.out c.args.name
+    c.self.view_is c.self.invariant c.requires.few c.requires.name
+    (record {
+      before = c.index_mut-node.result.now;
+      next = c.step.new.self;
+      there = there w.nodes.items c.args.name c.from.result c.index_mut-node.result.now c.self.invariant.shows.standing.count place
+          c.index_mut-node.ensures.value;
+      placed = ap (λ i. slice_set w.nodes.items i c.step.new.self) place;
+      does = c.step.ensures.does;
+      order = c.accept_front-accepted.ensures.order;
+      grows = rw (← c.make_room.ensures.items) c.grow.ensures;
+    })
+    (recorded (replay p) c.args.event.now c.step.result c.step.new.out w.lives c.args.name c.life.result _ w.journal.founding c.push.new.self.founding
     w.journal.records c.reserve.new.self.records c.push.new.self.records living c.requires.name c.life.ensures.value
-    (ap (λ (r : Record). record r { outcome = c.step_at.result; packets = c.packets_of.result }) c.in_ok-record.ensures
-    ∙ ap (the_record c.args.event.now c.life.result c.step_at.result) c.packets_of.ensures) (c.push.ensures.founding
+    (ap (λ (r : Record). record r { outcome = c.step.result; packets = c.packets_of.result }) c.in_ok-record.ensures
+    ∙ ap (the_record c.args.event.now c.life.result c.step.result) c.packets_of.ensures) (c.push.ensures.founding
     ∙ c.reserve.ensures.founding) c.reserve.ensures.records c.push.ensures.records)
     c.requires.comes
 
 pub invariant_of-self-2 : goal.invariant_of-self-2
-invariant_of-self-2 c =
-    let w = c.self.inside in
-    let done = (made c).0 in
-    let rest = drop (length c.step_at.new.nodes) w.nodes.items in
-    let long : length c.step_at.new.nodes ≡ w.nodes.len = done.shows.standing.count ∙ sym c.self.invariant.shows.standing.count ∙ sym w.nodes.ok.0 in
-    subst (λ ns. IsRun (play_of c.push.new.self.founding c.push.new.self.records) ns w.lives w.stopped c.push.new.self.records c.step_at.new.group.items)
-    (sym (written_back c.step_at.new.nodes rest w.nodes.len long)) done
+invariant_of-self-2 c = (made c).0
 
 pub returns-clause-one : goal.returns-clause-one
-returns-clause-one c = (c.step_at.result, (made c).1)
+returns-clause-one c = (c.step.result, (made c).1)

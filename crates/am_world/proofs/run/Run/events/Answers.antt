@@ -1,5 +1,4 @@
-use Rattle.std.proofs.Common.{◌≡◌, ◌≤◌, length, sym, ap, ◌∙◌, arith}
-use Rattle.am_world.specs.Runs.{Play}
+use Rattle.std.proofs.Common.{◌≡◌, length, sym, ap, ◌∙◌, arith}
 use Rattle.am_world.proofs.Goes.{as_many, few_of}
 use Rattle.am_world.proofs.run.Run.events.Goals as goal
 

@@ -1,7 +1,7 @@
-use Rattle.std.proofs.Common.{◌≡◌, ◌<◌, length, if◌then◌else◌, sym, ap, ◌∙◌, subst, arith}
+use Rattle.std.proofs.Common.{◌≡◌, length, sym, ap, ◌∙◌, subst, arith}
 use Rattle.am_base.specs.Names.{place_of}
 use Rattle.am_world.specs.Asked.{after_answer}
-use Rattle.am_model.specs.World.{current, is_stopped, happens}
+use Rattle.am_play.specs.World.{current, happens}
 use Rattle.am_watch.specs.Watching.{Watching}
 use Rattle.am_watch.specs.Watchers.{watching_of}
 use Rattle.am_world.specs.Runs.{Play, after, replay}

@@ -1,8 +1,7 @@
-use Rattle.std.proofs.Common.{ap, sym, ◌∙◌}
-use Rattle.am_base.specs.declared.name.Stamp.{Stamp}
-use Rattle.am_model.specs.Group.{has_log}
-use Rattle.am_model.specs.World.{World}
-use Rattle.am_model.proofs.Runs.{watched_is_run}
+use Rattle.std.proofs.Common.{ap, ◌∙◌}
+use Rattle.am_model.specs.Node.{has_log}
+use Rattle.am_play.specs.World.{World}
+use Rattle.am_play.proofs.Runs.{watched_is_run}
 use Rattle.am_watch.specs.declared.views.Standing.{Standing}
 use Rattle.am_world.specs.Runs.{Play, replay}
 use Rattle.am_world.proofs.world.World.has_log.Goals as goal

@@ -1,4 +1,3 @@
-use Rattle.std.proofs.Common.{◌∙◌}
 use Rattle.am_watch.specs.Watchers.{watching_of}
 use Rattle.am_world.proofs.Kept.{begin_is_watched}
 use Rattle.am_world.proofs.world.World.new.Goals as goal

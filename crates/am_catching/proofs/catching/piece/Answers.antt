@@ -1,0 +1,44 @@
+use Rattle.std.proofs.Common.{Some, None, sym, subst, ◌∙◌}
+use Rattle.am_base.specs.declared.outcome.Outcome.TheVariants as said
+use Rattle.am_ballots.specs.Kept.{ballot_of}
+use Rattle.am_handlers.specs.Parts.{node_of}
+use Rattle.am_handlers.proofs.Ends.{end_self}
+use Rattle.am_model.specs.Node.{Node}
+use Rattle.am_model.specs.Resets.{piece_row, piece_for, piece_promised}
+use Rattle.am_replies.specs.declared.replies.Telling.TheVariants as tell
+use Rattle.am_replies.specs.Replies.{Replies}
+use Rattle.am_deciding.proofs.Promises.{none_taken, one_taken}
+use Rattle.am_replies.proofs.Plans.{by_reply}
+use Rattle.am_catching.proofs.Pieces.{piece_apart, piece_by}
+use Rattle.am_catching.proofs.catching.piece.Goals as goal
+
+pub returns-then-is_apart-clause-replies : goal.returns-then-is_apart-clause-replies
+returns-then-is_apart-clause-replies c =
+    let old = node_of c.args.parts.now in
+    by_reply (piece_row old c.args.from c.args.stamp c.args.base c.args.number c.args.entry.now) c.quiet.result said.Elsewhere tell.Nothing old c.quiet.ensures
+    (piece_apart old old c.args.from c.args.stamp c.args.base c.args.number c.args.entry.now (sym c.is_apart.ensures
+    ∙ c.if-is_apart.true) (end_self old c.requires.order.kept))
+
+pub returns-in-None-clause-replies : goal.returns-in-None-clause-replies
+returns-in-None-clause-replies c =
+    let old = node_of c.args.parts.now in
+    let mid = node_of c.take_ballot.new.parts in
+    let new = node_of c.piece_promised.new.parts in
+    let o = c.piece_promised.result.outcome in
+    let t = c.piece_promised.result.telling in
+    let taken = none_taken old mid c.take_ballot.ensures.ballot c.take_ballot.ensures.rest c.in-None.is in
+    piece_by old new c.args.from c.args.stamp c.args.base c.args.number c.args.entry.now o t None (sym c.is_apart.ensures ∙ c.if-is_apart.false) taken.0
+    (subst (λ (x : Node). Replies (piece_promised x c.args.from c.args.stamp c.args.base c.args.number c.args.entry.now) o t new) taken.1
+    c.piece_promised.ensures.replies)
+
+pub returns-in-Some-clause-replies : goal.returns-in-Some-clause-replies
+returns-in-Some-clause-replies c =
+    let old = node_of c.args.parts.now in
+    let new = node_of c.piece_for.new.parts in
+    let b = ballot_of c.in-Some.ballot in
+    let o = c.piece_for.result.outcome in
+    let t = c.piece_for.result.telling in
+    let taken = one_taken old (node_of c.take_ballot.new.parts) c.take_ballot.ensures.ballot c.take_ballot.ensures.rest c.in-Some.is in
+    piece_by old new c.args.from c.args.stamp c.args.base c.args.number c.args.entry.now o t (Some b) (sym c.is_apart.ensures ∙ c.if-is_apart.false) taken.0
+    (subst (λ (x : Node). Replies (piece_for x c.args.from c.args.stamp c.args.base c.args.number c.args.entry.now (Some b)) o t new) taken.1
+    c.piece_for.ensures.replies)

@@ -1,0 +1,12 @@
+use Rattle.std.proofs.Common.{◌≡◌, ◌+◌, ◌≤◌, [], length, take}
+use Rattle.am_model.specs.Node.{only_name}
+use Rattle.am_model.specs.Emit.{put_all, piece_of}
+use Rattle.am_handlers.specs.Parts.{node_of}
+use Rattle.am_catching.proofs.serving.tell_pieces.Given as goal
+
+abbrev pub invariant-loop-entry : goal.invariant-loop-entry
+invariant-loop-entry l = record {
+  number : l.number ≡ l.stored + l.entry-index;
+  letters : l.out ≡ put_all (piece_of (node_of l.parts)) (only_name l.to) (l.stored + 1) (take l.entry-index l.entries) [];
+  few : length l.out ≤ l.entry-index;
+}

@@ -1,0 +1,159 @@
+-- What the parts of a node keep where its list is trimmed or gets one entry more.
+use Rattle.std.proofs.Common.{◌≡◌, ◌⊎◌, ⊎_elim, inl, inr, ℕ, ◌+◌, ◌≤◌, max, [], ◌∷◌, Bool, true, false, ◌==◌, ◌&&◌, nat_lt}
+use Rattle.std.proofs.Common.{Some, refl, sym, ap, subst, ◌∙◌, length-append, arith}
+use Rattle.std.proofs.lemmas.Bool.Decides.{nat_tests}
+use Rattle.am_base.specs.declared.image.Image.{Image}
+use Rattle.am_base.specs.declared.name.Stamp.{Stamp}
+use Rattle.am_base.specs.declared.entry.Entry.{Entry}
+use Rattle.am_base.specs.declared.entry.Entry.TheVariants.{Data, Join, Leave, View}
+use Rattle.am_base.specs.Names.{has}
+use Rattle.am_base.specs.Stamps.{stamp_lt, stamp_eq}
+use Rattle.am_base.specs.Lists.{Log, top_of, with_entry, after, fits, members_of}
+use Rattle.am_core.specs.Cores.{CoreState, Keeps, trim_to}
+use Rattle.am_core.proofs.Ends.{end-top, end-told, told-push}
+use Rattle.am_core.proofs.CoreLaws.{stands_self}
+use Rattle.am_core.proofs.Folds.{split}
+use Rattle.am_fronts.specs.Reports as reports
+use Rattle.am_model.specs.Node.{has_log, Node, Ballot, top, image_of, view, members, acts, is_member, is_sequencer, push_entry}
+use Rattle.am_core.specs.Kept.{IsKept}
+use Rattle.am_sender.specs.Sends.{next_request}
+use Rattle.am_handlers.specs.Keeps.{NodeKeeps, IsSteady}
+use Rattle.am_handlers.proofs.Keeping.{due_pushed, keeps_steady, over_own}
+use Rattle.am_deciding.specs.Deciding.{IsTakenOut, IsUpTo, MayStore}
+use Rattle.am_deciding.proofs.Orders.{lt_not_eq}
+use Rattle.am_deciding.proofs.Views.{view_has, view_is, view_stays_data, view_stays_join, view_stays_leave}
+
+-- who doesn't act doesn't lead
+pub idle_leads : (m : Node) → acts m ≡ false → is_sequencer m ≡ false
+idle_leads m h = rw h refl
+
+pub steady_acts : (m n : Node) → IsSteady m n → acts n ≡ acts m
+steady_acts m n s = λ k. is_member (s.status k) && stamp_eq (s.promise k) (s.told k).view
+
+-- ---- a trim
+
+pub steady_core : (m : Node) (core : CoreState) (base : ℕ) → m.core.base ≡ m.core.log.start → Keeps (trim_to base) m.core core
+    → IsSteady m (record m { core = core })
+steady_core m core base e keeps =
+    let one = keeps m.core.log (stands_self m.core e) in
+    let end = (one.0).kept in
+    record {
+      who = ap (λ (c : CoreState). c.who) one.1;
+      promise = ap (λ (c : CoreState). c.promise) one.1;
+      told = end-told m.core.log core.log end;
+      top = end-top m.core.log core.log end;
+      status = refl;
+      ballot = refl;
+      leaving = refl;
+      sends = refl;
+    }
+
+pub trimmed_base : (c core : CoreState) (base : ℕ) → c.base ≡ c.log.start → Keeps (trim_to base) c core → core.base ≡ max c.base base
+trimmed_base c core base e keeps = let one = keeps c.log (stands_self c e) in ap (λ (x : CoreState). x.base) one.1
+
+pub keeps_trimmed : (m : Node) (core : CoreState) (base : ℕ) → m.core.base ≡ m.core.log.start → Keeps (trim_to base) m.core core → NodeKeeps m
+    → NodeKeeps (record m { core = core })
+keeps_trimmed m core base e keeps is =
+    let n : Node = record m { core = core } in
+    let steady = steady_core m core base e keeps in
+    let one = keeps m.core.log (stands_self m.core e) in
+    let taken = ap (λ (c : CoreState). c.taken) one.1 in
+    let same = ap (λ who. (m.reports who).taken) steady.who in
+    let own = is.own in
+    keeps_steady m n steady is (omega arith)
+
+-- ---- one entry more
+
+pub top_push : (log : Log) (e : Entry) → top_of (with_entry log e) ≡ top_of log + 1
+top_push log e = let h = length-append log.entries (e ∷ []) in omega arith
+
+pub steady_pushed : (m n : Node) (e : Entry) → IsSteady m n → IsSteady (push_entry m e) (push_entry n e)
+steady_pushed m n e s = record {
+  who = s.who;
+  promise = s.promise;
+  told = told-push n.core.log e ∙ (λ k. after (s.told k) (s.top k + 1) e) ∙ sym (told-push m.core.log e);
+  top = top_push n.core.log e ∙ ap (λ k. k + 1) s.top ∙ sym (top_push m.core.log e);
+  status = s.status;
+  ballot = s.ballot;
+  leaving = s.leaving;
+  sends = s.sends;
+}
+
+-- the view stays, or it is one that may be there, whose name is a member
+pub record HasView (m n : Node) : Type 0 where
+  pub up_to : stamp_lt m.core.promise (view n) ≡ false
+  pub own : has (members n) (view n).by ≡ true
+
+pub view_pushed : (m : Node) (e : Entry) → fits (image_of m) e ≡ true → IsUpTo m.core.promise e → (view (push_entry m e) ≡ view m) ⊎ HasView m (push_entry m e)
+view_pushed m (Data from req body) fit up_to = inl (ap (λ (i : Image). i.view) (told-push m.core.log (Data from req body))
+    ∙ view_stays_data (image_of m) (top m + 1) from req body)
+view_pushed m (Join name) fit up_to = inl (ap (λ (i : Image). i.view) (told-push m.core.log (Join name)) ∙ view_stays_join (image_of m) (top m + 1) name)
+view_pushed m (Leave name) fit up_to = inl (ap (λ (i : Image). i.view) (told-push m.core.log (Leave name)) ∙ view_stays_leave (image_of m) (top m + 1) name)
+view_pushed m (View stamp names resilience) fit up_to =
+    let e : Entry = View stamp names resilience in
+    let same = told-push m.core.log e in
+    let v : view (push_entry m e) ≡ stamp = ap (λ (i : Image). i.view) same ∙ view_is (image_of m) (top m + 1) stamp names resilience in
+    inr (record {
+      up_to = ap (stamp_lt m.core.promise) v ∙ up_to;
+      own = (λ k. has (members_of (same k)) (v k).by) ∙ view_has (image_of m) (top m + 1) stamp names resilience fit;
+    })
+
+pub keeps_pushed : (m : Node) (e : Entry) (capacity : ℕ) → IsKept m.core.log capacity → NodeKeeps m → fits (image_of m) e ≡ true → IsUpTo m.core.promise e
+    → acts m ≡ false → has_log m.status ≡ true → ((b : Ballot) → m.ballot ≡ Some b → b.is_over ≡ true) → NodeKeeps (push_entry m e)
+keeps_pushed m e capacity kept keeps fit up_to idle logged over = record {
+  own = keeps.own;
+  leads = λ is. ⊎_elim
+      (λ (same : view (push_entry m e) ≡ view m).
+      let none : is_sequencer (push_entry m e) ≡ false = ap (λ (v : Stamp). (is_member m.status && stamp_eq m.core.promise v) && (v.by == m.core.who)) same
+      ∙ idle_leads m idle in
+      absurd (let x = sym none ∙ is in cc))
+      (λ (new : HasView m (push_entry m e)).
+      let by : ((view (push_entry m e)).by == m.core.who) ≡ true =
+      split_right (is_member m.status && stamp_eq m.core.promise (view (push_entry m e))) ((view (push_entry m e)).by == m.core.who) is in
+      let who : (view (push_entry m e)).by ≡ m.core.who = grind (arith, nat_tests) in
+      sym (ap (has (members (push_entry m e))) who) ∙ new.own)
+      (view_pushed m e fit up_to);
+  promised = ⊎_elim
+      (λ (same : view (push_entry m e) ≡ view m). ap (stamp_lt m.core.promise) same ∙ keeps.promised)
+      (λ (new : HasView m (push_entry m e)). new.up_to)
+      (view_pushed m e fit up_to);
+  blank = λ none. absurd (let x = sym logged ∙ none in cc);
+  settled = keeps.settled;
+  due = due_pushed m e capacity kept fit (next_request m.sends) keeps.due;
+  unsent = keeps.unsent;
+  ballot = λ b there. over_own (push_entry m e) b (over b there) (keeps.ballot b there).resilience;
+}
+  where
+    split_right : (a b : Bool) → (a && b) ≡ true → b ≡ true
+    split_right true b h = h
+    split_right false b h = absurd (cc)
+
+-- what may be stored, once the list is trimmed
+pub keeps_stored : (m n : Node) (base : ℕ) (e : Entry) (capacity : ℕ) → IsKept n.core.log capacity → MayStore m base e → IsSteady m n → NodeKeeps n
+    → NodeKeeps (push_entry n e)
+keeps_stored m n base e capacity kept may s keeps = keeps_pushed n e capacity kept keeps
+    (ap (λ (i : Image). fits i e) s.told ∙ may.fits)
+    (subst (λ (p : Stamp). IsUpTo p e) (sym s.promise) may.up_to)
+    (steady_acts m n s ∙ may.idle)
+    (ap has_log s.status ∙ may.logged)
+    (λ b there. may.over b (sym s.ballot ∙ there))
+
+-- ---- an unfinished ballot that was taken out
+
+-- its node doesn't act
+pub taken_idle : (m : Node) (b : Ballot) → IsTakenOut m b → acts m ≡ false
+taken_idle m b is =
+    let stamp = (is.own).stamp is.is_open in
+    let ahead = (is.own).ahead is.is_open in
+    let e : stamp_eq m.core.promise (view m) ≡ false = ap (λ (p : Stamp). stamp_eq p (view m)) (sym stamp) ∙ lt_not_eq (view m) b.stamp ahead in
+    and_false (is_member m.status) (stamp_eq m.core.promise (view m)) e
+  where
+    and_false : (a b : Bool) → b ≡ false → (a && b) ≡ false
+    and_false true b h = h
+    and_false false b h = refl
+
+-- the reports begin anew
+pub keeps_restarted : (m : Node) (base : ℕ) → base ≤ m.core.taken → NodeKeeps m → NodeKeeps (record m { reports = reports.reports_from base })
+keeps_restarted m base low keeps = keeps_steady m (record m { reports = reports.reports_from base })
+    (record { who = refl; promise = refl; told = refl; top = refl; status = refl; ballot = refl; leaving = refl; sends = refl }) keeps
+    (split (nat_lt m.core.who 256) (λ t. rw t low) (λ f. rw f (omega arith)))

@@ -1,0 +1,15 @@
+use Rattle.std.proofs.Common.{subst, sym}
+use Rattle.am_base.specs.declared.image.Report.{Report}
+use Rattle.std.proofs.Common.{ℕ}
+use Rattle.am_handlers.specs.Keeps.{NodeKeeps}
+use Rattle.am_handlers.specs.Parts.{node_of}
+use Rattle.am_deciding.proofs.Nodes.{keeps_restarted}
+use Rattle.am_deciding.proofs.deciding.restart.Goals as goal
+
+pub invariant_of-parts : goal.invariant_of-parts
+invariant_of-parts c =
+    let old = node_of c.args.parts.now in
+    record {
+      keeps = subst (λ (r : ℕ → Report). NodeKeeps (record old { reports = r })) (sym c.restart.ensures)
+          (keeps_restarted old c.args.base c.requires c.args.parts.now.keeps);
+    }

@@ -1,0 +1,54 @@
+-- What a coordinator has when it decides, and what a node has when it stores an entry of a view that it has promised.
+use Rattle.std.specs.Prelude.{◌≡◌, ℕ, ◌<◌, ◌≤◌, ◌+◌, ◌-◌, max, List, Some, None, true, false}
+use Rattle.am_base.specs.Most.{most_number}
+use Rattle.am_base.specs.declared.entry.Entry.{Entry}
+use Rattle.am_base.specs.declared.entry.Entry.TheVariants.{Data, Join, Leave, View}
+use Rattle.am_base.specs.declared.name.Stamp.{Stamp}
+use Rattle.am_base.specs.declared.outcome.Outcome.{Outcome}
+use Rattle.am_base.specs.Limits.{IsEntry}
+use Rattle.am_base.specs.Lists.{fits}
+use Rattle.am_base.specs.Names.{has, is_within}
+use Rattle.am_base.specs.Stamps.{stamp_lt}
+use Rattle.am_core.specs.Cores.{IsInOrder}
+use Rattle.am_model.specs.Node.{has_log, Node, Ballot, top, image_of, members, acts}
+use Rattle.am_handlers.specs.declared.parts.Parts.{Parts}
+use Rattle.am_handlers.specs.Keeps.{IsOwnBallot}
+use Rattle.am_handlers.specs.Parts.{node_of}
+
+-- an unfinished ballot that is the node's own, and was taken out of it
+pub record IsTakenOut (m : Node) (b : Ballot) : Type 0 where
+  pub order : IsInOrder m.core
+  pub out : m.ballot ≡ None
+  pub own : IsOwnBallot m b
+  pub is_open : b.is_over ≡ false
+  pub number : top m < most_number
+
+-- these members of it may be a view, with the node itself among them
+pub record MayBeView (m : Node) (names : List ℕ) : Type 0 where
+  pub within : is_within names (members m) ≡ true
+  pub itself : has names m.core.who ≡ true
+
+-- no View above a stamp
+abbrev pub IsUpTo : Stamp → Entry → Type 0
+IsUpTo promise (Data from req body) = Unit {0}
+IsUpTo promise (Join name) = Unit {0}
+IsUpTo promise (Leave name) = Unit {0}
+IsUpTo promise (View stamp names resilience) = stamp_lt promise stamp ≡ false
+
+-- a node that doesn't act may store this entry above a base
+pub record MayStore (m : Node) (base : ℕ) (e : Entry) : Type 0 where
+  pub order : IsInOrder m.core
+  pub idle : acts m ≡ false
+  pub logged : has_log m.status ≡ true
+  pub over : (b : Ballot) → m.ballot ≡ Some b → b.is_over ≡ true
+  pub taken : base ≤ m.core.taken
+  pub fits : fits (image_of m) e ≡ true
+  pub up_to : IsUpTo m.core.promise e
+  pub within : IsEntry e
+  pub bound : top m + 1 - max m.core.base base ≤ m.core.rules.window + 15
+  pub number : top m < most_number
+
+-- the answer is given, and the parts have the ballot that it belongs to
+pub record Answered (old : Parts) (b : Ballot) (given result : Outcome) (new : Parts) : Type 0 where
+  pub node : node_of new ≡ record (node_of old) { ballot = Some b }
+  pub answer : result ≡ given

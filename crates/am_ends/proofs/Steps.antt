@@ -1,0 +1,27 @@
+-- What the kept end of a node tells of the node, and what its steps are.
+use Rattle.std.proofs.Common.{◌≡◌, List, refl, sym, ◌∙◌}
+use Rattle.am_base.specs.declared.outcome.Outcome.{Outcome}
+use Rattle.am_base.specs.declared.event.NodeEvent.{NodeEvent}
+use Rattle.am_packet.specs.Boxes.{Letter}
+use Rattle.am_core.specs.Cores.{IsInOrder}
+use Rattle.am_core.proofs.Ends.{end-self, end-top}
+use Rattle.am_model.specs.Node as protocol
+use Rattle.am_model.specs.Node.{top}
+use Rattle.am_model.specs.Step.{step, row}
+use Rattle.am_model.specs.Ends.{IsEndOf, ComesTo, Does}
+use Rattle.am_ends.proofs.Hearing.{ends_step_alike}
+
+-- a node of which nothing is trimmed is its own end
+pub own_end : (m : protocol.Node) → m.core.base ≡ m.core.log.start → IsEndOf m m
+own_end m h = record { stands = record { base = h; kept = end-self m.core.log }; same = refl }
+
+pub end_high : (all m : protocol.Node) → IsEndOf all m → top m ≡ top all
+end_high all m is = end-top all.core.log m.core.log is.stands.kept
+
+-- what the end does, all of it does
+pub step_end : (all m n : protocol.Node) (what : NodeEvent) (outcome : Outcome) (letters : List Letter) → IsEndOf all m → IsInOrder m.core
+    → Does (λ k. row k what) m outcome letters n → ComesTo (step all what) outcome letters n
+unfolding step
+step_end all m n what outcome letters is order does =
+    let s = ends_step_alike all m what is order in
+    record { node = s.node n does.node; answer = does.answer ∙ sym s.answer; sent = does.sent ∙ sym s.sent }

@@ -1,9 +1,0 @@
-use Rattle.std.proofs.Common.{refl}
-use Rattle.am_model.specs.Emit.{quiet}
-use Rattle.am_handlers.specs.Parts.{node_of}
-use Rattle.am_handlers.proofs.Plans.{done_silent}
-use Rattle.am_handlers.proofs.finishing.finish_silently.Goals as goal
-
-pub returns : goal.returns
-returns c = done_silent c.args.before (record (quiet (node_of c.args.parts.now) c.args.answer) { polls = c.args.polls }) (node_of c.end.new.self) refl
-    c.accept_front-before.ensures.order.kept c.end.ensures (λ n is. refl) (λ n is. refl) c.requires c.tell_accepted.ensures

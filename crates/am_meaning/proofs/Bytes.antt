@@ -1,0 +1,64 @@
+-- Bytes that are heard.
+use Rattle.std.proofs.Common.{◌≡◌, ℕ, ◌+◌, ◌<◌, ◌≤◌, nat_lt, nat_le, List, length, take, Ok, Err, refl, ap, ◌∙◌, arith}
+use Rattle.std.proofs.lemmas.Bool.Decides.{nat_tests}
+use Rattle.std.proofs.lemmas.List.{take_all}
+use Rattle.am_base.specs.declared.entry.Entry.{Entry}
+use Rattle.am_base.specs.declared.entry.Entry.TheVariants.{Data, Join, Leave, View}
+use Rattle.am_base.specs.declared.event.NodeEvent.TheVariants.{Hear}
+use Rattle.am_packet.specs.declared.packet.Packet.{Packet}
+use Rattle.am_packet.specs.declared.packet.Packet.TheVariants as packets
+use Rattle.am_codec.specs.declared.refusal.PacketRefusal.TheVariants.{Short, BadLength}
+use Rattle.am_codec.specs.Limits.{IsPacket, HasParts}
+use Rattle.am_codec.specs.Spelling.{spelling, fields_of, entry_bytes}
+use Rattle.am_codec.specs.Reading.{Read, reading}
+use Rattle.am_codec.proofs.Lengths.{length-rows_bytes}
+use Rattle.am_codec.proofs.Again.{length-spelling, spelling_again}
+use Rattle.am_codec.proofs.Whole.{part_refused}
+use Rattle.am_model.specs.Node.{Node}
+use Rattle.am_model.specs.Emit.{finish}
+use Rattle.am_model.specs.Step.{read_row, row, step, hear, hear_refusal}
+use Rattle.am_model.specs.Lengths.{entry_length, packet_length}
+use Rattle.am_meaning.specs.Laws.{SpellingIsHeard, CutIsHeard}
+use Rattle.am_base.proofs.Greatest.{split}
+
+-- bytes, by what is read of them
+by_reading : (m : Node) (bytes : List ℕ) (read : Read Packet) → reading bytes ≡ read → step m (Hear bytes) ≡ finish m (read_row m read)
+unfolding step row
+by_reading m bytes read is = ap (λ r. finish m (read_row m r)) is
+
+pub spelling_is_heard : SpellingIsHeard
+unfolding hear
+spelling_is_heard m packet is = by_reading m (spelling packet) (Ok packet) (spelling_again packet is)
+
+length-entry : (e : Entry) → length (entry_bytes e) ≡ entry_length e
+unfolding entry_bytes
+length-entry (Data from req body) = omega arith
+length-entry (Join name) = refl
+length-entry (Leave name) = refl
+length-entry (View stamp members resilience) = refl
+
+length-fields : (packet : Packet) → HasParts packet → 12 + length (fields_of packet) ≡ packet_length packet
+unfolding HasParts fields_of
+length-fields (packets.Request s v report req body) parts = omega arith
+length-fields (packets.Spread s v report req body) parts = omega arith
+length-fields (packets.Bcast s v base acc number e) parts = omega (arith, length-entry e)
+length-fields (packets.Welcome s v base join image) parts = omega (arith, length-rows_bytes image.rows, parts)
+length-fields (packets.Piece s v base number e) parts = omega (arith, length-entry e)
+length-fields _ parts = refl
+
+pub long : (packet : Packet) → IsPacket packet → length (spelling packet) ≡ packet_length packet
+long packet is = length-spelling packet ∙ length-fields packet is.parts
+
+pub cut_is_heard : CutIsHeard
+unfolding hear_refusal
+cut_is_heard m packet keep is =
+    let many = long packet is in
+    let bytes = spelling packet in
+    split (nat_le (packet_length packet) keep)
+    (λ t. let whole : length bytes ≤ keep = grind (arith, nat_tests) in
+    rw (t, take_all keep bytes whole) (spelling_is_heard m packet is))
+    (λ f. let part : keep < length bytes = grind (arith, nat_tests) in
+    let read = part_refused packet keep is part in
+    split (nat_lt keep 12)
+    (λ s. rw (f, s) (by_reading m (take keep bytes) (Err Short) (rw s at read)))
+    (λ s. rw (f, s) (by_reading m (take keep bytes) (Err (BadLength (length bytes) keep)) (rw s at read))))

@@ -1,0 +1,4 @@
+//! That the definitions mean what they say.
+#![tactic(auto)]
+
+pub mod laws;

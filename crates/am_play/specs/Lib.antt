@@ -1,0 +1,10 @@
+pub mod Text
+pub mod World
+pub mod Group
+pub mod Lawful
+pub mod Settle
+pub mod AbstractGroup
+pub mod Claims
+pub mod Play
+pub mod Legal
+pub mod Running

@@ -1,0 +1,162 @@
+-- Letters that were looked through needn't be looked through again.
+use Rattle.std.proofs.Common.{◌≡◌, ◌≢◌, ℕ, zero, suc, ◌+◌, ◌<◌, ◌≤◌, ◌==◌, Bool, true, false, List, [], ◌∷◌, ◌++◌, length, take, drop, Option, Some, None}
+use Rattle.std.proofs.Common.{nat_lt, slice_index, slice_index_or, slice_set, refl, sym, ap, ◌∙◌, add-zero, arith, length-drop}
+use Rattle.std.proofs.lemmas.List.{take-append-le, drop-append-le, length-take-le, take-append-drop, take_all, drop_all, length-append, length-set}
+use Rattle.std.proofs.lemmas.List.{get_or-set_same, get_or-set_other}
+use Rattle.std.proofs.lemmas.Bool.Decides.{nat_tests}
+use Rattle.am_packet.specs.Boxes.{Letter}
+use Rattle.am_group.specs.Addressed.{is_for, first_for, next_for}
+use Rattle.am_chooser.specs.Choices.{Luck, choice_of, again, progress_after, draw}
+use Rattle.am_chooser.specs.declared.chooser.Choice.{Choice}
+use Rattle.am_chooser.specs.declared.progress.Progress.{Progress}
+use Rattle.am_pump.specs.Generating.{no_progress}
+use Rattle.am_pump.specs.Counts.{IsSeen, AreSeen, seen_after}
+
+-- by what a test says
+split : {G : Type 0} (b : Bool) → (b ≡ true → G) → (b ≡ false → G) → G
+split true f g = f refl
+split false f g = g refl
+
+-- none of the first letters is for the name
+behind : (xs ys : List Letter) (number name : ℕ) → first_for xs number name ≡ None → first_for (xs ++ ys) number name ≡ first_for ys (number + length xs) name
+behind [] ys number name none = ap (λ k. first_for ys k name) (sym (add-zero number))
+behind (x ∷ xs) ys number name none =
+    split (is_for x name)
+    (λ t. absurd (let n = rw t at none in cc))
+    (λ f. let at : number + 1 + length xs ≡ number + suc (length xs) = omega arith in
+    rw f (behind xs ys (number + 1) name (rw f at none) ∙ ap (λ k. first_for ys k name) at))
+
+-- the letter that is found is one of them
+within : (xs : List Letter) (number name found : ℕ) → first_for xs number name ≡ Some found → found < number + length xs
+within [] number name found is = absurd (cc)
+within (x ∷ xs) number name found is =
+    split (is_for x name)
+    (λ t. let e : number ≡ found = (let s = rw t at is in cc) in omega arith)
+    (λ f. let less = within xs (number + 1) name found (rw f at is) in omega arith)
+
+pub seen_next : (letters : List Letter) (place cursor seen : ℕ) → IsSeen letters place cursor seen
+    → next_for letters place cursor ≡ next_for letters place seen
+unfolding next_for
+seen_next letters place cursor seen is =
+    let low = is.low in
+    let long = length-take-le seen letters is.high in
+    let parts : drop cursor letters ≡ drop cursor (take seen letters) ++ drop seen letters
+    = ap (drop cursor) (sym (take-append-drop seen letters)) ∙ drop-append-le cursor (take seen letters) (drop seen letters) (omega arith) in
+    let less = length-drop cursor (take seen letters) in
+    let at : cursor + 1 + length (drop cursor (take seen letters)) ≡ seen + 1 = omega arith in
+    ap (λ xs. first_for xs (cursor + 1) place) parts ∙ behind (drop cursor (take seen letters)) (drop seen letters) (cursor + 1) place is.none
+    ∙ ap (λ k. first_for (drop seen letters) k place) at
+
+pub seen_more : (letters more : List Letter) (place cursor seen : ℕ) → IsSeen letters place cursor seen → IsSeen (letters ++ more) place cursor seen
+seen_more letters more place cursor seen is = record {
+  low = is.low;
+  high = let high = is.high in let long = length-append letters more in omega arith;
+  none = ap (λ xs. next_for xs place cursor) (take-append-le seen letters more is.high) ∙ is.none;
+}
+
+-- nothing stands above a letter up to it
+pub seen_to : (letters : List Letter) (place number : ℕ) → number ≤ length letters → IsSeen letters place number number
+unfolding next_for
+seen_to letters place number h = record {
+  low = omega arith;
+  high = h;
+  none = let long = length-take-le number letters h in ap (λ xs. first_for xs (number + 1) place) (drop_all number (take number letters) (omega arith));
+}
+
+seen_all : (letters : List Letter) (place cursor : ℕ) → cursor ≤ length letters → next_for letters place cursor ≡ None
+    → IsSeen letters place cursor (length letters)
+seen_all letters place cursor h none = record {
+  low = h;
+  high = omega arith;
+  none = ap (λ xs. next_for xs place cursor) (take_all (length letters) letters (omega arith)) ∙ none;
+}
+
+few : (letters : List Letter) (place cursor number : ℕ) → cursor ≤ length letters → next_for letters place cursor ≡ Some number → number ≤ length letters
+unfolding next_for
+few letters place cursor number h is =
+    let less = within (drop cursor letters) (cursor + 1) place number is in
+    let long = length-drop cursor letters in
+    omega arith
+
+abbrev Sees : List Letter → ℕ → Progress → ℕ → Choice → Type 0
+Sees letters place p seen c = IsSeen letters place (progress_after p c).cursor (seen_after c seen (length letters))
+
+sees_again : (letters : List Letter) (place seen number : ℕ) (p : Progress) (last : Option ℕ) → IsSeen letters place p.cursor seen → number ≤ length letters
+    → Sees letters place p seen (again number last)
+sees_again letters place seen number p None is h = seen_to letters place number h
+sees_again letters place seen number p (Some one) is h = is
+
+-- what was looked through stays so after a choice
+pub seen_chosen : (letters : List Letter) (place seen : ℕ) (p : Progress) (luck : Luck) (ahead : Option ℕ) → IsSeen letters place p.cursor seen
+    → ahead ≡ next_for letters place p.cursor → Sees letters place p seen (choice_of luck ahead p.last)
+seen_chosen letters place seen p luck None is e =
+    let low = is.low in
+    let high = is.high in
+    seen_all letters place p.cursor (omega arith) (sym e)
+seen_chosen letters place seen p luck (Some number) is e =
+    let low = is.low in
+    let high = is.high in
+    let most = few letters place p.cursor number (omega arith) (sym e) in
+    split (nat_lt (draw luck.words 100) luck.loss)
+    (λ t. rw t (seen_to letters place number most))
+    (λ f. rw f (split (nat_lt (draw luck.words 100) (luck.loss + luck.repeat))
+    (λ t. rw t (sees_again letters place seen number p p.last is most))
+    (λ f. rw f (seen_to letters place number most))))
+
+-- the places' numbers, with one changed
+pub seen_set : (seen : List ℕ) (progress : List Progress) (letters : List Letter) (place number : ℕ) (p : Progress) → AreSeen seen progress letters
+    → place < 4 → IsSeen letters place p.cursor number → AreSeen (slice_set seen place number) (slice_set progress place p) letters
+seen_set seen progress letters place number p are h is = record {
+  count = length-set seen place number ∙ are.count;
+  places = length-set progress place p ∙ are.places;
+  each = λ k low. split (k == place)
+      (λ t. let count = are.count in
+      let places = are.places in
+      let here : k ≡ place = grind (arith, nat_tests) in
+      let one = ap (slice_index (slice_set seen place number)) here ∙ get_or-set_same seen place number 0 (omega arith) in
+      let two = ap (λ i. slice_index_or (slice_set progress place p) i no_progress) here ∙ get_or-set_same progress place p no_progress (omega arith) in
+      rw (one, two, here) is)
+      (λ f. let other : k ≢ place = grind (arith, nat_tests) in
+      rw (get_or-set_other seen place k number 0 other, get_or-set_other progress place k p no_progress other) (are.each k low));
+}
+
+-- a place has chosen
+pub seen_on : (seen : List ℕ) (progress : List Progress) (letters : List Letter) (place at number : ℕ) (luck : Luck) (ahead : Option ℕ) (chosen : Choice)
+    (p : Progress) → AreSeen seen progress letters → place < 4 → at ≡ place
+    → ahead ≡ next_for letters place (slice_index_or progress place no_progress).cursor
+    → chosen ≡ choice_of luck ahead (slice_index_or progress at no_progress).last → p ≡ progress_after (slice_index_or progress at no_progress) chosen
+    → number ≡ seen_after chosen (slice_index seen at) (length letters) → AreSeen (slice_set seen at number) (slice_set progress at p) letters
+seen_on seen progress letters place at number luck ahead chosen p are h same e chooses goes sees =
+    rw (sees, goes, chooses, same) (seen_set seen progress letters place _ _ are h
+    (seen_chosen letters place (slice_index seen place) (slice_index_or progress place no_progress) luck ahead (are.each place h) e))
+
+pub seen_grown : (seen : List ℕ) (progress : List Progress) (letters more : List Letter) → AreSeen seen progress letters
+    → AreSeen seen progress (letters ++ more)
+seen_grown seen progress letters more are = record {
+  count = are.count;
+  places = are.places;
+  each = λ k low. seen_more letters more k _ _ (are.each k low);
+}
+
+-- ---- before anything was looked through
+
+zeros : (place : ℕ) → slice_index (0 ∷ 0 ∷ 0 ∷ 0 ∷ []) place ≡ 0
+zeros zero = refl
+zeros (suc zero) = refl
+zeros (suc (suc zero)) = refl
+zeros (suc (suc (suc zero))) = refl
+zeros (suc (suc (suc (suc place)))) = refl
+
+cursors : (p : Progress) (place : ℕ) → p.cursor ≡ 0 → (slice_index_or (p ∷ p ∷ p ∷ p ∷ []) place no_progress).cursor ≡ 0
+cursors p zero e = e
+cursors p (suc zero) e = e
+cursors p (suc (suc zero)) e = e
+cursors p (suc (suc (suc zero))) e = e
+cursors p (suc (suc (suc (suc place)))) e = refl
+
+pub none_seen : (p : Progress) (letters : List Letter) → p.cursor ≡ 0 → AreSeen (0 ∷ 0 ∷ 0 ∷ 0 ∷ []) (p ∷ p ∷ p ∷ p ∷ []) letters
+none_seen p letters e = record {
+  count = refl;
+  places = refl;
+  each = λ place low. rw (zeros place, cursors p place e) (seen_to letters place 0 (omega arith));
+}

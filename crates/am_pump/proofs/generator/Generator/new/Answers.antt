@@ -1,0 +1,13 @@
+use Rattle.std.proofs.Common.{rules}
+use Rattle.am_group.specs.Journals.{letters_of}
+use Rattle.am_play.specs.World as world
+use Rattle.am_world.specs.Runs.{replay}
+use Rattle.am_pump.proofs.Seen.{none_seen}
+use Rattle.am_pump.proofs.generator.Generator.new.Goals as goal
+
+pub invariant_of-result : goal.invariant_of-result
+unfolding world.happen
+invariant_of-result c = record {
+  counted = search rules;
+  looked = none_seen c.new-4.result (letters_of (replay c.reserve.new.self).records) c.new-4.ensures.cursor;
+}

@@ -1,0 +1,190 @@
+-- What a node's step comes to in the world of which the records tell.
+use Rattle.std.proofs.Common.{◌≡◌, ℕ, ◌<◌, ◌≤◌, List, [], ◌∷◌, ◌++◌, length, map, Bool, true, false, true≢false, Option}
+use Rattle.std.proofs.Common.{Some, None, sym, refl, ap, ◌∙◌, subst, arith}
+use Rattle.std.specs.Prelude.{if◌then◌else◌, not, ◌==◌}
+use Rattle.std.proofs.lemmas.Bool.Decides.{nat_tests}
+use Rattle.std.proofs.lemmas.List.{length-map}
+use Rattle.std.proofs.lemmas.Option.{none-some}
+use Rattle.am_base.specs.Most.{most_events}
+use Rattle.am_base.specs.declared.outcome.Outcome.TheVariants as said
+use Rattle.am_base.specs.declared.event.NodeEvent.{NodeEvent}
+use Rattle.am_base.specs.declared.event.NodeEvent.TheVariants as does
+use Rattle.am_base.specs.Founding.{Rules}
+use Rattle.am_base.specs.Names.{place_of, name_at}
+use Rattle.am_codec.specs.Limits.{IsPacket}
+use Rattle.am_codec.specs.Spelling.{spelling}
+use Rattle.am_core.specs.Cores.{IsInOrder}
+use Rattle.am_packet.specs.Boxes.{Letter}
+use Rattle.am_group.specs.declared.event.Act.{Act}
+use Rattle.am_group.specs.declared.event.Act.TheVariants as act
+use Rattle.am_group.specs.declared.event.Event.{Event}
+use Rattle.am_group.specs.declared.event.Record.{Record}
+use Rattle.am_group.specs.Addressed.{is_for}
+use Rattle.am_group.specs.Journals.{letters_of, letter_at}
+use Rattle.am_model.specs.Emit.{Step}
+use Rattle.am_model.specs.Step.{step, hear, row}
+use Rattle.am_play.specs.World.{World, is_stopped, with_record, with_step, does_event, hears_letter, acts_as, happens, record_of, current, no_caller}
+use Rattle.am_play.specs.World.{start, run, happen}
+use Rattle.am_model.specs.Node.{Node}
+use Rattle.am_play.specs.Group.{with_tag}
+use Rattle.am_model.specs.Ends.{IsEndOf, Does}
+use Rattle.am_meaning.proofs.Bytes.{spelling_is_heard}
+use Rattle.am_info.specs.Nodes.{HasNumbersLeft}
+use Rattle.am_ends.proofs.Steps.{step_end, end_high}
+use Rattle.am_play.proofs.Runs.{runs_go_on}
+use Rattle.am_laws.proofs.RunCounts.{numbers_hold}
+use Rattle.am_wire.specs.declared.rule.Terms.{Terms}
+use Rattle.am_wire.specs.Seats.{Follows}
+use Rattle.am_wire.specs.Stops.{has_stopped}
+use Rattle.am_races.specs.Told.{world_after, IsNext}
+use Rattle.am_races.specs.Lawful.{IsLawful}
+use Rattle.am_races.specs.Boxes.{what_of, MayAct}
+use Rattle.am_races.proofs.Legality.{next_tells}
+use Rattle.am_races.proofs.Knows.{knows, name_now, each_keeps, told_more}
+
+-- ---- the run
+
+pub events_of : List Record → List Event
+events_of records = map (λ r. r.event) records
+
+IsTheRun : Rules → List Record → Type 0
+IsTheRun rules before = world_after rules before ≡ run rules (events_of before)
+
+events_more : (before : List Record) (r : Record) → events_of (before ++ r ∷ []) ≡ events_of before ++ r.event ∷ []
+unfolding events_of
+events_more [] r = refl
+events_more (q ∷ before) r = ap (λ (es : List Event). q.event ∷ es) (events_more before r)
+
+-- what a lawful journal tells is the run of its events
+told_runs : (terms : Terms) (before : List Record) → Follows (IsLawful terms) before → IsTheRun terms.founding before
+unfolding IsTheRun world_after events_of happen
+told_runs terms before follows =
+    each_keeps (IsTheRun terms.founding) (IsLawful terms)
+    (λ done r lawful so_far. told_more terms.founding done r ∙ next_tells terms.founding done r lawful.next ∙ ap (λ (w : World). happens w r.event) so_far
+    ∙ sym (ap (run terms.founding) (events_more done r) ∙ runs_go_on (start terms.founding) (events_of done) (r.event ∷ [])))
+    [] before refl follows
+
+pub told_is_run : (terms : Terms) (before : List Record) → Follows (IsLawful terms) before → world_after terms.founding before
+    ≡ run terms.founding (events_of before)
+unfolding IsTheRun
+told_is_run terms before follows = told_runs terms before follows
+
+-- the numbers of a node are within a step's limits
+pub numbers_left : (terms : Terms) (before : List Record) (name : ℕ) (m : Node) → Follows (IsLawful terms) before → length before ≤ most_events
+    → IsEndOf ((world_after terms.founding before).nodes name) m → HasNumbersLeft m
+unfolding IsTheRun events_of
+numbers_left terms before name m follows few is =
+    let its = subst (λ (w : World). IsEndOf (w.nodes name) m) (told_runs terms before follows) is in
+    let lows = (numbers_hold terms.founding (events_of before)).each name in
+    let many : length (events_of before) ≡ length before = simp length-map in
+    let high = end_high ((run terms.founding (events_of before)).nodes name) m its in
+    let round = ap (λ (n : Node). n.core.promise.round) its.same in
+    let last = ap (λ (n : Node). n.sends.last) its.same in
+    let a = lows.entries in let b = lows.round in let c = lows.requests in
+    record { entries = omega arith; rounds = omega arith; requests = omega arith }
+
+-- ---- an act is a step
+
+some_is : {A : Type 0} (x y : A) → Some x ≡ Some y → x ≡ y
+some_is {A = A} x y e = ap (λ (o : Option A). or_this o) e
+  where
+    or_this : Option A → A
+    or_this None = x
+    or_this (Some z) = z
+
+if_runs : {A : Type 0} (b : Bool) (x y : A) → b ≡ false → (if b then x else y) ≡ y
+if_runs true x y e = absurd (true≢false e)
+if_runs false x y e = refl
+
+if_stopped : {A : Type 0} (b : Bool) (x y : A) → b ≡ true → (if b then x else y) ≡ x
+if_stopped true x y e = refl
+if_stopped false x y e = absurd (true≢false (sym e))
+
+does_steps : (w : World) (e : Event) (name : ℕ) (mine what : NodeEvent) → Some mine ≡ Some what → is_stopped w name ≡ false
+    → does_event w e name mine ≡ with_step w e name (step (w.nodes name) what)
+does_steps w e name mine what is runs =
+    if_runs (is_stopped w name) (with_record w e said.IsStopped) (with_step w e name (step (w.nodes name) mine)) runs
+    ∙ ap (λ (x : NodeEvent). with_step w e name (step (w.nodes name) x)) (some_is mine what is)
+
+hears_steps : (w : World) (e : Event) (name : ℕ) (l : Letter) (what : NodeEvent) → Some (does.Hear (spelling l.packet)) ≡ Some what → is_stopped w name ≡ false
+    → is_for l name ≡ true → IsPacket l.packet → hears_letter w e name (hear (w.nodes name)) (Some l) ≡ with_step w e name (step (w.nodes name) what)
+hears_steps w e name l what is runs its packet =
+    let hears : World = with_step w e name (hear (w.nodes name) l.packet) in
+    if_runs (not (is_for l name)) (with_record w e said.NotAddressed) (if is_stopped w name then with_record w e said.IsStopped else hears) (ap not its)
+    ∙ if_runs (is_stopped w name) (with_record w e said.IsStopped) hears runs
+    ∙ ap (with_step w e name) (sym (spelling_is_heard (w.nodes name) l.packet packet))
+    ∙ ap (λ (x : NodeEvent). with_step w e name (step (w.nodes name) x)) (some_is (does.Hear (spelling l.packet)) what is)
+
+pub acts_step : (w : World) (e : Event) (before : List Record) (name : ℕ) (a : Act) (l : Option Letter) (what : NodeEvent) → what_of a l ≡ Some what
+    → is_stopped w name ≡ false → w.letters ≡ letters_of before → ((k : ℕ) → is_stopped w k ≡ has_stopped before k) → MayAct before name a l
+    → acts_as w e name a ≡ with_step w e name (step (w.nodes name) what)
+acts_step w e before name (act.Send body) l what is runs sent stopped may = does_steps w e name (does.Send body) what is runs
+acts_step w e before name (act.Done req) l what is runs sent stopped may = does_steps w e name (does.Done req) what is runs
+acts_step w e before name act.Take l what is runs sent stopped may = does_steps w e name does.Take what is runs
+acts_step w e before name act.Join l what is runs sent stopped may = does_steps w e name does.Join what is runs
+acts_step w e before name act.State l what is runs sent stopped may = does_steps w e name does.State what is runs
+acts_step w e before name act.Leave l what is runs sent stopped may = does_steps w e name does.Leave what is runs
+acts_step w e before name (act.Reset least resilience) l what is runs sent stopped may = does_steps w e name (does.Reset least resilience) what is runs
+acts_step w e before name (act.Ask round) l what is runs sent stopped may = does_steps w e name (does.Ask round) what is runs
+acts_step w e before name (act.GiveUp other) l what is runs sent stopped may =
+    let given : World = with_step w e name (step (w.nodes name) (does.GiveUp other)) in
+    let not_stopped : World = with_record w e said.NotStopped in
+    if_runs (is_stopped w name) (with_record w e said.IsStopped) (if is_stopped w other then given else not_stopped) runs
+    ∙ if_stopped (is_stopped w other) given not_stopped (stopped other ∙ may.given other refl)
+    ∙ ap (λ (x : NodeEvent). with_step w e name (step (w.nodes name) x)) (some_is (does.GiveUp other) what is)
+acts_step w e before name act.Stop l what is runs sent stopped may = absurd (none-some what is)
+acts_step w e before name act.Tick l what is runs sent stopped may = does_steps w e name does.Tick what is runs
+acts_step w e before name (act.Hear number) l what is runs sent stopped may =
+    let h = may.hears number refl in
+    let there : letter_at w.letters number ≡ Some h.letter = ap (λ (ls : List Letter). letter_at ls number) sent ∙ h.sent in
+    let same : Some (does.Hear (spelling h.letter.packet)) ≡ Some what = sym (ap (what_of (act.Hear number)) h.is) ∙ is in
+    ap (hears_letter w e name (hear (w.nodes name))) there ∙ hears_steps w e name h.letter what same runs h.its h.packet
+acts_step w e before name (act.Cut number keep) l what is runs sent stopped may = absurd (true≢false (sym may.race))
+acts_step w e before name act.Return l what is runs sent stopped may = absurd (true≢false (sym may.race))
+
+-- ---- what comes next
+
+-- the record that an act's step makes, and the node that it leaves
+pub record Comes (rules : Rules) (before : List Record) (name : ℕ) (n : Node) (item : Record) : Type 0 where
+  pub next : IsNext rules before item
+  pub node : IsEndOf ((world_after rules (before ++ item ∷ [])).nodes name) n
+
+own_node : (w : World) (e : Event) (name : ℕ) (s : Step) → (with_step w e name s).nodes name ≡ s.node
+unfolding with_step
+own_node w e name s = let same : (name == name) ≡ true = grind (arith, nat_tests) in rw same refl
+
+stepped_adds : (w : World) (e : Event) (name : ℕ) (s : Step) → (with_step w e name s).records ≡ w.records ++ record_of w e s.outcome s.letters ∷ []
+unfolding with_step
+stepped_adds w e name s = refl
+
+pub step_comes : (terms : Terms) (before : List Record) (name : ℕ) (m n : Node) (l : Option Letter) (what : NodeEvent) (item : Record)
+    → Follows (IsLawful terms) before → name < 16
+    → item.event.node ≡ name → item.life ≡ 1 → MayAct before name item.event.act l → what_of item.event.act l ≡ Some what
+    → IsEndOf ((world_after terms.founding before).nodes name) m → IsInOrder m.core → Does (λ k. row k what) m item.outcome item.packets n
+    → Comes terms.founding before name n item
+unfolding happens
+step_comes terms before name m n l what item follows low_name node life may is end order does =
+    let w : World = world_after terms.founding before in
+    let kn = knows terms before follows in
+    let e : Event = item.event in
+    let here : current w (place_of e.node) ≡ name = name_now terms.founding before kn (place_of e.node) ∙ ap (λ (k : ℕ). name_at (place_of k) 1) node
+    ∙ low_one name low_name in
+    let runs : is_stopped w name ≡ false = kn.stopped name ∙ may.runs in
+    let s : Step = step (w.nodes name) what in
+    let c = step_end (w.nodes name) m n what item.outcome item.packets end order does in
+    let did : happens w e ≡ with_step w e name s = ap (λ (k : ℕ). acts_as w e k e.act) here
+    ∙ acts_step w e before name e.act l what is runs kn.letters kn.stopped may in
+    let made : record_of w e s.outcome s.letters ≡ with_tag no_caller item =
+    λ i. record { event = e; life = (kn.lives (place_of e.node) ∙ sym life) i; by = no_caller; outcome = sym c.answer i; packets = sym c.sent i }
+    in
+    let next : IsNext terms.founding before item = ap (λ (v : World). v.records) did ∙ stepped_adds w e name s
+    ∙ ap (λ (r : Record). w.records ++ r ∷ []) made in
+    record {
+      next = next;
+      node = subst (λ (v : Node). IsEndOf v n)
+          (sym (ap (λ (v : World). v.nodes name) (told_more terms.founding before item ∙ next_tells terms.founding before item next ∙ did)
+          ∙ own_node w e name s)) c.node;
+    }
+  where
+    low_one : (k : ℕ) → k < 16 → name_at (place_of k) 1 ≡ k
+    low_one k h = omega arith

@@ -1,0 +1,89 @@
+-- What a race leaves at its end.
+use Rattle.std.proofs.Common.{◌≡◌, ℕ, zero, suc, ◌+◌, ◌<◌, ◌≤◌, List, [], ◌∷◌, length, Bool, true, false, true≢false, cond}
+use Rattle.std.proofs.Common.{sym, refl, ap, ◌∙◌, subst, arith, inl, inr, ⊎_elim, ne_eqb}
+use Rattle.std.specs.Prelude.{All, if◌then◌else◌, ◌&&◌, ◌==◌, ◌⊎◌}
+use Rattle.atomic_table.specs.Seated.{TableId}
+use Rattle.am_group.specs.declared.event.Act.{Act}
+use Rattle.am_group.specs.declared.event.Record.{Record}
+use Rattle.am_group.specs.declared.plan.RacePlan.{RacePlan}
+use Rattle.am_chooser.specs.Choices.{Luck, words_of}
+use Rattle.am_wire.specs.declared.rule.Key.TheVariants.{Caller}
+use Rattle.am_wire.specs.Passes.{Known, fresh}
+use Rattle.am_wire.specs.Seats.{Follows}
+use Rattle.am_races.specs.Tags.{of_caller}
+use Rattle.am_races.specs.Turns.{is_turn, later}
+use Rattle.am_races.specs.Answers.{is_take}
+use Rattle.am_races.specs.Callers.{is_callers, are_calls, is_receive}
+use Rattle.am_races.specs.Callings.{IsHand, HasMade, luck_after}
+use Rattle.am_races.specs.Lawful.{IsLawful, terms_of}
+use Rattle.am_races.specs.Legal.{IsLegalWithTags}
+use Rattle.am_races.specs.Plans.{calls_of}
+use Rattle.am_races.proofs.Legality.{each_is_next}
+
+-- ---- callers that have made no call
+
+both_hold : (a b : Bool) → a ≡ true → b ≡ true → (a && b) ≡ true
+both_hold true b p q = q
+both_hold false b p q = absurd (true≢false (sym p))
+
+either_way : (b : Bool) → (if b then true else true) ≡ true
+either_way true = refl
+either_way false = refl
+
+pub none_called : (turns number : ℕ) (calls : List Act) → are_calls turns number calls [] ≡ true
+unfolding are_calls is_receive
+none_called turns number [] = refl
+none_called turns number (planned ∷ calls) = both_hold (if is_take planned then true else true) (are_calls turns (number + 1) calls [])
+    (either_way (is_take planned)) (none_called turns (number + 1) calls)
+
+pub fresh_luck : (plan : RacePlan) (number stream : ℕ) (luck : Luck) → stream ≡ number
+    → luck ≡ record { words = words_of plan.seed_number stream; loss = plan.loss; repeat = plan.repeat }
+    → luck ≡ luck_after plan number 0
+unfolding later
+fresh_luck plan number stream luck same is = is ∙ ap (λ (n : ℕ). luck_after plan n 0) same
+
+pub fresh_hand : (wire : TableId) (plan plan' : RacePlan) (number : ℕ) (share its : Known) (luck : Luck) → plan' ≡ plan → its ≡ share
+    → share ≡ fresh wire (terms_of plan) (Caller number)
+    → luck ≡ luck_after plan' number 0 → IsHand wire plan number its luck × HasMade plan number 0 its.seen
+fresh_hand wire plan plan' number share its luck same is new its_luck =
+    let all : its ≡ fresh wire (terms_of plan) (Caller number) = is ∙ new in
+    subst (λ (k : Known). IsHand wire plan number k luck × HasMade plan number 0 k.seen) (sym all) (
+      record {
+        own = refl;
+        terms = refl;
+        keys = refl;
+        luck_ = its_luck ∙ ap (λ (p : RacePlan). luck_after p number 0) same;
+      },
+      record { planned = none_called plan.turns 0 (calls_of plan number); earlier = λ k d h. absurd (omega arith) },
+    )
+
+-- ---- the journal is legal with its tags
+
+of_none : (caller many : ℕ) (journal : List Record) → many ≤ caller → All (λ r. r.by.caller < many) journal → of_caller caller journal ≡ []
+of_none caller many [] le all = refl
+of_none caller many (r ∷ rest) le all =
+    let below : r.by.caller < many = all 0 r (omega arith) in
+    let other : (r.by.caller == caller) ≡ false = ne_eqb r.by.caller caller (λ e. omega arith) in
+    ap (λ (b : Bool). cond b (r ∷ of_caller caller rest) (of_caller caller rest)) other ∙ of_none caller many rest le (λ k d h. all (suc k) d (omega arith))
+
+below_or : (a n : ℕ) → (a < n) ⊎ (n ≤ a)
+below_or a zero = inr (omega arith)
+below_or zero (suc n) = inl (omega arith)
+below_or (suc a) (suc n) = ⊎_elim (λ (h : a < n). inl (omega arith)) (λ (h : n ≤ a). inr (omega arith)) (below_or a n)
+
+pub legal_with_tags : (plan : RacePlan) (journal : List Record) → Follows (IsLawful (terms_of plan)) journal
+    → All (λ r. r.by.caller < length plan.threads) journal
+    → ((caller : ℕ) → caller < length plan.threads → is_callers plan.turns (calls_of plan caller) (of_caller caller journal) ≡ true)
+    → IsLegalWithTags plan (calls_of plan) journal
+unfolding is_turn
+legal_with_tags plan journal follows all each = record {
+  legal = (each_is_next plan.founding journal).1 (λ before rest r e. (follows before rest r e).next);
+  callers = λ caller. ⊎_elim (each caller) (beyond caller) (below_or caller (length plan.threads));
+  turns = λ before rest r e is. (follows before rest r e).turn is;
+  stops = λ before rest r e. (follows before rest r e).stop;
+}
+  where
+    beyond : (caller : ℕ) → length plan.threads ≤ caller → is_callers plan.turns (calls_of plan caller) (of_caller caller journal) ≡ true
+    beyond caller le =
+        ap (is_callers plan.turns (calls_of plan caller)) (of_none caller (length plan.threads) journal le all)
+        ∙ none_called plan.turns 0 (calls_of plan caller)

@@ -1,0 +1,145 @@
+-- The passes of places and callers, joined to one with all keys.
+use Rattle.std.proofs.Common.{◌≡◌, ℕ, zero, suc, ◌+◌, ◌<◌, ◌≤◌, List, [], ◌∷◌, ◌++◌, length, get_or, Bool, true, false, true≢false, cond, sym}
+use Rattle.std.proofs.Common.{refl, ap, ◌∙◌, subst, arith, inl, inr, ⊎_elim}
+use Rattle.std.specs.Prelude.{All, ◌⊎◌}
+use Rattle.std.specs.List.{range_with_len}
+use Rattle.std.proofs.lemmas.Bool.{eqb-true, ltb-true}
+use Rattle.std.proofs.lemmas.List.{get_or-map, length-map}
+use Rattle.std.proofs.lemmas.List.FromFn.{get_or-range_with_len, length-range_with_len}
+use Rattle.am_group.specs.declared.event.Record.{Record}
+use Rattle.am_group.specs.declared.plan.RacePlan.{RacePlan}
+use Rattle.am_wire.specs.declared.rule.Key.{Key}
+use Rattle.am_wire.specs.declared.rule.Key.TheVariants.{Place, Caller}
+use Rattle.am_wire.specs.Keys.{times, same_key}
+use Rattle.am_wire.specs.Passes.{Known, Joined, HasAll}
+use Rattle.am_wire.specs.Seats.{GoesOn}
+use Rattle.am_wire.proofs.Views.{times_append, times_cons, goes_through}
+use Rattle.am_races.specs.Tags.{of_caller}
+use Rattle.am_races.specs.Callers.{is_callers}
+use Rattle.am_races.specs.Callings.{Calling, HasMade}
+use Rattle.am_races.specs.Plans.{calls_of}
+use Rattle.am_races.specs.Ran.{HasPlaces, IsIn, EndsFor, numbers_of}
+use Rattle.am_races.proofs.Boxing.{own_key}
+
+-- ---- one key
+
+same_is : (a b : Key) → same_key a b ≡ true → a ≡ b
+same_is (Place a) (Place b) e = ap Place (eqb-true a b e)
+same_is (Caller a) (Caller b) e = ap Caller (eqb-true a b e)
+same_is (Place a) (Caller b) e = absurd (true≢false (sym e))
+same_is (Caller a) (Place b) e = absurd (true≢false (sym e))
+
+none_if : (b : Bool) → b ≡ false → ◌≡◌ {A = ℕ} (cond b 1 0) 0
+none_if false e = refl
+none_if true e = absurd (true≢false e)
+
+only_key : (key own : Key) → 0 < times key (own ∷ []) → key ≡ own
+only_key key own has = by_test (same_key key own) refl
+  where
+    by_test : (b : Bool) → same_key key own ≡ b → key ≡ own
+    by_test true e = same_is key own e
+    by_test false e =
+        let c = times_cons key own [] in
+        let o = none_if (same_key key own) e in
+        let z : times key [] ≡ 0 = refl in
+        absurd (omega arith)
+
+keeps_key : (key : Key) (p q p' : Known) → Joined p q p' → 0 < times key p.keys → 0 < times key p'.keys
+keeps_key key p q p' j has =
+    let a : times key p'.keys ≡ times key (q.keys ++ p.keys) = ap (times key) j.keys in
+    let b = times_append key q.keys p.keys in
+    omega arith
+
+gets_key : (key : Key) (p q p' : Known) → Joined p q p' → q.keys ≡ key ∷ [] → 0 < times key p'.keys
+gets_key key p q p' j its =
+    let a : times key p'.keys ≡ times key (q.keys ++ p.keys) = ap (times key) j.keys in
+    let b = times_append key q.keys p.keys in
+    let c : times key q.keys ≡ times key (key ∷ []) = ap (times key) its in
+    let o = own_key key in
+    omega arith
+
+-- ---- places
+
+pub place_more : (count : ℕ) (p q p' : Known) → HasPlaces count p → Joined p q p' → q.keys ≡ Place count ∷ [] → HasPlaces (count + 1) p'
+place_more count p q p' has j its place h = ⊎_elim
+    (λ (below : place < count). keeps_key (Place place) p q p' j (has place below))
+    (λ (last : place ≡ count). subst (λ (n : ℕ). 0 < times (Place n) p'.keys) (sym last) (gets_key (Place count) p q p' j its))
+    (below_or_last place count (omega arith))
+  where
+    below_or_last : (a n : ℕ) → a ≤ n → (a < n) ⊎ (a ≡ n)
+    below_or_last zero zero le = inr refl
+    below_or_last zero (suc n) le = inl (omega arith)
+    below_or_last (suc a) zero le = absurd (omega arith)
+    below_or_last (suc a) (suc n) le = ⊎_elim (λ (h : a < n). inl (omega arith)) (λ (e : a ≡ n). inr (ap suc e)) (below_or_last a n (omega arith))
+
+pub places_stay : (count : ℕ) (p q p' : Known) → HasPlaces count p → Joined p q p' → HasPlaces count p'
+places_stay count p q p' has j place h = keeps_key (Place place) p q p' j (has place h)
+
+-- ---- callers
+
+in_still : (plan : RacePlan) (p q p' : Known) (c : Calling) → Joined p q p' → IsIn plan p c → IsIn plan p' c
+in_still plan p q p' c j is = record {
+  key = keeps_key (Caller c.number) p q p' j is.key;
+  goes = goes_through (Caller c.number ∷ []) p.keys c.seen p.seen p'.seen
+      (λ key has. subst (λ (k : Key). 0 < times k p.keys) (sym (only_key key (Caller c.number) has)) is.key) is.goes j.first;
+  made = is.made;
+}
+
+pub in_more : (plan : RacePlan) (p q p' : Known) (callers : List Calling) (c : Calling) → All (IsIn plan p) callers → Joined p q p'
+    → q.keys ≡ Caller c.number ∷ [] → q.seen ≡ c.seen
+    → HasMade plan c.number c.calls c.seen → All (IsIn plan p') (callers ++ c ∷ [])
+in_more plan p q p' [] c all j its seen made zero d h = record {
+  key = gets_key (Caller c.number) p q p' j its;
+  goes = subst (λ (ks : List Key). GoesOn ks c.seen p'.seen) its (subst (λ (l : List Record). GoesOn q.keys l p'.seen) seen j.second);
+  made = made;
+}
+in_more plan p q p' [] c all j its seen made (suc k) d h = absurd (omega arith)
+in_more plan p q p' (x ∷ callers) c all j its seen made zero d h = in_still plan p q p' x j (all 0 d (omega arith))
+in_more plan p q p' (x ∷ callers) c all j its seen made (suc k) d h =
+    in_more plan p q p' callers c (λ i e l. all (suc i) e (omega arith)) j its seen made k d (omega arith)
+
+-- ---- the end
+
+pub ends_for : (plan : RacePlan) (p : Known) (c : Calling) → IsIn plan p c → EndsFor p.seen c
+ends_for plan p c is = record { begins = is.goes.begins; own = is.goes.own (Caller c.number) (own_key (Caller c.number)) }
+
+abbrev pub nobody : Calling
+nobody = record { number = 0; calls = 0; seen = [] }
+
+none_more : (i : ℕ) → 0 + i ≡ i
+none_more i = omega arith
+
+-- the records of a caller are those of its planned calls
+planned_by : (plan : RacePlan) (p : Known) (c : Calling) → IsIn plan p c → is_callers plan.turns (calls_of plan c.number) (of_caller c.number p.seen) ≡ true
+planned_by plan p c is = ap (is_callers plan.turns (calls_of plan c.number)) (is.goes.own (Caller c.number) (own_key (Caller c.number))) ∙ is.made.planned
+
+-- the caller of each number is there
+pub caller_at : (count caller : ℕ) (callers : List Calling) → numbers_of callers ≡ range_with_len 0 count → caller < count
+    → (caller < length callers) × ((get_or callers caller nobody).number ≡ caller)
+caller_at count caller callers is below =
+    let many : length (numbers_of callers) ≡ length (range_with_len 0 count) = ap length is in
+    let a = length-map callers (λ (c : Calling). c.number) in
+    let b = length-range_with_len 0 count in
+    let there : caller < length callers = omega arith in (
+      there,
+      sym (get_or-map (λ (c : Calling). c.number) callers caller nobody 0 there) ∙ ap (λ (l : List ℕ). get_or l caller 0) is
+          ∙ get_or-range_with_len 0 count caller 0 below ∙ none_more caller,
+    )
+
+pub planned_in : (plan : RacePlan) (p : Known) (callers : List Calling) → All (IsIn plan p) callers
+    → numbers_of callers ≡ range_with_len 0 (length plan.threads)
+    → (caller : ℕ) → caller < length plan.threads → is_callers plan.turns (calls_of plan caller) (of_caller caller p.seen) ≡ true
+planned_in plan p callers all is caller below =
+    let there = caller_at (length plan.threads) caller callers is below in
+    subst (λ (n : ℕ). is_callers plan.turns (calls_of plan n) (of_caller n p.seen)
+    ≡ true) there.1 (planned_by plan p (get_or callers caller nobody) (all caller nobody there.0))
+
+pub all_end : (plan : RacePlan) (p : Known) (callers : List Calling) → All (IsIn plan p) callers → All (EndsFor p.seen) callers
+all_end plan p callers all = λ k d h. ends_for plan p (get_or callers k d) (all k d h)
+
+pub has_all : (plan : RacePlan) (count : ℕ) (p : Known) (callers : List Calling) → HasPlaces 16 p → All (IsIn plan p) callers
+    → numbers_of callers ≡ range_with_len 0 count → HasAll count p.keys
+has_all plan count p callers places all is (Place place) low = places place (ltb-true place 16 low)
+has_all plan count p callers places all is (Caller caller) low =
+    let c = caller_at count caller callers is (ltb-true caller count low) in
+    subst (λ (n : ℕ). 0 < times (Caller n) p.keys) c.1 (all caller nobody c.0).key

@@ -1,0 +1,198 @@
+-- What is known of the world of which a lawful journal tells.
+use Rattle.std.proofs.Common.{◌≡◌, ℕ, List, [], ◌∷◌, ◌++◌, Bool, true, false, true≢false, Option, Some, None, sym, refl, ap}
+use Rattle.std.proofs.Common.{◌∙◌, subst, append_assoc, append-nil}
+use Rattle.std.specs.Prelude.{if◌then◌else◌, not, ◌==◌, ◌&&◌, ◌||◌}
+use Rattle.std.specs.List.{list_any}
+use Rattle.std.proofs.lemmas.List.Folds.{list_any-append}
+use Rattle.std.proofs.lemmas.Grind.{fold-append}
+use Rattle.std.proofs.lemmas.List.Concat.{flat_map-append}
+use Rattle.am_base.specs.declared.outcome.Outcome.{Outcome}
+use Rattle.am_base.specs.declared.outcome.Outcome.TheVariants as said
+use Rattle.am_base.specs.declared.event.NodeEvent.{NodeEvent}
+use Rattle.am_base.specs.declared.event.NodeEvent.TheVariants as does
+use Rattle.am_base.specs.Founding.{Rules}
+use Rattle.am_base.specs.Names.{place_of, name_at}
+use Rattle.am_packet.specs.declared.packet.Packet.{Packet}
+use Rattle.am_packet.specs.Boxes.{Letter}
+use Rattle.am_group.specs.declared.event.Act.{Act}
+use Rattle.am_group.specs.declared.event.Act.TheVariants as act
+use Rattle.am_group.specs.declared.event.Event.{Event}
+use Rattle.am_group.specs.declared.event.Record.{Record}
+use Rattle.am_group.specs.Addressed.{is_for}
+use Rattle.am_group.specs.Deliveries.{name_of}
+use Rattle.am_group.specs.Journals.{letters_of, letter_at}
+use Rattle.am_model.specs.Emit.{Step}
+use Rattle.am_model.specs.Step.{step, hear}
+use Rattle.am_play.specs.World.{World, start, is_stopped, with_record, with_step, does_event, gives_up, hears_letter, acts_as, happens, current}
+use Rattle.am_wire.specs.declared.rule.Terms.{Terms}
+use Rattle.am_wire.specs.Seats.{Follows}
+use Rattle.am_wire.specs.Stops.{is_stop, has_stopped}
+use Rattle.am_races.specs.Told.{tells, world_after}
+use Rattle.am_races.specs.Lawful.{is_of_race, IsLawful}
+use Rattle.am_races.proofs.Apart.{or_false}
+
+-- ---- journals by record
+
+-- what begins, and stays where one record comes next, holds of a whole journal
+pub each_keeps : (P : List Record → Type 0) (next : List Record → Record → Type 0)
+    → ((done : List Record) (r : Record) → next done r → P done → P (done ++ r ∷ [])) → (done rest : List Record) → P done → Follows next (done ++ rest)
+    → P (done ++ rest)
+each_keeps P next keeps done [] p follows = subst P (sym (append-nil done)) p
+each_keeps P next keeps done (r ∷ rest) p follows =
+    let same : (done ++ r ∷ []) ++ rest ≡ done ++ r ∷ rest = append_assoc done (r ∷ []) rest in
+    subst P same (each_keeps P next keeps (done ++ r ∷ []) rest (keeps done r (follows done rest r refl) p) (subst (Follows next) (sym same) follows))
+
+pub told_more : (rules : Rules) (before : List Record) (r : Record) → world_after rules (before ++ r ∷ []) ≡ tells (world_after rules before) r
+unfolding world_after
+told_more rules before r = fold-append tells (start rules) before (r ∷ [])
+
+-- ---- what an event leaves
+
+-- nobody stops, and each place has its life
+pub record Still (w w' : World) : Type 0 where
+  pub lives : w'.lives ≡ w.lives
+  pub stopped : w'.stopped ≡ w.stopped
+
+unchanged_still : (w : World) (e : Event) (outcome : Outcome) → Still w (with_record w e outcome)
+unfolding with_record
+unchanged_still w e outcome = record { lives = refl; stopped = refl }
+
+stepped_still : (w : World) (e : Event) (name : ℕ) (s : Step) → Still w (with_step w e name s)
+unfolding with_step
+stepped_still w e name s = record { lives = refl; stopped = refl }
+
+either_still : (w x y : World) (b : Bool) → Still w x → Still w y → Still w (if b then x else y)
+either_still w x y true p q = p
+either_still w x y false p q = q
+
+does_still : (w : World) (e : Event) (name : ℕ) (event : NodeEvent) → Still w (does_event w e name event)
+does_still w e name event =
+    either_still w (with_record w e said.IsStopped) (with_step w e name (step (w.nodes name) event)) (is_stopped w name) (unchanged_still w e said.IsStopped)
+    (stepped_still w e name (step (w.nodes name) event))
+
+gives_up_still : (w : World) (e : Event) (name other : ℕ) → Still w (gives_up w e name other)
+gives_up_still w e name other =
+    let given : World = with_step w e name (step (w.nodes name) (does.GiveUp other)) in
+    let not_stopped : World = with_record w e said.NotStopped in
+    either_still w (with_record w e said.IsStopped) (if is_stopped w other then given else not_stopped) (is_stopped w name) (unchanged_still w e said.IsStopped)
+    (either_still w given not_stopped (is_stopped w other) (stepped_still w e name (step (w.nodes name) (does.GiveUp other)))
+    (unchanged_still w e said.NotStopped))
+
+heard_still : (w : World) (e : Event) (name : ℕ) (hearing : Packet → Step) (letter : Option Letter) → Still w (hears_letter w e name hearing letter)
+heard_still w e name hearing None = unchanged_still w e said.NoPacket
+heard_still w e name hearing (Some letter) =
+    let hears : World = with_step w e name (hearing letter.packet) in
+    let stopped : World = with_record w e said.IsStopped in
+    either_still w (with_record w e said.NotAddressed) (if is_stopped w name then stopped else hears) (not (is_for letter name))
+    (unchanged_still w e said.NotAddressed)
+    (either_still w stopped hears (is_stopped w name) (unchanged_still w e said.IsStopped) (stepped_still w e name (hearing letter.packet)))
+
+acts_still : (w : World) (e : Event) (name : ℕ) (a : Act) → is_of_race a ≡ true → is_stop a ≡ false → Still w (acts_as w e name a)
+acts_still w e name (act.Send body) its other_act = does_still w e name (does.Send body)
+acts_still w e name (act.Done req) its other_act = does_still w e name (does.Done req)
+acts_still w e name act.Take its other_act = does_still w e name does.Take
+acts_still w e name act.Join its other_act = does_still w e name does.Join
+acts_still w e name act.State its other_act = does_still w e name does.State
+acts_still w e name act.Leave its other_act = does_still w e name does.Leave
+acts_still w e name (act.Reset least resilience) its other_act = does_still w e name (does.Reset least resilience)
+acts_still w e name (act.Ask round) its other_act = does_still w e name (does.Ask round)
+acts_still w e name (act.GiveUp other) its other_act = gives_up_still w e name other
+acts_still w e name act.Stop its other_act = absurd (true≢false other_act)
+acts_still w e name act.Tick its other_act = does_still w e name does.Tick
+acts_still w e name (act.Hear number) its other_act = heard_still w e name (hear (w.nodes name)) (letter_at w.letters number)
+acts_still w e name (act.Cut number keep) its other_act = absurd (true≢false (sym its))
+acts_still w e name act.Return its other_act = absurd (true≢false (sym its))
+
+-- a name that runs stops
+record Stops (w w' : World) (name : ℕ) : Type 0 where
+  lives : w'.lives ≡ w.lives
+  stopped : w'.stopped ≡ w.stopped ++ name ∷ []
+
+stop_case : (w : World) (e : Event) (name : ℕ) (b : Bool) → b ≡ false
+    → Stops w (if b then with_record w e said.IsStopped else with_record (record w { stopped = w.stopped ++ name ∷ [] }) e said.Stopped) name
+unfolding with_record
+stop_case w e name true runs = absurd (true≢false runs)
+stop_case w e name false runs = record { lives = refl; stopped = refl }
+
+stop_acts : (w : World) (e : Event) (name : ℕ) (a : Act) → is_stop a ≡ true → is_stopped w name ≡ false → Stops w (acts_as w e name a) name
+stop_acts w e name act.Stop its runs = stop_case w e name (is_stopped w name) runs
+stop_acts w e name (act.Send body) its runs = absurd (true≢false (sym its))
+stop_acts w e name (act.Done req) its runs = absurd (true≢false (sym its))
+stop_acts w e name act.Take its runs = absurd (true≢false (sym its))
+stop_acts w e name act.Join its runs = absurd (true≢false (sym its))
+stop_acts w e name act.State its runs = absurd (true≢false (sym its))
+stop_acts w e name act.Leave its runs = absurd (true≢false (sym its))
+stop_acts w e name (act.Reset least resilience) its runs = absurd (true≢false (sym its))
+stop_acts w e name (act.Ask round) its runs = absurd (true≢false (sym its))
+stop_acts w e name (act.GiveUp other) its runs = absurd (true≢false (sym its))
+stop_acts w e name act.Tick its runs = absurd (true≢false (sym its))
+stop_acts w e name (act.Hear number) its runs = absurd (true≢false (sym its))
+stop_acts w e name (act.Cut number keep) its runs = absurd (true≢false (sym its))
+stop_acts w e name act.Return its runs = absurd (true≢false (sym its))
+
+-- ---- what is known
+
+-- those stopped that the records say, each place has its first life, and the letters are those of the records
+pub record Knows (rules : Rules) (before : List Record) : Type 0 where
+  pub stopped : (name : ℕ) → is_stopped (world_after rules before) name ≡ has_stopped before name
+  pub lives : (place : ℕ) → (world_after rules before).lives place ≡ 1
+  pub letters : (world_after rules before).letters ≡ letters_of before
+
+-- the name that acts next at a place
+pub name_now : (rules : Rules) (before : List Record) → Knows rules before → (place : ℕ) → current (world_after rules before) place ≡ name_at place 1
+name_now rules before knows place = ap (name_at place) (knows.lives place)
+
+pub stopped_more : (before : List Record) (r : Record) (name : ℕ)
+    → has_stopped (before ++ r ∷ []) name ≡ (has_stopped before name || (is_stop r.event.act && (name_of r == name)))
+stopped_more before r name =
+    list_any-append (λ (q : Record). is_stop q.event.act && (name_of q == name)) before (r ∷ [])
+    ∙ ap (λ (b : Bool). has_stopped before name || b) (or_false (is_stop r.event.act && (name_of r == name)))
+
+any_more : (names : List ℕ) (last name : ℕ) → list_any (λ x. x == name) (names ++ last ∷ []) ≡ (list_any (λ x. x == name) names || (last == name))
+any_more names last name = list_any-append (λ (x : ℕ). x == name) names (last ∷ [])
+    ∙ ap (λ (b : Bool). list_any (λ x. x == name) names || b) (or_false (last == name))
+
+knows_next : (terms : Terms) (before : List Record) (r : Record) → IsLawful terms before r → Knows terms.founding before
+    → Knows terms.founding (before ++ r ∷ [])
+unfolding happens
+knows_next terms before r lawful knows = by_stop (is_stop r.event.act) refl
+  where
+    w : World
+    w = world_after terms.founding before
+
+    name : ℕ
+    name = current w (place_of r.event.node)
+
+    its : name ≡ name_of r
+    its = name_now terms.founding before knows (place_of r.event.node) ∙ ap (name_at (place_of r.event.node)) (sym lawful.life)
+
+    more : world_after terms.founding (before ++ r ∷ []) ≡ tells w r
+    more = told_more terms.founding before r
+
+    letters : (world_after terms.founding (before ++ r ∷ [])).letters ≡ letters_of (before ++ r ∷ [])
+    letters = ap (λ (v : World). v.letters) more ∙ ap (λ (ls : List Letter). ls ++ r.packets) knows.letters
+        ∙ sym (flat_map-append (λ (q : Record). q.packets) before (r ∷ []) ∙ ap (λ (ls : List Letter). letters_of before ++ ls) (append-nil r.packets))
+
+    by_stop : (b : Bool) → is_stop r.event.act ≡ b → Knows terms.founding (before ++ r ∷ [])
+    by_stop false other_act =
+        let still = acts_still w r.event name r.event.act lawful.act_ other_act in record {
+          stopped = λ x. ap (λ (v : World). is_stopped v x) more ∙ ap (list_any (λ y. y == x)) still.stopped ∙ knows.stopped x
+              ∙ sym (stopped_more before r x ∙ ap (λ (b : Bool). has_stopped before x || (b && (name_of r == x))) other_act ∙ or_false (has_stopped before x));
+          lives = λ p. ap (λ (v : World). v.lives p) more ∙ ap (λ (f : ℕ → ℕ). f p) still.lives ∙ knows.lives p;
+          letters = letters;
+        }
+    by_stop true its_stop =
+        let runs : is_stopped w name ≡ false = knows.stopped name ∙ ap (has_stopped before) its ∙ lawful.stop in
+        let s = stop_acts w r.event name r.event.act its_stop runs in record {
+          stopped = λ x. ap (λ (v : World). is_stopped v x) more ∙ ap (list_any (λ y. y == x)) s.stopped ∙ any_more w.stopped name x
+              ∙ ap (λ (b : Bool). b || (name == x)) (knows.stopped x) ∙ ap (λ (k : ℕ). has_stopped before x || (k == x)) its
+              ∙ sym (stopped_more before r x ∙ ap (λ (b : Bool). has_stopped before x || (b && (name_of r == x))) its_stop);
+          lives = λ p. ap (λ (v : World). v.lives p) more ∙ ap (λ (f : ℕ → ℕ). f p) s.lives ∙ knows.lives p;
+          letters = letters;
+        }
+
+pub knows : (terms : Terms) (before : List Record) → Follows (IsLawful terms) before → Knows terms.founding before
+unfolding world_after
+knows terms before follows =
+    each_keeps (Knows terms.founding) (IsLawful terms) (knows_next terms) [] before
+    (record { stopped = λ name. refl; lives = λ place. refl; letters = refl }) follows

@@ -1,0 +1,511 @@
+-- A call that is made: its turns so far, its end, and what its caller then has.
+use Rattle.std.proofs.Common.{◌≡◌, ℕ, zero, suc, ◌+◌, ◌-◌, ◌<◌, ◌≤◌, List, [], ◌∷◌, ◌++◌, length, get_or, take, drop, cond, Bool, true, false}
+use Rattle.std.proofs.Common.{true≢false, Option, Some, None, sym, refl, ap, ◌∙◌, subst, arith, append-nil, length-append}
+use Rattle.std.proofs.Common.{ne_eqb, nat_le, unwrap_or, slice_get}
+use Rattle.std.specs.Prelude.{All, ◌==◌, ◌&&◌, if◌then◌else◌}
+use Rattle.std.specs.List.{list_all, prefix_len}
+use Rattle.std.proofs.lemmas.Bool.{and_parts, le-leb, eqb-true}
+use Rattle.std.proofs.lemmas.List.Elements.{All-append}
+use Rattle.std.proofs.lemmas.Option.{none-some}
+use Rattle.am_base.specs.declared.outcome.Outcome.{Outcome}
+use Rattle.am_base.specs.declared.outcome.Outcome.TheVariants as said
+use Rattle.am_base.specs.Names.{place_of}
+use Rattle.am_group.specs.declared.event.Act.{Act}
+use Rattle.am_group.specs.declared.event.Act.TheVariants as act
+use Rattle.am_group.specs.declared.event.By.{By}
+use Rattle.am_group.specs.declared.event.Record.{Record}
+use Rattle.am_group.specs.declared.plan.RacePlan.{RacePlan}
+use Rattle.am_wire.specs.declared.rule.Key.TheVariants.{Caller}
+use Rattle.am_wire.specs.Seats.{GoesOn}
+use Rattle.am_wire.proofs.Views.{goes_same}
+use Rattle.am_races.specs.declared.answer.Answer.{Answer}
+use Rattle.am_races.specs.declared.answer.Answer.TheVariants as answer
+use Rattle.am_races.specs.declared.call.Tag.{Tag}
+use Rattle.am_races.specs.declared.call.Came.{Came}
+use Rattle.am_races.specs.Tags.{of_caller, of_call, own_of, is_turn_part}
+use Rattle.am_races.specs.Answers.{own_answer, or_else, late_after, late, is_take, answer_of}
+use Rattle.am_races.specs.Boxes.{IsRefused}
+use Rattle.am_races.specs.Callers.{same_act, is_one_call, is_receive, at_one_place, first_call, behind, are_calls, is_callers}
+use Rattle.am_races.specs.Callings.{Calling, IsAnswer, HasMade, Called}
+use Rattle.am_races.specs.Plans.{calls_of, is_call, has_check}
+use Rattle.am_races.specs.Going.{told_at_end, request_in_call, IsCame, HasBegun, Began, Turned, Ended}
+use Rattle.am_races.specs.Going.{WasRefused, Grows, Made}
+use Rattle.am_races.proofs.Boxing.{own_key}
+use Rattle.am_races.proofs.Finishing.{none_called}
+use Rattle.am_races.proofs.Growing.{both, all_more, just_one, none_of_call, call_grows, not_grown, one_grown, grows_through}
+use Rattle.am_races.proofs.Shapes.{AreTurns, IsEnd, ended_answer, same_call, turns_planned, end_planned, end_answers, own_answers, late_more}
+use Rattle.am_races.proofs.Shapes.{other_alone, other_call, is_plain, all_plain, plain_own, plain_at_end, plain_lates, own_first, no_own, head_turn}
+use Rattle.am_races.proofs.Shapes.{tail_turns}
+
+-- ---- answers of records, and refusals
+
+pub answer_is : (turns : ℕ) (mine seen : List Record) (node : ℕ) (its : Answer) → is_plain its ≡ true → answer_of turns mine ≡ Some its
+    → IsAnswer turns mine seen node its
+answer_is turns mine seen node answer.Stopped plain is = absurd (true≢false (sym plain))
+answer_is turns mine seen node answer.Spent plain is = absurd (true≢false (sym plain))
+answer_is turns mine seen node answer.NoMemory plain is = absurd (true≢false (sym plain))
+answer_is turns mine seen node _ plain is = is
+
+refused_is : (turns : ℕ) (mine seen : List Record) (node : ℕ) (its : Answer) → IsRefused seen (place_of node) its → IsAnswer turns mine seen node its
+refused_is turns mine seen node answer.Stopped is = is
+refused_is turns mine seen node answer.Spent is = is
+refused_is turns mine seen node answer.NoMemory is = is
+refused_is turns mine seen node _ is = absurd is
+
+not_spent : (its : Answer) → is_plain its ≡ true → its ≡ answer.Spent → ⊥
+not_spent its plain e = true≢false (sym plain ∙ ap is_plain e)
+
+-- ---- turns so far
+
+-- so many turns were made of a call that had begun, and it would be this late
+pub record HasTurned (plan : RacePlan) (node : ℕ) (tag : Tag) (request : Option ℕ) (old new : List Record) (spent : ℕ) (its : Answer) : Type 0 where
+  pub mine : List Record
+  pub grows : Grows (place_of node) tag old new mine
+  pub turns : AreTurns mine
+  pub count : length mine ≡ spent
+  pub late_ : its ≡ late plan.turns request mine
+
+pub none_turned : (plan : RacePlan) (node : ℕ) (tag : Tag) (request : Option ℕ) (seen : List Record) → Grows (place_of node) tag seen seen []
+    → HasTurned plan node tag request seen seen 0 (answer.Late plan.turns)
+none_turned plan node tag request seen grows = record { mine = []; grows = grows; turns = refl; count = refl; late_ = refl }
+
+low_place : (node : ℕ) → place_of (place_of node) ≡ place_of node
+low_place node = omega arith
+
+its_place : (node : ℕ) (item : Record) → item.event.node ≡ place_of node → place_of item.event.node ≡ place_of node
+its_place node item e = ap place_of e ∙ low_place node
+
+pub one_turned : (plan : RacePlan) (node : ℕ) (tag : Tag) (request : Option ℕ) (old middle new : List Record) (spent : ℕ) (its : Answer) (outcome : Outcome)
+    → HasTurned plan node tag request old middle spent its → Turned (place_of node) tag outcome middle new
+    → HasTurned plan node tag request old new (spent + 1) (late_after request its outcome)
+one_turned plan node tag request old middle new spent its outcome so t =
+    let one = one_grown (place_of node) tag middle new t.item t.grown (its_place node t.item t.is.node) t.is.caller t.is.call in record {
+      mine = so.mine ++ t.item ∷ [];
+      grows = grows_through (place_of node) tag old middle new so.mine (t.item ∷ []) so.grows one;
+      turns = all_more (λ (r : Record). is_turn_part r.by.part) so.mine (t.item ∷ []) so.turns
+          (just_one (λ (r : Record). is_turn_part r.by.part) t.item t.is.part);
+      count = let l = length-append so.mine (t.item ∷ []) in let c = so.count in omega arith;
+      late_ = ap (λ (x : Answer). late_after request x outcome) so.late_ ∙ ap (late_after request (late plan.turns request so.mine)) (sym t.is.came)
+          ∙ sym (late_more plan.turns request so.mine t.item);
+    }
+
+-- the records of a call begin with those before its turns
+first_few : (a : Act) (came : Option Came) (first : List Record) → HasBegun a came first → length first ≤ 1
+first_few a None first begun = let e : length first ≡ length {A = Record} [] = ap length begun.1 in omega arith
+first_few a (Some came) first begun = let e : length first ≡ length (begun.2.0 ∷ []) = ap length begun.2.1 in omega arith
+
+-- what came of its own act is what its records say, also behind turns
+none_own : (ts : List Record) → AreTurns ts → own_of ts ≡ None
+none_own [] all = refl
+none_own (t ∷ ts) all = ap (λ (b : Bool). cond b (Some t) (own_of ts)) (no_own t.by.part (head_turn t ts all)) ∙ none_own ts (tail_turns t ts all)
+
+own_came : (a : Act) (came : Option Came) (first ts : List Record) → HasBegun a came first → AreTurns ts → IsCame a came (own_of (first ++ ts))
+own_came a None first ts begun all = (begun.0, ap (λ (l : List Record). own_of (l ++ ts)) begun.1 ∙ none_own ts all)
+own_came a (Some came) first ts begun all =
+    (begun.2.0, ap (λ (l : List Record). own_of (l ++ ts)) begun.2.1 ∙ own_first begun.2.0 ts begun.2.2.part, begun.2.2)
+
+pub came_still : (plan : RacePlan) (node : ℕ) (tag : Tag) (a : Act) (came : Option Came) (request : Option ℕ) (old new : List Record) (spent : ℕ) (its : Answer)
+    → HasBegun a came (of_call tag.caller tag.call old) → HasTurned plan node tag request old new spent its
+    → IsCame a came (own_of (of_call tag.caller tag.call new))
+came_still plan node tag a came request old new spent its begun so =
+    subst (λ (l : List Record). IsCame a came (own_of l)) (sym (call_grows (place_of node) tag old new so.mine so.grows))
+    (own_came a came (of_call tag.caller tag.call old) so.mine begun so.turns)
+
+-- ---- a call's end
+
+-- it was refused at a look
+pub refused_call : (plan : RacePlan) (node : ℕ) (tag : Tag) (a : Act) (came : Option Came) (request : Option ℕ) (old middle new : List Record) (spent : ℕ)
+    (late its : Answer)
+    → HasBegun a came (of_call tag.caller tag.call old) → HasTurned plan node tag request old middle spent late → spent ≤ plan.turns
+    → WasRefused (place_of node) tag.caller middle new its → Made plan node tag a (of_call tag.caller tag.call old) old new its
+refused_call plan node tag a came request old middle new spent late its begun so le was =
+    let first : List Record = of_call tag.caller tag.call old in
+    let all = grows_through (place_of node) tag old middle new so.mine [] so.grows (not_grown (place_of node) tag middle new was.0) in
+    let few = first_few a came first begun in
+    let c = so.count in
+    let l = length-append first so.mine in record {
+      mine = so.mine;
+      grows = subst (Grows (place_of node) tag old new) (append-nil so.mine) all;
+      planned = turns_planned plan.turns a came first so.mine begun so.turns (omega arith);
+      most = omega arith;
+      spent = λ e. omega arith;
+      answer_ = refused_is plan.turns (first ++ so.mine) new node its was.1;
+    }
+
+told_or_late : (turns spent : ℕ) (o : Option Answer) (its : Answer) → (o ≡ None → turns ≤ spent)
+    → or_else o (if nat_le turns spent then Some its else None) ≡ Some (unwrap_or o its)
+told_or_late turns spent None its used = ap (λ (b : Bool). if b then Some its else None) (le-leb turns spent (used refl))
+told_or_late turns spent (Some x) its used = refl
+
+-- it came to its end
+pub ended_call : (plan : RacePlan) (node : ℕ) (tag : Tag) (a : Act) (came : Option Came) (old middle new : List Record) (spent : ℕ) (its : Answer)
+    (outcome : Outcome)
+    → HasBegun a came (of_call tag.caller tag.call old) → HasTurned plan node tag (request_in_call a came) old middle spent its → spent ≤ plan.turns
+    → (told_at_end a outcome ≡ None → plan.turns ≤ spent) → Ended (place_of node) tag a came outcome middle new
+    → Made plan node tag a (of_call tag.caller tag.call old) old new (unwrap_or (told_at_end a outcome) (late_after (request_in_call a came) its outcome))
+ended_call plan node tag a came old middle new spent its outcome begun so le used end =
+    let first : List Record = of_call tag.caller tag.call old in
+    let request : Option ℕ = request_in_call a came in
+    let one = one_grown (place_of node) tag middle new end.item end.grown (its_place node end.item end.is.node) (ap (λ (by : By). by.caller) end.is.by_)
+    (ap (λ (by : By). by.call) end.is.by_) in
+    let is : IsEnd a came end.item = record { act_ = end.is.act_; part = ap (λ (by : By). by.part) end.is.by_ } in
+    let few = first_few a came first begun in
+    let c = so.count in
+    let l = length-append first (so.mine ++ end.item ∷ []) in
+    let m = length-append so.mine (end.item ∷ []) in
+    let plain : is_plain its ≡ true = ap is_plain so.late_ ∙ plain_lates plan.turns request so.mine in
+    let plain_ = plain_at_end a request outcome its plain in
+    let told : ended_answer plan.turns a request so.mine end.item ≡ Some (unwrap_or (told_at_end a outcome) (late_after request its outcome)) =
+    ap (λ (o : Outcome). or_else (told_at_end a o) (if nat_le plan.turns (length so.mine) then Some
+    (late_after request (late plan.turns request so.mine) o) else None)) end.is.told
+    ∙ ap (λ (x : Answer). or_else (told_at_end a outcome) (if nat_le plan.turns (length so.mine) then Some (late_after request x outcome) else None))
+    (sym so.late_)
+    ∙ told_or_late plan.turns (length so.mine) (told_at_end a outcome) (late_after request its outcome) (λ none. let u = used none in omega arith)
+    in record {
+      mine = so.mine ++ end.item ∷ [];
+      grows = grows_through (place_of node) tag old middle new so.mine (end.item ∷ []) so.grows one;
+      planned = end_planned plan.turns a came first so.mine end.item begun so.turns (omega arith) is;
+      most = omega arith;
+      spent = λ e. absurd (not_spent (unwrap_or (told_at_end a outcome) (late_after request its outcome)) plain_ e);
+      answer_ = answer_is plan.turns (first ++ (so.mine ++ end.item ∷ [])) new node (unwrap_or (told_at_end a outcome) (late_after request its outcome)) plain_
+          (end_answers plan.turns a came first so.mine end.item begun so.turns is ∙ told);
+    }
+
+-- ---- a call's beginning
+
+pub receive_begins : (a : Act) (first : List Record) → is_take a ≡ true → first ≡ [] → HasBegun a None first
+receive_begins a first take none = (take, none)
+
+none_planned : (turns : ℕ) (a : Act) → is_one_call turns a [] ≡ true
+unfolding is_receive
+none_planned turns a = either_way (is_take a)
+  where
+    either_way : (b : Bool) → (if b then true else true) ≡ true
+    either_way true = refl
+    either_way false = refl
+
+-- its own act was refused
+pub refused_first : (plan : RacePlan) (node : ℕ) (tag : Tag) (a : Act) (old new : List Record) (its : Answer)
+    → WasRefused (place_of node) tag.caller old new its → Made plan node tag a [] old new its
+refused_first plan node tag a old new its was = record {
+  mine = [];
+  grows = not_grown (place_of node) tag old new was.0;
+  planned = none_planned plan.turns a;
+  most = omega arith;
+  spent = λ e. omega arith;
+  answer_ = refused_is plan.turns [] new node its was.1;
+}
+
+-- nothing of it was done
+pub none_made : (plan : RacePlan) (node : ℕ) (tag : Tag) (a : Act) (seen : List Record) → Made plan node tag a [] seen seen answer.NoMemory
+none_made plan node tag a seen = refused_first plan node tag a seen seen answer.NoMemory (goes_same (Caller tag.caller ∷ []) seen, tt)
+
+began_grows : (node : ℕ) (tag : Tag) (a : Act) (came : Came) (old new : List Record) (began : Began (place_of node) tag a came old new)
+    → Grows (place_of node) tag old new (began.item ∷ [])
+began_grows node tag a came old new began =
+    one_grown (place_of node) tag old new began.item began.grown (its_place node began.item began.node) (ap (λ (by : By). by.caller) began.by_)
+    (ap (λ (by : By). by.call) began.by_)
+
+-- its own act answers it
+pub own_call : (plan : RacePlan) (node : ℕ) (tag : Tag) (a : Act) (came : Came) (old new : List Record) (its : Answer) → is_call a ≡ true → is_take a ≡ false
+    → Began (place_of node) tag a came old new → own_answer a came.outcome ≡ Some its → Made plan node tag a [] old new its
+own_call plan node tag a came old new its call no_ began told =
+    let plain : is_plain its ≡ true = ap all_plain (sym told) ∙ plain_own a came.outcome in record {
+      mine = began.item ∷ [];
+      grows = began_grows node tag a came old new began;
+      planned = other_call plan.turns a (began.item ∷ []) no_
+          ∙ other_alone plan.turns a began.item began.own.part (ap (same_act a) began.own.act_ ∙ same_call a call);
+      most = omega arith;
+      spent = λ e. absurd (not_spent its plain e);
+      answer_ = answer_is plan.turns (began.item ∷ []) new node its plain (own_answers plan.turns a came began.item its began.own told);
+    }
+
+-- a call without an answer has a check
+checks_then : (a : Act) (outcome : Outcome) → is_call a ≡ true → is_take a ≡ false → (a ≡ act.Stop → outcome ≡ said.Stopped) → own_answer a outcome ≡ None
+    → has_check a ≡ true
+unfolding own_answer
+checks_then (act.Send body) outcome call no_ stops none = refl
+checks_then act.Take outcome call no_ stops none = absurd (true≢false no_)
+checks_then act.Join outcome call no_ stops none = refl
+checks_then act.Leave outcome call no_ stops none = refl
+checks_then (act.Reset least resilience) outcome call no_ stops none = refl
+checks_then act.Stop outcome call no_ stops none = absurd (none-some answer.StopDone (sym none ∙ ap (own_answer act.Stop) (stops refl)))
+checks_then _ outcome call no_ stops none = absurd (true≢false (sym call))
+
+-- it goes on behind its own act
+pub began_call : (node : ℕ) (tag : Tag) (a : Act) (came : Came) (old new : List Record) → is_call a ≡ true → is_take a ≡ false
+    → of_call tag.caller tag.call old ≡ []
+    → Began (place_of node) tag a came old new → own_answer a came.outcome ≡ None → HasBegun a (Some came) (of_call tag.caller tag.call new)
+began_call node tag a came old new call no_ fresh began none = (
+  checks_then a came.outcome call no_ began.stops none,
+  none,
+  (
+    began.item,
+    call_grows (place_of node) tag old new (began.item ∷ []) (began_grows node tag a came old new began) ∙ ap (λ (l : List Record). l ++ began.item ∷ []) fresh,
+    began.own,
+  ),
+)
+
+pub went_on : (plan : RacePlan) (node : ℕ) (tag : Tag) (a : Act) (came : Came) (old middle new : List Record) (its : Answer)
+    → of_call tag.caller tag.call old ≡ []
+    → Began (place_of node) tag a came old middle → Made plan node tag a (of_call tag.caller tag.call middle) middle new its
+    → Made plan node tag a [] old new its
+went_on plan node tag a came old middle new its fresh began made =
+    let one = began_grows node tag a came old middle began in
+    let first : of_call tag.caller tag.call middle ≡ began.item ∷ [] =
+    call_grows (place_of node) tag old middle (began.item ∷ []) one ∙ ap (λ (l : List Record). l ++ began.item ∷ []) fresh
+    in
+    let same : of_call tag.caller tag.call middle ++ made.mine ≡ began.item ∷ made.mine = ap (λ (l : List Record). l ++ made.mine) first in record {
+      mine = began.item ∷ made.mine;
+      grows = grows_through (place_of node) tag old middle new (began.item ∷ []) made.mine one made.grows;
+      planned = subst (λ (l : List Record). is_one_call plan.turns a l ≡ true) same made.planned;
+      most = subst (λ (l : List Record). length l ≤ plan.turns + 2) same made.most;
+      spent = λ e. subst (λ (l : List Record). length l ≤ plan.turns + 1) same (made.spent e);
+      answer_ = subst (λ (l : List Record). IsAnswer plan.turns l new node its) same made.answer_;
+    }
+
+-- ---- one call behind the others
+
+-- a record of an earlier call is of none from here on
+stuck : (turns n : ℕ) (calls : List Act) (r : Record) (rs : List Record) → r.by.call < n → are_calls turns n calls (r ∷ rs) ≡ true → ⊥
+unfolding are_calls
+stuck turns n [] r rs low is = true≢false (sym is)
+stuck turns n (a ∷ calls) r rs low is =
+    let other : (r.by.call == n) ≡ false = ne_eqb r.by.call n (λ e. omega arith) in
+    let none : first_call n (r ∷ rs) ≡ [] = ap (λ (b : Bool). take (cond b (1 + prefix_len (λ (q : Record). q.by.call == n) rs) 0) (r ∷ rs)) other in
+    let same : behind n (r ∷ rs) ≡ r ∷ rs = ap (λ (l : List Record). drop (length l) (r ∷ rs)) none in
+    let rest : are_calls turns (n + 1) calls (behind n (r ∷ rs)) ≡ true =
+    last_of (is_one_call turns a (first_call n (r ∷ rs))) (at_one_place (first_call n (r ∷ rs))) _ is in
+    stuck turns (n + 1) calls r rs (omega arith) (ap (are_calls turns (n + 1) calls) (sym same) ∙ rest)
+  where
+    last_of : (a b c : Bool) → (a && (b && c)) ≡ true → c ≡ true
+    last_of true true c e = e
+    last_of true false c e = absurd (true≢false (sym e))
+    last_of false b c e = absurd (true≢false (sym e))
+
+pub AreOf : ℕ → List Record → Type 0
+AreOf call records = list_all (λ r. r.by.call == call) records ≡ true
+
+whole_prefix : (call : ℕ) (mine : List Record) → AreOf call mine → prefix_len (λ (r : Record). r.by.call == call) mine ≡ length mine
+unfolding AreOf
+whole_prefix call [] own = refl
+whole_prefix call (r ∷ mine) own =
+    let p = first_two (r.by.call == call) (list_all (λ q. q.by.call == call) mine) own in
+    let e : prefix_len (λ (q : Record). q.by.call == call) (r ∷ mine) ≡ 1 + prefix_len (λ (q : Record). q.by.call == call) mine =
+    ap (λ (b : Bool). cond b (1 + prefix_len (λ (q : Record). q.by.call == call) mine) 0) p.0
+    in
+    let rest = whole_prefix call mine p.1 in
+    omega arith
+  where
+    first_two : (a b : Bool) → (a && b) ≡ true → (a ≡ true) × (b ≡ true)
+    first_two true b e = (refl, e)
+    first_two false b e = absurd (true≢false (sym e))
+
+take_all : (xs : List Record) → take (length xs) xs ≡ xs
+take_all [] = refl
+take_all (x ∷ xs) = ap (λ (l : List Record). x ∷ l) (take_all xs)
+
+drop_whole : (xs : List Record) → drop (length xs) xs ≡ []
+drop_whole [] = refl
+drop_whole (x ∷ xs) = drop_whole xs
+
+first_whole : (call : ℕ) (mine : List Record) → AreOf call mine → first_call call mine ≡ mine
+first_whole call mine own = ap (λ (n : ℕ). take n mine) (whole_prefix call mine own) ∙ take_all mine
+
+behind_whole : (call : ℕ) (mine : List Record) → AreOf call mine → behind call mine ≡ []
+behind_whole call mine own = ap (λ (l : List Record). drop (length l) mine) (first_whole call mine own) ∙ drop_whole mine
+
+-- records of another call behind leave the first call
+prefix_apart : (n call : ℕ) (xs mine : List Record) → n < call → AreOf call mine
+    → prefix_len (λ (r : Record). r.by.call == n) (xs ++ mine) ≡ prefix_len (λ (r : Record). r.by.call == n) xs
+unfolding AreOf
+prefix_apart n call [] [] low own = refl
+prefix_apart n call [] (r ∷ mine) low own =
+    let e : r.by.call ≡ call = eqb-true r.by.call call (left_is (r.by.call == call) (list_all (λ q. q.by.call == call) mine) own) in
+    ap (λ (b : Bool). cond b (1 + prefix_len (λ (q : Record). q.by.call == n) mine) 0) (ne_eqb r.by.call n (λ s. omega arith))
+  where
+    left_is : (a b : Bool) → (a && b) ≡ true → a ≡ true
+    left_is true b e = refl
+    left_is false b e = absurd (true≢false (sym e))
+prefix_apart n call (x ∷ xs) mine low own = ap (λ (k : ℕ). cond (x.by.call == n) (1 + k) 0) (prefix_apart n call xs mine low own)
+
+prefix_low : (p : Record → Bool) (xs : List Record) → prefix_len p xs ≤ length xs
+prefix_low p [] = omega arith
+prefix_low p (x ∷ xs) = by_test (p x) (prefix_low p xs)
+  where
+    by_test : (b : Bool) → prefix_len p xs ≤ length xs → cond b (1 + prefix_len p xs) 0 ≤ length (x ∷ xs)
+    by_test true h = omega arith
+    by_test false h = omega arith
+
+drop_front : (k : ℕ) (xs ys : List Record) → k ≤ length xs → drop k (xs ++ ys) ≡ drop k xs ++ ys
+drop_front zero xs ys le = refl
+drop_front (suc k) [] ys le = absurd (omega arith)
+drop_front (suc k) (x ∷ xs) ys le = drop_front k xs ys (omega arith)
+
+take_front : (k : ℕ) (xs ys : List Record) → k ≤ length xs → take k (xs ++ ys) ≡ take k xs
+take_front zero xs ys le = refl
+take_front (suc k) [] ys le = absurd (omega arith)
+take_front (suc k) (x ∷ xs) ys le = ap (λ (l : List Record). x ∷ l) (take_front k xs ys (omega arith))
+
+first_apart : (n call : ℕ) (xs mine : List Record) → n < call → AreOf call mine → first_call n (xs ++ mine) ≡ first_call n xs
+first_apart n call xs mine low own =
+    ap (λ (k : ℕ). take k (xs ++ mine)) (prefix_apart n call xs mine low own)
+    ∙ take_front (prefix_len (λ (r : Record). r.by.call == n) xs) xs mine (prefix_low (λ (r : Record). r.by.call == n) xs)
+
+first_short : (n : ℕ) (xs : List Record) → length (first_call n xs) ≤ length xs
+first_short n xs = take_short (prefix_len (λ (r : Record). r.by.call == n) xs) xs
+  where
+    take_short : (k : ℕ) (ys : List Record) → length (take k ys) ≤ length ys
+    take_short zero ys = omega arith
+    take_short (suc k) [] = omega arith
+    take_short (suc k) (y ∷ ys) = let h = take_short k ys in omega arith
+
+behind_apart : (n call : ℕ) (xs mine : List Record) → n < call → AreOf call mine → behind n (xs ++ mine) ≡ behind n xs ++ mine
+behind_apart n call xs mine low own =
+    ap (λ (l : List Record). drop (length l) (xs ++ mine)) (first_apart n call xs mine low own)
+    ∙ drop_front (length (first_call n xs)) xs mine (first_short n xs)
+
+all_drop : (P : Record → Type 0) (k : ℕ) (xs : List Record) → All P xs → All P (drop k xs)
+all_drop P zero xs all = all
+all_drop P (suc k) [] all = all
+all_drop P (suc k) (x ∷ xs) all = all_drop P k xs (λ i d h. all (suc i) d (omega arith))
+
+-- the records of the next call come behind those of the calls before
+pub calls_more : (turns n call : ℕ) (calls : List Act) (a : Act) (done mine : List Record) → n ≤ call → slice_get calls (call - n) ≡ Some a
+    → are_calls turns n calls done ≡ true
+    → All (λ r. r.by.call < call) done → AreOf call mine → is_one_call turns a mine ≡ true → at_one_place mine ≡ true
+    → are_calls turns n calls (done ++ mine) ≡ true
+unfolding are_calls
+calls_more turns n call [] a done mine le there is low own one at = absurd (none-some a there)
+calls_more turns n call (b ∷ calls) a done mine le there is low own one at =
+    by_order (call - n) refl there (λ next at_ rest.
+    calls_more turns (n + 1) call calls a (behind n done) mine next at_ rest
+    (all_drop (λ (r : Record). r.by.call < call) (length (first_call n done)) done low) own one at)
+  where
+    parts : (x y z : Bool) → (x && (y && z)) ≡ true → (x ≡ true) × (y ≡ true) × (z ≡ true)
+    parts true true z e = (refl, refl, e)
+    parts true false z e = absurd (true≢false (sym e))
+    parts false y z e = absurd (true≢false (sym e))
+
+    some_act : Act → Option Act → Act
+    some_act d None = d
+    some_act d (Some x) = x
+
+    here : n ≡ call → a ≡ b → (rs : List Record) → are_calls turns n (b ∷ calls) rs ≡ true → All (λ r. r.by.call < call) rs
+        → are_calls turns n (b ∷ calls) (rs ++ mine) ≡ true
+    here e same [] so below =
+        let own_ : AreOf n mine = subst (λ (k : ℕ). AreOf k mine) (sym e) own in
+        ap (λ (l : List Record). is_one_call turns b l && (at_one_place l && are_calls turns (n + 1) calls (behind n mine))) (first_whole n mine own_)
+        ∙ ap (λ (l : List Record). is_one_call turns b mine && (at_one_place mine && are_calls turns (n + 1) calls l)) (behind_whole n mine own_)
+        ∙ both (is_one_call turns b mine) (at_one_place mine && are_calls turns (n + 1) calls []) (ap (λ (x : Act). is_one_call turns x mine) (sym same) ∙ one)
+        (both (at_one_place mine) (are_calls turns (n + 1) calls []) at (none_called turns (n + 1) calls))
+    here e same (r ∷ rs) so below = absurd (stuck turns n (b ∷ calls) r rs (let l : r.by.call < call = below 0 r (omega arith) in omega arith) so)
+
+    by_order : (k : ℕ) → call - n ≡ k → slice_get (b ∷ calls) k ≡ Some a
+        → (n + 1 ≤ call → slice_get calls (call - (n + 1)) ≡ Some a → are_calls turns (n + 1) calls (behind n done) ≡ true
+        → are_calls turns (n + 1) calls (behind n done ++ mine) ≡ true)
+        → are_calls turns n (b ∷ calls) (done ++ mine) ≡ true
+    by_order zero e at_ deeper = here (omega arith) (sym (ap (some_act b) at_)) done is low
+    by_order (suc k) e at_ deeper =
+        let p = parts (is_one_call turns b (first_call n done)) (at_one_place (first_call n done)) (are_calls turns (n + 1) calls (behind n done)) is in
+        let further : n < call = omega arith in
+        let next : call - (n + 1) ≡ k = omega arith in
+        ap (λ (l : List Record). is_one_call turns b l && (at_one_place l && are_calls turns (n + 1) calls (behind n (done ++ mine))))
+        (first_apart n call done mine further own)
+        ∙ ap (λ (l : List Record). is_one_call turns b (first_call n done) && (at_one_place (first_call n done) && are_calls turns (n + 1) calls l))
+        (behind_apart n call done mine further own)
+        ∙ both (is_one_call turns b (first_call n done)) (at_one_place (first_call n done) && are_calls turns (n + 1) calls (behind n done ++ mine)) p.0
+        (both (at_one_place (first_call n done)) (are_calls turns (n + 1) calls (behind n done ++ mine)) p.1
+        (deeper (omega arith) (ap (slice_get calls) next ∙ at_) p.2))
+
+-- ---- the caller behind a call
+
+one_place : (place : ℕ) (mine : List Record) → list_all (λ r. place_of r.event.node == place) mine ≡ true → at_one_place mine ≡ true
+one_place place [] all = refl
+one_place place (r ∷ rs) all =
+    let p = first_two (place_of r.event.node == place) (list_all (λ q. place_of q.event.node == place) rs) all in
+    ap (λ (k : ℕ). list_all (λ q. place_of q.event.node == k) rs) (eqb-true (place_of r.event.node) place p.0) ∙ p.1
+  where
+    first_two : (a b : Bool) → (a && b) ≡ true → (a ≡ true) × (b ≡ true)
+    first_two true b e = (refl, e)
+    first_two false b e = absurd (true≢false (sym e))
+
+all_low : (call : ℕ) (mine : List Record) → AreOf call mine → (k : ℕ) (d : Record) → k < length mine → (get_or mine k d).by.call < call + 1
+unfolding AreOf
+all_low call [] own k d h = absurd (omega arith)
+all_low call (r ∷ rs) own zero d h =
+    let e : r.by.call ≡ call = eqb-true r.by.call call (and_parts (r.by.call == call) (list_all (λ q. q.by.call == call) rs) own).0 in omega arith
+all_low call (r ∷ rs) own (suc k) d h = all_low call rs (and_parts (r.by.call == call) (list_all (λ q. q.by.call == call) rs) own).1 k d (omega arith)
+
+-- one call more was made
+pub has_made_more : (plan : RacePlan) (node number calls : ℕ) (a : Act) (old new : List Record) (its : Answer) → HasMade plan number calls old
+    → slice_get (calls_of plan number) calls ≡ Some a
+    → Made plan node (record { caller = number; call = calls }) a [] old new its → HasMade plan number (calls + 1) new
+unfolding AreOf
+has_made_more plan node number calls a old new its has there made = record {
+  planned = ap (is_callers plan.turns (calls_of plan number)) made.grows.all
+      ∙ calls_more plan.turns 0 calls (calls_of plan number) a (of_caller number old) made.mine (omega arith) (ap (slice_get (calls_of plan number)) from_none
+      ∙ there)
+      has.planned has.earlier made.grows.call made.planned (one_place (place_of node) made.mine made.grows.place_);
+  earlier = subst (All (λ r. r.by.call < calls + 1)) (sym made.grows.all)
+      (All-append (λ (r : Record). r.by.call < calls + 1) (of_caller number old) made.mine (λ k d h. let l = has.earlier k d h in
+      omega arith) (all_low calls made.mine made.grows.call));
+}
+  where
+    from_none : calls - 0 ≡ calls
+    from_none = omega arith
+
+-- behind records of others
+pub has_made_still : (plan : RacePlan) (number calls : ℕ) (old new : List Record) → HasMade plan number calls old → GoesOn (Caller number ∷ []) old new
+    → HasMade plan number calls new
+has_made_still plan number calls old new has goes =
+    let same : of_caller number new ≡ of_caller number old = goes.own (Caller number) (own_key (Caller number)) in record {
+      planned = ap (is_callers plan.turns (calls_of plan number)) same ∙ has.planned;
+      earlier = subst (All (λ r. r.by.call < calls)) (sym same) has.earlier;
+    }
+
+pub fresh_call : (plan : RacePlan) (number calls : ℕ) (seen : List Record) → HasMade plan number calls seen → of_call number calls seen ≡ []
+fresh_call plan number calls seen has = none_of_call number calls seen has.earlier
+
+pub was_called : (plan : RacePlan) (node number calls : ℕ) (a : Act) (old new : List Record) (its : Answer) → HasMade plan number calls old
+    → Made plan node (record { caller = number; call = calls }) a [] old new its
+    → Called plan node (record { number = number; calls = calls; seen = old }) (record { number = number; calls = calls + 1; seen = new }) its
+was_called plan node number calls a old new its has made =
+    let mine : of_call number calls new ≡ made.mine =
+    call_grows (place_of node) (record { caller = number; call = calls }) old new made.mine made.grows
+    ∙ ap (λ (l : List Record). l ++ made.mine) (fresh_call plan number calls old has)
+    in record {
+      number = refl;
+      calls = refl;
+      begins = made.grows.begins;
+      others = made.grows.all ∙ ap (λ (l : List Record). of_caller number old ++ l) (sym mine);
+      place = ap (list_all (λ r. place_of r.event.node == place_of node)) mine ∙ made.grows.place_;
+      most = subst (λ (l : List Record). length l ≤ plan.turns + 2) (sym mine) made.most;
+      spent = λ e. subst (λ (l : List Record). length l ≤ plan.turns + 1) (sym mine) (made.spent e);
+      answer_ = subst (λ (l : List Record). IsAnswer plan.turns l new node its) (sym mine) made.answer_;
+    }
+
+-- ---- a call of a caller
+
+module _ (plan : RacePlan) (number calls : ℕ) (old : List Record) (c : Calling) (tag : Tag) (view : record { number = number; calls = calls; seen = old } ≡ c)
+    (is : tag ≡ record { caller = c.number; call = c.calls }) (has : HasMade plan number calls old) where
+  its_tag : tag ≡ record { caller = number; call = calls }
+  its_tag = let t : Calling → Tag = λ x. record { caller = x.number; call = x.calls } in is ∙ ap t (sym view)
+
+  pub make_fresh : of_call tag.caller tag.call old ≡ []
+  make_fresh = subst (λ (t : Tag). of_call t.caller t.call old ≡ []) (sym its_tag) (fresh_call plan number calls old has)
+
+  pub make_caller : tag.caller ≡ number
+  make_caller = ap (λ (t : Tag). t.caller) its_tag
+
+  pub make_has : (node : ℕ) (a : Act) (new : List Record) (its : Answer) → slice_get (calls_of plan c.number) c.calls ≡ Some a
+      → Made plan node tag a [] old new its → HasMade plan number (calls + 1) new
+  make_has node a new its planned made =
+      has_made_more plan node number calls a old new its has (subst (λ (x : Calling). slice_get (calls_of plan x.number) x.calls ≡ Some a) (sym view) planned)
+      (subst (λ (t : Tag). Made plan node t a [] old new its) its_tag made)
+
+  pub make_called : (node : ℕ) (a : Act) (new : List Record) (its : Answer) → Made plan node tag a [] old new its
+      → Called plan node c (record { number = number; calls = calls + 1; seen = new }) its
+  make_called node a new its made =
+      subst (λ (x : Calling). Called plan node x (record { number = number; calls = calls + 1; seen = new }) its) view
+      (was_called plan node number calls a old new its has (subst (λ (t : Tag). Made plan node t a [] old new its) its_tag made))

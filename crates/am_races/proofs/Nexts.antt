@@ -1,0 +1,73 @@
+-- What others' records leave of a name: its node, whether it stopped, and the letters that were sent.
+use Rattle.std.proofs.Common.{◌≡◌, ◌≢◌, ℕ, zero, suc, ◌<◌, List, [], ◌∷◌, ◌++◌, Bool, true, false}
+use Rattle.std.proofs.Common.{Some, sym, refl, ap, ◌∙◌, subst, arith, append_assoc, append-nil, ne_eqb}
+use Rattle.std.specs.Prelude.{◌==◌, ◌&&◌, ◌||◌, All, slice_get}
+use Rattle.std.proofs.lemmas.List.Folds.{list_any-append}
+use Rattle.std.proofs.lemmas.Option.{none-some}
+use Rattle.am_base.specs.Founding.{Rules}
+use Rattle.am_base.specs.Names.{place_of, name_at}
+use Rattle.am_group.specs.declared.event.Record.{Record}
+use Rattle.am_group.specs.Deliveries.{name_of}
+use Rattle.am_group.specs.Journals.{item_at}
+use Rattle.am_wire.specs.declared.rule.Terms.{Terms}
+use Rattle.am_wire.specs.Seats.{Follows}
+use Rattle.am_wire.specs.Stops.{is_stop, has_stopped}
+use Rattle.am_races.specs.Told.{world_after}
+use Rattle.am_races.specs.Lawful.{IsLawful}
+use Rattle.am_races.proofs.Others.{others_stay}
+use Rattle.am_races.proofs.Stays.{first_apart, same_place}
+
+-- ---- others' records
+
+pub nodes_stay : (rules : Rules) (before more : List Record) (name : ℕ) → All (λ r. place_of r.event.node ≢ place_of name) more
+    → (world_after rules (before ++ more)).nodes name ≡ (world_after rules before).nodes name
+nodes_stay rules before [] name apart = ap (λ (rs : List Record). (world_after rules rs).nodes name) (append-nil before)
+nodes_stay rules before (r ∷ rest) name apart =
+    let a = first_apart (λ (q : Record). place_of q.event.node ≢ place_of name) r rest apart in
+    ap (λ (rs : List Record). (world_after rules rs).nodes name) (sym (append_assoc before (r ∷ []) rest)) ∙ nodes_stay rules (before ++ r ∷ []) rest name a.1
+    ∙ (others_stay rules before r name (λ s. a.0 (sym s))).0
+
+-- whoever stopped in a beginning
+pub stopped_in_more : (before more : List Record) (name : ℕ) → has_stopped (before ++ more) name ≡ (has_stopped before name || has_stopped more name)
+stopped_in_more before more name = list_any-append _ before more
+
+pub none_stop : (more : List Record) (name : ℕ) → All (λ r. place_of r.event.node ≢ place_of name) more → All (λ (r : Record). r.life ≡ 1) more → name < 16
+    → has_stopped more name ≡ false
+none_stop [] name apart lives few = refl
+none_stop (r ∷ rest) name apart lives few =
+    let a = first_apart (λ (q : Record). place_of q.event.node ≢ place_of name) r rest apart in
+    let l = first_apart (λ (q : Record). q.life ≡ 1) r rest lives in
+    let other : (name_of r == name) ≡ false = ne_eqb (name_of r) name
+    (λ s. a.0 (sym (same_place r.event.node) ∙ ap place_of (sym (ap (name_at (place_of r.event.node)) l.0 ∙ omega arith) ∙ s))) in
+    ap (λ (b : Bool). (is_stop r.event.act && b) || has_stopped rest name) other ∙ and_no (is_stop r.event.act) (has_stopped rest name)
+    ∙ none_stop rest name a.1 l.1 few
+  where
+    and_no : (b c : Bool) → ((b && false) || c) ≡ c
+    and_no true c = refl
+    and_no false c = refl
+
+pub or_true : (a b : Bool) → a ≡ true → (a || b) ≡ true
+or_true a b p = ap (λ (x : Bool). x || b) p
+
+pub or_none : (a b : Bool) → b ≡ false → (a || b) ≡ a
+or_none true b e = refl
+or_none false b e = e
+
+get_more : {A : Type 0} (items more : List A) (index : ℕ) (x : A) → slice_get items index ≡ Some x → slice_get (items ++ more) index ≡ Some x
+get_more [] more index x is = absurd (none-some x is)
+get_more (y ∷ items) more zero x is = is
+get_more (y ∷ items) more (suc index) x is = get_more items more index x is
+
+pub item_more : {A : Type 0} (items more : List A) (number : ℕ) (x : A) → item_at items number ≡ Some x → item_at (items ++ more) number ≡ Some x
+item_more items more zero x e = absurd (none-some x e)
+item_more items more (suc k) x e = get_more items more k x e
+
+pub all_cons : (P : Record → Type 0) (r : Record) (rs : List Record) → P r → All P rs → All P (r ∷ rs)
+all_cons P r rs p all zero d h = p
+all_cons P r rs p all (suc k) d h = all k d (omega arith)
+
+pub lives_of : (terms : Terms) (before more : List Record) → Follows (IsLawful terms) (before ++ more) → All (λ (r : Record). r.life ≡ 1) more
+lives_of terms before [] follows = λ k d h. absurd (omega arith)
+lives_of terms before (r ∷ rest) follows =
+    all_cons (λ (q : Record). q.life ≡ 1) r rest (follows before rest r refl).life
+    (lives_of terms (before ++ r ∷ []) rest (subst (Follows (IsLawful terms)) (sym (append_assoc before (r ∷ []) rest)) follows))

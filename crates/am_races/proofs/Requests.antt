@@ -1,0 +1,205 @@
+-- A node's own sends have different requests, so that what is settled is told.
+use Rattle.std.proofs.Common.{◌≡◌, ℕ, suc, ◌+◌, ◌<◌, ◌≤◌, ◌==◌, not, Bool, true, false, true≢false, List, [], ◌∷◌, ◌++◌, map, filter, find}
+use Rattle.std.proofs.Common.{Option, Some, None, is_some, refl, sym, ap, ◌∙◌, subst, arith, cond, ne_eqb}
+use Rattle.std.specs.Prelude.{All, ◌&&◌, ◌||◌}
+use Rattle.std.specs.List.{list_any}
+use Rattle.std.proofs.lemmas.Bool.{eqb-true}
+use Rattle.std.proofs.lemmas.List.Elements.{All-push, All-filter, All-map, All-weaker}
+use Rattle.am_base.specs.declared.outcome.Outcome.{Outcome}
+use Rattle.am_base.specs.declared.entry.Entry.TheVariants.{Leave}
+use Rattle.am_base.specs.Founding.{Rules}
+use Rattle.am_base.specs.Names.{has}
+use Rattle.am_sender.specs.declared.OwnSend.{OwnSend}
+use Rattle.am_sender.specs.Sends as own
+use Rattle.am_sender.specs.Sends.{Sends}
+use Rattle.am_group.specs.declared.event.Event.{Event}
+use Rattle.am_model.specs.Node.{Node, push_entry, waiting}
+use Rattle.am_model.specs.Ballots.{Verdict}
+use Rattle.am_model.specs.Refresh.{refresh, accepted_at, settle_at, settle_waiting, settle, refresh_at_end}
+use Rattle.am_play.specs.World.{World, start, with_record, with_step, run}
+use Rattle.am_base.proofs.Greatest.{split}
+use Rattle.am_effects.specs.Causes.{Cause}
+use Rattle.am_effects.specs.Looks.{Looks, finds_itself_out, waits, fetches_from_best, finds_too_few, finds_no_room, decides}
+use Rattle.am_effects.specs.Changes.{Change, refreshes, settles, takes_report, admits, numbers, keeps_body, notes, stores, begins_list, departs, promises}
+use Rattle.am_effects.specs.Changes.{opens, looks, fetches, stores_view, queues, collects, takes, asks_to_join, asks_to_leave, closes}
+use Rattle.am_effects.specs.Events.{actor, idles, stops, returns, steps}
+use Rattle.am_effects.proofs.Rests.{refresh_is}
+use Rattle.am_effects.proofs.Runs.{along, EachKeeps, runs_keep}
+
+-- ---- sends with different requests
+
+-- none of these has the request
+abbrev pub Lack : ℕ → List OwnSend → Type 0
+Lack req sends = All (λ t. (t.req == req) ≡ false) sends
+
+-- no two have one request
+abbrev pub Apart : List OwnSend → Type 0
+Apart [] = Unit {0}
+Apart (s ∷ ss) = Lack s.req ss × Apart ss
+
+-- none is above the last, and no two have one
+pub record Once (s : Sends) : Type 0 where
+  pub low : All (λ t. t.req ≤ s.last) s.queue
+  pub apart : Apart s.queue
+
+apart_push : (q : List OwnSend) (n : OwnSend) → All (λ t. t.req < n.req) q → Apart q → Apart (q ++ n ∷ [])
+apart_push [] n low h = ((λ k d lt. absurd (omega arith)), tt)
+apart_push (s ∷ q) n low h = (
+  All-push (λ t. (t.req == s.req) ≡ false) q n h.0 (ne_eqb n.req s.req (λ e. let l : s.req < n.req = low 0 s (omega arith) in omega arith)),
+  apart_push q n (λ k d lt. low (suc k) d (omega arith)) h.1,
+)
+
+apart_filter : (p : OwnSend → Bool) (q : List OwnSend) → Apart q → Apart (filter p q)
+apart_filter p [] h = tt
+apart_filter p (s ∷ q) h = split (p s)
+    (λ t. rw t (All-filter p (λ x. (x.req == s.req) ≡ false) q h.0, apart_filter p q h.1))
+    (λ f. rw f (apart_filter p q h.1))
+
+same_request : (req number : ℕ) (s : OwnSend) → (own.settle_send req number s).req ≡ s.req
+same_request req number s = split (s.req == req) (λ t. rw t refl) (λ f. rw f refl)
+
+lack_map : (req number other : ℕ) (q : List OwnSend) → Lack other q → Lack other (map (own.settle_send req number) q)
+lack_map req number other q h =
+    All-map (λ (x : OwnSend). (x.req == other) ≡ false) (own.settle_send req number) q
+    (All-weaker (λ (x : OwnSend). (x.req == other) ≡ false) (λ (x : OwnSend). ((own.settle_send req number x).req == other) ≡ false)
+    (λ x e. ap (λ (n : ℕ). n == other) (same_request req number x) ∙ e) q h)
+
+apart_map : (req number : ℕ) (q : List OwnSend) → Apart q → Apart (map (own.settle_send req number) q)
+apart_map req number [] h = tt
+apart_map req number (s ∷ q) h = (
+  subst (λ (n : ℕ). Lack n (map (own.settle_send req number) q)) (sym (same_request req number s)) (lack_map req number s.req q h.0),
+  apart_map req number q h.1,
+)
+
+once_submit : (body : List ℕ) (s : Sends) → Once s → Once (own.submit body s)
+once_submit body s h =
+    let n : OwnSend = record { req = s.last + 1; body = body; number = None } in record {
+      low = All-push (λ (t : OwnSend). t.req ≤ s.last + 1) s.queue n
+          (All-weaker (λ (t : OwnSend). t.req ≤ s.last) (λ (t : OwnSend). t.req ≤ s.last + 1) (λ t l. omega arith) s.queue h.low) (omega arith);
+      apart = apart_push s.queue n (All-weaker (λ (t : OwnSend). t.req ≤ s.last) (λ (t : OwnSend). t.req < s.last + 1) (λ t l. omega arith) s.queue h.low)
+          h.apart;
+    }
+
+once_collect : (req : ℕ) (s : Sends) → Once s → Once (own.collect req s)
+once_collect req s h = split (own.is_settled req s)
+    (λ t. rw t (record {
+      low = All-filter (λ x. not (own.is_request req x)) (λ (x : OwnSend). x.req ≤ s.last) s.queue h.low;
+      apart = apart_filter (λ x. not (own.is_request req x)) s.queue h.apart;
+    }))
+    (λ f. rw f h)
+
+once_settle : (req number : ℕ) (s : Sends) → Once s → Once (own.settle req number s)
+once_settle req number s h = record {
+  low = All-map (λ (x : OwnSend). x.req ≤ s.last) (own.settle_send req number) s.queue
+      (All-weaker (λ (x : OwnSend). x.req ≤ s.last) (λ (x : OwnSend). (own.settle_send req number x).req ≤ s.last)
+      (λ x l. subst (λ (n : ℕ). n ≤ s.last) (sym (same_request req number x)) l) s.queue h.low);
+  apart = apart_map req number s.queue h.apart;
+}
+
+-- ---- changes
+
+abbrev pub NodeOnce : Node → Type 0
+NodeOnce m = Once m.sends
+
+once_settled_at : (m : Node) (req : ℕ) (at : Option ℕ) → NodeOnce m → NodeOnce (settle_at m req at)
+once_settled_at m req None h = h
+once_settled_at m req (Some k) h = once_settle req (m.core.base + 1 + k) m.sends h
+
+once_settled : (m : Node) (w : Option OwnSend) → NodeOnce m → NodeOnce (settle_waiting m w)
+once_settled m None h = h
+once_settled m (Some s) h = once_settled_at m s.req (accepted_at m s.req) h
+
+once_at_end : (m : Node) → NodeOnce m → NodeOnce (settle m)
+unfolding settle
+once_at_end m h = once_settled m (waiting m) h
+
+once_refreshed : (m : Node) → NodeOnce m → NodeOnce (refresh m)
+once_refreshed m h = subst NodeOnce (sym (refresh_is m)) h
+
+once_refreshed_at_end : (m : Node) → NodeOnce m → NodeOnce (refresh_at_end m)
+unfolding refresh_at_end
+once_refreshed_at_end m h = once_at_end (refresh m) (once_refreshed m h)
+
+look_once : (m : Node) (b : _) (v : Verdict) → Looks m b v → NodeOnce m → NodeOnce v.node
+look_once m b v (finds_itself_out x) h = h
+look_once m b v (waits x y) h = h
+look_once m b v (fetches_from_best x y z) h = h
+look_once m b v (finds_too_few x y) h = h
+look_once m b v (finds_no_room x) h = h
+look_once m b v (decides may) h = h
+
+change_once : {c : Cause} {o : Outcome} → (m n : Node) → Change c o m n → NodeOnce m → NodeOnce n
+change_once m n refreshes h = once_refreshed m h
+change_once m n settles h = once_at_end m h
+change_once m n (takes_report s v report by may) h = h
+change_once m n (admits s v is leads fit) h = h
+change_once m n (numbers e leads room why) h = h
+change_once m n (keeps_body s v report req body is by) h = h
+change_once m n (notes s v base acc by from) h = h
+change_once m n (stores s v base acc number e by from plain may) h = h
+change_once m n (begins_list s v base join image is o may) h = h
+change_once m n (departs s v number is by leaves) h = h
+change_once m n (promises v low why) h = h
+change_once m n (opens least resilience by may) h = h
+change_once m n (looks b verdict over why look is) h = look_once m b verdict look h
+change_once m n (fetches s v base number e is by promise below from may) h = h
+change_once m n (stores_view s v base number names resilience is by own other promise below may) h = h
+change_once m n (queues body is o member stays few) h = once_submit body m.sends h
+change_once m n (collects req is) h = once_collect req m.sends h
+change_once m n (takes e is o member some there) h = h
+change_once m n (asks_to_join is was) h = h
+change_once m n (asks_to_leave is was stays done) h = h
+change_once m n (closes leads leaves alone room) h = once_refreshed_at_end (push_entry m (Leave m.core.who)) h
+
+-- ---- runs
+
+abbrev AllOnce : World → Type 0
+AllOnce w = (name : ℕ) → NodeOnce (w.nodes name)
+
+each_once : EachKeeps AllOnce
+unfolding with_record with_step
+each_once w e v (idles o idle) h = h
+each_once w e v (stops runs) h = h
+each_once w e v (returns place is left more) h = h
+each_once w e v (steps c s runs cause effect) h =
+    λ name. split (name == actor w e) (λ t. rw t (along NodeOnce change_once effect.changes (h (actor w e)))) (λ f. rw f (h name))
+
+once_start : (rules : Rules) → AllOnce (start rules)
+once_start rules name = split (has rules.founders name) (λ t. rw t first) (λ f. rw f first)
+  where
+    first : Once own.no_sends
+    first = record { low = λ k d lt. absurd (omega arith); apart = tt }
+
+pub requests_once : (rules : Rules) (events : List Event) (name : ℕ) → Once ((run rules events).nodes name).sends
+requests_once rules events = runs_keep AllOnce each_once (start rules) events (once_start rules)
+
+-- ---- what is settled is told
+
+lacks_none : (req : ℕ) (q : List OwnSend) → Lack req q → list_any (λ send. (send.req == req) && is_some send.number) q ≡ false
+lacks_none req [] h = refl
+lacks_none req (s ∷ q) h =
+    let here : (s.req == req) ≡ false = h 0 s (omega arith) in
+    ap (λ (b : Bool). (b && is_some s.number) || list_any (λ send. (send.req == req) && is_some send.number) q) here
+    ∙ lacks_none req q (λ k d lt. h (suc k) d (omega arith))
+
+-- the send of a request that is settled has its number
+pub settled_send : (req : ℕ) (q : List OwnSend) → Apart q → list_any (λ send. (send.req == req) && is_some send.number) q ≡ true
+    → (s : OwnSend) × (find (own.is_request req) q ≡ Some s) × (is_some s.number ≡ true)
+settled_send req [] h is = absurd (true≢false (sym is))
+settled_send req (s ∷ q) h is = split (s.req == req)
+    (λ t.
+    let same : s.req ≡ req = eqb-true s.req req t in
+    let rest = lacks_none req q (subst (λ (n : ℕ). Lack n q) same h.0) in (
+      s,
+      rw t refl,
+      first (is_some s.number) (sym (ap (λ (b : Bool). (b && is_some s.number) || list_any (λ send. (send.req == req) && is_some send.number) q) t
+          ∙ ap (λ (b : Bool). is_some s.number || b) rest) ∙ is),
+    ))
+    (λ f.
+    let more = settled_send req q h.1 (sym (ap (λ (b : Bool). (b && is_some s.number) || list_any (λ send. (send.req == req) && is_some send.number) q) f)
+    ∙ is) in
+    (more.0, ap (λ (b : Bool). cond b (Some s) (find (own.is_request req) q)) f ∙ more.1, more.2))
+  where
+    first : (b : Bool) → (b || false) ≡ true → b ≡ true
+    first true e = refl
+    first false e = e

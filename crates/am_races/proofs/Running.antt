@@ -1,0 +1,73 @@
+-- The threads of a plan: what each may call, and what all of them give.
+use Rattle.std.proofs.Common.{◌≡◌, ℕ, suc, ◌+◌, ◌<◌, List, [], ◌∷◌, ◌++◌, length, map, drop, get_or, Option}
+use Rattle.std.proofs.Common.{Some, None, sym, refl, ap, ◌∙◌, arith, slice_get}
+use Rattle.std.specs.Option.{option_or}
+use Rattle.std.proofs.Math.Seq.{drop-cons}
+use Rattle.std.proofs.lemmas.List.{map-append}
+use Rattle.std.proofs.lemmas.Option.{slice_get_read}
+use Rattle.am_group.specs.declared.event.Act.{Act}
+use Rattle.am_group.specs.declared.plan.RacePlan.{RacePlan}
+use Rattle.am_group.specs.declared.plan.ThreadPlan.{ThreadPlan}
+use Rattle.am_wire.specs.declared.wire.WireRefusal.{WireRefusal}
+use Rattle.am_races.specs.Callings.{Calling}
+use Rattle.am_races.specs.Plans.{calls_of, calls_in}
+use Rattle.am_races.specs.Ran.{numbers_of, first_refusal}
+
+-- ---- the calls of a thread
+
+pub planned_call : (plan : RacePlan) (thread : ThreadPlan) (number i : ℕ) (c : Calling) (a : Act) → slice_get plan.threads number ≡ Some thread
+    → c.number ≡ number → c.calls ≡ i
+    → i < length thread.calls → a ≡ get_or thread.calls i a → slice_get (calls_of plan c.number) c.calls ≡ Some a
+planned_call plan thread number i c a its same made below there =
+    ap (λ (n : ℕ). slice_get (calls_of plan n) c.calls) same ∙ ap (slice_get (calls_of plan number)) made
+    ∙ ap (λ (o : Option ThreadPlan). slice_get (calls_in o) i) its
+    ∙ slice_get_read thread.calls (length thread.calls) i a refl below there
+
+pub next_call : (calls : List Act) (i : ℕ) (a : Act) → i < length calls → a ≡ get_or calls i a → drop i calls ≡ a ∷ drop (i + 1) calls
+next_call calls i a below there =
+    let one : suc i ≡ i + 1 = omega arith in
+    drop-cons calls i a below ∙ ap (λ (n : ℕ). get_or calls i a ∷ drop n calls) one ∙ ap (λ (x : Act). x ∷ drop (i + 1) calls) (sym there)
+
+-- ---- what threads give
+
+-- what was given has the number of its job
+pub record Gives {J X : Type 0} (of : J → ℕ) (its : X → ℕ) (jobs : List J) (i : ℕ) (x : X) : Type 0 where
+  pub job : J
+  pub is : (d : J) → get_or jobs i d ≡ job
+  pub number : its x ≡ of job
+
+pub given_numbers : {J X : Type 0} (of : J → ℕ) (its : X → ℕ) (jobs : List J) (xs : List X) → length xs ≡ length jobs
+    → ((i : ℕ) (d : X) → i < length jobs → Gives of its jobs i (get_or xs i d)) → map its xs ≡ map of jobs
+given_numbers of its [] [] many each = refl
+given_numbers of its [] (x ∷ xs) many each = absurd (omega arith)
+given_numbers of its (j ∷ jobs) [] many each = absurd (omega arith)
+given_numbers {J} {X} of its (j ∷ jobs) (x ∷ xs) many each =
+    let first = each 0 x (omega arith) in
+    ap (λ (n : ℕ). n ∷ map its xs) (first.number ∙ ap of (sym (first.is j)))
+    ∙ ap (λ (l : List ℕ). of j ∷ l) (given_numbers of its jobs xs (omega arith) (λ i d h. later i (get_or xs i d) (each (suc i) d (omega arith))))
+  where
+    later : (i : ℕ) (y : X) → Gives of its (j ∷ jobs) (suc i) y → Gives of its jobs i y
+    later i y g = record { job = g.job; is = g.is; number = g.number }
+
+-- the callers' numbers
+pub called_numbers : {X : Type 0} (call : X → Calling) (xs : List X) → numbers_of (map call xs) ≡ map (λ x. (call x).number) xs
+called_numbers call [] = refl
+called_numbers call (x ∷ xs) = ap (λ (l : List ℕ). (call x).number ∷ l) (called_numbers call xs)
+
+pub mapped_more : {X Y : Type 0} (f : X → Y) (xs : List X) (x : X) (ys zs : List Y) → ys ≡ map f xs → zs ≡ ys ++ f x ∷ [] → zs ≡ map f (xs ++ x ∷ [])
+mapped_more {X} {Y} f xs x ys zs is more = more ∙ ap (λ (l : List Y). l ++ f x ∷ []) is ∙ sym (map-append f xs (x ∷ []))
+
+-- ---- what threads were refused
+
+first_more : (refusals : List (Option WireRefusal)) (one : Option WireRefusal) → first_refusal (refusals ++ one ∷ []) ≡ option_or (first_refusal refusals) one
+first_more [] None = refl
+first_more [] (Some refusal) = refl
+first_more (None ∷ refusals) one = first_more refusals one
+first_more (Some refusal ∷ refusals) one = refl
+
+pub refused_more : {X : Type 0} (refusal : X → Option WireRefusal) (xs : List X) (x : X) (old new : Option WireRefusal) → old ≡ first_refusal (map refusal xs)
+    → new ≡ option_or old (refusal x)
+    → new ≡ first_refusal (map refusal (xs ++ x ∷ []))
+refused_more refusal xs x old new is more =
+    more ∙ ap (λ (o : Option WireRefusal). option_or o (refusal x)) is ∙ sym (first_more (map refusal xs) (refusal x))
+    ∙ ap first_refusal (sym (map-append refusal xs (x ∷ [])))

@@ -1,0 +1,496 @@
+-- The records of one call: what may stand there, and what they answer.
+use Rattle.std.proofs.Common.{◌≡◌, ℕ, ◌-◌, ◌≤◌, List, [], ◌∷◌, ◌++◌, length, cond, Bool, true, false, true≢false, Option, Some, None}
+use Rattle.std.proofs.Common.{is_some, sym, refl, ap, ◌∙◌, arith, eq-eqb, nat_lt, nat_le, unwrap_or, count_by, sum_by}
+use Rattle.std.specs.Prelude.{◌==◌, ◌&&◌, ◌||◌, if◌then◌else◌, fold}
+use Rattle.std.specs.List.{list_all, list_any}
+use Rattle.std.proofs.lemmas.Bool.{and_parts, lt-ltb}
+use Rattle.std.proofs.lemmas.List.Sums.{sum_by-cons, sum_by-append}
+use Rattle.std.proofs.lemmas.Grind.{fold-append}
+use Rattle.am_base.specs.declared.outcome.Outcome.{Outcome}
+use Rattle.am_base.specs.declared.outcome.Outcome.TheVariants as said
+use Rattle.am_group.specs.declared.event.Act.{Act}
+use Rattle.am_group.specs.declared.event.Act.TheVariants as act
+use Rattle.am_group.specs.declared.event.Part.{Part}
+use Rattle.am_group.specs.declared.event.Part.TheVariants.{Call, Turn, Check}
+use Rattle.am_group.specs.declared.event.Record.{Record}
+use Rattle.am_races.specs.declared.answer.Answer.{Answer}
+use Rattle.am_races.specs.declared.answer.Answer.TheVariants as answer
+use Rattle.am_races.specs.declared.call.Came.{Came}
+use Rattle.am_races.specs.Tags.{is_own, is_turn_part, is_check, own_of}
+use Rattle.am_races.specs.Answers.{ballot_answer, join_answer, leave_answer, left_answer, send_answer, take_answer, stop_answer, own_answer, end_answer}
+use Rattle.am_races.specs.Answers.{or_else, queued_request, request_in, request_of, request_by, put_off_in, late_after, late, answer_in, act_of_call}
+use Rattle.am_races.specs.Answers.{first_answer}
+use Rattle.am_races.specs.Answers.{is_take, is_end, answer_of}
+use Rattle.am_races.specs.Callers.{same_bytes, same_act, is_empty, asks, checks, is_followed, is_receive, is_other, is_one_call}
+use Rattle.am_races.specs.Ready.{round_in}
+use Rattle.am_races.specs.Plans.{is_call, has_check}
+use Rattle.am_races.specs.Going.{end_act, end_part, told_at_end, request_in_call, IsOwn, HasBegun}
+use Rattle.am_races.proofs.Growing.{both}
+
+-- ---- parts
+
+abbrev pub AreTurns : List Record → Type 0
+AreTurns records = list_all (λ r. is_turn_part r.by.part) records ≡ true
+
+pub no_own : (p : Part) → is_turn_part p ≡ true → is_own p ≡ false
+no_own Call e = absurd (true≢false (sym e))
+no_own (Turn lost) e = refl
+no_own Check e = refl
+
+no_check : (p : Part) → is_turn_part p ≡ true → is_check p ≡ false
+no_check Call e = absurd (true≢false (sym e))
+no_check (Turn lost) e = refl
+no_check Check e = absurd (true≢false (sym e))
+
+own_turns : (p : Part) → is_own p ≡ true → is_turn_part p ≡ false
+own_turns Call e = refl
+own_turns (Turn lost) e = absurd (true≢false (sym e))
+own_turns Check e = refl
+
+pub head_turn : (r : Record) (rs : List Record) → AreTurns (r ∷ rs) → is_turn_part r.by.part ≡ true
+head_turn r rs all = (and_parts (is_turn_part r.by.part) (list_all (λ q. is_turn_part q.by.part) rs) all).0
+
+pub tail_turns : (r : Record) (rs : List Record) → AreTurns (r ∷ rs) → AreTurns rs
+tail_turns r rs all = (and_parts (is_turn_part r.by.part) (list_all (λ q. is_turn_part q.by.part) rs) all).1
+
+-- ---- planned
+
+followed : (turns : ℕ) (own : Record) (ts more : List Record) → AreTurns ts → length ts ≤ turns → ((k : ℕ) → is_followed k own more ≡ true)
+    → is_followed turns own (ts ++ more) ≡ true
+unfolding is_followed
+followed turns own [] more all few rest = rest turns
+followed turns own (t ∷ ts) more all few rest =
+    ap (λ (b : Bool). if b then nat_lt 0 turns && is_followed (turns - 1) own (ts ++ more) else (checks own t && is_empty (ts ++ more))) (head_turn t ts all)
+    ∙ both (nat_lt 0 turns) (is_followed (turns - 1) own (ts ++ more)) (lt-ltb 0 turns (omega arith))
+    (followed (turns - 1) own ts more (tail_turns t ts all) (omega arith) rest)
+
+received : (turns : ℕ) (ts more : List Record) → AreTurns ts → length ts ≤ turns → ((k : ℕ) → is_receive k more ≡ true) → is_receive turns (ts ++ more) ≡ true
+unfolding is_receive
+received turns [] more all few rest = rest turns
+received turns (t ∷ ts) more all few rest =
+    ap (λ (b : Bool). if b then nat_lt 0 turns && is_receive (turns - 1) (ts ++ more) else (is_own t.by.part && (is_take t.event.act && is_empty (ts ++ more))))
+    (head_turn t ts all)
+    ∙ both (nat_lt 0 turns) (is_receive (turns - 1) (ts ++ more)) (lt-ltb 0 turns (omega arith))
+    (received (turns - 1) ts more (tail_turns t ts all) (omega arith) rest)
+
+same_body : (a : List ℕ) → same_bytes a a ≡ true
+same_body [] = refl
+same_body (x ∷ xs) = both (x == x) (same_bytes xs xs) (eq-eqb x x refl) (same_body xs)
+
+-- a call is the same as itself
+pub same_call : (a : Act) → is_call a ≡ true → same_act a a ≡ true
+same_call (act.Send body) e = same_body body
+same_call act.Take e = refl
+same_call act.Join e = refl
+same_call act.Leave e = refl
+same_call (act.Reset least resilience) e = both (least == least) (resilience == resilience) (eq-eqb least least refl) (eq-eqb resilience resilience refl)
+same_call act.Stop e = refl
+same_call _ e = absurd (true≢false (sym e))
+
+pub check_calls : (a : Act) → has_check a ≡ true → is_call a ≡ true
+check_calls (act.Send body) e = refl
+check_calls act.Join e = refl
+check_calls act.Leave e = refl
+check_calls (act.Reset least resilience) e = refl
+check_calls _ e = absurd (true≢false (sym e))
+
+no_receive : (a : Act) → has_check a ≡ true → is_take a ≡ false
+no_receive (act.Send body) e = refl
+no_receive act.Join e = refl
+no_receive act.Leave e = refl
+no_receive (act.Reset least resilience) e = refl
+no_receive _ e = absurd (true≢false (sym e))
+
+pub other_call : (turns : ℕ) (a : Act) (records : List Record) → is_take a ≡ false → is_one_call turns a records ≡ is_other turns a records
+other_call turns a records no_ = ap (λ (b : Bool). if b then is_receive turns records else is_other turns a records) no_
+
+receives : (turns : ℕ) (a : Act) (records : List Record) → is_take a ≡ true → is_one_call turns a records ≡ is_receive turns records
+receives turns a records yes_ = ap (λ (b : Bool). if b then is_receive turns records else is_other turns a records) yes_
+
+-- behind an own act without an answer
+other_goes : (turns : ℕ) (a : Act) (own : Record) (rest : List Record) → is_own own.by.part ≡ true → same_act a own.event.act ≡ true
+    → own_answer a own.outcome ≡ None
+    → is_followed turns own rest ≡ true → is_other turns a (own ∷ rest) ≡ true
+other_goes turns a own rest part same none goes =
+    both (is_own own.by.part) (same_act a own.event.act && (if is_some (own_answer a own.outcome) then is_empty rest else is_followed turns own rest)) part
+    (both (same_act a own.event.act) (if is_some (own_answer a own.outcome) then is_empty rest else is_followed turns own rest) same
+    (ap (λ (o : Option Answer). if is_some o then is_empty rest else is_followed turns own rest) none ∙ goes))
+
+-- alone
+pub other_alone : (turns : ℕ) (a : Act) (own : Record) → is_own own.by.part ≡ true → same_act a own.event.act ≡ true → is_other turns a (own ∷ []) ≡ true
+unfolding is_followed
+other_alone turns a own part same =
+    both (is_own own.by.part) (same_act a own.event.act && (if is_some (own_answer a own.outcome) then true else true)) part
+    (both (same_act a own.event.act) (if is_some (own_answer a own.outcome) then true else true) same (either_way (is_some (own_answer a own.outcome))))
+  where
+    either_way : (b : Bool) → (if b then true else true) ≡ true
+    either_way true = refl
+    either_way false = refl
+
+same_as : (a : Act) (own : Record) → is_call a ≡ true → own.event.act ≡ a → same_act a own.event.act ≡ true
+same_as a own call e = ap (same_act a) e ∙ same_call a call
+
+ends_with : (own e : Record) (k : ℕ) → is_check e.by.part ≡ true → asks own.event.act own.outcome own.packets e.event.act ≡ true
+    → is_followed k own (e ∷ []) ≡ true
+unfolding is_followed
+ends_with own e k part is =
+    ap (λ (b : Bool). if b then nat_lt 0 k && true else (checks own e && true)) (check_turns e.by.part part)
+    ∙ both (checks own e) true (both (is_check e.by.part) (asks own.event.act own.outcome own.packets e.event.act) part is) refl
+  where
+    check_turns : (p : Part) → is_check p ≡ true → is_turn_part p ≡ false
+    check_turns Call c = refl
+    check_turns (Turn lost) c = absurd (true≢false (sym c))
+    check_turns Check c = refl
+
+takes_at_end : (e : Record) (k : ℕ) → is_own e.by.part ≡ true → is_take e.event.act ≡ true → is_receive k (e ∷ []) ≡ true
+unfolding is_receive
+takes_at_end e k part is =
+    ap (λ (b : Bool). if b then nat_lt 0 k && true else (is_own e.by.part && (is_take e.event.act && true))) (own_turns e.by.part part)
+    ∙ both (is_own e.by.part) (is_take e.event.act && true) part (both (is_take e.event.act) true is refl)
+
+-- what a check asks
+asks_it : (a : Act) (came : Came) (own : Record) → has_check a ≡ true → own.event.act ≡ a → own.outcome ≡ came.outcome → round_in own.packets ≡ came.round
+    → asks own.event.act own.outcome own.packets (end_act a (Some came)) ≡ true
+asks_it a came own is e outcome round = ap (λ (x : Act). asks x own.outcome own.packets (end_act a (Some came))) e ∙ by_act a is
+  where
+    by_act : (x : Act) → has_check x ≡ true → asks x own.outcome own.packets (end_act x (Some came)) ≡ true
+    by_act (act.Send body) h = eq-eqb (request_in came.outcome) (request_in own.outcome) (ap request_in (sym outcome))
+    by_act act.Join h = refl
+    by_act act.Leave h = refl
+    by_act (act.Reset least resilience) h = eq-eqb came.round (round_in own.packets) (sym round)
+    by_act _ h = absurd (true≢false (sym h))
+
+-- an end's record
+pub record IsEnd (a : Act) (came : Option Came) (e : Record) : Type 0 where
+  pub act_ : e.event.act ≡ end_act a came
+  pub part : e.by.part ≡ end_part a
+
+pub turns_planned : (turns : ℕ) (a : Act) (came : Option Came) (first ts : List Record) → HasBegun a came first → AreTurns ts → length ts ≤ turns
+    → is_one_call turns a (first ++ ts) ≡ true
+unfolding is_followed is_receive
+turns_planned turns a None first ts begun all few =
+    ap (λ (l : List Record). is_one_call turns a (l ++ ts)) begun.1 ∙ receives turns a ts begun.0 ∙ ap (is_receive turns) (sym (nothing_behind ts))
+    ∙ received turns ts [] all few (λ k. refl)
+  where
+    nothing_behind : (l : List Record) → l ++ [] ≡ l
+    nothing_behind [] = refl
+    nothing_behind (x ∷ l) = ap (λ (m : List Record). x ∷ m) (nothing_behind l)
+turns_planned turns a (Some came) first ts begun all few =
+    let own : Record = begun.2.0 in
+    let is = begun.2.2 in
+    ap (λ (l : List Record). is_one_call turns a (l ++ ts)) begun.2.1 ∙ other_call turns a (own ∷ ts) (no_receive a begun.0)
+    ∙ other_goes turns a own ts is.part (same_as a own (check_calls a begun.0) is.act_) (ap (own_answer a) is.outcome ∙ begun.1)
+    (ap (is_followed turns own) (sym (nothing_behind ts)) ∙ followed turns own ts [] all few (λ k. refl))
+  where
+    nothing_behind : (l : List Record) → l ++ [] ≡ l
+    nothing_behind [] = refl
+    nothing_behind (x ∷ l) = ap (λ (m : List Record). x ∷ m) (nothing_behind l)
+
+part_of_take : (a : Act) → is_take a ≡ true → end_part a ≡ Call
+part_of_take a yes_ = ap (λ (b : Bool). if b then Call else Check) yes_
+
+part_of_check : (a : Act) → is_take a ≡ false → end_part a ≡ Check
+part_of_check a no_ = ap (λ (b : Bool). if b then Call else Check) no_
+
+take_is : (a : Act) → is_take a ≡ true → a ≡ act.Take
+take_is act.Take e = refl
+take_is _ e = absurd (true≢false (sym e))
+
+pub end_planned : (turns : ℕ) (a : Act) (came : Option Came) (first ts : List Record) (e : Record) → HasBegun a came first → AreTurns ts → length ts ≤ turns
+    → IsEnd a came e
+    → is_one_call turns a (first ++ (ts ++ e ∷ [])) ≡ true
+end_planned turns a None first ts e begun all few is =
+    ap (λ (l : List Record). is_one_call turns a (l ++ (ts ++ e ∷ []))) begun.1 ∙ receives turns a (ts ++ e ∷ []) begun.0
+    ∙ received turns ts (e ∷ []) all few (λ k. takes_at_end e k (ap is_own (is.part ∙ part_of_take a begun.0))
+    (ap is_take (is.act_ ∙ ap (λ (x : Act). end_act x None) (take_is a begun.0))))
+end_planned turns a (Some came) first ts e begun all few is =
+    let own : Record = begun.2.0 in
+    let its = begun.2.2 in
+    ap (λ (l : List Record). is_one_call turns a (l ++ (ts ++ e ∷ []))) begun.2.1 ∙ other_call turns a (own ∷ (ts ++ e ∷ [])) (no_receive a begun.0)
+    ∙ other_goes turns a own (ts ++ e ∷ []) its.part (same_as a own (check_calls a begun.0) its.act_) (ap (own_answer a) its.outcome ∙ begun.1)
+    (followed turns own ts (e ∷ []) all few (λ k. ends_with own e k (ap is_check (is.part ∙ part_of_check a (no_receive a begun.0)))
+    (ap (asks own.event.act own.outcome own.packets) is.act_ ∙ asks_it a came own begun.0 its.act_ its.outcome its.round)))
+
+-- ---- answers
+
+nothing_told : (own : Act) (r : Record) → is_turn_part r.by.part ≡ true → answer_in own r ≡ None
+nothing_told own r is =
+    ap (λ (b : Bool). if b then own_answer r.event.act r.outcome else if is_check r.by.part then end_answer own r.outcome else None) (no_own r.by.part is)
+    ∙ ap (λ (b : Bool). if b then end_answer own r.outcome else None) (no_check r.by.part is)
+
+turns_tell_nothing : (own : Act) (ts more : List Record) → AreTurns ts → first_answer own (ts ++ more) ≡ first_answer own more
+turns_tell_nothing own [] more all = refl
+turns_tell_nothing own (t ∷ ts) more all =
+    ap (λ (o : Option Answer). or_else o (first_answer own (ts ++ more))) (nothing_told own t (head_turn t ts all))
+    ∙ turns_tell_nothing own ts more (tail_turns t ts all)
+
+none_behind : (o : Option Answer) → or_else o None ≡ o
+none_behind None = refl
+none_behind (Some a) = refl
+
+-- the end alone
+end_alone : (own : Act) (e : Record) → first_answer own (e ∷ []) ≡ answer_in own e
+end_alone own e = none_behind (answer_in own e)
+
+own_behind : (ts : List Record) (e : Record) → AreTurns ts → is_own e.by.part ≡ true → own_of (ts ++ e ∷ []) ≡ Some e
+own_behind [] e all is = ap (λ (b : Bool). cond b (Some e) None) is
+own_behind (t ∷ ts) e all is =
+    ap (λ (b : Bool). cond b (Some t) (own_of (ts ++ e ∷ []))) (no_own t.by.part (head_turn t ts all)) ∙ own_behind ts e (tail_turns t ts all) is
+
+pub own_first : (own : Record) (rest : List Record) → is_own own.by.part ≡ true → own_of (own ∷ rest) ≡ Some own
+own_first own rest is = ap (λ (b : Bool). cond b (Some own) (own_of rest)) is
+
+-- how many turns there are
+counts : Record → ℕ
+counts r = cond (is_turn_part r.by.part) 1 0
+
+one_if : (b : Bool) → b ≡ true → ◌≡◌ {A = ℕ} (cond b 1 0) 1
+one_if true h = refl
+one_if false h = absurd (true≢false (sym h))
+
+none_if : (b : Bool) → b ≡ false → ◌≡◌ {A = ℕ} (cond b 1 0) 0
+none_if true h = absurd (true≢false h)
+none_if false h = refl
+
+turns_count : (ts : List Record) → AreTurns ts → count_by (λ r. is_turn_part r.by.part) ts ≡ length ts
+turns_count [] all = refl
+turns_count (t ∷ ts) all =
+    let e = sum_by-cons (λ (r : Record). cond (is_turn_part r.by.part) 1 0) t ts in
+    let one = one_if (is_turn_part t.by.part) (head_turn t ts all) in
+    let rest = turns_count ts (tail_turns t ts all) in
+    omega arith
+
+with_end : (ts : List Record) (e : Record) → AreTurns ts → is_turn_part e.by.part ≡ false → count_by (λ r. is_turn_part r.by.part) (ts ++ e ∷ []) ≡ length ts
+with_end ts e all no_ =
+    let both_ = sum_by-append (λ (r : Record). cond (is_turn_part r.by.part) 1 0) ts (e ∷ []) in
+    let last = sum_by-cons (λ (r : Record). cond (is_turn_part r.by.part) 1 0) e [] in
+    let none = none_if (is_turn_part e.by.part) no_ in
+    let zero_ : sum_by (λ (r : Record). cond (is_turn_part r.by.part) 1 0) [] ≡ 0 = refl in
+    let rest = turns_count ts all in
+    omega arith
+
+any_last : (ts : List Record) (e : Record) → is_end e ≡ true → list_any is_end (ts ++ e ∷ []) ≡ true
+any_last [] e is = ap (λ (b : Bool). b || false) is
+any_last (t ∷ ts) e is = by_first (is_end t) (any_last ts e is)
+  where
+    by_first : (b : Bool) → list_any is_end (ts ++ e ∷ []) ≡ true → (b || list_any is_end (ts ++ e ∷ [])) ≡ true
+    by_first true h = refl
+    by_first false h = h
+
+pub late_more : (turns : ℕ) (request : Option ℕ) (xs : List Record) (e : Record)
+    → late turns request (xs ++ e ∷ []) ≡ late_after request (late turns request xs) e.outcome
+late_more turns request xs e = fold-append (λ a (r : Record). late_after request a r.outcome) (answer.Late turns) xs (e ∷ [])
+
+-- an own act that queued a send puts nothing off
+own_puts_nothing_off : (a : Act) (o : Outcome) (its : Answer) → late_after (request_of a o) its o ≡ its
+own_puts_nothing_off (act.Send body) o its = by_outcome o
+  where
+    by_outcome : (x : Outcome) → late_after (queued_request x) its x ≡ its
+    by_outcome (said.Queued req) = refl
+    by_outcome _ = refl
+own_puts_nothing_off _ o its = refl
+
+-- behind turns and an end: its answer, or late where all turns are used
+abbrev pub ended_answer : ℕ → Act → Option ℕ → List Record → Record → Option Answer
+ended_answer turns a request ts e = or_else (told_at_end a e.outcome)
+    (if nat_le turns (length ts) then Some (late_after request (late turns request ts) e.outcome) else None)
+
+-- what records answer, by what their end tells, how many turns they have, and how late they are
+ends_as : (turns many : ℕ) (recs : List Record) (told : Option Answer) (last : Answer) → first_answer (act_of_call (own_of recs)) recs ≡ told
+    → list_any is_end recs ≡ true → count_by (λ r. is_turn_part r.by.part) recs ≡ many → late turns (request_by (own_of recs)) recs ≡ last
+    → answer_of turns recs ≡ or_else told (if nat_le turns many then Some last else None)
+unfolding answer_of
+ends_as turns many recs told last first ends counted lates =
+    ap (λ (o : Option Answer). or_else o (if list_any is_end recs
+    && nat_le turns (count_by (λ r. is_turn_part r.by.part) recs) then Some (late turns (request_by (own_of recs)) recs) else None)) first
+    ∙ ap (λ (o : Option Answer). or_else told o)
+    (ap (λ (b : Bool). if b && nat_le turns (count_by (λ r. is_turn_part r.by.part) recs) then Some (late turns (request_by (own_of recs)) recs) else None) ends
+    ∙ ap (λ (n : ℕ). if nat_le turns n then Some (late turns (request_by (own_of recs)) recs) else None) counted
+    ∙ ap (λ (x : Answer). if nat_le turns many then Some x else None) lates)
+
+take_answers : (turns : ℕ) (a : Act) (ts : List Record) (e : Record) → is_take a ≡ true → AreTurns ts → is_own e.by.part ≡ true → e.event.act ≡ act.Take
+    → answer_of turns (ts ++ e ∷ []) ≡ ended_answer turns a None ts e
+take_answers turns a ts e take all part is =
+    let recs : List Record = ts ++ e ∷ [] in
+    let own : own_of recs ≡ Some e = own_behind ts e all part in
+    let first : first_answer (act_of_call (own_of recs)) recs ≡ told_at_end a e.outcome =
+    ap (λ (o : Option Record). first_answer (act_of_call o) recs) own ∙ turns_tell_nothing e.event.act ts (e ∷ []) all ∙ end_alone e.event.act e
+    ∙ ap (λ (b : Bool). if b then own_answer e.event.act e.outcome else if is_check e.by.part then end_answer e.event.act e.outcome else None) part
+    ∙ ap (λ (x : Act). own_answer x e.outcome) (is ∙ sym (take_is a take))
+    ∙ sym (ap (λ (b : Bool). if b then own_answer a e.outcome else end_answer a e.outcome) take)
+    in
+    let ends : list_any is_end recs ≡ true = any_last ts e (or_true (is_check e.by.part) (is_take e.event.act) (ap is_take is)) in
+    let counted : count_by (λ r. is_turn_part r.by.part) recs ≡ length ts = with_end ts e all (own_turns e.by.part part) in
+    let lates : late turns (request_by (own_of recs)) recs ≡ late_after None (late turns None ts) e.outcome =
+    ap (λ (o : Option Record). late turns (request_by o) recs) own ∙ ap (λ (x : Act). late turns (request_of x e.outcome) recs) is ∙ late_more turns None ts e
+    in
+    ends_as turns (length ts) recs (told_at_end a e.outcome) (late_after None (late turns None ts) e.outcome) first ends counted lates
+  where
+    or_true : (b c : Bool) → c ≡ true → (b || c) ≡ true
+    or_true true c h = refl
+    or_true false c h = h
+
+check_answers : (turns : ℕ) (a : Act) (came : Came) (own : Record) (ts : List Record) (e : Record) → has_check a ≡ true → own_answer a came.outcome ≡ None
+    → IsOwn a came own → AreTurns ts
+    → is_check e.by.part ≡ true → answer_of turns (own ∷ (ts ++ e ∷ [])) ≡ ended_answer turns a (request_of a came.outcome) ts e
+check_answers turns a came own ts e has none is all part =
+    let rest : List Record = ts ++ e ∷ [] in
+    let recs : List Record = own ∷ rest in
+    let request : Option ℕ = request_of a came.outcome in
+    let found : own_of recs ≡ Some own = own_first own rest is.part in
+    let own_none : answer_in own.event.act own ≡ None =
+    ap (λ (b : Bool). if b then own_answer own.event.act own.outcome else if is_check own.by.part then end_answer own.event.act own.outcome else None) is.part
+    ∙ ap (λ (x : Act). own_answer x own.outcome) is.act_ ∙ ap (own_answer a) is.outcome ∙ none
+    in
+    let first : first_answer (act_of_call (own_of recs)) recs ≡ told_at_end a e.outcome =
+    ap (λ (o : Option Record). first_answer (act_of_call o) recs) found ∙ ap (λ (o : Option Answer). or_else o (first_answer own.event.act rest)) own_none
+    ∙ turns_tell_nothing own.event.act ts (e ∷ []) all ∙ end_alone own.event.act e
+    ∙ ap (λ (b : Bool). if b then own_answer e.event.act e.outcome else if is_check e.by.part then end_answer own.event.act e.outcome else None)
+    (no_own_check e.by.part part)
+    ∙ ap (λ (b : Bool). if b then end_answer own.event.act e.outcome else None) part
+    ∙ ap (λ (x : Act). end_answer x e.outcome) is.act_ ∙ sym
+    (ap (λ (b : Bool). if b then own_answer a e.outcome else end_answer a e.outcome) (no_receive a has))
+    in
+    let ends : list_any is_end recs ≡ true = any_last (own ∷ ts) e (ap (λ (b : Bool). b || is_take e.event.act) part) in
+    let counted : count_by (λ r. is_turn_part r.by.part) recs ≡ length ts =
+    (let c = sum_by-cons (λ (r : Record). cond (is_turn_part r.by.part) 1 0) own rest in
+    let z = none_if (is_turn_part own.by.part) (own_turns own.by.part is.part) in
+    let w = with_end ts e all (check_no_turn e.by.part part) in
+    omega arith)
+    in
+    let asked : request_by (Some own) ≡ request = ap (λ (x : Act). request_of x own.outcome) is.act_ ∙ ap (request_of a) is.outcome in
+    let begins : late_after request (answer.Late turns) own.outcome ≡ answer.Late turns =
+    ap (late_after request (answer.Late turns)) is.outcome ∙ own_puts_nothing_off a came.outcome (answer.Late turns)
+    in
+    let lates : late turns (request_by (own_of recs)) recs ≡ late_after request (late turns request ts) e.outcome =
+    ap (λ (o : Option Record). late turns (request_by o) recs) found ∙ ap (λ (q : Option ℕ). late turns q recs) asked
+    ∙ ap (λ (x : Answer). fold (λ y (r : Record). late_after request y r.outcome) x rest) begins ∙ late_more turns request ts e
+    in
+    ends_as turns (length ts) recs (told_at_end a e.outcome) (late_after request (late turns request ts) e.outcome) first ends counted lates
+  where
+    no_own_check : (p : Part) → is_check p ≡ true → is_own p ≡ false
+    no_own_check Call h = absurd (true≢false (sym h))
+    no_own_check (Turn lost) h = refl
+    no_own_check Check h = refl
+
+    check_no_turn : (p : Part) → is_check p ≡ true → is_turn_part p ≡ false
+    check_no_turn Call h = refl
+    check_no_turn (Turn lost) h = absurd (true≢false (sym h))
+    check_no_turn Check h = refl
+
+pub end_answers : (turns : ℕ) (a : Act) (came : Option Came) (first ts : List Record) (e : Record) → HasBegun a came first → AreTurns ts → IsEnd a came e
+    → answer_of turns (first ++ (ts ++ e ∷ [])) ≡ ended_answer turns a (request_in_call a came) ts e
+end_answers turns a None first ts e begun all is =
+    ap (λ (l : List Record). answer_of turns (l ++ (ts ++ e ∷ []))) begun.1
+    ∙ take_answers turns a ts e begun.0 all (ap is_own (is.part ∙ part_of_take a begun.0)) (is.act_ ∙ ap (λ (x : Act). end_act x None) (take_is a begun.0))
+end_answers turns a (Some came) first ts e begun all is =
+    ap (λ (l : List Record). answer_of turns (l ++ (ts ++ e ∷ []))) begun.2.1
+    ∙ check_answers turns a came begun.2.0 ts e begun.0 begun.1 begun.2.2 all (ap is_check (is.part ∙ part_of_check a (no_receive a begun.0)))
+
+-- a call that its own act answers
+pub own_answers : (turns : ℕ) (a : Act) (came : Came) (own : Record) (its : Answer) → IsOwn a came own → own_answer a came.outcome ≡ Some its
+    → answer_of turns (own ∷ []) ≡ Some its
+unfolding answer_of
+own_answers turns a came own its is told =
+    let found : own_of (own ∷ []) ≡ Some own = own_first own [] is.part in
+    let here : answer_in own.event.act own ≡ Some its =
+    ap (λ (b : Bool). if b then own_answer own.event.act own.outcome else if is_check own.by.part then end_answer own.event.act own.outcome else None) is.part
+    ∙ ap (λ (x : Act). own_answer x own.outcome) is.act_ ∙ ap (own_answer a) is.outcome ∙ told
+    in
+    let first : first_answer (act_of_call (own_of (own ∷ []))) (own ∷ []) ≡ Some its =
+    ap (λ (o : Option Record). first_answer (act_of_call o) (own ∷ [])) found ∙ end_alone own.event.act own ∙ here
+    in
+    ap (λ (o : Option Answer). or_else o (if list_any is_end (own ∷ [])
+    && nat_le turns (count_by (λ r. is_turn_part r.by.part) (own ∷ [])) then Some (late turns (request_by (own_of (own ∷ []))) (own ∷ [])) else None)) first
+
+-- ---- answers that are of records
+
+abbrev pub is_plain : Answer → Bool
+is_plain answer.Stopped = false
+is_plain answer.Spent = false
+is_plain answer.NoMemory = false
+is_plain _ = true
+
+abbrev pub all_plain : Option Answer → Bool
+all_plain None = true
+all_plain (Some a) = is_plain a
+
+plain_ballot : (o : Outcome) → all_plain (ballot_answer o) ≡ true
+plain_ballot (said.Decided number members) = refl
+plain_ballot _ = refl
+
+plain_join : (o : Outcome) → all_plain (join_answer o) ≡ true
+plain_join (said.Joined number) = refl
+plain_join _ = refl
+
+plain_leave : (o : Outcome) → all_plain (leave_answer o) ≡ true
+plain_leave said.Departed = refl
+plain_leave _ = refl
+
+plain_left : (o : Outcome) → all_plain (left_answer o) ≡ true
+plain_left said.Leaving = refl
+plain_left _ = refl
+
+plain_send : (o : Outcome) → all_plain (send_answer o) ≡ true
+plain_send (said.Sent req number) = refl
+plain_send _ = refl
+
+plain_take : (o : Outcome) → all_plain (take_answer o) ≡ true
+plain_take (said.Took number entry) = refl
+plain_take _ = refl
+
+plain_stop : (o : Outcome) → all_plain (stop_answer o) ≡ true
+plain_stop said.Stopped = refl
+plain_stop _ = refl
+
+pub plain_own : (a : Act) (o : Outcome) → all_plain (own_answer a o) ≡ true
+unfolding own_answer
+plain_own (act.Send body) o = plain_send o
+plain_own act.Take o = plain_take o
+plain_own act.Join o = plain_join o
+plain_own act.Leave o = plain_leave o
+plain_own (act.Reset least resilience) o = plain_ballot o
+plain_own act.Stop o = plain_stop o
+plain_own _ o = refl
+
+plain_end : (a : Act) (o : Outcome) → all_plain (end_answer a o) ≡ true
+unfolding end_answer
+plain_end (act.Send body) o = plain_send o
+plain_end act.Join o = plain_join o
+plain_end act.Leave o = plain_left o
+plain_end (act.Reset least resilience) o = plain_ballot o
+plain_end _ o = refl
+
+plain_told : (a : Act) (o : Outcome) → all_plain (told_at_end a o) ≡ true
+plain_told a o = by_take (is_take a)
+  where
+    by_take : (b : Bool) → all_plain (if b then own_answer a o else end_answer a o) ≡ true
+    by_take true = plain_own a o
+    by_take false = plain_end a o
+
+plain_put_off : (request : Option ℕ) (o : Outcome) → all_plain (put_off_in request o) ≡ true
+plain_put_off None o = refl
+plain_put_off (Some req) (said.PutOff its base top) = by_same (its == req)
+  where
+    by_same : (b : Bool) → all_plain (if b then Some (answer.PutOff req base top) else None) ≡ true
+    by_same true = refl
+    by_same false = refl
+plain_put_off (Some req) _ = refl
+
+plain_or : (o : Option Answer) (a : Answer) → all_plain o ≡ true → is_plain a ≡ true → is_plain (unwrap_or o a) ≡ true
+plain_or None a p q = q
+plain_or (Some x) a p q = p
+
+pub plain_late : (request : Option ℕ) (a : Answer) (o : Outcome) → is_plain a ≡ true → is_plain (late_after request a o) ≡ true
+plain_late request a o p = plain_or (put_off_in request o) a (plain_put_off request o) p
+
+pub plain_at_end : (a : Act) (request : Option ℕ) (o : Outcome) (its : Answer) → is_plain its ≡ true
+    → is_plain (unwrap_or (told_at_end a o) (late_after request its o)) ≡ true
+plain_at_end a request o its p = plain_or (told_at_end a o) (late_after request its o) (plain_told a o) (plain_late request its o p)
+
+pub plain_lates : (turns : ℕ) (request : Option ℕ) (ts : List Record) → is_plain (late turns request ts) ≡ true
+plain_lates turns request ts = from (answer.Late turns) ts refl
+  where
+    from : (a : Answer) (xs : List Record) → is_plain a ≡ true → is_plain (fold (λ x (r : Record). late_after request x r.outcome) a xs) ≡ true
+    from a [] p = p
+    from a (x ∷ xs) p = from (late_after request a x.outcome) xs (plain_late request a x.outcome p)

@@ -1,0 +1,210 @@
+-- A turn stays one, whatever records of other places and callers come between.
+use Rattle.std.proofs.Common.{◌≡◌, ℕ, zero, suc, ◌+◌, List, [], ◌∷◌, ◌++◌, drop, Bool, true, false, true≢false, Option, Some, None}
+use Rattle.std.proofs.Common.{sym, refl, ap, ◌∙◌, subst, arith, append_assoc, append-nil}
+use Rattle.std.specs.Prelude.{if◌then◌else◌, not, ◌&&◌, ◌||◌, All, map, count_by, nat_lt, is_none}
+use Rattle.std.proofs.lemmas.Bool.{eqb-true}
+use Rattle.std.proofs.lemmas.List.Folds.{list_any-append}
+use Rattle.std.proofs.lemmas.List.Concat.{flat_map-append}
+use Rattle.am_base.specs.Names.{place_of, name_at}
+use Rattle.am_packet.specs.Boxes.{Letter}
+use Rattle.am_group.specs.declared.event.Act.{Act}
+use Rattle.am_group.specs.declared.event.Act.TheVariants as act
+use Rattle.am_group.specs.declared.event.By.{By}
+use Rattle.am_group.specs.declared.event.Event.{Event}
+use Rattle.am_group.specs.declared.event.Record.{Record}
+use Rattle.am_group.specs.declared.plan.RacePlan.{RacePlan}
+use Rattle.am_group.specs.Addressed.{is_for, first_for, next_for}
+use Rattle.am_group.specs.Journals.{letters_of}
+use Rattle.am_play.specs.Claims.{heard_by}
+use Rattle.am_model.specs.Node.{Node}
+use Rattle.am_play.specs.World.{World, current}
+use Rattle.am_wire.specs.Stops.{has_stopped}
+use Rattle.am_races.specs.Told.{world_after}
+use Rattle.am_races.specs.Tags.{of_place, of_caller, of_call, own_of, is_turn_part, up_to_last}
+use Rattle.am_races.specs.Ready.{is_ready}
+use Rattle.am_races.specs.Turns.{cursor, last_heard, words_drawn, unless_nought, choice_after, follows, is_waited, is_choice, is_turn_of, turns_at, is_turn}
+use Rattle.am_races.specs.Turns.{lost_by}
+use Rattle.am_races.specs.Turns.{greatest, passed_number}
+use Rattle.am_races.specs.Laws.{IsApart, IsLeft}
+use Rattle.am_races.proofs.Apart.{others_are_apart}
+use Rattle.am_races.proofs.Others.{others_stay}
+
+-- ---- letters
+
+is_none_ : Option ℕ → Bool
+is_none_ None = true
+is_none_ (Some k) = false
+
+none_is_no_some : (k : ℕ) → None ≡ Some k → ⊥
+unfolding is_none_
+none_is_no_some k same = true≢false (ap is_none_ same)
+
+if_else : (b : Bool) (x y z t : Option ℕ) → (y ≡ t → z ≡ t) → (if b then x else y) ≡ t → (if b then x else z) ≡ t
+if_else true x y z t go is = is
+if_else false x y z t go is = go is
+
+first_stays : (letters more : List Letter) (number name n : ℕ) → first_for letters number name ≡ Some n → first_for (letters ++ more) number name ≡ Some n
+first_stays [] more number name n e = absurd (none_is_no_some n e)
+first_stays (l ∷ letters) more number name n e =
+    if_else (is_for l name) (Some number) (first_for letters (number + 1) name) (first_for (letters ++ more) (number + 1) name) (Some n)
+    (first_stays letters more (number + 1) name n) e
+
+dropped : (letters more : List Letter) (count : ℕ) → (rest : List Letter) × (drop count (letters ++ more) ≡ drop count letters ++ rest)
+dropped letters more zero = (more, refl)
+dropped [] more (suc count) = (drop (suc count) more, refl)
+dropped (l ∷ letters) more (suc count) = dropped letters more count
+
+-- the next letter stays it
+pub next_stays : (letters more : List Letter) (name after n : ℕ) → next_for letters name after ≡ Some n → next_for (letters ++ more) name after ≡ Some n
+unfolding next_for
+next_stays letters more name after n e =
+    let d = dropped letters more after in
+    ap (λ (ls : List Letter). first_for ls (after + 1) name) d.1 ∙ first_stays (drop after letters) d.0 (after + 1) name n e
+
+letters_stay : (before : List Record) (r : Record) → letters_of (before ++ r ∷ []) ≡ letters_of before ++ r.packets
+letters_stay before r = flat_map-append (λ (q : Record). q.packets) before (r ∷ []) ∙ ap (λ (ls : List Letter). letters_of before ++ ls) (append-nil r.packets)
+
+-- ---- choices
+
+-- whatever is heard or lost
+abbrev hears : Act → ℕ → Bool
+hears (act.Hear number) lost = true
+hears act.Tick (suc lost) = true
+hears _ lost = false
+
+choice_stays : (plan : RacePlan) (caller count : ℕ) (ahead later last : Option ℕ) (does : Act) (lost : ℕ)
+    → ((n : ℕ) → ahead ≡ Some n → later ≡ Some n) → hears does lost ≡ true
+    → follows (choice_after plan caller count ahead last) does lost ≡ true → follows (choice_after plan caller count later last) does lost ≡ true
+choice_stays plan caller count (Some n) later last does lost keeps is follow =
+    subst (λ (o : Option ℕ). follows (choice_after plan caller count o last) does lost ≡ true) (sym (keeps n refl)) follow
+choice_stays plan caller count None later last (act.Hear number) lost keeps is follow = absurd (true≢false (sym follow))
+choice_stays plan caller count None later last act.Tick (suc lost) keeps is follow = let z = eqb-true (suc lost) 0 follow in absurd (omega arith)
+choice_stays plan caller count None later last act.Tick zero keeps is follow = absurd (true≢false (sym is))
+choice_stays plan caller count None later last (act.Send body) lost keeps is follow = absurd (true≢false (sym is))
+choice_stays plan caller count None later last (act.Done req) lost keeps is follow = absurd (true≢false (sym is))
+choice_stays plan caller count None later last act.Take lost keeps is follow = absurd (true≢false (sym is))
+choice_stays plan caller count None later last act.Join lost keeps is follow = absurd (true≢false (sym is))
+choice_stays plan caller count None later last act.State lost keeps is follow = absurd (true≢false (sym is))
+choice_stays plan caller count None later last act.Leave lost keeps is follow = absurd (true≢false (sym is))
+choice_stays plan caller count None later last (act.Reset least resilience) lost keeps is follow = absurd (true≢false (sym is))
+choice_stays plan caller count None later last (act.Ask round) lost keeps is follow = absurd (true≢false (sym is))
+choice_stays plan caller count None later last (act.GiveUp name) lost keeps is follow = absurd (true≢false (sym is))
+choice_stays plan caller count None later last act.Stop lost keeps is follow = absurd (true≢false (sym is))
+choice_stays plan caller count None later last (act.Cut packet keep) lost keeps is follow = absurd (true≢false (sym is))
+choice_stays plan caller count None later last act.Return lost keeps is follow = absurd (true≢false (sym is))
+
+-- ---- one record more
+
+and_true : (a b : Bool) → (a && b) ≡ true → (a ≡ true) × (b ≡ true)
+and_true true b e = (refl, e)
+and_true false b e = absurd (true≢false (sym e))
+
+both_true : (a b : Bool) → a ≡ true → b ≡ true → (a && b) ≡ true
+both_true a b p q = ap (λ (x : Bool). x && b) p ∙ q
+
+or_left : (a b : Bool) → a ≡ true → (a || b) ≡ true
+or_left a b p = ap (λ (x : Bool). x || b) p
+
+stopped_stays : (before : List Record) (r : Record) (name : ℕ) → has_stopped before name ≡ true → has_stopped (before ++ r ∷ []) name ≡ true
+stopped_stays before r name is =
+    list_any-append _ before (r ∷ []) ∙ or_left (has_stopped before name) (has_stopped (r ∷ []) name) is
+
+waited_stays : (m : Node) (before : List Record) (r : Record) (name : ℕ) → is_waited m before name ≡ true → is_waited m (before ++ r ∷ []) name ≡ true
+waited_stays m before r name is = let a = and_true _ _ is in both_true _ _ a.0 (stopped_stays before r name a.1)
+
+turn_of_stays : (plan : RacePlan) (before knew : List Record) (r : Record) (m : Node) (name caller : ℕ) (does : Act) (lost : ℕ)
+    → of_place (place_of name) (before ++ r ∷ []) ≡ of_place (place_of name) before → of_caller caller (before ++ r ∷ []) ≡ of_caller caller before
+    → is_turn_of plan before knew m name caller does lost ≡ true → is_turn_of plan (before ++ r ∷ []) knew m name caller does lost ≡ true
+turn_of_stays plan before knew r m name caller does lost place its is = by_act does lost is
+  where
+    more : List Record
+    more = before ++ r ∷ []
+
+    same_cursor : cursor (place_of name) more ≡ cursor (place_of name) before
+    same_cursor = ap (λ (rs : List Record). greatest (map passed_number rs)) place
+
+    picks : (a : Act) (l : ℕ) → hears a l ≡ true → is_choice plan before (place_of name) name caller a l ≡ true
+        → is_choice plan more (place_of name) name caller a l ≡ true
+    picks a l heard choice =
+        let words : words_drawn caller more ≡ words_drawn caller before =
+        ap (λ (rs : List Record). count_by (λ q. is_turn_part q.by.part && nat_lt 0 (passed_number q)) rs) its in
+        let last : last_heard (place_of name) more ≡ last_heard (place_of name) before =
+        ap (λ (rs : List Record). unless_nought (greatest (map (λ q. heard_by q.event.act) rs))) place in
+        let ahead : Option ℕ = next_for (letters_of before) name (cursor (place_of name) before) in
+        let later : Option ℕ = next_for (letters_of more) name (cursor (place_of name) before) in
+        let go = choice_stays plan caller (words_drawn caller before) ahead later (last_heard (place_of name) before) a l
+        (λ n e. ap (λ (ls : List Letter). next_for ls name (cursor (place_of name) before)) (letters_stay before r)
+        ∙ next_stays (letters_of before) r.packets name (cursor (place_of name) before) n e)
+        heard choice in
+        subst (λ (t : ℕ × ℕ × Option ℕ). follows (choice_after plan caller t.0 (next_for (letters_of more) name t.1) t.2) a l ≡ true)
+        (λ i. (sym words i, sym same_cursor i, sym last i)) go
+
+    by_act : (a : Act) (l : ℕ) → is_turn_of plan before knew m name caller a l ≡ true → is_turn_of plan more knew m name caller a l ≡ true
+    by_act (act.GiveUp other) l e =
+        let a = and_true _ _ e in
+        let b = and_true _ _ a.1 in
+        both_true _ _ a.0 (both_true _ _ (waited_stays m before r other b.0) b.1)
+    by_act act.Tick zero e = let a = and_true _ _ e in both_true _ _ a.0 (ap (λ (k : ℕ). is_none (next_for (letters_of knew) name k)) same_cursor ∙ a.1)
+    by_act act.Tick (suc k) e = let a = and_true _ _ e in both_true _ _ a.0 (picks act.Tick (suc k) refl a.1)
+    by_act (act.Hear number) l e = let a = and_true _ _ e in both_true _ _ a.0 (picks (act.Hear number) l refl a.1)
+    by_act (act.Send body) l e = absurd (true≢false (sym e))
+    by_act (act.Done req) l e = absurd (true≢false (sym e))
+    by_act act.Take l e = absurd (true≢false (sym e))
+    by_act act.Join l e = absurd (true≢false (sym e))
+    by_act act.State l e = absurd (true≢false (sym e))
+    by_act act.Leave l e = absurd (true≢false (sym e))
+    by_act (act.Reset least resilience) l e = absurd (true≢false (sym e))
+    by_act (act.Ask round) l e = absurd (true≢false (sym e))
+    by_act act.Stop l e = absurd (true≢false (sym e))
+    by_act (act.Cut packet keep) l e = absurd (true≢false (sym e))
+    by_act act.Return l e = absurd (true≢false (sym e))
+
+pub same_place : (n : ℕ) → place_of (place_of n) ≡ place_of n
+same_place n = omega arith
+
+pub place_of_life : (n life : ℕ) → place_of (name_at (place_of n) life) ≡ place_of n
+place_of_life n life = omega arith
+
+-- one record of another place and another caller
+pub turn_stays : (plan : RacePlan) (before : List Record) (r : Record) (e : Event) (by : By) → IsApart (place_of e.node) by.caller r
+    → is_turn plan before e by ≡ true → is_turn plan (before ++ r ∷ []) e by ≡ true
+unfolding is_turn
+turn_stays plan before r e by apart is =
+    let w : World = world_after plan.founding before in
+    let v : World = world_after plan.founding (before ++ r ∷ []) in
+    let p : ℕ = place_of e.node in
+    let more : List Record = before ++ r ∷ [] in
+    let first = others_stay plan.founding before r p (λ s. apart.place (sym s ∙ same_place e.node)) in
+    let same : v.lives p ≡ w.lives p = ap v.lives (sym (same_place e.node)) ∙ first.1 ∙ ap w.lives (same_place e.node) in
+    let here : current v p ≡ current w p = ap (name_at p) same in
+    let name : ℕ = current w p in
+    let its : place_of name ≡ p = place_of_life e.node (w.lives p) in
+    let node = (others_stay plan.founding before r name (λ s. apart.place (sym s ∙ its))).0 in
+    let left : IsLeft p by.caller by.call before more = others_are_apart p by.caller by.call before r apart in
+    let place : of_place (place_of name) more ≡ of_place (place_of name) before = ap (λ (k : ℕ). of_place k more) its ∙ left.place
+    ∙ ap (λ (k : ℕ). of_place k before) (sym its) in
+    let knew : up_to_last (place_of name) by.caller more ≡ up_to_last (place_of name) by.caller before = ap (λ (k : ℕ). up_to_last k by.caller more) its
+    ∙ left.known ∙ ap (λ (k : ℕ). up_to_last k by.caller before) (sym its) in
+    let both = and_true _ _ is in
+    let ready : not (is_ready (v.nodes name) (own_of (of_call by.caller by.call more))) ≡ true =
+    subst (λ (m : Node). not (is_ready m (own_of (of_call by.caller by.call more))) ≡ true) (sym node)
+    (subst (λ (rs : List Record). not (is_ready (w.nodes name) (own_of rs)) ≡ true) (sym left.call) both.0)
+    in
+    let turn : is_turn_of plan more (up_to_last (place_of name) by.caller more) (v.nodes name) name by.caller e.act (lost_by by.part) ≡ true =
+    subst (λ (m : Node). is_turn_of plan more (up_to_last (place_of name) by.caller more) m name by.caller e.act (lost_by by.part) ≡ true) (sym node)
+    (subst (λ (rs : List Record). is_turn_of plan more rs (w.nodes name) name by.caller e.act (lost_by by.part) ≡ true) (sym knew)
+    (turn_of_stays plan before (up_to_last (place_of name) by.caller before) r (w.nodes name) name by.caller e.act (lost_by by.part) place left.caller both.1))
+    in
+    subst (λ (k : ℕ). turns_at plan more v k e by ≡ true) (sym here) (both_true _ _ ready turn)
+
+pub first_apart : (P : Record → Type 0) (r : Record) (rest : List Record) → All P (r ∷ rest) → P r × All P rest
+first_apart P r rest all = (all 0 r (omega arith), λ k d h. all (suc k) d (omega arith))
+
+-- several of them
+pub turns_stay : (plan : RacePlan) (before more : List Record) (e : Event) (by : By) → All (IsApart (place_of e.node) by.caller) more
+    → is_turn plan before e by ≡ true → is_turn plan (before ++ more) e by ≡ true
+turns_stay plan before [] e by apart is = subst (λ (rs : List Record). is_turn plan rs e by ≡ true) (sym (append-nil before)) is
+turns_stay plan before (r ∷ rest) e by apart is =
+    let a = first_apart (IsApart (place_of e.node) by.caller) r rest apart in
+    subst (λ (rs : List Record). is_turn plan rs e by ≡ true) (append_assoc before (r ∷ []) rest)
+    (turns_stay plan (before ++ r ∷ []) rest e by a.1 (turn_stays plan before r e by a.0 is))

@@ -1,0 +1,324 @@
+-- What a turn finds: who is waited for in vain, and the letters for a name.
+use Rattle.std.proofs.Common.{◌≡◌, ◌≢◌, ◌⊎◌, inl, inr, ℕ, zero, suc, ◌+◌, ◌<◌, max, List, [], ◌∷◌, ◌++◌, length, drop, Bool, true}
+use Rattle.std.proofs.Common.{false, true≢false, Option, Some, None, cond, sym, refl, ap, ◌∙◌, subst, arith, append-nil, map}
+use Rattle.atomic_table.specs.Seated.{TableId}
+use Rattle.am_wire.specs.Passes.{Known}
+use Rattle.am_wire.specs.declared.wire.WireRefusal.{WireRefusal}
+use Rattle.std.specs.Prelude.{IfSome, IfNone, if◌then◌else◌, not, ◌==◌, ◌&&◌, ◌||◌, slice_index, slice_get}
+use Rattle.std.specs.List.{list_any}
+use Rattle.std.proofs.lemmas.Bool.{eqb-true, ltb-true}
+use Rattle.std.proofs.lemmas.Option.{none-some, same_Some}
+use Rattle.std.proofs.lemmas.List.Concat.{flat_map-append}
+use Rattle.am_base.specs.Names.{place_of, life_of, name_at, name_lt, rank_of, has, names_of, names_from}
+use Rattle.am_packet.specs.Boxes.{Letter}
+use Rattle.am_group.specs.declared.event.Act.{Act}
+use Rattle.am_group.specs.declared.event.Act.TheVariants as act
+use Rattle.am_group.specs.declared.event.Record.{Record}
+use Rattle.am_group.specs.declared.plan.RacePlan.{RacePlan}
+use Rattle.am_group.specs.Addressed.{is_for, first_for, next_for}
+use Rattle.am_group.specs.Deliveries.{name_of}
+use Rattle.am_group.specs.Journals.{letters_of, letter_at}
+use Rattle.am_core.proofs.Folds.{slice_get-drop}
+use Rattle.am_play.specs.Claims.{heard_by}
+use Rattle.am_model.specs.Ends.{IsEndOf}
+use Rattle.am_model.specs.Node.{Node}
+use Rattle.am_info.specs.Info.{waited_for}
+use Rattle.am_wire.specs.declared.rule.Terms.{Terms}
+use Rattle.am_wire.specs.Seats.{Follows, StartsWith, GoesOn}
+use Rattle.am_wire.specs.Stops.{stopped_names, has_stopped}
+use Rattle.am_races.specs.Tags.{of_place}
+use Rattle.am_races.specs.Turns.{is_waited, is_least, waits_in_vain, greatest, last_heard, unless_nought, or_nought}
+use Rattle.am_races.specs.Lawful.{IsLawful, IsSent, is_of_race, terms_of}
+use Rattle.am_races.specs.Boxes.{InBoth, IsLeastOf, IsBox, Boxed, Looks, GivesUp, Hears, heard_in, node_by}
+use Rattle.am_chooser.specs.declared.chooser.Choice.{Choice}
+use Rattle.am_chooser.specs.declared.chooser.Choice.TheVariants as choice
+use Rattle.am_chooser.specs.Choices.{Luck, again, choice_of}
+use Rattle.am_wire.specs.declared.rule.Key.TheVariants.{Place}
+use Rattle.am_codec.specs.Limits.{IsPacket}
+use Rattle.am_wire.proofs.Views.{rest_of, goes_through}
+use Rattle.std.proofs.lemmas.List.Elements.{filter-append}
+use Rattle.am_races.proofs.Knows.{each_keeps}
+use Rattle.am_races.proofs.Boxing.{place_last}
+use Rattle.am_races.proofs.Names.{are_stopped}
+use Rattle.am_races.proofs.Nexts.{item_more}
+
+-- ---- names of a set
+
+any_from : (lives : List ℕ) (place : ℕ) (test : ℕ → Bool) → ((k : ℕ) → k < length lives → 0 < slice_index lives k
+    → test (name_at (place + k) (slice_index lives k)) ≡ false)
+    → list_any test (names_from place lives) ≡ false
+any_from [] place test none = refl
+any_from (zero ∷ lives) place test none =
+    any_from lives (place + 1) test (λ k h some. ap (λ (p : ℕ). test (name_at p (slice_index lives k))) (let e : place + 1 + k ≡ place + suc k = omega arith in
+    e) ∙ none (suc k) (omega arith) some)
+any_from (suc before ∷ lives) place test none =
+    let first : test (name_at place (suc before)) ≡ false = ap (λ (p : ℕ). test (name_at p (suc before))) (let e : place ≡ place + 0 = omega arith in e)
+    ∙ none 0 (omega arith) (omega arith) in
+    let rest = any_from lives (place + 1) test (λ k h some. ap (λ (p : ℕ). test (name_at p (slice_index lives k))) (let e : place + 1 + k ≡ place + suc k =
+    omega arith in e) ∙ none (suc k) (omega arith) some) in
+    ap (λ (b : Bool). b || list_any test (names_from (place + 1) lives)) first ∙ rest
+
+-- a test that none of a set's names passes
+none_of_names : (set : List ℕ) (test : ℕ → Bool) → ((k : ℕ) → k < length set → 0 < slice_index set k → test (name_at k (slice_index set k)) ≡ false)
+    → list_any test (names_of set) ≡ false
+none_of_names set test none =
+    any_from set 0 test (λ k h some. ap (λ (p : ℕ). test (name_at p (slice_index set k))) (let e : 0 + k ≡ k = omega arith in e) ∙ none k h some)
+
+bool_no : (b : Bool) → (b ≡ true → ⊥) → b ≡ false
+bool_no true f = absurd (f refl)
+bool_no false f = refl
+
+two : (a b : Bool) → (a && b) ≡ true → (a ≡ true) × (b ≡ true)
+two true b e = (refl, e)
+two false b e = absurd (true≢false (sym e))
+
+both : (a b : Bool) → a ≡ true → b ≡ true → (a && b) ≡ true
+both a b p q = ap (λ (x : Bool). x && b) p ∙ q
+
+-- a name of both sets is of a place of both
+in_both : (waited stopped : List ℕ) (k : ℕ) → k < 16 → 0 < slice_index waited k → has stopped (name_at k (slice_index waited k)) ≡ true
+    → InBoth waited stopped k
+in_both waited stopped k low some is =
+    let life : ℕ = slice_index waited k in
+    let p : place_of (name_at k life) ≡ k = omega arith in
+    let l : life_of (name_at k life) ≡ life = omega arith in
+    let e = eqb-true (slice_index stopped (place_of (name_at k life))) (life_of (name_at k life)) is in
+    (some, ap (slice_index stopped) (sym p) ∙ e ∙ l)
+
+pub nobody_waits : (m : Node) (seen : List Record) (waited stopped : List ℕ) → waited ≡ waited_for m.ballot → length waited ≡ 16
+    → ((name : ℕ) → has stopped name ≡ has_stopped seen name)
+    → ((place : ℕ) → place < 16 → InBoth waited stopped place → ⊥) → waits_in_vain m seen ≡ false
+nobody_waits m seen waited stopped is many known none =
+    ap (λ (w : List ℕ). list_any (λ name. has w name && has_stopped seen name) (names_of w)) (sym is)
+    ∙ none_of_names waited (λ name. has waited name && has_stopped seen name) (λ k h some.
+    bool_no (has waited (name_at k (slice_index waited k)) && has_stopped seen (name_at k (slice_index waited k)))
+    (λ e. none k (omega arith) (in_both waited stopped k (omega arith) some (known (name_at k (slice_index waited k)) ∙ (two _ _ e).1))))
+
+pub least_waits : (m : Node) (seen : List Record) (waited stopped : List ℕ) (name : ℕ) → waited ≡ waited_for m.ballot → length waited ≡ 16
+    → ((k : ℕ) → has stopped k ≡ has_stopped seen k)
+    → IsLeastOf waited stopped name → (is_waited m seen name ≡ true) × (is_least m seen name ≡ true)
+least_waits m seen waited stopped name is many known least = (
+  both _ _ (ap (λ (w : List ℕ). has w name) (sym is) ∙ least.first) (sym (known name) ∙ least.second),
+  ap not (ap (λ (w : List ℕ). list_any (λ other. name_lt other name && (has w other && has_stopped seen other)) (names_of w)) (sym is)
+      ∙ none_of_names waited (λ other. name_lt other name && (has waited other && has_stopped seen other)) (λ k h some.
+      bool_no _ (λ e.
+      let a = two _ _ e in
+      let lower = ltb-true (rank_of (name_at k (slice_index waited k))) (rank_of name) a.0 in
+      let here = eqb-true (slice_index waited (place_of name)) (life_of name) least.first in
+      let low : k < 16 = omega arith in
+      let apart : k ≢ place_of name = λ s.
+      let same : slice_index waited k ≡ life_of name = ap (slice_index waited) s ∙ here in
+      omega arith in
+      least.below k (below_it k (slice_index waited k) name least.low low some lower apart)
+      (in_both waited stopped k low some (known (name_at k (slice_index waited k)) ∙ (two _ _ a.1).1))))),
+)
+  where
+    below_it : (k life other : ℕ) → other < 256 → k < 16 → 0 < life → rank_of (name_at k life) < rank_of other → k ≢ place_of other → k < place_of other
+    below_it k life other byte low some lower apart = omega arith
+
+-- ---- letters for a name
+
+first_there : (letters : List Letter) (from name n : ℕ) → first_for letters from name ≡ Some n → (k : ℕ) × (n ≡ from + k)
+    × ((l : Letter) × ((slice_get letters k ≡ Some l) × (is_for l name ≡ true)))
+first_there [] from name n e = absurd (none-some n e)
+first_there (l ∷ letters) from name n e = by_first (is_for l name) refl e (λ is. first_there letters (from + 1) name n is)
+  where
+    by_first : (b : Bool) → is_for l name ≡ b → (if b then Some from else first_for letters (from + 1) name) ≡ Some n
+        → (first_for letters (from + 1) name ≡ Some n → (k : ℕ) × (n ≡ from + 1 + k)
+        × ((x : Letter) × ((slice_get letters k ≡ Some x) × (is_for x name ≡ true))))
+        → (k : ℕ) × (n ≡ from + k) × ((x : Letter) × ((slice_get (l ∷ letters) k ≡ Some x) × (is_for x name ≡ true)))
+    by_first true its is rest = (0, (let s = same_Some from n is in omega arith), (l, (refl, its)))
+    by_first false its is rest = let r = rest is in (suc r.0, omega (arith, r.1), r.2)
+
+-- the next letter for a name was sent to it
+pub ahead_is_sent : (seen : List Record) (name after n : ℕ) → next_for (letters_of seen) name after ≡ Some n → IsSent seen name n × (after < n)
+unfolding next_for
+ahead_is_sent seen name after n e =
+    let f = first_there (drop after (letters_of seen)) (after + 1) name n e in
+    let number : n ≡ suc (after + f.0) = omega (arith, f.1) in (
+      record {
+        letter = f.2.0;
+        there = ap (letter_at (letters_of seen)) number ∙ sym (slice_get-drop after f.0 (letters_of seen)) ∙ f.2.1.0;
+        its = f.2.1.1;
+      },
+      omega arith,
+    )
+
+pub sent_more : (before more : List Record) (name number : ℕ) → IsSent before name number → IsSent (before ++ more) name number
+sent_more before more name number s = record {
+  letter = s.letter;
+  there = ap (λ (ls : List Letter). letter_at ls number) (flat_map-append (λ (r : Record). r.packets) before more)
+      ∙ item_more (letters_of before) (letters_of more) number s.letter s.there;
+  its = s.its;
+}
+
+-- ---- as a box finds them
+
+if_some : {A : Type 0} {P Q : A → Type 0} (o : Option A) → ((x : A) → P x → Q x) → IfSome o P → IfSome o Q
+if_some None f h = tt
+if_some (Some x) f h = f x h
+
+if_none : {A : Type 0} {P Q : Type 0} (o : Option A) → (P → Q) → IfNone o P → IfNone o Q
+if_none None f h = f h
+if_none (Some x) f h = tt
+
+waits_by : (all m : Node) → IsEndOf all m → waited_for m.ballot ≡ waited_for all.ballot
+waits_by all m is = ap (λ (n : Node). waited_for n.ballot) is.same
+
+module _ (wire : TableId) (plan : RacePlan) (name : ℕ) (pass : Known) (m : Node) (far : ℕ) (last : Option ℕ) (stopped : Bool) (closed : Option WireRefusal)
+    (box : IsBox wire plan name pass m far last stopped closed) (runs : closed ≡ None) (waited gone : List ℕ) (is : waited ≡ waited_for m.ballot) where
+  its : waited ≡ waited_for (node_by plan pass.seen name).ballot
+  its = is ∙ waits_by (node_by plan pass.seen name) m (box.node runs).end
+
+  gives_up_by : gone ≡ stopped_names pass.seen → length waited ≡ 16 → (other : ℕ) → IsLeastOf waited gone other → GivesUp plan pass.seen name other
+  gives_up_by known many other least =
+      least_waits (node_by plan pass.seen name) pass.seen waited gone other its many
+      (λ k. ap (λ (s : List ℕ). has s k) known ∙ (are_stopped (terms_of plan) pass.seen box.lawful).each k) least
+
+  nobody_by : gone ≡ stopped_names pass.seen → length waited ≡ 16 → ((place : ℕ) → place < 16 → InBoth waited gone place → ⊥)
+      → waits_in_vain (node_by plan pass.seen name) pass.seen ≡ false
+  nobody_by known many none =
+      nobody_waits (node_by plan pass.seen name) pass.seen waited gone its many
+      (λ k. ap (λ (s : List ℕ). has s k) known ∙ (are_stopped (terms_of plan) pass.seen box.lawful).each k) none
+
+  -- what is found in both sets, or not
+  pub found_by : (found : Option ℕ) → gone ≡ stopped_names pass.seen → length waited ≡ 16 → IfSome found (λ other. IsLeastOf waited gone other)
+      → IfNone found ((place : ℕ) → place < 16 → InBoth waited gone place → ⊥)
+      → IfSome found (GivesUp plan pass.seen name) × IfNone found (waits_in_vain (node_by plan pass.seen name) pass.seen ≡ false)
+  found_by found known many some none = (if_some found (gives_up_by known many) some, if_none found (nobody_by known many) none)
+
+-- ---- what was heard last
+
+abbrev is_nought_or : List Record → ℕ → ℕ → Type 0
+is_nought_or before name number = (number ≡ 0) ⊎ IsSent before name number
+
+abbrev LastSent : ℕ → List Record → Type 0
+LastSent name before = is_nought_or before name (greatest (map (λ r. heard_by r.event.act) (of_place name before)))
+
+higher : (before : List Record) (name a b : ℕ) → is_nought_or before name a → is_nought_or before name b → is_nought_or before name (max a b)
+higher before name a b p q = elim (order a b) [
+  | inl e ↦ subst (is_nought_or before name) (sym e) p
+  | inr e ↦ subst (is_nought_or before name) (sym e) q
+]
+  where
+    order : (x y : ℕ) → (max x y ≡ x) ⊎ (max x y ≡ y)
+    order zero y = inr (omega arith)
+    order (suc x) zero = inl (omega arith)
+    order (suc x) (suc y) = elim (order x y) [
+      | inl e ↦ inl (omega arith)
+      | inr e ↦ inr (omega arith)
+    ]
+
+still_sent : (before : List Record) (r : Record) (name number : ℕ) → is_nought_or before name number → is_nought_or (before ++ r ∷ []) name number
+still_sent before r name number p = elim p [
+  | inl e ↦ inl e
+  | inr s ↦ inr (sent_more before (r ∷ []) name number s)
+]
+
+heard_next : (terms : Terms) (before : List Record) (r : Record) → IsLawful terms before r → is_nought_or before (name_of r) (heard_by r.event.act)
+heard_next terms before r lawful = by_act r.event.act refl
+  where
+    by_act : (a : Act) → r.event.act ≡ a → is_nought_or before (name_of r) (heard_by r.event.act)
+    by_act (act.Hear number) e = inr (subst (IsSent before (name_of r)) (sym (ap heard_by e)) (lawful.hears number e))
+    by_act (act.Cut number keep) e = absurd (true≢false (sym lawful.act_ ∙ ap is_of_race e))
+    by_act (act.Send body) e = inl (ap heard_by e)
+    by_act (act.Done req) e = inl (ap heard_by e)
+    by_act act.Take e = inl (ap heard_by e)
+    by_act act.Join e = inl (ap heard_by e)
+    by_act act.State e = inl (ap heard_by e)
+    by_act act.Leave e = inl (ap heard_by e)
+    by_act (act.Reset least resilience) e = inl (ap heard_by e)
+    by_act (act.Ask round) e = inl (ap heard_by e)
+    by_act (act.GiveUp other) e = inl (ap heard_by e)
+    by_act act.Stop e = inl (ap heard_by e)
+    by_act act.Tick e = inl (ap heard_by e)
+    by_act act.Return e = inl (ap heard_by e)
+
+last_next : (terms : Terms) (name : ℕ) (before : List Record) (r : Record) → name < 16 → IsLawful terms before r → LastSent name before
+    → LastSent name (before ++ r ∷ [])
+last_next terms name before r low lawful so_far = by_place (place_of r.event.node == name) refl
+  where
+    heard : Record → ℕ
+    heard q = heard_by q.event.act
+
+    by_place : (b : Bool) → (place_of r.event.node == name) ≡ b → LastSent name (before ++ r ∷ [])
+    by_place true here =
+        let first : name_of r ≡ name = ap (name_at (place_of r.event.node)) lawful.life ∙ (let e = eqb-true (place_of r.event.node) name here in omega arith) in
+        subst (is_nought_or (before ++ r ∷ []) name) (sym (place_last heard name before r here))
+        (higher (before ++ r ∷ []) name (greatest (map heard (of_place name before))) (heard r) (still_sent before r name _ so_far)
+        (still_sent before r name (heard r) (subst (λ (k : ℕ). is_nought_or before k (heard r)) first (heard_next terms before r lawful))))
+    by_place false there =
+        let same : of_place name (before ++ r ∷ []) ≡ of_place name before =
+        filter-append (λ (q : Record). place_of q.event.node == name) before (r ∷ []) ∙ ap (λ (b : Bool). of_place name before ++ cond b (r ∷ []) []) there
+        ∙ append-nil (of_place name before)
+        in
+        subst (λ (rs : List Record). is_nought_or (before ++ r ∷ []) name (greatest (map heard rs))) (sym same) (still_sent before r name _ so_far)
+
+pub last_is_sent : (terms : Terms) (name number : ℕ) (before : List Record) → name < 16 → Follows (IsLawful terms) before → last_heard name before ≡ Some number
+    → IsSent before name number
+last_is_sent terms name number before low follows e =
+    by_number (greatest (map (λ r. heard_by r.event.act) (of_place name before))) e
+    (each_keeps (LastSent name) (IsLawful terms) (λ done r lawful so_far. last_next terms name done r low lawful so_far) [] before (inl refl) follows)
+  where
+    by_number : (n : ℕ) → unless_nought n ≡ Some number → is_nought_or before name n → IsSent before name number
+    by_number zero is p = absurd (none-some number is)
+    by_number (suc n) is p = elim p [
+      | inl z ↦ absurd (omega arith)
+      | inr s ↦ subst (IsSent before name) (ap or_nought is) s
+    ]
+
+-- ---- a letter that is read
+
+pub sent_by : (before after : List Record) (name number : ℕ) → StartsWith after before → IsSent before name number → IsSent after name number
+sent_by before after name number begins s =
+    subst (λ (rs : List Record). IsSent rs name number) (sym (rest_of after before begins)) (sent_more before (drop (length before) after) name number s)
+
+one_of : Option Letter → Letter → Letter
+one_of None other = other
+one_of (Some l) other = l
+
+pub not_there : (seen : List Record) (name number : ℕ) (found : Option Letter) → found ≡ letter_at (letters_of seen) number → IsSent seen name number
+    → found ≡ None → ⊥
+not_there seen name number found is s none = none-some s.letter (sym none ∙ is ∙ s.there)
+
+pub hears_it : (seen : List Record) (name number : ℕ) (found : Option Letter) (l : Letter) → found ≡ letter_at (letters_of seen) number
+    → IsSent seen name number → found ≡ Some l
+    → IsPacket l.packet → Hears seen name number (Some l)
+unfolding one_of
+hears_it seen name number found l is s got packet =
+    let same : s.letter ≡ l = ap (λ (o : Option Letter). one_of o l) (sym s.there ∙ sym is ∙ got) in record {
+      letter = l;
+      is = refl;
+      sent = sym is ∙ got;
+      its = ap (λ (x : Letter). is_for x name) (sym same) ∙ s.its;
+      packet = packet;
+    }
+
+-- ---- a choice hears what was sent
+
+either_heard : (b c : Bool) (n number : ℕ) (last : Option ℕ) → heard_in (if b then choice.Lose n else if c then again n last else choice.Hear n) ≡ Some number
+    → (Some n ≡ Some number) ⊎ (last ≡ Some number)
+either_heard true c n number last e = absurd (none-some number e)
+either_heard false true n number None e = inl e
+either_heard false true n number (Some l) e = inr e
+either_heard false false n number last e = inl e
+
+pub choice_sent : (terms : Terms) (seen : List Record) (name far : ℕ) (luck : Luck) (ahead last : Option ℕ) → name < 16 → Follows (IsLawful terms) seen
+    → ahead ≡ next_for (letters_of seen) name far → last ≡ last_heard name seen → (said : Choice) → said ≡ choice_of luck ahead last → (number : ℕ)
+    → heard_in said ≡ Some number
+    → IsSent seen name number
+choice_sent terms seen name far luck None last low follows next was said is number e = absurd (none-some number (ap heard_in (sym is) ∙ e))
+choice_sent terms seen name far luck (Some n) last low follows next was said is number e =
+    elim (either_heard _ _ n number last (ap heard_in (sym is) ∙ e)) [
+      | inl same ↦ (ahead_is_sent seen name far number (sym next ∙ same)).0
+      | inr again_ ↦ last_is_sent terms name number seen low follows (sym was ∙ again_)
+    ]
+
+pub looks_through : (b : Boxed) (name : ℕ) (seen middle : List Record) (closed : Option WireRefusal) (after : Boxed)
+    → record { name = name; seen = seen; closed = closed } ≡ b
+    → GoesOn (Place name ∷ []) seen middle → Looks (record { name = name; seen = middle; closed = closed }) after → Looks b after
+looks_through b name seen middle closed after is goes looks = subst (λ (x : Boxed). Looks x after) is (record {
+  name = looks.name;
+  closed = looks.closed;
+  goes = goes_through (Place name ∷ []) (Place name ∷ []) seen middle after.seen (λ key h. h) goes looks.goes;
+})

@@ -1,0 +1,29 @@
+-- The journals that a race may leave.
+use Rattle.std.specs.Prelude.{◌≡◌, ℕ, List, ◌∷◌, ◌++◌, Bool, true, false, ◌&&◌, ◌==◌}
+use Rattle.std.specs.List.{list_all}
+use Rattle.am_base.specs.Names.{place_of}
+use Rattle.am_group.specs.declared.event.Act.{Act}
+use Rattle.am_group.specs.declared.event.Record.{Record}
+use Rattle.am_group.specs.declared.plan.RacePlan.{RacePlan}
+use Rattle.am_group.specs.declared.plan.ThreadPlan.{ThreadPlan}
+use Rattle.am_group.specs.Deliveries.{name_of}
+use Rattle.am_play.specs.Legal.{IsLegal}
+use Rattle.am_wire.specs.Stops.{has_stopped}
+use Rattle.am_races.specs.Tags.{of_caller, is_turn_part}
+use Rattle.am_races.specs.Turns.{is_turn}
+use Rattle.am_races.specs.Callers.{is_callers, are_finished}
+
+-- the run of its events gives its outcomes and letters; the records of each caller are those of its calls; each turn
+-- is one of its call by what stood before it;
+-- and a name that stopped does nothing more
+pub record IsLegalWithTags (plan : RacePlan) (calls : ℕ → List Act) (journal : List Record) : Type 0 where
+  pub legal : IsLegal plan.founding journal
+  pub callers : (caller : ℕ) → is_callers plan.turns (calls caller) (of_caller caller journal) ≡ true
+  pub turns : (before rest : List Record) (r : Record) → journal ≡ before ++ r ∷ rest → is_turn_part r.by.part ≡ true → is_turn plan before r.event r.by ≡ true
+  pub stops : (before rest : List Record) (r : Record) → journal ≡ before ++ r ∷ rest → has_stopped before (name_of r) ≡ false
+
+-- what a thread of a race has done: its calls at its node, each finished, up to one that used its turns; only where the node stopped it may have ended before
+abbrev pub is_played : ℕ → ThreadPlan → ℕ → List Record → Bool
+is_played turns thread caller journal =
+    list_all (λ r. place_of r.event.node == place_of thread.node) (of_caller caller journal)
+    && are_finished turns (has_stopped journal (place_of thread.node)) 0 thread.calls (of_caller caller journal)

@@ -1,6 +1,0 @@
-use Rattle.am_handlers.specs.Parts.{node_of}
-use Rattle.am_handlers.proofs.Ends.{end_self}
-use Rattle.am_reset.proofs.reading.others_of.Goals as goal
-
-pub returns : goal.returns
-returns c = c.others.ensures (node_of c.args.parts.now) (end_self (node_of c.args.parts.now) c.requires.kept)

@@ -1,8 +1,0 @@
-use Rattle.std.proofs.Common.{sym}
-use Rattle.am_handlers.specs.Parts.{node_of}
-use Rattle.am_model.specs.Calls.{give_up_row}
-use Rattle.am_reset.proofs.voting.on_give_up.Goals as goal
-
-pub returns : goal.returns
-returns c = c.finish.ensures (node_of c.args.parts.now) (give_up_row (node_of c.args.parts.now) c.args.name)
-    (sym c.accept_front-before.ensures.value) c.give_up_row-reply.ensures.replies

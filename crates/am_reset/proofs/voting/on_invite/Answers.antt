@@ -1,8 +1,0 @@
-use Rattle.std.proofs.Common.{sym}
-use Rattle.am_handlers.specs.Parts.{node_of}
-use Rattle.am_model.specs.Resets.{invite_row}
-use Rattle.am_reset.proofs.voting.on_invite.Goals as goal
-
-pub returns : goal.returns
-returns c = c.finish.ensures (node_of c.args.parts.now) (invite_row (node_of c.args.parts.now) c.args.from c.args.stamp)
-    (sym c.accept_front-before.ensures.value) c.invite-reply.ensures.replies

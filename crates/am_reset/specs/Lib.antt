@@ -1,3 +1,0 @@
-pub mod Replies
-pub mod Deciding
-pub mod Catching

@@ -1,0 +1,56 @@
+-- What a world's text is, and a script's.
+use Rattle.std.proofs.Common.{◌≡◌, ℕ, List, ◌++◌, length, filter, count_by, codes, Option, refl, sym, ap, ◌∙◌}
+use Rattle.am_base.specs.Founding.{Rules}
+use Rattle.am_base.specs.declared.entry.Entry.{Entry}
+use Rattle.am_base.specs.Votes.{all_names}
+use Rattle.am_group.specs.declared.event.Record.{Record}
+use Rattle.am_play.specs.World.{World}
+use Rattle.am_play.specs.Group.{logs}
+use Rattle.am_play.specs.Lawful.{broken_at}
+use Rattle.am_play.specs.Text.{play_text, mark_line}
+use Rattle.am_base.specs.Outcomes.{is_took, is_sent, is_held}
+use Rattle.am_play.specs.Play.{text_of, count_line, summary_text_of}
+use Rattle.am_play.proofs.Runs.{watched_is_run}
+use Rattle.am_group.specs.Journals.{letters_of}
+use Rattle.am_report.specs.Logs.{logs_for}
+use Rattle.am_report.specs.Summaries.{summary_for}
+use Rattle.am_report.proofs.Logs.{logs_are}
+use Rattle.am_world.specs.Runs as worlds
+use Rattle.am_world.specs.Runs.{replay}
+use Rattle.am_runs.proofs.Names.{has_log_in}
+
+pub world_text : (p : worlds.Play) (text : List ℕ) (founding : Rules) (records : List Record) (group : List Entry) (each : List ℕ) (broken : Option ℕ)
+    → founding ≡ p.rules → records ≡ (replay p).records → group ≡ (replay p).group → each ≡ filter (has_log_in (replay p)) all_names
+    → broken ≡ broken_at p.rules p.events
+    → text ≡ play_text founding records group (logs_for records each) broken → text ≡ text_of p.rules p.events
+world_text p text founding records group each broken rules recorded agreed named mark is =
+    is
+    ∙ (λ k. play_text (rules k) (recorded k) (agreed k) (logs_for (recorded k) (named k)) (mark k))
+    ∙ ap (λ ls. play_text p.rules (replay p).records (replay p).group ls (broken_at p.rules p.events)) (sym (logs_are (replay p)))
+    ∙ ap (λ (w : World). play_text p.rules w.records w.group (logs w) (broken_at p.rules p.events)) (sym (watched_is_run p.rules p.events))
+
+-- ---- a summary
+
+abbrev summary_with : List Record → ℕ → List Entry → Option ℕ → List ℕ
+summary_with records letters group broken =
+    count_line (codes "events") (length records)
+    ++ (count_line (codes "packets") letters
+    ++ (count_line (codes "entries") (length group)
+    ++ (count_line (codes "took") (count_by (λ r. is_took r.outcome) records)
+    ++ (count_line (codes "sent") (count_by (λ r. is_sent r.outcome) records)
+    ++ (count_line (codes "held") (count_by (λ r. is_held r.outcome) records)
+    ++ mark_line broken)))))
+
+summary_of_records : (records : List Record) (group : List Entry) (broken : Option ℕ)
+    → summary_for records group broken ≡ summary_with records (length (letters_of records)) group broken
+unfolding summary_for
+summary_of_records records group broken = refl
+
+pub world_summary : (p : worlds.Play) (text : List ℕ) (records : List Record) (group : List Entry) (broken : Option ℕ)
+    → records ≡ (replay p).records → letters_of records ≡ (replay p).letters → group ≡ (replay p).group → broken ≡ broken_at p.rules p.events
+    → text ≡ summary_for records group broken → text ≡ summary_text_of p.rules p.events
+world_summary p text records group broken recorded sent agreed mark is =
+    is
+    ∙ summary_of_records records group broken
+    ∙ (λ k. summary_with (recorded k) (length (sent k)) (agreed k) (mark k))
+    ∙ ap (λ (w : World). summary_with w.records (length w.letters) w.group (broken_at p.rules p.events)) (sym (watched_is_run p.rules p.events))

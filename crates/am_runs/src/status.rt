@@ -1,0 +1,43 @@
+use am_script::refusal::ScriptRefusal;
+
+/// What came of a call of the program.
+#[derive(Clone, Copy, PartialEq, Eq, Debug)]
+pub enum Status {
+    /// All was read, done and written.
+    Done,
+    /// The words have no form of the program.
+    Usage,
+    /// The input isn't a script, by this cause.
+    BadScript(ScriptRefusal),
+    /// The input has more than 16,777,216 bytes.
+    TooLong,
+    /// A read failed.
+    ReadFault,
+    /// A write failed.
+    WriteFault,
+    /// There was no memory.
+    NoMemory,
+    /// A run would have more than 100,000 events.
+    Spent,
+}
+
+impl Status {
+    ghost use Rattle.std.specs.Prelude.{◌≡◌};
+    ghost use Rattle.am_runs.specs.Simulation.{number_of};
+
+    /// Its number, which a process ends with: 0 to 7.
+    pub fn number(self) -> u8
+        ensures { result ≡ number_of self }
+    {
+        match self {
+            Status::Done => 0,
+            Status::Usage => 1,
+            Status::BadScript(_) => 2,
+            Status::TooLong => 3,
+            Status::ReadFault => 4,
+            Status::WriteFault => 5,
+            Status::NoMemory => 6,
+            Status::Spent => 7,
+        }
+    }
+}

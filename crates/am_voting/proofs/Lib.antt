@@ -1,0 +1,2 @@
+mod Ballots
+mod VoteRows

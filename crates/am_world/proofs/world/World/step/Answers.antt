@@ -1,0 +1,56 @@
+use Rattle.std.proofs.Common.{◌≡◌, Ok, length, sym, ap, ◌∙◌, subst, arith}
+use Rattle.am_base.specs.Names.{place_of}
+use Rattle.am_play.specs.World.{current, happens}
+use Rattle.am_model.specs.Ends.{IsEndOf}
+use Rattle.am_node.specs.Stands.{state_of}
+use Rattle.am_watch.specs.Watching.{Watching}
+use Rattle.am_watch.specs.Watchers.{watching_of}
+use Rattle.am_world.specs.Asked.{comes}
+use Rattle.am_world.specs.Runs.{Play, after, replay}
+use Rattle.am_world.specs.Watched.{IsWatched}
+use Rattle.am_world.proofs.Kept.{count_of, act_is_watched, group_longer}
+use Rattle.am_world.proofs.world.World.step.Goals as goal
+use Rattle.am_world.proofs.world.World.step.Goals.{After-note_step}
+
+pub note_step-requires-clause-few : goal.note_step-requires-clause-few
+note_step-requires-clause-few c =
+    let count = ap (λ (k : Watching). k.count) c.reserve.ensures.same in
+    let events = count_of c.self.inside.run (watching_of c.self.inside.watcher) c.self.invariant in
+    let long = c.events.ensures.value in
+    let few = c.events.ensures.few in
+    omega arith
+
+pub note_step-requires-clause-known : goal.note_step-requires-clause-known
+note_step-requires-clause-known c =
+    let e = c.args.event.now in
+    let p = c.self.inside.run in
+    let is : happens (replay p) e ≡ comes (replay p) e (Ok c.in-Ok.what) = c.in_ok-what.ensures.comes ∙ ap (comes (replay p) e) c.in-Ok.is in
+    let more = group_longer p e c.in-Ok.what is in
+    let before = ap length c.group-known.ensures.value in
+    let now = ap length (c.group.ensures.value ∙ ap (λ (q : Play). (replay q).group) c.in_ok-act-in-Ok.ensures.ok) in
+    omega arith
+
+-- after a name's step the watcher keeps what is watched
+watched : (c : After-note_step) → IsWatched c.act.new.self (watching_of c.note_step.new.watcher)
+watched c =
+    let e = c.args.event.now in
+    let p = c.self.inside.run in
+    let k = watching_of c.reserve.new.self in
+    let m = state_of c.node.result.now in
+    let made = c.in_ok-act-in-Ok.ensures.ok in
+    let kept = subst (IsWatched p) (sym c.reserve.ensures.same) c.self.invariant in
+    let is : happens (replay p) e ≡ comes (replay p) e (Ok c.in-Ok.what) = c.in_ok-what.ensures.comes ∙ ap (comes (replay p) e) c.in-Ok.is in
+    let end = subst (λ (q : Play). IsEndOf ((replay q).nodes (current (replay q) (place_of e.node))) m) made c.node.ensures in
+    let group = c.group.ensures.value ∙ ap (λ (q : Play). (replay q).group) made in
+    let done = act_is_watched p k e c.name_at-name.result c.in-Ok.what m (length c.group-known.result.now) c.group.result.now
+    c.group-known.ensures.founded kept c.name_at-name.ensures is end (ap length c.group-known.ensures.value) group in
+    subst (λ q. IsWatched q (watching_of c.note_step.new.watcher)) (sym made) (subst (IsWatched (after p e)) (sym c.note_step.ensures) done)
+
+pub invariant_of-self-in_ok-act-in-Ok : goal.invariant_of-self-in_ok-act-in-Ok
+invariant_of-self-in_ok-act-in-Ok c = watched (goal.at.invariant_of-self-in_ok-act-in-Ok c).After-note_step
+
+pub invariant_of-self-in_ok-act-in-Ok-2 : goal.invariant_of-self-in_ok-act-in-Ok-2
+invariant_of-self-in_ok-act-in-Ok-2 c = watched (goal.at.invariant_of-self-in_ok-act-in-Ok-2 c).After-note_step
+
+pub invariant_of-self-in_ok-act-in-Ok-3 : goal.invariant_of-self-in_ok-act-in-Ok-3
+invariant_of-self-in_ok-act-in-Ok-3 c = watched (goal.at.invariant_of-self-in_ok-act-in-Ok-3 c).After-note_step
