@@ -20,3 +20,7 @@ most_body = 1024
 -- of bytes in a packet
 abbrev pub most_packet : ℕ
 most_packet = 1152
+
+-- of a number of 32 bits
+abbrev pub most_word : ℕ
+most_word = 4294967295

@@ -44,6 +44,13 @@ impl<T> Items<T> {
         Ok(())
     }
 
+    /// The items with their room.
+    pub fn into_vec(self) -> Vec<T>
+        ensures { result.items ≡ self }
+    {
+        self.0
+    }
+
     /// The items.
     pub fn as_slice(&self) -> &[T]
         ensures { result.now ≡ self.now }

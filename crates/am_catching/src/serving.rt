@@ -99,6 +99,7 @@ fn tell_pieces(parts: &Parts, to: Name, stored: u32, entries: &[Entry], out: &mu
 }
 
 /// Sends a name the entries above a number, eight at most, and tells how many they are.
+#[inline(never)]
 fn serve(parts: &mut Parts, to: Name, stored: u32, before: u32, out: &mut OutBox) -> Outcome
     requires empty { out.old ≡ [] }
     requires order { IsInOrder parts.old.core }

@@ -11,7 +11,7 @@ use Rattle.am_packet.specs.declared.packet.Packet.TheVariants as packets
 use Rattle.am_packet.specs.Kinds.{kind_of}
 use Rattle.am_codec.specs.declared.kind.Kind.{Kind}
 use Rattle.am_codec.specs.declared.kind.Kind.TheVariants as kinds
-use Rattle.am_codec.specs.Kinds.{kind_at, is_total}
+use Rattle.am_codec.specs.Kinds.{kind_at, is_total, most_request, most_counted, most_entry}
 use Rattle.am_base.specs.Limits.{IsNumber}
 use Rattle.am_codec.specs.Limits.{IsWithin, HasParts, HasEntryParts, IsPacket}
 use Rattle.am_codec.specs.Spelling.{spelling, fields_of, sender_of, stamp_of, entry_bytes}
@@ -54,7 +54,7 @@ round_within _ within = within.0
 
 -- ---- how long fields are
 
-entry_short : (entry : Entry) → HasEntryParts entry → length (entry_bytes entry) ≤ 1030
+entry_short : (entry : Entry) → HasEntryParts entry → length (entry_bytes entry) ≤ most_entry
 unfolding entry_bytes
 entry_short (Data from req body) parts = omega (arith, parts)
 entry_short (Join name) parts = omega arith
@@ -74,17 +74,17 @@ within_total n least most low high = and_from (nat_le least n) (nat_le n most) (
 total_fits : (packet : Packet) → HasParts packet → is_total (kind_for packet) (12 + length (fields_of packet)) ≡ true
 unfolding HasParts fields_of
 total_fits (packets.Request sender stamp report req body) parts =
-    within_total (12 + length (fields_of (packets.Request sender stamp report req body))) 24 1048 (omega arith) (omega (arith, parts))
+    within_total (12 + length (fields_of (packets.Request sender stamp report req body))) 24 most_request (omega arith) (omega (arith, parts))
 total_fits (packets.Spread sender stamp report req body) parts =
-    within_total (12 + length (fields_of (packets.Spread sender stamp report req body))) 24 1048 (omega arith) (omega (arith, parts))
+    within_total (12 + length (fields_of (packets.Spread sender stamp report req body))) 24 most_request (omega arith) (omega (arith, parts))
 total_fits (packets.Bcast sender stamp base acc number entry) parts =
-    within_total (12 + length (fields_of (packets.Bcast sender stamp base acc number entry))) 25 65535 (omega (arith, entry_some entry))
+    within_total (12 + length (fields_of (packets.Bcast sender stamp base acc number entry))) 25 most_counted (omega (arith, entry_some entry))
     (omega (arith, entry_short entry parts))
 total_fits (packets.Welcome sender stamp base join image) parts =
     within_total (12 + length (fields_of (packets.Welcome sender stamp base join image))) 238 238 (omega (arith, length-rows_bytes image.rows, parts))
     (omega (arith, length-rows_bytes image.rows, parts))
 total_fits (packets.Piece sender stamp base number entry) parts =
-    within_total (12 + length (fields_of (packets.Piece sender stamp base number entry))) 21 65535 (omega (arith, entry_some entry))
+    within_total (12 + length (fields_of (packets.Piece sender stamp base number entry))) 21 most_counted (omega (arith, entry_some entry))
     (omega (arith, entry_short entry parts))
 total_fits _ parts = refl
 

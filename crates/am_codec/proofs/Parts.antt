@@ -17,6 +17,7 @@ use Rattle.am_codec.specs.declared.refusal.PacketRefusal.TheVariants.{BadField}
 use Rattle.am_base.specs.Limits.{IsRow, IsImage, IsVote, IsEntry}
 use Rattle.am_base.specs.Lists.{blank_row}
 use Rattle.am_codec.specs.Limits.{HasEntryParts}
+use Rattle.am_codec.specs.Kinds.{most_entry}
 use Rattle.am_codec.specs.Spelling.{stamp_bytes, set_bytes, row_bytes, rows_bytes, image_bytes, vote_bytes, entry_bytes}
 use Rattle.am_codec.specs.Reading.{◌>>=◌, number_at, stamp_at, set_at, resilience_at, life_at, row_at, rows_at, image_at, vote_at, data_at, join_at, leave_at}
 use Rattle.am_codec.specs.Reading.{view_at, view_fields_at, entry_at}
@@ -168,9 +169,9 @@ data_ends : (bytes : List ℕ) (at : ℕ) (entry : Entry) → IsBytes bytes → 
 unfolding data_at entry_bytes
 data_ends bytes at entry fits tag read =
     let g = passed _ (number_at bytes (at + 2) >>= λ req. Ok (Data (slice_index bytes (at + 1)) req (drop (at + 6) bytes))) (BadField 10) entry read in
-    let h = and_parts (leb (at + 6) (length bytes)) (leb (length bytes) (at + 1030)) g.0 in
+    let h = and_parts (leb (at + 6) (length bytes)) (leb (length bytes) (at + most_entry)) g.0 in
     let low : at + 6 ≤ length bytes = leb-true _ _ h.0 in
-    let high : length bytes ≤ at + 1030 = leb-true _ _ h.1 in
+    let high : length bytes ≤ at + most_entry = leb-true _ _ h.1 in
     let a = bind_ok (number_at bytes (at + 2)) (λ req. Ok (Data (slice_index bytes (at + 1)) req (drop (at + 6) bytes))) entry g.1 in
     let from = byte_takes bytes (at + 1) (at + 2) (omega arith) (omega arith) in
     let req = number_takes bytes (at + 2) (at + 6) a.0 (omega arith) fits low a.1 in
@@ -309,7 +310,7 @@ entry_again bytes at (Data from req body) h long within parts =
     rw (
       peek_first bytes _ at h,
       le-leb (at + 6) (length bytes) (omega arith),
-      le-leb (length bytes) (at + 1030) (omega arith),
+      le-leb (length bytes) (at + most_entry) (omega arith),
       number_again bytes _ (at + 2) req (later bytes _ at 2 h) within,
       peek bytes _ at 1 h,
       later bytes _ at 6 h,

@@ -6,7 +6,7 @@ use Rattle.byteorder.specs.Endian.{big_number}
 use Rattle.am_base.specs.Names.{are_parts}
 use Rattle.am_codec.specs.declared.kind.Kind.{Kind}
 use Rattle.am_codec.specs.declared.kind.Kind.TheVariants as kinds
-use Rattle.am_codec.specs.Kinds.{is_total}
+use Rattle.am_codec.specs.Kinds.{is_total, most_entry}
 
 -- a field's offset, and whether its value may stand there
 pub record Field : Type 0 where
@@ -60,7 +60,7 @@ vote_fields bytes at = number_field bytes at ∷ number_field bytes (at + 5) ∷
 -- an entry's tag, then a total that the tag can have, then the tag's fields
 abbrev pub entry_fields : List ℕ → ℕ → List Field
 entry_fields bytes at =
-    if slice_index bytes at == 1 then field 10 (nat_le (at + 6) (length bytes) && nat_le (length bytes) (at + 1030)) ∷ number_field bytes (at + 2) ∷ []
+    if slice_index bytes at == 1 then field 10 (nat_le (at + 6) (length bytes) && nat_le (length bytes) (at + most_entry)) ∷ number_field bytes (at + 2) ∷ []
     else if slice_index bytes at == 2 then field 10 (length bytes == at + 2) ∷ []
     else if slice_index bytes at == 3 then field 10 (length bytes == at + 2) ∷ []
     else if slice_index bytes at == 4 then field 10 (length bytes == at + 17) ∷ number_field bytes (at + 1) ∷ set_field bytes (at + 6)

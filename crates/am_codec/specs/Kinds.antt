@@ -46,24 +46,37 @@ kind_at n =
     else if n == 18 then Some kinds.HandOver
     else None
 
+-- The most bytes of a Request and of a Spread, 24 before a body's; of an entry, 6 before a body's; and the most that the count in a packet
+-- can tell.
+abbrev pub most_request : ℕ
+most_request = 1048
+
+abbrev pub most_entry : ℕ
+most_entry = 1030
+
+abbrev pub most_counted : ℕ
+most_counted = 65535
+
 -- the least and the greatest number of bytes of a kind
 abbrev pub totals : Kind → ℕ × ℕ
-totals kinds.Request = (24, 1048)
-totals kinds.Spread = (24, 1048)
-totals kinds.Bcast = (25, 65535)
+totals kinds.Request = (24, most_request)
+totals kinds.Spread = (24, most_request)
+totals kinds.Bcast = (25, most_counted)
 totals kinds.Order = (29, 29)
 totals kinds.Accept = (25, 25)
 totals kinds.Ack = (20, 20)
 totals kinds.Nack = (20, 20)
 totals kinds.Hold = (24, 24)
+-- of joins and leaves
 totals kinds.JoinAsk = (12, 12)
 totals kinds.Welcome = (238, 238)
 totals kinds.LeaveAsk = (20, 20)
 totals kinds.Gone = (16, 16)
+-- of ballots and of catching up
 totals kinds.Invite = (12, 12)
 totals kinds.Vote = (35, 35)
 totals kinds.Fetch = (16, 16)
-totals kinds.Piece = (21, 65535)
+totals kinds.Piece = (21, most_counted)
 totals kinds.Result = (31, 31)
 totals kinds.HandOver = (12, 12)
 

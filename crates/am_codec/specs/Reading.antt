@@ -1,7 +1,7 @@
 -- What bytes spell, or the first cause that they are no packet.
 use Rattle.std.specs.Prelude.{ℕ, zero, suc, ◌+◌, List, [], ◌∷◌, length, drop, min, Bool, true, false, not, ◌==◌, ◌&&◌, nat_lt, nat_le, if◌then◌else◌, Option}
 use Rattle.std.specs.Prelude.{Some, None, Result, Ok, Err, slice_index}
-use Rattle.am_base.specs.Most.{most_number}
+use Rattle.am_base.specs.Most.{most_number, most_word}
 use Rattle.byteorder.specs.Endian.{big_number}
 use Rattle.am_base.specs.declared.name.Stamp.{Stamp}
 use Rattle.am_base.specs.declared.image.Row.{Row}
@@ -17,7 +17,7 @@ use Rattle.am_codec.specs.declared.refusal.PacketRefusal.{PacketRefusal}
 use Rattle.am_codec.specs.declared.refusal.PacketRefusal.TheVariants.{Short, BadMark, BadVersion, BadKind, BadLength, BadField}
 use Rattle.am_codec.specs.declared.kind.Kind.{Kind}
 use Rattle.am_codec.specs.declared.kind.Kind.TheVariants as kinds
-use Rattle.am_codec.specs.Kinds.{kind_at, is_total}
+use Rattle.am_codec.specs.Kinds.{kind_at, is_total, most_entry}
 
 abbrev pub Read : Type 0 → Type 0
 Read A = Result A PacketRefusal
@@ -97,7 +97,7 @@ vote_at bytes at = do
 -- the entries of each tag; a total that the tag can't have comes before its fields
 unfoldable pub data_at : List ℕ → ℕ → Read Entry
 data_at bytes at =
-    if nat_le (at + 6) (length bytes) && nat_le (length bytes) (at + 1030)
+    if nat_le (at + 6) (length bytes) && nat_le (length bytes) (at + most_entry)
     then (number_at bytes (at + 2) >>= λ req. Ok (Data (slice_index bytes (at + 1)) req (drop (at + 6) bytes)))
     else Err (BadField 10)
 
@@ -178,7 +178,7 @@ total_in bytes = big_number 2 (drop 10 bytes)
 
 -- how many bytes there are, as far as a refusal can tell
 abbrev pub found_in : List ℕ → ℕ
-found_in bytes = min (length bytes) 4294967295
+found_in bytes = min (length bytes) most_word
 
 -- the stamp's round, then the total of the kind, then the fields
 unfoldable pub fields_at : Kind → List ℕ → Read Packet

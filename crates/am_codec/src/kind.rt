@@ -1,6 +1,12 @@
 ghost use Rattle.std.specs.Prelude.{◌≡◌};
 ghost use Rattle.am_codec.specs.Kinds.{kind_at, totals, is_total};
 
+/// The most bytes of a Request and of a Spread: 24 before a body's.
+const MOST_REQUEST: usize = 1_048;
+
+/// The most bytes that the count in a packet can tell.
+const MOST_COUNTED: usize = 65_535;
+
 /// The kinds of packets.
 #[derive(Clone, Copy)]
 pub enum Kind {
@@ -58,8 +64,8 @@ impl Kind {
         ensures { result ≡ totals self }
     {
         match self {
-            Kind::Request | Kind::Spread => (24, 1048),
-            Kind::Bcast => (25, 65535),
+            Kind::Request | Kind::Spread => (24, MOST_REQUEST),
+            Kind::Bcast => (25, MOST_COUNTED),
             Kind::Order => (29, 29),
             Kind::Accept => (25, 25),
             Kind::Ack | Kind::Nack | Kind::LeaveAsk => (20, 20),
@@ -68,7 +74,7 @@ impl Kind {
             Kind::Welcome => (238, 238),
             Kind::Gone | Kind::Fetch => (16, 16),
             Kind::Vote => (35, 35),
-            Kind::Piece => (21, 65535),
+            Kind::Piece => (21, MOST_COUNTED),
             Kind::Result => (31, 31),
         }
     }

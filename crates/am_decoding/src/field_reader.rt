@@ -1,5 +1,5 @@
 ghost use Rattle.std.specs.Prelude.{◌≡◌, ◌+◌, ◌≤◌, ◌<◌, ◌==◌, true, false, IfOk, IfErr, length, drop, slice_index};
-ghost use Rattle.am_base.specs.Most.{most_body};
+ghost use Rattle.am_base.specs.Most.{most_body, most_packet};
 ghost use Rattle.am_codec.specs.Reading.{number_at, report_at, stamp_at, set_at, resilience_at, flag_at, life_at, row_at, rows_at, image_at, vote_at, entry_at, data_at, view_at, view_fields_at};
 
 use am_base::body::BodyRef;
@@ -37,7 +37,7 @@ pub fn name(bytes: &[u8], at: u32) -> Name
 #[tactic(auto, unfolding(am_codec::specs::Reading::report_at))]
 pub fn report(bytes: &[u8], at: u32) -> Result<Report, PacketRefusal>
     requires long { at + 8 ≤ length bytes.now }
-    requires small { at < 1000 }
+    requires small { at < most_packet }
     ensures { result ≡ report_at bytes.now at }
 {
     read!(bytes, Report { stored: number @ at, taken: number @ at + 4 })
@@ -47,7 +47,7 @@ pub fn report(bytes: &[u8], at: u32) -> Result<Report, PacketRefusal>
 #[tactic(auto, unfolding(am_codec::specs::Reading::stamp_at))]
 pub fn stamp(bytes: &[u8], at: u32) -> Result<Stamp, PacketRefusal>
     requires long { at + 5 ≤ length bytes.now }
-    requires small { at < 1000 }
+    requires small { at < most_packet }
     ensures { result ≡ stamp_at bytes.now at }
 {
     let by = name(bytes, at + 4);
@@ -58,7 +58,7 @@ pub fn stamp(bytes: &[u8], at: u32) -> Result<Stamp, PacketRefusal>
 #[tactic(auto, unfolding(am_codec::specs::Reading::set_at))]
 pub fn set(bytes: &[u8], at: u32) -> Result<Names, PacketRefusal>
     requires long { at + 10 ≤ length bytes.now }
-    requires small { at < 1000 }
+    requires small { at < most_packet }
     ensures { result ≡ set_at bytes.now at }
 {
     let mask = BigEndian::read_u16(&bytes[at as usize..]);
@@ -112,7 +112,7 @@ fn life(bytes: &[u8], at: u32, joined: u32) -> Result<u8, PacketRefusal>
 #[tactic(auto, unfolding(am_codec::specs::Reading::row_at))]
 fn row(bytes: &[u8], at: u32) -> Result<Row, PacketRefusal>
     requires long { at + 13 ≤ length bytes.now }
-    requires small { at < 1000 }
+    requires small { at < most_packet }
     ensures { result ≡ row_at bytes.now at }
 {
     let joined = number(bytes, at + 1)?;

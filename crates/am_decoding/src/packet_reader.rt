@@ -4,7 +4,7 @@
 ghost use Rattle.std.specs.Prelude.{◌≡◌, ◌≤◌, length, Ok};
 ghost use Rattle.am_packet.specs.declared.packet.Packet.TheVariants as packets;
 ghost use Rattle.am_codec.specs.declared.kind.Kind.TheVariants as kinds;
-ghost use Rattle.am_codec.specs.Kinds.{least_total, most_total};
+ghost use Rattle.am_codec.specs.Kinds.{least_total, most_total, most_request};
 ghost use Rattle.am_codec.specs.Reading.{packet_at};
 
 use crate::field_reader::{body, entry, flag, image, name, number, report, resilience, set, vote};
@@ -16,7 +16,7 @@ use am_packet::packet::Packet;
 #[inline(never)]
 fn request(sender: Name, stamp: Stamp, bytes: &[u8]) -> Result<Packet<'_>, PacketRefusal>
     requires least { 24 ≤ length bytes.now }
-    requires most { length bytes.now ≤ 1048 }
+    requires most { length bytes.now ≤ most_request }
     ensures { result ≡ packet_at kinds.Request sender stamp bytes.now }
 {
     let body = body(bytes, 24);
@@ -26,7 +26,7 @@ fn request(sender: Name, stamp: Stamp, bytes: &[u8]) -> Result<Packet<'_>, Packe
 #[inline(never)]
 fn spread(sender: Name, stamp: Stamp, bytes: &[u8]) -> Result<Packet<'_>, PacketRefusal>
     requires least { 24 ≤ length bytes.now }
-    requires most { length bytes.now ≤ 1048 }
+    requires most { length bytes.now ≤ most_request }
     ensures { result ≡ packet_at kinds.Spread sender stamp bytes.now }
 {
     let body = body(bytes, 24);

@@ -2,6 +2,7 @@ ghost use Rattle.std.specs.Prelude.{◌≡◌, ◌+◌, ◌≤◌, ◌<◌, ◌+
 ghost use Rattle.am_base.specs.Most.{most_body, most_packet};
 ghost use Rattle.byteorder.specs.Endian.{big_bytes};
 ghost use Rattle.am_base.specs.Names.{IsSet};
+ghost use Rattle.am_codec.specs.Kinds.{most_entry};
 ghost use Rattle.am_codec.specs.Limits.{IsWithin, IsPacket, HasParts, HasEntryParts};
 ghost use Rattle.am_codec.specs.Spelling.{spelling, header, fields_of, two_bytes, entry_bytes, image_bytes, vote_bytes, rows_bytes, row_bytes, set_bytes, report_bytes, stamp_bytes, flag_byte, sender_of, stamp_of};
 
@@ -158,7 +159,7 @@ fn set_len(set: Names) -> usize
 #[tactic(auto, unfolding(am_codec::specs::Spelling::entry_bytes))]
 fn entry_len(entry: &EntryRef) -> usize
     ensures value { result ≡ length (entry_bytes entry.now) }
-    ensures fits { result ≤ 1030 }
+    ensures fits { result ≤ most_entry }
     ensures parts { HasEntryParts entry.now }
 {
     match entry.parts() {

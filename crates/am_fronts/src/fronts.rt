@@ -132,6 +132,7 @@ impl Fronts {
 
     /// The least that the names of a set have stored, and the least that they have taken.
     #[tactic(auto, using(crate::proofs::ReportLaws::least_laws))]
+    #[inline(always)]
     fn least(&self, set: Names) -> (Option<u32>, Option<u32>)
         ensures stored { result.0 ≡ least_stored (reports_of self.now) set }
         ensures taken { result.1 ≡ least_taken (reports_of self.now) set }

@@ -1,4 +1,4 @@
-ghost use Rattle.std.specs.Prelude.{◌≡◌, ◌+◌, ◌*◌, ◌<◌, ◌≤◌, ◌++◌, ◌∷◌, [], length, OnOk, true, vec_len, vec_capacity, slice_get};
+ghost use Rattle.std.specs.Prelude.{◌≡◌, ◌+◌, ◌*◌, ◌<◌, ◌≤◌, ◌++◌, ◌∷◌, [], length, OnOk, IfOk, true, vec_len, vec_capacity, slice_get};
 ghost use Rattle.std.specs.Option.{option_copied};
 ghost use Rattle.am_base.specs.Most.{most_events};
 ghost use Rattle.am_group.specs.Journals.{letters_of, letter_at, letter_of, item_at, places_of};
@@ -50,6 +50,20 @@ impl Journal {
         }
     }
 
+    /// The same with room for so many records, beside that for their letters. It is an error where there is no memory for them.
+    pub fn with_room(alloc: Global, founding: &Founding, most: usize) -> Result<Journal, NoMemory>
+        ensures founding { IfOk result (λ journal. journal.founding ≡ founding.now) }
+        ensures records { IfOk result (λ journal. journal.records ≡ []) }
+    {
+        let mut records = Vec::new(alloc);
+        records.reserve_exact(most)?;
+        Ok(Journal {
+            founding: *founding,
+            records,
+            places: Vec::new(alloc),
+        })
+    }
+
     /// How the group began.
     pub fn founding(&self) -> &Founding
         ensures { result.now ≡ self.now.founding }
@@ -76,15 +90,8 @@ impl Journal {
         self.places.reserve(24)
     }
 
-    /// Makes room for so many records more, beside their letters, and changes nothing else.
-    pub fn reserve_records(&mut self, more: usize) -> Result<(), NoMemory>
-        ensures founding { self.new.founding ≡ self.old.founding }
-        ensures records { self.new.records ≡ self.old.records }
-    {
-        Ok(self.records.reserve_exact(more)?)
-    }
-
     /// Adds a record at the end. It takes no memory.
+    #[inline(always)]
     pub fn push(&mut self, item: Record)
         requires room { self.old.has_room ≡ true }
         requires few { length self.old.records < most_events }

@@ -11,25 +11,43 @@ use am_base::names::Names;
 use am_packet::packet::Packet;
 use std::alloc::Global;
 use std::marker::Model;
+use std::mem;
 
 /// The most letters of one step.
 const MOST_LETTERS: usize = 24;
 
-/// Rooms for the letters of a step to come: as many as an earlier one left.
+/// What an out box keeps: its letters, room for one that is alone, and rooms for the bytes of those to come.
 #[derive(Drop)]
-pub struct Rooms {
+struct Kept {
     letters: Vec<Letter>,
     single: Vec<Letter>,
     rooms: Vec<PacketBytes>,
 }
 
+/// Rooms for the letters of a step to come: as many as an earlier one left.
+#[derive(Drop)]
+pub struct Rooms {
+    kept: Option<Box<Kept>>,
+}
+
 impl Rooms {
     /// No rooms.
-    pub fn new(alloc: Global) -> Rooms {
-        Rooms {
-            letters: Vec::new(alloc),
-            single: Vec::new(alloc),
-            rooms: Vec::new(alloc),
+    pub fn new() -> Rooms {
+        Rooms { kept: None }
+    }
+
+    /// What they keep, in a place apart, which is made where there was none.
+    fn into_kept(self, alloc: Global) -> Result<Box<Kept>, NoMemory> {
+        match self.kept {
+            Some(kept) => Ok(kept),
+            None => Ok(Box::new(
+                alloc,
+                Kept {
+                    letters: Vec::new(alloc),
+                    single: Vec::new(alloc),
+                    rooms: Vec::new(alloc),
+                },
+            )?),
         }
     }
 }
@@ -59,9 +77,7 @@ fn has_nobody(set: Names) -> bool
 /// it mostly is: the large room then stays. Contracts see it as their list.
 #[derive(Drop)]
 pub struct OutBox {
-    letters: Vec<Letter>,
-    single: Vec<Letter>,
-    rooms: Vec<PacketBytes>,
+    kept: Box<Kept>,
 }
 
 impl Model for OutBox {
@@ -70,10 +86,11 @@ impl Model for OutBox {
 
     ghost Value = { List boxes.Letter };
 
-    ghost view = { λ b. b.letters.items };
+    ghost view = { λ b. b.kept.value.letters.items };
 
-    ghost invariant = { λ b. (length b.letters.items ≤ 24) × (24 ≤ vec_capacity b.letters) × (24 ≤ length b.letters.items + vec_len b.rooms)
-        × (b.single.items ≡ []) × (vec_len b.single < vec_capacity b.single) };
+    ghost invariant = { λ b. (length b.kept.value.letters.items ≤ 24) × (24 ≤ vec_capacity b.kept.value.letters)
+        × (24 ≤ length b.kept.value.letters.items + vec_len b.kept.value.rooms)
+        × (b.kept.value.single.items ≡ []) × (vec_len b.kept.value.single < vec_capacity b.kept.value.single) };
 }
 
 impl OutBox {
@@ -81,28 +98,21 @@ impl OutBox {
     pub fn new(alloc: Global) -> Result<OutBox, NoMemory>
         ensures { IfOk result (λ b. b ≡ []) }
     {
-        OutBox::over(alloc, Rooms::new(alloc))
+        OutBox::over(alloc, Rooms::new())
     }
 
     /// An empty box over rooms that are there. It is an error where there is no memory for those that 24 letters still want.
+    #[inline(always)]
     pub fn over(alloc: Global, rooms: Rooms) -> Result<OutBox, NoMemory>
         ensures { IfOk result (λ b. b ≡ []) }
     {
-        let Rooms {
-            mut letters,
-            mut single,
-            mut rooms,
-        } = rooms;
-        letters.clear();
-        letters.reserve(MOST_LETTERS)?;
-        single.clear();
-        single.reserve_exact(1)?;
-        fill(alloc, &mut rooms)?;
-        Ok(OutBox {
-            letters,
-            single,
-            rooms,
-        })
+        let mut kept = rooms.into_kept(alloc)?;
+        kept.letters.clear();
+        kept.letters.reserve(MOST_LETTERS)?;
+        kept.single.clear();
+        kept.single.reserve_exact(1)?;
+        fill(alloc, &mut kept.rooms)?;
+        Ok(OutBox { kept })
     }
 
     /// The letters in their order.
@@ -110,42 +120,24 @@ impl OutBox {
         ensures value { result.now ≡ self.now }
         ensures few { length result.now ≤ 24 }
     {
-        self.letters.as_slice()
+        self.kept.letters.as_slice()
     }
 
     /// The letters in their order, and the rooms that they don't take.
+    #[inline(always)]
     pub fn into_letters(self, alloc: Global) -> (Items<Letter>, Rooms)
         ensures { result.0 ≡ self }
     {
-        let OutBox {
-            mut letters,
-            mut single,
-            rooms,
-        } = self;
-        if letters.len() > 1 {
+        let mut kept = self.kept;
+        let mut letters = Vec::new(alloc);
+        if kept.letters.len() > 1 {
+            letters = mem::replace(&mut kept.letters, letters);
             letters.shrink_to_fit();
-            let left = Rooms {
-                letters: Vec::new(alloc),
-                single,
-                rooms,
-            };
-            return (Items::of(letters), left);
+        } else if let Some(letter) = kept.letters.pop() {
+            letters = mem::replace(&mut kept.single, letters);
+            letters.push_reserved(letter);
         }
-        if let Some(letter) = letters.pop() {
-            single.push_reserved(letter);
-            let left = Rooms {
-                letters,
-                single: Vec::new(alloc),
-                rooms,
-            };
-            return (Items::of(single), left);
-        }
-        let left = Rooms {
-            letters,
-            single,
-            rooms,
-        };
-        (Items::new(alloc), left)
+        (Items::of(letters), Rooms { kept: Some(kept) })
     }
 
     /// How many letters are of this kind or a lower one, which come first.
@@ -153,7 +145,8 @@ impl OutBox {
         ensures value { result ≡ place_for kind self.now }
         ensures fits { result ≤ length self.now }
     {
-        self.letters
+        self.kept
+            .letters
             .as_slice()
             .iter()
             .take_while(|letter| letter.kind() <= kind)
@@ -170,8 +163,8 @@ impl OutBox {
             return;
         }
         let at = self.place_for(packet.kind());
-        let letter = Letter::over(to, packet, &mut self.rooms);
-        match self.letters.insert(at, letter) {
+        let letter = Letter::over(to, packet, &mut self.kept.rooms);
+        match self.kept.letters.insert(at, letter) {
             Ok(()) => {}
             Err(_) => unreachable!(),
         }

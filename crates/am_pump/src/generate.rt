@@ -8,8 +8,8 @@ use am_world::world::{World, WorldRefusal};
 use std::alloc::Global;
 
 /// The group of a seed after so many events: four members, of whose letters ten of a hundred are lost and five repeated
-/// (docs/PROTOCOL.md, "Generated runs"). NoMemory where there was no memory for an event, Spent only where there are to be
-/// more than 100,000.
+/// (docs/PROTOCOL.md, "Generated runs"). NoMemory where there was no memory for its records or for an event, Spent only where
+/// there are to be more than 100,000.
 pub fn generate(alloc: Global, seed: u64, count: u32) -> Result<World, WorldRefusal>
     ensures world { IfOk result (λ world. world
         ≡ record { rules = generated_rules; events = events_of_seed seed count }) }

@@ -66,8 +66,10 @@ fn counting(alloc: Global, number: usize, size: usize) -> Result<SentBody, NoMem
     ensures { IfOk result (λ body. body ≡ counting number size) }
 {
     let mut bytes = [0; MOST_DRAWN];
-    for index in 0..size {
-        bytes[index] = ((number + index) % 256) as u8;
+    let mut next = (number % 256) as u8;
+    for index in 0..MOST_DRAWN {
+        bytes[index] = next;
+        next = next.wrapping_add(1);
     }
     Ok(SentBody::of_bytes(alloc, &bytes[..size])?)
 }
@@ -141,8 +143,7 @@ impl Generator {
     pub fn new(alloc: Global, seed: u64, count: u32) -> Result<Generator, NoMemory>
         ensures { IfOk result (λ g. g ≡ first_drive seed) }
     {
-        let mut world = World::new(alloc, &founding())?;
-        world.reserve(count as usize)?;
+        let world = World::with_room(alloc, &founding(), count as usize)?;
         Ok(Generator {
             alloc,
             world,

@@ -1,7 +1,7 @@
 -- Callers as contracts see them, and what a blocking call leaves.
 use Rattle.std.specs.Prelude.{◌≡◌, ℕ, ◌+◌, ◌≤◌, ◌<◌, List, [], ◌∷◌, ◌++◌, length, Some, All, true, ◌==◌, slice_get}
 use Rattle.std.specs.List.{list_all}
-use Rattle.am_base.specs.Most.{most_events}
+use Rattle.am_base.specs.Most.{most_events, most_word}
 use Rattle.atomic_table.specs.Seated.{TableId}
 use Rattle.am_base.specs.Names.{place_of}
 use Rattle.am_group.specs.declared.event.Act.{Act}
@@ -46,7 +46,7 @@ pub record HasMade (plan : RacePlan) (number calls : ℕ) (seen : List Record) :
 -- this act is its next planned call, which can be counted
 pub record MayCall (plan : RacePlan) (c : Calling) (a : Act) : Type 0 where
   pub planned : slice_get (calls_of plan c.number) c.calls ≡ Some a
-  pub room : c.calls < 4294967295
+  pub room : c.calls < most_word
 
 -- an answer goes by the records of its call: Stopped by its node's Stop, Spent by the journal's length, NoMemory by nothing
 abbrev pub IsAnswer : ℕ → List Record → List Record → ℕ → Answer → Type 0

@@ -25,6 +25,7 @@ use Rattle.am_script.specs.Values.{value_in, text_in, number_in, number_or, body
 use Rattle.am_script.specs.Events.{kind_in, send_in, reset_in, act_in}
 use Rattle.am_script.specs.Founders.{founding_in}
 use Rattle.am_script.specs.Races.{is_call, call_keys_of, call_kind_in, call_as, call_from, calls_from, thread_keys, parts_of_thread, thread_from}
+use Rattle.am_script.specs.Races.{most_lost, most_repeated, most_turns, most_calls}
 use Rattle.am_script.specs.Races.{each_thread, threads_from, calls_of, records_of, of_right_size, race_keys, parts_of_race, race_from}
 use Rattle.am_script.specs.Limits.{CallWithin, ThreadWithin, RaceWithin}
 use Rattle.am_script.proofs.Steps.{same_ok, ok_then, if_ok, object_ok, both, each_from_within, number_in_within, number_or_within}
@@ -148,26 +149,26 @@ few_threads founding d threads low h = (threads_within founding d threads low h)
 
 record RightSize (plan found : RacePlan) : Type 0 where
   same : plan ≡ found
-  calls : calls_of plan.threads ≤ 1000
+  calls : calls_of plan.threads ≤ most_calls
   records : records_of plan ≤ most_events
 
 right_size : (plan found : RacePlan) → of_right_size plan ≡ Ok found → RightSize plan found
 unfolding of_right_size
-right_size plan found h = if_ok (nat_le (calls_of plan.threads) 1000) _ _ found h
+right_size plan found h = if_ok (nat_le (calls_of plan.threads) most_calls) _ _ found h
     (λ few inner. if_ok (nat_le (records_of plan) most_events) _ _ found inner (λ short is.
-    record { same = same_ok plan found is; calls = leb-true (calls_of plan.threads) 1000 few; records = leb-true (records_of plan) most_events short }))
+    record { same = same_ok plan found is; calls = leb-true (calls_of plan.threads) most_calls few; records = leb-true (records_of plan) most_events short }))
 
 race_parts_within : (d : Data) (plan : RacePlan) → parts_of_race d ≡ Ok plan → RaceWithin plan
 unfolding parts_of_race
 race_parts_within d plan h = ok_then (founding_in d) _ plan h
     (λ founding founded r1. ok_then (number_in key.Seed 0 0 18446744073709551615 d) _ plan r1 (λ seed seeded r2.
-    ok_then (number_or 0 key.Loss 0 0 50 d) _ plan r2 (λ loss lost r3. ok_then (number_or 0 key.Repeat 0 0 40 d) _ plan r3
-    (λ repeat again r4. ok_then (number_or 200 key.Turns 0 1 10000 d) _ plan r4 (λ turns turned r5.
+    ok_then (number_or 0 key.Loss 0 0 most_lost d) _ plan r2 (λ loss lost r3. ok_then (number_or 0 key.Repeat 0 0 most_repeated d) _ plan r3
+    (λ repeat again r4. ok_then (number_or 200 key.Turns 0 1 most_turns d) _ plan r4 (λ turns turned r5.
     ok_then (value_in key.Threads 0 d) _ plan r5 (λ v there r6. ok_then (threads_from founding.resilience v) _ plan r6 (λ threads listed last.
     let may = founding_within d founding founded in
-    let low = number_or_within 0 key.Loss 0 0 50 d loss (omega arith) (omega arith) lost in
-    let back = number_or_within 0 key.Repeat 0 0 40 d repeat (omega arith) (omega arith) again in
-    let many = number_or_within 200 key.Turns 0 1 10000 d turns (omega arith) (omega arith) turned in
+    let low = number_or_within 0 key.Loss 0 0 most_lost d loss (omega arith) (omega arith) lost in
+    let back = number_or_within 0 key.Repeat 0 0 most_repeated d repeat (omega arith) (omega arith) again in
+    let many = number_or_within 200 key.Turns 0 1 most_turns d turns (omega arith) (omega arith) turned in
     let right = threads_within founding.resilience v threads may.resilience_within listed in
     let size_is = right_size _ plan last in
     subst (λ (x : RacePlan). RaceWithin x) size_is.same (record {

@@ -9,7 +9,7 @@ use Rattle.am_group.specs.declared.plan.ThreadPlan.{ThreadPlan}
 use Rattle.am_group.specs.declared.plan.RacePlan.{RacePlan}
 use Rattle.am_script.specs.declared.script.Script.{Script}
 use Rattle.am_script.specs.declared.script.Script.TheVariants.{Play, Race}
-use Rattle.am_script.specs.Races.{calls_of, records_of}
+use Rattle.am_script.specs.Races.{most_lost, most_repeated, most_turns, most_calls, calls_of, records_of}
 
 -- the number of a request, a round or a packet
 abbrev pub IsCount : ℕ → Type 0
@@ -52,14 +52,14 @@ pub record ThreadWithin (thread : ThreadPlan) : Type 0 where
 -- what holds of every race
 pub record RaceWithin (plan : RacePlan) : Type 0 where
   pub may_found : MayFound plan.founding
-  pub loss : plan.loss ≤ 50
-  pub repeat : plan.repeat ≤ 40
+  pub loss : plan.loss ≤ most_lost
+  pub repeat : plan.repeat ≤ most_repeated
   pub some_turns : 0 < plan.turns
-  pub few_turns : plan.turns ≤ 10000
+  pub few_turns : plan.turns ≤ most_turns
   pub some_threads : 0 < length plan.threads
   pub few_threads : length plan.threads ≤ 16
   pub each : All ThreadWithin plan.threads
-  pub few_calls : calls_of plan.threads ≤ 1000
+  pub few_calls : calls_of plan.threads ≤ most_calls
   pub few_records : records_of plan ≤ most_events
 
 abbrev pub ScriptWithin : Script → Type 0

@@ -20,6 +20,24 @@ use Rattle.am_script.specs.Values.{of_object, object_with, each_from, value_in, 
 use Rattle.am_script.specs.Events.{kind_in, act_in}
 use Rattle.am_script.specs.Founders.{founding_in}
 
+-- ---- limits
+
+-- of the letters of a hundred that are lost
+abbrev pub most_lost : ℕ
+most_lost = 50
+
+-- of the letters of a hundred that are repeated
+abbrev pub most_repeated : ℕ
+most_repeated = 40
+
+-- of a call's turns
+abbrev pub most_turns : ℕ
+most_turns = 10000
+
+-- of the calls of a race
+abbrev pub most_calls : ℕ
+most_calls = 1000
+
 -- ---- calls
 
 -- the kinds of events that a thread can call for
@@ -98,9 +116,9 @@ records_of plan = calls_of plan.threads * (plan.turns + 2)
 -- a race with no more calls than there may be, and no more records
 unfoldable pub of_right_size : RacePlan → Read RacePlan
 of_right_size plan =
-    if nat_le (calls_of plan.threads) 1000
+    if nat_le (calls_of plan.threads) most_calls
     then (if nat_le (records_of plan) most_events then Ok plan else Err (OutOfRange key.Threads 0 (records_of plan) 0 most_events))
-    else Err (OutOfRange key.Threads 0 (calls_of plan.threads) 0 1000)
+    else Err (OutOfRange key.Threads 0 (calls_of plan.threads) 0 most_calls)
 
 abbrev pub race_keys : List Key
 race_keys = key.Founders ∷ key.Resilience ∷ key.Window ∷ key.PbUpTo ∷ key.Seed ∷ key.Loss ∷ key.Repeat ∷ key.Turns ∷ key.Threads ∷ []
@@ -110,9 +128,9 @@ unfoldable pub parts_of_race : Data → Read RacePlan
 parts_of_race d = do
   founding ← founding_in d
   seed ← number_in key.Seed 0 0 18446744073709551615 d
-  loss ← number_or 0 key.Loss 0 0 50 d
-  repeat ← number_or 0 key.Repeat 0 0 40 d
-  turns ← number_or 200 key.Turns 0 1 10000 d
+  loss ← number_or 0 key.Loss 0 0 most_lost d
+  repeat ← number_or 0 key.Repeat 0 0 most_repeated d
+  turns ← number_or 200 key.Turns 0 1 most_turns d
   v ← value_in key.Threads 0 d
   threads ← threads_from founding.resilience v
   of_right_size (record { founding = founding; seed_number = seed; loss = loss; repeat = repeat; turns = turns; threads = threads })

@@ -2,7 +2,7 @@ ghost use Rattle.std.specs.Prelude.{◌≡◌, ◌≤◌, ◌<◌, ◌+◌, ◌*
 ghost use Rattle.serde_json.specs.View.{view, items_view};
 ghost use Rattle.am_script.specs.Refusals.{Answers};
 ghost use Rattle.am_script.specs.Values.{each_from};
-ghost use Rattle.am_script.specs.Races.{call_kind_in, call_as, call_from, calls_from, parts_of_thread, thread_from, each_thread, threads_from, calls_of, of_right_size, parts_of_race, race_from};
+ghost use Rattle.am_script.specs.Races.{most_turns, call_kind_in, call_as, call_from, calls_from, parts_of_thread, thread_from, each_thread, threads_from, calls_of, of_right_size, parts_of_race, race_from};
 
 use crate::event::{act, kind};
 use crate::fields::{known, number_in, number_or, object, value_in};
@@ -34,8 +34,17 @@ const RACE_KEYS: [Key; 9] = [
     Key::Threads,
 ];
 
+/// The most letters of a hundred that are lost.
+const MOST_LOST: u64 = 50;
+
+/// The most letters of a hundred that are repeated.
+const MOST_REPEATED: u64 = 40;
+
+/// The most turns of a call.
+const MOST_TURNS: u64 = 10_000;
+
 /// The most calls of a race.
-const MOST_CALLS: u64 = 1000;
+const MOST_CALLS: u64 = 1_000;
 
 /// The kind of a call.
 #[tactic(auto, unfolding(crate::specs::Races::call_kind_in))]
@@ -171,7 +180,7 @@ fn calls_of(threads: &[ThreadPlan]) -> u64
 #[tactic(auto, unfolding(crate::specs::Races::of_right_size))]
 fn of_right_size(plan: RacePlan) -> Read<RacePlan>
     requires threads { length plan.threads ≤ 16 }
-    requires turns { plan.turns ≤ 10000 }
+    requires turns { plan.turns ≤ most_turns }
     ensures { result ≡ of_right_size plan }
 {
     let calls = calls_of(plan.threads.as_slice());
@@ -193,9 +202,9 @@ fn parts(alloc: Global, value: &Value) -> Read<RacePlan>
 {
     let founding = founding(value)?;
     let seed_number = number_in(value, Key::Seed, 0, 0, u64::MAX)?;
-    let loss = number_or(0, value, Key::Loss, 0, 0, 50)?;
-    let repeat = number_or(0, value, Key::Repeat, 0, 0, 40)?;
-    let turns = number_or(200, value, Key::Turns, 0, 1, 10_000)?;
+    let loss = number_or(0, value, Key::Loss, 0, 0, MOST_LOST)?;
+    let repeat = number_or(0, value, Key::Repeat, 0, 0, MOST_REPEATED)?;
+    let turns = number_or(200, value, Key::Turns, 0, 1, MOST_TURNS)?;
     let list = value_in(value, Key::Threads, 0)?;
     let threads = threads(alloc, list, founding.resilience())?;
     of_right_size(RacePlan {

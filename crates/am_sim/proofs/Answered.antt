@@ -1,13 +1,108 @@
--- What a race's text is.
-use Rattle.std.proofs.Common.{◌≡◌, ℕ, List, Ok}
+-- What a script's text is.
+use Rattle.std.proofs.Common.{◌≡◌, ℕ, ◌≤◌, List, [], ◌∷◌, ◌++◌, length, Bool, true, false, Option, Some, None, append-nil, subst, Ok, ◌∙◌, sym, ap, refl, arith}
+use Rattle.std.specs.Io.KnownBytes.{Consumes}
+use Rattle.am_io.specs.Outside.{ReadToEnd, GaveAtMost}
+use Rattle.am_base.specs.Founding.{Rules, MayFound}
+use Rattle.am_group.specs.declared.event.Event.{Event}
 use Rattle.am_group.specs.declared.plan.RacePlan.{RacePlan}
-use Rattle.am_script.specs.declared.script.Script.TheVariants.{Race}
+use Rattle.am_play.specs.World.{run}
+use Rattle.am_play.specs.Lawful.{Watch, watch_start, watch, watch_all, watch_run}
+use Rattle.am_play.specs.Play.{watched_text, text_of, summary_text_of}
+use Rattle.am_play.specs.Settle.{settle_events}
+use Rattle.am_play.proofs.Runs.{watched_is_run}
+use Rattle.am_headline.proofs.Fitted.{views_fit}
+use Rattle.am_headline.proofs.Holds.{headline_holds}
+use Rattle.am_sent.proofs.Runs.{sent_holds}
+use Rattle.am_unballoted.proofs.Holds.{unballoted_holds}
+use Rattle.am_repaired.proofs.Settled.{settled_is_repaired}
+use Rattle.am_pump.specs.Generating.{generated_rules, events_of_seed}
+use Rattle.am_pump.proofs.Rules.{may_found}
+use Rattle.am_words.specs.declared.form.Numbers.{Numbers}
+use Rattle.am_script.specs.declared.script.Script.{Script}
+use Rattle.am_script.specs.declared.script.Script.TheVariants.{Play, Race}
 use Rattle.am_script.specs.declared.key.Key.TheVariants as key
 use Rattle.am_script.specs.Scripts.{reading}
-use Rattle.am_script.specs.Limits.{RaceWithin}
-use Rattle.am_runs.proofs.Answered.{keeps_all}
+use Rattle.am_script.specs.Limits.{ScriptWithin, RaceWithin}
+use Rattle.am_sim.specs.Playing.{done_of, IsRunText}
 use Rattle.am_sim.specs.Racing.{events_of, IsRaceText}
-use Rattle.am_sim.specs.Simulation.{Raced}
+use Rattle.am_sim.specs.Simulation.{Keeps, Repaired, Played, Generated, Raced, IsText, run_text}
+
+-- ---- a run that is settled behind its own events
+
+watched_then : (s : Watch) (xs ys : List Event) → watch_all s (xs ++ ys) ≡ watch_all (watch_all s xs) ys
+unfolding watch_all
+watched_then s [] ys = refl
+watched_then s (x ∷ xs) ys = watched_then (watch s x) xs ys
+
+-- its text is that of all that was done
+text_is : (rules : Rules) (events : List Event) (settles : Bool) → text_of rules (done_of rules events settles) ≡ run_text rules events settles
+text_is rules events false = refl
+text_is rules events true =
+    let s = watch_run rules events in
+    let world = watched_is_run rules events in
+    ap (watched_text rules) (watched_then (watch_start rules) events (settle_events rules (run rules events))
+    ∙ ap (λ w. watch_all s (settle_events rules w)) (sym world))
+
+-- each run keeps what is claimed
+pub keeps_all : (rules : Rules) (events : List Event) → MayFound rules → Keeps rules events
+keeps_all rules events may = record {
+  headline = headline_holds rules events may;
+  fits = λ name. views_fit rules events name may;
+  sent = sent_holds rules events may;
+  unballoted = λ none. unballoted_holds rules events may none;
+}
+
+-- a run that is settled is repaired
+repaired : (rules : Rules) (events : List Event) → MayFound rules → Repaired rules events
+repaired rules events may place low repair name member = settled_is_repaired rules events place may low repair name member
+
+pub played_by : (bytes text : List ℕ) (script : Script) → reading key.Play bytes ≡ Ok script → ScriptWithin script → IsText script text → Played bytes text
+unfolding IsRunText
+played_by bytes text (Play founding events settles) is within same =
+    let may = within.may_found in
+    let done = done_of founding events settles in
+    record {
+      founding = founding;
+      events = events;
+      settles = settles;
+      script = is;
+      written = same.0 ∙ text_is founding events settles;
+      few = same.1;
+      keeps = keeps_all founding done may;
+      repaired = λ _settled. repaired founding events may;
+    }
+played_by bytes text (Race plan) is within same = absurd same
+
+-- ---- a generated run
+
+pub generated_by : (numbers : Numbers) (text : List ℕ) → text ≡ summary_text_of generated_rules (events_of_seed numbers.seed numbers.count)
+    → length (events_of_seed numbers.seed numbers.count) ≡ numbers.count → Generated numbers text
+generated_by numbers text is many =
+    let done = events_of_seed numbers.seed numbers.count in
+    record {
+      written = is;
+      count = many;
+      keeps = keeps_all generated_rules done may_found;
+    }
+
+-- ---- what was given
+
+-- what was read whole was given
+pub gave_whole : (limit : ℕ) (before after : Option (List ℕ)) (bytes : List ℕ) → ReadToEnd before after bytes → length bytes ≤ limit
+    → GaveAtMost limit before after
+gave_whole limit (Some left) after bytes whole few = (bytes, subst (λ a. Consumes (Some left) a bytes) (sym whole.1) (whole.0 ∙ sym (append-nil bytes)), few)
+gave_whole limit None after bytes whole few = (bytes, tt, few)
+
+-- what was written is a text of what was read
+pub written_of : (Is : List ℕ → List ℕ → Type 0) (Wrote : List ℕ → Type 0) (before after : Option (List ℕ)) (items bytes text written : List ℕ)
+    → ReadToEnd before after items → bytes ≡ items → Is bytes text → written ≡ text → Wrote written
+    → (t : List ℕ) × ((b : List ℕ) × ReadToEnd before after b × Is b t) × Wrote t
+written_of Is Wrote before after items bytes text written whole same is shown wrote =
+    (text, (bytes, subst (ReadToEnd before after) (sym same) whole, is), subst Wrote shown wrote)
+
+pub gave_none : (limit : ℕ) (left : Option (List ℕ)) → GaveAtMost limit left left
+gave_none limit (Some left) = ([], refl, omega arith)
+gave_none limit None = ([], tt, omega arith)
 
 pub raced_by : (bytes text : List ℕ) (plan : RacePlan) → reading key.Race bytes ≡ Ok (Race plan) → RaceWithin plan → IsRaceText plan text → Raced bytes text
 raced_by bytes text plan is within (journal, raced, same) = record {

@@ -1,2 +1,5 @@
 mod Answered
+mod Done
+mod Names
 mod Raced
+mod Texts

@@ -1,3 +1,4 @@
+pub mod Playing
 pub mod Racing
 pub mod Simulation
 pub mod Telling

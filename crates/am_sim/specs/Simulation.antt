@@ -1,15 +1,193 @@
 -- What a call of the program did.
-use Rattle.std.specs.Prelude.{◌≡◌, ℕ, List, Option, Some, Ok}
+use Rattle.std.specs.Prelude.{◌≡◌, ℕ, ◌<◌, ◌≤◌, true, List, length, map, take, Option, Some, Ok, Err, Bool, if◌then◌else◌}
+use Rattle.std.specs.Borrow.{Bor}
+use Rattle.std.specs.Io.KnownBytes.{Appends}
+use Rattle.am_base.specs.Most.{most_events}
+use Rattle.am_base.specs.Founding.{Rules}
+use Rattle.am_base.specs.Names.{has}
+use Rattle.am_group.specs.declared.event.Event.{Event}
 use Rattle.am_group.specs.declared.event.Record.{Record}
 use Rattle.am_group.specs.declared.plan.RacePlan.{RacePlan}
+use Rattle.am_model.specs.Node.{top, members}
+use Rattle.am_play.specs.World.{current, run}
+use Rattle.am_play.specs.Play.{text_of, settled_text_of, summary_text_of}
+use Rattle.am_play.specs.Claims.{Headline, FitsView, Sent, NoBallot, HoldsUnballoted, MayRepair, HasCaughtUp}
+use Rattle.am_play.specs.Lawful.{lawful_front}
 use Rattle.am_script.specs.Scripts.{reading}
+use Rattle.am_script.specs.declared.key.Key.{Key}
 use Rattle.am_script.specs.declared.key.Key.TheVariants as key
-use Rattle.am_script.specs.declared.script.Script.TheVariants.{Race}
+use Rattle.am_script.specs.declared.refusal.ScriptRefusal.{ScriptRefusal}
+use Rattle.am_sim.specs.declared.alone.Unplayed.{Unplayed}
+use Rattle.am_sim.specs.declared.alone.Unplayed.TheVariants as unplayed
+use Rattle.am_world.specs.declared.world.WorldRefusal.{WorldRefusal}
+use Rattle.am_world.specs.declared.world.WorldRefusal.TheVariants as refusals
+use Rattle.am_sim.specs.Playing.{done_of, IsRunText, IsLong}
 use Rattle.am_sim.specs.Racing.{events_of, race_text, IsRaced}
-use Rattle.am_io.specs.Outside.{ReadToEnd}
-use Rattle.am_runs.specs.Simulation.{Keeps, IsPlayed, IsSummary}
+use Rattle.am_io.specs.Outside.{next, ReadToEnd}
+use Rattle.am_pump.specs.Generating.{generated_rules, events_of_seed}
+use Rattle.am_words.specs.Forms.{form_of}
 use Rattle.am_words.specs.declared.form.Form.{Form}
 use Rattle.am_words.specs.declared.form.Form.TheVariants as form
+use Rattle.am_words.specs.declared.form.Numbers.{Numbers}
+use Rattle.am_script.specs.declared.script.Script.{Script}
+use Rattle.am_script.specs.declared.script.Script.TheVariants.{Play, Race}
+use Rattle.am_sim.specs.declared.status.Status.{Status}
+use Rattle.am_sim.specs.declared.status.Status.TheVariants.{Done, Usage, BadScript, TooLong, ReadFault, WriteFault, NoMemory, Spent}
+
+-- the most bytes of an input
+abbrev pub most_input : ℕ
+most_input = 16777216
+
+-- the form of words
+abbrev pub form_of_words : List (Bor (List ℕ)) → Option Form
+form_of_words words = form_of (map (λ word. word.now) words)
+
+-- the text of a script's run, which is settled behind its own events where that is asked for
+abbrev pub run_text : Rules → List Event → Bool → List ℕ
+run_text rules events settles = if settles then settled_text_of rules events else text_of rules events
+
+-- What is claimed of every run: the headline, which is up to its lawful front, and that no node ever kept more than it may; and that up to there a
+-- View which leaves somebody out fits each node. Besides, of the whole run, whoever stops: everything in the one group list was sent before it
+-- stood there; and where nobody began a ballot, all but what the headline says of complete views.
+pub record Keeps (rules : Rules) (events : List Event) : Type 0 where
+  pub headline : Headline rules events
+  pub fits : (name : ℕ) → FitsView rules ((run rules (lawful_front rules events)).nodes name)
+  pub sent : Sent rules events
+  pub unballoted : NoBallot (run rules events) → HoldsUnballoted rules events
+
+-- Where a run's group may be repaired, the events that settle the run bring each member of the sequencer's list to where the sequencer stood: it has
+-- stored all up to there, and knows it to be accepted.
+abbrev pub Repaired : Rules → List Event → Type 0
+Repaired rules events = (place : ℕ) → place < 16 → MayRepair (run rules events) place
+    → (name : ℕ) → has (members ((run rules events).nodes (current (run rules events) place))) name ≡ true
+    → HasCaughtUp ((run rules (done_of rules events true)).nodes name) (top ((run rules events).nodes (current (run rules events) place)))
+
+-- what was read is a script, what was written is the text of its run, which has at most 100,000 events, and that run keeps what is claimed; where it is
+-- settled, it is repaired
+pub record Played (bytes text : List ℕ) : Type 0 where
+  pub founding : Rules
+  pub events : List Event
+  pub settles : Bool
+  pub script : reading key.Play bytes ≡ Ok (Play founding events settles)
+  pub written : text ≡ run_text founding events settles
+  pub few : length (done_of founding events settles) ≤ most_events
+  pub keeps : Keeps founding (done_of founding events settles)
+  pub repaired : settles ≡ true → Repaired founding events
+
+-- what was written is the summary of the run of two numbers, and that run keeps what is claimed
+pub record Generated (numbers : Numbers) (text : List ℕ) : Type 0 where
+  pub written : text ≡ summary_text_of generated_rules (events_of_seed numbers.seed numbers.count)
+  pub count : length (events_of_seed numbers.seed numbers.count) ≡ numbers.count
+  pub keeps : Keeps generated_rules (events_of_seed numbers.seed numbers.count)
+
+-- a text is that of the script that was read to the end of what was left
+abbrev pub IsPlayed : Option (List ℕ) → Option (List ℕ) → List ℕ → Type 0
+IsPlayed before after text = (bytes : List ℕ) × ReadToEnd before after bytes × Played bytes text
+
+-- a text is the summary that words of gen ask for
+abbrev pub IsSummary : Option Form → List ℕ → Type 0
+IsSummary (Some (form.Gen numbers)) text = Generated numbers text
+IsSummary _ text = ⊥
+
+-- a text is what words of a form ask for that waits for nobody
+abbrev pub IsAnswerAlone : Option Form → Option (List ℕ) → Option (List ℕ) → List ℕ → Type 0
+IsAnswerAlone (Some form.Play) before after text = IsPlayed before after text
+IsAnswerAlone other before after text = IsSummary other text
+
+-- the forms that read
+abbrev pub Reads : Option Form → Type 0
+Reads (Some form.Play) = Unit {0}
+Reads (Some form.Race) = Unit {0}
+Reads _ = ⊥
+
+-- the key of the script that is read
+abbrev pub key_for : Option Form → Key
+key_for (Some form.Race) = key.Race
+key_for _ = key.Play
+
+-- how gen ends
+abbrev pub EndsGen : Status → Type 0
+EndsGen Done = Unit {0}
+EndsGen WriteFault = Unit {0}
+EndsGen NoMemory = Unit {0}
+EndsGen _ = ⊥
+
+-- the statuses that come with writing
+abbrev pub Writes : Status → Type 0
+Writes Done = Unit {0}
+Writes WriteFault = Unit {0}
+Writes _ = ⊥
+
+-- the numbers of the statuses
+abbrev pub number_of : Status → ℕ
+number_of Done = 0
+number_of Usage = 1
+number_of (BadScript cause) = 2
+number_of TooLong = 3
+number_of ReadFault = 4
+number_of WriteFault = 5
+number_of NoMemory = 6
+number_of Spent = 7
+
+-- what holds where all was done
+abbrev pub OnDone : Status → Type 0 → Type 0
+OnDone Done claim = claim
+OnDone _ claim = Unit {0}
+
+-- what holds where a write failed
+abbrev pub OnWriteFault : Status → Type 0 → Type 0
+OnWriteFault WriteFault claim = claim
+OnWriteFault _ claim = Unit {0}
+
+-- what holds of the cause where the input is no script
+abbrev pub IfBadScript : Status → (ScriptRefusal → Type 0) → Type 0
+IfBadScript (BadScript cause) claim = claim cause
+IfBadScript _ claim = Unit {0}
+
+-- a beginning of the text was appended
+abbrev pub WrotePart : Option (List ℕ) → Option (List ℕ) → List ℕ → Type 0
+WrotePart before after text = (count : ℕ) × Appends before after (take count text)
+
+-- the bytes are a script of which this holds
+abbrev pub IsScript : List ℕ → (Rules → List Event → Bool → Type 0) → Type 0
+IsScript bytes claim = (founding : Rules) × (events : List Event) × (settle : Bool) × (reading key.Play bytes ≡ Ok (Play founding events settle))
+    × claim founding events settle
+
+-- a script whose run would have more events than a run may have
+abbrev pub IsSpent : List ℕ → Type 0
+IsSpent bytes = IsScript bytes IsLong
+
+-- the text of what a play's run does
+abbrev pub IsText : Script → List ℕ → Type 0
+IsText (Play founding events settles) text = IsRunText founding events settles text
+IsText (Race plan) text = ⊥
+
+-- why a play isn't run
+abbrev pub IsUnrun : Script → Unplayed → Type 0
+IsUnrun (Race plan) e = ⊥
+IsUnrun (Play founding events settles) (unplayed.BadScript cause) = ⊥
+IsUnrun (Play founding events settles) unplayed.Spent = IsLong founding events settles
+IsUnrun (Play founding events settles) unplayed.NoMemory = Unit {0}
+
+-- why bytes have no text
+abbrev pub IsUnplayed : List ℕ → Unplayed → Type 0
+IsUnplayed bytes (unplayed.BadScript cause) = reading key.Play bytes ≡ Err cause
+IsUnplayed bytes unplayed.Spent = IsSpent bytes
+IsUnplayed bytes unplayed.NoMemory = Unit {0}
+
+-- the cause by a world's
+abbrev pub unplayed_for : WorldRefusal → Unplayed
+unplayed_for refusals.NoMemory = unplayed.NoMemory
+unplayed_for refusals.Spent = unplayed.Spent
+
+-- how a call counts the faults of its source and of its sink
+abbrev pub reads_after : Status → ℕ → ℕ
+reads_after ReadFault before = next before
+reads_after _ before = before
+
+abbrev pub writes_after : Status → ℕ → ℕ
+writes_after WriteFault before = next before
+writes_after _ before = before
 
 -- what was read is a race, what was written is what was done in it as a script, in one line, and the text of the run of that,
 -- and that run keeps what is claimed

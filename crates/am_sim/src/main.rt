@@ -2,14 +2,18 @@
 //! did, or makes a run from two numbers and prints its summary.
 #![tactic(auto)]
 
+pub mod alone;
+mod generating;
+mod playing;
 mod racing;
 pub mod simulate;
+pub mod status;
 mod telling;
 
 use am_calls::gate::NoGate;
 use am_io::standard::{StdSink, StdSource};
-use am_runs::status::Status;
 use simulate::simulate;
+use status::Status;
 use std::alloc::Global;
 use std::process::ExitCode;
 use std::sync::Wait;

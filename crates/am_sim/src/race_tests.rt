@@ -1,8 +1,8 @@
+use crate::alone::simulate_alone;
 use crate::simulate::simulate;
+use crate::status::Status;
 use am_calls::gate::{Gate, Meeting, NoGate};
 use am_io::memory::{MemSink, MemSource};
-use am_runs::alone::simulate_alone;
-use am_runs::status::Status;
 use std::alloc::{AllocError, Global};
 use std::sync::Wait;
 use std::test::Fail;

@@ -6,6 +6,7 @@ ghost use Rattle.am_report.specs.Schedules.{script_text};
 ghost use Rattle.am_script.specs.Limits.{RaceWithin};
 ghost use Rattle.am_sim.specs.Racing.{events_of, race_text, IsRaced, IsRaceText};
 
+use crate::playing::text_of_run;
 use am_base::NoMemory;
 use am_base::founding::Founding;
 use am_base::items::Items;
@@ -14,7 +15,6 @@ use am_calls::race::race;
 use am_group::event::{Event, Record};
 use am_group::plan::RacePlan;
 use am_report::script::script_text;
-use am_runs::playing::text_of_run;
 use am_world::world::WorldRefusal;
 use std::alloc::Global;
 use std::sync::Wait;
@@ -49,7 +49,7 @@ fn events_of_race<R: Threads + Wait + Sync, G: Gate + Sync>(
 }
 
 /// The text of the run of at most 100,000 events.
-#[tactic(auto, unfolding(am_runs::specs::Playing::IsRunText, am_runs::specs::Playing::IsLong))]
+#[tactic(auto, unfolding(crate::specs::Playing::IsRunText, crate::specs::Playing::IsLong))]
 fn text_of_events(alloc: Global, founding: &Founding, events: &[Event]) -> Result<String, NoMemory>
     requires { length events.now ≤ most_events }
     ensures { IfOk result (λ text. string_bytes text ≡ text_of founding.now events.now) }

@@ -1,7 +1,7 @@
+use crate::alone::simulate_alone;
+use crate::status::Status;
 use am_io::memory::{MemSink, MemSource};
 use am_report::script::script_text;
-use am_runs::alone::simulate_alone;
-use am_runs::status::Status;
 use am_script::key::Key;
 use am_script::read::read_script;
 use am_script::script::Script;

@@ -7,16 +7,15 @@ ghost use Rattle.am_script.specs.Limits.{RaceWithin};
 ghost use Rattle.am_script.specs.Scripts.{reading};
 ghost use Rattle.am_words.specs.declared.form.Form.TheVariants as form;
 ghost use Rattle.am_words.specs.Forms.{IsGen};
-ghost use Rattle.am_runs.specs.Simulation.{form_of_words, most_input, Reads, key_for, EndsGen, OnDone, OnWriteFault, IfBadScript, Writes, WrotePart, IsSpent, reads_after, writes_after};
-ghost use Rattle.am_sim.specs.Simulation.{IsAnswer, IsRacedText, Raced};
+ghost use Rattle.am_sim.specs.Simulation.{form_of_words, most_input, Reads, key_for, EndsGen, IsAnswer, IsRacedText, OnDone, OnWriteFault, IfBadScript, Writes, Raced, WrotePart, IsSpent, reads_after, writes_after};
 
+use crate::alone::{INPUT_MOST, simulate_alone};
 use crate::racing::text_of_race;
+use crate::status::Status;
 use am_calls::gate::Gate;
 use am_group::plan::RacePlan;
 use am_io::outside::{Sink, Source};
 use am_io::whole::{ReadRefusal, read_all, write_all};
-use am_runs::alone::{INPUT_MOST, simulate_alone};
-use am_runs::status::Status;
 use am_script::key::Key;
 use am_script::read::read_script;
 use am_script::refusal::ScriptRefusal;
@@ -84,7 +83,7 @@ fn is_race(words: &[&str]) -> bool
 }
 
 /// Reads a race to its end, lets its threads make their calls, and writes what was done, and the text of its run.
-#[tactic(auto, using(am_runs::proofs::Answered::gave_whole))]
+#[tactic(auto, using(crate::proofs::Answered::gave_whole))]
 fn race_script<R: Threads + Wait + Sync, S: Source, K: Sink, G: Gate + Sync>(
     rt: &R,
     alloc: Global,

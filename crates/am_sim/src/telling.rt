@@ -2,7 +2,7 @@ ghost use Rattle.std.specs.Prelude.{◌≡◌, ◌≤◌, ◌++◌, codes, decim
 ghost use Rattle.am_script.specs.Refusals as refusals;
 ghost use Rattle.am_sim.specs.Telling.{line_of, bad_script_line};
 
-use am_runs::status::Status;
+use crate::status::Status;
 use am_script::refusal::ScriptRefusal;
 use arrayvec::ArrayString;
 use itoa::Buffer;

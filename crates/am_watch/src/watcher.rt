@@ -1,6 +1,7 @@
 ghost use Rattle.std.specs.Prelude.{◌≡◌, ◌&&◌, ◌||◌, ◌+◌, ◌<◌, ◌≤◌, ◌∷◌, [], OnOk, true, not, nat_lt, count_by, map, filter, slice_index_or};
 ghost use Rattle.std.specs.List.{list_any, range_with_len};
 ghost use Rattle.am_base.specs.Names.{names_of, name_at};
+ghost use Rattle.am_base.specs.Most.{most_word};
 ghost use Rattle.am_watch.specs.Watching.{first_watching, blank_standing, first_standing, standing, has_stopped, is_by, has_stored, lags, is_complete, greater, greatest, is_lost, is_lawful, broken_now, look, pass, stop, is_alike, with_standing, with_decided, with_entry, finish, accept, is_above, store_view, place_view};
 ghost use Rattle.am_watch.specs.Watchers.{watching_of, HasRoom};
 
@@ -250,7 +251,7 @@ impl Watcher {
     }
 
     fn broken_after(&self, best: &DecidedView) -> Option<u32>
-        requires { (watching_of self.now).count < 4294967295 }
+        requires { (watching_of self.now).count < most_word }
         ensures { result ≡ broken_now (watching_of self.now) best.now
             (watching_of self.now).broken }
     {
@@ -269,7 +270,7 @@ impl Watcher {
     /// An event is over after which a view may have become complete, or somebody was lost.
     #[tactic(auto, unfolding(crate::specs::Watching::look))]
     fn look(&mut self)
-        requires { (watching_of self.old).count < 4294967295 }
+        requires { (watching_of self.old).count < most_word }
         ensures { watching_of self.new ≡ look (watching_of self.old) }
     {
         let best = self.greatest();
@@ -282,7 +283,7 @@ impl Watcher {
 
     /// An event of a kind that changes no node, after which nobody has stopped who hadn't.
     pub fn pass(&mut self)
-        requires { (watching_of self.old).count < 4294967295 }
+        requires { (watching_of self.old).count < most_word }
         ensures { watching_of self.new ≡ pass (watching_of self.old) }
     {
         self.count += 1;
@@ -291,7 +292,7 @@ impl Watcher {
     /// A name has stopped, by its own event or since its place returned. It takes no memory.
     pub fn stop(&mut self, name: Name)
         requires room { HasRoom self.old }
-        requires few { (watching_of self.old).count < 4294967295 }
+        requires few { (watching_of self.old).count < most_word }
         ensures { watching_of self.new ≡ stop (watching_of self.old) name }
     {
         self.stopped.push_reserved(name);
@@ -341,7 +342,7 @@ impl Watcher {
 
     /// The name's step is over.
     pub fn finish(&mut self, name: Name, after: &Standing)
-        requires { (watching_of self.old).count < 4294967295 }
+        requires { (watching_of self.old).count < most_word }
         ensures { watching_of self.new ≡ finish (watching_of self.old) name after.now }
     {
         if self.is_quiet(name, after) {

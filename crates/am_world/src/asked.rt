@@ -20,6 +20,7 @@ use am_group::event::Act;
 use am_group::journal::Journal;
 use am_letter::letter::Letter;
 use std::alloc::Global;
+use std::mem;
 
 /// Whether a name has stopped.
 pub fn is_stopped(stopped: &[bool; 256], name: Name) -> bool
@@ -50,10 +51,11 @@ fn first_bytes(bytes: &[u8], keep: Option<u32>) -> &[u8]
     }
 }
 
-/// A name hears a letter, or only the first of its bytes.
+/// A name hears a letter, or only the first of its bytes. They stand in the room that there is for them.
 #[inline(never)]
 fn hears(
     alloc: Global,
+    room: &mut Vec<u8>,
     letter: Option<&Letter>,
     keep: Option<u32>,
     name: Name,
@@ -73,8 +75,17 @@ fn hears(
     if stopped {
         return Ok(Err(Outcome::IsStopped));
     }
-    let bytes = Vec::from_slice(alloc, first_bytes(letter.bytes(), keep))?;
+    let mut bytes = mem::replace(room, Vec::new(alloc));
+    bytes.clear();
+    bytes.extend_from_slice(first_bytes(letter.bytes(), keep))?;
     Ok(Ok(NodeEvent::Hear(Items::of(bytes))))
+}
+
+/// The room of what was heard is there for what is heard next.
+pub fn keep_room(room: &mut Vec<u8>, what: NodeEvent) {
+    if let NodeEvent::Hear(bytes) = what {
+        *room = bytes.into_vec();
+    }
 }
 
 /// A name sends a body.
@@ -124,9 +135,11 @@ fn returns(is_gone: bool, name: Name) -> Outcome
     Outcome::Returned { life: life + 1 }
 }
 
-/// What an act asks of a name's node, or how it is answered without one.
+/// What an act asks of a name's node, or how it is answered without one. Bytes that are heard stand in the room that there is
+/// for them.
 pub fn event_or_answer(
     alloc: Global,
+    room: &mut Vec<u8>,
     journal: &Journal,
     stopped: &[bool; 256],
     has_departed: bool,
@@ -157,10 +170,11 @@ pub fn event_or_answer(
         Act::GiveUp(other) => gives_up(stopped, name, *other),
         Act::Stop => Err(stops(is_stopped)),
         Act::Tick => if_running(is_stopped, NodeEvent::Tick),
-        Act::Hear(number) => hears(alloc, journal.packet(*number), None, name, is_stopped)?,
+        Act::Hear(number) => hears(alloc, room, journal.packet(*number), None, name, is_stopped)?,
         Act::Cut { packet, keep } => {
             hears(
                 alloc,
+                room,
                 journal.packet(*packet),
                 Some(*keep),
                 name,

@@ -19,14 +19,16 @@ use std::alloc::Global;
 use std::mem;
 
 /// An empty box for the letters of a step, over the rooms that earlier ones left.
+#[inline(always)]
 pub fn empty_box(alloc: Global, rooms: &mut Rooms) -> Result<OutBox, NoMemory>
     ensures { IfOk result (λ b. b ≡ []) }
 {
-    let left = mem::replace(rooms, Rooms::new(alloc));
+    let left = mem::replace(rooms, Rooms::new());
     OutBox::over(alloc, left)
 }
 
 /// The letters of a step. The rooms that they don't take are for the next one.
+#[inline(always)]
 pub fn packets_of(alloc: Global, out: OutBox, rooms: &mut Rooms) -> Items<Letter>
     ensures { result ≡ out }
 {

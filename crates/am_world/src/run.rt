@@ -20,6 +20,7 @@ use am_base::name::Name;
 use am_base::outcome::Outcome;
 use am_group::event::{By, Event, Part, Record};
 use am_group::journal::Journal;
+use am_letter::letter::Letter;
 use am_letter::out_box::Rooms;
 use am_model::status::Status;
 use am_node::founding::founders_view;
@@ -50,12 +51,12 @@ fn sixteen(alloc: Global, founding: &Founding) -> Result<Vec<Node>, NoMemory>
     Ok(nodes)
 }
 
-/// The record of an event of which this outcome came, and no letter.
-fn new_record(alloc: Global, event: &Event, life: u8, outcome: Outcome) -> Result<Record, NoMemory>
-    ensures { IfOk result (λ r. r ≡ the_record event.now life outcome []) }
+/// The record of an event of which this outcome and these letters came.
+fn record_of(event: Event, life: u8, outcome: Outcome, packets: Items<Letter>) -> Record
+    ensures { result ≡ the_record event life outcome packets }
 {
-    Ok(Record {
-        event: event.try_copy()?,
+    Record {
+        event,
         life,
         by: By {
             caller: 0,
@@ -63,8 +64,16 @@ fn new_record(alloc: Global, event: &Event, life: u8, outcome: Outcome) -> Resul
             part: Part::Call,
         },
         outcome,
-        packets: Items::new(alloc),
-    })
+        packets,
+    }
+}
+
+/// The record of an event of which this outcome came, and no letter.
+fn new_record(alloc: Global, event: &Event, life: u8, outcome: Outcome) -> Result<Record, NoMemory>
+    ensures { IfOk result (λ r. r ≡ the_record event.now life outcome []) }
+{
+    let done = event.try_copy()?;
+    Ok(record_of(done, life, outcome, Items::new(alloc)))
 }
 
 fn has_departed(status: Status) -> bool
@@ -109,9 +118,10 @@ impl Run {
     ghost use Rattle.am_world.specs.Runs.{after, replay, IsOneMore};
     ghost use Rattle.am_world.specs.Asked.{after_answer, comes, IsNextLife};
 
-    /// The group of a founding, to which nothing has happened.
+    /// The group of a founding, to which nothing has happened, with room for the records of so many events, of no more than a
+    /// run may have.
     #[tactic(auto, using(crate::proofs::Begins::begins))]
-    pub fn new(alloc: Global, founding: &Founding) -> Result<Run, NoMemory>
+    pub fn new(alloc: Global, founding: &Founding, events: usize) -> Result<Run, NoMemory>
         ensures { IfOk result (λ w. w ≡ record { rules = founding.now; events = [] }) }
     {
         let nodes = sixteen(alloc, founding)?;
@@ -123,9 +133,9 @@ impl Run {
             nodes,
             lives: [1; 16],
             stopped: [false; 256],
-            journal: Journal::new(alloc, founding),
+            journal: Journal::with_room(alloc, founding, events.min(MOST_EVENTS))?,
             group,
-            rooms: Rooms::new(alloc),
+            rooms: Rooms::new(),
         })
     }
 
@@ -135,13 +145,6 @@ impl Run {
         ensures few { result ≤ most_events }
     {
         self.journal.records().len()
-    }
-
-    /// Makes room for the records of so many events more, of no more than a run may have.
-    pub fn reserve(&mut self, more: usize) -> Result<(), NoMemory>
-        ensures { self.new ≡ self.old }
-    {
-        self.journal.reserve_records(more.min(MOST_EVENTS))
     }
 
     /// The records so far.
@@ -276,21 +279,27 @@ impl Run {
         ensures err { OnErr result (self.new ≡ self.old) }
     {
         self.journal.reserve()?;
-        let mut record = new_record(self.alloc, event, name.life(), Outcome::Idle)?;
+        let done = event.try_copy()?;
         let spare = spare_entry_at(self.alloc, &self.nodes, name, what)?;
         make_room(&mut self.group, self.journal.records().len() + 2)?;
         let mut out = empty_box(self.alloc, &mut self.rooms)?;
         let node = &mut self.nodes[usize::from(name.place())];
-        record.outcome = node.step(what, spare, &mut out);
+        let outcome = node.step(what, spare, &mut out);
         let _accepted = node.accept_front();
         grow(&mut self.group, node);
-        record.packets = packets_of(self.alloc, out, &mut self.rooms);
-        self.journal.push(record);
+        let packets = packets_of(self.alloc, out, &mut self.rooms);
+        self.journal
+            .push(record_of(done, name.life(), outcome, packets));
         Ok(())
     }
 
-    /// What an event asks of its name's node, or how it is answered without one.
-    pub fn event_or_answer(&self, event: &Event) -> Result<Result<NodeEvent, Outcome>, NoMemory>
+    /// What an event asks of its name's node, or how it is answered without one. Bytes that are heard stand in the room that
+    /// there is for them.
+    pub fn event_or_answer(
+        &self,
+        room: &mut Vec<u8>,
+        event: &Event,
+    ) -> Result<Result<NodeEvent, Outcome>, NoMemory>
         ensures comes { IfOk result (λ r. happens (replay self.now) event.now
             ≡ comes (replay self.now) event.now r) }
         ensures next { IfOk result (λ r. IfErr r
@@ -300,6 +309,7 @@ impl Run {
         let has_departed = has_departed(self.node(event.node).status());
         event_or_answer(
             self.alloc,
+            room,
             &self.journal,
             &self.stopped,
             has_departed,

@@ -1,5 +1,5 @@
 ghost use Rattle.std.specs.Prelude.{◌≡◌, ◌+◌, ◌<◌, ◌≤◌, ◌++◌, [], ◌∷◌, length, drop, if◌then◌else◌};
-ghost use Rattle.am_base.specs.Most.{most_number};
+ghost use Rattle.am_base.specs.Most.{most_number, most_word};
 ghost use Rattle.am_base.specs.Stamps.{stamp_eq};
 ghost use Rattle.am_model.specs.Node.{has_log, is_member};
 ghost use Rattle.am_node.specs.Stands.{state_of};
@@ -179,7 +179,7 @@ fn note_views(
 /// The watcher is told of an event that is no step of a node, after which a name has stopped or not.
 pub fn note_answer(watcher: &mut Watcher, name: Name, stops: bool)
     requires room { HasRoom watcher.old }
-    requires few { (watching_of watcher.old).count < 4294967295 }
+    requires few { (watching_of watcher.old).count < most_word }
     ensures { watching_of watcher.new ≡ (if stops then stop (watching_of watcher.old) name
         else pass (watching_of watcher.old)) }
 {
@@ -212,7 +212,7 @@ pub fn note_step(
     known: usize,
 )
     requires room { HasRoom watcher.old }
-    requires few { (watching_of watcher.old).count < 4294967295 }
+    requires few { (watching_of watcher.old).count < most_word }
     requires known { known ≤ length group.now }
     requires short { length group.now ≤ most_number }
     ensures { watching_of watcher.new ≡ told_step (watching_of watcher.old) name

@@ -5,6 +5,7 @@ ghost use Rattle.am_play.specs.Lawful.{broken_at};
 ghost use Rattle.am_world.specs.Watched.{stops_by};
 ghost use Rattle.am_base.specs.Names.{place_of};
 
+use crate::asked::keep_room;
 use crate::run::Run;
 use crate::watching::{has_log, note_answer, note_step};
 use am_base::NoMemory;
@@ -58,6 +59,7 @@ fn stops_by(has_stopped: bool, outcome: &Outcome) -> bool
 pub struct World {
     run: Run,
     watcher: Watcher,
+    heard: Vec<u8>,
 }
 
 impl Model for World {
@@ -86,20 +88,21 @@ impl World {
     pub fn new(alloc: Global, founding: &Founding) -> Result<World, NoMemory>
         ensures { IfOk result (λ w. w ≡ record { rules = founding.now; events = [] }) }
     {
-        let run = Run::new(alloc, founding)?;
+        World::with_room(alloc, founding, 0)
+    }
+
+    /// The same with room for the records of so many events, of no more than a run may have. It is an error where there is no
+    /// memory for them.
+    pub fn with_room(alloc: Global, founding: &Founding, events: usize) -> Result<World, NoMemory>
+        ensures { IfOk result (λ w. w ≡ record { rules = founding.now; events = [] }) }
+    {
+        let run = Run::new(alloc, founding, events)?;
         let _founders = founding.founders();
         Ok(World {
             run,
             watcher: Watcher::new(alloc, founding),
+            heard: Vec::new(alloc),
         })
-    }
-
-    /// Makes room for the records of so many events more, where so many are to come. It is an error where there is no memory
-    /// for them; nothing else changes.
-    pub fn reserve(&mut self, more: usize) -> Result<(), NoMemory>
-        ensures { self.new ≡ self.old }
-    {
-        self.run.reserve(more)
     }
 
     /// The records so far.
@@ -200,7 +203,7 @@ impl World {
             return Err(WorldRefusal::Spent);
         }
         let name = self.run.name_at(event.node);
-        match self.run.event_or_answer(event)? {
+        match self.run.event_or_answer(&mut self.heard, event)? {
             Ok(what) => {
                 self.watcher.reserve()?;
                 let known = self.run.group().len();
@@ -213,6 +216,7 @@ impl World {
                     self.run.group(),
                     known,
                 );
+                keep_room(&mut self.heard, what);
             }
             Err(outcome) => self.answer(event, name, outcome)?,
         }

@@ -5,8 +5,7 @@ use Rattle.am_words.specs.declared.form.Form.{Form}
 use Rattle.am_words.specs.declared.form.Form.TheVariants as form
 use Rattle.am_words.specs.Forms.{IsGen}
 use Rattle.am_script.specs.Scripts.{reading}
-use Rattle.am_runs.specs.Simulation.{form_of_words, Reads, key_for, IfBadScript, OnDone, OnWriteFault, WrotePart}
-use Rattle.am_sim.specs.Simulation.{IsAnswer}
+use Rattle.am_sim.specs.Simulation.{form_of_words, Reads, key_for, IsAnswer, IfBadScript, OnDone, OnWriteFault, WrotePart}
 use Rattle.am_sim.proofs.simulate.simulate.Given.{Over}
 use Rattle.am_sim.proofs.simulate.simulate.Goals as goal
 

@@ -9,5 +9,5 @@ pub invariant_of-result : goal.invariant_of-result
 unfolding world.happen
 invariant_of-result c = record {
   counted = search rules;
-  looked = none_seen c.new-4.result (letters_of (replay c.reserve.new.self).records) c.new-4.ensures.cursor;
+  looked = none_seen c.new-3.result (letters_of (replay c.in_ok-world.world).records) c.new-3.ensures.cursor;
 }

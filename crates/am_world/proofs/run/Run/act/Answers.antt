@@ -34,8 +34,8 @@ ready p first nodes lives flags records group e what name i stored room n view o
     ready_at p first nodes lives flags records group e what name stored room view ok few here is all_stored (omega arith) n
     (there nodes name i n ok.shows.standing.count at found)
 
-pub step-requires-clause-numbers : goal.step-requires-clause-numbers
-step-requires-clause-numbers c =
+pub step-outcome-requires-clause-numbers : goal.step-outcome-requires-clause-numbers
+step-outcome-requires-clause-numbers c =
     let w = c.self.inside in
     let group = c.make_room.new.group in
     let kept = ap length (c.records.ensures.value ∙ c.reserve.ensures.records) in
@@ -45,8 +45,8 @@ step-requires-clause-numbers c =
     c.self.view_is c.self.invariant c.requires.few c.requires.name c.requires.comes (c.make_room.ensures.stored ∙ w.group.ok.0) (omega arith)
     (c.from.ensures ∙ c.place.ensures.value) c.index_mut-node.ensures.value).numbers
 
-pub step-requires-clause-place : goal.step-requires-clause-place
-step-requires-clause-place c =
+pub step-outcome-requires-clause-place : goal.step-outcome-requires-clause-place
+step-outcome-requires-clause-place c =
     let w = c.self.inside in
     subst (λ ns. HasPlaceAt ns (place_of c.args.name) c.args.what.now c.in_ok-spare.spare) c.deref.ensures.value c.in_ok-spare.ensures
     c.index_mut-node.result.now (there w.nodes.items c.args.name c.from.result c.index_mut-node.result.now c.self.invariant.shows.standing.count
@@ -62,33 +62,34 @@ grow-requires c =
     c.args.event.now c.args.what.now c.args.name c.from.result (vec_len group) (vec_capacity group)
     c.index_mut-node.result.now c.self.view_is c.self.invariant c.requires.few c.requires.name c.requires.comes (c.make_room.ensures.stored ∙ w.group.ok.0)
     (omega arith) (c.from.ensures ∙ c.place.ensures.value) c.index_mut-node.ensures.value).grows
-    c.step.result c.step.new.out (state_of c.step.new.self) c.step.ensures.does c.accept_front-accepted.ensures.order in
+    c.step-outcome.result c.step-outcome.new.out (state_of c.step-outcome.new.self) c.step-outcome.ensures.does c.accept_front-accepted.ensures.order in
     record { base = grows.0; room = grows.1 }
 
-made : (c : After-push) → IsRun (play_of c.push.new.self.founding c.push.new.self.records) (slice_set c.self.inside.nodes.items c.from.result c.step.new.self)
-    c.self.inside.lives c.self.inside.stopped c.push.new.self.records c.grow.new.group.items × Answers c.args.self.now c.args.event.now c.step.result
+made : (c : After-push)
+    → IsRun (play_of c.push.new.self.founding c.push.new.self.records) (slice_set c.self.inside.nodes.items c.from.result c.step-outcome.new.self)
+    c.self.inside.lives c.self.inside.stopped c.push.new.self.records c.grow.new.group.items × Answers c.args.self.now c.args.event.now c.step-outcome.result
 made c =
     let w = c.self.inside in
     let p = c.args.self.now in
     let place = c.from.ensures ∙ c.place.ensures.value in
     let living = living_at p w.journal.founding w.nodes.items w.lives w.stopped w.journal.records w.group.items c.self.view_is c.self.invariant in
-    act_goes_on p w.journal.founding c.push.new.self.founding w.nodes.items (slice_set w.nodes.items c.from.result c.step.new.self) w.lives w.stopped
-    w.journal.records c.push.new.self.records w.group.items c.grow.new.group.items c.args.event.now c.args.what.now c.step.result c.step.new.out c.args.name
-    c.self.view_is c.self.invariant c.requires.few c.requires.name
+    act_goes_on p w.journal.founding c.push.new.self.founding w.nodes.items (slice_set w.nodes.items c.from.result c.step-outcome.new.self) w.lives w.stopped
+    w.journal.records c.push.new.self.records w.group.items c.grow.new.group.items c.args.event.now c.args.what.now c.step-outcome.result
+    c.step-outcome.new.out c.args.name c.self.view_is c.self.invariant c.requires.few c.requires.name
     (record {
       before = c.index_mut-node.result.now;
-      next = c.step.new.self;
+      next = c.step-outcome.new.self;
       there = there w.nodes.items c.args.name c.from.result c.index_mut-node.result.now c.self.invariant.shows.standing.count place
           c.index_mut-node.ensures.value;
-      placed = ap (λ i. slice_set w.nodes.items i c.step.new.self) place;
-      does = c.step.ensures.does;
+      placed = ap (λ i. slice_set w.nodes.items i c.step-outcome.new.self) place;
+      does = c.step-outcome.ensures.does;
       order = c.accept_front-accepted.ensures.order;
       grows = rw (← c.make_room.ensures.items) c.grow.ensures;
     })
-    (recorded (replay p) c.args.event.now c.step.result c.step.new.out w.lives c.args.name c.life.result _ w.journal.founding c.push.new.self.founding
-    w.journal.records c.reserve.new.self.records c.push.new.self.records living c.requires.name c.life.ensures.value
-    (ap (λ (r : Record). record r { outcome = c.step.result; packets = c.packets_of.result }) c.in_ok-record.ensures
-    ∙ ap (the_record c.args.event.now c.life.result c.step.result) c.packets_of.ensures) (c.push.ensures.founding
+    (recorded (replay p) c.args.event.now c.step-outcome.result c.step-outcome.new.out w.lives c.args.name c.life.result _ w.journal.founding
+    c.push.new.self.founding w.journal.records c.reserve.new.self.records c.push.new.self.records living c.requires.name c.life.ensures.value
+    (c.record_of.ensures ∙ ap (λ (e : Event). the_record e c.life.result c.step-outcome.result c.packets_of-packets.result) c.in_ok-done.ensures
+    ∙ ap (the_record c.args.event.now c.life.result c.step-outcome.result) c.packets_of-packets.ensures) (c.push.ensures.founding
     ∙ c.reserve.ensures.founding) c.reserve.ensures.records c.push.ensures.records)
     c.requires.comes
 
@@ -96,4 +97,4 @@ pub invariant_of-self-2 : goal.invariant_of-self-2
 invariant_of-self-2 c = (made c).0
 
 pub returns-clause-one : goal.returns-clause-one
-returns-clause-one c = (c.step.result, (made c).1)
+returns-clause-one c = (c.step-outcome.result, (made c).1)

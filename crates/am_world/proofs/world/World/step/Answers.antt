@@ -10,7 +10,6 @@ use Rattle.am_world.specs.Runs.{Play, after, replay}
 use Rattle.am_world.specs.Watched.{IsWatched}
 use Rattle.am_world.proofs.Kept.{count_of, act_is_watched, group_longer}
 use Rattle.am_world.proofs.world.World.step.Goals as goal
-use Rattle.am_world.proofs.world.World.step.Goals.{After-note_step}
 
 pub note_step-requires-clause-few : goal.note_step-requires-clause-few
 note_step-requires-clause-few c =
@@ -31,8 +30,8 @@ note_step-requires-clause-known c =
     omega arith
 
 -- after a name's step the watcher keeps what is watched
-watched : (c : After-note_step) → IsWatched c.act.new.self (watching_of c.note_step.new.watcher)
-watched c =
+pub invariant_of-self-in-Ok : goal.invariant_of-self-in-Ok
+invariant_of-self-in-Ok c =
     let e = c.args.event.now in
     let p = c.self.inside.run in
     let k = watching_of c.reserve.new.self in
@@ -45,12 +44,3 @@ watched c =
     let done = act_is_watched p k e c.name_at-name.result c.in-Ok.what m (length c.group-known.result.now) c.group.result.now
     c.group-known.ensures.founded kept c.name_at-name.ensures is end (ap length c.group-known.ensures.value) group in
     subst (λ q. IsWatched q (watching_of c.note_step.new.watcher)) (sym made) (subst (IsWatched (after p e)) (sym c.note_step.ensures) done)
-
-pub invariant_of-self-in_ok-act-in-Ok : goal.invariant_of-self-in_ok-act-in-Ok
-invariant_of-self-in_ok-act-in-Ok c = watched (goal.at.invariant_of-self-in_ok-act-in-Ok c).After-note_step
-
-pub invariant_of-self-in_ok-act-in-Ok-2 : goal.invariant_of-self-in_ok-act-in-Ok-2
-invariant_of-self-in_ok-act-in-Ok-2 c = watched (goal.at.invariant_of-self-in_ok-act-in-Ok-2 c).After-note_step
-
-pub invariant_of-self-in_ok-act-in-Ok-3 : goal.invariant_of-self-in_ok-act-in-Ok-3
-invariant_of-self-in_ok-act-in-Ok-3 c = watched (goal.at.invariant_of-self-in_ok-act-in-Ok-3 c).After-note_step

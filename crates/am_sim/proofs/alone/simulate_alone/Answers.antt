@@ -4,8 +4,8 @@ use Rattle.am_io.specs.Outside.{ReadToEnd}
 use Rattle.am_words.specs.declared.form.Form.{Form}
 use Rattle.am_words.specs.declared.form.Form.TheVariants as form
 use Rattle.am_script.specs.Scripts.{reading}
-use Rattle.am_runs.specs.Simulation.{form_of_words, key_for, IsAnswerAlone, IfBadScript, OnDone, OnWriteFault, WrotePart}
-use Rattle.am_runs.proofs.alone.simulate_alone.Goals as goal
+use Rattle.am_sim.specs.Simulation.{form_of_words, key_for, IsAnswerAlone, IfBadScript, OnDone, OnWriteFault, WrotePart}
+use Rattle.am_sim.proofs.alone.simulate_alone.Goals as goal
 
 pub returns-in-Some-Play-clause-bad_script : goal.returns-in-Some-Play-clause-bad_script
 returns-in-Some-Play-clause-bad_script g c =

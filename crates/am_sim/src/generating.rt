@@ -1,7 +1,7 @@
 ghost use Rattle.std.specs.Prelude.{◌≡◌, ◌≤◌, IfOk, length, string_bytes};
 ghost use Rattle.am_base.specs.Most.{most_events};
 ghost use Rattle.am_pump.specs.Generating.{generated_rules, events_of_seed};
-ghost use Rattle.am_runs.specs.Simulation.{Generated};
+ghost use Rattle.am_sim.specs.Simulation.{Generated};
 
 use am_base::NoMemory;
 use am_pump::generate::generate;

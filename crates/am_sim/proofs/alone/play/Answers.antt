@@ -1,7 +1,7 @@
 use Rattle.std.specs.Io.KnownBytes.{Appends}
-use Rattle.am_runs.specs.Simulation.{Played, WrotePart}
-use Rattle.am_runs.proofs.Answered.{gave_whole, written_of}
-use Rattle.am_runs.proofs.alone.play.Goals as goal
+use Rattle.am_sim.specs.Simulation.{Played, WrotePart}
+use Rattle.am_sim.proofs.Answered.{gave_whole, written_of}
+use Rattle.am_sim.proofs.alone.play.Goals as goal
 
 pub returns-in-Ok-write_all-clause-done : goal.returns-in-Ok-write_all-clause-done
 returns-in-Ok-write_all-clause-done g c = written_of Played (Appends _ _) _ _ _ _ _ _ c.in-Ok.ensures.ok c.as_slice.ensures.value

@@ -1,6 +1,6 @@
 use Rattle.am_watch.specs.Watchers.{watching_of}
 use Rattle.am_world.proofs.Kept.{begin_is_watched}
-use Rattle.am_world.proofs.world.World.new.Goals as goal
+use Rattle.am_world.proofs.world.World.with_room.Goals as goal
 
 pub invariant_of-result : goal.invariant_of-result
 invariant_of-result c = begin_is_watched c.in_ok-run.run' c.args.founding.now

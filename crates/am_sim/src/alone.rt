@@ -5,7 +5,7 @@ ghost use Rattle.am_script.specs.declared.key.Key.TheVariants as key;
 ghost use Rattle.am_script.specs.Scripts.{IsOfKind, reading};
 ghost use Rattle.am_words.specs.declared.form.Form.TheVariants as form;
 ghost use Rattle.am_words.specs.Forms.{IsGen};
-ghost use Rattle.am_runs.specs.Simulation.{form_of_words, most_input, Reads, key_for, EndsGen, IsAnswerAlone, IsPlayed, IsSummary, OnDone, OnWriteFault, IfBadScript, Writes, Played, WrotePart, IsSpent, IsText, IsUnrun, IsUnplayed, unplayed_for, reads_after, writes_after};
+ghost use Rattle.am_sim.specs.Simulation.{form_of_words, most_input, Reads, key_for, EndsGen, IsAnswerAlone, IsPlayed, IsSummary, OnDone, OnWriteFault, IfBadScript, Writes, Played, WrotePart, IsSpent, IsText, IsUnrun, IsUnplayed, unplayed_for, reads_after, writes_after};
 
 use crate::generating::summary_of_run;
 use crate::playing::text_of_run;

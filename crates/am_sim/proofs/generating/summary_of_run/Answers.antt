@@ -1,9 +1,9 @@
 use Rattle.std.proofs.Common.{◌∙◌, sym, ap, length, string_bytes}
 use Rattle.am_play.specs.Play.{summary_text_of}
 use Rattle.am_world.specs.Runs.{Play}
-use Rattle.am_runs.proofs.Answered.{generated_by}
-use Rattle.am_runs.proofs.Texts.{world_summary}
-use Rattle.am_runs.proofs.generating.summary_of_run.Goals as goal
+use Rattle.am_sim.proofs.Answered.{generated_by}
+use Rattle.am_sim.proofs.Texts.{world_summary}
+use Rattle.am_sim.proofs.generating.summary_of_run.Goals as goal
 
 pub returns : goal.returns
 returns c =

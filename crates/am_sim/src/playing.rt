@@ -5,7 +5,7 @@ ghost use Rattle.am_model.specs.Node.{has_log};
 ghost use Rattle.am_play.specs.Play.{text_of};
 ghost use Rattle.am_world.specs.declared.world.WorldRefusal.TheVariants as refusals;
 ghost use Rattle.am_world.specs.Runs.{replay};
-ghost use Rattle.am_runs.specs.Playing.{done_of, IsRunText, IsLong};
+ghost use Rattle.am_sim.specs.Playing.{done_of, IsRunText, IsLong};
 
 use am_base::NoMemory;
 use am_base::founding::Founding;
@@ -57,14 +57,13 @@ fn text_of_world(alloc: Global, world: &World) -> Result<String, NoMemory>
     Ok(text)
 }
 
-/// A world does events in turn. Room for all their records is made first.
+/// A world does events in turn.
 fn do_events(world: &mut World, events: &[Event]) -> Result<(), WorldRefusal>
     ensures ok { OnOk result (world.new ≡ record world.old
         { events = world.old.events ++ events.now }) }
     ensures err { IfErr result (λ e. e ≡ refusals.Spent
         → most_events < length world.old.events + length events.now) }
 {
-    world.reserve(events.len())?;
     for event in events {
         world.step(event)?;
     }
@@ -87,7 +86,7 @@ fn play_out(
     ensures err { IfErr result (λ e. e ≡ refusals.Spent
         → most_events < length (done_of founding.now events.now settles)) }
 {
-    let mut world = World::new(alloc, founding)?;
+    let mut world = World::with_room(alloc, founding, events.len())?;
     do_events(&mut world, events)?;
     if settles {
         settle(&mut world)?;

@@ -23,7 +23,7 @@ pub enum Status {
 
 impl Status {
     ghost use Rattle.std.specs.Prelude.{◌≡◌};
-    ghost use Rattle.am_runs.specs.Simulation.{number_of};
+    ghost use Rattle.am_sim.specs.Simulation.{number_of};
 
     /// Its number, which a process ends with: 0 to 7.
     pub fn number(self) -> u8

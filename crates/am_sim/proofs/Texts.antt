@@ -17,7 +17,7 @@ use Rattle.am_report.specs.Summaries.{summary_for}
 use Rattle.am_report.proofs.Logs.{logs_are}
 use Rattle.am_world.specs.Runs as worlds
 use Rattle.am_world.specs.Runs.{replay}
-use Rattle.am_runs.proofs.Names.{has_log_in}
+use Rattle.am_sim.proofs.Names.{has_log_in}
 
 pub world_text : (p : worlds.Play) (text : List ℕ) (founding : Rules) (records : List Record) (group : List Entry) (each : List ℕ) (broken : Option ℕ)
     → founding ≡ p.rules → records ≡ (replay p).records → group ≡ (replay p).group → each ≡ filter (has_log_in (replay p)) all_names

@@ -1,6 +1,6 @@
 use Rattle.std.proofs.Common.{◌∙◌, string_bytes}
-use Rattle.am_runs.proofs.Texts.{world_text}
-use Rattle.am_runs.proofs.playing.text_of_world.Goals as goal
+use Rattle.am_sim.proofs.Texts.{world_text}
+use Rattle.am_sim.proofs.playing.text_of_world.Goals as goal
 
 pub returns : goal.returns
 returns c = world_text c.args.world.now (string_bytes c.in_ok-text.text) c.journal.result.now.founding c.journal.result.now.records c.group.result.now

@@ -1,3 +1,0 @@
-pub mod Answered
-mod Names
-mod Texts
