@@ -1,6 +1,6 @@
 use crate::name::Stamp;
 
-/// What a list tells of a place's last name. All is 0 where nobody joined there. Numbers are at most 2,000,000,000.
+/// What a list tells of a place's last name. All is 0 where nobody joined there. Numbers are at most `MOST_NUMBER`.
 #[derive(Clone, Copy, PartialEq, Eq, Debug, Default)]
 pub struct Row {
     /// The life, 1 to 16, or 0.

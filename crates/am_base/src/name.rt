@@ -128,7 +128,7 @@ impl PartialOrd for Name {
     }
 }
 
-/// The stamp of a view or of a ballot: a round, at most 2,000,000,000, and the name whose it is.
+/// The stamp of a view or of a ballot: a round, at most `MOST_NUMBER`, and the name whose it is.
 #[derive(Clone, Copy, PartialEq, Eq, PartialOrd, Ord, Debug)]
 pub struct Stamp {
     pub round: u32,

@@ -1,2 +1,5 @@
+pub mod Images
 pub mod Nobody
+pub mod Pieces
 pub mod Read
+pub mod Rows

@@ -10,6 +10,13 @@ use Rattle.am_letter.specs.Letters.{packet_in, read_packet, IsSpelled}
 pub read_spelled : (packet : Packet) → IsPacket packet → packet_in (spelling packet) ≡ packet
 read_spelled packet is = ap read_packet (spelling_again packet is)
 
+pub spells : (packet : Packet) → IsPacket packet → IsSpelled (spelling packet)
+spells packet is =
+    let same = read_spelled packet is in
+    record { packet = subst IsPacket (sym same) is; spelled = ap spelling (sym same) }
+
+pub ruleset spelled = (read_spelled, spells)
+
 -- a packet's kind stands in its header
 spelled_kind : (packet : Packet) → slice_index (spelling packet) 3 ≡ kind_of packet
 unfolding spelling

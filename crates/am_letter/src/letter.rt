@@ -1,4 +1,4 @@
-ghost use Rattle.std.specs.Prelude.{◌≡◌, ◌≤◌, ◌<◌, ◌+◌, length, vec_len, option_map, IfOk};
+ghost use Rattle.std.specs.Prelude.{◌≡◌, ◌≤◌, ◌<◌, length, vec_len, vec_capacity, option_map, IfOk};
 ghost use Rattle.am_base.specs.Most.{most_packet};
 ghost use Rattle.am_packet.specs.Boxes.{letter_to};
 ghost use Rattle.am_packet.specs.Kinds.{kind_of};
@@ -6,12 +6,12 @@ ghost use Rattle.am_codec.specs.Limits.{IsWithin, IsPacket};
 ghost use Rattle.am_codec.specs.Spelling.{spelling};
 ghost use Rattle.am_letter.specs.Letters.{packet_in, bytes_in, IsSpelled};
 
+use crate::reader::decode;
+use crate::writer::encode;
 use am_base::NoMemory;
 use am_base::body::PacketBytes;
 use am_base::limits::MOST_PACKET;
 use am_base::names::Names;
-use am_decoding::decode;
-use am_encoding::encode;
 use am_packet::packet::Packet;
 use arrayvec::ArrayVec;
 use std::alloc::Global;
@@ -60,26 +60,31 @@ fn bytes_in<'a>(within: &'a [u8], apart: &'a Option<Vec<u8>>) -> &'a [u8]
 
 impl Letter {
     /// A packet for the names of a set, or, where it is a request to join, for every life of their places.
+    #[tactic(auto, using(crate::proofs::Read::spelled))]
     pub fn of(alloc: Global, to: Names, packet: &Packet) -> Result<Letter, NoMemory>
         requires { IsWithin packet.now }
         ensures { IfOk result (λ l. l ≡ letter_to to packet.now) }
     {
-        let mut rooms = Vec::new(alloc);
-        rooms.push(PacketBytes::new(alloc)?)?;
-        Ok(Letter::over(to, packet, &mut rooms))
+        let mut rooms = Vec::with_capacity(alloc, 1)?;
+        let mut written = PacketBytes::new(alloc)?;
+        encode(packet, &mut written);
+        Ok(Letter::with_bytes(to, written, &mut rooms))
     }
 
-    /// The same letter. Its bytes are written into one of these rooms; where they are many it is theirs then. It takes no memory.
-    #[tactic(auto, using(crate::proofs::Read::read_spelled))]
-    pub(crate) fn over(to: Names, packet: &Packet, rooms: &mut Vec<PacketBytes>) -> Letter
-        requires within { IsWithin packet.now }
-        requires room { 0 < vec_len rooms.old }
-        ensures value { result ≡ letter_to to packet.now }
-        ensures left { vec_len rooms.old ≤ vec_len rooms.new + 1 }
+    /// The same of the bytes that were written of a packet. Where they are many, the room in which they stand is its own then,
+    /// else that goes to the rooms. It takes no memory.
+    #[tactic(auto, using(crate::proofs::Read::header))]
+    pub(crate) fn with_bytes(
+        to: Names,
+        written: PacketBytes,
+        rooms: &mut Vec<PacketBytes>,
+    ) -> Letter
+        requires spelled { IsSpelled written }
+        requires room { vec_len rooms.old < vec_capacity rooms.old }
+        ensures value { result ≡ letter_to to (packet_in written) }
+        ensures left { vec_len rooms.old ≤ vec_len rooms.new }
     {
-        let mut written = rooms.pop().unwrap();
-        encode(packet, &mut written);
-        let any = packet.kind() == JOIN_ASK;
+        let any = written.bytes()[KIND_AT] == JOIN_ASK;
         let mut within = ArrayVec::new();
         if within.try_extend_from_slice(written.bytes()).is_ok() {
             rooms.push_reserved(written);

@@ -4,6 +4,7 @@ ghost use Rattle.am_packet.specs.Boxes.{with_letter, place_for};
 ghost use Rattle.am_codec.specs.Limits.{IsWithin};
 
 use crate::letter::Letter;
+use crate::writer::encode;
 use am_base::NoMemory;
 use am_base::body::PacketBytes;
 use am_base::items::Items;
@@ -154,6 +155,7 @@ impl OutBox {
     }
 
     /// Adds a letter behind those of its own kind and of lower ones; nothing where it is for nobody. It takes no memory.
+    #[tactic(auto, using(crate::proofs::Read::spelled))]
     pub fn put(&mut self, to: Names, packet: &Packet)
         requires room { length self.old < 24 }
         requires within { IsWithin packet.now }
@@ -163,7 +165,9 @@ impl OutBox {
             return;
         }
         let at = self.place_for(packet.kind());
-        let letter = Letter::over(to, packet, &mut self.kept.rooms);
+        let mut written = self.kept.rooms.pop().unwrap();
+        encode(packet, &mut written);
+        let letter = Letter::with_bytes(to, written, &mut self.kept.rooms);
         match self.kept.letters.insert(at, letter) {
             Ok(()) => {}
             Err(_) => unreachable!(),

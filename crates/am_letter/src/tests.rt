@@ -3,9 +3,9 @@ ghost use Rattle.am_codec.specs.Limits.{IsWithin};
 
 use crate::letter::Letter;
 use crate::out_box::OutBox;
+use crate::reader::decode;
 use am_base::names::Names;
 use am_codec::vectors::{ACK, ALL, NACK};
-use am_decoding::decode;
 use am_packet::packet::Packet;
 use std::test::*;
 

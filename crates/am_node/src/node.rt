@@ -12,11 +12,11 @@ use am_base::name::{Name, Stamp};
 use am_base::names::Names;
 use am_base::outcome::Outcome;
 use am_core::log::Log;
-use am_decoding::decode;
 use am_handlers::finishing::finish_quietly;
 use am_handlers::parts::Parts;
 use am_info::info::{BallotEnd, Info};
 use am_letter::out_box::OutBox;
+use am_letter::reader::decode;
 use am_model::status::Status;
 use std::alloc::{AllocError, Global};
 

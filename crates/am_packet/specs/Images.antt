@@ -34,7 +34,15 @@ abbrev pub image_of : ImagePlace → Image
 image_of (Apart image) = image.now
 image_of (Among bytes at) = image_in bytes.now at
 
+-- how many bytes sixteen rows have
+abbrev pub rows_length : ℕ
+rows_length = 208
+
+-- how many an image has
+abbrev pub image_length : ℕ
+image_length = 218
+
 -- an image's bytes don't end before it does
 abbrev pub IsPlace : ImagePlace → Type 0
 IsPlace (Apart image) = Unit {0}
-IsPlace (Among bytes at) = at + 218 ≤ length bytes.now
+IsPlace (Among bytes at) = at + image_length ≤ length bytes.now

@@ -1,5 +1,5 @@
 ghost use Rattle.std.specs.Prelude.{◌≡◌, ◌+◌, ◌≤◌, length};
-ghost use Rattle.am_packet.specs.Images.{number_in, row_in, rows_in, image_in};
+ghost use Rattle.am_packet.specs.Images.{number_in, row_in, rows_in, image_in, rows_length, image_length};
 
 use am_base::image::{Image, Row};
 use am_base::name::{Name, Stamp};
@@ -45,7 +45,7 @@ impl<'a> ImageRef<'a> {
 
     /// The image that stands among bytes from an offset on.
     pub fn among(bytes: &'a [u8], at: usize) -> ImageRef<'a>
-        requires { at + 218 ≤ length bytes.now }
+        requires { at + image_length ≤ length bytes.now }
         ensures { result ≡ image_in bytes.now at }
     {
         ImageRef {
@@ -93,7 +93,7 @@ fn row(bytes: &[u8], at: usize) -> Row
 
 /// The rows of the sixteen places from an offset on.
 fn rows(bytes: &[u8], at: usize) -> [Row; 16]
-    requires { at + 208 ≤ length bytes.now }
+    requires { at + rows_length ≤ length bytes.now }
     ensures { result ≡ rows_in 16 bytes.now at }
 {
     let mut rows = [Row::default(); 16];
@@ -105,7 +105,7 @@ fn rows(bytes: &[u8], at: usize) -> [Row; 16]
 
 /// The image at an offset.
 fn image_among(bytes: &[u8], at: usize) -> Image
-    requires { at + 218 ≤ length bytes.now }
+    requires { at + image_length ≤ length bytes.now }
     ensures { result ≡ image_in bytes.now at }
 {
     Image {

@@ -9,7 +9,7 @@ use am_base::name::{Name, Stamp};
 use am_base::names::Names;
 
 /// What nodes tell each other (docs/PROTOCOL.md, "Packets"). Each has its sender and a stamp. Numbers, rounds and
-/// requests are at most 2,000,000,000. Bodies, entries and images stand elsewhere: among a packet's bytes, or in what a node keeps.
+/// requests are at most `MOST_NUMBER`. Bodies, entries and images stand elsewhere: among a packet's bytes, or in what a node keeps.
 #[derive(Drop, Debug)]
 pub enum Packet<'a> {
     /// A send for the sequencer to number.

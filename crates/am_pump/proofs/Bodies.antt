@@ -2,9 +2,9 @@
 use Rattle.std.proofs.Common.{◌≡◌, ℕ, ◌+◌, ◌%◌, ◌<◌, ◌≤◌, List, length, take, get_or, ◌∙◌, arith}
 use Rattle.std.proofs.lemmas.List.FromFn.{fill_by_all}
 use Rattle.std.proofs.lemmas.List.{length-take-le, get_or-take}
-use Rattle.am_pump.specs.Generating.{counting}
+use Rattle.am_pump.specs.Generating.{most_drawn, counting}
 
-pub filled : (bytes : List ℕ) (number size index : ℕ) → length bytes ≡ 512 → size ≤ 512 → size ≤ index
+pub filled : (bytes : List ℕ) (number size index : ℕ) → length bytes ≡ most_drawn → size ≤ most_drawn → size ≤ index
     → ((k : ℕ) → k < index → get_or bytes k 0 ≡ (number + k) % 256) → take size bytes ≡ counting number size
 filled bytes number size index long few done all =
     fill_by_all (λ i. (number + i) % 256) (take size bytes) size 0 (length-take-le size bytes (omega arith))

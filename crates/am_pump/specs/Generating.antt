@@ -51,6 +51,10 @@ turn_of number =
     else if nat_lt number 7 then turn.Tick
     else turn.Choose
 
+-- of bytes in a body that is drawn
+abbrev pub most_drawn : ℕ
+most_drawn = 512
+
 -- a body whose bytes count on from a number
 abbrev pub counting : ℕ → ℕ → List ℕ
 counting number size = map (λ i. (number + i) % 256) (range_with_len 0 size)
@@ -72,7 +76,7 @@ choice_at d place = choice_of d.luck (next_for (replay d.play).letters place (pr
 
 -- what a place does at a turn
 unfoldable pub act_at : Drive → ℕ → Turn → Act
-act_at d place turn.Send = act.Send (counting (number_after (replay d.play)) (draw d.words 513))
+act_at d place turn.Send = act.Send (counting (number_after (replay d.play)) (draw d.words (most_drawn + 1)))
 act_at d place turn.Done = act.Done (sent_by (replay d.play) place + 1)
 act_at d place turn.Take = act.Take
 act_at d place turn.Tick = act.Tick

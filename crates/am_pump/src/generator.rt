@@ -1,8 +1,8 @@
-ghost use Rattle.std.specs.Prelude.{◌≡◌, ◌<◌, ◌≤◌, IfOk};
+ghost use Rattle.std.specs.Prelude.{◌≡◌, ◌+◌, ◌<◌, ◌≤◌, IfOk};
 ghost use Rattle.am_base.specs.Most.{most_events};
 ghost use Rattle.am_chooser.specs.Choices.{draw, after_draw};
 ghost use Rattle.am_pump.specs.Counts.{ends_sent, seen_after};
-ghost use Rattle.am_pump.specs.Generating.{generated_rules, turn_of, counting};
+ghost use Rattle.am_pump.specs.Generating.{generated_rules, most_drawn, turn_of, counting};
 
 use am_base::NoMemory;
 use am_base::body::SentBody;
@@ -61,8 +61,8 @@ fn draw(words: &mut Lcg64Xsh32, bound: u32) -> u32
 
 /// A body whose bytes count on from a number.
 fn counting(alloc: Global, number: usize, size: usize) -> Result<SentBody, NoMemory>
-    requires number { number ≤ 100001 }
-    requires size { size ≤ 512 }
+    requires number { number ≤ most_events + 1 }
+    requires size { size ≤ most_drawn }
     ensures { IfOk result (λ body. body ≡ counting number size) }
 {
     let mut bytes = [0; MOST_DRAWN];
@@ -199,7 +199,7 @@ impl Generator {
         ensures turned { self.new ≡ after_turn self.old place Turn.Send }
     {
         let number = self.world.journal().records().len() + 1;
-        let size = draw(&mut self.words, 513) as usize;
+        let size = draw(&mut self.words, MOST_DRAWN as u32 + 1) as usize;
         Ok(Act::Send(counting(self.alloc, number, size)?))
     }
 

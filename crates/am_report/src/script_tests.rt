@@ -46,8 +46,8 @@ fn acts_with_texts() -> [(u8, Act, &'static str); 14] {
         (4, Act::Stop, r#"{"do":"stop","node":4}"#),
         (
             6,
-            Act::Hear(2_000_000_000),
-            r#"{"do":"hear","node":6,"packet":2000000000}"#,
+            Act::Hear(70_009),
+            r#"{"do":"hear","node":6,"packet":70009}"#,
         ),
         (7, cut, r#"{"do":"cut","keep":1152,"node":7,"packet":8}"#),
         (19, Act::Return, r#"{"do":"return","node":3}"#),

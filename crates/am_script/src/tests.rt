@@ -174,13 +174,13 @@ fn long_bodies(rt: HostRuntime) -> Result<(), Fail> {
 
 /// One event of each kind, and what they are.
 const ACTS: &str =
-    r#"{"do":"send","node":1,"body":"616f"},{"do":"done","node":1,"req":2000000000},{"do":"take","node":15},{"do":"join","node":4},{"do":"state","node":4},{"do":"leave","node":3},{"do":"reset","node":1,"least":16},{"do":"reset","node":1,"least":1,"resilience":0},{"do":"ask","node":1,"round":2},{"do":"giveup","node":1,"name":3},{"do":"giveup","node":1,"name":3,"life":2},{"do":"stop","node":3},{"do":"tick","node":1},{"do":"hear","node":1,"packet":7},{"do":"cut","node":1,"packet":8,"keep":1152},{"do":"return","node":3}"#;
+    r#"{"do":"send","node":1,"body":"616f"},{"do":"done","node":1,"req":70009},{"do":"take","node":15},{"do":"join","node":4},{"do":"state","node":4},{"do":"leave","node":3},{"do":"reset","node":1,"least":16},{"do":"reset","node":1,"least":1,"resilience":0},{"do":"ask","node":1,"round":2},{"do":"giveup","node":1,"name":3},{"do":"giveup","node":1,"name":3,"life":2},{"do":"stop","node":3},{"do":"tick","node":1},{"do":"hear","node":1,"packet":7},{"do":"cut","node":1,"packet":8,"keep":1152},{"do":"return","node":3}"#;
 
 /// Whether the event at an index is the one of `ACTS` there.
 fn is_wanted(at: usize, event: &Event) -> bool {
     match (at, &event.act) {
         (0, Act::Send(body)) => body.bytes() == b"ao".as_slice() && event.node.get() == 1,
-        (1, Act::Done(2_000_000_000)) => event.node.get() == 1,
+        (1, Act::Done(70_009)) => event.node.get() == 1,
         (2, Act::Take) => event.node.get() == 15,
         (3, Act::Join) | (4, Act::State) => event.node.get() == 4,
         (5, Act::Leave) | (11, Act::Stop) | (15, Act::Return) => event.node.get() == 3,

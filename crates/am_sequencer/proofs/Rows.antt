@@ -2,16 +2,19 @@
 use Rattle.std.proofs.Common.{◌≡◌, ℕ, ◌+◌, ◌<◌, ◌≤◌, List, Bool, true, false, not, nat_lt, nat_le, if◌then◌else◌, Option, Some, None, refl, sym, ◌∙◌, ap, arith}
 use Rattle.std.proofs.lemmas.Bool.Decides.{nat_tests}
 use Rattle.am_base.specs.declared.image.Report.{Report}
-use Rattle.am_base.specs.declared.image.Row.{Row}
 use Rattle.am_base.specs.declared.outcome.Outcome.{Outcome}
 use Rattle.am_base.specs.declared.outcome.Outcome.TheVariants as said
 use Rattle.am_model.specs.Node.{Node, top, only_name, has_room, report_fits, with_report}
 use Rattle.am_model.specs.Emit.{Plan, quiet, polling, and_telling, hold_of}
-use Rattle.am_model.specs.Ends.{Tells}
+use Rattle.am_packet.specs.Boxes.{Letter}
+use Rattle.am_core.specs.Cores.{IsInOrder}
+use Rattle.am_ends.proofs.Sequencing.{alike_requested}
+use Rattle.am_model.specs.Ends.{IsEndOf, Does, Tells}
 use Rattle.am_model.specs.Sequencing.{row_at, is_unknown, take_report, ack_row, serve_again, serve, nack_row, answer_request, number_data, request_row}
 use Rattle.am_handlers.proofs.Ends.{tells}
-use Rattle.am_handlers.specs.Finishing.{unless}
-use Rattle.am_sequencer.specs.Pieces.{following, report_refusal}
+use Rattle.am_handlers.proofs.Plans.{does_now, done_whole}
+use Rattle.am_handlers.specs.Finishing.{Done, unless}
+use Rattle.am_sequencer.specs.Pieces.{following, report_refusal, request_refusal}
 
 -- ---- a report
 
@@ -70,49 +73,49 @@ again_served m to stored low =
 
 -- ---- a send
 
-pub requested_left : (m : Node) (from req : ℕ) (body : List ℕ) (by_order : Bool) (r : Row) → r ≡ row_at m from → 0 < r.left
-    → answer_request m from req body by_order ≡ quiet m said.Stranger
-requested_left m from req body by_order r is left =
-    let e = ap (λ (x : Row). x.left) is in
-    let test : nat_lt 0 (row_at m from).left ≡ true = grind (arith, nat_tests) in
-    rw test refl
+-- once the report is taken, what is done is what the row asks for
+pub after_report : (before : ℕ) (old mid new : Node) (from : ℕ) (report : Report) (req : ℕ) (body : List ℕ) (by_order : Bool) (answer : Outcome)
+    (letters : List Letter) → before ≡ old.core.acc → None ≡ report_refusal old from report → IsEndOf (take_report old from report) mid
+    → IsInOrder mid.core → Done before (answer_request mid from req body by_order) answer letters new
+    → Does (λ m. request_row m from report req body by_order) old answer letters new
+after_report before old mid new from report req body by_order answer letters acc none end order does =
+    does_now (λ m. request_row m from report req body by_order) old acc (request_by old from report req body by_order None none)
+    (done_whole before (λ m. answer_request m from req body by_order) (take_report old from report) mid new answer letters end order
+    (λ all keeps. alike_requested all mid from req body by_order keeps) does)
 
-pub requested_again : (m : Node) (from req : ℕ) (body : List ℕ) (by_order : Bool) (r : Row) → r ≡ row_at m from → r.left ≤ 0 → req ≤ r.last
-    → answer_request m from req body by_order ≡ quiet m said.Again
-requested_again m from req body by_order r is stays low =
-    let e = ap (λ (x : Row). x.left) is in
-    let f = ap (λ (x : Row). x.last) is in
-    let left : nat_lt 0 (row_at m from).left ≡ false = grind (arith, nat_tests) in
-    let last : nat_le req (row_at m from).last ≡ true = grind (arith, nat_tests) in
-    rw (left, last) refl
+-- a row that goes on with a look at its sender's row
+by_row : (left last early : Bool) (m : Node) (at : ℕ) (plan : Plan)
+    → (if left then quiet m said.Stranger else if last then quiet m said.Again else if early then quiet m (said.Early at) else plan)
+    ≡ unless (if left then Some said.Stranger else if last then Some said.Again else if early then Some (said.Early at) else None) m plan
+by_row true last early m at plan = refl
+by_row false true early m at plan = refl
+by_row false false true m at plan = refl
+by_row false false false m at plan = refl
 
-pub requested_early : (m : Node) (from req : ℕ) (body : List ℕ) (by_order : Bool) (r : Row) → r ≡ row_at m from → r.left ≤ 0 → r.last + 1 < req
-    → answer_request m from req body by_order ≡ quiet m (said.Early r.last)
-requested_early m from req body by_order r is stays early =
-    let e = ap (λ (x : Row). x.left) is in
-    let f = ap (λ (x : Row). x.last) is in
-    let left : nat_lt 0 (row_at m from).left ≡ false = grind (arith, nat_tests) in
-    let last : nat_le req (row_at m from).last ≡ false = grind (arith, nat_tests) in
-    let next : nat_lt ((row_at m from).last + 1) req ≡ true = grind (arith, nat_tests) in
-    rw (left, last, next) (ap (λ (x : Row). quiet m (said.Early x.last)) (sym is))
+-- what is done with a send that is its sender's next one
+next_send : Node → ℕ → ℕ → List ℕ → Bool → Plan
+next_send m from req body by_order =
+    if not (has_room m) then and_telling (polling m (said.Held m.core.base (top m))) (only_name from) (λ n. hold_of n req)
+    else number_data m from req body by_order
 
--- a new send of a name that hasn't left
-new_send : (m : Node) (from req : ℕ) (r : Row) → r ≡ row_at m from → r.left ≤ 0 → req ≡ r.last + 1
-    → (nat_lt 0 (row_at m from).left ≡ false) × (nat_le req (row_at m from).last ≡ false) × (nat_lt ((row_at m from).last + 1) req ≡ false)
-new_send m from req r is stays new =
-    let e = ap (λ (x : Row). x.left) is in
-    let f = ap (λ (x : Row). x.last) is in
-    let left : nat_lt 0 (row_at m from).left ≡ false = grind (arith, nat_tests) in
-    let last : nat_le req (row_at m from).last ≡ false = grind (arith, nat_tests) in
-    let next : nat_lt ((row_at m from).last + 1) req ≡ false = grind (arith, nat_tests) in
-    (left, last, next)
+request_next : (m : Node) (from req : ℕ) (body : List ℕ) (by_order : Bool) (refusal : Option Outcome) → refusal ≡ request_refusal (row_at m from) req
+    → answer_request m from req body by_order ≡ unless refusal m (next_send m from req body by_order)
+unfolding next_send
+request_next m from req body by_order refusal is =
+    let r = row_at m from in
+    let plan = next_send m from req body by_order in
+    by_row (nat_lt 0 r.left) (nat_le req r.last) (nat_lt (r.last + 1) req) m r.last plan ∙ ap (λ (o : Option Outcome). unless o m plan) (sym is)
 
-pub requested_held : (m : Node) (from req : ℕ) (body : List ℕ) (by_order : Bool) (r : Row) → r ≡ row_at m from → r.left ≤ 0 → req ≡ r.last + 1
-    → has_room m ≡ false
+pub request_refused : (m : Node) (from req : ℕ) (body : List ℕ) (by_order : Bool) (answer : Outcome) → Some answer ≡ request_refusal (row_at m from) req
+    → answer_request m from req body by_order ≡ quiet m answer
+request_refused m from req body by_order answer is = request_next m from req body by_order (Some answer) is
+
+pub request_held : (m : Node) (from req : ℕ) (body : List ℕ) (by_order : Bool) → None ≡ request_refusal (row_at m from) req → has_room m ≡ false
     → answer_request m from req body by_order ≡ and_telling (polling m (said.Held m.core.base (top m))) (only_name from) (λ n. hold_of n req)
-requested_held m from req body by_order r is stays new full = let t = new_send m from req r is stays new in rw (t.0, t.1, t.2, full) refl
+unfolding next_send
+request_held m from req body by_order is full = request_next m from req body by_order None is ∙ rw full refl
 
-pub requested_next : (m : Node) (from req : ℕ) (body : List ℕ) (by_order : Bool) (r : Row) → r ≡ row_at m from → r.left ≤ 0 → req ≡ r.last + 1
-    → has_room m ≡ true
+pub request_numbered : (m : Node) (from req : ℕ) (body : List ℕ) (by_order : Bool) → None ≡ request_refusal (row_at m from) req → has_room m ≡ true
     → answer_request m from req body by_order ≡ number_data m from req body by_order
-requested_next m from req body by_order r is stays new room = let t = new_send m from req r is stays new in rw (t.0, t.1, t.2, room) refl
+unfolding next_send
+request_numbered m from req body by_order is room = request_next m from req body by_order None is ∙ rw room refl

@@ -1,6 +1,7 @@
 -- Pieces of the sequencer's rows.
-use Rattle.std.specs.Prelude.{ℕ, List, Bool, not, nat_lt, if◌then◌else◌, Option, Some, None}
+use Rattle.std.specs.Prelude.{ℕ, ◌+◌, List, Bool, not, nat_lt, nat_le, if◌then◌else◌, Option, Some, None}
 use Rattle.am_base.specs.declared.image.Report.{Report}
+use Rattle.am_base.specs.declared.image.Row.{Row}
 use Rattle.am_base.specs.declared.entry.Entry.{Entry}
 use Rattle.am_base.specs.declared.entry.Entry.TheVariants.{Data}
 use Rattle.am_base.specs.declared.outcome.Outcome.{Outcome}
@@ -19,6 +20,14 @@ following before m = record (quiet m said.Noted) { outcome = λ n. if nat_lt bef
 -- what is told of a report that isn't taken
 abbrev pub report_refusal : Node → ℕ → Report → Option Outcome
 report_refusal m from report = if is_unknown m from then Some said.Stranger else if not (report_fits m report) then Some said.Unfit else None
+
+-- what is told of a send that isn't its sender's next one, or whose sender has left, by the sender's row
+abbrev pub request_refusal : Row → ℕ → Option Outcome
+request_refusal r req =
+    if nat_lt 0 r.left then Some said.Stranger
+    else if nat_le req r.last then Some said.Again
+    else if nat_lt (r.last + 1) req then Some (said.Early r.last)
+    else None
 
 -- the packet of a numbered send: its number alone where everybody has its body
 abbrev pub data_packet : ℕ → ℕ → ℕ → List ℕ → Bool → Node → Packet

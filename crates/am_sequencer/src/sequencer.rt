@@ -3,13 +3,14 @@ ghost use Rattle.am_handlers.specs.Prelude.{IsNumber, top, node_of, Finishes, Pe
 ghost use Rattle.am_model.specs.Sequencing.{is_unknown, ack_row, nack_row, request_row};
 ghost use Rattle.am_sequencer.specs.Pieces.{following, report_refusal};
 
-use crate::numbering::answer_request;
+use crate::numbering::{data_packet, put_off, request_refusal};
 use crate::serving::serve_again;
 use am_base::body::BodyRef;
+use am_base::entry::Entry;
 use am_base::image::Report;
 use am_base::name::Name;
 use am_base::outcome::Outcome;
-use am_handlers::asking::{is_unknown, report_fits};
+use am_handlers::asking::{has_room, is_unknown, next_number, report_fits, row};
 use am_handlers::finishing::finish_quietly;
 use am_handlers::parts::Parts;
 use am_letter::out_box::OutBox;
@@ -100,5 +101,22 @@ pub fn on_request(
         return finish_quietly(parts, before, answer, out);
     }
     parts.take_report(from, report);
-    answer_request(parts, before, from, req, body, by_order, out)
+    let row = row(parts, from);
+    if let Some(answer) = request_refusal(row, req) {
+        return finish_quietly(parts, before, answer, out);
+    }
+    if !has_room(parts) {
+        return put_off(parts, before, from, req, out);
+    }
+    let number = next_number(parts);
+    let others = parts.others();
+    parts.push(Entry::Data {
+        from,
+        req,
+        body: body.to_body(),
+    });
+    parts.end();
+    let packet = data_packet(&parts.core, number, from, req, body, by_order);
+    out.put(others, &packet);
+    Outcome::Numbered { number }
 }

@@ -69,7 +69,7 @@ letter_case w e false stopped what s h = refl
 letter_case w e true true what s h = refl
 letter_case w e true false what s h = ap (with_step w e (name_of w e)) (sym h)
 
-on_ok : {T E : Type 0} {P Q : Type 0} (r : Result T E) → (P → Q) → OnOk r P → OnOk r Q
+pub on_ok : {T E : Type 0} {P Q : Type 0} (r : Result T E) → (P → Q) → OnOk r P → OnOk r Q
 on_ok (Ok x) f h = f h
 on_ok (Err x) f h = h
 
@@ -125,7 +125,8 @@ heard_now : (w : World) (e : Event) (flags : List Bool) (number : ℕ) → ((nam
 heard_now w e flags number agree spells =
     let found = letter_at w.letters number in
     hear_case w e None (flag_of flags (name_of w e)) (hear (w.nodes (name_of w e))) found (λ p is. spelling_is_heard (w.nodes (name_of w e)) p is)
-    (on_ok (asked_now w e flags (act.Hear number)) (λ (all : SpellsPacket w.letters (act.Hear number)). λ l is. all number l refl is) spells)
+    (on_ok (asked_now w e flags (act.Hear number)) (λ (all : SpellsPacket w.letters (act.Hear number)).
+    λ l is. all (record { packet = number; keep = None }) l refl is) spells)
     (sym (agree (name_of w e)))
 
 cut_now : (w : World) (e : Event) (flags : List Bool) (number keep : ℕ) → ((name : ℕ) → flag_of flags name ≡ is_stopped w name)
@@ -135,7 +136,8 @@ cut_now w e flags number keep agree spells =
     let found = letter_at w.letters number in
     hear_case w e (Some keep) (flag_of flags (name_of w e)) (hear_cut (w.nodes (name_of w e)) keep) found
     (λ p is. cut_is_heard (w.nodes (name_of w e)) p keep is)
-    (on_ok (asked_now w e flags (act.Cut number keep)) (λ (all : SpellsPacket w.letters (act.Cut number keep)). λ l is. all number l refl is) spells)
+    (on_ok (asked_now w e flags (act.Cut number keep)) (λ (all : SpellsPacket w.letters (act.Cut number keep)).
+    λ l is. all (record { packet = number; keep = Some keep }) l refl is) spells)
     (sym (agree (name_of w e)))
 
 by_act : (w : World) (e : Event) (flags : List Bool) (a : Act) → ((name : ℕ) → flag_of flags name ≡ is_stopped w name) → place_of e.node < 16

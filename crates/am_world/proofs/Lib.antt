@@ -5,6 +5,7 @@ pub mod Comes
 pub mod Begins
 pub mod Fresh
 pub mod Goes
+pub mod Heard
 pub mod Stops
 pub mod Returns
 pub mod Acts

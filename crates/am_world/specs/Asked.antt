@@ -16,6 +16,7 @@ use Rattle.am_group.specs.Journals.{letter_at}
 use Rattle.am_group.specs.Addressed.{is_for}
 use Rattle.am_model.specs.Step.{step}
 use Rattle.am_play.specs.World.{World, current, with_record, with_step, lives_on}
+use Rattle.am_world.specs.declared.asked.Heard.{Heard}
 
 -- whether a name has stopped, by the flags of all names
 abbrev pub flag_of : List Bool → ℕ → Bool
@@ -62,15 +63,15 @@ event_or_answer letters flags departed name (act.Hear number) = hears None name 
 event_or_answer letters flags departed name (act.Cut number keep) = hears (Some keep) name (flag_of flags name) (letter_at letters number)
 event_or_answer letters flags departed name act.Return = Err (returns (flag_of flags name || departed) (life_of name))
 
--- the number of the packet that an act hears
-abbrev pub heard_number : Act → Option ℕ
-heard_number (act.Hear number) = Some number
-heard_number (act.Cut number keep) = Some number
-heard_number _ = None
+-- the packet that an act hears, and how many of its first bytes
+abbrev pub heard_of : Act → Option Heard
+heard_of (act.Hear number) = Some (record { packet = number; keep = None })
+heard_of (act.Cut number keep) = Some (record { packet = number; keep = Some keep })
+heard_of _ = None
 
 -- what an act hears is a packet's spelling
 abbrev pub SpellsPacket : List Letter → Act → Type 0
-SpellsPacket letters a = (number : ℕ) (letter : Letter) → heard_number a ≡ Some number → letter_at letters number ≡ Some letter → IsPacket letter.packet
+SpellsPacket letters a = (h : Heard) (letter : Letter) → heard_of a ≡ Some h → letter_at letters h.packet ≡ Some letter → IsPacket letter.packet
 
 -- what comes of it
 abbrev pub after_answer : World → Event → Outcome → World

@@ -1,26 +1,16 @@
-ghost use Rattle.std.specs.Prelude.{◌≡◌, ◌||◌, Some, OnOk, IfOk, length, take, Ok, Err};
-ghost use Rattle.std.specs.Option.{option_copied};
+ghost use Rattle.std.specs.Prelude.{◌≡◌, ◌||◌, [], Some, None, IfOk, length, take, Ok, Err};
 ghost use Rattle.am_base.specs.declared.event.NodeEvent.TheVariants as does;
 ghost use Rattle.am_base.specs.Names.{life_of};
-ghost use Rattle.am_packet.specs.Boxes as boxes;
-ghost use Rattle.am_codec.specs.Limits.{IsPacket};
-ghost use Rattle.am_codec.specs.Spelling.{spelling};
-ghost use Rattle.am_group.specs.Journals.{letters_of, letter_at};
 ghost use Rattle.am_world.specs.Asked as asks;
-ghost use Rattle.am_world.specs.Asked.{flag_of, if_running, first_bytes, SpellsPacket};
+ghost use Rattle.am_world.specs.Asked.{flag_of, if_running, first_bytes, heard_of};
 
 use am_base::NoMemory;
 use am_base::body::SentBody;
 use am_base::event::NodeEvent;
-use am_base::items::Items;
 use am_base::name::Name;
 use am_base::outcome::Outcome;
-use am_group::addressed::is_for;
 use am_group::event::Act;
-use am_group::journal::Journal;
-use am_letter::letter::Letter;
 use std::alloc::Global;
-use std::mem;
 
 /// Whether a name has stopped.
 pub fn is_stopped(stopped: &[bool; 256], name: Name) -> bool
@@ -39,7 +29,7 @@ fn if_running(stopped: bool, what: NodeEvent) -> Result<NodeEvent, Outcome>
 }
 
 /// The bytes, or only so many of the first of them.
-fn first_bytes(bytes: &[u8], keep: Option<u32>) -> &[u8]
+pub fn first_bytes(bytes: &[u8], keep: Option<u32>) -> &[u8]
     ensures { result.now ≡ first_bytes keep bytes.now }
 {
     match keep {
@@ -51,34 +41,30 @@ fn first_bytes(bytes: &[u8], keep: Option<u32>) -> &[u8]
     }
 }
 
-/// A name hears a letter, or only the first of its bytes. They stand in the room that there is for them.
-#[inline(never)]
-fn hears(
-    alloc: Global,
-    room: &mut Vec<u8>,
-    letter: Option<&Letter>,
-    keep: Option<u32>,
-    name: Name,
-    stopped: bool,
-) -> Result<Result<NodeEvent, Outcome>, NoMemory>
-    ensures value { IfOk result (λ r. r ≡ asks.hears keep name stopped
-        (option_copied letter.entry)) }
-    ensures packet { IfOk result (λ r. OnOk r ((l : boxes.Letter)
-        → option_copied letter.entry ≡ Some l → IsPacket l.packet)) }
+/// What is heard of a packet.
+#[derive(Clone, Copy, PartialEq, Eq, Debug)]
+pub struct Heard {
+    /// The packet's number, from 1.
+    pub packet: u32,
+    /// How many of its first bytes; all of them where there is none.
+    pub keep: Option<u32>,
+}
+
+/// What an act hears; None where it is something else.
+pub fn heard_by(act: &Act) -> Option<Heard>
+    ensures { result ≡ heard_of act.now }
 {
-    let Some(letter) = letter else {
-        return Ok(Err(Outcome::NoPacket));
-    };
-    if !is_for(letter, name) {
-        return Ok(Err(Outcome::NotAddressed));
+    match act {
+        Act::Hear(packet) => Some(Heard {
+            packet: *packet,
+            keep: None,
+        }),
+        Act::Cut { packet, keep } => Some(Heard {
+            packet: *packet,
+            keep: Some(*keep),
+        }),
+        _ => None,
     }
-    if stopped {
-        return Ok(Err(Outcome::IsStopped));
-    }
-    let mut bytes = mem::replace(room, Vec::new(alloc));
-    bytes.clear();
-    bytes.extend_from_slice(first_bytes(letter.bytes(), keep))?;
-    Ok(Ok(NodeEvent::Hear(Items::of(bytes))))
 }
 
 /// The room of what was heard is there for what is heard next.
@@ -135,21 +121,16 @@ fn returns(is_gone: bool, name: Name) -> Outcome
     Outcome::Returned { life: life + 1 }
 }
 
-/// What an act asks of a name's node, or how it is answered without one. Bytes that are heard stand in the room that there is
-/// for them.
-pub fn event_or_answer(
+/// What an act that hears nothing asks of a name's node, or how it is answered without one.
+pub fn call_or_answer(
     alloc: Global,
-    room: &mut Vec<u8>,
-    journal: &Journal,
     stopped: &[bool; 256],
     has_departed: bool,
     name: Name,
     act: &Act,
 ) -> Result<Result<NodeEvent, Outcome>, NoMemory>
-    ensures value { IfOk result (λ r. r ≡ asks.event_or_answer
-        (letters_of journal.now.records) stopped.now has_departed name act.now) }
-    ensures packet { IfOk result (λ r. OnOk r
-        (SpellsPacket (letters_of journal.now.records) act.now)) }
+    requires { heard_of act.now ≡ None }
+    ensures { IfOk result (λ r. r ≡ asks.event_or_answer [] stopped.now has_departed name act.now) }
 {
     let is_stopped = is_stopped(stopped, name);
     Ok(match act {
@@ -170,17 +151,7 @@ pub fn event_or_answer(
         Act::GiveUp(other) => gives_up(stopped, name, *other),
         Act::Stop => Err(stops(is_stopped)),
         Act::Tick => if_running(is_stopped, NodeEvent::Tick),
-        Act::Hear(number) => hears(alloc, room, journal.packet(*number), None, name, is_stopped)?,
-        Act::Cut { packet, keep } => {
-            hears(
-                alloc,
-                room,
-                journal.packet(*packet),
-                Some(*keep),
-                name,
-                is_stopped,
-            )?
-        }
         Act::Return => Err(returns(is_stopped || has_departed, name)),
+        Act::Hear(_) | Act::Cut { .. } => unreachable!(),
     })
 }

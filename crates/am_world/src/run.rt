@@ -8,7 +8,7 @@ ghost use Rattle.am_model.specs.Ends.{IsEndOf};
 ghost use Rattle.am_node.specs.Stands.{state_of};
 ghost use Rattle.am_world.specs.Runs.{AreNodes, AreFirst, the_record};
 
-use crate::asked::{event_or_answer, is_stopped};
+use crate::asked::{call_or_answer, first_bytes, heard_by, is_stopped};
 use crate::nodes::{empty_box, grow, make_room, packets_of, spare_entry_at};
 use am_base::NoMemory;
 use am_base::entry::Entry;
@@ -18,6 +18,7 @@ use am_base::items::Items;
 use am_base::limits::MOST_EVENTS;
 use am_base::name::Name;
 use am_base::outcome::Outcome;
+use am_group::addressed::is_for;
 use am_group::event::{By, Event, Part, Record};
 use am_group::journal::Journal;
 use am_letter::letter::Letter;
@@ -27,6 +28,7 @@ use am_node::founding::founders_view;
 use am_node::node::Node;
 use std::alloc::Global;
 use std::marker::Model;
+use std::mem;
 
 /// A life's first node: a founder's, or one that no one has seen.
 fn first_node(alloc: Global, name: Name, founding: &Founding) -> Result<Node, NoMemory>
@@ -306,16 +308,23 @@ impl Run {
             (λ o. IsNextLife (current (replay self.now) (place_of event.now.node)) o)) }
     {
         let name = self.name_at(event.node);
-        let has_departed = has_departed(self.node(event.node).status());
-        event_or_answer(
-            self.alloc,
-            room,
-            &self.journal,
-            &self.stopped,
-            has_departed,
-            name,
-            &event.act,
-        )
+        let Some(heard) = heard_by(&event.act) else {
+            let has_departed = has_departed(self.node(event.node).status());
+            return call_or_answer(self.alloc, &self.stopped, has_departed, name, &event.act);
+        };
+        let Some(letter) = self.journal.packet(heard.packet) else {
+            return Ok(Err(Outcome::NoPacket));
+        };
+        if !is_for(letter, name) {
+            return Ok(Err(Outcome::NotAddressed));
+        }
+        if is_stopped(&self.stopped, name) {
+            return Ok(Err(Outcome::IsStopped));
+        }
+        let mut bytes = mem::replace(room, Vec::new(self.alloc));
+        bytes.clear();
+        bytes.extend_from_slice(first_bytes(letter.bytes(), heard.keep))?;
+        Ok(Ok(NodeEvent::Hear(Items::of(bytes))))
     }
 
     /// Whether a name has stopped, by a Stop or because its place has a greater life.

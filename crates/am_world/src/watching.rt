@@ -11,7 +11,7 @@ ghost use Rattle.am_world.specs.Watched.{entry_in, begins, standing_after, one_o
 use am_base::entry::Entry;
 use am_base::event::NodeEvent;
 use am_base::name::{Name, Stamp};
-use am_decoding::decode;
+use am_letter::reader::decode;
 use am_model::status::Status;
 use am_node::node::Node;
 use am_packet::packet::Packet;

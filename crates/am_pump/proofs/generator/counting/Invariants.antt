@@ -1,5 +1,8 @@
 use Rattle.std.proofs.Common.{◌≡◌, ℕ, ◌+◌, ◌%◌, ◌<◌, length, slice_index}
+use Rattle.am_pump.specs.Generating.{most_drawn}
 use Rattle.am_pump.proofs.generator.counting.Given as goal
 
 abbrev pub invariant-loop-index : goal.invariant-loop-index
-invariant-loop-index l = (length l.bytes ≡ 512) × (l.next ≡ (l.number + l.index) % 256) × ((k : ℕ) → k < l.index → slice_index l.bytes k ≡ (l.number + k) % 256)
+invariant-loop-index l =
+    (length l.bytes ≡ most_drawn) × (l.next ≡ (l.number + l.index) % 256)
+    × ((k : ℕ) → k < l.index → slice_index l.bytes k ≡ (l.number + k) % 256)

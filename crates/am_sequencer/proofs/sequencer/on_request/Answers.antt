@@ -1,14 +1,26 @@
-use Rattle.std.proofs.Common.{Some, None, sym, ◌∙◌}
-use Rattle.am_model.specs.Node.{Node}
-use Rattle.am_model.specs.Sequencing.{take_report, request_row, answer_request}
-use Rattle.am_handlers.specs.Parts.{node_of}
-use Rattle.am_handlers.proofs.Plans.{does_now, done_whole}
-use Rattle.std.proofs.Common.{arith, ap, ◌==◌}
+use Rattle.std.proofs.Common.{◌≡◌, ◌+◌, ℕ, List, [], Some, true, false, refl, sym, ◌∙◌, ap, ◌==◌, subst}
+use Rattle.am_base.specs.declared.entry.Entry.{Entry}
+use Rattle.am_base.specs.declared.entry.Entry.TheVariants.{Data}
 use Rattle.am_base.specs.declared.image.Image.{Image}
+use Rattle.am_base.specs.declared.image.Row.{Row}
+use Rattle.am_base.specs.declared.outcome.Outcome.{Outcome}
+use Rattle.am_base.specs.declared.outcome.Outcome.TheVariants as said
 use Rattle.am_base.specs.Lists.{row_of}
-use Rattle.am_ends.proofs.Sequencing.{alike_requested}
-use Rattle.am_handlers.proofs.Keeping.{steady_leads}
-use Rattle.am_sequencer.proofs.Rows.{request_by}
+use Rattle.am_base.specs.Names.{has}
+use Rattle.am_core.proofs.Members.{members_pushed}
+use Rattle.am_packet.specs.Boxes.{Letter, with_letter}
+use Rattle.am_model.specs.Node.{Node, top, image_of, others, push_entry}
+use Rattle.am_model.specs.Emit.{Plan}
+use Rattle.am_model.specs.Ends.{IsEndOf, Tells}
+use Rattle.am_model.specs.Sequencing.{request_row, number_data}
+use Rattle.am_handlers.specs.Parts.{node_of, with_told}
+use Rattle.am_handlers.specs.Finishing.{Done}
+use Rattle.am_handlers.proofs.Ends.{end_self}
+use Rattle.am_handlers.proofs.Keeping.{keeps_pushed, leading_log, steady_leads}
+use Rattle.am_handlers.proofs.Plans.{does_now, done, end_tells, letter_tells, told_numbered}
+use Rattle.am_sequencer.specs.Pieces.{data_packet, request_refusal}
+use Rattle.am_sequencer.proofs.Numbers.{next_fits}
+use Rattle.am_sequencer.proofs.Rows.{request_by, after_report, request_refused, request_held, request_numbered}
 use Rattle.am_sequencer.proofs.sequencer.on_request.Goals as goal
 
 pub returns-in-Some : goal.returns-in-Some
@@ -18,23 +30,73 @@ returns-in-Some c =
     (request_by old c.args.from c.args.report c.args.req c.args.body.now c.args.by_order (Some c.in-Some.answer)
     (sym c.in-Some.is ∙ c.report_refusal.ensures.value)) c.finish_quietly.ensures
 
-pub answer_request-requires-clause-leads : goal.answer_request-requires-clause-leads
-answer_request-requires-clause-leads c = steady_leads (node_of c.args.parts.now) (node_of c.take_report.new.self) c.take_report.ensures.steady
-    ∙ c.requires.serves.leads
+pub returns-in-Some-request_refusal : goal.returns-in-Some-request_refusal
+returns-in-Some-request_refusal c =
+    let mid = node_of c.take_report.new.self in
+    let answer = c.in-Some-request_refusal.answer in
+    let P : Plan → Type 0 = λ p. Done c.accept_front-before.result p c.finish_quietly-in-Some-request_refusal.result
+    c.finish_quietly-in-Some-request_refusal.new.out (node_of c.finish_quietly-in-Some-request_refusal.new.parts) in
+    after_report c.accept_front-before.result (node_of c.args.parts.now) mid _ c.args.from c.args.report c.args.req c.args.body.now c.args.by_order _ _
+    c.accept_front-before.ensures.value (sym c.in_default.is ∙ c.report_refusal.ensures.value) c.take_report.ensures.end c.take_report.ensures.order
+    (subst P (sym (request_refused mid c.args.from c.args.req c.args.body.now c.args.by_order answer
+    (sym c.in-Some-request_refusal.is ∙ c.request_refusal.ensures.value ∙ ap (λ (r : Row). request_refusal r c.args.req) c.row-row.ensures.value)))
+    c.finish_quietly-in-Some-request_refusal.ensures)
 
-pub answer_request-requires-clause-known : goal.answer_request-requires-clause-known
-answer_request-requires-clause-known c = ap (λ (i : Image). (row_of i c.args.from).joined == 0) c.take_report.ensures.steady.told
-    ∙ c.in_default.ensures.known
+pub returns-then-not-has_room : goal.returns-then-not-has_room
+returns-then-not-has_room c =
+    let mid = node_of c.take_report.new.self in
+    let P : Plan → Type 0 = λ p. Done c.accept_front-before.result p c.put_off.result c.put_off.new.out (node_of c.put_off.new.parts) in
+    after_report c.accept_front-before.result (node_of c.args.parts.now) mid _ c.args.from c.args.report c.args.req c.args.body.now c.args.by_order _ _
+    c.accept_front-before.ensures.value (sym c.in_default.is ∙ c.report_refusal.ensures.value) c.take_report.ensures.end c.take_report.ensures.order
+    (subst P (sym (request_held mid c.args.from c.args.req c.args.body.now c.args.by_order
+    (sym c.in_default-request_refusal.is ∙ c.request_refusal.ensures.value ∙ ap (λ (r : Row). request_refusal r c.args.req) c.row-row.ensures.value)
+    (sym c.has_room.ensures.value ∙ c.if-not-has_room.true))) c.put_off.ensures)
 
-pub answer_request-requires-clause-number : goal.answer_request-requires-clause-number
-answer_request-requires-clause-number c = let top = c.take_report.ensures.steady.top in let number = c.requires.serves.number in omega arith
+pub push-requires-clause-fits : goal.push-requires-clause-fits
+push-requires-clause-fits c =
+    let mid = node_of c.take_report.new.self in
+    let row = c.row-row.ensures.value in
+    let known = ap (λ (i : Image). (row_of i c.args.from).joined == 0) c.take_report.ensures.steady.told ∙ c.in_default.ensures.known in
+    next_fits (image_of mid) c.args.from c.args.req c.to_body.result known
+    (sym (ap (λ (r : Row). r.left) row) ∙ c.in_default-request_refusal.ensures.stays)
+    (c.in_default-request_refusal.ensures.next ∙ ap (λ (r : Row). r.last + 1) row)
+
+pub push-requires-clause-keeps : goal.push-requires-clause-keeps
+push-requires-clause-keeps c =
+    let old = node_of c.take_report.new.self in
+    let keeps = c.take_report.new.self.keeps in
+    let leads = steady_leads (node_of c.args.parts.now) old c.take_report.ensures.steady ∙ c.requires.serves.leads in
+    keeps_pushed old (Data c.args.from c.args.req c.to_body.result) refl (push-requires-clause-fits c)
+    (old.core.rules.window + 15) c.next_number-number.ensures.kept (leading_log old leads)
+    (λ leads. ap (λ set. has set old.core.who) (members_pushed old.core.log c.args.from c.args.req c.to_body.result) ∙ keeps.leads leads) keeps
 
 pub returns : goal.returns
 returns c =
-    let old = node_of c.args.parts.now in
-    let mid = node_of c.take_report.new.self in
-    let rest : Node → _ = λ m. answer_request m c.args.from c.args.req c.args.body.now c.args.by_order in
-    does_now (λ m. request_row m c.args.from c.args.report c.args.req c.args.body.now c.args.by_order) old c.accept_front-before.ensures.value
-    (request_by old c.args.from c.args.report c.args.req c.args.body.now c.args.by_order None (sym c.in_default.is ∙ c.report_refusal.ensures.value))
-    (done_whole c.accept_front-before.result rest (take_report old c.args.from c.args.report) mid _ _ _ c.take_report.ensures.end c.take_report.ensures.order
-    (λ all keeps. alike_requested all mid c.args.from c.args.req c.args.body.now c.args.by_order keeps) c.answer_request.ensures)
+    let before = c.accept_front-before.result in
+    let old = node_of c.take_report.new.self in
+    let mid = node_of c.push.new.self in
+    let new = node_of c.end.new.self in
+    let e : Entry = Data c.args.from c.args.req c.args.body.now in
+    let packet = c.data_packet-packet.result in
+    let answer : Outcome = said.Numbered c.next_number-number.result in
+    let node : mid ≡ push_entry old e = c.push.ensures.node ∙ ap (λ (body : List ℕ). push_entry old (Data c.args.from c.args.req body)) c.to_body.ensures in
+    let end : IsEndOf (push_entry old e) mid = subst (λ (x : Node). IsEndOf x mid) node (end_self mid c.push.ensures.order.kept) in
+    let to : c.others-others.result ≡ others old = end_tells others old c.others-others.result c.next_number-number.ensures.order.kept c.others-others.ensures
+    in
+    let number : c.next_number-number.result ≡ top old + 1 = c.next_number-number.ensures.value in
+    let sent = c.put.ensures ∙ ap (λ set. with_letter set packet c.args.out.now) to ∙ ap (with_letter (others old) packet) c.requires.empty in
+    let told = letter_tells (others old) (data_packet c.next_number-number.result c.args.from c.args.req c.args.body.now c.args.by_order) new packet
+    c.data_packet-packet.ensures.value in
+    let P : ℕ → Type 0 = λ k. Tells (λ n. with_letter (others old) (data_packet k c.args.from c.args.req c.args.body.now c.args.by_order n) []) new
+    (with_letter (others old) packet []) in
+    let Q : List Letter → Type 0 = λ letters. Tells (with_told before false true (with_letter (others old) packet [])) new letters in
+    let R : Plan → Type 0 = λ p. Done before p answer c.put.new.self new in
+    after_report before (node_of c.args.parts.now) old new c.args.from c.args.report c.args.req c.args.body.now c.args.by_order answer c.put.new.self
+    c.accept_front-before.ensures.value (sym c.in_default.is ∙ c.report_refusal.ensures.value) c.take_report.ensures.end c.take_report.ensures.order
+    (subst R (sym (request_numbered old c.args.from c.args.req c.args.body.now c.args.by_order
+    (sym c.in_default-request_refusal.is ∙ c.request_refusal.ensures.value ∙ ap (λ (r : Row). request_refusal r c.args.req) c.row-row.ensures.value)
+    (sym c.has_room.ensures.value ∙ c.if-not-has_room.false)))
+    (done before (number_data old c.args.from c.args.req c.args.body.now c.args.by_order) mid new answer
+    (with_letter (others old) packet []) c.put.new.self refl end c.end.ensures
+    (λ n is. ap said.Numbered number) (subst P number told) (subst Q (sym sent)
+    (told_numbered before (with_letter (others old) packet []) new))))

@@ -1,0 +1,15 @@
+use Rattle.std.proofs.Common.{[], ◌∷◌}
+use Rattle.am_codec.specs.Spelling.{fields_of, two_bytes, entry_bytes, set_bytes}
+use Rattle.am_letter.proofs.Pieces.{after, three}
+use Rattle.am_letter.proofs.writer.put_fields.Goals as goal
+
+pub returns-in-Piece : goal.returns-in-Piece
+unfolding fields_of
+returns-in-Piece c = rw c.in-Piece.is (after c.args.into.now c.put_two.new.into c.put_entry.new.into
+    (two_bytes c.in-Piece.base c.in-Piece.number) (entry_bytes c.in-Piece.entry) c.put_entry.ensures c.put_two.ensures)
+
+pub returns-in-Result : goal.returns-in-Result
+unfolding fields_of
+returns-in-Result c = rw c.in-Result.is (three c.args.into.now c.put_two-in-Result.new.into c.put_set.new.into c.put_byte.new.into
+    (two_bytes c.in-Result.base c.in-Result.number) (set_bytes c.in-Result.members) (c.in-Result.resilience ∷ [])
+    c.put_two-in-Result.ensures c.put_set.ensures c.put_byte.ensures)

@@ -1,0 +1,10 @@
+use Rattle.std.proofs.Common.{[], ◌∷◌}
+use Rattle.byteorder.specs.Endian.{big_bytes}
+use Rattle.am_codec.specs.Spelling.{stamp_bytes}
+use Rattle.am_letter.proofs.Pieces.{three}
+use Rattle.am_letter.proofs.writer.put_header.Goals as goal
+
+pub returns : goal.returns
+returns c = three c.args.into.now c.extend.new.self c.put_stamp.new.into c.put_short.new.into
+    (65 ∷ 71 ∷ 3 ∷ c.args.kind ∷ c.args.sender ∷ []) (stamp_bytes c.args.stamp) (big_bytes 2 c.args.total)
+    (rw (← c.get.ensures.value) c.extend.ensures) c.put_stamp.ensures c.put_short.ensures

@@ -1,0 +1,295 @@
+use crate::reader::decode;
+use crate::wrong_fields::FAULTS;
+use am_base::limits::MOST_NUMBER;
+use am_codec::PacketRefusal;
+use am_codec::vectors::{
+    ACCEPT, ACK, BCAST_DATA, BCAST_JOIN, BCAST_LEAVE, BCAST_VIEW, FETCH, GONE, HAND_OVER, HOLD,
+    INVITE, JOIN_ASK, LEAVE_ASK, NACK, ORDER, PIECE_DATA, PIECE_JOIN, PIECE_LEAVE, PIECE_VIEW,
+    REQUEST, RESULT, SPREAD, VOTE, WELCOME,
+};
+use std::alloc::Global;
+use std::test::*;
+
+struct Vector {
+    bytes: &'static [u8],
+    text: &'static str,
+}
+
+/// Each kind and each tag, with what its packet prints.
+const VECTORS: [Vector; 24] = [
+    Vector {
+        bytes: REQUEST,
+        text: "Request { sender: Name(1), stamp: Stamp { round: 2, by: Name(0) }, report: Report { stored: 5, taken: 4 }, req: 3, body: BodyRef([97, 98]) }",
+    },
+    Vector {
+        bytes: SPREAD,
+        text: "Spread { sender: Name(1), stamp: Stamp { round: 2, by: Name(0) }, report: Report { stored: 5, taken: 4 }, req: 70009, body: BodyRef([]) }",
+    },
+    Vector {
+        bytes: BCAST_DATA,
+        text: "Bcast { sender: Name(1), stamp: Stamp { round: 2, by: Name(0) }, base: 6, acc: 7, number: 8, entry: EntryRef { parts: Data { from: Name(17), req: 9, body: BodyRef([255]) } } }",
+    },
+    Vector {
+        bytes: BCAST_JOIN,
+        text: "Bcast { sender: Name(1), stamp: Stamp { round: 2, by: Name(0) }, base: 6, acc: 7, number: 8, entry: EntryRef { parts: Join(Name(18)) } }",
+    },
+    Vector {
+        bytes: BCAST_LEAVE,
+        text: "Bcast { sender: Name(1), stamp: Stamp { round: 2, by: Name(0) }, base: 6, acc: 7, number: 8, entry: EntryRef { parts: Leave(Name(19)) } }",
+    },
+    Vector {
+        bytes: BCAST_VIEW,
+        text: "Bcast { sender: Name(1), stamp: Stamp { round: 2, by: Name(0) }, base: 6, acc: 7, number: 8, entry: EntryRef { parts: View { stamp: Stamp { round: 10, by: Name(1) }, members: Names { lives: [1, 2, 0, 0, 0, 0, 0, 0, 0, 0, 0, 0, 0, 0, 0, 16] }, resilience: 15 } } }",
+    },
+    Vector {
+        bytes: ORDER,
+        text: "Order { sender: Name(1), stamp: Stamp { round: 2, by: Name(0) }, base: 6, acc: 7, number: 8, from: Name(20), req: 11 }",
+    },
+    Vector {
+        bytes: ACCEPT,
+        text: "Accept { sender: Name(1), stamp: Stamp { round: 2, by: Name(0) }, base: 6, acc: 7, top: 8, poll: true }",
+    },
+    Vector {
+        bytes: ACK,
+        text: "Ack { sender: Name(1), stamp: Stamp { round: 2, by: Name(0) }, report: Report { stored: 5, taken: 4 } }",
+    },
+    Vector {
+        bytes: NACK,
+        text: "Nack { sender: Name(1), stamp: Stamp { round: 2, by: Name(0) }, report: Report { stored: 5, taken: 4 } }",
+    },
+    Vector {
+        bytes: HOLD,
+        text: "Hold { sender: Name(1), stamp: Stamp { round: 2, by: Name(0) }, base: 6, top: 7, req: 8 }",
+    },
+    Vector {
+        bytes: JOIN_ASK,
+        text: "JoinAsk { sender: Name(1), stamp: Stamp { round: 2, by: Name(0) } }",
+    },
+    Vector {
+        bytes: WELCOME,
+        text: "Welcome { sender: Name(1), stamp: Stamp { round: 2, by: Name(0) }, base: 6, join: 7, image: Image { view: Stamp { round: 2, by: Name(0) }, view_number: 5, resilience: 3, rows: [Row { life: 1, joined: 1, left: 0, last: 12 }, Row { life: 2, joined: 13, left: 14, last: 15 }, Row { life: 0, joined: 0, left: 0, last: 0 }, Row { life: 0, joined: 0, left: 0, last: 0 }, Row { life: 0, joined: 0, left: 0, last: 0 }, Row { life: 0, joined: 0, left: 0, last: 0 }, Row { life: 0, joined: 0, left: 0, last: 0 }, Row { life: 0, joined: 0, left: 0, last: 0 }, Row { life: 0, joined: 0, left: 0, last: 0 }, Row { life: 0, joined: 0, left: 0, last: 0 }, Row { life: 0, joined: 0, left: 0, last: 0 }, Row { life: 0, joined: 0, left: 0, last: 0 }, Row { life: 0, joined: 0, left: 0, last: 0 }, Row { life: 0, joined: 0, left: 0, last: 0 }, Row { life: 0, joined: 0, left: 0, last: 0 }, Row { life: 16, joined: 16, left: 0, last: 17 }] } }",
+    },
+    Vector {
+        bytes: LEAVE_ASK,
+        text: "LeaveAsk { sender: Name(1), stamp: Stamp { round: 2, by: Name(0) }, report: Report { stored: 5, taken: 4 } }",
+    },
+    Vector {
+        bytes: GONE,
+        text: "Gone { sender: Name(1), stamp: Stamp { round: 2, by: Name(0) }, number: 8 }",
+    },
+    Vector {
+        bytes: INVITE,
+        text: "Invite { sender: Name(1), stamp: Stamp { round: 2, by: Name(0) } }",
+    },
+    Vector {
+        bytes: VOTE,
+        text: "Vote { sender: Name(1), stamp: Stamp { round: 2, by: Name(0) }, vote: Vote { view: Stamp { round: 2, by: Name(0) }, top: 7, taken: 6, members: Names { lives: [1, 2, 0, 0, 0, 0, 0, 0, 0, 0, 0, 0, 0, 0, 0, 16] } } }",
+    },
+    Vector {
+        bytes: FETCH,
+        text: "Fetch { sender: Name(1), stamp: Stamp { round: 2, by: Name(0) }, stored: 8 }",
+    },
+    Vector {
+        bytes: PIECE_DATA,
+        text: "Piece { sender: Name(1), stamp: Stamp { round: 2, by: Name(0) }, base: 6, number: 8, entry: EntryRef { parts: Data { from: Name(17), req: 9, body: BodyRef([]) } } }",
+    },
+    Vector {
+        bytes: PIECE_JOIN,
+        text: "Piece { sender: Name(1), stamp: Stamp { round: 2, by: Name(0) }, base: 6, number: 8, entry: EntryRef { parts: Join(Name(18)) } }",
+    },
+    Vector {
+        bytes: PIECE_LEAVE,
+        text: "Piece { sender: Name(1), stamp: Stamp { round: 2, by: Name(0) }, base: 6, number: 8, entry: EntryRef { parts: Leave(Name(19)) } }",
+    },
+    Vector {
+        bytes: PIECE_VIEW,
+        text: "Piece { sender: Name(1), stamp: Stamp { round: 2, by: Name(0) }, base: 6, number: 8, entry: EntryRef { parts: View { stamp: Stamp { round: 10, by: Name(1) }, members: Names { lives: [1, 2, 0, 0, 0, 0, 0, 0, 0, 0, 0, 0, 0, 0, 0, 16] }, resilience: 15 } } }",
+    },
+    Vector {
+        bytes: RESULT,
+        text: "Result { sender: Name(1), stamp: Stamp { round: 2, by: Name(0) }, base: 6, number: 8, members: Names { lives: [1, 2, 0, 0, 0, 0, 0, 0, 0, 0, 0, 0, 0, 0, 0, 16] }, resilience: 15 }",
+    },
+    Vector {
+        bytes: HAND_OVER,
+        text: "HandOver { sender: Name(1), stamp: Stamp { round: 2, by: Name(0) } }",
+    },
+];
+
+/// Totals that a kind or a tag can't have.
+const TOTALS: [(&[u8], usize); 47] = [
+    (REQUEST, 23),
+    (REQUEST, 1049),
+    (SPREAD, 23),
+    (SPREAD, 1049),
+    (BCAST_DATA, 24),
+    (BCAST_DATA, 29),
+    (BCAST_DATA, 1055),
+    (BCAST_JOIN, 25),
+    (BCAST_JOIN, 27),
+    (BCAST_LEAVE, 25),
+    (BCAST_LEAVE, 27),
+    (BCAST_VIEW, 40),
+    (BCAST_VIEW, 42),
+    (ORDER, 28),
+    (ORDER, 30),
+    (ACCEPT, 24),
+    (ACCEPT, 26),
+    (ACK, 19),
+    (ACK, 21),
+    (NACK, 19),
+    (NACK, 21),
+    (HOLD, 23),
+    (HOLD, 25),
+    (JOIN_ASK, 13),
+    (WELCOME, 237),
+    (WELCOME, 239),
+    (LEAVE_ASK, 19),
+    (LEAVE_ASK, 21),
+    (GONE, 15),
+    (GONE, 17),
+    (INVITE, 13),
+    (VOTE, 34),
+    (VOTE, 36),
+    (FETCH, 15),
+    (FETCH, 17),
+    (PIECE_DATA, 20),
+    (PIECE_DATA, 25),
+    (PIECE_DATA, 1051),
+    (PIECE_JOIN, 21),
+    (PIECE_JOIN, 23),
+    (PIECE_LEAVE, 21),
+    (PIECE_LEAVE, 23),
+    (PIECE_VIEW, 36),
+    (PIECE_VIEW, 38),
+    (RESULT, 30),
+    (RESULT, 32),
+    (HAND_OVER, 13),
+];
+
+/// A Bcast of ten bytes, `0123456789`.
+const TEN: &[u8] =
+    b"AG\x03\x03\x00\x00\x00\x00\x01\x00\x00\x28\x00\x00\x00\x00\x00\x00\x00\x02\x00\x00\x00\x02\x01\x01\x00\x00\x00\x010123456789";
+
+#[test]
+fn each_kind_is_read(rt: HostRuntime) -> Result<(), Fail> {
+    for vector in &VECTORS {
+        let packet = decode(vector.bytes).ok().ok_or("the bytes are a packet")?;
+        let text = format!(in rt.alloc(); "{packet:?}")?;
+        assert_eq!(rt; text.as_str(), vector.text);
+    }
+    Ok(())
+}
+
+/// The bytes with another one at an offset.
+fn with_byte(alloc: Global, bytes: &[u8], at: usize, byte: u8) -> Result<Vec<u8>, Fail> {
+    let mut changed = Vec::from_slice(alloc, bytes)?;
+    let place = changed.get_mut(at).ok_or("the offset is within")?;
+    *place = byte;
+    Ok(changed)
+}
+
+/// The first so many of the bytes and zeros, with this total in their header.
+fn with_total(alloc: Global, bytes: &[u8], total: usize) -> Result<Vec<u8>, Fail> {
+    let mut changed = Vec::from_slice(alloc, bytes)?;
+    changed.resize(total, 0)?;
+    let high = changed.get_mut(10).ok_or("there is a header")?;
+    *high = (total / 256 % 256) as u8;
+    let low = changed.get_mut(11).ok_or("there is a header")?;
+    *low = (total % 256) as u8;
+    Ok(changed)
+}
+
+#[test]
+fn a_wrong_field_is_refused_at_its_offset(rt: HostRuntime) -> Result<(), Fail> {
+    for (packet, at, byte, refused_at) in FAULTS {
+        let bytes = with_byte(rt.alloc(), packet, at, byte)?;
+        let refused = decode(&bytes).err();
+        assert_eq!(rt;
+            refused,
+            Some(PacketRefusal::BadField { at: refused_at }),
+            "at {at}"
+        );
+    }
+    Ok(())
+}
+
+#[test]
+fn the_greatest_number_is_read(rt: HostRuntime) -> Result<(), Fail> {
+    let above = PacketRefusal::BadField { at: 20 };
+    for (req, refused) in [(MOST_NUMBER, None), (MOST_NUMBER + 1, Some(above))] {
+        let mut bytes = Vec::from_slice(rt.alloc(), SPREAD)?;
+        bytes.truncate(20);
+        bytes.extend_from_slice(&req.to_be_bytes())?;
+        assert_eq!(rt; decode(&bytes).err(), refused, "of {req}");
+    }
+    Ok(())
+}
+
+#[test]
+fn a_wrong_total_is_refused(rt: HostRuntime) -> Result<(), Fail> {
+    for (bytes, total) in TOTALS {
+        let changed = with_total(rt.alloc(), bytes, total)?;
+        let refused = decode(&changed).err();
+        assert_eq!(rt;
+            refused,
+            Some(PacketRefusal::BadField { at: 10 }),
+            "with {total}"
+        );
+    }
+    for (bytes, total) in [(REQUEST, 1048), (BCAST_DATA, 1054), (PIECE_DATA, 1050)] {
+        let changed = with_total(rt.alloc(), bytes, total)?;
+        assert!(rt; decode(&changed).is_ok(), "with {total}");
+    }
+    Ok(())
+}
+
+#[test]
+fn a_wrong_header_is_refused(rt: HostRuntime) -> Result<(), Fail> {
+    for (at, byte, refused) in [
+        (0, b'B', PacketRefusal::BadMark),
+        (1, b'A', PacketRefusal::BadMark),
+        (2, 2, PacketRefusal::BadVersion(2)),
+        (2, 4, PacketRefusal::BadVersion(4)),
+        (3, 0, PacketRefusal::BadKind(0)),
+        (3, 19, PacketRefusal::BadKind(19)),
+        (
+            11,
+            41,
+            PacketRefusal::BadLength {
+                said: 41,
+                found: 40,
+            },
+        ),
+    ] {
+        let bytes = with_byte(rt.alloc(), TEN, at, byte)?;
+        assert_eq!(rt; decode(&bytes).err(), Some(refused), "at {at}");
+    }
+    Ok(())
+}
+
+#[test]
+fn no_part_and_no_more_is_a_packet(rt: HostRuntime) -> Result<(), Fail> {
+    let mut more = Vec::from_slice(rt.alloc(), TEN)?;
+    more.push(0)?;
+    for (found, _) in more.iter().enumerate() {
+        let refused = decode(&more[..found]).err();
+        let wanted = match found {
+            0..12 => Some(PacketRefusal::Short),
+            12..40 => Some(PacketRefusal::BadLength {
+                said: 40,
+                found: found as u32,
+            }),
+            _ => None,
+        };
+        assert_eq!(rt; refused, wanted, "of {found}");
+    }
+    let refused = decode(&more).err();
+    assert_eq!(rt;
+        refused,
+        Some(PacketRefusal::BadLength {
+            said: 40,
+            found: 41
+        })
+    );
+    Ok(())
+}
