@@ -4,8 +4,8 @@
 
 FOLDER has scripts NAME.json, and beside each NAME.cause, the line that `PROGRAM WORD < NAME.json` must write on standard error,
 with status 2 and nothing on standard output, where WORD is `race` for names that begin with race_, else `play`; and sentences.txt, a line `NAME: SENTENCE` with what tools/explain.py must say of
-each. Each cause must be there, and of each key every cause that it can have. COMMAND, which is ./muoswyld, must write the line
-alone, and the sentence below it where standard error is a terminal. It prints what fails, and how many passed.
+each. Each cause must be there, and of each key every cause that it can have. COMMAND, which is ./muoswyld, must write the line,
+and below it the sentence where standard error is a terminal, else how to get it. It prints what fails, and how many passed.
 """
 
 import os
@@ -16,6 +16,9 @@ import subprocess
 import sys
 
 import explain
+
+# what ./muoswyld says below a refusal where nobody looks
+HINT = r"muoswyld: in words: python3 tools/explain\.py \S+ (play|race) < SCRIPT\n"
 
 
 def word_for(script):
@@ -79,7 +82,8 @@ def faults_of_command(command, script, sentence):
     line = script.with_suffix(".cause").read_bytes()
     with script.open("rb") as words:
         ran = subprocess.run([command, word_for(script)], stdin=words, capture_output=True)
-    if (ran.stdout, ran.stderr, ran.returncode) != (b"", line, 2):
+    hint = ran.stderr.removeprefix(line).decode()
+    if (ran.stdout, ran.returncode) != (b"", 2) or not (ran.stderr.startswith(line) and re.fullmatch(HINT, hint)):
         yield f"{command} wrote {ran.stderr!r}, status {ran.returncode}"
     if at_a_terminal(command, script) != (line + sentence.encode() + b"\n", 2):
         yield f"{command} wrote {at_a_terminal(command, script)} at a terminal"

@@ -1,0 +1,89 @@
+"""Tries what ./muoswyld answers before anything is built.
+
+    python3 tools/try_command.py TOP
+
+It copies the command into a folder without sources, so that whatever would build anything fails with status 70: help, versions and
+words that have no form must be answered there. It prints what fails, and how many passed.
+"""
+
+import pathlib
+import shutil
+import subprocess
+import sys
+import tempfile
+
+USAGE = "usage: play | race | gen --seed N --count N\n"
+GEN = ["gen", "--seed", "1", "--count", "50"]
+
+# words that have no form, and what stands in the lines below the usage
+WITHOUT_FORM = [
+    ([], "--help says more"),
+    ([""], "--help says more"),
+    (["Play"], "--help says more"),
+    (["--quick"], "--help says more"),
+    (["--proved", "x"], "--help says more"),
+    (["play", "scripts/smallest.json"], "./muoswyld play < scripts/smallest.json"),
+    (["race", "race"], "./muoswyld race < race"),
+    (["gen"], "--help says more"),
+    (["gen", "--seed", "1"], "--help says more"),
+    (["gen", "--seed", "1", "--seed", "1"], "--help says more"),
+    ([*GEN, "x"], "--help says more"),
+    (["gen", "--seed", "1", "--count", "0"], "--help says more"),
+    (["gen", "--seed", "1", "--count", "00000"], "--help says more"),
+    (["gen", "--seed", "1", "--count", "100001"], "--help says more"),
+    (["gen", "--seed", "18446744073709551616", "--count", "1"], "--help says more"),
+    (["gen", "--seed", "+1", "--count", "1"], "--help says more"),
+    (["gen", "--seed", "000000000000000000001", "--count", "1"], "--help says more"),
+]
+
+# words that have a form: nothing is there to build, so the call ends with 70, in each way
+WITH_FORM = [["play"], ["race"], GEN, ["gen", "--count", "100000", "--seed", "18446744073709551615"], ["gen", "--count", "0009", "--seed", "0"]]
+
+
+def run(top: pathlib.Path, words: list[str]) -> tuple[int, str, str]:
+    """The status of the command, what it wrote, and what it told."""
+    done = subprocess.run(
+        [top / "muoswyld", *words], stdin=subprocess.DEVNULL, capture_output=True, text=True, timeout=60, check=False, env={"PATH": "/usr/bin:/bin"}
+    )
+    return done.returncode, done.stdout, done.stderr
+
+
+def faults(top: pathlib.Path):
+    """What is wrong with the answers."""
+    for words in (["--help"], ["-h"], ["help"]):
+        status, said, told = run(top, words)
+        if (status, told) != (0, "") or "play < SCRIPT" not in said:
+            yield f"{words}: {status}, {said!r}, {told!r}"
+    status, said, told = run(top, ["--version"])
+    if (status, told) != (0, "") or not said.startswith("muoswyld "):
+        yield f"--version: {status}, {said!r}, {told!r}"
+    for words, wanted in WITHOUT_FORM:
+        status, said, told = run(top, words)
+        if (status, said) != (1, "") or not told.startswith(USAGE) or wanted not in told:
+            yield f"{words}: {status}, {said!r}, {told!r}"
+    for words in WITH_FORM:
+        for way in ([], ["--quick"], ["--proved"]):
+            status, said, told = run(top, way + words)
+            if (status, said) != (70, "") or USAGE in told:
+                yield f"{way + words}: {status}, {said!r}, {told!r}"
+
+
+def main() -> int:
+    """Tries the command of the folder that is named."""
+    source = pathlib.Path(sys.argv[1])
+    with tempfile.TemporaryDirectory() as folder:
+        top = pathlib.Path(folder)
+        (top / "crates" / "am_sim").mkdir(parents=True)
+        (top / "tools").mkdir()
+        (top / "crates.txt").write_text("am_sim:\n")
+        shutil.copy(source / "muoswyld", top)
+        shutil.copy(source / "tools" / "prove.bash", top / "tools")
+        wrong = list(faults(top))
+    for line in wrong:
+        print(f"refused: {line}")
+    print(f"tools/try_command.py: {4 + len(WITHOUT_FORM) + 3 * len(WITH_FORM) - len(wrong)} passed, {len(wrong)} failed")
+    return 1 if wrong else 0
+
+
+if __name__ == "__main__":
+    sys.exit(main())
