@@ -1,0 +1,248 @@
+#!/usr/bin/env python3
+"""One script of the journals of a group's members, so that `play` runs again what happened.
+
+    net/merge.py JOURNAL.. > SCRIPT            the script
+    net/merge.py --lines JOURNAL.. > LINES     of each of its events the line of the text that the members' answers come to
+
+Each member's lines stay in their order; a letter is heard behind the line that sent it, a name is given up behind its stop, a place
+returns behind the stop of its life before. Else the times in the journals decide. A life whose journal has no end stopped behind its
+last line, and so did one that its place went on from. A line whose answer never came isn't there. Where no such order exists, it is
+said which letter is in the way.
+"""
+
+import heapq
+import json
+import re
+import sys
+from dataclasses import dataclass, field
+
+KINDS = (
+    "Request Spread Bcast Order Accept Ack Nack Hold JoinAsk Welcome LeaveAsk Gone Invite Vote Fetch Piece Result HandOver"
+).split()
+CALLS = {"take", "join", "leave", "state", "tick"}
+NAME = re.compile(r"([0-9]|1[0-5])(?:/([2-9]|1[0-6]))?")
+
+
+class Unmerged(Exception):
+    """Why there is no script of the journals."""
+
+
+def parts_of(name: str) -> tuple[int, int]:
+    """The place and the life of a name."""
+    match = NAME.fullmatch(name)
+    if not match:
+        raise Unmerged(f"{name!r} is no name")
+    return int(match[1]), int(match[2] or 1)
+
+
+@dataclass
+class Step:
+    """What a life was given, or its stop or return, with its answer and its letters: to whom, and the kind."""
+
+    time: int
+    line: str
+    heard: tuple[str, int] | None = None
+    answer: str = ""
+    letters: list[tuple[str, str]] = field(default_factory=list)
+
+
+@dataclass
+class Life:
+    """A name's journal."""
+
+    name: str
+    founding: list[str]
+    steps: list[Step]
+    has_ended: bool
+    counts: list[int]
+    at: int = 0
+    sent: int = 0
+
+
+def letter_of(text: str) -> tuple[str, str]:
+    """For whom a letter is, as the text of a play says it but for `all`, and its kind."""
+    to, data = text.split(" ")
+    return to, KINDS[int(data[6:8], 16) - 1]
+
+
+def read(path: str) -> Life:
+    """A journal; a last line without its end isn't there."""
+    with open(path, encoding="utf-8") as file:
+        lines = [line.split("\t") for line in file.read().split("\n")[:-1]]
+    if not lines or lines[0][0] != "node" or len(lines[0]) != 6:
+        raise Unmerged(f"{path} is no journal")
+    life = Life(lines[0][1], lines[0][2:], [], False, [0] * 5)
+    for fields in lines[1:]:
+        if fields[0] == "end":
+            life.has_ended = True
+        elif fields[0] == "counts":
+            life.counts = [int(count) for count in fields[1:]]
+        else:
+            time, line, heard, said = fields
+            answer, *letters = said.split(" | ")
+            whose = heard.split(" ")
+            letter = (whose[0], int(whose[1])) if heard else None
+            life.steps.append(Step(int(time), line, letter, answer, [letter_of(text) for text in letters]))
+    return life
+
+
+def with_ends(lives: list[Life]) -> list[Life]:
+    """The lives, with a return before each but a place's first, and a stop behind each that stopped."""
+    names = {parts_of(life.name) for life in lives}
+    if len(names) != len(lives):
+        raise Unmerged("a name has two journals")
+    for life in lives:
+        place, number = parts_of(life.name)
+        if number > 1 and (place, number - 1) not in names:
+            raise Unmerged(f"{life.name} came back, and the journal of its place's life before isn't there")
+        if life.founding != lives[0].founding:
+            raise Unmerged(f"{life.name} has another founding than {lives[0].name}")
+        first, last = (life.steps[0].time, life.steps[-1].time) if life.steps else (0, 0)
+        if not life.has_ended or (place, number + 1) in names:
+            life.steps.append(Step(last, "stop", answer="stopped"))
+        if number > 1:
+            life.steps.insert(0, Step(first, "return", answer=f"returned {number}"))
+    return lives
+
+
+def wants(life: Life, lives: dict[tuple[int, int], Life]) -> tuple[str, str, int] | None:
+    """What must have been before a life's next step; None where nothing."""
+    step = life.steps[life.at]
+    word, _, rest = step.line.partition(" ")
+    place, number = parts_of(life.name)
+    if step.heard:
+        if parts_of(step.heard[0]) not in lives:
+            raise Unmerged(f"{life.name} heard letter {step.heard[1]} of {step.heard[0]}, whose journal isn't there")
+        return "letter", step.heard[0], step.heard[1]
+    if word == "giveup":
+        return "stop", rest, 0
+    if word == "return":
+        return "end", lives[place, number - 1].name, 0
+    return None
+
+
+def in_order(lives: list[Life]) -> list[tuple[Life, Step]]:
+    """All steps, each behind what it wants."""
+    named = {parts_of(life.name): life for life in lives}
+    done: set[tuple[str, str, int]] = set()
+    waiting: dict[tuple[str, str, int], list[Life]] = {}
+    ready: list[tuple[int, str, Life]] = []
+    order: list[tuple[Life, Step]] = []
+
+    def ask(life: Life) -> None:
+        if life.at < len(life.steps):
+            want = wants(life, named)
+            if want is None or want in done:
+                heapq.heappush(ready, (life.steps[life.at].time, life.name, life))
+            else:
+                waiting.setdefault(want, []).append(life)
+
+    def tell(what: tuple[str, str, int]) -> None:
+        done.add(what)
+        for life in waiting.pop(what, []):
+            ask(life)
+
+    for life in lives:
+        ask(life)
+    while ready:
+        _, _, life = heapq.heappop(ready)
+        step = life.steps[life.at]
+        order.append((life, step))
+        life.at += 1
+        for _ in step.letters:
+            life.sent += 1
+            tell(("letter", life.name, life.sent))
+        if step.line == "stop":
+            tell(("stop", life.name, 0))
+        if life.at == len(life.steps):
+            tell(("end", life.name, 0))
+        ask(life)
+    for (what, name, number), lives_there in waiting.items():
+        thing = {"letter": f"letter {number} of {name}", "stop": f"the stop of {name}", "end": f"the end of {name}"}[what]
+        raise Unmerged(f"{', '.join(life.name for life in lives_there)} wants {thing}, which is in no journal before it")
+    return order
+
+
+def event_of(place: int, line: str, packet: int) -> dict:
+    """The event of a script that a line is."""
+    word, *rest = line.split(" ")
+    event: dict = {"do": word, "node": place}
+    if word == "send":
+        event["body"] = rest[0].replace("-", "")
+    elif word == "done":
+        event["req"] = int(rest[0])
+    elif word == "ask":
+        event["round"] = int(rest[0])
+    elif word == "giveup":
+        event["name"], life = parts_of(rest[0])
+        if life > 1:
+            event["life"] = life
+    elif word == "reset":
+        event["least"] = int(rest[0])
+        if len(rest) > 1:
+            event["resilience"] = int(rest[1].removeprefix("r"))
+    elif word == "hear":
+        event["packet"] = packet
+    elif word not in CALLS | {"stop", "return"}:
+        raise Unmerged(f"{line!r} is no line of a node")
+    return event
+
+
+def to_text(place: int, to: str) -> str:
+    """For whom a letter is, as the text of a play says it."""
+    others = ",".join(str(other) for other in range(16) if other != place)
+    return "all" if to.startswith("*") or to == others else to
+
+
+class Merged:
+    """The events of the journals, and of each the line that `play` must print."""
+
+    def __init__(self, paths: list[str]):
+        self.lives = with_ends([read(path) for path in paths])
+        founders, resilience, window, pb_up_to = self.lives[0].founding
+        self.founding = {
+            "founders": [int(place) for place in founders.split(",")],
+            "resilience": int(resilience),
+            "window": int(window),
+            "pb_up_to": int(pb_up_to),
+        }
+        self.steps = in_order(self.lives)
+        self.events: list[dict] = []
+        self.lines: list[str] = []
+        numbers: dict[tuple[str, int], int] = {}
+        sent = {life.name: 0 for life in self.lives}
+        for life, step in self.steps:
+            place = parts_of(life.name)[0]
+            packet = numbers[step.heard] if step.heard else 0
+            word, _, rest = step.line.partition(" ")
+            line = " ".join([word, str(place), *([str(packet)] if word == "hear" else [rest] if rest else [])])
+            line = f"{len(self.events) + 1} {line} : {step.answer}"
+            for to, kind in step.letters:
+                sent[life.name] += 1
+                numbers[life.name, sent[life.name]] = len(numbers) + 1
+                line += f" | {len(numbers)} {kind} to {to_text(place, to)}"
+            self.events.append(event_of(place, step.line, packet))
+            self.lines.append(line)
+
+    def script(self, most: int | None = None) -> str:
+        """The script of the first events."""
+        return json.dumps({"play": {**self.founding, "events": self.events[:most]}}, separators=(",", ":"))
+
+
+def main() -> int:
+    """Merges the journals that are named."""
+    words = sys.argv[1:]
+    if not [word for word in words if word != "--lines"]:
+        print(__doc__, file=sys.stderr)
+        return 2
+    try:
+        merged = Merged([word for word in words if word != "--lines"])
+    except (Unmerged, OSError, ValueError) as error:
+        print(f"merge.py: {error}", file=sys.stderr)
+        return 1
+    print("\n".join(merged.lines) if "--lines" in words else merged.script())
+    return 0
+
+
+if __name__ == "__main__":
+    sys.exit(main())
