@@ -13,6 +13,7 @@ import hashlib
 import hmac
 import os
 import random
+import re
 import selectors
 import shlex
 import signal
@@ -24,6 +25,7 @@ from typing import NamedTuple
 from faults import Faults
 from node import PROGRAM, Ended, Letter, Node
 
+NAME = re.compile(r"([0-9]|1[0-5])(?:/([2-9]|1[0-6]))?")
 MOST_BODY = 1024
 MOST_UNDER_WAY = 4
 # answers behind which there may be something to take
@@ -42,15 +44,25 @@ def order_of(name: str) -> tuple[int, int]:
     return int(place), int(life or 1)
 
 
+class Refused(Exception):
+    """Why there is no member: what is wrong with the words of the command or their files."""
+
+
 def read_peers(path: str) -> dict[int, tuple[str, int]]:
     """The address of each place, of a file of lines `PLACE HOST:PORT`; what is behind a # is a comment."""
     peers = {}
     with open(path, encoding="utf-8") as lines:
-        for line in lines:
+        for number, line in enumerate(lines, 1):
             words = line.split("#")[0].split()
-            if words:
-                place, (host, port) = int(words[0]), words[1].rsplit(":", 1)
+            if not words:
+                continue
+            try:
+                place, host, port = int(words[0]), *words[1].rsplit(":", 1)
+                if len(words) != 2 or not 0 <= place <= 15 or place in peers:
+                    raise ValueError
                 peers[place] = (socket.gethostbyname(host), int(port))
+            except (ValueError, IndexError, OSError) as error:
+                raise Refused(f"{path}, line {number}: a line is PLACE HOST:PORT, each place once, of 0 to 15") from error
     return peers
 
 
@@ -79,7 +91,10 @@ class Journal:
     def __init__(self, path: str | None, founding: list[str]):
         self.file = None
         if path:
-            self.file = os.open(path, os.O_WRONLY | os.O_CREAT | os.O_EXCL | os.O_APPEND, 0o644)
+            try:
+                self.file = os.open(path, os.O_WRONLY | os.O_CREAT | os.O_EXCL | os.O_APPEND, 0o644)
+            except FileExistsError as error:
+                raise Refused(f"{path} is there: a name is never run twice; its place comes back as its next life") from error
             self.write("node", *founding)
 
     def write(self, *fields: str) -> None:
@@ -312,15 +327,28 @@ def options() -> argparse.Namespace:
 
 
 def run(application: type[Member] = Member) -> int:
-    """Runs a member of the words of the command; 0 at the end of the input, 1 where the node ended before."""
-    wanted = options()
+    """Runs a member of the words of the command; 0 at the end of the input, 1 where there is none or the node ended before."""
+    try:
+        return run_member(application, options())
+    except (Refused, OSError) as error:
+        print(f"{sys.argv[0]}: {error}", file=sys.stderr)
+        return 1
+
+
+def run_member(application: type[Member], wanted: argparse.Namespace) -> int:
+    """Runs a member."""
     key = None
     if wanted.key:
         with open(wanted.key, "rb") as file:
             key = file.read()
     founding = ["--resilience", wanted.resilience, "--window", wanted.window, "--pb-up-to", wanted.pb_up_to]
+    if not NAME.fullmatch(wanted.name):
+        raise Refused(f"{wanted.name} is no name: PLACE, 0 to 15, or PLACE/LIFE, 2 to 16")
+    peers = read_peers(wanted.peers)
+    if place_of(wanted.name) not in peers:
+        raise Refused(f"{wanted.peers} has no address of place {place_of(wanted.name)}")
     faults = Faults(wanted.loss, wanted.repeat, wanted.delay, random.Random(f"{wanted.seed} {wanted.name}"))
-    network = Network(wanted.name, read_peers(wanted.peers), key, faults)
+    network = Network(wanted.name, peers, key, faults)
     journal = Journal(wanted.journal, [wanted.name, wanted.founders, wanted.resilience, wanted.window, wanted.pb_up_to])
     node = Node(wanted.name, wanted.founders, *founding, program=shlex.split(wanted.program))
     member = application(node, journal, network, wanted)
