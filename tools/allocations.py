@@ -11,6 +11,8 @@ import sys
 import tempfile
 from pathlib import Path
 
+from words import end, words
+
 
 def run(program, library, script, **more):
     word = "race" if "races" in Path(script).parts else "play"
@@ -61,4 +63,5 @@ def main(program, scripts):
 
 
 if __name__ == "__main__":
-    sys.exit(main(sys.argv[1], sys.argv[2:]))
+    program, *scripts = words(__doc__, 2)
+    end(lambda: main(program, scripts))

@@ -14,6 +14,8 @@ import re
 import subprocess
 import sys
 
+from words import words
+
 PROGRAM = pathlib.Path(__file__).resolve().parent.parent / "crates" / "am_sim" / "out" / "am_sim"
 
 NOT_JSON, MISSING, UNKNOWN, BAD_VALUE, OUT_OF_RANGE = 1, 2, 3, 4, 5
@@ -194,15 +196,20 @@ def why_not_json(data):
     start = "the bytes aren't JSON: "
     if not data.strip():
         return start + "there are none"
+    if data[:2] in (b"\xff\xfe", b"\xfe\xff") or b"\0" in data[:2]:
+        return start + "they are UTF-16; a script is UTF-8"
     try:
         text = data.decode()
     except UnicodeDecodeError as error:
         return start + f"byte {error.start + 1} isn't part of UTF-8"
     if text.startswith("\ufeff"):
-        return start + "they begin with a byte order mark"
+        return start + "they begin with a byte order mark, which a script has none of"
     try:
         value = json.loads(text, parse_constant=no_number, parse_float=finite, parse_int=finite)
     except json.JSONDecodeError as error:
+        before, bracket = text[: error.pos].rstrip(), text[error.pos : error.pos + 1]
+        if before.endswith(",") and bracket and bracket in "]}":
+            return start + f"line {error.lineno}, column {error.colno}, a comma stands before {bracket}, with nothing behind it"
         ahead = text[error.pos:error.pos + 20].split("\n")[0] or "the end of the line"
         at = "the end" if len(text.rstrip()) <= error.pos else ahead
         return start + f"line {error.lineno}, column {error.colno}, before {at}"
@@ -329,6 +336,9 @@ def explain(ask, data, cause, place):
     if not isinstance(document, dict):
         return f"the document is {shown(document)}; it must be an object with the one key `{word}`"
     if word not in document:
+        other = next((other for other in SCRIPTS if other in document), None)
+        if other:
+            return f"the document: `{word}` isn't there; this is a {other}, for ./muoswyld {other}"
         return f"the document: `{word}` isn't there; it is the one key that a script has"
     script = document[word]
     if cause == UNKNOWN and len(document) > 1:
@@ -376,18 +386,21 @@ def answer(ask, data):
     if told:
         return explain(ask, data, *told)
     return {
-        0: "the program takes this script",
+        0: f"the program takes this script, by the word {ask.word}",
         3: "too long: a script has at most 16,777,216 bytes",
         7: "spent: the run would have more than 100,000 events, those that settle it among them",
     }.get(status, said or f"the program ended with {status}")
 
 
 def main():
-    program = sys.argv[1] if len(sys.argv) > 1 else str(PROGRAM)
+    program, word, *_ = [*words(__doc__, 0, 2), None, None]
+    program = program or str(PROGRAM)
+    if word not in (None, *SCRIPTS):
+        sys.exit(f"{word} isn't play or race")
     if not pathlib.Path(program).is_file():
         sys.exit(f"there is no program {program}: ./muoswyld play builds it")
     data = sys.stdin.buffer.read()
-    print(answer(Asked(program, sys.argv[2] if len(sys.argv) > 2 else word_of(data)), data))
+    print(answer(Asked(program, word or word_of(data)), data))
 
 
 if __name__ == "__main__":

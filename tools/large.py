@@ -9,6 +9,8 @@ Usage: large.py [sum]
 import json
 import sys
 
+from words import words
+
 # of the text that an unproved program of the same rules wrote
 SUM = "89f67fb194b1012f9c53e9ae20781a932b073c6d32d4cc362eca46fa8f75f572"
 
@@ -37,7 +39,9 @@ def script():
 
 
 if __name__ == "__main__":
-    if sys.argv[1:] == ["sum"]:
+    if words(__doc__, 0, 1) == ["sum"]:
         print(SUM)
+    elif sys.argv[1:]:
+        sys.exit(__doc__.strip())
     else:
         json.dump(script(), sys.stdout, separators=(",", ":"))

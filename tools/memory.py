@@ -9,6 +9,8 @@ import re
 import sys
 from pathlib import Path
 
+from words import words
+
 MADE = re.compile(r"\b(NoMemory|AllocError)\b(?!\s*>)")
 SAID = re.compile(r"^\s*(//|use |pub use |ghost |ensures |requires |impl |#)")
 
@@ -47,4 +49,4 @@ def main(sources, wanted):
 
 
 if __name__ == "__main__":
-    sys.exit(main(*sys.argv[1:]))
+    sys.exit(main(*words(__doc__, 2, 2)))

@@ -16,6 +16,8 @@ import re
 import sys
 import textwrap
 
+from words import words
+
 OPENED = """
 use Rattle.am_base.specs.Names.{by_place}
 use Rattle.am_base.specs.Lists.{after, fits, fold}
@@ -213,7 +215,7 @@ def write_folder(cases, out, folder):
 
 
 def main():
-    cases, out = sys.argv[1:3]
+    cases, out = words(__doc__, 2, 2)
     for folder in sorted(os.listdir(cases)):
         if os.path.exists(os.path.join(cases, folder, "about.txt")):
             write_folder(cases, out, folder)

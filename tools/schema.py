@@ -18,6 +18,8 @@ import re
 import subprocess
 import sys
 
+from words import end, words
+
 SCHEMA = pathlib.Path(__file__).resolve().parent.parent / "docs" / "script.schema.json"
 
 # a schema sees the value of a number and not how it is written, nor how many calls all threads have, nor which word is asked for
@@ -228,4 +230,4 @@ def main(words):
 
 
 if __name__ == "__main__":
-    sys.exit(main(sys.argv[1:]))
+    end(lambda: main(words(__doc__, 1)))

@@ -9,6 +9,8 @@ import subprocess
 import sys
 import tempfile
 
+from words import words
+
 FOUNDERS = b'{"play":{"founders":[0],"events":['
 TICK = b'{"do":"tick","node":0}'
 SMALL = FOUNDERS + b"]}}"
@@ -155,4 +157,4 @@ def main(program):
 
 
 if __name__ == "__main__":
-    sys.exit(main(sys.argv[1]))
+    sys.exit(main(*words(__doc__, 1, 1)))

@@ -11,6 +11,8 @@ import pathlib
 import subprocess
 import sys
 
+from words import words
+
 
 def difference(program, script):
     """What is wrong with the program's answer to a script; None where nothing is."""
@@ -28,7 +30,7 @@ def difference(program, script):
 
 
 def main():
-    program, folders = sys.argv[1], sys.argv[2:]
+    program, *folders = words(__doc__, 2)
     passed = failed = 0
     for folder in folders:
         for script in sorted(pathlib.Path(folder).glob("*.json")):
@@ -41,7 +43,7 @@ def main():
                 failed += 1
                 print(f"{script}: {wrong}")
     print(f"{passed} passed, {failed} failed")
-    sys.exit(1 if failed else 0)
+    sys.exit(1 if failed or not passed else 0)
 
 
 if __name__ == "__main__":

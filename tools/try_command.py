@@ -12,6 +12,8 @@ import subprocess
 import sys
 import tempfile
 
+from words import words
+
 USAGE = "usage: play | race | gen --seed N --count N\n"
 GEN = ["gen", "--seed", "1", "--count", "50"]
 
@@ -70,7 +72,7 @@ def faults(top: pathlib.Path):
 
 def main() -> int:
     """Tries the command of the folder that is named."""
-    source = pathlib.Path(sys.argv[1])
+    source = pathlib.Path(words(__doc__, 1, 1)[0])
     with tempfile.TemporaryDirectory() as folder:
         top = pathlib.Path(folder)
         (top / "crates" / "am_sim").mkdir(parents=True)

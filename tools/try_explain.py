@@ -16,6 +16,7 @@ import subprocess
 import sys
 
 import explain
+from words import words
 
 # what ./muoswyld says below a refusal where nobody looks
 HINT = r"muoswyld: in words: python3 tools/explain\.py \S+ (play|race) < SCRIPT\n"
@@ -90,7 +91,8 @@ def faults_of_command(command, script, sentence):
 
 
 def main():
-    program, folder, command = sys.argv[1], pathlib.Path(sys.argv[2]), sys.argv[3]
+    program, folder, command = words(__doc__, 3, 3)
+    folder = pathlib.Path(folder)
     lines = (folder / "sentences.txt").read_text().splitlines()
     sentences = dict(line.split(": ", 1) for line in lines)
     scripts = sorted(folder.glob("*.json"))

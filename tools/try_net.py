@@ -23,6 +23,7 @@ TOP = pathlib.Path(__file__).resolve().parent.parent
 sys.path.insert(0, str(TOP / "net"))
 
 from cluster import free_ports  # noqa: E402
+from words import words
 
 
 class Process:
@@ -209,7 +210,8 @@ def merging(tried: Tried) -> list[str]:
 
 def main() -> int:
     """Tries each part in a folder of its own."""
-    program = shlex.join([os.path.abspath(word) if os.path.exists(word) else word for word in shlex.split(sys.argv[1])])
+    (command,) = words(__doc__, 1, 1)
+    program = shlex.join([os.path.abspath(word) if os.path.exists(word) else word for word in shlex.split(command)])
     passed = failed = 0
     for part in (cluster, dropped, unknown, dictionary, chat, once, merging):
         with tempfile.TemporaryDirectory() as folder:

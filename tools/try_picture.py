@@ -14,6 +14,7 @@ import xml.etree.ElementTree as xml
 
 import picture
 import playtext
+from words import words
 
 SVG = "{http://www.w3.org/2000/svg}"
 
@@ -43,7 +44,7 @@ def faults(text):
 
 def main():
     passed = failed = 0
-    texts = (script.with_suffix(".txt") for folder in sys.argv[1:] for script in sorted(pathlib.Path(folder).glob("*.json")))
+    texts = (script.with_suffix(".txt") for folder in words(__doc__, 1) for script in sorted(pathlib.Path(folder).glob("*.json")))
     for path in filter(pathlib.Path.exists, texts):
         wrong = list(faults(path.read_text(encoding="ascii")))
         passed, failed = passed + (not wrong), failed + bool(wrong)

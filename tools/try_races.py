@@ -11,6 +11,8 @@ import pathlib
 import subprocess
 import sys
 
+from words import words
+
 # so many seconds may a race or a play take
 MOST_SECONDS = 110
 
@@ -59,4 +61,4 @@ def main(program, folder, times="3"):
 
 
 if __name__ == "__main__":
-    sys.exit(main(*sys.argv[1:]))
+    sys.exit(main(*words(__doc__, 2, 3)))
