@@ -3,5 +3,3 @@
 
 pub mod chooser;
 pub mod progress;
-#[cfg(test)]
-mod tests;

@@ -7,5 +7,3 @@ pub mod event;
 pub mod group;
 pub mod journal;
 pub mod plan;
-#[cfg(test)]
-mod tests;

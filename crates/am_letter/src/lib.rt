@@ -14,10 +14,4 @@ pub mod letter;
 pub mod out_box;
 mod packet_reader;
 pub mod reader;
-#[cfg(test)]
-mod reader_tests;
-#[cfg(test)]
-mod tests;
 pub mod writer;
-#[cfg(test)]
-mod wrong_fields;

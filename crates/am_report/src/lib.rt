@@ -9,8 +9,4 @@ pub mod name;
 pub mod outcome;
 pub mod play;
 pub mod script;
-#[cfg(test)]
-mod script_tests;
 pub mod summary;
-#[cfg(test)]
-mod tests;

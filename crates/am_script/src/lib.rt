@@ -8,10 +8,6 @@ pub mod key;
 mod kind;
 mod play;
 mod race;
-#[cfg(test)]
-mod race_tests;
 pub mod read;
 pub mod refusal;
 pub mod script;
-#[cfg(test)]
-mod tests;

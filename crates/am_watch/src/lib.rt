@@ -3,7 +3,5 @@
 #![tactic(auto)]
 
 pub mod laws;
-#[cfg(test)]
-mod tests;
 pub mod views;
 pub mod watcher;

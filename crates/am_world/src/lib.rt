@@ -4,7 +4,5 @@
 pub mod asked;
 pub mod nodes;
 pub mod run;
-#[cfg(test)]
-mod tests;
 mod watching;
 pub mod world;

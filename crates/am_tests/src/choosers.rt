@@ -1,4 +1,4 @@
-use crate::chooser::{Choice, Chooser};
+use am_chooser::chooser::{Choice, Chooser};
 use std::test::*;
 
 /// The words of seed 1 and stream 1001 are, modulo 100, 61, 47, 23, 31 and 45.

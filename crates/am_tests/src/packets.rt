@@ -1,4 +1,3 @@
-use crate::reader::decode;
 use crate::wrong_fields::FAULTS;
 use am_base::limits::MOST_NUMBER;
 use am_codec::PacketRefusal;
@@ -7,6 +6,7 @@ use am_codec::vectors::{
     INVITE, JOIN_ASK, LEAVE_ASK, NACK, ORDER, PIECE_DATA, PIECE_JOIN, PIECE_LEAVE, PIECE_VIEW,
     REQUEST, RESULT, SPREAD, VOTE, WELCOME,
 };
+use am_letter::reader::decode;
 use std::alloc::Global;
 use std::test::*;
 

@@ -1,9 +1,9 @@
-use crate::key::Key;
-use crate::read::read_script;
-use crate::refusal::ScriptRefusal;
-use crate::script::Script;
 use am_group::event::Act;
 use am_group::plan::RacePlan;
+use am_script::key::Key;
+use am_script::read::read_script;
+use am_script::refusal::ScriptRefusal;
+use am_script::script::Script;
 use std::alloc::{AllocError, Global};
 use std::test::Fail;
 
@@ -171,7 +171,13 @@ fn seventeen_threads_refused(rt: HostRuntime) -> Result<(), Fail> {
         threads.push_str("7,")?;
     }
     threads.push_str("7")?;
-    let sixteen = ScriptRefusal::out_of_range(Key::Threads, 0, 17, 1, 16);
+    let sixteen = ScriptRefusal::OutOfRange {
+        key: Key::Threads,
+        place: 0,
+        found: 17,
+        least: 1,
+        most: 16,
+    };
     let text = race_of(rt.alloc(), threads.as_str())?;
     assert!(rt; refusal_of(rt.alloc(), text.as_str()) == Some(sixteen));
     Ok(())

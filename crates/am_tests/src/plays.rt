@@ -1,10 +1,10 @@
-use crate::key::Key;
-use crate::read::read_script;
-use crate::refusal::ScriptRefusal;
-use crate::script::Script;
 use am_base::founding::Founding;
 use am_base::items::Items;
 use am_group::event::{Act, Event};
+use am_script::key::Key;
+use am_script::read::read_script;
+use am_script::refusal::ScriptRefusal;
+use am_script::script::Script;
 use std::alloc::{AllocError, Global};
 use std::test::Fail;
 

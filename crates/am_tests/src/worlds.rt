@@ -1,10 +1,10 @@
-use crate::world::World;
 use am_base::body::Body;
 use am_base::founding::Founding;
 use am_base::name::Name;
 use am_base::names::Names;
 use am_base::outcome::Outcome;
 use am_group::event::{Act, Event};
+use am_world::world::World;
 use std::process::Abort;
 use std::test::*;
 

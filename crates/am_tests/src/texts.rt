@@ -1,8 +1,5 @@
 ghost use Rattle.std.specs.Prelude.{◌≡◌};
 
-use crate::lines::{push_empty_log, push_group_line, push_log_line, push_mark, push_record};
-use crate::play::play_text;
-use crate::summary::summary_text;
 use am_base::NoMemory;
 use am_base::body::Body;
 use am_base::boxed::Boxed;
@@ -17,6 +14,9 @@ use am_group::journal::Journal;
 use am_letter::letter::Letter;
 use am_letter::reader::decode;
 use am_packet::packet::Packet;
+use am_report::lines::{push_empty_log, push_group_line, push_log_line, push_mark, push_record};
+use am_report::play::play_text;
+use am_report::summary::summary_text;
 use std::alloc::Global;
 use std::test::Fail;
 

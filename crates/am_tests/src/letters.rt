@@ -1,11 +1,11 @@
 ghost use Rattle.std.specs.Prelude.{IfOk};
 ghost use Rattle.am_codec.specs.Limits.{IsWithin};
 
-use crate::letter::Letter;
-use crate::out_box::OutBox;
-use crate::reader::decode;
 use am_base::names::Names;
 use am_codec::vectors::{ACK, ALL, NACK};
+use am_letter::letter::Letter;
+use am_letter::out_box::OutBox;
+use am_letter::reader::decode;
 use am_packet::packet::Packet;
 use std::test::*;
 

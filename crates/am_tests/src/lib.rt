@@ -1,0 +1,26 @@
+//! Tests of what crates offer each other: each module is of one crate. They stand together, since a crate with tests of its
+//! own is proved a second time with them.
+#![tactic(auto)]
+
+#[cfg(test)]
+mod choosers;
+#[cfg(test)]
+mod groups;
+#[cfg(test)]
+mod letters;
+#[cfg(test)]
+mod packets;
+#[cfg(test)]
+mod plays;
+#[cfg(test)]
+mod races;
+#[cfg(test)]
+mod schedules;
+#[cfg(test)]
+mod texts;
+#[cfg(test)]
+mod watchers;
+#[cfg(test)]
+mod worlds;
+#[cfg(test)]
+mod wrong_fields;
