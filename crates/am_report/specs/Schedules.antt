@@ -1,6 +1,7 @@
 -- What was done as a script: one object of JSON without blanks, whose keys stand in alphabetical order.
-use Rattle.std.specs.Prelude.{ℕ, ◌==◌, if◌then◌else◌, List, [], ◌∷◌, ◌++◌, codes, decimal}
+use Rattle.std.specs.Prelude.{ℕ, ◌==◌, if◌then◌else◌, List, [], ◌∷◌, ◌++◌, codes, decimal, All}
 use Rattle.std.specs.List.{flat_map}
+use Rattle.hex.specs.Hex.{IsBytes}
 use Rattle.am_base.specs.Founding.{Rules}
 use Rattle.am_base.specs.Names.{place_of, life_of}
 use Rattle.am_group.specs.declared.event.Act.{Act}
@@ -72,3 +73,11 @@ numbers_json rules =
 unfoldable pub script_text : Rules → List Event → List ℕ
 script_text rules events =
     codes "{\"play\":{" ++ (events_json rules events ++ (codes "," ++ (founders_json rules ++ (codes "," ++ (numbers_json rules ++ codes "}}")))))
+
+-- the bodies of sends are bytes
+abbrev pub IsOfBytes : Act → Type 0
+IsOfBytes (acts.Send body) = IsBytes body
+IsOfBytes act = Unit {0}
+
+abbrev pub AreOfBytes : List Event → Type 0
+AreOfBytes events = All (λ event. IsOfBytes event.act) events

@@ -1,5 +1,9 @@
-ghost use Rattle.std.specs.Prelude.{◌≡◌, ◌++◌, OnOk, IfOk, string_bytes};
-ghost use Rattle.am_report.specs.Schedules.{life_json, resilience_json, body_json, keys_before, keys_behind, word_json, event_json, others_json, list_json, events_json, founders_json, numbers_json, script_text};
+ghost use Rattle.std.specs.Prelude.{◌≡◌, ◌++◌, OnOk, IfOk, Ok, false, string_bytes};
+ghost use Rattle.am_script.specs.declared.key.Key.TheVariants as key;
+ghost use Rattle.am_script.specs.declared.script.Script.TheVariants.{Play};
+ghost use Rattle.am_script.specs.Limits.{IsWithin};
+ghost use Rattle.am_script.specs.Scripts.{reading};
+ghost use Rattle.am_report.specs.Schedules.{life_json, resilience_json, body_json, keys_before, keys_behind, word_json, event_json, others_json, list_json, events_json, founders_json, numbers_json, script_text, AreOfBytes};
 
 use crate::entry::push_bytes;
 use crate::event::act_word;
@@ -169,10 +173,9 @@ fn push_numbers(out: &mut String, founding: &Founding) -> Result<(), NoMemory>
     write!(out, ",\"window\":{window}")
 }
 
-/// What was done as a script: how the group began, and the events, in one line of JSON without its end, whose run is theirs
-/// (docs/PROTOCOL.md, "Scripts").
+// The text of a script.
 #[tactic(auto, unfolding(crate::specs::Schedules::script_text))]
-pub fn script_text(alloc: Global, founding: &Founding, events: &[Event]) -> Result<String, NoMemory>
+fn written(alloc: Global, founding: &Founding, events: &[Event]) -> Result<String, NoMemory>
     ensures { IfOk result (λ text. string_bytes text ≡ script_text founding.now events.now) }
 {
     let mut out = String::new(alloc);
@@ -184,4 +187,18 @@ pub fn script_text(alloc: Global, founding: &Founding, events: &[Event]) -> Resu
     push_numbers(&mut out, founding)?;
     out.push_str("}}")?;
     Ok(out)
+}
+
+/// What was done as a script: how the group began, and the events, in one line of JSON without its end, whose run is theirs
+/// (docs/PROTOCOL.md, "Scripts"). Where the founding and the events are within the limits of scripts, it is read as that script
+/// again.
+#[tactic(auto, using(crate::proofs::Again::text_again))]
+pub fn script_text(alloc: Global, founding: &Founding, events: &[Event]) -> Result<String, NoMemory>
+    ensures text { IfOk result (λ text. string_bytes text ≡ script_text founding.now events.now) }
+    ensures again { IfOk result (λ text. IsWithin founding.now events.now
+        → AreOfBytes events.now
+        → reading key.Play (string_bytes text) ≡ Ok (Play founding.now events.now false)) }
+{
+    let text = written(alloc, founding, events)?;
+    Ok(text)
 }
