@@ -1,21 +1,10 @@
 -- A sequencer that is alone is so once its own Leave is numbered, and so it tells nobody.
-use Rattle.std.proofs.Common.{◌≡◌, ℕ, zero, suc, ◌+◌, ◌<◌, ◌≤◌, ◌==◌, nat_lt, Bool, true, false, if◌then◌else◌, List, [], ◌∷◌, length, slice_index}
-use Rattle.std.proofs.Common.{slice_set, get_or-set_same, get_or-set_other, refl, sym, ap, ◌∙◌, subst, arith}
-use Rattle.std.proofs.lemmas.Bool.Decides.{nat_tests}
-use Rattle.std.proofs.lemmas.List.{map-set, get_or_past, length-set}
-use Rattle.std.proofs.Math.Seq.{map-set_same}
-use Rattle.am_base.specs.declared.image.Image.{Image}
-use Rattle.am_base.specs.declared.image.Row.{Row}
-use Rattle.am_base.specs.declared.entry.Entry.TheVariants.{Data, Leave}
-use Rattle.am_base.specs.Names.{place_of, life_of, has, size, without_name}
-use Rattle.am_base.specs.Lists.{Log, told_by, at_place, members_of, member_life, after}
-use Rattle.am_base.proofs.Places.{slice_index-by_place, length-by_place}
-use Rattle.am_model.specs.Node.{Node, top, image_of, name_where, those, others, push_entry}
-use Rattle.am_model.specs.Refresh.{refresh_at_end}
-use Rattle.am_base.proofs.Greatest.{split}
-use Rattle.am_model.proofs.Sets.{size_cons}
-use Rattle.am_effects.proofs.Rests.{rests_at_end}
-use Rattle.am_effects.proofs.Says.{told_pushed}
+use Rattle.am_effects.proofs.Words.{◌≡◌, ℕ, zero, suc, ◌+◌, ◌<◌, ◌≤◌, ◌==◌, nat_lt, Bool, true, false, if◌then◌else◌, List, [], ◌∷◌, length, slice_index}
+use Rattle.am_effects.proofs.Words.{slice_set, get_or-set_same, get_or-set_other, refl, sym, ap, ◌∙◌, subst, arith, nat_tests, map-set, get_or_past}
+use Rattle.am_effects.proofs.Words.{length-set, map-set_same, Image, Row, Data, Leave, place_of, life_of, has, size, without_name, Log, told_by, at_place}
+use Rattle.am_effects.proofs.Words.{members_of, member_life, after, slice_index-by_place, length-by_place, Node, top, image_of, name_where, those, others}
+use Rattle.am_effects.proofs.Words.{push_entry, refresh_at_end, split, size_cons}
+use Rattle.am_effects.proofs.{Rests.rests_at_end, Says.told_pushed}
 
 -- ---- sets without a name
 

@@ -1,36 +1,18 @@
 -- The effects of ballots.
-use Rattle.std.proofs.Common.{◌≡◌, ℕ, zero, suc, ◌+◌, ◌-◌, ◌==◌, ◌&&◌, min, max, nat_lt, nat_le, not, Bool, true, false, if◌then◌else◌, List, [], length}
-use Rattle.std.proofs.Common.{Option, Some, None, slice_get, refl, sym, ap, subst, ◌∙◌, arith}
-use Rattle.std.proofs.lemmas.Bool.Decides.{nat_tests}
-use Rattle.am_base.specs.declared.image.Vote.{Vote}
-use Rattle.am_base.specs.declared.image.Image.{Image}
-use Rattle.am_base.specs.declared.name.Stamp.{Stamp}
-use Rattle.am_base.specs.declared.entry.Entry.TheVariants.{View}
+use Rattle.am_effects.proofs.Words.{◌≡◌, ℕ, zero, suc, ◌+◌, ◌-◌, ◌==◌, ◌&&◌, min, max, nat_lt, nat_le, not, Bool, true, false, if◌then◌else◌, List, []}
+use Rattle.am_effects.proofs.Words.{length, Option, Some, None, slice_get, refl, sym, ap, subst, ◌∙◌, arith, nat_tests, Vote, Image, Stamp, View, has, size}
+use Rattle.am_effects.proofs.Words.{without_name, Log, entry_at, after, Letter, with_letter, Node, Ballot, top, image_of, view, members, others, only_name}
+use Rattle.am_effects.proofs.Words.{those, is_member, push_entry, invite_of, fetch_of, result_of, with_promise, Verdict, need_of, best_of, is_waited_for}
+use Rattle.am_effects.proofs.Words.{left_in, trim_for, decide, with_result, with_fetch, verdict_plan, next_stamp, new_ballot, begin, with_vote, newly_needed}
+use Rattle.am_effects.proofs.Words.{keep_vote, without_voter, give_up, viewed_by, reset_row, give_up_of, give_up_row, and_both, Cause, calls, HasLearned}
+use Rattle.am_effects.proofs.Words.{Looks, finds_itself_out, waits, fetches_from_best, finds_too_few, finds_no_room, decides, MayBegin, BeginsBy, by_reset}
+use Rattle.am_effects.proofs.Words.{by_hand_over, MayLook, was_reset, was_handed, HasOpen, Balloting, as_it_is, without_one, opens, nothing_yet, and_then}
+use Rattle.am_effects.proofs.Words.{looked, invite, fetch, result, has_begun, for_ballot, decided, Answers}
 use Rattle.am_base.specs.declared.outcome.Outcome.TheVariants as said
 use Rattle.am_base.specs.declared.event.NodeEvent.TheVariants as does
-use Rattle.am_base.specs.Names.{has, size, without_name}
-use Rattle.am_base.specs.Lists.{Log, entry_at, after}
-use Rattle.am_packet.specs.Boxes.{Letter, with_letter}
-use Rattle.am_model.specs.Node.{Node, Ballot, top, image_of, view, members, others, only_name, those, is_member, push_entry}
-use Rattle.am_model.specs.Emit.{invite_of, fetch_of, result_of}
-use Rattle.am_model.specs.Ballots.{with_promise, Verdict, need_of, best_of, is_waited_for, left_in, trim_for, decide, with_result, with_fetch, verdict_plan}
-use Rattle.am_model.specs.Ballots.{next_stamp, new_ballot, begin, with_vote, newly_needed, keep_vote, without_voter, give_up}
-use Rattle.am_model.specs.Ticks.{viewed_by}
-use Rattle.am_model.specs.Calls.{reset_row, give_up_of, give_up_row}
-use Rattle.am_base.proofs.Greatest.{and_both}
-use Rattle.am_effects.specs.Causes.{Cause, calls}
-use Rattle.am_effects.specs.Looks.{HasLearned, Looks, finds_itself_out, waits, fetches_from_best, finds_too_few, finds_no_room, decides, MayBegin, BeginsBy}
-use Rattle.am_effects.specs.Looks.{by_reset, by_hand_over, MayLook, was_reset, was_handed, HasOpen, Balloting, as_it_is, without_one}
-use Rattle.am_effects.specs.Changes.{opens}
-use Rattle.am_effects.specs.Courses.{nothing_yet, and_then, looked}
-use Rattle.am_effects.specs.Letters.{invite, fetch, result, has_begun, for_ballot, decided}
 use Rattle.am_effects.specs.Letters as letters
-use Rattle.am_effects.specs.Effects.{Answers}
-use Rattle.am_effects.proofs.Tests.{not_false, not_true}
-use Rattle.am_effects.proofs.Items.{get_last}
-use Rattle.am_effects.proofs.Rests.{RestsWhole}
 use Rattle.am_effects.proofs.Plans.{AllSay, none_says, and_says, Comes, HasEffect, effect_if, effect_done, rows}
-use Rattle.am_effects.proofs.Says.{told_pushed}
+use Rattle.am_effects.proofs.{Tests.not_false, Tests.not_true, Items.get_last, Rests.RestsWhole, Says.told_pushed}
 
 -- ---- a look
 

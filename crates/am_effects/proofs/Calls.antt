@@ -1,38 +1,20 @@
 -- The effects of the calls.
-use Rattle.std.proofs.Common.{◌≡◌, ℕ, ◌+◌, ◌||◌, ◌==◌, nat_lt, nat_le, not, Bool, true, false, if◌then◌else◌, List, [], length, Option, Some, None, find}
-use Rattle.std.proofs.Common.{is_some, inl, inr, refl, ap, ◌∙◌, arith}
-use Rattle.std.proofs.lemmas.Bool.Decides.{nat_tests}
-use Rattle.am_base.specs.declared.entry.Entry.{Entry}
-use Rattle.am_base.specs.declared.entry.Entry.TheVariants.{Data}
-use Rattle.am_base.specs.declared.outcome.Outcome.{Outcome}
+use Rattle.am_effects.proofs.Words.{◌≡◌, ℕ, ◌+◌, ◌||◌, ◌==◌, nat_lt, nat_le, not, Bool, true, false, if◌then◌else◌, List, [], length, Option, Some, None}
+use Rattle.am_effects.proofs.Words.{find, is_some, inl, inr, refl, ap, ◌∙◌, arith, nat_tests, Entry, Data, Outcome, NodeEvent, size, entry_at, OwnSend}
+use Rattle.am_effects.proofs.Words.{Status, Node, Ballot, top, view, own_row, others, only_name, lowest_or_first, acts, has_room, is_member, is_asking}
+use Rattle.am_effects.proofs.Words.{is_sequencer, waiting, unsettled_count, push_entry, Plan, quiet, join_ask_of, leave_ask_of, hand_over_of, request_of}
+use Rattle.am_effects.proofs.Words.{spread_of, bcast_of, everywhere_else, would_emit, hand_in, number_send, emit, with_queued, queue, give_out, ask_to_join}
+use Rattle.am_effects.proofs.Words.{join_by, state_by, go, leave_now, leave_by, is_unfinished, ask_of, send_row, done_row, take_row, join_row, state_row}
+use Rattle.am_effects.proofs.Words.{leave_row, ask_row, and_both, Cause, calls, numbers, own_send, queues, collects, takes, asks_to_join, asks_to_leave}
+use Rattle.am_effects.proofs.Words.{Course, nothing_yet, and_then, HasSend, join_ask, leave_ask, hand_over, Answers}
 use Rattle.am_base.specs.declared.outcome.Outcome.TheVariants as said
-use Rattle.am_base.specs.declared.event.NodeEvent.{NodeEvent}
 use Rattle.am_base.specs.declared.event.NodeEvent.TheVariants as does
-use Rattle.am_base.specs.Names.{size}
-use Rattle.am_base.specs.Lists.{entry_at}
-use Rattle.am_sender.specs.declared.OwnSend.{OwnSend}
 use Rattle.am_sender.specs.Sends as own
-use Rattle.am_model.specs.declared.status.Status.{Status}
 use Rattle.am_model.specs.declared.status.Status.TheVariants as status
-use Rattle.am_model.specs.Node.{Node, Ballot, top, view, own_row, others, only_name, lowest_or_first, acts, has_room, is_member, is_asking, is_sequencer}
-use Rattle.am_model.specs.Node.{waiting, unsettled_count, push_entry}
-use Rattle.am_model.specs.Emit.{Plan, quiet, join_ask_of, leave_ask_of, hand_over_of, request_of, spread_of, bcast_of}
-use Rattle.am_model.specs.Calls.{everywhere_else, would_emit, hand_in, number_send, emit, with_queued, queue, give_out, ask_to_join, join_by, state_by, go}
-use Rattle.am_model.specs.Calls.{leave_now}
-use Rattle.am_model.specs.Calls.{leave_by, is_unfinished, ask_of, send_row, done_row, take_row, join_row, state_row, leave_row, ask_row}
-use Rattle.am_base.proofs.Greatest.{and_both}
-use Rattle.am_effects.specs.Causes.{Cause, calls}
-use Rattle.am_effects.specs.Changes.{numbers, own_send, queues, collects, takes, asks_to_join, asks_to_leave}
-use Rattle.am_effects.specs.Courses.{Course, nothing_yet, and_then}
-use Rattle.am_effects.specs.Letters.{HasSend, join_ask, leave_ask, hand_over}
-use Rattle.am_effects.specs.Effects.{Answers}
-use Rattle.am_effects.proofs.Tests.{not_false, not_true}
-use Rattle.am_effects.proofs.Items.{find_get, find_test}
-use Rattle.am_effects.proofs.Rests.{Rests, RestsWhole, leads_rests}
 use Rattle.am_effects.proofs.Plans.{Comes, Does, HasEffect, effect_if, effect_of, row_closing, does_if, does_quiet, does_telling, does_and, does_numbering}
 use Rattle.am_effects.proofs.Plans.{tightly, rows}
-use Rattle.am_effects.proofs.Alone.{IsAlone, gone, alone_after}
-use Rattle.am_effects.proofs.Says.{waiting_stands, tells_request, tells_spread, tells_bcast}
+use Rattle.am_effects.proofs.{Tests.not_false, Tests.not_true, Items.find_get, Items.find_test, Rests.Rests, Rests.RestsWhole, Rests.leads_rests}
+use Rattle.am_effects.proofs.{Alone.IsAlone, Alone.gone, Alone.alone_after, Says.waiting_stands, Says.tells_request, Says.tells_spread, Says.tells_bcast}
 
 -- ---- sends
 

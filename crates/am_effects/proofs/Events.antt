@@ -1,28 +1,14 @@
 -- Each event has its effect on a world.
-use Rattle.std.proofs.Common.{◌≡◌, ℕ, nat_lt, nat_le, ◌==◌, ◌||◌, Bool, true, false, not, if◌then◌else◌, Option, Some, None, refl, sym, ap, subst}
+use Rattle.am_effects.proofs.Words.{◌≡◌, ℕ, nat_lt, nat_le, ◌==◌, ◌||◌, Bool, true, false, not, if◌then◌else◌, Option, Some, None, refl, sym, ap, subst}
+use Rattle.am_effects.proofs.Words.{NodeEvent, place_of, Packet, Letter, Act, Event, is_for, letter_at, Node, has_departed, Step, step, hear, hear_refusal}
+use Rattle.am_effects.proofs.Words.{packet_length, World, current, is_stopped, does_event, gives_up, hears_letter, hear_cut, comes_back, acts_as, happens}
+use Rattle.am_effects.proofs.Words.{heard_by, Cause, calls, hears, refuses, Effect, actor, WasSentTo, IsCall, send, done, take, join, state, leave, reset}
+use Rattle.am_effects.proofs.Words.{ask, tick, IsCause, Happens, idles, stops, returns, steps, EventsHaveEffects}
+use Rattle.am_effects.specs.Events.{give_up}
 use Rattle.am_base.specs.declared.outcome.Outcome.TheVariants as said
-use Rattle.am_base.specs.declared.event.NodeEvent.{NodeEvent}
 use Rattle.am_base.specs.declared.event.NodeEvent.TheVariants as does
-use Rattle.am_base.specs.Names.{place_of}
-use Rattle.am_packet.specs.declared.packet.Packet.{Packet}
-use Rattle.am_packet.specs.Boxes.{Letter}
-use Rattle.am_group.specs.declared.event.Act.{Act}
 use Rattle.am_group.specs.declared.event.Act.TheVariants as act
-use Rattle.am_group.specs.declared.event.Event.{Event}
-use Rattle.am_group.specs.Addressed.{is_for}
-use Rattle.am_group.specs.Journals.{letter_at}
-use Rattle.am_model.specs.Node.{Node, has_departed}
-use Rattle.am_model.specs.Emit.{Step}
-use Rattle.am_model.specs.Step.{step, hear, hear_refusal}
-use Rattle.am_model.specs.Lengths.{packet_length}
-use Rattle.am_play.specs.World.{World, current, is_stopped, does_event, gives_up, hears_letter, hear_cut, comes_back, acts_as, happens}
-use Rattle.am_play.specs.Claims.{heard_by}
-use Rattle.am_effects.specs.Causes.{Cause, calls, hears, refuses}
-use Rattle.am_effects.specs.Effects.{Effect}
-use Rattle.am_effects.specs.Events.{actor, WasSentTo, IsCall, send, done, take, join, state, leave, reset, ask, give_up, tick, IsCause, Happens, idles, stops}
-use Rattle.am_effects.specs.Events.{returns, steps, EventsHaveEffects}
-use Rattle.am_effects.proofs.Tests.{not_false}
-use Rattle.am_effects.proofs.Hearing.{steps_have_effects, hearing_has_effects, refusing_has_effects}
+use Rattle.am_effects.proofs.{Tests.not_false, Hearing.steps_have_effects, Hearing.hearing_has_effects, Hearing.refusing_has_effects}
 
 happens_if : (w : World) (e : Event) (b : Bool) (u v : World) → (b ≡ true → Happens w e u) → (b ≡ false → Happens w e v) → Happens w e (if b then u else v)
 happens_if w e true u v f g = f refl

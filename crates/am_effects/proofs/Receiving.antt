@@ -1,39 +1,18 @@
 -- The effects of what a member hears of its sequencer, of bodies that are spread, and of a joiner's Welcome.
-use Rattle.std.proofs.Common.{◌≡◌, ℕ, ◌+◌, ◌<◌, ◌≤◌, ◌==◌, ◌&&◌, ◌||◌, nat_lt, nat_le, not, Bool, true, false, List, Option, Some, None, refl, sym, ap, subst}
-use Rattle.std.proofs.Common.{◌∙◌, arith}
-use Rattle.std.specs.List.{list_any}
-use Rattle.std.proofs.lemmas.Bool.Decides.{nat_tests}
-use Rattle.am_base.specs.declared.image.Report.{Report}
-use Rattle.am_base.specs.declared.image.Image.{Image}
-use Rattle.am_base.specs.declared.name.Stamp.{Stamp}
-use Rattle.am_base.specs.declared.entry.Entry.{Entry}
-use Rattle.am_base.specs.declared.entry.Entry.TheVariants.{Data}
-use Rattle.am_base.specs.declared.outcome.Outcome.{Outcome}
+use Rattle.am_effects.proofs.Words.{◌≡◌, ℕ, ◌+◌, ◌<◌, ◌≤◌, ◌==◌, ◌&&◌, ◌||◌, nat_lt, nat_le, not, Bool, true, false, List, Option, Some, None, refl, sym, ap}
+use Rattle.am_effects.proofs.Words.{subst, ◌∙◌, arith, list_any, nat_tests, Report, Image, Stamp, Entry, Data, Outcome, stamp_lt, stamp_eq, fits, row_of}
+use Rattle.am_effects.proofs.Words.{OwnSend, is_of, keep_body, Node, top, image_of, view, only_name, acts, is_member, is_asking, has_own_leave}
+use Rattle.am_effects.proofs.Words.{is_within_bound, waiting, push_entry, quiet, ack_of, nack_of, fetch_of, row_at, if_risen, spread_row, is_view, with_noted}
+use Rattle.am_effects.proofs.Words.{acknowledges, bodies_after, body_of, store_fitting, store, receive_entry, bcast_row, data_of, order_row, accept_row}
+use Rattle.am_effects.proofs.Words.{answer_hold, hold_row, begin_list, ask_next, welcome_row, gone_row, hears_member, hears_asking, hears_in_view}
+use Rattle.am_effects.proofs.Words.{hears_sequencer, split, and_both, Cause, hears, BringsFronts, with_entry, with_number, alone, MayStore, Carries}
+use Rattle.am_effects.proofs.Words.{whole_entry, by_number, MayBeWelcomed, keeps_body, notes, stores, begins_list, Course, nothing_yet, and_then, fetch}
+use Rattle.am_effects.proofs.Words.{of_promise, Answers}
 use Rattle.am_base.specs.declared.outcome.Outcome.TheVariants as said
-use Rattle.am_base.specs.Stamps.{stamp_lt, stamp_eq}
-use Rattle.am_base.specs.Lists.{fits, row_of}
 use Rattle.am_packet.specs.declared.packet.Packet.TheVariants as packet
-use Rattle.am_sender.specs.declared.OwnSend.{OwnSend}
-use Rattle.am_bodies.specs.Bodies.{is_of, keep_body}
-use Rattle.am_model.specs.Node.{Node, top, image_of, view, only_name, acts, is_member, is_asking, has_own_leave, is_within_bound, waiting, push_entry}
-use Rattle.am_model.specs.Emit.{quiet, ack_of, nack_of, fetch_of}
-use Rattle.am_model.specs.Sequencing.{row_at, if_risen}
-use Rattle.am_model.specs.Receiving.{spread_row, is_view, with_noted, acknowledges, bodies_after, body_of, store_fitting, store, receive_entry, bcast_row}
-use Rattle.am_model.specs.Receiving.{data_of, order_row}
-use Rattle.am_model.specs.Receiving.{accept_row, answer_hold, hold_row}
-use Rattle.am_model.specs.Joining.{begin_list, ask_next, welcome_row, gone_row}
-use Rattle.am_model.specs.Hearing.{hears_member, hears_asking, hears_in_view, hears_sequencer}
-use Rattle.am_base.proofs.Greatest.{split, and_both}
-use Rattle.am_effects.specs.Causes.{Cause, hears, BringsFronts, with_entry, with_number, alone}
-use Rattle.am_effects.specs.Changes.{MayStore, Carries, whole_entry, by_number, MayBeWelcomed, keeps_body, notes, stores, begins_list}
-use Rattle.am_effects.specs.Courses.{Course, nothing_yet, and_then}
-use Rattle.am_effects.specs.Letters.{fetch, of_promise}
-use Rattle.am_effects.specs.Effects.{Answers}
-use Rattle.am_effects.proofs.Tests.{not_false, or_first, or_second}
-use Rattle.am_effects.proofs.Rests.{RestsWhole}
 use Rattle.am_effects.proofs.Plans.{Comes, HasEffect, effect_if, effect_of, does_quiet, does_saying, does_telling, does_where, row_let_go, rows}
-use Rattle.am_effects.proofs.Says.{acts_pushed, tells_ack, tells_nack}
-use Rattle.am_effects.proofs.Calls.{Allows}
+use Rattle.am_effects.proofs.{Tests.not_false, Tests.or_first, Tests.or_second, Rests.RestsWhole, Says.acts_pushed, Says.tells_ack, Says.tells_nack}
+use Rattle.am_effects.proofs.{Calls.Allows}
 
 -- ---- bodies
 

@@ -1,38 +1,18 @@
 -- The effects of what belongs to ballots.
-use Rattle.std.proofs.Common.{◌≡◌, ℕ, ◌+◌, ◌≤◌, max, ◌==◌, ◌&&◌, ◌||◌, nat_lt, nat_le, not, Bool, true, false, List, [], Option, Some, None, refl, sym, ap, ◌∙◌}
-use Rattle.std.proofs.Common.{arith}
-use Rattle.std.proofs.lemmas.Bool.Decides.{nat_tests}
-use Rattle.am_base.specs.declared.image.Vote.{Vote}
-use Rattle.am_base.specs.declared.image.Image.{Image}
-use Rattle.am_base.specs.declared.name.Stamp.{Stamp}
-use Rattle.am_base.specs.declared.entry.Entry.{Entry}
-use Rattle.am_base.specs.declared.entry.Entry.TheVariants.{View}
-use Rattle.am_base.specs.declared.outcome.Outcome.{Outcome}
+use Rattle.am_effects.proofs.Words.{◌≡◌, ℕ, ◌+◌, ◌≤◌, max, ◌==◌, ◌&&◌, ◌||◌, nat_lt, nat_le, not, Bool, true, false, List, [], Option, Some, None, refl, sym}
+use Rattle.am_effects.proofs.Words.{ap, ◌∙◌, arith, nat_tests, Vote, Image, Stamp, Entry, View, Outcome, stamp_lt, stamp_eq, fits, Node, Ballot, top}
+use Rattle.am_effects.proofs.Words.{image_of, view, only_name, is_member, has_own_leave, is_within_bound, push_entry, trim_up_to, Plan, quiet, ack_of}
+use Rattle.am_effects.proofs.Words.{fetch_of, piece_of, is_unfinished, with_promise, vote_of, invite_row, is_open, take_vote, vote_row, may_fetch, fetch_row}
+use Rattle.am_effects.proofs.Words.{is_view_past, push_fetched, catch_up, decide_anew, fetches_from, piece_promised, piece_for, piece_row, hears_result}
+use Rattle.am_effects.proofs.Words.{result_row, hears_member, hears_asking, and_both, Cause, hears, HasOpen, with_more, as_it_is, was_fetched, MayStore}
+use Rattle.am_effects.proofs.Words.{without_ballot, invited, overtaken, told_result, promises, fetches, stores_view, Course, nothing_yet, and_then, vote}
+use Rattle.am_effects.proofs.Words.{piece, ack, fetch, of_promise}
+use Rattle.am_effects.specs.Changes.{for_ballot}
 use Rattle.am_base.specs.declared.outcome.Outcome.TheVariants as said
-use Rattle.am_base.specs.Stamps.{stamp_lt, stamp_eq}
-use Rattle.am_base.specs.Lists.{fits}
 use Rattle.am_packet.specs.declared.packet.Packet.TheVariants as packet
-use Rattle.am_model.specs.Node.{Node, Ballot, top, image_of, view, only_name, is_member, has_own_leave, is_within_bound, push_entry, trim_up_to}
-use Rattle.am_model.specs.Emit.{Plan, quiet, ack_of, fetch_of, piece_of}
-use Rattle.am_model.specs.Calls.{is_unfinished}
-use Rattle.am_model.specs.Ballots.{with_promise, vote_of}
-use Rattle.am_model.specs.Resets.{invite_row, is_open, take_vote, vote_row, may_fetch, fetch_row, is_view_past, push_fetched, catch_up, decide_anew}
-use Rattle.am_model.specs.Resets.{fetches_from}
-use Rattle.am_model.specs.Resets.{piece_promised, piece_for, piece_row, hears_result, result_row}
-use Rattle.am_model.specs.Hearing.{hears_member, hears_asking}
-use Rattle.am_base.proofs.Greatest.{and_both}
-use Rattle.am_effects.specs.Causes.{Cause, hears}
-use Rattle.am_effects.specs.Looks.{HasOpen, with_more, as_it_is, was_fetched}
-use Rattle.am_effects.specs.Changes.{MayStore, without_ballot, for_ballot, invited, overtaken, told_result, promises, fetches, stores_view}
-use Rattle.am_effects.specs.Courses.{Course, nothing_yet, and_then}
-use Rattle.am_effects.specs.Letters.{vote, piece, ack, fetch, of_promise}
-use Rattle.am_effects.proofs.Tests.{not_false, not_true, or_first, or_second}
-use Rattle.am_effects.proofs.Rests.{RestsWhole}
 use Rattle.am_effects.proofs.Plans.{none_says, Comes, HasEffect, effect_if, effect_of, does_quiet, does_telling, does_where, rows}
-use Rattle.am_effects.proofs.Says.{told_pushed, says_served, tells_ack}
-use Rattle.am_effects.proofs.Receiving.{may_store}
-use Rattle.am_effects.proofs.Ballots.{viewed, effect_answered, row_keep_vote}
-use Rattle.am_effects.proofs.Calls.{Allows}
+use Rattle.am_effects.proofs.{Tests.not_false, Tests.not_true, Tests.or_first, Tests.or_second, Rests.RestsWhole, Says.told_pushed, Says.says_served}
+use Rattle.am_effects.proofs.{Says.tells_ack, Receiving.may_store, Ballots.viewed, Ballots.effect_answered, Ballots.row_keep_vote, Calls.Allows}
 
 -- ---- stamps
 

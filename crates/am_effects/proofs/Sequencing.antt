@@ -1,33 +1,19 @@
 -- The effects of what the sequencer hears.
-use Rattle.std.proofs.Common.{◌≡◌, ◌≢◌, ℕ, ◌+◌, ◌<◌, ◌≤◌, ◌==◌, ◌&&◌, ◌||◌, nat_lt, nat_le, not, Bool, true, false, List, [], ◌∷◌, refl, sym, ap, ◌∙◌}
-use Rattle.std.proofs.Common.{length-append, arith}
-use Rattle.std.proofs.lemmas.Bool.Decides.{nat_tests}
-use Rattle.am_base.specs.declared.image.Report.{Report}
-use Rattle.am_base.specs.declared.image.Row.{Row}
-use Rattle.am_base.specs.declared.name.Stamp.{Stamp}
-use Rattle.am_base.specs.declared.entry.Entry.TheVariants.{Data, Join, Leave}
-use Rattle.am_base.specs.declared.outcome.Outcome.{Outcome}
+use Rattle.am_effects.proofs.Words.{◌≡◌, ◌≢◌, ℕ, ◌+◌, ◌<◌, ◌≤◌, ◌==◌, ◌&&◌, ◌||◌, nat_lt, nat_le, not, Bool, true, false, List, [], ◌∷◌, refl, sym, ap, ◌∙◌}
+use Rattle.am_effects.proofs.Words.{length-append, arith, nat_tests, Report, Row, Stamp, Data, Join, Leave, Outcome, life_of, stamp_eq, Log, top_of, fits}
+use Rattle.am_effects.proofs.Words.{at_place, row_of, told_by, Node, top, image_of, view, others, only_name, is_sequencer, has_room, report_fits, with_report}
+use Rattle.am_effects.proofs.Words.{push_entry, Plan, quiet, polling, numbering, bcast_of, hold_of, welcome_of, gone_of, row_at, is_unknown, take_report}
+use Rattle.am_effects.proofs.Words.{answer_request, request_row, if_risen, ack_row, serve_again, nack_row, with_admitted, number_join, join_ask_row, may_go}
+use Rattle.am_effects.proofs.Words.{and_gone, counts_report, leave_ask_row, split, and_both, Cause, hears, BringsSend, BringsReport, with_send, by_ack}
+use Rattle.am_effects.proofs.Words.{by_nack, by_leave_ask, MayReport, takes_report, admits, numbers, asked_send, asked_join, asked_leave, Course, nothing_yet}
+use Rattle.am_effects.proofs.Words.{used_report, and_then, Stands, bcast, order, hold, welcome, gone, just_joined, asks_again, Answers}
+use Rattle.am_model.specs.Joining.{asks_to_join, let_go, asks_to_leave}
 use Rattle.am_base.specs.declared.outcome.Outcome.TheVariants as said
-use Rattle.am_base.specs.Names.{life_of}
-use Rattle.am_base.specs.Stamps.{stamp_eq}
-use Rattle.am_base.specs.Lists.{Log, top_of, fits, at_place, row_of, told_by}
 use Rattle.am_packet.specs.declared.packet.Packet.TheVariants as packet
-use Rattle.am_model.specs.Node.{Node, top, image_of, view, others, only_name, is_sequencer, has_room, report_fits, with_report, push_entry}
-use Rattle.am_model.specs.Emit.{Plan, quiet, polling, numbering, bcast_of, hold_of, welcome_of, gone_of}
-use Rattle.am_model.specs.Sequencing.{row_at, is_unknown, take_report, answer_request, request_row, if_risen, ack_row, serve_again, nack_row}
-use Rattle.am_model.specs.Joining.{with_admitted, number_join, asks_to_join, join_ask_row, may_go, let_go, and_gone, asks_to_leave, counts_report}
-use Rattle.am_model.specs.Joining.{leave_ask_row}
-use Rattle.am_base.proofs.Greatest.{split, and_both}
-use Rattle.am_effects.specs.Causes.{Cause, hears, BringsSend, BringsReport, with_send, by_ack, by_nack, by_leave_ask}
-use Rattle.am_effects.specs.Changes.{MayReport, takes_report, admits, numbers, asked_send, asked_join, asked_leave}
-use Rattle.am_effects.specs.Courses.{Course, nothing_yet, used_report, and_then}
-use Rattle.am_effects.specs.Letters.{Stands, bcast, order, hold, welcome, gone, just_joined, asks_again}
-use Rattle.am_effects.specs.Effects.{Answers}
-use Rattle.am_effects.proofs.Tests.{not_false, or_first, or_second, and_first, and_second, then_other}
-use Rattle.am_effects.proofs.Rests.{RestsWhole, rests_refresh, leads_rests, stands_rests}
 use Rattle.am_effects.proofs.Plans.{Comes, Does, HasEffect, effect_if, effect_of, does_quiet, does_saying, does_polling, does_telling, does_and, does_where}
 use Rattle.am_effects.proofs.Plans.{does_numbering, rows}
-use Rattle.am_effects.proofs.Says.{leads_pushed, stands_pushed, says_served}
+use Rattle.am_effects.proofs.{Tests.not_false, Tests.or_first, Tests.or_second, Tests.and_first, Tests.and_second, Tests.then_other, Rests.RestsWhole}
+use Rattle.am_effects.proofs.{Rests.rests_refresh, Rests.leads_rests, Rests.stands_rests, Says.leads_pushed, Says.stands_pushed, Says.says_served}
 
 -- ---- reports
 

@@ -1,8 +1,6 @@
 -- Who has a list, by its status.
-use Rattle.std.proofs.Common.{◌≡◌, true, false, refl}
-use Rattle.am_model.specs.declared.status.Status.{Status}
+use Rattle.am_effects.proofs.Words.{◌≡◌, true, false, refl, Status, is_member, is_asking, has_log}
 use Rattle.am_model.specs.declared.status.Status.TheVariants as status
-use Rattle.am_model.specs.Node.{is_member, is_asking, has_log}
 
 -- a member has one
 pub logged : (s : Status) → is_member s ≡ true → has_log s ≡ true

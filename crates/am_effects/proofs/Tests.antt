@@ -1,5 +1,5 @@
 -- What tests in a row say.
-use Rattle.std.proofs.Common.{◌≡◌, Bool, true, false, not, ◌&&◌, ◌||◌, refl}
+use Rattle.am_effects.proofs.Words.{◌≡◌, Bool, true, false, not, ◌&&◌, ◌||◌, refl}
 
 pub not_false : (b : Bool) → not b ≡ false → b ≡ true
 not_false true h = refl

@@ -2,6 +2,7 @@
 use Rattle.std.proofs.Common.{◌≡◌, ℕ, ◌+◌, ◌<◌, ◌==◌, ◌||◌, not, Bool, true, false, if◌then◌else◌, List, [], ◌∷◌, ◌++◌, Option, Some, None, Result, Ok, Err}
 use Rattle.std.proofs.Common.{refl, sym, ap, ◌∙◌, subst, arith}
 use Rattle.std.specs.Prelude.{OnOk}
+use Rattle.std.proofs.lemmas.Result.{on_ok_weaker}
 use Rattle.am_base.specs.Names.{place_of, life_of, name_at}
 use Rattle.am_base.specs.declared.outcome.Outcome.{Outcome}
 use Rattle.am_base.specs.declared.outcome.Outcome.TheVariants as said
@@ -69,10 +70,6 @@ letter_case w e false stopped what s h = refl
 letter_case w e true true what s h = refl
 letter_case w e true false what s h = ap (with_step w e (name_of w e)) (sym h)
 
-pub on_ok : {T E : Type 0} {P Q : Type 0} (r : Result T E) → (P → Q) → OnOk r P → OnOk r Q
-on_ok (Ok x) f h = f h
-on_ok (Err x) f h = h
-
 hear_case : (w : World) (e : Event) (keep : Option ℕ) (stopped : Bool) (hearing : Packet → Step) (found : Option Letter)
     → ((p : Packet) → IsPacket p → step (w.nodes (name_of w e)) (does.Hear (first_bytes keep (spelling p))) ≡ hearing p)
     → OnOk (hears keep (name_of w e) stopped found) ((l : Letter) → found ≡ Some l → IsPacket l.packet) → is_stopped w (name_of w e) ≡ stopped
@@ -83,7 +80,7 @@ hear_case w e keep stopped hearing (Some letter) same h is =
     let what = does.Hear (first_bytes keep (spelling letter.packet)) in
     rw is
     (letter_case w e addressed stopped what (hearing letter.packet)
-    (on_ok (if addressed then if_running stopped what else Err said.NotAddressed) (λ (all : (l : Letter) → Some letter ≡ Some l
+    (on_ok_weaker (if addressed then if_running stopped what else Err said.NotAddressed) (λ (all : (l : Letter) → Some letter ≡ Some l
     → IsPacket l.packet). same letter.packet (all letter refl)) h))
 
 abbrev pub gone_now : World → Event → Bool
@@ -125,7 +122,7 @@ heard_now : (w : World) (e : Event) (flags : List Bool) (number : ℕ) → ((nam
 heard_now w e flags number agree spells =
     let found = letter_at w.letters number in
     hear_case w e None (flag_of flags (name_of w e)) (hear (w.nodes (name_of w e))) found (λ p is. spelling_is_heard (w.nodes (name_of w e)) p is)
-    (on_ok (asked_now w e flags (act.Hear number)) (λ (all : SpellsPacket w.letters (act.Hear number)).
+    (on_ok_weaker (asked_now w e flags (act.Hear number)) (λ (all : SpellsPacket w.letters (act.Hear number)).
     λ l is. all (record { packet = number; keep = None }) l refl is) spells)
     (sym (agree (name_of w e)))
 
@@ -136,7 +133,7 @@ cut_now w e flags number keep agree spells =
     let found = letter_at w.letters number in
     hear_case w e (Some keep) (flag_of flags (name_of w e)) (hear_cut (w.nodes (name_of w e)) keep) found
     (λ p is. cut_is_heard (w.nodes (name_of w e)) p keep is)
-    (on_ok (asked_now w e flags (act.Cut number keep)) (λ (all : SpellsPacket w.letters (act.Cut number keep)).
+    (on_ok_weaker (asked_now w e flags (act.Cut number keep)) (λ (all : SpellsPacket w.letters (act.Cut number keep)).
     λ l is. all (record { packet = number; keep = Some keep }) l refl is) spells)
     (sym (agree (name_of w e)))
 
