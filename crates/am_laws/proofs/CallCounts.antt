@@ -1,26 +1,12 @@
 -- What the calls and the tick add to the numbers that grow.
-use Rattle.std.proofs.Common.{◌≡◌, ℕ, ◌+◌, ◌<◌, ◌≤◌, ◌==◌, ◌||◌, nat_lt, not, Bool, true, false, List, [], ◌∷◌, find, filter, Option, Some, None, refl, arith}
-use Rattle.std.proofs.Common.{length-append}
-use Rattle.std.proofs.lemmas.Bool.Decides.{nat_tests}
-use Rattle.am_base.specs.declared.entry.Entry.{Entry}
-use Rattle.am_base.specs.declared.entry.Entry.TheVariants.{Data, Leave}
-use Rattle.am_base.specs.declared.outcome.Outcome.{Outcome}
+use Rattle.am_laws.proofs.Words.{◌≡◌, ℕ, ◌+◌, ◌<◌, ◌≤◌, ◌==◌, ◌||◌, nat_lt, not, Bool, true, false, List, [], ◌∷◌, find, filter, Option, Some, None, refl}
+use Rattle.am_laws.proofs.Words.{arith, length-append, nat_tests, Entry, Data, Leave, Outcome, entry_at, OwnSend, Sends, Status, Node, Ballot, top}
+use Rattle.am_laws.proofs.Words.{push_entry, waiting, unsettled_count, Plan, quiet, number_send, emit, with_queued, queue, give_out, join_by, state_by, go}
+use Rattle.am_laws.proofs.Words.{is_unfinished, leave_now, leave_by, ask_of, send_row, done_row, take_row, join_row, state_row, leave_row, ask_row, is_view}
+use Rattle.am_laws.proofs.Words.{tick_ballot, tick_member, put_off, and_result, tick_sequencer, tick_acting, tick_with, tick_by, tick_row, split, Bounds, up}
 use Rattle.am_base.specs.declared.outcome.Outcome.TheVariants as said
-use Rattle.am_base.specs.Lists.{entry_at}
-use Rattle.am_sender.specs.declared.OwnSend.{OwnSend}
-use Rattle.am_sender.specs.Sends.{Sends}
 use Rattle.am_sender.specs.Sends as own
-use Rattle.am_model.specs.declared.status.Status.{Status}
 use Rattle.am_model.specs.declared.status.Status.TheVariants as status
-use Rattle.am_model.specs.Node.{Node, Ballot, top, push_entry, waiting, unsettled_count}
-use Rattle.am_model.specs.Emit.{Plan, quiet}
-use Rattle.am_model.specs.Calls.{number_send, emit, with_queued, queue, give_out, join_by, state_by, go, is_unfinished, leave_now, leave_by, ask_of, send_row}
-use Rattle.am_model.specs.Calls.{done_row}
-use Rattle.am_model.specs.Calls.{take_row, join_row, state_row, leave_row, ask_row}
-use Rattle.am_model.specs.Receiving.{is_view}
-use Rattle.am_model.specs.Ticks.{tick_ballot, tick_member, put_off, and_result, tick_sequencer, tick_acting, tick_with, tick_by, tick_row}
-use Rattle.am_base.proofs.Greatest.{split}
-use Rattle.am_laws.specs.Packets.{Bounds, up}
 use Rattle.am_laws.proofs.Counts.{Low, Behind, Ends, ends_if, ends_at, ends_next, ends, low_pushed, none_waits}
 
 -- ---- sends

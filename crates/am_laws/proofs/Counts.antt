@@ -1,29 +1,10 @@
 -- How high the numbers of a node are: what a step raises by one at most, and what stays within what the group has accepted.
-use Rattle.std.proofs.Common.{◌≡◌, ◌⊎◌, inl, inr, ⊎_elim, ℕ, ◌+◌, ◌-◌, ◌<◌, ◌≤◌, ◌==◌, max, min, Bool, true, false, not, ◌&&◌, nat_le, nat_lt, if◌then◌else◌}
-use Rattle.std.proofs.Common.{List, [], ◌∷◌, find, Option, Some, None, refl, sym, ap, ◌∙◌, subst, arith, length-append}
-use Rattle.std.proofs.lemmas.Bool.Decides.{nat_tests}
-use Rattle.std.specs.List.{count_by}
-use Rattle.std.proofs.lemmas.List.Sums.{sum_by-cons}
-use Rattle.am_base.specs.declared.entry.Entry.{Entry}
-use Rattle.am_base.specs.declared.image.Report.{Report}
-use Rattle.am_base.specs.declared.image.Vote.{Vote}
-use Rattle.am_base.specs.declared.name.Stamp.{Stamp}
-use Rattle.am_base.specs.Stamps.{stamp_lt}
-use Rattle.am_base.specs.Fronts.{accept_front}
-use Rattle.am_core.specs.Cores.{accept, pass_over}
-use Rattle.am_fronts.specs.Reports.{least_of, lesser}
-use Rattle.am_fronts.specs.Refresh.{base_after, own_report, tell, go_on, let_go}
-use Rattle.am_sender.specs.declared.OwnSend.{OwnSend}
-use Rattle.am_sender.specs.Sends.{is_unsettled}
-use Rattle.am_model.specs.Node.{Node, Ballot, top, view, acts, is_sequencer, push_entry, trim_up_to, waiting, unsettled_count, with_report}
-use Rattle.am_model.specs.Refresh.{advance, lead, refresh, accepted_at, settle_at, settle_waiting, settle, refresh_at_end}
-use Rattle.am_model.specs.Emit.{Plan, finish}
-use Rattle.am_model.specs.Ballots.{overtake, with_promise}
-use Rattle.am_model.specs.Receiving.{is_view}
-use Rattle.am_base.proofs.Greatest.{split}
-use Rattle.am_meaning.proofs.AcceptFronts.{accept_front_is}
-use Rattle.am_effects.proofs.Says.{view_pushed}
-use Rattle.am_laws.specs.Packets.{Bounds, up}
+use Rattle.am_laws.proofs.Words.{◌≡◌, ◌⊎◌, inl, inr, ⊎_elim, ℕ, ◌+◌, ◌-◌, ◌<◌, ◌≤◌, ◌==◌, max, min, Bool, true, false, not, ◌&&◌, nat_le, nat_lt}
+use Rattle.am_laws.proofs.Words.{if◌then◌else◌, List, [], ◌∷◌, find, Option, Some, None, refl, sym, ap, ◌∙◌, subst, arith, length-append, nat_tests, count_by}
+use Rattle.am_laws.proofs.Words.{sum_by-cons, Entry, Report, Vote, Stamp, stamp_lt, accept_front, accept, pass_over, least_of, lesser, base_after, own_report}
+use Rattle.am_laws.proofs.Words.{tell, go_on, let_go, OwnSend, is_unsettled, Node, Ballot, top, view, acts, is_sequencer, push_entry, trim_up_to, waiting}
+use Rattle.am_laws.proofs.Words.{unsettled_count, with_report, advance, lead, refresh, accepted_at, settle_at, settle_waiting, settle, refresh_at_end, Plan}
+use Rattle.am_laws.proofs.Words.{finish, overtake, with_promise, is_view, split, accept_front_is, view_pushed, Bounds, up}
 
 -- ---- what is kept
 

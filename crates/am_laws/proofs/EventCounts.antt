@@ -1,26 +1,12 @@
 -- How high the numbers of the acting name's node are after an event.
-use Rattle.std.proofs.Common.{◌≡◌, ℕ, ◌==◌, not, nat_lt, nat_le, Bool, true, false, if◌then◌else◌, List, Option, Some, None, refl, arith}
-use Rattle.std.proofs.lemmas.Bool.Decides.{nat_tests}
-use Rattle.am_base.specs.declared.outcome.Outcome.{Outcome}
+use Rattle.am_laws.proofs.Words.{◌≡◌, ℕ, ◌==◌, not, nat_lt, nat_le, Bool, true, false, if◌then◌else◌, List, Option, Some, None, refl, arith, nat_tests}
+use Rattle.am_laws.proofs.Words.{Outcome, NodeEvent, Packet, Letter, Act, Event, is_for, letter_at, Node, Step, step, hear, hear_refusal, packet_length}
+use Rattle.am_laws.proofs.Words.{World, is_stopped, with_record, with_step, hears_letter, hear_cut, lives_on, acts_as, happens, heard_by, actor, Bounds, up}
+use Rattle.am_laws.proofs.Words.{UpTo}
 use Rattle.am_base.specs.declared.outcome.Outcome.TheVariants as said
-use Rattle.am_base.specs.declared.event.NodeEvent.{NodeEvent}
-use Rattle.am_packet.specs.declared.packet.Packet.{Packet}
-use Rattle.am_packet.specs.Boxes.{Letter}
-use Rattle.am_group.specs.declared.event.Act.{Act}
 use Rattle.am_group.specs.declared.event.Act.TheVariants as act
-use Rattle.am_group.specs.declared.event.Event.{Event}
-use Rattle.am_group.specs.Addressed.{is_for}
-use Rattle.am_group.specs.Journals.{letter_at}
-use Rattle.am_model.specs.Node.{Node}
-use Rattle.am_model.specs.Emit.{Step}
-use Rattle.am_model.specs.Step.{step, hear, hear_refusal}
-use Rattle.am_model.specs.Lengths.{packet_length}
-use Rattle.am_play.specs.World.{World, is_stopped, with_record, with_step, hears_letter, hear_cut, lives_on, acts_as, happens}
-use Rattle.am_play.specs.Claims.{heard_by}
-use Rattle.am_effects.specs.Events.{actor}
-use Rattle.am_laws.specs.Packets.{Bounds, up, UpTo}
-use Rattle.am_laws.proofs.Counts.{Low, Behind, low_more}
 use Rattle.am_laws.proofs.HearingCounts.{IsDone, low_step, low_hear, low_refused}
+use Rattle.am_laws.proofs.Counts.{Low, Behind, low_more}
 
 -- a name's node in a world has one more at most
 record OneMore (b : Bounds) (g name : ℕ) (v : World) : Type 0 where

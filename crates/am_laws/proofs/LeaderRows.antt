@@ -1,24 +1,11 @@
 -- The rows of a list in which each Join fits what stands before it: the lives of a place never fall, and who leads stays among those
 -- whose reports count.
-use Rattle.std.proofs.Common.{◌≡◌, ℕ, zero, suc, ◌+◌, ◌-◌, ◌<◌, ◌≤◌, ◌==◌, ◌&&◌, not, nat_lt, Bool, true, false, List, [], ◌∷◌, ◌++◌, length, take}
-use Rattle.std.proofs.Common.{Some, slice_index, refl, sym, ap, ◌∙◌, subst, arith}
-use Rattle.std.proofs.lemmas.Bool.Decides.{nat_tests}
-use Rattle.std.proofs.lemmas.List.{get_or-replicate}
-use Rattle.am_base.specs.declared.entry.Entry.{Entry}
-use Rattle.am_base.specs.declared.entry.Entry.TheVariants.{Data, View}
-use Rattle.am_base.specs.declared.name.Stamp.{Stamp}
-use Rattle.am_base.specs.declared.image.Report.{Report}
-use Rattle.am_base.specs.declared.image.Row.{Row}
-use Rattle.am_base.specs.declared.image.Image.{Image}
-use Rattle.am_base.specs.Names.{place_of, life_of, has}
-use Rattle.am_base.specs.Lists.{blank_row, blank, is_blank, at_place, member_life, members_of, members_at, row_after_view, after, fold, top_of}
-use Rattle.am_base.specs.Lists.{image_at, told_by}
-use Rattle.am_core.specs.Cores.{CoreState, since_accepted}
-use Rattle.am_core.proofs.Lives.{JoinFits, JoinsFit, IsUsed, row_at, used_after, used_fold, life_fold, member_at, unions_most, unions_least, unions_long}
-use Rattle.am_chain_lists.proofs.Rows.{In, mod16, long_after, set_keeps, row_view}
-use Rattle.am_fronts.specs.Reports.{least_taken}
-use Rattle.am_fronts.proofs.Leaders.{least_reported}
-use Rattle.am_base.proofs.Greatest.{split}
+use Rattle.am_laws.proofs.Words.{◌≡◌, ℕ, zero, suc, ◌+◌, ◌-◌, ◌<◌, ◌≤◌, ◌==◌, ◌&&◌, not, nat_lt, Bool, true, false, List, [], ◌∷◌, ◌++◌, length, take, Some}
+use Rattle.am_laws.proofs.Words.{slice_index, refl, sym, ap, ◌∙◌, subst, arith, nat_tests, get_or-replicate, Entry, Data, View, Stamp, Report, Row, Image}
+use Rattle.am_laws.proofs.Words.{place_of, life_of, has, blank_row, blank, is_blank, at_place, member_life, members_of, members_at, row_after_view, after}
+use Rattle.am_laws.proofs.Words.{fold, top_of, image_at, told_by, CoreState, since_accepted, JoinFits, JoinsFit, IsUsed, row_at, used_after, used_fold}
+use Rattle.am_laws.proofs.Words.{life_fold, member_at, unions_most, unions_least, unions_long, In, mod16, long_after, set_keeps, row_view, least_taken}
+use Rattle.am_laws.proofs.Words.{least_reported, split}
 
 -- ---- lists in which each Join fits
 

@@ -1,21 +1,11 @@
 -- How high the numbers of the letters are that a node sends.
-use Rattle.std.proofs.Common.{◌≡◌, ℕ, ◌≤◌, ◌==◌, nat_lt, nat_le, true, List, [], ◌∷◌, ap, arith}
-use Rattle.std.specs.Prelude.{All}
-use Rattle.std.proofs.lemmas.Bool.Decides.{nat_tests}
-use Rattle.std.proofs.lemmas.List.Elements.{All-nil, All-cons}
-use Rattle.am_base.specs.Names.{life_of}
-use Rattle.am_base.specs.Lists.{Log, at_place, row_of, told_by}
-use Rattle.am_packet.specs.declared.packet.Packet.{Packet}
-use Rattle.am_model.specs.Node.{Node, top, image_of}
+use Rattle.am_laws.proofs.Words.{◌≡◌, ℕ, ◌≤◌, ◌==◌, nat_lt, nat_le, true, List, [], ◌∷◌, ap, arith, All, nat_tests, All-nil, All-cons, life_of, Log, at_place}
+use Rattle.am_laws.proofs.Words.{row_of, told_by, Packet, Node, top, image_of, may_go, split, Cause, MayWelcome, just_joined, asks_again, Says, request}
+use Rattle.am_laws.proofs.Words.{spread, bcast, order, ack, nack, hold, join_ask, welcome, leave_ask, gone, invite, vote, fetch, piece, result, hand_over}
+use Rattle.am_laws.proofs.Words.{Bounds, UpTo}
 use Rattle.am_model.specs.Sequencing.{row_at}
-use Rattle.am_model.specs.Joining.{may_go}
-use Rattle.am_base.proofs.Greatest.{split}
-use Rattle.am_effects.specs.Causes.{Cause}
-use Rattle.am_effects.specs.Letters.{MayWelcome, just_joined, asks_again, Says, request, spread, bcast, order, accept, ack, nack, hold, join_ask, welcome}
-use Rattle.am_effects.specs.Letters.{leave_ask, gone, invite, vote, fetch, piece, result, hand_over}
-use Rattle.am_laws.specs.Packets.{Bounds, UpTo}
-use Rattle.am_laws.proofs.Counts.{Low, Behind}
-use Rattle.am_laws.proofs.Images.{ImageUp, told_up, row_up}
+use Rattle.am_effects.specs.Letters.{accept}
+use Rattle.am_laws.proofs.{Counts.Low, Counts.Behind, Images.ImageUp, Images.told_up, Images.row_up}
 
 one_low : (g x : ℕ) → x ≤ g → All (λ n. n ≤ g) (x ∷ [])
 one_low g x h = All-cons (λ n. n ≤ g) x [] h (All-nil (λ n. n ≤ g))

@@ -1,30 +1,12 @@
 -- What a letter tells is within its limits, where what its sender has is.
-use Rattle.std.proofs.Common.{◌≡◌, ℕ, zero, suc, ◌-◌, ◌≤◌, nat_le, List, [], ◌∷◌, length, Option, Some, None, refl, subst, arith}
-use Rattle.std.specs.Prelude.{All}
-use Rattle.std.proofs.lemmas.List.Elements.{All-head, All-tail}
-use Rattle.am_base.specs.Most.{most_body}
-use Rattle.am_base.specs.declared.entry.Entry.{Entry}
-use Rattle.am_base.specs.declared.entry.Entry.TheVariants.{Data, Join, Leave, View}
-use Rattle.am_base.specs.declared.image.Report.{Report}
-use Rattle.am_base.specs.Names.{IsSet}
-use Rattle.am_base.specs.Limits.{IsNumber, IsReport}
-use Rattle.am_base.specs.Lists.{Log, entry_at}
-use Rattle.am_packet.specs.declared.packet.Packet.{Packet}
+use Rattle.am_laws.proofs.Words.{◌≡◌, ℕ, zero, suc, ◌-◌, ◌≤◌, nat_le, List, [], ◌∷◌, length, Option, Some, None, refl, subst, arith, All, All-head, All-tail}
+use Rattle.am_laws.proofs.Words.{most_body, Entry, Data, Join, Leave, View, Report, IsSet, IsNumber, IsReport, Log, entry_at, Packet, IsPacket, IsWithin}
+use Rattle.am_laws.proofs.Words.{HasParts, Node, top, image_of, viewed_by, split, Cause, hears, HasSend, Says, request, spread, bcast, order, hold, welcome}
+use Rattle.am_laws.proofs.Words.{vote, piece, result, all_get, stamp_of, Bounds, UpTo}
 use Rattle.am_packet.specs.declared.packet.Packet.TheVariants as packet
-use Rattle.am_codec.specs.Limits.{IsPacket, IsWithin, HasParts}
-use Rattle.am_model.specs.Node.{Node, top, image_of}
-use Rattle.am_model.specs.Ticks.{viewed_by}
-use Rattle.am_base.proofs.Greatest.{split}
-use Rattle.am_effects.specs.Causes.{Cause, hears}
-use Rattle.am_effects.specs.Letters.{HasSend, Says, request, spread, bcast, order, hold, welcome, vote}
-use Rattle.am_effects.specs.Letters.{piece, result}
-use Rattle.am_effects.proofs.Items.{all_get}
-use Rattle.am_codec.specs.Spelling.{stamp_of}
-use Rattle.am_laws.specs.Packets.{Bounds, UpTo}
-use Rattle.am_laws.proofs.Images.{told_up}
-use Rattle.am_laws.proofs.ListImages.{WelcomeUp, ListUp}
 use Rattle.am_laws.proofs.Limits.{EntryWithin, AreNumbers, is_nobody, members_within, told_within, image_at_within, is_entry, is_image}
 use Rattle.am_laws.proofs.NodeLimits.{SendWithin, Within, PacketWithin, req_brought}
+use Rattle.am_laws.proofs.{Images.told_up, ListImages.WelcomeUp, ListImages.ListUp}
 
 -- ---- what is sent
 

@@ -1,42 +1,18 @@
 -- What a node has is within its limits, and each change keeps it so.
-use Rattle.std.proofs.Common.{◌≡◌, ℕ, ◌+◌, ◌<◌, ◌≤◌, ◌==◌, ◌&&◌, not, max, nat_le, false, if◌then◌else◌, List, [], ◌∷◌, length, drop, find, Option, Some, None}
-use Rattle.std.proofs.Common.{option_map, refl, sym, ap, subst, arith}
-use Rattle.std.specs.Prelude.{All}
-use Rattle.std.specs.List.{list_any}
-use Rattle.std.proofs.lemmas.Bool.Decides.{nat_tests}
-use Rattle.std.proofs.lemmas.List.Elements.{All-nil, All-cons, All-append, All-map, All-filter, All-drop, All-weaker}
-use Rattle.am_base.specs.Most.{most_body}
-use Rattle.am_base.specs.declared.entry.Entry.{Entry}
-use Rattle.am_base.specs.declared.entry.Entry.TheVariants.{Data, Join, Leave, View}
-use Rattle.am_base.specs.declared.image.Vote.{Vote}
-use Rattle.am_base.specs.declared.image.Report.{Report}
-use Rattle.am_base.specs.declared.name.Stamp.{Stamp}
-use Rattle.am_base.specs.declared.outcome.Outcome.{Outcome}
+use Rattle.am_laws.proofs.Words.{◌≡◌, ℕ, ◌+◌, ◌<◌, ◌≤◌, ◌==◌, ◌&&◌, not, max, nat_le, false, if◌then◌else◌, List, [], ◌∷◌, length, drop, find, Option, Some}
+use Rattle.am_laws.proofs.Words.{None, option_map, refl, sym, ap, subst, arith, All, list_any, nat_tests, All-nil, All-cons, All-append, All-map, All-filter}
+use Rattle.am_laws.proofs.Words.{All-drop, All-weaker, most_body, Entry, Data, Join, Leave, View, Vote, Report, Stamp, Outcome, IsSet, stamp_lt, Shown}
+use Rattle.am_laws.proofs.Words.{vote_lt, all_names, better_of, best_from, Packet, OwnSend, KeptBody, is_of, find_body, keep_body, Node, Ballot, image_of}
+use Rattle.am_laws.proofs.Words.{waiting, push_entry, Verdict, overtake, own_vote, best_of, need_of, left_in, own_body, first_body, body_of, bodies_after}
+use Rattle.am_laws.proofs.Words.{refresh, accepted_at, settle_at, settle_waiting, settle, refresh_at_end, split, Cause, calls, hears, BringsSend, by_request}
+use Rattle.am_laws.proofs.Words.{by_spread, HasOpen, Balloting, with_more, without_one, as_it_is, Looks, finds_itself_out, waits, fetches_from_best}
+use Rattle.am_laws.proofs.Words.{finds_too_few, finds_no_room, decides, Numbers, asked_send, own_send, asked_join, asked_leave, Carries, whole_entry}
+use Rattle.am_laws.proofs.Words.{by_number, Change, Changes, unchanged, changed, refreshes, settles, takes_report, admits, numbers, keeps_body, notes, stores}
+use Rattle.am_laws.proofs.Words.{begins_list, departs, promises, opens, looks, fetches, stores_view, queues, collects, takes, asks_to_join, asks_to_leave}
+use Rattle.am_laws.proofs.Words.{closes, all_find, with_fronts, refresh_is, rests_refresh, rests_at_end, settle_is, sender_of, Bounds, up}
 use Rattle.am_base.specs.declared.event.NodeEvent.TheVariants as does
-use Rattle.am_base.specs.Names.{IsSet}
-use Rattle.am_base.specs.Stamps.{stamp_lt}
-use Rattle.am_base.specs.Votes.{Shown, vote_lt, all_names, better_of, best_from}
-use Rattle.am_packet.specs.declared.packet.Packet.{Packet}
 use Rattle.am_packet.specs.declared.packet.Packet.TheVariants as packet
-use Rattle.am_sender.specs.declared.OwnSend.{OwnSend}
 use Rattle.am_sender.specs.Sends as own
-use Rattle.am_bodies.specs.declared.KeptBody.{KeptBody}
-use Rattle.am_bodies.specs.Bodies.{is_of, find_body, keep_body}
-use Rattle.am_model.specs.Node.{Node, Ballot, image_of, waiting, push_entry}
-use Rattle.am_model.specs.Ballots.{Verdict, overtake, own_vote, best_of, need_of, left_in}
-use Rattle.am_model.specs.Receiving.{own_body, first_body, body_of, bodies_after}
-use Rattle.am_model.specs.Refresh.{refresh, accepted_at, settle_at, settle_waiting, settle, refresh_at_end}
-use Rattle.am_base.proofs.Greatest.{split}
-use Rattle.am_effects.specs.Causes.{Cause, calls, hears, BringsSend, by_request, by_spread}
-use Rattle.am_effects.specs.Looks.{HasOpen, Balloting, with_more, without_one, as_it_is, Looks, finds_itself_out, waits, fetches_from_best, finds_too_few}
-use Rattle.am_effects.specs.Looks.{finds_no_room, decides}
-use Rattle.am_effects.specs.Changes.{Numbers, asked_send, own_send, asked_join, asked_leave, Carries, whole_entry, by_number, Change, Changes, unchanged}
-use Rattle.am_effects.specs.Changes.{changed, refreshes, settles, takes_report, admits, numbers, keeps_body, notes, stores, begins_list, departs, promises}
-use Rattle.am_effects.specs.Changes.{opens, looks, fetches, stores_view, queues, collects, takes, asks_to_join, asks_to_leave, closes}
-use Rattle.am_effects.proofs.Items.{all_find}
-use Rattle.am_effects.proofs.Rests.{with_fronts, refresh_is, rests_refresh, rests_at_end, settle_is}
-use Rattle.am_codec.specs.Spelling.{sender_of}
-use Rattle.am_laws.specs.Packets.{Bounds, up}
 use Rattle.am_laws.proofs.Limits.{ImageWithin, EntryWithin, image_more, entry_more, members_within, told_within, set_those}
 
 -- ---- what a node has

@@ -1,37 +1,13 @@
 -- How high all numbers of a run are, event by event.
-use Rattle.std.proofs.Common.{◌≡◌, inl, inr, ⊎_elim, ℕ, ◌+◌, ◌-◌, ◌≤◌, ◌==◌, max, min, Bool, true, if◌then◌else◌, List, [], ◌∷◌, length, take, drop, Option}
-use Rattle.std.proofs.Common.{Some, None, refl, ap, ◌∙◌, subst, arith, length-append, length-drop}
-use Rattle.std.specs.Prelude.{All}
-use Rattle.std.proofs.lemmas.Bool.Decides.{nat_tests}
-use Rattle.std.proofs.lemmas.List.{length-take}
-use Rattle.std.proofs.lemmas.List.Elements.{All-nil, All-append, All-weaker}
-use Rattle.am_base.specs.declared.entry.Entry.{Entry}
-use Rattle.am_base.specs.Founding.{Rules}
-use Rattle.am_base.specs.Names.{has}
-use Rattle.am_base.specs.Lists.{row_of}
-use Rattle.am_packet.specs.declared.packet.Packet.{Packet}
-use Rattle.am_packet.specs.Boxes.{Letter}
-use Rattle.am_group.specs.declared.event.Event.{Event}
-use Rattle.am_group.specs.Journals.{letter_at}
-use Rattle.am_model.specs.Node.{Node, Ballot, top, image_of, set_at, founder, stranger}
-use Rattle.am_model.specs.Emit.{Step}
-use Rattle.am_play.specs.World.{World, start, first_node, group_with, group_after, with_record, with_step, happens, happen, run}
-use Rattle.am_play.specs.Claims.{heard_by}
-use Rattle.am_base.proofs.Greatest.{split}
-use Rattle.am_effects.specs.Causes.{Cause, hears}
-use Rattle.am_effects.specs.Letters.{MayWelcome, Says, welcome}
-use Rattle.am_effects.specs.Letters.{LetterSays}
-use Rattle.am_effects.specs.Effects.{Effect}
-use Rattle.am_effects.specs.Events.{actor, WasSentTo, IsCause, Happens, idles, stops, returns, steps}
-use Rattle.am_effects.proofs.Items.{all_item}
-use Rattle.am_effects.proofs.Events.{events_have_effects}
-use Rattle.am_laws.specs.Packets.{Bounds, up, UpTo}
-use Rattle.am_laws.specs.Numbers.{NumbersHold}
-use Rattle.am_laws.proofs.Counts.{IsKnown, VotesKnown, leads, Low, Behind, low_more}
-use Rattle.am_laws.proofs.Images.{blank_up, image_up}
-use Rattle.am_laws.proofs.ListImages.{WelcomeUp, ListUp, changes_list}
-use Rattle.am_laws.proofs.LetterCounts.{Sends, says_low, welcome_low}
-use Rattle.am_laws.proofs.EventCounts.{actor_low}
+use Rattle.am_laws.proofs.Words.{◌≡◌, inl, inr, ⊎_elim, ℕ, ◌+◌, ◌-◌, ◌≤◌, ◌==◌, max, min, Bool, true, if◌then◌else◌, List, [], ◌∷◌, length, take, drop}
+use Rattle.am_laws.proofs.Words.{Option, Some, None, refl, ap, ◌∙◌, subst, arith, length-append, length-drop, All, nat_tests, length-take, All-nil}
+use Rattle.am_laws.proofs.Words.{All-append, All-weaker, Entry, Rules, has, row_of, Packet, Letter, Event, letter_at, Node, Ballot, top, image_of, set_at}
+use Rattle.am_laws.proofs.Words.{founder, stranger, Step, World, start, first_node, group_with, group_after, with_record, with_step, happens, happen, run}
+use Rattle.am_laws.proofs.Words.{heard_by, split, Cause, hears, MayWelcome, Says, welcome, LetterSays, Effect, actor, WasSentTo, IsCause, Happens, idles}
+use Rattle.am_laws.proofs.Words.{stops, returns, steps, all_item, events_have_effects, Bounds, up, UpTo, NumbersHold}
+use Rattle.am_laws.proofs.{Counts.IsKnown, Counts.VotesKnown, Counts.leads, Counts.Low, Counts.Behind, Counts.low_more, Images.blank_up, Images.image_up}
+use Rattle.am_laws.proofs.{ListImages.WelcomeUp, ListImages.ListUp, ListImages.changes_list, LetterCounts.Sends, LetterCounts.says_low}
+use Rattle.am_laws.proofs.{LetterCounts.welcome_low, EventCounts.actor_low}
 
 -- ---- a group that accepts more
 

@@ -1,43 +1,19 @@
 -- Each letter of a run is a packet within its limits, so the run of packets is the run of bytes.
-use Rattle.std.proofs.Common.{◌≡◌, ℕ, ◌+◌, ◌<◌, ◌≤◌, ◌==◌, true, not, if◌then◌else◌, List, [], ◌∷◌, length, Option, Some, None, refl, ap, ◌∙◌, subst, arith}
-use Rattle.std.specs.Prelude.{All}
-use Rattle.std.proofs.lemmas.Bool.Decides.{nat_tests}
-use Rattle.std.proofs.lemmas.List.Elements.{All-nil, All-cons, All-head, All-tail, All-append, All-weaker}
-use Rattle.am_base.specs.Most.{most_body}
+use Rattle.am_laws.proofs.Words.{◌≡◌, ℕ, ◌+◌, ◌<◌, ◌≤◌, ◌==◌, true, not, if◌then◌else◌, List, [], ◌∷◌, length, Option, Some, None, refl, ap, ◌∙◌, subst}
+use Rattle.am_laws.proofs.Words.{arith, All, nat_tests, All-nil, All-cons, All-head, All-tail, All-append, All-weaker, most_body, Rules, MayFound, top_of}
+use Rattle.am_laws.proofs.Words.{Packet, Letter, IsPacket, spelling_again, Act, Event, is_for, letter_at, Node, founder, stranger, founders_view, Step, World}
+use Rattle.am_laws.proofs.Words.{start, is_stopped, with_record, with_step, hears_letter, acts_as, happens, happen, run, heard_by, spelling_is_heard}
+use Rattle.am_laws.proofs.Words.{cut_is_heard, Cause, hears, LetterSays, Effect, actor, WasSentTo, IsCall, IsCause, Happens, idles, stops, returns, steps}
+use Rattle.am_laws.proofs.Words.{all_item, events_have_effects, sender_of, Bounds, up, UpTo, BodyWithin, IsShort, LettersArePackets, LettersAreRead}
+use Rattle.am_laws.proofs.Words.{acts_by_bytes, happen_by_bytes, RunsAreOfBytes}
 use Rattle.am_base.specs.declared.outcome.Outcome.TheVariants as said
 use Rattle.am_base.specs.declared.event.NodeEvent.TheVariants as does
-use Rattle.am_base.specs.Founding.{Rules, MayFound}
-use Rattle.am_base.specs.Lists.{top_of}
-use Rattle.am_packet.specs.declared.packet.Packet.{Packet}
-use Rattle.am_packet.specs.Boxes.{Letter}
-use Rattle.am_codec.specs.Limits.{IsPacket}
-use Rattle.am_codec.proofs.Again.{spelling_again}
-use Rattle.am_group.specs.declared.event.Act.{Act}
 use Rattle.am_group.specs.declared.event.Act.TheVariants as act
-use Rattle.am_group.specs.declared.event.Event.{Event}
-use Rattle.am_group.specs.Addressed.{is_for}
-use Rattle.am_group.specs.Journals.{letter_at}
-use Rattle.am_model.specs.Node.{Node, founder, stranger, founders_view}
-use Rattle.am_model.specs.Emit.{Step}
-use Rattle.am_play.specs.World.{World, start, is_stopped, with_record, with_step, hears_letter, acts_as, happens, happen, run}
-use Rattle.am_play.specs.Claims.{heard_by}
-use Rattle.am_meaning.proofs.Bytes.{spelling_is_heard, cut_is_heard}
-use Rattle.am_effects.specs.Causes.{Cause, hears}
-use Rattle.am_effects.specs.Letters.{LetterSays}
-use Rattle.am_effects.specs.Effects.{Effect}
-use Rattle.am_effects.specs.Events.{actor, WasSentTo, IsCall, IsCause, Happens, idles, stops, returns, steps}
 use Rattle.am_effects.specs.Events as event
-use Rattle.am_effects.proofs.Items.{all_item}
-use Rattle.am_effects.proofs.Events.{events_have_effects}
-use Rattle.am_codec.specs.Spelling.{sender_of}
-use Rattle.am_laws.specs.Packets.{Bounds, up, UpTo}
-use Rattle.am_laws.specs.Bytes.{BodyWithin, IsShort, LettersArePackets, LettersAreRead, acts_by_bytes, happen_by_bytes, RunsAreOfBytes}
-use Rattle.am_laws.proofs.Limits.{EntryWithin, AreNumbers, is_blank_within}
 use Rattle.am_laws.proofs.NodeLimits.{SendWithin, KeptWithin, Within, PacketWithin, CauseWithin, within_more, packet_more, changes_within}
-use Rattle.am_laws.proofs.ListImages.{WelcomeUp, ListUp}
-use Rattle.am_laws.proofs.LetterLimits.{says_within, is_packet}
-use Rattle.am_laws.proofs.Named.{AllNamed, each_named, start_named}
 use Rattle.am_laws.proofs.RunCounts.{AllLow, low_happens, low_start, sender_list, set_same, bounds_after, first_of}
+use Rattle.am_laws.proofs.{Limits.EntryWithin, Limits.AreNumbers, Limits.is_blank_within, ListImages.WelcomeUp, ListImages.ListUp, LetterLimits.says_within}
+use Rattle.am_laws.proofs.{LetterLimits.is_packet, Named.AllNamed, Named.each_named, Named.start_named}
 
 -- ---- a world
 

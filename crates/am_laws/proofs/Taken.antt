@@ -1,54 +1,25 @@
 -- A node trims no more than its own application has taken: who leads is a member of its own list, so its own report counts.
-use Rattle.std.proofs.Common.{◌≡◌, ◌≢◌, ℕ, ◌+◌, ◌≤◌, ◌==◌, ◌&&◌, ◌||◌, not, max, nat_lt, nat_le, Bool, true, false, if◌then◌else◌, List, [], ◌∷◌, length}
-use Rattle.std.proofs.Common.{Option, Some, None, slice_index, unwrap_or, refl, sym, ap, ◌∙◌, subst, arith}
-use Rattle.std.proofs.lemmas.Bool.Decides.{nat_tests}
-use Rattle.am_base.specs.declared.entry.Entry.{Entry}
-use Rattle.am_base.specs.declared.entry.Entry.TheVariants.{Data, Join, Leave, View}
-use Rattle.am_base.specs.declared.image.Vote.{Vote}
-use Rattle.am_base.specs.declared.image.Image.{Image}
-use Rattle.am_base.specs.declared.name.Stamp.{Stamp}
-use Rattle.am_base.specs.declared.outcome.Outcome.{Outcome}
-use Rattle.am_base.specs.Names.{place_of, life_of, name_at, has, names_of}
-use Rattle.am_base.specs.Stamps.{stamp_lt, stamp_eq}
-use Rattle.am_base.specs.Votes.{Shown, vote_lt, all_names, better_of, best_from}
-use Rattle.am_base.specs.Lists.{top_of, told_by, members_of, at_place, after, fits}
-use Rattle.am_base.proofs.Places.{slice_index-by_place, length-by_place}
-use Rattle.am_packet.specs.declared.packet.Packet.{Packet}
+use Rattle.am_laws.proofs.Words.{◌≡◌, ◌≢◌, ℕ, ◌+◌, ◌≤◌, ◌==◌, ◌&&◌, ◌||◌, not, max, nat_lt, nat_le, Bool, true, false, if◌then◌else◌, List, [], ◌∷◌, length}
+use Rattle.am_laws.proofs.Words.{Option, Some, None, slice_index, unwrap_or, refl, sym, ap, ◌∙◌, subst, arith, nat_tests, Entry, Data, Join, Leave, View}
+use Rattle.am_laws.proofs.Words.{Vote, Image, Stamp, Outcome, place_of, life_of, name_at, has, names_of, stamp_lt, stamp_eq, Shown, vote_lt, all_names}
+use Rattle.am_laws.proofs.Words.{better_of, best_from, top_of, told_by, members_of, at_place, after, fits, slice_index-by_place, length-by_place, Packet}
+use Rattle.am_laws.proofs.Words.{least_of, least_in, Spares, mod16, long_after, in_after, Node, Ballot, top, image_of, view, members, name_where, those}
+use Rattle.am_laws.proofs.Words.{is_member, is_asking, acts, is_sequencer, push_entry, trim_up_to, refresh, refresh_at_end, Verdict, overtake, with_promise}
+use Rattle.am_laws.proofs.Words.{next_stamp, own_vote, best_of, need_of, left_in, taken_by, trim_for, is_view, is_unknown, hears_member, hears_asking}
+use Rattle.am_laws.proofs.Words.{hears_sequencer, hears_in_view, has_log, split, and_both, Cause, hears, HasOpen, Balloting, with_more, without_one, as_it_is}
+use Rattle.am_laws.proofs.Words.{Looks, finds_itself_out, waits, fetches_from_best, finds_too_few, finds_no_room, decides, Promises, invited, overtaken_by}
+use Rattle.am_laws.proofs.Words.{told_result, Numbers, asked_send, own_send, asked_join, asked_leave, Fetches, without_ballot, for_ballot, Change, refreshes}
+use Rattle.am_laws.proofs.Words.{settles, takes_report, admits, numbers, keeps_body, notes, stores, begins_list, departs, promises, opens, looks, fetches}
+use Rattle.am_laws.proofs.Words.{stores_view, queues, collects, takes, asks_to_join, asks_to_leave, closes, rests_refresh, rests_at_end, settle_is}
+use Rattle.am_laws.proofs.Words.{asking_log, told_pushed, view_pushed, HasItself, itself, JoinFits, any_fits, JoinsFit}
 use Rattle.am_packet.specs.declared.packet.Packet.TheVariants as packet
 use Rattle.am_fronts.specs.Reports as reports
-use Rattle.am_fronts.specs.Reports.{least_of}
-use Rattle.am_fronts.proofs.Leaders.{least_in}
-use Rattle.am_chain_lists.proofs.Rows.{Spares, mod16, long_after, in_after}
-use Rattle.am_model.specs.Node.{Node, Ballot, top, image_of, view, members, name_where, those, is_member, is_asking, acts, is_sequencer, push_entry, trim_up_to}
-use Rattle.am_model.specs.Refresh.{refresh, refresh_at_end}
-use Rattle.am_model.specs.Ballots.{Verdict, overtake, with_promise, next_stamp, own_vote, best_of, need_of, left_in, taken_by, trim_for}
-use Rattle.am_model.specs.Receiving.{is_view}
-use Rattle.am_model.specs.Sequencing.{is_unknown}
 use Rattle.am_model.specs.Sequencing as sequencing
-use Rattle.am_model.specs.Hearing.{hears_member, hears_asking, hears_sequencer, hears_in_view}
-use Rattle.am_model.specs.Node.{has_log}
-use Rattle.am_base.proofs.Greatest.{split, and_both}
-use Rattle.am_effects.specs.Causes.{Cause, hears}
-use Rattle.am_effects.specs.Looks.{HasOpen, Balloting, with_more, without_one, as_it_is, Looks, finds_itself_out, waits, fetches_from_best, finds_too_few}
-use Rattle.am_effects.specs.Looks.{finds_no_room, decides}
-use Rattle.am_effects.specs.Changes.{Promises, invited, overtaken as overtaken_by, told_result, Numbers, asked_send, own_send, asked_join, asked_leave, Fetches}
-use Rattle.am_effects.specs.Changes.{without_ballot, for_ballot, Change, refreshes, settles, takes_report, admits, numbers, keeps_body, notes, stores}
-use Rattle.am_effects.specs.Changes.{begins_list, departs, promises, opens, looks, fetches, stores_view, queues, collects, takes, asks_to_join, asks_to_leave}
-use Rattle.am_effects.specs.Changes.{closes}
-use Rattle.am_effects.proofs.Rests.{rests_refresh, rests_at_end, settle_is}
-use Rattle.am_effects.proofs.Statuses.{asking_log}
-use Rattle.am_effects.proofs.Says.{told_pushed, view_pushed}
-use Rattle.am_bounded.proofs.Kept.{HasItself}
-use Rattle.am_bounded.proofs.Changes.{itself}
-use Rattle.am_core.proofs.Lives.{JoinFits, any_fits, JoinsFit}
 use Rattle.am_laws.proofs.LeaderRows.{is_in, in_is, data_member, view_member}
-use Rattle.am_laws.proofs.Stamps.{not_above_itself, at_most_below, same_stamp}
-use Rattle.am_laws.proofs.ViewSteps.{view_last}
-use Rattle.am_laws.proofs.ViewChanges.{Balloted, next_above}
-use Rattle.am_laws.proofs.Views.{same_is_equal}
-use Rattle.am_laws.proofs.Blank.{Blanked}
 use Rattle.am_laws.proofs.Trims.{Fronts, NoOwnVote, Owned, WelcomeUsed, told_used, pushed_fronts, trimmed_fronts, member_leads, refresh_fronts, closed_fronts}
 use Rattle.am_laws.proofs.Trims.{closed_leads, reporting}
+use Rattle.am_laws.proofs.{Stamps.not_above_itself, Stamps.at_most_below, Stamps.same_stamp, ViewSteps.view_last, ViewChanges.Balloted}
+use Rattle.am_laws.proofs.{ViewChanges.next_above, Views.same_is_equal, Blank.Blanked}
 
 -- ---- what a sequencer numbers
 

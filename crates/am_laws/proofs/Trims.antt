@@ -1,30 +1,12 @@
 -- What a node keeps of its numbers and its list: it trims no more than its own application has taken, through a refresh and through its end.
-use Rattle.std.proofs.Common.{◌≡◌, ⊎_elim, ℕ, zero, suc, ◌+◌, ◌-◌, ◌<◌, ◌≤◌, ◌==◌, max, min, nat_lt, Bool, true, false, if◌then◌else◌, List, [], ◌∷◌, length}
-use Rattle.std.proofs.Common.{set, Option, Some, None, refl, sym, ap, ◌∙◌, subst, arith, length-append}
-use Rattle.std.proofs.lemmas.Bool.{cases_lt}
-use Rattle.std.proofs.lemmas.Bool.Decides.{nat_tests}
-use Rattle.std.proofs.lemmas.List.{map-set}
-use Rattle.am_base.specs.declared.entry.Entry.{Entry}
-use Rattle.am_base.specs.declared.entry.Entry.TheVariants.{Leave}
-use Rattle.am_base.specs.declared.image.Report.{Report}
-use Rattle.am_base.specs.declared.image.Image.{Image}
-use Rattle.am_base.specs.Names.{place_of, life_of, has, size, names_from, names_of}
-use Rattle.am_base.specs.Lists.{Log, member_life, top_of, told_by, members_at, members_of, at_place, after}
-use Rattle.am_packet.specs.declared.packet.Packet.{Packet}
+use Rattle.am_laws.proofs.Words.{◌≡◌, ⊎_elim, ℕ, zero, suc, ◌+◌, ◌-◌, ◌<◌, ◌≤◌, ◌==◌, max, min, nat_lt, Bool, true, false, if◌then◌else◌, List, [], ◌∷◌}
+use Rattle.am_laws.proofs.Words.{length, set, Option, Some, None, refl, sym, ap, ◌∙◌, subst, arith, length-append, cases_lt, nat_tests, map-set, Entry, Leave}
+use Rattle.am_laws.proofs.Words.{Report, Image, place_of, life_of, has, size, names_from, names_of, Log, member_life, top_of, told_by, members_at, members_of}
+use Rattle.am_laws.proofs.Words.{at_place, after, Packet, CoreState, accept, pass_over, unions, since_accepted, image-top, image-push, IsUsed, row_at}
+use Rattle.am_laws.proofs.Words.{used_fold, member_row, leave_life, least_of, least_taken, base_after, own_report, tell, go_on, let_go, count_cons, mod16}
+use Rattle.am_laws.proofs.Words.{Node, Ballot, top, image_of, members, others, is_sequencer, push_entry, trim_up_to, advance, lead, refresh, settle}
+use Rattle.am_laws.proofs.Words.{refresh_at_end, split, settle_is, told_pushed, JoinFits, JoinsFit}
 use Rattle.am_packet.specs.declared.packet.Packet.TheVariants as packet
-use Rattle.am_core.specs.Cores.{CoreState, accept, pass_over, unions, since_accepted}
-use Rattle.am_core.proofs.Ends.{image-top, image-push}
-use Rattle.am_core.proofs.Lives.{IsUsed, row_at, used_fold, member_row, leave_life}
-use Rattle.am_fronts.specs.Reports.{least_of, least_taken}
-use Rattle.am_fronts.specs.Refresh.{base_after, own_report, tell, go_on, let_go}
-use Rattle.am_fronts.proofs.ReportLaws.{count_cons}
-use Rattle.am_chain_lists.proofs.Rows.{mod16}
-use Rattle.am_model.specs.Node.{Node, Ballot, top, image_of, members, others, is_sequencer, push_entry, trim_up_to}
-use Rattle.am_model.specs.Refresh.{advance, lead, refresh, settle, refresh_at_end}
-use Rattle.am_base.proofs.Greatest.{split}
-use Rattle.am_effects.proofs.Rests.{settle_is}
-use Rattle.am_effects.proofs.Says.{told_pushed}
-use Rattle.am_core.proofs.Lives.{JoinFits, JoinsFit}
 use Rattle.am_laws.proofs.LeaderRows.{joins_push, is_in, least_within}
 
 -- ---- what a node has

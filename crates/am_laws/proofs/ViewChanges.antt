@@ -1,33 +1,15 @@
 -- What changes do to views, to lists and to ballots: an open ballot is above the view, and is what was promised.
-use Rattle.std.proofs.Common.{◌≡◌, ℕ, ◌+◌, ◌<◌, ◌==◌, ◌&&◌, ◌||◌, not, max, nat_lt, Bool, true, false, List, Option, Some, None, refl, sym, ap, ◌∙◌, subst}
-use Rattle.std.proofs.Common.{arith}
-use Rattle.std.proofs.lemmas.Bool.Decides.{nat_tests}
-use Rattle.am_base.specs.declared.outcome.Outcome.{Outcome}
-use Rattle.am_base.specs.declared.name.Stamp.{Stamp}
-use Rattle.am_base.specs.declared.image.Image.{Image}
-use Rattle.am_base.specs.declared.entry.Entry.{Entry}
-use Rattle.am_base.specs.declared.entry.Entry.TheVariants.{Data, Join, Leave, View}
-use Rattle.am_base.specs.Stamps.{stamp_lt, stamp_eq}
-use Rattle.am_base.specs.Lists.{Log, fits, fold, told_by}
+use Rattle.am_laws.proofs.Words.{◌≡◌, ℕ, ◌+◌, ◌<◌, ◌==◌, ◌&&◌, ◌||◌, not, max, nat_lt, Bool, true, false, List, Option, Some, None, refl, sym, ap, ◌∙◌, subst}
+use Rattle.am_laws.proofs.Words.{arith, nat_tests, Outcome, Stamp, Image, Entry, Data, Join, Leave, View, stamp_lt, stamp_eq, Log, fits, fold, told_by}
+use Rattle.am_laws.proofs.Words.{Status, Node, Ballot, image_of, view, acts, is_sequencer, is_member, is_asking, push_entry, trim_up_to, has_log, Verdict}
+use Rattle.am_laws.proofs.Words.{overtake, need_of, left_in, trim_for, next_stamp, is_unfinished, is_view, refresh, hears_member, hears_in_view}
+use Rattle.am_laws.proofs.Words.{hears_sequencer, split, Cause, HasOpen, Balloting, with_more, without_one, as_it_is, Looks, finds_itself_out, waits}
+use Rattle.am_laws.proofs.Words.{fetches_from_best, finds_too_few, finds_no_room, decides, Numbers, asked_send, own_send, asked_join, asked_leave, Fetches}
+use Rattle.am_laws.proofs.Words.{without_ballot, for_ballot, MayBeWelcomed, Change, refreshes, settles, numbers, stores, begins_list, departs, promises}
+use Rattle.am_laws.proofs.Words.{opens, looks, fetches, stores_view, asks_to_join, closes, Changes, unchanged, changed, or_first, or_second, view_pushed}
+use Rattle.am_laws.proofs.Words.{rests_refresh, rests_at_end, settle_is}
 use Rattle.am_packet.specs.declared.packet.Packet.TheVariants as packet
-use Rattle.am_model.specs.declared.status.Status.{Status}
 use Rattle.am_model.specs.declared.status.Status.TheVariants as status
-use Rattle.am_model.specs.Node.{Node, Ballot, image_of, view, acts, is_sequencer, is_member, is_asking, push_entry, trim_up_to, has_log}
-use Rattle.am_model.specs.Ballots.{Verdict, overtake, need_of, left_in, trim_for, next_stamp}
-use Rattle.am_model.specs.Calls.{is_unfinished}
-use Rattle.am_model.specs.Receiving.{is_view}
-use Rattle.am_model.specs.Refresh.{refresh}
-use Rattle.am_model.specs.Hearing.{hears_member, hears_in_view, hears_sequencer}
-use Rattle.am_base.proofs.Greatest.{split}
-use Rattle.am_effects.specs.Causes.{Cause}
-use Rattle.am_effects.specs.Looks.{HasOpen, Balloting, with_more, without_one, as_it_is, Looks, finds_itself_out, waits, fetches_from_best, finds_too_few}
-use Rattle.am_effects.specs.Looks.{finds_no_room, decides}
-use Rattle.am_effects.specs.Changes.{Numbers, asked_send, own_send, asked_join, asked_leave, Fetches, without_ballot, for_ballot, MayBeWelcomed, Change}
-use Rattle.am_effects.specs.Changes.{refreshes, settles, numbers, stores, begins_list, departs, promises, opens, looks}
-use Rattle.am_effects.specs.Changes.{fetches, stores_view, asks_to_join, closes, Changes, unchanged, changed}
-use Rattle.am_effects.proofs.Tests.{or_first, or_second}
-use Rattle.am_effects.proofs.Says.{view_pushed}
-use Rattle.am_effects.proofs.Rests.{rests_refresh, rests_at_end, settle_is}
 use Rattle.am_laws.proofs.Stamps.{at_most, at_most_below, not_above, not_above_itself, same_stamp, equal_stamps, strictly}
 use Rattle.am_laws.proofs.ViewNames.{ViewNamed, HasNames, HeardNames, change_names, promised_named}
 use Rattle.am_laws.proofs.ViewSteps.{Goes, goes_to, goes_then, view_last, goes_view, goes_fit, goes_plain}

@@ -1,19 +1,8 @@
 -- The members after a send, and after a View of some of them.
-use Rattle.std.proofs.Common.{◌≡◌, ◌⊎◌, inl, inr, ⊎_elim, ℕ, ◌<◌, ◌==◌, ◌&&◌, not, nat_lt, Bool, true, false, List, length, set, get_or, slice_index, refl, sym}
-use Rattle.std.proofs.Common.{ap, ◌∙◌, arith}
-use Rattle.std.proofs.lemmas.Bool.Decides.{nat_tests}
-use Rattle.std.proofs.lemmas.List.{map-set, set-get_or, ext_get_or, length-map}
-use Rattle.am_base.specs.declared.entry.Entry.TheVariants.{Data, View}
-use Rattle.am_base.specs.declared.image.Row.{Row}
-use Rattle.am_base.specs.declared.image.Image.{Image}
-use Rattle.am_base.specs.declared.name.Stamp.{Stamp}
-use Rattle.am_base.specs.Names.{place_of, life_of, name_at}
-use Rattle.am_base.specs.Lists.{is_blank, at_place, member_life, members_of, row_after_view, after}
-use Rattle.am_base.proofs.Places.{slice_index-by_place, length-by_place}
-use Rattle.am_core.proofs.Lives.{row_at, member_at}
-use Rattle.am_chain_lists.proofs.Rows.{mod16, row_view, long_after, blank_joined}
-use Rattle.am_model.specs.Node.{name_where, those}
-use Rattle.am_base.proofs.Greatest.{split}
+use Rattle.am_laws.proofs.Words.{◌≡◌, ◌⊎◌, inl, inr, ⊎_elim, ℕ, ◌<◌, ◌==◌, ◌&&◌, not, nat_lt, Bool, true, false, List, length, set, get_or, slice_index, refl}
+use Rattle.am_laws.proofs.Words.{sym, ap, ◌∙◌, arith, nat_tests, map-set, set-get_or, ext_get_or, length-map, Data, View, Row, Image, Stamp, place_of}
+use Rattle.am_laws.proofs.Words.{life_of, name_at, is_blank, at_place, member_life, members_of, row_after_view, after, slice_index-by_place, length-by_place}
+use Rattle.am_laws.proofs.Words.{row_at, member_at, mod16, row_view, long_after, blank_joined, name_where, those, split}
 
 -- ---- members, place by place
 

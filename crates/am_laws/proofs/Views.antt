@@ -1,36 +1,15 @@
 -- A view is noted once, and its View stands at its number.
-use Rattle.std.proofs.Common.{◌≡◌, ◌⊎◌, inl, inr, ⊎_elim, ℕ, zero, suc, ◌<◌, ◌==◌, ◌&&◌, not, Bool, true, false, if◌then◌else◌, List, [], ◌∷◌, ◌++◌, length}
-use Rattle.std.proofs.Common.{Some, slice_get, refl, sym, ap, ◌∙◌, subst, arith}
-use Rattle.std.specs.Prelude.{All}
-use Rattle.std.proofs.lemmas.Bool.Decides.{nat_tests}
-use Rattle.std.proofs.lemmas.List.Elements.{All-nil, All-cons, All-append, All-weaker}
-use Rattle.am_base.specs.declared.name.Stamp.{Stamp}
-use Rattle.am_base.specs.declared.entry.Entry.TheVariants.{View}
-use Rattle.am_base.specs.Founding.{Rules, MayFound}
-use Rattle.am_base.specs.Names.{has}
-use Rattle.am_base.specs.Stamps.{stamp_lt, stamp_eq}
-use Rattle.am_base.specs.Lists.{entry_at, fold, after}
-use Rattle.am_packet.specs.declared.packet.Packet.{Packet}
-use Rattle.am_packet.specs.Boxes.{Letter}
-use Rattle.am_group.specs.declared.event.Event.{Event}
-use Rattle.am_model.specs.Node.{Node, image_of, view, set_at, is_member, founder, stranger, lowest_or_first, founders_view, has_log}
-use Rattle.am_play.specs.World.{Decided, World, start, first_node, founders_decided, last_view, decides, views_after, with_step, run}
-use Rattle.am_play.specs.Claims.{heard_by}
-use Rattle.am_base.proofs.Greatest.{split}
-use Rattle.am_effects.specs.Causes.{Cause}
-use Rattle.am_effects.specs.Letters.{Says, request}
-use Rattle.am_effects.specs.Letters.{LetterSays}
-use Rattle.am_effects.specs.Events.{actor, WasSentTo, IsCause}
-use Rattle.am_effects.proofs.Items.{all_get, all_item}
-use Rattle.am_effects.proofs.Runs.{EachKeeps, StepsKeep, SameParts, law_keeps, runs_keep}
-use Rattle.am_codec.specs.Spelling.{sender_of, stamp_of}
-use Rattle.am_laws.specs.Views.{ViewsHold}
-use Rattle.am_laws.proofs.Named.{AllNamed, each_named, few_names, start_named}
-use Rattle.am_laws.proofs.Stamps.{at_most, not_above, not_above_itself}
+use Rattle.am_laws.proofs.Words.{◌≡◌, ◌⊎◌, inl, inr, ⊎_elim, ℕ, zero, suc, ◌<◌, ◌==◌, ◌&&◌, not, Bool, true, false, if◌then◌else◌, List, [], ◌∷◌, ◌++◌}
+use Rattle.am_laws.proofs.Words.{length, Some, slice_get, refl, sym, ap, ◌∙◌, subst, arith, All, nat_tests, All-nil, All-cons, All-append, All-weaker, Stamp}
+use Rattle.am_laws.proofs.Words.{View, Rules, MayFound, has, stamp_lt, stamp_eq, entry_at, fold, after, Packet, Letter, Event, Node, image_of, view, set_at}
+use Rattle.am_laws.proofs.Words.{is_member, founder, stranger, lowest_or_first, founders_view, has_log, Decided, World, start, first_node, founders_decided}
+use Rattle.am_laws.proofs.Words.{last_view, views_after, with_step, run, heard_by, split, Cause, Says, request, LetterSays, actor, WasSentTo, IsCause}
+use Rattle.am_laws.proofs.Words.{all_get, all_item, EachKeeps, StepsKeep, SameParts, law_keeps, runs_keep, sender_of, stamp_of, ViewsHold, first_founder}
+use Rattle.am_play.specs.World.{decides}
 use Rattle.am_laws.proofs.ViewNames.{ViewNamed, HasNames, HeardNames, PieceNamed, pieces_named}
-use Rattle.am_laws.proofs.ViewSteps.{Goes, Stood, SameView}
 use Rattle.am_laws.proofs.ViewChanges.{Balloted, Does, log_of_member, changes_do}
-use Rattle.am_model.proofs.Founders.{first_founder}
+use Rattle.am_laws.proofs.{Named.AllNamed, Named.each_named, Named.few_names, Named.start_named, Stamps.at_most, Stamps.not_above, Stamps.not_above_itself}
+use Rattle.am_laws.proofs.{ViewSteps.Goes, ViewSteps.Stood, ViewSteps.SameView}
 
 -- ---- what is so of a world
 
