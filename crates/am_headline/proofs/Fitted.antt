@@ -1,70 +1,27 @@
 -- Up to its lawful front each node of a run has room for a View that leaves somebody out.
-use Rattle.std.proofs.Common.{◌≡◌, ◌⊎◌, ⊎_elim, inl, inr, ℕ, zero, suc, ◌+◌, ◌-◌, ◌<◌, ◌≤◌, ◌==◌, true, false, List, [], ◌∷◌, ◌++◌, length, take}
-use Rattle.std.proofs.Common.{Some, slice_get, refl, sym, ap, ◌∙◌, subst, arith}
-use Rattle.std.proofs.lemmas.Bool.Decides.{nat_tests}
-use Rattle.std.proofs.lemmas.List.{length-map}
-use Rattle.am_base.specs.declared.entry.Entry.{Entry}
-use Rattle.am_base.specs.declared.entry.Entry.TheVariants.{Data, Join, Leave, View}
-use Rattle.am_base.specs.declared.name.Stamp.{Stamp}
-use Rattle.am_base.specs.Founding.{Rules, MayFound}
-use Rattle.am_base.specs.Names.{has, size}
-use Rattle.am_base.specs.Lists.{top_of, told_by, member_life, members_of, members_at}
-use Rattle.am_core.specs.Cores.{CoreState}
-use Rattle.am_base.specs.Stamps.{stamp_eq}
-use Rattle.am_packet.specs.declared.packet.Packet.{Packet}
+use Rattle.am_headline.proofs.Words.{◌≡◌, ◌⊎◌, ⊎_elim, inl, inr, ℕ, zero, suc, ◌+◌, ◌-◌, ◌<◌, ◌≤◌, ◌==◌, true, false, List, [], ◌∷◌, ◌++◌, length, take, Some}
+use Rattle.am_headline.proofs.Words.{slice_get, refl, sym, ap, ◌∙◌, subst, arith, nat_tests, length-map, Entry, Data, Join, Leave, View, Stamp, Rules}
+use Rattle.am_headline.proofs.Words.{MayFound, has, size, top_of, told_by, member_life, members_of, members_at, CoreState, stamp_eq, Packet, Letter, Event}
+use Rattle.am_headline.proofs.Words.{item_at, Begins, NotView, view_of, key, key_by, view_push, view_viewed, long_told, begins_both, begins_length}
+use Rattle.am_headline.proofs.Words.{begins_push, begins_trans, Group, IsUp, Status, is_unfinished, Node, top, view, is_member, acts, founder, founders_view}
+use Rattle.am_headline.proofs.Words.{has_departed, Step, hears_member, hears_in_view, hears_sequencer, is_view, heard_by, FitsView, ViewsFit, lawful_front}
+use Rattle.am_headline.proofs.Words.{World, start, with_step, run, split, and_both, front_is_lawful, Cause, hears, Says, bcast, order, piece, result}
+use Rattle.am_headline.proofs.Words.{LetterSays, IsCause, WasSentTo, all_get, logged, numbers_hold, same_stamp, each_along, heard_used, run_owned}
+use Rattle.am_headline.proofs.Words.{heard_names, lists_go_on, item_get, item_within, PacketSays, PieceSays, told_all, long_all, number_low, departed_silent}
+use Rattle.am_headline.proofs.Words.{departed_quiet, departed_is, steps_move}
+use Rattle.am_chain_lists.specs.Whole.{image_of}
 use Rattle.am_packet.specs.declared.packet.Packet.TheVariants as packet
-use Rattle.am_packet.specs.Boxes.{Letter}
-use Rattle.am_group.specs.declared.event.Event.{Event}
-use Rattle.am_group.specs.Journals.{item_at}
-use Rattle.am_chain_lists.specs.Whole.{Begins, NotView, image_of, view_of, key}
-use Rattle.am_chain_lists.proofs.Order.{key_by, view_push, view_viewed}
-use Rattle.am_chain_lists.proofs.Members.{long_told}
-use Rattle.am_chain_lists.proofs.Prefixes.{begins_both, begins_length, begins_push, begins_trans}
-use Rattle.am_chain_moves.specs.Group.{Group, IsUp}
-use Rattle.am_model.specs.declared.status.Status.{Status}
 use Rattle.am_model.specs.declared.status.Status.TheVariants as status
-use Rattle.am_model.specs.Calls.{is_unfinished}
-use Rattle.am_model.specs.Node.{Node, top, view, is_member, acts, founder, founders_view, has_departed}
 use Rattle.am_model.specs.Node as nodes
-use Rattle.am_model.specs.Emit.{Step}
-use Rattle.am_model.specs.Hearing.{hears_member, hears_in_view, hears_sequencer}
-use Rattle.am_model.specs.Receiving.{is_view}
-use Rattle.am_play.specs.Claims.{heard_by, FitsView, ViewsFit}
-use Rattle.am_play.specs.Lawful.{lawful_front}
 use Rattle.am_model.specs.Hearing as rows
-use Rattle.am_play.specs.World.{World, start, with_step, run}
-use Rattle.am_base.proofs.Greatest.{split, and_both}
-use Rattle.am_play.proofs.Runs.{front_is_lawful}
-use Rattle.am_effects.specs.Causes.{Cause, hears}
-use Rattle.am_effects.specs.Letters.{Says, bcast, order}
-use Rattle.am_effects.specs.Letters.{piece}
-use Rattle.am_effects.specs.Letters.{result, LetterSays}
-use Rattle.am_effects.specs.Events.{IsCause, WasSentTo}
-use Rattle.am_effects.proofs.Items.{all_get}
-use Rattle.am_effects.proofs.Statuses.{logged}
-use Rattle.am_laws.proofs.RunCounts.{numbers_hold}
-use Rattle.am_laws.proofs.Stamps.{same_stamp}
-use Rattle.am_laws.proofs.TakenRuns.{each_along, heard_used, run_owned}
-use Rattle.am_laws.proofs.Views.{heard_names}
-use Rattle.am_watched.proofs.Lists.{lists_go_on}
-use Rattle.am_unballoted.proofs.Lists.{item_get, item_within}
 use Rattle.am_stands.specs.Letters as says
-use Rattle.am_stands.specs.Letters.{PacketSays, PieceSays}
-use Rattle.am_stands.proofs.Changes.{told_all, long_all}
-use Rattle.am_stands.proofs.Parts.{number_low}
-use Rattle.am_stands.proofs.Silent.{departed_silent}
-use Rattle.am_steps.proofs.Silent.{departed_quiet}
-use Rattle.am_steps.proofs.Statuses.{departed_is}
-use Rattle.am_steps.proofs.Steps.{steps_move}
-use Rattle.am_headline.proofs.OneStep.{OneStep, parts, plain}
-use Rattle.am_headline.proofs.Fold.{KeptBy}
-use Rattle.am_headline.proofs.Begun.{held}
-use Rattle.am_headline.proofs.Fits.{BringsEntry, by_bcast, by_order, by_piece, by_result, FitsAt, few_size, fitting_changes}
-use Rattle.am_headline.proofs.Rows as done
 use Rattle.am_headline.proofs.Rows.{Stores, Does, OrderDoes, InView, Piecewise, Fetched, Viewing, bcast_does, order_does, piece_does, result_does, row_ends}
-use Rattle.am_headline.proofs.Heard.{HeardAs, whole_packet, too_short, heard_as, sender_stays}
 use Rattle.am_headline.proofs.Views.{FitIn, fit_more, fit_less, fit_low, node_fit, LineFits, PieceFits, of_line, of_shown, over, PacketFits, packet_on}
 use Rattle.am_headline.proofs.Views.{promised_line, last_line, stored_list, stored_fits}
+use Rattle.am_headline.proofs.{OneStep.OneStep, OneStep.parts, OneStep.plain, Fold.KeptBy, Begun.held, Fits.BringsEntry, Fits.by_bcast, Fits.by_order}
+use Rattle.am_headline.proofs.{Fits.by_piece, Fits.by_result, Fits.FitsAt, Fits.few_size, Fits.fitting_changes, Heard.HeardAs, Heard.whole_packet}
+use Rattle.am_headline.proofs.{Heard.too_short, Heard.heard_as, Heard.sender_stays}
+use Rattle.am_headline.proofs.Rows as done
 
 -- ---- what is kept
 

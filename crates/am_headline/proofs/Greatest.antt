@@ -1,14 +1,7 @@
 -- The greatest complete view of a watched run, and the marks of the group.
-use Rattle.std.proofs.Common.{◌≡◌, ◌⊎◌, ⊎_elim, inl, inr, ℕ, zero, suc, ◌+◌, ◌<◌, ◌≤◌, Bool, true, false, List, [], ◌∷◌, ◌++◌}
-use Rattle.std.proofs.Common.{Option, Some, None, slice_get, refl, sym, ap, ◌∙◌, subst, arith}
-use Rattle.std.specs.List.{list_any}
-use Rattle.am_base.specs.Stamps.{stamp_lt}
-use Rattle.am_group.specs.declared.event.Event.{Event}
-use Rattle.am_chain_lists.specs.Whole.{key}
-use Rattle.am_chain_lists.proofs.Order.{key_lt, lt_key}
-use Rattle.am_play.specs.World.{Decided, World, happens}
-use Rattle.am_play.specs.Lawful.{is_complete, is_lawful, Watch, watch, watch_all, greater_complete, greatest_complete, broken_now}
-use Rattle.am_base.proofs.Greatest.{split}
+use Rattle.am_headline.proofs.Words.{◌≡◌, ◌⊎◌, ⊎_elim, inl, inr, ℕ, zero, suc, ◌+◌, ◌<◌, ◌≤◌, Bool, true, false, List, [], ◌∷◌, ◌++◌, Option, Some, None}
+use Rattle.am_headline.proofs.Words.{slice_get, refl, sym, ap, ◌∙◌, subst, arith, list_any, stamp_lt, Event, key, key_lt, lt_key, Decided, World, happens}
+use Rattle.am_headline.proofs.Words.{is_complete, is_lawful, Watch, watch, watch_all, greater_complete, greatest_complete, broken_now, split}
 
 -- ---- one item that passes
 

@@ -1,27 +1,12 @@
 -- The node that hears a packet in a run, and who has a list to send of.
-use Rattle.std.proofs.Common.{◌≡◌, ℕ, ◌≤◌, ◌==◌, not, nat_le, nat_lt, Bool, true, false, if◌then◌else◌, List}
-use Rattle.std.proofs.Common.{Option, Some, None, slice_get, refl, sym, ap, ◌∙◌, subst, arith}
-use Rattle.std.proofs.lemmas.Bool.Decides.{nat_tests}
-use Rattle.am_base.specs.declared.outcome.Outcome.{Outcome}
+use Rattle.am_headline.proofs.Words.{◌≡◌, ℕ, ◌≤◌, ◌==◌, not, nat_le, nat_lt, Bool, true, false, if◌then◌else◌, List, Option, Some, None, slice_get, refl, sym}
+use Rattle.am_headline.proofs.Words.{ap, ◌∙◌, subst, arith, nat_tests, Outcome, Packet, Letter, Act, Event, is_for, letter_at, Node, has_departed, Step}
+use Rattle.am_headline.proofs.Words.{finish, packet_length, hear, hear_refusal, World, is_stopped, with_record, with_step, hears_letter, hear_cut, acts_as}
+use Rattle.am_headline.proofs.Words.{happens, Cause, Change, refreshes, settles, begins_list, departs, looks, asks_to_join, closes, IsPlain, Course}
+use Rattle.am_headline.proofs.Words.{nothing_yet, used_report, and_then, Deeds, plainly, looked, Ending, at_end, let_go, closing, actor, WasSentTo}
+use Rattle.am_headline.proofs.Words.{rests_at_end, rests_refresh, settle_is}
 use Rattle.am_base.specs.declared.outcome.Outcome.TheVariants as said
-use Rattle.am_packet.specs.declared.packet.Packet.{Packet}
-use Rattle.am_packet.specs.Boxes.{Letter}
-use Rattle.am_group.specs.declared.event.Act.{Act}
 use Rattle.am_group.specs.declared.event.Act.TheVariants as act
-use Rattle.am_group.specs.declared.event.Event.{Event}
-use Rattle.am_group.specs.Addressed.{is_for}
-use Rattle.am_group.specs.Journals.{letter_at}
-use Rattle.am_model.specs.Node.{Node, has_departed}
-use Rattle.am_model.specs.Emit.{Step, finish}
-use Rattle.am_model.specs.Lengths.{packet_length}
-use Rattle.am_model.specs.Step.{hear, hear_refusal}
-use Rattle.am_play.specs.World.{World, is_stopped, with_record, with_step, hears_letter, hear_cut, acts_as, happens}
-use Rattle.am_effects.specs.Causes.{Cause}
-use Rattle.am_effects.specs.Changes.{Change, refreshes, settles, begins_list, departs}
-use Rattle.am_effects.specs.Changes.{looks, asks_to_join, closes}
-use Rattle.am_effects.specs.Courses.{IsPlain, Course, nothing_yet, used_report, and_then, Deeds, plainly, looked, Ending, at_end, let_go, closing}
-use Rattle.am_effects.specs.Events.{actor, WasSentTo}
-use Rattle.am_effects.proofs.Rests.{rests_at_end, rests_refresh, settle_is}
 use Rattle.am_headline.proofs.Ways.{look_alike}
 
 -- ---- what is heard

@@ -1,39 +1,19 @@
 -- What is known of a name's node within its step: what its application was given, and which of its sends are settled.
-use Rattle.std.proofs.Common.{◌≡◌, ◌⊎◌, ⊎_elim, inl, inr, ℕ, ◌+◌, ◌-◌, ◌<◌, ◌≤◌, max, min, ◌==◌, ◌||◌, not, nat_lt, Bool, true, false, if◌then◌else◌}
-use Rattle.std.proofs.Common.{List, [], ◌∷◌, ◌++◌, filter, find, count_by, Option, Some, None, slice_get, refl, sym, ap, ◌∙◌, subst, arith}
-use Rattle.std.specs.Prelude.{All}
-use Rattle.std.proofs.lemmas.Bool.Decides.{nat_tests}
-use Rattle.std.proofs.lemmas.List.Sums.{sum_by-cons}
-use Rattle.std.proofs.lemmas.List.Elements.{All-push, All-filter, All-map, All-weaker}
-use Rattle.am_base.specs.declared.entry.Entry.{Entry}
-use Rattle.am_base.specs.declared.entry.Entry.TheVariants.{Data, Leave}
-use Rattle.am_base.specs.declared.image.Image.{Image}
-use Rattle.am_base.specs.declared.name.Stamp.{Stamp}
-use Rattle.am_base.specs.declared.outcome.Outcome.{Outcome}
+use Rattle.am_headline.proofs.Words.{◌≡◌, ◌⊎◌, ⊎_elim, inl, inr, ℕ, ◌+◌, ◌-◌, ◌<◌, ◌≤◌, max, min, ◌==◌, ◌||◌, not, nat_lt, Bool, true, false, if◌then◌else◌}
+use Rattle.am_headline.proofs.Words.{List, [], ◌∷◌, ◌++◌, filter, find, count_by, Option, Some, None, slice_get, refl, sym, ap, ◌∙◌, subst, arith, All}
+use Rattle.am_headline.proofs.Words.{nat_tests, sum_by-cons, All-push, All-filter, All-map, All-weaker, Entry, Data, Leave, Image, Stamp, Outcome, CoreState}
+use Rattle.am_headline.proofs.Words.{accept, pass_over, own_report, tell, go_on, Log, OwnSend, Status, Node, is_member, is_asking, is_sequencer, waiting}
+use Rattle.am_headline.proofs.Words.{unsettled_count, push_entry, has_log, has_departed, begin_list, advance, lead, refresh, settle, settle_waiting}
+use Rattle.am_headline.proofs.Words.{settle_at, accepted_at, refresh_at_end, split, and_both, item_at, Cause, hears, MayBeWelcomed, get_front, rests_refresh}
+use Rattle.am_headline.proofs.Words.{refresh_is, settle_is, asking, logged, asking_log, front, Gave, nothing, took, began, at_least, gave_begun, still_log}
+use Rattle.am_headline.proofs.Words.{found_at}
+use Rattle.am_fronts.specs.Refresh.{let_go}
 use Rattle.am_base.specs.declared.outcome.Outcome.TheVariants as said
-use Rattle.am_core.specs.Cores.{CoreState, accept, pass_over}
-use Rattle.am_fronts.specs.Refresh.{own_report, tell, go_on, let_go}
-use Rattle.am_base.specs.Lists.{Log}
 use Rattle.am_packet.specs.declared.packet.Packet.TheVariants as packet
-use Rattle.am_sender.specs.declared.OwnSend.{OwnSend}
 use Rattle.am_sender.specs.Sends as own
-use Rattle.am_model.specs.declared.status.Status.{Status}
 use Rattle.am_model.specs.declared.status.Status.TheVariants as status
-use Rattle.am_model.specs.Node.{Node, is_member, is_asking, is_sequencer, waiting, unsettled_count, push_entry, has_log, has_departed}
-use Rattle.am_model.specs.Joining.{begin_list}
-use Rattle.am_model.specs.Refresh.{advance, lead, refresh, settle, settle_waiting, settle_at, accepted_at, refresh_at_end}
-use Rattle.am_base.proofs.Greatest.{split, and_both}
-use Rattle.am_group.specs.Journals.{item_at}
-use Rattle.am_effects.specs.Causes.{Cause, hears}
-use Rattle.am_effects.specs.Changes.{MayBeWelcomed}
-use Rattle.am_effects.proofs.Items.{get_front}
-use Rattle.am_effects.proofs.Rests.{rests_refresh, refresh_is, settle_is}
-use Rattle.am_effects.proofs.Receiving.{asking}
-use Rattle.am_effects.proofs.Statuses.{logged, asking_log}
-use Rattle.am_unballoted.proofs.Chains.{front, Gave, nothing, took, began, at_least, gave_begun, still_log}
-use Rattle.am_unballoted.proofs.Changes.{found_at}
-use Rattle.am_headline.proofs.Ways as kinds
 use Rattle.am_headline.proofs.Ways.{Alike, Kind, pushed_alike}
+use Rattle.am_headline.proofs.Ways as kinds
 
 -- ---- sends that are settled
 

@@ -1,32 +1,13 @@
 -- A joiner's Join stands at the number with which it is welcomed.
-use Rattle.std.proofs.Common.{◌≡◌, ◌⊎◌, ⊎_elim, inl, inr, ℕ, zero, suc, ◌+◌, ◌<◌, ◌≤◌, true, false, List, [], ◌∷◌, ◌++◌, length, take, Some, slice_get, refl}
-use Rattle.std.proofs.Common.{sym, ap, ◌∙◌, subst, arith}
-use Rattle.std.specs.Prelude.{All}
-use Rattle.am_base.specs.declared.entry.Entry.{Entry}
-use Rattle.am_base.specs.declared.entry.Entry.TheVariants.{Join}
-use Rattle.am_base.specs.declared.image.Image.{Image}
-use Rattle.am_base.specs.declared.name.Stamp.{Stamp}
-use Rattle.am_base.specs.Founding.{Rules}
-use Rattle.am_base.specs.Names.{place_of, life_of, has}
+use Rattle.am_headline.proofs.Words.{◌≡◌, ◌⊎◌, ⊎_elim, inl, inr, ℕ, zero, suc, ◌+◌, ◌<◌, ◌≤◌, true, false, List, [], ◌∷◌, ◌++◌, length, take, Some, slice_get}
+use Rattle.am_headline.proofs.Words.{refl, sym, ap, ◌∙◌, subst, arith, All, Entry, Join, Image, Stamp, Rules, place_of, life_of, has, Letter, goes_to_any}
+use Rattle.am_headline.proofs.Words.{is_for, item_at, Begins, IsGood, mem, In, row_at, begins_take, length_take, good_begins, told_push, long_told, mem_in}
+use Rattle.am_headline.proofs.Words.{in_mem, mem_viewed, Group, Status, is_asking, founders_view, has_departed, World, is_stopped, all_get, asking_log}
+use Rattle.am_headline.proofs.Words.{PacketSays, WelcomeSays, WelcomeTo, has_begun, has_gone, has_left, is_leaving, may_begin, Becomes, stayed, joins, founds}
+use Rattle.am_headline.proofs.Words.{became, blank_nil, Following}
+use Rattle.am_chain_lists.specs.Whole.{image_of}
 use Rattle.am_packet.specs.declared.packet.Packet.TheVariants as packet
-use Rattle.am_packet.specs.Boxes.{Letter}
-use Rattle.am_packet.specs.Kinds.{goes_to_any}
-use Rattle.am_group.specs.Addressed.{is_for}
-use Rattle.am_group.specs.Journals.{item_at}
-use Rattle.am_chain_lists.specs.Whole.{Begins, IsGood, image_of, mem}
-use Rattle.am_chain_lists.proofs.Rows.{In, row_at}
-use Rattle.am_chain_lists.proofs.Prefixes.{begins_take, length_take}
-use Rattle.am_chain_lists.proofs.Members.{good_begins, told_push, long_told, mem_in, in_mem, mem_viewed}
-use Rattle.am_chain_moves.specs.Group.{Group}
-use Rattle.am_model.specs.declared.status.Status.{Status}
 use Rattle.am_model.specs.declared.status.Status.TheVariants as status
-use Rattle.am_model.specs.Node.{is_asking, founders_view, has_departed}
-use Rattle.am_play.specs.World.{World, is_stopped}
-use Rattle.am_effects.proofs.Items.{all_get}
-use Rattle.am_effects.proofs.Statuses.{asking_log}
-use Rattle.am_stands.specs.Letters.{PacketSays, WelcomeSays, WelcomeTo, has_begun, has_gone, has_left, is_leaving, may_begin}
-use Rattle.am_stands.proofs.Joins.{Becomes, stayed, joins, founds, became, blank_nil}
-use Rattle.am_stands.specs.Running.{Following}
 
 -- ---- by the group list
 

@@ -1,21 +1,8 @@
 -- Lists, their lines, and where a View stands in them.
-use Rattle.std.proofs.Common.{◌≡◌, ◌⊎◌, ⊎_elim, ℕ, zero, suc, ◌<◌, ◌≤◌, true, List, [], ◌∷◌, ◌++◌, length, Some, slice_get, sym, ap, ◌∙◌, subst, arith}
-use Rattle.std.specs.List.{list_any}
-use Rattle.am_base.specs.declared.entry.Entry.{Entry}
-use Rattle.am_base.specs.declared.entry.Entry.TheVariants.{Data, Join, Leave, View}
-use Rattle.am_base.specs.declared.name.Stamp.{Stamp}
-use Rattle.am_group.specs.Journals.{item_at}
-use Rattle.am_group.proofs.Places.{get_before}
-use Rattle.am_chain_lists.specs.Whole.{Begins, IsGood, view_of, key}
-use Rattle.am_chain_lists.proofs.Prefixes.{begins_nil, begins_both, begins_more, begins_same, length_push}
-use Rattle.am_chain_lists.proofs.Members.{good_begins}
-use Rattle.am_chain_lists.proofs.Order.{view_up, view_below, view_viewed}
-use Rattle.am_model.specs.Receiving.{is_view}
-use Rattle.am_play.specs.Lawful.{is_view_of}
-use Rattle.am_play.specs.Claims.{up_to_view, up_to_next}
-use Rattle.am_base.proofs.Greatest.{split}
-use Rattle.am_laws.proofs.Stamps.{same_stamp}
-use Rattle.am_unballoted.proofs.Lists.{item_more}
+use Rattle.am_headline.proofs.Words.{◌≡◌, ◌⊎◌, ⊎_elim, ℕ, zero, suc, ◌<◌, ◌≤◌, true, List, [], ◌∷◌, ◌++◌, length, Some, slice_get, sym, ap, ◌∙◌, subst, arith}
+use Rattle.am_headline.proofs.Words.{list_any, Entry, Data, Join, Leave, View, Stamp, item_at, get_before, Begins, IsGood, view_of, key, begins_nil}
+use Rattle.am_headline.proofs.Words.{begins_both, begins_more, begins_same, length_push, good_begins, view_up, view_below, view_viewed, is_view, is_view_of}
+use Rattle.am_headline.proofs.Words.{up_to_view, up_to_next, split, same_stamp, item_more}
 
 -- ---- lines
 

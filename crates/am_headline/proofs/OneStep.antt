@@ -1,27 +1,8 @@
 -- One step of a run, with the group that follows it: what each law that goes with the steps takes, and what is plain of it.
-use Rattle.std.proofs.Common.{◌≡◌, ℕ, ◌<◌, ◌==◌, true, false, List, [], ◌∷◌, ◌++◌, refl, sym, ap, ◌∙◌, subst, arith}
-use Rattle.std.proofs.lemmas.Bool.Decides.{nat_tests}
-use Rattle.am_base.specs.Founding.{Rules, MayFound}
-use Rattle.am_group.specs.declared.event.Event.{Event}
-use Rattle.am_chain_lists.specs.Whole.{Begins}
-use Rattle.am_chain_moves.specs.Group.{Group}
-use Rattle.am_chain_moves.specs.Kept.{Kept}
-use Rattle.am_model.specs.Node.{Node, lowest_or_first}
-use Rattle.am_model.specs.Emit.{Step}
-use Rattle.am_play.specs.World.{World, group_after, start, is_stopped, with_step, happens, happen, run}
-use Rattle.am_play.proofs.Runs.{runs_go_on}
-use Rattle.am_effects.specs.Causes.{Cause}
-use Rattle.am_effects.specs.Effects.{Effect}
-use Rattle.am_effects.specs.Events.{actor, IsCause}
-use Rattle.am_laws.proofs.Named.{few_names}
-use Rattle.am_laws.proofs.TakenRuns.{run_owned}
-use Rattle.am_stands.specs.Standing.{NameStands}
-use Rattle.am_stands.specs.States.{LinesOpen}
-use Rattle.am_stands.specs.Moving.{Moves}
-use Rattle.am_stands.specs.Growing.{Grows}
-use Rattle.am_stands.specs.Running.{Following}
-use Rattle.am_stands.proofs.Onward.{group_kept}
-use Rattle.am_stands.proofs.Opens.{runs_open}
+use Rattle.am_headline.proofs.Words.{◌≡◌, ℕ, ◌<◌, ◌==◌, true, false, List, [], ◌∷◌, ◌++◌, refl, sym, ap, ◌∙◌, subst, arith, nat_tests, Rules, MayFound, Event}
+use Rattle.am_headline.proofs.Words.{Begins, Group, Kept, Node, lowest_or_first, Step, World, group_after, start, is_stopped, with_step, happens, happen, run}
+use Rattle.am_headline.proofs.Words.{runs_go_on, Cause, Effect, actor, IsCause, few_names, run_owned, NameStands, LinesOpen, Moves, Grows, Following}
+use Rattle.am_headline.proofs.Words.{group_kept, runs_open}
 use Rattle.am_headline.proofs.Shapes.{Shaped}
 
 -- the world before the step, who steps, its node before and after, and the world after

@@ -1,23 +1,11 @@
 -- What moves keep of each list, whoever has stopped or departed: it is a good one, on the line of a decided view; and each decided view has
 -- a set of names.
-use Rattle.std.proofs.Common.{◌≡◌, ◌≢◌, ◌⊎◌, ⊎_elim, inl, inr, ℕ, ◌≤◌, List, length, Some, [], true, refl, sym, ap, ◌∙◌, subst}
-use Rattle.am_base.specs.declared.entry.Entry.{Entry}
-use Rattle.am_base.specs.declared.entry.Entry.TheVariants.{Leave}
-use Rattle.am_base.specs.Names.{IsSet}
-use Rattle.am_group.specs.Journals.{item_at}
-use Rattle.am_chain_lists.specs.Whole.{Begins, IsGood, view_of, key}
-use Rattle.am_chain_lists.proofs.Prefixes.{begins_refl, begins_trans}
-use Rattle.am_chain_lists.proofs.Members.{good_begins}
+use Rattle.am_headline.proofs.Words.{◌≡◌, ◌≢◌, ◌⊎◌, ⊎_elim, inl, inr, ℕ, ◌≤◌, List, length, Some, [], true, refl, sym, ap, ◌∙◌, subst, Entry, Leave, IsSet}
+use Rattle.am_headline.proofs.Words.{item_at, Begins, IsGood, view_of, key, begins_refl, begins_trans, good_begins, Group, Chosen, IsUp, put, chain_of, Move}
+use Rattle.am_headline.proofs.Words.{with_node, choice_of, longer, accepts, learns, begins, raises, shows, serves, gives_over, welcomes, asks, stops, Kept}
+use Rattle.am_headline.proofs.Words.{put_cases, put_same, MoveOk, Moves, none, moves, Grows, GroupOk, group_kept, move_on}
+use Rattle.am_chain_moves.specs.Moves.{numbers, stores, fetches, decides, departs, closes}
 use Rattle.am_chain_moves.specs.Group as groups
-use Rattle.am_chain_moves.specs.Group.{Group, Chosen, IsUp, put, chain_of}
-use Rattle.am_chain_moves.specs.Moves.{Move, with_node, choice_of, longer, numbers, stores, accepts, learns, begins, raises, shows, serves}
-use Rattle.am_chain_moves.specs.Moves.{fetches, decides, gives_over, welcomes, asks, departs, closes, stops}
-use Rattle.am_chain_moves.specs.Kept.{Kept}
-use Rattle.am_chain_moves.proofs.Puts.{put_cases, put_same}
-use Rattle.am_stands.specs.Moving.{MoveOk, Moves, none, moves}
-use Rattle.am_stands.specs.Growing.{Grows}
-use Rattle.am_stands.specs.Keeping.{GroupOk}
-use Rattle.am_stands.proofs.Onward.{group_kept, move_on}
 use Rattle.am_headline.proofs.Lists.{item_begins, item_back}
 
 -- a list on the line of a decided view

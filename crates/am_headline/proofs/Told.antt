@@ -1,71 +1,25 @@
 -- What each run keeps of what its applications were given: gapless, from where a name began, and each send that was settled at its number.
-use Rattle.std.proofs.Common.{◌≡◌, ◌≢◌, ⊎_elim, inl, ℕ, zero, suc, ◌+◌, ◌-◌, ◌<◌, ◌≤◌, ◌==◌, nat_le, true, false, List, [], ◌∷◌, ◌++◌}
-use Rattle.std.proofs.Common.{length, Option, Some, None, refl, sym, ap, ◌∙◌, subst, append-nil, length-append, arith}
-use Rattle.std.specs.Prelude.{All}
-use Rattle.std.specs.List.{flat_map}
-use Rattle.std.proofs.lemmas.Bool.Decides.{nat_tests}
-use Rattle.std.proofs.lemmas.List.Elements.{All-nil, All-cons, All-append, All-push, All-weaker}
-use Rattle.am_base.specs.declared.entry.Entry.{Entry}
-use Rattle.am_base.specs.declared.entry.Entry.TheVariants.{Data, Join}
-use Rattle.am_base.specs.declared.outcome.Outcome.{Outcome}
+use Rattle.am_headline.proofs.Words.{◌≡◌, ◌≢◌, ⊎_elim, inl, ℕ, zero, suc, ◌+◌, ◌-◌, ◌<◌, ◌≤◌, ◌==◌, nat_le, true, false, List, [], ◌∷◌, ◌++◌, length, Option}
+use Rattle.am_headline.proofs.Words.{Some, None, refl, sym, ap, ◌∙◌, subst, append-nil, length-append, arith, All, flat_map, nat_tests, All-nil, All-cons}
+use Rattle.am_headline.proofs.Words.{All-append, All-push, All-weaker, Entry, Data, Join, Outcome, Rules, MayFound, has, entry_at, entry-get, Letter, Event}
+use Rattle.am_headline.proofs.Words.{Record, name_of, taken_in, given_to, deliveries, item_at, IsGood, begins_refl, begins_trans, good_begins, Group, Node}
+use Rattle.am_headline.proofs.Words.{set_at, waiting, is_asking, founder, stranger, founders_view, lowest_or_first, has_log, has_departed, Step, sent_in}
+use Rattle.am_headline.proofs.Words.{accepted_sends, whole, World, record_of, start, with_step, run, heard_by, split, Cause, hears, Changes, unchanged}
+use Rattle.am_headline.proofs.Words.{changed, Effect, Answers, HasTaken, AnswersAsk, WasSettled, LetterSays, actor, IsCause, IsIdle, WasSentTo, all_get}
+use Rattle.am_headline.proofs.Words.{IsBlank, Blanked, change_blank, blank_holds, numbers_hold, few_names, run_owned, HasNames, HeardNames, change_names}
+use Rattle.am_headline.proofs.Words.{Balloted, change_does, heard_names, IsOfBallot, LastOk, ballots_are_own, lists_go_on, front, Gave, nothing, took, began}
+use Rattle.am_headline.proofs.Words.{at_least, At, BeginsOk, SendOk, IsSettled, sends_more, item_within, idle_takes, idle_welcomes, idle_sends}
+use Rattle.am_headline.proofs.Words.{deliveries_push, given_same, not_given, idle_gives, given_more, accepted_more, accepted_and, welcome_in, welcomes_push}
+use Rattle.am_headline.proofs.Words.{idle_welcome, other_welcome, record_up, taken_or, nil_of, given_push, record_step, welcomed_step, GivenOk, begins_at}
+use Rattle.am_headline.proofs.Words.{RecordOk, StandsAt, group_kept, Following}
+use Rattle.am_play.specs.Claims.{welcomes}
+use Rattle.am_unballoted.proofs.Kept.{begins_more}
 use Rattle.am_base.specs.declared.outcome.Outcome.TheVariants as said
-use Rattle.am_base.specs.Founding.{Rules, MayFound}
-use Rattle.am_base.specs.Names.{has}
-use Rattle.am_base.specs.Lists.{entry_at}
-use Rattle.am_core.proofs.Ends.{entry-get}
-use Rattle.am_packet.specs.Boxes.{Letter}
 use Rattle.am_packet.specs.declared.packet.Packet.TheVariants as packet
-use Rattle.am_group.specs.declared.event.Event.{Event}
-use Rattle.am_group.specs.declared.event.Record.{Record}
-use Rattle.am_group.specs.Deliveries.{name_of, taken_in, given_to, deliveries}
-use Rattle.am_group.specs.Journals.{item_at}
-use Rattle.am_chain_lists.specs.Whole.{IsGood}
-use Rattle.am_chain_lists.proofs.Prefixes.{begins_refl, begins_trans}
-use Rattle.am_chain_lists.proofs.Members.{good_begins}
 use Rattle.am_chain_moves.specs.Group as groups
-use Rattle.am_chain_moves.specs.Group.{Group}
-use Rattle.am_model.specs.Node.{Node, set_at, waiting, is_asking, founder, stranger, founders_view, lowest_or_first, has_log, has_departed}
-use Rattle.am_model.specs.Emit.{Step}
-use Rattle.am_play.specs.Group.{sent_in, accepted_sends}
-use Rattle.am_play.specs.Lawful.{whole}
-use Rattle.am_play.specs.World.{World, record_of, start, with_step, run}
-use Rattle.am_play.specs.Claims.{heard_by, welcomes}
-use Rattle.am_base.proofs.Greatest.{split}
-use Rattle.am_effects.specs.Causes.{Cause, hears}
-use Rattle.am_effects.specs.Changes.{Changes, unchanged, changed}
-use Rattle.am_effects.specs.Effects.{Effect, Answers, HasTaken, AnswersAsk, WasSettled}
-use Rattle.am_effects.specs.Letters.{LetterSays}
-use Rattle.am_effects.specs.Events.{actor, IsCause, IsIdle, WasSentTo}
-use Rattle.am_effects.proofs.Items.{all_get}
-use Rattle.am_laws.specs.Blank.{IsBlank}
-use Rattle.am_laws.proofs.Blank.{Blanked, change_blank, blank_holds}
-use Rattle.am_laws.proofs.RunCounts.{numbers_hold}
-use Rattle.am_laws.proofs.Named.{few_names}
-use Rattle.am_laws.proofs.TakenRuns.{run_owned}
-use Rattle.am_laws.proofs.ViewNames.{HasNames, HeardNames, change_names}
-use Rattle.am_laws.proofs.ViewChanges.{Balloted, change_does}
-use Rattle.am_laws.proofs.Views.{heard_names}
-use Rattle.am_promises.specs.Ballots.{IsOfBallot, LastOk}
-use Rattle.am_promises.proofs.Ballots.{ballots_are_own}
-use Rattle.am_watched.proofs.Lists.{lists_go_on}
-use Rattle.am_unballoted.proofs.Chains.{front, Gave, nothing, took, began, at_least}
-use Rattle.am_unballoted.proofs.Kept.{At, BeginsOk, begins_more, SendOk, IsSettled, sends_more}
-use Rattle.am_unballoted.proofs.Lists.{item_within}
-use Rattle.am_unballoted.proofs.Records.{idle_takes, idle_welcomes, idle_sends, deliveries_push, given_same, not_given, idle_gives, given_more, accepted_more}
-use Rattle.am_unballoted.proofs.Records.{accepted_and}
-use Rattle.am_unballoted.proofs.Records.{welcome_in, welcomes_push, idle_welcome, other_welcome, record_up}
-use Rattle.am_unballoted.proofs.Steps.{taken_or, nil_of, given_push}
-use Rattle.am_unballoted.proofs.Welcomes.{record_step, welcomed_step}
-use Rattle.am_unballoted.proofs.Worlds.{GivenOk, begins_at, RecordOk, StandsAt}
-use Rattle.am_stands.proofs.Onward.{group_kept}
-use Rattle.am_stands.specs.Running.{Following}
-use Rattle.am_headline.proofs.Lists.{item_begins}
-use Rattle.am_headline.proofs.Shapes.{Along, along_up, along_moves}
-use Rattle.am_headline.proofs.Ways.{kind_of}
-use Rattle.am_headline.proofs.Inside.{Fresh, Settled, SendIn, Inside, inside_kind}
-use Rattle.am_headline.proofs.Joined.{Opens, AnyLetter, welcome_joins}
-use Rattle.am_headline.proofs.OneStep.{OneStep, itself, parts, plain}
-use Rattle.am_headline.proofs.Own.{whole_item, taken_in_group, step_in_group}
+use Rattle.am_headline.proofs.{Lists.item_begins, Shapes.Along, Shapes.along_up, Shapes.along_moves, Ways.kind_of, Inside.Fresh, Inside.Settled}
+use Rattle.am_headline.proofs.{Inside.SendIn, Inside.Inside, Inside.inside_kind, Joined.Opens, Joined.AnyLetter, Joined.welcome_joins, OneStep.OneStep}
+use Rattle.am_headline.proofs.{OneStep.itself, OneStep.parts, OneStep.plain, Own.whole_item, Own.taken_in_group, Own.step_in_group}
 
 -- ---- what is kept
 

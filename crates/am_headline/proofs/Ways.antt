@@ -1,26 +1,15 @@
 -- The changes of a node by what they do to what its application was given, and to its own sends.
-use Rattle.std.proofs.Common.{◌≡◌, ℕ, ◌+◌, ◌≤◌, ◌-◌, ◌==◌, ◌||◌, not, max, nat_lt, Bool, true, false, if◌then◌else◌, List, [], ◌∷◌, ◌++◌, refl, sym, ◌∙◌}
-use Rattle.std.proofs.Common.{append-nil, arith}
-use Rattle.am_base.specs.declared.entry.Entry.{Entry}
-use Rattle.am_base.specs.declared.entry.Entry.TheVariants.{Leave, View}
-use Rattle.am_base.specs.declared.image.Image.{Image}
-use Rattle.am_base.specs.declared.name.Stamp.{Stamp}
-use Rattle.am_base.specs.declared.outcome.Outcome.{Outcome}
+use Rattle.am_headline.proofs.Words.{◌≡◌, ℕ, ◌+◌, ◌≤◌, ◌-◌, ◌==◌, ◌||◌, not, max, nat_lt, Bool, true, false, if◌then◌else◌, List, [], ◌∷◌, ◌++◌, refl, sym}
+use Rattle.am_headline.proofs.Words.{◌∙◌, append-nil, arith, Entry, Leave, View, Image, Stamp, Outcome, has, size, Node, Ballot, top, image_of, those}
+use Rattle.am_headline.proofs.Words.{is_member, is_sequencer, push_entry, unsettled_count, Verdict, decide, ends, restart_reports, trim_for, need_of, left_in}
+use Rattle.am_headline.proofs.Words.{best_of, is_waited_for, decide_view, with_queued, is_unfinished, begin_list, refresh, settle, refresh_at_end, and_both}
+use Rattle.am_headline.proofs.Words.{Cause, hears, Looks, decides, MayBeWelcomed, Change, refreshes, settles, numbers, stores, begins_list, departs, looks}
+use Rattle.am_headline.proofs.Words.{fetches, stores_view, queues, collects, takes, asks_to_join, asks_to_leave, closes}
+use Rattle.am_model.specs.Ballots.{goes_on}
 use Rattle.am_base.specs.declared.outcome.Outcome.TheVariants as said
-use Rattle.am_base.specs.Names.{has, size}
 use Rattle.am_packet.specs.declared.packet.Packet.TheVariants as packet
 use Rattle.am_sender.specs.Sends as own
 use Rattle.am_model.specs.declared.status.Status.TheVariants as status
-use Rattle.am_model.specs.Node.{Node, Ballot, top, image_of, those, is_member, is_sequencer, push_entry, unsettled_count}
-use Rattle.am_model.specs.Ballots.{Verdict, decide, ends, goes_on, restart_reports, trim_for, need_of, left_in, best_of, is_waited_for, decide_view}
-use Rattle.am_model.specs.Calls.{with_queued, is_unfinished}
-use Rattle.am_model.specs.Joining.{begin_list}
-use Rattle.am_model.specs.Refresh.{refresh, settle, refresh_at_end}
-use Rattle.am_base.proofs.Greatest.{and_both}
-use Rattle.am_effects.specs.Causes.{Cause, hears}
-use Rattle.am_effects.specs.Looks.{Looks, decides}
-use Rattle.am_effects.specs.Changes.{MayBeWelcomed, Change, refreshes, settles, numbers, stores, begins_list, departs}
-use Rattle.am_effects.specs.Changes.{looks, fetches, stores_view, queues, collects, takes, asks_to_join, asks_to_leave, closes}
 
 -- nothing of that changes; the list may get more
 pub record Alike (m n : Node) : Type 0 where

@@ -1,33 +1,13 @@
 -- What each change keeps of a name's ballot, and each run of all.
-use Rattle.std.proofs.Common.{◌≡◌, ℕ, ◌==◌, ◌&&◌, ◌||◌, not, true, false, List, [], ◌∷◌, ◌++◌, Option, Some, None, refl, sym, ap, ◌∙◌, subst, arith}
-use Rattle.std.specs.List.{list_any}
-use Rattle.std.proofs.lemmas.Bool.Decides.{nat_tests}
-use Rattle.std.proofs.lemmas.List.Folds.{list_any-append}
-use Rattle.am_base.specs.declared.name.Stamp.{Stamp}
-use Rattle.am_base.specs.declared.outcome.Outcome.{Outcome}
-use Rattle.am_base.specs.declared.event.NodeEvent.{NodeEvent}
+use Rattle.am_promises.proofs.Words.{◌≡◌, ℕ, ◌==◌, ◌&&◌, ◌||◌, not, true, false, List, [], ◌∷◌, ◌++◌, Option, Some, None, refl, sym, ap, ◌∙◌, subst, arith}
+use Rattle.am_promises.proofs.Words.{list_any, nat_tests, list_any-append, Stamp, Outcome, NodeEvent, stamp_lt, Rules, has, Act, Node, Ballot, is_member}
+use Rattle.am_promises.proofs.Words.{has_log, Verdict, overtake, World, start, current, is_stopped, with_record, with_step, split, and_both, Cause, calls}
+use Rattle.am_promises.proofs.Words.{hears, refuses, Looks, finds_itself_out, waits, fetches_from_best, finds_too_few, finds_no_room, decides, HasOpen}
+use Rattle.am_promises.proofs.Words.{Balloting, with_more, without_one, as_it_is, Change, refreshes, settles, begins_list, departs, promises, opens, looks}
+use Rattle.am_promises.proofs.Words.{asks_to_join, closes, actor, IsCall, IsCause, idles, stops, returns, steps, logged, asking_log, asking, rests_refresh}
+use Rattle.am_promises.proofs.Words.{rests_closed, settle_is, along, EachKeeps, runs_keep, AtMost, IsOfBallot, BallotOk, LastOk, BallotsAreOwn}
 use Rattle.am_base.specs.declared.event.NodeEvent.TheVariants as does
-use Rattle.am_base.specs.Stamps.{stamp_lt}
-use Rattle.am_base.specs.Founding.{Rules}
-use Rattle.am_base.specs.Names.{has}
-use Rattle.am_group.specs.declared.event.Act.{Act}
-use Rattle.am_model.specs.Node.{Node, Ballot, is_member, has_log}
-use Rattle.am_model.specs.Ballots.{Verdict, overtake}
-use Rattle.am_play.specs.World.{World, start, current, is_stopped, with_record, with_step}
-use Rattle.am_base.proofs.Greatest.{split, and_both}
-use Rattle.am_effects.specs.Causes.{Cause, calls, hears, refuses}
-use Rattle.am_effects.specs.Looks.{Looks, finds_itself_out, waits, fetches_from_best, finds_too_few, finds_no_room, decides, HasOpen, Balloting, with_more}
-use Rattle.am_effects.specs.Looks.{without_one, as_it_is}
-use Rattle.am_effects.specs.Changes.{Change, refreshes, settles, begins_list, departs, promises}
-use Rattle.am_effects.specs.Changes.{opens, looks, asks_to_join, closes}
 use Rattle.am_effects.specs.Events as event
-use Rattle.am_effects.specs.Events.{actor, IsCall, IsCause, idles, stops, returns, steps}
-use Rattle.am_effects.proofs.Statuses.{logged, asking_log}
-use Rattle.am_effects.proofs.Receiving.{asking}
-use Rattle.am_effects.proofs.Rests.{rests_refresh, rests_closed, settle_is}
-use Rattle.am_effects.proofs.Runs.{along, EachKeeps, runs_keep}
-use Rattle.am_promises.specs.Claim.{AtMost}
-use Rattle.am_promises.specs.Ballots.{IsOfBallot, BallotOk, LastOk, BallotsAreOwn}
 use Rattle.am_promises.proofs.Stamps.{most_same, most_through}
 
 -- ---- a node

@@ -1,28 +1,10 @@
 -- Each run keeps promises.
-use Rattle.std.proofs.Common.{◌≡◌, ⊎_elim, inl, inr, ℕ, ◌==◌, true, refl, sym, ap, ◌∙◌, subst, arith}
-use Rattle.std.specs.Prelude.{All}
-use Rattle.std.proofs.lemmas.Bool.Decides.{nat_tests}
-use Rattle.std.proofs.lemmas.List.Elements.{All-nil, All-append, All-weaker}
-use Rattle.am_base.specs.declared.name.Stamp.{Stamp}
-use Rattle.am_base.specs.Stamps.{no_stamp}
-use Rattle.am_base.specs.Founding.{Rules, MayFound}
-use Rattle.am_base.specs.Names.{has}
-use Rattle.am_packet.specs.Boxes.{Letter}
-use Rattle.am_codec.specs.Spelling.{sender_of, stamp_of}
-use Rattle.am_group.specs.declared.event.Act.{Act}
-use Rattle.am_model.specs.Node.{Node, set_at, founding_stamp}
-use Rattle.am_play.specs.World.{World, start, with_record, with_step, run}
-use Rattle.am_play.specs.Claims.{heard_by}
-use Rattle.am_base.proofs.Greatest.{split}
-use Rattle.am_effects.specs.Causes.{Cause, calls, hears, refuses}
-use Rattle.am_effects.specs.Letters.{LetterSays}
-use Rattle.am_effects.specs.Events.{actor, IsCause, idles, stops, returns, steps}
-use Rattle.am_effects.proofs.Items.{all_get, all_item}
-use Rattle.am_effects.proofs.Runs.{along, EachKeeps, runs_keep}
-use Rattle.am_model.proofs.Founders.{first_founder}
-use Rattle.am_promises.specs.Claim.{AtMost, IsBegun, StampOk, PromisesAreBegun}
-use Rattle.am_promises.proofs.Stamps.{most_same, most_through}
-use Rattle.am_promises.proofs.Changes.{CauseBegun, Promised, promise_change, said_by}
+use Rattle.am_promises.proofs.Words.{◌≡◌, ⊎_elim, inl, inr, ℕ, ◌==◌, true, refl, sym, ap, ◌∙◌, subst, arith, All, nat_tests, All-nil, All-append, All-weaker}
+use Rattle.am_promises.proofs.Words.{Stamp, no_stamp, Rules, MayFound, has, Letter, sender_of, stamp_of, Act, Node, set_at, founding_stamp, World, start}
+use Rattle.am_promises.proofs.Words.{with_record, with_step, run, heard_by, split, Cause, calls, hears, refuses, LetterSays, actor, IsCause, idles, stops}
+use Rattle.am_promises.proofs.Words.{returns, steps, all_get, all_item, along, EachKeeps, runs_keep, first_founder, AtMost, IsBegun, StampOk}
+use Rattle.am_promises.proofs.Words.{PromisesAreBegun}
+use Rattle.am_promises.proofs.{Stamps.most_same, Stamps.most_through, Changes.CauseBegun, Changes.Promised, Changes.promise_change, Changes.said_by}
 
 pub record AllBegun (w : World) : Type 0 where
   pub who : (i : ℕ) → (w.nodes i).core.who ≡ i

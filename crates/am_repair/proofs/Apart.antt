@@ -1,18 +1,10 @@
 -- What the changes of anybody else keep while a schedule runs.
-use Rattle.std.proofs.Common.{◌≡◌, ◌==◌, true, false, refl, sym, ap, ◌∙◌, subst}
-use Rattle.am_base.specs.declared.name.Stamp.{Stamp}
-use Rattle.am_base.specs.declared.outcome.Outcome.{Outcome}
-use Rattle.am_model.specs.Node.{Node, Ballot, view, is_member, is_sequencer, has_departed}
-use Rattle.am_model.specs.Ballots.{overtake}
-use Rattle.am_play.specs.World.{World}
-use Rattle.am_effects.specs.Causes.{Cause}
-use Rattle.am_effects.specs.Looks.{HasOpen}
-use Rattle.am_effects.specs.Changes.{Promises, invited, overtaken as overtaken_by, told_result, Change, refreshes, settles, takes_report, admits, numbers}
-use Rattle.am_effects.specs.Changes.{keeps_body, notes, stores, begins_list, departs, promises, opens, looks, fetches, stores_view, queues, collects, takes}
-use Rattle.am_effects.specs.Changes.{asks_to_join, asks_to_leave, closes}
-use Rattle.am_repair.specs.Calm.{Repair, IsApart}
-use Rattle.am_repair.proofs.Nodes.{CalmCause, acting, leading, leads_not, Alike, alike_refresh, alike_settle}
-use Rattle.am_repair.proofs.Leading.{no_ballot_begun, looked_open}
+use Rattle.am_repair.proofs.Words.{◌≡◌, ◌==◌, true, false, refl, sym, ap, ◌∙◌, subst, Stamp, Outcome, Node, Ballot, view, is_member, is_sequencer}
+use Rattle.am_repair.proofs.Words.{has_departed, overtake, World, Cause, HasOpen, Promises, invited, overtaken_by, told_result, Change, refreshes, settles}
+use Rattle.am_repair.proofs.Words.{takes_report, admits, numbers, keeps_body, notes, stores, begins_list, departs, promises, opens, looks, fetches}
+use Rattle.am_repair.proofs.Words.{stores_view, queues, collects, takes, asks_to_join, asks_to_leave, closes, Repair, IsApart}
+use Rattle.am_repair.proofs.{Nodes.CalmCause, Nodes.acting, Nodes.leading, Nodes.leads_not, Nodes.Alike, Nodes.alike_refresh, Nodes.alike_settle}
+use Rattle.am_repair.proofs.{Leading.no_ballot_begun, Leading.looked_open}
 
 -- somebody else that is there
 pub record StaysApart (r : Repair) (m x : Node) : Type 0 where

@@ -1,26 +1,11 @@
 -- Where a group may be repaired and its lists agree, the world is calm; so the schedule repairs it.
-use Rattle.std.proofs.Common.{inl, inr, ◌≡◌, ℕ, ◌<◌, Bool, true, false, length, refl, ap, ◌∙◌, subst, arith}
-use Rattle.std.proofs.lemmas.Bool.{cases_lt}
-use Rattle.am_base.specs.declared.image.Image.{Image}
-use Rattle.am_base.specs.Founding.{Rules}
-use Rattle.am_base.specs.Names.{place_of, life_of, has}
-use Rattle.am_base.specs.Lists.{members_of, members_at}
-use Rattle.am_core.proofs.Ends.{image-top}
-use Rattle.am_model.specs.declared.status.Status.{Status}
+use Rattle.am_repair.proofs.Words.{inl, inr, ◌≡◌, ℕ, ◌<◌, Bool, true, false, length, refl, ap, ◌∙◌, subst, arith, cases_lt, Image, Rules, place_of, life_of}
+use Rattle.am_repair.proofs.Words.{has, members_of, members_at, image-top, Status, Node, top, image_of, view, members, acts, is_member, stranger, has_log}
+use Rattle.am_repair.proofs.Words.{has_departed, World, current, is_stopped, run, MayRepair, AllOwned, run_owned, IsAtRest, Repair, Leads, Follows, IsApart}
+use Rattle.am_repair.proofs.Words.{Calm, Agree, RepairsWhereListsAgree}
 use Rattle.am_model.specs.declared.status.Status.TheVariants as status
-use Rattle.am_model.specs.Node.{Node, top, image_of, view, members, acts, is_member, stranger, has_log, has_departed}
-use Rattle.am_play.specs.World.{World, current, is_stopped, run}
-use Rattle.am_play.specs.Claims.{MayRepair}
-use Rattle.am_laws.proofs.TakenRuns.{AllOwned, run_owned}
-use Rattle.am_repair.specs.Rows.{IsAtRest}
-use Rattle.am_repair.specs.Calm.{Repair, Leads, Follows, IsApart, Calm}
-use Rattle.am_repair.specs.Standing.{Agree, RepairsWhereListsAgree}
-use Rattle.am_repair.proofs.Nodes.{acting, leading, no_open}
-use Rattle.am_repair.proofs.Going.{member_there}
-use Rattle.am_repair.proofs.Schedules.{letter_within}
-use Rattle.am_repair.proofs.Fine.{Fine, IsThere}
-use Rattle.am_repair.proofs.Repaired.{AllStored, all_catch_up}
-use Rattle.am_repair.proofs.OldLives.{OldStopped, old_lives}
+use Rattle.am_repair.proofs.{Nodes.acting, Nodes.leading, Nodes.no_open, Going.member_there, Schedules.letter_within, Fine.Fine, Fine.IsThere}
+use Rattle.am_repair.proofs.{Repaired.AllStored, Repaired.all_catch_up, OldLives.OldStopped, OldLives.old_lives}
 
 -- ---- who is there
 

@@ -1,29 +1,11 @@
 -- The end of a step, for who follows and for who leads.
-use Rattle.std.proofs.Common.{◌≡◌, inl, inr, ⊎_elim, ℕ, ◌<◌, ◌≤◌, ◌==◌, not, max, min, nat_le, true, false, List, [], ◌∷◌, refl, sym, ap, ◌∙◌, subst, arith}
-use Rattle.std.proofs.lemmas.Bool.{cases_lt}
-use Rattle.std.proofs.lemmas.Bool.Decides.{nat_tests}
-use Rattle.std.proofs.lemmas.List.Elements.{All-weaker}
-use Rattle.am_base.specs.declared.name.Stamp.{Stamp}
-use Rattle.am_base.specs.declared.image.Report.{Report}
-use Rattle.am_base.specs.declared.outcome.Outcome.{Outcome}
-use Rattle.am_base.specs.Names.{size, names_of}
-use Rattle.am_base.specs.Fronts.{counted_at, is_held, accept_front}
-use Rattle.am_packet.specs.declared.packet.Packet.{Packet}
-use Rattle.am_packet.specs.Boxes.{letter_to}
-use Rattle.am_core.specs.Cores.{CoreState, accept, pass_over}
+use Rattle.am_repair.proofs.Words.{◌≡◌, inl, inr, ⊎_elim, ℕ, ◌<◌, ◌≤◌, ◌==◌, not, max, min, nat_le, true, false, List, [], ◌∷◌, refl, sym, ap, ◌∙◌, subst}
+use Rattle.am_repair.proofs.Words.{arith, cases_lt, nat_tests, All-weaker, Stamp, Report, Outcome, size, names_of, counted_at, is_held, accept_front, Packet}
+use Rattle.am_repair.proofs.Words.{letter_to, CoreState, accept, pass_over, own_report, tell, go_on, let_go, Node, top, image_of, view, acts, is_member}
+use Rattle.am_repair.proofs.Words.{is_sequencer, report_of, lead, refresh, refresh_at_end, telling, finish, hears_member, hears_in_view, hears_sequencer}
+use Rattle.am_repair.proofs.Words.{AllSatisfied, split, and_both, accept_front_is, above_view, below_view, not_true, settle_is, rests_at_end, leads_rests}
+use Rattle.am_repair.proofs.Words.{same_stamp, HasReported, HasReports, FrontsRise}
 use Rattle.am_fronts.specs.Reports as reports
-use Rattle.am_fronts.specs.Refresh.{own_report, tell, go_on, let_go}
-use Rattle.am_model.specs.Node.{Node, top, image_of, view, acts, is_member, is_sequencer, report_of}
-use Rattle.am_model.specs.Refresh.{lead, refresh, refresh_at_end}
-use Rattle.am_model.specs.Emit.{telling, finish}
-use Rattle.am_model.specs.Hearing.{hears_member, hears_in_view, hears_sequencer}
-use Rattle.am_meaning.specs.Laws.{AllSatisfied}
-use Rattle.am_base.proofs.Greatest.{split, and_both}
-use Rattle.am_meaning.proofs.AcceptFronts.{accept_front_is, above_view, below_view}
-use Rattle.am_effects.proofs.Tests.{not_true}
-use Rattle.am_effects.proofs.Rests.{settle_is, rests_at_end, leads_rests}
-use Rattle.am_laws.proofs.Stamps.{same_stamp}
-use Rattle.am_repair.specs.Rows.{HasReported, HasReports, FrontsRise}
 use Rattle.am_repair.proofs.Sets.{count_named}
 
 -- ---- who follows

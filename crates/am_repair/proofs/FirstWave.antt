@@ -1,49 +1,16 @@
 -- What the first wave of a round brings about: a member asks for what is missing, the sequencer keeps reports, and a member accepts.
-use Rattle.am_laws.proofs.Views.{same_is_equal}
-use Rattle.std.proofs.Common.{◌≡◌, ℕ, zero, suc, ◌<◌, ◌≤◌, ◌==◌, ◌&&◌, not, nat_le, Bool, true, false, List, length, Some, refl, sym, ap, ◌∙◌, subst, arith}
-use Rattle.std.specs.Prelude.{Contains}
-use Rattle.std.proofs.lemmas.Bool.Decides.{nat_tests}
-use Rattle.am_base.specs.declared.name.Stamp.{Stamp}
-use Rattle.am_base.specs.declared.image.Report.{Report}
-use Rattle.am_base.specs.Founding.{Rules}
-use Rattle.am_base.specs.Names.{place_of, life_of, has}
-use Rattle.am_base.specs.Stamps.{stamp_eq}
-use Rattle.am_base.specs.Lists.{at_place}
-use Rattle.am_packet.specs.declared.packet.Packet.{Packet}
-use Rattle.am_packet.specs.declared.packet.Packet.TheVariants.{Accept, Nack}
-use Rattle.am_packet.specs.Boxes.{Letter, letter_to}
+use Rattle.am_repair.proofs.Words.{same_is_equal, ◌≡◌, ℕ, zero, suc, ◌<◌, ◌≤◌, ◌==◌, ◌&&◌, not, nat_le, Bool, true, false, List, length, Some, refl, sym, ap}
+use Rattle.am_repair.proofs.Words.{◌∙◌, subst, arith, Contains, nat_tests, Stamp, Report, Rules, place_of, life_of, has, stamp_eq, at_place, Packet, Accept}
+use Rattle.am_repair.proofs.Words.{Nack, Letter, letter_to, Event, is_for, letter_at, Node, top, image_of, view, members, only_name, report_of, report_fits}
+use Rattle.am_repair.proofs.Words.{nack_of, hear, event_at, hearings, is_unknown, hears_sequencer, hears_as_sequencer, World, is_stopped, happens, happen}
+use Rattle.am_repair.proofs.Words.{IsUsed, Cause, calls, hears, refuses, IsCause, told_used, is_in, IsReport, ack, nack, request, spread, Asks, HearsFront}
+use Rattle.am_repair.proofs.Words.{Repair, Leads, Follows, ReportIs, IsCalm, Calm, IsSent, Polled, Reported, Asked, hears_}
 use Rattle.am_group.specs.declared.event.Act.TheVariants as act
-use Rattle.am_group.specs.declared.event.Event.{Event}
-use Rattle.am_group.specs.Addressed.{is_for}
-use Rattle.am_group.specs.Journals.{letter_at}
-use Rattle.am_model.specs.Node.{Node, top, image_of, view, members, only_name, report_of, report_fits}
-use Rattle.am_model.specs.Emit.{nack_of}
-use Rattle.am_model.specs.Step.{hear}
-use Rattle.am_play.specs.Settle.{event_at, hearings}
-use Rattle.am_model.specs.Sequencing.{is_unknown}
-use Rattle.am_model.specs.Hearing.{hears_sequencer, hears_as_sequencer}
-use Rattle.am_play.specs.World.{World, is_stopped, happens, happen}
-use Rattle.am_core.proofs.Lives.{IsUsed}
-use Rattle.am_effects.specs.Causes.{Cause, calls, hears, refuses}
-use Rattle.am_effects.specs.Events.{IsCause}
-use Rattle.am_laws.proofs.Trims.{told_used}
-use Rattle.am_laws.proofs.LeaderRows.{is_in}
-use Rattle.am_repair.specs.Rows.{IsReport, ack, nack, request, spread, Asks, HearsFront}
-use Rattle.am_repair.specs.Calm.{Repair, Leads, Follows, ReportIs, IsCalm, Calm}
-use Rattle.am_repair.specs.Waves.{IsSent, Polled, Reported, Asked}
-use Rattle.am_repair.proofs.Sets.{only_has}
-use Rattle.am_repair.proofs.Nodes.{acting, leading}
-use Rattle.am_repair.proofs.Leading.{is_member_now}
-use Rattle.am_repair.proofs.Following.{Skips}
-use Rattle.am_repair.proofs.Members.{fronts_are_heard, gaps_are_asked}
-use Rattle.am_repair.proofs.Sequencers.{reports_are_taken}
-use Rattle.am_repair.proofs.Steps.{ours_skip}
-use Rattle.am_repair.specs.Rounds.{hears as hears_}
-use Rattle.am_repair.proofs.Memberships.{get_some, stays_in}
-use Rattle.am_repair.proofs.Schedules.{IsHeard, WaveHits, wave_hits}
-use Rattle.am_repair.proofs.Skipping.{AllSkip, Waits}
-use Rattle.am_repair.proofs.Fine.{Fine, fine_goes, few_members, grow_goes, letter_goes, letters_more, member_there, hear_is}
-use Rattle.am_repair.proofs.Ticking.{sent_goes, step_sends, node_is}
+use Rattle.am_repair.proofs.{Sets.only_has, Nodes.acting, Nodes.leading, Leading.is_member_now, Following.Skips, Members.fronts_are_heard}
+use Rattle.am_repair.proofs.{Members.gaps_are_asked, Sequencers.reports_are_taken, Steps.ours_skip, Memberships.get_some, Memberships.stays_in}
+use Rattle.am_repair.proofs.{Schedules.IsHeard, Schedules.WaveHits, Schedules.wave_hits, Skipping.AllSkip, Skipping.Waits, Fine.Fine, Fine.fine_goes}
+use Rattle.am_repair.proofs.{Fine.few_members, Fine.grow_goes, Fine.letter_goes, Fine.letters_more, Fine.member_there, Fine.hear_is, Ticking.sent_goes}
+use Rattle.am_repair.proofs.{Ticking.step_sends, Ticking.node_is}
 
 pub both_true : (a b : Bool) → a ≡ true → b ≡ true → (a && b) ≡ true
 both_true a b x y = rw (x, y) refl

@@ -1,29 +1,14 @@
 -- What a member's changes keep while a schedule runs.
-use Rattle.std.proofs.Common.{◌≡◌, ℕ, ◌+◌, ◌≤◌, ◌==◌, true, false, Option, Some, None, refl, sym, ap, ◌∙◌, subst, arith, length-append, ◌≢◌}
-use Rattle.am_base.specs.declared.name.Stamp.{Stamp}
-use Rattle.am_base.specs.declared.image.Image.{Image}
-use Rattle.am_base.specs.declared.entry.Entry.{Entry}
-use Rattle.am_base.specs.declared.entry.Entry.TheVariants.{Data}
-use Rattle.am_base.specs.declared.outcome.Outcome.{Outcome}
-use Rattle.am_base.specs.Lists.{Log, top_of, told_by, entry_at, image_at, after}
-use Rattle.am_core.proofs.Ends.{image-next}
-use Rattle.am_model.specs.Node.{Node, Ballot, top, image_of, is_sequencer, push_entry}
-use Rattle.am_model.specs.Calls.{is_unfinished}
-use Rattle.am_model.specs.Ballots.{overtake, with_promise}
-use Rattle.am_model.specs.Receiving.{is_view, bodies_after}
-use Rattle.am_play.specs.World.{World}
+use Rattle.am_repair.proofs.Words.{◌≡◌, ℕ, ◌+◌, ◌≤◌, ◌==◌, true, false, Option, Some, None, refl, sym, ap, ◌∙◌, subst, arith, length-append, ◌≢◌, Stamp}
+use Rattle.am_repair.proofs.Words.{Image, Entry, Data, Outcome, Log, top_of, told_by, entry_at, image_at, after, image-next, Node, Ballot, top, image_of}
+use Rattle.am_repair.proofs.Words.{is_sequencer, push_entry, is_unfinished, overtake, with_promise, is_view, bodies_after, World, Cause, hears, Promises}
+use Rattle.am_repair.proofs.Words.{invited, overtaken_by, told_result, Carries, whole_entry, by_number, Change, refreshes, settles, takes_report, admits}
+use Rattle.am_repair.proofs.Words.{numbers, keeps_body, notes, stores, begins_list, departs, promises, opens, looks, fetches, stores_view, queues, collects}
+use Rattle.am_repair.proofs.Words.{takes, asks_to_join, asks_to_leave, closes, not_false, told_pushed, view_pushed, acts_pushed, same_stamp, Repair, Follows}
+use Rattle.am_repair.proofs.Words.{Stands}
 use Rattle.am_packet.specs.declared.packet.Packet.TheVariants as packet
-use Rattle.am_effects.specs.Causes.{Cause, hears}
-use Rattle.am_effects.specs.Changes.{Promises, invited, overtaken as overtaken_by, told_result, Carries, whole_entry, by_number, Change, refreshes, settles}
-use Rattle.am_effects.specs.Changes.{takes_report, admits, numbers, keeps_body, notes, stores, begins_list, departs, promises, opens, looks, fetches}
-use Rattle.am_effects.specs.Changes.{stores_view, queues, collects, takes, asks_to_join, asks_to_leave, closes}
-use Rattle.am_effects.proofs.Tests.{not_false}
-use Rattle.am_effects.proofs.Says.{told_pushed, view_pushed, acts_pushed}
-use Rattle.am_laws.proofs.Stamps.{same_stamp}
-use Rattle.am_repair.specs.Calm.{Repair, Follows, Stands}
-use Rattle.am_repair.proofs.Lists.{entry_within, same_after}
 use Rattle.am_repair.proofs.Nodes.{CalmCause, acting, leads_not, not_open, Alike, alike_here, alike_refresh, alike_settle, view_alike, acts_alike, rest_alike}
-use Rattle.am_repair.proofs.Leading.{no_ballot_begun, looked_open, not_behind}
+use Rattle.am_repair.proofs.{Lists.entry_within, Lists.same_after, Leading.no_ballot_begun, Leading.looked_open, Leading.not_behind}
 
 -- an entry that isn't the next above a number
 abbrev pub Skips : ℕ → Cause → Type 0

@@ -1,37 +1,16 @@
 -- A calm world stays calm while a schedule runs.
-use Rattle.std.proofs.Common.{◌≡◌, ◌⊎◌, inl, inr, ℕ, ◌<◌, ◌==◌, not, Bool, true, false, if◌then◌else◌, Option, Some, None, refl, sym, ap, ◌∙◌}
-use Rattle.am_base.specs.declared.outcome.Outcome.{Outcome}
+use Rattle.am_repair.proofs.Words.{◌≡◌, ◌⊎◌, inl, inr, ℕ, ◌<◌, ◌==◌, not, Bool, true, false, if◌then◌else◌, Option, Some, None, refl, sym, ap, ◌∙◌, Outcome}
+use Rattle.am_repair.proofs.Words.{Rules, Letter, Event, is_for, letter_at, Status, Node, is_member, has_departed, Step, step, hear, event_at, World}
+use Rattle.am_repair.proofs.Words.{is_stopped, with_record, with_step, happens, hears_letter, Cause, calls, hears, Changes, no_change, changed, Effect, actor}
+use Rattle.am_repair.proofs.Words.{IsCause, tick, not_false, steps_have_effects, hearing_has_effects, HeardNames, HeardUsed, Along, along_changes, IsOurs}
+use Rattle.am_repair.proofs.Words.{hears_, Repair, Calm}
+use Rattle.am_repair.specs.Rounds.{ticks}
 use Rattle.am_base.specs.declared.outcome.Outcome.TheVariants as said
 use Rattle.am_base.specs.declared.event.NodeEvent.TheVariants as does
-use Rattle.am_base.specs.Founding.{Rules}
-use Rattle.am_packet.specs.Boxes.{Letter}
 use Rattle.am_group.specs.declared.event.Act.TheVariants as act
-use Rattle.am_group.specs.declared.event.Event.{Event}
-use Rattle.am_group.specs.Addressed.{is_for}
-use Rattle.am_group.specs.Journals.{letter_at}
-use Rattle.am_model.specs.declared.status.Status.{Status}
 use Rattle.am_model.specs.declared.status.Status.TheVariants as status
-use Rattle.am_model.specs.Node.{Node, is_member, has_departed}
-use Rattle.am_model.specs.Emit.{Step}
-use Rattle.am_model.specs.Step.{step, hear}
-use Rattle.am_play.specs.Settle.{event_at}
-use Rattle.am_play.specs.World.{World, is_stopped, with_record, with_step, happens, hears_letter}
-use Rattle.am_effects.specs.Causes.{Cause, calls, hears}
-use Rattle.am_effects.specs.Changes.{Changes, unchanged as no_change, changed}
-use Rattle.am_effects.specs.Effects.{Effect}
-use Rattle.am_effects.specs.Events.{actor, IsCause, tick}
-use Rattle.am_effects.proofs.Tests.{not_false}
-use Rattle.am_effects.proofs.Hearing.{steps_have_effects, hearing_has_effects}
-use Rattle.am_laws.proofs.ViewNames.{HeardNames}
-use Rattle.am_laws.proofs.Taken.{HeardUsed}
-use Rattle.am_laws.proofs.TakenRuns.{Along, along_changes}
-use Rattle.am_repair.specs.Rounds.{IsOurs, ticks, hears as hears_}
-use Rattle.am_repair.specs.Calm.{Repair, Calm}
-use Rattle.am_repair.proofs.Nodes.{CalmCause}
-use Rattle.am_repair.proofs.Leading.{Goes, lead_change, TellsTaken}
-use Rattle.am_repair.proofs.Following.{FollowsOn, follow_change}
-use Rattle.am_repair.proofs.Apart.{StaysApart, apart_change}
-use Rattle.am_repair.proofs.Departed.{IsStill, departed_ticks, departed_hears}
+use Rattle.am_repair.proofs.{Nodes.CalmCause, Leading.Goes, Leading.lead_change, Leading.TellsTaken, Following.FollowsOn, Following.follow_change}
+use Rattle.am_repair.proofs.{Apart.StaysApart, Apart.apart_change, Departed.IsStill, Departed.departed_ticks, Departed.departed_hears}
 
 -- ---- the events of a schedule
 

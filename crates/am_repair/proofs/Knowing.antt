@@ -1,45 +1,17 @@
 -- A sequencer trims no more than it knows each member of its list to have taken: each change keeps it.
-use Rattle.std.proofs.Common.{◌≡◌, ◌≢◌, ⊎_elim, ℕ, ◌+◌, ◌<◌, ◌≤◌, ◌==◌, ◌||◌, not, nat_lt, true, false, List, length, refl, sym, ap, ◌∙◌, subst, arith}
-use Rattle.std.proofs.lemmas.Bool.Decides.{nat_tests}
-use Rattle.am_base.specs.declared.name.Stamp.{Stamp}
-use Rattle.am_base.specs.declared.image.Image.{Image}
-use Rattle.am_base.specs.declared.image.Report.{Report}
-use Rattle.am_base.specs.declared.image.Row.{Row}
-use Rattle.am_base.specs.declared.entry.Entry.{Entry}
-use Rattle.am_base.specs.declared.entry.Entry.TheVariants.{Data, Join, Leave, View}
-use Rattle.am_base.specs.declared.outcome.Outcome.{Outcome}
-use Rattle.am_base.specs.Names.{place_of, life_of, has}
-use Rattle.am_base.specs.Stamps.{stamp_lt, stamp_eq}
-use Rattle.am_base.specs.Lists.{at_place, members_of, with_row, after}
+use Rattle.am_repair.proofs.Words.{◌≡◌, ◌≢◌, ⊎_elim, ℕ, ◌+◌, ◌<◌, ◌≤◌, ◌==◌, ◌||◌, not, nat_lt, true, false, List, length, refl, sym, ap, ◌∙◌, subst, arith}
+use Rattle.am_repair.proofs.Words.{nat_tests, Stamp, Image, Report, Row, Entry, Data, Join, Leave, View, Outcome, place_of, life_of, has, stamp_lt, stamp_eq}
+use Rattle.am_repair.proofs.Words.{at_place, members_of, with_row, after, row_at, In, row_set, long_after, accept, pass_over, own_report, tell, go_on, let_go}
+use Rattle.am_repair.proofs.Words.{Node, Ballot, top, image_of, view, members, is_member, is_asking, is_sequencer, push_entry, trim_up_to, with_report, lead}
+use Rattle.am_repair.proofs.Words.{refresh, settle, refresh_at_end, Verdict, with_promise, next_stamp, with_admitted, hears_member, hears_asking, is_view}
+use Rattle.am_repair.proofs.Words.{split, and_both, Cause, hears, HasOpen, Looks, decides, Promises, invited, overtaken, told_result, Numbers, asked_send}
+use Rattle.am_repair.proofs.Words.{own_send, asked_join, asked_leave, Fetches, without_ballot, for_ballot, Change, refreshes, settles, takes_report, admits}
+use Rattle.am_repair.proofs.Words.{numbers, notes, stores, begins_list, departs, promises, opens, looks, fetches, stores_view, asks_to_join, closes, not_true}
+use Rattle.am_repair.proofs.Words.{settle_is, told_pushed, view_pushed, leads_pushed, is_in, in_is, same_stamp, not_above_itself, at_most_below}
+use Rattle.am_repair.proofs.Words.{same_is_equal, view_last, Balloted, next_above, Fronts, told_used, TrimsKnown}
 use Rattle.am_packet.specs.declared.packet.Packet.TheVariants as packet
-use Rattle.am_chain_lists.proofs.Rows.{row_at, In, row_set, long_after}
-use Rattle.am_core.specs.Cores.{accept, pass_over}
-use Rattle.am_fronts.specs.Refresh.{own_report, tell, go_on, let_go}
-use Rattle.am_model.specs.Node.{Node, Ballot, top, image_of, view, members, is_member, is_asking, is_sequencer, push_entry, trim_up_to, with_report}
-use Rattle.am_model.specs.Refresh.{lead, refresh, settle, refresh_at_end}
-use Rattle.am_model.specs.Ballots.{Verdict, with_promise, next_stamp}
-use Rattle.am_model.specs.Joining.{with_admitted}
-use Rattle.am_model.specs.Hearing.{hears_member, hears_asking}
-use Rattle.am_model.specs.Receiving.{is_view}
-use Rattle.am_base.proofs.Greatest.{split, and_both}
-use Rattle.am_effects.specs.Causes.{Cause, hears}
-use Rattle.am_effects.specs.Looks.{HasOpen, Looks, decides}
-use Rattle.am_effects.specs.Changes.{Promises, invited, overtaken, told_result, Numbers, asked_send, own_send, asked_join, asked_leave, Fetches, without_ballot}
-use Rattle.am_effects.specs.Changes.{for_ballot, Change, refreshes, settles, takes_report, admits, numbers, notes, stores, begins_list, departs}
-use Rattle.am_effects.specs.Changes.{promises, opens, looks, fetches, stores_view, asks_to_join, closes}
-use Rattle.am_effects.proofs.Tests.{not_true}
-use Rattle.am_effects.proofs.Rests.{settle_is}
-use Rattle.am_effects.proofs.Says.{told_pushed, view_pushed, leads_pushed}
-use Rattle.am_laws.proofs.LeaderRows.{is_in, in_is}
-use Rattle.am_laws.proofs.Stamps.{same_stamp, not_above_itself, at_most_below}
-use Rattle.am_laws.proofs.Views.{same_is_equal}
-use Rattle.am_laws.proofs.ViewSteps.{view_last}
-use Rattle.am_laws.proofs.ViewChanges.{Balloted, next_above}
-use Rattle.am_laws.proofs.Trims.{Fronts, told_used}
-use Rattle.am_repair.specs.Known.{TrimsKnown}
-use Rattle.am_repair.proofs.Ends.{follows, raise_up, lead_reports}
-use Rattle.am_repair.proofs.Nodes.{acting, leading, no_open, not_open, alike_refresh, leads_alike}
-use Rattle.am_repair.proofs.Leading.{least_low, base_low, looked_open}
+use Rattle.am_repair.proofs.{Ends.follows, Ends.raise_up, Ends.lead_reports, Nodes.acting, Nodes.leading, Nodes.no_open, Nodes.not_open, Nodes.alike_refresh}
+use Rattle.am_repair.proofs.{Nodes.leads_alike, Leading.least_low, Leading.base_low, Leading.looked_open}
 
 -- ---- who is a member after an entry was one before, but for a joiner
 

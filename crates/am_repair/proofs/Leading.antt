@@ -1,45 +1,18 @@
 -- What the sequencer's changes keep while a schedule runs.
-use Rattle.am_laws.proofs.Views.{same_is_equal}
-use Rattle.std.proofs.Common.{inl, inr, ◌-◌, ◌≡◌, ℕ, ◌+◌, ◌≤◌, ◌==◌, true, false, Option, Some, None, refl, sym, ap, ◌∙◌, subst, arith, length-append, length}
-use Rattle.std.specs.Prelude.{All}
-use Rattle.std.proofs.lemmas.Bool.{cases_lt}
-use Rattle.am_base.specs.declared.entry.Entry.TheVariants.{Join}
-use Rattle.std.proofs.lemmas.Bool.Decides.{nat_tests}
-use Rattle.am_base.specs.declared.name.Stamp.{Stamp}
-use Rattle.am_base.specs.declared.image.Image.{Image}
-use Rattle.am_base.specs.declared.image.Report.{Report}
-use Rattle.am_base.specs.declared.entry.Entry.{Entry}
-use Rattle.am_base.specs.declared.outcome.Outcome.{Outcome}
-use Rattle.am_base.specs.Names.{has, names_of}
-use Rattle.am_base.specs.Stamps.{stamp_eq}
-use Rattle.am_base.specs.Lists.{Log, top_of, told_by, members_of, members_at, entry_at, fits, image_at}
-use Rattle.am_base.specs.Fronts.{counted_at}
-use Rattle.am_core.specs.Cores.{CoreState, accept, pass_over, since_accepted}
-use Rattle.am_core.proofs.Ends.{image-top}
-use Rattle.am_core.proofs.Lives.{IsUsed, used_fold, member_row}
-use Rattle.am_fronts.specs.Reports.{least_taken}
-use Rattle.am_fronts.specs.Refresh.{base_after, own_report, tell, go_on, let_go}
-use Rattle.am_model.specs.Node.{Node, Ballot, top, image_of, view, members, acts, is_member, push_entry, with_report}
-use Rattle.am_model.specs.Refresh.{lead, refresh, settle}
-use Rattle.am_model.specs.Joining.{with_admitted}
-use Rattle.am_play.specs.World.{World}
-use Rattle.am_base.proofs.Greatest.{split, and_both}
-use Rattle.am_effects.specs.Causes.{Cause, BringsReport, with_send, by_request, by_spread, by_ack, by_nack, by_leave_ask}
-use Rattle.am_effects.specs.Looks.{HasOpen, BeginsBy, by_reset, by_hand_over, Balloting, with_more, without_one, as_it_is}
-use Rattle.am_effects.specs.Changes.{Promises, invited, overtaken, told_result, Numbers, asked_send, own_send, asked_join, asked_leave, Change, refreshes}
-use Rattle.am_effects.specs.Changes.{settles, takes_report, admits, numbers, keeps_body, notes, stores, begins_list, departs, promises, opens, looks, fetches}
-use Rattle.am_effects.specs.Changes.{stores_view, queues, collects, takes, asks_to_join, asks_to_leave, closes}
-use Rattle.am_effects.proofs.Rests.{settle_is}
-use Rattle.am_effects.proofs.Says.{told_pushed, view_pushed, leads_pushed}
-use Rattle.am_laws.proofs.Stamps.{same_stamp}
-use Rattle.am_core.proofs.Lives.{JoinsFit}
-use Rattle.am_laws.proofs.LeaderRows.{least_within, is_in}
-use Rattle.am_laws.proofs.Trims.{Fronts, told_used}
-use Rattle.am_laws.proofs.ViewSteps.{after_same}
-use Rattle.am_repair.specs.Calm.{Repair, Leads, ReportIs}
-use Rattle.am_repair.proofs.Ends.{follows, refreshed_stay, raise_up}
+use Rattle.am_repair.proofs.Words.{same_is_equal, inl, inr, ◌-◌, ◌≡◌, ℕ, ◌+◌, ◌≤◌, ◌==◌, true, false, Option, Some, None, refl, sym, ap, ◌∙◌, subst, arith}
+use Rattle.am_repair.proofs.Words.{length-append, length, All, cases_lt, Join, nat_tests, Stamp, Image, Report, Entry, Outcome, has, names_of, stamp_eq, Log}
+use Rattle.am_repair.proofs.Words.{top_of, told_by, members_of, members_at, entry_at, fits, image_at, counted_at, CoreState, accept, pass_over}
+use Rattle.am_repair.proofs.Words.{since_accepted, image-top, IsUsed, used_fold, member_row, least_taken, base_after, own_report, tell, go_on, let_go, Node}
+use Rattle.am_repair.proofs.Words.{Ballot, top, image_of, view, members, acts, is_member, push_entry, with_report, lead, refresh, settle, with_admitted}
+use Rattle.am_repair.proofs.Words.{World, split, and_both, Cause, BringsReport, with_send, by_request, by_spread, by_ack, by_nack, by_leave_ask, HasOpen}
+use Rattle.am_repair.proofs.Words.{BeginsBy, by_reset, by_hand_over, Balloting, with_more, without_one, as_it_is, Promises, invited, overtaken, told_result}
+use Rattle.am_repair.proofs.Words.{Numbers, asked_send, own_send, asked_join, asked_leave, Change, refreshes, settles, takes_report, admits, numbers}
+use Rattle.am_repair.proofs.Words.{keeps_body, notes, stores, begins_list, departs, promises, opens, looks, fetches, stores_view, queues, collects, takes}
+use Rattle.am_repair.proofs.Words.{asks_to_join, asks_to_leave, closes, settle_is, told_pushed, view_pushed, leads_pushed, same_stamp, JoinsFit, least_within}
+use Rattle.am_repair.proofs.Words.{is_in, Fronts, told_used, after_same, Repair, Leads, ReportIs}
 use Rattle.am_repair.proofs.Lists.{LogGrows, grows_then, grows_push, counted_stays, IsJoinOrData, is_data, is_join, plain, member_after}
 use Rattle.am_repair.proofs.Nodes.{CalmCause, acting, leading, not_open, Alike, alike_here, alike_refresh, alike_settle, view_alike, leads_alike, rest_alike}
+use Rattle.am_repair.proofs.Ends.{follows, refreshed_stay, raise_up}
 
 -- ---- what is kept
 

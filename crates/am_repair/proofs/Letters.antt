@@ -1,21 +1,9 @@
 -- Letters among those of a step.
-use Rattle.std.proofs.Common.{◌≡◌, ℕ, ◌+◌, ◌==◌, true, false, nat_le, List, [], ◌∷◌, ◌++◌, length, take, drop, refl, sym, ap, ◌∙◌, subst, append_assoc}
-use Rattle.std.proofs.Common.{append-nil, ⊎_elim, arith}
-use Rattle.std.specs.Prelude.{All, Contains}
-use Rattle.std.specs.List.{prefix_len}
-use Rattle.std.proofs.lemmas.List.{take-append-drop, take_all, drop_all}
-use Rattle.std.proofs.lemmas.List.Elements.{All-nil, All-cons, All-head, All-tail, All-push, All-weaker, Contains-append_left, Contains-append_right}
-use Rattle.std.proofs.lemmas.List.Elements.{Contains-append_cases}
-use Rattle.am_base.specs.declared.entry.Entry.{Entry}
-use Rattle.am_base.specs.Names.{size}
-use Rattle.am_packet.specs.declared.packet.Packet.{Packet}
-use Rattle.am_packet.specs.Boxes.{Letter, letter_to, place_for, with_letter}
-use Rattle.am_packet.specs.Kinds.{kind_of}
-use Rattle.am_model.specs.Node.{Node, others}
-use Rattle.am_model.specs.Emit.{Plan, bcast_of, accept_of, put_all, tells_accepted, with_accept}
-use Rattle.std.proofs.lemmas.Bool.Decides.{nat_tests}
-use Rattle.am_base.proofs.Greatest.{split}
-use Rattle.am_repair.specs.Rows.{bcasts}
+use Rattle.am_repair.proofs.Words.{◌≡◌, ℕ, ◌+◌, ◌==◌, true, false, nat_le, List, [], ◌∷◌, ◌++◌, length, take, drop, refl, sym, ap, ◌∙◌, subst, append_assoc}
+use Rattle.am_repair.proofs.Words.{append-nil, ⊎_elim, arith, All, Contains, prefix_len, take-append-drop, take_all, drop_all, All-nil, All-cons, All-head}
+use Rattle.am_repair.proofs.Words.{All-tail, All-push, All-weaker, Contains-append_left, Contains-append_right, Contains-append_cases, Entry, size, Packet}
+use Rattle.am_repair.proofs.Words.{Letter, letter_to, place_for, with_letter, kind_of, Node, others, Plan, bcast_of, accept_of, put_all, tells_accepted}
+use Rattle.am_repair.proofs.Words.{with_accept, nat_tests, split, bcasts}
 
 -- ---- one letter more
 

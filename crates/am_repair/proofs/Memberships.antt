@@ -1,21 +1,9 @@
 -- A member hasn't left by any beginning of the sequencer's list, and has its view's View as the last one.
-use Rattle.std.proofs.Common.{◌≡◌, ◌≢◌, inr, ℕ, zero, suc, ◌+◌, ◌-◌, ◌<◌, ◌≤◌, ◌==◌, nat_lt, nat_le, true, false, List, [], ◌∷◌, length, take, Some, slice_get}
-use Rattle.std.proofs.Common.{refl, sym, ap, ◌∙◌, subst, arith, add-one}
-use Rattle.std.proofs.lemmas.Bool.Decides.{nat_tests}
-use Rattle.am_base.specs.declared.entry.Entry.{Entry}
-use Rattle.am_base.specs.declared.entry.Entry.TheVariants.{Data, Join, Leave, View}
-use Rattle.am_base.specs.declared.image.Image.{Image}
-use Rattle.am_base.specs.Names.{place_of, life_of, has}
-use Rattle.am_base.specs.Lists.{Log, top_of, told_by, entry_at, image_at, at_place, row_of, after, fits, fold}
-use Rattle.am_core.proofs.Ends.{image-next, entry-get}
-use Rattle.am_core.proofs.Lives.{IsUsed, used_fold}
-use Rattle.am_chain_lists.proofs.Rows.{row_at, Past, past_after, not_both, mod16}
-use Rattle.am_model.specs.Node.{Node, top, has_own_leave}
-use Rattle.am_model.specs.Receiving.{is_view}
-use Rattle.am_base.proofs.Greatest.{split}
-use Rattle.am_laws.proofs.LeaderRows.{is_in}
-use Rattle.am_laws.proofs.ViewSteps.{after_same}
-use Rattle.am_repair.specs.Calm.{Repair, Leads, Follows}
+use Rattle.am_repair.proofs.Words.{◌≡◌, ◌≢◌, inr, ℕ, zero, suc, ◌+◌, ◌-◌, ◌<◌, ◌≤◌, ◌==◌, nat_lt, nat_le, true, false, List, [], ◌∷◌, length, take, Some}
+use Rattle.am_repair.proofs.Words.{slice_get, refl, sym, ap, ◌∙◌, subst, arith, add-one, nat_tests, Entry, Data, Join, Leave, View, Image, place_of, life_of}
+use Rattle.am_repair.proofs.Words.{has, Log, top_of, told_by, entry_at, image_at, at_place, row_of, after, fits, fold, image-next, entry-get, IsUsed}
+use Rattle.am_repair.proofs.Words.{used_fold, row_at, Past, past_after, not_both, mod16, Node, top, has_own_leave, is_view, split, is_in, after_same, Repair}
+use Rattle.am_repair.proofs.Words.{Leads, Follows}
 use Rattle.am_repair.proofs.Lists.{entry_within}
 
 -- ---- entries of a list

@@ -1,23 +1,9 @@
 -- Nodes that differ in nothing that a calm world speaks of.
-use Rattle.std.proofs.Common.{◌≡◌, ℕ, ◌≤◌, ◌==◌, ◌&&◌, true, false, Option, Some, None, refl, sym, ap, ◌∙◌, subst, arith}
-use Rattle.std.proofs.lemmas.Bool.Decides.{nat_tests}
-use Rattle.am_base.specs.declared.name.Stamp.{Stamp}
+use Rattle.am_repair.proofs.Words.{◌≡◌, ℕ, ◌≤◌, ◌==◌, ◌&&◌, true, false, Option, Some, None, refl, sym, ap, ◌∙◌, subst, arith, nat_tests, Stamp, stamp_lt}
+use Rattle.am_repair.proofs.Words.{stamp_eq, Log, told_by, Node, Ballot, view, acts, is_member, is_sequencer, is_unfinished, refresh, settle, World, split}
+use Rattle.am_repair.proofs.Words.{and_both, Cause, calls, hears, refuses, HasOpen, not_false, SameStanding, with_sends, rests_refresh, settle_is, same_stamp}
+use Rattle.am_repair.proofs.Words.{not_above_itself, Balloted, OpenBallot, IsAtRest, Repair, IsCalm}
 use Rattle.am_base.specs.declared.event.NodeEvent.TheVariants as does
-use Rattle.am_base.specs.Stamps.{stamp_lt, stamp_eq}
-use Rattle.am_base.specs.Lists.{Log, told_by}
-use Rattle.am_model.specs.Node.{Node, Ballot, view, acts, is_member, is_sequencer}
-use Rattle.am_model.specs.Calls.{is_unfinished}
-use Rattle.am_model.specs.Refresh.{refresh, settle}
-use Rattle.am_play.specs.World.{World}
-use Rattle.am_base.proofs.Greatest.{split, and_both}
-use Rattle.am_effects.specs.Causes.{Cause, calls, hears, refuses}
-use Rattle.am_effects.specs.Looks.{HasOpen}
-use Rattle.am_effects.proofs.Tests.{not_false}
-use Rattle.am_effects.proofs.Rests.{SameStanding, with_sends, rests_refresh, settle_is}
-use Rattle.am_laws.proofs.Stamps.{same_stamp, not_above_itself}
-use Rattle.am_laws.proofs.ViewChanges.{Balloted, OpenBallot}
-use Rattle.am_repair.specs.Rows.{IsAtRest}
-use Rattle.am_repair.specs.Calm.{Repair, IsCalm}
 
 -- ---- what makes nodes do steps in a schedule
 

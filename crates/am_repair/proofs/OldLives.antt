@@ -1,15 +1,7 @@
 -- In each run a name whose place has a greater life has stopped.
-use Rattle.std.proofs.Common.{◌≡◌, ℕ, ◌+◌, ◌<◌, ◌==◌, true, false, List, [], ◌∷◌, ◌++◌, refl, sym, ap, ◌∙◌, subst, arith}
-use Rattle.std.specs.List.{list_any}
-use Rattle.std.proofs.lemmas.Bool.Decides.{nat_tests}
-use Rattle.std.proofs.lemmas.List.Folds.{list_any-append}
-use Rattle.am_base.specs.Founding.{Rules}
-use Rattle.am_base.specs.Names.{place_of, life_of}
-use Rattle.am_group.specs.declared.event.Event.{Event}
-use Rattle.am_play.specs.World.{World, start, current, is_stopped, with_record, with_step, run}
-use Rattle.am_base.proofs.Greatest.{split}
-use Rattle.am_effects.specs.Events.{actor, idles, stops, returns, steps}
-use Rattle.am_effects.proofs.Runs.{EachKeeps, runs_keep}
+use Rattle.am_repair.proofs.Words.{◌≡◌, ℕ, ◌+◌, ◌<◌, ◌==◌, true, false, List, [], ◌∷◌, ◌++◌, refl, sym, ap, ◌∙◌, subst, arith, list_any, nat_tests}
+use Rattle.am_repair.proofs.Words.{list_any-append, Rules, place_of, life_of, Event, World, start, current, is_stopped, with_record, with_step, run, split}
+use Rattle.am_repair.proofs.Words.{actor, idles, stops, returns, steps, EachKeeps, runs_keep}
 
 pub record OldStopped (w : World) : Type 0 where
   pub born : (place : ℕ) → 0 < w.lives place

@@ -1,19 +1,10 @@
 -- Many rounds: all is stored, then reported, then accepted.
-use Rattle.std.proofs.Common.{◌≡◌, ℕ, zero, suc, ◌+◌, ◌*◌, ◌/◌, ◌≤◌, ◌==◌, min, true, false, List, [], length, refl, sym, ap, ◌∙◌, subst, arith}
-use Rattle.am_base.specs.Founding.{Rules}
-use Rattle.am_base.specs.Names.{has}
-use Rattle.am_group.specs.declared.event.Event.{Event}
-use Rattle.am_play.specs.Settle.{Settling, and_then, ticks, hearings, waves, round, rounds, round_count, settle_events}
-use Rattle.am_play.specs.World.{World, happen}
-use Rattle.am_play.specs.Claims.{HasCaughtUp}
-use Rattle.am_base.proofs.Greatest.{split}
-use Rattle.am_play.proofs.Runs.{runs_go_on}
-use Rattle.am_repair.specs.Calm.{Repair}
-use Rattle.am_repair.proofs.Fine.{Fine, fine_goes, letters_more}
-use Rattle.am_repair.proofs.ThirdWave.{HasStored}
-use Rattle.am_repair.proofs.Rounds.{after_waves, round_is, Stable, round_keeps, round_stores}
-use Rattle.am_repair.proofs.Accepting.{AllKnown, round_reports, round_accepts, leader_accepts}
-use Rattle.am_repair.proofs.Steps.{as_same}
+use Rattle.am_repair.proofs.Words.{◌≡◌, ℕ, zero, suc, ◌+◌, ◌*◌, ◌/◌, ◌≤◌, ◌==◌, min, true, false, List, [], length, refl, sym, ap, ◌∙◌, subst, arith, Rules}
+use Rattle.am_repair.proofs.Words.{has, Event, Settling, and_then, ticks, hearings, waves, round, rounds, round_count, settle_events, World, happen}
+use Rattle.am_repair.proofs.Words.{HasCaughtUp, split, runs_go_on, Repair}
+use Rattle.am_repair.proofs.{Fine.Fine, Fine.fine_goes, Fine.letters_more, ThirdWave.HasStored, Rounds.after_waves, Rounds.round_is, Rounds.Stable}
+use Rattle.am_repair.proofs.{Rounds.round_keeps, Rounds.round_stores, Accepting.AllKnown, Accepting.round_reports, Accepting.round_accepts}
+use Rattle.am_repair.proofs.{Accepting.leader_accepts, Steps.as_same}
 
 -- ---- the schedule's worlds
 

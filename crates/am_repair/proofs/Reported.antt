@@ -1,31 +1,14 @@
 -- What is known of a name to be taken, through each change: it was reported so, and taken, or is no more than the base.
-use Rattle.am_base.specs.Lists.{top_of}
-use Rattle.am_base.specs.declared.entry.Entry.TheVariants.{Leave}
-use Rattle.am_base.specs.declared.image.Image.{Image}
-use Rattle.am_base.specs.declared.image.Report.{Report}
-use Rattle.am_base.specs.declared.name.Stamp.{Stamp}
-use Rattle.am_base.specs.declared.outcome.Outcome.{Outcome}
-use Rattle.am_core.specs.Cores.{accept as accepts, pass_over}
-use Rattle.am_effects.proofs.Rests.{settle_is, rests_at_end, rests_refresh}
-use Rattle.am_fronts.specs.Refresh.{go_on, let_go, tell, own_report}
-use Rattle.am_base.proofs.Greatest.{split, and_both}
-use Rattle.am_model.specs.Ballots.{Verdict}
-use Rattle.am_model.specs.Node.{has_log, Ballot, is_sequencer, with_report, is_member, is_asking, push_entry, Node}
-use Rattle.am_model.specs.Joining.{with_admitted}
-use Rattle.am_model.specs.Refresh.{refresh_at_end, lead, refresh}
-use Rattle.std.proofs.lemmas.Bool.Decides.{nat_tests}
-use Rattle.std.proofs.Common.{◌≡◌, ℕ, ◌≤◌, ◌==◌, ◌||◌, not, max, nat_lt, nat_le, true, false, if◌then◌else◌, List, refl, sym, ap, ◌∙◌, subst, arith}
-use Rattle.am_effects.specs.Changes.{Change, refreshes, settles, takes_report, admits, notes, begins_list}
-use Rattle.am_effects.specs.Changes.{looks, fetches, stores_view, takes, closes, MayBeWelcomed}
-use Rattle.am_effects.specs.Letters.{Says, request, spread, ack, nack, leave_ask}
-use Rattle.am_effects.specs.Looks.{Looks, finds_itself_out, waits, fetches_from_best, finds_too_few, finds_no_room, decides}
-use Rattle.am_effects.specs.Causes.{Cause, hears, by_request, BringsReport, with_send}
-use Rattle.am_model.specs.declared.status.Status.{Status}
+use Rattle.am_repair.proofs.Words.{top_of, Leave, Image, Report, Stamp, Outcome, accepts, pass_over, settle_is, rests_at_end, rests_refresh, go_on, let_go}
+use Rattle.am_repair.proofs.Words.{tell, own_report, split, and_both, Verdict, has_log, Ballot, is_sequencer, with_report, is_member, is_asking, push_entry}
+use Rattle.am_repair.proofs.Words.{Node, with_admitted, refresh_at_end, lead, refresh, nat_tests, ◌≡◌, ℕ, ◌≤◌, ◌==◌, ◌||◌, not, max, nat_lt, nat_le, true}
+use Rattle.am_repair.proofs.Words.{false, if◌then◌else◌, List, refl, sym, ap, ◌∙◌, subst, arith, Change, refreshes, settles, takes_report, admits, notes}
+use Rattle.am_repair.proofs.Words.{begins_list, looks, fetches, stores_view, takes, closes, MayBeWelcomed, Says, leave_ask, Looks, finds_itself_out, waits}
+use Rattle.am_repair.proofs.Words.{fetches_from_best, finds_too_few, finds_no_room, decides, Cause, hears, by_request, BringsReport, with_send, Status}
+use Rattle.am_repair.proofs.Words.{Packet, Fronts, Blanked}
+use Rattle.am_effects.specs.Letters.{request, spread, ack, nack}
 use Rattle.am_model.specs.declared.status.Status.TheVariants as status
-use Rattle.am_packet.specs.declared.packet.Packet.{Packet}
 use Rattle.am_packet.specs.declared.packet.Packet.TheVariants as packet
-use Rattle.am_laws.proofs.Trims.{Fronts}
-use Rattle.am_laws.proofs.Blank.{Blanked}
 
 -- what a letter reports of its sender was taken
 abbrev pub ReportTaken : (ℕ → Node) → Packet → Type 0

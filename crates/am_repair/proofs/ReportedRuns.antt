@@ -1,31 +1,10 @@
 -- In each run what anybody knows a name to have taken was taken, or is no more than its own base.
-use Rattle.am_base.specs.Founding.{MayFound, Rules}
-use Rattle.am_base.specs.Names.{has}
-use Rattle.am_base.specs.declared.outcome.Outcome.{Outcome}
-use Rattle.am_group.specs.declared.event.Event.{Event}
-use Rattle.am_laws.proofs.Named.{few_names}
-use Rattle.am_laws.proofs.Taken.{HeardUsed}
-use Rattle.am_laws.proofs.ViewNames.{HeardNames}
-use Rattle.am_laws.proofs.Views.{heard_names}
-use Rattle.am_base.proofs.Greatest.{split}
-use Rattle.am_model.specs.Node.{Node}
-use Rattle.am_packet.specs.declared.packet.Packet.{Packet}
+use Rattle.am_repair.proofs.Words.{MayFound, Rules, has, Outcome, Event, few_names, HeardUsed, HeardNames, heard_names, split, Node, Packet, nat_tests, ◌≡◌}
+use Rattle.am_repair.proofs.Words.{ℕ, ◌<◌, ◌≤◌, ◌==◌, true, List, refl, sym, ap, ◌∙◌, subst, arith, All, All-nil, All-append, All-weaker, Letter, World}
+use Rattle.am_repair.proofs.Words.{start, with_step, run, heard_by, Cause, calls, hears, refuses, LetterSays, Changes, no_change, changed, actor, WasSentTo}
+use Rattle.am_repair.proofs.Words.{IsCause, all_item, EachKeeps, StepsKeep, SameParts, law_keeps, runs_keep, Along, along_changes, AllOwned, heard_used}
+use Rattle.am_repair.proofs.Words.{each_along, each_owned, owned_start, KnownIsTaken}
 use Rattle.am_packet.specs.declared.packet.Packet.TheVariants as packet
-use Rattle.std.proofs.lemmas.Bool.Decides.{nat_tests}
-use Rattle.std.proofs.Common.{◌≡◌, ℕ, ◌<◌, ◌≤◌, ◌==◌, true, List, refl, sym, ap, ◌∙◌, subst, arith}
-use Rattle.std.specs.Prelude.{All}
-use Rattle.std.proofs.lemmas.List.Elements.{All-nil, All-append, All-weaker}
-use Rattle.am_packet.specs.Boxes.{Letter}
-use Rattle.am_play.specs.World.{World, start, with_step, run}
-use Rattle.am_play.specs.Claims.{heard_by}
-use Rattle.am_effects.specs.Causes.{Cause, calls, hears, refuses}
-use Rattle.am_effects.specs.Letters.{LetterSays}
-use Rattle.am_effects.specs.Changes.{Changes, unchanged as no_change, changed}
-use Rattle.am_effects.specs.Events.{actor, WasSentTo, IsCause}
-use Rattle.am_effects.proofs.Items.{all_item}
-use Rattle.am_effects.proofs.Runs.{EachKeeps, StepsKeep, SameParts, law_keeps, runs_keep}
-use Rattle.am_laws.proofs.TakenRuns.{Along, along_changes, AllOwned, heard_used, each_along, each_owned, owned_start}
-use Rattle.am_repair.specs.Known.{KnownIsTaken}
 use Rattle.am_repair.proofs.Reported.{ReportTaken, CauseTaken, Truly, Rises, truly_change, rises_change, says_taken}
 
 equal : (a b : ℕ) → (a == b) ≡ true → a ≡ b

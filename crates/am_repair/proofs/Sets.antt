@@ -1,13 +1,7 @@
 -- Names in sets.
-use Rattle.std.proofs.Common.{◌≡◌, ◌≢◌, ℕ, zero, suc, ◌+◌, ◌<◌, ◌==◌, Bool, true, false, nat_lt, if◌then◌else◌, List, [], ◌∷◌, slice_index, slice_set}
-use Rattle.std.proofs.Common.{get_or-set_same, get_or-set_other, count_by, refl, sym, ap, ◌∙◌, arith}
-use Rattle.std.specs.Prelude.{All}
-use Rattle.std.proofs.lemmas.Bool.Decides.{nat_tests}
-use Rattle.std.proofs.lemmas.List.Elements.{All-head, All-tail}
-use Rattle.am_base.specs.Names.{place_of, life_of, nobody, has, without_name, size, names_from}
-use Rattle.am_fronts.proofs.ReportLaws.{count_cons}
-use Rattle.am_model.specs.Node.{only_name}
-use Rattle.am_base.proofs.Greatest.{split}
+use Rattle.am_repair.proofs.Words.{◌≡◌, ◌≢◌, ℕ, zero, suc, ◌+◌, ◌<◌, ◌==◌, Bool, true, false, nat_lt, if◌then◌else◌, List, [], ◌∷◌, slice_index, slice_set}
+use Rattle.am_repair.proofs.Words.{get_or-set_same, get_or-set_other, count_by, refl, sym, ap, ◌∙◌, arith, All, nat_tests, All-head, All-tail, place_of}
+use Rattle.am_repair.proofs.Words.{life_of, nobody, has, without_name, size, names_from, count_cons, only_name, split}
 
 -- ---- who is there
 

@@ -1,38 +1,13 @@
 -- Each event of a schedule keeps a world calm.
-use Rattle.std.proofs.Common.{◌≡◌, ◌⊎◌, inl, inr, ⊎_elim, ℕ, zero, suc, ◌≤◌, ◌==◌, true, false, List, [], ◌∷◌, ◌++◌, Some, slice_get, refl, sym, ap, ◌∙◌, subst}
-use Rattle.std.proofs.Common.{arith}
-use Rattle.std.specs.Prelude.{All}
-use Rattle.std.proofs.lemmas.Bool.Decides.{nat_tests}
-use Rattle.am_base.specs.declared.name.Stamp.{Stamp}
-use Rattle.am_base.specs.declared.outcome.Outcome.{Outcome}
-use Rattle.am_base.specs.Founding.{Rules}
-use Rattle.am_base.specs.Names.{has}
-use Rattle.am_packet.specs.Boxes.{Letter}
-use Rattle.am_group.specs.declared.event.Event.{Event}
-use Rattle.am_group.specs.Journals.{letter_at}
-use Rattle.am_model.specs.Node.{Node, top, is_sequencer, has_departed}
-use Rattle.am_model.specs.Calls.{is_unfinished}
-use Rattle.am_model.specs.Ballots.{next_stamp}
-use Rattle.am_model.specs.Emit.{Step}
-use Rattle.am_play.specs.World.{World, with_record, with_step, happens}
-use Rattle.am_base.proofs.Greatest.{split}
-use Rattle.am_effects.specs.Causes.{Cause}
-use Rattle.am_effects.specs.Letters.{LetterSays}
-use Rattle.am_effects.specs.Effects.{Effect}
-use Rattle.am_effects.specs.Events.{actor, IsCause}
-use Rattle.am_effects.proofs.Items.{all_get}
-use Rattle.am_laws.proofs.Named.{few_names}
-use Rattle.am_laws.proofs.Views.{heard_names}
-use Rattle.am_laws.proofs.TakenRuns.{Along, AllOwned, heard_used, each_along}
-use Rattle.am_repair.specs.Calm.{Repair, Leads, Follows, IsApart, IsCalm, Calm}
-use Rattle.am_repair.proofs.Nodes.{CalmCause, acting, leading, leads_not}
-use Rattle.am_repair.proofs.Leading.{Goes, told_taken, Trusts}
-use Rattle.am_repair.proofs.Lists.{LogGrows, grows_same}
-use Rattle.am_repair.proofs.Leading.{TellsTaken}
-use Rattle.am_repair.proofs.Following.{Skips}
-use Rattle.am_repair.proofs.Saying.{Grow, calm_stays, Sends, says_calm}
-use Rattle.am_repair.specs.Rounds.{IsOurs}
+use Rattle.am_repair.proofs.Words.{◌≡◌, ◌⊎◌, inl, inr, ⊎_elim, ℕ, zero, suc, ◌≤◌, ◌==◌, true, false, List, [], ◌∷◌, ◌++◌, Some, slice_get, refl, sym, ap, ◌∙◌}
+use Rattle.am_repair.proofs.Words.{subst, arith, All, nat_tests, Stamp, Outcome, Rules, has, Letter, Event, letter_at, Node, top, is_sequencer, has_departed}
+use Rattle.am_repair.proofs.Words.{is_unfinished, next_stamp, Step, World, with_record, with_step, happens, split, Cause, LetterSays, Effect, actor, IsCause}
+use Rattle.am_repair.proofs.Words.{all_get, few_names, heard_names, Along, AllOwned, heard_used, each_along, Repair, Leads, Follows, IsApart, IsCalm, Calm}
+use Rattle.am_repair.proofs.Words.{IsOurs}
 use Rattle.am_repair.proofs.Going.{OurStep, Ours, idles, steps, ours, lead_changes, follow_changes, apart_changes, sender_is, member_there}
+use Rattle.am_repair.proofs.{Nodes.CalmCause, Nodes.acting, Nodes.leading, Nodes.leads_not, Leading.Goes, Leading.told_taken, Leading.Trusts}
+use Rattle.am_repair.proofs.{Leading.TellsTaken, Lists.LogGrows, Lists.grows_same, Following.Skips, Saying.Grow, Saying.calm_stays, Saying.Sends}
+use Rattle.am_repair.proofs.{Saying.says_calm}
 
 -- ---- names
 

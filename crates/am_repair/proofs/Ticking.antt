@@ -1,35 +1,14 @@
 -- What the ticks of a round bring about: a poll, and reports.
-use Rattle.std.proofs.Common.{◌≡◌, ℕ, ◌+◌, ◌≤◌, ◌==◌, true, false, length, sym, ap, ◌∙◌, subst, arith}
-use Rattle.std.specs.Prelude.{Contains}
-use Rattle.am_base.specs.declared.name.Stamp.{Stamp}
-use Rattle.am_base.specs.declared.image.Image.{Image}
+use Rattle.am_repair.proofs.Words.{◌≡◌, ℕ, ◌+◌, ◌≤◌, ◌==◌, true, false, length, sym, ap, ◌∙◌, subst, arith, Contains, Stamp, Image, Rules, place_of, has}
+use Rattle.am_repair.proofs.Words.{members_of, members_at, Accept, Letter, letter_to, Event, is_for, letter_at, Node, top, view, members, others}
+use Rattle.am_repair.proofs.Words.{is_sequencer, report_of, Step, accept_of, step, event_at, running, ticks, World, is_stopped, with_step, happens, happen}
+use Rattle.am_repair.proofs.Words.{split, IsReport, Repair, Leads, Follows, IsSent, Polled, Reported, IsOurs, our_ticks}
 use Rattle.am_base.specs.declared.event.NodeEvent.TheVariants as does
-use Rattle.am_base.specs.Founding.{Rules}
-use Rattle.am_base.specs.Names.{place_of, has}
-use Rattle.am_base.specs.Lists.{members_of, members_at}
-use Rattle.am_packet.specs.declared.packet.Packet.TheVariants.{Accept}
-use Rattle.am_packet.specs.Boxes.{Letter, letter_to}
 use Rattle.am_group.specs.declared.event.Act.TheVariants as act
-use Rattle.am_group.specs.declared.event.Event.{Event}
-use Rattle.am_group.specs.Addressed.{is_for}
-use Rattle.am_group.specs.Journals.{letter_at}
-use Rattle.am_model.specs.Node.{Node, top, view, members, others, is_sequencer, report_of}
-use Rattle.am_model.specs.Emit.{Step, accept_of}
-use Rattle.am_model.specs.Step.{step}
-use Rattle.am_play.specs.Settle.{event_at, running, ticks}
-use Rattle.am_play.specs.World.{World, is_stopped, with_step, happens, happen}
-use Rattle.am_base.proofs.Greatest.{split}
-use Rattle.am_repair.specs.Rows.{IsReport}
-use Rattle.am_repair.specs.Calm.{Repair, Leads, Follows}
-use Rattle.am_repair.specs.Waves.{IsSent, Polled, Reported}
-use Rattle.am_repair.proofs.Sets.{some_has, without_has}
-use Rattle.am_repair.proofs.Nodes.{acting, leading, leads_not}
-use Rattle.am_repair.proofs.Leading.{is_member_now}
-use Rattle.am_repair.proofs.Ticks.{sequencers_poll, members_report}
-use Rattle.am_repair.specs.Rounds.{IsOurs, ticks as our_ticks}
-use Rattle.am_repair.proofs.Schedules.{IsAmong, Hits, acts_hit, is_running}
 use Rattle.am_repair.proofs.Fine.{Fine, few_members, fine_goes, grow_goes, letter_goes, letters_more, IsThere, member_there, tick_is, sent_at, contained_at}
 use Rattle.am_repair.proofs.Fine.{stepped_node}
+use Rattle.am_repair.proofs.{Sets.some_has, Sets.without_has, Nodes.acting, Nodes.leading, Nodes.leads_not, Leading.is_member_now, Ticks.sequencers_poll}
+use Rattle.am_repair.proofs.{Ticks.members_report, Schedules.IsAmong, Schedules.Hits, Schedules.acts_hit, Schedules.is_running}
 
 -- ---- letters stay
 

@@ -1,21 +1,9 @@
 -- What rises in a step, and that a list begins by a Welcome alone, whose base was taken.
-use Rattle.std.proofs.Common.{◌≡◌, ◌⊎◌, inl, inr, ⊎_elim, ℕ, ◌≤◌, false, refl, sym, ap, ◌∙◌, subst, arith}
-use Rattle.am_base.specs.declared.image.Image.{Image}
-use Rattle.am_base.specs.declared.name.Stamp.{Stamp}
-use Rattle.am_base.specs.declared.outcome.Outcome.{Outcome}
-use Rattle.am_base.specs.Founding.{Rules}
+use Rattle.am_repaired.proofs.Words.{◌≡◌, ◌⊎◌, inl, inr, ⊎_elim, ℕ, ◌≤◌, false, refl, sym, ap, ◌∙◌, subst, arith, Image, Stamp, Outcome, Rules, has_log, Node}
+use Rattle.am_repaired.proofs.Words.{Cause, hears, Changes, unchanged, changed, rests_refresh, rests_closed, settle_is, logged, HeardNames, HeardUsed, Along}
+use Rattle.am_repaired.proofs.Words.{along_changes, Rises, rises_change, Kind, kind_of}
 use Rattle.am_packet.specs.declared.packet.Packet.TheVariants as packet
-use Rattle.am_model.specs.Node.{has_log, Node}
-use Rattle.am_effects.specs.Causes.{Cause, hears}
-use Rattle.am_effects.specs.Changes.{Changes, unchanged, changed}
-use Rattle.am_effects.proofs.Rests.{rests_refresh, rests_closed, settle_is}
-use Rattle.am_effects.proofs.Statuses.{logged}
-use Rattle.am_laws.proofs.ViewNames.{HeardNames}
-use Rattle.am_laws.proofs.Taken.{HeardUsed}
-use Rattle.am_laws.proofs.TakenRuns.{Along, along_changes}
-use Rattle.am_repair.proofs.Reported.{Rises, rises_change}
 use Rattle.am_headline.proofs.Ways as ways
-use Rattle.am_headline.proofs.Ways.{Kind, kind_of}
 
 -- ---- what rises
 

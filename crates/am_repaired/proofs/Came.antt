@@ -1,39 +1,16 @@
 -- How a name comes to act in a view: it did before, it decided it, or a letter of the view's own name told it, whose base it had taken.
-use Rattle.std.proofs.Common.{◌≡◌, ⊎_elim, ℕ, ◌<◌, ◌≤◌, ◌==◌, ◌&&◌, ◌||◌, not, max, true, false, List, [], refl, sym, ap, ◌∙◌, subst, arith}
-use Rattle.std.proofs.lemmas.Bool.Decides.{nat_tests}
-use Rattle.am_base.specs.declared.entry.Entry.{Entry}
-use Rattle.am_base.specs.declared.entry.Entry.TheVariants.{Data, Join, Leave, View}
-use Rattle.am_base.specs.declared.image.Image.{Image}
-use Rattle.am_base.specs.declared.name.Stamp.{Stamp}
-use Rattle.am_base.specs.declared.outcome.Outcome.{Outcome}
-use Rattle.am_base.specs.Founding.{Rules}
-use Rattle.am_base.specs.Stamps.{stamp_lt, stamp_eq}
-use Rattle.am_base.specs.Lists.{Log, blank, fold, told_by}
+use Rattle.am_repaired.proofs.Words.{◌≡◌, ⊎_elim, ℕ, ◌<◌, ◌≤◌, ◌==◌, ◌&&◌, ◌||◌, not, max, true, false, List, [], refl, sym, ap, ◌∙◌, subst, arith, nat_tests}
+use Rattle.am_repaired.proofs.Words.{Entry, Data, Join, Leave, View, Image, Stamp, Outcome, Rules, stamp_lt, stamp_eq, Log, blank, fold, told_by, Node}
+use Rattle.am_repaired.proofs.Words.{Ballot, view, image_of, acts, is_member, is_asking, push_entry, trim_up_to, has_log, Verdict, with_promise, next_stamp}
+use Rattle.am_repaired.proofs.Words.{trim_for, left_in, need_of, is_view, hears_member, hears_asking, split, and_both, Cause, hears, Looks, finds_itself_out}
+use Rattle.am_repaired.proofs.Words.{waits, fetches_from_best, finds_too_few, finds_no_room, decides, Numbers, asked_send, own_send, asked_join, asked_leave}
+use Rattle.am_repaired.proofs.Words.{Fetches, without_ballot, for_ballot, Change, refreshes, settles, takes_report, admits, numbers, keeps_body, notes}
+use Rattle.am_repaired.proofs.Words.{stores, begins_list, departs, promises, opens, looks, fetches, stores_view, queues, collects, takes, asks_to_join}
+use Rattle.am_repaired.proofs.Words.{asks_to_leave, closes, Changes, unchanged, changed, not_true, view_pushed, Blanked, same_stamp, not_above_itself}
+use Rattle.am_repaired.proofs.Words.{not_above, equal_stamps, at_most, at_most_below, same_is_equal, HasNames, HeardNames, SameView, Stood, view_last}
+use Rattle.am_repaired.proofs.Words.{Balloted, next_above, looked_at, change_does, HeardUsed, Along, along_changes, acting, alike_refresh, alike_settle}
+use Rattle.am_repaired.proofs.Words.{view_alike, acts_alike, Alike}
 use Rattle.am_packet.specs.declared.packet.Packet.TheVariants as packet
-use Rattle.am_model.specs.Node.{Node, Ballot, view, image_of, acts, is_member, is_asking, push_entry, trim_up_to, has_log}
-use Rattle.am_model.specs.Ballots.{Verdict, with_promise, next_stamp, trim_for, left_in, need_of}
-use Rattle.am_model.specs.Receiving.{is_view}
-use Rattle.am_model.specs.Hearing.{hears_member, hears_asking}
-use Rattle.am_base.proofs.Greatest.{split, and_both}
-use Rattle.am_effects.specs.Causes.{Cause, hears}
-use Rattle.am_effects.specs.Looks.{Looks, finds_itself_out, waits, fetches_from_best, finds_too_few, finds_no_room, decides}
-use Rattle.am_effects.specs.Changes.{Numbers, asked_send, own_send, asked_join, asked_leave, Fetches, without_ballot}
-use Rattle.am_effects.specs.Changes.{for_ballot}
-use Rattle.am_effects.specs.Changes.{Change, refreshes, settles, takes_report, admits, numbers, keeps_body, notes, stores, begins_list, departs, promises}
-use Rattle.am_effects.specs.Changes.{opens}
-use Rattle.am_effects.specs.Changes.{looks, fetches, stores_view, queues, collects, takes, asks_to_join, asks_to_leave, closes}
-use Rattle.am_effects.specs.Changes.{Changes, unchanged, changed}
-use Rattle.am_effects.proofs.Tests.{not_true}
-use Rattle.am_effects.proofs.Says.{view_pushed}
-use Rattle.am_laws.proofs.Blank.{Blanked}
-use Rattle.am_laws.proofs.Stamps.{same_stamp, not_above_itself, not_above, equal_stamps, at_most, at_most_below}
-use Rattle.am_laws.proofs.Views.{same_is_equal}
-use Rattle.am_laws.proofs.ViewNames.{HasNames, HeardNames}
-use Rattle.am_laws.proofs.ViewSteps.{SameView, Stood, view_last}
-use Rattle.am_laws.proofs.ViewChanges.{Balloted, next_above, looked_at, change_does}
-use Rattle.am_laws.proofs.Taken.{HeardUsed}
-use Rattle.am_laws.proofs.TakenRuns.{Along, along_changes}
-use Rattle.am_repair.proofs.Nodes.{acting, alike_refresh, alike_settle, view_alike, acts_alike, Alike}
 
 -- ---- names
 

@@ -1,23 +1,13 @@
 -- Who left: whose Leave stands on the chain asked to leave, and who departed has its Leave accepted, unless nobody is left.
-use Rattle.std.proofs.Common.{◌≡◌, ◌⊎◌, ⊎_elim, inl, inr, ℕ, ◌+◌, ◌<◌, ◌≤◌, List, [], ◌∷◌, ◌++◌, length, true, false, refl, sym, ap, ◌∙◌, subst, arith}
-use Rattle.am_base.specs.declared.entry.Entry.{Entry}
-use Rattle.am_base.specs.declared.entry.Entry.TheVariants.{Data, Join, Leave, View}
-use Rattle.am_base.specs.declared.image.Image.{Image}
-use Rattle.am_base.specs.Names.{place_of, life_of}
-use Rattle.am_chain_lists.specs.Whole.{Begins, IsGood, image_of, mem, view_of, key}
-use Rattle.am_chain_lists.proofs.Rows.{In, row_at}
-use Rattle.am_chain_lists.proofs.Prefixes.{begins_refl, begins_more, begins_trans, begins_both, begins_same, begins_length, begins_pushed, length_push}
-use Rattle.am_chain_lists.proofs.Members.{good_begins, told_push, long_told, mem_in, in_mem, mem_between, leaver_in, leaver_out}
+use Rattle.am_repaired.proofs.Words.{◌≡◌, ◌⊎◌, ⊎_elim, inl, inr, ℕ, ◌+◌, ◌<◌, ◌≤◌, List, [], ◌∷◌, ◌++◌, length, true, false, refl, sym, ap, ◌∙◌, subst, arith}
+use Rattle.am_repaired.proofs.Words.{Entry, Data, Join, Leave, View, Image, place_of, life_of, Begins, IsGood, mem, view_of, key, In, row_at, begins_refl}
+use Rattle.am_repaired.proofs.Words.{begins_more, begins_trans, begins_both, begins_same, begins_length, begins_pushed, length_push, good_begins, told_push}
+use Rattle.am_repaired.proofs.Words.{long_told, mem_in, in_mem, mem_between, leaver_in, leaver_out, Group, Views, put, opening, Leads, chain_of, Move}
+use Rattle.am_repaired.proofs.Words.{MayNumber, choice_of, longer, accepts, learns, begins, raises, shows, serves, gives_over, welcomes, asks, stops, Kept}
+use Rattle.am_repaired.proofs.Words.{Run, founded, more, first_stamp, put_same, put_at, run_keeps, moves_grow, Becomes, stayed, joins, founds, became}
+use Rattle.am_chain_lists.specs.Whole.{image_of}
+use Rattle.am_chain_moves.specs.Moves.{numbers, stores, fetches, decides, departs, closes}
 use Rattle.am_chain_moves.specs.Group as groups
-use Rattle.am_chain_moves.specs.Group.{Group, Views, put, opening, Leads, chain_of}
-use Rattle.am_chain_moves.specs.Moves.{Move, MayNumber, choice_of, longer, numbers, stores, accepts, learns, begins, raises, shows, serves}
-use Rattle.am_chain_moves.specs.Moves.{fetches, decides, gives_over, welcomes, asks, departs, closes, stops}
-use Rattle.am_chain_moves.specs.Kept.{Kept}
-use Rattle.am_chain_moves.specs.Runs.{Run, founded, more, first_stamp}
-use Rattle.am_chain_moves.proofs.Puts.{put_same, put_at}
-use Rattle.am_chain.proofs.Runs.{run_keeps}
-use Rattle.am_stands.proofs.Growing.{moves_grow}
-use Rattle.am_stands.proofs.Joins.{Becomes, stayed, joins, founds, became}
 
 -- ---- what is kept
 

@@ -1,17 +1,7 @@
 -- There is one sequencer that runs.
-use Rattle.std.proofs.Common.{◌≡◌, ℕ, ◌<◌, true, false, sym, ap, ◌∙◌}
-use Rattle.am_base.specs.Founding.{Rules}
-use Rattle.am_chain_lists.specs.Whole.{view_of}
+use Rattle.am_repaired.proofs.Words.{◌≡◌, ℕ, ◌<◌, true, false, sym, ap, ◌∙◌, Rules, view_of, Group, IsUp, Kept, acts, is_member, is_sequencer, World}
+use Rattle.am_repaired.proofs.Words.{is_stopped, and_both, logged, Following, Leading, leading, member_here}
 use Rattle.am_chain_moves.specs.Group as groups
-use Rattle.am_chain_moves.specs.Group.{Group, IsUp}
-use Rattle.am_chain_moves.specs.Kept.{Kept}
-use Rattle.am_model.specs.Node.{acts, is_member, is_sequencer}
-use Rattle.am_play.specs.World.{World, is_stopped}
-use Rattle.am_base.proofs.Greatest.{and_both}
-use Rattle.am_effects.proofs.Statuses.{logged}
-use Rattle.am_stands.specs.Running.{Following}
-use Rattle.am_stands.proofs.Sent.{Leading, leading}
-use Rattle.am_steps.proofs.Statuses.{member_here}
 
 -- it leads the group
 pub runs_leading : (rules : Rules) (w : World) (s : Group) (q : ℕ) → Following rules w s → Kept s → q < 256 → (w.nodes q).core.who ≡ q

@@ -1,32 +1,9 @@
 -- Where a run may be repaired, its sequencer has the whole chain, and each member's list begins it.
-use Rattle.std.proofs.Common.{◌≡◌, ℕ, ◌<◌, ◌≤◌, ◌==◌, nat_lt, true, false, List, take, None, sym, ap}
-use Rattle.std.proofs.Common.{◌∙◌, subst, arith}
-use Rattle.std.proofs.lemmas.Bool.Decides.{nat_tests}
-use Rattle.am_base.specs.Founding.{Rules, MayFound}
-use Rattle.am_base.specs.Names.{place_of, life_of}
-use Rattle.am_group.specs.declared.event.Event.{Event}
-use Rattle.am_chain_lists.specs.Whole.{Begins, IsGood, mem, view_of}
-use Rattle.am_chain_lists.proofs.Prefixes.{begins_take, begins_trans}
-use Rattle.am_chain_moves.specs.Group.{Group, IsUp, Leads, chain_of}
-use Rattle.am_chain_moves.specs.Kept.{Kept}
-use Rattle.am_model.specs.Node.{Node, acts, view, is_member, lowest_or_first}
-use Rattle.am_play.specs.Lawful.{whole, broken_at}
-use Rattle.am_play.specs.Claims.{MayRepair}
-use Rattle.am_play.specs.World.{World, current, is_stopped, run}
-use Rattle.am_base.proofs.Greatest.{split, and_both}
-use Rattle.am_play.proofs.Runs.{front_is_lawful}
-use Rattle.am_effects.proofs.Statuses.{logged}
-use Rattle.am_laws.proofs.Named.{names_hold}
-use Rattle.am_laws.proofs.Stamps.{same_stamp}
-use Rattle.am_stands.specs.Running.{Following}
-use Rattle.am_stands.proofs.Changes.{told_all}
-use Rattle.am_stands.proofs.Onward.{group_kept}
-use Rattle.am_steps.proofs.Steps.{steps_move}
-use Rattle.am_steps.proofs.Statuses.{member_here}
-use Rattle.am_headline.proofs.Fold.{KeptBy}
-use Rattle.am_headline.proofs.Begun.{held}
-use Rattle.am_repair.specs.Standing.{IsOneList, RepairableIsOneList}
-use Rattle.am_repair.proofs.Lawfully.{repairable_is_lawful}
+use Rattle.am_repaired.proofs.Words.{◌≡◌, ℕ, ◌<◌, ◌≤◌, ◌==◌, nat_lt, true, false, List, take, None, sym, ap, ◌∙◌, subst, arith, nat_tests, Rules, MayFound}
+use Rattle.am_repaired.proofs.Words.{place_of, life_of, Event, Begins, IsGood, mem, view_of, begins_take, begins_trans, Group, IsUp, Leads, chain_of, Kept}
+use Rattle.am_repaired.proofs.Words.{Node, acts, view, is_member, lowest_or_first, whole, broken_at, MayRepair, World, current, is_stopped, run, split}
+use Rattle.am_repaired.proofs.Words.{and_both, front_is_lawful, logged, names_hold, same_stamp, Following, told_all, group_kept, steps_move, member_here}
+use Rattle.am_repaired.proofs.Words.{KeptBy, held, IsOneList, RepairableIsOneList, repairable_is_lawful}
 
 -- ---- a group that follows
 

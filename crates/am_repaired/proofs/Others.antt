@@ -1,27 +1,13 @@
 -- While another name steps, a sequencer that runs still trimmed no more than its members have taken.
-use Rattle.std.proofs.Common.{◌≡◌, ⊎_elim, ℕ, ◌<◌, ◌≤◌, ◌==◌, true, false, List, sym, ap, ◌∙◌, subst, arith}
-use Rattle.am_base.specs.declared.name.Stamp.{Stamp}
-use Rattle.am_base.specs.Founding.{Rules}
+use Rattle.am_repaired.proofs.Words.{◌≡◌, ⊎_elim, ℕ, ◌<◌, ◌≤◌, ◌==◌, true, false, List, sym, ap, ◌∙◌, subst, arith, Stamp, Rules, Letter, Event, Group, Node}
+use Rattle.am_repaired.proofs.Words.{view, acts, is_sequencer, has_log, Step, is_stopped, run, heard_by, split, and_both, Cause, actor, WasSentTo, IsCause}
+use Rattle.am_repaired.proofs.Words.{itself, parts, plain, Rises}
 use Rattle.am_packet.specs.declared.packet.Packet.TheVariants as packet
-use Rattle.am_packet.specs.Boxes.{Letter}
-use Rattle.am_group.specs.declared.event.Event.{Event}
-use Rattle.am_chain_moves.specs.Group.{Group}
-use Rattle.am_model.specs.Node.{Node, view, acts, is_sequencer, has_log}
-use Rattle.am_model.specs.Emit.{Step}
-use Rattle.am_play.specs.World.{is_stopped, run}
-use Rattle.am_play.specs.Claims.{heard_by}
-use Rattle.am_base.proofs.Greatest.{split, and_both}
-use Rattle.am_effects.specs.Causes.{Cause}
-use Rattle.am_effects.specs.Events.{actor, WasSentTo, IsCause}
-use Rattle.am_headline.proofs.OneStep.{itself, parts, plain}
-use Rattle.am_repair.proofs.Reported.{Rises}
-use Rattle.am_repaired.proofs.Began.{Began, begins, rises_along}
 use Rattle.am_repaired.proofs.Came.{Tells, by_piece, by_result, by_welcome, Came, before as went_on, own, told_so}
-use Rattle.am_repaired.proofs.Fresh.{Welcomed, welcomed_in}
-use Rattle.am_repaired.proofs.Mailed.{says_apart, says_welcome}
-use Rattle.am_repaired.proofs.One.{one_sequencer}
-use Rattle.am_repaired.proofs.Trims.{LetterLow, Knows, took, joins, halts, Settles, TrimStep, Sent, before, now, item_get, equal}
-use Rattle.am_repaired.proofs.Trims.{along, heard, used, who_v, who_n, stopped_v, letter_v, came_n}
+use Rattle.am_repaired.proofs.Trims.{LetterLow, Knows, took, joins, halts, Settles, TrimStep, Sent, before, now, item_get, equal, along, heard, used, who_v}
+use Rattle.am_repaired.proofs.Trims.{who_n, stopped_v, letter_v, came_n}
+use Rattle.am_repaired.proofs.{Began.Began, Began.begins, Began.rises_along, Fresh.Welcomed, Fresh.welcomed_in, Mailed.says_apart, Mailed.says_welcome}
+use Rattle.am_repaired.proofs.{One.one_sequencer}
 
 module _ (rules : Rules) (events : List Event) (e : Event) (c : Cause) (step : Step) (s t : Group) (x : TrimStep rules events e c step s t)
     (q : ℕ) (few_q : q < 256) (other : (q == actor (run rules events) e) ≡ false) (leads : is_sequencer ((run rules events).nodes q) ≡ true)

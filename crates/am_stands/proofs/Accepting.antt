@@ -1,33 +1,14 @@
 -- What a sequencer accepts is held by enough names.
-use Rattle.std.proofs.Common.{◌≡◌, ℕ, ◌+◌, ◌-◌, ◌<◌, ◌≤◌, ◌==◌, ◌&&◌, nat_le, Bool, true, false, List, [], length, take, refl, sym, ap, ◌∙◌, subst, arith}
-use Rattle.std.proofs.Common.{count_by}
-use Rattle.std.proofs.lemmas.Bool.Decides.{nat_tests}
-use Rattle.am_base.specs.declared.entry.Entry.{Entry}
-use Rattle.am_base.specs.declared.image.Report.{Report}
-use Rattle.am_base.specs.declared.image.Image.{Image}
-use Rattle.am_base.specs.Names.{has, names_of}
-use Rattle.am_base.specs.Lists.{Log, top_of, told_by}
-use Rattle.am_base.specs.Fronts.{counted_at, need_at, holders_at, is_held, is_satisfied, is_front, accept_front}
-use Rattle.am_core.specs.Cores.{accept, pass_over}
-use Rattle.am_core.proofs.Ranges.{all_at}
-use Rattle.am_fronts.specs.Reports.{after_report}
-use Rattle.am_fronts.specs.Refresh.{own_report, tell, go_on, let_go}
-use Rattle.am_fronts.proofs.Again.{greatest_low, greatest_there}
-use Rattle.am_chain_lists.specs.Whole.{Begins, image_of}
-use Rattle.am_chain_lists.proofs.Prefixes.{begins_take, begins_trans, begins_both, begins_length, length_take}
+use Rattle.am_stands.proofs.Words.{◌≡◌, ℕ, ◌+◌, ◌-◌, ◌<◌, ◌≤◌, ◌==◌, ◌&&◌, nat_le, Bool, true, false, List, [], length, take, refl, sym, ap, ◌∙◌, subst}
+use Rattle.am_stands.proofs.Words.{arith, count_by, nat_tests, Entry, Report, Image, has, names_of, Log, top_of, told_by, counted_at, need_at, holders_at}
+use Rattle.am_stands.proofs.Words.{is_held, is_satisfied, is_front, accept_front, accept, pass_over, all_at, after_report, own_report, tell, go_on, let_go}
+use Rattle.am_stands.proofs.Words.{greatest_low, greatest_there, Begins, image_of, begins_take, begins_trans, begins_both, begins_length, length_take}
+use Rattle.am_stands.proofs.Words.{how_many, counted_in, IsHeld, MayAccept, Node, lead, refresh, World, split, and_both, NameStands, Reporting, MayCount}
+use Rattle.am_stands.proofs.Words.{RefreshAccepts}
 use Rattle.am_chain_moves.specs.Group as groups
-use Rattle.am_chain_moves.specs.Group.{how_many, counted_in, IsHeld, MayAccept}
 use Rattle.am_model.specs.Node as nodes
-use Rattle.am_model.specs.Node.{Node}
-use Rattle.am_model.specs.Refresh.{lead, refresh}
-use Rattle.am_play.specs.World.{World}
-use Rattle.am_base.proofs.Greatest.{split, and_both}
-use Rattle.am_stands.specs.Standing.{NameStands}
-use Rattle.am_stands.specs.States.{Reporting}
-use Rattle.am_stands.specs.Accepting.{MayCount, RefreshAccepts}
-use Rattle.am_stands.proofs.Changes.{told_all, long_all}
-use Rattle.am_stands.proofs.Counting.{names_pass, name_small}
-use Rattle.am_stands.proofs.Parts.{counted_whole, need_whole, counted_concerned}
+use Rattle.am_stands.proofs.{Changes.told_all, Changes.long_all, Counting.names_pass, Counting.name_small, Parts.counted_whole, Parts.need_whole}
+use Rattle.am_stands.proofs.{Parts.counted_concerned}
 
 -- ---- one number
 

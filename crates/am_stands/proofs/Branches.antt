@@ -1,32 +1,13 @@
 -- What stopped names have is on the chain, or was left out of it; so a decision finds what each of its members has.
-use Rattle.std.proofs.Common.{◌≡◌, ◌⊎◌, inl, inr, ⊎_elim, ℕ, ◌<◌, ◌≤◌, ◌==◌, ◌||◌, List, [], ◌∷◌, ◌++◌, length, take, true, false, Some}
-use Rattle.std.proofs.Common.{slice_index, refl, sym, ap, ◌∙◌, subst, arith}
-use Rattle.std.proofs.lemmas.Bool.Decides.{nat_tests}
-use Rattle.am_base.specs.declared.entry.Entry.{Entry}
-use Rattle.am_base.specs.declared.entry.Entry.TheVariants.{Leave, View}
-use Rattle.am_base.specs.declared.name.Stamp.{Stamp}
-use Rattle.am_base.specs.Names.{place_of, life_of, has, is_within}
-use Rattle.am_base.specs.Lists.{members_of}
-use Rattle.am_core.proofs.Ranges.{all_at}
-use Rattle.am_chain_lists.specs.Whole.{Begins, BeginsBelow, IsGood, image_of, mem, view_of, key}
-use Rattle.am_chain_lists.proofs.Prefixes.{begins_refl, begins_nil, begins_more, begins_trans, begins_both, begins_take, below_of}
-use Rattle.am_chain_lists.proofs.Prefixes.{below_length, length_push}
-use Rattle.am_chain_lists.proofs.Rows.{mod16}
-use Rattle.am_chain_lists.proofs.Members.{good_begins, mem_between, mem_viewed}
-use Rattle.am_chain_lists.proofs.Order.{key_by, view_up}
+use Rattle.am_stands.proofs.Words.{◌≡◌, ◌⊎◌, inl, inr, ⊎_elim, ℕ, ◌<◌, ◌≤◌, ◌==◌, ◌||◌, List, [], ◌∷◌, ◌++◌, length, take, true, false, Some, slice_index}
+use Rattle.am_stands.proofs.Words.{refl, sym, ap, ◌∙◌, subst, arith, nat_tests, Entry, Leave, View, Stamp, place_of, life_of, has, is_within, members_of}
+use Rattle.am_stands.proofs.Words.{all_at, Begins, BeginsBelow, IsGood, image_of, mem, view_of, key, begins_refl, begins_nil, begins_more, begins_trans}
+use Rattle.am_stands.proofs.Words.{begins_both, begins_take, below_of, below_length, length_push, mod16, good_begins, mem_between, mem_viewed, key_by}
+use Rattle.am_stands.proofs.Words.{view_up, Group, put, put2, opening, chain_of, IsUp, NoBetter, MayDecide, Voted, with_choice, choice_of, own_stamp, longer}
+use Rattle.am_stands.proofs.Words.{Kept, IsLawful, first_choice, start_kept, by_cases, put_same, put_at, put2_cases, own_above, ballot_ok, list_chain}
+use Rattle.am_stands.proofs.Words.{group_low, NewView, OnBranch, on_chain, left_out, BranchesOk, MovesBranch, DecisionsAreNew, BranchesBegin}
 use Rattle.am_chain_moves.specs.Group as groups
-use Rattle.am_chain_moves.specs.Group.{Group, put, put2, opening, chain_of, IsUp, NoBetter}
 use Rattle.am_chain_moves.specs.Moves as group
-use Rattle.am_chain_moves.specs.Moves.{MayDecide, Voted, with_choice, choice_of, own_stamp, longer}
-use Rattle.am_chain_moves.specs.Kept.{Kept}
-use Rattle.am_chain_moves.specs.Runs.{IsLawful, first_choice}
-use Rattle.am_chain_moves.proofs.Start.{start_kept}
-use Rattle.am_chain_moves.proofs.Puts.{by_cases, put_same, put_at, put2_cases}
-use Rattle.am_chain_moves.proofs.Nodes.{own_above}
-use Rattle.am_chain.proofs.Heart.{ballot_ok, list_chain}
-use Rattle.am_chain.proofs.Decide.{group_low}
-use Rattle.am_stands.specs.Growing.{NewView}
-use Rattle.am_stands.specs.Branches.{OnBranch, on_chain, left_out, BranchesOk, MovesBranch, DecisionsAreNew, BranchesBegin}
 use Rattle.am_stands.proofs.LeftOut.{longer_chain, none_departed}
 
 two : (a b : ℕ) → (a ≤ b) ⊎ (b < a)

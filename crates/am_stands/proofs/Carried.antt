@@ -1,27 +1,13 @@
 -- Each change of a node as moves of the group.
-use Rattle.std.proofs.Common.{◌≡◌, ℕ, ◌==◌, ◌&&◌, not, true, refl, sym, ap, subst, nat_lt}
-use Rattle.am_base.specs.declared.name.Stamp.{Stamp}
-use Rattle.am_base.specs.declared.entry.Entry.TheVariants.{View}
-use Rattle.am_base.specs.Stamps.{stamp_eq}
-use Rattle.am_chain_moves.specs.Group.{Group}
-use Rattle.am_model.specs.Node.{Node, view, acts, is_member, unsettled_count, has_log, has_departed, Ballot}
-use Rattle.am_model.specs.Calls.{is_unfinished}
-use Rattle.am_model.specs.Refresh.{refresh}
-use Rattle.am_model.specs.Hearing.{hears_member, hears_in_view, hears_sequencer}
-use Rattle.am_play.specs.World.{World}
-use Rattle.am_base.proofs.Greatest.{and_both}
-use Rattle.am_effects.specs.Changes.{refreshes, settles, numbers, stores, begins_list, departs, promises, opens}
-use Rattle.am_effects.specs.Changes.{looks, fetches, stores_view, asks_to_join, asks_to_leave, closes}
-use Rattle.am_effects.proofs.Rests.{rests_refresh, settle_is}
-use Rattle.am_stands.specs.Standing.{StandsBut, within}
-use Rattle.am_model.specs.Ballots.{Verdict}
-use Rattle.am_effects.specs.Causes.{Cause}
-use Rattle.am_effects.specs.Looks.{Balloting, Looks, finds_itself_out, waits, fetches_from_best, finds_too_few, finds_no_room, decides}
-use Rattle.am_stands.specs.Steps.{MayMove, of_line, NeedsLook, after_look, ChangesStand}
-use Rattle.am_stands.proofs.Names.{Onto}
-use Rattle.am_stands.proofs.Decisions.{decision_stands}
+use Rattle.am_stands.proofs.Words.{◌≡◌, ℕ, ◌==◌, ◌&&◌, not, true, refl, sym, ap, subst, nat_lt, Stamp, View, stamp_eq, Group, Node, view, acts, is_member}
+use Rattle.am_stands.proofs.Words.{unsettled_count, has_log, has_departed, Ballot, is_unfinished, refresh, hears_member, hears_in_view, hears_sequencer}
+use Rattle.am_stands.proofs.Words.{World, and_both, refreshes, settles, begins_list, promises, opens, looks, stores_view, asks_to_join, asks_to_leave}
+use Rattle.am_stands.proofs.Words.{rests_refresh, settle_is, StandsBut, within, Verdict, Cause, Balloting, Looks, finds_itself_out, waits, fetches_from_best}
+use Rattle.am_stands.proofs.Words.{finds_too_few, finds_no_room, decides, MayMove, NeedsLook, after_look, ChangesStand}
+use Rattle.am_effects.specs.Changes.{numbers, stores, departs, fetches, closes}
+use Rattle.am_stands.specs.Steps.{of_line}
 use Rattle.am_stands.proofs.Changes.{unmoved, promise_stands, open_stands, look_stands, looked_open, or_last, ask_stands, depart_stands}
-use Rattle.am_stands.proofs.Entries.{piece_stands, number_stands, welcome_stands}
+use Rattle.am_stands.proofs.{Names.Onto, Decisions.decision_stands, Entries.piece_stands, Entries.number_stands, Entries.welcome_stands}
 
 hears_member_member : (x : Node) (from : ℕ) → hears_member x from ≡ true → is_member x.status ≡ true
 hears_member_member x from h = (and_both (not (from == x.core.who)) (is_member x.status) h).1

@@ -1,39 +1,16 @@
 -- Who joins is one of the 256 names, and a View has a set of them: so members are sets of names.
-use Rattle.std.proofs.Common.{◌≡◌, ◌≢◌, ⊎_elim, ℕ, ◌+◌, ◌-◌, ◌<◌, ◌≤◌, ◌==◌, ◌&&◌, not, nat_lt, Bool, true, false, List, [], ◌∷◌}
-use Rattle.std.proofs.Common.{◌++◌, length, take, Option, Some, None, slice_get, slice_index, refl, sym, ap, ◌∙◌, subst, arith}
-use Rattle.std.specs.Prelude.{All}
-use Rattle.std.proofs.lemmas.Bool.Decides.{nat_tests}
-use Rattle.std.proofs.lemmas.List.{length-map, get_or-replicate}
-use Rattle.std.proofs.lemmas.List.Elements.{All-head, All-tail, All-nil, All-cons, All-append, All-take}
-use Rattle.am_base.specs.declared.entry.Entry.{Entry}
-use Rattle.am_base.specs.declared.entry.Entry.TheVariants.{Data, Join, Leave, View}
-use Rattle.am_base.specs.declared.image.Row.{Row}
-use Rattle.am_base.specs.declared.image.Image.{Image}
-use Rattle.am_base.specs.Names.{IsSet, place_of, life_of, has}
-use Rattle.am_base.specs.Lists.{blank_row, blank, is_blank, at_place, member_life, members_of, with_row, row_after_view, after, fold, top_of}
-use Rattle.am_base.specs.Fronts.{counted_of}
-use Rattle.am_core.proofs.Lives.{unions_most, member_at}
-use Rattle.am_chain_lists.specs.Whole.{Begins, image_of, key}
-use Rattle.am_chain_lists.proofs.Rows.{by_cases, row_at, row_set, row_view, long_after, mod16}
-use Rattle.am_chain_lists.proofs.Members.{long_told}
+use Rattle.am_stands.proofs.Words.{◌≡◌, ◌≢◌, ⊎_elim, ℕ, ◌+◌, ◌-◌, ◌<◌, ◌≤◌, ◌==◌, ◌&&◌, not, nat_lt, Bool, true, false, List, [], ◌∷◌, ◌++◌, length, take}
+use Rattle.am_stands.proofs.Words.{Option, Some, None, slice_get, slice_index, refl, sym, ap, ◌∙◌, subst, arith, All, nat_tests, length-map, get_or-replicate}
+use Rattle.am_stands.proofs.Words.{All-head, All-tail, All-nil, All-cons, All-append, All-take, Entry, Data, Join, Leave, View, Row, Image, IsSet, place_of}
+use Rattle.am_stands.proofs.Words.{life_of, has, blank_row, blank, is_blank, at_place, member_life, members_of, with_row, row_after_view, after, fold, top_of}
+use Rattle.am_stands.proofs.Words.{counted_of, unions_most, member_at, Begins, image_of, key, row_at, row_set, row_view, long_after, mod16, long_told}
+use Rattle.am_stands.proofs.Words.{opening, chain_of, choice_of, longer, put_same, all_get, Node, concerned_names, World, NamesNamed, NameStands, CountsNames}
+use Rattle.am_stands.proofs.Words.{RowsLive, MovesNamed}
+use Rattle.am_chain_lists.proofs.Rows.{by_cases}
 use Rattle.am_chain_moves.specs.Group as groups
-use Rattle.am_chain_moves.specs.Group.{opening, chain_of}
 use Rattle.am_chain_moves.specs.Moves as group
-use Rattle.am_chain_moves.specs.Moves.{choice_of, longer}
-use Rattle.am_chain_moves.proofs.Puts.{put_same}
-use Rattle.am_effects.proofs.Items.{all_get}
 use Rattle.am_model.specs.Node as nodes
-use Rattle.am_model.specs.Node.{Node}
-use Rattle.am_model.specs.Refresh.{concerned_names}
-use Rattle.am_play.specs.World.{World}
-use Rattle.am_stands.specs.Moving.{NamesNamed}
-use Rattle.am_stands.specs.Standing.{NameStands}
-use Rattle.am_stands.specs.Accepting.{CountsNames}
-use Rattle.am_stands.specs.Sending.{RowsLive}
-use Rattle.am_stands.specs.Branches.{MovesNamed}
-use Rattle.am_stands.proofs.Changes.{told_all}
-use Rattle.am_stands.proofs.LeftOut.{longer_chain}
-use Rattle.am_stands.proofs.Parts.{counted_whole, image_whole}
+use Rattle.am_stands.proofs.{Changes.told_all, LeftOut.longer_chain, Parts.counted_whole, Parts.image_whole}
 
 -- ---- each move
 

@@ -1,44 +1,17 @@
 -- The changes of a node that make no list longer, as moves of the group.
-use Rattle.std.proofs.Common.{◌≡◌, ◌≢◌, ℕ, ◌+◌, ◌<◌, ◌≤◌, ◌==◌, ◌||◌, not, Bool, true, false, List, ◌++◌, length, take, Option, Some, None, refl, sym, ap}
-use Rattle.std.proofs.Common.{◌∙◌, subst, arith}
-use Rattle.std.proofs.lemmas.Bool.Decides.{nat_tests}
-use Rattle.std.proofs.lemmas.List.{length-append, length-take}
-use Rattle.am_base.specs.declared.name.Stamp.{Stamp}
-use Rattle.am_base.specs.declared.entry.Entry.{Entry}
-use Rattle.am_base.specs.declared.image.Image.{Image}
-use Rattle.am_base.specs.Stamps.{stamp_lt}
-use Rattle.am_base.specs.Names.{has}
-use Rattle.am_base.specs.Lists.{Log, blank, members_of, fold}
-use Rattle.am_chain_lists.specs.Whole.{image_of, mem, key}
-use Rattle.am_chain_lists.proofs.Order.{key_lt}
+use Rattle.am_stands.proofs.Words.{◌≡◌, ◌≢◌, ℕ, ◌+◌, ◌<◌, ◌≤◌, ◌==◌, ◌||◌, not, Bool, true, false, List, ◌++◌, length, take, Option, Some, None, refl, sym}
+use Rattle.am_stands.proofs.Words.{ap, ◌∙◌, subst, arith, nat_tests, length-append, length-take, Stamp, Entry, Image, stamp_lt, has, Log, blank, members_of}
+use Rattle.am_stands.proofs.Words.{fold, image_of, mem, key, key_lt, Group, IsThere, IsUp, Move, IsAbove, MayDepart, with_node, own_stamp, put_same, Status}
+use Rattle.am_stands.proofs.Words.{Node, Ballot, members, is_member, is_asking, has_log, has_departed, is_unfinished, refresh, Verdict, overtake}
+use Rattle.am_stands.proofs.Words.{with_promise, next_stamp, hears_member, World, is_stopped, fold_append, split, and_both, Cause, hears, Balloting}
+use Rattle.am_stands.proofs.Words.{with_more, without_one, as_it_is, Looks, finds_itself_out, waits, fetches_from_best, finds_too_few, finds_no_room, decides}
+use Rattle.am_stands.proofs.Words.{Promises, invited, overtaken_by, told_result, rests_refresh, logged, equal_stamps, NameStands, FrontsStand, StandsBut}
+use Rattle.am_stands.proofs.Words.{within, GoneSays, has_stopped, may_go, MoveOk, MayMove}
 use Rattle.am_chain_moves.specs.Group as groups
-use Rattle.am_chain_moves.specs.Group.{Group, IsThere, IsUp}
-use Rattle.am_chain_moves.specs.Moves.{Move, IsAbove, MayDepart, with_node, own_stamp}
 use Rattle.am_chain_moves.specs.Moves as group
-use Rattle.am_chain_moves.proofs.Puts.{put_same}
-use Rattle.am_model.specs.declared.status.Status.{Status}
 use Rattle.am_model.specs.declared.status.Status.TheVariants as status
 use Rattle.am_model.specs.Node as nodes
-use Rattle.am_model.specs.Node.{Node, Ballot, members, is_member, is_asking, has_log, has_departed}
-use Rattle.am_model.specs.Calls.{is_unfinished}
-use Rattle.am_model.specs.Refresh.{refresh}
-use Rattle.am_model.specs.Ballots.{Verdict, overtake, with_promise, next_stamp}
-use Rattle.am_model.specs.Hearing.{hears_member}
-use Rattle.am_play.specs.World.{World, is_stopped}
-use Rattle.am_base.proofs.Folds.{fold_append}
-use Rattle.am_base.proofs.Greatest.{split, and_both}
-use Rattle.am_effects.specs.Causes.{Cause, hears}
-use Rattle.am_effects.specs.Looks.{Balloting, with_more, without_one, as_it_is, Looks, finds_itself_out, waits, fetches_from_best, finds_too_few}
-use Rattle.am_effects.specs.Looks.{finds_no_room, decides}
-use Rattle.am_effects.specs.Changes.{Promises, invited, overtaken as overtaken_by, told_result}
-use Rattle.am_effects.proofs.Rests.{rests_refresh}
-use Rattle.am_effects.proofs.Statuses.{logged}
-use Rattle.am_laws.proofs.Stamps.{equal_stamps}
 use Rattle.am_packet.specs.declared.packet.Packet.TheVariants as packet
-use Rattle.am_stands.specs.Standing.{NameStands, FrontsStand, StandsBut, within}
-use Rattle.am_stands.specs.Letters.{GoneSays, has_stopped, may_go}
-use Rattle.am_stands.specs.Moving.{MoveOk}
-use Rattle.am_stands.specs.Steps.{MayMove}
 use Rattle.am_stands.proofs.Names.{Onto, onto_same, onto_move, name_in, views_in, lines_within, each_within, fronts_within}
 
 -- ---- a node that is the same to the group

@@ -1,12 +1,7 @@
 -- How many names of a set pass a test, counted by the set and among all names.
-use Rattle.std.proofs.Common.{◌≡◌, ◌≢◌, ℕ, zero, suc, ◌+◌, ◌<◌, ◌≤◌, ◌==◌, ◌&&◌, nat_lt, Bool, true, false, if◌then◌else◌, List, [], ◌∷◌, length, slice_index}
-use Rattle.std.proofs.Common.{count_by, refl, sym, ap, ◌∙◌, subst, arith}
-use Rattle.std.proofs.lemmas.Bool.Decides.{nat_tests}
-use Rattle.am_base.specs.Names.{IsSet, place_of, life_of, name_at, has, size, names_from, names_of}
-use Rattle.am_fronts.proofs.ReportLaws.{count_cons}
-use Rattle.am_chain_lists.proofs.Rows.{mod16}
-use Rattle.am_chain_moves.specs.Group.{count, how_many}
-use Rattle.am_chain_moves.proofs.Puts.{by_cases, count_below}
+use Rattle.am_stands.proofs.Words.{◌≡◌, ◌≢◌, ℕ, zero, suc, ◌+◌, ◌<◌, ◌≤◌, ◌==◌, ◌&&◌, nat_lt, Bool, true, false, if◌then◌else◌, List, [], ◌∷◌, length}
+use Rattle.am_stands.proofs.Words.{slice_index, count_by, refl, sym, ap, ◌∙◌, subst, arith, nat_tests, IsSet, place_of, life_of, name_at, has, size}
+use Rattle.am_stands.proofs.Words.{names_from, names_of, count_cons, mod16, count, how_many, by_cases, count_below}
 
 -- ---- all names but one
 

@@ -1,39 +1,18 @@
 -- The changes of a node that make its list longer, or let it begin, as moves of the group.
-use Rattle.std.proofs.Common.{◌≡◌, ◌≢◌, ℕ, ◌<◌, ◌≤◌, ◌==◌, true, false, List, [], ◌∷◌, ◌++◌, length, take, Some, slice_get, refl, sym, ap, ◌∙◌, subst, arith}
-use Rattle.std.proofs.lemmas.Bool.Decides.{nat_tests}
-use Rattle.std.proofs.lemmas.List.{append_assoc, append-nil}
-use Rattle.am_base.specs.declared.name.Stamp.{Stamp}
-use Rattle.am_base.specs.declared.image.Image.{Image}
-use Rattle.am_base.specs.declared.entry.Entry.{Entry}
-use Rattle.am_base.specs.declared.entry.Entry.TheVariants.{View}
-use Rattle.am_base.specs.Names.{rank_of}
-use Rattle.am_base.specs.Stamps.{stamp_eq}
-use Rattle.am_base.specs.Lists.{Log, fits}
-use Rattle.am_chain_lists.specs.Whole.{Begins, image_of, view_of, key}
-use Rattle.am_chain_lists.proofs.Order.{key_by}
-use Rattle.am_chain_lists.proofs.Prefixes.{begins_trans, begins_more}
+use Rattle.am_stands.proofs.Words.{◌≡◌, ◌≢◌, ℕ, ◌<◌, ◌≤◌, ◌==◌, true, false, List, [], ◌∷◌, ◌++◌, length, take, Some, slice_get, refl, sym, ap, ◌∙◌, subst}
+use Rattle.am_stands.proofs.Words.{arith, nat_tests, append_assoc, Stamp, Image, Entry, View, rank_of, stamp_eq, Log, fits, Begins, image_of, view_of, key}
+use Rattle.am_stands.proofs.Words.{key_by, begins_trans, begins_more, Group, Views, put, opening, Move, with_node, with_line, longer, put_same, Node, view}
+use Rattle.am_stands.proofs.Words.{is_member, acts, is_sequencer, push_entry, has_log, has_departed, is_unfinished, is_view, Decided, World, is_stopped}
+use Rattle.am_stands.proofs.Words.{whole, up_to_next, line_of, split, and_both, begin_list, Cause, Numbers, asked_send, own_send, asked_join, asked_leave}
+use Rattle.am_stands.proofs.Words.{same_stamp, NameStands, NotedStands, ViewsStand, StandsBut, within, MoveOk, Leads, MayMove, NeedsNumber, IsOthers}
+use Rattle.am_stands.proofs.Words.{NeedsEntry, NeedsPiece, NeedsWelcome, FrontsBegin}
+use Rattle.std.proofs.lemmas.List.{append-nil}
+use Rattle.am_stands.specs.Steps.{of_line, of_shown}
 use Rattle.am_chain_moves.specs.Group as groups
-use Rattle.am_chain_moves.specs.Group.{Group, Views, put, opening}
-use Rattle.am_chain_moves.specs.Moves.{Move, with_node, with_line, longer}
 use Rattle.am_chain_moves.specs.Moves as group
-use Rattle.am_chain_moves.proofs.Puts.{put_same}
-use Rattle.am_model.specs.Node.{Node, view, is_member, acts, is_sequencer, push_entry, has_log, has_departed}
-use Rattle.am_model.specs.Calls.{is_unfinished}
-use Rattle.am_model.specs.Receiving.{is_view}
-use Rattle.am_play.specs.World.{Decided, World, is_stopped}
-use Rattle.am_play.specs.Lawful.{whole}
-use Rattle.am_play.specs.Claims.{up_to_next, line_of}
-use Rattle.am_base.proofs.Greatest.{split, and_both}
-use Rattle.am_model.specs.Joining.{begin_list}
-use Rattle.am_effects.specs.Causes.{Cause}
-use Rattle.am_effects.specs.Changes.{Numbers, asked_send, own_send, asked_join, asked_leave}
-use Rattle.am_laws.proofs.Stamps.{same_stamp}
-use Rattle.am_stands.specs.Standing.{NameStands, NotedStands, ViewsStand, StandsBut, within}
-use Rattle.am_stands.specs.Moving.{MoveOk, Leads}
-use Rattle.am_stands.specs.Steps.{MayMove, NeedsNumber, IsOthers, NeedsEntry, NeedsPiece, of_line, of_shown, NeedsWelcome, FrontsBegin}
-use Rattle.am_stands.proofs.Names.{Onto, onto_move, one_move, views_noted, each_within, fronts_within, noted_line}
-use Rattle.am_stands.proofs.Changes.{own_name, is_up, told_whole}
-use Rattle.am_stands.proofs.Lines.{HasViewOf, next_of_list, line_stays, line_ends, line_grows, opened}
+use Rattle.am_stands.proofs.{Names.Onto, Names.onto_move, Names.one_move, Names.views_noted, Names.each_within, Names.fronts_within, Names.noted_line}
+use Rattle.am_stands.proofs.{Changes.own_name, Changes.is_up, Changes.told_whole, Lines.HasViewOf, Lines.next_of_list, Lines.line_stays, Lines.line_ends}
+use Rattle.am_stands.proofs.{Lines.line_grows, Lines.opened}
 
 -- ---- one entry more
 

@@ -1,38 +1,19 @@
 -- The Gone that is sent is so: its name has stopped, or all who have to have stored its Leave.
-use Rattle.std.proofs.Common.{◌≡◌, ◌≢◌, ℕ, ◌+◌, ◌-◌, ◌<◌, ◌≤◌, ◌==◌, ◌&&◌, nat_lt, nat_le, true, false, List, [], ◌∷◌, ◌++◌, length, take, set, get_or}
-use Rattle.std.proofs.Common.{slice_index, Option, Some, None, refl, sym, ap, ◌∙◌, subst, arith}
-use Rattle.std.proofs.lemmas.Bool.Decides.{nat_tests}
-use Rattle.std.proofs.lemmas.List.{length-set, get_or-set_other}
-use Rattle.am_base.specs.declared.entry.Entry.{Entry}
-use Rattle.am_base.specs.declared.entry.Entry.TheVariants.{Leave, View}
-use Rattle.am_base.specs.declared.image.Image.{Image}
-use Rattle.am_base.specs.Names.{place_of, life_of, name_at, has, without_name}
-use Rattle.am_base.specs.Lists.{top_of, members_of, members_at, row_of}
-use Rattle.am_core.specs.Cores.{unions}
-use Rattle.am_core.proofs.Lives.{unions_long, unions_most, unions_least}
-use Rattle.am_fronts.proofs.Leaders.{least_in}
-use Rattle.am_chain_lists.specs.Whole.{Begins, image_of, mem}
-use Rattle.am_chain_lists.proofs.Prefixes.{begins_refl, begins_more, begins_trans, begins_both, begins_take, length_push, length_take}
-use Rattle.am_chain_lists.proofs.Rows.{by_cases, mod16}
-use Rattle.am_chain_lists.proofs.Members.{good_begins, long_told, mem_between, leaver_out}
-use Rattle.am_chain_moves.specs.Group as groups
-use Rattle.am_chain_moves.specs.Group.{Group, IsThere}
-use Rattle.am_model.specs.Node as nodes
-use Rattle.am_model.specs.Node.{Node, is_sequencer, only_name}
-use Rattle.am_model.specs.Refresh.{concerned_names}
-use Rattle.am_model.specs.Joining.{all_stored, may_go}
+use Rattle.am_stands.proofs.Words.{◌≡◌, ◌≢◌, ℕ, ◌+◌, ◌-◌, ◌<◌, ◌≤◌, ◌==◌, ◌&&◌, nat_lt, nat_le, true, false, List, [], ◌∷◌, ◌++◌, length, take, set, get_or}
+use Rattle.am_stands.proofs.Words.{slice_index, Option, Some, None, refl, sym, ap, ◌∙◌, subst, arith, nat_tests, length-set, get_or-set_other, Entry, Leave}
+use Rattle.am_stands.proofs.Words.{View, Image, place_of, life_of, name_at, has, without_name, top_of, members_of, members_at, row_of, unions, unions_long}
+use Rattle.am_stands.proofs.Words.{unions_most, unions_least, least_in, Begins, image_of, mem, begins_refl, begins_more, begins_trans, begins_both}
+use Rattle.am_stands.proofs.Words.{begins_take, length_push, length_take, mod16, good_begins, long_told, mem_between, leaver_out, Group, IsThere, Node}
+use Rattle.am_stands.proofs.Words.{is_sequencer, only_name, concerned_names, all_stored, World, and_both, NameStands, FrontsStand, Trimmed, GoneSays}
+use Rattle.am_stands.proofs.Words.{has_stopped, ReportsStand, LeftOut}
+use Rattle.am_chain_lists.proofs.Rows.{by_cases}
+use Rattle.am_model.specs.Joining.{may_go}
 use Rattle.am_model.specs.Sequencing.{row_at}
-use Rattle.am_play.specs.World.{World}
-use Rattle.am_base.proofs.Greatest.{and_both}
-use Rattle.am_stands.specs.Standing.{NameStands, FrontsStand}
+use Rattle.am_chain_moves.specs.Group as groups
+use Rattle.am_model.specs.Node as nodes
 use Rattle.am_stands.specs.Letters as letters
-use Rattle.am_stands.specs.Letters.{Trimmed, GoneSays, has_stopped}
-use Rattle.am_stands.specs.States.{ReportsStand, LeftOut}
-use Rattle.am_stands.proofs.Changes.{told_all, long_all}
-use Rattle.am_stands.proofs.Leaving.{LeavesAt, by_leave, by_view, leaves_at}
-use Rattle.am_stands.proofs.Parts.{image_whole, number_low}
-use Rattle.am_stands.proofs.Sent.{OnChain, on_chain, Speaks}
-use Rattle.am_stands.proofs.Votes.{only_one}
+use Rattle.am_stands.proofs.{Changes.told_all, Changes.long_all, Leaving.LeavesAt, Leaving.by_leave, Leaving.by_view, Leaving.leaves_at, Parts.image_whole}
+use Rattle.am_stands.proofs.{Parts.number_low, Sent.OnChain, Sent.on_chain, Sent.Speaks, Votes.only_one}
 
 -- ---- who is concerned, by numbers
 

@@ -1,18 +1,12 @@
 -- With each move a group goes on as letters need it.
-use Rattle.std.proofs.Common.{◌≡◌, inl, inr, ⊎_elim, ℕ, ◌==◌, List, [], ◌∷◌, ◌++◌, length, take, true, false, Some, refl, sym, ap, ◌∙◌, subst, arith}
-use Rattle.std.proofs.lemmas.Bool.Decides.{nat_tests}
-use Rattle.am_base.specs.declared.entry.Entry.{Entry}
-use Rattle.am_base.specs.declared.entry.Entry.TheVariants.{Leave}
-use Rattle.am_chain_lists.specs.Whole.{Begins, view_of, key}
-use Rattle.am_chain_lists.proofs.Prefixes.{begins_refl, begins_nil, begins_more, begins_trans, begins_both, begins_take, length_take}
+use Rattle.am_stands.proofs.Words.{◌≡◌, inl, inr, ⊎_elim, ℕ, ◌==◌, List, [], ◌∷◌, ◌++◌, length, take, true, false, Some, refl, sym, ap, ◌∙◌, subst, arith}
+use Rattle.am_stands.proofs.Words.{nat_tests, Entry, Leave, Begins, view_of, key, begins_refl, begins_nil, begins_more, begins_trans, begins_both}
+use Rattle.am_stands.proofs.Words.{begins_take, length_take, Group, Views, put, put2, chain_of, opening, MayAccept, with_node, with_line, with_choice}
+use Rattle.am_stands.proofs.Words.{choice_of, longer, numbers, stores, accepts, learns, begins, raises, shows, serves, fetches, gives_over, welcomes, asks}
+use Rattle.am_stands.proofs.Words.{departs, closes, stops, Kept, own_above, by_cases, put_at, put2_cases, NameGrows, NewView, Grows, MovesGrow}
+use Rattle.am_chain_moves.specs.Group.{Leads}
+use Rattle.am_chain_moves.specs.Moves.{decides}
 use Rattle.am_chain_moves.specs.Group as groups
-use Rattle.am_chain_moves.specs.Group.{Group, Views, put, put2, chain_of, opening, Leads, MayAccept}
-use Rattle.am_chain_moves.specs.Moves.{with_node, with_line, with_choice, choice_of, longer, numbers, stores, accepts, learns, begins, raises, shows, serves}
-use Rattle.am_chain_moves.specs.Moves.{fetches, decides, gives_over, welcomes, asks, departs, closes, stops}
-use Rattle.am_chain_moves.specs.Kept.{Kept}
-use Rattle.am_chain_moves.proofs.Nodes.{own_above}
-use Rattle.am_chain_moves.proofs.Puts.{by_cases, put_at, put2_cases}
-use Rattle.am_stands.specs.Growing.{NameGrows, NewView, Grows, MovesGrow}
 
 -- ---- one name
 

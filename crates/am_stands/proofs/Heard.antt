@@ -1,40 +1,13 @@
 -- What a change needs of the group, from what a letter says and what every run of the group keeps.
-use Rattle.std.proofs.Common.{◌≡◌, ◌≢◌, ℕ, suc, ◌+◌, ◌<◌, ◌==◌, ◌&&◌, not, nat_lt, List, length, true, false, Some, slice_get, refl, sym, ap, ◌∙◌, subst, arith}
-use Rattle.std.proofs.lemmas.Bool.Decides.{nat_tests}
-use Rattle.am_base.specs.declared.entry.Entry.{Entry}
-use Rattle.am_base.specs.declared.entry.Entry.TheVariants.{Data, View}
-use Rattle.am_base.specs.declared.name.Stamp.{Stamp}
-use Rattle.am_base.specs.declared.image.Image.{Image}
-use Rattle.am_base.specs.declared.image.Report.{Report}
-use Rattle.am_base.specs.Names.{has}
-use Rattle.am_base.specs.Stamps.{stamp_eq}
-use Rattle.am_base.specs.Lists.{row_of, fits, members_of}
+use Rattle.am_stands.proofs.Words.{◌≡◌, ◌≢◌, ℕ, suc, ◌+◌, ◌<◌, ◌==◌, ◌&&◌, not, nat_lt, List, length, true, false, Some, slice_get, refl, sym, ap, ◌∙◌, subst}
+use Rattle.am_stands.proofs.Words.{arith, nat_tests, Entry, Data, View, Stamp, Image, Report, has, stamp_eq, row_of, fits, members_of, OwnSend, item_at}
+use Rattle.am_stands.proofs.Words.{image_of, key, Group, IsUp, MayNumber, Kept, Node, view, is_member, acts, has_own_leave, body_of, hears_member}
+use Rattle.am_stands.proofs.Words.{hears_in_view, hears_sequencer, World, is_stopped, and_both, Cause, hears, MayStore, Numbers, asked_send, own_send}
+use Rattle.am_stands.proofs.Words.{asked_join, asked_leave, same_stamp, known_member, leave_fits, NameStands, within, line, IsDecided, EntrySays, OrderSays}
+use Rattle.am_stands.proofs.Words.{LeaverSays, of_view, before_it, ResultSays, BodiesAsked, SendsOnce, NamesNamed, NeedsNumber, IsOthers, NeedsEntry}
 use Rattle.am_packet.specs.declared.packet.Packet.TheVariants as packet
-use Rattle.am_sender.specs.declared.OwnSend.{OwnSend}
-use Rattle.am_group.specs.Journals.{item_at}
-use Rattle.am_chain_lists.specs.Whole.{image_of, key}
-use Rattle.am_chain_moves.specs.Group.{Group, IsUp}
-use Rattle.am_chain_moves.specs.Moves.{MayNumber}
-use Rattle.am_chain_moves.specs.Kept.{Kept}
 use Rattle.am_model.specs.Node as nodes
-use Rattle.am_model.specs.Node.{Node, view, is_member, acts, has_own_leave}
-use Rattle.am_model.specs.Receiving.{body_of}
-use Rattle.am_model.specs.Hearing.{hears_member, hears_in_view, hears_sequencer}
-use Rattle.am_play.specs.World.{World, is_stopped}
-use Rattle.am_base.proofs.Greatest.{and_both}
-use Rattle.am_effects.specs.Causes.{Cause, hears}
-use Rattle.am_effects.specs.Changes.{MayStore, Numbers, asked_send, own_send, asked_join, asked_leave}
-use Rattle.am_laws.proofs.Stamps.{same_stamp}
-use Rattle.am_laws.proofs.Taken.{known_member, leave_fits}
-use Rattle.am_stands.specs.Standing.{NameStands, within}
-use Rattle.am_stands.specs.Letters.{line, IsDecided, EntrySays, OrderSays, LeaverSays, of_view, before_it, ResultSays}
-use Rattle.am_stands.specs.States.{BodiesAsked, SendsOnce}
-use Rattle.am_stands.specs.Moving.{NamesNamed}
-use Rattle.am_stands.specs.Steps.{NeedsNumber, IsOthers, NeedsEntry}
-use Rattle.am_stands.proofs.Changes.{told_whole, long_all, is_up}
-use Rattle.am_stands.proofs.Entries.{IsLeading}
-use Rattle.am_stands.proofs.Growing.{leads_line}
-use Rattle.am_stands.proofs.Ongoing.{is_ongoing}
+use Rattle.am_stands.proofs.{Changes.told_whole, Changes.long_all, Changes.is_up, Entries.IsLeading, Growing.leads_line, Ongoing.is_ongoing}
 
 -- ---- an entry of a decided view's line
 

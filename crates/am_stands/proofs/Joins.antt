@@ -1,19 +1,11 @@
 -- Where a name became a member of a list: its row tells the number.
-use Rattle.std.proofs.Common.{◌≡◌, ◌≢◌, ◌⊎◌, inl, inr, ⊎_elim, ℕ, ◌+◌, ◌<◌, ◌≤◌, ◌==◌, ◌&&◌, not, nat_lt, true, false, List, [], ◌∷◌, ◌++◌, length, take}
-use Rattle.std.proofs.Common.{slice_index, refl, sym, ap, ◌∙◌, subst, arith}
-use Rattle.std.proofs.lemmas.Bool.Decides.{nat_tests}
-use Rattle.std.proofs.lemmas.List.{append_assoc}
-use Rattle.am_base.specs.declared.entry.Entry.{Entry}
-use Rattle.am_base.specs.declared.entry.Entry.TheVariants.{Data, Join, Leave, View}
-use Rattle.am_base.specs.declared.image.Row.{Row}
-use Rattle.am_base.specs.declared.image.Image.{Image}
-use Rattle.am_base.specs.Names.{place_of, life_of, has}
-use Rattle.am_base.specs.Lists.{is_blank, at_place, row_of, member_life, members_of, with_row, row_after_view, fits, after}
-use Rattle.am_chain_lists.specs.Whole.{Begins, IsGood, image_of, mem}
-use Rattle.am_chain_lists.proofs.Prefixes.{begins_refl, begins_more, begins_both, begins_length, length_push, take_begins}
-use Rattle.am_chain_lists.proofs.Rows.{by_cases, and_left, row_at, row_view, In, Past, Was, mod16, row_set, blank_joined, past_after, not_both, view_parts}
-use Rattle.am_chain_lists.proofs.Members.{good_begins, told_push, last_fits, long_told, mem_in, in_mem, mem_nil, viewed_mem, was_begins}
-use Rattle.am_model.specs.Receiving.{is_view}
+use Rattle.am_stands.proofs.Words.{◌≡◌, ◌≢◌, ◌⊎◌, inl, inr, ⊎_elim, ℕ, ◌+◌, ◌<◌, ◌≤◌, ◌==◌, ◌&&◌, not, nat_lt, true, false, List, [], ◌∷◌, ◌++◌, length, take}
+use Rattle.am_stands.proofs.Words.{slice_index, refl, sym, ap, ◌∙◌, subst, arith, nat_tests, append_assoc, Entry, Data, Join, Leave, View, Row, Image}
+use Rattle.am_stands.proofs.Words.{place_of, life_of, has, is_blank, at_place, row_of, member_life, members_of, with_row, row_after_view, fits, after, Begins}
+use Rattle.am_stands.proofs.Words.{IsGood, image_of, mem, begins_refl, begins_more, begins_both, begins_length, length_push, take_begins, and_left, row_at}
+use Rattle.am_stands.proofs.Words.{row_view, In, Past, Was, mod16, row_set, blank_joined, past_after, not_both, view_parts, good_begins, told_push, last_fits}
+use Rattle.am_stands.proofs.Words.{long_told, mem_in, in_mem, mem_nil, viewed_mem, was_begins, is_view}
+use Rattle.am_chain_lists.proofs.Rows.{by_cases}
 use Rattle.am_stands.proofs.Ends.{taken_more}
 
 -- ---- a Join

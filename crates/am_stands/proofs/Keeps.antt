@@ -1,69 +1,30 @@
 -- What a node keeps, through each of its changes.
-use Rattle.std.proofs.Common.{◌≡◌, ◌⊎◌, inl, inr, ⊎_elim, ℕ, ◌+◌, ◌≤◌, ◌==◌, ◌&&◌, ◌||◌, not, max, nat_lt, nat_le, if◌then◌else◌, Bool, true}
-use Rattle.std.proofs.Common.{false, List, [], ◌∷◌, ◌++◌, length, take, Option, Some, None, unwrap_or, refl, sym, ap, ◌∙◌, subst, arith}
-use Rattle.std.proofs.Common.{append-nil}
-use Rattle.std.proofs.lemmas.Bool.Decides.{nat_tests}
-use Rattle.std.proofs.lemmas.List.{append_assoc}
-use Rattle.am_base.specs.declared.entry.Entry.{Entry}
-use Rattle.am_base.specs.declared.entry.Entry.TheVariants.{View}
-use Rattle.am_base.specs.declared.image.Image.{Image}
-use Rattle.am_base.specs.declared.image.Report.{Report}
-use Rattle.am_base.specs.declared.image.Vote.{Vote}
-use Rattle.am_base.specs.declared.name.Stamp.{Stamp}
-use Rattle.am_base.specs.declared.outcome.Outcome.{Outcome}
+use Rattle.am_stands.proofs.Words.{◌≡◌, ◌⊎◌, inl, inr, ⊎_elim, ℕ, ◌+◌, ◌≤◌, ◌==◌, ◌&&◌, ◌||◌, not, max, nat_lt, nat_le, if◌then◌else◌, Bool, true, false}
+use Rattle.am_stands.proofs.Words.{List, [], ◌∷◌, ◌++◌, length, take, Option, Some, None, unwrap_or, refl, sym, ap, ◌∙◌, subst, arith, append-nil, nat_tests}
+use Rattle.am_stands.proofs.Words.{append_assoc, Entry, View, Image, Report, Vote, Stamp, Outcome, Rules, names_of, stamp_lt, stamp_eq, fits, after, told_by}
+use Rattle.am_stands.proofs.Words.{Packet, least_of, after_report, Begins, IsGood, key, good_begins, Group, opening, Status, Node, Ballot, view, acts}
+use Rattle.am_stands.proofs.Words.{unsettled_count, is_member, is_asking, is_sequencer, push_entry, lowest_or_first, has_log, Verdict, need_of, left_in}
+use Rattle.am_stands.proofs.Words.{taken_by, is_unfinished, settle, World, is_stopped, has_departed, split, and_both, Cause, hears, BringsSend, by_request}
+use Rattle.am_stands.proofs.Words.{by_spread, BringsReport, with_send, by_ack, by_nack, by_leave_ask, BringsFronts, with_entry, with_number, alone, Balloting}
+use Rattle.am_stands.proofs.Words.{Looks, finds_itself_out, waits, fetches_from_best, finds_too_few, finds_no_room, decides, HasLearned, hears_member}
+use Rattle.am_stands.proofs.Words.{hears_in_view, hears_sequencer, MayReport, Change, refreshes, settles, takes_report, admits, keeps_body, notes}
+use Rattle.am_stands.proofs.Words.{begins_list, promises, opens, looks, stores_view, queues, collects, takes, asks_to_join, asks_to_leave, logged, settle_is}
+use Rattle.am_stands.proofs.Words.{told_pushed, same_stamp, Along, told_used, NameStands, within, Trimmed, VoteTells, AllShown, Grows, FetchesStand}
+use Rattle.am_stands.proofs.Words.{ReportsStand, ReportsFresh, OpensStand, IsNew, IsConcerned, Reporting, BallotStands, Ballots, GroupFor, HeardSo, IsPlain}
+use Rattle.am_stands.proofs.Words.{NodeKeeps, OwnTurn, Stepping}
+use Rattle.am_model.specs.Ballots.{overtake as overtaken_by}
+use Rattle.am_effects.specs.Changes.{numbers, stores, departs, fetches, closes}
 use Rattle.am_base.specs.declared.outcome.Outcome.TheVariants as said
-use Rattle.am_base.specs.Founding.{Rules}
-use Rattle.am_base.specs.Names.{names_of}
-use Rattle.am_base.specs.Stamps.{stamp_lt, stamp_eq}
-use Rattle.am_base.specs.Lists.{fits, after, told_by}
-use Rattle.am_packet.specs.declared.packet.Packet.{Packet}
 use Rattle.am_packet.specs.declared.packet.Packet.TheVariants as packet
-use Rattle.am_fronts.specs.Reports.{least_of, after_report}
-use Rattle.am_chain_lists.specs.Whole.{Begins, IsGood, key}
-use Rattle.am_chain_lists.proofs.Members.{good_begins}
-use Rattle.am_chain_moves.specs.Group.{Group, opening}
-use Rattle.am_model.specs.declared.status.Status.{Status}
 use Rattle.am_model.specs.declared.status.Status.TheVariants as status
 use Rattle.am_model.specs.Node as nodes
-use Rattle.am_model.specs.Node.{Node, Ballot, view, acts, unsettled_count, is_member, is_asking, is_sequencer, push_entry, lowest_or_first, has_log}
-use Rattle.am_model.specs.Ballots.{Verdict, overtake as overtaken_by, need_of, left_in, taken_by}
-use Rattle.am_model.specs.Calls.{is_unfinished}
-use Rattle.am_model.specs.Refresh.{settle}
-use Rattle.am_play.specs.World.{World, is_stopped}
-use Rattle.am_model.specs.Node.{has_departed}
-use Rattle.am_base.proofs.Greatest.{split, and_both}
-use Rattle.am_effects.specs.Causes.{Cause, hears, BringsSend, by_request, by_spread, BringsReport, with_send, by_ack, by_nack, by_leave_ask, BringsFronts}
-use Rattle.am_effects.specs.Causes.{with_entry, with_number, alone}
-use Rattle.am_effects.specs.Looks.{Balloting, Looks, finds_itself_out, waits, fetches_from_best, finds_too_few, finds_no_room, decides, HasLearned}
-use Rattle.am_model.specs.Hearing.{hears_member, hears_in_view, hears_sequencer}
-use Rattle.am_effects.specs.Changes.{MayReport, Change, refreshes, settles, takes_report, admits, numbers, keeps_body, notes, stores, begins_list}
-use Rattle.am_effects.specs.Changes.{departs, promises}
-use Rattle.am_effects.specs.Changes.{opens, looks, fetches, stores_view, queues, collects, takes, asks_to_join, asks_to_leave, closes}
-use Rattle.am_effects.proofs.Statuses.{logged}
-use Rattle.am_effects.proofs.Rests.{settle_is}
-use Rattle.am_effects.proofs.Says.{told_pushed}
-use Rattle.am_laws.proofs.Stamps.{same_stamp}
-use Rattle.am_laws.proofs.TakenRuns.{Along}
-use Rattle.am_laws.proofs.Trims.{told_used}
-use Rattle.am_stands.specs.Standing.{NameStands, within}
 use Rattle.am_stands.specs.Letters as says
-use Rattle.am_stands.specs.Letters.{Trimmed, VoteTells, AllShown}
-use Rattle.am_stands.specs.Growing.{Grows}
-use Rattle.am_stands.specs.States.{FetchesStand, ReportsStand, ReportsFresh, OpensStand, IsNew, IsConcerned, Reporting}
-use Rattle.am_stands.proofs.Changes.{or_last, long_all}
-use Rattle.am_stands.proofs.Onward.{group_kept}
-use Rattle.am_stands.proofs.Entries.{key_stamp}
-use Rattle.am_stands.proofs.Keeping.{kept, old, up, good, known, looked_last}
-use Rattle.am_stands.proofs.Keeping.{unfinished, sequencer_member, number_ok, other_heard}
-use Rattle.am_stands.proofs.Letters.{all_stay, trimmed_stays}
+use Rattle.am_stands.proofs.Keeping.{kept, old, up, good, known, looked_last, unfinished, sequencer_member, number_ok, other_heard}
 use Rattle.am_stands.proofs.Reporting.{reporting_grow, reporting_base, reporting_anew, reporting_admit, reporting_more, reporting_pushed, fits_new}
 use Rattle.am_stands.proofs.Reporting.{new_before, known_old, report_true, leaver_true}
-use Rattle.am_stands.proofs.Requests.{turn_grows, turn_queued, turn_collected, turn_settled}
-use Rattle.am_stands.proofs.Sent.{Speaks, Leading, leading}
-use Rattle.am_stands.proofs.Shown.{votes_grow}
-use Rattle.am_stands.proofs.Trimming.{trimmed_max, TakenKnown, votes_trim}
-use Rattle.am_stands.proofs.Votes.{best_shown}
-use Rattle.am_stands.specs.Keeping.{BallotStands, Ballots, GroupFor, HeardSo, IsPlain, NodeKeeps, OwnTurn, Stepping}
+use Rattle.am_stands.proofs.{Changes.or_last, Changes.long_all, Onward.group_kept, Entries.key_stamp, Letters.all_stay, Letters.trimmed_stays}
+use Rattle.am_stands.proofs.{Requests.turn_grows, Requests.turn_queued, Requests.turn_collected, Requests.turn_settled, Sent.Speaks, Sent.Leading}
+use Rattle.am_stands.proofs.{Sent.leading, Shown.votes_grow, Trimming.trimmed_max, Trimming.TakenKnown, Trimming.votes_trim, Votes.best_shown}
 
 -- ---- what stays, as the group goes on
 

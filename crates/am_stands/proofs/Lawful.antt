@@ -1,18 +1,11 @@
 -- As long as nobody stops, no move makes a run unlawful.
-use Rattle.std.proofs.Common.{◌≡◌, inl, ℕ, ◌==◌, ◌&&◌, ◌||◌, not, nat_lt, List, Bool, true, false, length, refl, sym, ap, ◌∙◌, subst, arith}
-use Rattle.std.proofs.lemmas.Bool.Decides.{nat_tests}
-use Rattle.am_base.specs.Names.{has}
-use Rattle.am_chain_lists.specs.Whole.{Begins, key}
+use Rattle.am_stands.proofs.Words.{◌≡◌, inl, ℕ, ◌==◌, ◌&&◌, ◌||◌, not, nat_lt, List, Bool, true, false, length, refl, sym, ap, ◌∙◌, subst, arith, nat_tests}
+use Rattle.am_stands.proofs.Words.{has, Begins, key, Group, Chosen, put, count, how_many, opening, Move, MayDecide, with_choice, choice_of, longer, numbers}
+use Rattle.am_stands.proofs.Words.{stores, accepts, learns, begins, raises, shows, serves, fetches, gives_over, welcomes, asks, departs, closes, stops, Run}
+use Rattle.am_stands.proofs.Words.{more, counts_for, IsLawful, Kept, by_cases, put_at, put_same, count_within, run_keeps, choices_keep, DecidesNew, IsNoStop}
+use Rattle.am_stands.proofs.Words.{RunsGoOn}
+use Rattle.am_chain_moves.specs.Moves.{decides}
 use Rattle.am_chain_moves.specs.Group as groups
-use Rattle.am_chain_moves.specs.Group.{Group, Chosen, put, count, how_many, opening}
-use Rattle.am_chain_moves.specs.Moves.{Move, MayDecide, with_choice, choice_of, longer, numbers, stores, accepts, learns, begins, raises, shows, serves}
-use Rattle.am_chain_moves.specs.Moves.{fetches, decides, gives_over, welcomes, asks, departs, closes, stops}
-use Rattle.am_chain_moves.specs.Runs.{Run, more, counts_for, IsLawful}
-use Rattle.am_chain_moves.specs.Kept.{Kept}
-use Rattle.am_chain_moves.proofs.Puts.{by_cases, put_at, put_same, count_within}
-use Rattle.am_chain.proofs.Runs.{run_keeps, choices_keep}
-use Rattle.am_stands.specs.Growing.{DecidesNew}
-use Rattle.am_stands.specs.Lawful.{IsNoStop, RunsGoOn}
 use Rattle.am_stands.proofs.Votes.{undecided as still_open}
 
 -- ---- what counts as lost

@@ -1,19 +1,11 @@
 -- Where a name left a list: its row tells the number, and there stands its Leave, or a View that left it out.
-use Rattle.std.proofs.Common.{◌≡◌, ◌≢◌, ⊎_elim, ℕ, ◌+◌, ◌<◌, ◌==◌, ◌&&◌, not, nat_lt, true, false, if◌then◌else◌, List, [], ◌∷◌, ◌++◌, length, slice_index}
-use Rattle.std.proofs.Common.{refl, sym, ap, ◌∙◌, subst, arith}
-use Rattle.std.proofs.lemmas.Bool.Decides.{nat_tests}
-use Rattle.std.proofs.lemmas.List.{append_assoc, append-nil, get_or-replicate}
-use Rattle.am_base.specs.declared.entry.Entry.{Entry}
-use Rattle.am_base.specs.declared.entry.Entry.TheVariants.{Data, Join, Leave, View}
-use Rattle.am_base.specs.declared.image.Row.{Row}
-use Rattle.am_base.specs.declared.image.Image.{Image}
-use Rattle.am_base.specs.declared.name.Stamp.{Stamp}
-use Rattle.am_base.specs.Names.{place_of, life_of, has}
-use Rattle.am_base.specs.Lists.{blank_row, is_blank, at_place, row_of, member_life, with_row, row_after_view, after, fold}
-use Rattle.am_chain_lists.specs.Whole.{Begins, image_of, mem}
-use Rattle.am_chain_lists.proofs.Prefixes.{begins_refl, begins_more, begins_trans}
-use Rattle.am_chain_lists.proofs.Rows.{by_cases, row_at, row_view, In, mod16, row_set}
-use Rattle.am_chain_lists.proofs.Members.{told_push, long_told, in_mem}
+use Rattle.am_stands.proofs.Words.{◌≡◌, ◌≢◌, ⊎_elim, ℕ, ◌+◌, ◌<◌, ◌==◌, ◌&&◌, not, nat_lt, true, false, if◌then◌else◌, List, [], ◌∷◌, ◌++◌, length}
+use Rattle.am_stands.proofs.Words.{slice_index, refl, sym, ap, ◌∙◌, subst, arith, nat_tests, append_assoc, get_or-replicate, Entry, Data, Join, Leave, View}
+use Rattle.am_stands.proofs.Words.{Row, Image, Stamp, place_of, life_of, has, blank_row, is_blank, at_place, row_of, member_life, with_row, row_after_view}
+use Rattle.am_stands.proofs.Words.{after, fold, Begins, image_of, mem, begins_refl, begins_more, begins_trans, row_at, row_view, In, mod16, row_set}
+use Rattle.am_stands.proofs.Words.{told_push, long_told, in_mem}
+use Rattle.std.proofs.lemmas.List.{append-nil}
+use Rattle.am_chain_lists.proofs.Rows.{by_cases}
 
 -- ---- what a row tells of a life's leaving
 

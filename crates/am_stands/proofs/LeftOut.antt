@@ -1,23 +1,13 @@
 -- In every lawful run of the group, whom a View on the chain left out has stopped.
-use Rattle.std.proofs.Common.{◌≡◌, ⊎_elim, ℕ, List, [], ◌∷◌, ◌++◌, length, true, false, Some, slice_get, refl, sym, ap, ◌∙◌, subst, arith}
-use Rattle.am_base.specs.declared.entry.Entry.{Entry}
-use Rattle.am_base.specs.declared.entry.Entry.TheVariants.{Data, Join, Leave, View}
-use Rattle.am_base.specs.declared.name.Stamp.{Stamp}
-use Rattle.am_base.specs.Names.{has}
-use Rattle.am_chain_lists.specs.Whole.{Begins, NotView, mem, view_of, key}
-use Rattle.am_chain_lists.proofs.Prefixes.{begins_more, begins_trans, begins_length, begins_pushed, length_push}
-use Rattle.am_chain_lists.proofs.Members.{good_begins, leaver_in, leaver_out, mem_between, mem_nil}
+use Rattle.am_stands.proofs.Words.{◌≡◌, ⊎_elim, ℕ, List, [], ◌∷◌, ◌++◌, length, true, false, Some, slice_get, refl, sym, ap, ◌∙◌, subst, arith, Entry, Data}
+use Rattle.am_stands.proofs.Words.{Join, Leave, View, Stamp, has, Begins, NotView, mem, view_of, key, begins_more, begins_trans, begins_length, begins_pushed}
+use Rattle.am_stands.proofs.Words.{length_push, good_begins, leaver_in, leaver_out, mem_between, mem_nil, Group, put, opening, chain_of, Move, MayDecide}
+use Rattle.am_stands.proofs.Words.{with_line, with_choice, choice_of, longer, numbers, stores, accepts, learns, begins, raises, shows, serves, fetches}
+use Rattle.am_stands.proofs.Words.{gives_over, welcomes, asks, departs, closes, stops, Kept, IsLawful, founded, more, start, first_stamp, by_cases, put_same}
+use Rattle.am_stands.proofs.Words.{put_at, list_chain, departed_in, run_keeps, get_last, LeftOut, RunsLeaveOut}
+use Rattle.am_chain_moves.specs.Group.{Leads}
+use Rattle.am_chain_moves.specs.Moves.{decides}
 use Rattle.am_chain_moves.specs.Group as groups
-use Rattle.am_chain_moves.specs.Group.{Group, put, opening, chain_of, Leads}
-use Rattle.am_chain_moves.specs.Moves.{Move, MayDecide, with_line, with_choice, choice_of, longer, numbers, stores, accepts, learns, begins, raises, shows}
-use Rattle.am_chain_moves.specs.Moves.{serves, fetches, decides, gives_over, welcomes, asks, departs, closes, stops}
-use Rattle.am_chain_moves.specs.Kept.{Kept}
-use Rattle.am_chain_moves.specs.Runs.{IsLawful, founded, more, start, first_stamp}
-use Rattle.am_chain_moves.proofs.Puts.{by_cases, put_same, put_at}
-use Rattle.am_chain.proofs.Heart.{list_chain, departed_in}
-use Rattle.am_chain.proofs.Runs.{run_keeps}
-use Rattle.am_effects.proofs.Items.{get_last}
-use Rattle.am_stands.specs.States.{LeftOut, RunsLeaveOut}
 use Rattle.am_stands.proofs.Opens.{numbers_plain}
 
 -- ---- who stopped stays so

@@ -1,20 +1,7 @@
 -- The line of a view, where its coordinator's list gets one entry more.
-use Rattle.std.proofs.Common.{◌≡◌, ◌≢◌, ℕ, ◌+◌, Bool, true, false, if◌then◌else◌, List, [], ◌∷◌, ◌++◌, refl, ap, ◌∙◌, subst, arith}
-use Rattle.std.specs.List.{list_any}
-use Rattle.std.proofs.lemmas.Bool.Decides.{nat_tests}
-use Rattle.am_base.specs.declared.name.Stamp.{Stamp}
-use Rattle.am_base.specs.declared.entry.Entry.{Entry}
-use Rattle.am_base.specs.declared.entry.Entry.TheVariants.{Data, Join, Leave, View}
-use Rattle.am_base.specs.declared.image.Image.{Image}
-use Rattle.am_base.specs.Stamps.{stamp_eq}
-use Rattle.am_base.specs.Lists.{blank, after, fold}
-use Rattle.am_chain_lists.specs.Whole.{Begins, view_of}
-use Rattle.am_model.specs.Receiving.{is_view}
-use Rattle.am_play.specs.Lawful.{is_view_of}
-use Rattle.am_play.specs.Claims.{up_to_view, up_to_next}
-use Rattle.am_base.proofs.Greatest.{split}
-use Rattle.am_laws.proofs.Stamps.{same_stamp}
-use Rattle.am_laws.proofs.ViewSteps.{after_same, after_view}
+use Rattle.am_stands.proofs.Words.{◌≡◌, ◌≢◌, ℕ, ◌+◌, Bool, true, false, if◌then◌else◌, List, [], ◌∷◌, ◌++◌, refl, ap, ◌∙◌, subst, arith, list_any, nat_tests}
+use Rattle.am_stands.proofs.Words.{Stamp, Entry, Data, Join, Leave, View, Image, stamp_eq, blank, after, fold, Begins, view_of, is_view, is_view_of}
+use Rattle.am_stands.proofs.Words.{up_to_view, up_to_next, split, same_stamp, after_same, after_view}
 
 -- ---- a View stands in a list, and another behind it
 

@@ -1,20 +1,10 @@
 -- Whose own Leave isn't in its list is still a member there, if it ever was.
-use Rattle.std.proofs.Common.{◌≡◌, ◌≢◌, ◌⊎◌, inl, inr, ⊎_elim, ℕ, ◌+◌, ◌<◌, ◌==◌, ◌&&◌, not, nat_lt, List, [], ◌∷◌, ◌++◌, length, true, false, slice_index}
-use Rattle.std.proofs.Common.{refl, sym, ap, ◌∙◌, subst, arith}
-use Rattle.std.proofs.lemmas.Bool.Decides.{nat_tests}
-use Rattle.am_base.specs.declared.entry.Entry.{Entry}
-use Rattle.am_base.specs.declared.entry.Entry.TheVariants.{Data, Join, Leave, View}
-use Rattle.am_base.specs.declared.name.Stamp.{Stamp}
-use Rattle.am_base.specs.declared.image.Row.{Row}
-use Rattle.am_base.specs.declared.image.Image.{Image}
-use Rattle.am_base.specs.Names.{place_of, life_of}
-use Rattle.am_base.specs.Lists.{is_blank, at_place, row_of, member_life, with_row, row_after_view, after}
-use Rattle.am_chain_lists.specs.Whole.{Begins, BeginsBelow, IsGood, image_of, mem}
-use Rattle.am_chain_lists.proofs.Prefixes.{begins_same, begins_pushed}
-use Rattle.am_chain_lists.proofs.Rows.{by_cases, row_at, In, mod16, row_set, row_view, blank_joined}
-use Rattle.am_chain_lists.proofs.Members.{good_begins, told_push, long_told, mem_in, in_mem, mem_push}
-use Rattle.am_chain_moves.specs.Group.{Group, IsUp, IsOngoing}
-use Rattle.am_chain_moves.specs.Kept.{Kept}
+use Rattle.am_stands.proofs.Words.{◌≡◌, ◌≢◌, ◌⊎◌, inl, inr, ⊎_elim, ℕ, ◌+◌, ◌<◌, ◌==◌, ◌&&◌, not, nat_lt, List, [], ◌∷◌, ◌++◌, length, true, false}
+use Rattle.am_stands.proofs.Words.{slice_index, refl, sym, ap, ◌∙◌, subst, arith, nat_tests, Entry, Data, Join, Leave, View, Stamp, Row, Image, place_of}
+use Rattle.am_stands.proofs.Words.{life_of, is_blank, at_place, row_of, member_life, with_row, row_after_view, after, Begins, BeginsBelow, IsGood, image_of}
+use Rattle.am_stands.proofs.Words.{mem, begins_same, begins_pushed, row_at, In, mod16, row_set, row_view, blank_joined, good_begins, told_push, long_told}
+use Rattle.am_stands.proofs.Words.{mem_in, in_mem, mem_push, Group, IsUp, IsOngoing, Kept}
+use Rattle.am_chain_lists.proofs.Rows.{by_cases}
 
 -- ---- what ends a membership shows in the row
 

@@ -1,21 +1,12 @@
 -- What begins the line of a decided view begins the line of its own last View's, in every lawful run of the group.
-use Rattle.std.proofs.Common.{◌≡◌, ◌≢◌, ⊎_elim, ℕ, ◌==◌, List, [], ◌∷◌, ◌++◌, true, refl, sym, ap, ◌∙◌, subst, arith}
-use Rattle.std.proofs.lemmas.Bool.Decides.{nat_tests}
-use Rattle.am_base.specs.declared.entry.Entry.{Entry}
-use Rattle.am_base.specs.declared.entry.Entry.TheVariants.{Data, Join, Leave, View}
-use Rattle.am_base.specs.declared.name.Stamp.{Stamp}
-use Rattle.am_chain_lists.specs.Whole.{Begins, NotView, view_of, key}
-use Rattle.am_chain_lists.proofs.Order.{view_viewed, view_push}
-use Rattle.am_chain_lists.proofs.Prefixes.{begins_refl, begins_more, begins_trans, begins_pushed, begins_length}
+use Rattle.am_stands.proofs.Words.{◌≡◌, ◌≢◌, ⊎_elim, ℕ, ◌==◌, List, [], ◌∷◌, ◌++◌, true, refl, sym, ap, ◌∙◌, subst, arith, nat_tests, Entry, Data, Join}
+use Rattle.am_stands.proofs.Words.{Leave, View, Stamp, Begins, NotView, view_of, key, view_viewed, view_push, begins_refl, begins_more, begins_trans}
+use Rattle.am_stands.proofs.Words.{begins_pushed, begins_length, Group, Views, put, opening, IsUp, Move, MayNumber, MayDecide, with_line, with_choice}
+use Rattle.am_stands.proofs.Words.{choice_of, longer, numbers, closes, Kept, founded, more, start, first_stamp, put_same, put_other, put_cases, put_at}
+use Rattle.am_stands.proofs.Words.{run_keeps, LineOpens, LinesOpen, RunsOpen}
+use Rattle.am_chain_moves.specs.Group.{Leads}
+use Rattle.am_chain_moves.specs.Moves.{decides}
 use Rattle.am_chain_moves.specs.Group as groups
-use Rattle.am_chain_moves.specs.Group.{Group, Views, put, opening, Leads, IsUp}
-use Rattle.am_chain_moves.specs.Moves.{Move, MayNumber, MayDecide, with_line, with_choice, choice_of, longer, numbers}
-use Rattle.am_chain_moves.specs.Moves.{decides, closes}
-use Rattle.am_chain_moves.specs.Kept.{Kept}
-use Rattle.am_chain_moves.specs.Runs.{founded, more, start, first_stamp}
-use Rattle.am_chain_moves.proofs.Puts.{put_same, put_other, put_cases, put_at}
-use Rattle.am_chain.proofs.Runs.{run_keeps}
-use Rattle.am_stands.specs.States.{LineOpens, LinesOpen, RunsOpen}
 use Rattle.am_stands.proofs.Growing.{leads_line}
 
 -- ---- an entry more of a sequencer

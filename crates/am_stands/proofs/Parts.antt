@@ -1,30 +1,12 @@
 -- What a node tells of its list by numbers is what the whole list tells.
-use Rattle.std.proofs.Common.{◌≡◌, ℕ, zero, suc, ◌+◌, ◌-◌, ◌<◌, ◌≤◌, true, false, List, [], ◌∷◌, ◌++◌, length, take, drop, Option, Some, None, slice_get}
-use Rattle.std.proofs.Common.{refl, sym, ap, ◌∙◌, subst, arith}
-use Rattle.std.proofs.Math.Seq.{take-append-add, drop-append_seam}
-use Rattle.std.proofs.lemmas.List.{length-take, take-append-drop}
-use Rattle.am_base.specs.declared.entry.Entry.{Entry}
-use Rattle.am_base.specs.declared.entry.Entry.TheVariants.{Data, Join, Leave, View}
-use Rattle.am_base.specs.declared.image.Image.{Image}
-use Rattle.am_base.specs.Names.{IsSet, has, size}
-use Rattle.am_base.specs.Lists.{blank, fold, after, members_of, entry_at, image_at, members_at}
-use Rattle.am_base.specs.Fronts.{counted_of, counted_at, need_at}
-use Rattle.am_core.proofs.Folds.{slice_get-drop}
-use Rattle.am_fronts.proofs.Views.{view_grows}
-use Rattle.am_chain_lists.specs.Whole.{IsGood, image_of, mem, resilience_of, Begins}
-use Rattle.am_chain_lists.proofs.Prefixes.{begins_take, begins_push, length_take, length_push, take_begins}
-use Rattle.am_chain_lists.proofs.Members.{good_begins, told_push, viewed_mem}
+use Rattle.am_stands.proofs.Words.{◌≡◌, ℕ, zero, suc, ◌+◌, ◌-◌, ◌<◌, ◌≤◌, true, false, List, [], ◌∷◌, ◌++◌, length, take, drop, Option, Some, None, slice_get}
+use Rattle.am_stands.proofs.Words.{refl, sym, ap, ◌∙◌, subst, arith, take-append-add, drop-append_seam, length-take, take-append-drop, Entry, Data, Join}
+use Rattle.am_stands.proofs.Words.{Leave, View, Image, IsSet, has, size, blank, fold, after, members_of, entry_at, image_at, members_at, counted_of}
+use Rattle.am_stands.proofs.Words.{counted_at, need_at, slice_get-drop, view_grows, IsGood, image_of, mem, resilience_of, Begins, begins_take, begins_push}
+use Rattle.am_stands.proofs.Words.{length_take, length_push, take_begins, good_begins, told_push, viewed_mem, how_many, counted_in, Node, is_view, World}
+use Rattle.am_stands.proofs.Words.{fold_append, split, entry_is, after_same, NameStands, IsConcerned}
+use Rattle.am_chain_moves.specs.Group.{need_of}
 use Rattle.am_chain_moves.specs.Group as groups
-use Rattle.am_chain_moves.specs.Group.{how_many, counted_in, need_of}
-use Rattle.am_model.specs.Node.{Node}
-use Rattle.am_model.specs.Receiving.{is_view}
-use Rattle.am_play.specs.World.{World}
-use Rattle.am_base.proofs.Folds.{fold_append}
-use Rattle.am_base.proofs.Greatest.{split}
-use Rattle.am_effects.proofs.Ballots.{entry_is}
-use Rattle.am_laws.proofs.ViewSteps.{after_same}
-use Rattle.am_stands.specs.Standing.{NameStands}
-use Rattle.am_stands.specs.States.{IsConcerned}
 use Rattle.am_stands.proofs.Counting.{names_few}
 
 -- ---- by numbers

@@ -1,40 +1,15 @@
 -- What a node needs to store a Piece, from what the Piece says.
-use Rattle.std.proofs.Common.{◌≡◌, ◌≢◌, ℕ, suc, ◌<◌, ◌==◌, not, List, [], ◌∷◌, ◌++◌, length, true, false, Some, slice_get, refl, sym, ap, ◌∙◌, subst, arith}
-use Rattle.std.proofs.Common.{max, length-append}
-use Rattle.std.specs.List.{list_any}
-use Rattle.std.proofs.lemmas.Bool.Decides.{nat_tests}
-use Rattle.std.proofs.lemmas.List.{append_assoc}
-use Rattle.am_base.specs.declared.entry.Entry.{Entry}
-use Rattle.am_base.specs.declared.entry.Entry.TheVariants.{Data, Join, Leave, View}
-use Rattle.am_base.specs.declared.name.Stamp.{Stamp}
-use Rattle.am_group.specs.Journals.{item_at}
-use Rattle.am_chain_lists.specs.Whole.{Begins, IsGood, NotView, view_of, key}
-use Rattle.am_chain_lists.proofs.Order.{key_by, view_up, view_viewed, view_below, view_push}
-use Rattle.am_chain_lists.proofs.Prefixes.{begins_more, begins_push, begins_length}
-use Rattle.am_chain_lists.proofs.Members.{good_begins}
-use Rattle.am_chain_moves.specs.Group.{Group, IsUp}
-use Rattle.am_chain_moves.specs.Kept.{Kept}
+use Rattle.am_stands.proofs.Words.{◌≡◌, ◌≢◌, ℕ, suc, ◌<◌, ◌==◌, not, List, [], ◌∷◌, ◌++◌, length, true, false, Some, slice_get, refl, sym, ap, ◌∙◌, subst}
+use Rattle.am_stands.proofs.Words.{arith, max, list_any, nat_tests, append_assoc, Entry, Data, Join, Leave, View, Stamp, item_at, Begins, IsGood, NotView}
+use Rattle.am_stands.proofs.Words.{view_of, key, key_by, view_up, view_viewed, view_below, view_push, begins_more, begins_push, begins_length, good_begins}
+use Rattle.am_stands.proofs.Words.{Group, IsUp, Kept, Node, Ballot, view, is_member, is_unfinished, is_view, is_view_of, up_to_view, up_to_next, World}
+use Rattle.am_stands.proofs.Words.{Decided, is_stopped, split, HasOpen, MayStore, Fetches, without_ballot, same_stamp, NameStands, StandsBut, within, line}
+use Rattle.am_stands.proofs.Words.{IsDecided, PieceSays, ShownEntry, of_line, of_shown, over, LinesOpen, IsOthers, NeedsPiece, of_its_line, of_its_shown}
+use Rattle.std.proofs.Common.{length-append}
+use Rattle.am_effects.specs.Changes.{for_ballot}
 use Rattle.am_model.specs.Node as nodes
-use Rattle.am_model.specs.Node.{Node, Ballot, view, is_member}
-use Rattle.am_model.specs.Calls.{is_unfinished}
-use Rattle.am_model.specs.Receiving.{is_view}
-use Rattle.am_play.specs.Lawful.{is_view_of}
-use Rattle.am_play.specs.Claims.{up_to_view, up_to_next}
-use Rattle.am_play.specs.World.{World, Decided, is_stopped}
-use Rattle.am_base.proofs.Greatest.{split}
-use Rattle.am_effects.specs.Looks.{HasOpen}
-use Rattle.am_effects.specs.Changes.{MayStore, Fetches, without_ballot, for_ballot}
-use Rattle.am_laws.proofs.Stamps.{same_stamp}
-use Rattle.am_stands.specs.Standing.{NameStands, StandsBut, within}
-use Rattle.am_stands.specs.Letters.{line, IsDecided, PieceSays, ShownEntry, of_line, of_shown, over}
-use Rattle.am_stands.specs.States.{LinesOpen}
-use Rattle.am_stands.specs.Steps.{IsOthers, NeedsPiece, of_line as of_its_line, of_shown as of_its_shown}
-use Rattle.am_stands.proofs.Changes.{own_name, long_all, is_up}
-use Rattle.am_stands.proofs.Entries.{key_stamp, line_here, view_whole}
-use Rattle.am_stands.proofs.Sent.{Speaks, promise_line}
-use Rattle.am_stands.proofs.Heard.{item_next, entry_needs}
-use Rattle.am_stands.proofs.Letters.{item_stays}
-use Rattle.am_stands.proofs.Votes.{undecided}
+use Rattle.am_stands.proofs.{Changes.own_name, Changes.long_all, Changes.is_up, Entries.key_stamp, Entries.line_here, Entries.view_whole, Sent.Speaks}
+use Rattle.am_stands.proofs.{Sent.promise_line, Heard.item_next, Heard.entry_needs, Letters.item_stays, Votes.undecided}
 
 -- ---- the line of a list's last view is all of the list
 

@@ -1,15 +1,9 @@
 -- In every run of the group each decided stamp has a round, and each promise of a name with a log.
-use Rattle.std.proofs.Common.{◌≡◌, ◌≢◌, ⊎_elim, ℕ, ◌+◌, ◌<◌, List, true, false, refl, sym, ap, ◌∙◌, subst, arith}
-use Rattle.std.proofs.lemmas.Bool.Decides.{nat_tests}
-use Rattle.am_base.specs.declared.name.Stamp.{Stamp}
-use Rattle.am_chain_lists.specs.Whole.{key}
+use Rattle.am_stands.proofs.Words.{◌≡◌, ◌≢◌, ⊎_elim, ℕ, ◌+◌, ◌<◌, List, true, false, refl, sym, ap, ◌∙◌, subst, arith, nat_tests, Stamp, key, Group, put}
+use Rattle.am_stands.proofs.Words.{Move, own_stamp, numbers, stores, accepts, learns, begins, raises, shows, serves, fetches, gives_over, welcomes, asks}
+use Rattle.am_stands.proofs.Words.{departs, closes, stops, founded, more, start, first_stamp, put_cases, put_at, HasRound, RoundsOk, RunsHaveRounds}
+use Rattle.am_chain_moves.specs.Moves.{decides}
 use Rattle.am_chain_moves.specs.Group as groups
-use Rattle.am_chain_moves.specs.Group.{Group, put}
-use Rattle.am_chain_moves.specs.Moves.{Move, own_stamp, numbers, stores, accepts, learns, begins, raises, shows, serves, fetches, decides, gives_over}
-use Rattle.am_chain_moves.specs.Moves.{welcomes, asks, departs, closes, stops}
-use Rattle.am_chain_moves.specs.Runs.{founded, more, start, first_stamp}
-use Rattle.am_chain_moves.proofs.Puts.{put_cases, put_at}
-use Rattle.am_stands.specs.States.{HasRound, RoundsOk, RunsHaveRounds}
 
 some_round : (round by : ℕ) → 0 < round → HasRound (key (record { round = round; by = by }))
 unfolding key

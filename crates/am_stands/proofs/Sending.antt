@@ -1,50 +1,22 @@
 -- Each letter that is sent is so.
-use Rattle.std.proofs.Common.{◌≡◌, ◌≢◌, ℕ, ◌<◌, ◌≤◌, ◌==◌, ◌&&◌, ◌||◌, true, false, List, [], ◌∷◌, length, take, refl, sym, ap, ◌∙◌, subst, arith}
-use Rattle.std.proofs.lemmas.Bool.Decides.{nat_tests}
-use Rattle.std.proofs.lemmas.Option.{slice_get_within}
-use Rattle.am_base.specs.declared.entry.Entry.{Entry}
-use Rattle.am_base.specs.declared.entry.Entry.TheVariants.{Data}
-use Rattle.am_base.specs.declared.image.Image.{Image}
-use Rattle.am_base.specs.declared.name.Stamp.{Stamp}
-use Rattle.am_base.specs.Names.{has}
-use Rattle.am_base.specs.Stamps.{stamp_eq, no_stamp}
-use Rattle.am_base.specs.Lists.{row_of, entry_at, image_at, fold}
-use Rattle.am_packet.specs.declared.packet.Packet.{Packet}
+use Rattle.am_stands.proofs.Words.{◌≡◌, ◌≢◌, ℕ, ◌<◌, ◌≤◌, ◌==◌, ◌&&◌, ◌||◌, true, false, List, [], ◌∷◌, length, take, refl, sym, ap, ◌∙◌, subst, arith}
+use Rattle.am_stands.proofs.Words.{nat_tests, slice_get_within, Entry, Data, Image, Stamp, has, stamp_eq, no_stamp, row_of, entry_at, image_at, fold, Packet}
+use Rattle.am_stands.proofs.Words.{Begins, mem, view_of, key, good_begins, key_by, view_small, Group, IsThere, opening, Status, Node, view, is_member, acts}
+use Rattle.am_stands.proofs.Words.{is_sequencer, only_name, has_log, has_departed, own_vote, may_fetch, viewed_by, World, split, and_both, Cause, hears}
+use Rattle.am_stands.proofs.Words.{MayFetch, MayTell, leads, decided, request, spread, bcast, order, ack, nack, hold, join_ask, welcome, leave_ask, gone}
+use Rattle.am_stands.proofs.Words.{invite, vote, fetch, piece, result, hand_over, logged, same_stamp, IsDecided, AllShown, FetchSays, PacketSays, ResultSays}
+use Rattle.am_stands.proofs.Words.{none, Leads, KeptWhole, ListBegins, as_before, just_begun, Sender, ShowsMore, SaysSo, SentSays}
+use Rattle.am_effects.specs.Letters.{for_ballot, of_promise, accept}
 use Rattle.am_packet.specs.declared.packet.Packet.TheVariants as packet
-use Rattle.am_chain_lists.specs.Whole.{Begins, mem, view_of, key}
-use Rattle.am_chain_lists.proofs.Members.{good_begins}
-use Rattle.am_chain_lists.proofs.Order.{key_by, view_small}
 use Rattle.am_chain_moves.specs.Group as groups
-use Rattle.am_chain_moves.specs.Group.{Group, IsThere, opening}
-use Rattle.am_model.specs.declared.status.Status.{Status}
 use Rattle.am_model.specs.declared.status.Status.TheVariants as status
 use Rattle.am_model.specs.Node as nodes
-use Rattle.am_model.specs.Node.{Node, view, is_member, acts, is_sequencer, only_name, has_log, has_departed}
-use Rattle.am_model.specs.Ballots.{own_vote}
-use Rattle.am_model.specs.Resets.{may_fetch}
-use Rattle.am_model.specs.Ticks.{viewed_by}
-use Rattle.am_play.specs.World.{World}
-use Rattle.am_base.proofs.Greatest.{split, and_both}
-use Rattle.am_effects.specs.Causes.{Cause, hears}
 use Rattle.am_effects.specs.Letters as letters
-use Rattle.am_effects.specs.Letters.{MayFetch, for_ballot, of_promise, MayTell, leads, decided, request, spread, bcast, order, accept, ack, nack, hold}
-use Rattle.am_effects.specs.Letters.{join_ask, welcome}
-use Rattle.am_effects.specs.Letters.{leave_ask, gone, invite, vote, fetch, piece, result, hand_over}
-use Rattle.am_effects.proofs.Statuses.{logged}
-use Rattle.am_laws.proofs.Stamps.{same_stamp}
 use Rattle.am_stands.specs.Letters as says
-use Rattle.am_stands.specs.Letters.{IsDecided, AllShown, FetchSays, PacketSays, ResultSays}
-use Rattle.am_stands.specs.Moving.{none, Leads}
-use Rattle.am_stands.specs.Sending.{KeptWhole, ListBegins, as_before, just_begun, Sender, ShowsMore, SaysSo, SentSays}
-use Rattle.am_stands.proofs.Changes.{told_all, long_all}
-use Rattle.am_stands.proofs.Entries.{key_stamp}
-use Rattle.am_stands.proofs.Going.{gone_says}
-use Rattle.am_stands.proofs.Opens.{list_opens}
-use Rattle.am_stands.proofs.Results.{tells_leads, result_said}
-use Rattle.am_stands.proofs.Sent.{Speaks, leading, report_said, leaver_said, sequencer_said, entry_said, piece_said}
-use Rattle.am_stands.proofs.Shown.{PieceStands, vote_said, shown_said}
-use Rattle.am_stands.proofs.Votes.{only_one}
-use Rattle.am_stands.proofs.Welcoming.{is_welcomed, welcome_says}
+use Rattle.am_stands.proofs.{Changes.told_all, Changes.long_all, Entries.key_stamp, Going.gone_says, Opens.list_opens, Results.tells_leads}
+use Rattle.am_stands.proofs.{Results.result_said, Sent.Speaks, Sent.leading, Sent.report_said, Sent.leaver_said, Sent.sequencer_said, Sent.entry_said}
+use Rattle.am_stands.proofs.{Sent.piece_said, Shown.PieceStands, Shown.vote_said, Shown.shown_said, Votes.only_one, Welcoming.is_welcomed}
+use Rattle.am_stands.proofs.{Welcoming.welcome_says}
 
 -- ---- who acts
 

@@ -1,36 +1,15 @@
 -- Votes: what a coordinator keeps of them, and what a voter shows.
-use Rattle.std.proofs.Common.{◌≡◌, ◌≢◌, ◌⊎◌, ⊎_elim, ℕ, ◌<◌, ◌≤◌, ◌==◌, not, List, true, false, Option, Some, None, refl, sym, ap, ◌∙◌, subst, arith}
-use Rattle.std.proofs.lemmas.Bool.Decides.{nat_tests}
-use Rattle.am_base.specs.declared.entry.Entry.{Entry}
-use Rattle.am_base.specs.declared.image.Vote.{Vote}
-use Rattle.am_base.specs.declared.image.Image.{Image}
-use Rattle.am_base.specs.declared.name.Stamp.{Stamp}
-use Rattle.am_base.specs.Names.{has}
-use Rattle.am_base.specs.Lists.{members_of}
+use Rattle.am_stands.proofs.Words.{◌≡◌, ◌≢◌, ◌⊎◌, ⊎_elim, ℕ, ◌<◌, ◌≤◌, ◌==◌, not, List, true, false, Option, Some, None, refl, sym, ap, ◌∙◌, subst, arith}
+use Rattle.am_stands.proofs.Words.{nat_tests, Entry, Vote, Image, Stamp, has, members_of, item_at, mem, view_of, key, Group, IsThere, put2, Kept, put2_cases}
+use Rattle.am_stands.proofs.Words.{Node, Ballot, is_member, own_vote, World, split, and_both, Cause, hears, HasOpen, Balloting, with_more, without_one}
+use Rattle.am_stands.proofs.Words.{as_it_is, NameStands, ViewsStand, Stands, VoteTells, VoteSays, FetchSays, PieceSays, own, tells, over, for_ballot}
+use Rattle.am_stands.proofs.Words.{of_promise, of_shown, Moves, none, moves, Leads, VotesStand, Grows, ShowsMore}
 use Rattle.am_packet.specs.declared.packet.Packet.TheVariants as packet
-use Rattle.am_group.specs.Journals.{item_at}
-use Rattle.am_chain_lists.specs.Whole.{mem, view_of, key}
 use Rattle.am_chain_moves.specs.Group as groups
-use Rattle.am_chain_moves.specs.Group.{Group, IsThere, put2}
 use Rattle.am_chain_moves.specs.Moves as group
-use Rattle.am_chain_moves.specs.Kept.{Kept}
-use Rattle.am_chain_moves.proofs.Puts.{put2_cases}
 use Rattle.am_model.specs.Node as nodes
-use Rattle.am_model.specs.Node.{Node, Ballot, is_member}
-use Rattle.am_model.specs.Ballots.{own_vote}
-use Rattle.am_play.specs.World.{World}
-use Rattle.am_base.proofs.Greatest.{split, and_both}
-use Rattle.am_effects.specs.Causes.{Cause, hears}
-use Rattle.am_effects.specs.Looks.{HasOpen, Balloting, with_more, without_one, as_it_is}
-use Rattle.am_stands.specs.Standing.{NameStands, ViewsStand, Stands}
-use Rattle.am_stands.specs.Letters.{VoteTells, VoteSays, FetchSays, PieceSays, own, tells, over, for_ballot, of_promise, of_shown}
-use Rattle.am_stands.specs.Moving.{Moves, none, moves, Leads}
-use Rattle.am_stands.specs.States.{VotesStand}
-use Rattle.am_stands.specs.Growing.{Grows}
-use Rattle.am_stands.specs.Sending.{ShowsMore}
 use Rattle.am_effects.specs.Letters as letters
-use Rattle.am_stands.proofs.Changes.{told_all, long_all}
-use Rattle.am_stands.proofs.Sent.{Speaks, list_item}
+use Rattle.am_stands.proofs.{Changes.told_all, Changes.long_all, Sent.Speaks, Sent.list_item}
 
 -- ---- the votes that a coordinator keeps
 

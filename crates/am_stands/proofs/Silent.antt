@@ -1,23 +1,12 @@
 -- A name that has departed sends nothing.
-use Rattle.std.proofs.Common.{◌≡◌, ℕ, nat_lt, ◌&&◌, ◌==◌, not, Bool, true, false, [], Option, Some, None, Ok, Err, refl, sym, ap, ◌∙◌, subst}
+use Rattle.am_stands.proofs.Words.{◌≡◌, ℕ, nat_lt, ◌&&◌, ◌==◌, not, Bool, true, false, [], Option, Some, None, Ok, Err, refl, sym, ap, ◌∙◌, subst, NodeEvent}
+use Rattle.am_stands.proofs.Words.{Send, Done, Take, State, Reset, Ask, GiveUp, Tick, Hear, Packet, Read, reading, Departed, Node, Ballot, is_member}
+use Rattle.am_stands.proofs.Words.{is_sequencer, is_unfinished, join_by, state_by, leave_by, send_row, take_row, join_row, state_row, leave_row, reset_row}
+use Rattle.am_stands.proofs.Words.{ask_row, ask_of, give_up_row, give_up_of, done_row, tick_row, tick_by, hear_row, hears_member, hears_asking}
+use Rattle.am_stands.proofs.Words.{refresh_at_end, Plan, quiet, finish, row, read_row, step, hear, hear_refusal, split, rests_at_end, DepartedSilent}
+use Rattle.am_base.specs.declared.event.NodeEvent.TheVariants.{Join, Leave}
 use Rattle.am_base.specs.declared.outcome.Outcome.TheVariants as said
-use Rattle.am_base.specs.declared.event.NodeEvent.{NodeEvent}
-use Rattle.am_base.specs.declared.event.NodeEvent.TheVariants.{Send, Done, Take, Join, State, Leave, Reset, Ask, GiveUp, Tick, Hear}
-use Rattle.am_packet.specs.declared.packet.Packet.{Packet}
 use Rattle.am_packet.specs.declared.packet.Packet.TheVariants as packet
-use Rattle.am_codec.specs.Reading.{Read, reading}
-use Rattle.am_model.specs.declared.status.Status.TheVariants.{Departed}
-use Rattle.am_model.specs.Node.{Node, Ballot, is_member, is_sequencer}
-use Rattle.am_model.specs.Calls.{is_unfinished, join_by, state_by, leave_by, send_row, take_row, join_row, state_row, leave_row, reset_row, ask_row, ask_of}
-use Rattle.am_model.specs.Calls.{give_up_row, give_up_of, done_row}
-use Rattle.am_model.specs.Ticks.{tick_row, tick_by}
-use Rattle.am_model.specs.Hearing.{hear_row, hears_member, hears_asking}
-use Rattle.am_model.specs.Refresh.{refresh_at_end}
-use Rattle.am_model.specs.Emit.{Plan, quiet, finish}
-use Rattle.am_model.specs.Step.{row, read_row, step, hear, hear_refusal}
-use Rattle.am_base.proofs.Greatest.{split}
-use Rattle.am_effects.proofs.Rests.{rests_at_end}
-use Rattle.am_stands.specs.Sending.{DepartedSilent}
 
 -- a plan of who has departed, with no letter
 record Quiet (p : Plan) : Type 0 where

@@ -1,31 +1,14 @@
 -- At the start each founder is told of the first entry, and then the group stands for the world.
-use Rattle.std.proofs.Common.{◌≡◌, ℕ, zero, suc, ◌+◌, ◌<◌, ◌==◌, ◌&&◌, nat_lt, if◌then◌else◌, List, [], ◌∷◌, length, Bool, true, false, Some, slice_get, refl}
-use Rattle.std.proofs.Common.{sym}
-use Rattle.std.proofs.Common.{ap, ◌∙◌, subst, arith}
-use Rattle.std.proofs.lemmas.Bool.Decides.{nat_tests}
-use Rattle.am_base.specs.declared.entry.Entry.{Entry}
-use Rattle.am_base.specs.Founding.{Rules, MayFound}
-use Rattle.am_base.specs.Names.{has}
-use Rattle.am_base.specs.Lists.{fold}
-use Rattle.am_chain_lists.specs.Whole.{key}
-use Rattle.am_chain_lists.proofs.Prefixes.{begins_refl}
+use Rattle.am_stands.proofs.Words.{◌≡◌, ℕ, zero, suc, ◌+◌, ◌<◌, ◌==◌, ◌&&◌, nat_lt, if◌then◌else◌, List, [], ◌∷◌, length, Bool, true, false, Some, slice_get}
+use Rattle.am_stands.proofs.Words.{refl, sym, ap, ◌∙◌, subst, arith, nat_tests, Entry, Rules, MayFound, has, fold, key, begins_refl, Group, put, opening}
+use Rattle.am_stands.proofs.Words.{with_node, Node, founder, stranger, lowest_or_first, founding_stamp, founders_view, has_log, has_departed, is_unfinished}
+use Rattle.am_stands.proofs.Words.{Decided, first_node, founders_decided, whole, up_to_view, up_to_next, line_of, split, first_founder, same_is_equal}
+use Rattle.am_stands.proofs.Words.{BeginsIn, NameStands, FrontsStand, NotedStands, ViewsStand, StartStands, none, moves, Leads}
+use Rattle.am_play.specs.World.{start}
 use Rattle.am_chain_moves.specs.Group as groups
-use Rattle.am_chain_moves.specs.Group.{Group, put, opening}
-use Rattle.am_chain_moves.specs.Moves.{with_node}
 use Rattle.am_chain_moves.specs.Moves as group
 use Rattle.am_chain_moves.specs.Runs as begun
-use Rattle.am_model.specs.Node.{Node, founder, stranger, lowest_or_first, founding_stamp, founders_view, has_log, has_departed}
-use Rattle.am_model.specs.Calls.{is_unfinished}
-use Rattle.am_play.specs.World.{Decided, start, first_node, founders_decided}
-use Rattle.am_play.specs.Lawful.{whole}
-use Rattle.am_play.specs.Claims.{up_to_view, up_to_next, line_of}
-use Rattle.am_base.proofs.Greatest.{split}
-use Rattle.am_model.proofs.Founders.{first_founder}
-use Rattle.am_laws.proofs.Views.{same_is_equal}
-use Rattle.am_stands.specs.Standing.{BeginsIn, NameStands, FrontsStand, NotedStands, ViewsStand, StartStands}
-use Rattle.am_stands.specs.Moving.{none, moves, Leads}
-use Rattle.am_stands.proofs.Ends.{then_moves}
-use Rattle.am_stands.proofs.Decisions.{last_same}
+use Rattle.am_stands.proofs.{Ends.then_moves, Decisions.last_same}
 
 -- ---- each founder in turn
 

@@ -1,47 +1,17 @@
 -- A ballot that its coordinator decides may be decided by the group's own test.
-use Rattle.std.proofs.Common.{◌≡◌, ◌≢◌, ◌⊎◌, inl, inr, ⊎_elim, ℕ, zero, suc, ◌+◌, ◌<◌, ◌≤◌, ◌==◌, ◌&&◌, ◌||◌, not, max, nat_lt, is_some, get_or, set, List}
-use Rattle.std.proofs.Common.{[], ◌∷◌, ◌++◌, length, Bool, true, false, Option, Some, None, slice_index, refl, sym, ap, ◌∙◌, subst, arith}
-use Rattle.std.specs.List.{list_all, list_any, range_with_len}
-use Rattle.std.proofs.lemmas.Bool.Decides.{nat_tests}
-use Rattle.am_base.specs.declared.entry.Entry.{Entry}
-use Rattle.am_base.specs.declared.image.Vote.{Vote}
-use Rattle.am_base.specs.declared.image.Image.{Image}
-use Rattle.am_base.specs.declared.name.Stamp.{Stamp}
-use Rattle.am_base.specs.Names.{IsSet, place_of, life_of, name_at, by_place, nobody, has, size, is_within}
-use Rattle.am_base.proofs.Places.{slice_index-by_place}
-use Rattle.am_base.specs.Stamps.{stamp_lt, stamp_eq}
-use Rattle.am_base.specs.Votes.{vote_lt}
-use Rattle.am_base.specs.Lists.{member_life, members_of}
-use Rattle.am_chain_lists.specs.Whole.{Begins, image_of, mem, view_of, resilience_of, key}
-use Rattle.am_chain_lists.proofs.Order.{key_lt, view_up}
-use Rattle.am_chain_lists.proofs.Prefixes.{begins_trans}
-use Rattle.am_chain_lists.proofs.Members.{told_push}
-use Rattle.am_chain_moves.specs.Group.{Group, IsThere, IsUp}
-use Rattle.am_chain_moves.specs.Moves.{MayDecide, Voted}
-use Rattle.am_chain_moves.specs.Kept.{Kept}
+use Rattle.am_stands.proofs.Words.{◌≡◌, ◌≢◌, ◌⊎◌, inl, inr, ⊎_elim, ℕ, zero, suc, ◌+◌, ◌<◌, ◌≤◌, ◌==◌, ◌&&◌, ◌||◌, not, max, nat_lt, is_some, get_or, set}
+use Rattle.am_stands.proofs.Words.{List, [], ◌∷◌, ◌++◌, length, Bool, true, false, Option, Some, None, slice_index, refl, sym, ap, ◌∙◌, subst, arith}
+use Rattle.am_stands.proofs.Words.{list_all, list_any, range_with_len, nat_tests, Entry, Vote, Image, Stamp, IsSet, place_of, life_of, name_at, by_place}
+use Rattle.am_stands.proofs.Words.{nobody, has, size, is_within, slice_index-by_place, stamp_lt, stamp_eq, vote_lt, member_life, members_of, Begins, image_of}
+use Rattle.am_stands.proofs.Words.{mem, view_of, resilience_of, key, key_lt, view_up, begins_trans, told_push, Group, IsThere, IsUp, MayDecide, Voted, Kept}
+use Rattle.am_stands.proofs.Words.{Node, Ballot, view, members, only_name, name_where, those, View, append_assoc, length-map, get_or-set_same}
+use Rattle.am_stands.proofs.Words.{get_or-set_other, get_or-replicate, mod16, is_view_of, trim_for, own_vote, best_of, need_of, has_voted, is_waited_for}
+use Rattle.am_stands.proofs.Words.{left_in, World, best_vote_is, split, has_size, has_those, set_those, equal_stamps, own_need, those_at, viewed_members}
+use Rattle.am_stands.proofs.Words.{those_some, those_long, NameStands, within, told_pushed, VoteTells, AllShown, FetchSays, for_ballot, AllVoted}
+use Rattle.am_stands.proofs.Words.{NeedsDecision}
 use Rattle.am_model.specs.Node as nodes
-use Rattle.am_model.specs.Node.{Node, Ballot, view, members, only_name, name_where, those}
-use Rattle.am_base.specs.declared.entry.Entry.TheVariants.{View}
-use Rattle.std.proofs.lemmas.List.{append_assoc, length-map, get_or-set_same, get_or-set_other, get_or-replicate}
-use Rattle.am_chain_lists.proofs.Rows.{mod16}
-use Rattle.am_play.specs.Lawful.{is_view_of}
-use Rattle.am_model.specs.Ballots.{trim_for, own_vote, best_of, need_of, has_voted, is_waited_for, left_in}
-use Rattle.am_play.specs.World.{World}
-use Rattle.am_meaning.proofs.BestVotes.{best_vote_is}
-use Rattle.am_base.proofs.Greatest.{split}
 use Rattle.am_effects.specs.Looks as looks
-use Rattle.am_model.proofs.Sets.{has_size, has_those}
-use Rattle.am_laws.proofs.Limits.{set_those}
-use Rattle.am_laws.proofs.Stamps.{equal_stamps}
-use Rattle.am_laws.proofs.Taken.{own_need, those_at}
-use Rattle.am_laws.proofs.ViewMembers.{viewed_members, those_some, those_long}
-use Rattle.am_stands.specs.Standing.{NameStands, within}
-use Rattle.am_effects.proofs.Says.{told_pushed}
-use Rattle.am_stands.specs.Letters.{VoteTells, AllShown, FetchSays, for_ballot}
-use Rattle.am_stands.specs.Moving.{AllVoted}
-use Rattle.am_stands.specs.Steps.{NeedsDecision}
-use Rattle.am_stands.proofs.Lines.{HasViewOf, viewed_as}
-use Rattle.am_stands.proofs.Changes.{told_whole, long_all}
+use Rattle.am_stands.proofs.{Lines.HasViewOf, Lines.viewed_as, Changes.told_whole, Changes.long_all}
 
 -- ---- what is known of a ballot
 

@@ -1,29 +1,14 @@
 -- The plain changes of a step: what each does to who acts, and to a sequencer that took a report.
-use Rattle.std.proofs.Common.{◌≡◌, ℕ, ◌≤◌, ◌==◌, ◌||◌, not, nat_lt, Bool, true, false, List, length, refl, sym, ap, ◌∙◌, subst}
-use Rattle.am_base.specs.declared.image.Report.{Report}
-use Rattle.am_base.specs.declared.name.Stamp.{Stamp}
-use Rattle.am_base.specs.declared.entry.Entry.{Entry}
-use Rattle.am_base.specs.declared.outcome.Outcome.{Outcome}
-use Rattle.am_packet.specs.Kinds.{kind_of}
-use Rattle.am_model.specs.declared.status.Status.{Status}
+use Rattle.am_steps.proofs.Words.{◌≡◌, ℕ, ◌≤◌, ◌==◌, ◌||◌, not, nat_lt, Bool, true, false, List, length, refl, sym, ap, ◌∙◌, subst, Report, Stamp, Entry}
+use Rattle.am_steps.proofs.Words.{Outcome, kind_of, Status, Node, Ballot, top, is_member, is_asking, is_sequencer, has_departed, World, group_after, and_both}
+use Rattle.am_steps.proofs.Words.{Cause, hears, by_request, BringsReport, with_send, BringsFronts, by_entry, with_number, alone, MayLook, was_reset}
+use Rattle.am_steps.proofs.Words.{was_handed, was_fetched, Balloting, with_more, without_one, as_it_is, BeginsBy, by_reset, by_hand_over, Promises, invited}
+use Rattle.am_steps.proofs.Words.{overtaken, told_result, Carries, whole_entry, by_number, Change, refreshes, settles, takes_report, admits, numbers}
+use Rattle.am_steps.proofs.Words.{keeps_body, notes, stores, begins_list, departs, promises, opens, looks, fetches, stores_view, queues, collects, takes}
+use Rattle.am_steps.proofs.Words.{asks_to_join, asks_to_leave, closes, IsPlain, settle_is, leads_pushed, after_change, numbers_plain}
 use Rattle.am_model.specs.declared.status.Status.TheVariants as status
-use Rattle.am_model.specs.Node.{Node, Ballot, top, is_member, is_asking, is_sequencer, has_departed}
-use Rattle.am_play.specs.World.{World, group_after}
-use Rattle.am_base.proofs.Greatest.{and_both}
-use Rattle.am_effects.specs.Causes.{Cause, hears, by_request, BringsReport, with_send}
-use Rattle.am_effects.specs.Causes.{BringsFronts, with_entry as by_entry, with_number, alone}
-use Rattle.am_effects.specs.Looks.{MayLook, was_reset, was_handed, was_fetched, Balloting, with_more, without_one, as_it_is, BeginsBy, by_reset, by_hand_over}
-use Rattle.am_effects.specs.Changes.{Promises, invited, overtaken, told_result, Carries, whole_entry, by_number}
-use Rattle.am_effects.specs.Changes.{Change, refreshes, settles, takes_report, admits, numbers, keeps_body, notes, stores, begins_list, departs, promises}
-use Rattle.am_effects.specs.Changes.{opens, looks, fetches, stores_view, queues, collects, takes, asks_to_join, asks_to_leave, closes}
-use Rattle.am_effects.specs.Courses.{IsPlain}
-use Rattle.am_effects.proofs.Rests.{settle_is}
-use Rattle.am_effects.proofs.Says.{leads_pushed}
-use Rattle.am_stands.specs.Steps.{after_change}
 use Rattle.am_stands.specs.Keeping as plainly
-use Rattle.am_stands.proofs.Entries.{numbers_plain}
-use Rattle.am_steps.proofs.Grown.{pushed_group}
-use Rattle.am_steps.proofs.Statuses.{asking_stays}
+use Rattle.am_steps.proofs.{Grown.pushed_group, Statuses.asking_stays}
 
 -- ---- what brings a report
 

@@ -1,45 +1,13 @@
 -- The end of a step: the refresh, what of it settles a send, and what the step noted.
-use Rattle.std.proofs.Common.{◌≡◌, ◌≢◌, ⊎_elim, ℕ, ◌<◌, ◌≤◌, ◌==◌, ◌&&◌, not, true, false, List, [], ◌∷◌, ◌++◌, slice_get, Some}
-use Rattle.std.proofs.Common.{refl, sym, ap, ◌∙◌, subst, arith}
-use Rattle.std.proofs.lemmas.Bool.Decides.{nat_tests}
-use Rattle.am_base.specs.declared.name.Stamp.{Stamp}
-use Rattle.am_base.specs.declared.entry.Entry.{Entry}
-use Rattle.am_base.specs.declared.outcome.Outcome.{Outcome}
-use Rattle.am_base.specs.Founding.{Rules}
-use Rattle.am_base.specs.Lists.{Log, told_by, members_of, fold}
-use Rattle.am_base.specs.Stamps.{stamp_lt, stamp_eq, no_stamp}
-use Rattle.am_chain_lists.specs.Whole.{view_of, key}
-use Rattle.am_chain_lists.proofs.Order.{view_small}
-use Rattle.am_chain_moves.specs.Group.{Group, IsUp}
-use Rattle.am_model.specs.Node.{Node, top, view, image_of, is_member, has_log, has_departed}
-use Rattle.am_model.specs.Refresh.{refresh, settle}
-use Rattle.am_play.specs.World.{Decided, World, decides, group_after, views_after}
-use Rattle.am_base.proofs.Greatest.{split, and_both}
-use Rattle.am_effects.specs.Causes.{Cause}
-use Rattle.am_effects.specs.Changes.{settles}
-use Rattle.am_effects.proofs.Rests.{rests_refresh, leads_rests, settle_is}
-use Rattle.am_effects.proofs.Tests.{not_true}
-use Rattle.am_laws.proofs.Stamps.{same_stamp, not_above_itself}
-use Rattle.am_laws.proofs.ViewChanges.{log_of_member}
-use Rattle.am_laws.proofs.Views.{IsNoted}
-use Rattle.am_laws.proofs.ViewSteps.{SameView, Stood, Goes}
-use Rattle.am_sent.proofs.Changes.{CauseSent}
-use Rattle.am_stands.specs.Standing.{FrontsStand}
-use Rattle.am_stands.specs.Growing.{Grows}
-use Rattle.am_stands.specs.Moving.{Moves}
-use Rattle.am_stands.specs.Keeping.{Stepping}
-use Rattle.am_stands.proofs.Ends.{then_moves}
-use Rattle.am_stands.proofs.Entries.{key_stamp, view_whole}
-use Rattle.am_stands.proofs.Keeping.{old, whole}
-use Rattle.am_stands.proofs.Onward.{grows_trans}
-use Rattle.am_stands.proofs.Opens.{list_opens}
-use Rattle.am_stands.proofs.Stepped.{changes_go_on}
-use Rattle.am_steps.proofs.Statuses.{member_here}
-use Rattle.am_steps.proofs.Worlds.{growing}
-use Rattle.am_steps.proofs.Refreshed.{refresh_on}
-use Rattle.am_steps.proofs.Grown.{accepted_twice}
-use Rattle.am_steps.proofs.Going.{Grown, as_before, by_reports}
-use Rattle.am_steps.proofs.Deeds.{further, Seen, none_new, one_new, Done}
+use Rattle.am_steps.proofs.Words.{◌≡◌, ◌≢◌, ⊎_elim, ℕ, ◌<◌, ◌≤◌, ◌==◌, ◌&&◌, not, true, false, List, [], ◌∷◌, ◌++◌, slice_get, Some, refl, sym, ap, ◌∙◌}
+use Rattle.am_steps.proofs.Words.{subst, arith, nat_tests, Stamp, Entry, Outcome, Rules, Log, told_by, members_of, fold, stamp_lt, stamp_eq, no_stamp}
+use Rattle.am_steps.proofs.Words.{view_of, key, view_small, Group, IsUp, Node, top, view, image_of, is_member, has_log, has_departed, refresh, settle}
+use Rattle.am_steps.proofs.Words.{Decided, World, group_after, views_after, split, and_both, Cause, settles, rests_refresh, leads_rests, settle_is, not_true}
+use Rattle.am_steps.proofs.Words.{same_stamp, not_above_itself, log_of_member, IsNoted, SameView, Stood, Goes, CauseSent, FrontsStand, Grows, Moves, Stepping}
+use Rattle.am_steps.proofs.Words.{then_moves, key_stamp, view_whole, old, whole, grows_trans, list_opens, changes_go_on}
+use Rattle.am_play.specs.World.{decides}
+use Rattle.am_steps.proofs.{Statuses.member_here, Worlds.growing, Refreshed.refresh_on, Grown.accepted_twice, Going.Grown, Going.as_before, Going.by_reports}
+use Rattle.am_steps.proofs.{Deeds.further, Deeds.Seen, Deeds.none_new, Deeds.one_new, Deeds.Done}
 
 -- ---- the group list at the end
 

@@ -1,32 +1,12 @@
 -- How far a name is told, and gives out, along plain changes of its step.
-use Rattle.std.proofs.Common.{◌≡◌, ℕ, ◌<◌, ◌≤◌, ◌==◌, ◌&&◌, nat_lt, true, false, length, refl, sym, ap, ◌∙◌, arith}
-use Rattle.std.proofs.lemmas.Bool.Decides.{nat_tests}
-use Rattle.am_base.specs.declared.name.Stamp.{Stamp}
-use Rattle.am_base.specs.declared.outcome.Outcome.{Outcome}
-use Rattle.am_base.specs.Founding.{Rules}
-use Rattle.am_base.specs.Stamps.{stamp_eq}
-use Rattle.am_packet.specs.declared.packet.Packet.{Packet}
+use Rattle.am_steps.proofs.Words.{◌≡◌, ℕ, ◌<◌, ◌≤◌, ◌==◌, ◌&&◌, nat_lt, true, false, length, refl, sym, ap, ◌∙◌, arith, nat_tests, Stamp, Outcome, Rules}
+use Rattle.am_steps.proofs.Words.{stamp_eq, Packet, key, Group, Node, Ballot, view, acts, is_member, has_departed, Verdict, hears_member, hears_in_view}
+use Rattle.am_steps.proofs.Words.{hears_sequencer, with_noted, World, split, and_both, Cause, hears, BringsFronts, with_entry, with_number, alone, Looks}
+use Rattle.am_steps.proofs.Words.{finds_itself_out, Change, refreshes, settles, notes, stores, begins_list, departs, looks, fetches, stores_view}
+use Rattle.am_steps.proofs.Words.{asks_to_join, closes, settle_is, same_stamp, nothing, of_sequencer, Grows, SequencerSays, FrontsStay, FrontsAfter, HeardSo}
+use Rattle.am_steps.proofs.Words.{Stepping, old}
+use Rattle.am_stands.specs.Keeping.{IsPlain}
 use Rattle.am_packet.specs.declared.packet.Packet.TheVariants as packet
-use Rattle.am_chain_lists.specs.Whole.{key}
-use Rattle.am_chain_moves.specs.Group.{Group}
-use Rattle.am_model.specs.Node.{Node, Ballot, view, acts, is_member, has_departed}
-use Rattle.am_model.specs.Ballots.{Verdict}
-use Rattle.am_model.specs.Hearing.{hears_member, hears_in_view, hears_sequencer}
-use Rattle.am_model.specs.Receiving.{with_noted}
-use Rattle.am_play.specs.World.{World}
-use Rattle.am_base.proofs.Greatest.{split, and_both}
-use Rattle.am_effects.specs.Causes.{Cause, hears, BringsFronts, with_entry, with_number, alone}
-use Rattle.am_effects.specs.Looks.{Looks, finds_itself_out}
-use Rattle.am_effects.specs.Changes.{Change, refreshes, settles, notes, stores, begins_list, departs}
-use Rattle.am_effects.specs.Changes.{looks, fetches, stores_view, asks_to_join, closes}
-use Rattle.am_effects.proofs.Rests.{settle_is}
-use Rattle.am_laws.proofs.Stamps.{same_stamp}
-use Rattle.am_stands.specs.Accepting.{nothing, of_sequencer}
-use Rattle.am_stands.specs.Growing.{Grows}
-use Rattle.am_stands.specs.Letters.{SequencerSays}
-use Rattle.am_stands.specs.Steps.{FrontsStay, FrontsAfter}
-use Rattle.am_stands.specs.Keeping.{IsPlain, HeardSo, Stepping}
-use Rattle.am_stands.proofs.Keeping.{old}
 use Rattle.am_steps.proofs.Refreshed.{Fronted, word_stays}
 
 -- ---- where they stay

@@ -1,29 +1,13 @@
 -- A request of a name stands for one body, in every run.
-use Rattle.std.proofs.Common.{◌≡◌, ⊎_elim, ℕ, ◌+◌, ◌≤◌, List, [], refl, sym, ap, subst, arith}
-use Rattle.am_base.specs.declared.outcome.Outcome.{Outcome}
+use Rattle.am_steps.proofs.Words.{◌≡◌, ⊎_elim, ℕ, ◌+◌, ◌≤◌, List, [], refl, sym, ap, subst, arith, Outcome, Rules, Act, Event, Node, Ballot, set_at, Verdict}
+use Rattle.am_steps.proofs.Words.{Step, World, start, record_of, with_record, with_step, run, split, Cause, calls, Looks, finds_itself_out, Change, refreshes}
+use Rattle.am_steps.proofs.Words.{settles, looks, queues, collects, closes, Answers, WasQueued, AnswersAsk, Effect, actor, IsCall, IsCause, IsIdle, idles}
+use Rattle.am_steps.proofs.Words.{stops, returns, steps, rests_refresh, rests_closed, settle_is, along, EachKeeps, runs_keep, after_step, AskedOk, asked_more}
+use Rattle.am_steps.proofs.Words.{asked_other, unique, SendsOnce}
 use Rattle.am_base.specs.declared.outcome.Outcome.TheVariants as said
 use Rattle.am_base.specs.declared.event.NodeEvent.TheVariants as does
-use Rattle.am_base.specs.Founding.{Rules}
 use Rattle.am_sender.specs.Sends as own
-use Rattle.am_group.specs.declared.event.Act.{Act}
 use Rattle.am_group.specs.declared.event.Act.TheVariants as act
-use Rattle.am_group.specs.declared.event.Event.{Event}
-use Rattle.am_model.specs.Node.{Node, Ballot, set_at}
-use Rattle.am_model.specs.Ballots.{Verdict}
-use Rattle.am_model.specs.Emit.{Step}
-use Rattle.am_play.specs.World.{World, start, record_of, with_record, with_step, run}
-use Rattle.am_base.proofs.Greatest.{split}
-use Rattle.am_effects.specs.Causes.{Cause, calls}
-use Rattle.am_effects.specs.Looks.{Looks, finds_itself_out}
-use Rattle.am_effects.specs.Changes.{Change, refreshes, settles}
-use Rattle.am_effects.specs.Changes.{looks, queues, collects, closes}
-use Rattle.am_effects.specs.Effects.{Answers, WasQueued, AnswersAsk, Effect}
-use Rattle.am_effects.specs.Events.{actor, IsCall, IsCause, IsIdle, idles, stops, returns, steps}
-use Rattle.am_effects.proofs.Rests.{rests_refresh, rests_closed, settle_is}
-use Rattle.am_effects.proofs.Runs.{along, EachKeeps, runs_keep}
-use Rattle.am_sent.proofs.Runs.{after_step}
-use Rattle.am_unballoted.proofs.Worlds.{AskedOk, asked_more, asked_other, unique}
-use Rattle.am_stands.specs.States.{SendsOnce}
 
 -- ---- a node's last request number only rises
 

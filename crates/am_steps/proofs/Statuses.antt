@@ -1,8 +1,6 @@
 -- What a status says of who has it.
-use Rattle.std.proofs.Common.{◌≡◌, ◌||◌, true, false, refl}
-use Rattle.am_model.specs.declared.status.Status.{Status}
+use Rattle.am_steps.proofs.Words.{◌≡◌, ◌||◌, true, false, refl, Status, is_member, is_asking, has_log, has_departed}
 use Rattle.am_model.specs.declared.status.Status.TheVariants as status
-use Rattle.am_model.specs.Node.{is_member, is_asking, has_log, has_departed}
 
 -- who is no member, and hasn't departed, has no list
 pub bare_status : (t : Status) → is_member t ≡ false → has_departed t ≡ false → has_log t ≡ false

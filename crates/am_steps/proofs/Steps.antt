@@ -1,72 +1,23 @@
 -- Each step of a name of a run is moves of the group that stands for it.
-use Rattle.std.proofs.Common.{◌≡◌, ⊎_elim, Option, None, ℕ, ◌<◌, ◌≤◌, ◌==◌, not, nat_lt, true, false, List, [], Some, slice_get, refl, sym, ap, ◌∙◌}
-use Rattle.std.proofs.Common.{subst, arith}
-use Rattle.std.specs.Prelude.{All}
-use Rattle.std.proofs.lemmas.Bool.Decides.{nat_tests}
-use Rattle.am_base.specs.declared.name.Stamp.{Stamp}
-use Rattle.am_base.specs.declared.event.NodeEvent.{NodeEvent}
-use Rattle.am_base.specs.declared.outcome.Outcome.{Outcome}
-use Rattle.am_base.specs.declared.entry.Entry.{Entry}
-use Rattle.am_base.specs.declared.entry.Entry.TheVariants.{Leave}
-use Rattle.am_base.specs.Founding.{Rules, MayFound}
-use Rattle.am_base.specs.Lists.{Log, told_by}
-use Rattle.am_base.specs.Names.{size}
-use Rattle.am_base.specs.Stamps.{stamp_lt, stamp_eq}
+use Rattle.am_steps.proofs.Words.{◌≡◌, ⊎_elim, Option, None, ℕ, ◌<◌, ◌≤◌, ◌==◌, not, nat_lt, true, false, List, [], Some, slice_get, refl, sym, ap, ◌∙◌}
+use Rattle.am_steps.proofs.Words.{subst, arith, All, nat_tests, Stamp, NodeEvent, Outcome, Entry, Leave, Rules, MayFound, Log, told_by, size, stamp_lt}
+use Rattle.am_steps.proofs.Words.{stamp_eq, Letter, Event, Group, Departed, Node, Ballot, view, acts, is_member, others, is_sequencer, push_entry}
+use Rattle.am_steps.proofs.Words.{has_departed, is_unfinished, Step, hears_member, refresh, settle, refresh_at_end, Decided, World, is_stopped, group_after}
+use Rattle.am_steps.proofs.Words.{views_after, run, with_step, happens, split, and_both, Cause, calls, hears, departs, Course, nothing_yet, used_report}
+use Rattle.am_steps.proofs.Words.{and_then, Deeds, plainly, looked, Ending, ends_so, let_go, closing, Effect, actor, IsCause, steps, all_get, rests_refresh}
+use Rattle.am_steps.proofs.Words.{rests_at_end, few_names, numbers_hold, same_stamp, not_above_itself, run_owned, Balloted, OpenBallot, leads_member}
+use Rattle.am_steps.proofs.Words.{changes_do, IsNoted, CauseSent, after_step, cause_sent, NameStands, StandsBut, within, nothing, none, OwnDecided, Sender}
+use Rattle.am_steps.proofs.Words.{ListBegins, began_before, just_begun, Stepping, Following, Follows, StepsMove, then_moves, no_more_group, departed_silent}
 use Rattle.am_packet.specs.declared.packet.Packet.TheVariants as packet
-use Rattle.am_packet.specs.Boxes.{Letter}
-use Rattle.am_group.specs.declared.event.Event.{Event}
-use Rattle.am_chain_moves.specs.Group.{Group}
-use Rattle.am_model.specs.declared.status.Status.TheVariants.{Departed}
-use Rattle.am_model.specs.Node.{Node, Ballot, view, acts, is_member, others, is_sequencer, push_entry, has_departed}
-use Rattle.am_model.specs.Calls.{is_unfinished}
-use Rattle.am_model.specs.Emit.{Step}
-use Rattle.am_model.specs.Hearing.{hears_member}
-use Rattle.am_model.specs.Refresh.{refresh, settle, refresh_at_end}
-use Rattle.am_play.specs.World.{Decided, World, is_stopped, group_after, views_after, run, with_step, happens}
-use Rattle.am_base.proofs.Greatest.{split, and_both}
-use Rattle.am_effects.specs.Causes.{Cause, calls, hears}
 use Rattle.am_effects.specs.Letters as letters
-use Rattle.am_effects.specs.Changes.{departs}
-use Rattle.am_effects.specs.Courses.{Course, nothing_yet, used_report, and_then, Deeds, plainly, looked, Ending, at_end as ends_so, let_go, closing}
-use Rattle.am_effects.specs.Effects.{Effect}
-use Rattle.am_effects.specs.Events.{actor, IsCause, steps}
-use Rattle.am_effects.proofs.Items.{all_get}
-use Rattle.am_effects.proofs.Rests.{rests_refresh, rests_at_end}
-use Rattle.am_laws.proofs.Named.{few_names}
-use Rattle.am_laws.proofs.RunCounts.{numbers_hold}
-use Rattle.am_laws.proofs.Stamps.{same_stamp, not_above_itself}
-use Rattle.am_laws.proofs.TakenRuns.{run_owned}
-use Rattle.am_laws.proofs.ViewChanges.{Balloted, OpenBallot, leads_member, changes_do}
-use Rattle.am_laws.proofs.Views.{IsNoted}
-use Rattle.am_sent.proofs.Changes.{CauseSent}
-use Rattle.am_sent.proofs.Runs.{after_step, cause_sent}
-use Rattle.am_stands.specs.Standing.{NameStands, StandsBut, within}
-use Rattle.am_stands.specs.Accepting.{nothing}
-use Rattle.am_stands.specs.Moving.{none}
-use Rattle.am_stands.specs.States.{OwnDecided}
-use Rattle.am_stands.specs.Sending.{Sender, ListBegins, as_before as began_before, just_begun}
-use Rattle.am_stands.specs.Keeping.{Stepping}
-use Rattle.am_stands.specs.Running.{Following, Follows, StepsMove}
-use Rattle.am_stands.proofs.Ends.{then_moves}
-use Rattle.am_stands.proofs.Learning.{no_more_group}
-use Rattle.am_stands.proofs.Silent.{departed_silent}
-use Rattle.am_steps.proofs.Statuses.{member_here, departed_is}
-use Rattle.am_steps.proofs.Owns.{owns_next, run_owns}
 use Rattle.am_steps.proofs.Starting.{acting, recorded, stands_but, run_sent, stepping_begins}
-use Rattle.am_steps.proofs.Worlds.{growing, same_stands}
-use Rattle.am_steps.proofs.Refreshed.{Fronted}
-use Rattle.am_steps.proofs.Courses.{brings_report, was_welcomed, both_ways, stays}
-use Rattle.am_steps.proofs.Fronts.{looked_fronts}
-use Rattle.am_steps.proofs.Going.{Grown, as_before, by_reports, change_on, going_on}
-use Rattle.am_steps.proofs.Deeds.{further, Seen, none_new, one_new, Done, deeds_on}
-use Rattle.am_steps.proofs.Ends.{AtEnd, ended_on, stamp_itself, views_end}
-use Rattle.am_steps.proofs.Based.{Based, as_it_was, was_bare, step_based, bare_follows}
-use Rattle.am_steps.proofs.Letters.{Told, none_told, letters_told}
-use Rattle.am_steps.proofs.Landing.{at_end, landed, ended_stands, ended_keeps, landed_told}
-use Rattle.am_steps.proofs.Silent.{departed_quiet}
-use Rattle.am_steps.proofs.Senders.{sender}
-use Rattle.am_steps.proofs.Departed.{rests_course, rests_step}
-use Rattle.am_steps.proofs.Closing.{closes_on}
+use Rattle.am_steps.proofs.{Statuses.member_here, Statuses.departed_is, Owns.owns_next, Owns.run_owns, Worlds.growing, Worlds.same_stands, Refreshed.Fronted}
+use Rattle.am_steps.proofs.{Courses.brings_report, Courses.was_welcomed, Courses.both_ways, Courses.stays, Fronts.looked_fronts, Going.Grown, Going.as_before}
+use Rattle.am_steps.proofs.{Going.by_reports, Going.change_on, Going.going_on, Deeds.further, Deeds.Seen, Deeds.none_new, Deeds.one_new, Deeds.Done}
+use Rattle.am_steps.proofs.{Deeds.deeds_on, Ends.AtEnd, Ends.ended_on, Ends.stamp_itself, Ends.views_end, Based.Based, Based.as_it_was, Based.was_bare}
+use Rattle.am_steps.proofs.{Based.step_based, Based.bare_follows, Letters.Told, Letters.none_told, Letters.letters_told, Landing.at_end, Landing.landed}
+use Rattle.am_steps.proofs.{Landing.ended_stands, Landing.ended_keeps, Landing.landed_told, Silent.departed_quiet, Senders.sender, Departed.rests_course}
+use Rattle.am_steps.proofs.{Departed.rests_step, Closing.closes_on}
 
 -- ---- by how a step ends
 

@@ -1,35 +1,15 @@
 -- What some changes in turn keep.
-use Rattle.std.proofs.Common.{◌≡◌, ℕ, ◌+◌, ◌-◌, ◌<◌, ◌≤◌, max, min, ◌==◌, ◌&&◌, nat_lt, not, true, false, if◌then◌else◌, List, Option, Some, None, refl, sym}
-use Rattle.std.proofs.Common.{ap, ◌∙◌, subst, arith}
-use Rattle.std.proofs.lemmas.Bool.Decides.{nat_tests}
-use Rattle.am_base.specs.declared.name.Stamp.{Stamp}
-use Rattle.am_base.specs.declared.entry.Entry.{Entry}
-use Rattle.am_base.specs.declared.entry.Entry.TheVariants.{Leave}
-use Rattle.am_base.specs.declared.image.Image.{Image}
-use Rattle.am_base.specs.declared.outcome.Outcome.{Outcome}
+use Rattle.am_unballoted.proofs.Words.{◌≡◌, ℕ, ◌+◌, ◌-◌, ◌<◌, ◌≤◌, max, min, ◌==◌, ◌&&◌, nat_lt, not, true, false, if◌then◌else◌, List, Option, Some, None}
+use Rattle.am_unballoted.proofs.Words.{refl, sym, ap, ◌∙◌, subst, arith, nat_tests, Stamp, Entry, Leave, Image, Outcome, Rules, stamp_lt, accept, pass_over}
+use Rattle.am_unballoted.proofs.Words.{own_report, tell, go_on, let_go, Status, Node, Ballot, acts, is_member, is_sequencer, push_entry, has_log, advance}
+use Rattle.am_unballoted.proofs.Words.{lead, refresh, settle, refresh_at_end, overtake, begin_list, split, and_both, Cause, hears, MayBeWelcomed, Change}
+use Rattle.am_unballoted.proofs.Words.{refreshes, settles, begins_list, departs, promises, opens, looks, stores_view, queues, collects, takes, asks_to_join}
+use Rattle.am_unballoted.proofs.Words.{closes, Changes, unchanged, changed, rests_refresh, rests_closed, settle_is, logged, asking_log, asking}
 use Rattle.am_base.specs.declared.outcome.Outcome.TheVariants as said
-use Rattle.am_base.specs.Founding.{Rules}
-use Rattle.am_base.specs.Stamps.{stamp_lt}
-use Rattle.am_core.specs.Cores.{accept, pass_over}
-use Rattle.am_fronts.specs.Refresh.{own_report, tell, go_on, let_go}
 use Rattle.am_packet.specs.declared.packet.Packet.TheVariants as packet
 use Rattle.am_sender.specs.Sends as own
-use Rattle.am_model.specs.declared.status.Status.{Status}
 use Rattle.am_model.specs.declared.status.Status.TheVariants as status
-use Rattle.am_model.specs.Node.{Node, Ballot, acts, is_member, is_sequencer, push_entry, has_log}
-use Rattle.am_model.specs.Refresh.{advance, lead, refresh, settle, refresh_at_end}
-use Rattle.am_model.specs.Ballots.{overtake}
-use Rattle.am_model.specs.Joining.{begin_list}
-use Rattle.am_base.proofs.Greatest.{split, and_both}
-use Rattle.am_effects.specs.Causes.{Cause, hears}
-use Rattle.am_effects.specs.Changes.{MayBeWelcomed, Change, refreshes, settles, begins_list, departs}
-use Rattle.am_effects.specs.Changes.{promises, opens, looks, stores_view, queues, collects, takes, asks_to_join, closes, Changes}
-use Rattle.am_effects.specs.Changes.{unchanged, changed}
-use Rattle.am_effects.proofs.Rests.{rests_refresh, rests_closed, settle_is}
-use Rattle.am_unballoted.proofs.Kept.{NodeOk}
-use Rattle.am_effects.proofs.Statuses.{logged, asking_log}
-use Rattle.am_effects.proofs.Receiving.{asking}
-use Rattle.am_unballoted.proofs.Others.{looks_leave}
+use Rattle.am_unballoted.proofs.{Kept.NodeOk, Others.looks_leave}
 
 -- ---- as long as there is no ballot
 

@@ -1,45 +1,22 @@
 -- What each change of the first founder keeps, as long as its ballot is none.
-use Rattle.std.proofs.Common.{◌≡◌, ℕ, ◌+◌, ◌-◌, ◌<◌, ◌≤◌, max, min, ◌==◌, ◌&&◌, ◌||◌, not, nat_lt, true, false, if◌then◌else◌, List, [], length, map, Option}
-use Rattle.std.proofs.Common.{Some, None, refl, sym, ap, ◌∙◌, subst, append-nil, arith}
-use Rattle.std.proofs.lemmas.Bool.Decides.{nat_tests}
-use Rattle.am_base.specs.declared.name.Stamp.{Stamp}
-use Rattle.am_base.specs.declared.image.Report.{Report}
-use Rattle.am_base.specs.declared.image.Row.{Row}
-use Rattle.am_base.specs.declared.image.Image.{Image}
-use Rattle.am_base.specs.declared.entry.Entry.{Entry}
-use Rattle.am_base.specs.declared.entry.Entry.TheVariants.{Data, Join, Leave}
-use Rattle.am_base.specs.declared.outcome.Outcome.{Outcome}
-use Rattle.am_base.specs.Founding.{Rules}
-use Rattle.am_base.specs.Names.{life_of}
-use Rattle.am_base.specs.Stamps.{stamp_eq}
-use Rattle.am_base.specs.Lists.{Log, fits, at_place, row_of, requests_of}
-use Rattle.am_core.specs.Cores.{accept, pass_over}
-use Rattle.am_fronts.specs.Refresh.{own_report, tell, go_on, let_go}
-use Rattle.am_sender.specs.declared.OwnSend.{OwnSend}
+use Rattle.am_unballoted.proofs.Words.{◌≡◌, ℕ, ◌+◌, ◌-◌, ◌<◌, ◌≤◌, max, min, ◌==◌, ◌&&◌, ◌||◌, not, nat_lt, true, false, if◌then◌else◌, List, [], length, map}
+use Rattle.am_unballoted.proofs.Words.{Option, Some, None, refl, sym, ap, ◌∙◌, subst, append-nil, arith, nat_tests, Stamp, Report, Row, Image, Entry, Data}
+use Rattle.am_unballoted.proofs.Words.{Join, Leave, Outcome, Rules, life_of, stamp_eq, Log, fits, at_place, row_of, requests_of, accept, pass_over}
+use Rattle.am_unballoted.proofs.Words.{own_report, tell, go_on, let_go, OwnSend, Status, Node, top, view, is_member, is_asking, acts, is_sequencer}
+use Rattle.am_unballoted.proofs.Words.{push_entry, waiting, founding_stamp, has_log, advance, lead, refresh, accepted_at, settle_at, settle_waiting, settle}
+use Rattle.am_unballoted.proofs.Words.{refresh_at_end, is_view, hears_member, hears_in_view, hears_sequencer, split, and_both, image_of, mem, mem_in, in_mem}
+use Rattle.am_unballoted.proofs.Words.{mem_push, request_within, next_in, Cause, Numbers, asked_send, own_send, asked_join, asked_leave, MayBeWelcomed}
+use Rattle.am_unballoted.proofs.Words.{Change, refreshes, settles, numbers, notes, stores, begins_list, departs, promises, opens, looks, fetches, stores_view}
+use Rattle.am_unballoted.proofs.Words.{queues, collects, takes, asks_to_join, closes, base_up, rests_refresh, settle_is, logged}
 use Rattle.am_sender.specs.Sends as own
-use Rattle.am_model.specs.declared.status.Status.{Status}
 use Rattle.am_model.specs.declared.status.Status.TheVariants as status
 use Rattle.am_model.specs.Node as nodes
-use Rattle.am_model.specs.Node.{Node, top, view, is_member, is_asking, acts, is_sequencer, push_entry, waiting, founding_stamp, has_log}
-use Rattle.am_model.specs.Refresh.{advance, lead, refresh, accepted_at, settle_at, settle_waiting, settle, refresh_at_end}
-use Rattle.am_model.specs.Receiving.{is_view}
-use Rattle.am_model.specs.Hearing.{hears_member, hears_in_view, hears_sequencer}
-use Rattle.am_base.proofs.Greatest.{split, and_both}
-use Rattle.am_chain_lists.specs.Whole.{image_of, mem}
 use Rattle.am_chain_lists.proofs.Rows as rows
-use Rattle.am_chain_lists.proofs.Members.{mem_in, in_mem, mem_push}
-use Rattle.am_orders.proofs.Turns.{request_within, next_in}
-use Rattle.am_effects.specs.Causes.{Cause}
-use Rattle.am_effects.specs.Changes.{Numbers, asked_send, own_send, asked_join, asked_leave, MayBeWelcomed, Change, refreshes, settles}
-use Rattle.am_effects.specs.Changes.{numbers, notes, stores, begins_list, departs, promises, opens, looks, fetches, stores_view, queues, collects}
-use Rattle.am_effects.specs.Changes.{takes, asks_to_join, closes}
-use Rattle.am_effects.proofs.Rests.{base_up, rests_refresh, settle_is}
-use Rattle.am_unballoted.proofs.Kept.{first_of, At, ListOk, NodeOk, CauseOk, node_more}
-use Rattle.am_effects.proofs.Statuses.{logged}
-use Rattle.am_unballoted.proofs.Changes.{found_at, settle_ok, queued_ok, collected_ok}
-use Rattle.am_unballoted.proofs.Others.{same_node, looks_leave, promised_first, with_status, with_promise, taken_ok}
-use Rattle.am_unballoted.proofs.Turns.{Turn, waiting_is, one_more, waiting_settled, collected_turn}
-use Rattle.am_unballoted.proofs.First.{group_view, base_as, OwnOk, FirstBase, FirstOk, first_told, first_push}
+use Rattle.am_unballoted.proofs.{Kept.first_of, Kept.At, Kept.ListOk, Kept.NodeOk, Kept.CauseOk, Kept.node_more, Changes.found_at, Changes.settle_ok}
+use Rattle.am_unballoted.proofs.{Changes.queued_ok, Changes.collected_ok, Others.same_node, Others.looks_leave, Others.promised_first, Others.with_status}
+use Rattle.am_unballoted.proofs.{Others.with_promise, Others.taken_ok, Turns.Turn, Turns.waiting_is, Turns.one_more, Turns.waiting_settled}
+use Rattle.am_unballoted.proofs.{Turns.collected_turn, First.group_view, First.base_as, First.OwnOk, First.FirstBase, First.FirstOk, First.first_told}
+use Rattle.am_unballoted.proofs.{First.first_push}
 
 -- ---- what is accepted goes on
 

@@ -1,33 +1,13 @@
 -- Each event keeps what a world keeps.
-use Rattle.std.proofs.Common.{◌≡◌, ◌≢◌, ℕ, ◌≤◌, ◌==◌, true, false, List, [], ◌∷◌, ◌++◌, length, take, None, refl, sym, ap, ◌∙◌, subst, append-nil}
-use Rattle.std.proofs.Common.{length-append, arith}
-use Rattle.std.specs.Prelude.{All}
-use Rattle.std.specs.List.{flat_map}
-use Rattle.std.proofs.lemmas.Bool.Decides.{nat_tests}
-use Rattle.std.proofs.lemmas.List.Elements.{All-nil, All-append, All-push, All-weaker}
-use Rattle.am_base.specs.declared.entry.Entry.{Entry}
-use Rattle.am_base.specs.Founding.{Rules}
-use Rattle.am_base.specs.Names.{has}
-use Rattle.am_group.specs.declared.event.Event.{Event}
-use Rattle.am_group.specs.declared.event.Record.{Record}
-use Rattle.am_group.specs.Deliveries.{name_of, taken_in, given_to, deliveries}
-use Rattle.am_model.specs.Node.{Node, set_at}
-use Rattle.am_model.specs.Emit.{Step}
-use Rattle.am_play.specs.World.{World, record_of, group_after, with_step}
-use Rattle.am_play.specs.Group.{accepted_sends}
-use Rattle.am_play.specs.Claims.{welcomes}
-use Rattle.am_base.proofs.Greatest.{split}
-use Rattle.am_effects.specs.Causes.{Cause}
-use Rattle.am_effects.specs.Effects.{Answers}
-use Rattle.am_effects.specs.Events.{actor, IsCause, IsIdle}
-use Rattle.am_unballoted.proofs.Kept.{first_of, NodeOk, LetterOk, node_more, letter_more}
-use Rattle.am_unballoted.proofs.First.{FirstOk}
-use Rattle.am_unballoted.proofs.Chains.{Gave}
+use Rattle.am_unballoted.proofs.Words.{◌≡◌, ◌≢◌, ℕ, ◌≤◌, ◌==◌, true, false, List, [], ◌∷◌, ◌++◌, length, take, None, refl, sym, ap, ◌∙◌, subst, append-nil}
+use Rattle.am_unballoted.proofs.Words.{length-append, arith, All, flat_map, nat_tests, All-nil, All-append, All-push, All-weaker, Entry, Rules, has, Event}
+use Rattle.am_unballoted.proofs.Words.{Record, name_of, taken_in, given_to, deliveries, Node, set_at, Step, World, record_of, group_after, with_step}
+use Rattle.am_unballoted.proofs.Words.{accepted_sends, welcomes, split, Cause, Answers, actor, IsCause, IsIdle}
 use Rattle.am_unballoted.proofs.Worlds.{GivenOk, begins_at, RecordOk, StandsAt, AskedOk, asked_other, Kept, WorldOk}
 use Rattle.am_unballoted.proofs.Records.{idle_takes, idle_welcomes, idle_sends, idle_queues, deliveries_push, given_same, not_given, idle_gives, given_more}
 use Rattle.am_unballoted.proofs.Records.{accepted_more, accepted_and, welcome_in, welcomes_push, idle_welcome, other_welcome, record_up}
-use Rattle.am_unballoted.proofs.Steps.{given_step, sent_step}
-use Rattle.am_unballoted.proofs.Welcomes.{record_step, welcomed_step}
+use Rattle.am_unballoted.proofs.{Kept.first_of, Kept.NodeOk, Kept.LetterOk, Kept.node_more, Kept.letter_more, First.FirstOk, Chains.Gave, Steps.given_step}
+use Rattle.am_unballoted.proofs.{Steps.sent_step, Welcomes.record_step, Welcomes.welcomed_step}
 
 -- ---- one name's node
 

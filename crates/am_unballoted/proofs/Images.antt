@@ -1,27 +1,10 @@
 -- Where the number of a row's joining stands in the whole list.
-use Rattle.std.proofs.Common.{◌≡◌, ◌≢◌, ◌⊎◌, ⊎_elim, inl, inr, ℕ, ◌+◌, ◌<◌, ◌==◌, true, false, List, [], ◌∷◌, ◌++◌, length, slice_index, Some, refl, sym, ap}
-use Rattle.std.proofs.Common.{◌∙◌, subst, append_assoc, append-nil, arith}
-use Rattle.std.proofs.lemmas.List.{get_or-replicate}
-use Rattle.std.specs.Prelude.{All}
-use Rattle.std.proofs.lemmas.Bool.Decides.{nat_tests}
-use Rattle.std.proofs.lemmas.List.Elements.{All-head, All-tail}
-use Rattle.am_base.specs.declared.image.Row.{Row}
-use Rattle.am_base.specs.declared.image.Image.{Image}
-use Rattle.am_base.specs.declared.entry.Entry.{Entry}
-use Rattle.am_base.specs.declared.entry.Entry.TheVariants.{Data, Join, Leave, View}
-use Rattle.am_base.specs.Founding.{Rules}
-use Rattle.am_base.specs.Names.{has, place_of, life_of}
-use Rattle.am_base.specs.Lists.{blank, blank_row, fold, after, at_place, with_row}
-use Rattle.am_group.specs.Journals.{item_at}
-use Rattle.am_model.specs.Node.{founders_view, founding_stamp}
-use Rattle.am_model.specs.Receiving.{is_view}
-use Rattle.am_base.proofs.Greatest.{split}
-use Rattle.am_chain_lists.specs.Whole.{image_of}
-use Rattle.am_chain_lists.proofs.Rows.{row_at, row_set, row_view}
-use Rattle.am_chain_lists.proofs.Members.{told_push, long_told}
-use Rattle.am_effects.proofs.Items.{get_last}
-use Rattle.am_unballoted.proofs.Lists.{item_more, get_item}
-use Rattle.am_unballoted.proofs.First.{IsGroup}
+use Rattle.am_unballoted.proofs.Words.{◌≡◌, ◌≢◌, ◌⊎◌, ⊎_elim, inl, inr, ℕ, ◌+◌, ◌<◌, ◌==◌, true, false, List, [], ◌∷◌, ◌++◌, length, slice_index, Some, refl}
+use Rattle.am_unballoted.proofs.Words.{sym, ap, ◌∙◌, subst, append_assoc, append-nil, arith, get_or-replicate, All, nat_tests, All-head, All-tail, Row, Image}
+use Rattle.am_unballoted.proofs.Words.{Entry, Data, Join, Leave, View, Rules, has, place_of, life_of, blank, blank_row, fold, after, at_place, with_row}
+use Rattle.am_unballoted.proofs.Words.{item_at, founders_view, founding_stamp, is_view, split, image_of, row_at, row_set, row_view, told_push, long_told}
+use Rattle.am_unballoted.proofs.Words.{get_last}
+use Rattle.am_unballoted.proofs.{Lists.item_more, Lists.get_item, First.IsGroup}
 
 -- a row whose place has joined is a founder's, or that of a Join at this number
 pub record RowOk (rules : Rules) (list : List Entry) (place : ℕ) (r : Row) : Type 0 where

@@ -1,16 +1,8 @@
 -- Items of lists, and lists that begin one another.
-use Rattle.std.proofs.Common.{◌≡◌, ℕ, zero, suc, ◌+◌, ◌<◌, ◌≤◌, List, [], ◌∷◌, ◌++◌, length, take, drop, Some, slice_get, sym, ap, ◌∙◌, subst, append_assoc}
-use Rattle.std.proofs.Common.{length-append, arith}
-use Rattle.std.specs.Prelude.{All}
-use Rattle.std.proofs.lemmas.Option.{slice_get_within}
-use Rattle.std.proofs.lemmas.List.{take-append-le, take-append-drop, length-take, append-nil}
-use Rattle.std.proofs.lemmas.List.Elements.{All-nil, All-cons, All-head, All-tail}
-use Rattle.am_base.specs.declared.entry.Entry.{Entry}
-use Rattle.am_group.specs.Journals.{item_at}
-use Rattle.am_group.proofs.Places.{get_behind}
-use Rattle.am_effects.proofs.Items.{get_front, get_take}
-use Rattle.am_chain_lists.specs.Whole.{Begins}
-use Rattle.am_chain_lists.proofs.Prefixes.{begins_push, length_take}
+use Rattle.am_unballoted.proofs.Words.{◌≡◌, ℕ, zero, suc, ◌+◌, ◌<◌, ◌≤◌, List, [], ◌∷◌, ◌++◌, length, take, drop, Some, slice_get, sym, ap, ◌∙◌, subst}
+use Rattle.am_unballoted.proofs.Words.{append_assoc, length-append, arith, All, slice_get_within, take-append-le, take-append-drop, length-take, All-nil}
+use Rattle.am_unballoted.proofs.Words.{All-cons, All-head, All-tail, Entry, item_at, get_behind, get_front, get_take, Begins, begins_push, length_take}
+use Rattle.std.proofs.lemmas.List.{append-nil}
 
 -- ---- items by number
 

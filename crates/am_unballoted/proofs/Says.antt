@@ -1,37 +1,17 @@
 -- What each letter says is so, in a run without a ballot.
-use Rattle.std.proofs.Common.{◌≡◌, ◌≢◌, ⊎_elim, ℕ, ◌+◌, ◌-◌, ◌<◌, ◌≤◌, ◌==◌, true, List, [], ◌∷◌, ◌++◌, length, take, Some, None, slice_get, slice_index, refl}
-use Rattle.std.proofs.Common.{sym, ap, ◌∙◌, subst, arith}
-use Rattle.std.proofs.lemmas.Bool.Decides.{nat_tests}
-use Rattle.std.proofs.lemmas.List.{get_or-replicate, get_or-set_same, get_or-set_other}
-use Rattle.am_base.specs.declared.name.Stamp.{Stamp}
-use Rattle.am_base.specs.declared.image.Row.{Row}
-use Rattle.am_base.specs.declared.image.Image.{Image}
-use Rattle.am_base.specs.declared.entry.Entry.{Entry}
-use Rattle.am_base.specs.declared.entry.Entry.TheVariants.{Data, Join, View}
-use Rattle.am_base.specs.Founding.{Rules}
-use Rattle.am_base.specs.Names.{has, place_of, life_of, nobody}
-use Rattle.am_base.specs.Lists.{with_row, blank, fold, after, at_place, row_of, image_at, entry_at, told_by}
-use Rattle.am_packet.specs.declared.packet.Packet.{Packet}
+use Rattle.am_unballoted.proofs.Words.{◌≡◌, ◌≢◌, ⊎_elim, ℕ, ◌+◌, ◌-◌, ◌<◌, ◌≤◌, ◌==◌, true, List, [], ◌∷◌, ◌++◌, length, take, Some, None, slice_get}
+use Rattle.am_unballoted.proofs.Words.{slice_index, refl, sym, ap, ◌∙◌, subst, arith, nat_tests, get_or-replicate, get_or-set_same, get_or-set_other, Stamp}
+use Rattle.am_unballoted.proofs.Words.{Row, Image, Entry, Data, Join, View, Rules, has, place_of, life_of, nobody, with_row, blank, fold, after, at_place}
+use Rattle.am_unballoted.proofs.Words.{row_of, image_at, entry_at, told_by, Packet, Letter, goes_to_any, item_at, Node, only_name, is_member, is_sequencer}
+use Rattle.am_unballoted.proofs.Words.{acts, founding_stamp, founders_view, viewed_by, split, and_both, image_of, row_at, row_set, told_push, long_told}
+use Rattle.am_unballoted.proofs.Words.{begins_take, begins_push, begins_same, length_take, length_push, Cause, hears, Stands, MayWelcome, just_joined}
+use Rattle.am_unballoted.proofs.Words.{asks_again, has_begun, goes_on, leads, decided, Says, bcast, order, welcome, invite, vote, piece, result, LetterSays}
+use Rattle.am_unballoted.proofs.Words.{entry_is}
+use Rattle.am_effects.specs.Letters.{accept}
 use Rattle.am_packet.specs.declared.packet.Packet.TheVariants as packet
-use Rattle.am_packet.specs.Boxes.{Letter}
-use Rattle.am_packet.specs.Kinds.{goes_to_any}
-use Rattle.am_group.specs.Journals.{item_at}
 use Rattle.am_model.specs.Node as nodes
-use Rattle.am_model.specs.Node.{Node, only_name, is_member, is_sequencer, acts, founding_stamp, founders_view}
-use Rattle.am_model.specs.Ticks.{viewed_by}
-use Rattle.am_base.proofs.Greatest.{split, and_both}
-use Rattle.am_chain_lists.specs.Whole.{image_of}
-use Rattle.am_chain_lists.proofs.Rows.{row_at, row_set}
-use Rattle.am_chain_lists.proofs.Members.{told_push, long_told}
-use Rattle.am_chain_lists.proofs.Prefixes.{begins_take, begins_push, begins_same, length_take, length_push}
-use Rattle.am_effects.specs.Causes.{Cause, hears}
-use Rattle.am_effects.specs.Letters.{Stands, MayWelcome, just_joined, asks_again, has_begun, goes_on, leads, decided, Says, bcast, order}
-use Rattle.am_effects.specs.Letters.{accept, welcome, invite, vote, piece, result, LetterSays}
-use Rattle.am_effects.proofs.Ballots.{entry_is}
-use Rattle.am_unballoted.proofs.Lists.{get_item, within_get}
-use Rattle.am_unballoted.proofs.Kept.{first_of, ListOk, FrontsOk, PacketOk, WelcomeOk, LetterOk, CauseOk}
-use Rattle.am_unballoted.proofs.First.{IsGroup, group_view}
-use Rattle.am_unballoted.proofs.Images.{rows_ok}
+use Rattle.am_unballoted.proofs.{Lists.get_item, Lists.within_get, Kept.first_of, Kept.ListOk, Kept.FrontsOk, Kept.PacketOk, Kept.WelcomeOk, Kept.LetterOk}
+use Rattle.am_unballoted.proofs.{Kept.CauseOk, First.IsGroup, First.group_view, Images.rows_ok}
 
 -- ---- names of letters
 

@@ -1,29 +1,12 @@
 -- What the changes of a step do to a node's entries, one after another.
-use Rattle.std.proofs.Common.{◌≡◌, ℕ, ◌≤◌, ◌==◌, ◌&&◌, ◌||◌, not, true, false, List, [], ◌∷◌, ◌++◌, refl, sym, ap, ◌∙◌, append_assoc, arith}
-use Rattle.am_base.specs.declared.outcome.Outcome.{Outcome}
-use Rattle.am_base.specs.declared.name.Stamp.{Stamp}
-use Rattle.am_base.specs.declared.image.Image.{Image}
-use Rattle.am_base.specs.declared.entry.Entry.{Entry}
-use Rattle.am_base.specs.declared.entry.Entry.TheVariants.{View, Leave}
-use Rattle.am_base.specs.Stamps.{stamp_eq}
-use Rattle.am_base.specs.Lists.{Log}
+use Rattle.am_watched.proofs.Words.{◌≡◌, ℕ, ◌≤◌, ◌==◌, ◌&&◌, ◌||◌, not, true, false, List, [], ◌∷◌, ◌++◌, refl, sym, ap, ◌∙◌, append_assoc, arith, Outcome}
+use Rattle.am_watched.proofs.Words.{Stamp, Image, Entry, View, Leave, stamp_eq, Log, Status, Node, Ballot, view, acts, is_sequencer, is_member, is_asking}
+use Rattle.am_watched.proofs.Words.{push_entry, has_log, Verdict, refresh, settle, hears_member, hears_in_view, hears_sequencer, split, and_both, Cause}
+use Rattle.am_watched.proofs.Words.{hears, HasOpen, Balloting, with_more, without_one, as_it_is, Looks, finds_itself_out, decides, MayBeWelcomed, Change}
+use Rattle.am_watched.proofs.Words.{refreshes, settles, numbers, stores, begins_list, departs, looks, fetches, stores_view, asks_to_join, closes, Changes}
+use Rattle.am_watched.proofs.Words.{unchanged, changed, rests_refresh, rests_at_end, settle_is, HasNames, HeardNames, Balloted, log_of_member, changes_do}
 use Rattle.am_packet.specs.declared.packet.Packet.TheVariants as packet
-use Rattle.am_model.specs.declared.status.Status.{Status}
 use Rattle.am_model.specs.declared.status.Status.TheVariants as status
-use Rattle.am_model.specs.Node.{Node, Ballot, view, acts, is_sequencer, is_member, is_asking, push_entry, has_log}
-use Rattle.am_model.specs.Ballots.{Verdict}
-use Rattle.am_model.specs.Refresh.{refresh, settle}
-use Rattle.am_model.specs.Hearing.{hears_member, hears_in_view, hears_sequencer}
-use Rattle.am_base.proofs.Greatest.{split, and_both}
-use Rattle.am_effects.specs.Causes.{Cause, hears}
-use Rattle.am_effects.specs.Looks.{HasOpen, Balloting, with_more, without_one, as_it_is, Looks, finds_itself_out}
-use Rattle.am_effects.specs.Looks.{decides}
-use Rattle.am_effects.specs.Changes.{MayBeWelcomed, Change, refreshes, settles, numbers, stores, begins_list, departs}
-use Rattle.am_effects.specs.Changes.{looks, fetches, stores_view, asks_to_join, closes, Changes}
-use Rattle.am_effects.specs.Changes.{unchanged, changed}
-use Rattle.am_effects.proofs.Rests.{rests_refresh, rests_at_end, settle_is}
-use Rattle.am_laws.proofs.ViewNames.{HasNames, HeardNames}
-use Rattle.am_laws.proofs.ViewChanges.{Balloted, log_of_member, changes_do}
 
 -- ---- who has a list
 

@@ -1,40 +1,17 @@
 -- A view is noted with the members that its View names: in the step that decides it nothing changes them any more.
-use Rattle.std.proofs.Common.{◌≡◌, ◌⊎◌, inl, inr, ⊎_elim, ℕ, ◌+◌, ◌<◌, ◌==◌, ◌&&◌, ◌||◌, not, max, nat_lt, Bool, true, false, List, length, slice_index, Option}
-use Rattle.std.proofs.Common.{Some, None, refl, sym, ap, ◌∙◌, subst, arith}
-use Rattle.std.proofs.lemmas.Bool.Decides.{nat_tests}
-use Rattle.am_base.specs.declared.entry.Entry.{Entry}
-use Rattle.am_base.specs.declared.entry.Entry.TheVariants.{Data, Join, Leave, View}
-use Rattle.am_base.specs.declared.image.Vote.{Vote}
-use Rattle.am_base.specs.declared.image.Image.{Image}
-use Rattle.am_base.specs.declared.name.Stamp.{Stamp}
-use Rattle.am_base.specs.declared.outcome.Outcome.{Outcome}
+use Rattle.am_watched.proofs.Words.{◌≡◌, ◌⊎◌, inl, inr, ⊎_elim, ℕ, ◌+◌, ◌<◌, ◌==◌, ◌&&◌, ◌||◌, not, max, nat_lt, Bool, true, false, List, length, slice_index}
+use Rattle.am_watched.proofs.Words.{Option, Some, None, refl, sym, ap, ◌∙◌, subst, arith, nat_tests, Entry, Data, Join, Leave, View, Vote, Image, Stamp}
+use Rattle.am_watched.proofs.Words.{Outcome, stamp_lt, stamp_eq, Log, members_of, fits, entry_at, told_by, Node, Ballot, top, image_of, view, members}
+use Rattle.am_watched.proofs.Words.{unsettled_count, push_entry, trim_up_to, has_log, Verdict, overtake, need_of, left_in, trim_for, is_unfinished, is_view}
+use Rattle.am_watched.proofs.Words.{refresh, split, and_both, Cause, calls, hears, was_reset, was_handed, was_fetched, HasOpen, Balloting, with_more}
+use Rattle.am_watched.proofs.Words.{without_one, as_it_is, Looks, finds_itself_out, decides, Numbers, asked_send, own_send, asked_join, asked_leave, Carries}
+use Rattle.am_watched.proofs.Words.{whole_entry, by_number, Change, refreshes, settles, numbers, stores, begins_list, promises, opens, looks, fetches}
+use Rattle.am_watched.proofs.Words.{stores_view, asks_to_leave, closes, rests_refresh, rests_at_end, settle_is, told_pushed, view_pushed, same_stamp}
+use Rattle.am_watched.proofs.Words.{at_most_below, entry_stays, after_same, view_last, view_there, Balloted, same_is_equal, data_members, viewed_members}
+use Rattle.am_watched.proofs.Words.{those_some, those_long, NoOwnVote, own_need, looked_vote}
 use Rattle.am_base.specs.declared.event.NodeEvent.TheVariants as does
-use Rattle.am_base.specs.Stamps.{stamp_lt, stamp_eq}
-use Rattle.am_base.specs.Lists.{Log, members_of, fits, entry_at, told_by}
 use Rattle.am_packet.specs.declared.packet.Packet.TheVariants as packet
-use Rattle.am_model.specs.Node.{Node, Ballot, top, image_of, view, members, unsettled_count, push_entry, trim_up_to, has_log}
-use Rattle.am_model.specs.Ballots.{Verdict, overtake, need_of, left_in, trim_for}
-use Rattle.am_model.specs.Calls.{is_unfinished}
-use Rattle.am_model.specs.Receiving.{is_view}
-use Rattle.am_model.specs.Refresh.{refresh}
-use Rattle.am_base.proofs.Greatest.{split, and_both}
-use Rattle.am_effects.specs.Causes.{Cause, calls, hears}
-use Rattle.am_effects.specs.Looks.{was_reset, was_handed, was_fetched, HasOpen, Balloting, with_more, without_one, as_it_is, Looks, finds_itself_out}
-use Rattle.am_effects.specs.Looks.{decides}
-use Rattle.am_effects.specs.Changes.{Numbers, asked_send, own_send, asked_join, asked_leave, Carries, whole_entry, by_number, Change, refreshes, settles}
-use Rattle.am_effects.specs.Changes.{numbers, stores, begins_list, promises, opens, looks, fetches}
-use Rattle.am_effects.specs.Changes.{stores_view, asks_to_leave, closes}
-use Rattle.am_effects.proofs.Rests.{rests_refresh, rests_at_end, settle_is}
-use Rattle.am_effects.proofs.Says.{told_pushed, view_pushed}
-use Rattle.am_laws.proofs.Stamps.{same_stamp, at_most_below}
-use Rattle.am_laws.proofs.ViewSteps.{entry_stays, after_same, view_last, view_there}
-use Rattle.am_laws.proofs.ViewChanges.{Balloted}
-use Rattle.am_laws.proofs.Views.{same_is_equal}
-use Rattle.am_laws.proofs.ViewMembers.{data_members, viewed_members, those_some, those_long}
-use Rattle.am_laws.proofs.Trims.{NoOwnVote}
-use Rattle.am_laws.proofs.Taken.{own_need, looked_vote}
-use Rattle.am_watched.proofs.Chains.{welcomed_none}
-use Rattle.am_watched.proofs.Own.{Known, HeardOwn, looked_open}
+use Rattle.am_watched.proofs.{Chains.welcomed_none, Own.Known, Own.HeardOwn, Own.looked_open}
 
 -- ---- what made a node look at its ballot
 

@@ -1,39 +1,15 @@
 -- In each run each noted view has the members that its View names.
-use Rattle.std.proofs.Common.{◌≡◌, ℕ, ◌==◌, not, Bool, true, false, if◌then◌else◌, List, [], ◌∷◌, Some, refl, sym, ap, ◌∙◌, subst, arith}
-use Rattle.std.specs.Prelude.{All}
-use Rattle.std.proofs.lemmas.Bool.Decides.{nat_tests}
-use Rattle.std.proofs.lemmas.List.Elements.{All-nil, All-cons, All-append, All-weaker}
-use Rattle.am_base.specs.declared.entry.Entry.TheVariants.{View}
-use Rattle.am_base.specs.declared.outcome.Outcome.{Outcome}
-use Rattle.am_base.specs.Founding.{Rules, MayFound}
-use Rattle.am_base.specs.Names.{has}
-use Rattle.am_base.specs.Stamps.{stamp_lt, stamp_eq}
-use Rattle.am_base.specs.Lists.{entry_at, after, fold}
-use Rattle.am_group.specs.declared.event.Event.{Event}
-use Rattle.am_model.specs.Node.{Node, image_of, view, set_at, is_member, has_log}
-use Rattle.am_model.specs.Emit.{Step}
-use Rattle.am_play.specs.World.{Decided, World, start, first_node, founders_decided, last_view, views_after, with_record, with_step, run}
+use Rattle.am_watched.proofs.Words.{◌≡◌, ℕ, ◌==◌, not, Bool, true, false, if◌then◌else◌, List, [], ◌∷◌, Some, refl, sym, ap, ◌∙◌, subst, arith, All}
+use Rattle.am_watched.proofs.Words.{nat_tests, All-nil, All-cons, All-append, All-weaker, View, Outcome, Rules, MayFound, has, stamp_lt, stamp_eq, entry_at}
+use Rattle.am_watched.proofs.Words.{after, fold, Event, Node, image_of, view, set_at, is_member, has_log, Step, Decided, World, start, first_node}
+use Rattle.am_watched.proofs.Words.{founders_decided, last_view, views_after, with_record, with_step, run, split, and_both, Cause, Changes, no_change}
+use Rattle.am_watched.proofs.Words.{changed, Effect, actor, IsCause, idles, stops, returns, steps, all_get, EachKeeps, runs_keep, at_most, not_above_itself}
+use Rattle.am_watched.proofs.Words.{few_names, change_named, first_founder, HeardNames, Does, change_does, changes_do, log_of_member, heard_names}
+use Rattle.am_watched.proofs.Words.{same_is_equal, told_used, HeardUsed, Along, along_changes, AllOwned, each_along, heard_used, each_owned, owned_start}
+use Rattle.am_watched.proofs.Words.{MembersHold}
 use Rattle.am_play.specs.World as runs
-use Rattle.am_base.proofs.Greatest.{split, and_both}
-use Rattle.am_effects.specs.Causes.{Cause}
-use Rattle.am_effects.specs.Changes.{Changes, unchanged as no_change, changed}
-use Rattle.am_effects.specs.Effects.{Effect}
-use Rattle.am_effects.specs.Events.{actor, IsCause, idles, stops, returns, steps}
-use Rattle.am_effects.proofs.Items.{all_get}
-use Rattle.am_effects.proofs.Runs.{EachKeeps, runs_keep}
-use Rattle.am_laws.proofs.Stamps.{at_most, not_above_itself}
-use Rattle.am_laws.proofs.Named.{few_names, change_named}
-use Rattle.am_model.proofs.Founders.{first_founder}
-use Rattle.am_laws.proofs.ViewNames.{HeardNames}
-use Rattle.am_laws.proofs.ViewChanges.{Does, change_does, changes_do, log_of_member}
-use Rattle.am_laws.proofs.Views.{heard_names, same_is_equal}
-use Rattle.am_laws.proofs.Trims.{told_used}
-use Rattle.am_laws.proofs.Taken.{HeardUsed}
-use Rattle.am_laws.proofs.TakenRuns.{Along, along_changes, AllOwned, each_along, heard_used, each_owned, owned_start}
-use Rattle.am_watched.specs.Members.{MembersHold}
-use Rattle.am_watched.proofs.Own.{HeardOwn, view_rises}
-use Rattle.am_watched.proofs.New.{AllOwn, heard_own, each_own, own_start}
 use Rattle.am_watched.proofs.Members.{Whole, Viewed, as_before, of_other, decided, Quiet, change_quiet, change_viewed}
+use Rattle.am_watched.proofs.{Own.HeardOwn, Own.view_rises, New.AllOwn, New.heard_own, New.each_own, New.own_start}
 
 -- ---- along a step
 

@@ -1,45 +1,17 @@
 -- In every run a view that is decided is a new one: its View stood nowhere before.
-use Rattle.std.proofs.Common.{◌≡◌, ◌⊎◌, ⊎_elim, ℕ, ◌-◌, ◌==◌, not, true, false, List, [], length, refl, sym, ap, ◌∙◌, subst, arith}
-use Rattle.std.specs.Prelude.{All}
-use Rattle.std.proofs.lemmas.Bool.Decides.{nat_tests}
-use Rattle.std.proofs.lemmas.List.Folds.{list_any_none}
-use Rattle.std.proofs.lemmas.List.Elements.{All-nil, All-cons, All-append, All-weaker, All-take, All-drop}
-use Rattle.am_base.specs.declared.name.Stamp.{Stamp}
-use Rattle.am_base.specs.declared.entry.Entry.{Entry}
-use Rattle.am_base.specs.declared.entry.Entry.TheVariants.{Data, Join, Leave, View}
-use Rattle.am_base.specs.Founding.{Rules, MayFound}
-use Rattle.am_base.specs.Names.{has, rank_of}
-use Rattle.am_base.specs.Stamps.{stamp_lt, stamp_eq, no_stamp}
-use Rattle.am_base.specs.Lists.{fold, after}
-use Rattle.am_packet.specs.declared.packet.Packet.{Packet}
+use Rattle.am_watched.proofs.Words.{◌≡◌, ◌⊎◌, ⊎_elim, ℕ, ◌-◌, ◌==◌, not, true, false, List, [], length, refl, sym, ap, ◌∙◌, subst, arith, All, nat_tests}
+use Rattle.am_watched.proofs.Words.{list_any_none, All-nil, All-cons, All-append, All-weaker, All-take, All-drop, Stamp, Entry, Data, Join, Leave, View}
+use Rattle.am_watched.proofs.Words.{Rules, MayFound, has, rank_of, stamp_lt, stamp_eq, no_stamp, fold, after, Packet, Letter, Event, Node, view, acts}
+use Rattle.am_watched.proofs.Words.{is_member, set_at, founders_view, lowest_or_first, has_log, Step, World, start, first_node, with_step, group_after, run}
+use Rattle.am_watched.proofs.Words.{is_view_of, heard_by, split, and_both, Cause, MayTell, leads, decided, Says, piece, result, LetterSays, Effect, actor}
+use Rattle.am_watched.proofs.Words.{WasSentTo, IsCause, all_get, all_item, EachKeeps, StepsKeep, SameParts, law_keeps, runs_keep, stamp_of, first_founder}
+use Rattle.am_watched.proofs.Words.{few_names, at_most, not_above_itself, same_stamp, SameView, Stood, Balloted, Does, log_of_member, changes_do, heard_names}
+use Rattle.am_watched.proofs.Words.{says_stamp, DecidedAreNew}
 use Rattle.am_packet.specs.declared.packet.Packet.TheVariants as packet
-use Rattle.am_packet.specs.Boxes.{Letter}
-use Rattle.am_group.specs.declared.event.Event.{Event}
 use Rattle.am_model.specs.declared.status.Status.TheVariants as status
-use Rattle.am_model.specs.Node.{Node, view, acts, is_member, set_at, founders_view, lowest_or_first, has_log}
-use Rattle.am_model.specs.Emit.{Step}
 use Rattle.am_play.specs.World as runs
-use Rattle.am_play.specs.World.{World, start, first_node, with_step, group_after, run}
-use Rattle.am_play.specs.Lawful.{is_view_of}
-use Rattle.am_play.specs.Claims.{heard_by}
-use Rattle.am_base.proofs.Greatest.{split, and_both}
-use Rattle.am_effects.specs.Causes.{Cause}
-use Rattle.am_effects.specs.Letters.{MayTell, leads, decided, Says}
-use Rattle.am_effects.specs.Letters.{piece, result, LetterSays}
-use Rattle.am_effects.specs.Effects.{Effect}
-use Rattle.am_effects.specs.Events.{actor, WasSentTo, IsCause}
-use Rattle.am_effects.proofs.Items.{all_get, all_item}
-use Rattle.am_effects.proofs.Runs.{EachKeeps, StepsKeep, SameParts, law_keeps, runs_keep}
-use Rattle.am_codec.specs.Spelling.{stamp_of}
-use Rattle.am_model.proofs.Founders.{first_founder}
-use Rattle.am_laws.proofs.Named.{few_names}
-use Rattle.am_laws.proofs.Stamps.{at_most, not_above_itself, same_stamp}
-use Rattle.am_laws.proofs.ViewSteps.{SameView, Stood}
-use Rattle.am_laws.proofs.ViewChanges.{Balloted, Does, log_of_member, changes_do}
-use Rattle.am_laws.proofs.Views.{heard_names, says_stamp}
-use Rattle.am_watched.specs.New.{DecidedAreNew}
-use Rattle.am_watched.proofs.Lists.{AllLists, each_lists, lists_start}
-use Rattle.am_watched.proofs.Own.{Below, IsKnown, Known, HeardOwn, Told, IsOwn, Chained, Along, known_chained, changes_along, view_rises}
+use Rattle.am_watched.proofs.{Lists.AllLists, Lists.each_lists, Lists.lists_start, Own.Below, Own.IsKnown, Own.Known, Own.HeardOwn, Own.Told, Own.IsOwn}
+use Rattle.am_watched.proofs.{Own.Chained, Own.Along, Own.known_chained, Own.changes_along, Own.view_rises}
 
 -- ---- what is so of a world
 

@@ -1,36 +1,15 @@
 -- Views of a name come from that name alone: along the changes of a step, its promise never falls, what it tells is what it decided, and
 -- each View in its list is of another name's list or is not above its own view.
-use Rattle.std.proofs.Common.{◌≡◌, ◌⊎◌, inl, inr, ⊎_elim, ℕ, ◌+◌, ◌==◌, ◌||◌, not, Bool, true, false, List, [], ◌∷◌, ◌++◌, Option, Some, nat_lt, refl, sym, ap}
-use Rattle.std.proofs.Common.{◌∙◌, subst, arith}
-use Rattle.std.specs.Prelude.{All}
-use Rattle.std.proofs.lemmas.Bool.Decides.{nat_tests}
-use Rattle.std.proofs.lemmas.List.Elements.{All-nil, All-cons, All-append, All-weaker}
-use Rattle.am_base.specs.declared.outcome.Outcome.{Outcome}
+use Rattle.am_watched.proofs.Words.{◌≡◌, ◌⊎◌, inl, inr, ⊎_elim, ℕ, ◌+◌, ◌==◌, ◌||◌, not, Bool, true, false, List, [], ◌∷◌, ◌++◌, Option, Some, nat_lt, refl}
+use Rattle.am_watched.proofs.Words.{sym, ap, ◌∙◌, subst, arith, All, nat_tests, All-nil, All-cons, All-append, All-weaker, Outcome, Stamp, Entry, Data, Join}
+use Rattle.am_watched.proofs.Words.{Leave, View, stamp_lt, Log, Packet, Node, Ballot, view, is_member, is_asking, push_entry, has_log, Verdict, next_stamp}
+use Rattle.am_watched.proofs.Words.{need_of, left_in, trim_for, refresh, settle, is_view, and_both, Cause, hears, HasOpen, Balloting, with_more, without_one}
+use Rattle.am_watched.proofs.Words.{as_it_is, Looks, decides, Promises, invited, overtaken_by, told_result, Change, refreshes, settles, numbers, stores}
+use Rattle.am_watched.proofs.Words.{begins_list, promises, opens, looks, fetches, stores_view, closes, Changes, unchanged, changed, rests_refresh}
+use Rattle.am_watched.proofs.Words.{rests_at_end, settle_is, stamp_of, at_most, not_above, not_above_itself, HasNames, HeardNames, Goes, SameView, Stood}
+use Rattle.am_watched.proofs.Words.{view_last, Balloted, IsOpen, OpenBallot, Does, changes_do, numbers_plain}
 use Rattle.am_base.specs.declared.outcome.Outcome.TheVariants as said
-use Rattle.am_base.specs.declared.name.Stamp.{Stamp}
-use Rattle.am_base.specs.declared.entry.Entry.{Entry}
-use Rattle.am_base.specs.declared.entry.Entry.TheVariants.{Data, Join, Leave, View}
-use Rattle.am_base.specs.Stamps.{stamp_lt}
-use Rattle.am_base.specs.Lists.{Log}
-use Rattle.am_packet.specs.declared.packet.Packet.{Packet}
 use Rattle.am_packet.specs.declared.packet.Packet.TheVariants as packet
-use Rattle.am_model.specs.Node.{Node, Ballot, view, is_member, is_asking, push_entry, has_log}
-use Rattle.am_model.specs.Ballots.{Verdict, next_stamp, need_of, left_in, trim_for}
-use Rattle.am_model.specs.Refresh.{refresh, settle}
-use Rattle.am_model.specs.Receiving.{is_view}
-use Rattle.am_base.proofs.Greatest.{and_both}
-use Rattle.am_effects.specs.Causes.{Cause, hears}
-use Rattle.am_effects.specs.Looks.{HasOpen, Balloting, with_more, without_one, as_it_is, Looks}
-use Rattle.am_effects.specs.Looks.{decides}
-use Rattle.am_effects.specs.Changes.{Promises, invited, overtaken as overtaken_by, told_result, Change}
-use Rattle.am_effects.specs.Changes.{refreshes, settles, numbers, stores, begins_list, promises, opens, looks}
-use Rattle.am_effects.specs.Changes.{fetches, stores_view, closes, Changes, unchanged, changed}
-use Rattle.am_effects.proofs.Rests.{rests_refresh, rests_at_end, settle_is}
-use Rattle.am_codec.specs.Spelling.{stamp_of}
-use Rattle.am_laws.proofs.Stamps.{at_most, not_above, not_above_itself}
-use Rattle.am_laws.proofs.ViewNames.{HasNames, HeardNames}
-use Rattle.am_laws.proofs.ViewSteps.{Goes, SameView, Stood, view_last}
-use Rattle.am_laws.proofs.ViewChanges.{Balloted, IsOpen, OpenBallot, Does, changes_do, numbers_plain}
 use Rattle.am_watched.proofs.Chains.{welcomed_none, looked_log}
 
 -- ---- what is known of nodes before a step
