@@ -1,4 +1,6 @@
 -- The group list grows, and the chain does.
+use Rattle.am_chain_lists.proofs.Rows.{low_or_above}
+use Rattle.am_base.proofs.Greatest.{split}
 use Rattle.std.proofs.Common.{◌≡◌, ◌≢◌, ◌⊎◌, ⊎_elim, ℕ, zero, suc, ◌+◌, ◌-◌, ◌<◌, ◌≤◌, min, true, false, List, [], ◌∷◌, ◌++◌, length, take, Some, slice_get}
 use Rattle.std.proofs.Common.{refl, sym, ap, ◌∙◌, subst, arith}
 use Rattle.std.proofs.lemmas.List.{take-append-le}
@@ -14,7 +16,7 @@ use Rattle.am_chain_lists.proofs.Members.{mem_push, good_push}
 use Rattle.am_chain_lists.proofs.Order.{view_push}
 use Rattle.am_chain_moves.specs.Group.{put, how_many, counted_in, need_of, Node, opening, Views, Group, chain_of, IsThere, IsUp, Leads, MayAccept}
 use Rattle.am_chain_moves.specs.Kept.{NodeOk, ServedOk, Witness, DepartedOk, ViewsOk, Kept}
-use Rattle.am_chain_moves.proofs.Puts.{put_cases, put_same, put_at, by_cases}
+use Rattle.am_chain_moves.proofs.Puts.{put_cases, put_same, put_at}
 use Rattle.am_chain_moves.proofs.Frames.{Later, later_all, shown_later, served_later, witness_later, departed_later}
 
 pub take_more : {a b : List Entry} (n : ℕ) → Begins a b → n ≤ length a → take n b ≡ take n a
@@ -102,9 +104,6 @@ accept_witness node list group to n start may low high =
       enough = subst (λ k. k ≤ how_many held.holders) (need_more m it up w) held.enough;
     }
 
-two : (a b : ℕ) → (a ≤ b) ⊎ (b < a)
-two a b = grind arith
-
 -- more of the chain is accepted
 pub group_change : (s : Group) (k : Kept s) (list : List Entry) (to : ℕ) → list ≡ chain_of s.views → MayAccept s.node list (length s.group) to
     → Kept (record s { group = take to list })
@@ -125,7 +124,7 @@ group_change s k list to is may =
       witness = λ n low high. ⊎_elim
           (λ (h : n ≤ length s.group). witness_more s.node s.group (take to list) n grows (omega arith) (k.witness n low h))
           (λ (h : length s.group < n). accept_witness s.node list s.group to n (λ j l. ((k.each j).joined l).accepted) may h (omega arith))
-          (two n (length s.group));
+          (low_or_above n (length s.group));
       departed = k.departed;
       enough = k.enough;
     }
@@ -259,7 +258,7 @@ module _ (s : Group) (k : Kept s) (i : ℕ) (e : Entry) (leads : Leads i (s.node
             (λ (o : DepartedOk s.node grown i). departed_later s.node (put s.node i n) grown i up o)
             (gone h))
             (λ d other h. departed_grows d (k.departed d h));
-        enough = λ x decided holders counts stored much. by_cases (holders i)
+        enough = λ x decided holders counts stored much. split (holders i)
             (λ t. subst (Begins (opening (s.views.chosen x))) (ap (λ (m : Node). m.list) (put_same s.node i n) ∙ chain_n) (stored i t))
             (λ f. begins_trans (k.enough x decided holders counts (λ h y. ⊎_elim
             (λ (z : (h ≡ i) × (put s.node i n h ≡ n)). let u : holders i ≡ true = subst (λ j. holders j ≡ true) z.0 y in absurd (cc))

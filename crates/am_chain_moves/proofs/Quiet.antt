@@ -1,4 +1,5 @@
 -- Each move but a decision keeps what is kept, whoever stopped.
+use Rattle.am_chain_lists.proofs.Rows.{low_or_above}
 use Rattle.std.proofs.Common.{◌≡◌, ◌≢◌, ◌⊎◌, ⊎_elim, inl, inr, ℕ, ◌<◌, ◌≤◌, Bool, true, false, List, [], ◌∷◌, ◌++◌, length, take, Some, slice_get, refl, sym}
 use Rattle.std.proofs.Common.{ap, ◌∙◌, subst, arith}
 use Rattle.am_base.specs.declared.name.Stamp.{Stamp}
@@ -28,9 +29,6 @@ later_longer m e = record {
   staying = λ h. h;
   promise = omega arith;
 }
-
-two : (a b : ℕ) → (a ≤ b) ⊎ (b < a)
-two a b = grind arith
 
 leave_fits : (list : List Entry) (i : ℕ) → mem list i ≡ true → fits (image_of list) (Leave i) ≡ true
 unfolding mem fits
@@ -102,7 +100,7 @@ module _ (s : Group) (k : Kept s) where
           let member = mem_between c k.views.good (begins_both chain_c served.chain x) served.chain theirs.member now in
           let q = served.promised c w.there member in absurd (omega arith))
           (λ (x : length list < length (s.node c).list). omega arith)
-          (two (length (s.node c).list) (length list))
+          (low_or_above (length (s.node c).list) (length list))
 
   pub learns_keeps : (i told acc : ℕ) → IsUp (s.node i) → told ≤ length s.group
       → ((x : ℕ) → s.views.decided x ≡ true → key (s.node i).promise < x → told ≤ length (s.views.chosen x).before) → acc ≤ told → acc ≤ length (s.node i).list

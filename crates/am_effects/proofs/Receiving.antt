@@ -1,18 +1,17 @@
 -- The effects of what a member hears of its sequencer, of bodies that are spread, and of a joiner's Welcome.
-use Rattle.am_effects.proofs.Words.{◌≡◌, ℕ, ◌+◌, ◌<◌, ◌≤◌, ◌==◌, ◌&&◌, ◌||◌, nat_lt, nat_le, not, Bool, true, false, List, Option, Some, None, refl, sym, ap}
-use Rattle.am_effects.proofs.Words.{subst, ◌∙◌, arith, list_any, nat_tests, Report, Image, Stamp, Entry, Data, Outcome, stamp_lt, stamp_eq, fits, row_of}
-use Rattle.am_effects.proofs.Words.{OwnSend, is_of, keep_body, Node, top, image_of, view, only_name, acts, is_member, is_asking, has_own_leave}
-use Rattle.am_effects.proofs.Words.{is_within_bound, waiting, push_entry, quiet, ack_of, nack_of, fetch_of, row_at, if_risen, spread_row, is_view, with_noted}
-use Rattle.am_effects.proofs.Words.{acknowledges, bodies_after, body_of, store_fitting, store, receive_entry, bcast_row, data_of, order_row, accept_row}
-use Rattle.am_effects.proofs.Words.{answer_hold, hold_row, begin_list, ask_next, welcome_row, gone_row, hears_member, hears_asking, hears_in_view}
-use Rattle.am_effects.proofs.Words.{hears_sequencer, split, and_both, Cause, hears, BringsFronts, with_entry, with_number, alone, MayStore, Carries}
-use Rattle.am_effects.proofs.Words.{whole_entry, by_number, MayBeWelcomed, keeps_body, notes, stores, begins_list, Course, nothing_yet, and_then, fetch}
-use Rattle.am_effects.proofs.Words.{of_promise, Answers}
+use Rattle.am_effects.proofs.Words.{not-false, same_Some, ◌≡◌, ℕ, ◌+◌, ◌<◌, ◌≤◌, ◌==◌, ◌&&◌, ◌||◌, nat_lt, nat_le, not, Bool, true, false, List, Option, Some}
+use Rattle.am_effects.proofs.Words.{None, refl, sym, ap, subst, ◌∙◌, arith, list_any, nat_tests, Report, Image, Stamp, Entry, Data, Outcome, stamp_lt}
+use Rattle.am_effects.proofs.Words.{stamp_eq, fits, row_of, OwnSend, is_of, keep_body, Node, top, image_of, view, only_name, acts, is_member, is_asking}
+use Rattle.am_effects.proofs.Words.{has_own_leave, is_within_bound, waiting, push_entry, quiet, ack_of, nack_of, fetch_of, row_at, if_risen, spread_row}
+use Rattle.am_effects.proofs.Words.{is_view, with_noted, acknowledges, bodies_after, body_of, store_fitting, store, receive_entry, bcast_row, data_of}
+use Rattle.am_effects.proofs.Words.{order_row, accept_row, answer_hold, hold_row, begin_list, ask_next, welcome_row, gone_row, hears_member, hears_asking}
+use Rattle.am_effects.proofs.Words.{hears_in_view, hears_sequencer, split, and_both, Cause, hears, BringsFronts, with_entry, with_number, alone, MayStore}
+use Rattle.am_effects.proofs.Words.{Carries, whole_entry, by_number, MayBeWelcomed, keeps_body, notes, stores, begins_list, Course, nothing_yet, and_then}
+use Rattle.am_effects.proofs.Words.{fetch, of_promise, Answers}
 use Rattle.am_base.specs.declared.outcome.Outcome.TheVariants as said
 use Rattle.am_packet.specs.declared.packet.Packet.TheVariants as packet
 use Rattle.am_effects.proofs.Plans.{Comes, HasEffect, effect_if, effect_of, does_quiet, does_saying, does_telling, does_where, row_let_go, rows}
-use Rattle.am_effects.proofs.{Tests.not_false, Tests.or_first, Tests.or_second, Rests.RestsWhole, Says.acts_pushed, Says.tells_ack, Says.tells_nack}
-use Rattle.am_effects.proofs.{Calls.Allows}
+use Rattle.am_effects.proofs.{Tests.or_first, Tests.or_second, Rests.RestsWhole, Says.acts_pushed, Says.tells_ack, Says.tells_nack, Calls.Allows}
 
 -- ---- bodies
 
@@ -38,7 +37,7 @@ heard_acts m s v t =
 pub may_store : (m : Node) (above base number : ℕ) (e : Entry) → number ≡ top m + 1 → base ≤ m.core.taken → has_own_leave m ≡ false
     → not (fits (image_of m) e) ≡ false → not (is_within_bound m above number) ≡ false → MayStore m above base number e
 may_store m above base number e next taken stays f w =
-    record { next = next; taken = taken; stays = stays; fits = not_false _ f; within = not_false _ w }
+    record { next = next; taken = taken; stays = stays; fits = not-false _ f; within = not-false _ w }
 
 -- it comes next, and fits
 row_stored : (m : Node) (c : Cause) (p : Node) (s : ℕ) (v : Stamp) (base acc number : ℕ) (e : Entry) → Comes m c p → Carries c p s v base acc number e
@@ -87,16 +86,13 @@ comes_noted : (m : Node) (c : Cause) (s : ℕ) (v : Stamp) (base acc : ℕ) → 
     → Comes m c (with_noted m base acc)
 comes_noted m c s v base acc by heard o = and_then nothing_yet (notes {m = m} s v base acc by heard) tt
 
-some_is : {A : Type 0} (a b : A) → Some a ≡ Some b → a ≡ b
-some_is a b e = cc
-
 pub row_bcast : (m : Node) (s : ℕ) (v : Stamp) (base acc number : ℕ) (e : Entry) → hears_sequencer m s v ≡ true
     → HasEffect m (hears (packet.Bcast s v base acc number e)) (bcast_row m s base acc number e)
 unfolding bcast_row
 row_bcast m s v base acc number e heard =
     let c = hears (packet.Bcast s v base acc number e) in
     row_received m c (with_noted m base acc) s v base acc number (Some e) said.Known (comes_noted m c s v base acc (with_entry s v base acc number e) heard)
-    (λ x is. whole_entry x (ap (λ y. hears (packet.Bcast s v base acc number y)) (some_is e x is))) (λ n. tt) heard
+    (λ x is. whole_entry x (ap (λ y. hears (packet.Bcast s v base acc number y)) (same_Some e x is))) (λ n. tt) heard
 
 pub row_order : (m : Node) (s : ℕ) (v : Stamp) (base acc number from req : ℕ) → hears_sequencer m s v ≡ true
     → HasEffect m (hears (packet.Order s v base acc number from req)) (order_row m s base acc number from req)
@@ -112,7 +108,7 @@ row_order m s v base acc number from req heard =
         → Carries (hears (packet.Order s v base acc number from req)) p s v base acc number x
     carries p None x at is = absurd (cc)
     carries p (Some body) x at is = subst (λ y. Carries (hears (packet.Order s v base acc number from req)) p s v base acc number y)
-        (some_is (Data from req body) x is) (by_number from req body refl at)
+        (same_Some (Data from req body) x is) (by_number from req body refl at)
 
 -- ---- how far it is accepted
 
@@ -195,7 +191,7 @@ row_welcome m s v base join image heard own =
     (λ f.
     let a = or_first (nat_le join base) _ f in
     let g = or_second (nat_le join base) _ f in
-    let b = not_false _ (or_first (not (is_within_bound m base join)) _ g) in
+    let b = not-false _ (or_first (not (is_within_bound m base join)) _ g) in
     let h = or_second (not (is_within_bound m base join)) _ g in
     let above : base < join = grind (arith, nat_tests) in
     row_welcomed m s v base join image (record {

@@ -117,7 +117,7 @@ pub base_up : (least : Option ℕ) (base : ℕ) → base ≤ base_after least ba
 base_up None base = omega arith
 base_up (Some to) base = omega arith
 
-passed : (taken acc start : ℕ) → taken ≤ (if nat_lt taken (start - 1) then max taken (min acc (start - 1)) else taken)
+pub passed : (taken acc start : ℕ) → taken ≤ (if nat_lt taken (start - 1) then max taken (min acc (start - 1)) else taken)
 passed taken acc start = split (nat_lt taken (start - 1)) (λ t. rw t (omega arith)) (λ f. rw f (omega arith))
 
 rises_lead : (m : Node) → Rises m (lead m)

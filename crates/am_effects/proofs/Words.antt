@@ -3,10 +3,11 @@ pub use Rattle.std.proofs.Common.{◌≡◌, ℕ, zero, suc, ◌+◌, ◌<◌, �
 pub use Rattle.std.proofs.Common.{slice_set, get_or-set_same, get_or-set_other, refl, sym, ap, ◌∙◌, subst, arith, ◌-◌, ◌&&◌, min, max, nat_le, not, Option}
 pub use Rattle.std.proofs.Common.{Some, None, slice_get, ◌||◌, find, is_some, inl, inr, Ok, Err, ◌⊎◌, ◌++◌, option_map, length-append, drop, ◌≢◌}
 pub use Rattle.std.proofs.Math.Seq.{map-set_same}
+pub use Rattle.std.proofs.lemmas.Bool.{not-true, not-false, eq-eqb}
 pub use Rattle.std.proofs.lemmas.Bool.Decides.{nat_tests}
 pub use Rattle.std.proofs.lemmas.List.{map-set, get_or_past, length-set, append-nil}
 pub use Rattle.std.proofs.lemmas.List.Elements.{All-head, All-tail, All-cons, All-append, All-take, All-drop, All-nil}
-pub use Rattle.std.proofs.lemmas.Option.{slice_get-map, slice_get_within}
+pub use Rattle.std.proofs.lemmas.Option.{same_Some, slice_get-map, slice_get_within}
 pub use Rattle.std.specs.List.{list_any}
 pub use Rattle.std.specs.Prelude.{All}
 pub use Rattle.am_base.specs.declared.image.Image.{Image}
@@ -29,6 +30,7 @@ pub use Rattle.am_packet.specs.Boxes.{Letter, with_letter, letter_to, place_for}
 pub use Rattle.am_packet.specs.declared.packet.Packet.{Packet}
 pub use Rattle.am_packet.specs.Kinds.{kind_of}
 pub use Rattle.am_codec.specs.Reading.{Read, reading}
+pub use Rattle.am_core.proofs.Members.{members_data}
 unfoldable pub use Rattle.am_core.specs.Cores.{pass_over}
 pub use Rattle.am_core.proofs.Folds.{slice_get-drop}
 pub use Rattle.am_fronts.specs.Refresh.{base_after}

@@ -1,4 +1,5 @@
 -- The parts of a node keep what they keep.
+use Rattle.am_chain_lists.proofs.Rows.{and_left}
 use Rattle.std.proofs.Common.{◌≡◌, ◌≢◌, ◌<◌, inl, ℕ, ◌+◌, [], ◌∷◌, length, ◌-◌, ◌≤◌, nat_lt, List, Bool, true, false, ◌&&◌, ◌==◌, Option, Some, None}
 use Rattle.std.proofs.Common.{option_map, refl, sym, ◌∙◌, ap, subst, arith}
 use Rattle.am_base.specs.declared.image.Image.{Image}
@@ -225,10 +226,6 @@ member_log Stranger h = absurd (cc)
 member_log Asking h = absurd (cc)
 member_log Member h = refl
 member_log Departed h = absurd (cc)
-
-and_left : (a b : Bool) → (a && b) ≡ true → a ≡ true
-and_left true b h = refl
-and_left false b h = absurd (cc)
 
 -- who acts has a list
 pub acting_log : (m : Node) → acts m ≡ true → has_log m.status ≡ true

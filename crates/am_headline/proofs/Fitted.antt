@@ -1,14 +1,14 @@
 -- Up to its lawful front each node of a run has room for a View that leaves somebody out.
-use Rattle.am_headline.proofs.Words.{◌≡◌, ◌⊎◌, ⊎_elim, inl, inr, ℕ, zero, suc, ◌+◌, ◌-◌, ◌<◌, ◌≤◌, ◌==◌, true, false, List, [], ◌∷◌, ◌++◌, length, take, Some}
-use Rattle.am_headline.proofs.Words.{slice_get, refl, sym, ap, ◌∙◌, subst, arith, nat_tests, length-map, Entry, Data, Join, Leave, View, Stamp, Rules}
-use Rattle.am_headline.proofs.Words.{MayFound, has, size, top_of, told_by, member_life, members_of, members_at, CoreState, stamp_eq, Packet, Letter, Event}
-use Rattle.am_headline.proofs.Words.{item_at, Begins, NotView, view_of, key, key_by, view_push, view_viewed, long_told, begins_both, begins_length}
-use Rattle.am_headline.proofs.Words.{begins_push, begins_trans, Group, IsUp, Status, is_unfinished, Node, top, view, is_member, acts, founder, founders_view}
-use Rattle.am_headline.proofs.Words.{has_departed, Step, hears_member, hears_in_view, hears_sequencer, is_view, heard_by, FitsView, ViewsFit, lawful_front}
-use Rattle.am_headline.proofs.Words.{World, start, with_step, run, split, and_both, front_is_lawful, Cause, hears, Says, bcast, order, piece, result}
-use Rattle.am_headline.proofs.Words.{LetterSays, IsCause, WasSentTo, all_get, logged, numbers_hold, same_stamp, each_along, heard_used, run_owned}
-use Rattle.am_headline.proofs.Words.{heard_names, lists_go_on, item_get, item_within, PacketSays, PieceSays, told_all, long_all, number_low, departed_silent}
-use Rattle.am_headline.proofs.Words.{departed_quiet, departed_is, steps_move}
+use Rattle.am_headline.proofs.Words.{eqb-true, not_view, same_stamp, low_or_above, ◌≡◌, ◌⊎◌, ⊎_elim, inl, inr, ℕ, zero, suc, ◌+◌, ◌-◌, ◌<◌, ◌≤◌, ◌==◌, true}
+use Rattle.am_headline.proofs.Words.{false, List, [], ◌∷◌, ◌++◌, length, take, Some, slice_get, refl, sym, ap, ◌∙◌, subst, arith, nat_tests, length-map}
+use Rattle.am_headline.proofs.Words.{Entry, Data, Join, Leave, View, Stamp, Rules, MayFound, has, size, top_of, told_by, member_life, members_of, members_at}
+use Rattle.am_headline.proofs.Words.{CoreState, stamp_eq, Packet, Letter, Event, item_at, Begins, NotView, view_of, key, key_by, view_push, view_viewed}
+use Rattle.am_headline.proofs.Words.{long_told, begins_both, begins_length, begins_push, begins_trans, Group, IsUp, Status, is_unfinished, Node, top, view}
+use Rattle.am_headline.proofs.Words.{is_member, acts, founder, founders_view, has_departed, Step, hears_member, hears_in_view, hears_sequencer, is_view}
+use Rattle.am_headline.proofs.Words.{heard_by, FitsView, ViewsFit, lawful_front, World, start, with_step, run, split, and_both, front_is_lawful, Cause, hears}
+use Rattle.am_headline.proofs.Words.{Says, bcast, order, piece, result, LetterSays, IsCause, WasSentTo, all_get, logged, numbers_hold, each_along, heard_used}
+use Rattle.am_headline.proofs.Words.{run_owned, heard_names, lists_go_on, item_get, item_within, PacketSays, PieceSays, told_all, long_all, number_low}
+use Rattle.am_headline.proofs.Words.{departed_silent, departed_quiet, departed_is, steps_move}
 use Rattle.am_chain_lists.specs.Whole.{image_of}
 use Rattle.am_packet.specs.declared.packet.Packet.TheVariants as packet
 use Rattle.am_model.specs.declared.status.Status.TheVariants as status
@@ -29,7 +29,7 @@ pub record Fitted (rules : Rules) (w : World) (s : Group) : Type 0 where
   pub nodes : (i : ℕ) → FitsView rules (w.nodes i)
   pub letters : (k : ℕ) (letter : Letter) → slice_get w.letters k ≡ Some letter → PacketFits rules s letter.packet
 
-letter_there : (letters : List Letter) (number : ℕ) (l : Letter) → item_at letters number ≡ Some l → (k : ℕ) × (slice_get letters k ≡ Some l)
+pub letter_there : (letters : List Letter) (number : ℕ) (l : Letter) → item_at letters number ≡ Some l → (k : ℕ) × (slice_get letters k ≡ Some l)
 letter_there letters zero l h = absurd (cc)
 letter_there letters (suc k) l h = (k, h)
 
@@ -37,15 +37,6 @@ get_either : {A : Type 0} (xs ys : List A) (k : ℕ) (x : A) → slice_get (xs +
 get_either [] ys k x h = inr (k, h)
 get_either (y ∷ xs) ys zero x h = inl h
 get_either (y ∷ xs) ys (suc k) x h = get_either xs ys k x h
-
-not_view : (e : Entry) → is_view e ≡ false → NotView e
-not_view (Data from req body) h = tt
-not_view (Join name) h = tt
-not_view (Leave name) h = tt
-not_view (View stamp names resilience) h = absurd (cc)
-
-same_name : (a b : ℕ) → (a == b) ≡ true → a ≡ b
-same_name a b t = grind (arith, nat_tests)
 
 push_some : (a : List Entry) (e : Entry) → a ++ e ∷ [] ≡ [] → ⊥
 push_some [] e h = cc
@@ -57,9 +48,6 @@ in_view m s v t =
     let a = (and_both (hears_in_view m s v) (v.by == s) t).0 in
     let b = (and_both (hears_member m s) _ a).1 in
     same_stamp v (view m) (and_both (acts m) (stamp_eq v (view m)) b).1
-
-two : (a b : ℕ) → (a ≤ b) ⊎ (b < a)
-two a b = grind arith
 
 -- ---- a step
 
@@ -178,7 +166,7 @@ module _ (rules : Rules) (events : List Event) (e : Event) (c : Cause) (step : S
       by_way line log up (done.one why st) =
           let r = (rows.hear_row m (packet.Result from u base number names resilience)).node in
           let x = View u names resilience in
-          fits_line number base u x r log up above st (line (same_name u.by from why.by))
+          fits_line number base u x r log up above st (line (eqb-true u.by from why.by))
           (on_last base number u x r log st (view_viewed (s.node i).list u names resilience))
 
   -- ---- a Piece
@@ -251,9 +239,9 @@ module _ (rules : Rules) (events : List Event) (e : Event) (c : Cause) (step : S
 
     piece_so : PieceFits rules s from u base number x → Fetched m from u → FitsAt rules n number
     piece_so (of_line line at) how = piece_line line at
-    piece_so (of_shown list shown served at fit) (done.without none by) = absurd (own_shown list shown (same_name u.by from by))
+    piece_so (of_shown list shown served at fit) (done.without none by) = absurd (own_shown list shown (eqb-true u.by from by))
     piece_so (of_shown list shown served at fit) (done.for_ballot open_) = piece_shown list shown served at fit open_
-    piece_so (over other d) (done.without none by) = absurd (other (same_name u.by from by))
+    piece_so (over other d) (done.without none by) = absurd (other (eqb-true u.by from by))
     piece_so (over other d) (done.for_ballot open_) = absurd (none_over d open_)
 
   fits_piece : (from : ℕ) (u : Stamp) (base number : ℕ) (x : Entry) → c ≡ hears (packet.Piece from u base number x) → n.core.base < number
@@ -328,7 +316,7 @@ module _ (rules : Rules) (events : List Event) (e : Event) (c : Cause) (step : S
             (fit_more rules (t.node i).list (t.views.line (key (t.node i).promise)) n.core.base number
             (promised_line t i kept_t (up_n stays number above within) (ap (λ y. t.views.decided (key y)) stands_n.promise ∙ d))
             (own_fit number above within)))
-            (two number n.core.base);
+            (low_or_above number n.core.base);
       }
 
   -- a list that it showed
@@ -343,7 +331,7 @@ module _ (rules : Rules) (events : List Event) (e : Event) (c : Cause) (step : S
       (λ (below : number ≤ n.core.base). fit_low rules list n.core.base number below low.1)
       (λ (above : n.core.base < number). fit_less rules list (t.node i).list n.core.base number begins low.1
       (own_fit number above (let z = low.1 in omega arith)))
-      (two number n.core.base))
+      (low_or_above number n.core.base))
 
   who_x : x.core.who ≡ i
   who_x = sym (ap (λ (q : CoreState). q.who) core_x) ∙ (lists_go_on rules events e c step may runs cause effect).own

@@ -1,18 +1,18 @@
 -- Up to its lawful front each run has a group that follows it, whose marks are the views that became complete.
-use Rattle.am_headline.proofs.Words.{◌≡◌, ◌⊎◌, ⊎_elim, inl, inr, ℕ, ◌<◌, ◌≤◌, ◌==◌, ◌&&◌, ◌||◌, Bool, true, false, List, [], ◌∷◌, ◌++◌, length, Some, None}
-use Rattle.am_headline.proofs.Words.{slice_get, refl, sym, ap, ◌∙◌, subst, arith, length-append, Contains, not, list_any, nat_tests, take-append-le, take_all}
-use Rattle.am_headline.proofs.Words.{list_any-append, slice_get-get_or, Rules, MayFound, Event, Record, Outcome, key, Group, how_many, Move, Completes}
-use Rattle.am_headline.proofs.Words.{counts_for, Node, lowest_or_first, Step, Decided, World, start, current, is_stopped, views_after, with_record, with_step}
-use Rattle.am_headline.proofs.Words.{lives_on, happens, run, is_complete, is_lawful, Watch, watch_start, watch_run, greatest_complete, broken_at}
-use Rattle.am_headline.proofs.Words.{BecameComplete, split, and_both, watched_is_run, Cause, actor, IsIdle, Happens, idles, returns, steps}
-use Rattle.am_headline.proofs.Words.{events_have_effects, all_get, get_front, runs_keep, IsNoted, AllViews, each_views, views_start, Moves, none, moves}
-use Rattle.am_headline.proofs.Words.{Grows, EventStands, no_move, stop, idle_stands, stop_stands, return_stands, Following, StepsMove}
+use Rattle.am_headline.proofs.Words.{watch_push, ◌≡◌, ◌⊎◌, ⊎_elim, inl, inr, ℕ, ◌<◌, ◌≤◌, ◌==◌, ◌&&◌, ◌||◌, Bool, true, false, List, [], ◌∷◌, ◌++◌, length}
+use Rattle.am_headline.proofs.Words.{Some, None, slice_get, refl, sym, ap, ◌∙◌, subst, arith, length-append, Contains, not, list_any, nat_tests}
+use Rattle.am_headline.proofs.Words.{take-append-le, take_all, list_any-append, slice_get-get_or, Rules, MayFound, Event, Record, Outcome, key, Group}
+use Rattle.am_headline.proofs.Words.{how_many, Move, Completes, counts_for, Node, lowest_or_first, Step, Decided, World, start, current, is_stopped}
+use Rattle.am_headline.proofs.Words.{views_after, with_record, with_step, lives_on, happens, run, is_complete, is_lawful, Watch, watch_start, watch_run}
+use Rattle.am_headline.proofs.Words.{greatest_complete, broken_at, BecameComplete, split, and_both, watched_is_run, Cause, actor, IsIdle, Happens, idles}
+use Rattle.am_headline.proofs.Words.{returns, steps, events_have_effects, all_get, get_front, runs_keep, IsNoted, AllViews, each_views, views_start, Moves}
+use Rattle.am_headline.proofs.Words.{none, moves, Grows, EventStands, no_move, stop, idle_stands, stop_stands, return_stands, Following, StepsMove}
 use Rattle.am_chain_moves.specs.Moves.{numbers}
 use Rattle.am_play.specs.World as worlds
 use Rattle.am_effects.specs.Events as event
 use Rattle.am_headline.proofs.Ready.{marked, given, halted, MayMark, Ready, Stays, stays_same, grows_marked, grows_halted, shaped_marked, marked_follows}
 use Rattle.am_headline.proofs.Ready.{ready_given, ready_halted, stays_follows, grows_given}
-use Rattle.am_headline.proofs.Greatest.{Passing, any_passing, passing_any, Small, IsGreatest, greatest_is, watch_push, unbroken, watch_complete}
+use Rattle.am_headline.proofs.Greatest.{Passing, any_passing, passing_any, Small, IsGreatest, greatest_is, unbroken, watch_complete}
 use Rattle.am_headline.proofs.{Shapes.Shaped, Shapes.shaped_moves, OneStep.OneStep, OneStep.run_push, Marks.Known, Marks.completes, Lawful.or_cases}
 use Rattle.am_headline.proofs.{Lawful.lawful_group}
 

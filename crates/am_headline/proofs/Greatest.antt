@@ -110,11 +110,6 @@ greatest_is w best (v ∷ vs) small few =
 
 -- ---- the watched run of one event more
 
-pub watch_push : (s : Watch) (events : List Event) (e : Event) → watch_all s (events ++ e ∷ []) ≡ watch (watch_all s events) e
-unfolding watch_all
-watch_push s [] e = refl
-watch_push s (x ∷ xs) e = watch_push (watch s x) xs e
-
 -- where it isn't broken, it wasn't before, and it is lawful now
 pub record Unbroken (s : Watch) (e : Event) : Type 0 where
   pub before : s.broken ≡ None

@@ -1,10 +1,10 @@
 -- The node that hears a packet in a run, and who has a list to send of.
-use Rattle.am_headline.proofs.Words.{◌≡◌, ℕ, ◌≤◌, ◌==◌, not, nat_le, nat_lt, Bool, true, false, if◌then◌else◌, List, Option, Some, None, slice_get, refl, sym}
-use Rattle.am_headline.proofs.Words.{ap, ◌∙◌, subst, arith, nat_tests, Outcome, Packet, Letter, Act, Event, is_for, letter_at, Node, has_departed, Step}
-use Rattle.am_headline.proofs.Words.{finish, packet_length, hear, hear_refusal, World, is_stopped, with_record, with_step, hears_letter, hear_cut, acts_as}
-use Rattle.am_headline.proofs.Words.{happens, Cause, Change, refreshes, settles, begins_list, departs, looks, asks_to_join, closes, IsPlain, Course}
-use Rattle.am_headline.proofs.Words.{nothing_yet, used_report, and_then, Deeds, plainly, looked, Ending, at_end, let_go, closing, actor, WasSentTo}
-use Rattle.am_headline.proofs.Words.{rests_at_end, rests_refresh, settle_is}
+use Rattle.am_headline.proofs.Words.{deeds_there, course_there, ◌≡◌, ℕ, ◌≤◌, ◌==◌, not, nat_le, nat_lt, Bool, true, false, if◌then◌else◌, List, Option, Some}
+use Rattle.am_headline.proofs.Words.{None, slice_get, refl, sym, ap, ◌∙◌, subst, arith, nat_tests, Outcome, Packet, Letter, Act, Event, is_for, letter_at}
+use Rattle.am_headline.proofs.Words.{Node, has_departed, Step, finish, packet_length, hear, hear_refusal, World, is_stopped, with_record, with_step}
+use Rattle.am_headline.proofs.Words.{hears_letter, hear_cut, acts_as, happens, Cause, Change, refreshes, settles, begins_list, departs, looks, asks_to_join}
+use Rattle.am_headline.proofs.Words.{closes, IsPlain, Course, nothing_yet, used_report, and_then, Deeds, plainly, looked, Ending, at_end, let_go, closing}
+use Rattle.am_headline.proofs.Words.{actor, WasSentTo, rests_at_end, rests_refresh, settle_is}
 use Rattle.am_base.specs.declared.outcome.Outcome.TheVariants as said
 use Rattle.am_group.specs.declared.event.Act.TheVariants as act
 use Rattle.am_headline.proofs.Ways.{look_alike}
@@ -76,18 +76,9 @@ stays_plain x y (asks_to_join is was) plain h = refl
 stays_plain x y (closes leads leaves alone room) plain h = absurd plain
 stays_plain x y _ plain h = h
 
-stays_course : {c : Cause} {o : Outcome} (m x : Node) → Course c o m x → has_departed m.status ≡ false → has_departed x.status ≡ false
-stays_course m x nothing_yet h = h
-stays_course m x (used_report s v report by may) h = ap has_departed (rests_refresh _).rests.status ∙ h
-stays_course m x (and_then {n = n} course z plain) h = stays_plain n x z plain (stays_course m n course h)
-
-stays_deeds : {c : Cause} {o : Outcome} (m x : Node) → Deeds c o m x → has_departed m.status ≡ false → has_departed x.status ≡ false
-stays_deeds m x (plainly course) h = stays_course m x course h
-stays_deeds m x (looked {n = n} b verdict course over why look is) h = ap has_departed (look_alike n b verdict look).status ∙ stays_course m n course h
-
 -- whoever sends something is there then, if it was before
 pub sender_stays : {c : Cause} {o : Outcome} (m n : Node) (letters : List Letter) (k : ℕ) (l : Letter) → Ending c o m letters n → slice_get letters k ≡ Some l
     → has_departed m.status ≡ false → has_departed n.status ≡ false
-sender_stays m n letters k l (at_end {x = x} deeds) at h = ap has_departed (rests_at_end x).rests.status ∙ stays_deeds m x deeds h
+sender_stays m n letters k l (at_end {x = x} deeds) at h = ap has_departed (rests_at_end x).rests.status ∙ deeds_there m x deeds h
 sender_stays m n letters k l (let_go s v number is heard_ leaves) at h = absurd (cc)
 sender_stays m n letters k l (closing ev is course leads leaves alone room same) at h = absurd (cc)

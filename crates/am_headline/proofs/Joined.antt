@@ -8,6 +8,7 @@ use Rattle.am_headline.proofs.Words.{became, blank_nil, Following}
 use Rattle.am_chain_lists.specs.Whole.{image_of}
 use Rattle.am_packet.specs.declared.packet.Packet.TheVariants as packet
 use Rattle.am_model.specs.declared.status.Status.TheVariants as status
+use Rattle.am_headline.proofs.{Inside.asking_stays, Fitted.letter_there}
 
 -- ---- by the group list
 
@@ -65,16 +66,6 @@ joined_at rules group name (suc j) good opens some low member first unfounded = 
 -- each letter goes to any life of a place only where its kind does
 abbrev pub AnyLetter : Letter → Type 0
 AnyLetter l = l.any ≡ goes_to_any l.packet
-
-asking_stays : (s : Status) → is_asking s ≡ true → has_departed s ≡ false
-asking_stays status.Stranger h = refl
-asking_stays status.Asking h = refl
-asking_stays status.Member h = refl
-asking_stays status.Departed h = absurd (cc)
-
-letter_there : (letters : List Letter) (number : ℕ) (l : Letter) → item_at letters number ≡ Some l → (k : ℕ) × (slice_get letters k ≡ Some l)
-letter_there letters zero l h = absurd (cc)
-letter_there letters (suc k) l h = (k, h)
 
 -- what such a letter says to a name that asks
 welcome_says : (rules : Rules) (w : World) (s : Group) (i number : ℕ) (l : Letter) (from : ℕ) (v : Stamp) (base join : ℕ) (image : Image) → Following rules w s

@@ -1,8 +1,8 @@
 -- Lists, their lines, and where a View stands in them.
-use Rattle.am_headline.proofs.Words.{◌≡◌, ◌⊎◌, ⊎_elim, ℕ, zero, suc, ◌<◌, ◌≤◌, true, List, [], ◌∷◌, ◌++◌, length, Some, slice_get, sym, ap, ◌∙◌, subst, arith}
-use Rattle.am_headline.proofs.Words.{list_any, Entry, Data, Join, Leave, View, Stamp, item_at, get_before, Begins, IsGood, view_of, key, begins_nil}
-use Rattle.am_headline.proofs.Words.{begins_both, begins_more, begins_same, length_push, good_begins, view_up, view_below, view_viewed, is_view, is_view_of}
-use Rattle.am_headline.proofs.Words.{up_to_view, up_to_next, split, same_stamp, item_more}
+use Rattle.am_headline.proofs.Words.{same_stamp, low_or_above, ◌≡◌, ◌⊎◌, ⊎_elim, ℕ, zero, suc, ◌<◌, ◌≤◌, true, List, [], ◌∷◌, ◌++◌, length, Some, slice_get}
+use Rattle.am_headline.proofs.Words.{sym, ap, ◌∙◌, subst, arith, list_any, Entry, Data, Join, Leave, View, Stamp, item_at, get_before, Begins, IsGood}
+use Rattle.am_headline.proofs.Words.{view_of, key, begins_nil, begins_both, begins_more, begins_same, length_push, good_begins, view_up, view_below}
+use Rattle.am_headline.proofs.Words.{view_viewed, is_view, is_view_of, up_to_view, up_to_next, split, item_more}
 
 -- ---- lines
 
@@ -50,9 +50,6 @@ find_view v (e ∷ es) h = split (is_view_of v e)
     let at = find_view v es (rw f at h) in
     record { before = e ∷ at.before; names = at.names; resilience = at.resilience; begins = begins_cons e at.begins })
 
-two : (a b : ℕ) → (a ≤ b) ⊎ (b < a)
-two a b = grind arith
-
 -- two beginnings of one list that end with the same View are the same
 pub same_opening : (v : Stamp) (a b : List Entry) (names others : List ℕ) (resilience more : ℕ) (list : List Entry)
     → Begins (a ++ View v names resilience ∷ []) list → Begins (b ++ View v others more ∷ []) list
@@ -68,10 +65,10 @@ same_opening v a b names others resilience more list h k g f =
     (λ (less : length p < length q). absurd (below v b others more p (begins_both (begins_both h k le) (begins_more b (View v others more ∷ []))
     (omega arith)) f
     (view_viewed a v names resilience)))
-    (two (length q) (length p)))
+    (low_or_above (length q) (length p)))
     (λ (less : length q < length p). absurd (below v a names resilience q
     (begins_both (begins_both k h (omega arith)) (begins_more a (View v names resilience ∷ [])) (omega arith)) g (view_viewed b v others more)))
-    (two (length p) (length q))
+    (low_or_above (length p) (length q))
   where
     below : (v : Stamp) (a : List Entry) (names : List ℕ) (resilience : ℕ) (q : List Entry) → Begins q a → IsGood (a ++ View v names resilience ∷ [])
         → view_of q ≡ v → ⊥

@@ -1,8 +1,8 @@
 -- One step of a run, with the group that follows it: what each law that goes with the steps takes, and what is plain of it.
-use Rattle.am_headline.proofs.Words.{◌≡◌, ℕ, ◌<◌, ◌==◌, true, false, List, [], ◌∷◌, ◌++◌, refl, sym, ap, ◌∙◌, subst, arith, nat_tests, Rules, MayFound, Event}
-use Rattle.am_headline.proofs.Words.{Begins, Group, Kept, Node, lowest_or_first, Step, World, group_after, start, is_stopped, with_step, happens, happen, run}
-use Rattle.am_headline.proofs.Words.{runs_go_on, Cause, Effect, actor, IsCause, few_names, run_owned, NameStands, LinesOpen, Moves, Grows, Following}
-use Rattle.am_headline.proofs.Words.{group_kept, runs_open}
+use Rattle.am_headline.proofs.Words.{is_itself, ◌≡◌, ℕ, ◌<◌, ◌==◌, true, false, List, [], ◌∷◌, ◌++◌, refl, sym, ap, ◌∙◌, subst, arith, nat_tests, Rules}
+use Rattle.am_headline.proofs.Words.{MayFound, Event, Begins, Group, Kept, Node, lowest_or_first, Step, World, group_after, start, is_stopped, with_step}
+use Rattle.am_headline.proofs.Words.{happens, happen, run, runs_go_on, Cause, Effect, actor, IsCause, few_names, run_owned, NameStands, LinesOpen, Moves}
+use Rattle.am_headline.proofs.Words.{Grows, Following, group_kept, runs_open}
 use Rattle.am_headline.proofs.Shapes.{Shaped}
 
 -- the world before the step, who steps, its node before and after, and the world after
@@ -44,9 +44,6 @@ pub record OneStep (rules : Rules) (events : List Event) (e : Event) (c : Cause)
 pub run_push : (rules : Rules) (events : List Event) (e : Event) → run rules (events ++ e ∷ []) ≡ happens (run rules events) e
 unfolding happen
 run_push rules events e = runs_go_on (start rules) events (e ∷ [])
-
-pub itself : (k : ℕ) → (k == k) ≡ true
-itself k = grind (arith, nat_tests)
 
 -- what is plain of it
 pub record Plain (rules : Rules) (events : List Event) (e : Event) (step : Step) (s t : Group) (p : Parts) : Type 0 where
@@ -90,7 +87,7 @@ plain {rules = rules} {events = events} {e = e} {step = step} {s = s} {t = t} x 
     few = few_names rules w e (run_owned rules events x.may).blanks.views.named
 
     node_v : v.nodes i ≡ n
-    node_v = let u : (i == i) ≡ true = itself i in rw u refl
+    node_v = let u : (i == i) ≡ true = is_itself i in rw u refl
 
     run_v : run rules (events ++ e ∷ []) ≡ v
     run_v = run_push rules events e ∙ sym x.is

@@ -1,17 +1,17 @@
 -- What each run keeps of what its applications were given: gapless, from where a name began, and each send that was settled at its number.
-use Rattle.am_headline.proofs.Words.{◌≡◌, ◌≢◌, ⊎_elim, inl, ℕ, zero, suc, ◌+◌, ◌-◌, ◌<◌, ◌≤◌, ◌==◌, nat_le, true, false, List, [], ◌∷◌, ◌++◌, length, Option}
-use Rattle.am_headline.proofs.Words.{Some, None, refl, sym, ap, ◌∙◌, subst, append-nil, length-append, arith, All, flat_map, nat_tests, All-nil, All-cons}
-use Rattle.am_headline.proofs.Words.{All-append, All-push, All-weaker, Entry, Data, Join, Outcome, Rules, MayFound, has, entry_at, entry-get, Letter, Event}
-use Rattle.am_headline.proofs.Words.{Record, name_of, taken_in, given_to, deliveries, item_at, IsGood, begins_refl, begins_trans, good_begins, Group, Node}
-use Rattle.am_headline.proofs.Words.{set_at, waiting, is_asking, founder, stranger, founders_view, lowest_or_first, has_log, has_departed, Step, sent_in}
-use Rattle.am_headline.proofs.Words.{accepted_sends, whole, World, record_of, start, with_step, run, heard_by, split, Cause, hears, Changes, unchanged}
-use Rattle.am_headline.proofs.Words.{changed, Effect, Answers, HasTaken, AnswersAsk, WasSettled, LetterSays, actor, IsCause, IsIdle, WasSentTo, all_get}
-use Rattle.am_headline.proofs.Words.{IsBlank, Blanked, change_blank, blank_holds, numbers_hold, few_names, run_owned, HasNames, HeardNames, change_names}
-use Rattle.am_headline.proofs.Words.{Balloted, change_does, heard_names, IsOfBallot, LastOk, ballots_are_own, lists_go_on, front, Gave, nothing, took, began}
-use Rattle.am_headline.proofs.Words.{at_least, At, BeginsOk, SendOk, IsSettled, sends_more, item_within, idle_takes, idle_welcomes, idle_sends}
-use Rattle.am_headline.proofs.Words.{deliveries_push, given_same, not_given, idle_gives, given_more, accepted_more, accepted_and, welcome_in, welcomes_push}
-use Rattle.am_headline.proofs.Words.{idle_welcome, other_welcome, record_up, taken_or, nil_of, given_push, record_step, welcomed_step, GivenOk, begins_at}
-use Rattle.am_headline.proofs.Words.{RecordOk, StandsAt, group_kept, Following}
+use Rattle.am_headline.proofs.Words.{by_name, eqb-true, is_itself, ◌≡◌, ◌≢◌, ⊎_elim, inl, ℕ, zero, suc, ◌+◌, ◌-◌, ◌<◌, ◌≤◌, ◌==◌, nat_le, true, false, List}
+use Rattle.am_headline.proofs.Words.{[], ◌∷◌, ◌++◌, length, Option, Some, None, refl, sym, ap, ◌∙◌, subst, append-nil, length-append, arith, All, flat_map}
+use Rattle.am_headline.proofs.Words.{nat_tests, All-nil, All-cons, All-append, All-push, All-weaker, Entry, Data, Join, Outcome, Rules, MayFound, has}
+use Rattle.am_headline.proofs.Words.{entry_at, entry-get, Letter, Event, Record, name_of, taken_in, given_to, deliveries, item_at, IsGood, begins_refl}
+use Rattle.am_headline.proofs.Words.{begins_trans, good_begins, Group, Node, set_at, waiting, is_asking, founder, stranger, founders_view, lowest_or_first}
+use Rattle.am_headline.proofs.Words.{has_log, has_departed, Step, sent_in, accepted_sends, whole, World, record_of, start, with_step, run, heard_by, split}
+use Rattle.am_headline.proofs.Words.{Cause, hears, Changes, unchanged, changed, Effect, Answers, HasTaken, AnswersAsk, WasSettled, LetterSays, actor, IsCause}
+use Rattle.am_headline.proofs.Words.{IsIdle, WasSentTo, all_get, IsBlank, Blanked, change_blank, blank_holds, numbers_hold, few_names, run_owned, HasNames}
+use Rattle.am_headline.proofs.Words.{HeardNames, change_names, Balloted, change_does, heard_names, IsOfBallot, LastOk, ballots_are_own, lists_go_on, front}
+use Rattle.am_headline.proofs.Words.{Gave, nothing, took, began, at_least, At, BeginsOk, SendOk, IsSettled, sends_more, item_within, idle_takes}
+use Rattle.am_headline.proofs.Words.{idle_welcomes, idle_sends, deliveries_push, given_same, not_given, idle_gives, given_more, accepted_more, accepted_and}
+use Rattle.am_headline.proofs.Words.{welcome_in, welcomes_push, idle_welcome, other_welcome, record_up, taken_or, nil_of, given_push, record_step}
+use Rattle.am_headline.proofs.Words.{welcomed_step, GivenOk, begins_at, RecordOk, StandsAt, group_kept, Following}
 use Rattle.am_play.specs.Claims.{welcomes}
 use Rattle.am_unballoted.proofs.Kept.{begins_more}
 use Rattle.am_base.specs.declared.outcome.Outcome.TheVariants as said
@@ -19,7 +19,7 @@ use Rattle.am_packet.specs.declared.packet.Packet.TheVariants as packet
 use Rattle.am_chain_moves.specs.Group as groups
 use Rattle.am_headline.proofs.{Lists.item_begins, Shapes.Along, Shapes.along_up, Shapes.along_moves, Ways.kind_of, Inside.Fresh, Inside.Settled}
 use Rattle.am_headline.proofs.{Inside.SendIn, Inside.Inside, Inside.inside_kind, Joined.Opens, Joined.AnyLetter, Joined.welcome_joins, OneStep.OneStep}
-use Rattle.am_headline.proofs.{OneStep.itself, OneStep.parts, OneStep.plain, Own.whole_item, Own.taken_in_group, Own.step_in_group}
+use Rattle.am_headline.proofs.{OneStep.parts, OneStep.plain, Own.whole_item, Own.taken_in_group, Own.step_in_group}
 
 -- ---- what is kept
 
@@ -149,11 +149,6 @@ was_taken rules events may i c n o number e is h = ⊎_elim
 
 -- ---- one name's node
 
-by_name : (P : ℕ → Node → Type 0) (nodes : ℕ → Node) (i : ℕ) (n : Node) → P i n → ((j : ℕ) → i ≢ j → P j (nodes j)) → (j : ℕ) → P j (set_at nodes i n j)
-by_name P nodes i n k h j = split (j == i)
-    (λ t. let is : i ≡ j = grind (arith, nat_tests) in rw t (subst (λ x. P x n) is k))
-    (λ f. rw f (h j (λ e. let z : ⊥ = grind (arith, nat_tests) in z)))
-
 entry_low : (m : Node) (number : ℕ) (e : Entry) → entry_at m.core.log (number + 1) ≡ Some e → m.core.log.start ≤ number
 entry_low m number e is = split (nat_le m.core.log.start number) (λ t. grind (arith, nat_tests))
     (λ f. let z : number + 1 ≡ suc number = omega arith in
@@ -231,9 +226,6 @@ taking_in_group rules w s i (suc j) x old few y =
     let number : m.core.log.start + (j - m.core.log.start) + 1 ≡ suc j = omega arith in
     let item : item_at (whole w m) (suc j) ≡ Some x = ap (item_at (whole w m)) (sym number) ∙ whole_item w m (j - m.core.log.start) x within got in
     taken_in_group w s i (suc j) x kept (old.stands.each i few) (old.stands.fronts i few y.stays) old.stands.group y.low item
-
-same_number : (a b : ℕ) → (a == b) ≡ true → a ≡ b
-same_number a b t = grind (arith, nat_tests)
 
 module _ (rules : Rules) (events : List Event) (e : Event) (c : Cause) (step : Step) (s t : Group) (one : OneStep rules events e c step s t)
     (h : Told rules (run rules events)) where
@@ -403,7 +395,7 @@ module _ (rules : Rules) (events : List Event) (e : Event) (c : Cause) (step : S
   unfolding with_step
   told_step =
       let r = record_of w e step.outcome step.letters in
-      let own : (name_of r == i) ≡ true = itself i in
+      let own : (name_of r == i) ≡ true = is_itself i in
       let long = length-append w.letters step.letters in
       let all_more : (j : ℕ) → NameTold rules v.group j (w.nodes j) = λ j. subst (λ g. NameTold rules g j (w.nodes j)) group_grows.same
       (name_more rules w.group more j (w.nodes j) (h.each j)) in
@@ -439,7 +431,7 @@ module _ (rules : Rules) (events : List Event) (e : Event) (c : Cause) (step : S
       }
     where
       by_own : (r : Record) → (name_of r == i) ≡ true → name_of r ≡ i
-      by_own r own = same_number (name_of r) i own
+      by_own r own = eqb-true (name_of r) i own
 
       by_number : (r : Record) → (name_of r == i) ≡ true → {j : ℕ} → name_of r ≡ j → i ≡ j
       by_number r own same = sym (by_own r own) ∙ same

@@ -1,10 +1,10 @@
 -- The changes of a node by what they do to what its application was given, and to its own sends.
-use Rattle.am_headline.proofs.Words.{◌≡◌, ℕ, ◌+◌, ◌≤◌, ◌-◌, ◌==◌, ◌||◌, not, max, nat_lt, Bool, true, false, if◌then◌else◌, List, [], ◌∷◌, ◌++◌, refl, sym}
-use Rattle.am_headline.proofs.Words.{◌∙◌, append-nil, arith, Entry, Leave, View, Image, Stamp, Outcome, has, size, Node, Ballot, top, image_of, those}
-use Rattle.am_headline.proofs.Words.{is_member, is_sequencer, push_entry, unsettled_count, Verdict, decide, ends, restart_reports, trim_for, need_of, left_in}
-use Rattle.am_headline.proofs.Words.{best_of, is_waited_for, decide_view, with_queued, is_unfinished, begin_list, refresh, settle, refresh_at_end, and_both}
-use Rattle.am_headline.proofs.Words.{Cause, hears, Looks, decides, MayBeWelcomed, Change, refreshes, settles, numbers, stores, begins_list, departs, looks}
-use Rattle.am_headline.proofs.Words.{fetches, stores_view, queues, collects, takes, asks_to_join, asks_to_leave, closes}
+use Rattle.am_headline.proofs.Words.{leader_member, ◌≡◌, ℕ, ◌+◌, ◌≤◌, ◌-◌, ◌==◌, ◌||◌, not, max, nat_lt, Bool, true, false, if◌then◌else◌, List, [], ◌∷◌}
+use Rattle.am_headline.proofs.Words.{◌++◌, refl, sym, ◌∙◌, append-nil, arith, Entry, Leave, View, Image, Stamp, Outcome, has, size, Node, Ballot, top}
+use Rattle.am_headline.proofs.Words.{image_of, those, is_member, is_sequencer, push_entry, unsettled_count, Verdict, decide, ends, restart_reports, trim_for}
+use Rattle.am_headline.proofs.Words.{need_of, left_in, best_of, is_waited_for, decide_view, with_queued, is_unfinished, begin_list, refresh, settle}
+use Rattle.am_headline.proofs.Words.{refresh_at_end, and_both, Cause, hears, Looks, decides, MayBeWelcomed, Change, refreshes, settles, numbers, stores}
+use Rattle.am_headline.proofs.Words.{begins_list, departs, looks, fetches, stores_view, queues, collects, takes, asks_to_join, asks_to_leave, closes}
 use Rattle.am_model.specs.Ballots.{goes_on}
 use Rattle.am_base.specs.declared.outcome.Outcome.TheVariants as said
 use Rattle.am_packet.specs.declared.packet.Packet.TheVariants as packet
@@ -113,9 +113,6 @@ decide_alike m b =
     let out : Outcome = said.NotIn (best_of m b).vote.view in
     alike_if m (not (has (need_of m b) m.core.who)) (ends m b out) v2 (over out) a2
 
-leads_member : (m : Node) → is_sequencer m ≡ true → is_member m.status ≡ true
-leads_member m t = (and_both (is_member m.status) _ (and_both _ _ t).0).0
-
 pub kind_of : {c : Cause} {o : Outcome} (m n : Node) → Change c o m n → Kind c o m n
 kind_of m n refreshes = refreshed
 kind_of m n settles = settled
@@ -132,5 +129,5 @@ kind_of m n (collects req is) = collected req
 kind_of m n (takes e is o member some there) = took e o member some
 kind_of m n (asks_to_join is was) = asked_in was
 kind_of m n (asks_to_leave is was stays done) = asked_out was done
-kind_of m n (closes leads leaves alone room) = gone (leads_member m leads) leaves
+kind_of m n (closes leads leaves alone room) = gone (leader_member m leads) leaves
 kind_of m n _ = alike (same_log m n refl (omega arith) refl refl refl refl refl refl refl refl)

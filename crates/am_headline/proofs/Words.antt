@@ -2,6 +2,7 @@
 pub use Rattle.std.proofs.Common.{◌≡◌, ℕ, zero, suc, ◌<◌, ◌≤◌, ◌==◌, true, List, [], ◌∷◌, ◌++◌, length, take, None, Some, refl, sym, ap, ◌∙◌, subst, arith}
 pub use Rattle.std.proofs.Common.{◌⊎◌, ⊎_elim, inl, inr, ◌+◌, ◌-◌, max, ◌&&◌, not, nat_lt, Bool, if◌then◌else◌, slice_index, length-append, false, slice_get}
 pub use Rattle.std.proofs.Common.{◌||◌, Option, nat_le, ◌≢◌, append-nil, append_assoc, drop, min, filter, find, count_by}
+pub use Rattle.std.proofs.lemmas.Bool.{eqb-true, not-true}
 pub use Rattle.std.proofs.lemmas.Bool.Decides.{nat_tests}
 pub use Rattle.std.proofs.lemmas.List.{take_all, length-map, get_or-map, take-append-le, take-append-drop, length-take-le}
 pub use Rattle.std.proofs.lemmas.List.Elements.{All-nil, All-cons, All-push, All-filter, All-map, All-weaker, All-append}
@@ -77,7 +78,7 @@ unfoldable pub use Rattle.am_chain_lists.specs.Whole.{view_of}
 pub use Rattle.am_chain_lists.proofs.Prefixes.{begins_refl, begins_nil, begins_both, begins_length, begins_push, begins_trans, begins_take, length_take}
 pub use Rattle.am_chain_lists.proofs.Prefixes.{length_push, begins_more, begins_same}
 pub use Rattle.am_chain_lists.proofs.Members.{good_begins, long_told, told_push, mem_in, in_mem, mem_viewed}
-pub use Rattle.am_chain_lists.proofs.Rows.{In, row_at, long_after, in_viewed, mod16}
+pub use Rattle.am_chain_lists.proofs.Rows.{In, row_at, long_after, in_viewed, low_or_above, mod16}
 pub use Rattle.am_chain_lists.proofs.Order.{key_by, view_push, view_viewed, key_lt, lt_key, view_small, view_up, view_below}
 pub use Rattle.am_chain_moves.specs.Group.{Group, chain_of, IsUp, how_many, opening, IsThere, put, Chosen}
 unfoldable pub use Rattle.am_chain_moves.specs.Group.{count}
@@ -95,6 +96,7 @@ pub use Rattle.am_effects.specs.Changes.{stores_view, closes, Changes, unchanged
 pub use Rattle.am_effects.specs.Changes.{asks_to_leave}
 pub use Rattle.am_effects.proofs.Rests.{rests_refresh, rests_at_end, settle_is, refresh_is}
 pub use Rattle.am_effects.proofs.Says.{told_pushed}
+pub use Rattle.am_effects.proofs.Resets.{same_stamp}
 pub use Rattle.am_effects.specs.Letters.{Says, bcast, order, piece, result, LetterSays}
 pub use Rattle.am_effects.specs.Events.{IsCause, WasSentTo, actor, IsIdle, Happens, idles, returns, steps}
 pub use Rattle.am_effects.proofs.Items.{all_get, get_front, get_last}
@@ -102,6 +104,7 @@ pub use Rattle.am_effects.proofs.Statuses.{logged, asking_log}
 pub use Rattle.am_effects.proofs.Events.{events_have_effects}
 pub use Rattle.am_effects.proofs.Runs.{runs_keep}
 pub use Rattle.am_effects.specs.Courses.{IsPlain, Course, nothing_yet, used_report, and_then, Deeds, plainly, looked, Ending, at_end, let_go, closing}
+pub use Rattle.am_effects.proofs.Tests.{or_first, is_itself}
 pub use Rattle.am_effects.proofs.Receiving.{asking}
 pub use Rattle.am_effects.specs.Effects.{Effect, Answers, HasTaken, AnswersAsk, WasSettled}
 pub use Rattle.am_bounded.proofs.Changes.{kept_change}
@@ -109,7 +112,7 @@ pub use Rattle.am_bounded.proofs.Runs.{bounded_holds}
 pub use Rattle.am_sent.proofs.Runs.{sent_holds}
 pub use Rattle.am_promises.specs.Ballots.{IsOfBallot, LastOk}
 pub use Rattle.am_promises.proofs.Ballots.{ballots_are_own}
-pub use Rattle.am_laws.proofs.Blank.{change_blank, Blanked, blank_holds}
+pub use Rattle.am_laws.proofs.Blank.{change_blank, no_member, Blanked, blank_holds}
 pub use Rattle.am_laws.proofs.Taken.{HeardUsed, change_owned}
 pub use Rattle.am_laws.proofs.TakenRuns.{Along, each_along, heard_used, run_owned}
 pub use Rattle.am_laws.proofs.Trims.{Fronts, told_used}
@@ -117,30 +120,34 @@ pub use Rattle.am_laws.proofs.ViewNames.{HeardNames, change_names, HasNames}
 pub use Rattle.am_laws.proofs.ViewChanges.{change_does, Balloted}
 pub use Rattle.am_laws.proofs.ViewMembers.{those_long}
 pub use Rattle.am_laws.proofs.RunCounts.{numbers_hold}
-pub use Rattle.am_laws.proofs.Stamps.{same_stamp}
 pub use Rattle.am_laws.proofs.Views.{heard_names, IsNoted, AllViews, each_views, views_start}
 pub use Rattle.am_laws.proofs.Fronts.{front_begins}
 pub use Rattle.am_laws.proofs.Named.{few_names}
+pub use Rattle.am_laws.proofs.CallCounts.{fewer_wait}
 pub use Rattle.am_laws.specs.Blank.{IsBlank}
+pub use Rattle.am_watched.proofs.Watched.{watch_push}
 pub use Rattle.am_watched.proofs.Lists.{lists_go_on}
 pub use Rattle.am_unballoted.proofs.Lists.{item_get, item_within, item_more, get_item, item_taken}
 pub use Rattle.am_unballoted.proofs.Steps.{nil_of, taken_or, given_push}
 pub use Rattle.am_unballoted.proofs.Worlds.{StandsAt, GivenOk, begins_at, RecordOk}
-pub use Rattle.am_unballoted.proofs.Chains.{front, Gave, nothing, took, began, at_least, gave_begun, still_log}
+pub use Rattle.am_unballoted.proofs.Chains.{gave_still, passed_front, front, Gave, nothing, took, began, at_least, gave_begun, still_log}
 pub use Rattle.am_unballoted.proofs.Changes.{found_at}
+pub use Rattle.am_unballoted.proofs.Goes.{by_name}
 pub use Rattle.am_unballoted.proofs.Kept.{At, BeginsOk, SendOk, IsSettled, sends_more}
 pub use Rattle.am_unballoted.proofs.Records.{idle_takes, idle_welcomes, idle_sends, deliveries_push, given_same, not_given, idle_gives, given_more}
 pub use Rattle.am_unballoted.proofs.Records.{accepted_more, accepted_and, welcome_in, welcomes_push, idle_welcome, other_welcome, record_up}
 pub use Rattle.am_unballoted.proofs.Welcomes.{record_step, welcomed_step}
+pub use Rattle.am_unballoted.proofs.FirstChanges.{leader_member}
 pub use Rattle.am_stands.specs.Moving.{NamesNamed, Moves, none, moves, MoveOk}
 pub use Rattle.am_stands.specs.Keeping.{GroupFor, NodeKeeps, GroupOk}
 pub use Rattle.am_stands.proofs.Begun.{start_keeps}
-pub use Rattle.am_stands.proofs.Branches.{branches_begin}
+pub use Rattle.am_stands.proofs.Branches.{branches_begin, up_as}
 pub use Rattle.am_stands.proofs.Onward.{goes_on, group_kept, move_on, grows_same}
 pub use Rattle.am_stands.proofs.Start.{start_stands}
 pub use Rattle.am_stands.specs.Running.{Following, StepsMove}
+pub use Rattle.am_stands.proofs.Pieces.{plain as not_view}
 pub use Rattle.am_stands.specs.Letters.{PacketSays, PieceSays, WelcomeSays, WelcomeTo, has_begun, has_gone, has_left, is_leaving, may_begin}
-pub use Rattle.am_stands.proofs.Changes.{told_all, long_all}
+pub use Rattle.am_stands.proofs.Changes.{told_all, long_all, member_stays}
 pub use Rattle.am_stands.proofs.Parts.{number_low, image_whole}
 pub use Rattle.am_stands.proofs.Silent.{departed_silent}
 pub use Rattle.am_stands.specs.Growing.{Grows}
@@ -158,4 +165,4 @@ pub use Rattle.am_stands.proofs.Others.{others_keep}
 pub use Rattle.am_stands.proofs.Ends.{taken_more}
 pub use Rattle.am_steps.proofs.Silent.{departed_quiet}
 pub use Rattle.am_steps.proofs.Statuses.{departed_is}
-pub use Rattle.am_steps.proofs.Steps.{steps_move}
+pub use Rattle.am_steps.proofs.Steps.{steps_move, deeds_there, course_there}

@@ -58,7 +58,7 @@ ends_send most g m body h =
 collect_last : (sends : Sends) (req most : ℕ) → sends.last ≤ most → (own.collect req sends).last ≤ most
 collect_last sends req most h = split (own.is_settled req sends) (λ t. rw t h) (λ f. rw f h)
 
-fewer_wait : (test : OwnSend → Bool) (queue : List OwnSend) → find own.is_unsettled queue ≡ None → find own.is_unsettled (filter test queue) ≡ None
+pub fewer_wait : (test : OwnSend → Bool) (queue : List OwnSend) → find own.is_unsettled queue ≡ None → find own.is_unsettled (filter test queue) ≡ None
 fewer_wait test [] h = refl
 fewer_wait test (s ∷ queue) h = split (own.is_unsettled s)
     (λ t. absurd (let x = rw t at h in cc))

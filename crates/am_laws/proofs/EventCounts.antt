@@ -1,8 +1,8 @@
 -- How high the numbers of the acting name's node are after an event.
-use Rattle.am_laws.proofs.Words.{◌≡◌, ℕ, ◌==◌, not, nat_lt, nat_le, Bool, true, false, if◌then◌else◌, List, Option, Some, None, refl, arith, nat_tests}
-use Rattle.am_laws.proofs.Words.{Outcome, NodeEvent, Packet, Letter, Act, Event, is_for, letter_at, Node, Step, step, hear, hear_refusal, packet_length}
-use Rattle.am_laws.proofs.Words.{World, is_stopped, with_record, with_step, hears_letter, hear_cut, lives_on, acts_as, happens, heard_by, actor, Bounds, up}
-use Rattle.am_laws.proofs.Words.{UpTo}
+use Rattle.am_laws.proofs.Words.{is_itself, ◌≡◌, ℕ, ◌==◌, not, nat_lt, nat_le, Bool, true, false, if◌then◌else◌, List, Option, Some, None, refl, arith}
+use Rattle.am_laws.proofs.Words.{nat_tests, Outcome, NodeEvent, Packet, Letter, Act, Event, is_for, letter_at, Node, Step, step, hear, hear_refusal}
+use Rattle.am_laws.proofs.Words.{packet_length, World, is_stopped, with_record, with_step, hears_letter, hear_cut, lives_on, acts_as, happens, heard_by}
+use Rattle.am_laws.proofs.Words.{actor, Bounds, up, UpTo}
 use Rattle.am_base.specs.declared.outcome.Outcome.TheVariants as said
 use Rattle.am_group.specs.declared.event.Act.TheVariants as act
 use Rattle.am_laws.proofs.HearingCounts.{IsDone, low_step, low_hear, low_refused}
@@ -29,9 +29,6 @@ more_lives : (b : Bounds) (g name : ℕ) (w : World) (e : Event) (o : Outcome) (
     → OneMore b g name (lives_on (with_record w e o) place)
 unfolding with_record
 more_lives b g name w e o place h = record { node = low_more b g (w.nodes name) h }
-
-is_itself : (name : ℕ) → (name == name) ≡ true
-is_itself name = grind (arith, nat_tests)
 
 more_stepped : (b : Bounds) (g name : ℕ) (w : World) (e : Event) (s : Step) → Low (up b) g s.node → OneMore b g name (with_step w e name s)
 unfolding with_step

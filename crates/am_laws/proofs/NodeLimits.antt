@@ -292,7 +292,7 @@ same_rises m n p s = record { round = rw p (omega arith); last = rw s (omega ari
 round_rises : (u v : Stamp) → stamp_lt v u ≡ false → u.round ≤ v.round
 round_rises u v h = grind (arith, nat_tests)
 
-look_rises : (m : Node) (x : Ballot) (v : Verdict) → Looks m x v → Rises m v.node
+pub look_rises : (m : Node) (x : Ballot) (v : Verdict) → Looks m x v → Rises m v.node
 look_rises m x v (finds_itself_out y) = same_rises m _ refl refl
 look_rises m x v _ = same_rises m _ refl refl
 

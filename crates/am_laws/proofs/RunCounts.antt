@@ -1,6 +1,6 @@
 -- How high all numbers of a run are, event by event.
-use Rattle.am_laws.proofs.Words.{◌≡◌, inl, inr, ⊎_elim, ℕ, ◌+◌, ◌-◌, ◌≤◌, ◌==◌, max, min, Bool, true, if◌then◌else◌, List, [], ◌∷◌, length, take, drop}
-use Rattle.am_laws.proofs.Words.{Option, Some, None, refl, ap, ◌∙◌, subst, arith, length-append, length-drop, All, nat_tests, length-take, All-nil}
+use Rattle.am_laws.proofs.Words.{is_itself, ◌≡◌, inl, inr, ⊎_elim, ℕ, ◌+◌, ◌-◌, ◌≤◌, ◌==◌, max, min, Bool, true, if◌then◌else◌, List, [], ◌∷◌, length, take}
+use Rattle.am_laws.proofs.Words.{drop, Option, Some, None, refl, ap, ◌∙◌, subst, arith, length-append, length-drop, All, nat_tests, length-take, All-nil}
 use Rattle.am_laws.proofs.Words.{All-append, All-weaker, Entry, Rules, has, row_of, Packet, Letter, Event, letter_at, Node, Ballot, top, image_of, set_at}
 use Rattle.am_laws.proofs.Words.{founder, stranger, Step, World, start, first_node, group_with, group_after, with_record, with_step, happens, happen, run}
 use Rattle.am_laws.proofs.Words.{heard_by, split, Cause, hears, MayWelcome, Says, welcome, LetterSays, Effect, actor, WasSentTo, IsCause, Happens, idles}
@@ -122,9 +122,6 @@ pub set_same : (P : Node → Type 0) (nodes : ℕ → Node) (name : ℕ) (n : No
     → P (set_at nodes name n other)
 set_same P nodes name n h k other = split (other == name) (λ t. rw t k) (λ f. rw f (h other))
 
-is_itself : (name : ℕ) → (name == name) ≡ true
-is_itself name = grind (arith, nat_tests)
-
 -- the node of the acting name after the event, by any bounds that hold before it
 abbrev RaisedBy : World → World → ℕ → ℕ → Type 0
 RaisedBy w v name number = (b : Bounds) → ((letter : Letter) → letter_at w.letters number ≡ Some letter → UpTo b (length w.group) letter.packet)
@@ -141,7 +138,7 @@ pub sender_list : (n sender : Node) → n ≡ record sender { status = n.status 
 sender_list n sender is h = let k : ListUp (record sender { status = n.status }) = subst ListUp is h in k
 
 -- the packet that was heard
-was_heard : (w : World) (e : Event) (c : Cause) (p : Packet) → c ≡ hears p → IsCause w (actor w e) e.act c → WasSentTo w (actor w e) e.act p
+pub was_heard : (w : World) (e : Event) (c : Cause) (p : Packet) → c ≡ hears p → IsCause w (actor w e) e.act c → WasSentTo w (actor w e) e.act p
 was_heard w e c p is cause = subst (IsCause w (actor w e) e.act) is cause
 
 heard_up : (b : Bounds) (w : World) (e : Event) (c : Cause) → AllLow b w → IsCause w (actor w e) e.act c → (p : Packet) → c ≡ hears p → WelcomeUp p

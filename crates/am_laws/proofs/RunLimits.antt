@@ -1,17 +1,17 @@
 -- Each letter of a run is a packet within its limits, so the run of packets is the run of bytes.
-use Rattle.am_laws.proofs.Words.{◌≡◌, ℕ, ◌+◌, ◌<◌, ◌≤◌, ◌==◌, true, not, if◌then◌else◌, List, [], ◌∷◌, length, Option, Some, None, refl, ap, ◌∙◌, subst}
-use Rattle.am_laws.proofs.Words.{arith, All, nat_tests, All-nil, All-cons, All-head, All-tail, All-append, All-weaker, most_body, Rules, MayFound, top_of}
-use Rattle.am_laws.proofs.Words.{Packet, Letter, IsPacket, spelling_again, Act, Event, is_for, letter_at, Node, founder, stranger, founders_view, Step, World}
-use Rattle.am_laws.proofs.Words.{start, is_stopped, with_record, with_step, hears_letter, acts_as, happens, happen, run, heard_by, spelling_is_heard}
-use Rattle.am_laws.proofs.Words.{cut_is_heard, Cause, hears, LetterSays, Effect, actor, WasSentTo, IsCall, IsCause, Happens, idles, stops, returns, steps}
-use Rattle.am_laws.proofs.Words.{all_item, events_have_effects, sender_of, Bounds, up, UpTo, BodyWithin, IsShort, LettersArePackets, LettersAreRead}
-use Rattle.am_laws.proofs.Words.{acts_by_bytes, happen_by_bytes, RunsAreOfBytes}
+use Rattle.am_laws.proofs.Words.{is_itself, ◌≡◌, ℕ, ◌+◌, ◌<◌, ◌≤◌, ◌==◌, true, not, if◌then◌else◌, List, [], ◌∷◌, length, Option, Some, None, refl, ap, ◌∙◌}
+use Rattle.am_laws.proofs.Words.{subst, arith, All, nat_tests, All-nil, All-cons, All-head, All-tail, All-append, All-weaker, most_body, Rules, MayFound}
+use Rattle.am_laws.proofs.Words.{top_of, Packet, Letter, IsPacket, spelling_again, Act, Event, is_for, letter_at, Node, founder, stranger, founders_view}
+use Rattle.am_laws.proofs.Words.{Step, World, start, is_stopped, with_record, with_step, hears_letter, acts_as, happens, happen, run, heard_by}
+use Rattle.am_laws.proofs.Words.{spelling_is_heard, cut_is_heard, Cause, hears, LetterSays, Effect, actor, WasSentTo, IsCall, IsCause, Happens, idles, stops}
+use Rattle.am_laws.proofs.Words.{returns, steps, all_item, events_have_effects, sender_of, Bounds, up, UpTo, BodyWithin, IsShort, LettersArePackets}
+use Rattle.am_laws.proofs.Words.{LettersAreRead, acts_by_bytes, happen_by_bytes, RunsAreOfBytes}
 use Rattle.am_base.specs.declared.outcome.Outcome.TheVariants as said
 use Rattle.am_base.specs.declared.event.NodeEvent.TheVariants as does
 use Rattle.am_group.specs.declared.event.Act.TheVariants as act
 use Rattle.am_effects.specs.Events as event
+use Rattle.am_laws.proofs.RunCounts.{was_heard, AllLow, low_happens, low_start, sender_list, set_same, bounds_after, first_of}
 use Rattle.am_laws.proofs.NodeLimits.{SendWithin, KeptWithin, Within, PacketWithin, CauseWithin, within_more, packet_more, changes_within}
-use Rattle.am_laws.proofs.RunCounts.{AllLow, low_happens, low_start, sender_list, set_same, bounds_after, first_of}
 use Rattle.am_laws.proofs.{Limits.EntryWithin, Limits.AreNumbers, Limits.is_blank_within, ListImages.WelcomeUp, ListImages.ListUp, LetterLimits.says_within}
 use Rattle.am_laws.proofs.{LetterLimits.is_packet, Named.AllNamed, Named.each_named, Named.start_named}
 
@@ -35,19 +35,16 @@ within_same b w v nodes letters h = record {
 
 -- ---- a step
 
-was_sent : (w : World) (e : Event) (c : Cause) (p : Packet) → c ≡ hears p → IsCause w (actor w e) e.act c → WasSentTo w (actor w e) e.act p
-was_sent w e c p is cause = subst (IsCause w (actor w e) e.act) is cause
-
 called_within : (w : World) (a : Act) (body : List ℕ) → BodyWithin a → IsCall w a (does.Send body) → length body ≤ most_body
 called_within w a body h (event.send x) = h
 
 cause_within : (rules : Rules) (b : Bounds) (w : World) (e : Event) (c : Cause) → BodyWithin e.act → Limited rules b w → IsCause w (actor w e) e.act c
     → CauseWithin (up b) c
 cause_within rules b w e c body h cause = record {
-  heard = λ p is. (let was = was_sent w e c p is cause in
+  heard = λ p is. (let was = was_heard w e c p is cause in
       packet_more b p (subst (PacketWithin b) was.is (all_item (λ (l : Letter). PacketWithin b l.packet) w.letters
       (heard_by e.act) was.letter h.within.letters was.there)));
-  senders = λ p is. (let was = was_sent w e c p is cause in
+  senders = λ p is. (let was = was_heard w e c p is cause in
       subst (λ (x : Packet). sender_of x < 256) was.is (all_item (λ (l : Letter). sender_of l.packet < 256) w.letters
       (heard_by e.act) was.letter h.named.senders was.there));
   called = λ bytes is. called_within w e.act bytes body (subst (IsCause w (actor w e) e.act) is cause);
@@ -57,9 +54,6 @@ cause_within rules b w e c body h cause = record {
 sender_within : (b : Bounds) (n sender : Node) → n ≡ record sender { status = n.status } → Within b n → Within b sender
 sender_within b n sender is h = let k : Within b (record sender { status = n.status }) = subst (Within b) is h in
     record { image = k.image; entries = k.entries; sends = k.sends; bodies = k.bodies; ballot = k.ballot }
-
-is_itself : (name : ℕ) → (name == name) ≡ true
-is_itself name = grind (arith, nat_tests)
 
 -- the numbers of the node after it are those of the run
 within_stepped : (rules : Rules) (b : Bounds) (w : World) (e : Event) (c : Cause) (s : Step) → BodyWithin e.act → IsCause w (actor w e) e.act c

@@ -1,13 +1,10 @@
 -- The members after a send, and after a View of some of them.
-use Rattle.am_laws.proofs.Words.{◌≡◌, ◌⊎◌, inl, inr, ⊎_elim, ℕ, ◌<◌, ◌==◌, ◌&&◌, not, nat_lt, Bool, true, false, List, length, set, get_or, slice_index, refl}
-use Rattle.am_laws.proofs.Words.{sym, ap, ◌∙◌, arith, nat_tests, map-set, set-get_or, ext_get_or, length-map, Data, View, Row, Image, Stamp, place_of}
-use Rattle.am_laws.proofs.Words.{life_of, name_at, is_blank, at_place, member_life, members_of, row_after_view, after, slice_index-by_place, length-by_place}
-use Rattle.am_laws.proofs.Words.{row_at, member_at, mod16, row_view, long_after, blank_joined, name_where, those, split}
+use Rattle.am_laws.proofs.Words.{index_members, ◌≡◌, ◌⊎◌, inl, inr, ⊎_elim, ℕ, ◌<◌, ◌==◌, ◌&&◌, not, nat_lt, Bool, true, false, List, length, set, get_or}
+use Rattle.am_laws.proofs.Words.{slice_index, refl, sym, ap, ◌∙◌, arith, nat_tests, map-set, set-get_or, ext_get_or, length-map, Data, View, Row, Image}
+use Rattle.am_laws.proofs.Words.{Stamp, place_of, life_of, name_at, is_blank, at_place, member_life, members_of, row_after_view, after, slice_index-by_place}
+use Rattle.am_laws.proofs.Words.{length-by_place, row_at, member_at, mod16, row_view, long_after, blank_joined, name_where, those, split}
 
 -- ---- members, place by place
-
-pub members_at : (image : Image) (place : ℕ) → length image.rows ≡ 16 → place < 16 → slice_index (members_of image) place ≡ member_life (row_at image place)
-members_at image place long low = member_at image place (omega arith)
 
 -- a send changes none of them
 same_life : (r : Row) (req : ℕ) → member_life (record r { last = req }) ≡ member_life r
@@ -19,7 +16,7 @@ unfolding after
 data_members image n from req body long = split ((at_place image from).life == life_of from)
     (λ t.
     let low = mod16 from in
-    let same : member_life (at_place image from) ≡ get_or (members_of image) (place_of from) 0 = sym (members_at image (place_of from) long low) in
+    let same : member_life (at_place image from) ≡ get_or (members_of image) (place_of from) 0 = sym (index_members image (place_of from) long low) in
     rw t (map-set member_life image.rows (place_of from) (record (at_place image from) { last = req }) ∙ ap (set (members_of image) (place_of from)) same
     ∙ set-get_or (members_of image) (place_of from) 0))
     (λ f. rw f refl)
@@ -60,8 +57,8 @@ viewed_members image n stamp names resilience long up sixteen some =
     let is = row_view image n stamp names resilience place few in
     let why : (slice_index names place ≡ 0) ⊎ (slice_index names place ≡ member_life (row_at image place)) =
     ⊎_elim (λ (z : slice_index names place ≡ 0). inl z) (λ (z : slice_index names place ≡ slice_index (members_of image) place). inr (z
-    ∙ members_at image place long few)) (some place few) in
-    members_at next place longer few ∙ ap member_life is ∙ any_life (is_blank image) n (slice_index names place) (row_at image place) up
+    ∙ index_members image place long few)) (some place few) in
+    index_members next place longer few ∙ ap member_life is ∙ any_life (is_blank image) n (slice_index names place) (row_at image place) up
     (λ t. blank_joined image place t) why))
 
 -- those that pass are some of the set

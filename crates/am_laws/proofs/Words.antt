@@ -101,7 +101,11 @@ pub use Rattle.am_play.specs.Lawful.{broken_at, before_break}
 pub use Rattle.am_play.proofs.Beginnings.{runs_begin}
 pub use Rattle.am_meaning.proofs.AcceptFronts.{accept_front_is}
 pub use Rattle.am_meaning.proofs.Bytes.{spelling_is_heard, cut_is_heard}
-pub use Rattle.am_chain_lists.proofs.Rows.{In, mod16, long_after, set_keeps, row_view, Spares, in_after, blank_joined}
+pub use Rattle.am_chain_lists.proofs.Rows.{and_right, In, mod16, long_after, set_keeps, row_view, Spares, in_after, and_left, blank_joined}
+pub use Rattle.am_chain_lists.proofs.Requests.{has_in}
+pub use Rattle.am_chain_lists.proofs.Members.{member_in, index_members}
+pub use Rattle.am_chain_lists.proofs.Order.{rank_same}
+pub use Rattle.am_effects.proofs.Statuses.{logged, asking_log}
 pub use Rattle.am_effects.specs.Causes.{Cause, calls, hears, BringsSend, by_request, by_spread}
 pub use Rattle.am_effects.specs.Changes.{Change, refreshes, settles, numbers, notes, stores, begins_list, departs, looks, fetches, stores_view, asks_to_join}
 pub use Rattle.am_effects.specs.Changes.{closes, Changes, unchanged as no_change, changed, promises, opens, Numbers, asked_send, own_send, asked_join}
@@ -111,16 +115,17 @@ pub use Rattle.am_effects.specs.Changes.{MayBeWelcomed}
 pub use Rattle.am_effects.specs.Events.{actor, idles, stops, returns, steps, IsCall, IsCause, WasSentTo, Happens}
 pub use Rattle.am_effects.specs.Looks.{Looks, finds_itself_out, HasOpen, Balloting, with_more, without_one, as_it_is, waits, fetches_from_best, finds_too_few}
 pub use Rattle.am_effects.specs.Looks.{finds_no_room, decides}
-pub use Rattle.am_effects.proofs.Rests.{rests_refresh, settle_is, rests_at_end, with_fronts, refresh_is}
+pub use Rattle.am_effects.proofs.Rests.{rests_refresh, settle_is, rests_at_end, with_fronts, refresh_is, passed}
 pub use Rattle.am_effects.proofs.Runs.{EachKeeps, runs_keep, along, StepsKeep, SameParts, law_keeps}
 pub use Rattle.am_effects.proofs.Says.{view_pushed, told_pushed}
-pub use Rattle.am_effects.proofs.Tests.{or_first, or_second}
+pub use Rattle.am_effects.proofs.Tests.{is_itself, or_first, or_second}
 pub use Rattle.am_effects.specs.Letters.{MayWelcome, just_joined, asks_again, Says, request, spread, bcast, order, ack, nack, hold, join_ask, welcome}
 pub use Rattle.am_effects.specs.Letters.{leave_ask, gone, invite, vote, fetch, piece, result, hand_over, HasSend, LetterSays}
 pub use Rattle.am_effects.proofs.Items.{all_get, all_item, all_find, get_front, get_last}
 pub use Rattle.am_effects.specs.Effects.{Effect}
 pub use Rattle.am_effects.proofs.Events.{events_have_effects}
-pub use Rattle.am_effects.proofs.Statuses.{asking_log}
+pub use Rattle.am_effects.proofs.Hearing.{other_heard}
+pub use Rattle.am_effects.proofs.Resets.{stamp_itself, same_stamp}
 pub use Rattle.am_effects.proofs.Ballots.{entry_is}
 pub use Rattle.am_bounded.proofs.Kept.{HasItself, Keeps}
 pub use Rattle.am_bounded.proofs.Changes.{itself, kept_change}

@@ -1,4 +1,5 @@
 -- Letters that were looked through needn't be looked through again.
+use Rattle.am_base.proofs.Greatest.{split}
 use Rattle.std.proofs.Common.{◌≡◌, ◌≢◌, ℕ, zero, suc, ◌+◌, ◌<◌, ◌≤◌, ◌==◌, Bool, true, false, List, [], ◌∷◌, ◌++◌, length, take, drop, Option, Some, None}
 use Rattle.std.proofs.Common.{nat_lt, slice_index, slice_index_or, slice_set, refl, sym, ap, ◌∙◌, add-zero, arith, length-drop}
 use Rattle.std.proofs.lemmas.List.{take-append-le, drop-append-le, length-take-le, take-append-drop, take_all, drop_all, length-append, length-set}
@@ -11,11 +12,6 @@ use Rattle.am_chooser.specs.declared.chooser.Choice.{Choice}
 use Rattle.am_chooser.specs.declared.progress.Progress.{Progress}
 use Rattle.am_pump.specs.Generating.{no_progress}
 use Rattle.am_pump.specs.Counts.{IsSeen, AreSeen, seen_after}
-
--- by what a test says
-split : {G : Type 0} (b : Bool) → (b ≡ true → G) → (b ≡ false → G) → G
-split true f g = f refl
-split false f g = g refl
 
 -- none of the first letters is for the name
 behind : (xs ys : List Letter) (number name : ℕ) → first_for xs number name ≡ None → first_for (xs ++ ys) number name ≡ first_for ys (number + length xs) name

@@ -1,10 +1,10 @@
 -- What the first wave of a round brings about: a member asks for what is missing, the sequencer keeps reports, and a member accepts.
-use Rattle.am_repair.proofs.Words.{same_is_equal, ◌≡◌, ℕ, zero, suc, ◌<◌, ◌≤◌, ◌==◌, ◌&&◌, not, nat_le, Bool, true, false, List, length, Some, refl, sym, ap}
-use Rattle.am_repair.proofs.Words.{◌∙◌, subst, arith, Contains, nat_tests, Stamp, Report, Rules, place_of, life_of, has, stamp_eq, at_place, Packet, Accept}
-use Rattle.am_repair.proofs.Words.{Nack, Letter, letter_to, Event, is_for, letter_at, Node, top, image_of, view, members, only_name, report_of, report_fits}
-use Rattle.am_repair.proofs.Words.{nack_of, hear, event_at, hearings, is_unknown, hears_sequencer, hears_as_sequencer, World, is_stopped, happens, happen}
-use Rattle.am_repair.proofs.Words.{IsUsed, Cause, calls, hears, refuses, IsCause, told_used, is_in, IsReport, ack, nack, request, spread, Asks, HearsFront}
-use Rattle.am_repair.proofs.Words.{Repair, Leads, Follows, ReportIs, IsCalm, Calm, IsSent, Polled, Reported, Asked, hears_}
+use Rattle.am_repair.proofs.Words.{and_from, stamp_itself, has_in, ◌≡◌, ℕ, zero, suc, ◌<◌, ◌≤◌, ◌==◌, ◌&&◌, not, nat_le, Bool, true, false, List, length}
+use Rattle.am_repair.proofs.Words.{Some, refl, sym, ap, ◌∙◌, subst, arith, Contains, nat_tests, Stamp, Report, Rules, place_of, life_of, has, stamp_eq}
+use Rattle.am_repair.proofs.Words.{at_place, Packet, Accept, Nack, Letter, letter_to, Event, is_for, letter_at, Node, top, image_of, view, members, only_name}
+use Rattle.am_repair.proofs.Words.{report_of, report_fits, nack_of, hear, event_at, hearings, is_unknown, hears_sequencer, hears_as_sequencer, World}
+use Rattle.am_repair.proofs.Words.{is_stopped, happens, happen, IsUsed, Cause, calls, hears, refuses, IsCause, told_used, IsReport, ack, nack, request}
+use Rattle.am_repair.proofs.Words.{spread, Asks, HearsFront, Repair, Leads, Follows, ReportIs, IsCalm, Calm, IsSent, Polled, Reported, Asked, hears_}
 use Rattle.am_group.specs.declared.event.Act.TheVariants as act
 use Rattle.am_repair.proofs.{Sets.only_has, Nodes.acting, Nodes.leading, Leading.is_member_now, Following.Skips, Members.fronts_are_heard}
 use Rattle.am_repair.proofs.{Members.gaps_are_asked, Sequencers.reports_are_taken, Steps.ours_skip, Memberships.get_some, Memberships.stays_in}
@@ -12,11 +12,8 @@ use Rattle.am_repair.proofs.{Schedules.IsHeard, Schedules.WaveHits, Schedules.wa
 use Rattle.am_repair.proofs.{Fine.few_members, Fine.grow_goes, Fine.letter_goes, Fine.letters_more, Fine.member_there, Fine.hear_is, Ticking.sent_goes}
 use Rattle.am_repair.proofs.{Ticking.step_sends, Ticking.node_is}
 
-pub both_true : (a b : Bool) → a ≡ true → b ≡ true → (a && b) ≡ true
-both_true a b x y = rw (x, y) refl
-
 same_stamp_test : (a b : Stamp) → a ≡ b → stamp_eq a b ≡ true
-same_stamp_test a b same = ap (stamp_eq a) (sym same) ∙ same_is_equal a
+same_stamp_test a b same = ap (stamp_eq a) (sym same) ∙ stamp_itself a
 
 other_test : (a b : ℕ) → (a == b) ≡ false → not (b == a) ≡ true
 other_test a b f = let g : (b == a) ≡ false = grind (arith, nat_tests) in rw g refl
@@ -30,7 +27,7 @@ hears_own r q m i own f who other =
     let member = (acting m f.acts_).0 in
     let view_ = same_stamp_test r.view (view m) (sym f.view_) in
     let by : (r.view.by == r.by) ≡ true = grind (arith, nat_tests) in
-    both_true _ _ (both_true _ _ (both_true _ _ t member) (both_true _ _ f.acts_ view_)) by
+    and_from _ _ (and_from _ _ (and_from _ _ t member) (and_from _ _ f.acts_ view_)) by
 
 pub hears_members : (r : Repair) (q : Node) (i : ℕ) → Leads r q → q.core.who ≡ r.by → (i == r.by) ≡ false → hears_as_sequencer q i r.view ≡ true
 hears_members r q i l who other =
@@ -39,12 +36,12 @@ hears_members r q i l who other =
     let t : not (i == q.core.who) ≡ true = rw differs refl in
     let member = (acting q acts_).0 in
     let view_ = same_stamp_test r.view (view q) (sym l.view_) in
-    both_true _ _ (both_true _ _ (both_true _ _ t member) (both_true _ _ acts_ view_)) l.leads
+    and_from _ _ (and_from _ _ (and_from _ _ t member) (and_from _ _ acts_ view_)) l.leads
 
 -- a member's Join stands in the sequencer's list
 pub is_known : (m : Node) (i : ℕ) → IsUsed (image_of m) → has (members m) i ≡ true → is_unknown m i ≡ false
 is_known m i used there =
-    let k = is_in (image_of m) i used.places there in
+    let k = has_in (image_of m) i used.places there in
     let life = k.is in
     let joined = k.joined in
     let same : ((at_place (image_of m) i).life == life_of i) ≡ true = grind (arith, nat_tests) in
@@ -212,7 +209,7 @@ report_fits_list r u i report h there other is fits =
     let within = (h.follows i there other).within in
     let a : nat_le report.taken report.stored ≡ true = grind (arith, nat_tests) in
     let b : nat_le report.stored (top (u.nodes r.by)) ≡ true = grind (arith, nat_tests) in
-    both_true _ _ a b
+    and_from _ _ a b
 
 report_hear : (rules : Rules) (r : Repair) (i k high : ℕ) (l : Letter) (report : Report) (u : World) → Fine rules r u → has r.members i ≡ true
     → (i == r.by) ≡ false → r.sent < k

@@ -1,11 +1,11 @@
 -- What a member's changes keep while a schedule runs.
-use Rattle.am_repair.proofs.Words.{◌≡◌, ℕ, ◌+◌, ◌≤◌, ◌==◌, true, false, Option, Some, None, refl, sym, ap, ◌∙◌, subst, arith, length-append, ◌≢◌, Stamp}
-use Rattle.am_repair.proofs.Words.{Image, Entry, Data, Outcome, Log, top_of, told_by, entry_at, image_at, after, image-next, Node, Ballot, top, image_of}
-use Rattle.am_repair.proofs.Words.{is_sequencer, push_entry, is_unfinished, overtake, with_promise, is_view, bodies_after, World, Cause, hears, Promises}
-use Rattle.am_repair.proofs.Words.{invited, overtaken_by, told_result, Carries, whole_entry, by_number, Change, refreshes, settles, takes_report, admits}
-use Rattle.am_repair.proofs.Words.{numbers, keeps_body, notes, stores, begins_list, departs, promises, opens, looks, fetches, stores_view, queues, collects}
-use Rattle.am_repair.proofs.Words.{takes, asks_to_join, asks_to_leave, closes, not_false, told_pushed, view_pushed, acts_pushed, same_stamp, Repair, Follows}
-use Rattle.am_repair.proofs.Words.{Stands}
+use Rattle.am_repair.proofs.Words.{not-false, same_stamp, ◌≡◌, ℕ, ◌+◌, ◌≤◌, ◌==◌, true, false, Option, Some, None, refl, sym, ap, ◌∙◌, subst, arith}
+use Rattle.am_repair.proofs.Words.{length-append, ◌≢◌, Stamp, Image, Entry, Data, Outcome, Log, top_of, told_by, entry_at, image_at, after, image-next, Node}
+use Rattle.am_repair.proofs.Words.{Ballot, top, image_of, is_sequencer, push_entry, is_unfinished, overtake, with_promise, is_view, bodies_after, World}
+use Rattle.am_repair.proofs.Words.{Cause, hears, Promises, invited, overtaken_by, told_result, Carries, whole_entry, by_number, Change, refreshes, settles}
+use Rattle.am_repair.proofs.Words.{takes_report, admits, numbers, keeps_body, notes, stores, begins_list, departs, promises, opens, looks, fetches}
+use Rattle.am_repair.proofs.Words.{stores_view, queues, collects, takes, asks_to_join, asks_to_leave, closes, told_pushed, view_pushed, acts_pushed, Repair}
+use Rattle.am_repair.proofs.Words.{Follows, Stands}
 use Rattle.am_packet.specs.declared.packet.Packet.TheVariants as packet
 use Rattle.am_repair.proofs.Nodes.{CalmCause, acting, leads_not, not_open, Alike, alike_here, alike_refresh, alike_settle, view_alike, acts_alike, rest_alike}
 use Rattle.am_repair.proofs.{Lists.entry_within, Lists.same_after, Leading.no_ballot_begun, Leading.looked_open, Leading.not_behind}
@@ -102,7 +102,7 @@ carried r w c x s v base acc number e calm (by_number from req body is there) =
 -- a promise of its own view changes nothing
 overtaken_same : (v : Stamp) (o : Option Ballot) → is_unfinished o ≡ false → overtake v o ≡ o
 overtaken_same v None h = refl
-overtaken_same v (Some b) h = let over = not_false b.is_over h in rw over refl
+overtaken_same v (Some b) h = let over = not-false b.is_over h in rw over refl
 
 promised_same : (r : Repair) (w : World) (c : Cause) (q x : Node) (v : Stamp) → CalmCause r w c → Follows r q x → Promises c x v → Alike x (with_promise x v)
 promised_same r w c q x v calm f (invited s v_ is heard own) = absurd (subst (CalmCause r w) is calm)

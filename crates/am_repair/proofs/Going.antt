@@ -1,9 +1,9 @@
 -- A calm world stays calm while a schedule runs.
-use Rattle.am_repair.proofs.Words.{◌≡◌, ◌⊎◌, inl, inr, ℕ, ◌<◌, ◌==◌, not, Bool, true, false, if◌then◌else◌, Option, Some, None, refl, sym, ap, ◌∙◌, Outcome}
-use Rattle.am_repair.proofs.Words.{Rules, Letter, Event, is_for, letter_at, Status, Node, is_member, has_departed, Step, step, hear, event_at, World}
+use Rattle.am_repair.proofs.Words.{not-false, ◌≡◌, ◌⊎◌, inl, inr, ℕ, ◌<◌, ◌==◌, not, Bool, true, false, if◌then◌else◌, Option, Some, None, refl, sym, ap, ◌∙◌}
+use Rattle.am_repair.proofs.Words.{Outcome, Rules, Letter, Event, is_for, letter_at, Status, Node, is_member, has_departed, Step, step, hear, event_at, World}
 use Rattle.am_repair.proofs.Words.{is_stopped, with_record, with_step, happens, hears_letter, Cause, calls, hears, Changes, no_change, changed, Effect, actor}
-use Rattle.am_repair.proofs.Words.{IsCause, tick, not_false, steps_have_effects, hearing_has_effects, HeardNames, HeardUsed, Along, along_changes, IsOurs}
-use Rattle.am_repair.proofs.Words.{hears_, Repair, Calm}
+use Rattle.am_repair.proofs.Words.{IsCause, tick, steps_have_effects, hearing_has_effects, HeardNames, HeardUsed, Along, along_changes, IsOurs, hears_}
+use Rattle.am_repair.proofs.Words.{Repair, Calm}
 use Rattle.am_repair.specs.Rounds.{ticks}
 use Rattle.am_base.specs.declared.outcome.Outcome.TheVariants as said
 use Rattle.am_base.specs.declared.event.NodeEvent.TheVariants as does
@@ -55,7 +55,7 @@ our_letter r w place number (Some l) is late h =
     (λ g. steps (hear m l.packet) (record {
       cause = hears l.packet;
       calm = h.letters number l late is;
-      is = record { letter = l; there = is; addressed = not_false _ f; is = refl };
+      is = record { letter = l; there = is; addressed = not-false _ f; is = refl };
       effect = hearing_has_effects m l.packet;
       still = departed_hears m l.packet;
     })))

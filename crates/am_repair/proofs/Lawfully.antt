@@ -10,7 +10,7 @@ record StaysStopped (name : ℕ) (m : Node) (w : World) : Type 0 where
   stopped : is_stopped w name ≡ true
   node : w.nodes name ≡ m
 
-with_more : (xs ys : List ℕ) (name : ℕ) → list_any (λ x. x == name) xs ≡ true → list_any (λ x. x == name) (xs ++ ys) ≡ true
+pub with_more : (xs ys : List ℕ) (name : ℕ) → list_any (λ x. x == name) xs ≡ true → list_any (λ x. x == name) (xs ++ ys) ≡ true
 with_more xs ys name there = list_any-append (λ x. x == name) xs ys ∙ rw there refl
 
 each_stays : (name : ℕ) (m : Node) → EachKeeps (StaysStopped name m)

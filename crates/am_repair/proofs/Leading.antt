@@ -1,15 +1,15 @@
 -- What the sequencer's changes keep while a schedule runs.
-use Rattle.am_repair.proofs.Words.{same_is_equal, inl, inr, ◌-◌, ◌≡◌, ℕ, ◌+◌, ◌≤◌, ◌==◌, true, false, Option, Some, None, refl, sym, ap, ◌∙◌, subst, arith}
-use Rattle.am_repair.proofs.Words.{length-append, length, All, cases_lt, Join, nat_tests, Stamp, Image, Report, Entry, Outcome, has, names_of, stamp_eq, Log}
-use Rattle.am_repair.proofs.Words.{top_of, told_by, members_of, members_at, entry_at, fits, image_at, counted_at, CoreState, accept, pass_over}
-use Rattle.am_repair.proofs.Words.{since_accepted, image-top, IsUsed, used_fold, member_row, least_taken, base_after, own_report, tell, go_on, let_go, Node}
-use Rattle.am_repair.proofs.Words.{Ballot, top, image_of, view, members, acts, is_member, push_entry, with_report, lead, refresh, settle, with_admitted}
-use Rattle.am_repair.proofs.Words.{World, split, and_both, Cause, BringsReport, with_send, by_request, by_spread, by_ack, by_nack, by_leave_ask, HasOpen}
-use Rattle.am_repair.proofs.Words.{BeginsBy, by_reset, by_hand_over, Balloting, with_more, without_one, as_it_is, Promises, invited, overtaken, told_result}
-use Rattle.am_repair.proofs.Words.{Numbers, asked_send, own_send, asked_join, asked_leave, Change, refreshes, settles, takes_report, admits, numbers}
-use Rattle.am_repair.proofs.Words.{keeps_body, notes, stores, begins_list, departs, promises, opens, looks, fetches, stores_view, queues, collects, takes}
-use Rattle.am_repair.proofs.Words.{asks_to_join, asks_to_leave, closes, settle_is, told_pushed, view_pushed, leads_pushed, same_stamp, JoinsFit, least_within}
-use Rattle.am_repair.proofs.Words.{is_in, Fronts, told_used, after_same, Repair, Leads, ReportIs}
+use Rattle.am_repair.proofs.Words.{base_low, stamp_itself, same_stamp, has_in, inl, inr, ◌-◌, ◌≡◌, ℕ, ◌+◌, ◌≤◌, ◌==◌, true, false, Option, Some, None, refl}
+use Rattle.am_repair.proofs.Words.{sym, ap, ◌∙◌, subst, arith, length-append, length, All, cases_lt, Join, nat_tests, Stamp, Image, Report, Entry, Outcome}
+use Rattle.am_repair.proofs.Words.{has, names_of, stamp_eq, Log, top_of, told_by, members_of, members_at, entry_at, fits, image_at, counted_at, CoreState}
+use Rattle.am_repair.proofs.Words.{accept, pass_over, since_accepted, image-top, IsUsed, used_fold, member_row, least_taken, base_after, own_report, tell}
+use Rattle.am_repair.proofs.Words.{go_on, let_go, Node, Ballot, top, image_of, view, members, acts, is_member, push_entry, with_report, lead, refresh, settle}
+use Rattle.am_repair.proofs.Words.{with_admitted, World, split, and_both, Cause, BringsReport, with_send, by_request, by_spread, by_ack, by_nack}
+use Rattle.am_repair.proofs.Words.{by_leave_ask, HasOpen, BeginsBy, by_reset, by_hand_over, Balloting, with_more, without_one, as_it_is, Promises, invited}
+use Rattle.am_repair.proofs.Words.{overtaken, told_result, Numbers, asked_send, own_send, asked_join, asked_leave, Change, refreshes, settles, takes_report}
+use Rattle.am_repair.proofs.Words.{admits, numbers, keeps_body, notes, stores, begins_list, departs, promises, opens, looks, fetches, stores_view, queues}
+use Rattle.am_repair.proofs.Words.{collects, takes, asks_to_join, asks_to_leave, closes, settle_is, told_pushed, view_pushed, leads_pushed, JoinsFit}
+use Rattle.am_repair.proofs.Words.{least_within, Fronts, told_used, after_same, Repair, Leads, ReportIs}
 use Rattle.am_repair.proofs.Lists.{LogGrows, grows_then, grows_push, counted_stays, IsJoinOrData, is_data, is_join, plain, member_after}
 use Rattle.am_repair.proofs.Nodes.{CalmCause, acting, leading, not_open, Alike, alike_here, alike_refresh, alike_settle, view_alike, leads_alike, rest_alike}
 use Rattle.am_repair.proofs.Ends.{follows, refreshed_stay, raise_up}
@@ -90,12 +90,8 @@ least_low m kept c name to f log low high member least =
     let told_is = used_fold c.log.image (c.log.start + 1) c.log.entries (omega arith) used in
     least_within kept d (top_of c.log) to used joins low high (omega arith) at (member_row (told_by c.log) name told_is here) (omega arith) least
 
-pub base_low : (taken base : ℕ) (least : Option ℕ) → base ≤ taken → ((to : ℕ) → least ≡ Some to → to ≤ taken) → base_after least base ≤ taken
-base_low taken base None low h = low
-base_low taken base (Some to) low h = let t = h to refl in omega arith
-
 -- it raises no other's report
-lead_others : (m : Node) (name : ℕ) → (name == m.core.who) ≡ false → (lead m).reports name ≡ m.reports name
+pub lead_others : (m : Node) (name : ℕ) → (name == m.core.who) ≡ false → (lead m).reports name ≡ m.reports name
 unfolding lead own_report tell go_on let_go accept pass_over
 lead_others m name other = rw other refl
 
@@ -166,7 +162,7 @@ settled_stay m name = subst (λ (x : Node). (m.reports name).stored ≤ (x.repor
 member_joins : (image : Image) (name : ℕ) → length image.rows ≡ 16 → has (members_of image) name ≡ true → fits image (Join name) ≡ true → ⊥
 unfolding fits
 member_joins image name long member fit =
-    let k = is_in image name long member in
+    let k = has_in image name long member in
     let j = k.joined in
     let l = k.left in
     let z : ⊥ = grind (arith, nat_tests) in z
@@ -261,7 +257,7 @@ pub not_behind : (m : Node) (v : Stamp) → acts m ≡ true → v ≡ m.core.pro
 not_behind m v a same below =
     let is = (acting m a).1 in
     let both = and_both (is_member m.status) (stamp_eq m.core.promise (view m)) a in
-    let t : stamp_eq (view m) v ≡ true = ap (stamp_eq (view m)) (same ∙ is) ∙ same_is_equal (view m) in
+    let t : stamp_eq (view m) v ≡ true = ap (stamp_eq (view m)) (same ∙ is) ∙ stamp_itself (view m) in
     cc
 
 -- what a cause tells of members to have taken

@@ -1,9 +1,9 @@
 -- A member hasn't left by any beginning of the sequencer's list, and has its view's View as the last one.
-use Rattle.am_repair.proofs.Words.{◌≡◌, ◌≢◌, inr, ℕ, zero, suc, ◌+◌, ◌-◌, ◌<◌, ◌≤◌, ◌==◌, nat_lt, nat_le, true, false, List, [], ◌∷◌, length, take, Some}
-use Rattle.am_repair.proofs.Words.{slice_get, refl, sym, ap, ◌∙◌, subst, arith, add-one, nat_tests, Entry, Data, Join, Leave, View, Image, place_of, life_of}
-use Rattle.am_repair.proofs.Words.{has, Log, top_of, told_by, entry_at, image_at, at_place, row_of, after, fits, fold, image-next, entry-get, IsUsed}
-use Rattle.am_repair.proofs.Words.{used_fold, row_at, Past, past_after, not_both, mod16, Node, top, has_own_leave, is_view, split, is_in, after_same, Repair}
-use Rattle.am_repair.proofs.Words.{Leads, Follows}
+use Rattle.am_repair.proofs.Words.{has_in, ◌≡◌, ◌≢◌, inr, ℕ, zero, suc, ◌+◌, ◌-◌, ◌<◌, ◌≤◌, ◌==◌, nat_lt, nat_le, true, false, List, [], ◌∷◌, length, take}
+use Rattle.am_repair.proofs.Words.{Some, slice_get, refl, sym, ap, ◌∙◌, subst, arith, add-one, nat_tests, Entry, Data, Join, Leave, View, Image, place_of}
+use Rattle.am_repair.proofs.Words.{life_of, has, Log, top_of, told_by, entry_at, image_at, at_place, row_of, after, fits, fold, image-next, entry-get, IsUsed}
+use Rattle.am_repair.proofs.Words.{used_fold, row_at, Past, past_after, not_both, mod16, Node, top, has_own_leave, is_view, split, after_same, Repair, Leads}
+use Rattle.am_repair.proofs.Words.{Follows}
 use Rattle.am_repair.proofs.Lists.{entry_within}
 
 -- ---- entries of a list
@@ -72,7 +72,7 @@ stays_in r q m l used f there low = split (has_own_leave m)
     (past_to log (top m) (r.high - top m) (place_of who) (life_of who) used start (omega arith) (mod16 who)
     (λ j e lower is. l.fit j e (omega arith) is) past) in
     let h = image_used log r.high used in
-    let in_ = is_in (image_at log r.high) who h.places (l.members_ who r.high there (omega arith) high) in
+    let in_ = has_in (image_at log r.high) who h.places (l.members_ who r.high there (omega arith) high) in
     not_both _ _ in_ at_high))
     (λ g. g)
 

@@ -1,8 +1,8 @@
 -- Nodes that differ in nothing that a calm world speaks of.
-use Rattle.am_repair.proofs.Words.{◌≡◌, ℕ, ◌≤◌, ◌==◌, ◌&&◌, true, false, Option, Some, None, refl, sym, ap, ◌∙◌, subst, arith, nat_tests, Stamp, stamp_lt}
-use Rattle.am_repair.proofs.Words.{stamp_eq, Log, told_by, Node, Ballot, view, acts, is_member, is_sequencer, is_unfinished, refresh, settle, World, split}
-use Rattle.am_repair.proofs.Words.{and_both, Cause, calls, hears, refuses, HasOpen, not_false, SameStanding, with_sends, rests_refresh, settle_is, same_stamp}
-use Rattle.am_repair.proofs.Words.{not_above_itself, Balloted, OpenBallot, IsAtRest, Repair, IsCalm}
+use Rattle.am_repair.proofs.Words.{not-false, same_stamp, ◌≡◌, ℕ, ◌≤◌, ◌==◌, ◌&&◌, true, false, Option, Some, None, refl, sym, ap, ◌∙◌, subst, arith}
+use Rattle.am_repair.proofs.Words.{nat_tests, Stamp, stamp_lt, stamp_eq, Log, told_by, Node, Ballot, view, acts, is_member, is_sequencer, is_unfinished}
+use Rattle.am_repair.proofs.Words.{refresh, settle, World, split, and_both, Cause, calls, hears, refuses, HasOpen, SameStanding, with_sends, rests_refresh}
+use Rattle.am_repair.proofs.Words.{settle_is, not_above_itself, Balloted, OpenBallot, IsAtRest, Repair, IsCalm}
 use Rattle.am_base.specs.declared.event.NodeEvent.TheVariants as does
 
 -- ---- what makes nodes do steps in a schedule
@@ -40,7 +40,7 @@ pub no_open : (m : Node) → Balloted m → acts m ≡ true → is_unfinished m.
 no_open m h a = closed_ballot m m.ballot h.opened a
 
 pub not_open : (m : Node) (b : Ballot) → HasOpen m b → is_unfinished m.ballot ≡ false → ⊥
-not_open m b o h = let f = subst (λ x. is_unfinished x ≡ false) o.last h in let over = not_false b.is_over f in let open_ = o.open_ in cc
+not_open m b o h = let f = subst (λ x. is_unfinished x ≡ false) o.last h in let over = not-false b.is_over f in let open_ = o.open_ in cc
 
 -- ---- alike
 

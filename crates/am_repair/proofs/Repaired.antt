@@ -1,10 +1,10 @@
 -- Many rounds: all is stored, then reported, then accepted.
-use Rattle.am_repair.proofs.Words.{◌≡◌, ℕ, zero, suc, ◌+◌, ◌*◌, ◌/◌, ◌≤◌, ◌==◌, min, true, false, List, [], length, refl, sym, ap, ◌∙◌, subst, arith, Rules}
-use Rattle.am_repair.proofs.Words.{has, Event, Settling, and_then, ticks, hearings, waves, round, rounds, round_count, settle_events, World, happen}
-use Rattle.am_repair.proofs.Words.{HasCaughtUp, split, runs_go_on, Repair}
+use Rattle.am_repair.proofs.Words.{eqb-true, ◌≡◌, ℕ, zero, suc, ◌+◌, ◌*◌, ◌/◌, ◌≤◌, ◌==◌, min, true, false, List, [], length, refl, sym, ap, ◌∙◌, subst}
+use Rattle.am_repair.proofs.Words.{arith, Rules, has, Event, Settling, and_then, ticks, hearings, waves, round, rounds, round_count, settle_events, World}
+use Rattle.am_repair.proofs.Words.{happen, HasCaughtUp, split, runs_go_on, Repair}
 use Rattle.am_repair.proofs.{Fine.Fine, Fine.fine_goes, Fine.letters_more, ThirdWave.HasStored, Rounds.after_waves, Rounds.round_is, Rounds.Stable}
 use Rattle.am_repair.proofs.{Rounds.round_keeps, Rounds.round_stores, Accepting.AllKnown, Accepting.round_reports, Accepting.round_accepts}
-use Rattle.am_repair.proofs.{Accepting.leader_accepts, Steps.as_same}
+use Rattle.am_repair.proofs.{Accepting.leader_accepts}
 
 -- ---- the schedule's worlds
 
@@ -86,7 +86,7 @@ last_rounds rules r stored w far h i there =
     let two = one_round rules r (stored + 8) v one in
     split (i == r.by)
     (λ t.
-    let same = as_same i r.by t in
+    let same = eqb-true i r.by t in
     subst (λ j. HasCaughtUp ((after_waves v).nodes j) r.high) (sym same)
     (record { stored = two.fine.calm.leads.high; accepted = (leader_accepts rules r v one.sent one.fine known).high }))
     (λ f. record {

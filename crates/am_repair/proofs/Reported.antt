@@ -1,14 +1,15 @@
 -- What is known of a name to be taken, through each change: it was reported so, and taken, or is no more than the base.
-use Rattle.am_repair.proofs.Words.{top_of, Leave, Image, Report, Stamp, Outcome, accepts, pass_over, settle_is, rests_at_end, rests_refresh, go_on, let_go}
-use Rattle.am_repair.proofs.Words.{tell, own_report, split, and_both, Verdict, has_log, Ballot, is_sequencer, with_report, is_member, is_asking, push_entry}
-use Rattle.am_repair.proofs.Words.{Node, with_admitted, refresh_at_end, lead, refresh, nat_tests, ◌≡◌, ℕ, ◌≤◌, ◌==◌, ◌||◌, not, max, nat_lt, nat_le, true}
-use Rattle.am_repair.proofs.Words.{false, if◌then◌else◌, List, refl, sym, ap, ◌∙◌, subst, arith, Change, refreshes, settles, takes_report, admits, notes}
-use Rattle.am_repair.proofs.Words.{begins_list, looks, fetches, stores_view, takes, closes, MayBeWelcomed, Says, leave_ask, Looks, finds_itself_out, waits}
-use Rattle.am_repair.proofs.Words.{fetches_from_best, finds_too_few, finds_no_room, decides, Cause, hears, by_request, BringsReport, with_send, Status}
-use Rattle.am_repair.proofs.Words.{Packet, Fronts, Blanked}
+use Rattle.am_repair.proofs.Words.{welcomed_none, none_of_asking, top_of, Leave, Image, Report, Stamp, Outcome, accepts, pass_over, settle_is, rests_at_end}
+use Rattle.am_repair.proofs.Words.{rests_refresh, go_on, let_go, tell, own_report, split, and_both, Verdict, has_log, Ballot, is_sequencer, with_report}
+use Rattle.am_repair.proofs.Words.{is_member, is_asking, push_entry, Node, with_admitted, refresh_at_end, lead, refresh, nat_tests, ◌≡◌, ℕ, ◌≤◌, ◌==◌, ◌||◌}
+use Rattle.am_repair.proofs.Words.{not, max, nat_lt, nat_le, true, false, if◌then◌else◌, List, refl, sym, ap, ◌∙◌, subst, arith, Change, refreshes, settles}
+use Rattle.am_repair.proofs.Words.{takes_report, admits, notes, begins_list, looks, fetches, stores_view, takes, closes, MayBeWelcomed, Says, leave_ask}
+use Rattle.am_repair.proofs.Words.{Looks, finds_itself_out, waits, fetches_from_best, finds_too_few, finds_no_room, decides, Cause, hears, by_request}
+use Rattle.am_repair.proofs.Words.{BringsReport, with_send, Status, Packet, Fronts, Blanked}
 use Rattle.am_effects.specs.Letters.{request, spread, ack, nack}
 use Rattle.am_model.specs.declared.status.Status.TheVariants as status
 use Rattle.am_packet.specs.declared.packet.Packet.TheVariants as packet
+use Rattle.am_repair.proofs.Leading.{lead_others}
 
 -- what a letter reports of its sender was taken
 abbrev pub ReportTaken : (ℕ → Node) → Packet → Type 0
@@ -53,14 +54,9 @@ truly_more nodes m n who up same h name other =
     let b = ap (λ (r : Report). r.taken) (same name o) in
     omega arith
 
--- a refresh, and the end of a step, leave what others reported
-lead_same : (m : Node) (name : ℕ) → (name == m.core.who) ≡ false → (lead m).reports name ≡ m.reports name
-unfolding lead own_report tell go_on let_go accepts pass_over
-lead_same m name other = rw other refl
-
 pub refresh_same : (m : Node) (name : ℕ) → (name == m.core.who) ≡ false → (refresh m).reports name ≡ m.reports name
 unfolding refresh
-refresh_same m name other = split (is_sequencer m) (λ t. rw t (lead_same m name other)) (λ f. rw f refl)
+refresh_same m name other = split (is_sequencer m) (λ t. rw t (lead_others m name other)) (λ f. rw f refl)
 
 pub end_same : (m : Node) (name : ℕ) → (name == m.core.who) ≡ false → (refresh_at_end m).reports name ≡ m.reports name
 unfolding refresh_at_end
@@ -90,17 +86,6 @@ rises_look m b v (fetches_from_best x y z) = rises_same m _ refl refl
 rises_look m b v (finds_too_few x y) = rises_same m _ refl refl
 rises_look m b v (finds_no_room learned) = record { base = omega arith; taken = omega arith }
 rises_look m b v (decides may) = record { base = omega arith; taken = omega arith }
-
--- who is welcomed has no list
-unlisted : (s : Status) → is_member s ≡ false → (is_member s || is_asking s) ≡ true → has_log s ≡ false
-unlisted status.Stranger f h = refl
-unlisted status.Asking f h = refl
-unlisted status.Member f h = absurd (cc)
-unlisted status.Departed f h = absurd (cc)
-
-welcomed_none : (m : Node) (s : ℕ) (v : Stamp) (base join : ℕ) (image : Image) → MayBeWelcomed m s v base join image → has_log m.status ≡ false
-welcomed_none m s v base join image may =
-    unlisted m.status may.no_member (and_both (not (s == m.core.who)) (is_member m.status || is_asking m.status) may.asks).1
 
 pub truly_change : (nodes : ℕ → Node) (c : Cause) (o : Outcome) (m n : Node) → CauseTaken nodes c → Blanked m → Change c o m n → Truly nodes m
     → Truly nodes n

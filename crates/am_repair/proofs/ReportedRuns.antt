@@ -1,17 +1,11 @@
 -- In each run what anybody knows a name to have taken was taken, or is no more than its own base.
-use Rattle.am_repair.proofs.Words.{MayFound, Rules, has, Outcome, Event, few_names, HeardUsed, HeardNames, heard_names, split, Node, Packet, nat_tests, ◌≡◌}
-use Rattle.am_repair.proofs.Words.{ℕ, ◌<◌, ◌≤◌, ◌==◌, true, List, refl, sym, ap, ◌∙◌, subst, arith, All, All-nil, All-append, All-weaker, Letter, World}
-use Rattle.am_repair.proofs.Words.{start, with_step, run, heard_by, Cause, calls, hears, refuses, LetterSays, Changes, no_change, changed, actor, WasSentTo}
-use Rattle.am_repair.proofs.Words.{IsCause, all_item, EachKeeps, StepsKeep, SameParts, law_keeps, runs_keep, Along, along_changes, AllOwned, heard_used}
-use Rattle.am_repair.proofs.Words.{each_along, each_owned, owned_start, KnownIsTaken}
+use Rattle.am_repair.proofs.Words.{eqb-true, is_itself, MayFound, Rules, has, Outcome, Event, few_names, HeardUsed, HeardNames, heard_names, split, Node}
+use Rattle.am_repair.proofs.Words.{Packet, nat_tests, ◌≡◌, ℕ, ◌<◌, ◌≤◌, ◌==◌, true, List, refl, sym, ap, ◌∙◌, subst, arith, All, All-nil, All-append}
+use Rattle.am_repair.proofs.Words.{All-weaker, Letter, World, start, with_step, run, heard_by, Cause, calls, hears, refuses, LetterSays, Changes, no_change}
+use Rattle.am_repair.proofs.Words.{changed, actor, WasSentTo, IsCause, all_item, EachKeeps, StepsKeep, SameParts, law_keeps, runs_keep, Along, along_changes}
+use Rattle.am_repair.proofs.Words.{AllOwned, heard_used, each_along, each_owned, owned_start, KnownIsTaken}
 use Rattle.am_packet.specs.declared.packet.Packet.TheVariants as packet
 use Rattle.am_repair.proofs.Reported.{ReportTaken, CauseTaken, Truly, Rises, truly_change, rises_change, says_taken}
-
-equal : (a b : ℕ) → (a == b) ≡ true → a ≡ b
-equal a b t = grind (arith, nat_tests)
-
-itself : (a : ℕ) → (a == a) ≡ true
-itself a = grind (arith, nat_tests)
 
 -- ---- a step
 
@@ -68,10 +62,10 @@ told_step rules w e c s cause effect laws h =
     let a = told_changes rules w.nodes (w.nodes name) n (heard_names rules w e c h.laws.blanks.views cause) (heard_used rules w e c h.laws cause)
     (cause_taken w e c h.letters cause) effect.changes (each_along rules w name few h.laws) (h.each name few) in
     let v = with_step w e name s in
-    let itself_ = itself name in
+    let itself_ = is_itself name in
     let here : v.nodes name ≡ n = rw itself_ refl in
     let up : (other : ℕ) → (w.nodes other).core.taken ≤ (v.nodes other).core.taken = λ other. split (other == name)
-    (λ t. let is = equal other name t in rw (t, is) a.rises.taken) (λ f. rw f (omega arith)) in
+    (λ t. let is = eqb-true other name t in rw (t, is) a.rises.taken) (λ f. rw f (omega arith)) in
     let sender = effect.sender in
     let who : n.core.who ≡ name = ap (λ (x : Node). x.core.who) (sym here) ∙ laws.blanks.views.named.who name in
     let same_who : sender.core.who ≡ name = sym (ap (λ (x : Node). x.core.who) effect.is) ∙ who in
@@ -116,7 +110,7 @@ known_is_taken rules events q name may few small =
     let w = run rules events in
     let who = all.laws.blanks.views.named.who q in
     split (name == q)
-    (λ t. let is = equal name q t in
+    (λ t. let is = eqb-true name q t in
     let own = (all.laws.each q few).fronts.reported in
     let a = ap (λ k. ((w.nodes q).reports k).taken) (is ∙ sym who) in
     let b = ap (λ k. (w.nodes k).core.taken) is in

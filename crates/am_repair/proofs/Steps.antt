@@ -1,9 +1,9 @@
 -- Each event of a schedule keeps a world calm.
-use Rattle.am_repair.proofs.Words.{◌≡◌, ◌⊎◌, inl, inr, ⊎_elim, ℕ, zero, suc, ◌≤◌, ◌==◌, true, false, List, [], ◌∷◌, ◌++◌, Some, slice_get, refl, sym, ap, ◌∙◌}
-use Rattle.am_repair.proofs.Words.{subst, arith, All, nat_tests, Stamp, Outcome, Rules, has, Letter, Event, letter_at, Node, top, is_sequencer, has_departed}
-use Rattle.am_repair.proofs.Words.{is_unfinished, next_stamp, Step, World, with_record, with_step, happens, split, Cause, LetterSays, Effect, actor, IsCause}
-use Rattle.am_repair.proofs.Words.{all_get, few_names, heard_names, Along, AllOwned, heard_used, each_along, Repair, Leads, Follows, IsApart, IsCalm, Calm}
-use Rattle.am_repair.proofs.Words.{IsOurs}
+use Rattle.am_repair.proofs.Words.{eq-eqb, eqb-true, ◌≡◌, ◌⊎◌, inl, inr, ⊎_elim, ℕ, zero, suc, ◌≤◌, ◌==◌, true, false, List, [], ◌∷◌, ◌++◌, Some, slice_get}
+use Rattle.am_repair.proofs.Words.{refl, sym, ap, ◌∙◌, subst, arith, All, nat_tests, Stamp, Outcome, Rules, has, Letter, Event, letter_at, Node, top}
+use Rattle.am_repair.proofs.Words.{is_sequencer, has_departed, is_unfinished, next_stamp, Step, World, with_record, with_step, happens, split, Cause}
+use Rattle.am_repair.proofs.Words.{LetterSays, Effect, actor, IsCause, all_get, few_names, heard_names, Along, AllOwned, heard_used, each_along, Repair}
+use Rattle.am_repair.proofs.Words.{Leads, Follows, IsApart, IsCalm, Calm, IsOurs}
 use Rattle.am_repair.proofs.Going.{OurStep, Ours, idles, steps, ours, lead_changes, follow_changes, apart_changes, sender_is, member_there}
 use Rattle.am_repair.proofs.{Nodes.CalmCause, Nodes.acting, Nodes.leading, Nodes.leads_not, Leading.Goes, Leading.told_taken, Leading.Trusts}
 use Rattle.am_repair.proofs.{Leading.TellsTaken, Lists.LogGrows, Lists.grows_same, Following.Skips, Saying.Grow, Saying.calm_stays, Saying.Sends}
@@ -13,12 +13,6 @@ use Rattle.am_repair.proofs.{Saying.says_calm}
 
 not_same : (a b : ℕ) → a ≡ b → (a == b) ≡ false → ⊥
 not_same a b same f = let z : ⊥ = grind (arith, nat_tests) in z
-
-is_same : (a b : ℕ) → a ≡ b → (a == b) ≡ true
-is_same a b same = grind (arith, nat_tests)
-
-pub as_same : (a b : ℕ) → (a == b) ≡ true → a ≡ b
-as_same a b t = grind (arith, nat_tests)
 
 is_other : (a b : ℕ) → (a == b) ≡ false → (b == a) ≡ false
 is_other a b f = grind (arith, nat_tests)
@@ -75,7 +69,7 @@ calm_stepped r w e name s h k = record {
   nodes = record {
     own = h.own;
     listed = h.listed;
-    who = λ other. split (other == name) (λ t. rw t (k.who ∙ sym (as_same other name t))) (λ f. rw f (h.who other));
+    who = λ other. split (other == name) (λ t. rw t (k.who ∙ sym (eqb-true other name t))) (λ f. rw f (h.who other));
     leads = k.leads;
     follows = k.follows;
     apart = k.apart;
@@ -105,7 +99,7 @@ record OneChanged (w v : World) (name : ℕ) (n : Node) : Type 0 where
 
 one_changed : (w : World) (e : Event) (name : ℕ) (s : Step) → OneChanged w (with_step w e name s) name s.node
 unfolding with_step
-one_changed w e name s = record { here = (let t = is_same name name refl in rw t refl); others = λ other f. rw f refl }
+one_changed w e name s = record { here = (let t = eq-eqb name name refl in rw t refl); others = λ other f. rw f refl }
 
 abbrev NoLess : Node → Node → Type 0
 NoLess x y = (top x ≤ top y) × (x.core.taken ≤ y.core.taken) × (x.core.acc ≤ y.core.acc)
@@ -123,7 +117,7 @@ grow_changed r w v name n ch log kept up = record {
   where
     both : (other : ℕ) → has r.members other ≡ true → NoLess (w.nodes other) (v.nodes other)
     both other there = split (other == name)
-        (λ t. let e = as_same other name t in
+        (λ t. let e = eqb-true other name t in
         subst (λ i. NoLess (w.nodes i) (v.nodes i)) (sym e) (subst (NoLess (w.nodes name)) (sym ch.here)
         (up (subst (λ i. has r.members i ≡ true) e there))))
         (λ f. subst (NoLess (w.nodes other)) (sym (ch.others other f)) (omega arith, omega arith, omega arith))
@@ -143,7 +137,7 @@ apart_others r w v name other n ch h f none there =
 
 -- a set has one of two names and not the other
 differs : (set : List ℕ) (a b : ℕ) → has set a ≡ true → has set b ≡ false → (b == a) ≡ false
-differs set a b t f = split (b == a) (λ same. absurd (let k = ap (has set) (as_same b a same) in cc)) (λ g. g)
+differs set a b t f = split (b == a) (λ same. absurd (let k = ap (has set) (eqb-true b a same) in cc)) (λ g. g)
 
 pub goes_first : (r : Repair) (w : World) → Calm r w → Goes r (λ name. (w.nodes name).core.taken) (w.nodes r.by) (w.nodes r.by)
 goes_first r w h =
@@ -263,7 +257,7 @@ member_step r w e s h k other there =
       base = λ t. absurd (no_leader t);
     } in
     let follows_new : (i : ℕ) → has r.members i ≡ true → (i == r.by) ≡ false → Follows r q (v.nodes i) = λ i here d. split (i == name)
-    (λ t. subst (λ j. Follows r q (v.nodes j)) (sym (as_same i name t)) (subst (Follows r q) (sym ch.here) g.follows))
+    (λ t. subst (λ j. Follows r q (v.nodes j)) (sym (eqb-true i name t)) (subst (Follows r q) (sym ch.here) g.follows))
     (λ t. subst (Follows r q) (sym (ch.others i t)) (h.follows i here d)) in
     record {
       who = g.who ∙ h.who name;
@@ -295,7 +289,7 @@ elsewhere_step r w e s h other none who apart letters =
       follows = λ i here d. subst (λ (x : Node). Follows r x (v.nodes i)) (sym node)
           (subst (Follows r q) (sym (ch.others i (is_other name i (differs r.members i name here none)))) (h.follows i here d));
       apart = λ i gone here. split (i == name)
-          (λ t. let e = as_same i name t in
+          (λ t. let e = eqb-true i name t in
           let same : v.nodes i ≡ n = ap (λ j. v.nodes j) e ∙ ch.here in
           subst (IsApart r) (sym same) (apart (subst (λ (x : Node). has_departed x.status ≡ false) same here)))
           (λ f. apart_others r w v name i n ch h f gone here);
@@ -347,7 +341,7 @@ gone_step r w e s h k other none gone =
 step_keeps : (rules : Rules) (r : Repair) (w : World) (e : Event) (s : Step) → AllOwned rules w → Calm r w → OurStep r w e s
     → StepKeeps r w (with_step w e (actor w e) s) (actor w e) s
 step_keeps rules r w e s laws h k = split (actor w e == r.by)
-    (λ t. leader_step rules r w e s laws h k (as_same (actor w e) r.by t))
+    (λ t. leader_step rules r w e s laws h k (eqb-true (actor w e) r.by t))
     (λ f. split (has r.members (actor w e))
     (λ there. member_step r w e s h k f there)
     (λ none. split (has_departed (w.nodes (actor w e)).status)
@@ -379,7 +373,7 @@ skip_step r w e s i h k there other skips = split (i == actor w e)
     (λ t.
     let name = actor w e in
     let m = w.nodes name in
-    let same = as_same i name t in
+    let same = eqb-true i name t in
     let here = subst (λ j. has r.members j ≡ true) same there in
     let own : (m.core.who == r.by) ≡ false = ap (λ j. j == r.by) (h.who name ∙ sym same) ∙ other in
     let f = h.follows name here (ap (λ j. j == r.by) (sym same) ∙ other) in
@@ -409,7 +403,7 @@ trust_step : (rules : Rules) (r : Repair) (taken : ℕ → ℕ) (w : World) (e :
 trust_step rules r taken w e s laws h k tells t = split (actor w e == r.by)
     (λ same_.
     let name = actor w e in
-    let same = as_same name r.by same_ in
+    let same = eqb-true name r.by same_ in
     let q = w.nodes r.by in
     let c = k.cause in
     let effect = subst (λ i. Effect (w.nodes i) c s) same k.effect in

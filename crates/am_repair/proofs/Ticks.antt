@@ -1,9 +1,9 @@
 -- What a tick sends in a group that stands in one view.
-use Rattle.am_repair.proofs.Words.{◌≡◌, ℕ, ◌==◌, not, nat_le, Bool, true, false, if◌then◌else◌, List, length, Option, Some, None, refl, sym, ap, ◌∙◌, subst}
-use Rattle.am_repair.proofs.Words.{arith, Contains, Data, Outcome, has, Packet, Letter, letter_to, OwnSend, Status, Node, Ballot, view, members, others}
-use Rattle.am_repair.proofs.Words.{only_name, acts, is_member, is_sequencer, has_room, waiting, report_of, refresh_at_end, Plan, telling, ack_of, accept_of}
-use Rattle.am_repair.proofs.Words.{request_of, spread_of, finish, step, row, is_unfinished, would_emit, hand_in, emit, tick_row, tick_by, tick_with}
-use Rattle.am_repair.proofs.Words.{tick_acting, tick_member, tick_sequencer, and_result, put_off, going, and_both, not_false, rests_at_end, leads_rests}
+use Rattle.am_repair.proofs.Words.{not-false, ◌≡◌, ℕ, ◌==◌, not, nat_le, Bool, true, false, if◌then◌else◌, List, length, Option, Some, None, refl, sym, ap}
+use Rattle.am_repair.proofs.Words.{◌∙◌, subst, arith, Contains, Data, Outcome, has, Packet, Letter, letter_to, OwnSend, Status, Node, Ballot, view, members}
+use Rattle.am_repair.proofs.Words.{others, only_name, acts, is_member, is_sequencer, has_room, waiting, report_of, refresh_at_end, Plan, telling, ack_of}
+use Rattle.am_repair.proofs.Words.{accept_of, request_of, spread_of, finish, step, row, is_unfinished, would_emit, hand_in, emit, tick_row, tick_by}
+use Rattle.am_repair.proofs.Words.{tick_with, tick_acting, tick_member, tick_sequencer, and_result, put_off, going, and_both, rests_at_end, leads_rests}
 use Rattle.am_repair.proofs.Words.{leads_pushed, IsAtRest, Polls, SequencersPoll, IsReport, ack, request, spread, Reports, MembersReport}
 use Rattle.am_base.specs.declared.outcome.Outcome.TheVariants as said
 use Rattle.am_model.specs.declared.status.Status.TheVariants as status
@@ -19,7 +19,7 @@ member_status status.Departed h = absurd (cc)
 
 pub without_ballot : (m : Node) (o : Option Ballot) → is_unfinished o ≡ false → tick_with m o ≡ tick_acting m
 without_ballot m None h = refl
-without_ballot m (Some b) h = let over = not_false b.is_over h in rw over refl
+without_ballot m (Some b) h = let over = not-false b.is_over h in rw over refl
 
 pub acting_row : (m : Node) → acts m ≡ true → IsAtRest m → tick_row m ≡ tick_acting m
 unfolding tick_row

@@ -4,7 +4,7 @@ pub use Rattle.std.proofs.Common.{length-append, ◌<◌, Bool, [], ◌∷◌, �
 pub use Rattle.std.proofs.Common.{if◌then◌else◌, nat_lt, count_by, ◌-◌, take, drop, append_assoc, append-nil, add-one, length-drop, ◌*◌, ◌/◌, map}
 pub use Rattle.std.proofs.Common.{slice_index, slice_set, get_or-set_same, get_or-set_other}
 pub use Rattle.std.proofs.Math.Seq.{take-append-add}
-pub use Rattle.std.proofs.lemmas.Bool.{cases_lt}
+pub use Rattle.std.proofs.lemmas.Bool.{false_from_ne_true, cases_lt, not-true, and_from, not-false, eqb-true, eq-eqb}
 pub use Rattle.std.proofs.lemmas.Bool.Decides.{nat_tests}
 pub use Rattle.std.proofs.lemmas.List.{take-append-drop, take_all, drop_all, length-take}
 pub use Rattle.std.proofs.lemmas.List.Elements.{All-weaker, All-head, All-tail, All-nil, All-cons, All-push, Contains-append_left, Contains-append_right}
@@ -34,8 +34,8 @@ pub use Rattle.am_packet.specs.declared.packet.Packet.TheVariants.{Invite, Vote,
 pub use Rattle.am_packet.specs.Boxes.{letter_to, Letter, place_for, with_letter}
 pub use Rattle.am_packet.specs.Kinds.{kind_of}
 pub use Rattle.am_core.proofs.Ends.{image-top, image-next, image-push, entry-get}
-pub use Rattle.am_core.specs.Cores.{CoreState, since_accepted}
-unfoldable pub use Rattle.am_core.specs.Cores.{accept, pass_over, accept as accepts}
+pub use Rattle.am_core.specs.Cores.{CoreState, since_accepted, accept as accepts}
+unfoldable pub use Rattle.am_core.specs.Cores.{accept, pass_over}
 pub use Rattle.am_core.proofs.Lives.{IsUsed, used_fold, member_row, JoinsFit, fit_at}
 pub use Rattle.am_core.proofs.Folds.{slice_get-drop}
 pub use Rattle.am_fronts.specs.Refresh.{base_after}
@@ -70,6 +70,7 @@ unfoldable pub use Rattle.am_model.specs.Receiving.{accept_row, bcast_row}
 pub use Rattle.am_model.specs.Joining.{with_admitted}
 unfoldable pub use Rattle.am_model.specs.Joining.{join_ask_row}
 pub use Rattle.am_model.specs.Lengths.{packet_length}
+pub use Rattle.am_model.proofs.Sets.{some_size}
 pub use Rattle.am_play.specs.Settle.{event_at, Settling, hearings, and_then, ticks, round, round_count, hearings_of}
 unfoldable pub use Rattle.am_play.specs.Settle.{running, waves, rounds, settle_events, hearings_from}
 pub use Rattle.am_play.specs.World.{World, current, is_stopped, run, start, does_event, hears_letter, hear_cut, acts_as, Decided}
@@ -79,8 +80,10 @@ pub use Rattle.am_play.proofs.Runs.{runs_go_on}
 pub use Rattle.am_play.proofs.Beginnings.{happens_begins, happen_begins}
 pub use Rattle.am_play.specs.Lawful.{is_lost, Watch, watch_start, greatest_complete, broken_now, before_break}
 unfoldable pub use Rattle.am_play.specs.Lawful.{is_lawful, watch, watch_all}
+pub use Rattle.am_meaning.proofs.Held.{end_core}
 pub use Rattle.am_meaning.specs.Laws.{AllSatisfied}
 pub use Rattle.am_meaning.proofs.AcceptFronts.{accept_front_is, above_view, below_view}
+pub use Rattle.am_chain_lists.proofs.Requests.{has_in}
 pub use Rattle.am_chain_lists.proofs.Rows.{row_at, In, row_set, long_after, in_after, Past, past_after, not_both, mod16}
 pub use Rattle.am_chain_lists.specs.Whole.{IsGood, key}
 unfoldable pub use Rattle.am_chain_lists.specs.Whole.{mem, view_of}
@@ -98,25 +101,27 @@ pub use Rattle.am_effects.specs.Changes.{takes, asks_to_join, asks_to_leave, clo
 pub use Rattle.am_effects.specs.Changes.{changed, overtaken, Numbers, asked_send, own_send, asked_join, asked_leave, Fetches, without_ballot, for_ballot}
 pub use Rattle.am_effects.specs.Changes.{MayBeWelcomed}
 pub use Rattle.am_effects.proofs.Rests.{rests_at_end, leads_rests, settle_is, SameStanding, with_sends, rests_refresh}
-pub use Rattle.am_effects.proofs.Tests.{not_true, not_false}
+pub use Rattle.am_effects.proofs.Resets.{same_stamp, stamp_itself}
 pub use Rattle.am_effects.proofs.Items.{get_front, get_take, all_item, all_letter, all_get}
 pub use Rattle.am_effects.proofs.Events.{events_have_effects}
 pub use Rattle.am_effects.specs.Events.{IsCause, actor, tick, Happens, idles, stops, returns, steps, WasSentTo}
 pub use Rattle.am_effects.specs.Effects.{Effect}
-pub use Rattle.am_effects.proofs.Hearing.{steps_have_effects, hearing_has_effects}
+pub use Rattle.am_effects.proofs.Hearing.{steps_have_effects, hearing_has_effects, other_heard}
 pub use Rattle.am_effects.proofs.Runs.{EachKeeps, runs_keep, StepsKeep, SameParts, law_keeps}
 pub use Rattle.am_effects.specs.Letters.{Says, leave_ask, LetterSays, MayInvite, has_begun, goes_on, MayTell, leads, decided, bcast, order, welcome, invite}
 pub use Rattle.am_effects.specs.Letters.{vote, result, hand_over}
+pub use Rattle.am_effects.proofs.Tests.{is_itself}
 pub use Rattle.am_laws.proofs.ViewSteps.{after_same, view_last}
 pub use Rattle.am_laws.proofs.TakenRuns.{AllOwned, run_owned, each_owned, Along, along_changes, heard_used, each_along, owned_start}
-pub use Rattle.am_laws.proofs.Stamps.{same_stamp, not_above_itself, at_most_below}
-pub use Rattle.am_laws.proofs.Views.{same_is_equal, heard_names}
 pub use Rattle.am_laws.proofs.Trims.{told_used, Fronts, reporting, pushed_fronts}
-pub use Rattle.am_laws.proofs.LeaderRows.{is_in, in_is, least_within, data_member}
 pub use Rattle.am_laws.proofs.ViewNames.{HeardNames}
-pub use Rattle.am_laws.proofs.Taken.{HeardUsed}
-pub use Rattle.am_laws.proofs.ViewChanges.{Balloted, next_above, OpenBallot}
+pub use Rattle.am_laws.proofs.Taken.{HeardUsed, fetch_follows, stamp_by, other_asks, promise_is, not_above_view, not_own}
+pub use Rattle.am_laws.proofs.Counts.{base_low}
+pub use Rattle.am_laws.proofs.LeaderRows.{in_is, least_within, data_member}
+pub use Rattle.am_laws.proofs.Stamps.{not_above_itself, at_most_below}
+pub use Rattle.am_laws.proofs.ViewChanges.{Balloted, next_above, OpenBallot, welcomed_none, none_of_asking}
 pub use Rattle.am_laws.proofs.Named.{few_names}
+pub use Rattle.am_laws.proofs.Views.{heard_names}
 pub use Rattle.am_laws.proofs.Blank.{Blanked}
 pub use Rattle.am_repair.specs.Rows.{IsAtRest, HasReported, HasReports, FrontsRise, IsReport, ack, nack, request, spread, Asks, HearsFront, FrontsAreHeard}
 pub use Rattle.am_repair.specs.Rows.{GapsAreAsked, EntriesAreStored, Serves, ReportsAreTaken, NacksAreServed, ComesNext, Polls, SequencersPoll, Reports}

@@ -1,14 +1,13 @@
 -- What a node knows of others to be taken, through a request to join: the row itself.
-use Rattle.am_repaired.proofs.Words.{◌≡◌, ℕ, ◌==◌, ◌&&◌, ◌||◌, not, nat_lt, nat_le, Bool, true, false, if◌then◌else◌, Some, refl, sym, ap, ◌∙◌, subst, arith}
-use Rattle.am_repaired.proofs.Words.{nat_tests, Stamp, Join, Report, Outcome, Row, life_of, at_place, fits, Packet, Letter, Act, Event, is_for, letter_at}
-use Rattle.am_repaired.proofs.Words.{Node, image_of, is_sequencer, has_room, Plan, Step, finish, hear, hear_refusal, with_admitted, join_ask_row}
+use Rattle.am_repaired.proofs.Words.{other_heard, ◌≡◌, ℕ, ◌==◌, ◌&&◌, ◌||◌, not, nat_lt, nat_le, Bool, true, false, if◌then◌else◌, Some, refl, sym, ap, ◌∙◌}
+use Rattle.am_repaired.proofs.Words.{subst, arith, nat_tests, Stamp, Join, Report, Outcome, Row, life_of, at_place, fits, Packet, Letter, Act, Event, is_for}
+use Rattle.am_repaired.proofs.Words.{letter_at, Node, image_of, is_sequencer, has_room, Plan, Step, finish, hear, hear_refusal, with_admitted, join_ask_row}
 use Rattle.am_repaired.proofs.Words.{hears_member, hear_row, packet_length, refresh_at_end, World, is_stopped, with_record, with_step, hears_letter, hear_cut}
 use Rattle.am_repaired.proofs.Words.{acts_as, happens, heard_by, split, and_both, actor, end_same}
 use Rattle.am_model.specs.Joining.{asks_to_join}
 use Rattle.am_base.specs.declared.outcome.Outcome.TheVariants as said
 use Rattle.am_packet.specs.declared.packet.Packet.TheVariants as packet
 use Rattle.am_group.specs.declared.event.Act.TheVariants as act
-use Rattle.am_repaired.proofs.Came.{other_member}
 
 -- as before, but that a joiner whose Join fits the sequencer's list begins at the base
 pub data Asked (m y : Node) (s : ℕ) : Type 0 where
@@ -66,7 +65,7 @@ unfolding hear hear_row join_ask_row
 asked m s v = plan_ends m s _ (plan_if m s (hears_member m s && is_sequencer m) _ _
     (λ t.
     let both = and_both (hears_member m s) (is_sequencer m) t in
-    row_asked m s (at_place (image_of m) s) (other_member m s both.0) both.1)
+    row_asked m s (at_place (image_of m) s) (other_heard m s both.0) both.1)
     (λ t. same_plan m s _ refl refl))
 
 refused_asked : (m : Node) (s cause : ℕ) → Asked m (hear_refusal m cause).node s

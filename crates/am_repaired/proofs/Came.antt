@@ -1,27 +1,18 @@
 -- How a name comes to act in a view: it did before, it decided it, or a letter of the view's own name told it, whose base it had taken.
-use Rattle.am_repaired.proofs.Words.{◌≡◌, ⊎_elim, ℕ, ◌<◌, ◌≤◌, ◌==◌, ◌&&◌, ◌||◌, not, max, true, false, List, [], refl, sym, ap, ◌∙◌, subst, arith, nat_tests}
-use Rattle.am_repaired.proofs.Words.{Entry, Data, Join, Leave, View, Image, Stamp, Outcome, Rules, stamp_lt, stamp_eq, Log, blank, fold, told_by, Node}
-use Rattle.am_repaired.proofs.Words.{Ballot, view, image_of, acts, is_member, is_asking, push_entry, trim_up_to, has_log, Verdict, with_promise, next_stamp}
-use Rattle.am_repaired.proofs.Words.{trim_for, left_in, need_of, is_view, hears_member, hears_asking, split, and_both, Cause, hears, Looks, finds_itself_out}
-use Rattle.am_repaired.proofs.Words.{waits, fetches_from_best, finds_too_few, finds_no_room, decides, Numbers, asked_send, own_send, asked_join, asked_leave}
-use Rattle.am_repaired.proofs.Words.{Fetches, without_ballot, for_ballot, Change, refreshes, settles, takes_report, admits, numbers, keeps_body, notes}
-use Rattle.am_repaired.proofs.Words.{stores, begins_list, departs, promises, opens, looks, fetches, stores_view, queues, collects, takes, asks_to_join}
-use Rattle.am_repaired.proofs.Words.{asks_to_leave, closes, Changes, unchanged, changed, not_true, view_pushed, Blanked, same_stamp, not_above_itself}
-use Rattle.am_repaired.proofs.Words.{not_above, equal_stamps, at_most, at_most_below, same_is_equal, HasNames, HeardNames, SameView, Stood, view_last}
-use Rattle.am_repaired.proofs.Words.{Balloted, next_above, looked_at, change_does, HeardUsed, Along, along_changes, acting, alike_refresh, alike_settle}
-use Rattle.am_repaired.proofs.Words.{view_alike, acts_alike, Alike}
+use Rattle.am_repaired.proofs.Words.{numbers_plain, stamp_by, other_asks, not-true, other_heard, stamp_itself, same_stamp, ◌≡◌, ⊎_elim, ℕ, ◌<◌, ◌≤◌, ◌==◌}
+use Rattle.am_repaired.proofs.Words.{◌&&◌, ◌||◌, not, max, true, false, List, [], refl, sym, ap, ◌∙◌, subst, arith, nat_tests, Entry, Data, Join, Leave, View}
+use Rattle.am_repaired.proofs.Words.{Image, Stamp, Outcome, Rules, stamp_lt, stamp_eq, Log, blank, fold, told_by, Node, Ballot, view, image_of, acts}
+use Rattle.am_repaired.proofs.Words.{is_member, is_asking, push_entry, trim_up_to, has_log, Verdict, with_promise, next_stamp, trim_for, left_in, need_of}
+use Rattle.am_repaired.proofs.Words.{is_view, hears_member, hears_asking, split, and_both, Cause, hears, Looks, finds_itself_out, waits, fetches_from_best}
+use Rattle.am_repaired.proofs.Words.{finds_too_few, finds_no_room, decides, Numbers, asked_send, own_send, asked_join, asked_leave, Fetches, without_ballot}
+use Rattle.am_repaired.proofs.Words.{for_ballot, Change, refreshes, settles, takes_report, admits, numbers, keeps_body, notes, stores, begins_list, departs}
+use Rattle.am_repaired.proofs.Words.{promises, opens, looks, fetches, stores_view, queues, collects, takes, asks_to_join, asks_to_leave, closes, Changes}
+use Rattle.am_repaired.proofs.Words.{unchanged, changed, view_pushed, Blanked, not_above_itself, not_above, equal_stamps, at_most, at_most_below, HasNames}
+use Rattle.am_repaired.proofs.Words.{HeardNames, SameView, Stood, view_last, Balloted, next_above, looked_at, change_does, HeardUsed, Along, along_changes}
+use Rattle.am_repaired.proofs.Words.{acting, alike_refresh, alike_settle, view_alike, acts_alike, Alike}
 use Rattle.am_packet.specs.declared.packet.Packet.TheVariants as packet
 
 -- ---- names
-
-other_asking : (m : Node) (s : ℕ) → hears_asking m s ≡ true → (s == m.core.who) ≡ false
-other_asking m s h = not_true (s == m.core.who) (and_both (not (s == m.core.who)) (is_member m.status || is_asking m.status) h).0
-
-pub other_member : (m : Node) (s : ℕ) → hears_member m s ≡ true → (s == m.core.who) ≡ false
-other_member m s h = not_true (s == m.core.who) (and_both (not (s == m.core.who)) (is_member m.status) h).0
-
-by_sender : (v : Stamp) (s : ℕ) → (v.by == s) ≡ true → v.by ≡ s
-by_sender v s h = grind (arith, nat_tests)
 
 -- ---- who tells a view
 
@@ -57,12 +48,6 @@ stays_pushed : (x y : Node) (e : Entry) → is_view e ≡ false → y.core.who �
 stays_pushed x y e plain who viewed promise status taken =
     let v = viewed ∙ view_pushed x e plain in
     record { who = who; view_ = v; acts_ = λ t. sym (λ i. is_member (status i) && stamp_eq (promise i) (v i)) ∙ t; taken = taken }
-
-numbered_plain : (c : Cause) (x : Node) (e : Entry) → Numbers c x e → is_view e ≡ false
-numbered_plain c x e (asked_send s v report req body by known left next) = refl
-numbered_plain c x e (own_send s is last) = refl
-numbered_plain c x e (asked_join s v is other fit) = refl
-numbered_plain c x e (asked_leave s v report is other known stays) = refl
 
 -- nothing but numbers and sets that aren't named here
 plain_stay : (x y : Node) → y.core.who ≡ x.core.who → y.core.log ≡ x.core.log → y.core.promise ≡ x.core.promise → y.status ≡ x.status
@@ -111,9 +96,9 @@ fetched_view x s v base (View stamp names resilience) why promise is t =
     (last ∙ at, by_name why at)
   where
     by_name : Fetches x s v (View stamp names resilience) → stamp ≡ v → v.by ≡ s
-    by_name (without_ballot none from past) at = by_sender v s from
+    by_name (without_ballot none from past) at = stamp_by v s from
     by_name (for_ballot b open_ from past) at =
-        let u : stamp_eq stamp v ≡ true = ap (stamp_eq stamp) (sym at) ∙ same_is_equal stamp in
+        let u : stamp_eq stamp v ≡ true = ap (stamp_eq stamp) (sym at) ∙ stamp_itself stamp in
         absurd (split (stamp_lt v stamp) (λ y. let p = rw y at past in cc) (λ y. let p = rw (y, u) at past in cc))
 
 came_change : (c : Cause) (o : Outcome) (m x y : Node) → HeardNames c → HasNames x → HasNames y → Balloted x → stamp_lt (view x) (view m) ≡ false
@@ -125,7 +110,7 @@ came_change c o m x y heard names after k low (takes_report s v report brings ma
     (h t)
 came_change c o m x y heard names after k low (admits s v is leads fit) h t = came_on c m x y (plain_stay x y refl refl refl refl (omega arith)) (h t)
 came_change c o m x y heard names after k low (numbers e leads room why) h t =
-    let s = stays_pushed x y e (numbered_plain c x e why) refl refl refl refl (omega arith) in came_on c m x y s (h (s.acts_ t))
+    let s = stays_pushed x y e (numbers_plain c x e why) refl refl refl refl (omega arith) in came_on c m x y s (h (s.acts_ t))
 came_change c o m x y heard names after k low (keeps_body s v report req body is heard_) h t = came_on c m x y
     (plain_stay x y refl refl refl refl (omega arith)) (h t)
 came_change c o m x y heard names after k low (notes s v base acc brings heard_) h t = came_on c m x y (plain_stay x y refl refl refl refl (omega arith)) (h t)
@@ -133,7 +118,7 @@ came_change c o m x y heard names after k low (stores s v base acc number e carr
     let s_ = stays_pushed x y e plain refl refl refl refl (omega arith) in came_on c m x y s_ (h (s_.acts_ t))
 came_change c o m x y heard names after k low (begins_list s v base join image is says may) h t =
     let at : view y ≡ v = sym (acting y t).1 in
-    told_so s v base (subst (λ z. Tells z s v base) (sym is) (by_welcome s v base join image)) at (by_sender v s may.own) (other_asking x s may.asks)
+    told_so s v base (subst (λ z. Tells z s v base) (sym is) (by_welcome s v base join image)) at (stamp_by v s may.own) (other_asks x s may.asks)
     (omega arith)
 came_change c o m x y heard names after k low (departs s v number is heard_ leaves) h t = absurd (cc)
 came_change c o m x y heard names after k low (promises v high why) h t =
@@ -149,11 +134,11 @@ came_change c o m x y heard names after k low (looks b verdict over why look is)
 came_change c o m x y heard names after k low (fetches s v base number e is heard_ promise below why may) h t =
     split (is_view e)
     (λ u. let at = fetched_view x s v base e why (same_stamp v x.core.promise promise) u t in
-    told_so s v base (subst (λ z. Tells z s v base) (sym is) (by_piece s v base number e)) at.0 at.1 (other_member x s heard_) may.taken)
+    told_so s v base (subst (λ z. Tells z s v base) (sym is) (by_piece s v base number e)) at.0 at.1 (other_heard x s heard_) may.taken)
     (λ f. let s_ = stays_pushed x y e f refl refl refl refl (omega arith) in came_on c m x y s_ (h (s_.acts_ t)))
 came_change c o m x y heard names after k low (stores_view s v base number names_ resilience is heard_ own_ other promise below may) h t =
     told_so s v base (subst (λ z. Tells z s v base) (sym is) (by_result s v base number names_ resilience)) (view_last (trim_up_to x base) v names_ resilience)
-    (by_sender v s own_) (other_member x s heard_) may.taken
+    (stamp_by v s own_) (other_heard x s heard_) may.taken
 came_change c o m x y heard names after k low (queues body is says member stays few) h t = came_on c m x y (plain_stay x y refl refl refl refl (omega arith))
     (h t)
 came_change c o m x y heard names after k low (collects req is) h t = came_on c m x y (plain_stay x y refl refl refl refl (omega arith)) (h t)

@@ -1,9 +1,9 @@
 -- Whose Join fits the sequencer's list has no list, and no Welcome could make it begin one.
-use Rattle.am_repaired.proofs.Words.{◌≡◌, inl, ⊎_elim, ℕ, ◌<◌, ◌==◌, true, false, List, Some, slice_get, take, refl, sym, ap, ◌∙◌, subst, arith, nat_tests}
-use Rattle.am_repaired.proofs.Words.{Entry, Join, Image, Stamp, Rules, place_of, life_of, has, at_place, fits, Packet, Letter, is_for, Begins, mem, In, Past}
-use Rattle.am_repaired.proofs.Words.{Was, row_at, mem_in, was_begins, begins_take, begins_trans, Group, IsUp, chain_of, Kept, Node, image_of, acts, is_member}
-use Rattle.am_repaired.proofs.Words.{is_sequencer, has_log, has_departed, World, is_stopped, Status, split, and_both, logged, NameStands, PacketSays}
-use Rattle.am_repaired.proofs.Words.{WelcomeTo, has_begun, has_gone, has_left, is_leaving, may_begin, Following, told_all, leading, GoesSo, member_here}
+use Rattle.am_repaired.proofs.Words.{member_stays, ◌≡◌, inl, ⊎_elim, ℕ, ◌<◌, ◌==◌, true, false, List, Some, slice_get, take, refl, sym, ap, ◌∙◌, subst, arith}
+use Rattle.am_repaired.proofs.Words.{nat_tests, Entry, Join, Image, Stamp, Rules, place_of, life_of, has, at_place, fits, Packet, Letter, is_for, Begins, mem}
+use Rattle.am_repaired.proofs.Words.{In, Past, Was, row_at, mem_in, was_begins, begins_take, begins_trans, Group, IsUp, chain_of, Kept, Node, image_of, acts}
+use Rattle.am_repaired.proofs.Words.{is_member, is_sequencer, has_log, has_departed, World, is_stopped, Status, split, and_both, logged, NameStands}
+use Rattle.am_repaired.proofs.Words.{PacketSays, WelcomeTo, has_begun, has_gone, has_left, is_leaving, may_begin, Following, told_all, leading, GoesSo}
 use Rattle.am_packet.specs.Kinds.{kind_of}
 use Rattle.am_packet.specs.declared.packet.Packet.TheVariants as packet
 use Rattle.am_chain_lists.specs.Whole as whole
@@ -69,7 +69,7 @@ module _ (rules : Rules) (w : World) (s : Group) (q j : ℕ) (old : Following ru
   up : IsUp (s.node q)
   up = record {
     log = a_stands.log_ ∙ logged (w.nodes q).status member;
-    there = record { goes = a_stands.stopped ∙ runs; stays = a_stands.departed ∙ member_here (w.nodes q).status member };
+    there = record { goes = a_stands.stopped ∙ runs; stays = a_stands.departed ∙ member_stays (w.nodes q).status member };
   }
 
   chain : (s.node q).list ≡ chain_of s.views

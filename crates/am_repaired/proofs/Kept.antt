@@ -1,10 +1,10 @@
 -- In every run, with the group that follows it: what a sequencer knows to be taken was taken, but for what it began with.
-use Rattle.am_repaired.proofs.Words.{◌≡◌, ℕ, ◌<◌, ◌==◌, true, false, List, Some, slice_get, refl, sym, ap, ◌∙◌, subst, arith, nat_tests, Image, Stamp, Rules}
-use Rattle.am_repaired.proofs.Words.{has, Letter, Event, key, Group, Node, view, acts, is_sequencer, founding_stamp, has_log, Step, World, start}
-use Rattle.am_repaired.proofs.Words.{founders_decided, first_node, is_stopped, split, Cause, Following, KeptBy, Quiet, parts, plain, acting}
+use Rattle.am_repaired.proofs.Words.{eqb-true, ◌≡◌, ℕ, ◌<◌, ◌==◌, true, false, List, Some, slice_get, refl, sym, ap, ◌∙◌, subst, arith, nat_tests, Image}
+use Rattle.am_repaired.proofs.Words.{Stamp, Rules, has, Letter, Event, key, Group, Node, view, acts, is_sequencer, founding_stamp, has_log, Step, World}
+use Rattle.am_repaired.proofs.Words.{start, founders_decided, first_node, is_stopped, split, Cause, Following, KeptBy, Quiet, parts, plain, acting}
 use Rattle.am_repair.proofs.Nodes.{leading}
 use Rattle.am_packet.specs.declared.packet.Packet.TheVariants as packet
-use Rattle.am_repaired.proofs.Trims.{LetterLow, Knows, took, joins, halts, Settles, Trims, TrimStep, Sent, equal}
+use Rattle.am_repaired.proofs.Trims.{LetterLow, Knows, took, joins, halts, Settles, Trims, TrimStep, Sent}
 use Rattle.am_repaired.proofs.{Came.Came, Came.before, Came.own, Came.told_so, Decided.decided_settles, Fresh.welcomed_in, Leading.leading_settles}
 use Rattle.am_repaired.proofs.{Mailed.says_welcome, One.runs_leading, Others.others_settle}
 use Rattle.am_repaired.proofs.Trims as trims
@@ -41,7 +41,7 @@ module _ (rules : Rules) (events : List Event) (e : Event) (c : Cause) (step : S
   decided_v : (j : ℕ) → j < 256 → acts (v.nodes j) ≡ true → t.views.decided (key (view (v.nodes j))) ≡ true
   decided_v j few act = split (j == i)
       (λ u.
-      let node : v.nodes j ≡ n = ap v.nodes (equal j i u) ∙ here in
+      let node : v.nodes j ≡ n = ap v.nodes (eqb-true j i u) ∙ here in
       subst (λ y. t.views.decided (key (view y)) ≡ true) (sym node) (decided_n (sym (ap acts node) ∙ act)))
       (λ f.
       let node = there j f in
@@ -78,7 +78,7 @@ module _ (rules : Rules) (events : List Event) (e : Event) (c : Cause) (step : S
   settles_v : (q : ℕ) → q < 256 → is_sequencer (v.nodes q) ≡ true → is_stopped v q ≡ false → Settles v q
   settles_v q few leads runs = split (q == i)
       (λ u.
-      let same = equal q i u in
+      let same = eqb-true q i u in
       subst (Settles v) (sym same) (settles_i (ap is_sequencer (sym (ap v.nodes same ∙ here)) ∙ leads)))
       (λ f. others_settle rules events e c step s t x q few f (ap is_sequencer (sym (there q f)) ∙ leads)
       (sym (trims.stopped_v rules events e c step s t x q) ∙ runs))

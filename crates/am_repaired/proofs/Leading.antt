@@ -1,10 +1,10 @@
 -- A sequencer's step in its view keeps what is known of what was taken.
-use Rattle.am_repaired.proofs.Words.{◌≡◌, ◌⊎◌, inl, inr, ⊎_elim, ℕ, ◌<◌, ◌≤◌, ◌==◌, max, true, false, List, Some, slice_get, refl, sym, ap, ◌∙◌, subst, arith}
-use Rattle.am_repaired.proofs.Words.{Join, Stamp, Rules, stamp_lt, fits, top_of, Letter, Event, Group, Node, image_of, view, acts, is_sequencer, has_log}
-use Rattle.am_repaired.proofs.Words.{Step, World, is_stopped, run, split, Cause, calls, hears, refuses, actor, WasSentTo, IsCause, all_get, not_above_itself}
-use Rattle.am_repaired.proofs.Words.{GoesSo, run_goes, parts, plain, NoJoin, Rises, run_told, cause_taken}
+use Rattle.am_repaired.proofs.Words.{eqb-true, ◌≡◌, ◌⊎◌, inl, inr, ⊎_elim, ℕ, ◌<◌, ◌≤◌, ◌==◌, max, true, false, List, Some, slice_get, refl, sym, ap, ◌∙◌}
+use Rattle.am_repaired.proofs.Words.{subst, arith, Join, Stamp, Rules, stamp_lt, fits, top_of, Letter, Event, Group, Node, image_of, view, acts, is_sequencer}
+use Rattle.am_repaired.proofs.Words.{has_log, Step, World, is_stopped, run, split, Cause, calls, hears, refuses, actor, WasSentTo, IsCause, all_get}
+use Rattle.am_repaired.proofs.Words.{not_above_itself, GoesSo, run_goes, parts, plain, NoJoin, Rises, run_told, cause_taken}
 use Rattle.am_packet.specs.declared.packet.Packet.TheVariants as packet
-use Rattle.am_repaired.proofs.Trims.{LetterLow, Knows, took, joins, halts, Settles, TrimStep, Sent, before, now, equal}
+use Rattle.am_repaired.proofs.Trims.{LetterLow, Knows, took, joins, halts, Settles, TrimStep, Sent, before, now}
 use Rattle.am_repaired.proofs.{Asked.Asked, Asked.as_before, Asked.admitted_, Asked.asked_event, Began.rises_along, Fresh.Welcomed, Fresh.no_list}
 use Rattle.am_repaired.proofs.{Fresh.no_welcome, Fresh.welcomed_in, Knew.Know, Knew.knew, Knew.anew, Knew.know, Mailed.says_low, Mailed.says_welcome}
 use Rattle.am_repaired.proofs.Trims as trims
@@ -116,14 +116,14 @@ module _ (rules : Rules) (events : List Event) (e : Event) (c : Cause) (step : S
           by_ask (as_before h) = known_on j few other (let z = h j own in let y = ap (λ r. r.taken) z in omega arith)
           by_ask (admitted_ apart leads_ fit base h) = split (j == a.from)
               (λ u.
-              let is_ = equal j a.from u in
+              let is_ = eqb-true j a.from u in
               known_joined j few other (ap (λ k. fits (image_of m) (Join k)) is_ ∙ fit) (ap (λ k. (n.reports k).taken) is_ ∙ base))
               (λ f. known_on j few other (let z = h j own f in let y = ap (λ r. r.taken) z in omega arith))
 
   acting_v : (j : ℕ) → j < 256 → acts (v.nodes j) ≡ true → view (v.nodes j) ≡ view (v.nodes i) → was.low ≤ (v.nodes j).core.taken
   acting_v j few act at = split (j == i)
       (λ u.
-      let is_ = equal j i u in
+      let is_ = eqb-true j i u in
       let own = ((trims.laws_v rules events e c step s t x).each j few).fronts.base in
       let base = ap (λ k. (v.nodes k).core.base) is_ ∙ ap (λ (y : Node). y.core.base) here in
       let up = rises.base in

@@ -1,10 +1,10 @@
 -- Who left: whose Leave stands on the chain asked to leave, and who departed has its Leave accepted, unless nobody is left.
-use Rattle.am_repaired.proofs.Words.{◌≡◌, ◌⊎◌, ⊎_elim, inl, inr, ℕ, ◌+◌, ◌<◌, ◌≤◌, List, [], ◌∷◌, ◌++◌, length, true, false, refl, sym, ap, ◌∙◌, subst, arith}
-use Rattle.am_repaired.proofs.Words.{Entry, Data, Join, Leave, View, Image, place_of, life_of, Begins, IsGood, mem, view_of, key, In, row_at, begins_refl}
-use Rattle.am_repaired.proofs.Words.{begins_more, begins_trans, begins_both, begins_same, begins_length, begins_pushed, length_push, good_begins, told_push}
-use Rattle.am_repaired.proofs.Words.{long_told, mem_in, in_mem, mem_between, leaver_in, leaver_out, Group, Views, put, opening, Leads, chain_of, Move}
-use Rattle.am_repaired.proofs.Words.{MayNumber, choice_of, longer, accepts, learns, begins, raises, shows, serves, gives_over, welcomes, asks, stops, Kept}
-use Rattle.am_repaired.proofs.Words.{Run, founded, more, first_stamp, put_same, put_at, run_keeps, moves_grow, Becomes, stayed, joins, founds, became}
+use Rattle.am_repaired.proofs.Words.{last_is, ◌≡◌, ◌⊎◌, ⊎_elim, inl, inr, ℕ, ◌+◌, ◌<◌, ◌≤◌, List, [], ◌∷◌, ◌++◌, length, true, false, refl, sym, ap, ◌∙◌}
+use Rattle.am_repaired.proofs.Words.{subst, arith, Entry, Data, Join, Leave, View, Image, place_of, life_of, Begins, IsGood, mem, view_of, key, In, row_at}
+use Rattle.am_repaired.proofs.Words.{begins_refl, begins_more, begins_trans, begins_both, begins_same, begins_length, begins_pushed, length_push, good_begins}
+use Rattle.am_repaired.proofs.Words.{told_push, long_told, mem_in, in_mem, mem_between, leaver_in, leaver_out, Group, Views, put, opening, Leads, chain_of}
+use Rattle.am_repaired.proofs.Words.{Move, MayNumber, choice_of, longer, accepts, learns, begins, raises, shows, serves, gives_over, welcomes, asks, stops}
+use Rattle.am_repaired.proofs.Words.{Kept, Run, founded, more, first_stamp, put_same, put_at, run_keeps, moves_grow, Becomes, stayed, joins, founds, became}
 use Rattle.am_chain_lists.specs.Whole.{image_of}
 use Rattle.am_chain_moves.specs.Moves.{numbers, stores, fetches, decides, departs, closes}
 use Rattle.am_chain_moves.specs.Group as groups
@@ -22,19 +22,6 @@ abbrev pub AllGone : Group → Type 0
 AllGone s = (d : ℕ) → (s.node d).departed ≡ true → GoneBy s d
 
 -- ---- lists
-
-last_of : (a b : List Entry) (x y : Entry) → a ++ x ∷ [] ≡ b ++ y ∷ [] → x ≡ y
-last_of [] [] x y h = cc
-last_of [] (z ∷ b) x y h = absurd (let long = ap length h in let l = length_push b y in omega arith)
-last_of (z ∷ a) [] x y h = absurd (let long = ap length h in let l = length_push a x in omega arith)
-last_of (u ∷ a) (z ∷ b) x y h = last_of a b x y (tail_same h)
-  where
-    rest : List Entry → List Entry
-    rest [] = []
-    rest (k ∷ ks) = ks
-
-    tail_same : u ∷ (a ++ x ∷ []) ≡ z ∷ (b ++ y ∷ []) → a ++ x ∷ [] ≡ b ++ y ∷ []
-    tail_same e = ap rest e
 
 same_leave : (a b : ℕ) → Leave a ≡ Leave b → a ≡ b
 same_leave a b h = cc
@@ -75,7 +62,7 @@ asked_more : (s t : Group) (e : Entry) → chain_of t.views ≡ chain_of s.views
     → ((j : ℕ) → e ≡ Leave j → (s.node j).leaving ≡ true) → LeavesAsked s → LeavesAsked t
 asked_more s t e chain leaving new h a j begins_ = leaving j (⊎_elim
     (λ (old : Begins (a ++ Leave j ∷ []) (chain_of s.views)). h a j old)
-    (λ (now : a ++ Leave j ∷ [] ≡ chain_of s.views ++ e ∷ []). new j (sym (last_of a (chain_of s.views) (Leave j) e now)))
+    (λ (now : a ++ Leave j ∷ [] ≡ chain_of s.views ++ e ∷ []). new j (sym (last_is a (chain_of s.views) (Leave j) e now)))
     (begins_pushed e (subst (Begins (a ++ Leave j ∷ [])) chain begins_)))
 
 -- the chain of a sequencer's group, with an entry more
@@ -108,7 +95,7 @@ asked_move s t (decides i members resilience may) k h = λ a j begins_.
     let is : chain_of t.views ≡ all = put_same s.views.line (key m.promise) all in
     put_leaving s i (record m { list = all; ballot = false }) (λ z. z) j (⊎_elim
     (λ (old : Begins (a ++ Leave j ∷ []) m.list). h a j (begins_trans old ((k.each i).list may.up)))
-    (λ (now : a ++ Leave j ∷ [] ≡ all). absurd (let e = last_of a m.list (Leave j) (View m.promise members resilience) now in cc))
+    (λ (now : a ++ Leave j ∷ [] ≡ all). absurd (let e = last_is a m.list (Leave j) (View m.promise members resilience) now in cc))
     (begins_pushed (View m.promise members resilience) (subst (Begins (a ++ Leave j ∷ [])) is begins_))))
 asked_move s t (stores i e up decided other stays next) k h = asked_same s t refl (put_leaving s i (longer (s.node i) e) (λ z. z)) h
 asked_move s t (accepts i n leads may) k h = asked_same s t refl (λ j z. z) h
@@ -163,7 +150,7 @@ gone_decided s t i members resilience k kt up member is group d gone (last befor
     let part : Begins (there.0 ++ Leave d ∷ []) m.list = ⊎_elim
     (λ (old : Begins (there.0 ++ Leave d ∷ []) m.list). old)
     (λ (now : there.0 ++ Leave d ∷ [] ≡ opening (choice_of m members resilience)).
-    absurd (let e = last_of there.0 m.list (Leave d) (View m.promise members resilience) now in cc))
+    absurd (let e = last_is there.0 m.list (Leave d) (View m.promise members resilience) now in cc))
     (begins_pushed (View m.promise members resilience) (subst (Begins (there.0 ++ Leave d ∷ [])) is there.1)) in
     let on = (k.each i).list up in
     let long_a = length_push there.0 (Leave d) in
@@ -229,7 +216,7 @@ pub record AllLeft (s : Group) : Type 0 where
 nil_none : (a : List Entry) (e x : Entry) → Begins (a ++ x ∷ []) (e ∷ []) → x ≡ e
 nil_none a e x h = ⊎_elim
     (λ (z : Begins (a ++ x ∷ []) []). absurd (let l = begins_length z in let k = length_push a x in omega arith))
-    (λ (z : a ++ x ∷ [] ≡ [] ++ e ∷ []). last_of a [] x e z)
+    (λ (z : a ++ x ∷ [] ≡ [] ++ e ∷ []). last_is a [] x e z)
     (begins_pushed e h)
 
 pub runs_left : (founders : List ℕ) (first resilience : ℕ) (s : Group) → Run founders first resilience s → AllLeft s

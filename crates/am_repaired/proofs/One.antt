@@ -1,6 +1,6 @@
 -- There is one sequencer that runs.
-use Rattle.am_repaired.proofs.Words.{◌≡◌, ℕ, ◌<◌, true, false, sym, ap, ◌∙◌, Rules, view_of, Group, IsUp, Kept, acts, is_member, is_sequencer, World}
-use Rattle.am_repaired.proofs.Words.{is_stopped, and_both, logged, Following, Leading, leading, member_here}
+use Rattle.am_repaired.proofs.Words.{member_stays, ◌≡◌, ℕ, ◌<◌, true, false, sym, ap, ◌∙◌, Rules, view_of, Group, IsUp, Kept, acts, is_member, is_sequencer}
+use Rattle.am_repaired.proofs.Words.{World, is_stopped, and_both, logged, Following, Leading, leading}
 use Rattle.am_chain_moves.specs.Group as groups
 
 -- it leads the group
@@ -12,7 +12,7 @@ runs_leading rules w s q old k small who leads runs =
     let member = (and_both (is_member m.status) _ (and_both (acts m) _ leads).0).0 in
     let up : IsUp (s.node q) = record {
       log = a.log_ ∙ logged m.status member;
-      there = record { goes = a.stopped ∙ runs; stays = a.departed ∙ member_here m.status member };
+      there = record { goes = a.stopped ∙ runs; stays = a.departed ∙ member_stays m.status member };
     } in
     leading w q m s (record { kept = k; stands = a; up = up; who = who }) leads
 

@@ -1,8 +1,8 @@
 -- Where a run may be repaired, its sequencer has the whole chain, and each member's list begins it.
-use Rattle.am_repaired.proofs.Words.{◌≡◌, ℕ, ◌<◌, ◌≤◌, ◌==◌, nat_lt, true, false, List, take, None, sym, ap, ◌∙◌, subst, arith, nat_tests, Rules, MayFound}
-use Rattle.am_repaired.proofs.Words.{place_of, life_of, Event, Begins, IsGood, mem, view_of, begins_take, begins_trans, Group, IsUp, Leads, chain_of, Kept}
-use Rattle.am_repaired.proofs.Words.{Node, acts, view, is_member, lowest_or_first, whole, broken_at, MayRepair, World, current, is_stopped, run, split}
-use Rattle.am_repaired.proofs.Words.{and_both, front_is_lawful, logged, names_hold, same_stamp, Following, told_all, group_kept, steps_move, member_here}
+use Rattle.am_repaired.proofs.Words.{member_stays, same_stamp, ◌≡◌, ℕ, ◌<◌, ◌≤◌, ◌==◌, nat_lt, true, false, List, take, None, sym, ap, ◌∙◌, subst, arith}
+use Rattle.am_repaired.proofs.Words.{nat_tests, Rules, MayFound, place_of, life_of, Event, Begins, IsGood, mem, view_of, begins_take, begins_trans, Group}
+use Rattle.am_repaired.proofs.Words.{IsUp, Leads, chain_of, Kept, Node, acts, view, is_member, lowest_or_first, whole, broken_at, MayRepair, World, current}
+use Rattle.am_repaired.proofs.Words.{is_stopped, run, split, and_both, front_is_lawful, logged, names_hold, Following, told_all, group_kept, steps_move}
 use Rattle.am_repaired.proofs.Words.{KeptBy, held, IsOneList, RepairableIsOneList, repairable_is_lawful}
 
 -- ---- a group that follows
@@ -40,7 +40,7 @@ module _ (rules : Rules) (w : World) (s : Group) (place : ℕ) (old : Following 
   up : (name : ℕ) → name < 256 → is_member (w.nodes name).status ≡ true → IsUp (s.node name)
   up name low member =
       let a = old.stands.each name low in
-      let here = member_here (w.nodes name).status member in
+      let here = member_stays (w.nodes name).status member in
       let runs : is_stopped w name ≡ false = split (is_stopped w name) (λ t. absurd (let gone = may.nobody_stopped name t in cc)) (λ f. f) in
       record {
         log = a.log_ ∙ logged (w.nodes name).status member;
@@ -49,7 +49,7 @@ module _ (rules : Rules) (w : World) (s : Group) (place : ℕ) (old : Following 
 
   staying : (name : ℕ) → name < 256 → is_member (w.nodes name).status ≡ true → (s.node name).leaving ≡ false
   staying name low member =
-      let here = member_here (w.nodes name).status member in
+      let here = member_stays (w.nodes name).status member in
       (old.stands.each name low).leaving ∙ split (w.nodes name).leaving (λ t. absurd (let gone = may.nobody_leaves name t in cc)) (λ f. f)
 
   sequencer : (is_member (w.nodes q).status ≡ true) × ((w.nodes q).core.promise ≡ view (w.nodes q)) × ((view (w.nodes q)).by ≡ (w.nodes q).core.who)

@@ -1,7 +1,7 @@
 -- What a run that may be repaired comes to by a lossless schedule.
-use Rattle.am_repaired.proofs.Words.{◌≡◌, ℕ, ◌<◌, ◌≤◌, ◌==◌, List, ◌++◌, true, false, subst, sym, arith, nat_tests, Rules, MayFound, has, Event, is_member}
-use Rattle.am_repaired.proofs.Words.{top, members, World, start, current, is_stopped, run, settle_events, MayRepair, HasCaughtUp, Repairs, split, runs_go_on}
-use Rattle.am_repaired.proofs.Words.{taken_holds, member_here, steps_move, held, repairs_where_lists_agree, sequencers_trim_known, acting, one_list_agrees}
+use Rattle.am_repaired.proofs.Words.{member_stays, ◌≡◌, ℕ, ◌<◌, ◌≤◌, ◌==◌, List, ◌++◌, true, false, subst, sym, arith, nat_tests, Rules, MayFound, has, Event}
+use Rattle.am_repaired.proofs.Words.{is_member, top, members, World, start, current, is_stopped, run, settle_events, MayRepair, HasCaughtUp, Repairs, split}
+use Rattle.am_repaired.proofs.Words.{runs_go_on, taken_holds, steps_move, held, repairs_where_lists_agree, sequencers_trim_known, acting, one_list_agrees}
 use Rattle.am_repaired.proofs.Words.{RepairableTrims, RepairableCounts}
 use Rattle.am_repair.proofs.Nodes.{leading}
 use Rattle.am_repaired.proofs.{OneList.lawful_events, OneList.small_name, OneList.member_small, OneList.repairable_is_one_list, Counted.repairable_counts}
@@ -13,7 +13,7 @@ counts_members rules events place may low repair = repairable_counts rules event
 -- who is a member runs
 member_runs : (w : World) (place name : ℕ) → MayRepair w place → is_member (w.nodes name).status ≡ true → is_stopped w name ≡ false
 member_runs w place name repair member = split (is_stopped w name)
-    (λ t. absurd (let gone = repair.nobody_stopped name t in let here = member_here (w.nodes name).status member in cc))
+    (λ t. absurd (let gone = repair.nobody_stopped name t in let here = member_stays (w.nodes name).status member in cc))
     (λ f. f)
 
 pub trims_taken : RepairableTrims

@@ -1,7 +1,7 @@
 -- What a sequencer trimmed, its members have taken: what a run keeps of it, with the group that follows.
-use Rattle.am_repaired.proofs.Words.{◌≡◌, ⊎_elim, ℕ, zero, suc, ◌<◌, ◌≤◌, ◌==◌, max, true, false, List, [], ◌++◌, Some, slice_get, refl, sym, ap, ◌∙◌, subst}
-use Rattle.am_repaired.proofs.Words.{arith, All, All-nil, All-append, All-weaker, slice_get-get_or, nat_tests, Entry, Image, Stamp, Rules, Packet, Letter}
-use Rattle.am_repaired.proofs.Words.{Event, item_at, key, key_by, Group, Node, view, acts, is_member, is_sequencer, has_log, Step, World, is_stopped}
+use Rattle.am_repaired.proofs.Words.{item_get, ◌≡◌, ⊎_elim, ℕ, zero, suc, ◌<◌, ◌≤◌, ◌==◌, max, true, false, List, [], ◌++◌, Some, slice_get, refl, sym, ap}
+use Rattle.am_repaired.proofs.Words.{◌∙◌, subst, arith, All, All-nil, All-append, All-weaker, slice_get-get_or, nat_tests, Entry, Image, Stamp, Rules, Packet}
+use Rattle.am_repaired.proofs.Words.{Letter, Event, item_at, key, key_by, Group, Node, view, acts, is_member, is_sequencer, has_log, Step, World, is_stopped}
 use Rattle.am_repaired.proofs.Words.{with_step, run, heard_by, and_both, Cause, LetterSays, WasSentTo, IsCause, steps, all_get, logged, heard_names}
 use Rattle.am_repaired.proofs.Words.{HeardNames, HeardUsed, Along, AllOwned, run_owned, each_owned, each_along, heard_used, PacketSays, PieceSays, of_line}
 use Rattle.am_repaired.proofs.Words.{of_shown, over, OneStep, parts, plain}
@@ -36,13 +36,6 @@ pub record Trims (w : World) (s : Group) : Type 0 where
   pub welcomes : (k : ℕ) (l : Letter) (from : ℕ) (u : Stamp) (base join : ℕ) (image : Image) → slice_get w.letters k ≡ Some l
       → l.packet ≡ packet.Welcome from u base join image → s.views.decided (key u) ≡ true
   pub settles : (q : ℕ) → q < 256 → is_sequencer (w.nodes q) ≡ true → is_stopped w q ≡ false → Settles w q
-
-pub item_get : {A : Type 0} (list : List A) (number : ℕ) (x : A) → item_at list number ≡ Some x → (k : ℕ) × (slice_get list k ≡ Some x)
-item_get list zero x at = absurd (cc)
-item_get list (suc k) x at = (k, at)
-
-pub equal : (a b : ℕ) → (a == b) ≡ true → a ≡ b
-equal a b t = grind (arith, nat_tests)
 
 -- ---- a step
 

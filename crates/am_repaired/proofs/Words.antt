@@ -3,6 +3,7 @@ pub use Rattle.std.proofs.Common.{◌≡◌, ℕ, ◌==◌, ◌&&◌, ◌||◌, 
 pub use Rattle.std.proofs.Common.{◌⊎◌, inl, inr, ⊎_elim, ◌≤◌, ◌<◌, max, List, [], ◌≢◌, zero, suc, ◌+◌, ◌∷◌, ◌++◌, length, slice_index, All, slice_get, take}
 pub use Rattle.std.proofs.Common.{None, ◌-◌, drop, length-append, append_assoc}
 pub use Rattle.std.proofs.Math.Seq.{take-append-add}
+pub use Rattle.std.proofs.lemmas.Bool.{not-true, eqb-true}
 pub use Rattle.std.proofs.lemmas.Bool.Decides.{nat_tests}
 pub use Rattle.std.proofs.lemmas.List.{take-append-drop, length-take, take_all}
 pub use Rattle.std.proofs.lemmas.List.Elements.{All-nil, All-cons, All-append, All-weaker}
@@ -67,6 +68,7 @@ pub use Rattle.am_chain_moves.specs.Moves.{stops}
 pub use Rattle.am_chain_moves.specs.Runs.{Run, founded, more, first_stamp}
 pub use Rattle.am_chain_moves.proofs.Puts.{put_same, put_at}
 pub use Rattle.am_chain.proofs.Runs.{run_keeps}
+pub use Rattle.am_effects.proofs.Hearing.{other_heard}
 pub use Rattle.am_effects.specs.Events.{actor, WasSentTo, IsCause, steps}
 pub use Rattle.am_effects.specs.Causes.{Cause, hears, calls, refuses}
 pub use Rattle.am_effects.specs.Changes.{Changes, unchanged, changed, Numbers, asked_send, own_send, asked_join, asked_leave, Fetches, without_ballot}
@@ -74,29 +76,30 @@ pub use Rattle.am_effects.specs.Changes.{for_ballot, Change, refreshes, settles,
 pub use Rattle.am_effects.specs.Changes.{departs, promises, opens, looks, fetches, stores_view, queues, collects, takes, asks_to_join, asks_to_leave, closes}
 pub use Rattle.am_effects.proofs.Rests.{rests_refresh, rests_closed, settle_is, rests_at_end}
 pub use Rattle.am_effects.proofs.Statuses.{logged, asking_log}
+pub use Rattle.am_effects.proofs.Resets.{stamp_itself, same_stamp}
 pub use Rattle.am_effects.specs.Looks.{Looks, finds_itself_out, waits, fetches_from_best, finds_too_few, finds_no_room, decides}
-pub use Rattle.am_effects.proofs.Tests.{not_true}
 pub use Rattle.am_effects.proofs.Says.{view_pushed}
 pub use Rattle.am_effects.proofs.Items.{all_get}
 pub use Rattle.am_effects.specs.Letters.{Says, welcome, piece, result, LetterSays}
+pub use Rattle.am_effects.proofs.Tests.{is_itself}
 pub use Rattle.am_effects.specs.Courses.{IsPlain, Course, nothing_yet, used_report, and_then, Deeds, plainly, looked, Ending, at_end, let_go, closing}
 pub use Rattle.am_effects.specs.Effects.{Effect}
 pub use Rattle.am_effects.proofs.Receiving.{asking}
 pub use Rattle.am_laws.proofs.ViewNames.{HeardNames, HasNames}
-pub use Rattle.am_laws.proofs.Taken.{HeardUsed}
+pub use Rattle.am_laws.proofs.Taken.{HeardUsed, stamp_by, other_asks}
 pub use Rattle.am_laws.proofs.TakenRuns.{Along, along_changes, taken_holds, AllOwned, run_owned, each_owned, each_along, heard_used}
+pub use Rattle.am_laws.proofs.ViewChanges.{numbers_plain, Balloted, next_above, looked_at, change_does}
 pub use Rattle.am_laws.proofs.Blank.{Blanked}
-pub use Rattle.am_laws.proofs.Stamps.{same_stamp, not_above_itself, not_above, equal_stamps, at_most, at_most_below, below}
-pub use Rattle.am_laws.proofs.Views.{same_is_equal, IsNoted, heard_names}
+pub use Rattle.am_laws.proofs.Stamps.{not_above_itself, not_above, equal_stamps, at_most, at_most_below, below}
 pub use Rattle.am_laws.proofs.ViewSteps.{SameView, Stood, view_last, after_view}
-pub use Rattle.am_laws.proofs.ViewChanges.{Balloted, next_above, looked_at, change_does}
 pub use Rattle.am_laws.proofs.Named.{names_hold}
 pub use Rattle.am_laws.proofs.RunCounts.{numbers_hold}
+pub use Rattle.am_laws.proofs.Views.{IsNoted, heard_names}
 pub use Rattle.am_watched.proofs.Lists.{lists_go_on}
 pub use Rattle.am_stands.specs.Standing.{NameStands}
 pub use Rattle.am_stands.specs.Moving.{NamesNamed, Moves}
 pub use Rattle.am_stands.specs.Running.{Following}
-pub use Rattle.am_stands.proofs.Changes.{told_all, long_all}
+pub use Rattle.am_stands.proofs.Changes.{told_all, long_all, member_stays}
 pub use Rattle.am_stands.proofs.ChainNames.{counts_names}
 pub use Rattle.am_stands.proofs.Counting.{name_small}
 pub use Rattle.am_stands.proofs.Onward.{group_kept}
@@ -104,6 +107,7 @@ pub use Rattle.am_stands.proofs.Parts.{stood, counted_whole}
 pub use Rattle.am_stands.specs.Letters.{PacketSays, WelcomeTo, has_begun, has_gone, has_left, is_leaving, may_begin, PieceSays, of_line, of_shown, over}
 pub use Rattle.am_stands.proofs.Entries.{key_stamp}
 pub use Rattle.am_stands.proofs.Sent.{leading, Leading}
+pub use Rattle.am_stands.proofs.LeftOut.{last_is}
 pub use Rattle.am_stands.proofs.Growing.{moves_grow}
 pub use Rattle.am_stands.proofs.Joins.{Becomes, stayed, joins, founds, became}
 pub use Rattle.am_stands.proofs.Silent.{departed_silent}
@@ -112,12 +116,13 @@ pub use Rattle.am_stands.specs.Keeping.{GroupOk}
 pub use Rattle.am_stands.proofs.Ends.{taken_more}
 pub use Rattle.am_steps.proofs.Steps.{steps_move}
 pub use Rattle.am_steps.proofs.Any.{GoesSo, run_goes}
-pub use Rattle.am_steps.proofs.Statuses.{member_here, departed_is}
+pub use Rattle.am_steps.proofs.Starting.{item_get}
 pub use Rattle.am_steps.proofs.Silent.{departed_quiet}
+pub use Rattle.am_steps.proofs.Statuses.{departed_is}
 pub use Rattle.am_steps.proofs.Departed.{rests_step, rests_course}
 pub use Rattle.am_headline.proofs.Ways.{Kind, kind_of}
 pub use Rattle.am_headline.proofs.Begun.{held}
-pub use Rattle.am_headline.proofs.OneStep.{parts, plain, itself, OneStep}
+pub use Rattle.am_headline.proofs.OneStep.{parts, plain, OneStep}
 pub use Rattle.am_headline.proofs.Fold.{KeptBy, Quiet}
 pub use Rattle.am_headline.proofs.Shapes.{ListGoes, same, up, gone, list_moves}
 pub use Rattle.am_repair.proofs.Reported.{end_same, Rises, rises_change, CauseTaken, told_so, refresh_same}

@@ -1,10 +1,10 @@
 -- What a sequencer accepts is held by enough names.
-use Rattle.am_stands.proofs.Words.{◌≡◌, ℕ, ◌+◌, ◌-◌, ◌<◌, ◌≤◌, ◌==◌, ◌&&◌, nat_le, Bool, true, false, List, [], length, take, refl, sym, ap, ◌∙◌, subst}
-use Rattle.am_stands.proofs.Words.{arith, count_by, nat_tests, Entry, Report, Image, has, names_of, Log, top_of, told_by, counted_at, need_at, holders_at}
-use Rattle.am_stands.proofs.Words.{is_held, is_satisfied, is_front, accept_front, accept, pass_over, all_at, after_report, own_report, tell, go_on, let_go}
-use Rattle.am_stands.proofs.Words.{greatest_low, greatest_there, Begins, image_of, begins_take, begins_trans, begins_both, begins_length, length_take}
-use Rattle.am_stands.proofs.Words.{how_many, counted_in, IsHeld, MayAccept, Node, lead, refresh, World, split, and_both, NameStands, Reporting, MayCount}
-use Rattle.am_stands.proofs.Words.{RefreshAccepts}
+use Rattle.am_stands.proofs.Words.{leb-true, ◌≡◌, ℕ, ◌+◌, ◌-◌, ◌<◌, ◌≤◌, ◌==◌, ◌&&◌, nat_le, Bool, true, false, List, [], length, take, refl, sym, ap, ◌∙◌}
+use Rattle.am_stands.proofs.Words.{subst, arith, count_by, nat_tests, Entry, Report, Image, has, names_of, Log, top_of, told_by, counted_at, need_at}
+use Rattle.am_stands.proofs.Words.{holders_at, is_held, is_satisfied, is_front, accept_front, accept, pass_over, all_at, after_report, own_report, tell}
+use Rattle.am_stands.proofs.Words.{go_on, let_go, greatest_low, greatest_there, Begins, image_of, begins_take, begins_trans, begins_both, begins_length}
+use Rattle.am_stands.proofs.Words.{length_take, how_many, counted_in, IsHeld, MayAccept, Node, lead, refresh, World, split, and_both, NameStands, Reporting}
+use Rattle.am_stands.proofs.Words.{MayCount, RefreshAccepts}
 use Rattle.am_chain_moves.specs.Group as groups
 use Rattle.am_model.specs.Node as nodes
 use Rattle.am_stands.proofs.{Changes.told_all, Changes.long_all, Counting.names_pass, Counting.name_small, Parts.counted_whole, Parts.need_whole}
@@ -22,9 +22,6 @@ reached node x list reports n h r may few some low above high counts up =
     let short = length_take n list low in
     let long = length_take (reports h).stored list within in
     begins_trans (begins_both (begins_take n list) (begins_take (reports h).stored list) (omega arith)) told_
-
-least : (a b : ℕ) → nat_le a b ≡ true → a ≤ b
-least a b t = grind (arith, nat_tests)
 
 logged : (a : groups.Node) (part : List Entry) → (a.has_log ≡ false → a.list ≡ []) → 0 < length part → Begins part a.list → a.has_log ≡ true
 logged a part blank some h = split a.has_log (λ t. t)
@@ -59,7 +56,7 @@ number_held v i n x a node reports stands may r blank above low high held =
       counts = counts;
       logs = λ h t. logged (node h) (take n a.list) (blank h) (omega arith) (stored h t);
       stored = stored;
-      enough = (let few : need_at log n ≤ count_by passes (names_of (counted_at log n)) = least (need_at log n) (holders_at reports log n) held in omega arith);
+      enough = (let few : need_at log n ≤ count_by passes (names_of (counted_at log n)) = leb-true (need_at log n) (holders_at reports log n) held in omega arith);
     }
 
 -- ---- up to the front
@@ -67,11 +64,11 @@ number_held v i n x a node reports stands may r blank above low high held =
 satisfied_at : (reports : ℕ → Report) (log : Log) (front n : ℕ) → n ≤ front → is_satisfied reports log front n ≡ true
     → (m : ℕ) × (n ≤ m) × (m ≤ front) × ((told_by log).view_number ≤ m) × (is_held reports log m ≡ true)
 satisfied_at reports log front n low h = split (nat_le (told_by log).view_number n)
-    (λ t. (n, omega arith, low, least (told_by log).view_number n t, rw t at h))
+    (λ t. (n, omega arith, low, leb-true (told_by log).view_number n t, rw t at h))
     (λ f.
     let both = and_both (nat_le (told_by log).view_number front) (is_held reports log (told_by log).view_number) (rw f at h) in
     let above : n ≤ (told_by log).view_number = grind (arith, nat_tests) in
-    ((told_by log).view_number, above, least (told_by log).view_number front both.0, omega arith, both.1))
+    ((told_by log).view_number, above, leb-true (told_by log).view_number front both.0, omega arith, both.1))
 
 front_held : (v : World) (i : ℕ) (x : Node) (a : groups.Node) (node : ℕ → groups.Node) (reports : ℕ → Report) → NameStands v i x a → MayCount x a.list
     → Reporting node a.list x.core.base reports → ((h : ℕ) → (node h).has_log ≡ false → (node h).list ≡ [])

@@ -1,12 +1,11 @@
 -- Who joins is one of the 256 names, and a View has a set of them: so members are sets of names.
-use Rattle.am_stands.proofs.Words.{◌≡◌, ◌≢◌, ⊎_elim, ℕ, ◌+◌, ◌-◌, ◌<◌, ◌≤◌, ◌==◌, ◌&&◌, not, nat_lt, Bool, true, false, List, [], ◌∷◌, ◌++◌, length, take}
-use Rattle.am_stands.proofs.Words.{Option, Some, None, slice_get, slice_index, refl, sym, ap, ◌∙◌, subst, arith, All, nat_tests, length-map, get_or-replicate}
-use Rattle.am_stands.proofs.Words.{All-head, All-tail, All-nil, All-cons, All-append, All-take, Entry, Data, Join, Leave, View, Row, Image, IsSet, place_of}
-use Rattle.am_stands.proofs.Words.{life_of, has, blank_row, blank, is_blank, at_place, member_life, members_of, with_row, row_after_view, after, fold, top_of}
-use Rattle.am_stands.proofs.Words.{counted_of, unions_most, member_at, Begins, image_of, key, row_at, row_set, row_view, long_after, mod16, long_told}
-use Rattle.am_stands.proofs.Words.{opening, chain_of, choice_of, longer, put_same, all_get, Node, concerned_names, World, NamesNamed, NameStands, CountsNames}
-use Rattle.am_stands.proofs.Words.{RowsLive, MovesNamed}
-use Rattle.am_chain_lists.proofs.Rows.{by_cases}
+use Rattle.am_stands.proofs.Words.{split, ◌≡◌, ◌≢◌, ⊎_elim, ℕ, ◌+◌, ◌-◌, ◌<◌, ◌≤◌, ◌==◌, ◌&&◌, not, nat_lt, Bool, true, false, List, [], ◌∷◌, ◌++◌, length}
+use Rattle.am_stands.proofs.Words.{take, Option, Some, None, slice_get, slice_index, refl, sym, ap, ◌∙◌, subst, arith, All, nat_tests, length-map}
+use Rattle.am_stands.proofs.Words.{get_or-replicate, All-head, All-tail, All-nil, All-cons, All-append, All-take, Entry, Data, Join, Leave, View, Row, Image}
+use Rattle.am_stands.proofs.Words.{IsSet, place_of, life_of, has, blank_row, blank, is_blank, at_place, member_life, members_of, with_row, row_after_view}
+use Rattle.am_stands.proofs.Words.{after, fold, top_of, counted_of, unions_most, member_at, Begins, image_of, key, row_at, row_set, row_view, long_after}
+use Rattle.am_stands.proofs.Words.{mod16, long_told, opening, chain_of, choice_of, longer, put_same, all_get, Node, concerned_names, World, NamesNamed}
+use Rattle.am_stands.proofs.Words.{NameStands, CountsNames, RowsLive, MovesNamed}
 use Rattle.am_chain_moves.specs.Group as groups
 use Rattle.am_chain_moves.specs.Moves as group
 use Rattle.am_model.specs.Node as nodes
@@ -53,22 +52,22 @@ put_named image who r long new h place low = ⊎_elim
     (row_set image who place r long)
 
 viewed_named : (first : Bool) (n given : ℕ) (r : Row) → given ≤ 16 → RowNamed r → RowNamed (row_after_view first n given r)
-viewed_named true n given r low h = by_cases (given == 0)
+viewed_named true n given r low h = split (given == 0)
     (λ t. rw t h)
     (λ f. rw f (record { life = low; lives = λ z. absurd (grind (arith, nat_tests)) }))
-viewed_named false n given r low h = by_cases (nat_lt 0 (member_life r) && not (member_life r == given))
+viewed_named false n given r low h = split (nat_lt 0 (member_life r) && not (member_life r == given))
     (λ t. rw t (record { life = h.life; lives = h.lives }))
     (λ f. rw f h)
 
 after_named : (image : Image) (n : ℕ) (e : Entry) → length image.rows ≡ 16 → NamesNamed e → RowsNamed image → RowsNamed (after image n e)
 unfolding after
-after_named image n (Data from req body) long e h = by_cases ((at_place image from).life == life_of from)
+after_named image n (Data from req body) long e h = split ((at_place image from).life == life_of from)
     (λ t. rw t (put_named image from (record (at_place image from) { last = req }) long
     (let o = h (place_of from) (mod16 from) in record { life = o.life; lives = o.lives }) h))
     (λ f. rw f h)
 after_named image n (Join name) long e h = put_named image name (record { life = life_of name; joined = n; left = 0; last = 0 }) long
     (record { life = omega arith; lives = λ z. absurd (omega arith) }) h
-after_named image n (Leave name) long e h = by_cases ((at_place image name).life == life_of name)
+after_named image n (Leave name) long e h = split ((at_place image name).life == life_of name)
     (λ t. rw t (put_named image name (record (at_place image name) { left = n }) long
     (let o = h (place_of name) (mod16 name) in record { life = o.life; lives = o.lives }) h))
     (λ f. rw f h)
@@ -88,7 +87,7 @@ rows_named list k = fold_named blank 1 list refl k
     (λ place low. subst RowNamed (sym (get_or-replicate 16 place blank_row blank_row low)) (record { life = omega arith; lives = λ z. refl }))
 
 member_named : (r : Row) → RowNamed r → member_life r ≤ 16
-member_named r h = by_cases (nat_lt 0 r.joined && (r.left == 0)) (λ t. rw t h.life) (λ f. rw f (omega arith))
+member_named r h = split (nat_lt 0 r.joined && (r.left == 0)) (λ t. rw t h.life) (λ f. rw f (omega arith))
 
 pub members_named : (list : List Entry) → All NamesNamed list → IsSet (members_of (image_of list))
 members_named list k =

@@ -1,9 +1,9 @@
 -- The changes of a node that make no list longer, as moves of the group.
-use Rattle.am_stands.proofs.Words.{◌≡◌, ◌≢◌, ℕ, ◌+◌, ◌<◌, ◌≤◌, ◌==◌, ◌||◌, not, Bool, true, false, List, ◌++◌, length, take, Option, Some, None, refl, sym}
-use Rattle.am_stands.proofs.Words.{ap, ◌∙◌, subst, arith, nat_tests, length-append, length-take, Stamp, Entry, Image, stamp_lt, has, Log, blank, members_of}
-use Rattle.am_stands.proofs.Words.{fold, image_of, mem, key, key_lt, Group, IsThere, IsUp, Move, IsAbove, MayDepart, with_node, own_stamp, put_same, Status}
-use Rattle.am_stands.proofs.Words.{Node, Ballot, members, is_member, is_asking, has_log, has_departed, is_unfinished, refresh, Verdict, overtake}
-use Rattle.am_stands.proofs.Words.{with_promise, next_stamp, hears_member, World, is_stopped, fold_append, split, and_both, Cause, hears, Balloting}
+use Rattle.am_stands.proofs.Words.{is_itself, ◌≡◌, ◌≢◌, ℕ, ◌+◌, ◌<◌, ◌≤◌, ◌==◌, ◌||◌, not, Bool, true, false, List, ◌++◌, length, take, Option, Some, None}
+use Rattle.am_stands.proofs.Words.{refl, sym, ap, ◌∙◌, subst, arith, nat_tests, length-append, length-take, Stamp, Entry, Image, stamp_lt, has, Log, blank}
+use Rattle.am_stands.proofs.Words.{members_of, fold, image_of, mem, key, key_lt, Group, IsThere, IsUp, Move, IsAbove, MayDepart, with_node, own_stamp}
+use Rattle.am_stands.proofs.Words.{put_same, Status, Node, Ballot, members, is_member, is_asking, has_log, has_departed, is_unfinished, refresh, Verdict}
+use Rattle.am_stands.proofs.Words.{overtake, with_promise, next_stamp, hears_member, World, is_stopped, fold_append, split, and_both, Cause, hears, Balloting}
 use Rattle.am_stands.proofs.Words.{with_more, without_one, as_it_is, Looks, finds_itself_out, waits, fetches_from_best, finds_too_few, finds_no_room, decides}
 use Rattle.am_stands.proofs.Words.{Promises, invited, overtaken_by, told_result, rests_refresh, logged, equal_stamps, NameStands, FrontsStand, StandsBut}
 use Rattle.am_stands.proofs.Words.{within, GoneSays, has_stopped, may_go, MoveOk, MayMove}
@@ -111,9 +111,6 @@ name_as w name x y a stamp open_ log status leaving start_ promise ballot k = re
   start = λ t. k.start (ap has_log (sym status) ∙ t) ∙ sym start_;
 }
 
-is_itself : (name : ℕ) → (name == name) ≡ true
-is_itself name = grind (arith, nat_tests)
-
 -- what stands for the name itself
 pub own_name : (w : World) (name : ℕ) (x : Node) (s : Group) → name < 256 → StandsBut name (within w name x) s
     → NameStands (within w name x) name x (s.node name)
@@ -124,7 +121,7 @@ pub is_there : (w : World) (name : ℕ) (x : Node) (a : groups.Node) → is_stop
     → NameStands (within w name x) name x a → IsThere a
 is_there w name x a runs stays h = record { goes = h.stopped ∙ runs; stays = h.departed ∙ stays }
 
-member_stays : (t : Status) → is_member t ≡ true → has_departed t ≡ false
+pub member_stays : (t : Status) → is_member t ≡ true → has_departed t ≡ false
 member_stays status.Stranger h = refl
 member_stays status.Asking h = refl
 member_stays status.Member h = refl
@@ -260,10 +257,6 @@ looked_open c x b (without_one old name is o other) = ap is_unfinished o.last �
 looked_open c x b (as_it_is old o on) = ap is_unfinished o.last ∙ ap not o.open_
 
 -- ---- leaving
-
-pub or_last : (a b : Bool) → (a || b) ≡ false → b ≡ false
-or_last true b h = absurd (cc)
-or_last false b h = h
 
 pub ask_stands : (w : World) (name : ℕ) (c : Cause) (x : Node) (s : Group) → MayMove w name c x s → x.status ≡ status.Member
     → is_unfinished x.ballot ≡ false → StandsBut name (within w name x) s → Onto name (within w name (record x { leaving = true })) s

@@ -1,15 +1,12 @@
 -- The last member numbers its own Leave, accepts what it may, and goes: one move, which ends its step.
-use Rattle.am_stands.proofs.Words.{◌≡◌, ◌≢◌, ℕ, ◌<◌, ◌≤◌, ◌==◌, true, false, [], ◌∷◌, ◌++◌, length, take, Some, slice_get, refl, sym, ap, ◌∙◌, subst, arith}
-use Rattle.am_stands.proofs.Words.{nat_tests, Stamp, Leave, Log, Event, image_of, Group, put, Move, with_line, longer, Node, push_entry, set_at, has_departed}
-use Rattle.am_stands.proofs.Words.{Step, is_unfinished, Decided, World, group_after, with_step, up_to_next, line_of, split, rests_at_end, NameStands}
-use Rattle.am_stands.proofs.Words.{FrontsStand, StandsBut, Stands, within, NeedsClose, after_closing, CloseStands, MoveOk}
+use Rattle.am_stands.proofs.Words.{is_itself, ◌≡◌, ◌≢◌, ℕ, ◌<◌, ◌≤◌, ◌==◌, true, false, [], ◌∷◌, ◌++◌, length, take, Some, slice_get, refl, sym, ap, ◌∙◌}
+use Rattle.am_stands.proofs.Words.{subst, arith, nat_tests, Stamp, Leave, Log, Event, image_of, Group, put, Move, with_line, longer, Node, push_entry, set_at}
+use Rattle.am_stands.proofs.Words.{has_departed, Step, is_unfinished, Decided, World, group_after, with_step, up_to_next, line_of, split, rests_at_end}
+use Rattle.am_stands.proofs.Words.{NameStands, FrontsStand, StandsBut, Stands, within, NeedsClose, after_closing, CloseStands, MoveOk}
 use Rattle.am_chain_moves.specs.Group as groups
 use Rattle.am_chain_moves.specs.Moves as group
 use Rattle.am_stands.proofs.{Names.one_move, Names.views_noted, Changes.own_name, Changes.is_up, Entries.is_leading, Entries.numbered_stands, Ends.taken_more}
 use Rattle.am_stands.proofs.{Ends.name_grows}
-
-is_itself : (name : ℕ) → (name == name) ≡ true
-is_itself name = grind (arith, nat_tests)
 
 -- what stands for who has gone so
 gone_name : (w : World) (name : ℕ) (x : Node) (b : groups.Node) → b.has_log ≡ true

@@ -1,9 +1,9 @@
 -- At the end of a step the group accepts what its sequencer does, and the name learns how far that is.
-use Rattle.am_stands.proofs.Words.{◌≡◌, ◌≢◌, ℕ, zero, suc, ◌<◌, ◌≤◌, ◌==◌, max, true, false, if◌then◌else◌, List, [], ◌∷◌, ◌++◌, length, take, Some}
-use Rattle.am_stands.proofs.Words.{slice_get, refl, sym, ap, ◌∙◌, subst, arith, nat_tests, Entry, Stamp, Event, Begins, image_of, begins_length, Group, put}
-use Rattle.am_stands.proofs.Words.{with_node, Node, set_at, has_departed, Step, Decided, World, is_stopped, group_after, views_after, with_step, up_to_next}
-use Rattle.am_stands.proofs.Words.{line_of, split, NameStands, FrontsStand, ViewsStand, Stands, Moves, none, moves, Leads, Accepts, no_more, rises, Learns}
-use Rattle.am_stands.proofs.Words.{departed, bare, before_end, EndsStand}
+use Rattle.am_stands.proofs.Words.{is_itself, ◌≡◌, ◌≢◌, ℕ, zero, suc, ◌<◌, ◌≤◌, ◌==◌, max, true, false, if◌then◌else◌, List, [], ◌∷◌, ◌++◌, length, take}
+use Rattle.am_stands.proofs.Words.{Some, slice_get, refl, sym, ap, ◌∙◌, subst, arith, nat_tests, Entry, Stamp, Event, Begins, image_of, begins_length, Group}
+use Rattle.am_stands.proofs.Words.{put, with_node, Node, set_at, has_departed, Step, Decided, World, is_stopped, group_after, views_after, with_step}
+use Rattle.am_stands.proofs.Words.{up_to_next, line_of, split, NameStands, FrontsStand, ViewsStand, Stands, Moves, none, moves, Leads, Accepts, no_more}
+use Rattle.am_stands.proofs.Words.{rises, Learns, departed, bare, before_end, EndsStand}
 use Rattle.am_stands.specs.Ends.{learns}
 use Rattle.am_chain_moves.specs.Group as groups
 use Rattle.am_chain_moves.specs.Moves as group
@@ -78,9 +78,6 @@ then_moves none m = m
 then_moves (moves x ok xs) m = moves x ok (then_moves xs m)
 
 -- ---- what is learned
-
-is_itself : (name : ℕ) → (name == name) ≡ true
-is_itself name = grind (arith, nat_tests)
 
 -- all stands, but for the name's own fronts
 record Ended (w : World) (e : Event) (name : ℕ) (step : Step) (s : Group) : Type 0 where

@@ -1,11 +1,11 @@
 -- The changes of a node that make its list longer, or let it begin, as moves of the group.
-use Rattle.am_stands.proofs.Words.{◌≡◌, ◌≢◌, ℕ, ◌<◌, ◌≤◌, ◌==◌, true, false, List, [], ◌∷◌, ◌++◌, length, take, Some, slice_get, refl, sym, ap, ◌∙◌, subst}
-use Rattle.am_stands.proofs.Words.{arith, nat_tests, append_assoc, Stamp, Image, Entry, View, rank_of, stamp_eq, Log, fits, Begins, image_of, view_of, key}
-use Rattle.am_stands.proofs.Words.{key_by, begins_trans, begins_more, Group, Views, put, opening, Move, with_node, with_line, longer, put_same, Node, view}
-use Rattle.am_stands.proofs.Words.{is_member, acts, is_sequencer, push_entry, has_log, has_departed, is_unfinished, is_view, Decided, World, is_stopped}
-use Rattle.am_stands.proofs.Words.{whole, up_to_next, line_of, split, and_both, begin_list, Cause, Numbers, asked_send, own_send, asked_join, asked_leave}
-use Rattle.am_stands.proofs.Words.{same_stamp, NameStands, NotedStands, ViewsStand, StandsBut, within, MoveOk, Leads, MayMove, NeedsNumber, IsOthers}
-use Rattle.am_stands.proofs.Words.{NeedsEntry, NeedsPiece, NeedsWelcome, FrontsBegin}
+use Rattle.am_stands.proofs.Words.{numbers_plain, same_stamp, ◌≡◌, ◌≢◌, ℕ, ◌<◌, ◌≤◌, ◌==◌, true, false, List, [], ◌∷◌, ◌++◌, length, take, Some, slice_get}
+use Rattle.am_stands.proofs.Words.{refl, sym, ap, ◌∙◌, subst, arith, nat_tests, append_assoc, Stamp, Image, Entry, View, rank_of, stamp_eq, Log, fits, Begins}
+use Rattle.am_stands.proofs.Words.{image_of, view_of, key, key_by, begins_trans, begins_more, Group, Views, put, opening, Move, with_node, with_line, longer}
+use Rattle.am_stands.proofs.Words.{put_same, Node, view, is_member, acts, is_sequencer, push_entry, has_log, has_departed, is_unfinished, is_view, Decided}
+use Rattle.am_stands.proofs.Words.{World, is_stopped, whole, up_to_next, line_of, split, and_both, begin_list, Cause, Numbers, asked_send, own_send}
+use Rattle.am_stands.proofs.Words.{asked_join, asked_leave, NameStands, NotedStands, ViewsStand, StandsBut, within, MoveOk, Leads, MayMove, NeedsNumber}
+use Rattle.am_stands.proofs.Words.{IsOthers, NeedsEntry, NeedsPiece, NeedsWelcome, FrontsBegin}
 use Rattle.std.proofs.lemmas.List.{append-nil}
 use Rattle.am_stands.specs.Steps.{of_line, of_shown}
 use Rattle.am_chain_moves.specs.Group as groups
@@ -117,12 +117,6 @@ piece_stands w name x y e s few runs member l (of_shown open_ needs) h =
     (old.ballot ∙ open_) needs.served needs.shown needs.next) tt h
 
 -- ---- a sequencer's own entry
-
-pub numbers_plain : (c : Cause) (m : Node) (e : Entry) → Numbers c m e → is_view e ≡ false
-numbers_plain c m e (asked_send s v report req body by known stays next) = refl
-numbers_plain c m e (own_send s is last) = refl
-numbers_plain c m e (asked_join s v is other fit) = refl
-numbers_plain c m e (asked_leave s v report is other known stays) = refl
 
 -- equal keys are of equal stamps
 pub key_stamp : (a b : Stamp) → a.by < 256 → b.by < 256 → key a ≡ key b → a ≡ b

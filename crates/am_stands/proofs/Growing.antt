@@ -1,9 +1,9 @@
 -- With each move a group goes on as letters need it.
-use Rattle.am_stands.proofs.Words.{◌≡◌, inl, inr, ⊎_elim, ℕ, ◌==◌, List, [], ◌∷◌, ◌++◌, length, take, true, false, Some, refl, sym, ap, ◌∙◌, subst, arith}
-use Rattle.am_stands.proofs.Words.{nat_tests, Entry, Leave, Begins, view_of, key, begins_refl, begins_nil, begins_more, begins_trans, begins_both}
+use Rattle.am_stands.proofs.Words.{split, ◌≡◌, inl, inr, ⊎_elim, ℕ, ◌==◌, List, [], ◌∷◌, ◌++◌, length, take, true, false, Some, refl, sym, ap, ◌∙◌, subst}
+use Rattle.am_stands.proofs.Words.{arith, nat_tests, Entry, Leave, Begins, view_of, key, begins_refl, begins_nil, begins_more, begins_trans, begins_both}
 use Rattle.am_stands.proofs.Words.{begins_take, length_take, Group, Views, put, put2, chain_of, opening, MayAccept, with_node, with_line, with_choice}
 use Rattle.am_stands.proofs.Words.{choice_of, longer, numbers, stores, accepts, learns, begins, raises, shows, serves, fetches, gives_over, welcomes, asks}
-use Rattle.am_stands.proofs.Words.{departs, closes, stops, Kept, own_above, by_cases, put_at, put2_cases, NameGrows, NewView, Grows, MovesGrow}
+use Rattle.am_stands.proofs.Words.{departs, closes, stops, Kept, own_above, put_at, put2_cases, NameGrows, NewView, Grows, MovesGrow}
 use Rattle.am_chain_moves.specs.Group.{Leads}
 use Rattle.am_chain_moves.specs.Moves.{decides}
 use Rattle.am_chain_moves.specs.Group as groups
@@ -82,7 +82,7 @@ decision_grows s i members resilience fresh new = record {
   group = begins_refl s.group;
   lines = λ x d. (let f = other x d in rw f (begins_refl (s.views.line x)));
   decided = λ x d. (let f = other x d in (rw f d, rw f refl));
-  new = λ x d. by_cases (x == key (s.node i).promise)
+  new = λ x d. split (x == key (s.node i).promise)
       (λ t. inr (let same : x ≡ key (s.node i).promise = grind (arith, nat_tests) in subst (NewView s (with_choice s i members resilience)) (sym same) new))
       (λ f. inl (rw f at d));
   shown = λ x j list is. is;
@@ -90,7 +90,7 @@ decision_grows s i members resilience fresh new = record {
 }
   where
     other : (x : ℕ) → s.views.decided x ≡ true → (x == key (s.node i).promise) ≡ false
-    other x d = by_cases (x == key (s.node i).promise)
+    other x d = split (x == key (s.node i).promise)
         (λ t. absurd (let same : x ≡ key (s.node i).promise = grind (arith, nat_tests) in let z = ap s.views.decided same in cc))
         (λ f. f)
 

@@ -1,11 +1,11 @@
 -- What a node keeps besides what it shares with the group, and what is known of it within a step.
-use Rattle.am_stands.proofs.Words.{◌≡◌, ℕ, ◌<◌, ◌==◌, ◌||◌, not, max, true, false, List, Some, refl, sym, ap, ◌∙◌, subst, arith, nat_tests, Entry, View}
-use Rattle.am_stands.proofs.Words.{Image, Vote, Stamp, Outcome, Rules, IsSet, has, stamp_eq, members_of, IsGood, mem, key, good_begins, view_small, Group}
-use Rattle.am_stands.proofs.Words.{IsUp, chain_of, Kept, Status, Node, Ballot, view, members, is_member, is_asking, is_sequencer, acts, lowest_or_first}
-use Rattle.am_stands.proofs.Words.{has_log, has_departed, Verdict, is_unfinished, hears_member, hears_sequencer, World, is_stopped, split, and_both, Cause}
-use Rattle.am_stands.proofs.Words.{hears, Balloting, Looks, decides, with_more, without_one, as_it_is, Numbers, MayStore, MayBeWelcomed, Fetches, Promises}
-use Rattle.am_stands.proofs.Words.{invited, overtaken, told_result, Carries, whole_entry, by_number, Change, begins_list, looks, stores_view, not_true}
-use Rattle.am_stands.proofs.Words.{same_stamp, looked_vote, told_used, OpenBallot, looked_at, MaySend, body_of_sent, NameStands, within, WasAsked}
+use Rattle.am_stands.proofs.Words.{not-true, same_stamp, ◌≡◌, ℕ, ◌<◌, ◌==◌, ◌||◌, not, max, true, false, List, Some, refl, sym, ap, ◌∙◌, subst, arith}
+use Rattle.am_stands.proofs.Words.{nat_tests, Entry, View, Image, Vote, Stamp, Outcome, Rules, IsSet, has, stamp_eq, members_of, IsGood, mem, key}
+use Rattle.am_stands.proofs.Words.{good_begins, view_small, Group, IsUp, chain_of, Kept, Status, Node, Ballot, view, members, is_member, is_asking}
+use Rattle.am_stands.proofs.Words.{is_sequencer, acts, lowest_or_first, has_log, has_departed, Verdict, is_unfinished, hears_member, hears_sequencer, World}
+use Rattle.am_stands.proofs.Words.{is_stopped, split, and_both, Cause, hears, Balloting, Looks, decides, with_more, without_one, as_it_is, Numbers, MayStore}
+use Rattle.am_stands.proofs.Words.{MayBeWelcomed, Fetches, Promises, invited, overtaken, told_result, Carries, whole_entry, by_number, Change, begins_list}
+use Rattle.am_stands.proofs.Words.{looks, stores_view, looked_vote, told_used, OpenBallot, looked_at, MaySend, body_of_sent, NameStands, within, WasAsked}
 use Rattle.am_stands.proofs.Words.{BodiesAsked, WasBegun, MayMove, NeedsNumber, NeedsEntry, NeedsWelcome, Needs, NeedsLook, NeedsPiece, KeptWhole}
 use Rattle.am_stands.proofs.Words.{BallotStands, LastStands, Stepping}
 use Rattle.am_effects.specs.Changes.{numbers, stores, fetches, closes}
@@ -182,7 +182,7 @@ module _ (rules : Rules) (w : World) (name : ℕ) (c : Cause) (x : Node) (s : Gr
   look_ok b v why _ = tt
 
   pub other_heard : (from : ℕ) → hears_member x from ≡ true → ((from == x.core.who) ≡ false) × (is_member x.status ≡ true)
-  other_heard from t = (let both = and_both (not (from == x.core.who)) (is_member x.status) t in (not_true (from == x.core.who) both.0, both.1))
+  other_heard from t = (let both = and_both (not (from == x.core.who)) (is_member x.status) t in (not-true (from == x.core.who) both.0, both.1))
 
   fetch_ok : (from : ℕ) (v : Stamp) (base number : ℕ) (e : Entry) → c ≡ hears (packet.Piece from v base number e) → hears_member x from ≡ true
       → stamp_eq v x.core.promise ≡ true → Fetches x from v e → MayStore x (max x.core.base base) base number e → NeedsPiece s name x e

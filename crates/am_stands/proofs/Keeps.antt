@@ -1,17 +1,17 @@
 -- What a node keeps, through each of its changes.
-use Rattle.am_stands.proofs.Words.{◌≡◌, ◌⊎◌, inl, inr, ⊎_elim, ℕ, ◌+◌, ◌≤◌, ◌==◌, ◌&&◌, ◌||◌, not, max, nat_lt, nat_le, if◌then◌else◌, Bool, true, false}
-use Rattle.am_stands.proofs.Words.{List, [], ◌∷◌, ◌++◌, length, take, Option, Some, None, unwrap_or, refl, sym, ap, ◌∙◌, subst, arith, append-nil, nat_tests}
-use Rattle.am_stands.proofs.Words.{append_assoc, Entry, View, Image, Report, Vote, Stamp, Outcome, Rules, names_of, stamp_lt, stamp_eq, fits, after, told_by}
-use Rattle.am_stands.proofs.Words.{Packet, least_of, after_report, Begins, IsGood, key, good_begins, Group, opening, Status, Node, Ballot, view, acts}
-use Rattle.am_stands.proofs.Words.{unsettled_count, is_member, is_asking, is_sequencer, push_entry, lowest_or_first, has_log, Verdict, need_of, left_in}
-use Rattle.am_stands.proofs.Words.{taken_by, is_unfinished, settle, World, is_stopped, has_departed, split, and_both, Cause, hears, BringsSend, by_request}
-use Rattle.am_stands.proofs.Words.{by_spread, BringsReport, with_send, by_ack, by_nack, by_leave_ask, BringsFronts, with_entry, with_number, alone, Balloting}
-use Rattle.am_stands.proofs.Words.{Looks, finds_itself_out, waits, fetches_from_best, finds_too_few, finds_no_room, decides, HasLearned, hears_member}
-use Rattle.am_stands.proofs.Words.{hears_in_view, hears_sequencer, MayReport, Change, refreshes, settles, takes_report, admits, keeps_body, notes}
-use Rattle.am_stands.proofs.Words.{begins_list, promises, opens, looks, stores_view, queues, collects, takes, asks_to_join, asks_to_leave, logged, settle_is}
-use Rattle.am_stands.proofs.Words.{told_pushed, same_stamp, Along, told_used, NameStands, within, Trimmed, VoteTells, AllShown, Grows, FetchesStand}
-use Rattle.am_stands.proofs.Words.{ReportsStand, ReportsFresh, OpensStand, IsNew, IsConcerned, Reporting, BallotStands, Ballots, GroupFor, HeardSo, IsPlain}
-use Rattle.am_stands.proofs.Words.{NodeKeeps, OwnTurn, Stepping}
+use Rattle.am_stands.proofs.Words.{none_of_asking, or_second, same_stamp, ◌≡◌, ◌⊎◌, inl, inr, ⊎_elim, ℕ, ◌+◌, ◌≤◌, ◌==◌, ◌&&◌, ◌||◌, not, max, nat_lt, nat_le}
+use Rattle.am_stands.proofs.Words.{if◌then◌else◌, Bool, true, false, List, [], ◌∷◌, ◌++◌, length, take, Option, Some, None, unwrap_or, refl, sym, ap, ◌∙◌}
+use Rattle.am_stands.proofs.Words.{subst, arith, append-nil, nat_tests, append_assoc, Entry, View, Image, Report, Vote, Stamp, Outcome, Rules, names_of}
+use Rattle.am_stands.proofs.Words.{stamp_lt, stamp_eq, fits, after, told_by, Packet, least_of, after_report, Begins, IsGood, key, good_begins, Group, opening}
+use Rattle.am_stands.proofs.Words.{Status, Node, Ballot, view, acts, unsettled_count, is_member, is_asking, is_sequencer, push_entry, lowest_or_first}
+use Rattle.am_stands.proofs.Words.{has_log, Verdict, need_of, left_in, taken_by, is_unfinished, settle, World, is_stopped, has_departed, split, and_both}
+use Rattle.am_stands.proofs.Words.{Cause, hears, BringsSend, by_request, by_spread, BringsReport, with_send, by_ack, by_nack, by_leave_ask, BringsFronts}
+use Rattle.am_stands.proofs.Words.{with_entry, with_number, alone, Balloting, Looks, finds_itself_out, waits, fetches_from_best, finds_too_few, finds_no_room}
+use Rattle.am_stands.proofs.Words.{decides, HasLearned, hears_member, hears_in_view, hears_sequencer, MayReport, Change, refreshes, settles, takes_report}
+use Rattle.am_stands.proofs.Words.{admits, keeps_body, notes, begins_list, promises, opens, looks, stores_view, queues, collects, takes, asks_to_join}
+use Rattle.am_stands.proofs.Words.{asks_to_leave, logged, settle_is, told_pushed, Along, told_used, NameStands, within, Trimmed, VoteTells, AllShown, Grows}
+use Rattle.am_stands.proofs.Words.{FetchesStand, ReportsStand, ReportsFresh, OpensStand, IsNew, IsConcerned, Reporting, BallotStands, Ballots, GroupFor}
+use Rattle.am_stands.proofs.Words.{HeardSo, IsPlain, NodeKeeps, OwnTurn, Stepping}
 use Rattle.am_model.specs.Ballots.{overtake as overtaken_by}
 use Rattle.am_effects.specs.Changes.{numbers, stores, departs, fetches, closes}
 use Rattle.am_base.specs.declared.outcome.Outcome.TheVariants as said
@@ -22,9 +22,9 @@ use Rattle.am_stands.specs.Letters as says
 use Rattle.am_stands.proofs.Keeping.{kept, old, up, good, known, looked_last, unfinished, sequencer_member, number_ok, other_heard}
 use Rattle.am_stands.proofs.Reporting.{reporting_grow, reporting_base, reporting_anew, reporting_admit, reporting_more, reporting_pushed, fits_new}
 use Rattle.am_stands.proofs.Reporting.{new_before, known_old, report_true, leaver_true}
-use Rattle.am_stands.proofs.{Changes.or_last, Changes.long_all, Onward.group_kept, Entries.key_stamp, Letters.all_stay, Letters.trimmed_stays}
-use Rattle.am_stands.proofs.{Requests.turn_grows, Requests.turn_queued, Requests.turn_collected, Requests.turn_settled, Sent.Speaks, Sent.Leading}
-use Rattle.am_stands.proofs.{Sent.leading, Shown.votes_grow, Trimming.trimmed_max, Trimming.TakenKnown, Trimming.votes_trim, Votes.best_shown}
+use Rattle.am_stands.proofs.{Carried.hears_in_view_member, Changes.member_stays, Changes.long_all, Onward.group_kept, Entries.key_stamp, Letters.all_stay}
+use Rattle.am_stands.proofs.{Letters.trimmed_stays, Requests.turn_grows, Requests.turn_queued, Requests.turn_collected, Requests.turn_settled, Sent.Speaks}
+use Rattle.am_stands.proofs.{Sent.Leading, Sent.leading, Shown.votes_grow, Trimming.trimmed_max, Trimming.TakenKnown, Trimming.votes_trim, Votes.best_shown}
 
 -- ---- what stays, as the group goes on
 
@@ -88,12 +88,6 @@ module _ (rules : Rules) (w : World) (name : ℕ) (c : Cause) (x : Node) (s : Gr
   looked b v why (finds_no_room y) = ballots_over w s b _ (looked_last rules w name c x s h b why)
   looked b v why (decides may) = ballots_over w s b _ (looked_last rules w name c x s h b why)
 
-stays_member : (t : Status) → is_member t ≡ true → has_departed t ≡ false
-stays_member status.Stranger h = refl
-stays_member status.Asking h = refl
-stays_member status.Member h = refl
-stays_member status.Departed h = absurd (cc)
-
 -- ---- each part, at the group that the moves of a change lead to
 
 module _ (rules : Rules) (w v : World) (name : ℕ) (c : Cause) (x y : Node) (s t : Group) (h : Stepping rules w name c x s) (g : Grows s t)
@@ -122,7 +116,7 @@ module _ (rules : Rules) (w v : World) (name : ℕ) (c : Cause) (x y : Node) (s 
       good_begins ((k_.each name).list (record {
         log = new.log_
             ∙ logged y.status u;
-        there = record { goes = new.stopped ∙ runs; stays = new.departed ∙ stays_member y.status u };
+        there = record { goes = new.stopped ∙ runs; stays = new.departed ∙ member_stays y.status u };
       })) k_.views.good
 
   good_same : y.core.log ≡ x.core.log → IsGood (t.node name).list
@@ -366,11 +360,6 @@ keeps_look rules w v name c o x s t h g gt runs group_ b verdict why (decides ma
     (turn_same rules w v name c x y s t h g gt runs group_ new refl refl)
     (leaves_same rules w v name c x y s t h g gt runs group_ new refl refl)
 
-heard_member : (x : Node) (from : ℕ) (v : Stamp) → hears_sequencer x from v ≡ true → is_member x.status ≡ true
-heard_member x from v heard =
-    (and_both (not (from == x.core.who)) (is_member x.status)
-    (and_both (hears_member x from) (acts x && stamp_eq v (view x)) (and_both (hears_in_view x from v) (v.by == from) heard).0).0).1
-
 -- its own sends, where one is settled
 settled_turns : (rules : Rules) (w : World) (name : ℕ) (c : Cause) (x : Node) (s t : Group) (h : Stepping rules w name c x s) → Grows s t
     → OwnTurn x.core.who (t.node name).list (settle x).sends
@@ -378,12 +367,6 @@ settled_turns rules w name c x s t h g = turn_grows x.core.who (s.node name).lis
     (turn_settled (within w name x) name x (s.node name) (old rules w name c x s h) h.keeps.good h.keeps.turn)
 
 -- ---- each change, but for a refresh and the last member's end
-
-no_log_none : (t : Status) → is_member t ≡ false → (is_member t || is_asking t) ≡ true → has_log t ≡ false
-no_log_none status.Stranger f h = absurd (cc)
-no_log_none status.Asking f h = refl
-no_log_none status.Member f h = absurd (cc)
-no_log_none status.Departed f h = absurd (cc)
 
 pub keeps_next : (rules : Rules) (w v : World) (name : ℕ) (c : Cause) (o : Outcome) (x y : Node) (s t : Group) (z : Change c o x y) → IsPlain z
     → (h : Stepping rules w name c x s) (g : Grows s t) (gt : GroupFor rules t)
@@ -437,10 +420,10 @@ keeps_next rules w v name c o x y s t (notes from u base acc by heard) plain h g
     either true p q a d = a
     either false p q a d = d
 keeps_next rules w v name c o x y s t (stores from u base acc number e by heard plain_ may) plain h g gt runs group_ new later =
-    keep_pushed rules w v name c x y s t h g gt runs group_ new e (heard_member x from u heard) refl may.fits refl (omega arith) refl refl refl refl refl
+    keep_pushed rules w v name c x y s t h g gt runs group_ new e (hears_in_view_member x from u heard) refl may.fits refl (omega arith) refl refl refl refl refl
     (trimmed_same rules w v name c x y s t h g gt runs group_ new refl)
 keeps_next rules w v name c o x y s t (begins_list from u base join image is says_ may) plain h g gt runs group_ new later =
-    let none = no_log_none x.status may.no_member (and_both (not (from == x.core.who)) (is_member x.status || is_asking x.status) may.asks).1 in
+    let none = none_of_asking x.status may.no_member (and_both (not (from == x.core.who)) (is_member x.status || is_asking x.status) may.asks).1 in
     let trim = (h.heard (packet.Welcome from u base join image) is).says.0 in
     let nothing : (s.node name).list ≡ [] = ((kept rules w name c x s h).each name).blank ((old rules w name c x s h).log_ ∙ none) in
     let size = ap length nothing in
@@ -511,7 +494,7 @@ keeps_next rules w v name c o x y s t (asks_to_join is was) plain h g gt runs gr
 keeps_next rules w v name c o x y s t (asks_to_leave is was stays done) plain h g gt runs group_ new later =
     keep rules w v name c x y s t h g gt runs group_ new (good_same rules w v name c x y s t h g gt runs group_ new refl)
     (ballots_same rules w v name c x y s t h g gt runs group_ new refl)
-    (λ u_. absurd (let k = or_last (nat_lt 0 (unsettled_count x)) (is_unfinished x.ballot) done in cc))
+    (λ u_. absurd (let k = or_second (nat_lt 0 (unsettled_count x)) (is_unfinished x.ballot) done in cc))
     (reports_same rules w v name c x y s t h g gt runs group_ new refl refl (omega arith))
     (fresh_same rules w v name c x y s t h g gt runs group_ new refl refl (omega arith))
     (trimmed_same rules w v name c x y s t h g gt runs group_ new refl) (turn_same rules w v name c x y s t h g gt runs group_ new refl refl)

@@ -1,12 +1,12 @@
 -- The last member's own Leave is accepted as far as enough names hold it.
-use Rattle.am_stands.proofs.Words.{◌≡◌, ◌≢◌, ℕ, ◌+◌, ◌<◌, ◌≤◌, ◌==◌, ◌&&◌, not, max, nat_lt, Bool, true, false, List, [], ◌∷◌, ◌++◌, length, take, set}
+use Rattle.am_stands.proofs.Words.{split, ◌≡◌, ◌≢◌, ℕ, ◌+◌, ◌<◌, ◌≤◌, ◌==◌, ◌&&◌, not, max, nat_lt, Bool, true, false, List, [], ◌∷◌, ◌++◌, length, take, set}
 use Rattle.am_stands.proofs.Words.{get_or, slice_index, refl, sym, ap, ◌∙◌, subst, arith, nat_tests, length-append, length-map, get_or-set_other, Entry}
 use Rattle.am_stands.proofs.Words.{Leave, Stamp, place_of, life_of, has, size, stamp_eq, member_life, members_of, told_by, CoreState, Begins, image_of, mem}
 use Rattle.am_stands.proofs.Words.{begins_refl, begins_more, begins_trans, begins_length, begins_both, begins_take, length_take, mod16, good_push, long_told}
-use Rattle.am_stands.proofs.Words.{Group, put, MayAccept, longer, Kept, by_cases, put_same, put_at, Node, view, others, is_member, is_sequencer, push_entry}
-use Rattle.am_stands.proofs.Words.{refresh, refresh_at_end, Decided, World, group_with, group_after, views_after, some_size, rests_refresh, settle_is}
-use Rattle.am_stands.proofs.Words.{leads_rests, leads_pushed, view_pushed, leave_fits, NameStands, within, NeedsClose, after_closing, CountsNames, MayCount}
-use Rattle.am_stands.proofs.Words.{CountsAmong, ComesTo, ClosingAccepts}
+use Rattle.am_stands.proofs.Words.{Group, put, MayAccept, longer, Kept, put_same, put_at, Node, view, others, is_member, is_sequencer, push_entry, refresh}
+use Rattle.am_stands.proofs.Words.{refresh_at_end, Decided, World, group_with, group_after, views_after, some_size, rests_refresh, settle_is, leads_rests}
+use Rattle.am_stands.proofs.Words.{leads_pushed, view_pushed, leave_fits, NameStands, within, NeedsClose, after_closing, CountsNames, MayCount, CountsAmong}
+use Rattle.am_stands.proofs.Words.{ComesTo, ClosingAccepts}
 use Rattle.am_chain_moves.specs.Group as groups
 use Rattle.am_model.specs.Node as nodes
 use Rattle.am_stands.proofs.{Changes.same_name, Changes.told_all, Changes.is_up, Changes.unmoved_refresh, Concerned.reporting_push, Entries.name_longer}
@@ -20,7 +20,7 @@ left_alone names who j long mine its none =
     let place = mod16 j in
     let at : slice_index names (place_of j) ≡ life_of j = grind (arith, nat_tests) in
     let own : slice_index names (place_of who) ≡ life_of who = grind (arith, nat_tests) in
-    by_cases (place_of j == place_of who)
+    split (place_of j == place_of who)
     (λ t.
     let same : place_of j ≡ place_of who = grind (arith, nat_tests) in
     let life : life_of j ≡ life_of who = sym at ∙ ap (slice_index names) same ∙ own in

@@ -1,9 +1,9 @@
 -- As long as nobody stops, no move makes a run unlawful.
-use Rattle.am_stands.proofs.Words.{◌≡◌, inl, ℕ, ◌==◌, ◌&&◌, ◌||◌, not, nat_lt, List, Bool, true, false, length, refl, sym, ap, ◌∙◌, subst, arith, nat_tests}
-use Rattle.am_stands.proofs.Words.{has, Begins, key, Group, Chosen, put, count, how_many, opening, Move, MayDecide, with_choice, choice_of, longer, numbers}
-use Rattle.am_stands.proofs.Words.{stores, accepts, learns, begins, raises, shows, serves, fetches, gives_over, welcomes, asks, departs, closes, stops, Run}
-use Rattle.am_stands.proofs.Words.{more, counts_for, IsLawful, Kept, by_cases, put_at, put_same, count_within, run_keeps, choices_keep, DecidesNew, IsNoStop}
-use Rattle.am_stands.proofs.Words.{RunsGoOn}
+use Rattle.am_stands.proofs.Words.{split, ◌≡◌, inl, ℕ, ◌==◌, ◌&&◌, ◌||◌, not, nat_lt, List, Bool, true, false, length, refl, sym, ap, ◌∙◌, subst, arith}
+use Rattle.am_stands.proofs.Words.{nat_tests, has, Begins, key, Group, Chosen, put, count, how_many, opening, Move, MayDecide, with_choice, choice_of, longer}
+use Rattle.am_stands.proofs.Words.{numbers, stores, accepts, learns, begins, raises, shows, serves, fetches, gives_over, welcomes, asks, departs, closes}
+use Rattle.am_stands.proofs.Words.{stops, Run, more, counts_for, IsLawful, Kept, put_at, put_same, count_within, run_keeps, choices_keep, DecidesNew}
+use Rattle.am_stands.proofs.Words.{IsNoStop, RunsGoOn}
 use Rattle.am_chain_moves.specs.Moves.{decides}
 use Rattle.am_chain_moves.specs.Group as groups
 use Rattle.am_stands.proofs.Votes.{undecided as still_open}
@@ -24,12 +24,12 @@ same_lost : (members : Bool) (a b : groups.Node) (n : ℕ) → NoMore a b
 same_lost members a b n (as_before log start_ stopped departed) h =
     let now : ((members || (a.has_log && nat_lt n a.start)) &&
     (a.stopped && not b.departed)) ≡ true = (λ i. (members || (sym log i && nat_lt n (sym start_ i))) && (sym stopped i && not b.departed)) ∙ h in
-    by_cases a.departed
+    split a.departed
     (λ t. absurd (let gone = departed t in let z :
     ((members || (a.has_log && nat_lt n a.start)) &&
     (a.stopped && false)) ≡ true = subst (λ d. ((members || (a.has_log && nat_lt n a.start)) && (a.stopped && not d)) ≡ true) gone now in
     never (members || (a.has_log && nat_lt n a.start)) a.stopped z))
-    (λ f. rw f (by_cases b.departed
+    (λ f. rw f (split b.departed
     (λ t. absurd (let z : ((members || (a.has_log && nat_lt n a.start)) &&
     (a.stopped && false)) ≡ true = subst (λ d. ((members || (a.has_log && nat_lt n a.start)) && (a.stopped && not d)) ≡ true) t now in
     never (members || (a.has_log && nat_lt n a.start)) a.stopped z))
@@ -83,7 +83,7 @@ undecided : (s : Group) (i x : ℕ) → Kept s → groups.IsUp (s.node i) → (s
 undecided s i x k up ballot d =
     let above = ((k.each i).ballot up ballot).above in
     let most = k.views.order x d in
-    by_cases (x == key (s.node i).promise) (λ t. absurd (let same : x ≡ key (s.node i).promise = grind (arith, nat_tests) in omega arith)) (λ f. f)
+    split (x == key (s.node i).promise) (λ t. absurd (let same : x ≡ key (s.node i).promise = grind (arith, nat_tests) in omega arith)) (λ f. f)
 
 decided_lawful : (s : Group) (i : ℕ) (members : List ℕ) (resilience : ℕ) → Kept s → groups.IsUp (s.node i) → (s.node i).ballot ≡ true → IsLawful s
     → IsLawful (with_choice s i members resilience)

@@ -1,9 +1,9 @@
 -- In every lawful run of the group, whom a View on the chain left out has stopped.
-use Rattle.am_stands.proofs.Words.{◌≡◌, ⊎_elim, ℕ, List, [], ◌∷◌, ◌++◌, length, true, false, Some, slice_get, refl, sym, ap, ◌∙◌, subst, arith, Entry, Data}
-use Rattle.am_stands.proofs.Words.{Join, Leave, View, Stamp, has, Begins, NotView, mem, view_of, key, begins_more, begins_trans, begins_length, begins_pushed}
-use Rattle.am_stands.proofs.Words.{length_push, good_begins, leaver_in, leaver_out, mem_between, mem_nil, Group, put, opening, chain_of, Move, MayDecide}
-use Rattle.am_stands.proofs.Words.{with_line, with_choice, choice_of, longer, numbers, stores, accepts, learns, begins, raises, shows, serves, fetches}
-use Rattle.am_stands.proofs.Words.{gives_over, welcomes, asks, departs, closes, stops, Kept, IsLawful, founded, more, start, first_stamp, by_cases, put_same}
+use Rattle.am_stands.proofs.Words.{split, ◌≡◌, ⊎_elim, ℕ, List, [], ◌∷◌, ◌++◌, length, true, false, Some, slice_get, refl, sym, ap, ◌∙◌, subst, arith, Entry}
+use Rattle.am_stands.proofs.Words.{Data, Join, Leave, View, Stamp, has, Begins, NotView, mem, view_of, key, begins_more, begins_trans, begins_length}
+use Rattle.am_stands.proofs.Words.{begins_pushed, length_push, good_begins, leaver_in, leaver_out, mem_between, mem_nil, Group, put, opening, chain_of, Move}
+use Rattle.am_stands.proofs.Words.{MayDecide, with_line, with_choice, choice_of, longer, numbers, stores, accepts, learns, begins, raises, shows, serves}
+use Rattle.am_stands.proofs.Words.{fetches, gives_over, welcomes, asks, departs, closes, stops, Kept, IsLawful, founded, more, start, first_stamp, put_same}
 use Rattle.am_stands.proofs.Words.{put_at, list_chain, departed_in, run_keeps, get_last, LeftOut, RunsLeaveOut}
 use Rattle.am_chain_moves.specs.Group.{Leads}
 use Rattle.am_chain_moves.specs.Moves.{decides}
@@ -22,7 +22,7 @@ same_left s t stays chain h a v names resilience name part member out =
 
 -- ---- an entry more, that is no View
 
-last_is : (a b : List Entry) (x y : Entry) → a ++ x ∷ [] ≡ b ++ y ∷ [] → x ≡ y
+pub last_is : (a b : List Entry) (x y : Entry) → a ++ x ∷ [] ≡ b ++ y ∷ [] → x ≡ y
 last_is a b x y same =
     let one = length_push a x in
     let two = length_push b y in
@@ -85,9 +85,9 @@ choice_left s k lawful c members resilience d h a v names strong name part membe
     let long = ap length z in
     let front : a ≡ old = same_front a old (View v names strong) e z in
     let here = subst (λ l. mem l name ≡ true) front member in
-    stays name (by_cases (s.node name).stopped
+    stays name (split (s.node name).stopped
     (λ t. t)
-    (λ goes. by_cases (s.node name).departed
+    (λ goes. split (s.node name).departed
     (λ gone. absurd (none_departed s k lawful c members resilience d name here gone))
     (λ there. absurd (let in_ = d.all name here (record { goes = goes; stays = there }) in let o = ap (λ set. has set name) its ∙ in_ in cc))))))
     (begins_pushed e (subst (Begins (a ++ View v names strong ∷ [])) is part))

@@ -1,7 +1,7 @@
 -- The line of a view, where its coordinator's list gets one entry more.
-use Rattle.am_stands.proofs.Words.{◌≡◌, ◌≢◌, ℕ, ◌+◌, Bool, true, false, if◌then◌else◌, List, [], ◌∷◌, ◌++◌, refl, ap, ◌∙◌, subst, arith, list_any, nat_tests}
-use Rattle.am_stands.proofs.Words.{Stamp, Entry, Data, Join, Leave, View, Image, stamp_eq, blank, after, fold, Begins, view_of, is_view, is_view_of}
-use Rattle.am_stands.proofs.Words.{up_to_view, up_to_next, split, same_stamp, after_same, after_view}
+use Rattle.am_stands.proofs.Words.{stamp_itself, same_stamp, ◌≡◌, ◌≢◌, ℕ, ◌+◌, Bool, true, false, if◌then◌else◌, List, [], ◌∷◌, ◌++◌, refl, ap, ◌∙◌, subst}
+use Rattle.am_stands.proofs.Words.{arith, list_any, nat_tests, Stamp, Entry, Data, Join, Leave, View, Image, stamp_eq, blank, after, fold, Begins, view_of}
+use Rattle.am_stands.proofs.Words.{is_view, is_view_of, up_to_view, up_to_next, split, after_same, after_view}
 
 -- ---- a View stands in a list, and another behind it
 
@@ -132,13 +132,10 @@ any_last : (p : Entry → Bool) (a : List Entry) (e : Entry) → p e ≡ true �
 any_last p [] e h = rw h refl
 any_last p (x ∷ a) e h = split (p x) (λ t. rw t refl) (λ f. rw f (any_last p a e h))
 
-itself : (v : Stamp) → stamp_eq v v ≡ true
-itself v = grind (arith, nat_tests)
-
 -- a view's line opens with its View
 pub opened : (v : Stamp) (before : List Entry) (names : List ℕ) (resilience : ℕ) (list : List Entry)
     → Begins (before ++ View v names resilience ∷ []) (up_to_next v list) → HasViewOf v list
 opened v before names resilience list h =
     let e = View v names resilience in
-    let there = any_front (is_view_of v) (before ++ e ∷ []) h.rest (any_last (is_view_of v) before e (itself v)) in
+    let there = any_front (is_view_of v) (before ++ e ∷ []) h.rest (any_last (is_view_of v) before e (stamp_itself v)) in
     line_any (is_view_of v) v list (subst (λ l. list_any (is_view_of v) l ≡ true) h.same there)

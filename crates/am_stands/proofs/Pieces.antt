@@ -1,10 +1,11 @@
 -- What a node needs to store a Piece, from what the Piece says.
-use Rattle.am_stands.proofs.Words.{◌≡◌, ◌≢◌, ℕ, suc, ◌<◌, ◌==◌, not, List, [], ◌∷◌, ◌++◌, length, true, false, Some, slice_get, refl, sym, ap, ◌∙◌, subst}
-use Rattle.am_stands.proofs.Words.{arith, max, list_any, nat_tests, append_assoc, Entry, Data, Join, Leave, View, Stamp, item_at, Begins, IsGood, NotView}
-use Rattle.am_stands.proofs.Words.{view_of, key, key_by, view_up, view_viewed, view_below, view_push, begins_more, begins_push, begins_length, good_begins}
-use Rattle.am_stands.proofs.Words.{Group, IsUp, Kept, Node, Ballot, view, is_member, is_unfinished, is_view, is_view_of, up_to_view, up_to_next, World}
-use Rattle.am_stands.proofs.Words.{Decided, is_stopped, split, HasOpen, MayStore, Fetches, without_ballot, same_stamp, NameStands, StandsBut, within, line}
-use Rattle.am_stands.proofs.Words.{IsDecided, PieceSays, ShownEntry, of_line, of_shown, over, LinesOpen, IsOthers, NeedsPiece, of_its_line, of_its_shown}
+use Rattle.am_stands.proofs.Words.{eqb-false, eqb-true, same_stamp, ◌≡◌, ◌≢◌, ℕ, suc, ◌<◌, ◌==◌, not, List, [], ◌∷◌, ◌++◌, length, true, false, Some}
+use Rattle.am_stands.proofs.Words.{slice_get, refl, sym, ap, ◌∙◌, subst, arith, max, list_any, nat_tests, append_assoc, Entry, Data, Join, Leave, View, Stamp}
+use Rattle.am_stands.proofs.Words.{item_at, Begins, IsGood, NotView, view_of, key, key_by, view_up, view_viewed, view_below, view_push, begins_more}
+use Rattle.am_stands.proofs.Words.{begins_push, begins_length, good_begins, Group, IsUp, Kept, Node, Ballot, view, is_member, is_unfinished, is_view}
+use Rattle.am_stands.proofs.Words.{is_view_of, up_to_view, up_to_next, World, Decided, is_stopped, split, HasOpen, MayStore, Fetches, without_ballot}
+use Rattle.am_stands.proofs.Words.{NameStands, StandsBut, within, line, IsDecided, PieceSays, ShownEntry, of_line, of_shown, over, LinesOpen, IsOthers}
+use Rattle.am_stands.proofs.Words.{NeedsPiece, of_its_line, of_its_shown}
 use Rattle.std.proofs.Common.{length-append}
 use Rattle.am_effects.specs.Changes.{for_ballot}
 use Rattle.am_model.specs.Node as nodes
@@ -13,7 +14,7 @@ use Rattle.am_stands.proofs.{Sent.promise_line, Heard.item_next, Heard.entry_nee
 
 -- ---- the line of a list's last view is all of the list
 
-plain : (e : Entry) → is_view e ≡ false → NotView e
+pub plain : (e : Entry) → is_view e ≡ false → NotView e
 plain (Data from req body) h = tt
 plain (Join name) h = tt
 plain (Leave name) h = tt
@@ -163,12 +164,6 @@ shown_needs w name from base number x v e s h promise unfinished may is =
       next = next;
     })
 
-same_name : (a b : ℕ) → (a == b) ≡ true → a ≡ b
-same_name a b t = grind (arith, nat_tests)
-
-not_same : (a b : ℕ) → (a == b) ≡ false → a ≢ b
-not_same a b f same = grind (arith, nat_tests)
-
 opened : (x : Node) (b : Ballot) → HasOpen x b → is_unfinished x.ballot ≡ true
 opened x b h = ap is_unfinished h.last ∙ ap not h.open_
 
@@ -177,19 +172,19 @@ pub piece_needs : (w : World) (name from base number : ℕ) (x : Node) (v : Stam
     → PieceSays s from v number e → NeedsPiece s name x e
 piece_needs w name from base number x v e s h other promise (without_ballot none by past) may (of_line sent decided stands) =
     let who = h.who in
-    line_needs w name base number x v e s h promise (λ same. not_same from x.core.who other (sym (same_name v.by from by) ∙ same ∙ sym who)) may decided stands
+    line_needs w name base number x v e s h promise (λ same. eqb-false from x.core.who other (sym (eqb-true v.by from by) ∙ same ∙ sym who)) may decided stands
 piece_needs w name from base number x v e s h other promise (without_ballot none by past) may (of_shown is) = absurd (
     let ok = h.kept.shown (key v) from is.list is.shown in
     let small : v.by < 256 = subst (λ (u : Stamp). u.by < 256) promise h.promise in
     let same = key_by ok.stamp v ok.small small ok.is in
-    ok.other (same ∙ same_name v.by from by))
-piece_needs w name from base number x v e s h other promise (without_ballot none by past) may (over not_by decided) = absurd (not_by (same_name v.by from by))
+    ok.other (same ∙ eqb-true v.by from by))
+piece_needs w name from base number x v e s h other promise (without_ballot none by past) may (over not_by decided) = absurd (not_by (eqb-true v.by from by))
 piece_needs w name from base number x v e s h other promise (for_ballot b open_ fetching past) may (of_line sent decided stands) = absurd (
     let up = up_name w name x s h in
     let old = own w name x s h in
     let by = ((h.kept.each name).ballot up (old.ballot ∙ opened x b open_)).by in
     let same : v.by ≡ name = ap (λ (u : Stamp). u.by) (sym promise ∙ sym old.promise) ∙ by in
-    not_same from x.core.who other (sym sent ∙ same ∙ sym h.who))
+    eqb-false from x.core.who other (sym sent ∙ same ∙ sym h.who))
 piece_needs w name from base number x v e s h other promise (for_ballot b open_ fetching past) may
     (of_shown is) = shown_needs w name from base number x v e s h promise (opened x b open_) may is
 piece_needs w name from base number x v e s h other promise (for_ballot b open_ fetching past) may (over not_by decided) = absurd (

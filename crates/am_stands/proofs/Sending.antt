@@ -1,11 +1,12 @@
 -- Each letter that is sent is so.
-use Rattle.am_stands.proofs.Words.{◌≡◌, ◌≢◌, ℕ, ◌<◌, ◌≤◌, ◌==◌, ◌&&◌, ◌||◌, true, false, List, [], ◌∷◌, length, take, refl, sym, ap, ◌∙◌, subst, arith}
-use Rattle.am_stands.proofs.Words.{nat_tests, slice_get_within, Entry, Data, Image, Stamp, has, stamp_eq, no_stamp, row_of, entry_at, image_at, fold, Packet}
-use Rattle.am_stands.proofs.Words.{Begins, mem, view_of, key, good_begins, key_by, view_small, Group, IsThere, opening, Status, Node, view, is_member, acts}
-use Rattle.am_stands.proofs.Words.{is_sequencer, only_name, has_log, has_departed, own_vote, may_fetch, viewed_by, World, split, and_both, Cause, hears}
-use Rattle.am_stands.proofs.Words.{MayFetch, MayTell, leads, decided, request, spread, bcast, order, ack, nack, hold, join_ask, welcome, leave_ask, gone}
-use Rattle.am_stands.proofs.Words.{invite, vote, fetch, piece, result, hand_over, logged, same_stamp, IsDecided, AllShown, FetchSays, PacketSays, ResultSays}
-use Rattle.am_stands.proofs.Words.{none, Leads, KeptWhole, ListBegins, as_before, just_begun, Sender, ShowsMore, SaysSo, SentSays}
+use Rattle.am_stands.proofs.Words.{only_is, eqb-false, eqb-true, same_stamp, ◌≡◌, ◌≢◌, ℕ, ◌<◌, ◌≤◌, ◌==◌, ◌&&◌, ◌||◌, true, false, List, [], ◌∷◌, length}
+use Rattle.am_stands.proofs.Words.{take, refl, sym, ap, ◌∙◌, subst, arith, nat_tests, slice_get_within, Entry, Data, Image, Stamp, has, stamp_eq, no_stamp}
+use Rattle.am_stands.proofs.Words.{row_of, entry_at, image_at, fold, Packet, Begins, mem, view_of, key, good_begins, key_by, view_small, Group, IsThere}
+use Rattle.am_stands.proofs.Words.{opening, Status, Node, view, is_member, acts, is_sequencer, only_name, has_log, has_departed, own_vote, may_fetch}
+use Rattle.am_stands.proofs.Words.{viewed_by, World, split, and_both, Cause, hears, MayFetch, MayTell, leads, decided, request, spread, bcast, order, ack}
+use Rattle.am_stands.proofs.Words.{nack, hold, join_ask, welcome, leave_ask, gone, invite, vote, fetch, piece, result, hand_over, logged, IsDecided, AllShown}
+use Rattle.am_stands.proofs.Words.{FetchSays, PacketSays, ResultSays, none, Leads, KeptWhole, ListBegins, as_before, just_begun, Sender, ShowsMore, SaysSo}
+use Rattle.am_stands.proofs.Words.{SentSays}
 use Rattle.am_effects.specs.Letters.{for_ballot, of_promise, accept}
 use Rattle.am_packet.specs.declared.packet.Packet.TheVariants as packet
 use Rattle.am_chain_moves.specs.Group as groups
@@ -15,8 +16,7 @@ use Rattle.am_effects.specs.Letters as letters
 use Rattle.am_stands.specs.Letters as says
 use Rattle.am_stands.proofs.{Changes.told_all, Changes.long_all, Entries.key_stamp, Going.gone_says, Opens.list_opens, Results.tells_leads}
 use Rattle.am_stands.proofs.{Results.result_said, Sent.Speaks, Sent.leading, Sent.report_said, Sent.leaver_said, Sent.sequencer_said, Sent.entry_said}
-use Rattle.am_stands.proofs.{Sent.piece_said, Shown.PieceStands, Shown.vote_said, Shown.shown_said, Votes.only_one, Welcoming.is_welcomed}
-use Rattle.am_stands.proofs.{Welcoming.welcome_says}
+use Rattle.am_stands.proofs.{Sent.piece_said, Shown.PieceStands, Shown.vote_said, Shown.shown_said, Welcoming.is_welcomed, Welcoming.welcome_says}
 
 -- ---- who acts
 
@@ -30,7 +30,7 @@ no_round : key no_stamp < 256
 unfolding key
 no_round = omega arith
 
-nothing_viewed : view_of [] ≡ no_stamp
+pub nothing_viewed : view_of [] ≡ no_stamp
 unfolding view_of fold
 nothing_viewed = refl
 
@@ -55,12 +55,6 @@ acting_member n t = (and_both (is_member n.status) (stamp_eq n.core.promise (vie
 
 leading_acts : (n : Node) → is_sequencer n ≡ true → acts n ≡ true
 leading_acts n t = (and_both (acts n) ((view n).by == n.core.who) t).0
-
-same_number : (a b : ℕ) → (a == b) ≡ true → a ≡ b
-same_number a b t = grind (arith, nat_tests)
-
-not_number : (a b : ℕ) → (a == b) ≡ false → a ≢ b
-not_number a b f same = grind (arith, nat_tests)
 
 module _ (v : World) (i : ℕ) (c : Cause) (m n : Node) (s : Group) (h : Sender v i c m n s) where
   speaks : is_member n.status ≡ true → Speaks v i n s
@@ -112,11 +106,11 @@ module _ (v : World) (i : ℕ) (c : Cause) (m n : Node) (s : Group) (h : Sender 
   -- a Fetch for its own promise, and one for a ballot of its own
   fetched : (to : List ℕ) → MayFetch m n to → FetchSays s i n.core.promise to
   fetched to (of_promise other is) = says.of_promise
-      (λ same. not_number n.core.promise.by n.core.who other (same ∙ sym h.who))
-      (λ j in_. only_one n.core.promise.by j (ap (λ set. has set j) (sym is) ∙ in_))
+      (λ same. eqb-false n.core.promise.by n.core.who other (same ∙ sym h.who))
+      (λ j in_. only_is n.core.promise.by j (ap (λ set. has set j) (sym is) ∙ in_))
   fetched to (for_ballot b open_ from want answer is) =
       let known = h.ballots.fetches b from want open_ answer in
-      says.for_ballot known.0 (λ j in_. subst (AllShown s n.core.promise) (sym (only_one from j (ap (λ set. has set j) (sym is) ∙ in_))) known.1)
+      says.for_ballot known.0 (λ j in_. subst (AllShown s n.core.promise) (sym (only_is from j (ap (λ set. has set j) (sym is) ∙ in_))) known.1)
 
   -- a View of its own
   told_result : (number : ℕ) (names : List ℕ) → number ≡ (nodes.image_of n).view_number → viewed_by (entry_at n.core.log number) ≡ names → MayTell n
@@ -153,7 +147,7 @@ module _ (v : World) (i : ℕ) (c : Cause) (m n : Node) (s : Group) (h : Sender 
       let promise : u ≡ n.core.promise = same_stamp u n.core.promise both.0 in
       split (u.by == from)
       (λ t.
-      let by : n.core.promise.by ≡ from = ap (λ (x : Stamp). x.by) (sym promise) ∙ same_number u.by from t in
+      let by : n.core.promise.by ≡ from = ap (λ (x : Stamp). x.by) (sym promise) ∙ eqb-true u.by from t in
       let asks = h.asked from stored u is in
       let asked = subst (λ (x : Stamp). FetchSays s from x asks.0) promise asks.2 in
       shown_said v i from m.core.base number n e s asks.0 (speaks member) by (not_itself from asks.0 by asks.1 asked) asks.1 asked
@@ -162,7 +156,7 @@ module _ (v : World) (i : ℕ) (c : Cause) (m n : Node) (s : Group) (h : Sender 
       let rest : ((u.by == n.core.who) && stamp_eq (view n) u) ≡ true = rw f at both.1 in
       let own = and_both (u.by == n.core.who) (stamp_eq (view n) u) rest in
       let viewed : view n ≡ n.core.promise = same_stamp (view n) u own.1 ∙ promise in
-      let leads_ : is_sequencer n ≡ true = leads_own member viewed (ap (λ (x : Stamp). x.by) (sym promise) ∙ same_number u.by n.core.who own.0) in
+      let leads_ : is_sequencer n ≡ true = leads_own member viewed (ap (λ (x : Stamp). x.by) (sym promise) ∙ eqb-true u.by n.core.who own.0) in
       record {
         to = s;
         path = none;

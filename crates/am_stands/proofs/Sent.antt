@@ -1,9 +1,9 @@
 -- What a sender says is so.
-use Rattle.am_stands.proofs.Words.{◌≡◌, ⊎_elim, ℕ, suc, ◌+◌, ◌<◌, ◌≤◌, ◌==◌, List, [], ◌∷◌, ◌++◌, length, take, true, Some, slice_get, sym, ap, ◌∙◌, subst}
-use Rattle.am_stands.proofs.Words.{arith, cases_lt, length-take, nat_tests, Entry, Stamp, Image, stamp_eq, item_at, Begins, IsGood, view_of, key}
+use Rattle.am_stands.proofs.Words.{same_stamp, ◌≡◌, ⊎_elim, ℕ, suc, ◌+◌, ◌<◌, ◌≤◌, ◌==◌, List, [], ◌∷◌, ◌++◌, length, take, true, Some, slice_get, sym, ap}
+use Rattle.am_stands.proofs.Words.{◌∙◌, subst, arith, cases_lt, length-take, nat_tests, Entry, Stamp, Image, stamp_eq, item_at, Begins, IsGood, view_of, key}
 use Rattle.am_stands.proofs.Words.{begins_trans, take_begins, begins_refl, Group, IsUp, chain_of, Kept, Node, view, is_member, acts, is_sequencer, World}
-use Rattle.am_stands.proofs.Words.{split, and_both, same_stamp, NameStands, FrontsStand, line, IsDecided, SequencerSays, EntrySays, ReportSays, LeaverSays}
-use Rattle.am_stands.proofs.Words.{of_view, before_it, PieceSays, of_line}
+use Rattle.am_stands.proofs.Words.{split, and_both, NameStands, FrontsStand, line, IsDecided, SequencerSays, EntrySays, ReportSays, LeaverSays, of_view}
+use Rattle.am_stands.proofs.Words.{before_it, PieceSays, of_line}
 use Rattle.am_chain_moves.specs.Group as groups
 use Rattle.am_model.specs.Node as nodes
 use Rattle.am_effects.specs.Letters as letters

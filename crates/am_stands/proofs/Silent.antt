@@ -1,8 +1,8 @@
 -- A name that has departed sends nothing.
-use Rattle.am_stands.proofs.Words.{◌≡◌, ℕ, nat_lt, ◌&&◌, ◌==◌, not, Bool, true, false, [], Option, Some, None, Ok, Err, refl, sym, ap, ◌∙◌, subst, NodeEvent}
-use Rattle.am_stands.proofs.Words.{Send, Done, Take, State, Reset, Ask, GiveUp, Tick, Hear, Packet, Read, reading, Departed, Node, Ballot, is_member}
-use Rattle.am_stands.proofs.Words.{is_sequencer, is_unfinished, join_by, state_by, leave_by, send_row, take_row, join_row, state_row, leave_row, reset_row}
-use Rattle.am_stands.proofs.Words.{ask_row, ask_of, give_up_row, give_up_of, done_row, tick_row, tick_by, hear_row, hears_member, hears_asking}
+use Rattle.am_stands.proofs.Words.{and-false, ◌≡◌, ℕ, nat_lt, ◌&&◌, ◌==◌, not, Bool, true, false, [], Option, Some, None, Ok, Err, refl, sym, ap, ◌∙◌, subst}
+use Rattle.am_stands.proofs.Words.{NodeEvent, Send, Done, Take, State, Reset, Ask, GiveUp, Tick, Hear, Packet, Read, reading, Departed, Node, Ballot}
+use Rattle.am_stands.proofs.Words.{is_member, is_sequencer, is_unfinished, join_by, state_by, leave_by, send_row, take_row, join_row, state_row, leave_row}
+use Rattle.am_stands.proofs.Words.{reset_row, ask_row, ask_of, give_up_row, give_up_of, done_row, tick_row, tick_by, hear_row, hears_member, hears_asking}
 use Rattle.am_stands.proofs.Words.{refresh_at_end, Plan, quiet, finish, row, read_row, step, hear, hear_refusal, split, rests_at_end, DepartedSilent}
 use Rattle.am_base.specs.declared.event.NodeEvent.TheVariants.{Join, Leave}
 use Rattle.am_base.specs.declared.outcome.Outcome.TheVariants as said
@@ -32,15 +32,11 @@ finish_silent m p h =
 no_member : (m : Node) → m.status ≡ Departed → is_member m.status ≡ false
 no_member m h = ap is_member h
 
-both_no : (a : Bool) → (a && false) ≡ false
-both_no true = refl
-both_no false = refl
-
 no_hearing : (m : Node) (s : ℕ) → m.status ≡ Departed → hears_member m s ≡ false
-no_hearing m s h = rw h (both_no (not (s == m.core.who)))
+no_hearing m s h = rw h (and-false (not (s == m.core.who)))
 
 no_asking : (m : Node) (s : ℕ) → m.status ≡ Departed → hears_asking m s ≡ false
-no_asking m s h = rw h (both_no (not (s == m.core.who)))
+no_asking m s h = rw h (and-false (not (s == m.core.who)))
 
 hear_quiet : (m : Node) (p : Packet) → m.status ≡ Departed → Quiet (hear_row m p)
 unfolding hear_row

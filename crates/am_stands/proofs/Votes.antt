@@ -1,14 +1,14 @@
 -- A ballot that its coordinator decides may be decided by the group's own test.
-use Rattle.am_stands.proofs.Words.{◌≡◌, ◌≢◌, ◌⊎◌, inl, inr, ⊎_elim, ℕ, zero, suc, ◌+◌, ◌<◌, ◌≤◌, ◌==◌, ◌&&◌, ◌||◌, not, max, nat_lt, is_some, get_or, set}
-use Rattle.am_stands.proofs.Words.{List, [], ◌∷◌, ◌++◌, length, Bool, true, false, Option, Some, None, slice_index, refl, sym, ap, ◌∙◌, subst, arith}
-use Rattle.am_stands.proofs.Words.{list_all, list_any, range_with_len, nat_tests, Entry, Vote, Image, Stamp, IsSet, place_of, life_of, name_at, by_place}
-use Rattle.am_stands.proofs.Words.{nobody, has, size, is_within, slice_index-by_place, stamp_lt, stamp_eq, vote_lt, member_life, members_of, Begins, image_of}
-use Rattle.am_stands.proofs.Words.{mem, view_of, resilience_of, key, key_lt, view_up, begins_trans, told_push, Group, IsThere, IsUp, MayDecide, Voted, Kept}
-use Rattle.am_stands.proofs.Words.{Node, Ballot, view, members, only_name, name_where, those, View, append_assoc, length-map, get_or-set_same}
-use Rattle.am_stands.proofs.Words.{get_or-set_other, get_or-replicate, mod16, is_view_of, trim_for, own_vote, best_of, need_of, has_voted, is_waited_for}
-use Rattle.am_stands.proofs.Words.{left_in, World, best_vote_is, split, has_size, has_those, set_those, equal_stamps, own_need, those_at, viewed_members}
-use Rattle.am_stands.proofs.Words.{those_some, those_long, NameStands, within, told_pushed, VoteTells, AllShown, FetchSays, for_ballot, AllVoted}
-use Rattle.am_stands.proofs.Words.{NeedsDecision}
+use Rattle.am_stands.proofs.Words.{only_is, eqb-false, eq-eqb, eqb-true, ◌≡◌, ◌≢◌, ◌⊎◌, inl, inr, ⊎_elim, ℕ, zero, suc, ◌+◌, ◌<◌, ◌≤◌, ◌==◌, ◌&&◌, ◌||◌, not}
+use Rattle.am_stands.proofs.Words.{max, nat_lt, is_some, get_or, set, List, [], ◌∷◌, ◌++◌, length, Bool, true, false, Option, Some, None, slice_index, refl}
+use Rattle.am_stands.proofs.Words.{sym, ap, ◌∙◌, subst, arith, list_all, list_any, range_with_len, nat_tests, Entry, Vote, Image, Stamp, IsSet, place_of}
+use Rattle.am_stands.proofs.Words.{life_of, name_at, by_place, nobody, has, size, is_within, slice_index-by_place, stamp_lt, stamp_eq, vote_lt, member_life}
+use Rattle.am_stands.proofs.Words.{members_of, Begins, image_of, mem, view_of, resilience_of, key, key_lt, view_up, begins_trans, told_push, Group, IsThere}
+use Rattle.am_stands.proofs.Words.{IsUp, MayDecide, Voted, Kept, Node, Ballot, view, members, only_name, name_where, those, View, append_assoc, length-map}
+use Rattle.am_stands.proofs.Words.{get_or-set_same, get_or-set_other, get_or-replicate, mod16, is_view_of, trim_for, own_vote, best_of, need_of, has_voted}
+use Rattle.am_stands.proofs.Words.{is_waited_for, left_in, World, best_vote_is, split, has_size, has_those, set_those, equal_stamps, own_need, those_at}
+use Rattle.am_stands.proofs.Words.{viewed_members, those_some, those_long, NameStands, within, told_pushed, VoteTells, AllShown, FetchSays, for_ballot}
+use Rattle.am_stands.proofs.Words.{AllVoted, NeedsDecision}
 use Rattle.am_model.specs.Node as nodes
 use Rattle.am_effects.specs.Looks as looks
 use Rattle.am_stands.proofs.{Lines.HasViewOf, Lines.viewed_as, Changes.told_whole, Changes.long_all}
@@ -103,29 +103,20 @@ is_some_of test names place low =
     or_true true b t = refl
     or_true false b t = t
 
-is_equal : (a b : ℕ) → a ≡ b → (a == b) ≡ true
-is_equal a b same = grind (arith, nat_tests)
-
-is_the_same : (a b : ℕ) → (a == b) ≡ true → a ≡ b
-is_the_same a b t = grind (arith, nat_tests)
-
-not_equal : (a b : ℕ) → (a == b) ≡ false → a ≢ b
-not_equal a b f same = grind (arith, nat_tests)
-
 -- who is among those of a set that pass is in the set, and passes
 those_in : (test : ℕ → Bool) (names : List ℕ) (j : ℕ) → has (those test names) j ≡ true → (has names j ≡ true) × (test j ≡ true)
 unfolding those
 those_in test names j in_ =
     let is = slice_index-by_place (λ place. name_where test place (slice_index names place)) (place_of j) (mod16 j) in
     let at : name_where test (place_of j) (slice_index names (place_of j)) ≡ life_of j = sym is
-    ∙ is_the_same (slice_index (by_place (λ place. name_where test place (slice_index names place))) (place_of j)) (life_of j) in_ in
+    ∙ eqb-true (slice_index (by_place (λ place. name_where test place (slice_index names place))) (place_of j)) (life_of j) in_ in
     split (slice_index names (place_of j) == 0)
     (λ t. absurd (let z : 0 ≡ life_of j = rw t at at in omega arith))
     (λ f. split (test (name_at (place_of j) (slice_index names (place_of j))))
     (λ t.
     let life : slice_index names (place_of j) ≡ life_of j = rw (f, t) at at in
     let name : name_at (place_of j) (slice_index names (place_of j)) ≡ j = omega arith in
-    (is_equal (slice_index names (place_of j)) (life_of j) life, ap test (sym name) ∙ t))
+    (eq-eqb (slice_index names (place_of j)) (life_of j) life, ap test (sym name) ∙ t))
     (λ g. absurd (let z : 0 ≡ life_of j = rw (f, g) at at in omega arith)))
 
 -- another name that is needed, and isn't given up, has voted for no better list
@@ -237,7 +228,7 @@ all_voted : (w : World) (name : ℕ) (x : Node) (b : Ballot) (s : Group) → Bal
 all_voted w name x b s h may j in_ =
     let both = those_in (λ k. not (b.given_up k)) (need_of x b) j in_ in
     split (j == x.core.who)
-    (λ t. inl (is_the_same j x.core.who t ∙ h.who))
+    (λ t. inl (eqb-true j x.core.who t ∙ h.who))
     (λ f. inr (other_voted w name x b s j h may both.0 (not_false_of (b.given_up j) both.1) f))
   where
     not_false_of : (b : Bool) → not b ≡ true → b ≡ false
@@ -267,7 +258,7 @@ pub best_shown : (w : World) (name : ℕ) (x : Node) (b : Ballot) (s : Group) �
 unfolding best_of mem
 best_shown w name x b s k h other none = ⊎_elim
     (λ (z : ((best_of x b).by ≡ x.core.who) × ((best_of x b).vote ≡ own_vote x)). absurd
-    (let t : ((best_of x b).by == x.core.who) ≡ true = is_equal (best_of x b).by x.core.who z.0 in cc))
+    (let t : ((best_of x b).by == x.core.who) ≡ true = eq-eqb (best_of x b).by x.core.who z.0 in cc))
     (λ (z : b.votes (best_of x b).by ≡ Some (best_of x b).vote).
     (let best = h.votes (best_of x b).by (best_of x b).vote z in
     let by : b.stamp.by ≡ name = ap (λ (u : Stamp). u.by) (h.stamp ∙ sym h.stands.promise) ∙ ((k.each name).ballot h.up h.ballot).by in
@@ -275,7 +266,7 @@ best_shown w name x b s k h other none = ⊎_elim
       list = best.list;
       shown = best.shown;
       others = λ j m there. split (j == x.core.who)
-          (λ t. inl (is_the_same j x.core.who t ∙ h.who ∙ sym by))
+          (λ t. inl (eqb-true j x.core.who t ∙ h.who ∙ sym by))
           (λ f.
           (let needed : has (need_of x b) j ≡ true = ap (λ set. has set j) best.members ∙ m in
           let spared : b.given_up j ≡ false = split (b.given_up j) (λ t. absurd (let q = h.given j t in let y = there.goes in cc)) (λ g. g) in
@@ -285,27 +276,11 @@ best_shown w name x b s k h other none = ⊎_elim
     }))
     (best_vote_is b.votes x.core.who (own_vote x) h.view_ h.views).shown
 
--- who is in a set of one name is that name
-pub only_one : (a h : ℕ) → has (only_name a) h ≡ true → h ≡ a
-only_one a h t = split (place_of h == place_of a)
-    (λ p.
-    let same = is_the_same (place_of h) (place_of a) p in
-    let at : get_or (set nobody (place_of a) (life_of a)) (place_of h) 0 ≡ life_of a = ap (λ k. get_or (set nobody (place_of a) (life_of a)) k 0) same
-    ∙ get_or-set_same nobody (place_of a) (life_of a) 0 (mod16 a) in
-    let life = sym at ∙ is_the_same (slice_index (only_name a) (place_of h)) (life_of h) t in
-    omega arith)
-    (λ f. absurd (
-    let other : place_of h ≢ place_of a = not_equal (place_of h) (place_of a) f in
-    let at : get_or (set nobody (place_of a) (life_of a)) (place_of h) 0 ≡ 0 = get_or-set_other nobody (place_of a) (place_of h) (life_of a) 0 other
-    ∙ get_or-replicate 16 (place_of h) 0 0 (mod16 h) in
-    let life = sym at ∙ is_the_same (slice_index (only_name a) (place_of h)) (life_of h) t in
-    omega arith))
-
 -- it fetches from that name
 pub fetch_said : (w : World) (name : ℕ) (x : Node) (b : Ballot) (s : Group) (to : List ℕ) → Kept s → BallotKnown w name x b s
     → ((best_of x b).by == x.core.who) ≡ false → nat_lt 0 (size (those (is_waited_for x.core.who b) (need_of x b))) ≡ false
     → to ≡ only_name (best_of x b).by → FetchSays s name x.core.promise to
 fetch_said w name x b s to k h other none is = for_ballot
     (ap (λ (u : Stamp). u.by) (sym h.stands.promise) ∙ ((k.each name).ballot h.up h.ballot).by)
-    (λ j at. subst (AllShown s x.core.promise) (sym (only_one (best_of x b).by j (ap (λ set. has set j) (sym is) ∙ at)))
+    (λ j at. subst (AllShown s x.core.promise) (sym (only_is (best_of x b).by j (ap (λ set. has set j) (sym is) ∙ at)))
     (subst (λ (u : Stamp). AllShown s u (best_of x b).by) h.stamp (best_shown w name x b s k h other none)))

@@ -1,5 +1,5 @@
 -- The Welcome that is sent is so: it tells a joiner where it became a member, and what is accepted below.
-use Rattle.am_stands.proofs.Words.{◌≡◌, ℕ, zero, suc, ◌+◌, ◌<◌, ◌≤◌, ◌==◌, nat_lt, true, List, length, take, Some, refl, sym, ap, ◌∙◌, subst, arith}
+use Rattle.am_stands.proofs.Words.{only_is, ◌≡◌, ℕ, zero, suc, ◌+◌, ◌<◌, ◌≤◌, ◌==◌, nat_lt, true, List, length, take, Some, refl, sym, ap, ◌∙◌, subst, arith}
 use Rattle.am_stands.proofs.Words.{nat_tests, Entry, Join, Row, Image, Stamp, place_of, life_of, has, Log, at_place, row_of, image_at, told_by, item_at}
 use Rattle.am_stands.proofs.Words.{Begins, IsGood, image_of, mem, begins_refl, begins_trans, begins_both, begins_length, begins_take, length_take}
 use Rattle.am_stands.proofs.Words.{take_begins, row_at, In, mem_in, in_mem, mem_between, Group, Node, is_sequencer, only_name, World, split, MayWelcome}
@@ -8,7 +8,7 @@ use Rattle.am_stands.proofs.Words.{is_leaving, may_begin, RowsLive}
 use Rattle.am_chain_moves.specs.Group as groups
 use Rattle.am_model.specs.Node as nodes
 use Rattle.am_stands.proofs.{Changes.told_all, Changes.long_all, Ends.taken_more, Joins.joined_in, Joins.JoinsAt, Joins.joins_at, Parts.image_whole}
-use Rattle.am_stands.proofs.{Parts.next_part, Sent.Speaks, Sent.leading, Sent.list_item, Votes.only_one}
+use Rattle.am_stands.proofs.{Parts.next_part, Sent.Speaks, Sent.leading, Sent.list_item}
 
 -- ---- who is welcomed
 
@@ -136,5 +136,5 @@ pub welcome_says : (v : World) (i : ℕ) (n : Node) (s : Group) (name : ℕ) →
     → (j : ℕ) → has (only_name name) j ≡ true
     → WelcomeTo s i n.core.promise n.core.base (row_of (nodes.image_of n) name).joined (image_at n.core.log n.core.base) j
 welcome_says v i n s name h t f low kept is trimmed j in_ =
-    subst (WelcomeTo s i n.core.promise n.core.base (row_of (nodes.image_of n) name).joined (image_at n.core.log n.core.base)) (sym (only_one name j in_))
+    subst (WelcomeTo s i n.core.promise n.core.base (row_of (nodes.image_of n) name).joined (image_at n.core.log n.core.base)) (sym (only_is name j in_))
     (welcome_to v i n s name h t f low kept is trimmed)

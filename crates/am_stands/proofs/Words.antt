@@ -2,8 +2,9 @@
 pub use Rattle.std.proofs.Common.{◌≡◌, ℕ, ◌+◌, ◌-◌, ◌<◌, ◌≤◌, ◌==◌, ◌&&◌, nat_le, Bool, true, false, List, [], length, take, refl, sym, ap, ◌∙◌, subst, arith}
 pub use Rattle.std.proofs.Common.{count_by, ◌∷◌, slice_index, ◌⊎◌, inl, inr, ⊎_elim, ◌||◌, ◌++◌, Some, not, nat_lt, ◌≢◌, Option, None, slice_get, zero, suc}
 pub use Rattle.std.proofs.Common.{if◌then◌else◌, max, set, get_or, unwrap_or, append-nil, min, drop, map, Ok, Err, option_map, is_some}
+pub use Rattle.std.proofs.Math.Bool.{and-false}
 pub use Rattle.std.proofs.Math.Seq.{take-append-add, drop-append-add, drop-append_seam}
-pub use Rattle.std.proofs.lemmas.Bool.{cases_lt}
+pub use Rattle.std.proofs.lemmas.Bool.{leb-true, not-true, eqb-false, eqb-true, cases_lt, eq-eqb}
 pub use Rattle.std.proofs.lemmas.Bool.Decides.{nat_tests}
 pub use Rattle.std.proofs.lemmas.Grind.{flat_map-append}
 pub use Rattle.std.proofs.lemmas.List.{length-map, get_or-replicate, length-append, length-take, append_assoc, length-set, get_or-set_other, take-append-drop}
@@ -94,8 +95,8 @@ pub use Rattle.am_chain_lists.proofs.Prefixes.{begins_take, begins_trans, begins
 pub use Rattle.am_chain_lists.proofs.Prefixes.{below_of, below_length, length_push, begins_pushed, take_begins, begins_same, begins_push, next_of}
 pub use Rattle.am_chain_lists.proofs.Members.{good_begins, mem_between, mem_viewed, long_told, told_push, mem_in, in_mem, leaver_out, last_fits, mem_nil}
 pub use Rattle.am_chain_lists.proofs.Members.{viewed_mem, was_begins, good_push, leaver_in, mem_push}
-pub use Rattle.am_chain_lists.proofs.Rows.{mod16, row_at, row_set, row_view, long_after, In, and_left, Past, Was, blank_joined, past_after, not_both}
-pub use Rattle.am_chain_lists.proofs.Rows.{view_parts}
+pub use Rattle.am_chain_lists.proofs.Rows.{low_or_above, mod16, row_at, row_set, row_view, long_after, In, same_name, and_left, Past, Was, blank_joined}
+pub use Rattle.am_chain_lists.proofs.Rows.{past_after, not_both, view_parts}
 pub use Rattle.am_chain_lists.proofs.Order.{key_by, view_up, key_lt, view_small, view_viewed, view_push, view_below}
 pub use Rattle.am_chain_moves.specs.Group.{how_many, counted_in, IsHeld, MayAccept, Group, IsUp, chain_of, put2, opening, NoBetter, IsThere, Views, Chosen}
 pub use Rattle.am_chain_moves.specs.Group.{IsOngoing}
@@ -106,12 +107,14 @@ pub use Rattle.am_chain_moves.specs.Moves.{numbers, stores, accepts, learns, beg
 pub use Rattle.am_chain_moves.specs.Moves.{closes, stops, MayNumber}
 pub use Rattle.am_chain_moves.specs.Runs.{IsLawful, first_choice, Run, more, counts_for, founded, start, first_stamp}
 pub use Rattle.am_chain_moves.proofs.Start.{start_kept}
-pub use Rattle.am_chain_moves.proofs.Puts.{by_cases, put_same, put_at, put2_cases, count_below, count_within, put_other, put_cases}
+pub use Rattle.am_chain_moves.proofs.Puts.{put_same, put_at, put2_cases, count_below, count_within, put_other, put_cases}
 pub use Rattle.am_chain_moves.proofs.Nodes.{own_above}
 pub use Rattle.am_chain.proofs.Heart.{ballot_ok, list_chain, departed_in}
 pub use Rattle.am_chain.proofs.Decide.{group_low}
 pub use Rattle.am_chain.proofs.Runs.{run_keeps, choices_keep}
 pub use Rattle.am_orders.proofs.Turns.{request_within, next_in}
+pub use Rattle.am_effects.proofs.Tests.{or_second, is_itself}
+pub use Rattle.am_effects.proofs.Resets.{member_heard, same_stamp, stamp_itself}
 pub use Rattle.am_effects.specs.Changes.{refreshes, settles, begins_list, promises, opens, looks, stores_view, asks_to_join, asks_to_leave, Promises, invited}
 pub use Rattle.am_effects.specs.Changes.{overtaken as overtaken_by, told_result, Numbers, asked_send, own_send, asked_join, asked_leave, MayStore}
 pub use Rattle.am_effects.specs.Changes.{MayBeWelcomed, Fetches, overtaken, Carries, whole_entry, by_number, Change, MayReport, takes_report, admits}
@@ -125,24 +128,24 @@ pub use Rattle.am_effects.proofs.Items.{all_get, get_front, get_last, get_push}
 pub use Rattle.am_effects.proofs.Statuses.{logged}
 pub use Rattle.am_effects.proofs.Says.{told_pushed, leads_pushed, view_pushed}
 pub use Rattle.am_effects.specs.Events.{actor, idles, returns, steps}
-pub use Rattle.am_effects.proofs.Tests.{not_true}
 pub use Rattle.am_effects.proofs.Ballots.{entry_is}
 pub use Rattle.am_effects.specs.Letters.{MayTell, leads, decided, MayFetch, request, spread, bcast, order, ack, nack, hold, join_ask, welcome, leave_ask}
 pub use Rattle.am_effects.specs.Letters.{gone, invite, vote, fetch, piece, result, hand_over, MayWelcome, just_joined, asks_again}
 pub use Rattle.am_sent.proofs.Changes.{MaySend, body_of_sent, CauseSent, change_sent}
 pub use Rattle.am_laws.proofs.LeaderRows.{first_member}
-pub use Rattle.am_laws.proofs.Stamps.{equal_stamps, same_stamp}
+pub use Rattle.am_laws.proofs.Stamps.{equal_stamps}
 pub use Rattle.am_laws.proofs.ViewSteps.{after_same, after_view}
+pub use Rattle.am_laws.proofs.ViewChanges.{numbers_plain, OpenBallot, looked_at, none_of_asking}
 pub use Rattle.am_laws.proofs.Taken.{known_member, leave_fits, looked_vote, own_need, those_at}
 pub use Rattle.am_laws.proofs.Trims.{told_used}
-pub use Rattle.am_laws.proofs.ViewChanges.{OpenBallot, looked_at}
 pub use Rattle.am_laws.proofs.TakenRuns.{Along, along_changes}
-pub use Rattle.am_laws.proofs.Views.{same_is_equal}
 pub use Rattle.am_laws.proofs.Named.{change_named}
 pub use Rattle.am_laws.proofs.ViewMembers.{those_long, viewed_members, those_some}
 pub use Rattle.am_laws.proofs.Limits.{set_those}
 pub use Rattle.am_unballoted.proofs.Turns.{waiting_is, one_more, waiting_settled, collected_turn}
 unfoldable pub use Rattle.am_unballoted.proofs.Turns.{Turn}
+pub use Rattle.am_unballoted.proofs.Says.{only_is}
+pub use Rattle.am_unballoted.proofs.Actors.{same_group as no_more_group}
 pub use Rattle.am_unballoted.proofs.Changes.{found_at}
 pub use Rattle.am_stands.specs.Standing.{NameStands, Stands, StandsBut, within, FrontsStand, NotedStands, ViewsStand, BeginsIn, StartStands}
 pub use Rattle.am_stands.specs.States.{Reporting, IsConcerned, ReportsStand, LeftOut, BodiesAsked, SendsOnce, FetchesStand, ReportsFresh, OpensStand, IsNew}

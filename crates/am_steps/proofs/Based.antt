@@ -1,11 +1,11 @@
 -- Where a node's list begins after a step: where it did, unless it was welcomed, and then it doesn't lead.
-use Rattle.am_steps.proofs.Words.{◌≡◌, ℕ, zero, suc, ◌+◌, ◌-◌, ◌<◌, ◌≤◌, ◌==◌, ◌||◌, not, nat_le, true, false, List, [], ◌∷◌, Some, slice_get, refl, sym, ap}
-use Rattle.am_steps.proofs.Words.{◌∙◌, subst, arith, nat_tests, Stamp, Image, Entry, View, Outcome, Rules, stamp_eq, Log, top_of, told_by, entry_at, after}
-use Rattle.am_steps.proofs.Words.{fold, view_grows, Node, Ballot, view, acts, is_member, is_asking, is_sequencer, Verdict, is_view, split, and_both, Cause}
-use Rattle.am_steps.proofs.Words.{Looks, finds_itself_out, Change, refreshes, settles, begins_list, promises, opens, looks, stores_view, closes, Changes}
-use Rattle.am_steps.proofs.Words.{unchanged, changed, rests_refresh, rests_closed, settle_is, along, not_true, HeardNames, same_stamp, HeardUsed, Along}
-use Rattle.am_steps.proofs.Words.{along_changes, view_its}
-use Rattle.am_steps.proofs.{Courses.was_welcomed, Courses.both_ways, Courses.promise_brings, Courses.begin_brings, Statuses.asking_bare}
+use Rattle.am_steps.proofs.Words.{none_of_asking, not-true, same_stamp, ◌≡◌, ℕ, zero, suc, ◌+◌, ◌-◌, ◌<◌, ◌≤◌, ◌==◌, ◌||◌, not, nat_le, true, false, List, []}
+use Rattle.am_steps.proofs.Words.{◌∷◌, Some, slice_get, refl, sym, ap, ◌∙◌, subst, arith, nat_tests, Stamp, Image, Entry, View, Outcome, Rules, stamp_eq, Log}
+use Rattle.am_steps.proofs.Words.{top_of, told_by, entry_at, after, fold, view_grows, Node, Ballot, view, acts, is_member, is_asking, is_sequencer, Verdict}
+use Rattle.am_steps.proofs.Words.{is_view, split, and_both, Cause, Looks, finds_itself_out, Change, refreshes, settles, begins_list, promises, opens, looks}
+use Rattle.am_steps.proofs.Words.{stores_view, closes, Changes, unchanged, changed, rests_refresh, rests_closed, settle_is, along, HeardNames, HeardUsed}
+use Rattle.am_steps.proofs.Words.{Along, along_changes, view_its}
+use Rattle.am_steps.proofs.Courses.{was_welcomed, both_ways, promise_brings, begin_brings}
 
 -- ---- along the changes
 
@@ -36,11 +36,11 @@ based_change rules m x y refreshes a h = let r = (rests_refresh x).rests in base
 based_change rules m x y settles a h = subst (Based _ m) (sym (settle_is x)) (based_same m x _ refl refl refl (omega arith) h)
 based_change rules m x y (begins_list s v base join image is says may) a h =
     let asks = and_both (not (s == x.core.who)) (is_member x.status || is_asking x.status) may.asks in
-    let none = a.blanked (asking_bare x.status may.no_member asks.1) in
+    let none = a.blanked (none_of_asking x.status may.no_member asks.1) in
     let empty = ap top_of none.blank_ in
     let high = a.owned.fronts.accepted in
     let before = bare_before m x (omega arith) h in
-    let other = not_true (s == x.core.who) asks.0 in
+    let other = not-true (s == x.core.who) asks.0 in
     let own = may.own in
     was_bare (ap was_welcomed is) (grind (arith, nat_tests)) (omega arith)
 based_change rules m x y (promises v low why) a h = based_other m x y refl refl (promise_brings v why).welcomes h

@@ -1,9 +1,10 @@
 -- The last member's end, which is one move.
-use Rattle.am_steps.proofs.Words.{◌≡◌, ℕ, nat_lt, true, false, List, refl, sym, subst, All-push, Leave, Rules, size, Event, Record, Group, chain_of, longer}
-use Rattle.am_steps.proofs.Words.{Kept, Node, view, others, is_member, is_sequencer, push_entry, Step, World, with_step, Cause, leads_member, NameStands}
-use Rattle.am_steps.proofs.Words.{StandsBut, Stands, within, CountsNames, ComesTo, NeedsClose, after_closing, NamesNamed, Leads, MayMove, Stepping, is_up}
-use Rattle.am_steps.proofs.Words.{front_named, counts_names, close_stands, name_longer, kept, old, may_move, closing_accepts, name_in, views_in}
-use Rattle.am_steps.proofs.{Statuses.member_here, Starting.recorded, Refreshed.Fronted, Refreshed.comes}
+use Rattle.am_steps.proofs.Words.{member_stays, ◌≡◌, ℕ, nat_lt, true, false, List, refl, sym, subst, All-push, Leave, Rules, size, Event, Record, Group}
+use Rattle.am_steps.proofs.Words.{chain_of, longer, Kept, Node, view, others, is_member, is_sequencer, push_entry, Step, World, with_step, Cause}
+use Rattle.am_steps.proofs.Words.{leads_member, NameStands, StandsBut, Stands, within, CountsNames, ComesTo, NeedsClose, after_closing, NamesNamed, Leads}
+use Rattle.am_steps.proofs.Words.{MayMove, Stepping, is_up, front_named, counts_names, close_stands, name_longer, kept, old, may_move, closing_accepts}
+use Rattle.am_steps.proofs.Words.{name_in, views_in}
+use Rattle.am_steps.proofs.{Starting.recorded, Refreshed.Fronted, Refreshed.comes}
 
 -- a world with other records
 module _ (rules : Rules) (w : World) (records : List Record) (name : ℕ) (c : Cause) (x : Node) (t : Group)
@@ -25,7 +26,7 @@ module _ (rules : Rules) (w : World) (records : List Record) (name : ℕ) (c : C
 
   comes_here : ComesTo w t name f.heard x
   comes_here =
-      let a = comes rules (recorded w records) name c x t h f member (member_here x.status member) in
+      let a = comes rules (recorded w records) name c x t h f member (member_stays x.status member) in
       record { so = a.so; stands = here; group = a.group; runs = a.runs; acc = a.acc }
 
   -- who counts, with its own Leave

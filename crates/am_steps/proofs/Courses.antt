@@ -1,11 +1,11 @@
 -- The plain changes of a step: what each does to who acts, and to a sequencer that took a report.
-use Rattle.am_steps.proofs.Words.{◌≡◌, ℕ, ◌≤◌, ◌==◌, ◌||◌, not, nat_lt, Bool, true, false, List, length, refl, sym, ap, ◌∙◌, subst, Report, Stamp, Entry}
-use Rattle.am_steps.proofs.Words.{Outcome, kind_of, Status, Node, Ballot, top, is_member, is_asking, is_sequencer, has_departed, World, group_after, and_both}
-use Rattle.am_steps.proofs.Words.{Cause, hears, by_request, BringsReport, with_send, BringsFronts, by_entry, with_number, alone, MayLook, was_reset}
-use Rattle.am_steps.proofs.Words.{was_handed, was_fetched, Balloting, with_more, without_one, as_it_is, BeginsBy, by_reset, by_hand_over, Promises, invited}
-use Rattle.am_steps.proofs.Words.{overtaken, told_result, Carries, whole_entry, by_number, Change, refreshes, settles, takes_report, admits, numbers}
-use Rattle.am_steps.proofs.Words.{keeps_body, notes, stores, begins_list, departs, promises, opens, looks, fetches, stores_view, queues, collects, takes}
-use Rattle.am_steps.proofs.Words.{asks_to_join, asks_to_leave, closes, IsPlain, settle_is, leads_pushed, after_change, numbers_plain}
+use Rattle.am_steps.proofs.Words.{numbers_plain, ◌≡◌, ℕ, ◌≤◌, ◌==◌, ◌||◌, not, nat_lt, Bool, true, false, List, length, refl, sym, ap, ◌∙◌, subst, Report}
+use Rattle.am_steps.proofs.Words.{Stamp, Entry, Outcome, kind_of, Status, Node, Ballot, top, is_member, is_asking, is_sequencer, has_departed, World}
+use Rattle.am_steps.proofs.Words.{group_after, and_both, Cause, hears, by_request, BringsReport, with_send, BringsFronts, by_entry, with_number, alone}
+use Rattle.am_steps.proofs.Words.{MayLook, was_reset, was_handed, was_fetched, Balloting, with_more, without_one, as_it_is, BeginsBy, by_reset, by_hand_over}
+use Rattle.am_steps.proofs.Words.{Promises, invited, overtaken, told_result, Carries, whole_entry, by_number, Change, refreshes, settles, takes_report}
+use Rattle.am_steps.proofs.Words.{admits, numbers, keeps_body, notes, stores, begins_list, departs, promises, opens, looks, fetches, stores_view, queues}
+use Rattle.am_steps.proofs.Words.{collects, takes, asks_to_join, asks_to_leave, closes, IsPlain, settle_is, leads_pushed, after_change}
 use Rattle.am_model.specs.declared.status.Status.TheVariants as status
 use Rattle.am_stands.specs.Keeping as plainly
 use Rattle.am_steps.proofs.{Grown.pushed_group, Statuses.asking_stays}

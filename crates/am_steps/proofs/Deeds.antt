@@ -1,10 +1,9 @@
 -- A look at a ballot, which comes last before the end of a step: a view that it decided was noted.
-use Rattle.am_steps.proofs.Words.{◌≡◌, ◌⊎◌, inl, inr, ⊎_elim, ℕ, max, true, false, List, [], ◌∷◌, ◌++◌, refl, sym, ap, ◌∙◌, subst, Stamp, Entry, Outcome}
-use Rattle.am_steps.proofs.Words.{Rules, stamp_lt, Group, Node, Ballot, view, is_member, image_of, Verdict, trim_for, left_in, need_of, Decided, World}
-use Rattle.am_steps.proofs.Words.{last_view, Cause, Balloting, Looks, finds_itself_out, waits, fetches_from_best, finds_too_few, finds_no_room, decides}
-use Rattle.am_steps.proofs.Words.{looks, Course, nothing_yet, used_report, and_then, Deeds, plainly, looked, course_changes, rests_refresh, below, not_above}
-use Rattle.am_steps.proofs.Words.{SameView, Stood, view_last, changes_do, looked_at, log_of_member, CauseSent, after_look, Stepping, looked_open}
-use Rattle.am_steps.proofs.Words.{changes_go_on}
+use Rattle.am_steps.proofs.Words.{logged, ◌≡◌, ◌⊎◌, inl, inr, ⊎_elim, ℕ, max, true, false, List, [], ◌∷◌, ◌++◌, refl, sym, ap, ◌∙◌, subst, Stamp, Entry}
+use Rattle.am_steps.proofs.Words.{Outcome, Rules, stamp_lt, Group, Node, Ballot, view, is_member, image_of, Verdict, trim_for, left_in, need_of, Decided}
+use Rattle.am_steps.proofs.Words.{World, last_view, Cause, Balloting, Looks, finds_itself_out, waits, fetches_from_best, finds_too_few, finds_no_room}
+use Rattle.am_steps.proofs.Words.{decides, looks, Course, nothing_yet, used_report, and_then, Deeds, plainly, looked, course_changes, rests_refresh, below}
+use Rattle.am_steps.proofs.Words.{not_above, SameView, Stood, view_last, changes_do, looked_at, CauseSent, after_look, Stepping, looked_open, changes_go_on}
 use Rattle.am_steps.proofs.{Worlds.growing, Refreshed.Fronted, Refreshed.Changed, Refreshed.then_changed, Courses.was_welcomed, Courses.look_brings}
 use Rattle.am_steps.proofs.{Courses.both_ways, Courses.stays, Fronts.fronts_next, Going.Grown, Going.as_before, Going.by_reports, Going.going_on}
 
@@ -91,7 +90,7 @@ deeds_on rules w name c o m x s (looked {n = n} b verdict course over why look i
     let up : (view n ≡ view m) ⊎ (stamp_lt (view m) (view n) ≡ true) = ⊎_elim
     (λ (same : SameView (image_of n) (image_of m)). inl same.view)
     (λ (k : (stamp_lt (view m) (view n) ≡ true) × Stood n.core.log). inr k.0)
-    (gone.does.goes (log_of_member m.status member)).view in
+    (gone.does.goes (logged m.status member)).view in
     record {
       group = g.group;
       views = (after_look look w).views;

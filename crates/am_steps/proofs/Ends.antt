@@ -1,13 +1,13 @@
 -- The end of a step: the refresh, what of it settles a send, and what the step noted.
-use Rattle.am_steps.proofs.Words.{◌≡◌, ◌≢◌, ⊎_elim, ℕ, ◌<◌, ◌≤◌, ◌==◌, ◌&&◌, not, true, false, List, [], ◌∷◌, ◌++◌, slice_get, Some, refl, sym, ap, ◌∙◌}
-use Rattle.am_steps.proofs.Words.{subst, arith, nat_tests, Stamp, Entry, Outcome, Rules, Log, told_by, members_of, fold, stamp_lt, stamp_eq, no_stamp}
-use Rattle.am_steps.proofs.Words.{view_of, key, view_small, Group, IsUp, Node, top, view, image_of, is_member, has_log, has_departed, refresh, settle}
-use Rattle.am_steps.proofs.Words.{Decided, World, group_after, views_after, split, and_both, Cause, settles, rests_refresh, leads_rests, settle_is, not_true}
-use Rattle.am_steps.proofs.Words.{same_stamp, not_above_itself, log_of_member, IsNoted, SameView, Stood, Goes, CauseSent, FrontsStand, Grows, Moves, Stepping}
-use Rattle.am_steps.proofs.Words.{then_moves, key_stamp, view_whole, old, whole, grows_trans, list_opens, changes_go_on}
+use Rattle.am_steps.proofs.Words.{nothing_viewed, member_stays, not-true, logged, stamp_itself, same_stamp, ◌≡◌, ◌≢◌, ⊎_elim, ℕ, ◌<◌, ◌≤◌, ◌==◌, ◌&&◌, not}
+use Rattle.am_steps.proofs.Words.{true, false, List, [], ◌∷◌, ◌++◌, slice_get, Some, refl, sym, ap, ◌∙◌, subst, arith, nat_tests, Stamp, Entry, Outcome}
+use Rattle.am_steps.proofs.Words.{Rules, Log, told_by, members_of, fold, stamp_lt, stamp_eq, no_stamp, view_of, key, view_small, Group, IsUp, Node, top, view}
+use Rattle.am_steps.proofs.Words.{image_of, is_member, has_log, has_departed, refresh, settle, Decided, World, group_after, views_after, split, and_both}
+use Rattle.am_steps.proofs.Words.{Cause, settles, rests_refresh, leads_rests, settle_is, not_above_itself, IsNoted, SameView, Stood, Goes, CauseSent}
+use Rattle.am_steps.proofs.Words.{FrontsStand, Grows, Moves, Stepping, then_moves, key_stamp, view_whole, old, whole, grows_trans, list_opens, changes_go_on}
 use Rattle.am_play.specs.World.{decides}
-use Rattle.am_steps.proofs.{Statuses.member_here, Worlds.growing, Refreshed.refresh_on, Grown.accepted_twice, Going.Grown, Going.as_before, Going.by_reports}
-use Rattle.am_steps.proofs.{Deeds.further, Deeds.Seen, Deeds.none_new, Deeds.one_new, Deeds.Done}
+use Rattle.am_steps.proofs.{Worlds.growing, Refreshed.refresh_on, Grown.accepted_twice, Going.Grown, Going.as_before, Going.by_reports, Deeds.further}
+use Rattle.am_steps.proofs.{Deeds.Seen, Deeds.none_new, Deeds.one_new, Deeds.Done}
 
 -- ---- the group list at the end
 
@@ -81,15 +81,8 @@ ended_on rules w name c o m x s sent d =
 
 -- ---- what was noted
 
-pub stamp_itself : (a : Stamp) → stamp_eq a a ≡ true
-stamp_itself a = grind (arith, nat_tests)
-
 none_below : (a : Stamp) → stamp_lt a no_stamp ≡ false
 none_below a = grind (arith, nat_tests)
-
-no_view : view_of [] ≡ no_stamp
-unfolding view_of fold
-no_view = refl
 
 -- a step that noted no view decided none
 none_decided : (rules : Rules) (w : World) (name : ℕ) (c : Cause) (m n : Node) (t : Group) (group : List Entry)
@@ -99,18 +92,18 @@ none_decided : (rules : Rules) (w : World) (name : ℕ) (c : Cause) (m n : Node)
     → w.nodes name ≡ m
     → (member : is_member m.status ≡ true) → (view n).by ≡ n.core.who → stamp_eq (view m) (view n) ≡ false → ⊥
 none_decided rules w name c m n t group h goes log_ there noted is member own differs =
-    let had = log_of_member m.status member in
+    let had = logged m.status member in
     let mine = old rules (further w group w.views) name c n t h in
     let up : IsUp (t.node name) = record {
       log = mine.log_ ∙ log_ had;
-      there = record { goes = mine.stopped ∙ h.runs; stays = mine.departed ∙ there (member_here m.status member) };
+      there = record { goes = mine.stopped ∙ h.runs; stays = mine.departed ∙ there (member_stays m.status member) };
     } in
     ⊎_elim
     (λ (same : SameView (image_of n) (image_of m)). (let z : stamp_eq (view m) (view n) ≡ true = ap (stamp_eq (view m)) same.view
     ∙ stamp_itself (view m) in cc)) (λ (k : (stamp_lt (view m) (view n) ≡ true) × Stood n.core.log). (
     let viewed : view_of (t.node name).list ≡ view n = view_whole (further w group w.views) name n (t.node name) mine in
     let g = whole rules (further w group w.views) name c n t h in
-    let some : (t.node name).list ≢ [] = λ none. (let z : view n ≡ no_stamp = sym viewed ∙ ap view_of none ∙ no_view in
+    let some : (t.node name).list ≢ [] = λ none. (let z : view n ≡ no_stamp = sym viewed ∙ ap view_of none ∙ nothing_viewed in
     let low : stamp_lt (view m) (view n) ≡ false = ap (stamp_lt (view m)) z ∙ none_below (view m) in let up_ = k.0 in cc) in
     let opens = list_opens t name g.kept g.opens up some in
     let was = h.stands.views.decided (key (view n)) (ap (λ (u : Stamp). t.views.decided (key u)) (sym viewed) ∙ opens.decided) in
@@ -135,7 +128,7 @@ views_end rules w name c m n t group views h goes log_ there noted is (none_new 
     let b = and_both ((view n).by == n.core.who) (not (stamp_eq (view m) (view n))) a.1 in
     let own : (view n).by ≡ n.core.who = (let z = b.0 in grind (arith, nat_tests)) in
     none_decided rules w name c m n t group (subst (λ vs. Stepping rules (further w group vs) name c n t) same h) goes log_ there noted is a.0 own
-    (not_true (stamp_eq (view m) (view n)) b.1)))
+    (not-true (stamp_eq (view m) (view n)) b.1)))
     (λ f. rw f same)
 views_end rules w name c m n t group views h goes log_ there noted is (one_new d same) =
     let own : ((view n).by == n.core.who) ≡ true = (let z = d.own in grind (arith, nat_tests)) in

@@ -1,9 +1,9 @@
 -- How far a name is told, and gives out, along plain changes of its step.
-use Rattle.am_steps.proofs.Words.{◌≡◌, ℕ, ◌<◌, ◌≤◌, ◌==◌, ◌&&◌, nat_lt, true, false, length, refl, sym, ap, ◌∙◌, arith, nat_tests, Stamp, Outcome, Rules}
-use Rattle.am_steps.proofs.Words.{stamp_eq, Packet, key, Group, Node, Ballot, view, acts, is_member, has_departed, Verdict, hears_member, hears_in_view}
-use Rattle.am_steps.proofs.Words.{hears_sequencer, with_noted, World, split, and_both, Cause, hears, BringsFronts, with_entry, with_number, alone, Looks}
-use Rattle.am_steps.proofs.Words.{finds_itself_out, Change, refreshes, settles, notes, stores, begins_list, departs, looks, fetches, stores_view}
-use Rattle.am_steps.proofs.Words.{asks_to_join, closes, settle_is, same_stamp, nothing, of_sequencer, Grows, SequencerSays, FrontsStay, FrontsAfter, HeardSo}
+use Rattle.am_steps.proofs.Words.{same_stamp, ◌≡◌, ℕ, ◌<◌, ◌≤◌, ◌==◌, ◌&&◌, nat_lt, true, false, length, refl, sym, ap, ◌∙◌, arith, nat_tests, Stamp, Outcome}
+use Rattle.am_steps.proofs.Words.{Rules, stamp_eq, Packet, key, Group, Node, Ballot, view, acts, is_member, has_departed, Verdict, hears_member}
+use Rattle.am_steps.proofs.Words.{hears_in_view, hears_sequencer, with_noted, World, split, and_both, Cause, hears, BringsFronts, with_entry, with_number}
+use Rattle.am_steps.proofs.Words.{alone, Looks, finds_itself_out, Change, refreshes, settles, notes, stores, begins_list, departs, looks, fetches}
+use Rattle.am_steps.proofs.Words.{stores_view, asks_to_join, closes, settle_is, nothing, of_sequencer, Grows, SequencerSays, FrontsStay, FrontsAfter, HeardSo}
 use Rattle.am_steps.proofs.Words.{Stepping, old}
 use Rattle.am_stands.specs.Keeping.{IsPlain}
 use Rattle.am_packet.specs.declared.packet.Packet.TheVariants as packet

@@ -1,9 +1,9 @@
 -- A request of a name stands for one body, in every run.
-use Rattle.am_steps.proofs.Words.{◌≡◌, ⊎_elim, ℕ, ◌+◌, ◌≤◌, List, [], refl, sym, ap, subst, arith, Outcome, Rules, Act, Event, Node, Ballot, set_at, Verdict}
-use Rattle.am_steps.proofs.Words.{Step, World, start, record_of, with_record, with_step, run, split, Cause, calls, Looks, finds_itself_out, Change, refreshes}
-use Rattle.am_steps.proofs.Words.{settles, looks, queues, collects, closes, Answers, WasQueued, AnswersAsk, Effect, actor, IsCall, IsCause, IsIdle, idles}
-use Rattle.am_steps.proofs.Words.{stops, returns, steps, rests_refresh, rests_closed, settle_is, along, EachKeeps, runs_keep, after_step, AskedOk, asked_more}
-use Rattle.am_steps.proofs.Words.{asked_other, unique, SendsOnce}
+use Rattle.am_steps.proofs.Words.{idle_queues, ◌≡◌, ⊎_elim, ℕ, ◌+◌, ◌≤◌, List, [], refl, sym, ap, subst, arith, Outcome, Rules, Act, Event, Node, Ballot}
+use Rattle.am_steps.proofs.Words.{set_at, Verdict, Step, World, start, record_of, with_record, with_step, run, split, Cause, calls, Looks, finds_itself_out}
+use Rattle.am_steps.proofs.Words.{Change, refreshes, settles, looks, queues, collects, closes, Answers, WasQueued, AnswersAsk, Effect, actor, IsCall, IsCause}
+use Rattle.am_steps.proofs.Words.{IsIdle, idles, stops, returns, steps, rests_refresh, rests_closed, settle_is, along, EachKeeps, runs_keep, after_step}
+use Rattle.am_steps.proofs.Words.{AskedOk, asked_more, asked_other, unique, SendsOnce}
 use Rattle.am_base.specs.declared.outcome.Outcome.TheVariants as said
 use Rattle.am_base.specs.declared.event.NodeEvent.TheVariants as does
 use Rattle.am_sender.specs.Sends as own
@@ -49,14 +49,11 @@ asked_step w e c s h cause effect =
 pub record AllAsked (w : World) : Type 0 where
   pub asked : AskedOk w.records w.nodes
 
-no_idle : (o : Outcome) (req : ℕ) → IsIdle o → o ≡ said.Queued req → ⊥
-no_idle o req idle is = subst IsIdle is idle
-
 asked_next : EachKeeps AllAsked
 unfolding with_record with_step
 asked_next w e v (idles o idle) h = record {
   asked = asked_other w.records w.nodes (record_of w e o [])
-      (λ name req body is. no_idle o req idle is.answered) h.asked;
+      (λ name req body is. idle_queues o req idle is.answered) h.asked;
 }
 asked_next w e v (stops runs) h = record {
   asked = asked_other w.records w.nodes (record_of w e said.Stopped [])

@@ -1,14 +1,13 @@
 -- Where a node's last ballot was decided and its promise is its own, it is that of the ballot, in every run.
-use Rattle.am_steps.proofs.Words.{◌≡◌, inr, ⊎_elim, ℕ, ◌<◌, ◌==◌, ◌&&◌, ◌||◌, not, true, false, List, Option, Some, None, sym, ap, ◌∙◌, subst, arith}
-use Rattle.am_steps.proofs.Words.{nat_tests, Stamp, Outcome, Rules, MayFound, has, stamp_lt, no_stamp, Event, Node, Ballot, is_member, is_asking, Verdict}
-use Rattle.am_steps.proofs.Words.{overtake, World, start, with_record, with_step, run, split, and_both, Cause, Looks, finds_itself_out, waits}
+use Rattle.am_steps.proofs.Words.{none_of_asking, ◌≡◌, inr, ⊎_elim, ℕ, ◌<◌, ◌==◌, ◌&&◌, ◌||◌, not, true, false, List, Option, Some, None, sym, ap, ◌∙◌, subst}
+use Rattle.am_steps.proofs.Words.{arith, nat_tests, Stamp, Outcome, Rules, MayFound, has, stamp_lt, no_stamp, Event, Node, Ballot, is_member, is_asking}
+use Rattle.am_steps.proofs.Words.{Verdict, overtake, World, start, with_record, with_step, run, split, and_both, Cause, Looks, finds_itself_out, waits}
 use Rattle.am_steps.proofs.Words.{fetches_from_best, finds_too_few, finds_no_room, decides, Promises, invited, overtaken_by, told_result, Change, refreshes}
 use Rattle.am_steps.proofs.Words.{settles, begins_list, promises, opens, looks, closes, actor, idles, stops, returns, steps, rests_refresh, rests_closed}
 use Rattle.am_steps.proofs.Words.{settle_is, along, EachKeeps, runs_keep, few_names, equal_stamps, HasNames, HeardNames, change_names, promised_named}
 use Rattle.am_steps.proofs.Words.{Balloted, change_does, looked_at, AllViews, each_views, heard_names, views_start, AtMost, IsBegun, most_same, most_through}
 use Rattle.am_steps.proofs.Words.{CauseBegun, Promised, promise_change, AllBegun, cause_begun, each_keeps, start_begun, OwnDecided}
 use Rattle.am_base.specs.declared.outcome.Outcome.TheVariants as said
-use Rattle.am_steps.proofs.Statuses.{asking_bare}
 
 -- ---- by the parts of a node
 
@@ -82,7 +81,7 @@ change_owns nodes i c o x y names begun settles h = same_owning x y (ap (λ (n :
     (ap (λ (n : Node). n.ballot) (settle_is x)) h.owns
 change_owns nodes i c o x y names begun (begins_list s v base join image is says may) h = λ b number all at answer mine. absurd (
     let asks = and_both (not (s == x.core.who)) (is_member x.status || is_asking x.status) may.asks in
-    let none = h.balloted.none (asking_bare x.status may.no_member asks.1) in
+    let none = h.balloted.none (none_of_asking x.status may.no_member asks.1) in
     let z = sym none ∙ at in
     cc)
 change_owns nodes i c o x y names begun (promises v low why) h = promise_owns nodes i c x v names begun why low (raised why) h

@@ -1,17 +1,17 @@
 -- A refresh within a step: the group accepts what it accepts, and the name learns of it; and then all is known again.
-use Rattle.am_steps.proofs.Words.{◌≡◌, ℕ, ◌≤◌, max, true, false, List, [], length, refl, sym, ap, ◌∙◌, subst, arith, append-nil, Entry, Rules, top_of, Begins}
-use Rattle.am_steps.proofs.Words.{begins_refl, Group, chain_of, with_node, Kept, put_same, Node, is_member, is_sequencer, lowest_or_first, has_departed}
-use Rattle.am_steps.proofs.Words.{refresh, World, group_after, split, Cause, refreshes, unchanged, changed, rests_refresh, stamp_of, Along, along_changes}
-use Rattle.am_steps.proofs.Words.{leads_member, kept_refresh, NameStands, StandsBut, within, MayCount, Word, nothing, of_sequencer, ComesTo, AcceptsAndLearns}
-use Rattle.am_steps.proofs.Words.{Grows, Moves, none, moves, Stepping, own_name, is_up, unmoved_refresh, front_named, counts_names, accept_moves, then_moves}
-use Rattle.am_steps.proofs.Words.{kept, old, no_more_group, refresh_learns, advanced, letters_stay, sequencer_stays, grows_trans, goes_on, grows_same}
-use Rattle.am_steps.proofs.Words.{refreshes_keep, keeps_in}
+use Rattle.am_steps.proofs.Words.{same_group, member_stays, ◌≡◌, ℕ, ◌≤◌, max, true, false, List, [], length, refl, sym, ap, ◌∙◌, subst, arith, append-nil}
+use Rattle.am_steps.proofs.Words.{Entry, Rules, top_of, Begins, begins_refl, Group, chain_of, with_node, Kept, put_same, Node, is_member, is_sequencer}
+use Rattle.am_steps.proofs.Words.{lowest_or_first, has_departed, refresh, World, group_after, split, Cause, refreshes, unchanged, changed, rests_refresh}
+use Rattle.am_steps.proofs.Words.{stamp_of, Along, along_changes, leads_member, kept_refresh, NameStands, StandsBut, within, MayCount, Word, nothing}
+use Rattle.am_steps.proofs.Words.{of_sequencer, ComesTo, AcceptsAndLearns, Grows, Moves, none, moves, Stepping, own_name, is_up, unmoved_refresh, front_named}
+use Rattle.am_steps.proofs.Words.{counts_names, accept_moves, then_moves, kept, old, refresh_learns, advanced, letters_stay, sequencer_stays, grows_trans}
+use Rattle.am_steps.proofs.Words.{goes_on, grows_same, refreshes_keep, keeps_in}
 use Rattle.am_base.specs.declared.outcome.Outcome.TheVariants as said
 use Rattle.am_chain_moves.specs.Group as groups
 use Rattle.am_chain_moves.specs.Moves as group
 use Rattle.am_model.specs.Node as nodes
-use Rattle.am_steps.proofs.{Statuses.bare_status, Statuses.member_here, Worlds.growing, Worlds.grown_stands, Worlds.same_stands, Worlds.learned}
-use Rattle.am_steps.proofs.{Worlds.learned_stands, Worlds.once_in}
+use Rattle.am_steps.proofs.{Statuses.bare_status, Worlds.growing, Worlds.grown_stands, Worlds.same_stands, Worlds.learned, Worlds.learned_stands}
+use Rattle.am_steps.proofs.{Worlds.once_in}
 
 -- ---- how far a name was told, and gives out, within its step
 
@@ -204,7 +204,7 @@ module _ (rules : Rules) (w : World) (name : ℕ) (c : Cause) (x : Node) (s : Gr
 
   module _ (other : is_member x.status ≡ false) (low : y.core.acc ≤ length w.group) (fronts : Fronted w name y s) (none_heard : fronts.heard ≡ 0) where
     same : group_after w.group y ≡ w.group
-    same = no_more_group w.group y low
+    same = same_group w.group y low
 
     other_goes : Stepping rules (growing w w.group) name c y s
     other_goes = gone_on w.group s none (begins_refl w.group) (same_stands w name x y s (unmoved_refresh x) h.stands) refl
@@ -233,7 +233,7 @@ module _ (rules : Rules) (w : World) (name : ℕ) (c : Cause) (x : Node) (s : Gr
 pub refresh_on : (rules : Rules) (w : World) (name : ℕ) (c : Cause) (x : Node) (s : Group) → Stepping rules w name c x s → Fronted w name x s
     → Refreshed rules w name c x s
 refresh_on rules w name c x s h f = split (is_member x.status)
-    (λ t. member_refreshed rules w name c x s h f t (member_here x.status t))
+    (λ t. member_refreshed rules w name c x s h f t (member_stays x.status t))
     (λ m. (
     let follows = advanced x (no_leader x m) in
     let its_told = follows.0 in

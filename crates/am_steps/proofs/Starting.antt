@@ -38,7 +38,7 @@ stands_but w records name s h = subst (λ f. StandsBut name (record (recorded w 
 
 -- ---- what is heard
 
-item_get : {A : Type 0} (xs : List A) (number : ℕ) (x : A) → item_at xs number ≡ Some x → (k : ℕ) × (slice_get xs k ≡ Some x)
+pub item_get : {A : Type 0} (xs : List A) (number : ℕ) (x : A) → item_at xs number ≡ Some x → (k : ℕ) × (slice_get xs k ≡ Some x)
 item_get xs zero x is = absurd (cc)
 item_get xs (suc k) x is = (k, is)
 

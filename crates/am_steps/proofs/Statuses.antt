@@ -9,20 +9,6 @@ bare_status status.Asking m d = refl
 bare_status status.Member m d = absurd (cc)
 bare_status status.Departed m d = absurd (cc)
 
--- nor who asks to join
-pub asking_bare : (t : Status) → is_member t ≡ false → (is_member t || is_asking t) ≡ true → has_log t ≡ false
-asking_bare status.Stranger m a = refl
-asking_bare status.Asking m a = refl
-asking_bare status.Member m a = absurd (cc)
-asking_bare status.Departed m a = absurd (cc)
-
--- a member, or who asks to be one, is there
-pub member_here : (t : Status) → is_member t ≡ true → has_departed t ≡ false
-member_here status.Stranger m = refl
-member_here status.Asking m = refl
-member_here status.Member m = refl
-member_here status.Departed m = absurd (cc)
-
 pub asking_stays : (t : Status) → (is_member t || is_asking t) ≡ true → has_departed t ≡ true → ⊥
 asking_stays status.Stranger a d = cc
 asking_stays status.Asking a d = cc

@@ -67,7 +67,7 @@ pub record OtherOk (rules : Rules) (list : List Entry) (acc i : ℕ) (all : List
   pub gave : Gave c o m x
 
 -- nobody but the first founder accepts more
-same_group : (group : List Entry) (n : Node) → n.core.acc ≤ length group → group_after group n ≡ group
+pub same_group : (group : List Entry) (n : Node) → n.core.acc ≤ length group → group_after group n ≡ group
 same_group group n low =
     let z : n.core.acc - length group ≡ 0 = omega arith in
     split ((view n).by == n.core.who)

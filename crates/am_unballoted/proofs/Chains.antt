@@ -89,13 +89,13 @@ pub data Gave (c : Cause) (o : Outcome) (m n : Node) : Type 0 where
       → has_log m.status ≡ false → has_log n.status ≡ true → n.core.start ≡ join → front n ≡ join - 1 → 0 < join → Gave c o m n
 
 -- a change that moves no front
-gave_still : {c : Cause} {o : Outcome} (k m n : Node) → front n ≡ front m → n.core.start ≡ m.core.start → has_log n.status ≡ has_log m.status → Gave c o k m
+pub gave_still : {c : Cause} {o : Outcome} (k m n : Node) → front n ≡ front m → n.core.start ≡ m.core.start → has_log n.status ≡ has_log m.status → Gave c o k m
     → Gave c o k n
 gave_still k m n a b d (nothing x y z) = nothing (a ∙ x) (b ∙ y) (d ∙ z)
 gave_still k m n a b d (took j e is x y z w u v) = took j e is x (a ∙ y) (b ∙ z) (let s = ap (λ t. t - 1) b in omega arith) (d ∙ u) v
 gave_still k m n a b d (began s v base join image is says x y z w u) = began s v base join image is says x (d ∙ y) (b ∙ z) (a ∙ w) u
 
-passed_front : (taken acc start : ℕ) → max (if nat_lt taken (start - 1) then max taken (min acc (start - 1)) else taken) (start - 1) ≡ max taken (start - 1)
+pub passed_front : (taken acc start : ℕ) → max (if nat_lt taken (start - 1) then max taken (min acc (start - 1)) else taken) (start - 1) ≡ max taken (start - 1)
 passed_front taken acc start = split (nat_lt taken (start - 1)) (λ t. let z : taken < start - 1 = grind (arith, nat_tests) in
     rw t (omega arith)) (λ f. rw f refl)
 

@@ -1,8 +1,8 @@
 -- What each change of the first founder keeps, as long as its ballot is none.
-use Rattle.am_unballoted.proofs.Words.{◌≡◌, ℕ, ◌+◌, ◌-◌, ◌<◌, ◌≤◌, max, min, ◌==◌, ◌&&◌, ◌||◌, not, nat_lt, true, false, if◌then◌else◌, List, [], length, map}
-use Rattle.am_unballoted.proofs.Words.{Option, Some, None, refl, sym, ap, ◌∙◌, subst, append-nil, arith, nat_tests, Stamp, Report, Row, Image, Entry, Data}
-use Rattle.am_unballoted.proofs.Words.{Join, Leave, Outcome, Rules, life_of, stamp_eq, Log, fits, at_place, row_of, requests_of, accept, pass_over}
-use Rattle.am_unballoted.proofs.Words.{own_report, tell, go_on, let_go, OwnSend, Status, Node, top, view, is_member, is_asking, acts, is_sequencer}
+use Rattle.am_unballoted.proofs.Words.{stamp_itself, ◌≡◌, ℕ, ◌+◌, ◌-◌, ◌<◌, ◌≤◌, max, min, ◌==◌, ◌&&◌, ◌||◌, not, nat_lt, true, false, if◌then◌else◌, List}
+use Rattle.am_unballoted.proofs.Words.{[], length, map, Option, Some, None, refl, sym, ap, ◌∙◌, subst, append-nil, arith, nat_tests, Stamp, Report, Row}
+use Rattle.am_unballoted.proofs.Words.{Image, Entry, Data, Join, Leave, Outcome, Rules, life_of, stamp_eq, Log, fits, at_place, row_of, requests_of, accept}
+use Rattle.am_unballoted.proofs.Words.{pass_over, own_report, tell, go_on, let_go, OwnSend, Status, Node, top, view, is_member, is_asking, acts, is_sequencer}
 use Rattle.am_unballoted.proofs.Words.{push_entry, waiting, founding_stamp, has_log, advance, lead, refresh, accepted_at, settle_at, settle_waiting, settle}
 use Rattle.am_unballoted.proofs.Words.{refresh_at_end, is_view, hears_member, hears_in_view, hears_sequencer, split, and_both, image_of, mem, mem_in, in_mem}
 use Rattle.am_unballoted.proofs.Words.{mem_push, request_within, next_in, Cause, Numbers, asked_send, own_send, asked_join, asked_leave, MayBeWelcomed}
@@ -254,9 +254,6 @@ not_fetched rules m v h member promise below =
     let first = founding_stamp rules in
     let z : ⊥ = grind (arith, nat_tests) in z
 
-itself : (v : Stamp) → stamp_eq v v ≡ true
-itself v = grind (arith, nat_tests)
-
 -- who has a list joins no more
 pub not_welcomed : (m : Node) (s : ℕ) (v : Stamp) (base join : ℕ) (image : Image) → MayBeWelcomed m s v base join image → has_log m.status ≡ true → ⊥
 not_welcomed m s v base join image h log =
@@ -289,7 +286,7 @@ member_refreshed rules m h t =
 member_settled : (rules : Rules) (m : Node) → FirstOk rules m → is_member (settle m).status ≡ true → mem (settle m).core.log.entries (first_of rules) ≡ true
 member_settled rules m h = subst (λ (n : Node). is_member n.status ≡ true → mem n.core.log.entries (first_of rules) ≡ true) (sym (settle_is m)) h.member
 
-leader_member : (m : Node) → is_sequencer m ≡ true → is_member m.status ≡ true
+pub leader_member : (m : Node) → is_sequencer m ≡ true → is_member m.status ≡ true
 leader_member m t = (and_both (is_member m.status) _ (and_both (acts m) _ t).0).0
 
 numbered : (rules : Rules) (c : Cause) (m : Node) (e : Entry) → is_sequencer m ≡ true → Numbers c m e → FirstOk rules m → FirstOk rules (push_entry m e)
@@ -341,7 +338,7 @@ first_change rules list acc c o m n w (looks b verdict over why look is) none h 
 first_change rules list acc c o m n w (fetches s v base number e is heard promise below from may) none h =
     absurd (not_fetched rules m v h.base (and_both (not (s == m.core.who)) (is_member m.status) heard).1 promise below)
 first_change rules list acc c o m n w (stores_view s v base number names resilience is heard own other promise below may) none h =
-    absurd (not_fetched rules m v h.base (and_both (not (s == m.core.who)) (is_member m.status) heard).1 (ap (stamp_eq v) promise ∙ itself v) below)
+    absurd (not_fetched rules m v h.base (and_both (not (s == m.core.who)) (is_member m.status) heard).1 (ap (stamp_eq v) promise ∙ stamp_itself v) below)
 first_change rules list acc c o m n w (queues body is says member stays few) none h =
     let b = h.base in
     let own_ = b.own in

@@ -11,7 +11,7 @@ use Rattle.am_unballoted.proofs.{Steps.sent_step, Welcomes.record_step, Welcomes
 
 -- ---- one name's node
 
-by_name : (P : ℕ → Node → Type 0) (nodes : ℕ → Node) (i : ℕ) (n : Node) → P i n → ((j : ℕ) → i ≢ j → P j (nodes j)) → (j : ℕ) → P j (set_at nodes i n j)
+pub by_name : (P : ℕ → Node → Type 0) (nodes : ℕ → Node) (i : ℕ) (n : Node) → P i n → ((j : ℕ) → i ≢ j → P j (nodes j)) → (j : ℕ) → P j (set_at nodes i n j)
 by_name P nodes i n k h j = split (j == i)
     (λ t. let is : i ≡ j = grind (arith, nat_tests) in rw t (subst (λ x. P x n) is k))
     (λ f. rw f (h j (λ e. let z : ⊥ = grind (arith, nat_tests) in z)))

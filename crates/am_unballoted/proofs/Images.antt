@@ -1,9 +1,9 @@
 -- Where the number of a row's joining stands in the whole list.
-use Rattle.am_unballoted.proofs.Words.{◌≡◌, ◌≢◌, ◌⊎◌, ⊎_elim, inl, inr, ℕ, ◌+◌, ◌<◌, ◌==◌, true, false, List, [], ◌∷◌, ◌++◌, length, slice_index, Some, refl}
-use Rattle.am_unballoted.proofs.Words.{sym, ap, ◌∙◌, subst, append_assoc, append-nil, arith, get_or-replicate, All, nat_tests, All-head, All-tail, Row, Image}
-use Rattle.am_unballoted.proofs.Words.{Entry, Data, Join, Leave, View, Rules, has, place_of, life_of, blank, blank_row, fold, after, at_place, with_row}
-use Rattle.am_unballoted.proofs.Words.{item_at, founders_view, founding_stamp, is_view, split, image_of, row_at, row_set, row_view, told_push, long_told}
-use Rattle.am_unballoted.proofs.Words.{get_last}
+use Rattle.am_unballoted.proofs.Words.{same_name, ◌≡◌, ◌≢◌, ◌⊎◌, ⊎_elim, inl, inr, ℕ, ◌+◌, ◌<◌, ◌==◌, true, false, List, [], ◌∷◌, ◌++◌, length, slice_index}
+use Rattle.am_unballoted.proofs.Words.{Some, refl, sym, ap, ◌∙◌, subst, append_assoc, append-nil, arith, get_or-replicate, All, nat_tests, All-head, All-tail}
+use Rattle.am_unballoted.proofs.Words.{Row, Image, Entry, Data, Join, Leave, View, Rules, has, place_of, life_of, blank, blank_row, fold, after, at_place}
+use Rattle.am_unballoted.proofs.Words.{with_row, item_at, founders_view, founding_stamp, is_view, split, image_of, row_at, row_set, row_view, told_push}
+use Rattle.am_unballoted.proofs.Words.{long_told, get_last}
 use Rattle.am_unballoted.proofs.{Lists.item_more, Lists.get_item, First.IsGroup}
 
 -- a row whose place has joined is a founder's, or that of a Join at this number
@@ -24,9 +24,6 @@ row_more rules list more place r s a b h = record {
       (λ (x : item_at list r.joined ≡ Some (Join name)). inr (ap (item_at (list ++ more)) a ∙ item_more list more r.joined (Join name) x))
       (h.joined name at (subst (λ n. 0 < n) a up) (sym b ∙ is)));
 }
-
-same_name : (a b : ℕ) → place_of a ≡ place_of b → life_of a ≡ life_of b → a ≡ b
-same_name a b p l = omega arith
 
 -- the row of a name that joins
 row_new : (rules : Rules) (list : List Entry) (place joiner n : ℕ) → n ≡ length list + 1 → place ≡ place_of joiner

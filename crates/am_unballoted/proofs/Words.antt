@@ -66,7 +66,7 @@ pub use Rattle.am_chain_lists.specs.Whole.{IsGood, image_of, SmallName, Begins}
 unfoldable pub use Rattle.am_chain_lists.specs.Whole.{mem, AllSmall}
 pub use Rattle.am_chain_lists.proofs.Members.{good_push, mem_in, in_mem, mem_push, good_begins, told_push, long_told, viewed_mem}
 pub use Rattle.am_chain_lists.proofs.Prefixes.{begins_take, begins_push, length_take, begins_same, length_push}
-pub use Rattle.am_chain_lists.proofs.Rows.{row_at, row_set, row_view}
+pub use Rattle.am_chain_lists.proofs.Rows.{same_name, row_at, row_set, row_view}
 pub use Rattle.am_orders.proofs.Turns.{request_within, next_in, senders_in_order, send_stands_once}
 pub use Rattle.am_effects.specs.Causes.{Cause, calls, hears, refuses, BringsFronts, with_entry, with_number, alone}
 pub use Rattle.am_effects.specs.Changes.{Change, refreshes, settles, numbers, stores, begins_list, opens, looks, fetches, stores_view, closes, MayBeWelcomed}
@@ -81,6 +81,7 @@ pub use Rattle.am_effects.proofs.Items.{all_item, get_take, get_last, all_get, g
 pub use Rattle.am_effects.proofs.Rests.{rests_refresh, rests_closed, settle_is, base_up}
 pub use Rattle.am_effects.proofs.Statuses.{logged, asking_log}
 pub use Rattle.am_effects.proofs.Receiving.{asking}
+pub use Rattle.am_effects.proofs.Resets.{stamp_itself}
 pub use Rattle.am_effects.proofs.Events.{events_have_effects}
 pub use Rattle.am_effects.proofs.Runs.{EachKeeps, runs_keep}
 pub use Rattle.am_effects.specs.Looks.{Looks, finds_itself_out}

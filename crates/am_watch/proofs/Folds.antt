@@ -45,7 +45,7 @@ up_self a = record { keeps = λ s h. h }
 pub up_trans : (a b c : Stamp) → IsUpTo a b → IsUpTo b c → IsUpTo a c
 up_trans a b c g h = record { keeps = λ s f. h.keeps s (g.keeps s f) }
 
-not_both : {G : Type 0} (b : Bool) → b ≡ true → b ≡ false → G
+pub not_both : {G : Type 0} (b : Bool) → b ≡ true → b ≡ false → G
 not_both b t f = absurd (cc)
 
 pub up_lt : (a b : Stamp) → stamp_lt a b ≡ true → IsUpTo a b

@@ -1,4 +1,8 @@
 -- A step of a name, a stop, and any other event: what is kept afterwards is that of the world afterwards.
+use Rattle.std.proofs.lemmas.Bool.{or_parts}
+use Rattle.std.proofs.Math.Bool.{or-true}
+use Rattle.std.proofs.Math.Bool.{or-false}
+use Rattle.std.proofs.lemmas.Bool.{not-true}
 use Rattle.std.proofs.Common.{◌≡◌, ◌≢◌, ℕ, ◌+◌, ◌<◌, ◌≤◌, Bool, true, false, not, ◌&&◌, ◌||◌, ◌==◌, if◌then◌else◌, List, [], ◌∷◌, ◌++◌, length, map, filter}
 use Rattle.std.proofs.Common.{replicate, count_by, min, nat_le, nat_lt, Option, Some, None, slice_index_or, slice_set, refl, sym, ap, ◌∙◌, subst, inl, inr}
 use Rattle.std.proofs.Common.{arith}
@@ -52,14 +56,6 @@ map_same f g h (x ∷ xs) = ap (λ y. y ∷ map g (map f xs)) (h x) ∙ ap (λ y
 
 -- ---- what a name's step makes of the names
 
-or_false : (b : Bool) → (b || false) ≡ b
-or_false true = refl
-or_false false = refl
-
-or_true : (b : Bool) → (b || true) ≡ true
-or_true true = refl
-or_true false = refl
-
 standing_one : (k : Watching) (name other : ℕ) (after : Standing) → name < length k.names
     → standing (with_standing k name after) other ≡ (if other == name then after else standing k other)
 standing_one k name other after h = split (other == name)
@@ -102,10 +98,10 @@ set_one : (entries : List Entry) (name other : ℕ) (v : Pending) (old : Bool) �
     → slice_index_or (entered name entries v).stored other false ≡ (if other == name then old || list_any (is_view_of v.view.stamp) entries else old)
 set_one entries name other v old h is = split (list_any (is_view_of v.view.stamp) entries)
     (λ t. split (other == name)
-    (λ e. let same : other ≡ name = grind (arith, nat_tests) in rw t (rw e (rw same (get_or-set_same v.stored name true false h) ∙ sym (or_true old))))
+    (λ e. let same : other ≡ name = grind (arith, nat_tests) in rw t (rw e (rw same (get_or-set_same v.stored name true false h) ∙ sym (or-true old))))
     (λ e. let other_one : other ≢ name = λ same. not_same other name same e in rw t (rw e (get_or-set_other v.stored name other true false other_one ∙ is))))
     (λ t. split (other == name)
-    (λ e. rw t (rw e (is ∙ sym (or_false old))))
+    (λ e. rw t (rw e (is ∙ sym (or-false old))))
     (λ e. rw t (rw e is)))
   where
     not_same : (a b : ℕ) → a ≡ b → (a == b) ≡ false → ⊥
@@ -342,15 +338,11 @@ not_decided true true c h = rw h refl
 not_decided true false c h = refl
 not_decided false b c h = refl
 
-view_one : (s : Stamp) (e : Entry) → is_view e ≡ false → is_view_of s e ≡ false
+pub view_one : (s : Stamp) (e : Entry) → is_view e ≡ false → is_view_of s e ≡ false
 view_one s (Data from req body) h = refl
 view_one s (Join name) h = refl
 view_one s (Leave name) h = refl
 view_one s (View stamp members resilience) h = absurd (cc)
-
-or_parts : (a b : Bool) → (a || b) ≡ false → (a ≡ false) × (b ≡ false)
-or_parts false b h = (refl, h)
-or_parts true b h = absurd (cc)
 
 no_view : (s : Stamp) (entries : List Entry) → list_any is_view entries ≡ false → list_any (is_view_of s) entries ≡ false
 no_view s [] h = refl
@@ -358,10 +350,6 @@ no_view s (e ∷ es) h =
     let both = or_parts (is_view e) (list_any is_view es) h in
     let one = view_one s e both.0 in
     rw one (no_view s es both.1)
-
-not_true : (b : Bool) → not b ≡ true → b ≡ false
-not_true true h = sym h
-not_true false h = refl
 
 entry_none : (name : ℕ) (e : Entry) (ps : List Pending) → is_view e ≡ false → note_entry name e ps ≡ ps
 entry_none name (Data from req body) ps h = refl
@@ -401,7 +389,7 @@ alike_step k s w name n entries more is steps to both =
     let n1 = standing_of n in
     let h : name < length k.names = let p = is.sees.places in let q = steps.within in omega arith in
     let alike : is_alike (standing k name) n1 ≡ true = (and_both _ _ both).0 in
-    let due : (k.is_due || list_any is_view entries) ≡ false = not_true _ (and_both _ _ both).1 in
+    let due : (k.is_due || list_any is_view entries) ≡ false = not-true _ (and_both _ _ both).1 in
     let none : list_any is_view entries ≡ false = (or_parts _ _ due).1 in
     let same : stamp_eq (standing k name).view n1.view ≡ true = (and_both _ _ alike).0 in
     let each : AreAlike k name n1 = λ other. standings_alike k name other n1 h (alike_parts _ _ alike) in
@@ -548,7 +536,7 @@ noted_push name (x ∷ xs) e ps = noted_push name xs e (note_entry name x ps)
 
 any_push : (due : Bool) (xs : List Entry) (e : Entry) → (due || list_any is_view (xs ++ e ∷ [])) ≡ ((due || list_any is_view xs) || is_view e)
 any_push true xs e = refl
-any_push false xs e = list_any-append is_view xs (e ∷ []) ∙ ap (λ b. list_any is_view xs || b) (or_false (is_view e))
+any_push false xs e = list_any-append is_view xs (e ∷ []) ∙ ap (λ b. list_any is_view xs || b) (or-false (is_view e))
 
 pub entries_go_on : EntriesGoOn
 entries_go_on k name xs e = λ i. record k { pending = noted_push name xs e k.pending i; is_due = any_push k.is_due xs e i }

@@ -1,17 +1,17 @@
 -- A view is noted with the members that its View names: in the step that decides it nothing changes them any more.
-use Rattle.am_watched.proofs.Words.{◌≡◌, ◌⊎◌, inl, inr, ⊎_elim, ℕ, ◌+◌, ◌<◌, ◌==◌, ◌&&◌, ◌||◌, not, max, nat_lt, Bool, true, false, List, length, slice_index}
-use Rattle.am_watched.proofs.Words.{Option, Some, None, refl, sym, ap, ◌∙◌, subst, arith, nat_tests, Entry, Data, Join, Leave, View, Vote, Image, Stamp}
-use Rattle.am_watched.proofs.Words.{Outcome, stamp_lt, stamp_eq, Log, members_of, fits, entry_at, told_by, Node, Ballot, top, image_of, view, members}
-use Rattle.am_watched.proofs.Words.{unsettled_count, push_entry, trim_up_to, has_log, Verdict, overtake, need_of, left_in, trim_for, is_unfinished, is_view}
-use Rattle.am_watched.proofs.Words.{refresh, split, and_both, Cause, calls, hears, was_reset, was_handed, was_fetched, HasOpen, Balloting, with_more}
-use Rattle.am_watched.proofs.Words.{without_one, as_it_is, Looks, finds_itself_out, decides, Numbers, asked_send, own_send, asked_join, asked_leave, Carries}
-use Rattle.am_watched.proofs.Words.{whole_entry, by_number, Change, refreshes, settles, numbers, stores, begins_list, promises, opens, looks, fetches}
-use Rattle.am_watched.proofs.Words.{stores_view, asks_to_leave, closes, rests_refresh, rests_at_end, settle_is, told_pushed, view_pushed, same_stamp}
-use Rattle.am_watched.proofs.Words.{at_most_below, entry_stays, after_same, view_last, view_there, Balloted, same_is_equal, data_members, viewed_members}
-use Rattle.am_watched.proofs.Words.{those_some, those_long, NoOwnVote, own_need, looked_vote}
+use Rattle.am_watched.proofs.Words.{welcomed_none, numbers_plain, or_second, stamp_itself, same_stamp, ◌≡◌, ◌⊎◌, inl, inr, ⊎_elim, ℕ, ◌+◌, ◌<◌, ◌==◌, ◌&&◌}
+use Rattle.am_watched.proofs.Words.{◌||◌, not, max, nat_lt, Bool, true, false, List, length, slice_index, Option, Some, None, refl, sym, ap, ◌∙◌, subst}
+use Rattle.am_watched.proofs.Words.{arith, nat_tests, Entry, Data, Join, Leave, View, Vote, Image, Stamp, Outcome, stamp_lt, stamp_eq, Log, members_of, fits}
+use Rattle.am_watched.proofs.Words.{entry_at, told_by, Node, Ballot, top, image_of, view, members, unsettled_count, push_entry, trim_up_to, has_log, Verdict}
+use Rattle.am_watched.proofs.Words.{overtake, need_of, left_in, trim_for, is_unfinished, is_view, refresh, split, and_both, Cause, calls, hears, was_reset}
+use Rattle.am_watched.proofs.Words.{was_handed, was_fetched, HasOpen, Balloting, with_more, without_one, as_it_is, Looks, finds_itself_out, decides, Numbers}
+use Rattle.am_watched.proofs.Words.{asked_send, own_send, asked_join, asked_leave, Carries, whole_entry, by_number, Change, refreshes, settles, numbers}
+use Rattle.am_watched.proofs.Words.{stores, begins_list, promises, opens, looks, fetches, stores_view, asks_to_leave, closes, rests_refresh, rests_at_end}
+use Rattle.am_watched.proofs.Words.{settle_is, told_pushed, view_pushed, at_most_below, entry_stays, after_same, view_last, view_there, Balloted}
+use Rattle.am_watched.proofs.Words.{data_members, viewed_members, those_some, those_long, NoOwnVote, own_need, looked_vote}
 use Rattle.am_base.specs.declared.event.NodeEvent.TheVariants as does
 use Rattle.am_packet.specs.declared.packet.Packet.TheVariants as packet
-use Rattle.am_watched.proofs.{Chains.welcomed_none, Own.Known, Own.HeardOwn, Own.looked_open}
+use Rattle.am_watched.proofs.Own.{Known, HeardOwn, looked_open}
 
 -- ---- what made a node look at its ballot
 
@@ -63,7 +63,7 @@ looks_by c m b (as_it_is old open_ (was_reset least resilience is)) promised = b
 looks_by c m b (as_it_is old open_ (was_handed s v is)) promised = by_hand_over s v is
 looks_by c m b (as_it_is old open_ (was_fetched s v base number e is at)) promised =
     by_piece s v base number e is (subst (λ x. stamp_eq x v ≡ true) promised (let same = same_stamp v m.core.promise at in
-    subst (λ x. stamp_eq x v ≡ true) same (same_is_equal v)))
+    subst (λ x. stamp_eq x v ≡ true) same (stamp_itself v)))
 
 -- ---- a view along a step
 
@@ -141,28 +141,18 @@ look_leaving : (m : Node) (b : Ballot) (v : Verdict) → Looks m b v → v.node.
 look_leaving m b v (finds_itself_out x) = refl
 look_leaving m b v _ = refl
 
-or_last : (a b : Bool) → (a || b) ≡ false → b ≡ false
-or_last true b h = absurd (cc)
-or_last false b h = h
-
 pub change_quiet : {c : Cause} {o : Outcome} (m n : Node) → Change c o m n → Quiet m → Quiet n
 change_quiet m n refreshes h = let r = (rests_refresh m).rests in λ t. r.leaving ∙ h (sym (ap is_unfinished r.ballot) ∙ t)
 change_quiet m n settles h = subst Quiet (sym (settle_is m)) h
 change_quiet m n (promises v low why) h = λ t. h (overtaken_quiet v m.ballot t)
 change_quiet m n (opens least resilience by may) h = λ t. may.stays
 change_quiet m n (looks b verdict over why look is) h = λ t. look_leaving m b verdict look ∙ looked_quiet _ m b why h
-change_quiet m n (asks_to_leave is was stays done) h = λ t. absurd (let f = or_last (nat_lt 0 (unsettled_count m)) (is_unfinished m.ballot) done in cc)
+change_quiet m n (asks_to_leave is was stays done) h = λ t. absurd (let f = or_second (nat_lt 0 (unsettled_count m)) (is_unfinished m.ballot) done in cc)
 change_quiet m n (closes leads leaves alone room) h = let r = (rests_at_end (push_entry m (Leave m.core.who))).rests in
     λ t. r.leaving ∙ h (sym (ap is_unfinished r.ballot) ∙ t)
 change_quiet m n _ h = h
 
 -- ---- each change
-
-numbers_plain : (c : Cause) (m : Node) (e : Entry) → Numbers c m e → is_view e ≡ false
-numbers_plain c m e (asked_send s v report req body by known stays next) = refl
-numbers_plain c m e (own_send s is last) = refl
-numbers_plain c m e (asked_join s v is other fit) = refl
-numbers_plain c m e (asked_leave s v report is other known stays) = refl
 
 fresh_numbered : (c : Cause) (m : Node) (e : Entry) → Numbers c m e → length (image_of m).rows ≡ 16 → IsFresh c m → IsFresh c (push_entry m e)
 fresh_numbered c m e (asked_send s v report req body by known stays next) long h =

@@ -1,17 +1,17 @@
 -- In every run a view that is decided is a new one: its View stood nowhere before.
-use Rattle.am_watched.proofs.Words.{◌≡◌, ◌⊎◌, ⊎_elim, ℕ, ◌-◌, ◌==◌, not, true, false, List, [], length, refl, sym, ap, ◌∙◌, subst, arith, All, nat_tests}
-use Rattle.am_watched.proofs.Words.{list_any_none, All-nil, All-cons, All-append, All-weaker, All-take, All-drop, Stamp, Entry, Data, Join, Leave, View}
-use Rattle.am_watched.proofs.Words.{Rules, MayFound, has, rank_of, stamp_lt, stamp_eq, no_stamp, fold, after, Packet, Letter, Event, Node, view, acts}
-use Rattle.am_watched.proofs.Words.{is_member, set_at, founders_view, lowest_or_first, has_log, Step, World, start, first_node, with_step, group_after, run}
-use Rattle.am_watched.proofs.Words.{is_view_of, heard_by, split, and_both, Cause, MayTell, leads, decided, Says, piece, result, LetterSays, Effect, actor}
-use Rattle.am_watched.proofs.Words.{WasSentTo, IsCause, all_get, all_item, EachKeeps, StepsKeep, SameParts, law_keeps, runs_keep, stamp_of, first_founder}
-use Rattle.am_watched.proofs.Words.{few_names, at_most, not_above_itself, same_stamp, SameView, Stood, Balloted, Does, log_of_member, changes_do, heard_names}
-use Rattle.am_watched.proofs.Words.{says_stamp, DecidedAreNew}
+use Rattle.am_watched.proofs.Words.{view_rises, logged, stamp_itself, same_stamp, ◌≡◌, ◌⊎◌, ⊎_elim, ℕ, ◌-◌, ◌==◌, not, true, false, List, [], length, refl}
+use Rattle.am_watched.proofs.Words.{sym, ap, ◌∙◌, subst, arith, All, nat_tests, list_any_none, All-nil, All-cons, All-append, All-weaker, All-take, All-drop}
+use Rattle.am_watched.proofs.Words.{Stamp, Entry, Data, Join, Leave, View, Rules, MayFound, has, rank_of, stamp_lt, stamp_eq, no_stamp, fold, after, Packet}
+use Rattle.am_watched.proofs.Words.{Letter, Event, Node, view, acts, is_member, set_at, founders_view, lowest_or_first, has_log, Step, World, start}
+use Rattle.am_watched.proofs.Words.{first_node, with_step, group_after, run, is_view_of, heard_by, split, and_both, Cause, MayTell, leads, decided, Says}
+use Rattle.am_watched.proofs.Words.{piece, result, LetterSays, Effect, actor, WasSentTo, IsCause, all_get, all_item, EachKeeps, StepsKeep, SameParts}
+use Rattle.am_watched.proofs.Words.{law_keeps, runs_keep, stamp_of, first_founder, few_names, at_most, not_above_itself, SameView, Stood, Balloted, Does}
+use Rattle.am_watched.proofs.Words.{changes_do, heard_names, says_stamp, DecidedAreNew}
 use Rattle.am_packet.specs.declared.packet.Packet.TheVariants as packet
 use Rattle.am_model.specs.declared.status.Status.TheVariants as status
 use Rattle.am_play.specs.World as runs
 use Rattle.am_watched.proofs.{Lists.AllLists, Lists.each_lists, Lists.lists_start, Own.Below, Own.IsKnown, Own.Known, Own.HeardOwn, Own.Told, Own.IsOwn}
-use Rattle.am_watched.proofs.{Own.Chained, Own.Along, Own.known_chained, Own.changes_along, Own.view_rises}
+use Rattle.am_watched.proofs.{Own.Chained, Own.Along, Own.known_chained, Own.changes_along}
 
 -- ---- what is so of a world
 
@@ -103,7 +103,7 @@ says_known nodes m x c to p entries told own _ = tt
 tells_list : (n x : Node) → n ≡ record x { status = n.status } → (n.status ≡ x.status) ⊎ (n.status ≡ status.Departed) → Balloted n → MayTell x
     → has_log n.status ≡ true
 tells_list n x is stays b (leads l) = ⊎_elim
-    (λ (e : n.status ≡ x.status). ap has_log e ∙ log_of_member x.status
+    (λ (e : n.status ≡ x.status). ap has_log e ∙ logged x.status
     (and_both (is_member x.status) (stamp_eq x.core.promise (view x)) (and_both (acts x) ((view x).by == x.core.who) l).0).0)
     (λ (e : n.status ≡ status.Departed). ap has_log e)
     stays
@@ -112,9 +112,6 @@ tells_list n x is stays b (decided ballot number names there answer at) = split 
     (λ f. absurd (let none = b.none f in let same : n.ballot ≡ x.ballot = ap (λ (y : Node). y.ballot) is in cc))
 
 -- ---- a step of a world
-
-is_itself : (name : ℕ) → (name == name) ≡ true
-is_itself name = grind (arith, nat_tests)
 
 grown_known : (nodes : ℕ → Node) (group : List Entry) (n : Node) → All (Known nodes) group → All (Known nodes) n.core.log.entries
     → All (Known nodes) (group_after group n)
@@ -270,9 +267,6 @@ run_own rules events may = runs_keep (AllOwn rules) (each_own rules) (start rule
 
 -- ---- a decided view
 
-same_is_equal : (v : Stamp) → stamp_eq v v ≡ true
-same_is_equal v = let r : (v.round == v.round) ≡ true = grind (arith, nat_tests) in let n : (v.by == v.by) ≡ true = grind (arith, nat_tests) in rw (r, n) refl
-
 -- it is of the name, and above the name's view
 record IsDecided (name : ℕ) (m n : Node) : Type 0 where
   by : (view n).by ≡ name
@@ -282,11 +276,11 @@ is_decided : (name : ℕ) (m n : Node) → n.core.who ≡ name → Does m n → 
 is_decided name m n who d h =
     let a = and_both (is_member m.status) _ h in
     let b = and_both ((view n).by == n.core.who) (not (stamp_eq (view m) (view n))) a.1 in
-    let g = d.goes (log_of_member m.status a.0) in
+    let g = d.goes (logged m.status a.0) in
     let by : (view n).by ≡ n.core.who = let t = b.0 in grind (arith, nat_tests) in
     ⊎_elim
     (λ (s : SameView _ _). absurd (
-    let e : stamp_eq (view m) (view n) ≡ true = ap (λ (v : Stamp). stamp_eq (view m) v) s.view ∙ same_is_equal (view m) in
+    let e : stamp_eq (view m) (view n) ≡ true = ap (λ (v : Stamp). stamp_eq (view m) v) s.view ∙ stamp_itself (view m) in
     let x = rw e at b.1 in cc))
     (λ (s : (stamp_lt (view m) (view n) ≡ true) × Stood n.core.log). record { by = by ∙ who; above = s.0 })
     g.view

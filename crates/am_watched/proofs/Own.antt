@@ -1,16 +1,17 @@
 -- Views of a name come from that name alone: along the changes of a step, its promise never falls, what it tells is what it decided, and
 -- each View in its list is of another name's list or is not above its own view.
-use Rattle.am_watched.proofs.Words.{◌≡◌, ◌⊎◌, inl, inr, ⊎_elim, ℕ, ◌+◌, ◌==◌, ◌||◌, not, Bool, true, false, List, [], ◌∷◌, ◌++◌, Option, Some, nat_lt, refl}
-use Rattle.am_watched.proofs.Words.{sym, ap, ◌∙◌, subst, arith, All, nat_tests, All-nil, All-cons, All-append, All-weaker, Outcome, Stamp, Entry, Data, Join}
-use Rattle.am_watched.proofs.Words.{Leave, View, stamp_lt, Log, Packet, Node, Ballot, view, is_member, is_asking, push_entry, has_log, Verdict, next_stamp}
-use Rattle.am_watched.proofs.Words.{need_of, left_in, trim_for, refresh, settle, is_view, and_both, Cause, hears, HasOpen, Balloting, with_more, without_one}
-use Rattle.am_watched.proofs.Words.{as_it_is, Looks, decides, Promises, invited, overtaken_by, told_result, Change, refreshes, settles, numbers, stores}
-use Rattle.am_watched.proofs.Words.{begins_list, promises, opens, looks, fetches, stores_view, closes, Changes, unchanged, changed, rests_refresh}
-use Rattle.am_watched.proofs.Words.{rests_at_end, settle_is, stamp_of, at_most, not_above, not_above_itself, HasNames, HeardNames, Goes, SameView, Stood}
-use Rattle.am_watched.proofs.Words.{view_last, Balloted, IsOpen, OpenBallot, Does, changes_do, numbers_plain}
+use Rattle.am_watched.proofs.Words.{eqb-false, not_both, view_rises, of_open, next_above, welcomed_none, eqb-true, ◌≡◌, ◌⊎◌, inl, inr, ⊎_elim, ℕ, ◌+◌, ◌==◌}
+use Rattle.am_watched.proofs.Words.{◌||◌, not, Bool, true, false, List, [], ◌∷◌, ◌++◌, Option, Some, nat_lt, refl, sym, ap, ◌∙◌, subst, arith, All, nat_tests}
+use Rattle.am_watched.proofs.Words.{All-nil, All-cons, All-append, All-weaker, Outcome, Stamp, Entry, Data, Join, Leave, View, stamp_lt, Log, Packet, Node}
+use Rattle.am_watched.proofs.Words.{Ballot, view, is_member, is_asking, push_entry, has_log, Verdict, next_stamp, need_of, left_in, trim_for, refresh, settle}
+use Rattle.am_watched.proofs.Words.{is_view, and_both, Cause, hears, HasOpen, Balloting, with_more, without_one, as_it_is, Looks, decides, Promises, invited}
+use Rattle.am_watched.proofs.Words.{overtaken_by, told_result, Change, refreshes, settles, numbers, stores, begins_list, promises, opens, looks, fetches}
+use Rattle.am_watched.proofs.Words.{stores_view, closes, Changes, unchanged, changed, rests_refresh, rests_at_end, settle_is, stamp_of, at_most, not_above}
+use Rattle.am_watched.proofs.Words.{not_above_itself, HasNames, HeardNames, Goes, SameView, Stood, view_last, Balloted, IsOpen, OpenBallot, Does, changes_do}
+use Rattle.am_watched.proofs.Words.{numbers_plain}
 use Rattle.am_base.specs.declared.outcome.Outcome.TheVariants as said
 use Rattle.am_packet.specs.declared.packet.Packet.TheVariants as packet
-use Rattle.am_watched.proofs.Chains.{welcomed_none, looked_log}
+use Rattle.am_watched.proofs.Chains.{looked_log}
 
 -- ---- what is known of nodes before a step
 
@@ -59,12 +60,6 @@ pub record Along (nodes : ℕ → Node) (name : ℕ) (x : Node) : Type 0 where
   pub below : (x.core.promise.by == name) ≡ false → Below nodes x.core.promise
   pub told : Told x.core.who x.core.promise x.ballot
   pub entries : All (Chained nodes name x) x.core.log.entries
-
-pub view_rises : (m n : Node) → Goes m.core.log n.core.log → stamp_lt (view n) (view m) ≡ false
-view_rises m n g = ⊎_elim
-    (λ (s : SameView _ _). subst (λ (v : Stamp). stamp_lt v (view m) ≡ false) (sym s.view) (not_above_itself (view m)))
-    (λ (s : (stamp_lt (view m) (view n) ≡ true) × Stood n.core.log). not_above (view m) (view n) s.0)
-    g.view
 
 chained_up : (nodes : ℕ → Node) (name : ℕ) (x y : Node) → Does x y → (e : Entry) → Chained nodes name x e → Chained nodes name y e
 chained_up nodes name x y d (Data from req body) h = tt
@@ -119,35 +114,23 @@ along_pushed nodes name x y e who promise entries ballot new d h = record {
 
 -- ---- promises
 
-not_itself : (a b : ℕ) → (a == b) ≡ false → a ≡ b → ⊥
-not_itself a b f e = grind (arith, nat_tests)
-
-same_by : (a b : ℕ) → (a == b) ≡ true → a ≡ b
-same_by a b t = grind (arith, nat_tests)
-
-true_false : {G : Type 0} (b : Bool) → b ≡ true → b ≡ false → G
-true_false b t f = absurd (cc)
-
 -- no promise of another's ballot, or of one that is heard of, is the node's own
 not_own : (nodes : ℕ → Node) (name : ℕ) (c : Cause) (x : Node) (v : Stamp) → HeardOwn nodes c → Promises c x v → Along nodes name x → v.by ≡ x.core.who → ⊥
 not_own nodes name c x v heard (invited s _ is by own) h e =
     let other = (and_both (not (s == x.core.who)) (is_member x.status || is_asking x.status) by).0 in
-    let same : s ≡ x.core.who = sym (same_by v.by s own) ∙ e in
+    let same : s ≡ x.core.who = sym (eqb-true v.by s own) ∙ e in
     grind (arith, nat_tests)
 not_own nodes name c x v heard (overtaken_by s _ shown is by above) h e =
     let low : Below nodes v = heard.stamp (packet.Vote s v shown) is in
     let mine : stamp_lt (nodes name).core.promise v ≡ false = subst (λ k. stamp_lt (nodes k).core.promise v ≡ false) (e ∙ h.who) low in
     let up : stamp_lt x.core.promise v ≡ false = at_most v (nodes name).core.promise x.core.promise mine h.rises in
-    true_false (stamp_lt x.core.promise v) above up
-not_own nodes name c x v heard (told_result s _ base number names resilience is by own other) h e = not_itself v.by x.core.who other e
+    not_both (stamp_lt x.core.promise v) above up
+not_own nodes name c x v heard (told_result s _ base number names resilience is by own other) h e = eqb-false v.by x.core.who other e
 
 heard_promise : (nodes : ℕ → Node) (c : Cause) (x : Node) (v : Stamp) → HeardOwn nodes c → Promises c x v → Below nodes v
 heard_promise nodes c x v heard (invited s _ is by own) = heard.stamp (packet.Invite s v) is
 heard_promise nodes c x v heard (overtaken_by s _ shown is by above) = heard.stamp (packet.Vote s v shown) is
 heard_promise nodes c x v heard (told_result s _ base number names resilience is by own other) = heard.stamp (packet.Result s v base number names resilience) is
-
-next_above : (promise : Stamp) (who : ℕ) → stamp_lt promise (record { round = promise.round + 1; by = who }) ≡ true
-next_above promise who = let t : nat_lt promise.round (promise.round + 1) ≡ true = grind (arith, nat_tests) in rw t refl
 
 -- ---- looks
 
@@ -178,10 +161,6 @@ look_along nodes name x b v _ d o log h = record {
   told = record { is = λ b2 number names is answer own. absurd (cc) };
   entries = All-weaker (Chained nodes name x) (Chained nodes name v.node) (chained_up nodes name x v.node d) x.core.log.entries h.entries;
 }
-
--- the ballot that is looked at is open, with the promise
-of_open : (m : Node) (b : Ballot) → HasOpen m b → Balloted m → IsOpen m.core.who m.core.promise (view m) b
-of_open m b o h = subst (OpenBallot m.core.who m.core.promise (view m)) o.last h.opened o.open_
 
 pub looked_open : {c : Cause} (m : Node) (b : Ballot) → Balloting c m b → Balloted m → IsOpen m.core.who m.core.promise (view m) b
 looked_open m b (with_more old s v shown is by low high open_ same stays) h =
@@ -223,7 +202,7 @@ change_along nodes name heard x y (opens least resilience by may) d k h = record
   who = h.who;
   rises = at_most (nodes name).core.promise x.core.promise (next_stamp x) h.rises
       (not_above x.core.promise (next_stamp x) (next_above x.core.promise x.core.who));
-  below = λ f. absurd (not_itself x.core.who name f h.who);
+  below = λ f. absurd (eqb-false x.core.who name f h.who);
   told = record { is = λ b number names there answer own. absurd (cc) };
   entries = All-weaker (Chained nodes name x) (Chained nodes name y) (chained_up nodes name x y d) x.core.log.entries h.entries;
 }

@@ -10,7 +10,7 @@ use Rattle.am_play.specs.World as runs
 use Rattle.am_watched.proofs.{Lists.lists_go_on, New.decided_are_new}
 
 -- one event more
-watch_push : (s : Watch) (events : List Event) (e : Event) → watch_all s (events ++ e ∷ []) ≡ watch (watch_all s events) e
+pub watch_push : (s : Watch) (events : List Event) (e : Event) → watch_all s (events ++ e ∷ []) ≡ watch (watch_all s events) e
 unfolding watch_all
 watch_push s [] e = refl
 watch_push s (x ∷ xs) e = watch_push (watch s x) xs e

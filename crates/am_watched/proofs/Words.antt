@@ -2,6 +2,7 @@
 pub use Rattle.std.proofs.Common.{◌≡◌, ℕ, ◌≤◌, ◌==◌, ◌&&◌, ◌||◌, not, true, false, List, [], ◌∷◌, ◌++◌, refl, sym, ap, ◌∙◌, append_assoc, arith, ◌<◌, Bool}
 pub use Rattle.std.proofs.Common.{if◌then◌else◌, length, drop, subst, ◌⊎◌, inl, inr, ⊎_elim, ◌+◌, max, nat_lt, slice_index, Option, Some, None, ◌-◌}
 pub use Rattle.std.proofs.Math.Seq.{drop-append_seam}
+pub use Rattle.std.proofs.lemmas.Bool.{eqb-false, eqb-true}
 pub use Rattle.std.proofs.lemmas.Bool.Decides.{nat_tests}
 pub use Rattle.std.proofs.lemmas.List.{append-nil}
 pub use Rattle.std.proofs.lemmas.List.Elements.{All-nil, All-cons, All-append, All-weaker, All-take, All-drop}
@@ -41,11 +42,13 @@ pub use Rattle.am_play.specs.Claims.{heard_by}
 pub use Rattle.am_play.specs.Lawful.{is_view_of, Watch, watch_start, watch, watch_run}
 unfoldable pub use Rattle.am_play.specs.Lawful.{watch_all}
 pub use Rattle.am_play.proofs.Runs.{watched_is_run}
+pub use Rattle.am_watch.proofs.Folds.{not_both}
 pub use Rattle.am_watch.specs.Watching.{Watching, watch_step, stop, pass, accept}
 pub use Rattle.am_watch.specs.Watches.{Watches, standing_of, view_of, additions, IsNew, Steps, SteppedTo, SameBut}
 pub use Rattle.am_watch.proofs.Begins.{beginning_is_watched}
 pub use Rattle.am_watch.proofs.Steps.{steps_are_watched, stops_are_watched, others_are_watched}
 pub use Rattle.am_watch.proofs.Events.{watched_after, same_unchanged, same_stopped, same_lives, stepped_to}
+pub use Rattle.am_effects.proofs.Statuses.{logged}
 pub use Rattle.am_effects.specs.Causes.{Cause, hears, calls}
 pub use Rattle.am_effects.specs.Looks.{HasOpen, Balloting, with_more, without_one, as_it_is, Looks, finds_itself_out, decides, was_reset, was_handed}
 pub use Rattle.am_effects.specs.Looks.{was_fetched}
@@ -54,20 +57,23 @@ pub use Rattle.am_effects.specs.Changes.{asks_to_join, closes, Changes, unchange
 pub use Rattle.am_effects.specs.Changes.{whole_entry, by_number, promises, opens, asks_to_leave, unchanged as no_change, Promises, invited}
 pub use Rattle.am_effects.specs.Changes.{overtaken as overtaken_by, told_result}
 pub use Rattle.am_effects.proofs.Rests.{rests_refresh, rests_at_end, settle_is}
+pub use Rattle.am_effects.proofs.Tests.{is_itself, or_second}
 pub use Rattle.am_effects.specs.Effects.{Effect}
 pub use Rattle.am_effects.specs.Events.{actor, WasSentTo, IsCause, idles, stops, returns, steps}
 pub use Rattle.am_effects.proofs.Runs.{along, EachKeeps, runs_keep, StepsKeep, SameParts, law_keeps}
+pub use Rattle.am_effects.proofs.Resets.{stamp_itself, same_stamp}
 pub use Rattle.am_effects.proofs.Says.{told_pushed, view_pushed}
 pub use Rattle.am_effects.proofs.Items.{all_get, all_item}
 pub use Rattle.am_effects.specs.Letters.{MayTell, leads, decided, Says, piece, result, LetterSays}
+pub use Rattle.am_laws.proofs.ViewChanges.{in_view_log, welcomed_none, none_of_asking, Balloted, changes_do, numbers_plain, Does, change_does, of_open}
+pub use Rattle.am_laws.proofs.ViewChanges.{next_above, IsOpen, OpenBallot}
 pub use Rattle.am_laws.proofs.ViewNames.{HasNames, HeardNames}
-pub use Rattle.am_laws.proofs.ViewChanges.{Balloted, log_of_member, changes_do, Does, change_does, IsOpen, OpenBallot, numbers_plain}
 pub use Rattle.am_laws.specs.Packets.{accepted_of}
 pub use Rattle.am_laws.specs.Numbers.{NodeNumbers}
 pub use Rattle.am_laws.proofs.Named.{AllNamed, few_names, each_named, change_named}
 pub use Rattle.am_laws.proofs.RunCounts.{numbers_hold}
-pub use Rattle.am_laws.proofs.Views.{AllViews, heard_names, each_views, views_start, same_is_equal, says_stamp}
-pub use Rattle.am_laws.proofs.Stamps.{same_stamp, at_most_below, at_most, not_above_itself, not_above}
+pub use Rattle.am_laws.proofs.Views.{AllViews, heard_names, each_views, views_start, view_rises, says_stamp}
+pub use Rattle.am_laws.proofs.Stamps.{at_most_below, at_most, not_above_itself, not_above}
 pub use Rattle.am_laws.proofs.ViewSteps.{entry_stays, after_same, view_last, view_there, SameView, Stood, Goes}
 pub use Rattle.am_laws.proofs.ViewMembers.{data_members, viewed_members, those_some, those_long}
 pub use Rattle.am_laws.proofs.Trims.{NoOwnVote, told_used}

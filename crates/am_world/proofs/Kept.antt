@@ -1,4 +1,6 @@
 -- A world's watcher keeps what is watched of its run.
+use Rattle.am_watched.proofs.Watched.{watch_push}
+use Rattle.am_effects.proofs.Tests.{is_itself}
 use Rattle.std.proofs.Common.{◌≡◌, ℕ, ◌+◌, ◌<◌, ◌≤◌, ◌==◌, not, Bool, true, false, if◌then◌else◌, List, [], ◌∷◌, ◌++◌, length, drop, Ok}
 use Rattle.std.proofs.Common.{refl, sym, ap, ◌∙◌, subst, arith, length-append}
 use Rattle.am_base.specs.declared.entry.Entry.{Entry}
@@ -48,11 +50,6 @@ count_of p k h = h.count ∙ count_all (watch_start p.rules) p.events ∙ omega 
 
 -- ---- an event more
 
-watch_push : (s : Watch) (events : List Event) (e : Event) → watch_all s (events ++ e ∷ []) ≡ watch (watch_all s events) e
-unfolding watch_all
-watch_push s [] e = refl
-watch_push s (x ∷ xs) e = watch_push (watch s x) xs e
-
 next_watched : (rules : Rules) (events : List Event) (e : Event) (v : model.World) → happens (run rules events) e ≡ v
     → after (watch_run rules events) v ≡ watch_run rules (events ++ e ∷ [])
 next_watched rules events e v is =
@@ -94,9 +91,6 @@ told_as k name what m n number count group more before was stands ends counted g
     ∙ ap (λ v. accept (watched_step k name (standing_of n) v (stored_of name before (standing_of n) v what)) number group) ends
     ∙ ap (λ c. accept (watched_step k name (standing_of n) (view_of n) (stored_of name before (standing_of n) (view_of n) what)) c group) counted
     ∙ ap (λ g. accept (watched_step k name (standing_of n) (view_of n) (stored_of name before (standing_of n) (view_of n) what)) count g) grown
-
-is_itself : (name : ℕ) → (name == name) ≡ true
-is_itself name = grind (arith, nat_tests)
 
 lives_stay : (w : model.World) (e : Event) (what : NodeEvent) → current (comes w e (Ok what)) (place_of e.node) ≡ current w (place_of e.node)
 unfolding with_step

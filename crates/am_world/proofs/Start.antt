@@ -1,4 +1,6 @@
 -- Where a node's list begins after a step: where it did, or at the base that a Welcome told.
+use Rattle.am_effects.proofs.Tests.{is_itself}
+use Rattle.am_effects.proofs.Statuses.{logged}
 use Rattle.std.proofs.Common.{◌≡◌, ℕ, ◌≤◌, ◌==◌, ◌&&◌, ◌||◌, not, Bool, true, false, if◌then◌else◌, List, None, refl, sym, ap, ◌∙◌, subst, arith}
 use Rattle.std.proofs.lemmas.Bool.Decides.{nat_tests}
 use Rattle.am_base.specs.declared.outcome.Outcome.{Outcome}
@@ -31,7 +33,7 @@ use Rattle.am_effects.proofs.Rests.{rests_refresh, settle_is}
 use Rattle.am_effects.proofs.Runs.{along}
 use Rattle.am_laws.specs.Blank.{IsBlank}
 use Rattle.am_laws.proofs.Blank.{blank_holds}
-use Rattle.am_laws.proofs.ViewChanges.{leads_member, log_of_member, member_of}
+use Rattle.am_laws.proofs.ViewChanges.{leads_member, member_of}
 use Rattle.am_watch.specs.Watches.{standing_of}
 use Rattle.am_watched.proofs.Chains.{HeardLow, change_begins}
 use Rattle.am_watched.proofs.Lists.{lists_go_on}
@@ -74,7 +76,7 @@ change_none other x y (collects req is) h = h
 change_none other x y (takes e is o member some there) h = h
 change_none other x y (asks_to_join is was) h = refl
 change_none other x y (asks_to_leave is was stays done) h = h
-change_none other x y (closes leads leaves last room) h = absurd (let t = log_of_member x.status (leads_member x leads) in cc)
+change_none other x y (closes leads leaves last room) h = absurd (let t = logged x.status (leads_member x leads) in cc)
 
 -- ---- by a Welcome it begins at its base, and its node doesn't lead in that step
 
@@ -184,7 +186,7 @@ kind (calls event) = other (λ s v base join image h. cc)
 kind refuses = other (λ s v base join image h. cc)
 
 never_leads : (m : Node) → has_log m.status ≡ false → is_sequencer m ≡ false
-never_leads m none = split (is_sequencer m) (λ t. absurd (let log = log_of_member m.status (leads_member m t) in cc)) (λ f. f)
+never_leads m none = split (is_sequencer m) (λ t. absurd (let log = logged m.status (leads_member m t) in cc)) (λ f. f)
 
 begins_by : {c : Cause} {o : Outcome} (m n : Node) → Kind c → Changes c o m n → has_log m.status ≡ false → IsBlank m → BeginsAt m n
 begins_by m n (welcome s v base join image is) changes none blank_ =
@@ -197,12 +199,9 @@ begins_by {c = c} m n (other none_heard) changes none blank_ =
     let heard : HeardLow c 0 = record { welcome = λ s v base join image is. absurd (none_heard s v base join image is) } in
     let low : n.core.log.start ≤ 0 = along (λ (x : Node). x.core.log.start ≤ 0) (change_begins 0 heard) changes (omega arith) in
     let still : HasNone n = along HasNone (change_none none_heard) changes none in
-    none_begins m n none zero (λ t. absurd (let log = log_of_member n.status t in cc)) (λ f. omega arith)
+    none_begins m n none zero (λ t. absurd (let log = logged n.status t in cc)) (λ f. omega arith)
 
 -- ---- in a run
-
-is_itself : (name : ℕ) → (name == name) ≡ true
-is_itself name = grind (arith, nat_tests)
 
 no_begin : (s : Status) → (not (has_log s) && is_member s) ≡ false
 no_begin status.Stranger = refl

@@ -1,4 +1,6 @@
 -- What is so of a name's step in every run, as the world tells its watcher of it.
+use Rattle.am_effects.proofs.Tests.{is_itself}
+use Rattle.am_effects.proofs.Resets.{stamp_itself}
 use Rattle.std.proofs.Common.{◌≡◌, ℕ, ◌≤◌, ◌==◌, ◌&&◌, ◌||◌, not, Bool, true, false, if◌then◌else◌, List, length, refl, sym, ap}
 use Rattle.std.proofs.Common.{subst, arith}
 use Rattle.std.specs.List.{list_any}
@@ -52,12 +54,6 @@ pub record StepFacts (w v : World) (name : ℕ) : Type 0 where
   pub begins_ : (v.nodes name).core.log.start ≤ length w.group
   pub new : decides (w.nodes name) (v.nodes name) ≡ true → IsNew w (view (v.nodes name))
 
-is_itself : (name : ℕ) → (name == name) ≡ true
-is_itself name = grind (arith, nat_tests)
-
-same_stamp : (s : Stamp) → stamp_eq s s ≡ true
-same_stamp s = grind (arith, nat_tests)
-
 never : (b c : Bool) → (b && (c && not true)) ≡ true → ⊥
 never true true h = cc
 never true false h = cc
@@ -72,7 +68,7 @@ facts_same rules events e v may same =
     let low = (numbers_hold rules events).each name in
     let first : (w.nodes name).core.log.start ≤ length w.group = let a = low.kept in let b = low.base in omega arith in
     let P : Node → Type 0 = λ m. (m.core.who ≡ name) × (m.core.log.start ≤ length w.group) × (decides (w.nodes name) m ≡ true → IsNew w (view m)) in
-    let old : P (w.nodes name) = ((names_hold rules events may).who name, first, λ t. absurd (never _ _ (rw (same_stamp (view (w.nodes name))) at t))) in
+    let old : P (w.nodes name) = ((names_hold rules events may).who name, first, λ t. absurd (never _ _ (rw (stamp_itself (view (w.nodes name))) at t))) in
     let now : P (v.nodes name) = subst P (sym (ap (λ ns. ns name) same)) old in
     record { own = now.0; begins_ = now.1; new = now.2 }
 

@@ -1,4 +1,9 @@
 -- Which Views a Piece and a Result add to a node's list.
+use Rattle.std.proofs.Math.Bool.{or-false}
+use Rattle.std.proofs.lemmas.Bool.{eq-eqb}
+use Rattle.am_laws.proofs.ViewSteps.{view_last}
+use Rattle.std.proofs.lemmas.Bool.{not-false}
+use Rattle.am_effects.proofs.Resets.{same_stamp}
 use Rattle.std.proofs.Common.{◌≡◌, ℕ, ◌+◌, ◌-◌, max, ◌==◌, ◌&&◌, ◌||◌, not, nat_lt, nat_le, if◌then◌else◌, Bool, true, false, List, [], ◌∷◌, Option, Some, None}
 use Rattle.std.proofs.Common.{refl, sym, ap, ◌∙◌, subst, arith}
 use Rattle.std.specs.List.{list_any}
@@ -23,12 +28,12 @@ use Rattle.am_model.specs.Resets.{result_row}
 use Rattle.am_model.specs.Hearing.{hears_member, hear_row}
 use Rattle.am_play.specs.Lawful.{is_view_of}
 use Rattle.am_base.proofs.Greatest.{split, and_both}
-use Rattle.am_effects.proofs.Tests.{not_false, or_first}
+use Rattle.am_effects.proofs.Tests.{or_first}
 use Rattle.am_effects.proofs.Rests.{rests_at_end}
 use Rattle.am_effects.proofs.Says.{view_pushed}
-use Rattle.am_laws.proofs.Stamps.{not_above_itself, same_stamp}
+use Rattle.am_laws.proofs.Stamps.{not_above_itself}
 use Rattle.am_laws.proofs.ViewChanges.{IsOpen, OpenBallot, Balloted}
-use Rattle.am_world.proofs.StoredViews.{has_view, view_in, or_none, or_swaps, has_view_more, has_view_plain, view_of_pushed}
+use Rattle.am_world.proofs.StoredViews.{has_view, view_in, or_swaps, has_view_more, has_view_plain}
 
 -- the name decided a view of its own, as its list tells
 abbrev pub has_decided : ℕ → Node → Log → Bool
@@ -112,9 +117,6 @@ twice : (b : Bool) → ((b || false) || b) ≡ b
 twice true = refl
 twice false = refl
 
-is_name : (a b : ℕ) → a ≡ b → (a == b) ≡ true
-is_name a b e = grind (arith, nat_tests)
-
 pub differs : (a b : Stamp) → stamp_lt a b ≡ true → stamp_eq a b ≡ false
 differs a b h = split (stamp_eq a b)
     (λ t. absurd (let same = same_stamp a b t in let n : stamp_lt a b ≡ false = subst (λ (x : Stamp). stamp_lt a x ≡ false) same (not_above_itself a) in cc))
@@ -128,7 +130,7 @@ came name m base (Join joiner) s member fit = none (λ v. has_view_plain m _ v r
 came name m base (Leave leaver) s member fit = none (λ v. has_view_plain m _ v refl) (view_pushed m _ refl)
 came name m base (View stamp names resilience) s member fit =
     let e = View stamp names resilience in
-    let same : view_in (push_entry m e).core.log ≡ stamp = view_of_pushed m stamp names resilience in
+    let same : view_in (push_entry m e).core.log ≡ stamp = view_last m stamp names resilience in
     let one : (v : Stamp) → (any_of (e ∷ []) v || stamp_eq (view_in (push_entry m e).core.log) v) ≡ stamp_eq (view_in (push_entry m e).core.log) v =
     λ v. ap (λ (u : Stamp). (stamp_eq stamp v || false) || stamp_eq u v) same ∙ twice (stamp_eq stamp v) ∙ ap (λ (u : Stamp). stamp_eq u v) (sym same) in
     last
@@ -144,15 +146,15 @@ came_decided : (name : ℕ) (m : Node) (base : ℕ) (e : Entry) (s : Status) (st
 came_decided name m base e s stamp names resilience member above own =
     let p = push_entry m e in
     let d = View stamp names resilience in
-    let same : view_in (push_entry p d).core.log ≡ stamp = view_of_pushed p stamp names resilience in
+    let same : view_in (push_entry p d).core.log ≡ stamp = view_last p stamp names resilience in
     let by : ((view_in (push_entry p d).core.log).by == name) ≡ true = let q : (view_in (push_entry p d).core.log).by ≡ name = ap (λ (u : Stamp). u.by) same
     ∙ own in
-    is_name _ name q in
+    eq-eqb _ name q in
     let up : stamp_lt (view m) (view_in (push_entry p d).core.log) ≡ true = ap (λ (u : Stamp). stamp_lt (view m) u) same ∙ above in
     let new = differs (view m) (view_in (push_entry p d).core.log) up in
     last
     (λ v. has_view_more p d v ∙ ap (λ b. b || stamp_eq stamp v) (has_view_more m e v) ∙ or_swaps (has_view m.core.log v) (is_view_of v e) (stamp_eq stamp v)
-    ∙ (λ i. has_view m.core.log v || (sym (or_none (is_view_of v e)) i || stamp_eq (sym same i) v)))
+    ∙ (λ i. has_view m.core.log v || (sym (or-false (is_view_of v e)) i || stamp_eq (sym same i) v)))
     up
     (λ t. member)
     (λ f. absurd (let g = rw (member, by, new) at f in cc))
@@ -170,7 +172,7 @@ fetched_adds name m v base number e in_ballot then_ goes =
     (λ g. if_else P (nat_lt (top m + 1) number) _ _ (λ t. q (said.Gap (top m + 1)))
     (λ k. if_else P (nat_lt m.core.taken base) _ _ (λ t. q said.Behind)
     (λ l. if_else P (not (fits (image_of m) e) || (is_view_past v in_ballot e || not (is_within_bound m (max m.core.base base) number))) _ _ (λ t. q said.Unfit)
-    (λ u. goes (not_false _ (or_first (not (fits (image_of m) e)) _ u)))))))
+    (λ u. goes (not-false _ (or_first (not (fits (image_of m) e)) _ u)))))))
 
 promised_adds : (name : ℕ) (m : Node) (s : ℕ) (v : Stamp) (base number : ℕ) (e : Entry) → is_member m.status ≡ true
     → PlanAdds name (e ∷ []) m (piece_promised m s v base number e)
@@ -216,7 +218,7 @@ viewed_adds : (name : ℕ) (m : Node) (stamp : Stamp) (names : List ℕ) (resili
     → fits (image_of m) (View stamp names resilience) ≡ true → Adds name [] m m.status (push_entry m (View stamp names resilience)).core.log
 viewed_adds name m stamp names resilience member fit =
     let e = View stamp names resilience in
-    let same : view_in (push_entry m e).core.log ≡ stamp = view_of_pushed m stamp names resilience in
+    let same : view_in (push_entry m e).core.log ≡ stamp = view_last m stamp names resilience in
     last
     (λ v. has_view_more m e v ∙ ap (λ (u : Stamp). has_view m.core.log v || stamp_eq u v) (sym same))
     (ap (λ (u : Stamp). stamp_lt (view m) u) same ∙ fits_above (image_of m) stamp names resilience fit)
@@ -236,7 +238,7 @@ promised_result name m s v base number names resilience member =
     (λ l. if_else P (nat_lt p.core.taken base) _ _ (λ t. record { stays = refl; adds = none (λ u. refl) refl })
     (λ q. if_else P (not (fits (image_of p) e) || not (is_within_bound p (max p.core.base base) number)) _ _
     (λ t. record { stays = refl; adds = none (λ u. refl) refl })
-    (λ u. record { stays = refl; adds = viewed_adds name m v names resilience member (not_false _ (or_first (not (fits (image_of p) e)) _ u)) }))))))
+    (λ u. record { stays = refl; adds = viewed_adds name m v names resilience member (not-false _ (or_first (not (fits (image_of p) e)) _ u)) }))))))
 
 pub result_adds : (name : ℕ) (m : Node) (s : ℕ) (v : Stamp) (base number : ℕ) (names : List ℕ) (resilience : ℕ)
     → PlanAdds name [] m (hear_row m (packet.Result s v base number names resilience))

@@ -1,4 +1,12 @@
 -- Which Views the changes of a step add to a node's list.
+use Rattle.am_watch.proofs.Steps.{view_one}
+use Rattle.std.proofs.Math.Bool.{or-false}
+use Rattle.am_laws.proofs.ViewSteps.{view_last}
+use Rattle.am_laws.proofs.ViewChanges.{next_above}
+use Rattle.am_laws.proofs.ViewChanges.{welcomed_none}
+use Rattle.am_laws.proofs.ViewChanges.{numbers_plain}
+use Rattle.std.proofs.lemmas.Bool.{not-true}
+use Rattle.am_effects.proofs.Resets.{same_stamp}
 use Rattle.std.proofs.Common.{◌≡◌, ℕ, ◌+◌, ◌≤◌, ◌==◌, ◌&&◌, ◌||◌, not, nat_lt, Bool, true, false, List, [], ◌∷◌, length, Option, Some, None, refl, sym, ap, ◌∙◌}
 use Rattle.std.proofs.Common.{subst, arith, length-append}
 use Rattle.std.specs.List.{list_any}
@@ -27,13 +35,11 @@ use Rattle.am_effects.specs.Looks.{finds_no_room, decides, BeginsBy, by_reset, b
 use Rattle.am_effects.specs.Changes.{Promises, invited, overtaken as overtaken_by, told_result, Numbers, asked_send, own_send, asked_join, asked_leave}
 use Rattle.am_effects.specs.Changes.{MayBeWelcomed, Change, refreshes, settles, takes_report, admits, numbers, keeps_body, notes, stores, begins_list, departs}
 use Rattle.am_effects.specs.Changes.{promises, opens, looks, fetches, stores_view, queues, collects, takes, asks_to_join, asks_to_leave, closes, Changes}
-use Rattle.am_effects.proofs.Tests.{not_true}
 use Rattle.am_effects.proofs.Rests.{rests_refresh, rests_at_end, settle_is}
 use Rattle.am_effects.proofs.Says.{told_pushed, view_pushed}
 use Rattle.am_effects.proofs.Ballots.{viewed}
 use Rattle.am_effects.proofs.Runs.{along}
-use Rattle.am_laws.proofs.Stamps.{at_most, at_most_below, not_above, same_stamp}
-use Rattle.am_watched.proofs.Chains.{welcomed_none}
+use Rattle.am_laws.proofs.Stamps.{at_most, at_most_below, not_above}
 
 -- the View of this stamp stands in a list
 abbrev pub has_view : Log → Stamp → Bool
@@ -44,35 +50,15 @@ view_in log = (told_by log).view
 
 -- ---- one entry more
 
-pub or_none : (b : Bool) → (b || false) ≡ b
-or_none true = refl
-or_none false = refl
-
 pub or_swaps : (a b c : Bool) → ((a || b) || c) ≡ (a || (b || c))
 or_swaps true b c = refl
 or_swaps false b c = refl
 
-plain_is_none : (v : Stamp) (e : Entry) → is_view e ≡ false → is_view_of v e ≡ false
-plain_is_none v (Data from req body) f = refl
-plain_is_none v (Join name) f = refl
-plain_is_none v (Leave name) f = refl
-plain_is_none v (View stamp names resilience) f = absurd (cc)
-
 pub has_view_more : (m : Node) (e : Entry) (v : Stamp) → has_view (push_entry m e).core.log v ≡ (has_view m.core.log v || is_view_of v e)
-has_view_more m e v = list_any-append (is_view_of v) m.core.log.entries (e ∷ []) ∙ ap (λ b. has_view m.core.log v || b) (or_none (is_view_of v e))
+has_view_more m e v = list_any-append (is_view_of v) m.core.log.entries (e ∷ []) ∙ ap (λ b. has_view m.core.log v || b) (or-false (is_view_of v e))
 
 pub has_view_plain : (m : Node) (e : Entry) (v : Stamp) → is_view e ≡ false → has_view (push_entry m e).core.log v ≡ has_view m.core.log v
-has_view_plain m e v plain = has_view_more m e v ∙ ap (λ b. has_view m.core.log v || b) (plain_is_none v e plain) ∙ or_none (has_view m.core.log v)
-
-pub view_of_pushed : (m : Node) (stamp : Stamp) (names : List ℕ) (resilience : ℕ) → view (push_entry m (View stamp names resilience)) ≡ stamp
-view_of_pushed m stamp names resilience = ap (λ (i : Image). i.view) (told_pushed m (View stamp names resilience))
-    ∙ (viewed (image_of m) (top m + 1) stamp names resilience).1
-
-numbers_plain : (c : Cause) (m : Node) (e : Entry) → Numbers c m e → is_view e ≡ false
-numbers_plain c m e (asked_send s v report req body by known stays next) = refl
-numbers_plain c m e (own_send s is last) = refl
-numbers_plain c m e (asked_join s v is other fit) = refl
-numbers_plain c m e (asked_leave s v report is other known stays) = refl
+has_view_plain m e v plain = has_view_more m e v ∙ ap (λ b. has_view m.core.log v || b) (view_one v e plain) ∙ or-false (has_view m.core.log v)
 
 -- ---- what the changes have done so far
 
@@ -166,9 +152,6 @@ above_overtaken v by (Some b) h = split (not b.is_over && stamp_lt b.stamp by)
     (λ t. rw t (λ over. absurd (cc)))
     (λ f. rw f h)
 
-next_above : (promise : Stamp) (who : ℕ) → stamp_lt promise (record { round = promise.round + 1; by = who }) ≡ true
-next_above promise who = let t : nat_lt promise.round (promise.round + 1) ≡ true = grind (arith, nat_tests) in rw t refl
-
 above_last : (m x : Node) (b : Ballot) → HasOpen x b → Still m x → stamp_lt (view x) b.stamp ≡ true
 above_last m x b o h = subst (IsAbove (view x)) o.last h.opened o.open_
 
@@ -198,7 +181,7 @@ look_still o m x b v (finds_no_room y) is up h = still (still_ballot m x v.node 
 look_still o m x b v (decides may) is up h =
     let names = left_in b (need_of x b) in
     let t = trim_for x b names in
-    let stamp : view v.node ≡ b.stamp = view_of_pushed t b.stamp names _ in
+    let stamp : view v.node ≡ b.stamp = view_last t b.stamp names _ in
     more (record {
       views = λ s. has_view_more t _ s ∙ (λ i. h.views s i || stamp_eq (sym stamp i) s);
       above = (λ i. stamp_lt (sym h.same i) (stamp i)) ∙ up;
@@ -213,7 +196,7 @@ welcomed_still : {c : Cause} {o : Outcome} (m x : Node) (s : ℕ) (v : Stamp) (b
     → o ≡ said.Welcomed join → MayBeWelcomed x s v base join image → Still m x → Walked c o m (begin_list x v base join image)
 welcomed_still m x s v base join image is o may h =
     let asks = may.asks in
-    let other = not_true (s == x.core.who) (and_both (not (s == x.core.who)) _ asks).0 in
+    let other = not-true (s == x.core.who) (and_both (not (s == x.core.who)) _ asks).0 in
     let own : v.by ≡ s = let t = may.own in grind (arith, nat_tests) in
     new (record {
       views = λ w. refl;

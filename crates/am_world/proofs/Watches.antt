@@ -1,4 +1,6 @@
 -- What a watcher is told, one after another.
+use Rattle.std.proofs.Math.Bool.{or-true}
+use Rattle.std.proofs.Math.Bool.{or-false}
 use Rattle.std.proofs.Common.{◌≡◌, ℕ, ◌+◌, ◌-◌, ◌<◌, ◌≤◌, ◌&&◌, ◌||◌, ◌==◌, not, Bool, true, false, List, [], ◌∷◌, ◌++◌, length, take, drop, map}
 use Rattle.std.proofs.Common.{get_or}
 use Rattle.std.proofs.Common.{if◌then◌else◌, Option, Some, None, refl, sym, ap, ◌∙◌, arith}
@@ -17,14 +19,10 @@ use Rattle.am_watch.specs.Watches.{view_of}
 use Rattle.am_world.specs.Watched.{begins, standing_after, stored_of, with_views, told_step}
 use Rattle.am_watch.proofs.Steps.{entries_go_on, accepted_goes_on}
 
-or_none : (b : Bool) → (b || false) ≡ b
-or_none true = refl
-or_none false = refl
-
 -- nothing was stored, or one entry
 pub entries_none : (k : Watching) (name : ℕ) → with_entries k name [] ≡ k
 unfolding note_entries
-entries_none k name = ap (λ b. record k { is_due = b }) (or_none k.is_due)
+entries_none k name = ap (λ b. record k { is_due = b }) (or-false k.is_due)
 
 pub entries_one : (k : Watching) (name : ℕ) (e : Entry) → with_entries k name (e ∷ []) ≡ with_entry k name e
 entries_one k name e = entries_go_on k name [] e ∙ ap (λ q. with_entry q name e) (entries_none k name)
@@ -98,10 +96,6 @@ none_decided false own = refl
 none_decided true false = refl
 none_decided true true = refl
 
-or_true : (b : Bool) → (b || true) ≡ true
-or_true false = refl
-or_true true = refl
-
 -- a step in which the last View stayed: none was decided, and none stored
 pub views_stay : (k : Watching) (name : ℕ) (before after : Standing) (v : DecidedView) (what : NodeEvent) → before ≡ standing k name
     → stamp_eq before.view after.view ≡ true → k ≡ with_views k name before after v what
@@ -113,7 +107,7 @@ views_stay k name before after v what was same =
       pending = k.pending
           ++ (if b && stamp_lt k.complete.stamp v.stamp then new_pending v ∷ [] else []);
     }) no ∙ ap (λ ps. record k { pending = ps }) (append-nil k.pending) in
-    let stays = ap (λ x. begins before after.status || x) same ∙ or_true (begins before after.status) in
+    let stays = ap (λ x. begins before after.status || x) same ∙ or-true (begins before after.status) in
     views_none k name (begins before after.status || stamp_eq before.view after.view) _ stays
     ∙ ap (λ q. with_entries q name (stored_of name before after v what)) (sym still)
 
