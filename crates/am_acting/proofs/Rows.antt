@@ -68,9 +68,6 @@ spread_kept m s req body is = rw is refl
 
 -- ---- taking
 
-member_is : (s : Status) → s ≡ status.Member → is_member s ≡ true
-member_is s is = ap is_member is
-
 pub take_outside : (m : Node) → is_member m.status ≡ false → take_row m ≡ quiet m said.NotMember
 unfolding take_row
 take_outside m is = rw is refl

@@ -74,15 +74,6 @@ pub member_reports : (m : Node) (to : List ℕ) → m.leaving ≡ false → woul
 member_reports m to is test set = λ k. if is k then go (quiet m said.Ticked) else if test k then emit m (waiting m) said.Ticked else noting false m said.Ticked
     (sym set k) note.Ack
 
-pub emits_some : (m : Node) (req : ℕ) (body : List ℕ) → own.waiting_send m.sends ≡ Some (req, body)
-    → would_emit m (waiting m) ≡ (acts m && nat_lt (own_row m).last req)
-emits_some m req body is =
-    let w = waits_is (waiting m) req body is in
-    ap (would_emit m) w.is ∙ ap (λ k. acts m && nat_lt (own_row m).last k) w.request
-
-pub emits_none : (m : Node) → own.waiting_send m.sends ≡ None → would_emit m (waiting m) ≡ false
-emits_none m is = ap (would_emit m) (waits_none (waiting m) is)
-
 -- ---- the sequencer
 
 pub leads_leaving : (m : Node) → m.leaving ≡ true → waiting m ≡ None → tick_sequencer m ≡ go (and_poll (quiet m said.Ticked))

@@ -56,10 +56,8 @@ other_view m v is h =
     both false b h = refl
 
 not_past : (v : Stamp) (in_ballot : Bool) (e : Entry) → is_view_past v in_ballot e ≡ false → IsUpTo v e
-not_past v in_ballot (Data from req body) h = tt
-not_past v in_ballot (Join name) h = tt
-not_past v in_ballot (Leave name) h = tt
 not_past v in_ballot (View stamp names resilience) h = or_left (stamp_lt v stamp) (in_ballot && stamp_eq stamp v) h
+not_past v in_ballot _ h = tt
 
 -- an entry that comes next may be stored
 pub may_store : (m : Node) (v : Stamp) (base number : ℕ) (e : Entry) (in_ballot : Bool) → IsInOrder m.core → has_log m.status ≡ true → v ≡ m.core.promise

@@ -1,7 +1,7 @@
 -- Entries that are copied, and sent once the step has ended.
 use Rattle.std.proofs.Common.{◌≡◌, ℕ, zero, suc, ◌+◌, ◌-◌, ◌<◌, ◌≤◌, min, All, List, [], ◌∷◌, ◌++◌, length, take, Some, true, false, ◌||◌, nat_lt}
 use Rattle.std.proofs.Common.{slice_index_or, refl, sym, ap, ◌∙◌, length-drop, arith}
-use Rattle.std.proofs.lemmas.List.{length-take, take_more}
+use Rattle.std.proofs.lemmas.List.{take_more}
 use Rattle.std.proofs.lemmas.List.Elements.{All-drop, All-take}
 use Rattle.am_base.specs.declared.entry.Entry.{Entry}
 use Rattle.am_base.specs.declared.entry.Entry.TheVariants.{Join}
@@ -48,9 +48,6 @@ copied_all m stored last low high is =
 
 pub served_within : (m : Node) (stored : ℕ) → All IsEntry m.core.log.entries → All IsEntry (entries_to_serve m stored)
 served_within m stored is = All-take IsEntry 8 (kept_above m.core.log stored) (All-drop IsEntry (stored - m.core.log.start) m.core.log.entries is)
-
-pub served_numbers : (m : Node) (stored : ℕ) → m.core.log.start ≤ stored → stored ≤ top m → stored + length (entries_to_serve m stored) ≤ top m
-served_numbers m stored low high = simp (length-take, length-drop) (omega arith)
 
 any_default : (es : List Entry) (i : ℕ) (a b : Entry) → i < length es → slice_index_or es i a ≡ slice_index_or es i b
 any_default [] i a b h = absurd (omega arith)

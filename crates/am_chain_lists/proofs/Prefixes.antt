@@ -69,9 +69,6 @@ next_of a e {b} h = ap (λ l. slice_get l (length a)) (sym h.same ∙ push_next 
 pub below_begins : {a b : List Entry} → BeginsBelow a b → Begins a b
 below_begins {a} h = record { rest = h.next ∷ h.rest; same = h.same }
 
-pub below_push : {a b : List Entry} (h : BeginsBelow a b) → Begins (a ++ h.next ∷ []) b
-below_push {a} h = record { rest = h.rest; same = push_next a h.next h.rest ∙ h.same }
-
 pub below_length : {a b : List Entry} → BeginsBelow a b → length a < length b
 below_length {a} h = omega (arith, length-append a (h.next ∷ h.rest), ap length h.same)
 

@@ -5,7 +5,7 @@ use Rattle.std.proofs.Common.{◌≡◌, ◌≢◌, ◌⊎◌, ⊎_elim, ℕ, ze
 use Rattle.std.proofs.Common.{refl, sym, ap, ◌∙◌, subst, arith}
 use Rattle.std.proofs.lemmas.List.{take-append-le}
 use Rattle.am_base.specs.declared.entry.Entry.{Entry}
-use Rattle.am_base.specs.declared.entry.Entry.TheVariants.{Data, Join, Leave, View}
+use Rattle.am_base.specs.declared.entry.Entry.TheVariants.{View}
 use Rattle.am_base.specs.Names.{has}
 use Rattle.am_base.specs.Lists.{members_of, fits}
 use Rattle.am_base.specs.Fronts.{counted_of}
@@ -160,10 +160,8 @@ module _ (s : Group) (k : Kept s) (i : ℕ) (e : Entry) (leads : Leads i (s.node
       (put_cases s.views.line (key (view_of (s.node i).list)) ((s.node i).list ++ e ∷ []) x)
 
   small_plain : (e : Entry) → NotView e → SmallName e
-  small_plain (Data from req body) h = tt
-  small_plain (Join name) h = tt
-  small_plain (Leave name) h = tt
   small_plain (View stamp members resilience) h = absurd h
+  small_plain _ h = tt
 
   pub good_grown : IsGood ((s.node i).list ++ e ∷ [])
   good_grown = good_push (s.node i).list e (subst IsGood (sym list_is) k.views.good) fit (small_plain e plain)

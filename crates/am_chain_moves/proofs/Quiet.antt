@@ -212,10 +212,8 @@ module _ (s : Group) (k : Kept s) where
   accepts_keeps i n l may = group_change s k (s.node i).list n ((k.each i).leads l).chain may
 
   plain_of : (i : ℕ) (e : Entry) → MayNumber s.node i e → NotView e
-  plain_of i (Data from req body) h = tt
-  plain_of i (Join name) h = tt
-  plain_of i (Leave name) h = tt
   plain_of i (View stamp members resilience) h = absurd h
+  plain_of i _ h = tt
 
   -- a numbered entry spares its sequencer and who doesn't leave
   spares_own : (i : ℕ) (e : Entry) → MayNumber s.node i e → Spares i e

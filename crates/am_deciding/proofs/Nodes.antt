@@ -1,5 +1,5 @@
 -- What the parts of a node keep where its list is trimmed or gets one entry more.
-use Rattle.std.proofs.Common.{◌≡◌, ◌⊎◌, ⊎_elim, inl, inr, ℕ, ◌+◌, ◌≤◌, max, [], ◌∷◌, Bool, true, false, ◌==◌, ◌&&◌, nat_lt}
+use Rattle.std.proofs.Common.{◌≡◌, ◌⊎◌, ⊎_elim, inl, inr, ℕ, ◌+◌, ◌≤◌, [], ◌∷◌, Bool, true, false, ◌==◌, ◌&&◌, nat_lt}
 use Rattle.std.proofs.Common.{Some, refl, sym, ap, subst, ◌∙◌, length-append, arith}
 use Rattle.std.proofs.lemmas.Bool.Decides.{nat_tests}
 use Rattle.am_base.specs.declared.image.Image.{Image}
@@ -47,9 +47,6 @@ steady_core m core base e keeps =
       leaving = refl;
       sends = refl;
     }
-
-pub trimmed_base : (c core : CoreState) (base : ℕ) → c.base ≡ c.log.start → Keeps (trim_to base) c core → core.base ≡ max c.base base
-trimmed_base c core base e keeps = let one = keeps c.log (stands_self c e) in ap (λ (x : CoreState). x.base) one.1
 
 pub keeps_trimmed : (m : Node) (core : CoreState) (base : ℕ) → m.core.base ≡ m.core.log.start → Keeps (trim_to base) m.core core → NodeKeeps m
     → NodeKeeps (record m { core = core })

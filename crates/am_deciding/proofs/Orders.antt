@@ -49,9 +49,6 @@ same_stamp a b h =
     let n : a.by ≡ b.by = grind (arith, nat_tests) in
     λ i. record { round = r i; by = n i }
 
-pub eq_self : (a : Stamp) → stamp_eq a a ≡ true
-eq_self a = let r : (a.round == a.round) ≡ true = grind (arith, nat_tests) in let n : (a.by == a.by) ≡ true = grind (arith, nat_tests) in rw (r, n) refl
-
 -- what is above is another
 pub lt_apart : (p v view : Stamp) → stamp_lt p v ≡ true → stamp_lt p view ≡ false → stamp_eq v view ≡ false
 lt_apart p v view h k = split (stamp_eq v view)

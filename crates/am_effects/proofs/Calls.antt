@@ -141,9 +141,7 @@ row_ask_to_join m c p o h a t = effect_of m c _ (does_telling RestsWhole m c p o
 row_join_by : (m : Node) (s : Status) → m.status ≡ s → HasEffect m (calls does.Join) (join_by m s)
 row_join_by m status.Stranger is = row_ask_to_join m (calls does.Join) (record m { status = status.Asking }) said.Asked
     (and_then nothing_yet (asks_to_join {m = m} refl is) tt) (λ n. tt) refl
-row_join_by m status.Asking is = search rows
-row_join_by m status.Member is = search rows
-row_join_by m status.Departed is = search rows
+row_join_by m _ is = search rows
 
 pub row_join : (m : Node) → HasEffect m (calls does.Join) (join_row m)
 unfolding join_row
@@ -192,10 +190,8 @@ row_leave_now m is =
     search (rows, k) depth 9
 
 row_leave_by : (m : Node) (s : Status) → m.status ≡ s → HasEffect m (calls does.Leave) (leave_by m s)
-row_leave_by m status.Stranger is = search rows
-row_leave_by m status.Asking is = search rows
 row_leave_by m status.Member is = row_leave_now m is
-row_leave_by m status.Departed is = search rows
+row_leave_by m _ is = search rows
 
 pub row_leave : (m : Node) → HasEffect m (calls does.Leave) (leave_row m)
 unfolding leave_row

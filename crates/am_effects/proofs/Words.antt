@@ -2,7 +2,6 @@
 pub use Rattle.std.proofs.Common.{◌≡◌, ℕ, zero, suc, ◌+◌, ◌<◌, ◌≤◌, ◌==◌, nat_lt, Bool, true, false, if◌then◌else◌, List, [], ◌∷◌, length, slice_index}
 pub use Rattle.std.proofs.Common.{slice_set, get_or-set_same, get_or-set_other, refl, sym, ap, ◌∙◌, subst, arith, ◌-◌, ◌&&◌, min, max, nat_le, not, Option}
 pub use Rattle.std.proofs.Common.{Some, None, slice_get, ◌||◌, find, is_some, inl, inr, Ok, Err, ◌⊎◌, ◌++◌, option_map, length-append, drop, ◌≢◌}
-pub use Rattle.std.proofs.Math.Seq.{map-set_same}
 pub use Rattle.std.proofs.lemmas.Bool.{not-true, not-false, eq-eqb}
 pub use Rattle.std.proofs.lemmas.Bool.Decides.{nat_tests}
 pub use Rattle.std.proofs.lemmas.List.{map-set, get_or_past, length-set, append-nil}

@@ -117,19 +117,15 @@ alike_ask_to_join all m o h = alike_telling all m o o (everywhere_else m) (every
 pub alike_join_by : (all : Log) (m : Node) (s : Status) → Keeps all m → Alike (join_by (with_log m all) s) (join_by m s)
 alike_join_by all m status.Stranger h =
     alike_ask_to_join all (record m { status = status.Asking }) said.Asked (record { kept = h.kept; order = h.order })
-alike_join_by all m status.Asking h = alike_quiet all m _ _ h refl
-alike_join_by all m status.Member h = alike_quiet all m _ _ h refl
-alike_join_by all m status.Departed h = alike_quiet all m _ _ h refl
+alike_join_by all m _ h = alike_quiet all m _ _ h refl
 
 pub alike_join : (all : Log) (m : Node) → Keeps all m → Alike (join_row (with_log m all)) (join_row m)
 unfolding join_row
 alike_join all m h = alike_join_by all m m.status h
 
 pub alike_state_by : (all : Log) (m : Node) (s : Status) → Keeps all m → Alike (state_by (with_log m all) s) (state_by m s)
-alike_state_by all m status.Stranger h = alike_quiet all m _ _ h refl
-alike_state_by all m status.Asking h = alike_quiet all m _ _ h refl
 alike_state_by all m status.Member h = alike_case m.leaving _ _ _ _ (λ t. alike_quiet all m _ _ h refl) (λ f. alike_quiet all m _ _ h refl)
-alike_state_by all m status.Departed h = alike_quiet all m _ _ h refl
+alike_state_by all m _ h = alike_quiet all m _ _ h refl
 
 pub alike_state : (all : Log) (m : Node) → Keeps all m → Alike (state_row (with_log m all)) (state_row m)
 unfolding state_row
@@ -180,10 +176,8 @@ alike_leave_now all m h =
     (λ g. alike_go _ _ (alike_quiet all (record m { leaving = true }) said.Asked said.Asked (record { kept = h.kept; order = h.order }) refl)))
 
 pub alike_leave_by : (all : Log) (m : Node) (s : Status) → Keeps all m → Alike (leave_by (with_log m all) s) (leave_by m s)
-alike_leave_by all m status.Stranger h = alike_quiet all m _ _ h refl
-alike_leave_by all m status.Asking h = alike_quiet all m _ _ h refl
 alike_leave_by all m status.Member h = alike_leave_now all m h
-alike_leave_by all m status.Departed h = alike_quiet all m _ _ h refl
+alike_leave_by all m _ h = alike_quiet all m _ _ h refl
 
 pub alike_leave : (all : Log) (m : Node) → Keeps all m → Alike (leave_row (with_log m all)) (leave_row m)
 unfolding leave_row

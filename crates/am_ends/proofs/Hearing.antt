@@ -15,7 +15,6 @@ use Rattle.am_base.specs.declared.event.NodeEvent.TheVariants as does
 use Rattle.am_base.specs.Names.{without_name, names_of}
 use Rattle.am_base.specs.Stamps.{stamp_lt, stamp_eq}
 use Rattle.am_base.specs.Lists.{Log, fits, row_of, members_of, with_entry}
-use Rattle.am_core.specs.Cores.{IsInOrder}
 use Rattle.am_core.proofs.Ends.{end-self}
 use Rattle.am_packet.specs.declared.packet.Packet.{Packet}
 use Rattle.am_packet.specs.declared.packet.Packet.TheVariants as packet
@@ -33,8 +32,8 @@ use Rattle.am_model.specs.Resets.{invite_row, is_open, take_vote, vote_row, serv
 use Rattle.am_model.specs.Resets.{fetches_from, piece_promised, piece_for, piece_row, hears_result, result_row, hand_over_row}
 use Rattle.am_model.specs.Calls.{reset_row}
 use Rattle.am_model.specs.Hearing.{hears_member, hears_asking, hears_in_view, hears_as_sequencer, hears_sequencer, where_heard, hear_row}
-use Rattle.am_model.specs.Step.{read_row, row, step, hear}
-use Rattle.am_model.specs.Ends.{with_log, IsEndOf, StepsAlike, EndsStepAlike}
+use Rattle.am_model.specs.Step.{read_row, row, step}
+use Rattle.am_model.specs.Ends.{with_log, StepsAlike, EndsStepAlike}
 use Rattle.am_ends.specs.Order.{StepsKeepOrder}
 use Rattle.am_ends.proofs.Nodes.{Keeps, keeps_end, reads, same_sequencer, keeps_pushed, keeps_trimmed}
 use Rattle.am_ends.proofs.Plans.{Alike, says_ack, says_nack, says_fetch, says_vote, alike_if, alike_case, alike_quiet, alike_saying, alike_sending}
@@ -307,14 +306,6 @@ step_alike all m event h = finish_alike all m (row (with_log m all) event) (row 
 pub ends_step_alike : EndsStepAlike
 ends_step_alike all m event end order = subst (λ n. StepsAlike (step n event) (step m event)) end.same
     (step_alike all.core.log m event (keeps_end all m end order))
-
--- the same of a packet
-hear_alike_whole : (all : Log) (m : Node) (p : Packet) → Keeps all m → StepsAlike (hear (with_log m all) p) (hear m p)
-unfolding hear
-hear_alike_whole all m p h = finish_alike all m (hear_row (with_log m all) p) (hear_row m p) (alike_hear all m p h)
-
-pub hear_alike : (all m : Node) (p : Packet) → IsEndOf all m → IsInOrder m.core → StepsAlike (hear all p) (hear m p)
-hear_alike all m p end order = subst (λ n. StepsAlike (hear n p) (hear m p)) end.same (hear_alike_whole all.core.log m p (keeps_end all m end order))
 
 -- ---- the order of a node's numbers
 

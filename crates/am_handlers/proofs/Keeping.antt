@@ -26,7 +26,7 @@ use Rattle.am_sender.specs.Sends.{Sends, next_request}
 use Rattle.am_model.specs.Node.{has_log, Node, Ballot, top, image_of, view, members, acts, waiting, is_member, is_sequencer, push_entry, with_report}
 use Rattle.am_fronts.specs.Reports.{after_report}
 use Rattle.am_model.specs.declared.status.Status.{Status}
-use Rattle.am_model.specs.declared.status.Status.TheVariants.{Stranger, Asking, Member, Departed}
+use Rattle.am_model.specs.declared.status.Status.TheVariants.{Member}
 use Rattle.am_model.specs.Receiving.{is_view}
 use Rattle.am_model.specs.Refresh.{refresh, lead, led_of, with_led, accepted_at, settle_at, settle_waiting, settle, refresh_at_end}
 use Rattle.am_model.specs.Ends.{IsEndOf}
@@ -127,9 +127,6 @@ pub record MaySend (m : Node) (sends : Sends) : Type 0 where
   pub due : IsDue (at_place (image_of m) m.core.who) (life_of m.core.who) (next_request sends)
   pub unsent : has_log m.status ≡ false → next_request sends ≤ 1
 
-may_stay : (m : Node) → NodeKeeps m → MaySend m m.sends
-may_stay m keeps = record { settled = keeps.settled; due = keeps.due; unsent = keeps.unsent }
-
 -- other sends, another ballot, or a wish to leave
 keeps_changed : (m : Node) (leaving : Bool) (sends : Sends) (ballot : Option Ballot) → MaySend (record m { leaving = leaving }) sends
     → ((b : Ballot) → ballot ≡ Some b → IsOwnBallot m b) → NodeKeeps m → NodeKeeps (record m { leaving = leaving; sends = sends; ballot = ballot })
@@ -151,9 +148,6 @@ pub keeps_leaving : (m : Node) → waiting m ≡ None → NodeKeeps m → NodeKe
 keeps_leaving m none keeps =
     keeps_changed m true m.sends m.ballot (record { settled = λ leaves. none; due = keeps.due; unsent = keeps.unsent }) keeps.ballot keeps
 
-pub keeps_ballot : (m : Node) (o : Option Ballot) → ((b : Ballot) → o ≡ Some b → IsOwnBallot m b) → NodeKeeps m → NodeKeeps (record m { ballot = o })
-keeps_ballot m o owns keeps = keeps_changed m m.leaving m.sends o (may_stay m keeps) owns keeps
-
 -- the waiting send is settled, which stands in the list
 pub may_settle : (m : Node) (sends : Sends) (req : ℕ) → NodeKeeps m → option_map (λ (send : OwnSend). send.req) (sending.waiting m.sends) ≡ Some req
     → next_request sends ≡ req + 1 → IsDue (at_place (image_of m) m.core.who) (life_of m.core.who) (req + 1) → 0 < top m → MaySend m sends
@@ -162,12 +156,6 @@ may_settle m sends req keeps waits next due some = record {
   due = subst (λ n. IsDue (at_place (image_of m) m.core.who) (life_of m.core.who) n) (sym next) due;
   unsent = λ none. let blank = keeps.blank none in absurd (omega arith);
 }
-
--- who has a send that waits doesn't leave
-pub waits_not_leaving : (m : Node) (req : ℕ) → NodeKeeps m → Some req ≡ option_map (λ (send : OwnSend). send.req) (waiting m) → m.leaving ≡ true → ⊥
-waits_not_leaving m req keeps is leaves =
-    let none = is ∙ ap (option_map (λ (send : OwnSend). send.req)) (keeps.settled leaves) in
-    absurd (cc)
 
 -- ---- a report of another name, and an entry more
 
@@ -222,10 +210,8 @@ keeps_pushed m e plain fit capacity kept has_one stays keeps = record {
 }
 
 pub member_log : (s : Status) → is_member s ≡ true → has_log s ≡ true
-member_log Stranger h = absurd (cc)
-member_log Asking h = absurd (cc)
 member_log Member h = refl
-member_log Departed h = absurd (cc)
+member_log _ h = absurd (cc)
 
 -- who acts has a list
 pub acting_log : (m : Node) → acts m ≡ true → has_log m.status ≡ true

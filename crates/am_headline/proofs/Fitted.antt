@@ -1,14 +1,14 @@
 -- Up to its lawful front each node of a run has room for a View that leaves somebody out.
 use Rattle.am_headline.proofs.Words.{eqb-true, not_view, same_stamp, low_or_above, ◌≡◌, ◌⊎◌, ⊎_elim, inl, inr, ℕ, zero, suc, ◌+◌, ◌-◌, ◌<◌, ◌≤◌, ◌==◌, true}
-use Rattle.am_headline.proofs.Words.{false, List, [], ◌∷◌, ◌++◌, length, take, Some, slice_get, refl, sym, ap, ◌∙◌, subst, arith, nat_tests, length-map}
-use Rattle.am_headline.proofs.Words.{Entry, Data, Join, Leave, View, Stamp, Rules, MayFound, has, size, top_of, told_by, member_life, members_of, members_at}
-use Rattle.am_headline.proofs.Words.{CoreState, stamp_eq, Packet, Letter, Event, item_at, Begins, NotView, view_of, key, key_by, view_push, view_viewed}
-use Rattle.am_headline.proofs.Words.{long_told, begins_both, begins_length, begins_push, begins_trans, Group, IsUp, Status, is_unfinished, Node, top, view}
-use Rattle.am_headline.proofs.Words.{is_member, acts, founder, founders_view, has_departed, Step, hears_member, hears_in_view, hears_sequencer, is_view}
-use Rattle.am_headline.proofs.Words.{heard_by, FitsView, ViewsFit, lawful_front, World, start, with_step, run, split, and_both, front_is_lawful, Cause, hears}
-use Rattle.am_headline.proofs.Words.{Says, bcast, order, piece, result, LetterSays, IsCause, WasSentTo, all_get, logged, numbers_hold, each_along, heard_used}
-use Rattle.am_headline.proofs.Words.{run_owned, heard_names, lists_go_on, item_get, item_within, PacketSays, PieceSays, told_all, long_all, number_low}
-use Rattle.am_headline.proofs.Words.{departed_silent, departed_quiet, departed_is, steps_move}
+use Rattle.am_headline.proofs.Words.{false, List, [], ◌∷◌, ◌++◌, length, take, Some, slice_get, refl, sym, ap, ◌∙◌, subst, arith, length-map, Entry, Data}
+use Rattle.am_headline.proofs.Words.{View, Stamp, Rules, MayFound, has, size, top_of, told_by, member_life, members_of, members_at, CoreState, stamp_eq}
+use Rattle.am_headline.proofs.Words.{Packet, Letter, Event, item_at, Begins, view_of, key, key_by, view_push, view_viewed, long_told, begins_both}
+use Rattle.am_headline.proofs.Words.{begins_length, begins_push, begins_trans, Group, IsUp, Status, is_unfinished, Node, top, view, is_member, acts, founder}
+use Rattle.am_headline.proofs.Words.{founders_view, has_departed, Step, hears_member, hears_in_view, hears_sequencer, heard_by, FitsView, ViewsFit}
+use Rattle.am_headline.proofs.Words.{lawful_front, World, start, with_step, run, split, and_both, front_is_lawful, Cause, hears, Says, bcast, order, piece}
+use Rattle.am_headline.proofs.Words.{result, LetterSays, IsCause, WasSentTo, all_get, logged, numbers_hold, each_along, heard_used, run_owned, heard_names}
+use Rattle.am_headline.proofs.Words.{lists_go_on, item_get, item_within, PacketSays, PieceSays, told_all, long_all, number_low, departed_silent}
+use Rattle.am_headline.proofs.Words.{departed_quiet, departed_is, steps_move}
 use Rattle.am_chain_lists.specs.Whole.{image_of}
 use Rattle.am_packet.specs.declared.packet.Packet.TheVariants as packet
 use Rattle.am_model.specs.declared.status.Status.TheVariants as status
@@ -178,10 +178,8 @@ module _ (rules : Rules) (events : List Event) (e : Event) (c : Cause) (step : S
   }
     where
       member_stays : (x : Status) → is_member x ≡ true → has_departed x ≡ false
-      member_stays status.Stranger z = refl
-      member_stays status.Asking z = refl
-      member_stays status.Member z = refl
       member_stays status.Departed z = absurd (cc)
+      member_stays _ z = refl
 
   module _ (from : ℕ) (u : Stamp) (base number : ℕ) (x : Entry) (row : Node) (log : n.core.log ≡ row.core.log) (up : row.core.base ≤ n.core.base)
       (above : n.core.base < number) (why : Piecewise m from u) (st : Stores m row base number x) where

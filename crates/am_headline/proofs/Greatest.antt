@@ -1,7 +1,7 @@
 -- The greatest complete view of a watched run, and the marks of the group.
-use Rattle.am_headline.proofs.Words.{◌≡◌, ◌⊎◌, ⊎_elim, inl, inr, ℕ, zero, suc, ◌+◌, ◌<◌, ◌≤◌, Bool, true, false, List, [], ◌∷◌, ◌++◌, Option, Some, None}
-use Rattle.am_headline.proofs.Words.{slice_get, refl, sym, ap, ◌∙◌, subst, arith, list_any, stamp_lt, Event, key, key_lt, lt_key, Decided, World, happens}
-use Rattle.am_headline.proofs.Words.{is_complete, is_lawful, Watch, watch, watch_all, greater_complete, greatest_complete, broken_now, split}
+use Rattle.am_headline.proofs.Words.{◌≡◌, ◌⊎◌, ⊎_elim, inl, inr, ℕ, zero, suc, ◌+◌, ◌<◌, ◌≤◌, Bool, true, false, List, [], ◌∷◌, Option, Some, None, slice_get}
+use Rattle.am_headline.proofs.Words.{refl, sym, ap, ◌∙◌, subst, arith, list_any, stamp_lt, Event, key, key_lt, lt_key, Decided, World, happens, is_complete}
+use Rattle.am_headline.proofs.Words.{is_lawful, Watch, watch, greater_complete, greatest_complete, broken_now, split}
 
 -- ---- one item that passes
 

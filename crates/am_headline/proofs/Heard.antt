@@ -1,13 +1,10 @@
 -- The node that hears a packet in a run, and who has a list to send of.
-use Rattle.am_headline.proofs.Words.{deeds_there, course_there, ◌≡◌, ℕ, ◌≤◌, ◌==◌, not, nat_le, nat_lt, Bool, true, false, if◌then◌else◌, List, Option, Some}
-use Rattle.am_headline.proofs.Words.{None, slice_get, refl, sym, ap, ◌∙◌, subst, arith, nat_tests, Outcome, Packet, Letter, Act, Event, is_for, letter_at}
-use Rattle.am_headline.proofs.Words.{Node, has_departed, Step, finish, packet_length, hear, hear_refusal, World, is_stopped, with_record, with_step}
-use Rattle.am_headline.proofs.Words.{hears_letter, hear_cut, acts_as, happens, Cause, Change, refreshes, settles, begins_list, departs, looks, asks_to_join}
-use Rattle.am_headline.proofs.Words.{closes, IsPlain, Course, nothing_yet, used_report, and_then, Deeds, plainly, looked, Ending, at_end, let_go, closing}
-use Rattle.am_headline.proofs.Words.{actor, WasSentTo, rests_at_end, rests_refresh, settle_is}
+use Rattle.am_headline.proofs.Words.{deeds_there, ◌≡◌, ℕ, ◌≤◌, ◌==◌, not, nat_le, nat_lt, Bool, true, false, if◌then◌else◌, List, Option, Some, None}
+use Rattle.am_headline.proofs.Words.{slice_get, refl, sym, ap, ◌∙◌, subst, arith, nat_tests, Outcome, Packet, Letter, Act, Event, is_for, letter_at, Node}
+use Rattle.am_headline.proofs.Words.{has_departed, Step, finish, packet_length, hear, hear_refusal, World, is_stopped, with_record, with_step, hears_letter}
+use Rattle.am_headline.proofs.Words.{hear_cut, acts_as, happens, Cause, Ending, at_end, let_go, closing, actor, WasSentTo, rests_at_end}
 use Rattle.am_base.specs.declared.outcome.Outcome.TheVariants as said
 use Rattle.am_group.specs.declared.event.Act.TheVariants as act
-use Rattle.am_headline.proofs.Ways.{look_alike}
 
 -- ---- what is heard
 
@@ -65,16 +62,6 @@ heard_as w e step p h runs is =
     subst (λ n. HeardAs (w.nodes (actor w e)) n p) (sym same) (acts_node w e (actor w e) e.act p h runs)
 
 -- ---- who hasn't departed
-
-stays_plain : {c : Cause} {o : Outcome} (x y : Node) (z : Change c o x y) → IsPlain z → has_departed x.status ≡ false → has_departed y.status ≡ false
-stays_plain x y refreshes plain h = absurd plain
-stays_plain x y settles plain h = ap (λ (n : Node). has_departed n.status) (settle_is x) ∙ h
-stays_plain x y (begins_list s v base join image is says may) plain h = refl
-stays_plain x y (departs s v number is heard_ leaves) plain h = absurd plain
-stays_plain x y (looks b verdict over why look is) plain h = absurd plain
-stays_plain x y (asks_to_join is was) plain h = refl
-stays_plain x y (closes leads leaves alone room) plain h = absurd plain
-stays_plain x y _ plain h = h
 
 -- whoever sends something is there then, if it was before
 pub sender_stays : {c : Cause} {o : Outcome} (m n : Node) (letters : List Letter) (k : ℕ) (l : Letter) → Ending c o m letters n → slice_get letters k ≡ Some l

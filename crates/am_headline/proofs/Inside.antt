@@ -1,12 +1,12 @@
 -- What is known of a name's node within its step: what its application was given, and which of its sends are settled.
 use Rattle.am_headline.proofs.Words.{no_member, member_stays, gave_still, passed_front, or_first, fewer_wait, ◌≡◌, ◌⊎◌, ⊎_elim, inl, inr, ℕ, ◌+◌, ◌-◌, ◌<◌}
-use Rattle.am_headline.proofs.Words.{◌≤◌, max, min, ◌==◌, ◌||◌, not, nat_lt, Bool, true, false, if◌then◌else◌, List, [], ◌∷◌, ◌++◌, filter, find, count_by}
-use Rattle.am_headline.proofs.Words.{Option, Some, None, slice_get, refl, sym, ap, ◌∙◌, subst, arith, All, nat_tests, sum_by-cons, All-push, All-filter}
-use Rattle.am_headline.proofs.Words.{All-map, All-weaker, Entry, Data, Leave, Image, Stamp, Outcome, CoreState, accept, pass_over, own_report, tell, go_on}
-use Rattle.am_headline.proofs.Words.{Log, OwnSend, Status, Node, is_member, is_asking, is_sequencer, waiting, unsettled_count, push_entry, has_log}
-use Rattle.am_headline.proofs.Words.{has_departed, begin_list, advance, lead, refresh, settle, settle_waiting, settle_at, accepted_at, refresh_at_end, split}
-use Rattle.am_headline.proofs.Words.{and_both, item_at, Cause, hears, MayBeWelcomed, get_front, rests_refresh, refresh_is, settle_is, asking, logged}
-use Rattle.am_headline.proofs.Words.{asking_log, front, Gave, nothing, took, began, at_least, gave_begun, still_log, found_at}
+use Rattle.am_headline.proofs.Words.{◌≤◌, max, min, ◌==◌, not, nat_lt, Bool, true, false, if◌then◌else◌, List, [], ◌∷◌, ◌++◌, find, count_by, Option, Some}
+use Rattle.am_headline.proofs.Words.{None, slice_get, refl, sym, ap, ◌∙◌, subst, arith, All, nat_tests, sum_by-cons, All-push, All-filter, All-map}
+use Rattle.am_headline.proofs.Words.{All-weaker, Entry, Data, Leave, Image, Stamp, Outcome, CoreState, accept, pass_over, own_report, tell, go_on, Log}
+use Rattle.am_headline.proofs.Words.{OwnSend, Status, Node, is_member, is_asking, is_sequencer, waiting, unsettled_count, push_entry, has_log, has_departed}
+use Rattle.am_headline.proofs.Words.{begin_list, advance, lead, refresh, settle, settle_waiting, settle_at, accepted_at, refresh_at_end, split, and_both}
+use Rattle.am_headline.proofs.Words.{item_at, Cause, hears, MayBeWelcomed, get_front, rests_refresh, refresh_is, settle_is, asking, logged, asking_log, front}
+use Rattle.am_headline.proofs.Words.{Gave, nothing, took, began, at_least, gave_begun, still_log, found_at}
 use Rattle.am_fronts.specs.Refresh.{let_go}
 use Rattle.am_base.specs.declared.outcome.Outcome.TheVariants as said
 use Rattle.am_packet.specs.declared.packet.Packet.TheVariants as packet
@@ -116,10 +116,8 @@ gave_taken k m e low passed member some says (began s v base join image a b x y 
 -- ---- statuses
 
 pub asking_stays : (s : Status) → is_asking s ≡ true → has_departed s ≡ false
-asking_stays status.Stranger h = refl
-asking_stays status.Asking h = refl
-asking_stays status.Member h = refl
 asking_stays status.Departed h = absurd (cc)
+asking_stays _ h = refl
 
 -- ---- sends
 

@@ -1,8 +1,8 @@
 -- Lists, their lines, and where a View stands in them.
 use Rattle.am_headline.proofs.Words.{same_stamp, low_or_above, ◌≡◌, ◌⊎◌, ⊎_elim, ℕ, zero, suc, ◌<◌, ◌≤◌, true, List, [], ◌∷◌, ◌++◌, length, Some, slice_get}
-use Rattle.am_headline.proofs.Words.{sym, ap, ◌∙◌, subst, arith, list_any, Entry, Data, Join, Leave, View, Stamp, item_at, get_before, Begins, IsGood}
-use Rattle.am_headline.proofs.Words.{view_of, key, begins_nil, begins_both, begins_more, begins_same, length_push, good_begins, view_up, view_below}
-use Rattle.am_headline.proofs.Words.{view_viewed, is_view, is_view_of, up_to_view, up_to_next, split, item_more}
+use Rattle.am_headline.proofs.Words.{sym, ap, ◌∙◌, subst, arith, list_any, Entry, View, Stamp, item_at, get_before, Begins, IsGood, view_of, key, begins_nil}
+use Rattle.am_headline.proofs.Words.{begins_both, begins_more, begins_same, length_push, good_begins, view_up, view_below, view_viewed, is_view, is_view_of}
+use Rattle.am_headline.proofs.Words.{up_to_view, up_to_next, split, item_more}
 
 -- ---- lines
 
@@ -30,10 +30,8 @@ pub record Viewed (v : Stamp) (list : List Entry) : Type 0 where
   pub begins : Begins (before ++ View v names resilience ∷ []) list
 
 is_that : (v : Stamp) (e : Entry) → is_view_of v e ≡ true → (names : List ℕ) × (resilience : ℕ) × (e ≡ View v names resilience)
-is_that v (Data from req body) h = absurd (cc)
-is_that v (Join name) h = absurd (cc)
-is_that v (Leave name) h = absurd (cc)
 is_that v (View stamp names resilience) h = (names, resilience, ap (λ s. View s names resilience) (same_stamp stamp v h))
+is_that v _ h = absurd (cc)
 
 pub find_view : (v : Stamp) (list : List Entry) → list_any (is_view_of v) list ≡ true → Viewed v list
 find_view v [] h = absurd (cc)

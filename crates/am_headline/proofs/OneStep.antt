@@ -1,8 +1,8 @@
 -- One step of a run, with the group that follows it: what each law that goes with the steps takes, and what is plain of it.
-use Rattle.am_headline.proofs.Words.{is_itself, ◌≡◌, ℕ, ◌<◌, ◌==◌, true, false, List, [], ◌∷◌, ◌++◌, refl, sym, ap, ◌∙◌, subst, arith, nat_tests, Rules}
-use Rattle.am_headline.proofs.Words.{MayFound, Event, Begins, Group, Kept, Node, lowest_or_first, Step, World, group_after, start, is_stopped, with_step}
-use Rattle.am_headline.proofs.Words.{happens, happen, run, runs_go_on, Cause, Effect, actor, IsCause, few_names, run_owned, NameStands, LinesOpen, Moves}
-use Rattle.am_headline.proofs.Words.{Grows, Following, group_kept, runs_open}
+use Rattle.am_headline.proofs.Words.{is_itself, ◌≡◌, ℕ, ◌<◌, ◌==◌, true, false, List, [], ◌∷◌, ◌++◌, refl, sym, ap, ◌∙◌, subst, Rules, MayFound, Event}
+use Rattle.am_headline.proofs.Words.{Begins, Group, Kept, Node, lowest_or_first, Step, World, group_after, start, is_stopped, with_step, happens, happen, run}
+use Rattle.am_headline.proofs.Words.{runs_go_on, Cause, Effect, actor, IsCause, few_names, run_owned, NameStands, LinesOpen, Moves, Grows, Following}
+use Rattle.am_headline.proofs.Words.{group_kept, runs_open}
 use Rattle.am_headline.proofs.Shapes.{Shaped}
 
 -- the world before the step, who steps, its node before and after, and the world after

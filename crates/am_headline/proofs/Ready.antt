@@ -55,9 +55,6 @@ branch_marked s complete i (on_chain h) = on_chain h
 branch_marked s complete i (left_out a v names resilience branch on below list good member out) = left_out a v names resilience branch on below list good
     member out
 
-same_up : (s t : Group) (i : ℕ) → t.node i ≡ s.node i → IsUp (t.node i) → IsUp (s.node i)
-same_up s t i is h = subst IsUp is h
-
 branches_marked : (s : Group) (complete : ℕ → Bool) → BranchesOk s → BranchesOk (marked s complete)
 branches_marked s complete h = record {
   branch = λ i stays. branch_marked s complete i (h.branch i stays);

@@ -2,9 +2,9 @@
 -- a set of names.
 use Rattle.am_headline.proofs.Words.{up_as, ◌≡◌, ◌≢◌, ◌⊎◌, ⊎_elim, inl, inr, ℕ, ◌≤◌, List, length, Some, [], true, refl, sym, ap, ◌∙◌, subst, Entry, Leave}
 use Rattle.am_headline.proofs.Words.{IsSet, item_at, Begins, IsGood, view_of, key, begins_refl, begins_trans, good_begins, Group, Chosen, IsUp, put, chain_of}
-use Rattle.am_headline.proofs.Words.{Move, with_node, choice_of, longer, accepts, learns, begins, raises, shows, serves, gives_over, welcomes, asks, stops}
-use Rattle.am_headline.proofs.Words.{Kept, put_cases, put_same, MoveOk, Moves, none, moves, Grows, GroupOk, group_kept, move_on}
-use Rattle.am_chain_moves.specs.Moves.{numbers, stores, fetches, decides, departs, closes}
+use Rattle.am_headline.proofs.Words.{Move, with_node, choice_of, longer, learns, begins, raises, gives_over, welcomes, asks, stops, Kept, put_cases, put_same}
+use Rattle.am_headline.proofs.Words.{MoveOk, Moves, none, moves, Grows, GroupOk, group_kept, move_on, departs}
+use Rattle.am_chain_moves.specs.Moves.{numbers, stores, fetches, decides, closes}
 use Rattle.am_chain_moves.specs.Group as groups
 use Rattle.am_headline.proofs.Lists.{item_begins, item_back}
 
@@ -55,12 +55,9 @@ pub move_goes : (s t : Group) → Move s t → Kept s → (i : ℕ) → ListGoes
 move_goes s t (numbers i e leads fit may) k = now_up s t i (longer (s.node i) e) refl (up_as (s.node i) (longer (s.node i) e) refl refl refl leads.up)
 move_goes s t (stores i e there decided other stays next) k = now_up s t i (longer (s.node i) e) refl
     (up_as (s.node i) (longer (s.node i) e) refl refl refl there)
-move_goes s t (accepts i n leads may) k = λ j. same refl
 move_goes s t (learns i told acc there rises within before up_to given low) k = list_stays s t i _ refl refl
 move_goes s t (begins i few there stays member) k = list_stays s t i _ refl refl
 move_goes s t (raises i stamp there above) k = list_stays s t i _ refl refl
-move_goes s t (shows i there small other begun unshown) k = λ j. same refl
-move_goes s t (serves i list there shown others) k = λ j. same refl
 move_goes s t (fetches i f list e there ballot served shown next) k = now_up s t i (longer (s.node i) e) refl
     (up_as (s.node i) (longer (s.node i) e) refl refl refl there)
 move_goes s t (decides i members resilience may) k = now_up s t i _ refl (up_as (s.node i) _ refl refl refl may.up)
@@ -76,6 +73,7 @@ move_goes s t (asks i there unballoted) k = list_stays s t i _ refl refl
 move_goes s t (departs i before may) k = list_stays s t i _ refl refl
 move_goes s t (closes i n leads leaving alone may) k = closed_line s t i (record (longer (s.node i) (Leave i)) { departed = true }) k leads refl refl refl
 move_goes s t (stops i) k = list_stays s t i _ refl refl
+move_goes s t _ k = λ j. same refl
 
 -- ---- what is kept
 

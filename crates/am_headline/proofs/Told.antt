@@ -1,11 +1,11 @@
 -- What each run keeps of what its applications were given: gapless, from where a name began, and each send that was settled at its number.
-use Rattle.am_headline.proofs.Words.{by_name, eqb-true, is_itself, ◌≡◌, ◌≢◌, ⊎_elim, inl, ℕ, zero, suc, ◌+◌, ◌-◌, ◌<◌, ◌≤◌, ◌==◌, nat_le, true, false, List}
-use Rattle.am_headline.proofs.Words.{[], ◌∷◌, ◌++◌, length, Option, Some, None, refl, sym, ap, ◌∙◌, subst, append-nil, length-append, arith, All, flat_map}
+use Rattle.am_headline.proofs.Words.{by_name, eqb-true, is_itself, ◌≡◌, ⊎_elim, inl, ℕ, zero, suc, ◌+◌, ◌-◌, ◌<◌, ◌≤◌, ◌==◌, nat_le, true, false, List, []}
+use Rattle.am_headline.proofs.Words.{◌∷◌, ◌++◌, length, Option, Some, None, refl, sym, ap, ◌∙◌, subst, append-nil, length-append, arith, All, flat_map}
 use Rattle.am_headline.proofs.Words.{nat_tests, All-nil, All-cons, All-append, All-push, All-weaker, Entry, Data, Join, Outcome, Rules, MayFound, has}
 use Rattle.am_headline.proofs.Words.{entry_at, entry-get, Letter, Event, Record, name_of, taken_in, given_to, deliveries, item_at, IsGood, begins_refl}
-use Rattle.am_headline.proofs.Words.{begins_trans, good_begins, Group, Node, set_at, waiting, is_asking, founder, stranger, founders_view, lowest_or_first}
-use Rattle.am_headline.proofs.Words.{has_log, has_departed, Step, sent_in, accepted_sends, whole, World, record_of, start, with_step, run, heard_by, split}
-use Rattle.am_headline.proofs.Words.{Cause, hears, Changes, unchanged, changed, Effect, Answers, HasTaken, AnswersAsk, WasSettled, LetterSays, actor, IsCause}
+use Rattle.am_headline.proofs.Words.{begins_trans, good_begins, Group, Node, waiting, is_asking, founder, stranger, founders_view, lowest_or_first, has_log}
+use Rattle.am_headline.proofs.Words.{has_departed, Step, sent_in, accepted_sends, whole, World, record_of, start, with_step, run, heard_by, split, Cause}
+use Rattle.am_headline.proofs.Words.{hears, Changes, unchanged, changed, Effect, Answers, HasTaken, AnswersAsk, WasSettled, LetterSays, actor, IsCause}
 use Rattle.am_headline.proofs.Words.{IsIdle, WasSentTo, all_get, IsBlank, Blanked, change_blank, blank_holds, numbers_hold, few_names, run_owned, HasNames}
 use Rattle.am_headline.proofs.Words.{HeardNames, change_names, Balloted, change_does, heard_names, IsOfBallot, LastOk, ballots_are_own, lists_go_on, front}
 use Rattle.am_headline.proofs.Words.{Gave, nothing, took, began, at_least, At, BeginsOk, SendOk, IsSettled, sends_more, item_within, idle_takes}

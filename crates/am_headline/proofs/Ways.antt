@@ -1,10 +1,11 @@
 -- The changes of a node by what they do to what its application was given, and to its own sends.
 use Rattle.am_headline.proofs.Words.{leader_member, ◌≡◌, ℕ, ◌+◌, ◌≤◌, ◌-◌, ◌==◌, ◌||◌, not, max, nat_lt, Bool, true, false, if◌then◌else◌, List, [], ◌∷◌}
 use Rattle.am_headline.proofs.Words.{◌++◌, refl, sym, ◌∙◌, append-nil, arith, Entry, Leave, View, Image, Stamp, Outcome, has, size, Node, Ballot, top}
-use Rattle.am_headline.proofs.Words.{image_of, those, is_member, is_sequencer, push_entry, unsettled_count, Verdict, decide, ends, restart_reports, trim_for}
-use Rattle.am_headline.proofs.Words.{need_of, left_in, best_of, is_waited_for, decide_view, with_queued, is_unfinished, begin_list, refresh, settle}
-use Rattle.am_headline.proofs.Words.{refresh_at_end, and_both, Cause, hears, Looks, decides, MayBeWelcomed, Change, refreshes, settles, numbers, stores}
-use Rattle.am_headline.proofs.Words.{begins_list, departs, looks, fetches, stores_view, queues, collects, takes, asks_to_join, asks_to_leave, closes}
+use Rattle.am_headline.proofs.Words.{image_of, those, is_member, push_entry, unsettled_count, Verdict, decide, ends, restart_reports, trim_for, need_of}
+use Rattle.am_headline.proofs.Words.{left_in, best_of, is_waited_for, decide_view, with_queued, is_unfinished, begin_list, refresh, settle, refresh_at_end}
+use Rattle.am_headline.proofs.Words.{and_both, Cause, hears, Looks, decides, MayBeWelcomed, Change, refreshes, settles, numbers, stores, begins_list, looks}
+use Rattle.am_headline.proofs.Words.{fetches, stores_view, queues, collects, takes, asks_to_join, asks_to_leave, closes}
+use Rattle.am_effects.specs.Changes.{departs}
 use Rattle.am_model.specs.Ballots.{goes_on}
 use Rattle.am_base.specs.declared.outcome.Outcome.TheVariants as said
 use Rattle.am_packet.specs.declared.packet.Packet.TheVariants as packet

@@ -1,7 +1,7 @@
 -- The words of this crate's proofs, of the crates and definitions that they come from.
 pub use Rattle.std.proofs.Common.{◌≡◌, ℕ, zero, suc, ◌<◌, ◌≤◌, ◌==◌, true, List, [], ◌∷◌, ◌++◌, length, take, None, Some, refl, sym, ap, ◌∙◌, subst, arith}
 pub use Rattle.std.proofs.Common.{◌⊎◌, ⊎_elim, inl, inr, ◌+◌, ◌-◌, max, ◌&&◌, not, nat_lt, Bool, if◌then◌else◌, slice_index, length-append, false, slice_get}
-pub use Rattle.std.proofs.Common.{◌||◌, Option, nat_le, ◌≢◌, append-nil, append_assoc, drop, min, filter, find, count_by}
+pub use Rattle.std.proofs.Common.{◌||◌, Option, nat_le, ◌≢◌, append-nil, append_assoc, drop, min, find, count_by}
 pub use Rattle.std.proofs.lemmas.Bool.{eqb-true, not-true}
 pub use Rattle.std.proofs.lemmas.Bool.Decides.{nat_tests}
 pub use Rattle.std.proofs.lemmas.List.{take_all, length-map, get_or-map, take-append-le, take-append-drop, length-take-le}
@@ -42,7 +42,7 @@ pub use Rattle.am_group.specs.Deliveries.{deliveries, name_of, taken_in, given_t
 pub use Rattle.am_group.proofs.Places.{get_before, get_behind}
 pub use Rattle.am_model.specs.Node.{lowest_or_first, founding_stamp, has_departed, Node, Ballot, top, image_of, has_room, push_entry, view, is_member, acts}
 pub use Rattle.am_model.specs.Node.{founder, founders_view, has_log, is_asking, is_sequencer, waiting, unsettled_count, has_own_leave, is_within_bound}
-pub use Rattle.am_model.specs.Node.{trim_up_to, set_at, stranger, those}
+pub use Rattle.am_model.specs.Node.{trim_up_to, stranger, those}
 pub use Rattle.am_model.proofs.Founders.{first_founder}
 pub use Rattle.am_model.specs.Ballots.{Verdict, need_of, left_in, trim_for, with_promise, ends, restart_reports, best_of, is_waited_for, decide_view}
 unfoldable pub use Rattle.am_model.specs.Ballots.{decide}
@@ -52,13 +52,13 @@ pub use Rattle.am_model.specs.Emit.{Step, Plan, quiet}
 unfoldable pub use Rattle.am_model.specs.Emit.{finish}
 pub use Rattle.am_model.specs.Hearing.{hears_member, hears_in_view, hears_sequencer}
 unfoldable pub use Rattle.am_model.specs.Hearing.{hear_row}
-pub use Rattle.am_model.specs.Receiving.{is_view, with_noted, store, receive_entry, data_of, body_of}
-unfoldable pub use Rattle.am_model.specs.Receiving.{bcast_row, order_row}
 pub use Rattle.am_model.specs.Lengths.{packet_length}
 unfoldable pub use Rattle.am_model.specs.Step.{hear, hear_refusal}
 pub use Rattle.am_model.specs.Joining.{begin_list}
 pub use Rattle.am_model.specs.Refresh.{advance, settle_waiting, settle_at, accepted_at}
 unfoldable pub use Rattle.am_model.specs.Refresh.{lead, refresh, settle, refresh_at_end}
+pub use Rattle.am_model.specs.Receiving.{is_view, with_noted, store, receive_entry, data_of, body_of}
+unfoldable pub use Rattle.am_model.specs.Receiving.{bcast_row, order_row}
 pub use Rattle.am_model.specs.declared.status.Status.TheVariants.{Departed}
 pub use Rattle.am_model.specs.Resets.{push_fetched, catch_up, decide_anew, fetches_from, piece_promised, piece_for}
 unfoldable pub use Rattle.am_model.specs.Resets.{piece_row, result_row}
@@ -73,7 +73,7 @@ unfoldable pub use Rattle.am_play.specs.Claims.{up_to_view, up_to_next}
 pub use Rattle.am_play.proofs.Runs.{front_is_lawful, watched_is_run, one_record_each, runs_go_on}
 pub use Rattle.am_play.specs.Group.{accepted_sends, sent_in}
 pub use Rattle.am_play.proofs.Beginnings.{runs_begin}
-pub use Rattle.am_chain_lists.specs.Whole.{IsGood, key, Begins, NotView, mem, BeginsBelow}
+pub use Rattle.am_chain_lists.specs.Whole.{IsGood, key, Begins, mem, BeginsBelow}
 unfoldable pub use Rattle.am_chain_lists.specs.Whole.{view_of}
 pub use Rattle.am_chain_lists.proofs.Prefixes.{begins_refl, begins_nil, begins_both, begins_length, begins_push, begins_trans, begins_take, length_take}
 pub use Rattle.am_chain_lists.proofs.Prefixes.{length_push, begins_more, begins_same}
@@ -83,8 +83,7 @@ pub use Rattle.am_chain_lists.proofs.Order.{key_by, view_push, view_viewed, key_
 pub use Rattle.am_chain_moves.specs.Group.{Group, chain_of, IsUp, how_many, opening, IsThere, put, Chosen}
 unfoldable pub use Rattle.am_chain_moves.specs.Group.{count}
 pub use Rattle.am_chain_moves.specs.Runs.{MayBegin, founded, Completes, counts_for, IsLawful, Run, more}
-pub use Rattle.am_chain_moves.specs.Moves.{Move, with_node, gives_over, stops, choice_of, longer, accepts, learns, begins, raises, shows, serves, welcomes}
-pub use Rattle.am_chain_moves.specs.Moves.{asks}
+pub use Rattle.am_chain_moves.specs.Moves.{Move, with_node, gives_over, stops, choice_of, longer, learns, begins, raises, welcomes, asks, departs}
 pub use Rattle.am_chain_moves.specs.Kept.{Kept}
 pub use Rattle.am_chain_moves.proofs.Puts.{put_cases, put_other, put_same}
 pub use Rattle.am_chain.proofs.Runs.{run_keeps}
@@ -92,7 +91,7 @@ pub use Rattle.am_orders.proofs.Turns.{senders_in_order, send_stands_once}
 pub use Rattle.am_effects.specs.Causes.{Cause, hears}
 pub use Rattle.am_effects.specs.Looks.{Looks, decides}
 pub use Rattle.am_effects.specs.Changes.{Carries, whole_entry, by_number, Change, refreshes, settles, numbers, stores, begins_list, looks, fetches}
-pub use Rattle.am_effects.specs.Changes.{stores_view, closes, Changes, unchanged, changed, departs, asks_to_join, MayBeWelcomed, queues, collects, takes}
+pub use Rattle.am_effects.specs.Changes.{stores_view, closes, Changes, unchanged, changed, MayBeWelcomed, queues, collects, takes, asks_to_join}
 pub use Rattle.am_effects.specs.Changes.{asks_to_leave}
 pub use Rattle.am_effects.proofs.Rests.{rests_refresh, rests_at_end, settle_is, refresh_is}
 pub use Rattle.am_effects.proofs.Says.{told_pushed}
@@ -103,7 +102,7 @@ pub use Rattle.am_effects.proofs.Items.{all_get, get_front, get_last}
 pub use Rattle.am_effects.proofs.Statuses.{logged, asking_log}
 pub use Rattle.am_effects.proofs.Events.{events_have_effects}
 pub use Rattle.am_effects.proofs.Runs.{runs_keep}
-pub use Rattle.am_effects.specs.Courses.{IsPlain, Course, nothing_yet, used_report, and_then, Deeds, plainly, looked, Ending, at_end, let_go, closing}
+pub use Rattle.am_effects.specs.Courses.{Ending, at_end, let_go, closing}
 pub use Rattle.am_effects.proofs.Tests.{or_first, is_itself}
 pub use Rattle.am_effects.proofs.Receiving.{asking}
 pub use Rattle.am_effects.specs.Effects.{Effect, Answers, HasTaken, AnswersAsk, WasSettled}
@@ -165,4 +164,4 @@ pub use Rattle.am_stands.proofs.Others.{others_keep}
 pub use Rattle.am_stands.proofs.Ends.{taken_more}
 pub use Rattle.am_steps.proofs.Silent.{departed_quiet}
 pub use Rattle.am_steps.proofs.Statuses.{departed_is}
-pub use Rattle.am_steps.proofs.Steps.{steps_move, deeds_there, course_there}
+pub use Rattle.am_steps.proofs.Steps.{steps_move, deeds_there}

@@ -8,7 +8,7 @@ use Rattle.am_base.specs.Stamps.{stamp_lt, stamp_eq}
 use Rattle.am_base.specs.Lists.{fold, row_of}
 use Rattle.am_core.specs.Cores.{IsInOrder}
 use Rattle.am_model.specs.declared.status.Status.{Status}
-use Rattle.am_model.specs.declared.status.Status.TheVariants.{Stranger, Asking, Member, Departed}
+use Rattle.am_model.specs.declared.status.Status.TheVariants.{Asking}
 use Rattle.am_model.specs.Node.{has_log, Node, view, is_asking, is_member, only_name, is_within_bound}
 use Rattle.am_model.specs.Emit.{quiet, telling, nack_of, fetch_of}
 use Rattle.am_model.specs.Joining.{begin_list, ask_next, welcome_row}
@@ -16,10 +16,8 @@ use Rattle.am_handlers.specs.Keeps.{NodeKeeps}
 use Rattle.am_joining.specs.Pieces.{is_unfit}
 
 pub asking_log : (s : Status) → is_asking s ≡ true → has_log s ≡ false
-asking_log Stranger h = absurd (cc)
 asking_log Asking h = refl
-asking_log Member h = absurd (cc)
-asking_log Departed h = absurd (cc)
+asking_log _ h = absurd (cc)
 
 by_same : (a b : Stamp) (who : ℕ) → (stamp_eq a b && (b.by == who)) ≡ true → a.by ≡ who
 by_same a b who h = grind (arith, nat_tests)
@@ -95,7 +93,5 @@ pub asks_fetch : (m : Node) (from : ℕ) (v : Stamp) (join : ℕ) → stamp_eq (
 asks_fetch m from v join other = rw other refl
 
 pub member_or_asks : (s : Status) → (is_member s || is_asking s) ≡ true → is_member s ≡ false → is_asking s ≡ true
-member_or_asks Stranger h none = absurd (cc)
 member_or_asks Asking h none = refl
-member_or_asks Member h none = absurd (cc)
-member_or_asks Departed h none = absurd (cc)
+member_or_asks _ h none = absurd (cc)

@@ -153,10 +153,8 @@ ends_leave_now most g m h =
     no_more n t f = split (nat_lt 0 n) (λ a. absurd (let x = rw a at f in cc)) (λ a. grind (arith, nat_tests))
 
 ends_leave_by : (most : Bounds) (g : ℕ) (m : Node) (s : Status) → Low most g m → Ends most g (leave_by m s)
-ends_leave_by most g m status.Stranger h = search ends
-ends_leave_by most g m status.Asking h = search ends
 ends_leave_by most g m status.Member h = ends_leave_now most g m h
-ends_leave_by most g m status.Departed h = search ends
+ends_leave_by most g m _ h = search ends
 
 pub ends_leave : (most : Bounds) (g : ℕ) (m : Node) → Low most g m → Ends most g (leave_row m)
 unfolding leave_row
@@ -210,10 +208,8 @@ ends_tick_with most g m (Some b) h =
     search (ends, k, l)
 
 ends_tick_by : (most : Bounds) (g : ℕ) (m : Node) (s : Status) → Low most g m → Ends most g (tick_by m s)
-ends_tick_by most g m status.Stranger h = ends_at most g _ h
-ends_tick_by most g m status.Asking h = ends_at most g _ h
 ends_tick_by most g m status.Member h = ends_tick_with most g m m.ballot h
-ends_tick_by most g m status.Departed h = ends_at most g _ h
+ends_tick_by most g m _ h = ends_at most g _ h
 
 pub ends_tick : (most : Bounds) (g : ℕ) (m : Node) → Low most g m → Ends most g (tick_row m)
 unfolding tick_row

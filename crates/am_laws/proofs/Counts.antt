@@ -216,10 +216,6 @@ over_low g taken acc start h k = split (nat_lt taken (start - 1)) (λ t. rw t (o
 abbrev passed : ℕ → ℕ → ℕ → ℕ
 passed taken acc start = if nat_lt taken (start - 1) then max taken (min acc (start - 1)) else taken
 
--- a list that a node leads is accepted by the group as far as by the node
-led_known : (g told acc front high : ℕ) → front ≤ max acc high → acc ≤ high → front ≤ max g (max acc (min front high))
-led_known g told acc front high h k = omega arith
-
 low_lead : (b : Bounds) (g : ℕ) (m : Node) → leads m ≡ true → Low b g m → Low b g (lead m)
 unfolding lead own_report tell go_on let_go accept pass_over
 low_lead b g m own h =

@@ -1,8 +1,7 @@
 -- How high the numbers of the acting name's node are after an event.
-use Rattle.am_laws.proofs.Words.{is_itself, ◌≡◌, ℕ, ◌==◌, not, nat_lt, nat_le, Bool, true, false, if◌then◌else◌, List, Option, Some, None, refl, arith}
-use Rattle.am_laws.proofs.Words.{nat_tests, Outcome, NodeEvent, Packet, Letter, Act, Event, is_for, letter_at, Node, Step, step, hear, hear_refusal}
-use Rattle.am_laws.proofs.Words.{packet_length, World, is_stopped, with_record, with_step, hears_letter, hear_cut, lives_on, acts_as, happens, heard_by}
-use Rattle.am_laws.proofs.Words.{actor, Bounds, up, UpTo}
+use Rattle.am_laws.proofs.Words.{is_itself, ◌≡◌, ℕ, not, nat_lt, nat_le, Bool, true, false, if◌then◌else◌, List, Option, Some, None, refl, Outcome, NodeEvent}
+use Rattle.am_laws.proofs.Words.{Packet, Letter, Act, Event, is_for, letter_at, Node, Step, step, hear, hear_refusal, packet_length, World, is_stopped}
+use Rattle.am_laws.proofs.Words.{with_record, with_step, hears_letter, hear_cut, lives_on, acts_as, happens, heard_by, actor, Bounds, up, UpTo}
 use Rattle.am_base.specs.declared.outcome.Outcome.TheVariants as said
 use Rattle.am_group.specs.declared.event.Act.TheVariants as act
 use Rattle.am_laws.proofs.HearingCounts.{IsDone, low_step, low_hear, low_refused}

@@ -7,8 +7,8 @@ use Rattle.am_laws.proofs.Words.{spread_row, is_view, store_fitting, store, with
 use Rattle.am_laws.proofs.Words.{answer_hold, hold_row, with_admitted, number_join, join_ask_row, begin_list, welcome_row, leave_ask_row, gone_row}
 use Rattle.am_laws.proofs.Words.{with_promise, invite_row, take_vote, vote_row, fetch_row, push_fetched, catch_up, decide_anew, piece_promised, piece_for}
 use Rattle.am_laws.proofs.Words.{piece_row, hears_result, result_row, hand_over_row, hear_row, row, step, hear, hear_refusal, refuse, split, or_first, Bounds}
-use Rattle.am_laws.proofs.Words.{up, UpTo}
-use Rattle.am_model.specs.Joining.{asks_to_join, asks_to_leave}
+use Rattle.am_laws.proofs.Words.{up, UpTo, asks_to_leave}
+use Rattle.am_model.specs.Joining.{asks_to_join}
 use Rattle.am_base.specs.declared.outcome.Outcome.TheVariants as said
 use Rattle.am_base.specs.declared.event.NodeEvent.TheVariants as does
 use Rattle.am_packet.specs.declared.packet.Packet.TheVariants as packet

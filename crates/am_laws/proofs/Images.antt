@@ -108,8 +108,5 @@ row_up n image name h = split ((at_place image name).life == life_of name)
     (λ t. rw t (up_at n image.rows (place_of name) h.rows))
     (λ f. rw f (up_blank n))
 
-pub place_up : (n : ℕ) (image : Image) (name : ℕ) → ImageUp n image → RowUp n (at_place image name)
-place_up n image name h = up_at n image.rows (place_of name) h.rows
-
 pub blank_up : (n : ℕ) → ImageUp n blank
 blank_up n = record { view = omega arith; rows = All-replicate (RowUp n) 16 blank_row (up_blank n) }

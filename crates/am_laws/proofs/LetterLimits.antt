@@ -1,8 +1,8 @@
 -- What a letter tells is within its limits, where what its sender has is.
 use Rattle.am_laws.proofs.Words.{◌≡◌, ℕ, zero, suc, ◌-◌, ◌≤◌, nat_le, List, [], ◌∷◌, length, Option, Some, None, refl, subst, arith, All, All-head, All-tail}
-use Rattle.am_laws.proofs.Words.{most_body, Entry, Data, Join, Leave, View, Report, IsSet, IsNumber, IsReport, Log, entry_at, Packet, IsPacket, IsWithin}
-use Rattle.am_laws.proofs.Words.{HasParts, Node, top, image_of, viewed_by, split, Cause, hears, HasSend, Says, request, spread, bcast, order, hold, welcome}
-use Rattle.am_laws.proofs.Words.{vote, piece, result, all_get, stamp_of, Bounds, UpTo}
+use Rattle.am_laws.proofs.Words.{most_body, Entry, Data, View, Report, IsSet, IsNumber, IsReport, Log, entry_at, Packet, IsPacket, IsWithin, HasParts, Node}
+use Rattle.am_laws.proofs.Words.{top, image_of, viewed_by, split, Cause, hears, HasSend, Says, request, spread, bcast, order, hold, welcome, vote, piece}
+use Rattle.am_laws.proofs.Words.{result, all_get, stamp_of, Bounds, UpTo}
 use Rattle.am_packet.specs.declared.packet.Packet.TheVariants as packet
 use Rattle.am_laws.proofs.Limits.{EntryWithin, AreNumbers, is_nobody, members_within, told_within, image_at_within, is_entry, is_image}
 use Rattle.am_laws.proofs.NodeLimits.{SendWithin, Within, PacketWithin, req_brought}
@@ -17,11 +17,8 @@ own_send_within b n req body s h =
     record { req = subst (λ r. r ≤ b.requests) s.request k.req; body = subst (λ (x : List ℕ). length x ≤ most_body) s.body_ k.body }
 
 viewed_by_set : (b : Bounds) (o : Option Entry) → ((e : Entry) → o ≡ Some e → EntryWithin b e) → IsSet (viewed_by o)
-viewed_by_set b None h = is_nobody
-viewed_by_set b (Some (Data from req body)) h = is_nobody
-viewed_by_set b (Some (Join name)) h = is_nobody
-viewed_by_set b (Some (Leave name)) h = is_nobody
 viewed_by_set b (Some (View stamp names resilience)) h = (h (View stamp names resilience) refl).1
+viewed_by_set b _ h = is_nobody
 
 at_within : (b : Bounds) (log : Log) (number : ℕ) (e : Entry) → All (EntryWithin b) log.entries → entry_at log number ≡ Some e → EntryWithin b e
 at_within b log zero e h is = absurd (cc)

@@ -1,15 +1,14 @@
 -- What a node has is within its limits, and each change keeps it so.
 use Rattle.am_laws.proofs.Words.{◌≡◌, ℕ, ◌+◌, ◌<◌, ◌≤◌, ◌==◌, ◌&&◌, not, max, nat_le, false, if◌then◌else◌, List, [], ◌∷◌, length, drop, find, Option, Some}
 use Rattle.am_laws.proofs.Words.{None, option_map, refl, sym, ap, subst, arith, All, list_any, nat_tests, All-nil, All-cons, All-append, All-map, All-filter}
-use Rattle.am_laws.proofs.Words.{All-drop, All-weaker, most_body, Entry, Data, Join, Leave, View, Vote, Report, Stamp, Outcome, IsSet, stamp_lt, Shown}
-use Rattle.am_laws.proofs.Words.{vote_lt, all_names, better_of, best_from, Packet, OwnSend, KeptBody, is_of, find_body, keep_body, Node, Ballot, image_of}
-use Rattle.am_laws.proofs.Words.{waiting, push_entry, Verdict, overtake, own_vote, best_of, need_of, left_in, own_body, first_body, body_of, bodies_after}
-use Rattle.am_laws.proofs.Words.{refresh, accepted_at, settle_at, settle_waiting, settle, refresh_at_end, split, Cause, calls, hears, BringsSend, by_request}
-use Rattle.am_laws.proofs.Words.{by_spread, HasOpen, Balloting, with_more, without_one, as_it_is, Looks, finds_itself_out, waits, fetches_from_best}
-use Rattle.am_laws.proofs.Words.{finds_too_few, finds_no_room, decides, Numbers, asked_send, own_send, asked_join, asked_leave, Carries, whole_entry}
-use Rattle.am_laws.proofs.Words.{by_number, Change, Changes, unchanged, changed, refreshes, settles, takes_report, admits, numbers, keeps_body, notes, stores}
-use Rattle.am_laws.proofs.Words.{begins_list, departs, promises, opens, looks, fetches, stores_view, queues, collects, takes, asks_to_join, asks_to_leave}
-use Rattle.am_laws.proofs.Words.{closes, all_find, with_fronts, refresh_is, rests_refresh, rests_at_end, settle_is, sender_of, Bounds, up}
+use Rattle.am_laws.proofs.Words.{All-drop, All-weaker, most_body, Entry, Data, Leave, View, Vote, Report, Stamp, Outcome, IsSet, stamp_lt, Shown, vote_lt}
+use Rattle.am_laws.proofs.Words.{all_names, better_of, best_from, Packet, OwnSend, KeptBody, is_of, find_body, keep_body, Node, Ballot, image_of, waiting}
+use Rattle.am_laws.proofs.Words.{push_entry, Verdict, overtake, own_vote, best_of, need_of, left_in, own_body, first_body, body_of, bodies_after, refresh}
+use Rattle.am_laws.proofs.Words.{accepted_at, settle_at, settle_waiting, settle, refresh_at_end, split, Cause, calls, hears, BringsSend, by_request}
+use Rattle.am_laws.proofs.Words.{by_spread, HasOpen, Balloting, with_more, without_one, as_it_is, Looks, finds_itself_out, decides, Numbers, asked_send}
+use Rattle.am_laws.proofs.Words.{own_send, asked_join, asked_leave, Carries, whole_entry, by_number, Change, Changes, unchanged, changed, refreshes, settles}
+use Rattle.am_laws.proofs.Words.{numbers, keeps_body, stores, begins_list, promises, opens, looks, fetches, stores_view, queues, collects, closes, all_find}
+use Rattle.am_laws.proofs.Words.{with_fronts, refresh_is, rests_refresh, rests_at_end, settle_is, sender_of, Bounds, up}
 use Rattle.am_base.specs.declared.event.NodeEvent.TheVariants as does
 use Rattle.am_packet.specs.declared.packet.Packet.TheVariants as packet
 use Rattle.am_sender.specs.Sends as own
@@ -152,9 +151,7 @@ carried_within b c m s v base acc number e (by_number name req body is found) fr
 
 after_bodies : (bodies : List KeptBody) (e : Entry) → All KeptWithin bodies → All KeptWithin (bodies_after bodies e)
 after_bodies bodies (Data from req body) h = All-filter (λ kept. not ((kept.from == from) && nat_le kept.req req)) KeptWithin bodies h
-after_bodies bodies (Join name) h = h
-after_bodies bodies (Leave name) h = h
-after_bodies bodies (View stamp names resilience) h = h
+after_bodies bodies _ h = h
 
 kept_within : (s req : ℕ) (body : List ℕ) (bodies : List KeptBody) → length body ≤ most_body → All KeptWithin bodies
     → All KeptWithin (keep_body s req body bodies)
@@ -271,14 +268,10 @@ look_within b m x v look k h =
   where
     looked : ((y : Ballot) → y.stamp ≡ x.stamp → y.resilience ≡ x.resilience → y.votes ≡ x.votes → VotesWithin b y) → {u : Verdict} → Looks m x u
         → Within b u.node
-    looked l (finds_itself_out y) = record { image = h.image; entries = h.entries; sends = h.sends; bodies = h.bodies; ballot = l _ refl refl refl }
-    looked l (waits y z) = record { image = h.image; entries = h.entries; sends = h.sends; bodies = h.bodies; ballot = l _ refl refl refl }
-    looked l (fetches_from_best y z w) = record { image = h.image; entries = h.entries; sends = h.sends; bodies = h.bodies; ballot = l _ refl refl refl }
-    looked l (finds_too_few y z) = record { image = h.image; entries = h.entries; sends = h.sends; bodies = h.bodies; ballot = l _ refl refl refl }
-    looked l (finds_no_room y) = record { image = h.image; entries = h.entries; sends = h.sends; bodies = h.bodies; ballot = l _ refl refl refl }
     looked l (decides may) =
         let p = pushed_within b m _ (view_within b m x k h) h in
         record { image = p.image; entries = p.entries; sends = p.sends; bodies = p.bodies; ballot = l _ refl refl refl }
+    looked l _ = record { image = h.image; entries = h.entries; sends = h.sends; bodies = h.bodies; ballot = l _ refl refl refl }
 
 -- ---- what only rises
 
@@ -324,10 +317,6 @@ pub change_within : (b : Bounds) {c : Cause} {o : Outcome} (m n : Node) → Caus
     → Change c o m n → Within b m → Within b n
 change_within b m n from round last refreshes h = refresh_within b m h
 change_within b m n from round last settles h = settle_within b m h
-change_within b m n from round last (takes_report s v report by may) h =
-    record { image = h.image; entries = h.entries; sends = h.sends; bodies = h.bodies; ballot = h.ballot }
-change_within b m n from round last (admits s v is leads fit) h =
-    record { image = h.image; entries = h.entries; sends = h.sends; bodies = h.bodies; ballot = h.ballot }
 change_within b m n from round last (numbers e leads room why) h = pushed_within b m e (numbered_within b _ m e why from h) h
 change_within b m n from round last (keeps_body s v report req body is by) h =
     record {
@@ -338,8 +327,6 @@ change_within b m n from round last (keeps_body s v report req body is by) h =
           kept_within s req body m.bodies ((from.heard (packet.Spread s v report req body) is).1) h.bodies;
       ballot = h.ballot;
     }
-change_within b m n from round last (notes s v base acc by seq) h =
-    record { image = h.image; entries = h.entries; sends = h.sends; bodies = h.bodies; ballot = h.ballot }
 change_within b m n from round last (stores s v base acc number e by seq plain may) h =
     let k = pushed_within b m e (carried_within b _ m s v base acc number e by from h) h in
     record { image = k.image; entries = k.entries; sends = k.sends; bodies = after_bodies m.bodies e h.bodies; ballot = k.ballot }
@@ -352,8 +339,6 @@ change_within b m n from round last (begins_list s v base join image is o may) h
       ballot =
           h.ballot;
     }
-change_within b m n from round last (departs s v number is by leaves) h =
-    record { image = h.image; entries = h.entries; sends = h.sends; bodies = h.bodies; ballot = h.ballot }
 change_within b m n from round last (promises v low why) h =
     record { image = h.image; entries = h.entries; sends = h.sends; bodies = h.bodies; ballot = overtaken_within b v m.ballot h.ballot }
 change_within b m n from round last (opens least resilience by may) h =
@@ -390,15 +375,11 @@ change_within b m n from round last (collects req is) h = record {
   bodies = h.bodies;
   ballot = h.ballot;
 }
-change_within b m n from round last (takes e is o member some there) h =
-    record { image = h.image; entries = h.entries; sends = h.sends; bodies = h.bodies; ballot = h.ballot }
-change_within b m n from round last (asks_to_join is was) h =
-    record { image = h.image; entries = h.entries; sends = h.sends; bodies = h.bodies; ballot = h.ballot }
-change_within b m n from round last (asks_to_leave is was stays done) h =
-    record { image = h.image; entries = h.entries; sends = h.sends; bodies = h.bodies; ballot = h.ballot }
 change_within b m n from round last (closes leads leaves alone room) h =
     let k = at_end_within b (push_entry m (Leave m.core.who)) (pushed_within b m (Leave m.core.who) tt h) in
     record { image = k.image; entries = k.entries; sends = k.sends; bodies = k.bodies; ballot = k.ballot }
+change_within b m n from round last _ h =
+    record { image = h.image; entries = h.entries; sends = h.sends; bodies = h.bodies; ballot = h.ballot }
 
 pub changes_within : (b : Bounds) {c : Cause} {o : Outcome} (m n : Node) → CauseWithin b c → n.core.promise.round ≤ b.rounds → n.sends.last ≤ b.requests
     → Changes c o m n → Within b m → Within b n

@@ -1,10 +1,10 @@
 -- How high all numbers of a run are, event by event.
 use Rattle.am_laws.proofs.Words.{is_itself, ◌≡◌, inl, inr, ⊎_elim, ℕ, ◌+◌, ◌-◌, ◌≤◌, ◌==◌, max, min, Bool, true, if◌then◌else◌, List, [], ◌∷◌, length, take}
-use Rattle.am_laws.proofs.Words.{drop, Option, Some, None, refl, ap, ◌∙◌, subst, arith, length-append, length-drop, All, nat_tests, length-take, All-nil}
-use Rattle.am_laws.proofs.Words.{All-append, All-weaker, Entry, Rules, has, row_of, Packet, Letter, Event, letter_at, Node, Ballot, top, image_of, set_at}
-use Rattle.am_laws.proofs.Words.{founder, stranger, Step, World, start, first_node, group_with, group_after, with_record, with_step, happens, happen, run}
-use Rattle.am_laws.proofs.Words.{heard_by, split, Cause, hears, MayWelcome, Says, welcome, LetterSays, Effect, actor, WasSentTo, IsCause, Happens, idles}
-use Rattle.am_laws.proofs.Words.{stops, returns, steps, all_item, events_have_effects, Bounds, up, UpTo, NumbersHold}
+use Rattle.am_laws.proofs.Words.{drop, Option, Some, None, refl, ap, ◌∙◌, subst, arith, length-append, length-drop, All, length-take, All-nil, All-append}
+use Rattle.am_laws.proofs.Words.{All-weaker, Entry, Rules, has, row_of, Packet, Letter, Event, letter_at, Node, Ballot, top, image_of, set_at, founder}
+use Rattle.am_laws.proofs.Words.{stranger, Step, World, start, first_node, group_with, group_after, with_record, with_step, happens, happen, run, heard_by}
+use Rattle.am_laws.proofs.Words.{split, Cause, hears, MayWelcome, Says, welcome, LetterSays, Effect, actor, WasSentTo, IsCause, Happens, steps, all_item}
+use Rattle.am_laws.proofs.Words.{events_have_effects, Bounds, up, UpTo, NumbersHold}
 use Rattle.am_laws.proofs.{Counts.IsKnown, Counts.VotesKnown, Counts.leads, Counts.Low, Counts.Behind, Counts.low_more, Images.blank_up, Images.image_up}
 use Rattle.am_laws.proofs.{ListImages.WelcomeUp, ListImages.ListUp, ListImages.changes_list, LetterCounts.Sends, LetterCounts.says_low}
 use Rattle.am_laws.proofs.{LetterCounts.welcome_low, EventCounts.actor_low}
@@ -191,10 +191,8 @@ low_stepped b w e c s cause effect raised h =
 
 low_event : (b : Bounds) (w : World) (e : Event) (v : World) → Happens w e v → RaisedBy w v (actor w e) (heard_by e.act) → AllLow b w → AllLow (up b) v
 unfolding with_record
-low_event b w e v (idles o idle) raised h = low_same b w v refl refl refl h
-low_event b w e v (stops runs) raised h = low_same b w v refl refl refl h
-low_event b w e v (returns place is left more) raised h = low_same b w v refl refl refl h
 low_event b w e v (steps c s runs cause effect) raised h = low_stepped b w e c s cause effect raised h
+low_event b w e v _ raised h = low_same b w v refl refl refl h
 
 pub low_happens : (b : Bounds) (w : World) (e : Event) → AllLow b w → AllLow (up b) (happens w e)
 low_happens b w e h = low_event b w e (happens w e) (events_have_effects w e)

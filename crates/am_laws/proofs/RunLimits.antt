@@ -1,11 +1,10 @@
 -- Each letter of a run is a packet within its limits, so the run of packets is the run of bytes.
-use Rattle.am_laws.proofs.Words.{is_itself, ◌≡◌, ℕ, ◌+◌, ◌<◌, ◌≤◌, ◌==◌, true, not, if◌then◌else◌, List, [], ◌∷◌, length, Option, Some, None, refl, ap, ◌∙◌}
-use Rattle.am_laws.proofs.Words.{subst, arith, All, nat_tests, All-nil, All-cons, All-head, All-tail, All-append, All-weaker, most_body, Rules, MayFound}
-use Rattle.am_laws.proofs.Words.{top_of, Packet, Letter, IsPacket, spelling_again, Act, Event, is_for, letter_at, Node, founder, stranger, founders_view}
-use Rattle.am_laws.proofs.Words.{Step, World, start, is_stopped, with_record, with_step, hears_letter, acts_as, happens, happen, run, heard_by}
-use Rattle.am_laws.proofs.Words.{spelling_is_heard, cut_is_heard, Cause, hears, LetterSays, Effect, actor, WasSentTo, IsCall, IsCause, Happens, idles, stops}
-use Rattle.am_laws.proofs.Words.{returns, steps, all_item, events_have_effects, sender_of, Bounds, up, UpTo, BodyWithin, IsShort, LettersArePackets}
-use Rattle.am_laws.proofs.Words.{LettersAreRead, acts_by_bytes, happen_by_bytes, RunsAreOfBytes}
+use Rattle.am_laws.proofs.Words.{is_itself, ◌≡◌, ℕ, ◌+◌, ◌<◌, ◌≤◌, not, if◌then◌else◌, List, [], ◌∷◌, length, Option, Some, None, refl, ap, ◌∙◌, subst, arith}
+use Rattle.am_laws.proofs.Words.{All, All-nil, All-cons, All-head, All-tail, All-append, All-weaker, most_body, Rules, MayFound, top_of, Packet, Letter}
+use Rattle.am_laws.proofs.Words.{IsPacket, spelling_again, Act, Event, is_for, letter_at, Node, founder, stranger, founders_view, Step, World, start}
+use Rattle.am_laws.proofs.Words.{is_stopped, with_record, with_step, hears_letter, acts_as, happens, happen, run, heard_by, spelling_is_heard, cut_is_heard}
+use Rattle.am_laws.proofs.Words.{Cause, LetterSays, Effect, actor, IsCall, IsCause, Happens, steps, all_item, events_have_effects, sender_of, Bounds, up}
+use Rattle.am_laws.proofs.Words.{UpTo, BodyWithin, IsShort, LettersArePackets, LettersAreRead, acts_by_bytes, happen_by_bytes, RunsAreOfBytes}
 use Rattle.am_base.specs.declared.outcome.Outcome.TheVariants as said
 use Rattle.am_base.specs.declared.event.NodeEvent.TheVariants as does
 use Rattle.am_group.specs.declared.event.Act.TheVariants as act
@@ -85,10 +84,8 @@ within_stepped rules b w e c s body cause effect low h =
 within_event : (rules : Rules) (b : Bounds) (w : World) (e : Event) (v : World) → BodyWithin e.act → Happens w e v → AllLow (up b) v → Limited rules b w
     → AllWithin (up b) v
 unfolding with_record
-within_event rules b w e v body (idles o idle) low h = within_same b w v refl refl h.within
-within_event rules b w e v body (stops runs) low h = within_same b w v refl refl h.within
-within_event rules b w e v body (returns place is left more) low h = within_same b w v refl refl h.within
 within_event rules b w e v body (steps c s runs cause effect) low h = within_stepped rules b w e c s body cause effect low h
+within_event rules b w e v body _ low h = within_same b w v refl refl h.within
 
 limited_happens : (rules : Rules) (b : Bounds) (w : World) (e : Event) → BodyWithin e.act → Limited rules b w → Limited rules (up b) (happens w e)
 limited_happens rules b w e body h =

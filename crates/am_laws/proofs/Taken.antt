@@ -7,12 +7,11 @@ use Rattle.am_laws.proofs.Words.{slice_index-by_place, length-by_place, Packet, 
 use Rattle.am_laws.proofs.Words.{image_of, view, members, name_where, those, is_member, is_asking, acts, is_sequencer, push_entry, trim_up_to, refresh}
 use Rattle.am_laws.proofs.Words.{refresh_at_end, Verdict, overtake, with_promise, next_stamp, own_vote, best_of, need_of, left_in, taken_by, trim_for}
 use Rattle.am_laws.proofs.Words.{is_view, is_unknown, hears_member, hears_asking, hears_sequencer, hears_in_view, has_log, split, and_both, Cause, hears}
-use Rattle.am_laws.proofs.Words.{HasOpen, Balloting, with_more, without_one, as_it_is, Looks, finds_itself_out, waits, fetches_from_best, finds_too_few}
-use Rattle.am_laws.proofs.Words.{finds_no_room, decides, Promises, invited, overtaken_by, told_result, Numbers, asked_send, own_send, asked_join, asked_leave}
-use Rattle.am_laws.proofs.Words.{Fetches, without_ballot, for_ballot, Change, refreshes, settles, takes_report, admits, numbers, keeps_body, notes, stores}
-use Rattle.am_laws.proofs.Words.{begins_list, departs, promises, opens, looks, fetches, stores_view, queues, collects, takes, asks_to_join, asks_to_leave}
-use Rattle.am_laws.proofs.Words.{closes, rests_refresh, rests_at_end, settle_is, asking_log, told_pushed, view_pushed, HasItself, itself, JoinFits, any_fits}
-use Rattle.am_laws.proofs.Words.{JoinsFit}
+use Rattle.am_laws.proofs.Words.{HasOpen, Balloting, with_more, without_one, as_it_is, Looks, finds_no_room, decides, Promises, invited, overtaken_by}
+use Rattle.am_laws.proofs.Words.{told_result, Numbers, asked_send, own_send, asked_join, asked_leave, Fetches, without_ballot, for_ballot, Change, refreshes}
+use Rattle.am_laws.proofs.Words.{settles, takes_report, admits, numbers, notes, stores, begins_list, departs, promises, opens, looks, fetches, stores_view}
+use Rattle.am_laws.proofs.Words.{takes, asks_to_join, closes, rests_refresh, rests_at_end, settle_is, asking_log, told_pushed, view_pushed, HasItself, itself}
+use Rattle.am_laws.proofs.Words.{JoinFits, any_fits, JoinsFit}
 use Rattle.am_packet.specs.declared.packet.Packet.TheVariants as packet
 use Rattle.am_fronts.specs.Reports as reports
 use Rattle.am_model.specs.Sequencing as sequencing
@@ -155,10 +154,6 @@ answered_own : (m : Node) (ballot : Option Ballot) → NoOwnVote m.core.who ball
 answered_own m ballot none h = record { fronts = h.fronts; leads = h.leads; vote = none }
 
 look_own : (m : Node) (b : Ballot) (v : Verdict) → Looks m b v → b.votes m.core.who ≡ None → b.given_up m.core.who ≡ false → Owned m → Owned v.node
-look_own m b v (finds_itself_out x) none stays h = answered_own m _ none h
-look_own m b v (waits x y) none stays h = answered_own m _ none h
-look_own m b v (fetches_from_best x y z) none stays h = answered_own m _ none h
-look_own m b v (finds_too_few x y) none stays h = answered_own m _ none h
 look_own m b v (finds_no_room learned) none stays h =
     let f = trimmed_fronts m _ (trims_own m b learned.needed stays) h.fronts in
     record { fronts = f; leads = h.leads; vote = none }
@@ -179,6 +174,7 @@ look_own m b v (decides may) none stays h =
       leads = λ t. ap (λ (i : Image). has (members_of i) m.core.who) (told_pushed before e) ∙ after_;
       vote = none;
     }
+look_own m b v _ none stays h = answered_own m _ none h
 
 -- ---- who doesn't lead
 
@@ -311,7 +307,6 @@ change_owned c o m n heard own k blanked (admits s v is leads fit) h =
 change_owned c o m n heard own k blanked (numbers e leads room why) h =
     let z = numbered c m e why h.fronts (h.leads leads) in
     record { fronts = pushed_fronts m e z.fit h.fronts; leads = λ t. z.member; vote = h.vote }
-change_owned c o m n heard own k blanked (keeps_body s v report req body is by) h = record { fronts = h.fronts; leads = h.leads; vote = h.vote }
 change_owned c o m n heard own k blanked (notes s v base acc by from) h =
     let f = h.fronts in
     let kept = f.kept in
@@ -372,8 +367,6 @@ change_owned c o m n heard own k blanked (stores_view s v base number names resi
       leads = λ t. absurd (not_own n v.by (ap (λ (x : Stamp). x.by) (view_last (trim_up_to m base) v names resilience)) other t);
       vote = h.vote;
     }
-change_owned c o m n heard own k blanked (queues body is says member stays few) h = record { fronts = h.fronts; leads = h.leads; vote = h.vote }
-change_owned c o m n heard own k blanked (collects req is) h = record { fronts = h.fronts; leads = h.leads; vote = h.vote }
 change_owned c o m n heard own k blanked (takes e is says member some there) h =
     let f = h.fronts in
     let low = f.base in
@@ -395,7 +388,6 @@ change_owned c o m n heard own k blanked (takes e is says member some there) h =
       vote = h.vote;
     }
 change_owned c o m n heard own k blanked (asks_to_join is was) h = record { fronts = h.fronts; leads = λ t. absurd (cc); vote = h.vote }
-change_owned c o m n heard own k blanked (asks_to_leave is was stays done) h = record { fronts = h.fronts; leads = h.leads; vote = h.vote }
 change_owned c o m n heard own k blanked (closes leads leaves alone room) h =
     let e = Leave m.core.who in
     let p = push_entry m e in
@@ -406,3 +398,4 @@ change_owned c o m n heard own k blanked (closes leads leaves alone room) h =
       leads = λ t. absurd (cc);
       vote = subst (NoOwnVote (refresh_at_end p).core.who) (sym r.rests.ballot) (subst (λ w. NoOwnVote w m.ballot) (sym r.rests.who) h.vote);
     }
+change_owned c o m n heard own k blanked _ h = record { fronts = h.fronts; leads = h.leads; vote = h.vote }

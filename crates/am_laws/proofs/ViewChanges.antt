@@ -76,10 +76,8 @@ numbers_plain c m e (asked_leave s v report is other known stays) = refl
 -- ---- who has a list
 
 pub none_of_asking : (s : Status) → is_member s ≡ false → (is_member s || is_asking s) ≡ true → has_log s ≡ false
-none_of_asking status.Stranger f h = absurd (cc)
 none_of_asking status.Asking f h = refl
-none_of_asking status.Member f h = absurd (cc)
-none_of_asking status.Departed f h = absurd (cc)
+none_of_asking _ f h = absurd (cc)
 
 -- who is welcomed has no list, and no ballot
 pub welcomed_none : (m : Node) (s : ℕ) (v : Stamp) (base join : ℕ) (image : Image) → MayBeWelcomed m s v base join image → has_log m.status ≡ false

@@ -2,13 +2,9 @@
 use Rattle.am_laws.proofs.Words.{index_members, ◌≡◌, ◌⊎◌, inl, inr, ⊎_elim, ℕ, ◌<◌, ◌==◌, ◌&&◌, not, nat_lt, Bool, true, false, List, length, set, get_or}
 use Rattle.am_laws.proofs.Words.{slice_index, refl, sym, ap, ◌∙◌, arith, nat_tests, map-set, set-get_or, ext_get_or, length-map, Data, View, Row, Image}
 use Rattle.am_laws.proofs.Words.{Stamp, place_of, life_of, name_at, is_blank, at_place, member_life, members_of, row_after_view, after, slice_index-by_place}
-use Rattle.am_laws.proofs.Words.{length-by_place, row_at, member_at, mod16, row_view, long_after, blank_joined, name_where, those, split}
+use Rattle.am_laws.proofs.Words.{length-by_place, row_at, mod16, row_view, long_after, blank_joined, name_where, those, split}
 
 -- ---- members, place by place
-
--- a send changes none of them
-same_life : (r : Row) (req : ℕ) → member_life (record r { last = req }) ≡ member_life r
-same_life r req = refl
 
 pub data_members : (image : Image) (n from req : ℕ) (body : List ℕ) → length image.rows ≡ 16
     → members_of (after image n (Data from req body)) ≡ members_of image

@@ -1,8 +1,8 @@
 -- The names of the Views that stand in lists, and of ballots.
 use Rattle.am_laws.proofs.Words.{◌≡◌, ℕ, ◌<◌, ◌&&◌, not, false, List, [], ◌∷◌, ◌++◌, Option, Some, None, sym, subst, arith, All, nat_tests, All-nil, All-cons}
-use Rattle.am_laws.proofs.Words.{All-append, Outcome, Stamp, Entry, Data, Join, Leave, View, stamp_lt, Packet, Node, Ballot, push_entry, Verdict, overtake}
-use Rattle.am_laws.proofs.Words.{is_view, refresh, refresh_at_end, split, Cause, hears, HasOpen, Balloting, with_more, without_one, as_it_is, Looks, decides}
-use Rattle.am_laws.proofs.Words.{Says, piece, Promises, invited, overtaken_by, told_result, Numbers, asked_send, own_send, asked_join, asked_leave, Change}
+use Rattle.am_laws.proofs.Words.{All-append, Outcome, Stamp, Entry, Leave, View, stamp_lt, Packet, Node, Ballot, push_entry, Verdict, overtake, is_view}
+use Rattle.am_laws.proofs.Words.{refresh, refresh_at_end, split, Cause, hears, HasOpen, Balloting, with_more, without_one, as_it_is, Looks, decides, Says}
+use Rattle.am_laws.proofs.Words.{piece, Promises, invited, overtaken_by, told_result, Numbers, asked_send, own_send, asked_join, asked_leave, Change}
 use Rattle.am_laws.proofs.Words.{refreshes, settles, numbers, stores, begins_list, promises, opens, looks, fetches, stores_view, closes, all_get}
 use Rattle.am_laws.proofs.Words.{rests_refresh, rests_at_end, settle_is, sender_of, stamp_of}
 use Rattle.am_packet.specs.declared.packet.Packet.TheVariants as packet
@@ -36,10 +36,8 @@ pub record HeardNames (c : Cause) : Type 0 where
   pub stamps : (p : Packet) → c ≡ hears p → (stamp_of p).by < 256
 
 no_view : (e : Entry) → is_view e ≡ false → ViewNamed e
-no_view (Data from req body) h = tt
-no_view (Join name) h = tt
-no_view (Leave name) h = tt
 no_view (View stamp names resilience) h = absurd (cc)
+no_view _ h = tt
 
 numbers_no_view : (c : Cause) (m : Node) (e : Entry) → Numbers c m e → ViewNamed e
 numbers_no_view c m e (asked_send s v report req body by known stays next) = tt

@@ -1,5 +1,5 @@
 -- A view is noted once, and its View stands at its number.
-use Rattle.am_laws.proofs.Words.{is_itself, logged, stamp_itself, and_both, ◌≡◌, ◌⊎◌, inl, inr, ⊎_elim, ℕ, zero, suc, ◌<◌, ◌==◌, ◌&&◌, not, Bool, true, false}
+use Rattle.am_laws.proofs.Words.{is_itself, logged, stamp_itself, and_both, ◌≡◌, ◌⊎◌, inl, inr, ⊎_elim, ℕ, zero, suc, ◌<◌, ◌==◌, not, Bool, true, false}
 use Rattle.am_laws.proofs.Words.{if◌then◌else◌, List, [], ◌∷◌, ◌++◌, length, Some, slice_get, refl, sym, ap, ◌∙◌, subst, arith, All, nat_tests, All-nil}
 use Rattle.am_laws.proofs.Words.{All-cons, All-append, All-weaker, Stamp, View, Rules, MayFound, has, stamp_lt, stamp_eq, entry_at, fold, after, Packet}
 use Rattle.am_laws.proofs.Words.{Letter, Event, Node, image_of, view, set_at, is_member, founder, stranger, lowest_or_first, founders_view, has_log, Decided}

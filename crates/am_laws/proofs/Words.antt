@@ -86,7 +86,7 @@ unfoldable pub use Rattle.am_model.specs.Step.{step, hear, hear_refusal, row}
 pub use Rattle.am_model.specs.Lengths.{packet_length}
 pub use Rattle.am_model.specs.Sequencing.{take_report, number_data, answer_request, serve_again, is_unknown}
 unfoldable pub use Rattle.am_model.specs.Sequencing.{request_row, ack_row, nack_row}
-pub use Rattle.am_model.specs.Joining.{with_admitted, number_join, begin_list, may_go}
+pub use Rattle.am_model.specs.Joining.{with_admitted, number_join, begin_list, asks_to_leave, may_go}
 unfoldable pub use Rattle.am_model.specs.Joining.{join_ask_row, welcome_row, leave_ask_row, gone_row}
 pub use Rattle.am_model.specs.Resets.{take_vote, push_fetched, catch_up, decide_anew, piece_promised, piece_for, hears_result}
 unfoldable pub use Rattle.am_model.specs.Resets.{invite_row, vote_row, fetch_row, piece_row, result_row, hand_over_row}
@@ -103,24 +103,24 @@ pub use Rattle.am_meaning.proofs.AcceptFronts.{accept_front_is}
 pub use Rattle.am_meaning.proofs.Bytes.{spelling_is_heard, cut_is_heard}
 pub use Rattle.am_chain_lists.proofs.Rows.{and_right, In, mod16, long_after, set_keeps, row_view, Spares, in_after, and_left, blank_joined}
 pub use Rattle.am_chain_lists.proofs.Requests.{has_in}
-pub use Rattle.am_chain_lists.proofs.Members.{member_in, index_members}
 pub use Rattle.am_chain_lists.proofs.Order.{rank_same}
+pub use Rattle.am_chain_lists.proofs.Members.{index_members}
 pub use Rattle.am_effects.proofs.Statuses.{logged, asking_log}
 pub use Rattle.am_effects.specs.Causes.{Cause, calls, hears, BringsSend, by_request, by_spread}
 pub use Rattle.am_effects.specs.Changes.{Change, refreshes, settles, numbers, notes, stores, begins_list, departs, looks, fetches, stores_view, asks_to_join}
 pub use Rattle.am_effects.specs.Changes.{closes, Changes, unchanged as no_change, changed, promises, opens, Numbers, asked_send, own_send, asked_join}
-pub use Rattle.am_effects.specs.Changes.{asked_leave, Carries, whole_entry, by_number, unchanged, takes_report, admits, keeps_body, queues, collects, takes}
-pub use Rattle.am_effects.specs.Changes.{asks_to_leave, Promises, invited, overtaken as overtaken_by, told_result, Fetches, without_ballot, for_ballot}
+pub use Rattle.am_effects.specs.Changes.{asked_leave, Carries, whole_entry, by_number, unchanged, keeps_body, queues, collects, Promises, invited}
+pub use Rattle.am_effects.specs.Changes.{overtaken as overtaken_by, told_result, Fetches, without_ballot, for_ballot, takes_report, admits, takes}
 pub use Rattle.am_effects.specs.Changes.{MayBeWelcomed}
 pub use Rattle.am_effects.specs.Events.{actor, idles, stops, returns, steps, IsCall, IsCause, WasSentTo, Happens}
-pub use Rattle.am_effects.specs.Looks.{Looks, finds_itself_out, HasOpen, Balloting, with_more, without_one, as_it_is, waits, fetches_from_best, finds_too_few}
-pub use Rattle.am_effects.specs.Looks.{finds_no_room, decides}
+pub use Rattle.am_effects.specs.Looks.{Looks, finds_itself_out, HasOpen, Balloting, with_more, without_one, as_it_is, decides, finds_no_room, waits}
+pub use Rattle.am_effects.specs.Looks.{fetches_from_best, finds_too_few}
 pub use Rattle.am_effects.proofs.Rests.{rests_refresh, settle_is, rests_at_end, with_fronts, refresh_is, passed}
 pub use Rattle.am_effects.proofs.Runs.{EachKeeps, runs_keep, along, StepsKeep, SameParts, law_keeps}
 pub use Rattle.am_effects.proofs.Says.{view_pushed, told_pushed}
 pub use Rattle.am_effects.proofs.Tests.{is_itself, or_first, or_second}
-pub use Rattle.am_effects.specs.Letters.{MayWelcome, just_joined, asks_again, Says, request, spread, bcast, order, ack, nack, hold, join_ask, welcome}
-pub use Rattle.am_effects.specs.Letters.{leave_ask, gone, invite, vote, fetch, piece, result, hand_over, HasSend, LetterSays}
+pub use Rattle.am_effects.specs.Letters.{MayWelcome, just_joined, asks_again, Says, bcast, order, hold, join_ask, welcome, gone, invite, fetch, piece, result}
+pub use Rattle.am_effects.specs.Letters.{hand_over, HasSend, request, spread, vote, LetterSays}
 pub use Rattle.am_effects.proofs.Items.{all_get, all_item, all_find, get_front, get_last}
 pub use Rattle.am_effects.specs.Effects.{Effect}
 pub use Rattle.am_effects.proofs.Events.{events_have_effects}

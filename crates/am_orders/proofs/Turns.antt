@@ -5,7 +5,7 @@ use Rattle.std.proofs.Common.{subst, arith}
 use Rattle.std.specs.List.{range_with_len}
 use Rattle.am_base.specs.declared.image.Image.{Image}
 use Rattle.am_base.specs.declared.entry.Entry.{Entry}
-use Rattle.am_base.specs.declared.entry.Entry.TheVariants.{Data, Join, Leave, View}
+use Rattle.am_base.specs.declared.entry.Entry.TheVariants.{Data}
 use Rattle.am_base.specs.Names.{place_of, life_of}
 use Rattle.am_base.specs.Lists.{blank, after, fold, AllFit, request_in, requests_of}
 use Rattle.am_chain_lists.proofs.Rows.{row_at, long_after}
@@ -52,9 +52,7 @@ rest_of name next (Data from req body) es h = split (from == name)
     let first : req ≡ next = cc in
     inr (rw t (ap (λ i. i ∷ []) first), cc))
     (λ f. inl (rw f refl, rw f at h))
-rest_of name next (Join joiner) es h = inl (refl, h)
-rest_of name next (Leave leaver) es h = inl (refl, h)
-rest_of name next (View stamp members resilience) es h = inl (refl, h)
+rest_of name next _ es h = inl (refl, h)
 
 -- where the first entry is a send of the name, that is the next request
 first_is_next : (name next req : ℕ) (body : List ℕ) (e : Entry) (es : List Entry) → InTurn name next (e ∷ es) → Some e ≡ Some (Data name req body)

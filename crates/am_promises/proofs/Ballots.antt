@@ -2,10 +2,10 @@
 use Rattle.am_promises.proofs.Words.{◌≡◌, ℕ, ◌==◌, ◌&&◌, ◌||◌, not, true, false, List, [], ◌∷◌, ◌++◌, Option, Some, None, refl, sym, ap, ◌∙◌, subst, arith}
 use Rattle.am_promises.proofs.Words.{list_any, nat_tests, list_any-append, Stamp, Outcome, NodeEvent, stamp_lt, Rules, has, Act, Node, Ballot, is_member}
 use Rattle.am_promises.proofs.Words.{has_log, Verdict, overtake, World, start, current, is_stopped, with_record, with_step, split, and_both, Cause, calls}
-use Rattle.am_promises.proofs.Words.{hears, refuses, Looks, finds_itself_out, waits, fetches_from_best, finds_too_few, finds_no_room, decides, HasOpen}
-use Rattle.am_promises.proofs.Words.{Balloting, with_more, without_one, as_it_is, Change, refreshes, settles, begins_list, departs, promises, opens, looks}
-use Rattle.am_promises.proofs.Words.{asks_to_join, closes, actor, IsCall, IsCause, idles, stops, returns, steps, logged, asking_log, asking, rests_refresh}
-use Rattle.am_promises.proofs.Words.{rests_closed, settle_is, along, EachKeeps, runs_keep, AtMost, IsOfBallot, BallotOk, LastOk, BallotsAreOwn}
+use Rattle.am_promises.proofs.Words.{hears, refuses, Looks, waits, fetches_from_best, HasOpen, Balloting, with_more, without_one, as_it_is, Change, refreshes}
+use Rattle.am_promises.proofs.Words.{settles, begins_list, departs, promises, opens, looks, asks_to_join, closes, actor, IsCall, IsCause, idles, stops}
+use Rattle.am_promises.proofs.Words.{returns, steps, logged, asking_log, asking, rests_refresh, rests_closed, settle_is, along, EachKeeps, runs_keep, AtMost}
+use Rattle.am_promises.proofs.Words.{IsOfBallot, BallotOk, LastOk, BallotsAreOwn}
 use Rattle.am_base.specs.declared.event.NodeEvent.TheVariants as does
 use Rattle.am_effects.specs.Events as event
 use Rattle.am_promises.proofs.Stamps.{most_same, most_through}
@@ -60,12 +60,9 @@ going w i promise b o over a h = record { own = h.own; low = λ f. h.low over; h
 
 verdict_ok : (w : World) (i : ℕ) (m : Node) (b : Ballot) (v : Verdict) → Looks m b v → b.is_over ≡ false → has_log m.status ≡ true
     → BallotOk w i m.core.promise b → m.core.who ≡ i → NodeOk w i v.node
-verdict_ok w i m b v (finds_itself_out x) over log h who = record { who = who; last = ended w i m.core.promise b _ tt h; blank = λ f. absurd (cc) }
 verdict_ok w i m b v (waits x y) over log h who = record { who = who; last = going w i m.core.promise b _ over tt h; blank = λ f. absurd (cc) }
 verdict_ok w i m b v (fetches_from_best x y z) over log h who = record { who = who; last = going w i m.core.promise b _ over tt h; blank = λ f. absurd (cc) }
-verdict_ok w i m b v (finds_too_few x y) over log h who = record { who = who; last = ended w i m.core.promise b _ tt h; blank = λ f. absurd (cc) }
-verdict_ok w i m b v (finds_no_room x) over log h who = record { who = who; last = ended w i m.core.promise b _ tt h; blank = λ f. absurd (cc) }
-verdict_ok w i m b v (decides x) over log h who = record { who = who; last = ended w i m.core.promise b _ tt h; blank = λ f. absurd (cc) }
+verdict_ok w i m b v _ over log h who = record { who = who; last = ended w i m.core.promise b _ tt h; blank = λ f. absurd (cc) }
 
 -- a ballot is of who has a list
 balloted : (c : Cause) (m : Node) (b : Ballot) → Balloting c m b → m.ballot ≡ None → ⊥

@@ -1,9 +1,8 @@
 -- Each run keeps promises.
 use Rattle.am_promises.proofs.Words.{◌≡◌, ⊎_elim, inl, inr, ℕ, ◌==◌, true, refl, sym, ap, ◌∙◌, subst, arith, All, nat_tests, All-nil, All-append, All-weaker}
 use Rattle.am_promises.proofs.Words.{Stamp, no_stamp, Rules, MayFound, has, Letter, sender_of, stamp_of, Act, Node, set_at, founding_stamp, World, start}
-use Rattle.am_promises.proofs.Words.{with_record, with_step, run, heard_by, split, Cause, calls, hears, refuses, LetterSays, actor, IsCause, idles, stops}
-use Rattle.am_promises.proofs.Words.{returns, steps, all_get, all_item, along, EachKeeps, runs_keep, first_founder, AtMost, IsBegun, StampOk}
-use Rattle.am_promises.proofs.Words.{PromisesAreBegun}
+use Rattle.am_promises.proofs.Words.{with_record, with_step, run, heard_by, split, Cause, calls, hears, refuses, LetterSays, actor, IsCause, steps, all_get}
+use Rattle.am_promises.proofs.Words.{all_item, along, EachKeeps, runs_keep, first_founder, AtMost, IsBegun, StampOk, PromisesAreBegun}
 use Rattle.am_promises.proofs.{Stamps.most_same, Stamps.most_through, Changes.CauseBegun, Changes.Promised, Changes.promise_change, Changes.said_by}
 
 pub record AllBegun (w : World) : Type 0 where
@@ -43,9 +42,6 @@ own_begun nodes i n p = ⊎_elim
 
 pub each_keeps : EachKeeps AllBegun
 unfolding with_record with_step
-each_keeps w e v (idles o idle) h = record { who = h.who; each = h.each; letters = h.letters }
-each_keeps w e v (stops runs) h = record { who = h.who; each = h.each; letters = h.letters }
-each_keeps w e v (returns place is gone more) h = record { who = h.who; each = h.each; letters = h.letters }
 each_keeps w e v (steps c s runs cause effect) h =
     let i = actor w e in
     let n = s.node in
@@ -73,6 +69,7 @@ each_keeps w e v (steps c s runs cause effect) h =
           (All-weaker (StampOk w.nodes) (StampOk (set_at w.nodes i n)) (λ l. stamp_up w.nodes i n l p.up) w.letters h.letters)
           (All-weaker (LetterSays (w.nodes i) c effect.sender) (StampOk (set_at w.nodes i n)) new s.letters effect.letters);
     }
+each_keeps w e v _ h = record { who = h.who; each = h.each; letters = h.letters }
 
 -- ---- the start
 

@@ -24,8 +24,7 @@ pub use Rattle.am_play.specs.World.{World, start, current, is_stopped, run}
 unfoldable pub use Rattle.am_play.specs.World.{with_record, with_step}
 pub use Rattle.am_play.specs.Claims.{heard_by}
 pub use Rattle.am_effects.specs.Causes.{Cause, calls, hears, refuses}
-pub use Rattle.am_effects.specs.Looks.{Looks, finds_itself_out, waits, fetches_from_best, finds_too_few, finds_no_room, decides, HasOpen, Balloting}
-pub use Rattle.am_effects.specs.Looks.{with_more, without_one, as_it_is}
+pub use Rattle.am_effects.specs.Looks.{Looks, waits, fetches_from_best, HasOpen, Balloting, with_more, without_one, as_it_is, finds_itself_out}
 pub use Rattle.am_effects.specs.Changes.{Change, refreshes, settles, begins_list, departs, promises, opens, looks, asks_to_join, closes, Promises, invited}
 pub use Rattle.am_effects.specs.Changes.{overtaken, told_result}
 pub use Rattle.am_effects.specs.Events.{actor, IsCall, IsCause, idles, stops, returns, steps}

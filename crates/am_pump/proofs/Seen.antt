@@ -1,6 +1,6 @@
 -- Letters that were looked through needn't be looked through again.
 use Rattle.am_base.proofs.Greatest.{split}
-use Rattle.std.proofs.Common.{◌≡◌, ◌≢◌, ℕ, zero, suc, ◌+◌, ◌<◌, ◌≤◌, ◌==◌, Bool, true, false, List, [], ◌∷◌, ◌++◌, length, take, drop, Option, Some, None}
+use Rattle.std.proofs.Common.{◌≡◌, ◌≢◌, ℕ, zero, suc, ◌+◌, ◌<◌, ◌≤◌, ◌==◌, List, [], ◌∷◌, ◌++◌, length, take, drop, Option, Some, None}
 use Rattle.std.proofs.Common.{nat_lt, slice_index, slice_index_or, slice_set, refl, sym, ap, ◌∙◌, add-zero, arith, length-drop}
 use Rattle.std.proofs.lemmas.List.{take-append-le, drop-append-le, length-take-le, take-append-drop, take_all, drop_all, length-append, length-set}
 use Rattle.std.proofs.lemmas.List.{get_or-set_same, get_or-set_other}
@@ -144,11 +144,8 @@ zeros (suc (suc (suc zero))) = refl
 zeros (suc (suc (suc (suc place)))) = refl
 
 cursors : (p : Progress) (place : ℕ) → p.cursor ≡ 0 → (slice_index_or (p ∷ p ∷ p ∷ p ∷ []) place no_progress).cursor ≡ 0
-cursors p zero e = e
-cursors p (suc zero) e = e
-cursors p (suc (suc zero)) e = e
-cursors p (suc (suc (suc zero))) e = e
 cursors p (suc (suc (suc (suc place)))) e = refl
+cursors p _ e = e
 
 pub none_seen : (p : Progress) (letters : List Letter) → p.cursor ≡ 0 → AreSeen (0 ∷ 0 ∷ 0 ∷ 0 ∷ []) (p ∷ p ∷ p ∷ p ∷ []) letters
 none_seen p letters e = record {

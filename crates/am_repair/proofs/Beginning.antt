@@ -1,5 +1,5 @@
 -- Where a group may be repaired and its lists agree, the world is calm; so the schedule repairs it.
-use Rattle.am_repair.proofs.Words.{false_from_ne_true, inl, inr, ◌≡◌, ℕ, ◌<◌, Bool, true, false, length, refl, ap, ◌∙◌, subst, arith, cases_lt, Image, Rules}
+use Rattle.am_repair.proofs.Words.{false_from_ne_true, inl, inr, ◌≡◌, ℕ, ◌<◌, true, false, length, refl, ap, ◌∙◌, subst, arith, cases_lt, Image, Rules}
 use Rattle.am_repair.proofs.Words.{place_of, life_of, has, members_of, members_at, image-top, Status, Node, top, image_of, view, members, acts, is_member}
 use Rattle.am_repair.proofs.Words.{stranger, has_log, has_departed, World, current, is_stopped, run, MayRepair, AllOwned, run_owned, IsAtRest, Repair, Leads}
 use Rattle.am_repair.proofs.Words.{Follows, IsApart, Calm, Agree, RepairsWhereListsAgree}

@@ -8,10 +8,8 @@ use Rattle.am_base.specs.declared.event.NodeEvent.TheVariants as does
 use Rattle.am_model.specs.declared.status.Status.TheVariants as status
 
 departed_status : (s : Status) → has_departed s ≡ true → s ≡ status.Departed
-departed_status status.Stranger h = absurd (cc)
-departed_status status.Asking h = absurd (cc)
-departed_status status.Member h = absurd (cc)
 departed_status status.Departed h = refl
+departed_status _ h = absurd (cc)
 
 no_second : (a b : Bool) → b ≡ false → (a && b) ≡ false
 no_second true b h = h

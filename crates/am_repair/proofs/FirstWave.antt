@@ -1,10 +1,10 @@
 -- What the first wave of a round brings about: a member asks for what is missing, the sequencer keeps reports, and a member accepts.
-use Rattle.am_repair.proofs.Words.{and_from, stamp_itself, has_in, ◌≡◌, ℕ, zero, suc, ◌<◌, ◌≤◌, ◌==◌, ◌&&◌, not, nat_le, Bool, true, false, List, length}
-use Rattle.am_repair.proofs.Words.{Some, refl, sym, ap, ◌∙◌, subst, arith, Contains, nat_tests, Stamp, Report, Rules, place_of, life_of, has, stamp_eq}
-use Rattle.am_repair.proofs.Words.{at_place, Packet, Accept, Nack, Letter, letter_to, Event, is_for, letter_at, Node, top, image_of, view, members, only_name}
-use Rattle.am_repair.proofs.Words.{report_of, report_fits, nack_of, hear, event_at, hearings, is_unknown, hears_sequencer, hears_as_sequencer, World}
-use Rattle.am_repair.proofs.Words.{is_stopped, happens, happen, IsUsed, Cause, calls, hears, refuses, IsCause, told_used, IsReport, ack, nack, request}
-use Rattle.am_repair.proofs.Words.{spread, Asks, HearsFront, Repair, Leads, Follows, ReportIs, IsCalm, Calm, IsSent, Polled, Reported, Asked, hears_}
+use Rattle.am_repair.proofs.Words.{and_from, stamp_itself, has_in, ◌≡◌, ℕ, zero, suc, ◌<◌, ◌≤◌, ◌==◌, not, nat_le, true, false, List, length, Some, refl, sym}
+use Rattle.am_repair.proofs.Words.{ap, ◌∙◌, subst, arith, Contains, nat_tests, Stamp, Report, Rules, place_of, life_of, has, stamp_eq, at_place, Packet}
+use Rattle.am_repair.proofs.Words.{Accept, Nack, Letter, letter_to, Event, is_for, letter_at, Node, top, image_of, view, members, only_name, report_of}
+use Rattle.am_repair.proofs.Words.{report_fits, nack_of, hear, event_at, hearings, is_unknown, hears_sequencer, hears_as_sequencer, World, is_stopped}
+use Rattle.am_repair.proofs.Words.{happens, happen, IsUsed, Cause, calls, hears, refuses, IsCause, told_used, IsReport, ack, nack, request, spread, Asks}
+use Rattle.am_repair.proofs.Words.{HearsFront, Repair, Leads, Follows, ReportIs, IsCalm, Calm, IsSent, Polled, Reported, Asked, hears_}
 use Rattle.am_group.specs.declared.event.Act.TheVariants as act
 use Rattle.am_repair.proofs.{Sets.only_has, Nodes.acting, Nodes.leading, Leading.is_member_now, Following.Skips, Members.fronts_are_heard}
 use Rattle.am_repair.proofs.{Members.gaps_are_asked, Sequencers.reports_are_taken, Steps.ours_skip, Memberships.get_some, Memberships.stays_in}

@@ -3,9 +3,8 @@ use Rattle.am_repair.proofs.Words.{not-false, same_stamp, ◌≡◌, ℕ, ◌+�
 use Rattle.am_repair.proofs.Words.{length-append, ◌≢◌, Stamp, Image, Entry, Data, Outcome, Log, top_of, told_by, entry_at, image_at, after, image-next, Node}
 use Rattle.am_repair.proofs.Words.{Ballot, top, image_of, is_sequencer, push_entry, is_unfinished, overtake, with_promise, is_view, bodies_after, World}
 use Rattle.am_repair.proofs.Words.{Cause, hears, Promises, invited, overtaken_by, told_result, Carries, whole_entry, by_number, Change, refreshes, settles}
-use Rattle.am_repair.proofs.Words.{takes_report, admits, numbers, keeps_body, notes, stores, begins_list, departs, promises, opens, looks, fetches}
-use Rattle.am_repair.proofs.Words.{stores_view, queues, collects, takes, asks_to_join, asks_to_leave, closes, told_pushed, view_pushed, acts_pushed, Repair}
-use Rattle.am_repair.proofs.Words.{Follows, Stands}
+use Rattle.am_repair.proofs.Words.{takes_report, admits, numbers, stores, begins_list, departs, promises, opens, looks, fetches, stores_view, queues}
+use Rattle.am_repair.proofs.Words.{collects, takes, asks_to_join, asks_to_leave, closes, told_pushed, view_pushed, acts_pushed, Repair, Follows, Stands}
 use Rattle.am_packet.specs.declared.packet.Packet.TheVariants as packet
 use Rattle.am_repair.proofs.Nodes.{CalmCause, acting, leads_not, not_open, Alike, alike_here, alike_refresh, alike_settle, view_alike, acts_alike, rest_alike}
 use Rattle.am_repair.proofs.{Lists.entry_within, Lists.same_after, Leading.no_ballot_begun, Leading.looked_open, Leading.not_behind}
@@ -123,10 +122,6 @@ follow_change r w c o m x y by other calm settles h = follows_as r c _ m x y (al
 follow_change r w c o m x y by other calm (takes_report s v report brings may) h = absurd (no_leader r c _ m x by other h may.leads)
 follow_change r w c o m x y by other calm (admits s v is leads fit) h = absurd (no_leader r c _ m x by other h leads)
 follow_change r w c o m x y by other calm (numbers e leads room why) h = absurd (no_leader r c _ m x by other h leads)
-follow_change r w c o m x y by other calm (keeps_body s v report req body is heard) h = follows_as r c _ m x y
-    (alike_here x y refl refl refl refl refl refl (omega arith) (omega arith)) h
-follow_change r w c o m x y by other calm (notes s v base acc brings heard) h = follows_as r c _ m x y
-    (alike_here x y refl refl refl refl refl refl (omega arith) (omega arith)) h
 follow_change r w c o m x y by other calm (stores s v base acc number e carries heard plain may) h =
     let k = carried r w c x s v base acc number e calm carries in
     let next = may.next in
@@ -149,3 +144,5 @@ follow_change r w c o m x y by other calm (takes e is says member some there) h 
 follow_change r w c o m x y by other calm (asks_to_join is was) h = absurd (subst (CalmCause r w) is calm)
 follow_change r w c o m x y by other calm (asks_to_leave is was stays done) h = absurd (subst (CalmCause r w) is calm)
 follow_change r w c o m x y by other calm (closes leads leaves alone room) h = absurd (no_leader r c _ m x by other h leads)
+follow_change r w c o m x y by other calm _ h = follows_as r c _ m x y
+    (alike_here x y refl refl refl refl refl refl (omega arith) (omega arith)) h

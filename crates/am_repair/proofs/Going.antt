@@ -99,7 +99,5 @@ pub member_there : (m : Node) → is_member m.status ≡ true → has_departed m
 member_there m h = by_status m.status h
   where
     by_status : (s : Status) → is_member s ≡ true → has_departed s ≡ false
-    by_status status.Stranger h = absurd (cc)
-    by_status status.Asking h = absurd (cc)
     by_status status.Member h = refl
-    by_status status.Departed h = absurd (cc)
+    by_status _ h = absurd (cc)

@@ -1,17 +1,15 @@
 -- A sequencer trims no more than it knows each member of its list to have taken: each change keeps it.
-use Rattle.am_repair.proofs.Words.{fetch_follows, stamp_by, other_asks, promise_is, not_above_view, not_own, base_low, not-true, other_heard, stamp_itself}
-use Rattle.am_repair.proofs.Words.{same_stamp, has_in, ◌≡◌, ◌≢◌, ⊎_elim, ℕ, ◌+◌, ◌<◌, ◌≤◌, ◌==◌, ◌||◌, not, nat_lt, true, false, List, length, refl, sym, ap}
-use Rattle.am_repair.proofs.Words.{◌∙◌, subst, arith, nat_tests, Stamp, Image, Report, Row, Entry, Data, Join, Leave, View, Outcome, place_of, life_of, has}
-use Rattle.am_repair.proofs.Words.{stamp_lt, stamp_eq, at_place, members_of, with_row, after, row_at, In, row_set, long_after, accept, pass_over, own_report}
-use Rattle.am_repair.proofs.Words.{tell, go_on, let_go, Node, Ballot, top, image_of, view, members, is_member, is_asking, is_sequencer, push_entry}
-use Rattle.am_repair.proofs.Words.{trim_up_to, with_report, lead, refresh, settle, refresh_at_end, Verdict, with_promise, next_stamp, with_admitted}
-use Rattle.am_repair.proofs.Words.{hears_member, hears_asking, is_view, split, and_both, Cause, hears, HasOpen, Looks, decides, Promises, invited, overtaken}
-use Rattle.am_repair.proofs.Words.{told_result, Numbers, asked_send, own_send, asked_join, asked_leave, Fetches, without_ballot, for_ballot, Change}
-use Rattle.am_repair.proofs.Words.{refreshes, settles, takes_report, admits, numbers, notes, stores, begins_list, departs, promises, opens, looks, fetches}
-use Rattle.am_repair.proofs.Words.{stores_view, asks_to_join, closes, settle_is, told_pushed, view_pushed, leads_pushed, in_is, not_above_itself}
-use Rattle.am_repair.proofs.Words.{at_most_below, view_last, Balloted, next_above, Fronts, told_used, TrimsKnown}
+use Rattle.am_repair.proofs.Words.{fetch_follows, stamp_by, other_asks, promise_is, not_above_view, not_own, base_low, other_heard, has_in, ◌≡◌, ◌≢◌, ⊎_elim}
+use Rattle.am_repair.proofs.Words.{ℕ, ◌+◌, ◌<◌, ◌≤◌, ◌==◌, nat_lt, true, false, List, length, refl, sym, ap, ◌∙◌, subst, arith, nat_tests, Stamp, Image}
+use Rattle.am_repair.proofs.Words.{Report, Row, Entry, Data, Join, Leave, Outcome, place_of, life_of, has, at_place, members_of, with_row, after, row_at, In}
+use Rattle.am_repair.proofs.Words.{row_set, long_after, accept, pass_over, own_report, tell, go_on, let_go, Node, Ballot, top, image_of, view, members}
+use Rattle.am_repair.proofs.Words.{is_sequencer, push_entry, trim_up_to, with_report, lead, refresh, settle, refresh_at_end, Verdict, with_promise}
+use Rattle.am_repair.proofs.Words.{next_stamp, with_admitted, split, Cause, hears, HasOpen, Looks, decides, Promises, invited, overtaken, told_result}
+use Rattle.am_repair.proofs.Words.{Numbers, asked_send, own_send, asked_join, asked_leave, Change, refreshes, settles, takes_report, admits, numbers, notes}
+use Rattle.am_repair.proofs.Words.{stores, begins_list, departs, promises, opens, looks, fetches, stores_view, asks_to_join, closes, settle_is, told_pushed}
+use Rattle.am_repair.proofs.Words.{leads_pushed, in_is, at_most_below, view_last, Balloted, next_above, Fronts, told_used, TrimsKnown}
 use Rattle.am_packet.specs.declared.packet.Packet.TheVariants as packet
-use Rattle.am_repair.proofs.{Ends.follows, Ends.raise_up, Ends.lead_reports, Nodes.acting, Nodes.leading, Nodes.no_open, Nodes.not_open, Nodes.alike_refresh}
+use Rattle.am_repair.proofs.{Ends.follows, Ends.raise_up, Ends.lead_reports, Nodes.leading, Nodes.no_open, Nodes.not_open, Nodes.alike_refresh}
 use Rattle.am_repair.proofs.{Nodes.leads_alike, Leading.least_low, Leading.looked_open}
 
 -- ---- who is a member after an entry was one before, but for a joiner
@@ -124,9 +122,6 @@ known_numbered c m e none (asked_leave s v report is other known stays) f h =
     (λ long x. leave_back (image_of m) (top m + 1) s i long (omega arith) x) there) h
 
 -- ---- who doesn't lead
-
-no_leader : (m : Node) → (is_sequencer m ≡ true → ⊥) → TrimsKnown m
-no_leader m none t i few there = absurd (none t)
 
 promised_leads : (c : Cause) (m : Node) (v : Stamp) → Promises c m v → Balloted m → is_sequencer (with_promise m v) ≡ true → ⊥
 promised_leads c m v (invited s _ is heard own) k t =

@@ -4,9 +4,8 @@ use Rattle.am_repair.proofs.Words.{refl, sym, ap, subst, arith, Stamp, Row, Outc
 use Rattle.am_repair.proofs.Words.{Event, is_for, letter_at, Node, image_of, is_sequencer, has_room, push_entry, Plan, Step, finish, hear, hear_refusal}
 use Rattle.am_repair.proofs.Words.{packet_length, with_admitted, join_ask_row, hears_member, hear_row, World, start, is_stopped, with_record, with_step}
 use Rattle.am_repair.proofs.Words.{hears_letter, hear_cut, acts_as, happens, happen, heard_by, split, Cause, Changes, no_change, changed, actor, IsCause}
-use Rattle.am_repair.proofs.Words.{Happens, idles, stops, returns, steps, events_have_effects, few_names, heard_names, HeardNames, HeardUsed, Fronts}
-use Rattle.am_repair.proofs.Words.{reporting, pushed_fronts, Along, along_changes, AllOwned, heard_used, each_along, each_owned, owned_start, TrimsKnown}
-use Rattle.am_repair.proofs.Words.{SequencersTrimKnown}
+use Rattle.am_repair.proofs.Words.{Happens, steps, events_have_effects, few_names, heard_names, HeardNames, HeardUsed, Fronts, reporting, pushed_fronts}
+use Rattle.am_repair.proofs.Words.{Along, along_changes, AllOwned, heard_used, each_along, each_owned, owned_start, TrimsKnown, SequencersTrimKnown}
 use Rattle.am_model.specs.Joining.{asks_to_join}
 use Rattle.am_base.specs.declared.outcome.Outcome.TheVariants as said
 use Rattle.am_packet.specs.declared.packet.Packet.TheVariants as packet
@@ -122,9 +121,6 @@ trim_join rules w e _ laws h t = absurd (cc)
 trim_happens : (rules : Rules) (w : World) (e : Event) (v : World) → AllOwned rules w → AllTrim w → is_join (letter_at w.letters (heard_by e.act)) ≡ false
     → Happens w e v → AllTrim v
 unfolding with_record with_step
-trim_happens rules w e v laws h none (idles o idle) = h
-trim_happens rules w e v laws h none (stops runs) = h
-trim_happens rules w e v laws h none (returns place is left more) = h
 trim_happens rules w e v laws h none (steps c s runs cause effect) =
     let name = actor w e in
     let few = few_names rules w e laws.blanks.views.named in
@@ -134,6 +130,7 @@ trim_happens rules w e v laws h none (steps c s runs cause effect) =
     cc) in
     trim_step w e name s h (known_changes rules (w.nodes name) s.node no_join (heard_names rules w e c laws.blanks.views cause)
     (heard_used rules w e c laws cause) effect.changes (each_along rules w name few laws) (h name few))
+trim_happens rules w e v laws h none _ = h
 
 trim_event : (rules : Rules) (w : World) (e : Event) → AllOwned rules w → AllTrim w → AllTrim (happens w e)
 unfolding happens

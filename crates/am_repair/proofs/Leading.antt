@@ -1,15 +1,15 @@
 -- What the sequencer's changes keep while a schedule runs.
-use Rattle.am_repair.proofs.Words.{base_low, stamp_itself, same_stamp, has_in, inl, inr, ◌-◌, ◌≡◌, ℕ, ◌+◌, ◌≤◌, ◌==◌, true, false, Option, Some, None, refl}
-use Rattle.am_repair.proofs.Words.{sym, ap, ◌∙◌, subst, arith, length-append, length, All, cases_lt, Join, nat_tests, Stamp, Image, Report, Entry, Outcome}
-use Rattle.am_repair.proofs.Words.{has, names_of, stamp_eq, Log, top_of, told_by, members_of, members_at, entry_at, fits, image_at, counted_at, CoreState}
-use Rattle.am_repair.proofs.Words.{accept, pass_over, since_accepted, image-top, IsUsed, used_fold, member_row, least_taken, base_after, own_report, tell}
-use Rattle.am_repair.proofs.Words.{go_on, let_go, Node, Ballot, top, image_of, view, members, acts, is_member, push_entry, with_report, lead, refresh, settle}
-use Rattle.am_repair.proofs.Words.{with_admitted, World, split, and_both, Cause, BringsReport, with_send, by_request, by_spread, by_ack, by_nack}
-use Rattle.am_repair.proofs.Words.{by_leave_ask, HasOpen, BeginsBy, by_reset, by_hand_over, Balloting, with_more, without_one, as_it_is, Promises, invited}
-use Rattle.am_repair.proofs.Words.{overtaken, told_result, Numbers, asked_send, own_send, asked_join, asked_leave, Change, refreshes, settles, takes_report}
-use Rattle.am_repair.proofs.Words.{admits, numbers, keeps_body, notes, stores, begins_list, departs, promises, opens, looks, fetches, stores_view, queues}
-use Rattle.am_repair.proofs.Words.{collects, takes, asks_to_join, asks_to_leave, closes, settle_is, told_pushed, view_pushed, leads_pushed, JoinsFit}
-use Rattle.am_repair.proofs.Words.{least_within, Fronts, told_used, after_same, Repair, Leads, ReportIs}
+use Rattle.am_repair.proofs.Words.{with_send, by_ack, by_nack, by_request, by_spread, by_leave_ask, base_low, stamp_itself, same_stamp, has_in, inl, inr, ◌-◌}
+use Rattle.am_repair.proofs.Words.{◌≡◌, ℕ, ◌+◌, ◌≤◌, ◌==◌, true, false, Some, refl, sym, ap, ◌∙◌, subst, arith, length-append, length, All, cases_lt, Join}
+use Rattle.am_repair.proofs.Words.{nat_tests, Stamp, Image, Report, Entry, Outcome, has, names_of, stamp_eq, Log, top_of, told_by, members_of, members_at}
+use Rattle.am_repair.proofs.Words.{entry_at, fits, image_at, counted_at, CoreState, accept, pass_over, since_accepted, image-top, IsUsed, used_fold}
+use Rattle.am_repair.proofs.Words.{member_row, least_taken, own_report, tell, go_on, let_go, Node, Ballot, top, image_of, view, members, acts, is_member}
+use Rattle.am_repair.proofs.Words.{push_entry, with_report, lead, refresh, settle, with_admitted, World, split, and_both, Cause, BringsReport, HasOpen}
+use Rattle.am_repair.proofs.Words.{BeginsBy, by_reset, by_hand_over, Balloting, with_more, without_one, as_it_is, Promises, invited, overtaken, told_result}
+use Rattle.am_repair.proofs.Words.{Numbers, asked_send, own_send, asked_join, asked_leave, Change, refreshes, settles, takes_report, admits, numbers}
+use Rattle.am_repair.proofs.Words.{keeps_body, notes, stores, begins_list, departs, promises, opens, looks, fetches, stores_view, queues, collects, takes}
+use Rattle.am_repair.proofs.Words.{asks_to_join, asks_to_leave, closes, settle_is, told_pushed, view_pushed, leads_pushed, JoinsFit, least_within, Fronts}
+use Rattle.am_repair.proofs.Words.{told_used, after_same, Repair, Leads, ReportIs}
 use Rattle.am_repair.proofs.Lists.{LogGrows, grows_then, grows_push, counted_stays, IsJoinOrData, is_data, is_join, plain, member_after}
 use Rattle.am_repair.proofs.Nodes.{CalmCause, acting, leading, not_open, Alike, alike_here, alike_refresh, alike_settle, view_alike, leads_alike, rest_alike}
 use Rattle.am_repair.proofs.Ends.{follows, refreshed_stay, raise_up}

@@ -1,9 +1,8 @@
 -- A member hasn't left by any beginning of the sequencer's list, and has its view's View as the last one.
 use Rattle.am_repair.proofs.Words.{has_in, ◌≡◌, ◌≢◌, inr, ℕ, zero, suc, ◌+◌, ◌-◌, ◌<◌, ◌≤◌, ◌==◌, nat_lt, nat_le, true, false, List, [], ◌∷◌, length, take}
-use Rattle.am_repair.proofs.Words.{Some, slice_get, refl, sym, ap, ◌∙◌, subst, arith, add-one, nat_tests, Entry, Data, Join, Leave, View, Image, place_of}
-use Rattle.am_repair.proofs.Words.{life_of, has, Log, top_of, told_by, entry_at, image_at, at_place, row_of, after, fits, fold, image-next, entry-get, IsUsed}
-use Rattle.am_repair.proofs.Words.{used_fold, row_at, Past, past_after, not_both, mod16, Node, top, has_own_leave, is_view, split, after_same, Repair, Leads}
-use Rattle.am_repair.proofs.Words.{Follows}
+use Rattle.am_repair.proofs.Words.{Some, slice_get, refl, sym, ap, ◌∙◌, subst, arith, add-one, nat_tests, Entry, View, Image, place_of, life_of, has, Log}
+use Rattle.am_repair.proofs.Words.{top_of, told_by, entry_at, image_at, at_place, row_of, after, fits, fold, image-next, entry-get, IsUsed, used_fold, row_at}
+use Rattle.am_repair.proofs.Words.{Past, past_after, not_both, mod16, Node, top, has_own_leave, is_view, split, after_same, Repair, Leads, Follows}
 use Rattle.am_repair.proofs.Lists.{entry_within}
 
 -- ---- entries of a list
@@ -80,10 +79,8 @@ stays_in r q m l used f there low = split (has_own_leave m)
 
 number_of_view : (image : Image) (n : ℕ) (e : Entry) → is_view e ≡ true → (after image n e).view_number ≡ n
 unfolding after
-number_of_view image n (Data from req body) t = absurd (cc)
-number_of_view image n (Join name) t = absurd (cc)
-number_of_view image n (Leave name) t = absurd (cc)
 number_of_view image n (View stamp names resilience) t = refl
+number_of_view image n _ t = absurd (cc)
 
 -- a View stands at or below the number of the last one
 number_up : (image : Image) (n : ℕ) (es : List Entry) → image.view_number ≤ n → image.view_number ≤ (fold image n es).view_number

@@ -1,13 +1,10 @@
 -- What is known of a name to be taken, through each change: it was reported so, and taken, or is no more than the base.
-use Rattle.am_repair.proofs.Words.{welcomed_none, none_of_asking, top_of, Leave, Image, Report, Stamp, Outcome, accepts, pass_over, settle_is, rests_at_end}
-use Rattle.am_repair.proofs.Words.{rests_refresh, go_on, let_go, tell, own_report, split, and_both, Verdict, has_log, Ballot, is_sequencer, with_report}
-use Rattle.am_repair.proofs.Words.{is_member, is_asking, push_entry, Node, with_admitted, refresh_at_end, lead, refresh, nat_tests, ◌≡◌, ℕ, ◌≤◌, ◌==◌, ◌||◌}
-use Rattle.am_repair.proofs.Words.{not, max, nat_lt, nat_le, true, false, if◌then◌else◌, List, refl, sym, ap, ◌∙◌, subst, arith, Change, refreshes, settles}
-use Rattle.am_repair.proofs.Words.{takes_report, admits, notes, begins_list, looks, fetches, stores_view, takes, closes, MayBeWelcomed, Says, leave_ask}
-use Rattle.am_repair.proofs.Words.{Looks, finds_itself_out, waits, fetches_from_best, finds_too_few, finds_no_room, decides, Cause, hears, by_request}
-use Rattle.am_repair.proofs.Words.{BringsReport, with_send, Status, Packet, Fronts, Blanked}
+use Rattle.am_repair.proofs.Words.{welcomed_none, top_of, Leave, Report, Stamp, Outcome, settle_is, rests_at_end, rests_refresh, split, Verdict, Ballot}
+use Rattle.am_repair.proofs.Words.{is_sequencer, with_report, push_entry, Node, with_admitted, refresh_at_end, refresh, nat_tests, ◌≡◌, ℕ, ◌≤◌, ◌==◌, max}
+use Rattle.am_repair.proofs.Words.{nat_lt, nat_le, false, if◌then◌else◌, List, refl, sym, ap, ◌∙◌, subst, arith, Change, refreshes, settles, takes_report}
+use Rattle.am_repair.proofs.Words.{admits, notes, begins_list, looks, fetches, stores_view, takes, closes, Says, leave_ask, Looks, finds_no_room, decides}
+use Rattle.am_repair.proofs.Words.{Cause, hears, by_request, BringsReport, with_send, Packet, Fronts, Blanked}
 use Rattle.am_effects.specs.Letters.{request, spread, ack, nack}
-use Rattle.am_model.specs.declared.status.Status.TheVariants as status
 use Rattle.am_packet.specs.declared.packet.Packet.TheVariants as packet
 use Rattle.am_repair.proofs.Leading.{lead_others}
 
@@ -72,20 +69,14 @@ truly_admitted : (nodes : ℕ → Node) (m : Node) (s : ℕ) → Truly nodes m �
 truly_admitted nodes m s h name other = split (name == s) (λ t. rw t (omega arith)) (λ f. rw f (h name other))
 
 truly_look : (nodes : ℕ → Node) (m : Node) (b : Ballot) (v : Verdict) → Looks m b v → Truly nodes m → Truly nodes v.node
-truly_look nodes m b v (finds_itself_out x) h = h
-truly_look nodes m b v (waits x y) h = h
-truly_look nodes m b v (fetches_from_best x y z) h = h
-truly_look nodes m b v (finds_too_few x y) h = h
 truly_look nodes m b v (finds_no_room learned) h = truly_more nodes m v.node refl (omega arith) (λ name other. refl) h
 truly_look nodes m b v (decides may) h = λ name other. split (nat_lt name 256) (λ t. rw t (omega arith)) (λ f. rw f (omega arith))
+truly_look nodes m b v _ h = h
 
 rises_look : (m : Node) (b : Ballot) (v : Verdict) → Looks m b v → Rises m v.node
-rises_look m b v (finds_itself_out x) = rises_same m _ refl refl
-rises_look m b v (waits x y) = rises_same m _ refl refl
-rises_look m b v (fetches_from_best x y z) = rises_same m _ refl refl
-rises_look m b v (finds_too_few x y) = rises_same m _ refl refl
 rises_look m b v (finds_no_room learned) = record { base = omega arith; taken = omega arith }
 rises_look m b v (decides may) = record { base = omega arith; taken = omega arith }
+rises_look m b v _ = rises_same m _ refl refl
 
 pub truly_change : (nodes : ℕ → Node) (c : Cause) (o : Outcome) (m n : Node) → CauseTaken nodes c → Blanked m → Change c o m n → Truly nodes m
     → Truly nodes n

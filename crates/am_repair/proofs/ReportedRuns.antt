@@ -1,9 +1,9 @@
 -- In each run what anybody knows a name to have taken was taken, or is no more than its own base.
 use Rattle.am_repair.proofs.Words.{eqb-true, is_itself, MayFound, Rules, has, Outcome, Event, few_names, HeardUsed, HeardNames, heard_names, split, Node}
-use Rattle.am_repair.proofs.Words.{Packet, nat_tests, ◌≡◌, ℕ, ◌<◌, ◌≤◌, ◌==◌, true, List, refl, sym, ap, ◌∙◌, subst, arith, All, All-nil, All-append}
-use Rattle.am_repair.proofs.Words.{All-weaker, Letter, World, start, with_step, run, heard_by, Cause, calls, hears, refuses, LetterSays, Changes, no_change}
-use Rattle.am_repair.proofs.Words.{changed, actor, WasSentTo, IsCause, all_item, EachKeeps, StepsKeep, SameParts, law_keeps, runs_keep, Along, along_changes}
-use Rattle.am_repair.proofs.Words.{AllOwned, heard_used, each_along, each_owned, owned_start, KnownIsTaken}
+use Rattle.am_repair.proofs.Words.{Packet, ◌≡◌, ℕ, ◌<◌, ◌≤◌, ◌==◌, List, refl, sym, ap, ◌∙◌, subst, arith, All, All-nil, All-append, All-weaker, Letter}
+use Rattle.am_repair.proofs.Words.{World, start, with_step, run, heard_by, Cause, calls, hears, refuses, LetterSays, Changes, no_change, changed, actor}
+use Rattle.am_repair.proofs.Words.{WasSentTo, IsCause, all_item, EachKeeps, StepsKeep, SameParts, law_keeps, runs_keep, Along, along_changes, AllOwned}
+use Rattle.am_repair.proofs.Words.{heard_used, each_along, each_owned, owned_start, KnownIsTaken}
 use Rattle.am_packet.specs.declared.packet.Packet.TheVariants as packet
 use Rattle.am_repair.proofs.Reported.{ReportTaken, CauseTaken, Truly, Rises, truly_change, rises_change, says_taken}
 

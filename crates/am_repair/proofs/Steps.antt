@@ -11,9 +11,6 @@ use Rattle.am_repair.proofs.{Saying.says_calm}
 
 -- ---- names
 
-not_same : (a b : ℕ) → a ≡ b → (a == b) ≡ false → ⊥
-not_same a b same f = let z : ⊥ = grind (arith, nat_tests) in z
-
 is_other : (a b : ℕ) → (a == b) ≡ false → (b == a) ≡ false
 is_other a b f = grind (arith, nat_tests)
 

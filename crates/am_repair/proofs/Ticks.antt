@@ -12,10 +12,8 @@ use Rattle.am_repair.proofs.{Sets.some_has, Sets.only_has, Sets.without_has, Let
 -- ---- which row it is
 
 member_status : (s : Status) → is_member s ≡ true → s ≡ status.Member
-member_status status.Stranger h = absurd (cc)
-member_status status.Asking h = absurd (cc)
 member_status status.Member h = refl
-member_status status.Departed h = absurd (cc)
+member_status _ h = absurd (cc)
 
 pub without_ballot : (m : Node) (o : Option Ballot) → is_unfinished o ≡ false → tick_with m o ≡ tick_acting m
 without_ballot m None h = refl

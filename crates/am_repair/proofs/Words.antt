@@ -1,14 +1,13 @@
 -- The words of this crate's proofs, of the crates and definitions that they come from.
 pub use Rattle.std.proofs.Common.{◌≡◌, inl, inr, ℕ, ◌+◌, ◌≤◌, ◌==◌, not, true, false, List, length, Option, Some, None, refl, sym, ap, ◌∙◌, subst, arith}
-pub use Rattle.std.proofs.Common.{length-append, ◌<◌, Bool, [], ◌∷◌, ◌&&◌, ◌||◌, ⊎_elim, max, min, nat_le, zero, suc, ◌++◌, slice_get, ◌≢◌, ◌⊎◌}
+pub use Rattle.std.proofs.Common.{length-append, ◌<◌, [], ◌∷◌, ◌&&◌, ◌||◌, Bool, ⊎_elim, max, min, nat_le, zero, suc, ◌++◌, slice_get, ◌≢◌, ◌⊎◌}
 pub use Rattle.std.proofs.Common.{if◌then◌else◌, nat_lt, count_by, ◌-◌, take, drop, append_assoc, append-nil, add-one, length-drop, ◌*◌, ◌/◌, map}
 pub use Rattle.std.proofs.Common.{slice_index, slice_set, get_or-set_same, get_or-set_other}
 pub use Rattle.std.proofs.Math.Seq.{take-append-add}
 pub use Rattle.std.proofs.lemmas.Bool.{false_from_ne_true, cases_lt, not-true, and_from, not-false, eqb-true, eq-eqb}
 pub use Rattle.std.proofs.lemmas.Bool.Decides.{nat_tests}
-pub use Rattle.std.proofs.lemmas.List.{take-append-drop, take_all, drop_all, length-take}
-pub use Rattle.std.proofs.lemmas.List.Elements.{All-weaker, All-head, All-tail, All-nil, All-cons, All-push, Contains-append_left, Contains-append_right}
-pub use Rattle.std.proofs.lemmas.List.Elements.{Contains-append_cases, All-append}
+pub use Rattle.std.proofs.lemmas.List.{take_all, drop_all, length-take}
+pub use Rattle.std.proofs.lemmas.List.Elements.{All-weaker, All-head, All-tail, All-nil, All-cons, All-push, Contains-append_right, All-append}
 pub use Rattle.std.proofs.lemmas.List.Folds.{list_any-append}
 pub use Rattle.std.proofs.lemmas.Option.{slice_get-get_or, slice_get_within}
 pub use Rattle.std.specs.List.{list_any, prefix_len, range_with_len}
@@ -34,11 +33,10 @@ pub use Rattle.am_packet.specs.declared.packet.Packet.TheVariants.{Invite, Vote,
 pub use Rattle.am_packet.specs.Boxes.{letter_to, Letter, place_for, with_letter}
 pub use Rattle.am_packet.specs.Kinds.{kind_of}
 pub use Rattle.am_core.proofs.Ends.{image-top, image-next, image-push, entry-get}
-pub use Rattle.am_core.specs.Cores.{CoreState, since_accepted, accept as accepts}
+pub use Rattle.am_core.specs.Cores.{CoreState, since_accepted}
 unfoldable pub use Rattle.am_core.specs.Cores.{accept, pass_over}
 pub use Rattle.am_core.proofs.Lives.{IsUsed, used_fold, member_row, JoinsFit, fit_at}
 pub use Rattle.am_core.proofs.Folds.{slice_get-drop}
-pub use Rattle.am_fronts.specs.Refresh.{base_after}
 unfoldable pub use Rattle.am_fronts.specs.Refresh.{own_report, tell, go_on, let_go}
 pub use Rattle.am_fronts.proofs.ReportLaws.{count_cons}
 pub use Rattle.am_fronts.specs.Reports.{least_taken}
@@ -92,19 +90,17 @@ pub use Rattle.am_chain_lists.proofs.Prefixes.{begins_length, begins_take, lengt
 pub use Rattle.am_chain_lists.proofs.Order.{view_up, view_below}
 pub use Rattle.am_effects.proofs.Calls.{node_if}
 pub use Rattle.am_effects.proofs.Says.{told_pushed, view_pushed, acts_pushed, leads_pushed}
-pub use Rattle.am_effects.specs.Causes.{Cause, calls, hears, refuses, BringsReport, with_send, by_request, by_spread, by_ack, by_nack, by_leave_ask}
-pub use Rattle.am_effects.specs.Looks.{HasOpen, Looks, decides, BeginsBy, by_reset, by_hand_over, Balloting, with_more, without_one, as_it_is}
-pub use Rattle.am_effects.specs.Looks.{finds_itself_out, waits, fetches_from_best, finds_too_few, finds_no_room}
+pub use Rattle.am_effects.specs.Causes.{Cause, calls, hears, refuses, with_send, by_ack, by_nack, by_request, by_spread, by_leave_ask, BringsReport}
+pub use Rattle.am_effects.specs.Looks.{HasOpen, Looks, decides, BeginsBy, by_reset, by_hand_over, Balloting, with_more, without_one, as_it_is, finds_no_room}
 pub use Rattle.am_effects.specs.Changes.{Promises, invited, overtaken as overtaken_by, told_result, Change, refreshes, settles, takes_report, admits, numbers}
-pub use Rattle.am_effects.specs.Changes.{keeps_body, notes, stores, begins_list, departs, promises, opens, looks, fetches, stores_view, queues, collects}
-pub use Rattle.am_effects.specs.Changes.{takes, asks_to_join, asks_to_leave, closes, Carries, whole_entry, by_number, Changes, unchanged as no_change}
-pub use Rattle.am_effects.specs.Changes.{changed, overtaken, Numbers, asked_send, own_send, asked_join, asked_leave, Fetches, without_ballot, for_ballot}
-pub use Rattle.am_effects.specs.Changes.{MayBeWelcomed}
+pub use Rattle.am_effects.specs.Changes.{begins_list, departs, promises, opens, looks, queues, collects, takes, asks_to_join, asks_to_leave, closes, Carries}
+pub use Rattle.am_effects.specs.Changes.{whole_entry, by_number, stores, fetches, stores_view, Changes, unchanged as no_change, changed, overtaken, Numbers}
+pub use Rattle.am_effects.specs.Changes.{asked_send, own_send, asked_join, asked_leave, notes, keeps_body}
 pub use Rattle.am_effects.proofs.Rests.{rests_at_end, leads_rests, settle_is, SameStanding, with_sends, rests_refresh}
 pub use Rattle.am_effects.proofs.Resets.{same_stamp, stamp_itself}
 pub use Rattle.am_effects.proofs.Items.{get_front, get_take, all_item, all_letter, all_get}
 pub use Rattle.am_effects.proofs.Events.{events_have_effects}
-pub use Rattle.am_effects.specs.Events.{IsCause, actor, tick, Happens, idles, stops, returns, steps, WasSentTo}
+pub use Rattle.am_effects.specs.Events.{IsCause, actor, tick, Happens, steps, idles, stops, returns, WasSentTo}
 pub use Rattle.am_effects.specs.Effects.{Effect}
 pub use Rattle.am_effects.proofs.Hearing.{steps_have_effects, hearing_has_effects, other_heard}
 pub use Rattle.am_effects.proofs.Runs.{EachKeeps, runs_keep, StepsKeep, SameParts, law_keeps}
@@ -118,8 +114,8 @@ pub use Rattle.am_laws.proofs.ViewNames.{HeardNames}
 pub use Rattle.am_laws.proofs.Taken.{HeardUsed, fetch_follows, stamp_by, other_asks, promise_is, not_above_view, not_own}
 pub use Rattle.am_laws.proofs.Counts.{base_low}
 pub use Rattle.am_laws.proofs.LeaderRows.{in_is, least_within, data_member}
-pub use Rattle.am_laws.proofs.Stamps.{not_above_itself, at_most_below}
-pub use Rattle.am_laws.proofs.ViewChanges.{Balloted, next_above, OpenBallot, welcomed_none, none_of_asking}
+pub use Rattle.am_laws.proofs.Stamps.{at_most_below, not_above_itself}
+pub use Rattle.am_laws.proofs.ViewChanges.{Balloted, next_above, OpenBallot, welcomed_none}
 pub use Rattle.am_laws.proofs.Named.{few_names}
 pub use Rattle.am_laws.proofs.Views.{heard_names}
 pub use Rattle.am_laws.proofs.Blank.{Blanked}

@@ -49,12 +49,9 @@ blank_kind c o x y ways.settled h = subst (Blank c) (sym (settle_is x)) (on c x 
 blank_kind c o x y (ways.began s v base join image is says may) h =
     inr (record { welcome = record { from = s; stamp = v; base = base; join = join; image = image; says = is }; taken = omega arith })
 blank_kind c o x y (ways.left member leaves) h = on c x y (omega arith) (λ f. absurd (let t = logged x.status member in cc)) h
-blank_kind c o x y (ways.sent body stays) h = on c x y (omega arith) (λ f. f) h
-blank_kind c o x y (ways.collected req) h = on c x y (omega arith) (λ f. f) h
-blank_kind c o x y (ways.took e says member some) h = on c x y (omega arith) (λ f. f) h
 blank_kind c o x y (ways.asked_in was) h = on c x y (omega arith) (λ f. refl) h
-blank_kind c o x y (ways.asked_out was done) h = on c x y (omega arith) (λ f. f) h
 blank_kind c o x y (ways.gone member leaves) h = let r = rests_closed x in on c x y r.taken (λ f. absurd (let t = logged x.status member in cc)) h
+blank_kind c o x y _ h = on c x y (omega arith) (λ f. f) h
 
 blank_along : {c : Cause} {o : Outcome} (x n : Node) → Changes c o x n → Blank c x → Blank c n
 blank_along x n unchanged h = h

@@ -1,15 +1,14 @@
 -- How a name comes to act in a view: it did before, it decided it, or a letter of the view's own name told it, whose base it had taken.
-use Rattle.am_repaired.proofs.Words.{numbers_plain, stamp_by, other_asks, not-true, other_heard, stamp_itself, same_stamp, ◌≡◌, ⊎_elim, ℕ, ◌<◌, ◌≤◌, ◌==◌}
-use Rattle.am_repaired.proofs.Words.{◌&&◌, ◌||◌, not, max, true, false, List, [], refl, sym, ap, ◌∙◌, subst, arith, nat_tests, Entry, Data, Join, Leave, View}
-use Rattle.am_repaired.proofs.Words.{Image, Stamp, Outcome, Rules, stamp_lt, stamp_eq, Log, blank, fold, told_by, Node, Ballot, view, image_of, acts}
-use Rattle.am_repaired.proofs.Words.{is_member, is_asking, push_entry, trim_up_to, has_log, Verdict, with_promise, next_stamp, trim_for, left_in, need_of}
-use Rattle.am_repaired.proofs.Words.{is_view, hears_member, hears_asking, split, and_both, Cause, hears, Looks, finds_itself_out, waits, fetches_from_best}
-use Rattle.am_repaired.proofs.Words.{finds_too_few, finds_no_room, decides, Numbers, asked_send, own_send, asked_join, asked_leave, Fetches, without_ballot}
-use Rattle.am_repaired.proofs.Words.{for_ballot, Change, refreshes, settles, takes_report, admits, numbers, keeps_body, notes, stores, begins_list, departs}
-use Rattle.am_repaired.proofs.Words.{promises, opens, looks, fetches, stores_view, queues, collects, takes, asks_to_join, asks_to_leave, closes, Changes}
-use Rattle.am_repaired.proofs.Words.{unchanged, changed, view_pushed, Blanked, not_above_itself, not_above, equal_stamps, at_most, at_most_below, HasNames}
-use Rattle.am_repaired.proofs.Words.{HeardNames, SameView, Stood, view_last, Balloted, next_above, looked_at, change_does, HeardUsed, Along, along_changes}
-use Rattle.am_repaired.proofs.Words.{acting, alike_refresh, alike_settle, view_alike, acts_alike, Alike}
+use Rattle.am_repaired.proofs.Words.{numbers_plain, stamp_by, other_asks, other_heard, stamp_itself, same_stamp, ◌≡◌, ⊎_elim, ℕ, ◌<◌, ◌≤◌, ◌==◌, ◌&&◌, max}
+use Rattle.am_repaired.proofs.Words.{true, false, List, [], refl, sym, ap, ◌∙◌, subst, arith, nat_tests, Entry, Data, Join, Leave, View, Image, Stamp}
+use Rattle.am_repaired.proofs.Words.{Outcome, Rules, stamp_lt, stamp_eq, Log, blank, fold, told_by, Node, Ballot, view, image_of, acts, is_member, push_entry}
+use Rattle.am_repaired.proofs.Words.{trim_up_to, has_log, Verdict, with_promise, next_stamp, trim_for, left_in, need_of, is_view, split, Cause, hears, Looks}
+use Rattle.am_repaired.proofs.Words.{finds_itself_out, waits, fetches_from_best, finds_too_few, finds_no_room, decides, Fetches, without_ballot, for_ballot}
+use Rattle.am_repaired.proofs.Words.{Change, refreshes, settles, admits, numbers, keeps_body, notes, stores, begins_list, departs, promises, opens, looks}
+use Rattle.am_repaired.proofs.Words.{fetches, stores_view, collects, takes, asks_to_join, asks_to_leave, closes, Changes, unchanged, changed, view_pushed}
+use Rattle.am_repaired.proofs.Words.{Blanked, not_above_itself, not_above, equal_stamps, at_most, at_most_below, HasNames, HeardNames, SameView, Stood}
+use Rattle.am_repaired.proofs.Words.{view_last, Balloted, next_above, looked_at, change_does, HeardUsed, Along, along_changes, acting, alike_refresh}
+use Rattle.am_repaired.proofs.Words.{alike_settle, view_alike, acts_alike, Alike}
 use Rattle.am_packet.specs.declared.packet.Packet.TheVariants as packet
 
 -- ---- names
@@ -106,8 +105,6 @@ came_change : (c : Cause) (o : Outcome) (m x y : Node) → HeardNames c → HasN
     → (acts x ≡ true → Came c m x) → acts y ≡ true → Came c m y
 came_change c o m x y heard names after k low refreshes h t = let s = stays_alike x y (alike_refresh x) in came_on c m x y s (h (s.acts_ t))
 came_change c o m x y heard names after k low settles h t = let s = stays_alike x y (alike_settle x) in came_on c m x y s (h (s.acts_ t))
-came_change c o m x y heard names after k low (takes_report s v report brings may) h t = came_on c m x y (plain_stay x y refl refl refl refl (omega arith))
-    (h t)
 came_change c o m x y heard names after k low (admits s v is leads fit) h t = came_on c m x y (plain_stay x y refl refl refl refl (omega arith)) (h t)
 came_change c o m x y heard names after k low (numbers e leads room why) h t =
     let s = stays_pushed x y e (numbers_plain c x e why) refl refl refl refl (omega arith) in came_on c m x y s (h (s.acts_ t))
@@ -139,8 +136,6 @@ came_change c o m x y heard names after k low (fetches s v base number e is hear
 came_change c o m x y heard names after k low (stores_view s v base number names_ resilience is heard_ own_ other promise below may) h t =
     told_so s v base (subst (λ z. Tells z s v base) (sym is) (by_result s v base number names_ resilience)) (view_last (trim_up_to x base) v names_ resilience)
     (stamp_by v s own_) (other_heard x s heard_) may.taken
-came_change c o m x y heard names after k low (queues body is says member stays few) h t = came_on c m x y (plain_stay x y refl refl refl refl (omega arith))
-    (h t)
 came_change c o m x y heard names after k low (collects req is) h t = came_on c m x y (plain_stay x y refl refl refl refl (omega arith)) (h t)
 came_change c o m x y heard names after k low (takes e is says member some there) h t =
     came_on c m x y (record { who = refl; view_ = refl; acts_ = λ a. a; taken = omega arith }) (h t)
@@ -148,6 +143,8 @@ came_change c o m x y heard names after k low (asks_to_join is was) h t = absurd
 came_change c o m x y heard names after k low (asks_to_leave is was stays done) h t = came_on c m x y
     (record { who = refl; view_ = refl; acts_ = λ a. a; taken = omega arith }) (h t)
 came_change c o m x y heard names after k low (closes leads leaves alone room) h t = absurd (cc)
+came_change c o m x y heard names after k low _ h t = came_on c m x y (plain_stay x y refl refl refl refl (omega arith))
+    (h t)
 
 -- ---- a step
 

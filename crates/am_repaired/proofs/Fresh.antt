@@ -49,10 +49,8 @@ welcomed_in w v j base h k there = record {
 }
 
 unlogged_here : (t : Status) → has_log t ≡ false → has_departed t ≡ false
-unlogged_here status.Stranger f = refl
-unlogged_here status.Asking f = refl
-unlogged_here status.Member f = refl
 unlogged_here status.Departed f = absurd (cc)
+unlogged_here _ f = refl
 
 module _ (rules : Rules) (w : World) (s : Group) (q j : ℕ) (old : Following rules w s) (k : Kept s) (small : q < 256) (few : j < 256)
     (who : (w.nodes q).core.who ≡ q)

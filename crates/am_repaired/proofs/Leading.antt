@@ -1,8 +1,8 @@
 -- A sequencer's step in its view keeps what is known of what was taken.
 use Rattle.am_repaired.proofs.Words.{eqb-true, ◌≡◌, ◌⊎◌, inl, inr, ⊎_elim, ℕ, ◌<◌, ◌≤◌, ◌==◌, max, true, false, List, Some, slice_get, refl, sym, ap, ◌∙◌}
 use Rattle.am_repaired.proofs.Words.{subst, arith, Join, Stamp, Rules, stamp_lt, fits, top_of, Letter, Event, Group, Node, image_of, view, acts, is_sequencer}
-use Rattle.am_repaired.proofs.Words.{has_log, Step, World, is_stopped, run, split, Cause, calls, hears, refuses, actor, WasSentTo, IsCause, all_get}
-use Rattle.am_repaired.proofs.Words.{not_above_itself, GoesSo, run_goes, parts, plain, NoJoin, Rises, run_told, cause_taken}
+use Rattle.am_repaired.proofs.Words.{has_log, Step, World, is_stopped, run, split, Cause, hears, actor, WasSentTo, IsCause, all_get, not_above_itself, GoesSo}
+use Rattle.am_repaired.proofs.Words.{run_goes, parts, plain, NoJoin, Rises, run_told, cause_taken}
 use Rattle.am_packet.specs.declared.packet.Packet.TheVariants as packet
 use Rattle.am_repaired.proofs.Trims.{LetterLow, Knows, took, joins, halts, Settles, TrimStep, Sent, before, now}
 use Rattle.am_repaired.proofs.{Asked.Asked, Asked.as_before, Asked.admitted_, Asked.asked_event, Began.rises_along, Fresh.Welcomed, Fresh.no_list}
@@ -17,10 +17,8 @@ record JoinAsked (c : Cause) : Type 0 where
   is : c ≡ hears (packet.JoinAsk from stamp)
 
 join_or_none : (c : Cause) → JoinAsked c ⊎ NoJoin c
-join_or_none (calls event) = inr (λ s v is. absurd (cc))
-join_or_none refuses = inr (λ s v is. absurd (cc))
 join_or_none (hears (packet.JoinAsk from stamp)) = inl (record { from = from; stamp = stamp; is = refl })
-join_or_none (hears _) = inr (λ s v is. absurd (cc))
+join_or_none _ = inr (λ s v is. absurd (cc))
 
 -- ---- the step
 

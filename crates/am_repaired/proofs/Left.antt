@@ -2,9 +2,9 @@
 use Rattle.am_repaired.proofs.Words.{last_is, ◌≡◌, ◌⊎◌, ⊎_elim, inl, inr, ℕ, ◌+◌, ◌<◌, ◌≤◌, List, [], ◌∷◌, ◌++◌, length, true, false, refl, sym, ap, ◌∙◌}
 use Rattle.am_repaired.proofs.Words.{subst, arith, Entry, Data, Join, Leave, View, Image, place_of, life_of, Begins, IsGood, mem, view_of, key, In, row_at}
 use Rattle.am_repaired.proofs.Words.{begins_refl, begins_more, begins_trans, begins_both, begins_same, begins_length, begins_pushed, length_push, good_begins}
-use Rattle.am_repaired.proofs.Words.{told_push, long_told, mem_in, in_mem, mem_between, leaver_in, leaver_out, Group, Views, put, opening, Leads, chain_of}
-use Rattle.am_repaired.proofs.Words.{Move, MayNumber, choice_of, longer, accepts, learns, begins, raises, shows, serves, gives_over, welcomes, asks, stops}
-use Rattle.am_repaired.proofs.Words.{Kept, Run, founded, more, first_stamp, put_same, put_at, run_keeps, moves_grow, Becomes, stayed, joins, founds, became}
+use Rattle.am_repaired.proofs.Words.{told_push, long_told, mem_in, in_mem, mem_between, leaver_in, leaver_out, Group, put, opening, Leads, chain_of, Move}
+use Rattle.am_repaired.proofs.Words.{MayNumber, choice_of, longer, accepts, learns, begins, raises, shows, serves, gives_over, welcomes, asks, stops, Kept}
+use Rattle.am_repaired.proofs.Words.{Run, founded, more, first_stamp, put_same, put_at, run_keeps, moves_grow, Becomes, stayed, joins, founds, became}
 use Rattle.am_chain_lists.specs.Whole.{image_of}
 use Rattle.am_chain_moves.specs.Moves.{numbers, stores, fetches, decides, departs, closes}
 use Rattle.am_chain_moves.specs.Group as groups
@@ -98,18 +98,16 @@ asked_move s t (decides i members resilience may) k h = λ a j begins_.
     (λ (now : a ++ Leave j ∷ [] ≡ all). absurd (let e = last_is a m.list (Leave j) (View m.promise members resilience) now in cc))
     (begins_pushed (View m.promise members resilience) (subst (Begins (a ++ Leave j ∷ [])) is begins_))))
 asked_move s t (stores i e up decided other stays next) k h = asked_same s t refl (put_leaving s i (longer (s.node i) e) (λ z. z)) h
-asked_move s t (accepts i n leads may) k h = asked_same s t refl (λ j z. z) h
 asked_move s t (learns i told_ acc up rises within before up_to given low) k h = asked_same s t refl (put_leaving s i _ (λ z. z)) h
 asked_move s t (begins i few up stays member) k h = asked_same s t refl (put_leaving s i _ (λ z. z)) h
 asked_move s t (raises i stamp there above) k h = asked_same s t refl (put_leaving s i _ (λ z. z)) h
-asked_move s t (shows i there small other begun unshown) k h = asked_same s t refl (λ j z. z) h
-asked_move s t (serves i list up shown others) k h = asked_same s t refl (λ j z. z) h
 asked_move s t (fetches i f list e up ballot served shown next) k h = asked_same s t refl (put_leaving s i (longer (s.node i) e) (λ z. z)) h
 asked_move s t (gives_over i) k h = asked_same s t refl (put_leaving s i _ (λ z. z)) h
 asked_move s t (welcomes j stamp base join may) k h = asked_same s t refl (put_leaving s j _ (λ z. z)) h
 asked_move s t (asks i up unballoted) k h = asked_same s t refl (put_leaving s i _ (λ z. refl)) h
 asked_move s t (departs i before may) k h = asked_same s t refl (put_leaving s i _ (λ z. z)) h
 asked_move s t (stops i) k h = asked_same s t refl (put_leaving s i _ (λ z. z)) h
+asked_move s t _ k h = asked_same s t refl (λ j z. z) h
 
 -- ---- who departed
 

@@ -50,12 +50,9 @@ upward_kind low c o x y ways.settled h = subst (Upward low) (sym (settle_is x)) 
 upward_kind low c o x y (ways.began s v base join image is says may) h = absurd (let none_ = asking_log x.status (asking x s v base join image may) in
     let some = h.listed in cc)
 upward_kind low c o x y (ways.left member leaves) h = record { listed = refl; acc = h.acc }
-upward_kind low c o x y (ways.sent body stays) h = record { listed = h.listed; acc = h.acc }
-upward_kind low c o x y (ways.collected req) h = record { listed = h.listed; acc = h.acc }
-upward_kind low c o x y (ways.took e says member some) h = record { listed = h.listed; acc = h.acc }
 upward_kind low c o x y (ways.asked_in was) h = absurd (let some = h.listed in let z = ap has_log was in cc)
-upward_kind low c o x y (ways.asked_out was done) h = record { listed = h.listed; acc = h.acc }
 upward_kind low c o x y (ways.gone member leaves) h = let r = rests_closed x in let u = r.acc in record { listed = refl; acc = let l = h.acc in omega arith }
+upward_kind low c o x y _ h = record { listed = h.listed; acc = h.acc }
 
 upward : (low : ℕ) (c : Cause) (o : Outcome) (x y : Node) → Changes c o x y → Upward low x → Upward low y
 upward low c o x y unchanged h = h

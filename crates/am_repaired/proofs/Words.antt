@@ -3,7 +3,7 @@ pub use Rattle.std.proofs.Common.{◌≡◌, ℕ, ◌==◌, ◌&&◌, ◌||◌, 
 pub use Rattle.std.proofs.Common.{◌⊎◌, inl, inr, ⊎_elim, ◌≤◌, ◌<◌, max, List, [], ◌≢◌, zero, suc, ◌+◌, ◌∷◌, ◌++◌, length, slice_index, All, slice_get, take}
 pub use Rattle.std.proofs.Common.{None, ◌-◌, drop, length-append, append_assoc}
 pub use Rattle.std.proofs.Math.Seq.{take-append-add}
-pub use Rattle.std.proofs.lemmas.Bool.{not-true, eqb-true}
+pub use Rattle.std.proofs.lemmas.Bool.{eqb-true}
 pub use Rattle.std.proofs.lemmas.Bool.Decides.{nat_tests}
 pub use Rattle.std.proofs.lemmas.List.{take-append-drop, length-take, take_all}
 pub use Rattle.std.proofs.lemmas.List.Elements.{All-nil, All-cons, All-append, All-weaker}
@@ -29,15 +29,15 @@ pub use Rattle.am_fronts.proofs.Views.{view_grows}
 pub use Rattle.am_group.specs.declared.event.Act.{Act}
 pub use Rattle.am_group.specs.declared.event.Event.{Event}
 pub use Rattle.am_group.specs.Addressed.{is_for}
-pub use Rattle.am_group.specs.Journals.{letter_at, item_at}
-pub use Rattle.am_model.specs.Node.{Node, image_of, is_sequencer, has_room, has_log, Ballot, view, acts, is_member, is_asking, push_entry, trim_up_to, top}
+pub use Rattle.am_group.specs.Journals.{letter_at}
+pub use Rattle.am_model.specs.Node.{Node, image_of, is_sequencer, has_room, has_log, Ballot, view, acts, is_member, push_entry, trim_up_to, top}
 pub use Rattle.am_model.specs.Node.{image_of as told_at, members, lowest_or_first, has_departed, founding_stamp, with_report}
 pub use Rattle.am_model.specs.Emit.{Plan, Step}
 unfoldable pub use Rattle.am_model.specs.Emit.{finish}
 unfoldable pub use Rattle.am_model.specs.Step.{hear, hear_refusal}
 pub use Rattle.am_model.specs.Joining.{with_admitted}
 unfoldable pub use Rattle.am_model.specs.Joining.{join_ask_row}
-pub use Rattle.am_model.specs.Hearing.{hears_member, hears_asking}
+pub use Rattle.am_model.specs.Hearing.{hears_member}
 unfoldable pub use Rattle.am_model.specs.Hearing.{hear_row}
 pub use Rattle.am_model.specs.Lengths.{packet_length}
 pub use Rattle.am_model.specs.Refresh.{refresh_at_end, refresh}
@@ -61,7 +61,7 @@ pub use Rattle.am_chain_lists.proofs.Members.{good_begins, told_push, mem_push, 
 pub use Rattle.am_chain_lists.proofs.Members.{leaver_out}
 pub use Rattle.am_chain_lists.proofs.Rows.{In, Past, Was, row_at}
 pub use Rattle.am_chain_lists.proofs.Order.{key_by, view_small, view_up, view_viewed}
-pub use Rattle.am_chain_moves.specs.Group.{Group, Leads, counted_in, opening, chain_of, current_of, IsUp, Views, put}
+pub use Rattle.am_chain_moves.specs.Group.{Group, Leads, counted_in, opening, chain_of, current_of, IsUp, put}
 pub use Rattle.am_chain_moves.specs.Kept.{Kept}
 pub use Rattle.am_chain_moves.specs.Moves.{Move, MayNumber, choice_of, longer, accepts, learns, begins, raises, shows, serves, gives_over, welcomes, asks}
 pub use Rattle.am_chain_moves.specs.Moves.{stops}
@@ -70,10 +70,10 @@ pub use Rattle.am_chain_moves.proofs.Puts.{put_same, put_at}
 pub use Rattle.am_chain.proofs.Runs.{run_keeps}
 pub use Rattle.am_effects.proofs.Hearing.{other_heard}
 pub use Rattle.am_effects.specs.Events.{actor, WasSentTo, IsCause, steps}
-pub use Rattle.am_effects.specs.Causes.{Cause, hears, calls, refuses}
-pub use Rattle.am_effects.specs.Changes.{Changes, unchanged, changed, Numbers, asked_send, own_send, asked_join, asked_leave, Fetches, without_ballot}
-pub use Rattle.am_effects.specs.Changes.{for_ballot, Change, refreshes, settles, takes_report, admits, numbers, keeps_body, notes, stores, begins_list}
-pub use Rattle.am_effects.specs.Changes.{departs, promises, opens, looks, fetches, stores_view, queues, collects, takes, asks_to_join, asks_to_leave, closes}
+pub use Rattle.am_effects.specs.Causes.{Cause, hears}
+pub use Rattle.am_effects.specs.Changes.{Changes, unchanged, changed, Fetches, without_ballot, for_ballot, Change, refreshes, settles, admits, numbers}
+pub use Rattle.am_effects.specs.Changes.{keeps_body, notes, stores, begins_list, departs, promises, opens, looks, fetches, stores_view, collects, takes}
+pub use Rattle.am_effects.specs.Changes.{asks_to_join, asks_to_leave, closes, takes_report}
 pub use Rattle.am_effects.proofs.Rests.{rests_refresh, rests_closed, settle_is, rests_at_end}
 pub use Rattle.am_effects.proofs.Statuses.{logged, asking_log}
 pub use Rattle.am_effects.proofs.Resets.{stamp_itself, same_stamp}

@@ -95,9 +95,6 @@ replies_vote m n o to e = record { node = e; answer = λ x. refl; letters = λ x
 pub replies_ack : (m n : Node) (o : Outcome) (to : ℕ) → IsEndOf m n → Replies (telling m o (only_name to) ack_of) o (tell.Ack to) n
 replies_ack m n o to e = record { node = e; answer = λ x. refl; letters = λ x. refl; polls = refl; numbers = refl; departs = refl }
 
-pub replies_fetch : (m n : Node) (o : Outcome) (to : ℕ) → IsEndOf m n → Replies (telling m o (only_name to) fetch_of) o (tell.Fetch to) n
-replies_fetch m n o to e = record { node = e; answer = λ x. refl; letters = λ x. refl; polls = refl; numbers = refl; departs = refl }
-
 pub replies_asking : (v : Verdict) (n : Node) (o : Outcome) (to set : List ℕ) → ComesTo v o n → set ≡ to
     → Replies (verdict_plan v (λ x. with_fetch v.outcome x (with_letter to (invite_of x) []))) o (tell.Ballot set true) n
 replies_asking v n o to set c is = record {
@@ -119,9 +116,6 @@ replies_ballot v n o to set c is = record {
   numbers = refl;
   departs = refl;
 }
-
-nobody_invited : (x : Node) → with_letter nobody (invite_of x) [] ≡ []
-nobody_invited x = refl
 
 -- nobody is invited
 pub replies_silent : (v : Verdict) (n : Node) (o : Outcome) (set : List ℕ) → ComesTo v o n → set ≡ nobody

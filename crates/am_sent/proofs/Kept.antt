@@ -4,7 +4,7 @@ use Rattle.std.specs.Prelude.{All}
 use Rattle.std.specs.List.{list_any}
 use Rattle.std.proofs.lemmas.List.Elements.{All-push, All-drop, All-filter, All-map, All-weaker}
 use Rattle.am_base.specs.declared.entry.Entry.{Entry}
-use Rattle.am_base.specs.declared.entry.Entry.TheVariants.{Data, Join, Leave, View}
+use Rattle.am_base.specs.declared.entry.Entry.TheVariants.{Data}
 use Rattle.am_packet.specs.declared.packet.Packet.{Packet}
 use Rattle.am_packet.specs.declared.packet.Packet.TheVariants.{Request, Spread, Bcast, Piece}
 use Rattle.am_packet.specs.Boxes.{Letter}
@@ -34,9 +34,7 @@ pub record WasSent (all : List Record) (name req : ℕ) (body : List ℕ) : Type
 -- an entry that is a Data was sent by its sender
 abbrev pub EntrySent : List Record → Entry → Type 0
 EntrySent all (Data from req body) = WasSent all from req body
-EntrySent all (Join name) = Unit {0}
-EntrySent all (Leave name) = Unit {0}
-EntrySent all (View stamp members resilience) = Unit {0}
+EntrySent all _ = Unit {0}
 
 -- and so was what a packet carries
 abbrev pub PacketSent : List Record → Packet → Type 0
@@ -72,9 +70,7 @@ sent_more all more name req body h = record { index = h.index; send = h.send; th
 
 pub entry_more : (all more : List Record) (e : Entry) → EntrySent all e → EntrySent (all ++ more) e
 entry_more all more (Data from req body) h = sent_more all more from req body h
-entry_more all more (Join name) h = tt
-entry_more all more (Leave name) h = tt
-entry_more all more (View stamp members resilience) h = tt
+entry_more all more _ h = tt
 
 packet_more : (all more : List Record) (p : Packet) → PacketSent all p → PacketSent (all ++ more) p
 packet_more all more (Request sender stamp report req body) h = sent_more all more sender req body h

@@ -1,6 +1,6 @@
 -- Each change of a node as moves of the group.
-use Rattle.am_stands.proofs.Words.{or_second, member_heard, ◌≡◌, ℕ, ◌==◌, ◌&&◌, not, true, refl, sym, ap, subst, nat_lt, Stamp, View, stamp_eq, Group, Node}
-use Rattle.am_stands.proofs.Words.{view, acts, is_member, unsettled_count, has_log, has_departed, Ballot, is_unfinished, refresh, hears_member, hears_in_view}
+use Rattle.am_stands.proofs.Words.{or_second, member_heard, ◌≡◌, ℕ, ◌==◌, ◌&&◌, true, refl, sym, ap, subst, nat_lt, Stamp, View, stamp_eq, Group, Node, view}
+use Rattle.am_stands.proofs.Words.{acts, is_member, unsettled_count, has_log, has_departed, Ballot, is_unfinished, refresh, hears_member, hears_in_view}
 use Rattle.am_stands.proofs.Words.{hears_sequencer, World, and_both, refreshes, settles, begins_list, promises, opens, looks, stores_view, asks_to_join}
 use Rattle.am_stands.proofs.Words.{asks_to_leave, rests_refresh, settle_is, StandsBut, within, Verdict, Cause, Balloting, Looks, finds_itself_out, waits}
 use Rattle.am_stands.proofs.Words.{fetches_from_best, finds_too_few, finds_no_room, decides, MayMove, NeedsLook, after_look, ChangesStand}

@@ -1,11 +1,11 @@
 -- Who joins is one of the 256 names, and a View has a set of them: so members are sets of names.
 use Rattle.am_stands.proofs.Words.{split, ◌≡◌, ◌≢◌, ⊎_elim, ℕ, ◌+◌, ◌-◌, ◌<◌, ◌≤◌, ◌==◌, ◌&&◌, not, nat_lt, Bool, true, false, List, [], ◌∷◌, ◌++◌, length}
-use Rattle.am_stands.proofs.Words.{take, Option, Some, None, slice_get, slice_index, refl, sym, ap, ◌∙◌, subst, arith, All, nat_tests, length-map}
-use Rattle.am_stands.proofs.Words.{get_or-replicate, All-head, All-tail, All-nil, All-cons, All-append, All-take, Entry, Data, Join, Leave, View, Row, Image}
-use Rattle.am_stands.proofs.Words.{IsSet, place_of, life_of, has, blank_row, blank, is_blank, at_place, member_life, members_of, with_row, row_after_view}
-use Rattle.am_stands.proofs.Words.{after, fold, top_of, counted_of, unions_most, member_at, Begins, image_of, key, row_at, row_set, row_view, long_after}
-use Rattle.am_stands.proofs.Words.{mod16, long_told, opening, chain_of, choice_of, longer, put_same, all_get, Node, concerned_names, World, NamesNamed}
-use Rattle.am_stands.proofs.Words.{NameStands, CountsNames, RowsLive, MovesNamed}
+use Rattle.am_stands.proofs.Words.{take, Option, Some, slice_get, slice_index, refl, sym, ap, ◌∙◌, subst, arith, All, nat_tests, length-map, get_or-replicate}
+use Rattle.am_stands.proofs.Words.{All-head, All-tail, All-nil, All-cons, All-append, All-take, Entry, Data, Join, Leave, View, Row, Image, IsSet, place_of}
+use Rattle.am_stands.proofs.Words.{life_of, has, blank_row, blank, is_blank, at_place, member_life, members_of, with_row, row_after_view, after, fold, top_of}
+use Rattle.am_stands.proofs.Words.{counted_of, unions_most, member_at, Begins, image_of, key, row_at, row_set, row_view, long_after, mod16, long_told}
+use Rattle.am_stands.proofs.Words.{opening, chain_of, choice_of, longer, put_same, all_get, Node, concerned_names, World, NamesNamed, NameStands, CountsNames}
+use Rattle.am_stands.proofs.Words.{RowsLive, MovesNamed}
 use Rattle.am_chain_moves.specs.Group as groups
 use Rattle.am_chain_moves.specs.Moves as group
 use Rattle.am_model.specs.Node as nodes
@@ -103,11 +103,8 @@ members_named list k =
 
 counted_named : (list : List Entry) (n : ℕ) (o : Option Entry) → All NamesNamed list → ((e : Entry) → o ≡ Some e → NamesNamed e)
     → IsSet (counted_of o (members_of (image_of (take n list))))
-counted_named list n None k its = members_named (take n list) (All-take NamesNamed n list k)
-counted_named list n (Some (Data from req body)) k its = members_named (take n list) (All-take NamesNamed n list k)
-counted_named list n (Some (Join name)) k its = members_named (take n list) (All-take NamesNamed n list k)
-counted_named list n (Some (Leave name)) k its = members_named (take n list) (All-take NamesNamed n list k)
 counted_named list n (Some (View stamp names resilience)) k its = its (View stamp names resilience) refl
+counted_named list n _ k its = members_named (take n list) (All-take NamesNamed n list k)
 
 -- ---- of a node, whose list is so
 

@@ -4,9 +4,9 @@ use Rattle.am_stands.proofs.Words.{refl, sym, ap, ◌∙◌, subst, arith, nat_t
 use Rattle.am_stands.proofs.Words.{members_of, fold, image_of, mem, key, key_lt, Group, IsThere, IsUp, Move, IsAbove, MayDepart, with_node, own_stamp}
 use Rattle.am_stands.proofs.Words.{put_same, Status, Node, Ballot, members, is_member, is_asking, has_log, has_departed, is_unfinished, refresh, Verdict}
 use Rattle.am_stands.proofs.Words.{overtake, with_promise, next_stamp, hears_member, World, is_stopped, fold_append, split, and_both, Cause, hears, Balloting}
-use Rattle.am_stands.proofs.Words.{with_more, without_one, as_it_is, Looks, finds_itself_out, waits, fetches_from_best, finds_too_few, finds_no_room, decides}
-use Rattle.am_stands.proofs.Words.{Promises, invited, overtaken_by, told_result, rests_refresh, logged, equal_stamps, NameStands, FrontsStand, StandsBut}
-use Rattle.am_stands.proofs.Words.{within, GoneSays, has_stopped, may_go, MoveOk, MayMove}
+use Rattle.am_stands.proofs.Words.{with_more, without_one, as_it_is, Looks, finds_itself_out, finds_too_few, finds_no_room, decides, Promises, invited}
+use Rattle.am_stands.proofs.Words.{overtaken_by, told_result, rests_refresh, logged, equal_stamps, NameStands, FrontsStand, StandsBut, within, GoneSays}
+use Rattle.am_stands.proofs.Words.{has_stopped, may_go, MoveOk, MayMove}
 use Rattle.am_chain_moves.specs.Group as groups
 use Rattle.am_chain_moves.specs.Moves as group
 use Rattle.am_model.specs.declared.status.Status.TheVariants as status
@@ -122,16 +122,12 @@ pub is_there : (w : World) (name : ℕ) (x : Node) (a : groups.Node) → is_stop
 is_there w name x a runs stays h = record { goes = h.stopped ∙ runs; stays = h.departed ∙ stays }
 
 pub member_stays : (t : Status) → is_member t ≡ true → has_departed t ≡ false
-member_stays status.Stranger h = refl
-member_stays status.Asking h = refl
-member_stays status.Member h = refl
 member_stays status.Departed h = absurd (cc)
+member_stays _ h = refl
 
 asking_stays : (t : Status) → (is_member t || is_asking t) ≡ true → has_departed t ≡ false
-asking_stays status.Stranger h = refl
-asking_stays status.Asking h = refl
-asking_stays status.Member h = refl
 asking_stays status.Departed h = absurd (cc)
+asking_stays _ h = refl
 
 pub is_up : (w : World) (name : ℕ) (x : Node) (a : groups.Node) → is_stopped w name ≡ false → is_member x.status ≡ true
     → NameStands (within w name x) name x a → IsUp a
@@ -242,14 +238,12 @@ IsDecision _ = ⊥
 pub look_stands : (w : World) (name : ℕ) (c : Cause) (x : Node) (b : Ballot) (v : Verdict) (s : Group) → MayMove w name c x s
     → is_unfinished x.ballot ≡ true → (look : Looks x b v) → (IsDecision look → ⊥) → StandsBut name (within w name x) s
     → Onto name (within w name v.node) s
-look_stands w name c x b v s may open_ (waits y z) nothing h = unmoved w name x v.node s
-    (record { log = refl; log_ = refl; departed = refl; leaving = refl; promise = refl; ballot = sym open_; start = refl }) h
-look_stands w name c x b v s may open_ (fetches_from_best y z u) nothing h = unmoved w name x v.node s
-    (record { log = refl; log_ = refl; departed = refl; leaving = refl; promise = refl; ballot = sym open_; start = refl }) h
 look_stands w name c x b v s may open_ (finds_itself_out y) nothing h = given_over w name x v.node s refl refl refl refl refl refl h
 look_stands w name c x b v s may open_ (finds_too_few y z) nothing h = given_over w name x v.node s refl refl refl refl refl refl h
 look_stands w name c x b v s may open_ (finds_no_room y) nothing h = given_over w name x v.node s refl refl refl refl refl refl h
 look_stands w name c x b v s may open_ (decides y) nothing h = absurd (nothing tt)
+look_stands w name c x b v s may open_ _ nothing h = unmoved w name x v.node s
+    (record { log = refl; log_ = refl; departed = refl; leaving = refl; promise = refl; ballot = sym open_; start = refl }) h
 
 pub looked_open : (c : Cause) (x : Node) (b : Ballot) → Balloting c x b → is_unfinished x.ballot ≡ true
 looked_open c x b (with_more old s v shown is heard low high o same stays) = ap is_unfinished o.last ∙ ap not o.open_

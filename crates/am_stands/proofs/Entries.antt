@@ -3,9 +3,9 @@ use Rattle.am_stands.proofs.Words.{numbers_plain, same_stamp, ◌≡◌, ◌≢�
 use Rattle.am_stands.proofs.Words.{refl, sym, ap, ◌∙◌, subst, arith, nat_tests, append_assoc, Stamp, Image, Entry, View, rank_of, stamp_eq, Log, fits, Begins}
 use Rattle.am_stands.proofs.Words.{image_of, view_of, key, key_by, begins_trans, begins_more, Group, Views, put, opening, Move, with_node, with_line, longer}
 use Rattle.am_stands.proofs.Words.{put_same, Node, view, is_member, acts, is_sequencer, push_entry, has_log, has_departed, is_unfinished, is_view, Decided}
-use Rattle.am_stands.proofs.Words.{World, is_stopped, whole, up_to_next, line_of, split, and_both, begin_list, Cause, Numbers, asked_send, own_send}
-use Rattle.am_stands.proofs.Words.{asked_join, asked_leave, NameStands, NotedStands, ViewsStand, StandsBut, within, MoveOk, Leads, MayMove, NeedsNumber}
-use Rattle.am_stands.proofs.Words.{IsOthers, NeedsEntry, NeedsPiece, NeedsWelcome, FrontsBegin}
+use Rattle.am_stands.proofs.Words.{World, is_stopped, whole, up_to_next, line_of, split, and_both, begin_list, Cause, Numbers, NameStands, NotedStands}
+use Rattle.am_stands.proofs.Words.{ViewsStand, StandsBut, within, MoveOk, Leads, MayMove, NeedsNumber, IsOthers, NeedsEntry, NeedsPiece, NeedsWelcome}
+use Rattle.am_stands.proofs.Words.{FrontsBegin}
 use Rattle.std.proofs.lemmas.List.{append-nil}
 use Rattle.am_stands.specs.Steps.{of_line, of_shown}
 use Rattle.am_chain_moves.specs.Group as groups

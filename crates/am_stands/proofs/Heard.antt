@@ -116,19 +116,15 @@ leaves_of s from v report (before_it leaves h) = leaves
 number_may : (name : ℕ) (c : Cause) (x : Node) (e : Entry) (s : Group) → x.core.who ≡ name
     → ((from : ℕ) (v : Stamp) (report : Report) → c ≡ hears (packet.LeaveAsk from v report) → LeaverSays s from v report) → Numbers c x e
     → MayNumber s.node name e
-number_may name c x e s who asks (asked_send from v report req body by known stays next) = tt
-number_may name c x e s who asks (own_send q is last) = tt
-number_may name c x e s who asks (asked_join from v is other f) = tt
 number_may name c x e s who asks (asked_leave from v report is other known stays) = (
   leaves_of s from v report (asks from v report is),
   λ same. (let z : (from == x.core.who) ≡ true = grind (arith, nat_tests) in cc),
 )
+number_may name c x e s who asks _ = tt
 
 number_named : (c : Cause) (x : Node) (e : Entry) → ((from : ℕ) (v : Stamp) → c ≡ hears (packet.JoinAsk from v) → from < 256) → Numbers c x e → NamesNamed e
-number_named c x e small (asked_send from v report req body by known stays next) = tt
-number_named c x e small (own_send q is last) = tt
 number_named c x e small (asked_join from v is other f) = small from v is
-number_named c x e small (asked_leave from v report is other known stays) = tt
+number_named c x e small _ = tt
 
 pub number_needs : (w : World) (name : ℕ) (c : Cause) (x : Node) (e : Entry) (s : Group) → Kept s → x.core.who ≡ name → is_stopped w name ≡ false
     → NameStands (within w name x) name x (s.node name) → IsLeading name x (s.node name) → length (nodes.image_of x).rows ≡ 16

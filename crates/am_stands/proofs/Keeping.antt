@@ -151,10 +151,8 @@ module _ (rules : Rules) (w : World) (name : ℕ) (c : Cause) (x : Node) (s : Gr
       (h.heard (packet.Order from v base acc number sender req) is).says.1
 
   asking_blank : (t : Status) → is_member t ≡ false → (is_member t || is_asking t) ≡ true → (has_log t ≡ false) × (has_departed t ≡ false)
-  asking_blank status.Stranger f k = absurd (cc)
   asking_blank status.Asking f k = (refl, refl)
-  asking_blank status.Member f k = absurd (cc)
-  asking_blank status.Departed f k = absurd (cc)
+  asking_blank _ f k = absurd (cc)
 
   welcome_ok : (from : ℕ) (v : Stamp) (base join : ℕ) (image : Image) → c ≡ hears (packet.Welcome from v base join image)
       → MayBeWelcomed x from v base join image → NeedsWelcome s name v base join image

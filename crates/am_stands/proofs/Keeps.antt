@@ -3,20 +3,18 @@ use Rattle.am_stands.proofs.Words.{none_of_asking, or_second, same_stamp, ◌≡
 use Rattle.am_stands.proofs.Words.{if◌then◌else◌, Bool, true, false, List, [], ◌∷◌, ◌++◌, length, take, Option, Some, None, unwrap_or, refl, sym, ap, ◌∙◌}
 use Rattle.am_stands.proofs.Words.{subst, arith, append-nil, nat_tests, append_assoc, Entry, View, Image, Report, Vote, Stamp, Outcome, Rules, names_of}
 use Rattle.am_stands.proofs.Words.{stamp_lt, stamp_eq, fits, after, told_by, Packet, least_of, after_report, Begins, IsGood, key, good_begins, Group, opening}
-use Rattle.am_stands.proofs.Words.{Status, Node, Ballot, view, acts, unsettled_count, is_member, is_asking, is_sequencer, push_entry, lowest_or_first}
-use Rattle.am_stands.proofs.Words.{has_log, Verdict, need_of, left_in, taken_by, is_unfinished, settle, World, is_stopped, has_departed, split, and_both}
-use Rattle.am_stands.proofs.Words.{Cause, hears, BringsSend, by_request, by_spread, BringsReport, with_send, by_ack, by_nack, by_leave_ask, BringsFronts}
-use Rattle.am_stands.proofs.Words.{with_entry, with_number, alone, Balloting, Looks, finds_itself_out, waits, fetches_from_best, finds_too_few, finds_no_room}
-use Rattle.am_stands.proofs.Words.{decides, HasLearned, hears_member, hears_in_view, hears_sequencer, MayReport, Change, refreshes, settles, takes_report}
-use Rattle.am_stands.proofs.Words.{admits, keeps_body, notes, begins_list, promises, opens, looks, stores_view, queues, collects, takes, asks_to_join}
-use Rattle.am_stands.proofs.Words.{asks_to_leave, logged, settle_is, told_pushed, Along, told_used, NameStands, within, Trimmed, VoteTells, AllShown, Grows}
-use Rattle.am_stands.proofs.Words.{FetchesStand, ReportsStand, ReportsFresh, OpensStand, IsNew, IsConcerned, Reporting, BallotStands, Ballots, GroupFor}
-use Rattle.am_stands.proofs.Words.{HeardSo, IsPlain, NodeKeeps, OwnTurn, Stepping}
+use Rattle.am_stands.proofs.Words.{Node, Ballot, view, acts, unsettled_count, is_member, is_asking, is_sequencer, push_entry, lowest_or_first, has_log}
+use Rattle.am_stands.proofs.Words.{Verdict, need_of, left_in, taken_by, is_unfinished, settle, World, is_stopped, split, and_both, Cause, hears, BringsSend}
+use Rattle.am_stands.proofs.Words.{by_request, by_spread, BringsReport, with_send, by_ack, by_nack, by_leave_ask, BringsFronts, with_entry, with_number}
+use Rattle.am_stands.proofs.Words.{alone, Balloting, Looks, finds_itself_out, waits, fetches_from_best, finds_too_few, finds_no_room, decides, HasLearned}
+use Rattle.am_stands.proofs.Words.{MayReport, Change, refreshes, settles, takes_report, admits, keeps_body, notes, begins_list, promises, opens, looks}
+use Rattle.am_stands.proofs.Words.{stores_view, queues, collects, takes, asks_to_join, asks_to_leave, logged, settle_is, told_pushed, Along, told_used}
+use Rattle.am_stands.proofs.Words.{NameStands, within, Trimmed, VoteTells, AllShown, Grows, FetchesStand, ReportsStand, ReportsFresh, OpensStand, IsNew}
+use Rattle.am_stands.proofs.Words.{IsConcerned, Reporting, BallotStands, Ballots, GroupFor, HeardSo, IsPlain, NodeKeeps, OwnTurn, Stepping}
 use Rattle.am_model.specs.Ballots.{overtake as overtaken_by}
 use Rattle.am_effects.specs.Changes.{numbers, stores, departs, fetches, closes}
 use Rattle.am_base.specs.declared.outcome.Outcome.TheVariants as said
 use Rattle.am_packet.specs.declared.packet.Packet.TheVariants as packet
-use Rattle.am_model.specs.declared.status.Status.TheVariants as status
 use Rattle.am_model.specs.Node as nodes
 use Rattle.am_stands.specs.Letters as says
 use Rattle.am_stands.proofs.Keeping.{kept, old, up, good, known, looked_last, unfinished, sequencer_member, number_ok, other_heard}
@@ -65,9 +63,6 @@ ballots_open w s b o k votes shown = record {
   fetches = λ open_ from want is. shown from want is;
   last = record { given = k.given; names = k.names };
 }
-
-not_shown : (o : Outcome) → ((from want : ℕ) → o ≡ said.Fetching from want → ⊥) → (from want : ℕ) → o ≡ said.Fetching from want → ⊥
-not_shown o f = f
 
 module _ (rules : Rules) (w : World) (name : ℕ) (c : Cause) (x : Node) (s : Group) (h : Stepping rules w name c x s) where
   -- a look

@@ -1,12 +1,10 @@
 -- As long as nobody stops, no move makes a run unlawful.
 use Rattle.am_stands.proofs.Words.{split, ◌≡◌, inl, ℕ, ◌==◌, ◌&&◌, ◌||◌, not, nat_lt, List, Bool, true, false, length, refl, sym, ap, ◌∙◌, subst, arith}
-use Rattle.am_stands.proofs.Words.{nat_tests, has, Begins, key, Group, Chosen, put, count, how_many, opening, Move, MayDecide, with_choice, choice_of, longer}
-use Rattle.am_stands.proofs.Words.{numbers, stores, accepts, learns, begins, raises, shows, serves, fetches, gives_over, welcomes, asks, departs, closes}
-use Rattle.am_stands.proofs.Words.{stops, Run, more, counts_for, IsLawful, Kept, put_at, put_same, count_within, run_keeps, choices_keep, DecidesNew}
-use Rattle.am_stands.proofs.Words.{IsNoStop, RunsGoOn}
+use Rattle.am_stands.proofs.Words.{nat_tests, has, key, Group, Chosen, put, opening, Move, with_choice, choice_of, longer, numbers, stores, learns, begins}
+use Rattle.am_stands.proofs.Words.{raises, fetches, gives_over, welcomes, asks, departs, closes, stops, more, counts_for, IsLawful, Kept, put_at}
+use Rattle.am_stands.proofs.Words.{count_within, run_keeps, IsNoStop, RunsGoOn}
 use Rattle.am_chain_moves.specs.Moves.{decides}
 use Rattle.am_chain_moves.specs.Group as groups
-use Rattle.am_stands.proofs.Votes.{undecided as still_open}
 
 -- ---- what counts as lost
 
@@ -98,13 +96,10 @@ lawful_move : (s t : Group) (move : Move s t) → Kept s → IsNoStop move → I
 lawful_move s t (numbers i e leads fit may) k goes h = lawful_same s t refl refl (put_more s i (longer (s.node i) e) (as_before refl refl refl (λ z. z))) h
 lawful_move s t (stores i e up decided other stays next) k goes h = lawful_same s t refl refl
     (put_more s i (longer (s.node i) e) (as_before refl refl refl (λ z. z))) h
-lawful_move s t (accepts i n leads may) k goes h = lawful_same s t refl refl (λ j. same_more (s.node j)) h
 lawful_move s t (learns i told acc up rises within before up_to given low) k goes h = lawful_same s t refl refl
     (put_more s i (record (s.node i) { told = told; acc = acc }) (as_before refl refl refl (λ z. z))) h
 lawful_move s t (begins i few up stays member) k goes h = lawful_same s t refl refl (put_more s i _ (as_before refl refl refl (λ z. z))) h
 lawful_move s t (raises i stamp there above) k goes h = lawful_same s t refl refl (put_more s i _ (as_before refl refl refl (λ z. z))) h
-lawful_move s t (shows i there small other begun none) k goes h = lawful_same s t refl refl (λ j. same_more (s.node j)) h
-lawful_move s t (serves i list up shown others) k goes h = lawful_same s t refl refl (λ j. same_more (s.node j)) h
 lawful_move s t (fetches i g list e up ballot served shown next) k goes h = lawful_same s t refl refl
     (put_more s i (longer (s.node i) e) (as_before refl refl refl (λ z. z))) h
 lawful_move s t (decides i members resilience may) k goes h = decided_lawful s i members resilience k may.up may.ballot h
@@ -114,6 +109,7 @@ lawful_move s t (asks i up none) k goes h = lawful_same s t refl refl (put_more 
 lawful_move s t (departs i before may) k goes h = lawful_same s t refl refl (put_more s i _ (as_before refl refl refl (λ z. refl))) h
 lawful_move s t (closes i n leads leaving alone may) k goes h = lawful_same s t refl refl (put_more s i _ (as_before refl refl refl (λ z. refl))) h
 lawful_move s t (stops i) k goes h = absurd goes
+lawful_move s t _ k goes h = lawful_same s t refl refl (λ j. same_more (s.node j)) h
 
 -- ---- a run
 
@@ -124,21 +120,3 @@ runs_go_on founders first resilience s t run move goes =
     (lawful_move s t move o.kept goes o.lawful)
 
 -- ---- a decision in a lawful run
-
--- is a new one that found all that was accepted; what its members have that leave is to be known
-pub decides_new : (founders : List ℕ) (first resilience : ℕ) (s : Group) (i : ℕ) (members : List ℕ) (strong : ℕ) → Run founders first resilience s
-    → (may : MayDecide s i members strong)
-    → ((j : ℕ) → (s.node j).leaving ≡ true → has members j ≡ true → Begins (s.node j).list (opening (choice_of (s.node i) members strong)))
-    → DecidesNew (decides i members strong may)
-decides_new founders first resilience s i members strong run may leavers =
-    let at = key (s.node i).promise in
-    let choice = choice_of (s.node i) members strong in
-    let kept = (run_keeps founders first resilience s run).kept in
-    let chosen : put s.views.chosen at choice at ≡ choice = put_same s.views.chosen at choice in
-    let line_ : put s.views.line at (opening choice) at ≡ opening choice = put_same s.views.line at (opening choice) in (
-      still_open s i kept may.up may.ballot,
-      record {
-        accepted = subst (λ (c : Chosen). Begins s.group c.before) (sym chosen) (choices_keep founders first resilience s run i members strong may);
-        leavers = λ j leaves among. subst (Begins (s.node j).list) (sym line_) (leavers j leaves (ap (λ (c : Chosen). has c.members j) (sym chosen) ∙ among));
-      },
-    )

@@ -1,7 +1,7 @@
 -- The line of a view, where its coordinator's list gets one entry more.
 use Rattle.am_stands.proofs.Words.{stamp_itself, same_stamp, ◌≡◌, ◌≢◌, ℕ, ◌+◌, Bool, true, false, if◌then◌else◌, List, [], ◌∷◌, ◌++◌, refl, ap, ◌∙◌, subst}
-use Rattle.am_stands.proofs.Words.{arith, list_any, nat_tests, Stamp, Entry, Data, Join, Leave, View, Image, stamp_eq, blank, after, fold, Begins, view_of}
-use Rattle.am_stands.proofs.Words.{is_view, is_view_of, up_to_view, up_to_next, split, after_same, after_view}
+use Rattle.am_stands.proofs.Words.{list_any, Stamp, Entry, View, Image, blank, after, fold, Begins, view_of, is_view, is_view_of, up_to_view, up_to_next}
+use Rattle.am_stands.proofs.Words.{split, after_same, after_view}
 
 -- ---- a View stands in a list, and another behind it
 
@@ -29,16 +29,12 @@ same_view image n (e ∷ es) h = split (is_view e)
     (λ f. same_view (after image n e) (n + 1) es (rw f at h) ∙ (after_same image n e f).view)
 
 is_a_view : (v : Stamp) (e : Entry) → is_view_of v e ≡ true → is_view e ≡ true
-is_a_view v (Data from req body) h = absurd (cc)
-is_a_view v (Join name) h = absurd (cc)
-is_a_view v (Leave name) h = absurd (cc)
 is_a_view v (View stamp names resilience) h = refl
+is_a_view v _ h = absurd (cc)
 
 pub viewed_as : (v : Stamp) (image : Image) (n : ℕ) (e : Entry) → is_view_of v e ≡ true → (after image n e).view ≡ v
-viewed_as v image n (Data from req body) h = absurd (cc)
-viewed_as v image n (Join name) h = absurd (cc)
-viewed_as v image n (Leave name) h = absurd (cc)
 viewed_as v image n (View stamp names resilience) h = (after_view image n stamp names resilience).0 ∙ same_stamp stamp v h
+viewed_as v image n _ h = absurd (cc)
 
 -- where the list ends in another view
 next_in : (v : Stamp) (image : Image) (n : ℕ) (es : List Entry) → HasViewOf v es → (fold image n es).view ≢ v → NextIn v es

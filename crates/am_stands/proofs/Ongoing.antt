@@ -1,5 +1,5 @@
 -- Whose own Leave isn't in its list is still a member there, if it ever was.
-use Rattle.am_stands.proofs.Words.{split, ◌≡◌, ◌≢◌, ◌⊎◌, inl, inr, ⊎_elim, ℕ, ◌+◌, ◌<◌, ◌==◌, ◌&&◌, not, nat_lt, List, [], ◌∷◌, ◌++◌, length, true, false}
+use Rattle.am_stands.proofs.Words.{split, ◌≡◌, ◌≢◌, ◌⊎◌, inl, inr, ⊎_elim, ℕ, ◌+◌, ◌==◌, ◌&&◌, not, nat_lt, List, [], ◌∷◌, ◌++◌, length, true, false}
 use Rattle.am_stands.proofs.Words.{slice_index, refl, sym, ap, ◌∙◌, subst, arith, nat_tests, Entry, Data, Join, Leave, View, Stamp, Row, Image, place_of}
 use Rattle.am_stands.proofs.Words.{life_of, is_blank, at_place, row_of, member_life, with_row, row_after_view, after, Begins, BeginsBelow, IsGood, image_of}
 use Rattle.am_stands.proofs.Words.{mem, begins_same, begins_pushed, row_at, In, mod16, row_set, row_view, blank_joined, good_begins, told_push, long_told}
@@ -76,9 +76,6 @@ last_keeps a (View stamp names resilience) name good member left =
 unsnoc : (x : Entry) (xs : List Entry) → (init : List Entry) × (last : Entry) × (x ∷ xs ≡ init ++ last ∷ [])
 unsnoc x [] = ([], x, refl)
 unsnoc x (y ∷ ys) = let r = unsnoc y ys in (x ∷ r.0, r.1, ap (λ l. x ∷ l) r.2)
-
-below_nothing : (a : List Entry) → length a < 0 → ⊥
-below_nothing a h = omega arith
 
 ongoing_of : (list : List Entry) (name : ℕ) → IsGood list → ((a d : List Entry) → BeginsBelow d list → Begins a d → mem a name ≡ true → mem d name ≡ true)
     → (row_of (image_of list) name).left ≡ 0 → IsOngoing list name

@@ -1,11 +1,10 @@
 -- What a node needs to store a Piece, from what the Piece says.
 use Rattle.am_stands.proofs.Words.{eqb-false, eqb-true, same_stamp, ◌≡◌, ◌≢◌, ℕ, suc, ◌<◌, ◌==◌, not, List, [], ◌∷◌, ◌++◌, length, true, false, Some}
-use Rattle.am_stands.proofs.Words.{slice_get, refl, sym, ap, ◌∙◌, subst, arith, max, list_any, nat_tests, append_assoc, Entry, Data, Join, Leave, View, Stamp}
-use Rattle.am_stands.proofs.Words.{item_at, Begins, IsGood, NotView, view_of, key, key_by, view_up, view_viewed, view_below, view_push, begins_more}
-use Rattle.am_stands.proofs.Words.{begins_push, begins_length, good_begins, Group, IsUp, Kept, Node, Ballot, view, is_member, is_unfinished, is_view}
-use Rattle.am_stands.proofs.Words.{is_view_of, up_to_view, up_to_next, World, Decided, is_stopped, split, HasOpen, MayStore, Fetches, without_ballot}
-use Rattle.am_stands.proofs.Words.{NameStands, StandsBut, within, line, IsDecided, PieceSays, ShownEntry, of_line, of_shown, over, LinesOpen, IsOthers}
-use Rattle.am_stands.proofs.Words.{NeedsPiece, of_its_line, of_its_shown}
+use Rattle.am_stands.proofs.Words.{slice_get, refl, sym, ap, ◌∙◌, subst, arith, max, list_any, append_assoc, Entry, View, Stamp, item_at, Begins, IsGood}
+use Rattle.am_stands.proofs.Words.{NotView, view_of, key, key_by, view_up, view_viewed, view_below, view_push, begins_more, begins_push, begins_length}
+use Rattle.am_stands.proofs.Words.{good_begins, Group, IsUp, Kept, Node, Ballot, view, is_member, is_unfinished, is_view, is_view_of, up_to_view, up_to_next}
+use Rattle.am_stands.proofs.Words.{World, Decided, is_stopped, split, HasOpen, MayStore, Fetches, without_ballot, NameStands, StandsBut, within, line}
+use Rattle.am_stands.proofs.Words.{IsDecided, PieceSays, ShownEntry, of_line, of_shown, over, LinesOpen, IsOthers, NeedsPiece, of_its_line, of_its_shown}
 use Rattle.std.proofs.Common.{length-append}
 use Rattle.am_effects.specs.Changes.{for_ballot}
 use Rattle.am_model.specs.Node as nodes
@@ -15,17 +14,13 @@ use Rattle.am_stands.proofs.{Sent.promise_line, Heard.item_next, Heard.entry_nee
 -- ---- the line of a list's last view is all of the list
 
 pub plain : (e : Entry) → is_view e ≡ false → NotView e
-plain (Data from req body) h = tt
-plain (Join name) h = tt
-plain (Leave name) h = tt
 plain (View stamp names resilience) h = absurd (cc)
+plain _ h = tt
 
 rises : (a : List Entry) (e : Entry) → is_view e ≡ true → IsGood (a ++ e ∷ []) → key (view_of a) < key (view_of (a ++ e ∷ []))
-rises a (Data from req body) h g = absurd (cc)
-rises a (Join name) h g = absurd (cc)
-rises a (Leave name) h g = absurd (cc)
 rises a (View stamp names resilience) h g = subst (λ (u : Stamp). key (view_of a) < key u) (sym (view_viewed a stamp names resilience))
     (view_below a stamp names resilience g)
+rises a _ h g = absurd (cc)
 
 -- behind the last View there is none
 pub none_after : (a es : List Entry) → IsGood (a ++ es) → view_of (a ++ es) ≡ view_of a → list_any is_view es ≡ false
@@ -50,10 +45,8 @@ no_next (e ∷ es) h = split (is_view e)
     (λ f. rw f (ap (λ l. e ∷ l) (no_next es (rw f at h))))
 
 viewed_now : (v : Stamp) (a : List Entry) (e : Entry) → is_view_of v e ≡ true → view_of (a ++ e ∷ []) ≡ v
-viewed_now v a (Data from req body) h = absurd (cc)
-viewed_now v a (Join name) h = absurd (cc)
-viewed_now v a (Leave name) h = absurd (cc)
 viewed_now v a (View stamp names resilience) h = view_viewed a stamp names resilience ∙ same_stamp stamp v h
+viewed_now v a _ h = absurd (cc)
 
 all_line : (v : Stamp) (a es : List Entry) → IsGood (a ++ es) → view_of (a ++ es) ≡ v → up_to_next v es ≡ es
 unfolding up_to_next

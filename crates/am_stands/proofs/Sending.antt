@@ -21,10 +21,8 @@ use Rattle.am_stands.proofs.{Sent.piece_said, Shown.PieceStands, Shown.vote_said
 -- ---- who acts
 
 member_of : (t : Status) → has_log t ≡ true → has_departed t ≡ false → is_member t ≡ true
-member_of status.Stranger h d = absurd (cc)
-member_of status.Asking h d = absurd (cc)
 member_of status.Member h d = refl
-member_of status.Departed h d = absurd (cc)
+member_of _ h d = absurd (cc)
 
 no_round : key no_stamp < 256
 unfolding key

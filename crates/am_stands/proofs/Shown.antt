@@ -2,10 +2,9 @@
 use Rattle.am_stands.proofs.Words.{◌≡◌, ◌≢◌, ◌⊎◌, ⊎_elim, ℕ, ◌<◌, ◌≤◌, ◌==◌, not, List, true, false, Option, Some, None, refl, sym, ap, ◌∙◌, subst, arith}
 use Rattle.am_stands.proofs.Words.{nat_tests, Entry, Vote, Image, Stamp, has, members_of, item_at, mem, view_of, key, Group, IsThere, put2, Kept, put2_cases}
 use Rattle.am_stands.proofs.Words.{Node, Ballot, is_member, own_vote, World, split, and_both, Cause, hears, HasOpen, Balloting, with_more, without_one}
-use Rattle.am_stands.proofs.Words.{as_it_is, NameStands, ViewsStand, Stands, VoteTells, VoteSays, FetchSays, PieceSays, own, tells, over, for_ballot}
-use Rattle.am_stands.proofs.Words.{of_promise, of_shown, Moves, none, moves, Leads, VotesStand, Grows, ShowsMore}
+use Rattle.am_stands.proofs.Words.{as_it_is, NameStands, Stands, VoteTells, VoteSays, FetchSays, PieceSays, own, tells, over, for_ballot, of_promise}
+use Rattle.am_stands.proofs.Words.{of_shown, Moves, none, moves, Leads, VotesStand, Grows, ShowsMore}
 use Rattle.am_packet.specs.declared.packet.Packet.TheVariants as packet
-use Rattle.am_chain_moves.specs.Group as groups
 use Rattle.am_chain_moves.specs.Moves as group
 use Rattle.am_model.specs.Node as nodes
 use Rattle.am_effects.specs.Letters as letters
@@ -50,16 +49,6 @@ looked_votes c x b s (with_more old from v shown is heard_ low high o same stays
     said s from v shown other fresh (over d) = absurd (cc)
 
 -- ---- what a voter shows
-
--- the group with other lists shown, which stands for the same
-pub stands_shown : (v : World) (s t : Group) → t.node ≡ s.node → t.views ≡ s.views → t.group ≡ s.group → Stands v s → Stands v t
-stands_shown v s t node views group_ h = record {
-  each = λ i few. subst (NameStands v i (v.nodes i)) (ap (λ f. f i) (sym node)) (h.each i few);
-  fronts = λ i few d. (let k = h.fronts i few d in
-      record { told = subst (λ (a : groups.Node). (v.nodes i).core.told ≤ a.told) (ap (λ f. f i) (sym node)) k.told; acc = ap (λ f. (f i).acc) node ∙ k.acc });
-  views = subst (λ w. ViewsStand v w) (sym views) h.views;
-  group = group_ ∙ h.group;
-}
 
 -- a vote for another's ballot that isn't decided: its list is shown, if it wasn't
 pub record Voter (v : World) (i : ℕ) (n : Node) (s : Group) : Type 0 where

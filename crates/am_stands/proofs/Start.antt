@@ -1,5 +1,5 @@
 -- At the start each founder is told of the first entry, and then the group stands for the world.
-use Rattle.am_stands.proofs.Words.{and-false, stamp_itself, ◌≡◌, ℕ, zero, suc, ◌+◌, ◌<◌, ◌==◌, ◌&&◌, nat_lt, if◌then◌else◌, List, [], ◌∷◌, length, Bool, true}
+use Rattle.am_stands.proofs.Words.{and-false, stamp_itself, ◌≡◌, ℕ, zero, suc, ◌+◌, ◌<◌, ◌==◌, ◌&&◌, nat_lt, if◌then◌else◌, List, [], ◌∷◌, length, true}
 use Rattle.am_stands.proofs.Words.{false, Some, slice_get, refl, sym, ap, ◌∙◌, subst, arith, nat_tests, Entry, Rules, MayFound, has, fold, key, begins_refl}
 use Rattle.am_stands.proofs.Words.{Group, put, opening, with_node, Node, founder, stranger, lowest_or_first, founding_stamp, founders_view, has_log}
 use Rattle.am_stands.proofs.Words.{has_departed, is_unfinished, Decided, first_node, founders_decided, whole, up_to_view, up_to_next, line_of, split}

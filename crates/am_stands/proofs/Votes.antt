@@ -1,14 +1,13 @@
 -- A ballot that its coordinator decides may be decided by the group's own test.
-use Rattle.am_stands.proofs.Words.{only_is, eqb-false, eq-eqb, eqb-true, ◌≡◌, ◌≢◌, ◌⊎◌, inl, inr, ⊎_elim, ℕ, zero, suc, ◌+◌, ◌<◌, ◌≤◌, ◌==◌, ◌&&◌, ◌||◌, not}
-use Rattle.am_stands.proofs.Words.{max, nat_lt, is_some, get_or, set, List, [], ◌∷◌, ◌++◌, length, Bool, true, false, Option, Some, None, slice_index, refl}
-use Rattle.am_stands.proofs.Words.{sym, ap, ◌∙◌, subst, arith, list_all, list_any, range_with_len, nat_tests, Entry, Vote, Image, Stamp, IsSet, place_of}
-use Rattle.am_stands.proofs.Words.{life_of, name_at, by_place, nobody, has, size, is_within, slice_index-by_place, stamp_lt, stamp_eq, vote_lt, member_life}
-use Rattle.am_stands.proofs.Words.{members_of, Begins, image_of, mem, view_of, resilience_of, key, key_lt, view_up, begins_trans, told_push, Group, IsThere}
-use Rattle.am_stands.proofs.Words.{IsUp, MayDecide, Voted, Kept, Node, Ballot, view, members, only_name, name_where, those, View, append_assoc, length-map}
-use Rattle.am_stands.proofs.Words.{get_or-set_same, get_or-set_other, get_or-replicate, mod16, is_view_of, trim_for, own_vote, best_of, need_of, has_voted}
-use Rattle.am_stands.proofs.Words.{is_waited_for, left_in, World, best_vote_is, split, has_size, has_those, set_those, equal_stamps, own_need, those_at}
-use Rattle.am_stands.proofs.Words.{viewed_members, those_some, those_long, NameStands, within, told_pushed, VoteTells, AllShown, FetchSays, for_ballot}
-use Rattle.am_stands.proofs.Words.{AllVoted, NeedsDecision}
+use Rattle.am_stands.proofs.Words.{eq-eqb, eqb-true, ◌≡◌, ◌⊎◌, inl, inr, ⊎_elim, ℕ, zero, suc, ◌+◌, ◌<◌, ◌≤◌, ◌==◌, ◌&&◌, ◌||◌, not, max, nat_lt, is_some}
+use Rattle.am_stands.proofs.Words.{set, List, [], ◌∷◌, ◌++◌, length, Bool, true, false, Option, Some, None, slice_index, refl, sym, ap, ◌∙◌, subst, arith}
+use Rattle.am_stands.proofs.Words.{list_all, list_any, range_with_len, nat_tests, Entry, Vote, Image, Stamp, IsSet, place_of, life_of, name_at, by_place, has}
+use Rattle.am_stands.proofs.Words.{size, is_within, slice_index-by_place, stamp_lt, stamp_eq, vote_lt, member_life, members_of, Begins, image_of, mem}
+use Rattle.am_stands.proofs.Words.{view_of, resilience_of, key, key_lt, view_up, begins_trans, told_push, Group, IsThere, IsUp, MayDecide, Voted, Kept, Node}
+use Rattle.am_stands.proofs.Words.{Ballot, view, members, name_where, those, View, append_assoc, length-map, mod16, is_view_of, trim_for, own_vote, best_of}
+use Rattle.am_stands.proofs.Words.{need_of, has_voted, is_waited_for, left_in, World, best_vote_is, split, has_size, has_those, set_those, equal_stamps}
+use Rattle.am_stands.proofs.Words.{own_need, those_at, viewed_members, those_some, those_long, NameStands, within, told_pushed, VoteTells, AllShown, AllVoted}
+use Rattle.am_stands.proofs.Words.{NeedsDecision}
 use Rattle.am_model.specs.Node as nodes
 use Rattle.am_effects.specs.Looks as looks
 use Rattle.am_stands.proofs.{Lines.HasViewOf, Lines.viewed_as, Changes.told_whole, Changes.long_all}
@@ -275,12 +274,3 @@ best_shown w name x b s k h other none = ⊎_elim
           inr (tells.list, tells.shown)));
     }))
     (best_vote_is b.votes x.core.who (own_vote x) h.view_ h.views).shown
-
--- it fetches from that name
-pub fetch_said : (w : World) (name : ℕ) (x : Node) (b : Ballot) (s : Group) (to : List ℕ) → Kept s → BallotKnown w name x b s
-    → ((best_of x b).by == x.core.who) ≡ false → nat_lt 0 (size (those (is_waited_for x.core.who b) (need_of x b))) ≡ false
-    → to ≡ only_name (best_of x b).by → FetchSays s name x.core.promise to
-fetch_said w name x b s to k h other none is = for_ballot
-    (ap (λ (u : Stamp). u.by) (sym h.stands.promise) ∙ ((k.each name).ballot h.up h.ballot).by)
-    (λ j at. subst (AllShown s x.core.promise) (sym (only_is (best_of x b).by j (ap (λ set. has set j) (sym is) ∙ at)))
-    (subst (λ (u : Stamp). AllShown s u (best_of x b).by) h.stamp (best_shown w name x b s k h other none)))

@@ -9,10 +9,8 @@ use Rattle.am_stands.proofs.Changes.{is_there}
 -- ---- a joiner
 
 none_of_asking : (t : Status) → is_member t ≡ false → (is_member t || is_asking t) ≡ true → (has_log t ≡ false) × (has_departed t ≡ false)
-none_of_asking status.Stranger f h = absurd (cc)
 none_of_asking status.Asking f h = (refl, refl)
-none_of_asking status.Member f h = absurd (cc)
-none_of_asking status.Departed f h = absurd (cc)
+none_of_asking _ f h = absurd (cc)
 
 pub not_above_key : (u v : Stamp) → u.by < 256 → v.by < 256 → stamp_lt v u ≡ false → key u ≤ key v
 not_above_key u v small few low = split (stamp_lt u v)

@@ -1,6 +1,6 @@
 -- The words of this crate's proofs, of the crates and definitions that they come from.
 pub use Rattle.std.proofs.Common.{◌≡◌, ℕ, ◌+◌, ◌-◌, ◌<◌, ◌≤◌, ◌==◌, ◌&&◌, nat_le, Bool, true, false, List, [], length, take, refl, sym, ap, ◌∙◌, subst, arith}
-pub use Rattle.std.proofs.Common.{count_by, ◌∷◌, slice_index, ◌⊎◌, inl, inr, ⊎_elim, ◌||◌, ◌++◌, Some, not, nat_lt, ◌≢◌, Option, None, slice_get, zero, suc}
+pub use Rattle.std.proofs.Common.{count_by, ◌∷◌, slice_index, ◌⊎◌, inl, inr, ⊎_elim, ◌||◌, ◌++◌, Some, nat_lt, ◌≢◌, not, Option, slice_get, None, zero, suc}
 pub use Rattle.std.proofs.Common.{if◌then◌else◌, max, set, get_or, unwrap_or, append-nil, min, drop, map, Ok, Err, option_map, is_some}
 pub use Rattle.std.proofs.Math.Bool.{and-false}
 pub use Rattle.std.proofs.Math.Seq.{take-append-add, drop-append-add, drop-append_seam}
@@ -8,7 +8,6 @@ pub use Rattle.std.proofs.lemmas.Bool.{leb-true, not-true, eqb-false, eqb-true, 
 pub use Rattle.std.proofs.lemmas.Bool.Decides.{nat_tests}
 pub use Rattle.std.proofs.lemmas.Grind.{flat_map-append}
 pub use Rattle.std.proofs.lemmas.List.{length-map, get_or-replicate, length-append, length-take, append_assoc, length-set, get_or-set_other, take-append-drop}
-pub use Rattle.std.proofs.lemmas.List.{get_or-set_same}
 pub use Rattle.std.proofs.lemmas.List.Elements.{All-head, All-tail, All-nil, All-cons, All-append, All-take}
 pub use Rattle.std.proofs.lemmas.List.Folds.{list_any-append}
 pub use Rattle.std.proofs.lemmas.Option.{slice_get_within}
@@ -17,7 +16,7 @@ pub use Rattle.std.specs.Prelude.{All}
 pub use Rattle.am_base.specs.declared.entry.Entry.{Entry}
 pub use Rattle.am_base.specs.declared.image.Report.{Report}
 pub use Rattle.am_base.specs.declared.image.Image.{Image}
-pub use Rattle.am_base.specs.Names.{has, names_of, place_of, life_of, is_within, IsSet, name_at, size, names_from, rank_of, without_name, by_place, nobody}
+pub use Rattle.am_base.specs.Names.{has, names_of, place_of, life_of, is_within, IsSet, name_at, size, names_from, rank_of, without_name, by_place}
 pub use Rattle.am_base.specs.Lists.{Log, top_of, told_by, members_of, blank_row, blank, is_blank, at_place, member_life, with_row, row_after_view, members_at}
 pub use Rattle.am_base.specs.Lists.{row_of, entry_at, image_at, requests_of, request_in}
 unfoldable pub use Rattle.am_base.specs.Lists.{fold, after, fits}
@@ -32,7 +31,7 @@ pub use Rattle.am_base.proofs.Folds.{fold_append}
 pub use Rattle.am_base.specs.declared.outcome.Outcome.{Outcome}
 pub use Rattle.am_base.specs.declared.image.Vote.{Vote}
 pub use Rattle.am_base.specs.declared.event.NodeEvent.{NodeEvent}
-pub use Rattle.am_base.specs.declared.event.NodeEvent.TheVariants.{Send, Done, Take, State, Reset, Ask, GiveUp, Tick, Hear}
+pub use Rattle.am_base.specs.declared.event.NodeEvent.TheVariants.{Done, State, Ask, GiveUp, Tick, Hear}
 pub use Rattle.am_base.proofs.Places.{slice_index-by_place}
 pub use Rattle.am_base.specs.Votes.{vote_lt}
 pub use Rattle.am_packet.specs.declared.packet.Packet.{Packet}
@@ -105,18 +104,18 @@ pub use Rattle.am_chain_moves.specs.Kept.{Kept}
 pub use Rattle.am_chain_moves.specs.Moves.{MayDecide, Voted, with_choice, choice_of, own_stamp, longer, Move, IsAbove, MayDepart, with_node, with_line}
 pub use Rattle.am_chain_moves.specs.Moves.{numbers, stores, accepts, learns, begins, raises, shows, serves, fetches, gives_over, welcomes, asks, departs}
 pub use Rattle.am_chain_moves.specs.Moves.{closes, stops, MayNumber}
-pub use Rattle.am_chain_moves.specs.Runs.{IsLawful, first_choice, Run, more, counts_for, founded, start, first_stamp}
+pub use Rattle.am_chain_moves.specs.Runs.{IsLawful, first_choice, more, counts_for, founded, start, first_stamp}
 pub use Rattle.am_chain_moves.proofs.Start.{start_kept}
 pub use Rattle.am_chain_moves.proofs.Puts.{put_same, put_at, put2_cases, count_below, count_within, put_other, put_cases}
 pub use Rattle.am_chain_moves.proofs.Nodes.{own_above}
 pub use Rattle.am_chain.proofs.Heart.{ballot_ok, list_chain, departed_in}
 pub use Rattle.am_chain.proofs.Decide.{group_low}
-pub use Rattle.am_chain.proofs.Runs.{run_keeps, choices_keep}
+pub use Rattle.am_chain.proofs.Runs.{run_keeps}
 pub use Rattle.am_orders.proofs.Turns.{request_within, next_in}
 pub use Rattle.am_effects.proofs.Tests.{or_second, is_itself}
 pub use Rattle.am_effects.proofs.Resets.{member_heard, same_stamp, stamp_itself}
 pub use Rattle.am_effects.specs.Changes.{refreshes, settles, begins_list, promises, opens, looks, stores_view, asks_to_join, asks_to_leave, Promises, invited}
-pub use Rattle.am_effects.specs.Changes.{overtaken as overtaken_by, told_result, Numbers, asked_send, own_send, asked_join, asked_leave, MayStore}
+pub use Rattle.am_effects.specs.Changes.{overtaken as overtaken_by, told_result, Numbers, MayStore, asked_send, own_send, asked_join, asked_leave}
 pub use Rattle.am_effects.specs.Changes.{MayBeWelcomed, Fetches, overtaken, Carries, whole_entry, by_number, Change, MayReport, takes_report, admits}
 pub use Rattle.am_effects.specs.Changes.{keeps_body, notes, queues, collects, takes, without_ballot, unchanged, changed}
 pub use Rattle.am_effects.proofs.Rests.{rests_refresh, settle_is, rests_at_end, leads_rests, refresh_is}
@@ -154,7 +153,7 @@ pub use Rattle.am_stands.specs.Accepting.{MayCount, RefreshAccepts, CountsNames,
 pub use Rattle.am_stands.specs.Accepting.{AcceptsAndLearns, RefreshLearns}
 pub use Rattle.am_stands.specs.Keeping.{GroupFor, NodeKeeps, StartKeeps, BallotStands, LastStands, Stepping, Ballots, HeardSo, IsPlain, OwnTurn, GroupOk}
 pub use Rattle.am_stands.specs.Keeping.{OthersKeep, RefreshesKeep, Refreshing, ChangesGoOn, Next}
-pub use Rattle.am_stands.specs.Growing.{NewView, NameGrows, Grows, MovesGrow, DecidesNew, LettersStay}
+pub use Rattle.am_stands.specs.Growing.{NewView, NameGrows, Grows, MovesGrow, LettersStay}
 pub use Rattle.am_stands.specs.Branches.{OnBranch, on_chain, left_out, BranchesOk, MovesBranch, DecisionsAreNew, BranchesBegin, MovesNamed}
 pub use Rattle.am_stands.specs.Steps.{MayMove, NeedsLook, after_look, ChangesStand, NeedsDecision, noting, NeedsNumber, IsOthers, NeedsEntry, NeedsPiece}
 pub use Rattle.am_stands.specs.Steps.{NeedsWelcome, FrontsBegin, EventsStand, EventStands, no_move, stop, WasBegun, Needs, FrontsStay, of_line as of_its_line}

@@ -113,7 +113,6 @@ pub record Leads (group : List Entry) (x y : Node) : Type 0 where
 -- ⊥ where the cause brings no report
 pub leads_on : {c : Cause} {o : Outcome} (group : List Entry) (x y : Node) (z : Change c o x y) → IsPlain z → brings_report c ≡ true → is_sequencer x ≡ true
     → x.core.log.start ≤ length group → x.core.acc ≤ top x → Leads group x y
-leads_on group x y refreshes p t l low high = absurd p
 leads_on group x y settles p t l low high = subst (Leads group x) (sym (settle_is x)) (record { leads = l; start = low; same = refl })
 leads_on group x y (takes_report from v report by may) p t l low high = record { leads = l; start = low; same = refl }
 leads_on group x y (admits from v is leads fit) p t l low high = absurd (both_ways _ t (ap brings_report is))
@@ -123,10 +122,8 @@ leads_on group x y (keeps_body from v report req body is heard) p t l low high =
 leads_on group x y (notes from v base acc by heard) p t l low high = absurd (both_ways _ t (fronts_bring from v base acc by))
 leads_on group x y (stores from v base acc number e by heard plain may) p t l low high = absurd (both_ways _ t (carried_brings from v base acc number e by))
 leads_on group x y (begins_list from v base join image is says_ may) p t l low high = absurd (both_ways _ t (ap brings_report is))
-leads_on group x y (departs from v number is heard leaves) p t l low high = absurd p
 leads_on group x y (promises v below why) p t l low high = absurd (both_ways _ t (promise_brings v why).brings)
 leads_on group x y (opens least resilience by may) p t l low high = absurd (both_ways _ t (begin_brings by).brings)
-leads_on group x y (looks b verdict over why look is) p t l low high = absurd p
 leads_on group x y (fetches from v base number e is heard promise below why may) p t l low high = absurd (both_ways _ t (ap brings_report is))
 leads_on group x y (stores_view from v base number names resilience is heard own other promise below may) p t l low high =
     absurd (both_ways _ t (ap brings_report is))
@@ -135,4 +132,4 @@ leads_on group x y (collects req is) p t l low high = absurd (both_ways _ t (ap 
 leads_on group x y (takes e is says_ member some there) p t l low high = absurd (both_ways _ t (ap brings_report is))
 leads_on group x y (asks_to_join is was) p t l low high = absurd (both_ways _ t (ap brings_report is))
 leads_on group x y (asks_to_leave is was stays_ done) p t l low high = absurd (both_ways _ t (ap brings_report is))
-leads_on group x y (closes leads leaves alone_ room) p t l low high = absurd p
+leads_on group x y _ p t l low high = absurd p

@@ -1,7 +1,7 @@
 -- The end of a step: the refresh, what of it settles a send, and what the step noted.
 use Rattle.am_steps.proofs.Words.{nothing_viewed, member_stays, not-true, logged, stamp_itself, same_stamp, ◌≡◌, ◌≢◌, ⊎_elim, ℕ, ◌<◌, ◌≤◌, ◌==◌, ◌&&◌, not}
 use Rattle.am_steps.proofs.Words.{true, false, List, [], ◌∷◌, ◌++◌, slice_get, Some, refl, sym, ap, ◌∙◌, subst, arith, nat_tests, Stamp, Entry, Outcome}
-use Rattle.am_steps.proofs.Words.{Rules, Log, told_by, members_of, fold, stamp_lt, stamp_eq, no_stamp, view_of, key, view_small, Group, IsUp, Node, top, view}
+use Rattle.am_steps.proofs.Words.{Rules, Log, told_by, members_of, stamp_lt, stamp_eq, no_stamp, view_of, key, view_small, Group, IsUp, Node, top, view}
 use Rattle.am_steps.proofs.Words.{image_of, is_member, has_log, has_departed, refresh, settle, Decided, World, group_after, views_after, split, and_both}
 use Rattle.am_steps.proofs.Words.{Cause, settles, rests_refresh, leads_rests, settle_is, not_above_itself, IsNoted, SameView, Stood, Goes, CauseSent}
 use Rattle.am_steps.proofs.Words.{FrontsStand, Grows, Moves, Stepping, then_moves, key_stamp, view_whole, old, whole, grows_trans, list_opens, changes_go_on}

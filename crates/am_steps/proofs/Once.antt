@@ -2,8 +2,8 @@
 use Rattle.am_steps.proofs.Words.{idle_queues, ◌≡◌, ⊎_elim, ℕ, ◌+◌, ◌≤◌, List, [], refl, sym, ap, subst, arith, Outcome, Rules, Act, Event, Node, Ballot}
 use Rattle.am_steps.proofs.Words.{set_at, Verdict, Step, World, start, record_of, with_record, with_step, run, split, Cause, calls, Looks, finds_itself_out}
 use Rattle.am_steps.proofs.Words.{Change, refreshes, settles, looks, queues, collects, closes, Answers, WasQueued, AnswersAsk, Effect, actor, IsCall, IsCause}
-use Rattle.am_steps.proofs.Words.{IsIdle, idles, stops, returns, steps, rests_refresh, rests_closed, settle_is, along, EachKeeps, runs_keep, after_step}
-use Rattle.am_steps.proofs.Words.{AskedOk, asked_more, asked_other, unique, SendsOnce}
+use Rattle.am_steps.proofs.Words.{idles, stops, returns, steps, rests_refresh, rests_closed, settle_is, along, EachKeeps, runs_keep, after_step, AskedOk}
+use Rattle.am_steps.proofs.Words.{asked_more, asked_other, unique, SendsOnce}
 use Rattle.am_base.specs.declared.outcome.Outcome.TheVariants as said
 use Rattle.am_base.specs.declared.event.NodeEvent.TheVariants as does
 use Rattle.am_sender.specs.Sends as own

@@ -16,7 +16,5 @@ asking_stays status.Member a d = cc
 asking_stays status.Departed a d = cc
 
 pub departed_is : (t : Status) → has_departed t ≡ true → t ≡ status.Departed
-departed_is status.Stranger d = absurd (cc)
-departed_is status.Asking d = absurd (cc)
-departed_is status.Member d = absurd (cc)
 departed_is status.Departed d = refl
+departed_is _ d = absurd (cc)

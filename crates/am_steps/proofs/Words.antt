@@ -60,7 +60,7 @@ pub use Rattle.am_chain_moves.specs.Group.{Group, chain_of, IsUp, IsThere}
 pub use Rattle.am_chain_moves.specs.Moves.{longer, with_node}
 pub use Rattle.am_chain_moves.specs.Kept.{Kept}
 pub use Rattle.am_chain_moves.proofs.Puts.{put_same}
-pub use Rattle.am_effects.specs.Events.{actor, steps, IsCall, IsCause, IsIdle, idles, stops, returns, WasSentTo}
+pub use Rattle.am_effects.specs.Events.{actor, steps, IsCall, IsCause, idles, stops, returns, WasSentTo}
 pub use Rattle.am_effects.proofs.Runs.{EachKeeps, runs_keep, along}
 pub use Rattle.am_effects.proofs.Resets.{same_stamp, stamp_itself}
 pub use Rattle.am_effects.specs.Causes.{Cause, hears, by_request, BringsReport, with_send, BringsFronts, with_entry as by_entry, with_number, alone}

@@ -3,8 +3,8 @@ use Rattle.am_unballoted.proofs.Words.{◌≡◌, ℕ, ◌+◌, ◌-◌, ◌<◌
 use Rattle.am_unballoted.proofs.Words.{refl, sym, ap, ◌∙◌, subst, arith, nat_tests, Stamp, Entry, Leave, Image, Outcome, Rules, stamp_lt, accept, pass_over}
 use Rattle.am_unballoted.proofs.Words.{own_report, tell, go_on, let_go, Status, Node, Ballot, acts, is_member, is_sequencer, push_entry, has_log, advance}
 use Rattle.am_unballoted.proofs.Words.{lead, refresh, settle, refresh_at_end, overtake, begin_list, split, and_both, Cause, hears, MayBeWelcomed, Change}
-use Rattle.am_unballoted.proofs.Words.{refreshes, settles, begins_list, departs, promises, opens, looks, stores_view, queues, collects, takes, asks_to_join}
-use Rattle.am_unballoted.proofs.Words.{closes, Changes, unchanged, changed, rests_refresh, rests_closed, settle_is, logged, asking_log, asking}
+use Rattle.am_unballoted.proofs.Words.{refreshes, settles, begins_list, departs, promises, opens, looks, queues, collects, takes, asks_to_join, closes}
+use Rattle.am_unballoted.proofs.Words.{Changes, unchanged, changed, rests_refresh, rests_closed, settle_is, logged, asking_log, asking}
 use Rattle.am_base.specs.declared.outcome.Outcome.TheVariants as said
 use Rattle.am_packet.specs.declared.packet.Packet.TheVariants as packet
 use Rattle.am_sender.specs.Sends as own
@@ -168,8 +168,6 @@ gave_change rules list acc i k m n h (departs s v number is heard leaves) none g
     gave_still k m n refl refl (still_log m.status (and_both (not (s == m.core.who)) (is_member m.status) heard).1) g
 gave_change rules list acc i k m n h (opens least resilience by may) none g = absurd (cc)
 gave_change rules list acc i k m n h (looks b verdict over why look is) none g = absurd (looks_leave m b verdict look none)
-gave_change rules list acc i k m n h (stores_view s v base number names resilience is heard own_ other promise below may) none g =
-    gave_still k m n refl refl refl g
 gave_change rules list acc i k m n h (takes e is says member some there) none g = gave_taken rules list acc i k m n e h member some says refl g
 gave_change rules list acc i k m n h (asks_to_join is was) none g = gave_still k m n refl refl (sym (ap has_log was)) g
 gave_change rules list acc i k m n h (closes leads leaves last room) none g =

@@ -105,10 +105,8 @@ first_told rules m h =
 -- ---- an entry more
 
 small : (e : Entry) → is_view e ≡ false → SmallName e
-small (Data from req body) f = tt
-small (Join name) f = tt
-small (Leave name) f = tt
 small (View stamp names resilience) f = absurd (cc)
+small _ f = tt
 
 group_push : (rules : Rules) (list : List Entry) (e : Entry) → is_view e ≡ false → IsGroup rules list → IsGroup rules (list ++ e ∷ [])
 group_push rules list e f h = record { rest = h.rest ++ e ∷ []; is = ap (λ l. l ++ e ∷ []) h.is; plain = All-push (λ x. is_view x ≡ false) h.rest e h.plain f }

@@ -12,11 +12,10 @@ use Rattle.am_sender.specs.Sends as own
 use Rattle.am_model.specs.declared.status.Status.TheVariants as status
 use Rattle.am_model.specs.Node as nodes
 use Rattle.am_chain_lists.proofs.Rows as rows
-use Rattle.am_unballoted.proofs.{Kept.first_of, Kept.At, Kept.ListOk, Kept.NodeOk, Kept.CauseOk, Kept.node_more, Changes.found_at, Changes.settle_ok}
-use Rattle.am_unballoted.proofs.{Changes.queued_ok, Changes.collected_ok, Others.same_node, Others.looks_leave, Others.promised_first, Others.with_status}
-use Rattle.am_unballoted.proofs.{Others.with_promise, Others.taken_ok, Turns.Turn, Turns.waiting_is, Turns.one_more, Turns.waiting_settled}
-use Rattle.am_unballoted.proofs.{Turns.collected_turn, First.group_view, First.base_as, First.OwnOk, First.FirstBase, First.FirstOk, First.first_told}
-use Rattle.am_unballoted.proofs.{First.first_push}
+use Rattle.am_unballoted.proofs.{Kept.first_of, Kept.NodeOk, Kept.CauseOk, Kept.node_more, Changes.found_at, Changes.settle_ok, Changes.queued_ok}
+use Rattle.am_unballoted.proofs.{Changes.collected_ok, Others.same_node, Others.looks_leave, Others.promised_first, Others.with_status, Others.with_promise}
+use Rattle.am_unballoted.proofs.{Others.taken_ok, Turns.Turn, Turns.waiting_is, Turns.one_more, Turns.waiting_settled, Turns.collected_turn, First.group_view}
+use Rattle.am_unballoted.proofs.{First.base_as, First.OwnOk, First.FirstBase, First.FirstOk, First.first_told, First.first_push}
 
 -- ---- what is accepted goes on
 
@@ -40,13 +39,6 @@ risen m told base reports = record m {
   };
   reports = reports;
 }
-
--- the same whole list, of which more is accepted
-same_list : (list : List Entry) (acc to : ℕ) (log : Log) → acc ≤ to → ListOk list acc log → ListOk list to log
-same_list list acc to log up h = record { start = let a = h.start in omega arith; image = h.image; within = h.within }
-
-at_up : (list : List Entry) (acc to number : ℕ) (e : Entry) → acc ≤ to → At list acc number e → At list to number e
-at_up list acc to number e up h = record { low = let a = h.low in omega arith; there = h.there }
 
 pub node_up : (rules : Rules) (list : List Entry) (acc to i : ℕ) (m : Node) → acc ≤ to → NodeOk rules list acc i m → NodeOk rules list to i m
 node_up rules list acc to i m up h = subst (λ l. NodeOk rules l to i m) (append-nil list) (node_more rules list [] acc to i m up h)
@@ -220,11 +212,9 @@ numbered_fits rules c m e h member (asked_leave s v report is other known stays)
 
 -- it spares itself
 numbered_spares : (rules : Rules) (c : Cause) (m : Node) (e : Entry) → m.core.who ≡ first_of rules → Numbers c m e → rows.Spares (first_of rules) e
-numbered_spares rules c m e who (asked_send s v report req body by known stays next) = tt
-numbered_spares rules c m e who (own_send s is last) = tt
-numbered_spares rules c m e who (asked_join s v is other fit) = tt
 numbered_spares rules c m e who (asked_leave s v report is other known stays) =
     λ same. (let z : s ≡ m.core.who = same ∙ sym who in absurd (let y : ⊥ = grind (arith, nat_tests) in y))
+numbered_spares rules c m e who _ = tt
 
 -- ---- what it doesn't hear
 

@@ -20,14 +20,12 @@ record LivesOk (w : World) : Type 0 where
 
 lives_keep : EachKeeps LivesOk
 unfolding with_record with_step
-lives_keep w e v (idles o idle) h = record { each = h.each }
-lives_keep w e v (stops runs) h = record { each = h.each }
 lives_keep w e v (returns place is gone more) h = record {
   each = λ p. split (p == place)
       (λ t. let low = (h.each place).1 in let other : w.lives place ≢ 16 = (λ z. let y : ⊥ = grind (arith, nat_tests) in y) in rw t (omega arith, omega arith))
       (λ f. rw f (h.each p));
 }
-lives_keep w e v (steps c s runs cause effect) h = record { each = h.each }
+lives_keep w e v _ h = record { each = h.each }
 
 lives_run : (rules : Rules) (events : List Event) → LivesOk (run rules events)
 lives_run rules events = runs_keep LivesOk lives_keep (start rules) events (record { each = λ place. (omega arith, omega arith) })

@@ -17,11 +17,6 @@ unfolding Each
 each_of P Q f [] h = tt
 each_of P Q f (x ∷ xs) (h, hs) = (f x h, each_of P Q f xs hs)
 
-pub each_both : {A : Type 0} (P Q : A → Type 0) (xs : List A) → Each P xs → Each Q xs → Each (λ x. P x × Q x) xs
-unfolding Each
-each_both P Q [] h g = tt
-each_both P Q (x ∷ xs) (h, hs) (g, gs) = ((h, g), each_both P Q xs hs gs)
-
 pub each_filter : {A : Type 0} (P : A → Type 0) (p : A → Bool) (xs : List A) → Each P xs → Each (λ x. P x × (p x ≡ true)) (filter p xs)
 unfolding Each
 each_filter P p [] h = tt

@@ -1,8 +1,7 @@
 -- Where a View stands in the group list.
 use Rattle.std.proofs.lemmas.Bool.{le-leb}
 use Rattle.std.proofs.lemmas.Bool.{lt-leb}
-use Rattle.std.proofs.Common.{◌≡◌, ℕ, zero, suc, ◌+◌, ◌<◌, ◌≤◌, true, false, nat_le, List, [], ◌∷◌, ◌++◌, length, take, Option, None, refl, sym, ap, ◌∙◌, arith}
-use Rattle.std.proofs.lemmas.Bool.Decides.{nat_tests}
+use Rattle.std.proofs.Common.{◌≡◌, ℕ, zero, suc, ◌+◌, ◌<◌, true, false, List, [], ◌∷◌, ◌++◌, length, take, None, refl, sym, ap, ◌∙◌, arith}
 use Rattle.std.specs.List.{list_any}
 use Rattle.am_base.specs.declared.name.Stamp.{Stamp}
 use Rattle.am_base.specs.declared.entry.Entry.{Entry}
@@ -39,9 +38,6 @@ number_none s number [] h = refl
 number_none s number (e ∷ es) h = split (is_view_of s e)
     (λ t. let b : true ≡ false = rw t at h in absurd (cc))
     (λ t. let b : list_any (is_view_of s) es ≡ false = rw t at h in rw t (number_none s (number + 1) es b))
-
-same_none : (o : Option ℕ) → o ≡ or_else None o
-same_none o = refl
 
 pub number_append : (s : Stamp) (number : ℕ) (xs ys : List Entry)
     → number_of s number (xs ++ ys) ≡ or_else (number_of s number xs) (number_of s (number + length xs) ys)

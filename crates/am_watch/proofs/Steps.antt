@@ -29,7 +29,7 @@ use Rattle.am_watch.specs.declared.views.Pending.{Pending}
 use Rattle.am_watch.specs.Watching as kept
 use Rattle.am_watch.specs.Watching.{Watching, blank_standing, standing, is_by, number_of, or_else, same_flag, is_alike, with_standing, new_pending}
 use Rattle.am_watch.specs.Watching.{decided_views, with_decided}
-use Rattle.am_watch.specs.Watching.{with_entries, store_view, note_entries, note_entry, is_view, finish, watch_step, stop, pass, place_among, accept}
+use Rattle.am_watch.specs.Watching.{with_entries, store_view, note_entries, note_entry, is_view, finish, watch_step, pass, place_among, accept}
 use Rattle.am_watch.specs.Watches.{standing_of, view_of, decided_of, has_in_list, comes_after, Each, Sees, IsNoted, WatchesUpTo, Watches, after, IsNew, Steps}
 use Rattle.am_watch.specs.Watches.{SteppedTo, SameBut, StepsAreWatched, StopsAreWatched, OthersAreWatched, EntriesGoOn, AcceptedGoesOn}
 use Rattle.am_watch.proofs.Order.{same_stamp}
@@ -288,10 +288,6 @@ alike_parts before after h =
 alike_self : (m : Standing) → IsAlike m m
 alike_self m = record { view = refl; gone = refl; from = refl; start = refl }
 
-alike_either : (b : Bool) (m after : Standing) → IsAlike m after → IsAlike m (if b then after else m)
-alike_either true m after h = h
-alike_either false m after h = alike_self m
-
 standings_alike : (k : Watching) (name other : ℕ) (after : Standing) → name < length k.names → IsAlike (standing k name) after
     → IsAlike (standing k other) (standing (with_standing k name after) other)
 standings_alike k name other after h alike =
@@ -339,23 +335,12 @@ not_decided true false c h = refl
 not_decided false b c h = refl
 
 pub view_one : (s : Stamp) (e : Entry) → is_view e ≡ false → is_view_of s e ≡ false
-view_one s (Data from req body) h = refl
-view_one s (Join name) h = refl
-view_one s (Leave name) h = refl
 view_one s (View stamp members resilience) h = absurd (cc)
-
-no_view : (s : Stamp) (entries : List Entry) → list_any is_view entries ≡ false → list_any (is_view_of s) entries ≡ false
-no_view s [] h = refl
-no_view s (e ∷ es) h =
-    let both = or_parts (is_view e) (list_any is_view es) h in
-    let one = view_one s e both.0 in
-    rw one (no_view s es both.1)
+view_one s _ h = refl
 
 entry_none : (name : ℕ) (e : Entry) (ps : List Pending) → is_view e ≡ false → note_entry name e ps ≡ ps
-entry_none name (Data from req body) ps h = refl
-entry_none name (Join joiner) ps h = refl
-entry_none name (Leave leaver) ps h = refl
 entry_none name (View stamp members resilience) ps h = absurd (cc)
+entry_none name _ ps h = refl
 
 noted_none : (name : ℕ) (entries : List Entry) (ps : List Pending) → list_any is_view entries ≡ false → note_entries name entries ps ≡ ps
 unfolding note_entries

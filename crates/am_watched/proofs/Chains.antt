@@ -1,13 +1,11 @@
 -- What the changes of a step do to a node's entries, one after another.
-use Rattle.am_watched.proofs.Words.{in_view_log, welcomed_none, none_of_asking, logged, ◌≡◌, ℕ, ◌≤◌, ◌==◌, ◌&&◌, ◌||◌, not, true, false, List, [], ◌∷◌, ◌++◌}
-use Rattle.am_watched.proofs.Words.{refl, sym, ap, ◌∙◌, append_assoc, arith, Outcome, Stamp, Image, Entry, View, Leave, stamp_eq, Log, Status, Node, Ballot}
-use Rattle.am_watched.proofs.Words.{view, acts, is_sequencer, is_member, is_asking, push_entry, has_log, Verdict, refresh, settle, hears_member}
-use Rattle.am_watched.proofs.Words.{hears_in_view, hears_sequencer, split, and_both, Cause, hears, HasOpen, Balloting, with_more, without_one, as_it_is}
-use Rattle.am_watched.proofs.Words.{Looks, finds_itself_out, decides, MayBeWelcomed, Change, refreshes, settles, numbers, stores, begins_list, departs, looks}
-use Rattle.am_watched.proofs.Words.{fetches, stores_view, asks_to_join, closes, Changes, unchanged, changed, rests_refresh, rests_at_end, settle_is, HasNames}
-use Rattle.am_watched.proofs.Words.{HeardNames, Balloted, changes_do}
+use Rattle.am_watched.proofs.Words.{in_view_log, welcomed_none, logged, ◌≡◌, ℕ, ◌≤◌, ◌==◌, not, true, false, List, [], ◌∷◌, ◌++◌, refl, sym, ap, ◌∙◌}
+use Rattle.am_watched.proofs.Words.{append_assoc, arith, Outcome, Stamp, Image, Entry, View, Leave, stamp_eq, Log, Node, Ballot, view, acts, is_sequencer}
+use Rattle.am_watched.proofs.Words.{is_member, push_entry, has_log, Verdict, refresh, settle, hears_member, split, and_both, Cause, hears, HasOpen, Balloting}
+use Rattle.am_watched.proofs.Words.{with_more, without_one, as_it_is, Looks, finds_itself_out, decides, Change, refreshes, settles, numbers, stores}
+use Rattle.am_watched.proofs.Words.{begins_list, departs, looks, fetches, stores_view, asks_to_join, closes, Changes, unchanged, changed, rests_refresh}
+use Rattle.am_watched.proofs.Words.{rests_at_end, settle_is, HasNames, HeardNames, Balloted, changes_do}
 use Rattle.am_packet.specs.declared.packet.Packet.TheVariants as packet
-use Rattle.am_model.specs.declared.status.Status.TheVariants as status
 
 -- ---- who has a list
 

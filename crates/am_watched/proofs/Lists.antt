@@ -1,9 +1,9 @@
 -- A name's step only adds entries to its list.
-use Rattle.am_watched.proofs.Words.{is_itself, ◌≡◌, ℕ, ◌<◌, ◌≤◌, ◌==◌, Bool, true, false, if◌then◌else◌, List, [], ◌++◌, length, drop, refl, sym, ap, ◌∙◌}
-use Rattle.am_watched.proofs.Words.{subst, arith, All, append-nil, drop-append_seam, nat_tests, Rules, MayFound, has, Packet, Event, Node, has_log, Step}
-use Rattle.am_watched.proofs.Words.{World, start, first_node, with_record, with_step, run, heard_by, split, Cause, Effect, actor, WasSentTo, IsCause, idles}
-use Rattle.am_watched.proofs.Words.{stops, returns, steps, along, EachKeeps, runs_keep, accepted_of, NodeNumbers, AllNamed, few_names, each_named}
-use Rattle.am_watched.proofs.Words.{numbers_hold, AllViews, heard_names, each_views, views_start, ListsGoOn}
+use Rattle.am_watched.proofs.Words.{is_itself, ◌≡◌, ℕ, ◌<◌, ◌≤◌, ◌==◌, Bool, false, if◌then◌else◌, List, [], ◌++◌, length, drop, refl, sym, ap, ◌∙◌, subst}
+use Rattle.am_watched.proofs.Words.{arith, All, append-nil, drop-append_seam, Rules, MayFound, has, Packet, Event, Node, has_log, Step, World, start}
+use Rattle.am_watched.proofs.Words.{first_node, with_record, with_step, run, heard_by, split, Cause, Effect, actor, WasSentTo, IsCause, idles, stops, returns}
+use Rattle.am_watched.proofs.Words.{steps, along, EachKeeps, runs_keep, accepted_of, NodeNumbers, AllNamed, few_names, each_named, numbers_hold, AllViews}
+use Rattle.am_watched.proofs.Words.{heard_names, each_views, views_start, ListsGoOn}
 use Rattle.am_packet.specs.declared.packet.Packet.TheVariants as packet
 use Rattle.am_watched.proofs.Chains.{IsLonger, changes_longer, HeardLow, change_begins, changes_stay}
 

@@ -1,7 +1,7 @@
 -- A view is noted with the members that its View names: in the step that decides it nothing changes them any more.
 use Rattle.am_watched.proofs.Words.{welcomed_none, numbers_plain, or_second, stamp_itself, same_stamp, ◌≡◌, ◌⊎◌, inl, inr, ⊎_elim, ℕ, ◌+◌, ◌<◌, ◌==◌, ◌&&◌}
-use Rattle.am_watched.proofs.Words.{◌||◌, not, max, nat_lt, Bool, true, false, List, length, slice_index, Option, Some, None, refl, sym, ap, ◌∙◌, subst}
-use Rattle.am_watched.proofs.Words.{arith, nat_tests, Entry, Data, Join, Leave, View, Vote, Image, Stamp, Outcome, stamp_lt, stamp_eq, Log, members_of, fits}
+use Rattle.am_watched.proofs.Words.{not, max, nat_lt, Bool, true, false, List, length, slice_index, Option, Some, None, refl, sym, ap, ◌∙◌, subst, arith}
+use Rattle.am_watched.proofs.Words.{nat_tests, Entry, Data, Join, Leave, View, Vote, Image, Stamp, Outcome, stamp_lt, stamp_eq, Log, members_of, fits}
 use Rattle.am_watched.proofs.Words.{entry_at, told_by, Node, Ballot, top, image_of, view, members, unsettled_count, push_entry, trim_up_to, has_log, Verdict}
 use Rattle.am_watched.proofs.Words.{overtake, need_of, left_in, trim_for, is_unfinished, is_view, refresh, split, and_both, Cause, calls, hears, was_reset}
 use Rattle.am_watched.proofs.Words.{was_handed, was_fetched, HasOpen, Balloting, with_more, without_one, as_it_is, Looks, finds_itself_out, decides, Numbers}
@@ -47,14 +47,14 @@ piece_stamp _ v = v
 fetched_for : (c : Cause) (v : Stamp) → LooksBy c v → (s : ℕ) (u : Stamp) (base number : ℕ) (e : Entry) → c ≡ hears (packet.Piece s u base number e)
     → stamp_eq v u ≡ false → ⊥
 unfolding piece_stamp
-fetched_for c v (by_vote s u shown is) s2 u2 base number e also below = absurd (cc)
-fetched_for c v (by_giving_up name is) s2 u2 base number e also below = absurd (cc)
-fetched_for c v (by_reset least resilience is) s2 u2 base number e also below = absurd (cc)
-fetched_for c v (by_hand_over s u is) s2 u2 base number e also below = absurd (cc)
 fetched_for c v (by_piece s u b2 n2 e2 is at) s2 u2 base number e also below =
     let same : u ≡ u2 = ap (λ x. piece_stamp x v) (sym is ∙ also) in
     let t : stamp_eq v u2 ≡ true = subst (λ x. stamp_eq v x ≡ true) same at in
     cc
+fetched_for c v (by_vote s u shown is) s2 u2 base number e also below = absurd (cc)
+fetched_for c v (by_giving_up name is) s2 u2 base number e also below = absurd (cc)
+fetched_for c v (by_reset least resilience is) s2 u2 base number e also below = absurd (cc)
+fetched_for c v (by_hand_over s u is) s2 u2 base number e also below = absurd (cc)
 
 looks_by : (c : Cause) (m : Node) (b : Ballot) → Balloting c m b → m.core.promise ≡ b.stamp → LooksBy c b.stamp
 looks_by c m b (with_more old s v shown is by low high open_ same stays) promised = by_vote s v shown is

@@ -1,12 +1,12 @@
 -- In every run a view that is decided is a new one: its View stood nowhere before.
 use Rattle.am_watched.proofs.Words.{view_rises, logged, stamp_itself, same_stamp, ◌≡◌, ◌⊎◌, ⊎_elim, ℕ, ◌-◌, ◌==◌, not, true, false, List, [], length, refl}
 use Rattle.am_watched.proofs.Words.{sym, ap, ◌∙◌, subst, arith, All, nat_tests, list_any_none, All-nil, All-cons, All-append, All-weaker, All-take, All-drop}
-use Rattle.am_watched.proofs.Words.{Stamp, Entry, Data, Join, Leave, View, Rules, MayFound, has, rank_of, stamp_lt, stamp_eq, no_stamp, fold, after, Packet}
-use Rattle.am_watched.proofs.Words.{Letter, Event, Node, view, acts, is_member, set_at, founders_view, lowest_or_first, has_log, Step, World, start}
-use Rattle.am_watched.proofs.Words.{first_node, with_step, group_after, run, is_view_of, heard_by, split, and_both, Cause, MayTell, leads, decided, Says}
-use Rattle.am_watched.proofs.Words.{piece, result, LetterSays, Effect, actor, WasSentTo, IsCause, all_get, all_item, EachKeeps, StepsKeep, SameParts}
-use Rattle.am_watched.proofs.Words.{law_keeps, runs_keep, stamp_of, first_founder, few_names, at_most, not_above_itself, SameView, Stood, Balloted, Does}
-use Rattle.am_watched.proofs.Words.{changes_do, heard_names, says_stamp, DecidedAreNew}
+use Rattle.am_watched.proofs.Words.{Stamp, Entry, View, Rules, MayFound, has, rank_of, stamp_lt, stamp_eq, no_stamp, fold, after, Packet, Letter, Event, Node}
+use Rattle.am_watched.proofs.Words.{view, acts, is_member, set_at, founders_view, lowest_or_first, has_log, Step, World, start, first_node, with_step}
+use Rattle.am_watched.proofs.Words.{group_after, run, is_view_of, heard_by, split, and_both, Cause, MayTell, leads, decided, Says, piece, result, LetterSays}
+use Rattle.am_watched.proofs.Words.{Effect, actor, WasSentTo, IsCause, all_get, all_item, EachKeeps, StepsKeep, SameParts, law_keeps, runs_keep, stamp_of}
+use Rattle.am_watched.proofs.Words.{first_founder, few_names, at_most, not_above_itself, SameView, Stood, Balloted, Does, changes_do, heard_names, says_stamp}
+use Rattle.am_watched.proofs.Words.{DecidedAreNew}
 use Rattle.am_packet.specs.declared.packet.Packet.TheVariants as packet
 use Rattle.am_model.specs.declared.status.Status.TheVariants as status
 use Rattle.am_play.specs.World as runs
@@ -62,10 +62,8 @@ module _ (nodes : ℕ → Node) (name : ℕ) (n : Node) (d : Does (nodes name) n
       (λ f. record { low = rw f h.low; has_list = rw f h.has_list })
 
   known_up : (e : Entry) → Known nodes e → Known (set_at nodes name n) e
-  known_up (Data from req body) h = tt
-  known_up (Join joiner) h = tt
-  known_up (Leave leaver) h = tt
   known_up (View stamp names resilience) h = known_stamp stamp h
+  known_up _ h = tt
 
   own_known : (v : Stamp) → IsOwn name n v → IsKnown (set_at nodes name n) v
   own_known v o =
@@ -73,10 +71,8 @@ module _ (nodes : ℕ → Node) (name : ℕ) (n : Node) (d : Does (nodes name) n
       record { low = rw t o.low; has_list = rw t o.has_list }
 
   chained_known : (e : Entry) → Chained nodes name n e → Known (set_at nodes name n) e
-  chained_known (Data from req body) h = tt
-  chained_known (Join joiner) h = tt
-  chained_known (Leave leaver) h = tt
   chained_known (View stamp names resilience) h = ⊎_elim (λ (k : IsKnown nodes stamp). known_stamp stamp k) (λ (o : IsOwn name n stamp). own_known stamp o) h
+  chained_known _ h = tt
 
   packet_up : (p : Packet) → PacketKnown nodes p → PacketKnown (set_at nodes name n) p
   packet_up (packet.Piece s v base number e) h = known_up e h
@@ -288,9 +284,6 @@ is_decided name m n who d h =
 -- no View that is known is its
 other_view : (nodes : ℕ → Node) (name : ℕ) (v : Stamp) → v.by ≡ name → stamp_lt (view (nodes name)) v ≡ true → (e : Entry) → Known nodes e
     → is_view_of v e ≡ false
-other_view nodes name v by above (Data from req body) h = refl
-other_view nodes name v by above (Join joiner) h = refl
-other_view nodes name v by above (Leave leaver) h = refl
 other_view nodes name v by above (View stamp names resilience) h = split (stamp_eq stamp v)
     (λ t.
     let same : stamp ≡ v = same_stamp stamp v t in
@@ -298,6 +291,7 @@ other_view nodes name v by above (View stamp names resilience) h = split (stamp_
     let mine : stamp_lt (view (nodes name)) v ≡ false = subst (λ k. stamp_lt (view (nodes k)) v ≡ false) by low in
     absurd (cc))
     (λ f. f)
+other_view nodes name v by above _ h = refl
 
 pub decided_are_new : DecidedAreNew
 decided_are_new rules events e c s may runs_ cause effect decides_ =

@@ -1,14 +1,13 @@
 -- Views of a name come from that name alone: along the changes of a step, its promise never falls, what it tells is what it decided, and
 -- each View in its list is of another name's list or is not above its own view.
 use Rattle.am_watched.proofs.Words.{eqb-false, not_both, view_rises, of_open, next_above, welcomed_none, eqb-true, ◌≡◌, ◌⊎◌, inl, inr, ⊎_elim, ℕ, ◌+◌, ◌==◌}
-use Rattle.am_watched.proofs.Words.{◌||◌, not, Bool, true, false, List, [], ◌∷◌, ◌++◌, Option, Some, nat_lt, refl, sym, ap, ◌∙◌, subst, arith, All, nat_tests}
-use Rattle.am_watched.proofs.Words.{All-nil, All-cons, All-append, All-weaker, Outcome, Stamp, Entry, Data, Join, Leave, View, stamp_lt, Log, Packet, Node}
-use Rattle.am_watched.proofs.Words.{Ballot, view, is_member, is_asking, push_entry, has_log, Verdict, next_stamp, need_of, left_in, trim_for, refresh, settle}
-use Rattle.am_watched.proofs.Words.{is_view, and_both, Cause, hears, HasOpen, Balloting, with_more, without_one, as_it_is, Looks, decides, Promises, invited}
-use Rattle.am_watched.proofs.Words.{overtaken_by, told_result, Change, refreshes, settles, numbers, stores, begins_list, promises, opens, looks, fetches}
-use Rattle.am_watched.proofs.Words.{stores_view, closes, Changes, unchanged, changed, rests_refresh, rests_at_end, settle_is, stamp_of, at_most, not_above}
-use Rattle.am_watched.proofs.Words.{not_above_itself, HasNames, HeardNames, Goes, SameView, Stood, view_last, Balloted, IsOpen, OpenBallot, Does, changes_do}
-use Rattle.am_watched.proofs.Words.{numbers_plain}
+use Rattle.am_watched.proofs.Words.{◌||◌, not, true, false, List, [], ◌∷◌, ◌++◌, Option, Some, refl, sym, ap, ◌∙◌, subst, arith, All, nat_tests, All-nil}
+use Rattle.am_watched.proofs.Words.{All-cons, All-append, All-weaker, Outcome, Stamp, Entry, Leave, View, stamp_lt, Log, Packet, Node, Ballot, view}
+use Rattle.am_watched.proofs.Words.{is_member, is_asking, push_entry, has_log, Verdict, next_stamp, need_of, left_in, trim_for, refresh, settle, is_view}
+use Rattle.am_watched.proofs.Words.{and_both, Cause, hears, Balloting, with_more, without_one, as_it_is, Looks, decides, Promises, invited, overtaken_by}
+use Rattle.am_watched.proofs.Words.{told_result, Change, refreshes, settles, numbers, stores, begins_list, promises, opens, looks, fetches, stores_view}
+use Rattle.am_watched.proofs.Words.{closes, Changes, unchanged, changed, rests_refresh, rests_at_end, settle_is, stamp_of, at_most, not_above}
+use Rattle.am_watched.proofs.Words.{not_above_itself, HasNames, HeardNames, view_last, Balloted, IsOpen, Does, changes_do, numbers_plain}
 use Rattle.am_base.specs.declared.outcome.Outcome.TheVariants as said
 use Rattle.am_packet.specs.declared.packet.Packet.TheVariants as packet
 use Rattle.am_watched.proofs.Chains.{looked_log}
@@ -25,10 +24,8 @@ pub record IsKnown (nodes : ℕ → Node) (v : Stamp) : Type 0 where
   pub has_list : has_log (nodes v.by).status ≡ true
 
 abbrev pub Known : (ℕ → Node) → Entry → Type 0
-Known nodes (Data from req body) = Unit {0}
-Known nodes (Join name) = Unit {0}
-Known nodes (Leave name) = Unit {0}
 Known nodes (View stamp names resilience) = IsKnown nodes stamp
+Known nodes _ = Unit {0}
 
 -- what is heard was known
 pub record HeardOwn (nodes : ℕ → Node) (c : Cause) : Type 0 where
@@ -49,10 +46,8 @@ pub record IsOwn (name : ℕ) (x : Node) (v : Stamp) : Type 0 where
   pub has_list : has_log x.status ≡ true
 
 abbrev pub Chained : (ℕ → Node) → ℕ → Node → Entry → Type 0
-Chained nodes name x (Data from req body) = Unit {0}
-Chained nodes name x (Join joiner) = Unit {0}
-Chained nodes name x (Leave leaver) = Unit {0}
 Chained nodes name x (View stamp names resilience) = IsKnown nodes stamp ⊎ IsOwn name x stamp
+Chained nodes name x _ = Unit {0}
 
 pub record Along (nodes : ℕ → Node) (name : ℕ) (x : Node) : Type 0 where
   pub who : x.core.who ≡ name
@@ -62,9 +57,6 @@ pub record Along (nodes : ℕ → Node) (name : ℕ) (x : Node) : Type 0 where
   pub entries : All (Chained nodes name x) x.core.log.entries
 
 chained_up : (nodes : ℕ → Node) (name : ℕ) (x y : Node) → Does x y → (e : Entry) → Chained nodes name x e → Chained nodes name y e
-chained_up nodes name x y d (Data from req body) h = tt
-chained_up nodes name x y d (Join joiner) h = tt
-chained_up nodes name x y d (Leave leaver) h = tt
 chained_up nodes name x y d (View stamp names resilience) h = ⊎_elim
     (λ (k : IsKnown nodes stamp). inl k)
     (λ (o : IsOwn name x stamp). inr (record {
@@ -74,18 +66,15 @@ chained_up nodes name x y d (View stamp names resilience) h = ⊎_elim
           d.log_ o.has_list;
     }))
     h
+chained_up nodes name x y d _ h = tt
 
 pub known_chained : (nodes : ℕ → Node) (name : ℕ) (x : Node) (e : Entry) → Known nodes e → Chained nodes name x e
-known_chained nodes name x (Data from req body) h = tt
-known_chained nodes name x (Join joiner) h = tt
-known_chained nodes name x (Leave leaver) h = tt
 known_chained nodes name x (View stamp names resilience) h = inl h
+known_chained nodes name x _ h = tt
 
 plain_chained : (nodes : ℕ → Node) (name : ℕ) (x : Node) (e : Entry) → is_view e ≡ false → Chained nodes name x e
-plain_chained nodes name x (Data from req body) h = tt
-plain_chained nodes name x (Join joiner) h = tt
-plain_chained nodes name x (Leave leaver) h = tt
 plain_chained nodes name x (View stamp names resilience) h = absurd (cc)
+plain_chained nodes name x _ h = tt
 
 -- ---- the kinds of changes
 

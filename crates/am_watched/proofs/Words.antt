@@ -1,6 +1,6 @@
 -- The words of this crate's proofs, of the crates and definitions that they come from.
-pub use Rattle.std.proofs.Common.{◌≡◌, ℕ, ◌≤◌, ◌==◌, ◌&&◌, ◌||◌, not, true, false, List, [], ◌∷◌, ◌++◌, refl, sym, ap, ◌∙◌, append_assoc, arith, ◌<◌, Bool}
-pub use Rattle.std.proofs.Common.{if◌then◌else◌, length, drop, subst, ◌⊎◌, inl, inr, ⊎_elim, ◌+◌, max, nat_lt, slice_index, Option, Some, None, ◌-◌}
+pub use Rattle.std.proofs.Common.{◌≡◌, ℕ, ◌≤◌, ◌==◌, not, true, false, List, [], ◌∷◌, ◌++◌, refl, sym, ap, ◌∙◌, append_assoc, arith, ◌<◌, Bool, if◌then◌else◌}
+pub use Rattle.std.proofs.Common.{length, drop, subst, ◌⊎◌, inl, inr, ⊎_elim, ◌+◌, ◌&&◌, max, nat_lt, slice_index, Option, Some, None, ◌-◌, ◌||◌}
 pub use Rattle.std.proofs.Math.Seq.{drop-append_seam}
 pub use Rattle.std.proofs.lemmas.Bool.{eqb-false, eqb-true}
 pub use Rattle.std.proofs.lemmas.Bool.Decides.{nat_tests}
@@ -25,12 +25,11 @@ pub use Rattle.am_packet.specs.declared.packet.Packet.{Packet}
 pub use Rattle.am_packet.specs.Boxes.{Letter}
 pub use Rattle.am_codec.specs.Spelling.{stamp_of}
 pub use Rattle.am_group.specs.declared.event.Event.{Event}
-pub use Rattle.am_model.specs.declared.status.Status.{Status}
-pub use Rattle.am_model.specs.Node.{Node, Ballot, view, acts, is_sequencer, is_member, is_asking, push_entry, has_log, top, image_of, members}
-pub use Rattle.am_model.specs.Node.{unsettled_count, trim_up_to, set_at, founders_view, lowest_or_first}
+pub use Rattle.am_model.specs.Node.{Node, Ballot, view, acts, is_sequencer, is_member, push_entry, has_log, top, image_of, members, unsettled_count}
+pub use Rattle.am_model.specs.Node.{trim_up_to, set_at, founders_view, lowest_or_first, is_asking}
 pub use Rattle.am_model.specs.Ballots.{Verdict, overtake, need_of, left_in, trim_for, next_stamp}
 pub use Rattle.am_model.specs.Refresh.{refresh, settle}
-pub use Rattle.am_model.specs.Hearing.{hears_member, hears_in_view, hears_sequencer}
+pub use Rattle.am_model.specs.Hearing.{hears_member}
 pub use Rattle.am_model.specs.Emit.{Step}
 pub use Rattle.am_model.specs.Calls.{is_unfinished}
 pub use Rattle.am_model.specs.Receiving.{is_view}
@@ -52,10 +51,9 @@ pub use Rattle.am_effects.proofs.Statuses.{logged}
 pub use Rattle.am_effects.specs.Causes.{Cause, hears, calls}
 pub use Rattle.am_effects.specs.Looks.{HasOpen, Balloting, with_more, without_one, as_it_is, Looks, finds_itself_out, decides, was_reset, was_handed}
 pub use Rattle.am_effects.specs.Looks.{was_fetched}
-pub use Rattle.am_effects.specs.Changes.{MayBeWelcomed, Change, refreshes, settles, numbers, stores, begins_list, departs, looks, fetches, stores_view}
-pub use Rattle.am_effects.specs.Changes.{asks_to_join, closes, Changes, unchanged, changed, Numbers, asked_send, own_send, asked_join, asked_leave, Carries}
-pub use Rattle.am_effects.specs.Changes.{whole_entry, by_number, promises, opens, asks_to_leave, unchanged as no_change, Promises, invited}
-pub use Rattle.am_effects.specs.Changes.{overtaken as overtaken_by, told_result}
+pub use Rattle.am_effects.specs.Changes.{Change, refreshes, settles, numbers, stores, begins_list, departs, looks, fetches, stores_view, asks_to_join, closes}
+pub use Rattle.am_effects.specs.Changes.{Changes, unchanged, changed, Numbers, asked_send, own_send, asked_join, asked_leave, Carries, whole_entry, by_number}
+pub use Rattle.am_effects.specs.Changes.{promises, opens, asks_to_leave, unchanged as no_change, Promises, invited, overtaken as overtaken_by, told_result}
 pub use Rattle.am_effects.proofs.Rests.{rests_refresh, rests_at_end, settle_is}
 pub use Rattle.am_effects.proofs.Tests.{is_itself, or_second}
 pub use Rattle.am_effects.specs.Effects.{Effect}
@@ -65,8 +63,7 @@ pub use Rattle.am_effects.proofs.Resets.{stamp_itself, same_stamp}
 pub use Rattle.am_effects.proofs.Says.{told_pushed, view_pushed}
 pub use Rattle.am_effects.proofs.Items.{all_get, all_item}
 pub use Rattle.am_effects.specs.Letters.{MayTell, leads, decided, Says, piece, result, LetterSays}
-pub use Rattle.am_laws.proofs.ViewChanges.{in_view_log, welcomed_none, none_of_asking, Balloted, changes_do, numbers_plain, Does, change_does, of_open}
-pub use Rattle.am_laws.proofs.ViewChanges.{next_above, IsOpen, OpenBallot}
+pub use Rattle.am_laws.proofs.ViewChanges.{in_view_log, welcomed_none, Balloted, changes_do, numbers_plain, Does, change_does, of_open, next_above, IsOpen}
 pub use Rattle.am_laws.proofs.ViewNames.{HasNames, HeardNames}
 pub use Rattle.am_laws.specs.Packets.{accepted_of}
 pub use Rattle.am_laws.specs.Numbers.{NodeNumbers}
@@ -74,7 +71,7 @@ pub use Rattle.am_laws.proofs.Named.{AllNamed, few_names, each_named, change_nam
 pub use Rattle.am_laws.proofs.RunCounts.{numbers_hold}
 pub use Rattle.am_laws.proofs.Views.{AllViews, heard_names, each_views, views_start, view_rises, says_stamp}
 pub use Rattle.am_laws.proofs.Stamps.{at_most_below, at_most, not_above_itself, not_above}
-pub use Rattle.am_laws.proofs.ViewSteps.{entry_stays, after_same, view_last, view_there, SameView, Stood, Goes}
+pub use Rattle.am_laws.proofs.ViewSteps.{entry_stays, after_same, view_last, view_there, SameView, Stood}
 pub use Rattle.am_laws.proofs.ViewMembers.{data_members, viewed_members, those_some, those_long}
 pub use Rattle.am_laws.proofs.Trims.{NoOwnVote, told_used}
 pub use Rattle.am_laws.proofs.Taken.{own_need, looked_vote, HeardUsed}

@@ -59,36 +59,14 @@ heard_asked letters flags departed name (act.Hear number) h is =
     ap (λ (x : Heard). hears x.keep name (flag_of flags name) (letter_at letters x.packet)) (same_Some is)
 heard_asked letters flags departed name (act.Cut number keep) h is =
     ap (λ (x : Heard). hears x.keep name (flag_of flags name) (letter_at letters x.packet)) (same_Some is)
-heard_asked letters flags departed name (act.Send body) h is = absurd (none-some _ is)
-heard_asked letters flags departed name (act.Done req) h is = absurd (none-some _ is)
-heard_asked letters flags departed name act.Take h is = absurd (none-some _ is)
-heard_asked letters flags departed name act.Join h is = absurd (none-some _ is)
-heard_asked letters flags departed name act.State h is = absurd (none-some _ is)
-heard_asked letters flags departed name act.Leave h is = absurd (none-some _ is)
-heard_asked letters flags departed name (act.Reset least resilience) h is = absurd (none-some _ is)
-heard_asked letters flags departed name (act.Ask round) h is = absurd (none-some _ is)
-heard_asked letters flags departed name (act.GiveUp other) h is = absurd (none-some _ is)
-heard_asked letters flags departed name act.Stop h is = absurd (none-some _ is)
-heard_asked letters flags departed name act.Tick h is = absurd (none-some _ is)
-heard_asked letters flags departed name act.Return h is = absurd (none-some _ is)
+heard_asked letters flags departed name _ h is = absurd (none-some _ is)
 
 -- what hears nothing needs no letters
 pub called_asked : (letters : List Letter) (flags : List Bool) (departed : Bool) (name : ℕ) (a : Act) → heard_of a ≡ None
     → event_or_answer [] flags departed name a ≡ event_or_answer letters flags departed name a
 called_asked letters flags departed name (act.Hear number) is = absurd (none-some _ (sym is))
 called_asked letters flags departed name (act.Cut number keep) is = absurd (none-some _ (sym is))
-called_asked letters flags departed name (act.Send body) is = refl
-called_asked letters flags departed name (act.Done req) is = refl
-called_asked letters flags departed name act.Take is = refl
-called_asked letters flags departed name act.Join is = refl
-called_asked letters flags departed name act.State is = refl
-called_asked letters flags departed name act.Leave is = refl
-called_asked letters flags departed name (act.Reset least resilience) is = refl
-called_asked letters flags departed name (act.Ask round) is = refl
-called_asked letters flags departed name (act.GiveUp other) is = refl
-called_asked letters flags departed name act.Stop is = refl
-called_asked letters flags departed name act.Tick is = refl
-called_asked letters flags departed name act.Return is = refl
+called_asked letters flags departed name _ is = refl
 
 -- and spells none
 called_spells : (letters : List Letter) (a : Act) → heard_of a ≡ None → SpellsPacket letters a

@@ -1,7 +1,7 @@
 -- A world's watcher keeps what is watched of its run.
 use Rattle.am_watched.proofs.Watched.{watch_push}
 use Rattle.am_effects.proofs.Tests.{is_itself}
-use Rattle.std.proofs.Common.{◌≡◌, ℕ, ◌+◌, ◌<◌, ◌≤◌, ◌==◌, not, Bool, true, false, if◌then◌else◌, List, [], ◌∷◌, ◌++◌, length, drop, Ok}
+use Rattle.std.proofs.Common.{◌≡◌, ℕ, ◌+◌, ◌<◌, ◌≤◌, not, Bool, true, false, if◌then◌else◌, List, [], ◌∷◌, ◌++◌, length, drop, Ok}
 use Rattle.std.proofs.Common.{refl, sym, ap, ◌∙◌, subst, arith, length-append}
 use Rattle.am_base.specs.declared.entry.Entry.{Entry}
 use Rattle.am_base.specs.declared.image.Image.{Image}
@@ -31,7 +31,6 @@ use Rattle.am_world.specs.Runs as runs
 use Rattle.am_world.specs.Runs.{Play, replay}
 use Rattle.am_world.specs.Asked.{after_answer, comes}
 use Rattle.am_world.specs.Watched.{begins, standing_after, stored_of, told_step, stops_by, IsWatched}
-use Rattle.std.proofs.lemmas.Bool.Decides.{nat_tests}
 use Rattle.am_effects.specs.Events.{actor}
 use Rattle.am_laws.proofs.Named.{few_names, run_named}
 use Rattle.am_world.proofs.Goes.{replay_after}

@@ -24,10 +24,10 @@ use Rattle.am_base.proofs.Greatest.{split, and_both}
 use Rattle.am_effects.specs.Causes.{Cause, calls, hears, refuses, BringsFronts, with_entry, with_number, alone}
 use Rattle.am_effects.specs.Looks.{BeginsBy, by_reset, by_hand_over, Balloting, with_more, without_one, as_it_is, Looks, finds_itself_out, waits}
 use Rattle.am_effects.specs.Looks.{fetches_from_best, finds_too_few, finds_no_room, decides}
-use Rattle.am_effects.specs.Changes.{whole_entry, by_number, Promises, invited, overtaken, told_result, Change, refreshes, settles, takes_report, admits}
-use Rattle.am_effects.specs.Changes.{numbers, keeps_body, notes, stores, begins_list, departs, promises, opens, looks, fetches, stores_view, queues, collects}
-use Rattle.am_effects.specs.Changes.{takes, asks_to_join, asks_to_leave, closes, Changes}
-use Rattle.am_effects.specs.Events.{actor, Happens, idles, stops, returns, steps}
+use Rattle.am_effects.specs.Changes.{whole_entry, by_number, Promises, invited, overtaken, told_result, Change, refreshes, settles, admits}
+use Rattle.am_effects.specs.Changes.{numbers, notes, stores, begins_list, departs, promises, opens, looks, fetches, stores_view}
+use Rattle.am_effects.specs.Changes.{asks_to_join, closes, Changes}
+use Rattle.am_effects.specs.Events.{actor, Happens, steps}
 use Rattle.am_effects.proofs.Events.{events_have_effects}
 use Rattle.am_effects.proofs.Rests.{rests_refresh, settle_is}
 use Rattle.am_effects.proofs.Runs.{along}
@@ -58,25 +58,12 @@ HasNone m = has_log m.status ≡ false
 change_none : {c : Cause} {o : Outcome} → IsNoWelcome c → (x y : Node) → Change c o x y → HasNone x → HasNone y
 change_none other x y refreshes h = ap has_log (rests_refresh x).rests.status ∙ h
 change_none other x y settles h = ap (λ (n : Node). has_log n.status) (settle_is x) ∙ h
-change_none other x y (takes_report s v report by may) h = h
-change_none other x y (admits s v is leads fit) h = h
-change_none other x y (numbers e leads room why) h = h
-change_none other x y (keeps_body s v report req body is by) h = h
-change_none other x y (notes s v base acc by from) h = h
-change_none other x y (stores s v base acc number e by from plain may) h = h
 change_none other x y (begins_list s v base join image is o may) h = absurd (other s v base join image is)
 change_none other x y (departs s v number is by leaves) h = absurd (let t = member_of x s by in cc)
-change_none other x y (promises v low why) h = h
-change_none other x y (opens least resilience by may) h = h
 change_none other x y (looks b verdict over why look is) h = ap has_log (look_status x b verdict look) ∙ h
-change_none other x y (fetches s v base number e is by promise below from may) h = h
-change_none other x y (stores_view s v base number names resilience is by own unlike promise below may) h = h
-change_none other x y (queues body is o member stays few) h = h
-change_none other x y (collects req is) h = h
-change_none other x y (takes e is o member some there) h = h
 change_none other x y (asks_to_join is was) h = refl
-change_none other x y (asks_to_leave is was stays done) h = h
 change_none other x y (closes leads leaves last room) h = absurd (let t = logged x.status (leads_member x leads) in cc)
+change_none other x y _ h = h
 
 -- ---- by a Welcome it begins at its base, and its node doesn't lead in that step
 
@@ -132,10 +119,8 @@ module _ (s : ℕ) (v : Stamp) (base join : ℕ) (image : Image) where
   change_begun : {c : Cause} {o : Outcome} → c ≡ welcome_ → (x y : Node) → Change c o x y → Begun x → Begun y
   change_begun w x y refreshes h = refresh_begun x h
   change_begun w x y settles h = subst Begun (sym (settle_is x)) h
-  change_begun w x y (takes_report s1 v1 report by may) h = h
   change_begun w x y (admits s1 v1 is leads fit) h = absurd (let f = h.2 in cc)
   change_begun w x y (numbers e leads room why) h = absurd (let f = h.2 in cc)
-  change_begun w x y (keeps_body s1 v1 report req body is by) h = h
   change_begun w x y (notes s1 v1 low acc by from) h = absurd (no_fronts by w)
   change_begun w x y (stores s1 v1 low acc number e (whole_entry _ is) from plain may) h = absurd (cc)
   change_begun w x y (stores s1 v1 low acc number e (by_number _ _ _ is _) from plain may) h = absurd (cc)
@@ -148,12 +133,9 @@ module _ (s : ℕ) (v : Stamp) (base join : ℕ) (image : Image) where
   change_begun w x y (looks b verdict over why look is) h = absurd (no_look why w h.1)
   change_begun w x y (fetches s1 v1 low number e is by promise below from may) h = absurd (cc)
   change_begun w x y (stores_view s1 v1 low number names resilience is by own unlike promise below may) h = absurd (cc)
-  change_begun w x y (queues body is o member stays few) h = h
-  change_begun w x y (collects req is) h = h
-  change_begun w x y (takes e is o member some there) h = h
   change_begun w x y (asks_to_join is was) h = absurd (cc)
-  change_begun w x y (asks_to_leave is was stays done) h = h
   change_begun w x y (closes leads leaves last room) h = absurd (let f = h.2 in cc)
+  change_begun w x y _ h = h
 
 -- ---- a step
 
@@ -216,9 +198,6 @@ begins_same m = rw (no_begin m.status) refl
 begins_in : (rules : Rules) (events : List Event) (e : Event) (v : World) → MayFound rules → Happens (run rules events) e v
     → BeginsAt ((run rules events).nodes (actor (run rules events) e)) (v.nodes (actor (run rules events) e))
 unfolding with_step with_record
-begins_in rules events e _ may (idles o idle) = begins_same ((run rules events).nodes (actor (run rules events) e))
-begins_in rules events e _ may (stops running) = begins_same ((run rules events).nodes (actor (run rules events) e))
-begins_in rules events e _ may (returns place at gone few) = begins_same ((run rules events).nodes (actor (run rules events) e))
 begins_in rules events e _ may (steps c s running cause effect) =
     let w = run rules events in
     let name = actor w e in
@@ -227,6 +206,7 @@ begins_in rules events e _ may (steps c s running cause effect) =
     rw (is_itself name) (split (has_log m.status)
     (λ t. there_begins m s.node t (adds.stays t))
     (λ f. begins_by m s.node (kind c) effect.changes f (blank_holds rules events name may adds.within f)))
+begins_in rules events e _ may _ = begins_same ((run rules events).nodes (actor (run rules events) e))
 
 -- where the list of a name's node begins once it did a step
 pub step_begins : (rules : Rules) (events : List Event) (e : Event) (s : Step) → MayFound rules

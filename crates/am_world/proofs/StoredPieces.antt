@@ -5,15 +5,14 @@ use Rattle.am_laws.proofs.ViewSteps.{view_last}
 use Rattle.std.proofs.lemmas.Bool.{not-false}
 use Rattle.am_effects.proofs.Resets.{same_stamp}
 use Rattle.std.proofs.Common.{◌≡◌, ℕ, ◌+◌, ◌-◌, max, ◌==◌, ◌&&◌, ◌||◌, not, nat_lt, nat_le, if◌then◌else◌, Bool, true, false, List, [], ◌∷◌, Option, Some, None}
-use Rattle.std.proofs.Common.{refl, sym, ap, ◌∙◌, subst, arith}
+use Rattle.std.proofs.Common.{refl, sym, ap, ◌∙◌, subst}
 use Rattle.std.specs.List.{list_any}
-use Rattle.std.proofs.lemmas.Bool.Decides.{nat_tests}
 use Rattle.am_base.specs.declared.outcome.Outcome.{Outcome}
 use Rattle.am_base.specs.declared.outcome.Outcome.TheVariants as said
 use Rattle.am_base.specs.declared.name.Stamp.{Stamp}
 use Rattle.am_base.specs.declared.image.Image.{Image}
 use Rattle.am_base.specs.declared.entry.Entry.{Entry}
-use Rattle.am_base.specs.declared.entry.Entry.TheVariants.{Data, Join, Leave, View}
+use Rattle.am_base.specs.declared.entry.Entry.TheVariants.{View}
 use Rattle.am_base.specs.Names.{has, size}
 use Rattle.am_base.specs.Stamps.{stamp_lt, stamp_eq}
 use Rattle.am_base.specs.Lists.{Log, fits, with_entry}
@@ -125,9 +124,6 @@ differs a b h = split (stamp_eq a b)
 -- it stands alone
 came : (name : ℕ) (m : Node) (base : ℕ) (e : Entry) (s : Status) → is_member m.status ≡ true → fits (image_of m) e ≡ true
     → Adds name (e ∷ []) m s (push_entry (trim_up_to m base) e).core.log
-came name m base (Data from req body) s member fit = none (λ v. has_view_plain m _ v refl) (view_pushed m _ refl)
-came name m base (Join joiner) s member fit = none (λ v. has_view_plain m _ v refl) (view_pushed m _ refl)
-came name m base (Leave leaver) s member fit = none (λ v. has_view_plain m _ v refl) (view_pushed m _ refl)
 came name m base (View stamp names resilience) s member fit =
     let e = View stamp names resilience in
     let same : view_in (push_entry m e).core.log ≡ stamp = view_last m stamp names resilience in
@@ -138,6 +134,7 @@ came name m base (View stamp names resilience) s member fit =
     (ap (λ (u : Stamp). stamp_lt (view m) u) same ∙ fits_above (image_of m) stamp names resilience fit)
     (λ t. member)
     (λ f. one)
+came name m base _ s member fit = none (λ v. has_view_plain m _ v refl) (view_pushed m _ refl)
 
 -- and then a decided View
 came_decided : (name : ℕ) (m : Node) (base : ℕ) (e : Entry) (s : Status) (stamp : Stamp) (names : List ℕ) (resilience : ℕ) → is_member m.status ≡ true

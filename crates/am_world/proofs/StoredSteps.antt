@@ -5,9 +5,7 @@ use Rattle.std.proofs.Math.Bool.{or-false}
 use Rattle.am_effects.proofs.Statuses.{logged}
 use Rattle.am_effects.proofs.Resets.{stamp_itself}
 use Rattle.std.proofs.Common.{◌≡◌, ℕ, ◌&&◌, ◌||◌, not, if◌then◌else◌, Bool, true, false, List, [], ◌∷◌, ◌++◌, Option, Some, None, Ok, Err, refl, sym, ap, ◌∙◌}
-use Rattle.std.proofs.Common.{arith}
 use Rattle.std.specs.List.{list_any}
-use Rattle.std.proofs.lemmas.Bool.Decides.{nat_tests}
 use Rattle.std.proofs.lemmas.List.Folds.{list_any-append}
 use Rattle.am_base.specs.declared.outcome.Outcome.{Outcome}
 use Rattle.am_base.specs.declared.name.Stamp.{Stamp}
@@ -16,8 +14,7 @@ use Rattle.am_base.specs.declared.event.NodeEvent.{NodeEvent}
 use Rattle.am_base.specs.declared.event.NodeEvent.TheVariants as does
 use Rattle.am_base.specs.Stamps.{stamp_eq}
 use Rattle.am_packet.specs.declared.packet.Packet.{Packet}
-use Rattle.am_packet.specs.declared.packet.Packet.TheVariants.{Request, Spread, Bcast, Order, Accept, Ack, Nack, Hold, JoinAsk, Welcome, LeaveAsk, Gone, Invite}
-use Rattle.am_packet.specs.declared.packet.Packet.TheVariants.{Vote, Fetch, Piece, Result, HandOver}
+use Rattle.am_packet.specs.declared.packet.Packet.TheVariants.{Piece, Result}
 use Rattle.am_codec.specs.Reading.{Read, reading, cause_of}
 use Rattle.am_model.specs.Node.{Node, Ballot, view, is_member, has_log}
 use Rattle.am_model.specs.Emit.{Step, finish}
@@ -70,26 +67,11 @@ packet_adds name m p plain kept bare = plain_adds name m (hears p) (hear m p) pl
 
 hear_adds : (name : ℕ) (m : Node) (p : Packet) → m.core.who ≡ name → Balloted m → IsBare m → StepAdds name (one_of (piece_in p)) m (hear m p)
 unfolding hear
-hear_adds name m (Request s v report req body) who kept bare = packet_adds name m _ refl kept bare
-hear_adds name m (Spread s v report req body) who kept bare = packet_adds name m _ refl kept bare
-hear_adds name m (Bcast s v base acc number e) who kept bare = packet_adds name m _ refl kept bare
-hear_adds name m (Order s v base acc number from req) who kept bare = packet_adds name m _ refl kept bare
-hear_adds name m (Accept s v base acc high poll) who kept bare = packet_adds name m _ refl kept bare
-hear_adds name m (Ack s v report) who kept bare = packet_adds name m _ refl kept bare
-hear_adds name m (Nack s v report) who kept bare = packet_adds name m _ refl kept bare
-hear_adds name m (Hold s v base high req) who kept bare = packet_adds name m _ refl kept bare
-hear_adds name m (JoinAsk s v) who kept bare = packet_adds name m _ refl kept bare
-hear_adds name m (Welcome s v base join image) who kept bare = packet_adds name m _ refl kept bare
-hear_adds name m (LeaveAsk s v report) who kept bare = packet_adds name m _ refl kept bare
-hear_adds name m (Gone s v number) who kept bare = packet_adds name m _ refl kept bare
-hear_adds name m (Invite s v) who kept bare = packet_adds name m _ refl kept bare
-hear_adds name m (Vote s v vote) who kept bare = packet_adds name m _ refl kept bare
-hear_adds name m (Fetch s v stored) who kept bare = packet_adds name m _ refl kept bare
 hear_adds name m (Piece s v base number e) who kept bare = finish_adds name (e ∷ []) m (hear_row m (Piece s v base number e))
     (piece_adds name m s v base number e who kept)
 hear_adds name m (Result s v base number names resilience) who kept bare =
     finish_adds name [] m (hear_row m (Result s v base number names resilience)) (result_adds name m s v base number names resilience)
-hear_adds name m (HandOver s v) who kept bare = packet_adds name m _ refl kept bare
+hear_adds name m _ who kept bare = packet_adds name m _ refl kept bare
 
 read_adds : (name : ℕ) (m : Node) (r : Read Packet) → m.core.who ≡ name → Balloted m → IsBare m
     → StepAdds name (one_of (fetched_from r)) m (finish m (read_row m r))

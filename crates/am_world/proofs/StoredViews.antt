@@ -7,7 +7,7 @@ use Rattle.am_laws.proofs.ViewChanges.{welcomed_none}
 use Rattle.am_laws.proofs.ViewChanges.{numbers_plain}
 use Rattle.std.proofs.lemmas.Bool.{not-true}
 use Rattle.am_effects.proofs.Resets.{same_stamp}
-use Rattle.std.proofs.Common.{◌≡◌, ℕ, ◌+◌, ◌≤◌, ◌==◌, ◌&&◌, ◌||◌, not, nat_lt, Bool, true, false, List, [], ◌∷◌, length, Option, Some, None, refl, sym, ap, ◌∙◌}
+use Rattle.std.proofs.Common.{◌≡◌, ℕ, ◌+◌, ◌≤◌, ◌==◌, ◌&&◌, ◌||◌, not, Bool, true, false, List, [], ◌∷◌, length, Option, Some, None, refl, sym, ap, ◌∙◌}
 use Rattle.std.proofs.Common.{subst, arith, length-append}
 use Rattle.std.specs.List.{list_any}
 use Rattle.std.proofs.lemmas.Bool.Decides.{nat_tests}
@@ -17,12 +17,12 @@ use Rattle.am_base.specs.declared.outcome.Outcome.TheVariants as said
 use Rattle.am_base.specs.declared.name.Stamp.{Stamp}
 use Rattle.am_base.specs.declared.image.Image.{Image}
 use Rattle.am_base.specs.declared.entry.Entry.{Entry}
-use Rattle.am_base.specs.declared.entry.Entry.TheVariants.{Data, Join, Leave, View}
+use Rattle.am_base.specs.declared.entry.Entry.TheVariants.{Leave}
 use Rattle.am_base.specs.Stamps.{stamp_lt, stamp_eq}
 use Rattle.am_base.specs.Lists.{Log, told_by}
 use Rattle.am_packet.specs.declared.packet.Packet.TheVariants as packet
 use Rattle.am_model.specs.declared.status.Status.TheVariants as status
-use Rattle.am_model.specs.Node.{Node, Ballot, top, image_of, view, acts, is_sequencer, is_member, push_entry, has_log}
+use Rattle.am_model.specs.Node.{Node, Ballot, top, view, acts, is_sequencer, is_member, push_entry, has_log}
 use Rattle.am_model.specs.Ballots.{Verdict, overtake, need_of, left_in, trim_for, next_stamp}
 use Rattle.am_model.specs.Refresh.{refresh, settle, refresh_at_end}
 use Rattle.am_model.specs.Receiving.{is_view}
@@ -32,12 +32,11 @@ use Rattle.am_base.proofs.Greatest.{split, and_both}
 use Rattle.am_effects.specs.Causes.{Cause, hears}
 use Rattle.am_effects.specs.Looks.{HasOpen, Balloting, with_more, without_one, as_it_is, Looks, finds_itself_out, waits, fetches_from_best, finds_too_few}
 use Rattle.am_effects.specs.Looks.{finds_no_room, decides, BeginsBy, by_reset, by_hand_over}
-use Rattle.am_effects.specs.Changes.{Promises, invited, overtaken as overtaken_by, told_result, Numbers, asked_send, own_send, asked_join, asked_leave}
+use Rattle.am_effects.specs.Changes.{Promises, invited, overtaken as overtaken_by, told_result}
 use Rattle.am_effects.specs.Changes.{MayBeWelcomed, Change, refreshes, settles, takes_report, admits, numbers, keeps_body, notes, stores, begins_list, departs}
 use Rattle.am_effects.specs.Changes.{promises, opens, looks, fetches, stores_view, queues, collects, takes, asks_to_join, asks_to_leave, closes, Changes}
 use Rattle.am_effects.proofs.Rests.{rests_refresh, rests_at_end, settle_is}
-use Rattle.am_effects.proofs.Says.{told_pushed, view_pushed}
-use Rattle.am_effects.proofs.Ballots.{viewed}
+use Rattle.am_effects.proofs.Says.{view_pushed}
 use Rattle.am_effects.proofs.Runs.{along}
 use Rattle.am_laws.proofs.Stamps.{at_most, at_most_below, not_above}
 
@@ -173,11 +172,8 @@ still_ballot m x y stays promise log opened h = record {
 
 look_still : {c : Cause} (o : Outcome) (m x : Node) (b : Ballot) (v : Verdict) → Looks x b v → o ≡ v.outcome → stamp_lt (view x) b.stamp ≡ true → Still m x
     → Walked c o m v.node
-look_still o m x b v (finds_itself_out y) is up h = still (still_ballot m x v.node refl refl refl (λ over. absurd (cc)) h)
 look_still o m x b v (waits y z) is up h = still (still_ballot m x v.node refl refl refl (λ over. up) h)
 look_still o m x b v (fetches_from_best y z u) is up h = still (still_ballot m x v.node refl refl refl (λ over. up) h)
-look_still o m x b v (finds_too_few y z) is up h = still (still_ballot m x v.node refl refl refl (λ over. absurd (cc)) h)
-look_still o m x b v (finds_no_room y) is up h = still (still_ballot m x v.node refl refl refl (λ over. absurd (cc)) h)
 look_still o m x b v (decides may) is up h =
     let names = left_in b (need_of x b) in
     let t = trim_for x b names in
@@ -191,6 +187,7 @@ look_still o m x b v (decides may) is up h =
       is = is;
       low = simp length-append (omega arith);
     })
+look_still o m x b v _ is up h = still (still_ballot m x v.node refl refl refl (λ over. absurd (cc)) h)
 
 welcomed_still : {c : Cause} {o : Outcome} (m x : Node) (s : ℕ) (v : Stamp) (base join : ℕ) (image : Image) → c ≡ hears (packet.Welcome s v base join image)
     → o ≡ said.Welcomed join → MayBeWelcomed x s v base join image → Still m x → Walked c o m (begin_list x v base join image)
@@ -294,44 +291,31 @@ more_plain o m x y e plain stays log h =
     more_same o m p y stays log k
 
 look_more : (o : Outcome) (m x : Node) (b : Ballot) (v : Verdict) → Looks x b v → o ≡ v.outcome → OneMore o m x → OneMore o m v.node
-look_more o m x b v (finds_itself_out y) is h = more_same o m x v.node (λ t. t) refl h
-look_more o m x b v (waits y z) is h = more_same o m x v.node (λ t. t) refl h
-look_more o m x b v (fetches_from_best y z u) is h = more_same o m x v.node (λ t. t) refl h
-look_more o m x b v (finds_too_few y z) is h = more_same o m x v.node (λ t. t) refl h
-look_more o m x b v (finds_no_room y) is h = more_same o m x v.node (λ t. t) refl h
 look_more o m x b v (decides may) is h = absurd (
     let first = h.is in
     let same : h.number ≡ top x + 1 = cc in
     let low = h.low in
     omega arith)
+look_more o m x b v _ is h = more_same o m x v.node (λ t. t) refl h
 
 change_more : {c : Cause} {o : Outcome} (m x y : Node) → BringsNone c → Change c o x y → OneMore o m x → OneMore o m y
 change_more {c} {o} m x y brings refreshes h = let r = rests_refresh x in more_same o m x (refresh x) (λ t. ap is_member (sym r.rests.status) ∙ t) r.log h
 change_more {c} {o} m x y brings settles h = let e = settle_is x in
     more_same o m x (settle x) (λ t. ap (λ (n : Node). is_member n.status) (sym e) ∙ t) (ap (λ (n : Node). n.core.log) e) h
-change_more {c} {o} m x y brings (takes_report s v report by may) h = more_same o m x y (λ t. t) refl h
-change_more {c} {o} m x y brings (admits s v is leads fit) h = more_same o m x y (λ t. t) refl h
 change_more {c} {o} m x y brings (numbers e leads room why) h = more_plain o m x y e (numbers_plain c x e why) (λ t. t) refl h
-change_more {c} {o} m x y brings (keeps_body s v report req body is by) h = more_same o m x y (λ t. t) refl h
-change_more {c} {o} m x y brings (notes s v base acc by from) h = more_same o m x y (λ t. t) refl h
 change_more {c} {o} m x y brings (stores s v base acc number e by from plain may) h = more_plain o m x y e plain (λ t. t) refl h
 change_more {c} {o} m x y brings (begins_list s v base join image is says may) h = absurd (let first = h.is in cc)
 change_more {c} {o} m x y brings (departs s v number is by leaves) h = more_same o m x y (λ t. absurd (cc)) refl h
-change_more {c} {o} m x y brings (promises v low why) h = more_same o m x y (λ t. t) refl h
-change_more {c} {o} m x y brings (opens least resilience by may) h = more_same o m x y (λ t. t) refl h
 change_more {c} {o} m x y brings (looks b verdict over why look is) h = look_more o m x b verdict look is h
 change_more {c} {o} m x y brings (fetches s v base number e is by promise below from may) h = absurd (brings.pieces s v base number e is)
 change_more {c} {o} m x y brings (stores_view s v base number names resilience is by own other promise below may) h =
     absurd (brings.results s v base number names resilience is)
-change_more {c} {o} m x y brings (queues body is says member stays few) h = more_same o m x y (λ t. t) refl h
-change_more {c} {o} m x y brings (collects req is) h = more_same o m x y (λ t. t) refl h
-change_more {c} {o} m x y brings (takes e is says member some there) h = more_same o m x y (λ t. t) refl h
 change_more {c} {o} m x y brings (asks_to_join is was) h = more_same o m x y (λ t. absurd (cc)) refl h
-change_more {c} {o} m x y brings (asks_to_leave is was stays done) h = more_same o m x y (λ t. t) refl h
 change_more {c} {o} m x y brings (closes leads leaves alone room) h =
     let p = push_entry x (Leave x.core.who) in
     let r = rests_at_end p in
     more_plain o m x y (Leave x.core.who) refl (λ t. absurd (cc)) r.log h
+change_more {c} {o} m x y brings _ h = more_same o m x y (λ t. t) refl h
 
 -- ---- a list that has begun
 
