@@ -1,18 +1,6 @@
 -- The end of a step, by what the parts tell.
-use Rattle.std.proofs.Common.{◌≡◌, ℕ, List, [], Bool, false, refl, sym, ◌∙◌, ap, subst}
-use Rattle.am_base.specs.declared.outcome.Outcome.{Outcome}
-use Rattle.am_packet.specs.Boxes.{Letter, with_letter}
-use Rattle.am_model.specs.Node.{Node}
-use Rattle.am_model.specs.Emit.{Plan, finish}
-use Rattle.am_model.specs.Refresh.{refresh_at_end}
-use Rattle.am_model.specs.Ends.{Tells, Changes, ComesTo, Does}
-use Rattle.am_handlers.specs.Parts.{with_told}
-use Rattle.am_acting.specs.declared.note.Note.{Note}
-use Rattle.am_acting.specs.Notes.{packet_of}
-use Rattle.am_handlers.specs.Finishing.{Done}
-use Rattle.am_handlers.proofs.Ends.{end_self}
-use Rattle.am_handlers.proofs.Plans.{done, does_plan}
-use Rattle.am_acting.specs.Forms.{noting}
+use Rattle.am_acting.proofs.Words.{◌≡◌, ℕ, List, [], Bool, false, refl, sym, ◌∙◌, ap, subst, Outcome, Letter, with_letter, Node, Plan, finish, refresh_at_end}
+use Rattle.am_acting.proofs.Words.{Tells, Changes, ComesTo, Does, with_told, Note, packet_of, Done, end_self, done, does_plan, noting}
 
 pub done_noting : (before : ℕ) (numbers : Bool) (m new : Node) (answer : Outcome) (to : List ℕ) (note : Note) (box sent letters : List Letter) → box ≡ []
     → m.core.base ≡ m.core.log.start → Changes refresh_at_end m new

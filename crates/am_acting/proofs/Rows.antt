@@ -1,24 +1,11 @@
 -- Rows of calls, by what their tests say.
-use Rattle.std.proofs.Common.{◌≡◌, ℕ, ◌+◌, ◌<◌, ◌≤◌, List, length, true, false, ◌||◌, ◌==◌, nat_lt, nat_le, Option, Some, None, is_some}
-use Rattle.std.proofs.Common.{refl, sym, ◌∙◌, ap, arith}
-use Rattle.std.specs.List.{list_any}
-use Rattle.std.proofs.lemmas.Bool.Decides.{nat_tests}
-use Rattle.am_base.specs.declared.entry.Entry.{Entry}
+use Rattle.am_acting.proofs.Words.{◌≡◌, ℕ, ◌+◌, ◌<◌, ◌≤◌, List, length, true, false, ◌||◌, ◌==◌, nat_lt, nat_le, Option, Some, None, is_some, refl, sym, ◌∙◌}
+use Rattle.am_acting.proofs.Words.{ap, arith, list_any, nat_tests, Entry, entry_at, split, is_of, keep_body, OwnSend, Status, Node, is_member, waiting, quiet}
+use Rattle.am_acting.proofs.Words.{send_row, done_row, take_row, give_out, join_row, join_by, queue, with_queued, emit, spread_row, hold_row, answer_hold}
+use Rattle.am_acting.proofs.Words.{row_at, gone_row, waits_for}
 use Rattle.am_base.specs.declared.outcome.Outcome.TheVariants as said
-use Rattle.am_base.specs.Lists.{entry_at}
-use Rattle.am_core.proofs.Folds.{split}
-use Rattle.am_bodies.specs.Bodies.{is_of, keep_body}
-use Rattle.am_sender.specs.declared.OwnSend.{OwnSend}
 use Rattle.am_sender.specs.Sends as own
-use Rattle.am_model.specs.declared.status.Status.{Status}
 use Rattle.am_model.specs.declared.status.Status.TheVariants as status
-use Rattle.am_model.specs.Node.{Node, is_member, waiting}
-use Rattle.am_model.specs.Emit.{quiet}
-use Rattle.am_model.specs.Calls.{send_row, done_row, take_row, give_out, join_row, join_by, queue, with_queued, emit}
-use Rattle.am_model.specs.Receiving.{spread_row, hold_row, answer_hold}
-use Rattle.am_model.specs.Sequencing.{row_at}
-use Rattle.am_model.specs.Joining.{gone_row}
-use Rattle.am_acting.specs.Forms.{waits_for}
 
 -- what isn't below
 pub not_few : (n : ℕ) → (n < 4 → ⊥) → 4 ≤ n

@@ -1,34 +1,15 @@
 -- The rows of the tick, by what their tests say.
-use Rattle.std.proofs.Common.{◌≡◌, ◌≢◌, ℕ, ◌+◌, ◌<◌, List, [], Bool, true, false, not, ◌&&◌, ◌==◌, nat_lt, if◌then◌else◌, Option, Some, None, refl, sym}
-use Rattle.std.proofs.Common.{option_map, is_some, ◌∙◌, ap, arith}
-use Rattle.std.proofs.lemmas.Bool.Decides.{nat_tests}
-use Rattle.am_base.specs.declared.entry.Entry.TheVariants.{Data, Leave}
-use Rattle.am_base.specs.declared.outcome.Outcome.{Outcome}
+use Rattle.am_acting.proofs.Words.{◌≡◌, ◌≢◌, ℕ, ◌+◌, ◌<◌, List, [], Bool, true, false, not, ◌&&◌, ◌==◌, nat_lt, if◌then◌else◌, Option, Some, None, refl, sym}
+use Rattle.am_acting.proofs.Words.{option_map, is_some, ◌∙◌, ap, arith, nat_tests, Data, Leave, Outcome, size, split, Letter, with_letter, OwnSend, Status}
+use Rattle.am_acting.proofs.Words.{Node, Ballot, top, view, others, only_name, lowest_or_first, acts, own_row, has_room, is_sequencer, waiting, push_entry}
+use Rattle.am_acting.proofs.Words.{Plan, quiet, finish, with_accept, accept_of, refresh_at_end, would_emit, emit, go, tick_ballot, tick_promised, tick_member}
+use Rattle.am_acting.proofs.Words.{tick_sequencer, tick_acting, tick_with, tick_by, tick_row, put_off, IsEndOf, Tells, Changes, with_told, Done, end_self}
+use Rattle.am_acting.proofs.Words.{done, Note, Again, packet_of, noting, and_poll, handing, and_view, again_of, again_of_ballot, by_again, own_send}
 use Rattle.am_base.specs.declared.outcome.Outcome.TheVariants as said
-use Rattle.am_base.specs.Names.{size}
-use Rattle.am_core.proofs.Folds.{split}
-use Rattle.am_packet.specs.Boxes.{Letter, with_letter}
-use Rattle.am_sender.specs.declared.OwnSend.{OwnSend}
 use Rattle.am_sender.specs.Sends as own
-use Rattle.am_model.specs.declared.status.Status.{Status}
 use Rattle.am_model.specs.declared.status.Status.TheVariants as status
-use Rattle.am_model.specs.Node.{Node, Ballot, top, view, others, only_name, lowest_or_first, acts, own_row, has_room, is_sequencer, waiting, push_entry}
-use Rattle.am_model.specs.Emit.{Plan, quiet, finish, with_accept, accept_of}
-use Rattle.am_model.specs.Refresh.{refresh_at_end}
-use Rattle.am_model.specs.Calls.{would_emit, emit, go}
-use Rattle.am_model.specs.Ticks.{tick_ballot, tick_promised, tick_member, tick_sequencer, tick_acting, tick_with, tick_by, tick_row, put_off}
-use Rattle.am_model.specs.Ends.{IsEndOf, Tells, Changes}
-use Rattle.am_handlers.specs.Parts.{with_told}
-use Rattle.am_handlers.specs.Finishing.{Done}
-use Rattle.am_handlers.proofs.Ends.{end_self}
-use Rattle.am_handlers.proofs.Plans.{done}
-use Rattle.am_acting.specs.declared.note.Note.{Note}
 use Rattle.am_acting.specs.declared.note.Note.TheVariants as note
-use Rattle.am_acting.specs.declared.ticking.Again.{Again}
-use Rattle.am_acting.specs.Notes.{packet_of}
-use Rattle.am_acting.specs.Forms.{noting, and_poll, handing, and_view, again_of, again_of_ballot, by_again, own_send}
-use Rattle.am_acting.proofs.Emits.{waits_is, waits_none, emit_stays, emit_full, emit_numbers}
-use Rattle.am_acting.proofs.Leaves.{departed}
+use Rattle.am_acting.proofs.{Emits.waits_is, Emits.waits_none, Emits.emit_stays, Emits.emit_full, Emits.emit_numbers, Leaves.departed}
 
 -- ---- ballots
 

@@ -1,21 +1,11 @@
 -- What a list tells, along its beginnings.
-use Rattle.am_base.proofs.Greatest.{split}
-use Rattle.std.proofs.Common.{◌≡◌, ⊎_elim, inl, ℕ, ◌+◌, ◌<◌, ◌==◌, ◌&&◌, nat_lt, true, false, List, [], ◌∷◌, ◌++◌, length, slice_index, refl, sym, ap, ◌∙◌}
-use Rattle.std.proofs.Common.{subst, arith, append-nil}
-use Rattle.std.proofs.lemmas.Bool.Decides.{nat_tests}
-use Rattle.std.proofs.lemmas.List.{get_or-map}
-use Rattle.am_base.specs.declared.name.Stamp.{Stamp}
-use Rattle.am_base.specs.declared.image.Image.{Image}
-use Rattle.am_base.specs.declared.image.Row.{Row}
-use Rattle.am_base.specs.declared.entry.Entry.{Entry}
-use Rattle.am_base.specs.declared.entry.Entry.TheVariants.{Leave, View}
-use Rattle.am_base.specs.Names.{has, place_of, life_of}
-use Rattle.am_base.specs.Lists.{blank_row, blank, after, fits, fold, AllFit, members_of, member_life}
-use Rattle.am_chain_lists.specs.Whole.{Begins, IsGood, AllSmall, SmallName, image_of, mem}
-use Rattle.am_chain_lists.proofs.Prefixes.{begins_refl, begins_more, begins_trans, push_next}
+use Rattle.am_chain_lists.proofs.Words.{split, ◌≡◌, ⊎_elim, inl, ℕ, ◌+◌, ◌<◌, ◌==◌, ◌&&◌, nat_lt, true, false, List, [], ◌∷◌, ◌++◌, length, slice_index, refl}
+use Rattle.am_chain_lists.proofs.Words.{sym, ap, ◌∙◌, subst, arith, append-nil, nat_tests, get_or-map, Stamp, Image, Row, Entry, Leave, View, has, place_of}
+use Rattle.am_chain_lists.proofs.Words.{life_of, blank_row, blank, after, fits, fold, AllFit, members_of, member_life, Begins, IsGood, AllSmall, SmallName}
+use Rattle.am_chain_lists.proofs.Words.{image_of, mem}
 use Rattle.am_chain_lists.proofs.Rows.{row_at, In, Past, Was, Spares, Lasting, was_lasting, past_lasting, mod16, long_after, lasts_after, not_both}
-use Rattle.am_chain_lists.proofs.Rows.{blank_joined}
-use Rattle.am_chain_lists.proofs.Rows.{in_after, in_viewed, viewed_member, out_after}
+use Rattle.am_chain_lists.proofs.Rows.{blank_joined, in_after, in_viewed, viewed_member, out_after}
+use Rattle.am_chain_lists.proofs.Prefixes.{begins_refl, begins_more, begins_trans, push_next}
 
 pub fold_append : (image : Image) (n : ℕ) (a b : List Entry) → fold image n (a ++ b) ≡ fold (fold image n a) (n + length a) b
 unfolding fold

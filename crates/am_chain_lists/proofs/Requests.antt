@@ -1,19 +1,10 @@
 -- Which request of a name comes next, by the row of its place.
-use Rattle.am_chain_lists.proofs.Rows.{same_name}
-use Rattle.am_chain_lists.proofs.Members.{member_in}
-use Rattle.am_base.proofs.Greatest.{split}
-use Rattle.std.proofs.Common.{◌≡◌, ◌≢◌, ◌⊎◌, ⊎_elim, inl, inr, ℕ, ◌+◌, ◌<◌, ◌==◌, ◌&&◌, nat_lt, true, false, not, List, [], ◌∷◌, length, slice_index, refl, sym}
-use Rattle.std.proofs.Common.{ap, ◌∙◌, subst, arith}
-use Rattle.std.proofs.lemmas.Bool.Decides.{nat_tests}
-use Rattle.std.proofs.lemmas.List.{get_or-map}
-use Rattle.am_base.specs.declared.name.Stamp.{Stamp}
-use Rattle.am_base.specs.declared.image.Image.{Image}
-use Rattle.am_base.specs.declared.image.Row.{Row}
-use Rattle.am_base.specs.declared.entry.Entry.{Entry}
-use Rattle.am_base.specs.declared.entry.Entry.TheVariants.{Data, Join, Leave, View}
-use Rattle.am_base.specs.Names.{has, place_of, life_of}
-use Rattle.am_base.specs.Lists.{blank_row, blank, is_blank, row_of, member_life, members_of, with_row, row_after_view, after, fits, request_in}
-use Rattle.am_chain_lists.proofs.Rows.{row_at, In, and_left, and_right, mod16, row_set, row_view, blank_joined}
+use Rattle.am_chain_lists.proofs.Words.{split, ◌≡◌, ◌≢◌, ◌⊎◌, ⊎_elim, inl, inr, ℕ, ◌+◌, ◌<◌, ◌==◌, ◌&&◌, nat_lt, true, false, not, List, [], ◌∷◌, length}
+use Rattle.am_chain_lists.proofs.Words.{slice_index, refl, sym, ap, ◌∙◌, subst, arith, nat_tests, get_or-map, Stamp, Image, Row, Entry, Data, Join, Leave}
+use Rattle.am_chain_lists.proofs.Words.{View, has, place_of, life_of, blank_row, blank, is_blank, row_of, member_life, members_of, with_row, row_after_view}
+use Rattle.am_chain_lists.proofs.Words.{after, fits, request_in}
+use Rattle.am_chain_lists.proofs.{Rows.same_name, Rows.row_at, Rows.In, Rows.and_left, Rows.and_right, Rows.mod16, Rows.row_set, Rows.row_view}
+use Rattle.am_chain_lists.proofs.{Rows.blank_joined, Members.member_in}
 
 -- the next request of this life of a place: the first as long as the life has not joined, else the one after its last; where
 -- a greater life has joined there is none, and any number will do

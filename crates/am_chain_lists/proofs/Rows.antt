@@ -1,19 +1,10 @@
 -- One place's row, along a list.
-use Rattle.am_base.proofs.Greatest.{split}
-use Rattle.std.proofs.Common.{◌≡◌, ◌≢◌, ◌⊎◌, ⊎_elim, inl, inr, ℕ, zero, suc, ◌+◌, ◌%◌, ◌<◌, ◌≤◌, ◌==◌, ◌&&◌, ◌||◌, nat_lt, nat_le, Bool, true, false, not, List}
-use Rattle.std.proofs.Common.{[], ◌∷◌, length, get_or, slice_index, refl, sym, ◌∙◌, subst, arith, get_or-set_same, get_or-set_other}
-use Rattle.std.proofs.lemmas.Bool.Decides.{nat_tests}
+use Rattle.am_chain_lists.proofs.Words.{split, ◌≡◌, ◌≢◌, ◌⊎◌, ⊎_elim, inl, inr, ℕ, zero, suc, ◌+◌, ◌%◌, ◌<◌, ◌≤◌, ◌==◌, ◌&&◌, ◌||◌, nat_lt, nat_le, Bool}
+use Rattle.am_chain_lists.proofs.Words.{true, false, not, List, [], ◌∷◌, length, get_or, slice_index, refl, sym, ◌∙◌, subst, arith, get_or-set_same}
+use Rattle.am_chain_lists.proofs.Words.{get_or-set_other, nat_tests, list_all, range_with_len, Stamp, Image, Row, Entry, Data, Join, Leave, View, has}
+use Rattle.am_chain_lists.proofs.Words.{place_of, life_of, is_within, stamp_lt, blank_row, is_blank_row, is_blank, after, fits, members_of, member_life}
+use Rattle.am_chain_lists.proofs.Words.{at_place, with_row, row_after_view, get_or-by_place, length-by_place}
 use Rattle.std.proofs.Math.ListN as listn
-use Rattle.std.specs.List.{list_all, range_with_len}
-use Rattle.am_base.specs.declared.name.Stamp.{Stamp}
-use Rattle.am_base.specs.declared.image.Image.{Image}
-use Rattle.am_base.specs.declared.image.Row.{Row}
-use Rattle.am_base.specs.declared.entry.Entry.{Entry}
-use Rattle.am_base.specs.declared.entry.Entry.TheVariants.{Data, Join, Leave, View}
-use Rattle.am_base.specs.Names.{has, place_of, life_of, is_within}
-use Rattle.am_base.specs.Stamps.{stamp_lt}
-use Rattle.am_base.specs.Lists.{blank_row, is_blank_row, is_blank, after, fits, members_of, member_life, at_place, with_row, row_after_view}
-use Rattle.am_base.proofs.Places.{get_or-by_place, length-by_place}
 
 -- the row of a place
 abbrev pub row_at : Image → ℕ → Row

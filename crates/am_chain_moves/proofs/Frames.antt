@@ -1,12 +1,7 @@
 -- What a change of one node leaves as it was.
-use Rattle.am_base.proofs.Greatest.{split}
-use Rattle.std.proofs.Common.{◌≡◌, ◌≢◌, ◌⊎◌, ⊎_elim, inl, inr, ℕ, ◌≤◌, true, false, List, length, Some, refl, sym, ap, ◌∙◌, subst, arith}
-use Rattle.am_base.specs.declared.entry.Entry.{Entry}
-use Rattle.am_chain_lists.specs.Whole.{Begins, key}
-use Rattle.am_chain_lists.proofs.Prefixes.{begins_refl, begins_trans, begins_length}
-use Rattle.am_chain_moves.specs.Group.{put, Node, opening, Views, Group, IsThere, IsUp}
-use Rattle.am_chain_moves.specs.Moves.{with_node}
-use Rattle.am_chain_moves.specs.Kept.{NodeOk, ShownOk, ServedOk, Witness, DepartedOk, Kept}
+use Rattle.am_chain_moves.proofs.Words.{split, ◌≡◌, ◌≢◌, ◌⊎◌, ⊎_elim, inl, inr, ℕ, ◌≤◌, true, false, List, length, Some, refl, sym, ap, ◌∙◌, subst, arith}
+use Rattle.am_chain_moves.proofs.Words.{Entry, Begins, key, begins_refl, begins_trans, begins_length, put, Node, opening, Views, Group, IsThere, IsUp}
+use Rattle.am_chain_moves.proofs.Words.{with_node, NodeOk, ShownOk, ServedOk, Witness, DepartedOk, Kept}
 use Rattle.am_chain_moves.proofs.Puts.{put_cases, put_same, put_at}
 
 -- a node later on: it has no less, and it isn't there again nor stays again

@@ -1,23 +1,12 @@
 -- The group list grows, and the chain does.
-use Rattle.am_chain_lists.proofs.Rows.{low_or_above}
-use Rattle.am_base.proofs.Greatest.{split}
-use Rattle.std.proofs.Common.{◌≡◌, ◌≢◌, ◌⊎◌, ⊎_elim, ℕ, zero, suc, ◌+◌, ◌-◌, ◌<◌, ◌≤◌, min, true, false, List, [], ◌∷◌, ◌++◌, length, take, Some, slice_get}
-use Rattle.std.proofs.Common.{refl, sym, ap, ◌∙◌, subst, arith}
-use Rattle.std.proofs.lemmas.List.{take-append-le}
-use Rattle.am_base.specs.declared.entry.Entry.{Entry}
-use Rattle.am_base.specs.declared.entry.Entry.TheVariants.{View}
-use Rattle.am_base.specs.Names.{has}
-use Rattle.am_base.specs.Lists.{members_of, fits}
-use Rattle.am_base.specs.Fronts.{counted_of}
-use Rattle.am_chain_lists.specs.Whole.{Begins, IsGood, NotView, SmallName, image_of, mem, view_of, key, resilience_of}
-use Rattle.am_chain_lists.proofs.Prefixes.{begins_refl, begins_more, begins_trans, begins_length, begins_both, begins_pushed, begins_take, length_take}
-use Rattle.am_chain_lists.proofs.Rows.{Spares}
-use Rattle.am_chain_lists.proofs.Members.{mem_push, good_push}
-use Rattle.am_chain_lists.proofs.Order.{view_push}
-use Rattle.am_chain_moves.specs.Group.{put, how_many, counted_in, need_of, Node, opening, Views, Group, chain_of, IsThere, IsUp, Leads, MayAccept}
-use Rattle.am_chain_moves.specs.Kept.{NodeOk, ServedOk, Witness, DepartedOk, ViewsOk, Kept}
-use Rattle.am_chain_moves.proofs.Puts.{put_cases, put_same, put_at}
-use Rattle.am_chain_moves.proofs.Frames.{Later, later_all, shown_later, served_later, witness_later, departed_later}
+use Rattle.am_chain_moves.proofs.Words.{low_or_above, split, ◌≡◌, ◌≢◌, ◌⊎◌, ⊎_elim, ℕ, zero, suc, ◌+◌, ◌-◌, ◌<◌, ◌≤◌, min, true, false, List, [], ◌∷◌, ◌++◌}
+use Rattle.am_chain_moves.proofs.Words.{length, take, Some, slice_get, refl, sym, ap, ◌∙◌, subst, arith, take-append-le, Entry, View, has, members_of, fits}
+use Rattle.am_chain_moves.proofs.Words.{counted_of, Begins, IsGood, NotView, SmallName, image_of, mem, view_of, key, resilience_of, begins_refl, begins_more}
+use Rattle.am_chain_moves.proofs.Words.{begins_trans, begins_length, begins_both, begins_pushed, begins_take, length_take, Spares, mem_push, good_push}
+use Rattle.am_chain_moves.proofs.Words.{view_push, put, how_many, counted_in, need_of, Node, opening, Views, Group, chain_of, IsThere, IsUp, Leads, MayAccept}
+use Rattle.am_chain_moves.proofs.Words.{NodeOk, ServedOk, Witness, DepartedOk, ViewsOk, Kept}
+use Rattle.am_chain_moves.proofs.{Puts.put_cases, Puts.put_same, Puts.put_at, Frames.Later, Frames.later_all, Frames.shown_later, Frames.served_later}
+use Rattle.am_chain_moves.proofs.{Frames.witness_later, Frames.departed_later}
 
 pub take_more : {a b : List Entry} (n : ℕ) → Begins a b → n ≤ length a → take n b ≡ take n a
 take_more {a} {b} n h l = ap (take n) (sym h.same) ∙ take-append-le n a h.rest l

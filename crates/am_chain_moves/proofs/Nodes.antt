@@ -1,21 +1,10 @@
 -- What each move of one node keeps of that node.
-use Rattle.am_chain_lists.proofs.Rows.{low_or_above}
-use Rattle.std.proofs.Common.{◌≡◌, ◌≢◌, ◌⊎◌, ⊎_elim, ℕ, ◌+◌, ◌<◌, ◌≤◌, Bool, true, false, List, [], ◌∷◌, ◌++◌, length, take, Some, slice_get, refl, sym, ap}
-use Rattle.std.proofs.Common.{◌∙◌, subst, arith, length-append}
-use Rattle.std.proofs.lemmas.List.{take-append-le}
-use Rattle.std.proofs.lemmas.Option.{slice_get_within}
-use Rattle.am_base.specs.declared.name.Stamp.{Stamp}
-use Rattle.am_base.specs.declared.entry.Entry.{Entry}
-use Rattle.am_base.specs.declared.entry.Entry.TheVariants.{View}
-use Rattle.am_base.specs.Names.{rank_of}
-use Rattle.am_chain_lists.specs.Whole.{Begins, mem, view_of, key}
-use Rattle.am_chain_lists.proofs.Prefixes.{begins_more, begins_trans, begins_length, begins_both, begins_same, begins_push, length_push, below_begins}
-use Rattle.am_chain_lists.proofs.Prefixes.{below_length, below_of, begins_take, length_take}
-use Rattle.am_chain_lists.proofs.Members.{mem_between}
-use Rattle.am_chain_lists.proofs.Order.{view_up}
-use Rattle.am_chain_moves.specs.Group.{Node, opening, Views, Group, chain_of, current_of, IsThere, IsUp, IsOngoing}
-use Rattle.am_chain_moves.specs.Moves.{own_stamp, longer, MayWelcome}
-use Rattle.am_chain_moves.specs.Kept.{FrontsOk, LateOk, BallotOk, NodeOk, ServedOk, ViewsOk}
+use Rattle.am_chain_moves.proofs.Words.{low_or_above, ◌≡◌, ◌≢◌, ◌⊎◌, ⊎_elim, ℕ, ◌+◌, ◌<◌, ◌≤◌, Bool, true, false, List, [], ◌∷◌, ◌++◌, length, take, Some}
+use Rattle.am_chain_moves.proofs.Words.{slice_get, refl, sym, ap, ◌∙◌, subst, arith, length-append, take-append-le, slice_get_within, Stamp, Entry, View}
+use Rattle.am_chain_moves.proofs.Words.{rank_of, Begins, mem, view_of, key, begins_more, begins_trans, begins_length, begins_both, begins_same, begins_push}
+use Rattle.am_chain_moves.proofs.Words.{length_push, below_begins, below_length, below_of, begins_take, length_take, mem_between, view_up, Node, opening}
+use Rattle.am_chain_moves.proofs.Words.{Views, Group, chain_of, current_of, IsThere, IsUp, IsOngoing, own_stamp, longer, MayWelcome, FrontsOk, LateOk}
+use Rattle.am_chain_moves.proofs.Words.{BallotOk, NodeOk, ServedOk, ViewsOk}
 
 -- a list that goes on
 pub fronts_longer : (group : List Entry) (m n : Node) (more : List Entry) → n.list ≡ m.list ++ more → n.told ≡ m.told → n.acc ≡ m.acc → FrontsOk group m

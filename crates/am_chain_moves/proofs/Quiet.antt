@@ -1,24 +1,14 @@
 -- Each move but a decision keeps what is kept, whoever stopped.
-use Rattle.am_chain_lists.proofs.Rows.{low_or_above}
-use Rattle.std.proofs.Common.{◌≡◌, ◌≢◌, ◌⊎◌, ⊎_elim, inl, inr, ℕ, ◌<◌, ◌≤◌, Bool, true, false, List, [], ◌∷◌, ◌++◌, length, take, Some, slice_get, refl, sym}
-use Rattle.std.proofs.Common.{ap, ◌∙◌, subst, arith}
-use Rattle.am_base.specs.declared.name.Stamp.{Stamp}
-use Rattle.am_base.specs.declared.entry.Entry.{Entry}
-use Rattle.am_base.specs.declared.entry.Entry.TheVariants.{Data, Join, Leave, View}
-use Rattle.am_base.specs.Lists.{fits}
-use Rattle.am_chain_lists.specs.Whole.{Begins, NotView, image_of, mem, view_of, key}
-use Rattle.am_chain_lists.proofs.Prefixes.{begins_refl, begins_nil, begins_more, begins_trans, begins_length, begins_both, below_begins}
-use Rattle.am_chain_lists.proofs.Rows.{Spares}
-use Rattle.am_chain_lists.proofs.Members.{mem_between, mem_push}
-use Rattle.am_chain_lists.proofs.Order.{key_by}
-use Rattle.am_chain_moves.specs.Group.{put, Node, Group, chain_of, IsThere, IsUp, Leads, IsOngoing, IsHeld, MayAccept}
-use Rattle.am_chain_moves.specs.Moves.{longer, own_stamp, IsAbove, MayNumber, MayWelcome, MayDepart, with_node, with_line}
-use Rattle.am_chain_moves.specs.Kept.{ServedOk, DepartedOk, Kept}
-use Rattle.am_chain_moves.proofs.Puts.{put_cases, put_same, put_other}
-use Rattle.am_chain_moves.proofs.Frames.{Later, later_promise, node_change}
-use Rattle.am_chain_moves.proofs.Nodes.{fronts_longer, flags_ok, fronts_ok, raise_ok, begin_ok, own_above, store_ok, fetch_ok, fetch_chain}
-use Rattle.am_chain_moves.proofs.Nodes.{welcome_ok, welcome_now}
-use Rattle.am_chain_moves.proofs.Fronts.{group_change, chain_change, grown, views_grow, chain_is, good_grown}
+use Rattle.am_chain_moves.proofs.Words.{low_or_above, ◌≡◌, ◌≢◌, ◌⊎◌, ⊎_elim, inl, inr, ℕ, ◌<◌, ◌≤◌, Bool, true, false, List, [], ◌∷◌, ◌++◌, length, take}
+use Rattle.am_chain_moves.proofs.Words.{Some, slice_get, refl, sym, ap, ◌∙◌, subst, arith, Stamp, Entry, Data, Join, Leave, View, fits, Begins, NotView}
+use Rattle.am_chain_moves.proofs.Words.{image_of, mem, view_of, key, begins_refl, begins_nil, begins_more, begins_trans, begins_length, begins_both}
+use Rattle.am_chain_moves.proofs.Words.{below_begins, Spares, mem_between, mem_push, key_by, put, Node, Group, chain_of, IsThere, IsUp, Leads, IsOngoing}
+use Rattle.am_chain_moves.proofs.Words.{IsHeld, MayAccept, longer, own_stamp, IsAbove, MayNumber, MayWelcome, MayDepart, with_node, with_line, ServedOk}
+use Rattle.am_chain_moves.proofs.Words.{DepartedOk, Kept}
+use Rattle.am_chain_moves.proofs.Nodes.{fronts_longer, flags_ok, fronts_ok, raise_ok, begin_ok, own_above, store_ok, fetch_ok, fetch_chain, welcome_ok}
+use Rattle.am_chain_moves.proofs.Nodes.{welcome_now}
+use Rattle.am_chain_moves.proofs.{Puts.put_cases, Puts.put_same, Puts.put_other, Frames.Later, Frames.later_promise, Frames.node_change, Fronts.group_change}
+use Rattle.am_chain_moves.proofs.{Fronts.chain_change, Fronts.grown, Fronts.views_grow, Fronts.chain_is, Fronts.good_grown}
 
 later_longer : (m : Node) (e : Entry) → Later m (longer m e)
 later_longer m e = record {

@@ -1,10 +1,6 @@
 -- Stamps in order.
-use Rattle.std.proofs.Common.{◌≡◌, ◌⊎◌, ⊎_elim, inl, inr, ℕ, ◌+◌, ◌<◌, ◌≤◌, Bool, true, false, ◌==◌, ◌&&◌, ◌||◌, nat_lt, refl, ap, arith}
-use Rattle.std.proofs.lemmas.Bool.Decides.{nat_tests}
-use Rattle.am_base.specs.declared.name.Stamp.{Stamp}
-use Rattle.am_base.specs.Names.{rank_of}
-use Rattle.am_base.specs.Stamps.{stamp_lt, stamp_eq}
-use Rattle.am_core.proofs.Folds.{split}
+use Rattle.am_deciding.proofs.Words.{◌≡◌, ◌⊎◌, ⊎_elim, inl, inr, ℕ, ◌+◌, ◌<◌, ◌≤◌, Bool, true, false, ◌==◌, ◌&&◌, ◌||◌, nat_lt, refl, ap, arith, nat_tests}
+use Rattle.am_deciding.proofs.Words.{Stamp, rank_of, stamp_lt, stamp_eq, split}
 
 -- pairs of numbers in order
 abbrev lex : ℕ → ℕ → ℕ → ℕ → Bool

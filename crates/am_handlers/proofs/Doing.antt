@@ -1,14 +1,6 @@
 -- A handler does its row, by what its parts do.
-use Rattle.std.proofs.Common.{◌≡◌, List, false, sym, ◌∙◌, ap, subst}
-use Rattle.am_base.specs.declared.outcome.Outcome.{Outcome}
-use Rattle.am_core.specs.Cores.{CoreState, Keeps}
-use Rattle.am_packet.specs.Boxes.{Letter}
-use Rattle.am_model.specs.Node.{Node}
-use Rattle.am_model.specs.Emit.{Plan, finish}
-use Rattle.am_model.specs.Refresh.{refresh_at_end}
-use Rattle.am_model.specs.Ends.{IsEndOf, Tells, Changes, ComesTo, Does}
-use Rattle.am_handlers.specs.Cores.{CoreTells}
-use Rattle.am_handlers.specs.Parts.{with_told}
+use Rattle.am_handlers.proofs.Words.{◌≡◌, List, false, sym, ◌∙◌, ap, subst, Outcome, CoreState, Keeps, Letter, Node, Plan, finish, refresh_at_end, IsEndOf}
+use Rattle.am_handlers.proofs.Words.{Tells, Changes, ComesTo, Does, CoreTells, with_told}
 use Rattle.am_handlers.proofs.Ends.{tells, changes}
 
 -- what a core tells, its node tells

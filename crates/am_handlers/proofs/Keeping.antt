@@ -1,38 +1,16 @@
 -- The parts of a node keep what they keep.
-use Rattle.am_chain_lists.proofs.Rows.{and_left}
-use Rattle.std.proofs.Common.{◌≡◌, ◌≢◌, ◌<◌, inl, ℕ, ◌+◌, [], ◌∷◌, length, ◌-◌, ◌≤◌, nat_lt, List, Bool, true, false, ◌&&◌, ◌==◌, Option, Some, None}
-use Rattle.std.proofs.Common.{option_map, refl, sym, ◌∙◌, ap, subst, arith}
-use Rattle.am_base.specs.declared.image.Image.{Image}
-use Rattle.am_base.specs.declared.name.Stamp.{Stamp}
-use Rattle.am_base.specs.declared.image.Report.{Report}
-use Rattle.am_base.specs.declared.image.Row.{Row}
-use Rattle.am_base.specs.declared.entry.Entry.{Entry}
-use Rattle.am_base.specs.declared.entry.Entry.TheVariants.{Data, Join, Leave, View}
-use Rattle.std.proofs.lemmas.Bool.Decides.{nat_tests}
-use Rattle.am_base.specs.Names.{has, life_of}
-use Rattle.am_base.specs.Stamps.{stamp_eq, stamp_lt}
-use Rattle.am_base.specs.Lists.{members_of, at_place, after, fits, fold}
-use Rattle.am_core.specs.Cores.{CoreState, IsInOrder, advance, accept, pass_over}
-use Rattle.am_core.specs.Kept.{IsKept}
-use Rattle.am_core.proofs.Folds.{split}
-use Rattle.am_core.proofs.Ends.{end-top, end-told, told-push}
-use Rattle.am_core.proofs.CoreLaws.{stands_self}
+use Rattle.am_handlers.proofs.Words.{and_left, ◌≡◌, ◌≢◌, ◌<◌, inl, ℕ, ◌+◌, [], ◌∷◌, length, ◌-◌, ◌≤◌, nat_lt, List, Bool, true, false, ◌&&◌, ◌==◌, Option}
+use Rattle.am_handlers.proofs.Words.{Some, None, option_map, refl, sym, ◌∙◌, ap, subst, arith, Image, Stamp, Report, Row, Entry, Data, Join, Leave, View}
+use Rattle.am_handlers.proofs.Words.{nat_tests, has, life_of, stamp_eq, stamp_lt, members_of, at_place, after, fits, fold, CoreState, IsInOrder, accept}
+use Rattle.am_handlers.proofs.Words.{pass_over, IsKept, split, end-top, end-told, told-push, stands_self, Led, LeadsBy, MayLead, own_report, tell, go_on}
+use Rattle.am_handlers.proofs.Words.{let_go, KeptBody, OwnSend, Sends, next_request, has_log, Node, Ballot, top, image_of, view, members, acts, waiting}
+use Rattle.am_handlers.proofs.Words.{is_member, is_sequencer, push_entry, with_report, after_report, Status, Member, is_view, refresh, lead, led_of, with_led}
+use Rattle.am_handlers.proofs.Words.{accepted_at, settle_at, settle_waiting, settle, refresh_at_end, IsEndOf, long_after, NodeKeeps, IsOwnBallot, IsSteady}
+use Rattle.am_handlers.proofs.Words.{IsDue, MayServe}
+use Rattle.am_core.specs.Cores.{advance}
 use Rattle.am_fronts.specs.Refresh as fronts
-use Rattle.am_fronts.specs.Refresh.{Led, LeadsBy, MayLead, own_report, tell, go_on, let_go}
-use Rattle.am_bodies.specs.declared.KeptBody.{KeptBody}
-use Rattle.am_sender.specs.declared.OwnSend.{OwnSend}
 use Rattle.am_sender.specs.Sends as sending
-use Rattle.am_sender.specs.Sends.{Sends, next_request}
-use Rattle.am_model.specs.Node.{has_log, Node, Ballot, top, image_of, view, members, acts, waiting, is_member, is_sequencer, push_entry, with_report}
-use Rattle.am_fronts.specs.Reports.{after_report}
-use Rattle.am_model.specs.declared.status.Status.{Status}
-use Rattle.am_model.specs.declared.status.Status.TheVariants.{Member}
-use Rattle.am_model.specs.Receiving.{is_view}
-use Rattle.am_model.specs.Refresh.{refresh, lead, led_of, with_led, accepted_at, settle_at, settle_waiting, settle, refresh_at_end}
-use Rattle.am_model.specs.Ends.{IsEndOf}
-use Rattle.am_chain_lists.proofs.Rows.{long_after}
 use Rattle.am_handlers.proofs.Due.{due_after}
-use Rattle.am_handlers.specs.Keeps.{NodeKeeps, IsOwnBallot, IsSteady, IsDue, MayServe}
 
 pub steady_leads : (m n : Node) → IsSteady m n → is_sequencer n ≡ is_sequencer m
 steady_leads m n s = λ k. (is_member (s.status k) && stamp_eq (s.promise k) (s.told k).view) && ((s.told k).view.by == s.who k)

@@ -1,17 +1,7 @@
 -- How often each place was told that a send of its own stands in the list, with one record more.
-use Rattle.std.proofs.Math.Bool.{and-false}
-use Rattle.std.proofs.Math.Bool.{and-true}
-use Rattle.std.proofs.Common.{◌≡◌, ◌≢◌, ℕ, ◌+◌, ◌-◌, ◌<◌, ◌==◌, Bool, true, false, ◌&&◌, List, [], ◌∷◌, ◌++◌, length, Some, cond, sum_by, slice_get, slice_set}
-use Rattle.std.proofs.Common.{slice_index, refl, sym, ap, ◌∙◌, arith}
-use Rattle.std.proofs.lemmas.Bool.Decides.{nat_tests}
-use Rattle.std.proofs.lemmas.List.{length-append, length-set, get_or-set_same, get_or-set_other}
-use Rattle.std.proofs.lemmas.List.Sums.{sum_by-append}
-use mir.Val.{bool_byte}
-use Rattle.am_base.specs.Outcomes.{is_sent}
-use Rattle.am_group.specs.declared.event.Record.{Record}
-use Rattle.am_play.specs.World.{World}
-use Rattle.am_pump.specs.Counts.{AreSent, is_sent_in, ends_sent}
-use Rattle.am_pump.specs.Generating.{sent_by}
+use Rattle.am_pump.proofs.Words.{and-false, and-true, ◌≡◌, ◌≢◌, ℕ, ◌+◌, ◌-◌, ◌<◌, ◌==◌, Bool, true, false, ◌&&◌, List, [], ◌∷◌, ◌++◌, length, Some, cond}
+use Rattle.am_pump.proofs.Words.{sum_by, slice_get, slice_set, slice_index, refl, sym, ap, ◌∙◌, arith, nat_tests, length-append, length-set, get_or-set_same}
+use Rattle.am_pump.proofs.Words.{get_or-set_other, sum_by-append, bool_byte, is_sent, Record, World, AreSent, is_sent_in, ends_sent, sent_by}
 
 -- the last of a list
 at_end : {A : Type 0} (xs : List A) (x : A) → slice_get (xs ++ x ∷ []) (length xs) ≡ Some x

@@ -1,16 +1,7 @@
 -- Who acknowledges an entry that is stored.
-use Rattle.std.proofs.Common.{◌≡◌, ℕ, List, [], Bool, if◌then◌else◌, take, ◌==◌, sym, ap, ◌∙◌}
-use Rattle.std.specs.List.{list_any}
-use Rattle.am_base.specs.declared.entry.Entry.{Entry}
-use Rattle.am_base.specs.Names.{names_of, without_name}
-use Rattle.am_packet.specs.Boxes.{Letter, with_letter}
-use Rattle.am_model.specs.Node.{Node, image_of, members, only_name, push_entry}
-use Rattle.am_model.specs.Emit.{ack_of}
-use Rattle.am_model.specs.Refresh.{refresh_at_end}
-use Rattle.am_model.specs.Receiving.{bodies_after, acknowledges, store_fitting}
-use Rattle.am_model.specs.Ends.{IsEndOf, Tells}
-use Rattle.am_receiver.specs.Pieces.{ack_where}
-use Rattle.am_handlers.proofs.Keeping.{at_end_who}
+use Rattle.am_receiver.proofs.Words.{◌≡◌, ℕ, List, [], Bool, if◌then◌else◌, take, ◌==◌, sym, ap, ◌∙◌, list_any, Entry, names_of, without_name, Letter}
+use Rattle.am_receiver.proofs.Words.{with_letter, Node, image_of, members, only_name, push_entry, ack_of, refresh_at_end, bodies_after, acknowledges}
+use Rattle.am_receiver.proofs.Words.{store_fitting, IsEndOf, Tells, ack_where, at_end_who}
 
 -- the end of a step leaves a node its name
 end_who : (mid new : Node) → IsEndOf (refresh_at_end mid) new → (n : Node) → IsEndOf n new → n.core.who ≡ mid.core.who

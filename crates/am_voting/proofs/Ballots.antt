@@ -1,18 +1,8 @@
 -- A ballot that was taken out, with a vote more or a name given up, and one that begins.
-use Rattle.std.proofs.Common.{◌≡◌, ◌≢◌, ℕ, ◌+◌, ◌<◌, min, nat_lt, List, Bool, true, false, not, ◌==◌, Option, None, refl, ap, ◌∙◌, arith}
-use Rattle.am_base.specs.Most.{most_number}
-use Rattle.am_base.specs.Names.{minus}
-use Rattle.am_base.specs.Stamps.{stamp_lt}
-use Rattle.am_base.specs.Votes.{Shown, best_vote}
-use Rattle.am_core.proofs.Folds.{split}
-use Rattle.am_model.specs.Node.{Node, Ballot, those, top, view, has_log}
-use Rattle.am_model.specs.Ballots.{with_vote, without_voter, next_stamp, new_ballot, keep_vote, give_up, decide, best_of, own_vote, has_voted, newly_needed}
-use Rattle.am_core.specs.Cores.{IsInOrder}
-use Rattle.am_base.specs.declared.image.Vote.{Vote}
-use Rattle.am_deciding.specs.Deciding.{IsTakenOut}
-use Rattle.std.proofs.lemmas.Bool.Decides.{nat_tests}
-use Rattle.am_handlers.specs.Keeps.{NodeKeeps}
-use Rattle.am_deciding.proofs.Orders.{lt_next}
+use Rattle.am_voting.proofs.Words.{◌≡◌, ◌≢◌, ℕ, ◌+◌, ◌<◌, min, nat_lt, List, Bool, true, false, not, ◌==◌, Option, None, refl, ap, ◌∙◌, arith, most_number}
+use Rattle.am_voting.proofs.Words.{minus, stamp_lt, Shown, best_vote, split, Node, Ballot, those, top, view, has_log, with_vote, without_voter, next_stamp}
+use Rattle.am_voting.proofs.Words.{new_ballot, keep_vote, give_up, decide, best_of, own_vote, has_voted, newly_needed, IsInOrder, Vote, IsTakenOut, nat_tests}
+use Rattle.am_voting.proofs.Words.{NodeKeeps, lt_next}
 
 -- ---- a ballot that was taken out, with a vote more or a name given up
 

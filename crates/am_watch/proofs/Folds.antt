@@ -1,15 +1,8 @@
 -- The greatest complete view among the pending ones, and among all.
-use Rattle.std.proofs.Common.{◌≡◌, Bool, true, false, ◌&&◌, if◌then◌else◌, List, [], ◌∷◌, map, filter, refl, ap, ◌∙◌}
-use Rattle.am_base.specs.declared.name.Stamp.{Stamp}
-use Rattle.am_base.specs.Stamps.{stamp_lt}
-use Rattle.am_play.specs.World.{Decided, World}
+use Rattle.am_watch.proofs.Words.{◌≡◌, Bool, true, false, ◌&&◌, if◌then◌else◌, List, [], ◌∷◌, map, filter, refl, ap, ◌∙◌, Stamp, stamp_lt, Decided, World}
+use Rattle.am_watch.proofs.Words.{split, DecidedView, Pending, Watching, greater, greatest, decided_of, comes_after, Each}
 use Rattle.am_play.specs.Lawful as law
-use Rattle.am_base.proofs.Greatest.{split}
-use Rattle.am_watch.specs.declared.views.DecidedView.{DecidedView}
-use Rattle.am_watch.specs.declared.views.Pending.{Pending}
 use Rattle.am_watch.specs.Watching as kept
-use Rattle.am_watch.specs.Watching.{Watching, greater, greatest}
-use Rattle.am_watch.specs.Watches.{decided_of, comes_after, Each}
 use Rattle.am_watch.proofs.Order.{lt_trans, lt_self}
 
 pub each_of : {A : Type 0} (P Q : A → Type 0) → ((x : A) → P x → Q x) → (xs : List A) → Each P xs → Each Q xs

@@ -1,13 +1,6 @@
 -- Where a View stands in the group list.
-use Rattle.std.proofs.lemmas.Bool.{le-leb}
-use Rattle.std.proofs.lemmas.Bool.{lt-leb}
-use Rattle.std.proofs.Common.{◌≡◌, ℕ, zero, suc, ◌+◌, ◌<◌, true, false, List, [], ◌∷◌, ◌++◌, length, take, None, refl, sym, ap, ◌∙◌, arith}
-use Rattle.std.specs.List.{list_any}
-use Rattle.am_base.specs.declared.name.Stamp.{Stamp}
-use Rattle.am_base.specs.declared.entry.Entry.{Entry}
-use Rattle.am_play.specs.Lawful.{is_view_of}
-use Rattle.am_base.proofs.Greatest.{split}
-use Rattle.am_watch.specs.Watching.{is_by, or_else, number_of}
+use Rattle.am_watch.proofs.Words.{le-leb, lt-leb, ◌≡◌, ℕ, zero, suc, ◌+◌, ◌<◌, true, false, List, [], ◌∷◌, ◌++◌, length, take, None, refl, sym, ap, ◌∙◌}
+use Rattle.am_watch.proofs.Words.{arith, list_any, Stamp, Entry, is_view_of, split, is_by, or_else, number_of}
 
 number_low : (s : Stamp) (number n : ℕ) (xs : List Entry) → n < number → is_by (number_of s number xs) n ≡ false
 unfolding number_of

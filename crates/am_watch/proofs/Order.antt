@@ -1,10 +1,5 @@
 -- Stamps in order.
-use Rattle.std.proofs.lemmas.Bool.{eqb-true}
-use Rattle.std.proofs.Common.{◌≡◌, ℕ, Bool, true, false, nat_lt, ◌&&◌, ◌||◌, ◌==◌, refl, arith}
-use Rattle.std.proofs.lemmas.Bool.Decides.{nat_tests}
-use Rattle.am_base.specs.declared.name.Stamp.{Stamp}
-use Rattle.am_base.specs.Names.{rank_of}
-use Rattle.am_base.specs.Stamps.{stamp_lt, stamp_eq}
+use Rattle.am_watch.proofs.Words.{eqb-true, ◌≡◌, ℕ, Bool, true, false, nat_lt, ◌&&◌, ◌||◌, ◌==◌, refl, arith, nat_tests, Stamp, rank_of, stamp_lt, stamp_eq}
 
 -- by the first number, then by the second
 abbrev pub pair_lt : ℕ → ℕ → ℕ → ℕ → Bool

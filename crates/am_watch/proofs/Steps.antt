@@ -1,42 +1,18 @@
 -- A step of a name, a stop, and any other event: what is kept afterwards is that of the world afterwards.
-use Rattle.std.proofs.lemmas.Bool.{or_parts}
-use Rattle.std.proofs.Math.Bool.{or-true}
-use Rattle.std.proofs.Math.Bool.{or-false}
-use Rattle.std.proofs.lemmas.Bool.{not-true}
-use Rattle.std.proofs.Common.{◌≡◌, ◌≢◌, ℕ, ◌+◌, ◌<◌, ◌≤◌, Bool, true, false, not, ◌&&◌, ◌||◌, ◌==◌, if◌then◌else◌, List, [], ◌∷◌, ◌++◌, length, map, filter}
-use Rattle.std.proofs.Common.{replicate, count_by, min, nat_le, nat_lt, Option, Some, None, slice_index_or, slice_set, refl, sym, ap, ◌∙◌, subst, inl, inr}
-use Rattle.std.proofs.Common.{arith}
-use Rattle.std.proofs.lemmas.List.{set-set, get_or-set_same, get_or-set_other, length-set, length-append, length-replicate, get_or-replicate, append-nil}
-use Rattle.std.proofs.lemmas.List.{map-append, get_or_past}
-use Rattle.std.proofs.lemmas.List.Elements.{filter-append}
-use Rattle.std.proofs.lemmas.Bool.{cases_lt}
-use Rattle.std.proofs.lemmas.List.Folds.{list_any-append}
-use Rattle.std.proofs.lemmas.Bool.Decides.{nat_tests}
-use Rattle.std.specs.List.{list_any}
-use Rattle.am_base.specs.declared.name.Stamp.{Stamp}
-use Rattle.am_base.specs.declared.entry.Entry.{Entry}
-use Rattle.am_base.specs.declared.entry.Entry.TheVariants.{Data, Join, Leave, View}
-use Rattle.am_base.specs.Names.{has, size, names_of}
-use Rattle.am_base.specs.Stamps.{stamp_lt, stamp_eq}
-use Rattle.am_model.specs.Node.{Node, view, is_member, set_at, has_departed}
+use Rattle.am_watch.proofs.Words.{or_parts, or-true, or-false, not-true, ◌≡◌, ◌≢◌, ℕ, ◌+◌, ◌<◌, ◌≤◌, Bool, true, false, not, ◌&&◌, ◌||◌, ◌==◌, if◌then◌else◌}
+use Rattle.am_watch.proofs.Words.{List, [], ◌∷◌, ◌++◌, length, map, filter, replicate, count_by, min, nat_le, nat_lt, Option, Some, None, slice_index_or}
+use Rattle.am_watch.proofs.Words.{slice_set, refl, sym, ap, ◌∙◌, subst, inl, inr, arith, set-set, get_or-set_same, get_or-set_other, length-set}
+use Rattle.am_watch.proofs.Words.{length-append, length-replicate, get_or-replicate, append-nil, map-append, get_or_past, filter-append, cases_lt}
+use Rattle.am_watch.proofs.Words.{list_any-append, nat_tests, list_any, Stamp, Entry, Data, Join, Leave, View, has, size, names_of, stamp_lt, stamp_eq, Node}
+use Rattle.am_watch.proofs.Words.{view, is_member, set_at, has_departed, Decided, World, last_view, Watch, is_view_of, split, and_both, DecidedView, Standing}
+use Rattle.am_watch.proofs.Words.{Pending, Watching, blank_standing, standing, is_by, number_of, or_else, same_flag, is_alike, with_standing, new_pending}
+use Rattle.am_watch.proofs.Words.{decided_views, with_decided, with_entries, store_view, note_entries, note_entry, is_view, finish, watch_step, pass}
+use Rattle.am_watch.proofs.Words.{place_among, accept, standing_of, view_of, decided_of, has_in_list, comes_after, Each, Sees, IsNoted, WatchesUpTo, Watches}
+use Rattle.am_watch.proofs.Words.{after, IsNew, Steps, SteppedTo, SameBut, StepsAreWatched, StopsAreWatched, OthersAreWatched, EntriesGoOn, AcceptedGoesOn}
 use Rattle.am_play.specs.World as run
-use Rattle.am_play.specs.World.{Decided, World, last_view}
-use Rattle.am_play.specs.Lawful.{Watch, is_view_of}
-use Rattle.am_base.proofs.Greatest.{split, and_both}
-use Rattle.am_watch.specs.declared.views.DecidedView.{DecidedView}
-use Rattle.am_watch.specs.declared.views.Standing.{Standing}
-use Rattle.am_watch.specs.declared.views.Pending.{Pending}
 use Rattle.am_watch.specs.Watching as kept
-use Rattle.am_watch.specs.Watching.{Watching, blank_standing, standing, is_by, number_of, or_else, same_flag, is_alike, with_standing, new_pending}
-use Rattle.am_watch.specs.Watching.{decided_views, with_decided}
-use Rattle.am_watch.specs.Watching.{with_entries, store_view, note_entries, note_entry, is_view, finish, watch_step, pass, place_among, accept}
-use Rattle.am_watch.specs.Watches.{standing_of, view_of, decided_of, has_in_list, comes_after, Each, Sees, IsNoted, WatchesUpTo, Watches, after, IsNew, Steps}
-use Rattle.am_watch.specs.Watches.{SteppedTo, SameBut, StepsAreWatched, StopsAreWatched, OthersAreWatched, EntriesGoOn, AcceptedGoesOn}
-use Rattle.am_watch.proofs.Order.{same_stamp}
-use Rattle.am_watch.proofs.Folds.{each_of}
-use Rattle.am_watch.proofs.Numbers.{number_none, number_append}
-use Rattle.am_watch.proofs.Complete.{complete_is}
-use Rattle.am_watch.proofs.Looks.{IsReady, looks, passes}
+use Rattle.am_watch.proofs.{Order.same_stamp, Folds.each_of, Numbers.number_none, Numbers.number_append, Complete.complete_is, Looks.IsReady, Looks.looks}
+use Rattle.am_watch.proofs.{Looks.passes}
 
 -- ---- each of a list
 

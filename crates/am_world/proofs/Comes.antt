@@ -1,28 +1,13 @@
 -- What an event asks of a node, or its answer without one, comes to what the run makes of it.
-use Rattle.std.proofs.Common.{◌≡◌, ℕ, ◌+◌, ◌<◌, ◌==◌, ◌||◌, not, Bool, true, false, if◌then◌else◌, List, [], ◌∷◌, ◌++◌, Option, Some, None, Result, Err}
-use Rattle.std.proofs.Common.{refl, sym, ap, ◌∙◌, subst, arith}
-use Rattle.std.specs.Prelude.{OnOk}
-use Rattle.std.proofs.lemmas.Result.{on_ok_weaker}
-use Rattle.am_base.specs.Names.{place_of, life_of, name_at}
-use Rattle.am_base.specs.declared.outcome.Outcome.{Outcome}
+use Rattle.am_world.proofs.Words.{◌≡◌, ℕ, ◌+◌, ◌<◌, ◌==◌, ◌||◌, not, Bool, true, false, if◌then◌else◌, List, [], ◌∷◌, ◌++◌, Option, Some, None, Result, Err}
+use Rattle.am_world.proofs.Words.{refl, sym, ap, ◌∙◌, subst, arith, OnOk, on_ok_weaker, place_of, life_of, name_at, Outcome, NodeEvent, Packet, Letter}
+use Rattle.am_world.proofs.Words.{IsPacket, spelling, Act, Event, letter_at, is_for, Step, step, hear, World, current, is_stopped, with_record, with_step}
+use Rattle.am_world.proofs.Words.{hears_letter, hear_cut, comes_back, lives_on, acts_as, happens, has_departed, spelling_is_heard, cut_is_heard, flag_of}
+use Rattle.am_world.proofs.Words.{if_running, first_bytes, gives_up, stops, returns, event_or_answer, SpellsPacket, after_answer, comes}
+use Rattle.am_world.specs.Asked.{hears}
 use Rattle.am_base.specs.declared.outcome.Outcome.TheVariants as said
-use Rattle.am_base.specs.declared.event.NodeEvent.{NodeEvent}
 use Rattle.am_base.specs.declared.event.NodeEvent.TheVariants as does
-use Rattle.am_packet.specs.declared.packet.Packet.{Packet}
-use Rattle.am_packet.specs.Boxes.{Letter}
-use Rattle.am_codec.specs.Limits.{IsPacket}
-use Rattle.am_codec.specs.Spelling.{spelling}
-use Rattle.am_group.specs.declared.event.Act.{Act}
 use Rattle.am_group.specs.declared.event.Act.TheVariants as act
-use Rattle.am_group.specs.declared.event.Event.{Event}
-use Rattle.am_group.specs.Journals.{letter_at}
-use Rattle.am_group.specs.Addressed.{is_for}
-use Rattle.am_model.specs.Emit.{Step}
-use Rattle.am_model.specs.Step.{step, hear}
-use Rattle.am_play.specs.World.{World, current, is_stopped, with_record, with_step, hears_letter, hear_cut, comes_back, lives_on, acts_as, happens}
-use Rattle.am_model.specs.Node.{has_departed}
-use Rattle.am_meaning.proofs.Bytes.{spelling_is_heard, cut_is_heard}
-use Rattle.am_world.specs.Asked.{flag_of, if_running, first_bytes, hears, gives_up, stops, returns, event_or_answer, SpellsPacket, after_answer, comes}
 
 -- ---- names of places
 

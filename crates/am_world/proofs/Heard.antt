@@ -1,31 +1,13 @@
 -- What comes of an event at which a letter is heard, or its first bytes.
-use Rattle.std.proofs.Common.{◌≡◌, ℕ, ◌<◌, Bool, true, false, List, [], Option, Some, None, Result, Ok, Err, refl, sym, ap, ◌∙◌, subst, arith}
-use Rattle.std.specs.Prelude.{OnOk}
-use Rattle.std.proofs.lemmas.Option.{none-some, same_Some}
-use Rattle.std.proofs.lemmas.Result.{on_ok_weaker}
-use Rattle.am_base.specs.Founding.{Rules}
-use Rattle.am_base.specs.Names.{place_of}
-use Rattle.am_base.specs.declared.entry.Entry.{Entry}
-use Rattle.am_base.specs.declared.event.NodeEvent.{NodeEvent}
+use Rattle.am_world.proofs.Words.{◌≡◌, ℕ, ◌<◌, Bool, true, false, List, [], Option, Some, None, Result, Ok, Err, refl, sym, ap, ◌∙◌, subst, arith, OnOk}
+use Rattle.am_world.proofs.Words.{none-some, same_Some, on_ok_weaker, Rules, place_of, Entry, NodeEvent, Outcome, Letter, IsPacket, spelling, Act, Event}
+use Rattle.am_world.proofs.Words.{Record, is_for, letters_of, letter_at, current, happens, Node, Heard, flag_of, first_bytes, heard_of, event_or_answer}
+use Rattle.am_world.proofs.Words.{comes, SpellsPacket, Play, replay, play_of, IsRun}
+use Rattle.am_world.specs.Asked.{hears}
 use Rattle.am_base.specs.declared.event.NodeEvent.TheVariants as does
-use Rattle.am_base.specs.declared.outcome.Outcome.{Outcome}
 use Rattle.am_base.specs.declared.outcome.Outcome.TheVariants as said
-use Rattle.am_packet.specs.Boxes.{Letter}
-use Rattle.am_codec.specs.Limits.{IsPacket}
-use Rattle.am_codec.specs.Spelling.{spelling}
-use Rattle.am_group.specs.declared.event.Act.{Act}
 use Rattle.am_group.specs.declared.event.Act.TheVariants as act
-use Rattle.am_group.specs.declared.event.Event.{Event}
-use Rattle.am_group.specs.declared.event.Record.{Record}
-use Rattle.am_group.specs.Addressed.{is_for}
-use Rattle.am_group.specs.Journals.{letters_of, letter_at}
-use Rattle.am_play.specs.World.{current, happens}
-use Rattle.am_node.specs.declared.node.Node.{Node}
-use Rattle.am_world.specs.declared.asked.Heard.{Heard}
-use Rattle.am_world.specs.Asked.{flag_of, first_bytes, hears, heard_of, event_or_answer, comes, SpellsPacket}
-use Rattle.am_world.specs.Runs.{Play, replay, play_of, IsRun}
-use Rattle.am_world.proofs.Comes.{gone_now, happens_comes}
-use Rattle.am_world.proofs.Goes.{shows_at}
+use Rattle.am_world.proofs.{Comes.gone_now, Comes.happens_comes, Goes.shows_at}
 
 -- ---- what was looked up
 

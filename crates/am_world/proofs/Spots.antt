@@ -1,7 +1,5 @@
 -- Nodes of which one changes.
-use Rattle.std.proofs.Common.{◌≡◌, ℕ, zero, suc, ◌<◌, List, [], ◌∷◌, length, Some, slice_get, slice_set, slice_index_or}
-use Rattle.std.proofs.Common.{refl, ap, arith}
-use Rattle.std.proofs.lemmas.Option.{slice_get_read}
+use Rattle.am_world.proofs.Words.{◌≡◌, ℕ, zero, suc, ◌<◌, List, [], ◌∷◌, length, Some, slice_get, slice_set, slice_index_or, refl, ap, arith, slice_get_read}
 
 pub get_set_here : {A : Type 0} (xs : List A) (i : ℕ) (y z : A) → i < length xs → slice_get (slice_set xs i y) i ≡ Some z → y ≡ z
 get_set_here [] i y z h g = absurd (omega arith)

@@ -1,43 +1,18 @@
 -- Where a node's list begins after a step: where it did, or at the base that a Welcome told.
-use Rattle.am_effects.proofs.Tests.{is_itself}
-use Rattle.am_effects.proofs.Statuses.{logged}
-use Rattle.std.proofs.Common.{◌≡◌, ℕ, ◌≤◌, ◌==◌, ◌&&◌, ◌||◌, not, Bool, true, false, if◌then◌else◌, List, None, refl, sym, ap, ◌∙◌, subst, arith}
-use Rattle.std.proofs.lemmas.Bool.Decides.{nat_tests}
-use Rattle.am_base.specs.declared.outcome.Outcome.{Outcome}
-use Rattle.am_base.specs.declared.name.Stamp.{Stamp}
-use Rattle.am_base.specs.declared.image.Image.{Image}
-use Rattle.am_base.specs.Founding.{Rules, MayFound}
-use Rattle.am_base.specs.Stamps.{stamp_eq}
-use Rattle.am_base.specs.Lists.{Log}
-use Rattle.am_packet.specs.declared.packet.Packet.{Packet}
+use Rattle.am_world.proofs.Words.{is_itself, logged, ◌≡◌, ℕ, ◌≤◌, ◌==◌, ◌&&◌, ◌||◌, not, Bool, true, false, if◌then◌else◌, List, None, refl, sym, ap, ◌∙◌}
+use Rattle.am_world.proofs.Words.{subst, arith, nat_tests, Outcome, Stamp, Image, Rules, MayFound, stamp_eq, Log, Packet, Event, pass_over, Status, Ballot}
+use Rattle.am_world.proofs.Words.{view, is_sequencer, is_member, is_asking, has_log, Verdict, refresh, Step, World, run, happens, with_step, with_record}
+use Rattle.am_world.proofs.Words.{split, and_both, Cause, calls, hears, refuses, BringsFronts, with_entry, with_number, alone, BeginsBy, by_reset}
+use Rattle.am_world.proofs.Words.{by_hand_over, Balloting, with_more, without_one, as_it_is, Looks, finds_itself_out, waits, fetches_from_best, finds_too_few}
+use Rattle.am_world.proofs.Words.{finds_no_room, whole_entry, by_number, Promises, invited, overtaken, told_result, Change, refreshes, settles, admits}
+use Rattle.am_world.proofs.Words.{numbers, notes, stores, begins_list, departs, promises, opens, looks, fetches, stores_view, asks_to_join, closes, Changes}
+use Rattle.am_world.proofs.Words.{actor, Happens, steps, events_have_effects, rests_refresh, settle_is, along, IsBlank, blank_holds, leads_member, member_of}
+use Rattle.am_world.proofs.Words.{standing_of, HeardLow, change_begins, lists_go_on, begins}
+use Rattle.am_core.specs.Cores.{accept}
+use Rattle.am_model.specs.Node.{Node}
+use Rattle.am_effects.specs.Looks.{decides}
 use Rattle.am_packet.specs.declared.packet.Packet.TheVariants as packet
-use Rattle.am_group.specs.declared.event.Event.{Event}
-use Rattle.am_core.specs.Cores.{accept, pass_over}
-use Rattle.am_model.specs.declared.status.Status.{Status}
 use Rattle.am_model.specs.declared.status.Status.TheVariants as status
-use Rattle.am_model.specs.Node.{Node, Ballot, view, is_sequencer, is_member, is_asking, has_log}
-use Rattle.am_model.specs.Ballots.{Verdict}
-use Rattle.am_model.specs.Refresh.{refresh}
-use Rattle.am_model.specs.Emit.{Step}
-use Rattle.am_play.specs.World.{World, run, happens, with_step, with_record}
-use Rattle.am_base.proofs.Greatest.{split, and_both}
-use Rattle.am_effects.specs.Causes.{Cause, calls, hears, refuses, BringsFronts, with_entry, with_number, alone}
-use Rattle.am_effects.specs.Looks.{BeginsBy, by_reset, by_hand_over, Balloting, with_more, without_one, as_it_is, Looks, finds_itself_out, waits}
-use Rattle.am_effects.specs.Looks.{fetches_from_best, finds_too_few, finds_no_room, decides}
-use Rattle.am_effects.specs.Changes.{whole_entry, by_number, Promises, invited, overtaken, told_result, Change, refreshes, settles, admits}
-use Rattle.am_effects.specs.Changes.{numbers, notes, stores, begins_list, departs, promises, opens, looks, fetches, stores_view}
-use Rattle.am_effects.specs.Changes.{asks_to_join, closes, Changes}
-use Rattle.am_effects.specs.Events.{actor, Happens, steps}
-use Rattle.am_effects.proofs.Events.{events_have_effects}
-use Rattle.am_effects.proofs.Rests.{rests_refresh, settle_is}
-use Rattle.am_effects.proofs.Runs.{along}
-use Rattle.am_laws.specs.Blank.{IsBlank}
-use Rattle.am_laws.proofs.Blank.{blank_holds}
-use Rattle.am_laws.proofs.ViewChanges.{leads_member, member_of}
-use Rattle.am_watch.specs.Watches.{standing_of}
-use Rattle.am_watched.proofs.Chains.{HeardLow, change_begins}
-use Rattle.am_watched.proofs.Lists.{lists_go_on}
-use Rattle.am_world.specs.Watched.{begins}
 
 -- ---- by another cause than a Welcome no list begins
 

@@ -1,27 +1,12 @@
 -- What is so of a name's step in every run, as the world tells its watcher of it.
-use Rattle.am_effects.proofs.Tests.{is_itself}
-use Rattle.am_effects.proofs.Resets.{stamp_itself}
-use Rattle.std.proofs.Common.{◌≡◌, ℕ, ◌≤◌, ◌&&◌, ◌||◌, not, Bool, true, false, if◌then◌else◌, List, length, refl, sym, ap}
-use Rattle.std.proofs.Common.{subst, arith}
-use Rattle.std.specs.List.{list_any}
-use Rattle.am_base.specs.declared.name.Stamp.{Stamp}
-use Rattle.am_base.specs.declared.event.NodeEvent.{NodeEvent}
-use Rattle.am_base.specs.Founding.{Rules, MayFound}
-use Rattle.am_group.specs.declared.event.Event.{Event}
-use Rattle.am_model.specs.Node.{Node, view}
-use Rattle.am_model.specs.Step.{step}
-use Rattle.am_play.specs.World.{World, run, happens, with_step, with_record, decides}
-use Rattle.am_play.specs.Lawful.{is_view_of}
-use Rattle.am_effects.specs.Events.{actor, Happens, idles, stops, returns, steps}
-use Rattle.am_effects.proofs.Events.{events_have_effects}
-use Rattle.am_laws.proofs.Named.{few_names, names_hold}
-use Rattle.am_laws.proofs.RunCounts.{numbers_hold}
-use Rattle.am_watch.specs.Watches.{IsNew, standing_of, view_of}
-use Rattle.am_watched.proofs.Lists.{run_lists, lists_go_on}
-use Rattle.am_watched.proofs.New.{decided_are_new}
-use Rattle.am_world.specs.Watched.{begins, stored_of}
-use Rattle.am_world.proofs.Start.{step_begins}
-use Rattle.am_world.proofs.StoredSteps.{step_adds, told_is}
+use Rattle.am_world.proofs.Words.{is_itself, stamp_itself, ◌≡◌, ℕ, ◌≤◌, ◌&&◌, ◌||◌, not, Bool, true, false, if◌then◌else◌, List, length, refl, sym, ap, subst}
+use Rattle.am_world.proofs.Words.{arith, list_any, Stamp, NodeEvent, Rules, MayFound, Event, view, step, World, run, happens, with_step, with_record}
+use Rattle.am_world.proofs.Words.{is_view_of, actor, Happens, idles, steps, events_have_effects, few_names, names_hold, numbers_hold, IsNew, standing_of}
+use Rattle.am_world.proofs.Words.{view_of, run_lists, lists_go_on, decided_are_new, begins, stored_of}
+use Rattle.am_model.specs.Node.{Node}
+use Rattle.am_play.specs.World.{decides}
+use Rattle.am_effects.specs.Events.{stops, returns}
+use Rattle.am_world.proofs.{Start.step_begins, StoredSteps.step_adds, StoredSteps.told_is}
 
 -- where the list of a name's node begins after a step
 pub begins_at : (rules : Rules) (events : List Event) (e : Event) (what : NodeEvent) → MayFound rules

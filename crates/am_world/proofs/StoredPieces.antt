@@ -1,37 +1,16 @@
 -- Which Views a Piece and a Result add to a node's list.
-use Rattle.std.proofs.Math.Bool.{or-false}
-use Rattle.std.proofs.lemmas.Bool.{eq-eqb}
-use Rattle.am_laws.proofs.ViewSteps.{view_last}
-use Rattle.std.proofs.lemmas.Bool.{not-false}
-use Rattle.am_effects.proofs.Resets.{same_stamp}
-use Rattle.std.proofs.Common.{◌≡◌, ℕ, ◌+◌, ◌-◌, max, ◌==◌, ◌&&◌, ◌||◌, not, nat_lt, nat_le, if◌then◌else◌, Bool, true, false, List, [], ◌∷◌, Option, Some, None}
-use Rattle.std.proofs.Common.{refl, sym, ap, ◌∙◌, subst}
-use Rattle.std.specs.List.{list_any}
-use Rattle.am_base.specs.declared.outcome.Outcome.{Outcome}
+use Rattle.am_world.proofs.Words.{or-false, eq-eqb, view_last, not-false, same_stamp, ◌≡◌, ℕ, ◌+◌, ◌-◌, max, ◌==◌, ◌&&◌, ◌||◌, not, nat_lt, nat_le}
+use Rattle.am_world.proofs.Words.{if◌then◌else◌, Bool, true, false, List, [], ◌∷◌, Option, Some, None, refl, sym, ap, ◌∙◌, subst, list_any, Outcome, Stamp}
+use Rattle.am_world.proofs.Words.{Image, Entry, View, has, size, stamp_lt, stamp_eq, Log, fits, Status, has_log, Ballot, top, image_of, view, those}
+use Rattle.am_world.proofs.Words.{is_member, has_own_leave, is_within_bound, push_entry, trim_up_to, Plan, Step, quiet, finish, Verdict, with_promise}
+use Rattle.am_world.proofs.Words.{need_of, best_of, is_waited_for, left_in, trim_for, decide, decide_view, ends, restart_reports, refresh_at_end}
+use Rattle.am_world.proofs.Words.{is_view_past, push_fetched, catch_up, decide_anew, fetches_from, piece_promised, piece_for, piece_row, hears_result}
+use Rattle.am_world.proofs.Words.{result_row, hears_member, hear_row, is_view_of, split, and_both, or_first, rests_at_end, view_pushed, not_above_itself}
+use Rattle.am_world.proofs.Words.{IsOpen, OpenBallot, Balloted}
+use Rattle.am_base.specs.Lists.{with_entry}
+use Rattle.am_model.specs.Node.{Node}
 use Rattle.am_base.specs.declared.outcome.Outcome.TheVariants as said
-use Rattle.am_base.specs.declared.name.Stamp.{Stamp}
-use Rattle.am_base.specs.declared.image.Image.{Image}
-use Rattle.am_base.specs.declared.entry.Entry.{Entry}
-use Rattle.am_base.specs.declared.entry.Entry.TheVariants.{View}
-use Rattle.am_base.specs.Names.{has, size}
-use Rattle.am_base.specs.Stamps.{stamp_lt, stamp_eq}
-use Rattle.am_base.specs.Lists.{Log, fits, with_entry}
 use Rattle.am_packet.specs.declared.packet.Packet.TheVariants as packet
-use Rattle.am_model.specs.declared.status.Status.{Status}
-use Rattle.am_model.specs.Node.{has_log, Node, Ballot, top, image_of, view, those, is_member, has_own_leave, is_within_bound, push_entry, trim_up_to}
-use Rattle.am_model.specs.Emit.{Plan, Step, quiet, finish}
-use Rattle.am_model.specs.Ballots.{Verdict, with_promise, need_of, best_of, is_waited_for, left_in, trim_for, decide, decide_view, ends, restart_reports}
-use Rattle.am_model.specs.Refresh.{refresh_at_end}
-use Rattle.am_model.specs.Resets.{is_view_past, push_fetched, catch_up, decide_anew, fetches_from, piece_promised, piece_for, piece_row, hears_result}
-use Rattle.am_model.specs.Resets.{result_row}
-use Rattle.am_model.specs.Hearing.{hears_member, hear_row}
-use Rattle.am_play.specs.Lawful.{is_view_of}
-use Rattle.am_base.proofs.Greatest.{split, and_both}
-use Rattle.am_effects.proofs.Tests.{or_first}
-use Rattle.am_effects.proofs.Rests.{rests_at_end}
-use Rattle.am_effects.proofs.Says.{view_pushed}
-use Rattle.am_laws.proofs.Stamps.{not_above_itself}
-use Rattle.am_laws.proofs.ViewChanges.{IsOpen, OpenBallot, Balloted}
 use Rattle.am_world.proofs.StoredViews.{has_view, view_in, or_swaps, has_view_more, has_view_plain}
 
 -- the name decided a view of its own, as its list tells

@@ -1,35 +1,13 @@
 -- Which Views a step of any cause adds to a node's list, and that these are what a watcher is told.
-use Rattle.std.proofs.lemmas.Bool.{or_right}
-use Rattle.std.proofs.lemmas.Bool.{or_left}
-use Rattle.std.proofs.Math.Bool.{or-false}
-use Rattle.am_effects.proofs.Statuses.{logged}
-use Rattle.am_effects.proofs.Resets.{stamp_itself}
-use Rattle.std.proofs.Common.{◌≡◌, ℕ, ◌&&◌, ◌||◌, not, if◌then◌else◌, Bool, true, false, List, [], ◌∷◌, ◌++◌, Option, Some, None, Ok, Err, refl, sym, ap, ◌∙◌}
-use Rattle.std.specs.List.{list_any}
-use Rattle.std.proofs.lemmas.List.Folds.{list_any-append}
-use Rattle.am_base.specs.declared.outcome.Outcome.{Outcome}
-use Rattle.am_base.specs.declared.name.Stamp.{Stamp}
-use Rattle.am_base.specs.declared.entry.Entry.{Entry}
-use Rattle.am_base.specs.declared.event.NodeEvent.{NodeEvent}
+use Rattle.am_world.proofs.Words.{or_right, or_left, or-false, logged, stamp_itself, ◌≡◌, ℕ, ◌&&◌, ◌||◌, not, if◌then◌else◌, Bool, true, false, List, [], ◌∷◌}
+use Rattle.am_world.proofs.Words.{◌++◌, Option, Some, None, Ok, Err, refl, sym, ap, ◌∙◌, list_any, list_any-append, Outcome, Stamp, Entry, NodeEvent}
+use Rattle.am_world.proofs.Words.{stamp_eq, Packet, Piece, Read, reading, cause_of, Ballot, view, is_member, has_log, Step, finish, hear_row, read_row, step}
+use Rattle.am_world.proofs.Words.{row, hear, hear_refusal, is_view_of, split, Cause, hears, refuses, Effect, steps_have_effects, hearing_has_effects}
+use Rattle.am_world.proofs.Words.{refusing_has_effects, Balloted, OpenBallot, decides, standing_of, view_of, IsBare, begins, one_of, piece_in, fetched_from}
+use Rattle.am_world.proofs.Words.{entry_in, last_view, stored_of}
+use Rattle.am_packet.specs.declared.packet.Packet.TheVariants.{Result}
+use Rattle.am_model.specs.Node.{Node}
 use Rattle.am_base.specs.declared.event.NodeEvent.TheVariants as does
-use Rattle.am_base.specs.Stamps.{stamp_eq}
-use Rattle.am_packet.specs.declared.packet.Packet.{Packet}
-use Rattle.am_packet.specs.declared.packet.Packet.TheVariants.{Piece, Result}
-use Rattle.am_codec.specs.Reading.{Read, reading, cause_of}
-use Rattle.am_model.specs.Node.{Node, Ballot, view, is_member, has_log}
-use Rattle.am_model.specs.Emit.{Step, finish}
-use Rattle.am_model.specs.Hearing.{hear_row}
-use Rattle.am_model.specs.Step.{read_row, step, row, hear, hear_refusal}
-use Rattle.am_play.specs.Lawful.{is_view_of}
-use Rattle.am_base.proofs.Greatest.{split}
-use Rattle.am_effects.specs.Causes.{Cause, hears, refuses}
-use Rattle.am_effects.specs.Effects.{Effect}
-use Rattle.am_effects.proofs.Hearing.{steps_have_effects, hearing_has_effects, refusing_has_effects}
-use Rattle.am_laws.proofs.ViewChanges.{Balloted, OpenBallot}
-use Rattle.am_watch.specs.Watching.{decides}
-use Rattle.am_watch.specs.Watches.{standing_of, view_of}
-use Rattle.am_watched.proofs.Lists.{IsBare}
-use Rattle.am_world.specs.Watched.{begins, one_of, piece_in, fetched_from, entry_in, last_view, stored_of}
 use Rattle.am_world.proofs.StoredViews.{has_view, IsAbove, BringsNone, Walked, still, more, new, walked}
 use Rattle.am_world.proofs.StoredPieces.{any_of, Adds, none, last, began, StepAdds, finish_adds, differs, piece_adds, result_adds}
 

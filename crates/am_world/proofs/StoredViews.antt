@@ -1,44 +1,19 @@
 -- Which Views the changes of a step add to a node's list.
-use Rattle.am_watch.proofs.Steps.{view_one}
-use Rattle.std.proofs.Math.Bool.{or-false}
-use Rattle.am_laws.proofs.ViewSteps.{view_last}
-use Rattle.am_laws.proofs.ViewChanges.{next_above}
-use Rattle.am_laws.proofs.ViewChanges.{welcomed_none}
-use Rattle.am_laws.proofs.ViewChanges.{numbers_plain}
-use Rattle.std.proofs.lemmas.Bool.{not-true}
-use Rattle.am_effects.proofs.Resets.{same_stamp}
-use Rattle.std.proofs.Common.{◌≡◌, ℕ, ◌+◌, ◌≤◌, ◌==◌, ◌&&◌, ◌||◌, not, Bool, true, false, List, [], ◌∷◌, length, Option, Some, None, refl, sym, ap, ◌∙◌}
-use Rattle.std.proofs.Common.{subst, arith, length-append}
-use Rattle.std.specs.List.{list_any}
-use Rattle.std.proofs.lemmas.Bool.Decides.{nat_tests}
-use Rattle.std.proofs.lemmas.List.Folds.{list_any-append}
-use Rattle.am_base.specs.declared.outcome.Outcome.{Outcome}
+use Rattle.am_world.proofs.Words.{view_one, or-false, view_last, next_above, welcomed_none, numbers_plain, not-true, same_stamp, ◌≡◌, ℕ, ◌+◌, ◌≤◌, ◌==◌, ◌&&◌}
+use Rattle.am_world.proofs.Words.{◌||◌, not, Bool, true, false, List, [], ◌∷◌, length, Option, Some, None, refl, sym, ap, ◌∙◌, subst, arith, length-append}
+use Rattle.am_world.proofs.Words.{list_any, nat_tests, list_any-append, Outcome, Stamp, Image, Entry, Leave, stamp_lt, stamp_eq, Log, told_by, Ballot, top}
+use Rattle.am_world.proofs.Words.{view, acts, is_sequencer, is_member, push_entry, has_log, Verdict, overtake, need_of, left_in, trim_for, next_stamp}
+use Rattle.am_world.proofs.Words.{refresh, settle, refresh_at_end, is_view, begin_list, is_view_of, split, and_both, Cause, hears, HasOpen, Balloting}
+use Rattle.am_world.proofs.Words.{with_more, without_one, as_it_is, Looks, finds_itself_out, waits, fetches_from_best, finds_too_few, finds_no_room, BeginsBy}
+use Rattle.am_world.proofs.Words.{by_reset, by_hand_over, Promises, invited, overtaken_by, told_result, MayBeWelcomed, Change, refreshes, settles}
+use Rattle.am_world.proofs.Words.{takes_report, admits, numbers, keeps_body, notes, stores, begins_list, departs, promises, opens, looks, fetches}
+use Rattle.am_world.proofs.Words.{stores_view, queues, collects, takes, asks_to_join, asks_to_leave, closes, Changes, rests_refresh, rests_at_end, settle_is}
+use Rattle.am_world.proofs.Words.{view_pushed, along, at_most, at_most_below, not_above}
+use Rattle.am_model.specs.Node.{Node}
+use Rattle.am_effects.specs.Looks.{decides}
 use Rattle.am_base.specs.declared.outcome.Outcome.TheVariants as said
-use Rattle.am_base.specs.declared.name.Stamp.{Stamp}
-use Rattle.am_base.specs.declared.image.Image.{Image}
-use Rattle.am_base.specs.declared.entry.Entry.{Entry}
-use Rattle.am_base.specs.declared.entry.Entry.TheVariants.{Leave}
-use Rattle.am_base.specs.Stamps.{stamp_lt, stamp_eq}
-use Rattle.am_base.specs.Lists.{Log, told_by}
 use Rattle.am_packet.specs.declared.packet.Packet.TheVariants as packet
 use Rattle.am_model.specs.declared.status.Status.TheVariants as status
-use Rattle.am_model.specs.Node.{Node, Ballot, top, view, acts, is_sequencer, is_member, push_entry, has_log}
-use Rattle.am_model.specs.Ballots.{Verdict, overtake, need_of, left_in, trim_for, next_stamp}
-use Rattle.am_model.specs.Refresh.{refresh, settle, refresh_at_end}
-use Rattle.am_model.specs.Receiving.{is_view}
-use Rattle.am_model.specs.Joining.{begin_list}
-use Rattle.am_play.specs.Lawful.{is_view_of}
-use Rattle.am_base.proofs.Greatest.{split, and_both}
-use Rattle.am_effects.specs.Causes.{Cause, hears}
-use Rattle.am_effects.specs.Looks.{HasOpen, Balloting, with_more, without_one, as_it_is, Looks, finds_itself_out, waits, fetches_from_best, finds_too_few}
-use Rattle.am_effects.specs.Looks.{finds_no_room, decides, BeginsBy, by_reset, by_hand_over}
-use Rattle.am_effects.specs.Changes.{Promises, invited, overtaken as overtaken_by, told_result}
-use Rattle.am_effects.specs.Changes.{MayBeWelcomed, Change, refreshes, settles, takes_report, admits, numbers, keeps_body, notes, stores, begins_list, departs}
-use Rattle.am_effects.specs.Changes.{promises, opens, looks, fetches, stores_view, queues, collects, takes, asks_to_join, asks_to_leave, closes, Changes}
-use Rattle.am_effects.proofs.Rests.{rests_refresh, rests_at_end, settle_is}
-use Rattle.am_effects.proofs.Says.{view_pushed}
-use Rattle.am_effects.proofs.Runs.{along}
-use Rattle.am_laws.proofs.Stamps.{at_most, at_most_below, not_above}
 
 -- the View of this stamp stands in a list
 abbrev pub has_view : Log → Stamp → Bool

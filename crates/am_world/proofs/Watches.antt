@@ -1,23 +1,12 @@
 -- What a watcher is told, one after another.
-use Rattle.std.proofs.Math.Bool.{or-true}
-use Rattle.std.proofs.Math.Bool.{or-false}
-use Rattle.std.proofs.Common.{◌≡◌, ℕ, ◌+◌, ◌-◌, ◌<◌, ◌≤◌, ◌&&◌, ◌||◌, ◌==◌, not, Bool, true, false, List, [], ◌∷◌, ◌++◌, length, take, drop, map}
-use Rattle.std.proofs.Common.{get_or}
-use Rattle.std.proofs.Common.{if◌then◌else◌, Option, Some, None, refl, sym, ap, ◌∙◌, arith}
-use Rattle.std.proofs.lemmas.List.{append-nil, get_or-drop, length-take, take_more, take_all}
-use Rattle.std.proofs.Common.{length-drop}
-use Rattle.am_base.specs.declared.entry.Entry.{Entry}
-use Rattle.am_watch.specs.declared.views.Pending.{Pending}
-use Rattle.am_base.specs.Stamps.{stamp_eq, stamp_lt}
-use Rattle.am_watch.specs.Watching.{Watching, note_entries, with_entry, with_entries, with_decided, decides, new_pending, finish, standing, accept, place_among}
-use Rattle.am_watch.specs.Watching.{number_of, or_else}
-use Rattle.am_base.specs.declared.event.NodeEvent.{NodeEvent}
-use Rattle.am_model.specs.Node.{Node, is_member}
-use Rattle.am_watch.specs.declared.views.DecidedView.{DecidedView}
-use Rattle.am_watch.specs.declared.views.Standing.{Standing}
-use Rattle.am_watch.specs.Watches.{view_of}
-use Rattle.am_world.specs.Watched.{begins, standing_after, stored_of, with_views, told_step}
-use Rattle.am_watch.proofs.Steps.{entries_go_on, accepted_goes_on}
+use Rattle.am_world.proofs.Words.{or-true, or-false, ◌≡◌, ℕ, ◌+◌, ◌-◌, ◌<◌, ◌≤◌, ◌&&◌, ◌||◌, ◌==◌, not, Bool, true, false, List, [], ◌∷◌, ◌++◌, length, take}
+use Rattle.am_world.proofs.Words.{drop, map, get_or, if◌then◌else◌, Option, Some, None, refl, sym, ap, ◌∙◌, arith, get_or-drop, length-take, take_more}
+use Rattle.am_world.proofs.Words.{take_all, length-drop, Entry, Pending, stamp_eq, stamp_lt, Watching, note_entries, with_entries, with_decided, decides}
+use Rattle.am_world.proofs.Words.{new_pending, standing, accept, place_among, number_of, or_else, NodeEvent, is_member, DecidedView, Standing, view_of}
+use Rattle.am_world.proofs.Words.{begins, standing_after, stored_of, with_views, told_step, entries_go_on, accepted_goes_on}
+use Rattle.std.proofs.lemmas.List.{append-nil}
+use Rattle.am_watch.specs.Watching.{with_entry, finish}
+use Rattle.am_model.specs.Node.{Node}
 
 -- nothing was stored, or one entry
 pub entries_none : (k : Watching) (name : ℕ) → with_entries k name [] ≡ k
