@@ -10,8 +10,7 @@ use Rattle.am_acting.specs.declared.note.Note.TheVariants as note
 -- ---- a member hands its send in
 
 pub hand_short : (m : Node) (req : ℕ) (body : List ℕ) (answer : Outcome) (to : List ℕ) → nat_le (length body) m.core.rules.pb_up_to ≡ true
-    → to ≡ only_name (view m).by
-    → hand_in m (own_send req body) answer ≡ noting false m answer to (note.Request req body)
+    → to ≡ only_name (view m).by → hand_in m (own_send req body) answer ≡ noting false m answer to (note.Request req body)
 hand_short m req body answer to test is = rw test (ap (λ set. noting false m answer set (note.Request req body)) (sym is))
 
 pub hand_spread : (m : Node) (req : ℕ) (body : List ℕ) (answer : Outcome) (to : List ℕ) → nat_le (length body) m.core.rules.pb_up_to ≡ false → to ≡ others m

@@ -2,11 +2,9 @@
 use Rattle.am_acting.proofs.Words.{◌≡◌, ℕ, List, [], Bool, false, refl, sym, ◌∙◌, ap, subst, Outcome, Letter, with_letter, Node, Plan, finish, refresh_at_end}
 use Rattle.am_acting.proofs.Words.{Tells, Changes, ComesTo, Does, with_told, Note, packet_of, Done, end_self, done, does_plan, noting}
 
-pub done_noting : (before : ℕ) (numbers : Bool) (m new : Node) (answer : Outcome) (to : List ℕ) (note : Note) (box sent letters : List Letter) → box ≡ []
-    → m.core.base ≡ m.core.log.start → Changes refresh_at_end m new
-    → Tells (λ n. with_letter to (packet_of note n) box) new sent
-    → Tells (with_told before false numbers sent) new letters
-    → Done before (noting numbers m answer to note) answer letters new
+pub done_noting : (before : ℕ) (numbers : Bool) (m new : Node) (answer : Outcome) (to : List ℕ) (note : Note) (box sent letters : List Letter)
+    → box ≡ [] → m.core.base ≡ m.core.log.start → Changes refresh_at_end m new → Tells (λ n. with_letter to (packet_of note n) box) new sent
+    → Tells (with_told before false numbers sent) new letters → Done before (noting numbers m answer to note) answer letters new
 done_noting before numbers m new answer to note box sent letters empty kept end puts told =
     done before (noting numbers m answer to note) m new answer sent letters refl (end_self m kept) end (λ n e. refl) (λ n e. puts n e
     ∙ ap (λ ls. with_letter to (packet_of note n) ls) empty) told

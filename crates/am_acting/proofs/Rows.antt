@@ -95,9 +95,8 @@ send_queues m body is stays few =
     let test : nat_le 4 (length m.sends.queue) ≡ false = grind (arith, nat_tests) in
     rw (is, stays, test) refl
 
-pub send_waits : (m : Node) (body : List ℕ) (req : ℕ) → is_member m.status ≡ true → m.leaving ≡ false → length m.sends.queue < 4 → is_some (waiting m) ≡ true
-    → req ≡ m.sends.last + 1
-    → send_row m body ≡ quiet (record m { sends = own.submit body m.sends }) (said.Queued req)
+pub send_waits : (m : Node) (body : List ℕ) (req : ℕ) → is_member m.status ≡ true → m.leaving ≡ false → length m.sends.queue < 4
+    → is_some (waiting m) ≡ true → req ≡ m.sends.last + 1 → send_row m body ≡ quiet (record m { sends = own.submit body m.sends }) (said.Queued req)
 send_waits m body req is stays few waits next = send_queues m body is stays few ∙ rw waits (ap (λ k. quiet (with_queued m body) (said.Queued k)) (sym next))
 
 pub send_emits : (m : Node) (body : List ℕ) (req : ℕ) → is_member m.status ≡ true → m.leaving ≡ false → length m.sends.queue < 4 → is_some (waiting m) ≡ false

@@ -156,8 +156,7 @@ numbered_done before m new to note box first sent letters empty kept end puts vi
     told_it
 
 pub handed_done : (before : ℕ) (m new : Node) (to : List ℕ) (box first sent letters : List Letter) → box ≡ [] → m.core.base ≡ m.core.log.start
-    → Changes refresh_at_end m new
-    → Tells (and_view box) new first → Tells (λ n. with_letter to (packet_of note.HandOver n) first) new sent
+    → Changes refresh_at_end m new → Tells (and_view box) new first → Tells (λ n. with_letter to (packet_of note.HandOver n) first) new sent
     → Tells (with_told before true false sent) new letters → Done before (handing m to) said.Ticked letters new
 handed_done before m new to box first sent letters empty kept end views puts told_it =
     done before (handing m to) m new said.Ticked sent letters refl (end_self m kept) end (λ n e. refl)

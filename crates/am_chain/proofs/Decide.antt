@@ -220,8 +220,7 @@ module _ (s : Group) (k : Kept s) (lawful : IsLawful s) (c : ℕ) (members : Lis
           above = ballot_above j other u b;
           by = o.by;
           staying = o.staying;
-          member =
-              o.member;
+          member = o.member;
         };
         complete = λ x h t m.
             let same = chosen_old x (k.views.marked x h) in
@@ -269,8 +268,7 @@ module _ (s : Group) (k : Kept s) (lawful : IsLawful s) (c : ℕ) (members : Lis
     start = λ h. refl;
     there = λ t. record { goes = t.goes; stays = t.stays };
     staying = λ h. h;
-    promise =
-        omega arith;
+    promise = omega arith;
   }
 
   up : (j : ℕ) → Later (s.node j) (put s.node c node j)

@@ -49,8 +49,7 @@ small_back (e ∷ a) b h = small_back a b h.1
 pub good_begins : {a b : List Entry} → Begins a b → IsGood b → IsGood a
 good_begins {a} {b} h g = record {
   fit = fit_front blank 1 a h.rest (subst (AllFit blank 1) (sym h.same) g.fit);
-  small =
-      small_front a h.rest (subst AllSmall (sym h.same) g.small);
+  small = small_front a h.rest (subst AllSmall (sym h.same) g.small);
 }
 
 pub good_nil : IsGood []

@@ -108,8 +108,7 @@ in_left r n life up h = record { joined = h.joined; gone = inr (h.is, up) }
 past_left : (r : Row) (n life : ℕ) → 0 < n → Past r life → Past (record r { left = n }) life
 past_left r n life up h = record {
   joined = h.joined;
-  gone =
-      ⊎_elim (λ (x : life < r.life). inl x) (λ (x : (r.life ≡ life) × (0 < r.left)). inr (x.0, up)) h.gone;
+  gone = ⊎_elim (λ (x : life < r.life). inl x) (λ (x : (r.life ≡ life) × (0 < r.left)). inr (x.0, up)) h.gone;
 }
 
 -- a name's Join fits no member's place, and a past one's only with a greater life

@@ -12,9 +12,8 @@ module _ (s : Group) (k : Kept s) where
     abbrev p : ℕ
     p = key (s.node i).promise
 
-    pub shows_keeps : IsThere (s.node i) → (s.node i).promise.by < 256 → (s.node i).promise.by ≢ i
-        → p ≤ key (s.node (s.node i).promise.by).promise → s.shown p i ≡ None
-        → Kept (record s { shown = put2 s.shown p i (Some (s.node i).list) })
+    pub shows_keeps : IsThere (s.node i) → (s.node i).promise.by < 256 → (s.node i).promise.by ≢ i → p ≤ key (s.node (s.node i).promise.by).promise
+        → s.shown p i ≡ None → Kept (record s { shown = put2 s.shown p i (Some (s.node i).list) })
     shows_keeps t small other begun none = record {
       views = k.views;
       group = k.group;

@@ -41,8 +41,7 @@ shown_later a b x name l up h =
       is = h.is;
       small = h.small;
       other = h.other;
-      begun =
-          omega arith;
+      begun = omega arith;
     }
 
 pub served_later : (a b : ℕ → Node) (views : Views) (x : ℕ) (l : List Entry) → ((j : ℕ) → Later (a j) (b j)) → ServedOk a views x l → ServedOk b views x l

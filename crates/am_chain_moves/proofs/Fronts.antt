@@ -193,8 +193,7 @@ module _ (s : Group) (k : Kept s) (i : ℕ) (e : Entry) (leads : Leads i (s.node
           list = o.list;
           member = o.member;
           ended = o.ended;
-          lines =
-              λ x d h. begins_trans (o.lines x d h) (line_grows x);
+          lines = λ x d h. begins_trans (o.lines x d h) (line_grows x);
         };
         ballot = λ u b. let o = ok.ballot u b in record { small = o.small; above = o.above; by = o.by; staying = o.staying; member = o.member };
         complete = ok.complete;
@@ -263,8 +262,7 @@ module _ (s : Group) (k : Kept s) (i : ℕ) (e : Entry) (leads : Leads i (s.node
       up_all = later_all s.node i n (record {
         list = subst (Begins (s.node i).list) (sym list_n) (begins_more (s.node i).list (e ∷ []));
         log = λ h. log;
-        start =
-            λ h. start;
+        start = λ h. start;
         there = λ h. leads.up.there;
         staying = staying;
         promise = let z = ap key promise in omega arith;

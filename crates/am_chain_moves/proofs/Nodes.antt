@@ -148,11 +148,10 @@ begin_ok views group i m v small u staying member ok =
     }
 
 -- One entry more, which the chain has. What follows from it but for ballots and late nodes is the same wherever it comes from.
-pub longer_ok : (views : Views) (group : List Entry) (i : ℕ) (m : Node) (e : Entry) → IsUp m → Begins (m.list ++ e ∷ []) (chain_of views) → IsOngoing m.list i
-    → (m.promise ≡ view_of (m.list ++ e ∷ []) → (view_of (m.list ++ e ∷ [])).by ≡ i → ⊥)
-    → (key m.promise < key views.current → LateOk views i (longer m e))
-    → (m.ballot ≡ true → BallotOk views i (longer m e))
-    → NodeOk views group i m → NodeOk views group i (longer m e)
+pub longer_ok : (views : Views) (group : List Entry) (i : ℕ) (m : Node) (e : Entry) → IsUp m → Begins (m.list ++ e ∷ []) (chain_of views)
+    → IsOngoing m.list i → (m.promise ≡ view_of (m.list ++ e ∷ []) → (view_of (m.list ++ e ∷ [])).by ≡ i → ⊥)
+    → (key m.promise < key views.current → LateOk views i (longer m e)) → (m.ballot ≡ true → BallotOk views i (longer m e)) → NodeOk views group i m
+    → NodeOk views group i (longer m e)
 longer_ok views group i m e u chain ongoing leads late ballot ok =
     let there : IsThere (longer m e) → IsThere m = λ t. record { goes = t.goes; stays = t.stays } in
     let up : IsUp (longer m e) → IsUp m = λ u. record { log = u.log; there = there u.there } in
@@ -286,8 +285,7 @@ welcome_ok s j stamp base join w v g ok =
         told = omega arith;
         acc = omega arith;
         within = omega arith;
-        delivered =
-            begins_trans (begins_take base (take base s.group)) (begins_take base s.group);
+        delivered = begins_trans (begins_take base (take base s.group)) (begins_take base s.group);
       };
       leads = λ l. absurd (w.other (ap (λ (s : Stamp). s.by) l.acts ∙ l.by));
       promised = λ t h. now;

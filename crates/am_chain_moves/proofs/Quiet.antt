@@ -272,8 +272,7 @@ module _ (s : Group) (k : Kept s) where
       (λ h. inr (record {
         before = m.list;
         chain = subst (Begins (m.list ++ e ∷ [])) (sym chain) (begins_refl (m.list ++ e ∷ []));
-        stored =
-            λ j x t stays. let z = ap (λ x. (s.node x).leaving) (alone j x) in absurd (cc);
+        stored = λ j x t stays. let z = ap (λ x. (s.node x).leaving) (alone j x) in absurd (cc);
       }))
       (λ j differ t stays. λ same. differ (sym same))
       (record {

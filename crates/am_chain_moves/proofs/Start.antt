@@ -70,8 +70,7 @@ module _ (founders : List ℕ) (first resilience : ℕ) (may : MayBegin founders
           told = omega arith;
           acc = omega arith;
           within = omega arith;
-          delivered =
-              begins_nil (opening (first_choice founders first resilience));
+          delivered = begins_nil (opening (first_choice founders first resilience));
         };
         leads = λ l. let z = l.up.log in absurd (cc);
         promised = λ t m. absurd (mem_nil j m);

@@ -188,8 +188,7 @@ least_within (Some x) taken h = h
 
 pub trimmed_comes : (m mid n : Node) (b : Ballot) (names : List ℕ) (o : Outcome) (least : ℕ)
     → least ≡ unwrap_or (least_of (taken_by m.core.who m.core.taken b) (names_of names)) 0
-    → ((all : Node) → IsEndOf all m → IsEndOf (trim_up_to all least) mid)
-    → ((all : Node) → IsEndOf all mid → ComesTo (decide_view all b names) o n)
+    → ((all : Node) → IsEndOf all m → IsEndOf (trim_up_to all least) mid) → ((all : Node) → IsEndOf all mid → ComesTo (decide_view all b names) o n)
     → (all : Node) → IsEndOf all m → ComesTo (decide_view (trim_for all b names) b names) o n
 trimmed_comes m mid n b names o least is trims then_ = comes (λ x. decide_view (trim_for x b names) b names) m n o (λ all s.
     let w = with_log m all in

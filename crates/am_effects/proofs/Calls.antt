@@ -174,8 +174,7 @@ row_go m c p event called h comes a quietly viewed member leaves =
     (λ none. effect_of m c _ (record {
       stays = h.stays;
       changes = λ n. comes (said.Held p.node.core.base (top p.node));
-      answer =
-          λ n r. a p.node.core.base (top p.node) n;
+      answer = λ n r. a p.node.core.base (top p.node) n;
       letters = λ n r. h.letters n r.rests;
     }))))
 

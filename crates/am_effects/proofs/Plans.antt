@@ -106,8 +106,7 @@ does_telling R m c p o to packet h a t = record {
   stays = refl;
   changes = λ n. h;
   answer = a;
-  letters =
-      λ n r. and_says m c n to (packet n) [] (t n r) (none_says m c n);
+  letters = λ n r. and_says m c n to (packet n) [] (t n r) (none_says m c n);
 }
 
 pub does_and : (R : Node → Node → Type 0) (m : Node) (c : Cause) (p : Plan) (to : List ℕ) (packet : Node → Packet) → Does R m c p → Tells R m c p.node to packet
@@ -116,8 +115,7 @@ does_and R m c p to packet h t = record {
   stays = h.stays;
   changes = h.changes;
   answer = h.answer;
-  letters =
-      λ n r. and_says m c n to (packet n) (p.letters n) (t n r) (h.letters n r);
+  letters = λ n r. and_says m c n to (packet n) (p.letters n) (t n r) (h.letters n r);
 }
 
 pub does_where : (R : Node → Node → Type 0) (m : Node) (c : Cause) (test : Node → Bool) (p : Plan) (to : List ℕ) (packet : Node → Packet) → Does R m c p
@@ -136,8 +134,7 @@ does_numbering R m c p e o packet h a t = record {
   stays = refl;
   changes = λ n. h;
   answer = a;
-  letters =
-      λ n r. and_says m c n (others p) (packet n) [] (t n r) (none_says m c n);
+  letters = λ n r. and_says m c n (others p) (packet n) [] (t n r) (none_says m c n);
 }
 
 -- ---- a plan that is done

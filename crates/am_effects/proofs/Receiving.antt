@@ -165,8 +165,7 @@ row_welcomed m s v base join image may other =
     let a : (n : Node) → RestsWhole p n → Answers m c n o = λ n r. record {
       before = may.no_member;
       asked = asking m s v base join image may;
-      member =
-          r.rests.status;
+      member = r.rests.status;
       start = r.begins;
     } in
     effect_if m c (stamp_eq (view p) v) _ _
@@ -201,8 +200,7 @@ row_welcome m s v base join image heard own =
       promise = promise;
       above = above;
       within = b;
-      view =
-          or_first (stamp_lt v image.view) _ h;
+      view = or_first (stamp_lt v image.view) _ h;
       new = or_second (stamp_lt v image.view) _ h;
     }) other)))
   where

@@ -154,8 +154,7 @@ row_piece m s v base number e heard =
     (record {
       heard = heard;
       promise = not-false _ (or_first (not (stamp_eq v m.core.promise)) (stamp_eq (view m) v) f);
-      below =
-          or_second (not (stamp_eq v m.core.promise)) (stamp_eq (view m) v) f;
+      below = or_second (not (stamp_eq v m.core.promise)) (stamp_eq (view m) v) f;
     }))
 
 -- ---- a decided view

@@ -43,8 +43,7 @@ stands_pushed m base e = record {
   index = length m.core.log.entries;
   there = get_last m.core.log.entries e;
   at = λ low. omega arith;
-  within =
-      simp length-append (omega arith);
+  within = simp length-append (omega arith);
 }
 
 -- ---- letters

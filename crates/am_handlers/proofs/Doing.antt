@@ -16,10 +16,9 @@ core_changes f m core keeps = changes (λ (x : Node). record x { core = f x.core
 
 -- From the end of the plan's node, by the end of a step: the answer and the letters of the node after it, and then what is
 -- told of what is accepted.
-pub does : (row : Node → Plan) (p : Plan) (old mid new : Node) (outcome : Outcome) (sent letters : List Letter)
-    → row old ≡ p → p.departs ≡ false → IsEndOf p.node mid → Changes refresh_at_end mid new
-    → Tells p.outcome new outcome → Tells p.letters new sent → Tells (with_told old.core.acc p.polls p.numbers sent) new letters
-    → Does row old outcome letters new
+pub does : (row : Node → Plan) (p : Plan) (old mid new : Node) (outcome : Outcome) (sent letters : List Letter) → row old ≡ p → p.departs ≡ false
+    → IsEndOf p.node mid → Changes refresh_at_end mid new → Tells p.outcome new outcome → Tells p.letters new sent
+    → Tells (with_told old.core.acc p.polls p.numbers sent) new letters → Does row old outcome letters new
 unfolding finish
 does row p old mid new outcome sent letters plan stays is end says sends tells_accepted =
     let e = end p.node is in

@@ -29,8 +29,7 @@ due_next r life next due = split (r.joined == 0)
     record {
       next = r.last + 1;
       is = record { free = λ h. absurd (no h); younger = λ h. absurd (not_younger h); own = λ j l. refl };
-      low =
-          due.own (omega arith) e;
+      low = due.own (omega arith) e;
     })
     (λ other.
     record {
@@ -38,8 +37,7 @@ due_next r life next due = split (r.joined == 0)
       is = record {
         free = λ h. absurd (no h);
         younger = λ h. absurd (not_younger h);
-        own =
-            λ j l. absurd (let x : ⊥ = grind (arith, nat_tests) in x);
+        own = λ j l. absurd (let x : ⊥ = grind (arith, nat_tests) in x);
       };
       low = omega arith;
     })))
@@ -65,12 +63,10 @@ next_after image n e name low long up fit from =
     (λ (x : (request_in name e ≡ []) × IsNext (row_at (after image n e) (place_of name)) (life_of name) from.next). record {
       next = from.next;
       is = x.1;
-      low =
-          le;
+      low = le;
     })
     (λ (x : (request_in name e ≡ from.next ∷ []) × IsNext (row_at (after image n e) (place_of name)) (life_of name) (from.next + 1)). record {
-      next =
-          from.next + 1;
+      next = from.next + 1;
       is = x.1;
       low = omega arith;
     })

@@ -6,10 +6,9 @@ use Rattle.am_ends.proofs.Nodes.{Keeps}
 use Rattle.am_handlers.proofs.{Doing.core_tells, Ends.end_self}
 
 -- a plan is done by the end of its node, by the end of a step, and by what is told then
-pub done : (before : ℕ) (p : Plan) (mid new : Node) (outcome : Outcome) (sent letters : List Letter)
-    → p.departs ≡ false → IsEndOf p.node mid → Changes refresh_at_end mid new
-    → Tells p.outcome new outcome → Tells p.letters new sent → Tells (with_told before p.polls p.numbers sent) new letters
-    → Done before p outcome letters new
+pub done : (before : ℕ) (p : Plan) (mid new : Node) (outcome : Outcome) (sent letters : List Letter) → p.departs ≡ false → IsEndOf p.node mid
+    → Changes refresh_at_end mid new → Tells p.outcome new outcome → Tells p.letters new sent
+    → Tells (with_told before p.polls p.numbers sent) new letters → Done before p outcome letters new
 unfolding finish
 done before p mid new outcome sent letters stays is end says sends tells_accepted = λ first acc.
     let e = end p.node is in

@@ -7,6 +7,5 @@ own_vote_same m all s = λ k. record {
   view = (told_same m all s k).view;
   top = top_same m all s k;
   taken = m.core.taken;
-  members =
-      members_of (told_same m all s k);
+  members = members_of (told_same m all s k);
 }

@@ -19,8 +19,7 @@ split_at (suc j) (x ∷ es) low = let r = split_at j es (omega arith) in (r.0, a
 
 -- a name that becomes a member at a number, and wasn't before, joins there; or it is a name of the first View
 becomes_at : (list : List Entry) (name j : ℕ) → IsGood list → suc j ≤ length list → mem (take (suc j) list) name ≡ true
-    → ((a : List Entry) → Begins a list → length a < suc j → mem a name ≡ true → ⊥)
-    → (slice_get list j ≡ Some (Join name)) ⊎ (j ≡ 0)
+    → ((a : List Entry) → Begins a list → length a < suc j → mem a name ≡ true → ⊥) → (slice_get list j ≡ Some (Join name)) ⊎ (j ≡ 0)
 becomes_at list name j good low member first =
     let r = split_at j list low in
     let a = take j list in

@@ -62,9 +62,8 @@ none_idle : (o : Outcome) (number : ℕ) (x : Entry) → IsIdle o → o ≡ said
 none_idle o number x idle is = subst IsIdle is idle
 
 pub given_then : (rules : Rules) (events : List Event) (e : Event) (v : World) (number : ℕ) (x : Entry) (r : Record) → MayFound rules
-    → Told rules (run rules events)
-    → Happens (run rules events) e v → slice_get v.records (length (run rules events).records) ≡ Some r → r.outcome ≡ said.Took number x
-    → GivenThen (run rules events) e number x r
+    → Told rules (run rules events) → Happens (run rules events) e v → slice_get v.records (length (run rules events).records) ≡ Some r
+    → r.outcome ≡ said.Took number x → GivenThen (run rules events) e number x r
 unfolding with_record with_step
 given_then rules events e v number x r may h (idles o idle) at says =
     let w = run rules events in

@@ -46,8 +46,7 @@ pub data Kind (c : Cause) (o : Outcome) (m : Node) : Node → Type 0 where
 
 -- with more entries, and anything else but what is told here
 pushes : (m n : Node) (es : List Entry) → n.core.who ≡ m.core.who → m.core.base ≤ n.core.base → n.core.acc ≡ m.core.acc → n.core.taken ≡ m.core.taken
-    → n.core.start ≡ m.core.start
-    → n.status ≡ m.status → n.leaving ≡ m.leaving → n.sends ≡ m.sends → n.core.log.start ≡ m.core.log.start
+    → n.core.start ≡ m.core.start → n.status ≡ m.status → n.leaving ≡ m.leaving → n.sends ≡ m.sends → n.core.log.start ≡ m.core.log.start
     → n.core.log.entries ≡ m.core.log.entries ++ es → Alike m n
 pushes m n es who base acc taken start status_ leaving sends log entries = record {
   who = who;
@@ -64,8 +63,7 @@ pushes m n es who base acc taken start status_ leaving sends log entries = recor
 }
 
 same_log : (m n : Node) → n.core.who ≡ m.core.who → m.core.base ≤ n.core.base → n.core.acc ≡ m.core.acc → n.core.taken ≡ m.core.taken
-    → n.core.start ≡ m.core.start
-    → n.status ≡ m.status → n.leaving ≡ m.leaving → n.sends ≡ m.sends → n.core.log.start ≡ m.core.log.start
+    → n.core.start ≡ m.core.start → n.status ≡ m.status → n.leaving ≡ m.leaving → n.sends ≡ m.sends → n.core.log.start ≡ m.core.log.start
     → n.core.log.entries ≡ m.core.log.entries → Alike m n
 same_log m n who base acc taken start status_ leaving sends log entries =
     pushes m n [] who base acc taken start status_ leaving sends log (entries ∙ sym (append-nil m.core.log.entries))

@@ -7,9 +7,8 @@ use Rattle.am_joining.proofs.Words.{number_leave, leave_again}
 use Rattle.am_base.specs.declared.outcome.Outcome.TheVariants as said
 
 -- a leaver may go, by its row and who is concerned
-pub goes_tells : (m : Node) (name : ℕ) (r : Row) (all_of set : List ℕ) (result : Bool) → r ≡ row_at m name
-    → Sends since_accepted m.core all_of → set ≡ without_name all_of name → result ≡ is_stored m.reports m.core.acc r.left set
-    → Tells (λ n. may_go n name) m result
+pub goes_tells : (m : Node) (name : ℕ) (r : Row) (all_of set : List ℕ) (result : Bool) → r ≡ row_at m name → Sends since_accepted m.core all_of
+    → set ≡ without_name all_of name → result ≡ is_stored m.reports m.core.acc r.left set → Tells (λ n. may_go n name) m result
 goes_tells m name r all_of set result row concerned less is = tells (λ n. may_go n name) m result (λ all s.
     is
     ∙ ap (is_stored m.reports m.core.acc r.left) less

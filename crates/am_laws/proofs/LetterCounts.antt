@@ -59,8 +59,7 @@ told_of b g c m n h =
       base = omega arith;
       took = h.low.took;
       accepted = h.behind.acc;
-      trims =
-          trims;
+      trims = trims;
     }
 
 pub says_low : (b : Bounds) (g : ℕ) (m n : Node) (c : Cause) (to : List ℕ) (p : Packet) → Sends b g c m n → Says m c n to p → UpTo b g p

@@ -108,8 +108,7 @@ is_packet b g (packet.Welcome s v base join image) n h =
     let k = two_of b base join n h.up_to.numbers in
     record {
       within = (round, k.0, k.1, is_image b base image n (All-head (λ n. n ≤ b.lists) base (join ∷ []) h.up_to.numbers) h.welcome h.within);
-      parts =
-          h.within.places;
+      parts = h.within.places;
     }
 is_packet b g (packet.LeaveAsk s v report) n h =
     record { within = (is_round b g (packet.LeaveAsk s v report) n h.up_to, is_report b report n h.up_to.numbers); parts = tt }

@@ -64,8 +64,7 @@ pub image_more : (b : Bounds) (image : Image) → ImageWithin b image → ImageW
 image_more b image h = let r = h.round in record {
   places = h.places;
   rows = All-weaker (RowWithin b) (RowWithin (up b)) (row_more b) image.rows h.rows;
-  round =
-      omega arith;
+  round = omega arith;
   resilience = h.resilience;
 }
 

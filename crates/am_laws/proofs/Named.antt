@@ -138,7 +138,6 @@ names_hold rules events may =
       who = h.who;
       least = h.least;
       most = h.most;
-      senders =
-          λ number letter at. all_item SentByName (run rules events).letters number letter h.senders at;
+      senders = λ number letter at. all_item SentByName (run rules events).letters number letter h.senders at;
       unborn = h.unborn;
     }

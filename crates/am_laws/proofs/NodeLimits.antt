@@ -216,8 +216,7 @@ open_within b m x open_ h = subst (BallotWithin b) open_.last h.ballot
 
 -- by what stands among the votes of a name
 vote_more : (votes : ℕ → Option Vote) (name : ℕ) (new : Option Vote) → ((v : Vote) → new ≡ Some v → IsSet v.members)
-    → ((i : ℕ) (v : Vote) → votes i ≡ Some v → IsSet v.members)
-    → (i : ℕ) (v : Vote) → (if i == name then new else votes i) ≡ Some v → IsSet v.members
+    → ((i : ℕ) (v : Vote) → votes i ≡ Some v → IsSet v.members) → (i : ℕ) (v : Vote) → (if i == name then new else votes i) ≡ Some v → IsSet v.members
 vote_more votes name new f h i v = split (i == name) (λ t. rw t (f v)) (λ g. rw g (h i v))
 
 looked_within : (b : Bounds) (c : Cause) (m : Node) (x : Ballot) → Balloting c m x → CauseWithin b c → Within b m → VotesWithin b x
@@ -323,8 +322,7 @@ change_within b m n from round last (keeps_body s v report req body is by) h =
       image = h.image;
       entries = h.entries;
       sends = h.sends;
-      bodies =
-          kept_within s req body m.bodies ((from.heard (packet.Spread s v report req body) is).1) h.bodies;
+      bodies = kept_within s req body m.bodies ((from.heard (packet.Spread s v report req body) is).1) h.bodies;
       ballot = h.ballot;
     }
 change_within b m n from round last (stores s v base acc number e by seq plain may) h =
@@ -336,8 +334,7 @@ change_within b m n from round last (begins_list s v base join image is o may) h
       entries = All-nil (EntryWithin b);
       sends = h.sends;
       bodies = h.bodies;
-      ballot =
-          h.ballot;
+      ballot = h.ballot;
     }
 change_within b m n from round last (promises v low why) h =
     record { image = h.image; entries = h.entries; sends = h.sends; bodies = h.bodies; ballot = overtaken_within b v m.ballot h.ballot }
@@ -347,8 +344,7 @@ change_within b m n from round last (opens least resilience by may) h =
       entries = h.entries;
       sends = h.sends;
       bodies = h.bodies;
-      ballot =
-          record { round = round; resilience = omega arith; votes = λ name vote is. absurd (cc) };
+      ballot = record { round = round; resilience = omega arith; votes = λ name vote is. absurd (cc) };
     }
 change_within b m n from round last (looks x verdict over why look is) h = look_within b m x verdict look (looked_within b _ m x why from h) h
 change_within b m n from round last (fetches s v base number e is by promise below who may) h =

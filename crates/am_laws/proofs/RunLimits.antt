@@ -93,8 +93,7 @@ limited_happens rules b w e body h =
     record {
       low = low;
       named = each_named rules w e (happens w e) (events_have_effects w e) h.named;
-      within =
-          within_event rules b w e (happens w e) body (events_have_effects w e) low h;
+      within = within_event rules b w e (happens w e) body (events_have_effects w e) low h;
     }
 
 -- ---- a heard packet and its bytes

@@ -381,8 +381,7 @@ change_owned c o m n heard own k blanked (takes e is says member some there) h =
         base = omega arith;
         given = omega arith;
         accepted = f.accepted;
-        reported =
-            omega arith;
+        reported = omega arith;
       };
       leads = h.leads;
       vote = h.vote;

@@ -101,8 +101,7 @@ founder_owned rules name there =
         base = omega arith;
         given = omega arith;
         accepted = omega arith;
-        reported =
-            rw there (omega arith);
+        reported = rw there (omega arith);
       };
       leads = λ t. first_member (founding_stamp rules) rules.founders rules.resilience name given;
       vote = tt;
@@ -118,8 +117,7 @@ stranger_owned rules name = record {
     base = omega arith;
     given = omega arith;
     accepted = omega arith;
-    reported =
-        omega arith;
+    reported = omega arith;
   };
   leads = λ t. absurd (cc);
   vote = tt;

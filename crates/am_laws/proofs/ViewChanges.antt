@@ -149,8 +149,7 @@ look_does m b v (finds_no_room x) l h =
     record {
       goes = λ t. goes_to m.core.log m.core.log refl;
       log_ = λ t. t;
-      balloted =
-          record { high = h.high; none = λ f. absurd (let t = l.has_list in cc); opened = λ x. absurd (cc) };
+      balloted = record { high = h.high; none = λ f. absurd (let t = l.has_list in cc); opened = λ x. absurd (cc) };
     }
 look_does m b v (decides may) l h =
     let names = left_in b (need_of m b) in

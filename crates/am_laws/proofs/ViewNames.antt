@@ -93,8 +93,7 @@ change_names heard m n (promises v low why) h = record {
   who_ = h.who_;
   promise_ = promised_named _ m v why heard;
   entries_ = h.entries_;
-  ballot_ =
-      ballot_overtaken v m.ballot h.ballot_;
+  ballot_ = ballot_overtaken v m.ballot h.ballot_;
 }
 change_names heard m n (opens least resilience by may) h = record { who_ = h.who_; promise_ = h.who_; entries_ = h.entries_; ballot_ = h.who_ }
 change_names heard m n (looks b verdict over why look is) h = look_names m b verdict look (looked_named m b why h) h

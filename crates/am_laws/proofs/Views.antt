@@ -226,8 +226,7 @@ kept_founder rules name few may =
         who_ = few;
         promise_ = omega arith;
         entries_ = All-cons ViewNamed (founders_view rules) [] (omega arith) (All-nil ViewNamed);
-        ballot_ =
-            tt;
+        ballot_ = tt;
       };
       balloted = record { high = not_above_itself (record { round = 1; by = lowest_or_first rules.founders }); none = λ f. refl; opened = tt };
     }

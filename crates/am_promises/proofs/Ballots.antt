@@ -99,8 +99,7 @@ ballot_change w i c o m n g (departs s v number is heard leaves) h =
 ballot_change w i c o m n g (promises v low why) h = record {
   who = h.who;
   last = overtaken_ok w i m.core.promise v m.ballot low h.last;
-  blank =
-      λ f. overtaken_none v m.ballot (h.blank f);
+  blank = λ f. overtaken_none v m.ballot (h.blank f);
 }
 ballot_change w i c o m n g (opens least resilience by may) h = record {
   who = h.who;

@@ -24,8 +24,7 @@ begun_up nodes i n v up h = ⊎_elim (λ (x : v ≡ no_stamp). inl x) (λ (x : A
 stamp_up : (nodes : ℕ → Node) (i : ℕ) (n : Node) (l : Letter) → AtMost (nodes i).core.promise n.core.promise → StampOk nodes l → StampOk (set_at nodes i n) l
 stamp_up nodes i n l up h = record {
   sender = most_up nodes i n (stamp_of l.packet) (sender_of l.packet) up h.sender;
-  begun =
-      begun_up nodes i n (stamp_of l.packet) up h.begun;
+  begun = begun_up nodes i n (stamp_of l.packet) up h.begun;
 }
 
 pub cause_begun : (w : World) (i : ℕ) (a : Act) (c : Cause) → All (StampOk w.nodes) w.letters → IsCause w i a c → CauseBegun w.nodes c

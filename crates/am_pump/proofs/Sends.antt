@@ -29,9 +29,8 @@ sent_push w v r place more =
     ∙ ap (λ k. sent_by w place + k) (bit_of (is_sent r.outcome && (r.event.node == place)))
 
 -- a place's count goes up where its own record tells it
-pub more_sent : (sent : List ℕ) (w v : World) (r : Record) (place b : ℕ) → AreSent sent w → place < 4 → v.records ≡ w.records ++ r ∷ [] → r.event.node ≡ place
-    → b ≡ bool_byte (ends_sent v.records)
-    → AreSent (slice_set sent place (sent_by w place + b)) v
+pub more_sent : (sent : List ℕ) (w v : World) (r : Record) (place b : ℕ) → AreSent sent w → place < 4 → v.records ≡ w.records ++ r ∷ []
+    → r.event.node ≡ place → b ≡ bool_byte (ends_sent v.records) → AreSent (slice_set sent place (sent_by w place + b)) v
 more_sent sent w v r place b h within more node told =
     let bit : b ≡ bool_byte (is_sent r.outcome) = told ∙ ap (λ rs. bool_byte (ends_sent rs)) more ∙ ap bool_byte (last_is w.records r) in
     record {

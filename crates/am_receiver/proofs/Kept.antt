@@ -9,8 +9,7 @@ end_who mid new end n is = sym (ap (λ (x : Node). x.core.who) is.same) ∙ ap (
 
 pub stored_letters : (m : Node) (e : Entry) (to : ℕ) (is_due : Bool) (mid new : Node) (letters : List Letter)
     → is_due ≡ acknowledges (push_entry m e) to (push_entry m e) → mid ≡ record (push_entry m e) { bodies = bodies_after m.bodies e }
-    → IsEndOf (refresh_at_end mid) new → Tells (ack_where is_due to) new letters
-    → Tells (store_fitting m to 0 e).letters new letters
+    → IsEndOf (refresh_at_end mid) new → Tells (ack_where is_due to) new letters → Tells (store_fitting m to 0 e).letters new letters
 stored_letters m e to is_due mid new letters due node end tells = λ n is.
     let who = end_who mid new end n is ∙ ap (λ (x : Node). x.core.who) node in
     let same : is_due ≡ acknowledges (push_entry m e) to n = due

@@ -118,8 +118,7 @@ follows_first rules w place name b there =
     }
 
 apart_first : (rules : Rules) (w : World) (place name : ℕ) → Begun rules w place
-    → (let q = current w place in has (members (w.nodes q)) name ≡ false → has_departed (w.nodes name).status ≡ false
-    → IsApart (repair_of w q) (w.nodes name))
+    → (let q = current w place in has (members (w.nodes q)) name ≡ false → has_departed (w.nodes name).status ≡ false → IsApart (repair_of w q) (w.nodes name))
 apart_first rules w place name b none there =
     let q = current w place in
     let m = w.nodes name in

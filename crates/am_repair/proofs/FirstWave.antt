@@ -108,10 +108,9 @@ member_node rules r i v n fine there other node =
       given = omega arith;
     }
 
-asked_hear : (rules : Rules) (r : Repair) (i after stored k : ℕ) (l : Letter) (base acc high : ℕ) (u : World) → Fine rules r u → has r.members i ≡ true
-    → (i == r.by) ≡ false → r.sent < k → after ≤ length u.letters
-    → top (u.nodes i) ≡ stored → stored < r.high → letter_at u.letters k ≡ Some l → is_for l i ≡ true → l.packet ≡ Accept r.by r.view base acc high true
-    → r.high ≤ high
+asked_hear : (rules : Rules) (r : Repair) (i after stored k : ℕ) (l : Letter) (base acc high : ℕ) (u : World) → Fine rules r u
+    → has r.members i ≡ true → (i == r.by) ≡ false → r.sent < k → after ≤ length u.letters → top (u.nodes i) ≡ stored → stored < r.high
+    → letter_at u.letters k ≡ Some l → is_for l i ≡ true → l.packet ≡ Accept r.by r.view base acc high true → r.high ≤ high
     → Asked r i after stored (happens u (event_at (place_of i) (act.Hear k)))
 asked_hear rules r i after stored k l base acc high u h there other late low at short letter meant is_ far =
     let e = event_at (place_of i) (act.Hear k) in
@@ -212,9 +211,8 @@ report_fits_list r u i report h there other is fits =
     and_from _ _ a b
 
 report_hear : (rules : Rules) (r : Repair) (i k high : ℕ) (l : Letter) (report : Report) (u : World) → Fine rules r u → has r.members i ≡ true
-    → (i == r.by) ≡ false → r.sent < k
-    → letter_at u.letters k ≡ Some l → is_for l r.by ≡ true → IsReport l.packet i r.view report → report.taken ≤ report.stored → high ≤ report.stored
-    → high ≤ (((happens u (event_at (place_of r.by) (act.Hear k))).nodes r.by).reports i).stored
+    → (i == r.by) ≡ false → r.sent < k → letter_at u.letters k ≡ Some l → is_for l r.by ≡ true → IsReport l.packet i r.view report
+    → report.taken ≤ report.stored → high ≤ report.stored → high ≤ (((happens u (event_at (place_of r.by) (act.Hear k))).nodes r.by).reports i).stored
 report_hear rules r i k high l report u h there other late letter meant is_ fits much =
     let e = event_at (place_of r.by) (act.Hear k) in
     let q = u.nodes r.by in
@@ -267,9 +265,8 @@ first_wave_reports rules r i after w low h x there other =
 -- ---- a member accepts
 
 front_hear : (rules : Rules) (r : Repair) (i k : ℕ) (l : Letter) (base acc high : ℕ) (u : World) → Fine rules r u → has r.members i ≡ true
-    → (i == r.by) ≡ false
-    → letter_at u.letters k ≡ Some l → is_for l i ≡ true → l.packet ≡ Accept r.by r.view base acc high true → r.high ≤ acc → r.high ≤ top (u.nodes i)
-    → r.high ≤ ((happens u (event_at (place_of i) (act.Hear k))).nodes i).core.acc
+    → (i == r.by) ≡ false → letter_at u.letters k ≡ Some l → is_for l i ≡ true → l.packet ≡ Accept r.by r.view base acc high true → r.high ≤ acc
+    → r.high ≤ top (u.nodes i) → r.high ≤ ((happens u (event_at (place_of i) (act.Hear k))).nodes i).core.acc
 front_hear rules r i k l base acc high u h there other letter meant is_ far stored =
     let e = event_at (place_of i) (act.Hear k) in
     let m = u.nodes i in
@@ -287,8 +284,7 @@ abbrev pub Accepts : Rules → Repair → ℕ → World → Type 0
 Accepts rules r i = Reaches rules r (λ u. (u.nodes i).core.acc)
 
 pub first_wave_accepts : (rules : Rules) (r : Repair) (i after : ℕ) (w : World) → r.sent ≤ after → Fine rules r w → Polled r i after r.high w
-    → has r.members i ≡ true → (i == r.by) ≡ false → r.high ≤ top (w.nodes i)
-    → Accepts rules r i (happen w (hearings w after))
+    → has r.members i ≡ true → (i == r.by) ≡ false → r.high ≤ top (w.nodes i) → Accepts rules r i (happen w (hearings w after))
 first_wave_accepts rules r i after w low h poll there other stored =
     let z = wave_hits P Q w after poll.sent.number (place_of i) (heard_there rules r w after i poll.letter h there poll.sent) hits
     (h, stored, stays_same w) in

@@ -54,9 +54,8 @@ follows_as r c q m x y a h =
 
 -- it stores what comes next in the sequencer's list
 follows_pushed : (r : Repair) (c : Cause) (q m x : Node) (e there : Entry) → (Skips (top m) c → top x + 1 ≢ top m + 1) → is_view e ≡ false
-    → entry_at q.core.log (top x + 1) ≡ Some there
-    → ((image : Image) → after image (top x + 1) e ≡ after image (top x + 1) there) → FollowsOn r c q m x
-    → FollowsOn r c q m (record (push_entry x e) { bodies = bodies_after x.bodies e })
+    → entry_at q.core.log (top x + 1) ≡ Some there → ((image : Image) → after image (top x + 1) e ≡ after image (top x + 1) there)
+    → FollowsOn r c q m x → FollowsOn r c q m (record (push_entry x e) { bodies = bodies_after x.bodies e })
 follows_pushed r c q m x e there skips plain is same h =
     let f = h.follows in
     let low = f.low in let stored = h.stored in let reached = f.reached in
@@ -114,9 +113,8 @@ promised_same r w c q x v calm f (told_result s v_ base number names resilience 
 no_leader : (r : Repair) (c : Cause) (q m x : Node) → r.view.by ≡ r.by → (m.core.who == r.by) ≡ false → FollowsOn r c q m x → is_sequencer x ≡ true → ⊥
 no_leader r c q m x by other h t = leads_not x r.by (ap (λ (v : Stamp). v.by) h.follows.view_ ∙ by) (ap (λ k. k == r.by) h.who ∙ other) t
 
-pub follow_change : (r : Repair) (w : World) (c : Cause) (o : Outcome) (m x y : Node) → r.view.by ≡ r.by → (m.core.who == r.by) ≡ false → CalmCause r w c
-    → Change c o x y
-    → FollowsOn r c (w.nodes r.by) m x → FollowsOn r c (w.nodes r.by) m y
+pub follow_change : (r : Repair) (w : World) (c : Cause) (o : Outcome) (m x y : Node) → r.view.by ≡ r.by → (m.core.who == r.by) ≡ false
+    → CalmCause r w c → Change c o x y → FollowsOn r c (w.nodes r.by) m x → FollowsOn r c (w.nodes r.by) m y
 follow_change r w c o m x y by other calm refreshes h = follows_as r c _ m x y (alike_refresh x) h
 follow_change r w c o m x y by other calm settles h = follows_as r c _ m x y (alike_settle x) h
 follow_change r w c o m x y by other calm (takes_report s v report brings may) h = absurd (no_leader r c _ m x by other h may.leads)

@@ -68,16 +68,14 @@ ours r w e (hears_ place number late) h = our_letter r w place number (letter_at
 -- ---- changes in turn
 
 pub lead_changes : (rules : Rules) (r : Repair) (taken : ℕ → ℕ) (w : World) (q : Node) {c : Cause} {o : Outcome} (m n : Node) → r.view.by ≡ r.by
-    → CalmCause r w c → TellsTaken r taken c → HeardNames c → HeardUsed c
-    → Changes c o m n → Along rules m → Goes r taken q m → Goes r taken q n
+    → CalmCause r w c → TellsTaken r taken c → HeardNames c → HeardUsed c → Changes c o m n → Along rules m → Goes r taken q m → Goes r taken q n
 lead_changes rules r taken w q m n by calm tells names used no_change a h = h
 lead_changes rules r taken w q m n by calm tells names used (changed {n = x} one more) a h =
     lead_changes rules r taken w q x n by calm tells names used more (along_changes rules m x names used (changed one no_change) a)
     (lead_change r taken w q _ _ m x by calm tells a.owned.fronts one h)
 
-pub follow_changes : (r : Repair) (w : World) {c : Cause} {o : Outcome} (m x y : Node) → r.view.by ≡ r.by → (m.core.who == r.by) ≡ false → CalmCause r w c
-    → Changes c o x y
-    → FollowsOn r c (w.nodes r.by) m x → FollowsOn r c (w.nodes r.by) m y
+pub follow_changes : (r : Repair) (w : World) {c : Cause} {o : Outcome} (m x y : Node) → r.view.by ≡ r.by → (m.core.who == r.by) ≡ false
+    → CalmCause r w c → Changes c o x y → FollowsOn r c (w.nodes r.by) m x → FollowsOn r c (w.nodes r.by) m y
 follow_changes r w m x y by other calm no_change h = h
 follow_changes r w m x y by other calm (changed {n = z} one more) h = follow_changes r w m z y by other calm more
     (follow_change r w _ _ m x z by other calm one h)

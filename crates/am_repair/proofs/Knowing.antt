@@ -15,8 +15,7 @@ use Rattle.am_repair.proofs.{Nodes.leads_alike, Leading.least_low, Leading.looke
 -- ---- who is a member after an entry was one before, but for a joiner
 
 set_back : (image : Image) (name i : ℕ) (r : Row) → length image.rows ≡ 16 → (In r (life_of i) → In (row_at image (place_of name)) (life_of i))
-    → In (row_at (with_row image name r) (place_of i)) (life_of i)
-    → In (row_at image (place_of i)) (life_of i)
+    → In (row_at (with_row image name r) (place_of i)) (life_of i) → In (row_at image (place_of i)) (life_of i)
 set_back image name i r long back h = ⊎_elim
     (λ (x : (place_of i ≡ place_of name) × (row_at (with_row image name r) (place_of i) ≡ r)).
     subst (λ p. In (row_at image p) (life_of i)) (sym x.0) (back (subst (λ y. In y (life_of i)) x.1 h)))

@@ -78,9 +78,8 @@ is_member_now r m name h there = ap (λ (i : Image). has (members_of i) name) (s
 -- ---- a refresh
 
 -- what a member has reported to have taken bounds what is let go
-pub least_low : (m : Node) (kept : ℕ → Report) (c : CoreState) (name to : ℕ) → Fronts m → c.log ≡ m.core.log → c.log.start ≤ c.acc → c.acc ≤ top_of c.log
-    → has (members m) name ≡ true
-    → least_taken kept (since_accepted c) ≡ Some to → to ≤ (kept name).taken
+pub least_low : (m : Node) (kept : ℕ → Report) (c : CoreState) (name to : ℕ) → Fronts m → c.log ≡ m.core.log → c.log.start ≤ c.acc
+    → c.acc ≤ top_of c.log → has (members m) name ≡ true → least_taken kept (since_accepted c) ≡ Some to → to ≤ (kept name).taken
 least_low m kept c name to f log low high member least =
     let d = record c { who = name; taken = (kept name).taken } in
     let used = subst (λ (l : Log). IsUsed l.image) (sym log) f.used in

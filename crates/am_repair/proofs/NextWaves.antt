@@ -48,8 +48,7 @@ served_get q stored k e low there =
 
 -- the sequencer trims no more than was taken, with a member's report
 report_trims : (rules : Rules) (r : Repair) (taken : ℕ → ℕ) (q : Node) (i : ℕ) (report : Report) → Leads r q → q.core.who ≡ r.by → Fronts q
-    → Trusts r taken q → has r.members i ≡ true → (i == r.by) ≡ false → report.taken ≤ taken i
-    → (take_report q i report).core.base ≤ taken i
+    → Trusts r taken q → has r.members i ≡ true → (i == r.by) ≡ false → report.taken ≤ taken i → (take_report q i report).core.base ≤ taken i
 report_trims rules r taken q i report l who f t there other low =
     let p = with_report q i report in
     let own : (q.core.who == i) ≡ false = grind (arith, nat_tests) in
@@ -93,9 +92,8 @@ same_bcast n s v number e a b = cc
 
 -- the world after it, where it serves
 served_by : (rules : Rules) (r : Repair) (i stored : ℕ) (u v : World) (s : Step) → Fine rules r u → Fine rules r v → has r.members i ≡ true
-    → (i == r.by) ≡ false → (u.nodes r.by).core.log.start ≤ stored
-    → v.nodes r.by ≡ s.node → Serves (u.nodes r.by) i stored s → ((j : ℕ) (l : Letter) → slice_get s.letters j ≡ Some l
-    → letter_at v.letters (length u.letters + 1 + j) ≡ Some l)
+    → (i == r.by) ≡ false → (u.nodes r.by).core.log.start ≤ stored → v.nodes r.by ≡ s.node → Serves (u.nodes r.by) i stored s
+    → ((j : ℕ) (l : Letter) → slice_get s.letters j ≡ Some l → letter_at v.letters (length u.letters + 1 + j) ≡ Some l)
     → Served rules r i (length u.letters) stored v
 served_by rules r i stored u v s h fine there other low node serves sent =
     let q = u.nodes r.by in
@@ -133,9 +131,8 @@ served_by rules r i stored u v s h fine there other low node serves sent =
     }
 
 nack_hear : (rules : Rules) (r : Repair) (taken : ℕ → ℕ) (i stored k : ℕ) (l : Letter) (report : Report) (u : World) → Fine rules r u
-    → Trusts r taken (u.nodes r.by) → taken i ≤ stored → has r.members i ≡ true → (i == r.by) ≡ false → r.sent < k
-    → letter_at u.letters k ≡ Some l → is_for l r.by ≡ true → l.packet ≡ Nack i r.view report → report.taken ≤ report.stored → report.taken ≤ taken i
-    → report.stored ≡ stored
+    → Trusts r taken (u.nodes r.by) → taken i ≤ stored → has r.members i ≡ true → (i == r.by) ≡ false → r.sent < k → letter_at u.letters k ≡ Some l
+    → is_for l r.by ≡ true → l.packet ≡ Nack i r.view report → report.taken ≤ report.stored → report.taken ≤ taken i → report.stored ≡ stored
     → Served rules r i (length u.letters) stored (happens u (event_at (place_of r.by) (act.Hear k)))
 nack_hear rules r taken i stored k l report u h t bound there other late letter meant is_ fits low exact =
     let e = event_at (place_of r.by) (act.Hear k) in
@@ -195,8 +192,7 @@ pub record IsServing (rules : Rules) (r : Repair) (i after stored : ℕ) (u : Wo
   pub served_ : Served rules r i after stored u
 
 pub second_wave_serves : (rules : Rules) (r : Repair) (i after stored : ℕ) (w : World) → r.sent ≤ after → HasAsked rules r i after stored w
-    → has r.members i ≡ true → (i == r.by) ≡ false
-    → IsServing rules r i (length w.letters) stored (happen w (hearings w after))
+    → has r.members i ≡ true → (i == r.by) ≡ false → IsServing rules r i (length w.letters) stored (happen w (hearings w after))
 second_wave_serves rules r i after stored w low x there other =
     let z = wave_hits P (Served rules r i (length w.letters) stored) w after x.asked.sent.number (place_of r.by)
     (heard_there rules r w after r.by x.asked.letter x.fine x.fine.calm.listed x.asked.sent) hits (x.fine, trusts_first, stays_same w) in

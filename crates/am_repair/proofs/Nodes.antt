@@ -52,8 +52,7 @@ pub record Alike (m n : Node) : Type 0 where
   pub taken : m.core.taken ≤ n.core.taken
 
 pub alike_here : (m n : Node) → n.core.log ≡ m.core.log → n.core.who ≡ m.core.who → n.core.promise ≡ m.core.promise → n.status ≡ m.status
-    → n.leaving ≡ m.leaving
-    → n.ballot ≡ m.ballot → m.core.acc ≤ n.core.acc → m.core.taken ≤ n.core.taken → Alike m n
+    → n.leaving ≡ m.leaving → n.ballot ≡ m.ballot → m.core.acc ≤ n.core.acc → m.core.taken ≤ n.core.taken → Alike m n
 alike_here m n a b d e f g acc taken = record {
   same = record { who = b; promise = d; status = e; leaving = f; ballot = g };
   log = a;

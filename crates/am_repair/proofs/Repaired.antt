@@ -96,8 +96,7 @@ last_rounds rules r stored w far h i there =
 
 -- from a calm world in which each member has at least what leaves no more than the window and 15
 pub all_catch_up : (rules : Rules) (r : Repair) (base : ℕ) (w : World) → r.high ≤ base + (rules.window + 15) → AllStored rules r base w → (i : ℕ)
-    → has r.members i ≡ true
-    → HasCaughtUp ((happen w (settle_events rules w)).nodes i) r.high
+    → has r.members i ≡ true → HasCaughtUp ((happen w (settle_events rules w)).nodes i) r.high
 all_catch_up rules r base w near h i there =
     let k = (rules.window + 22) / 8 in
     let enough : r.high ≤ base + 8 * k = omega arith in

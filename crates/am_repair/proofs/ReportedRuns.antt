@@ -14,8 +14,7 @@ record Told (nodes : ℕ → Node) (m n : Node) : Type 0 where
   rises : Rises m n
 
 told_changes : (rules : Rules) (nodes : ℕ → Node) {c : Cause} {o : Outcome} (m n : Node) → HeardNames c → HeardUsed c → CauseTaken nodes c
-    → Changes c o m n
-    → Along rules m → Truly nodes m → Told nodes m n
+    → Changes c o m n → Along rules m → Truly nodes m → Told nodes m n
 told_changes rules nodes m n names used w no_change a h = record { truly = h; rises = record { base = omega arith; taken = omega arith } }
 told_changes rules nodes m n names used w (changed {n = x} one more) a h =
     let next = told_changes rules nodes x n names used w more (along_changes rules m x names used (changed one no_change) a)

@@ -325,8 +325,7 @@ apart_step r w e s h k other none there =
     (sent_calm r w v m n c s.letters k.calm sends (subst (λ (x : Node). All (LetterSays m c x) s.letters) sender k.effect.letters))
 
 gone_step : (r : Repair) (w : World) (e : Event) (s : Step) → Calm r w → (k : OurStep r w e s) → (actor w e == r.by) ≡ false
-    → has r.members (actor w e) ≡ false → has_departed (w.nodes (actor w e)).status ≡ true
-    → StepKeeps r w (with_step w e (actor w e) s) (actor w e) s
+    → has r.members (actor w e) ≡ false → has_departed (w.nodes (actor w e)).status ≡ true → StepKeeps r w (with_step w e (actor w e) s) (actor w e) s
 gone_step r w e s h k other none gone =
     let still = k.still gone in
     let status = ap has_departed still.status ∙ gone in
@@ -364,8 +363,7 @@ ours_grow rules r w e is laws h = ours_grow_by rules r w e (happens w e) laws h 
 
 -- a member whose letter isn't the next entry stores nothing
 skip_step : (r : Repair) (w : World) (e : Event) (s : Step) (i : ℕ) → Calm r w → (k : OurStep r w e s) → has r.members i ≡ true → (i == r.by) ≡ false
-    → Skips (top (w.nodes i)) k.cause
-    → top ((with_step w e (actor w e) s).nodes i) ≡ top (w.nodes i)
+    → Skips (top (w.nodes i)) k.cause → top ((with_step w e (actor w e) s).nodes i) ≡ top (w.nodes i)
 skip_step r w e s i h k there other skips = split (i == actor w e)
     (λ t.
     let name = actor w e in
@@ -382,21 +380,18 @@ skip_step r w e s i h k there other skips = split (i == actor w e)
     (λ f. ap (λ (x : Node). top x) ((one_changed w e (actor w e) s).others i f))
 
 ours_skip_by : (r : Repair) (w : World) (e : Event) (v : World) (i : ℕ) → Calm r w → Ours r w e v → has r.members i ≡ true → (i == r.by) ≡ false
-    → ((c : Cause) → IsCause w (actor w e) e.act c → Skips (top (w.nodes i)) c)
-    → top (v.nodes i) ≡ top (w.nodes i)
+    → ((c : Cause) → IsCause w (actor w e) e.act c → Skips (top (w.nodes i)) c) → top (v.nodes i) ≡ top (w.nodes i)
 unfolding with_record
 ours_skip_by r w e v i h (idles o) there other skips = refl
 ours_skip_by r w e v i h (steps s k) there other skips = skip_step r w e s i h k there other (skips k.cause k.is)
 
 pub ours_skip : (r : Repair) (w : World) (e : Event) (i : ℕ) → IsOurs r e → Calm r w → has r.members i ≡ true → (i == r.by) ≡ false
-    → ((c : Cause) → IsCause w (actor w e) e.act c → Skips (top (w.nodes i)) c)
-    → top ((happens w e).nodes i) ≡ top (w.nodes i)
+    → ((c : Cause) → IsCause w (actor w e) e.act c → Skips (top (w.nodes i)) c) → top ((happens w e).nodes i) ≡ top (w.nodes i)
 ours_skip r w e i is h there other skips = ours_skip_by r w e (happens w e) i h (ours r w e is h) there other skips
 
 -- the sequencer goes on to trust what was taken at some time
 trust_step : (rules : Rules) (r : Repair) (taken : ℕ → ℕ) (w : World) (e : Event) (s : Step) → AllOwned rules w → Calm r w → (k : OurStep r w e s)
-    → TellsTaken r taken k.cause → Trusts r taken (w.nodes r.by)
-    → Trusts r taken ((with_step w e (actor w e) s).nodes r.by)
+    → TellsTaken r taken k.cause → Trusts r taken (w.nodes r.by) → Trusts r taken ((with_step w e (actor w e) s).nodes r.by)
 trust_step rules r taken w e s laws h k tells t = split (actor w e == r.by)
     (λ same_.
     let name = actor w e in
@@ -420,13 +415,11 @@ trust_step rules r taken w e s laws h k tells t = split (actor w e == r.by)
     (λ f. subst (Trusts r taken) (sym ((one_changed w e (actor w e) s).others r.by (is_other (actor w e) r.by f))) t)
 
 ours_trust_by : (rules : Rules) (r : Repair) (taken : ℕ → ℕ) (w : World) (e : Event) (v : World) → AllOwned rules w → Calm r w → Ours r w e v
-    → ((c : Cause) → IsCause w (actor w e) e.act c → TellsTaken r taken c)
-    → Trusts r taken (w.nodes r.by) → Trusts r taken (v.nodes r.by)
+    → ((c : Cause) → IsCause w (actor w e) e.act c → TellsTaken r taken c) → Trusts r taken (w.nodes r.by) → Trusts r taken (v.nodes r.by)
 unfolding with_record
 ours_trust_by rules r taken w e v laws h (idles o) tells t = t
 ours_trust_by rules r taken w e v laws h (steps s k) tells t = trust_step rules r taken w e s laws h k (tells k.cause k.is) t
 
 pub ours_trust : (rules : Rules) (r : Repair) (taken : ℕ → ℕ) (w : World) (e : Event) → IsOurs r e → AllOwned rules w → Calm r w
-    → ((c : Cause) → IsCause w (actor w e) e.act c → TellsTaken r taken c)
-    → Trusts r taken (w.nodes r.by) → Trusts r taken ((happens w e).nodes r.by)
+    → ((c : Cause) → IsCause w (actor w e) e.act c → TellsTaken r taken c) → Trusts r taken (w.nodes r.by) → Trusts r taken ((happens w e).nodes r.by)
 ours_trust rules r taken w e is laws h tells t = ours_trust_by rules r taken w e (happens w e) laws h (ours r w e is h) tells t

@@ -61,8 +61,7 @@ record IsOnWay (rules : Rules) (r : Repair) (i after stored first many : ℕ) (w
   have : min (stored + min (n - (first + 1)) many) r.high ≤ top (u.nodes i)
 
 way_goes : (rules : Rules) (r : Repair) (i after stored first many n p k : ℕ) (w u : World) → r.sent ≤ after → after < k → has r.members i ≡ true
-    → IsOnWay rules r i after stored first many w n u
-    → IsOnWay rules r i after stored first many w n (happens u (event_at p (act.Hear k)))
+    → IsOnWay rules r i after stored first many w n u → IsOnWay rules r i after stored first many w n (happens u (event_at p (act.Hear k)))
 way_goes rules r i after stored first many n p k w u low late there h =
     let e = event_at p (act.Hear k) in
     let ours : IsOurs r e = hears_ p k (omega arith) in

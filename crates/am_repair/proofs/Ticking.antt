@@ -89,8 +89,7 @@ pub record Bounds (rules : Rules) (r : Repair) (X : World → Type 0) (accepted 
   pub gives : (w : World) → Fine rules r w → X w → accepted ≤ ((happens w (event_at (place_of r.by) act.Tick)).nodes r.by).core.acc
 
 pub ticks_poll : (rules : Rules) (r : Repair) (X : World → Type 0) (i accepted : ℕ) (w : World) → Bounds rules r X accepted → Fine rules r w → X w
-    → has r.members i ≡ true → (i == r.by) ≡ false
-    → Polled r i (length w.letters) accepted (happen w (ticks w))
+    → has r.members i ≡ true → (i == r.by) ≡ false → Polled r i (length w.letters) accepted (happen w (ticks w))
 ticks_poll rules r X i accepted w b h x there other =
     (acts_hit P (Polled r i (length w.letters) accepted) act.Tick (place_of r.by) hits (running w) w
     (runs_there w r.by (member_there rules r w r.by h h.calm.listed)) (h, x, omega arith)).1
@@ -122,8 +121,7 @@ lists_leader r q m l listed f far own =
     ap (λ (i : Image). has (members_of i) (view m).by) f.told_ ∙ ap (has (members_at q.core.log (top m))) by ∙ l.members_ r.by (top m) listed far f.within
 
 reported_tick : (rules : Rules) (r : Repair) (i after : ℕ) (w : World) → Fine rules r w → has r.members i ≡ true → (i == r.by) ≡ false
-    → after ≤ length w.letters → r.high ≤ top (w.nodes i)
-    → Reported r i after r.high (happens w (event_at (place_of i) act.Tick))
+    → after ≤ length w.letters → r.high ≤ top (w.nodes i) → Reported r i after r.high (happens w (event_at (place_of i) act.Tick))
 reported_tick rules r i after w h there other low far =
     let e = event_at (place_of i) act.Tick in
     let m = w.nodes i in
@@ -161,8 +159,7 @@ reported_tick rules r i after w h there other low far =
     }
 
 pub ticks_report : (rules : Rules) (r : Repair) (i : ℕ) (w : World) → Fine rules r w → has r.members i ≡ true → (i == r.by) ≡ false
-    → r.high ≤ top (w.nodes i)
-    → Reported r i (length w.letters) r.high (happen w (ticks w))
+    → r.high ≤ top (w.nodes i) → Reported r i (length w.letters) r.high (happen w (ticks w))
 ticks_report rules r i w h there other far =
     (acts_hit P (Reported r i (length w.letters) r.high) act.Tick (place_of i) hits (running w) w (runs_there w i (member_there rules r w i h there))
     (h, far, omega arith)).1

@@ -101,8 +101,7 @@ fetched_view x s v base (View stamp names resilience) why promise is t =
         absurd (split (stamp_lt v stamp) (λ y. let p = rw y at past in cc) (λ y. let p = rw (y, u) at past in cc))
 
 came_change : (c : Cause) (o : Outcome) (m x y : Node) → HeardNames c → HasNames x → HasNames y → Balloted x → stamp_lt (view x) (view m) ≡ false
-    → Change c o x y
-    → (acts x ≡ true → Came c m x) → acts y ≡ true → Came c m y
+    → Change c o x y → (acts x ≡ true → Came c m x) → acts y ≡ true → Came c m y
 came_change c o m x y heard names after k low refreshes h t = let s = stays_alike x y (alike_refresh x) in came_on c m x y s (h (s.acts_ t))
 came_change c o m x y heard names after k low settles h t = let s = stays_alike x y (alike_settle x) in came_on c m x y s (h (s.acts_ t))
 came_change c o m x y heard names after k low (admits s v is leads fit) h t = came_on c m x y (plain_stay x y refl refl refl refl (omega arith)) (h t)

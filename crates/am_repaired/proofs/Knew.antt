@@ -53,8 +53,7 @@ then_know nodes m x y low high (knew mine h) (knew his k) = knew (his ∙ mine) 
     omega arith)
 
 know_along : (rules : Rules) (nodes : ℕ → Node) {c : Cause} {o : Outcome} (m x n : Node) → NoJoin c → CauseTaken nodes c → HeardNames c → HeardUsed c
-    → Changes c o x n
-    → Along rules x → stamp_lt (view x) (view m) ≡ false → Know nodes m x → Know nodes m n
+    → Changes c o x n → Along rules x → stamp_lt (view x) (view m) ≡ false → Know nodes m x → Know nodes m n
 know_along rules nodes m x n none w heard used unchanged a low h = h
 know_along rules nodes m x n none w heard used (changed {n = y} one more) a low h =
     let up = view_rises x y a.blanked heard a.names a.balloted one in
@@ -63,7 +62,6 @@ know_along rules nodes m x n none w heard used (changed {n = y} one more) a low 
     (then_know nodes m x y low up h (know_change nodes _ _ x y none w a.balloted one))
 
 pub know : (rules : Rules) (nodes : ℕ → Node) {c : Cause} {o : Outcome} (m n : Node) → NoJoin c → CauseTaken nodes c → HeardNames c → HeardUsed c
-    → Changes c o m n
-    → Along rules m → Know nodes m n
+    → Changes c o m n → Along rules m → Know nodes m n
 know rules nodes m n none w heard used all a =
     know_along rules nodes m m n none w heard used all a (not_above_itself (view m)) (same nodes m m refl (λ j other. refl))

@@ -104,8 +104,7 @@ grown_begins w v s t i n stands group grows part start long is =
 
 -- who had departed accepts no more
 departed_low : {c : Cause} {o : Outcome} (m n : Node) (letters : List Letter) → Ending c o m letters n → m.status ≡ status.Departed
-    → is_unfinished m.ballot ≡ false
-    → n.core.acc ≤ max m.core.acc m.core.told
+    → is_unfinished m.ballot ≡ false → n.core.acc ≤ max m.core.acc m.core.told
 departed_low m n letters (at_end {x = x} deeds) was none_ = (rests_step m x was none_ deeds).low
 departed_low m n letters (let_go s v number is heard_ leaves) was none_ = absurd (let a = (and_both _ (is_member m.status) heard_).1 in cc)
 departed_low m n letters (closing {x = x} ev call course leads leaves alone room same_) was none_ = absurd (

@@ -62,10 +62,9 @@ letters_same o t all m e = ap (letters_of o t) (sym e.same) ∙ letters_log o t 
 -- ---- the end of the step
 
 -- a plan that polls nobody and numbers nothing, from the end of its node on
-pub ends_with : (m : Node) (p : Plan) (mid new : Node) (o : Outcome) (letters sent : List Letter)
-    → IsEndOf p.node mid → p.polls ≡ false → p.numbers ≡ false → p.departs ≡ false → Changes refresh_at_end mid new
-    → ((n : Node) → IsEndOf n new → p.outcome n ≡ o) → ((n : Node) → IsEndOf n new → letters ≡ p.letters n)
-    → Tells (with_told m.core.acc false false letters) new sent
+pub ends_with : (m : Node) (p : Plan) (mid new : Node) (o : Outcome) (letters sent : List Letter) → IsEndOf p.node mid → p.polls ≡ false
+    → p.numbers ≡ false → p.departs ≡ false → Changes refresh_at_end mid new → ((n : Node) → IsEndOf n new → p.outcome n ≡ o)
+    → ((n : Node) → IsEndOf n new → letters ≡ p.letters n) → Tells (with_told m.core.acc false false letters) new sent
     → ends.ComesTo (finish m p) o sent new
 unfolding finish
 ends_with m p mid new o letters sent is polls numbers departs end answer same tells =

@@ -101,8 +101,7 @@ kept_pushed all who m e sent h = record {
   name = h.name;
   entries = All-push (EntrySent all) m.core.log.entries e h.entries sent;
   sends = h.sends;
-  bodies =
-      h.bodies;
+  bodies = h.bodies;
 }
 
 pub kept_queued : (all : List Record) (who : ℕ) (m : Node) (body : List ℕ) → WasSent all who (m.sends.last + 1) body → Keeps all who m
@@ -111,8 +110,7 @@ kept_queued all who m body sent h = record {
   name = h.name;
   entries = h.entries;
   sends = All-push (SendSent all who) m.sends.queue _ h.sends sent;
-  bodies =
-      h.bodies;
+  bodies = h.bodies;
 }
 
 pub kept_collected : (all : List Record) (who : ℕ) (m : Node) (req : ℕ) → Keeps all who m → Keeps all who (record m { sends = own.collect req m.sends })
@@ -141,8 +139,7 @@ kept_body all who m from req body sent h = split (list_any (is_of from req) m.bo
       name = h.name;
       entries = h.entries;
       sends = h.sends;
-      bodies =
-          all_with_body all (record { from = from; req = req; body = body }) m.bodies sent h.bodies;
+      bodies = all_with_body all (record { from = from; req = req; body = body }) m.bodies sent h.bodies;
     }))
 
 -- ---- the refresh

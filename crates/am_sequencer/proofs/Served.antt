@@ -33,8 +33,7 @@ served_kept c stored low = λ m all s.
     ∙ ap (take 8) (drop-drop (stored - c.log.start) (c.log.start - all.start) all.entries ∙ ap (λ k. drop k all.entries) at)
 
 pub served_letters : (c : CoreState) (to : List ℕ) (stored last : ℕ) (letters : List Letter) → c.log.start ≤ stored → stored ≤ top_of c.log
-    → last ≡ min (top_of c.log) (stored + 8)
-    → letters ≡ put_all (bcast_from c) to (stored + 1) (take (last - stored) (kept_above c.log stored)) []
+    → last ≡ min (top_of c.log) (stored + 8) → letters ≡ put_all (bcast_from c) to (stored + 1) (take (last - stored) (kept_above c.log stored)) []
     → CoreTells (λ m. put_all (bcast_of m) to (stored + 1) (entries_to_serve m stored) []) c letters
 served_letters c to stored last letters low high is sent = λ m all s.
     let few : last - stored ≡ min (length (kept_above c.log stored)) 8 = simp length-drop (omega arith) in

@@ -52,8 +52,7 @@ module _ (s : Group) (k : Kept s) (lawful : IsLawful s) (c : ℕ) (members : Lis
 
   -- on one branch with the coordinator's list, a name of the View has no more
   low_on : (j : ℕ) (branch : List Entry) → has members j ≡ true → (s.node j).departed ≡ false → IsGood branch → Begins chosen branch
-      → Begins (s.node j).list branch
-      → Begins (s.node j).list chosen
+      → Begins (s.node j).list branch → Begins (s.node j).list chosen
   low_on j branch in_ stays good mine its = ⊎_elim
       (λ (z : j ≡ c). subst (λ x. Begins (s.node x).list chosen) (sym z) (begins_refl chosen))
       (λ (z : Voted s (key (s.node c).promise) j chosen).
@@ -108,8 +107,7 @@ module _ (s : Group) (k : Kept s) (lawful : IsLawful s) (c : ℕ) (members : Lis
 
   -- who isn't a member of what is chosen ended in it
   ended_in : (j : ℕ) (branch : List Entry) → (s.node j).departed ≡ false → IsGood branch → Begins chosen branch → Begins (s.node j).list branch
-      → mem chosen j ≡ false
-      → Begins (s.node j).list chosen
+      → mem chosen j ≡ false → Begins (s.node j).list chosen
   ended_in j branch stays good mine its none = split (s.node j).has_log
       (λ log. ⊎_elim
       (λ (z : length (s.node j).list ≤ length chosen). begins_both its mine z)
@@ -196,8 +194,7 @@ branches_of s t k steady moved opened b = record {
 
 -- on a chain that goes on
 still_on : (s t : Group) → Begins (chain_of s.views) (chain_of t.views) → (j : ℕ) → (s.node j).departed ≡ false → OnBranch s j
-    → (t.node j).list ≡ (s.node j).list
-    → OnBranch t j
+    → (t.node j).list ≡ (s.node j).list → OnBranch t j
 still_on s t chain j stays (on_chain its) same = on_chain (subst (λ l. Begins l (chain_of t.views)) (sym same) (begins_trans its chain))
 still_on s t chain j stays (left_out a v names strong branch part mine its good member out) same =
     left_out a v names strong branch (begins_trans part chain) mine (subst (λ l. Begins l branch) (sym same) its) good member out

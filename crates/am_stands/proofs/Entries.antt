@@ -87,8 +87,7 @@ lines_longer w name x y e a views l old others h k d at = split (d.stamp.by == n
 
 -- a move that makes one list longer, and no line of its own
 grows : (w : World) (name : ℕ) (x y : Node) (e : Entry) (s : Group) → name < 256 → Longer x y e → IsOthers name x e
-    → (move : Move s (with_node s name (longer (s.node name) e))) → MoveOk move → StandsBut name (within w name x) s
-    → Onto name (within w name y) s
+    → (move : Move s (with_node s name (longer (s.node name) e))) → MoveOk move → StandsBut name (within w name x) s → Onto name (within w name y) s
 grows w name x y e s few l others move ok h =
     let old = own_name w name x s few h in
     let b = longer (s.node name) e in

@@ -15,9 +15,8 @@ pub item_next : (list : List Entry) (n : ℕ) (e : Entry) (number : ℕ) → num
 item_next list n e number is at = let z : number ≡ suc n = omega arith in ap (item_at list) (sym z) ∙ at
 
 pub entry_needs : (w : World) (name number : ℕ) (x : Node) (v : Stamp) (e : Entry) (s : Group) → Kept s → x.core.who ≡ name
-    → NameStands (within w name x) name x (s.node name) → IsUp (s.node name)
-    → x.core.promise ≡ v → v.by ≢ name → IsOthers name x e → IsDecided s v → item_at (line s v) number ≡ Some e → number ≡ nodes.top x + 1
-    → has_own_leave x ≡ false → NeedsEntry s name x e
+    → NameStands (within w name x) name x (s.node name) → IsUp (s.node name) → x.core.promise ≡ v → v.by ≢ name → IsOthers name x e → IsDecided s v
+    → item_at (line s v) number ≡ Some e → number ≡ nodes.top x + 1 → has_own_leave x ≡ false → NeedsEntry s name x e
 entry_needs w name number x v e s k who old up promise other others decided at next stays =
     let a = s.node name in
     let promised : a.promise ≡ v = old.promise ∙ promise in

@@ -5,8 +5,7 @@ use Rattle.am_chain_moves.specs.Group as groups
 use Rattle.am_stands.proofs.{Ends.taken_more, Keeps.trimmed_grow, Keeps.fetches_grow, Reporting.reporting_grow, Shown.votes_grow}
 
 -- its list is the same, as its log is, and the group list only grows
-list_same : (w v : World) (i : ℕ) (x : Node) (a b : groups.Node) → NameStands w i x a → NameStands v i x b → Begins w.group v.group
-    → b.list ≡ a.list
+list_same : (w v : World) (i : ℕ) (x : Node) (a b : groups.Node) → NameStands w i x a → NameStands v i x b → Begins w.group v.group → b.list ≡ a.list
 list_same w v i x a b h k grows = k.list ∙ ap (λ l. l ++ x.core.log.entries) (taken_more x.core.log.start w.group v.group grows h.begins.within) ∙ sym h.list
 
 pub last_stays : (w v : World) (ballot : Option Ballot) → ((j : ℕ) → is_stopped w j ≡ true → is_stopped v j ≡ true) → LastStands w ballot → LastStands v ballot

@@ -119,8 +119,7 @@ others_entry w name x e s y h decided begins next by = split (is_view e)
 
 -- of the line of the promise
 line_needs : (w : World) (name base number : ℕ) (x : Node) (v : Stamp) (e : Entry) (s : Group) → Fetcher w name x s → x.core.promise ≡ v → v.by ≢ name
-    → MayStore x (max x.core.base base) base number e
-    → IsDecided s v → item_at (line s v) number ≡ Some e → NeedsPiece s name x e
+    → MayStore x (max x.core.base base) base number e → IsDecided s v → item_at (line s v) number ≡ Some e → NeedsPiece s name x e
 line_needs w name base number x v e s h promise other may decided stands =
     let a = s.node name in
     let old = own w name x s h in
@@ -135,8 +134,7 @@ line_needs w name base number x v e s h promise other may decided stands =
 
 -- of a list that was shown
 shown_needs : (w : World) (name from base number : ℕ) (x : Node) (v : Stamp) (e : Entry) (s : Group) → Fetcher w name x s → x.core.promise ≡ v
-    → is_unfinished x.ballot ≡ true → MayStore x (max x.core.base base) base number e
-    → ShownEntry s from v number e → NeedsPiece s name x e
+    → is_unfinished x.ballot ≡ true → MayStore x (max x.core.base base) base number e → ShownEntry s from v number e → NeedsPiece s name x e
 shown_needs w name from base number x v e s h promise unfinished may is =
     let a = s.node name in
     let old = own w name x s h in

@@ -186,8 +186,7 @@ part_true list own n within begins low =
 
 -- what is reported in the view of a sequencer's list is true of it
 pub report_true : (s : Group) (from : ℕ) (v : Stamp) (list : List Entry) (report : Report) → line s v ≡ list → report.stored ≤ length list
-    → ReportSays s from v report
-    → Begins (take report.stored list) (s.node from).list
+    → ReportSays s from v report → Begins (take report.stored list) (s.node from).list
 report_true s from v list report is low h = part_true list (s.node from).list report.stored h.within
     (subst (Begins (take report.stored (s.node from).list)) is h.begins) low
 

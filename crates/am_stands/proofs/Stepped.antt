@@ -64,8 +64,7 @@ acc_next rules w name c o x y s _ plain is group_ low = low
 
 -- a plain change ends nothing
 no_close : {c : Cause} {o : Outcome} {x y : Node} (rules : Rules) (w : World) (name : ℕ) (s : Group) (h : Stepping rules w name c x s) (z : Change c o x y)
-    → IsPlain z
-    → IsNoClose rules w name c x s h z
+    → IsPlain z → IsNoClose rules w name c x s h z
 no_close rules w name s h (closes leads leaves alone room) plain = absurd plain
 no_close rules w name s h _ plain = tt
 

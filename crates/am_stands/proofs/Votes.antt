@@ -120,8 +120,7 @@ those_in test names j in_ =
 
 -- another name that is needed, and isn't given up, has voted for no better list
 other_voted : (w : World) (name : ℕ) (x : Node) (b : Ballot) (s : Group) (j : ℕ) → BallotKnown w name x b s → looks.MayDecide x b
-    → has (need_of x b) j ≡ true → b.given_up j ≡ false → (j == x.core.who) ≡ false
-    → Voted s (key (s.node name).promise) j (s.node name).list
+    → has (need_of x b) j ≡ true → b.given_up j ≡ false → (j == x.core.who) ≡ false → Voted s (key (s.node name).promise) j (s.node name).list
 unfolding view_of
 other_voted w name x b s j h may needed stays other =
     let a = s.node name in

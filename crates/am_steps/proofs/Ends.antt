@@ -86,11 +86,10 @@ none_below a = grind (arith, nat_tests)
 
 -- a step that noted no view decided none
 none_decided : (rules : Rules) (w : World) (name : ℕ) (c : Cause) (m n : Node) (t : Group) (group : List Entry)
-    → Stepping rules (further w group w.views) name c n t
-    → (has_log m.status ≡ true → Goes m.core.log n.core.log) → (has_log m.status ≡ true → has_log n.status ≡ true)
-    → (has_departed m.status ≡ false → has_departed n.status ≡ false) → ((k : ℕ) (d : Decided) → slice_get w.views k ≡ Some d → IsNoted w.nodes d)
-    → w.nodes name ≡ m
-    → (member : is_member m.status ≡ true) → (view n).by ≡ n.core.who → stamp_eq (view m) (view n) ≡ false → ⊥
+    → Stepping rules (further w group w.views) name c n t → (has_log m.status ≡ true → Goes m.core.log n.core.log)
+    → (has_log m.status ≡ true → has_log n.status ≡ true) → (has_departed m.status ≡ false → has_departed n.status ≡ false)
+    → ((k : ℕ) (d : Decided) → slice_get w.views k ≡ Some d → IsNoted w.nodes d) → w.nodes name ≡ m → (member : is_member m.status ≡ true)
+    → (view n).by ≡ n.core.who → stamp_eq (view m) (view n) ≡ false → ⊥
 none_decided rules w name c m n t group h goes log_ there noted is member own differs =
     let had = logged m.status member in
     let mine = old rules (further w group w.views) name c n t h in
@@ -117,11 +116,10 @@ none_decided rules w name c m n t group h goes log_ there noted is member own di
     (goes had).view
 
 pub views_end : (rules : Rules) (w : World) (name : ℕ) (c : Cause) (m n : Node) (t : Group) (group : List Entry) (views : List Decided)
-    → Stepping rules (further w group views) name c n t
-    → (has_log m.status ≡ true → Goes m.core.log n.core.log) → (has_log m.status ≡ true → has_log n.status ≡ true)
-    → (has_departed m.status ≡ false → has_departed n.status ≡ false) → ((k : ℕ) (d : Decided) → slice_get w.views k ≡ Some d → IsNoted w.nodes d)
-    → w.nodes name ≡ m
-    → Seen w m n views → views ≡ views_after w.views m n
+    → Stepping rules (further w group views) name c n t → (has_log m.status ≡ true → Goes m.core.log n.core.log)
+    → (has_log m.status ≡ true → has_log n.status ≡ true) → (has_departed m.status ≡ false → has_departed n.status ≡ false)
+    → ((k : ℕ) (d : Decided) → slice_get w.views k ≡ Some d → IsNoted w.nodes d) → w.nodes name ≡ m → Seen w m n views
+    → views ≡ views_after w.views m n
 views_end rules w name c m n t group views h goes log_ there noted is (none_new same) = split (decides m n)
     (λ u. absurd (
     let a = and_both (is_member m.status) (((view n).by == n.core.who) && not (stamp_eq (view m) (view n))) u in

@@ -21,8 +21,7 @@ same_owning x y who promise ballot h = subst (λ k. Owning k y.core.promise y.ba
 
 -- a ballot that was decided isn't overtaken
 still_decided : (v : Stamp) (ballot : Option Ballot) (b : Ballot) (number : ℕ) (names : List ℕ) → overtake v ballot ≡ Some b
-    → b.answer ≡ said.Decided number names
-    → ballot ≡ Some b
+    → b.answer ≡ said.Decided number names → ballot ≡ Some b
 still_decided v None b number names is answer = is
 still_decided v (Some a) b number names is answer = split (not a.is_over && stamp_lt a.stamp v)
     (λ t. absurd (let z = rw t at is in
@@ -43,8 +42,7 @@ record Knows (nodes : ℕ → Node) (i : ℕ) (x : Node) : Type 0 where
   owns : OwnDecided x
 
 promise_owns : (nodes : ℕ → Node) (i : ℕ) (c : Cause) (x : Node) (v : Stamp) → HeardNames c → CauseBegun nodes c → Promises c x v
-    → stamp_lt v x.core.promise ≡ false
-    → IsBegun nodes v → Knows nodes i x → Owning x.core.who v (overtake v x.ballot)
+    → stamp_lt v x.core.promise ≡ false → IsBegun nodes v → Knows nodes i x → Owning x.core.who v (overtake v x.ballot)
 promise_owns nodes i c x v names begun why low is h b number all at answer mine =
     let old = still_decided v x.ballot b number all at answer in
     let who = h.promised.who in

@@ -72,8 +72,7 @@ module _ (rules : Rules) (w : World) (name : ℕ) (c : Cause) (x : Node) (s : Gr
 
   -- from the group that accepted, and in which the name learned
   gone_on : (g : List Entry) (t : Group) → Moves s t → Begins w.group g → StandsBut name (within (growing w g) name y) t
-      → (t.node name).list ≡ (s.node name).list
-      → y.core.acc ≤ length t.group → Stepping rules (growing w g) name c y t
+      → (t.node name).list ≡ (s.node name).list → y.core.acc ≤ length t.group → Stepping rules (growing w g) name c y t
   gone_on g t path grows stands list low =
       let on = goes_on rules.founders (lowest_or_first rules.founders) rules.resilience s t h.group path in
       let v = growing w g in

@@ -113,15 +113,13 @@ module _ (rules : Rules) (w : World) (e : Event) (c : Cause) (s : Step) (h : Wor
         cause = ok;
         within = within;
         unique = unique all (set_at w.nodes i s.node) asked;
-        sent =
-            (old.each (first_of rules)).entries;
+        sent = (old.each (first_of rules)).entries;
       } in
       let before : OtherOk rules list acc i all c s.outcome m m = record { sent = old.each i; node = h.kept.each i; gave = nothing refl refl refl } in
       quietly (OtherOk rules list acc i all c s.outcome m)
       (λ x y z n q. record {
         sent = change_sent all i c s.outcome x y was z q.sent;
-        node =
-            other_change rules list acc i all c s.outcome x y heard d z n q.sent q.node;
+        node = other_change rules list acc i all c s.outcome x y heard d z n q.sent q.node;
         gave = gave_change rules list acc i m x y q.node z n q.gave;
       })
       effect.changes none before
@@ -246,15 +244,13 @@ first_chain rules w e c s h eq cause effect none =
     let before : FirstGoes rules c s.outcome m m = record {
       ok = now.first;
       grown = record { more = []; is = sym (append-nil m.core.log.entries); up = omega arith };
-      gave =
-          nothing refl refl refl;
+      gave = nothing refl refl refl;
     } in
     quietly (FirstGoes rules c s.outcome m)
     (λ x y z n q. record {
       ok = first_change rules m.core.log.entries m.core.acc c s.outcome x y ok_first z n q.ok;
       grown = grown_change rules m x y q.ok z n q.grown;
-      gave =
-          gave_change rules x.core.log.entries x.core.acc (first_of rules) m x y q.ok.base.node z n q.gave;
+      gave = gave_change rules x.core.log.entries x.core.acc (first_of rules) m x y q.ok.base.node z n q.gave;
     })
     effect.changes none before
 

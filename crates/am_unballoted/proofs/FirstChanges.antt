@@ -120,8 +120,7 @@ first_settled_at rules m s (Some k) w is n h =
     }) h
 
 first_settled : (rules : Rules) (m : Node) (w : Option OwnSend) → waiting m ≡ w
-    → NodeOk rules m.core.log.entries m.core.acc (first_of rules) (settle_waiting m w)
-    → FirstBase rules m → FirstBase rules (settle_waiting m w)
+    → NodeOk rules m.core.log.entries m.core.acc (first_of rules) (settle_waiting m w) → FirstBase rules m → FirstBase rules (settle_waiting m w)
 first_settled rules m None w n h = h
 first_settled rules m (Some s) w n h = first_settled_at rules m s (accepted_at m s.req) w refl n h
 

@@ -18,11 +18,10 @@ by_name P nodes i n k h j = split (j == i)
 
 -- ---- a step
 
-pub kept_step : (rules : Rules) (list more : List Entry) (acc to : ℕ) (w : World) (e : Event) (c : Cause) (s : Step) → Kept rules list acc w → acc ≤ length list
-    → acc ≤ to
-    → NodeOk rules (list ++ more) to (actor w e) s.node → group_after w.group s.node ≡ take to (list ++ more) → All (LetterOk rules (list ++ more) to) s.letters
-    → Gave c s.outcome (w.nodes (actor w e)) s.node → IsCause w (actor w e) e.act c → Answers (w.nodes (actor w e)) c s.node s.outcome
-    → (w.nodes (actor w e)).ballot ≡ None
+pub kept_step : (rules : Rules) (list more : List Entry) (acc to : ℕ) (w : World) (e : Event) (c : Cause) (s : Step) → Kept rules list acc w
+    → acc ≤ length list → acc ≤ to → NodeOk rules (list ++ more) to (actor w e) s.node → group_after w.group s.node ≡ take to (list ++ more)
+    → All (LetterOk rules (list ++ more) to) s.letters → Gave c s.outcome (w.nodes (actor w e)) s.node → IsCause w (actor w e) e.act c
+    → Answers (w.nodes (actor w e)) c s.node s.outcome → (w.nodes (actor w e)).ballot ≡ None
     → Kept rules (list ++ more) to (with_step w e (actor w e) s)
 unfolding with_step
 kept_step rules list more acc to w e c s h low up node group letters gave cause answer none =

@@ -113,8 +113,7 @@ pub begins_more : (rules : Rules) (list more : List Entry) (acc to i start : ℕ
 begins_more rules list more acc to i start up h = record {
   some = h.some;
   founder = h.founder;
-  joiner =
-      λ f. at_more list more acc to start (Join i) up (h.joiner f);
+  joiner = λ f. at_more list more acc to start (Join i) up (h.joiner f);
 }
 
 pub sends_more : (list more : List Entry) (acc to i : ℕ) (queue : List OwnSend) → acc ≤ to → All (SendOk list acc i) queue
@@ -128,8 +127,7 @@ status_more rules list more acc to i status core up h = record {
   promise = h.promise;
   founder = h.founder;
   blank = h.blank;
-  begins =
-      λ t. begins_more rules list more acc to i core.start up (h.begins t);
+  begins = λ t. begins_more rules list more acc to i core.start up (h.begins t);
 }
 
 pub node_more : (rules : Rules) (list more : List Entry) (acc to i : ℕ) (m : Node) → acc ≤ to → NodeOk rules list acc i m → NodeOk rules (list ++ more) to i m
@@ -143,8 +141,7 @@ node_more rules list more acc to i m up h =
         within = f.within;
         taken = f.taken;
         base = f.base;
-        told =
-            λ d. (let a = f.told d in omega arith);
+        told = λ d. (let a = f.told d in omega arith);
         passed = f.passed;
       };
       status = status_more rules list more acc to i m.status m.core up h.status;

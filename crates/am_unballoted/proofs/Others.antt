@@ -72,8 +72,7 @@ with_status rules list acc i m s b h = record {
     promise = λ t. h.status.promise (sym b ∙ t);
     founder = λ t. b ∙ h.status.founder t;
     blank = λ t. h.status.blank (sym b ∙ t);
-    begins =
-        λ t. h.status.begins (sym b ∙ t);
+    begins = λ t. h.status.begins (sym b ∙ t);
   };
   sends = h.sends;
 }
@@ -108,8 +107,7 @@ taken_ok rules list acc i m member some h =
         taken = omega arith;
         base = f.base;
         told = f.told;
-        passed =
-            λ b. (let z : m.core.taken < m.core.start - 1 = omega arith in let q = p z in absurd (omega arith));
+        passed = λ b. (let z : m.core.taken < m.core.start - 1 = omega arith in let q = p z in absurd (omega arith));
       };
       status = record { promise = h.status.promise; founder = h.status.founder; blank = λ z. absurd (cc); begins = h.status.begins };
       sends = h.sends;
@@ -155,8 +153,7 @@ begun_ok rules list acc i s v base join image m within no_founder w above h =
     let begins : BeginsOk rules list acc i join = record {
       some = omega arith;
       founder = λ t. absurd (cc);
-      joiner =
-          λ f. record { low = w.low; there = w.joined f };
+      joiner = λ f. record { low = w.low; there = w.joined f };
     } in
     record {
       who = h.who;

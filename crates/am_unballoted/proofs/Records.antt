@@ -45,8 +45,7 @@ pub given_more : (list more : List Entry) (acc to : ℕ) (m : Node) (given : Lis
     → GivenOk (list ++ more) to m given
 given_more list more acc to m given up h = record {
   count = h.count;
-  each =
-      λ k number e is. (let x = h.each k number e is in (x.0, at_more list more acc to (m.core.start + k) e up x.1));
+  each = λ k number e is. (let x = h.each k number e is in (x.0, at_more list more acc to (m.core.start + k) e up x.1));
 }
 
 -- ---- accepted sends

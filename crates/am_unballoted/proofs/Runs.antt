@@ -85,8 +85,7 @@ founder_ok rules i there = record {
     promise = λ t. refl;
     founder = λ t. refl;
     blank = λ t. absurd (cc);
-    begins =
-        λ t. record { some = omega arith; founder = λ z. refl; joiner = λ z. absurd (cc) };
+    begins = λ t. record { some = omega arith; founder = λ z. refl; joiner = λ z. absurd (cc) };
   };
   sends = All-nil _;
 }

@@ -81,10 +81,9 @@ unfolding give_up decide best_of
 give_with m o b name = refl
 
 -- who is newly needed, by the two best votes
-pub newly_is : (m : Node) (old new kept : Ballot) (who : ℕ) (own : Vote) (before needed : Shown) (set less more : List ℕ)
-    → kept ≡ new → who ≡ m.core.who → own ≡ own_vote m → before ≡ best_vote old.votes who own → needed ≡ best_vote kept.votes who own
-    → less ≡ before.vote.members → more ≡ needed.vote.members → set ≡ those (λ name. not (has_voted who kept name)) (minus more less)
-    → set ≡ newly_needed m old new
+pub newly_is : (m : Node) (old new kept : Ballot) (who : ℕ) (own : Vote) (before needed : Shown) (set less more : List ℕ) → kept ≡ new
+    → who ≡ m.core.who → own ≡ own_vote m → before ≡ best_vote old.votes who own → needed ≡ best_vote kept.votes who own → less ≡ before.vote.members
+    → more ≡ needed.vote.members → set ≡ those (λ name. not (has_voted who kept name)) (minus more less) → set ≡ newly_needed m old new
 unfolding best_of
 newly_is m old new kept who own before needed set less more k w o b n l r is =
     let bo : before ≡ best_vote old.votes m.core.who (own_vote m) = b ∙ (λ i. best_vote old.votes (w i) (o i)) in

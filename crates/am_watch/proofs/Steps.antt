@@ -257,8 +257,7 @@ alike_parts before after h =
       view = sym (same_stamp before.view after.view a.0);
       gone = same_both _ _ b.0;
       from = number_same before.from after.from c.0;
-      start =
-          number_same before.start after.start c.1;
+      start = number_same before.start after.start c.1;
     }
 
 alike_self : (m : Standing) → IsAlike m m
@@ -400,8 +399,7 @@ accepts group more k s is e =
       names = is.sees.names;
       places = is.sees.places;
       stopped = is.sees.stopped;
-      within =
-          λ name. (let h = is.sees.within name in omega arith);
+      within = λ name. (let h = is.sees.within name in omega arith);
       more = [];
       goes_on = sym (append-nil w.group);
     } in

@@ -88,8 +88,7 @@ viewed_same c old x y who log stays (as_before h) = as_before (ap (λ (l : Log).
 viewed_same c old x y who log stays (of_other h) = of_other ((λ i. (told_by (log i)).view.by == who i) ∙ h)
 viewed_same c old x y who log stays (decided h) = decided (record {
   whole = subst Whole (sym log) h.whole;
-  by =
-      subst (λ (l : Log). LooksBy c (told_by l).view) (sym log) h.by;
+  by = subst (λ (l : Log). LooksBy c (told_by l).view) (sym log) h.by;
   stays = stays ∙ h.stays;
 })
 
@@ -159,8 +158,7 @@ fresh_numbered c m e (asked_send s v report req body by known stays next) long h
     record { whole = whole_sent m s req body long h.whole; by = subst (LooksBy c) (sym (view_pushed m e refl)) h.by; stays = h.stays }
 fresh_numbered c m e (own_send s is last) long h = record {
   whole = whole_sent m m.core.who s.req s.body long h.whole;
-  by =
-      subst (LooksBy c) (sym (view_pushed m e refl)) h.by;
+  by = subst (LooksBy c) (sym (view_pushed m e refl)) h.by;
   stays = h.stays;
 }
 fresh_numbered c m e (asked_join s v is other fit) long h = absurd (never_both c (view m) h.by (subst Alters (sym is) tt))

@@ -154,8 +154,7 @@ step_of rules w e c s cause effect h =
     record {
       does = g.does;
       balloted = g.does.balloted;
-      chain =
-          changes_along w.nodes name (heard_own rules w e c h cause) names m s.node effect.changes kept.names kept.balloted first;
+      chain = changes_along w.nodes name (heard_own rules w e c h cause) names m s.node effect.changes kept.names kept.balloted first;
     }
 
 own_step : (rules : Rules) → StepsKeep (AllLists rules) (AllOwn rules)

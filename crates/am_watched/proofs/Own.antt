@@ -62,8 +62,7 @@ chained_up nodes name x y d (View stamp names resilience) h = ⊎_elim
     (λ (o : IsOwn name x stamp). inr (record {
       by = o.by;
       low = at_most stamp (view x) (view y) o.low (view_rises x y (d.goes o.has_list));
-      has_list =
-          d.log_ o.has_list;
+      has_list = d.log_ o.has_list;
     }))
     h
 chained_up nodes name x y d _ h = tt
@@ -130,8 +129,7 @@ look_along nodes name x b v (decides may) d o log h =
     let same : view v.node ≡ b.stamp = view_last (trim_for x b names) b.stamp names _ in
     let own : IsOwn name v.node b.stamp = record {
       by = o.own ∙ h.who;
-      low =
-          subst (λ (s : Stamp). stamp_lt s b.stamp ≡ false) (sym same) (not_above_itself b.stamp);
+      low = subst (λ (s : Stamp). stamp_lt s b.stamp ≡ false) (sym same) (not_above_itself b.stamp);
       has_list = log;
     } in
     record {

@@ -115,8 +115,7 @@ act_at p k e what m known group may kept within is end known_is group_is =
 pub act_is_watched : (p : Play) (k : Watching) (e : Event) (name : ℕ) (what : NodeEvent) (m : protocol.Node) (known : ℕ) (group : List Entry)
     → MayFound p.rules → IsWatched p k → name ≡ current (replay p) (place_of e.node) → happens (replay p) e ≡ comes (replay p) e (Ok what)
     → IsEndOf ((replay (runs.after p e)).nodes (current (replay (runs.after p e)) (place_of e.node))) m → known ≡ length (replay p).group
-    → group ≡ (replay (runs.after p e)).group
-    → IsWatched (runs.after p e) (told_step k name m what (known + 1) (drop known group))
+    → group ≡ (replay (runs.after p e)).group → IsWatched (runs.after p e) (told_step k name m what (known + 1) (drop known group))
 act_is_watched p k e name what m known group may kept here is end known_is group_is =
     let w = replay p in
     let now : replay (runs.after p e) ≡ comes w e (Ok what) = replay_after p e ∙ is in

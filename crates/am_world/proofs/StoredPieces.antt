@@ -25,8 +25,7 @@ any_of es v = list_any (is_view_of v) es
 pub data Adds (name : ℕ) (brought : List Entry) (m : Node) (s : Status) (log : Log) : Type 0 where
   none : ((v : Stamp) → has_view log v ≡ has_view m.core.log v) → view_in log ≡ view m → Adds name brought m s log
   last : ((v : Stamp) → has_view log v ≡ (has_view m.core.log v || (any_of brought v || stamp_eq (view_in log) v)))
-      → stamp_lt (view m) (view_in log) ≡ true
-      → (is_member s ≡ true → is_member m.status ≡ true)
+      → stamp_lt (view m) (view_in log) ≡ true → (is_member s ≡ true → is_member m.status ≡ true)
       → (has_decided name m log ≡ false → (v : Stamp) → (any_of brought v || stamp_eq (view_in log) v) ≡ stamp_eq (view_in log) v)
       → Adds name brought m s log
   began : ((v : Stamp) → has_view log v ≡ false) → ((v : Stamp) → has_view m.core.log v ≡ false) → has_log m.status ≡ false → is_member s ≡ true
@@ -174,8 +173,7 @@ piece_for_adds name m s v base number e (Some b) who member open_ =
     (λ g. fetched_adds name m v base number e true (decide_anew b)
     (λ fit. let p = push_entry (trim_up_to m base) e in record {
       stays = refl;
-      adds =
-          decided_adds name m base e b (decide p b) (comes_to p b) who member (open_ f) fit;
+      adds = decided_adds name m base e b (decide p b) (comes_to p b) who member (open_ f) fit;
     })))
 
 pub piece_adds : (name : ℕ) (m : Node) (s : ℕ) (v : Stamp) (base number : ℕ) (e : Entry) → m.core.who ≡ name → Balloted m

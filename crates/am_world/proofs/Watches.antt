@@ -105,8 +105,7 @@ told k name n what number more before after = accept (finish (with_views k name 
 
 pub noted_is : (k views_ finished_ new : Watching) (name : ℕ) (n : Node) (what : NodeEvent) (number : ℕ) (more : List Entry) (before after : Standing)
     → before ≡ standing k name → after ≡ standing_after before n → views_ ≡ with_views k name before after (view_of n) what
-    → finished_ ≡ finish views_ name after → new ≡ accept finished_ number more
-    → new ≡ told_step k name n what number more
+    → finished_ ≡ finish views_ name after → new ≡ accept finished_ number more → new ≡ told_step k name n what number more
 unfolding told_step
 noted_is k views_ finished_ new name n what number more before after was stands s f a =
     a ∙ ap (λ q. accept q number more) (f ∙ ap (λ q. finish q name after) s)

@@ -45,7 +45,6 @@ keep_vote-requires-clause-ballot c =
       order = c.requires.order;
       out = c.requires.out;
       own = c.requires.own;
-      is_open =
-          not-true b.is_over (and_both (not b.is_over) (stamp_eq b.stamp c.args.stamp) open_).0;
+      is_open = not-true b.is_over (and_both (not b.is_over) (stamp_eq b.stamp c.args.stamp) open_).0;
       number = c.requires.number;
     }
