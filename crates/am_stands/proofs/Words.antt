@@ -1,89 +1,57 @@
 -- The words of this crate's proofs, of the crates and definitions that they come from.
-pub use Rattle.std.proofs.Common.{◌≡◌, ℕ, ◌+◌, ◌-◌, ◌<◌, ◌≤◌, ◌==◌, ◌&&◌, nat_le, Bool, true, false, List, [], length, take, refl, sym, ap, ◌∙◌, subst, arith}
-pub use Rattle.std.proofs.Common.{count_by, ◌∷◌, slice_index, ◌⊎◌, inl, inr, ⊎_elim, ◌||◌, ◌++◌, Some, nat_lt, ◌≢◌, not, Option, slice_get, None, zero, suc}
-pub use Rattle.std.proofs.Common.{if◌then◌else◌, max, set, get_or, unwrap_or, append-nil, min, drop, map, Ok, Err, option_map, is_some}
+pub use Rattle.am_laws.proofs.Words.{◌≡◌, ℕ, ◌+◌, ◌-◌, ◌<◌, ◌≤◌, ◌==◌, ◌&&◌, nat_le, Bool, true, false, List, [], length, take, refl, sym, ap, ◌∙◌, subst}
+pub use Rattle.am_laws.proofs.Words.{arith, ◌∷◌, slice_index, ◌⊎◌, inl, inr, ⊎_elim, ◌||◌, ◌++◌, Some, nat_lt, ◌≢◌, not, Option, slice_get, None, zero, suc}
+pub use Rattle.am_laws.proofs.Words.{if◌then◌else◌, max, set, get_or, unwrap_or, min, drop, map, option_map, cases_lt, nat_tests, length-map}
+pub use Rattle.am_laws.proofs.Words.{get_or-replicate, length-take, length-set, All-head, All-tail, All-nil, All-cons, All-append, All-take, list_any-append}
+pub use Rattle.am_laws.proofs.Words.{list_any, range_with_len, All, Entry, Report, Image, has, names_of, place_of, life_of, IsSet, name_at, size, names_from}
+pub use Rattle.am_laws.proofs.Words.{rank_of, by_place, Log, top_of, told_by, members_of, blank_row, blank, is_blank, at_place, member_life, row_after_view}
+pub use Rattle.am_laws.proofs.Words.{members_at, row_of, entry_at, image_at, accept_front, split, and_both, Rules, MayFound, Leave, View, Data, Join, Stamp}
+pub use Rattle.am_laws.proofs.Words.{stamp_eq, stamp_lt, Row, Outcome, Vote, NodeEvent, slice_index-by_place, vote_lt, Packet, stamp_of, unions, CoreState}
+pub use Rattle.am_laws.proofs.Words.{unions_most, member_at, unions_long, unions_least, least_of, least_taken, base_after, count_cons, least_in, OwnSend}
+pub use Rattle.am_laws.proofs.Words.{Event, Node, founder, stranger, founding_stamp, founders_view, lowest_or_first, view, acts, is_member, unsettled_count}
+pub use Rattle.am_laws.proofs.Words.{has_log, Ballot, members, is_asking, push_entry, set_at, is_sequencer, others, waiting, name_where, advance, accepted_at}
+pub use Rattle.am_laws.proofs.Words.{settle_at, settle_waiting, is_unfinished, join_by, state_by, leave_by, ask_of, give_up_of, hears_member, hears_in_view}
+pub use Rattle.am_laws.proofs.Words.{hears_sequencer, hears_asking, Verdict, overtake, with_promise, next_stamp, need_of, left_in, restart_reports, taken_by}
+pub use Rattle.am_laws.proofs.Words.{own_vote, trim_for, Status, Step, Plan, quiet, is_view, body_of, begin_list, viewed_by, tick_by, first_founder, World}
+pub use Rattle.am_laws.proofs.Words.{first_node, is_stopped, Decided, group_after, last_view, views_after, current, lives_on, group_with, founders_decided}
+pub use Rattle.am_laws.proofs.Words.{mod16, row_view, long_after, In, and_left, blank_joined, or_second, is_itself, same_stamp, stamp_itself, refreshes}
+pub use Rattle.am_laws.proofs.Words.{settles, begins_list, promises, opens, looks, stores_view, asks_to_join, Promises, invited, overtaken_by, told_result}
+pub use Rattle.am_laws.proofs.Words.{Numbers, asked_send, own_send, asked_join, asked_leave, MayBeWelcomed, Fetches, Carries, whole_entry, by_number, Change}
+pub use Rattle.am_laws.proofs.Words.{takes_report, admits, keeps_body, notes, queues, collects, takes, without_ballot, unchanged, changed, rests_refresh}
+pub use Rattle.am_laws.proofs.Words.{settle_is, rests_at_end, refresh_is, Cause, hears, BringsSend, by_request, by_spread, Balloting, Looks, finds_itself_out}
+pub use Rattle.am_laws.proofs.Words.{waits, fetches_from_best, finds_too_few, finds_no_room, decides, with_more, without_one, as_it_is, HasOpen, all_get}
+pub use Rattle.am_laws.proofs.Words.{get_front, get_last, logged, told_pushed, view_pushed, actor, idles, returns, steps, entry_is, request, spread, bcast}
+pub use Rattle.am_laws.proofs.Words.{order, hold, join_ask, welcome, gone, invite, vote, fetch, piece, result, hand_over, MayWelcome, just_joined, asks_again}
+unfoldable pub use Rattle.am_laws.proofs.Words.{fold, after, fits, accept, pass_over, own_report, tell, go_on, let_go, those, lead, refresh, settle}
+unfoldable pub use Rattle.am_laws.proofs.Words.{refresh_at_end, send_row, take_row, join_row, state_row, leave_row, reset_row, ask_row, give_up_row, done_row}
+unfoldable pub use Rattle.am_laws.proofs.Words.{hear_row, best_of, finish, tick_row, row, step, hear, hear_refusal, with_step, with_record}
+pub use Rattle.am_effects.proofs.Words.{Ok, Err, is_some, not-true, eq-eqb, slice_get_within, without_name, fold_append, Read, reading, slice_get-drop}
+pub use Rattle.am_effects.proofs.Words.{item_at, has_departed, only_name, has_own_leave, is_waited_for, may_fetch, Departed, read_row, asks_to_leave}
+pub use Rattle.am_effects.proofs.Words.{MayStore, overtaken, MayReport, BringsReport, with_send, by_ack, by_nack, by_leave_ask, BringsFronts, with_entry}
+pub use Rattle.am_effects.proofs.Words.{with_number, alone, HasLearned, leads, decided, ack, nack, leave_ask}
+pub use Rattle.std.proofs.Common.{count_by, append-nil}
 pub use Rattle.std.proofs.Math.Bool.{and-false}
 pub use Rattle.std.proofs.Math.Seq.{take-append-add, drop-append-add, drop-append_seam}
-pub use Rattle.std.proofs.lemmas.Bool.{leb-true, not-true, eqb-false, eqb-true, cases_lt, eq-eqb}
-pub use Rattle.std.proofs.lemmas.Bool.Decides.{nat_tests}
+pub use Rattle.std.proofs.lemmas.Bool.{leb-true, eqb-false, eqb-true}
 pub use Rattle.std.proofs.lemmas.Grind.{flat_map-append}
-pub use Rattle.std.proofs.lemmas.List.{length-map, get_or-replicate, length-append, length-take, append_assoc, length-set, get_or-set_other, take-append-drop}
-pub use Rattle.std.proofs.lemmas.List.Elements.{All-head, All-tail, All-nil, All-cons, All-append, All-take}
-pub use Rattle.std.proofs.lemmas.List.Folds.{list_any-append}
-pub use Rattle.std.proofs.lemmas.Option.{slice_get_within}
-pub use Rattle.std.specs.List.{list_any, list_all, range_with_len}
-pub use Rattle.std.specs.Prelude.{All}
-pub use Rattle.am_base.specs.declared.entry.Entry.{Entry}
-pub use Rattle.am_base.specs.declared.image.Report.{Report}
-pub use Rattle.am_base.specs.declared.image.Image.{Image}
-pub use Rattle.am_base.specs.Names.{has, names_of, place_of, life_of, is_within, IsSet, name_at, size, names_from, rank_of, without_name, by_place}
-pub use Rattle.am_base.specs.Lists.{Log, top_of, told_by, members_of, blank_row, blank, is_blank, at_place, member_life, with_row, row_after_view, members_at}
-pub use Rattle.am_base.specs.Lists.{row_of, entry_at, image_at, requests_of, request_in}
-unfoldable pub use Rattle.am_base.specs.Lists.{fold, after, fits}
-pub use Rattle.am_base.specs.Fronts.{counted_at, need_at, holders_at, is_held, is_satisfied, is_front, accept_front, counted_of}
-pub use Rattle.am_base.proofs.Greatest.{split, and_both}
-pub use Rattle.am_base.specs.Founding.{Rules, MayFound}
-pub use Rattle.am_base.specs.declared.entry.Entry.TheVariants.{Leave, View, Data, Join}
-pub use Rattle.am_base.specs.declared.name.Stamp.{Stamp}
-pub use Rattle.am_base.specs.Stamps.{stamp_eq, stamp_lt, no_stamp}
-pub use Rattle.am_base.specs.declared.image.Row.{Row}
-pub use Rattle.am_base.proofs.Folds.{fold_append}
-pub use Rattle.am_base.specs.declared.outcome.Outcome.{Outcome}
-pub use Rattle.am_base.specs.declared.image.Vote.{Vote}
-pub use Rattle.am_base.specs.declared.event.NodeEvent.{NodeEvent}
+pub use Rattle.std.proofs.lemmas.List.{length-append, append_assoc, get_or-set_other, take-append-drop}
+pub use Rattle.std.specs.List.{list_all}
+pub use Rattle.am_base.specs.Names.{is_within}
+pub use Rattle.am_base.specs.Lists.{with_row, requests_of, request_in}
+pub use Rattle.am_base.specs.Fronts.{counted_at, need_at, holders_at, is_held, is_satisfied, is_front, counted_of}
+pub use Rattle.am_base.specs.Stamps.{no_stamp}
 pub use Rattle.am_base.specs.declared.event.NodeEvent.TheVariants.{Done, State, Ask, GiveUp, Tick, Hear}
-pub use Rattle.am_base.proofs.Places.{slice_index-by_place}
-pub use Rattle.am_base.specs.Votes.{vote_lt}
-pub use Rattle.am_packet.specs.declared.packet.Packet.{Packet}
 pub use Rattle.am_packet.specs.declared.packet.Packet.TheVariants.{Request, Spread, Bcast, Order, Accept, Ack, Nack, Hold, JoinAsk, Welcome, LeaveAsk, Gone}
 pub use Rattle.am_packet.specs.declared.packet.Packet.TheVariants.{Invite, Vote as VoteOf, Fetch, Piece, Result, HandOver}
-pub use Rattle.am_codec.specs.Reading.{Read, reading}
-pub use Rattle.am_codec.specs.Spelling.{stamp_of}
-pub use Rattle.am_core.specs.Cores.{unions, CoreState}
-unfoldable pub use Rattle.am_core.specs.Cores.{accept, pass_over}
 pub use Rattle.am_core.proofs.Ranges.{all_at}
-pub use Rattle.am_core.proofs.Lives.{unions_most, member_at, unions_long, unions_least}
-pub use Rattle.am_core.proofs.Folds.{slice_get-drop}
-pub use Rattle.am_fronts.specs.Reports.{after_report, least_of, with_admitted, reports_from, least_taken}
-pub use Rattle.am_fronts.specs.Refresh.{base_after}
-unfoldable pub use Rattle.am_fronts.specs.Refresh.{own_report, tell, go_on, let_go}
+pub use Rattle.am_fronts.specs.Reports.{after_report, with_admitted, reports_from}
 pub use Rattle.am_fronts.proofs.Again.{greatest_low, greatest_there}
-pub use Rattle.am_fronts.proofs.ReportLaws.{count_cons}
-pub use Rattle.am_fronts.proofs.Leaders.{least_in}
 pub use Rattle.am_fronts.proofs.Views.{view_grows}
-pub use Rattle.am_sender.specs.declared.OwnSend.{OwnSend}
-pub use Rattle.am_group.specs.declared.event.Event.{Event}
-pub use Rattle.am_group.specs.Journals.{item_at}
 pub use Rattle.am_group.specs.declared.event.Record.{Record}
-pub use Rattle.am_model.specs.Node.{Node, founder, stranger, founding_stamp, founders_view, lowest_or_first, view, acts, is_member, unsettled_count, has_log}
-pub use Rattle.am_model.specs.Node.{has_departed, Ballot, members, is_asking, push_entry, set_at, is_sequencer, only_name, has_own_leave, others, waiting}
-pub use Rattle.am_model.specs.Node.{name_where}
-unfoldable pub use Rattle.am_model.specs.Node.{those}
-pub use Rattle.am_model.specs.Refresh.{concerned_names, advance, accepted_at, settle_at, settle_waiting}
-unfoldable pub use Rattle.am_model.specs.Refresh.{lead, refresh, settle, refresh_at_end}
-pub use Rattle.am_model.specs.Calls.{is_unfinished, join_by, state_by, leave_by, ask_of, give_up_of}
-unfoldable pub use Rattle.am_model.specs.Calls.{send_row, take_row, join_row, state_row, leave_row, reset_row, ask_row, give_up_row, done_row}
-pub use Rattle.am_model.specs.Hearing.{hears_member, hears_in_view, hears_sequencer, hears_asking}
-unfoldable pub use Rattle.am_model.specs.Hearing.{hear_row}
-pub use Rattle.am_model.specs.Ballots.{Verdict, overtake, with_promise, next_stamp, need_of, left_in, restart_reports, with_end, taken_by, own_vote, trim_for}
-pub use Rattle.am_model.specs.Ballots.{has_voted, is_waited_for}
-unfoldable pub use Rattle.am_model.specs.Ballots.{best_of}
-pub use Rattle.am_model.specs.declared.status.Status.{Status}
-pub use Rattle.am_model.specs.Emit.{Step, Plan, quiet}
-unfoldable pub use Rattle.am_model.specs.Emit.{finish}
-pub use Rattle.am_model.specs.Receiving.{is_view, body_of}
-pub use Rattle.am_model.specs.Joining.{begin_list, all_stored}
+pub use Rattle.am_model.specs.Refresh.{concerned_names}
+pub use Rattle.am_model.specs.Ballots.{with_end, has_voted}
+pub use Rattle.am_model.specs.Joining.{all_stored}
 pub use Rattle.am_model.proofs.Sets.{some_size, has_size, has_those}
-pub use Rattle.am_model.specs.Ticks.{viewed_by, tick_by}
-unfoldable pub use Rattle.am_model.specs.Ticks.{tick_row}
-pub use Rattle.am_model.specs.Resets.{may_fetch}
-pub use Rattle.am_model.specs.declared.status.Status.TheVariants.{Departed}
-pub use Rattle.am_model.specs.Step.{read_row}
-unfoldable pub use Rattle.am_model.specs.Step.{row, step, hear, hear_refusal}
-pub use Rattle.am_model.proofs.Founders.{first_founder}
-pub use Rattle.am_play.specs.World.{World, first_node, is_stopped, Decided, group_after, last_view, views_after, current, lives_on, group_with}
-pub use Rattle.am_play.specs.World.{founders_decided}
-unfoldable pub use Rattle.am_play.specs.World.{with_step, with_record}
 pub use Rattle.am_play.specs.Claims.{line_of}
 unfoldable pub use Rattle.am_play.specs.Claims.{up_to_next, up_to_view}
 pub use Rattle.am_play.specs.Lawful.{whole, is_view_of}
@@ -94,8 +62,7 @@ pub use Rattle.am_chain_lists.proofs.Prefixes.{begins_take, begins_trans, begins
 pub use Rattle.am_chain_lists.proofs.Prefixes.{below_of, below_length, length_push, begins_pushed, take_begins, begins_same, begins_push, next_of}
 pub use Rattle.am_chain_lists.proofs.Members.{good_begins, mem_between, mem_viewed, long_told, told_push, mem_in, in_mem, leaver_out, last_fits, mem_nil}
 pub use Rattle.am_chain_lists.proofs.Members.{viewed_mem, was_begins, good_push, leaver_in, mem_push}
-pub use Rattle.am_chain_lists.proofs.Rows.{low_or_above, mod16, row_at, row_set, row_view, long_after, In, same_name, and_left, Past, Was, blank_joined}
-pub use Rattle.am_chain_lists.proofs.Rows.{past_after, not_both, view_parts}
+pub use Rattle.am_chain_lists.proofs.Rows.{low_or_above, row_at, row_set, same_name, Past, Was, past_after, not_both, view_parts}
 pub use Rattle.am_chain_lists.proofs.Order.{key_by, view_up, key_lt, view_small, view_viewed, view_push, view_below}
 pub use Rattle.am_chain_moves.specs.Group.{how_many, counted_in, IsHeld, MayAccept, Group, IsUp, chain_of, put2, opening, NoBetter, IsThere, Views, Chosen}
 pub use Rattle.am_chain_moves.specs.Group.{IsOngoing}
@@ -112,24 +79,11 @@ pub use Rattle.am_chain.proofs.Heart.{ballot_ok, list_chain, departed_in}
 pub use Rattle.am_chain.proofs.Decide.{group_low}
 pub use Rattle.am_chain.proofs.Runs.{run_keeps}
 pub use Rattle.am_orders.proofs.Turns.{request_within, next_in}
-pub use Rattle.am_effects.proofs.Tests.{or_second, is_itself}
-pub use Rattle.am_effects.proofs.Resets.{member_heard, same_stamp, stamp_itself}
-pub use Rattle.am_effects.specs.Changes.{refreshes, settles, begins_list, promises, opens, looks, stores_view, asks_to_join, asks_to_leave, Promises, invited}
-pub use Rattle.am_effects.specs.Changes.{overtaken as overtaken_by, told_result, Numbers, MayStore, asked_send, own_send, asked_join, asked_leave}
-pub use Rattle.am_effects.specs.Changes.{MayBeWelcomed, Fetches, overtaken, Carries, whole_entry, by_number, Change, MayReport, takes_report, admits}
-pub use Rattle.am_effects.specs.Changes.{keeps_body, notes, queues, collects, takes, without_ballot, unchanged, changed}
-pub use Rattle.am_effects.proofs.Rests.{rests_refresh, settle_is, rests_at_end, leads_rests, refresh_is}
-pub use Rattle.am_effects.specs.Causes.{Cause, hears, BringsSend, by_request, by_spread, BringsReport, with_send, by_ack, by_nack, by_leave_ask, BringsFronts}
-pub use Rattle.am_effects.specs.Causes.{with_entry, with_number, alone}
-pub use Rattle.am_effects.specs.Looks.{Balloting, Looks, finds_itself_out, waits, fetches_from_best, finds_too_few, finds_no_room, decides, with_more}
-pub use Rattle.am_effects.specs.Looks.{without_one, as_it_is, HasOpen, HasLearned}
-pub use Rattle.am_effects.proofs.Items.{all_get, get_front, get_last, get_push}
-pub use Rattle.am_effects.proofs.Statuses.{logged}
-pub use Rattle.am_effects.proofs.Says.{told_pushed, leads_pushed, view_pushed}
-pub use Rattle.am_effects.specs.Events.{actor, idles, returns, steps}
-pub use Rattle.am_effects.proofs.Ballots.{entry_is}
-pub use Rattle.am_effects.specs.Letters.{MayTell, leads, decided, MayFetch, request, spread, bcast, order, ack, nack, hold, join_ask, welcome, leave_ask}
-pub use Rattle.am_effects.specs.Letters.{gone, invite, vote, fetch, piece, result, hand_over, MayWelcome, just_joined, asks_again}
+pub use Rattle.am_effects.proofs.Resets.{member_heard}
+pub use Rattle.am_effects.proofs.Rests.{leads_rests}
+pub use Rattle.am_effects.proofs.Items.{get_push}
+pub use Rattle.am_effects.proofs.Says.{leads_pushed}
+pub use Rattle.am_effects.specs.Letters.{MayTell, MayFetch}
 pub use Rattle.am_sent.proofs.Changes.{MaySend, body_of_sent, CauseSent, change_sent}
 pub use Rattle.am_laws.proofs.LeaderRows.{first_member}
 pub use Rattle.am_laws.proofs.Stamps.{equal_stamps}
