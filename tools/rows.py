@@ -5,7 +5,7 @@
 CASES is a folder of folders. Each of those has two cases at least, a case being a file NAME.json, a play script, and a
 file NAME.txt, the text that it must write; and a file about.txt, a line that says what its cases are. OUT is a crate's
 folder. For each folder F of CASES this writes specs/F.antt with a statement for each case, src/F.rt with a function
-whose contract they are, and its answers, by computing.
+whose contract they are, and its answers, by computing; and for all of them proofs/Opened.antt, with what that unfolds.
 
 A folder without an about.txt isn't computed: the program alone runs it.
 """
@@ -170,18 +170,24 @@ def write(path, text):
         f.write(text)
 
 
-def carrier(crate, opened, module, folder, about, found):
+def opened_file(opened):
+    """The definition that unfolds all that a text is computed by."""
+    return ("-- All that a text is computed by. Written by tools/rows.py.\nuse Rattle.std.proofs.Common.{ℕ}\n"
+            + "".join(fitted_uses(line) + "\n" for line in opened.strip().splitlines())
+            + "\n-- to unfold this is to unfold all of it\nunfoldable pub opened : ℕ\n%s\nopened = 0\n"
+            % fitted("unfolding " + opened_names(opened)))
+
+
+def carrier(crate, module, folder, about, found):
     """The function whose contract the statements are, and its answers."""
     clauses = "".join("    ensures %s { %s }\n" % (c, titled(c)) for c in found)
     source = ("//! %s Written by tools/rows.py.\n\nghost use Rattle.%s.specs.%s.{%s};\n\n"
               "/// The definitions give these texts for these scripts.\npub fn texts()\n%s{}\n") % (
                   about, crate, module, ", ".join(titled(c) for c in found), clauses)
     answers = ("-- The texts of these scripts, by computing. Written by tools/rows.py.\nuse Rattle.std.proofs.Common.{refl}\n"
-               + "".join(fitted_uses(line) + "\n" for line in opened.strip().splitlines())
-               + "use Rattle.%s.proofs.%s.texts.Goals as goal\n" % (crate, folder))
+               "use Rattle.%s.proofs.Opened.{opened}\nuse Rattle.%s.proofs.%s.texts.Goals as goal\n" % (crate, crate, folder))
     for c in found:
-        answers += "\npub returns-clause-%s : goal.returns-clause-%s\n%s\nreturns-clause-%s c = refl\n" % (
-            c, c, fitted("unfolding " + opened_names(opened)), c)
+        answers += "\npub returns-clause-%s : goal.returns-clause-%s\nunfolding opened\nreturns-clause-%s c = refl\n" % (c, c, c)
     return source, answers
 
 
@@ -209,13 +215,14 @@ def write_folder(cases, out, folder):
     with open(os.path.join(place, "about.txt")) as f:
         about = f.read().strip()
     statements = [statement(titled(case), *read_case(cases, folder, case)) for case in found]
-    source, answers = carrier("am_rows", OPENED, titled(folder), folder, about, found)
+    source, answers = carrier("am_rows", titled(folder), folder, about, found)
     head_line = "-- Scripts and their texts. Written by tools/rows.py from %s/%s.\n" % (os.path.basename(cases), folder)
     write_module(out, folder, SPECS_HEAD, source, answers, head_line, statements)
 
 
 def main():
     cases, out = words(__doc__, 2, 2)
+    write(os.path.join(out, "proofs", "Opened.antt"), opened_file(OPENED))
     for folder in sorted(os.listdir(cases)):
         if os.path.exists(os.path.join(cases, folder, "about.txt")):
             write_folder(cases, out, folder)

@@ -1,16 +1,8 @@
 -- What a node keeps, as it changes.
-use Rattle.std.proofs.Common.{◌≡◌, ℕ, ◌≤◌, List, [], ◌∷◌, filter, find, Bool, true, false, not, ◌&&◌, ◌==◌, None, refl, sym, ◌∙◌, ap, subst, arith}
-use Rattle.am_base.specs.Names.{life_of}
-use Rattle.am_base.specs.Stamps.{stamp_eq}
-use Rattle.am_base.specs.Lists.{at_place}
-use Rattle.am_core.proofs.Folds.{split}
-use Rattle.am_sender.specs.declared.OwnSend.{OwnSend}
+use Rattle.am_acting.proofs.Words.{◌≡◌, ℕ, ◌≤◌, List, [], ◌∷◌, filter, find, Bool, true, false, not, ◌&&◌, ◌==◌, None, refl, sym, ◌∙◌, ap, subst, arith}
+use Rattle.am_acting.proofs.Words.{life_of, stamp_eq, at_place, split, OwnSend, Status, Stranger, Asking, Member, Departed, has_log, Node, image_of, view}
+use Rattle.am_acting.proofs.Words.{is_member, NodeKeeps, IsDue, keeps_steady, own_for, member_log, MaySend}
 use Rattle.am_sender.specs.Sends as own
-use Rattle.am_model.specs.declared.status.Status.{Status}
-use Rattle.am_model.specs.declared.status.Status.TheVariants.{Stranger, Asking, Member, Departed}
-use Rattle.am_model.specs.Node.{has_log, Node, image_of, view, is_member}
-use Rattle.am_handlers.specs.Keeps.{NodeKeeps, IsDue}
-use Rattle.am_handlers.proofs.Keeping.{keeps_steady, own_for, member_log, MaySend}
 
 pub keeps_taken : (m : Node) (number : ℕ) → m.core.taken ≤ number → NodeKeeps m → NodeKeeps (record m { core = record (m.core) { taken = number } })
 keeps_taken m number more keeps = keeps_steady m (record m { core = record (m.core) { taken = number } })

@@ -1,34 +1,16 @@
 -- What a node emits, by what its tests say.
-use Rattle.std.proofs.Common.{◌≡◌, ℕ, ◌+◌, ◌<◌, List, [], length, true, false, ◌&&◌, ◌==◌, nat_lt, nat_le, Option, Some, None, option_map, refl, sym}
-use Rattle.std.proofs.Common.{◌∙◌, ap, arith, slice_index}
-use Rattle.std.proofs.lemmas.Bool.Decides.{nat_tests}
-use Rattle.std.proofs.Math.ListN.{get_or-map}
-use Rattle.am_base.specs.declared.image.Row.{Row}
-use Rattle.am_base.specs.declared.image.Image.{Image}
-use Rattle.am_base.specs.declared.entry.Entry.TheVariants.{Data}
-use Rattle.am_base.specs.declared.outcome.Outcome.{Outcome}
-use Rattle.am_base.specs.Names.{place_of, life_of, has}
-use Rattle.am_base.specs.Lists.{at_place, blank_row, member_life, members_of, fits}
-use Rattle.am_core.specs.Kept.{IsKept}
-use Rattle.am_core.proofs.Folds.{split}
-use Rattle.am_sender.specs.declared.OwnSend.{OwnSend}
+use Rattle.am_acting.proofs.Words.{◌≡◌, ℕ, ◌+◌, ◌<◌, List, [], length, true, false, ◌&&◌, ◌==◌, nat_lt, nat_le, Option, Some, None, option_map, refl, sym}
+use Rattle.am_acting.proofs.Words.{◌∙◌, ap, arith, slice_index, nat_tests, get_or-map, Row, Image, Data, Outcome, place_of, life_of, has, at_place, blank_row}
+use Rattle.am_acting.proofs.Words.{member_life, members_of, fits, IsKept, split, OwnSend, waiting_next, members_pushed, Node, top, image_of, view, others}
+use Rattle.am_acting.proofs.Words.{only_name, own_row, acts, has_room, is_sequencer, waiting, push_entry, quiet, emit, hand_in, NodeKeeps, keeps_pushed}
+use Rattle.am_acting.proofs.Words.{leading_log, Note, noting, own_send}
 use Rattle.am_sender.specs.Sends as own
-use Rattle.am_sender.proofs.Lines.{waiting_next}
-use Rattle.am_core.proofs.Members.{members_pushed}
-use Rattle.am_model.specs.Node.{Node, top, image_of, view, others, only_name, own_row, acts, has_room, is_sequencer, waiting, push_entry}
-use Rattle.am_model.specs.Emit.{quiet}
-use Rattle.am_model.specs.Calls.{emit, hand_in}
-use Rattle.am_handlers.specs.Keeps.{NodeKeeps}
-use Rattle.am_handlers.proofs.Keeping.{keeps_pushed, leading_log}
-use Rattle.am_acting.specs.declared.note.Note.{Note}
 use Rattle.am_acting.specs.declared.note.Note.TheVariants as note
-use Rattle.am_acting.specs.Forms.{noting, own_send}
 
 -- ---- a member hands its send in
 
 pub hand_short : (m : Node) (req : ℕ) (body : List ℕ) (answer : Outcome) (to : List ℕ) → nat_le (length body) m.core.rules.pb_up_to ≡ true
-    → to ≡ only_name (view m).by
-    → hand_in m (own_send req body) answer ≡ noting false m answer to (note.Request req body)
+    → to ≡ only_name (view m).by → hand_in m (own_send req body) answer ≡ noting false m answer to (note.Request req body)
 hand_short m req body answer to test is = rw test (ap (λ set. noting false m answer set (note.Request req body)) (sym is))
 
 pub hand_spread : (m : Node) (req : ℕ) (body : List ℕ) (answer : Outcome) (to : List ℕ) → nat_le (length body) m.core.rules.pb_up_to ≡ false → to ≡ others m

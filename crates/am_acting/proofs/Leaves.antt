@@ -1,43 +1,17 @@
 -- The last member departs.
-use Rattle.std.proofs.Common.{◌≡◌, ◌≢◌, inr, ℕ, zero, suc, ◌+◌, ◌-◌, ◌<◌, ◌≤◌, List, [], ◌∷◌, ◌++◌, length, Bool, true, false, ◌&&◌, ◌||◌, ◌==◌, nat_lt, nat_le}
-use Rattle.std.proofs.Common.{if◌then◌else◌, Some, None, find, length-append, refl, sym, ◌∙◌, ap, arith, slice_index}
-use Rattle.std.specs.Prelude.{slice_get, count_by}
-use Rattle.std.proofs.lemmas.Bool.Decides.{nat_tests}
-use Rattle.std.proofs.lemmas.List.{map-set}
-use Rattle.am_base.specs.declared.image.Image.{Image}
-use Rattle.am_base.specs.declared.entry.Entry.{Entry}
-use Rattle.am_base.specs.declared.entry.Entry.TheVariants.{Leave}
-use Rattle.am_base.specs.declared.outcome.Outcome.{Outcome}
+use Rattle.am_acting.proofs.Words.{◌≡◌, ◌≢◌, inr, ℕ, zero, suc, ◌+◌, ◌-◌, ◌<◌, ◌≤◌, List, [], ◌∷◌, ◌++◌, length, Bool, true, false, ◌&&◌, ◌||◌, ◌==◌, nat_lt}
+use Rattle.am_acting.proofs.Words.{nat_le, if◌then◌else◌, Some, None, find, length-append, refl, sym, ◌∙◌, ap, arith, slice_index, slice_get, count_by}
+use Rattle.am_acting.proofs.Words.{nat_tests, map-set, Image, Entry, Leave, Outcome, stamp_eq, place_of, life_of, has, size, without_name, Log, top_of}
+use Rattle.am_acting.proofs.Words.{at_place, members_of, member_life, with_entry, entry_at, after, fits, IsKept, split, told-push, stands_self, leaves_member}
+use Rattle.am_acting.proofs.Words.{Led, LeadsBy, MayLead, sum_by-cons, Letter, OwnSend, Status, Node, top, image_of, view, members, others, only_name}
+use Rattle.am_acting.proofs.Words.{lowest_or_first, waiting, unsettled_count, has_room, is_member, is_sequencer, push_entry, Plan, quiet, finish, with_accept}
+use Rattle.am_acting.proofs.Words.{refresh, lead, settle, settle_waiting, refresh_at_end, led_of, with_led, go, is_unfinished, leave_now, leave_row, leave_by}
+use Rattle.am_acting.proofs.Words.{IsEndOf, NodeKeeps, IsSteady, Done, end_made, keeps_pushed, leads_pushed, long_fold, refresh_steady, noting}
 use Rattle.am_base.specs.declared.outcome.Outcome.TheVariants as said
-use Rattle.am_base.specs.Stamps.{stamp_eq}
-use Rattle.am_base.specs.Names.{place_of, life_of, has, size, without_name}
-use Rattle.am_base.specs.Lists.{Log, top_of, at_place, members_of, member_life, with_entry, entry_at, after, fits}
-use Rattle.am_core.specs.Kept.{IsKept}
-use Rattle.am_core.proofs.Folds.{split}
-use Rattle.am_core.proofs.Ends.{told-push}
-use Rattle.am_core.proofs.CoreLaws.{stands_self}
-use Rattle.am_table.proofs.Rows.{leaves_member}
 use Rattle.am_fronts.specs.Refresh as fronts
-use Rattle.am_fronts.specs.Refresh.{Led, LeadsBy, MayLead}
-use Rattle.std.proofs.lemmas.List.Sums.{sum_by-cons}
-use Rattle.am_packet.specs.Boxes.{Letter}
-use Rattle.am_sender.specs.declared.OwnSend.{OwnSend}
 use Rattle.am_sender.specs.Sends as own
-use Rattle.am_model.specs.declared.status.Status.{Status}
 use Rattle.am_model.specs.declared.status.Status.TheVariants as status
-use Rattle.am_model.specs.Node.{Node, top, image_of, view, members, others, only_name, lowest_or_first, waiting, unsettled_count, has_room, is_member}
-use Rattle.am_model.specs.Node.{is_sequencer}
-use Rattle.am_model.specs.Node.{push_entry}
-use Rattle.am_model.specs.Emit.{Plan, quiet, finish, with_accept}
-use Rattle.am_model.specs.Refresh.{refresh, lead, settle, settle_waiting, refresh_at_end, led_of, with_led}
-use Rattle.am_model.specs.Calls.{go, is_unfinished, leave_now, leave_row, leave_by}
-use Rattle.am_model.specs.Ends.{IsEndOf}
-use Rattle.am_handlers.specs.Keeps.{NodeKeeps, IsSteady}
-use Rattle.am_handlers.specs.Finishing.{Done}
-use Rattle.am_handlers.proofs.Ends.{end_made}
-use Rattle.am_handlers.proofs.Keeping.{keeps_pushed, leads_pushed, long_fold, refresh_steady}
 use Rattle.am_acting.specs.declared.note.Note.TheVariants as note
-use Rattle.am_acting.specs.Forms.{noting}
 use Rattle.am_acting.proofs.Emits.{member_row}
 
 -- ---- the members after a Leave

@@ -1,3 +1,4 @@
+pub mod Words
 pub mod Plans
 pub mod Changes
 pub mod Rows

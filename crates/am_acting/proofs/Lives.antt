@@ -1,12 +1,7 @@
 -- Life 1 of all places but one.
-use Rattle.std.proofs.Common.{◌≡◌, ℕ, ◌<◌, ◌≤◌, List, [], ◌∷◌, length, get_or, get_or-set_same, get_or-set_other, ◌==◌, if◌then◌else◌, ◌∙◌, arith}
-use Rattle.std.specs.Prelude.{slice_set, slice_index}
-use Rattle.std.proofs.lemmas.Bool.Decides.{nat_tests}
+use Rattle.am_acting.proofs.Words.{◌≡◌, ℕ, ◌<◌, ◌≤◌, List, [], ◌∷◌, length, get_or, get_or-set_same, get_or-set_other, ◌==◌, if◌then◌else◌, ◌∙◌, arith}
+use Rattle.am_acting.proofs.Words.{slice_set, slice_index, nat_tests, get_or-replicate, by_place, by_place_all, split}
 use Rattle.std.proofs.Math.ListN as listn
-use Rattle.std.proofs.lemmas.List.{get_or-replicate}
-use Rattle.am_base.specs.Names.{by_place}
-use Rattle.am_base.proofs.Places.{by_place_all}
-use Rattle.am_core.proofs.Folds.{split}
 
 abbrev pub ones : List ℕ
 ones = 1 ∷ 1 ∷ 1 ∷ 1 ∷ 1 ∷ 1 ∷ 1 ∷ 1 ∷ 1 ∷ 1 ∷ 1 ∷ 1 ∷ 1 ∷ 1 ∷ 1 ∷ 1 ∷ []

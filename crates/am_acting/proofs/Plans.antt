@@ -1,24 +1,10 @@
 -- The end of a step, by what the parts tell.
-use Rattle.std.proofs.Common.{◌≡◌, ℕ, List, [], Bool, false, refl, sym, ◌∙◌, ap, subst}
-use Rattle.am_base.specs.declared.outcome.Outcome.{Outcome}
-use Rattle.am_packet.specs.Boxes.{Letter, with_letter}
-use Rattle.am_model.specs.Node.{Node}
-use Rattle.am_model.specs.Emit.{Plan, finish}
-use Rattle.am_model.specs.Refresh.{refresh_at_end}
-use Rattle.am_model.specs.Ends.{Tells, Changes, ComesTo, Does}
-use Rattle.am_handlers.specs.Parts.{with_told}
-use Rattle.am_acting.specs.declared.note.Note.{Note}
-use Rattle.am_acting.specs.Notes.{packet_of}
-use Rattle.am_handlers.specs.Finishing.{Done}
-use Rattle.am_handlers.proofs.Ends.{end_self}
-use Rattle.am_handlers.proofs.Plans.{done, does_plan}
-use Rattle.am_acting.specs.Forms.{noting}
+use Rattle.am_acting.proofs.Words.{◌≡◌, ℕ, List, [], Bool, false, refl, sym, ◌∙◌, ap, subst, Outcome, Letter, with_letter, Node, Plan, finish, refresh_at_end}
+use Rattle.am_acting.proofs.Words.{Tells, Changes, ComesTo, Does, with_told, Note, packet_of, Done, end_self, done, does_plan, noting}
 
-pub done_noting : (before : ℕ) (numbers : Bool) (m new : Node) (answer : Outcome) (to : List ℕ) (note : Note) (box sent letters : List Letter) → box ≡ []
-    → m.core.base ≡ m.core.log.start → Changes refresh_at_end m new
-    → Tells (λ n. with_letter to (packet_of note n) box) new sent
-    → Tells (with_told before false numbers sent) new letters
-    → Done before (noting numbers m answer to note) answer letters new
+pub done_noting : (before : ℕ) (numbers : Bool) (m new : Node) (answer : Outcome) (to : List ℕ) (note : Note) (box sent letters : List Letter)
+    → box ≡ [] → m.core.base ≡ m.core.log.start → Changes refresh_at_end m new → Tells (λ n. with_letter to (packet_of note n) box) new sent
+    → Tells (with_told before false numbers sent) new letters → Done before (noting numbers m answer to note) answer letters new
 done_noting before numbers m new answer to note box sent letters empty kept end puts told =
     done before (noting numbers m answer to note) m new answer sent letters refl (end_self m kept) end (λ n e. refl) (λ n e. puts n e
     ∙ ap (λ ls. with_letter to (packet_of note n) ls) empty) told

@@ -1,24 +1,11 @@
 -- Rows of calls, by what their tests say.
-use Rattle.std.proofs.Common.{◌≡◌, ℕ, ◌+◌, ◌<◌, ◌≤◌, List, length, true, false, ◌||◌, ◌==◌, nat_lt, nat_le, Option, Some, None, is_some}
-use Rattle.std.proofs.Common.{refl, sym, ◌∙◌, ap, arith}
-use Rattle.std.specs.List.{list_any}
-use Rattle.std.proofs.lemmas.Bool.Decides.{nat_tests}
-use Rattle.am_base.specs.declared.entry.Entry.{Entry}
+use Rattle.am_acting.proofs.Words.{◌≡◌, ℕ, ◌+◌, ◌<◌, ◌≤◌, List, length, true, false, ◌||◌, ◌==◌, nat_lt, nat_le, Option, Some, None, is_some, refl, sym, ◌∙◌}
+use Rattle.am_acting.proofs.Words.{ap, arith, list_any, nat_tests, Entry, entry_at, split, is_of, keep_body, OwnSend, Status, Node, is_member, waiting, quiet}
+use Rattle.am_acting.proofs.Words.{send_row, done_row, take_row, give_out, join_row, join_by, queue, with_queued, emit, spread_row, hold_row, answer_hold}
+use Rattle.am_acting.proofs.Words.{row_at, gone_row, waits_for}
 use Rattle.am_base.specs.declared.outcome.Outcome.TheVariants as said
-use Rattle.am_base.specs.Lists.{entry_at}
-use Rattle.am_core.proofs.Folds.{split}
-use Rattle.am_bodies.specs.Bodies.{is_of, keep_body}
-use Rattle.am_sender.specs.declared.OwnSend.{OwnSend}
 use Rattle.am_sender.specs.Sends as own
-use Rattle.am_model.specs.declared.status.Status.{Status}
 use Rattle.am_model.specs.declared.status.Status.TheVariants as status
-use Rattle.am_model.specs.Node.{Node, is_member, waiting}
-use Rattle.am_model.specs.Emit.{quiet}
-use Rattle.am_model.specs.Calls.{send_row, done_row, take_row, give_out, join_row, join_by, queue, with_queued, emit}
-use Rattle.am_model.specs.Receiving.{spread_row, hold_row, answer_hold}
-use Rattle.am_model.specs.Sequencing.{row_at}
-use Rattle.am_model.specs.Joining.{gone_row}
-use Rattle.am_acting.specs.Forms.{waits_for}
 
 -- what isn't below
 pub not_few : (n : ℕ) → (n < 4 → ⊥) → 4 ≤ n
@@ -68,9 +55,6 @@ spread_kept m s req body is = rw is refl
 
 -- ---- taking
 
-member_is : (s : Status) → s ≡ status.Member → is_member s ≡ true
-member_is s is = ap is_member is
-
 pub take_outside : (m : Node) → is_member m.status ≡ false → take_row m ≡ quiet m said.NotMember
 unfolding take_row
 take_outside m is = rw is refl
@@ -111,9 +95,8 @@ send_queues m body is stays few =
     let test : nat_le 4 (length m.sends.queue) ≡ false = grind (arith, nat_tests) in
     rw (is, stays, test) refl
 
-pub send_waits : (m : Node) (body : List ℕ) (req : ℕ) → is_member m.status ≡ true → m.leaving ≡ false → length m.sends.queue < 4 → is_some (waiting m) ≡ true
-    → req ≡ m.sends.last + 1
-    → send_row m body ≡ quiet (record m { sends = own.submit body m.sends }) (said.Queued req)
+pub send_waits : (m : Node) (body : List ℕ) (req : ℕ) → is_member m.status ≡ true → m.leaving ≡ false → length m.sends.queue < 4
+    → is_some (waiting m) ≡ true → req ≡ m.sends.last + 1 → send_row m body ≡ quiet (record m { sends = own.submit body m.sends }) (said.Queued req)
 send_waits m body req is stays few waits next = send_queues m body is stays few ∙ rw waits (ap (λ k. quiet (with_queued m body) (said.Queued k)) (sym next))
 
 pub send_emits : (m : Node) (body : List ℕ) (req : ℕ) → is_member m.status ≡ true → m.leaving ≡ false → length m.sends.queue < 4 → is_some (waiting m) ≡ false

@@ -1,34 +1,15 @@
 -- The rows of the tick, by what their tests say.
-use Rattle.std.proofs.Common.{◌≡◌, ◌≢◌, ℕ, ◌+◌, ◌<◌, List, [], Bool, true, false, not, ◌&&◌, ◌==◌, nat_lt, if◌then◌else◌, Option, Some, None, refl, sym}
-use Rattle.std.proofs.Common.{option_map, is_some, ◌∙◌, ap, arith}
-use Rattle.std.proofs.lemmas.Bool.Decides.{nat_tests}
-use Rattle.am_base.specs.declared.entry.Entry.TheVariants.{Data, Leave}
-use Rattle.am_base.specs.declared.outcome.Outcome.{Outcome}
+use Rattle.am_acting.proofs.Words.{◌≡◌, ◌≢◌, ℕ, ◌+◌, ◌<◌, List, [], Bool, true, false, not, ◌&&◌, ◌==◌, nat_lt, if◌then◌else◌, Option, Some, None, refl, sym}
+use Rattle.am_acting.proofs.Words.{option_map, is_some, ◌∙◌, ap, arith, nat_tests, Data, Leave, Outcome, size, split, Letter, with_letter, OwnSend, Status}
+use Rattle.am_acting.proofs.Words.{Node, Ballot, top, view, others, only_name, lowest_or_first, acts, own_row, has_room, is_sequencer, waiting, push_entry}
+use Rattle.am_acting.proofs.Words.{Plan, quiet, finish, with_accept, accept_of, refresh_at_end, would_emit, emit, go, tick_ballot, tick_promised, tick_member}
+use Rattle.am_acting.proofs.Words.{tick_sequencer, tick_acting, tick_with, tick_by, tick_row, put_off, IsEndOf, Tells, Changes, with_told, Done, end_self}
+use Rattle.am_acting.proofs.Words.{done, Note, Again, packet_of, noting, and_poll, handing, and_view, again_of, again_of_ballot, by_again, own_send}
 use Rattle.am_base.specs.declared.outcome.Outcome.TheVariants as said
-use Rattle.am_base.specs.Names.{size}
-use Rattle.am_core.proofs.Folds.{split}
-use Rattle.am_packet.specs.Boxes.{Letter, with_letter}
-use Rattle.am_sender.specs.declared.OwnSend.{OwnSend}
 use Rattle.am_sender.specs.Sends as own
-use Rattle.am_model.specs.declared.status.Status.{Status}
 use Rattle.am_model.specs.declared.status.Status.TheVariants as status
-use Rattle.am_model.specs.Node.{Node, Ballot, top, view, others, only_name, lowest_or_first, acts, own_row, has_room, is_sequencer, waiting, push_entry}
-use Rattle.am_model.specs.Emit.{Plan, quiet, finish, with_accept, accept_of}
-use Rattle.am_model.specs.Refresh.{refresh_at_end}
-use Rattle.am_model.specs.Calls.{would_emit, emit, go}
-use Rattle.am_model.specs.Ticks.{tick_ballot, tick_promised, tick_member, tick_sequencer, tick_acting, tick_with, tick_by, tick_row, put_off}
-use Rattle.am_model.specs.Ends.{IsEndOf, Tells, Changes}
-use Rattle.am_handlers.specs.Parts.{with_told}
-use Rattle.am_handlers.specs.Finishing.{Done}
-use Rattle.am_handlers.proofs.Ends.{end_self}
-use Rattle.am_handlers.proofs.Plans.{done}
-use Rattle.am_acting.specs.declared.note.Note.{Note}
 use Rattle.am_acting.specs.declared.note.Note.TheVariants as note
-use Rattle.am_acting.specs.declared.ticking.Again.{Again}
-use Rattle.am_acting.specs.Notes.{packet_of}
-use Rattle.am_acting.specs.Forms.{noting, and_poll, handing, and_view, again_of, again_of_ballot, by_again, own_send}
-use Rattle.am_acting.proofs.Emits.{waits_is, waits_none, emit_stays, emit_full, emit_numbers}
-use Rattle.am_acting.proofs.Leaves.{departed}
+use Rattle.am_acting.proofs.{Emits.waits_is, Emits.waits_none, Emits.emit_stays, Emits.emit_full, Emits.emit_numbers, Leaves.departed}
 
 -- ---- ballots
 
@@ -73,15 +54,6 @@ pub member_reports : (m : Node) (to : List ℕ) → m.leaving ≡ false → woul
     → tick_member m ≡ noting false m said.Ticked to note.Ack
 member_reports m to is test set = λ k. if is k then go (quiet m said.Ticked) else if test k then emit m (waiting m) said.Ticked else noting false m said.Ticked
     (sym set k) note.Ack
-
-pub emits_some : (m : Node) (req : ℕ) (body : List ℕ) → own.waiting_send m.sends ≡ Some (req, body)
-    → would_emit m (waiting m) ≡ (acts m && nat_lt (own_row m).last req)
-emits_some m req body is =
-    let w = waits_is (waiting m) req body is in
-    ap (would_emit m) w.is ∙ ap (λ k. acts m && nat_lt (own_row m).last k) w.request
-
-pub emits_none : (m : Node) → own.waiting_send m.sends ≡ None → would_emit m (waiting m) ≡ false
-emits_none m is = ap (would_emit m) (waits_none (waiting m) is)
 
 -- ---- the sequencer
 
@@ -184,8 +156,7 @@ numbered_done before m new to note box first sent letters empty kept end puts vi
     told_it
 
 pub handed_done : (before : ℕ) (m new : Node) (to : List ℕ) (box first sent letters : List Letter) → box ≡ [] → m.core.base ≡ m.core.log.start
-    → Changes refresh_at_end m new
-    → Tells (and_view box) new first → Tells (λ n. with_letter to (packet_of note.HandOver n) first) new sent
+    → Changes refresh_at_end m new → Tells (and_view box) new first → Tells (λ n. with_letter to (packet_of note.HandOver n) first) new sent
     → Tells (with_told before true false sent) new letters → Done before (handing m to) said.Ticked letters new
 handed_done before m new to box first sent letters empty kept end views puts told_it =
     done before (handing m to) m new said.Ticked sent letters refl (end_self m kept) end (λ n e. refl)

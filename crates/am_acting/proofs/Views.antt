@@ -1,19 +1,7 @@
 -- The last View is told again.
-use Rattle.std.proofs.Common.{◌≡◌, ℕ, ◌<◌, ◌≤◌, List, true, false, nat_lt, refl, sym, ◌∙◌, ap, arith}
-use Rattle.std.proofs.lemmas.Bool.Decides.{nat_tests}
-use Rattle.am_base.specs.declared.image.Image.{Image}
-use Rattle.am_base.specs.Names.{without_name}
-use Rattle.am_base.specs.Lists.{told_by, members_of, entry_at}
-use Rattle.am_core.proofs.Ends.{end-entry}
-use Rattle.am_packet.specs.declared.packet.Packet.{Packet}
-use Rattle.am_packet.specs.Boxes.{Letter, with_letter}
-use Rattle.am_model.specs.Node.{Node, image_of, others, those}
-use Rattle.am_model.specs.Emit.{result_of}
-use Rattle.am_model.specs.Ticks.{viewed_by}
-use Rattle.am_model.specs.Ends.{with_log, Tells}
-use Rattle.am_handlers.specs.Cores.{CoreTells}
-use Rattle.am_handlers.proofs.Ends.{tells, told_same}
-use Rattle.am_acting.specs.Forms.{and_view}
+use Rattle.am_acting.proofs.Words.{◌≡◌, ℕ, ◌<◌, ◌≤◌, List, true, false, nat_lt, refl, sym, ◌∙◌, ap, arith, nat_tests, Image, without_name, told_by}
+use Rattle.am_acting.proofs.Words.{members_of, entry_at, end-entry, Packet, Letter, with_letter, Node, image_of, others, those, result_of, viewed_by}
+use Rattle.am_acting.proofs.Words.{with_log, Tells, CoreTells, tells, told_same, and_view}
 
 pub view_none : (m : Node) (box : List Letter) → (image_of m).view_number ≤ m.core.base → Tells (and_view box) m box
 view_none m box low = tells (and_view box) m box (λ all s.

@@ -1,20 +1,9 @@
 -- Votes by the names' bytes, and the best of them.
-use Rattle.std.proofs.Common.{◌≡◌, ℕ, zero, suc, ◌+◌, ◌-◌, ◌*◌, ◌/◌, ◌%◌, ◌<◌, ◌≤◌, List, ◌∷◌, map, replicate, length, refl, sym, ◌∙◌, ap, subst, Bool, true}
-use Rattle.std.proofs.Common.{false}
-use Rattle.std.proofs.Common.{◌==◌, ◌&&◌, if◌then◌else◌, Option, Some, slice_index, slice_index_or, ⊎_elim, arith}
-use Rattle.std.specs.Option.{IfSome}
-use Rattle.std.specs.List.{range_with_len}
-use Rattle.std.proofs.lemmas.List.{get_or-replicate, get_or_past, length-replicate}
-use Rattle.std.proofs.lemmas.Bool.{cases_lt}
-use Rattle.std.proofs.lemmas.Bool.Decides.{nat_tests}
-use Rattle.am_base.specs.declared.image.Vote.{Vote}
-use Rattle.am_base.specs.Names.{IsSet, place_of, life_of, name_at, names_of, has}
-use Rattle.am_base.proofs.Places.{by_place_all, slice_index-by_place, length-by_place}
-use Rattle.am_fronts.specs.Reports.{least_of}
-use Rattle.am_fronts.proofs.Leaders.{least_in}
-use Rattle.am_model.specs.Node.{Ballot, name_where, those}
-use Rattle.am_model.specs.Ballots.{taken_by}
-use Rattle.am_base.specs.Votes.{Shown, better_of, best_from}
+use Rattle.am_ballots.proofs.Words.{◌≡◌, ℕ, zero, suc, ◌+◌, ◌-◌, ◌*◌, ◌/◌, ◌%◌, ◌<◌, ◌≤◌, List, ◌∷◌, map, replicate, length, refl, sym, ◌∙◌, ap, subst, Bool}
+use Rattle.am_ballots.proofs.Words.{true, false, ◌==◌, ◌&&◌, if◌then◌else◌, Option, Some, slice_index, slice_index_or, ⊎_elim, arith, IfSome, range_with_len}
+use Rattle.am_ballots.proofs.Words.{get_or-replicate, get_or_past, length-replicate, cases_lt, nat_tests, Vote, IsSet, place_of, life_of, name_at, names_of}
+use Rattle.am_ballots.proofs.Words.{has, by_place_all, slice_index-by_place, length-by_place, least_of, least_in, Ballot, name_where, those, taken_by, Shown}
+use Rattle.am_ballots.proofs.Words.{better_of, best_from}
 
 -- the same for each name
 pub all_same : {A : Type 0} (n : ℕ) (x : A) → ◌≡◌ {A = ℕ → A} (λ name. slice_index_or (replicate n x) name x) (λ name. x)

@@ -12,7 +12,7 @@ use Rattle.am_model.specs.Node.{Node, Ballot, top, image_of, push_entry, trim_up
 use Rattle.am_model.specs.Ballots.{Verdict, need_of, left_in, taken_by, trim_for}
 use Rattle.am_model.proofs.Sets.{has_size, has_those}
 use Rattle.am_effects.specs.Causes.{Cause}
-use Rattle.am_effects.specs.Looks.{Looks, finds_itself_out, waits, fetches_from_best, finds_too_few, finds_no_room, decides, HasOpen, Balloting, with_more}
+use Rattle.am_effects.specs.Looks.{Looks, finds_no_room, decides, HasOpen, Balloting, with_more}
 use Rattle.am_effects.specs.Looks.{without_one, as_it_is}
 use Rattle.am_effects.specs.Changes.{MayStore, Change, refreshes, settles, numbers, notes, stores, begins_list}
 use Rattle.am_effects.specs.Changes.{promises, opens, looks, fetches, stores_view, closes}
@@ -32,10 +32,6 @@ itself c m b (without_one old name is open_ other) own =
     rw flipped (open_itself m old m.core.who open_ own)
 
 kept_look : (rules : Rules) (m : Node) (b : Ballot) (v : Verdict) → Looks m b v → b.given_up m.core.who ≡ false → Keeps rules m → Keeps rules v.node
-kept_look rules m b v (finds_itself_out x) own h = record { founding = h.founding; few = h.few; itself = own }
-kept_look rules m b v (waits x y) own h = record { founding = h.founding; few = h.few; itself = own }
-kept_look rules m b v (fetches_from_best x y z) own h = record { founding = h.founding; few = h.few; itself = own }
-kept_look rules m b v (finds_too_few x y) own h = record { founding = h.founding; few = h.few; itself = own }
 kept_look rules m b v (finds_no_room x) own h =
     let k = kept_trimmed rules m (unwrap_or (least_of (taken_by m.core.who m.core.taken b) (names_of (left_in b (need_of m b)))) 0) h in
     record { founding = k.founding; few = k.few; itself = own }
@@ -49,6 +45,7 @@ kept_look rules m b v (decides may) own h =
     let k = kept_trimmed rules m (unwrap_or (least_of (taken_by m.core.who m.core.taken b) (names_of names)) 0) h in
     let l = kept_next rules before (View b.stamp names (max b.resilience (image_of m).resilience)) k (omega arith) in
     record { founding = l.founding; few = l.few; itself = own }
+kept_look rules m b v _ own h = record { founding = h.founding; few = h.few; itself = own }
 
 -- ---- entries that are stored
 

@@ -8,7 +8,7 @@ use Rattle.am_base.specs.Founding.{Rules}
 use Rattle.am_core.specs.Cores.{accept, pass_over}
 use Rattle.am_fronts.specs.Refresh.{base_after, own_report, tell, go_on, let_go}
 use Rattle.am_sender.specs.declared.OwnSend.{OwnSend}
-use Rattle.am_model.specs.Node.{Node, Ballot, top, has_room, is_within_bound, is_sequencer, push_entry, trim_up_to, waiting}
+use Rattle.am_model.specs.Node.{Node, Ballot, top, has_room, is_sequencer, push_entry, trim_up_to, waiting}
 use Rattle.am_model.specs.Refresh.{advance, lead, refresh, accepted_at, settle_at, settle_waiting, settle, refresh_at_end}
 use Rattle.am_model.specs.Ballots.{overtake, with_promise}
 use Rattle.am_base.proofs.Greatest.{split}
@@ -37,13 +37,6 @@ pub kept_pushed : (rules : Rules) (m : Node) (e : Entry) → has_room m ≡ true
 kept_pushed rules m e room h =
     let same = ap (λ (r : Rules). r.window) h.founding in
     let low : top m + 1 - m.core.base ≤ m.core.rules.window = grind (arith, nat_tests) in
-    kept_next rules m e h (omega arith)
-
-pub kept_within : (rules : Rules) (m : Node) (number : ℕ) (e : Entry) → top m + 1 ≤ number → is_within_bound m m.core.base number ≡ true → Keeps rules m
-    → Keeps rules (push_entry m e)
-kept_within rules m number e next within h =
-    let same = ap (λ (r : Rules). r.window) h.founding in
-    let low : number - m.core.base ≤ m.core.rules.window + 15 = grind (arith, nat_tests) in
     kept_next rules m e h (omega arith)
 
 -- a base that goes up

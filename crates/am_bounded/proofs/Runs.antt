@@ -4,7 +4,7 @@ use Rattle.am_base.specs.Founding.{Rules}
 use Rattle.am_base.specs.Names.{has}
 use Rattle.am_model.specs.Node.{Node, set_at, founder, stranger}
 use Rattle.am_play.specs.World.{World, start, with_record, with_step}
-use Rattle.am_effects.specs.Events.{actor, idles, stops, returns, steps}
+use Rattle.am_effects.specs.Events.{actor, steps}
 use Rattle.am_effects.proofs.Runs.{along, EachKeeps, runs_keep}
 use Rattle.am_bounded.specs.Claim.{BoundedHolds}
 use Rattle.am_bounded.proofs.Kept.{Keeps}
@@ -24,11 +24,9 @@ set_kept rules nodes name n h k other = one (other == name)
 
 each_keeps : (rules : Rules) → EachKeeps (AllKept rules)
 unfolding with_record with_step
-each_keeps rules w e v (idles o idle) h = record { each = h.each }
-each_keeps rules w e v (stops runs) h = record { each = h.each }
-each_keeps rules w e v (returns place is gone more) h = record { each = h.each }
 each_keeps rules w e v (steps c s runs cause effect) h =
     record { each = set_kept rules w.nodes (actor w e) s.node h.each (along (Keeps rules) (λ m n. kept_change rules m n) effect.changes (h.each (actor w e))) }
+each_keeps rules w e v _ h = record { each = h.each }
 
 -- ---- the start
 

@@ -1,40 +1,14 @@
 -- What the rows of pieces and results come to.
-use Rattle.std.proofs.Common.{◌≡◌, ◌≢◌, ℕ, ◌+◌, ◌-◌, ◌<◌, ◌≤◌, max, Bool, true, false, not, ◌||◌, ◌&&◌, ◌==◌, if◌then◌else◌, List, Option, Some, None, refl}
-use Rattle.std.proofs.Common.{sym, ap, subst, ◌∙◌, arith}
-use Rattle.std.proofs.lemmas.Bool.Decides.{nat_tests}
-use Rattle.am_base.specs.Most.{most_number}
-use Rattle.am_base.specs.declared.name.Stamp.{Stamp}
-use Rattle.am_base.specs.declared.entry.Entry.{Entry}
-use Rattle.am_base.specs.declared.entry.Entry.TheVariants.{Data, Join, Leave, View}
-use Rattle.am_base.specs.declared.image.Image.{Image}
-use Rattle.am_base.specs.declared.outcome.Outcome.{Outcome}
+use Rattle.am_catching.proofs.Words.{◌≡◌, ◌≢◌, ℕ, ◌+◌, ◌-◌, ◌<◌, ◌≤◌, max, Bool, true, false, not, ◌||◌, ◌&&◌, ◌==◌, if◌then◌else◌, List, Option, Some, None}
+use Rattle.am_catching.proofs.Words.{refl, sym, ap, subst, ◌∙◌, arith, nat_tests, most_number, Stamp, Entry, Data, Join, Leave, View, Image, Outcome, IsEntry}
+use Rattle.am_catching.proofs.Words.{nobody, stamp_lt, stamp_eq, IsInOrder, told-push, split, has_log, Node, Ballot, top, image_of, view, acts, is_member}
+use Rattle.am_catching.proofs.Words.{push_entry, trim_up_to, Plan, quiet, Verdict, with_promise, decide, is_view_past, push_fetched, catch_up, decide_anew}
+use Rattle.am_catching.proofs.Words.{fetches_from, piece_promised, piece_for, piece_row, hears_result, result_row, IsEndOf, NodeKeeps, IsOwnBallot, IsSteady}
+use Rattle.am_catching.proofs.Words.{unless, plan_of, FollowsAsView, ComesNext, IsBelow, IsUpTo, MayStore, IsTakenOut, Telling, ComesTo, Replies, own_steady}
+use Rattle.am_catching.proofs.Words.{view_is, view_stays_data, view_stays_join, view_stays_leave, by_plan, if_no, lt_self, same_stamp, not-false}
+use Rattle.am_catching.proofs.Words.{replies_quiet, replies_looked, decide_with}
 use Rattle.am_base.specs.declared.outcome.Outcome.TheVariants as said
-use Rattle.am_base.specs.Limits.{IsEntry}
-use Rattle.am_base.specs.Names.{nobody}
-use Rattle.am_base.specs.Stamps.{stamp_lt, stamp_eq}
-use Rattle.am_core.specs.Cores.{IsInOrder}
-use Rattle.am_core.proofs.Ends.{told-push}
-use Rattle.am_core.proofs.Folds.{split}
-use Rattle.am_model.specs.Node.{has_log, Node, Ballot, top, image_of, view, acts, is_member, push_entry, trim_up_to}
-use Rattle.am_model.specs.Emit.{Plan, quiet}
-use Rattle.am_model.specs.Ballots.{Verdict, with_promise, decide}
-use Rattle.am_model.specs.Resets.{is_view_past, push_fetched, catch_up, decide_anew, fetches_from, piece_promised, piece_for, piece_row, hears_result}
-use Rattle.am_model.specs.Resets.{result_row}
-use Rattle.am_model.specs.Ends.{IsEndOf}
-use Rattle.am_handlers.specs.Keeps.{NodeKeeps, IsOwnBallot, IsSteady}
-use Rattle.am_handlers.specs.Finishing.{unless}
-use Rattle.am_catching.specs.Catching.{plan_of, FollowsAsView, ComesNext, IsBelow}
-use Rattle.am_deciding.specs.Deciding.{IsUpTo, MayStore, IsTakenOut}
-use Rattle.am_replies.specs.declared.replies.Telling.{Telling}
 use Rattle.am_replies.specs.declared.replies.Telling.TheVariants as tell
-use Rattle.am_handlers.specs.Verdicts.{ComesTo}
-use Rattle.am_replies.specs.Replies.{Replies}
-use Rattle.am_handlers.proofs.Keeping.{own_steady}
-use Rattle.am_deciding.proofs.Views.{view_is, view_stays_data, view_stays_join, view_stays_leave}
-use Rattle.am_replies.proofs.Plans.{by_plan, if_no}
-use Rattle.am_deciding.proofs.Orders.{lt_self, same_stamp}
-use Rattle.std.proofs.lemmas.Bool.{not-false}
-use Rattle.am_replies.proofs.Replying.{replies_quiet, replies_looked, decide_with}
 
 or_left : (a b : Bool) → (a || b) ≡ false → a ≡ false
 or_left true b h = absurd (cc)
@@ -56,10 +30,8 @@ other_view m v is h =
     both false b h = refl
 
 not_past : (v : Stamp) (in_ballot : Bool) (e : Entry) → is_view_past v in_ballot e ≡ false → IsUpTo v e
-not_past v in_ballot (Data from req body) h = tt
-not_past v in_ballot (Join name) h = tt
-not_past v in_ballot (Leave name) h = tt
 not_past v in_ballot (View stamp names resilience) h = or_left (stamp_lt v stamp) (in_ballot && stamp_eq stamp v) h
+not_past v in_ballot _ h = tt
 
 -- an entry that comes next may be stored
 pub may_store : (m : Node) (v : Stamp) (base number : ℕ) (e : Entry) (in_ballot : Bool) → IsInOrder m.core → has_log m.status ≡ true → v ≡ m.core.promise

@@ -1,28 +1,12 @@
 -- Entries that are copied, and sent once the step has ended.
-use Rattle.std.proofs.Common.{◌≡◌, ℕ, zero, suc, ◌+◌, ◌-◌, ◌<◌, ◌≤◌, min, All, List, [], ◌∷◌, ◌++◌, length, take, Some, true, false, ◌||◌, nat_lt}
-use Rattle.std.proofs.Common.{slice_index_or, refl, sym, ap, ◌∙◌, length-drop, arith}
-use Rattle.std.proofs.lemmas.List.{length-take, take_more}
-use Rattle.std.proofs.lemmas.List.Elements.{All-drop, All-take}
-use Rattle.am_base.specs.declared.entry.Entry.{Entry}
-use Rattle.am_base.specs.declared.entry.Entry.TheVariants.{Join}
-use Rattle.am_base.specs.declared.name.Stamp.{Stamp}
-use Rattle.am_base.specs.declared.outcome.Outcome.{Outcome}
+use Rattle.am_catching.proofs.Words.{◌≡◌, ℕ, zero, suc, ◌+◌, ◌-◌, ◌<◌, ◌≤◌, min, All, List, [], ◌∷◌, ◌++◌, length, take, Some, true, false, ◌||◌, nat_lt}
+use Rattle.am_catching.proofs.Words.{slice_index_or, refl, sym, ap, ◌∙◌, length-drop, arith, take_more, All-drop, All-take, Entry, Join, Stamp, Outcome}
+use Rattle.am_catching.proofs.Words.{IsEntry, Log, top_of, entry_at, Packet, Letter, with_letter, Node, top, only_name, entries_to_serve, put_all, piece_of}
+use Rattle.am_catching.proofs.Words.{finish, refresh_at_end, fetch_row, may_fetch, serve_pieces, IsEndOf, Changes, Tells, with_told, kept_above, entry_there}
+use Rattle.am_catching.proofs.Words.{entry_served, take_few, put_next, Replies, ends_with, replies_quiet}
 use Rattle.am_base.specs.declared.outcome.Outcome.TheVariants as said
-use Rattle.am_base.specs.Limits.{IsEntry}
-use Rattle.am_base.specs.Lists.{Log, top_of, entry_at}
-use Rattle.am_packet.specs.declared.packet.Packet.{Packet}
-use Rattle.am_packet.specs.Boxes.{Letter, with_letter}
-use Rattle.am_model.specs.Node.{Node, top, only_name}
-use Rattle.am_model.specs.Emit.{entries_to_serve, put_all, piece_of, finish}
-use Rattle.am_model.specs.Refresh.{refresh_at_end}
-use Rattle.am_model.specs.Resets.{fetch_row, may_fetch, serve_pieces}
 use Rattle.am_model.specs.Ends as ends
-use Rattle.am_model.specs.Ends.{IsEndOf, Changes, Tells}
-use Rattle.am_handlers.specs.Parts.{with_told}
-use Rattle.am_handlers.proofs.Served.{kept_above, entry_there, entry_served, take_few, put_next}
 use Rattle.am_replies.specs.declared.replies.Telling.TheVariants as tell
-use Rattle.am_replies.specs.Replies.{Replies}
-use Rattle.am_replies.proofs.Replying.{ends_with, replies_quiet}
 
 -- one entry more is copied
 pub copied_next : (log : Log) (stored number : ℕ) (old new : List Entry) → log.start ≤ stored → stored ≤ number → number < top_of log
@@ -48,9 +32,6 @@ copied_all m stored last low high is =
 
 pub served_within : (m : Node) (stored : ℕ) → All IsEntry m.core.log.entries → All IsEntry (entries_to_serve m stored)
 served_within m stored is = All-take IsEntry 8 (kept_above m.core.log stored) (All-drop IsEntry (stored - m.core.log.start) m.core.log.entries is)
-
-pub served_numbers : (m : Node) (stored : ℕ) → m.core.log.start ≤ stored → stored ≤ top m → stored + length (entries_to_serve m stored) ≤ top m
-served_numbers m stored low high = simp (length-take, length-drop) (omega arith)
 
 any_default : (es : List Entry) (i : ℕ) (a b : Entry) → i < length es → slice_index_or es i a ≡ slice_index_or es i b
 any_default [] i a b h = absurd (omega arith)

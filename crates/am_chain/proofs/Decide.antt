@@ -1,4 +1,6 @@
 -- A decision keeps what is kept.
+use Rattle.am_chain_lists.proofs.Rows.{low_or_above}
+use Rattle.am_base.proofs.Greatest.{split}
 use Rattle.std.proofs.Common.{◌≡◌, ◌≢◌, ◌⊎◌, ⊎_elim, inl, inr, ℕ, ◌+◌, ◌<◌, ◌≤◌, min, Bool, true, false, List, [], ◌∷◌, ◌++◌, length, take, Some, refl, sym, ap}
 use Rattle.std.proofs.Common.{◌∙◌, subst, arith}
 use Rattle.am_base.specs.declared.entry.Entry.{Entry}
@@ -13,13 +15,10 @@ use Rattle.am_chain_moves.specs.Group.{put, how_many, Node, Chosen, opening, Vie
 use Rattle.am_chain_moves.specs.Moves.{MayDecide, choice_of, with_choice}
 use Rattle.am_chain_moves.specs.Runs.{IsLawful}
 use Rattle.am_chain_moves.specs.Kept.{LateOk, NodeOk, ServedOk, DepartedOk, ViewsOk, Kept}
-use Rattle.am_chain_moves.proofs.Puts.{by_cases, put_cases, put_same, put_other, put_at}
+use Rattle.am_chain_moves.proofs.Puts.{put_cases, put_same, put_other, put_at}
 use Rattle.am_chain_moves.proofs.Frames.{Later, later_all, shown_later, served_later, witness_later}
 use Rattle.am_chain_moves.proofs.Nodes.{fronts_longer, view_current}
 use Rattle.am_chain.proofs.Heart.{ballot_ok, list_chain, member_above, needed_promised, needed_low, departed_in, complete_in, group_in, too_few}
-
-two : (a b : ℕ) → (a ≤ b) ⊎ (b < a)
-two a b = grind arith
 
 module _ (s : Group) (k : Kept s) (lawful : IsLawful s) (c : ℕ) (members : List ℕ) (resilience : ℕ) (d : MayDecide s c members resilience) where
   abbrev list : List Entry
@@ -121,14 +120,14 @@ module _ (s : Group) (k : Kept s) (lawful : IsLawful s) (c : ℕ) (members : Lis
   all_low j u =
       let ok = k.each j in
       let on = ok.list u in
-      by_cases (mem list j)
+      split (mem list j)
       (λ t. begins_both on chain (needed_low s k lawful c members resilience d j t u))
       (λ f. ⊎_elim
       (λ (l : length (s.node j).list ≤ length list). begins_both on chain l)
       (λ (l : length list < length (s.node j).list).
       let z = ok.own u (take (s.node j).start s.group) list (below_of (begins_both chain on (omega arith)) l) (join_in j u.log) (ok.joined u.log).member in
       absurd (cc))
-      (two (length (s.node j).list) (length list)))
+      (low_or_above (length (s.node j).list) (length list)))
 
   -- a ballot of another that is up is above the new view
   ballot_above : (j : ℕ) → j ≢ c → IsUp (s.node j) → (s.node j).ballot ≡ true → w < key (s.node j).promise
@@ -146,7 +145,7 @@ module _ (s : Group) (k : Kept s) (lawful : IsLawful s) (c : ℕ) (members : Lis
   late_now j u l =
       let ok = k.each j in
       let joined = ok.joined u.log in
-      let out : mem list j ≡ false = by_cases (mem list j) (λ t. let p = needed_promised s k lawful c members resilience d j t u.there in
+      let out : mem list j ≡ false = split (mem list j) (λ t. let p = needed_promised s k lawful c members resilience d j t u.there in
       absurd (omega arith)) (λ f. f) in
       let e = ends_of j (join_in j u.log) joined.member out in
       let b = e.before ++ e.last ∷ [] in
@@ -157,7 +156,7 @@ module _ (s : Group) (k : Kept s) (lawful : IsLawful s) (c : ℕ) (members : Lis
       let shorter = begins_more e.before (e.last ∷ []) in
       let z = ok.own u (take (s.node j).start s.group) b (below_of (begins_both on (ok.list u) (omega arith)) x) (begins_trans e.above shorter) joined.member in
       let ended = e.ended in absurd (cc))
-      (two (length (s.node j).list) (length b)) in
+      (low_or_above (length (s.node j).list) (length b)) in
       record {
         before = e.before;
         last = e.last;
@@ -190,8 +189,8 @@ module _ (s : Group) (k : Kept s) (lawful : IsLawful s) (c : ℕ) (members : Lis
           let still = mem_between {b = o.before ++ o.last ∷ []} j (good_begins up_to k.views.good) (begins_more o.before (o.last ∷ []))
           (begins_both then up_to (omega arith)) o.member e.member in
           let ended = o.ended in absurd (cc))
-          (two (length (e.before ++ e.last ∷ [])) (length (o.before ++ o.last ∷ []))))
-          (two (key s.views.current) (key (s.node j).promise))
+          (low_or_above (length (e.before ++ e.last ∷ [])) (length (o.before ++ o.last ∷ []))))
+          (low_or_above (key s.views.current) (key (s.node j).promise))
 
   other_ok : (j : ℕ) → j ≢ c → NodeOk views s.group j (s.node j)
   other_ok j other =
@@ -221,8 +220,7 @@ module _ (s : Group) (k : Kept s) (lawful : IsLawful s) (c : ℕ) (members : Lis
           above = ballot_above j other u b;
           by = o.by;
           staying = o.staying;
-          member =
-              o.member;
+          member = o.member;
         };
         complete = λ x h t m.
             let same = chosen_old x (k.views.marked x h) in
@@ -270,8 +268,7 @@ module _ (s : Group) (k : Kept s) (lawful : IsLawful s) (c : ℕ) (members : Lis
     start = λ h. refl;
     there = λ t. record { goes = t.goes; stays = t.stays };
     staying = λ h. h;
-    promise =
-        omega arith;
+    promise = omega arith;
   }
 
   up : (j : ℕ) → Later (s.node j) (put s.node c node j)
@@ -295,7 +292,7 @@ module _ (s : Group) (k : Kept s) (lawful : IsLawful s) (c : ℕ) (members : Lis
           → ((h : ℕ) → holders h ≡ true → Begins (opening (s.views.chosen x)) (put s.node c node h).list)
           → min ((s.views.chosen x).resilience + 1) (how_many (has (s.views.chosen x).members)) ≤ how_many holders
           → Begins (opening (s.views.chosen x)) (chain_of views)
-      old x z holders counts stored much = by_cases (holders c)
+      old x z holders counts stored much = split (holders c)
           (λ t. subst (Begins (opening (s.views.chosen x))) (ap (λ (m : Node). m.list) (put_same s.node c node) ∙ sym chain_is) (stored c t))
           (λ f.
           let ch = s.views.chosen x in
@@ -313,13 +310,13 @@ module _ (s : Group) (k : Kept s) (lawful : IsLawful s) (c : ℕ) (members : Lis
           (has ch.members) holders counts
           (λ h m. viewed_mem ch.before ch.stamp ch.members ch.resilience h fine m)
           (λ h m. mem_viewed ch.before ch.stamp ch.members ch.resilience h m)
-          (λ h t. by_cases (s.node h).has_log (λ y. y) (λ y.
+          (λ h t. split (s.node h).has_log (λ y. y) (λ y.
           let e = begins_length (subst (Begins (opening ch)) ((k.each h).blank y) (had h t)) in
           let long = length_push ch.before (View ch.stamp ch.members ch.resilience) in absurd (omega arith)))
           had
           (λ h t u. begins_length (all_low h u))
           (subst (λ r. min (r + 1) (how_many (has ch.members)) ≤ how_many holders) (sym there) much)))
-          (two (length (opening ch)) (length list)))
+          (low_or_above (length (opening ch)) (length list)))
 
   pub decides_keeps : Kept (with_choice s c members resilience)
   decides_keeps = record {
@@ -329,7 +326,7 @@ module _ (s : Group) (k : Kept s) (lawful : IsLawful s) (c : ℕ) (members : Lis
     shown = λ x name l h. shown_later s.node (put s.node c node) x name l up (k.shown x name l h);
     still = put_at (λ v m. (l : List Entry) → s.shown (key m.promise) v ≡ Some l → views.decided (key m.promise) ≡ false → m.list ≡ l) s.node c node
         (λ l h none. let z = put_same s.views.decided w true in absurd (cc))
-        (λ v _ l h none. k.still v l h (by_cases (s.views.decided (key (s.node v).promise)) (λ t. let z = decided_old (key (s.node v).promise) t in
+        (λ v _ l h none. k.still v l h (split (s.views.decided (key (s.node v).promise)) (λ t. let z = decided_old (key (s.node v).promise) t in
         absurd (cc)) (λ f. f)));
     short = λ i v l. put_at
         (λ i m. IsUp m → m.ballot ≡ true → s.shown (key m.promise) v ≡ Some l → IsUp (put s.node c node v)
@@ -367,4 +364,4 @@ module _ (s : Group) (k : Kept s) (lawful : IsLawful s) (c : ℕ) (members : Lis
           (λ (x : length list < length l).
           let p = promised c d.up.there (member_above s k lawful c members resilience d l on (omega arith)) in
           let a = ballot_above i other u b in absurd (omega arith))
-          (two (length l) (length list))
+          (low_or_above (length l) (length list))

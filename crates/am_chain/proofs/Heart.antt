@@ -1,4 +1,6 @@
 -- A coordinator that decides has all that was accepted.
+use Rattle.am_chain_lists.proofs.Rows.{low_or_above}
+use Rattle.am_base.proofs.Greatest.{split}
 use Rattle.std.proofs.Common.{◌≡◌, ◌⊎◌, ⊎_elim, ℕ, zero, suc, ◌+◌, ◌-◌, ◌<◌, ◌≤◌, ◌&&◌, ◌||◌, not, nat_lt, min, Bool, true, false, List, [], ◌∷◌, ◌++◌, length}
 use Rattle.std.proofs.Common.{take, Option, Some, None, slice_get, refl, sym, ap, ◌∙◌, subst, arith}
 use Rattle.std.proofs.lemmas.Bool.Decides.{nat_tests}
@@ -15,18 +17,15 @@ use Rattle.am_chain_moves.specs.Group.{how_many, counted_in, opening, Group, cha
 use Rattle.am_chain_moves.specs.Moves.{MayDecide, Voted}
 use Rattle.am_chain_moves.specs.Runs.{counts_for, IsLawful}
 use Rattle.am_chain_moves.specs.Kept.{BallotOk, Kept}
-use Rattle.am_chain_moves.proofs.Puts.{by_cases, count_within, count_below}
-
-two : (a b : ℕ) → (a ≤ b) ⊎ (b < a)
-two a b = grind arith
+use Rattle.am_chain_moves.proofs.Puts.{count_within, count_below}
 
 -- the greatest number that passes
 pub greatest_of : (p : ℕ → Bool) (bound x : ℕ) → p x ≡ true → ((y : ℕ) → p y ≡ true → y ≤ bound) → (g : ℕ) × (p g ≡ true) × ((y : ℕ) → p y ≡ true → y ≤ g)
 greatest_of p zero x h all = let z = all x h in (x, h, λ y k. let w = all y k in omega arith)
-greatest_of p (suc bound) x h all = by_cases (p (suc bound))
+greatest_of p (suc bound) x h all = split (p (suc bound))
     (λ t. (suc bound, t, all))
     (λ f. greatest_of p bound x h (λ y k. ⊎_elim (λ (l : y ≤ bound). l) (λ (l : bound < y). let w = all y k in let e : y ≡ suc bound = omega arith in
-    let z : p (suc bound) ≡ true = subst (λ m. p m ≡ true) e k in absurd (cc)) (two y bound)))
+    let z : p (suc bound) ≡ true = subst (λ m. p m ≡ true) e k in absurd (cc)) (low_or_above y bound)))
 
 -- Where the members stand whose storage of an entry counts.
 pub record CountedAt (list : List Entry) (n : ℕ) : Type 0 where
@@ -119,7 +118,7 @@ module _ (s : Group) (k : Kept s) (lawful : IsLawful s) (c : ℕ) (members : Lis
       (λ (x : key (view_of v) < key (view_of (s.node c).list)). absurd (omega arith))
       (λ (x : (key (view_of v) ≡ key (view_of (s.node c).list)) × (length v ≤ length (s.node c).list)). x.1)
       worse)
-      (two (length v) (length (s.node c).list))
+      (low_or_above (length v) (length (s.node c).list))
 
   pub needed_low : (j : ℕ) → mem (s.node c).list j ≡ true → IsUp (s.node j) → length (s.node j).list ≤ length (s.node c).list
   needed_low j m u = ⊎_elim
@@ -140,7 +139,7 @@ module _ (s : Group) (k : Kept s) (lawful : IsLawful s) (c : ℕ) (members : Lis
       (λ (l : length (o.before ++ Leave e ∷ []) ≤ length (s.node c).list). begins_both o.chain list_chain l)
       (λ (l : length (s.node c).list < length (o.before ++ Leave e ∷ [])).
       o.stored c (member_above o.before (begins_trans (begins_more o.before (Leave e ∷ [])) o.chain) (omega arith)) d.up.there ballot_ok.staying)
-      (two (length (o.before ++ Leave e ∷ [])) (length (s.node c).list))
+      (low_or_above (length (o.before ++ Leave e ∷ [])) (length (s.node c).list))
 
   -- each complete view's View does
   pub complete_in : (g : ℕ) → s.views.complete g ≡ true → Begins (opening (s.views.chosen g)) (s.node c).list
@@ -151,7 +150,7 @@ module _ (s : Group) (k : Kept s) (lawful : IsLawful s) (c : ℕ) (members : Lis
       (λ (l : length (opening ch) ≤ length (s.node c).list). begins_both o list_chain l)
       (λ (l : length (s.node c).list < length (opening ch)).
       (k.each c).complete g h d.up.there (mem_viewed ch.before ch.stamp ch.members ch.resilience c (member_above (opening ch) o (omega arith))))
-      (two (length (opening ch)) (length (s.node c).list))
+      (low_or_above (length (opening ch)) (length (s.node c).list))
 
   -- Who holds more of the chain than the coordinator are too few: if none of them is up, they are stopped undeparted, and
   -- count for the greatest complete view.
@@ -174,15 +173,15 @@ module _ (s : Group) (k : Kept s) (lawful : IsLawful s) (c : ℕ) (members : Lis
         (begins_trans inside above) (leaver_in o.before h good) (members_at h (in_count h t)))
 
     is_stopped : (h : ℕ) → holders h ≡ true → ((s.node h).stopped ≡ true) × ((s.node h).departed ≡ false)
-    is_stopped h t = by_cases (s.node h).departed
+    is_stopped h t = split (s.node h).departed
         (λ gone. absurd (not_departed h t gone))
-        (λ stays. by_cases (s.node h).stopped
+        (λ stays. split (s.node h).stopped
         (λ x. (x, stays))
         (λ goes. absurd (not_up h t (record { log = logs h t; there = record { goes = goes; stays = stays } }))))
 
     counts : (g : ℕ) → s.views.complete g ≡ true → (h : ℕ) → holders h ≡ true → counts_for s g h ≡ true
     counts g is h t = either (has (s.views.chosen g).members h) (s.node h).has_log (nat_lt (length (opening (s.views.chosen g))) (s.node h).start)
-        (λ f. (logs h t, late g is h t f (two (s.node h).start (length (opening (s.views.chosen g))))))
+        (λ f. (logs h t, late g is h t f (low_or_above (s.node h).start (length (opening (s.views.chosen g))))))
       where
         late : (g : ℕ) → s.views.complete g ≡ true → (h : ℕ) → holders h ≡ true → has (s.views.chosen g).members h ≡ false
             → ((s.node h).start ≤ length (opening (s.views.chosen g))) ⊎ (length (opening (s.views.chosen g)) < (s.node h).start)
@@ -208,7 +207,7 @@ module _ (s : Group) (k : Kept s) (lawful : IsLawful s) (c : ℕ) (members : Lis
         let few = count_within holders (λ name. counts_for s g.0 name && ((s.node name).stopped && not (s.node name).departed)) 256 (λ h t. let q =
         is_stopped h t in and_true (counts_for s g.0 h) (s.node h).stopped (s.node h).departed (counts g.0 g.1 h t) q.0 q.1) in
         let c_in = at_members c (member_above at (begins_trans below chain) (begins_length above)) in
-        let c_out : holders c ≡ false = by_cases (holders c) (λ t. absurd (not_up c t d.up)) (λ f. f) in
+        let c_out : holders c ≡ false = split (holders c) (λ t. absurd (not_up c t d.up)) (λ f. f) in
         let fewer = count_below holders count_in 256 c in_count d.small c_out c_in in
         let rises = resilience_up (good_begins chain k.views.good) (begins_trans (complete_in g.0 g.1) (begins_trans above below)) in
         let there = resilience_viewed ch.before ch.stamp ch.members ch.resilience in
@@ -219,14 +218,14 @@ module _ (s : Group) (k : Kept s) (lawful : IsLawful s) (c : ℕ) (members : Lis
   group_in = ⊎_elim
       (λ (l : length s.group ≤ length (s.node c).list). begins_both k.group list_chain l)
       (λ (l : length (s.node c).list < length s.group). absurd (lost l))
-      (two (length s.group) (length (s.node c).list))
+      (low_or_above (length s.group) (length (s.node c).list))
     where
       lost : length (s.node c).list < length s.group → ⊥
       lost l =
           let some : 0 < length (s.node c).list = ⊎_elim
           (λ (x : length (s.node c).list ≤ 0). absurd (mem_nil c (subst (λ y. mem y c ≡ true) (sym (begins_same (begins_nil (s.node c).list) x)) d.needed)))
           (λ (x : 0 < length (s.node c).list). x)
-          (two (length (s.node c).list) 0) in
+          (low_or_above (length (s.node c).list) 0) in
           let w = k.witness (length (s.node c).list + 1) (omega arith) (omega arith) in
           let n = w.number in
           let a = w.above in

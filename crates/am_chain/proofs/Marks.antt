@@ -1,4 +1,6 @@
 -- A view that completes stands in the chain.
+use Rattle.am_chain_lists.proofs.Rows.{low_or_above}
+use Rattle.am_base.proofs.Greatest.{split}
 use Rattle.std.proofs.Common.{◌≡◌, ◌⊎◌, ⊎_elim, ℕ, ◌<◌, ◌≤◌, Bool, true, [], ◌∷◌, length, refl, ap, arith}
 use Rattle.am_base.specs.declared.entry.Entry.TheVariants.{View}
 use Rattle.am_base.specs.Names.{has}
@@ -10,10 +12,6 @@ use Rattle.am_chain_lists.proofs.Order.{view_up, view_below}
 use Rattle.am_chain_moves.specs.Group.{opening, Views, Group, chain_of, IsThere}
 use Rattle.am_chain_moves.specs.Runs.{Completes}
 use Rattle.am_chain_moves.specs.Kept.{NodeOk, Kept}
-use Rattle.am_chain_moves.proofs.Puts.{by_cases}
-
-two : (a b : ℕ) → (a ≤ b) ⊎ (b < a)
-two a b = grind arith
 
 view_nil : key (view_of []) ≡ 0
 unfolding fold view_of key
@@ -39,7 +37,7 @@ module _ (s : Group) (k : Kept s) (complete : ℕ → Bool) (stay : (x : ℕ) �
       let stamp = k.views.stamps x h.decided in
       let last = h.none_lags j m t in
       let long = length_push ch.before (View ch.stamp ch.members ch.resilience) in
-      by_cases (s.node j).has_log
+      split (s.node j).has_log
       (λ log.
       let mine = (k.each j).list (record { log = log; there = t }) in
       ⊎_elim
@@ -48,7 +46,7 @@ module _ (s : Group) (k : Kept s) (complete : ℕ → Bool) (stay : (x : ℕ) �
       let part = begins_both (begins_both mine on (omega arith)) (begins_more ch.before (View ch.stamp ch.members ch.resilience ∷ [])) (omega arith) in
       let up = view_up (good_begins (begins_more ch.before (View ch.stamp ch.members ch.resilience ∷ [])) good) part in
       absurd (omega arith))
-      (two (length (opening ch)) (length (s.node j).list)))
+      (low_or_above (length (opening ch)) (length (s.node j).list)))
       (λ none.
       let e = ap (λ l. key (view_of l)) ((k.each j).blank none) in
       let z = view_nil in absurd (omega arith))

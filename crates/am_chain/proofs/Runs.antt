@@ -120,8 +120,7 @@ pub record KeptLawful (s : Group) : Type 0 where
 pub run_keeps : (founders : List ℕ) (first resilience : ℕ) (s : Group) → Run founders first resilience s → KeptLawful s
 run_keeps founders first resilience s (founded may) = record {
   kept = start_kept founders first resilience may;
-  lawful =
-      start_lawful founders first resilience;
+  lawful = start_lawful founders first resilience;
 }
 run_keeps founders first resilience t (more {s = s} run step law) = let o = run_keeps founders first resilience s run in
     record { kept = step_keeps s t o.kept o.lawful step; lawful = law }
@@ -143,8 +142,7 @@ since : {s t : Group} → Kept s → IsLawful s → Onward s t → Since s t
 since k law (here {s = s}) = record {
   kept = k;
   lawful = law;
-  grows =
-      record { group = begins_refl s.group; decided = λ x h. h; chosen = λ x h. refl; complete = λ x h. h };
+  grows = record { group = begins_refl s.group; decided = λ x h. h; chosen = λ x h. refl; complete = λ x h. h };
 }
 since k law (onward {s = s} {t = t} {u = u} on step after) =
     let o = since k law on in

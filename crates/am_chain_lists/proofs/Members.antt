@@ -1,20 +1,11 @@
 -- What a list tells, along its beginnings.
-use Rattle.std.proofs.Common.{◌≡◌, ⊎_elim, inl, ℕ, ◌+◌, ◌<◌, ◌==◌, ◌&&◌, nat_lt, true, false, List, [], ◌∷◌, ◌++◌, length, slice_index, refl, sym, ap, ◌∙◌}
-use Rattle.std.proofs.Common.{subst, arith, append-nil}
-use Rattle.std.proofs.lemmas.Bool.Decides.{nat_tests}
-use Rattle.std.proofs.lemmas.List.{get_or-map}
-use Rattle.am_base.specs.declared.name.Stamp.{Stamp}
-use Rattle.am_base.specs.declared.image.Image.{Image}
-use Rattle.am_base.specs.declared.image.Row.{Row}
-use Rattle.am_base.specs.declared.entry.Entry.{Entry}
-use Rattle.am_base.specs.declared.entry.Entry.TheVariants.{Leave, View}
-use Rattle.am_base.specs.Names.{has, place_of, life_of}
-use Rattle.am_base.specs.Lists.{blank_row, blank, after, fits, fold, AllFit, members_of, member_life}
-use Rattle.am_chain_lists.specs.Whole.{Begins, IsGood, AllSmall, SmallName, image_of, mem}
+use Rattle.am_chain_lists.proofs.Words.{split, ◌≡◌, ⊎_elim, inl, ℕ, ◌+◌, ◌<◌, ◌==◌, ◌&&◌, nat_lt, true, false, List, [], ◌∷◌, ◌++◌, length, slice_index, refl}
+use Rattle.am_chain_lists.proofs.Words.{sym, ap, ◌∙◌, subst, arith, append-nil, nat_tests, get_or-map, Stamp, Image, Row, Entry, Leave, View, has, place_of}
+use Rattle.am_chain_lists.proofs.Words.{life_of, blank_row, blank, after, fits, fold, AllFit, members_of, member_life, Begins, IsGood, AllSmall, SmallName}
+use Rattle.am_chain_lists.proofs.Words.{image_of, mem}
+use Rattle.am_chain_lists.proofs.Rows.{row_at, In, Past, Was, Spares, Lasting, was_lasting, past_lasting, mod16, long_after, lasts_after, not_both}
+use Rattle.am_chain_lists.proofs.Rows.{blank_joined, in_after, in_viewed, viewed_member, out_after}
 use Rattle.am_chain_lists.proofs.Prefixes.{begins_refl, begins_more, begins_trans, push_next}
-use Rattle.am_chain_lists.proofs.Rows.{row_at, In, Past, Was, Spares, by_cases, Lasting, was_lasting, past_lasting, mod16, long_after, lasts_after, not_both}
-use Rattle.am_chain_lists.proofs.Rows.{blank_joined}
-use Rattle.am_chain_lists.proofs.Rows.{in_after, in_viewed, viewed_member, out_after}
 
 pub fold_append : (image : Image) (n : ℕ) (a b : List Entry) → fold image n (a ++ b) ≡ fold (fold image n a) (n + length a) b
 unfolding fold
@@ -58,8 +49,7 @@ small_back (e ∷ a) b h = small_back a b h.1
 pub good_begins : {a b : List Entry} → Begins a b → IsGood b → IsGood a
 good_begins {a} {b} h g = record {
   fit = fit_front blank 1 a h.rest (subst (AllFit blank 1) (sym h.same) g.fit);
-  small =
-      small_front a h.rest (subst AllSmall (sym h.same) g.small);
+  small = small_front a h.rest (subst AllSmall (sym h.same) g.small);
 }
 
 pub good_nil : IsGood []
@@ -84,7 +74,7 @@ pub last_small : (a : List Entry) (e : Entry) → IsGood (a ++ e ∷ []) → Sma
 unfolding AllSmall
 last_small a e g = (small_back a (e ∷ []) g.small).0
 
-long_fold : (image : Image) (n : ℕ) (es : List Entry) → length image.rows ≡ 16 → length (fold image n es).rows ≡ 16
+pub long_fold : (image : Image) (n : ℕ) (es : List Entry) → length image.rows ≡ 16 → length (fold image n es).rows ≡ 16
 unfolding fold
 long_fold image n [] h = h
 long_fold image n (e ∷ es) h = long_fold (after image n e) (n + 1) es (long_after image n e h)
@@ -99,15 +89,15 @@ lasts_fold P image n [] place life k long low up f h = h
 lasts_fold P image n (e ∷ es) place life k long low up f h = lasts_fold P (after image n e) (n + 1) es place life k (long_after image n e long) low
     (omega arith) f.1 (lasts_after P image n e place life k long low up f.0 h)
 
-member_in : (r : Row) (life : ℕ) → 0 < life → (member_life r == life) ≡ true → In r life
-member_in r life pos h = by_cases (nat_lt 0 r.joined && (r.left == 0))
+pub member_in : (r : Row) (life : ℕ) → 0 < life → (member_life r == life) ≡ true → In r life
+member_in r life pos h = split (nat_lt 0 r.joined && (r.left == 0))
     (λ t. let e : r.life ≡ life = grind (arith, nat_tests) in record { joined = grind (arith, nat_tests); left = grind (arith, nat_tests); is = e })
     (λ f. absurd (let z : ⊥ = grind (arith, nat_tests) in z))
 
 in_member : (r : Row) (life : ℕ) → In r life → (member_life r == life) ≡ true
 in_member r life h = let j = h.joined in let l = h.left in let i = h.is in grind (arith, nat_tests)
 
-index_members : (image : Image) (place : ℕ) → length image.rows ≡ 16 → place < 16 → slice_index (members_of image) place ≡ member_life (row_at image place)
+pub index_members : (image : Image) (place : ℕ) → length image.rows ≡ 16 → place < 16 → slice_index (members_of image) place ≡ member_life (row_at image place)
 index_members image place long low = let w : place < length image.rows = omega arith in get_or-map member_life image.rows place blank_row 0 w
 
 pub mem_in : (a : List Entry) (name : ℕ) → mem a name ≡ true → In (row_at (image_of a) (place_of name)) (life_of name)
@@ -202,7 +192,7 @@ pub record Ends (a b : List Entry) (name : ℕ) : Type 0 where
 
 ends_go : (r a b c : List Entry) (name : ℕ) → Begins a c → c ++ r ≡ b → mem c name ≡ true → mem b name ≡ false → Ends a b name
 ends_go [] a b c name above same h k = let z : mem b name ≡ true = subst (λ l. mem l name ≡ true) (sym (append-nil c) ∙ same) h in absurd (cc)
-ends_go (e ∷ r) a b c name above same h k = by_cases (mem (c ++ e ∷ []) name)
+ends_go (e ∷ r) a b c name above same h k = split (mem (c ++ e ∷ []) name)
     (λ t. ends_go r a b (c ++ e ∷ []) name (begins_trans above (begins_more c (e ∷ []))) (push_next c e r ∙ same) t k)
     (λ f. record { before = c; last = e; above = above; within = record { rest = r; same = push_next c e r ∙ same }; member = h; ended = f })
 

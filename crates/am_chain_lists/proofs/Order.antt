@@ -1,21 +1,15 @@
 -- Views and resilience rise along a list.
-use Rattle.std.proofs.Common.{◌≡◌, ℕ, ◌+◌, ◌<◌, ◌≤◌, ◌==◌, nat_lt, true, List, [], ◌∷◌, ◌++◌, length, refl, sym, ap, ◌∙◌, subst, arith}
-use Rattle.std.proofs.lemmas.Bool.Decides.{nat_tests}
-use Rattle.am_base.specs.declared.name.Stamp.{Stamp}
-use Rattle.am_base.specs.declared.image.Image.{Image}
-use Rattle.am_base.specs.declared.entry.Entry.{Entry}
-use Rattle.am_base.specs.declared.entry.Entry.TheVariants.{Data, Join, Leave, View}
-use Rattle.am_base.specs.Names.{has, life_of, rank_of, is_within}
-use Rattle.am_base.specs.Stamps.{stamp_lt}
-use Rattle.am_base.specs.Lists.{blank, after, fits, fold, AllFit, members_of, at_place}
-use Rattle.am_chain_lists.specs.Whole.{Begins, IsGood, AllSmall, SmallName, NotView, image_of, view_of, resilience_of, key}
-use Rattle.am_chain_lists.proofs.Rows.{by_cases, view_parts}
+use Rattle.am_chain_lists.proofs.Words.{split, ◌≡◌, ℕ, ◌+◌, ◌<◌, ◌≤◌, ◌==◌, nat_lt, true, List, [], ◌∷◌, ◌++◌, length, refl, sym, ap, ◌∙◌, subst, arith}
+use Rattle.am_chain_lists.proofs.Words.{nat_tests, Stamp, Image, Entry, Data, Join, Leave, View, has, life_of, rank_of, is_within, stamp_lt, blank, after}
+use Rattle.am_chain_lists.proofs.Words.{fits, fold, AllFit, members_of, at_place, Begins, IsGood, AllSmall, SmallName, NotView, image_of, view_of}
+use Rattle.am_chain_lists.proofs.Words.{resilience_of, key}
 use Rattle.am_chain_lists.proofs.Members.{fold_append, fit_back, small_back, told_push, last_fits, last_small, good_begins}
+use Rattle.am_chain_lists.proofs.Rows.{view_parts}
 
 rank_small : (n : ℕ) → n < 256 → rank_of n < 256
 rank_small n h = omega arith
 
-rank_same : (a b : ℕ) → a < 256 → b < 256 → rank_of a ≡ rank_of b → a ≡ b
+pub rank_same : (a b : ℕ) → a < 256 → b < 256 → rank_of a ≡ rank_of b → a ≡ b
 rank_same a b l k h = omega arith
 
 pub key_lt : (a b : Stamp) → a.by < 256 → b.by < 256 → stamp_lt a b ≡ true → key a < key b
@@ -23,7 +17,7 @@ unfolding key
 key_lt a b l k h =
     let x = rank_small a.by l in
     let y = rank_small b.by k in
-    by_cases (nat_lt a.round b.round)
+    split (nat_lt a.round b.round)
     (λ t. let r : a.round < b.round = grind (arith, nat_tests) in omega arith)
     (λ f. let r : a.round ≡ b.round = grind (arith, nat_tests) in let q : rank_of a.by < rank_of b.by = grind (arith, nat_tests) in omega arith)
 
@@ -32,7 +26,7 @@ unfolding key
 lt_key a b l k h =
     let x = rank_small a.by l in
     let y = rank_small b.by k in
-    by_cases (nat_lt a.round b.round)
+    split (nat_lt a.round b.round)
     (λ t. grind (arith, nat_tests))
     (λ f. let g : b.round ≤ a.round = grind (arith, nat_tests) in
     let r : a.round ≡ b.round = omega arith in let q : rank_of a.by < rank_of b.by = omega arith in grind (arith, nat_tests))
@@ -52,11 +46,11 @@ pub record Rises (a b : Image) : Type 0 where
 
 rises_after : (image : Image) (n : ℕ) (e : Entry) → image.view.by < 256 → fits image e ≡ true → SmallName e → Rises image (after image n e)
 unfolding after
-rises_after image n (Data from req body) l f s = by_cases ((at_place image from).life == life_of from)
+rises_after image n (Data from req body) l f s = split ((at_place image from).life == life_of from)
     (λ t. rw t (record { view = omega arith; resilience = omega arith; small = l }))
     (λ t. rw t (record { view = omega arith; resilience = omega arith; small = l }))
 rises_after image n (Join name) l f s = record { view = omega arith; resilience = omega arith; small = l }
-rises_after image n (Leave name) l f s = by_cases ((at_place image name).life == life_of name)
+rises_after image n (Leave name) l f s = split ((at_place image name).life == life_of name)
     (λ t. rw t (record { view = omega arith; resilience = omega arith; small = l }))
     (λ t. rw t (record { view = omega arith; resilience = omega arith; small = l }))
 rises_after image n (View stamp members resilience) l f s =
@@ -119,9 +113,9 @@ view_below a stamp members resilience g =
 
 view_same : (image : Image) (n : ℕ) (e : Entry) → NotView e → (after image n e).view ≡ image.view
 unfolding after
-view_same image n (Data from req body) h = by_cases ((at_place image from).life == life_of from) (λ t. rw t refl) (λ t. rw t refl)
+view_same image n (Data from req body) h = split ((at_place image from).life == life_of from) (λ t. rw t refl) (λ t. rw t refl)
 view_same image n (Join name) h = refl
-view_same image n (Leave name) h = by_cases ((at_place image name).life == life_of name) (λ t. rw t refl) (λ t. rw t refl)
+view_same image n (Leave name) h = split ((at_place image name).life == life_of name) (λ t. rw t refl) (λ t. rw t refl)
 view_same image n (View stamp members resilience) h = absurd h
 
 -- an entry that is no View leaves the view

@@ -1,8 +1,6 @@
 -- Lists that begin one another.
-use Rattle.std.proofs.Common.{◌≡◌, ◌⊎◌, ⊎_elim, inl, inr, ℕ, zero, suc, ◌+◌, ◌<◌, ◌≤◌, List, [], ◌∷◌, ◌++◌, length, take, Some, slice_get, refl, sym, ap, ◌∙◌}
-use Rattle.std.proofs.Common.{arith, append_assoc, append-nil, length-append}
-use Rattle.am_base.specs.declared.entry.Entry.{Entry}
-use Rattle.am_chain_lists.specs.Whole.{Begins, BeginsBelow}
+use Rattle.am_chain_lists.proofs.Words.{◌≡◌, ◌⊎◌, ⊎_elim, inl, inr, ℕ, zero, suc, ◌+◌, ◌<◌, ◌≤◌, List, [], ◌∷◌, ◌++◌, length, take, Some, slice_get, refl}
+use Rattle.am_chain_lists.proofs.Words.{sym, ap, ◌∙◌, arith, append_assoc, append-nil, length-append, Entry, Begins, BeginsBelow}
 
 pub begins_refl : (a : List Entry) → Begins a a
 begins_refl a = record { rest = []; same = append-nil a }
@@ -68,9 +66,6 @@ next_of a e {b} h = ap (λ l. slice_get l (length a)) (sym h.same ∙ push_next 
 
 pub below_begins : {a b : List Entry} → BeginsBelow a b → Begins a b
 below_begins {a} h = record { rest = h.next ∷ h.rest; same = h.same }
-
-pub below_push : {a b : List Entry} (h : BeginsBelow a b) → Begins (a ++ h.next ∷ []) b
-below_push {a} h = record { rest = h.rest; same = push_next a h.next h.rest ∙ h.same }
 
 pub below_length : {a b : List Entry} → BeginsBelow a b → length a < length b
 below_length {a} h = omega (arith, length-append a (h.next ∷ h.rest), ap length h.same)

@@ -1,16 +1,10 @@
 -- Which request of a name comes next, by the row of its place.
-use Rattle.std.proofs.Common.{◌≡◌, ◌≢◌, ◌⊎◌, ⊎_elim, inl, inr, ℕ, ◌+◌, ◌<◌, ◌==◌, ◌&&◌, nat_lt, true, false, not, List, [], ◌∷◌, length, slice_index, refl, sym}
-use Rattle.std.proofs.Common.{ap, ◌∙◌, subst, arith}
-use Rattle.std.proofs.lemmas.Bool.Decides.{nat_tests}
-use Rattle.std.proofs.lemmas.List.{get_or-map}
-use Rattle.am_base.specs.declared.name.Stamp.{Stamp}
-use Rattle.am_base.specs.declared.image.Image.{Image}
-use Rattle.am_base.specs.declared.image.Row.{Row}
-use Rattle.am_base.specs.declared.entry.Entry.{Entry}
-use Rattle.am_base.specs.declared.entry.Entry.TheVariants.{Data, Join, Leave, View}
-use Rattle.am_base.specs.Names.{has, place_of, life_of}
-use Rattle.am_base.specs.Lists.{blank_row, blank, is_blank, row_of, member_life, members_of, with_row, row_after_view, after, fits, request_in}
-use Rattle.am_chain_lists.proofs.Rows.{row_at, In, by_cases, and_left, and_right, mod16, row_set, row_view, blank_joined}
+use Rattle.am_chain_lists.proofs.Words.{split, ◌≡◌, ◌≢◌, ◌⊎◌, ⊎_elim, inl, inr, ℕ, ◌+◌, ◌<◌, ◌==◌, ◌&&◌, nat_lt, true, false, not, List, [], ◌∷◌, length}
+use Rattle.am_chain_lists.proofs.Words.{slice_index, refl, sym, ap, ◌∙◌, subst, arith, nat_tests, get_or-map, Stamp, Image, Row, Entry, Data, Join, Leave}
+use Rattle.am_chain_lists.proofs.Words.{View, has, place_of, life_of, blank_row, blank, is_blank, row_of, member_life, members_of, with_row, row_after_view}
+use Rattle.am_chain_lists.proofs.Words.{after, fits, request_in}
+use Rattle.am_chain_lists.proofs.{Rows.same_name, Rows.row_at, Rows.In, Rows.and_left, Rows.and_right, Rows.mod16, Rows.row_set, Rows.row_view}
+use Rattle.am_chain_lists.proofs.{Rows.blank_joined, Members.member_in}
 
 -- the next request of this life of a place: the first as long as the life has not joined, else the one after its last; where
 -- a greater life has joined there is none, and any number will do
@@ -47,23 +41,18 @@ next_joined r joiner n life next up may h = record {
 }
 
 next_first : (r : Row) (n given life next : ℕ) → r.joined ≡ 0 → IsNext r life next → IsNext (row_after_view true n given r) life next
-next_first r n given life next z h = by_cases (given == 0)
+next_first r n given life next z h = split (given == 0)
     (λ t. rw t h)
     (λ f. let one : 0 < 1 = omega arith in rw f (next_joined r given 1 life next one (inl z) h))
 
 next_viewed : (r : Row) (n given life next : ℕ) → IsNext r life next → IsNext (row_after_view false n given r) life next
-next_viewed r n given life next h = by_cases (nat_lt 0 (member_life r) && not (member_life r == given))
+next_viewed r n given life next h = split (nat_lt 0 (member_life r) && not (member_life r == given))
     (λ t. rw t (next_left r n life next h))
     (λ f. rw f h)
 
 -- ---- what an entry that fits says of a row
 
-member_in : (r : Row) (life : ℕ) → 0 < life → (member_life r == life) ≡ true → In r life
-member_in r life pos h = by_cases (nat_lt 0 r.joined && (r.left == 0))
-    (λ t. let e : r.life ≡ life = grind (arith, nat_tests) in record { joined = grind (arith, nat_tests); left = grind (arith, nat_tests); is = e })
-    (λ f. absurd (let z : ⊥ = grind (arith, nat_tests) in z))
-
-has_in : (image : Image) (name : ℕ) → length image.rows ≡ 16 → has (members_of image) name ≡ true → In (row_at image (place_of name)) (life_of name)
+pub has_in : (image : Image) (name : ℕ) → length image.rows ≡ 16 → has (members_of image) name ≡ true → In (row_at image (place_of name)) (life_of name)
 has_in image name long h =
     let pos : 0 < life_of name = omega arith in
     let low = mod16 name in
@@ -93,7 +82,7 @@ send_parts image from req body long f =
 join_may : (image : Image) (joiner : ℕ) → fits image (Join joiner) ≡ true
     → ((row_at image (place_of joiner)).joined ≡ 0) ⊎ ((row_at image (place_of joiner)).life < life_of joiner)
 unfolding fits
-join_may image joiner f = by_cases ((row_at image (place_of joiner)).joined == 0)
+join_may image joiner f = split ((row_at image (place_of joiner)).joined == 0)
     (λ t. inl (grind (arith, nat_tests)))
     (λ z. inr (grind (arith, nat_tests)))
 
@@ -104,9 +93,6 @@ abbrev pub GoesOn : Image → ℕ → Entry → ℕ → ℕ → Type 0
 GoesOn image n e name next =
     ((request_in name e ≡ []) × IsNext (row_at (after image n e) (place_of name)) (life_of name) next)
     ⊎ ((request_in name e ≡ next ∷ []) × IsNext (row_at (after image n e) (place_of name)) (life_of name) (next + 1))
-
-same_name : (a b : ℕ) → place_of a ≡ place_of b → life_of a ≡ life_of b → a ≡ b
-same_name a b p l = omega arith
 
 not_own : (from req name : ℕ) (body : List ℕ) → from ≢ name → request_in name (Data from req body) ≡ []
 not_own from req name body other = let f : (from == name) ≡ false = grind (arith, nat_tests) in rw f refl
@@ -121,7 +107,7 @@ send_goes_on image n from req body name next long s h = rw s.life (⊎_elim
     (λ (x : (place_of name ≡ place_of from) × (row_at (with_row image from (record (row_at image (place_of from)) { last = req })) (place_of name)
     ≡ record (row_at image (place_of from)) { last = req })).
     let here : IsNext (row_at image (place_of from)) (life_of name) next = subst (λ p. IsNext (row_at image p) (life_of name) next) x.0 h in
-    by_cases (from == name)
+    split (from == name)
     (λ t. let is : from ≡ name = grind (arith, nat_tests) in
     let g = next_own (row_at image (place_of from)) req (life_of from) next s.member s.next
     (subst (λ i. IsNext (row_at image (place_of from)) (life_of i) next) (sym is) here) in
@@ -152,7 +138,7 @@ join_goes_on image n joiner name next long up f h = ⊎_elim
 leave_goes_on : (image : Image) (n leaver name next : ℕ) → length image.rows ≡ 16 → IsNext (row_at image (place_of name)) (life_of name) next
     → IsNext (row_at (after image n (Leave leaver)) (place_of name)) (life_of name) next
 unfolding after
-leave_goes_on image n leaver name next long h = by_cases ((row_at image (place_of leaver)).life == life_of leaver)
+leave_goes_on image n leaver name next long h = split ((row_at image (place_of leaver)).life == life_of leaver)
     (λ t. rw t (⊎_elim
     (λ (x : (place_of name ≡ place_of leaver) × (row_at (with_row image leaver (record (row_at image (place_of leaver)) { left = n })) (place_of name)
     ≡ record (row_at image (place_of leaver)) { left = n })).
@@ -165,7 +151,7 @@ leave_goes_on image n leaver name next long h = by_cases ((row_at image (place_o
 view_goes_on : (image : Image) (n : ℕ) (stamp : Stamp) (members : List ℕ) (resilience name next : ℕ) → IsNext (row_at image (place_of name)) (life_of name) next
     → IsNext (row_at (after image n (View stamp members resilience)) (place_of name)) (life_of name) next
 view_goes_on image n stamp members resilience name next h = rw (row_view image n stamp members resilience (place_of name) (mod16 name))
-    (by_cases (is_blank image)
+    (split (is_blank image)
     (λ t. rw t (next_first (row_at image (place_of name)) n (slice_index members (place_of name)) (life_of name) next (blank_joined image (place_of name) t) h))
     (λ f. rw f (next_viewed (row_at image (place_of name)) n (slice_index members (place_of name)) (life_of name) next h)))
 

@@ -1,18 +1,10 @@
 -- One place's row, along a list.
-use Rattle.std.proofs.Common.{◌≡◌, ◌≢◌, ◌⊎◌, ⊎_elim, inl, inr, ℕ, zero, suc, ◌+◌, ◌%◌, ◌<◌, ◌≤◌, ◌==◌, ◌&&◌, ◌||◌, nat_lt, nat_le, Bool, true, false, not, List}
-use Rattle.std.proofs.Common.{[], ◌∷◌, length, get_or, slice_index, refl, sym, ◌∙◌, subst, arith, get_or-set_same, get_or-set_other}
-use Rattle.std.proofs.lemmas.Bool.Decides.{nat_tests}
+use Rattle.am_chain_lists.proofs.Words.{split, ◌≡◌, ◌≢◌, ◌⊎◌, ⊎_elim, inl, inr, ℕ, zero, suc, ◌+◌, ◌%◌, ◌<◌, ◌≤◌, ◌==◌, ◌&&◌, ◌||◌, nat_lt, nat_le, Bool}
+use Rattle.am_chain_lists.proofs.Words.{true, false, not, List, [], ◌∷◌, length, get_or, slice_index, refl, sym, ◌∙◌, subst, arith, get_or-set_same}
+use Rattle.am_chain_lists.proofs.Words.{get_or-set_other, nat_tests, list_all, range_with_len, Stamp, Image, Row, Entry, Data, Join, Leave, View, has}
+use Rattle.am_chain_lists.proofs.Words.{place_of, life_of, is_within, stamp_lt, blank_row, is_blank_row, is_blank, after, fits, members_of, member_life}
+use Rattle.am_chain_lists.proofs.Words.{at_place, with_row, row_after_view, get_or-by_place, length-by_place}
 use Rattle.std.proofs.Math.ListN as listn
-use Rattle.std.specs.List.{list_all, range_with_len}
-use Rattle.am_base.specs.declared.name.Stamp.{Stamp}
-use Rattle.am_base.specs.declared.image.Image.{Image}
-use Rattle.am_base.specs.declared.image.Row.{Row}
-use Rattle.am_base.specs.declared.entry.Entry.{Entry}
-use Rattle.am_base.specs.declared.entry.Entry.TheVariants.{Data, Join, Leave, View}
-use Rattle.am_base.specs.Names.{has, place_of, life_of, is_within}
-use Rattle.am_base.specs.Stamps.{stamp_lt}
-use Rattle.am_base.specs.Lists.{blank_row, is_blank_row, is_blank, after, fits, members_of, member_life, at_place, with_row, row_after_view}
-use Rattle.am_base.proofs.Places.{get_or-by_place, length-by_place}
 
 -- the row of a place
 abbrev pub row_at : Image → ℕ → Row
@@ -29,9 +21,8 @@ pub record Past (r : Row) (life : ℕ) : Type 0 where
   pub joined : 0 < r.joined
   pub gone : (life < r.life) ⊎ ((r.life ≡ life) × (0 < r.left))
 
-pub by_cases : {R : Type 0} (b : Bool) → (b ≡ true → R) → (b ≡ false → R) → R
-by_cases true f g = f refl
-by_cases false f g = g refl
+pub low_or_above : (a b : ℕ) → (a ≤ b) ⊎ (b < a)
+low_or_above a b = grind arith
 
 pub and_left : (a b : Bool) → (a && b) ≡ true → a ≡ true
 and_left true b h = refl
@@ -78,7 +69,7 @@ mod16 n = omega arith
 pub row_set : (image : Image) (name place : ℕ) (r : Row) → length image.rows ≡ 16
     → ((place ≡ place_of name) × (row_at (with_row image name r) place ≡ r))
     ⊎ ((place ≢ place_of name) × (row_at (with_row image name r) place ≡ row_at image place))
-row_set image name place r long = by_cases (place == place_of name)
+row_set image name place r long = split (place == place_of name)
     (λ t. let e : place ≡ place_of name = grind (arith, nat_tests) in
     let b = mod16 name in
     let w : place_of name < length image.rows = omega arith in
@@ -91,11 +82,11 @@ long_set image name r long = listn.length-set image.rows (place_of name) r ∙ l
 
 pub long_after : (image : Image) (n : ℕ) (e : Entry) → length image.rows ≡ 16 → length (after image n e).rows ≡ 16
 unfolding after
-long_after image n (Data from req body) long = by_cases ((at_place image from).life == life_of from)
+long_after image n (Data from req body) long = split ((at_place image from).life == life_of from)
     (λ t. rw t (long_set image from (record (at_place image from) { last = req }) long))
     (λ f. rw f long)
 long_after image n (Join name) long = long_set image name (record { life = life_of name; joined = n; left = 0; last = 0 }) long
-long_after image n (Leave name) long = by_cases ((at_place image name).life == life_of name)
+long_after image n (Leave name) long = split ((at_place image name).life == life_of name)
     (λ t. rw t (long_set image name (record (at_place image name) { left = n }) long))
     (λ f. rw f long)
 long_after image n (View stamp members resilience) long = length-by_place _
@@ -117,8 +108,7 @@ in_left r n life up h = record { joined = h.joined; gone = inr (h.is, up) }
 past_left : (r : Row) (n life : ℕ) → 0 < n → Past r life → Past (record r { left = n }) life
 past_left r n life up h = record {
   joined = h.joined;
-  gone =
-      ⊎_elim (λ (x : life < r.life). inl x) (λ (x : (r.life ≡ life) × (0 < r.left)). inr (x.0, up)) h.gone;
+  gone = ⊎_elim (λ (x : life < r.life). inl x) (λ (x : (r.life ≡ life) × (0 < r.left)). inr (x.0, up)) h.gone;
 }
 
 -- a name's Join fits no member's place, and a past one's only with a greater life
@@ -144,7 +134,7 @@ blank_joined image place h =
     grind (arith, nat_tests)
 
 not_blank : (image : Image) (place : ℕ) → 0 < (row_at image place).joined → is_blank image ≡ false
-not_blank image place up = by_cases (is_blank image) (λ t. let z = blank_joined image place t in absurd (omega arith)) (λ f. f)
+not_blank image place up = split (is_blank image) (λ t. let z = blank_joined image place t in absurd (omega arith)) (λ f. f)
 
 pub row_view : (image : Image) (n : ℕ) (stamp : Stamp) (members : List ℕ) (resilience place : ℕ) → place < 16
     → row_at (after image n (View stamp members resilience)) place ≡ row_after_view (is_blank image) n (slice_index members place) (row_at image place)
@@ -179,7 +169,7 @@ was_joined : (r : Row) (life : ℕ) → Was r life → 0 < r.joined
 was_joined r life h = ⊎_elim (λ (x : In r life). x.joined) (λ (x : Past r life). x.joined) h
 
 viewed_keeps : (P : Row → Type 0) (r : Row) (n life given : ℕ) → Lasting life P → 0 < n → P r → P (row_after_view false n given r)
-viewed_keeps P r n life given k up h = by_cases (nat_lt 0 (member_life r) && not (member_life r == given))
+viewed_keeps P r n life given k up h = split (nat_lt 0 (member_life r) && not (member_life r == given))
     (λ t. rw t (k.left r n up h))
     (λ f. rw f h)
 
@@ -194,14 +184,14 @@ set_keeps P image name place r long keeps h = ⊎_elim
 pub lasts_after : (P : Row → Type 0) (image : Image) (n : ℕ) (e : Entry) (place life : ℕ) → Lasting life P → length image.rows ≡ 16 → place < 16 → 0 < n
     → fits image e ≡ true → P (row_at image place) → P (row_at (after image n e) place)
 unfolding after
-lasts_after P image n (Data from req body) place life k long low up f h = by_cases ((at_place image from).life == life_of from)
+lasts_after P image n (Data from req body) place life k long low up f h = split ((at_place image from).life == life_of from)
     (λ t. rw t (set_keeps P image from place (record (at_place image from) { last = req }) long (λ is x. k.served (at_place image from) req x) h))
     (λ f. rw f h)
 lasts_after P image n (Join name) place life k long low up f h =
     let new : Row = record { life = life_of name; joined = n; left = 0; last = 0 } in
     set_keeps P image name place new long
     (λ is x. k.past new (record { joined = up; gone = inl (join_fits image name life f (k.was (at_place image name) x)) })) h
-lasts_after P image n (Leave name) place life k long low up f h = by_cases ((at_place image name).life == life_of name)
+lasts_after P image n (Leave name) place life k long low up f h = split ((at_place image name).life == life_of name)
     (λ t. rw t (set_keeps P image name place (record (at_place image name) { left = n }) long (λ is x. k.left (at_place image name) n up x) h))
     (λ f. rw f h)
 lasts_after P image n (View stamp members resilience) place life k long low up f h =
@@ -225,7 +215,7 @@ Spares name (Join who) = Unit {0}
 Spares name (Leave who) = who ≢ name
 Spares name (View stamp members resilience) = ⊥
 
-same_name : (a b : ℕ) → place_of a ≡ place_of b → life_of a ≡ life_of b → a ≡ b
+pub same_name : (a b : ℕ) → place_of a ≡ place_of b → life_of a ≡ life_of b → a ≡ b
 same_name a b p l = omega arith
 
 join_free : (image : Image) (who life : ℕ) → fits image (Join who) ≡ true → In (at_place image who) life → ⊥
@@ -237,7 +227,7 @@ pub in_after : (image : Image) (n : ℕ) (e : Entry) (name : ℕ) → length ima
 unfolding after
 in_after image n (Data from req body) name long f s h =
     let P : Row → Type 0 = λ r. In r (life_of name) in
-    by_cases ((at_place image from).life == life_of from)
+    split ((at_place image from).life == life_of from)
     (λ t. rw t (set_keeps P image from (place_of name) (record (at_place image from) { last = req }) long
     (λ is x. in_data (at_place image from) req (life_of name) x) h))
     (λ f. rw f h)
@@ -245,7 +235,7 @@ in_after image n (Join who) name long f s h = set_keeps (λ r. In r (life_of nam
     (record { life = life_of who; joined = n; left = 0; last = 0 }) long (λ is x. absurd (join_free image who (life_of name) f x)) h
 in_after image n (Leave who) name long f s h =
     let P : Row → Type 0 = λ r. In r (life_of name) in
-    by_cases ((at_place image who).life == life_of who)
+    split ((at_place image who).life == life_of who)
     (λ t. rw t (set_keeps P image who (place_of name) (record (at_place image who) { left = n }) long (λ is x.
     let l : (at_place image who).life ≡ life_of who = grind (arith, nat_tests) in
     absurd (s (same_name who name (sym is) (sym l ∙ x.is)))) h))
@@ -255,10 +245,10 @@ in_after image n (View stamp members resilience) name long f s h = absurd s
 -- a View's members are the members after it
 viewed_in : (first : Bool) (n life given : ℕ) (r : Row) → 0 < n → 0 < life → (first ≡ true → r.joined ≡ 0) → In (row_after_view first n given r) life → given
     ≡ life
-viewed_in true n life given r up pos free h = by_cases (given == 0)
+viewed_in true n life given r up pos free h = split (given == 0)
     (λ t. let g : In r life = rw t at h in let j = g.joined in let z = free refl in absurd (omega arith))
     (λ f. let g : In (record { life = given; joined = 1; left = 0; last = 0 }) life = rw f at h in g.is)
-viewed_in false n life given r up pos free h = by_cases (nat_lt 0 (member_life r) && not (member_life r == given))
+viewed_in false n life given r up pos free h = split (nat_lt 0 (member_life r) && not (member_life r == given))
     (λ t. let g : In (record r { left = n }) life = rw t at h in let l = g.left in absurd (omega arith))
     (λ f. let g : In r life = rw f at h in let j = g.joined in let l = g.left in let i = g.is in grind (arith, nat_tests))
 
@@ -271,7 +261,7 @@ in_viewed image n stamp members resilience place life low up pos h =
 within_at : (a b : List ℕ) (from n place : ℕ) → list_all (λ p. (slice_index a p == 0) || (slice_index a p == slice_index b p)) (range_with_len from n) ≡ true
     → from ≤ place → place < from + n → 0 < slice_index a place → slice_index b place ≡ slice_index a place
 within_at a b from zero place h l u pos = absurd (omega arith)
-within_at a b from (suc n) place h l u pos = by_cases (from == place)
+within_at a b from (suc n) place h l u pos = split (from == place)
     (λ t. let e : from ≡ place = grind (arith, nat_tests) in let z : 0 < slice_index a from = subst (λ p. 0 < slice_index a p) (sym e) pos in
     let w : slice_index b from ≡ slice_index a from = grind (arith, nat_tests) in subst (λ p. slice_index b p ≡ slice_index a p) e w)
     (λ f. let e : from ≢ place = grind (arith, nat_tests) in
@@ -279,12 +269,12 @@ within_at a b from (suc n) place h l u pos = by_cases (from == place)
     ≡ true = grind (arith, nat_tests) in w) (omega arith) (omega arith) pos)
 
 first_member : (n given life : ℕ) (r : Row) → 0 < life → given ≡ life → In (row_after_view true n given r) life
-first_member n given life r pos e = by_cases (given == 0)
+first_member n given life r pos e = split (given == 0)
     (λ t. let z : given ≡ 0 = grind (arith, nat_tests) in absurd (omega arith))
     (λ f. let one : 0 < 1 = omega arith in rw f (record { joined = one; left = refl; is = e }))
 
 kept_member : (n given life : ℕ) (r : Row) → given ≡ life → In r life → In (row_after_view false n given r) life
-kept_member n given life r e h = by_cases (nat_lt 0 (member_life r) && not (member_life r == given))
+kept_member n given life r e h = split (nat_lt 0 (member_life r) && not (member_life r == given))
     (λ t. let j = h.joined in let l = h.left in let i = h.is in absurd (let z : ⊥ = grind (arith, nat_tests) in z))
     (λ f. rw f h)
 
@@ -296,7 +286,7 @@ unfolding fits
 viewed_member image n stamp members resilience name long up f h old =
     let given : slice_index members (place_of name) ≡ life_of name = grind (arith, nat_tests) in
     let pos : 0 < life_of name = omega arith in
-    rw (row_view image n stamp members resilience (place_of name) (mod16 name)) (by_cases (is_blank image)
+    rw (row_view image n stamp members resilience (place_of name) (mod16 name)) (split (is_blank image)
     (λ t. rw t (first_member n (slice_index members (place_of name)) (life_of name) (row_at image (place_of name)) pos given))
     (λ b. let w = (view_parts image stamp members resilience f).within b in
     let low = mod16 name in

@@ -1,11 +1,6 @@
 -- Votes, and what voters send of their lists.
-use Rattle.std.proofs.Common.{◌≡◌, ◌≢◌, ◌⊎◌, ⊎_elim, inl, ℕ, ◌<◌, ◌≤◌, true, List, length, Option, Some, None, sym, ap, ◌∙◌, subst, arith}
-use Rattle.am_base.specs.declared.entry.Entry.{Entry}
-use Rattle.am_chain_lists.specs.Whole.{Begins, mem, key}
-use Rattle.am_chain_lists.proofs.Prefixes.{begins_refl, begins_trans}
-use Rattle.am_chain_lists.proofs.Order.{key_by}
-use Rattle.am_chain_moves.specs.Group.{put2, Group, IsThere, IsUp}
-use Rattle.am_chain_moves.specs.Kept.{Kept}
+use Rattle.am_chain_moves.proofs.Words.{◌≡◌, ◌≢◌, ◌⊎◌, ⊎_elim, inl, ℕ, ◌<◌, ◌≤◌, true, List, length, Option, Some, None, sym, ap, ◌∙◌, subst, arith, Entry}
+use Rattle.am_chain_moves.proofs.Words.{Begins, mem, key, begins_refl, begins_trans, key_by, put2, Group, IsThere, IsUp, Kept}
 use Rattle.am_chain_moves.proofs.Puts.{put2_cases}
 
 some_same : {x y : List Entry} → ◌≡◌ {A = Option (List Entry)} (Some x) (Some y) → x ≡ y
@@ -17,9 +12,8 @@ module _ (s : Group) (k : Kept s) where
     abbrev p : ℕ
     p = key (s.node i).promise
 
-    pub shows_keeps : IsThere (s.node i) → (s.node i).promise.by < 256 → (s.node i).promise.by ≢ i
-        → p ≤ key (s.node (s.node i).promise.by).promise → s.shown p i ≡ None
-        → Kept (record s { shown = put2 s.shown p i (Some (s.node i).list) })
+    pub shows_keeps : IsThere (s.node i) → (s.node i).promise.by < 256 → (s.node i).promise.by ≢ i → p ≤ key (s.node (s.node i).promise.by).promise
+        → s.shown p i ≡ None → Kept (record s { shown = put2 s.shown p i (Some (s.node i).list) })
     shows_keeps t small other begun none = record {
       views = k.views;
       group = k.group;

@@ -1,12 +1,8 @@
 -- What a change of one node leaves as it was.
-use Rattle.std.proofs.Common.{◌≡◌, ◌≢◌, ◌⊎◌, ⊎_elim, inl, inr, ℕ, ◌≤◌, true, false, List, length, Some, refl, sym, ap, ◌∙◌, subst, arith}
-use Rattle.am_base.specs.declared.entry.Entry.{Entry}
-use Rattle.am_chain_lists.specs.Whole.{Begins, key}
-use Rattle.am_chain_lists.proofs.Prefixes.{begins_refl, begins_trans, begins_length}
-use Rattle.am_chain_moves.specs.Group.{put, Node, opening, Views, Group, IsThere, IsUp}
-use Rattle.am_chain_moves.specs.Moves.{with_node}
-use Rattle.am_chain_moves.specs.Kept.{NodeOk, ShownOk, ServedOk, Witness, DepartedOk, Kept}
-use Rattle.am_chain_moves.proofs.Puts.{by_cases, put_cases, put_same, put_at}
+use Rattle.am_chain_moves.proofs.Words.{split, ◌≡◌, ◌≢◌, ◌⊎◌, ⊎_elim, inl, inr, ℕ, ◌≤◌, true, false, List, length, Some, refl, sym, ap, ◌∙◌, subst, arith}
+use Rattle.am_chain_moves.proofs.Words.{Entry, Begins, key, begins_refl, begins_trans, begins_length, put, Node, opening, Views, Group, IsThere, IsUp}
+use Rattle.am_chain_moves.proofs.Words.{with_node, NodeOk, ShownOk, ServedOk, Witness, DepartedOk, Kept}
+use Rattle.am_chain_moves.proofs.Puts.{put_cases, put_same, put_at}
 
 -- a node later on: it has no less, and it isn't there again nor stays again
 pub record Later (a b : Node) : Type 0 where
@@ -45,8 +41,7 @@ shown_later a b x name l up h =
       is = h.is;
       small = h.small;
       other = h.other;
-      begun =
-          omega arith;
+      begun = omega arith;
     }
 
 pub served_later : (a b : ℕ → Node) (views : Views) (x : ℕ) (l : List Entry) → ((j : ℕ) → Later (a j) (b j)) → ServedOk a views x l → ServedOk b views x l
@@ -121,7 +116,7 @@ module _ (s : Group) (k : Kept s) (i : ℕ) (n : Node) where
         (λ (o : DepartedOk s.node s.views i). departed_later s.node (put s.node i n) s.views i up o)
         (gone h))
         (λ d other h. departed_later s.node (put s.node i n) s.views d up (k.departed d h));
-    enough = λ x decided holders counts stored much. by_cases (holders i)
+    enough = λ x decided holders counts stored much. split (holders i)
         (λ t. ⊎_elim
         (λ (o : (n.list ≡ (s.node i).list) × (IsUp n → IsUp (s.node i))).
         k.enough x decided holders counts (λ h y. ⊎_elim

@@ -1,21 +1,12 @@
 -- The group list grows, and the chain does.
-use Rattle.std.proofs.Common.{◌≡◌, ◌≢◌, ◌⊎◌, ⊎_elim, ℕ, zero, suc, ◌+◌, ◌-◌, ◌<◌, ◌≤◌, min, true, false, List, [], ◌∷◌, ◌++◌, length, take, Some, slice_get}
-use Rattle.std.proofs.Common.{refl, sym, ap, ◌∙◌, subst, arith}
-use Rattle.std.proofs.lemmas.List.{take-append-le}
-use Rattle.am_base.specs.declared.entry.Entry.{Entry}
-use Rattle.am_base.specs.declared.entry.Entry.TheVariants.{Data, Join, Leave, View}
-use Rattle.am_base.specs.Names.{has}
-use Rattle.am_base.specs.Lists.{members_of, fits}
-use Rattle.am_base.specs.Fronts.{counted_of}
-use Rattle.am_chain_lists.specs.Whole.{Begins, IsGood, NotView, SmallName, image_of, mem, view_of, key, resilience_of}
-use Rattle.am_chain_lists.proofs.Prefixes.{begins_refl, begins_more, begins_trans, begins_length, begins_both, begins_pushed, begins_take, length_take}
-use Rattle.am_chain_lists.proofs.Rows.{Spares}
-use Rattle.am_chain_lists.proofs.Members.{mem_push, good_push}
-use Rattle.am_chain_lists.proofs.Order.{view_push}
-use Rattle.am_chain_moves.specs.Group.{put, how_many, counted_in, need_of, Node, opening, Views, Group, chain_of, IsThere, IsUp, Leads, MayAccept}
-use Rattle.am_chain_moves.specs.Kept.{NodeOk, ServedOk, Witness, DepartedOk, ViewsOk, Kept}
-use Rattle.am_chain_moves.proofs.Puts.{put_cases, put_same, put_at, by_cases}
-use Rattle.am_chain_moves.proofs.Frames.{Later, later_all, shown_later, served_later, witness_later, departed_later}
+use Rattle.am_chain_moves.proofs.Words.{low_or_above, split, ◌≡◌, ◌≢◌, ◌⊎◌, ⊎_elim, ℕ, zero, suc, ◌+◌, ◌-◌, ◌<◌, ◌≤◌, min, true, false, List, [], ◌∷◌, ◌++◌}
+use Rattle.am_chain_moves.proofs.Words.{length, take, Some, slice_get, refl, sym, ap, ◌∙◌, subst, arith, take-append-le, Entry, View, has, members_of, fits}
+use Rattle.am_chain_moves.proofs.Words.{counted_of, Begins, IsGood, NotView, SmallName, image_of, mem, view_of, key, resilience_of, begins_refl, begins_more}
+use Rattle.am_chain_moves.proofs.Words.{begins_trans, begins_length, begins_both, begins_pushed, begins_take, length_take, Spares, mem_push, good_push}
+use Rattle.am_chain_moves.proofs.Words.{view_push, put, how_many, counted_in, need_of, Node, opening, Views, Group, chain_of, IsThere, IsUp, Leads, MayAccept}
+use Rattle.am_chain_moves.proofs.Words.{NodeOk, ServedOk, Witness, DepartedOk, ViewsOk, Kept}
+use Rattle.am_chain_moves.proofs.{Puts.put_cases, Puts.put_same, Puts.put_at, Frames.Later, Frames.later_all, Frames.shown_later, Frames.served_later}
+use Rattle.am_chain_moves.proofs.{Frames.witness_later, Frames.departed_later}
 
 pub take_more : {a b : List Entry} (n : ℕ) → Begins a b → n ≤ length a → take n b ≡ take n a
 take_more {a} {b} n h l = ap (take n) (sym h.same) ∙ take-append-le n a h.rest l
@@ -102,9 +93,6 @@ accept_witness node list group to n start may low high =
       enough = subst (λ k. k ≤ how_many held.holders) (need_more m it up w) held.enough;
     }
 
-two : (a b : ℕ) → (a ≤ b) ⊎ (b < a)
-two a b = grind arith
-
 -- more of the chain is accepted
 pub group_change : (s : Group) (k : Kept s) (list : List Entry) (to : ℕ) → list ≡ chain_of s.views → MayAccept s.node list (length s.group) to
     → Kept (record s { group = take to list })
@@ -125,7 +113,7 @@ group_change s k list to is may =
       witness = λ n low high. ⊎_elim
           (λ (h : n ≤ length s.group). witness_more s.node s.group (take to list) n grows (omega arith) (k.witness n low h))
           (λ (h : length s.group < n). accept_witness s.node list s.group to n (λ j l. ((k.each j).joined l).accepted) may h (omega arith))
-          (two n (length s.group));
+          (low_or_above n (length s.group));
       departed = k.departed;
       enough = k.enough;
     }
@@ -161,10 +149,8 @@ module _ (s : Group) (k : Kept s) (i : ℕ) (e : Entry) (leads : Leads i (s.node
       (put_cases s.views.line (key (view_of (s.node i).list)) ((s.node i).list ++ e ∷ []) x)
 
   small_plain : (e : Entry) → NotView e → SmallName e
-  small_plain (Data from req body) h = tt
-  small_plain (Join name) h = tt
-  small_plain (Leave name) h = tt
   small_plain (View stamp members resilience) h = absurd h
+  small_plain _ h = tt
 
   pub good_grown : IsGood ((s.node i).list ++ e ∷ [])
   good_grown = good_push (s.node i).list e (subst IsGood (sym list_is) k.views.good) fit (small_plain e plain)
@@ -207,8 +193,7 @@ module _ (s : Group) (k : Kept s) (i : ℕ) (e : Entry) (leads : Leads i (s.node
           list = o.list;
           member = o.member;
           ended = o.ended;
-          lines =
-              λ x d h. begins_trans (o.lines x d h) (line_grows x);
+          lines = λ x d h. begins_trans (o.lines x d h) (line_grows x);
         };
         ballot = λ u b. let o = ok.ballot u b in record { small = o.small; above = o.above; by = o.by; staying = o.staying; member = o.member };
         complete = ok.complete;
@@ -259,7 +244,7 @@ module _ (s : Group) (k : Kept s) (i : ℕ) (e : Entry) (leads : Leads i (s.node
             (λ (o : DepartedOk s.node grown i). departed_later s.node (put s.node i n) grown i up o)
             (gone h))
             (λ d other h. departed_grows d (k.departed d h));
-        enough = λ x decided holders counts stored much. by_cases (holders i)
+        enough = λ x decided holders counts stored much. split (holders i)
             (λ t. subst (Begins (opening (s.views.chosen x))) (ap (λ (m : Node). m.list) (put_same s.node i n) ∙ chain_n) (stored i t))
             (λ f. begins_trans (k.enough x decided holders counts (λ h y. ⊎_elim
             (λ (z : (h ≡ i) × (put s.node i n h ≡ n)). let u : holders i ≡ true = subst (λ j. holders j ≡ true) z.0 y in absurd (cc))
@@ -277,8 +262,7 @@ module _ (s : Group) (k : Kept s) (i : ℕ) (e : Entry) (leads : Leads i (s.node
       up_all = later_all s.node i n (record {
         list = subst (Begins (s.node i).list) (sym list_n) (begins_more (s.node i).list (e ∷ []));
         log = λ h. log;
-        start =
-            λ h. start;
+        start = λ h. start;
         there = λ h. leads.up.there;
         staying = staying;
         promise = let z = ap key promise in omega arith;

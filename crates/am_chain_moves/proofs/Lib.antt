@@ -1,3 +1,4 @@
+pub mod Words
 pub mod Puts
 pub mod Frames
 pub mod Start

@@ -1,20 +1,10 @@
 -- What each move of one node keeps of that node.
-use Rattle.std.proofs.Common.{◌≡◌, ◌≢◌, ◌⊎◌, ⊎_elim, ℕ, ◌+◌, ◌<◌, ◌≤◌, Bool, true, false, List, [], ◌∷◌, ◌++◌, length, take, Some, slice_get, refl, sym, ap}
-use Rattle.std.proofs.Common.{◌∙◌, subst, arith, length-append}
-use Rattle.std.proofs.lemmas.List.{take-append-le}
-use Rattle.std.proofs.lemmas.Option.{slice_get_within}
-use Rattle.am_base.specs.declared.name.Stamp.{Stamp}
-use Rattle.am_base.specs.declared.entry.Entry.{Entry}
-use Rattle.am_base.specs.declared.entry.Entry.TheVariants.{View}
-use Rattle.am_base.specs.Names.{rank_of}
-use Rattle.am_chain_lists.specs.Whole.{Begins, mem, view_of, key}
-use Rattle.am_chain_lists.proofs.Prefixes.{begins_more, begins_trans, begins_length, begins_both, begins_same, begins_push, length_push, below_begins}
-use Rattle.am_chain_lists.proofs.Prefixes.{below_length, below_of, begins_take, length_take}
-use Rattle.am_chain_lists.proofs.Members.{mem_between}
-use Rattle.am_chain_lists.proofs.Order.{view_up}
-use Rattle.am_chain_moves.specs.Group.{Node, opening, Views, Group, chain_of, current_of, IsThere, IsUp, IsOngoing}
-use Rattle.am_chain_moves.specs.Moves.{own_stamp, longer, MayWelcome}
-use Rattle.am_chain_moves.specs.Kept.{FrontsOk, LateOk, BallotOk, NodeOk, ServedOk, ViewsOk}
+use Rattle.am_chain_moves.proofs.Words.{low_or_above, ◌≡◌, ◌≢◌, ◌⊎◌, ⊎_elim, ℕ, ◌+◌, ◌<◌, ◌≤◌, Bool, true, false, List, [], ◌∷◌, ◌++◌, length, take, Some}
+use Rattle.am_chain_moves.proofs.Words.{slice_get, refl, sym, ap, ◌∙◌, subst, arith, length-append, take-append-le, slice_get_within, Stamp, Entry, View}
+use Rattle.am_chain_moves.proofs.Words.{rank_of, Begins, mem, view_of, key, begins_more, begins_trans, begins_length, begins_both, begins_same, begins_push}
+use Rattle.am_chain_moves.proofs.Words.{length_push, below_begins, below_length, below_of, begins_take, length_take, mem_between, view_up, Node, opening}
+use Rattle.am_chain_moves.proofs.Words.{Views, Group, chain_of, current_of, IsThere, IsUp, IsOngoing, own_stamp, longer, MayWelcome, FrontsOk, LateOk}
+use Rattle.am_chain_moves.proofs.Words.{BallotOk, NodeOk, ServedOk, ViewsOk}
 
 -- a list that goes on
 pub fronts_longer : (group : List Entry) (m n : Node) (more : List Entry) → n.list ≡ m.list ++ more → n.told ≡ m.told → n.acc ≡ m.acc → FrontsOk group m
@@ -118,10 +108,10 @@ not_late views group i m v u staying ok = ⊎_elim
     let now = ok.stays u.there staying o.before (begins_trans shorter chain) o.member in
     let still = mem_between {b = o.before ++ o.last ∷ []} i v.good shorter chain o.member now in
     let ended = o.ended in absurd (cc))
-    (two (key views.current) (key m.promise))
+    (low_or_above (key views.current) (key m.promise))
   where
-    two : (a b : ℕ) → (a ≤ b) ⊎ (b < a)
-    two a b = grind arith
+    low_or_above : (a b : ℕ) → (a ≤ b) ⊎ (b < a)
+    low_or_above a b = grind arith
 
 pub own_above : (i : ℕ) (m : Node) → m.promise.by < 256 → key m.promise < key (own_stamp i m)
 unfolding key
@@ -158,11 +148,10 @@ begin_ok views group i m v small u staying member ok =
     }
 
 -- One entry more, which the chain has. What follows from it but for ballots and late nodes is the same wherever it comes from.
-pub longer_ok : (views : Views) (group : List Entry) (i : ℕ) (m : Node) (e : Entry) → IsUp m → Begins (m.list ++ e ∷ []) (chain_of views) → IsOngoing m.list i
-    → (m.promise ≡ view_of (m.list ++ e ∷ []) → (view_of (m.list ++ e ∷ [])).by ≡ i → ⊥)
-    → (key m.promise < key views.current → LateOk views i (longer m e))
-    → (m.ballot ≡ true → BallotOk views i (longer m e))
-    → NodeOk views group i m → NodeOk views group i (longer m e)
+pub longer_ok : (views : Views) (group : List Entry) (i : ℕ) (m : Node) (e : Entry) → IsUp m → Begins (m.list ++ e ∷ []) (chain_of views)
+    → IsOngoing m.list i → (m.promise ≡ view_of (m.list ++ e ∷ []) → (view_of (m.list ++ e ∷ [])).by ≡ i → ⊥)
+    → (key m.promise < key views.current → LateOk views i (longer m e)) → (m.ballot ≡ true → BallotOk views i (longer m e)) → NodeOk views group i m
+    → NodeOk views group i (longer m e)
 longer_ok views group i m e u chain ongoing leads late ballot ok =
     let there : IsThere (longer m e) → IsThere m = λ t. record { goes = t.goes; stays = t.stays } in
     let up : IsUp (longer m e) → IsUp m = λ u. record { log = u.log; there = there u.there } in
@@ -183,8 +172,8 @@ longer_ok views group i m e u chain ongoing leads late ballot ok =
       heard = ok.heard;
     }
   where
-    two : (a b : ℕ) → a < b + 1 → (a < b) ⊎ (a ≡ b)
-    two a b h = grind arith
+    low_or_above : (a b : ℕ) → a < b + 1 → (a < b) ⊎ (a ≡ b)
+    low_or_above a b h = grind arith
 
     own_go : (d a : List Entry) → Begins a d → mem a i ≡ true → Begins d (m.list ++ e ∷ []) → length d < length (m.list ++ e ∷ []) → mem d i ≡ true
     own_go d a h a_in below short =
@@ -194,10 +183,7 @@ longer_ok views group i m e u chain ongoing leads late ballot ok =
         (λ (l : length d ≡ length m.list).
         let all : d ≡ m.list = begins_same (begins_both below (begins_more m.list (e ∷ [])) (omega arith)) (omega arith) in
         subst (λ l. mem l i ≡ true) (sym all) (ongoing a (subst (Begins a) all h) a_in))
-        (two (length d) (length m.list) (omega arith))
-
-two : (a b : ℕ) → (a ≤ b) ⊎ (b < a)
-two a b = grind arith
+        (low_or_above (length d) (length m.list) (omega arith))
 
 -- the next entry of the line of a decided promise is the next of the chain
 pub store_late : (views : Views) (i : ℕ) (m : Node) (e : Entry) → views.decided (key m.promise) ≡ true → IsOngoing m.list i
@@ -213,7 +199,7 @@ store_late views i m e decided ongoing next o =
     let z : mem (o.before ++ o.last ∷ []) i ≡ true = subst (λ l. mem l i ≡ true) same still in
     let ended = o.ended in absurd (cc))
     (λ (h : length m.list < length (o.before ++ o.last ∷ [])). h)
-    (two (length (o.before ++ o.last ∷ [])) (length m.list)) in
+    (low_or_above (length (o.before ++ o.last ∷ [])) (length m.list)) in
     record { before = o.before; last = o.last; list = begins_both all line (omega arith); member = o.member; ended = o.ended; lines = o.lines }
 
 pub store_chain : (views : Views) (group : List Entry) (i : ℕ) (m : Node) (e : Entry) → ViewsOk views → IsUp m → views.decided (key m.promise) ≡ true
@@ -226,7 +212,7 @@ store_chain views group i m e v u decided ongoing next ok = ⊎_elim
     (λ (h : key m.promise < key views.current).
     let o = store_late views i m e decided ongoing next (ok.late u h) in
     begins_trans o.list (o.lines (key views.current) v.now (omega arith)))
-    (two (key views.current) (key m.promise))
+    (low_or_above (key views.current) (key m.promise))
 
 pub store_ok : (views : Views) (group : List Entry) (i : ℕ) (m : Node) (e : Entry) → ViewsOk views → IsUp m → views.decided (key m.promise) ≡ true
     → m.promise.by ≢ i → IsOngoing m.list i → slice_get (views.line (key m.promise)) (length m.list) ≡ Some e → NodeOk views group i m
@@ -278,7 +264,7 @@ welcome_now s j stamp base join w v ok = ⊎_elim
     let now = ok.stays w.there w.staying (take join chosen) (begins_trans part whole) in_then in
     let p = ok.promised w.there (mem_between j v.good part whole in_then now) in
     let q = w.promise in omega arith)
-    (two (key s.views.current) (key stamp))
+    (low_or_above (key s.views.current) (key stamp))
 
 pub welcome_ok : (s : Group) (j : ℕ) (stamp : Stamp) (base join : ℕ) → MayWelcome s j stamp base join → ViewsOk s.views → Begins s.group (chain_of s.views)
     → NodeOk s.views s.group j (s.node j) → NodeOk s.views s.group j
@@ -299,8 +285,7 @@ welcome_ok s j stamp base join w v g ok =
         told = omega arith;
         acc = omega arith;
         within = omega arith;
-        delivered =
-            begins_trans (begins_take base (take base s.group)) (begins_take base s.group);
+        delivered = begins_trans (begins_take base (take base s.group)) (begins_take base s.group);
       };
       leads = λ l. absurd (w.other (ap (λ (s : Stamp). s.by) l.acts ∙ l.by));
       promised = λ t h. now;

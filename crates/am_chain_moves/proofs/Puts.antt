@@ -1,15 +1,10 @@
 -- Changed functions, and counts.
-use Rattle.std.proofs.Common.{◌≡◌, ◌≢◌, ◌⊎◌, ⊎_elim, inl, inr, ℕ, zero, suc, ◌<◌, ◌≤◌, ◌==◌, ◌&&◌, Bool, true, false, refl, sym, subst, arith}
-use Rattle.std.proofs.lemmas.Bool.Decides.{nat_tests}
-use Rattle.am_chain_moves.specs.Group.{put, put2, count}
-
-pub by_cases : {R : Type 0} (b : Bool) → (b ≡ true → R) → (b ≡ false → R) → R
-by_cases true f g = f refl
-by_cases false f g = g refl
+use Rattle.am_chain_moves.proofs.Words.{split, ◌≡◌, ◌≢◌, ◌⊎◌, ⊎_elim, inl, inr, ℕ, zero, suc, ◌<◌, ◌≤◌, ◌==◌, ◌&&◌, Bool, true, false, refl, sym, subst}
+use Rattle.am_chain_moves.proofs.Words.{arith, nat_tests, put, put2, count}
 
 pub put_cases : {A : Type 0} (f : ℕ → A) (i : ℕ) (x : A) (j : ℕ) → ((j ≡ i) × (put f i x j ≡ x)) ⊎ ((j ≢ i) × (put f i x j ≡ f j))
 unfolding put
-put_cases f i x j = by_cases (j == i)
+put_cases f i x j = split (j == i)
     (λ t. inl (grind (arith, nat_tests), rw t refl))
     (λ t. inr (grind (arith, nat_tests), rw t refl))
 
@@ -29,7 +24,7 @@ put_at P f i x new old j = ⊎_elim
 pub put2_cases : {A : Type 0} (f : ℕ → ℕ → A) (a b : ℕ) (x : A) (c d : ℕ)
     → ((c ≡ a) × (d ≡ b) × (put2 f a b x c d ≡ x)) ⊎ (((c ≡ a) × (d ≡ b) → ⊥) × (put2 f a b x c d ≡ f c d))
 unfolding put2
-put2_cases f a b x c d = by_cases ((c == a) && (d == b))
+put2_cases f a b x c d = split ((c == a) && (d == b))
     (λ t. let both : (c ≡ a) × (d ≡ b) = grind (arith, nat_tests) in inl (both.0, both.1, rw t refl))
     (λ t. let no : (c ≡ a) × (d ≡ b) → ⊥ = grind (arith, nat_tests) in inr (no, rw t refl))
 
@@ -39,21 +34,21 @@ unfolding count
 count_within p q zero h = omega arith
 count_within p q (suc n) h =
     let r = count_within p q n h in
-    by_cases (p n)
+    split (p n)
     (λ t. let u = h n t in rw (t, u) (omega arith))
-    (λ t. by_cases (q n) (λ u. rw (t, u) (omega arith)) (λ u. rw (t, u) (omega arith)))
+    (λ t. split (q n) (λ u. rw (t, u) (omega arith)) (λ u. rw (t, u) (omega arith)))
 
 -- and fewer, where one passes the other alone
 pub count_below : (p q : ℕ → Bool) (n k : ℕ) → ((j : ℕ) → p j ≡ true → q j ≡ true) → k < n → p k ≡ false → q k ≡ true → count p n < count q n
 unfolding count
 count_below p q zero k h l x y = absurd (omega arith)
-count_below p q (suc n) k h l x y = by_cases (k == n)
+count_below p q (suc n) k h l x y = split (k == n)
     (λ t. let e : k ≡ n = grind (arith, nat_tests) in
     let a : p n ≡ false = subst (λ m. p m ≡ false) e x in
     let b : q n ≡ true = subst (λ m. q m ≡ true) e y in
     let r = count_within p q n h in rw (a, b) (omega arith))
     (λ t. let e : k ≢ n = grind (arith, nat_tests) in
     let r = count_below p q n k h (omega arith) x y in
-    by_cases (p n)
+    split (p n)
     (λ v. let u = h n v in rw (v, u) (omega arith))
-    (λ v. by_cases (q n) (λ u. rw (v, u) (omega arith)) (λ u. rw (v, u) (omega arith))))
+    (λ v. split (q n) (λ u. rw (v, u) (omega arith)) (λ u. rw (v, u) (omega arith))))

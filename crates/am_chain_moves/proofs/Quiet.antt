@@ -1,23 +1,14 @@
 -- Each move but a decision keeps what is kept, whoever stopped.
-use Rattle.std.proofs.Common.{◌≡◌, ◌≢◌, ◌⊎◌, ⊎_elim, inl, inr, ℕ, ◌<◌, ◌≤◌, Bool, true, false, List, [], ◌∷◌, ◌++◌, length, take, Some, slice_get, refl, sym}
-use Rattle.std.proofs.Common.{ap, ◌∙◌, subst, arith}
-use Rattle.am_base.specs.declared.name.Stamp.{Stamp}
-use Rattle.am_base.specs.declared.entry.Entry.{Entry}
-use Rattle.am_base.specs.declared.entry.Entry.TheVariants.{Data, Join, Leave, View}
-use Rattle.am_base.specs.Lists.{fits}
-use Rattle.am_chain_lists.specs.Whole.{Begins, NotView, image_of, mem, view_of, key}
-use Rattle.am_chain_lists.proofs.Prefixes.{begins_refl, begins_nil, begins_more, begins_trans, begins_length, begins_both, below_begins}
-use Rattle.am_chain_lists.proofs.Rows.{Spares}
-use Rattle.am_chain_lists.proofs.Members.{mem_between, mem_push}
-use Rattle.am_chain_lists.proofs.Order.{key_by}
-use Rattle.am_chain_moves.specs.Group.{put, Node, Group, chain_of, IsThere, IsUp, Leads, IsOngoing, IsHeld, MayAccept}
-use Rattle.am_chain_moves.specs.Moves.{longer, own_stamp, IsAbove, MayNumber, MayWelcome, MayDepart, with_node, with_line}
-use Rattle.am_chain_moves.specs.Kept.{ServedOk, DepartedOk, Kept}
-use Rattle.am_chain_moves.proofs.Puts.{put_cases, put_same, put_other}
-use Rattle.am_chain_moves.proofs.Frames.{Later, later_promise, node_change}
-use Rattle.am_chain_moves.proofs.Nodes.{fronts_longer, flags_ok, fronts_ok, raise_ok, begin_ok, own_above, store_ok, fetch_ok, fetch_chain}
-use Rattle.am_chain_moves.proofs.Nodes.{welcome_ok, welcome_now}
-use Rattle.am_chain_moves.proofs.Fronts.{group_change, chain_change, grown, views_grow, chain_is, good_grown}
+use Rattle.am_chain_moves.proofs.Words.{low_or_above, ◌≡◌, ◌≢◌, ◌⊎◌, ⊎_elim, inl, inr, ℕ, ◌<◌, ◌≤◌, Bool, true, false, List, [], ◌∷◌, ◌++◌, length, take}
+use Rattle.am_chain_moves.proofs.Words.{Some, slice_get, refl, sym, ap, ◌∙◌, subst, arith, Stamp, Entry, Data, Join, Leave, View, fits, Begins, NotView}
+use Rattle.am_chain_moves.proofs.Words.{image_of, mem, view_of, key, begins_refl, begins_nil, begins_more, begins_trans, begins_length, begins_both}
+use Rattle.am_chain_moves.proofs.Words.{below_begins, Spares, mem_between, mem_push, key_by, put, Node, Group, chain_of, IsThere, IsUp, Leads, IsOngoing}
+use Rattle.am_chain_moves.proofs.Words.{IsHeld, MayAccept, longer, own_stamp, IsAbove, MayNumber, MayWelcome, MayDepart, with_node, with_line, ServedOk}
+use Rattle.am_chain_moves.proofs.Words.{DepartedOk, Kept}
+use Rattle.am_chain_moves.proofs.Nodes.{fronts_longer, flags_ok, fronts_ok, raise_ok, begin_ok, own_above, store_ok, fetch_ok, fetch_chain, welcome_ok}
+use Rattle.am_chain_moves.proofs.Nodes.{welcome_now}
+use Rattle.am_chain_moves.proofs.{Puts.put_cases, Puts.put_same, Puts.put_other, Frames.Later, Frames.later_promise, Frames.node_change, Fronts.group_change}
+use Rattle.am_chain_moves.proofs.{Fronts.chain_change, Fronts.grown, Fronts.views_grow, Fronts.chain_is, Fronts.good_grown}
 
 later_longer : (m : Node) (e : Entry) → Later m (longer m e)
 later_longer m e = record {
@@ -28,9 +19,6 @@ later_longer m e = record {
   staying = λ h. h;
   promise = omega arith;
 }
-
-two : (a b : ℕ) → (a ≤ b) ⊎ (b < a)
-two a b = grind arith
 
 leave_fits : (list : List Entry) (i : ℕ) → mem list i ≡ true → fits (image_of list) (Leave i) ≡ true
 unfolding mem fits
@@ -102,7 +90,7 @@ module _ (s : Group) (k : Kept s) where
           let member = mem_between c k.views.good (begins_both chain_c served.chain x) served.chain theirs.member now in
           let q = served.promised c w.there member in absurd (omega arith))
           (λ (x : length list < length (s.node c).list). omega arith)
-          (two (length (s.node c).list) (length list))
+          (low_or_above (length (s.node c).list) (length list))
 
   pub learns_keeps : (i told acc : ℕ) → IsUp (s.node i) → told ≤ length s.group
       → ((x : ℕ) → s.views.decided x ≡ true → key (s.node i).promise < x → told ≤ length (s.views.chosen x).before) → acc ≤ told → acc ≤ length (s.node i).list
@@ -214,10 +202,8 @@ module _ (s : Group) (k : Kept s) where
   accepts_keeps i n l may = group_change s k (s.node i).list n ((k.each i).leads l).chain may
 
   plain_of : (i : ℕ) (e : Entry) → MayNumber s.node i e → NotView e
-  plain_of i (Data from req body) h = tt
-  plain_of i (Join name) h = tt
-  plain_of i (Leave name) h = tt
   plain_of i (View stamp members resilience) h = absurd h
+  plain_of i _ h = tt
 
   -- a numbered entry spares its sequencer and who doesn't leave
   spares_own : (i : ℕ) (e : Entry) → MayNumber s.node i e → Spares i e
@@ -286,8 +272,7 @@ module _ (s : Group) (k : Kept s) where
       (λ h. inr (record {
         before = m.list;
         chain = subst (Begins (m.list ++ e ∷ [])) (sym chain) (begins_refl (m.list ++ e ∷ []));
-        stored =
-            λ j x t stays. let z = ap (λ x. (s.node x).leaving) (alone j x) in absurd (cc);
+        stored = λ j x t stays. let z = ap (λ x. (s.node x).leaving) (alone j x) in absurd (cc);
       }))
       (λ j differ t stays. λ same. differ (sym same))
       (record {

@@ -1,18 +1,8 @@
 -- What a group keeps at its start.
-use Rattle.std.proofs.Common.{◌≡◌, ⊎_elim, ℕ, ◌<◌, ◌≤◌, nat_le, if◌then◌else◌, Bool, true, false, List, [], ◌∷◌, ◌++◌, length, refl, sym, subst, arith}
-use Rattle.std.proofs.lemmas.Bool.Decides.{nat_tests}
-use Rattle.am_base.specs.declared.entry.Entry.{Entry}
-use Rattle.am_base.specs.declared.entry.Entry.TheVariants.{View}
-use Rattle.am_base.specs.Names.{has}
-use Rattle.am_base.specs.Stamps.{no_stamp}
-use Rattle.am_base.specs.Lists.{blank, fits, fold}
-use Rattle.am_chain_lists.specs.Whole.{Begins, IsGood, mem, key}
-use Rattle.am_chain_lists.proofs.Prefixes.{begins_refl, begins_nil, begins_length, begins_same, begins_pushed, below_length}
-use Rattle.am_chain_lists.proofs.Members.{good_nil, good_push, mem_nil, mem_viewed, viewed_mem}
-use Rattle.am_chain_lists.proofs.Order.{view_viewed}
-use Rattle.am_chain_moves.specs.Group.{opening, Views}
-use Rattle.am_chain_moves.specs.Runs.{MayBegin, first_stamp, first_choice, start}
-use Rattle.am_chain_moves.specs.Kept.{NodeOk, Kept}
+use Rattle.am_chain_moves.proofs.Words.{◌≡◌, ⊎_elim, ℕ, ◌<◌, ◌≤◌, nat_le, if◌then◌else◌, Bool, true, false, List, [], ◌∷◌, ◌++◌, length, refl, sym, subst}
+use Rattle.am_chain_moves.proofs.Words.{arith, nat_tests, Entry, View, has, no_stamp, blank, fits, fold, Begins, IsGood, mem, key, begins_refl, begins_nil}
+use Rattle.am_chain_moves.proofs.Words.{begins_length, begins_same, begins_pushed, below_length, good_nil, good_push, mem_nil, mem_viewed, viewed_mem}
+use Rattle.am_chain_moves.proofs.Words.{view_viewed, opening, Views, MayBegin, first_stamp, first_choice, start, NodeOk, Kept}
 
 first_fits : (founders : List ℕ) (first resilience : ℕ) → has founders first ≡ true → fits blank (View (first_stamp first) founders resilience) ≡ true
 unfolding fits
@@ -80,8 +70,7 @@ module _ (founders : List ℕ) (first resilience : ℕ) (may : MayBegin founders
           told = omega arith;
           acc = omega arith;
           within = omega arith;
-          delivered =
-              begins_nil (opening (first_choice founders first resilience));
+          delivered = begins_nil (opening (first_choice founders first resilience));
         };
         leads = λ l. let z = l.up.log in absurd (cc);
         promised = λ t m. absurd (mem_nil j m);

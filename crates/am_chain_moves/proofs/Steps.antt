@@ -1,15 +1,9 @@
 -- What every run keeps in which no ballot is decided.
-use Rattle.std.proofs.Common.{◌≡◌, refl, ◌∙◌}
-use Rattle.am_chain_moves.specs.Group.{Group}
-use Rattle.am_chain_moves.specs.Moves.{Move, numbers, stores, accepts, learns, begins, raises, shows, serves, fetches, decides, gives_over, welcomes, asks}
-use Rattle.am_chain_moves.specs.Moves.{departs, closes, stops}
-use Rattle.am_chain_moves.specs.Runs.{IsNoDecision, quiet, quietly}
-use Rattle.am_chain_moves.specs.Kept.{Kept}
-use Rattle.am_chain_moves.specs.Claims.{QuietRunsKeep}
-use Rattle.am_chain_moves.proofs.Start.{start_kept}
+use Rattle.am_chain_moves.proofs.Words.{◌≡◌, refl, ◌∙◌, Group, Move, numbers, stores, accepts, learns, begins, raises, shows, serves, fetches, decides}
+use Rattle.am_chain_moves.proofs.Words.{gives_over, welcomes, asks, departs, closes, stops, IsNoDecision, quiet, quietly, Kept, QuietRunsKeep}
 use Rattle.am_chain_moves.proofs.Quiet.{numbers_keeps, stores_keeps, accepts_keeps, learns_keeps, begins_keeps, raises_keeps, fetches_keeps, gives_over_keeps}
 use Rattle.am_chain_moves.proofs.Quiet.{welcomes_keeps, asks_keeps, departs_keeps, closes_keeps, stops_keeps}
-use Rattle.am_chain_moves.proofs.Ballots.{shows_keeps, serves_keeps}
+use Rattle.am_chain_moves.proofs.{Start.start_kept, Ballots.shows_keeps, Ballots.serves_keeps}
 
 -- each move but a decision, whoever stopped
 pub quiet_keeps : {s t : Group} (move : Move s t) → IsNoDecision move → Kept s → Kept t

@@ -1,3 +1,4 @@
+pub mod Words
 pub mod Orders
 pub mod Sets
 pub mod Views

@@ -1,11 +1,6 @@
 -- What a look at a ballot goes by, told by the values that are read one after the other.
-use Rattle.std.proofs.Common.{◌≡◌, ℕ, ◌<◌, ◌≤◌, List, Bool, true, false, not, nat_lt, ◌==◌, sym, ◌∙◌, ap, arith}
-use Rattle.std.proofs.lemmas.Bool.Decides.{nat_tests}
-use Rattle.am_base.specs.declared.image.Vote.{Vote}
-use Rattle.am_base.specs.Names.{has, size}
-use Rattle.am_base.specs.Votes.{Shown, best_vote}
-use Rattle.am_model.specs.Node.{Node, Ballot, those}
-use Rattle.am_model.specs.Ballots.{own_vote, is_waited_for, left_in}
+use Rattle.am_deciding.proofs.Words.{◌≡◌, ℕ, ◌<◌, ◌≤◌, List, Bool, true, false, not, nat_lt, ◌==◌, sym, ◌∙◌, ap, arith, nat_tests, Vote, has, size, Shown}
+use Rattle.am_deciding.proofs.Words.{best_vote, Node, Ballot, those, own_vote, is_waited_for, left_in}
 
 -- the node's name, the best vote, and who is needed
 pub record Looked (m : Node) (b : Ballot) (best : Shown) (who : ℕ) (needed : List ℕ) : Type 0 where

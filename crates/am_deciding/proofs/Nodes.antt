@@ -1,27 +1,11 @@
 -- What the parts of a node keep where its list is trimmed or gets one entry more.
-use Rattle.std.proofs.Common.{◌≡◌, ◌⊎◌, ⊎_elim, inl, inr, ℕ, ◌+◌, ◌≤◌, max, [], ◌∷◌, Bool, true, false, ◌==◌, ◌&&◌, nat_lt}
-use Rattle.std.proofs.Common.{Some, refl, sym, ap, subst, ◌∙◌, length-append, arith}
-use Rattle.std.proofs.lemmas.Bool.Decides.{nat_tests}
-use Rattle.am_base.specs.declared.image.Image.{Image}
-use Rattle.am_base.specs.declared.name.Stamp.{Stamp}
-use Rattle.am_base.specs.declared.entry.Entry.{Entry}
-use Rattle.am_base.specs.declared.entry.Entry.TheVariants.{Data, Join, Leave, View}
-use Rattle.am_base.specs.Names.{has}
-use Rattle.am_base.specs.Stamps.{stamp_lt, stamp_eq}
-use Rattle.am_base.specs.Lists.{Log, top_of, with_entry, after, fits, members_of}
-use Rattle.am_core.specs.Cores.{CoreState, Keeps, trim_to}
-use Rattle.am_core.proofs.Ends.{end-top, end-told, told-push}
-use Rattle.am_core.proofs.CoreLaws.{stands_self}
-use Rattle.am_core.proofs.Folds.{split}
+use Rattle.am_deciding.proofs.Words.{◌≡◌, ◌⊎◌, ⊎_elim, inl, inr, ℕ, ◌+◌, ◌≤◌, [], ◌∷◌, Bool, true, false, ◌==◌, ◌&&◌, nat_lt, Some, refl, sym, ap, subst, ◌∙◌}
+use Rattle.am_deciding.proofs.Words.{length-append, arith, nat_tests, Image, Stamp, Entry, Data, Join, Leave, View, has, stamp_lt, stamp_eq, Log, top_of}
+use Rattle.am_deciding.proofs.Words.{with_entry, after, fits, members_of, CoreState, Keeps, trim_to, end-top, end-told, told-push, stands_self, split}
+use Rattle.am_deciding.proofs.Words.{has_log, Node, Ballot, top, image_of, view, members, acts, is_member, is_sequencer, push_entry, IsKept, next_request}
+use Rattle.am_deciding.proofs.Words.{NodeKeeps, IsSteady, due_pushed, keeps_steady, over_own, IsTakenOut, IsUpTo, MayStore}
 use Rattle.am_fronts.specs.Reports as reports
-use Rattle.am_model.specs.Node.{has_log, Node, Ballot, top, image_of, view, members, acts, is_member, is_sequencer, push_entry}
-use Rattle.am_core.specs.Kept.{IsKept}
-use Rattle.am_sender.specs.Sends.{next_request}
-use Rattle.am_handlers.specs.Keeps.{NodeKeeps, IsSteady}
-use Rattle.am_handlers.proofs.Keeping.{due_pushed, keeps_steady, over_own}
-use Rattle.am_deciding.specs.Deciding.{IsTakenOut, IsUpTo, MayStore}
-use Rattle.am_deciding.proofs.Orders.{lt_not_eq}
-use Rattle.am_deciding.proofs.Views.{view_has, view_is, view_stays_data, view_stays_join, view_stays_leave}
+use Rattle.am_deciding.proofs.{Orders.lt_not_eq, Views.view_has, Views.view_is, Views.view_stays_data, Views.view_stays_join, Views.view_stays_leave}
 
 -- who doesn't act doesn't lead
 pub idle_leads : (m : Node) → acts m ≡ false → is_sequencer m ≡ false
@@ -47,9 +31,6 @@ steady_core m core base e keeps =
       leaving = refl;
       sends = refl;
     }
-
-pub trimmed_base : (c core : CoreState) (base : ℕ) → c.base ≡ c.log.start → Keeps (trim_to base) c core → core.base ≡ max c.base base
-trimmed_base c core base e keeps = let one = keeps c.log (stands_self c e) in ap (λ (x : CoreState). x.base) one.1
 
 pub keeps_trimmed : (m : Node) (core : CoreState) (base : ℕ) → m.core.base ≡ m.core.log.start → Keeps (trim_to base) m.core core → NodeKeeps m
     → NodeKeeps (record m { core = core })

@@ -1,10 +1,6 @@
 -- Stamps in order.
-use Rattle.std.proofs.Common.{◌≡◌, ◌⊎◌, ⊎_elim, inl, inr, ℕ, ◌+◌, ◌<◌, ◌≤◌, Bool, true, false, ◌==◌, ◌&&◌, ◌||◌, nat_lt, refl, ap, arith}
-use Rattle.std.proofs.lemmas.Bool.Decides.{nat_tests}
-use Rattle.am_base.specs.declared.name.Stamp.{Stamp}
-use Rattle.am_base.specs.Names.{rank_of}
-use Rattle.am_base.specs.Stamps.{stamp_lt, stamp_eq}
-use Rattle.am_core.proofs.Folds.{split}
+use Rattle.am_deciding.proofs.Words.{◌≡◌, ◌⊎◌, ⊎_elim, inl, inr, ℕ, ◌+◌, ◌<◌, ◌≤◌, Bool, true, false, ◌==◌, ◌&&◌, ◌||◌, nat_lt, refl, ap, arith, nat_tests}
+use Rattle.am_deciding.proofs.Words.{Stamp, rank_of, stamp_lt, stamp_eq, split}
 
 -- pairs of numbers in order
 abbrev lex : ℕ → ℕ → ℕ → ℕ → Bool
@@ -48,9 +44,6 @@ same_stamp a b h =
     let r : a.round ≡ b.round = grind (arith, nat_tests) in
     let n : a.by ≡ b.by = grind (arith, nat_tests) in
     λ i. record { round = r i; by = n i }
-
-pub eq_self : (a : Stamp) → stamp_eq a a ≡ true
-eq_self a = let r : (a.round == a.round) ≡ true = grind (arith, nat_tests) in let n : (a.by == a.by) ≡ true = grind (arith, nat_tests) in rw (r, n) refl
 
 -- what is above is another
 pub lt_apart : (p v view : Stamp) → stamp_lt p v ≡ true → stamp_lt p view ≡ false → stamp_eq v view ≡ false

@@ -1,16 +1,7 @@
 -- What the parts of a node keep where the promise is raised, and where a ballot is taken out.
-use Rattle.std.proofs.Common.{◌≡◌, ◌<◌, ◌≤◌, Bool, true, false, ◌==◌, ◌&&◌, Option, Some, None, option_map, refl, sym, ap, subst}
-use Rattle.std.proofs.Common.{◌∙◌}
-use Rattle.std.specs.Option.{IfSome}
-use Rattle.am_base.specs.declared.name.Stamp.{Stamp}
-use Rattle.am_base.specs.declared.outcome.Outcome.TheVariants.{Overtaken}
-use Rattle.am_base.specs.Stamps.{stamp_lt, stamp_eq}
-use Rattle.am_core.proofs.Folds.{split}
-use Rattle.am_model.specs.Node.{Node, Ballot, view, is_member}
-use Rattle.am_model.specs.Ballots.{overtake, with_promise}
-use Rattle.am_ballots.specs.Kept.{Kept, ballot_of}
-use Rattle.am_handlers.specs.Keeps.{NodeKeeps, IsOwnBallot}
-use Rattle.am_handlers.proofs.Keeping.{own_for, over_own}
+use Rattle.am_deciding.proofs.Words.{◌≡◌, ◌<◌, ◌≤◌, Bool, true, false, ◌==◌, ◌&&◌, Option, Some, None, option_map, refl, sym, ap, subst, ◌∙◌, IfSome, Stamp}
+use Rattle.am_deciding.proofs.Words.{Overtaken, stamp_lt, stamp_eq, split, Node, Ballot, view, is_member, overtake, with_promise, Kept, ballot_of, NodeKeeps}
+use Rattle.am_deciding.proofs.Words.{IsOwnBallot, own_for, over_own}
 use Rattle.am_deciding.proofs.Orders.{lt_self, lt_none, lt_or, lt_apart, same_stamp}
 
 -- the ballot of a stamp that isn't below stays

@@ -1,12 +1,6 @@
 -- The names of a set that pass a test.
-use Rattle.std.proofs.Common.{◌≡◌, ℕ, List, Bool, true, ◌==◌, ◌||◌, slice_index, refl, sym, ap, ◌∙◌}
-use Rattle.std.proofs.Common.{arith}
-use Rattle.std.proofs.lemmas.Bool.Decides.{nat_tests}
-use Rattle.am_base.specs.Names.{name_at, is_within, by_place}
-use Rattle.am_base.proofs.Places.{slice_index-by_place}
-use Rattle.am_core.proofs.Folds.{split}
-use Rattle.am_table.proofs.Rows.{within_all}
-use Rattle.am_model.specs.Node.{name_where, those}
+use Rattle.am_deciding.proofs.Words.{◌≡◌, ℕ, List, Bool, true, ◌==◌, ◌||◌, slice_index, refl, sym, ap, ◌∙◌, arith, nat_tests, name_at, is_within, by_place}
+use Rattle.am_deciding.proofs.Words.{slice_index-by_place, split, within_all, name_where, those}
 
 -- each of those is one of the set
 where_within : (test : ℕ → Bool) (place life : ℕ) → ((name_where test place life == 0) || (name_where test place life == life)) ≡ true

@@ -1,27 +1,11 @@
 -- What a look at a ballot comes to, from the end of a list as from all of it.
-use Rattle.std.proofs.Common.{◌≡◌, ℕ, ◌+◌, ◌-◌, ◌<◌, ◌≤◌, max, List, [], ◌∷◌, true, false, not, ◌==◌, nat_lt, if◌then◌else◌, Option, Some, None, unwrap_or}
-use Rattle.std.proofs.Common.{refl, sym, ap, subst, ◌∙◌, arith}
-use Rattle.std.specs.Option.{IfSome}
-use Rattle.am_base.specs.declared.image.Image.{Image}
-use Rattle.am_base.specs.declared.image.Vote.{Vote}
-use Rattle.am_base.specs.declared.entry.Entry.{Entry}
-use Rattle.am_base.specs.declared.entry.Entry.TheVariants.{View}
-use Rattle.am_base.specs.declared.outcome.Outcome.{Outcome}
+use Rattle.am_deciding.proofs.Words.{◌≡◌, ℕ, ◌+◌, ◌-◌, ◌<◌, ◌≤◌, max, List, [], ◌∷◌, true, false, not, ◌==◌, nat_lt, if◌then◌else◌, Option, Some, None}
+use Rattle.am_deciding.proofs.Words.{unwrap_or, refl, sym, ap, subst, ◌∙◌, arith, IfSome, Image, Vote, Entry, View, Outcome, has, size, names_of, Shown}
+use Rattle.am_deciding.proofs.Words.{better_of, best_from, best_vote, all_names, vote_lt, Log, top_of, Stands, split, least_of, Node, Ballot, top, image_of}
+use Rattle.am_deciding.proofs.Words.{those, push_entry, trim_up_to, Verdict, own_vote, best_of, is_waited_for, left_in, taken_by, with_answer, with_end}
+use Rattle.am_deciding.proofs.Words.{goes_on, ends, decide_view, trim_for, decide, IsEndOf, with_log, told_same, top_same, own_vote_same, ComesTo}
 use Rattle.am_base.specs.declared.outcome.Outcome.TheVariants as said
-use Rattle.am_base.specs.Names.{has, size, names_of}
-use Rattle.am_base.specs.Votes.{Shown, better_of, best_from, best_vote, all_names, vote_lt}
-use Rattle.am_base.specs.Lists.{Log, top_of}
-use Rattle.am_core.specs.Cores.{Stands}
-use Rattle.am_core.proofs.Folds.{split}
 use Rattle.am_fronts.specs.Reports as reports
-use Rattle.am_fronts.specs.Reports.{least_of}
-use Rattle.am_model.specs.Node.{Node, Ballot, top, image_of, those, push_entry, trim_up_to}
-use Rattle.am_model.specs.Ballots.{Verdict, own_vote, best_of, is_waited_for, left_in, taken_by, with_answer, with_end, goes_on, ends, decide_view, trim_for}
-use Rattle.am_model.specs.Ballots.{decide}
-use Rattle.am_model.specs.Ends.{IsEndOf, with_log}
-use Rattle.am_handlers.proofs.Ends.{told_same, top_same}
-use Rattle.am_handlers.proofs.Shown.{own_vote_same}
-use Rattle.am_handlers.specs.Verdicts.{ComesTo}
 use Rattle.am_deciding.proofs.Looked.{Looked, Waited, Idle, Counted, some_waited, few, enough}
 
 -- it is enough to look at the same node with another list
@@ -204,8 +188,7 @@ least_within (Some x) taken h = h
 
 pub trimmed_comes : (m mid n : Node) (b : Ballot) (names : List ℕ) (o : Outcome) (least : ℕ)
     → least ≡ unwrap_or (least_of (taken_by m.core.who m.core.taken b) (names_of names)) 0
-    → ((all : Node) → IsEndOf all m → IsEndOf (trim_up_to all least) mid)
-    → ((all : Node) → IsEndOf all mid → ComesTo (decide_view all b names) o n)
+    → ((all : Node) → IsEndOf all m → IsEndOf (trim_up_to all least) mid) → ((all : Node) → IsEndOf all mid → ComesTo (decide_view all b names) o n)
     → (all : Node) → IsEndOf all m → ComesTo (decide_view (trim_for all b names) b names) o n
 trimmed_comes m mid n b names o least is trims then_ = comes (λ x. decide_view (trim_for x b names) b names) m n o (λ all s.
     let w = with_log m all in

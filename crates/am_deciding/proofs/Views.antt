@@ -1,21 +1,8 @@
 -- What a View that fits does to the members and to the view.
-use Rattle.std.proofs.Common.{◌≡◌, ⊎_elim, ℕ, ◌<◌, ◌≤◌, List, length, true, false, ◌==◌, ◌&&◌, ◌||◌, nat_lt, nat_le, slice_index, refl, sym, ap, ◌∙◌}
-use Rattle.std.proofs.Common.{arith}
-use Rattle.std.proofs.lemmas.Bool.Decides.{nat_tests}
-use Rattle.std.proofs.lemmas.Bool.{cases_lt}
-use Rattle.std.proofs.lemmas.List.{get_or_past, length-map}
-use Rattle.am_base.specs.declared.image.Image.{Image}
-use Rattle.am_base.specs.declared.image.Row.{Row}
-use Rattle.am_base.specs.declared.name.Stamp.{Stamp}
-use Rattle.am_base.specs.declared.entry.Entry.TheVariants.{Data, Join, Leave, View}
-use Rattle.am_base.specs.Names.{place_of, life_of, has, is_within}
-use Rattle.am_base.specs.Stamps.{stamp_lt}
-use Rattle.am_base.specs.Lists.{blank_row, is_blank, at_place, member_life, members_of, row_after_view, after, fits}
-use Rattle.am_base.proofs.Places.{get_or-by_place, length-by_place}
-use Rattle.am_core.proofs.Folds.{split}
-use Rattle.am_core.proofs.Lives.{row_at, member_at}
-use Rattle.am_table.proofs.Rows.{within_none}
-use Rattle.am_base.proofs.Greatest.{and_both}
+use Rattle.am_deciding.proofs.Words.{◌≡◌, ⊎_elim, ℕ, ◌<◌, ◌≤◌, List, length, true, false, ◌==◌, ◌&&◌, ◌||◌, nat_lt, nat_le, slice_index, refl, sym, ap, ◌∙◌}
+use Rattle.am_deciding.proofs.Words.{arith, nat_tests, cases_lt, get_or_past, length-map, Image, Row, Stamp, Data, Join, Leave, View, place_of, life_of, has}
+use Rattle.am_deciding.proofs.Words.{is_within, stamp_lt, blank_row, is_blank, at_place, member_life, members_of, row_after_view, after, fits}
+use Rattle.am_deciding.proofs.Words.{get_or-by_place, length-by_place, split, row_at, member_at, within_none, and_both}
 
 -- the parts of a View that fits
 pub record FitsAsView (image : Image) (stamp : Stamp) (names : List ℕ) (resilience : ℕ) : Type 0 where

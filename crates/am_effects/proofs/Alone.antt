@@ -1,21 +1,10 @@
 -- A sequencer that is alone is so once its own Leave is numbered, and so it tells nobody.
-use Rattle.std.proofs.Common.{◌≡◌, ℕ, zero, suc, ◌+◌, ◌<◌, ◌≤◌, ◌==◌, nat_lt, Bool, true, false, if◌then◌else◌, List, [], ◌∷◌, length, slice_index}
-use Rattle.std.proofs.Common.{slice_set, get_or-set_same, get_or-set_other, refl, sym, ap, ◌∙◌, subst, arith}
-use Rattle.std.proofs.lemmas.Bool.Decides.{nat_tests}
-use Rattle.std.proofs.lemmas.List.{map-set, get_or_past, length-set}
-use Rattle.std.proofs.Math.Seq.{map-set_same}
-use Rattle.am_base.specs.declared.image.Image.{Image}
-use Rattle.am_base.specs.declared.image.Row.{Row}
-use Rattle.am_base.specs.declared.entry.Entry.TheVariants.{Data, Leave}
-use Rattle.am_base.specs.Names.{place_of, life_of, has, size, without_name}
-use Rattle.am_base.specs.Lists.{Log, told_by, at_place, members_of, member_life, after}
-use Rattle.am_base.proofs.Places.{slice_index-by_place, length-by_place}
-use Rattle.am_model.specs.Node.{Node, top, image_of, name_where, those, others, push_entry}
-use Rattle.am_model.specs.Refresh.{refresh_at_end}
-use Rattle.am_base.proofs.Greatest.{split}
-use Rattle.am_model.proofs.Sets.{size_cons}
-use Rattle.am_effects.proofs.Rests.{rests_at_end}
-use Rattle.am_effects.proofs.Says.{told_pushed}
+use Rattle.am_effects.proofs.Words.{members_data, ◌≡◌, ℕ, zero, suc, ◌+◌, ◌<◌, ◌≤◌, ◌==◌, nat_lt, Bool, true, false, if◌then◌else◌, List, [], ◌∷◌, length}
+use Rattle.am_effects.proofs.Words.{slice_index, slice_set, get_or-set_same, get_or-set_other, refl, sym, ap, ◌∙◌, subst, arith, nat_tests, map-set}
+use Rattle.am_effects.proofs.Words.{get_or_past, length-set, Image, Row, Data, Leave, place_of, life_of, has, size, without_name, Log, told_by, at_place}
+use Rattle.am_effects.proofs.Words.{members_of, member_life, after, slice_index-by_place, length-by_place, Node, top, image_of, name_where, those, others}
+use Rattle.am_effects.proofs.Words.{push_entry, refresh_at_end, split, size_cons}
+use Rattle.am_effects.proofs.{Rests.rests_at_end, Says.told_pushed}
 
 -- ---- sets without a name
 
@@ -73,13 +62,6 @@ left_none image number who up h = split ((at_place image who).life == life_of wh
     (λ g. let k : IsNone (members_of image) = rw g at h in set_none (members_of image) (place_of who) k)))))
     (λ f. rw f h)
 
--- a send more
-sent_members : (image : Image) (number who req : ℕ) (body : List ℕ) → members_of (after image number (Data who req body)) ≡ members_of image
-unfolding after
-sent_members image number who req body = split ((at_place image who).life == life_of who)
-    (λ t. rw t (map-set_same member_life image.rows (place_of who) (record (at_place image who) { last = req }) _ refl))
-    (λ f. rw f refl)
-
 -- ---- a node that is alone
 
 abbrev pub IsAlone : Node → Type 0
@@ -87,7 +69,7 @@ IsAlone x = nat_lt 0 (size (others x)) ≡ false
 
 pub sent_others : (m : Node) (who req : ℕ) (body : List ℕ) → others (push_entry m (Data who req body)) ≡ others m
 sent_others m who req body = ap (λ set. without_name set m.core.who) (ap members_of (told_pushed m (Data who req body))
-    ∙ sent_members (image_of m) (top m + 1) who req body)
+    ∙ members_data (image_of m) (top m + 1) who req body)
 
 -- the end of its step
 abbrev pub gone : Node → Node

@@ -1,36 +1,18 @@
 -- The effects of ballots.
-use Rattle.std.proofs.Common.{◌≡◌, ℕ, zero, suc, ◌+◌, ◌-◌, ◌==◌, ◌&&◌, min, max, nat_lt, nat_le, not, Bool, true, false, if◌then◌else◌, List, [], length}
-use Rattle.std.proofs.Common.{Option, Some, None, slice_get, refl, sym, ap, subst, ◌∙◌, arith}
-use Rattle.std.proofs.lemmas.Bool.Decides.{nat_tests}
-use Rattle.am_base.specs.declared.image.Vote.{Vote}
-use Rattle.am_base.specs.declared.image.Image.{Image}
-use Rattle.am_base.specs.declared.name.Stamp.{Stamp}
-use Rattle.am_base.specs.declared.entry.Entry.TheVariants.{View}
+use Rattle.am_effects.proofs.Words.{not-true, not-false, ◌≡◌, ℕ, zero, suc, ◌+◌, ◌-◌, ◌==◌, ◌&&◌, min, max, nat_lt, nat_le, not, Bool, true, false}
+use Rattle.am_effects.proofs.Words.{if◌then◌else◌, List, [], length, Option, Some, None, slice_get, refl, sym, ap, subst, ◌∙◌, arith, nat_tests, Vote, Image}
+use Rattle.am_effects.proofs.Words.{Stamp, View, has, size, without_name, Log, entry_at, after, Letter, with_letter, Node, Ballot, top, image_of, view}
+use Rattle.am_effects.proofs.Words.{members, others, only_name, those, is_member, push_entry, invite_of, fetch_of, result_of, with_promise, Verdict, need_of}
+use Rattle.am_effects.proofs.Words.{best_of, is_waited_for, left_in, trim_for, decide, with_result, with_fetch, verdict_plan, next_stamp, new_ballot, begin}
+use Rattle.am_effects.proofs.Words.{with_vote, newly_needed, keep_vote, without_voter, give_up, viewed_by, reset_row, give_up_of, give_up_row, and_both}
+use Rattle.am_effects.proofs.Words.{Cause, calls, HasLearned, Looks, finds_itself_out, waits, fetches_from_best, finds_too_few, finds_no_room, decides}
+use Rattle.am_effects.proofs.Words.{MayBegin, BeginsBy, by_reset, by_hand_over, MayLook, was_reset, was_handed, HasOpen, Balloting, as_it_is, without_one}
+use Rattle.am_effects.proofs.Words.{opens, nothing_yet, and_then, looked, invite, fetch, result, has_begun, for_ballot, decided, Answers}
 use Rattle.am_base.specs.declared.outcome.Outcome.TheVariants as said
 use Rattle.am_base.specs.declared.event.NodeEvent.TheVariants as does
-use Rattle.am_base.specs.Names.{has, size, without_name}
-use Rattle.am_base.specs.Lists.{Log, entry_at, after}
-use Rattle.am_packet.specs.Boxes.{Letter, with_letter}
-use Rattle.am_model.specs.Node.{Node, Ballot, top, image_of, view, members, others, only_name, those, is_member, push_entry}
-use Rattle.am_model.specs.Emit.{invite_of, fetch_of, result_of}
-use Rattle.am_model.specs.Ballots.{with_promise, Verdict, need_of, best_of, is_waited_for, left_in, trim_for, decide, with_result, with_fetch, verdict_plan}
-use Rattle.am_model.specs.Ballots.{next_stamp, new_ballot, begin, with_vote, newly_needed, keep_vote, without_voter, give_up}
-use Rattle.am_model.specs.Ticks.{viewed_by}
-use Rattle.am_model.specs.Calls.{reset_row, give_up_of, give_up_row}
-use Rattle.am_base.proofs.Greatest.{and_both}
-use Rattle.am_effects.specs.Causes.{Cause, calls}
-use Rattle.am_effects.specs.Looks.{HasLearned, Looks, finds_itself_out, waits, fetches_from_best, finds_too_few, finds_no_room, decides, MayBegin, BeginsBy}
-use Rattle.am_effects.specs.Looks.{by_reset, by_hand_over, MayLook, was_reset, was_handed, HasOpen, Balloting, as_it_is, without_one}
-use Rattle.am_effects.specs.Changes.{opens}
-use Rattle.am_effects.specs.Courses.{nothing_yet, and_then, looked}
-use Rattle.am_effects.specs.Letters.{invite, fetch, result, has_begun, for_ballot, decided}
 use Rattle.am_effects.specs.Letters as letters
-use Rattle.am_effects.specs.Effects.{Answers}
-use Rattle.am_effects.proofs.Tests.{not_false, not_true}
-use Rattle.am_effects.proofs.Items.{get_last}
-use Rattle.am_effects.proofs.Rests.{RestsWhole}
 use Rattle.am_effects.proofs.Plans.{AllSay, none_says, and_says, Comes, HasEffect, effect_if, effect_done, rows}
-use Rattle.am_effects.proofs.Says.{told_pushed}
+use Rattle.am_effects.proofs.{Items.get_last, Rests.RestsWhole, Says.told_pushed}
 
 -- ---- a look
 
@@ -44,11 +26,11 @@ looks_at m b =
     let need = need_of m b in
     let names = left_in b need in
     let waited = nat_lt 0 (size (those (is_waited_for m.core.who b) need)) in
-    looks_if m b (not (has need m.core.who)) _ _ (λ t. finds_itself_out (not_true _ t))
-    (λ f. let there = not_false _ f in
+    looks_if m b (not (has need m.core.who)) _ _ (λ t. finds_itself_out (not-true _ t))
+    (λ f. let there = not-false _ f in
     looks_if m b waited _ _ (λ t. waits there t)
-    (λ all. looks_if m b (not ((best_of m b).by == m.core.who)) _ _ (λ t. fetches_from_best there all (not_true _ t))
-    (λ g. let learned : HasLearned m b = record { needed = there; all = all; own = not_false _ g } in
+    (λ all. looks_if m b (not ((best_of m b).by == m.core.who)) _ _ (λ t. fetches_from_best there all (not-true _ t))
+    (λ g. let learned : HasLearned m b = record { needed = there; all = all; own = not-false _ g } in
     looks_if m b (nat_lt (size names) b.least) _ _ (λ t. finds_too_few learned t)
     (λ enough. looks_if m b (nat_lt (m.core.rules.window + 16 - size names) (top m + 1 - (trim_for m b names).core.base)) _ _ (λ t. finds_no_room learned)
     (λ room. decides (record { learned = learned; enough = enough; room = room }))))))
@@ -149,7 +131,7 @@ pub row_reset : (m : Node) (c : Cause) (least resilience : ℕ) → BeginsBy m c
 unfolding reset_row
 row_reset m c least resilience by =
     effect_if m c (not (is_member m.status && has (members m) m.core.who)) _ _ (λ t. search rows)
-    (λ f. let both = and_both (is_member m.status) (has (members m) m.core.who) (not_false _ f) in
+    (λ f. let both = and_both (is_member m.status) (has (members m) m.core.who) (not-false _ f) in
     effect_if m c m.leaving _ _ (λ t. search rows) (λ g. row_begin m c least resilience by (record { member = both.0; listed = both.1; stays = g })))
 
 -- a vote is kept

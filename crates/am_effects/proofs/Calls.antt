@@ -1,38 +1,20 @@
 -- The effects of the calls.
-use Rattle.std.proofs.Common.{◌≡◌, ℕ, ◌+◌, ◌||◌, ◌==◌, nat_lt, nat_le, not, Bool, true, false, if◌then◌else◌, List, [], length, Option, Some, None, find}
-use Rattle.std.proofs.Common.{is_some, inl, inr, refl, ap, ◌∙◌, arith}
-use Rattle.std.proofs.lemmas.Bool.Decides.{nat_tests}
-use Rattle.am_base.specs.declared.entry.Entry.{Entry}
-use Rattle.am_base.specs.declared.entry.Entry.TheVariants.{Data}
-use Rattle.am_base.specs.declared.outcome.Outcome.{Outcome}
+use Rattle.am_effects.proofs.Words.{not-true, not-false, ◌≡◌, ℕ, ◌+◌, ◌||◌, ◌==◌, nat_lt, nat_le, not, Bool, true, false, if◌then◌else◌, List, [], length}
+use Rattle.am_effects.proofs.Words.{Option, Some, None, find, is_some, inl, inr, refl, ap, ◌∙◌, arith, nat_tests, Entry, Data, Outcome, NodeEvent, size}
+use Rattle.am_effects.proofs.Words.{entry_at, OwnSend, Status, Node, Ballot, top, view, own_row, others, only_name, lowest_or_first, acts, has_room}
+use Rattle.am_effects.proofs.Words.{is_member, is_asking, is_sequencer, waiting, unsettled_count, push_entry, Plan, quiet, join_ask_of, leave_ask_of}
+use Rattle.am_effects.proofs.Words.{hand_over_of, request_of, spread_of, bcast_of, everywhere_else, would_emit, hand_in, number_send, emit, with_queued}
+use Rattle.am_effects.proofs.Words.{queue, give_out, ask_to_join, join_by, state_by, go, leave_now, leave_by, is_unfinished, ask_of, send_row, done_row}
+use Rattle.am_effects.proofs.Words.{take_row, join_row, state_row, leave_row, ask_row, and_both, Cause, calls, numbers, own_send, queues, collects, takes}
+use Rattle.am_effects.proofs.Words.{asks_to_join, asks_to_leave, Course, nothing_yet, and_then, HasSend, join_ask, leave_ask, hand_over, Answers}
 use Rattle.am_base.specs.declared.outcome.Outcome.TheVariants as said
-use Rattle.am_base.specs.declared.event.NodeEvent.{NodeEvent}
 use Rattle.am_base.specs.declared.event.NodeEvent.TheVariants as does
-use Rattle.am_base.specs.Names.{size}
-use Rattle.am_base.specs.Lists.{entry_at}
-use Rattle.am_sender.specs.declared.OwnSend.{OwnSend}
 use Rattle.am_sender.specs.Sends as own
-use Rattle.am_model.specs.declared.status.Status.{Status}
 use Rattle.am_model.specs.declared.status.Status.TheVariants as status
-use Rattle.am_model.specs.Node.{Node, Ballot, top, view, own_row, others, only_name, lowest_or_first, acts, has_room, is_member, is_asking, is_sequencer}
-use Rattle.am_model.specs.Node.{waiting, unsettled_count, push_entry}
-use Rattle.am_model.specs.Emit.{Plan, quiet, join_ask_of, leave_ask_of, hand_over_of, request_of, spread_of, bcast_of}
-use Rattle.am_model.specs.Calls.{everywhere_else, would_emit, hand_in, number_send, emit, with_queued, queue, give_out, ask_to_join, join_by, state_by, go}
-use Rattle.am_model.specs.Calls.{leave_now}
-use Rattle.am_model.specs.Calls.{leave_by, is_unfinished, ask_of, send_row, done_row, take_row, join_row, state_row, leave_row, ask_row}
-use Rattle.am_base.proofs.Greatest.{and_both}
-use Rattle.am_effects.specs.Causes.{Cause, calls}
-use Rattle.am_effects.specs.Changes.{numbers, own_send, queues, collects, takes, asks_to_join, asks_to_leave}
-use Rattle.am_effects.specs.Courses.{Course, nothing_yet, and_then}
-use Rattle.am_effects.specs.Letters.{HasSend, join_ask, leave_ask, hand_over}
-use Rattle.am_effects.specs.Effects.{Answers}
-use Rattle.am_effects.proofs.Tests.{not_false, not_true}
-use Rattle.am_effects.proofs.Items.{find_get, find_test}
-use Rattle.am_effects.proofs.Rests.{Rests, RestsWhole, leads_rests}
 use Rattle.am_effects.proofs.Plans.{Comes, Does, HasEffect, effect_if, effect_of, row_closing, does_if, does_quiet, does_telling, does_and, does_numbering}
 use Rattle.am_effects.proofs.Plans.{tightly, rows}
-use Rattle.am_effects.proofs.Alone.{IsAlone, gone, alone_after}
-use Rattle.am_effects.proofs.Says.{waiting_stands, tells_request, tells_spread, tells_bcast}
+use Rattle.am_effects.proofs.{Items.find_get, Items.find_test, Rests.Rests, Rests.RestsWhole, Rests.leads_rests, Alone.IsAlone, Alone.gone, Alone.alone_after}
+use Rattle.am_effects.proofs.{Says.waiting_stands, Says.tells_request, Says.tells_spread, Says.tells_bcast}
 
 -- ---- sends
 
@@ -70,9 +52,9 @@ does_emit m c p None o h a is = does_quiet Rests m c p o h (λ n r. a n r.asked)
 does_emit m c p (Some s) o h a is =
     let quietly = does_quiet Rests m c p o h (λ n r. a n r.asked) in
     does_if Rests m c (not (would_emit p (Some s))) _ _ (λ t. quietly)
-    (λ f. let both = and_both (acts p) (nat_lt (own_row p).last s.req) (not_false _ f) in
-    does_if Rests m c (not (is_sequencer p)) _ _ (λ t. does_hand_in m c p s o h a both.0 (not_true _ t) (waiting_stands p s is))
-    (λ g. does_if Rests m c (has_room p) _ _ (λ t. does_number_send m c p s o h a is both.1 (not_false _ g) t) (λ k. quietly)))
+    (λ f. let both = and_both (acts p) (nat_lt (own_row p).last s.req) (not-false _ f) in
+    does_if Rests m c (not (is_sequencer p)) _ _ (λ t. does_hand_in m c p s o h a both.0 (not-true _ t) (waiting_stands p s is))
+    (λ g. does_if Rests m c (has_room p) _ _ (λ t. does_number_send m c p s o h a is both.1 (not-false _ g) t) (λ k. quietly)))
 
 pub node_if : (C : Node → Type 0) (b : Bool) (p q : Plan) → (b ≡ true → C p.node) → (b ≡ false → C q.node) → C (if b then p else q).node
 node_if C true p q f g = f refl
@@ -84,9 +66,9 @@ comes_emit m c p None said_ h is o = h o
 comes_emit m c p (Some s) said_ h is o =
     let C : Node → Type 0 = λ n. Course c o m n in
     node_if C (not (would_emit p (Some s))) _ _ (λ t. h o)
-    (λ f. let both = and_both (acts p) (nat_lt (own_row p).last s.req) (not_false _ f) in
+    (λ f. let both = and_both (acts p) (nat_lt (own_row p).last s.req) (not-false _ f) in
     node_if C (not (is_sequencer p)) _ _ (λ t. node_if C (nat_le (length s.body) p.core.rules.pb_up_to) _ _ (λ u. h o) (λ u. h o))
-    (λ g. node_if C (has_room p) _ _ (λ t. numbers_own m c p s o (h o) is both.1 (not_false _ g) t) (λ k. h o)))
+    (λ g. node_if C (has_room p) _ _ (λ t. numbers_own m c p s o (h o) is both.1 (not-false _ g) t) (λ k. h o)))
 
 -- what is answered as queued was queued
 row_queue : (m : Node) (body : List ℕ) → is_member m.status ≡ true → m.leaving ≡ false → nat_le 4 (length m.sends.queue) ≡ false
@@ -104,7 +86,7 @@ pub row_send : (m : Node) (body : List ℕ) → HasEffect m (calls (does.Send bo
 unfolding send_row
 row_send m body =
     let k : not (is_member m.status) ≡ false → m.leaving ≡ false → nat_le 4 (length m.sends.queue) ≡ false
-    → HasEffect m (calls (does.Send body)) (queue m body) = λ a b d. row_queue m body (not_false _ a) b d in
+    → HasEffect m (calls (does.Send body)) (queue m body) = λ a b d. row_queue m body (not-false _ a) b d in
     search (rows, k) depth 9
 
 -- ---- what came of a send
@@ -146,7 +128,7 @@ pub row_take : (m : Node) → HasEffect m (calls does.Take) (take_row m)
 unfolding take_row
 row_take m =
     let k : not (is_member m.status) ≡ false → (m.core.taken == m.core.acc) ≡ false
-    → HasEffect m (calls does.Take) (give_out m (entry_at m.core.log (m.core.taken + 1))) = λ a b. row_given m _ (not_false _ a) b refl in
+    → HasEffect m (calls does.Take) (give_out m (entry_at m.core.log (m.core.taken + 1))) = λ a b. row_given m _ (not-false _ a) b refl in
     search (rows, k) depth 9
 
 -- ---- joining and leaving
@@ -159,9 +141,7 @@ row_ask_to_join m c p o h a t = effect_of m c _ (does_telling RestsWhole m c p o
 row_join_by : (m : Node) (s : Status) → m.status ≡ s → HasEffect m (calls does.Join) (join_by m s)
 row_join_by m status.Stranger is = row_ask_to_join m (calls does.Join) (record m { status = status.Asking }) said.Asked
     (and_then nothing_yet (asks_to_join {m = m} refl is) tt) (λ n. tt) refl
-row_join_by m status.Asking is = search rows
-row_join_by m status.Member is = search rows
-row_join_by m status.Departed is = search rows
+row_join_by m _ is = search rows
 
 pub row_join : (m : Node) → HasEffect m (calls does.Join) (join_row m)
 unfolding join_row
@@ -185,7 +165,7 @@ row_go m c p event called h comes a quietly viewed member leaves =
     effect_if m c (not (is_sequencer p.node)) _ _
     (λ t. effect_of m c _ (tightly m c _ (does_and Rests m c p (others p.node) leave_ask_of h
     (λ n r. leave_ask _ (ap is_member r.status ∙ member) (r.leaving ∙ leaves)))))
-    (λ f. let leads = not_false _ f in
+    (λ f. let leads = not-false _ f in
     effect_if m c (nat_lt 0 (size (others p.node))) _ _
     (λ t. effect_of m c _ (tightly m c _ (does_and Rests m c p (only_name (lowest_or_first (others p.node))) hand_over_of h
     (λ n r. hand_over _ (leads_rests r ∙ leads) (r.leaving ∙ leaves)))))
@@ -194,8 +174,7 @@ row_go m c p event called h comes a quietly viewed member leaves =
     (λ none. effect_of m c _ (record {
       stays = h.stays;
       changes = λ n. comes (said.Held p.node.core.base (top p.node));
-      answer =
-          λ n r. a p.node.core.base (top p.node) n;
+      answer = λ n r. a p.node.core.base (top p.node) n;
       letters = λ n r. h.letters n r.rests;
     }))))
 
@@ -210,10 +189,8 @@ row_leave_now m is =
     search (rows, k) depth 9
 
 row_leave_by : (m : Node) (s : Status) → m.status ≡ s → HasEffect m (calls does.Leave) (leave_by m s)
-row_leave_by m status.Stranger is = search rows
-row_leave_by m status.Asking is = search rows
 row_leave_by m status.Member is = row_leave_now m is
-row_leave_by m status.Departed is = search rows
+row_leave_by m _ is = search rows
 
 pub row_leave : (m : Node) → HasEffect m (calls does.Leave) (leave_row m)
 unfolding leave_row

@@ -1,27 +1,13 @@
 -- Each event has its effect on a world.
-use Rattle.std.proofs.Common.{◌≡◌, ℕ, nat_lt, nat_le, ◌==◌, ◌||◌, Bool, true, false, not, if◌then◌else◌, Option, Some, None, refl, sym, ap, subst}
+use Rattle.am_effects.proofs.Words.{not-false, ◌≡◌, ℕ, nat_lt, nat_le, ◌==◌, ◌||◌, Bool, true, false, not, if◌then◌else◌, Option, Some, None, refl, sym, ap}
+use Rattle.am_effects.proofs.Words.{subst, NodeEvent, place_of, Packet, Letter, Act, Event, is_for, letter_at, Node, has_departed, Step, step, hear}
+use Rattle.am_effects.proofs.Words.{hear_refusal, packet_length, World, current, is_stopped, does_event, gives_up, hears_letter, hear_cut, comes_back}
+use Rattle.am_effects.proofs.Words.{acts_as, happens, heard_by, Cause, calls, hears, refuses, Effect, actor, WasSentTo, IsCall, send, done, take, join, state}
+use Rattle.am_effects.proofs.Words.{leave, reset, ask, tick, IsCause, Happens, idles, stops, returns, steps, EventsHaveEffects}
+use Rattle.am_effects.specs.Events.{give_up}
 use Rattle.am_base.specs.declared.outcome.Outcome.TheVariants as said
-use Rattle.am_base.specs.declared.event.NodeEvent.{NodeEvent}
 use Rattle.am_base.specs.declared.event.NodeEvent.TheVariants as does
-use Rattle.am_base.specs.Names.{place_of}
-use Rattle.am_packet.specs.declared.packet.Packet.{Packet}
-use Rattle.am_packet.specs.Boxes.{Letter}
-use Rattle.am_group.specs.declared.event.Act.{Act}
 use Rattle.am_group.specs.declared.event.Act.TheVariants as act
-use Rattle.am_group.specs.declared.event.Event.{Event}
-use Rattle.am_group.specs.Addressed.{is_for}
-use Rattle.am_group.specs.Journals.{letter_at}
-use Rattle.am_model.specs.Node.{Node, has_departed}
-use Rattle.am_model.specs.Emit.{Step}
-use Rattle.am_model.specs.Step.{step, hear, hear_refusal}
-use Rattle.am_model.specs.Lengths.{packet_length}
-use Rattle.am_play.specs.World.{World, current, is_stopped, does_event, gives_up, hears_letter, hear_cut, comes_back, acts_as, happens}
-use Rattle.am_play.specs.Claims.{heard_by}
-use Rattle.am_effects.specs.Causes.{Cause, calls, hears, refuses}
-use Rattle.am_effects.specs.Effects.{Effect}
-use Rattle.am_effects.specs.Events.{actor, WasSentTo, IsCall, send, done, take, join, state, leave, reset, ask, give_up, tick, IsCause, Happens, idles, stops}
-use Rattle.am_effects.specs.Events.{returns, steps, EventsHaveEffects}
-use Rattle.am_effects.proofs.Tests.{not_false}
 use Rattle.am_effects.proofs.Hearing.{steps_have_effects, hearing_has_effects, refusing_has_effects}
 
 happens_if : (w : World) (e : Event) (b : Bool) (u v : World) → (b ≡ true → Happens w e u) → (b ≡ false → Happens w e v) → Happens w e (if b then u else v)
@@ -51,7 +37,7 @@ letter_happens w e hearing None is h = idles said.NoPacket tt
 letter_happens w e hearing (Some l) is h =
     happens_if w e (not (is_for l (actor w e))) _ _ (λ t. idles said.NotAddressed tt)
     (λ f. happens_if w e (is_stopped w (actor w e)) _ _ (λ t. idles said.IsStopped tt)
-    (λ g. let k = h l.packet (record { letter = l; there = is; addressed = not_false _ f; is = refl }) in steps k.0 (hearing l.packet) g k.1 k.2))
+    (λ g. let k = h l.packet (record { letter = l; there = is; addressed = not-false _ f; is = refl }) in steps k.0 (hearing l.packet) g k.1 k.2))
 
 hears_whole : (w : World) (e : Event) → Hears w e (hear (w.nodes (actor w e)))
 hears_whole w e p sent = (hears p, sent, hearing_has_effects (w.nodes (actor w e)) p)
@@ -71,7 +57,7 @@ hears_cut w e keep p sent = one (nat_le (packet_length p) keep) (nat_lt keep 12)
 return_happens : (w : World) (e : Event) (place : ℕ) → place ≡ place_of (actor w e) → Happens w e (comes_back w e place)
 return_happens w e place is =
     happens_if w e (not (is_stopped w (current w place) || has_departed (w.nodes (current w place)).status)) _ _ (λ t. idles _ tt)
-    (λ f. happens_if w e (w.lives place == 16) _ _ (λ t. idles said.NoLife tt) (λ g. returns place is (not_false _ f) g))
+    (λ f. happens_if w e (w.lives place == 16) _ _ (λ t. idles said.NoLife tt) (λ g. returns place is (not-false _ f) g))
 
 act_happens : (w : World) (e : Event) (a : Act) → e.act ≡ a → Happens w e (acts_as w e (actor w e) a)
 act_happens w e a is = by_act a is

@@ -1,38 +1,22 @@
 -- Each row has its effect.
-use Rattle.std.proofs.Common.{◌≡◌, ℕ, ◌==◌, ◌&&◌, Bool, true, false, not, if◌then◌else◌, List, Ok, Err, refl}
-use Rattle.am_base.specs.declared.name.Stamp.{Stamp}
-use Rattle.am_base.specs.declared.image.Report.{Report}
-use Rattle.am_base.specs.declared.event.NodeEvent.{NodeEvent}
+use Rattle.am_effects.proofs.Words.{not-true, ◌≡◌, ℕ, ◌==◌, ◌&&◌, Bool, true, false, not, if◌then◌else◌, List, Ok, Err, refl, Stamp, Report, NodeEvent}
+use Rattle.am_effects.proofs.Words.{stamp_eq, Packet, Read, reading, Node, image_of, view, acts, is_sequencer, Plan, request_row, spread_row, hand_over_row}
+use Rattle.am_effects.proofs.Words.{hears_member, hears_asking, hears_in_view, hears_sequencer, where_heard, hear_row, read_row, row, step, hear, refuse}
+use Rattle.am_effects.proofs.Words.{hear_refusal, and_both, Cause, hears, refuses, by_request, by_spread, cause_of_read, cause_of, by_reset, by_hand_over}
+use Rattle.am_effects.proofs.Words.{StepsHaveEffects, HearingHasEffects, RefusingHasEffects}
 use Rattle.am_base.specs.declared.event.NodeEvent.TheVariants as does
-use Rattle.am_base.specs.Stamps.{stamp_eq}
-use Rattle.am_packet.specs.declared.packet.Packet.{Packet}
 use Rattle.am_packet.specs.declared.packet.Packet.TheVariants as packet
-use Rattle.am_codec.specs.Reading.{Read, reading}
-use Rattle.am_model.specs.Node.{Node, image_of, view, acts, is_sequencer}
-use Rattle.am_model.specs.Emit.{Plan}
-use Rattle.am_model.specs.Sequencing.{request_row}
-use Rattle.am_model.specs.Receiving.{spread_row}
-use Rattle.am_model.specs.Resets.{hand_over_row}
-use Rattle.am_model.specs.Hearing.{hears_member, hears_asking, hears_in_view, hears_sequencer, where_heard, hear_row}
-use Rattle.am_model.specs.Step.{read_row, row, step, hear, refuse, hear_refusal}
-use Rattle.am_base.proofs.Greatest.{and_both}
-use Rattle.am_effects.specs.Causes.{Cause, hears, refuses, by_request, by_spread, cause_of_read, cause_of}
-use Rattle.am_effects.specs.Looks.{by_reset, by_hand_over}
-use Rattle.am_effects.specs.Effects.{StepsHaveEffects, HearingHasEffects, RefusingHasEffects}
-use Rattle.am_effects.proofs.Tests.{not_true}
-use Rattle.am_effects.proofs.Plans.{HasEffect, effect_if, rows}
-use Rattle.am_effects.proofs.Calls.{row_send, row_done, row_take, row_join, row_state, row_leave, row_ask}
-use Rattle.am_effects.proofs.Ticks.{row_tick}
-use Rattle.am_effects.proofs.Ballots.{row_reset, row_give_up_row}
 use Rattle.am_effects.proofs.Sequencing.{FromMember, row_request, row_ack, row_nack, row_join_ask, row_leave_ask}
 use Rattle.am_effects.proofs.Receiving.{row_spread, row_bcast, row_order, row_accept, row_hold, row_welcome, row_gone}
-use Rattle.am_effects.proofs.Resets.{row_invite, row_vote, row_fetch, row_piece, row_result}
+use Rattle.am_effects.proofs.{Plans.HasEffect, Plans.effect_if, Plans.rows, Calls.row_send, Calls.row_done, Calls.row_take, Calls.row_join, Calls.row_state}
+use Rattle.am_effects.proofs.{Calls.row_leave, Calls.row_ask, Ticks.row_tick, Ballots.row_reset, Ballots.row_give_up_row, Resets.row_invite, Resets.row_vote}
+use Rattle.am_effects.proofs.{Resets.row_fetch, Resets.row_piece, Resets.row_result}
 
 -- ---- who is heard
 
 -- a name that is heard isn't the node's own
-other_heard : (m : Node) (s : ℕ) → hears_member m s ≡ true → (s == m.core.who) ≡ false
-other_heard m s t = not_true _ (and_both (not (s == m.core.who)) _ t).0
+pub other_heard : (m : Node) (s : ℕ) → hears_member m s ≡ true → (s == m.core.who) ≡ false
+other_heard m s t = not-true _ (and_both (not (s == m.core.who)) _ t).0
 
 from_member : (m : Node) (s : ℕ) (v : Stamp) → hears_in_view m s v ≡ true → is_sequencer m ≡ true → FromMember m s v
 from_member m s v t leads =

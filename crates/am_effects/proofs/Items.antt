@@ -1,14 +1,8 @@
 -- Items of lists, and what holds of each of them.
-use Rattle.std.proofs.Common.{◌≡◌, ◌⊎◌, inl, inr, ℕ, zero, suc, ◌==◌, Bool, true, List, [], ◌∷◌, ◌++◌, length, take, find, Some, slice_get, refl, sym, ap, ◌∙◌}
-use Rattle.std.proofs.Common.{subst}
-use Rattle.std.specs.Prelude.{All}
-use Rattle.std.proofs.lemmas.List.Elements.{All-head, All-tail, All-cons, All-append, All-take, All-drop}
-use Rattle.am_base.specs.Names.{size}
-use Rattle.am_packet.specs.declared.packet.Packet.{Packet}
-use Rattle.am_packet.specs.Boxes.{Letter, letter_to, place_for, with_letter}
-use Rattle.am_packet.specs.Kinds.{kind_of}
-use Rattle.am_group.specs.Journals.{item_at}
-use Rattle.am_base.proofs.Greatest.{split}
+use Rattle.am_effects.proofs.Words.{◌≡◌, ◌⊎◌, inl, inr, ℕ, zero, suc, ◌==◌, Bool, true, List, [], ◌∷◌, ◌++◌, length, find, Some, slice_get, refl, sym, ap}
+use Rattle.am_effects.proofs.Words.{◌∙◌, subst, All, All-head, All-tail, All-cons, All-append, All-take, All-drop, size, Packet, Letter, letter_to, place_for}
+use Rattle.am_effects.proofs.Words.{with_letter, kind_of, item_at, split}
+use Rattle.std.proofs.Common.{take}
 
 -- ---- an item
 

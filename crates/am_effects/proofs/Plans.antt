@@ -1,33 +1,14 @@
 -- What a row's plan does, and the effect once it is done.
-use Rattle.std.proofs.Common.{◌≡◌, ℕ, Bool, true, false, nat_lt, ◌==◌, ◌&&◌, if◌then◌else◌, List, [], inl, inr, refl, ap, arith}
-use Rattle.std.specs.Prelude.{All}
-use Rattle.std.proofs.lemmas.Bool.Decides.{nat_tests}
-use Rattle.std.proofs.lemmas.List.Elements.{All-nil}
-use Rattle.am_base.specs.declared.name.Stamp.{Stamp}
-use Rattle.am_base.specs.Stamps.{stamp_eq}
-use Rattle.am_base.specs.declared.entry.Entry.{Entry}
-use Rattle.am_base.specs.declared.entry.Entry.TheVariants.{Leave}
-use Rattle.am_base.specs.declared.outcome.Outcome.{Outcome}
-use Rattle.am_base.specs.declared.event.NodeEvent.{NodeEvent}
+use Rattle.am_effects.proofs.Words.{◌≡◌, ℕ, Bool, true, false, nat_lt, ◌==◌, ◌&&◌, if◌then◌else◌, List, [], inl, inr, refl, ap, arith, All, nat_tests}
+use Rattle.am_effects.proofs.Words.{All-nil, Stamp, stamp_eq, Entry, Leave, Outcome, NodeEvent, size, Packet, Letter, with_letter, Status, Departed, Node}
+use Rattle.am_effects.proofs.Words.{view, others, is_member, is_sequencer, has_room, with_report, push_entry, refresh, refresh_at_end, Plan, quiet, telling}
+use Rattle.am_effects.proofs.Words.{polling, and_telling, and_where, numbering, accept_of, tells_accepted, with_accept, finish, split, and_both, hears_member}
+use Rattle.am_effects.proofs.Words.{Cause, calls, hears, Change, refreshes, settles, takes_report, departs, looks, closes, Changes, unchanged, changed}
+use Rattle.am_effects.proofs.Words.{Course, nothing_yet, used_report, and_then, Deeds, plainly, looked, at_end, let_go, closing, Says, accept, LetterSays}
+use Rattle.am_effects.proofs.Words.{Answers, Effect}
 use Rattle.am_base.specs.declared.outcome.Outcome.TheVariants as said
-use Rattle.am_base.specs.Names.{size}
-use Rattle.am_packet.specs.declared.packet.Packet.{Packet}
 use Rattle.am_packet.specs.declared.packet.Packet.TheVariants as packet
-use Rattle.am_packet.specs.Boxes.{Letter, with_letter}
-use Rattle.am_model.specs.declared.status.Status.{Status}
-use Rattle.am_model.specs.declared.status.Status.TheVariants.{Departed}
-use Rattle.am_model.specs.Node.{Node, view, others, is_member, is_sequencer, has_room, with_report, push_entry}
-use Rattle.am_model.specs.Refresh.{refresh, refresh_at_end}
-use Rattle.am_model.specs.Emit.{Plan, quiet, telling, polling, and_telling, and_where, numbering, accept_of, tells_accepted, with_accept, finish}
-use Rattle.am_base.proofs.Greatest.{split, and_both}
-use Rattle.am_model.specs.Hearing.{hears_member}
-use Rattle.am_effects.specs.Causes.{Cause, calls, hears}
-use Rattle.am_effects.specs.Changes.{Change, refreshes, settles, takes_report, departs, looks, closes, Changes, unchanged, changed}
-use Rattle.am_effects.specs.Courses.{Course, nothing_yet, used_report, and_then, Deeds, plainly, looked, at_end, let_go, closing}
-use Rattle.am_effects.specs.Letters.{Says, accept, LetterSays}
-use Rattle.am_effects.specs.Effects.{Answers, Effect}
-use Rattle.am_effects.proofs.Items.{all_letter}
-use Rattle.am_effects.proofs.Rests.{Rests, RestsWhole, rests_at_end}
+use Rattle.am_effects.proofs.{Items.all_letter, Rests.Rests, Rests.RestsWhole, Rests.rests_at_end}
 
 -- ---- changes in turn
 
@@ -125,8 +106,7 @@ does_telling R m c p o to packet h a t = record {
   stays = refl;
   changes = λ n. h;
   answer = a;
-  letters =
-      λ n r. and_says m c n to (packet n) [] (t n r) (none_says m c n);
+  letters = λ n r. and_says m c n to (packet n) [] (t n r) (none_says m c n);
 }
 
 pub does_and : (R : Node → Node → Type 0) (m : Node) (c : Cause) (p : Plan) (to : List ℕ) (packet : Node → Packet) → Does R m c p → Tells R m c p.node to packet
@@ -135,8 +115,7 @@ does_and R m c p to packet h t = record {
   stays = h.stays;
   changes = h.changes;
   answer = h.answer;
-  letters =
-      λ n r. and_says m c n to (packet n) (p.letters n) (t n r) (h.letters n r);
+  letters = λ n r. and_says m c n to (packet n) (p.letters n) (t n r) (h.letters n r);
 }
 
 pub does_where : (R : Node → Node → Type 0) (m : Node) (c : Cause) (test : Node → Bool) (p : Plan) (to : List ℕ) (packet : Node → Packet) → Does R m c p
@@ -155,8 +134,7 @@ does_numbering R m c p e o packet h a t = record {
   stays = refl;
   changes = λ n. h;
   answer = a;
-  letters =
-      λ n r. and_says m c n (others p) (packet n) [] (t n r) (none_says m c n);
+  letters = λ n r. and_says m c n (others p) (packet n) [] (t n r) (none_says m c n);
 }
 
 -- ---- a plan that is done

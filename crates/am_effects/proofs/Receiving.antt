@@ -1,39 +1,17 @@
 -- The effects of what a member hears of its sequencer, of bodies that are spread, and of a joiner's Welcome.
-use Rattle.std.proofs.Common.{◌≡◌, ℕ, ◌+◌, ◌<◌, ◌≤◌, ◌==◌, ◌&&◌, ◌||◌, nat_lt, nat_le, not, Bool, true, false, List, Option, Some, None, refl, sym, ap, subst}
-use Rattle.std.proofs.Common.{◌∙◌, arith}
-use Rattle.std.specs.List.{list_any}
-use Rattle.std.proofs.lemmas.Bool.Decides.{nat_tests}
-use Rattle.am_base.specs.declared.image.Report.{Report}
-use Rattle.am_base.specs.declared.image.Image.{Image}
-use Rattle.am_base.specs.declared.name.Stamp.{Stamp}
-use Rattle.am_base.specs.declared.entry.Entry.{Entry}
-use Rattle.am_base.specs.declared.entry.Entry.TheVariants.{Data}
-use Rattle.am_base.specs.declared.outcome.Outcome.{Outcome}
+use Rattle.am_effects.proofs.Words.{not-false, same_Some, ◌≡◌, ℕ, ◌+◌, ◌<◌, ◌≤◌, ◌==◌, ◌&&◌, ◌||◌, nat_lt, nat_le, not, Bool, true, false, List, Option, Some}
+use Rattle.am_effects.proofs.Words.{None, refl, sym, ap, subst, ◌∙◌, arith, list_any, nat_tests, Report, Image, Stamp, Entry, Data, Outcome, stamp_lt}
+use Rattle.am_effects.proofs.Words.{stamp_eq, fits, row_of, OwnSend, is_of, keep_body, Node, top, image_of, view, only_name, acts, is_member, is_asking}
+use Rattle.am_effects.proofs.Words.{has_own_leave, is_within_bound, waiting, push_entry, quiet, ack_of, nack_of, fetch_of, row_at, if_risen, spread_row}
+use Rattle.am_effects.proofs.Words.{is_view, with_noted, acknowledges, bodies_after, body_of, store_fitting, store, receive_entry, bcast_row, data_of}
+use Rattle.am_effects.proofs.Words.{order_row, accept_row, answer_hold, hold_row, begin_list, ask_next, welcome_row, gone_row, hears_member, hears_asking}
+use Rattle.am_effects.proofs.Words.{hears_in_view, hears_sequencer, split, and_both, Cause, hears, BringsFronts, with_entry, with_number, alone, MayStore}
+use Rattle.am_effects.proofs.Words.{Carries, whole_entry, by_number, MayBeWelcomed, keeps_body, notes, stores, begins_list, Course, nothing_yet, and_then}
+use Rattle.am_effects.proofs.Words.{fetch, of_promise, Answers}
 use Rattle.am_base.specs.declared.outcome.Outcome.TheVariants as said
-use Rattle.am_base.specs.Stamps.{stamp_lt, stamp_eq}
-use Rattle.am_base.specs.Lists.{fits, row_of}
 use Rattle.am_packet.specs.declared.packet.Packet.TheVariants as packet
-use Rattle.am_sender.specs.declared.OwnSend.{OwnSend}
-use Rattle.am_bodies.specs.Bodies.{is_of, keep_body}
-use Rattle.am_model.specs.Node.{Node, top, image_of, view, only_name, acts, is_member, is_asking, has_own_leave, is_within_bound, waiting, push_entry}
-use Rattle.am_model.specs.Emit.{quiet, ack_of, nack_of, fetch_of}
-use Rattle.am_model.specs.Sequencing.{row_at, if_risen}
-use Rattle.am_model.specs.Receiving.{spread_row, is_view, with_noted, acknowledges, bodies_after, body_of, store_fitting, store, receive_entry, bcast_row}
-use Rattle.am_model.specs.Receiving.{data_of, order_row}
-use Rattle.am_model.specs.Receiving.{accept_row, answer_hold, hold_row}
-use Rattle.am_model.specs.Joining.{begin_list, ask_next, welcome_row, gone_row}
-use Rattle.am_model.specs.Hearing.{hears_member, hears_asking, hears_in_view, hears_sequencer}
-use Rattle.am_base.proofs.Greatest.{split, and_both}
-use Rattle.am_effects.specs.Causes.{Cause, hears, BringsFronts, with_entry, with_number, alone}
-use Rattle.am_effects.specs.Changes.{MayStore, Carries, whole_entry, by_number, MayBeWelcomed, keeps_body, notes, stores, begins_list}
-use Rattle.am_effects.specs.Courses.{Course, nothing_yet, and_then}
-use Rattle.am_effects.specs.Letters.{fetch, of_promise}
-use Rattle.am_effects.specs.Effects.{Answers}
-use Rattle.am_effects.proofs.Tests.{not_false, or_first, or_second}
-use Rattle.am_effects.proofs.Rests.{RestsWhole}
 use Rattle.am_effects.proofs.Plans.{Comes, HasEffect, effect_if, effect_of, does_quiet, does_saying, does_telling, does_where, row_let_go, rows}
-use Rattle.am_effects.proofs.Says.{acts_pushed, tells_ack, tells_nack}
-use Rattle.am_effects.proofs.Calls.{Allows}
+use Rattle.am_effects.proofs.{Tests.or_first, Tests.or_second, Rests.RestsWhole, Says.acts_pushed, Says.tells_ack, Says.tells_nack, Calls.Allows}
 
 -- ---- bodies
 
@@ -59,7 +37,7 @@ heard_acts m s v t =
 pub may_store : (m : Node) (above base number : ℕ) (e : Entry) → number ≡ top m + 1 → base ≤ m.core.taken → has_own_leave m ≡ false
     → not (fits (image_of m) e) ≡ false → not (is_within_bound m above number) ≡ false → MayStore m above base number e
 may_store m above base number e next taken stays f w =
-    record { next = next; taken = taken; stays = stays; fits = not_false _ f; within = not_false _ w }
+    record { next = next; taken = taken; stays = stays; fits = not-false _ f; within = not-false _ w }
 
 -- it comes next, and fits
 row_stored : (m : Node) (c : Cause) (p : Node) (s : ℕ) (v : Stamp) (base acc number : ℕ) (e : Entry) → Comes m c p → Carries c p s v base acc number e
@@ -108,16 +86,13 @@ comes_noted : (m : Node) (c : Cause) (s : ℕ) (v : Stamp) (base acc : ℕ) → 
     → Comes m c (with_noted m base acc)
 comes_noted m c s v base acc by heard o = and_then nothing_yet (notes {m = m} s v base acc by heard) tt
 
-some_is : {A : Type 0} (a b : A) → Some a ≡ Some b → a ≡ b
-some_is a b e = cc
-
 pub row_bcast : (m : Node) (s : ℕ) (v : Stamp) (base acc number : ℕ) (e : Entry) → hears_sequencer m s v ≡ true
     → HasEffect m (hears (packet.Bcast s v base acc number e)) (bcast_row m s base acc number e)
 unfolding bcast_row
 row_bcast m s v base acc number e heard =
     let c = hears (packet.Bcast s v base acc number e) in
     row_received m c (with_noted m base acc) s v base acc number (Some e) said.Known (comes_noted m c s v base acc (with_entry s v base acc number e) heard)
-    (λ x is. whole_entry x (ap (λ y. hears (packet.Bcast s v base acc number y)) (some_is e x is))) (λ n. tt) heard
+    (λ x is. whole_entry x (ap (λ y. hears (packet.Bcast s v base acc number y)) (same_Some e x is))) (λ n. tt) heard
 
 pub row_order : (m : Node) (s : ℕ) (v : Stamp) (base acc number from req : ℕ) → hears_sequencer m s v ≡ true
     → HasEffect m (hears (packet.Order s v base acc number from req)) (order_row m s base acc number from req)
@@ -133,7 +108,7 @@ row_order m s v base acc number from req heard =
         → Carries (hears (packet.Order s v base acc number from req)) p s v base acc number x
     carries p None x at is = absurd (cc)
     carries p (Some body) x at is = subst (λ y. Carries (hears (packet.Order s v base acc number from req)) p s v base acc number y)
-        (some_is (Data from req body) x is) (by_number from req body refl at)
+        (same_Some (Data from req body) x is) (by_number from req body refl at)
 
 -- ---- how far it is accepted
 
@@ -190,8 +165,7 @@ row_welcomed m s v base join image may other =
     let a : (n : Node) → RestsWhole p n → Answers m c n o = λ n r. record {
       before = may.no_member;
       asked = asking m s v base join image may;
-      member =
-          r.rests.status;
+      member = r.rests.status;
       start = r.begins;
     } in
     effect_if m c (stamp_eq (view p) v) _ _
@@ -216,7 +190,7 @@ row_welcome m s v base join image heard own =
     (λ f.
     let a = or_first (nat_le join base) _ f in
     let g = or_second (nat_le join base) _ f in
-    let b = not_false _ (or_first (not (is_within_bound m base join)) _ g) in
+    let b = not-false _ (or_first (not (is_within_bound m base join)) _ g) in
     let h = or_second (not (is_within_bound m base join)) _ g in
     let above : base < join = grind (arith, nat_tests) in
     row_welcomed m s v base join image (record {
@@ -226,8 +200,7 @@ row_welcome m s v base join image heard own =
       promise = promise;
       above = above;
       within = b;
-      view =
-          or_first (stamp_lt v image.view) _ h;
+      view = or_first (stamp_lt v image.view) _ h;
       new = or_second (stamp_lt v image.view) _ h;
     }) other)))
   where

@@ -1,49 +1,29 @@
 -- The effects of what belongs to ballots.
-use Rattle.std.proofs.Common.{◌≡◌, ℕ, ◌+◌, ◌≤◌, max, ◌==◌, ◌&&◌, ◌||◌, nat_lt, nat_le, not, Bool, true, false, List, [], Option, Some, None, refl, sym, ap, ◌∙◌}
-use Rattle.std.proofs.Common.{arith}
-use Rattle.std.proofs.lemmas.Bool.Decides.{nat_tests}
-use Rattle.am_base.specs.declared.image.Vote.{Vote}
-use Rattle.am_base.specs.declared.image.Image.{Image}
-use Rattle.am_base.specs.declared.name.Stamp.{Stamp}
-use Rattle.am_base.specs.declared.entry.Entry.{Entry}
-use Rattle.am_base.specs.declared.entry.Entry.TheVariants.{View}
-use Rattle.am_base.specs.declared.outcome.Outcome.{Outcome}
+use Rattle.am_effects.proofs.Words.{not-true, not-false, ◌≡◌, ℕ, ◌+◌, ◌≤◌, max, ◌==◌, ◌&&◌, ◌||◌, nat_lt, nat_le, not, Bool, true, false, List, [], Option}
+use Rattle.am_effects.proofs.Words.{Some, None, refl, sym, ap, ◌∙◌, arith, nat_tests, Vote, Image, Stamp, Entry, View, Outcome, stamp_lt, stamp_eq, fits}
+use Rattle.am_effects.proofs.Words.{Node, Ballot, top, image_of, view, only_name, is_member, has_own_leave, is_within_bound, push_entry, trim_up_to, Plan}
+use Rattle.am_effects.proofs.Words.{quiet, ack_of, fetch_of, piece_of, is_unfinished, with_promise, vote_of, invite_row, is_open, take_vote, vote_row}
+use Rattle.am_effects.proofs.Words.{may_fetch, fetch_row, is_view_past, push_fetched, catch_up, decide_anew, fetches_from, piece_promised, piece_for}
+use Rattle.am_effects.proofs.Words.{piece_row, hears_result, result_row, hears_member, hears_asking, and_both, Cause, hears, HasOpen, with_more, as_it_is}
+use Rattle.am_effects.proofs.Words.{was_fetched, MayStore, without_ballot, invited, overtaken, told_result, promises, fetches, stores_view, Course}
+use Rattle.am_effects.proofs.Words.{nothing_yet, and_then, vote, piece, ack, fetch, of_promise}
+use Rattle.am_effects.specs.Changes.{for_ballot}
 use Rattle.am_base.specs.declared.outcome.Outcome.TheVariants as said
-use Rattle.am_base.specs.Stamps.{stamp_lt, stamp_eq}
-use Rattle.am_base.specs.Lists.{fits}
 use Rattle.am_packet.specs.declared.packet.Packet.TheVariants as packet
-use Rattle.am_model.specs.Node.{Node, Ballot, top, image_of, view, only_name, is_member, has_own_leave, is_within_bound, push_entry, trim_up_to}
-use Rattle.am_model.specs.Emit.{Plan, quiet, ack_of, fetch_of, piece_of}
-use Rattle.am_model.specs.Calls.{is_unfinished}
-use Rattle.am_model.specs.Ballots.{with_promise, vote_of}
-use Rattle.am_model.specs.Resets.{invite_row, is_open, take_vote, vote_row, may_fetch, fetch_row, is_view_past, push_fetched, catch_up, decide_anew}
-use Rattle.am_model.specs.Resets.{fetches_from}
-use Rattle.am_model.specs.Resets.{piece_promised, piece_for, piece_row, hears_result, result_row}
-use Rattle.am_model.specs.Hearing.{hears_member, hears_asking}
-use Rattle.am_base.proofs.Greatest.{and_both}
-use Rattle.am_effects.specs.Causes.{Cause, hears}
-use Rattle.am_effects.specs.Looks.{HasOpen, with_more, as_it_is, was_fetched}
-use Rattle.am_effects.specs.Changes.{MayStore, without_ballot, for_ballot, invited, overtaken, told_result, promises, fetches, stores_view}
-use Rattle.am_effects.specs.Courses.{Course, nothing_yet, and_then}
-use Rattle.am_effects.specs.Letters.{vote, piece, ack, fetch, of_promise}
-use Rattle.am_effects.proofs.Tests.{not_false, not_true, or_first, or_second}
-use Rattle.am_effects.proofs.Rests.{RestsWhole}
 use Rattle.am_effects.proofs.Plans.{none_says, Comes, HasEffect, effect_if, effect_of, does_quiet, does_telling, does_where, rows}
-use Rattle.am_effects.proofs.Says.{told_pushed, says_served, tells_ack}
-use Rattle.am_effects.proofs.Receiving.{may_store}
-use Rattle.am_effects.proofs.Ballots.{viewed, effect_answered, row_keep_vote}
-use Rattle.am_effects.proofs.Calls.{Allows}
+use Rattle.am_effects.proofs.{Receiving.stamp_turned, Receiving.may_store, Tests.or_first, Tests.or_second, Rests.RestsWhole, Says.told_pushed}
+use Rattle.am_effects.proofs.{Says.says_served, Says.tells_ack, Ballots.viewed, Ballots.effect_answered, Ballots.row_keep_vote, Calls.Allows}
 
 -- ---- stamps
 
-same_stamp : (a b : Stamp) → stamp_eq a b ≡ true → a ≡ b
+pub same_stamp : (a b : Stamp) → stamp_eq a b ≡ true → a ≡ b
 same_stamp a b t =
     let r : a.round ≡ b.round = grind (arith, nat_tests) in
     let n : a.by ≡ b.by = grind (arith, nat_tests) in
     λ i. record { round = r i; by = n i }
 
-itself : (a : Stamp) → stamp_eq a a ≡ true
-itself a = grind (arith, nat_tests)
+pub stamp_itself : (a : Stamp) → stamp_eq a a ≡ true
+stamp_itself a = grind (arith, nat_tests)
 
 -- ---- votes
 
@@ -64,8 +44,8 @@ row_voted_for m s v show (Some b) is heard high =
     effect_if m c (stamp_lt v m.core.promise || not (is_open v b)) _ _ (λ t. search rows)
     (λ f.
     let low = or_first (stamp_lt v m.core.promise) (not (is_open v b)) f in
-    let open_ = and_both (not b.is_over) (stamp_eq b.stamp v) (not_false _ (or_second (stamp_lt v m.core.promise) (not (is_open v b)) f)) in
-    let has_open : HasOpen m b = record { last = is; open_ = not_true _ open_.0 } in
+    let open_ = and_both (not b.is_over) (stamp_eq b.stamp v) (not-false _ (or_second (stamp_lt v m.core.promise) (not (is_open v b)) f)) in
+    let has_open : HasOpen m b = record { last = is; open_ = not-true _ open_.0 } in
     effect_if m c (b.given_up s) _ _ (λ t. search rows)
     (λ g. row_keep_vote m c b s show has_open (with_more b s v show refl heard low high has_open (same_stamp b.stamp v open_.1) g)))
 
@@ -97,7 +77,7 @@ row_fetch m s v low =
       answer = λ n r. tt;
       letters = λ n r. says_served m c m n (piece_of n) (only_name s) low above r.rests
           (λ number e stands. piece s v low number e refl ((λ i. stamp_eq v (r.rests.promise i)
-          && ((v.by == s) || ((v.by == r.rests.who i) && stamp_eq (r.rests.view i) v))) ∙ not_false _ may) stands);
+          && ((v.by == s) || ((v.by == r.rests.who i) && stamp_eq (r.rests.view i) v))) ∙ not-false _ may) stands);
     })))
 
 row_fetched : (m : Node) (c : Cause) (v : Stamp) (base number : ℕ) (e : Entry) (in_ballot : Bool) (then_ : Node → Plan)
@@ -124,7 +104,7 @@ record OfPromise (m : Node) (s : ℕ) (v : Stamp) : Type 0 where
   promise : stamp_eq v m.core.promise ≡ true
   below : stamp_eq (view m) v ≡ false
 
-member_heard : (m : Node) (s : ℕ) → hears_member m s ≡ true → is_member m.status ≡ true
+pub member_heard : (m : Node) (s : ℕ) → hears_member m s ≡ true → is_member m.status ≡ true
 member_heard m s t = (and_both (not (s == m.core.who)) (is_member m.status) t).1
 
 stamps_meet : (a b d : Stamp) → stamp_eq a b ≡ true → stamp_eq d a ≡ true → stamp_eq b d ≡ true
@@ -139,7 +119,7 @@ row_piece_promised m s v base number e h none =
     (λ own. row_fetched m c v base number e false (catch_up s v number)
     (λ may past.
     let change : Course c (said.Stored number) m p = and_then nothing_yet
-    (fetches {m = m} s v base number e refl h.heard h.promise h.below (without_ballot none (not_false _ own) past) may) tt in
+    (fetches {m = m} s v base number e refl h.heard h.promise h.below (without_ballot none (not-false _ own) past) may) tt in
     effect_of m c _ (does_where RestsWhole m c (λ n. stamp_eq (view n) v) (quiet p (said.Stored number))
     (only_name s) ack_of (does_quiet RestsWhole m c p (said.Stored number) change (λ n r. tt))
     (λ n r t.
@@ -160,7 +140,7 @@ row_piece_for m s v base number e (Some b) is h =
     (λ from. row_fetched m c v base number e true (decide_anew b)
     (λ may past.
     let comes : Comes m c p = λ o. and_then nothing_yet (fetches {m =
-    m} s v base number e refl h.heard h.promise h.below (for_ballot b has_open (not_false _ from) past) may) tt in
+    m} s v base number e refl h.heard h.promise h.below (for_ballot b has_open (not-false _ from) past) may) tt in
     effect_answered m c p b (λ n. []) comes f (as_it_is b (record { last = is; open_ = f }) (was_fetched s v base number e refl h.promise))
     (λ n r. none_says m c n))))
 
@@ -173,15 +153,11 @@ row_piece m s v base number e heard =
     (λ f. row_piece_for m s v base number e m.ballot refl
     (record {
       heard = heard;
-      promise = not_false _ (or_first (not (stamp_eq v m.core.promise)) (stamp_eq (view m) v) f);
-      below =
-          or_second (not (stamp_eq v m.core.promise)) (stamp_eq (view m) v) f;
+      promise = not-false _ (or_first (not (stamp_eq v m.core.promise)) (stamp_eq (view m) v) f);
+      below = or_second (not (stamp_eq v m.core.promise)) (stamp_eq (view m) v) f;
     }))
 
 -- ---- a decided view
-
-stamp_reversed : (a b : Stamp) → stamp_eq a b ≡ true → stamp_eq b a ≡ true
-stamp_reversed a b t = grind (arith, nat_tests)
 
 row_hears_result : (m : Node) (s : ℕ) (v : Stamp) (base number : ℕ) (names : List ℕ) (resilience : ℕ) → hears_member m s ≡ true → (v.by == s) ≡ true
     → (v.by == m.core.who) ≡ false → stamp_lt v m.core.promise ≡ false
@@ -196,7 +172,7 @@ row_hears_result m s v base number names resilience heard own other low =
     let within = is_within_bound p (max p.core.base base) number in
     effect_if m c (stamp_eq (view p) v) _ _
     (λ t.
-    let back = stamp_reversed (view p) v t in
+    let back = stamp_turned (view p) v t in
     effect_of m c _ (does_telling RestsWhole m c p said.Known (only_name s) ack_of (comes _) (λ n r. tt)
     (tells_ack m c p (only_name s) (rw (member, back) refl))))
     (λ below. effect_if m c (nat_le number (top p)) _ _ (λ t. quietly said.Unfit (λ n. tt))
@@ -216,7 +192,7 @@ row_hears_result m s v base number names resilience heard own other low =
     let may : MayStore p (max p.core.base base) base number e = may_store p (max p.core.base base) base number e next taken stays
     (or_first (not (fits (image_of p) e)) (not within) f) (or_second (not (fits (image_of p) e)) (not within) f) in
     let stamp : view n ≡ v = ap (λ (i : Image). i.view) (told_pushed (trim_up_to p base) e) ∙ (viewed (image_of p) (top p + 1) v names resilience).1 in
-    let same : stamp_eq v (view n) ≡ true = ap (stamp_eq v) stamp ∙ itself v in
+    let same : stamp_eq v (view n) ≡ true = ap (stamp_eq v) stamp ∙ stamp_itself v in
     effect_of m c _ (does_telling RestsWhole m c n (said.Stored number)
     (only_name s) ack_of (and_then (comes _) (stores_view {m = p} s v base number names resilience refl heard own other refl below may) tt) (λ k r. tt)
     (tells_ack m c n (only_name s) (rw (member, same) refl)))))))))

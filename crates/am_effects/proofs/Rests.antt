@@ -1,23 +1,12 @@
 -- What a refresh and the end of a step leave as it is.
-use Rattle.std.proofs.Common.{◌≡◌, ℕ, ◌+◌, ◌-◌, ◌≤◌, ◌==◌, ◌&&◌, max, min, nat_lt, if◌then◌else◌, List, [], ◌∷◌, ◌++◌, length, Option, Some, None, slice_get}
-use Rattle.std.proofs.Common.{option_map, refl, sym, ap, ◌∙◌, subst, arith, length-append}
-use Rattle.std.proofs.lemmas.Option.{slice_get-map}
-use Rattle.std.proofs.lemmas.List.{append-nil}
-use Rattle.am_base.specs.declared.entry.Entry.{Entry}
-use Rattle.am_base.specs.declared.entry.Entry.TheVariants.{Leave}
-use Rattle.am_base.specs.declared.image.Image.{Image}
-use Rattle.am_base.specs.Stamps.{stamp_eq}
-use Rattle.am_base.specs.Lists.{Log, at_place, after, fold, told_by}
-use Rattle.am_base.specs.Names.{life_of}
-use Rattle.am_core.specs.Cores.{accept, pass_over}
-use Rattle.am_fronts.specs.Refresh.{base_after, own_report, tell, go_on, let_go}
-use Rattle.am_sender.specs.declared.OwnSend.{OwnSend}
+use Rattle.am_effects.proofs.Words.{◌≡◌, ℕ, ◌+◌, ◌-◌, ◌≤◌, ◌==◌, ◌&&◌, max, min, nat_lt, if◌then◌else◌, List, [], ◌∷◌, ◌++◌, length, Option, Some, None}
+use Rattle.am_effects.proofs.Words.{slice_get, option_map, refl, sym, ap, ◌∙◌, subst, arith, length-append, slice_get-map, append-nil, Entry, Leave, Image}
+use Rattle.am_effects.proofs.Words.{stamp_eq, Log, at_place, after, fold, told_by, life_of, pass_over, base_after, own_report, tell, go_on, OwnSend, Node}
+use Rattle.am_effects.proofs.Words.{image_of, view, is_member, acts, is_sequencer, push_entry, waiting, advance, lead, refresh, accepted_at, settle_at}
+use Rattle.am_effects.proofs.Words.{settle_waiting, settle, refresh_at_end, fold_append, split, HasSend, Stands}
+use Rattle.am_core.specs.Cores.{accept}
+use Rattle.am_fronts.specs.Refresh.{let_go}
 use Rattle.am_sender.specs.Sends as own
-use Rattle.am_model.specs.Node.{Node, image_of, view, is_member, acts, is_sequencer, push_entry, waiting}
-use Rattle.am_model.specs.Refresh.{advance, lead, refresh, accepted_at, settle_at, settle_waiting, settle, refresh_at_end}
-use Rattle.am_base.proofs.Folds.{fold_append}
-use Rattle.am_base.proofs.Greatest.{split}
-use Rattle.am_effects.specs.Letters.{HasSend, Stands}
 use Rattle.am_effects.proofs.Items.{get_front}
 
 -- ---- a refresh
@@ -128,7 +117,7 @@ pub base_up : (least : Option ℕ) (base : ℕ) → base ≤ base_after least ba
 base_up None base = omega arith
 base_up (Some to) base = omega arith
 
-passed : (taken acc start : ℕ) → taken ≤ (if nat_lt taken (start - 1) then max taken (min acc (start - 1)) else taken)
+pub passed : (taken acc start : ℕ) → taken ≤ (if nat_lt taken (start - 1) then max taken (min acc (start - 1)) else taken)
 passed taken acc start = split (nat_lt taken (start - 1)) (λ t. rw t (omega arith)) (λ f. rw f (omega arith))
 
 rises_lead : (m : Node) → Rises m (lead m)

@@ -1,14 +1,6 @@
 -- What is kept by each event is kept by each run.
-use Rattle.std.proofs.Common.{◌≡◌, List, [], ◌∷◌, refl}
-use Rattle.am_base.specs.declared.outcome.Outcome.{Outcome}
-use Rattle.am_group.specs.declared.event.Event.{Event}
-use Rattle.am_model.specs.Node.{Node}
-use Rattle.am_model.specs.Emit.{Step}
-use Rattle.am_play.specs.World.{World, with_record, with_step, happens, happen}
-use Rattle.am_effects.specs.Causes.{Cause}
-use Rattle.am_effects.specs.Changes.{Change, Changes, unchanged as no_change, changed}
-use Rattle.am_effects.specs.Effects.{Effect}
-use Rattle.am_effects.specs.Events.{actor, IsCause, Happens, steps}
+use Rattle.am_effects.proofs.Words.{◌≡◌, List, [], ◌∷◌, refl, Outcome, Event, Node, Step, World, with_record, with_step, happens, happen, Cause, Change}
+use Rattle.am_effects.proofs.Words.{Changes, no_change, changed, Effect, actor, IsCause, Happens, steps}
 use Rattle.am_effects.proofs.Events.{events_have_effects}
 
 -- what each change keeps, some in turn keep

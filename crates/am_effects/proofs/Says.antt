@@ -1,29 +1,12 @@
 -- What letters say of a node, once the step is done.
-use Rattle.std.proofs.Common.{◌≡◌, ℕ, ◌+◌, ◌==◌, ◌&&◌, true, false, zero, suc, ◌-◌, ◌≤◌, List, [], ◌∷◌, drop, length, Some, slice_get, refl, sym, ap, ◌∙◌}
-use Rattle.std.proofs.Common.{arith, length-append}
-use Rattle.std.proofs.lemmas.Option.{slice_get_within}
-use Rattle.am_base.specs.declared.name.Stamp.{Stamp}
-use Rattle.am_base.specs.declared.image.Image.{Image}
-use Rattle.am_base.specs.declared.entry.Entry.{Entry}
-use Rattle.am_base.specs.declared.entry.Entry.TheVariants.{Data, Join, Leave, View}
-use Rattle.am_base.specs.Stamps.{stamp_eq}
-use Rattle.am_base.specs.Names.{life_of}
-use Rattle.am_base.specs.Lists.{at_place, after, fold}
-use Rattle.am_packet.specs.declared.packet.Packet.{Packet}
-use Rattle.am_packet.specs.Boxes.{Letter, with_letter}
-use Rattle.am_core.proofs.Folds.{slice_get-drop}
-use Rattle.am_sender.specs.declared.OwnSend.{OwnSend}
+use Rattle.am_effects.proofs.Words.{◌≡◌, ℕ, ◌+◌, ◌==◌, ◌&&◌, true, false, zero, suc, ◌-◌, ◌≤◌, List, [], ◌∷◌, drop, length, Some, slice_get, refl, sym, ap}
+use Rattle.am_effects.proofs.Words.{◌∙◌, arith, length-append, slice_get_within, Stamp, Image, Entry, Data, Join, Leave, View, stamp_eq, life_of, at_place}
+use Rattle.am_effects.proofs.Words.{after, fold, Packet, Letter, with_letter, slice_get-drop, OwnSend, Node, top, image_of, view, acts, is_member}
+use Rattle.am_effects.proofs.Words.{is_sequencer, push_entry, waiting, entries_to_serve, put_all, request_of, spread_of, bcast_of, ack_of, nack_of, is_view}
+use Rattle.am_effects.proofs.Words.{fold_append, split, Cause, HasSend, Stands, Says, request, spread, bcast, ack, nack}
 use Rattle.am_sender.specs.Sends as own
-use Rattle.am_model.specs.Node.{Node, top, image_of, view, acts, is_member, is_sequencer, push_entry, waiting}
-use Rattle.am_model.specs.Emit.{entries_to_serve, put_all, request_of, spread_of, bcast_of, ack_of, nack_of}
-use Rattle.am_model.specs.Receiving.{is_view}
-use Rattle.am_base.proofs.Folds.{fold_append}
-use Rattle.am_base.proofs.Greatest.{split}
-use Rattle.am_effects.specs.Causes.{Cause}
-use Rattle.am_effects.specs.Letters.{HasSend, Stands, Says, request, spread, bcast, ack, nack}
-use Rattle.am_effects.proofs.Items.{find_get, get_last, get_take}
-use Rattle.am_effects.proofs.Rests.{Rests, RestsWhole, acts_rests, leads_rests, stands_rests}
-use Rattle.am_effects.proofs.Plans.{AllSay, none_says, and_says, Tells}
+use Rattle.am_effects.proofs.{Items.find_get, Items.get_last, Items.get_take, Rests.Rests, Rests.RestsWhole, Rests.acts_rests, Rests.leads_rests}
+use Rattle.am_effects.proofs.{Rests.stands_rests, Plans.AllSay, Plans.none_says, Plans.and_says, Plans.Tells}
 
 -- ---- a node's own sends
 
@@ -60,8 +43,7 @@ stands_pushed m base e = record {
   index = length m.core.log.entries;
   there = get_last m.core.log.entries e;
   at = λ low. omega arith;
-  within =
-      simp length-append (omega arith);
+  within = simp length-append (omega arith);
 }
 
 -- ---- letters

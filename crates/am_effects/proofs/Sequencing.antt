@@ -1,33 +1,19 @@
 -- The effects of what the sequencer hears.
-use Rattle.std.proofs.Common.{◌≡◌, ◌≢◌, ℕ, ◌+◌, ◌<◌, ◌≤◌, ◌==◌, ◌&&◌, ◌||◌, nat_lt, nat_le, not, Bool, true, false, List, [], ◌∷◌, refl, sym, ap, ◌∙◌}
-use Rattle.std.proofs.Common.{length-append, arith}
-use Rattle.std.proofs.lemmas.Bool.Decides.{nat_tests}
-use Rattle.am_base.specs.declared.image.Report.{Report}
-use Rattle.am_base.specs.declared.image.Row.{Row}
-use Rattle.am_base.specs.declared.name.Stamp.{Stamp}
-use Rattle.am_base.specs.declared.entry.Entry.TheVariants.{Data, Join, Leave}
-use Rattle.am_base.specs.declared.outcome.Outcome.{Outcome}
+use Rattle.am_effects.proofs.Words.{not-false, ◌≡◌, ◌≢◌, ℕ, ◌+◌, ◌<◌, ◌≤◌, ◌==◌, ◌&&◌, ◌||◌, nat_lt, nat_le, not, Bool, true, false, List, [], ◌∷◌, refl, sym}
+use Rattle.am_effects.proofs.Words.{ap, ◌∙◌, length-append, arith, nat_tests, Report, Row, Stamp, Data, Join, Leave, Outcome, life_of, stamp_eq, Log, top_of}
+use Rattle.am_effects.proofs.Words.{fits, at_place, row_of, told_by, Node, top, image_of, view, others, only_name, is_sequencer, has_room, report_fits}
+use Rattle.am_effects.proofs.Words.{with_report, push_entry, Plan, quiet, polling, numbering, bcast_of, hold_of, welcome_of, gone_of, row_at, is_unknown}
+use Rattle.am_effects.proofs.Words.{take_report, answer_request, request_row, if_risen, ack_row, serve_again, nack_row, with_admitted, number_join}
+use Rattle.am_effects.proofs.Words.{join_ask_row, may_go, and_gone, counts_report, leave_ask_row, split, and_both, Cause, hears, BringsSend, BringsReport}
+use Rattle.am_effects.proofs.Words.{with_send, by_ack, by_nack, by_leave_ask, MayReport, takes_report, admits, numbers, asked_send, asked_join, asked_leave}
+use Rattle.am_effects.proofs.Words.{Course, nothing_yet, used_report, and_then, Stands, bcast, order, hold, welcome, gone, just_joined, asks_again, Answers}
+use Rattle.am_model.specs.Joining.{asks_to_join, let_go, asks_to_leave}
 use Rattle.am_base.specs.declared.outcome.Outcome.TheVariants as said
-use Rattle.am_base.specs.Names.{life_of}
-use Rattle.am_base.specs.Stamps.{stamp_eq}
-use Rattle.am_base.specs.Lists.{Log, top_of, fits, at_place, row_of, told_by}
 use Rattle.am_packet.specs.declared.packet.Packet.TheVariants as packet
-use Rattle.am_model.specs.Node.{Node, top, image_of, view, others, only_name, is_sequencer, has_room, report_fits, with_report, push_entry}
-use Rattle.am_model.specs.Emit.{Plan, quiet, polling, numbering, bcast_of, hold_of, welcome_of, gone_of}
-use Rattle.am_model.specs.Sequencing.{row_at, is_unknown, take_report, answer_request, request_row, if_risen, ack_row, serve_again, nack_row}
-use Rattle.am_model.specs.Joining.{with_admitted, number_join, asks_to_join, join_ask_row, may_go, let_go, and_gone, asks_to_leave, counts_report}
-use Rattle.am_model.specs.Joining.{leave_ask_row}
-use Rattle.am_base.proofs.Greatest.{split, and_both}
-use Rattle.am_effects.specs.Causes.{Cause, hears, BringsSend, BringsReport, with_send, by_ack, by_nack, by_leave_ask}
-use Rattle.am_effects.specs.Changes.{MayReport, takes_report, admits, numbers, asked_send, asked_join, asked_leave}
-use Rattle.am_effects.specs.Courses.{Course, nothing_yet, used_report, and_then}
-use Rattle.am_effects.specs.Letters.{Stands, bcast, order, hold, welcome, gone, just_joined, asks_again}
-use Rattle.am_effects.specs.Effects.{Answers}
-use Rattle.am_effects.proofs.Tests.{not_false, or_first, or_second, and_first, and_second, then_other}
-use Rattle.am_effects.proofs.Rests.{RestsWhole, rests_refresh, leads_rests, stands_rests}
 use Rattle.am_effects.proofs.Plans.{Comes, Does, HasEffect, effect_if, effect_of, does_quiet, does_saying, does_polling, does_telling, does_and, does_where}
 use Rattle.am_effects.proofs.Plans.{does_numbering, rows}
-use Rattle.am_effects.proofs.Says.{leads_pushed, stands_pushed, says_served}
+use Rattle.am_effects.proofs.{Tests.or_first, Tests.or_second, Tests.and_first, Tests.and_second, Tests.then_other, Rests.RestsWhole, Rests.rests_refresh}
+use Rattle.am_effects.proofs.{Rests.leads_rests, Rests.stands_rests, Says.leads_pushed, Says.stands_pushed, Says.says_served}
 
 -- ---- reports
 
@@ -76,7 +62,7 @@ row_requested m c p s v report req body by_order comes leads known by spread =
     let e = Data s req body in
     let next : req ≡ r.last + 1 = grind (arith, nat_tests) in
     effect_of m c _ (does_numbering RestsWhole m c p e (said.Numbered (top p + 1)) _
-    (and_then (comes _) (numbers {m = p} e leads (not_false _ room) (asked_send s v report req body by known left next)) tt) (λ n k. tt)
+    (and_then (comes _) (numbers {m = p} e leads (not-false _ room) (asked_send s v report req body by known left next)) tt) (λ n k. tt)
     (λ n k.
     let lead = leads_rests k.rests ∙ leads_pushed p e refl ∙ leads in
     let stands = stands_rests m.core.base (top p + 1) e k.rests (stands_pushed p m.core.base e) in
@@ -91,7 +77,7 @@ row_request m c s v report req body by_order from by spread =
     let k : is_unknown m s ≡ false → not (report_fits m report) ≡ false
     → HasEffect m c (answer_request (take_report m s report) s req body by_order) = λ known f.
     row_requested m c (take_report m s report) s v report req body by_order
-    (comes_reported m c s v report (with_send s v report req body by) (may_report m s v report from known (not_false _ f)))
+    (comes_reported m c s v report (with_send s v report req body by) (may_report m s v report from known (not-false _ f)))
     (leads_reported m s report from.leads) (unknown_reported m s report known) by spread in
     search (rows, k) depth 9
 
@@ -102,7 +88,7 @@ row_ack m s v report from =
     let k : is_unknown m s ≡ false → not (report_fits m report) ≡ false
     → HasEffect m c (record (quiet (with_report m s report) said.Noted) { outcome = if_risen m said.Noted (λ n. said.Accepted n.core.acc) }) = λ known f.
     effect_of m c _ (does_saying RestsWhole m c (with_report m s report) said.Noted (if_risen m said.Noted (λ n. said.Accepted n.core.acc))
-    (λ n. and_then nothing_yet (takes_report {m = m} s v report (by_ack s v report) (may_report m s v report from known (not_false _ f))) tt)
+    (λ n. and_then nothing_yet (takes_report {m = m} s v report (by_ack s v report) (may_report m s v report from known (not-false _ f))) tt)
     (λ n r. split (nat_lt m.core.acc n.core.acc) (λ t. rw t tt) (λ g. rw g tt))) in
     search (rows, k) depth 9
 
@@ -114,7 +100,7 @@ row_nack m s v report from =
     let c = hears (packet.Nack s v report) in
     let p = take_report m s report in
     let k : is_unknown m s ≡ false → not (report_fits m report) ≡ false → HasEffect m c (serve_again p s report.stored) = λ known f.
-    (let comes = comes_reported m c s v report (by_nack s v report) (may_report m s v report from known (not_false _ f)) in
+    (let comes = comes_reported m c s v report (by_nack s v report) (may_report m s v report from known (not-false _ f)) in
     let up = (rests_reported m s report).rests.base in
     effect_if m c (nat_lt report.stored p.core.base) _ _ (λ t. effect_of m c _ (does_quiet RestsWhole m c p said.Behind (comes said.Behind) (λ n r. tt)))
     (λ g.

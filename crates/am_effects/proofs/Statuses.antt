@@ -1,19 +1,13 @@
 -- Who has a list, by its status.
-use Rattle.std.proofs.Common.{◌≡◌, true, false, refl}
-use Rattle.am_model.specs.declared.status.Status.{Status}
+use Rattle.am_effects.proofs.Words.{◌≡◌, true, false, refl, Status, is_member, is_asking, has_log}
 use Rattle.am_model.specs.declared.status.Status.TheVariants as status
-use Rattle.am_model.specs.Node.{is_member, is_asking, has_log}
 
 -- a member has one
 pub logged : (s : Status) → is_member s ≡ true → has_log s ≡ true
-logged status.Stranger t = absurd (cc)
-logged status.Asking t = absurd (cc)
 logged status.Member t = refl
-logged status.Departed t = absurd (cc)
+logged _ t = absurd (cc)
 
 -- who asks to join has none
 pub asking_log : (s : Status) → is_asking s ≡ true → has_log s ≡ false
-asking_log status.Stranger t = absurd (cc)
 asking_log status.Asking t = refl
-asking_log status.Member t = absurd (cc)
-asking_log status.Departed t = absurd (cc)
+asking_log _ t = absurd (cc)

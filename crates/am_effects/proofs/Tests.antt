@@ -1,13 +1,8 @@
 -- What tests in a row say.
-use Rattle.std.proofs.Common.{◌≡◌, Bool, true, false, not, ◌&&◌, ◌||◌, refl}
+use Rattle.am_effects.proofs.Words.{not-false, ℕ, ◌==◌, eq-eqb, ◌≡◌, Bool, true, false, not, ◌&&◌, ◌||◌, refl}
 
-pub not_false : (b : Bool) → not b ≡ false → b ≡ true
-not_false true h = refl
-not_false false h = absurd (cc)
-
-pub not_true : (b : Bool) → not b ≡ true → b ≡ false
-not_true true h = absurd (cc)
-not_true false h = refl
+pub is_itself : (n : ℕ) → (n == n) ≡ true
+is_itself n = eq-eqb n n refl
 
 -- where one of them would pass, none does
 pub or_first : (a b : Bool) → (a || b) ≡ false → a ≡ false
@@ -28,4 +23,4 @@ and_first true b h t = absurd (cc)
 and_first false b h t = refl
 
 pub then_other : (a b : Bool) → (a && not b) ≡ false → a ≡ true → b ≡ true
-then_other a b h t = not_false b (and_second a (not b) h t)
+then_other a b h t = not-false b (and_second a (not b) h t)

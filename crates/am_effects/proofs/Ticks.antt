@@ -1,33 +1,17 @@
 -- The effect of the tick.
-use Rattle.std.proofs.Common.{◌≡◌, ◌==◌, ◌&&◌, nat_lt, nat_le, [], length, not, true, false, Option, Some, None, refl, sym, ap, ◌∙◌, arith}
-use Rattle.std.proofs.lemmas.Bool.Decides.{nat_tests}
-use Rattle.am_base.specs.declared.name.Stamp.{Stamp}
-use Rattle.am_base.specs.declared.outcome.Outcome.{Outcome}
+use Rattle.am_effects.proofs.Words.{not-false, ◌≡◌, ◌==◌, ◌&&◌, nat_lt, nat_le, [], length, not, true, false, Option, Some, None, refl, sym, ap, ◌∙◌, arith}
+use Rattle.am_effects.proofs.Words.{nat_tests, Stamp, Outcome, Data, size, entry_at, OwnSend, Status, Node, Ballot, image_of, view, others, only_name, acts}
+use Rattle.am_effects.proofs.Words.{has_room, is_asking, is_member, is_sequencer, waiting, quiet, ack_of, invite_of, fetch_of, result_of, would_emit, emit}
+use Rattle.am_effects.proofs.Words.{go, tick_ballot, tick_promised, tick_member, put_off, behind_view, viewed_by, and_result, tick_sequencer, tick_acting}
+use Rattle.am_effects.proofs.Words.{tick_with, tick_by, tick_row, split, Cause, calls, nothing_yet, HasOpen, Says, invite, fetch, result, goes_on, for_ballot}
+use Rattle.am_effects.proofs.Words.{of_promise, leads, Answers}
 use Rattle.am_base.specs.declared.outcome.Outcome.TheVariants as said
 use Rattle.am_base.specs.declared.event.NodeEvent.TheVariants as does
-use Rattle.am_base.specs.declared.entry.Entry.TheVariants.{Data}
-use Rattle.am_base.specs.Names.{size}
-use Rattle.am_base.specs.Lists.{entry_at}
-use Rattle.am_sender.specs.declared.OwnSend.{OwnSend}
-use Rattle.am_model.specs.declared.status.Status.{Status}
 use Rattle.am_model.specs.declared.status.Status.TheVariants as status
-use Rattle.am_model.specs.Node.{Node, Ballot, image_of, view, others, only_name, acts, has_room, is_asking, is_member, is_sequencer, waiting}
-use Rattle.am_model.specs.Emit.{quiet, ack_of, invite_of, fetch_of, result_of}
-use Rattle.am_model.specs.Calls.{would_emit, emit, go}
-use Rattle.am_model.specs.Ticks.{tick_ballot, tick_promised, tick_member, put_off, behind_view, viewed_by, and_result, tick_sequencer, tick_acting, tick_with}
-use Rattle.am_model.specs.Ticks.{tick_by, tick_row}
-use Rattle.am_base.proofs.Greatest.{split}
-use Rattle.am_effects.specs.Causes.{Cause, calls}
-use Rattle.am_effects.specs.Courses.{nothing_yet}
-use Rattle.am_effects.specs.Looks.{HasOpen}
-use Rattle.am_effects.specs.Letters.{Says, invite, fetch, result, goes_on, for_ballot, of_promise, leads}
-use Rattle.am_effects.specs.Effects.{Answers}
-use Rattle.am_effects.proofs.Tests.{not_false}
-use Rattle.am_effects.proofs.Rests.{Rests, RestsWhole, leads_rests}
 use Rattle.am_effects.proofs.Plans.{Does, and_says, HasEffect, effect_if, effect_of, does_quiet, does_telling, tightly, rows}
-use Rattle.am_effects.proofs.Alone.{IsAlone, gone, alone_after, sent_others, those_none}
-use Rattle.am_effects.proofs.Says.{leads_pushed, view_pushed, tells_ack}
-use Rattle.am_effects.proofs.Calls.{does_emit, comes_emit, node_if, row_ask_to_join, row_go}
+use Rattle.am_effects.proofs.{Rests.Rests, Rests.RestsWhole, Rests.leads_rests, Alone.IsAlone, Alone.gone, Alone.alone_after, Alone.sent_others}
+use Rattle.am_effects.proofs.{Alone.those_none, Says.leads_pushed, Says.view_pushed, Says.tells_ack, Calls.does_emit, Calls.comes_emit, Calls.node_if}
+use Rattle.am_effects.proofs.{Calls.row_ask_to_join, Calls.row_go}
 
 abbrev pub tick : Cause
 tick = calls does.Tick
@@ -141,7 +125,7 @@ row_tick_sequencer m member lead =
 row_tick_acting : (m : Node) → is_member m.status ≡ true → HasEffect m tick (tick_acting m)
 row_tick_acting m member =
     effect_if m tick (not (acts m)) _ _ (λ t. row_tick_promised m)
-    (λ f. effect_if m tick (is_sequencer m) _ _ (λ t. row_tick_sequencer m member t) (λ g. row_tick_member m member (not_false _ f)))
+    (λ f. effect_if m tick (is_sequencer m) _ _ (λ t. row_tick_sequencer m member t) (λ g. row_tick_member m member (not-false _ f)))
 
 row_tick_with : (m : Node) (b : Option Ballot) → m.ballot ≡ b → is_member m.status ≡ true → HasEffect m tick (tick_with m b)
 row_tick_with m None is member = row_tick_acting m member

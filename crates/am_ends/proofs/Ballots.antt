@@ -1,27 +1,13 @@
 -- Ballots, on the kept end of a list as on all of it.
-use Rattle.std.proofs.Common.{◌≡◌, ℕ, ◌+◌, ◌-◌, max, min, Bool, true, false, not, ◌&&◌, ◌==◌, nat_lt, if◌then◌else◌, List, [], Option, Some, None, unwrap_or}
-use Rattle.std.proofs.Common.{refl, ◌∙◌, ap}
-use Rattle.am_base.specs.declared.image.Vote.{Vote}
-use Rattle.am_base.specs.declared.name.Stamp.{Stamp}
-use Rattle.am_base.specs.declared.entry.Entry.TheVariants.{View}
-use Rattle.am_base.specs.declared.outcome.Outcome.{Outcome}
+use Rattle.am_ends.proofs.Words.{◌≡◌, ℕ, ◌+◌, ◌-◌, max, min, Bool, true, false, not, ◌&&◌, ◌==◌, nat_lt, if◌then◌else◌, List, [], Option, Some, None}
+use Rattle.am_ends.proofs.Words.{unwrap_or, refl, ◌∙◌, ap, Vote, Stamp, View, Outcome, has, size, minus, without_name, names_of, Shown, best_vote, Log}
+use Rattle.am_ends.proofs.Words.{members_of, with_entry, least_of, Letter, with_letter, Node, Ballot, top, image_of, those, is_member, push_entry, only_name}
+use Rattle.am_ends.proofs.Words.{invite_of, result_of, Verdict, with_promise, best_of, has_voted, is_waited_for, left_in, taken_by, ends, restart_reports}
+use Rattle.am_ends.proofs.Words.{decide_view, trim_for, decide, with_result, with_fetch, verdict_plan, next_stamp, new_ballot, begin, with_vote, newly_needed}
+use Rattle.am_ends.proofs.Words.{keep_vote, without_voter, give_up, reset_row, give_up_of, give_up_row, decide_anew, with_log}
 use Rattle.am_base.specs.declared.outcome.Outcome.TheVariants as said
-use Rattle.am_base.specs.Names.{has, size, minus, without_name, names_of}
-use Rattle.am_base.specs.Votes.{Shown, best_vote}
-use Rattle.am_base.specs.Lists.{Log, members_of, with_entry}
-use Rattle.am_fronts.specs.Reports.{least_of}
-use Rattle.am_packet.specs.Boxes.{Letter, with_letter}
-use Rattle.am_model.specs.Node.{Node, Ballot, top, image_of, those, is_member, push_entry, only_name}
-use Rattle.am_model.specs.Emit.{invite_of, result_of}
-use Rattle.am_model.specs.Ballots.{Verdict, with_promise, best_of, has_voted, is_waited_for, left_in, taken_by, ends, restart_reports, decide_view, trim_for}
-use Rattle.am_model.specs.Ballots.{decide, with_result, with_fetch, verdict_plan, next_stamp, new_ballot, begin, with_vote, newly_needed, keep_vote}
-use Rattle.am_model.specs.Ballots.{without_voter}
-use Rattle.am_model.specs.Ballots.{give_up}
-use Rattle.am_model.specs.Calls.{reset_row, give_up_of, give_up_row}
-use Rattle.am_model.specs.Resets.{decide_anew}
-use Rattle.am_model.specs.Ends.{with_log}
-use Rattle.am_ends.proofs.Nodes.{Keeps, Whole, reads, keeps_pushed, keeps_trimmed}
-use Rattle.am_ends.proofs.Plans.{Says, Alike, same_others, says_fetch, alike_if, alike_case, alike_quiet}
+use Rattle.am_ends.proofs.{Nodes.Keeps, Nodes.Whole, Nodes.reads, Nodes.keeps_pushed, Nodes.keeps_trimmed, Plans.Says, Plans.Alike, Plans.same_others}
+use Rattle.am_ends.proofs.{Plans.says_fetch, Plans.alike_if, Plans.alike_case, Plans.alike_quiet}
 
 -- ---- verdicts
 

@@ -1,33 +1,19 @@
 -- Calls and ticks, on the kept end of a list as on all of it.
-use Rattle.std.proofs.Common.{◌≡◌, ℕ, ◌+◌, ◌-◌, ◌<◌, true, not, ◌&&◌, ◌||◌, ◌==◌, nat_lt, nat_le, if◌then◌else◌, List, length, Option, Some, None, refl, sym}
-use Rattle.std.proofs.Common.{◌∙◌, ap, subst, arith, is_some}
-use Rattle.std.proofs.lemmas.Bool.Decides.{nat_tests}
-use Rattle.am_base.specs.declared.entry.Entry.{Entry}
-use Rattle.am_base.specs.declared.entry.Entry.TheVariants.{Data, Leave}
-use Rattle.am_base.specs.declared.outcome.Outcome.{Outcome}
+use Rattle.am_ends.proofs.Words.{◌≡◌, ℕ, ◌+◌, ◌-◌, ◌<◌, true, not, ◌&&◌, ◌||◌, ◌==◌, nat_lt, nat_le, if◌then◌else◌, List, length, Option, Some, None, refl}
+use Rattle.am_ends.proofs.Words.{sym, ◌∙◌, ap, subst, arith, is_some, nat_tests, Entry, Data, Leave, Outcome, without_name, size, nobody, stamp_eq, Log}
+use Rattle.am_ends.proofs.Words.{members_of, row_of, entry_at, with_entry, split, Packet, Letter, with_letter, OwnSend, Status, Node, Ballot, top, image_of}
+use Rattle.am_ends.proofs.Words.{view, others, only_name, lowest_or_first, those, acts, is_member, is_sequencer, has_room, waiting, unsettled_count}
+use Rattle.am_ends.proofs.Words.{push_entry, Plan, request_of, spread_of, bcast_of, join_ask_of, leave_ask_of, hand_over_of, invite_of, fetch_of, ack_of}
+use Rattle.am_ends.proofs.Words.{result_of, everywhere_else, would_emit, hand_in, number_send, emit, with_queued, queue, send_row, done_row, give_out}
+use Rattle.am_ends.proofs.Words.{take_row, ask_to_join, join_by, join_row, state_by, state_row, go, is_unfinished, leave_now, leave_by, leave_row, ask_of}
+use Rattle.am_ends.proofs.Words.{ask_row, tick_ballot, tick_promised, tick_member, put_off, behind_view, viewed_by, and_result, tick_sequencer, tick_acting}
+use Rattle.am_ends.proofs.Words.{tick_with, tick_by, tick_row, with_log}
 use Rattle.am_base.specs.declared.outcome.Outcome.TheVariants as said
-use Rattle.am_base.specs.Names.{without_name, size, nobody}
-use Rattle.am_base.specs.Stamps.{stamp_eq}
-use Rattle.am_base.specs.Lists.{Log, members_of, row_of, entry_at, with_entry}
-use Rattle.am_core.proofs.Folds.{split}
-use Rattle.am_packet.specs.declared.packet.Packet.{Packet}
-use Rattle.am_packet.specs.Boxes.{Letter, with_letter}
-use Rattle.am_sender.specs.declared.OwnSend.{OwnSend}
 use Rattle.am_sender.specs.Sends as own
-use Rattle.am_model.specs.declared.status.Status.{Status}
 use Rattle.am_model.specs.declared.status.Status.TheVariants as status
-use Rattle.am_model.specs.Node.{Node, Ballot, top, image_of, view, others, only_name, lowest_or_first, those, acts, is_member, is_sequencer, has_room, waiting}
-use Rattle.am_model.specs.Node.{unsettled_count, push_entry}
-use Rattle.am_model.specs.Emit.{Plan, request_of, spread_of, bcast_of, join_ask_of, leave_ask_of, hand_over_of, invite_of, fetch_of, ack_of, result_of}
-use Rattle.am_model.specs.Calls.{everywhere_else, would_emit, hand_in, number_send, emit, with_queued, queue, send_row, done_row, give_out, take_row}
-use Rattle.am_model.specs.Calls.{ask_to_join}
-use Rattle.am_model.specs.Calls.{join_by, join_row, state_by, state_row, go, is_unfinished, leave_now, leave_by, leave_row, ask_of, ask_row}
-use Rattle.am_model.specs.Ticks.{tick_ballot, tick_promised, tick_member, put_off, behind_view, viewed_by, and_result, tick_sequencer, tick_acting, tick_with}
-use Rattle.am_model.specs.Ticks.{tick_by, tick_row}
-use Rattle.am_model.specs.Ends.{with_log}
-use Rattle.am_ends.proofs.Nodes.{Keeps, reads, same_entry, same_sequencer, keeps_pushed}
 use Rattle.am_ends.proofs.Plans.{Alike, same_others, says_request, says_spread, says_ack, says_leave_ask, says_fetch, alike_if, alike_case, alike_quiet}
 use Rattle.am_ends.proofs.Plans.{alike_with, alike_telling, alike_and, alike_numbering}
+use Rattle.am_ends.proofs.Nodes.{Keeps, reads, same_entry, same_sequencer, keeps_pushed}
 
 -- ---- what a node tells
 
@@ -117,19 +103,15 @@ alike_ask_to_join all m o h = alike_telling all m o o (everywhere_else m) (every
 pub alike_join_by : (all : Log) (m : Node) (s : Status) → Keeps all m → Alike (join_by (with_log m all) s) (join_by m s)
 alike_join_by all m status.Stranger h =
     alike_ask_to_join all (record m { status = status.Asking }) said.Asked (record { kept = h.kept; order = h.order })
-alike_join_by all m status.Asking h = alike_quiet all m _ _ h refl
-alike_join_by all m status.Member h = alike_quiet all m _ _ h refl
-alike_join_by all m status.Departed h = alike_quiet all m _ _ h refl
+alike_join_by all m _ h = alike_quiet all m _ _ h refl
 
 pub alike_join : (all : Log) (m : Node) → Keeps all m → Alike (join_row (with_log m all)) (join_row m)
 unfolding join_row
 alike_join all m h = alike_join_by all m m.status h
 
 pub alike_state_by : (all : Log) (m : Node) (s : Status) → Keeps all m → Alike (state_by (with_log m all) s) (state_by m s)
-alike_state_by all m status.Stranger h = alike_quiet all m _ _ h refl
-alike_state_by all m status.Asking h = alike_quiet all m _ _ h refl
 alike_state_by all m status.Member h = alike_case m.leaving _ _ _ _ (λ t. alike_quiet all m _ _ h refl) (λ f. alike_quiet all m _ _ h refl)
-alike_state_by all m status.Departed h = alike_quiet all m _ _ h refl
+alike_state_by all m _ h = alike_quiet all m _ _ h refl
 
 pub alike_state : (all : Log) (m : Node) → Keeps all m → Alike (state_row (with_log m all)) (state_row m)
 unfolding state_row
@@ -180,10 +162,8 @@ alike_leave_now all m h =
     (λ g. alike_go _ _ (alike_quiet all (record m { leaving = true }) said.Asked said.Asked (record { kept = h.kept; order = h.order }) refl)))
 
 pub alike_leave_by : (all : Log) (m : Node) (s : Status) → Keeps all m → Alike (leave_by (with_log m all) s) (leave_by m s)
-alike_leave_by all m status.Stranger h = alike_quiet all m _ _ h refl
-alike_leave_by all m status.Asking h = alike_quiet all m _ _ h refl
 alike_leave_by all m status.Member h = alike_leave_now all m h
-alike_leave_by all m status.Departed h = alike_quiet all m _ _ h refl
+alike_leave_by all m _ h = alike_quiet all m _ _ h refl
 
 pub alike_leave : (all : Log) (m : Node) → Keeps all m → Alike (leave_row (with_log m all)) (leave_row m)
 unfolding leave_row

@@ -1,47 +1,23 @@
 -- What a member does with packets, and a whole step, on the kept end of a list as on all of it.
-use Rattle.std.proofs.Common.{◌≡◌, ℕ, ◌+◌, ◌≤◌, max, Bool, true, false, not, ◌&&◌, ◌||◌, ◌==◌, nat_lt, nat_le, List, [], length, take, Option, Some, None, refl}
-use Rattle.std.proofs.Common.{sym, ap, subst, arith}
-use Rattle.std.specs.Prelude.{Ok, Err}
-use Rattle.std.specs.List.{list_any}
-use Rattle.std.proofs.lemmas.Bool.Decides.{nat_tests}
-use Rattle.am_base.specs.declared.image.Vote.{Vote}
-use Rattle.am_base.specs.declared.name.Stamp.{Stamp}
-use Rattle.am_base.specs.declared.entry.Entry.{Entry}
-use Rattle.am_base.specs.declared.entry.Entry.TheVariants.{View}
-use Rattle.am_base.specs.declared.outcome.Outcome.{Outcome}
+use Rattle.am_ends.proofs.Words.{◌≡◌, ℕ, ◌+◌, ◌≤◌, max, Bool, true, false, not, ◌&&◌, ◌||◌, ◌==◌, nat_lt, nat_le, List, [], length, take, Option, Some, None}
+use Rattle.am_ends.proofs.Words.{refl, sym, ap, subst, arith, Ok, Err, list_any, nat_tests, Vote, Stamp, Entry, View, Outcome, NodeEvent, without_name}
+use Rattle.am_ends.proofs.Words.{names_of, stamp_lt, stamp_eq, Log, fits, row_of, members_of, with_entry, end-self, Packet, Read, reading, OwnSend, is_of}
+use Rattle.am_ends.proofs.Words.{keep_body, Node, Ballot, image_of, view, only_name, is_member, has_own_leave, is_within_bound, waiting, push_entry}
+use Rattle.am_ends.proofs.Words.{trim_up_to, Plan, ack_of, nack_of, fetch_of, piece_of, put_all, if_risen, spread_row, body_of, bodies_after, is_view}
+use Rattle.am_ends.proofs.Words.{with_noted, acknowledges, store_fitting, store, receive_entry, bcast_row, data_of, order_row, accept_row, answer_hold}
+use Rattle.am_ends.proofs.Words.{hold_row, with_promise, vote_of, invite_row, is_open, take_vote, vote_row, serve_pieces, fetch_row, is_view_past}
+use Rattle.am_ends.proofs.Words.{push_fetched, catch_up, decide_anew, fetches_from, piece_promised, piece_for, piece_row, hears_result, result_row}
+use Rattle.am_ends.proofs.Words.{hand_over_row, reset_row, hears_member, hears_asking, hears_in_view, hears_as_sequencer, hears_sequencer, where_heard}
+use Rattle.am_ends.proofs.Words.{hear_row, read_row, row, step, with_log, StepsAlike, EndsStepAlike, StepsKeepOrder}
 use Rattle.am_base.specs.declared.outcome.Outcome.TheVariants as said
-use Rattle.am_base.specs.declared.event.NodeEvent.{NodeEvent}
 use Rattle.am_base.specs.declared.event.NodeEvent.TheVariants as does
-use Rattle.am_base.specs.Names.{without_name, names_of}
-use Rattle.am_base.specs.Stamps.{stamp_lt, stamp_eq}
-use Rattle.am_base.specs.Lists.{Log, fits, row_of, members_of, with_entry}
-use Rattle.am_core.specs.Cores.{IsInOrder}
-use Rattle.am_core.proofs.Ends.{end-self}
-use Rattle.am_packet.specs.declared.packet.Packet.{Packet}
 use Rattle.am_packet.specs.declared.packet.Packet.TheVariants as packet
-use Rattle.am_codec.specs.Reading.{Read, reading}
-use Rattle.am_sender.specs.declared.OwnSend.{OwnSend}
-use Rattle.am_bodies.specs.Bodies.{is_of, keep_body}
-use Rattle.am_model.specs.Node.{Node, Ballot, image_of, view, only_name, is_member, has_own_leave, is_within_bound, waiting, push_entry, trim_up_to}
-use Rattle.am_model.specs.Emit.{Plan, ack_of, nack_of, fetch_of, piece_of, put_all}
-use Rattle.am_model.specs.Sequencing.{if_risen}
-use Rattle.am_model.specs.Receiving.{spread_row, body_of, bodies_after, is_view, with_noted, acknowledges, store_fitting, store, receive_entry, bcast_row}
-use Rattle.am_model.specs.Receiving.{data_of, order_row}
-use Rattle.am_model.specs.Receiving.{accept_row, answer_hold, hold_row}
-use Rattle.am_model.specs.Ballots.{with_promise, vote_of}
-use Rattle.am_model.specs.Resets.{invite_row, is_open, take_vote, vote_row, serve_pieces, fetch_row, is_view_past, push_fetched, catch_up, decide_anew}
-use Rattle.am_model.specs.Resets.{fetches_from, piece_promised, piece_for, piece_row, hears_result, result_row, hand_over_row}
-use Rattle.am_model.specs.Calls.{reset_row}
-use Rattle.am_model.specs.Hearing.{hears_member, hears_asking, hears_in_view, hears_as_sequencer, hears_sequencer, where_heard, hear_row}
-use Rattle.am_model.specs.Step.{read_row, row, step, hear}
-use Rattle.am_model.specs.Ends.{with_log, IsEndOf, StepsAlike, EndsStepAlike}
-use Rattle.am_ends.specs.Order.{StepsKeepOrder}
-use Rattle.am_ends.proofs.Nodes.{Keeps, keeps_end, reads, same_sequencer, keeps_pushed, keeps_trimmed}
 use Rattle.am_ends.proofs.Plans.{Alike, says_ack, says_nack, says_fetch, says_vote, alike_if, alike_case, alike_quiet, alike_saying, alike_sending}
 use Rattle.am_ends.proofs.Plans.{alike_telling, alike_where, finish_alike, finish_ordered}
-use Rattle.am_ends.proofs.Ballots.{keeps_promised, alike_keep_vote, alike_fetched_for, alike_reset, alike_give_up_row}
 use Rattle.am_ends.proofs.Calls.{alike_send, alike_done, alike_take, alike_join, alike_state, alike_leave, alike_ask, alike_tick}
 use Rattle.am_ends.proofs.Sequencing.{same_served, alike_request, alike_ack, alike_nack, alike_join_ask, alike_welcome, alike_leave_ask, alike_gone_row}
+use Rattle.am_ends.proofs.{Nodes.Keeps, Nodes.keeps_end, Nodes.reads, Nodes.same_sequencer, Nodes.keeps_pushed, Nodes.keeps_trimmed, Ballots.keeps_promised}
+use Rattle.am_ends.proofs.{Ballots.alike_keep_vote, Ballots.alike_fetched_for, Ballots.alike_reset, Ballots.alike_give_up_row}
 
 -- ---- bodies and entries
 
@@ -307,14 +283,6 @@ step_alike all m event h = finish_alike all m (row (with_log m all) event) (row 
 pub ends_step_alike : EndsStepAlike
 ends_step_alike all m event end order = subst (λ n. StepsAlike (step n event) (step m event)) end.same
     (step_alike all.core.log m event (keeps_end all m end order))
-
--- the same of a packet
-hear_alike_whole : (all : Log) (m : Node) (p : Packet) → Keeps all m → StepsAlike (hear (with_log m all) p) (hear m p)
-unfolding hear
-hear_alike_whole all m p h = finish_alike all m (hear_row (with_log m all) p) (hear_row m p) (alike_hear all m p h)
-
-pub hear_alike : (all m : Node) (p : Packet) → IsEndOf all m → IsInOrder m.core → StepsAlike (hear all p) (hear m p)
-hear_alike all m p end order = subst (λ n. StepsAlike (hear n p) (hear m p)) end.same (hear_alike_whole all.core.log m p (keeps_end all m end order))
 
 -- ---- the order of a node's numbers
 

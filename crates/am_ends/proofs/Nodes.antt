@@ -1,24 +1,10 @@
 -- A node and the same node with all of a list: what they tell, and what the refresh makes of them.
-use Rattle.std.proofs.Common.{◌≡◌, ℕ, ◌+◌, ◌-◌, ◌<◌, ◌≤◌, List, [], ◌∷◌, length-append, drop, take, position, refl, sym, ◌∙◌, ap, arith, Option, Some, None}
-use Rattle.std.proofs.Common.{true, false, ◌&&◌, ◌==◌}
-use Rattle.std.proofs.lemmas.List.{drop-drop}
-use Rattle.am_base.specs.declared.entry.Entry.{Entry}
-use Rattle.am_base.specs.declared.image.Image.{Image}
-use Rattle.am_base.specs.Lists.{Log, told_by, image_at, entry_at, with_entry}
-use Rattle.am_base.specs.Stamps.{stamp_eq}
-use Rattle.am_core.specs.Kept.{IsEnd}
-use Rattle.am_core.specs.Cores.{IsInOrder, CoreState, whole, accept, pass_over, since_accepted}
-use Rattle.am_core.proofs.Folds.{split}
-use Rattle.am_core.proofs.Ends.{end-top, end-told, end-image, end-entry, end-push}
-use Rattle.am_core.proofs.CoreLaws.{since_whole}
-use Rattle.am_fronts.specs.Reports.{least_taken}
-use Rattle.am_fronts.specs.Refresh.{Led, own_report, tell, go_on, let_go, base_after, go_up, whole_led}
-use Rattle.am_fronts.proofs.Refreshes.{go_up_whole}
-use Rattle.am_sender.specs.declared.OwnSend.{OwnSend}
-use Rattle.am_model.specs.Node.{Node, is_member, top, image_of, is_sequencer, waiting, entries_above, push_entry, trim_up_to}
-use Rattle.am_model.specs.Refresh.{advance, lead, refresh, led_of, is_data_of, accepted_at, settle_at, settle_waiting, settle, refresh_at_end}
-use Rattle.am_model.specs.Ends.{with_log, IsEndOf}
-use Rattle.am_ends.specs.Order.{IsOrdered}
+use Rattle.am_ends.proofs.Words.{◌≡◌, ℕ, ◌+◌, ◌-◌, ◌<◌, ◌≤◌, List, [], ◌∷◌, length-append, drop, take, position, refl, sym, ◌∙◌, ap, arith, Option, Some}
+use Rattle.am_ends.proofs.Words.{None, true, false, ◌&&◌, ◌==◌, drop-drop, Entry, Image, Log, told_by, image_at, entry_at, with_entry, stamp_eq, IsEnd}
+use Rattle.am_ends.proofs.Words.{IsInOrder, CoreState, whole, accept, pass_over, since_accepted, split, end-top, end-told, end-image, end-entry, end-push}
+use Rattle.am_ends.proofs.Words.{since_whole, least_taken, Led, own_report, tell, go_on, let_go, base_after, go_up, whole_led, go_up_whole, OwnSend, Node}
+use Rattle.am_ends.proofs.Words.{is_member, top, image_of, is_sequencer, waiting, entries_above, push_entry, trim_up_to, advance, lead, refresh, led_of}
+use Rattle.am_ends.proofs.Words.{is_data_of, accepted_at, settle_at, settle_waiting, settle, refresh_at_end, with_log, IsEndOf, IsOrdered}
 
 -- the node keeps an end of this list, and its numbers stand in their order
 pub record Keeps (all : Log) (m : Node) : Type 0 where

@@ -1,21 +1,10 @@
 -- Plans that are alike: the first comes to the node of the second with all of a list, and both say and send the same.
-use Rattle.std.proofs.Common.{◌≡◌, ℕ, Bool, true, false, not, ◌&&◌, ◌||◌, nat_lt, if◌then◌else◌, List, [], refl, sym, ◌∙◌, ap, subst}
-use Rattle.am_base.specs.declared.entry.Entry.{Entry}
-use Rattle.am_base.specs.declared.outcome.Outcome.{Outcome}
-use Rattle.am_base.specs.Names.{without_name}
-use Rattle.am_base.specs.Lists.{Log, image_at, members_of, row_of, with_entry}
-use Rattle.am_core.specs.Kept.{IsEnd}
-use Rattle.am_packet.specs.declared.packet.Packet.{Packet}
+use Rattle.am_ends.proofs.Words.{◌≡◌, ℕ, Bool, true, false, not, ◌&&◌, ◌||◌, nat_lt, if◌then◌else◌, List, [], refl, sym, ◌∙◌, ap, subst, Entry, Outcome}
+use Rattle.am_ends.proofs.Words.{without_name, Log, image_at, members_of, row_of, with_entry, IsEnd, Packet, Letter, with_letter, Departed, Node, image_of}
+use Rattle.am_ends.proofs.Words.{others, refresh_at_end, Step, Plan, quiet, telling, polling, and_telling, and_where, numbering, request_of, spread_of}
+use Rattle.am_ends.proofs.Words.{ack_of, nack_of, hold_of, welcome_of, leave_ask_of, fetch_of, with_accept, finish, vote_of, with_log, IsEndOf, ComesTo}
+use Rattle.am_ends.proofs.Words.{StepsAlike, IsOrdered}
 use Rattle.am_packet.specs.declared.packet.Packet.TheVariants as packet
-use Rattle.am_packet.specs.Boxes.{Letter, with_letter}
-use Rattle.am_model.specs.declared.status.Status.TheVariants.{Departed}
-use Rattle.am_model.specs.Node.{Node, image_of, others}
-use Rattle.am_model.specs.Refresh.{refresh_at_end}
-use Rattle.am_model.specs.Emit.{Step, Plan, quiet, telling, polling, and_telling, and_where, numbering, request_of, spread_of, ack_of, nack_of, hold_of}
-use Rattle.am_model.specs.Emit.{welcome_of, leave_ask_of, fetch_of, with_accept, finish}
-use Rattle.am_model.specs.Ballots.{vote_of}
-use Rattle.am_model.specs.Ends.{with_log, IsEndOf, ComesTo, StepsAlike}
-use Rattle.am_ends.specs.Order.{IsOrdered}
 use Rattle.am_ends.proofs.Nodes.{Keeps, Whole, reads, end_trans, same_base, keeps_pushed, same_sequencer, at_end, keeps_at_end}
 
 -- the first says of a node with all of a list what the second says of the node

@@ -1,30 +1,17 @@
 -- What the sequencer does, on the kept end of a list as on all of it.
-use Rattle.std.proofs.Common.{◌≡◌, ℕ, ◌+◌, ◌-◌, ◌≤◌, Bool, not, ◌&&◌, ◌||◌, ◌==◌, nat_lt, nat_le, if◌then◌else◌, List, [], length, take, refl, sym, ◌∙◌, ap}
-use Rattle.std.proofs.Common.{subst, arith}
-use Rattle.std.proofs.lemmas.Bool.Decides.{nat_tests}
-use Rattle.am_base.specs.declared.image.Report.{Report}
-use Rattle.am_base.specs.declared.image.Row.{Row}
-use Rattle.am_base.specs.declared.image.Image.{Image}
-use Rattle.am_base.specs.declared.name.Stamp.{Stamp}
-use Rattle.am_base.specs.declared.entry.Entry.TheVariants.{Data, Join, Leave}
+use Rattle.am_ends.proofs.Words.{◌≡◌, ℕ, ◌+◌, ◌-◌, ◌≤◌, Bool, not, ◌&&◌, ◌||◌, ◌==◌, nat_lt, nat_le, if◌then◌else◌, List, [], length, take, refl, sym, ◌∙◌}
+use Rattle.am_ends.proofs.Words.{ap, subst, arith, nat_tests, Report, Row, Image, Stamp, Data, Join, Leave, life_of, without_name, stamp_lt, stamp_eq, Log}
+use Rattle.am_ends.proofs.Words.{fits, at_place, row_of, whole, since_accepted, end-self, Node, top, image_of, only_name, is_member, is_within_bound}
+use Rattle.am_ends.proofs.Words.{report_fits, with_report, Plan, bcast_of, order_of, hold_of, nack_of, welcome_of, gone_of, fetch_of, entries_to_serve}
+use Rattle.am_ends.proofs.Words.{put_all, row_at, is_unknown, take_report, number_data, answer_request, request_row, ack_row, serve, serve_again, nack_row}
+use Rattle.am_ends.proofs.Words.{with_admitted, number_join, asks_to_join, join_ask_row, begin_list, ask_next, welcome_row, all_stored, may_go, and_gone}
+use Rattle.am_ends.proofs.Words.{asks_to_leave, leave_ask_row, gone_row, with_log}
+use Rattle.am_model.specs.Joining.{let_go}
 use Rattle.am_base.specs.declared.outcome.Outcome.TheVariants as said
-use Rattle.am_base.specs.Names.{life_of, without_name}
-use Rattle.am_base.specs.Stamps.{stamp_lt, stamp_eq}
-use Rattle.am_base.specs.Lists.{Log, fits, at_place, row_of}
-use Rattle.am_core.specs.Cores.{whole, since_accepted}
-use Rattle.am_core.proofs.Ends.{end-self}
 use Rattle.am_model.specs.declared.status.Status.TheVariants as status
-use Rattle.am_model.specs.Node.{Node, top, image_of, only_name, is_member, is_within_bound, report_fits, with_report}
-use Rattle.am_model.specs.Emit.{Plan, bcast_of, order_of, hold_of, nack_of, welcome_of, gone_of, fetch_of, entries_to_serve, put_all}
-use Rattle.am_model.specs.Sequencing.{row_at, is_unknown, take_report, number_data, answer_request, request_row, ack_row, serve, serve_again, nack_row}
-use Rattle.am_model.specs.Joining.{with_admitted, number_join, asks_to_join, join_ask_row, begin_list, ask_next, welcome_row, all_stored, may_go, let_go}
-use Rattle.am_model.specs.Joining.{and_gone}
-use Rattle.am_model.specs.Joining.{asks_to_leave, leave_ask_row, gone_row}
-use Rattle.am_model.specs.Ends.{with_log}
-use Rattle.am_ends.proofs.Nodes.{Keeps, reads, same_entries, same_since, refresh_end, keeps_refresh}
 use Rattle.am_ends.proofs.Plans.{Says, Alike, says_hold, says_nack, says_fetch, says_welcome, alike_if, alike_case, alike_quiet, alike_polling, alike_saying}
 use Rattle.am_ends.proofs.Plans.{alike_sending, alike_telling, alike_and, alike_where, alike_numbering}
-use Rattle.am_ends.proofs.Calls.{same_room}
+use Rattle.am_ends.proofs.{Nodes.Keeps, Nodes.reads, Nodes.same_entries, Nodes.same_since, Nodes.refresh_end, Nodes.keeps_refresh, Calls.same_room}
 
 -- ---- reports
 

@@ -1,14 +1,6 @@
 -- What the kept end of a node tells of the node, and what its steps are.
-use Rattle.std.proofs.Common.{◌≡◌, List, refl, sym, ◌∙◌}
-use Rattle.am_base.specs.declared.outcome.Outcome.{Outcome}
-use Rattle.am_base.specs.declared.event.NodeEvent.{NodeEvent}
-use Rattle.am_packet.specs.Boxes.{Letter}
-use Rattle.am_core.specs.Cores.{IsInOrder}
-use Rattle.am_core.proofs.Ends.{end-self, end-top}
+use Rattle.am_ends.proofs.Words.{◌≡◌, List, refl, sym, ◌∙◌, Outcome, NodeEvent, Letter, IsInOrder, end-self, end-top, top, step, row, IsEndOf, ComesTo, Does}
 use Rattle.am_model.specs.Node as protocol
-use Rattle.am_model.specs.Node.{top}
-use Rattle.am_model.specs.Step.{step, row}
-use Rattle.am_model.specs.Ends.{IsEndOf, ComesTo, Does}
 use Rattle.am_ends.proofs.Hearing.{ends_step_alike}
 
 -- a node of which nothing is trimmed is its own end

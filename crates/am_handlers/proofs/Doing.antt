@@ -1,16 +1,6 @@
 -- A handler does its row, by what its parts do.
-use Rattle.std.proofs.Common.{◌≡◌, ℕ, List, false, sym, ◌∙◌, ap, subst}
-use Rattle.am_base.specs.declared.outcome.Outcome.{Outcome}
-use Rattle.am_base.specs.Lists.{with_entry}
-use Rattle.am_core.specs.Cores.{CoreState, Keeps, Adds, trim_to}
-use Rattle.am_packet.specs.Boxes.{Letter}
-use Rattle.am_base.specs.declared.entry.Entry.{Entry}
-use Rattle.am_model.specs.Node.{Node, push_entry, trim_up_to}
-use Rattle.am_model.specs.Emit.{Plan, finish}
-use Rattle.am_model.specs.Refresh.{refresh_at_end}
-use Rattle.am_model.specs.Ends.{IsEndOf, Tells, Changes, ComesTo, Does}
-use Rattle.am_handlers.specs.Cores.{CoreTells}
-use Rattle.am_handlers.specs.Parts.{with_told}
+use Rattle.am_handlers.proofs.Words.{◌≡◌, List, false, sym, ◌∙◌, ap, subst, Outcome, CoreState, Keeps, Letter, Node, Plan, finish, refresh_at_end, IsEndOf}
+use Rattle.am_handlers.proofs.Words.{Tells, Changes, ComesTo, Does, CoreTells, with_told}
 use Rattle.am_handlers.proofs.Ends.{tells, changes}
 
 -- what a core tells, its node tells
@@ -24,20 +14,11 @@ core_changes f m core keeps = changes (λ (x : Node). record x { core = f x.core
     let one = keeps all s in
     (all, one.0, ap (λ (c : CoreState). record m { core = c }) (sym one.1)))
 
-pub push_changes : (e : Entry) (m : Node) (core : CoreState) → Adds e m.core core → Changes (λ x. push_entry x e) m (record m { core = core })
-push_changes e m core adds = changes (λ x. push_entry x e) m (record m { core = core }) (λ all s.
-    let one = adds all s in
-    (with_entry all e, one.0, ap (λ (c : CoreState). record m { core = c }) (sym one.1)))
-
-pub trim_changes : (base : ℕ) (m : Node) (core : CoreState) → Keeps (trim_to base) m.core core → Changes (λ x. trim_up_to x base) m (record m { core = core })
-trim_changes base m core keeps = core_changes (trim_to base) m core keeps
-
 -- From the end of the plan's node, by the end of a step: the answer and the letters of the node after it, and then what is
 -- told of what is accepted.
-pub does : (row : Node → Plan) (p : Plan) (old mid new : Node) (outcome : Outcome) (sent letters : List Letter)
-    → row old ≡ p → p.departs ≡ false → IsEndOf p.node mid → Changes refresh_at_end mid new
-    → Tells p.outcome new outcome → Tells p.letters new sent → Tells (with_told old.core.acc p.polls p.numbers sent) new letters
-    → Does row old outcome letters new
+pub does : (row : Node → Plan) (p : Plan) (old mid new : Node) (outcome : Outcome) (sent letters : List Letter) → row old ≡ p → p.departs ≡ false
+    → IsEndOf p.node mid → Changes refresh_at_end mid new → Tells p.outcome new outcome → Tells p.letters new sent
+    → Tells (with_told old.core.acc p.polls p.numbers sent) new letters → Does row old outcome letters new
 unfolding finish
 does row p old mid new outcome sent letters plan stays is end says sends tells_accepted =
     let e = end p.node is in

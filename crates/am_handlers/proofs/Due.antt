@@ -1,21 +1,8 @@
 -- What is settled of a node's sends stands in its list, as that grows.
-use Rattle.std.proofs.Common.{◌≡◌, ⊎_elim, ℕ, zero, suc, ◌+◌, ◌-◌, ◌<◌, ◌≤◌, List, [], ◌∷◌, length, true, ◌==◌, nat_lt}
-use Rattle.std.proofs.Common.{Some, slice_get, refl, sym, ◌∙◌, ap, subst, arith}
-use Rattle.std.proofs.lemmas.Bool.Decides.{nat_tests}
-use Rattle.am_base.specs.declared.image.Image.{Image}
-use Rattle.am_base.specs.declared.image.Row.{Row}
-use Rattle.am_base.specs.declared.entry.Entry.{Entry}
-use Rattle.am_base.specs.declared.entry.Entry.TheVariants.{Data}
-use Rattle.am_base.specs.Names.{place_of, life_of}
-use Rattle.am_base.specs.Lists.{Log, entry_at, told_by, at_place, after, fits, fold, AllFit, request_in}
-use Rattle.am_core.proofs.Folds.{split}
-use Rattle.am_chain_lists.proofs.Rows.{row_at, long_after}
-use Rattle.am_chain_lists.proofs.Requests.{IsNext, entry_goes_on, own_request}
-use Rattle.am_core.specs.Kept.{IsKept}
-use Rattle.am_model.specs.Refresh.{is_data_of}
-use Rattle.am_model.proofs.Sends.{own_data}
-use Rattle.am_handlers.specs.Parts.{passes}
-use Rattle.am_handlers.specs.Keeps.{IsDue}
+use Rattle.am_handlers.proofs.Words.{◌≡◌, ⊎_elim, ℕ, zero, suc, ◌+◌, ◌-◌, ◌<◌, ◌≤◌, List, [], ◌∷◌, length, true, ◌==◌, nat_lt, Some, slice_get, refl, sym}
+use Rattle.am_handlers.proofs.Words.{◌∙◌, ap, subst, arith, nat_tests, Image, Row, Entry, Data, place_of, life_of, Log, entry_at, told_by, at_place, after}
+use Rattle.am_handlers.proofs.Words.{fits, fold, AllFit, request_in, split, row_at, long_after, IsNext, entry_goes_on, own_request, IsKept, is_data_of}
+use Rattle.am_handlers.proofs.Words.{own_data, passes, IsDue}
 use Rattle.am_handlers.proofs.Settling.{some_entry, entry_get}
 
 -- the next request of a life of a place that such a row allows, at least as great as this one
@@ -42,8 +29,7 @@ due_next r life next due = split (r.joined == 0)
     record {
       next = r.last + 1;
       is = record { free = λ h. absurd (no h); younger = λ h. absurd (not_younger h); own = λ j l. refl };
-      low =
-          due.own (omega arith) e;
+      low = due.own (omega arith) e;
     })
     (λ other.
     record {
@@ -51,8 +37,7 @@ due_next r life next due = split (r.joined == 0)
       is = record {
         free = λ h. absurd (no h);
         younger = λ h. absurd (not_younger h);
-        own =
-            λ j l. absurd (let x : ⊥ = grind (arith, nat_tests) in x);
+        own = λ j l. absurd (let x : ⊥ = grind (arith, nat_tests) in x);
       };
       low = omega arith;
     })))
@@ -78,12 +63,10 @@ next_after image n e name low long up fit from =
     (λ (x : (request_in name e ≡ []) × IsNext (row_at (after image n e) (place_of name)) (life_of name) from.next). record {
       next = from.next;
       is = x.1;
-      low =
-          le;
+      low = le;
     })
     (λ (x : (request_in name e ≡ from.next ∷ []) × IsNext (row_at (after image n e) (place_of name)) (life_of name) (from.next + 1)). record {
-      next =
-          from.next + 1;
+      next = from.next + 1;
       is = x.1;
       low = omega arith;
     })

@@ -1,20 +1,10 @@
 -- What the end of a node tells, and how it changes, is what the whole node does.
-use Rattle.std.proofs.Common.{◌≡◌, ℕ, ◌-◌, max, min, nat_lt, if◌then◌else◌, arith, List, Bool, true, false, ◌&&◌, ◌==◌, refl, sym, ◌∙◌, ap, subst}
-use Rattle.am_base.specs.declared.image.Image.{Image}
-use Rattle.am_base.specs.Stamps.{stamp_eq}
-use Rattle.am_base.specs.Names.{without_name}
-use Rattle.am_base.specs.Lists.{Log, top_of, told_by, members_of, members_at}
-use Rattle.am_core.specs.Cores.{CoreState, Stands, IsInOrder, accept, pass_over}
-use Rattle.am_core.proofs.Ends.{end-top, end-told, image-top}
-use Rattle.am_core.proofs.CoreLaws.{stands_self}
+use Rattle.am_handlers.proofs.Words.{◌≡◌, ℕ, ◌-◌, max, min, nat_lt, if◌then◌else◌, arith, List, Bool, true, false, ◌&&◌, ◌==◌, refl, sym, ◌∙◌, ap, subst}
+use Rattle.am_handlers.proofs.Words.{Image, stamp_eq, without_name, Log, top_of, told_by, members_of, members_at, CoreState, Stands, IsInOrder, accept}
+use Rattle.am_handlers.proofs.Words.{pass_over, end-top, end-told, image-top, stands_self, Led, LeadsBy, StaysAt, whole_led, own_report, tell, go_on, let_go}
+use Rattle.am_handlers.proofs.Words.{nat_tests, split, keeps_end, refresh_end, Node, others, is_member, is_sequencer, refresh, lead, advance, settle}
+use Rattle.am_handlers.proofs.Words.{refresh_at_end, led_of, with_led, with_log, IsEndOf, Tells, Changes}
 use Rattle.am_fronts.specs.Refresh as fronts
-use Rattle.am_fronts.specs.Refresh.{Led, LeadsBy, StaysAt, whole_led, own_report, tell, go_on, let_go}
-use Rattle.std.proofs.lemmas.Bool.Decides.{nat_tests}
-use Rattle.am_core.proofs.Folds.{split}
-use Rattle.am_ends.proofs.Nodes.{keeps_end, refresh_end}
-use Rattle.am_model.specs.Node.{Node, others, is_member, is_sequencer}
-use Rattle.am_model.specs.Refresh.{refresh, lead, advance, settle, refresh_at_end, led_of, with_led}
-use Rattle.am_model.specs.Ends.{with_log, IsEndOf, Tells, Changes}
 
 pub end_self : (m : Node) → m.core.base ≡ m.core.log.start → IsEndOf m m
 end_self m e = record { stands = stands_self m.core e; same = refl }

@@ -1,37 +1,16 @@
 -- The parts of a node keep what they keep.
-use Rattle.std.proofs.Common.{◌≡◌, ◌≢◌, ◌<◌, inl, ℕ, ◌+◌, [], ◌∷◌, length, ◌-◌, ◌≤◌, nat_lt, List, Bool, true, false, ◌&&◌, ◌==◌, Option, Some, None}
-use Rattle.std.proofs.Common.{option_map, refl, sym, ◌∙◌, ap, subst, arith}
-use Rattle.am_base.specs.declared.image.Image.{Image}
-use Rattle.am_base.specs.declared.name.Stamp.{Stamp}
-use Rattle.am_base.specs.declared.image.Report.{Report}
-use Rattle.am_base.specs.declared.image.Row.{Row}
-use Rattle.am_base.specs.declared.entry.Entry.{Entry}
-use Rattle.am_base.specs.declared.entry.Entry.TheVariants.{Data, Join, Leave, View}
-use Rattle.std.proofs.lemmas.Bool.Decides.{nat_tests}
-use Rattle.am_base.specs.Names.{has, life_of}
-use Rattle.am_base.specs.Stamps.{stamp_eq, stamp_lt}
-use Rattle.am_base.specs.Lists.{members_of, at_place, after, fits, fold}
-use Rattle.am_core.specs.Cores.{CoreState, IsInOrder, advance, accept, pass_over}
-use Rattle.am_core.specs.Kept.{IsKept}
-use Rattle.am_core.proofs.Folds.{split}
-use Rattle.am_core.proofs.Ends.{end-top, end-told, told-push}
-use Rattle.am_core.proofs.CoreLaws.{stands_self}
+use Rattle.am_handlers.proofs.Words.{and_left, ◌≡◌, ◌≢◌, ◌<◌, inl, ℕ, ◌+◌, [], ◌∷◌, length, ◌-◌, ◌≤◌, nat_lt, List, Bool, true, false, ◌&&◌, ◌==◌, Option}
+use Rattle.am_handlers.proofs.Words.{Some, None, option_map, refl, sym, ◌∙◌, ap, subst, arith, Image, Stamp, Report, Row, Entry, Data, Join, Leave, View}
+use Rattle.am_handlers.proofs.Words.{nat_tests, has, life_of, stamp_eq, stamp_lt, members_of, at_place, after, fits, fold, CoreState, IsInOrder, accept}
+use Rattle.am_handlers.proofs.Words.{pass_over, IsKept, split, end-top, end-told, told-push, stands_self, Led, LeadsBy, MayLead, own_report, tell, go_on}
+use Rattle.am_handlers.proofs.Words.{let_go, KeptBody, OwnSend, Sends, next_request, has_log, Node, Ballot, top, image_of, view, members, acts, waiting}
+use Rattle.am_handlers.proofs.Words.{is_member, is_sequencer, push_entry, with_report, after_report, Status, Member, is_view, refresh, lead, led_of, with_led}
+use Rattle.am_handlers.proofs.Words.{accepted_at, settle_at, settle_waiting, settle, refresh_at_end, IsEndOf, long_after, NodeKeeps, IsOwnBallot, IsSteady}
+use Rattle.am_handlers.proofs.Words.{IsDue, MayServe}
+use Rattle.am_core.specs.Cores.{advance}
 use Rattle.am_fronts.specs.Refresh as fronts
-use Rattle.am_fronts.specs.Refresh.{Led, LeadsBy, MayLead, own_report, tell, go_on, let_go}
-use Rattle.am_bodies.specs.declared.KeptBody.{KeptBody}
-use Rattle.am_sender.specs.declared.OwnSend.{OwnSend}
 use Rattle.am_sender.specs.Sends as sending
-use Rattle.am_sender.specs.Sends.{Sends, next_request}
-use Rattle.am_model.specs.Node.{has_log, Node, Ballot, top, image_of, view, members, acts, waiting, is_member, is_sequencer, push_entry, with_report}
-use Rattle.am_fronts.specs.Reports.{after_report}
-use Rattle.am_model.specs.declared.status.Status.{Status}
-use Rattle.am_model.specs.declared.status.Status.TheVariants.{Stranger, Asking, Member, Departed}
-use Rattle.am_model.specs.Receiving.{is_view}
-use Rattle.am_model.specs.Refresh.{refresh, lead, led_of, with_led, accepted_at, settle_at, settle_waiting, settle, refresh_at_end}
-use Rattle.am_model.specs.Ends.{IsEndOf}
-use Rattle.am_chain_lists.proofs.Rows.{long_after}
 use Rattle.am_handlers.proofs.Due.{due_after}
-use Rattle.am_handlers.specs.Keeps.{NodeKeeps, IsOwnBallot, IsSteady, IsDue, MayServe}
 
 pub steady_leads : (m n : Node) → IsSteady m n → is_sequencer n ≡ is_sequencer m
 steady_leads m n s = λ k. (is_member (s.status k) && stamp_eq (s.promise k) (s.told k).view) && ((s.told k).view.by == s.who k)
@@ -126,9 +105,6 @@ pub record MaySend (m : Node) (sends : Sends) : Type 0 where
   pub due : IsDue (at_place (image_of m) m.core.who) (life_of m.core.who) (next_request sends)
   pub unsent : has_log m.status ≡ false → next_request sends ≤ 1
 
-may_stay : (m : Node) → NodeKeeps m → MaySend m m.sends
-may_stay m keeps = record { settled = keeps.settled; due = keeps.due; unsent = keeps.unsent }
-
 -- other sends, another ballot, or a wish to leave
 keeps_changed : (m : Node) (leaving : Bool) (sends : Sends) (ballot : Option Ballot) → MaySend (record m { leaving = leaving }) sends
     → ((b : Ballot) → ballot ≡ Some b → IsOwnBallot m b) → NodeKeeps m → NodeKeeps (record m { leaving = leaving; sends = sends; ballot = ballot })
@@ -150,9 +126,6 @@ pub keeps_leaving : (m : Node) → waiting m ≡ None → NodeKeeps m → NodeKe
 keeps_leaving m none keeps =
     keeps_changed m true m.sends m.ballot (record { settled = λ leaves. none; due = keeps.due; unsent = keeps.unsent }) keeps.ballot keeps
 
-pub keeps_ballot : (m : Node) (o : Option Ballot) → ((b : Ballot) → o ≡ Some b → IsOwnBallot m b) → NodeKeeps m → NodeKeeps (record m { ballot = o })
-keeps_ballot m o owns keeps = keeps_changed m m.leaving m.sends o (may_stay m keeps) owns keeps
-
 -- the waiting send is settled, which stands in the list
 pub may_settle : (m : Node) (sends : Sends) (req : ℕ) → NodeKeeps m → option_map (λ (send : OwnSend). send.req) (sending.waiting m.sends) ≡ Some req
     → next_request sends ≡ req + 1 → IsDue (at_place (image_of m) m.core.who) (life_of m.core.who) (req + 1) → 0 < top m → MaySend m sends
@@ -161,12 +134,6 @@ may_settle m sends req keeps waits next due some = record {
   due = subst (λ n. IsDue (at_place (image_of m) m.core.who) (life_of m.core.who) n) (sym next) due;
   unsent = λ none. let blank = keeps.blank none in absurd (omega arith);
 }
-
--- who has a send that waits doesn't leave
-pub waits_not_leaving : (m : Node) (req : ℕ) → NodeKeeps m → Some req ≡ option_map (λ (send : OwnSend). send.req) (waiting m) → m.leaving ≡ true → ⊥
-waits_not_leaving m req keeps is leaves =
-    let none = is ∙ ap (option_map (λ (send : OwnSend). send.req)) (keeps.settled leaves) in
-    absurd (cc)
 
 -- ---- a report of another name, and an entry more
 
@@ -221,14 +188,8 @@ keeps_pushed m e plain fit capacity kept has_one stays keeps = record {
 }
 
 pub member_log : (s : Status) → is_member s ≡ true → has_log s ≡ true
-member_log Stranger h = absurd (cc)
-member_log Asking h = absurd (cc)
 member_log Member h = refl
-member_log Departed h = absurd (cc)
-
-and_left : (a b : Bool) → (a && b) ≡ true → a ≡ true
-and_left true b h = refl
-and_left false b h = absurd (cc)
+member_log _ h = absurd (cc)
 
 -- who acts has a list
 pub acting_log : (m : Node) → acts m ≡ true → has_log m.status ≡ true

@@ -1,28 +1,14 @@
 -- Plans that are done.
-use Rattle.std.proofs.Common.{◌≡◌, ℕ, List, [], Bool, true, false, ◌&&◌, nat_lt, refl, sym, ◌∙◌, ap, subst}
-use Rattle.am_base.specs.declared.outcome.Outcome.{Outcome}
-use Rattle.am_base.specs.Lists.{Log}
-use Rattle.am_core.specs.Cores.{IsInOrder}
-use Rattle.am_core.proofs.Ends.{end-top, end-told}
-use Rattle.am_packet.specs.declared.packet.Packet.{Packet}
-use Rattle.am_packet.specs.Boxes.{Letter, with_letter}
-use Rattle.am_model.specs.Node.{Node, top, image_of, only_name}
-use Rattle.am_model.specs.Emit.{Plan, finish}
-use Rattle.am_model.specs.Refresh.{refresh_at_end}
-use Rattle.am_model.specs.Ends.{with_log, IsEndOf, Tells, Changes, ComesTo, Does}
-use Rattle.am_ends.proofs.Nodes.{Keeps, keeps_end}
-use Rattle.am_ends.proofs.Plans.{Alike, finish_alike, comes_whole}
-use Rattle.am_handlers.specs.Cores.{CoreTells}
-use Rattle.am_handlers.specs.Parts.{with_told}
-use Rattle.am_handlers.specs.Finishing.{Done}
-use Rattle.am_handlers.proofs.Doing.{core_tells}
-use Rattle.am_handlers.proofs.Ends.{end_self}
+use Rattle.am_handlers.proofs.Words.{◌≡◌, ℕ, List, [], Bool, true, false, ◌&&◌, nat_lt, refl, sym, ◌∙◌, ap, subst, Outcome, Log, IsInOrder, end-top, end-told}
+use Rattle.am_handlers.proofs.Words.{Packet, Letter, with_letter, Node, top, image_of, only_name, Plan, finish, refresh_at_end, with_log, IsEndOf, Tells}
+use Rattle.am_handlers.proofs.Words.{Changes, ComesTo, Does, keeps_end, Alike, finish_alike, comes_whole, CoreTells, with_told, Done}
+use Rattle.am_ends.proofs.Nodes.{Keeps}
+use Rattle.am_handlers.proofs.{Doing.core_tells, Ends.end_self}
 
 -- a plan is done by the end of its node, by the end of a step, and by what is told then
-pub done : (before : ℕ) (p : Plan) (mid new : Node) (outcome : Outcome) (sent letters : List Letter)
-    → p.departs ≡ false → IsEndOf p.node mid → Changes refresh_at_end mid new
-    → Tells p.outcome new outcome → Tells p.letters new sent → Tells (with_told before p.polls p.numbers sent) new letters
-    → Done before p outcome letters new
+pub done : (before : ℕ) (p : Plan) (mid new : Node) (outcome : Outcome) (sent letters : List Letter) → p.departs ≡ false → IsEndOf p.node mid
+    → Changes refresh_at_end mid new → Tells p.outcome new outcome → Tells p.letters new sent
+    → Tells (with_told before p.polls p.numbers sent) new letters → Done before p outcome letters new
 unfolding finish
 done before p mid new outcome sent letters stays is end says sends tells_accepted = λ first acc.
     let e = end p.node is in

@@ -1,15 +1,7 @@
 -- Entries of a list that are sent one after another.
-use Rattle.std.proofs.Common.{◌≡◌, ℕ, suc, ◌+◌, ◌-◌, ◌<◌, ◌≤◌, min, List, [], ◌∷◌, ◌++◌, length, take, drop, Some, true, false, nat_lt, nat_le, refl, sym, ap}
-use Rattle.std.proofs.Common.{◌∙◌, arith, slice_index_or}
-use Rattle.std.proofs.lemmas.List.{length-take-le, take_more, take_all, get_or-drop}
-use Rattle.std.proofs.lemmas.Option.{slice_get-get_or}
-use Rattle.std.proofs.lemmas.Bool.Decides.{nat_tests}
-use Rattle.am_base.specs.declared.entry.Entry.{Entry}
-use Rattle.am_base.specs.declared.entry.Entry.TheVariants.{Join}
-use Rattle.am_base.specs.Lists.{Log, top_of, entry_at}
-use Rattle.am_packet.specs.declared.packet.Packet.{Packet}
-use Rattle.am_packet.specs.Boxes.{Letter, with_letter}
-use Rattle.am_model.specs.Emit.{put_all}
+use Rattle.am_handlers.proofs.Words.{◌≡◌, ℕ, suc, ◌+◌, ◌-◌, ◌<◌, ◌≤◌, min, List, [], ◌∷◌, ◌++◌, length, take, drop, Some, true, false, nat_lt, nat_le, refl}
+use Rattle.am_handlers.proofs.Words.{sym, ap, ◌∙◌, arith, slice_index_or, length-take-le, take_more, take_all, get_or-drop, slice_get-get_or, nat_tests}
+use Rattle.am_handlers.proofs.Words.{Entry, Join, Log, top_of, entry_at, Packet, Letter, with_letter, put_all}
 
 -- the entries of a kept list above a number
 abbrev pub kept_above : Log → ℕ → List Entry

@@ -1,21 +1,9 @@
 -- Where a send of the node's own is accepted.
-use Rattle.std.proofs.Common.{◌≡◌, ℕ, suc, ◌+◌, ◌-◌, ◌<◌, ◌≤◌, List, ◌∷◌, [], length, take, drop, get_or, Bool, true, false, nat_lt, nat_le, Option, Some, None}
-use Rattle.std.proofs.Common.{refl, sym, ◌∙◌, ap, option_map, arith}
-use Rattle.std.specs.Prelude.{slice_get, position}
-use Rattle.std.specs.List.{position_or_len}
-use Rattle.std.proofs.lemmas.Bool.Decides.{nat_tests}
-use Rattle.std.proofs.lemmas.Option.{slice_get-get_or}
-use Rattle.std.proofs.lemmas.List.{get_or-take, length-take}
-use Rattle.std.proofs.lemmas.List.Sums.{position_or_len_is}
-use Rattle.am_base.specs.declared.entry.Entry.{Entry}
-use Rattle.am_base.specs.Lists.{Log, entry_at}
-use Rattle.am_core.specs.Cores.{CoreState, Stands, IsInOrder}
-use Rattle.am_sender.specs.declared.OwnSend.{OwnSend}
+use Rattle.am_handlers.proofs.Words.{◌≡◌, ℕ, suc, ◌+◌, ◌-◌, ◌<◌, ◌≤◌, List, ◌∷◌, [], length, take, drop, get_or, Bool, true, false, nat_lt, nat_le, Option}
+use Rattle.am_handlers.proofs.Words.{Some, None, refl, sym, ◌∙◌, ap, option_map, arith, slice_get, position, position_or_len, nat_tests, slice_get-get_or}
+use Rattle.am_handlers.proofs.Words.{get_or-take, length-take, position_or_len_is, Entry, Log, entry_at, CoreState, Stands, IsInOrder, OwnSend, Node, waiting}
+use Rattle.am_handlers.proofs.Words.{is_data_of, accepted_at, settle_at, settle_waiting, settle, with_log, Tells, Changes, passes, accepted_number}
 use Rattle.am_sender.specs.Sends as own
-use Rattle.am_model.specs.Node.{Node, waiting}
-use Rattle.am_model.specs.Refresh.{is_data_of, accepted_at, settle_at, settle_waiting, settle}
-use Rattle.am_model.specs.Ends.{with_log, Tells, Changes}
-use Rattle.am_handlers.specs.Parts.{passes, accepted_number}
 use Rattle.am_handlers.proofs.Ends.{tells, changes}
 
 -- ---- the first of a list that passes

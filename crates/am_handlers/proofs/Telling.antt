@@ -1,13 +1,7 @@
 -- What packets tell of a core.
-use Rattle.std.proofs.Common.{◌≡◌, ℕ, sym, ◌∙◌, ap}
-use Rattle.am_base.specs.declared.image.Image.{Image}
-use Rattle.am_base.specs.declared.image.Row.{Row}
-use Rattle.am_base.specs.Lists.{top_of, told_by, row_of, image_at}
-use Rattle.am_core.specs.Cores.{CoreState}
-use Rattle.am_core.proofs.Ends.{end-top, end-told}
+use Rattle.am_handlers.proofs.Words.{◌≡◌, ℕ, sym, ◌∙◌, ap, Image, Row, top_of, told_by, row_of, image_at, CoreState, end-top, end-told, hold_of, welcome_of}
+use Rattle.am_handlers.proofs.Words.{CoreTells}
 use Rattle.am_packet.specs.declared.packet.Packet.TheVariants as packet
-use Rattle.am_model.specs.Emit.{hold_of, welcome_of}
-use Rattle.am_handlers.specs.Cores.{CoreTells}
 
 pub hold_told : (v c : CoreState) (base high req : ℕ) → v ≡ c → base ≡ v.log.start → high ≡ top_of v.log → v.base ≡ v.log.start
     → CoreTells (λ m. hold_of m req) c (packet.Hold v.who v.promise base high req)

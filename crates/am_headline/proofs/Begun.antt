@@ -1,37 +1,12 @@
 -- At the start there is a group that follows the world, and so there is up to the lawful front.
-use Rattle.std.proofs.Common.{◌≡◌, ℕ, zero, suc, ◌<◌, ◌≤◌, ◌==◌, true, List, [], ◌∷◌, ◌++◌, length, take, None, Some}
-use Rattle.std.proofs.Common.{refl, sym, ap, ◌∙◌, subst, arith}
-use Rattle.std.specs.Prelude.{Contains, slice_index_or}
-use Rattle.std.proofs.lemmas.Bool.Decides.{nat_tests}
-use Rattle.std.proofs.lemmas.List.{take_all}
-use Rattle.std.proofs.lemmas.List.Elements.{All-nil, All-cons}
-use Rattle.am_base.specs.declared.entry.Entry.TheVariants.{View}
-use Rattle.am_base.specs.Founding.{Rules, MayFound}
-use Rattle.am_base.specs.Names.{has}
-use Rattle.am_group.specs.declared.event.Event.{Event}
-use Rattle.am_chain_lists.specs.Whole.{IsGood, key}
-use Rattle.am_chain_lists.proofs.Prefixes.{begins_refl, begins_nil}
-use Rattle.am_chain_lists.proofs.Members.{good_begins}
-use Rattle.am_chain_moves.specs.Group.{Group, chain_of}
+use Rattle.am_headline.proofs.Words.{watch_push, ◌≡◌, ℕ, zero, suc, ◌<◌, ◌≤◌, ◌==◌, true, List, [], ◌∷◌, ◌++◌, length, take, None, Some, refl, sym, ap, ◌∙◌}
+use Rattle.am_headline.proofs.Words.{subst, arith, Contains, slice_index_or, nat_tests, take_all, All-nil, All-cons, View, Rules, MayFound, has, Event}
+use Rattle.am_headline.proofs.Words.{IsGood, key, begins_refl, begins_nil, good_begins, Group, chain_of, MayBegin, founded, run_keeps, lowest_or_first}
+use Rattle.am_headline.proofs.Words.{founding_stamp, has_departed, Decided, World, start, first_node, founders_decided, happen, run, Watch, watch_all}
+use Rattle.am_headline.proofs.Words.{watch_run, watch_start, broken_at, BecameComplete, split, first_founder, NamesNamed, GroupFor, start_keeps}
+use Rattle.am_headline.proofs.Words.{branches_begin, goes_on, start_stands, Following, StepsMove}
 use Rattle.am_chain_moves.specs.Runs as begun
-use Rattle.am_chain_moves.specs.Runs.{MayBegin, founded}
-use Rattle.am_chain.proofs.Runs.{run_keeps}
-use Rattle.am_model.specs.Node.{lowest_or_first, founding_stamp, has_departed}
-use Rattle.am_play.specs.World.{Decided, World, start, first_node, founders_decided, happen, run}
-use Rattle.am_play.specs.Lawful.{Watch, watch_all, watch_run, watch_start, broken_at}
-use Rattle.am_play.specs.Claims.{BecameComplete}
-use Rattle.am_base.proofs.Greatest.{split}
-use Rattle.am_model.proofs.Founders.{first_founder}
-use Rattle.am_stands.specs.Moving.{NamesNamed}
-use Rattle.am_stands.specs.Keeping.{GroupFor}
-use Rattle.am_stands.proofs.Begun.{start_keeps}
-use Rattle.am_stands.proofs.Branches.{branches_begin}
-use Rattle.am_stands.proofs.Onward.{goes_on}
-use Rattle.am_stands.proofs.Start.{start_stands}
-use Rattle.am_stands.specs.Running.{Following, StepsMove}
-use Rattle.am_headline.proofs.Shapes.{Shaped, shaped_moves}
-use Rattle.am_headline.proofs.Greatest.{unbroken, watch_push}
-use Rattle.am_headline.proofs.Fold.{KeptBy, Held, moves_mark, next}
+use Rattle.am_headline.proofs.{Shapes.Shaped, Shapes.shaped_moves, Greatest.unbroken, Fold.KeptBy, Fold.Held, Fold.moves_mark, Fold.next}
 
 abbrev first_group : Rules → Group
 first_group rules = begun.start rules.founders (lowest_or_first rules.founders) rules.resilience

@@ -1,41 +1,13 @@
 -- How far above its base a name's entries lie, by the members at each: within a step.
-use Rattle.std.proofs.Common.{◌≡◌, ◌⊎◌, ⊎_elim, inl, inr, ℕ, suc, ◌+◌, ◌-◌, ◌<◌, ◌≤◌, max, ◌==◌, ◌&&◌, not, nat_lt, Bool, true, if◌then◌else◌}
-use Rattle.std.proofs.Common.{List, [], ◌∷◌, length, slice_index, refl, sym, ap, ◌∙◌, subst, length-append, arith}
-use Rattle.std.proofs.lemmas.Bool.Decides.{nat_tests}
-use Rattle.std.proofs.lemmas.List.{length-map, get_or-map}
-use Rattle.std.proofs.lemmas.List.Sums.{count_by-le-length}
-use Rattle.am_base.specs.declared.entry.Entry.{Entry}
-use Rattle.am_base.specs.declared.entry.Entry.TheVariants.{Leave, View}
-use Rattle.am_base.specs.declared.image.Image.{Image}
-use Rattle.am_base.specs.declared.image.Row.{Row}
-use Rattle.am_base.specs.declared.name.Stamp.{Stamp}
-use Rattle.am_base.specs.declared.outcome.Outcome.{Outcome}
-use Rattle.am_base.specs.Founding.{Rules}
-use Rattle.am_base.specs.Names.{size}
-use Rattle.am_base.specs.Lists.{Log, blank_row, member_life, members_of, members_at, image_at, top_of, with_entry, after}
-use Rattle.am_core.proofs.Ends.{image-push, image-top}
-use Rattle.am_fronts.proofs.ReportLaws.{count_cons}
+use Rattle.am_headline.proofs.Words.{◌≡◌, ◌⊎◌, ⊎_elim, inl, inr, ℕ, suc, ◌+◌, ◌-◌, ◌<◌, ◌≤◌, max, ◌==◌, ◌&&◌, not, nat_lt, Bool, true, if◌then◌else◌, List}
+use Rattle.am_headline.proofs.Words.{[], ◌∷◌, length, slice_index, refl, sym, ap, ◌∙◌, subst, length-append, arith, nat_tests, length-map, get_or-map}
+use Rattle.am_headline.proofs.Words.{count_by-le-length, Entry, Leave, View, Image, Row, Stamp, Outcome, Rules, size, Log, blank_row, member_life, members_of}
+use Rattle.am_headline.proofs.Words.{members_at, image_at, top_of, with_entry, after, image-push, image-top, count_cons, In, row_at, long_after, in_viewed}
+use Rattle.am_headline.proofs.Words.{Node, Ballot, top, image_of, has_room, push_entry, Verdict, need_of, left_in, trim_for, split, Cause, hears, Looks}
+use Rattle.am_headline.proofs.Words.{decides, Carries, whole_entry, by_number, Change, refreshes, settles, numbers, stores, begins_list, looks, fetches}
+use Rattle.am_headline.proofs.Words.{stores_view, closes, Changes, unchanged, changed, rests_refresh, rests_at_end, settle_is, told_pushed, change_blank}
+use Rattle.am_headline.proofs.Words.{HeardUsed, change_owned, Along, Fronts, told_used, HeardNames, change_names, change_does, those_long, kept_change}
 use Rattle.am_packet.specs.declared.packet.Packet.TheVariants as packet
-use Rattle.am_chain_lists.proofs.Rows.{In, row_at, long_after, in_viewed}
-use Rattle.am_model.specs.Node.{Node, Ballot, top, image_of, has_room, push_entry}
-use Rattle.am_model.specs.Ballots.{Verdict, need_of, left_in, trim_for}
-use Rattle.am_base.proofs.Greatest.{split}
-use Rattle.am_effects.specs.Causes.{Cause, hears}
-use Rattle.am_effects.specs.Looks.{Looks, decides}
-use Rattle.am_effects.specs.Changes.{Carries, whole_entry, by_number, Change, refreshes, settles, numbers, stores}
-use Rattle.am_effects.specs.Changes.{begins_list, looks, fetches, stores_view}
-use Rattle.am_effects.specs.Changes.{closes}
-use Rattle.am_effects.specs.Changes.{Changes, unchanged, changed}
-use Rattle.am_effects.proofs.Rests.{rests_refresh, rests_at_end, settle_is}
-use Rattle.am_effects.proofs.Says.{told_pushed}
-use Rattle.am_laws.proofs.Blank.{change_blank}
-use Rattle.am_laws.proofs.Taken.{HeardUsed, change_owned}
-use Rattle.am_laws.proofs.TakenRuns.{Along}
-use Rattle.am_laws.proofs.Trims.{Fronts, told_used}
-use Rattle.am_laws.proofs.ViewNames.{HeardNames, change_names}
-use Rattle.am_laws.proofs.ViewChanges.{change_does}
-use Rattle.am_laws.proofs.ViewMembers.{those_long}
-use Rattle.am_bounded.proofs.Changes.{kept_change}
 
 -- ---- how many names
 

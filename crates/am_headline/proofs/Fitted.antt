@@ -1,70 +1,27 @@
 -- Up to its lawful front each node of a run has room for a View that leaves somebody out.
-use Rattle.std.proofs.Common.{◌≡◌, ◌⊎◌, ⊎_elim, inl, inr, ℕ, zero, suc, ◌+◌, ◌-◌, ◌<◌, ◌≤◌, ◌==◌, true, false, List, [], ◌∷◌, ◌++◌, length, take}
-use Rattle.std.proofs.Common.{Some, slice_get, refl, sym, ap, ◌∙◌, subst, arith}
-use Rattle.std.proofs.lemmas.Bool.Decides.{nat_tests}
-use Rattle.std.proofs.lemmas.List.{length-map}
-use Rattle.am_base.specs.declared.entry.Entry.{Entry}
-use Rattle.am_base.specs.declared.entry.Entry.TheVariants.{Data, Join, Leave, View}
-use Rattle.am_base.specs.declared.name.Stamp.{Stamp}
-use Rattle.am_base.specs.Founding.{Rules, MayFound}
-use Rattle.am_base.specs.Names.{has, size}
-use Rattle.am_base.specs.Lists.{top_of, told_by, member_life, members_of, members_at}
-use Rattle.am_core.specs.Cores.{CoreState}
-use Rattle.am_base.specs.Stamps.{stamp_eq}
-use Rattle.am_packet.specs.declared.packet.Packet.{Packet}
+use Rattle.am_headline.proofs.Words.{eqb-true, not_view, same_stamp, low_or_above, ◌≡◌, ◌⊎◌, ⊎_elim, inl, inr, ℕ, zero, suc, ◌+◌, ◌-◌, ◌<◌, ◌≤◌, ◌==◌, true}
+use Rattle.am_headline.proofs.Words.{false, List, [], ◌∷◌, ◌++◌, length, take, Some, slice_get, refl, sym, ap, ◌∙◌, subst, arith, length-map, Entry, Data}
+use Rattle.am_headline.proofs.Words.{View, Stamp, Rules, MayFound, has, size, top_of, told_by, member_life, members_of, members_at, CoreState, stamp_eq}
+use Rattle.am_headline.proofs.Words.{Packet, Letter, Event, item_at, Begins, view_of, key, key_by, view_push, view_viewed, long_told, begins_both}
+use Rattle.am_headline.proofs.Words.{begins_length, begins_push, begins_trans, Group, IsUp, Status, is_unfinished, Node, top, view, is_member, acts, founder}
+use Rattle.am_headline.proofs.Words.{founders_view, has_departed, Step, hears_member, hears_in_view, hears_sequencer, heard_by, FitsView, ViewsFit}
+use Rattle.am_headline.proofs.Words.{lawful_front, World, start, with_step, run, split, and_both, front_is_lawful, Cause, hears, Says, bcast, order, piece}
+use Rattle.am_headline.proofs.Words.{result, LetterSays, IsCause, WasSentTo, all_get, logged, numbers_hold, each_along, heard_used, run_owned, heard_names}
+use Rattle.am_headline.proofs.Words.{lists_go_on, item_get, item_within, PacketSays, PieceSays, told_all, long_all, number_low, departed_silent}
+use Rattle.am_headline.proofs.Words.{departed_quiet, departed_is, steps_move}
+use Rattle.am_chain_lists.specs.Whole.{image_of}
 use Rattle.am_packet.specs.declared.packet.Packet.TheVariants as packet
-use Rattle.am_packet.specs.Boxes.{Letter}
-use Rattle.am_group.specs.declared.event.Event.{Event}
-use Rattle.am_group.specs.Journals.{item_at}
-use Rattle.am_chain_lists.specs.Whole.{Begins, NotView, image_of, view_of, key}
-use Rattle.am_chain_lists.proofs.Order.{key_by, view_push, view_viewed}
-use Rattle.am_chain_lists.proofs.Members.{long_told}
-use Rattle.am_chain_lists.proofs.Prefixes.{begins_both, begins_length, begins_push, begins_trans}
-use Rattle.am_chain_moves.specs.Group.{Group, IsUp}
-use Rattle.am_model.specs.declared.status.Status.{Status}
 use Rattle.am_model.specs.declared.status.Status.TheVariants as status
-use Rattle.am_model.specs.Calls.{is_unfinished}
-use Rattle.am_model.specs.Node.{Node, top, view, is_member, acts, founder, founders_view, has_departed}
 use Rattle.am_model.specs.Node as nodes
-use Rattle.am_model.specs.Emit.{Step}
-use Rattle.am_model.specs.Hearing.{hears_member, hears_in_view, hears_sequencer}
-use Rattle.am_model.specs.Receiving.{is_view}
-use Rattle.am_play.specs.Claims.{heard_by, FitsView, ViewsFit}
-use Rattle.am_play.specs.Lawful.{lawful_front}
 use Rattle.am_model.specs.Hearing as rows
-use Rattle.am_play.specs.World.{World, start, with_step, run}
-use Rattle.am_base.proofs.Greatest.{split, and_both}
-use Rattle.am_play.proofs.Runs.{front_is_lawful}
-use Rattle.am_effects.specs.Causes.{Cause, hears}
-use Rattle.am_effects.specs.Letters.{Says, bcast, order}
-use Rattle.am_effects.specs.Letters.{piece}
-use Rattle.am_effects.specs.Letters.{result, LetterSays}
-use Rattle.am_effects.specs.Events.{IsCause, WasSentTo}
-use Rattle.am_effects.proofs.Items.{all_get}
-use Rattle.am_effects.proofs.Statuses.{logged}
-use Rattle.am_laws.proofs.RunCounts.{numbers_hold}
-use Rattle.am_laws.proofs.Stamps.{same_stamp}
-use Rattle.am_laws.proofs.TakenRuns.{each_along, heard_used, run_owned}
-use Rattle.am_laws.proofs.Views.{heard_names}
-use Rattle.am_watched.proofs.Lists.{lists_go_on}
-use Rattle.am_unballoted.proofs.Lists.{item_get, item_within}
 use Rattle.am_stands.specs.Letters as says
-use Rattle.am_stands.specs.Letters.{PacketSays, PieceSays}
-use Rattle.am_stands.proofs.Changes.{told_all, long_all}
-use Rattle.am_stands.proofs.Parts.{number_low}
-use Rattle.am_stands.proofs.Silent.{departed_silent}
-use Rattle.am_steps.proofs.Silent.{departed_quiet}
-use Rattle.am_steps.proofs.Statuses.{departed_is}
-use Rattle.am_steps.proofs.Steps.{steps_move}
-use Rattle.am_headline.proofs.OneStep.{OneStep, parts, plain}
-use Rattle.am_headline.proofs.Fold.{KeptBy}
-use Rattle.am_headline.proofs.Begun.{held}
-use Rattle.am_headline.proofs.Fits.{BringsEntry, by_bcast, by_order, by_piece, by_result, FitsAt, few_size, fitting_changes}
-use Rattle.am_headline.proofs.Rows as done
 use Rattle.am_headline.proofs.Rows.{Stores, Does, OrderDoes, InView, Piecewise, Fetched, Viewing, bcast_does, order_does, piece_does, result_does, row_ends}
-use Rattle.am_headline.proofs.Heard.{HeardAs, whole_packet, too_short, heard_as, sender_stays}
 use Rattle.am_headline.proofs.Views.{FitIn, fit_more, fit_less, fit_low, node_fit, LineFits, PieceFits, of_line, of_shown, over, PacketFits, packet_on}
 use Rattle.am_headline.proofs.Views.{promised_line, last_line, stored_list, stored_fits}
+use Rattle.am_headline.proofs.{OneStep.OneStep, OneStep.parts, OneStep.plain, Fold.KeptBy, Begun.held, Fits.BringsEntry, Fits.by_bcast, Fits.by_order}
+use Rattle.am_headline.proofs.{Fits.by_piece, Fits.by_result, Fits.FitsAt, Fits.few_size, Fits.fitting_changes, Heard.HeardAs, Heard.whole_packet}
+use Rattle.am_headline.proofs.{Heard.too_short, Heard.heard_as, Heard.sender_stays}
+use Rattle.am_headline.proofs.Rows as done
 
 -- ---- what is kept
 
@@ -72,7 +29,7 @@ pub record Fitted (rules : Rules) (w : World) (s : Group) : Type 0 where
   pub nodes : (i : ℕ) → FitsView rules (w.nodes i)
   pub letters : (k : ℕ) (letter : Letter) → slice_get w.letters k ≡ Some letter → PacketFits rules s letter.packet
 
-letter_there : (letters : List Letter) (number : ℕ) (l : Letter) → item_at letters number ≡ Some l → (k : ℕ) × (slice_get letters k ≡ Some l)
+pub letter_there : (letters : List Letter) (number : ℕ) (l : Letter) → item_at letters number ≡ Some l → (k : ℕ) × (slice_get letters k ≡ Some l)
 letter_there letters zero l h = absurd (cc)
 letter_there letters (suc k) l h = (k, h)
 
@@ -80,15 +37,6 @@ get_either : {A : Type 0} (xs ys : List A) (k : ℕ) (x : A) → slice_get (xs +
 get_either [] ys k x h = inr (k, h)
 get_either (y ∷ xs) ys zero x h = inl h
 get_either (y ∷ xs) ys (suc k) x h = get_either xs ys k x h
-
-not_view : (e : Entry) → is_view e ≡ false → NotView e
-not_view (Data from req body) h = tt
-not_view (Join name) h = tt
-not_view (Leave name) h = tt
-not_view (View stamp names resilience) h = absurd (cc)
-
-same_name : (a b : ℕ) → (a == b) ≡ true → a ≡ b
-same_name a b t = grind (arith, nat_tests)
 
 push_some : (a : List Entry) (e : Entry) → a ++ e ∷ [] ≡ [] → ⊥
 push_some [] e h = cc
@@ -100,9 +48,6 @@ in_view m s v t =
     let a = (and_both (hears_in_view m s v) (v.by == s) t).0 in
     let b = (and_both (hears_member m s) _ a).1 in
     same_stamp v (view m) (and_both (acts m) (stamp_eq v (view m)) b).1
-
-two : (a b : ℕ) → (a ≤ b) ⊎ (b < a)
-two a b = grind arith
 
 -- ---- a step
 
@@ -221,7 +166,7 @@ module _ (rules : Rules) (events : List Event) (e : Event) (c : Cause) (step : S
       by_way line log up (done.one why st) =
           let r = (rows.hear_row m (packet.Result from u base number names resilience)).node in
           let x = View u names resilience in
-          fits_line number base u x r log up above st (line (same_name u.by from why.by))
+          fits_line number base u x r log up above st (line (eqb-true u.by from why.by))
           (on_last base number u x r log st (view_viewed (s.node i).list u names resilience))
 
   -- ---- a Piece
@@ -233,10 +178,8 @@ module _ (rules : Rules) (events : List Event) (e : Event) (c : Cause) (step : S
   }
     where
       member_stays : (x : Status) → is_member x ≡ true → has_departed x ≡ false
-      member_stays status.Stranger z = refl
-      member_stays status.Asking z = refl
-      member_stays status.Member z = refl
       member_stays status.Departed z = absurd (cc)
+      member_stays _ z = refl
 
   module _ (from : ℕ) (u : Stamp) (base number : ℕ) (x : Entry) (row : Node) (log : n.core.log ≡ row.core.log) (up : row.core.base ≤ n.core.base)
       (above : n.core.base < number) (why : Piecewise m from u) (st : Stores m row base number x) where
@@ -294,9 +237,9 @@ module _ (rules : Rules) (events : List Event) (e : Event) (c : Cause) (step : S
 
     piece_so : PieceFits rules s from u base number x → Fetched m from u → FitsAt rules n number
     piece_so (of_line line at) how = piece_line line at
-    piece_so (of_shown list shown served at fit) (done.without none by) = absurd (own_shown list shown (same_name u.by from by))
+    piece_so (of_shown list shown served at fit) (done.without none by) = absurd (own_shown list shown (eqb-true u.by from by))
     piece_so (of_shown list shown served at fit) (done.for_ballot open_) = piece_shown list shown served at fit open_
-    piece_so (over other d) (done.without none by) = absurd (other (same_name u.by from by))
+    piece_so (over other d) (done.without none by) = absurd (other (eqb-true u.by from by))
     piece_so (over other d) (done.for_ballot open_) = absurd (none_over d open_)
 
   fits_piece : (from : ℕ) (u : Stamp) (base number : ℕ) (x : Entry) → c ≡ hears (packet.Piece from u base number x) → n.core.base < number
@@ -371,7 +314,7 @@ module _ (rules : Rules) (events : List Event) (e : Event) (c : Cause) (step : S
             (fit_more rules (t.node i).list (t.views.line (key (t.node i).promise)) n.core.base number
             (promised_line t i kept_t (up_n stays number above within) (ap (λ y. t.views.decided (key y)) stands_n.promise ∙ d))
             (own_fit number above within)))
-            (two number n.core.base);
+            (low_or_above number n.core.base);
       }
 
   -- a list that it showed
@@ -386,7 +329,7 @@ module _ (rules : Rules) (events : List Event) (e : Event) (c : Cause) (step : S
       (λ (below : number ≤ n.core.base). fit_low rules list n.core.base number below low.1)
       (λ (above : n.core.base < number). fit_less rules list (t.node i).list n.core.base number begins low.1
       (own_fit number above (let z = low.1 in omega arith)))
-      (two number n.core.base))
+      (low_or_above number n.core.base))
 
   who_x : x.core.who ≡ i
   who_x = sym (ap (λ (q : CoreState). q.who) core_x) ∙ (lists_go_on rules events e c step may runs cause effect).own

@@ -1,48 +1,20 @@
 -- Up to its lawful front each run has a group that follows it, whose marks are the views that became complete.
-use Rattle.std.proofs.Common.{◌≡◌, ◌⊎◌, ⊎_elim, inl, inr, ℕ, ◌<◌, ◌≤◌, ◌==◌, ◌&&◌, ◌||◌, Bool, true, false, List, [], ◌∷◌, ◌++◌}
-use Rattle.std.proofs.Common.{length, Some, None, slice_get, refl, sym, ap, ◌∙◌, subst, arith, length-append}
-use Rattle.std.specs.Prelude.{Contains, not}
-use Rattle.std.specs.List.{list_any}
-use Rattle.std.proofs.lemmas.Bool.Decides.{nat_tests}
-use Rattle.std.proofs.lemmas.List.{take-append-le, take_all}
-use Rattle.std.proofs.lemmas.List.Folds.{list_any-append}
-use Rattle.std.proofs.lemmas.Option.{slice_get-get_or}
-use Rattle.am_base.specs.Founding.{Rules, MayFound}
-use Rattle.am_group.specs.declared.event.Event.{Event}
-use Rattle.am_group.specs.declared.event.Record.{Record}
-use Rattle.am_base.specs.declared.outcome.Outcome.{Outcome}
-use Rattle.am_chain_lists.specs.Whole.{key}
-use Rattle.am_chain_moves.specs.Group.{Group, how_many}
-use Rattle.am_chain_moves.specs.Moves.{Move, numbers}
-use Rattle.am_chain_moves.specs.Runs.{Completes, counts_for}
-use Rattle.am_model.specs.Node.{Node, lowest_or_first}
-use Rattle.am_model.specs.Emit.{Step}
+use Rattle.am_headline.proofs.Words.{watch_push, ◌≡◌, ◌⊎◌, ⊎_elim, inl, inr, ℕ, ◌<◌, ◌≤◌, ◌==◌, ◌&&◌, ◌||◌, Bool, true, false, List, [], ◌∷◌, ◌++◌, length}
+use Rattle.am_headline.proofs.Words.{Some, None, slice_get, refl, sym, ap, ◌∙◌, subst, arith, length-append, Contains, not, list_any, nat_tests}
+use Rattle.am_headline.proofs.Words.{take-append-le, take_all, list_any-append, slice_get-get_or, Rules, MayFound, Event, Record, Outcome, key, Group}
+use Rattle.am_headline.proofs.Words.{how_many, Move, Completes, counts_for, Node, lowest_or_first, Step, Decided, World, start, current, is_stopped}
+use Rattle.am_headline.proofs.Words.{views_after, with_record, with_step, lives_on, happens, run, is_complete, is_lawful, Watch, watch_start, watch_run}
+use Rattle.am_headline.proofs.Words.{greatest_complete, broken_at, BecameComplete, split, and_both, watched_is_run, Cause, actor, IsIdle, Happens, idles}
+use Rattle.am_headline.proofs.Words.{returns, steps, events_have_effects, all_get, get_front, runs_keep, IsNoted, AllViews, each_views, views_start, Moves}
+use Rattle.am_headline.proofs.Words.{none, moves, Grows, EventStands, no_move, stop, idle_stands, stop_stands, return_stands, Following, StepsMove}
+use Rattle.am_chain_moves.specs.Moves.{numbers}
 use Rattle.am_play.specs.World as worlds
-use Rattle.am_play.specs.World.{Decided, World, start, current, is_stopped, views_after, with_record, with_step, lives_on, happens, run}
-use Rattle.am_play.specs.Lawful.{is_complete, is_lawful, Watch, watch_start, watch_run, greatest_complete, broken_at}
-use Rattle.am_play.specs.Claims.{BecameComplete}
-use Rattle.am_base.proofs.Greatest.{split, and_both}
-use Rattle.am_play.proofs.Runs.{watched_is_run}
-use Rattle.am_effects.specs.Causes.{Cause}
 use Rattle.am_effects.specs.Events as event
-use Rattle.am_effects.specs.Events.{actor, IsIdle, Happens, idles, returns, steps}
-use Rattle.am_effects.proofs.Events.{events_have_effects}
-use Rattle.am_effects.proofs.Items.{all_get, get_front}
-use Rattle.am_effects.proofs.Runs.{runs_keep}
-use Rattle.am_laws.proofs.Views.{IsNoted, AllViews, each_views, views_start}
-use Rattle.am_stands.specs.Moving.{Moves, none, moves}
-use Rattle.am_stands.specs.Growing.{Grows}
-use Rattle.am_stands.specs.Steps.{EventStands, no_move, stop}
-use Rattle.am_stands.proofs.Events.{idle_stands, stop_stands, return_stands}
-use Rattle.am_stands.specs.Running.{Following, StepsMove}
-use Rattle.am_headline.proofs.Shapes.{Shaped, shaped_moves}
-use Rattle.am_headline.proofs.OneStep.{OneStep, run_push}
-use Rattle.am_headline.proofs.Marks.{Known, completes}
-use Rattle.am_headline.proofs.Lawful.{or_cases, lawful_group}
 use Rattle.am_headline.proofs.Ready.{marked, given, halted, MayMark, Ready, Stays, stays_same, grows_marked, grows_halted, shaped_marked, marked_follows}
-use Rattle.am_headline.proofs.Ready.{ready_given}
-use Rattle.am_headline.proofs.Ready.{ready_halted, stays_follows, grows_given}
-use Rattle.am_headline.proofs.Greatest.{Passing, any_passing, passing_any, Small, IsGreatest, greatest_is, watch_push, unbroken, watch_complete}
+use Rattle.am_headline.proofs.Ready.{ready_given, ready_halted, stays_follows, grows_given}
+use Rattle.am_headline.proofs.Greatest.{Passing, any_passing, passing_any, Small, IsGreatest, greatest_is, unbroken, watch_complete}
+use Rattle.am_headline.proofs.{Shapes.Shaped, Shapes.shaped_moves, OneStep.OneStep, OneStep.run_push, Marks.Known, Marks.completes, Lawful.or_cases}
+use Rattle.am_headline.proofs.{Lawful.lawful_group}
 
 -- ---- the marks
 

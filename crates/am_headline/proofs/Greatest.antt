@@ -1,14 +1,7 @@
 -- The greatest complete view of a watched run, and the marks of the group.
-use Rattle.std.proofs.Common.{◌≡◌, ◌⊎◌, ⊎_elim, inl, inr, ℕ, zero, suc, ◌+◌, ◌<◌, ◌≤◌, Bool, true, false, List, [], ◌∷◌, ◌++◌}
-use Rattle.std.proofs.Common.{Option, Some, None, slice_get, refl, sym, ap, ◌∙◌, subst, arith}
-use Rattle.std.specs.List.{list_any}
-use Rattle.am_base.specs.Stamps.{stamp_lt}
-use Rattle.am_group.specs.declared.event.Event.{Event}
-use Rattle.am_chain_lists.specs.Whole.{key}
-use Rattle.am_chain_lists.proofs.Order.{key_lt, lt_key}
-use Rattle.am_play.specs.World.{Decided, World, happens}
-use Rattle.am_play.specs.Lawful.{is_complete, is_lawful, Watch, watch, watch_all, greater_complete, greatest_complete, broken_now}
-use Rattle.am_base.proofs.Greatest.{split}
+use Rattle.am_headline.proofs.Words.{◌≡◌, ◌⊎◌, ⊎_elim, inl, inr, ℕ, zero, suc, ◌+◌, ◌<◌, ◌≤◌, Bool, true, false, List, [], ◌∷◌, Option, Some, None, slice_get}
+use Rattle.am_headline.proofs.Words.{refl, sym, ap, ◌∙◌, subst, arith, list_any, stamp_lt, Event, key, key_lt, lt_key, Decided, World, happens, is_complete}
+use Rattle.am_headline.proofs.Words.{is_lawful, Watch, watch, greater_complete, greatest_complete, broken_now, split}
 
 -- ---- one item that passes
 
@@ -116,11 +109,6 @@ greatest_is w best (v ∷ vs) small few =
     by_place (suc k) d at done f g = g k at
 
 -- ---- the watched run of one event more
-
-pub watch_push : (s : Watch) (events : List Event) (e : Event) → watch_all s (events ++ e ∷ []) ≡ watch (watch_all s events) e
-unfolding watch_all
-watch_push s [] e = refl
-watch_push s (x ∷ xs) e = watch_push (watch s x) xs e
 
 -- where it isn't broken, it wasn't before, and it is lawful now
 pub record Unbroken (s : Watch) (e : Event) : Type 0 where

@@ -1,28 +1,10 @@
 -- The node that hears a packet in a run, and who has a list to send of.
-use Rattle.std.proofs.Common.{◌≡◌, ℕ, ◌≤◌, ◌==◌, not, nat_le, nat_lt, Bool, true, false, if◌then◌else◌, List}
-use Rattle.std.proofs.Common.{Option, Some, None, slice_get, refl, sym, ap, ◌∙◌, subst, arith}
-use Rattle.std.proofs.lemmas.Bool.Decides.{nat_tests}
-use Rattle.am_base.specs.declared.outcome.Outcome.{Outcome}
+use Rattle.am_headline.proofs.Words.{deeds_there, ◌≡◌, ℕ, ◌≤◌, ◌==◌, not, nat_le, nat_lt, Bool, true, false, if◌then◌else◌, List, Option, Some, None}
+use Rattle.am_headline.proofs.Words.{slice_get, refl, sym, ap, ◌∙◌, subst, arith, nat_tests, Outcome, Packet, Letter, Act, Event, is_for, letter_at, Node}
+use Rattle.am_headline.proofs.Words.{has_departed, Step, finish, packet_length, hear, hear_refusal, World, is_stopped, with_record, with_step, hears_letter}
+use Rattle.am_headline.proofs.Words.{hear_cut, acts_as, happens, Cause, Ending, at_end, let_go, closing, actor, WasSentTo, rests_at_end}
 use Rattle.am_base.specs.declared.outcome.Outcome.TheVariants as said
-use Rattle.am_packet.specs.declared.packet.Packet.{Packet}
-use Rattle.am_packet.specs.Boxes.{Letter}
-use Rattle.am_group.specs.declared.event.Act.{Act}
 use Rattle.am_group.specs.declared.event.Act.TheVariants as act
-use Rattle.am_group.specs.declared.event.Event.{Event}
-use Rattle.am_group.specs.Addressed.{is_for}
-use Rattle.am_group.specs.Journals.{letter_at}
-use Rattle.am_model.specs.Node.{Node, has_departed}
-use Rattle.am_model.specs.Emit.{Step, finish}
-use Rattle.am_model.specs.Lengths.{packet_length}
-use Rattle.am_model.specs.Step.{hear, hear_refusal}
-use Rattle.am_play.specs.World.{World, is_stopped, with_record, with_step, hears_letter, hear_cut, acts_as, happens}
-use Rattle.am_effects.specs.Causes.{Cause}
-use Rattle.am_effects.specs.Changes.{Change, refreshes, settles, begins_list, departs}
-use Rattle.am_effects.specs.Changes.{looks, asks_to_join, closes}
-use Rattle.am_effects.specs.Courses.{IsPlain, Course, nothing_yet, used_report, and_then, Deeds, plainly, looked, Ending, at_end, let_go, closing}
-use Rattle.am_effects.specs.Events.{actor, WasSentTo}
-use Rattle.am_effects.proofs.Rests.{rests_at_end, rests_refresh, settle_is}
-use Rattle.am_headline.proofs.Ways.{look_alike}
 
 -- ---- what is heard
 
@@ -81,28 +63,9 @@ heard_as w e step p h runs is =
 
 -- ---- who hasn't departed
 
-stays_plain : {c : Cause} {o : Outcome} (x y : Node) (z : Change c o x y) → IsPlain z → has_departed x.status ≡ false → has_departed y.status ≡ false
-stays_plain x y refreshes plain h = absurd plain
-stays_plain x y settles plain h = ap (λ (n : Node). has_departed n.status) (settle_is x) ∙ h
-stays_plain x y (begins_list s v base join image is says may) plain h = refl
-stays_plain x y (departs s v number is heard_ leaves) plain h = absurd plain
-stays_plain x y (looks b verdict over why look is) plain h = absurd plain
-stays_plain x y (asks_to_join is was) plain h = refl
-stays_plain x y (closes leads leaves alone room) plain h = absurd plain
-stays_plain x y _ plain h = h
-
-stays_course : {c : Cause} {o : Outcome} (m x : Node) → Course c o m x → has_departed m.status ≡ false → has_departed x.status ≡ false
-stays_course m x nothing_yet h = h
-stays_course m x (used_report s v report by may) h = ap has_departed (rests_refresh _).rests.status ∙ h
-stays_course m x (and_then {n = n} course z plain) h = stays_plain n x z plain (stays_course m n course h)
-
-stays_deeds : {c : Cause} {o : Outcome} (m x : Node) → Deeds c o m x → has_departed m.status ≡ false → has_departed x.status ≡ false
-stays_deeds m x (plainly course) h = stays_course m x course h
-stays_deeds m x (looked {n = n} b verdict course over why look is) h = ap has_departed (look_alike n b verdict look).status ∙ stays_course m n course h
-
 -- whoever sends something is there then, if it was before
 pub sender_stays : {c : Cause} {o : Outcome} (m n : Node) (letters : List Letter) (k : ℕ) (l : Letter) → Ending c o m letters n → slice_get letters k ≡ Some l
     → has_departed m.status ≡ false → has_departed n.status ≡ false
-sender_stays m n letters k l (at_end {x = x} deeds) at h = ap has_departed (rests_at_end x).rests.status ∙ stays_deeds m x deeds h
+sender_stays m n letters k l (at_end {x = x} deeds) at h = ap has_departed (rests_at_end x).rests.status ∙ deeds_there m x deeds h
 sender_stays m n letters k l (let_go s v number is heard_ leaves) at h = absurd (cc)
 sender_stays m n letters k l (closing ev is course leads leaves alone room same) at h = absurd (cc)

@@ -1,52 +1,16 @@
 -- The headline, of every run.
-use Rattle.std.proofs.Common.{◌≡◌, ◌≢◌, ◌⊎◌, ⊎_elim, ℕ, ◌<◌, ◌≤◌, true, List, [], ◌∷◌, ◌++◌, length, take}
-use Rattle.std.proofs.Common.{Some, None, slice_get, refl, sym, ap, ◌∙◌, subst, arith, append-nil, append_assoc, drop}
-use Rattle.std.proofs.lemmas.List.{take-append-drop}
-use Rattle.am_base.specs.declared.entry.Entry.{Entry}
-use Rattle.am_base.specs.Founding.{Rules, MayFound}
-use Rattle.am_base.specs.Stamps.{stamp_lt}
-use Rattle.am_base.specs.Lists.{blank, AllFit}
-use Rattle.am_group.specs.declared.event.Event.{Event}
-use Rattle.am_group.specs.declared.event.Record.{Record}
-use Rattle.am_group.specs.Deliveries.{deliveries}
-use Rattle.am_group.specs.Journals.{item_at}
-use Rattle.am_chain_lists.specs.Whole.{Begins, IsGood, view_of, key}
-use Rattle.am_chain_lists.proofs.Order.{key_lt, view_small, view_up, view_viewed}
-use Rattle.am_chain_lists.proofs.Prefixes.{begins_both, begins_take, begins_trans, length_take, length_push}
-use Rattle.am_chain_lists.proofs.Members.{good_begins}
-use Rattle.am_chain_moves.specs.Group.{Group, opening}
+use Rattle.am_headline.proofs.Words.{watch_push, ◌≡◌, ◌≢◌, ◌⊎◌, ⊎_elim, ℕ, ◌<◌, ◌≤◌, true, List, [], ◌∷◌, ◌++◌, length, take, Some, None, slice_get, refl}
+use Rattle.am_headline.proofs.Words.{sym, ap, ◌∙◌, subst, arith, append-nil, append_assoc, drop, take-append-drop, Entry, Rules, MayFound, stamp_lt, blank}
+use Rattle.am_headline.proofs.Words.{AllFit, Event, Record, deliveries, item_at, Begins, IsGood, view_of, key, key_lt, view_small, view_up, view_viewed}
+use Rattle.am_headline.proofs.Words.{begins_both, begins_take, begins_trans, length_take, length_push, good_begins, Group, opening, view, lowest_or_first}
+use Rattle.am_headline.proofs.Words.{has_log, accepted_sends, Decided, World, happens, run, Watch, watch_run, watch_start, broken_at, lawful_front, BeginsAt}
+use Rattle.am_headline.proofs.Words.{Segment, line_of, BecameComplete, KeepsView, Holds, HeadlineHolds, split, runs_begin, front_is_lawful, actor, IsIdle}
+use Rattle.am_headline.proofs.Words.{events_have_effects, all_get, senders_in_order, send_stands_once, bounded_holds, sent_holds, front_begins, few_names}
+use Rattle.am_headline.proofs.Words.{run_owned, IsNoted, nil_of, StandsAt, NameStands, NotedStands, told_all, group_kept, steps_move, Following}
 use Rattle.am_chain_moves.specs.Kept as groups
-use Rattle.am_model.specs.Node.{view, lowest_or_first, has_log}
-use Rattle.am_play.specs.Group.{accepted_sends}
-use Rattle.am_play.specs.World.{Decided, World, happens, run}
-use Rattle.am_play.specs.Lawful.{Watch, watch_run, watch_start, broken_at, lawful_front}
-use Rattle.am_play.specs.Claims.{BeginsAt, Segment, line_of, BecameComplete, KeepsView, Holds, HeadlineHolds}
-use Rattle.am_base.proofs.Greatest.{split}
-use Rattle.am_play.proofs.Beginnings.{runs_begin}
-use Rattle.am_play.proofs.Runs.{front_is_lawful}
-use Rattle.am_effects.specs.Events.{actor, IsIdle}
-use Rattle.am_effects.proofs.Events.{events_have_effects}
-use Rattle.am_effects.proofs.Items.{all_get}
-use Rattle.am_orders.proofs.Turns.{senders_in_order, send_stands_once}
-use Rattle.am_bounded.proofs.Runs.{bounded_holds}
-use Rattle.am_sent.proofs.Runs.{sent_holds}
-use Rattle.am_laws.proofs.Fronts.{front_begins}
-use Rattle.am_laws.proofs.Named.{few_names}
-use Rattle.am_laws.proofs.TakenRuns.{run_owned}
-use Rattle.am_laws.proofs.Views.{IsNoted}
-use Rattle.am_unballoted.proofs.Steps.{nil_of}
-use Rattle.am_unballoted.proofs.Worlds.{StandsAt}
-use Rattle.am_stands.specs.Standing.{NameStands, NotedStands}
-use Rattle.am_stands.proofs.Changes.{told_all}
-use Rattle.am_stands.proofs.Onward.{group_kept}
-use Rattle.am_steps.proofs.Steps.{steps_move}
-use Rattle.am_stands.specs.Running.{Following}
-use Rattle.am_headline.proofs.Lists.{item_begins, item_back}
-use Rattle.am_headline.proofs.Fold.{Quiet, KeptBy, Became, Held}
-use Rattle.am_headline.proofs.Begun.{held}
-use Rattle.am_headline.proofs.Greatest.{unbroken, watch_push}
-use Rattle.am_headline.proofs.Told.{Told, Taking, taking_in_group, told_same, told_idle, told_step, told_start}
-use Rattle.am_headline.proofs.Moments.{done_then, given_then}
+use Rattle.am_headline.proofs.{Lists.item_begins, Lists.item_back, Fold.Quiet, Fold.KeptBy, Fold.Became, Fold.Held, Begun.held, Greatest.unbroken, Told.Told}
+use Rattle.am_headline.proofs.{Told.Taking, Told.taking_in_group, Told.told_same, Told.told_idle, Told.told_step, Told.told_start, Moments.done_then}
+use Rattle.am_headline.proofs.{Moments.given_then}
 
 -- ---- the group list
 

@@ -1,39 +1,19 @@
 -- What is known of a name's node within its step: what its application was given, and which of its sends are settled.
-use Rattle.std.proofs.Common.{◌≡◌, ◌⊎◌, ⊎_elim, inl, inr, ℕ, ◌+◌, ◌-◌, ◌<◌, ◌≤◌, max, min, ◌==◌, ◌||◌, not, nat_lt, Bool, true, false, if◌then◌else◌}
-use Rattle.std.proofs.Common.{List, [], ◌∷◌, ◌++◌, filter, find, count_by, Option, Some, None, slice_get, refl, sym, ap, ◌∙◌, subst, arith}
-use Rattle.std.specs.Prelude.{All}
-use Rattle.std.proofs.lemmas.Bool.Decides.{nat_tests}
-use Rattle.std.proofs.lemmas.List.Sums.{sum_by-cons}
-use Rattle.std.proofs.lemmas.List.Elements.{All-push, All-filter, All-map, All-weaker}
-use Rattle.am_base.specs.declared.entry.Entry.{Entry}
-use Rattle.am_base.specs.declared.entry.Entry.TheVariants.{Data, Leave}
-use Rattle.am_base.specs.declared.image.Image.{Image}
-use Rattle.am_base.specs.declared.name.Stamp.{Stamp}
-use Rattle.am_base.specs.declared.outcome.Outcome.{Outcome}
+use Rattle.am_headline.proofs.Words.{no_member, member_stays, gave_still, passed_front, or_first, fewer_wait, ◌≡◌, ◌⊎◌, ⊎_elim, inl, inr, ℕ, ◌+◌, ◌-◌, ◌<◌}
+use Rattle.am_headline.proofs.Words.{◌≤◌, max, min, ◌==◌, not, nat_lt, Bool, true, false, if◌then◌else◌, List, [], ◌∷◌, ◌++◌, find, count_by, Option, Some}
+use Rattle.am_headline.proofs.Words.{None, slice_get, refl, sym, ap, ◌∙◌, subst, arith, All, nat_tests, sum_by-cons, All-push, All-filter, All-map}
+use Rattle.am_headline.proofs.Words.{All-weaker, Entry, Data, Leave, Image, Stamp, Outcome, CoreState, accept, pass_over, own_report, tell, go_on, Log}
+use Rattle.am_headline.proofs.Words.{OwnSend, Status, Node, is_member, is_asking, is_sequencer, waiting, unsettled_count, push_entry, has_log, has_departed}
+use Rattle.am_headline.proofs.Words.{begin_list, advance, lead, refresh, settle, settle_waiting, settle_at, accepted_at, refresh_at_end, split, and_both}
+use Rattle.am_headline.proofs.Words.{item_at, Cause, hears, MayBeWelcomed, get_front, rests_refresh, refresh_is, settle_is, asking, logged, asking_log, front}
+use Rattle.am_headline.proofs.Words.{Gave, nothing, took, began, at_least, gave_begun, still_log, found_at}
+use Rattle.am_fronts.specs.Refresh.{let_go}
 use Rattle.am_base.specs.declared.outcome.Outcome.TheVariants as said
-use Rattle.am_core.specs.Cores.{CoreState, accept, pass_over}
-use Rattle.am_fronts.specs.Refresh.{own_report, tell, go_on, let_go}
-use Rattle.am_base.specs.Lists.{Log}
 use Rattle.am_packet.specs.declared.packet.Packet.TheVariants as packet
-use Rattle.am_sender.specs.declared.OwnSend.{OwnSend}
 use Rattle.am_sender.specs.Sends as own
-use Rattle.am_model.specs.declared.status.Status.{Status}
 use Rattle.am_model.specs.declared.status.Status.TheVariants as status
-use Rattle.am_model.specs.Node.{Node, is_member, is_asking, is_sequencer, waiting, unsettled_count, push_entry, has_log, has_departed}
-use Rattle.am_model.specs.Joining.{begin_list}
-use Rattle.am_model.specs.Refresh.{advance, lead, refresh, settle, settle_waiting, settle_at, accepted_at, refresh_at_end}
-use Rattle.am_base.proofs.Greatest.{split, and_both}
-use Rattle.am_group.specs.Journals.{item_at}
-use Rattle.am_effects.specs.Causes.{Cause, hears}
-use Rattle.am_effects.specs.Changes.{MayBeWelcomed}
-use Rattle.am_effects.proofs.Items.{get_front}
-use Rattle.am_effects.proofs.Rests.{rests_refresh, refresh_is, settle_is}
-use Rattle.am_effects.proofs.Receiving.{asking}
-use Rattle.am_effects.proofs.Statuses.{logged, asking_log}
-use Rattle.am_unballoted.proofs.Chains.{front, Gave, nothing, took, began, at_least, gave_begun, still_log}
-use Rattle.am_unballoted.proofs.Changes.{found_at}
-use Rattle.am_headline.proofs.Ways as kinds
 use Rattle.am_headline.proofs.Ways.{Alike, Kind, pushed_alike}
+use Rattle.am_headline.proofs.Ways as kinds
 
 -- ---- sends that are settled
 
@@ -81,10 +61,6 @@ pub record Inside (group : List Entry) (i : ℕ) (c : Cause) (o : Outcome) (m x 
 
 -- ---- fronts
 
-passed_front : (taken acc start : ℕ) → max (if nat_lt taken (start - 1) then max taken (min acc (start - 1)) else taken) (start - 1) ≡ max taken (start - 1)
-passed_front taken acc start = split (nat_lt taken (start - 1)) (λ t. let z : taken < start - 1 = grind (arith, nat_tests) in rw t (omega arith))
-    (λ f. rw f refl)
-
 -- what a refresh makes of the numbers
 record Fronts (m n : Node) : Type 0 where
   front_ : front n ≡ front m
@@ -118,12 +94,6 @@ refresh_fronts m low h = split (is_sequencer m) (λ t. rw t (lead_fronts m low h
 
 -- ---- what was given
 
-gave_still : {c : Cause} {o : Outcome} (k m n : Node) → front n ≡ front m → n.core.start ≡ m.core.start → has_log n.status ≡ has_log m.status → Gave c o k m
-    → Gave c o k n
-gave_still k m n a b d (nothing x y z) = nothing (a ∙ x) (b ∙ y) (d ∙ z)
-gave_still k m n a b d (took j e is x y z w u v) = took j e is x (a ∙ y) (b ∙ z) (let s = ap (λ t. t - 1) b in omega arith) (d ∙ u) v
-gave_still k m n a b d (began s v base join image is says x y z w u) = began s v base join image is says x (d ∙ y) (b ∙ z) (a ∙ w) u
-
 number_of : Outcome → ℕ
 number_of (said.Took number e) = number
 number_of _ = 0
@@ -145,17 +115,9 @@ gave_taken k m e low passed member some says (began s v base join image a b x y 
 
 -- ---- statuses
 
-asking_stays : (s : Status) → is_asking s ≡ true → has_departed s ≡ false
-asking_stays status.Stranger h = refl
-asking_stays status.Asking h = refl
-asking_stays status.Member h = refl
+pub asking_stays : (s : Status) → is_asking s ≡ true → has_departed s ≡ false
 asking_stays status.Departed h = absurd (cc)
-
-member_stays : (s : Status) → is_member s ≡ true → has_departed s ≡ false
-member_stays status.Stranger h = refl
-member_stays status.Asking h = refl
-member_stays status.Member h = refl
-member_stays status.Departed h = absurd (cc)
+asking_stays _ h = refl
 
 -- ---- sends
 
@@ -172,16 +134,6 @@ none_waits (s ∷ q) h = split (own.is_unsettled s)
     ∙ ap (λ (b : Bool). (if b then 1 else 0) + count_by own.is_unsettled q) f in
     let rest : nat_lt 0 (count_by own.is_unsettled q) ≡ false = grind (arith, nat_tests) in
     rw f (none_waits q rest))
-
-none_left : (p : OwnSend → Bool) (queue : List OwnSend) → find own.is_unsettled queue ≡ None → find own.is_unsettled (filter p queue) ≡ None
-none_left p [] h = refl
-none_left p (s ∷ q) h = split (own.is_unsettled s)
-    (λ t. absurd (let z = rw t at h in cc))
-    (λ f. let rest = none_left p q (rw f at h) in split (p s) (λ t. rw (t, f) rest) (λ g. rw g rest))
-
-or_first : (a b : Bool) → (a || b) ≡ false → a ≡ false
-or_first true b h = absurd (cc)
-or_first false b h = refl
 
 -- a send that was settled stays so where the list goes on and no less is accepted
 fresh_on : (m x y : Node) (req number : ℕ) → y.core.who ≡ x.core.who → y.core.log.start ≡ x.core.log.start
@@ -209,12 +161,6 @@ sends_on : (group : List Entry) (i : ℕ) (m x y : Node) (queue : List OwnSend) 
 sends_on group i m x y queue f h = All-weaker (SendIn group i m x) (SendIn group i m y) (λ s. settled_on group i m x y f s.req s.number) queue h
 
 -- ---- who has no list
-
-no_member : (s : Status) → has_log s ≡ false → is_member s ≡ false
-no_member status.Stranger t = refl
-no_member status.Asking t = refl
-no_member status.Member t = absurd (cc)
-no_member status.Departed t = absurd (cc)
 
 bare_refresh : (x : Node) → has_log x.status ≡ false → x.core.acc ≡ 0 → x.core.told ≡ 0 → (refresh x).core.acc ≡ 0
 unfolding refresh accept pass_over
@@ -359,7 +305,7 @@ module _ (group : List Entry) (i : ℕ) (c : Cause) (o : Outcome) (m : Node) whe
 
   inside_collected : (x : Node) (req : ℕ) → Inside group i c o m x → Inside group i c o m (record x { sends = own.collect req x.sends })
   inside_collected x req h = split (own.is_settled req x.sends)
-      (λ t. rw t (inside_sends x (own.without_request req x.sends) (λ u. none_left (λ s. not (own.is_request req s)) x.sends.queue (h.silent u))
+      (λ t. rw t (inside_sends x (own.without_request req x.sends) (λ u. fewer_wait (λ s. not (own.is_request req s)) x.sends.queue (h.silent u))
       (All-filter (λ s. not (own.is_request req s)) (SendIn group i m x) x.sends.queue h.sends) h))
       (λ f. rw f (inside_sends x x.sends h.silent h.sends h))
 

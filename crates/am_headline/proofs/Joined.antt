@@ -1,32 +1,13 @@
 -- A joiner's Join stands at the number with which it is welcomed.
-use Rattle.std.proofs.Common.{◌≡◌, ◌⊎◌, ⊎_elim, inl, inr, ℕ, zero, suc, ◌+◌, ◌<◌, ◌≤◌, true, false, List, [], ◌∷◌, ◌++◌, length, take, Some, slice_get, refl}
-use Rattle.std.proofs.Common.{sym, ap, ◌∙◌, subst, arith}
-use Rattle.std.specs.Prelude.{All}
-use Rattle.am_base.specs.declared.entry.Entry.{Entry}
-use Rattle.am_base.specs.declared.entry.Entry.TheVariants.{Join}
-use Rattle.am_base.specs.declared.image.Image.{Image}
-use Rattle.am_base.specs.declared.name.Stamp.{Stamp}
-use Rattle.am_base.specs.Founding.{Rules}
-use Rattle.am_base.specs.Names.{place_of, life_of, has}
+use Rattle.am_headline.proofs.Words.{◌≡◌, ◌⊎◌, ⊎_elim, inl, inr, ℕ, zero, suc, ◌+◌, ◌<◌, ◌≤◌, true, false, List, [], ◌∷◌, ◌++◌, length, take, Some, slice_get}
+use Rattle.am_headline.proofs.Words.{refl, sym, ap, ◌∙◌, subst, arith, All, Entry, Join, Image, Stamp, Rules, place_of, life_of, has, Letter, goes_to_any}
+use Rattle.am_headline.proofs.Words.{is_for, item_at, Begins, IsGood, mem, In, row_at, begins_take, length_take, good_begins, told_push, long_told, mem_in}
+use Rattle.am_headline.proofs.Words.{in_mem, mem_viewed, Group, is_asking, founders_view, World, is_stopped, all_get, asking_log, PacketSays, WelcomeSays}
+use Rattle.am_headline.proofs.Words.{WelcomeTo, has_begun, has_gone, has_left, is_leaving, may_begin, Becomes, stayed, joins, founds, became, blank_nil}
+use Rattle.am_headline.proofs.Words.{Following}
+use Rattle.am_chain_lists.specs.Whole.{image_of}
 use Rattle.am_packet.specs.declared.packet.Packet.TheVariants as packet
-use Rattle.am_packet.specs.Boxes.{Letter}
-use Rattle.am_packet.specs.Kinds.{goes_to_any}
-use Rattle.am_group.specs.Addressed.{is_for}
-use Rattle.am_group.specs.Journals.{item_at}
-use Rattle.am_chain_lists.specs.Whole.{Begins, IsGood, image_of, mem}
-use Rattle.am_chain_lists.proofs.Rows.{In, row_at}
-use Rattle.am_chain_lists.proofs.Prefixes.{begins_take, length_take}
-use Rattle.am_chain_lists.proofs.Members.{good_begins, told_push, long_told, mem_in, in_mem, mem_viewed}
-use Rattle.am_chain_moves.specs.Group.{Group}
-use Rattle.am_model.specs.declared.status.Status.{Status}
-use Rattle.am_model.specs.declared.status.Status.TheVariants as status
-use Rattle.am_model.specs.Node.{is_asking, founders_view, has_departed}
-use Rattle.am_play.specs.World.{World, is_stopped}
-use Rattle.am_effects.proofs.Items.{all_get}
-use Rattle.am_effects.proofs.Statuses.{asking_log}
-use Rattle.am_stands.specs.Letters.{PacketSays, WelcomeSays, WelcomeTo, has_begun, has_gone, has_left, is_leaving, may_begin}
-use Rattle.am_stands.proofs.Joins.{Becomes, stayed, joins, founds, became, blank_nil}
-use Rattle.am_stands.specs.Running.{Following}
+use Rattle.am_headline.proofs.{Inside.asking_stays, Fitted.letter_there}
 
 -- ---- by the group list
 
@@ -38,8 +19,7 @@ split_at (suc j) (x ∷ es) low = let r = split_at j es (omega arith) in (r.0, a
 
 -- a name that becomes a member at a number, and wasn't before, joins there; or it is a name of the first View
 becomes_at : (list : List Entry) (name j : ℕ) → IsGood list → suc j ≤ length list → mem (take (suc j) list) name ≡ true
-    → ((a : List Entry) → Begins a list → length a < suc j → mem a name ≡ true → ⊥)
-    → (slice_get list j ≡ Some (Join name)) ⊎ (j ≡ 0)
+    → ((a : List Entry) → Begins a list → length a < suc j → mem a name ≡ true → ⊥) → (slice_get list j ≡ Some (Join name)) ⊎ (j ≡ 0)
 becomes_at list name j good low member first =
     let r = split_at j list low in
     let a = take j list in
@@ -84,16 +64,6 @@ joined_at rules group name (suc j) good opens some low member first unfounded = 
 -- each letter goes to any life of a place only where its kind does
 abbrev pub AnyLetter : Letter → Type 0
 AnyLetter l = l.any ≡ goes_to_any l.packet
-
-asking_stays : (s : Status) → is_asking s ≡ true → has_departed s ≡ false
-asking_stays status.Stranger h = refl
-asking_stays status.Asking h = refl
-asking_stays status.Member h = refl
-asking_stays status.Departed h = absurd (cc)
-
-letter_there : (letters : List Letter) (number : ℕ) (l : Letter) → item_at letters number ≡ Some l → (k : ℕ) × (slice_get letters k ≡ Some l)
-letter_there letters zero l h = absurd (cc)
-letter_there letters (suc k) l h = (k, h)
 
 -- what such a letter says to a name that asks
 welcome_says : (rules : Rules) (w : World) (s : Group) (i number : ℕ) (l : Letter) (from : ℕ) (v : Stamp) (base join : ℕ) (image : Image) → Following rules w s

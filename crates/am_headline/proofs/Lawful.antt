@@ -1,22 +1,8 @@
 -- A world that is lawful for its greatest complete view is so in the group that stands for it.
-use Rattle.std.proofs.Common.{◌≡◌, ◌≢◌, ◌⊎◌, ⊎_elim, inl, inr, ℕ, zero, suc, ◌+◌, ◌<◌, ◌≤◌, ◌==◌, ◌&&◌, ◌||◌, not, nat_lt, Bool, true, false, if◌then◌else◌}
-use Rattle.std.proofs.Common.{List, [], ◌∷◌, length}
-use Rattle.std.proofs.Common.{count_by, refl, sym, ap, ◌∙◌, arith}
-use Rattle.std.specs.List.{list_any}
-use Rattle.std.proofs.lemmas.Bool.Decides.{nat_tests}
-use Rattle.am_base.specs.declared.entry.Entry.TheVariants.{View}
-use Rattle.am_base.specs.Names.{has}
-use Rattle.am_fronts.proofs.ReportLaws.{count_cons}
-use Rattle.am_chain_lists.specs.Whole.{key}
-use Rattle.am_chain_lists.proofs.Prefixes.{length_push}
-use Rattle.am_chain_moves.specs.Group.{Group, count, how_many, opening}
-use Rattle.am_chain_moves.specs.Runs.{counts_for}
-use Rattle.am_model.specs.Node.{has_log, has_departed}
-use Rattle.am_play.specs.World.{Decided, World}
-use Rattle.am_play.specs.Lawful.{counts, is_lost, is_lawful}
-use Rattle.am_base.proofs.Greatest.{split, and_both}
-use Rattle.am_stands.specs.Standing.{NotedStands, Stands}
-use Rattle.am_stands.proofs.Counting.{count_up_to}
+use Rattle.am_headline.proofs.Words.{◌≡◌, ◌≢◌, ◌⊎◌, ⊎_elim, inl, inr, ℕ, zero, suc, ◌+◌, ◌<◌, ◌≤◌, ◌==◌, ◌&&◌, ◌||◌, not, nat_lt, Bool, true, false}
+use Rattle.am_headline.proofs.Words.{if◌then◌else◌, List, [], ◌∷◌, length, count_by, refl, sym, ap, ◌∙◌, arith, list_any, nat_tests, View, has, count_cons}
+use Rattle.am_headline.proofs.Words.{key, length_push, Group, count, how_many, opening, counts_for, has_log, has_departed, Decided, World, counts, is_lost}
+use Rattle.am_headline.proofs.Words.{is_lawful, split, and_both, NotedStands, Stands, count_up_to}
 
 -- ---- names that are counted, and a list that has them
 

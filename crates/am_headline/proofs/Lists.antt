@@ -1,21 +1,8 @@
 -- Lists, their lines, and where a View stands in them.
-use Rattle.std.proofs.Common.{◌≡◌, ◌⊎◌, ⊎_elim, ℕ, zero, suc, ◌<◌, ◌≤◌, true, List, [], ◌∷◌, ◌++◌, length, Some, slice_get, sym, ap, ◌∙◌, subst, arith}
-use Rattle.std.specs.List.{list_any}
-use Rattle.am_base.specs.declared.entry.Entry.{Entry}
-use Rattle.am_base.specs.declared.entry.Entry.TheVariants.{Data, Join, Leave, View}
-use Rattle.am_base.specs.declared.name.Stamp.{Stamp}
-use Rattle.am_group.specs.Journals.{item_at}
-use Rattle.am_group.proofs.Places.{get_before}
-use Rattle.am_chain_lists.specs.Whole.{Begins, IsGood, view_of, key}
-use Rattle.am_chain_lists.proofs.Prefixes.{begins_nil, begins_both, begins_more, begins_same, length_push}
-use Rattle.am_chain_lists.proofs.Members.{good_begins}
-use Rattle.am_chain_lists.proofs.Order.{view_up, view_below, view_viewed}
-use Rattle.am_model.specs.Receiving.{is_view}
-use Rattle.am_play.specs.Lawful.{is_view_of}
-use Rattle.am_play.specs.Claims.{up_to_view, up_to_next}
-use Rattle.am_base.proofs.Greatest.{split}
-use Rattle.am_laws.proofs.Stamps.{same_stamp}
-use Rattle.am_unballoted.proofs.Lists.{item_more}
+use Rattle.am_headline.proofs.Words.{same_stamp, low_or_above, ◌≡◌, ◌⊎◌, ⊎_elim, ℕ, zero, suc, ◌<◌, ◌≤◌, true, List, [], ◌∷◌, ◌++◌, length, Some, slice_get}
+use Rattle.am_headline.proofs.Words.{sym, ap, ◌∙◌, subst, arith, list_any, Entry, View, Stamp, item_at, get_before, Begins, IsGood, view_of, key, begins_nil}
+use Rattle.am_headline.proofs.Words.{begins_both, begins_more, begins_same, length_push, good_begins, view_up, view_below, view_viewed, is_view, is_view_of}
+use Rattle.am_headline.proofs.Words.{up_to_view, up_to_next, split, item_more}
 
 -- ---- lines
 
@@ -43,10 +30,8 @@ pub record Viewed (v : Stamp) (list : List Entry) : Type 0 where
   pub begins : Begins (before ++ View v names resilience ∷ []) list
 
 is_that : (v : Stamp) (e : Entry) → is_view_of v e ≡ true → (names : List ℕ) × (resilience : ℕ) × (e ≡ View v names resilience)
-is_that v (Data from req body) h = absurd (cc)
-is_that v (Join name) h = absurd (cc)
-is_that v (Leave name) h = absurd (cc)
 is_that v (View stamp names resilience) h = (names, resilience, ap (λ s. View s names resilience) (same_stamp stamp v h))
+is_that v _ h = absurd (cc)
 
 pub find_view : (v : Stamp) (list : List Entry) → list_any (is_view_of v) list ≡ true → Viewed v list
 find_view v [] h = absurd (cc)
@@ -63,9 +48,6 @@ find_view v (e ∷ es) h = split (is_view_of v e)
     let at = find_view v es (rw f at h) in
     record { before = e ∷ at.before; names = at.names; resilience = at.resilience; begins = begins_cons e at.begins })
 
-two : (a b : ℕ) → (a ≤ b) ⊎ (b < a)
-two a b = grind arith
-
 -- two beginnings of one list that end with the same View are the same
 pub same_opening : (v : Stamp) (a b : List Entry) (names others : List ℕ) (resilience more : ℕ) (list : List Entry)
     → Begins (a ++ View v names resilience ∷ []) list → Begins (b ++ View v others more ∷ []) list
@@ -81,10 +63,10 @@ same_opening v a b names others resilience more list h k g f =
     (λ (less : length p < length q). absurd (below v b others more p (begins_both (begins_both h k le) (begins_more b (View v others more ∷ []))
     (omega arith)) f
     (view_viewed a v names resilience)))
-    (two (length q) (length p)))
+    (low_or_above (length q) (length p)))
     (λ (less : length q < length p). absurd (below v a names resilience q
     (begins_both (begins_both k h (omega arith)) (begins_more a (View v names resilience ∷ [])) (omega arith)) g (view_viewed b v others more)))
-    (two (length p) (length q))
+    (low_or_above (length p) (length q))
   where
     below : (v : Stamp) (a : List Entry) (names : List ℕ) (resilience : ℕ) (q : List Entry) → Begins q a → IsGood (a ++ View v names resilience ∷ [])
         → view_of q ≡ v → ⊥

@@ -1,31 +1,12 @@
 -- A view that is complete in a world completes in the group that stands for it.
-use Rattle.std.proofs.Common.{◌≡◌, ℕ, zero, suc, ◌+◌, ◌<◌, ◌≤◌, ◌==◌, ◌&&◌, not, nat_lt, nat_le, min, Bool, true, false, List, [], ◌∷◌, ◌++◌}
-use Rattle.std.proofs.Common.{length, Some, slice_get, slice_index, count_by, refl, sym, ap, ◌∙◌, subst, arith}
-use Rattle.std.specs.List.{list_any}
-use Rattle.std.proofs.lemmas.Bool.Decides.{nat_tests}
-use Rattle.am_base.specs.declared.entry.Entry.{Entry}
-use Rattle.am_base.specs.declared.entry.Entry.TheVariants.{View}
-use Rattle.am_base.specs.Names.{IsSet, place_of, life_of, name_at, has, size, names_from, names_of}
-use Rattle.am_base.specs.Stamps.{stamp_lt}
-use Rattle.am_chain_lists.specs.Whole.{Begins, IsGood, view_of, key}
-use Rattle.am_chain_lists.proofs.Rows.{mod16}
-use Rattle.am_chain_lists.proofs.Prefixes.{begins_trans}
-use Rattle.am_chain_lists.proofs.Members.{good_begins}
-use Rattle.am_chain_lists.proofs.Order.{lt_key, view_small, view_viewed}
-use Rattle.am_chain_moves.specs.Group.{Group, how_many, opening, IsThere}
-use Rattle.am_chain_moves.specs.Runs.{Completes}
+use Rattle.am_headline.proofs.Words.{not-true, ◌≡◌, ℕ, zero, suc, ◌+◌, ◌<◌, ◌≤◌, ◌==◌, ◌&&◌, not, nat_lt, nat_le, min, Bool, true, false, List, [], ◌∷◌, ◌++◌}
+use Rattle.am_headline.proofs.Words.{length, Some, slice_get, slice_index, count_by, sym, ap, ◌∙◌, subst, arith, list_any, nat_tests, Entry, View, IsSet}
+use Rattle.am_headline.proofs.Words.{place_of, life_of, name_at, has, size, names_from, names_of, stamp_lt, Begins, IsGood, view_of, key, mod16, begins_trans}
+use Rattle.am_headline.proofs.Words.{good_begins, lt_key, view_small, view_viewed, Group, how_many, opening, IsThere, Completes, Decided, World, is_stopped}
+use Rattle.am_headline.proofs.Words.{has_departed, is_view_of, has_stored, lags, is_complete, up_to_next, split, and_both, NotedStands, Stands, LinesOpen}
+use Rattle.am_headline.proofs.Words.{told_all, names_pass, names_few, name_small}
 use Rattle.am_model.specs.Node as nodes
-use Rattle.am_play.specs.World.{Decided, World, is_stopped}
-use Rattle.am_model.specs.Node.{has_departed}
-use Rattle.am_play.specs.Lawful.{is_view_of, has_stored, lags, is_complete}
-use Rattle.am_play.specs.Claims.{up_to_next}
-use Rattle.am_base.proofs.Greatest.{split, and_both}
-use Rattle.am_stands.specs.Standing.{NotedStands, Stands}
-use Rattle.am_stands.specs.States.{LinesOpen}
-use Rattle.am_stands.proofs.Changes.{told_all}
-use Rattle.am_stands.proofs.Counting.{names_pass, names_few, name_small}
-use Rattle.am_headline.proofs.Lists.{find_view, line_part, same_opening}
-use Rattle.am_headline.proofs.Shapes.{Shaped}
+use Rattle.am_headline.proofs.{Lists.find_view, Lists.line_part, Lists.same_opening, Shapes.Shaped}
 
 -- ---- tests of a set's names
 
@@ -55,10 +36,6 @@ none_passes p set name is there h =
     let fails = none_from p 0 (place_of name) set (omega arith) (omega arith) h in
     let same : name_at (0 + place_of name) (slice_index set (place_of name)) ≡ name = omega arith in
     subst (λ j. p j ≡ false) same fails
-
-not_true : (b : Bool) → not b ≡ true → b ≡ false
-not_true true h = absurd (cc)
-not_true false h = refl
 
 -- ---- who has stored a View
 
@@ -127,7 +104,7 @@ completes w s k v known at small h =
           stored_opens w s v j known noted small (name_small v.members j set b.0) b.1);
       enough = subst (λ l. min (ch.resilience + 1) (how_many (has l)) ≤ how_many holders) (sym noted.members)
           (subst (λ r. min (r + 1) (how_many (has v.members)) ≤ how_many holders) (sym noted.resilience) enough);
-      none_lags = λ j member there. goes_on w s v j known set small (not_true _ both.1) (ap (λ l. has l j) (sym noted.members) ∙ member) there;
+      none_lags = λ j member there. goes_on w s v j known set small (not-true _ both.1) (ap (λ l. has l j) (sym noted.members) ∙ member) there;
     }
   where
     goes_on : (w : World) (s : Group) (v : Decided) (j : ℕ) → Known w s → IsSet v.members → v.stamp.by < 256

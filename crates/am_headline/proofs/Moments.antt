@@ -1,23 +1,11 @@
 -- What a record of a run tells of the moment when its event was done.
-use Rattle.std.proofs.Common.{◌≡◌, ℕ, zero, suc, ◌+◌, ◌<◌, List, [], ◌∷◌, ◌++◌, length, take, Some, slice_get, refl, sym, ap, ◌∙◌, subst, arith}
-use Rattle.std.proofs.lemmas.List.{length-take-le}
-use Rattle.std.proofs.lemmas.Option.{slice_get_within}
-use Rattle.am_base.specs.declared.entry.Entry.{Entry}
-use Rattle.am_base.specs.declared.outcome.Outcome.{Outcome}
+use Rattle.am_headline.proofs.Words.{◌≡◌, ℕ, zero, suc, ◌+◌, ◌<◌, List, [], ◌∷◌, ◌++◌, length, take, Some, slice_get, refl, sym, ap, ◌∙◌, subst, arith}
+use Rattle.am_headline.proofs.Words.{length-take-le, slice_get_within, Entry, Outcome, Rules, MayFound, Event, Record, name_of, get_before, World, record_of}
+use Rattle.am_headline.proofs.Words.{with_record, with_step, happens, run, runs_begin, one_record_each, actor, IsIdle, Happens, idles, returns, steps}
+use Rattle.am_headline.proofs.Words.{get_last}
 use Rattle.am_base.specs.declared.outcome.Outcome.TheVariants as said
-use Rattle.am_base.specs.Founding.{Rules, MayFound}
-use Rattle.am_group.specs.declared.event.Event.{Event}
-use Rattle.am_group.specs.declared.event.Record.{Record}
-use Rattle.am_group.specs.Deliveries.{name_of}
-use Rattle.am_group.proofs.Places.{get_before}
-use Rattle.am_play.specs.World.{World, record_of, with_record, with_step, happens, run}
-use Rattle.am_play.proofs.Beginnings.{runs_begin}
-use Rattle.am_play.proofs.Runs.{one_record_each}
 use Rattle.am_effects.specs.Events as event
-use Rattle.am_effects.specs.Events.{actor, IsIdle, Happens, idles, returns, steps}
-use Rattle.am_effects.proofs.Items.{get_last}
-use Rattle.am_headline.proofs.OneStep.{run_push}
-use Rattle.am_headline.proofs.Told.{Told, Taking, taking}
+use Rattle.am_headline.proofs.{OneStep.run_push, Told.Told, Told.Taking, Told.taking}
 
 -- ---- an event of a run
 
@@ -74,9 +62,8 @@ none_idle : (o : Outcome) (number : ℕ) (x : Entry) → IsIdle o → o ≡ said
 none_idle o number x idle is = subst IsIdle is idle
 
 pub given_then : (rules : Rules) (events : List Event) (e : Event) (v : World) (number : ℕ) (x : Entry) (r : Record) → MayFound rules
-    → Told rules (run rules events)
-    → Happens (run rules events) e v → slice_get v.records (length (run rules events).records) ≡ Some r → r.outcome ≡ said.Took number x
-    → GivenThen (run rules events) e number x r
+    → Told rules (run rules events) → Happens (run rules events) e v → slice_get v.records (length (run rules events).records) ≡ Some r
+    → r.outcome ≡ said.Took number x → GivenThen (run rules events) e number x r
 unfolding with_record with_step
 given_then rules events e v number x r may h (idles o idle) at says =
     let w = run rules events in

@@ -1,27 +1,8 @@
 -- One step of a run, with the group that follows it: what each law that goes with the steps takes, and what is plain of it.
-use Rattle.std.proofs.Common.{◌≡◌, ℕ, ◌<◌, ◌==◌, true, false, List, [], ◌∷◌, ◌++◌, refl, sym, ap, ◌∙◌, subst, arith}
-use Rattle.std.proofs.lemmas.Bool.Decides.{nat_tests}
-use Rattle.am_base.specs.Founding.{Rules, MayFound}
-use Rattle.am_group.specs.declared.event.Event.{Event}
-use Rattle.am_chain_lists.specs.Whole.{Begins}
-use Rattle.am_chain_moves.specs.Group.{Group}
-use Rattle.am_chain_moves.specs.Kept.{Kept}
-use Rattle.am_model.specs.Node.{Node, lowest_or_first}
-use Rattle.am_model.specs.Emit.{Step}
-use Rattle.am_play.specs.World.{World, group_after, start, is_stopped, with_step, happens, happen, run}
-use Rattle.am_play.proofs.Runs.{runs_go_on}
-use Rattle.am_effects.specs.Causes.{Cause}
-use Rattle.am_effects.specs.Effects.{Effect}
-use Rattle.am_effects.specs.Events.{actor, IsCause}
-use Rattle.am_laws.proofs.Named.{few_names}
-use Rattle.am_laws.proofs.TakenRuns.{run_owned}
-use Rattle.am_stands.specs.Standing.{NameStands}
-use Rattle.am_stands.specs.States.{LinesOpen}
-use Rattle.am_stands.specs.Moving.{Moves}
-use Rattle.am_stands.specs.Growing.{Grows}
-use Rattle.am_stands.specs.Running.{Following}
-use Rattle.am_stands.proofs.Onward.{group_kept}
-use Rattle.am_stands.proofs.Opens.{runs_open}
+use Rattle.am_headline.proofs.Words.{is_itself, ◌≡◌, ℕ, ◌<◌, ◌==◌, true, false, List, [], ◌∷◌, ◌++◌, refl, sym, ap, ◌∙◌, subst, Rules, MayFound, Event}
+use Rattle.am_headline.proofs.Words.{Begins, Group, Kept, Node, lowest_or_first, Step, World, group_after, start, is_stopped, with_step, happens, happen, run}
+use Rattle.am_headline.proofs.Words.{runs_go_on, Cause, Effect, actor, IsCause, few_names, run_owned, NameStands, LinesOpen, Moves, Grows, Following}
+use Rattle.am_headline.proofs.Words.{group_kept, runs_open}
 use Rattle.am_headline.proofs.Shapes.{Shaped}
 
 -- the world before the step, who steps, its node before and after, and the world after
@@ -63,9 +44,6 @@ pub record OneStep (rules : Rules) (events : List Event) (e : Event) (c : Cause)
 pub run_push : (rules : Rules) (events : List Event) (e : Event) → run rules (events ++ e ∷ []) ≡ happens (run rules events) e
 unfolding happen
 run_push rules events e = runs_go_on (start rules) events (e ∷ [])
-
-pub itself : (k : ℕ) → (k == k) ≡ true
-itself k = grind (arith, nat_tests)
 
 -- what is plain of it
 pub record Plain (rules : Rules) (events : List Event) (e : Event) (step : Step) (s t : Group) (p : Parts) : Type 0 where
@@ -109,7 +87,7 @@ plain {rules = rules} {events = events} {e = e} {step = step} {s = s} {t = t} x 
     few = few_names rules w e (run_owned rules events x.may).blanks.views.named
 
     node_v : v.nodes i ≡ n
-    node_v = let u : (i == i) ≡ true = itself i in rw u refl
+    node_v = let u : (i == i) ≡ true = is_itself i in rw u refl
 
     run_v : run rules (events ++ e ∷ []) ≡ v
     run_v = run_push rules events e ∙ sym x.is

@@ -1,22 +1,8 @@
 -- What a name accepted of its own list stands in the group list.
-use Rattle.std.proofs.Common.{◌≡◌, ◌⊎◌, ⊎_elim, ℕ, suc, ◌+◌, ◌-◌, ◌<◌, ◌≤◌, ◌==◌, List, ◌++◌, length, take, drop}
-use Rattle.std.proofs.Common.{Some, slice_get, refl, sym, ap, ◌∙◌, subst, arith}
-use Rattle.std.proofs.lemmas.List.{length-take-le}
-use Rattle.am_base.specs.declared.entry.Entry.{Entry}
-use Rattle.am_core.proofs.Folds.{slice_get-drop}
-use Rattle.am_group.specs.Journals.{item_at}
-use Rattle.am_group.proofs.Places.{get_behind}
-use Rattle.am_chain_lists.specs.Whole.{Begins}
-use Rattle.am_chain_moves.specs.Group.{Group}
-use Rattle.am_chain_moves.specs.Kept.{Kept}
-use Rattle.am_model.specs.Node.{Node, view}
-use Rattle.am_play.specs.Lawful.{whole}
-use Rattle.am_play.specs.World.{World, group_with, group_after}
-use Rattle.am_base.proofs.Greatest.{split}
-use Rattle.am_stands.specs.Standing.{NameStands, FrontsStand}
-use Rattle.am_unballoted.proofs.Lists.{get_item, item_taken}
-use Rattle.am_headline.proofs.Lists.{item_begins}
-use Rattle.am_headline.proofs.Shapes.{Along}
+use Rattle.am_headline.proofs.Words.{◌≡◌, ◌⊎◌, ⊎_elim, ℕ, suc, ◌+◌, ◌-◌, ◌<◌, ◌≤◌, ◌==◌, List, ◌++◌, length, take, drop, Some, slice_get, refl, sym, ap, ◌∙◌}
+use Rattle.am_headline.proofs.Words.{subst, arith, length-take-le, Entry, slice_get-drop, item_at, get_behind, Begins, Group, Kept, Node, view, whole, World}
+use Rattle.am_headline.proofs.Words.{group_with, group_after, split, NameStands, FrontsStand, get_item, item_taken}
+use Rattle.am_headline.proofs.{Lists.item_begins, Shapes.Along}
 
 -- ---- numbers in a name's whole list
 

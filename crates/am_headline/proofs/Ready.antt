@@ -1,31 +1,12 @@
 -- What follows a world goes on through marks, stops and events that change no node.
-use Rattle.std.proofs.Common.{◌≡◌, ◌≢◌, ◌⊎◌, ⊎_elim, inl, inr, ℕ, ◌<◌, ◌≤◌, length, List, [], ◌++◌, Bool, true, false, Some, slice_get, refl, sym, ap, ◌∙◌}
-use Rattle.std.proofs.Common.{subst, append-nil, arith}
-use Rattle.am_base.specs.Founding.{Rules}
-use Rattle.am_packet.specs.Boxes.{Letter}
-use Rattle.am_group.specs.declared.event.Record.{Record}
-use Rattle.am_chain_lists.specs.Whole.{Begins, BeginsBelow, key}
-use Rattle.am_chain_lists.proofs.Prefixes.{begins_refl}
-use Rattle.am_chain_moves.specs.Group as groups
-use Rattle.am_chain_moves.specs.Group.{Group, IsUp, put}
-use Rattle.am_chain_moves.specs.Moves.{Move, with_node, gives_over, stops}
-use Rattle.am_chain_moves.specs.Runs.{Completes, IsLawful, Run, more}
-use Rattle.am_chain_moves.proofs.Puts.{put_cases, put_other}
-use Rattle.am_model.specs.Node.{Node, lowest_or_first, has_departed}
-use Rattle.am_model.specs.Calls.{is_unfinished}
-use Rattle.am_play.specs.World.{World, is_stopped}
-use Rattle.am_stands.specs.Standing.{NameStands, FrontsStand, Stands}
+use Rattle.am_headline.proofs.Words.{◌≡◌, ◌≢◌, ◌⊎◌, ⊎_elim, inl, inr, ℕ, ◌<◌, ◌≤◌, length, List, [], ◌++◌, Bool, true, false, Some, slice_get, refl, sym, ap}
+use Rattle.am_headline.proofs.Words.{◌∙◌, subst, append-nil, arith, Rules, Letter, Record, Begins, BeginsBelow, key, begins_refl, Group, IsUp, put, Move}
+use Rattle.am_headline.proofs.Words.{with_node, gives_over, stops, Completes, IsLawful, Run, more, put_cases, put_other, Node, lowest_or_first, has_departed}
+use Rattle.am_headline.proofs.Words.{is_unfinished, World, is_stopped, NameStands, FrontsStand, Stands, LinesOpen, Grows, OnBranch, on_chain, left_out}
+use Rattle.am_headline.proofs.Words.{BranchesOk, ChainNamed, NodeKeeps, same_name, grows_names, node_grows, letters_stay, group_kept, move_on, grows_same}
+use Rattle.am_headline.proofs.Words.{moves_open, runs_open, others_keep, Following}
 use Rattle.am_stands.specs.Letters.{LetterSays}
-use Rattle.am_stands.specs.States.{LinesOpen}
-use Rattle.am_stands.specs.Growing.{Grows}
-use Rattle.am_stands.specs.Branches.{OnBranch, on_chain, left_out, BranchesOk, ChainNamed}
-use Rattle.am_stands.specs.Keeping.{NodeKeeps}
-use Rattle.am_stands.proofs.Growing.{same_name, grows_names, node_grows}
-use Rattle.am_stands.proofs.Letters.{letters_stay}
-use Rattle.am_stands.proofs.Onward.{group_kept, move_on, grows_same}
-use Rattle.am_stands.proofs.Opens.{moves_open, runs_open}
-use Rattle.am_stands.proofs.Others.{others_keep}
-use Rattle.am_stands.specs.Running.{Following}
+use Rattle.am_chain_moves.specs.Group as groups
 use Rattle.am_headline.proofs.Shapes.{Shaped, shaped_move, shaped_stop}
 
 abbrev pub RunFor : Rules → Group → Type 0
@@ -73,9 +54,6 @@ branch_marked : (s : Group) (complete : ℕ → Bool) (i : ℕ) → OnBranch s i
 branch_marked s complete i (on_chain h) = on_chain h
 branch_marked s complete i (left_out a v names resilience branch on below list good member out) = left_out a v names resilience branch on below list good
     member out
-
-same_up : (s t : Group) (i : ℕ) → t.node i ≡ s.node i → IsUp (t.node i) → IsUp (s.node i)
-same_up s t i is h = subst IsUp is h
 
 branches_marked : (s : Group) (complete : ℕ → Bool) → BranchesOk s → BranchesOk (marked s complete)
 branches_marked s complete h = record {

@@ -1,29 +1,12 @@
 -- What the rows of packets with entries store: the next entry, above a base that was noted.
-use Rattle.std.proofs.Common.{◌≡◌, ℕ, ◌+◌, ◌≤◌, ◌==◌, ◌&&◌, ◌||◌, not, nat_lt, nat_le, Bool, true, false}
-use Rattle.std.proofs.Common.{if◌then◌else◌, List, [], ◌∷◌, ◌++◌, Option, Some, None, refl, sym, ap, ◌∙◌, append-nil, arith}
-use Rattle.std.proofs.lemmas.Bool.Decides.{nat_tests}
-use Rattle.am_base.specs.declared.entry.Entry.{Entry}
-use Rattle.am_base.specs.declared.entry.Entry.TheVariants.{Data, View}
-use Rattle.am_base.specs.declared.name.Stamp.{Stamp}
-use Rattle.am_base.specs.declared.outcome.Outcome.{Outcome}
+use Rattle.am_headline.proofs.Words.{◌≡◌, ℕ, ◌+◌, ◌≤◌, ◌==◌, ◌&&◌, ◌||◌, not, nat_lt, nat_le, Bool, true, false, if◌then◌else◌, List, [], ◌∷◌, ◌++◌, Option}
+use Rattle.am_headline.proofs.Words.{Some, None, refl, sym, ap, ◌∙◌, append-nil, arith, nat_tests, Entry, Data, View, Stamp, Outcome, stamp_lt, stamp_eq, Log}
+use Rattle.am_headline.proofs.Words.{top_of, fits, CoreState, Packet, Departed, Node, Ballot, top, image_of, view, has_own_leave, is_within_bound, push_entry}
+use Rattle.am_headline.proofs.Words.{trim_up_to, Plan, quiet, finish, with_promise, decide, is_unfinished, hears_member, hears_sequencer, hear_row, is_view}
+use Rattle.am_headline.proofs.Words.{with_noted, store, receive_entry, data_of, body_of, bcast_row, order_row, refresh_at_end, push_fetched, catch_up}
+use Rattle.am_headline.proofs.Words.{decide_anew, fetches_from, piece_promised, piece_for, piece_row, result_row, hear, split, and_both, rests_at_end}
 use Rattle.am_base.specs.declared.outcome.Outcome.TheVariants as said
-use Rattle.am_base.specs.Stamps.{stamp_lt, stamp_eq}
-use Rattle.am_base.specs.Lists.{Log, top_of, fits}
-use Rattle.am_core.specs.Cores.{CoreState}
-use Rattle.am_packet.specs.declared.packet.Packet.{Packet}
 use Rattle.am_packet.specs.declared.packet.Packet.TheVariants as packet
-use Rattle.am_model.specs.declared.status.Status.TheVariants.{Departed}
-use Rattle.am_model.specs.Node.{Node, Ballot, top, image_of, view, has_own_leave, is_within_bound, push_entry, trim_up_to}
-use Rattle.am_model.specs.Emit.{Plan, quiet, finish}
-use Rattle.am_model.specs.Ballots.{with_promise, decide}
-use Rattle.am_model.specs.Calls.{is_unfinished}
-use Rattle.am_model.specs.Hearing.{hears_member, hears_sequencer, hear_row}
-use Rattle.am_model.specs.Receiving.{is_view, with_noted, store, receive_entry, data_of, body_of, bcast_row, order_row}
-use Rattle.am_model.specs.Refresh.{refresh_at_end}
-use Rattle.am_model.specs.Resets.{push_fetched, catch_up, decide_anew, fetches_from, piece_promised, piece_for, piece_row, result_row}
-use Rattle.am_model.specs.Step.{hear}
-use Rattle.am_base.proofs.Greatest.{split, and_both}
-use Rattle.am_effects.proofs.Rests.{rests_at_end}
 use Rattle.am_headline.proofs.Ways.{decide_alike}
 
 -- ---- what a row does to the list

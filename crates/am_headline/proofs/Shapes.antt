@@ -1,23 +1,11 @@
 -- What moves keep of each list, whoever has stopped or departed: it is a good one, on the line of a decided view; and each decided view has
 -- a set of names.
-use Rattle.std.proofs.Common.{◌≡◌, ◌≢◌, ◌⊎◌, ⊎_elim, inl, inr, ℕ, ◌≤◌, List, length, Some, [], true, refl, sym, ap, ◌∙◌, subst}
-use Rattle.am_base.specs.declared.entry.Entry.{Entry}
-use Rattle.am_base.specs.declared.entry.Entry.TheVariants.{Leave}
-use Rattle.am_base.specs.Names.{IsSet}
-use Rattle.am_group.specs.Journals.{item_at}
-use Rattle.am_chain_lists.specs.Whole.{Begins, IsGood, view_of, key}
-use Rattle.am_chain_lists.proofs.Prefixes.{begins_refl, begins_trans}
-use Rattle.am_chain_lists.proofs.Members.{good_begins}
+use Rattle.am_headline.proofs.Words.{up_as, ◌≡◌, ◌≢◌, ◌⊎◌, ⊎_elim, inl, inr, ℕ, ◌≤◌, List, length, Some, [], true, refl, sym, ap, ◌∙◌, subst, Entry, Leave}
+use Rattle.am_headline.proofs.Words.{IsSet, item_at, Begins, IsGood, view_of, key, begins_refl, begins_trans, good_begins, Group, Chosen, IsUp, put, chain_of}
+use Rattle.am_headline.proofs.Words.{Move, with_node, choice_of, longer, learns, begins, raises, gives_over, welcomes, asks, stops, Kept, put_cases, put_same}
+use Rattle.am_headline.proofs.Words.{MoveOk, Moves, none, moves, Grows, GroupOk, group_kept, move_on, departs}
+use Rattle.am_chain_moves.specs.Moves.{numbers, stores, fetches, decides, closes}
 use Rattle.am_chain_moves.specs.Group as groups
-use Rattle.am_chain_moves.specs.Group.{Group, Chosen, IsUp, put, chain_of}
-use Rattle.am_chain_moves.specs.Moves.{Move, with_node, choice_of, longer, numbers, stores, accepts, learns, begins, raises, shows, serves}
-use Rattle.am_chain_moves.specs.Moves.{fetches, decides, gives_over, welcomes, asks, departs, closes, stops}
-use Rattle.am_chain_moves.specs.Kept.{Kept}
-use Rattle.am_chain_moves.proofs.Puts.{put_cases, put_same}
-use Rattle.am_stands.specs.Moving.{MoveOk, Moves, none, moves}
-use Rattle.am_stands.specs.Growing.{Grows}
-use Rattle.am_stands.specs.Keeping.{GroupOk}
-use Rattle.am_stands.proofs.Onward.{group_kept, move_on}
 use Rattle.am_headline.proofs.Lists.{item_begins, item_back}
 
 -- a list on the line of a decided view
@@ -52,10 +40,6 @@ list_stays s t i m is list j = put_goes s t i m is (λ own. same (ap (λ (a : gr
 now_up : (s t : Group) (i : ℕ) (m : groups.Node) → t.node ≡ put s.node i m → IsUp m → (j : ℕ) → ListGoes s t j
 now_up s t i m is there j = put_goes s t i m is (λ own. up (subst IsUp (sym own) there)) j
 
--- the same flags
-still_up : (a b : groups.Node) → b.has_log ≡ a.has_log → b.stopped ≡ a.stopped → b.departed ≡ a.departed → IsUp a → IsUp b
-still_up a b log stopped departed h = record { log = log ∙ h.log; there = record { goes = stopped ∙ h.there.goes; stays = departed ∙ h.there.stays } }
-
 closed_line : (s t : Group) (i : ℕ) (m : groups.Node) → Kept s → groups.Leads i (s.node i) → t.node ≡ put s.node i m → t.views.current ≡ s.views.current
     → t.views.line ≡ put s.views.line (key (view_of (s.node i).list)) m.list → (j : ℕ) → ListGoes s t j
 closed_line s t i m k leads is current line j = put_goes s t i m is
@@ -68,18 +52,15 @@ closed_line s t i m k leads is current line j = put_goes s t i m is
     gone (subst (Begins (t.node i).list) (sym chain) (subst (λ (a : groups.Node). Begins (t.node i).list a.list) own (begins_refl (t.node i).list)))) j
 
 pub move_goes : (s t : Group) → Move s t → Kept s → (i : ℕ) → ListGoes s t i
-move_goes s t (numbers i e leads fit may) k = now_up s t i (longer (s.node i) e) refl (still_up (s.node i) (longer (s.node i) e) refl refl refl leads.up)
+move_goes s t (numbers i e leads fit may) k = now_up s t i (longer (s.node i) e) refl (up_as (s.node i) (longer (s.node i) e) refl refl refl leads.up)
 move_goes s t (stores i e there decided other stays next) k = now_up s t i (longer (s.node i) e) refl
-    (still_up (s.node i) (longer (s.node i) e) refl refl refl there)
-move_goes s t (accepts i n leads may) k = λ j. same refl
+    (up_as (s.node i) (longer (s.node i) e) refl refl refl there)
 move_goes s t (learns i told acc there rises within before up_to given low) k = list_stays s t i _ refl refl
 move_goes s t (begins i few there stays member) k = list_stays s t i _ refl refl
 move_goes s t (raises i stamp there above) k = list_stays s t i _ refl refl
-move_goes s t (shows i there small other begun unshown) k = λ j. same refl
-move_goes s t (serves i list there shown others) k = λ j. same refl
 move_goes s t (fetches i f list e there ballot served shown next) k = now_up s t i (longer (s.node i) e) refl
-    (still_up (s.node i) (longer (s.node i) e) refl refl refl there)
-move_goes s t (decides i members resilience may) k = now_up s t i _ refl (still_up (s.node i) _ refl refl refl may.up)
+    (up_as (s.node i) (longer (s.node i) e) refl refl refl there)
+move_goes s t (decides i members resilience may) k = now_up s t i _ refl (up_as (s.node i) _ refl refl refl may.up)
 move_goes s t (gives_over i) k = list_stays s t i _ refl refl
 move_goes s t (welcomes j stamp base join may) k = now_up s t j _ refl (record {
   log = refl;
@@ -92,6 +73,7 @@ move_goes s t (asks i there unballoted) k = list_stays s t i _ refl refl
 move_goes s t (departs i before may) k = list_stays s t i _ refl refl
 move_goes s t (closes i n leads leaving alone may) k = closed_line s t i (record (longer (s.node i) (Leave i)) { departed = true }) k leads refl refl refl
 move_goes s t (stops i) k = list_stays s t i _ refl refl
+move_goes s t _ k = λ j. same refl
 
 -- ---- what is kept
 

@@ -1,71 +1,25 @@
 -- What each run keeps of what its applications were given: gapless, from where a name began, and each send that was settled at its number.
-use Rattle.std.proofs.Common.{◌≡◌, ◌≢◌, ⊎_elim, inl, ℕ, zero, suc, ◌+◌, ◌-◌, ◌<◌, ◌≤◌, ◌==◌, nat_le, true, false, List, [], ◌∷◌, ◌++◌}
-use Rattle.std.proofs.Common.{length, Option, Some, None, refl, sym, ap, ◌∙◌, subst, append-nil, length-append, arith}
-use Rattle.std.specs.Prelude.{All}
-use Rattle.std.specs.List.{flat_map}
-use Rattle.std.proofs.lemmas.Bool.Decides.{nat_tests}
-use Rattle.std.proofs.lemmas.List.Elements.{All-nil, All-cons, All-append, All-push, All-weaker}
-use Rattle.am_base.specs.declared.entry.Entry.{Entry}
-use Rattle.am_base.specs.declared.entry.Entry.TheVariants.{Data, Join}
-use Rattle.am_base.specs.declared.outcome.Outcome.{Outcome}
+use Rattle.am_headline.proofs.Words.{by_name, eqb-true, is_itself, ◌≡◌, ⊎_elim, inl, ℕ, zero, suc, ◌+◌, ◌-◌, ◌<◌, ◌≤◌, ◌==◌, nat_le, true, false, List, []}
+use Rattle.am_headline.proofs.Words.{◌∷◌, ◌++◌, length, Option, Some, None, refl, sym, ap, ◌∙◌, subst, append-nil, length-append, arith, All, flat_map}
+use Rattle.am_headline.proofs.Words.{nat_tests, All-nil, All-cons, All-append, All-push, All-weaker, Entry, Data, Join, Outcome, Rules, MayFound, has}
+use Rattle.am_headline.proofs.Words.{entry_at, entry-get, Letter, Event, Record, name_of, taken_in, given_to, deliveries, item_at, IsGood, begins_refl}
+use Rattle.am_headline.proofs.Words.{begins_trans, good_begins, Group, Node, waiting, is_asking, founder, stranger, founders_view, lowest_or_first, has_log}
+use Rattle.am_headline.proofs.Words.{has_departed, Step, sent_in, accepted_sends, whole, World, record_of, start, with_step, run, heard_by, split, Cause}
+use Rattle.am_headline.proofs.Words.{hears, Changes, unchanged, changed, Effect, Answers, HasTaken, AnswersAsk, WasSettled, LetterSays, actor, IsCause}
+use Rattle.am_headline.proofs.Words.{IsIdle, WasSentTo, all_get, IsBlank, Blanked, change_blank, blank_holds, numbers_hold, few_names, run_owned, HasNames}
+use Rattle.am_headline.proofs.Words.{HeardNames, change_names, Balloted, change_does, heard_names, IsOfBallot, LastOk, ballots_are_own, lists_go_on, front}
+use Rattle.am_headline.proofs.Words.{Gave, nothing, took, began, at_least, At, BeginsOk, SendOk, IsSettled, sends_more, item_within, idle_takes}
+use Rattle.am_headline.proofs.Words.{idle_welcomes, idle_sends, deliveries_push, given_same, not_given, idle_gives, given_more, accepted_more, accepted_and}
+use Rattle.am_headline.proofs.Words.{welcome_in, welcomes_push, idle_welcome, other_welcome, record_up, taken_or, nil_of, given_push, record_step}
+use Rattle.am_headline.proofs.Words.{welcomed_step, GivenOk, begins_at, RecordOk, StandsAt, group_kept, Following}
+use Rattle.am_play.specs.Claims.{welcomes}
+use Rattle.am_unballoted.proofs.Kept.{begins_more}
 use Rattle.am_base.specs.declared.outcome.Outcome.TheVariants as said
-use Rattle.am_base.specs.Founding.{Rules, MayFound}
-use Rattle.am_base.specs.Names.{has}
-use Rattle.am_base.specs.Lists.{entry_at}
-use Rattle.am_core.proofs.Ends.{entry-get}
-use Rattle.am_packet.specs.Boxes.{Letter}
 use Rattle.am_packet.specs.declared.packet.Packet.TheVariants as packet
-use Rattle.am_group.specs.declared.event.Event.{Event}
-use Rattle.am_group.specs.declared.event.Record.{Record}
-use Rattle.am_group.specs.Deliveries.{name_of, taken_in, given_to, deliveries}
-use Rattle.am_group.specs.Journals.{item_at}
-use Rattle.am_chain_lists.specs.Whole.{IsGood}
-use Rattle.am_chain_lists.proofs.Prefixes.{begins_refl, begins_trans}
-use Rattle.am_chain_lists.proofs.Members.{good_begins}
 use Rattle.am_chain_moves.specs.Group as groups
-use Rattle.am_chain_moves.specs.Group.{Group}
-use Rattle.am_model.specs.Node.{Node, set_at, waiting, is_asking, founder, stranger, founders_view, lowest_or_first, has_log, has_departed}
-use Rattle.am_model.specs.Emit.{Step}
-use Rattle.am_play.specs.Group.{sent_in, accepted_sends}
-use Rattle.am_play.specs.Lawful.{whole}
-use Rattle.am_play.specs.World.{World, record_of, start, with_step, run}
-use Rattle.am_play.specs.Claims.{heard_by, welcomes}
-use Rattle.am_base.proofs.Greatest.{split}
-use Rattle.am_effects.specs.Causes.{Cause, hears}
-use Rattle.am_effects.specs.Changes.{Changes, unchanged, changed}
-use Rattle.am_effects.specs.Effects.{Effect, Answers, HasTaken, AnswersAsk, WasSettled}
-use Rattle.am_effects.specs.Letters.{LetterSays}
-use Rattle.am_effects.specs.Events.{actor, IsCause, IsIdle, WasSentTo}
-use Rattle.am_effects.proofs.Items.{all_get}
-use Rattle.am_laws.specs.Blank.{IsBlank}
-use Rattle.am_laws.proofs.Blank.{Blanked, change_blank, blank_holds}
-use Rattle.am_laws.proofs.RunCounts.{numbers_hold}
-use Rattle.am_laws.proofs.Named.{few_names}
-use Rattle.am_laws.proofs.TakenRuns.{run_owned}
-use Rattle.am_laws.proofs.ViewNames.{HasNames, HeardNames, change_names}
-use Rattle.am_laws.proofs.ViewChanges.{Balloted, change_does}
-use Rattle.am_laws.proofs.Views.{heard_names}
-use Rattle.am_promises.specs.Ballots.{IsOfBallot, LastOk}
-use Rattle.am_promises.proofs.Ballots.{ballots_are_own}
-use Rattle.am_watched.proofs.Lists.{lists_go_on}
-use Rattle.am_unballoted.proofs.Chains.{front, Gave, nothing, took, began, at_least}
-use Rattle.am_unballoted.proofs.Kept.{At, BeginsOk, begins_more, SendOk, IsSettled, sends_more}
-use Rattle.am_unballoted.proofs.Lists.{item_within}
-use Rattle.am_unballoted.proofs.Records.{idle_takes, idle_welcomes, idle_sends, deliveries_push, given_same, not_given, idle_gives, given_more, accepted_more}
-use Rattle.am_unballoted.proofs.Records.{accepted_and}
-use Rattle.am_unballoted.proofs.Records.{welcome_in, welcomes_push, idle_welcome, other_welcome, record_up}
-use Rattle.am_unballoted.proofs.Steps.{taken_or, nil_of, given_push}
-use Rattle.am_unballoted.proofs.Welcomes.{record_step, welcomed_step}
-use Rattle.am_unballoted.proofs.Worlds.{GivenOk, begins_at, RecordOk, StandsAt}
-use Rattle.am_stands.proofs.Onward.{group_kept}
-use Rattle.am_stands.specs.Running.{Following}
-use Rattle.am_headline.proofs.Lists.{item_begins}
-use Rattle.am_headline.proofs.Shapes.{Along, along_up, along_moves}
-use Rattle.am_headline.proofs.Ways.{kind_of}
-use Rattle.am_headline.proofs.Inside.{Fresh, Settled, SendIn, Inside, inside_kind}
-use Rattle.am_headline.proofs.Joined.{Opens, AnyLetter, welcome_joins}
-use Rattle.am_headline.proofs.OneStep.{OneStep, itself, parts, plain}
-use Rattle.am_headline.proofs.Own.{whole_item, taken_in_group, step_in_group}
+use Rattle.am_headline.proofs.{Lists.item_begins, Shapes.Along, Shapes.along_up, Shapes.along_moves, Ways.kind_of, Inside.Fresh, Inside.Settled}
+use Rattle.am_headline.proofs.{Inside.SendIn, Inside.Inside, Inside.inside_kind, Joined.Opens, Joined.AnyLetter, Joined.welcome_joins, OneStep.OneStep}
+use Rattle.am_headline.proofs.{OneStep.parts, OneStep.plain, Own.whole_item, Own.taken_in_group, Own.step_in_group}
 
 -- ---- what is kept
 
@@ -195,11 +149,6 @@ was_taken rules events may i c n o number e is h = ⊎_elim
 
 -- ---- one name's node
 
-by_name : (P : ℕ → Node → Type 0) (nodes : ℕ → Node) (i : ℕ) (n : Node) → P i n → ((j : ℕ) → i ≢ j → P j (nodes j)) → (j : ℕ) → P j (set_at nodes i n j)
-by_name P nodes i n k h j = split (j == i)
-    (λ t. let is : i ≡ j = grind (arith, nat_tests) in rw t (subst (λ x. P x n) is k))
-    (λ f. rw f (h j (λ e. let z : ⊥ = grind (arith, nat_tests) in z)))
-
 entry_low : (m : Node) (number : ℕ) (e : Entry) → entry_at m.core.log (number + 1) ≡ Some e → m.core.log.start ≤ number
 entry_low m number e is = split (nat_le m.core.log.start number) (λ t. grind (arith, nat_tests))
     (λ f. let z : number + 1 ≡ suc number = omega arith in
@@ -277,9 +226,6 @@ taking_in_group rules w s i (suc j) x old few y =
     let number : m.core.log.start + (j - m.core.log.start) + 1 ≡ suc j = omega arith in
     let item : item_at (whole w m) (suc j) ≡ Some x = ap (item_at (whole w m)) (sym number) ∙ whole_item w m (j - m.core.log.start) x within got in
     taken_in_group w s i (suc j) x kept (old.stands.each i few) (old.stands.fronts i few y.stays) old.stands.group y.low item
-
-same_number : (a b : ℕ) → (a == b) ≡ true → a ≡ b
-same_number a b t = grind (arith, nat_tests)
 
 module _ (rules : Rules) (events : List Event) (e : Event) (c : Cause) (step : Step) (s t : Group) (one : OneStep rules events e c step s t)
     (h : Told rules (run rules events)) where
@@ -449,7 +395,7 @@ module _ (rules : Rules) (events : List Event) (e : Event) (c : Cause) (step : S
   unfolding with_step
   told_step =
       let r = record_of w e step.outcome step.letters in
-      let own : (name_of r == i) ≡ true = itself i in
+      let own : (name_of r == i) ≡ true = is_itself i in
       let long = length-append w.letters step.letters in
       let all_more : (j : ℕ) → NameTold rules v.group j (w.nodes j) = λ j. subst (λ g. NameTold rules g j (w.nodes j)) group_grows.same
       (name_more rules w.group more j (w.nodes j) (h.each j)) in
@@ -485,7 +431,7 @@ module _ (rules : Rules) (events : List Event) (e : Event) (c : Cause) (step : S
       }
     where
       by_own : (r : Record) → (name_of r == i) ≡ true → name_of r ≡ i
-      by_own r own = same_number (name_of r) i own
+      by_own r own = eqb-true (name_of r) i own
 
       by_number : (r : Record) → (name_of r == i) ≡ true → {j : ℕ} → name_of r ≡ j → i ≡ j
       by_number r own same = sym (by_own r own) ∙ same

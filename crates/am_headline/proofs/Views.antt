@@ -1,32 +1,12 @@
 -- A View that leaves somebody out always fits: what each run keeps of it up to its lawful front.
-use Rattle.std.proofs.Common.{◌≡◌, ◌≢◌, ◌⊎◌, ⊎_elim, ℕ, ◌+◌, ◌-◌, ◌<◌, ◌≤◌, true, List, [], ◌∷◌, ◌++◌, length, take}
-use Rattle.std.proofs.Common.{Some, refl, sym, ap, ◌∙◌, subst, append_assoc, arith}
-use Rattle.am_base.specs.declared.entry.Entry.{Entry}
-use Rattle.am_base.specs.declared.image.Image.{Image}
-use Rattle.am_base.specs.declared.name.Stamp.{Stamp}
-use Rattle.am_base.specs.Founding.{Rules}
-use Rattle.am_base.specs.Names.{size}
-use Rattle.am_base.specs.Lists.{members_of}
-use Rattle.am_packet.specs.declared.packet.Packet.{Packet}
+use Rattle.am_headline.proofs.Words.{◌≡◌, ◌≢◌, ◌⊎◌, ⊎_elim, ℕ, ◌+◌, ◌-◌, ◌<◌, ◌≤◌, true, List, [], ◌∷◌, ◌++◌, length, take, Some, refl, sym, ap, ◌∙◌, subst}
+use Rattle.am_headline.proofs.Words.{append_assoc, arith, Entry, Image, Stamp, Rules, size, members_of, Packet, item_at, Begins, view_of, key, begins_trans}
+use Rattle.am_headline.proofs.Words.{begins_length, length_push, Group, IsUp, Kept, Node, top, World, NameStands, LinesOpen, Grows, long_all, taken_more}
+use Rattle.am_headline.proofs.Words.{image_whole}
+use Rattle.am_chain_lists.specs.Whole.{image_of}
 use Rattle.am_packet.specs.declared.packet.Packet.TheVariants as packet
-use Rattle.am_group.specs.Journals.{item_at}
-use Rattle.am_chain_lists.specs.Whole.{Begins, image_of, view_of, key}
-use Rattle.am_chain_lists.proofs.Prefixes.{begins_trans, begins_length, length_push}
 use Rattle.am_chain_moves.specs.Group as groups
-use Rattle.am_chain_moves.specs.Group.{Group, IsUp}
-use Rattle.am_chain_moves.specs.Kept.{Kept}
-use Rattle.am_model.specs.Node.{Node, top}
-use Rattle.am_play.specs.World.{World}
-use Rattle.am_stands.specs.Standing.{NameStands}
-use Rattle.am_stands.specs.States.{LinesOpen}
-use Rattle.am_stands.specs.Growing.{Grows}
-use Rattle.am_stands.proofs.Changes.{long_all}
-use Rattle.am_stands.proofs.Ends.{taken_more}
-use Rattle.am_stands.proofs.Parts.{image_whole}
-use Rattle.am_headline.proofs.Lists.{item_begins}
-use Rattle.am_headline.proofs.Shapes.{Shaped}
-use Rattle.am_headline.proofs.Fits.{FitsAt}
-use Rattle.am_headline.proofs.Rows.{Stores}
+use Rattle.am_headline.proofs.{Lists.item_begins, Shapes.Shaped, Fits.FitsAt, Rows.Stores}
 
 -- ---- a number of a list
 

@@ -1,26 +1,16 @@
 -- The changes of a node by what they do to what its application was given, and to its own sends.
-use Rattle.std.proofs.Common.{◌≡◌, ℕ, ◌+◌, ◌≤◌, ◌-◌, ◌==◌, ◌||◌, not, max, nat_lt, Bool, true, false, if◌then◌else◌, List, [], ◌∷◌, ◌++◌, refl, sym, ◌∙◌}
-use Rattle.std.proofs.Common.{append-nil, arith}
-use Rattle.am_base.specs.declared.entry.Entry.{Entry}
-use Rattle.am_base.specs.declared.entry.Entry.TheVariants.{Leave, View}
-use Rattle.am_base.specs.declared.image.Image.{Image}
-use Rattle.am_base.specs.declared.name.Stamp.{Stamp}
-use Rattle.am_base.specs.declared.outcome.Outcome.{Outcome}
+use Rattle.am_headline.proofs.Words.{leader_member, ◌≡◌, ℕ, ◌+◌, ◌≤◌, ◌-◌, ◌==◌, ◌||◌, not, max, nat_lt, Bool, true, false, if◌then◌else◌, List, [], ◌∷◌}
+use Rattle.am_headline.proofs.Words.{◌++◌, refl, sym, ◌∙◌, append-nil, arith, Entry, Leave, View, Image, Stamp, Outcome, has, size, Node, Ballot, top}
+use Rattle.am_headline.proofs.Words.{image_of, those, is_member, push_entry, unsettled_count, Verdict, decide, ends, restart_reports, trim_for, need_of}
+use Rattle.am_headline.proofs.Words.{left_in, best_of, is_waited_for, decide_view, with_queued, is_unfinished, begin_list, refresh, settle, refresh_at_end}
+use Rattle.am_headline.proofs.Words.{and_both, Cause, hears, Looks, decides, MayBeWelcomed, Change, refreshes, settles, numbers, stores, begins_list, looks}
+use Rattle.am_headline.proofs.Words.{fetches, stores_view, queues, collects, takes, asks_to_join, asks_to_leave, closes}
+use Rattle.am_effects.specs.Changes.{departs}
+use Rattle.am_model.specs.Ballots.{goes_on}
 use Rattle.am_base.specs.declared.outcome.Outcome.TheVariants as said
-use Rattle.am_base.specs.Names.{has, size}
 use Rattle.am_packet.specs.declared.packet.Packet.TheVariants as packet
 use Rattle.am_sender.specs.Sends as own
 use Rattle.am_model.specs.declared.status.Status.TheVariants as status
-use Rattle.am_model.specs.Node.{Node, Ballot, top, image_of, those, is_member, is_sequencer, push_entry, unsettled_count}
-use Rattle.am_model.specs.Ballots.{Verdict, decide, ends, goes_on, restart_reports, trim_for, need_of, left_in, best_of, is_waited_for, decide_view}
-use Rattle.am_model.specs.Calls.{with_queued, is_unfinished}
-use Rattle.am_model.specs.Joining.{begin_list}
-use Rattle.am_model.specs.Refresh.{refresh, settle, refresh_at_end}
-use Rattle.am_base.proofs.Greatest.{and_both}
-use Rattle.am_effects.specs.Causes.{Cause, hears}
-use Rattle.am_effects.specs.Looks.{Looks, decides}
-use Rattle.am_effects.specs.Changes.{MayBeWelcomed, Change, refreshes, settles, numbers, stores, begins_list, departs}
-use Rattle.am_effects.specs.Changes.{looks, fetches, stores_view, queues, collects, takes, asks_to_join, asks_to_leave, closes}
 
 -- nothing of that changes; the list may get more
 pub record Alike (m n : Node) : Type 0 where
@@ -56,8 +46,7 @@ pub data Kind (c : Cause) (o : Outcome) (m : Node) : Node → Type 0 where
 
 -- with more entries, and anything else but what is told here
 pushes : (m n : Node) (es : List Entry) → n.core.who ≡ m.core.who → m.core.base ≤ n.core.base → n.core.acc ≡ m.core.acc → n.core.taken ≡ m.core.taken
-    → n.core.start ≡ m.core.start
-    → n.status ≡ m.status → n.leaving ≡ m.leaving → n.sends ≡ m.sends → n.core.log.start ≡ m.core.log.start
+    → n.core.start ≡ m.core.start → n.status ≡ m.status → n.leaving ≡ m.leaving → n.sends ≡ m.sends → n.core.log.start ≡ m.core.log.start
     → n.core.log.entries ≡ m.core.log.entries ++ es → Alike m n
 pushes m n es who base acc taken start status_ leaving sends log entries = record {
   who = who;
@@ -74,8 +63,7 @@ pushes m n es who base acc taken start status_ leaving sends log entries = recor
 }
 
 same_log : (m n : Node) → n.core.who ≡ m.core.who → m.core.base ≤ n.core.base → n.core.acc ≡ m.core.acc → n.core.taken ≡ m.core.taken
-    → n.core.start ≡ m.core.start
-    → n.status ≡ m.status → n.leaving ≡ m.leaving → n.sends ≡ m.sends → n.core.log.start ≡ m.core.log.start
+    → n.core.start ≡ m.core.start → n.status ≡ m.status → n.leaving ≡ m.leaving → n.sends ≡ m.sends → n.core.log.start ≡ m.core.log.start
     → n.core.log.entries ≡ m.core.log.entries → Alike m n
 same_log m n who base acc taken start status_ leaving sends log entries =
     pushes m n [] who base acc taken start status_ leaving sends log (entries ∙ sym (append-nil m.core.log.entries))
@@ -124,9 +112,6 @@ decide_alike m b =
     let out : Outcome = said.NotIn (best_of m b).vote.view in
     alike_if m (not (has (need_of m b) m.core.who)) (ends m b out) v2 (over out) a2
 
-leads_member : (m : Node) → is_sequencer m ≡ true → is_member m.status ≡ true
-leads_member m t = (and_both (is_member m.status) _ (and_both _ _ t).0).0
-
 pub kind_of : {c : Cause} {o : Outcome} (m n : Node) → Change c o m n → Kind c o m n
 kind_of m n refreshes = refreshed
 kind_of m n settles = settled
@@ -143,5 +128,5 @@ kind_of m n (collects req is) = collected req
 kind_of m n (takes e is o member some there) = took e o member some
 kind_of m n (asks_to_join is was) = asked_in was
 kind_of m n (asks_to_leave is was stays done) = asked_out was done
-kind_of m n (closes leads leaves alone room) = gone (leads_member m leads) leaves
+kind_of m n (closes leads leaves alone room) = gone (leader_member m leads) leaves
 kind_of m n _ = alike (same_log m n refl (omega arith) refl refl refl refl refl refl refl refl)

@@ -1,25 +1,12 @@
 -- A node whose list begins with a Welcome.
-use Rattle.std.proofs.Common.{◌≡◌, ◌≢◌, ℕ, Bool, true, false, not, ◌&&◌, ◌||◌, ◌==◌, nat_lt, nat_le, refl, sym, ◌∙◌, arith}
-use Rattle.std.proofs.lemmas.Bool.Decides.{nat_tests}
-use Rattle.am_base.specs.declared.name.Stamp.{Stamp}
-use Rattle.am_base.specs.declared.image.Image.{Image}
+use Rattle.am_joining.proofs.Words.{◌≡◌, ◌≢◌, ℕ, Bool, true, false, not, ◌&&◌, ◌||◌, ◌==◌, nat_lt, nat_le, refl, sym, ◌∙◌, arith, nat_tests, Stamp, Image}
+use Rattle.am_joining.proofs.Words.{stamp_lt, stamp_eq, fold, row_of, IsInOrder, Status, Asking, has_log, Node, view, is_asking, is_member, only_name}
+use Rattle.am_joining.proofs.Words.{is_within_bound, quiet, telling, nack_of, fetch_of, begin_list, ask_next, welcome_row, NodeKeeps, is_unfit}
 use Rattle.am_base.specs.declared.outcome.Outcome.TheVariants as said
-use Rattle.am_base.specs.Stamps.{stamp_lt, stamp_eq}
-use Rattle.am_base.specs.Lists.{fold, row_of}
-use Rattle.am_core.specs.Cores.{IsInOrder}
-use Rattle.am_model.specs.declared.status.Status.{Status}
-use Rattle.am_model.specs.declared.status.Status.TheVariants.{Stranger, Asking, Member, Departed}
-use Rattle.am_model.specs.Node.{has_log, Node, view, is_asking, is_member, only_name, is_within_bound}
-use Rattle.am_model.specs.Emit.{quiet, telling, nack_of, fetch_of}
-use Rattle.am_model.specs.Joining.{begin_list, ask_next, welcome_row}
-use Rattle.am_handlers.specs.Keeps.{NodeKeeps}
-use Rattle.am_joining.specs.Pieces.{is_unfit}
 
 pub asking_log : (s : Status) → is_asking s ≡ true → has_log s ≡ false
-asking_log Stranger h = absurd (cc)
 asking_log Asking h = refl
-asking_log Member h = absurd (cc)
-asking_log Departed h = absurd (cc)
+asking_log _ h = absurd (cc)
 
 by_same : (a b : Stamp) (who : ℕ) → (stamp_eq a b && (b.by == who)) ≡ true → a.by ≡ who
 by_same a b who h = grind (arith, nat_tests)
@@ -95,7 +82,5 @@ pub asks_fetch : (m : Node) (from : ℕ) (v : Stamp) (join : ℕ) → stamp_eq (
 asks_fetch m from v join other = rw other refl
 
 pub member_or_asks : (s : Status) → (is_member s || is_asking s) ≡ true → is_member s ≡ false → is_asking s ≡ true
-member_or_asks Stranger h none = absurd (cc)
 member_or_asks Asking h none = refl
-member_or_asks Member h none = absurd (cc)
-member_or_asks Departed h none = absurd (cc)
+member_or_asks _ h none = absurd (cc)

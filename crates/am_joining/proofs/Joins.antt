@@ -1,27 +1,10 @@
 -- The row of a request to join, by what its tests say.
-use Rattle.std.proofs.Common.{◌≡◌, ◌≢◌, ℕ, ◌+◌, List, [], true, false, not, ◌&&◌, ◌||◌, ◌==◌, nat_lt, if◌then◌else◌, Option, Some, None}
-use Rattle.std.proofs.Common.{refl, sym, ap, ◌∙◌, arith}
-use Rattle.std.proofs.lemmas.Bool.Decides.{nat_tests}
-use Rattle.am_base.specs.declared.image.Row.{Row}
-use Rattle.am_base.specs.declared.image.Report.{Report}
-use Rattle.am_base.specs.declared.outcome.Outcome.{Outcome}
+use Rattle.am_joining.proofs.Words.{◌≡◌, ◌≢◌, ℕ, ◌+◌, List, [], true, false, not, ◌&&◌, ◌||◌, ◌==◌, nat_lt, if◌then◌else◌, Option, Some, None, refl, sym, ap}
+use Rattle.am_joining.proofs.Words.{◌∙◌, arith, nat_tests, Row, Report, Outcome, Join, life_of, at_place, fits, split, with_admitted, Letter, with_letter}
+use Rattle.am_joining.proofs.Words.{Packet, Node, top, image_of, others, only_name, has_room, Plan, quiet, telling, polling, bcast_of, welcome_of}
+use Rattle.am_joining.proofs.Words.{asks_to_join, number_join, join_ask_row, Tells, CoreTells, NodeKeeps, core_tells, keeps_steady, refusal_of, needs_none}
+use Rattle.am_joining.proofs.Words.{welcome_again, and_welcome}
 use Rattle.am_base.specs.declared.outcome.Outcome.TheVariants as said
-use Rattle.am_base.specs.declared.entry.Entry.TheVariants.{Join}
-use Rattle.am_base.specs.Names.{life_of}
-use Rattle.am_base.specs.Lists.{at_place, fits}
-use Rattle.am_core.proofs.Folds.{split}
-use Rattle.am_fronts.specs.Reports.{with_admitted}
-use Rattle.am_packet.specs.Boxes.{Letter, with_letter}
-use Rattle.am_packet.specs.declared.packet.Packet.{Packet}
-use Rattle.am_model.specs.Node.{Node, top, image_of, others, only_name, has_room}
-use Rattle.am_model.specs.Emit.{Plan, quiet, telling, polling, bcast_of, welcome_of}
-use Rattle.am_model.specs.Joining.{asks_to_join, number_join, join_ask_row}
-use Rattle.am_model.specs.Ends.{Tells}
-use Rattle.am_handlers.specs.Cores.{CoreTells}
-use Rattle.am_handlers.specs.Keeps.{NodeKeeps}
-use Rattle.am_handlers.proofs.Doing.{core_tells}
-use Rattle.am_handlers.proofs.Keeping.{keeps_steady}
-use Rattle.am_joining.specs.Pieces.{refusal_of, needs_none, welcome_again, and_welcome}
 
 -- ---- the reports of a joiner
 

@@ -1,31 +1,14 @@
 -- The row of a request to leave, by what its tests say.
-use Rattle.std.proofs.Common.{◌≡◌, ℕ, ◌+◌, ◌<◌, ◌≤◌, List, [], Bool, true, false, ◌==◌, refl, sym, ap, subst, ◌∙◌, arith}
-use Rattle.std.proofs.lemmas.Bool.Decides.{nat_tests}
-use Rattle.am_base.specs.declared.image.Report.{Report}
-use Rattle.am_base.specs.declared.image.Row.{Row}
-use Rattle.am_base.specs.declared.image.Image.{Image}
-use Rattle.am_base.specs.declared.name.Stamp.{Stamp}
+use Rattle.am_joining.proofs.Words.{◌≡◌, ℕ, ◌+◌, ◌<◌, ◌≤◌, List, [], Bool, true, false, ◌==◌, refl, sym, ap, subst, ◌∙◌, arith, nat_tests, Report, Row, Image}
+use Rattle.am_joining.proofs.Words.{Stamp, Leave, without_name, row_of, Packet, Letter, with_letter, Sends, since_accepted, Node, top, others, only_name}
+use Rattle.am_joining.proofs.Words.{has_room, quiet, polling, bcast_of, gone_of, row_at, is_unknown, take_report, may_go, let_go, counts_report}
+use Rattle.am_joining.proofs.Words.{asks_to_leave, leave_ask_row, with_log, Tells, CoreTells, core_tells, tells, told_same, is_stored, and_let_go}
+use Rattle.am_joining.proofs.Words.{number_leave, leave_again}
 use Rattle.am_base.specs.declared.outcome.Outcome.TheVariants as said
-use Rattle.am_base.specs.declared.entry.Entry.TheVariants.{Leave}
-use Rattle.am_base.specs.Names.{without_name}
-use Rattle.am_base.specs.Lists.{row_of}
-use Rattle.am_packet.specs.declared.packet.Packet.{Packet}
-use Rattle.am_packet.specs.Boxes.{Letter, with_letter}
-use Rattle.am_core.specs.Cores.{Sends, since_accepted}
-use Rattle.am_model.specs.Node.{Node, top, others, only_name, has_room}
-use Rattle.am_model.specs.Emit.{quiet, polling, bcast_of, gone_of}
-use Rattle.am_model.specs.Sequencing.{row_at, is_unknown, take_report}
-use Rattle.am_model.specs.Joining.{may_go, let_go, counts_report, asks_to_leave, leave_ask_row}
-use Rattle.am_model.specs.Ends.{with_log, Tells}
-use Rattle.am_handlers.specs.Cores.{CoreTells}
-use Rattle.am_handlers.proofs.Doing.{core_tells}
-use Rattle.am_handlers.proofs.Ends.{tells, told_same}
-use Rattle.am_joining.specs.Pieces.{is_stored, and_let_go, number_leave, leave_again}
 
 -- a leaver may go, by its row and who is concerned
-pub goes_tells : (m : Node) (name : ℕ) (r : Row) (all_of set : List ℕ) (result : Bool) → r ≡ row_at m name
-    → Sends since_accepted m.core all_of → set ≡ without_name all_of name → result ≡ is_stored m.reports m.core.acc r.left set
-    → Tells (λ n. may_go n name) m result
+pub goes_tells : (m : Node) (name : ℕ) (r : Row) (all_of set : List ℕ) (result : Bool) → r ≡ row_at m name → Sends since_accepted m.core all_of
+    → set ≡ without_name all_of name → result ≡ is_stored m.reports m.core.acc r.left set → Tells (λ n. may_go n name) m result
 goes_tells m name r all_of set result row concerned less is = tells (λ n. may_go n name) m result (λ all s.
     is
     ∙ ap (is_stored m.reports m.core.acc r.left) less

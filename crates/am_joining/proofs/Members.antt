@@ -1,14 +1,7 @@
 -- Who is a member stays one where another name joins or leaves.
-use Rattle.std.proofs.Common.{◌≡◌, ◌≢◌, ℕ, List, true, false, ◌==◌, ◌||◌, ◌&&◌, nat_lt, sym, ap, ◌∙◌, arith, slice_index, slice_index_or}
-use Rattle.std.proofs.lemmas.Bool.Decides.{nat_tests}
-use Rattle.std.proofs.Math.ListN.{get_or-map}
-use Rattle.std.proofs.lemmas.List.{get_or-set_other}
-use Rattle.am_base.specs.declared.image.Row.{Row}
-use Rattle.am_base.specs.declared.image.Image.{Image}
-use Rattle.am_base.specs.declared.entry.Entry.TheVariants.{Join, Leave}
-use Rattle.am_base.specs.Names.{place_of, life_of, has}
-use Rattle.am_base.specs.Lists.{at_place, row_of, blank_row, member_life, members_of, with_row, after, fits}
-use Rattle.am_core.proofs.Folds.{split}
+use Rattle.am_joining.proofs.Words.{◌≡◌, ◌≢◌, ℕ, List, true, false, ◌==◌, ◌||◌, ◌&&◌, nat_lt, sym, ap, ◌∙◌, arith, slice_index, slice_index_or, nat_tests}
+use Rattle.am_joining.proofs.Words.{get_or-map, get_or-set_other, Row, Image, Join, Leave, place_of, life_of, has, at_place, row_of, blank_row, member_life}
+use Rattle.am_joining.proofs.Words.{members_of, with_row, after, fits, split}
 
 -- the life of a place that is a member
 pub member_at : (image : Image) (place : ℕ) → slice_index (members_of image) place ≡ member_life (slice_index_or image.rows place blank_row)

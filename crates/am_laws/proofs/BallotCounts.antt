@@ -1,20 +1,10 @@
 -- What ballots add to the numbers that grow: one round where one begins, one entry where one is decided.
-use Rattle.std.proofs.Common.{◌≡◌, ℕ, ◌+◌, ◌≤◌, ◌==◌, nat_lt, max, min, Bool, true, false, if◌then◌else◌, List, Option, Some, None, option_map, unwrap_or, refl}
-use Rattle.std.proofs.Common.{ap, arith}
-use Rattle.am_base.specs.declared.image.Vote.{Vote}
-use Rattle.am_base.specs.declared.entry.Entry.TheVariants.{View}
-use Rattle.am_base.specs.declared.outcome.Outcome.{Outcome}
+use Rattle.am_laws.proofs.Words.{◌≡◌, ℕ, ◌+◌, ◌≤◌, ◌==◌, nat_lt, max, min, Bool, true, false, if◌then◌else◌, List, Option, Some, None, option_map, unwrap_or}
+use Rattle.am_laws.proofs.Words.{refl, ap, arith, Vote, View, Outcome, names_of, least_of, Node, Ballot, top, image_of, push_entry, Verdict, with_promise}
+use Rattle.am_laws.proofs.Words.{taken_by, goes_on, ended, decide_view, trim_for, restart_reports, decide, next_stamp, new_ballot, begin, with_vote}
+use Rattle.am_laws.proofs.Words.{keep_vote, without_voter, give_up, give_up_of, give_up_row, reset_row, split, Bounds, up}
 use Rattle.am_base.specs.declared.outcome.Outcome.TheVariants as said
-use Rattle.am_base.specs.Names.{names_of}
 use Rattle.am_fronts.specs.Reports as reports
-use Rattle.am_fronts.specs.Reports.{least_of}
-use Rattle.am_model.specs.Node.{Node, Ballot, top, image_of, push_entry}
-use Rattle.am_model.specs.Ballots.{Verdict, with_promise, taken_by, goes_on, ends as ended, decide_view, trim_for, restart_reports, decide, next_stamp}
-use Rattle.am_model.specs.Ballots.{new_ballot}
-use Rattle.am_model.specs.Ballots.{begin, with_vote, keep_vote, without_voter, give_up}
-use Rattle.am_model.specs.Calls.{give_up_of, give_up_row, reset_row}
-use Rattle.am_base.proofs.Greatest.{split}
-use Rattle.am_laws.specs.Packets.{Bounds, up}
 use Rattle.am_laws.proofs.Counts.{Low, Behind, VotesKnown, low_more, low_viewed, low_trimmed, low_promised, least_low, Ends, ends_next, ends as plans}
 
 -- a verdict whose node has at most one more

@@ -1,31 +1,13 @@
 -- A node that has no list has a blank one.
-use Rattle.std.proofs.Common.{◌≡◌, ℕ, ◌<◌, ◌==◌, true, false, [], refl, sym, ap, ◌∙◌, subst, arith}
-use Rattle.am_base.specs.declared.outcome.Outcome.{Outcome}
-use Rattle.am_base.specs.Founding.{Rules}
-use Rattle.am_base.specs.Names.{has}
-use Rattle.am_base.specs.Lists.{Log, blank, top_of}
-use Rattle.am_core.specs.Cores.{accept, pass_over}
-use Rattle.am_model.specs.declared.status.Status.{Status}
+use Rattle.am_laws.proofs.Words.{logged, ◌≡◌, ℕ, ◌<◌, ◌==◌, true, false, [], refl, sym, ap, ◌∙◌, subst, arith, Outcome, Rules, has, Log, blank, top_of}
+use Rattle.am_laws.proofs.Words.{accept, pass_over, Status, Node, Ballot, is_member, is_sequencer, has_log, Verdict, refresh, World, start, first_node}
+use Rattle.am_laws.proofs.Words.{with_record, with_step, run, split, Cause, Change, refreshes, settles, numbers, notes, stores, begins_list, departs, looks}
+use Rattle.am_laws.proofs.Words.{fetches, stores_view, asks_to_join, closes, Changes, no_change, changed, actor, idles, stops, returns, steps, Looks}
+use Rattle.am_laws.proofs.Words.{finds_itself_out, rests_refresh, settle_is, EachKeeps, runs_keep, BlankHolds}
 use Rattle.am_model.specs.declared.status.Status.TheVariants as status
-use Rattle.am_model.specs.Node.{Node, Ballot, is_member, is_sequencer, has_log}
-use Rattle.am_model.specs.Ballots.{Verdict}
-use Rattle.am_model.specs.Refresh.{refresh}
-use Rattle.am_play.specs.World.{World, start, first_node, with_record, with_step, run}
-use Rattle.am_base.proofs.Greatest.{split}
-use Rattle.am_effects.specs.Causes.{Cause}
-use Rattle.am_effects.specs.Changes.{Change, refreshes, settles, numbers, notes, stores, begins_list, departs}
-use Rattle.am_effects.specs.Changes.{looks, fetches, stores_view, asks_to_join, closes, Changes}
-use Rattle.am_effects.specs.Changes.{unchanged as no_change, changed}
-use Rattle.am_effects.specs.Events.{actor, idles, stops, returns, steps}
-use Rattle.am_effects.specs.Looks.{Looks, finds_itself_out}
-use Rattle.am_effects.proofs.Rests.{rests_refresh, settle_is}
-use Rattle.am_effects.proofs.Runs.{EachKeeps, runs_keep}
-use Rattle.am_laws.specs.Blank.{BlankHolds}
-use Rattle.am_laws.proofs.Named.{few_names}
-use Rattle.am_laws.proofs.RunCounts.{numbers_hold}
-use Rattle.am_laws.proofs.ViewNames.{HasNames, HeardNames, change_names}
-use Rattle.am_laws.proofs.ViewChanges.{Balloted, log_of_member, leads_member, in_view_log, member_of, looked_at, change_does}
-use Rattle.am_laws.proofs.Views.{AllViews, heard_names, each_views, views_start}
+use Rattle.am_laws.proofs.ViewChanges.{Balloted, leads_member, in_view_log, member_of, looked_at, change_does}
+use Rattle.am_laws.proofs.{Named.few_names, RunCounts.numbers_hold, ViewNames.HasNames, ViewNames.HeardNames, ViewNames.change_names, Views.AllViews}
+use Rattle.am_laws.proofs.{Views.heard_names, Views.each_views, Views.views_start}
 
 -- by the parts of a node that stay while it has no list
 pub record NoList (log : Log) (base told begins : ℕ) : Type 0 where
@@ -37,7 +19,7 @@ pub record NoList (log : Log) (base told begins : ℕ) : Type 0 where
 abbrev pub Blanked : Node → Type 0
 Blanked m = has_log m.status ≡ false → NoList m.core.log m.core.base m.core.told m.core.start
 
-no_member : (s : Status) → has_log s ≡ false → is_member s ≡ false
+pub no_member : (s : Status) → has_log s ≡ false → is_member s ≡ false
 no_member status.Stranger h = refl
 no_member status.Asking h = refl
 no_member status.Member h = absurd (cc)
@@ -65,7 +47,7 @@ listed m n same t = λ f. absurd (cc)
 pub change_blank : {c : Cause} {o : Outcome} (m n : Node) → Change c o m n → Balloted m → Blanked m → Blanked n
 change_blank m n refreshes k h = blank_refresh m h
 change_blank m n settles k h = subst Blanked (sym (settle_is m)) h
-change_blank m n (numbers e leads room why) k h = listed m n refl (log_of_member m.status (leads_member m leads))
+change_blank m n (numbers e leads room why) k h = listed m n refl (logged m.status (leads_member m leads))
 change_blank m n (notes s v base acc by from) k h = listed m n refl (in_view_log m s v from)
 change_blank m n (stores s v base acc number e by from plain may) k h = listed m n refl (in_view_log m s v from)
 change_blank m n (begins_list s v base join image is o may) k h = λ f. absurd (cc)

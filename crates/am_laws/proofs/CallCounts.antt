@@ -1,26 +1,12 @@
 -- What the calls and the tick add to the numbers that grow.
-use Rattle.std.proofs.Common.{◌≡◌, ℕ, ◌+◌, ◌<◌, ◌≤◌, ◌==◌, ◌||◌, nat_lt, not, Bool, true, false, List, [], ◌∷◌, find, filter, Option, Some, None, refl, arith}
-use Rattle.std.proofs.Common.{length-append}
-use Rattle.std.proofs.lemmas.Bool.Decides.{nat_tests}
-use Rattle.am_base.specs.declared.entry.Entry.{Entry}
-use Rattle.am_base.specs.declared.entry.Entry.TheVariants.{Data, Leave}
-use Rattle.am_base.specs.declared.outcome.Outcome.{Outcome}
+use Rattle.am_laws.proofs.Words.{◌≡◌, ℕ, ◌+◌, ◌<◌, ◌≤◌, ◌==◌, ◌||◌, nat_lt, not, Bool, true, false, List, [], ◌∷◌, find, filter, Option, Some, None, refl}
+use Rattle.am_laws.proofs.Words.{arith, length-append, nat_tests, Entry, Data, Leave, Outcome, entry_at, OwnSend, Sends, Status, Node, Ballot, top}
+use Rattle.am_laws.proofs.Words.{push_entry, waiting, unsettled_count, Plan, quiet, number_send, emit, with_queued, queue, give_out, join_by, state_by, go}
+use Rattle.am_laws.proofs.Words.{is_unfinished, leave_now, leave_by, ask_of, send_row, done_row, take_row, join_row, state_row, leave_row, ask_row, is_view}
+use Rattle.am_laws.proofs.Words.{tick_ballot, tick_member, put_off, and_result, tick_sequencer, tick_acting, tick_with, tick_by, tick_row, split, Bounds, up}
 use Rattle.am_base.specs.declared.outcome.Outcome.TheVariants as said
-use Rattle.am_base.specs.Lists.{entry_at}
-use Rattle.am_sender.specs.declared.OwnSend.{OwnSend}
-use Rattle.am_sender.specs.Sends.{Sends}
 use Rattle.am_sender.specs.Sends as own
-use Rattle.am_model.specs.declared.status.Status.{Status}
 use Rattle.am_model.specs.declared.status.Status.TheVariants as status
-use Rattle.am_model.specs.Node.{Node, Ballot, top, push_entry, waiting, unsettled_count}
-use Rattle.am_model.specs.Emit.{Plan, quiet}
-use Rattle.am_model.specs.Calls.{number_send, emit, with_queued, queue, give_out, join_by, state_by, go, is_unfinished, leave_now, leave_by, ask_of, send_row}
-use Rattle.am_model.specs.Calls.{done_row}
-use Rattle.am_model.specs.Calls.{take_row, join_row, state_row, leave_row, ask_row}
-use Rattle.am_model.specs.Receiving.{is_view}
-use Rattle.am_model.specs.Ticks.{tick_ballot, tick_member, put_off, and_result, tick_sequencer, tick_acting, tick_with, tick_by, tick_row}
-use Rattle.am_base.proofs.Greatest.{split}
-use Rattle.am_laws.specs.Packets.{Bounds, up}
 use Rattle.am_laws.proofs.Counts.{Low, Behind, Ends, ends_if, ends_at, ends_next, ends, low_pushed, none_waits}
 
 -- ---- sends
@@ -72,7 +58,7 @@ ends_send most g m body h =
 collect_last : (sends : Sends) (req most : ℕ) → sends.last ≤ most → (own.collect req sends).last ≤ most
 collect_last sends req most h = split (own.is_settled req sends) (λ t. rw t h) (λ f. rw f h)
 
-fewer_wait : (test : OwnSend → Bool) (queue : List OwnSend) → find own.is_unsettled queue ≡ None → find own.is_unsettled (filter test queue) ≡ None
+pub fewer_wait : (test : OwnSend → Bool) (queue : List OwnSend) → find own.is_unsettled queue ≡ None → find own.is_unsettled (filter test queue) ≡ None
 fewer_wait test [] h = refl
 fewer_wait test (s ∷ queue) h = split (own.is_unsettled s)
     (λ t. absurd (let x = rw t at h in cc))
@@ -167,10 +153,8 @@ ends_leave_now most g m h =
     no_more n t f = split (nat_lt 0 n) (λ a. absurd (let x = rw a at f in cc)) (λ a. grind (arith, nat_tests))
 
 ends_leave_by : (most : Bounds) (g : ℕ) (m : Node) (s : Status) → Low most g m → Ends most g (leave_by m s)
-ends_leave_by most g m status.Stranger h = search ends
-ends_leave_by most g m status.Asking h = search ends
 ends_leave_by most g m status.Member h = ends_leave_now most g m h
-ends_leave_by most g m status.Departed h = search ends
+ends_leave_by most g m _ h = search ends
 
 pub ends_leave : (most : Bounds) (g : ℕ) (m : Node) → Low most g m → Ends most g (leave_row m)
 unfolding leave_row
@@ -224,10 +208,8 @@ ends_tick_with most g m (Some b) h =
     search (ends, k, l)
 
 ends_tick_by : (most : Bounds) (g : ℕ) (m : Node) (s : Status) → Low most g m → Ends most g (tick_by m s)
-ends_tick_by most g m status.Stranger h = ends_at most g _ h
-ends_tick_by most g m status.Asking h = ends_at most g _ h
 ends_tick_by most g m status.Member h = ends_tick_with most g m m.ballot h
-ends_tick_by most g m status.Departed h = ends_at most g _ h
+ends_tick_by most g m _ h = ends_at most g _ h
 
 pub ends_tick : (most : Bounds) (g : ℕ) (m : Node) → Low most g m → Ends most g (tick_row m)
 unfolding tick_row

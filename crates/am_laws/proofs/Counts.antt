@@ -1,29 +1,10 @@
 -- How high the numbers of a node are: what a step raises by one at most, and what stays within what the group has accepted.
-use Rattle.std.proofs.Common.{◌≡◌, ◌⊎◌, inl, inr, ⊎_elim, ℕ, ◌+◌, ◌-◌, ◌<◌, ◌≤◌, ◌==◌, max, min, Bool, true, false, not, ◌&&◌, nat_le, nat_lt, if◌then◌else◌}
-use Rattle.std.proofs.Common.{List, [], ◌∷◌, find, Option, Some, None, refl, sym, ap, ◌∙◌, subst, arith, length-append}
-use Rattle.std.proofs.lemmas.Bool.Decides.{nat_tests}
-use Rattle.std.specs.List.{count_by}
-use Rattle.std.proofs.lemmas.List.Sums.{sum_by-cons}
-use Rattle.am_base.specs.declared.entry.Entry.{Entry}
-use Rattle.am_base.specs.declared.image.Report.{Report}
-use Rattle.am_base.specs.declared.image.Vote.{Vote}
-use Rattle.am_base.specs.declared.name.Stamp.{Stamp}
-use Rattle.am_base.specs.Stamps.{stamp_lt}
-use Rattle.am_base.specs.Fronts.{accept_front}
-use Rattle.am_core.specs.Cores.{accept, pass_over}
-use Rattle.am_fronts.specs.Reports.{least_of, lesser}
-use Rattle.am_fronts.specs.Refresh.{base_after, own_report, tell, go_on, let_go}
-use Rattle.am_sender.specs.declared.OwnSend.{OwnSend}
-use Rattle.am_sender.specs.Sends.{is_unsettled}
-use Rattle.am_model.specs.Node.{Node, Ballot, top, view, acts, is_sequencer, push_entry, trim_up_to, waiting, unsettled_count, with_report}
-use Rattle.am_model.specs.Refresh.{advance, lead, refresh, accepted_at, settle_at, settle_waiting, settle, refresh_at_end}
-use Rattle.am_model.specs.Emit.{Plan, finish}
-use Rattle.am_model.specs.Ballots.{overtake, with_promise}
-use Rattle.am_model.specs.Receiving.{is_view}
-use Rattle.am_base.proofs.Greatest.{split}
-use Rattle.am_meaning.proofs.AcceptFronts.{accept_front_is}
-use Rattle.am_effects.proofs.Says.{view_pushed}
-use Rattle.am_laws.specs.Packets.{Bounds, up}
+use Rattle.am_laws.proofs.Words.{and_right, ◌≡◌, ◌⊎◌, inl, inr, ⊎_elim, ℕ, ◌+◌, ◌-◌, ◌<◌, ◌≤◌, ◌==◌, max, min, Bool, true, false, not, ◌&&◌, nat_le, nat_lt}
+use Rattle.am_laws.proofs.Words.{if◌then◌else◌, List, [], ◌∷◌, find, Option, Some, None, refl, sym, ap, ◌∙◌, subst, arith, length-append, nat_tests, count_by}
+use Rattle.am_laws.proofs.Words.{sum_by-cons, Entry, Report, Vote, Stamp, stamp_lt, accept_front, accept, pass_over, least_of, lesser, base_after, own_report}
+use Rattle.am_laws.proofs.Words.{tell, go_on, let_go, OwnSend, is_unsettled, Node, Ballot, top, view, acts, is_sequencer, push_entry, trim_up_to, waiting}
+use Rattle.am_laws.proofs.Words.{unsettled_count, with_report, advance, lead, refresh, accepted_at, settle_at, settle_waiting, settle, refresh_at_end, Plan}
+use Rattle.am_laws.proofs.Words.{finish, overtake, with_promise, is_view, split, accept_front_is, view_pushed, Bounds, up}
 
 -- ---- what is kept
 
@@ -99,14 +80,6 @@ low_more b g m h =
     }
 
 -- ---- tests
-
-pub not_false : (b : Bool) → not b ≡ false → b ≡ true
-not_false true h = refl
-not_false false h = absurd (cc)
-
-both : (a b : Bool) → (a && b) ≡ true → b ≡ true
-both true b h = h
-both false b h = absurd (cc)
 
 -- ---- entries
 
@@ -223,18 +196,18 @@ unfolding least_of
 least_low g f [] h y is = absurd (cc)
 least_low g f (name ∷ names) h y is = lesser_low g (f name) (least_of f names) (h name) (least_low g f names h) y is
 
-base_above : (first base : ℕ) (least : Option ℕ) → first ≤ base → first ≤ base_after least base
+pub base_above : (first base : ℕ) (least : Option ℕ) → first ≤ base → first ≤ base_after least base
 base_above first base None h = h
 base_above first base (Some to) h = omega arith
 
-base_low : (g base : ℕ) (least : Option ℕ) → base ≤ g → ((y : ℕ) → least ≡ Some y → y ≤ g) → base_after least base ≤ g
+pub base_low : (g base : ℕ) (least : Option ℕ) → base ≤ g → ((y : ℕ) → least ≡ Some y → y ≤ g) → base_after least base ≤ g
 base_low g base None low h = low
 base_low g base (Some to) low h = let t = h to refl in omega arith
 
 -- ---- the refresh
 
 -- who joined passes over no more than is accepted, and than its Join
-over_acc : (taken acc start : ℕ) → taken ≤ acc → (if nat_lt taken (start - 1) then max taken (min acc (start - 1)) else taken) ≤ acc
+pub over_acc : (taken acc start : ℕ) → taken ≤ acc → (if nat_lt taken (start - 1) then max taken (min acc (start - 1)) else taken) ≤ acc
 over_acc taken acc start h = split (nat_lt taken (start - 1)) (λ t. rw t (omega arith)) (λ f. rw f h)
 
 over_low : (g taken acc start : ℕ) → taken ≤ g → start ≤ g → (if nat_lt taken (start - 1) then max taken (min acc (start - 1)) else taken) ≤ g
@@ -242,10 +215,6 @@ over_low g taken acc start h k = split (nat_lt taken (start - 1)) (λ t. rw t (o
 
 abbrev passed : ℕ → ℕ → ℕ → ℕ
 passed taken acc start = if nat_lt taken (start - 1) then max taken (min acc (start - 1)) else taken
-
--- a list that a node leads is accepted by the group as far as by the node
-led_known : (g told acc front high : ℕ) → front ≤ max acc high → acc ≤ high → front ≤ max g (max acc (min front high))
-led_known g told acc front high h k = omega arith
 
 low_lead : (b : Bounds) (g : ℕ) (m : Node) → leads m ≡ true → Low b g m → Low b g (lead m)
 unfolding lead own_report tell go_on let_go accept pass_over
@@ -295,7 +264,7 @@ low_advance b g m h =
 
 -- who is the sequencer leads
 sequencer_leads : (m : Node) → is_sequencer m ≡ true → leads m ≡ true
-sequencer_leads m h = both (acts m) (leads m) h
+sequencer_leads m h = and_right (acts m) (leads m) h
 
 pub low_refresh : (b : Bounds) (g : ℕ) (m : Node) → Low b g m → Low b g (refresh m)
 unfolding refresh

@@ -1,26 +1,11 @@
 -- How high the numbers of the acting name's node are after an event.
-use Rattle.std.proofs.Common.{◌≡◌, ℕ, ◌==◌, not, nat_lt, nat_le, Bool, true, false, if◌then◌else◌, List, Option, Some, None, refl, arith}
-use Rattle.std.proofs.lemmas.Bool.Decides.{nat_tests}
-use Rattle.am_base.specs.declared.outcome.Outcome.{Outcome}
+use Rattle.am_laws.proofs.Words.{is_itself, ◌≡◌, ℕ, not, nat_lt, nat_le, Bool, true, false, if◌then◌else◌, List, Option, Some, None, refl, Outcome, NodeEvent}
+use Rattle.am_laws.proofs.Words.{Packet, Letter, Act, Event, is_for, letter_at, Node, Step, step, hear, hear_refusal, packet_length, World, is_stopped}
+use Rattle.am_laws.proofs.Words.{with_record, with_step, hears_letter, hear_cut, lives_on, acts_as, happens, heard_by, actor, Bounds, up, UpTo}
 use Rattle.am_base.specs.declared.outcome.Outcome.TheVariants as said
-use Rattle.am_base.specs.declared.event.NodeEvent.{NodeEvent}
-use Rattle.am_packet.specs.declared.packet.Packet.{Packet}
-use Rattle.am_packet.specs.Boxes.{Letter}
-use Rattle.am_group.specs.declared.event.Act.{Act}
 use Rattle.am_group.specs.declared.event.Act.TheVariants as act
-use Rattle.am_group.specs.declared.event.Event.{Event}
-use Rattle.am_group.specs.Addressed.{is_for}
-use Rattle.am_group.specs.Journals.{letter_at}
-use Rattle.am_model.specs.Node.{Node}
-use Rattle.am_model.specs.Emit.{Step}
-use Rattle.am_model.specs.Step.{step, hear, hear_refusal}
-use Rattle.am_model.specs.Lengths.{packet_length}
-use Rattle.am_play.specs.World.{World, is_stopped, with_record, with_step, hears_letter, hear_cut, lives_on, acts_as, happens}
-use Rattle.am_play.specs.Claims.{heard_by}
-use Rattle.am_effects.specs.Events.{actor}
-use Rattle.am_laws.specs.Packets.{Bounds, up, UpTo}
-use Rattle.am_laws.proofs.Counts.{Low, Behind, low_more}
 use Rattle.am_laws.proofs.HearingCounts.{IsDone, low_step, low_hear, low_refused}
+use Rattle.am_laws.proofs.Counts.{Low, Behind, low_more}
 
 -- a name's node in a world has one more at most
 record OneMore (b : Bounds) (g name : ℕ) (v : World) : Type 0 where
@@ -43,9 +28,6 @@ more_lives : (b : Bounds) (g name : ℕ) (w : World) (e : Event) (o : Outcome) (
     → OneMore b g name (lives_on (with_record w e o) place)
 unfolding with_record
 more_lives b g name w e o place h = record { node = low_more b g (w.nodes name) h }
-
-is_itself : (name : ℕ) → (name == name) ≡ true
-is_itself name = grind (arith, nat_tests)
 
 more_stepped : (b : Bounds) (g name : ℕ) (w : World) (e : Event) (s : Step) → Low (up b) g s.node → OneMore b g name (with_step w e name s)
 unfolding with_step

@@ -1,32 +1,12 @@
 -- Only stopped names are given up.
-use Rattle.std.proofs.Common.{◌≡◌, ℕ, ◌==◌, ◌&&◌, ◌||◌, not, Bool, true, List, ◌++◌, Option, Some, None, refl, sym, ap, ◌∙◌, subst, arith}
-use Rattle.std.specs.List.{list_any}
-use Rattle.std.proofs.lemmas.Bool.Decides.{nat_tests}
-use Rattle.std.proofs.lemmas.List.Folds.{list_any-append}
-use Rattle.am_base.specs.declared.name.Stamp.{Stamp}
-use Rattle.am_base.specs.declared.outcome.Outcome.{Outcome}
-use Rattle.am_base.specs.declared.event.NodeEvent.{NodeEvent}
+use Rattle.am_laws.proofs.Words.{◌≡◌, ℕ, ◌==◌, ◌&&◌, ◌||◌, not, Bool, true, List, ◌++◌, Option, Some, None, refl, sym, ap, ◌∙◌, subst, arith, list_any}
+use Rattle.am_laws.proofs.Words.{nat_tests, list_any-append, Stamp, Outcome, NodeEvent, Leave, Rules, has, stamp_lt, Act, Event, Node, Ballot, push_entry}
+use Rattle.am_laws.proofs.Words.{Verdict, overtake, refresh, refresh_at_end, World, start, current, is_stopped, with_record, with_step, run, split, Cause}
+use Rattle.am_laws.proofs.Words.{calls, HasOpen, Balloting, with_more, without_one, as_it_is, Looks, finds_itself_out, Change, refreshes, settles, promises}
+use Rattle.am_laws.proofs.Words.{opens, looks, closes, actor, IsCall, IsCause, idles, stops, returns, steps, rests_refresh, rests_at_end, settle_is, along}
+use Rattle.am_laws.proofs.Words.{EachKeeps, runs_keep, OnlyStoppedGivenUp}
 use Rattle.am_base.specs.declared.event.NodeEvent.TheVariants as does
-use Rattle.am_base.specs.declared.entry.Entry.TheVariants.{Leave}
-use Rattle.am_base.specs.Founding.{Rules}
-use Rattle.am_base.specs.Names.{has}
-use Rattle.am_base.specs.Stamps.{stamp_lt}
-use Rattle.am_group.specs.declared.event.Act.{Act}
-use Rattle.am_group.specs.declared.event.Event.{Event}
-use Rattle.am_model.specs.Node.{Node, Ballot, push_entry}
-use Rattle.am_model.specs.Ballots.{Verdict, overtake}
-use Rattle.am_model.specs.Refresh.{refresh, refresh_at_end}
-use Rattle.am_play.specs.World.{World, start, current, is_stopped, with_record, with_step, run}
-use Rattle.am_base.proofs.Greatest.{split}
-use Rattle.am_effects.specs.Causes.{Cause, calls}
-use Rattle.am_effects.specs.Looks.{HasOpen, Balloting, with_more, without_one, as_it_is, Looks, finds_itself_out}
-use Rattle.am_effects.specs.Changes.{Change, refreshes, settles, promises}
-use Rattle.am_effects.specs.Changes.{opens, looks, closes}
-use Rattle.am_effects.specs.Events.{actor, IsCall, IsCause, idles, stops, returns, steps}
 use Rattle.am_effects.specs.Events as event
-use Rattle.am_effects.proofs.Rests.{rests_refresh, rests_at_end, settle_is}
-use Rattle.am_effects.proofs.Runs.{along, EachKeeps, runs_keep}
-use Rattle.am_laws.specs.GivenUp.{OnlyStoppedGivenUp}
 
 -- a ballot gives up only such names
 abbrev GivesUp : (ℕ → Type 0) → Option Ballot → Type 0

@@ -1,17 +1,8 @@
 -- How high the numbers are that a list tells of, and which numbers a list has.
-use Rattle.std.proofs.Common.{◌≡◌, ℕ, zero, suc, ◌+◌, ◌-◌, ◌≤◌, ◌==◌, ◌&&◌, not, nat_lt, Bool, true, false, List, [], ◌∷◌, length, take, slice_index}
-use Rattle.std.proofs.Common.{slice_index_or, sym, subst, arith}
-use Rattle.std.specs.Prelude.{All}
-use Rattle.std.specs.List.{range_with_len}
-use Rattle.std.proofs.lemmas.List.{length-take}
-use Rattle.std.proofs.lemmas.List.Elements.{All-nil, All-cons, All-head, All-tail, All-map, All-set, All-weaker, All-replicate}
-use Rattle.am_base.specs.declared.entry.Entry.{Entry}
-use Rattle.am_base.specs.declared.entry.Entry.TheVariants.{Data, Join, Leave, View}
-use Rattle.am_base.specs.declared.image.Row.{Row}
-use Rattle.am_base.specs.declared.image.Image.{Image}
-use Rattle.am_base.specs.Names.{place_of, life_of, by_place}
-use Rattle.am_base.specs.Lists.{Log, blank_row, blank, is_blank, at_place, row_of, member_life, row_after_view, after, fold, top_of, image_at, told_by}
-use Rattle.am_base.proofs.Greatest.{split}
+use Rattle.am_laws.proofs.Words.{◌≡◌, ℕ, zero, suc, ◌+◌, ◌-◌, ◌≤◌, ◌==◌, ◌&&◌, not, nat_lt, Bool, true, false, List, [], ◌∷◌, length, take, slice_index}
+use Rattle.am_laws.proofs.Words.{slice_index_or, sym, subst, arith, All, range_with_len, length-take, All-nil, All-cons, All-head, All-tail, All-map, All-set}
+use Rattle.am_laws.proofs.Words.{All-weaker, All-replicate, Entry, Data, Join, Leave, View, Row, Image, place_of, life_of, by_place, Log, blank_row, blank}
+use Rattle.am_laws.proofs.Words.{is_blank, at_place, row_of, member_life, row_after_view, after, fold, top_of, image_at, told_by, split}
 
 -- ---- rows
 
@@ -116,9 +107,6 @@ pub row_up : (n : ℕ) (image : Image) (name : ℕ) → ImageUp n image → RowU
 row_up n image name h = split ((at_place image name).life == life_of name)
     (λ t. rw t (up_at n image.rows (place_of name) h.rows))
     (λ f. rw f (up_blank n))
-
-pub place_up : (n : ℕ) (image : Image) (name : ℕ) → ImageUp n image → RowUp n (at_place image name)
-place_up n image name h = up_at n image.rows (place_of name) h.rows
 
 pub blank_up : (n : ℕ) → ImageUp n blank
 blank_up n = record { view = omega arith; rows = All-replicate (RowUp n) 16 blank_row (up_blank n) }

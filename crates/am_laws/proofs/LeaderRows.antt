@@ -1,24 +1,11 @@
 -- The rows of a list in which each Join fits what stands before it: the lives of a place never fall, and who leads stays among those
 -- whose reports count.
-use Rattle.std.proofs.Common.{◌≡◌, ℕ, zero, suc, ◌+◌, ◌-◌, ◌<◌, ◌≤◌, ◌==◌, ◌&&◌, not, nat_lt, Bool, true, false, List, [], ◌∷◌, ◌++◌, length, take}
-use Rattle.std.proofs.Common.{Some, slice_index, refl, sym, ap, ◌∙◌, subst, arith}
-use Rattle.std.proofs.lemmas.Bool.Decides.{nat_tests}
-use Rattle.std.proofs.lemmas.List.{get_or-replicate}
-use Rattle.am_base.specs.declared.entry.Entry.{Entry}
-use Rattle.am_base.specs.declared.entry.Entry.TheVariants.{Data, View}
-use Rattle.am_base.specs.declared.name.Stamp.{Stamp}
-use Rattle.am_base.specs.declared.image.Report.{Report}
-use Rattle.am_base.specs.declared.image.Row.{Row}
-use Rattle.am_base.specs.declared.image.Image.{Image}
-use Rattle.am_base.specs.Names.{place_of, life_of, has}
-use Rattle.am_base.specs.Lists.{blank_row, blank, is_blank, at_place, member_life, members_of, members_at, row_after_view, after, fold, top_of}
-use Rattle.am_base.specs.Lists.{image_at, told_by}
-use Rattle.am_core.specs.Cores.{CoreState, since_accepted}
-use Rattle.am_core.proofs.Lives.{JoinFits, JoinsFit, IsUsed, row_at, used_after, used_fold, life_fold, member_at, unions_most, unions_least, unions_long}
-use Rattle.am_chain_lists.proofs.Rows.{In, mod16, long_after, set_keeps, row_view}
-use Rattle.am_fronts.specs.Reports.{least_taken}
-use Rattle.am_fronts.proofs.Leaders.{least_reported}
-use Rattle.am_base.proofs.Greatest.{split}
+use Rattle.am_laws.proofs.Words.{has_in, ◌≡◌, ℕ, zero, suc, ◌+◌, ◌-◌, ◌<◌, ◌≤◌, ◌==◌, ◌&&◌, not, nat_lt, Bool, true, false, List, [], ◌∷◌, ◌++◌, length, take}
+use Rattle.am_laws.proofs.Words.{Some, slice_index, refl, sym, ap, ◌∙◌, subst, arith, nat_tests, get_or-replicate, Entry, Data, View, Stamp, Report, Row}
+use Rattle.am_laws.proofs.Words.{Image, place_of, life_of, has, blank_row, blank, is_blank, at_place, member_life, members_of, members_at, row_after_view}
+use Rattle.am_laws.proofs.Words.{after, fold, top_of, image_at, told_by, CoreState, since_accepted, JoinFits, JoinsFit, IsUsed, row_at, used_after, used_fold}
+use Rattle.am_laws.proofs.Words.{life_fold, member_at, unions_most, unions_least, unions_long, In, mod16, long_after, set_keeps, row_view, least_taken}
+use Rattle.am_laws.proofs.Words.{least_reported, split}
 
 -- ---- lists in which each Join fits
 
@@ -37,19 +24,8 @@ part_rises image n (e ∷ es) (suc k) place low up used h = part_rises (after im
 
 -- ---- who is a member
 
-member_in : (r : Row) (life : ℕ) → 0 < life → (member_life r == life) ≡ true → In r life
-member_in r life some h = split (nat_lt 0 r.joined && (r.left == 0))
-    (λ t. let is : r.life ≡ life = grind (arith, nat_tests) in record { joined = grind (arith, nat_tests); left = grind (arith, nat_tests); is = is })
-    (λ f. absurd (let z : ⊥ = grind (arith, nat_tests) in z))
-
 in_member : (r : Row) (life : ℕ) → In r life → member_life r ≡ life
 in_member r life h = let j = h.joined in let l = h.left in let i = h.is in grind (arith, nat_tests)
-
-pub is_in : (image : Image) (name : ℕ) → length image.rows ≡ 16 → has (members_of image) name ≡ true → In (row_at image (place_of name)) (life_of name)
-is_in image name long h =
-    let low = mod16 name in
-    let some : 0 < life_of name = omega arith in
-    member_in (row_at image (place_of name)) (life_of name) some (subst (λ x. (x == life_of name) ≡ true) (member_at image (place_of name) (omega arith)) h)
 
 pub in_is : (image : Image) (name : ℕ) → length image.rows ≡ 16 → In (row_at image (place_of name)) (life_of name) → has (members_of image) name ≡ true
 in_is image name long h =
@@ -70,7 +46,7 @@ pub data_member : (image : Image) (n from req : ℕ) (body : List ℕ) (name : �
     → length (after image n (Data from req body)).rows ≡ 16 → has (members_of image) name ≡ true
     → has (members_of (after image n (Data from req body))) name ≡ true
 data_member image n from req body name long longer h = in_is (after image n (Data from req body)) name longer
-    (data_keeps image n from req body name long (is_in image name long h))
+    (data_keeps image n from req body name long (has_in image name long h))
 
 -- a View keeps who is a member and in it
 viewed_keeps : (first : Bool) (n given life : ℕ) (r : Row) → 0 < life → given ≡ life → In r life → In (row_after_view first n given r) life
@@ -90,7 +66,7 @@ view_member image n stamp names resilience name long longer h given =
     let is = row_view image n stamp names resilience (place_of name) (mod16 name) in
     in_is (after image n (View stamp names resilience)) name longer
     (subst (λ (r : Row). In r (life_of name)) (sym is) (viewed_keeps (is_blank image) n (slice_index names (place_of name)) (life_of name) _ some given
-    (is_in image name long h)))
+    (has_in image name long h)))
 
 -- and the first View has who is in it
 pub first_member : (stamp : Stamp) (names : List ℕ) (resilience name : ℕ) → slice_index names (place_of name) ≡ life_of name

@@ -1,21 +1,10 @@
 -- How high the numbers of the letters are that a node sends.
-use Rattle.std.proofs.Common.{◌≡◌, ℕ, ◌≤◌, ◌==◌, nat_lt, nat_le, true, List, [], ◌∷◌, ap, arith}
-use Rattle.std.specs.Prelude.{All}
-use Rattle.std.proofs.lemmas.Bool.Decides.{nat_tests}
-use Rattle.std.proofs.lemmas.List.Elements.{All-nil, All-cons}
-use Rattle.am_base.specs.Names.{life_of}
-use Rattle.am_base.specs.Lists.{Log, at_place, row_of, told_by}
-use Rattle.am_packet.specs.declared.packet.Packet.{Packet}
-use Rattle.am_model.specs.Node.{Node, top, image_of}
+use Rattle.am_laws.proofs.Words.{◌≡◌, ℕ, ◌≤◌, ◌==◌, nat_lt, nat_le, true, List, [], ◌∷◌, ap, arith, All, nat_tests, All-nil, All-cons, life_of, Log, at_place}
+use Rattle.am_laws.proofs.Words.{row_of, told_by, Packet, Node, top, image_of, may_go, split, Cause, MayWelcome, just_joined, asks_again, Says, bcast, order}
+use Rattle.am_laws.proofs.Words.{hold, join_ask, welcome, gone, invite, fetch, piece, result, hand_over, Bounds, UpTo}
 use Rattle.am_model.specs.Sequencing.{row_at}
-use Rattle.am_model.specs.Joining.{may_go}
-use Rattle.am_base.proofs.Greatest.{split}
-use Rattle.am_effects.specs.Causes.{Cause}
-use Rattle.am_effects.specs.Letters.{MayWelcome, just_joined, asks_again, Says, request, spread, bcast, order, accept, ack, nack, hold, join_ask, welcome}
-use Rattle.am_effects.specs.Letters.{leave_ask, gone, invite, vote, fetch, piece, result, hand_over}
-use Rattle.am_laws.specs.Packets.{Bounds, UpTo}
-use Rattle.am_laws.proofs.Counts.{Low, Behind}
-use Rattle.am_laws.proofs.Images.{ImageUp, told_up, row_up}
+use Rattle.am_effects.specs.Letters.{accept}
+use Rattle.am_laws.proofs.{Counts.Low, Counts.Behind, Images.ImageUp, Images.told_up, Images.row_up}
 
 one_low : (g x : ℕ) → x ≤ g → All (λ n. n ≤ g) (x ∷ [])
 one_low g x h = All-cons (λ n. n ≤ g) x [] h (All-nil (λ n. n ≤ g))
@@ -70,17 +59,10 @@ told_of b g c m n h =
       base = omega arith;
       took = h.low.took;
       accepted = h.behind.acc;
-      trims =
-          trims;
+      trims = trims;
     }
 
 pub says_low : (b : Bounds) (g : ℕ) (m n : Node) (c : Cause) (to : List ℕ) (p : Packet) → Sends b g c m n → Says m c n to p → UpTo b g p
-says_low b g m n c to p h (request _ req body a f s) =
-    let t = told_of b g c m n h in
-    record { round = t.round; numbers = two_low b.lists (top n) n.core.taken t.high t.taken; accepted = one_low g n.core.taken t.took }
-says_low b g m n c to p h (spread _ req body a f s) =
-    let t = told_of b g c m n h in
-    record { round = t.round; numbers = two_low b.lists (top n) n.core.taken t.high t.taken; accepted = one_low g n.core.taken t.took }
 says_low b g m n c to p h (bcast _ number e l s) =
     let t = told_of b g c m n h in
     let high = t.high in
@@ -94,12 +76,6 @@ says_low b g m n c to p h (order _ number from req v report body is l s) =
 says_low b g m n c to p h (accept _ poll l) =
     let t = told_of b g c m n h in
     record { round = t.round; numbers = three_low b.lists n.core.base n.core.acc (top n) t.base t.acc t.high; accepted = one_low g n.core.acc t.accepted }
-says_low b g m n c to p h (ack _ a) =
-    let t = told_of b g c m n h in
-    record { round = t.round; numbers = two_low b.lists (top n) n.core.taken t.high t.taken; accepted = one_low g n.core.taken t.took }
-says_low b g m n c to p h (nack _ a) =
-    let t = told_of b g c m n h in
-    record { round = t.round; numbers = two_low b.lists (top n) n.core.taken t.high t.taken; accepted = one_low g n.core.taken t.took }
 says_low b g m n c to p h (hold _ s v report req body by l) =
     let t = told_of b g c m n h in
     record { round = t.round; numbers = two_low b.lists n.core.base (top n) t.base t.high; accepted = none_low g }
@@ -113,18 +89,12 @@ says_low b g m n c to p h (welcome s l may) =
       numbers = two_low b.lists n.core.base (row_of (image_of n) s).joined t.base (omega arith);
       accepted = two_low g n.core.base (row_of (image_of n) s).joined t.trims join;
     }
-says_low b g m n c to p h (leave_ask _ a l) =
-    let t = told_of b g c m n h in
-    record { round = t.round; numbers = two_low b.lists (top n) n.core.taken t.high t.taken; accepted = one_low g n.core.taken t.took }
 says_low b g m n c to p h (gone s l may) =
     let t = told_of b g c m n h in
     let low = gone_low n s may in
     let acc = t.acc in
     record { round = t.round; numbers = one_low b.lists (row_at n s).left (omega arith); accepted = none_low g }
 says_low b g m n c to p h (invite _ may) = record { round = h.low.rounds; numbers = none_low b.lists; accepted = none_low g }
-says_low b g m n c to p h (vote s v is) =
-    let t = told_of b g c m n h in
-    record { round = t.round; numbers = two_low b.lists (top n) n.core.taken t.high t.taken; accepted = one_low g n.core.taken t.took }
 says_low b g m n c to p h (fetch _ may) =
     let t = told_of b g c m n h in
     record { round = t.round; numbers = one_low b.lists (top n) t.high; accepted = none_low g }
@@ -137,6 +107,9 @@ says_low b g m n c to p h (result _ number names is viewed may) =
     let t = told_of b g c m n h in
     record { round = t.round; numbers = one_low b.lists n.core.base t.base; accepted = one_low g n.core.base t.trims }
 says_low b g m n c to p h (hand_over _ l leaves) = record { round = h.low.rounds; numbers = none_low b.lists; accepted = none_low g }
+says_low b g m n c to p h _ =
+    let t = told_of b g c m n h in
+    record { round = t.round; numbers = two_low b.lists (top n) n.core.taken t.high t.taken; accepted = one_low g n.core.taken t.took }
 
 -- ---- who is welcomed
 

@@ -1,30 +1,12 @@
 -- What a letter tells is within its limits, where what its sender has is.
-use Rattle.std.proofs.Common.{◌≡◌, ℕ, zero, suc, ◌-◌, ◌≤◌, nat_le, List, [], ◌∷◌, length, Option, Some, None, refl, subst, arith}
-use Rattle.std.specs.Prelude.{All}
-use Rattle.std.proofs.lemmas.List.Elements.{All-head, All-tail}
-use Rattle.am_base.specs.Most.{most_body}
-use Rattle.am_base.specs.declared.entry.Entry.{Entry}
-use Rattle.am_base.specs.declared.entry.Entry.TheVariants.{Data, Join, Leave, View}
-use Rattle.am_base.specs.declared.image.Report.{Report}
-use Rattle.am_base.specs.Names.{IsSet}
-use Rattle.am_base.specs.Limits.{IsNumber, IsReport}
-use Rattle.am_base.specs.Lists.{Log, entry_at}
-use Rattle.am_packet.specs.declared.packet.Packet.{Packet}
+use Rattle.am_laws.proofs.Words.{◌≡◌, ℕ, zero, suc, ◌-◌, ◌≤◌, nat_le, List, [], ◌∷◌, length, Option, Some, None, refl, subst, arith, All, All-head, All-tail}
+use Rattle.am_laws.proofs.Words.{most_body, Entry, Data, View, Report, IsSet, IsNumber, IsReport, Log, entry_at, Packet, IsPacket, IsWithin, HasParts, Node}
+use Rattle.am_laws.proofs.Words.{top, image_of, viewed_by, split, Cause, hears, HasSend, Says, request, spread, bcast, order, hold, welcome, vote, piece}
+use Rattle.am_laws.proofs.Words.{result, all_get, stamp_of, Bounds, UpTo}
 use Rattle.am_packet.specs.declared.packet.Packet.TheVariants as packet
-use Rattle.am_codec.specs.Limits.{IsPacket, IsWithin, HasParts}
-use Rattle.am_model.specs.Node.{Node, top, image_of}
-use Rattle.am_model.specs.Ticks.{viewed_by}
-use Rattle.am_base.proofs.Greatest.{split}
-use Rattle.am_effects.specs.Causes.{Cause, hears}
-use Rattle.am_effects.specs.Letters.{HasSend, Says, request, spread, bcast, order, hold, welcome, vote}
-use Rattle.am_effects.specs.Letters.{piece, result}
-use Rattle.am_effects.proofs.Items.{all_get}
-use Rattle.am_codec.specs.Spelling.{stamp_of}
-use Rattle.am_laws.specs.Packets.{Bounds, UpTo}
-use Rattle.am_laws.proofs.Images.{told_up}
-use Rattle.am_laws.proofs.ListImages.{WelcomeUp, ListUp}
 use Rattle.am_laws.proofs.Limits.{EntryWithin, AreNumbers, is_nobody, members_within, told_within, image_at_within, is_entry, is_image}
 use Rattle.am_laws.proofs.NodeLimits.{SendWithin, Within, PacketWithin, req_brought}
+use Rattle.am_laws.proofs.{Images.told_up, ListImages.WelcomeUp, ListImages.ListUp}
 
 -- ---- what is sent
 
@@ -35,11 +17,8 @@ own_send_within b n req body s h =
     record { req = subst (λ r. r ≤ b.requests) s.request k.req; body = subst (λ (x : List ℕ). length x ≤ most_body) s.body_ k.body }
 
 viewed_by_set : (b : Bounds) (o : Option Entry) → ((e : Entry) → o ≡ Some e → EntryWithin b e) → IsSet (viewed_by o)
-viewed_by_set b None h = is_nobody
-viewed_by_set b (Some (Data from req body)) h = is_nobody
-viewed_by_set b (Some (Join name)) h = is_nobody
-viewed_by_set b (Some (Leave name)) h = is_nobody
 viewed_by_set b (Some (View stamp names resilience)) h = (h (View stamp names resilience) refl).1
+viewed_by_set b _ h = is_nobody
 
 at_within : (b : Bounds) (log : Log) (number : ℕ) (e : Entry) → All (EntryWithin b) log.entries → entry_at log number ≡ Some e → EntryWithin b e
 at_within b log zero e h is = absurd (cc)
@@ -129,8 +108,7 @@ is_packet b g (packet.Welcome s v base join image) n h =
     let k = two_of b base join n h.up_to.numbers in
     record {
       within = (round, k.0, k.1, is_image b base image n (All-head (λ n. n ≤ b.lists) base (join ∷ []) h.up_to.numbers) h.welcome h.within);
-      parts =
-          h.within.places;
+      parts = h.within.places;
     }
 is_packet b g (packet.LeaveAsk s v report) n h =
     record { within = (is_round b g (packet.LeaveAsk s v report) n h.up_to, is_report b report n h.up_to.numbers); parts = tt }

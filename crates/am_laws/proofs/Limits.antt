@@ -1,23 +1,10 @@
 -- Which rows, images and entries are within their limits.
-use Rattle.std.proofs.Common.{◌≡◌, ℕ, zero, suc, ◌+◌, ◌-◌, ◌<◌, ◌≤◌, ◌==◌, ◌&&◌, not, nat_lt, Bool, true, false, List, [], ◌∷◌, length, take, map, set}
-use Rattle.std.proofs.Common.{slice_index, slice_index_or, refl, ◌∙◌, arith}
-use Rattle.std.specs.Prelude.{All}
-use Rattle.std.specs.List.{range_with_len}
-use Rattle.std.proofs.lemmas.Bool.Decides.{nat_tests}
-use Rattle.std.proofs.lemmas.List.{length-map, length-set}
-use Rattle.std.proofs.lemmas.List.Elements.{All-head, All-tail, All-map, All-set, All-take, All-weaker, All-get_or, All-from_get_or, All-replicate}
-use Rattle.am_base.specs.Most.{most_number, most_body}
-use Rattle.am_base.specs.declared.entry.Entry.{Entry}
-use Rattle.am_base.specs.declared.entry.Entry.TheVariants.{Data, Join, Leave, View}
-use Rattle.am_base.specs.declared.image.Row.{Row}
-use Rattle.am_base.specs.declared.image.Image.{Image}
-use Rattle.am_base.specs.Names.{IsSet, nobody, place_of, life_of, name_at, by_place}
-use Rattle.am_base.specs.Limits.{IsImage, IsEntry}
-use Rattle.am_base.specs.Lists.{Log, blank_row, blank, is_blank, at_place, member_life, members_of, row_after_view, after, fold, image_at, told_by}
-use Rattle.am_codec.specs.Limits.{HasEntryParts}
-use Rattle.am_model.specs.Node.{name_where, those}
-use Rattle.am_base.proofs.Greatest.{split}
-use Rattle.am_laws.specs.Packets.{Bounds, up}
+use Rattle.am_laws.proofs.Words.{◌≡◌, ℕ, zero, suc, ◌+◌, ◌-◌, ◌<◌, ◌≤◌, ◌==◌, ◌&&◌, not, nat_lt, Bool, true, false, List, [], ◌∷◌, length, take, map, set}
+use Rattle.am_laws.proofs.Words.{slice_index, slice_index_or, refl, ◌∙◌, arith, All, range_with_len, nat_tests, length-map, length-set, All-head, All-tail}
+use Rattle.am_laws.proofs.Words.{All-map, All-set, All-take, All-weaker, All-get_or, All-from_get_or, All-replicate, most_number, most_body, Entry, Data}
+use Rattle.am_laws.proofs.Words.{Join, Leave, View, Row, Image, IsSet, nobody, place_of, life_of, name_at, by_place, IsImage, IsEntry, Log, blank_row, blank}
+use Rattle.am_laws.proofs.Words.{is_blank, at_place, member_life, members_of, row_after_view, after, fold, image_at, told_by, HasEntryParts, name_where}
+use Rattle.am_laws.proofs.Words.{those, split, Bounds, up}
 use Rattle.am_laws.proofs.Images.{ImageUp, all_places, up_at}
 
 -- ---- sets
@@ -77,8 +64,7 @@ pub image_more : (b : Bounds) (image : Image) → ImageWithin b image → ImageW
 image_more b image h = let r = h.round in record {
   places = h.places;
   rows = All-weaker (RowWithin b) (RowWithin (up b)) (row_more b) image.rows h.rows;
-  round =
-      omega arith;
+  round = omega arith;
   resilience = h.resilience;
 }
 

@@ -1,19 +1,8 @@
 -- What a node's list begins with tells of nothing above its start.
-use Rattle.std.proofs.Common.{◌≡◌, sym, subst}
-use Rattle.am_base.specs.Lists.{Log}
-use Rattle.am_base.specs.declared.outcome.Outcome.{Outcome}
-use Rattle.am_base.specs.declared.entry.Entry.TheVariants.{Leave}
-use Rattle.am_packet.specs.declared.packet.Packet.{Packet}
+use Rattle.am_laws.proofs.Words.{◌≡◌, sym, subst, Log, Outcome, Leave, Packet, Node, Ballot, push_entry, Verdict, refresh, refresh_at_end, Cause, hears}
+use Rattle.am_laws.proofs.Words.{Looks, finds_itself_out, Change, refreshes, settles, begins_list, looks, closes, Changes, rests_refresh, rests_at_end}
+use Rattle.am_laws.proofs.Words.{settle_is, along}
 use Rattle.am_packet.specs.declared.packet.Packet.TheVariants as packet
-use Rattle.am_model.specs.Node.{Node, Ballot, push_entry}
-use Rattle.am_model.specs.Ballots.{Verdict}
-use Rattle.am_model.specs.Refresh.{refresh, refresh_at_end}
-use Rattle.am_effects.specs.Causes.{Cause, hears}
-use Rattle.am_effects.specs.Looks.{Looks, finds_itself_out}
-use Rattle.am_effects.specs.Changes.{Change, refreshes, settles, begins_list}
-use Rattle.am_effects.specs.Changes.{looks, closes, Changes}
-use Rattle.am_effects.proofs.Rests.{rests_refresh, rests_at_end, settle_is}
-use Rattle.am_effects.proofs.Runs.{along}
 use Rattle.am_laws.proofs.Images.{ImageUp}
 
 -- a Welcome tells of nothing above its base

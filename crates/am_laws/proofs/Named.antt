@@ -1,33 +1,9 @@
 -- Which name each node has, and which nodes nobody has been yet.
-use Rattle.std.proofs.Common.{◌≡◌, ℕ, ◌+◌, ◌<◌, ◌≤◌, ◌==◌, Bool, false, if◌then◌else◌, List, slice_index, refl, sym, ap, ◌∙◌, subst, arith}
-use Rattle.std.specs.Prelude.{All}
-use Rattle.std.proofs.lemmas.Bool.Decides.{nat_tests}
-use Rattle.std.proofs.lemmas.List.Elements.{All-nil, All-append, All-weaker}
-use Rattle.am_base.specs.declared.outcome.Outcome.{Outcome}
-use Rattle.am_base.specs.declared.entry.Entry.TheVariants.{Leave}
-use Rattle.am_base.specs.Founding.{Rules, MayFound}
-use Rattle.am_base.specs.Names.{place_of, life_of, has}
-use Rattle.am_packet.specs.declared.packet.Packet.{Packet}
-use Rattle.am_packet.specs.Boxes.{Letter}
-use Rattle.am_group.specs.declared.event.Event.{Event}
-use Rattle.am_model.specs.Node.{Node, Ballot, push_entry, set_at, stranger}
-use Rattle.am_model.specs.Ballots.{Verdict}
-use Rattle.am_model.specs.Emit.{Step}
-use Rattle.am_play.specs.World.{World, start, first_node, with_record, with_step, run}
-use Rattle.am_base.proofs.Greatest.{split}
-use Rattle.am_effects.specs.Causes.{Cause}
-use Rattle.am_effects.specs.Looks.{Looks, finds_itself_out}
-use Rattle.am_effects.specs.Letters.{Says, request}
-use Rattle.am_effects.specs.Letters.{LetterSays}
-use Rattle.am_effects.specs.Changes.{Change, refreshes, settles}
-use Rattle.am_effects.specs.Changes.{looks, closes}
-use Rattle.am_effects.specs.Effects.{Effect}
-use Rattle.am_effects.specs.Events.{actor, idles, stops, returns, steps}
-use Rattle.am_effects.proofs.Items.{all_item}
-use Rattle.am_effects.proofs.Rests.{rests_refresh, rests_at_end, settle_is}
-use Rattle.am_effects.proofs.Runs.{along, EachKeeps, runs_keep}
-use Rattle.am_codec.specs.Spelling.{sender_of}
-use Rattle.am_laws.specs.Named.{NamesHold}
+use Rattle.am_laws.proofs.Words.{◌≡◌, ℕ, ◌+◌, ◌<◌, ◌≤◌, ◌==◌, Bool, false, if◌then◌else◌, List, slice_index, refl, sym, ap, ◌∙◌, subst, arith, All, nat_tests}
+use Rattle.am_laws.proofs.Words.{All-nil, All-append, All-weaker, Outcome, Leave, Rules, MayFound, place_of, life_of, has, Packet, Letter, Event, Node}
+use Rattle.am_laws.proofs.Words.{Ballot, push_entry, set_at, stranger, Verdict, Step, World, start, first_node, with_record, with_step, run, split, Cause}
+use Rattle.am_laws.proofs.Words.{Looks, finds_itself_out, Says, request, LetterSays, Change, refreshes, settles, looks, closes, Effect, actor, idles, stops}
+use Rattle.am_laws.proofs.Words.{returns, steps, all_item, rests_refresh, rests_at_end, settle_is, along, EachKeeps, runs_keep, sender_of, NamesHold}
 
 -- ---- a node keeps its name
 
@@ -162,7 +138,6 @@ names_hold rules events may =
       who = h.who;
       least = h.least;
       most = h.most;
-      senders =
-          λ number letter at. all_item SentByName (run rules events).letters number letter h.senders at;
+      senders = λ number letter at. all_item SentByName (run rules events).letters number letter h.senders at;
       unborn = h.unborn;
     }

@@ -1,42 +1,17 @@
 -- What a node has is within its limits, and each change keeps it so.
-use Rattle.std.proofs.Common.{◌≡◌, ℕ, ◌+◌, ◌<◌, ◌≤◌, ◌==◌, ◌&&◌, not, max, nat_le, false, if◌then◌else◌, List, [], ◌∷◌, length, drop, find, Option, Some, None}
-use Rattle.std.proofs.Common.{option_map, refl, sym, ap, subst, arith}
-use Rattle.std.specs.Prelude.{All}
-use Rattle.std.specs.List.{list_any}
-use Rattle.std.proofs.lemmas.Bool.Decides.{nat_tests}
-use Rattle.std.proofs.lemmas.List.Elements.{All-nil, All-cons, All-append, All-map, All-filter, All-drop, All-weaker}
-use Rattle.am_base.specs.Most.{most_body}
-use Rattle.am_base.specs.declared.entry.Entry.{Entry}
-use Rattle.am_base.specs.declared.entry.Entry.TheVariants.{Data, Join, Leave, View}
-use Rattle.am_base.specs.declared.image.Vote.{Vote}
-use Rattle.am_base.specs.declared.image.Report.{Report}
-use Rattle.am_base.specs.declared.name.Stamp.{Stamp}
-use Rattle.am_base.specs.declared.outcome.Outcome.{Outcome}
+use Rattle.am_laws.proofs.Words.{◌≡◌, ℕ, ◌+◌, ◌<◌, ◌≤◌, ◌==◌, ◌&&◌, not, max, nat_le, false, if◌then◌else◌, List, [], ◌∷◌, length, drop, find, Option, Some}
+use Rattle.am_laws.proofs.Words.{None, option_map, refl, sym, ap, subst, arith, All, list_any, nat_tests, All-nil, All-cons, All-append, All-map, All-filter}
+use Rattle.am_laws.proofs.Words.{All-drop, All-weaker, most_body, Entry, Data, Leave, View, Vote, Report, Stamp, Outcome, IsSet, stamp_lt, Shown, vote_lt}
+use Rattle.am_laws.proofs.Words.{all_names, better_of, best_from, Packet, OwnSend, KeptBody, is_of, find_body, keep_body, Node, Ballot, image_of, waiting}
+use Rattle.am_laws.proofs.Words.{push_entry, Verdict, overtake, own_vote, best_of, need_of, left_in, own_body, first_body, body_of, bodies_after, refresh}
+use Rattle.am_laws.proofs.Words.{accepted_at, settle_at, settle_waiting, settle, refresh_at_end, split, Cause, calls, hears, BringsSend, by_request}
+use Rattle.am_laws.proofs.Words.{by_spread, HasOpen, Balloting, with_more, without_one, as_it_is, Looks, finds_itself_out, decides, Numbers, asked_send}
+use Rattle.am_laws.proofs.Words.{own_send, asked_join, asked_leave, Carries, whole_entry, by_number, Change, Changes, unchanged, changed, refreshes, settles}
+use Rattle.am_laws.proofs.Words.{numbers, keeps_body, stores, begins_list, promises, opens, looks, fetches, stores_view, queues, collects, closes, all_find}
+use Rattle.am_laws.proofs.Words.{with_fronts, refresh_is, rests_refresh, rests_at_end, settle_is, sender_of, Bounds, up}
 use Rattle.am_base.specs.declared.event.NodeEvent.TheVariants as does
-use Rattle.am_base.specs.Names.{IsSet}
-use Rattle.am_base.specs.Stamps.{stamp_lt}
-use Rattle.am_base.specs.Votes.{Shown, vote_lt, all_names, better_of, best_from}
-use Rattle.am_packet.specs.declared.packet.Packet.{Packet}
 use Rattle.am_packet.specs.declared.packet.Packet.TheVariants as packet
-use Rattle.am_sender.specs.declared.OwnSend.{OwnSend}
 use Rattle.am_sender.specs.Sends as own
-use Rattle.am_bodies.specs.declared.KeptBody.{KeptBody}
-use Rattle.am_bodies.specs.Bodies.{is_of, find_body, keep_body}
-use Rattle.am_model.specs.Node.{Node, Ballot, image_of, waiting, push_entry}
-use Rattle.am_model.specs.Ballots.{Verdict, overtake, own_vote, best_of, need_of, left_in}
-use Rattle.am_model.specs.Receiving.{own_body, first_body, body_of, bodies_after}
-use Rattle.am_model.specs.Refresh.{refresh, accepted_at, settle_at, settle_waiting, settle, refresh_at_end}
-use Rattle.am_base.proofs.Greatest.{split}
-use Rattle.am_effects.specs.Causes.{Cause, calls, hears, BringsSend, by_request, by_spread}
-use Rattle.am_effects.specs.Looks.{HasOpen, Balloting, with_more, without_one, as_it_is, Looks, finds_itself_out, waits, fetches_from_best, finds_too_few}
-use Rattle.am_effects.specs.Looks.{finds_no_room, decides}
-use Rattle.am_effects.specs.Changes.{Numbers, asked_send, own_send, asked_join, asked_leave, Carries, whole_entry, by_number, Change, Changes, unchanged}
-use Rattle.am_effects.specs.Changes.{changed, refreshes, settles, takes_report, admits, numbers, keeps_body, notes, stores, begins_list, departs, promises}
-use Rattle.am_effects.specs.Changes.{opens, looks, fetches, stores_view, queues, collects, takes, asks_to_join, asks_to_leave, closes}
-use Rattle.am_effects.proofs.Items.{all_find}
-use Rattle.am_effects.proofs.Rests.{with_fronts, refresh_is, rests_refresh, rests_at_end, settle_is}
-use Rattle.am_codec.specs.Spelling.{sender_of}
-use Rattle.am_laws.specs.Packets.{Bounds, up}
 use Rattle.am_laws.proofs.Limits.{ImageWithin, EntryWithin, image_more, entry_more, members_within, told_within, set_those}
 
 -- ---- what a node has
@@ -176,9 +151,7 @@ carried_within b c m s v base acc number e (by_number name req body is found) fr
 
 after_bodies : (bodies : List KeptBody) (e : Entry) → All KeptWithin bodies → All KeptWithin (bodies_after bodies e)
 after_bodies bodies (Data from req body) h = All-filter (λ kept. not ((kept.from == from) && nat_le kept.req req)) KeptWithin bodies h
-after_bodies bodies (Join name) h = h
-after_bodies bodies (Leave name) h = h
-after_bodies bodies (View stamp names resilience) h = h
+after_bodies bodies _ h = h
 
 kept_within : (s req : ℕ) (body : List ℕ) (bodies : List KeptBody) → length body ≤ most_body → All KeptWithin bodies
     → All KeptWithin (keep_body s req body bodies)
@@ -243,8 +216,7 @@ open_within b m x open_ h = subst (BallotWithin b) open_.last h.ballot
 
 -- by what stands among the votes of a name
 vote_more : (votes : ℕ → Option Vote) (name : ℕ) (new : Option Vote) → ((v : Vote) → new ≡ Some v → IsSet v.members)
-    → ((i : ℕ) (v : Vote) → votes i ≡ Some v → IsSet v.members)
-    → (i : ℕ) (v : Vote) → (if i == name then new else votes i) ≡ Some v → IsSet v.members
+    → ((i : ℕ) (v : Vote) → votes i ≡ Some v → IsSet v.members) → (i : ℕ) (v : Vote) → (if i == name then new else votes i) ≡ Some v → IsSet v.members
 vote_more votes name new f h i v = split (i == name) (λ t. rw t (f v)) (λ g. rw g (h i v))
 
 looked_within : (b : Bounds) (c : Cause) (m : Node) (x : Ballot) → Balloting c m x → CauseWithin b c → Within b m → VotesWithin b x
@@ -295,14 +267,10 @@ look_within b m x v look k h =
   where
     looked : ((y : Ballot) → y.stamp ≡ x.stamp → y.resilience ≡ x.resilience → y.votes ≡ x.votes → VotesWithin b y) → {u : Verdict} → Looks m x u
         → Within b u.node
-    looked l (finds_itself_out y) = record { image = h.image; entries = h.entries; sends = h.sends; bodies = h.bodies; ballot = l _ refl refl refl }
-    looked l (waits y z) = record { image = h.image; entries = h.entries; sends = h.sends; bodies = h.bodies; ballot = l _ refl refl refl }
-    looked l (fetches_from_best y z w) = record { image = h.image; entries = h.entries; sends = h.sends; bodies = h.bodies; ballot = l _ refl refl refl }
-    looked l (finds_too_few y z) = record { image = h.image; entries = h.entries; sends = h.sends; bodies = h.bodies; ballot = l _ refl refl refl }
-    looked l (finds_no_room y) = record { image = h.image; entries = h.entries; sends = h.sends; bodies = h.bodies; ballot = l _ refl refl refl }
     looked l (decides may) =
         let p = pushed_within b m _ (view_within b m x k h) h in
         record { image = p.image; entries = p.entries; sends = p.sends; bodies = p.bodies; ballot = l _ refl refl refl }
+    looked l _ = record { image = h.image; entries = h.entries; sends = h.sends; bodies = h.bodies; ballot = l _ refl refl refl }
 
 -- ---- what only rises
 
@@ -316,7 +284,7 @@ same_rises m n p s = record { round = rw p (omega arith); last = rw s (omega ari
 round_rises : (u v : Stamp) → stamp_lt v u ≡ false → u.round ≤ v.round
 round_rises u v h = grind (arith, nat_tests)
 
-look_rises : (m : Node) (x : Ballot) (v : Verdict) → Looks m x v → Rises m v.node
+pub look_rises : (m : Node) (x : Ballot) (v : Verdict) → Looks m x v → Rises m v.node
 look_rises m x v (finds_itself_out y) = same_rises m _ refl refl
 look_rises m x v _ = same_rises m _ refl refl
 
@@ -348,22 +316,15 @@ pub change_within : (b : Bounds) {c : Cause} {o : Outcome} (m n : Node) → Caus
     → Change c o m n → Within b m → Within b n
 change_within b m n from round last refreshes h = refresh_within b m h
 change_within b m n from round last settles h = settle_within b m h
-change_within b m n from round last (takes_report s v report by may) h =
-    record { image = h.image; entries = h.entries; sends = h.sends; bodies = h.bodies; ballot = h.ballot }
-change_within b m n from round last (admits s v is leads fit) h =
-    record { image = h.image; entries = h.entries; sends = h.sends; bodies = h.bodies; ballot = h.ballot }
 change_within b m n from round last (numbers e leads room why) h = pushed_within b m e (numbered_within b _ m e why from h) h
 change_within b m n from round last (keeps_body s v report req body is by) h =
     record {
       image = h.image;
       entries = h.entries;
       sends = h.sends;
-      bodies =
-          kept_within s req body m.bodies ((from.heard (packet.Spread s v report req body) is).1) h.bodies;
+      bodies = kept_within s req body m.bodies ((from.heard (packet.Spread s v report req body) is).1) h.bodies;
       ballot = h.ballot;
     }
-change_within b m n from round last (notes s v base acc by seq) h =
-    record { image = h.image; entries = h.entries; sends = h.sends; bodies = h.bodies; ballot = h.ballot }
 change_within b m n from round last (stores s v base acc number e by seq plain may) h =
     let k = pushed_within b m e (carried_within b _ m s v base acc number e by from h) h in
     record { image = k.image; entries = k.entries; sends = k.sends; bodies = after_bodies m.bodies e h.bodies; ballot = k.ballot }
@@ -373,11 +334,8 @@ change_within b m n from round last (begins_list s v base join image is o may) h
       entries = All-nil (EntryWithin b);
       sends = h.sends;
       bodies = h.bodies;
-      ballot =
-          h.ballot;
+      ballot = h.ballot;
     }
-change_within b m n from round last (departs s v number is by leaves) h =
-    record { image = h.image; entries = h.entries; sends = h.sends; bodies = h.bodies; ballot = h.ballot }
 change_within b m n from round last (promises v low why) h =
     record { image = h.image; entries = h.entries; sends = h.sends; bodies = h.bodies; ballot = overtaken_within b v m.ballot h.ballot }
 change_within b m n from round last (opens least resilience by may) h =
@@ -386,8 +344,7 @@ change_within b m n from round last (opens least resilience by may) h =
       entries = h.entries;
       sends = h.sends;
       bodies = h.bodies;
-      ballot =
-          record { round = round; resilience = omega arith; votes = λ name vote is. absurd (cc) };
+      ballot = record { round = round; resilience = omega arith; votes = λ name vote is. absurd (cc) };
     }
 change_within b m n from round last (looks x verdict over why look is) h = look_within b m x verdict look (looked_within b _ m x why from h) h
 change_within b m n from round last (fetches s v base number e is by promise below who may) h =
@@ -414,15 +371,11 @@ change_within b m n from round last (collects req is) h = record {
   bodies = h.bodies;
   ballot = h.ballot;
 }
-change_within b m n from round last (takes e is o member some there) h =
-    record { image = h.image; entries = h.entries; sends = h.sends; bodies = h.bodies; ballot = h.ballot }
-change_within b m n from round last (asks_to_join is was) h =
-    record { image = h.image; entries = h.entries; sends = h.sends; bodies = h.bodies; ballot = h.ballot }
-change_within b m n from round last (asks_to_leave is was stays done) h =
-    record { image = h.image; entries = h.entries; sends = h.sends; bodies = h.bodies; ballot = h.ballot }
 change_within b m n from round last (closes leads leaves alone room) h =
     let k = at_end_within b (push_entry m (Leave m.core.who)) (pushed_within b m (Leave m.core.who) tt h) in
     record { image = k.image; entries = k.entries; sends = k.sends; bodies = k.bodies; ballot = k.ballot }
+change_within b m n from round last _ h =
+    record { image = h.image; entries = h.entries; sends = h.sends; bodies = h.bodies; ballot = h.ballot }
 
 pub changes_within : (b : Bounds) {c : Cause} {o : Outcome} (m n : Node) → CauseWithin b c → n.core.promise.round ≤ b.rounds → n.sends.last ≤ b.requests
     → Changes c o m n → Within b m → Within b n

@@ -1,37 +1,13 @@
 -- How high all numbers of a run are, event by event.
-use Rattle.std.proofs.Common.{◌≡◌, inl, inr, ⊎_elim, ℕ, ◌+◌, ◌-◌, ◌≤◌, ◌==◌, max, min, Bool, true, if◌then◌else◌, List, [], ◌∷◌, length, take, drop, Option}
-use Rattle.std.proofs.Common.{Some, None, refl, ap, ◌∙◌, subst, arith, length-append, length-drop}
-use Rattle.std.specs.Prelude.{All}
-use Rattle.std.proofs.lemmas.Bool.Decides.{nat_tests}
-use Rattle.std.proofs.lemmas.List.{length-take}
-use Rattle.std.proofs.lemmas.List.Elements.{All-nil, All-append, All-weaker}
-use Rattle.am_base.specs.declared.entry.Entry.{Entry}
-use Rattle.am_base.specs.Founding.{Rules}
-use Rattle.am_base.specs.Names.{has}
-use Rattle.am_base.specs.Lists.{row_of}
-use Rattle.am_packet.specs.declared.packet.Packet.{Packet}
-use Rattle.am_packet.specs.Boxes.{Letter}
-use Rattle.am_group.specs.declared.event.Event.{Event}
-use Rattle.am_group.specs.Journals.{letter_at}
-use Rattle.am_model.specs.Node.{Node, Ballot, top, image_of, set_at, founder, stranger}
-use Rattle.am_model.specs.Emit.{Step}
-use Rattle.am_play.specs.World.{World, start, first_node, group_with, group_after, with_record, with_step, happens, happen, run}
-use Rattle.am_play.specs.Claims.{heard_by}
-use Rattle.am_base.proofs.Greatest.{split}
-use Rattle.am_effects.specs.Causes.{Cause, hears}
-use Rattle.am_effects.specs.Letters.{MayWelcome, Says, welcome}
-use Rattle.am_effects.specs.Letters.{LetterSays}
-use Rattle.am_effects.specs.Effects.{Effect}
-use Rattle.am_effects.specs.Events.{actor, WasSentTo, IsCause, Happens, idles, stops, returns, steps}
-use Rattle.am_effects.proofs.Items.{all_item}
-use Rattle.am_effects.proofs.Events.{events_have_effects}
-use Rattle.am_laws.specs.Packets.{Bounds, up, UpTo}
-use Rattle.am_laws.specs.Numbers.{NumbersHold}
-use Rattle.am_laws.proofs.Counts.{IsKnown, VotesKnown, leads, Low, Behind, low_more}
-use Rattle.am_laws.proofs.Images.{blank_up, image_up}
-use Rattle.am_laws.proofs.ListImages.{WelcomeUp, ListUp, changes_list}
-use Rattle.am_laws.proofs.LetterCounts.{Sends, says_low, welcome_low}
-use Rattle.am_laws.proofs.EventCounts.{actor_low}
+use Rattle.am_laws.proofs.Words.{is_itself, ◌≡◌, inl, inr, ⊎_elim, ℕ, ◌+◌, ◌-◌, ◌≤◌, ◌==◌, max, min, Bool, true, if◌then◌else◌, List, [], ◌∷◌, length, take}
+use Rattle.am_laws.proofs.Words.{drop, Option, Some, None, refl, ap, ◌∙◌, subst, arith, length-append, length-drop, All, length-take, All-nil, All-append}
+use Rattle.am_laws.proofs.Words.{All-weaker, Entry, Rules, has, row_of, Packet, Letter, Event, letter_at, Node, Ballot, top, image_of, set_at, founder}
+use Rattle.am_laws.proofs.Words.{stranger, Step, World, start, first_node, group_with, group_after, with_record, with_step, happens, happen, run, heard_by}
+use Rattle.am_laws.proofs.Words.{split, Cause, hears, MayWelcome, Says, welcome, LetterSays, Effect, actor, WasSentTo, IsCause, Happens, steps, all_item}
+use Rattle.am_laws.proofs.Words.{events_have_effects, Bounds, up, UpTo, NumbersHold}
+use Rattle.am_laws.proofs.{Counts.IsKnown, Counts.VotesKnown, Counts.leads, Counts.Low, Counts.Behind, Counts.low_more, Images.blank_up, Images.image_up}
+use Rattle.am_laws.proofs.{ListImages.WelcomeUp, ListImages.ListUp, ListImages.changes_list, LetterCounts.Sends, LetterCounts.says_low}
+use Rattle.am_laws.proofs.{LetterCounts.welcome_low, EventCounts.actor_low}
 
 -- ---- a group that accepts more
 
@@ -146,9 +122,6 @@ pub set_same : (P : Node → Type 0) (nodes : ℕ → Node) (name : ℕ) (n : No
     → P (set_at nodes name n other)
 set_same P nodes name n h k other = split (other == name) (λ t. rw t k) (λ f. rw f (h other))
 
-is_itself : (name : ℕ) → (name == name) ≡ true
-is_itself name = grind (arith, nat_tests)
-
 -- the node of the acting name after the event, by any bounds that hold before it
 abbrev RaisedBy : World → World → ℕ → ℕ → Type 0
 RaisedBy w v name number = (b : Bounds) → ((letter : Letter) → letter_at w.letters number ≡ Some letter → UpTo b (length w.group) letter.packet)
@@ -165,7 +138,7 @@ pub sender_list : (n sender : Node) → n ≡ record sender { status = n.status 
 sender_list n sender is h = let k : ListUp (record sender { status = n.status }) = subst ListUp is h in k
 
 -- the packet that was heard
-was_heard : (w : World) (e : Event) (c : Cause) (p : Packet) → c ≡ hears p → IsCause w (actor w e) e.act c → WasSentTo w (actor w e) e.act p
+pub was_heard : (w : World) (e : Event) (c : Cause) (p : Packet) → c ≡ hears p → IsCause w (actor w e) e.act c → WasSentTo w (actor w e) e.act p
 was_heard w e c p is cause = subst (IsCause w (actor w e) e.act) is cause
 
 heard_up : (b : Bounds) (w : World) (e : Event) (c : Cause) → AllLow b w → IsCause w (actor w e) e.act c → (p : Packet) → c ≡ hears p → WelcomeUp p
@@ -218,10 +191,8 @@ low_stepped b w e c s cause effect raised h =
 
 low_event : (b : Bounds) (w : World) (e : Event) (v : World) → Happens w e v → RaisedBy w v (actor w e) (heard_by e.act) → AllLow b w → AllLow (up b) v
 unfolding with_record
-low_event b w e v (idles o idle) raised h = low_same b w v refl refl refl h
-low_event b w e v (stops runs) raised h = low_same b w v refl refl refl h
-low_event b w e v (returns place is left more) raised h = low_same b w v refl refl refl h
 low_event b w e v (steps c s runs cause effect) raised h = low_stepped b w e c s cause effect raised h
+low_event b w e v _ raised h = low_same b w v refl refl refl h
 
 pub low_happens : (b : Bounds) (w : World) (e : Event) → AllLow b w → AllLow (up b) (happens w e)
 low_happens b w e h = low_event b w e (happens w e) (events_have_effects w e)

@@ -1,43 +1,18 @@
 -- Each letter of a run is a packet within its limits, so the run of packets is the run of bytes.
-use Rattle.std.proofs.Common.{◌≡◌, ℕ, ◌+◌, ◌<◌, ◌≤◌, ◌==◌, true, not, if◌then◌else◌, List, [], ◌∷◌, length, Option, Some, None, refl, ap, ◌∙◌, subst, arith}
-use Rattle.std.specs.Prelude.{All}
-use Rattle.std.proofs.lemmas.Bool.Decides.{nat_tests}
-use Rattle.std.proofs.lemmas.List.Elements.{All-nil, All-cons, All-head, All-tail, All-append, All-weaker}
-use Rattle.am_base.specs.Most.{most_body}
+use Rattle.am_laws.proofs.Words.{is_itself, ◌≡◌, ℕ, ◌+◌, ◌<◌, ◌≤◌, not, if◌then◌else◌, List, [], ◌∷◌, length, Option, Some, None, refl, ap, ◌∙◌, subst, arith}
+use Rattle.am_laws.proofs.Words.{All, All-nil, All-cons, All-head, All-tail, All-append, All-weaker, most_body, Rules, MayFound, top_of, Packet, Letter}
+use Rattle.am_laws.proofs.Words.{IsPacket, spelling_again, Act, Event, is_for, letter_at, Node, founder, stranger, founders_view, Step, World, start}
+use Rattle.am_laws.proofs.Words.{is_stopped, with_record, with_step, hears_letter, acts_as, happens, happen, run, heard_by, spelling_is_heard, cut_is_heard}
+use Rattle.am_laws.proofs.Words.{Cause, LetterSays, Effect, actor, IsCall, IsCause, Happens, steps, all_item, events_have_effects, sender_of, Bounds, up}
+use Rattle.am_laws.proofs.Words.{UpTo, BodyWithin, IsShort, LettersArePackets, LettersAreRead, acts_by_bytes, happen_by_bytes, RunsAreOfBytes}
 use Rattle.am_base.specs.declared.outcome.Outcome.TheVariants as said
 use Rattle.am_base.specs.declared.event.NodeEvent.TheVariants as does
-use Rattle.am_base.specs.Founding.{Rules, MayFound}
-use Rattle.am_base.specs.Lists.{top_of}
-use Rattle.am_packet.specs.declared.packet.Packet.{Packet}
-use Rattle.am_packet.specs.Boxes.{Letter}
-use Rattle.am_codec.specs.Limits.{IsPacket}
-use Rattle.am_codec.proofs.Again.{spelling_again}
-use Rattle.am_group.specs.declared.event.Act.{Act}
 use Rattle.am_group.specs.declared.event.Act.TheVariants as act
-use Rattle.am_group.specs.declared.event.Event.{Event}
-use Rattle.am_group.specs.Addressed.{is_for}
-use Rattle.am_group.specs.Journals.{letter_at}
-use Rattle.am_model.specs.Node.{Node, founder, stranger, founders_view}
-use Rattle.am_model.specs.Emit.{Step}
-use Rattle.am_play.specs.World.{World, start, is_stopped, with_record, with_step, hears_letter, acts_as, happens, happen, run}
-use Rattle.am_play.specs.Claims.{heard_by}
-use Rattle.am_meaning.proofs.Bytes.{spelling_is_heard, cut_is_heard}
-use Rattle.am_effects.specs.Causes.{Cause, hears}
-use Rattle.am_effects.specs.Letters.{LetterSays}
-use Rattle.am_effects.specs.Effects.{Effect}
-use Rattle.am_effects.specs.Events.{actor, WasSentTo, IsCall, IsCause, Happens, idles, stops, returns, steps}
 use Rattle.am_effects.specs.Events as event
-use Rattle.am_effects.proofs.Items.{all_item}
-use Rattle.am_effects.proofs.Events.{events_have_effects}
-use Rattle.am_codec.specs.Spelling.{sender_of}
-use Rattle.am_laws.specs.Packets.{Bounds, up, UpTo}
-use Rattle.am_laws.specs.Bytes.{BodyWithin, IsShort, LettersArePackets, LettersAreRead, acts_by_bytes, happen_by_bytes, RunsAreOfBytes}
-use Rattle.am_laws.proofs.Limits.{EntryWithin, AreNumbers, is_blank_within}
+use Rattle.am_laws.proofs.RunCounts.{was_heard, AllLow, low_happens, low_start, sender_list, set_same, bounds_after, first_of}
 use Rattle.am_laws.proofs.NodeLimits.{SendWithin, KeptWithin, Within, PacketWithin, CauseWithin, within_more, packet_more, changes_within}
-use Rattle.am_laws.proofs.ListImages.{WelcomeUp, ListUp}
-use Rattle.am_laws.proofs.LetterLimits.{says_within, is_packet}
-use Rattle.am_laws.proofs.Named.{AllNamed, each_named, start_named}
-use Rattle.am_laws.proofs.RunCounts.{AllLow, low_happens, low_start, sender_list, set_same, bounds_after, first_of}
+use Rattle.am_laws.proofs.{Limits.EntryWithin, Limits.AreNumbers, Limits.is_blank_within, ListImages.WelcomeUp, ListImages.ListUp, LetterLimits.says_within}
+use Rattle.am_laws.proofs.{LetterLimits.is_packet, Named.AllNamed, Named.each_named, Named.start_named}
 
 -- ---- a world
 
@@ -59,19 +34,16 @@ within_same b w v nodes letters h = record {
 
 -- ---- a step
 
-was_sent : (w : World) (e : Event) (c : Cause) (p : Packet) → c ≡ hears p → IsCause w (actor w e) e.act c → WasSentTo w (actor w e) e.act p
-was_sent w e c p is cause = subst (IsCause w (actor w e) e.act) is cause
-
 called_within : (w : World) (a : Act) (body : List ℕ) → BodyWithin a → IsCall w a (does.Send body) → length body ≤ most_body
 called_within w a body h (event.send x) = h
 
 cause_within : (rules : Rules) (b : Bounds) (w : World) (e : Event) (c : Cause) → BodyWithin e.act → Limited rules b w → IsCause w (actor w e) e.act c
     → CauseWithin (up b) c
 cause_within rules b w e c body h cause = record {
-  heard = λ p is. (let was = was_sent w e c p is cause in
+  heard = λ p is. (let was = was_heard w e c p is cause in
       packet_more b p (subst (PacketWithin b) was.is (all_item (λ (l : Letter). PacketWithin b l.packet) w.letters
       (heard_by e.act) was.letter h.within.letters was.there)));
-  senders = λ p is. (let was = was_sent w e c p is cause in
+  senders = λ p is. (let was = was_heard w e c p is cause in
       subst (λ (x : Packet). sender_of x < 256) was.is (all_item (λ (l : Letter). sender_of l.packet < 256) w.letters
       (heard_by e.act) was.letter h.named.senders was.there));
   called = λ bytes is. called_within w e.act bytes body (subst (IsCause w (actor w e) e.act) is cause);
@@ -81,9 +53,6 @@ cause_within rules b w e c body h cause = record {
 sender_within : (b : Bounds) (n sender : Node) → n ≡ record sender { status = n.status } → Within b n → Within b sender
 sender_within b n sender is h = let k : Within b (record sender { status = n.status }) = subst (Within b) is h in
     record { image = k.image; entries = k.entries; sends = k.sends; bodies = k.bodies; ballot = k.ballot }
-
-is_itself : (name : ℕ) → (name == name) ≡ true
-is_itself name = grind (arith, nat_tests)
 
 -- the numbers of the node after it are those of the run
 within_stepped : (rules : Rules) (b : Bounds) (w : World) (e : Event) (c : Cause) (s : Step) → BodyWithin e.act → IsCause w (actor w e) e.act c
@@ -115,10 +84,8 @@ within_stepped rules b w e c s body cause effect low h =
 within_event : (rules : Rules) (b : Bounds) (w : World) (e : Event) (v : World) → BodyWithin e.act → Happens w e v → AllLow (up b) v → Limited rules b w
     → AllWithin (up b) v
 unfolding with_record
-within_event rules b w e v body (idles o idle) low h = within_same b w v refl refl h.within
-within_event rules b w e v body (stops runs) low h = within_same b w v refl refl h.within
-within_event rules b w e v body (returns place is left more) low h = within_same b w v refl refl h.within
 within_event rules b w e v body (steps c s runs cause effect) low h = within_stepped rules b w e c s body cause effect low h
+within_event rules b w e v body _ low h = within_same b w v refl refl h.within
 
 limited_happens : (rules : Rules) (b : Bounds) (w : World) (e : Event) → BodyWithin e.act → Limited rules b w → Limited rules (up b) (happens w e)
 limited_happens rules b w e body h =
@@ -126,8 +93,7 @@ limited_happens rules b w e body h =
     record {
       low = low;
       named = each_named rules w e (happens w e) (events_have_effects w e) h.named;
-      within =
-          within_event rules b w e (happens w e) body (events_have_effects w e) low h;
+      within = within_event rules b w e (happens w e) body (events_have_effects w e) low h;
     }
 
 -- ---- a heard packet and its bytes

@@ -1,10 +1,6 @@
 -- The order of stamps.
-use Rattle.std.proofs.Common.{◌≡◌, ◌⊎◌, inl, inr, ⊎_elim, ℕ, ◌<◌, ◌≤◌, ◌==◌, ◌&&◌, ◌||◌, nat_lt, Bool, true, false, refl, ap, arith}
-use Rattle.std.proofs.lemmas.Bool.Decides.{nat_tests}
-use Rattle.am_base.specs.declared.name.Stamp.{Stamp}
-use Rattle.am_base.specs.Names.{rank_of}
-use Rattle.am_base.specs.Stamps.{stamp_lt, stamp_eq}
-use Rattle.am_base.proofs.Greatest.{split}
+use Rattle.am_laws.proofs.Words.{rank_same, ◌≡◌, ◌⊎◌, inl, inr, ⊎_elim, ℕ, ◌<◌, ◌≤◌, ◌==◌, ◌&&◌, ◌||◌, nat_lt, Bool, true, false, refl, ap, arith, nat_tests}
+use Rattle.am_laws.proofs.Words.{Stamp, rank_of, stamp_lt, stamp_eq, split}
 
 -- of two pairs of numbers
 abbrev Lower : ℕ → ℕ → ℕ → ℕ → Type 0
@@ -93,18 +89,7 @@ not_above a b h =
     (λ (p : (a.round ≡ b.round) × (x < y)). let e = p.0 in let l = p.1 in inr (omega arith, omega arith))
     (lower a.round x b.round y h))
 
-pub same_stamp : (a b : Stamp) → stamp_eq a b ≡ true → a ≡ b
-same_stamp a b h = split (a.round == b.round)
-    (λ t. let h1 = rw t at h in
-    let r : a.round ≡ b.round = grind (arith, nat_tests) in
-    let n : a.by ≡ b.by = grind (arith, nat_tests) in
-    λ i. record { round = r i; by = n i })
-    (λ f. absurd (let h1 = rw f at h in cc))
-
 -- ---- of names
-
-rank_is : (a b : ℕ) → a < 256 → b < 256 → rank_of a ≡ rank_of b → a ≡ b
-rank_is a b h k e = omega arith
 
 -- what is neither above nor below is the same
 pub equal_stamps : (a b : Stamp) → a.by < 256 → b.by < 256 → stamp_lt a b ≡ false → stamp_lt b a ≡ false → a ≡ b
@@ -117,7 +102,7 @@ equal_stamps a b h k not_below not_over =
     let r = p.0 in let l = p.1 in
     let u : x ≤ y = ⊎_elim (λ (q : a.round < b.round). absurd (omega arith)) (λ (q : (b.round ≡ a.round) × (x ≤ y)). q.1)
     (not_lower b.round y a.round x not_over) in
-    let n : a.by ≡ b.by = rank_is a.by b.by h k (omega arith) in
+    let n : a.by ≡ b.by = rank_same a.by b.by h k (omega arith) in
     λ i. record { round = r i; by = n i })
     (not_lower a.round x b.round y not_below)
 

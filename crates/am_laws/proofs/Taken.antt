@@ -1,54 +1,24 @@
 -- A node trims no more than its own application has taken: who leads is a member of its own list, so its own report counts.
-use Rattle.std.proofs.Common.{◌≡◌, ◌≢◌, ℕ, ◌+◌, ◌≤◌, ◌==◌, ◌&&◌, ◌||◌, not, max, nat_lt, nat_le, Bool, true, false, if◌then◌else◌, List, [], ◌∷◌, length}
-use Rattle.std.proofs.Common.{Option, Some, None, slice_index, unwrap_or, refl, sym, ap, ◌∙◌, subst, arith}
-use Rattle.std.proofs.lemmas.Bool.Decides.{nat_tests}
-use Rattle.am_base.specs.declared.entry.Entry.{Entry}
-use Rattle.am_base.specs.declared.entry.Entry.TheVariants.{Data, Join, Leave, View}
-use Rattle.am_base.specs.declared.image.Vote.{Vote}
-use Rattle.am_base.specs.declared.image.Image.{Image}
-use Rattle.am_base.specs.declared.name.Stamp.{Stamp}
-use Rattle.am_base.specs.declared.outcome.Outcome.{Outcome}
-use Rattle.am_base.specs.Names.{place_of, life_of, name_at, has, names_of}
-use Rattle.am_base.specs.Stamps.{stamp_lt, stamp_eq}
-use Rattle.am_base.specs.Votes.{Shown, vote_lt, all_names, better_of, best_from}
-use Rattle.am_base.specs.Lists.{top_of, told_by, members_of, at_place, after, fits}
-use Rattle.am_base.proofs.Places.{slice_index-by_place, length-by_place}
-use Rattle.am_packet.specs.declared.packet.Packet.{Packet}
+use Rattle.am_laws.proofs.Words.{other_heard, stamp_itself, same_stamp, has_in, ◌≡◌, ◌≢◌, ℕ, ◌+◌, ◌≤◌, ◌==◌, ◌&&◌, ◌||◌, not, max, nat_lt, nat_le, Bool, true}
+use Rattle.am_laws.proofs.Words.{false, if◌then◌else◌, List, [], ◌∷◌, length, Option, Some, None, slice_index, unwrap_or, refl, sym, ap, ◌∙◌, subst, arith}
+use Rattle.am_laws.proofs.Words.{nat_tests, Entry, Data, Join, Leave, View, Vote, Image, Stamp, Outcome, place_of, life_of, name_at, has, names_of, stamp_lt}
+use Rattle.am_laws.proofs.Words.{stamp_eq, Shown, vote_lt, all_names, better_of, best_from, top_of, told_by, members_of, at_place, after, fits}
+use Rattle.am_laws.proofs.Words.{slice_index-by_place, length-by_place, Packet, least_of, least_in, Spares, mod16, long_after, in_after, Node, Ballot, top}
+use Rattle.am_laws.proofs.Words.{image_of, view, members, name_where, those, is_member, is_asking, acts, is_sequencer, push_entry, trim_up_to, refresh}
+use Rattle.am_laws.proofs.Words.{refresh_at_end, Verdict, overtake, with_promise, next_stamp, own_vote, best_of, need_of, left_in, taken_by, trim_for}
+use Rattle.am_laws.proofs.Words.{is_view, is_unknown, hears_member, hears_asking, hears_sequencer, hears_in_view, has_log, split, and_both, Cause, hears}
+use Rattle.am_laws.proofs.Words.{HasOpen, Balloting, with_more, without_one, as_it_is, Looks, finds_no_room, decides, Promises, invited, overtaken_by}
+use Rattle.am_laws.proofs.Words.{told_result, Numbers, asked_send, own_send, asked_join, asked_leave, Fetches, without_ballot, for_ballot, Change, refreshes}
+use Rattle.am_laws.proofs.Words.{settles, takes_report, admits, numbers, notes, stores, begins_list, departs, promises, opens, looks, fetches, stores_view}
+use Rattle.am_laws.proofs.Words.{takes, asks_to_join, closes, rests_refresh, rests_at_end, settle_is, asking_log, told_pushed, view_pushed, HasItself, itself}
+use Rattle.am_laws.proofs.Words.{JoinFits, any_fits, JoinsFit}
 use Rattle.am_packet.specs.declared.packet.Packet.TheVariants as packet
 use Rattle.am_fronts.specs.Reports as reports
-use Rattle.am_fronts.specs.Reports.{least_of}
-use Rattle.am_fronts.proofs.Leaders.{least_in}
-use Rattle.am_chain_lists.proofs.Rows.{Spares, mod16, long_after, in_after}
-use Rattle.am_model.specs.Node.{Node, Ballot, top, image_of, view, members, name_where, those, is_member, is_asking, acts, is_sequencer, push_entry, trim_up_to}
-use Rattle.am_model.specs.Refresh.{refresh, refresh_at_end}
-use Rattle.am_model.specs.Ballots.{Verdict, overtake, with_promise, next_stamp, own_vote, best_of, need_of, left_in, taken_by, trim_for}
-use Rattle.am_model.specs.Receiving.{is_view}
-use Rattle.am_model.specs.Sequencing.{is_unknown}
 use Rattle.am_model.specs.Sequencing as sequencing
-use Rattle.am_model.specs.Hearing.{hears_member, hears_asking, hears_sequencer, hears_in_view}
-use Rattle.am_model.specs.Node.{has_log}
-use Rattle.am_base.proofs.Greatest.{split, and_both}
-use Rattle.am_effects.specs.Causes.{Cause, hears}
-use Rattle.am_effects.specs.Looks.{HasOpen, Balloting, with_more, without_one, as_it_is, Looks, finds_itself_out, waits, fetches_from_best, finds_too_few}
-use Rattle.am_effects.specs.Looks.{finds_no_room, decides}
-use Rattle.am_effects.specs.Changes.{Promises, invited, overtaken as overtaken_by, told_result, Numbers, asked_send, own_send, asked_join, asked_leave, Fetches}
-use Rattle.am_effects.specs.Changes.{without_ballot, for_ballot, Change, refreshes, settles, takes_report, admits, numbers, keeps_body, notes, stores}
-use Rattle.am_effects.specs.Changes.{begins_list, departs, promises, opens, looks, fetches, stores_view, queues, collects, takes, asks_to_join, asks_to_leave}
-use Rattle.am_effects.specs.Changes.{closes}
-use Rattle.am_effects.proofs.Rests.{rests_refresh, rests_at_end, settle_is}
-use Rattle.am_effects.proofs.Statuses.{asking_log}
-use Rattle.am_effects.proofs.Says.{told_pushed, view_pushed}
-use Rattle.am_bounded.proofs.Kept.{HasItself}
-use Rattle.am_bounded.proofs.Changes.{itself}
-use Rattle.am_core.proofs.Lives.{JoinFits, any_fits, JoinsFit}
-use Rattle.am_laws.proofs.LeaderRows.{is_in, in_is, data_member, view_member}
-use Rattle.am_laws.proofs.Stamps.{not_above_itself, at_most_below, same_stamp}
-use Rattle.am_laws.proofs.ViewSteps.{view_last}
-use Rattle.am_laws.proofs.ViewChanges.{Balloted, next_above}
-use Rattle.am_laws.proofs.Views.{same_is_equal}
-use Rattle.am_laws.proofs.Blank.{Blanked}
 use Rattle.am_laws.proofs.Trims.{Fronts, NoOwnVote, Owned, WelcomeUsed, told_used, pushed_fronts, trimmed_fronts, member_leads, refresh_fronts, closed_fronts}
 use Rattle.am_laws.proofs.Trims.{closed_leads, reporting}
+use Rattle.am_laws.proofs.{LeaderRows.in_is, LeaderRows.data_member, LeaderRows.view_member, Stamps.not_above_itself, Stamps.at_most_below}
+use Rattle.am_laws.proofs.{ViewSteps.view_last, ViewChanges.Balloted, ViewChanges.next_above, Blank.Blanked}
 
 -- ---- what a sequencer numbers
 
@@ -70,7 +40,7 @@ spared : (m : Node) (e : Entry) (name : ℕ) → Fronts m → fits (image_of m) 
 spared m e name h fit spares member =
     let used = told_used m h in
     let longer = long_after (image_of m) (top m + 1) e used.places in
-    let k = in_after (image_of m) (top m + 1) e name used.places fit spares (is_in (image_of m) name used.places member) in
+    let k = in_after (image_of m) (top m + 1) e name used.places fit spares (has_in (image_of m) name used.places member) in
     ap (λ (i : Image). has (members_of i) name) (told_pushed m e) ∙ in_is (after (image_of m) (top m + 1) e) name longer k
 
 sent_member : (m : Node) (from req : ℕ) (body : List ℕ) (name : ℕ) → Fronts m → has (members m) name ≡ true
@@ -184,10 +154,6 @@ answered_own : (m : Node) (ballot : Option Ballot) → NoOwnVote m.core.who ball
 answered_own m ballot none h = record { fronts = h.fronts; leads = h.leads; vote = none }
 
 look_own : (m : Node) (b : Ballot) (v : Verdict) → Looks m b v → b.votes m.core.who ≡ None → b.given_up m.core.who ≡ false → Owned m → Owned v.node
-look_own m b v (finds_itself_out x) none stays h = answered_own m _ none h
-look_own m b v (waits x y) none stays h = answered_own m _ none h
-look_own m b v (fetches_from_best x y z) none stays h = answered_own m _ none h
-look_own m b v (finds_too_few x y) none stays h = answered_own m _ none h
 look_own m b v (finds_no_room learned) none stays h =
     let f = trimmed_fronts m _ (trims_own m b learned.needed stays) h.fronts in
     record { fronts = f; leads = h.leads; vote = none }
@@ -208,17 +174,18 @@ look_own m b v (decides may) none stays h =
       leads = λ t. ap (λ (i : Image). has (members_of i) m.core.who) (told_pushed before e) ∙ after_;
       vote = none;
     }
+look_own m b v _ none stays h = answered_own m _ none h
 
 -- ---- who doesn't lead
 
 -- a view of another name
-not_own : (m : Node) (by : ℕ) → (view m).by ≡ by → (by == m.core.who) ≡ false → is_sequencer m ≡ true → ⊥
+pub not_own : (m : Node) (by : ℕ) → (view m).by ≡ by → (by == m.core.who) ≡ false → is_sequencer m ≡ true → ⊥
 not_own m by is other t =
     let own = (and_both (acts m) ((view m).by == m.core.who) t).1 in
     let z : ⊥ = grind (arith, nat_tests) in z
 
 -- a promise above the view
-not_above_view : (m : Node) → stamp_lt (view m) m.core.promise ≡ true → is_sequencer m ≡ true → ⊥
+pub not_above_view : (m : Node) → stamp_lt (view m) m.core.promise ≡ true → is_sequencer m ≡ true → ⊥
 not_above_view m above t =
     let a = (and_both (acts m) ((view m).by == m.core.who) t).0 in
     let e = (and_both (is_member m.status) (stamp_eq m.core.promise (view m)) a).1 in
@@ -226,7 +193,7 @@ not_above_view m above t =
     let z : stamp_lt (view m) (view m) ≡ true = subst (λ s. stamp_lt (view m) s ≡ true) same above in
     let y = not_above_itself (view m) in cc
 
-promise_is : (m : Node) → is_sequencer m ≡ true → m.core.promise ≡ view m
+pub promise_is : (m : Node) → is_sequencer m ≡ true → m.core.promise ≡ view m
 promise_is m t =
     let a = (and_both (acts m) ((view m).by == m.core.who) t).0 in
     same_stamp m.core.promise (view m) (and_both (is_member m.status) (stamp_eq m.core.promise (view m)) a).1
@@ -258,13 +225,10 @@ asks_no_log : (m : Node) (s : ℕ) → (not (s == m.core.who) && (is_member m.st
     → has_log m.status ≡ false
 asks_no_log m s asks none = let k = (and_both (not (s == m.core.who)) (is_member m.status || is_asking m.status) asks).1 in asking_log m.status (rw none at k)
 
-other_asks : (m : Node) (s : ℕ) → hears_asking m s ≡ true → (s == m.core.who) ≡ false
+pub other_asks : (m : Node) (s : ℕ) → hears_asking m s ≡ true → (s == m.core.who) ≡ false
 other_asks m s h = let k = (and_both (not (s == m.core.who)) (is_member m.status || is_asking m.status) h).0 in grind arith
 
-other_member : (m : Node) (s : ℕ) → hears_member m s ≡ true → (s == m.core.who) ≡ false
-other_member m s h = let k = (and_both (not (s == m.core.who)) (is_member m.status) h).0 in grind arith
-
-stamp_by : (v : Stamp) (s : ℕ) → (v.by == s) ≡ true → v.by ≡ s
+pub stamp_by : (v : Stamp) (s : ℕ) → (v.by == s) ≡ true → v.by ≡ s
 stamp_by v s h = grind (arith, nat_tests)
 
 -- a fetched View is of another name
@@ -273,26 +237,26 @@ fetched_view : (m : Node) (s : ℕ) (v : Stamp) (stamp : Stamp) (names : List �
 fetched_view m s v stamp names resilience (without_ballot none own past) other same = let a = stamp_by v s own in let b = ap (λ (x : Stamp). x.by) same in
     grind (arith, nat_tests)
 fetched_view m s v stamp names resilience (for_ballot b open_ from past) other same = absurd (
-    let t : stamp_eq stamp v ≡ true = subst (λ x. stamp_eq stamp x ≡ true) same (same_is_equal stamp) in
+    let t : stamp_eq stamp v ≡ true = subst (λ x. stamp_eq stamp x ≡ true) same (stamp_itself stamp) in
     split (stamp_lt v stamp) (λ u. let p = rw u at past in cc) (λ u. let p = rw (u, t) at past in cc))
 
 -- and no fetched entry makes a sequencer
-fetch_follows : (m : Node) (s : ℕ) (v : Stamp) (base : ℕ) (e : Entry) → Fetches m s v e → (s == m.core.who) ≡ false → stamp_eq v m.core.promise ≡ true
+pub fetch_follows : (m : Node) (s : ℕ) (v : Stamp) (base : ℕ) (e : Entry) → Fetches m s v e → (s == m.core.who) ≡ false → stamp_eq v m.core.promise ≡ true
     → stamp_eq (view m) v ≡ false → is_sequencer (push_entry (trim_up_to m base) e) ≡ true → ⊥
 fetch_follows m s v base (Data from req body) why other same below t =
     let p = promise_is (push_entry (trim_up_to m base) (Data from req body)) t ∙ view_pushed (trim_up_to m base) (Data from req body) refl in
     let z : stamp_eq (view m) v ≡ true = subst (λ x. stamp_eq x v
-    ≡ true) p (subst (λ x. stamp_eq m.core.promise x ≡ true) (sym (same_stamp v m.core.promise same)) (same_is_equal m.core.promise)) in
+    ≡ true) p (subst (λ x. stamp_eq m.core.promise x ≡ true) (sym (same_stamp v m.core.promise same)) (stamp_itself m.core.promise)) in
     cc
 fetch_follows m s v base (Join name) why other same below t =
     let p = promise_is (push_entry (trim_up_to m base) (Join name)) t ∙ view_pushed (trim_up_to m base) (Join name) refl in
     let z : stamp_eq (view m) v ≡ true = subst (λ x. stamp_eq x v
-    ≡ true) p (subst (λ x. stamp_eq m.core.promise x ≡ true) (sym (same_stamp v m.core.promise same)) (same_is_equal m.core.promise)) in
+    ≡ true) p (subst (λ x. stamp_eq m.core.promise x ≡ true) (sym (same_stamp v m.core.promise same)) (stamp_itself m.core.promise)) in
     cc
 fetch_follows m s v base (Leave name) why other same below t =
     let p = promise_is (push_entry (trim_up_to m base) (Leave name)) t ∙ view_pushed (trim_up_to m base) (Leave name) refl in
     let z : stamp_eq (view m) v ≡ true = subst (λ x. stamp_eq x v
-    ≡ true) p (subst (λ x. stamp_eq m.core.promise x ≡ true) (sym (same_stamp v m.core.promise same)) (same_is_equal m.core.promise)) in
+    ≡ true) p (subst (λ x. stamp_eq m.core.promise x ≡ true) (sym (same_stamp v m.core.promise same)) (stamp_itself m.core.promise)) in
     cc
 fetch_follows m s v base (View stamp names resilience) why other same below t =
     let n = push_entry (trim_up_to m base) (View stamp names resilience) in
@@ -343,7 +307,6 @@ change_owned c o m n heard own k blanked (admits s v is leads fit) h =
 change_owned c o m n heard own k blanked (numbers e leads room why) h =
     let z = numbered c m e why h.fronts (h.leads leads) in
     record { fronts = pushed_fronts m e z.fit h.fronts; leads = λ t. z.member; vote = h.vote }
-change_owned c o m n heard own k blanked (keeps_body s v report req body is by) h = record { fronts = h.fronts; leads = h.leads; vote = h.vote }
 change_owned c o m n heard own k blanked (notes s v base acc by from) h =
     let f = h.fronts in
     let kept = f.kept in
@@ -393,7 +356,7 @@ change_owned c o m n heard own k blanked (fetches s v base number e is by promis
     let f = trimmed_fronts m base may.taken h.fronts in
     record {
       fronts = pushed_fronts (trim_up_to m base) e (any_fits (image_of m) e may.fits) f;
-      leads = λ t. absurd (fetch_follows m s v base e why (other_member m s by) promise below t);
+      leads = λ t. absurd (fetch_follows m s v base e why (other_heard m s by) promise below t);
       vote = h.vote;
     }
 change_owned c o m n heard own k blanked (stores_view s v base number names resilience is by whose other promise below may) h =
@@ -404,8 +367,6 @@ change_owned c o m n heard own k blanked (stores_view s v base number names resi
       leads = λ t. absurd (not_own n v.by (ap (λ (x : Stamp). x.by) (view_last (trim_up_to m base) v names resilience)) other t);
       vote = h.vote;
     }
-change_owned c o m n heard own k blanked (queues body is says member stays few) h = record { fronts = h.fronts; leads = h.leads; vote = h.vote }
-change_owned c o m n heard own k blanked (collects req is) h = record { fronts = h.fronts; leads = h.leads; vote = h.vote }
 change_owned c o m n heard own k blanked (takes e is says member some there) h =
     let f = h.fronts in
     let low = f.base in
@@ -420,14 +381,12 @@ change_owned c o m n heard own k blanked (takes e is says member some there) h =
         base = omega arith;
         given = omega arith;
         accepted = f.accepted;
-        reported =
-            omega arith;
+        reported = omega arith;
       };
       leads = h.leads;
       vote = h.vote;
     }
 change_owned c o m n heard own k blanked (asks_to_join is was) h = record { fronts = h.fronts; leads = λ t. absurd (cc); vote = h.vote }
-change_owned c o m n heard own k blanked (asks_to_leave is was stays done) h = record { fronts = h.fronts; leads = h.leads; vote = h.vote }
 change_owned c o m n heard own k blanked (closes leads leaves alone room) h =
     let e = Leave m.core.who in
     let p = push_entry m e in
@@ -438,3 +397,4 @@ change_owned c o m n heard own k blanked (closes leads leaves alone room) h =
       leads = λ t. absurd (cc);
       vote = subst (NoOwnVote (refresh_at_end p).core.who) (sym r.rests.ballot) (subst (λ w. NoOwnVote w m.ballot) (sym r.rests.who) h.vote);
     }
+change_owned c o m n heard own k blanked _ h = record { fronts = h.fronts; leads = h.leads; vote = h.vote }

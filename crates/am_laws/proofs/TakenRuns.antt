@@ -1,40 +1,13 @@
 -- In each run no node trims more than its own application has taken.
-use Rattle.std.proofs.Common.{◌≡◌, ℕ, ◌+◌, ◌<◌, ◌==◌, true, List, slice_index, subst, arith}
-use Rattle.std.specs.Prelude.{All}
-use Rattle.std.proofs.lemmas.Bool.Decides.{nat_tests}
-use Rattle.std.proofs.lemmas.List.Elements.{All-nil, All-append, All-weaker}
-use Rattle.am_base.specs.declared.outcome.Outcome.{Outcome}
-use Rattle.am_base.specs.Founding.{Rules, MayFound}
-use Rattle.am_base.specs.Names.{place_of, life_of, has}
-use Rattle.am_base.specs.Lists.{fold}
-use Rattle.am_packet.specs.declared.packet.Packet.{Packet}
-use Rattle.am_packet.specs.Boxes.{Letter}
-use Rattle.am_core.proofs.Lives.{used_fold}
-use Rattle.am_group.specs.declared.event.Event.{Event}
-use Rattle.am_model.specs.Node.{Node, founder, stranger, founding_stamp}
-use Rattle.am_play.specs.World.{World, start, with_step, run}
-use Rattle.am_play.specs.Claims.{heard_by}
-use Rattle.am_base.proofs.Greatest.{split}
-use Rattle.am_effects.specs.Causes.{Cause}
-use Rattle.am_effects.specs.Letters.{Says, welcome}
-use Rattle.am_effects.specs.Letters.{LetterSays}
-use Rattle.am_effects.specs.Changes.{Changes, unchanged as no_change, changed}
-use Rattle.am_effects.specs.Events.{actor, WasSentTo, IsCause}
-use Rattle.am_effects.proofs.Items.{all_item}
-use Rattle.am_effects.proofs.Runs.{EachKeeps, StepsKeep, SameParts, law_keeps, runs_keep}
-use Rattle.am_bounded.proofs.Kept.{Keeps}
-use Rattle.am_bounded.proofs.Changes.{kept_change}
-use Rattle.am_bounded.proofs.Runs.{kept_founder, kept_stranger}
-use Rattle.am_laws.specs.Taken.{TakenHolds}
-use Rattle.am_core.proofs.Lives.{JoinsFit}
-use Rattle.am_laws.proofs.LeaderRows.{first_member, used_blank}
-use Rattle.am_laws.proofs.Named.{few_names}
-use Rattle.am_laws.proofs.ViewNames.{HasNames, HeardNames, change_names}
-use Rattle.am_laws.proofs.ViewChanges.{Balloted, change_does}
-use Rattle.am_laws.proofs.Views.{heard_names, views_start}
-use Rattle.am_laws.proofs.Blank.{Blanked, change_blank, AllBlank, each_blank, first_blank}
-use Rattle.am_laws.proofs.Trims.{Fronts, Owned, WelcomeUsed}
-use Rattle.am_laws.proofs.Taken.{HeardUsed, change_owned}
+use Rattle.am_laws.proofs.Words.{◌≡◌, ℕ, ◌+◌, ◌<◌, ◌==◌, true, List, slice_index, subst, arith, All, nat_tests, All-nil, All-append, All-weaker, Outcome}
+use Rattle.am_laws.proofs.Words.{Rules, MayFound, place_of, life_of, has, fold, Packet, Letter, used_fold, Event, Node, founder, stranger, founding_stamp}
+use Rattle.am_laws.proofs.Words.{World, start, with_step, run, heard_by, split, Cause, Says, welcome, LetterSays, Changes, no_change, changed, actor}
+use Rattle.am_laws.proofs.Words.{WasSentTo, IsCause, all_item, EachKeeps, StepsKeep, SameParts, law_keeps, runs_keep, Keeps, kept_change, kept_founder}
+use Rattle.am_laws.proofs.Words.{kept_stranger, TakenHolds, JoinsFit}
+use Rattle.am_laws.proofs.{LeaderRows.first_member, LeaderRows.used_blank, Named.few_names, ViewNames.HasNames, ViewNames.HeardNames, ViewNames.change_names}
+use Rattle.am_laws.proofs.{ViewChanges.Balloted, ViewChanges.change_does, Views.heard_names, Views.views_start, Blank.Blanked, Blank.change_blank}
+use Rattle.am_laws.proofs.{Blank.AllBlank, Blank.each_blank, Blank.first_blank, Trims.Fronts, Trims.Owned, Trims.WelcomeUsed, Taken.HeardUsed}
+use Rattle.am_laws.proofs.{Taken.change_owned}
 
 -- ---- what is so of each node along a step
 
@@ -128,8 +101,7 @@ founder_owned rules name there =
         base = omega arith;
         given = omega arith;
         accepted = omega arith;
-        reported =
-            rw there (omega arith);
+        reported = rw there (omega arith);
       };
       leads = λ t. first_member (founding_stamp rules) rules.founders rules.resilience name given;
       vote = tt;
@@ -145,8 +117,7 @@ stranger_owned rules name = record {
     base = omega arith;
     given = omega arith;
     accepted = omega arith;
-    reported =
-        omega arith;
+    reported = omega arith;
   };
   leads = λ t. absurd (cc);
   vote = tt;

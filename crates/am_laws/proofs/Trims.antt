@@ -1,31 +1,13 @@
 -- What a node keeps of its numbers and its list: it trims no more than its own application has taken, through a refresh and through its end.
-use Rattle.std.proofs.Common.{◌≡◌, ⊎_elim, ℕ, zero, suc, ◌+◌, ◌-◌, ◌<◌, ◌≤◌, ◌==◌, max, min, nat_lt, Bool, true, false, if◌then◌else◌, List, [], ◌∷◌, length}
-use Rattle.std.proofs.Common.{set, Option, Some, None, refl, sym, ap, ◌∙◌, subst, arith, length-append}
-use Rattle.std.proofs.lemmas.Bool.{cases_lt}
-use Rattle.std.proofs.lemmas.Bool.Decides.{nat_tests}
-use Rattle.std.proofs.lemmas.List.{map-set}
-use Rattle.am_base.specs.declared.entry.Entry.{Entry}
-use Rattle.am_base.specs.declared.entry.Entry.TheVariants.{Leave}
-use Rattle.am_base.specs.declared.image.Report.{Report}
-use Rattle.am_base.specs.declared.image.Image.{Image}
-use Rattle.am_base.specs.Names.{place_of, life_of, has, size, names_from, names_of}
-use Rattle.am_base.specs.Lists.{Log, member_life, top_of, told_by, members_at, members_of, at_place, after}
-use Rattle.am_packet.specs.declared.packet.Packet.{Packet}
+use Rattle.am_laws.proofs.Words.{passed, has_in, ◌≡◌, ⊎_elim, ℕ, zero, suc, ◌+◌, ◌-◌, ◌<◌, ◌≤◌, ◌==◌, max, nat_lt, Bool, true, false, if◌then◌else◌, List, []}
+use Rattle.am_laws.proofs.Words.{◌∷◌, length, set, Option, Some, None, refl, sym, ap, ◌∙◌, subst, arith, length-append, cases_lt, nat_tests, map-set, Entry}
+use Rattle.am_laws.proofs.Words.{Leave, Report, Image, place_of, life_of, has, size, names_from, names_of, Log, member_life, top_of, told_by, members_at}
+use Rattle.am_laws.proofs.Words.{members_of, at_place, after, Packet, CoreState, accept, pass_over, unions, since_accepted, image-top, image-push, IsUsed}
+use Rattle.am_laws.proofs.Words.{row_at, used_fold, member_row, leave_life, least_of, least_taken, own_report, tell, go_on, let_go, count_cons, mod16, Node}
+use Rattle.am_laws.proofs.Words.{Ballot, top, image_of, members, others, is_sequencer, push_entry, trim_up_to, advance, lead, refresh, settle, refresh_at_end}
+use Rattle.am_laws.proofs.Words.{split, settle_is, told_pushed, JoinFits, JoinsFit}
 use Rattle.am_packet.specs.declared.packet.Packet.TheVariants as packet
-use Rattle.am_core.specs.Cores.{CoreState, accept, pass_over, unions, since_accepted}
-use Rattle.am_core.proofs.Ends.{image-top, image-push}
-use Rattle.am_core.proofs.Lives.{IsUsed, row_at, used_fold, member_row, leave_life}
-use Rattle.am_fronts.specs.Reports.{least_of, least_taken}
-use Rattle.am_fronts.specs.Refresh.{base_after, own_report, tell, go_on, let_go}
-use Rattle.am_fronts.proofs.ReportLaws.{count_cons}
-use Rattle.am_chain_lists.proofs.Rows.{mod16}
-use Rattle.am_model.specs.Node.{Node, Ballot, top, image_of, members, others, is_sequencer, push_entry, trim_up_to}
-use Rattle.am_model.specs.Refresh.{advance, lead, refresh, settle, refresh_at_end}
-use Rattle.am_base.proofs.Greatest.{split}
-use Rattle.am_effects.proofs.Rests.{settle_is}
-use Rattle.am_effects.proofs.Says.{told_pushed}
-use Rattle.am_core.proofs.Lives.{JoinFits, JoinsFit}
-use Rattle.am_laws.proofs.LeaderRows.{joins_push, is_in, least_within}
+use Rattle.am_laws.proofs.{Counts.over_acc, Counts.base_low, Counts.base_above, LeaderRows.joins_push, LeaderRows.least_within}
 
 -- ---- what a node has
 
@@ -104,20 +86,6 @@ member_leads m h member = record {
       least_within reports c (top_of c.log) to used joins low high (omega arith) at (member_row (told_by c.log) c.who told_is here) own least);
 }
 
-base_within : (taken base : ℕ) (least : Option ℕ) → base ≤ taken → ((to : ℕ) → least ≡ Some to → to ≤ taken) → base_after least base ≤ taken
-base_within taken base None low h = low
-base_within taken base (Some to) low h = let t = h to refl in omega arith
-
-base_up : (start base : ℕ) (least : Option ℕ) → start ≤ base → start ≤ base_after least base
-base_up start base None h = h
-base_up start base (Some to) h = omega arith
-
-passed_up : (taken acc start : ℕ) → taken ≤ (if nat_lt taken (start - 1) then max taken (min acc (start - 1)) else taken)
-passed_up taken acc start = split (nat_lt taken (start - 1)) (λ t. rw t (omega arith)) (λ f. rw f (omega arith))
-
-passed_low : (taken acc start : ℕ) → taken ≤ acc → (if nat_lt taken (start - 1) then max taken (min acc (start - 1)) else taken) ≤ acc
-passed_low taken acc start h = split (nat_lt taken (start - 1)) (λ t. rw t (omega arith)) (λ f. rw f h)
-
 -- a name's own report
 own_reported : (reports : ℕ → Report) (who stored taken : ℕ) → (reports who).taken ≤ taken
     → (if who == who then record { stored = max (reports who).stored stored; taken = max (reports who).taken taken } else reports who).taken ≤ taken
@@ -129,14 +97,14 @@ lead_fronts m leads h =
     let c = (lead m).core in
     let base = h.base in let kept = h.kept in let given = h.given in let accepted = h.accepted in
     let first = own_reported m.reports m.core.who (top m) m.core.taken h.reported in
-    let up = passed_up m.core.taken c.acc m.core.start in
-    let low = passed_low m.core.taken c.acc m.core.start (omega arith) in
+    let up = passed m.core.taken c.acc m.core.start in
+    let low = over_acc m.core.taken c.acc m.core.start (omega arith) in
     let second = own_reported (own_report (record { core = m.core; reports = m.reports })).reports m.core.who (top m) c.taken (omega arith) in
     record {
       used = h.used;
       joins = h.joins;
-      kept = base_up m.core.log.start m.core.base _ h.kept;
-      base = base_within c.taken m.core.base _ (omega arith)
+      kept = base_above m.core.log.start m.core.base _ h.kept;
+      base = base_low c.taken m.core.base _ (omega arith)
           (λ to is. leads.least (lead m).reports (record c { base = m.core.base }) to refl refl (omega arith) (omega arith) second is);
       given = low;
       accepted = omega arith;
@@ -148,13 +116,13 @@ unfolding accept pass_over
 advance_fronts m h =
     let c = (advance m).core in
     let base = h.base in let kept = h.kept in let given = h.given in let accepted = h.accepted in let reported = h.reported in
-    let up = passed_up m.core.taken c.acc m.core.start in
+    let up = passed m.core.taken c.acc m.core.start in
     record {
       used = h.used;
       joins = h.joins;
       kept = h.kept;
       base = omega arith;
-      given = passed_low m.core.taken c.acc m.core.start (omega arith);
+      given = over_acc m.core.taken c.acc m.core.start (omega arith);
       accepted = omega arith;
       reported = omega arith;
     }
@@ -176,7 +144,7 @@ closed_row : (image : Image) (n name : ℕ) → 0 < n → length image.rows ≡ 
     → members_of (after image n (Leave name)) ≡ set (members_of image) (place_of name) 0
 unfolding after
 closed_row image n name up long member =
-    let is = is_in image name long member in
+    let is = has_in image name long member in
     let alive : ((at_place image name).life == life_of name) ≡ true = let l = is.is in grind (arith, nat_tests) in
     let none : member_life (record (at_place image name) { left = n }) ≡ 0 = grind (arith, nat_tests) in
     rw alive (map-set member_life image.rows (place_of name) (record (at_place image name) { left = n }) ∙ ap (set (members_of image) (place_of name)) none)

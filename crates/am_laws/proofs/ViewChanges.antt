@@ -1,36 +1,18 @@
 -- What changes do to views, to lists and to ballots: an open ballot is above the view, and is what was promised.
-use Rattle.std.proofs.Common.{◌≡◌, ℕ, ◌+◌, ◌<◌, ◌==◌, ◌&&◌, ◌||◌, not, max, nat_lt, Bool, true, false, List, Option, Some, None, refl, sym, ap, ◌∙◌, subst}
-use Rattle.std.proofs.Common.{arith}
-use Rattle.std.proofs.lemmas.Bool.Decides.{nat_tests}
-use Rattle.am_base.specs.declared.outcome.Outcome.{Outcome}
-use Rattle.am_base.specs.declared.name.Stamp.{Stamp}
-use Rattle.am_base.specs.declared.image.Image.{Image}
-use Rattle.am_base.specs.declared.entry.Entry.{Entry}
-use Rattle.am_base.specs.declared.entry.Entry.TheVariants.{Data, Join, Leave, View}
-use Rattle.am_base.specs.Stamps.{stamp_lt, stamp_eq}
-use Rattle.am_base.specs.Lists.{Log, fits, fold, told_by}
+use Rattle.am_laws.proofs.Words.{logged, same_stamp, and_right, and_left, ◌≡◌, ℕ, ◌+◌, ◌<◌, ◌==◌, ◌&&◌, ◌||◌, not, max, nat_lt, Bool, true, false, List}
+use Rattle.am_laws.proofs.Words.{Option, Some, None, refl, sym, ap, ◌∙◌, subst, arith, nat_tests, Outcome, Stamp, Image, Entry, Data, Join, Leave, View}
+use Rattle.am_laws.proofs.Words.{stamp_lt, stamp_eq, Log, fits, fold, told_by, Status, Node, Ballot, image_of, view, acts, is_sequencer, is_member, is_asking}
+use Rattle.am_laws.proofs.Words.{push_entry, trim_up_to, has_log, Verdict, overtake, need_of, left_in, trim_for, next_stamp, is_unfinished, is_view, refresh}
+use Rattle.am_laws.proofs.Words.{hears_member, hears_in_view, hears_sequencer, split, Cause, HasOpen, Balloting, with_more, without_one, as_it_is, Looks}
+use Rattle.am_laws.proofs.Words.{finds_itself_out, waits, fetches_from_best, finds_too_few, finds_no_room, decides, Numbers, asked_send, own_send, asked_join}
+use Rattle.am_laws.proofs.Words.{asked_leave, Fetches, without_ballot, for_ballot, MayBeWelcomed, Change, refreshes, settles, numbers, stores, begins_list}
+use Rattle.am_laws.proofs.Words.{departs, promises, opens, looks, fetches, stores_view, asks_to_join, closes, Changes, unchanged, changed, or_first}
+use Rattle.am_laws.proofs.Words.{or_second, view_pushed, rests_refresh, rests_at_end, settle_is}
 use Rattle.am_packet.specs.declared.packet.Packet.TheVariants as packet
-use Rattle.am_model.specs.declared.status.Status.{Status}
 use Rattle.am_model.specs.declared.status.Status.TheVariants as status
-use Rattle.am_model.specs.Node.{Node, Ballot, image_of, view, acts, is_sequencer, is_member, is_asking, push_entry, trim_up_to, has_log}
-use Rattle.am_model.specs.Ballots.{Verdict, overtake, need_of, left_in, trim_for, next_stamp}
-use Rattle.am_model.specs.Calls.{is_unfinished}
-use Rattle.am_model.specs.Receiving.{is_view}
-use Rattle.am_model.specs.Refresh.{refresh}
-use Rattle.am_model.specs.Hearing.{hears_member, hears_in_view, hears_sequencer}
-use Rattle.am_base.proofs.Greatest.{split}
-use Rattle.am_effects.specs.Causes.{Cause}
-use Rattle.am_effects.specs.Looks.{HasOpen, Balloting, with_more, without_one, as_it_is, Looks, finds_itself_out, waits, fetches_from_best, finds_too_few}
-use Rattle.am_effects.specs.Looks.{finds_no_room, decides}
-use Rattle.am_effects.specs.Changes.{Numbers, asked_send, own_send, asked_join, asked_leave, Fetches, without_ballot, for_ballot, MayBeWelcomed, Change}
-use Rattle.am_effects.specs.Changes.{refreshes, settles, numbers, stores, begins_list, departs, promises, opens, looks}
-use Rattle.am_effects.specs.Changes.{fetches, stores_view, asks_to_join, closes, Changes, unchanged, changed}
-use Rattle.am_effects.proofs.Tests.{or_first, or_second}
-use Rattle.am_effects.proofs.Says.{view_pushed}
-use Rattle.am_effects.proofs.Rests.{rests_refresh, rests_at_end, settle_is}
-use Rattle.am_laws.proofs.Stamps.{at_most, at_most_below, not_above, not_above_itself, same_stamp, equal_stamps, strictly}
 use Rattle.am_laws.proofs.ViewNames.{ViewNamed, HasNames, HeardNames, change_names, promised_named}
 use Rattle.am_laws.proofs.ViewSteps.{Goes, goes_to, goes_then, view_last, goes_view, goes_fit, goes_plain}
+use Rattle.am_laws.proofs.Stamps.{at_most, at_most_below, not_above, not_above_itself, equal_stamps, strictly}
 
 -- ---- what ballots keep
 
@@ -93,26 +75,14 @@ numbers_plain c m e (asked_leave s v report is other known stays) = refl
 
 -- ---- who has a list
 
-pub log_of_member : (s : Status) → is_member s ≡ true → has_log s ≡ true
-log_of_member status.Stranger h = absurd (cc)
-log_of_member status.Asking h = absurd (cc)
-log_of_member status.Member h = refl
-log_of_member status.Departed h = absurd (cc)
-
-none_of_asking : (s : Status) → is_member s ≡ false → (is_member s || is_asking s) ≡ true → has_log s ≡ false
-none_of_asking status.Stranger f h = absurd (cc)
+pub none_of_asking : (s : Status) → is_member s ≡ false → (is_member s || is_asking s) ≡ true → has_log s ≡ false
 none_of_asking status.Asking f h = refl
-none_of_asking status.Member f h = absurd (cc)
-none_of_asking status.Departed f h = absurd (cc)
-
-second : (a b : Bool) → (a && b) ≡ true → b ≡ true
-second true b h = h
-second false b h = absurd (cc)
+none_of_asking _ f h = absurd (cc)
 
 -- who is welcomed has no list, and no ballot
-welcomed_none : (m : Node) (s : ℕ) (v : Stamp) (base join : ℕ) (image : Image) → MayBeWelcomed m s v base join image → has_log m.status ≡ false
+pub welcomed_none : (m : Node) (s : ℕ) (v : Stamp) (base join : ℕ) (image : Image) → MayBeWelcomed m s v base join image → has_log m.status ≡ false
 welcomed_none m s v base join image may = none_of_asking m.status may.no_member
-    (second (not (s == m.core.who)) (is_member m.status || is_asking m.status) may.asks)
+    (and_right (not (s == m.core.who)) (is_member m.status || is_asking m.status) may.asks)
 
 -- whoever has a ballot has a list
 ballot_log : (m : Node) (b : Ballot) → m.ballot ≡ Some b → Balloted m → has_log m.status ≡ true
@@ -145,7 +115,7 @@ pub record LooksAt (m : Node) (b : Ballot) : Type 0 where
   pub has_list : has_log m.status ≡ true
   pub open_ : IsOpen m.core.who m.core.promise (view m) b
 
-of_open : (m : Node) (b : Ballot) → HasOpen m b → Balloted m → IsOpen m.core.who m.core.promise (view m) b
+pub of_open : (m : Node) (b : Ballot) → HasOpen m b → Balloted m → IsOpen m.core.who m.core.promise (view m) b
 of_open m b o h = subst (OpenBallot m.core.who m.core.promise (view m)) o.last h.opened o.open_
 
 pub looked_at : {c : Cause} (m : Node) (b : Ballot) → Balloting c m b → Balloted m → LooksAt m b
@@ -179,8 +149,7 @@ look_does m b v (finds_no_room x) l h =
     record {
       goes = λ t. goes_to m.core.log m.core.log refl;
       log_ = λ t. t;
-      balloted =
-          record { high = h.high; none = λ f. absurd (let t = l.has_list in cc); opened = λ x. absurd (cc) };
+      balloted = record { high = h.high; none = λ f. absurd (let t = l.has_list in cc); opened = λ x. absurd (cc) };
     }
 look_does m b v (decides may) l h =
     let names = left_in b (need_of m b) in
@@ -275,26 +244,22 @@ does_result m v base names resilience is other fit h =
 
 -- ---- each change
 
-first_of : (a b : Bool) → (a && b) ≡ true → a ≡ true
-first_of true b h = refl
-first_of false b h = absurd (cc)
-
 -- who acts has a list
 pub leads_member : (m : Node) → is_sequencer m ≡ true → is_member m.status ≡ true
-leads_member m h = first_of (is_member m.status) (stamp_eq m.core.promise (view m)) (first_of (acts m) ((view m).by == m.core.who) h)
+leads_member m h = and_left (is_member m.status) (stamp_eq m.core.promise (view m)) (and_left (acts m) ((view m).by == m.core.who) h)
 
 pub member_of : (m : Node) (s : ℕ) → (not (s == m.core.who) && is_member m.status) ≡ true → has_log m.status ≡ true
-member_of m s h = log_of_member m.status (second (not (s == m.core.who)) (is_member m.status) h)
+member_of m s h = logged m.status (and_right (not (s == m.core.who)) (is_member m.status) h)
 
 pub in_view_log : (m : Node) (s : ℕ) (v : Stamp) → hears_sequencer m s v ≡ true → has_log m.status ≡ true
-in_view_log m s v h = member_of m s (first_of (hears_member m s) (acts m && stamp_eq v (view m)) (first_of (hears_in_view m s v) (v.by == s) h))
+in_view_log m s v h = member_of m s (and_left (hears_member m s) (acts m && stamp_eq v (view m)) (and_left (hears_in_view m s v) (v.by == s) h))
 
 pub change_does : {c : Cause} {o : Outcome} → HeardNames c → (m n : Node) → Change c o m n → HasNames m → Balloted m → Does m n
 unfolding fold
 change_does heard m n refreshes k h = let r = rests_refresh m in does_same m (refresh m) r.rests.who r.rests.status r.rests.promise r.log r.rests.ballot h
 change_does heard m n settles k h = subst (Does m) (sym (settle_is m)) (does_same m _ refl refl refl refl refl h)
 change_does heard m n (numbers e leads room why) k h = does_plain m n e (numbers_plain _ m e why) refl
-    (log_of_member m.status (leads_member m leads)) refl refl refl h
+    (logged m.status (leads_member m leads)) refl refl refl h
 change_does heard m n (stores s v base acc number e by from plain may) k h = does_plain m n e plain refl (in_view_log m s v from) refl refl refl h
 change_does heard m n (begins_list s v base join image is o may) k h =
     let without = welcomed_none m s v base join image may in
@@ -329,7 +294,7 @@ change_does heard m n (opens least resilience by may) k h =
       log_ = λ t. t;
       balloted = record {
         high = at_most (view m) m.core.promise next h.high (not_above m.core.promise next above);
-        none = λ f. absurd (let t = log_of_member m.status may.member in cc);
+        none = λ f. absurd (let t = logged m.status may.member in cc);
         opened = λ over. record { above = at_most_below (view m) m.core.promise next h.high above; promised = refl; own = refl };
       };
     }

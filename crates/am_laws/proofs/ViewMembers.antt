@@ -1,28 +1,10 @@
 -- The members after a send, and after a View of some of them.
-use Rattle.std.proofs.Common.{◌≡◌, ◌⊎◌, inl, inr, ⊎_elim, ℕ, ◌<◌, ◌==◌, ◌&&◌, not, nat_lt, Bool, true, false, List, length, set, get_or, slice_index, refl, sym}
-use Rattle.std.proofs.Common.{ap, ◌∙◌, arith}
-use Rattle.std.proofs.lemmas.Bool.Decides.{nat_tests}
-use Rattle.std.proofs.lemmas.List.{map-set, set-get_or, ext_get_or, length-map}
-use Rattle.am_base.specs.declared.entry.Entry.TheVariants.{Data, View}
-use Rattle.am_base.specs.declared.image.Row.{Row}
-use Rattle.am_base.specs.declared.image.Image.{Image}
-use Rattle.am_base.specs.declared.name.Stamp.{Stamp}
-use Rattle.am_base.specs.Names.{place_of, life_of, name_at}
-use Rattle.am_base.specs.Lists.{is_blank, at_place, member_life, members_of, row_after_view, after}
-use Rattle.am_base.proofs.Places.{slice_index-by_place, length-by_place}
-use Rattle.am_core.proofs.Lives.{row_at, member_at}
-use Rattle.am_chain_lists.proofs.Rows.{mod16, row_view, long_after, blank_joined}
-use Rattle.am_model.specs.Node.{name_where, those}
-use Rattle.am_base.proofs.Greatest.{split}
+use Rattle.am_laws.proofs.Words.{index_members, ◌≡◌, ◌⊎◌, inl, inr, ⊎_elim, ℕ, ◌<◌, ◌==◌, ◌&&◌, not, nat_lt, Bool, true, false, List, length, set, get_or}
+use Rattle.am_laws.proofs.Words.{slice_index, refl, sym, ap, ◌∙◌, arith, nat_tests, map-set, set-get_or, ext_get_or, length-map, Data, View, Row, Image}
+use Rattle.am_laws.proofs.Words.{Stamp, place_of, life_of, name_at, is_blank, at_place, member_life, members_of, row_after_view, after, slice_index-by_place}
+use Rattle.am_laws.proofs.Words.{length-by_place, row_at, mod16, row_view, long_after, blank_joined, name_where, those, split}
 
 -- ---- members, place by place
-
-pub members_at : (image : Image) (place : ℕ) → length image.rows ≡ 16 → place < 16 → slice_index (members_of image) place ≡ member_life (row_at image place)
-members_at image place long low = member_at image place (omega arith)
-
--- a send changes none of them
-same_life : (r : Row) (req : ℕ) → member_life (record r { last = req }) ≡ member_life r
-same_life r req = refl
 
 pub data_members : (image : Image) (n from req : ℕ) (body : List ℕ) → length image.rows ≡ 16
     → members_of (after image n (Data from req body)) ≡ members_of image
@@ -30,7 +12,7 @@ unfolding after
 data_members image n from req body long = split ((at_place image from).life == life_of from)
     (λ t.
     let low = mod16 from in
-    let same : member_life (at_place image from) ≡ get_or (members_of image) (place_of from) 0 = sym (members_at image (place_of from) long low) in
+    let same : member_life (at_place image from) ≡ get_or (members_of image) (place_of from) 0 = sym (index_members image (place_of from) long low) in
     rw t (map-set member_life image.rows (place_of from) (record (at_place image from) { last = req }) ∙ ap (set (members_of image) (place_of from)) same
     ∙ set-get_or (members_of image) (place_of from) 0))
     (λ f. rw f refl)
@@ -71,8 +53,8 @@ viewed_members image n stamp names resilience long up sixteen some =
     let is = row_view image n stamp names resilience place few in
     let why : (slice_index names place ≡ 0) ⊎ (slice_index names place ≡ member_life (row_at image place)) =
     ⊎_elim (λ (z : slice_index names place ≡ 0). inl z) (λ (z : slice_index names place ≡ slice_index (members_of image) place). inr (z
-    ∙ members_at image place long few)) (some place few) in
-    members_at next place longer few ∙ ap member_life is ∙ any_life (is_blank image) n (slice_index names place) (row_at image place) up
+    ∙ index_members image place long few)) (some place few) in
+    index_members next place longer few ∙ ap member_life is ∙ any_life (is_blank image) n (slice_index names place) (row_at image place) up
     (λ t. blank_joined image place t) why))
 
 -- those that pass are some of the set

@@ -1,31 +1,11 @@
 -- The names of the Views that stand in lists, and of ballots.
-use Rattle.std.proofs.Common.{◌≡◌, ℕ, ◌<◌, ◌&&◌, not, false, List, [], ◌∷◌, ◌++◌, Option, Some, None, sym, subst, arith}
-use Rattle.std.specs.Prelude.{All}
-use Rattle.std.proofs.lemmas.Bool.Decides.{nat_tests}
-use Rattle.std.proofs.lemmas.List.Elements.{All-nil, All-cons, All-append}
-use Rattle.am_base.specs.declared.outcome.Outcome.{Outcome}
-use Rattle.am_base.specs.declared.name.Stamp.{Stamp}
-use Rattle.am_base.specs.declared.entry.Entry.{Entry}
-use Rattle.am_base.specs.declared.entry.Entry.TheVariants.{Data, Join, Leave, View}
-use Rattle.am_base.specs.Stamps.{stamp_lt}
-use Rattle.am_packet.specs.declared.packet.Packet.{Packet}
+use Rattle.am_laws.proofs.Words.{◌≡◌, ℕ, ◌<◌, ◌&&◌, not, false, List, [], ◌∷◌, ◌++◌, Option, Some, None, sym, subst, arith, All, nat_tests, All-nil, All-cons}
+use Rattle.am_laws.proofs.Words.{All-append, Outcome, Stamp, Entry, Leave, View, stamp_lt, Packet, Node, Ballot, push_entry, Verdict, overtake, is_view}
+use Rattle.am_laws.proofs.Words.{refresh, refresh_at_end, split, Cause, hears, HasOpen, Balloting, with_more, without_one, as_it_is, Looks, decides, Says}
+use Rattle.am_laws.proofs.Words.{piece, Promises, invited, overtaken_by, told_result, Numbers, asked_send, own_send, asked_join, asked_leave, Change}
+use Rattle.am_laws.proofs.Words.{refreshes, settles, numbers, stores, begins_list, promises, opens, looks, fetches, stores_view, closes, all_get}
+use Rattle.am_laws.proofs.Words.{rests_refresh, rests_at_end, settle_is, sender_of, stamp_of}
 use Rattle.am_packet.specs.declared.packet.Packet.TheVariants as packet
-use Rattle.am_model.specs.Node.{Node, Ballot, push_entry}
-use Rattle.am_model.specs.Ballots.{Verdict, overtake}
-use Rattle.am_model.specs.Receiving.{is_view}
-use Rattle.am_model.specs.Refresh.{refresh, refresh_at_end}
-use Rattle.am_base.proofs.Greatest.{split}
-use Rattle.am_effects.specs.Causes.{Cause, hears}
-use Rattle.am_effects.specs.Looks.{HasOpen, Balloting, with_more, without_one, as_it_is, Looks}
-use Rattle.am_effects.specs.Looks.{decides}
-use Rattle.am_effects.specs.Letters.{Says}
-use Rattle.am_effects.specs.Letters.{piece}
-use Rattle.am_effects.specs.Changes.{Promises, invited, overtaken as overtaken_by, told_result, Numbers, asked_send, own_send, asked_join, asked_leave, Change}
-use Rattle.am_effects.specs.Changes.{refreshes, settles, numbers, stores, begins_list, promises, opens, looks}
-use Rattle.am_effects.specs.Changes.{fetches, stores_view, closes}
-use Rattle.am_effects.proofs.Items.{all_get}
-use Rattle.am_effects.proofs.Rests.{rests_refresh, rests_at_end, settle_is}
-use Rattle.am_codec.specs.Spelling.{sender_of, stamp_of}
 
 -- a View's stamp is of one of the 256 names
 abbrev pub ViewNamed : Entry → Type 0
@@ -56,10 +36,8 @@ pub record HeardNames (c : Cause) : Type 0 where
   pub stamps : (p : Packet) → c ≡ hears p → (stamp_of p).by < 256
 
 no_view : (e : Entry) → is_view e ≡ false → ViewNamed e
-no_view (Data from req body) h = tt
-no_view (Join name) h = tt
-no_view (Leave name) h = tt
 no_view (View stamp names resilience) h = absurd (cc)
+no_view _ h = tt
 
 numbers_no_view : (c : Cause) (m : Node) (e : Entry) → Numbers c m e → ViewNamed e
 numbers_no_view c m e (asked_send s v report req body by known stays next) = tt
@@ -115,8 +93,7 @@ change_names heard m n (promises v low why) h = record {
   who_ = h.who_;
   promise_ = promised_named _ m v why heard;
   entries_ = h.entries_;
-  ballot_ =
-      ballot_overtaken v m.ballot h.ballot_;
+  ballot_ = ballot_overtaken v m.ballot h.ballot_;
 }
 change_names heard m n (opens least resilience by may) h = record { who_ = h.who_; promise_ = h.who_; entries_ = h.entries_; ballot_ = h.who_ }
 change_names heard m n (looks b verdict over why look is) h = look_names m b verdict look (looked_named m b why h) h

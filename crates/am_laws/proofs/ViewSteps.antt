@@ -1,19 +1,7 @@
 -- What one change of a node does to its view and to the entries of its list.
-use Rattle.std.proofs.Common.{◌≡◌, ◌⊎◌, inl, inr, ⊎_elim, ℕ, zero, suc, ◌+◌, ◌-◌, ◌==◌, nat_le, true, false, List, [], ◌∷◌, length, Some, refl, sym, ap, ◌∙◌}
-use Rattle.std.proofs.Common.{subst, arith}
-use Rattle.am_base.specs.declared.name.Stamp.{Stamp}
-use Rattle.am_base.specs.declared.image.Image.{Image}
-use Rattle.am_base.specs.declared.entry.Entry.{Entry}
-use Rattle.am_base.specs.declared.entry.Entry.TheVariants.{Data, Join, Leave, View}
-use Rattle.am_base.specs.Names.{life_of}
-use Rattle.am_base.specs.Stamps.{stamp_lt}
-use Rattle.am_base.specs.Lists.{Log, at_place, after, fits, entry_at, told_by, with_entry}
-use Rattle.am_model.specs.Node.{Node, top, image_of, view, push_entry}
-use Rattle.am_model.specs.Receiving.{is_view}
-use Rattle.am_base.proofs.Greatest.{split}
-use Rattle.am_effects.proofs.Items.{get_front, get_last}
-use Rattle.am_effects.proofs.Says.{told_pushed}
-use Rattle.am_effects.proofs.Ballots.{entry_is}
+use Rattle.am_laws.proofs.Words.{◌≡◌, ◌⊎◌, inl, inr, ⊎_elim, ℕ, zero, suc, ◌+◌, ◌-◌, ◌==◌, nat_le, true, false, List, [], ◌∷◌, length, Some, refl, sym, ap}
+use Rattle.am_laws.proofs.Words.{◌∙◌, subst, arith, Stamp, Image, Entry, Data, Join, Leave, View, life_of, stamp_lt, Log, at_place, after, fits, entry_at}
+use Rattle.am_laws.proofs.Words.{told_by, with_entry, Node, top, image_of, view, push_entry, is_view, split, get_front, get_last, told_pushed, entry_is}
 use Rattle.am_laws.proofs.Stamps.{below, not_above}
 
 -- ---- lists

@@ -1,36 +1,15 @@
 -- A view is noted once, and its View stands at its number.
-use Rattle.std.proofs.Common.{◌≡◌, ◌⊎◌, inl, inr, ⊎_elim, ℕ, zero, suc, ◌<◌, ◌==◌, ◌&&◌, not, Bool, true, false, if◌then◌else◌, List, [], ◌∷◌, ◌++◌, length}
-use Rattle.std.proofs.Common.{Some, slice_get, refl, sym, ap, ◌∙◌, subst, arith}
-use Rattle.std.specs.Prelude.{All}
-use Rattle.std.proofs.lemmas.Bool.Decides.{nat_tests}
-use Rattle.std.proofs.lemmas.List.Elements.{All-nil, All-cons, All-append, All-weaker}
-use Rattle.am_base.specs.declared.name.Stamp.{Stamp}
-use Rattle.am_base.specs.declared.entry.Entry.TheVariants.{View}
-use Rattle.am_base.specs.Founding.{Rules, MayFound}
-use Rattle.am_base.specs.Names.{has}
-use Rattle.am_base.specs.Stamps.{stamp_lt, stamp_eq}
-use Rattle.am_base.specs.Lists.{entry_at, fold, after}
-use Rattle.am_packet.specs.declared.packet.Packet.{Packet}
-use Rattle.am_packet.specs.Boxes.{Letter}
-use Rattle.am_group.specs.declared.event.Event.{Event}
-use Rattle.am_model.specs.Node.{Node, image_of, view, set_at, is_member, founder, stranger, lowest_or_first, founders_view, has_log}
-use Rattle.am_play.specs.World.{Decided, World, start, first_node, founders_decided, last_view, decides, views_after, with_step, run}
-use Rattle.am_play.specs.Claims.{heard_by}
-use Rattle.am_base.proofs.Greatest.{split}
-use Rattle.am_effects.specs.Causes.{Cause}
-use Rattle.am_effects.specs.Letters.{Says, request}
-use Rattle.am_effects.specs.Letters.{LetterSays}
-use Rattle.am_effects.specs.Events.{actor, WasSentTo, IsCause}
-use Rattle.am_effects.proofs.Items.{all_get, all_item}
-use Rattle.am_effects.proofs.Runs.{EachKeeps, StepsKeep, SameParts, law_keeps, runs_keep}
-use Rattle.am_codec.specs.Spelling.{sender_of, stamp_of}
-use Rattle.am_laws.specs.Views.{ViewsHold}
-use Rattle.am_laws.proofs.Named.{AllNamed, each_named, few_names, start_named}
-use Rattle.am_laws.proofs.Stamps.{at_most, not_above, not_above_itself}
+use Rattle.am_laws.proofs.Words.{is_itself, logged, stamp_itself, and_both, ◌≡◌, ◌⊎◌, inl, inr, ⊎_elim, ℕ, zero, suc, ◌<◌, ◌==◌, not, Bool, true, false}
+use Rattle.am_laws.proofs.Words.{if◌then◌else◌, List, [], ◌∷◌, ◌++◌, length, Some, slice_get, refl, sym, ap, ◌∙◌, subst, arith, All, nat_tests, All-nil}
+use Rattle.am_laws.proofs.Words.{All-cons, All-append, All-weaker, Stamp, View, Rules, MayFound, has, stamp_lt, stamp_eq, entry_at, fold, after, Packet}
+use Rattle.am_laws.proofs.Words.{Letter, Event, Node, image_of, view, set_at, is_member, founder, stranger, lowest_or_first, founders_view, has_log, Decided}
+use Rattle.am_laws.proofs.Words.{World, start, first_node, founders_decided, last_view, views_after, with_step, run, heard_by, split, Cause, Says, request}
+use Rattle.am_laws.proofs.Words.{LetterSays, actor, WasSentTo, IsCause, all_get, all_item, EachKeeps, StepsKeep, SameParts, law_keeps, runs_keep, sender_of}
+use Rattle.am_laws.proofs.Words.{stamp_of, ViewsHold, first_founder}
+use Rattle.am_play.specs.World.{decides}
 use Rattle.am_laws.proofs.ViewNames.{ViewNamed, HasNames, HeardNames, PieceNamed, pieces_named}
-use Rattle.am_laws.proofs.ViewSteps.{Goes, Stood, SameView}
-use Rattle.am_laws.proofs.ViewChanges.{Balloted, Does, log_of_member, changes_do}
-use Rattle.am_model.proofs.Founders.{first_founder}
+use Rattle.am_laws.proofs.{ViewChanges.Balloted, ViewChanges.Does, ViewChanges.changes_do, Named.AllNamed, Named.each_named, Named.few_names}
+use Rattle.am_laws.proofs.{Named.start_named, Stamps.at_most, Stamps.not_above, Stamps.not_above_itself, ViewSteps.Goes, ViewSteps.Stood, ViewSteps.SameView}
 
 -- ---- what is so of a world
 
@@ -80,7 +59,7 @@ heard_names rules w e c h cause = record {
 }
 
 -- the view doesn't fall
-view_rises : (m n : Node) → Goes m.core.log n.core.log → stamp_lt (view n) (view m) ≡ false
+pub view_rises : (m n : Node) → Goes m.core.log n.core.log → stamp_lt (view n) (view m) ≡ false
 view_rises m n g = ⊎_elim
     (λ (s : SameView (image_of n) (image_of m)). subst (λ (v : Stamp). stamp_lt v (view m) ≡ false) (sym s.view) (not_above_itself (view m)))
     (λ (s : (stamp_lt (view m) (view n) ≡ true) × Stood n.core.log). not_above (view m) (view n) s.0)
@@ -106,9 +85,6 @@ still_noted nodes name n v d h = split (v.stamp.by == name)
     })
     (λ f. record { by = h.by; log_ = rw f h.log_; low = rw f h.low; names = h.names; there = rw f h.there })
 
-pub same_is_equal : (v : Stamp) → stamp_eq v v ≡ true
-same_is_equal v = let r : (v.round == v.round) ≡ true = grind (arith, nat_tests) in let n : (v.by == v.by) ≡ true = grind (arith, nat_tests) in rw (r, n) refl
-
 -- a decided view stands, and is greater
 record IsNew (m n : Node) : Type 0 where
   own : (view n).by ≡ n.core.who
@@ -116,20 +92,16 @@ record IsNew (m n : Node) : Type 0 where
   above : stamp_lt (view m) (view n) ≡ true
   stood : Stood n.core.log
 
-both : (a b : Bool) → (a && b) ≡ true → (a ≡ true) × (b ≡ true)
-both true b h = (refl, h)
-both false b h = absurd (cc)
-
 is_new : (m n : Node) → Does m n → decides m n ≡ true → IsNew m n
 is_new m n d h =
-    let a = both (is_member m.status) _ h in
-    let b = both ((view n).by == n.core.who) (not (stamp_eq (view m) (view n))) a.1 in
+    let a = and_both (is_member m.status) _ h in
+    let b = and_both ((view n).by == n.core.who) (not (stamp_eq (view m) (view n))) a.1 in
     let own_ = b.0 in
-    let log_m = log_of_member m.status a.0 in
+    let log_m = logged m.status a.0 in
     let g = d.goes log_m in
     ⊎_elim
     (λ (s : SameView (image_of n) (image_of m)). absurd (
-    let e : stamp_eq (view m) (view n) ≡ true = ap (λ (v : Stamp). stamp_eq (view m) v) s.view ∙ same_is_equal (view m) in
+    let e : stamp_eq (view m) (view n) ≡ true = ap (λ (v : Stamp). stamp_eq (view m) v) s.view ∙ stamp_itself (view m) in
     let x = rw e at b.1 in cc))
     (λ (s : (stamp_lt (view m) (view n) ≡ true) × Stood n.core.log). record { own = grind (arith, nat_tests); log_ = log_m; above = s.0; stood = s.1 })
     g.view
@@ -163,9 +135,6 @@ once_more views new differs h i j u v a b e = ⊎_elim
     (at_end views new u i a)
 
 -- ---- a step of a world
-
-is_itself : (name : ℕ) → (name == name) ≡ true
-is_itself name = grind (arith, nat_tests)
 
 -- the views after a step
 record Noted (nodes : ℕ → Node) (views : List Decided) : Type 0 where
@@ -257,8 +226,7 @@ kept_founder rules name few may =
         who_ = few;
         promise_ = omega arith;
         entries_ = All-cons ViewNamed (founders_view rules) [] (omega arith) (All-nil ViewNamed);
-        ballot_ =
-            tt;
+        ballot_ = tt;
       };
       balloted = record { high = not_above_itself (record { round = 1; by = lowest_or_first rules.founders }); none = λ f. refl; opened = tt };
     }

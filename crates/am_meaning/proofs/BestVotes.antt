@@ -1,4 +1,8 @@
 -- The best vote is the greatest.
+use Rattle.std.proofs.lemmas.Bool.{lt-ltb}
+use Rattle.std.proofs.lemmas.Bool.{eq-eqb}
+use Rattle.std.proofs.lemmas.Bool.{ltb-true}
+use Rattle.std.proofs.lemmas.Bool.{eqb-true}
 use Rattle.std.proofs.Common.{◌≡◌, ℕ, zero, suc, ◌+◌, ◌*◌, ◌/◌, ◌%◌, ◌<◌, ◌≤◌, ◌⊎◌, Bool, true, false, ◌&&◌, ◌||◌, ◌==◌, nat_lt, Option, Some, None, refl, sym}
 use Rattle.std.proofs.Common.{ap, subst, map, ◌∙◌, inl, inr, arith}
 use Rattle.std.specs.List.{range_with_len}
@@ -80,41 +84,29 @@ LowerVote a b = Lower a.view.round (rank_of a.view.by) a.top b.view.round (rank_
 rank_one : (n m : ℕ) → n < 256 → m < 256 → rank_of n ≡ rank_of m → n ≡ m
 rank_one n m h k e = omega arith
 
-same_number : (n m : ℕ) → (n == m) ≡ true → n ≡ m
-same_number n m h = grind (arith, nat_tests)
-
-less_number : (n m : ℕ) → nat_lt n m ≡ true → n < m
-less_number n m h = grind (arith, nat_tests)
-
-number_same : (n m : ℕ) → n ≡ m → (n == m) ≡ true
-number_same n m h = grind (arith, nat_tests)
-
-number_less : (n m : ℕ) → n < m → nat_lt n m ≡ true
-number_less n m h = grind (arith, nat_tests)
-
 vote_lower : (a b : Vote) → vote_lt a b ≡ true → LowerVote a b
 vote_lower a b h = elim (tests_true (nat_lt a.view.round b.view.round) (a.view.round == b.view.round) (name_lt a.view.by b.view.by) (a.view.by == b.view.by)
     (nat_lt a.top b.top) h) [
-      | inl p ↦ inl (less_number a.view.round b.view.round p)
+      | inl p ↦ inl (ltb-true a.view.round b.view.round p)
       | inr q ↦ inr (
-        same_number a.view.round b.view.round q.0,
+        eqb-true a.view.round b.view.round q.0,
         elim q.1 [
-          | inl p ↦ inl (less_number (rank_of a.view.by) (rank_of b.view.by) p)
-          | inr x ↦ inr (ap (λ n. rank_of n) (same_number a.view.by b.view.by x.0), less_number a.top b.top x.1)
+          | inl p ↦ inl (ltb-true (rank_of a.view.by) (rank_of b.view.by) p)
+          | inr x ↦ inr (ap (λ n. rank_of n) (eqb-true a.view.by b.view.by x.0), ltb-true a.top b.top x.1)
         ],
       )
     ]
 
 later_vote : (a b : Vote) → a.view.by < 256 → b.view.by < 256 → Later (rank_of a.view.by) a.top (rank_of b.view.by) b.top
     → (name_lt a.view.by b.view.by ≡ true) ⊎ (((a.view.by == b.view.by) ≡ true) × (nat_lt a.top b.top ≡ true))
-later_vote a b x y (inl h) = inl (number_less (rank_of a.view.by) (rank_of b.view.by) h)
-later_vote a b x y (inr h) = inr (number_same a.view.by b.view.by (rank_one a.view.by b.view.by x y h.0), number_less a.top b.top h.1)
+later_vote a b x y (inl h) = inl (lt-ltb (rank_of a.view.by) (rank_of b.view.by) h)
+later_vote a b x y (inr h) = inr (eq-eqb a.view.by b.view.by (rank_one a.view.by b.view.by x y h.0), lt-ltb a.top b.top h.1)
 
 lower_vote : (a b : Vote) → a.view.by < 256 → b.view.by < 256 → LowerVote a b → vote_lt a b ≡ true
 lower_vote a b x y (inl h) = true_tests (nat_lt a.view.round b.view.round) (a.view.round == b.view.round) (name_lt a.view.by b.view.by) (a.view.by == b.view.by)
-    (nat_lt a.top b.top) (inl (number_less a.view.round b.view.round h))
+    (nat_lt a.top b.top) (inl (lt-ltb a.view.round b.view.round h))
 lower_vote a b x y (inr h) = true_tests (nat_lt a.view.round b.view.round) (a.view.round == b.view.round) (name_lt a.view.by b.view.by) (a.view.by == b.view.by)
-    (nat_lt a.top b.top) (inr (number_same a.view.round b.view.round h.0, later_vote a b x y h.1))
+    (nat_lt a.top b.top) (inr (eq-eqb a.view.round b.view.round h.0, later_vote a b x y h.1))
 
 not_lower : (a b : Vote) → ¬ (LowerVote a b) → vote_lt a b ≡ false
 not_lower a b h = split (vote_lt a b) (λ t. absurd (h (vote_lower a b t))) (λ f. f)
@@ -273,7 +265,7 @@ above_each : (votes : ℕ → Option Vote) (own : ℕ) (vote : Vote) (r : Shown)
 above_each votes own vote r f name v l e = not_lower r.vote v (f.above (rank_of name) v (omega arith) (rank_below name l) (ap votes (name_rank name l) ∙ e))
 
 below_rank : (name by rank : ℕ) → rank < 0 + 256 → by ≡ name_of rank → name_lt name by ≡ true → rank_of name < rank
-below_rank name by rank h e lt = let z = less_number (rank_of name) (rank_of by) lt in let y = rank_name rank h in let x = ap (λ n. rank_of n) e in omega arith
+below_rank name by rank h e lt = let z = ltb-true (rank_of name) (rank_of by) lt in let y = rank_name rank h in let x = ap (λ n. rank_of n) e in omega arith
 
 best_is : (votes : ℕ → Option Vote) (own : ℕ) (vote : Vote) (r : Shown) → vote.view.by < 256 → Named votes → Found votes 0 256 (shown_by own vote) r
     → IsBestVote votes own vote r

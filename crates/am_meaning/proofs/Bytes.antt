@@ -3,7 +3,7 @@ use Rattle.std.proofs.Common.{◌≡◌, ℕ, ◌+◌, ◌<◌, ◌≤◌, nat_l
 use Rattle.std.proofs.lemmas.Bool.Decides.{nat_tests}
 use Rattle.std.proofs.lemmas.List.{take_all}
 use Rattle.am_base.specs.declared.entry.Entry.{Entry}
-use Rattle.am_base.specs.declared.entry.Entry.TheVariants.{Data, Join, Leave, View}
+use Rattle.am_base.specs.declared.entry.Entry.TheVariants.{Data}
 use Rattle.am_base.specs.declared.event.NodeEvent.TheVariants.{Hear}
 use Rattle.am_packet.specs.declared.packet.Packet.{Packet}
 use Rattle.am_packet.specs.declared.packet.Packet.TheVariants as packets
@@ -33,9 +33,7 @@ spelling_is_heard m packet is = by_reading m (spelling packet) (Ok packet) (spel
 length-entry : (e : Entry) → length (entry_bytes e) ≡ entry_length e
 unfolding entry_bytes
 length-entry (Data from req body) = omega arith
-length-entry (Join name) = refl
-length-entry (Leave name) = refl
-length-entry (View stamp members resilience) = refl
+length-entry _ = refl
 
 length-fields : (packet : Packet) → HasParts packet → 12 + length (fields_of packet) ≡ packet_length packet
 unfolding HasParts fields_of

@@ -1,5 +1,6 @@
 -- When a send is held.
-use Rattle.std.proofs.Common.{◌≡◌, ℕ, ◌+◌, Bool, true, false, not, ◌&&◌, if◌then◌else◌, nat_lt, nat_le, List, Option, Some, None, refl, sym, ap, ◌∙◌, arith}
+use Rattle.am_base.proofs.Greatest.{and_both}
+use Rattle.std.proofs.Common.{◌≡◌, ℕ, ◌+◌, Bool, true, false, not, if◌then◌else◌, nat_lt, nat_le, List, Option, Some, None, refl, sym, ap, ◌∙◌, arith}
 use Rattle.std.proofs.lemmas.Bool.Decides.{nat_tests}
 use Rattle.am_base.specs.declared.image.Report.{Report}
 use Rattle.am_base.specs.declared.name.Stamp.{Stamp}
@@ -86,15 +87,11 @@ held_request m n s report req body by_order h =
 
 -- ---- heard
 
-both : (a b : Bool) → (a && b) ≡ true → (a ≡ true) × (b ≡ true)
-both true b h = (refl, h)
-both false b h = absurd (cc)
-
 -- behind the gate it is the row of a request
 heard_row : (m : Node) (s : ℕ) (v : Stamp) (report : Report) (req : ℕ) (body : List ℕ) (spread : Bool) → hears_as_sequencer m s v ≡ true
     → hear_row m (send_packet spread s v report req body) ≡ request_row m s report req body spread
 unfolding hear_row
-heard_row m s v report req body true gate = let h = both (hears_in_view m s v) (is_sequencer m) gate in rw (h.0, h.1) refl
+heard_row m s v report req body true gate = let h = and_both (hears_in_view m s v) (is_sequencer m) gate in rw (h.0, h.1) refl
 heard_row m s v report req body false gate = rw gate refl
 
 pub held_exactly : HeldExactly
@@ -114,7 +111,7 @@ settle_by : (m : Node) (w : Option OwnSend) → (settle_waiting m w).core ≡ m.
 settle_by m None = refl
 settle_by m (Some s) = settled_core m s.req (accepted_at m s.req)
 
-end_core : (m : Node) → (refresh_at_end m).core ≡ (refresh m).core
+pub end_core : (m : Node) → (refresh_at_end m).core ≡ (refresh m).core
 unfolding refresh_at_end settle
 end_core m = settle_by (refresh m) (waiting (refresh m))
 

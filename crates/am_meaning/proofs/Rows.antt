@@ -1,4 +1,8 @@
 -- What becomes of a row.
+use Rattle.std.proofs.lemmas.Bool.{eqb-false}
+use Rattle.std.proofs.lemmas.Bool.{eq-eqb}
+use Rattle.std.proofs.lemmas.Bool.{ltb-true}
+use Rattle.std.proofs.lemmas.Bool.{eqb-true}
 use Rattle.std.proofs.Common.{◌≡◌, ◌≢◌, ℕ, ◌+◌, ◌<◌, Bool, true, false, ◌&&◌, ◌||◌, ◌==◌, not, nat_lt, List, [], ◌∷◌, length, get_or, refl, sym, ap, subst, ◌∙◌}
 use Rattle.std.proofs.Common.{inl, inr, arith}
 use Rattle.std.specs.Prelude.{slice_index, slice_index_or}
@@ -63,18 +67,6 @@ member_is image name h =
 life_test : (image : Image) (name : ℕ) → IsMember image name → ((at_place image name).life == life_of name) ≡ true
 life_test image name m = let e = m.life in grind (arith, nat_tests)
 
-same_test : (a b : ℕ) → a ≡ b → (a == b) ≡ true
-same_test a b e = grind (arith, nat_tests)
-
-test_same : (a b : ℕ) → (a == b) ≡ true → a ≡ b
-test_same a b e = grind (arith, nat_tests)
-
-test_other : (a b : ℕ) → (a == b) ≡ false → a ≢ b
-test_other a b e = grind (arith, nat_tests)
-
-test_less : (a b : ℕ) → nat_lt a b ≡ true → a < b
-test_less a b e = grind (arith, nat_tests)
-
 own_row_is : (image : Image) (name : ℕ) → IsMember image name → row_of image name ≡ at_place image name
 own_row_is image name m = rw (life_test image name m) refl
 
@@ -94,7 +86,7 @@ unfolding fits
 next_request image from req body h =
     let b = and_both (has (members_of image) from) (req == (row_of image from).last + 1) h in
     let m = member_is image from b.0 in
-    (m, test_same req ((row_of image from).last + 1) b.1 ∙ ap (λ (r : Row). r.last + 1) (own_row_is image from m))
+    (m, eqb-true req ((row_of image from).last + 1) b.1 ∙ ap (λ (r : Row). r.last + 1) (own_row_is image from m))
 
 data_row : (image : Image) (number from req : ℕ) (body : List ℕ) (name : ℕ) → fits image (Data from req body) ≡ true
     → RowStep number (at_place image name) (at_place (after image number (Data from req body)) name)
@@ -102,12 +94,12 @@ data_row image number from req body name h =
     let n = next_request image from req body h in
     let e = after_data image number from req body n.0 in
     split (place_of name == place_of from)
-    (λ t. let p = test_same (place_of name) (place_of from) t in
+    (λ t. let p = eqb-true (place_of name) (place_of from) t in
     let s = same_place image name from p in
     inl (inr (ap (λ (i : Image). at_place i name) e ∙ row_here image from (sent_row (at_place image from) req) name (in_range image from n.0.joined) p
     ∙ (λ i. sent_row (sym s i) (n.1 i)) ∙ (λ i. sent_row (at_place image name) ((sym s i).last + 1)))))
     (λ f. inl (inl (ap (λ (i : Image). at_place i name) e ∙ row_elsewhere image from (sent_row (at_place image from) req) name
-    (test_other (place_of name) (place_of from) f))))
+    (eqb-false (place_of name) (place_of from) f))))
 
 pub data_goes_on : DataGoesOn
 data_goes_on image number from req body h =
@@ -117,7 +109,7 @@ data_goes_on image number from req body h =
     let here = ap (λ (i : Image). at_place i from) e ∙ row_here image from (sent_row (at_place image from) req) from (in_range image from m.joined) refl in
     let life : (at_place (after image number (Data from req body)) from).life ≡ life_of from = ap (λ (r : Row). r.life) here ∙ m.life in
     let own : row_of (after image number (Data from req body)) from ≡ at_place (after image number (Data from req body)) from =
-    rw (same_test (at_place (after image number (Data from req body)) from).life (life_of from) life) refl in
+    rw (eq-eqb (at_place (after image number (Data from req body)) from).life (life_of from) life) refl in
     (n.1 ∙ ap (λ (r : Row). r.last + 1) (sym (own_row_is image from m)), ap (λ (r : Row). r.last) own ∙ ap (λ (r : Row). r.last) here)
 
 -- ---- a Leave
@@ -128,14 +120,14 @@ unfolding fits after
 leave_row image number leaver name h =
     let m = member_is image leaver h in
     rw (life_test image leaver m) (split (place_of name == place_of leaver)
-    (λ t. let p = test_same (place_of name) (place_of leaver) t in
+    (λ t. let p = eqb-true (place_of name) (place_of leaver) t in
     let s = same_place image name leaver p in
     inr (inl (
       ap (λ (r : Row). r.left) s ∙ m.left,
       row_here image leaver (record (at_place image leaver) { left = number }) name (in_range image leaver m.joined) p
           ∙ (λ i. record (sym s i) { left = number }),
     )))
-    (λ f. inl (inl (row_elsewhere image leaver (record (at_place image leaver) { left = number }) name (test_other (place_of name) (place_of leaver) f)))))
+    (λ f. inl (inl (row_elsewhere image leaver (record (at_place image leaver) { left = number }) name (eqb-false (place_of name) (place_of leaver) f)))))
 
 -- ---- a Join
 
@@ -146,13 +138,13 @@ free_place : (r : Row) (life : ℕ) → 0 < r.joined → ((r.joined == 0) || (na
 free_place r life j h =
     let f : (r.joined == 0) ≡ false = grind (arith, nat_tests) in
     let b = and_both (nat_lt 0 r.left) (nat_lt r.life life) (rw f at h) in
-    (test_less r.life life b.1, test_less 0 r.left b.0)
+    (ltb-true r.life life b.1, ltb-true 0 r.left b.0)
 
 join_row : (image : Image) (number joiner name : ℕ) → fits image (Join joiner) ≡ true → 0 < (at_place image name).joined
     → RowStep number (at_place image name) (at_place (after image number (Join joiner)) name)
 unfolding fits after
 join_row image number joiner name h j = split (place_of name == place_of joiner)
-    (λ t. let p = test_same (place_of name) (place_of joiner) t in
+    (λ t. let p = eqb-true (place_of name) (place_of joiner) t in
     let s = same_place image name joiner p in
     let jj = subst (λ (r : Row). 0 < r.joined) s j in
     let f = free_place (at_place image joiner) (life_of joiner) jj h in
@@ -162,19 +154,19 @@ join_row image number joiner name h j = split (place_of name == place_of joiner)
       subst (λ (r : Row). 0 < r.left) (sym s) f.1,
       row_here image joiner (joined_row number joiner) name (in_range image joiner jj) p,
     )))
-    (λ f. inl (inl (row_elsewhere image joiner (joined_row number joiner) name (test_other (place_of name) (place_of joiner) f))))
+    (λ f. inl (inl (row_elsewhere image joiner (joined_row number joiner) name (eqb-false (place_of name) (place_of joiner) f))))
 
 -- ---- a View
 
 member_stays : (r : Row) → 0 < member_life r → r.left ≡ 0
 member_stays r h = split (nat_lt 0 r.joined && (r.left == 0))
-    (λ t. test_same r.left 0 (and_both (nat_lt 0 r.joined) (r.left == 0) t).1)
+    (λ t. eqb-true r.left 0 (and_both (nat_lt 0 r.joined) (r.left == 0) t).1)
     (λ f. let z = rw f at h in absurd (omega arith))
 
 viewed_row : (number life : ℕ) (r : Row) → RowStep number r (row_after_view false number life r)
 viewed_row number life r = split (nat_lt 0 (member_life r) && not (member_life r == life))
     (λ t. let b = and_both (nat_lt 0 (member_life r)) (not (member_life r == life)) t in
-    rw t (inr (inl (member_stays r (test_less 0 (member_life r) b.0), refl))))
+    rw t (inr (inl (member_stays r (ltb-true 0 (member_life r) b.0), refl))))
     (λ f. rw f (inl (inl refl)))
 
 last_false : (a b c d : Bool) → d ≡ false → (a && (b && (c && d))) ≡ false

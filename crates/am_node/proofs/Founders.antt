@@ -49,9 +49,6 @@ blank_at place = split (nat_lt place 16)
     (λ t. get_or-replicate 16 place blank_row blank_row (grind (arith, nat_tests)))
     (λ f. get_or_past (replicate 16 blank_row) place blank_row (grind (arith, nat_tests)))
 
-founders_row : List ℕ → ℕ → Row
-founders_row founders place = row_after_view true 1 (slice_index founders place) blank_row
-
 life_back : (life : ℕ) → member_life (row_after_view true 1 life blank_row) ≡ life
 life_back life = split (life == 0) (λ t. rw t (grind (arith, nat_tests))) (λ f. rw f refl)
 
@@ -99,9 +96,6 @@ keeps_as m n core own status ballot leaving sends keeps =
 
 abbrev pub FirstReports : List ℕ → (ℕ → Report) → ℕ → Type 0
 FirstReports founders reports high = (name : ℕ) → reports name ≡ (if nat_lt name high && has founders name then record { stored = 1; taken = 0 } else no_report)
-
-first : Report
-first = record { stored = 1; taken = 0 }
 
 pub first_none : (founders : List ℕ) (reports : ℕ → Report) → reports ≡ no_reports → FirstReports founders reports 0
 first_none founders reports is = λ name.

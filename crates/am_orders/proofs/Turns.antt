@@ -1,13 +1,14 @@
 -- The requests of a name along a list.
+use Rattle.am_base.proofs.Greatest.{split}
 use Rattle.std.proofs.Common.{◌≡◌, ◌⊎◌, ⊎_elim, inl, inr, ℕ, zero, suc, ◌+◌, ◌<◌, ◌≤◌, ◌==◌, List, [], ◌∷◌, ◌++◌, length, Some, slice_get, refl, sym, ap, ◌∙◌}
 use Rattle.std.proofs.Common.{subst, arith}
 use Rattle.std.specs.List.{range_with_len}
 use Rattle.am_base.specs.declared.image.Image.{Image}
 use Rattle.am_base.specs.declared.entry.Entry.{Entry}
-use Rattle.am_base.specs.declared.entry.Entry.TheVariants.{Data, Join, Leave, View}
+use Rattle.am_base.specs.declared.entry.Entry.TheVariants.{Data}
 use Rattle.am_base.specs.Names.{place_of, life_of}
 use Rattle.am_base.specs.Lists.{blank, after, fold, AllFit, request_in, requests_of}
-use Rattle.am_chain_lists.proofs.Rows.{row_at, by_cases, long_after}
+use Rattle.am_chain_lists.proofs.Rows.{row_at, long_after}
 use Rattle.am_orders.specs.Claims.{InTurn, RequestsInTurn, NoSendTwice, SendersInOrder, SendStandsOnce}
 use Rattle.am_chain_lists.proofs.Requests.{IsNext, own_request, entry_goes_on, next_at_first}
 
@@ -46,14 +47,12 @@ abbrev Rest : ℕ → ℕ → Entry → List Entry → Type 0
 Rest name next e es = ((request_in name e ≡ []) × InTurn name next es) ⊎ ((request_in name e ≡ next ∷ []) × InTurn name (next + 1) es)
 
 rest_of : (name next : ℕ) (e : Entry) (es : List Entry) → InTurn name next (e ∷ es) → Rest name next e es
-rest_of name next (Data from req body) es h = by_cases (from == name)
+rest_of name next (Data from req body) es h = split (from == name)
     (λ t. let all : req ∷ requests_of name es ≡ next ∷ range_with_len (next + 1) (length (requests_of name es)) = rw t at h in
     let first : req ≡ next = cc in
     inr (rw t (ap (λ i. i ∷ []) first), cc))
     (λ f. inl (rw f refl, rw f at h))
-rest_of name next (Join joiner) es h = inl (refl, h)
-rest_of name next (Leave leaver) es h = inl (refl, h)
-rest_of name next (View stamp members resilience) es h = inl (refl, h)
+rest_of name next _ es h = inl (refl, h)
 
 -- where the first entry is a send of the name, that is the next request
 first_is_next : (name next req : ℕ) (body : List ℕ) (e : Entry) (es : List Entry) → InTurn name next (e ∷ es) → Some e ≡ Some (Data name req body)

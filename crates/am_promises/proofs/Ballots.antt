@@ -1,33 +1,13 @@
 -- What each change keeps of a name's ballot, and each run of all.
-use Rattle.std.proofs.Common.{◌≡◌, ℕ, ◌==◌, ◌&&◌, ◌||◌, not, true, false, List, [], ◌∷◌, ◌++◌, Option, Some, None, refl, sym, ap, ◌∙◌, subst, arith}
-use Rattle.std.specs.List.{list_any}
-use Rattle.std.proofs.lemmas.Bool.Decides.{nat_tests}
-use Rattle.std.proofs.lemmas.List.Folds.{list_any-append}
-use Rattle.am_base.specs.declared.name.Stamp.{Stamp}
-use Rattle.am_base.specs.declared.outcome.Outcome.{Outcome}
-use Rattle.am_base.specs.declared.event.NodeEvent.{NodeEvent}
+use Rattle.am_promises.proofs.Words.{◌≡◌, ℕ, ◌==◌, ◌&&◌, ◌||◌, not, true, false, List, [], ◌∷◌, ◌++◌, Option, Some, None, refl, sym, ap, ◌∙◌, subst, arith}
+use Rattle.am_promises.proofs.Words.{list_any, nat_tests, list_any-append, Stamp, Outcome, NodeEvent, stamp_lt, Rules, has, Act, Node, Ballot, is_member}
+use Rattle.am_promises.proofs.Words.{has_log, Verdict, overtake, World, start, current, is_stopped, with_record, with_step, split, and_both, Cause, calls}
+use Rattle.am_promises.proofs.Words.{hears, refuses, Looks, waits, fetches_from_best, HasOpen, Balloting, with_more, without_one, as_it_is, Change, refreshes}
+use Rattle.am_promises.proofs.Words.{settles, begins_list, departs, promises, opens, looks, asks_to_join, closes, actor, IsCall, IsCause, idles, stops}
+use Rattle.am_promises.proofs.Words.{returns, steps, logged, asking_log, asking, rests_refresh, rests_closed, settle_is, along, EachKeeps, runs_keep, AtMost}
+use Rattle.am_promises.proofs.Words.{IsOfBallot, BallotOk, LastOk, BallotsAreOwn}
 use Rattle.am_base.specs.declared.event.NodeEvent.TheVariants as does
-use Rattle.am_base.specs.Stamps.{stamp_lt}
-use Rattle.am_base.specs.Founding.{Rules}
-use Rattle.am_base.specs.Names.{has}
-use Rattle.am_group.specs.declared.event.Act.{Act}
-use Rattle.am_model.specs.Node.{Node, Ballot, is_member, has_log}
-use Rattle.am_model.specs.Ballots.{Verdict, overtake}
-use Rattle.am_play.specs.World.{World, start, current, is_stopped, with_record, with_step}
-use Rattle.am_base.proofs.Greatest.{split, and_both}
-use Rattle.am_effects.specs.Causes.{Cause, calls, hears, refuses}
-use Rattle.am_effects.specs.Looks.{Looks, finds_itself_out, waits, fetches_from_best, finds_too_few, finds_no_room, decides, HasOpen, Balloting, with_more}
-use Rattle.am_effects.specs.Looks.{without_one, as_it_is}
-use Rattle.am_effects.specs.Changes.{Change, refreshes, settles, begins_list, departs, promises}
-use Rattle.am_effects.specs.Changes.{opens, looks, asks_to_join, closes}
 use Rattle.am_effects.specs.Events as event
-use Rattle.am_effects.specs.Events.{actor, IsCall, IsCause, idles, stops, returns, steps}
-use Rattle.am_effects.proofs.Statuses.{logged, asking_log}
-use Rattle.am_effects.proofs.Receiving.{asking}
-use Rattle.am_effects.proofs.Rests.{rests_refresh, rests_closed, settle_is}
-use Rattle.am_effects.proofs.Runs.{along, EachKeeps, runs_keep}
-use Rattle.am_promises.specs.Claim.{AtMost}
-use Rattle.am_promises.specs.Ballots.{IsOfBallot, BallotOk, LastOk, BallotsAreOwn}
 use Rattle.am_promises.proofs.Stamps.{most_same, most_through}
 
 -- ---- a node
@@ -80,12 +60,9 @@ going w i promise b o over a h = record { own = h.own; low = λ f. h.low over; h
 
 verdict_ok : (w : World) (i : ℕ) (m : Node) (b : Ballot) (v : Verdict) → Looks m b v → b.is_over ≡ false → has_log m.status ≡ true
     → BallotOk w i m.core.promise b → m.core.who ≡ i → NodeOk w i v.node
-verdict_ok w i m b v (finds_itself_out x) over log h who = record { who = who; last = ended w i m.core.promise b _ tt h; blank = λ f. absurd (cc) }
 verdict_ok w i m b v (waits x y) over log h who = record { who = who; last = going w i m.core.promise b _ over tt h; blank = λ f. absurd (cc) }
 verdict_ok w i m b v (fetches_from_best x y z) over log h who = record { who = who; last = going w i m.core.promise b _ over tt h; blank = λ f. absurd (cc) }
-verdict_ok w i m b v (finds_too_few x y) over log h who = record { who = who; last = ended w i m.core.promise b _ tt h; blank = λ f. absurd (cc) }
-verdict_ok w i m b v (finds_no_room x) over log h who = record { who = who; last = ended w i m.core.promise b _ tt h; blank = λ f. absurd (cc) }
-verdict_ok w i m b v (decides x) over log h who = record { who = who; last = ended w i m.core.promise b _ tt h; blank = λ f. absurd (cc) }
+verdict_ok w i m b v _ over log h who = record { who = who; last = ended w i m.core.promise b _ tt h; blank = λ f. absurd (cc) }
 
 -- a ballot is of who has a list
 balloted : (c : Cause) (m : Node) (b : Ballot) → Balloting c m b → m.ballot ≡ None → ⊥
@@ -122,8 +99,7 @@ ballot_change w i c o m n g (departs s v number is heard leaves) h =
 ballot_change w i c o m n g (promises v low why) h = record {
   who = h.who;
   last = overtaken_ok w i m.core.promise v m.ballot low h.last;
-  blank =
-      λ f. overtaken_none v m.ballot (h.blank f);
+  blank = λ f. overtaken_none v m.ballot (h.blank f);
 }
 ballot_change w i c o m n g (opens least resilience by may) h = record {
   who = h.who;

@@ -1,19 +1,7 @@
 -- What each change keeps of a promise, and the stamps of letters.
-use Rattle.std.proofs.Common.{◌≡◌, ◌⊎◌, inl, inr, ℕ, List, refl, sym, ap, ◌∙◌, subst}
-use Rattle.am_base.specs.declared.name.Stamp.{Stamp}
-use Rattle.am_base.specs.declared.outcome.Outcome.{Outcome}
-use Rattle.am_packet.specs.declared.packet.Packet.{Packet}
-use Rattle.am_codec.specs.Spelling.{sender_of, stamp_of}
-use Rattle.am_model.specs.Node.{Node, Ballot}
-use Rattle.am_model.specs.Ballots.{Verdict}
-use Rattle.am_effects.specs.Causes.{Cause, hears}
-use Rattle.am_effects.specs.Looks.{Looks, finds_itself_out}
-use Rattle.am_effects.specs.Changes.{Promises, invited, overtaken, told_result, Change, refreshes, settles}
-use Rattle.am_effects.specs.Changes.{begins_list, promises, opens, looks}
-use Rattle.am_effects.specs.Changes.{closes}
-use Rattle.am_effects.specs.Letters.{Says, request}
-use Rattle.am_effects.proofs.Rests.{rests_refresh, rests_closed, settle_is}
-use Rattle.am_promises.specs.Claim.{AtMost, IsBegun}
+use Rattle.am_promises.proofs.Words.{◌≡◌, ◌⊎◌, inl, inr, ℕ, List, refl, sym, ap, ◌∙◌, subst, Stamp, Outcome, Packet, sender_of, stamp_of, Node, Ballot}
+use Rattle.am_promises.proofs.Words.{Verdict, Cause, hears, Looks, finds_itself_out, Promises, invited, overtaken, told_result, Change, refreshes, settles}
+use Rattle.am_promises.proofs.Words.{begins_list, promises, opens, looks, closes, Says, request, rests_refresh, rests_closed, settle_is, AtMost, IsBegun}
 use Rattle.am_promises.proofs.Stamps.{most_through, most_next}
 
 -- what is heard has a stamp that was begun

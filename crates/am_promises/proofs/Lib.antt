@@ -1,3 +1,4 @@
+pub mod Words
 pub mod Stamps
 pub mod Changes
 pub mod Runs

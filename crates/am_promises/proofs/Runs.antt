@@ -1,28 +1,9 @@
 -- Each run keeps promises.
-use Rattle.std.proofs.Common.{◌≡◌, ⊎_elim, inl, inr, ℕ, ◌==◌, true, refl, sym, ap, ◌∙◌, subst, arith}
-use Rattle.std.specs.Prelude.{All}
-use Rattle.std.proofs.lemmas.Bool.Decides.{nat_tests}
-use Rattle.std.proofs.lemmas.List.Elements.{All-nil, All-append, All-weaker}
-use Rattle.am_base.specs.declared.name.Stamp.{Stamp}
-use Rattle.am_base.specs.Stamps.{no_stamp}
-use Rattle.am_base.specs.Founding.{Rules, MayFound}
-use Rattle.am_base.specs.Names.{has}
-use Rattle.am_packet.specs.Boxes.{Letter}
-use Rattle.am_codec.specs.Spelling.{sender_of, stamp_of}
-use Rattle.am_group.specs.declared.event.Act.{Act}
-use Rattle.am_model.specs.Node.{Node, set_at, founding_stamp}
-use Rattle.am_play.specs.World.{World, start, with_record, with_step, run}
-use Rattle.am_play.specs.Claims.{heard_by}
-use Rattle.am_base.proofs.Greatest.{split}
-use Rattle.am_effects.specs.Causes.{Cause, calls, hears, refuses}
-use Rattle.am_effects.specs.Letters.{LetterSays}
-use Rattle.am_effects.specs.Events.{actor, IsCause, idles, stops, returns, steps}
-use Rattle.am_effects.proofs.Items.{all_get, all_item}
-use Rattle.am_effects.proofs.Runs.{along, EachKeeps, runs_keep}
-use Rattle.am_model.proofs.Founders.{first_founder}
-use Rattle.am_promises.specs.Claim.{AtMost, IsBegun, StampOk, PromisesAreBegun}
-use Rattle.am_promises.proofs.Stamps.{most_same, most_through}
-use Rattle.am_promises.proofs.Changes.{CauseBegun, Promised, promise_change, said_by}
+use Rattle.am_promises.proofs.Words.{◌≡◌, ⊎_elim, inl, inr, ℕ, ◌==◌, true, refl, sym, ap, ◌∙◌, subst, arith, All, nat_tests, All-nil, All-append, All-weaker}
+use Rattle.am_promises.proofs.Words.{Stamp, no_stamp, Rules, MayFound, has, Letter, sender_of, stamp_of, Act, Node, set_at, founding_stamp, World, start}
+use Rattle.am_promises.proofs.Words.{with_record, with_step, run, heard_by, split, Cause, calls, hears, refuses, LetterSays, actor, IsCause, steps, all_get}
+use Rattle.am_promises.proofs.Words.{all_item, along, EachKeeps, runs_keep, first_founder, AtMost, IsBegun, StampOk, PromisesAreBegun}
+use Rattle.am_promises.proofs.{Stamps.most_same, Stamps.most_through, Changes.CauseBegun, Changes.Promised, Changes.promise_change, Changes.said_by}
 
 pub record AllBegun (w : World) : Type 0 where
   pub who : (i : ℕ) → (w.nodes i).core.who ≡ i
@@ -43,8 +24,7 @@ begun_up nodes i n v up h = ⊎_elim (λ (x : v ≡ no_stamp). inl x) (λ (x : A
 stamp_up : (nodes : ℕ → Node) (i : ℕ) (n : Node) (l : Letter) → AtMost (nodes i).core.promise n.core.promise → StampOk nodes l → StampOk (set_at nodes i n) l
 stamp_up nodes i n l up h = record {
   sender = most_up nodes i n (stamp_of l.packet) (sender_of l.packet) up h.sender;
-  begun =
-      begun_up nodes i n (stamp_of l.packet) up h.begun;
+  begun = begun_up nodes i n (stamp_of l.packet) up h.begun;
 }
 
 pub cause_begun : (w : World) (i : ℕ) (a : Act) (c : Cause) → All (StampOk w.nodes) w.letters → IsCause w i a c → CauseBegun w.nodes c
@@ -61,9 +41,6 @@ own_begun nodes i n p = ⊎_elim
 
 pub each_keeps : EachKeeps AllBegun
 unfolding with_record with_step
-each_keeps w e v (idles o idle) h = record { who = h.who; each = h.each; letters = h.letters }
-each_keeps w e v (stops runs) h = record { who = h.who; each = h.each; letters = h.letters }
-each_keeps w e v (returns place is gone more) h = record { who = h.who; each = h.each; letters = h.letters }
 each_keeps w e v (steps c s runs cause effect) h =
     let i = actor w e in
     let n = s.node in
@@ -91,6 +68,7 @@ each_keeps w e v (steps c s runs cause effect) h =
           (All-weaker (StampOk w.nodes) (StampOk (set_at w.nodes i n)) (λ l. stamp_up w.nodes i n l p.up) w.letters h.letters)
           (All-weaker (LetterSays (w.nodes i) c effect.sender) (StampOk (set_at w.nodes i n)) new s.letters effect.letters);
     }
+each_keeps w e v _ h = record { who = h.who; each = h.each; letters = h.letters }
 
 -- ---- the start
 

@@ -1,9 +1,5 @@
 -- Stamps in their order.
-use Rattle.std.proofs.Common.{◌≡◌, ℕ, ◌+◌, ◌==◌, ◌&&◌, ◌||◌, nat_lt, Bool, false, arith}
-use Rattle.std.proofs.lemmas.Bool.Decides.{nat_tests}
-use Rattle.am_base.specs.declared.name.Stamp.{Stamp}
-use Rattle.am_base.specs.Names.{rank_of}
-use Rattle.am_promises.specs.Claim.{AtMost}
+use Rattle.am_promises.proofs.Words.{◌≡◌, ℕ, ◌+◌, ◌==◌, ◌&&◌, ◌||◌, nat_lt, Bool, false, arith, nat_tests, Stamp, rank_of, AtMost}
 
 -- by two numbers, the first of which counts first
 abbrev below : ℕ → ℕ → ℕ → ℕ → Bool

@@ -1,8 +1,6 @@
 -- The first bytes of a list that counts on.
-use Rattle.std.proofs.Common.{◌≡◌, ℕ, ◌+◌, ◌%◌, ◌<◌, ◌≤◌, List, length, take, get_or, ◌∙◌, arith}
-use Rattle.std.proofs.lemmas.List.FromFn.{fill_by_all}
-use Rattle.std.proofs.lemmas.List.{length-take-le, get_or-take}
-use Rattle.am_pump.specs.Generating.{most_drawn, counting}
+use Rattle.am_pump.proofs.Words.{◌≡◌, ℕ, ◌+◌, ◌%◌, ◌<◌, ◌≤◌, List, length, take, get_or, ◌∙◌, arith, fill_by_all, length-take-le, get_or-take, most_drawn}
+use Rattle.am_pump.proofs.Words.{counting}
 
 pub filled : (bytes : List ℕ) (number size index : ℕ) → length bytes ≡ most_drawn → size ≤ most_drawn → size ≤ index
     → ((k : ℕ) → k < index → get_or bytes k 0 ≡ (number + k) % 256) → take size bytes ≡ counting number size

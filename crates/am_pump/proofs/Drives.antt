@@ -1,17 +1,7 @@
 -- Generated runs, event by event.
-use Rattle.std.proofs.Common.{◌≡◌, ℕ, zero, suc, ◌+◌, ◌≤◌, ◌==◌, [], ◌∷◌, length, ◌&&◌, refl, ap, ◌∙◌, arith}
-use Rattle.std.proofs.lemmas.List.{length-append}
-use Rattle.std.proofs.lemmas.List.Sums.{count_by-le-length}
-use Rattle.am_base.specs.Founding.{Rules}
-use Rattle.rand_pcg.specs.Lcg.{Lcg}
-use Rattle.am_group.specs.declared.event.Act.{Act}
-use Rattle.am_play.specs.World.{World}
-use Rattle.am_base.specs.Outcomes.{is_sent}
-use Rattle.am_play.specs.Settle.{event_at}
-use Rattle.am_world.specs.Runs.{Play, after}
-use Rattle.am_chooser.specs.Choices.{draw, after_draw}
-use Rattle.am_pump.specs.Generating.{Drive, generated_rules, sent_by, first_drive, turn_of, act_at, after_turn, do_turn, drive_once, drive, events_of_seed}
-use Rattle.am_pump.specs.declared.generator.Turn.{Turn}
+use Rattle.am_pump.proofs.Words.{◌≡◌, ℕ, zero, suc, ◌+◌, ◌≤◌, ◌==◌, [], ◌∷◌, length, ◌&&◌, refl, ap, ◌∙◌, arith, length-append, count_by-le-length, Rules}
+use Rattle.am_pump.proofs.Words.{Lcg, Act, World, is_sent, event_at, Play, after, draw, after_draw, Drive, generated_rules, sent_by, first_drive, turn_of}
+use Rattle.am_pump.proofs.Words.{act_at, after_turn, do_turn, drive_once, drive, events_of_seed, Turn}
 use Rattle.am_pump.specs.declared.generator.Turn.TheVariants as turn
 
 -- ---- how often a place was told that a send of its own stands in the list

@@ -1,3 +1,4 @@
+pub mod Words
 mod Bodies
 pub mod Drives
 pub mod Rules

@@ -1,11 +1,6 @@
 -- Places 0 to 3 may found a group.
-use Rattle.std.proofs.Common.{◌≡◌, ℕ, zero, suc, ◌<◌, ◌≤◌, List, [], ◌∷◌, length, true, nat_le, slice_index, refl, arith}
-use Rattle.std.specs.List.{list_all}
-use Rattle.std.proofs.lemmas.Bool.{and_parts}
-use Rattle.std.proofs.lemmas.Bool.Decides.{nat_tests}
-use Rattle.am_base.specs.Founding.{MayFound}
-use Rattle.am_base.specs.Names.{places_of, size, of_mask}
-use Rattle.am_pump.specs.Generating.{generated_rules}
+use Rattle.am_pump.proofs.Words.{◌≡◌, ℕ, zero, suc, ◌<◌, ◌≤◌, List, [], ◌∷◌, length, true, nat_le, slice_index, refl, arith, list_all, and_parts, nat_tests}
+use Rattle.am_pump.proofs.Words.{MayFound, places_of, size, of_mask, generated_rules}
 
 at_most_one : (xs : List ℕ) → list_all (λ x. nat_le x 1) xs ≡ true → (i : ℕ) → slice_index xs i ≤ 1
 at_most_one [] all i = omega arith

@@ -1,21 +1,9 @@
 -- Letters that were looked through needn't be looked through again.
-use Rattle.std.proofs.Common.{◌≡◌, ◌≢◌, ℕ, zero, suc, ◌+◌, ◌<◌, ◌≤◌, ◌==◌, Bool, true, false, List, [], ◌∷◌, ◌++◌, length, take, drop, Option, Some, None}
-use Rattle.std.proofs.Common.{nat_lt, slice_index, slice_index_or, slice_set, refl, sym, ap, ◌∙◌, add-zero, arith, length-drop}
-use Rattle.std.proofs.lemmas.List.{take-append-le, drop-append-le, length-take-le, take-append-drop, take_all, drop_all, length-append, length-set}
-use Rattle.std.proofs.lemmas.List.{get_or-set_same, get_or-set_other}
-use Rattle.std.proofs.lemmas.Bool.Decides.{nat_tests}
-use Rattle.am_packet.specs.Boxes.{Letter}
-use Rattle.am_group.specs.Addressed.{is_for, first_for, next_for}
-use Rattle.am_chooser.specs.Choices.{Luck, choice_of, again, progress_after, draw}
-use Rattle.am_chooser.specs.declared.chooser.Choice.{Choice}
-use Rattle.am_chooser.specs.declared.progress.Progress.{Progress}
-use Rattle.am_pump.specs.Generating.{no_progress}
-use Rattle.am_pump.specs.Counts.{IsSeen, AreSeen, seen_after}
-
--- by what a test says
-split : {G : Type 0} (b : Bool) → (b ≡ true → G) → (b ≡ false → G) → G
-split true f g = f refl
-split false f g = g refl
+use Rattle.am_pump.proofs.Words.{split, ◌≡◌, ◌≢◌, ℕ, zero, suc, ◌+◌, ◌<◌, ◌≤◌, ◌==◌, List, [], ◌∷◌, ◌++◌, length, take, drop, Option, Some, None, nat_lt}
+use Rattle.am_pump.proofs.Words.{slice_index, slice_index_or, slice_set, refl, sym, ap, ◌∙◌, add-zero, arith, length-drop, take-append-le, drop-append-le}
+use Rattle.am_pump.proofs.Words.{length-take-le, take-append-drop, take_all, drop_all, length-append, length-set, get_or-set_same, get_or-set_other}
+use Rattle.am_pump.proofs.Words.{nat_tests, Letter, is_for, first_for, next_for, Luck, choice_of, again, progress_after, draw, Choice, Progress, no_progress}
+use Rattle.am_pump.proofs.Words.{IsSeen, AreSeen, seen_after}
 
 -- none of the first letters is for the name
 behind : (xs ys : List Letter) (number name : ℕ) → first_for xs number name ≡ None → first_for (xs ++ ys) number name ≡ first_for ys (number + length xs) name
@@ -148,11 +136,8 @@ zeros (suc (suc (suc zero))) = refl
 zeros (suc (suc (suc (suc place)))) = refl
 
 cursors : (p : Progress) (place : ℕ) → p.cursor ≡ 0 → (slice_index_or (p ∷ p ∷ p ∷ p ∷ []) place no_progress).cursor ≡ 0
-cursors p zero e = e
-cursors p (suc zero) e = e
-cursors p (suc (suc zero)) e = e
-cursors p (suc (suc (suc zero))) e = e
 cursors p (suc (suc (suc (suc place)))) e = refl
+cursors p _ e = e
 
 pub none_seen : (p : Progress) (letters : List Letter) → p.cursor ≡ 0 → AreSeen (0 ∷ 0 ∷ 0 ∷ 0 ∷ []) (p ∷ p ∷ p ∷ p ∷ []) letters
 none_seen p letters e = record {

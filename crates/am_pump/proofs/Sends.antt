@@ -1,15 +1,7 @@
 -- How often each place was told that a send of its own stands in the list, with one record more.
-use Rattle.std.proofs.Common.{◌≡◌, ◌≢◌, ℕ, ◌+◌, ◌-◌, ◌<◌, ◌==◌, Bool, true, false, ◌&&◌, List, [], ◌∷◌, ◌++◌, length, Some, cond, sum_by, slice_get, slice_set}
-use Rattle.std.proofs.Common.{slice_index, refl, sym, ap, ◌∙◌, arith}
-use Rattle.std.proofs.lemmas.Bool.Decides.{nat_tests}
-use Rattle.std.proofs.lemmas.List.{length-append, length-set, get_or-set_same, get_or-set_other}
-use Rattle.std.proofs.lemmas.List.Sums.{sum_by-append}
-use mir.Val.{bool_byte}
-use Rattle.am_base.specs.Outcomes.{is_sent}
-use Rattle.am_group.specs.declared.event.Record.{Record}
-use Rattle.am_play.specs.World.{World}
-use Rattle.am_pump.specs.Counts.{AreSent, is_sent_in, ends_sent}
-use Rattle.am_pump.specs.Generating.{sent_by}
+use Rattle.am_pump.proofs.Words.{and-false, and-true, ◌≡◌, ◌≢◌, ℕ, ◌+◌, ◌-◌, ◌<◌, ◌==◌, Bool, true, false, ◌&&◌, List, [], ◌∷◌, ◌++◌, length, Some, cond}
+use Rattle.am_pump.proofs.Words.{sum_by, slice_get, slice_set, slice_index, refl, sym, ap, ◌∙◌, arith, nat_tests, length-append, length-set, get_or-set_same}
+use Rattle.am_pump.proofs.Words.{get_or-set_other, sum_by-append, bool_byte, is_sent, Record, World, AreSent, is_sent_in, ends_sent, sent_by}
 
 -- the last of a list
 at_end : {A : Type 0} (xs : List A) (x : A) → slice_get (xs ++ x ∷ []) (length xs) ≡ Some x
@@ -36,18 +28,9 @@ sent_push w v r place more =
     ap (λ rs. sum_by counts rs) more ∙ sum_by-append counts w.records (r ∷ [])
     ∙ ap (λ k. sent_by w place + k) (bit_of (is_sent r.outcome && (r.event.node == place)))
 
-and_true : (b : Bool) → (b && true) ≡ b
-and_true true = refl
-and_true false = refl
-
-and_false : (b : Bool) → (b && false) ≡ false
-and_false true = refl
-and_false false = refl
-
 -- a place's count goes up where its own record tells it
-pub more_sent : (sent : List ℕ) (w v : World) (r : Record) (place b : ℕ) → AreSent sent w → place < 4 → v.records ≡ w.records ++ r ∷ [] → r.event.node ≡ place
-    → b ≡ bool_byte (ends_sent v.records)
-    → AreSent (slice_set sent place (sent_by w place + b)) v
+pub more_sent : (sent : List ℕ) (w v : World) (r : Record) (place b : ℕ) → AreSent sent w → place < 4 → v.records ≡ w.records ++ r ∷ []
+    → r.event.node ≡ place → b ≡ bool_byte (ends_sent v.records) → AreSent (slice_set sent place (sent_by w place + b)) v
 more_sent sent w v r place b h within more node told =
     let bit : b ≡ bool_byte (is_sent r.outcome) = told ∙ ap (λ rs. bool_byte (ends_sent rs)) more ∙ ap bool_byte (last_is w.records r) in
     record {
@@ -62,12 +45,12 @@ more_sent sent w v r place b h within more node told =
         let count = h.count in
         let hers : (r.event.node == place) ≡ true = grind (arith, nat_tests, node) in
         let grown = sent_push w v r place more ∙ ap (λ t. sent_by w place + bool_byte (is_sent r.outcome && t)) hers
-        ∙ ap (λ t. sent_by w place + bool_byte t) (and_true (is_sent r.outcome)) in
+        ∙ ap (λ t. sent_by w place + bool_byte t) (and-true (is_sent r.outcome)) in
         ap (slice_index (slice_set sent place (sent_by w place + b))) here ∙ get_or-set_same sent place (sent_by w place + b) 0 (omega arith)
         ∙ ap (λ t. sent_by w place + t) bit ∙ sym grown ∙ ap (sent_by v) (sym here)
     at k low bit false e =
         let other : k ≢ place = grind (arith, nat_tests) in
         let others : (r.event.node == k) ≡ false = grind (arith, nat_tests, node) in
         let grown = sent_push w v r k more ∙ ap (λ t. sent_by w k + bool_byte (is_sent r.outcome && t)) others
-        ∙ ap (λ t. sent_by w k + bool_byte t) (and_false (is_sent r.outcome)) ∙ no_more (sent_by w k) in
+        ∙ ap (λ t. sent_by w k + bool_byte t) (and-false (is_sent r.outcome)) ∙ no_more (sent_by w k) in
         get_or-set_other sent place k (sent_by w place + b) 0 other ∙ h.each k low ∙ sym grown

@@ -1,16 +1,7 @@
 -- Who acknowledges an entry that is stored.
-use Rattle.std.proofs.Common.{◌≡◌, ℕ, List, [], Bool, if◌then◌else◌, take, ◌==◌, sym, ap, ◌∙◌}
-use Rattle.std.specs.List.{list_any}
-use Rattle.am_base.specs.declared.entry.Entry.{Entry}
-use Rattle.am_base.specs.Names.{names_of, without_name}
-use Rattle.am_packet.specs.Boxes.{Letter, with_letter}
-use Rattle.am_model.specs.Node.{Node, image_of, members, only_name, push_entry}
-use Rattle.am_model.specs.Emit.{ack_of}
-use Rattle.am_model.specs.Refresh.{refresh_at_end}
-use Rattle.am_model.specs.Receiving.{bodies_after, acknowledges, store_fitting}
-use Rattle.am_model.specs.Ends.{IsEndOf, Tells}
-use Rattle.am_receiver.specs.Pieces.{ack_where}
-use Rattle.am_handlers.proofs.Keeping.{at_end_who}
+use Rattle.am_receiver.proofs.Words.{◌≡◌, ℕ, List, [], Bool, if◌then◌else◌, take, ◌==◌, sym, ap, ◌∙◌, list_any, Entry, names_of, without_name, Letter}
+use Rattle.am_receiver.proofs.Words.{with_letter, Node, image_of, members, only_name, push_entry, ack_of, refresh_at_end, bodies_after, acknowledges}
+use Rattle.am_receiver.proofs.Words.{store_fitting, IsEndOf, Tells, ack_where, at_end_who}
 
 -- the end of a step leaves a node its name
 end_who : (mid new : Node) → IsEndOf (refresh_at_end mid) new → (n : Node) → IsEndOf n new → n.core.who ≡ mid.core.who
@@ -18,8 +9,7 @@ end_who mid new end n is = sym (ap (λ (x : Node). x.core.who) is.same) ∙ ap (
 
 pub stored_letters : (m : Node) (e : Entry) (to : ℕ) (is_due : Bool) (mid new : Node) (letters : List Letter)
     → is_due ≡ acknowledges (push_entry m e) to (push_entry m e) → mid ≡ record (push_entry m e) { bodies = bodies_after m.bodies e }
-    → IsEndOf (refresh_at_end mid) new → Tells (ack_where is_due to) new letters
-    → Tells (store_fitting m to 0 e).letters new letters
+    → IsEndOf (refresh_at_end mid) new → Tells (ack_where is_due to) new letters → Tells (store_fitting m to 0 e).letters new letters
 stored_letters m e to is_due mid new letters due node end tells = λ n is.
     let who = end_who mid new end n is ∙ ap (λ (x : Node). x.core.who) node in
     let same : is_due ≡ acknowledges (push_entry m e) to n = due

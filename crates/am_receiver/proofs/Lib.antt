@@ -1,3 +1,4 @@
+pub mod Words
 pub mod Lowest
 pub mod Notes
 pub mod Rows

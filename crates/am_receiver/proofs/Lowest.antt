@@ -1,10 +1,7 @@
 -- Whether a name is among so many lowest of a set.
-use Rattle.std.proofs.Common.{◌≡◌, ℕ, zero, suc, ◌+◌, ◌<◌, ◌≤◌, List, [], ◌∷◌, length, take, slice_index, refl, sym, ◌∙◌, ap, Bool, true, false, ◌&&◌, ◌==◌}
-use Rattle.std.proofs.Common.{if◌then◌else◌, nat_lt, count_by, arith}
-use Rattle.std.specs.List.{list_any}
-use Rattle.std.proofs.lemmas.Bool.Decides.{nat_tests}
-use Rattle.am_fronts.proofs.ReportLaws.{count_cons}
-use Rattle.am_base.specs.Names.{IsSet, has, place_of, life_of, name_at, names_from, names_of}
+use Rattle.am_receiver.proofs.Words.{◌≡◌, ℕ, zero, suc, ◌+◌, ◌<◌, ◌≤◌, List, [], ◌∷◌, length, take, slice_index, refl, sym, ◌∙◌, ap, Bool, true, false, ◌&&◌}
+use Rattle.am_receiver.proofs.Words.{◌==◌, if◌then◌else◌, nat_lt, count_by, arith, list_any, nat_tests, count_cons, IsSet, has, place_of, life_of, name_at}
+use Rattle.am_receiver.proofs.Words.{names_from, names_of}
 
 -- how many places there are a life of
 abbrev pub lives_in : List ℕ → ℕ

@@ -1,20 +1,7 @@
 -- What a member notes of the sequencer's fronts, and what stays.
-use Rattle.std.proofs.Common.{◌≡◌, ℕ, List, Option, refl}
-use Rattle.am_base.specs.declared.entry.Entry.{Entry}
-use Rattle.am_base.specs.declared.outcome.Outcome.{Outcome}
-use Rattle.am_packet.specs.Boxes.{Letter}
-use Rattle.am_ends.proofs.Hearing.{alike_received}
-use Rattle.am_handlers.specs.Finishing.{Done}
-use Rattle.am_handlers.proofs.Plans.{done_whole}
-use Rattle.am_core.specs.Cores.{CoreState, Keeps, IsInOrder}
-use Rattle.am_model.specs.Node.{Node}
-use Rattle.am_model.specs.Receiving.{with_noted, receive_entry}
-use Rattle.am_model.specs.Ends.{IsEndOf}
-use Rattle.am_handlers.specs.Keeps.{NodeKeeps, IsSteady}
-use Rattle.am_handlers.proofs.Doing.{core_changes}
-use Rattle.am_handlers.proofs.Ends.{end_self}
-use Rattle.am_handlers.proofs.Keeping.{keeps_steady, end_steady, end_keeps, steady_then}
-use Rattle.am_receiver.specs.Pieces.{note}
+use Rattle.am_receiver.proofs.Words.{◌≡◌, ℕ, List, Option, refl, Entry, Outcome, Letter, alike_received, Done, done_whole, CoreState, Keeps, IsInOrder, Node}
+use Rattle.am_receiver.proofs.Words.{with_noted, receive_entry, IsEndOf, NodeKeeps, IsSteady, core_changes, end_self, keeps_steady, end_steady, end_keeps}
+use Rattle.am_receiver.proofs.Words.{steady_then, note}
 
 pub noted_end : (m : Node) (core : CoreState) (base acc : ℕ) → m.core.base ≡ m.core.log.start → Keeps (note base acc) m.core core
     → IsEndOf (with_noted m base acc) (record m { core = core })

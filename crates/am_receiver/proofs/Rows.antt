@@ -1,18 +1,10 @@
 -- The rows of a member, by what their tests say.
-use Rattle.std.proofs.Common.{◌≡◌, ℕ, ◌+◌, ◌-◌, ◌<◌, ◌≤◌, Bool, true, false, not, ◌&&◌, ◌||◌, nat_lt, nat_le, if◌then◌else◌, Option, Some, refl, sym, ap, arith}
-use Rattle.std.proofs.lemmas.Bool.Decides.{nat_tests}
-use Rattle.am_base.specs.declared.entry.Entry.{Entry}
-use Rattle.am_base.specs.declared.outcome.Outcome.{Outcome}
-use Rattle.am_base.specs.declared.outcome.Outcome.TheVariants as said
-use Rattle.am_base.specs.Lists.{Log, fits}
-use Rattle.am_model.specs.Node.{Node, top, image_of, only_name, has_own_leave, is_within_bound}
-use Rattle.am_model.specs.Emit.{quiet, telling, ack_of, nack_of}
-use Rattle.am_model.specs.Receiving.{with_noted, accept_row, receive_entry, is_view, store_fitting, store}
-use Rattle.am_model.specs.Ends.{with_log, Tells}
+use Rattle.am_receiver.proofs.Words.{◌≡◌, ℕ, ◌+◌, ◌-◌, ◌<◌, ◌≤◌, Bool, true, false, not, ◌&&◌, ◌||◌, nat_lt, nat_le, if◌then◌else◌, Option, Some, refl, sym}
+use Rattle.am_receiver.proofs.Words.{ap, arith, nat_tests, Entry, Outcome, Log, fits, Node, top, image_of, only_name, has_own_leave, is_within_bound, quiet}
+use Rattle.am_receiver.proofs.Words.{telling, ack_of, nack_of, with_noted, accept_row, receive_entry, is_view, store_fitting, store, with_log, Tells, Alike}
+use Rattle.am_receiver.proofs.Words.{says_ack, says_nack, alike_saying, alike_telling, alike_where, tells, accepting}
 use Rattle.am_ends.proofs.Nodes.{Keeps}
-use Rattle.am_ends.proofs.Plans.{Alike, says_ack, says_nack, alike_saying, alike_telling, alike_where}
-use Rattle.am_handlers.proofs.Ends.{tells}
-use Rattle.am_receiver.specs.Pieces.{accepting}
+use Rattle.am_base.specs.declared.outcome.Outcome.TheVariants as said
 
 -- ---- an Accept
 

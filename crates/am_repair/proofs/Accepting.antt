@@ -1,42 +1,16 @@
 -- The last two rounds: the sequencer accepts what all have reported, and all learn of it.
-use Rattle.std.proofs.Common.{◌≡◌, inl, inr, ℕ, ◌+◌, ◌≤◌, ◌==◌, not, true, false, List, length, Option, Some, None, refl, sym, ap, ◌∙◌, subst, arith}
-use Rattle.std.proofs.Common.{length-append}
-use Rattle.std.specs.Prelude.{All}
-use Rattle.std.proofs.lemmas.Bool.Decides.{nat_tests}
-use Rattle.std.proofs.lemmas.List.Elements.{All-weaker}
-use Rattle.am_base.specs.declared.entry.Entry.TheVariants.{Data}
-use Rattle.am_base.specs.declared.image.Image.{Image}
+use Rattle.am_repair.proofs.Words.{◌≡◌, inl, inr, ℕ, ◌+◌, ◌≤◌, ◌==◌, not, true, false, List, length, Option, Some, None, refl, sym, ap, ◌∙◌, subst, arith}
+use Rattle.am_repair.proofs.Words.{length-append, All, nat_tests, All-weaker, Data, Image, Outcome, Rules, place_of, has, names_of, counted_at, Event}
+use Rattle.am_repair.proofs.Words.{OwnSend, Node, top, image_of, view, acts, is_sequencer, has_room, waiting, push_entry, Plan, finish, step, row, would_emit}
+use Rattle.am_repair.proofs.Words.{emit, tick_row, and_result, put_off, event_at, running, World, happens, split, and_both, node_if, told_pushed, after_same}
+use Rattle.am_repair.proofs.Words.{IsAtRest, HasReported, HasReports, Repair, Leads, IsOurs, our_ticks}
 use Rattle.am_base.specs.declared.event.NodeEvent.TheVariants as does
-use Rattle.am_base.specs.declared.outcome.Outcome.{Outcome}
-use Rattle.am_base.specs.Founding.{Rules}
-use Rattle.am_base.specs.Names.{place_of, has, names_of}
-use Rattle.am_base.specs.Fronts.{counted_at}
 use Rattle.am_group.specs.declared.event.Act.TheVariants as act
-use Rattle.am_group.specs.declared.event.Event.{Event}
-use Rattle.am_sender.specs.declared.OwnSend.{OwnSend}
-use Rattle.am_model.specs.Node.{Node, top, image_of, view, acts, is_sequencer, has_room, waiting, push_entry}
-use Rattle.am_model.specs.Emit.{Plan, finish}
-use Rattle.am_model.specs.Step.{step, row}
-use Rattle.am_model.specs.Calls.{would_emit, emit}
-use Rattle.am_model.specs.Ticks.{tick_row, and_result, put_off}
-use Rattle.am_play.specs.Settle.{event_at, running}
-use Rattle.am_play.specs.World.{World, happens}
-use Rattle.am_base.proofs.Greatest.{split, and_both}
-use Rattle.am_effects.proofs.Calls.{node_if}
-use Rattle.am_effects.proofs.Says.{told_pushed}
-use Rattle.am_laws.proofs.ViewSteps.{after_same}
-use Rattle.am_repair.specs.Rows.{IsAtRest, HasReported, HasReports}
-use Rattle.am_repair.specs.Calm.{Repair, Leads}
-use Rattle.am_repair.proofs.Ends.{fronts_rise}
-use Rattle.am_repair.proofs.Lists.{grows_push, counted_stays}
-use Rattle.am_repair.proofs.Ticks.{emitted, acting_row, leads_row, goes_not}
-use Rattle.am_repair.specs.Rounds.{IsOurs, ticks as our_ticks}
-use Rattle.am_repair.proofs.Schedules.{Hits, acts_hit}
-use Rattle.am_repair.proofs.Fine.{Fine, fine_goes, grow_goes, member_there, tick_is}
-use Rattle.am_repair.proofs.Ticking.{runs_there, Bounds, node_is, ticks_poll, ticks_report}
 use Rattle.am_repair.proofs.FirstWave.{Reaches, Knows, first_wave_reports, Accepts, first_wave_accepts}
-use Rattle.am_repair.proofs.ThirdWave.{HasStored}
 use Rattle.am_repair.proofs.Rounds.{wave_keep, after_ticks, after_waves, Stable, stored_stable, later_waves, ticks_keep}
+use Rattle.am_repair.proofs.{Ends.fronts_rise, Lists.grows_push, Lists.counted_stays, Ticks.emitted, Ticks.acting_row, Ticks.leads_row, Ticks.goes_not}
+use Rattle.am_repair.proofs.{Schedules.Hits, Schedules.acts_hit, Fine.Fine, Fine.fine_goes, Fine.grow_goes, Fine.member_there, Fine.tick_is}
+use Rattle.am_repair.proofs.{Ticking.runs_there, Ticking.Bounds, Ticking.node_is, Ticking.ticks_poll, Ticking.ticks_report, ThirdWave.HasStored}
 
 -- ---- the sequencer's tick
 

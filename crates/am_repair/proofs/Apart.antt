@@ -1,18 +1,10 @@
 -- What the changes of anybody else keep while a schedule runs.
-use Rattle.std.proofs.Common.{◌≡◌, ◌==◌, true, false, refl, sym, ap, ◌∙◌, subst}
-use Rattle.am_base.specs.declared.name.Stamp.{Stamp}
-use Rattle.am_base.specs.declared.outcome.Outcome.{Outcome}
-use Rattle.am_model.specs.Node.{Node, Ballot, view, is_member, is_sequencer, has_departed}
-use Rattle.am_model.specs.Ballots.{overtake}
-use Rattle.am_play.specs.World.{World}
-use Rattle.am_effects.specs.Causes.{Cause}
-use Rattle.am_effects.specs.Looks.{HasOpen}
-use Rattle.am_effects.specs.Changes.{Promises, invited, overtaken as overtaken_by, told_result, Change, refreshes, settles, takes_report, admits, numbers}
-use Rattle.am_effects.specs.Changes.{keeps_body, notes, stores, begins_list, departs, promises, opens, looks, fetches, stores_view, queues, collects, takes}
-use Rattle.am_effects.specs.Changes.{asks_to_join, asks_to_leave, closes}
-use Rattle.am_repair.specs.Calm.{Repair, IsApart}
-use Rattle.am_repair.proofs.Nodes.{CalmCause, acting, leading, leads_not, Alike, alike_refresh, alike_settle}
-use Rattle.am_repair.proofs.Leading.{no_ballot_begun, looked_open}
+use Rattle.am_repair.proofs.Words.{◌≡◌, ◌==◌, true, false, refl, sym, ap, ◌∙◌, subst, Stamp, Outcome, Node, Ballot, view, is_member, is_sequencer}
+use Rattle.am_repair.proofs.Words.{has_departed, overtake, World, Cause, HasOpen, Promises, invited, overtaken_by, told_result, Change, refreshes, settles}
+use Rattle.am_repair.proofs.Words.{takes_report, admits, numbers, begins_list, departs, promises, opens, looks, queues, collects, takes, asks_to_join}
+use Rattle.am_repair.proofs.Words.{asks_to_leave, closes, Repair, IsApart}
+use Rattle.am_repair.proofs.{Nodes.CalmCause, Nodes.acting, Nodes.leading, Nodes.leads_not, Nodes.Alike, Nodes.alike_refresh, Nodes.alike_settle}
+use Rattle.am_repair.proofs.{Leading.no_ballot_begun, Leading.looked_open}
 
 -- somebody else that is there
 pub record StaysApart (r : Repair) (m x : Node) : Type 0 where
@@ -53,12 +45,6 @@ apart_change r w c o m x y by other calm settles h = apart_as r m x y (alike_set
 apart_change r w c o m x y by other calm (takes_report s v report brings may) h = absurd (no_leader r m x by other h may.leads)
 apart_change r w c o m x y by other calm (admits s v is leads fit) h = absurd (no_leader r m x by other h leads)
 apart_change r w c o m x y by other calm (numbers e leads room why) h = absurd (no_leader r m x by other h leads)
-apart_change r w c o m x y by other calm (keeps_body s v report req body is heard) h =
-    record { who = h.who; there = h.there; apart = record { no_ballot = h.apart.no_ballot; stays = h.apart.stays; promised = h.apart.promised } }
-apart_change r w c o m x y by other calm (notes s v base acc brings heard) h =
-    record { who = h.who; there = h.there; apart = record { no_ballot = h.apart.no_ballot; stays = h.apart.stays; promised = h.apart.promised } }
-apart_change r w c o m x y by other calm (stores s v base acc number e carries heard plain may) h =
-    record { who = h.who; there = h.there; apart = record { no_ballot = h.apart.no_ballot; stays = h.apart.stays; promised = h.apart.promised } }
 apart_change r w c o m x y by other calm (begins_list s v base join image is says may) h =
     record {
       who = h.who;
@@ -82,13 +68,11 @@ apart_change r w c o m x y by other calm (promises v low why) h =
     }
 apart_change r w c o m x y by other calm (opens least resilience begins may) h = absurd (no_ballot_begun r w c x calm begins)
 apart_change r w c o m x y by other calm (looks b verdict over why look is) h = absurd (let k = looked_open c x b why in not_open r m x h k.0 k.1)
-apart_change r w c o m x y by other calm (fetches s v base number e is heard promise below why may) h =
-    record { who = h.who; there = h.there; apart = record { no_ballot = h.apart.no_ballot; stays = h.apart.stays; promised = h.apart.promised } }
-apart_change r w c o m x y by other calm (stores_view s v base number names resilience is heard own other_ promise below may) h =
-    record { who = h.who; there = h.there; apart = record { no_ballot = h.apart.no_ballot; stays = h.apart.stays; promised = h.apart.promised } }
 apart_change r w c o m x y by other calm (queues body is says member stays few) h = absurd (subst (CalmCause r w) is calm)
 apart_change r w c o m x y by other calm (collects req is) h = absurd (subst (CalmCause r w) is calm)
 apart_change r w c o m x y by other calm (takes e is says member some there) h = absurd (subst (CalmCause r w) is calm)
 apart_change r w c o m x y by other calm (asks_to_join is was) h = absurd (subst (CalmCause r w) is calm)
 apart_change r w c o m x y by other calm (asks_to_leave is was stays done) h = absurd (subst (CalmCause r w) is calm)
 apart_change r w c o m x y by other calm (closes leads leaves alone room) h = absurd (no_leader r m x by other h leads)
+apart_change r w c o m x y by other calm _ h =
+    record { who = h.who; there = h.there; apart = record { no_ballot = h.apart.no_ballot; stays = h.apart.stays; promised = h.apart.promised } }

@@ -1,32 +1,13 @@
 -- Where a group may be repaired and its lists agree, the world is calm; so the schedule repairs it.
-use Rattle.std.proofs.Common.{inl, inr, ◌≡◌, ℕ, ◌<◌, Bool, true, false, length, refl, ap, ◌∙◌, subst, arith}
-use Rattle.std.proofs.lemmas.Bool.{cases_lt}
-use Rattle.am_base.specs.declared.image.Image.{Image}
-use Rattle.am_base.specs.Founding.{Rules}
-use Rattle.am_base.specs.Names.{place_of, life_of, has}
-use Rattle.am_base.specs.Lists.{members_of, members_at}
-use Rattle.am_core.proofs.Ends.{image-top}
-use Rattle.am_model.specs.declared.status.Status.{Status}
+use Rattle.am_repair.proofs.Words.{false_from_ne_true, inl, inr, ◌≡◌, ℕ, ◌<◌, true, false, length, refl, ap, ◌∙◌, subst, arith, cases_lt, Image, Rules}
+use Rattle.am_repair.proofs.Words.{place_of, life_of, has, members_of, members_at, image-top, Status, Node, top, image_of, view, members, acts, is_member}
+use Rattle.am_repair.proofs.Words.{stranger, has_log, has_departed, World, current, is_stopped, run, MayRepair, AllOwned, run_owned, IsAtRest, Repair, Leads}
+use Rattle.am_repair.proofs.Words.{Follows, IsApart, Calm, Agree, RepairsWhereListsAgree}
 use Rattle.am_model.specs.declared.status.Status.TheVariants as status
-use Rattle.am_model.specs.Node.{Node, top, image_of, view, members, acts, is_member, stranger, has_log, has_departed}
-use Rattle.am_play.specs.World.{World, current, is_stopped, run}
-use Rattle.am_play.specs.Claims.{MayRepair}
-use Rattle.am_laws.proofs.TakenRuns.{AllOwned, run_owned}
-use Rattle.am_repair.specs.Rows.{IsAtRest}
-use Rattle.am_repair.specs.Calm.{Repair, Leads, Follows, IsApart, Calm}
-use Rattle.am_repair.specs.Standing.{Agree, RepairsWhereListsAgree}
-use Rattle.am_repair.proofs.Nodes.{acting, leading, no_open}
-use Rattle.am_repair.proofs.Going.{member_there}
-use Rattle.am_repair.proofs.Schedules.{letter_within}
-use Rattle.am_repair.proofs.Fine.{Fine, IsThere}
-use Rattle.am_repair.proofs.Repaired.{AllStored, all_catch_up}
-use Rattle.am_repair.proofs.OldLives.{OldStopped, old_lives}
+use Rattle.am_repair.proofs.{Nodes.acting, Nodes.leading, Nodes.no_open, Going.member_there, Schedules.letter_within, Fine.Fine, Fine.IsThere}
+use Rattle.am_repair.proofs.{Repaired.AllStored, Repaired.all_catch_up, OldLives.OldStopped, OldLives.old_lives}
 
 -- ---- who is there
-
-there_false : (b : Bool) → (b ≡ true → ⊥) → b ≡ false
-there_false true f = absurd (f refl)
-there_false false f = refl
 
 -- a life that hasn't begun doesn't act
 born : (rules : Rules) (w : World) (name : ℕ) → AllOwned rules w → w.lives (place_of name) < life_of name → acts (w.nodes name) ≡ true → ⊥
@@ -49,7 +30,7 @@ there_now : (rules : Rules) (w : World) (place name : ℕ) → AllOwned rules w 
     → IsThere w name
 there_now rules w place name laws old may a =
     let there = acting_there (w.nodes name) a in
-    let runs = there_false (is_stopped w name) (λ t. (let gone = may.nobody_stopped name t in cc)) in
+    let runs = false_from_ne_true (is_stopped w name) (λ t. (let gone = may.nobody_stopped name t in cc)) in
     let least = old.born (place_of name) in
     record {
       current_ = elim (cases_lt (w.lives (place_of name)) (life_of name)) [
@@ -91,7 +72,7 @@ record Begun (rules : Rules) (w : World) (place : ℕ) : Type 0 where
 
 stays_here : (rules : Rules) (w : World) (place name : ℕ) → Begun rules w place → has_departed (w.nodes name).status ≡ false
     → (w.nodes name).leaving ≡ false
-stays_here rules w place name b there = there_false (w.nodes name).leaving (λ t. (let gone = b.may.nobody_leaves name t in cc))
+stays_here rules w place name b there = false_from_ne_true (w.nodes name).leaving (λ t. (let gone = b.may.nobody_leaves name t in cc))
 
 at_rest : (rules : Rules) (w : World) (place name : ℕ) → Begun rules w place → acts (w.nodes name) ≡ true → IsAtRest (w.nodes name)
 at_rest rules w place name b a = record {
@@ -137,13 +118,12 @@ follows_first rules w place name b there =
     }
 
 apart_first : (rules : Rules) (w : World) (place name : ℕ) → Begun rules w place
-    → (let q = current w place in has (members (w.nodes q)) name ≡ false → has_departed (w.nodes name).status ≡ false
-    → IsApart (repair_of w q) (w.nodes name))
+    → (let q = current w place in has (members (w.nodes q)) name ≡ false → has_departed (w.nodes name).status ≡ false → IsApart (repair_of w q) (w.nodes name))
 apart_first rules w place name b none there =
     let q = current w place in
     let m = w.nodes name in
     let stays = stays_here rules w place name b there in
-    let no_member = there_false (is_member m.status) (λ t. (let in_ = b.agree.alone name t in cc)) in
+    let no_member = false_from_ne_true (is_member m.status) (λ t. (let in_ = b.agree.alone name t in cc)) in
     elim (cases_lt name 256) [
       | inl low ↦ record {
         no_ballot = (b.laws.blanks.views.each name low).balloted.none (no_list m.status no_member there);

@@ -1,18 +1,7 @@
 -- What is claimed of calm worlds of runs.
-use Rattle.std.proofs.Common.{List, [], ◌∷◌, sym, ap, subst, arith}
-use Rattle.std.specs.Prelude.{All}
-use Rattle.std.proofs.lemmas.List.Elements.{All-head, All-tail}
-use Rattle.am_base.specs.Founding.{Rules}
-use Rattle.am_group.specs.declared.event.Event.{Event}
-use Rattle.am_model.specs.Node.{top}
-use Rattle.am_play.specs.Settle.{Settling}
-use Rattle.am_play.specs.World.{World, start, happens, happen, run}
-use Rattle.am_play.proofs.Runs.{runs_go_on}
-use Rattle.am_laws.proofs.TakenRuns.{run_owned}
-use Rattle.am_repair.specs.Calm.{Repair, Calm}
-use Rattle.am_repair.specs.Rounds.{IsOurs, CalmStays, RoundsStore}
-use Rattle.am_repair.proofs.Fine.{Fine, fine_goes}
-use Rattle.am_repair.proofs.Rounds.{round_is, round_stores}
+use Rattle.am_repair.proofs.Words.{List, [], ◌∷◌, sym, ap, subst, arith, All, All-head, All-tail, Rules, Event, top, Settling, World, start, happens, happen}
+use Rattle.am_repair.proofs.Words.{run, runs_go_on, run_owned, Repair, Calm, IsOurs, CalmStays, RoundsStore}
+use Rattle.am_repair.proofs.{Fine.Fine, Fine.fine_goes, Rounds.round_is, Rounds.round_stores}
 
 fine_along : (rules : Rules) (r : Repair) (w : World) (es : List Event) → All (IsOurs r) es → Fine rules r w → Fine rules r (happen w es)
 unfolding happen

@@ -1,27 +1,15 @@
 -- Who has departed does nothing more.
-use Rattle.std.proofs.Common.{◌≡◌, ℕ, ◌&&◌, ◌||◌, Bool, true, false, [], refl, sym, ap, ◌∙◌, subst}
-use Rattle.am_base.specs.declared.name.Stamp.{Stamp}
-use Rattle.am_base.specs.declared.outcome.Outcome.{Outcome}
+use Rattle.am_repair.proofs.Words.{◌≡◌, ℕ, ◌&&◌, ◌||◌, Bool, true, false, [], refl, sym, ap, ◌∙◌, subst, Stamp, Outcome, Packet, Request, Spread, Bcast}
+use Rattle.am_repair.proofs.Words.{Order, Accept, Ack, Nack, Hold, JoinAsk, Welcome, LeaveAsk, Gone, Invite, Vote, Fetch, Piece, Result, HandOver, Status}
+use Rattle.am_repair.proofs.Words.{Node, is_member, is_asking, is_sequencer, has_departed, refresh_at_end, Plan, Step, quiet, finish, step, row, hear}
+use Rattle.am_repair.proofs.Words.{tick_row, tick_by, hears_member, hears_asking, hears_in_view, where_heard, hear_row, rests_at_end, leads_rests}
 use Rattle.am_base.specs.declared.outcome.Outcome.TheVariants as said
 use Rattle.am_base.specs.declared.event.NodeEvent.TheVariants as does
-use Rattle.am_packet.specs.declared.packet.Packet.{Packet}
-use Rattle.am_packet.specs.declared.packet.Packet.TheVariants.{Request, Spread, Bcast, Order, Accept, Ack, Nack, Hold, JoinAsk, Welcome, LeaveAsk, Gone, Invite}
-use Rattle.am_packet.specs.declared.packet.Packet.TheVariants.{Vote, Fetch, Piece, Result, HandOver}
-use Rattle.am_model.specs.declared.status.Status.{Status}
 use Rattle.am_model.specs.declared.status.Status.TheVariants as status
-use Rattle.am_model.specs.Node.{Node, is_member, is_asking, is_sequencer, has_departed}
-use Rattle.am_model.specs.Refresh.{refresh_at_end}
-use Rattle.am_model.specs.Emit.{Plan, Step, quiet, finish}
-use Rattle.am_model.specs.Step.{step, row, hear}
-use Rattle.am_model.specs.Ticks.{tick_row, tick_by}
-use Rattle.am_model.specs.Hearing.{hears_member, hears_asking, hears_in_view, where_heard, hear_row}
-use Rattle.am_effects.proofs.Rests.{rests_at_end, leads_rests}
 
 departed_status : (s : Status) → has_departed s ≡ true → s ≡ status.Departed
-departed_status status.Stranger h = absurd (cc)
-departed_status status.Asking h = absurd (cc)
-departed_status status.Member h = absurd (cc)
 departed_status status.Departed h = refl
+departed_status _ h = absurd (cc)
 
 no_second : (a b : Bool) → b ≡ false → (a && b) ≡ false
 no_second true b h = h

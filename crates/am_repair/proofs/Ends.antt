@@ -1,29 +1,11 @@
 -- The end of a step, for who follows and for who leads.
-use Rattle.std.proofs.Common.{◌≡◌, inl, inr, ⊎_elim, ℕ, ◌<◌, ◌≤◌, ◌==◌, not, max, min, nat_le, true, false, List, [], ◌∷◌, refl, sym, ap, ◌∙◌, subst, arith}
-use Rattle.std.proofs.lemmas.Bool.{cases_lt}
-use Rattle.std.proofs.lemmas.Bool.Decides.{nat_tests}
-use Rattle.std.proofs.lemmas.List.Elements.{All-weaker}
-use Rattle.am_base.specs.declared.name.Stamp.{Stamp}
-use Rattle.am_base.specs.declared.image.Report.{Report}
-use Rattle.am_base.specs.declared.outcome.Outcome.{Outcome}
-use Rattle.am_base.specs.Names.{size, names_of}
-use Rattle.am_base.specs.Fronts.{counted_at, is_held, accept_front}
-use Rattle.am_packet.specs.declared.packet.Packet.{Packet}
-use Rattle.am_packet.specs.Boxes.{letter_to}
-use Rattle.am_core.specs.Cores.{CoreState, accept, pass_over}
+use Rattle.am_repair.proofs.Words.{end_core, not-true, same_stamp, ◌≡◌, inl, inr, ⊎_elim, ℕ, ◌<◌, ◌≤◌, ◌==◌, not, max, min, nat_le, true, false, List, []}
+use Rattle.am_repair.proofs.Words.{◌∷◌, refl, sym, ap, ◌∙◌, subst, arith, cases_lt, nat_tests, All-weaker, Stamp, Report, Outcome, size, names_of, counted_at}
+use Rattle.am_repair.proofs.Words.{is_held, accept_front, Packet, letter_to, CoreState, accept, pass_over, own_report, tell, go_on, let_go, Node, top}
+use Rattle.am_repair.proofs.Words.{image_of, view, acts, is_member, is_sequencer, report_of, lead, refresh, refresh_at_end, telling, finish, hears_member}
+use Rattle.am_repair.proofs.Words.{hears_in_view, hears_sequencer, AllSatisfied, split, and_both, accept_front_is, above_view, below_view, settle_is}
+use Rattle.am_repair.proofs.Words.{rests_at_end, leads_rests, HasReported, HasReports, FrontsRise}
 use Rattle.am_fronts.specs.Reports as reports
-use Rattle.am_fronts.specs.Refresh.{own_report, tell, go_on, let_go}
-use Rattle.am_model.specs.Node.{Node, top, image_of, view, acts, is_member, is_sequencer, report_of}
-use Rattle.am_model.specs.Refresh.{lead, refresh, refresh_at_end}
-use Rattle.am_model.specs.Emit.{telling, finish}
-use Rattle.am_model.specs.Hearing.{hears_member, hears_in_view, hears_sequencer}
-use Rattle.am_meaning.specs.Laws.{AllSatisfied}
-use Rattle.am_base.proofs.Greatest.{split, and_both}
-use Rattle.am_meaning.proofs.AcceptFronts.{accept_front_is, above_view, below_view}
-use Rattle.am_effects.proofs.Tests.{not_true}
-use Rattle.am_effects.proofs.Rests.{settle_is, rests_at_end, leads_rests}
-use Rattle.am_laws.proofs.Stamps.{same_stamp}
-use Rattle.am_repair.specs.Rows.{HasReported, HasReports, FrontsRise}
 use Rattle.am_repair.proofs.Sets.{count_named}
 
 -- ---- who follows
@@ -35,17 +17,13 @@ follows m s v heard =
     let b = and_both (hears_member m s) _ a.0 in
     let acting = and_both (acts m) _ b.1 in
     let same = same_stamp v (view m) acting.1 in
-    let other : (s == m.core.who) ≡ false = not_true _ (and_both (not (s == m.core.who)) (is_member m.status) b.0).0 in
+    let other : (s == m.core.who) ≡ false = not-true _ (and_both (not (s == m.core.who)) (is_member m.status) b.0).0 in
     let sender = a.1 in
     let by : v.by ≡ s = grind (arith, nat_tests) in
     let own : ((view m).by == m.core.who) ≡ false = ap (λ (x : Stamp). x.by == m.core.who) (sym same) ∙ ap (λ k. k == m.core.who) by ∙ other in
     rw (acting.0, own) refl
 
 -- ---- the end of a step
-
-end_core : (m : Node) → (refresh_at_end m).core ≡ (refresh m).core
-unfolding refresh_at_end
-end_core m = ap (λ (n : Node). n.core) (settle_is (refresh m))
 
 end_reports : (m : Node) → (refresh_at_end m).reports ≡ (refresh m).reports
 unfolding refresh_at_end

@@ -1,29 +1,11 @@
 -- Worlds along a schedule: laws of every run, and calm. What an event of the schedule does there.
-use Rattle.std.proofs.Common.{◌≡◌, ℕ, zero, suc, ◌+◌, ◌<◌, ◌≤◌, ◌==◌, true, false, List, ◌++◌, length, Some, slice_get, refl, ap, ◌∙◌, arith, length-append}
-use Rattle.std.specs.Prelude.{Contains}
-use Rattle.std.proofs.lemmas.Bool.Decides.{nat_tests}
-use Rattle.std.proofs.lemmas.Option.{slice_get-get_or}
+use Rattle.am_repair.proofs.Words.{◌≡◌, ℕ, zero, suc, ◌+◌, ◌<◌, ◌≤◌, ◌==◌, true, false, List, ◌++◌, length, Some, slice_get, refl, ap, ◌∙◌, arith}
+use Rattle.am_repair.proofs.Words.{length-append, Contains, nat_tests, slice_get-get_or, Rules, place_of, has, Letter, Event, is_for, letter_at, get_behind}
+use Rattle.am_repair.proofs.Words.{Step, step, hear, event_at, World, current, is_stopped, with_step, does_event, hears_letter, happens, happens_begins}
+use Rattle.am_repair.proofs.Words.{get_front, events_have_effects, AllOwned, each_owned, Repair, Calm, IsOurs}
 use Rattle.am_base.specs.declared.event.NodeEvent.TheVariants as does
-use Rattle.am_base.specs.Founding.{Rules}
-use Rattle.am_base.specs.Names.{place_of, has}
-use Rattle.am_packet.specs.Boxes.{Letter}
 use Rattle.am_group.specs.declared.event.Act.TheVariants as act
-use Rattle.am_group.specs.declared.event.Event.{Event}
-use Rattle.am_group.specs.Addressed.{is_for}
-use Rattle.am_group.specs.Journals.{letter_at}
-use Rattle.am_group.proofs.Places.{get_behind}
-use Rattle.am_model.specs.Emit.{Step}
-use Rattle.am_model.specs.Step.{step, hear}
-use Rattle.am_play.specs.Settle.{event_at}
-use Rattle.am_play.specs.World.{World, current, is_stopped, with_step, does_event, hears_letter, happens}
-use Rattle.am_play.proofs.Beginnings.{happens_begins}
-use Rattle.am_effects.proofs.Items.{get_front}
-use Rattle.am_effects.proofs.Events.{events_have_effects}
-use Rattle.am_laws.proofs.TakenRuns.{AllOwned, each_owned}
-use Rattle.am_repair.specs.Calm.{Repair, Calm}
-use Rattle.am_repair.proofs.Saying.{Grow}
-use Rattle.am_repair.specs.Rounds.{IsOurs}
-use Rattle.am_repair.proofs.Steps.{calm_goes, ours_grow}
+use Rattle.am_repair.proofs.{Saying.Grow, Steps.calm_goes, Steps.ours_grow}
 
 pub record Fine (rules : Rules) (r : Repair) (w : World) : Type 0 where
   pub laws : AllOwned rules w

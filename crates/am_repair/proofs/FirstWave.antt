@@ -1,55 +1,19 @@
 -- What the first wave of a round brings about: a member asks for what is missing, the sequencer keeps reports, and a member accepts.
-use Rattle.am_laws.proofs.Views.{same_is_equal}
-use Rattle.std.proofs.Common.{◌≡◌, ℕ, zero, suc, ◌<◌, ◌≤◌, ◌==◌, ◌&&◌, not, nat_le, Bool, true, false, List, length, Some, refl, sym, ap, ◌∙◌, subst, arith}
-use Rattle.std.specs.Prelude.{Contains}
-use Rattle.std.proofs.lemmas.Bool.Decides.{nat_tests}
-use Rattle.am_base.specs.declared.name.Stamp.{Stamp}
-use Rattle.am_base.specs.declared.image.Report.{Report}
-use Rattle.am_base.specs.Founding.{Rules}
-use Rattle.am_base.specs.Names.{place_of, life_of, has}
-use Rattle.am_base.specs.Stamps.{stamp_eq}
-use Rattle.am_base.specs.Lists.{at_place}
-use Rattle.am_packet.specs.declared.packet.Packet.{Packet}
-use Rattle.am_packet.specs.declared.packet.Packet.TheVariants.{Accept, Nack}
-use Rattle.am_packet.specs.Boxes.{Letter, letter_to}
+use Rattle.am_repair.proofs.Words.{and_from, stamp_itself, has_in, ◌≡◌, ℕ, zero, suc, ◌<◌, ◌≤◌, ◌==◌, not, nat_le, true, false, List, length, Some, refl, sym}
+use Rattle.am_repair.proofs.Words.{ap, ◌∙◌, subst, arith, Contains, nat_tests, Stamp, Report, Rules, place_of, life_of, has, stamp_eq, at_place, Packet}
+use Rattle.am_repair.proofs.Words.{Accept, Nack, Letter, letter_to, Event, is_for, letter_at, Node, top, image_of, view, members, only_name, report_of}
+use Rattle.am_repair.proofs.Words.{report_fits, nack_of, hear, event_at, hearings, is_unknown, hears_sequencer, hears_as_sequencer, World, is_stopped}
+use Rattle.am_repair.proofs.Words.{happens, happen, IsUsed, Cause, calls, hears, refuses, IsCause, told_used, IsReport, ack, nack, request, spread, Asks}
+use Rattle.am_repair.proofs.Words.{HearsFront, Repair, Leads, Follows, ReportIs, IsCalm, Calm, IsSent, Polled, Reported, Asked, hears_}
 use Rattle.am_group.specs.declared.event.Act.TheVariants as act
-use Rattle.am_group.specs.declared.event.Event.{Event}
-use Rattle.am_group.specs.Addressed.{is_for}
-use Rattle.am_group.specs.Journals.{letter_at}
-use Rattle.am_model.specs.Node.{Node, top, image_of, view, members, only_name, report_of, report_fits}
-use Rattle.am_model.specs.Emit.{nack_of}
-use Rattle.am_model.specs.Step.{hear}
-use Rattle.am_play.specs.Settle.{event_at, hearings}
-use Rattle.am_model.specs.Sequencing.{is_unknown}
-use Rattle.am_model.specs.Hearing.{hears_sequencer, hears_as_sequencer}
-use Rattle.am_play.specs.World.{World, is_stopped, happens, happen}
-use Rattle.am_core.proofs.Lives.{IsUsed}
-use Rattle.am_effects.specs.Causes.{Cause, calls, hears, refuses}
-use Rattle.am_effects.specs.Events.{IsCause}
-use Rattle.am_laws.proofs.Trims.{told_used}
-use Rattle.am_laws.proofs.LeaderRows.{is_in}
-use Rattle.am_repair.specs.Rows.{IsReport, ack, nack, request, spread, Asks, HearsFront}
-use Rattle.am_repair.specs.Calm.{Repair, Leads, Follows, ReportIs, IsCalm, Calm}
-use Rattle.am_repair.specs.Waves.{IsSent, Polled, Reported, Asked}
-use Rattle.am_repair.proofs.Sets.{only_has}
-use Rattle.am_repair.proofs.Nodes.{acting, leading}
-use Rattle.am_repair.proofs.Leading.{is_member_now}
-use Rattle.am_repair.proofs.Following.{Skips}
-use Rattle.am_repair.proofs.Members.{fronts_are_heard, gaps_are_asked}
-use Rattle.am_repair.proofs.Sequencers.{reports_are_taken}
-use Rattle.am_repair.proofs.Steps.{ours_skip}
-use Rattle.am_repair.specs.Rounds.{hears as hears_}
-use Rattle.am_repair.proofs.Memberships.{get_some, stays_in}
-use Rattle.am_repair.proofs.Schedules.{IsHeard, WaveHits, wave_hits}
-use Rattle.am_repair.proofs.Skipping.{AllSkip, Waits}
-use Rattle.am_repair.proofs.Fine.{Fine, fine_goes, few_members, grow_goes, letter_goes, letters_more, member_there, hear_is}
-use Rattle.am_repair.proofs.Ticking.{sent_goes, step_sends, node_is}
-
-pub both_true : (a b : Bool) → a ≡ true → b ≡ true → (a && b) ≡ true
-both_true a b x y = rw (x, y) refl
+use Rattle.am_repair.proofs.{Sets.only_has, Nodes.acting, Nodes.leading, Leading.is_member_now, Following.Skips, Members.fronts_are_heard}
+use Rattle.am_repair.proofs.{Members.gaps_are_asked, Sequencers.reports_are_taken, Steps.ours_skip, Memberships.get_some, Memberships.stays_in}
+use Rattle.am_repair.proofs.{Schedules.IsHeard, Schedules.WaveHits, Schedules.wave_hits, Skipping.AllSkip, Skipping.Waits, Fine.Fine, Fine.fine_goes}
+use Rattle.am_repair.proofs.{Fine.few_members, Fine.grow_goes, Fine.letter_goes, Fine.letters_more, Fine.member_there, Fine.hear_is, Ticking.sent_goes}
+use Rattle.am_repair.proofs.{Ticking.step_sends, Ticking.node_is}
 
 same_stamp_test : (a b : Stamp) → a ≡ b → stamp_eq a b ≡ true
-same_stamp_test a b same = ap (stamp_eq a) (sym same) ∙ same_is_equal a
+same_stamp_test a b same = ap (stamp_eq a) (sym same) ∙ stamp_itself a
 
 other_test : (a b : ℕ) → (a == b) ≡ false → not (b == a) ≡ true
 other_test a b f = let g : (b == a) ≡ false = grind (arith, nat_tests) in rw g refl
@@ -63,7 +27,7 @@ hears_own r q m i own f who other =
     let member = (acting m f.acts_).0 in
     let view_ = same_stamp_test r.view (view m) (sym f.view_) in
     let by : (r.view.by == r.by) ≡ true = grind (arith, nat_tests) in
-    both_true _ _ (both_true _ _ (both_true _ _ t member) (both_true _ _ f.acts_ view_)) by
+    and_from _ _ (and_from _ _ (and_from _ _ t member) (and_from _ _ f.acts_ view_)) by
 
 pub hears_members : (r : Repair) (q : Node) (i : ℕ) → Leads r q → q.core.who ≡ r.by → (i == r.by) ≡ false → hears_as_sequencer q i r.view ≡ true
 hears_members r q i l who other =
@@ -72,12 +36,12 @@ hears_members r q i l who other =
     let t : not (i == q.core.who) ≡ true = rw differs refl in
     let member = (acting q acts_).0 in
     let view_ = same_stamp_test r.view (view q) (sym l.view_) in
-    both_true _ _ (both_true _ _ (both_true _ _ t member) (both_true _ _ acts_ view_)) l.leads
+    and_from _ _ (and_from _ _ (and_from _ _ t member) (and_from _ _ acts_ view_)) l.leads
 
 -- a member's Join stands in the sequencer's list
 pub is_known : (m : Node) (i : ℕ) → IsUsed (image_of m) → has (members m) i ≡ true → is_unknown m i ≡ false
 is_known m i used there =
-    let k = is_in (image_of m) i used.places there in
+    let k = has_in (image_of m) i used.places there in
     let life = k.is in
     let joined = k.joined in
     let same : ((at_place (image_of m) i).life == life_of i) ≡ true = grind (arith, nat_tests) in
@@ -144,10 +108,9 @@ member_node rules r i v n fine there other node =
       given = omega arith;
     }
 
-asked_hear : (rules : Rules) (r : Repair) (i after stored k : ℕ) (l : Letter) (base acc high : ℕ) (u : World) → Fine rules r u → has r.members i ≡ true
-    → (i == r.by) ≡ false → r.sent < k → after ≤ length u.letters
-    → top (u.nodes i) ≡ stored → stored < r.high → letter_at u.letters k ≡ Some l → is_for l i ≡ true → l.packet ≡ Accept r.by r.view base acc high true
-    → r.high ≤ high
+asked_hear : (rules : Rules) (r : Repair) (i after stored k : ℕ) (l : Letter) (base acc high : ℕ) (u : World) → Fine rules r u
+    → has r.members i ≡ true → (i == r.by) ≡ false → r.sent < k → after ≤ length u.letters → top (u.nodes i) ≡ stored → stored < r.high
+    → letter_at u.letters k ≡ Some l → is_for l i ≡ true → l.packet ≡ Accept r.by r.view base acc high true → r.high ≤ high
     → Asked r i after stored (happens u (event_at (place_of i) (act.Hear k)))
 asked_hear rules r i after stored k l base acc high u h there other late low at short letter meant is_ far =
     let e = event_at (place_of i) (act.Hear k) in
@@ -245,12 +208,11 @@ report_fits_list r u i report h there other is fits =
     let within = (h.follows i there other).within in
     let a : nat_le report.taken report.stored ≡ true = grind (arith, nat_tests) in
     let b : nat_le report.stored (top (u.nodes r.by)) ≡ true = grind (arith, nat_tests) in
-    both_true _ _ a b
+    and_from _ _ a b
 
 report_hear : (rules : Rules) (r : Repair) (i k high : ℕ) (l : Letter) (report : Report) (u : World) → Fine rules r u → has r.members i ≡ true
-    → (i == r.by) ≡ false → r.sent < k
-    → letter_at u.letters k ≡ Some l → is_for l r.by ≡ true → IsReport l.packet i r.view report → report.taken ≤ report.stored → high ≤ report.stored
-    → high ≤ (((happens u (event_at (place_of r.by) (act.Hear k))).nodes r.by).reports i).stored
+    → (i == r.by) ≡ false → r.sent < k → letter_at u.letters k ≡ Some l → is_for l r.by ≡ true → IsReport l.packet i r.view report
+    → report.taken ≤ report.stored → high ≤ report.stored → high ≤ (((happens u (event_at (place_of r.by) (act.Hear k))).nodes r.by).reports i).stored
 report_hear rules r i k high l report u h there other late letter meant is_ fits much =
     let e = event_at (place_of r.by) (act.Hear k) in
     let q = u.nodes r.by in
@@ -303,9 +265,8 @@ first_wave_reports rules r i after w low h x there other =
 -- ---- a member accepts
 
 front_hear : (rules : Rules) (r : Repair) (i k : ℕ) (l : Letter) (base acc high : ℕ) (u : World) → Fine rules r u → has r.members i ≡ true
-    → (i == r.by) ≡ false
-    → letter_at u.letters k ≡ Some l → is_for l i ≡ true → l.packet ≡ Accept r.by r.view base acc high true → r.high ≤ acc → r.high ≤ top (u.nodes i)
-    → r.high ≤ ((happens u (event_at (place_of i) (act.Hear k))).nodes i).core.acc
+    → (i == r.by) ≡ false → letter_at u.letters k ≡ Some l → is_for l i ≡ true → l.packet ≡ Accept r.by r.view base acc high true → r.high ≤ acc
+    → r.high ≤ top (u.nodes i) → r.high ≤ ((happens u (event_at (place_of i) (act.Hear k))).nodes i).core.acc
 front_hear rules r i k l base acc high u h there other letter meant is_ far stored =
     let e = event_at (place_of i) (act.Hear k) in
     let m = u.nodes i in
@@ -323,8 +284,7 @@ abbrev pub Accepts : Rules → Repair → ℕ → World → Type 0
 Accepts rules r i = Reaches rules r (λ u. (u.nodes i).core.acc)
 
 pub first_wave_accepts : (rules : Rules) (r : Repair) (i after : ℕ) (w : World) → r.sent ≤ after → Fine rules r w → Polled r i after r.high w
-    → has r.members i ≡ true → (i == r.by) ≡ false → r.high ≤ top (w.nodes i)
-    → Accepts rules r i (happen w (hearings w after))
+    → has r.members i ≡ true → (i == r.by) ≡ false → r.high ≤ top (w.nodes i) → Accepts rules r i (happen w (hearings w after))
 first_wave_accepts rules r i after w low h poll there other stored =
     let z = wave_hits P Q w after poll.sent.number (place_of i) (heard_there rules r w after i poll.letter h there poll.sent) hits
     (h, stored, stays_same w) in

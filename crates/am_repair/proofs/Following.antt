@@ -1,29 +1,13 @@
 -- What a member's changes keep while a schedule runs.
-use Rattle.std.proofs.Common.{◌≡◌, ℕ, ◌+◌, ◌≤◌, ◌==◌, true, false, Option, Some, None, refl, sym, ap, ◌∙◌, subst, arith, length-append, ◌≢◌}
-use Rattle.am_base.specs.declared.name.Stamp.{Stamp}
-use Rattle.am_base.specs.declared.image.Image.{Image}
-use Rattle.am_base.specs.declared.entry.Entry.{Entry}
-use Rattle.am_base.specs.declared.entry.Entry.TheVariants.{Data}
-use Rattle.am_base.specs.declared.outcome.Outcome.{Outcome}
-use Rattle.am_base.specs.Lists.{Log, top_of, told_by, entry_at, image_at, after}
-use Rattle.am_core.proofs.Ends.{image-next}
-use Rattle.am_model.specs.Node.{Node, Ballot, top, image_of, is_sequencer, push_entry}
-use Rattle.am_model.specs.Calls.{is_unfinished}
-use Rattle.am_model.specs.Ballots.{overtake, with_promise}
-use Rattle.am_model.specs.Receiving.{is_view, bodies_after}
-use Rattle.am_play.specs.World.{World}
+use Rattle.am_repair.proofs.Words.{not-false, same_stamp, ◌≡◌, ℕ, ◌+◌, ◌≤◌, ◌==◌, true, false, Option, Some, None, refl, sym, ap, ◌∙◌, subst, arith}
+use Rattle.am_repair.proofs.Words.{length-append, ◌≢◌, Stamp, Image, Entry, Data, Outcome, Log, top_of, told_by, entry_at, image_at, after, image-next, Node}
+use Rattle.am_repair.proofs.Words.{Ballot, top, image_of, is_sequencer, push_entry, is_unfinished, overtake, with_promise, is_view, bodies_after, World}
+use Rattle.am_repair.proofs.Words.{Cause, hears, Promises, invited, overtaken_by, told_result, Carries, whole_entry, by_number, Change, refreshes, settles}
+use Rattle.am_repair.proofs.Words.{takes_report, admits, numbers, stores, begins_list, departs, promises, opens, looks, fetches, stores_view, queues}
+use Rattle.am_repair.proofs.Words.{collects, takes, asks_to_join, asks_to_leave, closes, told_pushed, view_pushed, acts_pushed, Repair, Follows, Stands}
 use Rattle.am_packet.specs.declared.packet.Packet.TheVariants as packet
-use Rattle.am_effects.specs.Causes.{Cause, hears}
-use Rattle.am_effects.specs.Changes.{Promises, invited, overtaken as overtaken_by, told_result, Carries, whole_entry, by_number, Change, refreshes, settles}
-use Rattle.am_effects.specs.Changes.{takes_report, admits, numbers, keeps_body, notes, stores, begins_list, departs, promises, opens, looks, fetches}
-use Rattle.am_effects.specs.Changes.{stores_view, queues, collects, takes, asks_to_join, asks_to_leave, closes}
-use Rattle.am_effects.proofs.Tests.{not_false}
-use Rattle.am_effects.proofs.Says.{told_pushed, view_pushed, acts_pushed}
-use Rattle.am_laws.proofs.Stamps.{same_stamp}
-use Rattle.am_repair.specs.Calm.{Repair, Follows, Stands}
-use Rattle.am_repair.proofs.Lists.{entry_within, same_after}
 use Rattle.am_repair.proofs.Nodes.{CalmCause, acting, leads_not, not_open, Alike, alike_here, alike_refresh, alike_settle, view_alike, acts_alike, rest_alike}
-use Rattle.am_repair.proofs.Leading.{no_ballot_begun, looked_open, not_behind}
+use Rattle.am_repair.proofs.{Lists.entry_within, Lists.same_after, Leading.no_ballot_begun, Leading.looked_open, Leading.not_behind}
 
 -- an entry that isn't the next above a number
 abbrev pub Skips : ℕ → Cause → Type 0
@@ -70,9 +54,8 @@ follows_as r c q m x y a h =
 
 -- it stores what comes next in the sequencer's list
 follows_pushed : (r : Repair) (c : Cause) (q m x : Node) (e there : Entry) → (Skips (top m) c → top x + 1 ≢ top m + 1) → is_view e ≡ false
-    → entry_at q.core.log (top x + 1) ≡ Some there
-    → ((image : Image) → after image (top x + 1) e ≡ after image (top x + 1) there) → FollowsOn r c q m x
-    → FollowsOn r c q m (record (push_entry x e) { bodies = bodies_after x.bodies e })
+    → entry_at q.core.log (top x + 1) ≡ Some there → ((image : Image) → after image (top x + 1) e ≡ after image (top x + 1) there)
+    → FollowsOn r c q m x → FollowsOn r c q m (record (push_entry x e) { bodies = bodies_after x.bodies e })
 follows_pushed r c q m x e there skips plain is same h =
     let f = h.follows in
     let low = f.low in let stored = h.stored in let reached = f.reached in
@@ -117,7 +100,7 @@ carried r w c x s v base acc number e calm (by_number from req body is there) =
 -- a promise of its own view changes nothing
 overtaken_same : (v : Stamp) (o : Option Ballot) → is_unfinished o ≡ false → overtake v o ≡ o
 overtaken_same v None h = refl
-overtaken_same v (Some b) h = let over = not_false b.is_over h in rw over refl
+overtaken_same v (Some b) h = let over = not-false b.is_over h in rw over refl
 
 promised_same : (r : Repair) (w : World) (c : Cause) (q x : Node) (v : Stamp) → CalmCause r w c → Follows r q x → Promises c x v → Alike x (with_promise x v)
 promised_same r w c q x v calm f (invited s v_ is heard own) = absurd (subst (CalmCause r w) is calm)
@@ -130,18 +113,13 @@ promised_same r w c q x v calm f (told_result s v_ base number names resilience 
 no_leader : (r : Repair) (c : Cause) (q m x : Node) → r.view.by ≡ r.by → (m.core.who == r.by) ≡ false → FollowsOn r c q m x → is_sequencer x ≡ true → ⊥
 no_leader r c q m x by other h t = leads_not x r.by (ap (λ (v : Stamp). v.by) h.follows.view_ ∙ by) (ap (λ k. k == r.by) h.who ∙ other) t
 
-pub follow_change : (r : Repair) (w : World) (c : Cause) (o : Outcome) (m x y : Node) → r.view.by ≡ r.by → (m.core.who == r.by) ≡ false → CalmCause r w c
-    → Change c o x y
-    → FollowsOn r c (w.nodes r.by) m x → FollowsOn r c (w.nodes r.by) m y
+pub follow_change : (r : Repair) (w : World) (c : Cause) (o : Outcome) (m x y : Node) → r.view.by ≡ r.by → (m.core.who == r.by) ≡ false
+    → CalmCause r w c → Change c o x y → FollowsOn r c (w.nodes r.by) m x → FollowsOn r c (w.nodes r.by) m y
 follow_change r w c o m x y by other calm refreshes h = follows_as r c _ m x y (alike_refresh x) h
 follow_change r w c o m x y by other calm settles h = follows_as r c _ m x y (alike_settle x) h
 follow_change r w c o m x y by other calm (takes_report s v report brings may) h = absurd (no_leader r c _ m x by other h may.leads)
 follow_change r w c o m x y by other calm (admits s v is leads fit) h = absurd (no_leader r c _ m x by other h leads)
 follow_change r w c o m x y by other calm (numbers e leads room why) h = absurd (no_leader r c _ m x by other h leads)
-follow_change r w c o m x y by other calm (keeps_body s v report req body is heard) h = follows_as r c _ m x y
-    (alike_here x y refl refl refl refl refl refl (omega arith) (omega arith)) h
-follow_change r w c o m x y by other calm (notes s v base acc brings heard) h = follows_as r c _ m x y
-    (alike_here x y refl refl refl refl refl refl (omega arith) (omega arith)) h
 follow_change r w c o m x y by other calm (stores s v base acc number e carries heard plain may) h =
     let k = carried r w c x s v base acc number e calm carries in
     let next = may.next in
@@ -164,3 +142,5 @@ follow_change r w c o m x y by other calm (takes e is says member some there) h 
 follow_change r w c o m x y by other calm (asks_to_join is was) h = absurd (subst (CalmCause r w) is calm)
 follow_change r w c o m x y by other calm (asks_to_leave is was stays done) h = absurd (subst (CalmCause r w) is calm)
 follow_change r w c o m x y by other calm (closes leads leaves alone room) h = absurd (no_leader r c _ m x by other h leads)
+follow_change r w c o m x y by other calm _ h = follows_as r c _ m x y
+    (alike_here x y refl refl refl refl refl refl (omega arith) (omega arith)) h

@@ -1,37 +1,16 @@
 -- A calm world stays calm while a schedule runs.
-use Rattle.std.proofs.Common.{◌≡◌, ◌⊎◌, inl, inr, ℕ, ◌<◌, ◌==◌, not, Bool, true, false, if◌then◌else◌, Option, Some, None, refl, sym, ap, ◌∙◌}
-use Rattle.am_base.specs.declared.outcome.Outcome.{Outcome}
+use Rattle.am_repair.proofs.Words.{not-false, ◌≡◌, ◌⊎◌, inl, inr, ℕ, ◌<◌, ◌==◌, not, Bool, true, false, if◌then◌else◌, Option, Some, None, refl, sym, ap, ◌∙◌}
+use Rattle.am_repair.proofs.Words.{Outcome, Rules, Letter, Event, is_for, letter_at, Status, Node, is_member, has_departed, Step, step, hear, event_at, World}
+use Rattle.am_repair.proofs.Words.{is_stopped, with_record, with_step, happens, hears_letter, Cause, calls, hears, Changes, no_change, changed, Effect, actor}
+use Rattle.am_repair.proofs.Words.{IsCause, tick, steps_have_effects, hearing_has_effects, HeardNames, HeardUsed, Along, along_changes, IsOurs, hears_}
+use Rattle.am_repair.proofs.Words.{Repair, Calm}
+use Rattle.am_repair.specs.Rounds.{ticks}
 use Rattle.am_base.specs.declared.outcome.Outcome.TheVariants as said
 use Rattle.am_base.specs.declared.event.NodeEvent.TheVariants as does
-use Rattle.am_base.specs.Founding.{Rules}
-use Rattle.am_packet.specs.Boxes.{Letter}
 use Rattle.am_group.specs.declared.event.Act.TheVariants as act
-use Rattle.am_group.specs.declared.event.Event.{Event}
-use Rattle.am_group.specs.Addressed.{is_for}
-use Rattle.am_group.specs.Journals.{letter_at}
-use Rattle.am_model.specs.declared.status.Status.{Status}
 use Rattle.am_model.specs.declared.status.Status.TheVariants as status
-use Rattle.am_model.specs.Node.{Node, is_member, has_departed}
-use Rattle.am_model.specs.Emit.{Step}
-use Rattle.am_model.specs.Step.{step, hear}
-use Rattle.am_play.specs.Settle.{event_at}
-use Rattle.am_play.specs.World.{World, is_stopped, with_record, with_step, happens, hears_letter}
-use Rattle.am_effects.specs.Causes.{Cause, calls, hears}
-use Rattle.am_effects.specs.Changes.{Changes, unchanged as no_change, changed}
-use Rattle.am_effects.specs.Effects.{Effect}
-use Rattle.am_effects.specs.Events.{actor, IsCause, tick}
-use Rattle.am_effects.proofs.Tests.{not_false}
-use Rattle.am_effects.proofs.Hearing.{steps_have_effects, hearing_has_effects}
-use Rattle.am_laws.proofs.ViewNames.{HeardNames}
-use Rattle.am_laws.proofs.Taken.{HeardUsed}
-use Rattle.am_laws.proofs.TakenRuns.{Along, along_changes}
-use Rattle.am_repair.specs.Rounds.{IsOurs, ticks, hears as hears_}
-use Rattle.am_repair.specs.Calm.{Repair, Calm}
-use Rattle.am_repair.proofs.Nodes.{CalmCause}
-use Rattle.am_repair.proofs.Leading.{Goes, lead_change, TellsTaken}
-use Rattle.am_repair.proofs.Following.{FollowsOn, follow_change}
-use Rattle.am_repair.proofs.Apart.{StaysApart, apart_change}
-use Rattle.am_repair.proofs.Departed.{IsStill, departed_ticks, departed_hears}
+use Rattle.am_repair.proofs.{Nodes.CalmCause, Leading.Goes, Leading.lead_change, Leading.TellsTaken, Following.FollowsOn, Following.follow_change}
+use Rattle.am_repair.proofs.{Apart.StaysApart, Apart.apart_change, Departed.IsStill, Departed.departed_ticks, Departed.departed_hears}
 
 -- ---- the events of a schedule
 
@@ -76,7 +55,7 @@ our_letter r w place number (Some l) is late h =
     (λ g. steps (hear m l.packet) (record {
       cause = hears l.packet;
       calm = h.letters number l late is;
-      is = record { letter = l; there = is; addressed = not_false _ f; is = refl };
+      is = record { letter = l; there = is; addressed = not-false _ f; is = refl };
       effect = hearing_has_effects m l.packet;
       still = departed_hears m l.packet;
     })))
@@ -89,16 +68,14 @@ ours r w e (hears_ place number late) h = our_letter r w place number (letter_at
 -- ---- changes in turn
 
 pub lead_changes : (rules : Rules) (r : Repair) (taken : ℕ → ℕ) (w : World) (q : Node) {c : Cause} {o : Outcome} (m n : Node) → r.view.by ≡ r.by
-    → CalmCause r w c → TellsTaken r taken c → HeardNames c → HeardUsed c
-    → Changes c o m n → Along rules m → Goes r taken q m → Goes r taken q n
+    → CalmCause r w c → TellsTaken r taken c → HeardNames c → HeardUsed c → Changes c o m n → Along rules m → Goes r taken q m → Goes r taken q n
 lead_changes rules r taken w q m n by calm tells names used no_change a h = h
 lead_changes rules r taken w q m n by calm tells names used (changed {n = x} one more) a h =
     lead_changes rules r taken w q x n by calm tells names used more (along_changes rules m x names used (changed one no_change) a)
     (lead_change r taken w q _ _ m x by calm tells a.owned.fronts one h)
 
-pub follow_changes : (r : Repair) (w : World) {c : Cause} {o : Outcome} (m x y : Node) → r.view.by ≡ r.by → (m.core.who == r.by) ≡ false → CalmCause r w c
-    → Changes c o x y
-    → FollowsOn r c (w.nodes r.by) m x → FollowsOn r c (w.nodes r.by) m y
+pub follow_changes : (r : Repair) (w : World) {c : Cause} {o : Outcome} (m x y : Node) → r.view.by ≡ r.by → (m.core.who == r.by) ≡ false
+    → CalmCause r w c → Changes c o x y → FollowsOn r c (w.nodes r.by) m x → FollowsOn r c (w.nodes r.by) m y
 follow_changes r w m x y by other calm no_change h = h
 follow_changes r w m x y by other calm (changed {n = z} one more) h = follow_changes r w m z y by other calm more
     (follow_change r w _ _ m x z by other calm one h)
@@ -120,7 +97,5 @@ pub member_there : (m : Node) → is_member m.status ≡ true → has_departed m
 member_there m h = by_status m.status h
   where
     by_status : (s : Status) → is_member s ≡ true → has_departed s ≡ false
-    by_status status.Stranger h = absurd (cc)
-    by_status status.Asking h = absurd (cc)
     by_status status.Member h = refl
-    by_status status.Departed h = absurd (cc)
+    by_status _ h = absurd (cc)

@@ -1,51 +1,21 @@
 -- A sequencer trims no more than it knows each member of its list to have taken: each change keeps it.
-use Rattle.std.proofs.Common.{◌≡◌, ◌≢◌, ⊎_elim, ℕ, ◌+◌, ◌<◌, ◌≤◌, ◌==◌, ◌||◌, not, nat_lt, true, false, List, length, refl, sym, ap, ◌∙◌, subst, arith}
-use Rattle.std.proofs.lemmas.Bool.Decides.{nat_tests}
-use Rattle.am_base.specs.declared.name.Stamp.{Stamp}
-use Rattle.am_base.specs.declared.image.Image.{Image}
-use Rattle.am_base.specs.declared.image.Report.{Report}
-use Rattle.am_base.specs.declared.image.Row.{Row}
-use Rattle.am_base.specs.declared.entry.Entry.{Entry}
-use Rattle.am_base.specs.declared.entry.Entry.TheVariants.{Data, Join, Leave, View}
-use Rattle.am_base.specs.declared.outcome.Outcome.{Outcome}
-use Rattle.am_base.specs.Names.{place_of, life_of, has}
-use Rattle.am_base.specs.Stamps.{stamp_lt, stamp_eq}
-use Rattle.am_base.specs.Lists.{at_place, members_of, with_row, after}
+use Rattle.am_repair.proofs.Words.{fetch_follows, stamp_by, other_asks, promise_is, not_above_view, not_own, base_low, other_heard, has_in, ◌≡◌, ◌≢◌, ⊎_elim}
+use Rattle.am_repair.proofs.Words.{ℕ, ◌+◌, ◌<◌, ◌≤◌, ◌==◌, nat_lt, true, false, List, length, refl, sym, ap, ◌∙◌, subst, arith, nat_tests, Stamp, Image}
+use Rattle.am_repair.proofs.Words.{Report, Row, Entry, Data, Join, Leave, Outcome, place_of, life_of, has, at_place, members_of, with_row, after, row_at, In}
+use Rattle.am_repair.proofs.Words.{row_set, long_after, accept, pass_over, own_report, tell, go_on, let_go, Node, Ballot, top, image_of, view, members}
+use Rattle.am_repair.proofs.Words.{is_sequencer, push_entry, trim_up_to, with_report, lead, refresh, settle, refresh_at_end, Verdict, with_promise}
+use Rattle.am_repair.proofs.Words.{next_stamp, with_admitted, split, Cause, hears, HasOpen, Looks, decides, Promises, invited, overtaken, told_result}
+use Rattle.am_repair.proofs.Words.{Numbers, asked_send, own_send, asked_join, asked_leave, Change, refreshes, settles, takes_report, admits, numbers, notes}
+use Rattle.am_repair.proofs.Words.{stores, begins_list, departs, promises, opens, looks, fetches, stores_view, asks_to_join, closes, settle_is, told_pushed}
+use Rattle.am_repair.proofs.Words.{leads_pushed, in_is, at_most_below, view_last, Balloted, next_above, Fronts, told_used, TrimsKnown}
 use Rattle.am_packet.specs.declared.packet.Packet.TheVariants as packet
-use Rattle.am_chain_lists.proofs.Rows.{row_at, In, row_set, long_after}
-use Rattle.am_core.specs.Cores.{accept, pass_over}
-use Rattle.am_fronts.specs.Refresh.{own_report, tell, go_on, let_go}
-use Rattle.am_model.specs.Node.{Node, Ballot, top, image_of, view, members, is_member, is_asking, is_sequencer, push_entry, trim_up_to, with_report}
-use Rattle.am_model.specs.Refresh.{lead, refresh, settle, refresh_at_end}
-use Rattle.am_model.specs.Ballots.{Verdict, with_promise, next_stamp}
-use Rattle.am_model.specs.Joining.{with_admitted}
-use Rattle.am_model.specs.Hearing.{hears_member, hears_asking}
-use Rattle.am_model.specs.Receiving.{is_view}
-use Rattle.am_base.proofs.Greatest.{split, and_both}
-use Rattle.am_effects.specs.Causes.{Cause, hears}
-use Rattle.am_effects.specs.Looks.{HasOpen, Looks, decides}
-use Rattle.am_effects.specs.Changes.{Promises, invited, overtaken, told_result, Numbers, asked_send, own_send, asked_join, asked_leave, Fetches, without_ballot}
-use Rattle.am_effects.specs.Changes.{for_ballot, Change, refreshes, settles, takes_report, admits, numbers, notes, stores, begins_list, departs}
-use Rattle.am_effects.specs.Changes.{promises, opens, looks, fetches, stores_view, asks_to_join, closes}
-use Rattle.am_effects.proofs.Tests.{not_true}
-use Rattle.am_effects.proofs.Rests.{settle_is}
-use Rattle.am_effects.proofs.Says.{told_pushed, view_pushed, leads_pushed}
-use Rattle.am_laws.proofs.LeaderRows.{is_in, in_is}
-use Rattle.am_laws.proofs.Stamps.{same_stamp, not_above_itself, at_most_below}
-use Rattle.am_laws.proofs.Views.{same_is_equal}
-use Rattle.am_laws.proofs.ViewSteps.{view_last}
-use Rattle.am_laws.proofs.ViewChanges.{Balloted, next_above}
-use Rattle.am_laws.proofs.Trims.{Fronts, told_used}
-use Rattle.am_repair.specs.Known.{TrimsKnown}
-use Rattle.am_repair.proofs.Ends.{follows, raise_up, lead_reports}
-use Rattle.am_repair.proofs.Nodes.{acting, leading, no_open, not_open, alike_refresh, leads_alike}
-use Rattle.am_repair.proofs.Leading.{least_low, base_low, looked_open}
+use Rattle.am_repair.proofs.{Ends.follows, Ends.raise_up, Ends.lead_reports, Nodes.leading, Nodes.no_open, Nodes.not_open, Nodes.alike_refresh}
+use Rattle.am_repair.proofs.{Nodes.leads_alike, Leading.least_low, Leading.looked_open}
 
 -- ---- who is a member after an entry was one before, but for a joiner
 
 set_back : (image : Image) (name i : ℕ) (r : Row) → length image.rows ≡ 16 → (In r (life_of i) → In (row_at image (place_of name)) (life_of i))
-    → In (row_at (with_row image name r) (place_of i)) (life_of i)
-    → In (row_at image (place_of i)) (life_of i)
+    → In (row_at (with_row image name r) (place_of i)) (life_of i) → In (row_at image (place_of i)) (life_of i)
 set_back image name i r long back h = ⊎_elim
     (λ (x : (place_of i ≡ place_of name) × (row_at (with_row image name r) (place_of i) ≡ r)).
     subst (λ p. In (row_at image p) (life_of i)) (sym x.0) (back (subst (λ y. In y (life_of i)) x.1 h)))
@@ -91,7 +61,7 @@ member_back m e i f back there =
     let used = told_used m f in
     let longer = long_after (image_of m) (top m + 1) e used.places in
     let here = ap (λ (x : Image). has (members_of x) i) (sym (told_pushed m e)) ∙ there in
-    in_is (image_of m) i used.places (back used.places (is_in (after (image_of m) (top m + 1) e) i longer here))
+    in_is (image_of m) i used.places (back used.places (has_in (after (image_of m) (top m + 1) e) i longer here))
 
 -- ---- a refresh
 
@@ -152,38 +122,12 @@ known_numbered c m e none (asked_leave s v report is other known stays) f h =
 
 -- ---- who doesn't lead
 
-no_leader : (m : Node) → (is_sequencer m ≡ true → ⊥) → TrimsKnown m
-no_leader m none t i few there = absurd (none t)
-
--- a view of another name
-other_view : (m : Node) (by : ℕ) → (view m).by ≡ by → (by == m.core.who) ≡ false → is_sequencer m ≡ true → ⊥
-other_view m by is other t = let own = (leading m t).1 in let z : ⊥ = grind (arith, nat_tests) in z
-
-leader_promise : (m : Node) → is_sequencer m ≡ true → m.core.promise ≡ view m
-leader_promise m t = (acting m (leading m t).0).1
-
--- a promise above the view
-above_view : (m : Node) → stamp_lt (view m) m.core.promise ≡ true → is_sequencer m ≡ true → ⊥
-above_view m above t =
-    let z : stamp_lt (view m) (view m) ≡ true = subst (λ s. stamp_lt (view m) s ≡ true) (leader_promise m t) above in
-    let y = not_above_itself (view m) in
-    cc
-
-other_asking : (m : Node) (s : ℕ) → hears_asking m s ≡ true → (s == m.core.who) ≡ false
-other_asking m s h = not_true (s == m.core.who) (and_both (not (s == m.core.who)) (is_member m.status || is_asking m.status) h).0
-
-other_member : (m : Node) (s : ℕ) → hears_member m s ≡ true → (s == m.core.who) ≡ false
-other_member m s h = not_true (s == m.core.who) (and_both (not (s == m.core.who)) (is_member m.status) h).0
-
-by_sender : (v : Stamp) (s : ℕ) → (v.by == s) ≡ true → v.by ≡ s
-by_sender v s h = grind (arith, nat_tests)
-
 promised_leads : (c : Cause) (m : Node) (v : Stamp) → Promises c m v → Balloted m → is_sequencer (with_promise m v) ≡ true → ⊥
 promised_leads c m v (invited s _ is heard own) k t =
-    other_view (with_promise m v) s (ap (λ (x : Stamp). x.by) (sym (leader_promise (with_promise m v) t)) ∙ by_sender v s own) (other_asking m s heard) t
+    not_own (with_promise m v) s (ap (λ (x : Stamp). x.by) (sym (promise_is (with_promise m v) t)) ∙ stamp_by v s own) (other_asks m s heard) t
 promised_leads c m v (told_result s _ base number names resilience is heard own other) k t =
-    other_view (with_promise m v) v.by (ap (λ (x : Stamp). x.by) (sym (leader_promise (with_promise m v) t))) other t
-promised_leads c m v (overtaken s _ vote is heard above) k t = above_view (with_promise m v) (at_most_below (view m) m.core.promise v k.high above) t
+    not_own (with_promise m v) v.by (ap (λ (x : Stamp). x.by) (sym (promise_is (with_promise m v) t))) other t
+promised_leads c m v (overtaken s _ vote is heard above) k t = not_above_view (with_promise m v) (at_most_below (view m) m.core.promise v k.high above) t
 
 -- an open ballot's node doesn't act
 open_leads : (m : Node) (b : Ballot) → HasOpen m b → Balloted m → is_sequencer m ≡ true → ⊥
@@ -192,43 +136,6 @@ open_leads m b o k t = not_open m b o (no_open m k (leading m t).0)
 known_look : (m : Node) (b : Ballot) (v : Verdict) → Looks m b v → (is_sequencer m ≡ true → ⊥) → TrimsKnown v.node
 known_look m b v (decides may) none = λ t i few there. (let low : nat_lt i 256 ≡ true = grind (arith, nat_tests) in rw low (omega arith))
 known_look m b v _ none = λ t i few there. absurd (none t)
-
--- what is fetched is no View of its own
-fetch_leads : (m : Node) (s : ℕ) (v : Stamp) (base : ℕ) (e : Entry) → Fetches m s v e → (s == m.core.who) ≡ false → stamp_eq v m.core.promise ≡ true
-    → stamp_eq (view m) v ≡ false
-    → is_sequencer (push_entry (trim_up_to m base) e) ≡ true → ⊥
-fetch_leads m s v base e why other same below t = split (is_view e) (λ is. viewed e why is t) (λ plain. unviewed e plain t)
-  where
-    promise : v ≡ m.core.promise
-    promise = same_stamp v m.core.promise same
-
-    unviewed : (e : Entry) → is_view e ≡ false → is_sequencer (push_entry (trim_up_to m base) e) ≡ true → ⊥
-    unviewed e plain t =
-        let p = leader_promise (push_entry (trim_up_to m base) e) t ∙ view_pushed (trim_up_to m base) e plain in
-        let z : stamp_eq (view m) v ≡ true = ap (λ x. stamp_eq x v) (sym p ∙ sym promise) ∙ same_is_equal v in
-        cc
-
-    by_name : (stamp : Stamp) (names : List ℕ) (resilience : ℕ) → Fetches m s v (View stamp names resilience) → stamp ≡ v
-        → ((stamp.by == m.core.who) ≡ false → is_sequencer (push_entry (trim_up_to m base) (View stamp names resilience)) ≡ true → ⊥)
-        → is_sequencer (push_entry (trim_up_to m base) (View stamp names resilience)) ≡ true → ⊥
-    by_name stamp names resilience (without_ballot none own past) at f t =
-        let a = by_sender v s own in
-        let b = ap (λ (x : Stamp). x.by) at in
-        let z : (stamp.by == m.core.who) ≡ false = ap (λ x. x == m.core.who) (b ∙ a) ∙ other in
-        f z t
-    by_name stamp names resilience (for_ballot b open_ from past) at f t =
-        let u : stamp_eq stamp v ≡ true = ap (stamp_eq stamp) (sym at) ∙ same_is_equal stamp in
-        absurd (split (stamp_lt v stamp) (λ x. let p = rw x at past in cc) (λ x. let p = rw (x, u) at past in cc))
-
-    viewed : (e : Entry) → Fetches m s v e → is_view e ≡ true → is_sequencer (push_entry (trim_up_to m base) e) ≡ true → ⊥
-    viewed (Data from req body) why is t = absurd (cc)
-    viewed (Join name) why is t = absurd (cc)
-    viewed (Leave name) why is t = absurd (cc)
-    viewed (View stamp names resilience) why is t =
-        let n = push_entry (trim_up_to m base) (View stamp names resilience) in
-        let last = view_last (trim_up_to m base) stamp names resilience in
-        let at : stamp ≡ v = sym (leader_promise n t ∙ last) ∙ sym promise in
-        by_name stamp names resilience why at (other_view n stamp.by (ap (λ (x : Stamp). x.by) last)) t
 
 -- ---- each change
 
@@ -242,20 +149,20 @@ known_change c o m n none k f (notes s v base acc brings heard) h = λ t i few t
 known_change c o m n none k f (stores s v base acc number e carries heard plain may) h = λ t i few there. absurd
     (let g = follows m s v heard in let same = leads_pushed m e plain in cc)
 known_change c o m n none k f (begins_list s v base join image is says may) h = λ t i few there. absurd (
-    let own = by_sender v s may.own in
-    let p = leader_promise n t in
-    other_view n s (ap (λ (x : Stamp). x.by) (sym p) ∙ own) (other_asking m s may.asks) t)
+    let own = stamp_by v s may.own in
+    let p = promise_is n t in
+    not_own n s (ap (λ (x : Stamp). x.by) (sym p) ∙ own) (other_asks m s may.asks) t)
 known_change c o m n none k f (departs s v number is heard leaves) h = λ t i few there. absurd (cc)
 known_change c o m n none k f (promises v low why) h = λ t i few there. absurd (promised_leads c m v why k t)
 known_change c o m n none k f (opens least resilience begins may) h = λ t i few there. absurd (
     let above = at_most_below (view m) m.core.promise (next_stamp m) k.high (next_above m.core.promise m.core.who) in
-    above_view n above t)
+    not_above_view n above t)
 known_change c o m n none k f (looks b verdict over why look is) h = (let old = looked_open c m b why in known_look m b verdict look
     (open_leads m old.0 old.1 k))
 known_change c o m n none k f (fetches s v base number e is heard promise below why may) h = λ t i few there. absurd
-    (fetch_leads m s v base e why (other_member m s heard) promise below t)
+    (fetch_follows m s v base e why (other_heard m s heard) promise below t)
 known_change c o m n none k f (stores_view s v base number names resilience is heard own other promise below may) h = λ t i few there. absurd (
-    other_view n v.by (ap (λ (x : Stamp). x.by) (view_last (trim_up_to m base) v names resilience)) other t)
+    not_own n v.by (ap (λ (x : Stamp). x.by) (view_last (trim_up_to m base) v names resilience)) other t)
 known_change c o m n none k f (asks_to_join is was) h = λ t i few there. absurd (cc)
 known_change c o m n none k f (closes leads leaves alone room) h = λ t i few there. absurd (cc)
 known_change c o m n none k f _ h = h

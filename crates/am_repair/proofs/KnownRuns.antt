@@ -1,43 +1,15 @@
 -- In each run a sequencer trims no more than it knows each member of its list to have taken.
-use Rattle.std.proofs.Common.{◌≡◌, ℕ, ◌<◌, ◌==◌, ◌&&◌, ◌||◌, not, nat_lt, nat_le, Bool, true, false, if◌then◌else◌, List, [], ◌∷◌, Option, Some, None, refl}
-use Rattle.std.proofs.Common.{sym, ap, subst, arith}
-use Rattle.am_base.specs.declared.name.Stamp.{Stamp}
-use Rattle.am_base.specs.declared.image.Row.{Row}
-use Rattle.am_base.specs.declared.outcome.Outcome.{Outcome}
+use Rattle.am_repair.proofs.Words.{◌≡◌, ℕ, ◌<◌, ◌==◌, ◌&&◌, ◌||◌, not, nat_lt, nat_le, Bool, true, false, if◌then◌else◌, List, [], ◌∷◌, Option, Some, None}
+use Rattle.am_repair.proofs.Words.{refl, sym, ap, subst, arith, Stamp, Row, Outcome, Join, Rules, life_of, has, at_place, fits, Packet, Letter, kind_of, Act}
+use Rattle.am_repair.proofs.Words.{Event, is_for, letter_at, Node, image_of, is_sequencer, has_room, push_entry, Plan, Step, finish, hear, hear_refusal}
+use Rattle.am_repair.proofs.Words.{packet_length, with_admitted, join_ask_row, hears_member, hear_row, World, start, is_stopped, with_record, with_step}
+use Rattle.am_repair.proofs.Words.{hears_letter, hear_cut, acts_as, happens, happen, heard_by, split, Cause, Changes, no_change, changed, actor, IsCause}
+use Rattle.am_repair.proofs.Words.{Happens, steps, events_have_effects, few_names, heard_names, HeardNames, HeardUsed, Fronts, reporting, pushed_fronts}
+use Rattle.am_repair.proofs.Words.{Along, along_changes, AllOwned, heard_used, each_along, each_owned, owned_start, TrimsKnown, SequencersTrimKnown}
+use Rattle.am_model.specs.Joining.{asks_to_join}
 use Rattle.am_base.specs.declared.outcome.Outcome.TheVariants as said
-use Rattle.am_base.specs.declared.entry.Entry.TheVariants.{Join}
-use Rattle.am_base.specs.Founding.{Rules}
-use Rattle.am_base.specs.Names.{life_of, has}
-use Rattle.am_base.specs.Lists.{at_place, fits}
-use Rattle.am_packet.specs.declared.packet.Packet.{Packet}
 use Rattle.am_packet.specs.declared.packet.Packet.TheVariants as packet
-use Rattle.am_packet.specs.Boxes.{Letter}
-use Rattle.am_packet.specs.Kinds.{kind_of}
-use Rattle.am_group.specs.declared.event.Act.{Act}
 use Rattle.am_group.specs.declared.event.Act.TheVariants as act
-use Rattle.am_group.specs.declared.event.Event.{Event}
-use Rattle.am_group.specs.Addressed.{is_for}
-use Rattle.am_group.specs.Journals.{letter_at}
-use Rattle.am_model.specs.Node.{Node, image_of, is_sequencer, has_room, push_entry}
-use Rattle.am_model.specs.Emit.{Plan, Step, finish}
-use Rattle.am_model.specs.Step.{hear, hear_refusal}
-use Rattle.am_model.specs.Lengths.{packet_length}
-use Rattle.am_model.specs.Joining.{with_admitted, asks_to_join, join_ask_row}
-use Rattle.am_model.specs.Hearing.{hears_member, hear_row}
-use Rattle.am_play.specs.World.{World, start, is_stopped, with_record, with_step, hears_letter, hear_cut, acts_as, happens, happen}
-use Rattle.am_play.specs.Claims.{heard_by}
-use Rattle.am_base.proofs.Greatest.{split}
-use Rattle.am_effects.specs.Causes.{Cause}
-use Rattle.am_effects.specs.Changes.{Changes, unchanged as no_change, changed}
-use Rattle.am_effects.specs.Events.{actor, IsCause, Happens, idles, stops, returns, steps}
-use Rattle.am_effects.proofs.Events.{events_have_effects}
-use Rattle.am_laws.proofs.Named.{few_names}
-use Rattle.am_laws.proofs.Views.{heard_names}
-use Rattle.am_laws.proofs.ViewNames.{HeardNames}
-use Rattle.am_laws.proofs.Taken.{HeardUsed}
-use Rattle.am_laws.proofs.Trims.{Fronts, reporting, pushed_fronts}
-use Rattle.am_laws.proofs.TakenRuns.{Along, along_changes, AllOwned, heard_used, each_along, each_owned, owned_start}
-use Rattle.am_repair.specs.Known.{TrimsKnown, SequencersTrimKnown}
 use Rattle.am_repair.proofs.Knowing.{NoJoin, known_change, known_end, known_joined}
 
 -- ---- a step of another cause than a request to join
@@ -149,9 +121,6 @@ trim_join rules w e _ laws h t = absurd (cc)
 trim_happens : (rules : Rules) (w : World) (e : Event) (v : World) → AllOwned rules w → AllTrim w → is_join (letter_at w.letters (heard_by e.act)) ≡ false
     → Happens w e v → AllTrim v
 unfolding with_record with_step
-trim_happens rules w e v laws h none (idles o idle) = h
-trim_happens rules w e v laws h none (stops runs) = h
-trim_happens rules w e v laws h none (returns place is left more) = h
 trim_happens rules w e v laws h none (steps c s runs cause effect) =
     let name = actor w e in
     let few = few_names rules w e laws.blanks.views.named in
@@ -161,6 +130,7 @@ trim_happens rules w e v laws h none (steps c s runs cause effect) =
     cc) in
     trim_step w e name s h (known_changes rules (w.nodes name) s.node no_join (heard_names rules w e c laws.blanks.views cause)
     (heard_used rules w e c laws cause) effect.changes (each_along rules w name few laws) (h name few))
+trim_happens rules w e v laws h none _ = h
 
 trim_event : (rules : Rules) (w : World) (e : Event) → AllOwned rules w → AllTrim w → AllTrim (happens w e)
 unfolding happens

@@ -1,17 +1,8 @@
 -- A run in which nobody is stopped undeparted is lawful as a whole.
-use Rattle.std.proofs.Common.{◌≡◌, ℕ, ◌+◌, ◌==◌, ◌&&◌, Bool, true, false, List, [], ◌∷◌, ◌++◌, None, count_by, refl, sym, ap, ◌∙◌, subst, arith}
-use Rattle.std.specs.List.{list_any}
-use Rattle.std.proofs.lemmas.Bool.Decides.{nat_tests}
-use Rattle.std.proofs.lemmas.List.Folds.{list_any-append}
-use Rattle.am_group.specs.declared.event.Event.{Event}
-use Rattle.am_fronts.proofs.ReportLaws.{count_cons}
-use Rattle.am_model.specs.Node.{Node, has_departed}
-use Rattle.am_play.specs.World.{Decided, World, is_stopped, current, with_record, with_step, happens, happen}
-use Rattle.am_play.specs.Lawful.{is_lost, is_lawful, Watch, watch_start, greatest_complete, watch, watch_all, broken_now, before_break}
-use Rattle.am_base.proofs.Greatest.{split}
-use Rattle.am_effects.specs.Events.{actor, idles, stops, returns, steps}
-use Rattle.am_effects.proofs.Runs.{EachKeeps, runs_keep}
-use Rattle.am_repair.specs.Standing.{RepairableIsLawful}
+use Rattle.am_repair.proofs.Words.{◌≡◌, ℕ, ◌+◌, ◌==◌, ◌&&◌, Bool, true, false, List, [], ◌∷◌, ◌++◌, None, count_by, refl, sym, ap, ◌∙◌, subst, arith}
+use Rattle.am_repair.proofs.Words.{list_any, nat_tests, list_any-append, Event, count_cons, Node, has_departed, Decided, World, is_stopped, current}
+use Rattle.am_repair.proofs.Words.{with_record, with_step, happens, happen, is_lost, is_lawful, Watch, watch_start, greatest_complete, watch, watch_all}
+use Rattle.am_repair.proofs.Words.{broken_now, before_break, split, actor, idles, stops, returns, steps, EachKeeps, runs_keep, RepairableIsLawful}
 
 -- ---- who has stopped does nothing more
 
@@ -19,7 +10,7 @@ record StaysStopped (name : ℕ) (m : Node) (w : World) : Type 0 where
   stopped : is_stopped w name ≡ true
   node : w.nodes name ≡ m
 
-with_more : (xs ys : List ℕ) (name : ℕ) → list_any (λ x. x == name) xs ≡ true → list_any (λ x. x == name) (xs ++ ys) ≡ true
+pub with_more : (xs ys : List ℕ) (name : ℕ) → list_any (λ x. x == name) xs ≡ true → list_any (λ x. x == name) (xs ++ ys) ≡ true
 with_more xs ys name there = list_any-append (λ x. x == name) xs ys ∙ rw there refl
 
 each_stays : (name : ℕ) (m : Node) → EachKeeps (StaysStopped name m)

@@ -1,45 +1,18 @@
 -- What the sequencer's changes keep while a schedule runs.
-use Rattle.am_laws.proofs.Views.{same_is_equal}
-use Rattle.std.proofs.Common.{inl, inr, ◌-◌, ◌≡◌, ℕ, ◌+◌, ◌≤◌, ◌==◌, true, false, Option, Some, None, refl, sym, ap, ◌∙◌, subst, arith, length-append, length}
-use Rattle.std.specs.Prelude.{All}
-use Rattle.std.proofs.lemmas.Bool.{cases_lt}
-use Rattle.am_base.specs.declared.entry.Entry.TheVariants.{Join}
-use Rattle.std.proofs.lemmas.Bool.Decides.{nat_tests}
-use Rattle.am_base.specs.declared.name.Stamp.{Stamp}
-use Rattle.am_base.specs.declared.image.Image.{Image}
-use Rattle.am_base.specs.declared.image.Report.{Report}
-use Rattle.am_base.specs.declared.entry.Entry.{Entry}
-use Rattle.am_base.specs.declared.outcome.Outcome.{Outcome}
-use Rattle.am_base.specs.Names.{has, names_of}
-use Rattle.am_base.specs.Stamps.{stamp_eq}
-use Rattle.am_base.specs.Lists.{Log, top_of, told_by, members_of, members_at, entry_at, fits, image_at}
-use Rattle.am_base.specs.Fronts.{counted_at}
-use Rattle.am_core.specs.Cores.{CoreState, accept, pass_over, since_accepted}
-use Rattle.am_core.proofs.Ends.{image-top}
-use Rattle.am_core.proofs.Lives.{IsUsed, used_fold, member_row}
-use Rattle.am_fronts.specs.Reports.{least_taken}
-use Rattle.am_fronts.specs.Refresh.{base_after, own_report, tell, go_on, let_go}
-use Rattle.am_model.specs.Node.{Node, Ballot, top, image_of, view, members, acts, is_member, push_entry, with_report}
-use Rattle.am_model.specs.Refresh.{lead, refresh, settle}
-use Rattle.am_model.specs.Joining.{with_admitted}
-use Rattle.am_play.specs.World.{World}
-use Rattle.am_base.proofs.Greatest.{split, and_both}
-use Rattle.am_effects.specs.Causes.{Cause, BringsReport, with_send, by_request, by_spread, by_ack, by_nack, by_leave_ask}
-use Rattle.am_effects.specs.Looks.{HasOpen, BeginsBy, by_reset, by_hand_over, Balloting, with_more, without_one, as_it_is}
-use Rattle.am_effects.specs.Changes.{Promises, invited, overtaken, told_result, Numbers, asked_send, own_send, asked_join, asked_leave, Change, refreshes}
-use Rattle.am_effects.specs.Changes.{settles, takes_report, admits, numbers, keeps_body, notes, stores, begins_list, departs, promises, opens, looks, fetches}
-use Rattle.am_effects.specs.Changes.{stores_view, queues, collects, takes, asks_to_join, asks_to_leave, closes}
-use Rattle.am_effects.proofs.Rests.{settle_is}
-use Rattle.am_effects.proofs.Says.{told_pushed, view_pushed, leads_pushed}
-use Rattle.am_laws.proofs.Stamps.{same_stamp}
-use Rattle.am_core.proofs.Lives.{JoinsFit}
-use Rattle.am_laws.proofs.LeaderRows.{least_within, is_in}
-use Rattle.am_laws.proofs.Trims.{Fronts, told_used}
-use Rattle.am_laws.proofs.ViewSteps.{after_same}
-use Rattle.am_repair.specs.Calm.{Repair, Leads, ReportIs}
-use Rattle.am_repair.proofs.Ends.{follows, refreshed_stay, raise_up}
+use Rattle.am_repair.proofs.Words.{with_send, by_ack, by_nack, by_request, by_spread, by_leave_ask, base_low, stamp_itself, same_stamp, has_in, inl, inr, ◌-◌}
+use Rattle.am_repair.proofs.Words.{◌≡◌, ℕ, ◌+◌, ◌≤◌, ◌==◌, true, false, Some, refl, sym, ap, ◌∙◌, subst, arith, length-append, length, All, cases_lt, Join}
+use Rattle.am_repair.proofs.Words.{nat_tests, Stamp, Image, Report, Entry, Outcome, has, names_of, stamp_eq, Log, top_of, told_by, members_of, members_at}
+use Rattle.am_repair.proofs.Words.{entry_at, fits, image_at, counted_at, CoreState, accept, pass_over, since_accepted, image-top, IsUsed, used_fold}
+use Rattle.am_repair.proofs.Words.{member_row, least_taken, own_report, tell, go_on, let_go, Node, Ballot, top, image_of, view, members, acts, is_member}
+use Rattle.am_repair.proofs.Words.{push_entry, with_report, lead, refresh, settle, with_admitted, World, split, and_both, Cause, BringsReport, HasOpen}
+use Rattle.am_repair.proofs.Words.{BeginsBy, by_reset, by_hand_over, Balloting, with_more, without_one, as_it_is, Promises, invited, overtaken, told_result}
+use Rattle.am_repair.proofs.Words.{Numbers, asked_send, own_send, asked_join, asked_leave, Change, refreshes, settles, takes_report, admits, numbers}
+use Rattle.am_repair.proofs.Words.{keeps_body, notes, stores, begins_list, departs, promises, opens, looks, fetches, stores_view, queues, collects, takes}
+use Rattle.am_repair.proofs.Words.{asks_to_join, asks_to_leave, closes, settle_is, told_pushed, view_pushed, leads_pushed, JoinsFit, least_within, Fronts}
+use Rattle.am_repair.proofs.Words.{told_used, after_same, Repair, Leads, ReportIs}
 use Rattle.am_repair.proofs.Lists.{LogGrows, grows_then, grows_push, counted_stays, IsJoinOrData, is_data, is_join, plain, member_after}
 use Rattle.am_repair.proofs.Nodes.{CalmCause, acting, leading, not_open, Alike, alike_here, alike_refresh, alike_settle, view_alike, leads_alike, rest_alike}
+use Rattle.am_repair.proofs.Ends.{follows, refreshed_stay, raise_up}
 
 -- ---- what is kept
 
@@ -105,9 +78,8 @@ is_member_now r m name h there = ap (λ (i : Image). has (members_of i) name) (s
 -- ---- a refresh
 
 -- what a member has reported to have taken bounds what is let go
-pub least_low : (m : Node) (kept : ℕ → Report) (c : CoreState) (name to : ℕ) → Fronts m → c.log ≡ m.core.log → c.log.start ≤ c.acc → c.acc ≤ top_of c.log
-    → has (members m) name ≡ true
-    → least_taken kept (since_accepted c) ≡ Some to → to ≤ (kept name).taken
+pub least_low : (m : Node) (kept : ℕ → Report) (c : CoreState) (name to : ℕ) → Fronts m → c.log ≡ m.core.log → c.log.start ≤ c.acc
+    → c.acc ≤ top_of c.log → has (members m) name ≡ true → least_taken kept (since_accepted c) ≡ Some to → to ≤ (kept name).taken
 least_low m kept c name to f log low high member least =
     let d = record c { who = name; taken = (kept name).taken } in
     let used = subst (λ (l : Log). IsUsed l.image) (sym log) f.used in
@@ -117,12 +89,8 @@ least_low m kept c name to f log low high member least =
     let told_is = used_fold c.log.image (c.log.start + 1) c.log.entries (omega arith) used in
     least_within kept d (top_of c.log) to used joins low high (omega arith) at (member_row (told_by c.log) name told_is here) (omega arith) least
 
-pub base_low : (taken base : ℕ) (least : Option ℕ) → base ≤ taken → ((to : ℕ) → least ≡ Some to → to ≤ taken) → base_after least base ≤ taken
-base_low taken base None low h = low
-base_low taken base (Some to) low h = let t = h to refl in omega arith
-
 -- it raises no other's report
-lead_others : (m : Node) (name : ℕ) → (name == m.core.who) ≡ false → (lead m).reports name ≡ m.reports name
+pub lead_others : (m : Node) (name : ℕ) → (name == m.core.who) ≡ false → (lead m).reports name ≡ m.reports name
 unfolding lead own_report tell go_on let_go accept pass_over
 lead_others m name other = rw other refl
 
@@ -193,7 +161,7 @@ settled_stay m name = subst (λ (x : Node). (m.reports name).stored ≤ (x.repor
 member_joins : (image : Image) (name : ℕ) → length image.rows ≡ 16 → has (members_of image) name ≡ true → fits image (Join name) ≡ true → ⊥
 unfolding fits
 member_joins image name long member fit =
-    let k = is_in image name long member in
+    let k = has_in image name long member in
     let j = k.joined in
     let l = k.left in
     let z : ⊥ = grind (arith, nat_tests) in z
@@ -288,7 +256,7 @@ pub not_behind : (m : Node) (v : Stamp) → acts m ≡ true → v ≡ m.core.pro
 not_behind m v a same below =
     let is = (acting m a).1 in
     let both = and_both (is_member m.status) (stamp_eq m.core.promise (view m)) a in
-    let t : stamp_eq (view m) v ≡ true = ap (stamp_eq (view m)) (same ∙ is) ∙ same_is_equal (view m) in
+    let t : stamp_eq (view m) v ≡ true = ap (stamp_eq (view m)) (same ∙ is) ∙ stamp_itself (view m) in
     cc
 
 -- what a cause tells of members to have taken

@@ -1,21 +1,8 @@
 -- Letters among those of a step.
-use Rattle.std.proofs.Common.{◌≡◌, ℕ, ◌+◌, ◌==◌, true, false, nat_le, List, [], ◌∷◌, ◌++◌, length, take, drop, refl, sym, ap, ◌∙◌, subst, append_assoc}
-use Rattle.std.proofs.Common.{append-nil, ⊎_elim, arith}
-use Rattle.std.specs.Prelude.{All, Contains}
-use Rattle.std.specs.List.{prefix_len}
-use Rattle.std.proofs.lemmas.List.{take-append-drop, take_all, drop_all}
-use Rattle.std.proofs.lemmas.List.Elements.{All-nil, All-cons, All-head, All-tail, All-push, All-weaker, Contains-append_left, Contains-append_right}
-use Rattle.std.proofs.lemmas.List.Elements.{Contains-append_cases}
-use Rattle.am_base.specs.declared.entry.Entry.{Entry}
-use Rattle.am_base.specs.Names.{size}
-use Rattle.am_packet.specs.declared.packet.Packet.{Packet}
-use Rattle.am_packet.specs.Boxes.{Letter, letter_to, place_for, with_letter}
-use Rattle.am_packet.specs.Kinds.{kind_of}
-use Rattle.am_model.specs.Node.{Node, others}
-use Rattle.am_model.specs.Emit.{Plan, bcast_of, accept_of, put_all, tells_accepted, with_accept}
-use Rattle.std.proofs.lemmas.Bool.Decides.{nat_tests}
-use Rattle.am_base.proofs.Greatest.{split}
-use Rattle.am_repair.specs.Rows.{bcasts}
+use Rattle.am_repair.proofs.Words.{◌≡◌, ℕ, ◌+◌, ◌==◌, true, false, nat_le, List, [], ◌∷◌, ◌++◌, length, take, drop, refl, sym, ap, ◌∙◌, append_assoc}
+use Rattle.am_repair.proofs.Words.{append-nil, arith, All, Contains, prefix_len, take_all, drop_all, All-nil, All-cons, All-head, All-tail, All-push}
+use Rattle.am_repair.proofs.Words.{All-weaker, Contains-append_right, Entry, size, Packet, Letter, letter_to, place_for, with_letter, kind_of, Node, others}
+use Rattle.am_repair.proofs.Words.{Plan, bcast_of, accept_of, put_all, tells_accepted, with_accept, nat_tests, split, bcasts}
 
 -- ---- one letter more
 
@@ -23,15 +10,6 @@ pub with_there : (to : List ℕ) (p : Packet) (letters : List Letter) → (size 
 with_there to p letters some =
     let n = place_for (kind_of p) letters in
     rw some (Contains-append_right (take n letters) (letter_to to p ∷ drop n letters) (letter_to to p) (0, omega arith, refl))
-
-pub with_stays : (to : List ℕ) (p : Packet) (letters : List Letter) (l : Letter) → Contains letters l → Contains (with_letter to p letters) l
-with_stays to p letters l h =
-    let n = place_for (kind_of p) letters in
-    split (size to == 0) (λ t. rw t h)
-    (λ f. rw f (⊎_elim
-    (λ a. Contains-append_left (take n letters) (letter_to to p ∷ drop n letters) l a)
-    (λ b. Contains-append_right (take n letters) (letter_to to p ∷ drop n letters) l (Contains-append_right (letter_to to p ∷ []) (drop n letters) l b))
-    (Contains-append_cases (take n letters) (drop n letters) l (subst (λ ls. Contains ls l) (sym (take-append-drop n letters)) h))))
 
 -- ---- a letter behind those of its own kind and of lower ones
 

@@ -1,19 +1,8 @@
 -- A list that goes on tells what it told, and what it tells after an entry more.
-use Rattle.std.proofs.Common.{◌≡◌, ℕ, zero, suc, ◌-◌, ◌<◌, ◌≤◌, nat_le, true, false, List, [], ◌∷◌, length, Some, refl, ap, ◌∙◌, arith, length-append}
-use Rattle.std.proofs.lemmas.Bool.Decides.{nat_tests}
-use Rattle.std.proofs.lemmas.Option.{slice_get_within}
-use Rattle.am_base.specs.declared.entry.Entry.{Entry}
-use Rattle.am_base.specs.declared.entry.Entry.TheVariants.{Data, Join}
-use Rattle.am_base.specs.declared.image.Image.{Image}
-use Rattle.am_base.specs.Names.{has}
-use Rattle.am_base.specs.Lists.{Log, top_of, entry_at, image_at, members_of, after, fits, with_entry}
-use Rattle.am_base.specs.Fronts.{counted_of, counted_at}
-use Rattle.am_group.proofs.Places.{get_before}
-use Rattle.am_core.proofs.Ends.{image-push}
-use Rattle.am_chain_lists.proofs.Rows.{long_after, in_after}
-use Rattle.am_model.specs.Receiving.{is_view}
-use Rattle.am_base.proofs.Greatest.{split}
-use Rattle.am_laws.proofs.LeaderRows.{is_in, in_is, data_member}
+use Rattle.am_repair.proofs.Words.{has_in, ◌≡◌, ℕ, zero, suc, ◌-◌, ◌<◌, ◌≤◌, nat_le, true, false, List, [], ◌∷◌, length, Some, refl, ap, ◌∙◌, arith}
+use Rattle.am_repair.proofs.Words.{length-append, nat_tests, slice_get_within, Entry, Data, Join, Image, has, Log, top_of, entry_at, image_at, members_of}
+use Rattle.am_repair.proofs.Words.{after, fits, with_entry, counted_of, counted_at, get_before, image-push, long_after, in_after, is_view, split, in_is}
+use Rattle.am_repair.proofs.Words.{data_member}
 
 -- ---- a list that goes on
 
@@ -92,4 +81,4 @@ pub member_after : (image : Image) (number : ℕ) (e : Entry) (name : ℕ) → l
 member_after image number e name long (is_data from req body) member = data_member image number from req body name long
     (long_after image number e long) member
 member_after image number e name long (is_join joiner fit) member =
-    in_is (after image number e) name (long_after image number e long) (in_after image number e name long fit tt (is_in image name long member))
+    in_is (after image number e) name (long_after image number e long) (in_after image number e name long fit tt (has_in image name long member))

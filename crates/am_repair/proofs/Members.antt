@@ -1,18 +1,10 @@
 -- What a member does with what its sequencer tells.
-use Rattle.std.proofs.Common.{◌≡◌, ℕ, ◌+◌, ◌-◌, ◌&&◌, not, max, min, nat_lt, nat_le, Bool, true, false, if◌then◌else◌, refl, sym, ap, ◌∙◌, arith, length-append}
-use Rattle.std.proofs.lemmas.Bool.Decides.{nat_tests}
+use Rattle.am_repair.proofs.Words.{◌≡◌, ℕ, ◌+◌, ◌-◌, ◌&&◌, not, max, min, nat_lt, nat_le, Bool, true, false, if◌then◌else◌, refl, sym, ap, ◌∙◌, arith}
+use Rattle.am_repair.proofs.Words.{length-append, nat_tests, Log, top_of, Node, top, only_name, is_sequencer, has_own_leave, push_entry, trim_up_to}
+use Rattle.am_repair.proofs.Words.{refresh_at_end, Plan, nack_of, finish, hear, hear_row, with_noted, bodies_after, accept_row, bcast_row, rests_at_end}
+use Rattle.am_repair.proofs.Words.{HearsFront, FrontsAreHeard, GapsAreAsked, EntriesAreStored}
 use Rattle.am_base.specs.declared.outcome.Outcome.TheVariants as said
-use Rattle.am_base.specs.Lists.{Log, top_of}
-use Rattle.am_model.specs.Node.{Node, top, only_name, is_sequencer, has_own_leave, push_entry, trim_up_to}
-use Rattle.am_model.specs.Refresh.{refresh_at_end}
-use Rattle.am_model.specs.Emit.{Plan, nack_of, finish}
-use Rattle.am_model.specs.Step.{hear}
-use Rattle.am_model.specs.Hearing.{hear_row}
-use Rattle.am_model.specs.Receiving.{with_noted, bodies_after, accept_row, bcast_row}
-use Rattle.am_effects.proofs.Rests.{rests_at_end}
-use Rattle.am_repair.specs.Rows.{HearsFront, FrontsAreHeard, GapsAreAsked, EntriesAreStored}
-use Rattle.am_repair.proofs.Sets.{only_some}
-use Rattle.am_repair.proofs.Ends.{follows, follower_accepts, one_letter}
+use Rattle.am_repair.proofs.{Sets.only_some, Ends.follows, Ends.follower_accepts, Ends.one_letter}
 
 -- a step leaves the list as its row does
 end_top : (m : Node) → top (refresh_at_end m) ≡ top m

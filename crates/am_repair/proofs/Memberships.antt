@@ -1,21 +1,8 @@
 -- A member hasn't left by any beginning of the sequencer's list, and has its view's View as the last one.
-use Rattle.std.proofs.Common.{◌≡◌, ◌≢◌, inr, ℕ, zero, suc, ◌+◌, ◌-◌, ◌<◌, ◌≤◌, ◌==◌, nat_lt, nat_le, true, false, List, [], ◌∷◌, length, take, Some, slice_get}
-use Rattle.std.proofs.Common.{refl, sym, ap, ◌∙◌, subst, arith, add-one}
-use Rattle.std.proofs.lemmas.Bool.Decides.{nat_tests}
-use Rattle.am_base.specs.declared.entry.Entry.{Entry}
-use Rattle.am_base.specs.declared.entry.Entry.TheVariants.{Data, Join, Leave, View}
-use Rattle.am_base.specs.declared.image.Image.{Image}
-use Rattle.am_base.specs.Names.{place_of, life_of, has}
-use Rattle.am_base.specs.Lists.{Log, top_of, told_by, entry_at, image_at, at_place, row_of, after, fits, fold}
-use Rattle.am_core.proofs.Ends.{image-next, entry-get}
-use Rattle.am_core.proofs.Lives.{IsUsed, used_fold}
-use Rattle.am_chain_lists.proofs.Rows.{row_at, Past, past_after, not_both, mod16}
-use Rattle.am_model.specs.Node.{Node, top, has_own_leave}
-use Rattle.am_model.specs.Receiving.{is_view}
-use Rattle.am_base.proofs.Greatest.{split}
-use Rattle.am_laws.proofs.LeaderRows.{is_in}
-use Rattle.am_laws.proofs.ViewSteps.{after_same}
-use Rattle.am_repair.specs.Calm.{Repair, Leads, Follows}
+use Rattle.am_repair.proofs.Words.{has_in, ◌≡◌, ◌≢◌, inr, ℕ, zero, suc, ◌+◌, ◌-◌, ◌<◌, ◌≤◌, ◌==◌, nat_lt, nat_le, true, false, List, [], ◌∷◌, length, take}
+use Rattle.am_repair.proofs.Words.{Some, slice_get, refl, sym, ap, ◌∙◌, subst, arith, add-one, nat_tests, Entry, View, Image, place_of, life_of, has, Log}
+use Rattle.am_repair.proofs.Words.{top_of, told_by, entry_at, image_at, at_place, row_of, after, fits, fold, image-next, entry-get, IsUsed, used_fold, row_at}
+use Rattle.am_repair.proofs.Words.{Past, past_after, not_both, mod16, Node, top, has_own_leave, is_view, split, after_same, Repair, Leads, Follows}
 use Rattle.am_repair.proofs.Lists.{entry_within}
 
 -- ---- entries of a list
@@ -84,7 +71,7 @@ stays_in r q m l used f there low = split (has_own_leave m)
     (past_to log (top m) (r.high - top m) (place_of who) (life_of who) used start (omega arith) (mod16 who)
     (λ j e lower is. l.fit j e (omega arith) is) past) in
     let h = image_used log r.high used in
-    let in_ = is_in (image_at log r.high) who h.places (l.members_ who r.high there (omega arith) high) in
+    let in_ = has_in (image_at log r.high) who h.places (l.members_ who r.high there (omega arith) high) in
     not_both _ _ in_ at_high))
     (λ g. g)
 
@@ -92,10 +79,8 @@ stays_in r q m l used f there low = split (has_own_leave m)
 
 number_of_view : (image : Image) (n : ℕ) (e : Entry) → is_view e ≡ true → (after image n e).view_number ≡ n
 unfolding after
-number_of_view image n (Data from req body) t = absurd (cc)
-number_of_view image n (Join name) t = absurd (cc)
-number_of_view image n (Leave name) t = absurd (cc)
 number_of_view image n (View stamp names resilience) t = refl
+number_of_view image n _ t = absurd (cc)
 
 -- a View stands at or below the number of the last one
 number_up : (image : Image) (n : ℕ) (es : List Entry) → image.view_number ≤ n → image.view_number ≤ (fold image n es).view_number

@@ -1,48 +1,19 @@
 -- What the second and the third wave of a round bring about: what is missing is sent again, and stored.
-use Rattle.std.proofs.Common.{◌≡◌, ℕ, zero, suc, ◌+◌, ◌-◌, ◌<◌, ◌≤◌, ◌==◌, min, true, false, List, [], ◌∷◌, length, drop, Some, slice_get, refl, sym, ap, ◌∙◌}
-use Rattle.std.proofs.Common.{subst, arith, length-drop}
-use Rattle.std.proofs.lemmas.Bool.Decides.{nat_tests}
-use Rattle.std.proofs.lemmas.List.{length-take}
-use Rattle.am_base.specs.declared.name.Stamp.{Stamp}
-use Rattle.am_base.specs.declared.image.Report.{Report}
-use Rattle.am_base.specs.declared.entry.Entry.{Entry}
-use Rattle.am_base.specs.declared.event.NodeEvent.{NodeEvent}
-use Rattle.am_base.specs.Founding.{Rules}
-use Rattle.am_base.specs.Names.{place_of, has}
-use Rattle.am_base.specs.Lists.{Log, top_of, entry_at, fits}
-use Rattle.am_packet.specs.declared.packet.Packet.TheVariants.{Bcast, Nack}
-use Rattle.am_packet.specs.Boxes.{Letter, letter_to}
-use Rattle.am_core.proofs.Folds.{slice_get-drop}
+use Rattle.am_repair.proofs.Words.{◌≡◌, ℕ, zero, suc, ◌+◌, ◌-◌, ◌<◌, ◌≤◌, ◌==◌, min, true, false, List, [], ◌∷◌, length, drop, Some, slice_get, refl, sym, ap}
+use Rattle.am_repair.proofs.Words.{◌∙◌, subst, arith, length-drop, nat_tests, length-take, Stamp, Report, Entry, NodeEvent, Rules, place_of, has, Log, top_of}
+use Rattle.am_repair.proofs.Words.{entry_at, fits, Bcast, Nack, Letter, letter_to, slice_get-drop, Event, is_for, letter_at, Node, top, only_name}
+use Rattle.am_repair.proofs.Words.{with_report, Step, bcast_of, entries_to_serve, hear, event_at, hearings, take_report, World, happens, happen, Cause, calls}
+use Rattle.am_repair.proofs.Words.{hears, refuses, BringsReport, with_send, by_request, by_spread, by_ack, by_nack, by_leave_ask, IsCause, get_take}
+use Rattle.am_repair.proofs.Words.{get_front, Fronts, reporting, told_used, bcasts, Serves, Repair, Leads, IsCalm, IsServed, Served, IsOurs, hears_}
 use Rattle.am_group.specs.declared.event.Act.TheVariants as act
-use Rattle.am_group.specs.declared.event.Event.{Event}
-use Rattle.am_group.specs.Addressed.{is_for}
-use Rattle.am_group.specs.Journals.{letter_at}
-use Rattle.am_model.specs.Node.{Node, top, only_name, with_report}
-use Rattle.am_model.specs.Emit.{Step, bcast_of, entries_to_serve}
-use Rattle.am_model.specs.Step.{hear}
-use Rattle.am_play.specs.Settle.{event_at, hearings}
-use Rattle.am_model.specs.Sequencing.{take_report}
-use Rattle.am_play.specs.World.{World, happens, happen}
-use Rattle.am_effects.specs.Causes.{Cause, calls, hears, refuses, BringsReport, with_send, by_request, by_spread, by_ack, by_nack, by_leave_ask}
-use Rattle.am_effects.specs.Events.{IsCause}
-use Rattle.am_effects.proofs.Items.{get_take, get_front}
-use Rattle.am_laws.proofs.Trims.{Fronts, reporting, told_used}
-use Rattle.am_repair.specs.Rows.{bcasts, Serves}
 use Rattle.am_repair.specs.Rows as rows
-use Rattle.am_repair.specs.Calm.{Repair, Leads, IsCalm}
-use Rattle.am_repair.specs.Waves.{IsServed, Served}
-use Rattle.am_repair.proofs.Nodes.{acting, leading, alike_here}
 use Rattle.am_repair.proofs.Leading.{Trusts, TellsTaken, told_taken, is_member_now, leads_as, trusts_report, trusts_refresh}
-use Rattle.am_repair.proofs.Lists.{entry_stays, entry_within}
-use Rattle.am_repair.proofs.Saying.{entry_of}
-use Rattle.am_repair.proofs.Sequencers.{nacks_are_served}
-use Rattle.am_repair.proofs.Steps.{goes_first, ours_trust}
-use Rattle.am_repair.specs.Rounds.{IsOurs, hears as hears_}
-use Rattle.am_repair.proofs.Memberships.{get_some}
-use Rattle.am_repair.proofs.Schedules.{WaveHits, wave_hits}
-use Rattle.am_repair.proofs.Fine.{Fine, fine_goes, few_members, grow_goes, letter_goes, member_there, hear_is, sent_at}
-use Rattle.am_repair.proofs.Ticking.{node_is}
-use Rattle.am_repair.proofs.FirstWave.{hears_members, is_known, report_calm, report_fits_list, Stays, stays_same, stays_goes, letter_is, heard_there, HasAsked}
+use Rattle.am_repair.proofs.FirstWave.{hears_members, is_known, report_calm, report_fits_list, Stays, stays_same, stays_goes, letter_is, heard_there}
+use Rattle.am_repair.proofs.FirstWave.{HasAsked}
+use Rattle.am_repair.proofs.{Nodes.acting, Nodes.leading, Nodes.alike_here, Lists.entry_stays, Lists.entry_within, Saying.entry_of}
+use Rattle.am_repair.proofs.{Sequencers.nacks_are_served, Steps.goes_first, Steps.ours_trust, Memberships.get_some, Schedules.WaveHits, Schedules.wave_hits}
+use Rattle.am_repair.proofs.{Fine.Fine, Fine.fine_goes, Fine.few_members, Fine.grow_goes, Fine.letter_goes, Fine.member_there, Fine.hear_is, Fine.sent_at}
+use Rattle.am_repair.proofs.{Ticking.node_is}
 
 -- ---- what a Nack is answered with
 
@@ -77,8 +48,7 @@ served_get q stored k e low there =
 
 -- the sequencer trims no more than was taken, with a member's report
 report_trims : (rules : Rules) (r : Repair) (taken : ℕ → ℕ) (q : Node) (i : ℕ) (report : Report) → Leads r q → q.core.who ≡ r.by → Fronts q
-    → Trusts r taken q → has r.members i ≡ true → (i == r.by) ≡ false → report.taken ≤ taken i
-    → (take_report q i report).core.base ≤ taken i
+    → Trusts r taken q → has r.members i ≡ true → (i == r.by) ≡ false → report.taken ≤ taken i → (take_report q i report).core.base ≤ taken i
 report_trims rules r taken q i report l who f t there other low =
     let p = with_report q i report in
     let own : (q.core.who == i) ≡ false = grind (arith, nat_tests) in
@@ -122,9 +92,8 @@ same_bcast n s v number e a b = cc
 
 -- the world after it, where it serves
 served_by : (rules : Rules) (r : Repair) (i stored : ℕ) (u v : World) (s : Step) → Fine rules r u → Fine rules r v → has r.members i ≡ true
-    → (i == r.by) ≡ false → (u.nodes r.by).core.log.start ≤ stored
-    → v.nodes r.by ≡ s.node → Serves (u.nodes r.by) i stored s → ((j : ℕ) (l : Letter) → slice_get s.letters j ≡ Some l
-    → letter_at v.letters (length u.letters + 1 + j) ≡ Some l)
+    → (i == r.by) ≡ false → (u.nodes r.by).core.log.start ≤ stored → v.nodes r.by ≡ s.node → Serves (u.nodes r.by) i stored s
+    → ((j : ℕ) (l : Letter) → slice_get s.letters j ≡ Some l → letter_at v.letters (length u.letters + 1 + j) ≡ Some l)
     → Served rules r i (length u.letters) stored v
 served_by rules r i stored u v s h fine there other low node serves sent =
     let q = u.nodes r.by in
@@ -162,9 +131,8 @@ served_by rules r i stored u v s h fine there other low node serves sent =
     }
 
 nack_hear : (rules : Rules) (r : Repair) (taken : ℕ → ℕ) (i stored k : ℕ) (l : Letter) (report : Report) (u : World) → Fine rules r u
-    → Trusts r taken (u.nodes r.by) → taken i ≤ stored → has r.members i ≡ true → (i == r.by) ≡ false → r.sent < k
-    → letter_at u.letters k ≡ Some l → is_for l r.by ≡ true → l.packet ≡ Nack i r.view report → report.taken ≤ report.stored → report.taken ≤ taken i
-    → report.stored ≡ stored
+    → Trusts r taken (u.nodes r.by) → taken i ≤ stored → has r.members i ≡ true → (i == r.by) ≡ false → r.sent < k → letter_at u.letters k ≡ Some l
+    → is_for l r.by ≡ true → l.packet ≡ Nack i r.view report → report.taken ≤ report.stored → report.taken ≤ taken i → report.stored ≡ stored
     → Served rules r i (length u.letters) stored (happens u (event_at (place_of r.by) (act.Hear k)))
 nack_hear rules r taken i stored k l report u h t bound there other late letter meant is_ fits low exact =
     let e = event_at (place_of r.by) (act.Hear k) in
@@ -224,8 +192,7 @@ pub record IsServing (rules : Rules) (r : Repair) (i after stored : ℕ) (u : Wo
   pub served_ : Served rules r i after stored u
 
 pub second_wave_serves : (rules : Rules) (r : Repair) (i after stored : ℕ) (w : World) → r.sent ≤ after → HasAsked rules r i after stored w
-    → has r.members i ≡ true → (i == r.by) ≡ false
-    → IsServing rules r i (length w.letters) stored (happen w (hearings w after))
+    → has r.members i ≡ true → (i == r.by) ≡ false → IsServing rules r i (length w.letters) stored (happen w (hearings w after))
 second_wave_serves rules r i after stored w low x there other =
     let z = wave_hits P (Served rules r i (length w.letters) stored) w after x.asked.sent.number (place_of r.by)
     (heard_there rules r w after r.by x.asked.letter x.fine x.fine.calm.listed x.asked.sent) hits (x.fine, trusts_first, stays_same w) in

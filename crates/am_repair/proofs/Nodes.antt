@@ -1,23 +1,9 @@
 -- Nodes that differ in nothing that a calm world speaks of.
-use Rattle.std.proofs.Common.{◌≡◌, ℕ, ◌≤◌, ◌==◌, ◌&&◌, true, false, Option, Some, None, refl, sym, ap, ◌∙◌, subst, arith}
-use Rattle.std.proofs.lemmas.Bool.Decides.{nat_tests}
-use Rattle.am_base.specs.declared.name.Stamp.{Stamp}
+use Rattle.am_repair.proofs.Words.{not-false, same_stamp, ◌≡◌, ℕ, ◌≤◌, ◌==◌, ◌&&◌, true, false, Option, Some, None, refl, sym, ap, ◌∙◌, subst, arith}
+use Rattle.am_repair.proofs.Words.{nat_tests, Stamp, stamp_lt, stamp_eq, Log, told_by, Node, Ballot, view, acts, is_member, is_sequencer, is_unfinished}
+use Rattle.am_repair.proofs.Words.{refresh, settle, World, split, and_both, Cause, calls, hears, refuses, HasOpen, SameStanding, with_sends, rests_refresh}
+use Rattle.am_repair.proofs.Words.{settle_is, not_above_itself, Balloted, OpenBallot, IsAtRest, Repair, IsCalm}
 use Rattle.am_base.specs.declared.event.NodeEvent.TheVariants as does
-use Rattle.am_base.specs.Stamps.{stamp_lt, stamp_eq}
-use Rattle.am_base.specs.Lists.{Log, told_by}
-use Rattle.am_model.specs.Node.{Node, Ballot, view, acts, is_member, is_sequencer}
-use Rattle.am_model.specs.Calls.{is_unfinished}
-use Rattle.am_model.specs.Refresh.{refresh, settle}
-use Rattle.am_play.specs.World.{World}
-use Rattle.am_base.proofs.Greatest.{split, and_both}
-use Rattle.am_effects.specs.Causes.{Cause, calls, hears, refuses}
-use Rattle.am_effects.specs.Looks.{HasOpen}
-use Rattle.am_effects.proofs.Tests.{not_false}
-use Rattle.am_effects.proofs.Rests.{SameStanding, with_sends, rests_refresh, settle_is}
-use Rattle.am_laws.proofs.Stamps.{same_stamp, not_above_itself}
-use Rattle.am_laws.proofs.ViewChanges.{Balloted, OpenBallot}
-use Rattle.am_repair.specs.Rows.{IsAtRest}
-use Rattle.am_repair.specs.Calm.{Repair, IsCalm}
 
 -- ---- what makes nodes do steps in a schedule
 
@@ -54,7 +40,7 @@ pub no_open : (m : Node) → Balloted m → acts m ≡ true → is_unfinished m.
 no_open m h a = closed_ballot m m.ballot h.opened a
 
 pub not_open : (m : Node) (b : Ballot) → HasOpen m b → is_unfinished m.ballot ≡ false → ⊥
-not_open m b o h = let f = subst (λ x. is_unfinished x ≡ false) o.last h in let over = not_false b.is_over f in let open_ = o.open_ in cc
+not_open m b o h = let f = subst (λ x. is_unfinished x ≡ false) o.last h in let over = not-false b.is_over f in let open_ = o.open_ in cc
 
 -- ---- alike
 
@@ -66,8 +52,7 @@ pub record Alike (m n : Node) : Type 0 where
   pub taken : m.core.taken ≤ n.core.taken
 
 pub alike_here : (m n : Node) → n.core.log ≡ m.core.log → n.core.who ≡ m.core.who → n.core.promise ≡ m.core.promise → n.status ≡ m.status
-    → n.leaving ≡ m.leaving
-    → n.ballot ≡ m.ballot → m.core.acc ≤ n.core.acc → m.core.taken ≤ n.core.taken → Alike m n
+    → n.leaving ≡ m.leaving → n.ballot ≡ m.ballot → m.core.acc ≤ n.core.acc → m.core.taken ≤ n.core.taken → Alike m n
 alike_here m n a b d e f g acc taken = record {
   same = record { who = b; promise = d; status = e; leaving = f; ballot = g };
   log = a;

@@ -1,22 +1,12 @@
 -- In each run a name whose place has a greater life has stopped.
-use Rattle.std.proofs.Common.{◌≡◌, ℕ, ◌+◌, ◌<◌, ◌==◌, true, false, List, [], ◌∷◌, ◌++◌, refl, sym, ap, ◌∙◌, subst, arith}
-use Rattle.std.specs.List.{list_any}
-use Rattle.std.proofs.lemmas.Bool.Decides.{nat_tests}
-use Rattle.std.proofs.lemmas.List.Folds.{list_any-append}
-use Rattle.am_base.specs.Founding.{Rules}
-use Rattle.am_base.specs.Names.{place_of, life_of}
-use Rattle.am_group.specs.declared.event.Event.{Event}
-use Rattle.am_play.specs.World.{World, start, current, is_stopped, with_record, with_step, run}
-use Rattle.am_base.proofs.Greatest.{split}
-use Rattle.am_effects.specs.Events.{actor, idles, stops, returns, steps}
-use Rattle.am_effects.proofs.Runs.{EachKeeps, runs_keep}
+use Rattle.am_repair.proofs.Words.{◌≡◌, ℕ, ◌+◌, ◌<◌, ◌==◌, true, false, List, [], ◌∷◌, ◌++◌, refl, sym, ap, ◌∙◌, subst, arith, list_any, nat_tests}
+use Rattle.am_repair.proofs.Words.{list_any-append, Rules, place_of, life_of, Event, World, start, current, is_stopped, with_record, with_step, run, split}
+use Rattle.am_repair.proofs.Words.{actor, idles, stops, returns, steps, EachKeeps, runs_keep}
+use Rattle.am_repair.proofs.Lawfully.{with_more}
 
 pub record OldStopped (w : World) : Type 0 where
   pub born : (place : ℕ) → 0 < w.lives place
   pub old : (name : ℕ) → life_of name < w.lives (place_of name) → is_stopped w name ≡ true
-
-still_there : (xs ys : List ℕ) (name : ℕ) → list_any (λ x. x == name) xs ≡ true → list_any (λ x. x == name) (xs ++ ys) ≡ true
-still_there xs ys name there = list_any-append (λ x. x == name) xs ys ∙ rw there refl
 
 last_there : (xs : List ℕ) (name : ℕ) → list_any (λ x. x == name) (xs ++ name ∷ []) ≡ true
 last_there xs name =
@@ -30,7 +20,7 @@ old_life place lives name at low f = let differs : life_of name ≡ lives → �
 each_old : EachKeeps OldStopped
 unfolding with_record with_step
 each_old w e v (idles o idle) h = record { born = h.born; old = h.old }
-each_old w e v (stops runs) h = record { born = h.born; old = λ name low. still_there w.stopped (actor w e ∷ []) name (h.old name low) }
+each_old w e v (stops runs) h = record { born = h.born; old = λ name low. with_more w.stopped (actor w e ∷ []) name (h.old name low) }
 each_old w e v (steps c s runs cause effect) h = record { born = h.born; old = h.old }
 each_old w e v (returns place is left more) h = record {
   born = λ p. split (p == place) (λ t. rw t (omega arith)) (λ f. rw f (h.born p));
@@ -48,10 +38,10 @@ each_old w e v (returns place is left more) h = record {
       (λ s. rw s (subst (λ x. list_any (λ y. y == name) (w.stopped ++ x ∷ []) ≡ true) (sym same) (last_there w.stopped name))))
       (λ before.
       let was = h.old name (let younger = old_life place (w.lives place) name at older before in omega arith) in
-      split (is_stopped w (current w place)) (λ s. rw s was) (λ s. rw s (still_there w.stopped (current w place ∷ []) name was))))
+      split (is_stopped w (current w place)) (λ s. rw s was) (λ s. rw s (with_more w.stopped (current w place ∷ []) name was))))
       (λ f.
       let was = h.old name (rw f at low) in
-      split (is_stopped w (current w place)) (λ s. rw s was) (λ s. rw s (still_there w.stopped (current w place ∷ []) name was)));
+      split (is_stopped w (current w place)) (λ s. rw s was) (λ s. rw s (with_more w.stopped (current w place ∷ []) name was)));
 }
 
 old_start : (rules : Rules) → OldStopped (start rules)

@@ -1,35 +1,13 @@
 -- What one list of a group gives: each member's list tells what the sequencer's tells up to there.
-use Rattle.std.proofs.Common.{◌≡◌, max, ◌⊎◌, inl, inr, ⊎_elim, ℕ, zero, suc, ◌+◌, ◌-◌, ◌<◌, ◌≤◌, nat_le, true, List, [], ◌∷◌, length, take, Some, slice_get}
-use Rattle.std.proofs.Common.{refl, sym, ap, ◌∙◌, arith, length-append, subst}
-use Rattle.std.proofs.lemmas.Bool.{cases_lt}
-use Rattle.std.proofs.lemmas.Bool.Decides.{nat_tests}
-use Rattle.std.proofs.Math.Seq.{take-append-add}
-use Rattle.am_base.specs.declared.image.Image.{Image}
-use Rattle.am_base.specs.declared.entry.Entry.{Entry}
-use Rattle.am_base.specs.declared.entry.Entry.TheVariants.{Data, Join, Leave, View}
-use Rattle.am_base.specs.Names.{has}
-use Rattle.am_base.specs.Lists.{entry_at, image_at, blank, fold, after, fits, members_of}
-use Rattle.am_core.proofs.Lives.{fit_at}
+use Rattle.am_repair.proofs.Words.{◌≡◌, max, ◌⊎◌, inl, inr, ⊎_elim, ℕ, zero, suc, ◌+◌, ◌-◌, ◌<◌, ◌≤◌, nat_le, true, List, [], ◌∷◌, length, take, Some}
+use Rattle.am_repair.proofs.Words.{slice_get, refl, sym, ap, ◌∙◌, arith, length-append, subst, cases_lt, nat_tests, take-append-add, Image, Entry, Data, Join}
+use Rattle.am_repair.proofs.Words.{Leave, View, has, entry_at, image_at, blank, fold, after, fits, members_of, fit_at, IsGood, mem, view_of, key, fold_append}
+use Rattle.am_repair.proofs.Words.{good_begins, begins_length, begins_take, length_take, take_begins, begins_both, begins_push, view_up, view_below}
+use Rattle.am_repair.proofs.Words.{get_behind, Node, top, image_of, view, members, World, split, current, run, slice_get_within, Fronts, run_owned}
+use Rattle.am_repair.proofs.Words.{after_same, IsBeginning, Agrees, OneListAgrees}
 use Rattle.am_chain_lists.specs.Whole as whole
-use Rattle.am_chain_lists.specs.Whole.{IsGood, mem, view_of, key}
-use Rattle.am_chain_lists.proofs.Members.{fold_append, good_begins}
-use Rattle.am_chain_lists.proofs.Prefixes.{begins_length, begins_take, length_take, take_begins, begins_both, begins_push}
-use Rattle.am_chain_lists.proofs.Order.{view_up, view_below}
-use Rattle.am_group.proofs.Places.{get_behind}
-use Rattle.am_model.specs.Node.{Node, top, image_of, view, members}
 use Rattle.am_play.specs.Lawful as lists
-use Rattle.am_play.specs.World.{World}
-use Rattle.am_base.proofs.Greatest.{split}
-use Rattle.am_play.specs.World.{current, run}
-use Rattle.std.proofs.lemmas.Option.{slice_get_within}
-use Rattle.am_laws.proofs.Trims.{Fronts}
-use Rattle.am_laws.proofs.TakenRuns.{run_owned}
-use Rattle.am_laws.proofs.ViewSteps.{after_same}
-use Rattle.am_repair.specs.Standing.{IsBeginning, Agrees, OneListAgrees}
-use Rattle.am_repair.proofs.Nodes.{acting, leading}
-use Rattle.am_repair.proofs.ReportedRuns.{known_is_taken}
-use Rattle.am_repair.proofs.Beginning.{few_acting}
-use Rattle.am_repair.proofs.Lists.{entry_within}
+use Rattle.am_repair.proofs.{Nodes.acting, Nodes.leading, ReportedRuns.known_is_taken, Beginning.few_acting, Lists.entry_within}
 
 -- ---- a node's whole list
 

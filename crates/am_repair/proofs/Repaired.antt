@@ -1,19 +1,10 @@
 -- Many rounds: all is stored, then reported, then accepted.
-use Rattle.std.proofs.Common.{◌≡◌, ℕ, zero, suc, ◌+◌, ◌*◌, ◌/◌, ◌≤◌, ◌==◌, min, true, false, List, [], length, refl, sym, ap, ◌∙◌, subst, arith}
-use Rattle.am_base.specs.Founding.{Rules}
-use Rattle.am_base.specs.Names.{has}
-use Rattle.am_group.specs.declared.event.Event.{Event}
-use Rattle.am_play.specs.Settle.{Settling, and_then, ticks, hearings, waves, round, rounds, round_count, settle_events}
-use Rattle.am_play.specs.World.{World, happen}
-use Rattle.am_play.specs.Claims.{HasCaughtUp}
-use Rattle.am_base.proofs.Greatest.{split}
-use Rattle.am_play.proofs.Runs.{runs_go_on}
-use Rattle.am_repair.specs.Calm.{Repair}
-use Rattle.am_repair.proofs.Fine.{Fine, fine_goes, letters_more}
-use Rattle.am_repair.proofs.ThirdWave.{HasStored}
-use Rattle.am_repair.proofs.Rounds.{after_waves, round_is, Stable, round_keeps, round_stores}
-use Rattle.am_repair.proofs.Accepting.{AllKnown, round_reports, round_accepts, leader_accepts}
-use Rattle.am_repair.proofs.Steps.{as_same}
+use Rattle.am_repair.proofs.Words.{eqb-true, ◌≡◌, ℕ, zero, suc, ◌+◌, ◌*◌, ◌/◌, ◌≤◌, ◌==◌, min, true, false, List, [], length, refl, sym, ap, ◌∙◌, subst}
+use Rattle.am_repair.proofs.Words.{arith, Rules, has, Event, Settling, and_then, ticks, hearings, waves, round, rounds, round_count, settle_events, World}
+use Rattle.am_repair.proofs.Words.{happen, HasCaughtUp, split, runs_go_on, Repair}
+use Rattle.am_repair.proofs.{Fine.Fine, Fine.fine_goes, Fine.letters_more, ThirdWave.HasStored, Rounds.after_waves, Rounds.round_is, Rounds.Stable}
+use Rattle.am_repair.proofs.{Rounds.round_keeps, Rounds.round_stores, Accepting.AllKnown, Accepting.round_reports, Accepting.round_accepts}
+use Rattle.am_repair.proofs.{Accepting.leader_accepts}
 
 -- ---- the schedule's worlds
 
@@ -95,7 +86,7 @@ last_rounds rules r stored w far h i there =
     let two = one_round rules r (stored + 8) v one in
     split (i == r.by)
     (λ t.
-    let same = as_same i r.by t in
+    let same = eqb-true i r.by t in
     subst (λ j. HasCaughtUp ((after_waves v).nodes j) r.high) (sym same)
     (record { stored = two.fine.calm.leads.high; accepted = (leader_accepts rules r v one.sent one.fine known).high }))
     (λ f. record {
@@ -105,8 +96,7 @@ last_rounds rules r stored w far h i there =
 
 -- from a calm world in which each member has at least what leaves no more than the window and 15
 pub all_catch_up : (rules : Rules) (r : Repair) (base : ℕ) (w : World) → r.high ≤ base + (rules.window + 15) → AllStored rules r base w → (i : ℕ)
-    → has r.members i ≡ true
-    → HasCaughtUp ((happen w (settle_events rules w)).nodes i) r.high
+    → has r.members i ≡ true → HasCaughtUp ((happen w (settle_events rules w)).nodes i) r.high
 all_catch_up rules r base w near h i there =
     let k = (rules.window + 22) / 8 in
     let enough : r.high ≤ base + 8 * k = omega arith in

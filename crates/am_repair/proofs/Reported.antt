@@ -1,31 +1,12 @@
 -- What is known of a name to be taken, through each change: it was reported so, and taken, or is no more than the base.
-use Rattle.am_base.specs.Lists.{top_of}
-use Rattle.am_base.specs.declared.entry.Entry.TheVariants.{Leave}
-use Rattle.am_base.specs.declared.image.Image.{Image}
-use Rattle.am_base.specs.declared.image.Report.{Report}
-use Rattle.am_base.specs.declared.name.Stamp.{Stamp}
-use Rattle.am_base.specs.declared.outcome.Outcome.{Outcome}
-use Rattle.am_core.specs.Cores.{accept as accepts, pass_over}
-use Rattle.am_effects.proofs.Rests.{settle_is, rests_at_end, rests_refresh}
-use Rattle.am_fronts.specs.Refresh.{go_on, let_go, tell, own_report}
-use Rattle.am_base.proofs.Greatest.{split, and_both}
-use Rattle.am_model.specs.Ballots.{Verdict}
-use Rattle.am_model.specs.Node.{has_log, Ballot, is_sequencer, with_report, is_member, is_asking, push_entry, Node}
-use Rattle.am_model.specs.Joining.{with_admitted}
-use Rattle.am_model.specs.Refresh.{refresh_at_end, lead, refresh}
-use Rattle.std.proofs.lemmas.Bool.Decides.{nat_tests}
-use Rattle.std.proofs.Common.{◌≡◌, ℕ, ◌≤◌, ◌==◌, ◌||◌, not, max, nat_lt, nat_le, true, false, if◌then◌else◌, List, refl, sym, ap, ◌∙◌, subst, arith}
-use Rattle.am_effects.specs.Changes.{Change, refreshes, settles, takes_report, admits, notes, begins_list}
-use Rattle.am_effects.specs.Changes.{looks, fetches, stores_view, takes, closes, MayBeWelcomed}
-use Rattle.am_effects.specs.Letters.{Says, request, spread, ack, nack, leave_ask}
-use Rattle.am_effects.specs.Looks.{Looks, finds_itself_out, waits, fetches_from_best, finds_too_few, finds_no_room, decides}
-use Rattle.am_effects.specs.Causes.{Cause, hears, by_request, BringsReport, with_send}
-use Rattle.am_model.specs.declared.status.Status.{Status}
-use Rattle.am_model.specs.declared.status.Status.TheVariants as status
-use Rattle.am_packet.specs.declared.packet.Packet.{Packet}
+use Rattle.am_repair.proofs.Words.{welcomed_none, top_of, Leave, Report, Stamp, Outcome, settle_is, rests_at_end, rests_refresh, split, Verdict, Ballot}
+use Rattle.am_repair.proofs.Words.{is_sequencer, with_report, push_entry, Node, with_admitted, refresh_at_end, refresh, nat_tests, ◌≡◌, ℕ, ◌≤◌, ◌==◌, max}
+use Rattle.am_repair.proofs.Words.{nat_lt, nat_le, false, if◌then◌else◌, List, refl, sym, ap, ◌∙◌, subst, arith, Change, refreshes, settles, takes_report}
+use Rattle.am_repair.proofs.Words.{admits, notes, begins_list, looks, fetches, stores_view, takes, closes, Says, leave_ask, Looks, finds_no_room, decides}
+use Rattle.am_repair.proofs.Words.{Cause, hears, by_request, BringsReport, with_send, Packet, Fronts, Blanked}
+use Rattle.am_effects.specs.Letters.{request, spread, ack, nack}
 use Rattle.am_packet.specs.declared.packet.Packet.TheVariants as packet
-use Rattle.am_laws.proofs.Trims.{Fronts}
-use Rattle.am_laws.proofs.Blank.{Blanked}
+use Rattle.am_repair.proofs.Leading.{lead_others}
 
 -- what a letter reports of its sender was taken
 abbrev pub ReportTaken : (ℕ → Node) → Packet → Type 0
@@ -70,14 +51,9 @@ truly_more nodes m n who up same h name other =
     let b = ap (λ (r : Report). r.taken) (same name o) in
     omega arith
 
--- a refresh, and the end of a step, leave what others reported
-lead_same : (m : Node) (name : ℕ) → (name == m.core.who) ≡ false → (lead m).reports name ≡ m.reports name
-unfolding lead own_report tell go_on let_go accepts pass_over
-lead_same m name other = rw other refl
-
 pub refresh_same : (m : Node) (name : ℕ) → (name == m.core.who) ≡ false → (refresh m).reports name ≡ m.reports name
 unfolding refresh
-refresh_same m name other = split (is_sequencer m) (λ t. rw t (lead_same m name other)) (λ f. rw f refl)
+refresh_same m name other = split (is_sequencer m) (λ t. rw t (lead_others m name other)) (λ f. rw f refl)
 
 pub end_same : (m : Node) (name : ℕ) → (name == m.core.who) ≡ false → (refresh_at_end m).reports name ≡ m.reports name
 unfolding refresh_at_end
@@ -93,31 +69,14 @@ truly_admitted : (nodes : ℕ → Node) (m : Node) (s : ℕ) → Truly nodes m �
 truly_admitted nodes m s h name other = split (name == s) (λ t. rw t (omega arith)) (λ f. rw f (h name other))
 
 truly_look : (nodes : ℕ → Node) (m : Node) (b : Ballot) (v : Verdict) → Looks m b v → Truly nodes m → Truly nodes v.node
-truly_look nodes m b v (finds_itself_out x) h = h
-truly_look nodes m b v (waits x y) h = h
-truly_look nodes m b v (fetches_from_best x y z) h = h
-truly_look nodes m b v (finds_too_few x y) h = h
 truly_look nodes m b v (finds_no_room learned) h = truly_more nodes m v.node refl (omega arith) (λ name other. refl) h
 truly_look nodes m b v (decides may) h = λ name other. split (nat_lt name 256) (λ t. rw t (omega arith)) (λ f. rw f (omega arith))
+truly_look nodes m b v _ h = h
 
 rises_look : (m : Node) (b : Ballot) (v : Verdict) → Looks m b v → Rises m v.node
-rises_look m b v (finds_itself_out x) = rises_same m _ refl refl
-rises_look m b v (waits x y) = rises_same m _ refl refl
-rises_look m b v (fetches_from_best x y z) = rises_same m _ refl refl
-rises_look m b v (finds_too_few x y) = rises_same m _ refl refl
 rises_look m b v (finds_no_room learned) = record { base = omega arith; taken = omega arith }
 rises_look m b v (decides may) = record { base = omega arith; taken = omega arith }
-
--- who is welcomed has no list
-unlisted : (s : Status) → is_member s ≡ false → (is_member s || is_asking s) ≡ true → has_log s ≡ false
-unlisted status.Stranger f h = refl
-unlisted status.Asking f h = refl
-unlisted status.Member f h = absurd (cc)
-unlisted status.Departed f h = absurd (cc)
-
-welcomed_none : (m : Node) (s : ℕ) (v : Stamp) (base join : ℕ) (image : Image) → MayBeWelcomed m s v base join image → has_log m.status ≡ false
-welcomed_none m s v base join image may =
-    unlisted m.status may.no_member (and_both (not (s == m.core.who)) (is_member m.status || is_asking m.status) may.asks).1
+rises_look m b v _ = rises_same m _ refl refl
 
 pub truly_change : (nodes : ℕ → Node) (c : Cause) (o : Outcome) (m n : Node) → CauseTaken nodes c → Blanked m → Change c o m n → Truly nodes m
     → Truly nodes n

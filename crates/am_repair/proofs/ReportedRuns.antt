@@ -1,38 +1,11 @@
 -- In each run what anybody knows a name to have taken was taken, or is no more than its own base.
-use Rattle.am_base.specs.Founding.{MayFound, Rules}
-use Rattle.am_base.specs.Names.{has}
-use Rattle.am_base.specs.declared.outcome.Outcome.{Outcome}
-use Rattle.am_group.specs.declared.event.Event.{Event}
-use Rattle.am_laws.proofs.Named.{few_names}
-use Rattle.am_laws.proofs.Taken.{HeardUsed}
-use Rattle.am_laws.proofs.ViewNames.{HeardNames}
-use Rattle.am_laws.proofs.Views.{heard_names}
-use Rattle.am_base.proofs.Greatest.{split}
-use Rattle.am_model.specs.Node.{Node}
-use Rattle.am_packet.specs.declared.packet.Packet.{Packet}
+use Rattle.am_repair.proofs.Words.{eqb-true, is_itself, MayFound, Rules, has, Outcome, Event, few_names, HeardUsed, HeardNames, heard_names, split, Node}
+use Rattle.am_repair.proofs.Words.{Packet, ◌≡◌, ℕ, ◌<◌, ◌≤◌, ◌==◌, List, refl, sym, ap, ◌∙◌, subst, arith, All, All-nil, All-append, All-weaker, Letter}
+use Rattle.am_repair.proofs.Words.{World, start, with_step, run, heard_by, Cause, calls, hears, refuses, LetterSays, Changes, no_change, changed, actor}
+use Rattle.am_repair.proofs.Words.{WasSentTo, IsCause, all_item, EachKeeps, StepsKeep, SameParts, law_keeps, runs_keep, Along, along_changes, AllOwned}
+use Rattle.am_repair.proofs.Words.{heard_used, each_along, each_owned, owned_start, KnownIsTaken}
 use Rattle.am_packet.specs.declared.packet.Packet.TheVariants as packet
-use Rattle.std.proofs.lemmas.Bool.Decides.{nat_tests}
-use Rattle.std.proofs.Common.{◌≡◌, ℕ, ◌<◌, ◌≤◌, ◌==◌, true, List, refl, sym, ap, ◌∙◌, subst, arith}
-use Rattle.std.specs.Prelude.{All}
-use Rattle.std.proofs.lemmas.List.Elements.{All-nil, All-append, All-weaker}
-use Rattle.am_packet.specs.Boxes.{Letter}
-use Rattle.am_play.specs.World.{World, start, with_step, run}
-use Rattle.am_play.specs.Claims.{heard_by}
-use Rattle.am_effects.specs.Causes.{Cause, calls, hears, refuses}
-use Rattle.am_effects.specs.Letters.{LetterSays}
-use Rattle.am_effects.specs.Changes.{Changes, unchanged as no_change, changed}
-use Rattle.am_effects.specs.Events.{actor, WasSentTo, IsCause}
-use Rattle.am_effects.proofs.Items.{all_item}
-use Rattle.am_effects.proofs.Runs.{EachKeeps, StepsKeep, SameParts, law_keeps, runs_keep}
-use Rattle.am_laws.proofs.TakenRuns.{Along, along_changes, AllOwned, heard_used, each_along, each_owned, owned_start}
-use Rattle.am_repair.specs.Known.{KnownIsTaken}
 use Rattle.am_repair.proofs.Reported.{ReportTaken, CauseTaken, Truly, Rises, truly_change, rises_change, says_taken}
-
-equal : (a b : ℕ) → (a == b) ≡ true → a ≡ b
-equal a b t = grind (arith, nat_tests)
-
-itself : (a : ℕ) → (a == a) ≡ true
-itself a = grind (arith, nat_tests)
 
 -- ---- a step
 
@@ -41,8 +14,7 @@ record Told (nodes : ℕ → Node) (m n : Node) : Type 0 where
   rises : Rises m n
 
 told_changes : (rules : Rules) (nodes : ℕ → Node) {c : Cause} {o : Outcome} (m n : Node) → HeardNames c → HeardUsed c → CauseTaken nodes c
-    → Changes c o m n
-    → Along rules m → Truly nodes m → Told nodes m n
+    → Changes c o m n → Along rules m → Truly nodes m → Told nodes m n
 told_changes rules nodes m n names used w no_change a h = record { truly = h; rises = record { base = omega arith; taken = omega arith } }
 told_changes rules nodes m n names used w (changed {n = x} one more) a h =
     let next = told_changes rules nodes x n names used w more (along_changes rules m x names used (changed one no_change) a)
@@ -89,10 +61,10 @@ told_step rules w e c s cause effect laws h =
     let a = told_changes rules w.nodes (w.nodes name) n (heard_names rules w e c h.laws.blanks.views cause) (heard_used rules w e c h.laws cause)
     (cause_taken w e c h.letters cause) effect.changes (each_along rules w name few h.laws) (h.each name few) in
     let v = with_step w e name s in
-    let itself_ = itself name in
+    let itself_ = is_itself name in
     let here : v.nodes name ≡ n = rw itself_ refl in
     let up : (other : ℕ) → (w.nodes other).core.taken ≤ (v.nodes other).core.taken = λ other. split (other == name)
-    (λ t. let is = equal other name t in rw (t, is) a.rises.taken) (λ f. rw f (omega arith)) in
+    (λ t. let is = eqb-true other name t in rw (t, is) a.rises.taken) (λ f. rw f (omega arith)) in
     let sender = effect.sender in
     let who : n.core.who ≡ name = ap (λ (x : Node). x.core.who) (sym here) ∙ laws.blanks.views.named.who name in
     let same_who : sender.core.who ≡ name = sym (ap (λ (x : Node). x.core.who) effect.is) ∙ who in
@@ -137,7 +109,7 @@ known_is_taken rules events q name may few small =
     let w = run rules events in
     let who = all.laws.blanks.views.named.who q in
     split (name == q)
-    (λ t. let is = equal name q t in
+    (λ t. let is = eqb-true name q t in
     let own = (all.laws.each q few).fronts.reported in
     let a = ap (λ k. ((w.nodes q).reports k).taken) (is ∙ sym who) in
     let b = ap (λ k. (w.nodes k).core.taken) is in

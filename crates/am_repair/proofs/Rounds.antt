@@ -1,23 +1,10 @@
 -- What a round brings about, and what is kept by all of its events.
-use Rattle.std.proofs.Common.{◌≡◌, inl, inr, ℕ, ◌+◌, ◌≤◌, ◌==◌, min, true, false, length, refl, ap, ◌∙◌, arith, length-append}
-use Rattle.std.proofs.lemmas.Bool.{cases_lt}
-use Rattle.am_base.specs.Founding.{Rules}
-use Rattle.am_base.specs.Names.{has}
+use Rattle.am_repair.proofs.Words.{◌≡◌, inl, inr, ℕ, ◌+◌, ◌≤◌, ◌==◌, min, true, false, length, refl, ap, ◌∙◌, arith, length-append, cases_lt, Rules, has}
+use Rattle.am_repair.proofs.Words.{Event, top, Settling, event_at, running, ticks, hearings, waves, round, World, happens, happen, happen_begins, Repair}
+use Rattle.am_repair.proofs.Words.{IsOurs, our_ticks, hears_}
 use Rattle.am_group.specs.declared.event.Act.TheVariants as act
-use Rattle.am_group.specs.declared.event.Event.{Event}
-use Rattle.am_model.specs.Node.{top}
-use Rattle.am_play.specs.Settle.{Settling, event_at, running, ticks, hearings, waves, round}
-use Rattle.am_play.specs.World.{World, happens, happen}
-use Rattle.am_play.proofs.Beginnings.{happen_begins}
-use Rattle.am_repair.specs.Calm.{Repair}
-use Rattle.am_repair.specs.Rounds.{IsOurs, ticks as our_ticks, hears as hears_}
-use Rattle.am_repair.proofs.Schedules.{acts_keep, wave_keeps}
-use Rattle.am_repair.proofs.Fine.{fine_goes, grow_goes}
-use Rattle.am_repair.proofs.Ticking.{Bounds, ticks_poll}
-use Rattle.am_repair.proofs.Skipping.{ticks_wait}
-use Rattle.am_repair.proofs.FirstWave.{first_wave_asks}
-use Rattle.am_repair.proofs.NextWaves.{second_wave_serves}
-use Rattle.am_repair.proofs.ThirdWave.{HasStored, third_wave_stores}
+use Rattle.am_repair.proofs.{Schedules.acts_keep, Schedules.wave_keeps, Fine.fine_goes, Fine.grow_goes, Ticking.Bounds, Ticking.ticks_poll}
+use Rattle.am_repair.proofs.{Skipping.ticks_wait, FirstWave.first_wave_asks, NextWaves.second_wave_serves, ThirdWave.HasStored, ThirdWave.third_wave_stores}
 
 -- ---- the world after a round
 

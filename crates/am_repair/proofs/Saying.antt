@@ -1,24 +1,12 @@
 -- The letters that a schedule's steps send.
-use Rattle.std.proofs.Common.{◌≡◌, ℕ, suc, ◌+◌, ◌-◌, ◌≤◌, nat_le, true, false, List, Some, slice_get, sym, ap, ◌∙◌, subst, arith}
-use Rattle.std.proofs.lemmas.Bool.Decides.{nat_tests}
-use Rattle.am_base.specs.declared.image.Report.{Report}
-use Rattle.am_base.specs.declared.entry.Entry.{Entry}
-use Rattle.am_base.specs.declared.entry.Entry.TheVariants.{Data}
-use Rattle.am_base.specs.Names.{has}
-use Rattle.am_base.specs.Lists.{Log, entry_at}
-use Rattle.am_packet.specs.declared.packet.Packet.{Packet}
+use Rattle.am_repair.proofs.Words.{◌≡◌, ℕ, suc, ◌+◌, ◌-◌, ◌≤◌, nat_le, true, false, List, Some, slice_get, sym, ap, ◌∙◌, subst, arith, nat_tests, Report}
+use Rattle.am_repair.proofs.Words.{Entry, Data, has, Log, entry_at, Packet, Node, Ballot, top, is_sequencer, report_of, is_unfinished, next_stamp, World}
+use Rattle.am_repair.proofs.Words.{Cause, MayInvite, has_begun, goes_on, MayTell, leads, decided, Says, bcast, order, welcome, leave_ask, invite, vote}
+use Rattle.am_repair.proofs.Words.{result, hand_over, Repair, ReportIs, Stands, IsCalm}
+use Rattle.am_effects.specs.Letters.{request, spread, ack, nack}
 use Rattle.am_packet.specs.declared.packet.Packet.TheVariants as packet
-use Rattle.am_model.specs.Node.{Node, Ballot, top, is_sequencer, report_of}
-use Rattle.am_model.specs.Calls.{is_unfinished}
-use Rattle.am_model.specs.Ballots.{next_stamp}
-use Rattle.am_play.specs.World.{World}
-use Rattle.am_effects.specs.Causes.{Cause}
 use Rattle.am_effects.specs.Letters as letters
-use Rattle.am_effects.specs.Letters.{MayInvite, has_begun, goes_on, MayTell, leads, decided, Says, request, spread, bcast, order, ack, nack}
-use Rattle.am_effects.specs.Letters.{welcome, leave_ask, invite, vote, result, hand_over}
-use Rattle.am_repair.specs.Calm.{Repair, ReportIs, Stands, IsCalm}
-use Rattle.am_repair.proofs.Lists.{LogGrows, entry_stays}
-use Rattle.am_repair.proofs.Nodes.{CalmCause, not_open}
+use Rattle.am_repair.proofs.{Lists.LogGrows, Lists.entry_stays, Nodes.CalmCause, Nodes.not_open}
 
 -- ---- what a letter says stays so
 

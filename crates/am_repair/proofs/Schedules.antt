@@ -1,21 +1,10 @@
 -- What is kept, and what comes about, along the ticks and the waves of a schedule.
-use Rattle.std.proofs.Common.{◌≡◌, ℕ, zero, suc, ◌+◌, ◌<◌, ◌≤◌, ◌==◌, not, Bool, true, false, List, [], ◌∷◌, ◌++◌, length, drop, map, Some, slice_get, refl}
-use Rattle.std.proofs.Common.{sym, ap, ◌∙◌, subst, arith}
-use Rattle.std.specs.Prelude.{filter}
-use Rattle.std.specs.List.{list_any, range_with_len}
-use Rattle.std.proofs.lemmas.Bool.Decides.{nat_tests}
-use Rattle.std.proofs.lemmas.Option.{slice_get_within}
+use Rattle.am_repair.proofs.Words.{◌≡◌, ℕ, zero, suc, ◌+◌, ◌<◌, ◌≤◌, ◌==◌, not, Bool, true, false, List, [], ◌∷◌, ◌++◌, length, drop, map, Some, slice_get}
+use Rattle.am_repair.proofs.Words.{refl, sym, ap, ◌∙◌, subst, arith, filter, list_any, range_with_len, nat_tests, slice_get_within, slice_get-drop, Letter}
+use Rattle.am_repair.proofs.Words.{Act, is_for, letter_at, World, current, is_stopped, happens, happen, event_at, running, hearings_of, hearings_from}
+use Rattle.am_repair.proofs.Words.{hearings, split, runs_go_on}
 use Rattle.std.proofs.lemmas.List.{length-drop}
-use Rattle.am_core.proofs.Folds.{slice_get-drop}
-use Rattle.am_packet.specs.Boxes.{Letter}
-use Rattle.am_group.specs.declared.event.Act.{Act}
 use Rattle.am_group.specs.declared.event.Act.TheVariants as act
-use Rattle.am_group.specs.Addressed.{is_for}
-use Rattle.am_group.specs.Journals.{letter_at}
-use Rattle.am_play.specs.World.{World, current, is_stopped, happens, happen}
-use Rattle.am_play.specs.Settle.{event_at, running, hearings_of, hearings_from, hearings}
-use Rattle.am_base.proofs.Greatest.{split}
-use Rattle.am_play.proofs.Runs.{runs_go_on}
 
 -- ---- an act of some places
 

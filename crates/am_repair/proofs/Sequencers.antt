@@ -1,21 +1,11 @@
 -- What the sequencer does with reports.
-use Rattle.std.proofs.Common.{◌≡◌, ℕ, ◌+◌, ◌≤◌, ◌==◌, not, nat_lt, nat_le, Bool, true, false, if◌then◌else◌, List, [], refl, ap, ◌∙◌, arith}
-use Rattle.std.proofs.lemmas.Bool.Decides.{nat_tests}
-use Rattle.std.proofs.lemmas.List.Elements.{All-nil}
-use Rattle.am_base.specs.declared.image.Report.{Report}
-use Rattle.am_base.specs.Lists.{Log}
-use Rattle.am_model.specs.Node.{Node, only_name, is_sequencer, has_room, with_report, report_fits}
-use Rattle.am_model.specs.Refresh.{refresh_at_end}
-use Rattle.am_model.specs.Emit.{Plan, entries_to_serve, put_all, bcast_of, finish, with_accept}
-use Rattle.am_model.specs.Step.{hear}
-use Rattle.am_model.specs.Hearing.{hears_in_view, hear_row}
-use Rattle.am_model.specs.Sequencing.{row_at, is_unknown, take_report, serve, answer_request, request_row, ack_row, nack_row}
-use Rattle.am_base.proofs.Greatest.{and_both}
-use Rattle.am_effects.proofs.Rests.{rests_refresh, rests_at_end}
-use Rattle.am_repair.specs.Rows.{ack, nack, request, spread, ReportsAreTaken, bcasts, Serves, NacksAreServed}
-use Rattle.am_repair.proofs.Sets.{only_some}
-use Rattle.am_repair.proofs.Letters.{put_bcasts, bcasts_low, accept_last}
-use Rattle.am_repair.proofs.Ends.{reports_stay, refreshed_stay}
+use Rattle.am_repair.proofs.Words.{◌≡◌, ℕ, ◌+◌, ◌≤◌, ◌==◌, not, nat_lt, nat_le, Bool, true, false, if◌then◌else◌, List, [], refl, ap, ◌∙◌, arith, nat_tests}
+use Rattle.am_repair.proofs.Words.{All-nil, Report, Log, Node, only_name, is_sequencer, has_room, with_report, report_fits, refresh_at_end, Plan}
+use Rattle.am_repair.proofs.Words.{entries_to_serve, put_all, bcast_of, finish, with_accept, hear, hears_in_view, hear_row, is_unknown, take_report, serve}
+use Rattle.am_repair.proofs.Words.{answer_request, request_row, ack_row, nack_row, and_both, rests_refresh, rests_at_end, ack, nack, request, spread}
+use Rattle.am_repair.proofs.Words.{ReportsAreTaken, bcasts, Serves, NacksAreServed}
+use Rattle.am_model.specs.Sequencing.{row_at}
+use Rattle.am_repair.proofs.{Sets.only_some, Letters.put_bcasts, Letters.bcasts_low, Letters.accept_last, Ends.reports_stay, Ends.refreshed_stay}
 
 -- ---- reports
 

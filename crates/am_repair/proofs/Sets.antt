@@ -1,35 +1,18 @@
 -- Names in sets.
-use Rattle.std.proofs.Common.{◌≡◌, ◌≢◌, ℕ, zero, suc, ◌+◌, ◌<◌, ◌==◌, Bool, true, false, nat_lt, if◌then◌else◌, List, [], ◌∷◌, slice_index, slice_set}
-use Rattle.std.proofs.Common.{get_or-set_same, get_or-set_other, count_by, refl, sym, ap, ◌∙◌, arith}
-use Rattle.std.specs.Prelude.{All}
-use Rattle.std.proofs.lemmas.Bool.Decides.{nat_tests}
-use Rattle.std.proofs.lemmas.List.Elements.{All-head, All-tail}
-use Rattle.am_base.specs.Names.{place_of, life_of, nobody, has, without_name, size, names_from}
-use Rattle.am_fronts.proofs.ReportLaws.{count_cons}
-use Rattle.am_model.specs.Node.{only_name}
-use Rattle.am_base.proofs.Greatest.{split}
+use Rattle.am_repair.proofs.Words.{some_size, ◌≡◌, ◌≢◌, ℕ, zero, suc, ◌+◌, ◌==◌, Bool, true, false, nat_lt, if◌then◌else◌, List, [], ◌∷◌, slice_index}
+use Rattle.am_repair.proofs.Words.{slice_set, get_or-set_same, get_or-set_other, count_by, refl, sym, ap, ◌∙◌, arith, All, nat_tests, All-head, All-tail}
+use Rattle.am_repair.proofs.Words.{place_of, life_of, nobody, has, without_name, size, names_from, count_cons, only_name, split}
 
 -- ---- who is there
 
 pub is_there : (set : List ℕ) (name : ℕ) → has set name ≡ true → slice_index set (place_of name) ≡ life_of name
 is_there set name h = grind (arith, nat_tests)
 
-some_from : (set : List ℕ) (place : ℕ) → 0 < slice_index set place → 0 < size set
-some_from [] place h = absurd (omega arith)
-some_from (life ∷ lives) zero h =
-    let t : nat_lt 0 life ≡ true = grind (arith, nat_tests) in
-    let c = count_cons (λ x. nat_lt 0 x) life lives ∙ ap (λ b. (if b then 1 else 0) + size lives) t in
-    omega arith
-some_from (life ∷ lives) (suc place) h =
-    let c = count_cons (λ x. nat_lt 0 x) life lives in
-    let more = some_from lives place h in
-    omega arith
-
 -- a set that has a name isn't empty
 pub some_has : (set : List ℕ) (name : ℕ) → has set name ≡ true → (size set == 0) ≡ false
 some_has set name h =
     let is = is_there set name h in
-    let some = some_from set (place_of name) (omega arith) in
+    let some = some_size set (place_of name) (omega arith) in
     grind (arith, nat_tests)
 
 pub only_has : (name : ℕ) → has (only_name name) name ≡ true

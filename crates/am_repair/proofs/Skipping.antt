@@ -1,48 +1,18 @@
 -- What ticks send is no next entry of a member that has less than the sequencer's list began with.
-use Rattle.std.proofs.Common.{◌≡◌, ◌⊎◌, inl, ⊎_elim, ℕ, ◌+◌, ◌<◌, ◌==◌, not, nat_le, Bool, true, false, if◌then◌else◌, List, [], length, Option, Some, None}
-use Rattle.std.proofs.Common.{slice_get, refl, sym, ap, ◌∙◌, subst, arith}
-use Rattle.std.specs.Prelude.{All}
-use Rattle.std.proofs.lemmas.List.Elements.{All-nil}
-use Rattle.am_base.specs.declared.name.Stamp.{Stamp}
-use Rattle.am_base.specs.declared.entry.Entry.TheVariants.{Data}
+use Rattle.am_repair.proofs.Words.{eqb-true, not-false, ◌≡◌, ◌⊎◌, inl, ⊎_elim, ℕ, ◌+◌, ◌<◌, ◌==◌, not, nat_le, Bool, true, false, if◌then◌else◌, List, []}
+use Rattle.am_repair.proofs.Words.{length, Option, Some, None, slice_get, refl, sym, ap, ◌∙◌, subst, arith, All, All-nil, Stamp, Data, Outcome, Rules, has}
+use Rattle.am_repair.proofs.Words.{entry_at, Packet, Letter, letter_at, OwnSend, Status, Node, top, image_of, view, acts, others, only_name, is_sequencer}
+use Rattle.am_repair.proofs.Words.{has_room, waiting, has_departed, Plan, quiet, telling, bcast_of, ack_of, fetch_of, request_of, spread_of, join_ask_of}
+use Rattle.am_repair.proofs.Words.{accept_of, result_of, tells_accepted, with_accept, finish, step, row, is_unfinished, would_emit, emit, everywhere_else}
+use Rattle.am_repair.proofs.Words.{tick_row, tick_by, tick_acting, and_result, put_off, behind_view, viewed_by, event_at, running, ticks, World, is_stopped}
+use Rattle.am_repair.proofs.Words.{with_record, with_step, happens, happen, split, Cause, calls, hears, refuses, actor, IsCause, all_letter, all_get}
+use Rattle.am_repair.proofs.Words.{IsAtRest, Repair, our_ticks}
 use Rattle.am_base.specs.declared.event.NodeEvent.TheVariants as does
-use Rattle.am_base.specs.declared.outcome.Outcome.{Outcome}
 use Rattle.am_base.specs.declared.outcome.Outcome.TheVariants as said
-use Rattle.am_base.specs.Founding.{Rules}
-use Rattle.am_base.specs.Names.{has}
-use Rattle.am_base.specs.Lists.{entry_at}
-use Rattle.am_packet.specs.declared.packet.Packet.{Packet}
-use Rattle.am_packet.specs.Boxes.{Letter}
 use Rattle.am_group.specs.declared.event.Act.TheVariants as act
-use Rattle.am_group.specs.Journals.{letter_at}
-use Rattle.am_sender.specs.declared.OwnSend.{OwnSend}
-use Rattle.am_model.specs.declared.status.Status.{Status}
 use Rattle.am_model.specs.declared.status.Status.TheVariants as status
-use Rattle.am_model.specs.Node.{Node, top, image_of, view, acts, others, only_name, is_sequencer, has_room, waiting, has_departed}
-use Rattle.am_model.specs.Emit.{Plan, quiet, telling, bcast_of, ack_of, fetch_of, request_of, spread_of, join_ask_of, accept_of, result_of, tells_accepted}
-use Rattle.am_model.specs.Emit.{with_accept, finish}
-use Rattle.am_model.specs.Step.{step, row}
-use Rattle.am_model.specs.Calls.{is_unfinished, would_emit, emit, everywhere_else}
-use Rattle.am_model.specs.Ticks.{tick_row, tick_by, tick_acting, and_result, put_off, behind_view, viewed_by}
-use Rattle.am_play.specs.Settle.{event_at, running, ticks}
-use Rattle.am_play.specs.World.{World, is_stopped, with_record, with_step, happens, happen}
-use Rattle.am_base.proofs.Greatest.{split}
-use Rattle.am_effects.specs.Causes.{Cause, calls, hears, refuses}
-use Rattle.am_effects.specs.Events.{actor, IsCause}
-use Rattle.am_effects.proofs.Items.{all_letter, all_get}
-use Rattle.am_effects.proofs.Tests.{not_false}
-use Rattle.am_repair.proofs.Schedules.{letter_within}
-use Rattle.am_repair.specs.Rows.{IsAtRest}
-use Rattle.am_repair.specs.Calm.{Repair}
-use Rattle.am_repair.proofs.Nodes.{acting, leading, leads_not}
-use Rattle.am_repair.proofs.Following.{Skips}
-use Rattle.am_repair.proofs.Departed.{departed_ticks}
-use Rattle.am_repair.proofs.Ticks.{without_ballot, goes_not}
-use Rattle.am_repair.proofs.Steps.{as_same, letter_either}
-use Rattle.am_repair.specs.Rounds.{ticks as our_ticks}
-use Rattle.am_repair.proofs.Schedules.{acts_keep}
-use Rattle.am_repair.proofs.Fine.{Fine, fine_goes}
-use Rattle.am_repair.proofs.Steps.{ours_skip}
+use Rattle.am_repair.proofs.{Schedules.letter_within, Schedules.acts_keep, Nodes.acting, Nodes.leading, Nodes.leads_not, Following.Skips}
+use Rattle.am_repair.proofs.{Departed.departed_ticks, Ticks.without_ballot, Ticks.goes_not, Steps.letter_either, Steps.ours_skip, Fine.Fine, Fine.fine_goes}
 
 -- ---- letters that are no next entry
 
@@ -85,7 +55,7 @@ emit_skips high m (Some s) o far =
     (λ g. skips_if high (has_room m) _ _
     (λ t. record {
       each = λ n. all_letter (SkipsLetter high) (others m) (bcast_of n (top m + 1) (Data m.core.who s.req s.body)) []
-          (λ same. (let low = far (not_false _ g) in absurd (omega arith))) (All-nil (SkipsLetter high));
+          (λ same. (let low = far (not-false _ g) in absurd (omega arith))) (All-nil (SkipsLetter high));
     })
     (λ t. skips_quiet high m o)))
 
@@ -138,7 +108,7 @@ tick_letters : (rules : Rules) (r : Repair) (w : World) (name high : ℕ) → Fi
 tick_letters rules r w name high h low = split (has_departed m.status)
     (λ t. subst (All (SkipsLetter high)) (sym (departed_ticks m t).letters) (All-nil (SkipsLetter high)))
     (λ f. split (name == r.by)
-    (λ t. let same = as_same name r.by t in
+    (λ t. let same = eqb-true name r.by t in
     let l = h.calm.leads in
     let far = l.high in
     subst (λ i. All (SkipsLetter high) (step (w.nodes i) does.Tick).letters) (sym same) (tick_skips high (w.nodes r.by) l.rest (λ u. omega arith)))

@@ -1,49 +1,15 @@
 -- Each event of a schedule keeps a world calm.
-use Rattle.std.proofs.Common.{◌≡◌, ◌⊎◌, inl, inr, ⊎_elim, ℕ, zero, suc, ◌≤◌, ◌==◌, true, false, List, [], ◌∷◌, ◌++◌, Some, slice_get, refl, sym, ap, ◌∙◌, subst}
-use Rattle.std.proofs.Common.{arith}
-use Rattle.std.specs.Prelude.{All}
-use Rattle.std.proofs.lemmas.Bool.Decides.{nat_tests}
-use Rattle.am_base.specs.declared.name.Stamp.{Stamp}
-use Rattle.am_base.specs.declared.outcome.Outcome.{Outcome}
-use Rattle.am_base.specs.Founding.{Rules}
-use Rattle.am_base.specs.Names.{has}
-use Rattle.am_packet.specs.Boxes.{Letter}
-use Rattle.am_group.specs.declared.event.Event.{Event}
-use Rattle.am_group.specs.Journals.{letter_at}
-use Rattle.am_model.specs.Node.{Node, top, is_sequencer, has_departed}
-use Rattle.am_model.specs.Calls.{is_unfinished}
-use Rattle.am_model.specs.Ballots.{next_stamp}
-use Rattle.am_model.specs.Emit.{Step}
-use Rattle.am_play.specs.World.{World, with_record, with_step, happens}
-use Rattle.am_base.proofs.Greatest.{split}
-use Rattle.am_effects.specs.Causes.{Cause}
-use Rattle.am_effects.specs.Letters.{LetterSays}
-use Rattle.am_effects.specs.Effects.{Effect}
-use Rattle.am_effects.specs.Events.{actor, IsCause}
-use Rattle.am_effects.proofs.Items.{all_get}
-use Rattle.am_laws.proofs.Named.{few_names}
-use Rattle.am_laws.proofs.Views.{heard_names}
-use Rattle.am_laws.proofs.TakenRuns.{Along, AllOwned, heard_used, each_along}
-use Rattle.am_repair.specs.Calm.{Repair, Leads, Follows, IsApart, IsCalm, Calm}
-use Rattle.am_repair.proofs.Nodes.{CalmCause, acting, leading, leads_not}
-use Rattle.am_repair.proofs.Leading.{Goes, told_taken, Trusts}
-use Rattle.am_repair.proofs.Lists.{LogGrows, grows_same}
-use Rattle.am_repair.proofs.Leading.{TellsTaken}
-use Rattle.am_repair.proofs.Following.{Skips}
-use Rattle.am_repair.proofs.Saying.{Grow, calm_stays, Sends, says_calm}
-use Rattle.am_repair.specs.Rounds.{IsOurs}
+use Rattle.am_repair.proofs.Words.{eq-eqb, eqb-true, ◌≡◌, ◌⊎◌, inl, inr, ⊎_elim, ℕ, zero, suc, ◌≤◌, ◌==◌, true, false, List, [], ◌∷◌, ◌++◌, Some, slice_get}
+use Rattle.am_repair.proofs.Words.{refl, sym, ap, ◌∙◌, subst, arith, All, nat_tests, Stamp, Outcome, Rules, has, Letter, Event, letter_at, Node, top}
+use Rattle.am_repair.proofs.Words.{is_sequencer, has_departed, is_unfinished, next_stamp, Step, World, with_record, with_step, happens, split, Cause}
+use Rattle.am_repair.proofs.Words.{LetterSays, Effect, actor, IsCause, all_get, few_names, heard_names, Along, AllOwned, heard_used, each_along, Repair}
+use Rattle.am_repair.proofs.Words.{Leads, Follows, IsApart, IsCalm, Calm, IsOurs}
 use Rattle.am_repair.proofs.Going.{OurStep, Ours, idles, steps, ours, lead_changes, follow_changes, apart_changes, sender_is, member_there}
+use Rattle.am_repair.proofs.{Nodes.CalmCause, Nodes.acting, Nodes.leading, Nodes.leads_not, Leading.Goes, Leading.told_taken, Leading.Trusts}
+use Rattle.am_repair.proofs.{Leading.TellsTaken, Lists.LogGrows, Lists.grows_same, Following.Skips, Saying.Grow, Saying.calm_stays, Saying.Sends}
+use Rattle.am_repair.proofs.{Saying.says_calm}
 
 -- ---- names
-
-not_same : (a b : ℕ) → a ≡ b → (a == b) ≡ false → ⊥
-not_same a b same f = let z : ⊥ = grind (arith, nat_tests) in z
-
-is_same : (a b : ℕ) → a ≡ b → (a == b) ≡ true
-is_same a b same = grind (arith, nat_tests)
-
-pub as_same : (a b : ℕ) → (a == b) ≡ true → a ≡ b
-as_same a b t = grind (arith, nat_tests)
 
 is_other : (a b : ℕ) → (a == b) ≡ false → (b == a) ≡ false
 is_other a b f = grind (arith, nat_tests)
@@ -100,7 +66,7 @@ calm_stepped r w e name s h k = record {
   nodes = record {
     own = h.own;
     listed = h.listed;
-    who = λ other. split (other == name) (λ t. rw t (k.who ∙ sym (as_same other name t))) (λ f. rw f (h.who other));
+    who = λ other. split (other == name) (λ t. rw t (k.who ∙ sym (eqb-true other name t))) (λ f. rw f (h.who other));
     leads = k.leads;
     follows = k.follows;
     apart = k.apart;
@@ -130,7 +96,7 @@ record OneChanged (w v : World) (name : ℕ) (n : Node) : Type 0 where
 
 one_changed : (w : World) (e : Event) (name : ℕ) (s : Step) → OneChanged w (with_step w e name s) name s.node
 unfolding with_step
-one_changed w e name s = record { here = (let t = is_same name name refl in rw t refl); others = λ other f. rw f refl }
+one_changed w e name s = record { here = (let t = eq-eqb name name refl in rw t refl); others = λ other f. rw f refl }
 
 abbrev NoLess : Node → Node → Type 0
 NoLess x y = (top x ≤ top y) × (x.core.taken ≤ y.core.taken) × (x.core.acc ≤ y.core.acc)
@@ -148,7 +114,7 @@ grow_changed r w v name n ch log kept up = record {
   where
     both : (other : ℕ) → has r.members other ≡ true → NoLess (w.nodes other) (v.nodes other)
     both other there = split (other == name)
-        (λ t. let e = as_same other name t in
+        (λ t. let e = eqb-true other name t in
         subst (λ i. NoLess (w.nodes i) (v.nodes i)) (sym e) (subst (NoLess (w.nodes name)) (sym ch.here)
         (up (subst (λ i. has r.members i ≡ true) e there))))
         (λ f. subst (NoLess (w.nodes other)) (sym (ch.others other f)) (omega arith, omega arith, omega arith))
@@ -168,7 +134,7 @@ apart_others r w v name other n ch h f none there =
 
 -- a set has one of two names and not the other
 differs : (set : List ℕ) (a b : ℕ) → has set a ≡ true → has set b ≡ false → (b == a) ≡ false
-differs set a b t f = split (b == a) (λ same. absurd (let k = ap (has set) (as_same b a same) in cc)) (λ g. g)
+differs set a b t f = split (b == a) (λ same. absurd (let k = ap (has set) (eqb-true b a same) in cc)) (λ g. g)
 
 pub goes_first : (r : Repair) (w : World) → Calm r w → Goes r (λ name. (w.nodes name).core.taken) (w.nodes r.by) (w.nodes r.by)
 goes_first r w h =
@@ -288,7 +254,7 @@ member_step r w e s h k other there =
       base = λ t. absurd (no_leader t);
     } in
     let follows_new : (i : ℕ) → has r.members i ≡ true → (i == r.by) ≡ false → Follows r q (v.nodes i) = λ i here d. split (i == name)
-    (λ t. subst (λ j. Follows r q (v.nodes j)) (sym (as_same i name t)) (subst (Follows r q) (sym ch.here) g.follows))
+    (λ t. subst (λ j. Follows r q (v.nodes j)) (sym (eqb-true i name t)) (subst (Follows r q) (sym ch.here) g.follows))
     (λ t. subst (Follows r q) (sym (ch.others i t)) (h.follows i here d)) in
     record {
       who = g.who ∙ h.who name;
@@ -320,7 +286,7 @@ elsewhere_step r w e s h other none who apart letters =
       follows = λ i here d. subst (λ (x : Node). Follows r x (v.nodes i)) (sym node)
           (subst (Follows r q) (sym (ch.others i (is_other name i (differs r.members i name here none)))) (h.follows i here d));
       apart = λ i gone here. split (i == name)
-          (λ t. let e = as_same i name t in
+          (λ t. let e = eqb-true i name t in
           let same : v.nodes i ≡ n = ap (λ j. v.nodes j) e ∙ ch.here in
           subst (IsApart r) (sym same) (apart (subst (λ (x : Node). has_departed x.status ≡ false) same here)))
           (λ f. apart_others r w v name i n ch h f gone here);
@@ -359,8 +325,7 @@ apart_step r w e s h k other none there =
     (sent_calm r w v m n c s.letters k.calm sends (subst (λ (x : Node). All (LetterSays m c x) s.letters) sender k.effect.letters))
 
 gone_step : (r : Repair) (w : World) (e : Event) (s : Step) → Calm r w → (k : OurStep r w e s) → (actor w e == r.by) ≡ false
-    → has r.members (actor w e) ≡ false → has_departed (w.nodes (actor w e)).status ≡ true
-    → StepKeeps r w (with_step w e (actor w e) s) (actor w e) s
+    → has r.members (actor w e) ≡ false → has_departed (w.nodes (actor w e)).status ≡ true → StepKeeps r w (with_step w e (actor w e) s) (actor w e) s
 gone_step r w e s h k other none gone =
     let still = k.still gone in
     let status = ap has_departed still.status ∙ gone in
@@ -372,7 +337,7 @@ gone_step r w e s h k other none gone =
 step_keeps : (rules : Rules) (r : Repair) (w : World) (e : Event) (s : Step) → AllOwned rules w → Calm r w → OurStep r w e s
     → StepKeeps r w (with_step w e (actor w e) s) (actor w e) s
 step_keeps rules r w e s laws h k = split (actor w e == r.by)
-    (λ t. leader_step rules r w e s laws h k (as_same (actor w e) r.by t))
+    (λ t. leader_step rules r w e s laws h k (eqb-true (actor w e) r.by t))
     (λ f. split (has r.members (actor w e))
     (λ there. member_step r w e s h k f there)
     (λ none. split (has_departed (w.nodes (actor w e)).status)
@@ -398,13 +363,12 @@ ours_grow rules r w e is laws h = ours_grow_by rules r w e (happens w e) laws h 
 
 -- a member whose letter isn't the next entry stores nothing
 skip_step : (r : Repair) (w : World) (e : Event) (s : Step) (i : ℕ) → Calm r w → (k : OurStep r w e s) → has r.members i ≡ true → (i == r.by) ≡ false
-    → Skips (top (w.nodes i)) k.cause
-    → top ((with_step w e (actor w e) s).nodes i) ≡ top (w.nodes i)
+    → Skips (top (w.nodes i)) k.cause → top ((with_step w e (actor w e) s).nodes i) ≡ top (w.nodes i)
 skip_step r w e s i h k there other skips = split (i == actor w e)
     (λ t.
     let name = actor w e in
     let m = w.nodes name in
-    let same = as_same i name t in
+    let same = eqb-true i name t in
     let here = subst (λ j. has r.members j ≡ true) same there in
     let own : (m.core.who == r.by) ≡ false = ap (λ j. j == r.by) (h.who name ∙ sym same) ∙ other in
     let f = h.follows name here (ap (λ j. j == r.by) (sym same) ∙ other) in
@@ -416,25 +380,22 @@ skip_step r w e s i h k there other skips = split (i == actor w e)
     (λ f. ap (λ (x : Node). top x) ((one_changed w e (actor w e) s).others i f))
 
 ours_skip_by : (r : Repair) (w : World) (e : Event) (v : World) (i : ℕ) → Calm r w → Ours r w e v → has r.members i ≡ true → (i == r.by) ≡ false
-    → ((c : Cause) → IsCause w (actor w e) e.act c → Skips (top (w.nodes i)) c)
-    → top (v.nodes i) ≡ top (w.nodes i)
+    → ((c : Cause) → IsCause w (actor w e) e.act c → Skips (top (w.nodes i)) c) → top (v.nodes i) ≡ top (w.nodes i)
 unfolding with_record
 ours_skip_by r w e v i h (idles o) there other skips = refl
 ours_skip_by r w e v i h (steps s k) there other skips = skip_step r w e s i h k there other (skips k.cause k.is)
 
 pub ours_skip : (r : Repair) (w : World) (e : Event) (i : ℕ) → IsOurs r e → Calm r w → has r.members i ≡ true → (i == r.by) ≡ false
-    → ((c : Cause) → IsCause w (actor w e) e.act c → Skips (top (w.nodes i)) c)
-    → top ((happens w e).nodes i) ≡ top (w.nodes i)
+    → ((c : Cause) → IsCause w (actor w e) e.act c → Skips (top (w.nodes i)) c) → top ((happens w e).nodes i) ≡ top (w.nodes i)
 ours_skip r w e i is h there other skips = ours_skip_by r w e (happens w e) i h (ours r w e is h) there other skips
 
 -- the sequencer goes on to trust what was taken at some time
 trust_step : (rules : Rules) (r : Repair) (taken : ℕ → ℕ) (w : World) (e : Event) (s : Step) → AllOwned rules w → Calm r w → (k : OurStep r w e s)
-    → TellsTaken r taken k.cause → Trusts r taken (w.nodes r.by)
-    → Trusts r taken ((with_step w e (actor w e) s).nodes r.by)
+    → TellsTaken r taken k.cause → Trusts r taken (w.nodes r.by) → Trusts r taken ((with_step w e (actor w e) s).nodes r.by)
 trust_step rules r taken w e s laws h k tells t = split (actor w e == r.by)
     (λ same_.
     let name = actor w e in
-    let same = as_same name r.by same_ in
+    let same = eqb-true name r.by same_ in
     let q = w.nodes r.by in
     let c = k.cause in
     let effect = subst (λ i. Effect (w.nodes i) c s) same k.effect in
@@ -454,13 +415,11 @@ trust_step rules r taken w e s laws h k tells t = split (actor w e == r.by)
     (λ f. subst (Trusts r taken) (sym ((one_changed w e (actor w e) s).others r.by (is_other (actor w e) r.by f))) t)
 
 ours_trust_by : (rules : Rules) (r : Repair) (taken : ℕ → ℕ) (w : World) (e : Event) (v : World) → AllOwned rules w → Calm r w → Ours r w e v
-    → ((c : Cause) → IsCause w (actor w e) e.act c → TellsTaken r taken c)
-    → Trusts r taken (w.nodes r.by) → Trusts r taken (v.nodes r.by)
+    → ((c : Cause) → IsCause w (actor w e) e.act c → TellsTaken r taken c) → Trusts r taken (w.nodes r.by) → Trusts r taken (v.nodes r.by)
 unfolding with_record
 ours_trust_by rules r taken w e v laws h (idles o) tells t = t
 ours_trust_by rules r taken w e v laws h (steps s k) tells t = trust_step rules r taken w e s laws h k (tells k.cause k.is) t
 
 pub ours_trust : (rules : Rules) (r : Repair) (taken : ℕ → ℕ) (w : World) (e : Event) → IsOurs r e → AllOwned rules w → Calm r w
-    → ((c : Cause) → IsCause w (actor w e) e.act c → TellsTaken r taken c)
-    → Trusts r taken (w.nodes r.by) → Trusts r taken ((happens w e).nodes r.by)
+    → ((c : Cause) → IsCause w (actor w e) e.act c → TellsTaken r taken c) → Trusts r taken (w.nodes r.by) → Trusts r taken ((happens w e).nodes r.by)
 ours_trust rules r taken w e is laws h tells t = ours_trust_by rules r taken w e (happens w e) laws h (ours r w e is h) tells t

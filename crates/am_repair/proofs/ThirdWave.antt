@@ -1,32 +1,13 @@
 -- What the third wave of a round brings about: what was sent again is stored.
-use Rattle.std.proofs.Common.{◌≡◌, inl, inr, ℕ, ◌+◌, ◌-◌, ◌<◌, ◌≤◌, ◌==◌, min, true, false, List, length, Some, sym, ap, ◌∙◌, subst, arith}
-use Rattle.std.specs.Prelude.{filter}
-use Rattle.std.proofs.lemmas.Bool.{cases_lt}
-use Rattle.am_base.specs.declared.image.Image.{Image}
-use Rattle.am_base.specs.Founding.{Rules}
-use Rattle.am_base.specs.Names.{place_of, has}
-use Rattle.am_base.specs.Lists.{image_at, fits}
-use Rattle.am_packet.specs.declared.packet.Packet.TheVariants.{Bcast}
-use Rattle.am_packet.specs.Boxes.{Letter, letter_to}
+use Rattle.am_repair.proofs.Words.{◌≡◌, inl, inr, ℕ, ◌+◌, ◌-◌, ◌<◌, ◌≤◌, ◌==◌, min, true, false, List, length, Some, sym, ap, ◌∙◌, subst, arith, filter}
+use Rattle.am_repair.proofs.Words.{cases_lt, Image, Rules, place_of, has, image_at, fits, Bcast, Letter, letter_to, is_for, letter_at, Node, top, only_name}
+use Rattle.am_repair.proofs.Words.{hear, event_at, running, hearings_of, hearings, World, current, is_stopped, happens, happen, ComesNext, Repair, IsServed}
+use Rattle.am_repair.proofs.Words.{Served, IsOurs, hears_}
 use Rattle.am_group.specs.declared.event.Act.TheVariants as act
-use Rattle.am_group.specs.Addressed.{is_for}
-use Rattle.am_group.specs.Journals.{letter_at}
-use Rattle.am_model.specs.Node.{Node, top, only_name}
-use Rattle.am_model.specs.Step.{hear}
-use Rattle.am_play.specs.Settle.{event_at, running, hearings_of, hearings}
-use Rattle.am_play.specs.World.{World, current, is_stopped, happens, happen}
-use Rattle.am_repair.specs.Rows.{ComesNext}
-use Rattle.am_repair.specs.Calm.{Repair}
-use Rattle.am_repair.specs.Waves.{IsServed, Served}
-use Rattle.am_repair.proofs.Sets.{only_has}
-use Rattle.am_repair.proofs.Members.{entries_are_stored}
-use Rattle.am_repair.specs.Rounds.{IsOurs, hears as hears_}
-use Rattle.am_repair.proofs.Memberships.{stays_in, no_view_above}
 use Rattle.am_repair.proofs.Schedules.{acts_keep, acts_hit, is_hearing, wave_walks, letter_within}
-use Rattle.am_repair.proofs.Fine.{Fine, fine_goes, few_members, grow_goes, member_there, hear_is}
-use Rattle.am_repair.proofs.Ticking.{node_is}
-use Rattle.am_repair.proofs.FirstWave.{hears_own, Stays, stays_same, stays_goes}
-use Rattle.am_repair.proofs.NextWaves.{served_entry_goes}
+use Rattle.am_repair.proofs.{Sets.only_has, Members.entries_are_stored, Memberships.stays_in, Memberships.no_view_above, Fine.Fine, Fine.fine_goes}
+use Rattle.am_repair.proofs.{Fine.few_members, Fine.grow_goes, Fine.member_there, Fine.hear_is, Ticking.node_is, FirstWave.hears_own, FirstWave.Stays}
+use Rattle.am_repair.proofs.{FirstWave.stays_same, FirstWave.stays_goes, NextWaves.served_entry_goes}
 
 -- ---- one entry
 
@@ -80,8 +61,7 @@ record IsOnWay (rules : Rules) (r : Repair) (i after stored first many : ℕ) (w
   have : min (stored + min (n - (first + 1)) many) r.high ≤ top (u.nodes i)
 
 way_goes : (rules : Rules) (r : Repair) (i after stored first many n p k : ℕ) (w u : World) → r.sent ≤ after → after < k → has r.members i ≡ true
-    → IsOnWay rules r i after stored first many w n u
-    → IsOnWay rules r i after stored first many w n (happens u (event_at p (act.Hear k)))
+    → IsOnWay rules r i after stored first many w n u → IsOnWay rules r i after stored first many w n (happens u (event_at p (act.Hear k)))
 way_goes rules r i after stored first many n p k w u low late there h =
     let e = event_at p (act.Hear k) in
     let ours : IsOurs r e = hears_ p k (omega arith) in

@@ -1,35 +1,14 @@
 -- What the ticks of a round bring about: a poll, and reports.
-use Rattle.std.proofs.Common.{◌≡◌, ℕ, ◌+◌, ◌≤◌, ◌==◌, true, false, length, sym, ap, ◌∙◌, subst, arith}
-use Rattle.std.specs.Prelude.{Contains}
-use Rattle.am_base.specs.declared.name.Stamp.{Stamp}
-use Rattle.am_base.specs.declared.image.Image.{Image}
+use Rattle.am_repair.proofs.Words.{◌≡◌, ℕ, ◌+◌, ◌≤◌, ◌==◌, true, false, length, sym, ap, ◌∙◌, subst, arith, Contains, Stamp, Image, Rules, place_of, has}
+use Rattle.am_repair.proofs.Words.{members_of, members_at, Accept, Letter, letter_to, Event, is_for, letter_at, Node, top, view, members, others}
+use Rattle.am_repair.proofs.Words.{is_sequencer, report_of, Step, accept_of, step, event_at, running, ticks, World, is_stopped, with_step, happens, happen}
+use Rattle.am_repair.proofs.Words.{split, IsReport, Repair, Leads, Follows, IsSent, Polled, Reported, IsOurs, our_ticks}
 use Rattle.am_base.specs.declared.event.NodeEvent.TheVariants as does
-use Rattle.am_base.specs.Founding.{Rules}
-use Rattle.am_base.specs.Names.{place_of, has}
-use Rattle.am_base.specs.Lists.{members_of, members_at}
-use Rattle.am_packet.specs.declared.packet.Packet.TheVariants.{Accept}
-use Rattle.am_packet.specs.Boxes.{Letter, letter_to}
 use Rattle.am_group.specs.declared.event.Act.TheVariants as act
-use Rattle.am_group.specs.declared.event.Event.{Event}
-use Rattle.am_group.specs.Addressed.{is_for}
-use Rattle.am_group.specs.Journals.{letter_at}
-use Rattle.am_model.specs.Node.{Node, top, view, members, others, is_sequencer, report_of}
-use Rattle.am_model.specs.Emit.{Step, accept_of}
-use Rattle.am_model.specs.Step.{step}
-use Rattle.am_play.specs.Settle.{event_at, running, ticks}
-use Rattle.am_play.specs.World.{World, is_stopped, with_step, happens, happen}
-use Rattle.am_base.proofs.Greatest.{split}
-use Rattle.am_repair.specs.Rows.{IsReport}
-use Rattle.am_repair.specs.Calm.{Repair, Leads, Follows}
-use Rattle.am_repair.specs.Waves.{IsSent, Polled, Reported}
-use Rattle.am_repair.proofs.Sets.{some_has, without_has}
-use Rattle.am_repair.proofs.Nodes.{acting, leading, leads_not}
-use Rattle.am_repair.proofs.Leading.{is_member_now}
-use Rattle.am_repair.proofs.Ticks.{sequencers_poll, members_report}
-use Rattle.am_repair.specs.Rounds.{IsOurs, ticks as our_ticks}
-use Rattle.am_repair.proofs.Schedules.{IsAmong, Hits, acts_hit, is_running}
 use Rattle.am_repair.proofs.Fine.{Fine, few_members, fine_goes, grow_goes, letter_goes, letters_more, IsThere, member_there, tick_is, sent_at, contained_at}
 use Rattle.am_repair.proofs.Fine.{stepped_node}
+use Rattle.am_repair.proofs.{Sets.some_has, Sets.without_has, Nodes.acting, Nodes.leading, Nodes.leads_not, Leading.is_member_now, Ticks.sequencers_poll}
+use Rattle.am_repair.proofs.{Ticks.members_report, Schedules.IsAmong, Schedules.Hits, Schedules.acts_hit, Schedules.is_running}
 
 -- ---- letters stay
 
@@ -110,8 +89,7 @@ pub record Bounds (rules : Rules) (r : Repair) (X : World → Type 0) (accepted 
   pub gives : (w : World) → Fine rules r w → X w → accepted ≤ ((happens w (event_at (place_of r.by) act.Tick)).nodes r.by).core.acc
 
 pub ticks_poll : (rules : Rules) (r : Repair) (X : World → Type 0) (i accepted : ℕ) (w : World) → Bounds rules r X accepted → Fine rules r w → X w
-    → has r.members i ≡ true → (i == r.by) ≡ false
-    → Polled r i (length w.letters) accepted (happen w (ticks w))
+    → has r.members i ≡ true → (i == r.by) ≡ false → Polled r i (length w.letters) accepted (happen w (ticks w))
 ticks_poll rules r X i accepted w b h x there other =
     (acts_hit P (Polled r i (length w.letters) accepted) act.Tick (place_of r.by) hits (running w) w
     (runs_there w r.by (member_there rules r w r.by h h.calm.listed)) (h, x, omega arith)).1
@@ -143,8 +121,7 @@ lists_leader r q m l listed f far own =
     ap (λ (i : Image). has (members_of i) (view m).by) f.told_ ∙ ap (has (members_at q.core.log (top m))) by ∙ l.members_ r.by (top m) listed far f.within
 
 reported_tick : (rules : Rules) (r : Repair) (i after : ℕ) (w : World) → Fine rules r w → has r.members i ≡ true → (i == r.by) ≡ false
-    → after ≤ length w.letters → r.high ≤ top (w.nodes i)
-    → Reported r i after r.high (happens w (event_at (place_of i) act.Tick))
+    → after ≤ length w.letters → r.high ≤ top (w.nodes i) → Reported r i after r.high (happens w (event_at (place_of i) act.Tick))
 reported_tick rules r i after w h there other low far =
     let e = event_at (place_of i) act.Tick in
     let m = w.nodes i in
@@ -182,8 +159,7 @@ reported_tick rules r i after w h there other low far =
     }
 
 pub ticks_report : (rules : Rules) (r : Repair) (i : ℕ) (w : World) → Fine rules r w → has r.members i ≡ true → (i == r.by) ≡ false
-    → r.high ≤ top (w.nodes i)
-    → Reported r i (length w.letters) r.high (happen w (ticks w))
+    → r.high ≤ top (w.nodes i) → Reported r i (length w.letters) r.high (happen w (ticks w))
 ticks_report rules r i w h there other far =
     (acts_hit P (Reported r i (length w.letters) r.high) act.Tick (place_of i) hits (running w) w (runs_there w i (member_there rules r w i h there))
     (h, far, omega arith)).1

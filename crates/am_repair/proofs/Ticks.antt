@@ -1,41 +1,23 @@
 -- What a tick sends in a group that stands in one view.
-use Rattle.std.proofs.Common.{◌≡◌, ℕ, ◌==◌, not, nat_le, Bool, true, false, if◌then◌else◌, List, length, Option, Some, None, refl, sym, ap, ◌∙◌, subst, arith}
-use Rattle.std.specs.Prelude.{Contains}
-use Rattle.am_base.specs.declared.entry.Entry.TheVariants.{Data}
-use Rattle.am_base.specs.declared.outcome.Outcome.{Outcome}
+use Rattle.am_repair.proofs.Words.{not-false, ◌≡◌, ℕ, ◌==◌, not, nat_le, Bool, true, false, if◌then◌else◌, List, length, Option, Some, None, refl, sym, ap}
+use Rattle.am_repair.proofs.Words.{◌∙◌, subst, arith, Contains, Data, Outcome, has, Packet, Letter, letter_to, OwnSend, Status, Node, Ballot, view, members}
+use Rattle.am_repair.proofs.Words.{others, only_name, acts, is_member, is_sequencer, has_room, waiting, report_of, refresh_at_end, Plan, telling, ack_of}
+use Rattle.am_repair.proofs.Words.{accept_of, request_of, spread_of, finish, step, row, is_unfinished, would_emit, hand_in, emit, tick_row, tick_by}
+use Rattle.am_repair.proofs.Words.{tick_with, tick_acting, tick_member, tick_sequencer, and_result, put_off, going, and_both, rests_at_end, leads_rests}
+use Rattle.am_repair.proofs.Words.{leads_pushed, IsAtRest, Polls, SequencersPoll, IsReport, ack, request, spread, Reports, MembersReport}
 use Rattle.am_base.specs.declared.outcome.Outcome.TheVariants as said
-use Rattle.am_base.specs.Names.{has}
-use Rattle.am_packet.specs.declared.packet.Packet.{Packet}
-use Rattle.am_packet.specs.Boxes.{Letter, letter_to}
-use Rattle.am_sender.specs.declared.OwnSend.{OwnSend}
-use Rattle.am_model.specs.declared.status.Status.{Status}
 use Rattle.am_model.specs.declared.status.Status.TheVariants as status
-use Rattle.am_model.specs.Node.{Node, Ballot, view, members, others, only_name, acts, is_member, is_sequencer, has_room, waiting, report_of}
-use Rattle.am_model.specs.Refresh.{refresh_at_end}
-use Rattle.am_model.specs.Emit.{Plan, telling, ack_of, accept_of, request_of, spread_of, finish}
-use Rattle.am_model.specs.Step.{step, row}
-use Rattle.am_model.specs.Calls.{is_unfinished, would_emit, hand_in, emit}
-use Rattle.am_model.specs.Ticks.{tick_row, tick_by, tick_with, tick_acting, tick_member, tick_sequencer, and_result, put_off, going}
-use Rattle.am_base.proofs.Greatest.{and_both}
-use Rattle.am_effects.proofs.Tests.{not_false}
-use Rattle.am_effects.proofs.Rests.{rests_at_end, leads_rests}
-use Rattle.am_effects.proofs.Says.{leads_pushed}
-use Rattle.am_repair.specs.Rows.{IsAtRest, Polls, SequencersPoll, IsReport, ack, request, spread, Reports, MembersReport}
-use Rattle.am_repair.proofs.Sets.{some_has, only_has, without_has}
-use Rattle.am_repair.proofs.Letters.{with_there}
-use Rattle.am_repair.proofs.Ends.{one_letter}
+use Rattle.am_repair.proofs.{Sets.some_has, Sets.only_has, Sets.without_has, Letters.with_there, Ends.one_letter}
 
 -- ---- which row it is
 
 member_status : (s : Status) → is_member s ≡ true → s ≡ status.Member
-member_status status.Stranger h = absurd (cc)
-member_status status.Asking h = absurd (cc)
 member_status status.Member h = refl
-member_status status.Departed h = absurd (cc)
+member_status _ h = absurd (cc)
 
 pub without_ballot : (m : Node) (o : Option Ballot) → is_unfinished o ≡ false → tick_with m o ≡ tick_acting m
 without_ballot m None h = refl
-without_ballot m (Some b) h = let over = not_false b.is_over h in rw over refl
+without_ballot m (Some b) h = let over = not-false b.is_over h in rw over refl
 
 pub acting_row : (m : Node) → acts m ≡ true → IsAtRest m → tick_row m ≡ tick_acting m
 unfolding tick_row

@@ -1,35 +1,13 @@
 -- What a node knows of others to be taken, through a request to join: the row itself.
-use Rattle.std.proofs.Common.{◌≡◌, ℕ, ◌==◌, ◌&&◌, ◌||◌, not, nat_lt, nat_le, Bool, true, false, if◌then◌else◌, Some, refl, sym, ap, ◌∙◌, subst, arith}
-use Rattle.std.proofs.lemmas.Bool.Decides.{nat_tests}
-use Rattle.am_base.specs.declared.name.Stamp.{Stamp}
-use Rattle.am_base.specs.declared.entry.Entry.TheVariants.{Join}
-use Rattle.am_base.specs.declared.image.Report.{Report}
-use Rattle.am_base.specs.declared.outcome.Outcome.{Outcome}
+use Rattle.am_repaired.proofs.Words.{other_heard, ◌≡◌, ℕ, ◌==◌, ◌&&◌, ◌||◌, not, nat_lt, nat_le, Bool, true, false, if◌then◌else◌, Some, refl, sym, ap, ◌∙◌}
+use Rattle.am_repaired.proofs.Words.{subst, arith, nat_tests, Stamp, Join, Report, Outcome, Row, life_of, at_place, fits, Packet, Letter, Act, Event, is_for}
+use Rattle.am_repaired.proofs.Words.{letter_at, Node, image_of, is_sequencer, has_room, Plan, Step, finish, hear, hear_refusal, with_admitted, join_ask_row}
+use Rattle.am_repaired.proofs.Words.{hears_member, hear_row, packet_length, refresh_at_end, World, is_stopped, with_record, with_step, hears_letter, hear_cut}
+use Rattle.am_repaired.proofs.Words.{acts_as, happens, heard_by, split, and_both, actor, end_same}
+use Rattle.am_model.specs.Joining.{asks_to_join}
 use Rattle.am_base.specs.declared.outcome.Outcome.TheVariants as said
-use Rattle.am_base.specs.declared.image.Row.{Row}
-use Rattle.am_base.specs.Names.{life_of}
-use Rattle.am_base.specs.Lists.{at_place, fits}
-use Rattle.am_packet.specs.declared.packet.Packet.{Packet}
 use Rattle.am_packet.specs.declared.packet.Packet.TheVariants as packet
-use Rattle.am_packet.specs.Boxes.{Letter}
-use Rattle.am_group.specs.declared.event.Act.{Act}
 use Rattle.am_group.specs.declared.event.Act.TheVariants as act
-use Rattle.am_group.specs.declared.event.Event.{Event}
-use Rattle.am_group.specs.Addressed.{is_for}
-use Rattle.am_group.specs.Journals.{letter_at}
-use Rattle.am_model.specs.Node.{Node, image_of, is_sequencer, has_room}
-use Rattle.am_model.specs.Emit.{Plan, Step, finish}
-use Rattle.am_model.specs.Step.{hear, hear_refusal}
-use Rattle.am_model.specs.Joining.{with_admitted, asks_to_join, join_ask_row}
-use Rattle.am_model.specs.Hearing.{hears_member, hear_row}
-use Rattle.am_model.specs.Lengths.{packet_length}
-use Rattle.am_model.specs.Refresh.{refresh_at_end}
-use Rattle.am_play.specs.World.{World, is_stopped, with_record, with_step, hears_letter, hear_cut, acts_as, happens}
-use Rattle.am_play.specs.Claims.{heard_by}
-use Rattle.am_base.proofs.Greatest.{split, and_both}
-use Rattle.am_effects.specs.Events.{actor}
-use Rattle.am_repair.proofs.Reported.{end_same}
-use Rattle.am_repaired.proofs.Came.{other_member}
 
 -- as before, but that a joiner whose Join fits the sequencer's list begins at the base
 pub data Asked (m y : Node) (s : ℕ) : Type 0 where
@@ -87,7 +65,7 @@ unfolding hear hear_row join_ask_row
 asked m s v = plan_ends m s _ (plan_if m s (hears_member m s && is_sequencer m) _ _
     (λ t.
     let both = and_both (hears_member m s) (is_sequencer m) t in
-    row_asked m s (at_place (image_of m) s) (other_member m s both.0) both.1)
+    row_asked m s (at_place (image_of m) s) (other_heard m s both.0) both.1)
     (λ t. same_plan m s _ refl refl))
 
 refused_asked : (m : Node) (s cause : ℕ) → Asked m (hear_refusal m cause).node s

@@ -1,21 +1,9 @@
 -- What rises in a step, and that a list begins by a Welcome alone, whose base was taken.
-use Rattle.std.proofs.Common.{◌≡◌, ◌⊎◌, inl, inr, ⊎_elim, ℕ, ◌≤◌, false, refl, sym, ap, ◌∙◌, subst, arith}
-use Rattle.am_base.specs.declared.image.Image.{Image}
-use Rattle.am_base.specs.declared.name.Stamp.{Stamp}
-use Rattle.am_base.specs.declared.outcome.Outcome.{Outcome}
-use Rattle.am_base.specs.Founding.{Rules}
+use Rattle.am_repaired.proofs.Words.{◌≡◌, ◌⊎◌, inl, inr, ⊎_elim, ℕ, ◌≤◌, false, refl, sym, ap, ◌∙◌, subst, arith, Image, Stamp, Outcome, Rules, has_log, Node}
+use Rattle.am_repaired.proofs.Words.{Cause, hears, Changes, unchanged, changed, rests_refresh, rests_closed, settle_is, logged, HeardNames, HeardUsed, Along}
+use Rattle.am_repaired.proofs.Words.{along_changes, Rises, rises_change, Kind, kind_of}
 use Rattle.am_packet.specs.declared.packet.Packet.TheVariants as packet
-use Rattle.am_model.specs.Node.{has_log, Node}
-use Rattle.am_effects.specs.Causes.{Cause, hears}
-use Rattle.am_effects.specs.Changes.{Changes, unchanged, changed}
-use Rattle.am_effects.proofs.Rests.{rests_refresh, rests_closed, settle_is}
-use Rattle.am_effects.proofs.Statuses.{logged}
-use Rattle.am_laws.proofs.ViewNames.{HeardNames}
-use Rattle.am_laws.proofs.Taken.{HeardUsed}
-use Rattle.am_laws.proofs.TakenRuns.{Along, along_changes}
-use Rattle.am_repair.proofs.Reported.{Rises, rises_change}
 use Rattle.am_headline.proofs.Ways as ways
-use Rattle.am_headline.proofs.Ways.{Kind, kind_of}
 
 -- ---- what rises
 
@@ -61,12 +49,9 @@ blank_kind c o x y ways.settled h = subst (Blank c) (sym (settle_is x)) (on c x 
 blank_kind c o x y (ways.began s v base join image is says may) h =
     inr (record { welcome = record { from = s; stamp = v; base = base; join = join; image = image; says = is }; taken = omega arith })
 blank_kind c o x y (ways.left member leaves) h = on c x y (omega arith) (λ f. absurd (let t = logged x.status member in cc)) h
-blank_kind c o x y (ways.sent body stays) h = on c x y (omega arith) (λ f. f) h
-blank_kind c o x y (ways.collected req) h = on c x y (omega arith) (λ f. f) h
-blank_kind c o x y (ways.took e says member some) h = on c x y (omega arith) (λ f. f) h
 blank_kind c o x y (ways.asked_in was) h = on c x y (omega arith) (λ f. refl) h
-blank_kind c o x y (ways.asked_out was done) h = on c x y (omega arith) (λ f. f) h
 blank_kind c o x y (ways.gone member leaves) h = let r = rests_closed x in on c x y r.taken (λ f. absurd (let t = logged x.status member in cc)) h
+blank_kind c o x y _ h = on c x y (omega arith) (λ f. f) h
 
 blank_along : {c : Cause} {o : Outcome} (x n : Node) → Changes c o x n → Blank c x → Blank c n
 blank_along x n unchanged h = h

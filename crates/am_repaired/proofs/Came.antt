@@ -1,50 +1,17 @@
 -- How a name comes to act in a view: it did before, it decided it, or a letter of the view's own name told it, whose base it had taken.
-use Rattle.std.proofs.Common.{◌≡◌, ⊎_elim, ℕ, ◌<◌, ◌≤◌, ◌==◌, ◌&&◌, ◌||◌, not, max, true, false, List, [], refl, sym, ap, ◌∙◌, subst, arith}
-use Rattle.std.proofs.lemmas.Bool.Decides.{nat_tests}
-use Rattle.am_base.specs.declared.entry.Entry.{Entry}
-use Rattle.am_base.specs.declared.entry.Entry.TheVariants.{Data, Join, Leave, View}
-use Rattle.am_base.specs.declared.image.Image.{Image}
-use Rattle.am_base.specs.declared.name.Stamp.{Stamp}
-use Rattle.am_base.specs.declared.outcome.Outcome.{Outcome}
-use Rattle.am_base.specs.Founding.{Rules}
-use Rattle.am_base.specs.Stamps.{stamp_lt, stamp_eq}
-use Rattle.am_base.specs.Lists.{Log, blank, fold, told_by}
+use Rattle.am_repaired.proofs.Words.{numbers_plain, stamp_by, other_asks, other_heard, stamp_itself, same_stamp, ◌≡◌, ⊎_elim, ℕ, ◌<◌, ◌≤◌, ◌==◌, ◌&&◌, max}
+use Rattle.am_repaired.proofs.Words.{true, false, List, [], refl, sym, ap, ◌∙◌, subst, arith, nat_tests, Entry, Data, Join, Leave, View, Image, Stamp}
+use Rattle.am_repaired.proofs.Words.{Outcome, Rules, stamp_lt, stamp_eq, Log, blank, fold, told_by, Node, Ballot, view, image_of, acts, is_member, push_entry}
+use Rattle.am_repaired.proofs.Words.{trim_up_to, has_log, Verdict, with_promise, next_stamp, trim_for, left_in, need_of, is_view, split, Cause, hears, Looks}
+use Rattle.am_repaired.proofs.Words.{finds_itself_out, waits, fetches_from_best, finds_too_few, finds_no_room, decides, Fetches, without_ballot, for_ballot}
+use Rattle.am_repaired.proofs.Words.{Change, refreshes, settles, admits, numbers, keeps_body, notes, stores, begins_list, departs, promises, opens, looks}
+use Rattle.am_repaired.proofs.Words.{fetches, stores_view, collects, takes, asks_to_join, asks_to_leave, closes, Changes, unchanged, changed, view_pushed}
+use Rattle.am_repaired.proofs.Words.{Blanked, not_above_itself, not_above, equal_stamps, at_most, at_most_below, HasNames, HeardNames, SameView, Stood}
+use Rattle.am_repaired.proofs.Words.{view_last, Balloted, next_above, looked_at, change_does, HeardUsed, Along, along_changes, acting, alike_refresh}
+use Rattle.am_repaired.proofs.Words.{alike_settle, view_alike, acts_alike, Alike}
 use Rattle.am_packet.specs.declared.packet.Packet.TheVariants as packet
-use Rattle.am_model.specs.Node.{Node, Ballot, view, image_of, acts, is_member, is_asking, push_entry, trim_up_to, has_log}
-use Rattle.am_model.specs.Ballots.{Verdict, with_promise, next_stamp, trim_for, left_in, need_of}
-use Rattle.am_model.specs.Receiving.{is_view}
-use Rattle.am_model.specs.Hearing.{hears_member, hears_asking}
-use Rattle.am_base.proofs.Greatest.{split, and_both}
-use Rattle.am_effects.specs.Causes.{Cause, hears}
-use Rattle.am_effects.specs.Looks.{Looks, finds_itself_out, waits, fetches_from_best, finds_too_few, finds_no_room, decides}
-use Rattle.am_effects.specs.Changes.{Numbers, asked_send, own_send, asked_join, asked_leave, Fetches, without_ballot}
-use Rattle.am_effects.specs.Changes.{for_ballot}
-use Rattle.am_effects.specs.Changes.{Change, refreshes, settles, takes_report, admits, numbers, keeps_body, notes, stores, begins_list, departs, promises}
-use Rattle.am_effects.specs.Changes.{opens}
-use Rattle.am_effects.specs.Changes.{looks, fetches, stores_view, queues, collects, takes, asks_to_join, asks_to_leave, closes}
-use Rattle.am_effects.specs.Changes.{Changes, unchanged, changed}
-use Rattle.am_effects.proofs.Tests.{not_true}
-use Rattle.am_effects.proofs.Says.{view_pushed}
-use Rattle.am_laws.proofs.Blank.{Blanked}
-use Rattle.am_laws.proofs.Stamps.{same_stamp, not_above_itself, not_above, equal_stamps, at_most, at_most_below}
-use Rattle.am_laws.proofs.Views.{same_is_equal}
-use Rattle.am_laws.proofs.ViewNames.{HasNames, HeardNames}
-use Rattle.am_laws.proofs.ViewSteps.{SameView, Stood, view_last}
-use Rattle.am_laws.proofs.ViewChanges.{Balloted, next_above, looked_at, change_does}
-use Rattle.am_laws.proofs.Taken.{HeardUsed}
-use Rattle.am_laws.proofs.TakenRuns.{Along, along_changes}
-use Rattle.am_repair.proofs.Nodes.{acting, alike_refresh, alike_settle, view_alike, acts_alike, Alike}
 
 -- ---- names
-
-other_asking : (m : Node) (s : ℕ) → hears_asking m s ≡ true → (s == m.core.who) ≡ false
-other_asking m s h = not_true (s == m.core.who) (and_both (not (s == m.core.who)) (is_member m.status || is_asking m.status) h).0
-
-pub other_member : (m : Node) (s : ℕ) → hears_member m s ≡ true → (s == m.core.who) ≡ false
-other_member m s h = not_true (s == m.core.who) (and_both (not (s == m.core.who)) (is_member m.status) h).0
-
-by_sender : (v : Stamp) (s : ℕ) → (v.by == s) ≡ true → v.by ≡ s
-by_sender v s h = grind (arith, nat_tests)
 
 -- ---- who tells a view
 
@@ -80,12 +47,6 @@ stays_pushed : (x y : Node) (e : Entry) → is_view e ≡ false → y.core.who �
 stays_pushed x y e plain who viewed promise status taken =
     let v = viewed ∙ view_pushed x e plain in
     record { who = who; view_ = v; acts_ = λ t. sym (λ i. is_member (status i) && stamp_eq (promise i) (v i)) ∙ t; taken = taken }
-
-numbered_plain : (c : Cause) (x : Node) (e : Entry) → Numbers c x e → is_view e ≡ false
-numbered_plain c x e (asked_send s v report req body by known left next) = refl
-numbered_plain c x e (own_send s is last) = refl
-numbered_plain c x e (asked_join s v is other fit) = refl
-numbered_plain c x e (asked_leave s v report is other known stays) = refl
 
 -- nothing but numbers and sets that aren't named here
 plain_stay : (x y : Node) → y.core.who ≡ x.core.who → y.core.log ≡ x.core.log → y.core.promise ≡ x.core.promise → y.status ≡ x.status
@@ -134,21 +95,18 @@ fetched_view x s v base (View stamp names resilience) why promise is t =
     (last ∙ at, by_name why at)
   where
     by_name : Fetches x s v (View stamp names resilience) → stamp ≡ v → v.by ≡ s
-    by_name (without_ballot none from past) at = by_sender v s from
+    by_name (without_ballot none from past) at = stamp_by v s from
     by_name (for_ballot b open_ from past) at =
-        let u : stamp_eq stamp v ≡ true = ap (stamp_eq stamp) (sym at) ∙ same_is_equal stamp in
+        let u : stamp_eq stamp v ≡ true = ap (stamp_eq stamp) (sym at) ∙ stamp_itself stamp in
         absurd (split (stamp_lt v stamp) (λ y. let p = rw y at past in cc) (λ y. let p = rw (y, u) at past in cc))
 
 came_change : (c : Cause) (o : Outcome) (m x y : Node) → HeardNames c → HasNames x → HasNames y → Balloted x → stamp_lt (view x) (view m) ≡ false
-    → Change c o x y
-    → (acts x ≡ true → Came c m x) → acts y ≡ true → Came c m y
+    → Change c o x y → (acts x ≡ true → Came c m x) → acts y ≡ true → Came c m y
 came_change c o m x y heard names after k low refreshes h t = let s = stays_alike x y (alike_refresh x) in came_on c m x y s (h (s.acts_ t))
 came_change c o m x y heard names after k low settles h t = let s = stays_alike x y (alike_settle x) in came_on c m x y s (h (s.acts_ t))
-came_change c o m x y heard names after k low (takes_report s v report brings may) h t = came_on c m x y (plain_stay x y refl refl refl refl (omega arith))
-    (h t)
 came_change c o m x y heard names after k low (admits s v is leads fit) h t = came_on c m x y (plain_stay x y refl refl refl refl (omega arith)) (h t)
 came_change c o m x y heard names after k low (numbers e leads room why) h t =
-    let s = stays_pushed x y e (numbered_plain c x e why) refl refl refl refl (omega arith) in came_on c m x y s (h (s.acts_ t))
+    let s = stays_pushed x y e (numbers_plain c x e why) refl refl refl refl (omega arith) in came_on c m x y s (h (s.acts_ t))
 came_change c o m x y heard names after k low (keeps_body s v report req body is heard_) h t = came_on c m x y
     (plain_stay x y refl refl refl refl (omega arith)) (h t)
 came_change c o m x y heard names after k low (notes s v base acc brings heard_) h t = came_on c m x y (plain_stay x y refl refl refl refl (omega arith)) (h t)
@@ -156,7 +114,7 @@ came_change c o m x y heard names after k low (stores s v base acc number e carr
     let s_ = stays_pushed x y e plain refl refl refl refl (omega arith) in came_on c m x y s_ (h (s_.acts_ t))
 came_change c o m x y heard names after k low (begins_list s v base join image is says may) h t =
     let at : view y ≡ v = sym (acting y t).1 in
-    told_so s v base (subst (λ z. Tells z s v base) (sym is) (by_welcome s v base join image)) at (by_sender v s may.own) (other_asking x s may.asks)
+    told_so s v base (subst (λ z. Tells z s v base) (sym is) (by_welcome s v base join image)) at (stamp_by v s may.own) (other_asks x s may.asks)
     (omega arith)
 came_change c o m x y heard names after k low (departs s v number is heard_ leaves) h t = absurd (cc)
 came_change c o m x y heard names after k low (promises v high why) h t =
@@ -172,13 +130,11 @@ came_change c o m x y heard names after k low (looks b verdict over why look is)
 came_change c o m x y heard names after k low (fetches s v base number e is heard_ promise below why may) h t =
     split (is_view e)
     (λ u. let at = fetched_view x s v base e why (same_stamp v x.core.promise promise) u t in
-    told_so s v base (subst (λ z. Tells z s v base) (sym is) (by_piece s v base number e)) at.0 at.1 (other_member x s heard_) may.taken)
+    told_so s v base (subst (λ z. Tells z s v base) (sym is) (by_piece s v base number e)) at.0 at.1 (other_heard x s heard_) may.taken)
     (λ f. let s_ = stays_pushed x y e f refl refl refl refl (omega arith) in came_on c m x y s_ (h (s_.acts_ t)))
 came_change c o m x y heard names after k low (stores_view s v base number names_ resilience is heard_ own_ other promise below may) h t =
     told_so s v base (subst (λ z. Tells z s v base) (sym is) (by_result s v base number names_ resilience)) (view_last (trim_up_to x base) v names_ resilience)
-    (by_sender v s own_) (other_member x s heard_) may.taken
-came_change c o m x y heard names after k low (queues body is says member stays few) h t = came_on c m x y (plain_stay x y refl refl refl refl (omega arith))
-    (h t)
+    (stamp_by v s own_) (other_heard x s heard_) may.taken
 came_change c o m x y heard names after k low (collects req is) h t = came_on c m x y (plain_stay x y refl refl refl refl (omega arith)) (h t)
 came_change c o m x y heard names after k low (takes e is says member some there) h t =
     came_on c m x y (record { who = refl; view_ = refl; acts_ = λ a. a; taken = omega arith }) (h t)
@@ -186,6 +142,8 @@ came_change c o m x y heard names after k low (asks_to_join is was) h t = absurd
 came_change c o m x y heard names after k low (asks_to_leave is was stays done) h t = came_on c m x y
     (record { who = refl; view_ = refl; acts_ = λ a. a; taken = omega arith }) (h t)
 came_change c o m x y heard names after k low (closes leads leaves alone room) h t = absurd (cc)
+came_change c o m x y heard names after k low _ h t = came_on c m x y (plain_stay x y refl refl refl refl (omega arith))
+    (h t)
 
 -- ---- a step
 

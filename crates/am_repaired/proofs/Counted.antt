@@ -1,44 +1,14 @@
 -- Whose storage counts behind the last View, where a run may be repaired: each of them is a member still.
-use Rattle.std.proofs.Common.{◌≡◌, ◌≢◌, ℕ, zero, suc, ◌+◌, ◌<◌, ◌≤◌, ◌==◌, true, false}
-use Rattle.std.proofs.Common.{List, [], ◌∷◌, ◌++◌, length, slice_index, All, sym, ap, ◌∙◌, subst, arith}
-use Rattle.std.proofs.lemmas.Bool.Decides.{nat_tests}
-use Rattle.std.proofs.lemmas.List.Elements.{All-nil, All-cons}
-use Rattle.am_base.specs.declared.entry.Entry.{Entry}
-use Rattle.am_base.specs.declared.entry.Entry.TheVariants.{Data, Join, Leave, View}
-use Rattle.am_base.specs.declared.image.Image.{Image}
-use Rattle.am_base.specs.Founding.{Rules, MayFound}
-use Rattle.am_base.specs.Names.{IsSet, has, place_of, life_of, name_at, names_from, names_of}
-use Rattle.am_base.specs.Lists.{fold, blank, members_of}
-use Rattle.am_base.specs.Fronts.{counted_at}
-use Rattle.am_group.specs.declared.event.Event.{Event}
-use Rattle.am_fronts.proofs.Views.{view_grows}
-use Rattle.am_chain_lists.specs.Whole.{Begins, IsGood, image_of, mem, view_of, key}
-use Rattle.am_chain_lists.proofs.Prefixes.{begins_trans, begins_length, length_push}
-use Rattle.am_chain_lists.proofs.Members.{good_begins, told_push, mem_push, ends_of}
-use Rattle.am_chain_moves.specs.Group.{Group, Leads, counted_in, opening, chain_of, current_of}
-use Rattle.am_chain_moves.specs.Kept.{Kept}
-use Rattle.am_model.specs.Node.{Node, top, image_of as told_at, members, lowest_or_first}
-use Rattle.am_play.specs.Claims.{MayRepair}
-use Rattle.am_play.specs.World.{World, current, run}
-use Rattle.am_base.proofs.Folds.{fold_append}
-use Rattle.am_base.proofs.Greatest.{split}
-use Rattle.am_laws.proofs.Named.{names_hold}
-use Rattle.am_laws.proofs.RunCounts.{numbers_hold}
-use Rattle.am_laws.proofs.TakenRuns.{taken_holds}
-use Rattle.am_laws.proofs.ViewSteps.{after_view}
-use Rattle.am_stands.specs.Standing.{NameStands}
-use Rattle.am_stands.specs.Moving.{NamesNamed}
-use Rattle.am_stands.specs.Running.{Following}
-use Rattle.am_stands.proofs.Changes.{told_all, long_all}
-use Rattle.am_stands.proofs.ChainNames.{counts_names}
-use Rattle.am_stands.proofs.Counting.{name_small}
-use Rattle.am_stands.proofs.Onward.{group_kept}
-use Rattle.am_stands.proofs.Parts.{stood, counted_whole}
-use Rattle.am_steps.proofs.Steps.{steps_move}
-use Rattle.am_headline.proofs.Begun.{held}
-use Rattle.am_repaired.proofs.Left.{AllLeft, GoneBy, accepted, last, once, runs_left}
-use Rattle.am_repaired.proofs.OneList.{lawful_events, small_name, leading}
-use Rattle.am_repaired.proofs.Upheld.{Upheld, upheld_start, upheld_keeps}
+use Rattle.am_repaired.proofs.Words.{◌≡◌, ◌≢◌, ℕ, zero, suc, ◌+◌, ◌<◌, ◌≤◌, ◌==◌, true, false, List, [], ◌∷◌, ◌++◌, length, slice_index, All, sym, ap, ◌∙◌}
+use Rattle.am_repaired.proofs.Words.{subst, arith, nat_tests, All-nil, All-cons, Entry, Data, Join, Leave, View, Image, Rules, MayFound, IsSet, has, place_of}
+use Rattle.am_repaired.proofs.Words.{life_of, name_at, names_from, names_of, fold, blank, members_of, counted_at, Event, view_grows, Begins, IsGood, mem}
+use Rattle.am_repaired.proofs.Words.{view_of, key, begins_trans, begins_length, length_push, good_begins, told_push, mem_push, ends_of, Group, Leads}
+use Rattle.am_repaired.proofs.Words.{counted_in, opening, chain_of, current_of, Kept, Node, top, told_at, members, lowest_or_first, MayRepair, World, current}
+use Rattle.am_repaired.proofs.Words.{run, fold_append, split, names_hold, numbers_hold, taken_holds, after_view, NameStands, NamesNamed, Following, told_all}
+use Rattle.am_repaired.proofs.Words.{long_all, counts_names, name_small, group_kept, stood, counted_whole, steps_move, held}
+use Rattle.am_chain_lists.specs.Whole.{image_of}
+use Rattle.am_repaired.proofs.{Left.AllLeft, Left.GoneBy, Left.accepted, Left.last, Left.once, Left.runs_left, OneList.lawful_events, OneList.small_name}
+use Rattle.am_repaired.proofs.{OneList.leading, Upheld.Upheld, Upheld.upheld_start, Upheld.upheld_keeps}
 
 -- ---- who counts for a number
 

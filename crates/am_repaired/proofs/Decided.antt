@@ -1,29 +1,10 @@
 -- Who steps decides a view in it, and is its sequencer: what it trimmed as it decided is what its members have taken.
-use Rattle.std.proofs.Common.{◌≡◌, ℕ, ◌<◌, ◌≤◌, ◌==◌, max, true, false, List, [], ◌∷◌, ◌++◌, Some, slice_get, refl, sym, ap, ◌∙◌, subst, arith}
-use Rattle.am_base.specs.declared.name.Stamp.{Stamp}
-use Rattle.am_base.specs.Founding.{Rules}
-use Rattle.am_base.specs.Stamps.{stamp_lt}
-use Rattle.am_packet.specs.declared.packet.Packet.{Packet}
+use Rattle.am_repaired.proofs.Words.{eqb-true, ◌≡◌, ℕ, ◌<◌, ◌≤◌, ◌==◌, max, true, false, List, [], ◌∷◌, ◌++◌, Some, slice_get, refl, sym, ap, ◌∙◌, subst}
+use Rattle.am_repaired.proofs.Words.{arith, Stamp, Rules, stamp_lt, Packet, Letter, Event, key, Group, Node, view, acts, is_sequencer, Step, World, run}
+use Rattle.am_repaired.proofs.Words.{split, and_both, Cause, actor, all_get, IsNoted, PacketSays, key_stamp, parts, plain, known_is_taken}
 use Rattle.am_packet.specs.declared.packet.Packet.TheVariants as packet
-use Rattle.am_packet.specs.Boxes.{Letter}
-use Rattle.am_group.specs.declared.event.Event.{Event}
-use Rattle.am_chain_lists.specs.Whole.{key}
-use Rattle.am_chain_moves.specs.Group.{Group}
-use Rattle.am_model.specs.Node.{Node, view, acts, is_sequencer}
-use Rattle.am_model.specs.Emit.{Step}
-use Rattle.am_play.specs.World.{World, run}
-use Rattle.am_base.proofs.Greatest.{split, and_both}
-use Rattle.am_effects.specs.Causes.{Cause}
-use Rattle.am_effects.specs.Events.{actor}
-use Rattle.am_effects.proofs.Items.{all_get}
-use Rattle.am_laws.proofs.Views.{IsNoted}
-use Rattle.am_stands.specs.Letters.{PacketSays}
-use Rattle.am_stands.proofs.Entries.{key_stamp}
-use Rattle.am_headline.proofs.OneStep.{parts, plain}
-use Rattle.am_repair.proofs.ReportedRuns.{known_is_taken}
+use Rattle.am_repaired.proofs.Trims.{LetterLow, Knows, took, Settles, TrimStep, Sent, before, now, laws_w, laws_v, who_n, letter_v, piece_decided}
 use Rattle.am_repaired.proofs.Mailed.{says_low}
-use Rattle.am_repaired.proofs.Trims.{LetterLow, Knows, took, Settles, TrimStep, Sent, before, now, equal, laws_w, laws_v, who_n}
-use Rattle.am_repaired.proofs.Trims.{letter_v, piece_decided}
 
 module _ (rules : Rules) (events : List Event) (e : Event) (c : Cause) (step : Step) (s t : Group) (x : TrimStep rules events e c step s t)
     (leads : is_sequencer step.node ≡ true)
@@ -34,7 +15,7 @@ module _ (rules : Rules) (events : List Event) (e : Event) (c : Cause) (step : S
   own : (view n).by ≡ i
   own =
       let both = and_both (acts n) ((view n).by == n.core.who) leads in
-      equal (view n).by n.core.who both.1 ∙ who_n rules events e c step s t x
+      eqb-true (view n).by n.core.who both.1 ∙ who_n rules events e c step s t x
 
   -- before, nobody had decided that view
   is_new : s.views.decided (key (view n)) ≡ true → ⊥
@@ -74,7 +55,7 @@ module _ (rules : Rules) (events : List Event) (e : Event) (c : Cause) (step : S
   acting : (j : ℕ) → j < 256 → acts (v.nodes j) ≡ true → view (v.nodes j) ≡ view n → n.core.base ≤ (v.nodes j).core.taken
   acting j few_j act same = split (j == i)
       (λ u.
-      let is : v.nodes j ≡ n = ap v.nodes (equal j i u) ∙ at_i in
+      let is : v.nodes j ≡ n = ap v.nodes (eqb-true j i u) ∙ at_i in
       let b = ((laws_v rules events e c step s t x).each j few_j).fronts.base in
       let z = ap (λ (y : Node). y.core.base) is in
       omega arith)

@@ -1,38 +1,13 @@
 -- Whose Join fits the sequencer's list has no list, and no Welcome could make it begin one.
-use Rattle.std.proofs.Common.{◌≡◌, inl, ⊎_elim, ℕ, ◌<◌, ◌==◌, true, false, List, Some, slice_get, take, refl, sym, ap, ◌∙◌, subst, arith}
-use Rattle.std.proofs.lemmas.Bool.Decides.{nat_tests}
-use Rattle.am_base.specs.declared.entry.Entry.{Entry}
-use Rattle.am_base.specs.declared.entry.Entry.TheVariants.{Join}
-use Rattle.am_base.specs.declared.image.Image.{Image}
-use Rattle.am_base.specs.declared.name.Stamp.{Stamp}
-use Rattle.am_base.specs.Founding.{Rules}
-use Rattle.am_base.specs.Names.{place_of, life_of, has}
-use Rattle.am_base.specs.Lists.{at_place, fits}
-use Rattle.am_packet.specs.declared.packet.Packet.{Packet}
-use Rattle.am_packet.specs.declared.packet.Packet.TheVariants as packet
-use Rattle.am_packet.specs.Boxes.{Letter}
+use Rattle.am_repaired.proofs.Words.{member_stays, ◌≡◌, inl, ⊎_elim, ℕ, ◌<◌, ◌==◌, true, false, List, Some, slice_get, take, refl, sym, ap, ◌∙◌, subst, arith}
+use Rattle.am_repaired.proofs.Words.{nat_tests, Entry, Join, Image, Stamp, Rules, place_of, life_of, has, at_place, fits, Packet, Letter, is_for, Begins, mem}
+use Rattle.am_repaired.proofs.Words.{In, Past, Was, row_at, mem_in, was_begins, begins_take, begins_trans, Group, IsUp, chain_of, Kept, Node, image_of, acts}
+use Rattle.am_repaired.proofs.Words.{is_member, is_sequencer, has_log, has_departed, World, is_stopped, Status, split, and_both, logged, NameStands}
+use Rattle.am_repaired.proofs.Words.{PacketSays, WelcomeTo, has_begun, has_gone, has_left, is_leaving, may_begin, Following, told_all, leading, GoesSo}
 use Rattle.am_packet.specs.Kinds.{kind_of}
-use Rattle.am_group.specs.Addressed.{is_for}
-use Rattle.am_chain_lists.specs.Whole.{Begins, mem}
+use Rattle.am_packet.specs.declared.packet.Packet.TheVariants as packet
 use Rattle.am_chain_lists.specs.Whole as whole
-use Rattle.am_chain_lists.proofs.Rows.{In, Past, Was, row_at}
-use Rattle.am_chain_lists.proofs.Members.{mem_in, was_begins}
-use Rattle.am_chain_lists.proofs.Prefixes.{begins_take, begins_trans}
-use Rattle.am_chain_moves.specs.Group.{Group, IsUp, chain_of}
-use Rattle.am_chain_moves.specs.Kept.{Kept}
-use Rattle.am_model.specs.Node.{Node, image_of, acts, is_member, is_sequencer, has_log, has_departed}
-use Rattle.am_play.specs.World.{World, is_stopped}
-use Rattle.am_model.specs.declared.status.Status.{Status}
 use Rattle.am_model.specs.declared.status.Status.TheVariants as status
-use Rattle.am_base.proofs.Greatest.{split, and_both}
-use Rattle.am_effects.proofs.Statuses.{logged}
-use Rattle.am_stands.specs.Standing.{NameStands}
-use Rattle.am_stands.specs.Letters.{PacketSays, WelcomeTo, has_begun, has_gone, has_left, is_leaving, may_begin}
-use Rattle.am_stands.specs.Running.{Following}
-use Rattle.am_stands.proofs.Changes.{told_all}
-use Rattle.am_stands.proofs.Sent.{leading}
-use Rattle.am_steps.proofs.Any.{GoesSo}
-use Rattle.am_steps.proofs.Statuses.{member_here}
 
 -- a name's Join fits no member's place, nor a past one's of its life
 join_none : (image : Image) (name : ℕ) → fits image (Join name) ≡ true → Was (at_place image name) (life_of name) → ⊥
@@ -74,10 +49,8 @@ welcomed_in w v j base h k there = record {
 }
 
 unlogged_here : (t : Status) → has_log t ≡ false → has_departed t ≡ false
-unlogged_here status.Stranger f = refl
-unlogged_here status.Asking f = refl
-unlogged_here status.Member f = refl
 unlogged_here status.Departed f = absurd (cc)
+unlogged_here _ f = refl
 
 module _ (rules : Rules) (w : World) (s : Group) (q j : ℕ) (old : Following rules w s) (k : Kept s) (small : q < 256) (few : j < 256)
     (who : (w.nodes q).core.who ≡ q)
@@ -94,7 +67,7 @@ module _ (rules : Rules) (w : World) (s : Group) (q j : ℕ) (old : Following ru
   up : IsUp (s.node q)
   up = record {
     log = a_stands.log_ ∙ logged (w.nodes q).status member;
-    there = record { goes = a_stands.stopped ∙ runs; stays = a_stands.departed ∙ member_here (w.nodes q).status member };
+    there = record { goes = a_stands.stopped ∙ runs; stays = a_stands.departed ∙ member_stays (w.nodes q).status member };
   }
 
   chain : (s.node q).list ≡ chain_of s.views

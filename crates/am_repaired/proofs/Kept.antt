@@ -1,32 +1,12 @@
 -- In every run, with the group that follows it: what a sequencer knows to be taken was taken, but for what it began with.
-use Rattle.std.proofs.Common.{◌≡◌, ℕ, ◌<◌, ◌==◌, true, false, List, Some, slice_get, refl, sym, ap, ◌∙◌, subst, arith}
-use Rattle.std.proofs.lemmas.Bool.Decides.{nat_tests}
-use Rattle.am_base.specs.declared.image.Image.{Image}
-use Rattle.am_base.specs.declared.name.Stamp.{Stamp}
-use Rattle.am_base.specs.Founding.{Rules}
-use Rattle.am_base.specs.Names.{has}
+use Rattle.am_repaired.proofs.Words.{eqb-true, ◌≡◌, ℕ, ◌<◌, ◌==◌, true, false, List, Some, slice_get, refl, sym, ap, ◌∙◌, subst, arith, nat_tests, Image}
+use Rattle.am_repaired.proofs.Words.{Stamp, Rules, has, Letter, Event, key, Group, Node, view, acts, is_sequencer, founding_stamp, has_log, Step, World}
+use Rattle.am_repaired.proofs.Words.{start, founders_decided, first_node, is_stopped, split, Cause, Following, KeptBy, Quiet, parts, plain, acting}
+use Rattle.am_repair.proofs.Nodes.{leading}
 use Rattle.am_packet.specs.declared.packet.Packet.TheVariants as packet
-use Rattle.am_packet.specs.Boxes.{Letter}
-use Rattle.am_group.specs.declared.event.Event.{Event}
-use Rattle.am_chain_lists.specs.Whole.{key}
-use Rattle.am_chain_moves.specs.Group.{Group}
-use Rattle.am_model.specs.Node.{Node, view, acts, is_sequencer, founding_stamp, has_log}
-use Rattle.am_model.specs.Emit.{Step}
-use Rattle.am_play.specs.World.{World, start, founders_decided, first_node, is_stopped}
-use Rattle.am_base.proofs.Greatest.{split}
-use Rattle.am_effects.specs.Causes.{Cause}
-use Rattle.am_stands.specs.Running.{Following}
-use Rattle.am_headline.proofs.Fold.{KeptBy, Quiet}
-use Rattle.am_headline.proofs.OneStep.{parts, plain}
-use Rattle.am_repair.proofs.Nodes.{acting, leading}
-use Rattle.am_repaired.proofs.Came.{Came, before, own, told_so}
-use Rattle.am_repaired.proofs.Decided.{decided_settles}
-use Rattle.am_repaired.proofs.Fresh.{welcomed_in}
-use Rattle.am_repaired.proofs.Leading.{leading_settles}
-use Rattle.am_repaired.proofs.Mailed.{says_welcome}
-use Rattle.am_repaired.proofs.One.{runs_leading}
-use Rattle.am_repaired.proofs.Others.{others_settle}
-use Rattle.am_repaired.proofs.Trims.{LetterLow, Knows, took, joins, halts, Settles, Trims, TrimStep, Sent, equal}
+use Rattle.am_repaired.proofs.Trims.{LetterLow, Knows, took, joins, halts, Settles, Trims, TrimStep, Sent}
+use Rattle.am_repaired.proofs.{Came.Came, Came.before, Came.own, Came.told_so, Decided.decided_settles, Fresh.welcomed_in, Leading.leading_settles}
+use Rattle.am_repaired.proofs.{Mailed.says_welcome, One.runs_leading, Others.others_settle}
 use Rattle.am_repaired.proofs.Trims as trims
 
 -- ---- a step
@@ -61,7 +41,7 @@ module _ (rules : Rules) (events : List Event) (e : Event) (c : Cause) (step : S
   decided_v : (j : ℕ) → j < 256 → acts (v.nodes j) ≡ true → t.views.decided (key (view (v.nodes j))) ≡ true
   decided_v j few act = split (j == i)
       (λ u.
-      let node : v.nodes j ≡ n = ap v.nodes (equal j i u) ∙ here in
+      let node : v.nodes j ≡ n = ap v.nodes (eqb-true j i u) ∙ here in
       subst (λ y. t.views.decided (key (view y)) ≡ true) (sym node) (decided_n (sym (ap acts node) ∙ act)))
       (λ f.
       let node = there j f in
@@ -98,7 +78,7 @@ module _ (rules : Rules) (events : List Event) (e : Event) (c : Cause) (step : S
   settles_v : (q : ℕ) → q < 256 → is_sequencer (v.nodes q) ≡ true → is_stopped v q ≡ false → Settles v q
   settles_v q few leads runs = split (q == i)
       (λ u.
-      let same = equal q i u in
+      let same = eqb-true q i u in
       subst (Settles v) (sym same) (settles_i (ap is_sequencer (sym (ap v.nodes same ∙ here)) ∙ leads)))
       (λ f. others_settle rules events e c step s t x q few f (ap is_sequencer (sym (there q f)) ∙ leads)
       (sym (trims.stopped_v rules events e c step s t x q) ∙ runs))

@@ -1,29 +1,9 @@
 -- What a sequencer knows of others to be taken, through a step that neither decides a view nor hears a request to join.
-use Rattle.std.proofs.Common.{◌≡◌, ℕ, ◌≤◌, ◌==◌, max, true, false, refl, sym, ap, ◌∙◌, subst, arith}
-use Rattle.std.proofs.lemmas.Bool.Decides.{nat_tests}
-use Rattle.am_base.specs.declared.image.Report.{Report}
-use Rattle.am_base.specs.declared.entry.Entry.TheVariants.{Leave}
-use Rattle.am_base.specs.declared.outcome.Outcome.{Outcome}
-use Rattle.am_base.specs.Founding.{Rules}
-use Rattle.am_base.specs.Stamps.{stamp_lt}
-use Rattle.am_model.specs.Node.{Node, Ballot, view, image_of, push_entry}
-use Rattle.am_model.specs.Ballots.{Verdict, trim_for, left_in, need_of}
-use Rattle.am_model.specs.Refresh.{refresh}
-use Rattle.am_base.proofs.Greatest.{split}
-use Rattle.am_effects.specs.Causes.{Cause}
-use Rattle.am_effects.specs.Looks.{Looks, decides}
-use Rattle.am_effects.specs.Changes.{Change, refreshes, settles, takes_report, admits}
-use Rattle.am_effects.specs.Changes.{looks, stores_view, closes}
-use Rattle.am_effects.specs.Changes.{Changes, unchanged, changed}
-use Rattle.am_effects.proofs.Rests.{settle_is, rests_refresh, rests_at_end}
-use Rattle.am_laws.proofs.Stamps.{not_above_itself, at_most, at_most_below, below}
-use Rattle.am_laws.proofs.ViewNames.{HeardNames}
-use Rattle.am_laws.proofs.ViewSteps.{view_last}
-use Rattle.am_laws.proofs.ViewChanges.{Balloted, looked_at}
-use Rattle.am_laws.proofs.Taken.{HeardUsed}
-use Rattle.am_laws.proofs.TakenRuns.{Along, along_changes}
-use Rattle.am_repair.proofs.Knowing.{NoJoin}
-use Rattle.am_repair.proofs.Reported.{CauseTaken, told_so, refresh_same, end_same}
+use Rattle.am_repaired.proofs.Words.{◌≡◌, ℕ, ◌≤◌, ◌==◌, max, true, false, refl, sym, ap, ◌∙◌, subst, arith, nat_tests, Report, Leave, Outcome, Rules}
+use Rattle.am_repaired.proofs.Words.{stamp_lt, Node, Ballot, view, image_of, push_entry, Verdict, trim_for, left_in, need_of, refresh, split, Cause, Looks}
+use Rattle.am_repaired.proofs.Words.{decides, Change, refreshes, settles, takes_report, admits, looks, stores_view, closes, Changes, unchanged, changed}
+use Rattle.am_repaired.proofs.Words.{settle_is, rests_refresh, rests_at_end, not_above_itself, at_most, at_most_below, below, HeardNames, view_last, Balloted}
+use Rattle.am_repaired.proofs.Words.{looked_at, HeardUsed, Along, along_changes, NoJoin, CauseTaken, told_so, refresh_same, end_same}
 use Rattle.am_repaired.proofs.Came.{view_rises}
 
 -- no more than before, or than was taken
@@ -73,8 +53,7 @@ then_know nodes m x y low high (knew mine h) (knew his k) = knew (his ∙ mine) 
     omega arith)
 
 know_along : (rules : Rules) (nodes : ℕ → Node) {c : Cause} {o : Outcome} (m x n : Node) → NoJoin c → CauseTaken nodes c → HeardNames c → HeardUsed c
-    → Changes c o x n
-    → Along rules x → stamp_lt (view x) (view m) ≡ false → Know nodes m x → Know nodes m n
+    → Changes c o x n → Along rules x → stamp_lt (view x) (view m) ≡ false → Know nodes m x → Know nodes m n
 know_along rules nodes m x n none w heard used unchanged a low h = h
 know_along rules nodes m x n none w heard used (changed {n = y} one more) a low h =
     let up = view_rises x y a.blanked heard a.names a.balloted one in
@@ -83,7 +62,6 @@ know_along rules nodes m x n none w heard used (changed {n = y} one more) a low 
     (then_know nodes m x y low up h (know_change nodes _ _ x y none w a.balloted one))
 
 pub know : (rules : Rules) (nodes : ℕ → Node) {c : Cause} {o : Outcome} (m n : Node) → NoJoin c → CauseTaken nodes c → HeardNames c → HeardUsed c
-    → Changes c o m n
-    → Along rules m → Know nodes m n
+    → Changes c o m n → Along rules m → Know nodes m n
 know rules nodes m n none w heard used all a =
     know_along rules nodes m m n none w heard used all a (not_above_itself (view m)) (same nodes m m refl (λ j other. refl))

@@ -1,33 +1,12 @@
 -- A sequencer's step in its view keeps what is known of what was taken.
-use Rattle.std.proofs.Common.{◌≡◌, ◌⊎◌, inl, inr, ⊎_elim, ℕ, ◌<◌, ◌≤◌, ◌==◌, max, true, false, List, Some, slice_get, refl, sym, ap, ◌∙◌, subst, arith}
-use Rattle.am_base.specs.declared.entry.Entry.TheVariants.{Join}
-use Rattle.am_base.specs.declared.name.Stamp.{Stamp}
-use Rattle.am_base.specs.Founding.{Rules}
-use Rattle.am_base.specs.Stamps.{stamp_lt}
-use Rattle.am_base.specs.Lists.{fits, top_of}
+use Rattle.am_repaired.proofs.Words.{eqb-true, ◌≡◌, ◌⊎◌, inl, inr, ⊎_elim, ℕ, ◌<◌, ◌≤◌, ◌==◌, max, true, false, List, Some, slice_get, refl, sym, ap, ◌∙◌}
+use Rattle.am_repaired.proofs.Words.{subst, arith, Join, Stamp, Rules, stamp_lt, fits, top_of, Letter, Event, Group, Node, image_of, view, acts, is_sequencer}
+use Rattle.am_repaired.proofs.Words.{has_log, Step, World, is_stopped, run, split, Cause, hears, actor, WasSentTo, IsCause, all_get, not_above_itself, GoesSo}
+use Rattle.am_repaired.proofs.Words.{run_goes, parts, plain, NoJoin, Rises, run_told, cause_taken}
 use Rattle.am_packet.specs.declared.packet.Packet.TheVariants as packet
-use Rattle.am_packet.specs.Boxes.{Letter}
-use Rattle.am_group.specs.declared.event.Event.{Event}
-use Rattle.am_chain_moves.specs.Group.{Group}
-use Rattle.am_model.specs.Node.{Node, image_of, view, acts, is_sequencer, has_log}
-use Rattle.am_model.specs.Emit.{Step}
-use Rattle.am_play.specs.World.{World, is_stopped, run}
-use Rattle.am_base.proofs.Greatest.{split}
-use Rattle.am_effects.specs.Causes.{Cause, calls, hears, refuses}
-use Rattle.am_effects.specs.Events.{actor, WasSentTo, IsCause}
-use Rattle.am_effects.proofs.Items.{all_get}
-use Rattle.am_laws.proofs.Stamps.{not_above_itself}
-use Rattle.am_steps.proofs.Any.{GoesSo, run_goes}
-use Rattle.am_headline.proofs.OneStep.{parts, plain}
-use Rattle.am_repair.proofs.Knowing.{NoJoin}
-use Rattle.am_repair.proofs.Reported.{Rises}
-use Rattle.am_repair.proofs.ReportedRuns.{run_told, cause_taken}
-use Rattle.am_repaired.proofs.Asked.{Asked, as_before, admitted_, asked_event}
-use Rattle.am_repaired.proofs.Began.{rises_along}
-use Rattle.am_repaired.proofs.Fresh.{Welcomed, no_list, no_welcome, welcomed_in}
-use Rattle.am_repaired.proofs.Knew.{Know, knew, anew, know}
-use Rattle.am_repaired.proofs.Mailed.{says_low, says_welcome}
-use Rattle.am_repaired.proofs.Trims.{LetterLow, Knows, took, joins, halts, Settles, TrimStep, Sent, before, now, equal}
+use Rattle.am_repaired.proofs.Trims.{LetterLow, Knows, took, joins, halts, Settles, TrimStep, Sent, before, now}
+use Rattle.am_repaired.proofs.{Asked.Asked, Asked.as_before, Asked.admitted_, Asked.asked_event, Began.rises_along, Fresh.Welcomed, Fresh.no_list}
+use Rattle.am_repaired.proofs.{Fresh.no_welcome, Fresh.welcomed_in, Knew.Know, Knew.knew, Knew.anew, Knew.know, Mailed.says_low, Mailed.says_welcome}
 use Rattle.am_repaired.proofs.Trims as trims
 
 -- ---- a request to join, or none
@@ -38,10 +17,8 @@ record JoinAsked (c : Cause) : Type 0 where
   is : c ≡ hears (packet.JoinAsk from stamp)
 
 join_or_none : (c : Cause) → JoinAsked c ⊎ NoJoin c
-join_or_none (calls event) = inr (λ s v is. absurd (cc))
-join_or_none refuses = inr (λ s v is. absurd (cc))
 join_or_none (hears (packet.JoinAsk from stamp)) = inl (record { from = from; stamp = stamp; is = refl })
-join_or_none (hears _) = inr (λ s v is. absurd (cc))
+join_or_none _ = inr (λ s v is. absurd (cc))
 
 -- ---- the step
 
@@ -137,14 +114,14 @@ module _ (rules : Rules) (events : List Event) (e : Event) (c : Cause) (step : S
           by_ask (as_before h) = known_on j few other (let z = h j own in let y = ap (λ r. r.taken) z in omega arith)
           by_ask (admitted_ apart leads_ fit base h) = split (j == a.from)
               (λ u.
-              let is_ = equal j a.from u in
+              let is_ = eqb-true j a.from u in
               known_joined j few other (ap (λ k. fits (image_of m) (Join k)) is_ ∙ fit) (ap (λ k. (n.reports k).taken) is_ ∙ base))
               (λ f. known_on j few other (let z = h j own f in let y = ap (λ r. r.taken) z in omega arith))
 
   acting_v : (j : ℕ) → j < 256 → acts (v.nodes j) ≡ true → view (v.nodes j) ≡ view (v.nodes i) → was.low ≤ (v.nodes j).core.taken
   acting_v j few act at = split (j == i)
       (λ u.
-      let is_ = equal j i u in
+      let is_ = eqb-true j i u in
       let own = ((trims.laws_v rules events e c step s t x).each j few).fronts.base in
       let base = ap (λ k. (v.nodes k).core.base) is_ ∙ ap (λ (y : Node). y.core.base) here in
       let up = rises.base in

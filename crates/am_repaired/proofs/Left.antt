@@ -1,23 +1,13 @@
 -- Who left: whose Leave stands on the chain asked to leave, and who departed has its Leave accepted, unless nobody is left.
-use Rattle.std.proofs.Common.{◌≡◌, ◌⊎◌, ⊎_elim, inl, inr, ℕ, ◌+◌, ◌<◌, ◌≤◌, List, [], ◌∷◌, ◌++◌, length, true, false, refl, sym, ap, ◌∙◌, subst, arith}
-use Rattle.am_base.specs.declared.entry.Entry.{Entry}
-use Rattle.am_base.specs.declared.entry.Entry.TheVariants.{Data, Join, Leave, View}
-use Rattle.am_base.specs.declared.image.Image.{Image}
-use Rattle.am_base.specs.Names.{place_of, life_of}
-use Rattle.am_chain_lists.specs.Whole.{Begins, IsGood, image_of, mem, view_of, key}
-use Rattle.am_chain_lists.proofs.Rows.{In, row_at}
-use Rattle.am_chain_lists.proofs.Prefixes.{begins_refl, begins_more, begins_trans, begins_both, begins_same, begins_length, begins_pushed, length_push}
-use Rattle.am_chain_lists.proofs.Members.{good_begins, told_push, long_told, mem_in, in_mem, mem_between, leaver_in, leaver_out}
+use Rattle.am_repaired.proofs.Words.{last_is, ◌≡◌, ◌⊎◌, ⊎_elim, inl, inr, ℕ, ◌+◌, ◌<◌, ◌≤◌, List, [], ◌∷◌, ◌++◌, length, true, false, refl, sym, ap, ◌∙◌}
+use Rattle.am_repaired.proofs.Words.{subst, arith, Entry, Data, Join, Leave, View, Image, place_of, life_of, Begins, IsGood, mem, view_of, key, In, row_at}
+use Rattle.am_repaired.proofs.Words.{begins_refl, begins_more, begins_trans, begins_both, begins_same, begins_length, begins_pushed, length_push, good_begins}
+use Rattle.am_repaired.proofs.Words.{told_push, long_told, mem_in, in_mem, mem_between, leaver_in, leaver_out, Group, put, opening, Leads, chain_of, Move}
+use Rattle.am_repaired.proofs.Words.{MayNumber, choice_of, longer, accepts, learns, begins, raises, shows, serves, gives_over, welcomes, asks, stops, Kept}
+use Rattle.am_repaired.proofs.Words.{Run, founded, more, first_stamp, put_same, put_at, run_keeps, moves_grow, Becomes, stayed, joins, founds, became}
+use Rattle.am_chain_lists.specs.Whole.{image_of}
+use Rattle.am_chain_moves.specs.Moves.{numbers, stores, fetches, decides, departs, closes}
 use Rattle.am_chain_moves.specs.Group as groups
-use Rattle.am_chain_moves.specs.Group.{Group, Views, put, opening, Leads, chain_of}
-use Rattle.am_chain_moves.specs.Moves.{Move, MayNumber, choice_of, longer, numbers, stores, accepts, learns, begins, raises, shows, serves}
-use Rattle.am_chain_moves.specs.Moves.{fetches, decides, gives_over, welcomes, asks, departs, closes, stops}
-use Rattle.am_chain_moves.specs.Kept.{Kept}
-use Rattle.am_chain_moves.specs.Runs.{Run, founded, more, first_stamp}
-use Rattle.am_chain_moves.proofs.Puts.{put_same, put_at}
-use Rattle.am_chain.proofs.Runs.{run_keeps}
-use Rattle.am_stands.proofs.Growing.{moves_grow}
-use Rattle.am_stands.proofs.Joins.{Becomes, stayed, joins, founds, became}
 
 -- ---- what is kept
 
@@ -32,19 +22,6 @@ abbrev pub AllGone : Group → Type 0
 AllGone s = (d : ℕ) → (s.node d).departed ≡ true → GoneBy s d
 
 -- ---- lists
-
-last_of : (a b : List Entry) (x y : Entry) → a ++ x ∷ [] ≡ b ++ y ∷ [] → x ≡ y
-last_of [] [] x y h = cc
-last_of [] (z ∷ b) x y h = absurd (let long = ap length h in let l = length_push b y in omega arith)
-last_of (z ∷ a) [] x y h = absurd (let long = ap length h in let l = length_push a x in omega arith)
-last_of (u ∷ a) (z ∷ b) x y h = last_of a b x y (tail_same h)
-  where
-    rest : List Entry → List Entry
-    rest [] = []
-    rest (k ∷ ks) = ks
-
-    tail_same : u ∷ (a ++ x ∷ []) ≡ z ∷ (b ++ y ∷ []) → a ++ x ∷ [] ≡ b ++ y ∷ []
-    tail_same e = ap rest e
 
 same_leave : (a b : ℕ) → Leave a ≡ Leave b → a ≡ b
 same_leave a b h = cc
@@ -85,7 +62,7 @@ asked_more : (s t : Group) (e : Entry) → chain_of t.views ≡ chain_of s.views
     → ((j : ℕ) → e ≡ Leave j → (s.node j).leaving ≡ true) → LeavesAsked s → LeavesAsked t
 asked_more s t e chain leaving new h a j begins_ = leaving j (⊎_elim
     (λ (old : Begins (a ++ Leave j ∷ []) (chain_of s.views)). h a j old)
-    (λ (now : a ++ Leave j ∷ [] ≡ chain_of s.views ++ e ∷ []). new j (sym (last_of a (chain_of s.views) (Leave j) e now)))
+    (λ (now : a ++ Leave j ∷ [] ≡ chain_of s.views ++ e ∷ []). new j (sym (last_is a (chain_of s.views) (Leave j) e now)))
     (begins_pushed e (subst (Begins (a ++ Leave j ∷ [])) chain begins_)))
 
 -- the chain of a sequencer's group, with an entry more
@@ -118,21 +95,19 @@ asked_move s t (decides i members resilience may) k h = λ a j begins_.
     let is : chain_of t.views ≡ all = put_same s.views.line (key m.promise) all in
     put_leaving s i (record m { list = all; ballot = false }) (λ z. z) j (⊎_elim
     (λ (old : Begins (a ++ Leave j ∷ []) m.list). h a j (begins_trans old ((k.each i).list may.up)))
-    (λ (now : a ++ Leave j ∷ [] ≡ all). absurd (let e = last_of a m.list (Leave j) (View m.promise members resilience) now in cc))
+    (λ (now : a ++ Leave j ∷ [] ≡ all). absurd (let e = last_is a m.list (Leave j) (View m.promise members resilience) now in cc))
     (begins_pushed (View m.promise members resilience) (subst (Begins (a ++ Leave j ∷ [])) is begins_))))
 asked_move s t (stores i e up decided other stays next) k h = asked_same s t refl (put_leaving s i (longer (s.node i) e) (λ z. z)) h
-asked_move s t (accepts i n leads may) k h = asked_same s t refl (λ j z. z) h
 asked_move s t (learns i told_ acc up rises within before up_to given low) k h = asked_same s t refl (put_leaving s i _ (λ z. z)) h
 asked_move s t (begins i few up stays member) k h = asked_same s t refl (put_leaving s i _ (λ z. z)) h
 asked_move s t (raises i stamp there above) k h = asked_same s t refl (put_leaving s i _ (λ z. z)) h
-asked_move s t (shows i there small other begun unshown) k h = asked_same s t refl (λ j z. z) h
-asked_move s t (serves i list up shown others) k h = asked_same s t refl (λ j z. z) h
 asked_move s t (fetches i f list e up ballot served shown next) k h = asked_same s t refl (put_leaving s i (longer (s.node i) e) (λ z. z)) h
 asked_move s t (gives_over i) k h = asked_same s t refl (put_leaving s i _ (λ z. z)) h
 asked_move s t (welcomes j stamp base join may) k h = asked_same s t refl (put_leaving s j _ (λ z. z)) h
 asked_move s t (asks i up unballoted) k h = asked_same s t refl (put_leaving s i _ (λ z. refl)) h
 asked_move s t (departs i before may) k h = asked_same s t refl (put_leaving s i _ (λ z. z)) h
 asked_move s t (stops i) k h = asked_same s t refl (put_leaving s i _ (λ z. z)) h
+asked_move s t _ k h = asked_same s t refl (λ j z. z) h
 
 -- ---- who departed
 
@@ -173,7 +148,7 @@ gone_decided s t i members resilience k kt up member is group d gone (last befor
     let part : Begins (there.0 ++ Leave d ∷ []) m.list = ⊎_elim
     (λ (old : Begins (there.0 ++ Leave d ∷ []) m.list). old)
     (λ (now : there.0 ++ Leave d ∷ [] ≡ opening (choice_of m members resilience)).
-    absurd (let e = last_of there.0 m.list (Leave d) (View m.promise members resilience) now in cc))
+    absurd (let e = last_is there.0 m.list (Leave d) (View m.promise members resilience) now in cc))
     (begins_pushed (View m.promise members resilience) (subst (Begins (there.0 ++ Leave d ∷ [])) is there.1)) in
     let on = (k.each i).list up in
     let long_a = length_push there.0 (Leave d) in
@@ -239,7 +214,7 @@ pub record AllLeft (s : Group) : Type 0 where
 nil_none : (a : List Entry) (e x : Entry) → Begins (a ++ x ∷ []) (e ∷ []) → x ≡ e
 nil_none a e x h = ⊎_elim
     (λ (z : Begins (a ++ x ∷ []) []). absurd (let l = begins_length z in let k = length_push a x in omega arith))
-    (λ (z : a ++ x ∷ [] ≡ [] ++ e ∷ []). last_of a [] x e z)
+    (λ (z : a ++ x ∷ [] ≡ [] ++ e ∷ []). last_is a [] x e z)
     (begins_pushed e h)
 
 pub runs_left : (founders : List ℕ) (first resilience : ℕ) (s : Group) → Run founders first resilience s → AllLeft s

@@ -1,3 +1,4 @@
+pub mod Words
 pub mod Came
 pub mod Knew
 pub mod Asked

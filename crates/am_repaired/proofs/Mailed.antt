@@ -1,14 +1,7 @@
 -- What a letter of a step tells: its base is that of the node after it, and a Welcome is a sequencer's.
-use Rattle.std.proofs.Common.{◌≡◌, ℕ, ◌≤◌, true, List, refl, subst}
-use Rattle.am_base.specs.declared.image.Image.{Image}
-use Rattle.am_base.specs.declared.name.Stamp.{Stamp}
-use Rattle.am_packet.specs.declared.packet.Packet.{Packet}
+use Rattle.am_repaired.proofs.Words.{◌≡◌, ℕ, ◌≤◌, true, List, refl, subst, Image, Stamp, Packet, Letter, Node, is_sequencer, Cause, Says, welcome, piece}
+use Rattle.am_repaired.proofs.Words.{result, LetterSays}
 use Rattle.am_packet.specs.declared.packet.Packet.TheVariants as packet
-use Rattle.am_packet.specs.Boxes.{Letter}
-use Rattle.am_model.specs.Node.{Node, is_sequencer}
-use Rattle.am_effects.specs.Causes.{Cause}
-use Rattle.am_effects.specs.Letters.{Says, welcome}
-use Rattle.am_effects.specs.Letters.{piece, result, LetterSays}
 use Rattle.am_repaired.proofs.Trims.{LetterLow}
 
 -- ---- what such a letter says

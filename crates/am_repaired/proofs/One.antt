@@ -1,17 +1,7 @@
 -- There is one sequencer that runs.
-use Rattle.std.proofs.Common.{◌≡◌, ℕ, ◌<◌, true, false, sym, ap, ◌∙◌}
-use Rattle.am_base.specs.Founding.{Rules}
-use Rattle.am_chain_lists.specs.Whole.{view_of}
+use Rattle.am_repaired.proofs.Words.{member_stays, ◌≡◌, ℕ, ◌<◌, true, false, sym, ap, ◌∙◌, Rules, view_of, Group, IsUp, Kept, acts, is_member, is_sequencer}
+use Rattle.am_repaired.proofs.Words.{World, is_stopped, and_both, logged, Following, Leading, leading}
 use Rattle.am_chain_moves.specs.Group as groups
-use Rattle.am_chain_moves.specs.Group.{Group, IsUp}
-use Rattle.am_chain_moves.specs.Kept.{Kept}
-use Rattle.am_model.specs.Node.{acts, is_member, is_sequencer}
-use Rattle.am_play.specs.World.{World, is_stopped}
-use Rattle.am_base.proofs.Greatest.{and_both}
-use Rattle.am_effects.proofs.Statuses.{logged}
-use Rattle.am_stands.specs.Running.{Following}
-use Rattle.am_stands.proofs.Sent.{Leading, leading}
-use Rattle.am_steps.proofs.Statuses.{member_here}
 
 -- it leads the group
 pub runs_leading : (rules : Rules) (w : World) (s : Group) (q : ℕ) → Following rules w s → Kept s → q < 256 → (w.nodes q).core.who ≡ q
@@ -22,7 +12,7 @@ runs_leading rules w s q old k small who leads runs =
     let member = (and_both (is_member m.status) _ (and_both (acts m) _ leads).0).0 in
     let up : IsUp (s.node q) = record {
       log = a.log_ ∙ logged m.status member;
-      there = record { goes = a.stopped ∙ runs; stays = a.departed ∙ member_here m.status member };
+      there = record { goes = a.stopped ∙ runs; stays = a.departed ∙ member_stays m.status member };
     } in
     leading w q m s (record { kept = k; stands = a; up = up; who = who }) leads
 

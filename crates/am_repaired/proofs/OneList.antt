@@ -1,32 +1,9 @@
 -- Where a run may be repaired, its sequencer has the whole chain, and each member's list begins it.
-use Rattle.std.proofs.Common.{◌≡◌, ℕ, ◌<◌, ◌≤◌, ◌==◌, nat_lt, true, false, List, take, None, sym, ap}
-use Rattle.std.proofs.Common.{◌∙◌, subst, arith}
-use Rattle.std.proofs.lemmas.Bool.Decides.{nat_tests}
-use Rattle.am_base.specs.Founding.{Rules, MayFound}
-use Rattle.am_base.specs.Names.{place_of, life_of}
-use Rattle.am_group.specs.declared.event.Event.{Event}
-use Rattle.am_chain_lists.specs.Whole.{Begins, IsGood, mem, view_of}
-use Rattle.am_chain_lists.proofs.Prefixes.{begins_take, begins_trans}
-use Rattle.am_chain_moves.specs.Group.{Group, IsUp, Leads, chain_of}
-use Rattle.am_chain_moves.specs.Kept.{Kept}
-use Rattle.am_model.specs.Node.{Node, acts, view, is_member, lowest_or_first}
-use Rattle.am_play.specs.Lawful.{whole, broken_at}
-use Rattle.am_play.specs.Claims.{MayRepair}
-use Rattle.am_play.specs.World.{World, current, is_stopped, run}
-use Rattle.am_base.proofs.Greatest.{split, and_both}
-use Rattle.am_play.proofs.Runs.{front_is_lawful}
-use Rattle.am_effects.proofs.Statuses.{logged}
-use Rattle.am_laws.proofs.Named.{names_hold}
-use Rattle.am_laws.proofs.Stamps.{same_stamp}
-use Rattle.am_stands.specs.Running.{Following}
-use Rattle.am_stands.proofs.Changes.{told_all}
-use Rattle.am_stands.proofs.Onward.{group_kept}
-use Rattle.am_steps.proofs.Steps.{steps_move}
-use Rattle.am_steps.proofs.Statuses.{member_here}
-use Rattle.am_headline.proofs.Fold.{KeptBy}
-use Rattle.am_headline.proofs.Begun.{held}
-use Rattle.am_repair.specs.Standing.{IsOneList, RepairableIsOneList}
-use Rattle.am_repair.proofs.Lawfully.{repairable_is_lawful}
+use Rattle.am_repaired.proofs.Words.{member_stays, same_stamp, ◌≡◌, ℕ, ◌<◌, ◌≤◌, ◌==◌, nat_lt, true, false, List, take, None, sym, ap, ◌∙◌, subst, arith}
+use Rattle.am_repaired.proofs.Words.{nat_tests, Rules, MayFound, place_of, life_of, Event, Begins, IsGood, mem, view_of, begins_take, begins_trans, Group}
+use Rattle.am_repaired.proofs.Words.{IsUp, Leads, chain_of, Kept, Node, acts, view, is_member, lowest_or_first, whole, broken_at, MayRepair, World, current}
+use Rattle.am_repaired.proofs.Words.{is_stopped, run, split, and_both, front_is_lawful, logged, names_hold, Following, told_all, group_kept, steps_move}
+use Rattle.am_repaired.proofs.Words.{KeptBy, held, IsOneList, RepairableIsOneList, repairable_is_lawful}
 
 -- ---- a group that follows
 
@@ -63,7 +40,7 @@ module _ (rules : Rules) (w : World) (s : Group) (place : ℕ) (old : Following 
   up : (name : ℕ) → name < 256 → is_member (w.nodes name).status ≡ true → IsUp (s.node name)
   up name low member =
       let a = old.stands.each name low in
-      let here = member_here (w.nodes name).status member in
+      let here = member_stays (w.nodes name).status member in
       let runs : is_stopped w name ≡ false = split (is_stopped w name) (λ t. absurd (let gone = may.nobody_stopped name t in cc)) (λ f. f) in
       record {
         log = a.log_ ∙ logged (w.nodes name).status member;
@@ -72,7 +49,7 @@ module _ (rules : Rules) (w : World) (s : Group) (place : ℕ) (old : Following 
 
   staying : (name : ℕ) → name < 256 → is_member (w.nodes name).status ≡ true → (s.node name).leaving ≡ false
   staying name low member =
-      let here = member_here (w.nodes name).status member in
+      let here = member_stays (w.nodes name).status member in
       (old.stands.each name low).leaving ∙ split (w.nodes name).leaving (λ t. absurd (let gone = may.nobody_leaves name t in cc)) (λ f. f)
 
   sequencer : (is_member (w.nodes q).status ≡ true) × ((w.nodes q).core.promise ≡ view (w.nodes q)) × ((view (w.nodes q)).by ≡ (w.nodes q).core.who)

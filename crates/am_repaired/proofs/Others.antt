@@ -1,27 +1,13 @@
 -- While another name steps, a sequencer that runs still trimmed no more than its members have taken.
-use Rattle.std.proofs.Common.{◌≡◌, ⊎_elim, ℕ, ◌<◌, ◌≤◌, ◌==◌, true, false, List, sym, ap, ◌∙◌, subst, arith}
-use Rattle.am_base.specs.declared.name.Stamp.{Stamp}
-use Rattle.am_base.specs.Founding.{Rules}
+use Rattle.am_repaired.proofs.Words.{item_get, eqb-true, is_itself, ◌≡◌, ⊎_elim, ℕ, ◌<◌, ◌≤◌, ◌==◌, true, false, List, sym, ap, ◌∙◌, subst, arith, Stamp}
+use Rattle.am_repaired.proofs.Words.{Rules, Letter, Event, Group, Node, view, acts, is_sequencer, has_log, Step, is_stopped, run, heard_by, split, and_both}
+use Rattle.am_repaired.proofs.Words.{Cause, actor, WasSentTo, IsCause, parts, plain, Rises}
 use Rattle.am_packet.specs.declared.packet.Packet.TheVariants as packet
-use Rattle.am_packet.specs.Boxes.{Letter}
-use Rattle.am_group.specs.declared.event.Event.{Event}
-use Rattle.am_chain_moves.specs.Group.{Group}
-use Rattle.am_model.specs.Node.{Node, view, acts, is_sequencer, has_log}
-use Rattle.am_model.specs.Emit.{Step}
-use Rattle.am_play.specs.World.{is_stopped, run}
-use Rattle.am_play.specs.Claims.{heard_by}
-use Rattle.am_base.proofs.Greatest.{split, and_both}
-use Rattle.am_effects.specs.Causes.{Cause}
-use Rattle.am_effects.specs.Events.{actor, WasSentTo, IsCause}
-use Rattle.am_headline.proofs.OneStep.{itself, parts, plain}
-use Rattle.am_repair.proofs.Reported.{Rises}
-use Rattle.am_repaired.proofs.Began.{Began, begins, rises_along}
 use Rattle.am_repaired.proofs.Came.{Tells, by_piece, by_result, by_welcome, Came, before as went_on, own, told_so}
-use Rattle.am_repaired.proofs.Fresh.{Welcomed, welcomed_in}
-use Rattle.am_repaired.proofs.Mailed.{says_apart, says_welcome}
-use Rattle.am_repaired.proofs.One.{one_sequencer}
-use Rattle.am_repaired.proofs.Trims.{LetterLow, Knows, took, joins, halts, Settles, TrimStep, Sent, before, now, item_get, equal}
-use Rattle.am_repaired.proofs.Trims.{along, heard, used, who_v, who_n, stopped_v, letter_v, came_n}
+use Rattle.am_repaired.proofs.Trims.{LetterLow, Knows, took, joins, halts, Settles, TrimStep, Sent, before, now, along, heard, used, who_v, who_n, stopped_v}
+use Rattle.am_repaired.proofs.Trims.{letter_v, came_n}
+use Rattle.am_repaired.proofs.{Began.Began, Began.begins, Began.rises_along, Fresh.Welcomed, Fresh.welcomed_in, Mailed.says_apart, Mailed.says_welcome}
+use Rattle.am_repaired.proofs.{One.one_sequencer}
 
 module _ (rules : Rules) (events : List Event) (e : Event) (c : Cause) (step : Step) (s t : Group) (x : TrimStep rules events e c step s t)
     (q : ℕ) (few_q : q < 256) (other : (q == actor (run rules events) e) ≡ false) (leads : is_sequencer ((run rules events).nodes q) ≡ true)
@@ -39,12 +25,12 @@ module _ (rules : Rules) (events : List Event) (e : Event) (c : Cause) (step : S
   up = rises_along rules m n (heard rules events e c step s t x) (used rules events e c step s t x) x.effect.changes (along rules events e c step s t x)
 
   apart : i ≡ q → ⊥
-  apart is = let z = ap (λ k. q == k) is ∙ itself q in let y = other in cc
+  apart is = let z = ap (λ k. q == k) is ∙ is_itself q in let y = other in cc
 
   own_q : (view (w.nodes q)).by ≡ q
   own_q =
       let both = and_both (acts (w.nodes q)) ((view (w.nodes q)).by == (w.nodes q).core.who) leads in
-      equal (view (w.nodes q)).by (w.nodes q).core.who both.1 ∙ ap (λ (y : Node). y.core.who) (sym at_q) ∙ who_v rules events e c step s t x q
+      eqb-true (view (w.nodes q)).by (w.nodes q).core.who both.1 ∙ ap (λ (y : Node). y.core.who) (sym at_q) ∙ who_v rules events e c step s t x q
 
   -- ---- who acts
 
@@ -84,7 +70,7 @@ module _ (rules : Rules) (events : List Event) (e : Event) (c : Cause) (step : S
   acting : (j : ℕ) → j < 256 → acts (v.nodes j) ≡ true → view (v.nodes j) ≡ view (w.nodes q) → h.low ≤ (v.nodes j).core.taken
   acting j few_j act same = split (j == i)
       (λ u.
-      let is : v.nodes j ≡ n = ap v.nodes (equal j i u) ∙ at_i in
+      let is : v.nodes j ≡ n = ap v.nodes (eqb-true j i u) ∙ at_i in
       subst (λ (y : Node). h.low ≤ y.core.taken) (sym is) (acting_i (ap acts (sym is) ∙ act) (ap view (sym is) ∙ same)))
       (λ f.
       let is = others_v j f in
@@ -150,7 +136,7 @@ module _ (rules : Rules) (events : List Event) (e : Event) (c : Cause) (step : S
   known : (j : ℕ) → j < 256 → (j == q) ≡ false → Knows v h.low (w.nodes q) j
   known j few_j far = split (j == i)
       (λ u.
-      let is = equal j i u in
+      let is = eqb-true j i u in
       subst (Knows v h.low (w.nodes q)) (sym is) (known_i (subst (Knows w h.low (w.nodes q)) is (h.knows j few_j far))))
       (λ f. known_other j f (h.knows j few_j far))
 

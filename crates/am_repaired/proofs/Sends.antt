@@ -1,29 +1,10 @@
 -- A step's letters tell of the node after it: who departs in it, or had departed, sends nothing.
-use Rattle.std.proofs.Common.{◌≡◌, ◌⊎◌, inl, inr, ⊎_elim, ◌<◌, false, List, [], refl, sym, ap, ◌∙◌}
-use Rattle.am_base.specs.declared.outcome.Outcome.{Outcome}
-use Rattle.am_base.specs.Founding.{Rules}
-use Rattle.am_packet.specs.Boxes.{Letter}
-use Rattle.am_group.specs.declared.event.Event.{Event}
-use Rattle.am_chain_moves.specs.Group.{Group}
-use Rattle.am_model.specs.declared.status.Status.{Status}
+use Rattle.am_repaired.proofs.Words.{◌≡◌, ◌⊎◌, inl, inr, ⊎_elim, ◌<◌, false, List, [], refl, sym, ap, ◌∙◌, Outcome, Rules, Letter, Event, Group, Status}
+use Rattle.am_repaired.proofs.Words.{Verdict, Step, Node, Ballot, with_report, has_departed, with_step, happens, run, split, Cause, Looks, finds_itself_out}
+use Rattle.am_repaired.proofs.Words.{Change, refreshes, settles, begins_list, departs, looks, asks_to_join, closes, IsPlain, Course, nothing_yet, used_report}
+use Rattle.am_repaired.proofs.Words.{and_then, Deeds, plainly, looked, Ending, at_end, let_go, closing, Effect, actor, rests_refresh, rests_at_end, settle_is}
+use Rattle.am_repaired.proofs.Words.{Following, departed_silent, departed_quiet, departed_is}
 use Rattle.am_model.specs.declared.status.Status.TheVariants as status
-use Rattle.am_model.specs.Ballots.{Verdict}
-use Rattle.am_model.specs.Emit.{Step}
-use Rattle.am_model.specs.Node.{Node, Ballot, with_report, has_departed}
-use Rattle.am_play.specs.World.{with_step, happens, run}
-use Rattle.am_base.proofs.Greatest.{split}
-use Rattle.am_effects.specs.Causes.{Cause}
-use Rattle.am_effects.specs.Looks.{Looks, finds_itself_out}
-use Rattle.am_effects.specs.Changes.{Change, refreshes, settles, begins_list, departs}
-use Rattle.am_effects.specs.Changes.{looks, asks_to_join, closes}
-use Rattle.am_effects.specs.Courses.{IsPlain, Course, nothing_yet, used_report, and_then, Deeds, plainly, looked, Ending, at_end, let_go, closing}
-use Rattle.am_effects.specs.Effects.{Effect}
-use Rattle.am_effects.specs.Events.{actor}
-use Rattle.am_effects.proofs.Rests.{rests_refresh, rests_at_end, settle_is}
-use Rattle.am_stands.specs.Running.{Following}
-use Rattle.am_stands.proofs.Silent.{departed_silent}
-use Rattle.am_steps.proofs.Silent.{departed_quiet}
-use Rattle.am_steps.proofs.Statuses.{departed_is}
 
 abbrev Here : Node → Type 0
 Here x = has_departed x.status ≡ false

@@ -1,28 +1,11 @@
 -- What a run that may be repaired comes to by a lossless schedule.
-use Rattle.std.proofs.Common.{◌≡◌, ℕ, ◌<◌, ◌≤◌, ◌==◌, List, ◌++◌, true, false, subst, sym, arith}
-use Rattle.std.proofs.lemmas.Bool.Decides.{nat_tests}
-use Rattle.am_base.specs.Founding.{Rules, MayFound}
-use Rattle.am_base.specs.Names.{has}
-use Rattle.am_group.specs.declared.event.Event.{Event}
-use Rattle.am_model.specs.Node.{is_member, top, members}
-use Rattle.am_play.specs.World.{World, start, current, is_stopped, run}
-use Rattle.am_play.specs.Settle.{settle_events}
-use Rattle.am_play.specs.Claims.{MayRepair, HasCaughtUp, Repairs}
-use Rattle.am_base.proofs.Greatest.{split}
-use Rattle.am_play.proofs.Runs.{runs_go_on}
-use Rattle.am_laws.proofs.TakenRuns.{taken_holds}
-use Rattle.am_steps.proofs.Statuses.{member_here}
-use Rattle.am_steps.proofs.Steps.{steps_move}
-use Rattle.am_headline.proofs.Begun.{held}
-use Rattle.am_repair.proofs.Beginning.{repairs_where_lists_agree}
-use Rattle.am_repair.proofs.KnownRuns.{sequencers_trim_known}
-use Rattle.am_repair.proofs.Nodes.{acting, leading}
-use Rattle.am_repair.proofs.OneLists.{one_list_agrees}
-use Rattle.am_repaired.specs.Trimmed.{RepairableTrims, RepairableCounts}
-use Rattle.am_repaired.proofs.OneList.{lawful_events, small_name, member_small, repairable_is_one_list}
-use Rattle.am_repaired.proofs.Counted.{repairable_counts}
-use Rattle.am_repaired.proofs.Trims.{Trims, settled_trims}
-use Rattle.am_repaired.proofs.Kept.{trims_start, trims_keeps}
+use Rattle.am_repaired.proofs.Words.{member_stays, ◌≡◌, ℕ, ◌<◌, ◌≤◌, ◌==◌, List, ◌++◌, true, false, subst, sym, arith, nat_tests, Rules, MayFound, has, Event}
+use Rattle.am_repaired.proofs.Words.{is_member, top, members, World, start, current, is_stopped, run, settle_events, MayRepair, HasCaughtUp, Repairs, split}
+use Rattle.am_repaired.proofs.Words.{runs_go_on, taken_holds, steps_move, held, repairs_where_lists_agree, sequencers_trim_known, acting, one_list_agrees}
+use Rattle.am_repaired.proofs.Words.{RepairableTrims, RepairableCounts}
+use Rattle.am_repair.proofs.Nodes.{leading}
+use Rattle.am_repaired.proofs.{OneList.lawful_events, OneList.small_name, OneList.member_small, OneList.repairable_is_one_list, Counted.repairable_counts}
+use Rattle.am_repaired.proofs.{Trims.Trims, Trims.settled_trims, Kept.trims_start, Kept.trims_keeps}
 
 pub counts_members : RepairableCounts
 counts_members rules events place may low repair = repairable_counts rules events place may low repair
@@ -30,7 +13,7 @@ counts_members rules events place may low repair = repairable_counts rules event
 -- who is a member runs
 member_runs : (w : World) (place name : ℕ) → MayRepair w place → is_member (w.nodes name).status ≡ true → is_stopped w name ≡ false
 member_runs w place name repair member = split (is_stopped w name)
-    (λ t. absurd (let gone = repair.nobody_stopped name t in let here = member_here (w.nodes name).status member in cc))
+    (λ t. absurd (let gone = repair.nobody_stopped name t in let here = member_stays (w.nodes name).status member in cc))
     (λ f. f)
 
 pub trims_taken : RepairableTrims

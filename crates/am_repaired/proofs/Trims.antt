@@ -1,42 +1,12 @@
 -- What a sequencer trimmed, its members have taken: what a run keeps of it, with the group that follows.
-use Rattle.std.proofs.Common.{◌≡◌, ⊎_elim, ℕ, zero, suc, ◌<◌, ◌≤◌, ◌==◌, max, true, false, List, [], ◌++◌}
-use Rattle.std.proofs.Common.{Some}
-use Rattle.std.proofs.Common.{slice_get, refl, sym, ap, ◌∙◌, subst, arith}
-use Rattle.std.specs.Prelude.{All}
-use Rattle.std.proofs.lemmas.List.Elements.{All-nil, All-append, All-weaker}
-use Rattle.std.proofs.lemmas.Option.{slice_get-get_or}
-use Rattle.std.proofs.lemmas.Bool.Decides.{nat_tests}
-use Rattle.am_base.specs.declared.entry.Entry.{Entry}
-use Rattle.am_base.specs.declared.image.Image.{Image}
-use Rattle.am_base.specs.declared.name.Stamp.{Stamp}
-use Rattle.am_base.specs.Founding.{Rules}
-use Rattle.am_packet.specs.declared.packet.Packet.{Packet}
+use Rattle.am_repaired.proofs.Words.{item_get, ◌≡◌, ⊎_elim, ℕ, ◌<◌, ◌≤◌, ◌==◌, max, true, false, List, [], ◌++◌, Some, slice_get, refl, sym, ap, ◌∙◌, subst}
+use Rattle.am_repaired.proofs.Words.{arith, All, All-nil, All-append, All-weaker, slice_get-get_or, Entry, Image, Stamp, Rules, Packet, Letter, Event, key}
+use Rattle.am_repaired.proofs.Words.{key_by, Group, Node, view, acts, is_member, is_sequencer, has_log, Step, World, is_stopped, with_step, run, heard_by}
+use Rattle.am_repaired.proofs.Words.{and_both, Cause, LetterSays, WasSentTo, IsCause, steps, all_get, logged, heard_names, HeardNames, HeardUsed, Along}
+use Rattle.am_repaired.proofs.Words.{AllOwned, run_owned, each_owned, each_along, heard_used, PacketSays, PieceSays, of_line, of_shown, over, OneStep, parts}
+use Rattle.am_repaired.proofs.Words.{plain}
 use Rattle.am_packet.specs.declared.packet.Packet.TheVariants as packet
-use Rattle.am_packet.specs.Boxes.{Letter}
-use Rattle.am_group.specs.declared.event.Event.{Event}
-use Rattle.am_group.specs.Journals.{item_at}
-use Rattle.am_chain_lists.specs.Whole.{key}
-use Rattle.am_chain_lists.proofs.Order.{key_by}
-use Rattle.am_chain_moves.specs.Group.{Group}
-use Rattle.am_model.specs.Node.{Node, view, acts, is_member, is_sequencer, has_log}
-use Rattle.am_model.specs.Emit.{Step}
-use Rattle.am_play.specs.World.{World, is_stopped, with_step, run}
-use Rattle.am_play.specs.Claims.{heard_by}
-use Rattle.am_base.proofs.Greatest.{and_both}
-use Rattle.am_effects.specs.Causes.{Cause}
-use Rattle.am_effects.specs.Letters.{LetterSays}
-use Rattle.am_effects.specs.Events.{WasSentTo, IsCause, steps}
-use Rattle.am_effects.proofs.Items.{all_get}
-use Rattle.am_effects.proofs.Statuses.{logged}
-use Rattle.am_laws.proofs.Views.{heard_names}
-use Rattle.am_laws.proofs.ViewNames.{HeardNames}
-use Rattle.am_laws.proofs.Taken.{HeardUsed}
-use Rattle.am_laws.proofs.TakenRuns.{Along, AllOwned, run_owned, each_owned, each_along, heard_used}
-use Rattle.am_stands.specs.Letters.{PacketSays, PieceSays, of_line, of_shown, over}
-use Rattle.am_headline.proofs.OneStep.{OneStep, parts, plain}
-use Rattle.am_repaired.proofs.Came.{Tells, by_piece, by_result, by_welcome, Came, came}
-use Rattle.am_repaired.proofs.Fresh.{Welcomed}
-use Rattle.am_repaired.proofs.Sends.{sent_by}
+use Rattle.am_repaired.proofs.{Came.Tells, Came.by_piece, Came.by_result, Came.by_welcome, Came.Came, Came.came, Fresh.Welcomed, Sends.sent_by}
 
 -- ---- what is kept
 
@@ -66,13 +36,6 @@ pub record Trims (w : World) (s : Group) : Type 0 where
   pub welcomes : (k : ℕ) (l : Letter) (from : ℕ) (u : Stamp) (base join : ℕ) (image : Image) → slice_get w.letters k ≡ Some l
       → l.packet ≡ packet.Welcome from u base join image → s.views.decided (key u) ≡ true
   pub settles : (q : ℕ) → q < 256 → is_sequencer (w.nodes q) ≡ true → is_stopped w q ≡ false → Settles w q
-
-pub item_get : {A : Type 0} (list : List A) (number : ℕ) (x : A) → item_at list number ≡ Some x → (k : ℕ) × (slice_get list k ≡ Some x)
-item_get list zero x at = absurd (cc)
-item_get list (suc k) x at = (k, at)
-
-pub equal : (a b : ℕ) → (a == b) ≡ true → a ≡ b
-equal a b t = grind (arith, nat_tests)
 
 -- ---- a step
 

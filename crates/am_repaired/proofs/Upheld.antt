@@ -1,54 +1,17 @@
 -- What the group accepted behind the last View its coordinator accepted.
-use Rattle.std.proofs.Common.{◌≡◌, ◌≢◌, ◌⊎◌, ⊎_elim, ℕ, zero, suc, ◌+◌, ◌-◌, ◌<◌, ◌≤◌, max, ◌==◌, true, false, if◌then◌else◌}
-use Rattle.std.proofs.Common.{List, [], ◌∷◌, ◌++◌, length, take, drop, Some, slice_get, refl, sym, ap, ◌∙◌, subst, arith, length-append, append_assoc}
-use Rattle.std.proofs.lemmas.Bool.Decides.{nat_tests}
-use Rattle.std.proofs.lemmas.List.{take-append-drop, length-take, take_all}
-use Rattle.std.proofs.Math.Seq.{take-append-add}
-use Rattle.am_base.specs.declared.entry.Entry.{Entry}
-use Rattle.am_base.specs.declared.entry.Entry.TheVariants.{View}
-use Rattle.am_base.specs.declared.outcome.Outcome.{Outcome}
-use Rattle.am_base.specs.Founding.{Rules, MayFound}
-use Rattle.am_group.specs.declared.event.Event.{Event}
-use Rattle.am_chain_lists.specs.Whole.{Begins, view_of, key}
-use Rattle.am_chain_lists.proofs.Order.{key_by, view_small, view_up, view_viewed}
-use Rattle.am_chain_lists.proofs.Prefixes.{begins_refl, begins_take, begins_trans, begins_both, begins_same, begins_length, length_take, length_push}
+use Rattle.am_repaired.proofs.Words.{◌≡◌, ◌≢◌, ◌⊎◌, ⊎_elim, ℕ, zero, suc, ◌+◌, ◌-◌, ◌<◌, ◌≤◌, max, ◌==◌, true, false, if◌then◌else◌, List, [], ◌∷◌, ◌++◌}
+use Rattle.am_repaired.proofs.Words.{length, take, drop, Some, slice_get, refl, sym, ap, ◌∙◌, subst, arith, length-append, append_assoc, nat_tests}
+use Rattle.am_repaired.proofs.Words.{take-append-drop, length-take, take_all, take-append-add, Entry, View, Outcome, Rules, MayFound, Event, Begins, view_of}
+use Rattle.am_repaired.proofs.Words.{key, key_by, view_small, view_up, view_viewed, begins_refl, begins_take, begins_trans, begins_both, begins_same}
+use Rattle.am_repaired.proofs.Words.{begins_length, length_take, length_push, Group, opening, current_of, chain_of, Kept, Node, top, view, is_member}
+use Rattle.am_repaired.proofs.Words.{founding_stamp, lowest_or_first, has_log, has_departed, Step, is_unfinished, Letter, Decided, World, start}
+use Rattle.am_repaired.proofs.Words.{founders_decided, group_with, run, split, and_both, Cause, Changes, unchanged, changed, Ending, at_end, let_go, closing}
+use Rattle.am_repaired.proofs.Words.{all_get, asking, rests_refresh, rests_closed, settle_is, asking_log, numbers_hold, first_founder, run_owned, IsNoted}
+use Rattle.am_repaired.proofs.Words.{lists_go_on, NameStands, Moves, NewView, GroupOk, Following, told_all, long_all, taken_more, group_kept, rests_step}
+use Rattle.am_repaired.proofs.Words.{rests_course, departed_is, OneStep, parts, plain, KeptBy, ListGoes, same, up, gone, list_moves, Kind, kind_of}
 use Rattle.am_chain_moves.specs.Group as groups
-use Rattle.am_chain_moves.specs.Group.{Group, opening, current_of, chain_of}
-use Rattle.am_chain_moves.specs.Kept.{Kept}
 use Rattle.am_model.specs.declared.status.Status.TheVariants as status
-use Rattle.am_model.specs.Node.{Node, top, view, is_member, founding_stamp, lowest_or_first, has_log, has_departed}
-use Rattle.am_model.specs.Emit.{Step}
-use Rattle.am_model.specs.Calls.{is_unfinished}
-use Rattle.am_packet.specs.Boxes.{Letter}
-use Rattle.am_play.specs.World.{Decided, World, start, founders_decided, group_with, run}
-use Rattle.am_base.proofs.Greatest.{split, and_both}
-use Rattle.am_effects.specs.Causes.{Cause}
-use Rattle.am_effects.specs.Changes.{Changes, unchanged, changed}
-use Rattle.am_effects.specs.Courses.{Ending, at_end, let_go, closing}
-use Rattle.am_effects.proofs.Items.{all_get}
-use Rattle.am_effects.proofs.Receiving.{asking}
-use Rattle.am_effects.proofs.Rests.{rests_refresh, rests_closed, settle_is}
-use Rattle.am_effects.proofs.Statuses.{asking_log}
-use Rattle.am_laws.proofs.RunCounts.{numbers_hold}
-use Rattle.am_model.proofs.Founders.{first_founder}
-use Rattle.am_laws.proofs.TakenRuns.{run_owned}
-use Rattle.am_laws.proofs.Views.{IsNoted}
-use Rattle.am_watched.proofs.Lists.{lists_go_on}
-use Rattle.am_stands.specs.Standing.{NameStands}
-use Rattle.am_stands.specs.Moving.{Moves}
-use Rattle.am_stands.specs.Growing.{NewView}
-use Rattle.am_stands.specs.Keeping.{GroupOk}
-use Rattle.am_stands.specs.Running.{Following}
-use Rattle.am_stands.proofs.Changes.{told_all, long_all}
-use Rattle.am_stands.proofs.Ends.{taken_more}
-use Rattle.am_stands.proofs.Onward.{group_kept}
-use Rattle.am_steps.proofs.Departed.{rests_step, rests_course}
-use Rattle.am_steps.proofs.Statuses.{departed_is}
-use Rattle.am_headline.proofs.OneStep.{OneStep, parts, plain}
-use Rattle.am_headline.proofs.Fold.{KeptBy}
-use Rattle.am_headline.proofs.Shapes.{ListGoes, same, up, gone, list_moves}
 use Rattle.am_headline.proofs.Ways as ways
-use Rattle.am_headline.proofs.Ways.{Kind, kind_of}
 
 -- ---- a name's list has what was accepted
 
@@ -87,12 +50,9 @@ upward_kind low c o x y ways.settled h = subst (Upward low) (sym (settle_is x)) 
 upward_kind low c o x y (ways.began s v base join image is says may) h = absurd (let none_ = asking_log x.status (asking x s v base join image may) in
     let some = h.listed in cc)
 upward_kind low c o x y (ways.left member leaves) h = record { listed = refl; acc = h.acc }
-upward_kind low c o x y (ways.sent body stays) h = record { listed = h.listed; acc = h.acc }
-upward_kind low c o x y (ways.collected req) h = record { listed = h.listed; acc = h.acc }
-upward_kind low c o x y (ways.took e says member some) h = record { listed = h.listed; acc = h.acc }
 upward_kind low c o x y (ways.asked_in was) h = absurd (let some = h.listed in let z = ap has_log was in cc)
-upward_kind low c o x y (ways.asked_out was done) h = record { listed = h.listed; acc = h.acc }
 upward_kind low c o x y (ways.gone member leaves) h = let r = rests_closed x in let u = r.acc in record { listed = refl; acc = let l = h.acc in omega arith }
+upward_kind low c o x y _ h = record { listed = h.listed; acc = h.acc }
 
 upward : (low : ℕ) (c : Cause) (o : Outcome) (x y : Node) → Changes c o x y → Upward low x → Upward low y
 upward low c o x y unchanged h = h
@@ -144,8 +104,7 @@ grown_begins w v s t i n stands group grows part start long is =
 
 -- who had departed accepts no more
 departed_low : {c : Cause} {o : Outcome} (m n : Node) (letters : List Letter) → Ending c o m letters n → m.status ≡ status.Departed
-    → is_unfinished m.ballot ≡ false
-    → n.core.acc ≤ max m.core.acc m.core.told
+    → is_unfinished m.ballot ≡ false → n.core.acc ≤ max m.core.acc m.core.told
 departed_low m n letters (at_end {x = x} deeds) was none_ = (rests_step m x was none_ deeds).low
 departed_low m n letters (let_go s v number is heard_ leaves) was none_ = absurd (let a = (and_both _ (is_member m.status) heard_).1 in cc)
 departed_low m n letters (closing {x = x} ev call course leads leaves alone room same_) was none_ = absurd (

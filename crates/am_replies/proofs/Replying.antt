@@ -62,10 +62,9 @@ letters_same o t all m e = ap (letters_of o t) (sym e.same) ∙ letters_log o t 
 -- ---- the end of the step
 
 -- a plan that polls nobody and numbers nothing, from the end of its node on
-pub ends_with : (m : Node) (p : Plan) (mid new : Node) (o : Outcome) (letters sent : List Letter)
-    → IsEndOf p.node mid → p.polls ≡ false → p.numbers ≡ false → p.departs ≡ false → Changes refresh_at_end mid new
-    → ((n : Node) → IsEndOf n new → p.outcome n ≡ o) → ((n : Node) → IsEndOf n new → letters ≡ p.letters n)
-    → Tells (with_told m.core.acc false false letters) new sent
+pub ends_with : (m : Node) (p : Plan) (mid new : Node) (o : Outcome) (letters sent : List Letter) → IsEndOf p.node mid → p.polls ≡ false
+    → p.numbers ≡ false → p.departs ≡ false → Changes refresh_at_end mid new → ((n : Node) → IsEndOf n new → p.outcome n ≡ o)
+    → ((n : Node) → IsEndOf n new → letters ≡ p.letters n) → Tells (with_told m.core.acc false false letters) new sent
     → ends.ComesTo (finish m p) o sent new
 unfolding finish
 ends_with m p mid new o letters sent is polls numbers departs end answer same tells =
@@ -95,9 +94,6 @@ replies_vote m n o to e = record { node = e; answer = λ x. refl; letters = λ x
 pub replies_ack : (m n : Node) (o : Outcome) (to : ℕ) → IsEndOf m n → Replies (telling m o (only_name to) ack_of) o (tell.Ack to) n
 replies_ack m n o to e = record { node = e; answer = λ x. refl; letters = λ x. refl; polls = refl; numbers = refl; departs = refl }
 
-pub replies_fetch : (m n : Node) (o : Outcome) (to : ℕ) → IsEndOf m n → Replies (telling m o (only_name to) fetch_of) o (tell.Fetch to) n
-replies_fetch m n o to e = record { node = e; answer = λ x. refl; letters = λ x. refl; polls = refl; numbers = refl; departs = refl }
-
 pub replies_asking : (v : Verdict) (n : Node) (o : Outcome) (to set : List ℕ) → ComesTo v o n → set ≡ to
     → Replies (verdict_plan v (λ x. with_fetch v.outcome x (with_letter to (invite_of x) []))) o (tell.Ballot set true) n
 replies_asking v n o to set c is = record {
@@ -119,9 +115,6 @@ replies_ballot v n o to set c is = record {
   numbers = refl;
   departs = refl;
 }
-
-nobody_invited : (x : Node) → with_letter nobody (invite_of x) [] ≡ []
-nobody_invited x = refl
 
 -- nobody is invited
 pub replies_silent : (v : Verdict) (n : Node) (o : Outcome) (set : List ℕ) → ComesTo v o n → set ≡ nobody

@@ -6,7 +6,7 @@ use Rattle.std.proofs.lemmas.List.Elements.{All-nil, All-filter, All-weaker}
 use Rattle.am_base.specs.declared.name.Stamp.{Stamp}
 use Rattle.am_base.specs.declared.image.Report.{Report}
 use Rattle.am_base.specs.declared.entry.Entry.{Entry}
-use Rattle.am_base.specs.declared.entry.Entry.TheVariants.{Data, Join, Leave, View}
+use Rattle.am_base.specs.declared.entry.Entry.TheVariants.{Data, Leave, View}
 use Rattle.am_base.specs.declared.outcome.Outcome.{Outcome}
 use Rattle.am_base.specs.declared.outcome.Outcome.TheVariants as said
 use Rattle.am_base.specs.declared.event.NodeEvent.TheVariants as does
@@ -21,12 +21,12 @@ use Rattle.am_model.specs.Ballots.{Verdict}
 use Rattle.am_model.specs.Emit.{Step}
 use Rattle.am_base.proofs.Greatest.{split}
 use Rattle.am_effects.specs.Causes.{Cause, calls, hears, BringsSend, by_request, by_spread}
-use Rattle.am_effects.specs.Looks.{Looks, finds_itself_out, waits, fetches_from_best, finds_too_few, finds_no_room, decides}
+use Rattle.am_effects.specs.Looks.{Looks, decides}
 use Rattle.am_effects.specs.Changes.{Numbers, asked_send, own_send, asked_join, asked_leave, Carries, whole_entry, by_number, Change, refreshes, settles}
-use Rattle.am_effects.specs.Changes.{takes_report, admits, numbers, keeps_body, notes, stores, begins_list, departs, promises, opens, looks, fetches}
-use Rattle.am_effects.specs.Changes.{stores_view, queues, collects, takes, asks_to_join, asks_to_leave, closes}
-use Rattle.am_effects.specs.Letters.{HasSend, Stands, Says, request, spread, bcast, order, accept, ack, nack, hold, join_ask, welcome, leave_ask, gone, invite}
-use Rattle.am_effects.specs.Letters.{vote, fetch, piece, result, hand_over, LetterSays}
+use Rattle.am_effects.specs.Changes.{numbers, keeps_body, stores, begins_list, looks, fetches}
+use Rattle.am_effects.specs.Changes.{stores_view, queues, collects, closes}
+use Rattle.am_effects.specs.Letters.{HasSend, Stands, Says, request, spread, bcast}
+use Rattle.am_effects.specs.Letters.{piece, LetterSays}
 use Rattle.am_effects.specs.Effects.{Effect}
 use Rattle.am_effects.proofs.Items.{all_get, all_find}
 use Rattle.am_effects.proofs.Runs.{along}
@@ -98,9 +98,7 @@ body_of_sent all who m from req h =
 
 bodies_after_sent : (all : List Record) (bodies : List KeptBody) (e : Entry) → All (BodySent all) bodies → All (BodySent all) (bodies_after bodies e)
 bodies_after_sent all bodies (Data from req body) h = All-filter (λ kept. not ((kept.from == from) && nat_le kept.req req)) (BodySent all) bodies h
-bodies_after_sent all bodies (Join name) h = h
-bodies_after_sent all bodies (Leave name) h = h
-bodies_after_sent all bodies (View stamp names resilience) h = h
+bodies_after_sent all bodies _ h = h
 
 carried_sent : (all : List Record) (who : ℕ) (o : Outcome) (c : Cause) (m : Node) (s : ℕ) (v : Stamp) (base acc number : ℕ) (e : Entry)
     → Carries c m s v base acc number e → CauseSent all who o c → Keeps all who m → EntrySent all e
@@ -111,30 +109,20 @@ carried_sent all who o c m s v base acc number e (by_number from req body is fou
 -- ---- each change
 
 look_sent : (all : List Record) (who : ℕ) (m : Node) (b : Ballot) (v : Verdict) → Looks m b v → Keeps all who m → Keeps all who v.node
-look_sent all who m b v (finds_itself_out x) h = h
-look_sent all who m b v (waits x y) h = h
-look_sent all who m b v (fetches_from_best x y z) h = h
-look_sent all who m b v (finds_too_few x y) h = h
-look_sent all who m b v (finds_no_room x) h = h
 look_sent all who m b v (decides may) h = kept_pushed all who m (View b.stamp _ _) tt h
+look_sent all who m b v _ h = h
 
 pub change_sent : (all : List Record) (who : ℕ) (c : Cause) (o : Outcome) (m n : Node) → CauseSent all who o c → Change c o m n → Keeps all who m
     → Keeps all who n
 change_sent all who c o m n sent refreshes h = kept_refresh all who m h
 change_sent all who c o m n sent settles h = kept_settle all who m h
-change_sent all who c o m n sent (takes_report s v report by may) h = h
-change_sent all who c o m n sent (admits s v is leads fit) h = h
 change_sent all who c o m n sent (numbers e leads room why) h = kept_pushed all who m e (numbered_sent all who o c m e why sent h) h
 change_sent all who c o m n sent (keeps_body s v report req body is heard) h = kept_body all who m s req body (subst (CauseSent all who o) is sent) h
-change_sent all who c o m n sent (notes s v base acc by heard) h = h
 change_sent all who c o m n sent (stores s v base acc number e by heard plain may) h =
     let k = kept_pushed all who m e (carried_sent all who o c m s v base acc number e by sent h) h in
     record { name = k.name; entries = k.entries; sends = k.sends; bodies = bodies_after_sent all m.bodies e h.bodies }
 change_sent all who c o m n sent (begins_list s v base join image is a may) h =
     record { name = h.name; entries = All-nil (EntrySent all); sends = h.sends; bodies = h.bodies }
-change_sent all who c o m n sent (departs s v number is heard leaves) h = h
-change_sent all who c o m n sent (promises v low why) h = h
-change_sent all who c o m n sent (opens least resilience by may) h = h
 change_sent all who c o m n sent (looks b verdict over why look is) h = look_sent all who m b verdict look h
 change_sent all who c o m n sent (fetches s v base number e is heard promise below from may) h =
     kept_pushed all who (trim_up_to m base) e (subst (CauseSent all who o) is sent) h
@@ -143,11 +131,9 @@ change_sent all who c o m n sent (stores_view s v base number names resilience i
 change_sent all who c o m n sent (queues body is a member stays few) h =
     kept_queued all who m body ((subst (CauseSent all who o) is sent) (m.sends.last + 1) a) h
 change_sent all who c o m n sent (collects req is) h = kept_collected all who m req h
-change_sent all who c o m n sent (takes e is a member some there) h = h
-change_sent all who c o m n sent (asks_to_join is was) h = h
-change_sent all who c o m n sent (asks_to_leave is was stays done) h = h
 change_sent all who c o m n sent (closes leads leaves alone room) h =
     kept_at_end all who (push_entry m (Leave m.core.who)) (kept_pushed all who m (Leave m.core.who) tt h)
+change_sent all who c o m n sent _ h = h
 
 -- ---- letters
 
@@ -164,21 +150,8 @@ pub said_sent : (all : List Record) (who : ℕ) (m : Node) (c : Cause) (n : Node
 said_sent all who m c n to p (request x req body a b s) h = own_sent all who n req body s h
 said_sent all who m c n to p (spread x req body a b s) h = own_sent all who n req body s h
 said_sent all who m c n to p (bcast x number e a s) h = stands_sent all who n m.core.base number e s h
-said_sent all who m c n to p (order x number from req v report body a b s) h = tt
-said_sent all who m c n to p (accept x poll a) h = tt
-said_sent all who m c n to p (ack x a) h = tt
-said_sent all who m c n to p (nack x a) h = tt
-said_sent all who m c n to p (hold x s v report req body by a) h = tt
-said_sent all who m c n to p (join_ask x a) h = tt
-said_sent all who m c n to p (welcome s a b) h = tt
-said_sent all who m c n to p (leave_ask x a b) h = tt
-said_sent all who m c n to p (gone s a b) h = tt
-said_sent all who m c n to p (invite x a) h = tt
-said_sent all who m c n to p (vote s v a) h = tt
-said_sent all who m c n to p (fetch x a) h = tt
 said_sent all who m c n to p (piece s v stored number e a b t) h = stands_sent all who n m.core.base number e t h
-said_sent all who m c n to p (result x number names a b d) h = tt
-said_sent all who m c n to p (hand_over x a b) h = tt
+said_sent all who m c n to p _ h = tt
 
 -- ---- a step
 

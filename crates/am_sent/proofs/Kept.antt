@@ -4,7 +4,7 @@ use Rattle.std.specs.Prelude.{All}
 use Rattle.std.specs.List.{list_any}
 use Rattle.std.proofs.lemmas.List.Elements.{All-push, All-drop, All-filter, All-map, All-weaker}
 use Rattle.am_base.specs.declared.entry.Entry.{Entry}
-use Rattle.am_base.specs.declared.entry.Entry.TheVariants.{Data, Join, Leave, View}
+use Rattle.am_base.specs.declared.entry.Entry.TheVariants.{Data}
 use Rattle.am_packet.specs.declared.packet.Packet.{Packet}
 use Rattle.am_packet.specs.declared.packet.Packet.TheVariants.{Request, Spread, Bcast, Piece}
 use Rattle.am_packet.specs.Boxes.{Letter}
@@ -34,9 +34,7 @@ pub record WasSent (all : List Record) (name req : ℕ) (body : List ℕ) : Type
 -- an entry that is a Data was sent by its sender
 abbrev pub EntrySent : List Record → Entry → Type 0
 EntrySent all (Data from req body) = WasSent all from req body
-EntrySent all (Join name) = Unit {0}
-EntrySent all (Leave name) = Unit {0}
-EntrySent all (View stamp members resilience) = Unit {0}
+EntrySent all _ = Unit {0}
 
 -- and so was what a packet carries
 abbrev pub PacketSent : List Record → Packet → Type 0
@@ -72,9 +70,7 @@ sent_more all more name req body h = record { index = h.index; send = h.send; th
 
 pub entry_more : (all more : List Record) (e : Entry) → EntrySent all e → EntrySent (all ++ more) e
 entry_more all more (Data from req body) h = sent_more all more from req body h
-entry_more all more (Join name) h = tt
-entry_more all more (Leave name) h = tt
-entry_more all more (View stamp members resilience) h = tt
+entry_more all more _ h = tt
 
 packet_more : (all more : List Record) (p : Packet) → PacketSent all p → PacketSent (all ++ more) p
 packet_more all more (Request sender stamp report req body) h = sent_more all more sender req body h
@@ -105,8 +101,7 @@ kept_pushed all who m e sent h = record {
   name = h.name;
   entries = All-push (EntrySent all) m.core.log.entries e h.entries sent;
   sends = h.sends;
-  bodies =
-      h.bodies;
+  bodies = h.bodies;
 }
 
 pub kept_queued : (all : List Record) (who : ℕ) (m : Node) (body : List ℕ) → WasSent all who (m.sends.last + 1) body → Keeps all who m
@@ -115,8 +110,7 @@ kept_queued all who m body sent h = record {
   name = h.name;
   entries = h.entries;
   sends = All-push (SendSent all who) m.sends.queue _ h.sends sent;
-  bodies =
-      h.bodies;
+  bodies = h.bodies;
 }
 
 pub kept_collected : (all : List Record) (who : ℕ) (m : Node) (req : ℕ) → Keeps all who m → Keeps all who (record m { sends = own.collect req m.sends })
@@ -145,8 +139,7 @@ kept_body all who m from req body sent h = split (list_any (is_of from req) m.bo
       name = h.name;
       entries = h.entries;
       sends = h.sends;
-      bodies =
-          all_with_body all (record { from = from; req = req; body = body }) m.bodies sent h.bodies;
+      bodies = all_with_body all (record { from = from; req = req; body = body }) m.bodies sent h.bodies;
     }))
 
 -- ---- the refresh

@@ -21,7 +21,7 @@ use Rattle.am_play.specs.Claims.{heard_by}
 use Rattle.am_base.proofs.Greatest.{split}
 use Rattle.am_effects.specs.Causes.{Cause, calls, hears, refuses}
 use Rattle.am_effects.specs.Events as event
-use Rattle.am_effects.specs.Events.{actor, IsCall, IsCause, idles, stops, returns, steps}
+use Rattle.am_effects.specs.Events.{actor, IsCall, IsCause, steps}
 use Rattle.am_effects.proofs.Items.{get_front, get_last, all_item}
 use Rattle.am_effects.proofs.Runs.{EachKeeps, runs_keep}
 use Rattle.am_sent.specs.Claim.{SentHolds}
@@ -94,15 +94,7 @@ called_sent w e s ev a is (event.send body) = λ req answered. record {
   there = get_last w.records (record_of w e s.outcome s.letters);
   is = record { by = refl; asked = is; answered = answered };
 }
-called_sent w e s ev a is (event.done req) = tt
-called_sent w e s ev a is event.take = tt
-called_sent w e s ev a is event.join = tt
-called_sent w e s ev a is event.state = tt
-called_sent w e s ev a is event.leave = tt
-called_sent w e s ev a is (event.reset least resilience) = tt
-called_sent w e s ev a is (event.ask round) = tt
-called_sent w e s ev a is (event.give_up other stopped) = tt
-called_sent w e s ev a is event.tick = tt
+called_sent w e s ev a is _ = tt
 
 pub cause_sent : (w : World) (e : Event) (s : Step) (c : Cause) → AllSent w → IsCause w (actor w e) e.act c
     → CauseSent (after_step w e s) (actor w e) s.outcome c
@@ -114,13 +106,11 @@ cause_sent w e s refuses h is = tt
 
 pub each_keeps : EachKeeps AllSent
 unfolding with_record
-each_keeps w e v (idles o idle) h = record { all = all_sent_more w.records _ w.nodes w.letters w.group h.all }
-each_keeps w e v (stops runs) h = record { all = all_sent_more w.records _ w.nodes w.letters w.group h.all }
-each_keeps w e v (returns place is gone more) h = record { all = all_sent_more w.records _ w.nodes w.letters w.group h.all }
 each_keeps w e v (steps c s runs cause effect) h =
     let old = all_sent_more w.records (record_of w e s.outcome s.letters ∷ []) w.nodes w.letters w.group h.all in
     sent_stepped w e (actor w e) s h (step_sent (after_step w e s) (actor w e) c (w.nodes (actor w e)) s effect (cause_sent w e s c h cause)
     (old.each (actor w e)))
+each_keeps w e v _ h = record { all = all_sent_more w.records _ w.nodes w.letters w.group h.all }
 
 -- ---- the start
 

@@ -1,20 +1,8 @@
 -- What is sent again of a node whose refresh changes nothing.
-use Rattle.std.proofs.Common.{◌≡◌, ℕ, ◌+◌, ◌≤◌, List, [], length, sym, ap, ◌∙◌}
-use Rattle.am_core.specs.Cores.{CoreState, IsInOrder}
-use Rattle.am_packet.specs.Boxes.{Letter}
+use Rattle.am_sequencer.proofs.Words.{◌≡◌, ℕ, ◌+◌, ◌≤◌, List, [], length, sym, ap, ◌∙◌, CoreState, IsInOrder, Letter, Entry, Packet, stands_self, Node}
+use Rattle.am_sequencer.proofs.Words.{only_name, stranger, bcast_from, bcast_of, entries_to_serve, put_all, Tells, keeps_end, same_served, CoreTells}
+use Rattle.am_sequencer.proofs.Words.{core_tells, end_tells}
 use Rattle.am_base.specs.declared.outcome.Outcome.TheVariants as said
-use Rattle.am_base.specs.declared.entry.Entry.{Entry}
-use Rattle.am_packet.specs.declared.packet.Packet.{Packet}
-use Rattle.am_core.proofs.CoreLaws.{stands_self}
-use Rattle.am_model.specs.Node.{Node, only_name, stranger}
-use Rattle.am_sequencer.specs.Pieces.{bcast_from}
-use Rattle.am_model.specs.Emit.{bcast_of, entries_to_serve, put_all}
-use Rattle.am_model.specs.Ends.{Tells}
-use Rattle.am_ends.proofs.Nodes.{keeps_end}
-use Rattle.am_ends.proofs.Sequencing.{same_served}
-use Rattle.am_handlers.specs.Cores.{CoreTells}
-use Rattle.am_handlers.proofs.Doing.{core_tells}
-use Rattle.am_handlers.proofs.Plans.{end_tells}
 
 served_core : (m n : Node) (stored : ℕ) → n.core ≡ m.core → entries_to_serve n stored ≡ entries_to_serve m stored
 served_core m n stored same = ap (λ (c : CoreState). let x : Node = record m { core = c } in entries_to_serve x stored) same

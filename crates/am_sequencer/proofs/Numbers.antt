@@ -1,13 +1,6 @@
 -- A Data is numbered: whose it may be.
-use Rattle.std.proofs.Common.{◌≡◌, ℕ, ◌+◌, List, true, false, ◌==◌, nat_lt, ◌∙◌, arith, slice_index}
-use Rattle.std.proofs.lemmas.Bool.Decides.{nat_tests}
-use Rattle.std.proofs.Math.ListN.{get_or-map}
-use Rattle.am_base.specs.declared.image.Row.{Row}
-use Rattle.am_base.specs.declared.image.Image.{Image}
-use Rattle.am_base.specs.declared.entry.Entry.TheVariants.{Data}
-use Rattle.am_base.specs.Names.{place_of, life_of}
-use Rattle.am_base.specs.Lists.{at_place, row_of, blank_row, member_life, members_of, fits}
-use Rattle.am_core.proofs.Folds.{split}
+use Rattle.am_sequencer.proofs.Words.{◌≡◌, ℕ, ◌+◌, List, true, false, ◌==◌, nat_lt, ◌∙◌, arith, slice_index, nat_tests, get_or-map, Row, Image, Data}
+use Rattle.am_sequencer.proofs.Words.{place_of, life_of, at_place, row_of, blank_row, member_life, members_of, fits, split}
 
 known_life : (r : Row) (life : ℕ) → (r.life == life) ≡ true → nat_lt 0 r.joined ≡ true → r.left ≡ 0 → member_life r ≡ life
 known_life r life same joined stays = grind (arith, nat_tests)

@@ -1,20 +1,10 @@
 -- The rows of the sequencer, by what their tests say.
-use Rattle.std.proofs.Common.{◌≡◌, ℕ, ◌+◌, ◌<◌, ◌≤◌, List, Bool, true, false, not, nat_lt, nat_le, if◌then◌else◌, Option, Some, None, refl, sym, ◌∙◌, ap, arith}
-use Rattle.std.proofs.lemmas.Bool.Decides.{nat_tests}
-use Rattle.am_base.specs.declared.image.Report.{Report}
-use Rattle.am_base.specs.declared.outcome.Outcome.{Outcome}
+use Rattle.am_sequencer.proofs.Words.{◌≡◌, ℕ, ◌+◌, ◌<◌, ◌≤◌, List, Bool, true, false, not, nat_lt, nat_le, if◌then◌else◌, Option, Some, None, refl, sym, ◌∙◌}
+use Rattle.am_sequencer.proofs.Words.{ap, arith, nat_tests, Report, Outcome, Node, top, only_name, has_room, report_fits, with_report, Plan, quiet, polling}
+use Rattle.am_sequencer.proofs.Words.{and_telling, hold_of, Letter, IsInOrder, alike_requested, IsEndOf, Does, Tells, row_at, is_unknown, take_report}
+use Rattle.am_sequencer.proofs.Words.{ack_row, serve_again, serve, nack_row, answer_request, number_data, request_row, tells, does_now, done_whole, Done}
+use Rattle.am_sequencer.proofs.Words.{unless, following, report_refusal, request_refusal}
 use Rattle.am_base.specs.declared.outcome.Outcome.TheVariants as said
-use Rattle.am_model.specs.Node.{Node, top, only_name, has_room, report_fits, with_report}
-use Rattle.am_model.specs.Emit.{Plan, quiet, polling, and_telling, hold_of}
-use Rattle.am_packet.specs.Boxes.{Letter}
-use Rattle.am_core.specs.Cores.{IsInOrder}
-use Rattle.am_ends.proofs.Sequencing.{alike_requested}
-use Rattle.am_model.specs.Ends.{IsEndOf, Does, Tells}
-use Rattle.am_model.specs.Sequencing.{row_at, is_unknown, take_report, ack_row, serve_again, serve, nack_row, answer_request, number_data, request_row}
-use Rattle.am_handlers.proofs.Ends.{tells}
-use Rattle.am_handlers.proofs.Plans.{does_now, done_whole}
-use Rattle.am_handlers.specs.Finishing.{Done, unless}
-use Rattle.am_sequencer.specs.Pieces.{following, report_refusal, request_refusal}
 
 -- ---- a report
 

@@ -1,16 +1,7 @@
 -- Entries that are sent again, one after another.
-use Rattle.std.proofs.Common.{◌≡◌, ℕ, ◌+◌, ◌-◌, ◌<◌, ◌≤◌, min, List, [], length, take, drop, Some, sym, ap}
-use Rattle.std.proofs.Common.{◌∙◌, arith, slice_index_or, length-drop}
-use Rattle.std.proofs.lemmas.List.{length-take, drop-drop}
-use Rattle.am_base.specs.declared.entry.Entry.{Entry}
-use Rattle.am_base.specs.declared.entry.Entry.TheVariants.{Join}
-use Rattle.am_base.specs.Lists.{top_of, entry_at}
-use Rattle.am_packet.specs.Boxes.{Letter, with_letter}
-use Rattle.am_core.specs.Cores.{CoreState}
-use Rattle.am_model.specs.Emit.{put_all, entries_to_serve, bcast_of}
-use Rattle.am_handlers.specs.Cores.{CoreTells}
-use Rattle.am_handlers.proofs.Served.{kept_above, put_next, entry_there, entry_served, take_few}
-use Rattle.am_sequencer.specs.Pieces.{bcast_from}
+use Rattle.am_sequencer.proofs.Words.{◌≡◌, ℕ, ◌+◌, ◌-◌, ◌<◌, ◌≤◌, min, List, [], length, take, drop, Some, sym, ap, ◌∙◌, arith, slice_index_or, length-drop}
+use Rattle.am_sequencer.proofs.Words.{length-take, drop-drop, Entry, Join, top_of, entry_at, Letter, with_letter, CoreState, put_all, entries_to_serve}
+use Rattle.am_sequencer.proofs.Words.{bcast_of, CoreTells, kept_above, put_next, entry_there, entry_served, take_few, bcast_from}
 
 -- one letter more
 pub serve_next : (c : CoreState) (to : List ℕ) (stored number : ℕ) (letters more : List Letter) → c.log.start ≤ stored → stored ≤ number → number < top_of c.log
@@ -42,8 +33,7 @@ served_kept c stored low = λ m all s.
     ∙ ap (take 8) (drop-drop (stored - c.log.start) (c.log.start - all.start) all.entries ∙ ap (λ k. drop k all.entries) at)
 
 pub served_letters : (c : CoreState) (to : List ℕ) (stored last : ℕ) (letters : List Letter) → c.log.start ≤ stored → stored ≤ top_of c.log
-    → last ≡ min (top_of c.log) (stored + 8)
-    → letters ≡ put_all (bcast_from c) to (stored + 1) (take (last - stored) (kept_above c.log stored)) []
+    → last ≡ min (top_of c.log) (stored + 8) → letters ≡ put_all (bcast_from c) to (stored + 1) (take (last - stored) (kept_above c.log stored)) []
     → CoreTells (λ m. put_all (bcast_of m) to (stored + 1) (entries_to_serve m stored) []) c letters
 served_letters c to stored last letters low high is sent = λ m all s.
     let few : last - stored ≡ min (length (kept_above c.log stored)) 8 = simp length-drop (omega arith) in

@@ -1,33 +1,14 @@
 -- What a sequencer accepts is held by enough names.
-use Rattle.std.proofs.Common.{◌≡◌, ℕ, ◌+◌, ◌-◌, ◌<◌, ◌≤◌, ◌==◌, ◌&&◌, nat_le, Bool, true, false, List, [], length, take, refl, sym, ap, ◌∙◌, subst, arith}
-use Rattle.std.proofs.Common.{count_by}
-use Rattle.std.proofs.lemmas.Bool.Decides.{nat_tests}
-use Rattle.am_base.specs.declared.entry.Entry.{Entry}
-use Rattle.am_base.specs.declared.image.Report.{Report}
-use Rattle.am_base.specs.declared.image.Image.{Image}
-use Rattle.am_base.specs.Names.{has, names_of}
-use Rattle.am_base.specs.Lists.{Log, top_of, told_by}
-use Rattle.am_base.specs.Fronts.{counted_at, need_at, holders_at, is_held, is_satisfied, is_front, accept_front}
-use Rattle.am_core.specs.Cores.{accept, pass_over}
-use Rattle.am_core.proofs.Ranges.{all_at}
-use Rattle.am_fronts.specs.Reports.{after_report}
-use Rattle.am_fronts.specs.Refresh.{own_report, tell, go_on, let_go}
-use Rattle.am_fronts.proofs.Again.{greatest_low, greatest_there}
-use Rattle.am_chain_lists.specs.Whole.{Begins, image_of}
-use Rattle.am_chain_lists.proofs.Prefixes.{begins_take, begins_trans, begins_both, begins_length, length_take}
+use Rattle.am_stands.proofs.Words.{leb-true, ◌≡◌, ℕ, ◌+◌, ◌-◌, ◌<◌, ◌≤◌, ◌==◌, ◌&&◌, nat_le, Bool, true, false, List, [], length, take, refl, sym, ap, ◌∙◌}
+use Rattle.am_stands.proofs.Words.{subst, arith, count_by, nat_tests, Entry, Report, Image, has, names_of, Log, top_of, told_by, counted_at, need_at}
+use Rattle.am_stands.proofs.Words.{holders_at, is_held, is_satisfied, is_front, accept_front, accept, pass_over, all_at, after_report, own_report, tell}
+use Rattle.am_stands.proofs.Words.{go_on, let_go, greatest_low, greatest_there, Begins, image_of, begins_take, begins_trans, begins_both, begins_length}
+use Rattle.am_stands.proofs.Words.{length_take, how_many, counted_in, IsHeld, MayAccept, Node, lead, refresh, World, split, and_both, NameStands, Reporting}
+use Rattle.am_stands.proofs.Words.{MayCount, RefreshAccepts}
 use Rattle.am_chain_moves.specs.Group as groups
-use Rattle.am_chain_moves.specs.Group.{how_many, counted_in, IsHeld, MayAccept}
 use Rattle.am_model.specs.Node as nodes
-use Rattle.am_model.specs.Node.{Node}
-use Rattle.am_model.specs.Refresh.{lead, refresh}
-use Rattle.am_play.specs.World.{World}
-use Rattle.am_base.proofs.Greatest.{split, and_both}
-use Rattle.am_stands.specs.Standing.{NameStands}
-use Rattle.am_stands.specs.States.{Reporting}
-use Rattle.am_stands.specs.Accepting.{MayCount, RefreshAccepts}
-use Rattle.am_stands.proofs.Changes.{told_all, long_all}
-use Rattle.am_stands.proofs.Counting.{names_pass, name_small}
-use Rattle.am_stands.proofs.Parts.{counted_whole, need_whole, counted_concerned}
+use Rattle.am_stands.proofs.{Changes.told_all, Changes.long_all, Counting.names_pass, Counting.name_small, Parts.counted_whole, Parts.need_whole}
+use Rattle.am_stands.proofs.{Parts.counted_concerned}
 
 -- ---- one number
 
@@ -41,9 +22,6 @@ reached node x list reports n h r may few some low above high counts up =
     let short = length_take n list low in
     let long = length_take (reports h).stored list within in
     begins_trans (begins_both (begins_take n list) (begins_take (reports h).stored list) (omega arith)) told_
-
-least : (a b : ℕ) → nat_le a b ≡ true → a ≤ b
-least a b t = grind (arith, nat_tests)
 
 logged : (a : groups.Node) (part : List Entry) → (a.has_log ≡ false → a.list ≡ []) → 0 < length part → Begins part a.list → a.has_log ≡ true
 logged a part blank some h = split a.has_log (λ t. t)
@@ -78,7 +56,7 @@ number_held v i n x a node reports stands may r blank above low high held =
       counts = counts;
       logs = λ h t. logged (node h) (take n a.list) (blank h) (omega arith) (stored h t);
       stored = stored;
-      enough = (let few : need_at log n ≤ count_by passes (names_of (counted_at log n)) = least (need_at log n) (holders_at reports log n) held in omega arith);
+      enough = (let few : need_at log n ≤ count_by passes (names_of (counted_at log n)) = leb-true (need_at log n) (holders_at reports log n) held in omega arith);
     }
 
 -- ---- up to the front
@@ -86,11 +64,11 @@ number_held v i n x a node reports stands may r blank above low high held =
 satisfied_at : (reports : ℕ → Report) (log : Log) (front n : ℕ) → n ≤ front → is_satisfied reports log front n ≡ true
     → (m : ℕ) × (n ≤ m) × (m ≤ front) × ((told_by log).view_number ≤ m) × (is_held reports log m ≡ true)
 satisfied_at reports log front n low h = split (nat_le (told_by log).view_number n)
-    (λ t. (n, omega arith, low, least (told_by log).view_number n t, rw t at h))
+    (λ t. (n, omega arith, low, leb-true (told_by log).view_number n t, rw t at h))
     (λ f.
     let both = and_both (nat_le (told_by log).view_number front) (is_held reports log (told_by log).view_number) (rw f at h) in
     let above : n ≤ (told_by log).view_number = grind (arith, nat_tests) in
-    ((told_by log).view_number, above, least (told_by log).view_number front both.0, omega arith, both.1))
+    ((told_by log).view_number, above, leb-true (told_by log).view_number front both.0, omega arith, both.1))
 
 front_held : (v : World) (i : ℕ) (x : Node) (a : groups.Node) (node : ℕ → groups.Node) (reports : ℕ → Report) → NameStands v i x a → MayCount x a.list
     → Reporting node a.list x.core.base reports → ((h : ℕ) → (node h).has_log ≡ false → (node h).list ≡ [])

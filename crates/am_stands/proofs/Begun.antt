@@ -1,24 +1,10 @@
 -- What a node keeps, at the start.
-use Rattle.std.proofs.Common.{◌≡◌, ℕ, ◌<◌, true, false, [], ◌∷◌, length, take, slice_index, refl, sym, ap, ◌∙◌, subst, arith}
-use Rattle.std.proofs.lemmas.Bool.Decides.{nat_tests}
-use Rattle.am_base.specs.Founding.{Rules}
-use Rattle.am_base.specs.Names.{has, place_of, life_of}
-use Rattle.am_base.specs.Lists.{fold, after}
-use Rattle.am_chain_lists.specs.Whole.{Begins, IsGood, mem}
-use Rattle.am_chain_lists.proofs.Members.{good_begins}
-use Rattle.am_chain_lists.proofs.Prefixes.{begins_refl, begins_nil}
-use Rattle.am_chain_moves.specs.Group.{Group, IsUp, chain_of}
-use Rattle.am_chain_moves.specs.Kept.{Kept}
-use Rattle.am_model.specs.Node.{Node, founder, stranger, founding_stamp, founders_view, lowest_or_first}
-use Rattle.am_play.specs.World.{start, first_node}
-use Rattle.am_base.proofs.Greatest.{split}
-use Rattle.am_laws.proofs.LeaderRows.{first_member}
-use Rattle.am_unballoted.proofs.Turns.{Turn}
-use Rattle.am_stands.specs.Standing.{NameStands, Stands}
-use Rattle.am_stands.specs.Keeping.{GroupFor, NodeKeeps, StartKeeps}
-use Rattle.am_stands.proofs.Onward.{group_kept}
-use Rattle.am_stands.proofs.Refreshing.{member_old}
-use Rattle.am_stands.proofs.Trimming.{trimmed_none}
+use Rattle.am_stands.proofs.Words.{◌≡◌, ℕ, ◌<◌, true, false, [], ◌∷◌, length, take, slice_index, refl, sym, ap, ◌∙◌, subst, arith, nat_tests, Rules, has}
+use Rattle.am_stands.proofs.Words.{place_of, life_of, fold, after, Begins, IsGood, mem, good_begins, begins_refl, begins_nil, Group, IsUp, chain_of, Kept}
+use Rattle.am_stands.proofs.Words.{Node, founder, stranger, founding_stamp, founders_view, lowest_or_first, first_node, split, first_member, Turn, NameStands}
+use Rattle.am_stands.proofs.Words.{Stands, GroupFor, NodeKeeps, StartKeeps}
+use Rattle.am_play.specs.World.{start}
+use Rattle.am_stands.proofs.{Onward.group_kept, Refreshing.member_old, Trimming.trimmed_none}
 
 module _ (rules : Rules) (s : Group) (gs : GroupFor rules s) (h : Stands (start rules) s) where
   kept : Kept s

@@ -1,36 +1,14 @@
 -- What stopped names have is on the chain, or was left out of it; so a decision finds what each of its members has.
-use Rattle.std.proofs.Common.{◌≡◌, ◌⊎◌, inl, inr, ⊎_elim, ℕ, ◌<◌, ◌≤◌, ◌==◌, ◌||◌, List, [], ◌∷◌, ◌++◌, length, take, true, false, Some}
-use Rattle.std.proofs.Common.{slice_index, refl, sym, ap, ◌∙◌, subst, arith}
-use Rattle.std.proofs.lemmas.Bool.Decides.{nat_tests}
-use Rattle.am_base.specs.declared.entry.Entry.{Entry}
-use Rattle.am_base.specs.declared.entry.Entry.TheVariants.{Leave, View}
-use Rattle.am_base.specs.declared.name.Stamp.{Stamp}
-use Rattle.am_base.specs.Names.{place_of, life_of, has, is_within}
-use Rattle.am_base.specs.Lists.{members_of}
-use Rattle.am_core.proofs.Ranges.{all_at}
-use Rattle.am_chain_lists.specs.Whole.{Begins, BeginsBelow, IsGood, image_of, mem, view_of, key}
-use Rattle.am_chain_lists.proofs.Prefixes.{begins_refl, begins_nil, begins_more, begins_trans, begins_both, begins_take, below_of}
-use Rattle.am_chain_lists.proofs.Prefixes.{below_length, length_push}
-use Rattle.am_chain_lists.proofs.Rows.{mod16}
-use Rattle.am_chain_lists.proofs.Members.{good_begins, mem_between, mem_viewed}
-use Rattle.am_chain_lists.proofs.Order.{key_by, view_up}
+use Rattle.am_stands.proofs.Words.{low_or_above, split, ◌≡◌, ◌⊎◌, inl, inr, ⊎_elim, ℕ, ◌<◌, ◌≤◌, ◌==◌, ◌||◌, List, [], ◌∷◌, ◌++◌, length, take, true, false}
+use Rattle.am_stands.proofs.Words.{Some, slice_index, refl, sym, ap, ◌∙◌, subst, arith, nat_tests, Entry, Leave, View, Stamp, place_of, life_of, has}
+use Rattle.am_stands.proofs.Words.{is_within, members_of, all_at, Begins, BeginsBelow, IsGood, image_of, mem, view_of, key, begins_refl, begins_nil}
+use Rattle.am_stands.proofs.Words.{begins_more, begins_trans, begins_both, begins_take, below_of, below_length, length_push, mod16, good_begins, mem_between}
+use Rattle.am_stands.proofs.Words.{mem_viewed, key_by, view_up, Group, put, put2, opening, chain_of, IsUp, NoBetter, MayDecide, Voted, with_choice, choice_of}
+use Rattle.am_stands.proofs.Words.{own_stamp, longer, Kept, IsLawful, first_choice, start_kept, put_same, put_at, put2_cases, own_above, ballot_ok}
+use Rattle.am_stands.proofs.Words.{list_chain, group_low, NewView, OnBranch, on_chain, left_out, BranchesOk, MovesBranch, DecisionsAreNew, BranchesBegin}
 use Rattle.am_chain_moves.specs.Group as groups
-use Rattle.am_chain_moves.specs.Group.{Group, put, put2, opening, chain_of, IsUp, NoBetter}
 use Rattle.am_chain_moves.specs.Moves as group
-use Rattle.am_chain_moves.specs.Moves.{MayDecide, Voted, with_choice, choice_of, own_stamp, longer}
-use Rattle.am_chain_moves.specs.Kept.{Kept}
-use Rattle.am_chain_moves.specs.Runs.{IsLawful, first_choice}
-use Rattle.am_chain_moves.proofs.Start.{start_kept}
-use Rattle.am_chain_moves.proofs.Puts.{by_cases, put_same, put_at, put2_cases}
-use Rattle.am_chain_moves.proofs.Nodes.{own_above}
-use Rattle.am_chain.proofs.Heart.{ballot_ok, list_chain}
-use Rattle.am_chain.proofs.Decide.{group_low}
-use Rattle.am_stands.specs.Growing.{NewView}
-use Rattle.am_stands.specs.Branches.{OnBranch, on_chain, left_out, BranchesOk, MovesBranch, DecisionsAreNew, BranchesBegin}
 use Rattle.am_stands.proofs.LeftOut.{longer_chain, none_departed}
-
-two : (a b : ℕ) → (a ≤ b) ⊎ (b < a)
-two a b = grind arith
 
 -- ---- a decision
 
@@ -55,7 +33,7 @@ vote_low v list branch good h begins worse = ⊎_elim
     (λ (x : key (view_of v) < key (view_of list)). absurd (omega arith))
     (λ (x : (key (view_of v) ≡ key (view_of list)) × (length v ≤ length list)). x.1)
     worse)
-    (two (length v) (length list))
+    (low_or_above (length v) (length list))
 
 module _ (s : Group) (k : Kept s) (lawful : IsLawful s) (c : ℕ) (members : List ℕ) (resilience : ℕ) (d : MayDecide s c members resilience) (b : BranchesOk s)
     (voted : (j : ℕ) → has members j ≡ true → (j ≡ c) ⊎ Voted s (key (s.node c).promise) j (s.node c).list) where
@@ -74,8 +52,7 @@ module _ (s : Group) (k : Kept s) (lawful : IsLawful s) (c : ℕ) (members : Lis
 
   -- on one branch with the coordinator's list, a name of the View has no more
   low_on : (j : ℕ) (branch : List Entry) → has members j ≡ true → (s.node j).departed ≡ false → IsGood branch → Begins chosen branch
-      → Begins (s.node j).list branch
-      → Begins (s.node j).list chosen
+      → Begins (s.node j).list branch → Begins (s.node j).list chosen
   low_on j branch in_ stays good mine its = ⊎_elim
       (λ (z : j ≡ c). subst (λ x. Begins (s.node x).list chosen) (sym z) (begins_refl chosen))
       (λ (z : Voted s (key (s.node c).promise) j chosen).
@@ -86,7 +63,7 @@ module _ (s : Group) (k : Kept s) (lawful : IsLawful s) (c : ℕ) (members : Lis
       (voted j in_)
 
   stays_in : (j : ℕ) → has members j ≡ true → (s.node j).departed ≡ false
-  stays_in j in_ = by_cases (s.node j).departed (λ t. absurd (none_departed s k lawful c members resilience d j (in_chosen j in_) t)) (λ f. f)
+  stays_in j in_ = split (s.node j).departed (λ t. absurd (none_departed s k lawful c members resilience d j (in_chosen j in_) t)) (λ f. f)
 
   -- each name of the View has a beginning of what is chosen
   members_low : (j : ℕ) → has members j ≡ true → Begins (s.node j).list chosen
@@ -104,7 +81,7 @@ module _ (s : Group) (k : Kept s) (lawful : IsLawful s) (c : ℕ) (members : Lis
           (let more = length_push a (View v names strong) in
           let below = begins_both chain (begins_trans (begins_more a (View v names strong ∷ [])) part) (omega arith) in
           low_on j branch in_ (stays_in j in_) good (begins_trans below mine) its))
-          (two (length (a ++ View v names strong ∷ [])) (length chosen))
+          (low_or_above (length (a ++ View v names strong ∷ [])) (length chosen))
 
   new_view : NewView s (with_choice s c members resilience) (key (s.node c).promise)
   new_view =
@@ -130,9 +107,8 @@ module _ (s : Group) (k : Kept s) (lawful : IsLawful s) (c : ℕ) (members : Lis
 
   -- who isn't a member of what is chosen ended in it
   ended_in : (j : ℕ) (branch : List Entry) → (s.node j).departed ≡ false → IsGood branch → Begins chosen branch → Begins (s.node j).list branch
-      → mem chosen j ≡ false
-      → Begins (s.node j).list chosen
-  ended_in j branch stays good mine its none = by_cases (s.node j).has_log
+      → mem chosen j ≡ false → Begins (s.node j).list chosen
+  ended_in j branch stays good mine its none = split (s.node j).has_log
       (λ log. ⊎_elim
       (λ (z : length (s.node j).list ≤ length chosen). begins_both its mine z)
       (λ (z : length chosen < length (s.node j).list).
@@ -140,14 +116,14 @@ module _ (s : Group) (k : Kept s) (lawful : IsLawful s) (c : ℕ) (members : Lis
       let front = begins_trans (begins_take (s.node j).start s.group) (group_low s k lawful c members resilience d) in
       let there = b.own j stays (take (s.node j).start s.group) chosen (below_of (begins_both mine its (omega arith)) z) front joined.member in
       cc))
-      (two (length (s.node j).list) (length chosen)))
+      (low_or_above (length (s.node j).list) (length chosen)))
       (λ f. subst (λ l. Begins l chosen) (sym ((k.each j).blank f)) (begins_nil chosen))
 
   -- on one branch with it
   beside : (j : ℕ) (branch : List Entry) → (s.node j).departed ≡ false → IsGood branch → Begins chosen branch → Begins (s.node j).list branch
       → Begins (s.node j).list chosen ⊎ ((mem chosen j ≡ true) × (has members j ≡ false))
-  beside j branch stays good mine its = by_cases (mem chosen j)
-      (λ t. by_cases (has members j)
+  beside j branch stays good mine its = split (mem chosen j)
+      (λ t. split (has members j)
       (λ in_. inl (low_on j branch in_ stays good mine its))
       (λ out. inr (t, out)))
       (λ f. inl (ended_in j branch stays good mine its f))
@@ -173,7 +149,7 @@ module _ (s : Group) (k : Kept s) (lawful : IsLawful s) (c : ℕ) (members : Lis
       (λ (y : (mem chosen j ≡ true) × (has members j ≡ false)). inr
       (chosen, (s.node c).promise, members, resilience, branch, viewed, below, its, good, y.0, y.1))
       (beside j branch stays good below its)))
-      (two (length (a ++ View v names strong ∷ [])) (length chosen))
+      (low_or_above (length (a ++ View v names strong ∷ [])) (length chosen))
 
 -- ---- each move
 
@@ -218,8 +194,7 @@ branches_of s t k steady moved opened b = record {
 
 -- on a chain that goes on
 still_on : (s t : Group) → Begins (chain_of s.views) (chain_of t.views) → (j : ℕ) → (s.node j).departed ≡ false → OnBranch s j
-    → (t.node j).list ≡ (s.node j).list
-    → OnBranch t j
+    → (t.node j).list ≡ (s.node j).list → OnBranch t j
 still_on s t chain j stays (on_chain its) same = on_chain (subst (λ l. Begins l (chain_of t.views)) (sym same) (begins_trans its chain))
 still_on s t chain j stays (left_out a v names strong branch part mine its good member out) same =
     left_out a v names strong branch (begins_trans part chain) mine (subst (λ l. Begins l branch) (sym same) its) good member out
@@ -264,7 +239,7 @@ no_name s t k node views shown b = branches_of s t k
     (sym node)
     (λ up ballot is. inr (up, ballot, ap (λ f. f (key (s.node c).promise) k) (sym shown) ∙ is, omega arith))) b
 
-up_as : (m n : groups.Node) → n.has_log ≡ m.has_log → n.stopped ≡ m.stopped → n.departed ≡ m.departed → IsUp m → IsUp n
+pub up_as : (m n : groups.Node) → n.has_log ≡ m.has_log → n.stopped ≡ m.stopped → n.departed ≡ m.departed → IsUp m → IsUp n
 up_as m n log stopped departed up = record { log = log ∙ up.log; there = record { goes = stopped ∙ up.there.goes; stays = departed ∙ up.there.stays } }
 
 same_chain : (s : Group) → Begins (chain_of s.views) (chain_of s.views)
@@ -416,7 +391,7 @@ moves_branch s t (group.stops i) voted k law kt b = one_name s t i (record (s.no
 
 pub decisions_are_new : DecisionsAreNew
 decisions_are_new s t (group.decides i members resilience may) voted k law b = (
-  by_cases (s.views.decided (key (s.node i).promise))
+  split (s.views.decided (key (s.node i).promise))
       (λ d. absurd (let above = (ballot_ok s k law i members resilience may).above in let most = k.views.order (key (s.node i).promise) d in omega arith))
       (λ f. f),
   new_view s k law i members resilience may b voted.1,
@@ -429,10 +404,10 @@ pub branches_begin : BranchesBegin
 branches_begin founders first resilience may =
     let k = start_kept founders first resilience may in
     record {
-      branch = λ i stays. by_cases (has founders i)
+      branch = λ i stays. split (has founders i)
           (λ t. on_chain (rw t (begins_refl (opening (first_choice founders first resilience)))))
           (λ f. on_chain (rw f (begins_nil (opening (first_choice founders first resilience)))));
-      own = λ i stays. by_cases (has founders i)
+      own = λ i stays. split (has founders i)
           (λ t. (k.each i).own (record { log = t; there = record { goes = refl; stays = refl } }))
           (λ f. rw f (λ a d below. absurd (let z = below_length below in omega arith)));
       short = λ c j list up ballot. absurd (cc);

@@ -1,33 +1,16 @@
 -- Each change of a node as moves of the group.
-use Rattle.std.proofs.Common.{◌≡◌, ℕ, ◌==◌, ◌&&◌, not, true, refl, sym, ap, subst, nat_lt}
-use Rattle.am_base.specs.declared.name.Stamp.{Stamp}
-use Rattle.am_base.specs.declared.entry.Entry.TheVariants.{View}
-use Rattle.am_base.specs.Stamps.{stamp_eq}
-use Rattle.am_chain_moves.specs.Group.{Group}
-use Rattle.am_model.specs.Node.{Node, view, acts, is_member, unsettled_count, has_log, has_departed, Ballot}
-use Rattle.am_model.specs.Calls.{is_unfinished}
-use Rattle.am_model.specs.Refresh.{refresh}
-use Rattle.am_model.specs.Hearing.{hears_member, hears_in_view, hears_sequencer}
-use Rattle.am_play.specs.World.{World}
-use Rattle.am_base.proofs.Greatest.{and_both}
-use Rattle.am_effects.specs.Changes.{refreshes, settles, numbers, stores, begins_list, departs, promises, opens}
-use Rattle.am_effects.specs.Changes.{looks, fetches, stores_view, asks_to_join, asks_to_leave, closes}
-use Rattle.am_effects.proofs.Rests.{rests_refresh, settle_is}
-use Rattle.am_stands.specs.Standing.{StandsBut, within}
-use Rattle.am_model.specs.Ballots.{Verdict}
-use Rattle.am_effects.specs.Causes.{Cause}
-use Rattle.am_effects.specs.Looks.{Balloting, Looks, finds_itself_out, waits, fetches_from_best, finds_too_few, finds_no_room, decides}
-use Rattle.am_stands.specs.Steps.{MayMove, of_line, NeedsLook, after_look, ChangesStand}
-use Rattle.am_stands.proofs.Names.{Onto}
-use Rattle.am_stands.proofs.Decisions.{decision_stands}
-use Rattle.am_stands.proofs.Changes.{unmoved, promise_stands, open_stands, look_stands, looked_open, or_last, ask_stands, depart_stands}
-use Rattle.am_stands.proofs.Entries.{piece_stands, number_stands, welcome_stands}
+use Rattle.am_stands.proofs.Words.{or_second, member_heard, ◌≡◌, ℕ, ◌==◌, ◌&&◌, true, refl, sym, ap, subst, nat_lt, Stamp, View, stamp_eq, Group, Node, view}
+use Rattle.am_stands.proofs.Words.{acts, is_member, unsettled_count, has_log, has_departed, Ballot, is_unfinished, refresh, hears_member, hears_in_view}
+use Rattle.am_stands.proofs.Words.{hears_sequencer, World, and_both, refreshes, settles, begins_list, promises, opens, looks, stores_view, asks_to_join}
+use Rattle.am_stands.proofs.Words.{asks_to_leave, rests_refresh, settle_is, StandsBut, within, Verdict, Cause, Balloting, Looks, finds_itself_out, waits}
+use Rattle.am_stands.proofs.Words.{fetches_from_best, finds_too_few, finds_no_room, decides, MayMove, NeedsLook, after_look, ChangesStand}
+use Rattle.am_effects.specs.Changes.{numbers, stores, departs, fetches, closes}
+use Rattle.am_stands.specs.Steps.{of_line}
+use Rattle.am_stands.proofs.Changes.{unmoved, promise_stands, open_stands, look_stands, looked_open, ask_stands, depart_stands}
+use Rattle.am_stands.proofs.{Names.Onto, Decisions.decision_stands, Entries.piece_stands, Entries.number_stands, Entries.welcome_stands}
 
-hears_member_member : (x : Node) (from : ℕ) → hears_member x from ≡ true → is_member x.status ≡ true
-hears_member_member x from h = (and_both (not (from == x.core.who)) (is_member x.status) h).1
-
-hears_in_view_member : (x : Node) (from : ℕ) (v : Stamp) → hears_sequencer x from v ≡ true → is_member x.status ≡ true
-hears_in_view_member x from v h = hears_member_member x from
+pub hears_in_view_member : (x : Node) (from : ℕ) (v : Stamp) → hears_sequencer x from v ≡ true → is_member x.status ≡ true
+hears_in_view_member x from v h = member_heard x from
     (and_both (hears_member x from) (acts x && stamp_eq v (view x)) (and_both (hears_in_view x from v) (v.by == from) h).0).0
 
 -- ---- each change
@@ -70,9 +53,9 @@ changes_stand w name c o x y s (opens least resilience by may_) may is h =
     open_stands w name c x y s may may_.member may_.listed may_.stays refl refl refl refl refl refl h
 changes_stand w name c o x y s (looks b verdict over_ why look was) may is h = looked w name c x b verdict s may why look is h
 changes_stand w name c o x y s (fetches from v base number e was by promise below why may_) may is h = piece_stands w name x y e s may.few may.runs
-    (hears_member_member x from by) (record { log = refl; stays = refl; leaving = refl; promise = refl; ballot = refl; start = refl }) is h
+    (member_heard x from by) (record { log = refl; stays = refl; leaving = refl; promise = refl; ballot = refl; start = refl }) is h
 changes_stand w name c o x y s (stores_view from v base number names resilience was by own other promise below may_) may is h = piece_stands w name x y
-    (View v names resilience) s may.few may.runs (hears_member_member x from by)
+    (View v names resilience) s may.few may.runs (member_heard x from by)
     (record { log = refl; stays = refl; leaving = refl; promise = refl; ballot = refl; start = refl }) (of_line is) h
 changes_stand w name c o x y s (asks_to_join was asked) may is h = unmoved w name x y s
     (record {
@@ -85,6 +68,6 @@ changes_stand w name c o x y s (asks_to_join was asked) may is h = unmoved w nam
       start = refl;
     }) h
 changes_stand w name c o x y s (asks_to_leave was member stays done) may is h = ask_stands w name c x s may member
-    (or_last (nat_lt 0 (unsettled_count x)) (is_unfinished x.ballot) done) h
+    (or_second (nat_lt 0 (unsettled_count x)) (is_unfinished x.ballot) done) h
 changes_stand w name c o x y s (closes leads leaves alone room) may is h = absurd is
 changes_stand w name c o x y s _ may is h = same_to_it w name x y s refl refl refl refl refl refl h

@@ -1,39 +1,15 @@
 -- Who joins is one of the 256 names, and a View has a set of them: so members are sets of names.
-use Rattle.std.proofs.Common.{◌≡◌, ◌≢◌, ⊎_elim, ℕ, ◌+◌, ◌-◌, ◌<◌, ◌≤◌, ◌==◌, ◌&&◌, not, nat_lt, Bool, true, false, List, [], ◌∷◌}
-use Rattle.std.proofs.Common.{◌++◌, length, take, Option, Some, None, slice_get, slice_index, refl, sym, ap, ◌∙◌, subst, arith}
-use Rattle.std.specs.Prelude.{All}
-use Rattle.std.proofs.lemmas.Bool.Decides.{nat_tests}
-use Rattle.std.proofs.lemmas.List.{length-map, get_or-replicate}
-use Rattle.std.proofs.lemmas.List.Elements.{All-head, All-tail, All-nil, All-cons, All-append, All-take}
-use Rattle.am_base.specs.declared.entry.Entry.{Entry}
-use Rattle.am_base.specs.declared.entry.Entry.TheVariants.{Data, Join, Leave, View}
-use Rattle.am_base.specs.declared.image.Row.{Row}
-use Rattle.am_base.specs.declared.image.Image.{Image}
-use Rattle.am_base.specs.Names.{IsSet, place_of, life_of, has}
-use Rattle.am_base.specs.Lists.{blank_row, blank, is_blank, at_place, member_life, members_of, with_row, row_after_view, after, fold, top_of}
-use Rattle.am_base.specs.Fronts.{counted_of}
-use Rattle.am_core.proofs.Lives.{unions_most, member_at}
-use Rattle.am_chain_lists.specs.Whole.{Begins, image_of, key}
-use Rattle.am_chain_lists.proofs.Rows.{by_cases, row_at, row_set, row_view, long_after, mod16}
-use Rattle.am_chain_lists.proofs.Members.{long_told}
+use Rattle.am_stands.proofs.Words.{split, ◌≡◌, ◌≢◌, ⊎_elim, ℕ, ◌+◌, ◌-◌, ◌<◌, ◌≤◌, ◌==◌, ◌&&◌, not, nat_lt, Bool, true, false, List, [], ◌∷◌, ◌++◌, length}
+use Rattle.am_stands.proofs.Words.{take, Option, Some, slice_get, slice_index, refl, sym, ap, ◌∙◌, subst, arith, All, nat_tests, length-map, get_or-replicate}
+use Rattle.am_stands.proofs.Words.{All-head, All-tail, All-nil, All-cons, All-append, All-take, Entry, Data, Join, Leave, View, Row, Image, IsSet, place_of}
+use Rattle.am_stands.proofs.Words.{life_of, has, blank_row, blank, is_blank, at_place, member_life, members_of, with_row, row_after_view, after, fold, top_of}
+use Rattle.am_stands.proofs.Words.{counted_of, unions_most, member_at, Begins, image_of, key, row_at, row_set, row_view, long_after, mod16, long_told}
+use Rattle.am_stands.proofs.Words.{opening, chain_of, choice_of, longer, put_same, all_get, Node, concerned_names, World, NamesNamed, NameStands, CountsNames}
+use Rattle.am_stands.proofs.Words.{RowsLive, MovesNamed}
 use Rattle.am_chain_moves.specs.Group as groups
-use Rattle.am_chain_moves.specs.Group.{opening, chain_of}
 use Rattle.am_chain_moves.specs.Moves as group
-use Rattle.am_chain_moves.specs.Moves.{choice_of, longer}
-use Rattle.am_chain_moves.proofs.Puts.{put_same}
-use Rattle.am_effects.proofs.Items.{all_get}
 use Rattle.am_model.specs.Node as nodes
-use Rattle.am_model.specs.Node.{Node}
-use Rattle.am_model.specs.Refresh.{concerned_names}
-use Rattle.am_play.specs.World.{World}
-use Rattle.am_stands.specs.Moving.{NamesNamed}
-use Rattle.am_stands.specs.Standing.{NameStands}
-use Rattle.am_stands.specs.Accepting.{CountsNames}
-use Rattle.am_stands.specs.Sending.{RowsLive}
-use Rattle.am_stands.specs.Branches.{MovesNamed}
-use Rattle.am_stands.proofs.Changes.{told_all}
-use Rattle.am_stands.proofs.LeftOut.{longer_chain}
-use Rattle.am_stands.proofs.Parts.{counted_whole, image_whole}
+use Rattle.am_stands.proofs.{Changes.told_all, LeftOut.longer_chain, Parts.counted_whole, Parts.image_whole}
 
 -- ---- each move
 
@@ -76,22 +52,22 @@ put_named image who r long new h place low = ⊎_elim
     (row_set image who place r long)
 
 viewed_named : (first : Bool) (n given : ℕ) (r : Row) → given ≤ 16 → RowNamed r → RowNamed (row_after_view first n given r)
-viewed_named true n given r low h = by_cases (given == 0)
+viewed_named true n given r low h = split (given == 0)
     (λ t. rw t h)
     (λ f. rw f (record { life = low; lives = λ z. absurd (grind (arith, nat_tests)) }))
-viewed_named false n given r low h = by_cases (nat_lt 0 (member_life r) && not (member_life r == given))
+viewed_named false n given r low h = split (nat_lt 0 (member_life r) && not (member_life r == given))
     (λ t. rw t (record { life = h.life; lives = h.lives }))
     (λ f. rw f h)
 
 after_named : (image : Image) (n : ℕ) (e : Entry) → length image.rows ≡ 16 → NamesNamed e → RowsNamed image → RowsNamed (after image n e)
 unfolding after
-after_named image n (Data from req body) long e h = by_cases ((at_place image from).life == life_of from)
+after_named image n (Data from req body) long e h = split ((at_place image from).life == life_of from)
     (λ t. rw t (put_named image from (record (at_place image from) { last = req }) long
     (let o = h (place_of from) (mod16 from) in record { life = o.life; lives = o.lives }) h))
     (λ f. rw f h)
 after_named image n (Join name) long e h = put_named image name (record { life = life_of name; joined = n; left = 0; last = 0 }) long
     (record { life = omega arith; lives = λ z. absurd (omega arith) }) h
-after_named image n (Leave name) long e h = by_cases ((at_place image name).life == life_of name)
+after_named image n (Leave name) long e h = split ((at_place image name).life == life_of name)
     (λ t. rw t (put_named image name (record (at_place image name) { left = n }) long
     (let o = h (place_of name) (mod16 name) in record { life = o.life; lives = o.lives }) h))
     (λ f. rw f h)
@@ -111,7 +87,7 @@ rows_named list k = fold_named blank 1 list refl k
     (λ place low. subst RowNamed (sym (get_or-replicate 16 place blank_row blank_row low)) (record { life = omega arith; lives = λ z. refl }))
 
 member_named : (r : Row) → RowNamed r → member_life r ≤ 16
-member_named r h = by_cases (nat_lt 0 r.joined && (r.left == 0)) (λ t. rw t h.life) (λ f. rw f (omega arith))
+member_named r h = split (nat_lt 0 r.joined && (r.left == 0)) (λ t. rw t h.life) (λ f. rw f (omega arith))
 
 pub members_named : (list : List Entry) → All NamesNamed list → IsSet (members_of (image_of list))
 members_named list k =
@@ -127,11 +103,8 @@ members_named list k =
 
 counted_named : (list : List Entry) (n : ℕ) (o : Option Entry) → All NamesNamed list → ((e : Entry) → o ≡ Some e → NamesNamed e)
     → IsSet (counted_of o (members_of (image_of (take n list))))
-counted_named list n None k its = members_named (take n list) (All-take NamesNamed n list k)
-counted_named list n (Some (Data from req body)) k its = members_named (take n list) (All-take NamesNamed n list k)
-counted_named list n (Some (Join name)) k its = members_named (take n list) (All-take NamesNamed n list k)
-counted_named list n (Some (Leave name)) k its = members_named (take n list) (All-take NamesNamed n list k)
 counted_named list n (Some (View stamp names resilience)) k its = its (View stamp names resilience) refl
+counted_named list n _ k its = members_named (take n list) (All-take NamesNamed n list k)
 
 -- ---- of a node, whose list is so
 

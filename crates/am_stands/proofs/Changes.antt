@@ -1,44 +1,17 @@
 -- The changes of a node that make no list longer, as moves of the group.
-use Rattle.std.proofs.Common.{◌≡◌, ◌≢◌, ℕ, ◌+◌, ◌<◌, ◌≤◌, ◌==◌, ◌||◌, not, Bool, true, false, List, ◌++◌, length, take, Option, Some, None, refl, sym, ap}
-use Rattle.std.proofs.Common.{◌∙◌, subst, arith}
-use Rattle.std.proofs.lemmas.Bool.Decides.{nat_tests}
-use Rattle.std.proofs.lemmas.List.{length-append, length-take}
-use Rattle.am_base.specs.declared.name.Stamp.{Stamp}
-use Rattle.am_base.specs.declared.entry.Entry.{Entry}
-use Rattle.am_base.specs.declared.image.Image.{Image}
-use Rattle.am_base.specs.Stamps.{stamp_lt}
-use Rattle.am_base.specs.Names.{has}
-use Rattle.am_base.specs.Lists.{Log, blank, members_of, fold}
-use Rattle.am_chain_lists.specs.Whole.{image_of, mem, key}
-use Rattle.am_chain_lists.proofs.Order.{key_lt}
+use Rattle.am_stands.proofs.Words.{is_itself, ◌≡◌, ◌≢◌, ℕ, ◌+◌, ◌<◌, ◌≤◌, ◌==◌, ◌||◌, not, Bool, true, false, List, ◌++◌, length, take, Option, Some, None}
+use Rattle.am_stands.proofs.Words.{refl, sym, ap, ◌∙◌, subst, arith, nat_tests, length-append, length-take, Stamp, Entry, Image, stamp_lt, has, Log, blank}
+use Rattle.am_stands.proofs.Words.{members_of, fold, image_of, mem, key, key_lt, Group, IsThere, IsUp, Move, IsAbove, MayDepart, with_node, own_stamp}
+use Rattle.am_stands.proofs.Words.{put_same, Status, Node, Ballot, members, is_member, is_asking, has_log, has_departed, is_unfinished, refresh, Verdict}
+use Rattle.am_stands.proofs.Words.{overtake, with_promise, next_stamp, hears_member, World, is_stopped, fold_append, split, and_both, Cause, hears, Balloting}
+use Rattle.am_stands.proofs.Words.{with_more, without_one, as_it_is, Looks, finds_itself_out, finds_too_few, finds_no_room, decides, Promises, invited}
+use Rattle.am_stands.proofs.Words.{overtaken_by, told_result, rests_refresh, logged, equal_stamps, NameStands, FrontsStand, StandsBut, within, GoneSays}
+use Rattle.am_stands.proofs.Words.{has_stopped, may_go, MoveOk, MayMove}
 use Rattle.am_chain_moves.specs.Group as groups
-use Rattle.am_chain_moves.specs.Group.{Group, IsThere, IsUp}
-use Rattle.am_chain_moves.specs.Moves.{Move, IsAbove, MayDepart, with_node, own_stamp}
 use Rattle.am_chain_moves.specs.Moves as group
-use Rattle.am_chain_moves.proofs.Puts.{put_same}
-use Rattle.am_model.specs.declared.status.Status.{Status}
 use Rattle.am_model.specs.declared.status.Status.TheVariants as status
 use Rattle.am_model.specs.Node as nodes
-use Rattle.am_model.specs.Node.{Node, Ballot, members, is_member, is_asking, has_log, has_departed}
-use Rattle.am_model.specs.Calls.{is_unfinished}
-use Rattle.am_model.specs.Refresh.{refresh}
-use Rattle.am_model.specs.Ballots.{Verdict, overtake, with_promise, next_stamp}
-use Rattle.am_model.specs.Hearing.{hears_member}
-use Rattle.am_play.specs.World.{World, is_stopped}
-use Rattle.am_base.proofs.Folds.{fold_append}
-use Rattle.am_base.proofs.Greatest.{split, and_both}
-use Rattle.am_effects.specs.Causes.{Cause, hears}
-use Rattle.am_effects.specs.Looks.{Balloting, with_more, without_one, as_it_is, Looks, finds_itself_out, waits, fetches_from_best, finds_too_few}
-use Rattle.am_effects.specs.Looks.{finds_no_room, decides}
-use Rattle.am_effects.specs.Changes.{Promises, invited, overtaken as overtaken_by, told_result}
-use Rattle.am_effects.proofs.Rests.{rests_refresh}
-use Rattle.am_effects.proofs.Statuses.{logged}
-use Rattle.am_laws.proofs.Stamps.{equal_stamps}
 use Rattle.am_packet.specs.declared.packet.Packet.TheVariants as packet
-use Rattle.am_stands.specs.Standing.{NameStands, FrontsStand, StandsBut, within}
-use Rattle.am_stands.specs.Letters.{GoneSays, has_stopped, may_go}
-use Rattle.am_stands.specs.Moving.{MoveOk}
-use Rattle.am_stands.specs.Steps.{MayMove}
 use Rattle.am_stands.proofs.Names.{Onto, onto_same, onto_move, name_in, views_in, lines_within, each_within, fronts_within}
 
 -- ---- a node that is the same to the group
@@ -138,9 +111,6 @@ name_as w name x y a stamp open_ log status leaving start_ promise ballot k = re
   start = λ t. k.start (ap has_log (sym status) ∙ t) ∙ sym start_;
 }
 
-is_itself : (name : ℕ) → (name == name) ≡ true
-is_itself name = grind (arith, nat_tests)
-
 -- what stands for the name itself
 pub own_name : (w : World) (name : ℕ) (x : Node) (s : Group) → name < 256 → StandsBut name (within w name x) s
     → NameStands (within w name x) name x (s.node name)
@@ -151,17 +121,13 @@ pub is_there : (w : World) (name : ℕ) (x : Node) (a : groups.Node) → is_stop
     → NameStands (within w name x) name x a → IsThere a
 is_there w name x a runs stays h = record { goes = h.stopped ∙ runs; stays = h.departed ∙ stays }
 
-member_stays : (t : Status) → is_member t ≡ true → has_departed t ≡ false
-member_stays status.Stranger h = refl
-member_stays status.Asking h = refl
-member_stays status.Member h = refl
+pub member_stays : (t : Status) → is_member t ≡ true → has_departed t ≡ false
 member_stays status.Departed h = absurd (cc)
+member_stays _ h = refl
 
 asking_stays : (t : Status) → (is_member t || is_asking t) ≡ true → has_departed t ≡ false
-asking_stays status.Stranger h = refl
-asking_stays status.Asking h = refl
-asking_stays status.Member h = refl
 asking_stays status.Departed h = absurd (cc)
+asking_stays _ h = refl
 
 pub is_up : (w : World) (name : ℕ) (x : Node) (a : groups.Node) → is_stopped w name ≡ false → is_member x.status ≡ true
     → NameStands (within w name x) name x a → IsUp a
@@ -272,14 +238,12 @@ IsDecision _ = ⊥
 pub look_stands : (w : World) (name : ℕ) (c : Cause) (x : Node) (b : Ballot) (v : Verdict) (s : Group) → MayMove w name c x s
     → is_unfinished x.ballot ≡ true → (look : Looks x b v) → (IsDecision look → ⊥) → StandsBut name (within w name x) s
     → Onto name (within w name v.node) s
-look_stands w name c x b v s may open_ (waits y z) nothing h = unmoved w name x v.node s
-    (record { log = refl; log_ = refl; departed = refl; leaving = refl; promise = refl; ballot = sym open_; start = refl }) h
-look_stands w name c x b v s may open_ (fetches_from_best y z u) nothing h = unmoved w name x v.node s
-    (record { log = refl; log_ = refl; departed = refl; leaving = refl; promise = refl; ballot = sym open_; start = refl }) h
 look_stands w name c x b v s may open_ (finds_itself_out y) nothing h = given_over w name x v.node s refl refl refl refl refl refl h
 look_stands w name c x b v s may open_ (finds_too_few y z) nothing h = given_over w name x v.node s refl refl refl refl refl refl h
 look_stands w name c x b v s may open_ (finds_no_room y) nothing h = given_over w name x v.node s refl refl refl refl refl refl h
 look_stands w name c x b v s may open_ (decides y) nothing h = absurd (nothing tt)
+look_stands w name c x b v s may open_ _ nothing h = unmoved w name x v.node s
+    (record { log = refl; log_ = refl; departed = refl; leaving = refl; promise = refl; ballot = sym open_; start = refl }) h
 
 pub looked_open : (c : Cause) (x : Node) (b : Ballot) → Balloting c x b → is_unfinished x.ballot ≡ true
 looked_open c x b (with_more old s v shown is heard low high o same stays) = ap is_unfinished o.last ∙ ap not o.open_
@@ -287,10 +251,6 @@ looked_open c x b (without_one old name is o other) = ap is_unfinished o.last �
 looked_open c x b (as_it_is old o on) = ap is_unfinished o.last ∙ ap not o.open_
 
 -- ---- leaving
-
-pub or_last : (a b : Bool) → (a || b) ≡ false → b ≡ false
-or_last true b h = absurd (cc)
-or_last false b h = h
 
 pub ask_stands : (w : World) (name : ℕ) (c : Cause) (x : Node) (s : Group) → MayMove w name c x s → x.status ≡ status.Member
     → is_unfinished x.ballot ≡ false → StandsBut name (within w name x) s → Onto name (within w name (record x { leaving = true })) s

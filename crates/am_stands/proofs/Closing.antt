@@ -1,32 +1,12 @@
 -- The last member numbers its own Leave, accepts what it may, and goes: one move, which ends its step.
-use Rattle.std.proofs.Common.{◌≡◌, ◌≢◌, ℕ, ◌<◌, ◌≤◌, ◌==◌, true, false, [], ◌∷◌, ◌++◌, length, take, Some, slice_get, refl, sym, ap, ◌∙◌, subst, arith}
-use Rattle.std.proofs.lemmas.Bool.Decides.{nat_tests}
-use Rattle.am_base.specs.declared.name.Stamp.{Stamp}
-use Rattle.am_base.specs.declared.entry.Entry.TheVariants.{Leave}
-use Rattle.am_base.specs.Lists.{Log}
-use Rattle.am_group.specs.declared.event.Event.{Event}
-use Rattle.am_chain_lists.specs.Whole.{image_of}
+use Rattle.am_stands.proofs.Words.{is_itself, ◌≡◌, ◌≢◌, ℕ, ◌<◌, ◌≤◌, ◌==◌, true, false, [], ◌∷◌, ◌++◌, length, take, Some, slice_get, refl, sym, ap, ◌∙◌}
+use Rattle.am_stands.proofs.Words.{subst, arith, nat_tests, Stamp, Leave, Log, Event, image_of, Group, put, Move, with_line, longer, Node, push_entry, set_at}
+use Rattle.am_stands.proofs.Words.{has_departed, Step, is_unfinished, Decided, World, group_after, with_step, up_to_next, line_of, split, rests_at_end}
+use Rattle.am_stands.proofs.Words.{NameStands, FrontsStand, StandsBut, Stands, within, NeedsClose, after_closing, CloseStands, MoveOk}
 use Rattle.am_chain_moves.specs.Group as groups
-use Rattle.am_chain_moves.specs.Group.{Group, put}
-use Rattle.am_chain_moves.specs.Moves.{Move, with_line, longer}
 use Rattle.am_chain_moves.specs.Moves as group
-use Rattle.am_model.specs.Node.{Node, push_entry, set_at, has_departed}
-use Rattle.am_model.specs.Emit.{Step}
-use Rattle.am_model.specs.Calls.{is_unfinished}
-use Rattle.am_play.specs.World.{Decided, World, group_after, with_step}
-use Rattle.am_play.specs.Claims.{up_to_next, line_of}
-use Rattle.am_base.proofs.Greatest.{split}
-use Rattle.am_effects.proofs.Rests.{rests_at_end}
-use Rattle.am_stands.specs.Standing.{NameStands, FrontsStand, StandsBut, Stands, within}
-use Rattle.am_stands.specs.Ends.{NeedsClose, after_closing, CloseStands}
-use Rattle.am_stands.specs.Moving.{MoveOk}
-use Rattle.am_stands.proofs.Names.{one_move, views_noted}
-use Rattle.am_stands.proofs.Changes.{own_name, is_up}
-use Rattle.am_stands.proofs.Entries.{is_leading, numbered_stands}
-use Rattle.am_stands.proofs.Ends.{taken_more, name_grows}
-
-is_itself : (name : ℕ) → (name == name) ≡ true
-is_itself name = grind (arith, nat_tests)
+use Rattle.am_stands.proofs.{Names.one_move, Names.views_noted, Changes.own_name, Changes.is_up, Entries.is_leading, Entries.numbered_stands, Ends.taken_more}
+use Rattle.am_stands.proofs.{Ends.name_grows}
 
 -- what stands for who has gone so
 gone_name : (w : World) (name : ℕ) (x : Node) (b : groups.Node) → b.has_log ≡ true

@@ -1,29 +1,16 @@
 -- Who is concerned by a list with one entry more, and what is reported of it.
-use Rattle.std.proofs.Common.{◌≡◌, ◌⊎◌, inl, inr, ⊎_elim, ℕ, ◌+◌, ◌<◌, ◌≤◌, List, [], ◌∷◌, ◌++◌, length, true, false, refl, sym, ap, ◌∙◌, subst, arith}
-use Rattle.am_base.specs.declared.entry.Entry.{Entry}
-use Rattle.am_base.specs.declared.entry.Entry.TheVariants.{Data, Join, Leave, View}
-use Rattle.am_base.specs.declared.image.Report.{Report}
-use Rattle.am_base.specs.declared.image.Image.{Image}
-use Rattle.am_base.specs.Names.{place_of, life_of}
-use Rattle.am_chain_lists.specs.Whole.{Begins, NotView, image_of, mem}
-use Rattle.am_chain_lists.proofs.Prefixes.{begins_refl, begins_more, begins_trans, begins_pushed, length_push}
-use Rattle.am_chain_lists.proofs.Rows.{row_at, In}
-use Rattle.am_chain_lists.proofs.Members.{told_push, long_told, mem_in, in_mem}
+use Rattle.am_stands.proofs.Words.{◌≡◌, ◌⊎◌, inl, inr, ⊎_elim, ℕ, ◌+◌, ◌<◌, ◌≤◌, List, [], ◌∷◌, ◌++◌, length, true, false, refl, sym, ap, ◌∙◌, subst, arith}
+use Rattle.am_stands.proofs.Words.{Entry, Join, View, Report, Image, place_of, life_of, Begins, NotView, image_of, mem, begins_refl, begins_more}
+use Rattle.am_stands.proofs.Words.{begins_trans, begins_pushed, length_push, row_at, In, told_push, long_told, mem_in, in_mem, is_view, after_same}
+use Rattle.am_stands.proofs.Words.{IsConcerned, Reporting}
 use Rattle.am_chain_moves.specs.Group as groups
-use Rattle.am_model.specs.Receiving.{is_view}
-use Rattle.am_laws.proofs.ViewSteps.{after_same}
-use Rattle.am_stands.specs.States.{IsConcerned, Reporting}
-use Rattle.am_stands.proofs.Ends.{taken_more}
-use Rattle.am_stands.proofs.Joins.{Becomes, stayed, joins, founds, became}
-use Rattle.am_stands.proofs.Parts.{number_low}
+use Rattle.am_stands.proofs.{Ends.taken_more, Joins.Becomes, Joins.stayed, Joins.joins, Joins.founds, Joins.became, Parts.number_low}
 
 -- ---- who is a member after an entry that is no View
 
 pub no_view : (e : Entry) → NotView e → is_view e ≡ false
-no_view (Data from req body) h = refl
-no_view (Join name) h = refl
-no_view (Leave name) h = refl
 no_view (View stamp names resilience) h = absurd h
+no_view _ h = refl
 
 pub mem_back : (a : List Entry) (e : Entry) (name : ℕ) → NotView e → mem (a ++ e ∷ []) name ≡ true → (mem a name ≡ true) ⊎ (e ≡ Join name)
 mem_back a e name plain h = back (became (image_of a) (1 + length a) e name (long_told a) (omega arith)

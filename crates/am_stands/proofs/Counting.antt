@@ -1,12 +1,7 @@
 -- How many names of a set pass a test, counted by the set and among all names.
-use Rattle.std.proofs.Common.{◌≡◌, ◌≢◌, ℕ, zero, suc, ◌+◌, ◌<◌, ◌≤◌, ◌==◌, ◌&&◌, nat_lt, Bool, true, false, if◌then◌else◌, List, [], ◌∷◌, length, slice_index}
-use Rattle.std.proofs.Common.{count_by, refl, sym, ap, ◌∙◌, subst, arith}
-use Rattle.std.proofs.lemmas.Bool.Decides.{nat_tests}
-use Rattle.am_base.specs.Names.{IsSet, place_of, life_of, name_at, has, size, names_from, names_of}
-use Rattle.am_fronts.proofs.ReportLaws.{count_cons}
-use Rattle.am_chain_lists.proofs.Rows.{mod16}
-use Rattle.am_chain_moves.specs.Group.{count, how_many}
-use Rattle.am_chain_moves.proofs.Puts.{by_cases, count_below}
+use Rattle.am_stands.proofs.Words.{split, ◌≡◌, ◌≢◌, ℕ, zero, suc, ◌+◌, ◌<◌, ◌≤◌, ◌==◌, ◌&&◌, nat_lt, Bool, true, false, if◌then◌else◌, List, [], ◌∷◌, length}
+use Rattle.am_stands.proofs.Words.{slice_index, count_by, refl, sym, ap, ◌∙◌, subst, arith, nat_tests, IsSet, place_of, life_of, name_at, has, size}
+use Rattle.am_stands.proofs.Words.{names_from, names_of, count_cons, mod16, count, how_many, count_below}
 
 -- ---- all names but one
 
@@ -23,7 +18,7 @@ but_other q k j other = let f : (j == k) ≡ false = grind (arith, nat_tests) in
 
 but_passes : (q : ℕ → Bool) (k j : ℕ) → but q k j ≡ true → (j ≢ k) × (q j ≡ true)
 unfolding but
-but_passes q k j = by_cases (j == k)
+but_passes q k j = split (j == k)
     (λ t. rw t (λ h. absurd (cc)))
     (λ f. rw f (λ h. (λ same. (let t : (j == k) ≡ true = grind (arith, nat_tests) in cc), h)))
 
@@ -34,30 +29,30 @@ unfolding count
 count_up_to p q zero h = omega arith
 count_up_to p q (suc n) h =
     let r = count_up_to p q n (λ j low. h j (omega arith)) in
-    by_cases (p n)
+    split (p n)
     (λ t. let u = h n (omega arith) t in rw (t, u) (omega arith))
-    (λ t. by_cases (q n) (λ u. rw (t, u) (omega arith)) (λ u. rw (t, u) (omega arith)))
+    (λ t. split (q n) (λ u. rw (t, u) (omega arith)) (λ u. rw (t, u) (omega arith)))
 
 count_none : (q : ℕ → Bool) (n : ℕ) → ((j : ℕ) → q j ≡ true → ⊥) → count q n ≡ 0
 unfolding count
 count_none q zero h = refl
 count_none q (suc n) h =
     let r = count_none q n h in
-    by_cases (q n) (λ t. absurd (h n t)) (λ f. rw f (omega arith))
+    split (q n) (λ t. absurd (h n t)) (λ f. rw f (omega arith))
 
 count_one : (q : ℕ → Bool) (k n : ℕ) → count q n ≤ 1 + count (but q k) n
 unfolding count
 count_one q k zero = omega arith
-count_one q k (suc n) = by_cases (n == k)
+count_one q k (suc n) = split (n == k)
     (λ t.
     let same : n ≡ k = grind (arith, nat_tests) in
     let rest = count_up_to q (but q k) n (λ j low s. but_other q k j (λ is. absurd (let z : n < n = omega arith in omega arith)) ∙ s) in
     let off : but q k n ≡ false = ap (but q k) same ∙ but_same q k in
-    by_cases (q n) (λ u. rw (u, off) (omega arith)) (λ u. rw (u, off) (omega arith)))
+    split (q n) (λ u. rw (u, off) (omega arith)) (λ u. rw (u, off) (omega arith)))
     (λ f.
     let on : but q k n ≡ q n = but_other q k n (λ is. (let t : (n == k) ≡ true = grind (arith, nat_tests) in cc)) in
     let r = count_one q k n in
-    by_cases (q n)
+    split (q n)
     (λ u. let v : but q k n ≡ true = on ∙ u in rw (u, v) (omega arith))
     (λ u. let v : but q k n ≡ false = on ∙ u in rw (u, v) (omega arith)))
 
@@ -84,7 +79,7 @@ counted_from p q from (suc b ∷ lives) long low h =
     → q (name_at (from + 1 + k) (slice_index lives k)) ≡ true = λ k l some.
     (let at : from + 1 + k ≡ from + suc k = omega arith in
     subst (λ i. p (name_at i (slice_index lives k)) ≡ true → q (name_at i (slice_index lives k)) ≡ true) (sym at) (h (suc k) (omega arith) some)) in
-    by_cases (p name)
+    split (p name)
     (λ t.
     let here : q name ≡ true = subst (λ i. p (name_at i (suc b)) ≡ true → q (name_at i (suc b)) ≡ true) first (h zero (omega arith) (omega arith)) t in
     let rest = counted_from p (but q name) (from + 1) lives (omega arith) (λ k l. low (suc k) (omega arith))
@@ -129,7 +124,7 @@ few_of q from n (life ∷ lives) h =
     let one = count_one q name n in
     let more : count_by (λ x. nat_lt 0 x) (life ∷ lives) ≡ (if nat_lt 0 life then 1 else 0) + count_by (λ x. nat_lt 0 x) lives = count_cons
     (λ x. nat_lt 0 x) life lives in
-    by_cases (nat_lt 0 life)
+    split (nat_lt 0 life)
     (λ t. let is : count_by (λ x. nat_lt 0 x) (life ∷ lives) ≡ 1 + count_by (λ x. nat_lt 0 x) lives = more
     ∙ ap (λ (x : Bool). (if x then 1 else 0) + count_by (λ x. nat_lt 0 x) lives) t in omega arith)
     (λ f.

@@ -1,40 +1,18 @@
 -- A decision, as a move of the group.
-use Rattle.std.proofs.Common.{◌≡◌, ⊎_elim, ℕ, ◌+◌, ◌==◌, max, true, false, List, [], ◌∷◌, ◌++◌, length, take, Some, slice_get, refl, sym, ap, ◌∙◌, subst, arith}
-use Rattle.std.specs.List.{list_any}
-use Rattle.std.proofs.lemmas.Bool.Decides.{nat_tests}
-use Rattle.std.proofs.lemmas.List.{append_assoc, append-nil, length-append}
-use Rattle.am_base.specs.declared.name.Stamp.{Stamp}
-use Rattle.am_base.specs.declared.image.Image.{Image}
-use Rattle.am_base.specs.declared.entry.Entry.{Entry}
-use Rattle.am_base.specs.declared.entry.Entry.TheVariants.{View}
-use Rattle.am_base.specs.Stamps.{stamp_eq}
-use Rattle.am_base.specs.Lists.{Log}
-use Rattle.am_chain_lists.specs.Whole.{key}
+use Rattle.am_stands.proofs.Words.{◌≡◌, ⊎_elim, ℕ, ◌+◌, ◌==◌, max, true, false, List, [], ◌∷◌, ◌++◌, length, take, Some, slice_get, refl, sym, ap, ◌∙◌, subst}
+use Rattle.am_stands.proofs.Words.{arith, list_any, nat_tests, append_assoc, length-append, Stamp, Image, Entry, View, stamp_eq, Log, key, Group, Views, put}
+use Rattle.am_stands.proofs.Words.{opening, with_choice, choice_of, put_same, Node, Ballot, view, members, push_entry, need_of, left_in, restart_reports}
+use Rattle.am_stands.proofs.Words.{with_end, Decided, World, last_view, whole, is_view_of, up_to_view, up_to_next, line_of, split, Cause, HasOpen, Balloting}
+use Rattle.am_stands.proofs.Words.{with_more, without_one, as_it_is, get_front, get_last, get_push, told_pushed, after_view, NameStands, NotedStands}
+use Rattle.am_stands.proofs.Words.{ViewsStand, StandsBut, within, MayMove, NeedsDecision, noting}
+use Rattle.std.proofs.lemmas.List.{append-nil}
 use Rattle.am_chain_moves.specs.Group as groups
-use Rattle.am_chain_moves.specs.Group.{Group, Views, put, opening}
-use Rattle.am_chain_moves.specs.Moves.{with_choice, choice_of}
 use Rattle.am_chain_moves.specs.Moves as group
-use Rattle.am_chain_moves.proofs.Puts.{put_same}
 use Rattle.am_model.specs.Node as nodes
-use Rattle.am_model.specs.Node.{Node, Ballot, view, members, push_entry}
 use Rattle.am_base.specs.declared.outcome.Outcome.TheVariants as said
-use Rattle.am_model.specs.Ballots.{need_of, left_in, restart_reports, with_end}
-use Rattle.am_play.specs.World.{Decided, World, last_view}
-use Rattle.am_play.specs.Lawful.{whole, is_view_of}
-use Rattle.am_play.specs.Claims.{up_to_view, up_to_next, line_of}
-use Rattle.am_base.proofs.Greatest.{split}
-use Rattle.am_effects.specs.Causes.{Cause}
 use Rattle.am_effects.specs.Looks as looks
-use Rattle.am_effects.specs.Looks.{HasOpen, Balloting, with_more, without_one, as_it_is}
-use Rattle.am_effects.proofs.Items.{get_front, get_last, get_push}
-use Rattle.am_effects.proofs.Says.{told_pushed}
-use Rattle.am_laws.proofs.ViewSteps.{after_view}
-use Rattle.am_stands.specs.Standing.{NameStands, NotedStands, ViewsStand, StandsBut, within}
-use Rattle.am_stands.specs.Steps.{MayMove, NeedsDecision, noting}
-use Rattle.am_stands.proofs.Names.{Onto, onto_move, name_in, each_within, fronts_within}
-use Rattle.am_stands.proofs.Changes.{own_name, long_all}
-use Rattle.am_stands.proofs.Lines.{line_ends}
-use Rattle.am_stands.proofs.Entries.{noted_stands, line_here}
+use Rattle.am_stands.proofs.{Names.Onto, Names.onto_move, Names.name_in, Names.each_within, Names.fronts_within, Changes.own_name, Changes.long_all}
+use Rattle.am_stands.proofs.{Lines.line_ends, Entries.noted_stands, Entries.line_here}
 
 -- ---- lists
 

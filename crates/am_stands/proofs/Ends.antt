@@ -1,24 +1,12 @@
 -- At the end of a step the group accepts what its sequencer does, and the name learns how far that is.
-use Rattle.std.proofs.Common.{◌≡◌, ◌≢◌, ℕ, zero, suc, ◌<◌, ◌≤◌, ◌==◌, max, true, false, if◌then◌else◌, List, [], ◌∷◌, ◌++◌, length, take, Some, slice_get}
-use Rattle.std.proofs.Common.{refl, sym, ap, ◌∙◌, subst, arith}
-use Rattle.std.proofs.lemmas.Bool.Decides.{nat_tests}
-use Rattle.am_base.specs.declared.entry.Entry.{Entry}
-use Rattle.am_base.specs.declared.name.Stamp.{Stamp}
-use Rattle.am_group.specs.declared.event.Event.{Event}
-use Rattle.am_chain_lists.specs.Whole.{Begins, image_of}
-use Rattle.am_chain_lists.proofs.Prefixes.{begins_length}
+use Rattle.am_stands.proofs.Words.{is_itself, ◌≡◌, ◌≢◌, ℕ, zero, suc, ◌<◌, ◌≤◌, ◌==◌, max, true, false, if◌then◌else◌, List, [], ◌∷◌, ◌++◌, length, take}
+use Rattle.am_stands.proofs.Words.{Some, slice_get, refl, sym, ap, ◌∙◌, subst, arith, nat_tests, Entry, Stamp, Event, Begins, image_of, begins_length, Group}
+use Rattle.am_stands.proofs.Words.{put, with_node, Node, set_at, has_departed, Step, Decided, World, is_stopped, group_after, views_after, with_step}
+use Rattle.am_stands.proofs.Words.{up_to_next, line_of, split, NameStands, FrontsStand, ViewsStand, Stands, Moves, none, moves, Leads, Accepts, no_more}
+use Rattle.am_stands.proofs.Words.{rises, Learns, departed, bare, before_end, EndsStand}
+use Rattle.am_stands.specs.Ends.{learns}
 use Rattle.am_chain_moves.specs.Group as groups
-use Rattle.am_chain_moves.specs.Group.{Group, put}
-use Rattle.am_chain_moves.specs.Moves.{with_node}
 use Rattle.am_chain_moves.specs.Moves as group
-use Rattle.am_model.specs.Node.{Node, set_at, has_departed}
-use Rattle.am_model.specs.Emit.{Step}
-use Rattle.am_play.specs.World.{Decided, World, is_stopped, group_after, views_after, with_step}
-use Rattle.am_play.specs.Claims.{up_to_next, line_of}
-use Rattle.am_base.proofs.Greatest.{split}
-use Rattle.am_stands.specs.Standing.{NameStands, FrontsStand, ViewsStand, Stands}
-use Rattle.am_stands.specs.Moving.{Moves, none, moves, Leads}
-use Rattle.am_stands.specs.Ends.{Accepts, no_more, rises, Learns, departed, bare, learns, before_end, EndsStand}
 use Rattle.am_stands.proofs.Names.{no_move, one_move, views_noted}
 
 -- ---- a longer group list
@@ -90,9 +78,6 @@ then_moves none m = m
 then_moves (moves x ok xs) m = moves x ok (then_moves xs m)
 
 -- ---- what is learned
-
-is_itself : (name : ℕ) → (name == name) ≡ true
-is_itself name = grind (arith, nat_tests)
 
 -- all stands, but for the name's own fronts
 record Ended (w : World) (e : Event) (name : ℕ) (step : Step) (s : Group) : Type 0 where

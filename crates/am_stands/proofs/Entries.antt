@@ -1,39 +1,18 @@
 -- The changes of a node that make its list longer, or let it begin, as moves of the group.
-use Rattle.std.proofs.Common.{◌≡◌, ◌≢◌, ℕ, ◌<◌, ◌≤◌, ◌==◌, true, false, List, [], ◌∷◌, ◌++◌, length, take, Some, slice_get, refl, sym, ap, ◌∙◌, subst, arith}
-use Rattle.std.proofs.lemmas.Bool.Decides.{nat_tests}
-use Rattle.std.proofs.lemmas.List.{append_assoc, append-nil}
-use Rattle.am_base.specs.declared.name.Stamp.{Stamp}
-use Rattle.am_base.specs.declared.image.Image.{Image}
-use Rattle.am_base.specs.declared.entry.Entry.{Entry}
-use Rattle.am_base.specs.declared.entry.Entry.TheVariants.{View}
-use Rattle.am_base.specs.Names.{rank_of}
-use Rattle.am_base.specs.Stamps.{stamp_eq}
-use Rattle.am_base.specs.Lists.{Log, fits}
-use Rattle.am_chain_lists.specs.Whole.{Begins, image_of, view_of, key}
-use Rattle.am_chain_lists.proofs.Order.{key_by}
-use Rattle.am_chain_lists.proofs.Prefixes.{begins_trans, begins_more}
+use Rattle.am_stands.proofs.Words.{numbers_plain, same_stamp, ◌≡◌, ◌≢◌, ℕ, ◌<◌, ◌≤◌, ◌==◌, true, false, List, [], ◌∷◌, ◌++◌, length, take, Some, slice_get}
+use Rattle.am_stands.proofs.Words.{refl, sym, ap, ◌∙◌, subst, arith, nat_tests, append_assoc, Stamp, Image, Entry, View, rank_of, stamp_eq, Log, fits, Begins}
+use Rattle.am_stands.proofs.Words.{image_of, view_of, key, key_by, begins_trans, begins_more, Group, Views, put, opening, Move, with_node, with_line, longer}
+use Rattle.am_stands.proofs.Words.{put_same, Node, view, is_member, acts, is_sequencer, push_entry, has_log, has_departed, is_unfinished, is_view, Decided}
+use Rattle.am_stands.proofs.Words.{World, is_stopped, whole, up_to_next, line_of, split, and_both, begin_list, Cause, Numbers, NameStands, NotedStands}
+use Rattle.am_stands.proofs.Words.{ViewsStand, StandsBut, within, MoveOk, Leads, MayMove, NeedsNumber, IsOthers, NeedsEntry, NeedsPiece, NeedsWelcome}
+use Rattle.am_stands.proofs.Words.{FrontsBegin}
+use Rattle.std.proofs.lemmas.List.{append-nil}
+use Rattle.am_stands.specs.Steps.{of_line, of_shown}
 use Rattle.am_chain_moves.specs.Group as groups
-use Rattle.am_chain_moves.specs.Group.{Group, Views, put, opening}
-use Rattle.am_chain_moves.specs.Moves.{Move, with_node, with_line, longer}
 use Rattle.am_chain_moves.specs.Moves as group
-use Rattle.am_chain_moves.proofs.Puts.{put_same}
-use Rattle.am_model.specs.Node.{Node, view, is_member, acts, is_sequencer, push_entry, has_log, has_departed}
-use Rattle.am_model.specs.Calls.{is_unfinished}
-use Rattle.am_model.specs.Receiving.{is_view}
-use Rattle.am_play.specs.World.{Decided, World, is_stopped}
-use Rattle.am_play.specs.Lawful.{whole}
-use Rattle.am_play.specs.Claims.{up_to_next, line_of}
-use Rattle.am_base.proofs.Greatest.{split, and_both}
-use Rattle.am_model.specs.Joining.{begin_list}
-use Rattle.am_effects.specs.Causes.{Cause}
-use Rattle.am_effects.specs.Changes.{Numbers, asked_send, own_send, asked_join, asked_leave}
-use Rattle.am_laws.proofs.Stamps.{same_stamp}
-use Rattle.am_stands.specs.Standing.{NameStands, NotedStands, ViewsStand, StandsBut, within}
-use Rattle.am_stands.specs.Moving.{MoveOk, Leads}
-use Rattle.am_stands.specs.Steps.{MayMove, NeedsNumber, IsOthers, NeedsEntry, NeedsPiece, of_line, of_shown, NeedsWelcome, FrontsBegin}
-use Rattle.am_stands.proofs.Names.{Onto, onto_move, one_move, views_noted, each_within, fronts_within, noted_line}
-use Rattle.am_stands.proofs.Changes.{own_name, is_up, told_whole}
-use Rattle.am_stands.proofs.Lines.{HasViewOf, next_of_list, line_stays, line_ends, line_grows, opened}
+use Rattle.am_stands.proofs.{Names.Onto, Names.onto_move, Names.one_move, Names.views_noted, Names.each_within, Names.fronts_within, Names.noted_line}
+use Rattle.am_stands.proofs.{Changes.own_name, Changes.is_up, Changes.told_whole, Lines.HasViewOf, Lines.next_of_list, Lines.line_stays, Lines.line_ends}
+use Rattle.am_stands.proofs.{Lines.line_grows, Lines.opened}
 
 -- ---- one entry more
 
@@ -108,8 +87,7 @@ lines_longer w name x y e a views l old others h k d at = split (d.stamp.by == n
 
 -- a move that makes one list longer, and no line of its own
 grows : (w : World) (name : ℕ) (x y : Node) (e : Entry) (s : Group) → name < 256 → Longer x y e → IsOthers name x e
-    → (move : Move s (with_node s name (longer (s.node name) e))) → MoveOk move → StandsBut name (within w name x) s
-    → Onto name (within w name y) s
+    → (move : Move s (with_node s name (longer (s.node name) e))) → MoveOk move → StandsBut name (within w name x) s → Onto name (within w name y) s
 grows w name x y e s few l others move ok h =
     let old = own_name w name x s few h in
     let b = longer (s.node name) e in
@@ -138,12 +116,6 @@ piece_stands w name x y e s few runs member l (of_shown open_ needs) h =
     (old.ballot ∙ open_) needs.served needs.shown needs.next) tt h
 
 -- ---- a sequencer's own entry
-
-pub numbers_plain : (c : Cause) (m : Node) (e : Entry) → Numbers c m e → is_view e ≡ false
-numbers_plain c m e (asked_send s v report req body by known stays next) = refl
-numbers_plain c m e (own_send s is last) = refl
-numbers_plain c m e (asked_join s v is other fit) = refl
-numbers_plain c m e (asked_leave s v report is other known stays) = refl
 
 -- equal keys are of equal stamps
 pub key_stamp : (a b : Stamp) → a.by < 256 → b.by < 256 → key a ≡ key b → a ≡ b

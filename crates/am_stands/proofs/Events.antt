@@ -1,24 +1,11 @@
 -- What stands for a world goes on standing through an event that no node does.
-use Rattle.std.proofs.Common.{◌≡◌, ℕ, ◌+◌, ◌≤◌, ◌==◌, ◌||◌, Bool, true, false, if◌then◌else◌, List, [], ◌∷◌, ◌++◌, refl, sym, ap, ◌∙◌, subst, arith, length}
-use Rattle.std.proofs.Common.{take}
-use Rattle.std.specs.List.{list_any}
-use Rattle.std.proofs.lemmas.Bool.Decides.{nat_tests}
-use Rattle.std.proofs.lemmas.List.Folds.{list_any-append}
-use Rattle.am_base.specs.declared.outcome.Outcome.{Outcome}
+use Rattle.am_stands.proofs.Words.{◌≡◌, ℕ, ◌+◌, ◌≤◌, ◌==◌, ◌||◌, Bool, true, false, if◌then◌else◌, List, [], ◌∷◌, ◌++◌, refl, sym, ap, ◌∙◌, subst, arith}
+use Rattle.am_stands.proofs.Words.{length, take, list_any, nat_tests, list_any-append, Outcome, Entry, Event, image_of, Group, put, with_node, Node, set_at}
+use Rattle.am_stands.proofs.Words.{has_departed, up_to_next, World, current, is_stopped, with_record, lives_on, split, actor, idles, returns, steps}
+use Rattle.am_stands.proofs.Words.{NameStands, FrontsStand, Stands, EventsStand, EventStands, no_move, stop}
+use Rattle.am_effects.specs.Events.{stops}
 use Rattle.am_base.specs.declared.outcome.Outcome.TheVariants as said
-use Rattle.am_base.specs.declared.entry.Entry.{Entry}
-use Rattle.am_group.specs.declared.event.Event.{Event}
-use Rattle.am_chain_lists.specs.Whole.{image_of}
 use Rattle.am_chain_moves.specs.Group as groups
-use Rattle.am_chain_moves.specs.Group.{Group, put}
-use Rattle.am_chain_moves.specs.Moves.{with_node}
-use Rattle.am_model.specs.Node.{Node, set_at, has_departed}
-use Rattle.am_play.specs.Claims.{up_to_next}
-use Rattle.am_play.specs.World.{World, current, is_stopped, with_record, lives_on}
-use Rattle.am_base.proofs.Greatest.{split}
-use Rattle.am_effects.specs.Events.{actor, idles, stops, returns, steps}
-use Rattle.am_stands.specs.Standing.{NameStands, FrontsStand, Stands}
-use Rattle.am_stands.specs.Steps.{EventsStand, EventStands, no_move, stop}
 use Rattle.am_stands.proofs.Names.{name_in, views_in}
 
 -- ---- a record more

@@ -1,38 +1,18 @@
 -- The Gone that is sent is so: its name has stopped, or all who have to have stored its Leave.
-use Rattle.std.proofs.Common.{◌≡◌, ◌≢◌, ℕ, ◌+◌, ◌-◌, ◌<◌, ◌≤◌, ◌==◌, ◌&&◌, nat_lt, nat_le, true, false, List, [], ◌∷◌, ◌++◌, length, take, set, get_or}
-use Rattle.std.proofs.Common.{slice_index, Option, Some, None, refl, sym, ap, ◌∙◌, subst, arith}
-use Rattle.std.proofs.lemmas.Bool.Decides.{nat_tests}
-use Rattle.std.proofs.lemmas.List.{length-set, get_or-set_other}
-use Rattle.am_base.specs.declared.entry.Entry.{Entry}
-use Rattle.am_base.specs.declared.entry.Entry.TheVariants.{Leave, View}
-use Rattle.am_base.specs.declared.image.Image.{Image}
-use Rattle.am_base.specs.Names.{place_of, life_of, name_at, has, without_name}
-use Rattle.am_base.specs.Lists.{top_of, members_of, members_at, row_of}
-use Rattle.am_core.specs.Cores.{unions}
-use Rattle.am_core.proofs.Lives.{unions_long, unions_most, unions_least}
-use Rattle.am_fronts.proofs.Leaders.{least_in}
-use Rattle.am_chain_lists.specs.Whole.{Begins, image_of, mem}
-use Rattle.am_chain_lists.proofs.Prefixes.{begins_refl, begins_more, begins_trans, begins_both, begins_take, length_push, length_take}
-use Rattle.am_chain_lists.proofs.Rows.{by_cases, mod16}
-use Rattle.am_chain_lists.proofs.Members.{good_begins, long_told, mem_between, leaver_out}
-use Rattle.am_chain_moves.specs.Group as groups
-use Rattle.am_chain_moves.specs.Group.{Group, IsThere}
-use Rattle.am_model.specs.Node as nodes
-use Rattle.am_model.specs.Node.{Node, is_sequencer, only_name}
-use Rattle.am_model.specs.Refresh.{concerned_names}
-use Rattle.am_model.specs.Joining.{all_stored, may_go}
+use Rattle.am_stands.proofs.Words.{only_is, split, ◌≡◌, ◌≢◌, ℕ, ◌+◌, ◌-◌, ◌<◌, ◌≤◌, ◌==◌, ◌&&◌, nat_lt, nat_le, true, false, List, [], ◌∷◌, ◌++◌, length}
+use Rattle.am_stands.proofs.Words.{take, set, get_or, slice_index, Option, Some, None, refl, sym, ap, ◌∙◌, subst, arith, nat_tests, length-set}
+use Rattle.am_stands.proofs.Words.{get_or-set_other, Entry, Leave, View, Image, place_of, life_of, name_at, has, without_name, top_of, members_of, members_at}
+use Rattle.am_stands.proofs.Words.{row_of, unions, unions_long, unions_most, unions_least, least_in, Begins, image_of, mem, begins_refl, begins_more}
+use Rattle.am_stands.proofs.Words.{begins_trans, begins_both, begins_take, length_push, length_take, mod16, good_begins, long_told, mem_between, leaver_out}
+use Rattle.am_stands.proofs.Words.{Group, IsThere, Node, is_sequencer, only_name, concerned_names, all_stored, World, and_both, NameStands, FrontsStand}
+use Rattle.am_stands.proofs.Words.{Trimmed, GoneSays, has_stopped, ReportsStand, LeftOut}
+use Rattle.am_model.specs.Joining.{may_go}
 use Rattle.am_model.specs.Sequencing.{row_at}
-use Rattle.am_play.specs.World.{World}
-use Rattle.am_base.proofs.Greatest.{and_both}
-use Rattle.am_stands.specs.Standing.{NameStands, FrontsStand}
+use Rattle.am_chain_moves.specs.Group as groups
+use Rattle.am_model.specs.Node as nodes
 use Rattle.am_stands.specs.Letters as letters
-use Rattle.am_stands.specs.Letters.{Trimmed, GoneSays, has_stopped}
-use Rattle.am_stands.specs.States.{ReportsStand, LeftOut}
-use Rattle.am_stands.proofs.Changes.{told_all, long_all}
-use Rattle.am_stands.proofs.Leaving.{LeavesAt, by_leave, by_view, leaves_at}
-use Rattle.am_stands.proofs.Parts.{image_whole, number_low}
-use Rattle.am_stands.proofs.Sent.{OnChain, on_chain, Speaks}
-use Rattle.am_stands.proofs.Votes.{only_one}
+use Rattle.am_stands.proofs.{Changes.told_all, Changes.long_all, Leaving.LeavesAt, Leaving.by_leave, Leaving.by_view, Leaving.leaves_at, Parts.image_whole}
+use Rattle.am_stands.proofs.{Parts.number_low, Sent.OnChain, Sent.on_chain, Sent.Speaks}
 
 -- ---- who is concerned, by numbers
 
@@ -61,7 +41,7 @@ concerned_long v i n a h low =
 
 -- another name is one of the others
 without_has : (names : List ℕ) (who j : ℕ) → length names ≡ 16 → has names j ≡ true → j ≢ who → has (without_name names who) j ≡ true
-without_has names who j long in_ other = by_cases (has names who)
+without_has names who j long in_ other = split (has names who)
     (λ t.
     let at : slice_index names (place_of j) ≡ life_of j = grind (arith, nat_tests) in
     let own : slice_index names (place_of who) ≡ life_of who = grind (arith, nat_tests) in
@@ -72,7 +52,7 @@ without_has names who j long in_ other = by_cases (has names who)
     (λ f. rw f in_)
 
 without_long : (names : List ℕ) (who : ℕ) → length (without_name names who) ≡ length names
-without_long names who = by_cases (has names who) (λ t. rw t (length-set names (place_of who) 0)) (λ f. rw f refl)
+without_long names who = split (has names who) (λ t. rw t (length-set names (place_of who) 0)) (λ f. rw f refl)
 
 -- each of a set has reported what all have
 stored_by : (n : Node) (names : List ℕ) (number j : ℕ) → length names ≡ 16 → has names j ≡ true → all_stored n names number ≡ true
@@ -149,7 +129,7 @@ module _ (v : World) (i : ℕ) (n : Node) (s : Group) (h : MayLetGo v i n s) (na
       let told_ = fronts.told in
       let given = fronts.acc in
       let acc = h.fronts.acc in
-      by_cases (nat_lt n.core.base (n.reports j).stored)
+      split (nat_lt n.core.base (n.reports j).stored)
       (λ t.
       let above : n.core.base < (n.reports j).stored = grind (arith, nat_tests) in
       let has_it = h.reports.true_ j (h.names j in_all) (record { upto = list; begins = begins_refl list; from = number_low list; member = last }) above in
@@ -197,4 +177,4 @@ gone_said v i n s name h may =
 -- to the leaver alone
 pub gone_says : (v : World) (i : ℕ) (n : Node) (s : Group) (name : ℕ) → MayLetGo v i n s → may_go n name ≡ true → (j : ℕ) → has (only_name name) j ≡ true
     → GoneSays s (row_at n name).left j
-gone_says v i n s name h may j in_ = subst (GoneSays s (row_at n name).left) (sym (only_one name j in_)) (gone_said v i n s name h may)
+gone_says v i n s name h may j in_ = subst (GoneSays s (row_at n name).left) (sym (only_is name j in_)) (gone_said v i n s name h may)

@@ -1,18 +1,12 @@
 -- With each move a group goes on as letters need it.
-use Rattle.std.proofs.Common.{◌≡◌, inl, inr, ⊎_elim, ℕ, ◌==◌, List, [], ◌∷◌, ◌++◌, length, take, true, false, Some, refl, sym, ap, ◌∙◌, subst, arith}
-use Rattle.std.proofs.lemmas.Bool.Decides.{nat_tests}
-use Rattle.am_base.specs.declared.entry.Entry.{Entry}
-use Rattle.am_base.specs.declared.entry.Entry.TheVariants.{Leave}
-use Rattle.am_chain_lists.specs.Whole.{Begins, view_of, key}
-use Rattle.am_chain_lists.proofs.Prefixes.{begins_refl, begins_nil, begins_more, begins_trans, begins_both, begins_take, length_take}
+use Rattle.am_stands.proofs.Words.{split, ◌≡◌, inl, inr, ⊎_elim, ℕ, ◌==◌, List, [], ◌∷◌, ◌++◌, length, take, true, false, Some, refl, sym, ap, ◌∙◌, subst}
+use Rattle.am_stands.proofs.Words.{arith, nat_tests, Entry, Leave, Begins, view_of, key, begins_refl, begins_nil, begins_more, begins_trans, begins_both}
+use Rattle.am_stands.proofs.Words.{begins_take, length_take, Group, put, put2, opening, MayAccept, with_node, with_line, with_choice, choice_of, longer}
+use Rattle.am_stands.proofs.Words.{numbers, stores, accepts, learns, begins, raises, shows, serves, fetches, gives_over, welcomes, asks, departs, closes}
+use Rattle.am_stands.proofs.Words.{stops, Kept, own_above, put_at, put2_cases, NameGrows, NewView, Grows, MovesGrow}
+use Rattle.am_chain_moves.specs.Group.{Leads}
+use Rattle.am_chain_moves.specs.Moves.{decides}
 use Rattle.am_chain_moves.specs.Group as groups
-use Rattle.am_chain_moves.specs.Group.{Group, Views, put, put2, chain_of, opening, Leads, MayAccept}
-use Rattle.am_chain_moves.specs.Moves.{with_node, with_line, with_choice, choice_of, longer, numbers, stores, accepts, learns, begins, raises, shows, serves}
-use Rattle.am_chain_moves.specs.Moves.{fetches, decides, gives_over, welcomes, asks, departs, closes, stops}
-use Rattle.am_chain_moves.specs.Kept.{Kept}
-use Rattle.am_chain_moves.proofs.Nodes.{own_above}
-use Rattle.am_chain_moves.proofs.Puts.{by_cases, put_at, put2_cases}
-use Rattle.am_stands.specs.Growing.{NameGrows, NewView, Grows, MovesGrow}
 
 -- ---- one name
 
@@ -88,7 +82,7 @@ decision_grows s i members resilience fresh new = record {
   group = begins_refl s.group;
   lines = λ x d. (let f = other x d in rw f (begins_refl (s.views.line x)));
   decided = λ x d. (let f = other x d in (rw f d, rw f refl));
-  new = λ x d. by_cases (x == key (s.node i).promise)
+  new = λ x d. split (x == key (s.node i).promise)
       (λ t. inr (let same : x ≡ key (s.node i).promise = grind (arith, nat_tests) in subst (NewView s (with_choice s i members resilience)) (sym same) new))
       (λ f. inl (rw f at d));
   shown = λ x j list is. is;
@@ -96,7 +90,7 @@ decision_grows s i members resilience fresh new = record {
 }
   where
     other : (x : ℕ) → s.views.decided x ≡ true → (x == key (s.node i).promise) ≡ false
-    other x d = by_cases (x == key (s.node i).promise)
+    other x d = split (x == key (s.node i).promise)
         (λ t. absurd (let same : x ≡ key (s.node i).promise = grind (arith, nat_tests) in let z = ap s.views.decided same in cc))
         (λ f. f)
 

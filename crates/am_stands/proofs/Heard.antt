@@ -1,40 +1,13 @@
 -- What a change needs of the group, from what a letter says and what every run of the group keeps.
-use Rattle.std.proofs.Common.{◌≡◌, ◌≢◌, ℕ, suc, ◌+◌, ◌<◌, ◌==◌, ◌&&◌, not, nat_lt, List, length, true, false, Some, slice_get, refl, sym, ap, ◌∙◌, subst, arith}
-use Rattle.std.proofs.lemmas.Bool.Decides.{nat_tests}
-use Rattle.am_base.specs.declared.entry.Entry.{Entry}
-use Rattle.am_base.specs.declared.entry.Entry.TheVariants.{Data, View}
-use Rattle.am_base.specs.declared.name.Stamp.{Stamp}
-use Rattle.am_base.specs.declared.image.Image.{Image}
-use Rattle.am_base.specs.declared.image.Report.{Report}
-use Rattle.am_base.specs.Names.{has}
-use Rattle.am_base.specs.Stamps.{stamp_eq}
-use Rattle.am_base.specs.Lists.{row_of, fits, members_of}
+use Rattle.am_stands.proofs.Words.{same_stamp, ◌≡◌, ◌≢◌, ℕ, suc, ◌+◌, ◌<◌, ◌==◌, ◌&&◌, not, nat_lt, List, length, true, false, Some, slice_get, refl, sym, ap}
+use Rattle.am_stands.proofs.Words.{◌∙◌, subst, arith, nat_tests, Entry, Data, View, Stamp, Image, Report, has, stamp_eq, row_of, fits, members_of, OwnSend}
+use Rattle.am_stands.proofs.Words.{item_at, image_of, key, Group, IsUp, MayNumber, Kept, Node, view, is_member, acts, has_own_leave, body_of, hears_member}
+use Rattle.am_stands.proofs.Words.{hears_in_view, hears_sequencer, World, is_stopped, and_both, Cause, hears, MayStore, Numbers, asked_send, own_send}
+use Rattle.am_stands.proofs.Words.{asked_join, asked_leave, known_member, leave_fits, NameStands, within, line, IsDecided, EntrySays, OrderSays, LeaverSays}
+use Rattle.am_stands.proofs.Words.{of_view, before_it, ResultSays, BodiesAsked, SendsOnce, NamesNamed, NeedsNumber, IsOthers, NeedsEntry}
 use Rattle.am_packet.specs.declared.packet.Packet.TheVariants as packet
-use Rattle.am_sender.specs.declared.OwnSend.{OwnSend}
-use Rattle.am_group.specs.Journals.{item_at}
-use Rattle.am_chain_lists.specs.Whole.{image_of, key}
-use Rattle.am_chain_moves.specs.Group.{Group, IsUp}
-use Rattle.am_chain_moves.specs.Moves.{MayNumber}
-use Rattle.am_chain_moves.specs.Kept.{Kept}
 use Rattle.am_model.specs.Node as nodes
-use Rattle.am_model.specs.Node.{Node, view, is_member, acts, has_own_leave}
-use Rattle.am_model.specs.Receiving.{body_of}
-use Rattle.am_model.specs.Hearing.{hears_member, hears_in_view, hears_sequencer}
-use Rattle.am_play.specs.World.{World, is_stopped}
-use Rattle.am_base.proofs.Greatest.{and_both}
-use Rattle.am_effects.specs.Causes.{Cause, hears}
-use Rattle.am_effects.specs.Changes.{MayStore, Numbers, asked_send, own_send, asked_join, asked_leave}
-use Rattle.am_laws.proofs.Stamps.{same_stamp}
-use Rattle.am_laws.proofs.Taken.{known_member, leave_fits}
-use Rattle.am_stands.specs.Standing.{NameStands, within}
-use Rattle.am_stands.specs.Letters.{line, IsDecided, EntrySays, OrderSays, LeaverSays, of_view, before_it, ResultSays}
-use Rattle.am_stands.specs.States.{BodiesAsked, SendsOnce}
-use Rattle.am_stands.specs.Moving.{NamesNamed}
-use Rattle.am_stands.specs.Steps.{NeedsNumber, IsOthers, NeedsEntry}
-use Rattle.am_stands.proofs.Changes.{told_whole, long_all, is_up}
-use Rattle.am_stands.proofs.Entries.{IsLeading}
-use Rattle.am_stands.proofs.Growing.{leads_line}
-use Rattle.am_stands.proofs.Ongoing.{is_ongoing}
+use Rattle.am_stands.proofs.{Changes.told_whole, Changes.long_all, Changes.is_up, Entries.IsLeading, Growing.leads_line, Ongoing.is_ongoing}
 
 -- ---- an entry of a decided view's line
 
@@ -42,9 +15,8 @@ pub item_next : (list : List Entry) (n : ℕ) (e : Entry) (number : ℕ) → num
 item_next list n e number is at = let z : number ≡ suc n = omega arith in ap (item_at list) (sym z) ∙ at
 
 pub entry_needs : (w : World) (name number : ℕ) (x : Node) (v : Stamp) (e : Entry) (s : Group) → Kept s → x.core.who ≡ name
-    → NameStands (within w name x) name x (s.node name) → IsUp (s.node name)
-    → x.core.promise ≡ v → v.by ≢ name → IsOthers name x e → IsDecided s v → item_at (line s v) number ≡ Some e → number ≡ nodes.top x + 1
-    → has_own_leave x ≡ false → NeedsEntry s name x e
+    → NameStands (within w name x) name x (s.node name) → IsUp (s.node name) → x.core.promise ≡ v → v.by ≢ name → IsOthers name x e → IsDecided s v
+    → item_at (line s v) number ≡ Some e → number ≡ nodes.top x + 1 → has_own_leave x ≡ false → NeedsEntry s name x e
 entry_needs w name number x v e s k who old up promise other others decided at next stays =
     let a = s.node name in
     let promised : a.promise ≡ v = old.promise ∙ promise in
@@ -143,19 +115,15 @@ leaves_of s from v report (before_it leaves h) = leaves
 number_may : (name : ℕ) (c : Cause) (x : Node) (e : Entry) (s : Group) → x.core.who ≡ name
     → ((from : ℕ) (v : Stamp) (report : Report) → c ≡ hears (packet.LeaveAsk from v report) → LeaverSays s from v report) → Numbers c x e
     → MayNumber s.node name e
-number_may name c x e s who asks (asked_send from v report req body by known stays next) = tt
-number_may name c x e s who asks (own_send q is last) = tt
-number_may name c x e s who asks (asked_join from v is other f) = tt
 number_may name c x e s who asks (asked_leave from v report is other known stays) = (
   leaves_of s from v report (asks from v report is),
   λ same. (let z : (from == x.core.who) ≡ true = grind (arith, nat_tests) in cc),
 )
+number_may name c x e s who asks _ = tt
 
 number_named : (c : Cause) (x : Node) (e : Entry) → ((from : ℕ) (v : Stamp) → c ≡ hears (packet.JoinAsk from v) → from < 256) → Numbers c x e → NamesNamed e
-number_named c x e small (asked_send from v report req body by known stays next) = tt
-number_named c x e small (own_send q is last) = tt
 number_named c x e small (asked_join from v is other f) = small from v is
-number_named c x e small (asked_leave from v report is other known stays) = tt
+number_named c x e small _ = tt
 
 pub number_needs : (w : World) (name : ℕ) (c : Cause) (x : Node) (e : Entry) (s : Group) → Kept s → x.core.who ≡ name → is_stopped w name ≡ false
     → NameStands (within w name x) name x (s.node name) → IsLeading name x (s.node name) → length (nodes.image_of x).rows ≡ 16

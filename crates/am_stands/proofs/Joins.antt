@@ -1,19 +1,10 @@
 -- Where a name became a member of a list: its row tells the number.
-use Rattle.std.proofs.Common.{◌≡◌, ◌≢◌, ◌⊎◌, inl, inr, ⊎_elim, ℕ, ◌+◌, ◌<◌, ◌≤◌, ◌==◌, ◌&&◌, not, nat_lt, true, false, List, [], ◌∷◌, ◌++◌, length, take}
-use Rattle.std.proofs.Common.{slice_index, refl, sym, ap, ◌∙◌, subst, arith}
-use Rattle.std.proofs.lemmas.Bool.Decides.{nat_tests}
-use Rattle.std.proofs.lemmas.List.{append_assoc}
-use Rattle.am_base.specs.declared.entry.Entry.{Entry}
-use Rattle.am_base.specs.declared.entry.Entry.TheVariants.{Data, Join, Leave, View}
-use Rattle.am_base.specs.declared.image.Row.{Row}
-use Rattle.am_base.specs.declared.image.Image.{Image}
-use Rattle.am_base.specs.Names.{place_of, life_of, has}
-use Rattle.am_base.specs.Lists.{is_blank, at_place, row_of, member_life, members_of, with_row, row_after_view, fits, after}
-use Rattle.am_chain_lists.specs.Whole.{Begins, IsGood, image_of, mem}
-use Rattle.am_chain_lists.proofs.Prefixes.{begins_refl, begins_more, begins_both, begins_length, length_push, take_begins}
-use Rattle.am_chain_lists.proofs.Rows.{by_cases, and_left, row_at, row_view, In, Past, Was, mod16, row_set, blank_joined, past_after, not_both, view_parts}
-use Rattle.am_chain_lists.proofs.Members.{good_begins, told_push, last_fits, long_told, mem_in, in_mem, mem_nil, viewed_mem, was_begins}
-use Rattle.am_model.specs.Receiving.{is_view}
+use Rattle.am_stands.proofs.Words.{same_name, split, ◌≡◌, ◌≢◌, ◌⊎◌, inl, inr, ⊎_elim, ℕ, ◌+◌, ◌<◌, ◌≤◌, ◌==◌, ◌&&◌, not, nat_lt, true, false, List, [], ◌∷◌}
+use Rattle.am_stands.proofs.Words.{◌++◌, length, take, slice_index, refl, sym, ap, ◌∙◌, subst, arith, nat_tests, append_assoc, Entry, Data, Join, Leave, View}
+use Rattle.am_stands.proofs.Words.{Row, Image, place_of, life_of, has, is_blank, at_place, row_of, member_life, members_of, with_row, row_after_view, fits}
+use Rattle.am_stands.proofs.Words.{after, Begins, IsGood, image_of, mem, begins_refl, begins_more, begins_both, begins_length, length_push, take_begins}
+use Rattle.am_stands.proofs.Words.{and_left, row_at, row_view, In, Past, Was, mod16, row_set, blank_joined, past_after, not_both, view_parts, good_begins}
+use Rattle.am_stands.proofs.Words.{told_push, last_fits, long_told, mem_in, in_mem, mem_nil, viewed_mem, was_begins, is_view}
 use Rattle.am_stands.proofs.Ends.{taken_more}
 
 -- ---- a Join
@@ -44,9 +35,6 @@ joined_once a name good was =
 
 -- ---- what a row was before an entry
 
-same_name : (a b : ℕ) → place_of a ≡ place_of b → life_of a ≡ life_of b → a ≡ b
-same_name a b place life = omega arith
-
 -- a name that is a member now was one, or this is its Join, or the first View
 pub data Becomes (image : Image) (n : ℕ) (e : Entry) (name : ℕ) : Type 0 where
   stayed : In (row_at image (place_of name)) (life_of name) → (row_at (after image n e) (place_of name)).joined ≡ (row_at image (place_of name)).joined
@@ -67,7 +55,7 @@ with_other image who name r long h = ⊎_elim
 pub became : (image : Image) (n : ℕ) (e : Entry) (name : ℕ) → length image.rows ≡ 16 → 0 < n
     → In (row_at (after image n e) (place_of name)) (life_of name) → Becomes image n e name
 unfolding after
-became image n (Data from req body) name long some = by_cases ((at_place image from).life == life_of from)
+became image n (Data from req body) name long some = split ((at_place image from).life == life_of from)
     (λ t.
     let r : Row = record (at_place image from) { last = req } in
     rw t (λ h. ⊎_elim
@@ -88,7 +76,7 @@ became image n (Join joiner) name long some = λ h.
     (λ (z : In (row_at image (place_of name)) (life_of name) × (row_at (with_row image joiner r) (place_of name) ≡ row_at image (place_of name))).
     stayed z.0 (ap (λ (q : Row). q.joined) z.1))
     (with_other image joiner name r long h)
-became image n (Leave leaver) name long some = by_cases ((at_place image leaver).life == life_of leaver)
+became image n (Leave leaver) name long some = split ((at_place image leaver).life == life_of leaver)
     (λ t.
     let r : Row = record (at_place image leaver) { left = n } in
     rw t (λ h. ⊎_elim
@@ -102,7 +90,7 @@ became image n (View stamp names resilience) name long some = λ h.
     let place = place_of name in
     let is = row_view image n stamp names resilience place (mod16 name) in
     let now = subst (λ q. In q (life_of name)) is h in
-    by_cases (is_blank image)
+    split (is_blank image)
     (λ t. first t is (ap (λ b. row_after_view b n (slice_index names place) (row_at image place)) t) now)
     (λ f. later is (ap (λ b. row_after_view b n (slice_index names place) (row_at image place)) f) now)
   where
@@ -112,7 +100,7 @@ became image n (View stamp names resilience) name long some = λ h.
         ≡ row_after_view true n (slice_index names (place_of name)) (row_at image (place_of name))
         → In (row_after_view (is_blank image) n (slice_index names (place_of name)) (row_at image (place_of name))) (life_of name)
         → Becomes image n (View stamp names resilience) name
-    first t is same now = by_cases (slice_index names (place_of name) == 0)
+    first t is same now = split (slice_index names (place_of name) == 0)
         (λ u. absurd (let old : In (row_at image (place_of name)) (life_of name) = rw u at (subst (λ q. In q (life_of name)) same now) in
         let none = blank_joined image (place_of name) t in let j = old.joined in omega arith))
         (λ f. founds refl t (ap (λ (q : Row). q.joined) (is ∙ same) ∙ rw f refl))
@@ -123,7 +111,7 @@ became image n (View stamp names resilience) name long some = λ h.
         ≡ row_after_view false n (slice_index names (place_of name)) (row_at image (place_of name))
         → In (row_after_view (is_blank image) n (slice_index names (place_of name)) (row_at image (place_of name))) (life_of name)
         → Becomes image n (View stamp names resilience) name
-    later is same now = by_cases (nat_lt 0 (member_life (row_at image (place_of name))) && not
+    later is same now = split (nat_lt 0 (member_life (row_at image (place_of name))) && not
         (member_life (row_at image (place_of name)) == slice_index names (place_of name)))
         (λ u. absurd (let k : In (record (row_at image (place_of name)) { left = n }) (life_of name) = rw u at (subst (λ q. In q (life_of name)) same now) in
         let none = k.left in omega arith))

@@ -1,62 +1,22 @@
 -- What a node keeps besides what it shares with the group, and what is known of it within a step.
-use Rattle.std.proofs.Common.{◌≡◌, ℕ, ◌<◌, ◌==◌, ◌||◌, not, max, true, false, List}
-use Rattle.std.proofs.Common.{Some, refl, sym, ap, ◌∙◌, subst, arith}
-use Rattle.std.proofs.lemmas.Bool.Decides.{nat_tests}
-use Rattle.am_base.specs.declared.entry.Entry.{Entry}
-use Rattle.am_base.specs.declared.entry.Entry.TheVariants.{View}
-use Rattle.am_base.specs.declared.image.Image.{Image}
-use Rattle.am_base.specs.declared.image.Vote.{Vote}
-use Rattle.am_base.specs.declared.name.Stamp.{Stamp}
-use Rattle.am_base.specs.declared.outcome.Outcome.{Outcome}
-use Rattle.am_base.specs.Founding.{Rules}
-use Rattle.am_base.specs.Names.{IsSet, has}
-use Rattle.am_base.specs.Stamps.{stamp_eq}
-use Rattle.am_base.specs.Lists.{members_of}
+use Rattle.am_stands.proofs.Words.{not-true, same_stamp, ◌≡◌, ℕ, ◌<◌, ◌==◌, ◌||◌, not, max, true, false, List, Some, refl, sym, ap, ◌∙◌, subst, arith}
+use Rattle.am_stands.proofs.Words.{nat_tests, Entry, View, Image, Vote, Stamp, Outcome, Rules, IsSet, has, stamp_eq, members_of, IsGood, mem, key}
+use Rattle.am_stands.proofs.Words.{good_begins, view_small, Group, IsUp, chain_of, Kept, Status, Node, Ballot, view, members, is_member, is_asking}
+use Rattle.am_stands.proofs.Words.{is_sequencer, acts, lowest_or_first, has_log, has_departed, Verdict, is_unfinished, hears_member, hears_sequencer, World}
+use Rattle.am_stands.proofs.Words.{is_stopped, split, and_both, Cause, hears, Balloting, Looks, decides, with_more, without_one, as_it_is, Numbers, MayStore}
+use Rattle.am_stands.proofs.Words.{MayBeWelcomed, Fetches, Promises, invited, overtaken, told_result, Carries, whole_entry, by_number, Change, begins_list}
+use Rattle.am_stands.proofs.Words.{looks, stores_view, looked_vote, told_used, OpenBallot, looked_at, MaySend, body_of_sent, NameStands, within, WasAsked}
+use Rattle.am_stands.proofs.Words.{BodiesAsked, WasBegun, MayMove, NeedsNumber, NeedsEntry, NeedsWelcome, Needs, NeedsLook, NeedsPiece, KeptWhole}
+use Rattle.am_stands.proofs.Words.{BallotStands, LastStands, Stepping}
+use Rattle.am_effects.specs.Changes.{numbers, stores, fetches, closes}
 use Rattle.am_packet.specs.declared.packet.Packet.TheVariants as packet
-use Rattle.am_chain_lists.specs.Whole.{IsGood, mem, key}
-use Rattle.am_chain_lists.proofs.Members.{good_begins}
-use Rattle.am_chain_lists.proofs.Order.{view_small}
-use Rattle.am_chain_moves.specs.Group.{Group, IsUp, chain_of}
-use Rattle.am_chain_moves.specs.Kept.{Kept}
-use Rattle.am_model.specs.declared.status.Status.{Status}
 use Rattle.am_model.specs.declared.status.Status.TheVariants as status
-use Rattle.am_model.specs.Node.{Node, Ballot, view, members, is_member, is_asking, is_sequencer, acts, lowest_or_first, has_log, has_departed}
-use Rattle.am_model.specs.Ballots.{Verdict}
-use Rattle.am_model.specs.Calls.{is_unfinished}
-use Rattle.am_model.specs.Hearing.{hears_member, hears_sequencer}
-use Rattle.am_play.specs.World.{World, is_stopped}
-use Rattle.am_base.proofs.Greatest.{split, and_both}
-use Rattle.am_effects.specs.Causes.{Cause, hears}
-use Rattle.am_effects.specs.Looks.{Balloting, Looks, decides, with_more}
-use Rattle.am_effects.specs.Looks.{without_one, as_it_is}
-use Rattle.am_effects.specs.Changes.{Numbers, MayStore, MayBeWelcomed, Fetches}
-use Rattle.am_effects.specs.Changes.{Promises, invited, overtaken, told_result, Carries, whole_entry, by_number, Change}
-use Rattle.am_effects.specs.Changes.{numbers, stores, begins_list}
-use Rattle.am_effects.specs.Changes.{looks, fetches, stores_view, closes}
-use Rattle.am_effects.proofs.Tests.{not_true}
-use Rattle.am_laws.proofs.Stamps.{same_stamp}
-use Rattle.am_laws.proofs.Taken.{looked_vote}
-use Rattle.am_laws.proofs.Trims.{told_used}
-use Rattle.am_laws.proofs.ViewChanges.{OpenBallot, looked_at}
 use Rattle.am_sent.proofs.Kept as sent
-use Rattle.am_sent.proofs.Changes.{MaySend, body_of_sent}
-use Rattle.am_stands.specs.Standing.{NameStands, within}
 use Rattle.am_stands.specs.Letters as says
-use Rattle.am_stands.specs.Letters.{WasAsked}
-use Rattle.am_stands.specs.States.{BodiesAsked}
-use Rattle.am_stands.specs.Steps.{WasBegun, MayMove, NeedsNumber, NeedsEntry, NeedsWelcome, Needs, NeedsLook, NeedsPiece}
-use Rattle.am_stands.specs.Sending.{KeptWhole}
-use Rattle.am_stands.proofs.Changes.{looked_open, own_name, is_up, told_whole}
-use Rattle.am_stands.proofs.ChainNames.{front_named, members_named}
-use Rattle.am_stands.proofs.Entries.{is_leading, view_whole}
-use Rattle.am_stands.proofs.Heard.{bcast_needs, order_needs, result_needs, number_needs}
-use Rattle.am_stands.proofs.Onward.{group_kept, group_whole}
-use Rattle.am_stands.proofs.Pieces.{piece_needs}
-use Rattle.am_stands.proofs.Requests.{own_fits}
-use Rattle.am_stands.proofs.Shown.{looked_votes}
-use Rattle.am_stands.proofs.Votes.{BallotKnown, decision_needs, undecided}
-use Rattle.am_stands.proofs.Welcomes.{welcome_needs}
-use Rattle.am_stands.specs.Keeping.{BallotStands, LastStands, Stepping}
+use Rattle.am_stands.proofs.{Changes.looked_open, Changes.own_name, Changes.is_up, Changes.told_whole, ChainNames.front_named, ChainNames.members_named}
+use Rattle.am_stands.proofs.{Entries.is_leading, Entries.view_whole, Heard.bcast_needs, Heard.order_needs, Heard.result_needs, Heard.number_needs}
+use Rattle.am_stands.proofs.{Onward.group_kept, Onward.group_whole, Pieces.piece_needs, Requests.own_fits, Shown.looked_votes, Votes.BallotKnown}
+use Rattle.am_stands.proofs.{Votes.decision_needs, Votes.undecided, Welcomes.welcome_needs}
 
 -- ---- a node
 
@@ -191,10 +151,8 @@ module _ (rules : Rules) (w : World) (name : ℕ) (c : Cause) (x : Node) (s : Gr
       (h.heard (packet.Order from v base acc number sender req) is).says.1
 
   asking_blank : (t : Status) → is_member t ≡ false → (is_member t || is_asking t) ≡ true → (has_log t ≡ false) × (has_departed t ≡ false)
-  asking_blank status.Stranger f k = absurd (cc)
   asking_blank status.Asking f k = (refl, refl)
-  asking_blank status.Member f k = absurd (cc)
-  asking_blank status.Departed f k = absurd (cc)
+  asking_blank _ f k = absurd (cc)
 
   welcome_ok : (from : ℕ) (v : Stamp) (base join : ℕ) (image : Image) → c ≡ hears (packet.Welcome from v base join image)
       → MayBeWelcomed x from v base join image → NeedsWelcome s name v base join image
@@ -222,7 +180,7 @@ module _ (rules : Rules) (w : World) (name : ℕ) (c : Cause) (x : Node) (s : Gr
   look_ok b v why _ = tt
 
   pub other_heard : (from : ℕ) → hears_member x from ≡ true → ((from == x.core.who) ≡ false) × (is_member x.status ≡ true)
-  other_heard from t = (let both = and_both (not (from == x.core.who)) (is_member x.status) t in (not_true (from == x.core.who) both.0, both.1))
+  other_heard from t = (let both = and_both (not (from == x.core.who)) (is_member x.status) t in (not-true (from == x.core.who) both.0, both.1))
 
   fetch_ok : (from : ℕ) (v : Stamp) (base number : ℕ) (e : Entry) → c ≡ hears (packet.Piece from v base number e) → hears_member x from ≡ true
       → stamp_eq v x.core.promise ≡ true → Fetches x from v e → MayStore x (max x.core.base base) base number e → NeedsPiece s name x e

@@ -1,69 +1,28 @@
 -- What a node keeps, through each of its changes.
-use Rattle.std.proofs.Common.{◌≡◌, ◌⊎◌, inl, inr, ⊎_elim, ℕ, ◌+◌, ◌≤◌, ◌==◌, ◌&&◌, ◌||◌, not, max, nat_lt, nat_le, if◌then◌else◌, Bool, true}
-use Rattle.std.proofs.Common.{false, List, [], ◌∷◌, ◌++◌, length, take, Option, Some, None, unwrap_or, refl, sym, ap, ◌∙◌, subst, arith}
-use Rattle.std.proofs.Common.{append-nil}
-use Rattle.std.proofs.lemmas.Bool.Decides.{nat_tests}
-use Rattle.std.proofs.lemmas.List.{append_assoc}
-use Rattle.am_base.specs.declared.entry.Entry.{Entry}
-use Rattle.am_base.specs.declared.entry.Entry.TheVariants.{View}
-use Rattle.am_base.specs.declared.image.Image.{Image}
-use Rattle.am_base.specs.declared.image.Report.{Report}
-use Rattle.am_base.specs.declared.image.Vote.{Vote}
-use Rattle.am_base.specs.declared.name.Stamp.{Stamp}
-use Rattle.am_base.specs.declared.outcome.Outcome.{Outcome}
+use Rattle.am_stands.proofs.Words.{none_of_asking, or_second, same_stamp, ◌≡◌, ◌⊎◌, inl, inr, ⊎_elim, ℕ, ◌+◌, ◌≤◌, ◌==◌, ◌&&◌, ◌||◌, not, max, nat_lt, nat_le}
+use Rattle.am_stands.proofs.Words.{if◌then◌else◌, Bool, true, false, List, [], ◌∷◌, ◌++◌, length, take, Option, Some, None, unwrap_or, refl, sym, ap, ◌∙◌}
+use Rattle.am_stands.proofs.Words.{subst, arith, append-nil, nat_tests, append_assoc, Entry, View, Image, Report, Vote, Stamp, Outcome, Rules, names_of}
+use Rattle.am_stands.proofs.Words.{stamp_lt, stamp_eq, fits, after, told_by, Packet, least_of, after_report, Begins, IsGood, key, good_begins, Group, opening}
+use Rattle.am_stands.proofs.Words.{Node, Ballot, view, acts, unsettled_count, is_member, is_asking, is_sequencer, push_entry, lowest_or_first, has_log}
+use Rattle.am_stands.proofs.Words.{Verdict, need_of, left_in, taken_by, is_unfinished, settle, World, is_stopped, split, and_both, Cause, hears, BringsSend}
+use Rattle.am_stands.proofs.Words.{by_request, by_spread, BringsReport, with_send, by_ack, by_nack, by_leave_ask, BringsFronts, with_entry, with_number}
+use Rattle.am_stands.proofs.Words.{alone, Balloting, Looks, finds_itself_out, waits, fetches_from_best, finds_too_few, finds_no_room, decides, HasLearned}
+use Rattle.am_stands.proofs.Words.{MayReport, Change, refreshes, settles, takes_report, admits, keeps_body, notes, begins_list, promises, opens, looks}
+use Rattle.am_stands.proofs.Words.{stores_view, queues, collects, takes, asks_to_join, asks_to_leave, logged, settle_is, told_pushed, Along, told_used}
+use Rattle.am_stands.proofs.Words.{NameStands, within, Trimmed, VoteTells, AllShown, Grows, FetchesStand, ReportsStand, ReportsFresh, OpensStand, IsNew}
+use Rattle.am_stands.proofs.Words.{IsConcerned, Reporting, BallotStands, Ballots, GroupFor, HeardSo, IsPlain, NodeKeeps, OwnTurn, Stepping}
+use Rattle.am_model.specs.Ballots.{overtake as overtaken_by}
+use Rattle.am_effects.specs.Changes.{numbers, stores, departs, fetches, closes}
 use Rattle.am_base.specs.declared.outcome.Outcome.TheVariants as said
-use Rattle.am_base.specs.Founding.{Rules}
-use Rattle.am_base.specs.Names.{names_of}
-use Rattle.am_base.specs.Stamps.{stamp_lt, stamp_eq}
-use Rattle.am_base.specs.Lists.{fits, after, told_by}
-use Rattle.am_packet.specs.declared.packet.Packet.{Packet}
 use Rattle.am_packet.specs.declared.packet.Packet.TheVariants as packet
-use Rattle.am_fronts.specs.Reports.{least_of, after_report}
-use Rattle.am_chain_lists.specs.Whole.{Begins, IsGood, key}
-use Rattle.am_chain_lists.proofs.Members.{good_begins}
-use Rattle.am_chain_moves.specs.Group.{Group, opening}
-use Rattle.am_model.specs.declared.status.Status.{Status}
-use Rattle.am_model.specs.declared.status.Status.TheVariants as status
 use Rattle.am_model.specs.Node as nodes
-use Rattle.am_model.specs.Node.{Node, Ballot, view, acts, unsettled_count, is_member, is_asking, is_sequencer, push_entry, lowest_or_first, has_log}
-use Rattle.am_model.specs.Ballots.{Verdict, overtake as overtaken_by, need_of, left_in, taken_by}
-use Rattle.am_model.specs.Calls.{is_unfinished}
-use Rattle.am_model.specs.Refresh.{settle}
-use Rattle.am_play.specs.World.{World, is_stopped}
-use Rattle.am_model.specs.Node.{has_departed}
-use Rattle.am_base.proofs.Greatest.{split, and_both}
-use Rattle.am_effects.specs.Causes.{Cause, hears, BringsSend, by_request, by_spread, BringsReport, with_send, by_ack, by_nack, by_leave_ask, BringsFronts}
-use Rattle.am_effects.specs.Causes.{with_entry, with_number, alone}
-use Rattle.am_effects.specs.Looks.{Balloting, Looks, finds_itself_out, waits, fetches_from_best, finds_too_few, finds_no_room, decides, HasLearned}
-use Rattle.am_model.specs.Hearing.{hears_member, hears_in_view, hears_sequencer}
-use Rattle.am_effects.specs.Changes.{MayReport, Change, refreshes, settles, takes_report, admits, numbers, keeps_body, notes, stores, begins_list}
-use Rattle.am_effects.specs.Changes.{departs, promises}
-use Rattle.am_effects.specs.Changes.{opens, looks, fetches, stores_view, queues, collects, takes, asks_to_join, asks_to_leave, closes}
-use Rattle.am_effects.proofs.Statuses.{logged}
-use Rattle.am_effects.proofs.Rests.{settle_is}
-use Rattle.am_effects.proofs.Says.{told_pushed}
-use Rattle.am_laws.proofs.Stamps.{same_stamp}
-use Rattle.am_laws.proofs.TakenRuns.{Along}
-use Rattle.am_laws.proofs.Trims.{told_used}
-use Rattle.am_stands.specs.Standing.{NameStands, within}
 use Rattle.am_stands.specs.Letters as says
-use Rattle.am_stands.specs.Letters.{Trimmed, VoteTells, AllShown}
-use Rattle.am_stands.specs.Growing.{Grows}
-use Rattle.am_stands.specs.States.{FetchesStand, ReportsStand, ReportsFresh, OpensStand, IsNew, IsConcerned, Reporting}
-use Rattle.am_stands.proofs.Changes.{or_last, long_all}
-use Rattle.am_stands.proofs.Onward.{group_kept}
-use Rattle.am_stands.proofs.Entries.{key_stamp}
-use Rattle.am_stands.proofs.Keeping.{kept, old, up, good, known, looked_last}
-use Rattle.am_stands.proofs.Keeping.{unfinished, sequencer_member, number_ok, other_heard}
-use Rattle.am_stands.proofs.Letters.{all_stay, trimmed_stays}
+use Rattle.am_stands.proofs.Keeping.{kept, old, up, good, known, looked_last, unfinished, sequencer_member, number_ok, other_heard}
 use Rattle.am_stands.proofs.Reporting.{reporting_grow, reporting_base, reporting_anew, reporting_admit, reporting_more, reporting_pushed, fits_new}
 use Rattle.am_stands.proofs.Reporting.{new_before, known_old, report_true, leaver_true}
-use Rattle.am_stands.proofs.Requests.{turn_grows, turn_queued, turn_collected, turn_settled}
-use Rattle.am_stands.proofs.Sent.{Speaks, Leading, leading}
-use Rattle.am_stands.proofs.Shown.{votes_grow}
-use Rattle.am_stands.proofs.Trimming.{trimmed_max, TakenKnown, votes_trim}
-use Rattle.am_stands.proofs.Votes.{best_shown}
-use Rattle.am_stands.specs.Keeping.{BallotStands, Ballots, GroupFor, HeardSo, IsPlain, NodeKeeps, OwnTurn, Stepping}
+use Rattle.am_stands.proofs.{Carried.hears_in_view_member, Changes.member_stays, Changes.long_all, Onward.group_kept, Entries.key_stamp, Letters.all_stay}
+use Rattle.am_stands.proofs.{Letters.trimmed_stays, Requests.turn_grows, Requests.turn_queued, Requests.turn_collected, Requests.turn_settled, Sent.Speaks}
+use Rattle.am_stands.proofs.{Sent.Leading, Sent.leading, Shown.votes_grow, Trimming.trimmed_max, Trimming.TakenKnown, Trimming.votes_trim, Votes.best_shown}
 
 -- ---- what stays, as the group goes on
 
@@ -105,9 +64,6 @@ ballots_open w s b o k votes shown = record {
   last = record { given = k.given; names = k.names };
 }
 
-not_shown : (o : Outcome) → ((from want : ℕ) → o ≡ said.Fetching from want → ⊥) → (from want : ℕ) → o ≡ said.Fetching from want → ⊥
-not_shown o f = f
-
 module _ (rules : Rules) (w : World) (name : ℕ) (c : Cause) (x : Node) (s : Group) (h : Stepping rules w name c x s) where
   -- a look
   looked : (b : Ballot) (v : Verdict) → Balloting c x b → Looks x b v → Ballots w s v.node.ballot
@@ -127,17 +83,20 @@ module _ (rules : Rules) (w : World) (name : ℕ) (c : Cause) (x : Node) (s : Gr
   looked b v why (finds_no_room y) = ballots_over w s b _ (looked_last rules w name c x s h b why)
   looked b v why (decides may) = ballots_over w s b _ (looked_last rules w name c x s h b why)
 
-stays_member : (t : Status) → is_member t ≡ true → has_departed t ≡ false
-stays_member status.Stranger h = refl
-stays_member status.Asking h = refl
-stays_member status.Member h = refl
-stays_member status.Departed h = absurd (cc)
-
 -- ---- each part, at the group that the moves of a change lead to
 
-module _ (rules : Rules) (w v : World) (name : ℕ) (c : Cause) (x y : Node) (s t : Group) (h : Stepping rules w name c x s) (g : Grows s t)
-    (gt : GroupFor rules t) (runs : is_stopped v name ≡ false) (group_ : v.group ≡ w.group)
-    (new : NameStands (within v name y) name y (t.node name)) where
+-- what stands once a change of a node has its group
+record Next (rules : Rules) (w v : World) (name : ℕ) (c : Cause) (x y : Node) (s t : Group) : Type 0 where
+  h : Stepping rules w name c x s
+  g : Grows s t
+  gt : GroupFor rules t
+  runs : is_stopped v name ≡ false
+  group_ : v.group ≡ w.group
+  new : NameStands (within v name y) name y (t.node name)
+
+module _ {rules : Rules} {w v : World} {name : ℕ} {c : Cause} {x y : Node} {s t : Group} (q : Next rules w v name c x y s t) where
+  open q use {h, g, gt, runs, group_, new}
+
   olds : NameStands (within w name x) name x (s.node name)
   olds = old rules w name c x s h
 
@@ -161,7 +120,7 @@ module _ (rules : Rules) (w v : World) (name : ℕ) (c : Cause) (x y : Node) (s 
       good_begins ((k_.each name).list (record {
         log = new.log_
             ∙ logged y.status u;
-        there = record { goes = new.stopped ∙ runs; stays = new.departed ∙ stays_member y.status u };
+        there = record { goes = new.stopped ∙ runs; stays = new.departed ∙ member_stays y.status u };
       })) k_.views.good
 
   good_same : y.core.log ≡ x.core.log → IsGood (t.node name).list
@@ -194,8 +153,7 @@ module _ (rules : Rules) (w v : World) (name : ℕ) (c : Cause) (x y : Node) (s 
   leaves_same log leaving u = log ∙ k.leaves (sym leaving ∙ u)
 
   keep : IsGood (t.node name).list → Ballots w t y.ballot → OpensStand y → ReportsStand t name y → ReportsFresh y → Trimmed t y.core.base
-      → OwnTurn y.core.who (t.node name).list y.sends
-      → (y.leaving ≡ true → has_log y.status ≡ true) → NodeKeeps w t name y
+      → OwnTurn y.core.who (t.node name).list y.sends → (y.leaving ≡ true → has_log y.status ≡ true) → NodeKeeps w t name y
   keep fine b o r f tr tu l = record { good = fine; ballots = b; opens = o; reports = r; fresh = f; trimmed = tr; turn = tu; leaves = l }
 
   -- nothing of that changes but sends, and no list
@@ -304,43 +262,23 @@ was_open : (v : Stamp) (ballot : Option Ballot) → is_unfinished (overtaken_by 
 was_open v None u = u
 was_open v (Some b) u = split (not b.is_over && stamp_lt b.stamp v) (λ t. absurd (let z = rw t at u in cc)) (λ f. rw f at u)
 
-module _ (rules : Rules) (w v : World) (name : ℕ) (c : Cause) (o : Outcome) (x y : Node) (s t : Group) (h : Stepping rules w name c x s) (g : Grows s t)
-    (gt : GroupFor rules t) (runs : is_stopped v name ≡ false) (group_ : v.group ≡ w.group)
-    (new : NameStands (within v name y) name y (t.node name)) (later : Along rules y) where
-  abbrev same : y.core.log ≡ x.core.log → y.core.who ≡ x.core.who → y.core.base ≡ x.core.base → y.reports ≡ x.reports → y.ballot ≡ x.ballot
-      → y.status ≡ x.status
-      → y.leaving ≡ x.leaving → OwnTurn y.core.who (t.node name).list y.sends → NodeKeeps w t name y
-  same = keep_same rules w v name c x y s t h g gt runs group_ new
-
-  abbrev turns : y.core.who ≡ x.core.who → y.sends ≡ x.sends → OwnTurn y.core.who (t.node name).list y.sends
-  turns = turn_same rules w v name c x y s t h g gt runs group_ new
-
-  abbrev parts : IsGood (t.node name).list → Ballots w t y.ballot → OpensStand y → ReportsStand t name y → ReportsFresh y → Trimmed t y.core.base
-      → OwnTurn y.core.who (t.node name).list y.sends
-      → (y.leaving ≡ true → has_log y.status ≡ true) → NodeKeeps w t name y
-  parts = keep rules w v name c x y s t h g gt runs group_ new
-
-  trims : (base : ℕ) → Trimmed s base → Trimmed t base
-  trims base k = trimmed_grow w s t base g k
-
+module _ {rules : Rules} {w v : World} {name : ℕ} {c : Cause} {x y : Node} {s t : Group} (q : Next rules w v name c x y s t) where
   -- its base stands within its list
-  base_within : y.core.base ≤ length (t.node name).list
-  base_within =
+  base_within : Along rules y → y.core.base ≤ length (t.node name).list
+  base_within later =
       let f = later.owned.fronts in
       let a = f.base in
       let b = f.given in
       let d = f.accepted in
-      let long = long_all (within v name y) name y (t.node name) new in
+      let long = long_all (within v name y) name y (t.node name) q.new in
       omega arith
 
   -- a look: with the same list and base
   looked_plain : Ballots w t y.ballot → OpensStand y → y.core.log ≡ x.core.log → y.core.who ≡ x.core.who → y.core.base ≡ x.core.base → y.reports ≡ x.reports
       → y.status ≡ x.status → y.leaving ≡ x.leaving → y.sends ≡ x.sends → NodeKeeps w t name y
-  looked_plain b opens_ log who base reports stays leaving sends = parts (good_same rules w v name c x y s t h g gt runs group_ new log) b opens_
-      (reports_same rules w v name c x y s t h g gt runs group_ new log reports (let z = base in omega arith))
-      (fresh_same rules w v name c x y s t h g gt runs group_ new (ap told_by log) reports (let z = base in omega arith))
-      (trimmed_same rules w v name c x y s t h g gt runs group_ new base) (turns who sends)
-      (leaves_same rules w v name c x y s t h g gt runs group_ new (ap has_log stays) leaving)
+  looked_plain b opens_ log who base reports stays leaving sends = keep q (good_same q log) b opens_
+      (reports_same q log reports (let z = base in omega arith)) (fresh_same q (ap told_by log) reports (let z = base in omega arith))
+      (trimmed_same q base) (turn_same q who sends) (leaves_same q (ap has_log stays) leaving)
 
 module _ (rules : Rules) (w : World) (name : ℕ) (c : Cause) (x : Node) (s : Group) (h : Stepping rules w name c x s) (b : Ballot) (why : Balloting c x b) where
   open_same : (y : Node) → y.status ≡ x.status → y.leaving ≡ x.leaving → OpensStand y
@@ -363,52 +301,32 @@ module _ (rules : Rules) (w : World) (name : ℕ) (c : Cause) (x : Node) (s : Gr
       (unwrap_or (least_of (taken_by x.core.who x.core.taken b) (names_of (left_in b (need_of x b)))) 0) h.keeps.trimmed
       (votes_trim w name x b s (kept rules w name c x s h) (known rules w name c x s h b why) learned taken_known)
 
-keeps_look : (rules : Rules) (w v : World) (name : ℕ) (c : Cause) (o : Outcome) (x : Node) (s t : Group) (h : Stepping rules w name c x s) (g : Grows s t)
-    (gt : GroupFor rules t) → is_stopped v name ≡ false → v.group ≡ w.group
-    → (b : Ballot) (verdict : Verdict) (why : Balloting c x b) → Looks x b verdict → NameStands (within v name verdict.node) name verdict.node (t.node name)
-    → Along rules verdict.node → NodeKeeps w t name verdict.node
-keeps_look rules w v name c o x s t h g gt runs group_ b verdict why (finds_itself_out a) new later =
-    looked_plain rules w v name c o x verdict.node s t h g gt runs group_ new later
-    (ballots_grow w s t verdict.node.ballot g (looked rules w name c x s h b verdict why (finds_itself_out a)))
-    (over_none rules w name c x s h b why verdict.node _ refl) refl refl refl refl refl refl refl
-keeps_look rules w v name c o x s t h g gt runs group_ b verdict why (waits a d) new later =
-    looked_plain rules w v name c o x verdict.node s t h g gt runs group_ new later
-    (ballots_grow w s t verdict.node.ballot g (looked rules w name c x s h b verdict why (waits a d)))
-    (open_same rules w name c x s h b why verdict.node refl refl) refl refl refl refl refl refl refl
-keeps_look rules w v name c o x s t h g gt runs group_ b verdict why (fetches_from_best a d e) new later =
-    looked_plain rules w v name c o x verdict.node s t h g gt runs group_ new later
-    (ballots_grow w s t verdict.node.ballot g (looked rules w name c x s h b verdict why (fetches_from_best a d e)))
-    (open_same rules w name c x s h b why verdict.node refl refl) refl refl refl refl refl refl refl
-keeps_look rules w v name c o x s t h g gt runs group_ b verdict why (finds_too_few a d) new later =
-    looked_plain rules w v name c o x verdict.node s t h g gt runs group_ new later
-    (ballots_grow w s t verdict.node.ballot g (looked rules w name c x s h b verdict why (finds_too_few a d)))
-    (over_none rules w name c x s h b why verdict.node _ refl) refl refl refl refl refl refl refl
-keeps_look rules w v name c o x s t h g gt runs group_ b verdict why (finds_no_room learned) new later =
+keeps_look : (rules : Rules) (w v : World) (name : ℕ) (c : Cause) (x : Node) (s t : Group) (b : Ballot) (verdict : Verdict)
+    → Next rules w v name c x verdict.node s t → Balloting c x b → Looks x b verdict → Along rules verdict.node → NodeKeeps w t name verdict.node
+keeps_look rules w v name c x s t b verdict q why (finds_itself_out a) later =
+    looked_plain q (ballots_grow w s t verdict.node.ballot q.g (looked rules w name c x s q.h b verdict why (finds_itself_out a)))
+    (over_none rules w name c x s q.h b why verdict.node _ refl) refl refl refl refl refl refl refl
+keeps_look rules w v name c x s t b verdict q why (waits a d) later =
+    looked_plain q (ballots_grow w s t verdict.node.ballot q.g (looked rules w name c x s q.h b verdict why (waits a d)))
+    (open_same rules w name c x s q.h b why verdict.node refl refl) refl refl refl refl refl refl refl
+keeps_look rules w v name c x s t b verdict q why (fetches_from_best a d e) later =
+    looked_plain q (ballots_grow w s t verdict.node.ballot q.g (looked rules w name c x s q.h b verdict why (fetches_from_best a d e)))
+    (open_same rules w name c x s q.h b why verdict.node refl refl) refl refl refl refl refl refl refl
+keeps_look rules w v name c x s t b verdict q why (finds_too_few a d) later =
+    looked_plain q (ballots_grow w s t verdict.node.ballot q.g (looked rules w name c x s q.h b verdict why (finds_too_few a d)))
+    (over_none rules w name c x s q.h b why verdict.node _ refl) refl refl refl refl refl refl refl
+keeps_look rules w v name c x s t b verdict q why (finds_no_room learned) later =
     let y = verdict.node in
-    keep rules w v name c x y s t h g gt runs group_ new (good_same rules w v name c x y s t h g gt runs group_ new refl)
-    (ballots_grow w s t y.ballot g (looked rules w name c x s h b verdict why (finds_no_room learned)))
-    (over_none rules w name c x s h b why y _ refl)
-    (reports_same rules w v name c x y s t h g gt runs group_ new refl refl (omega arith))
-    (fresh_same rules w v name c x y s t h g gt runs group_ new refl refl (omega arith))
-    (trimmed_grow w s t y.core.base g (trimmed_votes rules w name c x s h b why learned))
-    (turn_same rules w v name c x y s t h g gt runs group_ new refl refl)
-    (leaves_same rules w v name c x y s t h g gt runs group_ new refl refl)
-keeps_look rules w v name c o x s t h g gt runs group_ b verdict why (decides may) new later =
+    keep q (good_same q refl) (ballots_grow w s t y.ballot q.g (looked rules w name c x s q.h b verdict why (finds_no_room learned)))
+    (over_none rules w name c x s q.h b why y _ refl) (reports_same q refl refl (omega arith)) (fresh_same q refl refl (omega arith))
+    (trimmed_grow w s t y.core.base q.g (trimmed_votes rules w name c x s q.h b why learned)) (turn_same q refl refl) (leaves_same q refl refl)
+keeps_look rules w v name c x s t b verdict q why (decides may) later =
     let y = verdict.node in
-    keep rules w v name c x y s t h g gt runs group_ new
-    (good_member rules w v name c x y s t h g gt runs group_ new (h.keeps.opens (unfinished rules w name c x s h b why)).0)
-    (ballots_grow w s t y.ballot g (looked rules w name c x s h b verdict why (decides may)))
-    (over_none rules w name c x s h b why y _ refl)
-    (reporting_anew t.node (t.node name).list y.core.base (base_within rules w v name c o x y s t h g gt runs group_ new later))
+    keep q (good_member q (q.h.keeps.opens (unfinished rules w name c x s q.h b why)).0)
+    (ballots_grow w s t y.ballot q.g (looked rules w name c x s q.h b verdict why (decides may))) (over_none rules w name c x s q.h b why y _ refl)
+    (reporting_anew t.node (t.node name).list y.core.base (base_within q later))
     (λ j new_. split (nat_lt j 256) (λ u. rw u (omega arith)) (λ f. rw f (omega arith)))
-    (trimmed_grow w s t y.core.base g (trimmed_votes rules w name c x s h b why may.learned))
-    (turn_same rules w v name c x y s t h g gt runs group_ new refl refl)
-    (leaves_same rules w v name c x y s t h g gt runs group_ new refl refl)
-
-heard_member : (x : Node) (from : ℕ) (v : Stamp) → hears_sequencer x from v ≡ true → is_member x.status ≡ true
-heard_member x from v heard =
-    (and_both (not (from == x.core.who)) (is_member x.status)
-    (and_both (hears_member x from) (acts x && stamp_eq v (view x)) (and_both (hears_in_view x from v) (v.by == from) heard).0).0).1
+    (trimmed_grow w s t y.core.base q.g (trimmed_votes rules w name c x s q.h b why may.learned)) (turn_same q refl refl) (leaves_same q refl refl)
 
 -- its own sends, where one is settled
 settled_turns : (rules : Rules) (w : World) (name : ℕ) (c : Cause) (x : Node) (s t : Group) (h : Stepping rules w name c x s) → Grows s t
@@ -418,141 +336,107 @@ settled_turns rules w name c x s t h g = turn_grows x.core.who (s.node name).lis
 
 -- ---- each change, but for a refresh and the last member's end
 
-no_log_none : (t : Status) → is_member t ≡ false → (is_member t || is_asking t) ≡ true → has_log t ≡ false
-no_log_none status.Stranger f h = absurd (cc)
-no_log_none status.Asking f h = refl
-no_log_none status.Member f h = absurd (cc)
-no_log_none status.Departed f h = absurd (cc)
-
-pub keeps_next : (rules : Rules) (w v : World) (name : ℕ) (c : Cause) (o : Outcome) (x y : Node) (s t : Group) (z : Change c o x y) → IsPlain z
-    → (h : Stepping rules w name c x s) (g : Grows s t) (gt : GroupFor rules t)
-    → is_stopped v name ≡ false → v.group ≡ w.group → NameStands (within v name y) name y (t.node name) → Along rules y → NodeKeeps w t name y
-keeps_next rules w v name c o x y s t refreshes plain h g gt runs group_ new later = absurd plain
-keeps_next rules w v name c o x y s t settles plain h g gt runs group_ new later =
+keeps_by : (rules : Rules) (w v : World) (name : ℕ) (c : Cause) (o : Outcome) (x y : Node) (s t : Group) (z : Change c o x y) → IsPlain z
+    → Next rules w v name c x y s t → Along rules y → NodeKeeps w t name y
+keeps_by rules w v name c o x y s t refreshes plain q later = absurd plain
+keeps_by rules w v name c o x y s t settles plain q later =
     let is = settle_is x in
-    keep_same rules w v name c x y s t h g gt runs group_ new (ap (λ (n : Node). n.core.log) is) (ap (λ (n : Node). n.core.who) is)
-    (ap (λ (n : Node). n.core.base) is)
+    keep_same q (ap (λ (n : Node). n.core.log) is) (ap (λ (n : Node). n.core.who) is) (ap (λ (n : Node). n.core.base) is)
     (ap (λ (n : Node). n.reports) is) (ap (λ (n : Node). n.ballot) is) (ap (λ (n : Node). n.status) is) (ap (λ (n : Node). n.leaving) is)
-    (subst (λ k. OwnTurn k (t.node name).list y.sends) (sym (ap (λ (n : Node). n.core.who) is)) (settled_turns rules w name c x s t h g))
-keeps_next rules w v name c o x y s t (takes_report from u report by may) plain h g gt runs group_ new later =
-    let taken_ = taken_report rules w name c x s h may.leads from u report by may in
-    keep rules w v name c x y s t h g gt runs group_ new (good_same rules w v name c x y s t h g gt runs group_ new refl)
-    (ballots_same rules w v name c x y s t h g gt runs group_ new refl) (opens_same rules w v name c x y s t h g gt runs group_ new refl refl refl)
-    (subst (λ l. Reporting t.node l y.core.base y.reports) (sym (same_list rules w v name c x y s t h g gt runs group_ new refl))
-    (reporting_grow s.node t.node (s.node name).list y.core.base y.reports (λ i. (g.each i).list) taken_))
-    (λ j new_. split (j == from)
+    (subst (λ k. OwnTurn k (t.node name).list y.sends) (sym (ap (λ (n : Node). n.core.who) is)) (settled_turns rules w name c x s t q.h q.g))
+keeps_by rules w v name c o x y s t (takes_report from u report by may) plain q later =
+    let taken_ = taken_report rules w name c x s q.h may.leads from u report by may in
+    keep q (good_same q refl) (ballots_same q refl) (opens_same q refl refl refl)
+    (subst (λ l. Reporting t.node l y.core.base y.reports) (sym (same_list q refl))
+    (reporting_grow s.node t.node (s.node name).list y.core.base y.reports (λ i. (q.g.each i).list) taken_)) (λ j new_. split (j == from)
     (λ u_. absurd (let is : j ≡ from = grind (arith, nat_tests) in known_old (nodes.image_of x) from may.known (subst (IsNew (nodes.image_of x)) is new_)))
-    (λ f. rw f (h.keeps.fresh j new_)))
-    (trimmed_same rules w v name c x y s t h g gt runs group_ new refl) (turn_same rules w v name c x y s t h g gt runs group_ new refl refl)
-    (leaves_same rules w v name c x y s t h g gt runs group_ new refl refl)
-keeps_next rules w v name c o x y s t (admits from u is leads_ fit) plain h g gt runs group_ new later =
-    let low = base_within rules w v name c o x y s t h g gt runs group_ new later in
-    let size = ap length (same_list rules w v name c x y s t h g gt runs group_ new refl) in
-    keep rules w v name c x y s t h g gt runs group_ new (good_same rules w v name c x y s t h g gt runs group_ new refl)
-    (ballots_same rules w v name c x y s t h g gt runs group_ new refl) (opens_same rules w v name c x y s t h g gt runs group_ new refl refl refl)
-    (subst (λ l. Reporting t.node l y.core.base y.reports) (sym (same_list rules w v name c x y s t h g gt runs group_ new refl))
+    (λ f. rw f (q.h.keeps.fresh j new_))) (trimmed_same q refl) (turn_same q refl refl) (leaves_same q refl refl)
+keeps_by rules w v name c o x y s t (admits from u is leads_ fit) plain q later =
+    let low = base_within q later in
+    let size = ap length (same_list q refl) in
+    keep q (good_same q refl) (ballots_same q refl) (opens_same q refl refl refl)
+    (subst (λ l. Reporting t.node l y.core.base y.reports) (sym (same_list q refl))
     (reporting_admit t.node (s.node name).list x.core.base from x.reports (omega arith)
-    (reporting_grow s.node t.node (s.node name).list x.core.base x.reports (λ i. (g.each i).list) h.keeps.reports)))
-    (λ j new_. split (j == from) (λ u_. rw u_ (omega arith)) (λ f. rw f (h.keeps.fresh j new_)))
-    (trimmed_same rules w v name c x y s t h g gt runs group_ new refl) (turn_same rules w v name c x y s t h g gt runs group_ new refl refl)
-    (leaves_same rules w v name c x y s t h g gt runs group_ new refl refl)
-keeps_next rules w v name c o x y s t (numbers e leads_ room why) plain h g gt runs group_ new later =
-    keep_pushed rules w v name c x y s t h g gt runs group_ new e (sequencer_member rules w name c x s h leads_) refl
-    (number_ok rules w name c x s h e leads_ why).fit refl
-    (omega arith) refl refl refl refl refl (trimmed_same rules w v name c x y s t h g gt runs group_ new refl)
-keeps_next rules w v name c o x y s t (keeps_body from u report req body is heard) plain h g gt runs group_ new later =
-    keep_same rules w v name c x y s t h g gt runs group_ new refl refl refl refl refl refl refl
-    (turn_same rules w v name c x y s t h g gt runs group_ new refl refl)
-keeps_next rules w v name c o x y s t (notes from u base acc by heard) plain h g gt runs group_ new later =
-    let trim = brings_trim w s name c from u base acc h.heard by in
-    keep rules w v name c x y s t h g gt runs group_ new (good_same rules w v name c x y s t h g gt runs group_ new refl)
-    (ballots_same rules w v name c x y s t h g gt runs group_ new refl) (opens_same rules w v name c x y s t h g gt runs group_ new refl refl refl)
-    (reports_same rules w v name c x y s t h g gt runs group_ new refl refl (omega arith))
-    (fresh_same rules w v name c x y s t h g gt runs group_ new refl refl (omega arith))
-    (trimmed_grow w s t y.core.base g (trimmed_max s x.core.base _ h.keeps.trimmed (either (nat_le base x.core.taken) base x.core.base trim h.keeps.trimmed)))
-    (turn_same rules w v name c x y s t h g gt runs group_ new refl refl) (leaves_same rules w v name c x y s t h g gt runs group_ new refl refl)
+    (reporting_grow s.node t.node (s.node name).list x.core.base x.reports (λ i. (q.g.each i).list) q.h.keeps.reports)))
+    (λ j new_. split (j == from) (λ u_. rw u_ (omega arith)) (λ f. rw f (q.h.keeps.fresh j new_))) (trimmed_same q refl) (turn_same q refl refl)
+    (leaves_same q refl refl)
+keeps_by rules w v name c o x y s t (numbers e leads_ room why) plain q later =
+    keep_pushed q e (sequencer_member rules w name c x s q.h leads_) refl (number_ok rules w name c x s q.h e leads_ why).fit refl
+    (omega arith) refl refl refl refl refl (trimmed_same q refl)
+keeps_by rules w v name c o x y s t (keeps_body from u report req body is heard) plain q later =
+    keep_same q refl refl refl refl refl refl refl (turn_same q refl refl)
+keeps_by rules w v name c o x y s t (notes from u base acc by heard) plain q later =
+    let trim = brings_trim w s name c from u base acc q.h.heard by in
+    keep q (good_same q refl) (ballots_same q refl) (opens_same q refl refl refl) (reports_same q refl refl (omega arith))
+    (fresh_same q refl refl (omega arith))
+    (trimmed_grow w s t y.core.base q.g (trimmed_max s x.core.base _ q.h.keeps.trimmed (either (nat_le base x.core.taken) base x.core.base trim q.h.keeps.trimmed)))
+    (turn_same q refl refl) (leaves_same q refl refl)
   where
     either : (b : Bool) (p q : ℕ) → Trimmed s p → Trimmed s q → Trimmed s (if b then p else q)
     either true p q a d = a
     either false p q a d = d
-keeps_next rules w v name c o x y s t (stores from u base acc number e by heard plain_ may) plain h g gt runs group_ new later =
-    keep_pushed rules w v name c x y s t h g gt runs group_ new e (heard_member x from u heard) refl may.fits refl (omega arith) refl refl refl refl refl
-    (trimmed_same rules w v name c x y s t h g gt runs group_ new refl)
-keeps_next rules w v name c o x y s t (begins_list from u base join image is says_ may) plain h g gt runs group_ new later =
-    let none = no_log_none x.status may.no_member (and_both (not (from == x.core.who)) (is_member x.status || is_asking x.status) may.asks).1 in
-    let trim = (h.heard (packet.Welcome from u base join image) is).says.0 in
-    let nothing : (s.node name).list ≡ [] = ((kept rules w name c x s h).each name).blank ((old rules w name c x s h).log_ ∙ none) in
+keeps_by rules w v name c o x y s t (stores from u base acc number e by heard plain_ may) plain q later =
+    keep_pushed q e (hears_in_view_member x from u heard) refl may.fits refl (omega arith) refl refl refl refl refl (trimmed_same q refl)
+keeps_by rules w v name c o x y s t (begins_list from u base join image is says_ may) plain q later =
+    let none = none_of_asking x.status may.no_member (and_both (not (from == x.core.who)) (is_member x.status || is_asking x.status) may.asks).1 in
+    let trim = (q.h.heard (packet.Welcome from u base join image) is).says.0 in
+    let nothing : (s.node name).list ≡ [] = ((kept rules w name c x s q.h).each name).blank ((old rules w name c x s q.h).log_ ∙ none) in
     let size = ap length nothing in
-    keep rules w v name c x y s t h g gt runs group_ new (good_member rules w v name c x y s t h g gt runs group_ new refl)
-    (ballots_same rules w v name c x y s t h g gt runs group_ new refl)
-    (λ u_. absurd (let k = (h.keeps.opens u_).0 in let z = may.no_member in cc))
+    keep q (good_member q refl) (ballots_same q refl) (λ u_. absurd (let k = (q.h.keeps.opens u_).0 in let z = may.no_member in cc))
     (record {
-      within = λ j. (let low = h.keeps.reports.within j in omega arith);
-      taken = h.keeps.reports.taken;
-      true_ = λ j few concerned above. absurd (let low = h.keeps.reports.within j in omega arith);
+      within = λ j. (let low = q.h.keeps.reports.within j in omega arith);
+      taken = q.h.keeps.reports.taken;
+      true_ = λ j few concerned above. absurd (let low = q.h.keeps.reports.within j in omega arith);
     })
-    (λ j new_. (let low = h.keeps.reports.within j in omega arith))
-    (trimmed_grow w s t base g trim) (turn_same rules w v name c x y s t h g gt runs group_ new refl refl) (λ u_. refl)
-keeps_next rules w v name c o x y s t (departs from u number is heard leaves) plain h g gt runs group_ new later =
-    keep rules w v name c x y s t h g gt runs group_ new (good_same rules w v name c x y s t h g gt runs group_ new refl)
-    (ballots_same rules w v name c x y s t h g gt runs group_ new refl) (λ u_. absurd (let k = (h.keeps.opens u_).1 in cc))
-    (reports_same rules w v name c x y s t h g gt runs group_ new refl refl (omega arith))
-    (fresh_same rules w v name c x y s t h g gt runs group_ new refl refl (omega arith))
-    (trimmed_same rules w v name c x y s t h g gt runs group_ new refl) (turn_same rules w v name c x y s t h g gt runs group_ new refl refl) (λ u_. refl)
-keeps_next rules w v name c o x y s t (promises u low why) plain h g gt runs group_ new later =
-    keep rules w v name c x y s t h g gt runs group_ new (good_same rules w v name c x y s t h g gt runs group_ new refl)
-    (ballots_grow w s t y.ballot g (ballots_overtaken w s u x.ballot h.keeps.ballots)) (λ u_. h.keeps.opens (was_open u x.ballot u_))
-    (reports_same rules w v name c x y s t h g gt runs group_ new refl refl (omega arith))
-    (fresh_same rules w v name c x y s t h g gt runs group_ new refl refl (omega arith))
-    (trimmed_same rules w v name c x y s t h g gt runs group_ new refl) (turn_same rules w v name c x y s t h g gt runs group_ new refl refl)
-    (leaves_same rules w v name c x y s t h g gt runs group_ new refl refl)
-keeps_next rules w v name c o x y s t (opens least resilience by may) plain h g gt runs group_ new later =
-    keep rules w v name c x y s t h g gt runs group_ new (good_same rules w v name c x y s t h g gt runs group_ new refl)
+    (λ j new_. (let low = q.h.keeps.reports.within j in omega arith)) (trimmed_grow w s t base q.g trim) (turn_same q refl refl) (λ u_. refl)
+keeps_by rules w v name c o x y s t (departs from u number is heard leaves) plain q later =
+    keep q (good_same q refl) (ballots_same q refl) (λ u_. absurd (let k = (q.h.keeps.opens u_).1 in cc)) (reports_same q refl refl (omega arith))
+    (fresh_same q refl refl (omega arith)) (trimmed_same q refl) (turn_same q refl refl) (λ u_. refl)
+keeps_by rules w v name c o x y s t (promises u low why) plain q later =
+    keep q (good_same q refl)
+    (ballots_grow w s t y.ballot q.g (ballots_overtaken w s u x.ballot q.h.keeps.ballots)) (λ u_. q.h.keeps.opens (was_open u x.ballot u_))
+    (reports_same q refl refl (omega arith)) (fresh_same q refl refl (omega arith)) (trimmed_same q refl) (turn_same q refl refl)
+    (leaves_same q refl refl)
+keeps_by rules w v name c o x y s t (opens least resilience by may) plain q later =
+    keep q (good_same q refl)
     (record {
       votes = λ open_ j vote is. absurd (cc);
       fetches = λ open_ from want is. absurd (cc);
       last = record { given = λ j u_. absurd (cc); names = λ j vote is. absurd (cc) };
     })
     (λ u_. (may.member, may.stays))
-    (reports_same rules w v name c x y s t h g gt runs group_ new refl refl (omega arith))
-    (fresh_same rules w v name c x y s t h g gt runs group_ new refl refl (omega arith))
-    (trimmed_same rules w v name c x y s t h g gt runs group_ new refl) (turn_same rules w v name c x y s t h g gt runs group_ new refl refl)
-    (leaves_same rules w v name c x y s t h g gt runs group_ new refl refl)
-keeps_next rules w v name c o x y s t (looks b verdict over why look is) plain h g gt runs group_ new later =
-    keeps_look rules w v name c o x s t h g gt runs group_ b verdict why look new later
-keeps_next rules w v name c o x y s t (fetches from u base number e is heard promise below why may) plain h g gt runs group_ new later =
-    keep_pushed rules w v name c x y s t h g gt runs group_ new e (other_heard rules w name c x s h from heard).1 refl may.fits refl
+    (reports_same q refl refl (omega arith)) (fresh_same q refl refl (omega arith)) (trimmed_same q refl) (turn_same q refl refl)
+    (leaves_same q refl refl)
+keeps_by rules w v name c o x y s t (looks b verdict over why look is) plain q later =
+    keeps_look rules w v name c x s t b verdict q why look later
+keeps_by rules w v name c o x y s t (fetches from u base number e is heard promise below why may) plain q later =
+    keep_pushed q e (other_heard rules w name c x s q.h from heard).1 refl may.fits refl (omega arith) refl refl refl refl refl
+    (trimmed_grow w s t y.core.base q.g (trimmed_max s x.core.base base q.h.keeps.trimmed (q.h.heard (packet.Piece from u base number e) is).says.0))
+keeps_by rules w v name c o x y s t (stores_view from u base number names resilience is heard own other promise below may) plain q later =
+    keep_pushed q (View u names resilience) (other_heard rules w name c x s q.h from heard).1 refl may.fits refl
     (omega arith) refl refl refl refl refl
-    (trimmed_grow w s t y.core.base g (trimmed_max s x.core.base base h.keeps.trimmed (h.heard (packet.Piece from u base number e) is).says.0))
-keeps_next rules w v name c o x y s t (stores_view from u base number names resilience is heard own other promise below may) plain h g gt runs
-    group_ new later =
-    keep_pushed rules w v name c x y s t h g gt runs group_ new (View u names resilience) (other_heard rules w name c x s h from heard).1 refl may.fits refl
-    (omega arith) refl refl refl refl refl
-    (trimmed_grow w s t y.core.base g (trimmed_max s x.core.base base h.keeps.trimmed (h.heard (packet.Result from u base number names resilience) is).says.0))
-keeps_next rules w v name c o x y s t (queues body is says_ member stays few) plain h g gt runs group_ new later =
-    keep_same rules w v name c x y s t h g gt runs group_ new refl refl refl refl refl refl refl
-    (turn_queued x.core.who (t.node name).list body x.sends
-    (turn_grows x.core.who (s.node name).list (t.node name).list x.sends (g.each name).list h.keeps.turn))
-keeps_next rules w v name c o x y s t (collects req is) plain h g gt runs group_ new later =
-    keep_same rules w v name c x y s t h g gt runs group_ new refl refl refl refl refl refl refl
-    (turn_collected x.core.who req (t.node name).list x.sends
-    (turn_grows x.core.who (s.node name).list (t.node name).list x.sends (g.each name).list h.keeps.turn))
-keeps_next rules w v name c o x y s t (takes e is says_ member some there) plain h g gt runs group_ new later =
-    keep_same rules w v name c x y s t h g gt runs group_ new refl refl refl refl refl refl refl
-    (turn_same rules w v name c x y s t h g gt runs group_ new refl refl)
-keeps_next rules w v name c o x y s t (asks_to_join is was) plain h g gt runs group_ new later =
-    keep rules w v name c x y s t h g gt runs group_ new (good_same rules w v name c x y s t h g gt runs group_ new refl)
-    (ballots_same rules w v name c x y s t h g gt runs group_ new refl) (λ u_. absurd (let k = (h.keeps.opens u_).0 in let z = ap is_member was in cc))
-    (reports_same rules w v name c x y s t h g gt runs group_ new refl refl (omega arith))
-    (fresh_same rules w v name c x y s t h g gt runs group_ new refl refl (omega arith))
-    (trimmed_same rules w v name c x y s t h g gt runs group_ new refl) (turn_same rules w v name c x y s t h g gt runs group_ new refl refl)
-    (leaves_same rules w v name c x y s t h g gt runs group_ new (sym (ap has_log was)) refl)
-keeps_next rules w v name c o x y s t (asks_to_leave is was stays done) plain h g gt runs group_ new later =
-    keep rules w v name c x y s t h g gt runs group_ new (good_same rules w v name c x y s t h g gt runs group_ new refl)
-    (ballots_same rules w v name c x y s t h g gt runs group_ new refl)
-    (λ u_. absurd (let k = or_last (nat_lt 0 (unsettled_count x)) (is_unfinished x.ballot) done in cc))
-    (reports_same rules w v name c x y s t h g gt runs group_ new refl refl (omega arith))
-    (fresh_same rules w v name c x y s t h g gt runs group_ new refl refl (omega arith))
-    (trimmed_same rules w v name c x y s t h g gt runs group_ new refl) (turn_same rules w v name c x y s t h g gt runs group_ new refl refl)
+    (trimmed_grow w s t y.core.base q.g (trimmed_max s x.core.base base q.h.keeps.trimmed (q.h.heard (packet.Result from u base number names resilience) is).says.0))
+keeps_by rules w v name c o x y s t (queues body is says_ member stays few) plain q later =
+    keep_same q refl refl refl refl refl refl refl (turn_queued x.core.who (t.node name).list body x.sends
+    (turn_grows x.core.who (s.node name).list (t.node name).list x.sends (q.g.each name).list q.h.keeps.turn))
+keeps_by rules w v name c o x y s t (collects req is) plain q later =
+    keep_same q refl refl refl refl refl refl refl (turn_collected x.core.who req (t.node name).list x.sends
+    (turn_grows x.core.who (s.node name).list (t.node name).list x.sends (q.g.each name).list q.h.keeps.turn))
+keeps_by rules w v name c o x y s t (takes e is says_ member some there) plain q later =
+    keep_same q refl refl refl refl refl refl refl (turn_same q refl refl)
+keeps_by rules w v name c o x y s t (asks_to_join is was) plain q later =
+    keep q (good_same q refl) (ballots_same q refl) (λ u_. absurd (let k = (q.h.keeps.opens u_).0 in let z = ap is_member was in cc))
+    (reports_same q refl refl (omega arith)) (fresh_same q refl refl (omega arith)) (trimmed_same q refl) (turn_same q refl refl)
+    (leaves_same q (sym (ap has_log was)) refl)
+keeps_by rules w v name c o x y s t (asks_to_leave is was stays done) plain q later =
+    keep q (good_same q refl) (ballots_same q refl)
+    (λ u_. absurd (let k = or_second (nat_lt 0 (unsettled_count x)) (is_unfinished x.ballot) done in cc))
+    (reports_same q refl refl (omega arith)) (fresh_same q refl refl (omega arith)) (trimmed_same q refl) (turn_same q refl refl)
     (λ u_. ap has_log was)
-keeps_next rules w v name c o x y s t (closes leads_ leaves alone_ room) plain h g gt runs group_ new later = absurd plain
+keeps_by rules w v name c o x y s t (closes leads_ leaves alone_ room) plain q later = absurd plain
+
+pub keeps_next : (rules : Rules) (w v : World) (name : ℕ) (c : Cause) (o : Outcome) (x y : Node) (s t : Group) (z : Change c o x y) → IsPlain z
+    → (h : Stepping rules w name c x s) (g : Grows s t) (gt : GroupFor rules t)
+    → is_stopped v name ≡ false → v.group ≡ w.group → NameStands (within v name y) name y (t.node name) → Along rules y → NodeKeeps w t name y
+keeps_next rules w v name c o x y s t z plain h g gt runs group_ new later =
+    keeps_by rules w v name c o x y s t z plain (record { h = h; g = g; gt = gt; runs = runs; group_ = group_; new = new }) later

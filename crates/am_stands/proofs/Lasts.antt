@@ -1,42 +1,16 @@
 -- The last member's own Leave is accepted as far as enough names hold it.
-use Rattle.std.proofs.Common.{◌≡◌, ◌≢◌, ℕ, ◌+◌, ◌<◌, ◌≤◌, ◌==◌, ◌&&◌, not, max, nat_lt, Bool, true, false, List, [], ◌∷◌, ◌++◌}
-use Rattle.std.proofs.Common.{length, take, set, get_or, slice_index, refl, sym, ap, ◌∙◌, subst, arith}
-use Rattle.std.proofs.lemmas.Bool.Decides.{nat_tests}
-use Rattle.std.proofs.lemmas.List.{length-append, length-map, get_or-set_other}
-use Rattle.am_base.specs.declared.entry.Entry.{Entry}
-use Rattle.am_base.specs.declared.entry.Entry.TheVariants.{Leave}
-use Rattle.am_base.specs.declared.name.Stamp.{Stamp}
-use Rattle.am_base.specs.Names.{place_of, life_of, has, size}
-use Rattle.am_base.specs.Stamps.{stamp_eq}
-use Rattle.am_base.specs.Lists.{member_life, members_of, told_by}
-use Rattle.am_core.specs.Cores.{CoreState}
-use Rattle.am_chain_lists.specs.Whole.{Begins, image_of, mem}
-use Rattle.am_chain_lists.proofs.Prefixes.{begins_refl, begins_more, begins_trans, begins_length, begins_both, begins_take, length_take}
-use Rattle.am_chain_lists.proofs.Rows.{mod16}
-use Rattle.am_chain_lists.proofs.Members.{good_push, long_told}
+use Rattle.am_stands.proofs.Words.{split, ◌≡◌, ◌≢◌, ℕ, ◌+◌, ◌<◌, ◌≤◌, ◌==◌, ◌&&◌, not, max, nat_lt, Bool, true, false, List, [], ◌∷◌, ◌++◌, length, take, set}
+use Rattle.am_stands.proofs.Words.{get_or, slice_index, refl, sym, ap, ◌∙◌, subst, arith, nat_tests, length-append, length-map, get_or-set_other, Entry}
+use Rattle.am_stands.proofs.Words.{Leave, Stamp, place_of, life_of, has, size, stamp_eq, member_life, members_of, told_by, CoreState, Begins, image_of, mem}
+use Rattle.am_stands.proofs.Words.{begins_refl, begins_more, begins_trans, begins_length, begins_both, begins_take, length_take, mod16, good_push, long_told}
+use Rattle.am_stands.proofs.Words.{Group, put, MayAccept, longer, Kept, put_same, put_at, Node, view, others, is_member, is_sequencer, push_entry, refresh}
+use Rattle.am_stands.proofs.Words.{refresh_at_end, Decided, World, group_with, group_after, views_after, some_size, rests_refresh, settle_is, leads_rests}
+use Rattle.am_stands.proofs.Words.{leads_pushed, view_pushed, leave_fits, NameStands, within, NeedsClose, after_closing, CountsNames, MayCount, CountsAmong}
+use Rattle.am_stands.proofs.Words.{ComesTo, ClosingAccepts}
 use Rattle.am_chain_moves.specs.Group as groups
-use Rattle.am_chain_moves.specs.Group.{Group, put, MayAccept}
-use Rattle.am_chain_moves.specs.Moves.{longer}
-use Rattle.am_chain_moves.specs.Kept.{Kept}
-use Rattle.am_chain_moves.proofs.Puts.{by_cases, put_same, put_at}
 use Rattle.am_model.specs.Node as nodes
-use Rattle.am_model.specs.Node.{Node, view, others, is_member, is_sequencer, push_entry}
-use Rattle.am_model.specs.Refresh.{refresh, refresh_at_end}
-use Rattle.am_play.specs.World.{Decided, World, group_with, group_after, views_after}
-use Rattle.am_model.proofs.Sets.{some_size}
-use Rattle.am_effects.proofs.Rests.{rests_refresh, settle_is, leads_rests}
-use Rattle.am_effects.proofs.Says.{leads_pushed, view_pushed}
-use Rattle.am_laws.proofs.Taken.{leave_fits}
-use Rattle.am_stands.specs.Standing.{NameStands, within}
-use Rattle.am_stands.specs.Ends.{NeedsClose, after_closing}
-use Rattle.am_stands.specs.Accepting.{CountsNames, MayCount, CountsAmong, ComesTo, ClosingAccepts}
-use Rattle.am_stands.proofs.Changes.{same_name, told_all, is_up, unmoved_refresh}
-use Rattle.am_stands.proofs.Concerned.{reporting_push}
-use Rattle.am_stands.proofs.Entries.{name_longer}
-use Rattle.am_stands.proofs.Growing.{leads_line}
-use Rattle.am_stands.proofs.Sent.{Speaks, leading}
-use Rattle.am_stands.proofs.Accepting.{refresh_accepts}
-use Rattle.am_stands.proofs.Learning.{same_by, grown_is}
+use Rattle.am_stands.proofs.{Changes.same_name, Changes.told_all, Changes.is_up, Changes.unmoved_refresh, Concerned.reporting_push, Entries.name_longer}
+use Rattle.am_stands.proofs.{Growing.leads_line, Sent.Speaks, Sent.leading, Accepting.refresh_accepts, Learning.same_by, Learning.grown_is}
 
 -- ---- nobody else
 
@@ -46,7 +20,7 @@ left_alone names who j long mine its none =
     let place = mod16 j in
     let at : slice_index names (place_of j) ≡ life_of j = grind (arith, nat_tests) in
     let own : slice_index names (place_of who) ≡ life_of who = grind (arith, nat_tests) in
-    by_cases (place_of j == place_of who)
+    split (place_of j == place_of who)
     (λ t.
     let same : place_of j ≡ place_of who = grind (arith, nat_tests) in
     let life : life_of j ≡ life_of who = sym at ∙ ap (slice_index names) same ∙ own in

@@ -1,19 +1,10 @@
 -- As long as nobody stops, no move makes a run unlawful.
-use Rattle.std.proofs.Common.{◌≡◌, inl, ℕ, ◌==◌, ◌&&◌, ◌||◌, not, nat_lt, List, Bool, true, false, length, refl, sym, ap, ◌∙◌, subst, arith}
-use Rattle.std.proofs.lemmas.Bool.Decides.{nat_tests}
-use Rattle.am_base.specs.Names.{has}
-use Rattle.am_chain_lists.specs.Whole.{Begins, key}
+use Rattle.am_stands.proofs.Words.{split, ◌≡◌, inl, ℕ, ◌==◌, ◌&&◌, ◌||◌, not, nat_lt, List, Bool, true, false, length, refl, sym, ap, ◌∙◌, subst, arith}
+use Rattle.am_stands.proofs.Words.{nat_tests, has, key, Group, Chosen, put, opening, Move, with_choice, choice_of, longer, numbers, stores, learns, begins}
+use Rattle.am_stands.proofs.Words.{raises, fetches, gives_over, welcomes, asks, departs, closes, stops, more, counts_for, IsLawful, Kept, put_at}
+use Rattle.am_stands.proofs.Words.{count_within, run_keeps, IsNoStop, RunsGoOn}
+use Rattle.am_chain_moves.specs.Moves.{decides}
 use Rattle.am_chain_moves.specs.Group as groups
-use Rattle.am_chain_moves.specs.Group.{Group, Chosen, put, count, how_many, opening}
-use Rattle.am_chain_moves.specs.Moves.{Move, MayDecide, with_choice, choice_of, longer, numbers, stores, accepts, learns, begins, raises, shows, serves}
-use Rattle.am_chain_moves.specs.Moves.{fetches, decides, gives_over, welcomes, asks, departs, closes, stops}
-use Rattle.am_chain_moves.specs.Runs.{Run, more, counts_for, IsLawful}
-use Rattle.am_chain_moves.specs.Kept.{Kept}
-use Rattle.am_chain_moves.proofs.Puts.{by_cases, put_at, put_same, count_within}
-use Rattle.am_chain.proofs.Runs.{run_keeps, choices_keep}
-use Rattle.am_stands.specs.Growing.{DecidesNew}
-use Rattle.am_stands.specs.Lawful.{IsNoStop, RunsGoOn}
-use Rattle.am_stands.proofs.Votes.{undecided as still_open}
 
 -- ---- what counts as lost
 
@@ -31,12 +22,12 @@ same_lost : (members : Bool) (a b : groups.Node) (n : ℕ) → NoMore a b
 same_lost members a b n (as_before log start_ stopped departed) h =
     let now : ((members || (a.has_log && nat_lt n a.start)) &&
     (a.stopped && not b.departed)) ≡ true = (λ i. (members || (sym log i && nat_lt n (sym start_ i))) && (sym stopped i && not b.departed)) ∙ h in
-    by_cases a.departed
+    split a.departed
     (λ t. absurd (let gone = departed t in let z :
     ((members || (a.has_log && nat_lt n a.start)) &&
     (a.stopped && false)) ≡ true = subst (λ d. ((members || (a.has_log && nat_lt n a.start)) && (a.stopped && not d)) ≡ true) gone now in
     never (members || (a.has_log && nat_lt n a.start)) a.stopped z))
-    (λ f. rw f (by_cases b.departed
+    (λ f. rw f (split b.departed
     (λ t. absurd (let z : ((members || (a.has_log && nat_lt n a.start)) &&
     (a.stopped && false)) ≡ true = subst (λ d. ((members || (a.has_log && nat_lt n a.start)) && (a.stopped && not d)) ≡ true) t now in
     never (members || (a.has_log && nat_lt n a.start)) a.stopped z))
@@ -90,7 +81,7 @@ undecided : (s : Group) (i x : ℕ) → Kept s → groups.IsUp (s.node i) → (s
 undecided s i x k up ballot d =
     let above = ((k.each i).ballot up ballot).above in
     let most = k.views.order x d in
-    by_cases (x == key (s.node i).promise) (λ t. absurd (let same : x ≡ key (s.node i).promise = grind (arith, nat_tests) in omega arith)) (λ f. f)
+    split (x == key (s.node i).promise) (λ t. absurd (let same : x ≡ key (s.node i).promise = grind (arith, nat_tests) in omega arith)) (λ f. f)
 
 decided_lawful : (s : Group) (i : ℕ) (members : List ℕ) (resilience : ℕ) → Kept s → groups.IsUp (s.node i) → (s.node i).ballot ≡ true → IsLawful s
     → IsLawful (with_choice s i members resilience)
@@ -105,13 +96,10 @@ lawful_move : (s t : Group) (move : Move s t) → Kept s → IsNoStop move → I
 lawful_move s t (numbers i e leads fit may) k goes h = lawful_same s t refl refl (put_more s i (longer (s.node i) e) (as_before refl refl refl (λ z. z))) h
 lawful_move s t (stores i e up decided other stays next) k goes h = lawful_same s t refl refl
     (put_more s i (longer (s.node i) e) (as_before refl refl refl (λ z. z))) h
-lawful_move s t (accepts i n leads may) k goes h = lawful_same s t refl refl (λ j. same_more (s.node j)) h
 lawful_move s t (learns i told acc up rises within before up_to given low) k goes h = lawful_same s t refl refl
     (put_more s i (record (s.node i) { told = told; acc = acc }) (as_before refl refl refl (λ z. z))) h
 lawful_move s t (begins i few up stays member) k goes h = lawful_same s t refl refl (put_more s i _ (as_before refl refl refl (λ z. z))) h
 lawful_move s t (raises i stamp there above) k goes h = lawful_same s t refl refl (put_more s i _ (as_before refl refl refl (λ z. z))) h
-lawful_move s t (shows i there small other begun none) k goes h = lawful_same s t refl refl (λ j. same_more (s.node j)) h
-lawful_move s t (serves i list up shown others) k goes h = lawful_same s t refl refl (λ j. same_more (s.node j)) h
 lawful_move s t (fetches i g list e up ballot served shown next) k goes h = lawful_same s t refl refl
     (put_more s i (longer (s.node i) e) (as_before refl refl refl (λ z. z))) h
 lawful_move s t (decides i members resilience may) k goes h = decided_lawful s i members resilience k may.up may.ballot h
@@ -121,6 +109,7 @@ lawful_move s t (asks i up none) k goes h = lawful_same s t refl refl (put_more 
 lawful_move s t (departs i before may) k goes h = lawful_same s t refl refl (put_more s i _ (as_before refl refl refl (λ z. refl))) h
 lawful_move s t (closes i n leads leaving alone may) k goes h = lawful_same s t refl refl (put_more s i _ (as_before refl refl refl (λ z. refl))) h
 lawful_move s t (stops i) k goes h = absurd goes
+lawful_move s t _ k goes h = lawful_same s t refl refl (λ j. same_more (s.node j)) h
 
 -- ---- a run
 
@@ -131,21 +120,3 @@ runs_go_on founders first resilience s t run move goes =
     (lawful_move s t move o.kept goes o.lawful)
 
 -- ---- a decision in a lawful run
-
--- is a new one that found all that was accepted; what its members have that leave is to be known
-pub decides_new : (founders : List ℕ) (first resilience : ℕ) (s : Group) (i : ℕ) (members : List ℕ) (strong : ℕ) → Run founders first resilience s
-    → (may : MayDecide s i members strong)
-    → ((j : ℕ) → (s.node j).leaving ≡ true → has members j ≡ true → Begins (s.node j).list (opening (choice_of (s.node i) members strong)))
-    → DecidesNew (decides i members strong may)
-decides_new founders first resilience s i members strong run may leavers =
-    let at = key (s.node i).promise in
-    let choice = choice_of (s.node i) members strong in
-    let kept = (run_keeps founders first resilience s run).kept in
-    let chosen : put s.views.chosen at choice at ≡ choice = put_same s.views.chosen at choice in
-    let line_ : put s.views.line at (opening choice) at ≡ opening choice = put_same s.views.line at (opening choice) in (
-      still_open s i kept may.up may.ballot,
-      record {
-        accepted = subst (λ (c : Chosen). Begins s.group c.before) (sym chosen) (choices_keep founders first resilience s run i members strong may);
-        leavers = λ j leaves among. subst (Begins (s.node j).list) (sym line_) (leavers j leaves (ap (λ (c : Chosen). has c.members j) (sym chosen) ∙ among));
-      },
-    )

@@ -1,16 +1,7 @@
 -- How far a name that follows learns that its list is accepted.
-use Rattle.std.proofs.Common.{◌≡◌, ℕ, ◌<◌, ◌≤◌, max, List, length, true, arith}
-use Rattle.am_base.specs.declared.entry.Entry.{Entry}
-use Rattle.am_chain_lists.specs.Whole.{Begins, key}
-use Rattle.am_chain_lists.proofs.Prefixes.{begins_length}
-use Rattle.am_chain_moves.specs.Group.{Group, IsUp}
-use Rattle.am_chain_moves.specs.Kept.{Kept}
+use Rattle.am_stands.proofs.Words.{◌≡◌, ℕ, ◌<◌, ◌≤◌, max, List, length, true, arith, Entry, Begins, key, begins_length, Group, IsUp, Kept, Node, World}
+use Rattle.am_stands.proofs.Words.{NameStands, MayLearn, Word, nothing, of_sequencer}
 use Rattle.am_model.specs.Node as nodes
-use Rattle.am_model.specs.Node.{Node}
-use Rattle.am_play.specs.World.{World}
-use Rattle.am_stands.specs.Standing.{NameStands}
-use Rattle.am_stands.specs.Ends.{MayLearn}
-use Rattle.am_stands.specs.Accepting.{Word, nothing, of_sequencer}
 use Rattle.am_stands.proofs.Changes.{long_all}
 
 -- what a step of who doesn't lead does to its fronts: it is told of no more than before, or than its sequencer says, and accepts what it

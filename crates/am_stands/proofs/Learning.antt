@@ -1,30 +1,13 @@
 -- What the group accepts at the end of a step, and what the name learns of it.
-use Rattle.std.proofs.Common.{◌≡◌, ℕ, ◌+◌, ◌-◌, ◌<◌, ◌≤◌, ◌==◌, max, min, nat_lt, true, false, List, ◌++◌, length, take, drop, refl, sym, ap, ◌∙◌, subst}
-use Rattle.std.proofs.Common.{arith, append-nil}
-use Rattle.std.proofs.Math.Seq.{take-append-add, drop-append-add, drop-append_seam}
-use Rattle.std.proofs.lemmas.Bool.Decides.{nat_tests}
-use Rattle.std.proofs.lemmas.List.{length-take}
-use Rattle.am_base.specs.declared.entry.Entry.{Entry}
-use Rattle.am_base.specs.Lists.{top_of}
-use Rattle.am_core.specs.Cores.{CoreState, accept, pass_over}
-use Rattle.am_chain_lists.specs.Whole.{Begins, key}
-use Rattle.am_chain_lists.proofs.Prefixes.{begins_refl, begins_length, begins_both, begins_take, length_take}
+use Rattle.am_stands.proofs.Words.{no_more_group, ◌≡◌, ℕ, ◌+◌, ◌-◌, ◌<◌, ◌≤◌, ◌==◌, max, min, nat_lt, true, false, List, ◌++◌, length, take, drop, refl, sym}
+use Rattle.am_stands.proofs.Words.{ap, ◌∙◌, subst, arith, append-nil, take-append-add, drop-append-add, drop-append_seam, nat_tests, length-take, Entry}
+use Rattle.am_stands.proofs.Words.{top_of, CoreState, accept, pass_over, Begins, key, begins_refl, begins_length, begins_both, begins_take, length_take}
+use Rattle.am_stands.proofs.Words.{Group, IsUp, MayAccept, Kept, Node, view, acts, is_sequencer, refresh, World, group_with, group_after, split, and_both}
+use Rattle.am_stands.proofs.Words.{rests_refresh, leads_rests, NameStands, within, no_more, rises, ComesTo, AcceptsAndLearns, RefreshLearns}
 use Rattle.am_chain_moves.specs.Group as groups
-use Rattle.am_chain_moves.specs.Group.{Group, IsUp, MayAccept}
-use Rattle.am_chain_moves.specs.Kept.{Kept}
 use Rattle.am_model.specs.Node as nodes
-use Rattle.am_model.specs.Node.{Node, view, acts, is_sequencer}
-use Rattle.am_model.specs.Refresh.{refresh}
-use Rattle.am_play.specs.World.{World, group_with, group_after}
-use Rattle.am_base.proofs.Greatest.{split, and_both}
-use Rattle.am_effects.proofs.Rests.{rests_refresh, leads_rests}
-use Rattle.am_stands.specs.Standing.{NameStands, within}
-use Rattle.am_stands.specs.Ends.{no_more, rises}
-use Rattle.am_stands.specs.Accepting.{ComesTo, AcceptsAndLearns, RefreshLearns}
-use Rattle.am_stands.proofs.Changes.{same_name, is_up, unmoved_refresh}
-use Rattle.am_stands.proofs.Sent.{Speaks, leading}
-use Rattle.am_stands.proofs.Learned.{word_group, follower_learns}
-use Rattle.am_stands.proofs.Accepting.{lead_acc, lead_told, refresh_accepts}
+use Rattle.am_stands.proofs.{Changes.same_name, Changes.is_up, Changes.unmoved_refresh, Sent.Speaks, Sent.leading, Learned.word_group}
+use Rattle.am_stands.proofs.{Learned.follower_learns, Accepting.lead_acc, Accepting.lead_told, Accepting.refresh_accepts}
 
 -- ---- the group list after a step
 
@@ -52,9 +35,6 @@ pub same_group : (group : List Entry) (core : CoreState) → core.acc ≤ length
 same_group group core low =
     let none : core.acc - length group ≡ 0 = omega arith in
     ap (λ k. group ++ take k (drop (length group - core.log.start) core.log.entries)) none ∙ append-nil group
-
-pub no_more_group : (group : List Entry) (n : Node) → n.core.acc ≤ length group → group_after group n ≡ group
-no_more_group group n low = split ((view n).by == n.core.who) (λ t. rw t (same_group group n.core low)) (λ f. rw f refl)
 
 -- ---- a sequencer
 

@@ -1,19 +1,10 @@
 -- Where a name left a list: its row tells the number, and there stands its Leave, or a View that left it out.
-use Rattle.std.proofs.Common.{◌≡◌, ◌≢◌, ⊎_elim, ℕ, ◌+◌, ◌<◌, ◌==◌, ◌&&◌, not, nat_lt, true, false, if◌then◌else◌, List, [], ◌∷◌, ◌++◌, length, slice_index}
-use Rattle.std.proofs.Common.{refl, sym, ap, ◌∙◌, subst, arith}
-use Rattle.std.proofs.lemmas.Bool.Decides.{nat_tests}
-use Rattle.std.proofs.lemmas.List.{append_assoc, append-nil, get_or-replicate}
-use Rattle.am_base.specs.declared.entry.Entry.{Entry}
-use Rattle.am_base.specs.declared.entry.Entry.TheVariants.{Data, Join, Leave, View}
-use Rattle.am_base.specs.declared.image.Row.{Row}
-use Rattle.am_base.specs.declared.image.Image.{Image}
-use Rattle.am_base.specs.declared.name.Stamp.{Stamp}
-use Rattle.am_base.specs.Names.{place_of, life_of, has}
-use Rattle.am_base.specs.Lists.{blank_row, is_blank, at_place, row_of, member_life, with_row, row_after_view, after, fold}
-use Rattle.am_chain_lists.specs.Whole.{Begins, image_of, mem}
-use Rattle.am_chain_lists.proofs.Prefixes.{begins_refl, begins_more, begins_trans}
-use Rattle.am_chain_lists.proofs.Rows.{by_cases, row_at, row_view, In, mod16, row_set}
-use Rattle.am_chain_lists.proofs.Members.{told_push, long_told, in_mem}
+use Rattle.am_stands.proofs.Words.{same_name, split, ◌≡◌, ◌≢◌, ⊎_elim, ℕ, ◌+◌, ◌<◌, ◌==◌, ◌&&◌, not, nat_lt, true, false, if◌then◌else◌, List, [], ◌∷◌, ◌++◌}
+use Rattle.am_stands.proofs.Words.{length, slice_index, refl, sym, ap, ◌∙◌, subst, arith, nat_tests, append_assoc, get_or-replicate, Entry, Data, Join, Leave}
+use Rattle.am_stands.proofs.Words.{View, Row, Image, Stamp, place_of, life_of, has, blank_row, is_blank, at_place, row_of, member_life, with_row}
+use Rattle.am_stands.proofs.Words.{row_after_view, after, fold, Begins, image_of, mem, begins_refl, begins_more, begins_trans, row_at, row_view, In, mod16}
+use Rattle.am_stands.proofs.Words.{row_set, told_push, long_told, in_mem}
+use Rattle.std.proofs.lemmas.List.{append-nil}
 
 -- ---- what a row tells of a life's leaving
 
@@ -22,7 +13,7 @@ left_of r life = if r.life == life then r.left else 0
 
 row_left : (image : Image) (name : ℕ) → (row_of image name).left ≡ left_of (row_at image (place_of name)) (life_of name)
 unfolding left_of
-row_left image name = by_cases ((at_place image name).life == life_of name) (λ t. rw t refl) (λ f. rw f refl)
+row_left image name = split ((at_place image name).life == life_of name) (λ t. rw t refl) (λ f. rw f refl)
 
 -- the same life and the same leaving
 same_left : (a b : Row) (life : ℕ) → a.life ≡ b.life → a.left ≡ b.left → left_of a life ≡ left_of b life
@@ -35,7 +26,7 @@ left_here r life same = let t : (r.life == life) ≡ true = grind (arith, nat_te
 
 left_none : (r : Row) (life : ℕ) → r.left ≡ 0 → left_of r life ≡ 0
 unfolding left_of
-left_none r life none = by_cases (r.life == life) (λ t. rw t none) (λ f. rw f refl)
+left_none r life none = split (r.life == life) (λ t. rw t none) (λ f. rw f refl)
 
 left_other : (r : Row) (life : ℕ) → (r.life == life) ≡ false → left_of r life ≡ 0
 unfolding left_of
@@ -55,13 +46,10 @@ by_row : (image next : Image) (name : ℕ) → left_of (row_at next (place_of na
     → (row_of next name).left ≡ (row_of image name).left
 by_row image next name same = row_left next name ∙ same ∙ sym (row_left image name)
 
-same_name : (a b : ℕ) → place_of a ≡ place_of b → life_of a ≡ life_of b → a ≡ b
-same_name a b place life = omega arith
-
 data_left : (image : Image) (n from req : ℕ) (body : List ℕ) (name : ℕ) → length image.rows ≡ 16
     → (row_of (after image n (Data from req body)) name).left ≡ (row_of image name).left
 unfolding after
-data_left image n from req body name long = by_cases ((at_place image from).life == life_of from)
+data_left image n from req body name long = split ((at_place image from).life == life_of from)
     (λ t.
     let r : Row = record (at_place image from) { last = req } in
     rw t (by_row image (with_row image from r) name (⊎_elim
@@ -87,7 +75,7 @@ join_left image n joiner name long =
 
 leave_left : (image : Image) (n leaver name : ℕ) → length image.rows ≡ 16 → Leaves image n (Leave leaver) name
 unfolding after
-leave_left image n leaver name long = by_cases ((at_place image leaver).life == life_of leaver)
+leave_left image n leaver name long = split ((at_place image leaver).life == life_of leaver)
     (λ t.
     let r : Row = record (at_place image leaver) { left = n } in
     let next : after image n (Leave leaver) ≡ with_row image leaver r = rw t refl in
@@ -95,7 +83,7 @@ leave_left image n leaver name long = by_cases ((at_place image leaver).life == 
     (λ (z : (place_of name ≡ place_of leaver) × (row_at (with_row image leaver r) (place_of name) ≡ r)).
     (let at : (row_of (after image n (Leave leaver)) name).left ≡ left_of r (life_of name) =
     ap (λ (g : Image). (row_of g name).left) next ∙ row_left (with_row image leaver r) name ∙ ap (λ q. left_of q (life_of name)) z.1 in
-    by_cases (r.life == life_of name)
+    split (r.life == life_of name)
     (λ u.
     let its : r.life ≡ life_of name = grind (arith, nat_tests) in
     let own : r.life ≡ life_of leaver = grind (arith, nat_tests) in
@@ -109,7 +97,7 @@ leave_left image n leaver name long = by_cases ((at_place image leaver).life == 
 -- a member that a View doesn't have
 out_of : (r : Row) (given life : ℕ) → (nat_lt 0 (member_life r) && not (member_life r == given)) ≡ true → r.life ≡ life
     → In r life × ((given == life) ≡ false)
-out_of r given life u same = by_cases (nat_lt 0 r.joined && (r.left == 0))
+out_of r given life u same = split (nat_lt 0 r.joined && (r.left == 0))
     (λ t.
     let is : member_life r ≡ r.life = rw t refl in
     let here : (nat_lt 0 r.life && not (r.life == given)) ≡ true = subst (λ k. (nat_lt 0 k && not (k == given)) ≡ true) is u in (
@@ -129,16 +117,16 @@ view_left image n v names resilience name =
     let is = row_view image n v names resilience (place_of name) (mod16 name) in
     let at : (row_of (after image n e) name).left ≡ left_of (row_after_view (is_blank image) n given r) (life_of name) =
     row_left (after image n e) name ∙ ap (λ q. left_of q (life_of name)) is in
-    by_cases (is_blank image)
-    (λ t. by_cases (given == 0)
+    split (is_blank image)
+    (λ t. split (given == 0)
     (λ u. stayed (at ∙ ap (λ q. left_of q (life_of name)) (viewed_first given n r u t) ∙ sym (row_left image name)))
     (λ f. none (at ∙ ap (λ q. left_of q (life_of name)) (viewed_new given n r f t)
     ∙ left_none (record { life = given; joined = 1; left = 0; last = 0 }) (life_of name) refl)))
-    (λ f. by_cases (nat_lt 0 (member_life r) && not (member_life r == given))
+    (λ f. split (nat_lt 0 (member_life r) && not (member_life r == given))
     (λ u.
     let next : Row = record r { left = n } in
     let here : (row_of (after image n e) name).left ≡ left_of next (life_of name) = at ∙ ap (λ q. left_of q (life_of name)) (viewed_out given n r u f) in
-    by_cases (r.life == life_of name)
+    split (r.life == life_of name)
     (λ same.
     let its : r.life ≡ life_of name = grind (arith, nat_tests) in
     let gone = out_of r given (life_of name) u its in

@@ -1,23 +1,13 @@
 -- In every lawful run of the group, whom a View on the chain left out has stopped.
-use Rattle.std.proofs.Common.{◌≡◌, ⊎_elim, ℕ, List, [], ◌∷◌, ◌++◌, length, true, false, Some, slice_get, refl, sym, ap, ◌∙◌, subst, arith}
-use Rattle.am_base.specs.declared.entry.Entry.{Entry}
-use Rattle.am_base.specs.declared.entry.Entry.TheVariants.{Data, Join, Leave, View}
-use Rattle.am_base.specs.declared.name.Stamp.{Stamp}
-use Rattle.am_base.specs.Names.{has}
-use Rattle.am_chain_lists.specs.Whole.{Begins, NotView, mem, view_of, key}
-use Rattle.am_chain_lists.proofs.Prefixes.{begins_more, begins_trans, begins_length, begins_pushed, length_push}
-use Rattle.am_chain_lists.proofs.Members.{good_begins, leaver_in, leaver_out, mem_between, mem_nil}
+use Rattle.am_stands.proofs.Words.{split, ◌≡◌, ⊎_elim, ℕ, List, [], ◌∷◌, ◌++◌, length, true, false, Some, slice_get, refl, sym, ap, ◌∙◌, subst, arith, Entry}
+use Rattle.am_stands.proofs.Words.{Leave, View, Stamp, has, Begins, NotView, mem, view_of, key, begins_more, begins_trans, begins_length, begins_pushed}
+use Rattle.am_stands.proofs.Words.{length_push, good_begins, leaver_in, leaver_out, mem_between, mem_nil, Group, put, opening, chain_of, Move, MayDecide}
+use Rattle.am_stands.proofs.Words.{with_line, with_choice, choice_of, longer, numbers, stores, learns, begins, raises, fetches, gives_over, welcomes, asks}
+use Rattle.am_stands.proofs.Words.{departs, closes, stops, Kept, IsLawful, founded, more, start, first_stamp, put_same, put_at, list_chain, departed_in}
+use Rattle.am_stands.proofs.Words.{run_keeps, get_last, LeftOut, RunsLeaveOut}
+use Rattle.am_chain_moves.specs.Group.{Leads}
+use Rattle.am_chain_moves.specs.Moves.{decides}
 use Rattle.am_chain_moves.specs.Group as groups
-use Rattle.am_chain_moves.specs.Group.{Group, put, opening, chain_of, Leads}
-use Rattle.am_chain_moves.specs.Moves.{Move, MayDecide, with_line, with_choice, choice_of, longer, numbers, stores, accepts, learns, begins, raises, shows}
-use Rattle.am_chain_moves.specs.Moves.{serves, fetches, decides, gives_over, welcomes, asks, departs, closes, stops}
-use Rattle.am_chain_moves.specs.Kept.{Kept}
-use Rattle.am_chain_moves.specs.Runs.{IsLawful, founded, more, start, first_stamp}
-use Rattle.am_chain_moves.proofs.Puts.{by_cases, put_same, put_at}
-use Rattle.am_chain.proofs.Heart.{list_chain, departed_in}
-use Rattle.am_chain.proofs.Runs.{run_keeps}
-use Rattle.am_effects.proofs.Items.{get_last}
-use Rattle.am_stands.specs.States.{LeftOut, RunsLeaveOut}
 use Rattle.am_stands.proofs.Opens.{numbers_plain}
 
 -- ---- who stopped stays so
@@ -32,7 +22,7 @@ same_left s t stays chain h a v names resilience name part member out =
 
 -- ---- an entry more, that is no View
 
-last_is : (a b : List Entry) (x y : Entry) → a ++ x ∷ [] ≡ b ++ y ∷ [] → x ≡ y
+pub last_is : (a b : List Entry) (x y : Entry) → a ++ x ∷ [] ≡ b ++ y ∷ [] → x ≡ y
 last_is a b x y same =
     let one = length_push a x in
     let two = length_push b y in
@@ -42,10 +32,8 @@ last_is a b x y same =
     cc
 
 is_no_view : (e : Entry) (v : Stamp) (names : List ℕ) (resilience : ℕ) → NotView e → View v names resilience ≡ e → ⊥
-is_no_view (Data from req body) v names resilience plain same = cc
-is_no_view (Join name) v names resilience plain same = cc
-is_no_view (Leave name) v names resilience plain same = cc
 is_no_view (View stamp members strong) v names resilience plain same = plain
+is_no_view _ v names resilience plain same = cc
 
 line_left : (s t : Group) (e : Entry) → ((j : ℕ) → (s.node j).stopped ≡ true → (t.node j).stopped ≡ true) → NotView e
     → chain_of t.views ≡ chain_of s.views ++ e ∷ [] → LeftOut s → LeftOut t
@@ -95,18 +83,16 @@ choice_left s k lawful c members resilience d h a v names strong name part membe
     let long = ap length z in
     let front : a ≡ old = same_front a old (View v names strong) e z in
     let here = subst (λ l. mem l name ≡ true) front member in
-    stays name (by_cases (s.node name).stopped
+    stays name (split (s.node name).stopped
     (λ t. t)
-    (λ goes. by_cases (s.node name).departed
+    (λ goes. split (s.node name).departed
     (λ gone. absurd (none_departed s k lawful c members resilience d name here gone))
     (λ there. absurd (let in_ = d.all name here (record { goes = goes; stays = there }) in let o = ap (λ set. has set name) its ∙ in_ in cc))))))
     (begins_pushed e (subst (Begins (a ++ View v names strong ∷ [])) is part))
   where
     names_of_view : Entry → List ℕ
-    names_of_view (Data from req body) = []
-    names_of_view (Join joiner) = []
-    names_of_view (Leave leaver) = []
     names_of_view (View stamp set strong) = set
+    names_of_view _ = []
 
     same_front : (a b : List Entry) (x y : Entry) → a ++ x ∷ [] ≡ b ++ y ∷ [] → a ≡ b
     same_front [] [] x y same = refl
@@ -123,12 +109,9 @@ pub moves_left : (s t : Group) → Move s t → Kept s → IsLawful s → LeftOu
 moves_left s t (numbers i e leads fit may) k law h = line_left s t e (put_stops s i (longer (s.node i) e) (λ z. z)) (numbers_plain s.node i e may)
     (longer_chain s i (longer (s.node i) e) e k leads refl) h
 moves_left s t (stores i e up decided other stays next) k law h = same_left s t (put_stops s i _ (λ z. z)) refl h
-moves_left s t (accepts i n leads may) k law h = same_left s t (λ j z. z) refl h
 moves_left s t (learns i told acc up rises within before up_to given low) k law h = same_left s t (put_stops s i _ (λ z. z)) refl h
 moves_left s t (begins i few up stays member) k law h = same_left s t (put_stops s i _ (λ z. z)) refl h
 moves_left s t (raises i stamp there above) k law h = same_left s t (put_stops s i _ (λ z. z)) refl h
-moves_left s t (shows i there small other begun none) k law h = same_left s t (λ j z. z) refl h
-moves_left s t (serves i list up shown others) k law h = same_left s t (λ j z. z) refl h
 moves_left s t (fetches i f list e up ballot served shown next) k law h = same_left s t (put_stops s i _ (λ z. z)) refl h
 moves_left s t (decides i members resilience may) k law h = choice_left s k law i members resilience may h
 moves_left s t (gives_over i) k law h = same_left s t (put_stops s i _ (λ z. z)) refl h
@@ -138,6 +121,7 @@ moves_left s t (departs i before may) k law h = same_left s t (put_stops s i _ (
 moves_left s t (closes i n leads leaving alone may) k law h =
     line_left s t (Leave i) (put_stops s i _ (λ z. z)) tt (longer_chain s i (record (longer (s.node i) (Leave i)) { departed = true }) (Leave i) k leads refl) h
 moves_left s t (stops i) k law h = same_left s t (put_stops s i _ (λ z. refl)) refl h
+moves_left s t _ k law h = same_left s t (λ j z. z) refl h
 
 -- ---- each run
 

@@ -1,27 +1,11 @@
 -- What a letter says stays so as the group goes on.
-use Rattle.std.proofs.Common.{◌≡◌, inl, inr, ⊎_elim, ℕ, zero, suc, ◌≤◌, List, ◌++◌, length, take, Bool, true, false, Some, slice_get, refl, sym, ap, ◌∙◌}
-use Rattle.std.proofs.Common.{subst, arith}
-use Rattle.std.proofs.lemmas.Option.{slice_get_within}
-use Rattle.am_base.specs.declared.name.Stamp.{Stamp}
-use Rattle.am_base.specs.declared.image.Report.{Report}
-use Rattle.am_base.specs.declared.image.Vote.{Vote}
-use Rattle.am_base.specs.declared.image.Image.{Image}
-use Rattle.am_base.specs.declared.entry.Entry.{Entry}
-use Rattle.am_base.specs.declared.entry.Entry.TheVariants.{Data, View}
-use Rattle.am_base.specs.Names.{has}
-use Rattle.am_packet.specs.declared.packet.Packet.TheVariants.{Request, Spread, Bcast, Order, Accept, Ack, Nack, Hold, JoinAsk, Welcome, LeaveAsk, Gone}
-use Rattle.am_packet.specs.declared.packet.Packet.TheVariants.{Invite, Vote as VoteOf, Fetch, Piece, Result, HandOver}
-use Rattle.am_group.specs.Journals.{item_at}
-use Rattle.am_group.specs.declared.event.Record.{Record}
-use Rattle.am_chain_lists.specs.Whole.{Begins, image_of, mem, key}
-use Rattle.am_chain_lists.proofs.Prefixes.{begins_trans, begins_take, begins_both, begins_length}
-use Rattle.am_chain_moves.specs.Group.{Group, Chosen, IsThere}
-use Rattle.am_play.specs.World.{World}
-use Rattle.am_effects.proofs.Items.{get_front}
-use Rattle.am_stands.specs.Letters.{line, AllShown, Trimmed, SequencerSays, EntrySays, WasAsked, ReportSays, LeaverSays, of_view, before_it, WelcomeSays}
-use Rattle.am_stands.specs.Letters.{WelcomeTo, has_begun, has_gone, has_left, is_leaving, may_begin, GoneSays, has_stopped, may_go, VoteSays, own, tells}
-use Rattle.am_stands.specs.Letters.{over as over_vote, FetchSays, for_ballot, of_promise, PieceSays, of_line, of_shown, over}
-use Rattle.am_stands.specs.Growing.{NewView, Grows, LettersStay}
+use Rattle.am_stands.proofs.Words.{◌≡◌, inl, inr, ⊎_elim, ℕ, zero, suc, ◌≤◌, List, ◌++◌, length, take, Bool, true, false, Some, slice_get, refl, sym, ap, ◌∙◌}
+use Rattle.am_stands.proofs.Words.{subst, arith, slice_get_within, Stamp, Report, Vote, Image, Entry, Data, View, has, Request, Spread, Bcast, Order, Accept}
+use Rattle.am_stands.proofs.Words.{Ack, Nack, Hold, JoinAsk, Welcome, LeaveAsk, Gone, Invite, VoteOf, Fetch, Piece, Result, HandOver, item_at, Record, Begins}
+use Rattle.am_stands.proofs.Words.{image_of, mem, key, begins_trans, begins_take, begins_both, begins_length, Group, Chosen, IsThere, World, get_front, line}
+use Rattle.am_stands.proofs.Words.{AllShown, Trimmed, SequencerSays, EntrySays, WasAsked, ReportSays, LeaverSays, of_view, before_it, WelcomeSays, WelcomeTo}
+use Rattle.am_stands.proofs.Words.{has_begun, has_gone, has_left, is_leaving, may_begin, GoneSays, has_stopped, may_go, VoteSays, own, tells, over_vote}
+use Rattle.am_stands.proofs.Words.{FetchSays, for_ballot, of_promise, PieceSays, of_line, of_shown, over, NewView, Grows, LettersStay}
 use Rattle.am_stands.proofs.Ends.{taken_more}
 
 -- ---- lists

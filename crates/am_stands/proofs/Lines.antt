@@ -1,20 +1,7 @@
 -- The line of a view, where its coordinator's list gets one entry more.
-use Rattle.std.proofs.Common.{◌≡◌, ◌≢◌, ℕ, ◌+◌, Bool, true, false, if◌then◌else◌, List, [], ◌∷◌, ◌++◌, refl, ap, ◌∙◌, subst, arith}
-use Rattle.std.specs.List.{list_any}
-use Rattle.std.proofs.lemmas.Bool.Decides.{nat_tests}
-use Rattle.am_base.specs.declared.name.Stamp.{Stamp}
-use Rattle.am_base.specs.declared.entry.Entry.{Entry}
-use Rattle.am_base.specs.declared.entry.Entry.TheVariants.{Data, Join, Leave, View}
-use Rattle.am_base.specs.declared.image.Image.{Image}
-use Rattle.am_base.specs.Stamps.{stamp_eq}
-use Rattle.am_base.specs.Lists.{blank, after, fold}
-use Rattle.am_chain_lists.specs.Whole.{Begins, view_of}
-use Rattle.am_model.specs.Receiving.{is_view}
-use Rattle.am_play.specs.Lawful.{is_view_of}
-use Rattle.am_play.specs.Claims.{up_to_view, up_to_next}
-use Rattle.am_base.proofs.Greatest.{split}
-use Rattle.am_laws.proofs.Stamps.{same_stamp}
-use Rattle.am_laws.proofs.ViewSteps.{after_same, after_view}
+use Rattle.am_stands.proofs.Words.{stamp_itself, same_stamp, ◌≡◌, ◌≢◌, ℕ, ◌+◌, Bool, true, false, if◌then◌else◌, List, [], ◌∷◌, ◌++◌, refl, ap, ◌∙◌, subst}
+use Rattle.am_stands.proofs.Words.{list_any, Stamp, Entry, View, Image, blank, after, fold, Begins, view_of, is_view, is_view_of, up_to_view, up_to_next}
+use Rattle.am_stands.proofs.Words.{split, after_same, after_view}
 
 -- ---- a View stands in a list, and another behind it
 
@@ -42,16 +29,12 @@ same_view image n (e ∷ es) h = split (is_view e)
     (λ f. same_view (after image n e) (n + 1) es (rw f at h) ∙ (after_same image n e f).view)
 
 is_a_view : (v : Stamp) (e : Entry) → is_view_of v e ≡ true → is_view e ≡ true
-is_a_view v (Data from req body) h = absurd (cc)
-is_a_view v (Join name) h = absurd (cc)
-is_a_view v (Leave name) h = absurd (cc)
 is_a_view v (View stamp names resilience) h = refl
+is_a_view v _ h = absurd (cc)
 
 pub viewed_as : (v : Stamp) (image : Image) (n : ℕ) (e : Entry) → is_view_of v e ≡ true → (after image n e).view ≡ v
-viewed_as v image n (Data from req body) h = absurd (cc)
-viewed_as v image n (Join name) h = absurd (cc)
-viewed_as v image n (Leave name) h = absurd (cc)
 viewed_as v image n (View stamp names resilience) h = (after_view image n stamp names resilience).0 ∙ same_stamp stamp v h
+viewed_as v image n _ h = absurd (cc)
 
 -- where the list ends in another view
 next_in : (v : Stamp) (image : Image) (n : ℕ) (es : List Entry) → HasViewOf v es → (fold image n es).view ≢ v → NextIn v es
@@ -145,13 +128,10 @@ any_last : (p : Entry → Bool) (a : List Entry) (e : Entry) → p e ≡ true �
 any_last p [] e h = rw h refl
 any_last p (x ∷ a) e h = split (p x) (λ t. rw t refl) (λ f. rw f (any_last p a e h))
 
-itself : (v : Stamp) → stamp_eq v v ≡ true
-itself v = grind (arith, nat_tests)
-
 -- a view's line opens with its View
 pub opened : (v : Stamp) (before : List Entry) (names : List ℕ) (resilience : ℕ) (list : List Entry)
     → Begins (before ++ View v names resilience ∷ []) (up_to_next v list) → HasViewOf v list
 opened v before names resilience list h =
     let e = View v names resilience in
-    let there = any_front (is_view_of v) (before ++ e ∷ []) h.rest (any_last (is_view_of v) before e (itself v)) in
+    let there = any_front (is_view_of v) (before ++ e ∷ []) h.rest (any_last (is_view_of v) before e (stamp_itself v)) in
     line_any (is_view_of v) v list (subst (λ l. list_any (is_view_of v) l ≡ true) h.same there)

@@ -1,20 +1,9 @@
 -- What one name has stands for what it had, where only some of it changes.
-use Rattle.std.proofs.Common.{◌≡◌, ◌≢◌, ℕ, ◌<◌, ◌≤◌, ◌==◌, false, List, ◌++◌, length, take, slice_get, refl, sym, ap, ◌∙◌, subst, arith, Some}
-use Rattle.std.proofs.lemmas.Bool.Decides.{nat_tests}
-use Rattle.am_base.specs.declared.name.Stamp.{Stamp}
-use Rattle.am_base.specs.declared.entry.Entry.{Entry}
-use Rattle.am_base.specs.Lists.{Log}
-use Rattle.am_chain_lists.specs.Whole.{Begins, image_of, key}
+use Rattle.am_stands.proofs.Words.{◌≡◌, ◌≢◌, ℕ, ◌<◌, ◌≤◌, ◌==◌, false, List, ◌++◌, length, take, slice_get, refl, sym, ap, ◌∙◌, subst, arith, Some, nat_tests}
+use Rattle.am_stands.proofs.Words.{Stamp, Entry, Log, Begins, image_of, key, Group, Views, put, opening, Move, Node, has_departed, Decided, World, is_stopped}
+use Rattle.am_stands.proofs.Words.{up_to_next, line_of, split, NameStands, NotedStands, FrontsStand, ViewsStand, StandsBut, within, FrontsStay, MoveOk, none}
+use Rattle.am_stands.proofs.Words.{moves, Leads}
 use Rattle.am_chain_moves.specs.Group as groups
-use Rattle.am_chain_moves.specs.Group.{Group, Views, put, opening}
-use Rattle.am_chain_moves.specs.Moves.{Move}
-use Rattle.am_model.specs.Node.{Node, has_departed}
-use Rattle.am_play.specs.World.{Decided, World, is_stopped}
-use Rattle.am_play.specs.Claims.{up_to_next, line_of}
-use Rattle.am_base.proofs.Greatest.{split}
-use Rattle.am_stands.specs.Standing.{NameStands, NotedStands, FrontsStand, ViewsStand, StandsBut, within}
-use Rattle.am_stands.specs.Steps.{FrontsStay}
-use Rattle.am_stands.specs.Moving.{MoveOk, none, moves, Leads}
 
 -- ---- moves in turn
 

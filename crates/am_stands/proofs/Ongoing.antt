@@ -1,20 +1,9 @@
 -- Whose own Leave isn't in its list is still a member there, if it ever was.
-use Rattle.std.proofs.Common.{◌≡◌, ◌≢◌, ◌⊎◌, inl, inr, ⊎_elim, ℕ, ◌+◌, ◌<◌, ◌==◌, ◌&&◌, not, nat_lt, List, [], ◌∷◌, ◌++◌, length, true, false, slice_index}
-use Rattle.std.proofs.Common.{refl, sym, ap, ◌∙◌, subst, arith}
-use Rattle.std.proofs.lemmas.Bool.Decides.{nat_tests}
-use Rattle.am_base.specs.declared.entry.Entry.{Entry}
-use Rattle.am_base.specs.declared.entry.Entry.TheVariants.{Data, Join, Leave, View}
-use Rattle.am_base.specs.declared.name.Stamp.{Stamp}
-use Rattle.am_base.specs.declared.image.Row.{Row}
-use Rattle.am_base.specs.declared.image.Image.{Image}
-use Rattle.am_base.specs.Names.{place_of, life_of}
-use Rattle.am_base.specs.Lists.{is_blank, at_place, row_of, member_life, with_row, row_after_view, after}
-use Rattle.am_chain_lists.specs.Whole.{Begins, BeginsBelow, IsGood, image_of, mem}
-use Rattle.am_chain_lists.proofs.Prefixes.{begins_same, begins_pushed}
-use Rattle.am_chain_lists.proofs.Rows.{by_cases, row_at, In, mod16, row_set, row_view, blank_joined}
-use Rattle.am_chain_lists.proofs.Members.{good_begins, told_push, long_told, mem_in, in_mem, mem_push}
-use Rattle.am_chain_moves.specs.Group.{Group, IsUp, IsOngoing}
-use Rattle.am_chain_moves.specs.Kept.{Kept}
+use Rattle.am_stands.proofs.Words.{split, ◌≡◌, ◌≢◌, ◌⊎◌, inl, inr, ⊎_elim, ℕ, ◌+◌, ◌==◌, ◌&&◌, not, nat_lt, List, [], ◌∷◌, ◌++◌, length, true, false}
+use Rattle.am_stands.proofs.Words.{slice_index, refl, sym, ap, ◌∙◌, subst, arith, nat_tests, Entry, Data, Join, Leave, View, Stamp, Row, Image, place_of}
+use Rattle.am_stands.proofs.Words.{life_of, is_blank, at_place, row_of, member_life, with_row, row_after_view, after, Begins, BeginsBelow, IsGood, image_of}
+use Rattle.am_stands.proofs.Words.{mem, begins_same, begins_pushed, row_at, In, mod16, row_set, row_view, blank_joined, good_begins, told_push, long_told}
+use Rattle.am_stands.proofs.Words.{mem_in, in_mem, mem_push, Group, IsUp, IsOngoing, Kept}
 
 -- ---- what ends a membership shows in the row
 
@@ -38,7 +27,7 @@ left_row image n name long h =
 
 -- after a View a member is one, or its row tells that it left
 view_row : (n given life : ℕ) (r : Row) → In r life → In (row_after_view false n given r) life ⊎ ((row_after_view false n given r) ≡ record r { left = n })
-view_row n given life r h = by_cases (nat_lt 0 (member_life r) && not (member_life r == given))
+view_row n given life r h = split (nat_lt 0 (member_life r) && not (member_life r == given))
     (λ t. inr (rw t refl))
     (λ f. inl (rw f h))
 
@@ -50,7 +39,7 @@ viewed_row image n stamp names resilience name long h =
     let next = after image n (View stamp names resilience) in
     let place = place_of name in
     let is = row_view image n stamp names resilience place (mod16 name) in
-    let full : is_blank image ≡ false = by_cases (is_blank image) (λ t. absurd (let none = blank_joined image place t in let some = h.joined in omega arith))
+    let full : is_blank image ≡ false = split (is_blank image) (λ t. absurd (let none = blank_joined image place t in let some = h.joined in omega arith))
     (λ f. f) in
     let at : row_at next place ≡ row_after_view false n (slice_index names place) (row_at image place) = is
     ∙ ap (λ b. row_after_view b n (slice_index names place) (row_at image place)) full in
@@ -66,7 +55,7 @@ last_keeps : (a : List Entry) (e : Entry) (name : ℕ) → IsGood (a ++ e ∷ []
     → mem (a ++ e ∷ []) name ≡ true
 last_keeps a (Data from req body) name good member left = mem_push a (Data from req body) name good tt member
 last_keeps a (Join joiner) name good member left = mem_push a (Join joiner) name good tt member
-last_keeps a (Leave leaver) name good member left = by_cases (leaver == name)
+last_keeps a (Leave leaver) name good member left = split (leaver == name)
     (λ t. absurd (let same : leaver ≡ name = grind (arith, nat_tests) in
     let row = left_row (image_of a) (1 + length a) name (long_told a) (mem_in a name member) in
     let z : (row_of (image_of (a ++ Leave leaver ∷ [])) name).left ≡ 1 + length a = ap (λ k. (row_of (image_of (a ++ Leave k ∷ [])) name).left) same
@@ -87,9 +76,6 @@ last_keeps a (View stamp names resilience) name good member left =
 unsnoc : (x : Entry) (xs : List Entry) → (init : List Entry) × (last : Entry) × (x ∷ xs ≡ init ++ last ∷ [])
 unsnoc x [] = ([], x, refl)
 unsnoc x (y ∷ ys) = let r = unsnoc y ys in (x ∷ r.0, r.1, ap (λ l. x ∷ l) r.2)
-
-below_nothing : (a : List Entry) → length a < 0 → ⊥
-below_nothing a h = omega arith
 
 ongoing_of : (list : List Entry) (name : ℕ) → IsGood list → ((a d : List Entry) → BeginsBelow d list → Begins a d → mem a name ≡ true → mem d name ≡ true)
     → (row_of (image_of list) name).left ≡ 0 → IsOngoing list name

@@ -1,26 +1,10 @@
 -- Moves in turn, as a step makes them, keep what the group keeps.
-use Rattle.std.proofs.Common.{◌≡◌, inl, inr, ⊎_elim, ℕ, List, true, refl, sym, ◌∙◌, subst, arith}
-use Rattle.am_base.specs.Names.{has}
-use Rattle.am_chain_lists.specs.Whole.{Begins}
-use Rattle.am_chain_lists.proofs.Prefixes.{begins_trans}
+use Rattle.am_stands.proofs.Words.{◌≡◌, inl, inr, ⊎_elim, ℕ, List, true, refl, sym, ◌∙◌, subst, arith, has, Begins, begins_trans, Group, Move, Kept}
+use Rattle.am_stands.proofs.Words.{run_keeps, MoveOk, Moves, none, moves, NewView, Grows, IsNoStop, KeptWhole, GroupOk}
 use Rattle.am_chain_moves.specs.Group as groups
-use Rattle.am_chain_moves.specs.Group.{Group}
 use Rattle.am_chain_moves.specs.Moves as group
-use Rattle.am_chain_moves.specs.Moves.{Move}
-use Rattle.am_chain_moves.specs.Kept.{Kept}
-use Rattle.am_chain.proofs.Runs.{run_keeps}
-use Rattle.am_stands.specs.Moving.{MoveOk, Moves, none, moves}
-use Rattle.am_stands.specs.Growing.{NewView, Grows}
-use Rattle.am_stands.specs.Lawful.{IsNoStop}
-use Rattle.am_stands.specs.Sending.{KeptWhole}
-use Rattle.am_stands.proofs.Branches.{moves_branch, decisions_are_new}
-use Rattle.am_stands.proofs.ChainNames.{moves_named}
-use Rattle.am_stands.proofs.Growing.{same_name, grows_names, moves_grow}
-use Rattle.am_stands.proofs.Lawful.{runs_go_on}
-use Rattle.am_stands.proofs.LeftOut.{runs_leave_out}
-use Rattle.am_stands.proofs.Opens.{runs_open}
-use Rattle.am_stands.proofs.Rounds.{runs_have_rounds}
-use Rattle.am_stands.specs.Keeping.{GroupOk}
+use Rattle.am_stands.proofs.{Branches.moves_branch, Branches.decisions_are_new, ChainNames.moves_named, Growing.same_name, Growing.grows_names}
+use Rattle.am_stands.proofs.{Growing.moves_grow, Lawful.runs_go_on, LeftOut.runs_leave_out, Opens.runs_open, Rounds.runs_have_rounds}
 
 pub group_kept : (founders : List ℕ) (first resilience : ℕ) (s : Group) → GroupOk founders first resilience s → Kept s
 group_kept founders first resilience s h = (run_keeps founders first resilience s h.run).kept

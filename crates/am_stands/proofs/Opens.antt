@@ -1,21 +1,12 @@
 -- What begins the line of a decided view begins the line of its own last View's, in every lawful run of the group.
-use Rattle.std.proofs.Common.{◌≡◌, ◌≢◌, ⊎_elim, ℕ, ◌==◌, List, [], ◌∷◌, ◌++◌, true, refl, sym, ap, ◌∙◌, subst, arith}
-use Rattle.std.proofs.lemmas.Bool.Decides.{nat_tests}
-use Rattle.am_base.specs.declared.entry.Entry.{Entry}
-use Rattle.am_base.specs.declared.entry.Entry.TheVariants.{Data, Join, Leave, View}
-use Rattle.am_base.specs.declared.name.Stamp.{Stamp}
-use Rattle.am_chain_lists.specs.Whole.{Begins, NotView, view_of, key}
-use Rattle.am_chain_lists.proofs.Order.{view_viewed, view_push}
-use Rattle.am_chain_lists.proofs.Prefixes.{begins_refl, begins_more, begins_trans, begins_pushed, begins_length}
+use Rattle.am_stands.proofs.Words.{◌≡◌, ◌≢◌, ⊎_elim, ℕ, ◌==◌, List, [], ◌∷◌, ◌++◌, true, refl, sym, ap, ◌∙◌, subst, arith, nat_tests, Entry, Leave, View}
+use Rattle.am_stands.proofs.Words.{Stamp, Begins, NotView, view_of, key, view_viewed, view_push, begins_refl, begins_more, begins_trans, begins_pushed}
+use Rattle.am_stands.proofs.Words.{begins_length, Group, put, opening, IsUp, Move, MayNumber, MayDecide, with_line, with_choice, choice_of, longer, numbers}
+use Rattle.am_stands.proofs.Words.{closes, Kept, founded, more, start, first_stamp, put_same, put_other, put_cases, put_at, run_keeps, LineOpens, LinesOpen}
+use Rattle.am_stands.proofs.Words.{RunsOpen}
+use Rattle.am_chain_moves.specs.Group.{Leads}
+use Rattle.am_chain_moves.specs.Moves.{decides}
 use Rattle.am_chain_moves.specs.Group as groups
-use Rattle.am_chain_moves.specs.Group.{Group, Views, put, opening, Leads, IsUp}
-use Rattle.am_chain_moves.specs.Moves.{Move, MayNumber, MayDecide, with_line, with_choice, choice_of, longer, numbers}
-use Rattle.am_chain_moves.specs.Moves.{decides, closes}
-use Rattle.am_chain_moves.specs.Kept.{Kept}
-use Rattle.am_chain_moves.specs.Runs.{founded, more, start, first_stamp}
-use Rattle.am_chain_moves.proofs.Puts.{put_same, put_other, put_cases, put_at}
-use Rattle.am_chain.proofs.Runs.{run_keeps}
-use Rattle.am_stands.specs.States.{LineOpens, LinesOpen, RunsOpen}
 use Rattle.am_stands.proofs.Growing.{leads_line}
 
 -- ---- an entry more of a sequencer
@@ -92,10 +83,8 @@ same_lines s t decided lines h x list d some part =
     record { decided = ap (λ f. f (key (view_of list))) decided ∙ o.decided; line_ = subst (λ f. Begins list (f (key (view_of list)))) (sym lines) o.line_ }
 
 pub numbers_plain : (node : ℕ → groups.Node) (i : ℕ) (e : Entry) → MayNumber node i e → NotView e
-numbers_plain node i (Data from req body) may = tt
-numbers_plain node i (Join name) may = tt
-numbers_plain node i (Leave name) may = tt
 numbers_plain node i (View stamp members resilience) may = may
+numbers_plain node i _ may = tt
 
 pub moves_open : (s t : Group) → Move s t → Kept s → LinesOpen s → LinesOpen t
 moves_open s t (numbers i e leads fit may) k h = line_opens s i e (longer (s.node i) e) k leads (numbers_plain s.node i e may) refl h

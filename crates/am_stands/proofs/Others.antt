@@ -1,21 +1,11 @@
 -- What a node keeps, while another name does a step, or stops.
-use Rattle.std.proofs.Common.{◌≡◌, ℕ, ◌++◌, Option, Some, None, true, sym, ap, ◌∙◌, subst}
-use Rattle.am_chain_lists.specs.Whole.{Begins, IsGood}
+use Rattle.am_stands.proofs.Words.{◌≡◌, ℕ, ◌++◌, Option, Some, None, true, sym, ap, ◌∙◌, subst, Begins, IsGood, Group, Node, Ballot, World, is_stopped}
+use Rattle.am_stands.proofs.Words.{NameStands, Reporting, LastStands, NodeKeeps, OwnTurn, OthersKeep}
 use Rattle.am_chain_moves.specs.Group as groups
-use Rattle.am_chain_moves.specs.Group.{Group}
-use Rattle.am_model.specs.Node.{Node, Ballot}
-use Rattle.am_play.specs.World.{World, is_stopped}
-use Rattle.am_stands.specs.Standing.{NameStands}
-use Rattle.am_stands.specs.States.{Reporting}
-use Rattle.am_stands.specs.Keeping.{LastStands, NodeKeeps, OwnTurn, OthersKeep}
-use Rattle.am_stands.proofs.Ends.{taken_more}
-use Rattle.am_stands.proofs.Keeps.{trimmed_grow, fetches_grow}
-use Rattle.am_stands.proofs.Reporting.{reporting_grow}
-use Rattle.am_stands.proofs.Shown.{votes_grow}
+use Rattle.am_stands.proofs.{Ends.taken_more, Keeps.trimmed_grow, Keeps.fetches_grow, Reporting.reporting_grow, Shown.votes_grow}
 
 -- its list is the same, as its log is, and the group list only grows
-list_same : (w v : World) (i : ℕ) (x : Node) (a b : groups.Node) → NameStands w i x a → NameStands v i x b → Begins w.group v.group
-    → b.list ≡ a.list
+list_same : (w v : World) (i : ℕ) (x : Node) (a b : groups.Node) → NameStands w i x a → NameStands v i x b → Begins w.group v.group → b.list ≡ a.list
 list_same w v i x a b h k grows = k.list ∙ ap (λ l. l ++ x.core.log.entries) (taken_more x.core.log.start w.group v.group grows h.begins.within) ∙ sym h.list
 
 pub last_stays : (w v : World) (ballot : Option Ballot) → ((j : ℕ) → is_stopped w j ≡ true → is_stopped v j ≡ true) → LastStands w ballot → LastStands v ballot

@@ -1,30 +1,12 @@
 -- What a node tells of its list by numbers is what the whole list tells.
-use Rattle.std.proofs.Common.{◌≡◌, ℕ, zero, suc, ◌+◌, ◌-◌, ◌<◌, ◌≤◌, true, false, List, [], ◌∷◌, ◌++◌, length, take, drop, Option, Some, None, slice_get}
-use Rattle.std.proofs.Common.{refl, sym, ap, ◌∙◌, subst, arith}
-use Rattle.std.proofs.Math.Seq.{take-append-add, drop-append_seam}
-use Rattle.std.proofs.lemmas.List.{length-take, take-append-drop}
-use Rattle.am_base.specs.declared.entry.Entry.{Entry}
-use Rattle.am_base.specs.declared.entry.Entry.TheVariants.{Data, Join, Leave, View}
-use Rattle.am_base.specs.declared.image.Image.{Image}
-use Rattle.am_base.specs.Names.{IsSet, has, size}
-use Rattle.am_base.specs.Lists.{blank, fold, after, members_of, entry_at, image_at, members_at}
-use Rattle.am_base.specs.Fronts.{counted_of, counted_at, need_at}
-use Rattle.am_core.proofs.Folds.{slice_get-drop}
-use Rattle.am_fronts.proofs.Views.{view_grows}
-use Rattle.am_chain_lists.specs.Whole.{IsGood, image_of, mem, resilience_of, Begins}
-use Rattle.am_chain_lists.proofs.Prefixes.{begins_take, begins_push, length_take, length_push, take_begins}
-use Rattle.am_chain_lists.proofs.Members.{good_begins, told_push, viewed_mem}
+use Rattle.am_stands.proofs.Words.{◌≡◌, ℕ, zero, suc, ◌+◌, ◌-◌, ◌<◌, ◌≤◌, true, false, List, [], ◌∷◌, ◌++◌, length, take, drop, Option, Some, None, slice_get}
+use Rattle.am_stands.proofs.Words.{refl, sym, ap, ◌∙◌, subst, arith, take-append-add, drop-append_seam, length-take, take-append-drop, Entry, View, Image}
+use Rattle.am_stands.proofs.Words.{IsSet, has, size, blank, fold, after, members_of, entry_at, image_at, members_at, counted_of, counted_at, need_at}
+use Rattle.am_stands.proofs.Words.{slice_get-drop, view_grows, IsGood, image_of, mem, resilience_of, Begins, begins_take, begins_push, length_take}
+use Rattle.am_stands.proofs.Words.{length_push, take_begins, good_begins, told_push, viewed_mem, how_many, counted_in, Node, is_view, World, fold_append}
+use Rattle.am_stands.proofs.Words.{split, entry_is, after_same, NameStands, IsConcerned}
+use Rattle.am_chain_moves.specs.Group.{need_of}
 use Rattle.am_chain_moves.specs.Group as groups
-use Rattle.am_chain_moves.specs.Group.{how_many, counted_in, need_of}
-use Rattle.am_model.specs.Node.{Node}
-use Rattle.am_model.specs.Receiving.{is_view}
-use Rattle.am_play.specs.World.{World}
-use Rattle.am_base.proofs.Folds.{fold_append}
-use Rattle.am_base.proofs.Greatest.{split}
-use Rattle.am_effects.proofs.Ballots.{entry_is}
-use Rattle.am_laws.proofs.ViewSteps.{after_same}
-use Rattle.am_stands.specs.Standing.{NameStands}
-use Rattle.am_stands.specs.States.{IsConcerned}
 use Rattle.am_stands.proofs.Counting.{names_few}
 
 -- ---- by numbers
@@ -82,10 +64,8 @@ plain_number a e f = ap (λ (g : Image). g.view_number) (told_push a e) ∙ (aft
 
 pub view_its : (image : Image) (number : ℕ) (e : Entry) → is_view e ≡ true → (after image number e).view_number ≡ number
 unfolding after
-view_its image number (Data from req body) t = absurd (cc)
-view_its image number (Join name) t = absurd (cc)
-view_its image number (Leave name) t = absurd (cc)
 view_its image number (View stamp names resilience) t = refl
+view_its image number _ t = absurd (cc)
 
 -- where no View stands from a number on, the last one's number is as before it
 number_kept : (image : Image) (number : ℕ) (es : List Entry) → (fold image number es).view_number < number
@@ -122,10 +102,8 @@ number_low list = let r = fold_low blank 1 list (omega arith) in omega arith
 -- ---- who counts is concerned
 
 plain_counts : (e : Entry) (before : List ℕ) → is_view e ≡ false → counted_of (Some e) before ≡ before
-plain_counts (Data from req body) before f = refl
-plain_counts (Join name) before f = refl
-plain_counts (Leave name) before f = refl
 plain_counts (View stamp names resilience) before f = absurd (cc)
+plain_counts _ before f = refl
 
 pub next_part : (list : List Entry) (n : ℕ) (e : Entry) → n < length list → slice_get list n ≡ Some e → take (n + 1) list ≡ take n list ++ e ∷ []
 next_part list n e low at =
@@ -149,9 +127,6 @@ no_none (e ∷ list) (suc n) low is = no_none list n (omega arith) is
 
 stood_view : (list : List Entry) (n name : ℕ) (e : Entry) → IsGood list → n < length list → (image_of list).view_number ≤ n + 1
     → is_view e ≡ true → slice_get list n ≡ Some e → has (counted_of (Some e) (members_of (image_of (take n list)))) name ≡ true → Stood list (n + 1) name
-stood_view list n name (Data from req body) good low high t is h = absurd (cc)
-stood_view list n name (Join joiner) good low high t is h = absurd (cc)
-stood_view list n name (Leave leaver) good low high t is h = absurd (cc)
 stood_view list n name (View stamp names resilience) good low high t is h =
     let part = next_part list n (View stamp names resilience) low is in
     let long : length (take (n + 1) list) ≡ n + 1 = length_take (n + 1) list (omega arith) in
@@ -163,6 +138,7 @@ stood_view list n name (View stamp names resilience) good low high t is h =
       from = omega arith;
       member = subst (λ l. mem l name ≡ true) (sym part) (viewed_mem (take n list) stamp names resilience name good_part h);
     }
+stood_view list n name _ good low high t is h = absurd (cc)
 
 stood_plain : (list : List Entry) (n name : ℕ) (e : Entry) → n < length list → (image_of list).view_number ≤ n + 1
     → is_view e ≡ false → slice_get list n ≡ Some e → has (counted_of (Some e) (members_of (image_of (take n list)))) name ≡ true → Stood list (n + 1) name

@@ -1,55 +1,26 @@
 -- What a node needs to store a Piece, from what the Piece says.
-use Rattle.std.proofs.Common.{◌≡◌, ◌≢◌, ℕ, suc, ◌<◌, ◌==◌, not, List, [], ◌∷◌, ◌++◌, length, true, false, Some, slice_get, refl, sym, ap, ◌∙◌, subst, arith}
-use Rattle.std.proofs.Common.{max, length-append}
-use Rattle.std.specs.List.{list_any}
-use Rattle.std.proofs.lemmas.Bool.Decides.{nat_tests}
-use Rattle.std.proofs.lemmas.List.{append_assoc}
-use Rattle.am_base.specs.declared.entry.Entry.{Entry}
-use Rattle.am_base.specs.declared.entry.Entry.TheVariants.{Data, Join, Leave, View}
-use Rattle.am_base.specs.declared.name.Stamp.{Stamp}
-use Rattle.am_group.specs.Journals.{item_at}
-use Rattle.am_chain_lists.specs.Whole.{Begins, IsGood, NotView, view_of, key}
-use Rattle.am_chain_lists.proofs.Order.{key_by, view_up, view_viewed, view_below, view_push}
-use Rattle.am_chain_lists.proofs.Prefixes.{begins_more, begins_push, begins_length}
-use Rattle.am_chain_lists.proofs.Members.{good_begins}
-use Rattle.am_chain_moves.specs.Group.{Group, IsUp}
-use Rattle.am_chain_moves.specs.Kept.{Kept}
+use Rattle.am_stands.proofs.Words.{eqb-false, eqb-true, same_stamp, ◌≡◌, ◌≢◌, ℕ, suc, ◌<◌, ◌==◌, not, List, [], ◌∷◌, ◌++◌, length, true, false, Some}
+use Rattle.am_stands.proofs.Words.{slice_get, refl, sym, ap, ◌∙◌, subst, arith, max, list_any, append_assoc, Entry, View, Stamp, item_at, Begins, IsGood}
+use Rattle.am_stands.proofs.Words.{NotView, view_of, key, key_by, view_up, view_viewed, view_below, view_push, begins_more, begins_push, begins_length}
+use Rattle.am_stands.proofs.Words.{good_begins, Group, IsUp, Kept, Node, Ballot, view, is_member, is_unfinished, is_view, is_view_of, up_to_view, up_to_next}
+use Rattle.am_stands.proofs.Words.{World, Decided, is_stopped, split, HasOpen, MayStore, Fetches, without_ballot, NameStands, StandsBut, within, line}
+use Rattle.am_stands.proofs.Words.{IsDecided, PieceSays, ShownEntry, of_line, of_shown, over, LinesOpen, IsOthers, NeedsPiece, of_its_line, of_its_shown}
+use Rattle.std.proofs.Common.{length-append}
+use Rattle.am_effects.specs.Changes.{for_ballot}
 use Rattle.am_model.specs.Node as nodes
-use Rattle.am_model.specs.Node.{Node, Ballot, view, is_member}
-use Rattle.am_model.specs.Calls.{is_unfinished}
-use Rattle.am_model.specs.Receiving.{is_view}
-use Rattle.am_play.specs.Lawful.{is_view_of}
-use Rattle.am_play.specs.Claims.{up_to_view, up_to_next}
-use Rattle.am_play.specs.World.{World, Decided, is_stopped}
-use Rattle.am_base.proofs.Greatest.{split}
-use Rattle.am_effects.specs.Looks.{HasOpen}
-use Rattle.am_effects.specs.Changes.{MayStore, Fetches, without_ballot, for_ballot}
-use Rattle.am_laws.proofs.Stamps.{same_stamp}
-use Rattle.am_stands.specs.Standing.{NameStands, StandsBut, within}
-use Rattle.am_stands.specs.Letters.{line, IsDecided, PieceSays, ShownEntry, of_line, of_shown, over}
-use Rattle.am_stands.specs.States.{LinesOpen}
-use Rattle.am_stands.specs.Steps.{IsOthers, NeedsPiece, of_line as of_its_line, of_shown as of_its_shown}
-use Rattle.am_stands.proofs.Changes.{own_name, long_all, is_up}
-use Rattle.am_stands.proofs.Entries.{key_stamp, line_here, view_whole}
-use Rattle.am_stands.proofs.Sent.{Speaks, promise_line}
-use Rattle.am_stands.proofs.Heard.{item_next, entry_needs}
-use Rattle.am_stands.proofs.Letters.{item_stays}
-use Rattle.am_stands.proofs.Votes.{undecided}
+use Rattle.am_stands.proofs.{Changes.own_name, Changes.long_all, Changes.is_up, Entries.key_stamp, Entries.line_here, Entries.view_whole, Sent.Speaks}
+use Rattle.am_stands.proofs.{Sent.promise_line, Heard.item_next, Heard.entry_needs, Letters.item_stays, Votes.undecided}
 
 -- ---- the line of a list's last view is all of the list
 
-plain : (e : Entry) → is_view e ≡ false → NotView e
-plain (Data from req body) h = tt
-plain (Join name) h = tt
-plain (Leave name) h = tt
+pub plain : (e : Entry) → is_view e ≡ false → NotView e
 plain (View stamp names resilience) h = absurd (cc)
+plain _ h = tt
 
 rises : (a : List Entry) (e : Entry) → is_view e ≡ true → IsGood (a ++ e ∷ []) → key (view_of a) < key (view_of (a ++ e ∷ []))
-rises a (Data from req body) h g = absurd (cc)
-rises a (Join name) h g = absurd (cc)
-rises a (Leave name) h g = absurd (cc)
 rises a (View stamp names resilience) h g = subst (λ (u : Stamp). key (view_of a) < key u) (sym (view_viewed a stamp names resilience))
     (view_below a stamp names resilience g)
+rises a _ h g = absurd (cc)
 
 -- behind the last View there is none
 pub none_after : (a es : List Entry) → IsGood (a ++ es) → view_of (a ++ es) ≡ view_of a → list_any is_view es ≡ false
@@ -74,10 +45,8 @@ no_next (e ∷ es) h = split (is_view e)
     (λ f. rw f (ap (λ l. e ∷ l) (no_next es (rw f at h))))
 
 viewed_now : (v : Stamp) (a : List Entry) (e : Entry) → is_view_of v e ≡ true → view_of (a ++ e ∷ []) ≡ v
-viewed_now v a (Data from req body) h = absurd (cc)
-viewed_now v a (Join name) h = absurd (cc)
-viewed_now v a (Leave name) h = absurd (cc)
 viewed_now v a (View stamp names resilience) h = view_viewed a stamp names resilience ∙ same_stamp stamp v h
+viewed_now v a _ h = absurd (cc)
 
 all_line : (v : Stamp) (a es : List Entry) → IsGood (a ++ es) → view_of (a ++ es) ≡ v → up_to_next v es ≡ es
 unfolding up_to_next
@@ -150,8 +119,7 @@ others_entry w name x e s y h decided begins next by = split (is_view e)
 
 -- of the line of the promise
 line_needs : (w : World) (name base number : ℕ) (x : Node) (v : Stamp) (e : Entry) (s : Group) → Fetcher w name x s → x.core.promise ≡ v → v.by ≢ name
-    → MayStore x (max x.core.base base) base number e
-    → IsDecided s v → item_at (line s v) number ≡ Some e → NeedsPiece s name x e
+    → MayStore x (max x.core.base base) base number e → IsDecided s v → item_at (line s v) number ≡ Some e → NeedsPiece s name x e
 line_needs w name base number x v e s h promise other may decided stands =
     let a = s.node name in
     let old = own w name x s h in
@@ -166,8 +134,7 @@ line_needs w name base number x v e s h promise other may decided stands =
 
 -- of a list that was shown
 shown_needs : (w : World) (name from base number : ℕ) (x : Node) (v : Stamp) (e : Entry) (s : Group) → Fetcher w name x s → x.core.promise ≡ v
-    → is_unfinished x.ballot ≡ true → MayStore x (max x.core.base base) base number e
-    → ShownEntry s from v number e → NeedsPiece s name x e
+    → is_unfinished x.ballot ≡ true → MayStore x (max x.core.base base) base number e → ShownEntry s from v number e → NeedsPiece s name x e
 shown_needs w name from base number x v e s h promise unfinished may is =
     let a = s.node name in
     let old = own w name x s h in
@@ -188,12 +155,6 @@ shown_needs w name from base number x v e s h promise unfinished may is =
       next = next;
     })
 
-same_name : (a b : ℕ) → (a == b) ≡ true → a ≡ b
-same_name a b t = grind (arith, nat_tests)
-
-not_same : (a b : ℕ) → (a == b) ≡ false → a ≢ b
-not_same a b f same = grind (arith, nat_tests)
-
 opened : (x : Node) (b : Ballot) → HasOpen x b → is_unfinished x.ballot ≡ true
 opened x b h = ap is_unfinished h.last ∙ ap not h.open_
 
@@ -202,19 +163,19 @@ pub piece_needs : (w : World) (name from base number : ℕ) (x : Node) (v : Stam
     → PieceSays s from v number e → NeedsPiece s name x e
 piece_needs w name from base number x v e s h other promise (without_ballot none by past) may (of_line sent decided stands) =
     let who = h.who in
-    line_needs w name base number x v e s h promise (λ same. not_same from x.core.who other (sym (same_name v.by from by) ∙ same ∙ sym who)) may decided stands
+    line_needs w name base number x v e s h promise (λ same. eqb-false from x.core.who other (sym (eqb-true v.by from by) ∙ same ∙ sym who)) may decided stands
 piece_needs w name from base number x v e s h other promise (without_ballot none by past) may (of_shown is) = absurd (
     let ok = h.kept.shown (key v) from is.list is.shown in
     let small : v.by < 256 = subst (λ (u : Stamp). u.by < 256) promise h.promise in
     let same = key_by ok.stamp v ok.small small ok.is in
-    ok.other (same ∙ same_name v.by from by))
-piece_needs w name from base number x v e s h other promise (without_ballot none by past) may (over not_by decided) = absurd (not_by (same_name v.by from by))
+    ok.other (same ∙ eqb-true v.by from by))
+piece_needs w name from base number x v e s h other promise (without_ballot none by past) may (over not_by decided) = absurd (not_by (eqb-true v.by from by))
 piece_needs w name from base number x v e s h other promise (for_ballot b open_ fetching past) may (of_line sent decided stands) = absurd (
     let up = up_name w name x s h in
     let old = own w name x s h in
     let by = ((h.kept.each name).ballot up (old.ballot ∙ opened x b open_)).by in
     let same : v.by ≡ name = ap (λ (u : Stamp). u.by) (sym promise ∙ sym old.promise) ∙ by in
-    not_same from x.core.who other (sym sent ∙ same ∙ sym h.who))
+    eqb-false from x.core.who other (sym sent ∙ same ∙ sym h.who))
 piece_needs w name from base number x v e s h other promise (for_ballot b open_ fetching past) may
     (of_shown is) = shown_needs w name from base number x v e s h promise (opened x b open_) may is
 piece_needs w name from base number x v e s h other promise (for_ballot b open_ fetching past) may (over not_by decided) = absurd (

@@ -1,40 +1,13 @@
 -- What a node keeps, through a refresh: what it accepts then is accepted in the group before, and what it trims was taken by all who need it.
-use Rattle.std.proofs.Common.{◌≡◌, ⊎_elim, ℕ, ◌+◌, ◌≤◌, ◌==◌, true, false, List, length, refl, sym, ap, ◌∙◌, subst, arith}
-use Rattle.std.proofs.lemmas.Bool.Decides.{nat_tests}
-use Rattle.am_base.specs.declared.entry.Entry.{Entry}
-use Rattle.am_base.specs.declared.image.Image.{Image}
-use Rattle.am_base.specs.declared.image.Report.{Report}
-use Rattle.am_base.specs.Founding.{Rules}
-use Rattle.am_base.specs.Lists.{told_by}
-use Rattle.am_core.specs.Cores.{accept, pass_over}
-use Rattle.am_fronts.specs.Reports.{after_report}
-use Rattle.am_fronts.specs.Refresh.{own_report, tell, go_on, let_go}
-use Rattle.am_chain_lists.specs.Whole.{IsGood, image_of, mem}
-use Rattle.am_chain_lists.proofs.Members.{mem_in}
-use Rattle.am_chain_moves.specs.Group.{Group}
-use Rattle.am_chain_moves.specs.Kept.{Kept}
+use Rattle.am_stands.proofs.Words.{◌≡◌, ⊎_elim, ℕ, ◌+◌, ◌≤◌, ◌==◌, true, false, List, length, refl, sym, ap, ◌∙◌, subst, arith, nat_tests, Entry, Image}
+use Rattle.am_stands.proofs.Words.{Report, Rules, told_by, accept, pass_over, after_report, own_report, tell, go_on, let_go, IsGood, image_of, mem, mem_in}
+use Rattle.am_stands.proofs.Words.{Group, Kept, Node, is_member, is_sequencer, lowest_or_first, has_log, is_unfinished, advance, lead, refresh, World, split}
+use Rattle.am_stands.proofs.Words.{Cause, rests_refresh, refresh_is, leads_rests, Along, NameStands, within, Trimmed, Grows, OpensStand, ReportsFresh}
+use Rattle.am_stands.proofs.Words.{ReportsStand, IsNew, Reporting, Ballots, GroupFor, NodeKeeps, OwnTurn, RefreshesKeep, Refreshing, Stepping}
 use Rattle.am_model.specs.Node as nodes
-use Rattle.am_model.specs.Node.{Node, is_member, is_sequencer, lowest_or_first, has_log}
-use Rattle.am_model.specs.Calls.{is_unfinished}
-use Rattle.am_model.specs.Refresh.{advance, lead, refresh}
-use Rattle.am_play.specs.World.{World}
-use Rattle.am_base.proofs.Greatest.{split}
-use Rattle.am_effects.specs.Causes.{Cause}
-use Rattle.am_effects.proofs.Rests.{rests_refresh, refresh_is, leads_rests}
-use Rattle.am_laws.proofs.TakenRuns.{Along}
-use Rattle.am_stands.specs.Standing.{NameStands, within}
-use Rattle.am_stands.specs.Letters.{Trimmed}
-use Rattle.am_stands.specs.Growing.{Grows}
-use Rattle.am_stands.specs.States.{OpensStand, ReportsFresh, ReportsStand, IsNew, Reporting}
-use Rattle.am_stands.proofs.Accepting.{own_reporting}
-use Rattle.am_stands.proofs.Changes.{told_whole, long_all, is_up}
-use Rattle.am_stands.proofs.ChainNames.{concerned_small, front_named}
-use Rattle.am_stands.proofs.Keeping.{old, list_member, sequencer_member}
-use Rattle.am_stands.proofs.Keeps.{ballots_grow, trimmed_grow}
-use Rattle.am_stands.proofs.Onward.{group_kept}
-use Rattle.am_stands.proofs.Reporting.{reporting_grow, reporting_base}
-use Rattle.am_stands.proofs.Trimming.{Refreshed, refresh_trims}
-use Rattle.am_stands.specs.Keeping.{Ballots, GroupFor, NodeKeeps, OwnTurn, RefreshesKeep, Refreshing, Stepping}
+use Rattle.am_stands.proofs.{Accepting.own_reporting, Changes.told_whole, Changes.long_all, Changes.is_up, ChainNames.concerned_small, ChainNames.front_named}
+use Rattle.am_stands.proofs.{Keeping.old, Keeping.list_member, Keeping.sequencer_member, Keeps.ballots_grow, Keeps.trimmed_grow, Onward.group_kept}
+use Rattle.am_stands.proofs.{Reporting.reporting_grow, Reporting.reporting_base, Trimming.Refreshed, Trimming.refresh_trims}
 
 -- ---- what a refresh does to reports and base
 

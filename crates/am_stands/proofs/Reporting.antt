@@ -1,32 +1,14 @@
 -- What is reported to a node stays true through each of its changes.
-use Rattle.std.proofs.Common.{◌≡◌, ◌≢◌, ◌⊎◌, inl, inr, ⊎_elim, ℕ, ◌+◌, ◌<◌, ◌≤◌, ◌==◌, ◌&&◌, max, not, nat_lt, Bool, true, false}
-use Rattle.std.proofs.Common.{List, [], ◌∷◌, ◌++◌, length, take, slice_index, refl, sym, ap, ◌∙◌, subst, arith}
-use Rattle.std.proofs.lemmas.Bool.Decides.{nat_tests}
-use Rattle.am_base.specs.declared.entry.Entry.{Entry}
-use Rattle.am_base.specs.declared.entry.Entry.TheVariants.{Data, Join, Leave, View}
-use Rattle.am_base.specs.declared.image.Report.{Report}
-use Rattle.am_base.specs.declared.image.Row.{Row}
-use Rattle.am_base.specs.declared.image.Image.{Image}
-use Rattle.am_base.specs.declared.name.Stamp.{Stamp}
-use Rattle.am_base.specs.Names.{place_of, life_of}
-use Rattle.am_base.specs.Lists.{is_blank, at_place, row_of, member_life, with_row, row_after_view, fits, after}
-use Rattle.am_fronts.specs.Reports.{after_report, with_admitted, reports_from}
-use Rattle.am_chain_lists.specs.Whole.{Begins, IsGood, image_of, mem, view_of, key}
-use Rattle.am_chain_lists.proofs.Prefixes.{begins_refl, begins_more, begins_trans, begins_both, begins_length, begins_take, begins_pushed, length_push}
-use Rattle.am_chain_lists.proofs.Prefixes.{length_take, take_begins}
-use Rattle.am_chain_lists.proofs.Rows.{row_at, In, mod16, row_set, row_view, blank_joined}
-use Rattle.am_chain_lists.proofs.Members.{good_begins, told_push, long_told, mem_in, in_mem, mem_between, mem_viewed}
+use Rattle.am_stands.proofs.Words.{◌≡◌, ◌≢◌, ◌⊎◌, inl, inr, ⊎_elim, ℕ, ◌+◌, ◌<◌, ◌≤◌, ◌==◌, ◌&&◌, max, not, nat_lt, Bool, true, false, List, [], ◌∷◌, ◌++◌}
+use Rattle.am_stands.proofs.Words.{length, take, slice_index, refl, sym, ap, ◌∙◌, subst, arith, nat_tests, Entry, Data, Join, Leave, View, Report, Row, Image}
+use Rattle.am_stands.proofs.Words.{Stamp, place_of, life_of, is_blank, at_place, row_of, member_life, with_row, row_after_view, fits, after, after_report}
+use Rattle.am_stands.proofs.Words.{with_admitted, reports_from, Begins, IsGood, image_of, mem, view_of, key, begins_refl, begins_more, begins_trans}
+use Rattle.am_stands.proofs.Words.{begins_both, begins_length, begins_take, begins_pushed, length_push, length_take, take_begins, row_at, In, mod16, row_set}
+use Rattle.am_stands.proofs.Words.{row_view, blank_joined, good_begins, told_push, long_told, mem_in, in_mem, mem_between, mem_viewed, Group, opening}
+use Rattle.am_stands.proofs.Words.{is_view, split, after_same, line, IsDecided, ReportSays, LeaverSays, of_view, before_it, IsConcerned, Reporting, IsNew}
 use Rattle.am_chain_moves.specs.Group as groups
-use Rattle.am_chain_moves.specs.Group.{Group, opening}
-use Rattle.am_model.specs.Receiving.{is_view}
-use Rattle.am_base.proofs.Greatest.{split}
-use Rattle.am_laws.proofs.ViewSteps.{after_same}
-use Rattle.am_stands.specs.Letters.{line, IsDecided, ReportSays, LeaverSays, of_view, before_it}
-use Rattle.am_stands.specs.States.{IsConcerned, Reporting, IsNew}
-use Rattle.am_stands.proofs.Concerned.{reporting_joins}
-use Rattle.am_stands.proofs.Joins.{Becomes, stayed, joins, founds, became, blank_nil}
-use Rattle.am_stands.proofs.Parts.{number_low, view_its}
-use Rattle.am_stands.proofs.Results.{last_view_at}
+use Rattle.am_stands.proofs.{Concerned.reporting_joins, Joins.Becomes, Joins.stayed, Joins.joins, Joins.founds, Joins.became, Joins.blank_nil}
+use Rattle.am_stands.proofs.{Parts.number_low, Parts.view_its, Results.last_view_at}
 
 -- ---- reports, while names have no less
 
@@ -204,8 +186,7 @@ part_true list own n within begins low =
 
 -- what is reported in the view of a sequencer's list is true of it
 pub report_true : (s : Group) (from : ℕ) (v : Stamp) (list : List Entry) (report : Report) → line s v ≡ list → report.stored ≤ length list
-    → ReportSays s from v report
-    → Begins (take report.stored list) (s.node from).list
+    → ReportSays s from v report → Begins (take report.stored list) (s.node from).list
 report_true s from v list report is low h = part_true list (s.node from).list report.stored h.within
     (subst (Begins (take report.stored (s.node from).list)) is h.begins) low
 

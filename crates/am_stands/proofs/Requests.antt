@@ -1,35 +1,13 @@
 -- The requests of a name's own sends come in turn, whoever numbers them.
-use Rattle.std.proofs.Common.{◌≡◌, ℕ, ◌+◌, ◌-◌, ◌<◌, true, List, ◌++◌, length, map, take, Option, Some, None}
-use Rattle.std.proofs.Common.{slice_get, refl, sym, ap, ◌∙◌, subst, arith}
-use Rattle.std.proofs.lemmas.Grind.{flat_map-append}
-use Rattle.std.proofs.lemmas.Bool.Decides.{nat_tests}
-use Rattle.std.proofs.lemmas.List.{length-append}
-use Rattle.am_base.specs.declared.entry.Entry.{Entry}
-use Rattle.am_base.specs.declared.entry.Entry.TheVariants.{Data}
-use Rattle.am_base.specs.declared.image.Image.{Image}
-use Rattle.am_base.specs.declared.image.Row.{Row}
-use Rattle.am_base.specs.Names.{place_of, has}
-use Rattle.am_base.specs.Lists.{members_of, row_of, requests_of, request_in}
-use Rattle.am_chain_lists.specs.Whole.{Begins, IsGood, image_of, mem}
-use Rattle.am_chain_lists.proofs.Rows.{row_at}
-use Rattle.am_chain_lists.proofs.Members.{mem_in}
+use Rattle.am_stands.proofs.Words.{◌≡◌, ℕ, ◌+◌, ◌-◌, ◌<◌, true, List, ◌++◌, length, map, take, Option, Some, None, slice_get, refl, sym, ap, ◌∙◌, subst}
+use Rattle.am_stands.proofs.Words.{arith, flat_map-append, nat_tests, length-append, Entry, Data, Image, Row, place_of, has, members_of, row_of, requests_of}
+use Rattle.am_stands.proofs.Words.{request_in, Begins, IsGood, image_of, mem, row_at, mem_in, OwnSend, Node, waiting, accepted_at, settle_at, settle_waiting}
+use Rattle.am_stands.proofs.Words.{settle, World, split, request_within, next_in, found_at, Turn, waiting_is, one_more, waiting_settled, collected_turn}
+use Rattle.am_stands.proofs.Words.{NameStands, OwnTurn}
 use Rattle.am_chain_moves.specs.Group as groups
-use Rattle.am_sender.specs.declared.OwnSend.{OwnSend}
 use Rattle.am_sender.specs.Sends as own
 use Rattle.am_model.specs.Node as nodes
-use Rattle.am_model.specs.Node.{Node, waiting}
-use Rattle.am_model.specs.Refresh.{accepted_at, settle_at, settle_waiting, settle}
-use Rattle.am_play.specs.World.{World}
-use Rattle.am_base.proofs.Greatest.{split}
-use Rattle.am_orders.proofs.Turns.{request_within, next_in}
-use Rattle.am_unballoted.proofs.Changes.{found_at}
-use Rattle.am_unballoted.proofs.Turns.{Turn, waiting_is, one_more, waiting_settled, collected_turn}
-use Rattle.am_stands.specs.Standing.{NameStands}
-use Rattle.am_stands.proofs.Changes.{told_all}
-use Rattle.am_stands.proofs.Heard.{OwnFits, fits_data}
-use Rattle.am_stands.proofs.Parts.{part_get}
-use Rattle.am_stands.proofs.Welcoming.{member_row}
-use Rattle.am_stands.specs.Keeping.{OwnTurn}
+use Rattle.am_stands.proofs.{Changes.told_all, Heard.OwnFits, Heard.fits_data, Parts.part_get, Welcoming.member_row}
 
 -- a longer list has no fewer
 pub turn_grows : (who : ℕ) (a b : List Entry) (sends : own.Sends) → Begins a b → OwnTurn who a sends → OwnTurn who b sends

@@ -1,33 +1,11 @@
 -- The Result that is sent is so: a sequencer's View stands in the line of its view.
-use Rattle.std.proofs.Common.{◌≡◌, ℕ, suc, ◌+◌, ◌-◌, ◌<◌, ◌==◌, true, false, List, [], ◌∷◌, ◌++◌, length, Some, slice_get, refl, sym, ap, ◌∙◌, subst, arith}
-use Rattle.std.specs.List.{list_any}
-use Rattle.std.proofs.lemmas.Bool.Decides.{nat_tests}
-use Rattle.am_base.specs.declared.entry.Entry.{Entry}
-use Rattle.am_base.specs.declared.entry.Entry.TheVariants.{View}
-use Rattle.am_base.specs.declared.image.Image.{Image}
-use Rattle.am_base.specs.declared.name.Stamp.{Stamp}
-use Rattle.am_base.specs.Stamps.{stamp_eq}
-use Rattle.am_base.specs.Lists.{after, fold, entry_at}
-use Rattle.am_group.specs.Journals.{item_at}
-use Rattle.am_chain_lists.specs.Whole.{Begins, IsGood, image_of, view_of, key}
-use Rattle.am_chain_lists.proofs.Prefixes.{next_of}
-use Rattle.am_chain_lists.proofs.Members.{fold_append, told_push}
-use Rattle.am_chain_lists.proofs.Order.{view_viewed}
-use Rattle.am_chain_moves.specs.Group.{Group, opening}
+use Rattle.am_stands.proofs.Words.{◌≡◌, ℕ, suc, ◌+◌, ◌-◌, ◌<◌, ◌==◌, true, false, List, [], ◌∷◌, ◌++◌, length, Some, slice_get, refl, sym, ap, ◌∙◌, subst}
+use Rattle.am_stands.proofs.Words.{arith, list_any, nat_tests, Entry, View, Image, Stamp, stamp_eq, after, fold, entry_at, item_at, Begins, IsGood, image_of}
+use Rattle.am_stands.proofs.Words.{view_of, key, next_of, told_push, view_viewed, Group, opening, Node, view, is_member, is_sequencer, is_view, viewed_by}
+use Rattle.am_stands.proofs.Words.{World, split, MayTell, leads, decided, after_same, after_view, ResultSays, OwnDecided}
+use Rattle.am_chain_lists.proofs.Members.{fold_append}
 use Rattle.am_model.specs.Node as nodes
-use Rattle.am_model.specs.Node.{Node, view, is_member, is_sequencer}
-use Rattle.am_model.specs.Receiving.{is_view}
-use Rattle.am_model.specs.Ticks.{viewed_by}
-use Rattle.am_play.specs.World.{World}
-use Rattle.am_base.proofs.Greatest.{split}
-use Rattle.am_effects.specs.Letters.{MayTell, leads, decided}
-use Rattle.am_laws.proofs.ViewSteps.{after_same, after_view}
-use Rattle.am_stands.specs.Letters.{ResultSays}
-use Rattle.am_stands.specs.States.{OwnDecided}
-use Rattle.am_stands.proofs.Changes.{told_all}
-use Rattle.am_stands.proofs.Pieces.{none_after}
-use Rattle.am_stands.proofs.Sent.{Speaks, leading}
-use Rattle.am_stands.proofs.Parts.{entry_whole}
+use Rattle.am_stands.proofs.{Changes.told_all, Pieces.none_after, Sent.Speaks, Sent.leading, Parts.entry_whole}
 
 -- ---- the last View of a list
 

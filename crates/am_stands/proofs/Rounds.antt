@@ -1,15 +1,9 @@
 -- In every run of the group each decided stamp has a round, and each promise of a name with a log.
-use Rattle.std.proofs.Common.{◌≡◌, ◌≢◌, ⊎_elim, ℕ, ◌+◌, ◌<◌, List, true, false, refl, sym, ap, ◌∙◌, subst, arith}
-use Rattle.std.proofs.lemmas.Bool.Decides.{nat_tests}
-use Rattle.am_base.specs.declared.name.Stamp.{Stamp}
-use Rattle.am_chain_lists.specs.Whole.{key}
+use Rattle.am_stands.proofs.Words.{◌≡◌, ◌≢◌, ⊎_elim, ℕ, ◌+◌, ◌<◌, List, true, false, refl, sym, ap, ◌∙◌, subst, arith, nat_tests, Stamp, key, Group, put}
+use Rattle.am_stands.proofs.Words.{Move, own_stamp, numbers, stores, learns, begins, raises, fetches, gives_over, welcomes, asks, departs, closes, stops}
+use Rattle.am_stands.proofs.Words.{founded, more, start, first_stamp, put_cases, put_at, HasRound, RoundsOk, RunsHaveRounds}
+use Rattle.am_chain_moves.specs.Moves.{decides}
 use Rattle.am_chain_moves.specs.Group as groups
-use Rattle.am_chain_moves.specs.Group.{Group, put}
-use Rattle.am_chain_moves.specs.Moves.{Move, own_stamp, numbers, stores, accepts, learns, begins, raises, shows, serves, fetches, decides, gives_over}
-use Rattle.am_chain_moves.specs.Moves.{welcomes, asks, departs, closes, stops}
-use Rattle.am_chain_moves.specs.Runs.{founded, more, start, first_stamp}
-use Rattle.am_chain_moves.proofs.Puts.{put_cases, put_at}
-use Rattle.am_stands.specs.States.{HasRound, RoundsOk, RunsHaveRounds}
 
 some_round : (round by : ℕ) → 0 < round → HasRound (key (record { round = round; by = by }))
 unfolding key
@@ -51,14 +45,11 @@ same_rounds s t node decided h = record {
 pub moves_rounds : (s t : Group) → Move s t → RoundsOk s → RoundsOk t
 moves_rounds s t (numbers i e leads fit may) h = put_rounds s t i _ refl refl (h.promised i) h
 moves_rounds s t (stores i e up decided other stays next) h = put_rounds s t i _ refl refl (h.promised i) h
-moves_rounds s t (accepts i n leads may) h = same_rounds s t refl refl h
 moves_rounds s t (learns i told acc up rises within before up_to given low) h = put_rounds s t i _ refl refl (h.promised i) h
 moves_rounds s t (begins i few up stays member) h = put_rounds s t i _ refl refl (λ log. own_round i (s.node i)) h
 moves_rounds s t (raises i stamp there above) h =
     put_rounds s t i (record (s.node i) { promise = stamp; ballot = false }) refl refl
     (λ log. (let old = h.promised i log in let up = above.greater in omega arith)) h
-moves_rounds s t (shows i there small other begun none) h = same_rounds s t refl refl h
-moves_rounds s t (serves i list up shown others) h = same_rounds s t refl refl h
 moves_rounds s t (fetches i f list e up ballot served shown next) h = put_rounds s t i _ refl refl (h.promised i) h
 moves_rounds s t (decides i members resilience may) h = choice_rounds s t i _ refl refl refl may.up.log h
 moves_rounds s t (gives_over i) h = put_rounds s t i _ refl refl (h.promised i) h
@@ -67,6 +58,7 @@ moves_rounds s t (asks i up none) h = put_rounds s t i _ refl refl (h.promised i
 moves_rounds s t (departs i before may) h = put_rounds s t i _ refl refl (h.promised i) h
 moves_rounds s t (closes i n leads leaving alone may) h = put_rounds s t i _ refl refl (h.promised i) h
 moves_rounds s t (stops i) h = put_rounds s t i _ refl refl (h.promised i) h
+moves_rounds s t _ h = same_rounds s t refl refl h
 
 start_rounds : (founders : List ℕ) (first resilience : ℕ) → RoundsOk (start founders first resilience)
 start_rounds founders first resilience = record {

@@ -1,64 +1,34 @@
 -- Each letter that is sent is so.
-use Rattle.std.proofs.Common.{◌≡◌, ◌≢◌, ℕ, ◌<◌, ◌≤◌, ◌==◌, ◌&&◌, ◌||◌, true, false, List, [], ◌∷◌, length, take, refl, sym, ap, ◌∙◌, subst, arith}
-use Rattle.std.proofs.lemmas.Bool.Decides.{nat_tests}
-use Rattle.std.proofs.lemmas.Option.{slice_get_within}
-use Rattle.am_base.specs.declared.entry.Entry.{Entry}
-use Rattle.am_base.specs.declared.entry.Entry.TheVariants.{Data}
-use Rattle.am_base.specs.declared.image.Image.{Image}
-use Rattle.am_base.specs.declared.name.Stamp.{Stamp}
-use Rattle.am_base.specs.Names.{has}
-use Rattle.am_base.specs.Stamps.{stamp_eq, no_stamp}
-use Rattle.am_base.specs.Lists.{row_of, entry_at, image_at, fold}
-use Rattle.am_packet.specs.declared.packet.Packet.{Packet}
+use Rattle.am_stands.proofs.Words.{only_is, eqb-false, eqb-true, same_stamp, ◌≡◌, ◌≢◌, ℕ, ◌<◌, ◌≤◌, ◌==◌, ◌&&◌, ◌||◌, true, false, List, [], ◌∷◌, length}
+use Rattle.am_stands.proofs.Words.{take, refl, sym, ap, ◌∙◌, subst, arith, nat_tests, slice_get_within, Entry, Data, Image, Stamp, has, stamp_eq, no_stamp}
+use Rattle.am_stands.proofs.Words.{row_of, entry_at, image_at, fold, Packet, Begins, mem, view_of, key, good_begins, key_by, view_small, Group, IsThere}
+use Rattle.am_stands.proofs.Words.{opening, Status, Node, view, is_member, acts, is_sequencer, only_name, has_log, has_departed, own_vote, may_fetch}
+use Rattle.am_stands.proofs.Words.{viewed_by, World, split, and_both, Cause, hears, MayFetch, MayTell, leads, decided, request, spread, bcast, order, ack}
+use Rattle.am_stands.proofs.Words.{nack, hold, join_ask, welcome, leave_ask, gone, invite, vote, fetch, piece, result, hand_over, logged, IsDecided, AllShown}
+use Rattle.am_stands.proofs.Words.{FetchSays, PacketSays, ResultSays, none, Leads, KeptWhole, ListBegins, as_before, just_begun, Sender, ShowsMore, SaysSo}
+use Rattle.am_stands.proofs.Words.{SentSays}
+use Rattle.am_effects.specs.Letters.{for_ballot, of_promise, accept}
 use Rattle.am_packet.specs.declared.packet.Packet.TheVariants as packet
-use Rattle.am_chain_lists.specs.Whole.{Begins, mem, view_of, key}
-use Rattle.am_chain_lists.proofs.Members.{good_begins}
-use Rattle.am_chain_lists.proofs.Order.{key_by, view_small}
 use Rattle.am_chain_moves.specs.Group as groups
-use Rattle.am_chain_moves.specs.Group.{Group, IsThere, opening}
-use Rattle.am_model.specs.declared.status.Status.{Status}
 use Rattle.am_model.specs.declared.status.Status.TheVariants as status
 use Rattle.am_model.specs.Node as nodes
-use Rattle.am_model.specs.Node.{Node, view, is_member, acts, is_sequencer, only_name, has_log, has_departed}
-use Rattle.am_model.specs.Ballots.{own_vote}
-use Rattle.am_model.specs.Resets.{may_fetch}
-use Rattle.am_model.specs.Ticks.{viewed_by}
-use Rattle.am_play.specs.World.{World}
-use Rattle.am_base.proofs.Greatest.{split, and_both}
-use Rattle.am_effects.specs.Causes.{Cause, hears}
 use Rattle.am_effects.specs.Letters as letters
-use Rattle.am_effects.specs.Letters.{MayFetch, for_ballot, of_promise, MayTell, leads, decided, request, spread, bcast, order, accept, ack, nack, hold}
-use Rattle.am_effects.specs.Letters.{join_ask, welcome}
-use Rattle.am_effects.specs.Letters.{leave_ask, gone, invite, vote, fetch, piece, result, hand_over}
-use Rattle.am_effects.proofs.Statuses.{logged}
-use Rattle.am_laws.proofs.Stamps.{same_stamp}
 use Rattle.am_stands.specs.Letters as says
-use Rattle.am_stands.specs.Letters.{IsDecided, AllShown, FetchSays, PacketSays, ResultSays}
-use Rattle.am_stands.specs.Moving.{none, Leads}
-use Rattle.am_stands.specs.Sending.{KeptWhole, ListBegins, as_before, just_begun, Sender, ShowsMore, SaysSo, SentSays}
-use Rattle.am_stands.proofs.Changes.{told_all, long_all}
-use Rattle.am_stands.proofs.Entries.{key_stamp}
-use Rattle.am_stands.proofs.Going.{gone_says}
-use Rattle.am_stands.proofs.Opens.{list_opens}
-use Rattle.am_stands.proofs.Results.{tells_leads, result_said}
-use Rattle.am_stands.proofs.Sent.{Speaks, leading, report_said, leaver_said, sequencer_said, entry_said, piece_said}
-use Rattle.am_stands.proofs.Shown.{PieceStands, vote_said, shown_said}
-use Rattle.am_stands.proofs.Votes.{only_one}
-use Rattle.am_stands.proofs.Welcoming.{is_welcomed, welcome_says}
+use Rattle.am_stands.proofs.{Changes.told_all, Changes.long_all, Entries.key_stamp, Going.gone_says, Opens.list_opens, Results.tells_leads}
+use Rattle.am_stands.proofs.{Results.result_said, Sent.Speaks, Sent.leading, Sent.report_said, Sent.leaver_said, Sent.sequencer_said, Sent.entry_said}
+use Rattle.am_stands.proofs.{Sent.piece_said, Shown.PieceStands, Shown.vote_said, Shown.shown_said, Welcoming.is_welcomed, Welcoming.welcome_says}
 
 -- ---- who acts
 
 member_of : (t : Status) → has_log t ≡ true → has_departed t ≡ false → is_member t ≡ true
-member_of status.Stranger h d = absurd (cc)
-member_of status.Asking h d = absurd (cc)
 member_of status.Member h d = refl
-member_of status.Departed h d = absurd (cc)
+member_of _ h d = absurd (cc)
 
 no_round : key no_stamp < 256
 unfolding key
 no_round = omega arith
 
-nothing_viewed : view_of [] ≡ no_stamp
+pub nothing_viewed : view_of [] ≡ no_stamp
 unfolding view_of fold
 nothing_viewed = refl
 
@@ -83,12 +53,6 @@ acting_member n t = (and_both (is_member n.status) (stamp_eq n.core.promise (vie
 
 leading_acts : (n : Node) → is_sequencer n ≡ true → acts n ≡ true
 leading_acts n t = (and_both (acts n) ((view n).by == n.core.who) t).0
-
-same_number : (a b : ℕ) → (a == b) ≡ true → a ≡ b
-same_number a b t = grind (arith, nat_tests)
-
-not_number : (a b : ℕ) → (a == b) ≡ false → a ≢ b
-not_number a b f same = grind (arith, nat_tests)
 
 module _ (v : World) (i : ℕ) (c : Cause) (m n : Node) (s : Group) (h : Sender v i c m n s) where
   speaks : is_member n.status ≡ true → Speaks v i n s
@@ -140,11 +104,11 @@ module _ (v : World) (i : ℕ) (c : Cause) (m n : Node) (s : Group) (h : Sender 
   -- a Fetch for its own promise, and one for a ballot of its own
   fetched : (to : List ℕ) → MayFetch m n to → FetchSays s i n.core.promise to
   fetched to (of_promise other is) = says.of_promise
-      (λ same. not_number n.core.promise.by n.core.who other (same ∙ sym h.who))
-      (λ j in_. only_one n.core.promise.by j (ap (λ set. has set j) (sym is) ∙ in_))
+      (λ same. eqb-false n.core.promise.by n.core.who other (same ∙ sym h.who))
+      (λ j in_. only_is n.core.promise.by j (ap (λ set. has set j) (sym is) ∙ in_))
   fetched to (for_ballot b open_ from want answer is) =
       let known = h.ballots.fetches b from want open_ answer in
-      says.for_ballot known.0 (λ j in_. subst (AllShown s n.core.promise) (sym (only_one from j (ap (λ set. has set j) (sym is) ∙ in_))) known.1)
+      says.for_ballot known.0 (λ j in_. subst (AllShown s n.core.promise) (sym (only_is from j (ap (λ set. has set j) (sym is) ∙ in_))) known.1)
 
   -- a View of its own
   told_result : (number : ℕ) (names : List ℕ) → number ≡ (nodes.image_of n).view_number → viewed_by (entry_at n.core.log number) ≡ names → MayTell n
@@ -181,7 +145,7 @@ module _ (v : World) (i : ℕ) (c : Cause) (m n : Node) (s : Group) (h : Sender 
       let promise : u ≡ n.core.promise = same_stamp u n.core.promise both.0 in
       split (u.by == from)
       (λ t.
-      let by : n.core.promise.by ≡ from = ap (λ (x : Stamp). x.by) (sym promise) ∙ same_number u.by from t in
+      let by : n.core.promise.by ≡ from = ap (λ (x : Stamp). x.by) (sym promise) ∙ eqb-true u.by from t in
       let asks = h.asked from stored u is in
       let asked = subst (λ (x : Stamp). FetchSays s from x asks.0) promise asks.2 in
       shown_said v i from m.core.base number n e s asks.0 (speaks member) by (not_itself from asks.0 by asks.1 asked) asks.1 asked
@@ -190,7 +154,7 @@ module _ (v : World) (i : ℕ) (c : Cause) (m n : Node) (s : Group) (h : Sender 
       let rest : ((u.by == n.core.who) && stamp_eq (view n) u) ≡ true = rw f at both.1 in
       let own = and_both (u.by == n.core.who) (stamp_eq (view n) u) rest in
       let viewed : view n ≡ n.core.promise = same_stamp (view n) u own.1 ∙ promise in
-      let leads_ : is_sequencer n ≡ true = leads_own member viewed (ap (λ (x : Stamp). x.by) (sym promise) ∙ same_number u.by n.core.who own.0) in
+      let leads_ : is_sequencer n ≡ true = leads_own member viewed (ap (λ (x : Stamp). x.by) (sym promise) ∙ eqb-true u.by n.core.who own.0) in
       record {
         to = s;
         path = none;

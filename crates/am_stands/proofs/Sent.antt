@@ -1,29 +1,13 @@
 -- What a sender says is so.
-use Rattle.std.proofs.Common.{◌≡◌, ⊎_elim, ℕ, suc, ◌+◌, ◌<◌, ◌≤◌, ◌==◌, List, [], ◌∷◌, ◌++◌, length, take, true, Some, slice_get, sym, ap, ◌∙◌, subst}
-use Rattle.std.proofs.Common.{arith}
-use Rattle.std.proofs.lemmas.Bool.{cases_lt}
-use Rattle.std.proofs.lemmas.List.{length-take}
-use Rattle.std.proofs.lemmas.Bool.Decides.{nat_tests}
-use Rattle.am_base.specs.declared.entry.Entry.{Entry}
-use Rattle.am_base.specs.declared.name.Stamp.{Stamp}
-use Rattle.am_base.specs.declared.image.Image.{Image}
-use Rattle.am_base.specs.Stamps.{stamp_eq}
-use Rattle.am_group.specs.Journals.{item_at}
-use Rattle.am_chain_lists.specs.Whole.{Begins, IsGood, view_of, key}
-use Rattle.am_chain_lists.proofs.Prefixes.{begins_trans, take_begins, begins_refl}
+use Rattle.am_stands.proofs.Words.{same_stamp, ◌≡◌, ⊎_elim, ℕ, suc, ◌+◌, ◌<◌, ◌≤◌, ◌==◌, List, [], ◌∷◌, ◌++◌, length, take, true, Some, slice_get, sym, ap}
+use Rattle.am_stands.proofs.Words.{◌∙◌, subst, arith, cases_lt, length-take, nat_tests, Entry, Stamp, Image, stamp_eq, item_at, Begins, IsGood, view_of, key}
+use Rattle.am_stands.proofs.Words.{begins_trans, take_begins, begins_refl, Group, IsUp, chain_of, Kept, Node, view, is_member, acts, is_sequencer, World}
+use Rattle.am_stands.proofs.Words.{split, and_both, NameStands, FrontsStand, line, IsDecided, SequencerSays, EntrySays, ReportSays, LeaverSays, of_view}
+use Rattle.am_stands.proofs.Words.{before_it, PieceSays, of_line}
 use Rattle.am_chain_moves.specs.Group as groups
-use Rattle.am_chain_moves.specs.Group.{Group, IsUp, chain_of}
-use Rattle.am_chain_moves.specs.Kept.{Kept}
 use Rattle.am_model.specs.Node as nodes
-use Rattle.am_model.specs.Node.{Node, view, is_member, acts, is_sequencer}
-use Rattle.am_play.specs.World.{World}
-use Rattle.am_base.proofs.Greatest.{split, and_both}
 use Rattle.am_effects.specs.Letters as letters
-use Rattle.am_laws.proofs.Stamps.{same_stamp}
-use Rattle.am_stands.specs.Standing.{NameStands, FrontsStand}
-use Rattle.am_stands.specs.Letters.{line, IsDecided, SequencerSays, EntrySays, ReportSays, LeaverSays, of_view, before_it, PieceSays, of_line}
-use Rattle.am_stands.proofs.Changes.{told_all, long_all}
-use Rattle.am_stands.proofs.Growing.{leads_line}
+use Rattle.am_stands.proofs.{Changes.told_all, Changes.long_all, Growing.leads_line}
 
 -- ---- what is known of who sends
 

@@ -1,36 +1,14 @@
 -- Votes: what a coordinator keeps of them, and what a voter shows.
-use Rattle.std.proofs.Common.{◌≡◌, ◌≢◌, ◌⊎◌, ⊎_elim, ℕ, ◌<◌, ◌≤◌, ◌==◌, not, List, true, false, Option, Some, None, refl, sym, ap, ◌∙◌, subst, arith}
-use Rattle.std.proofs.lemmas.Bool.Decides.{nat_tests}
-use Rattle.am_base.specs.declared.entry.Entry.{Entry}
-use Rattle.am_base.specs.declared.image.Vote.{Vote}
-use Rattle.am_base.specs.declared.image.Image.{Image}
-use Rattle.am_base.specs.declared.name.Stamp.{Stamp}
-use Rattle.am_base.specs.Names.{has}
-use Rattle.am_base.specs.Lists.{members_of}
+use Rattle.am_stands.proofs.Words.{◌≡◌, ◌≢◌, ◌⊎◌, ⊎_elim, ℕ, ◌<◌, ◌≤◌, ◌==◌, not, List, true, false, Option, Some, None, refl, sym, ap, ◌∙◌, subst, arith}
+use Rattle.am_stands.proofs.Words.{nat_tests, Entry, Vote, Image, Stamp, has, members_of, item_at, mem, view_of, key, Group, IsThere, put2, Kept, put2_cases}
+use Rattle.am_stands.proofs.Words.{Node, Ballot, is_member, own_vote, World, split, and_both, Cause, hears, HasOpen, Balloting, with_more, without_one}
+use Rattle.am_stands.proofs.Words.{as_it_is, NameStands, Stands, VoteTells, VoteSays, FetchSays, PieceSays, own, tells, over, for_ballot, of_promise}
+use Rattle.am_stands.proofs.Words.{of_shown, Moves, none, moves, Leads, VotesStand, Grows, ShowsMore}
 use Rattle.am_packet.specs.declared.packet.Packet.TheVariants as packet
-use Rattle.am_group.specs.Journals.{item_at}
-use Rattle.am_chain_lists.specs.Whole.{mem, view_of, key}
-use Rattle.am_chain_moves.specs.Group as groups
-use Rattle.am_chain_moves.specs.Group.{Group, IsThere, put2}
 use Rattle.am_chain_moves.specs.Moves as group
-use Rattle.am_chain_moves.specs.Kept.{Kept}
-use Rattle.am_chain_moves.proofs.Puts.{put2_cases}
 use Rattle.am_model.specs.Node as nodes
-use Rattle.am_model.specs.Node.{Node, Ballot, is_member}
-use Rattle.am_model.specs.Ballots.{own_vote}
-use Rattle.am_play.specs.World.{World}
-use Rattle.am_base.proofs.Greatest.{split, and_both}
-use Rattle.am_effects.specs.Causes.{Cause, hears}
-use Rattle.am_effects.specs.Looks.{HasOpen, Balloting, with_more, without_one, as_it_is}
-use Rattle.am_stands.specs.Standing.{NameStands, ViewsStand, Stands}
-use Rattle.am_stands.specs.Letters.{VoteTells, VoteSays, FetchSays, PieceSays, own, tells, over, for_ballot, of_promise, of_shown}
-use Rattle.am_stands.specs.Moving.{Moves, none, moves, Leads}
-use Rattle.am_stands.specs.States.{VotesStand}
-use Rattle.am_stands.specs.Growing.{Grows}
-use Rattle.am_stands.specs.Sending.{ShowsMore}
 use Rattle.am_effects.specs.Letters as letters
-use Rattle.am_stands.proofs.Changes.{told_all, long_all}
-use Rattle.am_stands.proofs.Sent.{Speaks, list_item}
+use Rattle.am_stands.proofs.{Changes.told_all, Changes.long_all, Sent.Speaks, Sent.list_item}
 
 -- ---- the votes that a coordinator keeps
 
@@ -71,16 +49,6 @@ looked_votes c x b s (with_more old from v shown is heard_ low high o same stays
     said s from v shown other fresh (over d) = absurd (cc)
 
 -- ---- what a voter shows
-
--- the group with other lists shown, which stands for the same
-pub stands_shown : (v : World) (s t : Group) → t.node ≡ s.node → t.views ≡ s.views → t.group ≡ s.group → Stands v s → Stands v t
-stands_shown v s t node views group_ h = record {
-  each = λ i few. subst (NameStands v i (v.nodes i)) (ap (λ f. f i) (sym node)) (h.each i few);
-  fronts = λ i few d. (let k = h.fronts i few d in
-      record { told = subst (λ (a : groups.Node). (v.nodes i).core.told ≤ a.told) (ap (λ f. f i) (sym node)) k.told; acc = ap (λ f. (f i).acc) node ∙ k.acc });
-  views = subst (λ w. ViewsStand v w) (sym views) h.views;
-  group = group_ ∙ h.group;
-}
 
 -- a vote for another's ballot that isn't decided: its list is shown, if it wasn't
 pub record Voter (v : World) (i : ℕ) (n : Node) (s : Group) : Type 0 where

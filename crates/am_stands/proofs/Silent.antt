@@ -1,23 +1,12 @@
 -- A name that has departed sends nothing.
-use Rattle.std.proofs.Common.{◌≡◌, ℕ, nat_lt, ◌&&◌, ◌==◌, not, Bool, true, false, [], Option, Some, None, Ok, Err, refl, sym, ap, ◌∙◌, subst}
+use Rattle.am_stands.proofs.Words.{and-false, ◌≡◌, ℕ, nat_lt, ◌==◌, not, false, [], Option, Some, None, Ok, Err, refl, sym, ap, ◌∙◌, subst, NodeEvent, Done}
+use Rattle.am_stands.proofs.Words.{State, Ask, GiveUp, Tick, Hear, Packet, Read, reading, Departed, Node, Ballot, is_member, is_sequencer, is_unfinished}
+use Rattle.am_stands.proofs.Words.{join_by, state_by, leave_by, send_row, take_row, join_row, state_row, leave_row, reset_row, ask_row, ask_of, give_up_row}
+use Rattle.am_stands.proofs.Words.{give_up_of, done_row, tick_row, tick_by, hear_row, hears_member, hears_asking, refresh_at_end, Plan, quiet, finish, row}
+use Rattle.am_stands.proofs.Words.{read_row, step, hear, hear_refusal, split, rests_at_end, DepartedSilent}
+use Rattle.am_base.specs.declared.event.NodeEvent.TheVariants.{Join, Leave}
 use Rattle.am_base.specs.declared.outcome.Outcome.TheVariants as said
-use Rattle.am_base.specs.declared.event.NodeEvent.{NodeEvent}
-use Rattle.am_base.specs.declared.event.NodeEvent.TheVariants.{Send, Done, Take, Join, State, Leave, Reset, Ask, GiveUp, Tick, Hear}
-use Rattle.am_packet.specs.declared.packet.Packet.{Packet}
 use Rattle.am_packet.specs.declared.packet.Packet.TheVariants as packet
-use Rattle.am_codec.specs.Reading.{Read, reading}
-use Rattle.am_model.specs.declared.status.Status.TheVariants.{Departed}
-use Rattle.am_model.specs.Node.{Node, Ballot, is_member, is_sequencer}
-use Rattle.am_model.specs.Calls.{is_unfinished, join_by, state_by, leave_by, send_row, take_row, join_row, state_row, leave_row, reset_row, ask_row, ask_of}
-use Rattle.am_model.specs.Calls.{give_up_row, give_up_of, done_row}
-use Rattle.am_model.specs.Ticks.{tick_row, tick_by}
-use Rattle.am_model.specs.Hearing.{hear_row, hears_member, hears_asking}
-use Rattle.am_model.specs.Refresh.{refresh_at_end}
-use Rattle.am_model.specs.Emit.{Plan, quiet, finish}
-use Rattle.am_model.specs.Step.{row, read_row, step, hear, hear_refusal}
-use Rattle.am_base.proofs.Greatest.{split}
-use Rattle.am_effects.proofs.Rests.{rests_at_end}
-use Rattle.am_stands.specs.Sending.{DepartedSilent}
 
 -- a plan of who has departed, with no letter
 record Quiet (p : Plan) : Type 0 where
@@ -43,15 +32,11 @@ finish_silent m p h =
 no_member : (m : Node) → m.status ≡ Departed → is_member m.status ≡ false
 no_member m h = ap is_member h
 
-both_no : (a : Bool) → (a && false) ≡ false
-both_no true = refl
-both_no false = refl
-
 no_hearing : (m : Node) (s : ℕ) → m.status ≡ Departed → hears_member m s ≡ false
-no_hearing m s h = rw h (both_no (not (s == m.core.who)))
+no_hearing m s h = rw h (and-false (not (s == m.core.who)))
 
 no_asking : (m : Node) (s : ℕ) → m.status ≡ Departed → hears_asking m s ≡ false
-no_asking m s h = rw h (both_no (not (s == m.core.who)))
+no_asking m s h = rw h (and-false (not (s == m.core.who)))
 
 hear_quiet : (m : Node) (p : Packet) → m.status ≡ Departed → Quiet (hear_row m p)
 unfolding hear_row
@@ -90,17 +75,15 @@ give_up_quiet m name (Some b) h over = split b.is_over (λ t. rw t (quiet_is m _
 
 row_quiet : (m : Node) (event : NodeEvent) → m.status ≡ Departed → is_unfinished m.ballot ≡ false → Quiet (row m event)
 unfolding row send_row done_row take_row join_row state_row leave_row reset_row ask_row give_up_row tick_row
-row_quiet m (Send body) h over = rw (no_member m h) (quiet_is m said.NotMember h)
 row_quiet m (Done req) h over = record { status = h; letters = λ n. refl }
-row_quiet m Take h over = rw (no_member m h) (quiet_is m said.NotMember h)
 row_quiet m Join h over = subst (λ u. Quiet (join_by m u)) (sym h) (quiet_is m said.NotMember h)
 row_quiet m State h over = subst (λ u. Quiet (state_by m u)) (sym h) (quiet_is m said.Departed h)
 row_quiet m Leave h over = subst (λ u. Quiet (leave_by m u)) (sym h) (quiet_is m said.Departed h)
-row_quiet m (Reset least resilience) h over = rw (no_member m h) (quiet_is m said.NotMember h)
 row_quiet m (Ask round) h over = ask_quiet m round m.ballot h
 row_quiet m (GiveUp name) h over = give_up_quiet m name m.ballot h over
 row_quiet m Tick h over = subst (λ u. Quiet (tick_by m u)) (sym h) (quiet_is m said.Idle h)
 row_quiet m (Hear bytes) h over = read_quiet m (reading bytes) h
+row_quiet m _ h over = rw (no_member m h) (quiet_is m said.NotMember h)
 
 -- ---- steps
 

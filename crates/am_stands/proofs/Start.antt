@@ -1,31 +1,14 @@
 -- At the start each founder is told of the first entry, and then the group stands for the world.
-use Rattle.std.proofs.Common.{◌≡◌, ℕ, zero, suc, ◌+◌, ◌<◌, ◌==◌, ◌&&◌, nat_lt, if◌then◌else◌, List, [], ◌∷◌, length, Bool, true, false, Some, slice_get, refl}
-use Rattle.std.proofs.Common.{sym}
-use Rattle.std.proofs.Common.{ap, ◌∙◌, subst, arith}
-use Rattle.std.proofs.lemmas.Bool.Decides.{nat_tests}
-use Rattle.am_base.specs.declared.entry.Entry.{Entry}
-use Rattle.am_base.specs.Founding.{Rules, MayFound}
-use Rattle.am_base.specs.Names.{has}
-use Rattle.am_base.specs.Lists.{fold}
-use Rattle.am_chain_lists.specs.Whole.{key}
-use Rattle.am_chain_lists.proofs.Prefixes.{begins_refl}
+use Rattle.am_stands.proofs.Words.{and-false, stamp_itself, ◌≡◌, ℕ, zero, suc, ◌+◌, ◌<◌, ◌==◌, ◌&&◌, nat_lt, if◌then◌else◌, List, [], ◌∷◌, length, true}
+use Rattle.am_stands.proofs.Words.{false, Some, slice_get, refl, sym, ap, ◌∙◌, subst, arith, nat_tests, Entry, Rules, MayFound, has, fold, key, begins_refl}
+use Rattle.am_stands.proofs.Words.{Group, put, opening, with_node, Node, founder, stranger, lowest_or_first, founding_stamp, founders_view, has_log}
+use Rattle.am_stands.proofs.Words.{has_departed, is_unfinished, Decided, first_node, founders_decided, whole, up_to_view, up_to_next, line_of, split}
+use Rattle.am_stands.proofs.Words.{first_founder, BeginsIn, NameStands, FrontsStand, NotedStands, ViewsStand, StartStands, none, moves, Leads}
+use Rattle.am_play.specs.World.{start}
 use Rattle.am_chain_moves.specs.Group as groups
-use Rattle.am_chain_moves.specs.Group.{Group, put, opening}
-use Rattle.am_chain_moves.specs.Moves.{with_node}
 use Rattle.am_chain_moves.specs.Moves as group
 use Rattle.am_chain_moves.specs.Runs as begun
-use Rattle.am_model.specs.Node.{Node, founder, stranger, lowest_or_first, founding_stamp, founders_view, has_log, has_departed}
-use Rattle.am_model.specs.Calls.{is_unfinished}
-use Rattle.am_play.specs.World.{Decided, start, first_node, founders_decided}
-use Rattle.am_play.specs.Lawful.{whole}
-use Rattle.am_play.specs.Claims.{up_to_view, up_to_next, line_of}
-use Rattle.am_base.proofs.Greatest.{split}
-use Rattle.am_model.proofs.Founders.{first_founder}
-use Rattle.am_laws.proofs.Views.{same_is_equal}
-use Rattle.am_stands.specs.Standing.{BeginsIn, NameStands, FrontsStand, NotedStands, ViewsStand, StartStands}
-use Rattle.am_stands.specs.Moving.{none, moves, Leads}
-use Rattle.am_stands.proofs.Ends.{then_moves}
-use Rattle.am_stands.proofs.Decisions.{last_same}
+use Rattle.am_stands.proofs.{Ends.then_moves, Decisions.last_same}
 
 -- ---- each founder in turn
 
@@ -48,14 +31,10 @@ record ToldTo (rules : Rules) (k : ℕ) (s : Group) : Type 0 where
   views : s.views ≡ (first_group rules).views
   group_ : s.group ≡ (first_group rules).group
 
-and_none : (b : Bool) → (b && false) ≡ false
-and_none true = refl
-and_none false = refl
-
 told_none : (rules : Rules) → ToldTo rules 0 (first_group rules)
 told_none rules = record {
   node = λ i. (let f : nat_lt i 0 ≡ false = grind (arith, nat_tests) in
-      let g : (has rules.founders i && nat_lt i 0) ≡ false = ap (λ b. has rules.founders i && b) f ∙ and_none (has rules.founders i) in
+      let g : (has rules.founders i && nat_lt i 0) ≡ false = ap (λ b. has rules.founders i && b) f ∙ and-false (has rules.founders i) in
       sym (ap (λ b. if b then told_of (first_of rules i) else first_of rules i) g));
   views = refl;
   group_ = refl;
@@ -74,7 +53,7 @@ founds : (rules : Rules) (k : ℕ) (s : Group) → ToldTo rules k s → has rule
 founds rules k s h t =
     let f : nat_lt k k ≡ false = grind (arith, nat_tests) in
     let is : s.node k ≡ first_of rules k = h.node k ∙ ap (λ b. if has rules.founders k && b then told_of (first_of rules k) else first_of rules k) f
-    ∙ ap (λ b. if b then told_of (first_of rules k) else first_of rules k) (and_none (has rules.founders k)) in
+    ∙ ap (λ b. if b then told_of (first_of rules k) else first_of rules k) (and-false (has rules.founders k)) in
     record {
       is = is;
       list = ap (λ (a : groups.Node). a.list) is ∙ rw t refl;
@@ -216,7 +195,7 @@ first_line : (rules : Rules) → MayFound rules → line_of (start rules) (found
 unfolding up_to_next up_to_view
 first_line rules may =
     let f = (first_founder rules may).founds in
-    let t = same_is_equal (founding_stamp rules) in
+    let t = stamp_itself (founding_stamp rules) in
     rw f (rw t refl)
 
 start_views : (rules : Rules) → MayFound rules → ViewsStand (start rules) (first_group rules).views

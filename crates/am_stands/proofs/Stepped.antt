@@ -1,37 +1,12 @@
 -- One change of a step after another, while none is a refresh: what is known within the step stays known.
-use Rattle.std.proofs.Common.{◌≡◌, ⊎_elim, ℕ, ◌<◌, ◌≤◌, List, [], length, Some, slice_get, refl, sym}
-use Rattle.std.proofs.Common.{ap, subst, arith, append-nil}
-use Rattle.am_base.specs.declared.outcome.Outcome.{Outcome}
-use Rattle.am_base.specs.declared.name.Stamp.{Stamp}
-use Rattle.am_base.specs.Founding.{Rules}
-use Rattle.am_chain_lists.proofs.Order.{view_small}
-use Rattle.am_chain_moves.specs.Group.{Group}
-use Rattle.am_model.specs.Node.{Node, Ballot, view, lowest_or_first}
-use Rattle.am_model.specs.Ballots.{Verdict}
-use Rattle.am_play.specs.World.{Decided, World, last_view}
-use Rattle.am_effects.specs.Causes.{Cause}
-use Rattle.am_effects.specs.Looks.{Looks, finds_itself_out, waits, fetches_from_best, finds_too_few, finds_no_room, decides}
-use Rattle.am_effects.specs.Changes.{Change, refreshes, settles, begins_list}
-use Rattle.am_effects.specs.Changes.{looks, closes, unchanged, changed}
-use Rattle.am_effects.proofs.Items.{get_push}
-use Rattle.am_effects.proofs.Rests.{settle_is}
-use Rattle.am_codec.specs.Spelling.{stamp_of}
-use Rattle.am_laws.proofs.Named.{change_named}
-use Rattle.am_laws.proofs.TakenRuns.{Along, along_changes}
-use Rattle.am_sent.proofs.Changes.{CauseSent, change_sent}
-use Rattle.am_stands.specs.Standing.{StandsBut, within}
-use Rattle.am_stands.specs.Steps.{Needs, after_change, after_look}
-use Rattle.am_stands.proofs.Others.{keeps_in}
-use Rattle.am_stands.proofs.Carried.{changes_stand}
-use Rattle.am_stands.proofs.Changes.{own_name}
-use Rattle.am_stands.proofs.Entries.{view_whole}
-use Rattle.am_stands.specs.States.{SendsOnce}
-use Rattle.am_stands.specs.Letters.{WasAsked}
-use Rattle.am_stands.proofs.Keeping.{may_move, needs, IsNoClose}
-use Rattle.am_stands.proofs.Keeps.{keeps_next}
-use Rattle.am_stands.proofs.Letters.{letters_stay}
-use Rattle.am_stands.proofs.Onward.{GoesOn, goes_on}
-use Rattle.am_stands.specs.Keeping.{ChangesGoOn, IsPlain, Next, NodeKeeps, Stepping}
+use Rattle.am_stands.proofs.Words.{◌≡◌, ⊎_elim, ℕ, ◌<◌, ◌≤◌, List, [], length, Some, slice_get, refl, sym, ap, subst, arith, append-nil, Outcome, Stamp}
+use Rattle.am_stands.proofs.Words.{Rules, view_small, Group, Node, Ballot, view, lowest_or_first, Verdict, Decided, World, last_view, Cause, Looks}
+use Rattle.am_stands.proofs.Words.{finds_itself_out, waits, fetches_from_best, finds_too_few, finds_no_room, decides, Change, refreshes, settles, begins_list}
+use Rattle.am_stands.proofs.Words.{looks, unchanged, changed, get_push, settle_is, stamp_of, change_named, Along, along_changes, CauseSent, change_sent}
+use Rattle.am_stands.proofs.Words.{StandsBut, within, Needs, after_change, after_look, SendsOnce, WasAsked, ChangesGoOn, IsPlain, Next, NodeKeeps, Stepping}
+use Rattle.am_effects.specs.Changes.{closes}
+use Rattle.am_stands.proofs.{Others.keeps_in, Carried.changes_stand, Changes.own_name, Entries.view_whole, Keeping.may_move, Keeping.needs, Keeping.IsNoClose}
+use Rattle.am_stands.proofs.{Keeps.keeps_next, Letters.letters_stay, Onward.GoesOn, Onward.goes_on}
 
 -- ---- the world after a change: with the views that it noted
 
@@ -89,8 +64,7 @@ acc_next rules w name c o x y s _ plain is group_ low = low
 
 -- a plain change ends nothing
 no_close : {c : Cause} {o : Outcome} {x y : Node} (rules : Rules) (w : World) (name : ℕ) (s : Group) (h : Stepping rules w name c x s) (z : Change c o x y)
-    → IsPlain z
-    → IsNoClose rules w name c x s h z
+    → IsPlain z → IsNoClose rules w name c x s h z
 no_close rules w name s h (closes leads leaves alone room) plain = absurd plain
 no_close rules w name s h _ plain = tt
 

@@ -1,38 +1,13 @@
 -- What a node trims was stored by all who have to have it: by what was reported to it, or by the votes for its ballot.
-use Rattle.std.proofs.Common.{◌≡◌, ℕ, ◌+◌, ◌<◌, ◌≤◌, ◌==◌, not, max, nat_lt, true, false, List, [], length, take, slice_index, Option, Some}
-use Rattle.std.proofs.Common.{None, unwrap_or, option_map, refl, sym, ap, ◌∙◌, subst, arith, append-nil}
-use Rattle.std.proofs.lemmas.Bool.Decides.{nat_tests}
-use Rattle.am_base.specs.declared.entry.Entry.{Entry}
-use Rattle.am_base.specs.declared.image.Vote.{Vote}
-use Rattle.am_base.specs.Names.{place_of, life_of, name_at, has, names_of}
-use Rattle.am_base.specs.Lists.{members_of}
-use Rattle.am_core.specs.Cores.{accept, pass_over}
-use Rattle.am_fronts.specs.Reports.{least_of, least_taken}
-use Rattle.am_fronts.specs.Refresh.{base_after, own_report, tell, go_on, let_go}
-use Rattle.am_fronts.proofs.Leaders.{least_in}
-use Rattle.am_chain_lists.specs.Whole.{Begins, image_of, mem, key}
-use Rattle.am_chain_lists.proofs.Prefixes.{begins_nil, begins_trans, begins_both, begins_length, begins_take, length_take}
-use Rattle.am_chain_lists.proofs.Rows.{mod16}
-use Rattle.am_chain_lists.proofs.Members.{mem_between}
-use Rattle.am_chain_moves.specs.Group.{Group, IsThere, chain_of}
-use Rattle.am_chain_moves.specs.Kept.{Kept}
+use Rattle.am_stands.proofs.Words.{◌≡◌, ℕ, ◌+◌, ◌<◌, ◌≤◌, ◌==◌, not, max, nat_lt, true, false, List, [], length, take, slice_index, Option, Some, None}
+use Rattle.am_stands.proofs.Words.{unwrap_or, option_map, refl, sym, ap, ◌∙◌, subst, arith, append-nil, nat_tests, Entry, Vote, place_of, life_of, name_at}
+use Rattle.am_stands.proofs.Words.{has, names_of, members_of, accept, pass_over, least_of, least_taken, base_after, own_report, tell, go_on, let_go, least_in}
+use Rattle.am_stands.proofs.Words.{Begins, image_of, mem, key, begins_nil, begins_trans, begins_both, begins_length, begins_take, length_take, mod16}
+use Rattle.am_stands.proofs.Words.{mem_between, Group, IsThere, chain_of, Kept, Node, Ballot, is_sequencer, need_of, left_in, taken_by, concerned_names, lead}
+use Rattle.am_stands.proofs.Words.{World, split, HasLearned, own_need, those_at, those_long, within, Trimmed, Reporting}
 use Rattle.am_model.specs.Node as nodes
-use Rattle.am_model.specs.Node.{Node, Ballot, is_sequencer}
-use Rattle.am_model.specs.Ballots.{need_of, left_in, taken_by}
-use Rattle.am_model.specs.Refresh.{concerned_names, lead}
-use Rattle.am_play.specs.World.{World}
-use Rattle.am_base.proofs.Greatest.{split}
-use Rattle.am_effects.specs.Looks.{HasLearned}
-use Rattle.am_laws.proofs.Taken.{own_need, those_at}
-use Rattle.am_laws.proofs.ViewMembers.{those_long}
-use Rattle.am_stands.specs.Standing.{within}
-use Rattle.am_stands.specs.Letters.{Trimmed}
-use Rattle.am_stands.specs.States.{Reporting}
-use Rattle.am_stands.proofs.Changes.{told_whole, long_all}
-use Rattle.am_stands.proofs.Going.{concerned_has, concerned_long}
-use Rattle.am_stands.proofs.Parts.{number_low}
-use Rattle.am_stands.proofs.Sent.{on_chain, Speaks}
-use Rattle.am_stands.proofs.Votes.{BallotKnown, some_vote, voted, not_waited}
+use Rattle.am_stands.proofs.{Changes.told_whole, Changes.long_all, Going.concerned_has, Going.concerned_long, Parts.number_low, Sent.on_chain, Sent.Speaks}
+use Rattle.am_stands.proofs.{Votes.BallotKnown, Votes.some_vote, Votes.voted, Votes.not_waited}
 
 -- ---- the greater of two
 

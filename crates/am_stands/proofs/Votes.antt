@@ -1,47 +1,16 @@
 -- A ballot that its coordinator decides may be decided by the group's own test.
-use Rattle.std.proofs.Common.{◌≡◌, ◌≢◌, ◌⊎◌, inl, inr, ⊎_elim, ℕ, zero, suc, ◌+◌, ◌<◌, ◌≤◌, ◌==◌, ◌&&◌, ◌||◌, not, max, nat_lt, is_some, get_or, set, List}
-use Rattle.std.proofs.Common.{[], ◌∷◌, ◌++◌, length, Bool, true, false, Option, Some, None, slice_index, refl, sym, ap, ◌∙◌, subst, arith}
-use Rattle.std.specs.List.{list_all, list_any, range_with_len}
-use Rattle.std.proofs.lemmas.Bool.Decides.{nat_tests}
-use Rattle.am_base.specs.declared.entry.Entry.{Entry}
-use Rattle.am_base.specs.declared.image.Vote.{Vote}
-use Rattle.am_base.specs.declared.image.Image.{Image}
-use Rattle.am_base.specs.declared.name.Stamp.{Stamp}
-use Rattle.am_base.specs.Names.{IsSet, place_of, life_of, name_at, by_place, nobody, has, size, is_within}
-use Rattle.am_base.proofs.Places.{slice_index-by_place}
-use Rattle.am_base.specs.Stamps.{stamp_lt, stamp_eq}
-use Rattle.am_base.specs.Votes.{vote_lt}
-use Rattle.am_base.specs.Lists.{member_life, members_of}
-use Rattle.am_chain_lists.specs.Whole.{Begins, image_of, mem, view_of, resilience_of, key}
-use Rattle.am_chain_lists.proofs.Order.{key_lt, view_up}
-use Rattle.am_chain_lists.proofs.Prefixes.{begins_trans}
-use Rattle.am_chain_lists.proofs.Members.{told_push}
-use Rattle.am_chain_moves.specs.Group.{Group, IsThere, IsUp}
-use Rattle.am_chain_moves.specs.Moves.{MayDecide, Voted}
-use Rattle.am_chain_moves.specs.Kept.{Kept}
+use Rattle.am_stands.proofs.Words.{eq-eqb, eqb-true, ◌≡◌, ◌⊎◌, inl, inr, ⊎_elim, ℕ, zero, suc, ◌+◌, ◌<◌, ◌≤◌, ◌==◌, ◌&&◌, ◌||◌, not, max, nat_lt, is_some}
+use Rattle.am_stands.proofs.Words.{set, List, [], ◌∷◌, ◌++◌, length, Bool, true, false, Option, Some, None, slice_index, refl, sym, ap, ◌∙◌, subst, arith}
+use Rattle.am_stands.proofs.Words.{list_all, list_any, range_with_len, nat_tests, Entry, Vote, Image, Stamp, IsSet, place_of, life_of, name_at, by_place, has}
+use Rattle.am_stands.proofs.Words.{size, is_within, slice_index-by_place, stamp_lt, stamp_eq, vote_lt, member_life, members_of, Begins, image_of, mem}
+use Rattle.am_stands.proofs.Words.{view_of, resilience_of, key, key_lt, view_up, begins_trans, told_push, Group, IsThere, IsUp, MayDecide, Voted, Kept, Node}
+use Rattle.am_stands.proofs.Words.{Ballot, view, members, name_where, those, View, append_assoc, length-map, mod16, is_view_of, trim_for, own_vote, best_of}
+use Rattle.am_stands.proofs.Words.{need_of, has_voted, is_waited_for, left_in, World, best_vote_is, split, has_size, has_those, set_those, equal_stamps}
+use Rattle.am_stands.proofs.Words.{own_need, those_at, viewed_members, those_some, those_long, NameStands, within, told_pushed, VoteTells, AllShown, AllVoted}
+use Rattle.am_stands.proofs.Words.{NeedsDecision}
 use Rattle.am_model.specs.Node as nodes
-use Rattle.am_model.specs.Node.{Node, Ballot, view, members, only_name, name_where, those}
-use Rattle.am_base.specs.declared.entry.Entry.TheVariants.{View}
-use Rattle.std.proofs.lemmas.List.{append_assoc, length-map, get_or-set_same, get_or-set_other, get_or-replicate}
-use Rattle.am_chain_lists.proofs.Rows.{mod16}
-use Rattle.am_play.specs.Lawful.{is_view_of}
-use Rattle.am_model.specs.Ballots.{trim_for, own_vote, best_of, need_of, has_voted, is_waited_for, left_in}
-use Rattle.am_play.specs.World.{World}
-use Rattle.am_meaning.proofs.BestVotes.{best_vote_is}
-use Rattle.am_base.proofs.Greatest.{split}
 use Rattle.am_effects.specs.Looks as looks
-use Rattle.am_model.proofs.Sets.{has_size, has_those}
-use Rattle.am_laws.proofs.Limits.{set_those}
-use Rattle.am_laws.proofs.Stamps.{equal_stamps}
-use Rattle.am_laws.proofs.Taken.{own_need, those_at}
-use Rattle.am_laws.proofs.ViewMembers.{viewed_members, those_some, those_long}
-use Rattle.am_stands.specs.Standing.{NameStands, within}
-use Rattle.am_effects.proofs.Says.{told_pushed}
-use Rattle.am_stands.specs.Letters.{VoteTells, AllShown, FetchSays, for_ballot}
-use Rattle.am_stands.specs.Moving.{AllVoted}
-use Rattle.am_stands.specs.Steps.{NeedsDecision}
-use Rattle.am_stands.proofs.Lines.{HasViewOf, viewed_as}
-use Rattle.am_stands.proofs.Changes.{told_whole, long_all}
+use Rattle.am_stands.proofs.{Lines.HasViewOf, Lines.viewed_as, Changes.told_whole, Changes.long_all}
 
 -- ---- what is known of a ballot
 
@@ -133,35 +102,25 @@ is_some_of test names place low =
     or_true true b t = refl
     or_true false b t = t
 
-is_equal : (a b : ℕ) → a ≡ b → (a == b) ≡ true
-is_equal a b same = grind (arith, nat_tests)
-
-is_the_same : (a b : ℕ) → (a == b) ≡ true → a ≡ b
-is_the_same a b t = grind (arith, nat_tests)
-
-not_equal : (a b : ℕ) → (a == b) ≡ false → a ≢ b
-not_equal a b f same = grind (arith, nat_tests)
-
 -- who is among those of a set that pass is in the set, and passes
 those_in : (test : ℕ → Bool) (names : List ℕ) (j : ℕ) → has (those test names) j ≡ true → (has names j ≡ true) × (test j ≡ true)
 unfolding those
 those_in test names j in_ =
     let is = slice_index-by_place (λ place. name_where test place (slice_index names place)) (place_of j) (mod16 j) in
     let at : name_where test (place_of j) (slice_index names (place_of j)) ≡ life_of j = sym is
-    ∙ is_the_same (slice_index (by_place (λ place. name_where test place (slice_index names place))) (place_of j)) (life_of j) in_ in
+    ∙ eqb-true (slice_index (by_place (λ place. name_where test place (slice_index names place))) (place_of j)) (life_of j) in_ in
     split (slice_index names (place_of j) == 0)
     (λ t. absurd (let z : 0 ≡ life_of j = rw t at at in omega arith))
     (λ f. split (test (name_at (place_of j) (slice_index names (place_of j))))
     (λ t.
     let life : slice_index names (place_of j) ≡ life_of j = rw (f, t) at at in
     let name : name_at (place_of j) (slice_index names (place_of j)) ≡ j = omega arith in
-    (is_equal (slice_index names (place_of j)) (life_of j) life, ap test (sym name) ∙ t))
+    (eq-eqb (slice_index names (place_of j)) (life_of j) life, ap test (sym name) ∙ t))
     (λ g. absurd (let z : 0 ≡ life_of j = rw (f, g) at at in omega arith)))
 
 -- another name that is needed, and isn't given up, has voted for no better list
 other_voted : (w : World) (name : ℕ) (x : Node) (b : Ballot) (s : Group) (j : ℕ) → BallotKnown w name x b s → looks.MayDecide x b
-    → has (need_of x b) j ≡ true → b.given_up j ≡ false → (j == x.core.who) ≡ false
-    → Voted s (key (s.node name).promise) j (s.node name).list
+    → has (need_of x b) j ≡ true → b.given_up j ≡ false → (j == x.core.who) ≡ false → Voted s (key (s.node name).promise) j (s.node name).list
 unfolding view_of
 other_voted w name x b s j h may needed stays other =
     let a = s.node name in
@@ -267,7 +226,7 @@ all_voted : (w : World) (name : ℕ) (x : Node) (b : Ballot) (s : Group) → Bal
 all_voted w name x b s h may j in_ =
     let both = those_in (λ k. not (b.given_up k)) (need_of x b) j in_ in
     split (j == x.core.who)
-    (λ t. inl (is_the_same j x.core.who t ∙ h.who))
+    (λ t. inl (eqb-true j x.core.who t ∙ h.who))
     (λ f. inr (other_voted w name x b s j h may both.0 (not_false_of (b.given_up j) both.1) f))
   where
     not_false_of : (b : Bool) → not b ≡ true → b ≡ false
@@ -297,7 +256,7 @@ pub best_shown : (w : World) (name : ℕ) (x : Node) (b : Ballot) (s : Group) �
 unfolding best_of mem
 best_shown w name x b s k h other none = ⊎_elim
     (λ (z : ((best_of x b).by ≡ x.core.who) × ((best_of x b).vote ≡ own_vote x)). absurd
-    (let t : ((best_of x b).by == x.core.who) ≡ true = is_equal (best_of x b).by x.core.who z.0 in cc))
+    (let t : ((best_of x b).by == x.core.who) ≡ true = eq-eqb (best_of x b).by x.core.who z.0 in cc))
     (λ (z : b.votes (best_of x b).by ≡ Some (best_of x b).vote).
     (let best = h.votes (best_of x b).by (best_of x b).vote z in
     let by : b.stamp.by ≡ name = ap (λ (u : Stamp). u.by) (h.stamp ∙ sym h.stands.promise) ∙ ((k.each name).ballot h.up h.ballot).by in
@@ -305,7 +264,7 @@ best_shown w name x b s k h other none = ⊎_elim
       list = best.list;
       shown = best.shown;
       others = λ j m there. split (j == x.core.who)
-          (λ t. inl (is_the_same j x.core.who t ∙ h.who ∙ sym by))
+          (λ t. inl (eqb-true j x.core.who t ∙ h.who ∙ sym by))
           (λ f.
           (let needed : has (need_of x b) j ≡ true = ap (λ set. has set j) best.members ∙ m in
           let spared : b.given_up j ≡ false = split (b.given_up j) (λ t. absurd (let q = h.given j t in let y = there.goes in cc)) (λ g. g) in
@@ -314,28 +273,3 @@ best_shown w name x b s k h other none = ⊎_elim
           inr (tells.list, tells.shown)));
     }))
     (best_vote_is b.votes x.core.who (own_vote x) h.view_ h.views).shown
-
--- who is in a set of one name is that name
-pub only_one : (a h : ℕ) → has (only_name a) h ≡ true → h ≡ a
-only_one a h t = split (place_of h == place_of a)
-    (λ p.
-    let same = is_the_same (place_of h) (place_of a) p in
-    let at : get_or (set nobody (place_of a) (life_of a)) (place_of h) 0 ≡ life_of a = ap (λ k. get_or (set nobody (place_of a) (life_of a)) k 0) same
-    ∙ get_or-set_same nobody (place_of a) (life_of a) 0 (mod16 a) in
-    let life = sym at ∙ is_the_same (slice_index (only_name a) (place_of h)) (life_of h) t in
-    omega arith)
-    (λ f. absurd (
-    let other : place_of h ≢ place_of a = not_equal (place_of h) (place_of a) f in
-    let at : get_or (set nobody (place_of a) (life_of a)) (place_of h) 0 ≡ 0 = get_or-set_other nobody (place_of a) (place_of h) (life_of a) 0 other
-    ∙ get_or-replicate 16 (place_of h) 0 0 (mod16 h) in
-    let life = sym at ∙ is_the_same (slice_index (only_name a) (place_of h)) (life_of h) t in
-    omega arith))
-
--- it fetches from that name
-pub fetch_said : (w : World) (name : ℕ) (x : Node) (b : Ballot) (s : Group) (to : List ℕ) → Kept s → BallotKnown w name x b s
-    → ((best_of x b).by == x.core.who) ≡ false → nat_lt 0 (size (those (is_waited_for x.core.who b) (need_of x b))) ≡ false
-    → to ≡ only_name (best_of x b).by → FetchSays s name x.core.promise to
-fetch_said w name x b s to k h other none is = for_ballot
-    (ap (λ (u : Stamp). u.by) (sym h.stands.promise) ∙ ((k.each name).ballot h.up h.ballot).by)
-    (λ j at. subst (AllShown s x.core.promise) (sym (only_one (best_of x b).by j (ap (λ set. has set j) (sym is) ∙ at)))
-    (subst (λ (u : Stamp). AllShown s u (best_of x b).by) h.stamp (best_shown w name x b s k h other none)))

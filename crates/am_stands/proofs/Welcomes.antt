@@ -1,34 +1,16 @@
 -- A joiner may begin where a Welcome says.
-use Rattle.std.proofs.Common.{◌≡◌, ℕ, ◌<◌, ◌≤◌, ◌==◌, ◌||◌, not, take, true, false, refl, sym, ap, ◌∙◌, subst, arith}
-use Rattle.std.proofs.lemmas.Bool.Decides.{nat_tests}
-use Rattle.am_base.specs.declared.name.Stamp.{Stamp}
-use Rattle.am_base.specs.declared.image.Image.{Image}
-use Rattle.am_base.specs.Stamps.{stamp_lt}
-use Rattle.am_chain_lists.specs.Whole.{mem, key}
-use Rattle.am_chain_lists.proofs.Prefixes.{begins_trans, begins_take, begins_length, length_take, take_begins}
-use Rattle.am_chain_lists.proofs.Order.{key_lt}
-use Rattle.am_chain_moves.specs.Group.{Group}
-use Rattle.am_chain_moves.specs.Kept.{Kept}
-use Rattle.am_model.specs.declared.status.Status.{Status}
+use Rattle.am_stands.proofs.Words.{◌≡◌, ℕ, ◌<◌, ◌≤◌, ◌==◌, ◌||◌, not, take, true, false, refl, sym, ap, ◌∙◌, subst, arith, nat_tests, Stamp, Image, stamp_lt}
+use Rattle.am_stands.proofs.Words.{mem, key, begins_trans, begins_take, begins_length, length_take, take_begins, key_lt, Group, Kept, Status, Node, is_member}
+use Rattle.am_stands.proofs.Words.{is_asking, has_log, has_departed, is_unfinished, World, is_stopped, split, and_both, MayBeWelcomed, equal_stamps}
+use Rattle.am_stands.proofs.Words.{NameStands, within, WelcomeSays, NeedsWelcome}
 use Rattle.am_model.specs.declared.status.Status.TheVariants as status
-use Rattle.am_model.specs.Node.{Node, is_member, is_asking, has_log, has_departed}
-use Rattle.am_model.specs.Calls.{is_unfinished}
-use Rattle.am_play.specs.World.{World, is_stopped}
-use Rattle.am_base.proofs.Greatest.{split, and_both}
-use Rattle.am_effects.specs.Changes.{MayBeWelcomed}
-use Rattle.am_laws.proofs.Stamps.{equal_stamps}
-use Rattle.am_stands.specs.Standing.{NameStands, within}
-use Rattle.am_stands.specs.Letters.{WelcomeSays}
-use Rattle.am_stands.specs.Steps.{NeedsWelcome}
 use Rattle.am_stands.proofs.Changes.{is_there}
 
 -- ---- a joiner
 
 none_of_asking : (t : Status) → is_member t ≡ false → (is_member t || is_asking t) ≡ true → (has_log t ≡ false) × (has_departed t ≡ false)
-none_of_asking status.Stranger f h = absurd (cc)
 none_of_asking status.Asking f h = (refl, refl)
-none_of_asking status.Member f h = absurd (cc)
-none_of_asking status.Departed f h = absurd (cc)
+none_of_asking _ f h = absurd (cc)
 
 pub not_above_key : (u v : Stamp) → u.by < 256 → v.by < 256 → stamp_lt v u ≡ false → key u ≤ key v
 not_above_key u v small few low = split (stamp_lt u v)

@@ -1,34 +1,14 @@
 -- The Welcome that is sent is so: it tells a joiner where it became a member, and what is accepted below.
-use Rattle.std.proofs.Common.{◌≡◌, ℕ, zero, suc, ◌+◌, ◌<◌, ◌≤◌, ◌==◌, nat_lt, true, List, length, take, Some, refl, sym, ap, ◌∙◌, subst, arith}
-use Rattle.std.proofs.lemmas.Bool.Decides.{nat_tests}
-use Rattle.am_base.specs.declared.entry.Entry.{Entry}
-use Rattle.am_base.specs.declared.entry.Entry.TheVariants.{Join}
-use Rattle.am_base.specs.declared.image.Row.{Row}
-use Rattle.am_base.specs.declared.image.Image.{Image}
-use Rattle.am_base.specs.declared.name.Stamp.{Stamp}
-use Rattle.am_base.specs.Names.{place_of, life_of, has}
-use Rattle.am_base.specs.Lists.{Log, at_place, row_of, image_at, told_by}
-use Rattle.am_group.specs.Journals.{item_at}
-use Rattle.am_chain_lists.specs.Whole.{Begins, IsGood, image_of, mem}
-use Rattle.am_chain_lists.proofs.Prefixes.{begins_refl, begins_trans, begins_both, begins_length, begins_take, length_take, take_begins}
-use Rattle.am_chain_lists.proofs.Rows.{row_at, In}
-use Rattle.am_chain_lists.proofs.Members.{mem_in, in_mem, mem_between}
+use Rattle.am_stands.proofs.Words.{only_is, ◌≡◌, ℕ, zero, suc, ◌+◌, ◌<◌, ◌≤◌, ◌==◌, nat_lt, true, List, length, take, Some, refl, sym, ap, ◌∙◌, subst, arith}
+use Rattle.am_stands.proofs.Words.{nat_tests, Entry, Join, Row, Image, Stamp, place_of, life_of, has, Log, at_place, row_of, image_at, told_by, item_at}
+use Rattle.am_stands.proofs.Words.{Begins, IsGood, image_of, mem, begins_refl, begins_trans, begins_both, begins_length, begins_take, length_take}
+use Rattle.am_stands.proofs.Words.{take_begins, row_at, In, mem_in, in_mem, mem_between, Group, Node, is_sequencer, only_name, World, split, MayWelcome}
+use Rattle.am_stands.proofs.Words.{just_joined, asks_again, NameStands, FrontsStand, Trimmed, WelcomeSays, WelcomeTo, has_begun, has_gone, has_left}
+use Rattle.am_stands.proofs.Words.{is_leaving, may_begin, RowsLive}
 use Rattle.am_chain_moves.specs.Group as groups
-use Rattle.am_chain_moves.specs.Group.{Group}
 use Rattle.am_model.specs.Node as nodes
-use Rattle.am_model.specs.Node.{Node, is_sequencer, only_name}
-use Rattle.am_play.specs.World.{World}
-use Rattle.am_base.proofs.Greatest.{split}
-use Rattle.am_effects.specs.Letters.{MayWelcome, just_joined, asks_again}
-use Rattle.am_stands.specs.Standing.{NameStands, FrontsStand}
-use Rattle.am_stands.specs.Letters.{Trimmed, WelcomeSays, WelcomeTo, has_begun, has_gone, has_left, is_leaving, may_begin}
-use Rattle.am_stands.specs.Sending.{RowsLive}
-use Rattle.am_stands.proofs.Changes.{told_all, long_all}
-use Rattle.am_stands.proofs.Ends.{taken_more}
-use Rattle.am_stands.proofs.Joins.{joined_in, JoinsAt, joins_at}
-use Rattle.am_stands.proofs.Parts.{image_whole, next_part}
-use Rattle.am_stands.proofs.Sent.{Speaks, leading, list_item}
-use Rattle.am_stands.proofs.Votes.{only_one}
+use Rattle.am_stands.proofs.{Changes.told_all, Changes.long_all, Ends.taken_more, Joins.joined_in, Joins.JoinsAt, Joins.joins_at, Parts.image_whole}
+use Rattle.am_stands.proofs.{Parts.next_part, Sent.Speaks, Sent.leading, Sent.list_item}
 
 -- ---- who is welcomed
 
@@ -156,5 +136,5 @@ pub welcome_says : (v : World) (i : ℕ) (n : Node) (s : Group) (name : ℕ) →
     → (j : ℕ) → has (only_name name) j ≡ true
     → WelcomeTo s i n.core.promise n.core.base (row_of (nodes.image_of n) name).joined (image_at n.core.log n.core.base) j
 welcome_says v i n s name h t f low kept is trimmed j in_ =
-    subst (WelcomeTo s i n.core.promise n.core.base (row_of (nodes.image_of n) name).joined (image_at n.core.log n.core.base)) (sym (only_one name j in_))
+    subst (WelcomeTo s i n.core.promise n.core.base (row_of (nodes.image_of n) name).joined (image_at n.core.log n.core.base)) (sym (only_is name j in_))
     (welcome_to v i n s name h t f low kept is trimmed)

@@ -1,16 +1,7 @@
 -- Which letters go to every life of their places: that of a joiner that asks, in every run.
-use Rattle.std.proofs.Common.{◌≡◌}
-use Rattle.std.specs.Prelude.{All}
-use Rattle.std.proofs.lemmas.List.Elements.{All-nil, All-append, All-weaker}
-use Rattle.am_base.specs.Founding.{Rules}
-use Rattle.std.proofs.Common.{List}
-use Rattle.am_packet.specs.Boxes.{Letter}
-use Rattle.am_packet.specs.Kinds.{goes_to_any}
-use Rattle.am_group.specs.declared.event.Event.{Event}
-use Rattle.am_play.specs.World.{World, start, with_record, with_step, run}
+use Rattle.am_steps.proofs.Words.{◌≡◌, All, All-nil, All-append, All-weaker, Rules, List, Letter, goes_to_any, Event, World, start, with_record, with_step}
+use Rattle.am_steps.proofs.Words.{run, actor, steps, EachKeeps, runs_keep}
 use Rattle.am_effects.specs.Letters.{LetterSays}
-use Rattle.am_effects.specs.Events.{actor, steps}
-use Rattle.am_effects.proofs.Runs.{EachKeeps, runs_keep}
 
 abbrev pub GoesSo : Letter → Type 0
 GoesSo letter = letter.any ≡ goes_to_any letter.packet

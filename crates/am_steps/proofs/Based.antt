@@ -1,35 +1,11 @@
 -- Where a node's list begins after a step: where it did, unless it was welcomed, and then it doesn't lead.
-use Rattle.std.proofs.Common.{◌≡◌, ℕ, zero, suc, ◌+◌, ◌-◌, ◌<◌, ◌≤◌, ◌==◌, ◌||◌, not, nat_le, true, false, List, [], ◌∷◌, Some, slice_get, refl, sym}
-use Rattle.std.proofs.Common.{ap, ◌∙◌, subst, arith}
-use Rattle.std.proofs.lemmas.Bool.Decides.{nat_tests}
-use Rattle.am_base.specs.declared.name.Stamp.{Stamp}
-use Rattle.am_base.specs.declared.image.Image.{Image}
-use Rattle.am_base.specs.declared.entry.Entry.{Entry}
-use Rattle.am_base.specs.declared.entry.Entry.TheVariants.{View}
-use Rattle.am_base.specs.declared.outcome.Outcome.{Outcome}
-use Rattle.am_base.specs.Founding.{Rules}
-use Rattle.am_base.specs.Stamps.{stamp_eq}
-use Rattle.am_base.specs.Lists.{Log, top_of, told_by, entry_at, after, fold}
-use Rattle.am_fronts.proofs.Views.{view_grows}
-use Rattle.am_model.specs.Node.{Node, Ballot, view, acts, is_member, is_asking, is_sequencer}
-use Rattle.am_model.specs.Ballots.{Verdict}
-use Rattle.am_model.specs.Receiving.{is_view}
-use Rattle.am_base.proofs.Greatest.{split, and_both}
-use Rattle.am_effects.specs.Causes.{Cause}
-use Rattle.am_effects.specs.Looks.{Looks, finds_itself_out}
-use Rattle.am_effects.specs.Changes.{Change, refreshes, settles}
-use Rattle.am_effects.specs.Changes.{begins_list, promises, opens, looks, stores_view}
-use Rattle.am_effects.specs.Changes.{closes, Changes, unchanged, changed}
-use Rattle.am_effects.proofs.Rests.{rests_refresh, rests_closed, settle_is}
-use Rattle.am_effects.proofs.Runs.{along}
-use Rattle.am_effects.proofs.Tests.{not_true}
-use Rattle.am_laws.proofs.ViewNames.{HeardNames}
-use Rattle.am_laws.proofs.Stamps.{same_stamp}
-use Rattle.am_laws.proofs.Taken.{HeardUsed}
-use Rattle.am_laws.proofs.TakenRuns.{Along, along_changes}
-use Rattle.am_stands.proofs.Parts.{view_its}
+use Rattle.am_steps.proofs.Words.{none_of_asking, not-true, same_stamp, ◌≡◌, ℕ, zero, suc, ◌+◌, ◌-◌, ◌<◌, ◌≤◌, ◌==◌, ◌||◌, not, nat_le, true, false, List, []}
+use Rattle.am_steps.proofs.Words.{◌∷◌, Some, slice_get, refl, sym, ap, ◌∙◌, subst, arith, nat_tests, Stamp, Image, Entry, View, Outcome, Rules, stamp_eq, Log}
+use Rattle.am_steps.proofs.Words.{top_of, told_by, entry_at, after, fold, view_grows, Node, Ballot, view, acts, is_member, is_asking, is_sequencer, Verdict}
+use Rattle.am_steps.proofs.Words.{is_view, split, and_both, Cause, Looks, finds_itself_out, Change, refreshes, settles, begins_list, promises, opens, looks}
+use Rattle.am_steps.proofs.Words.{stores_view, closes, Changes, unchanged, changed, rests_refresh, rests_closed, settle_is, along, HeardNames, HeardUsed}
+use Rattle.am_steps.proofs.Words.{Along, along_changes, view_its}
 use Rattle.am_steps.proofs.Courses.{was_welcomed, both_ways, promise_brings, begin_brings}
-use Rattle.am_steps.proofs.Statuses.{asking_bare}
 
 -- ---- along the changes
 
@@ -60,11 +36,11 @@ based_change rules m x y refreshes a h = let r = (rests_refresh x).rests in base
 based_change rules m x y settles a h = subst (Based _ m) (sym (settle_is x)) (based_same m x _ refl refl refl (omega arith) h)
 based_change rules m x y (begins_list s v base join image is says may) a h =
     let asks = and_both (not (s == x.core.who)) (is_member x.status || is_asking x.status) may.asks in
-    let none = a.blanked (asking_bare x.status may.no_member asks.1) in
+    let none = a.blanked (none_of_asking x.status may.no_member asks.1) in
     let empty = ap top_of none.blank_ in
     let high = a.owned.fronts.accepted in
     let before = bare_before m x (omega arith) h in
-    let other = not_true (s == x.core.who) asks.0 in
+    let other = not-true (s == x.core.who) asks.0 in
     let own = may.own in
     was_bare (ap was_welcomed is) (grind (arith, nat_tests)) (omega arith)
 based_change rules m x y (promises v low why) a h = based_other m x y refl refl (promise_brings v why).welcomes h

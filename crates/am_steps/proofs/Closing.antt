@@ -1,35 +1,10 @@
 -- The last member's end, which is one move.
-use Rattle.std.proofs.Common.{◌≡◌, ℕ, nat_lt, true, false, List, refl, sym, subst}
-use Rattle.std.proofs.lemmas.List.Elements.{All-push}
-use Rattle.am_base.specs.declared.entry.Entry.TheVariants.{Leave}
-use Rattle.am_base.specs.Founding.{Rules}
-use Rattle.am_base.specs.Names.{size}
-use Rattle.am_group.specs.declared.event.Event.{Event}
-use Rattle.am_group.specs.declared.event.Record.{Record}
-use Rattle.am_chain_moves.specs.Group.{Group, chain_of}
-use Rattle.am_chain_moves.specs.Moves.{longer}
-use Rattle.am_chain_moves.specs.Kept.{Kept}
-use Rattle.am_model.specs.Node.{Node, view, others, is_member, is_sequencer, push_entry}
-use Rattle.am_model.specs.Emit.{Step}
-use Rattle.am_play.specs.World.{World, with_step}
-use Rattle.am_effects.specs.Causes.{Cause}
-use Rattle.am_laws.proofs.ViewChanges.{leads_member}
-use Rattle.am_stands.specs.Standing.{NameStands, StandsBut, Stands, within}
-use Rattle.am_stands.specs.Accepting.{CountsNames, ComesTo}
-use Rattle.am_stands.specs.Ends.{NeedsClose, after_closing}
-use Rattle.am_stands.specs.Moving.{NamesNamed, Leads}
-use Rattle.am_stands.specs.Steps.{MayMove}
-use Rattle.am_stands.specs.Keeping.{Stepping}
-use Rattle.am_stands.proofs.Changes.{is_up}
-use Rattle.am_stands.proofs.ChainNames.{front_named, counts_names}
-use Rattle.am_stands.proofs.Closing.{close_stands}
-use Rattle.am_stands.proofs.Entries.{name_longer}
-use Rattle.am_stands.proofs.Keeping.{kept, old, may_move}
-use Rattle.am_stands.proofs.Lasts.{closing_accepts}
-use Rattle.am_stands.proofs.Names.{name_in, views_in}
-use Rattle.am_steps.proofs.Statuses.{member_here}
-use Rattle.am_steps.proofs.Starting.{recorded}
-use Rattle.am_steps.proofs.Refreshed.{Fronted, comes}
+use Rattle.am_steps.proofs.Words.{member_stays, ◌≡◌, ℕ, nat_lt, true, false, List, refl, sym, subst, All-push, Leave, Rules, size, Event, Record, Group}
+use Rattle.am_steps.proofs.Words.{chain_of, longer, Kept, Node, view, others, is_member, is_sequencer, push_entry, Step, World, with_step, Cause}
+use Rattle.am_steps.proofs.Words.{leads_member, NameStands, StandsBut, Stands, within, CountsNames, ComesTo, NeedsClose, after_closing, NamesNamed, Leads}
+use Rattle.am_steps.proofs.Words.{MayMove, Stepping, is_up, front_named, counts_names, close_stands, name_longer, kept, old, may_move, closing_accepts}
+use Rattle.am_steps.proofs.Words.{name_in, views_in}
+use Rattle.am_steps.proofs.{Starting.recorded, Refreshed.Fronted, Refreshed.comes}
 
 -- a world with other records
 module _ (rules : Rules) (w : World) (records : List Record) (name : ℕ) (c : Cause) (x : Node) (t : Group)
@@ -51,7 +26,7 @@ module _ (rules : Rules) (w : World) (records : List Record) (name : ℕ) (c : C
 
   comes_here : ComesTo w t name f.heard x
   comes_here =
-      let a = comes rules (recorded w records) name c x t h f member (member_here x.status member) in
+      let a = comes rules (recorded w records) name c x t h f member (member_stays x.status member) in
       record { so = a.so; stands = here; group = a.group; runs = a.runs; acc = a.acc }
 
   -- who counts, with its own Leave

@@ -1,29 +1,14 @@
 -- The plain changes of a step: what each does to who acts, and to a sequencer that took a report.
-use Rattle.std.proofs.Common.{◌≡◌, ℕ, ◌≤◌, ◌==◌, ◌||◌, not, nat_lt, Bool, true, false, List, length, refl, sym, ap, ◌∙◌, subst}
-use Rattle.am_base.specs.declared.image.Report.{Report}
-use Rattle.am_base.specs.declared.name.Stamp.{Stamp}
-use Rattle.am_base.specs.declared.entry.Entry.{Entry}
-use Rattle.am_base.specs.declared.outcome.Outcome.{Outcome}
-use Rattle.am_packet.specs.Kinds.{kind_of}
-use Rattle.am_model.specs.declared.status.Status.{Status}
+use Rattle.am_steps.proofs.Words.{numbers_plain, ◌≡◌, ℕ, ◌≤◌, ◌==◌, ◌||◌, not, nat_lt, Bool, true, false, List, length, refl, sym, ap, ◌∙◌, subst, Report}
+use Rattle.am_steps.proofs.Words.{Stamp, Entry, Outcome, kind_of, Status, Node, Ballot, top, is_member, is_asking, is_sequencer, has_departed, World}
+use Rattle.am_steps.proofs.Words.{group_after, and_both, Cause, hears, by_request, BringsReport, with_send, BringsFronts, by_entry, with_number, alone}
+use Rattle.am_steps.proofs.Words.{MayLook, was_reset, was_handed, was_fetched, Balloting, with_more, without_one, as_it_is, BeginsBy, by_reset, by_hand_over}
+use Rattle.am_steps.proofs.Words.{Promises, invited, overtaken, told_result, Carries, whole_entry, by_number, Change, refreshes, settles, takes_report}
+use Rattle.am_steps.proofs.Words.{admits, numbers, keeps_body, notes, stores, begins_list, departs, promises, opens, looks, fetches, stores_view, queues}
+use Rattle.am_steps.proofs.Words.{collects, takes, asks_to_join, asks_to_leave, closes, IsPlain, settle_is, leads_pushed, after_change}
 use Rattle.am_model.specs.declared.status.Status.TheVariants as status
-use Rattle.am_model.specs.Node.{Node, Ballot, top, is_member, is_asking, is_sequencer, has_departed}
-use Rattle.am_play.specs.World.{World, group_after}
-use Rattle.am_base.proofs.Greatest.{and_both}
-use Rattle.am_effects.specs.Causes.{Cause, hears, by_request, BringsReport, with_send}
-use Rattle.am_effects.specs.Causes.{BringsFronts, with_entry as by_entry, with_number, alone}
-use Rattle.am_effects.specs.Looks.{MayLook, was_reset, was_handed, was_fetched, Balloting, with_more, without_one, as_it_is, BeginsBy, by_reset, by_hand_over}
-use Rattle.am_effects.specs.Changes.{Promises, invited, overtaken, told_result, Carries, whole_entry, by_number}
-use Rattle.am_effects.specs.Changes.{Change, refreshes, settles, takes_report, admits, numbers, keeps_body, notes, stores, begins_list, departs, promises}
-use Rattle.am_effects.specs.Changes.{opens, looks, fetches, stores_view, queues, collects, takes, asks_to_join, asks_to_leave, closes}
-use Rattle.am_effects.specs.Courses.{IsPlain}
-use Rattle.am_effects.proofs.Rests.{settle_is}
-use Rattle.am_effects.proofs.Says.{leads_pushed}
-use Rattle.am_stands.specs.Steps.{after_change}
 use Rattle.am_stands.specs.Keeping as plainly
-use Rattle.am_stands.proofs.Entries.{numbers_plain}
-use Rattle.am_steps.proofs.Grown.{pushed_group}
-use Rattle.am_steps.proofs.Statuses.{asking_stays}
+use Rattle.am_steps.proofs.{Grown.pushed_group, Statuses.asking_stays}
 
 -- ---- what brings a report
 
@@ -128,7 +113,6 @@ pub record Leads (group : List Entry) (x y : Node) : Type 0 where
 -- ⊥ where the cause brings no report
 pub leads_on : {c : Cause} {o : Outcome} (group : List Entry) (x y : Node) (z : Change c o x y) → IsPlain z → brings_report c ≡ true → is_sequencer x ≡ true
     → x.core.log.start ≤ length group → x.core.acc ≤ top x → Leads group x y
-leads_on group x y refreshes p t l low high = absurd p
 leads_on group x y settles p t l low high = subst (Leads group x) (sym (settle_is x)) (record { leads = l; start = low; same = refl })
 leads_on group x y (takes_report from v report by may) p t l low high = record { leads = l; start = low; same = refl }
 leads_on group x y (admits from v is leads fit) p t l low high = absurd (both_ways _ t (ap brings_report is))
@@ -138,10 +122,8 @@ leads_on group x y (keeps_body from v report req body is heard) p t l low high =
 leads_on group x y (notes from v base acc by heard) p t l low high = absurd (both_ways _ t (fronts_bring from v base acc by))
 leads_on group x y (stores from v base acc number e by heard plain may) p t l low high = absurd (both_ways _ t (carried_brings from v base acc number e by))
 leads_on group x y (begins_list from v base join image is says_ may) p t l low high = absurd (both_ways _ t (ap brings_report is))
-leads_on group x y (departs from v number is heard leaves) p t l low high = absurd p
 leads_on group x y (promises v below why) p t l low high = absurd (both_ways _ t (promise_brings v why).brings)
 leads_on group x y (opens least resilience by may) p t l low high = absurd (both_ways _ t (begin_brings by).brings)
-leads_on group x y (looks b verdict over why look is) p t l low high = absurd p
 leads_on group x y (fetches from v base number e is heard promise below why may) p t l low high = absurd (both_ways _ t (ap brings_report is))
 leads_on group x y (stores_view from v base number names resilience is heard own other promise below may) p t l low high =
     absurd (both_ways _ t (ap brings_report is))
@@ -150,4 +132,4 @@ leads_on group x y (collects req is) p t l low high = absurd (both_ways _ t (ap 
 leads_on group x y (takes e is says_ member some there) p t l low high = absurd (both_ways _ t (ap brings_report is))
 leads_on group x y (asks_to_join is was) p t l low high = absurd (both_ways _ t (ap brings_report is))
 leads_on group x y (asks_to_leave is was stays_ done) p t l low high = absurd (both_ways _ t (ap brings_report is))
-leads_on group x y (closes leads leaves alone_ room) p t l low high = absurd p
+leads_on group x y _ p t l low high = absurd p

@@ -1,33 +1,11 @@
 -- A look at a ballot, which comes last before the end of a step: a view that it decided was noted.
-use Rattle.std.proofs.Common.{◌≡◌, ◌⊎◌, inl, inr, ⊎_elim, ℕ, max, true, false, List, [], ◌∷◌, ◌++◌, refl, sym, ap, ◌∙◌, subst}
-use Rattle.am_base.specs.declared.name.Stamp.{Stamp}
-use Rattle.am_base.specs.declared.entry.Entry.{Entry}
-use Rattle.am_base.specs.declared.outcome.Outcome.{Outcome}
-use Rattle.am_base.specs.Founding.{Rules}
-use Rattle.am_base.specs.Stamps.{stamp_lt}
-use Rattle.am_chain_moves.specs.Group.{Group}
-use Rattle.am_model.specs.Node.{Node, Ballot, view, is_member, image_of}
-use Rattle.am_model.specs.Ballots.{Verdict, trim_for, left_in, need_of}
-use Rattle.am_play.specs.World.{Decided, World, last_view}
-use Rattle.am_effects.specs.Causes.{Cause}
-use Rattle.am_effects.specs.Looks.{Balloting, Looks, finds_itself_out, waits, fetches_from_best, finds_too_few, finds_no_room, decides}
-use Rattle.am_effects.specs.Changes.{looks}
-use Rattle.am_effects.specs.Courses.{Course, nothing_yet, used_report, and_then, Deeds, plainly, looked}
-use Rattle.am_effects.proofs.Plans.{course_changes}
-use Rattle.am_effects.proofs.Rests.{rests_refresh}
-use Rattle.am_laws.proofs.Stamps.{below, not_above}
-use Rattle.am_laws.proofs.ViewSteps.{SameView, Stood, view_last}
-use Rattle.am_laws.proofs.ViewChanges.{changes_do, looked_at, log_of_member}
-use Rattle.am_sent.proofs.Changes.{CauseSent}
-use Rattle.am_stands.specs.Steps.{after_look}
-use Rattle.am_stands.specs.Keeping.{Stepping}
-use Rattle.am_stands.proofs.Changes.{looked_open}
-use Rattle.am_stands.proofs.Stepped.{changes_go_on}
-use Rattle.am_steps.proofs.Worlds.{growing}
-use Rattle.am_steps.proofs.Refreshed.{Fronted, Changed, then_changed}
-use Rattle.am_steps.proofs.Courses.{was_welcomed, look_brings, both_ways, stays}
-use Rattle.am_steps.proofs.Fronts.{fronts_next}
-use Rattle.am_steps.proofs.Going.{Grown, as_before, by_reports, going_on}
+use Rattle.am_steps.proofs.Words.{logged, ◌≡◌, ◌⊎◌, inl, inr, ⊎_elim, ℕ, max, true, false, List, [], ◌∷◌, ◌++◌, refl, sym, ap, ◌∙◌, subst, Stamp, Entry}
+use Rattle.am_steps.proofs.Words.{Outcome, Rules, stamp_lt, Group, Node, Ballot, view, is_member, image_of, Verdict, trim_for, left_in, need_of, Decided}
+use Rattle.am_steps.proofs.Words.{World, last_view, Cause, Balloting, Looks, finds_itself_out, waits, fetches_from_best, finds_too_few, finds_no_room}
+use Rattle.am_steps.proofs.Words.{decides, looks, Course, nothing_yet, used_report, and_then, Deeds, plainly, looked, course_changes, rests_refresh, below}
+use Rattle.am_steps.proofs.Words.{not_above, SameView, Stood, view_last, changes_do, looked_at, CauseSent, after_look, Stepping, looked_open, changes_go_on}
+use Rattle.am_steps.proofs.{Worlds.growing, Refreshed.Fronted, Refreshed.Changed, Refreshed.then_changed, Courses.was_welcomed, Courses.look_brings}
+use Rattle.am_steps.proofs.{Courses.both_ways, Courses.stays, Fronts.fronts_next, Going.Grown, Going.as_before, Going.by_reports, Going.going_on}
 
 -- with these views
 abbrev pub further : World → List Entry → List Decided → World
@@ -112,7 +90,7 @@ deeds_on rules w name c o m x s (looked {n = n} b verdict course over why look i
     let up : (view n ≡ view m) ⊎ (stamp_lt (view m) (view n) ≡ true) = ⊎_elim
     (λ (same : SameView (image_of n) (image_of m)). inl same.view)
     (λ (k : (stamp_lt (view m) (view n) ≡ true) × Stood n.core.log). inr k.0)
-    (gone.does.goes (log_of_member m.status member)).view in
+    (gone.does.goes (logged m.status member)).view in
     record {
       group = g.group;
       views = (after_look look w).views;

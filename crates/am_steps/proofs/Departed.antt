@@ -1,23 +1,11 @@
 -- A step of who had departed before it changes nothing that the group looks at.
-use Rattle.std.proofs.Common.{◌≡◌, ℕ, ◌≤◌, ◌==◌, ◌||◌, not, max, true, false, refl, sym, ap, ◌∙◌, subst, arith}
-use Rattle.am_base.specs.declared.name.Stamp.{Stamp}
-use Rattle.am_base.specs.declared.outcome.Outcome.{Outcome}
-use Rattle.am_model.specs.declared.status.Status.{Status}
+use Rattle.am_steps.proofs.Words.{◌≡◌, ℕ, ◌≤◌, ◌==◌, ◌||◌, not, max, true, false, refl, sym, ap, ◌∙◌, subst, arith, Stamp, Outcome, Status, Node, is_member}
+use Rattle.am_steps.proofs.Words.{is_asking, is_sequencer, has_log, has_departed, is_unfinished, hears_member, hears_asking, hears_in_view, hears_sequencer}
+use Rattle.am_steps.proofs.Words.{refresh, settle, refresh_at_end, split, and_both, Cause, Promises, invited, overtaken, told_result, Change, refreshes}
+use Rattle.am_steps.proofs.Words.{settles, takes_report, admits, numbers, keeps_body, notes, stores, begins_list, departs, promises, opens, looks, fetches}
+use Rattle.am_steps.proofs.Words.{stores_view, queues, collects, takes, asks_to_join, asks_to_leave, closes, IsPlain, Course, nothing_yet, used_report}
+use Rattle.am_steps.proofs.Words.{and_then, Deeds, plainly, looked, rests_at_end, with_sends, settle_is, leads_member, Unmoved, looked_open, advanced}
 use Rattle.am_model.specs.declared.status.Status.TheVariants as status
-use Rattle.am_model.specs.Node.{Node, is_member, is_asking, is_sequencer, has_log, has_departed}
-use Rattle.am_model.specs.Calls.{is_unfinished}
-use Rattle.am_model.specs.Hearing.{hears_member, hears_asking, hears_in_view, hears_sequencer}
-use Rattle.am_model.specs.Refresh.{refresh, settle, refresh_at_end}
-use Rattle.am_base.proofs.Greatest.{split, and_both}
-use Rattle.am_effects.specs.Causes.{Cause}
-use Rattle.am_effects.specs.Changes.{Promises, invited, overtaken, told_result, Change, refreshes, settles, takes_report, admits, numbers, keeps_body}
-use Rattle.am_effects.specs.Changes.{notes, stores, begins_list, departs, promises, opens, looks, fetches, stores_view, queues, collects, takes, asks_to_join}
-use Rattle.am_effects.specs.Changes.{asks_to_leave, closes}
-use Rattle.am_effects.specs.Courses.{IsPlain, Course, nothing_yet, used_report, and_then, Deeds, plainly, looked}
-use Rattle.am_effects.proofs.Rests.{rests_at_end, with_sends, settle_is}
-use Rattle.am_laws.proofs.ViewChanges.{leads_member}
-use Rattle.am_stands.proofs.Changes.{Unmoved, looked_open}
-use Rattle.am_stands.proofs.Learning.{advanced}
 
 -- it is the same to the group, and to the application
 pub record Rests (x y : Node) : Type 0 where

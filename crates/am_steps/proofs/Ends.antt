@@ -1,45 +1,13 @@
 -- The end of a step: the refresh, what of it settles a send, and what the step noted.
-use Rattle.std.proofs.Common.{◌≡◌, ◌≢◌, ⊎_elim, ℕ, ◌<◌, ◌≤◌, ◌==◌, ◌&&◌, not, true, false, List, [], ◌∷◌, ◌++◌, slice_get, Some}
-use Rattle.std.proofs.Common.{refl, sym, ap, ◌∙◌, subst, arith}
-use Rattle.std.proofs.lemmas.Bool.Decides.{nat_tests}
-use Rattle.am_base.specs.declared.name.Stamp.{Stamp}
-use Rattle.am_base.specs.declared.entry.Entry.{Entry}
-use Rattle.am_base.specs.declared.outcome.Outcome.{Outcome}
-use Rattle.am_base.specs.Founding.{Rules}
-use Rattle.am_base.specs.Lists.{Log, told_by, members_of, fold}
-use Rattle.am_base.specs.Stamps.{stamp_lt, stamp_eq, no_stamp}
-use Rattle.am_chain_lists.specs.Whole.{view_of, key}
-use Rattle.am_chain_lists.proofs.Order.{view_small}
-use Rattle.am_chain_moves.specs.Group.{Group, IsUp}
-use Rattle.am_model.specs.Node.{Node, top, view, image_of, is_member, has_log, has_departed}
-use Rattle.am_model.specs.Refresh.{refresh, settle}
-use Rattle.am_play.specs.World.{Decided, World, decides, group_after, views_after}
-use Rattle.am_base.proofs.Greatest.{split, and_both}
-use Rattle.am_effects.specs.Causes.{Cause}
-use Rattle.am_effects.specs.Changes.{settles}
-use Rattle.am_effects.proofs.Rests.{rests_refresh, leads_rests, settle_is}
-use Rattle.am_effects.proofs.Tests.{not_true}
-use Rattle.am_laws.proofs.Stamps.{same_stamp, not_above_itself}
-use Rattle.am_laws.proofs.ViewChanges.{log_of_member}
-use Rattle.am_laws.proofs.Views.{IsNoted}
-use Rattle.am_laws.proofs.ViewSteps.{SameView, Stood, Goes}
-use Rattle.am_sent.proofs.Changes.{CauseSent}
-use Rattle.am_stands.specs.Standing.{FrontsStand}
-use Rattle.am_stands.specs.Growing.{Grows}
-use Rattle.am_stands.specs.Moving.{Moves}
-use Rattle.am_stands.specs.Keeping.{Stepping}
-use Rattle.am_stands.proofs.Ends.{then_moves}
-use Rattle.am_stands.proofs.Entries.{key_stamp, view_whole}
-use Rattle.am_stands.proofs.Keeping.{old, whole}
-use Rattle.am_stands.proofs.Onward.{grows_trans}
-use Rattle.am_stands.proofs.Opens.{list_opens}
-use Rattle.am_stands.proofs.Stepped.{changes_go_on}
-use Rattle.am_steps.proofs.Statuses.{member_here}
-use Rattle.am_steps.proofs.Worlds.{growing}
-use Rattle.am_steps.proofs.Refreshed.{refresh_on}
-use Rattle.am_steps.proofs.Grown.{accepted_twice}
-use Rattle.am_steps.proofs.Going.{Grown, as_before, by_reports}
-use Rattle.am_steps.proofs.Deeds.{further, Seen, none_new, one_new, Done}
+use Rattle.am_steps.proofs.Words.{nothing_viewed, member_stays, not-true, logged, stamp_itself, same_stamp, ◌≡◌, ◌≢◌, ⊎_elim, ℕ, ◌<◌, ◌≤◌, ◌==◌, ◌&&◌, not}
+use Rattle.am_steps.proofs.Words.{true, false, List, [], ◌∷◌, ◌++◌, slice_get, Some, refl, sym, ap, ◌∙◌, subst, arith, nat_tests, Stamp, Entry, Outcome}
+use Rattle.am_steps.proofs.Words.{Rules, Log, told_by, members_of, stamp_lt, stamp_eq, no_stamp, view_of, key, view_small, Group, IsUp, Node, top, view}
+use Rattle.am_steps.proofs.Words.{image_of, is_member, has_log, has_departed, refresh, settle, Decided, World, group_after, views_after, split, and_both}
+use Rattle.am_steps.proofs.Words.{Cause, settles, rests_refresh, leads_rests, settle_is, not_above_itself, IsNoted, SameView, Stood, Goes, CauseSent}
+use Rattle.am_steps.proofs.Words.{FrontsStand, Grows, Moves, Stepping, then_moves, key_stamp, view_whole, old, whole, grows_trans, list_opens, changes_go_on}
+use Rattle.am_play.specs.World.{decides}
+use Rattle.am_steps.proofs.{Worlds.growing, Refreshed.refresh_on, Grown.accepted_twice, Going.Grown, Going.as_before, Going.by_reports, Deeds.further}
+use Rattle.am_steps.proofs.{Deeds.Seen, Deeds.none_new, Deeds.one_new, Deeds.Done}
 
 -- ---- the group list at the end
 
@@ -113,36 +81,28 @@ ended_on rules w name c o m x s sent d =
 
 -- ---- what was noted
 
-pub stamp_itself : (a : Stamp) → stamp_eq a a ≡ true
-stamp_itself a = grind (arith, nat_tests)
-
 none_below : (a : Stamp) → stamp_lt a no_stamp ≡ false
 none_below a = grind (arith, nat_tests)
 
-no_view : view_of [] ≡ no_stamp
-unfolding view_of fold
-no_view = refl
-
 -- a step that noted no view decided none
 none_decided : (rules : Rules) (w : World) (name : ℕ) (c : Cause) (m n : Node) (t : Group) (group : List Entry)
-    → Stepping rules (further w group w.views) name c n t
-    → (has_log m.status ≡ true → Goes m.core.log n.core.log) → (has_log m.status ≡ true → has_log n.status ≡ true)
-    → (has_departed m.status ≡ false → has_departed n.status ≡ false) → ((k : ℕ) (d : Decided) → slice_get w.views k ≡ Some d → IsNoted w.nodes d)
-    → w.nodes name ≡ m
-    → (member : is_member m.status ≡ true) → (view n).by ≡ n.core.who → stamp_eq (view m) (view n) ≡ false → ⊥
+    → Stepping rules (further w group w.views) name c n t → (has_log m.status ≡ true → Goes m.core.log n.core.log)
+    → (has_log m.status ≡ true → has_log n.status ≡ true) → (has_departed m.status ≡ false → has_departed n.status ≡ false)
+    → ((k : ℕ) (d : Decided) → slice_get w.views k ≡ Some d → IsNoted w.nodes d) → w.nodes name ≡ m → (member : is_member m.status ≡ true)
+    → (view n).by ≡ n.core.who → stamp_eq (view m) (view n) ≡ false → ⊥
 none_decided rules w name c m n t group h goes log_ there noted is member own differs =
-    let had = log_of_member m.status member in
+    let had = logged m.status member in
     let mine = old rules (further w group w.views) name c n t h in
     let up : IsUp (t.node name) = record {
       log = mine.log_ ∙ log_ had;
-      there = record { goes = mine.stopped ∙ h.runs; stays = mine.departed ∙ there (member_here m.status member) };
+      there = record { goes = mine.stopped ∙ h.runs; stays = mine.departed ∙ there (member_stays m.status member) };
     } in
     ⊎_elim
     (λ (same : SameView (image_of n) (image_of m)). (let z : stamp_eq (view m) (view n) ≡ true = ap (stamp_eq (view m)) same.view
     ∙ stamp_itself (view m) in cc)) (λ (k : (stamp_lt (view m) (view n) ≡ true) × Stood n.core.log). (
     let viewed : view_of (t.node name).list ≡ view n = view_whole (further w group w.views) name n (t.node name) mine in
     let g = whole rules (further w group w.views) name c n t h in
-    let some : (t.node name).list ≢ [] = λ none. (let z : view n ≡ no_stamp = sym viewed ∙ ap view_of none ∙ no_view in
+    let some : (t.node name).list ≢ [] = λ none. (let z : view n ≡ no_stamp = sym viewed ∙ ap view_of none ∙ nothing_viewed in
     let low : stamp_lt (view m) (view n) ≡ false = ap (stamp_lt (view m)) z ∙ none_below (view m) in let up_ = k.0 in cc) in
     let opens = list_opens t name g.kept g.opens up some in
     let was = h.stands.views.decided (key (view n)) (ap (λ (u : Stamp). t.views.decided (key u)) (sym viewed) ∙ opens.decided) in
@@ -156,18 +116,17 @@ none_decided rules w name c m n t group h goes log_ there noted is member own di
     (goes had).view
 
 pub views_end : (rules : Rules) (w : World) (name : ℕ) (c : Cause) (m n : Node) (t : Group) (group : List Entry) (views : List Decided)
-    → Stepping rules (further w group views) name c n t
-    → (has_log m.status ≡ true → Goes m.core.log n.core.log) → (has_log m.status ≡ true → has_log n.status ≡ true)
-    → (has_departed m.status ≡ false → has_departed n.status ≡ false) → ((k : ℕ) (d : Decided) → slice_get w.views k ≡ Some d → IsNoted w.nodes d)
-    → w.nodes name ≡ m
-    → Seen w m n views → views ≡ views_after w.views m n
+    → Stepping rules (further w group views) name c n t → (has_log m.status ≡ true → Goes m.core.log n.core.log)
+    → (has_log m.status ≡ true → has_log n.status ≡ true) → (has_departed m.status ≡ false → has_departed n.status ≡ false)
+    → ((k : ℕ) (d : Decided) → slice_get w.views k ≡ Some d → IsNoted w.nodes d) → w.nodes name ≡ m → Seen w m n views
+    → views ≡ views_after w.views m n
 views_end rules w name c m n t group views h goes log_ there noted is (none_new same) = split (decides m n)
     (λ u. absurd (
     let a = and_both (is_member m.status) (((view n).by == n.core.who) && not (stamp_eq (view m) (view n))) u in
     let b = and_both ((view n).by == n.core.who) (not (stamp_eq (view m) (view n))) a.1 in
     let own : (view n).by ≡ n.core.who = (let z = b.0 in grind (arith, nat_tests)) in
     none_decided rules w name c m n t group (subst (λ vs. Stepping rules (further w group vs) name c n t) same h) goes log_ there noted is a.0 own
-    (not_true (stamp_eq (view m) (view n)) b.1)))
+    (not-true (stamp_eq (view m) (view n)) b.1)))
     (λ f. rw f same)
 views_end rules w name c m n t group views h goes log_ there noted is (one_new d same) =
     let own : ((view n).by == n.core.who) ≡ true = (let z = d.own in grind (arith, nat_tests)) in

@@ -1,32 +1,11 @@
 -- How far a name is told, and gives out, along plain changes of its step.
-use Rattle.std.proofs.Common.{◌≡◌, ℕ, ◌<◌, ◌≤◌, ◌==◌, ◌&&◌, nat_lt, true, false, length, refl, sym, ap, ◌∙◌, arith}
-use Rattle.std.proofs.lemmas.Bool.Decides.{nat_tests}
-use Rattle.am_base.specs.declared.name.Stamp.{Stamp}
-use Rattle.am_base.specs.declared.outcome.Outcome.{Outcome}
-use Rattle.am_base.specs.Founding.{Rules}
-use Rattle.am_base.specs.Stamps.{stamp_eq}
-use Rattle.am_packet.specs.declared.packet.Packet.{Packet}
+use Rattle.am_steps.proofs.Words.{same_stamp, ◌≡◌, ℕ, ◌<◌, ◌≤◌, ◌==◌, ◌&&◌, nat_lt, true, false, length, refl, sym, ap, ◌∙◌, arith, nat_tests, Stamp, Outcome}
+use Rattle.am_steps.proofs.Words.{Rules, stamp_eq, Packet, key, Group, Node, Ballot, view, acts, is_member, has_departed, Verdict, hears_member}
+use Rattle.am_steps.proofs.Words.{hears_in_view, hears_sequencer, with_noted, World, split, and_both, Cause, hears, BringsFronts, with_entry, with_number}
+use Rattle.am_steps.proofs.Words.{alone, Looks, finds_itself_out, Change, refreshes, settles, notes, begins_list, departs, looks, asks_to_join, closes}
+use Rattle.am_steps.proofs.Words.{settle_is, nothing, of_sequencer, Grows, SequencerSays, FrontsStay, FrontsAfter, HeardSo, Stepping, old}
+use Rattle.am_stands.specs.Keeping.{IsPlain}
 use Rattle.am_packet.specs.declared.packet.Packet.TheVariants as packet
-use Rattle.am_chain_lists.specs.Whole.{key}
-use Rattle.am_chain_moves.specs.Group.{Group}
-use Rattle.am_model.specs.Node.{Node, Ballot, view, acts, is_member, has_departed}
-use Rattle.am_model.specs.Ballots.{Verdict}
-use Rattle.am_model.specs.Hearing.{hears_member, hears_in_view, hears_sequencer}
-use Rattle.am_model.specs.Receiving.{with_noted}
-use Rattle.am_play.specs.World.{World}
-use Rattle.am_base.proofs.Greatest.{split, and_both}
-use Rattle.am_effects.specs.Causes.{Cause, hears, BringsFronts, with_entry, with_number, alone}
-use Rattle.am_effects.specs.Looks.{Looks, finds_itself_out}
-use Rattle.am_effects.specs.Changes.{Change, refreshes, settles, notes, stores, begins_list, departs}
-use Rattle.am_effects.specs.Changes.{looks, fetches, stores_view, asks_to_join, closes}
-use Rattle.am_effects.proofs.Rests.{settle_is}
-use Rattle.am_laws.proofs.Stamps.{same_stamp}
-use Rattle.am_stands.specs.Accepting.{nothing, of_sequencer}
-use Rattle.am_stands.specs.Growing.{Grows}
-use Rattle.am_stands.specs.Letters.{SequencerSays}
-use Rattle.am_stands.specs.Steps.{FrontsStay, FrontsAfter}
-use Rattle.am_stands.specs.Keeping.{IsPlain, HeardSo, Stepping}
-use Rattle.am_stands.proofs.Keeping.{old}
 use Rattle.am_steps.proofs.Refreshed.{Fronted, word_stays}
 
 -- ---- where they stay
@@ -98,8 +77,6 @@ fronts_next rules w name c o x y s t settles p h low after g f = same_fronts w n
     (ap (λ (n : Node). n.core.told) (settle_is x)) (λ d. sym (ap (λ (n : Node). has_departed n.status) (settle_is x)) ∙ d) after g f
 fronts_next rules w name c o x y s t (notes from v base acc by heard) p h low after g f =
     noted_fronts rules w name c x s t from v base acc by heard h after g f
-fronts_next rules w name c o x y s t (stores from v base acc number e by heard plain may) p h low after g f =
-    same_fronts w name x y s t refl refl (λ d. d) after g f
 fronts_next rules w name c o x y s t (begins_list from v base join image is says_ may) p h low after g f = record {
   low = low;
   heard = 0;
@@ -116,10 +93,6 @@ fronts_next rules w name c o x y s t (departs from v number is heard leaves) p h
 }
 fronts_next rules w name c o x y s t (looks b verdict over why look is) p h low after g f = (let same = looked_fronts look in
     same_fronts w name x y s t same.0 same.1 (λ d. sym (ap has_departed same.2) ∙ d) after g f)
-fronts_next rules w name c o x y s t (fetches from v base number e is heard promise below why may) p h low after g f =
-    same_fronts w name x y s t refl refl (λ d. d) after g f
-fronts_next rules w name c o x y s t (stores_view from v base number names resilience is heard own other promise below may) p h low after g f =
-    same_fronts w name x y s t refl refl (λ d. d) after g f
 fronts_next rules w name c o x y s t (asks_to_join is was) p h low after g f = same_fronts w name x y s t refl refl (λ d. ap has_departed was) after g f
 fronts_next rules w name c o x y s t (closes leads leaves alone_ room) p h low after g f = absurd p
 fronts_next rules w name c o x y s t _ p h low after g f = same_fronts w name x y s t refl refl (λ d. d) after g f

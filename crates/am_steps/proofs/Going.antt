@@ -1,29 +1,10 @@
 -- A step up to its end, as moves of the group.
-use Rattle.std.proofs.Common.{◌≡◌, ℕ, ◌≤◌, true, List, length, refl, sym, ap, ◌∙◌, subst, arith}
-use Rattle.am_base.specs.declared.entry.Entry.{Entry}
-use Rattle.am_base.specs.declared.outcome.Outcome.{Outcome}
-use Rattle.am_base.specs.Founding.{Rules}
-use Rattle.am_base.specs.Lists.{Log}
-use Rattle.am_chain_moves.specs.Group.{Group}
-use Rattle.am_model.specs.Node.{Node, top, is_sequencer, with_report}
-use Rattle.am_model.specs.Refresh.{refresh}
-use Rattle.am_play.specs.World.{World, group_after}
-use Rattle.am_effects.specs.Causes.{Cause}
-use Rattle.am_effects.specs.Changes.{Change, takes_report}
-use Rattle.am_effects.specs.Courses.{IsPlain, Course, nothing_yet, used_report, and_then}
-use Rattle.am_effects.proofs.Rests.{rests_refresh, leads_rests}
-use Rattle.am_sent.proofs.Changes.{CauseSent}
-use Rattle.am_stands.specs.Moving.{none}
-use Rattle.am_stands.specs.Steps.{after_change}
+use Rattle.am_steps.proofs.Words.{◌≡◌, ℕ, ◌≤◌, true, List, length, refl, sym, ap, ◌∙◌, subst, arith, Entry, Outcome, Rules, Log, Group, Node, top}
+use Rattle.am_steps.proofs.Words.{is_sequencer, with_report, refresh, World, group_after, Cause, Change, takes_report, IsPlain, Course, nothing_yet}
+use Rattle.am_steps.proofs.Words.{used_report, and_then, rests_refresh, leads_rests, CauseSent, none, after_change, Stepping, old, grows_same, changes_go_on}
 use Rattle.am_stands.specs.Keeping as plainly
-use Rattle.am_stands.specs.Keeping.{Stepping}
-use Rattle.am_stands.proofs.Keeping.{old}
-use Rattle.am_stands.proofs.Onward.{grows_same}
-use Rattle.am_stands.proofs.Stepped.{changes_go_on}
-use Rattle.am_steps.proofs.Worlds.{growing}
-use Rattle.am_steps.proofs.Refreshed.{Changed, then_changed, Fronted, refresh_on}
-use Rattle.am_steps.proofs.Courses.{brings_report, brings_true, plain_too, none_noted, leads_on}
-use Rattle.am_steps.proofs.Fronts.{fronts_next}
+use Rattle.am_steps.proofs.{Worlds.growing, Refreshed.Changed, Refreshed.then_changed, Refreshed.Fronted, Refreshed.refresh_on, Courses.brings_report}
+use Rattle.am_steps.proofs.{Courses.brings_true, Courses.plain_too, Courses.none_noted, Courses.leads_on, Fronts.fronts_next}
 
 -- what the group list is by now: as before the step, or a sequencer that took a report has accepted more
 pub data Grown (c : Cause) (old group : List Entry) (x : Node) : Type 0 where

@@ -1,18 +1,9 @@
 -- What a sequencer's step makes of the group list, in two parts.
-use Rattle.std.proofs.Common.{◌≡◌, ℕ, ◌+◌, ◌-◌, ◌<◌, ◌≤◌, nat_lt, true, false, List, [], ◌∷◌, ◌++◌, length, take, drop, sym, ap, ◌∙◌, arith}
-use Rattle.std.proofs.Common.{append_assoc, length-append}
-use Rattle.std.proofs.Math.Seq.{take-add}
-use Rattle.std.proofs.lemmas.Bool.Decides.{nat_tests}
-use Rattle.std.proofs.lemmas.List.{length-take, length-drop, drop-drop, drop-append-le, take-append-le}
-use Rattle.am_base.specs.declared.entry.Entry.{Entry}
-use Rattle.am_base.specs.Lists.{top_of, with_entry}
-use Rattle.am_core.specs.Cores.{CoreState}
-use Rattle.am_model.specs.Receiving.{is_view}
-use Rattle.am_model.specs.Node.{Node, is_sequencer, push_entry}
-use Rattle.am_play.specs.World.{group_with, group_after}
-use Rattle.am_base.proofs.Greatest.{split}
-use Rattle.am_effects.proofs.Says.{leads_pushed}
-use Rattle.am_stands.proofs.Learning.{same_by, same_group}
+use Rattle.am_steps.proofs.Words.{◌≡◌, ℕ, ◌+◌, ◌-◌, ◌<◌, ◌≤◌, nat_lt, true, false, List, [], ◌∷◌, ◌++◌, length, take, drop, sym, ap, ◌∙◌, arith, append_assoc}
+use Rattle.am_steps.proofs.Words.{length-append, take-add, nat_tests, length-take, length-drop, drop-drop, drop-append-le, take-append-le, Entry, top_of}
+use Rattle.am_steps.proofs.Words.{CoreState, is_view, Node, is_sequencer, push_entry, group_with, group_after, split, leads_pushed, same_by}
+use Rattle.am_stands.proofs.Learning.{same_group}
+use Rattle.am_base.specs.Lists.{with_entry}
 
 -- ---- an entry more
 

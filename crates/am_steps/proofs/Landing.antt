@@ -1,37 +1,11 @@
 -- Where a step's moves lead: a group that stands for the world after it, and each node keeps what it keeps.
-use Rattle.std.proofs.Common.{◌≡◌, ℕ, suc, ◌<◌, ◌==◌, true, false, List, [], ◌∷◌, ◌++◌, slice_get, Some, refl, sym, ◌∙◌, subst, arith}
-use Rattle.std.specs.Prelude.{All}
-use Rattle.std.proofs.lemmas.Bool.Decides.{nat_tests}
-use Rattle.std.proofs.lemmas.List.Elements.{All-nil, All-cons, All-append}
-use Rattle.am_base.specs.Founding.{Rules}
-use Rattle.am_group.specs.declared.event.Event.{Event}
-use Rattle.am_chain_lists.specs.Whole.{Begins}
-use Rattle.am_chain_lists.proofs.Prefixes.{begins_refl}
+use Rattle.am_steps.proofs.Words.{◌≡◌, ℕ, suc, ◌<◌, ◌==◌, true, false, List, [], ◌∷◌, ◌++◌, slice_get, Some, refl, sym, ◌∙◌, subst, arith, All, nat_tests}
+use Rattle.am_steps.proofs.Words.{All-nil, All-cons, All-append, Rules, Event, Begins, begins_refl, Group, set_at, lowest_or_first, has_departed, Step}
+use Rattle.am_steps.proofs.Words.{is_unfinished, World, group_after, views_after, with_step, split, Cause, all_get, after_step, NameStands, FrontsStand}
+use Rattle.am_steps.proofs.Words.{ViewsStand, StandsBut, Stands, within, Grows, Moves, GroupFor, NodeKeeps, Stepping, Following, Follows, ShowsMore}
+use Rattle.am_steps.proofs.Words.{LetterSays, then_moves, letters_stay, name_in, views_in, goes_on, grows_trans, keeps_in, others_keep}
 use Rattle.am_chain_moves.specs.Group as groups
-use Rattle.am_chain_moves.specs.Group.{Group}
-use Rattle.am_model.specs.Node.{set_at, lowest_or_first, has_departed}
-use Rattle.am_model.specs.Emit.{Step}
-use Rattle.am_model.specs.Calls.{is_unfinished}
-use Rattle.am_play.specs.World.{World, group_after, views_after, with_step}
-use Rattle.am_base.proofs.Greatest.{split}
-use Rattle.am_effects.specs.Causes.{Cause}
-use Rattle.am_effects.proofs.Items.{all_get}
-use Rattle.am_sent.proofs.Runs.{after_step}
-use Rattle.am_stands.specs.Standing.{NameStands, FrontsStand, ViewsStand, StandsBut, Stands, within}
-use Rattle.am_stands.specs.Growing.{Grows}
-use Rattle.am_stands.specs.Moving.{Moves}
-use Rattle.am_stands.specs.Keeping.{GroupFor, NodeKeeps, Stepping}
-use Rattle.am_stands.specs.Running.{Following, Follows}
-use Rattle.am_stands.specs.Sending.{ShowsMore}
-use Rattle.am_stands.specs.Letters.{LetterSays}
-use Rattle.am_stands.proofs.Ends.{then_moves}
-use Rattle.am_stands.proofs.Letters.{letters_stay}
-use Rattle.am_stands.proofs.Names.{name_in, views_in}
-use Rattle.am_stands.proofs.Onward.{goes_on, grows_trans}
-use Rattle.am_stands.proofs.Others.{keeps_in, others_keep}
-use Rattle.am_steps.proofs.Starting.{recorded}
-use Rattle.am_steps.proofs.Deeds.{further}
-use Rattle.am_steps.proofs.Letters.{Told}
+use Rattle.am_steps.proofs.{Starting.recorded, Deeds.further, Letters.Told}
 
 -- all that follows at the group that moves led to, but for the letters
 pub record Landed (rules : Rules) (v : World) (s t : Group) : Type 0 where

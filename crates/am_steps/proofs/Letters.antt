@@ -1,29 +1,11 @@
 -- The letters of a step are so, once a voter has shown what they tell, and served what it sends of it.
-use Rattle.std.proofs.Common.{◌≡◌, ℕ, ◌≤◌, List, [], ◌∷◌, ◌++◌, refl, sym, ◌∙◌, subst, append-nil}
-use Rattle.std.specs.Prelude.{All}
-use Rattle.std.proofs.lemmas.List.Elements.{All-nil, All-cons, All-head, All-tail}
-use Rattle.am_base.specs.Founding.{Rules}
+use Rattle.am_steps.proofs.Words.{◌≡◌, ℕ, ◌≤◌, List, [], ◌∷◌, ◌++◌, refl, sym, ◌∙◌, subst, append-nil, All, All-nil, All-cons, All-head, All-tail, Rules}
+use Rattle.am_steps.proofs.Words.{Letter, Record, key, Group, IsThere, Node, lowest_or_first, World, Cause, NameStands, FrontsStand, ViewsStand, LetterSays}
+use Rattle.am_steps.proofs.Words.{Grows, Moves, none, Reporting, Sender, LeaderStands, ShowsMore, GroupFor, then_moves, letters_stay, trimmed_stays, all_stay}
+use Rattle.am_steps.proofs.Words.{goes_on, grows_same, grows_trans, group_whole, sent_says}
 use Rattle.am_packet.specs.declared.packet.Packet.TheVariants as packet
-use Rattle.am_packet.specs.Boxes.{Letter}
-use Rattle.am_group.specs.declared.event.Record.{Record}
-use Rattle.am_chain_lists.specs.Whole.{key}
 use Rattle.am_chain_moves.specs.Group as groups
-use Rattle.am_chain_moves.specs.Group.{Group, IsThere}
-use Rattle.am_model.specs.Node.{Node, lowest_or_first}
-use Rattle.am_play.specs.World.{World}
-use Rattle.am_effects.specs.Causes.{Cause}
 use Rattle.am_effects.specs.Letters as letters
-use Rattle.am_stands.specs.Standing.{NameStands, FrontsStand, ViewsStand}
-use Rattle.am_stands.specs.Letters.{LetterSays}
-use Rattle.am_stands.specs.Growing.{Grows}
-use Rattle.am_stands.specs.Moving.{Moves, none}
-use Rattle.am_stands.specs.States.{Reporting}
-use Rattle.am_stands.specs.Sending.{Sender, LeaderStands, ShowsMore}
-use Rattle.am_stands.specs.Keeping.{GroupFor}
-use Rattle.am_stands.proofs.Ends.{then_moves}
-use Rattle.am_stands.proofs.Letters.{letters_stay, trimmed_stays, all_stay}
-use Rattle.am_stands.proofs.Onward.{goes_on, grows_same, grows_trans, group_whole}
-use Rattle.am_stands.proofs.Sending.{sent_says}
 
 pub nothing_more : (v : World) → (rest : List Record) × (v.records ≡ v.records ++ rest)
 nothing_more v = ([], sym (append-nil v.records))

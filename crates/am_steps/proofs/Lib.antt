@@ -1,3 +1,4 @@
+pub mod Words
 pub mod Stopped
 pub mod Once
 pub mod Statuses

@@ -1,29 +1,13 @@
 -- A request of a name stands for one body, in every run.
-use Rattle.std.proofs.Common.{◌≡◌, ⊎_elim, ℕ, ◌+◌, ◌≤◌, List, [], refl, sym, ap, subst, arith}
-use Rattle.am_base.specs.declared.outcome.Outcome.{Outcome}
+use Rattle.am_steps.proofs.Words.{idle_queues, ◌≡◌, ⊎_elim, ℕ, ◌+◌, ◌≤◌, List, [], refl, sym, ap, subst, arith, Outcome, Rules, Act, Event, Node, Ballot}
+use Rattle.am_steps.proofs.Words.{set_at, Verdict, Step, World, start, record_of, with_record, with_step, run, split, Cause, calls, Looks, finds_itself_out}
+use Rattle.am_steps.proofs.Words.{Change, refreshes, settles, looks, queues, collects, closes, Answers, WasQueued, AnswersAsk, Effect, actor, IsCall, IsCause}
+use Rattle.am_steps.proofs.Words.{idles, stops, returns, steps, rests_refresh, rests_closed, settle_is, along, EachKeeps, runs_keep, after_step, AskedOk}
+use Rattle.am_steps.proofs.Words.{asked_more, asked_other, unique, SendsOnce}
 use Rattle.am_base.specs.declared.outcome.Outcome.TheVariants as said
 use Rattle.am_base.specs.declared.event.NodeEvent.TheVariants as does
-use Rattle.am_base.specs.Founding.{Rules}
 use Rattle.am_sender.specs.Sends as own
-use Rattle.am_group.specs.declared.event.Act.{Act}
 use Rattle.am_group.specs.declared.event.Act.TheVariants as act
-use Rattle.am_group.specs.declared.event.Event.{Event}
-use Rattle.am_model.specs.Node.{Node, Ballot, set_at}
-use Rattle.am_model.specs.Ballots.{Verdict}
-use Rattle.am_model.specs.Emit.{Step}
-use Rattle.am_play.specs.World.{World, start, record_of, with_record, with_step, run}
-use Rattle.am_base.proofs.Greatest.{split}
-use Rattle.am_effects.specs.Causes.{Cause, calls}
-use Rattle.am_effects.specs.Looks.{Looks, finds_itself_out}
-use Rattle.am_effects.specs.Changes.{Change, refreshes, settles}
-use Rattle.am_effects.specs.Changes.{looks, queues, collects, closes}
-use Rattle.am_effects.specs.Effects.{Answers, WasQueued, AnswersAsk, Effect}
-use Rattle.am_effects.specs.Events.{actor, IsCall, IsCause, IsIdle, idles, stops, returns, steps}
-use Rattle.am_effects.proofs.Rests.{rests_refresh, rests_closed, settle_is}
-use Rattle.am_effects.proofs.Runs.{along, EachKeeps, runs_keep}
-use Rattle.am_sent.proofs.Runs.{after_step}
-use Rattle.am_unballoted.proofs.Worlds.{AskedOk, asked_more, asked_other, unique}
-use Rattle.am_stands.specs.States.{SendsOnce}
 
 -- ---- a node's last request number only rises
 
@@ -65,14 +49,11 @@ asked_step w e c s h cause effect =
 pub record AllAsked (w : World) : Type 0 where
   pub asked : AskedOk w.records w.nodes
 
-no_idle : (o : Outcome) (req : ℕ) → IsIdle o → o ≡ said.Queued req → ⊥
-no_idle o req idle is = subst IsIdle is idle
-
 asked_next : EachKeeps AllAsked
 unfolding with_record with_step
 asked_next w e v (idles o idle) h = record {
   asked = asked_other w.records w.nodes (record_of w e o [])
-      (λ name req body is. no_idle o req idle is.answered) h.asked;
+      (λ name req body is. idle_queues o req idle is.answered) h.asked;
 }
 asked_next w e v (stops runs) h = record {
   asked = asked_other w.records w.nodes (record_of w e said.Stopped [])

@@ -1,36 +1,13 @@
 -- Where a node's last ballot was decided and its promise is its own, it is that of the ballot, in every run.
-use Rattle.std.proofs.Common.{◌≡◌, inr, ⊎_elim, ℕ, ◌<◌, ◌==◌, ◌&&◌, ◌||◌, not, true, false, List, Option, Some, None, sym, ap, ◌∙◌, subst, arith}
-use Rattle.std.proofs.lemmas.Bool.Decides.{nat_tests}
-use Rattle.am_base.specs.declared.name.Stamp.{Stamp}
-use Rattle.am_base.specs.declared.outcome.Outcome.{Outcome}
+use Rattle.am_steps.proofs.Words.{none_of_asking, ◌≡◌, inr, ⊎_elim, ℕ, ◌<◌, ◌==◌, ◌&&◌, ◌||◌, not, true, false, List, Option, Some, None, sym, ap, ◌∙◌, subst}
+use Rattle.am_steps.proofs.Words.{arith, nat_tests, Stamp, Outcome, Rules, MayFound, has, stamp_lt, no_stamp, Event, Node, Ballot, is_member, is_asking}
+use Rattle.am_steps.proofs.Words.{Verdict, overtake, World, start, with_record, with_step, run, split, and_both, Cause, Looks, finds_itself_out, waits}
+use Rattle.am_steps.proofs.Words.{fetches_from_best, finds_too_few, finds_no_room, decides, Promises, invited, overtaken_by, told_result, Change, refreshes}
+use Rattle.am_steps.proofs.Words.{settles, begins_list, promises, opens, looks, closes, actor, idles, stops, returns, steps, rests_refresh, rests_closed}
+use Rattle.am_steps.proofs.Words.{settle_is, along, EachKeeps, runs_keep, few_names, equal_stamps, HasNames, HeardNames, change_names, promised_named}
+use Rattle.am_steps.proofs.Words.{Balloted, change_does, looked_at, AllViews, each_views, heard_names, views_start, AtMost, IsBegun, most_same, most_through}
+use Rattle.am_steps.proofs.Words.{CauseBegun, Promised, promise_change, AllBegun, cause_begun, each_keeps, start_begun, OwnDecided}
 use Rattle.am_base.specs.declared.outcome.Outcome.TheVariants as said
-use Rattle.am_base.specs.Founding.{Rules, MayFound}
-use Rattle.am_base.specs.Names.{has}
-use Rattle.am_base.specs.Stamps.{stamp_lt, no_stamp}
-use Rattle.am_group.specs.declared.event.Event.{Event}
-use Rattle.am_model.specs.Node.{Node, Ballot, is_member, is_asking}
-use Rattle.am_model.specs.Ballots.{Verdict, overtake}
-use Rattle.am_play.specs.World.{World, start, with_record, with_step, run}
-use Rattle.am_base.proofs.Greatest.{split, and_both}
-use Rattle.am_effects.specs.Causes.{Cause}
-use Rattle.am_effects.specs.Looks.{Looks, finds_itself_out, waits, fetches_from_best, finds_too_few, finds_no_room, decides}
-use Rattle.am_effects.specs.Changes.{Promises, invited, overtaken as overtaken_by, told_result, Change, refreshes, settles}
-use Rattle.am_effects.specs.Changes.{begins_list, promises, opens, looks}
-use Rattle.am_effects.specs.Changes.{closes}
-use Rattle.am_effects.specs.Events.{actor, idles, stops, returns, steps}
-use Rattle.am_effects.proofs.Rests.{rests_refresh, rests_closed, settle_is}
-use Rattle.am_effects.proofs.Runs.{along, EachKeeps, runs_keep}
-use Rattle.am_laws.proofs.Named.{few_names}
-use Rattle.am_laws.proofs.Stamps.{equal_stamps}
-use Rattle.am_laws.proofs.ViewNames.{HasNames, HeardNames, change_names, promised_named}
-use Rattle.am_laws.proofs.ViewChanges.{Balloted, change_does, looked_at}
-use Rattle.am_laws.proofs.Views.{AllViews, each_views, heard_names, views_start}
-use Rattle.am_promises.specs.Claim.{AtMost, IsBegun}
-use Rattle.am_promises.proofs.Stamps.{most_same, most_through}
-use Rattle.am_promises.proofs.Changes.{CauseBegun, Promised, promise_change}
-use Rattle.am_promises.proofs.Runs.{AllBegun, cause_begun, each_keeps, start_begun}
-use Rattle.am_stands.specs.States.{OwnDecided}
-use Rattle.am_steps.proofs.Statuses.{asking_bare}
 
 -- ---- by the parts of a node
 
@@ -44,8 +21,7 @@ same_owning x y who promise ballot h = subst (λ k. Owning k y.core.promise y.ba
 
 -- a ballot that was decided isn't overtaken
 still_decided : (v : Stamp) (ballot : Option Ballot) (b : Ballot) (number : ℕ) (names : List ℕ) → overtake v ballot ≡ Some b
-    → b.answer ≡ said.Decided number names
-    → ballot ≡ Some b
+    → b.answer ≡ said.Decided number names → ballot ≡ Some b
 still_decided v None b number names is answer = is
 still_decided v (Some a) b number names is answer = split (not a.is_over && stamp_lt a.stamp v)
     (λ t. absurd (let z = rw t at is in
@@ -66,8 +42,7 @@ record Knows (nodes : ℕ → Node) (i : ℕ) (x : Node) : Type 0 where
   owns : OwnDecided x
 
 promise_owns : (nodes : ℕ → Node) (i : ℕ) (c : Cause) (x : Node) (v : Stamp) → HeardNames c → CauseBegun nodes c → Promises c x v
-    → stamp_lt v x.core.promise ≡ false
-    → IsBegun nodes v → Knows nodes i x → Owning x.core.who v (overtake v x.ballot)
+    → stamp_lt v x.core.promise ≡ false → IsBegun nodes v → Knows nodes i x → Owning x.core.who v (overtake v x.ballot)
 promise_owns nodes i c x v names begun why low is h b number all at answer mine =
     let old = still_decided v x.ballot b number all at answer in
     let who = h.promised.who in
@@ -104,7 +79,7 @@ change_owns nodes i c o x y names begun settles h = same_owning x y (ap (λ (n :
     (ap (λ (n : Node). n.ballot) (settle_is x)) h.owns
 change_owns nodes i c o x y names begun (begins_list s v base join image is says may) h = λ b number all at answer mine. absurd (
     let asks = and_both (not (s == x.core.who)) (is_member x.status || is_asking x.status) may.asks in
-    let none = h.balloted.none (asking_bare x.status may.no_member asks.1) in
+    let none = h.balloted.none (none_of_asking x.status may.no_member asks.1) in
     let z = sym none ∙ at in
     cc)
 change_owns nodes i c o x y names begun (promises v low why) h = promise_owns nodes i c x v names begun why low (raised why) h

@@ -1,45 +1,17 @@
 -- A refresh within a step: the group accepts what it accepts, and the name learns of it; and then all is known again.
-use Rattle.std.proofs.Common.{◌≡◌, ℕ, ◌≤◌, max, true, false, List, [], length, refl, sym, ap, ◌∙◌, subst, arith, append-nil}
-use Rattle.am_base.specs.declared.entry.Entry.{Entry}
+use Rattle.am_steps.proofs.Words.{same_group, member_stays, ◌≡◌, ℕ, ◌≤◌, max, true, false, List, [], length, refl, sym, ap, ◌∙◌, subst, arith, append-nil}
+use Rattle.am_steps.proofs.Words.{Entry, Rules, top_of, Begins, begins_refl, Group, chain_of, with_node, Kept, put_same, Node, is_member, is_sequencer}
+use Rattle.am_steps.proofs.Words.{lowest_or_first, has_departed, refresh, World, group_after, split, Cause, refreshes, unchanged, changed, rests_refresh}
+use Rattle.am_steps.proofs.Words.{stamp_of, Along, along_changes, leads_member, kept_refresh, NameStands, StandsBut, within, MayCount, Word, nothing}
+use Rattle.am_steps.proofs.Words.{of_sequencer, ComesTo, AcceptsAndLearns, Grows, Moves, none, moves, Stepping, own_name, is_up, unmoved_refresh, front_named}
+use Rattle.am_steps.proofs.Words.{counts_names, accept_moves, then_moves, kept, old, refresh_learns, advanced, letters_stay, sequencer_stays, grows_trans}
+use Rattle.am_steps.proofs.Words.{goes_on, grows_same, refreshes_keep, keeps_in}
 use Rattle.am_base.specs.declared.outcome.Outcome.TheVariants as said
-use Rattle.am_base.specs.Founding.{Rules}
-use Rattle.am_base.specs.Lists.{top_of}
-use Rattle.am_chain_lists.specs.Whole.{Begins}
-use Rattle.am_chain_lists.proofs.Prefixes.{begins_refl}
 use Rattle.am_chain_moves.specs.Group as groups
-use Rattle.am_chain_moves.specs.Group.{Group, chain_of}
 use Rattle.am_chain_moves.specs.Moves as group
-use Rattle.am_chain_moves.specs.Moves.{with_node}
-use Rattle.am_chain_moves.specs.Kept.{Kept}
-use Rattle.am_chain_moves.proofs.Puts.{put_same}
 use Rattle.am_model.specs.Node as nodes
-use Rattle.am_model.specs.Node.{Node, is_member, is_sequencer, lowest_or_first, has_departed}
-use Rattle.am_model.specs.Refresh.{refresh}
-use Rattle.am_play.specs.World.{World, group_after}
-use Rattle.am_base.proofs.Greatest.{split}
-use Rattle.am_effects.specs.Causes.{Cause}
-use Rattle.am_effects.specs.Changes.{refreshes, unchanged, changed}
-use Rattle.am_effects.proofs.Rests.{rests_refresh}
-use Rattle.am_codec.specs.Spelling.{stamp_of}
-use Rattle.am_laws.proofs.TakenRuns.{Along, along_changes}
-use Rattle.am_laws.proofs.ViewChanges.{leads_member}
-use Rattle.am_sent.proofs.Kept.{kept_refresh}
-use Rattle.am_stands.specs.Standing.{NameStands, StandsBut, within}
-use Rattle.am_stands.specs.Accepting.{MayCount, Word, nothing, of_sequencer, ComesTo, AcceptsAndLearns}
-use Rattle.am_stands.specs.Growing.{Grows}
-use Rattle.am_stands.specs.Moving.{Moves, none, moves}
-use Rattle.am_stands.specs.Keeping.{Stepping}
-use Rattle.am_stands.proofs.Changes.{own_name, is_up, unmoved_refresh}
-use Rattle.am_stands.proofs.ChainNames.{front_named, counts_names}
-use Rattle.am_stands.proofs.Ends.{accept_moves, then_moves}
-use Rattle.am_stands.proofs.Keeping.{kept, old}
-use Rattle.am_stands.proofs.Learning.{no_more_group, refresh_learns, advanced}
-use Rattle.am_stands.proofs.Letters.{letters_stay, sequencer_stays}
-use Rattle.am_stands.proofs.Onward.{grows_trans, goes_on, grows_same}
-use Rattle.am_stands.proofs.Refreshing.{refreshes_keep}
-use Rattle.am_stands.proofs.Others.{keeps_in}
-use Rattle.am_steps.proofs.Statuses.{bare_status, member_here}
-use Rattle.am_steps.proofs.Worlds.{growing, grown_stands, same_stands, learned, learned_stands, once_in}
+use Rattle.am_steps.proofs.{Statuses.bare_status, Worlds.growing, Worlds.grown_stands, Worlds.same_stands, Worlds.learned, Worlds.learned_stands}
+use Rattle.am_steps.proofs.{Worlds.once_in}
 
 -- ---- how far a name was told, and gives out, within its step
 
@@ -100,8 +72,7 @@ module _ (rules : Rules) (w : World) (name : ℕ) (c : Cause) (x : Node) (s : Gr
 
   -- from the group that accepted, and in which the name learned
   gone_on : (g : List Entry) (t : Group) → Moves s t → Begins w.group g → StandsBut name (within (growing w g) name y) t
-      → (t.node name).list ≡ (s.node name).list
-      → y.core.acc ≤ length t.group → Stepping rules (growing w g) name c y t
+      → (t.node name).list ≡ (s.node name).list → y.core.acc ≤ length t.group → Stepping rules (growing w g) name c y t
   gone_on g t path grows stands list low =
       let on = goes_on rules.founders (lowest_or_first rules.founders) rules.resilience s t h.group path in
       let v = growing w g in
@@ -232,7 +203,7 @@ module _ (rules : Rules) (w : World) (name : ℕ) (c : Cause) (x : Node) (s : Gr
 
   module _ (other : is_member x.status ≡ false) (low : y.core.acc ≤ length w.group) (fronts : Fronted w name y s) (none_heard : fronts.heard ≡ 0) where
     same : group_after w.group y ≡ w.group
-    same = no_more_group w.group y low
+    same = same_group w.group y low
 
     other_goes : Stepping rules (growing w w.group) name c y s
     other_goes = gone_on w.group s none (begins_refl w.group) (same_stands w name x y s (unmoved_refresh x) h.stands) refl
@@ -261,7 +232,7 @@ module _ (rules : Rules) (w : World) (name : ℕ) (c : Cause) (x : Node) (s : Gr
 pub refresh_on : (rules : Rules) (w : World) (name : ℕ) (c : Cause) (x : Node) (s : Group) → Stepping rules w name c x s → Fronted w name x s
     → Refreshed rules w name c x s
 refresh_on rules w name c x s h f = split (is_member x.status)
-    (λ t. member_refreshed rules w name c x s h f t (member_here x.status t))
+    (λ t. member_refreshed rules w name c x s h f t (member_stays x.status t))
     (λ m. (
     let follows = advanced x (no_leader x m) in
     let its_told = follows.0 in

@@ -1,39 +1,12 @@
 -- What is known of a name that sends, as it is after its step.
-use Rattle.std.proofs.Common.{◌≡◌, ℕ, ◌<◌, ◌≤◌, ◌==◌, true, false, List, slice_get, sym, ap, ◌∙◌, subst, arith}
-use Rattle.std.specs.Prelude.{All}
-use Rattle.std.specs.List.{list_any}
-use Rattle.std.proofs.lemmas.List.Elements.{All-nil}
-use Rattle.am_base.specs.declared.name.Stamp.{Stamp}
-use Rattle.am_base.specs.declared.entry.Entry.TheVariants.{Data}
-use Rattle.am_base.specs.Founding.{Rules}
-use Rattle.am_base.specs.Lists.{entry_at}
+use Rattle.am_steps.proofs.Words.{◌≡◌, ℕ, ◌<◌, ◌≤◌, ◌==◌, true, false, List, slice_get, sym, ap, ◌∙◌, subst, arith, All, list_any, All-nil, Stamp, Data}
+use Rattle.am_steps.proofs.Words.{Rules, entry_at, key, Group, IsThere, IsUp, chain_of, Kept, Node, view, image_of, is_sequencer, has_log, has_departed}
+use Rattle.am_steps.proofs.Words.{World, split, Cause, all_get, logged, OpenBallot, leads_member, IsNoted, AllViews, IsBegun, AllBegun, EntrySent, SendSent}
+use Rattle.am_steps.proofs.Words.{WasSent, NameStands, FrontsStand, Stands, WasAsked, AllShown, NamesNamed, OwnDecided, FetchesStand, NumbersStand}
+use Rattle.am_steps.proofs.Words.{ListBegins, LeaderStands, BallotStands, SendsStand, Sender, Stepping, front_named, rows_live, concerned_small, key_stamp}
+use Rattle.am_steps.proofs.Words.{kept, whole, Speaks, leading}
 use Rattle.am_packet.specs.declared.packet.Packet.TheVariants as packet
-use Rattle.am_chain_lists.specs.Whole.{key}
-use Rattle.am_chain_moves.specs.Group.{Group, IsThere, IsUp, chain_of}
-use Rattle.am_chain_moves.specs.Kept.{Kept}
-use Rattle.am_model.specs.Node.{Node, view, image_of, is_sequencer, has_log, has_departed}
-use Rattle.am_play.specs.World.{World}
-use Rattle.am_base.proofs.Greatest.{split}
-use Rattle.am_effects.specs.Causes.{Cause}
-use Rattle.am_effects.proofs.Items.{all_get}
-use Rattle.am_effects.proofs.Statuses.{logged}
-use Rattle.am_laws.proofs.ViewChanges.{OpenBallot, leads_member}
-use Rattle.am_laws.proofs.Views.{IsNoted, AllViews}
-use Rattle.am_promises.specs.Claim.{IsBegun}
-use Rattle.am_promises.proofs.Runs.{AllBegun}
-use Rattle.am_sent.proofs.Kept.{EntrySent, SendSent, WasSent}
-use Rattle.am_stands.specs.Standing.{NameStands, FrontsStand, Stands}
-use Rattle.am_stands.specs.Letters.{WasAsked, AllShown}
-use Rattle.am_stands.specs.Moving.{NamesNamed}
-use Rattle.am_stands.specs.States.{OwnDecided, FetchesStand}
-use Rattle.am_stands.specs.Sending.{NumbersStand, ListBegins, LeaderStands, BallotStands, SendsStand, Sender}
-use Rattle.am_stands.specs.Keeping.{Stepping}
-use Rattle.am_stands.proofs.ChainNames.{front_named, rows_live, concerned_small}
-use Rattle.am_stands.proofs.Entries.{key_stamp}
-use Rattle.am_stands.proofs.Keeping.{kept, whole}
-use Rattle.am_stands.proofs.Sent.{Speaks, leading}
-use Rattle.am_steps.proofs.Based.{view_above}
-use Rattle.am_steps.proofs.Starting.{begun_stands}
+use Rattle.am_steps.proofs.{Based.view_above, Starting.begun_stands}
 
 -- the world after the step, but for its letters, is that within the step
 module _ (rules : Rules) (w v : World) (name : ℕ) (c : Cause) (m n : Node) (t : Group) (h : Stepping rules w name c n t)

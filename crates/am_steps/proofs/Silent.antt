@@ -1,27 +1,11 @@
 -- A step of who had departed before it sends nothing.
-use Rattle.std.proofs.Common.{◌≡◌, ℕ, ◌==◌, ◌||◌, nat_lt, nat_le, not, Bool, true, false, if◌then◌else◌, [], ◌++◌, length, Option, Some, None, refl}
-use Rattle.std.proofs.Common.{sym, ap, ◌∙◌, arith, append-nil}
-use Rattle.std.proofs.Common.{length-append}
+use Rattle.am_steps.proofs.Words.{◌≡◌, ℕ, ◌==◌, ◌||◌, nat_lt, nat_le, not, Bool, true, false, if◌then◌else◌, [], ◌++◌, length, Option, Some, None, refl, sym}
+use Rattle.am_steps.proofs.Words.{ap, ◌∙◌, arith, append-nil, length-append, NodeEvent, place_of, Packet, Letter, Act, Event, is_for, letter_at, Node}
+use Rattle.am_steps.proofs.Words.{has_departed, Step, step, hear, hear_refusal, packet_length, World, current, is_stopped, with_record, with_step, does_event}
+use Rattle.am_steps.proofs.Words.{gives_up, hears_letter, hear_cut, comes_back, acts_as, happens, actor, nil_of, SendsNothing}
 use Rattle.am_base.specs.declared.outcome.Outcome.TheVariants as said
-use Rattle.am_base.specs.declared.event.NodeEvent.{NodeEvent}
 use Rattle.am_base.specs.declared.event.NodeEvent.TheVariants as does
-use Rattle.am_base.specs.Names.{place_of}
-use Rattle.am_packet.specs.declared.packet.Packet.{Packet}
-use Rattle.am_packet.specs.Boxes.{Letter}
-use Rattle.am_group.specs.declared.event.Act.{Act}
 use Rattle.am_group.specs.declared.event.Act.TheVariants as act
-use Rattle.am_group.specs.declared.event.Event.{Event}
-use Rattle.am_group.specs.Addressed.{is_for}
-use Rattle.am_group.specs.Journals.{letter_at}
-use Rattle.am_model.specs.Node.{Node, has_departed}
-use Rattle.am_model.specs.Emit.{Step}
-use Rattle.am_model.specs.Step.{step, hear, hear_refusal}
-use Rattle.am_model.specs.Lengths.{packet_length}
-use Rattle.am_play.specs.World.{World, current, is_stopped, with_record, with_step, does_event, gives_up, hears_letter, hear_cut, comes_back}
-use Rattle.am_play.specs.World.{acts_as, happens}
-use Rattle.am_effects.specs.Events.{actor}
-use Rattle.am_unballoted.proofs.Steps.{nil_of}
-use Rattle.am_stands.specs.Sending.{SendsNothing}
 
 abbrev Same : World → World → Type 0
 Same w v = v.letters ≡ w.letters

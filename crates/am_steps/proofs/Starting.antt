@@ -1,59 +1,17 @@
 -- What is known where a step begins: what the run keeps, with the step's record.
-use Rattle.std.proofs.Common.{◌≡◌, ⊎_elim, ℕ, zero, suc, ◌<◌, ◌≤◌, ◌==◌, true, false, List, Some, slice_get, slice_index, get_or-set_same, refl, sym}
-use Rattle.std.proofs.Common.{ap, ◌∙◌, subst, arith}
-use Rattle.std.specs.Prelude.{All}
-use Rattle.std.proofs.lemmas.Bool.Decides.{nat_tests}
-use Rattle.am_base.specs.declared.name.Stamp.{Stamp}
-use Rattle.am_base.specs.declared.event.NodeEvent.{NodeEvent}
-use Rattle.am_base.specs.declared.event.NodeEvent.TheVariants.{GiveUp}
-use Rattle.am_base.specs.Founding.{Rules, MayFound}
-use Rattle.am_base.specs.Names.{place_of, life_of, nobody, with_name, has}
-use Rattle.am_base.specs.Stamps.{no_stamp}
-use Rattle.am_packet.specs.declared.packet.Packet.{Packet}
+use Rattle.am_steps.proofs.Words.{◌≡◌, ⊎_elim, ℕ, zero, suc, ◌<◌, ◌≤◌, ◌==◌, true, false, List, Some, slice_get, slice_index, get_or-set_same, refl, sym, ap}
+use Rattle.am_steps.proofs.Words.{◌∙◌, subst, arith, All, nat_tests, Stamp, NodeEvent, GiveUp, Rules, MayFound, place_of, life_of, nobody, with_name, has}
+use Rattle.am_steps.proofs.Words.{no_stamp, Packet, Letter, goes_to_any, Act, Event, Record, item_at, key, begins_refl, Group, Node, set_at, has_departed}
+use Rattle.am_steps.proofs.Words.{Step, World, start, is_stopped, run, heard_by, split, Cause, calls, hears, Effect, actor, WasSentTo, IsCall, IsCause}
+use Rattle.am_steps.proofs.Words.{all_get, all_item, runs_keep, stamp_of, few_names, numbers_hold, IsNoted, heard_names, AllOwned, run_owned, each_along}
+use Rattle.am_steps.proofs.Words.{heard_used, kept_more, AllSent, after_step, sent_start, AtMost, IsBegun, StampOk, NameStands, StandsBut, Stands, within}
+use Rattle.am_steps.proofs.Words.{PacketSays, LetterSays, WasBegun, HeardSo, Stepping, Following, letters_stay, name_in, views_in, grows_same, others_keep}
+use Rattle.am_steps.proofs.Words.{not_above_key}
+use Rattle.am_sent.proofs.Runs.{each_keeps}
 use Rattle.am_packet.specs.declared.packet.Packet.TheVariants as packet
-use Rattle.am_packet.specs.Boxes.{Letter}
-use Rattle.am_packet.specs.Kinds.{goes_to_any}
-use Rattle.am_group.specs.declared.event.Act.{Act}
-use Rattle.am_group.specs.declared.event.Event.{Event}
-use Rattle.am_group.specs.declared.event.Record.{Record}
-use Rattle.am_group.specs.Journals.{item_at}
-use Rattle.am_chain_lists.specs.Whole.{key}
-use Rattle.am_chain_lists.proofs.Prefixes.{begins_refl}
 use Rattle.am_chain_moves.specs.Group as groups
-use Rattle.am_chain_moves.specs.Group.{Group}
-use Rattle.am_model.specs.Node.{Node, set_at, has_departed}
-use Rattle.am_model.specs.Emit.{Step}
-use Rattle.am_play.specs.World.{World, start, is_stopped, run}
-use Rattle.am_play.specs.Claims.{heard_by}
-use Rattle.am_base.proofs.Greatest.{split}
-use Rattle.am_effects.specs.Causes.{Cause, calls, hears}
-use Rattle.am_effects.specs.Effects.{Effect}
 use Rattle.am_effects.specs.Events as event
-use Rattle.am_effects.specs.Events.{actor, WasSentTo, IsCall, IsCause}
-use Rattle.am_effects.proofs.Items.{all_get, all_item}
-use Rattle.am_effects.proofs.Runs.{runs_keep}
-use Rattle.am_codec.specs.Spelling.{stamp_of}
-use Rattle.am_laws.proofs.Named.{few_names}
-use Rattle.am_laws.proofs.RunCounts.{numbers_hold}
-use Rattle.am_laws.proofs.Views.{IsNoted, heard_names}
-use Rattle.am_laws.proofs.TakenRuns.{AllOwned, run_owned, each_along, heard_used}
-use Rattle.am_sent.proofs.Kept.{kept_more}
-use Rattle.am_sent.proofs.Runs.{AllSent, after_step, each_keeps, sent_start}
-use Rattle.am_promises.specs.Claim.{AtMost, IsBegun, StampOk}
-use Rattle.am_stands.specs.Standing.{NameStands, StandsBut, Stands, within}
-use Rattle.am_stands.specs.Letters.{PacketSays, LetterSays}
-use Rattle.am_stands.specs.Steps.{WasBegun}
-use Rattle.am_stands.specs.Keeping.{HeardSo, Stepping}
-use Rattle.am_stands.specs.Running.{Following}
-use Rattle.am_stands.proofs.Letters.{letters_stay}
-use Rattle.am_stands.proofs.Names.{name_in, views_in}
-use Rattle.am_stands.proofs.Onward.{grows_same}
-use Rattle.am_stands.proofs.Others.{others_keep}
-use Rattle.am_stands.proofs.Welcomes.{not_above_key}
-use Rattle.am_steps.proofs.Any.{GoesSo, run_goes}
-use Rattle.am_steps.proofs.Once.{step_once}
-use Rattle.am_steps.proofs.Owns.{AllOwns, run_owns}
-use Rattle.am_steps.proofs.Stopped.{few_stopped}
+use Rattle.am_steps.proofs.{Any.GoesSo, Any.run_goes, Once.step_once, Owns.AllOwns, Owns.run_owns, Stopped.few_stopped}
 
 -- ---- a world with other records
 
@@ -80,7 +38,7 @@ stands_but w records name s h = subst (λ f. StandsBut name (record (recorded w 
 
 -- ---- what is heard
 
-item_get : {A : Type 0} (xs : List A) (number : ℕ) (x : A) → item_at xs number ≡ Some x → (k : ℕ) × (slice_get xs k ≡ Some x)
+pub item_get : {A : Type 0} (xs : List A) (number : ℕ) (x : A) → item_at xs number ≡ Some x → (k : ℕ) × (slice_get xs k ≡ Some x)
 item_get xs zero x is = absurd (cc)
 item_get xs (suc k) x is = (k, is)
 

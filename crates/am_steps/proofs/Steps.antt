@@ -1,72 +1,23 @@
 -- Each step of a name of a run is moves of the group that stands for it.
-use Rattle.std.proofs.Common.{◌≡◌, ⊎_elim, Option, None, ℕ, ◌<◌, ◌≤◌, ◌==◌, not, nat_lt, true, false, List, [], Some, slice_get, refl, sym, ap, ◌∙◌}
-use Rattle.std.proofs.Common.{subst, arith}
-use Rattle.std.specs.Prelude.{All}
-use Rattle.std.proofs.lemmas.Bool.Decides.{nat_tests}
-use Rattle.am_base.specs.declared.name.Stamp.{Stamp}
-use Rattle.am_base.specs.declared.event.NodeEvent.{NodeEvent}
-use Rattle.am_base.specs.declared.outcome.Outcome.{Outcome}
-use Rattle.am_base.specs.declared.entry.Entry.{Entry}
-use Rattle.am_base.specs.declared.entry.Entry.TheVariants.{Leave}
-use Rattle.am_base.specs.Founding.{Rules, MayFound}
-use Rattle.am_base.specs.Lists.{Log, told_by}
-use Rattle.am_base.specs.Names.{size}
-use Rattle.am_base.specs.Stamps.{stamp_lt, stamp_eq}
+use Rattle.am_steps.proofs.Words.{same_group, member_stays, stamp_itself, same_stamp, ◌≡◌, ⊎_elim, Option, None, ℕ, ◌<◌, ◌≤◌, ◌==◌, not, nat_lt, true, false}
+use Rattle.am_steps.proofs.Words.{List, [], Some, slice_get, refl, sym, ap, ◌∙◌, subst, arith, All, nat_tests, Stamp, NodeEvent, Outcome, Entry, Leave, Rules}
+use Rattle.am_steps.proofs.Words.{MayFound, Log, told_by, size, stamp_lt, stamp_eq, Letter, Event, Group, Departed, Node, Ballot, view, acts, is_member}
+use Rattle.am_steps.proofs.Words.{others, is_sequencer, push_entry, has_departed, is_unfinished, Step, hears_member, refresh, settle, refresh_at_end, Decided}
+use Rattle.am_steps.proofs.Words.{World, is_stopped, group_after, views_after, run, with_step, happens, split, and_both, Cause, calls, hears, departs, Course}
+use Rattle.am_steps.proofs.Words.{nothing_yet, used_report, and_then, Deeds, plainly, looked, Ending, ends_so, let_go, closing, Effect, actor, IsCause, steps}
+use Rattle.am_steps.proofs.Words.{all_get, rests_refresh, rests_at_end, few_names, numbers_hold, not_above_itself, run_owned, Balloted, OpenBallot}
+use Rattle.am_steps.proofs.Words.{leads_member, changes_do, IsNoted, CauseSent, after_step, cause_sent, NameStands, StandsBut, within, nothing, none}
+use Rattle.am_steps.proofs.Words.{OwnDecided, Sender, ListBegins, began_before, just_begun, Stepping, Following, Follows, StepsMove, then_moves}
+use Rattle.am_steps.proofs.Words.{departed_silent}
 use Rattle.am_packet.specs.declared.packet.Packet.TheVariants as packet
-use Rattle.am_packet.specs.Boxes.{Letter}
-use Rattle.am_group.specs.declared.event.Event.{Event}
-use Rattle.am_chain_moves.specs.Group.{Group}
-use Rattle.am_model.specs.declared.status.Status.TheVariants.{Departed}
-use Rattle.am_model.specs.Node.{Node, Ballot, view, acts, is_member, others, is_sequencer, push_entry, has_departed}
-use Rattle.am_model.specs.Calls.{is_unfinished}
-use Rattle.am_model.specs.Emit.{Step}
-use Rattle.am_model.specs.Hearing.{hears_member}
-use Rattle.am_model.specs.Refresh.{refresh, settle, refresh_at_end}
-use Rattle.am_play.specs.World.{Decided, World, is_stopped, group_after, views_after, run, with_step, happens}
-use Rattle.am_base.proofs.Greatest.{split, and_both}
-use Rattle.am_effects.specs.Causes.{Cause, calls, hears}
 use Rattle.am_effects.specs.Letters as letters
-use Rattle.am_effects.specs.Changes.{departs}
-use Rattle.am_effects.specs.Courses.{Course, nothing_yet, used_report, and_then, Deeds, plainly, looked, Ending, at_end as ends_so, let_go, closing}
-use Rattle.am_effects.specs.Effects.{Effect}
-use Rattle.am_effects.specs.Events.{actor, IsCause, steps}
-use Rattle.am_effects.proofs.Items.{all_get}
-use Rattle.am_effects.proofs.Rests.{rests_refresh, rests_at_end}
-use Rattle.am_laws.proofs.Named.{few_names}
-use Rattle.am_laws.proofs.RunCounts.{numbers_hold}
-use Rattle.am_laws.proofs.Stamps.{same_stamp, not_above_itself}
-use Rattle.am_laws.proofs.TakenRuns.{run_owned}
-use Rattle.am_laws.proofs.ViewChanges.{Balloted, OpenBallot, leads_member, changes_do}
-use Rattle.am_laws.proofs.Views.{IsNoted}
-use Rattle.am_sent.proofs.Changes.{CauseSent}
-use Rattle.am_sent.proofs.Runs.{after_step, cause_sent}
-use Rattle.am_stands.specs.Standing.{NameStands, StandsBut, within}
-use Rattle.am_stands.specs.Accepting.{nothing}
-use Rattle.am_stands.specs.Moving.{none}
-use Rattle.am_stands.specs.States.{OwnDecided}
-use Rattle.am_stands.specs.Sending.{Sender, ListBegins, as_before as began_before, just_begun}
-use Rattle.am_stands.specs.Keeping.{Stepping}
-use Rattle.am_stands.specs.Running.{Following, Follows, StepsMove}
-use Rattle.am_stands.proofs.Ends.{then_moves}
-use Rattle.am_stands.proofs.Learning.{no_more_group}
-use Rattle.am_stands.proofs.Silent.{departed_silent}
-use Rattle.am_steps.proofs.Statuses.{member_here, departed_is}
-use Rattle.am_steps.proofs.Owns.{owns_next, run_owns}
 use Rattle.am_steps.proofs.Starting.{acting, recorded, stands_but, run_sent, stepping_begins}
-use Rattle.am_steps.proofs.Worlds.{growing, same_stands}
-use Rattle.am_steps.proofs.Refreshed.{Fronted}
-use Rattle.am_steps.proofs.Courses.{brings_report, was_welcomed, both_ways, stays}
-use Rattle.am_steps.proofs.Fronts.{looked_fronts}
-use Rattle.am_steps.proofs.Going.{Grown, as_before, by_reports, change_on, going_on}
-use Rattle.am_steps.proofs.Deeds.{further, Seen, none_new, one_new, Done, deeds_on}
-use Rattle.am_steps.proofs.Ends.{AtEnd, ended_on, stamp_itself, views_end}
-use Rattle.am_steps.proofs.Based.{Based, as_it_was, was_bare, step_based, bare_follows}
-use Rattle.am_steps.proofs.Letters.{Told, none_told, letters_told}
-use Rattle.am_steps.proofs.Landing.{at_end, landed, ended_stands, ended_keeps, landed_told}
-use Rattle.am_steps.proofs.Silent.{departed_quiet}
-use Rattle.am_steps.proofs.Senders.{sender}
-use Rattle.am_steps.proofs.Departed.{rests_course, rests_step}
-use Rattle.am_steps.proofs.Closing.{closes_on}
+use Rattle.am_steps.proofs.{Statuses.departed_is, Owns.owns_next, Owns.run_owns, Worlds.growing, Worlds.same_stands, Refreshed.Fronted, Courses.brings_report}
+use Rattle.am_steps.proofs.{Courses.was_welcomed, Courses.both_ways, Courses.stays, Fronts.looked_fronts, Going.Grown, Going.as_before, Going.by_reports}
+use Rattle.am_steps.proofs.{Going.change_on, Going.going_on, Deeds.further, Deeds.Seen, Deeds.none_new, Deeds.one_new, Deeds.Done, Deeds.deeds_on, Ends.AtEnd}
+use Rattle.am_steps.proofs.{Ends.ended_on, Ends.views_end, Based.Based, Based.as_it_was, Based.was_bare, Based.step_based, Based.bare_follows, Letters.Told}
+use Rattle.am_steps.proofs.{Letters.none_told, Letters.letters_told, Landing.at_end, Landing.landed, Landing.ended_stands, Landing.ended_keeps}
+use Rattle.am_steps.proofs.{Landing.landed_told, Silent.departed_quiet, Senders.sender, Departed.rests_course, Departed.rests_step, Closing.closes_on}
 
 -- ---- by how a step ends
 
@@ -84,12 +35,12 @@ by_ending P f g h letters n (closing {x = x} event is course leads leaves alone 
 -- ---- small facts
 
 -- plain changes leave who is there
-course_there : {c : Cause} {o : Outcome} (m x : Node) → Course c o m x → has_departed m.status ≡ false → has_departed x.status ≡ false
+pub course_there : {c : Cause} {o : Outcome} (m x : Node) → Course c o m x → has_departed m.status ≡ false → has_departed x.status ≡ false
 course_there m x nothing_yet f = f
 course_there m x (used_report from v report by may) f = ap has_departed (rests_refresh _).rests.status ∙ f
 course_there m x (and_then {n = n} before z plain) f = (stays n x z plain).there (course_there m n before f)
 
-deeds_there : {c : Cause} {o : Outcome} (m x : Node) → Deeds c o m x → has_departed m.status ≡ false → has_departed x.status ≡ false
+pub deeds_there : {c : Cause} {o : Outcome} (m x : Node) → Deeds c o m x → has_departed m.status ≡ false → has_departed x.status ≡ false
 deeds_there m x (plainly course) f = course_there m x course f
 deeds_there m x (looked {n = n} b verdict course over why look is) f = ap has_departed (looked_fronts look).2 ∙ course_there m n course f
 
@@ -215,7 +166,7 @@ module _ (rules : Rules) (events : List Event) (e : Event) (c : Cause) (s : Grou
       let low = r.low in
       let told_ = k.told in
       let acc_ = k.acc in
-      let group_ : group_after w.group n ≡ w.group = no_more_group w.group n (omega arith) in
+      let group_ : group_after w.group n ≡ w.group = same_group w.group n (omega arith) in
       let views_ : views_after w.views m n ≡ w.views = stranger_views w.views m n (ap is_member gone) in
       let begun = recorded w (after_step w e step) in
       let stands = same_stands begun name m n s r.same (stands_but w (after_step w e step) name s h.stands) in
@@ -329,7 +280,7 @@ module _ (rules : Rules) (events : List Event) (e : Event) (c : Cause) (s : Grou
       (λ l k. Effect m c (record { node = k; outcome = o; letters = l }) → happens w e ≡ after_ (record { node = k; outcome = o; letters = l })
       → Follows rules (after_ (record { node = k; outcome = o; letters = l })) s)
       (λ l x deeds effect is. split (has_departed m.status) (λ left. gone_follows o l x deeds left effect is) (λ here. plain_follows here o l x deeds effect))
-      (λ from u number is heard leaves effect same. let_go_follows (member_here m.status (and_both (not (from == m.core.who)) (is_member m.status) heard).1)
+      (λ from u number is heard leaves effect same. let_go_follows (member_stays m.status (and_both (not (from == m.core.who)) (is_member m.status) heard).1)
       o from u number is heard leaves effect)
       (λ x event called course leads leaves alone viewed effect same. split (has_departed m.status)
       (λ left. absurd (no_leader_gone x course left leads)) (λ here. closing_follows here o x event called course leads leaves alone viewed effect))

@@ -1,15 +1,7 @@
 -- Who has stopped is one of the 256 names.
-use Rattle.std.proofs.Common.{◌≡◌, ℕ, ◌<◌, ◌==◌, ◌||◌, true, false, List, [], ◌∷◌, ◌++◌, sym, ◌∙◌, arith}
-use Rattle.std.specs.List.{list_any}
-use Rattle.std.proofs.lemmas.Bool.Decides.{nat_tests}
-use Rattle.std.proofs.lemmas.List.Folds.{list_any-append}
-use Rattle.am_base.specs.Founding.{Rules, MayFound}
-use Rattle.am_group.specs.declared.event.Event.{Event}
-use Rattle.am_play.specs.World.{World, start, current, is_stopped, with_record, with_step, run}
-use Rattle.am_base.proofs.Greatest.{split}
-use Rattle.am_effects.specs.Events.{actor, idles, stops, returns, steps}
-use Rattle.am_effects.proofs.Runs.{EachKeeps, runs_keep}
-use Rattle.am_laws.proofs.Named.{AllNamed, each_named, few_names, start_named}
+use Rattle.am_steps.proofs.Words.{◌≡◌, ℕ, ◌<◌, ◌==◌, ◌||◌, true, false, List, [], ◌∷◌, ◌++◌, sym, ◌∙◌, arith, list_any, nat_tests, list_any-append, Rules}
+use Rattle.am_steps.proofs.Words.{MayFound, Event, World, start, current, is_stopped, with_record, with_step, run, split, actor, idles, stops, returns, steps}
+use Rattle.am_steps.proofs.Words.{EachKeeps, runs_keep, AllNamed, each_named, few_names, start_named}
 
 abbrev AllFew : List ℕ → Type 0
 AllFew names = (j : ℕ) → list_any (λ x. x == j) names ≡ true → j < 256

@@ -1,20 +1,8 @@
 -- A world within a step whose group list, and views, have gone on.
-use Rattle.std.proofs.Common.{◌≡◌, ℕ, ◌<◌, List, ◌++◌, Some, slice_get, refl, sym, ap, ◌∙◌}
-use Rattle.am_base.specs.declared.entry.Entry.{Entry}
-use Rattle.am_group.specs.declared.event.Record.{Record}
-use Rattle.am_chain_lists.specs.Whole.{Begins}
+use Rattle.am_steps.proofs.Words.{◌≡◌, ℕ, ◌<◌, List, ◌++◌, Some, slice_get, refl, sym, ap, ◌∙◌, Entry, Record, Begins, Group, with_node, Node, Decided, World}
+use Rattle.am_steps.proofs.Words.{up_to_next, NameStands, StandsBut, within, WasAsked, SendsOnce, views_noted, each_within, fronts_within, lines_within}
+use Rattle.am_steps.proofs.Words.{views_in, Unmoved, others_same, others_fronts, same_name, taken_more, name_grows}
 use Rattle.am_chain_moves.specs.Group as groups
-use Rattle.am_chain_moves.specs.Group.{Group}
-use Rattle.am_chain_moves.specs.Moves.{with_node}
-use Rattle.am_model.specs.Node.{Node}
-use Rattle.am_play.specs.World.{Decided, World}
-use Rattle.am_play.specs.Claims.{up_to_next}
-use Rattle.am_stands.specs.Standing.{NameStands, StandsBut, within}
-use Rattle.am_stands.specs.Letters.{WasAsked}
-use Rattle.am_stands.specs.States.{SendsOnce}
-use Rattle.am_stands.proofs.Names.{views_noted, each_within, fronts_within, lines_within, views_in}
-use Rattle.am_stands.proofs.Changes.{Unmoved, others_same, others_fronts, same_name}
-use Rattle.am_stands.proofs.Ends.{taken_more, name_grows}
 
 -- views were noted by names
 abbrev pub AreNoted : List Decided → Type 0

@@ -1,49 +1,17 @@
 -- A step of any name, and of the first founder.
-use Rattle.std.proofs.Common.{◌≡◌, ◌≢◌, ⊎_elim, ℕ, zero, suc, ◌-◌, ◌≤◌, ◌==◌, true, false, List, [], ◌∷◌, ◌++◌, length, take, drop, None, refl, sym, ap, ◌∙◌}
-use Rattle.std.proofs.Common.{subst, append_assoc, append-nil, arith}
-use Rattle.std.specs.Prelude.{All}
-use Rattle.std.proofs.lemmas.Bool.Decides.{nat_tests}
-use Rattle.std.proofs.lemmas.List.{take-append-le, length-take-le}
-use Rattle.std.proofs.lemmas.List.Elements.{All-weaker}
-use Rattle.am_base.specs.declared.name.Stamp.{Stamp}
-use Rattle.am_base.specs.declared.entry.Entry.{Entry}
-use Rattle.am_base.specs.declared.entry.Entry.TheVariants.{View}
-use Rattle.am_base.specs.declared.outcome.Outcome.{Outcome}
+use Rattle.am_unballoted.proofs.Words.{◌≡◌, ◌≢◌, ⊎_elim, ℕ, zero, suc, ◌-◌, ◌≤◌, ◌==◌, true, false, List, [], ◌∷◌, ◌++◌, length, take, drop, None, refl, sym}
+use Rattle.am_unballoted.proofs.Words.{ap, ◌∙◌, subst, append_assoc, append-nil, arith, All, nat_tests, take-append-le, length-take-le, All-weaker, Stamp}
+use Rattle.am_unballoted.proofs.Words.{Entry, View, Outcome, Rules, Log, CoreState, Letter, Act, Event, Record, Departed, Node, view, set_at, has_log, Step}
+use Rattle.am_unballoted.proofs.Words.{World, record_of, group_after, with_step, heard_by, split, Cause, calls, hears, refuses, Change, refreshes, settles}
+use Rattle.am_unballoted.proofs.Words.{numbers, stores, begins_list, opens, looks, fetches, stores_view, closes, LetterSays, Answers, WasQueued, AnswersAsk}
+use Rattle.am_unballoted.proofs.Words.{Effect, actor, IsCause, all_item, rests_refresh, rests_closed, settle_is, Keeps, CauseSent, change_sent, AllSent}
+use Rattle.am_unballoted.proofs.Words.{all_sent_more, after_step, cause_sent, logged}
 use Rattle.am_base.specs.declared.outcome.Outcome.TheVariants as said
-use Rattle.am_base.specs.Founding.{Rules}
-use Rattle.am_base.specs.Lists.{Log}
-use Rattle.am_core.specs.Cores.{CoreState}
-use Rattle.am_packet.specs.Boxes.{Letter}
-use Rattle.am_group.specs.declared.event.Act.{Act}
-use Rattle.am_group.specs.declared.event.Event.{Event}
-use Rattle.am_group.specs.declared.event.Record.{Record}
-use Rattle.am_model.specs.declared.status.Status.TheVariants.{Departed}
-use Rattle.am_model.specs.Node.{Node, view, set_at, has_log}
-use Rattle.am_model.specs.Emit.{Step}
-use Rattle.am_play.specs.World.{World, record_of, group_after, with_step}
-use Rattle.am_play.specs.Claims.{heard_by}
-use Rattle.am_base.proofs.Greatest.{split}
-use Rattle.am_effects.specs.Causes.{Cause, calls, hears, refuses}
-use Rattle.am_effects.specs.Changes.{Change, refreshes, settles, numbers, stores, begins_list}
-use Rattle.am_effects.specs.Changes.{opens, looks, fetches, stores_view, closes}
-use Rattle.am_effects.specs.Letters.{LetterSays}
-use Rattle.am_effects.specs.Effects.{Answers, WasQueued, AnswersAsk, Effect}
-use Rattle.am_effects.specs.Events.{actor, IsCause}
-use Rattle.am_effects.proofs.Items.{all_item}
-use Rattle.am_effects.proofs.Rests.{rests_refresh, rests_closed, settle_is}
-use Rattle.am_sent.proofs.Kept.{Keeps}
-use Rattle.am_sent.proofs.Changes.{CauseSent, change_sent}
-use Rattle.am_sent.proofs.Runs.{AllSent, all_sent_more, after_step, cause_sent}
-use Rattle.am_unballoted.proofs.Kept.{first_of, NodeOk, ListOk, FrontsOk, LetterOk, PacketOk, CauseOk}
-use Rattle.am_effects.proofs.Statuses.{logged}
-use Rattle.am_unballoted.proofs.Others.{Heard, looks_leave, other_change}
-use Rattle.am_unballoted.proofs.First.{IsGroup, FirstBase, FirstOk}
-use Rattle.am_unballoted.proofs.FirstChanges.{first_change, first_view, not_welcomed}
-use Rattle.am_unballoted.proofs.Says.{Sends, IsFirst, Fetched, letter_says}
 use Rattle.am_unballoted.proofs.Chains.{none_first, quietly, start_same, last_up, Gave, nothing, gave_change}
-use Rattle.am_unballoted.proofs.Worlds.{AskedOk, unique, asked_more, Kept, WorldOk}
-use Rattle.am_unballoted.proofs.Steps.{not_asked}
-use Rattle.am_unballoted.proofs.Goes.{kept_step}
+use Rattle.am_unballoted.proofs.{Kept.first_of, Kept.NodeOk, Kept.ListOk, Kept.FrontsOk, Kept.LetterOk, Kept.PacketOk, Kept.CauseOk, Others.Heard}
+use Rattle.am_unballoted.proofs.{Others.looks_leave, Others.other_change, First.IsGroup, First.FirstBase, First.FirstOk, FirstChanges.first_change}
+use Rattle.am_unballoted.proofs.{FirstChanges.first_view, FirstChanges.not_welcomed, Says.Sends, Says.IsFirst, Says.Fetched, Says.letter_says, Worlds.AskedOk}
+use Rattle.am_unballoted.proofs.{Worlds.unique, Worlds.asked_more, Worlds.Kept, Worlds.WorldOk, Steps.not_asked, Goes.kept_step}
 
 -- ---- what makes a name do a step
 
@@ -99,7 +67,7 @@ pub record OtherOk (rules : Rules) (list : List Entry) (acc i : ℕ) (all : List
   pub gave : Gave c o m x
 
 -- nobody but the first founder accepts more
-same_group : (group : List Entry) (n : Node) → n.core.acc ≤ length group → group_after group n ≡ group
+pub same_group : (group : List Entry) (n : Node) → n.core.acc ≤ length group → group_after group n ≡ group
 same_group group n low =
     let z : n.core.acc - length group ≡ 0 = omega arith in
     split ((view n).by == n.core.who)
@@ -145,15 +113,13 @@ module _ (rules : Rules) (w : World) (e : Event) (c : Cause) (s : Step) (h : Wor
         cause = ok;
         within = within;
         unique = unique all (set_at w.nodes i s.node) asked;
-        sent =
-            (old.each (first_of rules)).entries;
+        sent = (old.each (first_of rules)).entries;
       } in
       let before : OtherOk rules list acc i all c s.outcome m m = record { sent = old.each i; node = h.kept.each i; gave = nothing refl refl refl } in
       quietly (OtherOk rules list acc i all c s.outcome m)
       (λ x y z n q. record {
         sent = change_sent all i c s.outcome x y was z q.sent;
-        node =
-            other_change rules list acc i all c s.outcome x y heard d z n q.sent q.node;
+        node = other_change rules list acc i all c s.outcome x y heard d z n q.sent q.node;
         gave = gave_change rules list acc i m x y q.node z n q.gave;
       })
       effect.changes none before
@@ -278,15 +244,13 @@ first_chain rules w e c s h eq cause effect none =
     let before : FirstGoes rules c s.outcome m m = record {
       ok = now.first;
       grown = record { more = []; is = sym (append-nil m.core.log.entries); up = omega arith };
-      gave =
-          nothing refl refl refl;
+      gave = nothing refl refl refl;
     } in
     quietly (FirstGoes rules c s.outcome m)
     (λ x y z n q. record {
       ok = first_change rules m.core.log.entries m.core.acc c s.outcome x y ok_first z n q.ok;
       grown = grown_change rules m x y q.ok z n q.grown;
-      gave =
-          gave_change rules x.core.log.entries x.core.acc (first_of rules) m x y q.ok.base.node z n q.gave;
+      gave = gave_change rules x.core.log.entries x.core.acc (first_of rules) m x y q.ok.base.node z n q.gave;
     })
     effect.changes none before
 

@@ -1,35 +1,15 @@
 -- What some changes in turn keep.
-use Rattle.std.proofs.Common.{◌≡◌, ℕ, ◌+◌, ◌-◌, ◌<◌, ◌≤◌, max, min, ◌==◌, ◌&&◌, nat_lt, not, true, false, if◌then◌else◌, List, Option, Some, None, refl, sym}
-use Rattle.std.proofs.Common.{ap, ◌∙◌, subst, arith}
-use Rattle.std.proofs.lemmas.Bool.Decides.{nat_tests}
-use Rattle.am_base.specs.declared.name.Stamp.{Stamp}
-use Rattle.am_base.specs.declared.entry.Entry.{Entry}
-use Rattle.am_base.specs.declared.entry.Entry.TheVariants.{Leave}
-use Rattle.am_base.specs.declared.image.Image.{Image}
-use Rattle.am_base.specs.declared.outcome.Outcome.{Outcome}
+use Rattle.am_unballoted.proofs.Words.{◌≡◌, ℕ, ◌+◌, ◌-◌, ◌<◌, ◌≤◌, max, min, ◌==◌, ◌&&◌, nat_lt, not, true, false, if◌then◌else◌, List, Option, Some, None}
+use Rattle.am_unballoted.proofs.Words.{refl, sym, ap, ◌∙◌, subst, arith, nat_tests, Stamp, Entry, Leave, Image, Outcome, Rules, stamp_lt, accept, pass_over}
+use Rattle.am_unballoted.proofs.Words.{own_report, tell, go_on, let_go, Status, Node, Ballot, acts, is_member, is_sequencer, push_entry, has_log, advance}
+use Rattle.am_unballoted.proofs.Words.{lead, refresh, settle, refresh_at_end, overtake, begin_list, split, and_both, Cause, hears, MayBeWelcomed, Change}
+use Rattle.am_unballoted.proofs.Words.{refreshes, settles, begins_list, departs, promises, opens, looks, queues, collects, takes, asks_to_join, closes}
+use Rattle.am_unballoted.proofs.Words.{Changes, unchanged, changed, rests_refresh, rests_closed, settle_is, logged, asking_log, asking}
 use Rattle.am_base.specs.declared.outcome.Outcome.TheVariants as said
-use Rattle.am_base.specs.Founding.{Rules}
-use Rattle.am_base.specs.Stamps.{stamp_lt}
-use Rattle.am_core.specs.Cores.{accept, pass_over}
-use Rattle.am_fronts.specs.Refresh.{own_report, tell, go_on, let_go}
 use Rattle.am_packet.specs.declared.packet.Packet.TheVariants as packet
 use Rattle.am_sender.specs.Sends as own
-use Rattle.am_model.specs.declared.status.Status.{Status}
 use Rattle.am_model.specs.declared.status.Status.TheVariants as status
-use Rattle.am_model.specs.Node.{Node, Ballot, acts, is_member, is_sequencer, push_entry, has_log}
-use Rattle.am_model.specs.Refresh.{advance, lead, refresh, settle, refresh_at_end}
-use Rattle.am_model.specs.Ballots.{overtake}
-use Rattle.am_model.specs.Joining.{begin_list}
-use Rattle.am_base.proofs.Greatest.{split, and_both}
-use Rattle.am_effects.specs.Causes.{Cause, hears}
-use Rattle.am_effects.specs.Changes.{MayBeWelcomed, Change, refreshes, settles, begins_list, departs}
-use Rattle.am_effects.specs.Changes.{promises, opens, looks, stores_view, queues, collects, takes, asks_to_join, closes, Changes}
-use Rattle.am_effects.specs.Changes.{unchanged, changed}
-use Rattle.am_effects.proofs.Rests.{rests_refresh, rests_closed, settle_is}
-use Rattle.am_unballoted.proofs.Kept.{NodeOk}
-use Rattle.am_effects.proofs.Statuses.{logged, asking_log}
-use Rattle.am_effects.proofs.Receiving.{asking}
-use Rattle.am_unballoted.proofs.Others.{looks_leave}
+use Rattle.am_unballoted.proofs.{Kept.NodeOk, Others.looks_leave}
 
 -- ---- as long as there is no ballot
 
@@ -109,13 +89,13 @@ pub data Gave (c : Cause) (o : Outcome) (m n : Node) : Type 0 where
       → has_log m.status ≡ false → has_log n.status ≡ true → n.core.start ≡ join → front n ≡ join - 1 → 0 < join → Gave c o m n
 
 -- a change that moves no front
-gave_still : {c : Cause} {o : Outcome} (k m n : Node) → front n ≡ front m → n.core.start ≡ m.core.start → has_log n.status ≡ has_log m.status → Gave c o k m
+pub gave_still : {c : Cause} {o : Outcome} (k m n : Node) → front n ≡ front m → n.core.start ≡ m.core.start → has_log n.status ≡ has_log m.status → Gave c o k m
     → Gave c o k n
 gave_still k m n a b d (nothing x y z) = nothing (a ∙ x) (b ∙ y) (d ∙ z)
 gave_still k m n a b d (took j e is x y z w u v) = took j e is x (a ∙ y) (b ∙ z) (let s = ap (λ t. t - 1) b in omega arith) (d ∙ u) v
 gave_still k m n a b d (began s v base join image is says x y z w u) = began s v base join image is says x (d ∙ y) (b ∙ z) (a ∙ w) u
 
-passed_front : (taken acc start : ℕ) → max (if nat_lt taken (start - 1) then max taken (min acc (start - 1)) else taken) (start - 1) ≡ max taken (start - 1)
+pub passed_front : (taken acc start : ℕ) → max (if nat_lt taken (start - 1) then max taken (min acc (start - 1)) else taken) (start - 1) ≡ max taken (start - 1)
 passed_front taken acc start = split (nat_lt taken (start - 1)) (λ t. let z : taken < start - 1 = grind (arith, nat_tests) in
     rw t (omega arith)) (λ f. rw f refl)
 
@@ -188,8 +168,6 @@ gave_change rules list acc i k m n h (departs s v number is heard leaves) none g
     gave_still k m n refl refl (still_log m.status (and_both (not (s == m.core.who)) (is_member m.status) heard).1) g
 gave_change rules list acc i k m n h (opens least resilience by may) none g = absurd (cc)
 gave_change rules list acc i k m n h (looks b verdict over why look is) none g = absurd (looks_leave m b verdict look none)
-gave_change rules list acc i k m n h (stores_view s v base number names resilience is heard own_ other promise below may) none g =
-    gave_still k m n refl refl refl g
 gave_change rules list acc i k m n h (takes e is says member some there) none g = gave_taken rules list acc i k m n e h member some says refl g
 gave_change rules list acc i k m n h (asks_to_join is was) none g = gave_still k m n refl refl (sym (ap has_log was)) g
 gave_change rules list acc i k m n h (closes leads leaves last room) none g =

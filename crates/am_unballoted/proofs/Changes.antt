@@ -1,30 +1,11 @@
 -- What each change of a node keeps, as long as its ballot is none: of any name but the first founder, and of that.
-use Rattle.std.proofs.Common.{◌≡◌, ℕ, ◌+◌, ◌-◌, ◌<◌, ◌≤◌, ◌==◌, nat_lt, true, not, List, take, get_or, Option, Some, None, slice_get, refl, sym, ap, ◌∙◌, subst}
-use Rattle.std.proofs.Common.{arith}
-use Rattle.std.specs.Prelude.{All}
-use Rattle.std.proofs.lemmas.Bool.Decides.{nat_tests}
-use Rattle.std.proofs.lemmas.List.{length-take}
-use Rattle.std.proofs.lemmas.List.Quantifiers.{position-Some}
-use Rattle.std.proofs.lemmas.Option.{slice_get-get_or}
-use Rattle.std.proofs.lemmas.List.Elements.{All-push, All-filter, All-map, All-weaker}
-use Rattle.am_base.specs.declared.name.Stamp.{Stamp}
-use Rattle.am_base.specs.declared.entry.Entry.{Entry}
-use Rattle.am_base.specs.declared.entry.Entry.TheVariants.{Data, Join}
-use Rattle.am_base.specs.Founding.{Rules}
-use Rattle.am_base.specs.Stamps.{stamp_eq}
-use Rattle.am_core.specs.Cores.{CoreState, accept, pass_over}
-use Rattle.am_core.proofs.Folds.{slice_get-drop}
-use Rattle.am_sender.specs.declared.OwnSend.{OwnSend}
+use Rattle.am_unballoted.proofs.Words.{◌≡◌, ℕ, ◌+◌, ◌-◌, ◌<◌, ◌≤◌, ◌==◌, nat_lt, true, not, List, take, get_or, Option, Some, None, slice_get, refl, sym, ap}
+use Rattle.am_unballoted.proofs.Words.{◌∙◌, subst, arith, All, nat_tests, length-take, position-Some, slice_get-get_or, All-push, All-filter, All-map}
+use Rattle.am_unballoted.proofs.Words.{All-weaker, Stamp, Entry, Data, Join, Rules, stamp_eq, CoreState, accept, pass_over, slice_get-drop, OwnSend, item_at}
+use Rattle.am_unballoted.proofs.Words.{Node, view, is_member, acts, is_sequencer, entries_above, waiting, is_data_of, accepted_at, settle_at, settle_waiting}
+use Rattle.am_unballoted.proofs.Words.{settle, split, and_both, own_data, logged, get_take}
 use Rattle.am_sender.specs.Sends as own
-use Rattle.am_group.specs.Journals.{item_at}
-use Rattle.am_model.specs.Node.{Node, view, is_member, acts, is_sequencer, entries_above, waiting}
-use Rattle.am_model.specs.Refresh.{is_data_of, accepted_at, settle_at, settle_waiting, settle}
-use Rattle.am_base.proofs.Greatest.{split, and_both}
-use Rattle.am_model.proofs.Sends.{own_data}
-use Rattle.am_effects.proofs.Statuses.{logged}
-use Rattle.am_effects.proofs.Items.{get_take}
-use Rattle.am_unballoted.proofs.Lists.{get_item, within_get}
-use Rattle.am_unballoted.proofs.Kept.{first_of, At, FrontsOk, SendOk, NodeOk}
+use Rattle.am_unballoted.proofs.{Lists.get_item, Lists.within_get, Kept.first_of, Kept.At, Kept.FrontsOk, Kept.SendOk, Kept.NodeOk}
 
 -- ---- who leads
 

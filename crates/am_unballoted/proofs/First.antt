@@ -1,26 +1,11 @@
 -- What each change of the first founder keeps, which is the sequencer as long as it is a member.
-use Rattle.std.proofs.Common.{◌≡◌, ℕ, ◌+◌, ◌≤◌, ◌==◌, true, false, List, [], ◌∷◌, ◌++◌, length, take, Some, slice_get, refl, sym, ap, ◌∙◌, subst, length-append}
-use Rattle.std.proofs.Common.{arith}
-use Rattle.std.specs.Prelude.{All}
-use Rattle.std.proofs.lemmas.Grind.{flat_map-append}
-use Rattle.std.proofs.lemmas.List.Elements.{All-push, All-head, All-tail}
-use Rattle.am_base.specs.declared.image.Image.{Image}
-use Rattle.am_base.specs.declared.entry.Entry.{Entry}
-use Rattle.am_base.specs.declared.entry.Entry.TheVariants.{Data, Join, Leave, View}
-use Rattle.am_base.specs.Founding.{Rules}
-use Rattle.am_base.specs.Names.{life_of}
-use Rattle.am_base.specs.Lists.{Log, blank, fold, after, fits, at_place, requests_of, request_in}
+use Rattle.am_unballoted.proofs.Words.{◌≡◌, ℕ, ◌+◌, ◌≤◌, ◌==◌, true, false, List, [], ◌∷◌, ◌++◌, length, take, Some, slice_get, refl, sym, ap, ◌∙◌, subst}
+use Rattle.am_unballoted.proofs.Words.{length-append, arith, All, flat_map-append, All-push, All-head, All-tail, Image, Entry, Data, Join, Leave, View, Rules}
+use Rattle.am_unballoted.proofs.Words.{life_of, Log, blank, fold, after, fits, at_place, requests_of, request_in, Node, top, is_member, push_entry}
+use Rattle.am_unballoted.proofs.Words.{founders_view, founding_stamp, has_log, is_view, split, IsGood, image_of, mem, SmallName, good_push, get_last}
 use Rattle.am_sender.specs.Sends as own
 use Rattle.am_model.specs.Node as nodes
-use Rattle.am_model.specs.Node.{Node, top, is_member, push_entry, founders_view, founding_stamp, has_log}
-use Rattle.am_model.specs.Receiving.{is_view}
-use Rattle.am_base.proofs.Greatest.{split}
-use Rattle.am_chain_lists.specs.Whole.{IsGood, image_of, mem, SmallName}
-use Rattle.am_chain_lists.proofs.Members.{good_push}
-use Rattle.am_effects.proofs.Items.{get_last}
-use Rattle.am_unballoted.proofs.Kept.{first_of, NodeOk, node_more}
-use Rattle.am_unballoted.proofs.Others.{pushed_ok}
-use Rattle.am_unballoted.proofs.Turns.{Turn}
+use Rattle.am_unballoted.proofs.{Kept.first_of, Kept.NodeOk, Kept.node_more, Others.pushed_ok, Turns.Turn}
 
 -- ---- the whole list
 
@@ -120,10 +105,8 @@ first_told rules m h =
 -- ---- an entry more
 
 small : (e : Entry) → is_view e ≡ false → SmallName e
-small (Data from req body) f = tt
-small (Join name) f = tt
-small (Leave name) f = tt
 small (View stamp names resilience) f = absurd (cc)
+small _ f = tt
 
 group_push : (rules : Rules) (list : List Entry) (e : Entry) → is_view e ≡ false → IsGroup rules list → IsGroup rules (list ++ e ∷ [])
 group_push rules list e f h = record { rest = h.rest ++ e ∷ []; is = ap (λ l. l ++ e ∷ []) h.is; plain = All-push (λ x. is_view x ≡ false) h.rest e h.plain f }

@@ -1,45 +1,21 @@
 -- What each change of the first founder keeps, as long as its ballot is none.
-use Rattle.std.proofs.Common.{◌≡◌, ℕ, ◌+◌, ◌-◌, ◌<◌, ◌≤◌, max, min, ◌==◌, ◌&&◌, ◌||◌, not, nat_lt, true, false, if◌then◌else◌, List, [], length, map, Option}
-use Rattle.std.proofs.Common.{Some, None, refl, sym, ap, ◌∙◌, subst, append-nil, arith}
-use Rattle.std.proofs.lemmas.Bool.Decides.{nat_tests}
-use Rattle.am_base.specs.declared.name.Stamp.{Stamp}
-use Rattle.am_base.specs.declared.image.Report.{Report}
-use Rattle.am_base.specs.declared.image.Row.{Row}
-use Rattle.am_base.specs.declared.image.Image.{Image}
-use Rattle.am_base.specs.declared.entry.Entry.{Entry}
-use Rattle.am_base.specs.declared.entry.Entry.TheVariants.{Data, Join, Leave}
-use Rattle.am_base.specs.declared.outcome.Outcome.{Outcome}
-use Rattle.am_base.specs.Founding.{Rules}
-use Rattle.am_base.specs.Names.{life_of}
-use Rattle.am_base.specs.Stamps.{stamp_eq}
-use Rattle.am_base.specs.Lists.{Log, fits, at_place, row_of, requests_of}
-use Rattle.am_core.specs.Cores.{accept, pass_over}
-use Rattle.am_fronts.specs.Refresh.{own_report, tell, go_on, let_go}
-use Rattle.am_sender.specs.declared.OwnSend.{OwnSend}
+use Rattle.am_unballoted.proofs.Words.{stamp_itself, ◌≡◌, ℕ, ◌+◌, ◌-◌, ◌<◌, ◌≤◌, max, min, ◌==◌, ◌&&◌, ◌||◌, not, nat_lt, true, false, if◌then◌else◌, List}
+use Rattle.am_unballoted.proofs.Words.{[], length, map, Option, Some, None, refl, sym, ap, ◌∙◌, subst, append-nil, arith, nat_tests, Stamp, Report, Row}
+use Rattle.am_unballoted.proofs.Words.{Image, Entry, Data, Join, Leave, Outcome, Rules, life_of, stamp_eq, Log, fits, at_place, row_of, requests_of, accept}
+use Rattle.am_unballoted.proofs.Words.{pass_over, own_report, tell, go_on, let_go, OwnSend, Status, Node, top, view, is_member, is_asking, acts, is_sequencer}
+use Rattle.am_unballoted.proofs.Words.{push_entry, waiting, founding_stamp, has_log, advance, lead, refresh, accepted_at, settle_at, settle_waiting, settle}
+use Rattle.am_unballoted.proofs.Words.{refresh_at_end, is_view, hears_member, hears_in_view, hears_sequencer, split, and_both, image_of, mem, mem_in, in_mem}
+use Rattle.am_unballoted.proofs.Words.{mem_push, request_within, next_in, Cause, Numbers, asked_send, own_send, asked_join, asked_leave, MayBeWelcomed}
+use Rattle.am_unballoted.proofs.Words.{Change, refreshes, settles, numbers, notes, stores, begins_list, departs, promises, opens, looks, fetches, stores_view}
+use Rattle.am_unballoted.proofs.Words.{queues, collects, takes, asks_to_join, closes, base_up, rests_refresh, settle_is, logged}
 use Rattle.am_sender.specs.Sends as own
-use Rattle.am_model.specs.declared.status.Status.{Status}
 use Rattle.am_model.specs.declared.status.Status.TheVariants as status
 use Rattle.am_model.specs.Node as nodes
-use Rattle.am_model.specs.Node.{Node, top, view, is_member, is_asking, acts, is_sequencer, push_entry, waiting, founding_stamp, has_log}
-use Rattle.am_model.specs.Refresh.{advance, lead, refresh, accepted_at, settle_at, settle_waiting, settle, refresh_at_end}
-use Rattle.am_model.specs.Receiving.{is_view}
-use Rattle.am_model.specs.Hearing.{hears_member, hears_in_view, hears_sequencer}
-use Rattle.am_base.proofs.Greatest.{split, and_both}
-use Rattle.am_chain_lists.specs.Whole.{image_of, mem}
 use Rattle.am_chain_lists.proofs.Rows as rows
-use Rattle.am_chain_lists.proofs.Members.{mem_in, in_mem, mem_push}
-use Rattle.am_orders.proofs.Turns.{request_within, next_in}
-use Rattle.am_effects.specs.Causes.{Cause}
-use Rattle.am_effects.specs.Changes.{Numbers, asked_send, own_send, asked_join, asked_leave, MayBeWelcomed, Change, refreshes, settles}
-use Rattle.am_effects.specs.Changes.{numbers, notes, stores, begins_list, departs, promises, opens, looks, fetches, stores_view, queues, collects}
-use Rattle.am_effects.specs.Changes.{takes, asks_to_join, closes}
-use Rattle.am_effects.proofs.Rests.{base_up, rests_refresh, settle_is}
-use Rattle.am_unballoted.proofs.Kept.{first_of, At, ListOk, NodeOk, CauseOk, node_more}
-use Rattle.am_effects.proofs.Statuses.{logged}
-use Rattle.am_unballoted.proofs.Changes.{found_at, settle_ok, queued_ok, collected_ok}
-use Rattle.am_unballoted.proofs.Others.{same_node, looks_leave, promised_first, with_status, with_promise, taken_ok}
-use Rattle.am_unballoted.proofs.Turns.{Turn, waiting_is, one_more, waiting_settled, collected_turn}
-use Rattle.am_unballoted.proofs.First.{group_view, base_as, OwnOk, FirstBase, FirstOk, first_told, first_push}
+use Rattle.am_unballoted.proofs.{Kept.first_of, Kept.NodeOk, Kept.CauseOk, Kept.node_more, Changes.found_at, Changes.settle_ok, Changes.queued_ok}
+use Rattle.am_unballoted.proofs.{Changes.collected_ok, Others.same_node, Others.looks_leave, Others.promised_first, Others.with_status, Others.with_promise}
+use Rattle.am_unballoted.proofs.{Others.taken_ok, Turns.Turn, Turns.waiting_is, Turns.one_more, Turns.waiting_settled, Turns.collected_turn, First.group_view}
+use Rattle.am_unballoted.proofs.{First.base_as, First.OwnOk, First.FirstBase, First.FirstOk, First.first_told, First.first_push}
 
 -- ---- what is accepted goes on
 
@@ -63,13 +39,6 @@ risen m told base reports = record m {
   };
   reports = reports;
 }
-
--- the same whole list, of which more is accepted
-same_list : (list : List Entry) (acc to : ℕ) (log : Log) → acc ≤ to → ListOk list acc log → ListOk list to log
-same_list list acc to log up h = record { start = let a = h.start in omega arith; image = h.image; within = h.within }
-
-at_up : (list : List Entry) (acc to number : ℕ) (e : Entry) → acc ≤ to → At list acc number e → At list to number e
-at_up list acc to number e up h = record { low = let a = h.low in omega arith; there = h.there }
 
 pub node_up : (rules : Rules) (list : List Entry) (acc to i : ℕ) (m : Node) → acc ≤ to → NodeOk rules list acc i m → NodeOk rules list to i m
 node_up rules list acc to i m up h = subst (λ l. NodeOk rules l to i m) (append-nil list) (node_more rules list [] acc to i m up h)
@@ -151,8 +120,7 @@ first_settled_at rules m s (Some k) w is n h =
     }) h
 
 first_settled : (rules : Rules) (m : Node) (w : Option OwnSend) → waiting m ≡ w
-    → NodeOk rules m.core.log.entries m.core.acc (first_of rules) (settle_waiting m w)
-    → FirstBase rules m → FirstBase rules (settle_waiting m w)
+    → NodeOk rules m.core.log.entries m.core.acc (first_of rules) (settle_waiting m w) → FirstBase rules m → FirstBase rules (settle_waiting m w)
 first_settled rules m None w n h = h
 first_settled rules m (Some s) w n h = first_settled_at rules m s (accepted_at m s.req) w refl n h
 
@@ -243,11 +211,9 @@ numbered_fits rules c m e h member (asked_leave s v report is other known stays)
 
 -- it spares itself
 numbered_spares : (rules : Rules) (c : Cause) (m : Node) (e : Entry) → m.core.who ≡ first_of rules → Numbers c m e → rows.Spares (first_of rules) e
-numbered_spares rules c m e who (asked_send s v report req body by known stays next) = tt
-numbered_spares rules c m e who (own_send s is last) = tt
-numbered_spares rules c m e who (asked_join s v is other fit) = tt
 numbered_spares rules c m e who (asked_leave s v report is other known stays) =
     λ same. (let z : s ≡ m.core.who = same ∙ sym who in absurd (let y : ⊥ = grind (arith, nat_tests) in y))
+numbered_spares rules c m e who _ = tt
 
 -- ---- what it doesn't hear
 
@@ -276,9 +242,6 @@ not_fetched rules m v h member promise below =
     let u : stamp_eq (founding_stamp rules) v ≡ false = ap (λ x. stamp_eq x v) (sym f) ∙ below in
     let first = founding_stamp rules in
     let z : ⊥ = grind (arith, nat_tests) in z
-
-itself : (v : Stamp) → stamp_eq v v ≡ true
-itself v = grind (arith, nat_tests)
 
 -- who has a list joins no more
 pub not_welcomed : (m : Node) (s : ℕ) (v : Stamp) (base join : ℕ) (image : Image) → MayBeWelcomed m s v base join image → has_log m.status ≡ true → ⊥
@@ -312,7 +275,7 @@ member_refreshed rules m h t =
 member_settled : (rules : Rules) (m : Node) → FirstOk rules m → is_member (settle m).status ≡ true → mem (settle m).core.log.entries (first_of rules) ≡ true
 member_settled rules m h = subst (λ (n : Node). is_member n.status ≡ true → mem n.core.log.entries (first_of rules) ≡ true) (sym (settle_is m)) h.member
 
-leader_member : (m : Node) → is_sequencer m ≡ true → is_member m.status ≡ true
+pub leader_member : (m : Node) → is_sequencer m ≡ true → is_member m.status ≡ true
 leader_member m t = (and_both (is_member m.status) _ (and_both (acts m) _ t).0).0
 
 numbered : (rules : Rules) (c : Cause) (m : Node) (e : Entry) → is_sequencer m ≡ true → Numbers c m e → FirstOk rules m → FirstOk rules (push_entry m e)
@@ -364,7 +327,7 @@ first_change rules list acc c o m n w (looks b verdict over why look is) none h 
 first_change rules list acc c o m n w (fetches s v base number e is heard promise below from may) none h =
     absurd (not_fetched rules m v h.base (and_both (not (s == m.core.who)) (is_member m.status) heard).1 promise below)
 first_change rules list acc c o m n w (stores_view s v base number names resilience is heard own other promise below may) none h =
-    absurd (not_fetched rules m v h.base (and_both (not (s == m.core.who)) (is_member m.status) heard).1 (ap (stamp_eq v) promise ∙ itself v) below)
+    absurd (not_fetched rules m v h.base (and_both (not (s == m.core.who)) (is_member m.status) heard).1 (ap (stamp_eq v) promise ∙ stamp_itself v) below)
 first_change rules list acc c o m n w (queues body is says member stays few) none h =
     let b = h.base in
     let own_ = b.own in

@@ -1,11 +1,7 @@
 -- Lists of fronts, by names.
-use Rattle.std.proofs.Common.{◌≡◌, ℕ, zero, suc, ◌+◌, ◌<◌, ◌≤◌, ◌==◌, true, false, List, [], ◌∷◌, ◌++◌, map, Some, slice_get, slice_set, refl, sym, ap, subst}
-use Rattle.std.proofs.Common.{◌∙◌, append_assoc, append-nil, arith}
-use Rattle.std.specs.List.{range_with_len}
-use Rattle.std.proofs.lemmas.Bool.Decides.{nat_tests}
-use Rattle.am_base.specs.declared.entry.Entry.{Entry}
-use Rattle.am_model.specs.Node.{set_at}
-use Rattle.am_play.specs.AbstractGroup.{Group, Move, append, Grows, none, more}
+use Rattle.am_unballoted.proofs.Words.{◌≡◌, ℕ, zero, suc, ◌+◌, ◌<◌, ◌≤◌, ◌==◌, true, false, List, [], ◌∷◌, ◌++◌, map, Some, slice_get, slice_set, refl, sym}
+use Rattle.am_unballoted.proofs.Words.{ap, subst, ◌∙◌, append_assoc, append-nil, arith, range_with_len, nat_tests, Entry, set_at, Group, Move, append, Grows}
+use Rattle.am_unballoted.proofs.Words.{none, more}
 
 pub map_same : {A : Type 0} (f g : ℕ → A) (a n : ℕ) → ((j : ℕ) → a ≤ j → f j ≡ g j) → map f (range_with_len a n) ≡ map g (range_with_len a n)
 map_same f g a zero h = refl

@@ -1,48 +1,27 @@
 -- Each event keeps what a world keeps.
-use Rattle.std.proofs.Common.{◌≡◌, ◌≢◌, ℕ, ◌≤◌, ◌==◌, true, false, List, [], ◌∷◌, ◌++◌, length, take, None, refl, sym, ap, ◌∙◌, subst, append-nil}
-use Rattle.std.proofs.Common.{length-append, arith}
-use Rattle.std.specs.Prelude.{All}
-use Rattle.std.specs.List.{flat_map}
-use Rattle.std.proofs.lemmas.Bool.Decides.{nat_tests}
-use Rattle.std.proofs.lemmas.List.Elements.{All-nil, All-append, All-push, All-weaker}
-use Rattle.am_base.specs.declared.entry.Entry.{Entry}
-use Rattle.am_base.specs.Founding.{Rules}
-use Rattle.am_base.specs.Names.{has}
-use Rattle.am_group.specs.declared.event.Event.{Event}
-use Rattle.am_group.specs.declared.event.Record.{Record}
-use Rattle.am_group.specs.Deliveries.{name_of, taken_in, given_to, deliveries}
-use Rattle.am_model.specs.Node.{Node, set_at}
-use Rattle.am_model.specs.Emit.{Step}
-use Rattle.am_play.specs.World.{World, record_of, group_after, with_step}
-use Rattle.am_play.specs.Group.{accepted_sends}
-use Rattle.am_play.specs.Claims.{welcomes}
-use Rattle.am_base.proofs.Greatest.{split}
-use Rattle.am_effects.specs.Causes.{Cause}
-use Rattle.am_effects.specs.Effects.{Answers}
-use Rattle.am_effects.specs.Events.{actor, IsCause, IsIdle}
-use Rattle.am_unballoted.proofs.Kept.{first_of, NodeOk, LetterOk, node_more, letter_more}
-use Rattle.am_unballoted.proofs.First.{FirstOk}
-use Rattle.am_unballoted.proofs.Chains.{Gave}
+use Rattle.am_unballoted.proofs.Words.{◌≡◌, ◌≢◌, ℕ, ◌≤◌, ◌==◌, true, false, List, [], ◌∷◌, ◌++◌, length, take, None, refl, sym, ap, ◌∙◌, subst, append-nil}
+use Rattle.am_unballoted.proofs.Words.{length-append, arith, All, flat_map, nat_tests, All-nil, All-append, All-push, All-weaker, Entry, Rules, has, Event}
+use Rattle.am_unballoted.proofs.Words.{Record, name_of, taken_in, given_to, deliveries, Node, set_at, Step, World, record_of, group_after, with_step}
+use Rattle.am_unballoted.proofs.Words.{accepted_sends, welcomes, split, Cause, Answers, actor, IsCause, IsIdle}
 use Rattle.am_unballoted.proofs.Worlds.{GivenOk, begins_at, RecordOk, StandsAt, AskedOk, asked_other, Kept, WorldOk}
 use Rattle.am_unballoted.proofs.Records.{idle_takes, idle_welcomes, idle_sends, idle_queues, deliveries_push, given_same, not_given, idle_gives, given_more}
 use Rattle.am_unballoted.proofs.Records.{accepted_more, accepted_and, welcome_in, welcomes_push, idle_welcome, other_welcome, record_up}
-use Rattle.am_unballoted.proofs.Steps.{given_step, sent_step}
-use Rattle.am_unballoted.proofs.Welcomes.{record_step, welcomed_step}
+use Rattle.am_unballoted.proofs.{Kept.first_of, Kept.NodeOk, Kept.LetterOk, Kept.node_more, Kept.letter_more, First.FirstOk, Chains.Gave, Steps.given_step}
+use Rattle.am_unballoted.proofs.{Steps.sent_step, Welcomes.record_step, Welcomes.welcomed_step}
 
 -- ---- one name's node
 
-by_name : (P : ℕ → Node → Type 0) (nodes : ℕ → Node) (i : ℕ) (n : Node) → P i n → ((j : ℕ) → i ≢ j → P j (nodes j)) → (j : ℕ) → P j (set_at nodes i n j)
+pub by_name : (P : ℕ → Node → Type 0) (nodes : ℕ → Node) (i : ℕ) (n : Node) → P i n → ((j : ℕ) → i ≢ j → P j (nodes j)) → (j : ℕ) → P j (set_at nodes i n j)
 by_name P nodes i n k h j = split (j == i)
     (λ t. let is : i ≡ j = grind (arith, nat_tests) in rw t (subst (λ x. P x n) is k))
     (λ f. rw f (h j (λ e. let z : ⊥ = grind (arith, nat_tests) in z)))
 
 -- ---- a step
 
-pub kept_step : (rules : Rules) (list more : List Entry) (acc to : ℕ) (w : World) (e : Event) (c : Cause) (s : Step) → Kept rules list acc w → acc ≤ length list
-    → acc ≤ to
-    → NodeOk rules (list ++ more) to (actor w e) s.node → group_after w.group s.node ≡ take to (list ++ more) → All (LetterOk rules (list ++ more) to) s.letters
-    → Gave c s.outcome (w.nodes (actor w e)) s.node → IsCause w (actor w e) e.act c → Answers (w.nodes (actor w e)) c s.node s.outcome
-    → (w.nodes (actor w e)).ballot ≡ None
+pub kept_step : (rules : Rules) (list more : List Entry) (acc to : ℕ) (w : World) (e : Event) (c : Cause) (s : Step) → Kept rules list acc w
+    → acc ≤ length list → acc ≤ to → NodeOk rules (list ++ more) to (actor w e) s.node → group_after w.group s.node ≡ take to (list ++ more)
+    → All (LetterOk rules (list ++ more) to) s.letters → Gave c s.outcome (w.nodes (actor w e)) s.node → IsCause w (actor w e) e.act c
+    → Answers (w.nodes (actor w e)) c s.node s.outcome → (w.nodes (actor w e)).ballot ≡ None
     → Kept rules (list ++ more) to (with_step w e (actor w e) s)
 unfolding with_step
 kept_step rules list more acc to w e c s h low up node group letters gave cause answer none =

@@ -1,27 +1,8 @@
 -- What holds of each run in which nobody began a ballot.
-use Rattle.std.proofs.Common.{◌≡◌, ◌≢◌, ℕ, ◌+◌, true, List, [], Some, refl, sym, ◌∙◌, subst, arith}
-use Rattle.am_base.specs.declared.entry.Entry.{Entry}
-use Rattle.am_base.specs.declared.entry.Entry.TheVariants.{Data, Join}
-use Rattle.am_base.specs.Founding.{Rules}
-use Rattle.am_base.specs.Lists.{blank, AllFit}
-use Rattle.am_group.specs.Journals.{item_at}
-use Rattle.am_group.specs.Deliveries.{deliveries}
-use Rattle.am_play.specs.World.{World, run}
-use Rattle.am_play.specs.Group.{accepted_sends}
-use Rattle.am_model.specs.Node.{has_log}
-use Rattle.am_play.specs.Claims.{BeginsAt, UnballotedHolds}
-use Rattle.am_base.proofs.Greatest.{split}
-use Rattle.am_chain_lists.proofs.Members.{good_begins}
-use Rattle.am_chain_lists.proofs.Prefixes.{begins_take}
-use Rattle.am_orders.proofs.Turns.{senders_in_order, send_stands_once}
-use Rattle.am_bounded.proofs.Runs.{bounded_holds}
-use Rattle.am_sent.proofs.Runs.{sent_holds}
-use Rattle.am_effects.proofs.Items.{all_get}
-use Rattle.am_unballoted.proofs.Lists.{item_taken}
-use Rattle.am_unballoted.proofs.Kept.{first_of, At}
-use Rattle.am_unballoted.proofs.Worlds.{StandsAt, Kept, WorldOk}
-use Rattle.am_unballoted.proofs.Steps.{nil_of}
-use Rattle.am_unballoted.proofs.Runs.{world_ok}
+use Rattle.am_unballoted.proofs.Words.{◌≡◌, ◌≢◌, ℕ, ◌+◌, true, List, [], Some, refl, sym, ◌∙◌, subst, arith, Entry, Data, Join, Rules, blank, AllFit, item_at}
+use Rattle.am_unballoted.proofs.Words.{deliveries, World, run, accepted_sends, has_log, BeginsAt, UnballotedHolds, split, good_begins, begins_take}
+use Rattle.am_unballoted.proofs.Words.{senders_in_order, send_stands_once, bounded_holds, sent_holds, all_get}
+use Rattle.am_unballoted.proofs.{Lists.item_taken, Kept.first_of, Kept.At, Worlds.StandsAt, Worlds.Kept, Worlds.WorldOk, Steps.nil_of, Runs.world_ok}
 
 -- what is accepted stands in the group's list
 in_group : (rules : Rules) (list : List Entry) (acc : ℕ) (w : World) (number : ℕ) (e : Entry) → Kept rules list acc w → At list acc number e

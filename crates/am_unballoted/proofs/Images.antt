@@ -1,27 +1,10 @@
 -- Where the number of a row's joining stands in the whole list.
-use Rattle.std.proofs.Common.{◌≡◌, ◌≢◌, ◌⊎◌, ⊎_elim, inl, inr, ℕ, ◌+◌, ◌<◌, ◌==◌, true, false, List, [], ◌∷◌, ◌++◌, length, slice_index, Some, refl, sym, ap}
-use Rattle.std.proofs.Common.{◌∙◌, subst, append_assoc, append-nil, arith}
-use Rattle.std.proofs.lemmas.List.{get_or-replicate}
-use Rattle.std.specs.Prelude.{All}
-use Rattle.std.proofs.lemmas.Bool.Decides.{nat_tests}
-use Rattle.std.proofs.lemmas.List.Elements.{All-head, All-tail}
-use Rattle.am_base.specs.declared.image.Row.{Row}
-use Rattle.am_base.specs.declared.image.Image.{Image}
-use Rattle.am_base.specs.declared.entry.Entry.{Entry}
-use Rattle.am_base.specs.declared.entry.Entry.TheVariants.{Data, Join, Leave, View}
-use Rattle.am_base.specs.Founding.{Rules}
-use Rattle.am_base.specs.Names.{has, place_of, life_of}
-use Rattle.am_base.specs.Lists.{blank, blank_row, fold, after, at_place, with_row}
-use Rattle.am_group.specs.Journals.{item_at}
-use Rattle.am_model.specs.Node.{founders_view, founding_stamp}
-use Rattle.am_model.specs.Receiving.{is_view}
-use Rattle.am_base.proofs.Greatest.{split}
-use Rattle.am_chain_lists.specs.Whole.{image_of}
-use Rattle.am_chain_lists.proofs.Rows.{row_at, row_set, row_view}
-use Rattle.am_chain_lists.proofs.Members.{told_push, long_told}
-use Rattle.am_effects.proofs.Items.{get_last}
-use Rattle.am_unballoted.proofs.Lists.{item_more, get_item}
-use Rattle.am_unballoted.proofs.First.{IsGroup}
+use Rattle.am_unballoted.proofs.Words.{same_name, ◌≡◌, ◌≢◌, ◌⊎◌, ⊎_elim, inl, inr, ℕ, ◌+◌, ◌<◌, ◌==◌, true, false, List, [], ◌∷◌, ◌++◌, length, slice_index}
+use Rattle.am_unballoted.proofs.Words.{Some, refl, sym, ap, ◌∙◌, subst, append_assoc, append-nil, arith, get_or-replicate, All, nat_tests, All-head, All-tail}
+use Rattle.am_unballoted.proofs.Words.{Row, Image, Entry, Data, Join, Leave, View, Rules, has, place_of, life_of, blank, blank_row, fold, after, at_place}
+use Rattle.am_unballoted.proofs.Words.{with_row, item_at, founders_view, founding_stamp, is_view, split, image_of, row_at, row_set, row_view, told_push}
+use Rattle.am_unballoted.proofs.Words.{long_told, get_last}
+use Rattle.am_unballoted.proofs.{Lists.item_more, Lists.get_item, First.IsGroup}
 
 -- a row whose place has joined is a founder's, or that of a Join at this number
 pub record RowOk (rules : Rules) (list : List Entry) (place : ℕ) (r : Row) : Type 0 where
@@ -41,9 +24,6 @@ row_more rules list more place r s a b h = record {
       (λ (x : item_at list r.joined ≡ Some (Join name)). inr (ap (item_at (list ++ more)) a ∙ item_more list more r.joined (Join name) x))
       (h.joined name at (subst (λ n. 0 < n) a up) (sym b ∙ is)));
 }
-
-same_name : (a b : ℕ) → place_of a ≡ place_of b → life_of a ≡ life_of b → a ≡ b
-same_name a b p l = omega arith
 
 -- the row of a name that joins
 row_new : (rules : Rules) (list : List Entry) (place joiner n : ℕ) → n ≡ length list + 1 → place ≡ place_of joiner

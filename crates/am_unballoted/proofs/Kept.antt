@@ -1,26 +1,8 @@
 -- What a run without a ballot keeps. The whole list is that of the first founder, which is the sequencer; so much of it is accepted.
-use Rattle.std.proofs.Common.{◌≡◌, ◌≢◌, ℕ, ◌-◌, ◌<◌, ◌≤◌, true, false, List, ◌++◌, length, take, Option, Some, None, sym, ap, ◌∙◌, arith}
-use Rattle.std.specs.Prelude.{All}
-use Rattle.std.proofs.lemmas.List.{take-append-le}
-use Rattle.std.proofs.lemmas.List.Elements.{All-weaker}
-use Rattle.am_base.specs.declared.name.Stamp.{Stamp}
-use Rattle.am_base.specs.declared.image.Image.{Image}
-use Rattle.am_base.specs.declared.entry.Entry.{Entry}
-use Rattle.am_base.specs.declared.entry.Entry.TheVariants.{Data, Join, View}
-use Rattle.am_base.specs.Founding.{Rules}
-use Rattle.am_base.specs.Names.{has}
-use Rattle.am_base.specs.Lists.{Log, top_of}
-use Rattle.am_core.specs.Cores.{CoreState}
-use Rattle.am_packet.specs.declared.packet.Packet.{Packet}
-use Rattle.am_packet.specs.declared.packet.Packet.TheVariants.{Bcast, Order, Accept, Welcome, Invite, Vote, Piece, Result}
-use Rattle.am_packet.specs.Boxes.{Letter}
-use Rattle.am_group.specs.Addressed.{is_for}
-use Rattle.am_group.specs.Journals.{item_at}
-use Rattle.am_sender.specs.declared.OwnSend.{OwnSend}
-use Rattle.am_model.specs.declared.status.Status.{Status}
-use Rattle.am_model.specs.Node.{Node, founding_stamp, has_log}
-use Rattle.am_effects.specs.Causes.{Cause, calls, hears, refuses}
-use Rattle.am_chain_lists.specs.Whole.{image_of}
+use Rattle.am_unballoted.proofs.Words.{◌≡◌, ◌≢◌, ℕ, ◌-◌, ◌<◌, ◌≤◌, true, false, List, ◌++◌, length, take, Option, Some, None, sym, ap, ◌∙◌, arith, All}
+use Rattle.am_unballoted.proofs.Words.{take-append-le, All-weaker, Stamp, Image, Entry, Data, Join, View, Rules, has, Log, top_of, CoreState, Packet, Bcast}
+use Rattle.am_unballoted.proofs.Words.{Order, Accept, Welcome, Invite, Vote, Piece, Result, Letter, is_for, item_at, OwnSend, Status, Node, founding_stamp}
+use Rattle.am_unballoted.proofs.Words.{has_log, Cause, calls, hears, refuses, image_of}
 use Rattle.am_unballoted.proofs.Lists.{item_more, Within, within_more}
 
 -- the founder whose view it is
@@ -131,8 +113,7 @@ pub begins_more : (rules : Rules) (list more : List Entry) (acc to i start : ℕ
 begins_more rules list more acc to i start up h = record {
   some = h.some;
   founder = h.founder;
-  joiner =
-      λ f. at_more list more acc to start (Join i) up (h.joiner f);
+  joiner = λ f. at_more list more acc to start (Join i) up (h.joiner f);
 }
 
 pub sends_more : (list more : List Entry) (acc to i : ℕ) (queue : List OwnSend) → acc ≤ to → All (SendOk list acc i) queue
@@ -146,8 +127,7 @@ status_more rules list more acc to i status core up h = record {
   promise = h.promise;
   founder = h.founder;
   blank = h.blank;
-  begins =
-      λ t. begins_more rules list more acc to i core.start up (h.begins t);
+  begins = λ t. begins_more rules list more acc to i core.start up (h.begins t);
 }
 
 pub node_more : (rules : Rules) (list more : List Entry) (acc to i : ℕ) (m : Node) → acc ≤ to → NodeOk rules list acc i m → NodeOk rules (list ++ more) to i m
@@ -161,8 +141,7 @@ node_more rules list more acc to i m up h =
         within = f.within;
         taken = f.taken;
         base = f.base;
-        told =
-            λ d. (let a = f.told d in omega arith);
+        told = λ d. (let a = f.told d in omega arith);
         passed = f.passed;
       };
       status = status_more rules list more acc to i m.status m.core up h.status;

@@ -1,16 +1,8 @@
 -- Items of lists, and lists that begin one another.
-use Rattle.std.proofs.Common.{◌≡◌, ℕ, zero, suc, ◌+◌, ◌<◌, ◌≤◌, List, [], ◌∷◌, ◌++◌, length, take, drop, Some, slice_get, sym, ap, ◌∙◌, subst, append_assoc}
-use Rattle.std.proofs.Common.{length-append, arith}
-use Rattle.std.specs.Prelude.{All}
-use Rattle.std.proofs.lemmas.Option.{slice_get_within}
-use Rattle.std.proofs.lemmas.List.{take-append-le, take-append-drop, length-take, append-nil}
-use Rattle.std.proofs.lemmas.List.Elements.{All-nil, All-cons, All-head, All-tail}
-use Rattle.am_base.specs.declared.entry.Entry.{Entry}
-use Rattle.am_group.specs.Journals.{item_at}
-use Rattle.am_group.proofs.Places.{get_behind}
-use Rattle.am_effects.proofs.Items.{get_front, get_take}
-use Rattle.am_chain_lists.specs.Whole.{Begins}
-use Rattle.am_chain_lists.proofs.Prefixes.{begins_push, length_take}
+use Rattle.am_unballoted.proofs.Words.{◌≡◌, ℕ, zero, suc, ◌+◌, ◌<◌, ◌≤◌, List, [], ◌∷◌, ◌++◌, length, take, drop, Some, slice_get, sym, ap, ◌∙◌, subst}
+use Rattle.am_unballoted.proofs.Words.{append_assoc, length-append, arith, slice_get_within, take-append-le, take-append-drop, Entry, item_at, get_behind}
+use Rattle.am_unballoted.proofs.Words.{get_front, Begins, begins_push, length_take}
+use Rattle.std.proofs.lemmas.List.{append-nil}
 
 -- ---- items by number
 
@@ -42,29 +34,12 @@ pub item_taken : {A : Type 0} (n : ℕ) (xs : List A) (number : ℕ) (x : A) →
 item_taken n xs zero x low h = absurd (cc)
 item_taken n xs (suc k) x low h = get_taken n xs k x (omega arith) h
 
-pub taken_item : {A : Type 0} (n : ℕ) (xs : List A) (number : ℕ) (x : A) → item_at (take n xs) number ≡ Some x → (number ≤ n) × (item_at xs number ≡ Some x)
-taken_item n xs zero x h = absurd (cc)
-taken_item n xs (suc k) x h = let low = slice_get_within (take n xs) k x h in let long = length-take n xs in (omega arith, get_take n xs k x h)
-
-pub all_front : {A : Type 0} (P : A → Type 0) (xs ys : List A) → All P (xs ++ ys) → All P xs
-all_front P [] ys h = All-nil P
-all_front P (x ∷ xs) ys h = All-cons P x xs (All-head P x (xs ++ ys) h) (all_front P xs ys (All-tail P x (xs ++ ys) h))
-
 -- ---- a list from a start on, of a whole one
 
 -- its entries are those of the whole list above its start, as far as they go
 pub record Within (whole : List Entry) (start : ℕ) (entries : List Entry) : Type 0 where
   pub low : start ≤ length whole
   pub begins : Begins (take start whole ++ entries) whole
-
-pub within_long : (whole : List Entry) (start : ℕ) (entries : List Entry) → Within whole start entries → start + length entries ≤ length whole
-within_long whole start entries h =
-    let low = h.low in
-    let a = length_take start whole (omega arith) in
-    let b = length-append (take start whole) entries in
-    let c = length-append (take start whole ++ entries) h.begins.rest in
-    let d = ap length h.begins.same in
-    omega arith
 
 pub within_get : (whole : List Entry) (start : ℕ) (entries : List Entry) (k : ℕ) (e : Entry) → Within whole start entries → slice_get entries k ≡ Some e
     → slice_get whole (start + k) ≡ Some e

@@ -1,40 +1,17 @@
 -- Each event of a run in which nobody began a ballot moves the group by its record alone.
-use Rattle.std.proofs.Common.{◌≡◌, ◌≢◌, ⊎_elim, ℕ, ◌+◌, ◌-◌, ◌<◌, ◌≤◌, ◌==◌, true, false, if◌then◌else◌, List, [], ◌∷◌, ◌++◌, length, map, Option, Some, None}
-use Rattle.std.proofs.Common.{slice_get, slice_set, slice_index_or, refl, sym, ap, ◌∙◌, subst, append-nil, arith}
-use Rattle.std.specs.List.{range_with_len}
-use Rattle.std.proofs.lemmas.Bool.Decides.{nat_tests}
-use Rattle.std.proofs.lemmas.Option.{get_or_from_slice_get}
-use Rattle.std.proofs.lemmas.List.{length-take-le}
-use Rattle.am_base.specs.declared.entry.Entry.{Entry}
-use Rattle.am_base.specs.declared.entry.Entry.TheVariants.{Join}
-use Rattle.am_base.specs.declared.outcome.Outcome.{Outcome}
+use Rattle.am_unballoted.proofs.Words.{◌≡◌, ◌≢◌, ⊎_elim, ℕ, ◌+◌, ◌-◌, ◌<◌, ◌≤◌, ◌==◌, true, false, if◌then◌else◌, List, [], ◌∷◌, ◌++◌, length, map, Option}
+use Rattle.am_unballoted.proofs.Words.{Some, None, slice_get, slice_set, slice_index_or, refl, sym, ap, ◌∙◌, subst, append-nil, arith, range_with_len}
+use Rattle.am_unballoted.proofs.Words.{nat_tests, get_or_from_slice_get, length-take-le, Entry, Join, Outcome, Rules, place_of, Event, item_at, above}
+use Rattle.am_unballoted.proofs.Words.{numbered_entry, with_admitted, taken_in, Node, view, set_at, has_log, World, start, record_of, group_after}
+use Rattle.am_unballoted.proofs.Words.{with_record, with_step, happens, run, Group, next_of, admit, Grows, none, GivesOut, front_of, group_of, NoBallot}
+use Rattle.am_unballoted.proofs.Words.{MovesOn, UnballotedMoves, split, Cause, Answers, actor, Happens, idles, stops, returns, steps, events_have_effects}
+use Rattle.am_unballoted.proofs.Words.{EachKeeps, runs_keep}
 use Rattle.am_base.specs.declared.outcome.Outcome.TheVariants as said
-use Rattle.am_base.specs.Founding.{Rules}
-use Rattle.am_base.specs.Names.{place_of}
-use Rattle.am_group.specs.declared.event.Event.{Event}
-use Rattle.am_group.specs.Journals.{item_at}
-use Rattle.am_group.specs.Groups.{above, numbered_entry, with_admitted}
-use Rattle.am_group.specs.Deliveries.{taken_in}
-use Rattle.am_model.specs.Node.{Node, view, set_at, has_log}
-use Rattle.am_play.specs.World.{World, start, record_of, group_after, with_record, with_step, happens, run}
-use Rattle.am_play.specs.AbstractGroup.{Group, next_of, admit, Grows, none, GivesOut, front_of, group_of}
-use Rattle.am_play.specs.Claims.{NoBallot, MovesOn, UnballotedMoves}
-use Rattle.am_base.proofs.Greatest.{split}
-use Rattle.am_effects.specs.Causes.{Cause}
-use Rattle.am_effects.specs.Effects.{Answers}
-use Rattle.am_effects.specs.Events.{actor, Happens, idles, stops, returns, steps}
-use Rattle.am_effects.proofs.Events.{events_have_effects}
-use Rattle.am_effects.proofs.Runs.{EachKeeps, runs_keep}
-use Rattle.am_unballoted.proofs.Lists.{item_get, item_taken}
-use Rattle.am_unballoted.proofs.Kept.{first_of, At, NodeOk}
-use Rattle.am_unballoted.proofs.Others.{no_founder}
 use Rattle.am_unballoted.proofs.Chains.{front, at_least, none_first, Gave, nothing, took, began}
-use Rattle.am_unballoted.proofs.Worlds.{Kept, WorldOk}
-use Rattle.am_unballoted.proofs.Records.{idle_takes}
-use Rattle.am_unballoted.proofs.Steps.{taken_or, has_taken, entry_item}
-use Rattle.am_unballoted.proofs.Actors.{gave_step}
-use Rattle.am_unballoted.proofs.Runs.{Unballoted, unballoted, each_keeps, none_there, none_else}
-use Rattle.am_unballoted.proofs.Fronts.{map_same, get_name, set_name, appends, then_more}
+use Rattle.am_unballoted.proofs.{Lists.item_get, Lists.item_taken, Kept.first_of, Kept.At, Kept.NodeOk, Others.no_founder, Worlds.Kept, Worlds.WorldOk}
+use Rattle.am_unballoted.proofs.{Records.idle_takes, Steps.taken_or, Steps.has_taken, Steps.entry_item, Actors.gave_step, Runs.Unballoted, Runs.unballoted}
+use Rattle.am_unballoted.proofs.{Runs.each_keeps, Runs.none_there, Runs.none_else, Fronts.map_same, Fronts.get_name, Fronts.set_name, Fronts.appends}
+use Rattle.am_unballoted.proofs.{Fronts.then_more}
 
 -- ---- names are few
 
@@ -43,14 +20,12 @@ record LivesOk (w : World) : Type 0 where
 
 lives_keep : EachKeeps LivesOk
 unfolding with_record with_step
-lives_keep w e v (idles o idle) h = record { each = h.each }
-lives_keep w e v (stops runs) h = record { each = h.each }
 lives_keep w e v (returns place is gone more) h = record {
   each = λ p. split (p == place)
       (λ t. let low = (h.each place).1 in let other : w.lives place ≢ 16 = (λ z. let y : ⊥ = grind (arith, nat_tests) in y) in rw t (omega arith, omega arith))
       (λ f. rw f (h.each p));
 }
-lives_keep w e v (steps c s runs cause effect) h = record { each = h.each }
+lives_keep w e v _ h = record { each = h.each }
 
 lives_run : (rules : Rules) (events : List Event) → LivesOk (run rules events)
 lives_run rules events = runs_keep LivesOk lives_keep (start rules) events (record { each = λ place. (omega arith, omega arith) })

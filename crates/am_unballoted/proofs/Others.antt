@@ -1,39 +1,17 @@
 -- What each change of another name than the first founder keeps, as long as its ballot is none.
-use Rattle.std.proofs.Common.{◌≡◌, ◌≢◌, ℕ, ◌+◌, ◌-◌, ◌<◌, ◌≤◌, max, min, ◌==◌, not, nat_lt, true, false, if◌then◌else◌, List, [], ◌∷◌, length, Option, Some}
-use Rattle.std.proofs.Common.{None, slice_get, refl, sym, ap, ◌∙◌, subst, length-append, arith}
-use Rattle.std.specs.Prelude.{All}
-use Rattle.std.proofs.lemmas.Bool.Decides.{nat_tests}
-use Rattle.am_base.specs.declared.name.Stamp.{Stamp}
-use Rattle.am_base.specs.declared.image.Image.{Image}
-use Rattle.am_base.specs.declared.entry.Entry.{Entry}
-use Rattle.am_base.specs.declared.entry.Entry.TheVariants.{Data, View}
-use Rattle.am_base.specs.declared.outcome.Outcome.{Outcome}
-use Rattle.am_base.specs.Founding.{Rules}
-use Rattle.am_base.specs.Names.{has}
-use Rattle.am_core.specs.Cores.{CoreState, accept, pass_over}
-use Rattle.am_group.specs.declared.event.Record.{Record}
-use Rattle.am_group.specs.Journals.{item_at}
-use Rattle.am_model.specs.declared.status.Status.{Status}
+use Rattle.am_unballoted.proofs.Words.{◌≡◌, ◌≢◌, ℕ, ◌+◌, ◌-◌, ◌<◌, ◌≤◌, max, min, ◌==◌, not, nat_lt, true, false, if◌then◌else◌, List, [], ◌∷◌, length}
+use Rattle.am_unballoted.proofs.Words.{Option, Some, None, slice_get, refl, sym, ap, ◌∙◌, subst, length-append, arith, All, nat_tests, Stamp, Image, Entry}
+use Rattle.am_unballoted.proofs.Words.{Data, View, Outcome, Rules, has, CoreState, accept, pass_over, Record, item_at, Status, Node, Ballot, top, is_member}
+use Rattle.am_unballoted.proofs.Words.{is_sequencer, push_entry, trim_up_to, founding_stamp, has_log, advance, refresh, Verdict, body_of, begin_list, split}
+use Rattle.am_unballoted.proofs.Words.{and_both, Cause, BringsFronts, with_entry, with_number, alone, Looks, finds_itself_out, Carries, whole_entry}
+use Rattle.am_unballoted.proofs.Words.{by_number, Promises, invited, overtaken, told_result, Change, refreshes, settles, takes_report, admits, numbers}
+use Rattle.am_unballoted.proofs.Words.{keeps_body, notes, stores, begins_list, departs, promises, opens, looks, fetches, stores_view, queues, collects, takes}
+use Rattle.am_unballoted.proofs.Words.{asks_to_join, asks_to_leave, closes, WasSent, EntrySent, Keeps, MaySend, body_of_sent, all_item, logged, asking_log}
+use Rattle.am_unballoted.proofs.Words.{asking}
 use Rattle.am_model.specs.declared.status.Status.TheVariants as status
-use Rattle.am_model.specs.Node.{Node, Ballot, top, is_member, is_sequencer, push_entry, trim_up_to, founding_stamp, has_log}
-use Rattle.am_model.specs.Refresh.{advance, refresh}
-use Rattle.am_model.specs.Ballots.{Verdict}
-use Rattle.am_model.specs.Receiving.{body_of}
-use Rattle.am_model.specs.Joining.{begin_list}
-use Rattle.am_base.proofs.Greatest.{split, and_both}
-use Rattle.am_effects.specs.Causes.{Cause, BringsFronts, with_entry, with_number, alone}
-use Rattle.am_effects.specs.Looks.{Looks, finds_itself_out}
-use Rattle.am_effects.specs.Changes.{Carries, whole_entry, by_number, Promises, invited, overtaken, told_result, Change, refreshes, settles, takes_report}
-use Rattle.am_effects.specs.Changes.{admits, numbers, keeps_body, notes, stores, begins_list, departs, promises, opens, looks, fetches, stores_view, queues}
-use Rattle.am_effects.specs.Changes.{collects, takes, asks_to_join, asks_to_leave, closes}
-use Rattle.am_sent.proofs.Kept.{WasSent, EntrySent, Keeps}
-use Rattle.am_sent.proofs.Changes.{MaySend, body_of_sent}
-use Rattle.am_effects.proofs.Items.{all_item}
-use Rattle.am_unballoted.proofs.Lists.{item_get, within_push, within_none}
 use Rattle.am_unballoted.proofs.Kept.{first_of, ListOk, FrontsOk, fronts_ok, BeginsOk, StatusOk, SendOk, NodeOk, WelcomeOk, CauseOk}
-use Rattle.am_effects.proofs.Statuses.{logged, asking_log}
-use Rattle.am_effects.proofs.Receiving.{asking}
-use Rattle.am_unballoted.proofs.Changes.{leads_first, advance_fronts, settle_ok, queued_ok, collected_ok}
+use Rattle.am_unballoted.proofs.{Lists.item_get, Lists.within_push, Lists.within_none, Changes.leads_first, Changes.advance_fronts, Changes.settle_ok}
+use Rattle.am_unballoted.proofs.{Changes.queued_ok, Changes.collected_ok}
 
 -- ---- parts
 
@@ -94,8 +72,7 @@ with_status rules list acc i m s b h = record {
     promise = λ t. h.status.promise (sym b ∙ t);
     founder = λ t. b ∙ h.status.founder t;
     blank = λ t. h.status.blank (sym b ∙ t);
-    begins =
-        λ t. h.status.begins (sym b ∙ t);
+    begins = λ t. h.status.begins (sym b ∙ t);
   };
   sends = h.sends;
 }
@@ -130,8 +107,7 @@ taken_ok rules list acc i m member some h =
         taken = omega arith;
         base = f.base;
         told = f.told;
-        passed =
-            λ b. (let z : m.core.taken < m.core.start - 1 = omega arith in let q = p z in absurd (omega arith));
+        passed = λ b. (let z : m.core.taken < m.core.start - 1 = omega arith in let q = p z in absurd (omega arith));
       };
       status = record { promise = h.status.promise; founder = h.status.founder; blank = λ z. absurd (cc); begins = h.status.begins };
       sends = h.sends;
@@ -177,8 +153,7 @@ begun_ok rules list acc i s v base join image m within no_founder w above h =
     let begins : BeginsOk rules list acc i join = record {
       some = omega arith;
       founder = λ t. absurd (cc);
-      joiner =
-          λ f. record { low = w.low; there = w.joined f };
+      joiner = λ f. record { low = w.low; there = w.joined f };
     } in
     record {
       who = h.who;

@@ -1,27 +1,10 @@
 -- One record more, and letters more.
-use Rattle.std.proofs.Common.{◌≡◌, ◌≢◌, ◌⊎◌, ⊎_elim, inl, inr, ℕ, zero, suc, ◌+◌, ◌≤◌, ◌==◌, ◌&&◌, Bool, true, false, if◌then◌else◌, List, [], ◌∷◌, ◌++◌}
-use Rattle.std.proofs.Common.{length, refl, sym, ap, ◌∙◌, subst, append-nil, arith}
-use Rattle.std.specs.Prelude.{All}
-use Rattle.std.specs.List.{flat_map}
-use Rattle.std.proofs.lemmas.Grind.{flat_map-append}
-use Rattle.std.proofs.lemmas.Bool.Decides.{nat_tests}
-use Rattle.std.proofs.lemmas.List.Elements.{All-head, All-tail, All-append, All-weaker}
-use Rattle.am_base.specs.declared.entry.Entry.{Entry}
-use Rattle.am_base.specs.declared.entry.Entry.TheVariants.{Data}
-use Rattle.am_base.specs.declared.outcome.Outcome.{Outcome}
+use Rattle.am_unballoted.proofs.Words.{◌≡◌, ◌≢◌, ◌⊎◌, ⊎_elim, inl, inr, ℕ, zero, suc, ◌+◌, ◌≤◌, ◌==◌, ◌&&◌, Bool, true, false, if◌then◌else◌, List, [], ◌∷◌}
+use Rattle.am_unballoted.proofs.Words.{◌++◌, length, refl, sym, ap, ◌∙◌, subst, append-nil, arith, All, flat_map, flat_map-append, nat_tests, All-head}
+use Rattle.am_unballoted.proofs.Words.{All-tail, All-append, All-weaker, Entry, Data, Outcome, Letter, Record, letter_at, name_of, taken_in, given_to}
+use Rattle.am_unballoted.proofs.Words.{deliveries, get_before, Node, Accepted, sent_in, accepted_sends, heard_by, is_welcome, welcomed_in, split, IsIdle}
 use Rattle.am_base.specs.declared.outcome.Outcome.TheVariants as said
-use Rattle.am_packet.specs.Boxes.{Letter}
-use Rattle.am_group.specs.declared.event.Record.{Record}
-use Rattle.am_group.specs.Journals.{letter_at}
-use Rattle.am_group.specs.Deliveries.{name_of, taken_in, given_to, deliveries}
-use Rattle.am_group.proofs.Places.{get_before}
-use Rattle.am_model.specs.Node.{Node}
-use Rattle.am_play.specs.Group.{Accepted, sent_in, accepted_sends}
-use Rattle.am_play.specs.Claims.{heard_by, is_welcome, welcomed_in}
-use Rattle.am_base.proofs.Greatest.{split}
-use Rattle.am_effects.specs.Events.{IsIdle}
-use Rattle.am_unballoted.proofs.Kept.{at_more}
-use Rattle.am_unballoted.proofs.Worlds.{GivenOk, RecordOk, StandsAt}
+use Rattle.am_unballoted.proofs.{Kept.at_more, Worlds.GivenOk, Worlds.RecordOk, Worlds.StandsAt}
 
 -- ---- what an idle answer tells
 
@@ -62,8 +45,7 @@ pub given_more : (list more : List Entry) (acc to : ℕ) (m : Node) (given : Lis
     → GivenOk (list ++ more) to m given
 given_more list more acc to m given up h = record {
   count = h.count;
-  each =
-      λ k number e is. (let x = h.each k number e is in (x.0, at_more list more acc to (m.core.start + k) e up x.1));
+  each = λ k number e is. (let x = h.each k number e is in (x.0, at_more list more acc to (m.core.start + k) e up x.1));
 }
 
 -- ---- accepted sends

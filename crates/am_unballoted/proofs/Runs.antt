@@ -1,32 +1,12 @@
 -- Each run in which nobody began a ballot keeps what a world keeps.
-use Rattle.std.proofs.Common.{◌≡◌, ℕ, ◌<◌, ◌≤◌, ◌==◌, nat_le, true, false, List, [], ◌∷◌, None, refl, ap, ◌∙◌, subst, arith}
-use Rattle.std.proofs.lemmas.Bool.Decides.{nat_tests}
-use Rattle.std.proofs.lemmas.List.Elements.{All-nil}
-use Rattle.am_base.specs.declared.entry.Entry.{Entry}
-use Rattle.am_base.specs.Founding.{Rules, MayFound}
-use Rattle.am_base.specs.Names.{has}
-use Rattle.am_base.specs.Lists.{fold, AllFit, fits, top_of}
-use Rattle.am_core.specs.Cores.{CoreState}
-use Rattle.am_group.specs.declared.event.Event.{Event}
-use Rattle.am_model.specs.Node.{Node, set_at, founder, stranger, founders_view, founding_stamp}
-use Rattle.am_play.specs.World.{World, start, record_of, with_record, with_step, run}
-use Rattle.am_play.specs.Claims.{NoBallot}
-use Rattle.am_base.proofs.Greatest.{split}
-use Rattle.am_effects.specs.Events.{actor, idles, stops, returns, steps}
-use Rattle.am_effects.proofs.Runs.{EachKeeps, runs_keep}
-use Rattle.am_chain_lists.specs.Whole.{IsGood, AllSmall, mem}
-use Rattle.am_chain_lists.proofs.Members.{viewed_mem}
-use Rattle.am_model.proofs.Founders.{first_founder}
+use Rattle.am_unballoted.proofs.Words.{◌≡◌, ℕ, ◌<◌, ◌≤◌, ◌==◌, nat_le, true, false, List, [], ◌∷◌, None, refl, ap, ◌∙◌, subst, arith, nat_tests, All-nil}
+use Rattle.am_unballoted.proofs.Words.{Entry, Rules, MayFound, has, fold, AllFit, fits, top_of, CoreState, Event, Node, set_at, founder, stranger}
+use Rattle.am_unballoted.proofs.Words.{founders_view, founding_stamp, World, start, record_of, with_record, with_step, run, NoBallot, split, actor, idles}
+use Rattle.am_unballoted.proofs.Words.{stops, returns, steps, EachKeeps, runs_keep, IsGood, AllSmall, mem, viewed_mem, first_founder, AllSent, sent_start}
 use Rattle.am_sent.proofs.Runs as sent
-use Rattle.am_sent.proofs.Runs.{AllSent, sent_start}
-use Rattle.am_unballoted.proofs.Lists.{within_all, within_none}
-use Rattle.am_unballoted.proofs.Kept.{first_of, FrontsOk, fronts_ok, NodeOk}
-use Rattle.am_unballoted.proofs.First.{FirstOk}
-use Rattle.am_unballoted.proofs.Turns.{Turn}
-use Rattle.am_unballoted.proofs.Chains.{none_first}
-use Rattle.am_unballoted.proofs.Worlds.{GivenOk, begins_at, Kept, WorldOk}
-use Rattle.am_unballoted.proofs.Goes.{idle_ok}
-use Rattle.am_unballoted.proofs.Actors.{other_step, first_step}
+use Rattle.am_unballoted.proofs.{Lists.within_all, Lists.within_none, Kept.first_of, Kept.FrontsOk, Kept.fronts_ok, Kept.NodeOk, First.FirstOk, Turns.Turn}
+use Rattle.am_unballoted.proofs.{Chains.none_first, Worlds.GivenOk, Worlds.begins_at, Worlds.Kept, Worlds.WorldOk, Goes.idle_ok, Actors.other_step}
+use Rattle.am_unballoted.proofs.{Actors.first_step}
 
 -- ---- each event
 
@@ -105,8 +85,7 @@ founder_ok rules i there = record {
     promise = λ t. refl;
     founder = λ t. refl;
     blank = λ t. absurd (cc);
-    begins =
-        λ t. record { some = omega arith; founder = λ z. refl; joiner = λ z. absurd (cc) };
+    begins = λ t. record { some = omega arith; founder = λ z. refl; joiner = λ z. absurd (cc) };
   };
   sends = All-nil _;
 }

@@ -1,42 +1,22 @@
 -- What each letter says is so, in a run without a ballot.
-use Rattle.std.proofs.Common.{◌≡◌, ◌≢◌, ⊎_elim, ℕ, ◌+◌, ◌-◌, ◌<◌, ◌≤◌, ◌==◌, true, List, [], ◌∷◌, ◌++◌, length, take, Some, None, slice_get, slice_index, refl}
-use Rattle.std.proofs.Common.{sym, ap, ◌∙◌, subst, arith}
-use Rattle.std.proofs.lemmas.Bool.Decides.{nat_tests}
-use Rattle.std.proofs.lemmas.List.{get_or-replicate, get_or-set_same, get_or-set_other}
-use Rattle.am_base.specs.declared.name.Stamp.{Stamp}
-use Rattle.am_base.specs.declared.image.Row.{Row}
-use Rattle.am_base.specs.declared.image.Image.{Image}
-use Rattle.am_base.specs.declared.entry.Entry.{Entry}
-use Rattle.am_base.specs.declared.entry.Entry.TheVariants.{Data, Join, View}
-use Rattle.am_base.specs.Founding.{Rules}
-use Rattle.am_base.specs.Names.{has, place_of, life_of, nobody}
-use Rattle.am_base.specs.Lists.{with_row, blank, fold, after, at_place, row_of, image_at, entry_at, told_by}
-use Rattle.am_packet.specs.declared.packet.Packet.{Packet}
+use Rattle.am_unballoted.proofs.Words.{◌≡◌, ◌≢◌, ⊎_elim, ℕ, ◌+◌, ◌-◌, ◌<◌, ◌≤◌, ◌==◌, true, List, [], ◌∷◌, ◌++◌, length, take, Some, None, slice_get}
+use Rattle.am_unballoted.proofs.Words.{slice_index, refl, sym, ap, ◌∙◌, subst, arith, nat_tests, get_or-replicate, get_or-set_same, get_or-set_other, Stamp}
+use Rattle.am_unballoted.proofs.Words.{Row, Image, Entry, Data, Join, View, Rules, has, place_of, life_of, nobody, with_row, blank, fold, after, at_place}
+use Rattle.am_unballoted.proofs.Words.{row_of, image_at, entry_at, told_by, Packet, Letter, goes_to_any, item_at, Node, only_name, is_member, is_sequencer}
+use Rattle.am_unballoted.proofs.Words.{acts, founding_stamp, founders_view, viewed_by, split, and_both, image_of, row_at, row_set, told_push, long_told}
+use Rattle.am_unballoted.proofs.Words.{begins_take, begins_push, begins_same, length_take, length_push, Cause, hears, Stands, MayWelcome, just_joined}
+use Rattle.am_unballoted.proofs.Words.{asks_again, has_begun, goes_on, leads, decided, Says, bcast, order, welcome, invite, vote, piece, result, LetterSays}
+use Rattle.am_unballoted.proofs.Words.{entry_is}
+use Rattle.am_effects.specs.Letters.{accept}
 use Rattle.am_packet.specs.declared.packet.Packet.TheVariants as packet
-use Rattle.am_packet.specs.Boxes.{Letter}
-use Rattle.am_packet.specs.Kinds.{goes_to_any}
-use Rattle.am_group.specs.Journals.{item_at}
 use Rattle.am_model.specs.Node as nodes
-use Rattle.am_model.specs.Node.{Node, only_name, is_member, is_sequencer, acts, founding_stamp, founders_view}
-use Rattle.am_model.specs.Ticks.{viewed_by}
-use Rattle.am_base.proofs.Greatest.{split, and_both}
-use Rattle.am_chain_lists.specs.Whole.{image_of}
-use Rattle.am_chain_lists.proofs.Rows.{row_at, row_set}
-use Rattle.am_chain_lists.proofs.Members.{told_push, long_told}
-use Rattle.am_chain_lists.proofs.Prefixes.{begins_take, begins_push, begins_same, length_take, length_push}
-use Rattle.am_effects.specs.Causes.{Cause, hears}
-use Rattle.am_effects.specs.Letters.{Stands, MayWelcome, just_joined, asks_again, has_begun, goes_on, leads, decided, Says, bcast, order}
-use Rattle.am_effects.specs.Letters.{accept, welcome, invite, vote, piece, result, LetterSays}
-use Rattle.am_effects.proofs.Ballots.{entry_is}
-use Rattle.am_unballoted.proofs.Lists.{get_item, within_get}
-use Rattle.am_unballoted.proofs.Kept.{first_of, ListOk, FrontsOk, PacketOk, WelcomeOk, LetterOk, CauseOk}
-use Rattle.am_unballoted.proofs.First.{IsGroup, group_view}
-use Rattle.am_unballoted.proofs.Images.{rows_ok}
+use Rattle.am_unballoted.proofs.{FirstChanges.leader_member, Lists.get_item, Lists.within_get, Kept.first_of, Kept.ListOk, Kept.FrontsOk, Kept.PacketOk}
+use Rattle.am_unballoted.proofs.{Kept.WelcomeOk, Kept.LetterOk, Kept.CauseOk, First.IsGroup, First.group_view, Images.rows_ok}
 
 -- ---- names of letters
 
 -- the one name of a set
-only_is : (name other : ℕ) → has (only_name name) other ≡ true → other ≡ name
+pub only_is : (name other : ℕ) → has (only_name name) other ≡ true → other ≡ name
 only_is name other t =
     let low : place_of name < 16 = omega arith in
     let low_ : place_of other < 16 = omega arith in
@@ -73,14 +53,11 @@ pub record IsFirst (rules : Rules) (list : List Entry) (acc : ℕ) (m n : Node) 
   pub start : n.core.log.start ≡ 0
   pub group : IsGroup rules list
 
-sequencer_member : (n : Node) → is_sequencer n ≡ true → is_member n.status ≡ true
-sequencer_member n t = (and_both (is_member n.status) _ (and_both (acts n) _ t).0).0
-
 sequencer_first : (rules : Rules) (list : List Entry) (acc i : ℕ) (m n : Node) → Sends rules list acc i m n → is_sequencer n ≡ true → i ≡ first_of rules
 sequencer_first rules list acc i m n h t =
     let a = and_both (acts n) ((nodes.view n).by == n.core.who) t in
     let b = (and_both (is_member n.status) _ a.0).1 in
-    let p = h.promise (sequencer_member n t) in
+    let p = h.promise (leader_member n t) in
     let by : n.core.promise.by ≡ n.core.who = (let v = nodes.view n in let c = a.1 in grind (arith, nat_tests)) in
     sym h.who ∙ sym by ∙ ap (λ (s : Stamp). s.by) p
 
@@ -152,7 +129,7 @@ welcome_says rules list acc i m n s h f t (just_joined number next high low stan
     let is : (row_of (nodes.image_of n) s).joined ≡ number = same ∙ row ∙ omega arith in
     let a = f.acc_ in
     record {
-      stamp = h.promise (sequencer_member n t);
+      stamp = h.promise (leader_member n t);
       low = omega arith;
       tells = λ b. first_image rules list acc i m n n.core.base h f;
       joined = λ z. ap (item_at list) is ∙ item;
@@ -175,7 +152,7 @@ welcome_says rules list acc i m n s h f t (asks_again same lives some stays low 
     let a = f.acc_ in
     let up_ = f.high in
     record {
-      stamp = h.promise (sequencer_member n t);
+      stamp = h.promise (leader_member n t);
       low = omega arith;
       tells = λ b. first_image rules list acc i m n n.core.base h f;
       joined = λ z. ⊎_elim (λ (x : has rules.founders s ≡ true). absurd (cc))
@@ -189,7 +166,7 @@ result_says : (rules : Rules) (list : List Entry) (acc i : ℕ) (m n : Node) (nu
 result_says rules list acc i m n number names h f t high named =
     let told_ = first_told rules list acc i m n h f in
     let v = group_view rules list f.group in
-    let stamp = h.promise (sequencer_member n t) in
+    let stamp = h.promise (leader_member n t) in
     let one : number ≡ 1 = high ∙ ap (λ (x : Image). x.view_number) told_ ∙ v.number in
     let start = f.start in
     let first : slice_get list 0 ≡ Some (founders_view rules) = ap (λ l. slice_get l 0) f.group.is in

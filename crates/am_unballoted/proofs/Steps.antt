@@ -1,28 +1,11 @@
 -- What a step of a name makes of what a world keeps.
-use Rattle.std.proofs.Common.{◌≡◌, ◌⊎◌, ⊎_elim, inl, inr, ℕ, suc, ◌+◌, ◌-◌, ◌<◌, ◌≤◌, nat_le, List, [], ◌∷◌, ◌++◌, length, Some, None, slice_get, refl, sym, ap}
-use Rattle.std.proofs.Common.{◌∙◌, subst, append-nil, length-append, arith}
-use Rattle.std.specs.Prelude.{All}
-use Rattle.std.proofs.lemmas.Bool.Decides.{nat_tests}
-use Rattle.std.proofs.lemmas.List.Elements.{All-nil, All-cons}
-use Rattle.am_base.specs.declared.entry.Entry.{Entry}
-use Rattle.am_base.specs.declared.entry.Entry.TheVariants.{Data}
-use Rattle.am_base.specs.declared.outcome.Outcome.{Outcome}
+use Rattle.am_unballoted.proofs.Words.{◌≡◌, ◌⊎◌, ⊎_elim, inl, inr, ℕ, suc, ◌+◌, ◌-◌, ◌<◌, ◌≤◌, nat_le, List, [], ◌∷◌, ◌++◌, length, Some, None, slice_get}
+use Rattle.am_unballoted.proofs.Words.{refl, sym, ap, ◌∙◌, subst, append-nil, length-append, arith, All, nat_tests, All-nil, All-cons, Entry, Data, Outcome}
+use Rattle.am_unballoted.proofs.Words.{Rules, Log, entry_at, item_at, taken_in, Node, sent_in, split, entry-get, Cause, Answers, HasTaken, AnswersAsk}
+use Rattle.am_unballoted.proofs.Words.{WasSettled, all_get, get_push}
 use Rattle.am_base.specs.declared.outcome.Outcome.TheVariants as said
-use Rattle.am_base.specs.Founding.{Rules}
-use Rattle.am_base.specs.Lists.{Log, entry_at}
-use Rattle.am_group.specs.Journals.{item_at}
-use Rattle.am_group.specs.Deliveries.{taken_in}
-use Rattle.am_model.specs.Node.{Node}
-use Rattle.am_play.specs.Group.{sent_in}
-use Rattle.am_base.proofs.Greatest.{split}
-use Rattle.am_core.proofs.Ends.{entry-get}
-use Rattle.am_effects.specs.Causes.{Cause}
-use Rattle.am_effects.specs.Effects.{Answers, HasTaken, AnswersAsk, WasSettled}
-use Rattle.am_effects.proofs.Items.{all_get, get_push}
-use Rattle.am_unballoted.proofs.Lists.{get_item, item_more, within_get}
-use Rattle.am_unballoted.proofs.Kept.{At, at_more, SendOk, IsSettled, NodeOk}
-use Rattle.am_unballoted.proofs.Worlds.{GivenOk, StandsAt}
-use Rattle.am_unballoted.proofs.Chains.{front, at_least, Gave, nothing, took, began}
+use Rattle.am_unballoted.proofs.{Lists.get_item, Lists.item_more, Lists.within_get, Kept.At, Kept.at_more, Kept.SendOk, Kept.IsSettled, Kept.NodeOk}
+use Rattle.am_unballoted.proofs.{Worlds.GivenOk, Worlds.StandsAt, Chains.front, Chains.at_least, Chains.Gave, Chains.nothing, Chains.took, Chains.began}
 
 -- ---- answers
 

@@ -1,11 +1,7 @@
 -- The requests of a node's own sends that aren't settled are some number, the next one, and so on.
-use Rattle.std.proofs.Common.{◌≡◌, ℕ, ◌+◌, ◌<◌, ◌≤◌, ◌==◌, ◌&&◌, ◌||◌, Bool, true, false, not, List, [], ◌∷◌, ◌++◌, map, filter, find, Option, Some, None}
-use Rattle.std.proofs.Common.{is_some, is_none, refl, sym, ap, ◌∙◌, arith}
-use Rattle.std.specs.List.{list_any}
-use Rattle.std.proofs.lemmas.Bool.Decides.{nat_tests}
-use Rattle.am_sender.specs.declared.OwnSend.{OwnSend}
+use Rattle.am_unballoted.proofs.Words.{◌≡◌, ℕ, ◌+◌, ◌<◌, ◌≤◌, ◌==◌, ◌&&◌, ◌||◌, Bool, true, false, not, List, [], ◌∷◌, ◌++◌, map, filter, find, Option, Some}
+use Rattle.am_unballoted.proofs.Words.{None, is_some, is_none, refl, sym, ap, ◌∙◌, arith, list_any, nat_tests, OwnSend, split}
 use Rattle.am_sender.specs.Sends as own
-use Rattle.am_base.proofs.Greatest.{split}
 
 -- those that aren't settled are the next requests up to the last, and those that are lie below a number
 unfoldable pub Turn : ℕ → ℕ → List OwnSend → ℕ → Type 0

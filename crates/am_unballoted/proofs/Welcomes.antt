@@ -1,31 +1,13 @@
 -- Who was welcomed, after a step.
-use Rattle.std.proofs.Common.{◌≡◌, ◌≢◌, ◌⊎◌, ⊎_elim, inl, inr, ℕ, ◌≤◌, ◌==◌, true, false, if◌then◌else◌, List, [], ◌∷◌, ◌++◌, length, refl, sym, ap, ◌∙◌, subst}
-use Rattle.std.proofs.Common.{append-nil, arith}
-use Rattle.std.proofs.lemmas.Bool.Decides.{nat_tests}
-use Rattle.am_base.specs.declared.outcome.Outcome.{Outcome}
+use Rattle.am_unballoted.proofs.Words.{◌≡◌, ◌≢◌, ◌⊎◌, ⊎_elim, inl, inr, ℕ, ◌≤◌, ◌==◌, true, false, if◌then◌else◌, List, [], ◌∷◌, ◌++◌, length, refl, sym, ap}
+use Rattle.am_unballoted.proofs.Words.{◌∙◌, subst, append-nil, arith, nat_tests, Outcome, NodeEvent, Packet, Letter, kind_of, Act, Record, letter_at, name_of}
+use Rattle.am_unballoted.proofs.Words.{Node, has_log, World, heard_by, is_welcome, welcomed_in, split, Cause, calls, hears, refuses, Answers, HasBegun}
+use Rattle.am_unballoted.proofs.Words.{IsCall, IsCause, WasSentTo, asking_log}
 use Rattle.am_base.specs.declared.outcome.Outcome.TheVariants as said
-use Rattle.am_base.specs.declared.event.NodeEvent.{NodeEvent}
-use Rattle.am_packet.specs.declared.packet.Packet.{Packet}
 use Rattle.am_packet.specs.declared.packet.Packet.TheVariants as packet
-use Rattle.am_packet.specs.Boxes.{Letter}
-use Rattle.am_packet.specs.Kinds.{kind_of}
-use Rattle.am_group.specs.declared.event.Act.{Act}
-use Rattle.am_group.specs.declared.event.Record.{Record}
-use Rattle.am_group.specs.Journals.{letter_at}
-use Rattle.am_group.specs.Deliveries.{name_of}
-use Rattle.am_model.specs.Node.{Node, has_log}
-use Rattle.am_play.specs.World.{World}
-use Rattle.am_play.specs.Claims.{heard_by, is_welcome, welcomed_in}
-use Rattle.am_base.proofs.Greatest.{split}
-use Rattle.am_effects.specs.Causes.{Cause, calls, hears, refuses}
-use Rattle.am_effects.specs.Effects.{Answers, HasBegun}
 use Rattle.am_effects.specs.Events as event
-use Rattle.am_effects.specs.Events.{IsCall, IsCause, WasSentTo}
-use Rattle.am_effects.proofs.Statuses.{asking_log}
-use Rattle.am_unballoted.proofs.Lists.{item_more, item_within}
-use Rattle.am_unballoted.proofs.Worlds.{begins_at, RecordOk}
-use Rattle.am_unballoted.proofs.Records.{welcome_in, idle_welcome}
-use Rattle.am_unballoted.proofs.Chains.{Gave, nothing, took, began}
+use Rattle.am_unballoted.proofs.{Lists.item_more, Lists.item_within, Worlds.begins_at, Worlds.RecordOk, Records.welcome_in, Records.idle_welcome, Chains.Gave}
+use Rattle.am_unballoted.proofs.{Chains.nothing, Chains.took, Chains.began}
 
 -- a call hears nothing
 call_unheard : (w : World) (a : Act) (ev : NodeEvent) → IsCall w a ev → heard_by a ≡ 0

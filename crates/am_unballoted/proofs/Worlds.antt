@@ -1,26 +1,9 @@
 -- What a world keeps in a run without a ballot.
-use Rattle.std.proofs.Common.{◌≡◌, ◌≢◌, ⊎_elim, ℕ, ◌+◌, ◌-◌, ◌≤◌, ◌==◌, true, false, if◌then◌else◌, List, [], ◌∷◌, ◌++◌, length, take, Some, slice_get, refl}
-use Rattle.std.proofs.Common.{sym, ap, ◌∙◌, subst, arith}
-use Rattle.std.specs.Prelude.{All}
-use Rattle.std.proofs.lemmas.Bool.Decides.{nat_tests}
-use Rattle.am_base.specs.declared.entry.Entry.{Entry}
-use Rattle.am_base.specs.declared.entry.Entry.TheVariants.{Data}
-use Rattle.am_base.specs.Founding.{Rules}
-use Rattle.am_base.specs.Names.{has}
-use Rattle.am_group.specs.declared.event.Act.{Act}
+use Rattle.am_unballoted.proofs.Words.{◌≡◌, ◌≢◌, ⊎_elim, ℕ, ◌+◌, ◌-◌, ◌≤◌, ◌==◌, true, false, if◌then◌else◌, List, [], ◌∷◌, ◌++◌, length, take, Some}
+use Rattle.am_unballoted.proofs.Words.{slice_get, refl, sym, ap, ◌∙◌, subst, arith, All, nat_tests, Entry, Data, Rules, has, Act, Record, name_of, deliveries}
+use Rattle.am_unballoted.proofs.Words.{Node, set_at, has_log, World, Accepted, accepted_sends, IsSend, heard_by, welcomed_in, welcomes, split, get_push}
 use Rattle.am_group.specs.declared.event.Act.TheVariants as act
-use Rattle.am_group.specs.declared.event.Record.{Record}
-use Rattle.am_group.specs.Deliveries.{name_of, deliveries}
-use Rattle.am_model.specs.Node.{Node, set_at, has_log}
-use Rattle.am_play.specs.World.{World}
-use Rattle.am_play.specs.Group.{Accepted, accepted_sends}
-use Rattle.am_play.specs.Claims.{IsSend, heard_by, welcomed_in, welcomes}
-use Rattle.am_base.proofs.Greatest.{split}
-use Rattle.am_effects.proofs.Items.{get_push}
-use Rattle.am_unballoted.proofs.Kept.{first_of, At, NodeOk, LetterOk}
-use Rattle.am_unballoted.proofs.Others.{Unique}
-use Rattle.am_unballoted.proofs.First.{FirstOk}
-use Rattle.am_unballoted.proofs.Chains.{front}
+use Rattle.am_unballoted.proofs.{Kept.first_of, Kept.At, Kept.NodeOk, Kept.LetterOk, Others.Unique, First.FirstOk, Chains.front}
 
 -- ---- what was given, and who was welcomed
 

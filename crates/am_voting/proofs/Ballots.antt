@@ -1,18 +1,8 @@
 -- A ballot that was taken out, with a vote more or a name given up, and one that begins.
-use Rattle.std.proofs.Common.{◌≡◌, ◌≢◌, ℕ, ◌+◌, ◌<◌, min, nat_lt, List, Bool, true, false, not, ◌==◌, Option, None, refl, ap, ◌∙◌, arith}
-use Rattle.am_base.specs.Most.{most_number}
-use Rattle.am_base.specs.Names.{minus}
-use Rattle.am_base.specs.Stamps.{stamp_lt}
-use Rattle.am_base.specs.Votes.{Shown, best_vote}
-use Rattle.am_core.proofs.Folds.{split}
-use Rattle.am_model.specs.Node.{Node, Ballot, those, top, view, has_log}
-use Rattle.am_model.specs.Ballots.{with_vote, without_voter, next_stamp, new_ballot, keep_vote, give_up, decide, best_of, own_vote, has_voted, newly_needed}
-use Rattle.am_core.specs.Cores.{IsInOrder}
-use Rattle.am_base.specs.declared.image.Vote.{Vote}
-use Rattle.am_deciding.specs.Deciding.{IsTakenOut}
-use Rattle.std.proofs.lemmas.Bool.Decides.{nat_tests}
-use Rattle.am_handlers.specs.Keeps.{NodeKeeps}
-use Rattle.am_deciding.proofs.Orders.{lt_next}
+use Rattle.am_voting.proofs.Words.{◌≡◌, ◌≢◌, ℕ, ◌+◌, ◌<◌, min, nat_lt, List, Bool, true, false, not, ◌==◌, Option, None, refl, ap, ◌∙◌, arith, most_number}
+use Rattle.am_voting.proofs.Words.{minus, stamp_lt, Shown, best_vote, split, Node, Ballot, those, top, view, has_log, with_vote, without_voter, next_stamp}
+use Rattle.am_voting.proofs.Words.{new_ballot, keep_vote, give_up, decide, best_of, own_vote, has_voted, newly_needed, IsInOrder, Vote, IsTakenOut, nat_tests}
+use Rattle.am_voting.proofs.Words.{NodeKeeps, lt_next}
 
 -- ---- a ballot that was taken out, with a vote more or a name given up
 
@@ -91,10 +81,9 @@ unfolding give_up decide best_of
 give_with m o b name = refl
 
 -- who is newly needed, by the two best votes
-pub newly_is : (m : Node) (old new kept : Ballot) (who : ℕ) (own : Vote) (before needed : Shown) (set less more : List ℕ)
-    → kept ≡ new → who ≡ m.core.who → own ≡ own_vote m → before ≡ best_vote old.votes who own → needed ≡ best_vote kept.votes who own
-    → less ≡ before.vote.members → more ≡ needed.vote.members → set ≡ those (λ name. not (has_voted who kept name)) (minus more less)
-    → set ≡ newly_needed m old new
+pub newly_is : (m : Node) (old new kept : Ballot) (who : ℕ) (own : Vote) (before needed : Shown) (set less more : List ℕ) → kept ≡ new
+    → who ≡ m.core.who → own ≡ own_vote m → before ≡ best_vote old.votes who own → needed ≡ best_vote kept.votes who own → less ≡ before.vote.members
+    → more ≡ needed.vote.members → set ≡ those (λ name. not (has_voted who kept name)) (minus more less) → set ≡ newly_needed m old new
 unfolding best_of
 newly_is m old new kept who own before needed set less more k w o b n l r is =
     let bo : before ≡ best_vote old.votes m.core.who (own_vote m) = b ∙ (λ i. best_vote old.votes (w i) (o i)) in

@@ -1,22 +1,10 @@
 -- What the rows of votes come to, by their tests.
-use Rattle.std.proofs.Common.{◌≡◌, ℕ, Bool, true, false, not, ◌||◌, ◌&&◌, ◌==◌, if◌then◌else◌, Option, Some, sym, ap, subst, ◌∙◌}
-use Rattle.am_base.specs.declared.image.Vote.{Vote}
-use Rattle.am_base.specs.declared.name.Stamp.{Stamp}
-use Rattle.am_base.specs.declared.outcome.Outcome.{Outcome}
+use Rattle.am_voting.proofs.Words.{◌≡◌, ℕ, Bool, true, false, not, ◌||◌, ◌&&◌, ◌==◌, if◌then◌else◌, Option, Some, sym, ap, subst, ◌∙◌, Vote, Stamp, Outcome}
+use Rattle.am_voting.proofs.Words.{stamp_lt, Node, Ballot, only_name, members, is_member, quiet, telling, with_promise, vote_of, keep_vote, give_up, begin}
+use Rattle.am_voting.proofs.Words.{invite_row, vote_row, take_vote, is_open, reset_row, give_up_row, give_up_of, has, IsEndOf, Telling, Replies, by_plan}
+use Rattle.am_voting.proofs.Words.{if_yes, if_no, replies_quiet, replies_vote}
 use Rattle.am_base.specs.declared.outcome.Outcome.TheVariants as said
-use Rattle.am_base.specs.Stamps.{stamp_lt}
-use Rattle.am_model.specs.Node.{Node, Ballot, only_name, members, is_member}
-use Rattle.am_model.specs.Emit.{quiet, telling}
-use Rattle.am_model.specs.Ballots.{with_promise, vote_of, keep_vote, give_up, begin}
-use Rattle.am_model.specs.Resets.{invite_row, vote_row, take_vote, is_open}
-use Rattle.am_model.specs.Calls.{reset_row, give_up_row, give_up_of}
-use Rattle.am_base.specs.Names.{has}
-use Rattle.am_model.specs.Ends.{IsEndOf}
-use Rattle.am_replies.specs.declared.replies.Telling.{Telling}
 use Rattle.am_replies.specs.declared.replies.Telling.TheVariants as tell
-use Rattle.am_replies.specs.Replies.{Replies}
-use Rattle.am_replies.proofs.Plans.{by_plan, if_yes, if_no}
-use Rattle.am_replies.proofs.Replying.{replies_quiet, replies_vote}
 use Rattle.am_voting.proofs.Ballots.{keep_with, give_with}
 
 -- whether a stamp is above the promise, by what was read

@@ -1,10 +1,6 @@
 -- What an entry of the group list makes of what is kept.
-use Rattle.std.proofs.Common.{◌≡◌, ℕ, List, [], ◌∷◌, map, Option, Some, None, refl, ap, ◌∙◌}
-use Rattle.am_base.specs.declared.name.Stamp.{Stamp}
-use Rattle.am_base.specs.declared.entry.Entry.{Entry}
-use Rattle.am_base.specs.declared.entry.Entry.TheVariants.{Data, Join, Leave, View}
-use Rattle.am_watch.specs.declared.views.Pending.{Pending}
-use Rattle.am_watch.specs.Watching.{Watching, number_of, or_else, place_among, place_view, accept}
+use Rattle.am_watch.proofs.Words.{◌≡◌, ℕ, List, [], ◌∷◌, map, Option, Some, None, refl, ap, ◌∙◌, Stamp, Entry, Data, Join, Leave, View, Pending, Watching}
+use Rattle.am_watch.proofs.Words.{number_of, or_else, place_among, place_view, accept}
 
 or_none : (o : Option ℕ) → or_else o None ≡ o
 or_none None = refl

@@ -1,21 +1,10 @@
 -- A run without events.
-use Rattle.std.proofs.Common.{◌≡◌, ℕ, ◌<◌, ◌≤◌, true, false, if◌then◌else◌, [], length, map, slice_index, refl, sym, ap, ◌∙◌, inl, inr, arith}
-use Rattle.std.proofs.lemmas.List.{get_or_past}
-use Rattle.std.proofs.lemmas.List.FromFn.{get_or-map-range_with_len, length-map-range_with_len}
-use Rattle.std.proofs.lemmas.Bool.{cases_lt}
-use Rattle.std.proofs.lemmas.Bool.Decides.{nat_tests}
-use Rattle.std.specs.List.{range_with_len}
-use Rattle.am_base.specs.Names.{has, place_of, life_of}
-use Rattle.am_base.specs.Lists.{fold, after}
-use Rattle.am_base.specs.Founding.{Rules, MayFound}
-use Rattle.am_base.specs.Stamps.{stamp_lt}
-use Rattle.am_model.specs.declared.status.Status.TheVariants.{Member}
-use Rattle.am_model.specs.Node.{founder, stranger, founding_stamp}
-use Rattle.am_play.specs.World.{first_node}
-use Rattle.am_base.proofs.Greatest.{split}
+use Rattle.am_watch.proofs.Words.{◌≡◌, ℕ, ◌<◌, ◌≤◌, true, false, if◌then◌else◌, [], length, map, slice_index, refl, sym, ap, ◌∙◌, inl, inr, arith}
+use Rattle.am_watch.proofs.Words.{get_or_past, get_or-map-range_with_len, length-map-range_with_len, cases_lt, nat_tests, range_with_len, has, place_of}
+use Rattle.am_watch.proofs.Words.{life_of, fold, Rules, MayFound, stamp_lt, Member, founder, stranger, founding_stamp, first_node, split, blank_standing}
+use Rattle.am_watch.proofs.Words.{standing, first_standing, first_view, first_watching, standing_of, Each, BeginningIsWatched}
+use Rattle.am_base.specs.Lists.{after}
 use Rattle.am_watch.specs.Watching as kept
-use Rattle.am_watch.specs.Watching.{blank_standing, standing, first_standing, first_view, first_watching}
-use Rattle.am_watch.specs.Watches.{standing_of, Each, BeginningIsWatched}
 use Rattle.am_watch.proofs.Order.{lt_self}
 
 founder_shown : (rules : Rules) (name : ℕ) → standing_of (founder rules name)

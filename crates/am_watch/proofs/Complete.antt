@@ -1,24 +1,10 @@
 -- What is kept says who stored a view, who lags, and who is lost, as the world does.
-use Rattle.std.proofs.Common.{◌≡◌, ℕ, ◌+◌, min, Bool, false, not, ◌&&◌, ◌||◌, ◌==◌, nat_le, nat_lt, List, take, count_by, slice_index_or, sym, ap, ◌∙◌}
-use Rattle.std.proofs.lemmas.List.{take-append-le}
-use Rattle.std.proofs.lemmas.List.Folds.{list_any-append}
-use Rattle.std.specs.List.{list_any}
-use Rattle.am_base.specs.declared.name.Stamp.{Stamp}
-use Rattle.am_base.specs.declared.entry.Entry.{Entry}
-use Rattle.am_base.specs.Names.{has, size, names_of}
-use Rattle.am_base.specs.Stamps.{stamp_lt}
-use Rattle.am_play.specs.World.{World}
-use Rattle.am_model.specs.Node.{has_departed}
+use Rattle.am_watch.proofs.Words.{◌≡◌, ℕ, ◌+◌, min, Bool, false, not, ◌&&◌, ◌||◌, ◌==◌, nat_le, nat_lt, List, take, count_by, slice_index_or, sym, ap, ◌∙◌}
+use Rattle.am_watch.proofs.Words.{take-append-le, list_any-append, list_any, Stamp, Entry, has, size, names_of, stamp_lt, World, has_departed, is_view_of}
+use Rattle.am_watch.proofs.Words.{DecidedView, Standing, Pending, Watching, standing, is_by, number_of, decided_of, Sees, IsNoted, Each}
 use Rattle.am_play.specs.Lawful as law
-use Rattle.am_play.specs.Lawful.{is_view_of}
-use Rattle.am_watch.specs.declared.views.DecidedView.{DecidedView}
-use Rattle.am_watch.specs.declared.views.Standing.{Standing}
-use Rattle.am_watch.specs.declared.views.Pending.{Pending}
 use Rattle.am_watch.specs.Watching as kept
-use Rattle.am_watch.specs.Watching.{Watching, standing, is_by, number_of}
-use Rattle.am_watch.specs.Watches.{decided_of, Sees, IsNoted, Each}
-use Rattle.am_watch.proofs.Folds.{IsKept, each_of}
-use Rattle.am_watch.proofs.Numbers.{number_by}
+use Rattle.am_watch.proofs.{Folds.IsKept, Folds.each_of, Numbers.number_by}
 
 -- the group list up to where a name's list begins
 begin_is : (k : Watching) (w : World) (group : List Entry) (name : ℕ) → Sees k w group

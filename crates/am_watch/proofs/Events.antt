@@ -1,16 +1,7 @@
 -- What each kind of event makes of a world, in the words of what is kept.
-use Rattle.std.proofs.Common.{◌≡◌, ℕ, ◌==◌, if◌then◌else◌, List, [], ◌∷◌, ◌++◌, refl, sym}
-use Rattle.std.proofs.lemmas.List.{append-nil}
-use Rattle.am_base.specs.declared.entry.Entry.{Entry}
-use Rattle.am_base.specs.declared.outcome.Outcome.{Outcome}
-use Rattle.am_group.specs.declared.event.Event.{Event}
-use Rattle.am_model.specs.Node.{Node, view}
-use Rattle.am_model.specs.Emit.{Step}
+use Rattle.am_watch.proofs.Words.{◌≡◌, ℕ, ◌==◌, if◌then◌else◌, List, [], ◌∷◌, ◌++◌, refl, sym, append-nil, Entry, Outcome, Event, Node, view, Step, World}
+use Rattle.am_watch.proofs.Words.{with_record, lives_on, current, is_stopped, group_after, happens, Watch, watch, split, after, additions, SameBut, SteppedTo}
 use Rattle.am_play.specs.World as run
-use Rattle.am_play.specs.World.{World, with_record, lives_on, current, is_stopped, group_after, happens}
-use Rattle.am_play.specs.Lawful.{Watch, watch}
-use Rattle.am_base.proofs.Greatest.{split}
-use Rattle.am_watch.specs.Watches.{after, additions, SameBut, SteppedTo}
 
 -- the watched run after an event
 pub watched_after : (s : Watch) (e : Event) → watch s e ≡ after s (happens s.world e)

@@ -1,26 +1,14 @@
 -- The greatest complete view among the pending ones, and among all.
-use Rattle.std.proofs.Common.{◌≡◌, Bool, true, false, ◌&&◌, if◌then◌else◌, List, [], ◌∷◌, map, filter, refl, ap, ◌∙◌}
-use Rattle.am_base.specs.declared.name.Stamp.{Stamp}
-use Rattle.am_base.specs.Stamps.{stamp_lt}
-use Rattle.am_play.specs.World.{Decided, World}
+use Rattle.am_watch.proofs.Words.{◌≡◌, Bool, true, false, ◌&&◌, if◌then◌else◌, List, [], ◌∷◌, map, filter, refl, ap, ◌∙◌, Stamp, stamp_lt, Decided, World}
+use Rattle.am_watch.proofs.Words.{split, DecidedView, Pending, Watching, greater, greatest, decided_of, comes_after, Each}
 use Rattle.am_play.specs.Lawful as law
-use Rattle.am_base.proofs.Greatest.{split}
-use Rattle.am_watch.specs.declared.views.DecidedView.{DecidedView}
-use Rattle.am_watch.specs.declared.views.Pending.{Pending}
 use Rattle.am_watch.specs.Watching as kept
-use Rattle.am_watch.specs.Watching.{Watching, greater, greatest}
-use Rattle.am_watch.specs.Watches.{decided_of, comes_after, Each}
 use Rattle.am_watch.proofs.Order.{lt_trans, lt_self}
 
 pub each_of : {A : Type 0} (P Q : A → Type 0) → ((x : A) → P x → Q x) → (xs : List A) → Each P xs → Each Q xs
 unfolding Each
 each_of P Q f [] h = tt
 each_of P Q f (x ∷ xs) (h, hs) = (f x h, each_of P Q f xs hs)
-
-pub each_both : {A : Type 0} (P Q : A → Type 0) (xs : List A) → Each P xs → Each Q xs → Each (λ x. P x × Q x) xs
-unfolding Each
-each_both P Q [] h g = tt
-each_both P Q (x ∷ xs) (h, hs) (g, gs) = ((h, g), each_both P Q xs hs gs)
 
 pub each_filter : {A : Type 0} (P : A → Type 0) (p : A → Bool) (xs : List A) → Each P xs → Each (λ x. P x × (p x ≡ true)) (filter p xs)
 unfolding Each
@@ -45,7 +33,7 @@ up_self a = record { keeps = λ s h. h }
 pub up_trans : (a b c : Stamp) → IsUpTo a b → IsUpTo b c → IsUpTo a c
 up_trans a b c g h = record { keeps = λ s f. h.keeps s (g.keeps s f) }
 
-not_both : {G : Type 0} (b : Bool) → b ≡ true → b ≡ false → G
+pub not_both : {G : Type 0} (b : Bool) → b ≡ true → b ≡ false → G
 not_both b t f = absurd (cc)
 
 pub up_lt : (a b : Stamp) → stamp_lt a b ≡ true → IsUpTo a b

@@ -1,3 +1,4 @@
+pub mod Words
 pub mod Order
 pub mod Folds
 pub mod Numbers

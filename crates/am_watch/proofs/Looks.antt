@@ -1,18 +1,11 @@
 -- The end of an event: where it is looked for a greater complete view, and where nothing changed that views ask for.
-use Rattle.std.proofs.Common.{◌≡◌, ℕ, ◌+◌, Bool, true, false, ◌&&◌, if◌then◌else◌, List, [], ◌∷◌, length, map, filter}
-use Rattle.std.proofs.Common.{Option, Some, None, refl, sym, ap, ◌∙◌, subst}
-use Rattle.am_base.specs.declared.entry.Entry.{Entry}
-use Rattle.am_base.specs.Stamps.{stamp_lt}
-use Rattle.am_play.specs.World.{Decided, World}
+use Rattle.am_watch.proofs.Words.{◌≡◌, ℕ, ◌+◌, Bool, true, false, ◌&&◌, if◌then◌else◌, List, [], ◌∷◌, length, map, filter, Option, Some, None, refl, sym, ap}
+use Rattle.am_watch.proofs.Words.{◌∙◌, subst, Entry, stamp_lt, Decided, World, Watch, split, DecidedView, Pending, Watching, standing, greater, greatest}
+use Rattle.am_watch.proofs.Words.{is_above, end_event, look, pass, decided_of, comes_after, Each, Sees, IsNoted, WatchesUpTo, after}
 use Rattle.am_play.specs.Lawful as law
-use Rattle.am_play.specs.Lawful.{Watch}
-use Rattle.am_base.proofs.Greatest.{split}
-use Rattle.am_watch.specs.declared.views.DecidedView.{DecidedView}
-use Rattle.am_watch.specs.declared.views.Pending.{Pending}
 use Rattle.am_watch.specs.Watching as kept
-use Rattle.am_watch.specs.Watching.{Watching, standing, greater, greatest, is_above, end_event, look, pass}
-use Rattle.am_watch.specs.Watches.{decided_of, comes_after, Each, Sees, IsNoted, WatchesUpTo, after}
-use Rattle.am_watch.proofs.Folds.{IsUpTo, IsLeft, up_self, up_greatest, each_of, each_filter, map_filter, each_left, greatest_is, greatest_above, filter_above}
+use Rattle.am_watch.proofs.Folds.{IsUpTo, IsLeft, up_self, up_greatest, each_of, each_filter, map_filter, each_left, greatest_is, greatest_above}
+use Rattle.am_watch.proofs.Folds.{filter_above}
 use Rattle.am_watch.proofs.Complete.{each_kept, lawful_is}
 
 -- what is kept when an event is almost over

@@ -1,13 +1,7 @@
 -- Whether one of a set's names passes a test, place by place.
-use Rattle.std.proofs.Common.{◌≡◌, ℕ, ◌+◌, ◌<◌, ◌≤◌, Bool, false, ◌&&◌, ◌||◌, nat_lt, List, ◌∷◌, length, drop, slice_index, slice_index_or, ap}
-use Rattle.std.specs.List.{list_any}
-use Rattle.std.proofs.lemmas.List.{drop_more, at_drop_all}
-use Rattle.am_base.specs.Names.{names_from, name_at}
-use Rattle.am_base.proofs.Greatest.{split}
-use Rattle.am_fronts.proofs.ReportLaws.{names_more, names_end}
-use Rattle.am_watch.specs.declared.views.DecidedView.{DecidedView}
-use Rattle.am_watch.specs.declared.views.Pending.{Pending}
-use Rattle.am_watch.specs.Watching.{Watching, greater, greatest}
+use Rattle.am_watch.proofs.Words.{◌≡◌, ℕ, ◌+◌, ◌<◌, ◌≤◌, Bool, false, ◌&&◌, ◌||◌, nat_lt, List, ◌∷◌, length, drop, slice_index, slice_index_or, ap, list_any}
+use Rattle.am_watch.proofs.Words.{drop_more, at_drop_all, names_from, name_at, split, names_more, names_end, DecidedView, Pending, Watching, greater}
+use Rattle.am_watch.proofs.Words.{greatest}
 
 pub any_more : (p : ℕ → Bool) (set : List ℕ) (place : ℕ) → place < length set
     → list_any p (names_from place (drop place set)) ≡ ((nat_lt 0 (slice_index set place) && p (name_at place (slice_index set place)))

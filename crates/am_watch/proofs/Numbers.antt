@@ -1,24 +1,12 @@
 -- Where a View stands in the group list.
-use Rattle.std.proofs.Common.{◌≡◌, ℕ, zero, suc, ◌+◌, ◌<◌, ◌≤◌, true, false, nat_le, List, [], ◌∷◌, ◌++◌, length, take, Option, None, refl, sym, ap, ◌∙◌, arith}
-use Rattle.std.proofs.lemmas.Bool.Decides.{nat_tests}
-use Rattle.std.specs.List.{list_any}
-use Rattle.am_base.specs.declared.name.Stamp.{Stamp}
-use Rattle.am_base.specs.declared.entry.Entry.{Entry}
-use Rattle.am_play.specs.Lawful.{is_view_of}
-use Rattle.am_base.proofs.Greatest.{split}
-use Rattle.am_watch.specs.Watching.{is_by, or_else, number_of}
-
-le_false : (a b : ℕ) → b < a → nat_le a b ≡ false
-le_false a b h = grind (arith, nat_tests)
-
-le_true : (a b : ℕ) → a ≤ b → nat_le a b ≡ true
-le_true a b h = grind (arith, nat_tests)
+use Rattle.am_watch.proofs.Words.{le-leb, lt-leb, ◌≡◌, ℕ, zero, suc, ◌+◌, ◌<◌, true, false, List, [], ◌∷◌, ◌++◌, length, take, None, refl, sym, ap, ◌∙◌}
+use Rattle.am_watch.proofs.Words.{arith, list_any, Stamp, Entry, is_view_of, split, is_by, or_else, number_of}
 
 number_low : (s : Stamp) (number n : ℕ) (xs : List Entry) → n < number → is_by (number_of s number xs) n ≡ false
 unfolding number_of
 number_low s number n [] h = refl
 number_low s number n (e ∷ es) h = split (is_view_of s e)
-    (λ t. rw t (le_false number n h))
+    (λ t. rw t (lt-leb number n h))
     (λ t. rw t (number_low s (number + 1) n es (omega arith)))
 
 take_none : (n : ℕ) → take n (let none : List Entry = [] in none) ≡ []
@@ -30,7 +18,7 @@ unfolding number_of
 number_at s number m n [] h = ap (list_any (is_view_of s)) (sym (take_none n))
 number_at s number m zero (e ∷ es) h = number_low s number m (e ∷ es) (omega arith)
 number_at s number m (suc n) (e ∷ es) h = split (is_view_of s e)
-    (λ t. rw t (le_true number m (omega arith)))
+    (λ t. rw t (le-leb number m (omega arith)))
     (λ t. rw t (number_at s (number + 1) m n es (omega arith)))
 
 -- it stands among the first n where its number is at most n
@@ -43,9 +31,6 @@ number_none s number [] h = refl
 number_none s number (e ∷ es) h = split (is_view_of s e)
     (λ t. let b : true ≡ false = rw t at h in absurd (cc))
     (λ t. let b : list_any (is_view_of s) es ≡ false = rw t at h in rw t (number_none s (number + 1) es b))
-
-same_none : (o : Option ℕ) → o ≡ or_else None o
-same_none o = refl
 
 pub number_append : (s : Stamp) (number : ℕ) (xs ys : List Entry)
     → number_of s number (xs ++ ys) ≡ or_else (number_of s number xs) (number_of s (number + length xs) ys)

@@ -1,9 +1,5 @@
 -- Stamps in order.
-use Rattle.std.proofs.Common.{◌≡◌, ℕ, Bool, true, false, nat_lt, ◌&&◌, ◌||◌, ◌==◌, refl, arith}
-use Rattle.std.proofs.lemmas.Bool.Decides.{nat_tests}
-use Rattle.am_base.specs.declared.name.Stamp.{Stamp}
-use Rattle.am_base.specs.Names.{rank_of}
-use Rattle.am_base.specs.Stamps.{stamp_lt, stamp_eq}
+use Rattle.am_watch.proofs.Words.{eqb-true, ◌≡◌, ℕ, Bool, true, false, nat_lt, ◌&&◌, ◌||◌, ◌==◌, refl, arith, nat_tests, Stamp, rank_of, stamp_lt, stamp_eq}
 
 -- by the first number, then by the second
 abbrev pub pair_lt : ℕ → ℕ → ℕ → ℕ → Bool
@@ -21,9 +17,6 @@ lt_trans a b c g h = pair_trans a.round (rank_of a.by) b.round (rank_of b.by) c.
 pub lt_self : (a : Stamp) → stamp_lt a a ≡ false
 lt_self a = pair_self a.round (rank_of a.by)
 
-same_number : (a b : ℕ) → (a == b) ≡ true → a ≡ b
-same_number a b h = grind (arith, nat_tests)
-
 and_first : (a b : Bool) → (a && b) ≡ true → a ≡ true
 and_first true b h = refl
 and_first false b h = h
@@ -36,4 +29,4 @@ same_parts : (a b : Stamp) → a.round ≡ b.round → a.by ≡ b.by → a ≡ b
 same_parts a b h g = λ i. record { round = h i; by = g i }
 
 pub same_stamp : (a b : Stamp) → stamp_eq a b ≡ true → a ≡ b
-same_stamp a b h = same_parts a b (same_number a.round b.round (and_first _ _ h)) (same_number a.by b.by (and_second _ _ h))
+same_stamp a b h = same_parts a b (eqb-true a.round b.round (and_first _ _ h)) (eqb-true a.by b.by (and_second _ _ h))

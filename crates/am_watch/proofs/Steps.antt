@@ -1,38 +1,18 @@
 -- A step of a name, a stop, and any other event: what is kept afterwards is that of the world afterwards.
-use Rattle.std.proofs.Common.{◌≡◌, ◌≢◌, ℕ, ◌+◌, ◌<◌, ◌≤◌, Bool, true, false, not, ◌&&◌, ◌||◌, ◌==◌, if◌then◌else◌, List, [], ◌∷◌, ◌++◌, length, map, filter}
-use Rattle.std.proofs.Common.{replicate, count_by, min, nat_le, nat_lt, Option, Some, None, slice_index_or, slice_set, refl, sym, ap, ◌∙◌, subst, inl, inr}
-use Rattle.std.proofs.Common.{arith}
-use Rattle.std.proofs.lemmas.List.{set-set, get_or-set_same, get_or-set_other, length-set, length-append, length-replicate, get_or-replicate, append-nil}
-use Rattle.std.proofs.lemmas.List.{map-append, get_or_past}
-use Rattle.std.proofs.lemmas.List.Elements.{filter-append}
-use Rattle.std.proofs.lemmas.Bool.{cases_lt}
-use Rattle.std.proofs.lemmas.List.Folds.{list_any-append}
-use Rattle.std.proofs.lemmas.Bool.Decides.{nat_tests}
-use Rattle.std.specs.List.{list_any}
-use Rattle.am_base.specs.declared.name.Stamp.{Stamp}
-use Rattle.am_base.specs.declared.entry.Entry.{Entry}
-use Rattle.am_base.specs.declared.entry.Entry.TheVariants.{Data, Join, Leave, View}
-use Rattle.am_base.specs.Names.{has, size, names_of}
-use Rattle.am_base.specs.Stamps.{stamp_lt, stamp_eq}
-use Rattle.am_model.specs.Node.{Node, view, is_member, set_at, has_departed}
+use Rattle.am_watch.proofs.Words.{or_parts, or-true, or-false, not-true, ◌≡◌, ◌≢◌, ℕ, ◌+◌, ◌<◌, ◌≤◌, Bool, true, false, not, ◌&&◌, ◌||◌, ◌==◌, if◌then◌else◌}
+use Rattle.am_watch.proofs.Words.{List, [], ◌∷◌, ◌++◌, length, map, filter, replicate, count_by, min, nat_le, nat_lt, Option, Some, None, slice_index_or}
+use Rattle.am_watch.proofs.Words.{slice_set, refl, sym, ap, ◌∙◌, subst, inl, inr, arith, set-set, get_or-set_same, get_or-set_other, length-set}
+use Rattle.am_watch.proofs.Words.{length-append, length-replicate, get_or-replicate, append-nil, map-append, get_or_past, filter-append, cases_lt}
+use Rattle.am_watch.proofs.Words.{list_any-append, nat_tests, list_any, Stamp, Entry, Data, Join, Leave, View, has, size, names_of, stamp_lt, stamp_eq, Node}
+use Rattle.am_watch.proofs.Words.{view, is_member, set_at, has_departed, Decided, World, last_view, Watch, is_view_of, split, and_both, DecidedView, Standing}
+use Rattle.am_watch.proofs.Words.{Pending, Watching, blank_standing, standing, is_by, number_of, or_else, same_flag, is_alike, with_standing, new_pending}
+use Rattle.am_watch.proofs.Words.{decided_views, with_decided, with_entries, store_view, note_entries, note_entry, is_view, finish, watch_step, pass}
+use Rattle.am_watch.proofs.Words.{place_among, accept, standing_of, view_of, decided_of, has_in_list, comes_after, Each, Sees, IsNoted, WatchesUpTo, Watches}
+use Rattle.am_watch.proofs.Words.{after, IsNew, Steps, SteppedTo, SameBut, StepsAreWatched, StopsAreWatched, OthersAreWatched, EntriesGoOn, AcceptedGoesOn}
 use Rattle.am_play.specs.World as run
-use Rattle.am_play.specs.World.{Decided, World, last_view}
-use Rattle.am_play.specs.Lawful.{Watch, is_view_of}
-use Rattle.am_base.proofs.Greatest.{split, and_both}
-use Rattle.am_watch.specs.declared.views.DecidedView.{DecidedView}
-use Rattle.am_watch.specs.declared.views.Standing.{Standing}
-use Rattle.am_watch.specs.declared.views.Pending.{Pending}
 use Rattle.am_watch.specs.Watching as kept
-use Rattle.am_watch.specs.Watching.{Watching, blank_standing, standing, is_by, number_of, or_else, same_flag, is_alike, with_standing, new_pending}
-use Rattle.am_watch.specs.Watching.{decided_views, with_decided}
-use Rattle.am_watch.specs.Watching.{with_entries, store_view, note_entries, note_entry, is_view, finish, watch_step, stop, pass, place_among, accept}
-use Rattle.am_watch.specs.Watches.{standing_of, view_of, decided_of, has_in_list, comes_after, Each, Sees, IsNoted, WatchesUpTo, Watches, after, IsNew, Steps}
-use Rattle.am_watch.specs.Watches.{SteppedTo, SameBut, StepsAreWatched, StopsAreWatched, OthersAreWatched, EntriesGoOn, AcceptedGoesOn}
-use Rattle.am_watch.proofs.Order.{same_stamp}
-use Rattle.am_watch.proofs.Folds.{each_of}
-use Rattle.am_watch.proofs.Numbers.{number_none, number_append}
-use Rattle.am_watch.proofs.Complete.{complete_is}
-use Rattle.am_watch.proofs.Looks.{IsReady, looks, passes}
+use Rattle.am_watch.proofs.{Order.same_stamp, Folds.each_of, Numbers.number_none, Numbers.number_append, Complete.complete_is, Looks.IsReady, Looks.looks}
+use Rattle.am_watch.proofs.{Looks.passes}
 
 -- ---- each of a list
 
@@ -51,14 +31,6 @@ map_same f g h [] = refl
 map_same f g h (x ∷ xs) = ap (λ y. y ∷ map g (map f xs)) (h x) ∙ ap (λ ys. g x ∷ ys) (map_same f g h xs)
 
 -- ---- what a name's step makes of the names
-
-or_false : (b : Bool) → (b || false) ≡ b
-or_false true = refl
-or_false false = refl
-
-or_true : (b : Bool) → (b || true) ≡ true
-or_true true = refl
-or_true false = refl
 
 standing_one : (k : Watching) (name other : ℕ) (after : Standing) → name < length k.names
     → standing (with_standing k name after) other ≡ (if other == name then after else standing k other)
@@ -102,10 +74,10 @@ set_one : (entries : List Entry) (name other : ℕ) (v : Pending) (old : Bool) �
     → slice_index_or (entered name entries v).stored other false ≡ (if other == name then old || list_any (is_view_of v.view.stamp) entries else old)
 set_one entries name other v old h is = split (list_any (is_view_of v.view.stamp) entries)
     (λ t. split (other == name)
-    (λ e. let same : other ≡ name = grind (arith, nat_tests) in rw t (rw e (rw same (get_or-set_same v.stored name true false h) ∙ sym (or_true old))))
+    (λ e. let same : other ≡ name = grind (arith, nat_tests) in rw t (rw e (rw same (get_or-set_same v.stored name true false h) ∙ sym (or-true old))))
     (λ e. let other_one : other ≢ name = λ same. not_same other name same e in rw t (rw e (get_or-set_other v.stored name other true false other_one ∙ is))))
     (λ t. split (other == name)
-    (λ e. rw t (rw e (is ∙ sym (or_false old))))
+    (λ e. rw t (rw e (is ∙ sym (or-false old))))
     (λ e. rw t (rw e is)))
   where
     not_same : (a b : ℕ) → a ≡ b → (a == b) ≡ false → ⊥
@@ -285,16 +257,11 @@ alike_parts before after h =
       view = sym (same_stamp before.view after.view a.0);
       gone = same_both _ _ b.0;
       from = number_same before.from after.from c.0;
-      start =
-          number_same before.start after.start c.1;
+      start = number_same before.start after.start c.1;
     }
 
 alike_self : (m : Standing) → IsAlike m m
 alike_self m = record { view = refl; gone = refl; from = refl; start = refl }
-
-alike_either : (b : Bool) (m after : Standing) → IsAlike m after → IsAlike m (if b then after else m)
-alike_either true m after h = h
-alike_either false m after h = alike_self m
 
 standings_alike : (k : Watching) (name other : ℕ) (after : Standing) → name < length k.names → IsAlike (standing k name) after
     → IsAlike (standing k other) (standing (with_standing k name after) other)
@@ -342,32 +309,13 @@ not_decided true true c h = rw h refl
 not_decided true false c h = refl
 not_decided false b c h = refl
 
-view_one : (s : Stamp) (e : Entry) → is_view e ≡ false → is_view_of s e ≡ false
-view_one s (Data from req body) h = refl
-view_one s (Join name) h = refl
-view_one s (Leave name) h = refl
+pub view_one : (s : Stamp) (e : Entry) → is_view e ≡ false → is_view_of s e ≡ false
 view_one s (View stamp members resilience) h = absurd (cc)
-
-or_parts : (a b : Bool) → (a || b) ≡ false → (a ≡ false) × (b ≡ false)
-or_parts false b h = (refl, h)
-or_parts true b h = absurd (cc)
-
-no_view : (s : Stamp) (entries : List Entry) → list_any is_view entries ≡ false → list_any (is_view_of s) entries ≡ false
-no_view s [] h = refl
-no_view s (e ∷ es) h =
-    let both = or_parts (is_view e) (list_any is_view es) h in
-    let one = view_one s e both.0 in
-    rw one (no_view s es both.1)
-
-not_true : (b : Bool) → not b ≡ true → b ≡ false
-not_true true h = sym h
-not_true false h = refl
+view_one s _ h = refl
 
 entry_none : (name : ℕ) (e : Entry) (ps : List Pending) → is_view e ≡ false → note_entry name e ps ≡ ps
-entry_none name (Data from req body) ps h = refl
-entry_none name (Join joiner) ps h = refl
-entry_none name (Leave leaver) ps h = refl
 entry_none name (View stamp members resilience) ps h = absurd (cc)
+entry_none name _ ps h = refl
 
 noted_none : (name : ℕ) (entries : List Entry) (ps : List Pending) → list_any is_view entries ≡ false → note_entries name entries ps ≡ ps
 unfolding note_entries
@@ -401,7 +349,7 @@ alike_step k s w name n entries more is steps to both =
     let n1 = standing_of n in
     let h : name < length k.names = let p = is.sees.places in let q = steps.within in omega arith in
     let alike : is_alike (standing k name) n1 ≡ true = (and_both _ _ both).0 in
-    let due : (k.is_due || list_any is_view entries) ≡ false = not_true _ (and_both _ _ both).1 in
+    let due : (k.is_due || list_any is_view entries) ≡ false = not-true _ (and_both _ _ both).1 in
     let none : list_any is_view entries ≡ false = (or_parts _ _ due).1 in
     let same : stamp_eq (standing k name).view n1.view ≡ true = (and_both _ _ alike).0 in
     let each : AreAlike k name n1 = λ other. standings_alike k name other n1 h (alike_parts _ _ alike) in
@@ -451,8 +399,7 @@ accepts group more k s is e =
       names = is.sees.names;
       places = is.sees.places;
       stopped = is.sees.stopped;
-      within =
-          λ name. (let h = is.sees.within name in omega arith);
+      within = λ name. (let h = is.sees.within name in omega arith);
       more = [];
       goes_on = sym (append-nil w.group);
     } in
@@ -548,7 +495,7 @@ noted_push name (x ∷ xs) e ps = noted_push name xs e (note_entry name x ps)
 
 any_push : (due : Bool) (xs : List Entry) (e : Entry) → (due || list_any is_view (xs ++ e ∷ [])) ≡ ((due || list_any is_view xs) || is_view e)
 any_push true xs e = refl
-any_push false xs e = list_any-append is_view xs (e ∷ []) ∙ ap (λ b. list_any is_view xs || b) (or_false (is_view e))
+any_push false xs e = list_any-append is_view xs (e ∷ []) ∙ ap (λ b. list_any is_view xs || b) (or-false (is_view e))
 
 pub entries_go_on : EntriesGoOn
 entries_go_on k name xs e = λ i. record k { pending = noted_push name xs e k.pending i; is_due = any_push k.is_due xs e i }

@@ -1,50 +1,19 @@
 -- What the changes of a step do to a node's entries, one after another.
-use Rattle.std.proofs.Common.{◌≡◌, ℕ, ◌≤◌, ◌==◌, ◌&&◌, ◌||◌, not, true, false, List, [], ◌∷◌, ◌++◌, refl, sym, ap, ◌∙◌, append_assoc, arith}
-use Rattle.am_base.specs.declared.outcome.Outcome.{Outcome}
-use Rattle.am_base.specs.declared.name.Stamp.{Stamp}
-use Rattle.am_base.specs.declared.image.Image.{Image}
-use Rattle.am_base.specs.declared.entry.Entry.{Entry}
-use Rattle.am_base.specs.declared.entry.Entry.TheVariants.{View, Leave}
-use Rattle.am_base.specs.Stamps.{stamp_eq}
-use Rattle.am_base.specs.Lists.{Log}
+use Rattle.am_watched.proofs.Words.{in_view_log, welcomed_none, logged, ◌≡◌, ℕ, ◌≤◌, ◌==◌, not, true, false, List, [], ◌∷◌, ◌++◌, refl, sym, ap, ◌∙◌}
+use Rattle.am_watched.proofs.Words.{append_assoc, arith, Outcome, Stamp, Image, Entry, View, Leave, stamp_eq, Log, Node, Ballot, view, acts, is_sequencer}
+use Rattle.am_watched.proofs.Words.{is_member, push_entry, has_log, Verdict, refresh, settle, hears_member, split, and_both, Cause, hears, HasOpen, Balloting}
+use Rattle.am_watched.proofs.Words.{with_more, without_one, as_it_is, Looks, finds_itself_out, decides, Change, refreshes, settles, numbers, stores}
+use Rattle.am_watched.proofs.Words.{begins_list, departs, looks, fetches, stores_view, asks_to_join, closes, Changes, unchanged, changed, rests_refresh}
+use Rattle.am_watched.proofs.Words.{rests_at_end, settle_is, HasNames, HeardNames, Balloted, changes_do}
 use Rattle.am_packet.specs.declared.packet.Packet.TheVariants as packet
-use Rattle.am_model.specs.declared.status.Status.{Status}
-use Rattle.am_model.specs.declared.status.Status.TheVariants as status
-use Rattle.am_model.specs.Node.{Node, Ballot, view, acts, is_sequencer, is_member, is_asking, push_entry, has_log}
-use Rattle.am_model.specs.Ballots.{Verdict}
-use Rattle.am_model.specs.Refresh.{refresh, settle}
-use Rattle.am_model.specs.Hearing.{hears_member, hears_in_view, hears_sequencer}
-use Rattle.am_base.proofs.Greatest.{split, and_both}
-use Rattle.am_effects.specs.Causes.{Cause, hears}
-use Rattle.am_effects.specs.Looks.{HasOpen, Balloting, with_more, without_one, as_it_is, Looks, finds_itself_out}
-use Rattle.am_effects.specs.Looks.{decides}
-use Rattle.am_effects.specs.Changes.{MayBeWelcomed, Change, refreshes, settles, numbers, stores, begins_list, departs}
-use Rattle.am_effects.specs.Changes.{looks, fetches, stores_view, asks_to_join, closes, Changes}
-use Rattle.am_effects.specs.Changes.{unchanged, changed}
-use Rattle.am_effects.proofs.Rests.{rests_refresh, rests_at_end, settle_is}
-use Rattle.am_laws.proofs.ViewNames.{HasNames, HeardNames}
-use Rattle.am_laws.proofs.ViewChanges.{Balloted, log_of_member, changes_do}
 
 -- ---- who has a list
 
 leads_log : (m : Node) → is_sequencer m ≡ true → has_log m.status ≡ true
-leads_log m h = log_of_member m.status (and_both (is_member m.status) (stamp_eq m.core.promise (view m)) (and_both (acts m) ((view m).by == m.core.who) h).0).0
+leads_log m h = logged m.status (and_both (is_member m.status) (stamp_eq m.core.promise (view m)) (and_both (acts m) ((view m).by == m.core.who) h).0).0
 
 hears_log : (m : Node) (s : ℕ) → hears_member m s ≡ true → has_log m.status ≡ true
-hears_log m s h = log_of_member m.status (and_both (not (s == m.core.who)) (is_member m.status) h).1
-
-in_view_log : (m : Node) (s : ℕ) (v : Stamp) → hears_sequencer m s v ≡ true → has_log m.status ≡ true
-in_view_log m s v h = hears_log m s (and_both (hears_member m s) (acts m && stamp_eq v (view m)) (and_both (hears_in_view m s v) (v.by == s) h).0).0
-
-none_of_asking : (s : Status) → is_member s ≡ false → (is_member s || is_asking s) ≡ true → has_log s ≡ false
-none_of_asking status.Stranger f h = absurd (cc)
-none_of_asking status.Asking f h = refl
-none_of_asking status.Member f h = absurd (cc)
-none_of_asking status.Departed f h = absurd (cc)
-
-pub welcomed_none : (m : Node) (s : ℕ) (v : Stamp) (base join : ℕ) (image : Image) → MayBeWelcomed m s v base join image → has_log m.status ≡ false
-welcomed_none m s v base join image may = none_of_asking m.status may.no_member
-    (and_both (not (s == m.core.who)) (is_member m.status || is_asking m.status) may.asks).1
+hears_log m s h = logged m.status (and_both (not (s == m.core.who)) (is_member m.status) h).1
 
 ballot_log : (m : Node) (b : Ballot) → HasOpen m b → Balloted m → has_log m.status ≡ true
 ballot_log m b open_ h = split (has_log m.status) (λ t. t) (λ f. absurd (let none = h.none f in let is = open_.last in cc))

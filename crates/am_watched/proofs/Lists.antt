@@ -1,29 +1,10 @@
 -- A name's step only adds entries to its list.
-use Rattle.std.proofs.Common.{◌≡◌, ℕ, ◌<◌, ◌≤◌, ◌==◌, Bool, true, false, if◌then◌else◌, List, [], ◌++◌, length, drop, refl, sym, ap, ◌∙◌, subst, arith}
-use Rattle.std.specs.Prelude.{All}
-use Rattle.std.proofs.lemmas.List.{append-nil}
-use Rattle.std.proofs.Math.Seq.{drop-append_seam}
-use Rattle.std.proofs.lemmas.Bool.Decides.{nat_tests}
-use Rattle.am_base.specs.Founding.{Rules, MayFound}
-use Rattle.am_base.specs.Names.{has}
-use Rattle.am_packet.specs.declared.packet.Packet.{Packet}
+use Rattle.am_watched.proofs.Words.{is_itself, ◌≡◌, ℕ, ◌<◌, ◌≤◌, ◌==◌, Bool, false, if◌then◌else◌, List, [], ◌++◌, length, drop, refl, sym, ap, ◌∙◌, subst}
+use Rattle.am_watched.proofs.Words.{arith, All, append-nil, drop-append_seam, Rules, MayFound, has, Packet, Event, Node, has_log, Step, World, start}
+use Rattle.am_watched.proofs.Words.{first_node, with_record, with_step, run, heard_by, split, Cause, Effect, actor, WasSentTo, IsCause, idles, stops, returns}
+use Rattle.am_watched.proofs.Words.{steps, along, EachKeeps, runs_keep, accepted_of, NodeNumbers, AllNamed, few_names, each_named, numbers_hold, AllViews}
+use Rattle.am_watched.proofs.Words.{heard_names, each_views, views_start, ListsGoOn}
 use Rattle.am_packet.specs.declared.packet.Packet.TheVariants as packet
-use Rattle.am_group.specs.declared.event.Event.{Event}
-use Rattle.am_model.specs.Node.{Node, has_log}
-use Rattle.am_model.specs.Emit.{Step}
-use Rattle.am_play.specs.World.{World, start, first_node, with_record, with_step, run}
-use Rattle.am_play.specs.Claims.{heard_by}
-use Rattle.am_base.proofs.Greatest.{split}
-use Rattle.am_effects.specs.Causes.{Cause}
-use Rattle.am_effects.specs.Effects.{Effect}
-use Rattle.am_effects.specs.Events.{actor, WasSentTo, IsCause, idles, stops, returns, steps}
-use Rattle.am_effects.proofs.Runs.{along, EachKeeps, runs_keep}
-use Rattle.am_laws.specs.Packets.{accepted_of}
-use Rattle.am_laws.specs.Numbers.{NodeNumbers}
-use Rattle.am_laws.proofs.Named.{AllNamed, few_names, each_named}
-use Rattle.am_laws.proofs.RunCounts.{numbers_hold}
-use Rattle.am_laws.proofs.Views.{AllViews, heard_names, each_views, views_start}
-use Rattle.am_watched.specs.Lists.{ListsGoOn}
 use Rattle.am_watched.proofs.Chains.{IsLonger, changes_longer, HeardLow, change_begins, changes_stay}
 
 -- without a list there are no entries
@@ -79,9 +60,6 @@ heard_low rules events e c cause = record {
       let here : All (λ n. n ≤ length w.group) (accepted_of p) = subst (λ (x : Packet). All (λ n. n ≤ length w.group) (accepted_of x)) was.is low in
       here 0 0 (omega arith));
 }
-
-is_itself : (name : ℕ) → (name == name) ≡ true
-is_itself name = grind (arith, nat_tests)
 
 pub lists_go_on : ListsGoOn
 unfolding with_step

@@ -1,39 +1,16 @@
 -- A view is noted with the members that its View names: in the step that decides it nothing changes them any more.
-use Rattle.std.proofs.Common.{◌≡◌, ◌⊎◌, inl, inr, ⊎_elim, ℕ, ◌+◌, ◌<◌, ◌==◌, ◌&&◌, ◌||◌, not, max, nat_lt, Bool, true, false, List, length, slice_index, Option}
-use Rattle.std.proofs.Common.{Some, None, refl, sym, ap, ◌∙◌, subst, arith}
-use Rattle.std.proofs.lemmas.Bool.Decides.{nat_tests}
-use Rattle.am_base.specs.declared.entry.Entry.{Entry}
-use Rattle.am_base.specs.declared.entry.Entry.TheVariants.{Data, Join, Leave, View}
-use Rattle.am_base.specs.declared.image.Vote.{Vote}
-use Rattle.am_base.specs.declared.image.Image.{Image}
-use Rattle.am_base.specs.declared.name.Stamp.{Stamp}
-use Rattle.am_base.specs.declared.outcome.Outcome.{Outcome}
+use Rattle.am_watched.proofs.Words.{welcomed_none, numbers_plain, or_second, stamp_itself, same_stamp, ◌≡◌, ◌⊎◌, inl, inr, ⊎_elim, ℕ, ◌+◌, ◌<◌, ◌==◌, ◌&&◌}
+use Rattle.am_watched.proofs.Words.{not, max, nat_lt, Bool, true, false, List, length, slice_index, Option, Some, None, refl, sym, ap, ◌∙◌, subst, arith}
+use Rattle.am_watched.proofs.Words.{nat_tests, Entry, Data, Join, Leave, View, Vote, Image, Stamp, Outcome, stamp_lt, stamp_eq, Log, members_of, fits}
+use Rattle.am_watched.proofs.Words.{entry_at, told_by, Node, Ballot, top, image_of, view, members, unsettled_count, push_entry, trim_up_to, has_log, Verdict}
+use Rattle.am_watched.proofs.Words.{overtake, need_of, left_in, trim_for, is_unfinished, is_view, refresh, split, and_both, Cause, calls, hears, was_reset}
+use Rattle.am_watched.proofs.Words.{was_handed, was_fetched, HasOpen, Balloting, with_more, without_one, as_it_is, Looks, finds_itself_out, decides, Numbers}
+use Rattle.am_watched.proofs.Words.{asked_send, own_send, asked_join, asked_leave, Carries, whole_entry, by_number, Change, refreshes, settles, numbers}
+use Rattle.am_watched.proofs.Words.{stores, begins_list, promises, opens, looks, fetches, stores_view, asks_to_leave, closes, rests_refresh, rests_at_end}
+use Rattle.am_watched.proofs.Words.{settle_is, told_pushed, view_pushed, at_most_below, entry_stays, after_same, view_last, view_there, Balloted}
+use Rattle.am_watched.proofs.Words.{data_members, viewed_members, those_some, those_long, NoOwnVote, own_need, looked_vote}
 use Rattle.am_base.specs.declared.event.NodeEvent.TheVariants as does
-use Rattle.am_base.specs.Stamps.{stamp_lt, stamp_eq}
-use Rattle.am_base.specs.Lists.{Log, members_of, fits, entry_at, told_by}
 use Rattle.am_packet.specs.declared.packet.Packet.TheVariants as packet
-use Rattle.am_model.specs.Node.{Node, Ballot, top, image_of, view, members, unsettled_count, push_entry, trim_up_to, has_log}
-use Rattle.am_model.specs.Ballots.{Verdict, overtake, need_of, left_in, trim_for}
-use Rattle.am_model.specs.Calls.{is_unfinished}
-use Rattle.am_model.specs.Receiving.{is_view}
-use Rattle.am_model.specs.Refresh.{refresh}
-use Rattle.am_base.proofs.Greatest.{split, and_both}
-use Rattle.am_effects.specs.Causes.{Cause, calls, hears}
-use Rattle.am_effects.specs.Looks.{was_reset, was_handed, was_fetched, HasOpen, Balloting, with_more, without_one, as_it_is, Looks, finds_itself_out}
-use Rattle.am_effects.specs.Looks.{decides}
-use Rattle.am_effects.specs.Changes.{Numbers, asked_send, own_send, asked_join, asked_leave, Carries, whole_entry, by_number, Change, refreshes, settles}
-use Rattle.am_effects.specs.Changes.{numbers, stores, begins_list, promises, opens, looks, fetches}
-use Rattle.am_effects.specs.Changes.{stores_view, asks_to_leave, closes}
-use Rattle.am_effects.proofs.Rests.{rests_refresh, rests_at_end, settle_is}
-use Rattle.am_effects.proofs.Says.{told_pushed, view_pushed}
-use Rattle.am_laws.proofs.Stamps.{same_stamp, at_most_below}
-use Rattle.am_laws.proofs.ViewSteps.{entry_stays, after_same, view_last, view_there}
-use Rattle.am_laws.proofs.ViewChanges.{Balloted}
-use Rattle.am_laws.proofs.Views.{same_is_equal}
-use Rattle.am_laws.proofs.ViewMembers.{data_members, viewed_members, those_some, those_long}
-use Rattle.am_laws.proofs.Trims.{NoOwnVote}
-use Rattle.am_laws.proofs.Taken.{own_need, looked_vote}
-use Rattle.am_watched.proofs.Chains.{welcomed_none}
 use Rattle.am_watched.proofs.Own.{Known, HeardOwn, looked_open}
 
 -- ---- what made a node look at its ballot
@@ -70,14 +47,14 @@ piece_stamp _ v = v
 fetched_for : (c : Cause) (v : Stamp) → LooksBy c v → (s : ℕ) (u : Stamp) (base number : ℕ) (e : Entry) → c ≡ hears (packet.Piece s u base number e)
     → stamp_eq v u ≡ false → ⊥
 unfolding piece_stamp
-fetched_for c v (by_vote s u shown is) s2 u2 base number e also below = absurd (cc)
-fetched_for c v (by_giving_up name is) s2 u2 base number e also below = absurd (cc)
-fetched_for c v (by_reset least resilience is) s2 u2 base number e also below = absurd (cc)
-fetched_for c v (by_hand_over s u is) s2 u2 base number e also below = absurd (cc)
 fetched_for c v (by_piece s u b2 n2 e2 is at) s2 u2 base number e also below =
     let same : u ≡ u2 = ap (λ x. piece_stamp x v) (sym is ∙ also) in
     let t : stamp_eq v u2 ≡ true = subst (λ x. stamp_eq v x ≡ true) same at in
     cc
+fetched_for c v (by_vote s u shown is) s2 u2 base number e also below = absurd (cc)
+fetched_for c v (by_giving_up name is) s2 u2 base number e also below = absurd (cc)
+fetched_for c v (by_reset least resilience is) s2 u2 base number e also below = absurd (cc)
+fetched_for c v (by_hand_over s u is) s2 u2 base number e also below = absurd (cc)
 
 looks_by : (c : Cause) (m : Node) (b : Ballot) → Balloting c m b → m.core.promise ≡ b.stamp → LooksBy c b.stamp
 looks_by c m b (with_more old s v shown is by low high open_ same stays) promised = by_vote s v shown is
@@ -86,7 +63,7 @@ looks_by c m b (as_it_is old open_ (was_reset least resilience is)) promised = b
 looks_by c m b (as_it_is old open_ (was_handed s v is)) promised = by_hand_over s v is
 looks_by c m b (as_it_is old open_ (was_fetched s v base number e is at)) promised =
     by_piece s v base number e is (subst (λ x. stamp_eq x v ≡ true) promised (let same = same_stamp v m.core.promise at in
-    subst (λ x. stamp_eq x v ≡ true) same (same_is_equal v)))
+    subst (λ x. stamp_eq x v ≡ true) same (stamp_itself v)))
 
 -- ---- a view along a step
 
@@ -111,8 +88,7 @@ viewed_same c old x y who log stays (as_before h) = as_before (ap (λ (l : Log).
 viewed_same c old x y who log stays (of_other h) = of_other ((λ i. (told_by (log i)).view.by == who i) ∙ h)
 viewed_same c old x y who log stays (decided h) = decided (record {
   whole = subst Whole (sym log) h.whole;
-  by =
-      subst (λ (l : Log). LooksBy c (told_by l).view) (sym log) h.by;
+  by = subst (λ (l : Log). LooksBy c (told_by l).view) (sym log) h.by;
   stays = stays ∙ h.stays;
 })
 
@@ -164,36 +140,25 @@ look_leaving : (m : Node) (b : Ballot) (v : Verdict) → Looks m b v → v.node.
 look_leaving m b v (finds_itself_out x) = refl
 look_leaving m b v _ = refl
 
-or_last : (a b : Bool) → (a || b) ≡ false → b ≡ false
-or_last true b h = absurd (cc)
-or_last false b h = h
-
 pub change_quiet : {c : Cause} {o : Outcome} (m n : Node) → Change c o m n → Quiet m → Quiet n
 change_quiet m n refreshes h = let r = (rests_refresh m).rests in λ t. r.leaving ∙ h (sym (ap is_unfinished r.ballot) ∙ t)
 change_quiet m n settles h = subst Quiet (sym (settle_is m)) h
 change_quiet m n (promises v low why) h = λ t. h (overtaken_quiet v m.ballot t)
 change_quiet m n (opens least resilience by may) h = λ t. may.stays
 change_quiet m n (looks b verdict over why look is) h = λ t. look_leaving m b verdict look ∙ looked_quiet _ m b why h
-change_quiet m n (asks_to_leave is was stays done) h = λ t. absurd (let f = or_last (nat_lt 0 (unsettled_count m)) (is_unfinished m.ballot) done in cc)
+change_quiet m n (asks_to_leave is was stays done) h = λ t. absurd (let f = or_second (nat_lt 0 (unsettled_count m)) (is_unfinished m.ballot) done in cc)
 change_quiet m n (closes leads leaves alone room) h = let r = (rests_at_end (push_entry m (Leave m.core.who))).rests in
     λ t. r.leaving ∙ h (sym (ap is_unfinished r.ballot) ∙ t)
 change_quiet m n _ h = h
 
 -- ---- each change
 
-numbers_plain : (c : Cause) (m : Node) (e : Entry) → Numbers c m e → is_view e ≡ false
-numbers_plain c m e (asked_send s v report req body by known stays next) = refl
-numbers_plain c m e (own_send s is last) = refl
-numbers_plain c m e (asked_join s v is other fit) = refl
-numbers_plain c m e (asked_leave s v report is other known stays) = refl
-
 fresh_numbered : (c : Cause) (m : Node) (e : Entry) → Numbers c m e → length (image_of m).rows ≡ 16 → IsFresh c m → IsFresh c (push_entry m e)
 fresh_numbered c m e (asked_send s v report req body by known stays next) long h =
     record { whole = whole_sent m s req body long h.whole; by = subst (LooksBy c) (sym (view_pushed m e refl)) h.by; stays = h.stays }
 fresh_numbered c m e (own_send s is last) long h = record {
   whole = whole_sent m m.core.who s.req s.body long h.whole;
-  by =
-      subst (LooksBy c) (sym (view_pushed m e refl)) h.by;
+  by = subst (LooksBy c) (sym (view_pushed m e refl)) h.by;
   stays = h.stays;
 }
 fresh_numbered c m e (asked_join s v is other fit) long h = absurd (never_both c (view m) h.by (subst Alters (sym is) tt))

@@ -1,39 +1,14 @@
 -- In each run each noted view has the members that its View names.
-use Rattle.std.proofs.Common.{◌≡◌, ℕ, ◌==◌, not, Bool, true, false, if◌then◌else◌, List, [], ◌∷◌, Some, refl, sym, ap, ◌∙◌, subst, arith}
-use Rattle.std.specs.Prelude.{All}
-use Rattle.std.proofs.lemmas.Bool.Decides.{nat_tests}
-use Rattle.std.proofs.lemmas.List.Elements.{All-nil, All-cons, All-append, All-weaker}
-use Rattle.am_base.specs.declared.entry.Entry.TheVariants.{View}
-use Rattle.am_base.specs.declared.outcome.Outcome.{Outcome}
-use Rattle.am_base.specs.Founding.{Rules, MayFound}
-use Rattle.am_base.specs.Names.{has}
-use Rattle.am_base.specs.Stamps.{stamp_lt, stamp_eq}
-use Rattle.am_base.specs.Lists.{entry_at, after, fold}
-use Rattle.am_group.specs.declared.event.Event.{Event}
-use Rattle.am_model.specs.Node.{Node, image_of, view, set_at, is_member, has_log}
-use Rattle.am_model.specs.Emit.{Step}
-use Rattle.am_play.specs.World.{Decided, World, start, first_node, founders_decided, last_view, views_after, with_record, with_step, run}
+use Rattle.am_watched.proofs.Words.{view_rises, is_itself, logged, stamp_itself, ◌≡◌, ℕ, ◌==◌, not, Bool, true, false, if◌then◌else◌, List, [], ◌∷◌, Some}
+use Rattle.am_watched.proofs.Words.{refl, sym, ap, ◌∙◌, subst, arith, All, nat_tests, All-nil, All-cons, All-append, All-weaker, View, Outcome, Rules}
+use Rattle.am_watched.proofs.Words.{MayFound, has, stamp_lt, stamp_eq, entry_at, after, fold, Event, Node, image_of, view, set_at, is_member, has_log, Step}
+use Rattle.am_watched.proofs.Words.{Decided, World, start, first_node, founders_decided, last_view, views_after, with_record, with_step, run, split, and_both}
+use Rattle.am_watched.proofs.Words.{Cause, Changes, no_change, changed, Effect, actor, IsCause, idles, stops, returns, steps, all_get, EachKeeps, runs_keep}
+use Rattle.am_watched.proofs.Words.{at_most, not_above_itself, few_names, change_named, first_founder, HeardNames, Does, change_does, changes_do, heard_names}
+use Rattle.am_watched.proofs.Words.{told_used, HeardUsed, Along, along_changes, AllOwned, each_along, heard_used, each_owned, owned_start, MembersHold}
 use Rattle.am_play.specs.World as runs
-use Rattle.am_base.proofs.Greatest.{split, and_both}
-use Rattle.am_effects.specs.Causes.{Cause}
-use Rattle.am_effects.specs.Changes.{Changes, unchanged as no_change, changed}
-use Rattle.am_effects.specs.Effects.{Effect}
-use Rattle.am_effects.specs.Events.{actor, IsCause, idles, stops, returns, steps}
-use Rattle.am_effects.proofs.Items.{all_get}
-use Rattle.am_effects.proofs.Runs.{EachKeeps, runs_keep}
-use Rattle.am_laws.proofs.Stamps.{at_most, not_above_itself}
-use Rattle.am_laws.proofs.Named.{few_names, change_named}
-use Rattle.am_model.proofs.Founders.{first_founder}
-use Rattle.am_laws.proofs.ViewNames.{HeardNames}
-use Rattle.am_laws.proofs.ViewChanges.{Does, change_does, changes_do, log_of_member}
-use Rattle.am_laws.proofs.Views.{heard_names, same_is_equal}
-use Rattle.am_laws.proofs.Trims.{told_used}
-use Rattle.am_laws.proofs.Taken.{HeardUsed}
-use Rattle.am_laws.proofs.TakenRuns.{Along, along_changes, AllOwned, each_along, heard_used, each_owned, owned_start}
-use Rattle.am_watched.specs.Members.{MembersHold}
-use Rattle.am_watched.proofs.Own.{HeardOwn, view_rises}
-use Rattle.am_watched.proofs.New.{AllOwn, heard_own, each_own, own_start}
 use Rattle.am_watched.proofs.Members.{Whole, Viewed, as_before, of_other, decided, Quiet, change_quiet, change_viewed}
+use Rattle.am_watched.proofs.{Own.HeardOwn, New.AllOwn, New.heard_own, New.each_own, New.own_start}
 
 -- ---- along a step
 
@@ -82,9 +57,6 @@ still_whole nodes name n v d h = split (v.stamp.by == name)
     record { log_ = rw t (d.log_ log); there = rw t ((d.goes log).stays v.number _ there) })
     (λ f. record { log_ = rw f h.log_; there = rw f h.there })
 
-is_itself : (name : ℕ) → (name == name) ≡ true
-is_itself name = grind (arith, nat_tests)
-
 views_whole : (nodes : ℕ → Node) (name : ℕ) (n : Node) (views : List Decided) → Does (nodes name) n → n.core.who ≡ name
     → (runs.decides (nodes name) n ≡ true → Whole n.core.log) → All (WholeView nodes) views
     → All (WholeView (set_at nodes name n)) (views_after views (nodes name) n)
@@ -98,7 +70,7 @@ views_whole nodes name n views d who new h =
     let by : (view n).by ≡ name = (let x : (view n).by ≡ n.core.who = (let y = b.0 in grind (arith, nat_tests)) in x ∙ who) in
     let at : set_at nodes name n (view n).by ≡ n = ap (set_at nodes name n) by ∙ ap (λ (q : Bool). if q then n else m) (is_itself name) in
     let one : WholeView (set_at nodes name n) (last_view n) = record {
-      log_ = ap (λ (x : Node). has_log x.status) at ∙ d.log_ (log_of_member m.status a.0);
+      log_ = ap (λ (x : Node). has_log x.status) at ∙ d.log_ (logged m.status a.0);
       there = ap (λ (x : Node). entry_at x.core.log (image_of n).view_number) at ∙ new t;
     } in
     rw t (All-append (WholeView (set_at nodes name n)) views (last_view n ∷ []) old
@@ -118,7 +90,7 @@ decided_whole : (c : Cause) (m n : Node) → runs.decides m n ≡ true → Viewe
 decided_whole c m n t (as_before same) = absurd (
     let a = and_both (is_member m.status) _ t in
     let b = and_both ((view n).by == n.core.who) (not (stamp_eq (view m) (view n))) a.1 in
-    let z : stamp_eq (view m) (view n) ≡ true = subst (λ v. stamp_eq (view m) v ≡ true) (sym same) (same_is_equal (view m)) in
+    let z : stamp_eq (view m) (view n) ≡ true = subst (λ v. stamp_eq (view m) v ≡ true) (sym same) (stamp_itself (view m)) in
     let y = rw z at b.1 in
     cc)
 decided_whole c m n t (of_other f) = absurd (
@@ -148,7 +120,7 @@ members_step rules w e c s cause effect own owned h =
     (let member = (and_both (is_member m.status) _ t).0 in
     let first : Going rules name c m m = record {
       along = start_;
-      log_ = log_of_member m.status member;
+      log_ = logged m.status member;
       up = not_above_itself (view m);
       who = views.named.who name;
       quiet = h.quiet name;

@@ -1,45 +1,17 @@
 -- In every run a view that is decided is a new one: its View stood nowhere before.
-use Rattle.std.proofs.Common.{◌≡◌, ◌⊎◌, ⊎_elim, ℕ, ◌-◌, ◌==◌, not, true, false, List, [], length, refl, sym, ap, ◌∙◌, subst, arith}
-use Rattle.std.specs.Prelude.{All}
-use Rattle.std.proofs.lemmas.Bool.Decides.{nat_tests}
-use Rattle.std.proofs.lemmas.List.Folds.{list_any_none}
-use Rattle.std.proofs.lemmas.List.Elements.{All-nil, All-cons, All-append, All-weaker, All-take, All-drop}
-use Rattle.am_base.specs.declared.name.Stamp.{Stamp}
-use Rattle.am_base.specs.declared.entry.Entry.{Entry}
-use Rattle.am_base.specs.declared.entry.Entry.TheVariants.{Data, Join, Leave, View}
-use Rattle.am_base.specs.Founding.{Rules, MayFound}
-use Rattle.am_base.specs.Names.{has, rank_of}
-use Rattle.am_base.specs.Stamps.{stamp_lt, stamp_eq, no_stamp}
-use Rattle.am_base.specs.Lists.{fold, after}
-use Rattle.am_packet.specs.declared.packet.Packet.{Packet}
+use Rattle.am_watched.proofs.Words.{view_rises, logged, stamp_itself, same_stamp, ◌≡◌, ◌⊎◌, ⊎_elim, ℕ, ◌-◌, ◌==◌, not, true, false, List, [], length, refl}
+use Rattle.am_watched.proofs.Words.{sym, ap, ◌∙◌, subst, arith, All, nat_tests, list_any_none, All-nil, All-cons, All-append, All-weaker, All-take, All-drop}
+use Rattle.am_watched.proofs.Words.{Stamp, Entry, View, Rules, MayFound, has, rank_of, stamp_lt, stamp_eq, no_stamp, fold, after, Packet, Letter, Event, Node}
+use Rattle.am_watched.proofs.Words.{view, acts, is_member, set_at, founders_view, lowest_or_first, has_log, Step, World, start, first_node, with_step}
+use Rattle.am_watched.proofs.Words.{group_after, run, is_view_of, heard_by, split, and_both, Cause, MayTell, leads, decided, Says, piece, result, LetterSays}
+use Rattle.am_watched.proofs.Words.{Effect, actor, WasSentTo, IsCause, all_get, all_item, EachKeeps, StepsKeep, SameParts, law_keeps, runs_keep, stamp_of}
+use Rattle.am_watched.proofs.Words.{first_founder, few_names, at_most, not_above_itself, SameView, Stood, Balloted, Does, changes_do, heard_names, says_stamp}
+use Rattle.am_watched.proofs.Words.{DecidedAreNew}
 use Rattle.am_packet.specs.declared.packet.Packet.TheVariants as packet
-use Rattle.am_packet.specs.Boxes.{Letter}
-use Rattle.am_group.specs.declared.event.Event.{Event}
 use Rattle.am_model.specs.declared.status.Status.TheVariants as status
-use Rattle.am_model.specs.Node.{Node, view, acts, is_member, set_at, founders_view, lowest_or_first, has_log}
-use Rattle.am_model.specs.Emit.{Step}
 use Rattle.am_play.specs.World as runs
-use Rattle.am_play.specs.World.{World, start, first_node, with_step, group_after, run}
-use Rattle.am_play.specs.Lawful.{is_view_of}
-use Rattle.am_play.specs.Claims.{heard_by}
-use Rattle.am_base.proofs.Greatest.{split, and_both}
-use Rattle.am_effects.specs.Causes.{Cause}
-use Rattle.am_effects.specs.Letters.{MayTell, leads, decided, Says}
-use Rattle.am_effects.specs.Letters.{piece, result, LetterSays}
-use Rattle.am_effects.specs.Effects.{Effect}
-use Rattle.am_effects.specs.Events.{actor, WasSentTo, IsCause}
-use Rattle.am_effects.proofs.Items.{all_get, all_item}
-use Rattle.am_effects.proofs.Runs.{EachKeeps, StepsKeep, SameParts, law_keeps, runs_keep}
-use Rattle.am_codec.specs.Spelling.{stamp_of}
-use Rattle.am_model.proofs.Founders.{first_founder}
-use Rattle.am_laws.proofs.Named.{few_names}
-use Rattle.am_laws.proofs.Stamps.{at_most, not_above_itself, same_stamp}
-use Rattle.am_laws.proofs.ViewSteps.{SameView, Stood}
-use Rattle.am_laws.proofs.ViewChanges.{Balloted, Does, log_of_member, changes_do}
-use Rattle.am_laws.proofs.Views.{heard_names, says_stamp}
-use Rattle.am_watched.specs.New.{DecidedAreNew}
-use Rattle.am_watched.proofs.Lists.{AllLists, each_lists, lists_start}
-use Rattle.am_watched.proofs.Own.{Below, IsKnown, Known, HeardOwn, Told, IsOwn, Chained, Along, known_chained, changes_along, view_rises}
+use Rattle.am_watched.proofs.{Lists.AllLists, Lists.each_lists, Lists.lists_start, Own.Below, Own.IsKnown, Own.Known, Own.HeardOwn, Own.Told, Own.IsOwn}
+use Rattle.am_watched.proofs.{Own.Chained, Own.Along, Own.known_chained, Own.changes_along}
 
 -- ---- what is so of a world
 
@@ -90,10 +62,8 @@ module _ (nodes : ℕ → Node) (name : ℕ) (n : Node) (d : Does (nodes name) n
       (λ f. record { low = rw f h.low; has_list = rw f h.has_list })
 
   known_up : (e : Entry) → Known nodes e → Known (set_at nodes name n) e
-  known_up (Data from req body) h = tt
-  known_up (Join joiner) h = tt
-  known_up (Leave leaver) h = tt
   known_up (View stamp names resilience) h = known_stamp stamp h
+  known_up _ h = tt
 
   own_known : (v : Stamp) → IsOwn name n v → IsKnown (set_at nodes name n) v
   own_known v o =
@@ -101,10 +71,8 @@ module _ (nodes : ℕ → Node) (name : ℕ) (n : Node) (d : Does (nodes name) n
       record { low = rw t o.low; has_list = rw t o.has_list }
 
   chained_known : (e : Entry) → Chained nodes name n e → Known (set_at nodes name n) e
-  chained_known (Data from req body) h = tt
-  chained_known (Join joiner) h = tt
-  chained_known (Leave leaver) h = tt
   chained_known (View stamp names resilience) h = ⊎_elim (λ (k : IsKnown nodes stamp). known_stamp stamp k) (λ (o : IsOwn name n stamp). own_known stamp o) h
+  chained_known _ h = tt
 
   packet_up : (p : Packet) → PacketKnown nodes p → PacketKnown (set_at nodes name n) p
   packet_up (packet.Piece s v base number e) h = known_up e h
@@ -131,7 +99,7 @@ says_known nodes m x c to p entries told own _ = tt
 tells_list : (n x : Node) → n ≡ record x { status = n.status } → (n.status ≡ x.status) ⊎ (n.status ≡ status.Departed) → Balloted n → MayTell x
     → has_log n.status ≡ true
 tells_list n x is stays b (leads l) = ⊎_elim
-    (λ (e : n.status ≡ x.status). ap has_log e ∙ log_of_member x.status
+    (λ (e : n.status ≡ x.status). ap has_log e ∙ logged x.status
     (and_both (is_member x.status) (stamp_eq x.core.promise (view x)) (and_both (acts x) ((view x).by == x.core.who) l).0).0)
     (λ (e : n.status ≡ status.Departed). ap has_log e)
     stays
@@ -140,9 +108,6 @@ tells_list n x is stays b (decided ballot number names there answer at) = split 
     (λ f. absurd (let none = b.none f in let same : n.ballot ≡ x.ballot = ap (λ (y : Node). y.ballot) is in cc))
 
 -- ---- a step of a world
-
-is_itself : (name : ℕ) → (name == name) ≡ true
-is_itself name = grind (arith, nat_tests)
 
 grown_known : (nodes : ℕ → Node) (group : List Entry) (n : Node) → All (Known nodes) group → All (Known nodes) n.core.log.entries
     → All (Known nodes) (group_after group n)
@@ -189,8 +154,7 @@ step_of rules w e c s cause effect h =
     record {
       does = g.does;
       balloted = g.does.balloted;
-      chain =
-          changes_along w.nodes name (heard_own rules w e c h cause) names m s.node effect.changes kept.names kept.balloted first;
+      chain = changes_along w.nodes name (heard_own rules w e c h cause) names m s.node effect.changes kept.names kept.balloted first;
     }
 
 own_step : (rules : Rules) → StepsKeep (AllLists rules) (AllOwn rules)
@@ -298,9 +262,6 @@ run_own rules events may = runs_keep (AllOwn rules) (each_own rules) (start rule
 
 -- ---- a decided view
 
-same_is_equal : (v : Stamp) → stamp_eq v v ≡ true
-same_is_equal v = let r : (v.round == v.round) ≡ true = grind (arith, nat_tests) in let n : (v.by == v.by) ≡ true = grind (arith, nat_tests) in rw (r, n) refl
-
 -- it is of the name, and above the name's view
 record IsDecided (name : ℕ) (m n : Node) : Type 0 where
   by : (view n).by ≡ name
@@ -310,11 +271,11 @@ is_decided : (name : ℕ) (m n : Node) → n.core.who ≡ name → Does m n → 
 is_decided name m n who d h =
     let a = and_both (is_member m.status) _ h in
     let b = and_both ((view n).by == n.core.who) (not (stamp_eq (view m) (view n))) a.1 in
-    let g = d.goes (log_of_member m.status a.0) in
+    let g = d.goes (logged m.status a.0) in
     let by : (view n).by ≡ n.core.who = let t = b.0 in grind (arith, nat_tests) in
     ⊎_elim
     (λ (s : SameView _ _). absurd (
-    let e : stamp_eq (view m) (view n) ≡ true = ap (λ (v : Stamp). stamp_eq (view m) v) s.view ∙ same_is_equal (view m) in
+    let e : stamp_eq (view m) (view n) ≡ true = ap (λ (v : Stamp). stamp_eq (view m) v) s.view ∙ stamp_itself (view m) in
     let x = rw e at b.1 in cc))
     (λ (s : (stamp_lt (view m) (view n) ≡ true) × Stood n.core.log). record { by = by ∙ who; above = s.0 })
     g.view
@@ -322,9 +283,6 @@ is_decided name m n who d h =
 -- no View that is known is its
 other_view : (nodes : ℕ → Node) (name : ℕ) (v : Stamp) → v.by ≡ name → stamp_lt (view (nodes name)) v ≡ true → (e : Entry) → Known nodes e
     → is_view_of v e ≡ false
-other_view nodes name v by above (Data from req body) h = refl
-other_view nodes name v by above (Join joiner) h = refl
-other_view nodes name v by above (Leave leaver) h = refl
 other_view nodes name v by above (View stamp names resilience) h = split (stamp_eq stamp v)
     (λ t.
     let same : stamp ≡ v = same_stamp stamp v t in
@@ -332,6 +290,7 @@ other_view nodes name v by above (View stamp names resilience) h = split (stamp_
     let mine : stamp_lt (view (nodes name)) v ≡ false = subst (λ k. stamp_lt (view (nodes k)) v ≡ false) by low in
     absurd (cc))
     (λ f. f)
+other_view nodes name v by above _ h = refl
 
 pub decided_are_new : DecidedAreNew
 decided_are_new rules events e c s may runs_ cause effect decides_ =

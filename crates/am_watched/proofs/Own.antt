@@ -1,37 +1,16 @@
 -- Views of a name come from that name alone: along the changes of a step, its promise never falls, what it tells is what it decided, and
 -- each View in its list is of another name's list or is not above its own view.
-use Rattle.std.proofs.Common.{◌≡◌, ◌⊎◌, inl, inr, ⊎_elim, ℕ, ◌+◌, ◌==◌, ◌||◌, not, Bool, true, false, List, [], ◌∷◌, ◌++◌, Option, Some, nat_lt, refl, sym, ap}
-use Rattle.std.proofs.Common.{◌∙◌, subst, arith}
-use Rattle.std.specs.Prelude.{All}
-use Rattle.std.proofs.lemmas.Bool.Decides.{nat_tests}
-use Rattle.std.proofs.lemmas.List.Elements.{All-nil, All-cons, All-append, All-weaker}
-use Rattle.am_base.specs.declared.outcome.Outcome.{Outcome}
+use Rattle.am_watched.proofs.Words.{eqb-false, not_both, view_rises, of_open, next_above, welcomed_none, eqb-true, ◌≡◌, ◌⊎◌, inl, inr, ⊎_elim, ℕ, ◌+◌, ◌==◌}
+use Rattle.am_watched.proofs.Words.{◌||◌, not, true, false, List, [], ◌∷◌, ◌++◌, Option, Some, refl, sym, ap, ◌∙◌, subst, arith, All, nat_tests, All-nil}
+use Rattle.am_watched.proofs.Words.{All-cons, All-append, All-weaker, Outcome, Stamp, Entry, Leave, View, stamp_lt, Log, Packet, Node, Ballot, view}
+use Rattle.am_watched.proofs.Words.{is_member, is_asking, push_entry, has_log, Verdict, next_stamp, need_of, left_in, trim_for, refresh, settle, is_view}
+use Rattle.am_watched.proofs.Words.{and_both, Cause, hears, Balloting, with_more, without_one, as_it_is, Looks, decides, Promises, invited, overtaken_by}
+use Rattle.am_watched.proofs.Words.{told_result, Change, refreshes, settles, numbers, stores, begins_list, promises, opens, looks, fetches, stores_view}
+use Rattle.am_watched.proofs.Words.{closes, Changes, unchanged, changed, rests_refresh, rests_at_end, settle_is, stamp_of, at_most, not_above}
+use Rattle.am_watched.proofs.Words.{not_above_itself, HasNames, HeardNames, view_last, Balloted, IsOpen, Does, changes_do, numbers_plain}
 use Rattle.am_base.specs.declared.outcome.Outcome.TheVariants as said
-use Rattle.am_base.specs.declared.name.Stamp.{Stamp}
-use Rattle.am_base.specs.declared.entry.Entry.{Entry}
-use Rattle.am_base.specs.declared.entry.Entry.TheVariants.{Data, Join, Leave, View}
-use Rattle.am_base.specs.Stamps.{stamp_lt}
-use Rattle.am_base.specs.Lists.{Log}
-use Rattle.am_packet.specs.declared.packet.Packet.{Packet}
 use Rattle.am_packet.specs.declared.packet.Packet.TheVariants as packet
-use Rattle.am_model.specs.Node.{Node, Ballot, view, is_member, is_asking, push_entry, has_log}
-use Rattle.am_model.specs.Ballots.{Verdict, next_stamp, need_of, left_in, trim_for}
-use Rattle.am_model.specs.Refresh.{refresh, settle}
-use Rattle.am_model.specs.Receiving.{is_view}
-use Rattle.am_base.proofs.Greatest.{and_both}
-use Rattle.am_effects.specs.Causes.{Cause, hears}
-use Rattle.am_effects.specs.Looks.{HasOpen, Balloting, with_more, without_one, as_it_is, Looks}
-use Rattle.am_effects.specs.Looks.{decides}
-use Rattle.am_effects.specs.Changes.{Promises, invited, overtaken as overtaken_by, told_result, Change}
-use Rattle.am_effects.specs.Changes.{refreshes, settles, numbers, stores, begins_list, promises, opens, looks}
-use Rattle.am_effects.specs.Changes.{fetches, stores_view, closes, Changes, unchanged, changed}
-use Rattle.am_effects.proofs.Rests.{rests_refresh, rests_at_end, settle_is}
-use Rattle.am_codec.specs.Spelling.{stamp_of}
-use Rattle.am_laws.proofs.Stamps.{at_most, not_above, not_above_itself}
-use Rattle.am_laws.proofs.ViewNames.{HasNames, HeardNames}
-use Rattle.am_laws.proofs.ViewSteps.{Goes, SameView, Stood, view_last}
-use Rattle.am_laws.proofs.ViewChanges.{Balloted, IsOpen, OpenBallot, Does, changes_do, numbers_plain}
-use Rattle.am_watched.proofs.Chains.{welcomed_none, looked_log}
+use Rattle.am_watched.proofs.Chains.{looked_log}
 
 -- ---- what is known of nodes before a step
 
@@ -45,10 +24,8 @@ pub record IsKnown (nodes : ℕ → Node) (v : Stamp) : Type 0 where
   pub has_list : has_log (nodes v.by).status ≡ true
 
 abbrev pub Known : (ℕ → Node) → Entry → Type 0
-Known nodes (Data from req body) = Unit {0}
-Known nodes (Join name) = Unit {0}
-Known nodes (Leave name) = Unit {0}
 Known nodes (View stamp names resilience) = IsKnown nodes stamp
+Known nodes _ = Unit {0}
 
 -- what is heard was known
 pub record HeardOwn (nodes : ℕ → Node) (c : Cause) : Type 0 where
@@ -69,10 +46,8 @@ pub record IsOwn (name : ℕ) (x : Node) (v : Stamp) : Type 0 where
   pub has_list : has_log x.status ≡ true
 
 abbrev pub Chained : (ℕ → Node) → ℕ → Node → Entry → Type 0
-Chained nodes name x (Data from req body) = Unit {0}
-Chained nodes name x (Join joiner) = Unit {0}
-Chained nodes name x (Leave leaver) = Unit {0}
 Chained nodes name x (View stamp names resilience) = IsKnown nodes stamp ⊎ IsOwn name x stamp
+Chained nodes name x _ = Unit {0}
 
 pub record Along (nodes : ℕ → Node) (name : ℕ) (x : Node) : Type 0 where
   pub who : x.core.who ≡ name
@@ -81,37 +56,24 @@ pub record Along (nodes : ℕ → Node) (name : ℕ) (x : Node) : Type 0 where
   pub told : Told x.core.who x.core.promise x.ballot
   pub entries : All (Chained nodes name x) x.core.log.entries
 
-pub view_rises : (m n : Node) → Goes m.core.log n.core.log → stamp_lt (view n) (view m) ≡ false
-view_rises m n g = ⊎_elim
-    (λ (s : SameView _ _). subst (λ (v : Stamp). stamp_lt v (view m) ≡ false) (sym s.view) (not_above_itself (view m)))
-    (λ (s : (stamp_lt (view m) (view n) ≡ true) × Stood n.core.log). not_above (view m) (view n) s.0)
-    g.view
-
 chained_up : (nodes : ℕ → Node) (name : ℕ) (x y : Node) → Does x y → (e : Entry) → Chained nodes name x e → Chained nodes name y e
-chained_up nodes name x y d (Data from req body) h = tt
-chained_up nodes name x y d (Join joiner) h = tt
-chained_up nodes name x y d (Leave leaver) h = tt
 chained_up nodes name x y d (View stamp names resilience) h = ⊎_elim
     (λ (k : IsKnown nodes stamp). inl k)
     (λ (o : IsOwn name x stamp). inr (record {
       by = o.by;
       low = at_most stamp (view x) (view y) o.low (view_rises x y (d.goes o.has_list));
-      has_list =
-          d.log_ o.has_list;
+      has_list = d.log_ o.has_list;
     }))
     h
+chained_up nodes name x y d _ h = tt
 
 pub known_chained : (nodes : ℕ → Node) (name : ℕ) (x : Node) (e : Entry) → Known nodes e → Chained nodes name x e
-known_chained nodes name x (Data from req body) h = tt
-known_chained nodes name x (Join joiner) h = tt
-known_chained nodes name x (Leave leaver) h = tt
 known_chained nodes name x (View stamp names resilience) h = inl h
+known_chained nodes name x _ h = tt
 
 plain_chained : (nodes : ℕ → Node) (name : ℕ) (x : Node) (e : Entry) → is_view e ≡ false → Chained nodes name x e
-plain_chained nodes name x (Data from req body) h = tt
-plain_chained nodes name x (Join joiner) h = tt
-plain_chained nodes name x (Leave leaver) h = tt
 plain_chained nodes name x (View stamp names resilience) h = absurd (cc)
+plain_chained nodes name x _ h = tt
 
 -- ---- the kinds of changes
 
@@ -140,35 +102,23 @@ along_pushed nodes name x y e who promise entries ballot new d h = record {
 
 -- ---- promises
 
-not_itself : (a b : ℕ) → (a == b) ≡ false → a ≡ b → ⊥
-not_itself a b f e = grind (arith, nat_tests)
-
-same_by : (a b : ℕ) → (a == b) ≡ true → a ≡ b
-same_by a b t = grind (arith, nat_tests)
-
-true_false : {G : Type 0} (b : Bool) → b ≡ true → b ≡ false → G
-true_false b t f = absurd (cc)
-
 -- no promise of another's ballot, or of one that is heard of, is the node's own
 not_own : (nodes : ℕ → Node) (name : ℕ) (c : Cause) (x : Node) (v : Stamp) → HeardOwn nodes c → Promises c x v → Along nodes name x → v.by ≡ x.core.who → ⊥
 not_own nodes name c x v heard (invited s _ is by own) h e =
     let other = (and_both (not (s == x.core.who)) (is_member x.status || is_asking x.status) by).0 in
-    let same : s ≡ x.core.who = sym (same_by v.by s own) ∙ e in
+    let same : s ≡ x.core.who = sym (eqb-true v.by s own) ∙ e in
     grind (arith, nat_tests)
 not_own nodes name c x v heard (overtaken_by s _ shown is by above) h e =
     let low : Below nodes v = heard.stamp (packet.Vote s v shown) is in
     let mine : stamp_lt (nodes name).core.promise v ≡ false = subst (λ k. stamp_lt (nodes k).core.promise v ≡ false) (e ∙ h.who) low in
     let up : stamp_lt x.core.promise v ≡ false = at_most v (nodes name).core.promise x.core.promise mine h.rises in
-    true_false (stamp_lt x.core.promise v) above up
-not_own nodes name c x v heard (told_result s _ base number names resilience is by own other) h e = not_itself v.by x.core.who other e
+    not_both (stamp_lt x.core.promise v) above up
+not_own nodes name c x v heard (told_result s _ base number names resilience is by own other) h e = eqb-false v.by x.core.who other e
 
 heard_promise : (nodes : ℕ → Node) (c : Cause) (x : Node) (v : Stamp) → HeardOwn nodes c → Promises c x v → Below nodes v
 heard_promise nodes c x v heard (invited s _ is by own) = heard.stamp (packet.Invite s v) is
 heard_promise nodes c x v heard (overtaken_by s _ shown is by above) = heard.stamp (packet.Vote s v shown) is
 heard_promise nodes c x v heard (told_result s _ base number names resilience is by own other) = heard.stamp (packet.Result s v base number names resilience) is
-
-next_above : (promise : Stamp) (who : ℕ) → stamp_lt promise (record { round = promise.round + 1; by = who }) ≡ true
-next_above promise who = let t : nat_lt promise.round (promise.round + 1) ≡ true = grind (arith, nat_tests) in rw t refl
 
 -- ---- looks
 
@@ -179,8 +129,7 @@ look_along nodes name x b v (decides may) d o log h =
     let same : view v.node ≡ b.stamp = view_last (trim_for x b names) b.stamp names _ in
     let own : IsOwn name v.node b.stamp = record {
       by = o.own ∙ h.who;
-      low =
-          subst (λ (s : Stamp). stamp_lt s b.stamp ≡ false) (sym same) (not_above_itself b.stamp);
+      low = subst (λ (s : Stamp). stamp_lt s b.stamp ≡ false) (sym same) (not_above_itself b.stamp);
       has_list = log;
     } in
     record {
@@ -199,10 +148,6 @@ look_along nodes name x b v _ d o log h = record {
   told = record { is = λ b2 number names is answer own. absurd (cc) };
   entries = All-weaker (Chained nodes name x) (Chained nodes name v.node) (chained_up nodes name x v.node d) x.core.log.entries h.entries;
 }
-
--- the ballot that is looked at is open, with the promise
-of_open : (m : Node) (b : Ballot) → HasOpen m b → Balloted m → IsOpen m.core.who m.core.promise (view m) b
-of_open m b o h = subst (OpenBallot m.core.who m.core.promise (view m)) o.last h.opened o.open_
 
 pub looked_open : {c : Cause} (m : Node) (b : Ballot) → Balloting c m b → Balloted m → IsOpen m.core.who m.core.promise (view m) b
 looked_open m b (with_more old s v shown is by low high open_ same stays) h =
@@ -244,7 +189,7 @@ change_along nodes name heard x y (opens least resilience by may) d k h = record
   who = h.who;
   rises = at_most (nodes name).core.promise x.core.promise (next_stamp x) h.rises
       (not_above x.core.promise (next_stamp x) (next_above x.core.promise x.core.who));
-  below = λ f. absurd (not_itself x.core.who name f h.who);
+  below = λ f. absurd (eqb-false x.core.who name f h.who);
   told = record { is = λ b number names there answer own. absurd (cc) };
   entries = All-weaker (Chained nodes name x) (Chained nodes name y) (chained_up nodes name x y d) x.core.log.entries h.entries;
 }

@@ -1,29 +1,16 @@
 -- What is kept goes on with the watched run of one event more.
-use Rattle.std.proofs.Common.{◌≡◌, ℕ, ◌+◌, ◌<◌, ◌≤◌, true, List, [], ◌∷◌, ◌++◌, length, refl, sym, ap, ◌∙◌, subst}
-use Rattle.std.specs.List.{list_any}
-use Rattle.std.proofs.lemmas.List.Folds.{list_any-append}
-use Rattle.am_base.specs.declared.entry.Entry.{Entry}
-use Rattle.am_base.specs.Founding.{Rules}
-use Rattle.am_group.specs.declared.event.Event.{Event}
-use Rattle.am_model.specs.Node.{Node, view}
+use Rattle.am_watched.proofs.Words.{◌≡◌, ℕ, ◌+◌, ◌<◌, ◌≤◌, true, List, [], ◌∷◌, ◌++◌, length, refl, sym, ap, ◌∙◌, subst, list_any, list_any-append, Entry}
+use Rattle.am_watched.proofs.Words.{Rules, Event, Node, view, World, run, happens, with_record, lives_on, current, is_stopped, Watch, watch_start, watch}
+use Rattle.am_watched.proofs.Words.{watch_all, watch_run, is_view_of, split, watched_is_run, actor, Watching, watch_step, stop, pass, accept, Watches}
+use Rattle.am_watched.proofs.Words.{standing_of, view_of, additions, IsNew, Steps, SteppedTo, SameBut, beginning_is_watched, steps_are_watched}
+use Rattle.am_watched.proofs.Words.{stops_are_watched, others_are_watched, watched_after, same_unchanged, same_stopped, same_lives, stepped_to, stored_since}
+use Rattle.am_watched.proofs.Words.{BeginningIsKept, BreakIsKept, after_step, StepIsWatched, StopIsWatched, ReturnIsWatched, PassIsWatched}
+use Rattle.am_watch.specs.Watches.{after}
 use Rattle.am_play.specs.World as runs
-use Rattle.am_play.specs.World.{World, run, happens, with_record, lives_on, current, is_stopped}
-use Rattle.am_play.specs.Lawful.{Watch, watch_start, watch, watch_all, watch_run, is_view_of}
-use Rattle.am_base.proofs.Greatest.{split}
-use Rattle.am_play.proofs.Runs.{watched_is_run}
-use Rattle.am_effects.specs.Events.{actor}
-use Rattle.am_watch.specs.Watching.{Watching, watch_step, stop, pass, accept}
-use Rattle.am_watch.specs.Watches.{Watches, standing_of, view_of, additions, after, IsNew, Steps, SteppedTo, SameBut}
-use Rattle.am_watch.proofs.Begins.{beginning_is_watched}
-use Rattle.am_watch.proofs.Steps.{steps_are_watched, stops_are_watched, others_are_watched}
-use Rattle.am_watch.proofs.Events.{watched_after, same_unchanged, same_stopped, same_lives, stepped_to}
-use Rattle.am_watched.specs.Lists.{stored_since}
-use Rattle.am_watched.specs.Watched.{BeginningIsKept, BreakIsKept, after_step, StepIsWatched, StopIsWatched, ReturnIsWatched, PassIsWatched}
-use Rattle.am_watched.proofs.Lists.{lists_go_on}
-use Rattle.am_watched.proofs.New.{decided_are_new}
+use Rattle.am_watched.proofs.{Lists.lists_go_on, New.decided_are_new}
 
 -- one event more
-watch_push : (s : Watch) (events : List Event) (e : Event) → watch_all s (events ++ e ∷ []) ≡ watch (watch_all s events) e
+pub watch_push : (s : Watch) (events : List Event) (e : Event) → watch_all s (events ++ e ∷ []) ≡ watch (watch_all s events) e
 unfolding watch_all
 watch_push s [] e = refl
 watch_push s (x ∷ xs) e = watch_push (watch s x) xs e

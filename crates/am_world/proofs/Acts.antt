@@ -1,41 +1,14 @@
 -- A name's node does a step.
-use Rattle.std.proofs.Common.{◌≡◌, ℕ, ◌+◌, ◌-◌, ◌<◌, ◌≤◌, ◌==◌, max, Bool, true, false, if◌then◌else◌, List, [], ◌∷◌, ◌++◌, length, take, drop, Ok, Some}
-use Rattle.std.proofs.Common.{slice_get, slice_set, refl, sym, ap, ◌∙◌, subst, arith, length-append, length-drop}
-use Rattle.std.proofs.lemmas.List.{length-take, length-set, drop-drop}
-use Rattle.std.proofs.lemmas.Bool.Decides.{nat_tests}
-use Rattle.am_base.specs.Most.{most_events}
-use Rattle.am_base.specs.declared.entry.Entry.{Entry}
-use Rattle.am_base.specs.declared.image.Image.{Image}
-use Rattle.am_base.specs.declared.name.Stamp.{Stamp}
-use Rattle.am_base.specs.declared.outcome.Outcome.{Outcome}
-use Rattle.am_base.specs.declared.event.NodeEvent.{NodeEvent}
-use Rattle.am_base.specs.Founding.{Rules}
-use Rattle.am_base.specs.Names.{place_of}
-use Rattle.am_packet.specs.Boxes.{Letter}
-use Rattle.am_core.specs.Cores.{CoreState, IsInOrder}
-use Rattle.am_core.proofs.Ends.{end-told}
-use Rattle.am_group.specs.declared.event.Event.{Event}
-use Rattle.am_group.specs.declared.event.Record.{Record}
+use Rattle.am_world.proofs.Words.{◌≡◌, ℕ, ◌+◌, ◌-◌, ◌<◌, ◌≤◌, ◌==◌, max, Bool, true, false, if◌then◌else◌, List, [], ◌∷◌, ◌++◌, length, take, drop, Ok, Some}
+use Rattle.am_world.proofs.Words.{slice_get, slice_set, refl, sym, ap, ◌∙◌, subst, arith, length-append, length-drop, length-take, length-set, drop-drop}
+use Rattle.am_world.proofs.Words.{nat_tests, most_events, Entry, Image, Stamp, Outcome, NodeEvent, Rules, place_of, Letter, CoreState, IsInOrder, end-told}
+use Rattle.am_world.proofs.Words.{Event, Record, view, step, happens, current, with_step, group_with, group_after, record_of, IsEndOf, Node, state_of}
+use Rattle.am_world.proofs.Words.{HasNumbersLeft, Play, replay, after, AreNodes, AreLives, AreFlags, IsRun, play_of, Answers, comes, IsReadyAt, StepsAt}
+use Rattle.am_world.proofs.Words.{end_high, step_end, NodeNumbers, get_some}
 use Rattle.am_model.specs.Node as protocol
-use Rattle.am_model.specs.Node.{view}
-use Rattle.am_model.specs.Step.{step}
 use Rattle.am_play.specs.World as model
-use Rattle.am_play.specs.World.{happens, current, with_step, group_with, group_after, record_of}
-use Rattle.am_model.specs.Ends.{IsEndOf}
-use Rattle.am_node.specs.declared.node.Node.{Node}
-use Rattle.am_node.specs.Stands.{state_of}
-use Rattle.am_info.specs.Nodes.{HasNumbersLeft}
-use Rattle.am_world.specs.Runs.{Play, replay, after, AreNodes, AreLives, AreFlags, IsRun, play_of, Answers}
-use Rattle.am_world.specs.Asked.{comes}
-use Rattle.am_world.specs.Moves.{IsReadyAt, StepsAt}
-use Rattle.am_ends.proofs.Steps.{end_high, step_end}
-use Rattle.am_laws.specs.Numbers.{NodeNumbers}
-use Rattle.am_world.proofs.Numbers.{low, trimmed_low}
-use Rattle.am_group.proofs.Places.{get_some}
-use Rattle.am_world.proofs.Spots.{get_set_here, get_set_other}
-use Rattle.am_world.proofs.Comes.{place_now}
-use Rattle.am_world.proofs.Begins.{Keeps}
-use Rattle.am_world.proofs.Goes.{IsRecorded, Follows, goes_on, shows_at, replay_after}
+use Rattle.am_world.proofs.{Numbers.low, Numbers.trimmed_low, Spots.get_set_here, Spots.get_set_other, Comes.place_now, Begins.Keeps, Goes.IsRecorded}
+use Rattle.am_world.proofs.{Goes.Follows, Goes.goes_on, Goes.shows_at, Goes.replay_after}
 
 -- ---- the end of a node
 

@@ -1,19 +1,9 @@
 -- A world begins as its run.
-use Rattle.std.proofs.Common.{◌≡◌, ⊎_elim, ℕ, zero, suc, ◌+◌, ◌<◌, Bool, true, false, if◌then◌else◌, List, [], ◌∷◌, ◌++◌, length, replicate, Some, slice_get}
-use Rattle.std.proofs.Common.{slice_index, slice_index_or, refl, sym, ap, ◌∙◌, subst, arith, length-append}
-use Rattle.std.proofs.lemmas.List.{length-replicate}
-use Rattle.am_base.specs.Founding.{Rules, MayFound}
-use Rattle.am_base.specs.Names.{has, name_at}
-use Rattle.am_core.specs.Cores.{IsInOrder}
+use Rattle.am_world.proofs.Words.{◌≡◌, ⊎_elim, ℕ, zero, suc, ◌+◌, ◌<◌, Bool, true, false, if◌then◌else◌, List, [], ◌∷◌, ◌++◌, length, replicate, Some}
+use Rattle.am_world.proofs.Words.{slice_get, slice_index, slice_index_or, refl, sym, ap, ◌∙◌, subst, arith, length-append, length-replicate, Rules, MayFound}
+use Rattle.am_world.proofs.Words.{has, name_at, IsInOrder, founder, stranger, founders_view, start, first_node, happen, IsEndOf, own_end, Node, state_of}
+use Rattle.am_world.proofs.Words.{AreNodes, AreFirst, AreLives, AreFlags, IsRun, play_of, get_push}
 use Rattle.am_model.specs.Node as protocol
-use Rattle.am_model.specs.Node.{founder, stranger, founders_view}
-use Rattle.am_play.specs.World.{start, first_node, happen}
-use Rattle.am_model.specs.Ends.{IsEndOf}
-use Rattle.am_ends.proofs.Steps.{own_end}
-use Rattle.am_node.specs.declared.node.Node.{Node}
-use Rattle.am_node.specs.Stands.{state_of}
-use Rattle.am_world.specs.Runs.{AreNodes, AreFirst, AreLives, AreFlags, IsRun, play_of}
-use Rattle.am_effects.proofs.Items.{get_push}
 
 stranger_order : (rules : Rules) (name : ℕ) → IsInOrder (stranger rules name).core
 stranger_order rules name = record { kept = refl; let_go = omega arith; given = omega arith; accepted = omega arith }

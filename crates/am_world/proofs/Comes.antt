@@ -1,27 +1,13 @@
 -- What an event asks of a node, or its answer without one, comes to what the run makes of it.
-use Rattle.std.proofs.Common.{◌≡◌, ℕ, ◌+◌, ◌<◌, ◌==◌, ◌||◌, not, Bool, true, false, if◌then◌else◌, List, [], ◌∷◌, ◌++◌, Option, Some, None, Result, Ok, Err}
-use Rattle.std.proofs.Common.{refl, sym, ap, ◌∙◌, subst, arith}
-use Rattle.std.specs.Prelude.{OnOk}
-use Rattle.am_base.specs.Names.{place_of, life_of, name_at}
-use Rattle.am_base.specs.declared.outcome.Outcome.{Outcome}
+use Rattle.am_world.proofs.Words.{◌≡◌, ℕ, ◌+◌, ◌<◌, ◌==◌, ◌||◌, not, Bool, true, false, if◌then◌else◌, List, [], ◌∷◌, ◌++◌, Option, Some, None, Result, Err}
+use Rattle.am_world.proofs.Words.{refl, sym, ap, ◌∙◌, subst, arith, OnOk, on_ok_weaker, place_of, life_of, name_at, Outcome, NodeEvent, Packet, Letter}
+use Rattle.am_world.proofs.Words.{IsPacket, spelling, Act, Event, letter_at, is_for, Step, step, hear, World, current, is_stopped, with_record, with_step}
+use Rattle.am_world.proofs.Words.{hears_letter, hear_cut, comes_back, lives_on, acts_as, happens, has_departed, spelling_is_heard, cut_is_heard, flag_of}
+use Rattle.am_world.proofs.Words.{if_running, first_bytes, gives_up, stops, returns, event_or_answer, SpellsPacket, after_answer, comes}
+use Rattle.am_world.specs.Asked.{hears}
 use Rattle.am_base.specs.declared.outcome.Outcome.TheVariants as said
-use Rattle.am_base.specs.declared.event.NodeEvent.{NodeEvent}
 use Rattle.am_base.specs.declared.event.NodeEvent.TheVariants as does
-use Rattle.am_packet.specs.declared.packet.Packet.{Packet}
-use Rattle.am_packet.specs.Boxes.{Letter}
-use Rattle.am_codec.specs.Limits.{IsPacket}
-use Rattle.am_codec.specs.Spelling.{spelling}
-use Rattle.am_group.specs.declared.event.Act.{Act}
 use Rattle.am_group.specs.declared.event.Act.TheVariants as act
-use Rattle.am_group.specs.declared.event.Event.{Event}
-use Rattle.am_group.specs.Journals.{letter_at}
-use Rattle.am_group.specs.Addressed.{is_for}
-use Rattle.am_model.specs.Emit.{Step}
-use Rattle.am_model.specs.Step.{step, hear}
-use Rattle.am_play.specs.World.{World, current, is_stopped, with_record, with_step, hears_letter, hear_cut, comes_back, lives_on, acts_as, happens}
-use Rattle.am_model.specs.Node.{has_departed}
-use Rattle.am_meaning.proofs.Bytes.{spelling_is_heard, cut_is_heard}
-use Rattle.am_world.specs.Asked.{flag_of, if_running, first_bytes, hears, gives_up, stops, returns, event_or_answer, SpellsPacket, after_answer, comes}
 
 -- ---- names of places
 
@@ -69,10 +55,6 @@ letter_case w e false stopped what s h = refl
 letter_case w e true true what s h = refl
 letter_case w e true false what s h = ap (with_step w e (name_of w e)) (sym h)
 
-pub on_ok : {T E : Type 0} {P Q : Type 0} (r : Result T E) → (P → Q) → OnOk r P → OnOk r Q
-on_ok (Ok x) f h = f h
-on_ok (Err x) f h = h
-
 hear_case : (w : World) (e : Event) (keep : Option ℕ) (stopped : Bool) (hearing : Packet → Step) (found : Option Letter)
     → ((p : Packet) → IsPacket p → step (w.nodes (name_of w e)) (does.Hear (first_bytes keep (spelling p))) ≡ hearing p)
     → OnOk (hears keep (name_of w e) stopped found) ((l : Letter) → found ≡ Some l → IsPacket l.packet) → is_stopped w (name_of w e) ≡ stopped
@@ -83,7 +65,7 @@ hear_case w e keep stopped hearing (Some letter) same h is =
     let what = does.Hear (first_bytes keep (spelling letter.packet)) in
     rw is
     (letter_case w e addressed stopped what (hearing letter.packet)
-    (on_ok (if addressed then if_running stopped what else Err said.NotAddressed) (λ (all : (l : Letter) → Some letter ≡ Some l
+    (on_ok_weaker (if addressed then if_running stopped what else Err said.NotAddressed) (λ (all : (l : Letter) → Some letter ≡ Some l
     → IsPacket l.packet). same letter.packet (all letter refl)) h))
 
 abbrev pub gone_now : World → Event → Bool
@@ -125,7 +107,7 @@ heard_now : (w : World) (e : Event) (flags : List Bool) (number : ℕ) → ((nam
 heard_now w e flags number agree spells =
     let found = letter_at w.letters number in
     hear_case w e None (flag_of flags (name_of w e)) (hear (w.nodes (name_of w e))) found (λ p is. spelling_is_heard (w.nodes (name_of w e)) p is)
-    (on_ok (asked_now w e flags (act.Hear number)) (λ (all : SpellsPacket w.letters (act.Hear number)).
+    (on_ok_weaker (asked_now w e flags (act.Hear number)) (λ (all : SpellsPacket w.letters (act.Hear number)).
     λ l is. all (record { packet = number; keep = None }) l refl is) spells)
     (sym (agree (name_of w e)))
 
@@ -136,7 +118,7 @@ cut_now w e flags number keep agree spells =
     let found = letter_at w.letters number in
     hear_case w e (Some keep) (flag_of flags (name_of w e)) (hear_cut (w.nodes (name_of w e)) keep) found
     (λ p is. cut_is_heard (w.nodes (name_of w e)) p keep is)
-    (on_ok (asked_now w e flags (act.Cut number keep)) (λ (all : SpellsPacket w.letters (act.Cut number keep)).
+    (on_ok_weaker (asked_now w e flags (act.Cut number keep)) (λ (all : SpellsPacket w.letters (act.Cut number keep)).
     λ l is. all (record { packet = number; keep = Some keep }) l refl is) spells)
     (sym (agree (name_of w e)))
 

@@ -1,27 +1,13 @@
 -- A life that hasn't begun is a stranger that no one has seen.
-use Rattle.std.proofs.Common.{◌≡◌, ℕ, ◌+◌, ◌<◌, ◌≤◌, ◌==◌, ◌||◌, not, Bool, true, false, if◌then◌else◌, List, [], ◌∷◌, ◌++◌, Option, Some, None, refl, sym, ap}
-use Rattle.std.proofs.Common.{◌∙◌, subst, arith}
-use Rattle.std.specs.Prelude.{slice_index}
-use Rattle.std.proofs.lemmas.Bool.Decides.{nat_tests}
-use Rattle.am_base.specs.declared.outcome.Outcome.{Outcome}
+use Rattle.am_world.proofs.Words.{◌≡◌, ℕ, ◌+◌, ◌<◌, ◌≤◌, ◌==◌, ◌||◌, not, Bool, true, false, if◌then◌else◌, List, [], ◌∷◌, ◌++◌, Option, Some, None, refl}
+use Rattle.am_world.proofs.Words.{sym, ap, ◌∙◌, subst, arith, slice_index, nat_tests, Outcome, NodeEvent, Rules, MayFound, place_of, life_of, name_at, has}
+use Rattle.am_world.proofs.Words.{Packet, Letter, Act, Event, letter_at, is_for, stranger, has_departed, Step, step, hear, World, start, run, current}
+use Rattle.am_world.proofs.Words.{is_stopped, with_record, with_step, does_event, hears_letter, hear_cut, comes_back, lives_on, acts_as, happens, happen}
+use Rattle.am_model.specs.Node.{Node}
+use Rattle.am_play.specs.World.{gives_up, stops}
 use Rattle.am_base.specs.declared.outcome.Outcome.TheVariants as said
-use Rattle.am_base.specs.declared.event.NodeEvent.{NodeEvent}
 use Rattle.am_base.specs.declared.event.NodeEvent.TheVariants as does
-use Rattle.am_base.specs.Founding.{Rules, MayFound}
-use Rattle.am_base.specs.Names.{place_of, life_of, name_at, has}
-use Rattle.am_packet.specs.declared.packet.Packet.{Packet}
-use Rattle.am_packet.specs.Boxes.{Letter}
-use Rattle.am_group.specs.declared.event.Act.{Act}
 use Rattle.am_group.specs.declared.event.Act.TheVariants as act
-use Rattle.am_group.specs.declared.event.Event.{Event}
-use Rattle.am_group.specs.Journals.{letter_at}
-use Rattle.am_group.specs.Addressed.{is_for}
-use Rattle.am_model.specs.Node.{Node, stranger, has_departed}
-use Rattle.am_model.specs.Emit.{Step}
-use Rattle.am_model.specs.Step.{step, hear}
-use Rattle.am_play.specs.World.{World, start, run, current, is_stopped, with_record, with_step, does_event, gives_up, stops, hears_letter, hear_cut, comes_back}
-use Rattle.am_play.specs.World.{lives_on}
-use Rattle.am_play.specs.World.{acts_as, happens, happen}
 use Rattle.am_world.proofs.Comes.{place_now, life_now}
 
 -- every place has a life, and the names of greater ones are strangers

@@ -1,28 +1,11 @@
 -- A world goes on as its run.
-use Rattle.std.proofs.Common.{◌≡◌, ℕ, ◌+◌, ◌<◌, ◌≤◌, Bool, List, [], ◌∷◌, ◌++◌, length, map, refl, sym, ap, ◌∙◌, subst, arith, length-append, append-nil}
-use Rattle.std.proofs.lemmas.List.{map_push, length-map}
-use Rattle.am_base.specs.Most.{most_events}
-use Rattle.am_base.specs.declared.entry.Entry.{Entry}
-use Rattle.am_base.specs.declared.outcome.Outcome.{Outcome}
-use Rattle.am_base.specs.Founding.{Rules, MayFound}
-use Rattle.am_base.specs.Names.{place_of, life_of}
-use Rattle.am_packet.specs.Boxes.{Letter}
-use Rattle.am_group.specs.declared.event.Event.{Event}
-use Rattle.am_group.specs.declared.event.Record.{Record}
-use Rattle.am_group.specs.Journals.{letters_of}
-use Rattle.am_group.proofs.Places.{letters_more}
+use Rattle.am_world.proofs.Words.{◌≡◌, ℕ, ◌+◌, ◌<◌, ◌≤◌, Bool, List, [], ◌∷◌, ◌++◌, length, map, refl, sym, ap, ◌∙◌, subst, arith, length-append, append-nil}
+use Rattle.am_world.proofs.Words.{map_push, length-map, most_events, Entry, Outcome, Rules, MayFound, place_of, life_of, Letter, Event, Record, letters_of}
+use Rattle.am_world.proofs.Words.{letters_more, happens, happen, record_of, current, start, with_record, has_departed, IsEndOf, Status, NodeEvent, Result, Ok}
+use Rattle.am_world.proofs.Words.{Err, OnOk, IfOk, runs_go_on, Node, Play, replay, after, AreNodes, AreLives, AreFlags, Shows, IsRun, play_of, the_record}
+use Rattle.am_world.proofs.Words.{Answers, event_or_answer, comes, SpellsPacket}
 use Rattle.am_play.specs.World as model
-use Rattle.am_play.specs.World.{happens, happen, record_of, current, start, with_record}
-use Rattle.am_model.specs.Node.{has_departed}
 use Rattle.am_model.specs.Node as protocol
-use Rattle.am_model.specs.Ends.{IsEndOf}
-use Rattle.am_model.specs.declared.status.Status.{Status}
-use Rattle.am_base.specs.declared.event.NodeEvent.{NodeEvent}
-use Rattle.std.specs.Prelude.{Result, Ok, Err, OnOk, IfOk}
-use Rattle.am_play.proofs.Runs.{runs_go_on}
-use Rattle.am_node.specs.declared.node.Node.{Node}
-use Rattle.am_world.specs.Runs.{Play, replay, after, AreNodes, AreLives, AreFlags, Shows, IsRun, play_of, the_record, Answers}
-use Rattle.am_world.specs.Asked.{event_or_answer, comes, SpellsPacket}
 use Rattle.am_world.proofs.Comes.{life_now, happens_comes}
 
 -- what holds of a value by two facts of it

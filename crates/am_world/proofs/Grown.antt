@@ -1,11 +1,6 @@
 -- How the group list grows, entry by entry.
-use Rattle.std.proofs.Common.{◌≡◌, ℕ, ◌+◌, ◌-◌, ◌≤◌, max, List, [], ◌∷◌, ◌++◌, length, take, drop, Some, slice_get, ap, ◌∙◌, arith}
-use Rattle.std.proofs.lemmas.List.{take_more}
-use Rattle.std.proofs.lemmas.Option.{slice_get_within, get_or_from_slice_get}
-use Rattle.am_base.specs.declared.entry.Entry.{Entry}
-use Rattle.am_base.specs.Lists.{Log, entry_at}
-use Rattle.am_core.proofs.Folds.{slice_get-drop}
-use Rattle.am_core.proofs.Ends.{entry-get}
+use Rattle.am_world.proofs.Words.{◌≡◌, ℕ, ◌+◌, ◌-◌, ◌≤◌, max, List, [], ◌∷◌, ◌++◌, length, take, drop, Some, slice_get, ap, ◌∙◌, arith, take_more}
+use Rattle.am_world.proofs.Words.{slice_get_within, get_or_from_slice_get, Entry, Log, entry_at, slice_get-drop, entry-get}
 
 -- what a list has above a number, up to another
 abbrev pub between : Log → ℕ → ℕ → List Entry

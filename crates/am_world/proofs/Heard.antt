@@ -1,30 +1,13 @@
 -- What comes of an event at which a letter is heard, or its first bytes.
-use Rattle.std.proofs.Common.{◌≡◌, ℕ, ◌<◌, Bool, true, false, List, [], Option, Some, None, Result, Ok, Err, refl, sym, ap, ◌∙◌, subst, arith}
-use Rattle.std.specs.Prelude.{OnOk}
-use Rattle.std.proofs.lemmas.Option.{none-some}
-use Rattle.am_base.specs.Founding.{Rules}
-use Rattle.am_base.specs.Names.{place_of}
-use Rattle.am_base.specs.declared.entry.Entry.{Entry}
-use Rattle.am_base.specs.declared.event.NodeEvent.{NodeEvent}
+use Rattle.am_world.proofs.Words.{◌≡◌, ℕ, ◌<◌, Bool, true, false, List, [], Option, Some, None, Result, Ok, Err, refl, sym, ap, ◌∙◌, subst, arith, OnOk}
+use Rattle.am_world.proofs.Words.{none-some, same_Some, on_ok_weaker, Rules, place_of, Entry, NodeEvent, Outcome, Letter, IsPacket, spelling, Act, Event}
+use Rattle.am_world.proofs.Words.{Record, is_for, letters_of, letter_at, current, happens, Node, Heard, flag_of, first_bytes, heard_of, event_or_answer}
+use Rattle.am_world.proofs.Words.{comes, SpellsPacket, Play, replay, play_of, IsRun}
+use Rattle.am_world.specs.Asked.{hears}
 use Rattle.am_base.specs.declared.event.NodeEvent.TheVariants as does
-use Rattle.am_base.specs.declared.outcome.Outcome.{Outcome}
 use Rattle.am_base.specs.declared.outcome.Outcome.TheVariants as said
-use Rattle.am_packet.specs.Boxes.{Letter}
-use Rattle.am_codec.specs.Limits.{IsPacket}
-use Rattle.am_codec.specs.Spelling.{spelling}
-use Rattle.am_group.specs.declared.event.Act.{Act}
 use Rattle.am_group.specs.declared.event.Act.TheVariants as act
-use Rattle.am_group.specs.declared.event.Event.{Event}
-use Rattle.am_group.specs.declared.event.Record.{Record}
-use Rattle.am_group.specs.Addressed.{is_for}
-use Rattle.am_group.specs.Journals.{letters_of, letter_at}
-use Rattle.am_play.specs.World.{current, happens}
-use Rattle.am_node.specs.declared.node.Node.{Node}
-use Rattle.am_world.specs.declared.asked.Heard.{Heard}
-use Rattle.am_world.specs.Asked.{flag_of, first_bytes, hears, heard_of, event_or_answer, comes, SpellsPacket}
-use Rattle.am_world.specs.Runs.{Play, replay, play_of, IsRun}
-use Rattle.am_world.proofs.Comes.{on_ok, gone_now, happens_comes}
-use Rattle.am_world.proofs.Goes.{shows_at}
+use Rattle.am_world.proofs.{Comes.gone_now, Comes.happens_comes, Goes.shows_at}
 
 -- ---- what was looked up
 
@@ -46,61 +29,26 @@ pub is_heard : (keep : Option ℕ) (name : ℕ) (stopped : Bool) (found : Option
 is_heard keep name stopped found letter bytes there own runs same =
     ap (λ bs. Ok (does.Hear bs)) same ∙ sym (ap (hears keep name stopped) there ∙ rw (own, runs) refl)
 
-HasPacket : Option Letter → Type 0
-HasPacket None = Unit {0}
-HasPacket (Some letter) = IsPacket letter.packet
-
 -- no other letter is found
 pub found_packet : (found : Option Letter) (letter other : Letter) → found ≡ Some letter → IsPacket letter.packet → found ≡ Some other → IsPacket other.packet
-unfolding HasPacket
-found_packet found letter other there is again = subst HasPacket (sym there ∙ again) is
+found_packet found letter other there is again = subst (λ (l : Letter). IsPacket l.packet) (same_Some (sym there ∙ again)) is
 
 -- ---- what comes of it
-
-heard_in : Option Heard → Heard
-heard_in None = record { packet = 0; keep = None }
-heard_in (Some h) = h
-
-same_heard : {a b : Heard} → Some a ≡ Some b → a ≡ b
-unfolding heard_in
-same_heard is = ap heard_in is
 
 heard_asked : (letters : List Letter) (flags : List Bool) (departed : Bool) (name : ℕ) (a : Act) (h : Heard) → heard_of a ≡ Some h
     → event_or_answer letters flags departed name a ≡ hears h.keep name (flag_of flags name) (letter_at letters h.packet)
 heard_asked letters flags departed name (act.Hear number) h is =
-    ap (λ (x : Heard). hears x.keep name (flag_of flags name) (letter_at letters x.packet)) (same_heard is)
+    ap (λ (x : Heard). hears x.keep name (flag_of flags name) (letter_at letters x.packet)) (same_Some is)
 heard_asked letters flags departed name (act.Cut number keep) h is =
-    ap (λ (x : Heard). hears x.keep name (flag_of flags name) (letter_at letters x.packet)) (same_heard is)
-heard_asked letters flags departed name (act.Send body) h is = absurd (none-some _ is)
-heard_asked letters flags departed name (act.Done req) h is = absurd (none-some _ is)
-heard_asked letters flags departed name act.Take h is = absurd (none-some _ is)
-heard_asked letters flags departed name act.Join h is = absurd (none-some _ is)
-heard_asked letters flags departed name act.State h is = absurd (none-some _ is)
-heard_asked letters flags departed name act.Leave h is = absurd (none-some _ is)
-heard_asked letters flags departed name (act.Reset least resilience) h is = absurd (none-some _ is)
-heard_asked letters flags departed name (act.Ask round) h is = absurd (none-some _ is)
-heard_asked letters flags departed name (act.GiveUp other) h is = absurd (none-some _ is)
-heard_asked letters flags departed name act.Stop h is = absurd (none-some _ is)
-heard_asked letters flags departed name act.Tick h is = absurd (none-some _ is)
-heard_asked letters flags departed name act.Return h is = absurd (none-some _ is)
+    ap (λ (x : Heard). hears x.keep name (flag_of flags name) (letter_at letters x.packet)) (same_Some is)
+heard_asked letters flags departed name _ h is = absurd (none-some _ is)
 
 -- what hears nothing needs no letters
 pub called_asked : (letters : List Letter) (flags : List Bool) (departed : Bool) (name : ℕ) (a : Act) → heard_of a ≡ None
     → event_or_answer [] flags departed name a ≡ event_or_answer letters flags departed name a
 called_asked letters flags departed name (act.Hear number) is = absurd (none-some _ (sym is))
 called_asked letters flags departed name (act.Cut number keep) is = absurd (none-some _ (sym is))
-called_asked letters flags departed name (act.Send body) is = refl
-called_asked letters flags departed name (act.Done req) is = refl
-called_asked letters flags departed name act.Take is = refl
-called_asked letters flags departed name act.Join is = refl
-called_asked letters flags departed name act.State is = refl
-called_asked letters flags departed name act.Leave is = refl
-called_asked letters flags departed name (act.Reset least resilience) is = refl
-called_asked letters flags departed name (act.Ask round) is = refl
-called_asked letters flags departed name (act.GiveUp other) is = refl
-called_asked letters flags departed name act.Stop is = refl
-called_asked letters flags departed name act.Tick is = refl
-called_asked letters flags departed name act.Return is = refl
+called_asked letters flags departed name _ is = refl
 
 -- and spells none
 called_spells : (letters : List Letter) (a : Act) → heard_of a ≡ None → SpellsPacket letters a
@@ -131,8 +79,8 @@ heard_comes p first nodes lives flags records group e h name r view ok here hear
     ∙ ap (λ k. hears h.keep k (flag_of flags k) (letter_at w.letters h.packet)) here
     ∙ sym (heard_asked w.letters flags (gone_now w e) (current w place) e.act h heard) in
     let spells : OnOk r (SpellsPacket w.letters e.act) =
-    on_ok r (λ (all : (l : Letter) → letter_at (letters_of records) h.packet ≡ Some l → IsPacket l.packet).
-    λ g l of there. all l (ap (λ ls. letter_at ls h.packet) was.sent ∙ ap (λ (x : Heard). letter_at w.letters x.packet) (same_heard (sym heard ∙ of)) ∙ there))
+    on_ok_weaker r (λ (all : (l : Letter) → letter_at (letters_of records) h.packet ≡ Some l → IsPacket l.packet).
+    λ g l of there. all l (ap (λ ls. letter_at ls h.packet) was.sent ∙ ap (λ (x : Heard). letter_at w.letters x.packet) (same_Some (sym heard ∙ of)) ∙ there))
     packets in
     happens_comes w e flags was.stopped.each within (was.living.within place within).0 (subst (λ q. OnOk q (SpellsPacket w.letters e.act)) now spells)
     ∙ ap (comes w e) (sym now)

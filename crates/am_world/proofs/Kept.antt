@@ -1,40 +1,18 @@
 -- A world's watcher keeps what is watched of its run.
-use Rattle.std.proofs.Common.{◌≡◌, ℕ, ◌+◌, ◌<◌, ◌≤◌, ◌==◌, not, Bool, true, false, if◌then◌else◌, List, [], ◌∷◌, ◌++◌, length, drop, Ok}
-use Rattle.std.proofs.Common.{refl, sym, ap, ◌∙◌, subst, arith, length-append}
-use Rattle.am_base.specs.declared.entry.Entry.{Entry}
-use Rattle.am_base.specs.declared.image.Image.{Image}
-use Rattle.am_base.specs.declared.outcome.Outcome.{Outcome}
+use Rattle.am_world.proofs.Words.{watch_push, is_itself, ◌≡◌, ℕ, ◌+◌, ◌<◌, ◌≤◌, not, Bool, true, false, if◌then◌else◌, List, [], ◌∷◌, ◌++◌, length, drop, Ok}
+use Rattle.am_world.proofs.Words.{refl, sym, ap, ◌∙◌, subst, arith, length-append, Entry, Image, Outcome, NodeEvent, Rules, MayFound, place_of, Event}
+use Rattle.am_world.proofs.Words.{members_of, end-told, view, set_at, step, run, happens, with_step, current, is_stopped, Watch, watch_start, watch}
+use Rattle.am_world.proofs.Words.{watch_all, watch_run, IsEndOf, watched_is_run, Standing, Watching, first_watching, standing, watched_step, stop, pass}
+use Rattle.am_world.proofs.Words.{accept, Watches, Steps, SteppedTo, standing_of, view_of, additions, IsNew, watched_after, stepped_to, steps_are_watched}
+use Rattle.am_world.proofs.Words.{stop_is_watched, pass_is_watched, return_is_watched, beginning_is_kept, Play, replay, after_answer, comes, begins}
+use Rattle.am_world.proofs.Words.{standing_after, stored_of, told_step, stops_by, IsWatched, actor, few_names, run_named}
+use Rattle.am_play.specs.World.{decides}
+use Rattle.am_watch.specs.Watches.{after}
 use Rattle.am_base.specs.declared.outcome.Outcome.TheVariants as said
-use Rattle.am_base.specs.declared.event.NodeEvent.{NodeEvent}
-use Rattle.am_base.specs.Founding.{Rules, MayFound}
-use Rattle.am_base.specs.Names.{place_of}
-use Rattle.am_group.specs.declared.event.Event.{Event}
-use Rattle.am_base.specs.Lists.{members_of}
-use Rattle.am_core.proofs.Ends.{end-told}
 use Rattle.am_model.specs.Node as protocol
-use Rattle.am_model.specs.Node.{view, set_at}
-use Rattle.am_model.specs.Step.{step}
 use Rattle.am_play.specs.World as model
-use Rattle.am_play.specs.World.{run, happens, with_step, current, is_stopped, decides}
-use Rattle.am_play.specs.Lawful.{Watch, watch_start, watch, watch_all, watch_run}
-use Rattle.am_model.specs.Ends.{IsEndOf}
-use Rattle.am_play.proofs.Runs.{watched_is_run}
-use Rattle.am_watch.specs.declared.views.Standing.{Standing}
-use Rattle.am_watch.specs.Watching.{Watching, first_watching, standing, watch_step as watched_step, stop, pass, accept}
-use Rattle.am_watch.specs.Watches.{Watches, Steps, SteppedTo, standing_of, view_of, additions, after, IsNew}
-use Rattle.am_watch.proofs.Events.{watched_after, stepped_to}
-use Rattle.am_watch.proofs.Steps.{steps_are_watched}
-use Rattle.am_watched.proofs.Watched.{stop_is_watched, pass_is_watched, return_is_watched, beginning_is_kept}
 use Rattle.am_world.specs.Runs as runs
-use Rattle.am_world.specs.Runs.{Play, replay}
-use Rattle.am_world.specs.Asked.{after_answer, comes}
-use Rattle.am_world.specs.Watched.{begins, standing_after, stored_of, told_step, stops_by, IsWatched}
-use Rattle.std.proofs.lemmas.Bool.Decides.{nat_tests}
-use Rattle.am_effects.specs.Events.{actor}
-use Rattle.am_laws.proofs.Named.{few_names, run_named}
-use Rattle.am_world.proofs.Goes.{replay_after}
-use Rattle.am_world.proofs.Acts.{end_base}
-use Rattle.am_world.proofs.Stored.{step_facts, begins_at, stores}
+use Rattle.am_world.proofs.{Goes.replay_after, Acts.end_base, Stored.step_facts, Stored.begins_at, Stored.stores}
 
 -- ---- how many events there were
 
@@ -47,11 +25,6 @@ pub count_of : (p : Play) (k : Watching) → IsWatched p k → k.count ≡ lengt
 count_of p k h = h.count ∙ count_all (watch_start p.rules) p.events ∙ omega arith
 
 -- ---- an event more
-
-watch_push : (s : Watch) (events : List Event) (e : Event) → watch_all s (events ++ e ∷ []) ≡ watch (watch_all s events) e
-unfolding watch_all
-watch_push s [] e = refl
-watch_push s (x ∷ xs) e = watch_push (watch s x) xs e
 
 next_watched : (rules : Rules) (events : List Event) (e : Event) (v : model.World) → happens (run rules events) e ≡ v
     → after (watch_run rules events) v ≡ watch_run rules (events ++ e ∷ [])
@@ -94,9 +67,6 @@ told_as k name what m n number count group more before was stands ends counted g
     ∙ ap (λ v. accept (watched_step k name (standing_of n) v (stored_of name before (standing_of n) v what)) number group) ends
     ∙ ap (λ c. accept (watched_step k name (standing_of n) (view_of n) (stored_of name before (standing_of n) (view_of n) what)) c group) counted
     ∙ ap (λ g. accept (watched_step k name (standing_of n) (view_of n) (stored_of name before (standing_of n) (view_of n) what)) count g) grown
-
-is_itself : (name : ℕ) → (name == name) ≡ true
-is_itself name = grind (arith, nat_tests)
 
 lives_stay : (w : model.World) (e : Event) (what : NodeEvent) → current (comes w e (Ok what)) (place_of e.node) ≡ current w (place_of e.node)
 unfolding with_step
@@ -145,8 +115,7 @@ act_at p k e what m known group may kept within is end known_is group_is =
 pub act_is_watched : (p : Play) (k : Watching) (e : Event) (name : ℕ) (what : NodeEvent) (m : protocol.Node) (known : ℕ) (group : List Entry)
     → MayFound p.rules → IsWatched p k → name ≡ current (replay p) (place_of e.node) → happens (replay p) e ≡ comes (replay p) e (Ok what)
     → IsEndOf ((replay (runs.after p e)).nodes (current (replay (runs.after p e)) (place_of e.node))) m → known ≡ length (replay p).group
-    → group ≡ (replay (runs.after p e)).group
-    → IsWatched (runs.after p e) (told_step k name m what (known + 1) (drop known group))
+    → group ≡ (replay (runs.after p e)).group → IsWatched (runs.after p e) (told_step k name m what (known + 1) (drop known group))
 act_is_watched p k e name what m known group may kept here is end known_is group_is =
     let w = replay p in
     let now : replay (runs.after p e) ≡ comes w e (Ok what) = replay_after p e ∙ is in

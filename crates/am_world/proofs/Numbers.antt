@@ -1,15 +1,6 @@
 -- What the laws of runs say, as a world asks for it.
-use Rattle.std.proofs.Common.{◌≤◌, ℕ, List, length}
-use Rattle.am_base.specs.Founding.{Rules}
-use Rattle.am_packet.specs.Boxes.{Letter}
-use Rattle.am_group.specs.declared.event.Event.{Event}
-use Rattle.am_play.specs.World.{run, happens}
-use Rattle.am_effects.specs.Events.{actor}
-use Rattle.am_laws.specs.Numbers.{NodeNumbers}
-use Rattle.am_laws.specs.Packets.{UpTo}
-use Rattle.am_laws.proofs.EventCounts.{actor_low}
-use Rattle.am_laws.proofs.RunCounts.{bounds_after, run_low, numbers_hold}
-use Rattle.am_effects.proofs.Items.{all_item}
+use Rattle.am_world.proofs.Words.{◌≤◌, ℕ, List, length, Rules, Letter, Event, run, happens, actor, NodeNumbers, UpTo, actor_low, bounds_after, run_low}
+use Rattle.am_world.proofs.Words.{numbers_hold, all_item}
 
 -- how high a node's numbers are after so many events
 pub low : (rules : Rules) (events : List Event) (name : ℕ) → NodeNumbers (length events) (length (run rules events).group) ((run rules events).nodes name)

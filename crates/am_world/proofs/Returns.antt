@@ -1,29 +1,13 @@
 -- A place goes on with its next life.
-use Rattle.std.proofs.Common.{◌≡◌, ℕ, ◌+◌, ◌<◌, ◌≤◌, ◌==◌, ◌≢◌, Bool, true, false, if◌then◌else◌, List, [], ◌∷◌, ◌++◌, append-nil, length, Some, slice_get}
-use Rattle.std.proofs.Common.{slice_set, slice_index, refl, sym, ap, ◌∙◌, subst, arith}
-use Rattle.std.proofs.lemmas.List.{length-set}
-use Rattle.std.proofs.lemmas.Bool.Decides.{nat_tests}
-use Rattle.am_base.specs.Most.{most_events}
-use Rattle.am_base.specs.declared.entry.Entry.{Entry}
+use Rattle.am_world.proofs.Words.{◌≡◌, ℕ, ◌+◌, ◌<◌, ◌≤◌, ◌==◌, ◌≢◌, Bool, true, false, if◌then◌else◌, List, [], ◌∷◌, ◌++◌, append-nil, length, Some}
+use Rattle.am_world.proofs.Words.{slice_get, slice_set, slice_index, refl, sym, ap, ◌∙◌, subst, arith, length-set, nat_tests, most_events, Entry, Rules}
+use Rattle.am_world.proofs.Words.{MayFound, place_of, life_of, name_at, Event, Record, stranger, happens, current, is_stopped, with_record, lives_on, Node}
+use Rattle.am_world.proofs.Words.{state_of, Play, replay, AreNodes, AreLives, AreFlags, IsRun, play_of, Answers, after_answer, get_or-set_same}
+use Rattle.am_world.proofs.Words.{get_or-set_other}
 use Rattle.am_base.specs.declared.outcome.Outcome.TheVariants as said
-use Rattle.am_base.specs.Founding.{Rules, MayFound}
-use Rattle.am_base.specs.Names.{place_of, life_of, name_at}
-use Rattle.am_group.specs.declared.event.Event.{Event}
-use Rattle.am_group.specs.declared.event.Record.{Record}
-use Rattle.am_model.specs.Node.{stranger}
 use Rattle.am_play.specs.World as model
-use Rattle.am_play.specs.World.{happens, current, is_stopped, with_record, lives_on}
-use Rattle.am_node.specs.declared.node.Node.{Node}
-use Rattle.am_node.specs.Stands.{state_of}
-use Rattle.am_world.specs.Runs.{Play, replay, AreNodes, AreLives, AreFlags, IsRun, play_of, Answers}
-use Rattle.am_world.specs.Asked.{after_answer}
-use Rattle.am_world.proofs.Fresh.{fresh}
-use Rattle.std.proofs.lemmas.List.{get_or-set_same, get_or-set_other}
-use Rattle.am_world.proofs.Spots.{get_set_here, get_set_other}
-use Rattle.am_world.proofs.Comes.{place_now, life_now}
-use Rattle.am_world.proofs.Begins.{Keeps, stranger_keeps}
-use Rattle.am_world.proofs.Goes.{IsRecorded, goes_on, shows_at}
-use Rattle.am_world.proofs.Stops.{flags_more, flags_again, name_within}
+use Rattle.am_world.proofs.{Fresh.fresh, Spots.get_set_here, Spots.get_set_other, Comes.place_now, Comes.life_now, Begins.Keeps, Begins.stranger_keeps}
+use Rattle.am_world.proofs.{Goes.IsRecorded, Goes.goes_on, Goes.shows_at, Stops.flags_more, Stops.flags_again, Stops.name_within}
 
 lives_more : (w : model.World) (lives : List ℕ) (place life : ℕ) → place < 16 → life ≡ w.lives place + 1 → life ≤ 16 → AreLives lives w
     → AreLives (slice_set lives place life) (lives_on w place)

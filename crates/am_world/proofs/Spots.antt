@@ -1,13 +1,5 @@
 -- Nodes of which one changes.
-use Rattle.std.proofs.Common.{◌≡◌, ℕ, zero, suc, ◌<◌, List, [], ◌∷◌, ◌++◌, length, take, Some, slice_get, slice_set, slice_index_or}
-use Rattle.std.proofs.Common.{refl, ap, arith}
-use Rattle.std.proofs.lemmas.List.{take-append-le, take_all}
-use Rattle.std.proofs.lemmas.Option.{slice_get_read}
-
-pub get_set_same : {A : Type 0} (xs : List A) (i : ℕ) (x y z : A) → slice_get xs i ≡ Some x → slice_get (slice_set xs i y) i ≡ Some z → y ≡ z
-get_set_same [] i x y z h g = absurd (cc)
-get_set_same (a ∷ xs) zero x y z h g = cc
-get_set_same (a ∷ xs) (suc i) x y z h g = get_set_same xs i x y z h g
+use Rattle.am_world.proofs.Words.{◌≡◌, ℕ, zero, suc, ◌<◌, List, [], ◌∷◌, length, Some, slice_get, slice_set, slice_index_or, refl, ap, arith, slice_get_read}
 
 pub get_set_here : {A : Type 0} (xs : List A) (i : ℕ) (y z : A) → i < length xs → slice_get (slice_set xs i y) i ≡ Some z → y ≡ z
 get_set_here [] i y z h g = absurd (omega arith)
@@ -24,7 +16,3 @@ get_set_other (a ∷ xs) (suc i) (suc j) y n = get_set_other xs i j y (λ e. n (
 -- what was read at a place
 pub read_here : {A : Type 0} (xs : List A) (i place : ℕ) (x : A) → i ≡ place → place < length xs → x ≡ slice_index_or xs i x → slice_get xs place ≡ Some x
 read_here xs i place x same within is = slice_get_read xs (length xs) place x refl within (rw (← same) is)
-
--- what a slice leaves in its vector
-pub written_back : {A : Type 0} (xs ys : List A) (n : ℕ) → length xs ≡ n → take n (xs ++ ys) ≡ xs
-written_back xs ys n long = rw (take-append-le n xs ys (omega arith)) (take_all n xs (omega arith))

@@ -1,41 +1,18 @@
 -- Where a node's list begins after a step: where it did, or at the base that a Welcome told.
-use Rattle.std.proofs.Common.{◌≡◌, ℕ, ◌≤◌, ◌==◌, ◌&&◌, ◌||◌, not, Bool, true, false, if◌then◌else◌, List, None, refl, sym, ap, ◌∙◌, subst, arith}
-use Rattle.std.proofs.lemmas.Bool.Decides.{nat_tests}
-use Rattle.am_base.specs.declared.outcome.Outcome.{Outcome}
-use Rattle.am_base.specs.declared.name.Stamp.{Stamp}
-use Rattle.am_base.specs.declared.image.Image.{Image}
-use Rattle.am_base.specs.Founding.{Rules, MayFound}
-use Rattle.am_base.specs.Stamps.{stamp_eq}
-use Rattle.am_base.specs.Lists.{Log}
-use Rattle.am_packet.specs.declared.packet.Packet.{Packet}
+use Rattle.am_world.proofs.Words.{is_itself, logged, ◌≡◌, ℕ, ◌≤◌, ◌==◌, ◌&&◌, ◌||◌, not, Bool, true, false, if◌then◌else◌, List, None, refl, sym, ap, ◌∙◌}
+use Rattle.am_world.proofs.Words.{subst, arith, nat_tests, Outcome, Stamp, Image, Rules, MayFound, stamp_eq, Log, Packet, Event, pass_over, Status, Ballot}
+use Rattle.am_world.proofs.Words.{view, is_sequencer, is_member, is_asking, has_log, Verdict, refresh, Step, World, run, happens, with_step, with_record}
+use Rattle.am_world.proofs.Words.{split, and_both, Cause, calls, hears, refuses, BringsFronts, with_entry, with_number, alone, BeginsBy, by_reset}
+use Rattle.am_world.proofs.Words.{by_hand_over, Balloting, with_more, without_one, as_it_is, Looks, finds_itself_out, waits, fetches_from_best, finds_too_few}
+use Rattle.am_world.proofs.Words.{finds_no_room, whole_entry, by_number, Promises, invited, overtaken, told_result, Change, refreshes, settles, admits}
+use Rattle.am_world.proofs.Words.{numbers, notes, stores, begins_list, departs, promises, opens, looks, fetches, stores_view, asks_to_join, closes, Changes}
+use Rattle.am_world.proofs.Words.{actor, Happens, steps, events_have_effects, rests_refresh, settle_is, along, IsBlank, blank_holds, leads_member, member_of}
+use Rattle.am_world.proofs.Words.{standing_of, HeardLow, change_begins, lists_go_on, begins}
+use Rattle.am_core.specs.Cores.{accept}
+use Rattle.am_model.specs.Node.{Node}
+use Rattle.am_effects.specs.Looks.{decides}
 use Rattle.am_packet.specs.declared.packet.Packet.TheVariants as packet
-use Rattle.am_group.specs.declared.event.Event.{Event}
-use Rattle.am_core.specs.Cores.{accept, pass_over}
-use Rattle.am_model.specs.declared.status.Status.{Status}
 use Rattle.am_model.specs.declared.status.Status.TheVariants as status
-use Rattle.am_model.specs.Node.{Node, Ballot, view, is_sequencer, is_member, is_asking, has_log}
-use Rattle.am_model.specs.Ballots.{Verdict}
-use Rattle.am_model.specs.Refresh.{refresh}
-use Rattle.am_model.specs.Emit.{Step}
-use Rattle.am_play.specs.World.{World, run, happens, with_step, with_record}
-use Rattle.am_base.proofs.Greatest.{split, and_both}
-use Rattle.am_effects.specs.Causes.{Cause, calls, hears, refuses, BringsFronts, with_entry, with_number, alone}
-use Rattle.am_effects.specs.Looks.{BeginsBy, by_reset, by_hand_over, Balloting, with_more, without_one, as_it_is, Looks, finds_itself_out, waits}
-use Rattle.am_effects.specs.Looks.{fetches_from_best, finds_too_few, finds_no_room, decides}
-use Rattle.am_effects.specs.Changes.{whole_entry, by_number, Promises, invited, overtaken, told_result, Change, refreshes, settles, takes_report, admits}
-use Rattle.am_effects.specs.Changes.{numbers, keeps_body, notes, stores, begins_list, departs, promises, opens, looks, fetches, stores_view, queues, collects}
-use Rattle.am_effects.specs.Changes.{takes, asks_to_join, asks_to_leave, closes, Changes}
-use Rattle.am_effects.specs.Events.{actor, Happens, idles, stops, returns, steps}
-use Rattle.am_effects.proofs.Events.{events_have_effects}
-use Rattle.am_effects.proofs.Rests.{rests_refresh, settle_is}
-use Rattle.am_effects.proofs.Runs.{along}
-use Rattle.am_laws.specs.Blank.{IsBlank}
-use Rattle.am_laws.proofs.Blank.{blank_holds}
-use Rattle.am_laws.proofs.ViewChanges.{leads_member, log_of_member, member_of}
-use Rattle.am_watch.specs.Watches.{standing_of}
-use Rattle.am_watched.proofs.Chains.{HeardLow, change_begins}
-use Rattle.am_watched.proofs.Lists.{lists_go_on}
-use Rattle.am_world.specs.Watched.{begins}
 
 -- ---- by another cause than a Welcome no list begins
 
@@ -56,25 +33,12 @@ HasNone m = has_log m.status ≡ false
 change_none : {c : Cause} {o : Outcome} → IsNoWelcome c → (x y : Node) → Change c o x y → HasNone x → HasNone y
 change_none other x y refreshes h = ap has_log (rests_refresh x).rests.status ∙ h
 change_none other x y settles h = ap (λ (n : Node). has_log n.status) (settle_is x) ∙ h
-change_none other x y (takes_report s v report by may) h = h
-change_none other x y (admits s v is leads fit) h = h
-change_none other x y (numbers e leads room why) h = h
-change_none other x y (keeps_body s v report req body is by) h = h
-change_none other x y (notes s v base acc by from) h = h
-change_none other x y (stores s v base acc number e by from plain may) h = h
 change_none other x y (begins_list s v base join image is o may) h = absurd (other s v base join image is)
 change_none other x y (departs s v number is by leaves) h = absurd (let t = member_of x s by in cc)
-change_none other x y (promises v low why) h = h
-change_none other x y (opens least resilience by may) h = h
 change_none other x y (looks b verdict over why look is) h = ap has_log (look_status x b verdict look) ∙ h
-change_none other x y (fetches s v base number e is by promise below from may) h = h
-change_none other x y (stores_view s v base number names resilience is by own unlike promise below may) h = h
-change_none other x y (queues body is o member stays few) h = h
-change_none other x y (collects req is) h = h
-change_none other x y (takes e is o member some there) h = h
 change_none other x y (asks_to_join is was) h = refl
-change_none other x y (asks_to_leave is was stays done) h = h
-change_none other x y (closes leads leaves last room) h = absurd (let t = log_of_member x.status (leads_member x leads) in cc)
+change_none other x y (closes leads leaves last room) h = absurd (let t = logged x.status (leads_member x leads) in cc)
+change_none other x y _ h = h
 
 -- ---- by a Welcome it begins at its base, and its node doesn't lead in that step
 
@@ -130,10 +94,8 @@ module _ (s : ℕ) (v : Stamp) (base join : ℕ) (image : Image) where
   change_begun : {c : Cause} {o : Outcome} → c ≡ welcome_ → (x y : Node) → Change c o x y → Begun x → Begun y
   change_begun w x y refreshes h = refresh_begun x h
   change_begun w x y settles h = subst Begun (sym (settle_is x)) h
-  change_begun w x y (takes_report s1 v1 report by may) h = h
   change_begun w x y (admits s1 v1 is leads fit) h = absurd (let f = h.2 in cc)
   change_begun w x y (numbers e leads room why) h = absurd (let f = h.2 in cc)
-  change_begun w x y (keeps_body s1 v1 report req body is by) h = h
   change_begun w x y (notes s1 v1 low acc by from) h = absurd (no_fronts by w)
   change_begun w x y (stores s1 v1 low acc number e (whole_entry _ is) from plain may) h = absurd (cc)
   change_begun w x y (stores s1 v1 low acc number e (by_number _ _ _ is _) from plain may) h = absurd (cc)
@@ -146,12 +108,9 @@ module _ (s : ℕ) (v : Stamp) (base join : ℕ) (image : Image) where
   change_begun w x y (looks b verdict over why look is) h = absurd (no_look why w h.1)
   change_begun w x y (fetches s1 v1 low number e is by promise below from may) h = absurd (cc)
   change_begun w x y (stores_view s1 v1 low number names resilience is by own unlike promise below may) h = absurd (cc)
-  change_begun w x y (queues body is o member stays few) h = h
-  change_begun w x y (collects req is) h = h
-  change_begun w x y (takes e is o member some there) h = h
   change_begun w x y (asks_to_join is was) h = absurd (cc)
-  change_begun w x y (asks_to_leave is was stays done) h = h
   change_begun w x y (closes leads leaves last room) h = absurd (let f = h.2 in cc)
+  change_begun w x y _ h = h
 
 -- ---- a step
 
@@ -184,7 +143,7 @@ kind (calls event) = other (λ s v base join image h. cc)
 kind refuses = other (λ s v base join image h. cc)
 
 never_leads : (m : Node) → has_log m.status ≡ false → is_sequencer m ≡ false
-never_leads m none = split (is_sequencer m) (λ t. absurd (let log = log_of_member m.status (leads_member m t) in cc)) (λ f. f)
+never_leads m none = split (is_sequencer m) (λ t. absurd (let log = logged m.status (leads_member m t) in cc)) (λ f. f)
 
 begins_by : {c : Cause} {o : Outcome} (m n : Node) → Kind c → Changes c o m n → has_log m.status ≡ false → IsBlank m → BeginsAt m n
 begins_by m n (welcome s v base join image is) changes none blank_ =
@@ -197,12 +156,9 @@ begins_by {c = c} m n (other none_heard) changes none blank_ =
     let heard : HeardLow c 0 = record { welcome = λ s v base join image is. absurd (none_heard s v base join image is) } in
     let low : n.core.log.start ≤ 0 = along (λ (x : Node). x.core.log.start ≤ 0) (change_begins 0 heard) changes (omega arith) in
     let still : HasNone n = along HasNone (change_none none_heard) changes none in
-    none_begins m n none zero (λ t. absurd (let log = log_of_member n.status t in cc)) (λ f. omega arith)
+    none_begins m n none zero (λ t. absurd (let log = logged n.status t in cc)) (λ f. omega arith)
 
 -- ---- in a run
-
-is_itself : (name : ℕ) → (name == name) ≡ true
-is_itself name = grind (arith, nat_tests)
 
 no_begin : (s : Status) → (not (has_log s) && is_member s) ≡ false
 no_begin status.Stranger = refl
@@ -217,9 +173,6 @@ begins_same m = rw (no_begin m.status) refl
 begins_in : (rules : Rules) (events : List Event) (e : Event) (v : World) → MayFound rules → Happens (run rules events) e v
     → BeginsAt ((run rules events).nodes (actor (run rules events) e)) (v.nodes (actor (run rules events) e))
 unfolding with_step with_record
-begins_in rules events e _ may (idles o idle) = begins_same ((run rules events).nodes (actor (run rules events) e))
-begins_in rules events e _ may (stops running) = begins_same ((run rules events).nodes (actor (run rules events) e))
-begins_in rules events e _ may (returns place at gone few) = begins_same ((run rules events).nodes (actor (run rules events) e))
 begins_in rules events e _ may (steps c s running cause effect) =
     let w = run rules events in
     let name = actor w e in
@@ -228,6 +181,7 @@ begins_in rules events e _ may (steps c s running cause effect) =
     rw (is_itself name) (split (has_log m.status)
     (λ t. there_begins m s.node t (adds.stays t))
     (λ f. begins_by m s.node (kind c) effect.changes f (blank_holds rules events name may adds.within f)))
+begins_in rules events e _ may _ = begins_same ((run rules events).nodes (actor (run rules events) e))
 
 -- where the list of a name's node begins once it did a step
 pub step_begins : (rules : Rules) (events : List Event) (e : Event) (s : Step) → MayFound rules

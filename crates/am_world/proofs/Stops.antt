@@ -1,21 +1,10 @@
 -- A name stops.
-use Rattle.std.proofs.Common.{◌≡◌, ℕ, zero, suc, ◌+◌, ◌<◌, ◌≤◌, ◌==◌, ◌||◌, Bool, true, false, List, [], ◌∷◌, ◌++◌, length, slice_set, slice_index_or, refl}
-use Rattle.std.proofs.Common.{append-nil, sym, ap, ◌∙◌, subst, arith}
-use Rattle.std.specs.List.{list_any}
-use Rattle.std.proofs.lemmas.List.{length-set}
-use Rattle.std.proofs.lemmas.Bool.Decides.{nat_tests}
-use Rattle.am_base.specs.Most.{most_events}
-use Rattle.am_base.specs.declared.entry.Entry.{Entry}
+use Rattle.am_world.proofs.Words.{◌≡◌, ℕ, zero, suc, ◌+◌, ◌<◌, ◌≤◌, ◌==◌, ◌||◌, Bool, true, false, List, [], ◌∷◌, ◌++◌, length, slice_set, slice_index_or}
+use Rattle.am_world.proofs.Words.{refl, append-nil, sym, ap, ◌∙◌, subst, arith, list_any, length-set, nat_tests, most_events, Entry, Rules, place_of, Event}
+use Rattle.am_world.proofs.Words.{Record, happens, current, is_stopped, with_record, Node, Play, replay, AreLives, AreFlags, IsRun, play_of, Answers}
+use Rattle.am_world.proofs.Words.{after_answer}
 use Rattle.am_base.specs.declared.outcome.Outcome.TheVariants as said
-use Rattle.am_base.specs.Founding.{Rules}
-use Rattle.am_base.specs.Names.{place_of}
-use Rattle.am_group.specs.declared.event.Event.{Event}
-use Rattle.am_group.specs.declared.event.Record.{Record}
 use Rattle.am_play.specs.World as model
-use Rattle.am_play.specs.World.{happens, current, is_stopped, with_record}
-use Rattle.am_node.specs.declared.node.Node.{Node}
-use Rattle.am_world.specs.Runs.{Play, replay, AreLives, AreFlags, IsRun, play_of, Answers}
-use Rattle.am_world.specs.Asked.{after_answer}
 use Rattle.am_world.proofs.Goes.{IsRecorded, goes_on, shows_at}
 
 same_suc : (a b : ℕ) → (suc a == suc b) ≡ (a == b)

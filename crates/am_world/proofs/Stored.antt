@@ -1,27 +1,12 @@
 -- What is so of a name's step in every run, as the world tells its watcher of it.
-use Rattle.std.proofs.Common.{◌≡◌, ℕ, ◌≤◌, ◌==◌, ◌&&◌, ◌||◌, not, Bool, true, false, if◌then◌else◌, List, length, refl, sym, ap}
-use Rattle.std.proofs.Common.{subst, arith}
-use Rattle.std.specs.List.{list_any}
-use Rattle.std.proofs.lemmas.Bool.Decides.{nat_tests}
-use Rattle.am_base.specs.declared.name.Stamp.{Stamp}
-use Rattle.am_base.specs.declared.event.NodeEvent.{NodeEvent}
-use Rattle.am_base.specs.Founding.{Rules, MayFound}
-use Rattle.am_base.specs.Stamps.{stamp_eq}
-use Rattle.am_group.specs.declared.event.Event.{Event}
-use Rattle.am_model.specs.Node.{Node, view}
-use Rattle.am_model.specs.Step.{step}
-use Rattle.am_play.specs.World.{World, run, happens, with_step, with_record, decides}
-use Rattle.am_play.specs.Lawful.{is_view_of}
-use Rattle.am_effects.specs.Events.{actor, Happens, idles, stops, returns, steps}
-use Rattle.am_effects.proofs.Events.{events_have_effects}
-use Rattle.am_laws.proofs.Named.{few_names, names_hold}
-use Rattle.am_laws.proofs.RunCounts.{numbers_hold}
-use Rattle.am_watch.specs.Watches.{IsNew, standing_of, view_of}
-use Rattle.am_watched.proofs.Lists.{run_lists, lists_go_on}
-use Rattle.am_watched.proofs.New.{decided_are_new}
-use Rattle.am_world.specs.Watched.{begins, stored_of}
-use Rattle.am_world.proofs.Start.{step_begins}
-use Rattle.am_world.proofs.StoredSteps.{step_adds, told_is}
+use Rattle.am_world.proofs.Words.{is_itself, stamp_itself, ◌≡◌, ℕ, ◌≤◌, ◌&&◌, ◌||◌, not, Bool, true, false, if◌then◌else◌, List, length, refl, sym, ap, subst}
+use Rattle.am_world.proofs.Words.{arith, list_any, Stamp, NodeEvent, Rules, MayFound, Event, view, step, World, run, happens, with_step, with_record}
+use Rattle.am_world.proofs.Words.{is_view_of, actor, Happens, idles, steps, events_have_effects, few_names, names_hold, numbers_hold, IsNew, standing_of}
+use Rattle.am_world.proofs.Words.{view_of, run_lists, lists_go_on, decided_are_new, begins, stored_of}
+use Rattle.am_model.specs.Node.{Node}
+use Rattle.am_play.specs.World.{decides}
+use Rattle.am_effects.specs.Events.{stops, returns}
+use Rattle.am_world.proofs.{Start.step_begins, StoredSteps.step_adds, StoredSteps.told_is}
 
 -- where the list of a name's node begins after a step
 pub begins_at : (rules : Rules) (events : List Event) (e : Event) (what : NodeEvent) → MayFound rules
@@ -52,12 +37,6 @@ pub record StepFacts (w v : World) (name : ℕ) : Type 0 where
   pub begins_ : (v.nodes name).core.log.start ≤ length w.group
   pub new : decides (w.nodes name) (v.nodes name) ≡ true → IsNew w (view (v.nodes name))
 
-is_itself : (name : ℕ) → (name == name) ≡ true
-is_itself name = grind (arith, nat_tests)
-
-same_stamp : (s : Stamp) → stamp_eq s s ≡ true
-same_stamp s = grind (arith, nat_tests)
-
 never : (b c : Bool) → (b && (c && not true)) ≡ true → ⊥
 never true true h = cc
 never true false h = cc
@@ -72,7 +51,7 @@ facts_same rules events e v may same =
     let low = (numbers_hold rules events).each name in
     let first : (w.nodes name).core.log.start ≤ length w.group = let a = low.kept in let b = low.base in omega arith in
     let P : Node → Type 0 = λ m. (m.core.who ≡ name) × (m.core.log.start ≤ length w.group) × (decides (w.nodes name) m ≡ true → IsNew w (view m)) in
-    let old : P (w.nodes name) = ((names_hold rules events may).who name, first, λ t. absurd (never _ _ (rw (same_stamp (view (w.nodes name))) at t))) in
+    let old : P (w.nodes name) = ((names_hold rules events may).who name, first, λ t. absurd (never _ _ (rw (stamp_itself (view (w.nodes name))) at t))) in
     let now : P (v.nodes name) = subst P (sym (ap (λ ns. ns name) same)) old in
     record { own = now.0; begins_ = now.1; new = now.2 }
 

@@ -1,34 +1,17 @@
 -- Which Views a Piece and a Result add to a node's list.
-use Rattle.std.proofs.Common.{◌≡◌, ℕ, ◌+◌, ◌-◌, max, ◌==◌, ◌&&◌, ◌||◌, not, nat_lt, nat_le, if◌then◌else◌, Bool, true, false, List, [], ◌∷◌, Option, Some, None}
-use Rattle.std.proofs.Common.{refl, sym, ap, ◌∙◌, subst, arith}
-use Rattle.std.specs.List.{list_any}
-use Rattle.std.proofs.lemmas.Bool.Decides.{nat_tests}
-use Rattle.am_base.specs.declared.outcome.Outcome.{Outcome}
+use Rattle.am_world.proofs.Words.{or-false, eq-eqb, view_last, not-false, same_stamp, ◌≡◌, ℕ, ◌+◌, ◌-◌, max, ◌==◌, ◌&&◌, ◌||◌, not, nat_lt, nat_le}
+use Rattle.am_world.proofs.Words.{if◌then◌else◌, Bool, true, false, List, [], ◌∷◌, Option, Some, None, refl, sym, ap, ◌∙◌, subst, list_any, Outcome, Stamp}
+use Rattle.am_world.proofs.Words.{Image, Entry, View, has, size, stamp_lt, stamp_eq, Log, fits, Status, has_log, Ballot, top, image_of, view, those}
+use Rattle.am_world.proofs.Words.{is_member, has_own_leave, is_within_bound, push_entry, trim_up_to, Plan, Step, quiet, finish, Verdict, with_promise}
+use Rattle.am_world.proofs.Words.{need_of, best_of, is_waited_for, left_in, trim_for, decide, decide_view, ends, restart_reports, refresh_at_end}
+use Rattle.am_world.proofs.Words.{is_view_past, push_fetched, catch_up, decide_anew, fetches_from, piece_promised, piece_for, piece_row, hears_result}
+use Rattle.am_world.proofs.Words.{result_row, hears_member, hear_row, is_view_of, split, and_both, or_first, rests_at_end, view_pushed, not_above_itself}
+use Rattle.am_world.proofs.Words.{IsOpen, OpenBallot, Balloted}
+use Rattle.am_base.specs.Lists.{with_entry}
+use Rattle.am_model.specs.Node.{Node}
 use Rattle.am_base.specs.declared.outcome.Outcome.TheVariants as said
-use Rattle.am_base.specs.declared.name.Stamp.{Stamp}
-use Rattle.am_base.specs.declared.image.Image.{Image}
-use Rattle.am_base.specs.declared.entry.Entry.{Entry}
-use Rattle.am_base.specs.declared.entry.Entry.TheVariants.{Data, Join, Leave, View}
-use Rattle.am_base.specs.Names.{has, size}
-use Rattle.am_base.specs.Stamps.{stamp_lt, stamp_eq}
-use Rattle.am_base.specs.Lists.{Log, fits, with_entry}
 use Rattle.am_packet.specs.declared.packet.Packet.TheVariants as packet
-use Rattle.am_model.specs.declared.status.Status.{Status}
-use Rattle.am_model.specs.Node.{has_log, Node, Ballot, top, image_of, view, those, is_member, has_own_leave, is_within_bound, push_entry, trim_up_to}
-use Rattle.am_model.specs.Emit.{Plan, Step, quiet, finish}
-use Rattle.am_model.specs.Ballots.{Verdict, with_promise, need_of, best_of, is_waited_for, left_in, trim_for, decide, decide_view, ends, restart_reports}
-use Rattle.am_model.specs.Refresh.{refresh_at_end}
-use Rattle.am_model.specs.Resets.{is_view_past, push_fetched, catch_up, decide_anew, fetches_from, piece_promised, piece_for, piece_row, hears_result}
-use Rattle.am_model.specs.Resets.{result_row}
-use Rattle.am_model.specs.Hearing.{hears_member, hear_row}
-use Rattle.am_play.specs.Lawful.{is_view_of}
-use Rattle.am_base.proofs.Greatest.{split, and_both}
-use Rattle.am_effects.proofs.Tests.{not_false, or_first}
-use Rattle.am_effects.proofs.Rests.{rests_at_end}
-use Rattle.am_effects.proofs.Says.{view_pushed}
-use Rattle.am_laws.proofs.Stamps.{not_above_itself, same_stamp}
-use Rattle.am_laws.proofs.ViewChanges.{IsOpen, OpenBallot, Balloted}
-use Rattle.am_world.proofs.StoredViews.{has_view, view_in, or_none, or_swaps, has_view_more, has_view_plain, view_of_pushed}
+use Rattle.am_world.proofs.StoredViews.{has_view, view_in, or_swaps, has_view_more, has_view_plain}
 
 -- the name decided a view of its own, as its list tells
 abbrev pub has_decided : ℕ → Node → Log → Bool
@@ -42,8 +25,7 @@ any_of es v = list_any (is_view_of v) es
 pub data Adds (name : ℕ) (brought : List Entry) (m : Node) (s : Status) (log : Log) : Type 0 where
   none : ((v : Stamp) → has_view log v ≡ has_view m.core.log v) → view_in log ≡ view m → Adds name brought m s log
   last : ((v : Stamp) → has_view log v ≡ (has_view m.core.log v || (any_of brought v || stamp_eq (view_in log) v)))
-      → stamp_lt (view m) (view_in log) ≡ true
-      → (is_member s ≡ true → is_member m.status ≡ true)
+      → stamp_lt (view m) (view_in log) ≡ true → (is_member s ≡ true → is_member m.status ≡ true)
       → (has_decided name m log ≡ false → (v : Stamp) → (any_of brought v || stamp_eq (view_in log) v) ≡ stamp_eq (view_in log) v)
       → Adds name brought m s log
   began : ((v : Stamp) → has_view log v ≡ false) → ((v : Stamp) → has_view m.core.log v ≡ false) → has_log m.status ≡ false → is_member s ≡ true
@@ -112,9 +94,6 @@ twice : (b : Bool) → ((b || false) || b) ≡ b
 twice true = refl
 twice false = refl
 
-is_name : (a b : ℕ) → a ≡ b → (a == b) ≡ true
-is_name a b e = grind (arith, nat_tests)
-
 pub differs : (a b : Stamp) → stamp_lt a b ≡ true → stamp_eq a b ≡ false
 differs a b h = split (stamp_eq a b)
     (λ t. absurd (let same = same_stamp a b t in let n : stamp_lt a b ≡ false = subst (λ (x : Stamp). stamp_lt a x ≡ false) same (not_above_itself a) in cc))
@@ -123,12 +102,9 @@ differs a b h = split (stamp_eq a b)
 -- it stands alone
 came : (name : ℕ) (m : Node) (base : ℕ) (e : Entry) (s : Status) → is_member m.status ≡ true → fits (image_of m) e ≡ true
     → Adds name (e ∷ []) m s (push_entry (trim_up_to m base) e).core.log
-came name m base (Data from req body) s member fit = none (λ v. has_view_plain m _ v refl) (view_pushed m _ refl)
-came name m base (Join joiner) s member fit = none (λ v. has_view_plain m _ v refl) (view_pushed m _ refl)
-came name m base (Leave leaver) s member fit = none (λ v. has_view_plain m _ v refl) (view_pushed m _ refl)
 came name m base (View stamp names resilience) s member fit =
     let e = View stamp names resilience in
-    let same : view_in (push_entry m e).core.log ≡ stamp = view_of_pushed m stamp names resilience in
+    let same : view_in (push_entry m e).core.log ≡ stamp = view_last m stamp names resilience in
     let one : (v : Stamp) → (any_of (e ∷ []) v || stamp_eq (view_in (push_entry m e).core.log) v) ≡ stamp_eq (view_in (push_entry m e).core.log) v =
     λ v. ap (λ (u : Stamp). (stamp_eq stamp v || false) || stamp_eq u v) same ∙ twice (stamp_eq stamp v) ∙ ap (λ (u : Stamp). stamp_eq u v) (sym same) in
     last
@@ -136,6 +112,7 @@ came name m base (View stamp names resilience) s member fit =
     (ap (λ (u : Stamp). stamp_lt (view m) u) same ∙ fits_above (image_of m) stamp names resilience fit)
     (λ t. member)
     (λ f. one)
+came name m base _ s member fit = none (λ v. has_view_plain m _ v refl) (view_pushed m _ refl)
 
 -- and then a decided View
 came_decided : (name : ℕ) (m : Node) (base : ℕ) (e : Entry) (s : Status) (stamp : Stamp) (names : List ℕ) (resilience : ℕ) → is_member m.status ≡ true
@@ -144,15 +121,15 @@ came_decided : (name : ℕ) (m : Node) (base : ℕ) (e : Entry) (s : Status) (st
 came_decided name m base e s stamp names resilience member above own =
     let p = push_entry m e in
     let d = View stamp names resilience in
-    let same : view_in (push_entry p d).core.log ≡ stamp = view_of_pushed p stamp names resilience in
+    let same : view_in (push_entry p d).core.log ≡ stamp = view_last p stamp names resilience in
     let by : ((view_in (push_entry p d).core.log).by == name) ≡ true = let q : (view_in (push_entry p d).core.log).by ≡ name = ap (λ (u : Stamp). u.by) same
     ∙ own in
-    is_name _ name q in
+    eq-eqb _ name q in
     let up : stamp_lt (view m) (view_in (push_entry p d).core.log) ≡ true = ap (λ (u : Stamp). stamp_lt (view m) u) same ∙ above in
     let new = differs (view m) (view_in (push_entry p d).core.log) up in
     last
     (λ v. has_view_more p d v ∙ ap (λ b. b || stamp_eq stamp v) (has_view_more m e v) ∙ or_swaps (has_view m.core.log v) (is_view_of v e) (stamp_eq stamp v)
-    ∙ (λ i. has_view m.core.log v || (sym (or_none (is_view_of v e)) i || stamp_eq (sym same i) v)))
+    ∙ (λ i. has_view m.core.log v || (sym (or-false (is_view_of v e)) i || stamp_eq (sym same i) v)))
     up
     (λ t. member)
     (λ f. absurd (let g = rw (member, by, new) at f in cc))
@@ -170,7 +147,7 @@ fetched_adds name m v base number e in_ballot then_ goes =
     (λ g. if_else P (nat_lt (top m + 1) number) _ _ (λ t. q (said.Gap (top m + 1)))
     (λ k. if_else P (nat_lt m.core.taken base) _ _ (λ t. q said.Behind)
     (λ l. if_else P (not (fits (image_of m) e) || (is_view_past v in_ballot e || not (is_within_bound m (max m.core.base base) number))) _ _ (λ t. q said.Unfit)
-    (λ u. goes (not_false _ (or_first (not (fits (image_of m) e)) _ u)))))))
+    (λ u. goes (not-false _ (or_first (not (fits (image_of m) e)) _ u)))))))
 
 promised_adds : (name : ℕ) (m : Node) (s : ℕ) (v : Stamp) (base number : ℕ) (e : Entry) → is_member m.status ≡ true
     → PlanAdds name (e ∷ []) m (piece_promised m s v base number e)
@@ -196,8 +173,7 @@ piece_for_adds name m s v base number e (Some b) who member open_ =
     (λ g. fetched_adds name m v base number e true (decide_anew b)
     (λ fit. let p = push_entry (trim_up_to m base) e in record {
       stays = refl;
-      adds =
-          decided_adds name m base e b (decide p b) (comes_to p b) who member (open_ f) fit;
+      adds = decided_adds name m base e b (decide p b) (comes_to p b) who member (open_ f) fit;
     })))
 
 pub piece_adds : (name : ℕ) (m : Node) (s : ℕ) (v : Stamp) (base number : ℕ) (e : Entry) → m.core.who ≡ name → Balloted m
@@ -216,7 +192,7 @@ viewed_adds : (name : ℕ) (m : Node) (stamp : Stamp) (names : List ℕ) (resili
     → fits (image_of m) (View stamp names resilience) ≡ true → Adds name [] m m.status (push_entry m (View stamp names resilience)).core.log
 viewed_adds name m stamp names resilience member fit =
     let e = View stamp names resilience in
-    let same : view_in (push_entry m e).core.log ≡ stamp = view_of_pushed m stamp names resilience in
+    let same : view_in (push_entry m e).core.log ≡ stamp = view_last m stamp names resilience in
     last
     (λ v. has_view_more m e v ∙ ap (λ (u : Stamp). has_view m.core.log v || stamp_eq u v) (sym same))
     (ap (λ (u : Stamp). stamp_lt (view m) u) same ∙ fits_above (image_of m) stamp names resilience fit)
@@ -236,7 +212,7 @@ promised_result name m s v base number names resilience member =
     (λ l. if_else P (nat_lt p.core.taken base) _ _ (λ t. record { stays = refl; adds = none (λ u. refl) refl })
     (λ q. if_else P (not (fits (image_of p) e) || not (is_within_bound p (max p.core.base base) number)) _ _
     (λ t. record { stays = refl; adds = none (λ u. refl) refl })
-    (λ u. record { stays = refl; adds = viewed_adds name m v names resilience member (not_false _ (or_first (not (fits (image_of p) e)) _ u)) }))))))
+    (λ u. record { stays = refl; adds = viewed_adds name m v names resilience member (not-false _ (or_first (not (fits (image_of p) e)) _ u)) }))))))
 
 pub result_adds : (name : ℕ) (m : Node) (s : ℕ) (v : Stamp) (base number : ℕ) (names : List ℕ) (resilience : ℕ)
     → PlanAdds name [] m (hear_row m (packet.Result s v base number names resilience))

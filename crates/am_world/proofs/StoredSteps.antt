@@ -1,35 +1,14 @@
 -- Which Views a step of any cause adds to a node's list, and that these are what a watcher is told.
-use Rattle.std.proofs.Common.{◌≡◌, ℕ, ◌&&◌, ◌||◌, not, if◌then◌else◌, Bool, true, false, List, [], ◌∷◌, ◌++◌, Option, Some, None, Ok, Err, refl, sym, ap, ◌∙◌}
-use Rattle.std.proofs.Common.{arith}
-use Rattle.std.specs.List.{list_any}
-use Rattle.std.proofs.lemmas.Bool.Decides.{nat_tests}
-use Rattle.std.proofs.lemmas.List.Folds.{list_any-append}
-use Rattle.am_base.specs.declared.outcome.Outcome.{Outcome}
-use Rattle.am_base.specs.declared.name.Stamp.{Stamp}
-use Rattle.am_base.specs.declared.entry.Entry.{Entry}
-use Rattle.am_base.specs.declared.event.NodeEvent.{NodeEvent}
+use Rattle.am_world.proofs.Words.{or_right, or_left, or-false, logged, stamp_itself, ◌≡◌, ℕ, ◌&&◌, ◌||◌, not, if◌then◌else◌, Bool, true, false, List, [], ◌∷◌}
+use Rattle.am_world.proofs.Words.{◌++◌, Option, Some, None, Ok, Err, refl, sym, ap, ◌∙◌, list_any, list_any-append, Outcome, Stamp, Entry, NodeEvent}
+use Rattle.am_world.proofs.Words.{stamp_eq, Packet, Piece, Read, reading, cause_of, Ballot, view, is_member, has_log, Step, finish, hear_row, read_row, step}
+use Rattle.am_world.proofs.Words.{row, hear, hear_refusal, is_view_of, split, Cause, hears, refuses, Effect, steps_have_effects, hearing_has_effects}
+use Rattle.am_world.proofs.Words.{refusing_has_effects, Balloted, OpenBallot, decides, standing_of, view_of, IsBare, begins, one_of, piece_in, fetched_from}
+use Rattle.am_world.proofs.Words.{entry_in, last_view, stored_of}
+use Rattle.am_packet.specs.declared.packet.Packet.TheVariants.{Result}
+use Rattle.am_model.specs.Node.{Node}
 use Rattle.am_base.specs.declared.event.NodeEvent.TheVariants as does
-use Rattle.am_base.specs.Stamps.{stamp_eq}
-use Rattle.am_packet.specs.declared.packet.Packet.{Packet}
-use Rattle.am_packet.specs.declared.packet.Packet.TheVariants.{Request, Spread, Bcast, Order, Accept, Ack, Nack, Hold, JoinAsk, Welcome, LeaveAsk, Gone, Invite}
-use Rattle.am_packet.specs.declared.packet.Packet.TheVariants.{Vote, Fetch, Piece, Result, HandOver}
-use Rattle.am_codec.specs.Reading.{Read, reading, cause_of}
-use Rattle.am_model.specs.Node.{Node, Ballot, view, is_member, has_log}
-use Rattle.am_model.specs.Emit.{Step, finish}
-use Rattle.am_model.specs.Hearing.{hear_row}
-use Rattle.am_model.specs.Step.{read_row, step, row, hear, hear_refusal}
-use Rattle.am_laws.proofs.ViewChanges.{log_of_member}
-use Rattle.am_play.specs.Lawful.{is_view_of}
-use Rattle.am_base.proofs.Greatest.{split}
-use Rattle.am_effects.specs.Causes.{Cause, hears, refuses}
-use Rattle.am_effects.specs.Effects.{Effect}
-use Rattle.am_effects.proofs.Hearing.{steps_have_effects, hearing_has_effects, refusing_has_effects}
-use Rattle.am_laws.proofs.ViewChanges.{Balloted, OpenBallot}
-use Rattle.am_watch.specs.Watching.{decides}
-use Rattle.am_watch.specs.Watches.{standing_of, view_of}
-use Rattle.am_watched.proofs.Lists.{IsBare}
-use Rattle.am_world.specs.Watched.{begins, one_of, piece_in, fetched_from, entry_in, last_view, stored_of}
-use Rattle.am_world.proofs.StoredViews.{has_view, or_none, IsAbove, BringsNone, Walked, still, more, new, walked}
+use Rattle.am_world.proofs.StoredViews.{has_view, IsAbove, BringsNone, Walked, still, more, new, walked}
 use Rattle.am_world.proofs.StoredPieces.{any_of, Adds, none, last, began, StepAdds, finish_adds, differs, piece_adds, result_adds}
 
 -- ---- what brings no View
@@ -66,26 +45,11 @@ packet_adds name m p plain kept bare = plain_adds name m (hears p) (hear m p) pl
 
 hear_adds : (name : ℕ) (m : Node) (p : Packet) → m.core.who ≡ name → Balloted m → IsBare m → StepAdds name (one_of (piece_in p)) m (hear m p)
 unfolding hear
-hear_adds name m (Request s v report req body) who kept bare = packet_adds name m _ refl kept bare
-hear_adds name m (Spread s v report req body) who kept bare = packet_adds name m _ refl kept bare
-hear_adds name m (Bcast s v base acc number e) who kept bare = packet_adds name m _ refl kept bare
-hear_adds name m (Order s v base acc number from req) who kept bare = packet_adds name m _ refl kept bare
-hear_adds name m (Accept s v base acc high poll) who kept bare = packet_adds name m _ refl kept bare
-hear_adds name m (Ack s v report) who kept bare = packet_adds name m _ refl kept bare
-hear_adds name m (Nack s v report) who kept bare = packet_adds name m _ refl kept bare
-hear_adds name m (Hold s v base high req) who kept bare = packet_adds name m _ refl kept bare
-hear_adds name m (JoinAsk s v) who kept bare = packet_adds name m _ refl kept bare
-hear_adds name m (Welcome s v base join image) who kept bare = packet_adds name m _ refl kept bare
-hear_adds name m (LeaveAsk s v report) who kept bare = packet_adds name m _ refl kept bare
-hear_adds name m (Gone s v number) who kept bare = packet_adds name m _ refl kept bare
-hear_adds name m (Invite s v) who kept bare = packet_adds name m _ refl kept bare
-hear_adds name m (Vote s v vote) who kept bare = packet_adds name m _ refl kept bare
-hear_adds name m (Fetch s v stored) who kept bare = packet_adds name m _ refl kept bare
 hear_adds name m (Piece s v base number e) who kept bare = finish_adds name (e ∷ []) m (hear_row m (Piece s v base number e))
     (piece_adds name m s v base number e who kept)
 hear_adds name m (Result s v base number names resilience) who kept bare =
     finish_adds name [] m (hear_row m (Result s v base number names resilience)) (result_adds name m s v base number names resilience)
-hear_adds name m (HandOver s v) who kept bare = packet_adds name m _ refl kept bare
+hear_adds name m _ who kept bare = packet_adds name m _ refl kept bare
 
 read_adds : (name : ℕ) (m : Node) (r : Read Packet) → m.core.who ≡ name → Balloted m → IsBare m
     → StepAdds name (one_of (fetched_from r)) m (finish m (read_row m r))
@@ -111,14 +75,6 @@ step_adds name m (does.Hear bytes) who kept bare = read_adds name m (reading byt
 
 -- ---- what is told
 
-or_true : (a b : Bool) → b ≡ true → (a || b) ≡ true
-or_true true b h = refl
-or_true false b h = h
-
-first_true : (a b : Bool) → a ≡ true → (a || b) ≡ true
-first_true true b h = refl
-first_true false b h = absurd (cc)
-
 both_false : (a b : Bool) → a ≡ false → b ≡ false → (a || b) ≡ false
 both_false true b h k = absurd (cc)
 both_false false b h k = k
@@ -132,9 +88,6 @@ just_begun : (a b : Bool) → a ≡ false → b ≡ true → (not a && b) ≡ tr
 just_begun true b h k = absurd (cc)
 just_begun false b h k = k
 
-itself : (a : Stamp) → stamp_eq a a ≡ true
-itself a = grind (arith, nat_tests)
-
 -- the Views of what is told are those that were added
 pub told_is : (name : ℕ) (m n : Node) (what : NodeEvent) (v : Stamp) → Adds name (one_of (entry_in what)) m n.status n.core.log
     → has_view n.core.log v ≡ (has_view m.core.log v || any_of (stored_of name (standing_of m) (standing_of n) (view_of n) what) v)
@@ -143,8 +96,8 @@ told_is name m n what v (none views same) =
     let told : Bool → List Entry = λ b. if b then [] else (if decides (standing_of m) name (standing_of n) then one_of (entry_in what) else [])
     ++ last_view (view_of n) ∷ [] in
     let is : (begins (standing_of m) n.status || stamp_eq (view m) (view n)) ≡ true =
-    or_true (begins (standing_of m) n.status) _ (ap (stamp_eq (view m)) same ∙ itself (view m)) in
-    views v ∙ sym (or_none old) ∙ ap (λ b. old || any_of (told b) v) (sym is)
+    or_right (begins (standing_of m) n.status) _ (ap (stamp_eq (view m)) same ∙ stamp_itself (view m)) in
+    views v ∙ sym (or-false old) ∙ ap (λ b. old || any_of (told b) v) (sym is)
 told_is name m n what v (last views above member absorbed) =
     let old = has_view m.core.log v in
     let es = one_of (entry_in what) in
@@ -154,16 +107,16 @@ told_is name m n what v (last views above member absorbed) =
     let d = decides (standing_of m) name (standing_of n) in
     let told : Bool → List Entry = λ b. if b then [] else with_ d in
     let is : (begins (standing_of m) n.status || stamp_eq (view m) (view n)) ≡ false =
-    both_false (begins (standing_of m) n.status) _ (not_begun (has_log m.status) (is_member n.status) (λ t. log_of_member m.status (member t)))
+    both_false (begins (standing_of m) n.status) _ (not_begun (has_log m.status) (is_member n.status) (λ t. logged m.status (member t)))
     (differs (view m) (view n) above) in
     let all : (any_of es v || same) ≡ any_of (with_ d) v = split d
-    (λ t. ap (λ b. any_of es v || b) (sym (or_none same)) ∙ sym (list_any-append (is_view_of v) es (l ∷ [])) ∙ ap (λ b. any_of (with_ b) v) (sym t))
-    (λ f. absorbed f v ∙ sym (or_none same) ∙ ap (λ b. any_of (with_ b) v) (sym f)) in
+    (λ t. ap (λ b. any_of es v || b) (sym (or-false same)) ∙ sym (list_any-append (is_view_of v) es (l ∷ [])) ∙ ap (λ b. any_of (with_ b) v) (sym t))
+    (λ f. absorbed f v ∙ sym (or-false same) ∙ ap (λ b. any_of (with_ b) v) (sym f)) in
     views v ∙ ap (λ b. old || b) all ∙ ap (λ b. old || any_of (told b) v) (sym is)
 told_is name m n what v (began views bare was is_) =
     let old = has_view m.core.log v in
     let told : Bool → List Entry = λ b. if b then [] else (if decides (standing_of m) name (standing_of n) then one_of (entry_in what) else [])
     ++ last_view (view_of n) ∷ [] in
     let is : (begins (standing_of m) n.status || stamp_eq (view m) (view n)) ≡ true =
-    first_true (begins (standing_of m) n.status) _ (just_begun (has_log m.status) (is_member n.status) was is_) in
-    views v ∙ sym (bare v) ∙ sym (or_none old) ∙ ap (λ b. old || any_of (told b) v) (sym is)
+    or_left (begins (standing_of m) n.status) _ (just_begun (has_log m.status) (is_member n.status) was is_) in
+    views v ∙ sym (bare v) ∙ sym (or-false old) ∙ ap (λ b. old || any_of (told b) v) (sym is)

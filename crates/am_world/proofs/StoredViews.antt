@@ -1,39 +1,19 @@
 -- Which Views the changes of a step add to a node's list.
-use Rattle.std.proofs.Common.{◌≡◌, ℕ, ◌+◌, ◌≤◌, ◌==◌, ◌&&◌, ◌||◌, not, nat_lt, Bool, true, false, List, [], ◌∷◌, length, Option, Some, None, refl, sym, ap, ◌∙◌}
-use Rattle.std.proofs.Common.{subst, arith, length-append}
-use Rattle.std.specs.List.{list_any}
-use Rattle.std.proofs.lemmas.Bool.Decides.{nat_tests}
-use Rattle.std.proofs.lemmas.List.Folds.{list_any-append}
-use Rattle.am_base.specs.declared.outcome.Outcome.{Outcome}
+use Rattle.am_world.proofs.Words.{view_one, or-false, view_last, next_above, welcomed_none, numbers_plain, not-true, same_stamp, ◌≡◌, ℕ, ◌+◌, ◌≤◌, ◌==◌, ◌&&◌}
+use Rattle.am_world.proofs.Words.{◌||◌, not, Bool, true, false, List, [], ◌∷◌, length, Option, Some, None, refl, sym, ap, ◌∙◌, subst, arith, length-append}
+use Rattle.am_world.proofs.Words.{list_any, nat_tests, list_any-append, Outcome, Stamp, Image, Entry, Leave, stamp_lt, stamp_eq, Log, told_by, Ballot, top}
+use Rattle.am_world.proofs.Words.{view, acts, is_sequencer, is_member, push_entry, has_log, Verdict, overtake, need_of, left_in, trim_for, next_stamp}
+use Rattle.am_world.proofs.Words.{refresh, settle, refresh_at_end, is_view, begin_list, is_view_of, split, and_both, Cause, hears, HasOpen, Balloting}
+use Rattle.am_world.proofs.Words.{with_more, without_one, as_it_is, Looks, finds_itself_out, waits, fetches_from_best, finds_too_few, finds_no_room, BeginsBy}
+use Rattle.am_world.proofs.Words.{by_reset, by_hand_over, Promises, invited, overtaken_by, told_result, MayBeWelcomed, Change, refreshes, settles}
+use Rattle.am_world.proofs.Words.{takes_report, admits, numbers, keeps_body, notes, stores, begins_list, departs, promises, opens, looks, fetches}
+use Rattle.am_world.proofs.Words.{stores_view, queues, collects, takes, asks_to_join, asks_to_leave, closes, Changes, rests_refresh, rests_at_end, settle_is}
+use Rattle.am_world.proofs.Words.{view_pushed, along, at_most, at_most_below, not_above}
+use Rattle.am_model.specs.Node.{Node}
+use Rattle.am_effects.specs.Looks.{decides}
 use Rattle.am_base.specs.declared.outcome.Outcome.TheVariants as said
-use Rattle.am_base.specs.declared.name.Stamp.{Stamp}
-use Rattle.am_base.specs.declared.image.Image.{Image}
-use Rattle.am_base.specs.declared.entry.Entry.{Entry}
-use Rattle.am_base.specs.declared.entry.Entry.TheVariants.{Data, Join, Leave, View}
-use Rattle.am_base.specs.Stamps.{stamp_lt, stamp_eq}
-use Rattle.am_base.specs.Lists.{Log, told_by}
 use Rattle.am_packet.specs.declared.packet.Packet.TheVariants as packet
 use Rattle.am_model.specs.declared.status.Status.TheVariants as status
-use Rattle.am_model.specs.Node.{Node, Ballot, top, image_of, view, acts, is_sequencer, is_member, push_entry, has_log}
-use Rattle.am_model.specs.Ballots.{Verdict, overtake, need_of, left_in, trim_for, next_stamp}
-use Rattle.am_model.specs.Refresh.{refresh, settle, refresh_at_end}
-use Rattle.am_model.specs.Receiving.{is_view}
-use Rattle.am_model.specs.Joining.{begin_list}
-use Rattle.am_play.specs.Lawful.{is_view_of}
-use Rattle.am_base.proofs.Greatest.{split, and_both}
-use Rattle.am_effects.specs.Causes.{Cause, hears}
-use Rattle.am_effects.specs.Looks.{HasOpen, Balloting, with_more, without_one, as_it_is, Looks, finds_itself_out, waits, fetches_from_best, finds_too_few}
-use Rattle.am_effects.specs.Looks.{finds_no_room, decides, BeginsBy, by_reset, by_hand_over}
-use Rattle.am_effects.specs.Changes.{Promises, invited, overtaken as overtaken_by, told_result, Numbers, asked_send, own_send, asked_join, asked_leave}
-use Rattle.am_effects.specs.Changes.{MayBeWelcomed, Change, refreshes, settles, takes_report, admits, numbers, keeps_body, notes, stores, begins_list, departs}
-use Rattle.am_effects.specs.Changes.{promises, opens, looks, fetches, stores_view, queues, collects, takes, asks_to_join, asks_to_leave, closes, Changes}
-use Rattle.am_effects.proofs.Tests.{not_true}
-use Rattle.am_effects.proofs.Rests.{rests_refresh, rests_at_end, settle_is}
-use Rattle.am_effects.proofs.Says.{told_pushed, view_pushed}
-use Rattle.am_effects.proofs.Ballots.{viewed}
-use Rattle.am_effects.proofs.Runs.{along}
-use Rattle.am_laws.proofs.Stamps.{at_most, at_most_below, not_above, same_stamp}
-use Rattle.am_watched.proofs.Chains.{welcomed_none}
 
 -- the View of this stamp stands in a list
 abbrev pub has_view : Log → Stamp → Bool
@@ -44,35 +24,15 @@ view_in log = (told_by log).view
 
 -- ---- one entry more
 
-pub or_none : (b : Bool) → (b || false) ≡ b
-or_none true = refl
-or_none false = refl
-
 pub or_swaps : (a b c : Bool) → ((a || b) || c) ≡ (a || (b || c))
 or_swaps true b c = refl
 or_swaps false b c = refl
 
-plain_is_none : (v : Stamp) (e : Entry) → is_view e ≡ false → is_view_of v e ≡ false
-plain_is_none v (Data from req body) f = refl
-plain_is_none v (Join name) f = refl
-plain_is_none v (Leave name) f = refl
-plain_is_none v (View stamp names resilience) f = absurd (cc)
-
 pub has_view_more : (m : Node) (e : Entry) (v : Stamp) → has_view (push_entry m e).core.log v ≡ (has_view m.core.log v || is_view_of v e)
-has_view_more m e v = list_any-append (is_view_of v) m.core.log.entries (e ∷ []) ∙ ap (λ b. has_view m.core.log v || b) (or_none (is_view_of v e))
+has_view_more m e v = list_any-append (is_view_of v) m.core.log.entries (e ∷ []) ∙ ap (λ b. has_view m.core.log v || b) (or-false (is_view_of v e))
 
 pub has_view_plain : (m : Node) (e : Entry) (v : Stamp) → is_view e ≡ false → has_view (push_entry m e).core.log v ≡ has_view m.core.log v
-has_view_plain m e v plain = has_view_more m e v ∙ ap (λ b. has_view m.core.log v || b) (plain_is_none v e plain) ∙ or_none (has_view m.core.log v)
-
-pub view_of_pushed : (m : Node) (stamp : Stamp) (names : List ℕ) (resilience : ℕ) → view (push_entry m (View stamp names resilience)) ≡ stamp
-view_of_pushed m stamp names resilience = ap (λ (i : Image). i.view) (told_pushed m (View stamp names resilience))
-    ∙ (viewed (image_of m) (top m + 1) stamp names resilience).1
-
-numbers_plain : (c : Cause) (m : Node) (e : Entry) → Numbers c m e → is_view e ≡ false
-numbers_plain c m e (asked_send s v report req body by known stays next) = refl
-numbers_plain c m e (own_send s is last) = refl
-numbers_plain c m e (asked_join s v is other fit) = refl
-numbers_plain c m e (asked_leave s v report is other known stays) = refl
+has_view_plain m e v plain = has_view_more m e v ∙ ap (λ b. has_view m.core.log v || b) (view_one v e plain) ∙ or-false (has_view m.core.log v)
 
 -- ---- what the changes have done so far
 
@@ -166,9 +126,6 @@ above_overtaken v by (Some b) h = split (not b.is_over && stamp_lt b.stamp by)
     (λ t. rw t (λ over. absurd (cc)))
     (λ f. rw f h)
 
-next_above : (promise : Stamp) (who : ℕ) → stamp_lt promise (record { round = promise.round + 1; by = who }) ≡ true
-next_above promise who = let t : nat_lt promise.round (promise.round + 1) ≡ true = grind (arith, nat_tests) in rw t refl
-
 above_last : (m x : Node) (b : Ballot) → HasOpen x b → Still m x → stamp_lt (view x) b.stamp ≡ true
 above_last m x b o h = subst (IsAbove (view x)) o.last h.opened o.open_
 
@@ -190,15 +147,12 @@ still_ballot m x y stays promise log opened h = record {
 
 look_still : {c : Cause} (o : Outcome) (m x : Node) (b : Ballot) (v : Verdict) → Looks x b v → o ≡ v.outcome → stamp_lt (view x) b.stamp ≡ true → Still m x
     → Walked c o m v.node
-look_still o m x b v (finds_itself_out y) is up h = still (still_ballot m x v.node refl refl refl (λ over. absurd (cc)) h)
 look_still o m x b v (waits y z) is up h = still (still_ballot m x v.node refl refl refl (λ over. up) h)
 look_still o m x b v (fetches_from_best y z u) is up h = still (still_ballot m x v.node refl refl refl (λ over. up) h)
-look_still o m x b v (finds_too_few y z) is up h = still (still_ballot m x v.node refl refl refl (λ over. absurd (cc)) h)
-look_still o m x b v (finds_no_room y) is up h = still (still_ballot m x v.node refl refl refl (λ over. absurd (cc)) h)
 look_still o m x b v (decides may) is up h =
     let names = left_in b (need_of x b) in
     let t = trim_for x b names in
-    let stamp : view v.node ≡ b.stamp = view_of_pushed t b.stamp names _ in
+    let stamp : view v.node ≡ b.stamp = view_last t b.stamp names _ in
     more (record {
       views = λ s. has_view_more t _ s ∙ (λ i. h.views s i || stamp_eq (sym stamp i) s);
       above = (λ i. stamp_lt (sym h.same i) (stamp i)) ∙ up;
@@ -208,12 +162,13 @@ look_still o m x b v (decides may) is up h =
       is = is;
       low = simp length-append (omega arith);
     })
+look_still o m x b v _ is up h = still (still_ballot m x v.node refl refl refl (λ over. absurd (cc)) h)
 
 welcomed_still : {c : Cause} {o : Outcome} (m x : Node) (s : ℕ) (v : Stamp) (base join : ℕ) (image : Image) → c ≡ hears (packet.Welcome s v base join image)
     → o ≡ said.Welcomed join → MayBeWelcomed x s v base join image → Still m x → Walked c o m (begin_list x v base join image)
 welcomed_still m x s v base join image is o may h =
     let asks = may.asks in
-    let other = not_true (s == x.core.who) (and_both (not (s == x.core.who)) _ asks).0 in
+    let other = not-true (s == x.core.who) (and_both (not (s == x.core.who)) _ asks).0 in
     let own : v.by ≡ s = let t = may.own in grind (arith, nat_tests) in
     new (record {
       views = λ w. refl;
@@ -311,44 +266,31 @@ more_plain o m x y e plain stays log h =
     more_same o m p y stays log k
 
 look_more : (o : Outcome) (m x : Node) (b : Ballot) (v : Verdict) → Looks x b v → o ≡ v.outcome → OneMore o m x → OneMore o m v.node
-look_more o m x b v (finds_itself_out y) is h = more_same o m x v.node (λ t. t) refl h
-look_more o m x b v (waits y z) is h = more_same o m x v.node (λ t. t) refl h
-look_more o m x b v (fetches_from_best y z u) is h = more_same o m x v.node (λ t. t) refl h
-look_more o m x b v (finds_too_few y z) is h = more_same o m x v.node (λ t. t) refl h
-look_more o m x b v (finds_no_room y) is h = more_same o m x v.node (λ t. t) refl h
 look_more o m x b v (decides may) is h = absurd (
     let first = h.is in
     let same : h.number ≡ top x + 1 = cc in
     let low = h.low in
     omega arith)
+look_more o m x b v _ is h = more_same o m x v.node (λ t. t) refl h
 
 change_more : {c : Cause} {o : Outcome} (m x y : Node) → BringsNone c → Change c o x y → OneMore o m x → OneMore o m y
 change_more {c} {o} m x y brings refreshes h = let r = rests_refresh x in more_same o m x (refresh x) (λ t. ap is_member (sym r.rests.status) ∙ t) r.log h
 change_more {c} {o} m x y brings settles h = let e = settle_is x in
     more_same o m x (settle x) (λ t. ap (λ (n : Node). is_member n.status) (sym e) ∙ t) (ap (λ (n : Node). n.core.log) e) h
-change_more {c} {o} m x y brings (takes_report s v report by may) h = more_same o m x y (λ t. t) refl h
-change_more {c} {o} m x y brings (admits s v is leads fit) h = more_same o m x y (λ t. t) refl h
 change_more {c} {o} m x y brings (numbers e leads room why) h = more_plain o m x y e (numbers_plain c x e why) (λ t. t) refl h
-change_more {c} {o} m x y brings (keeps_body s v report req body is by) h = more_same o m x y (λ t. t) refl h
-change_more {c} {o} m x y brings (notes s v base acc by from) h = more_same o m x y (λ t. t) refl h
 change_more {c} {o} m x y brings (stores s v base acc number e by from plain may) h = more_plain o m x y e plain (λ t. t) refl h
 change_more {c} {o} m x y brings (begins_list s v base join image is says may) h = absurd (let first = h.is in cc)
 change_more {c} {o} m x y brings (departs s v number is by leaves) h = more_same o m x y (λ t. absurd (cc)) refl h
-change_more {c} {o} m x y brings (promises v low why) h = more_same o m x y (λ t. t) refl h
-change_more {c} {o} m x y brings (opens least resilience by may) h = more_same o m x y (λ t. t) refl h
 change_more {c} {o} m x y brings (looks b verdict over why look is) h = look_more o m x b verdict look is h
 change_more {c} {o} m x y brings (fetches s v base number e is by promise below from may) h = absurd (brings.pieces s v base number e is)
 change_more {c} {o} m x y brings (stores_view s v base number names resilience is by own other promise below may) h =
     absurd (brings.results s v base number names resilience is)
-change_more {c} {o} m x y brings (queues body is says member stays few) h = more_same o m x y (λ t. t) refl h
-change_more {c} {o} m x y brings (collects req is) h = more_same o m x y (λ t. t) refl h
-change_more {c} {o} m x y brings (takes e is says member some there) h = more_same o m x y (λ t. t) refl h
 change_more {c} {o} m x y brings (asks_to_join is was) h = more_same o m x y (λ t. absurd (cc)) refl h
-change_more {c} {o} m x y brings (asks_to_leave is was stays done) h = more_same o m x y (λ t. t) refl h
 change_more {c} {o} m x y brings (closes leads leaves alone room) h =
     let p = push_entry x (Leave x.core.who) in
     let r = rests_at_end p in
     more_plain o m x y (Leave x.core.who) refl (λ t. absurd (cc)) r.log h
+change_more {c} {o} m x y brings _ h = more_same o m x y (λ t. t) refl h
 
 -- ---- a list that has begun
 

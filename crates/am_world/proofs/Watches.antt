@@ -1,30 +1,17 @@
 -- What a watcher is told, one after another.
-use Rattle.std.proofs.Common.{◌≡◌, ℕ, ◌+◌, ◌-◌, ◌<◌, ◌≤◌, ◌&&◌, ◌||◌, ◌==◌, not, Bool, true, false, List, [], ◌∷◌, ◌++◌, length, take, drop, map}
-use Rattle.std.proofs.Common.{get_or}
-use Rattle.std.proofs.Common.{if◌then◌else◌, Option, Some, None, refl, sym, ap, ◌∙◌, arith}
-use Rattle.std.proofs.lemmas.List.{append-nil, get_or-drop, length-take, take_more, take_all}
-use Rattle.std.proofs.Common.{length-drop}
-use Rattle.am_base.specs.declared.entry.Entry.{Entry}
-use Rattle.am_watch.specs.declared.views.Pending.{Pending}
-use Rattle.am_base.specs.Stamps.{stamp_eq, stamp_lt}
-use Rattle.am_watch.specs.Watching.{Watching, note_entries, with_entry, with_entries, with_decided, decides, new_pending, finish, standing, accept, place_among}
-use Rattle.am_watch.specs.Watching.{number_of, or_else}
-use Rattle.am_base.specs.declared.event.NodeEvent.{NodeEvent}
-use Rattle.am_model.specs.Node.{Node, is_member}
-use Rattle.am_watch.specs.declared.views.DecidedView.{DecidedView}
-use Rattle.am_watch.specs.declared.views.Standing.{Standing}
-use Rattle.am_watch.specs.Watches.{view_of}
-use Rattle.am_world.specs.Watched.{begins, standing_after, stored_of, with_views, told_step}
-use Rattle.am_watch.proofs.Steps.{entries_go_on, accepted_goes_on}
-
-or_none : (b : Bool) → (b || false) ≡ b
-or_none true = refl
-or_none false = refl
+use Rattle.am_world.proofs.Words.{or-true, or-false, ◌≡◌, ℕ, ◌+◌, ◌-◌, ◌<◌, ◌≤◌, ◌&&◌, ◌||◌, ◌==◌, not, Bool, true, false, List, [], ◌∷◌, ◌++◌, length, take}
+use Rattle.am_world.proofs.Words.{drop, map, get_or, if◌then◌else◌, Option, Some, None, refl, sym, ap, ◌∙◌, arith, get_or-drop, length-take, take_more}
+use Rattle.am_world.proofs.Words.{take_all, length-drop, Entry, Pending, stamp_eq, stamp_lt, Watching, note_entries, with_entries, with_decided, decides}
+use Rattle.am_world.proofs.Words.{new_pending, standing, accept, place_among, number_of, or_else, NodeEvent, is_member, DecidedView, Standing, view_of}
+use Rattle.am_world.proofs.Words.{begins, standing_after, stored_of, with_views, told_step, entries_go_on, accepted_goes_on}
+use Rattle.std.proofs.lemmas.List.{append-nil}
+use Rattle.am_watch.specs.Watching.{with_entry, finish}
+use Rattle.am_model.specs.Node.{Node}
 
 -- nothing was stored, or one entry
 pub entries_none : (k : Watching) (name : ℕ) → with_entries k name [] ≡ k
 unfolding note_entries
-entries_none k name = ap (λ b. record k { is_due = b }) (or_none k.is_due)
+entries_none k name = ap (λ b. record k { is_due = b }) (or-false k.is_due)
 
 pub entries_one : (k : Watching) (name : ℕ) (e : Entry) → with_entries k name (e ∷ []) ≡ with_entry k name e
 entries_one k name e = entries_go_on k name [] e ∙ ap (λ q. with_entry q name e) (entries_none k name)
@@ -98,10 +85,6 @@ none_decided false own = refl
 none_decided true false = refl
 none_decided true true = refl
 
-or_true : (b : Bool) → (b || true) ≡ true
-or_true false = refl
-or_true true = refl
-
 -- a step in which the last View stayed: none was decided, and none stored
 pub views_stay : (k : Watching) (name : ℕ) (before after : Standing) (v : DecidedView) (what : NodeEvent) → before ≡ standing k name
     → stamp_eq before.view after.view ≡ true → k ≡ with_views k name before after v what
@@ -113,7 +96,7 @@ views_stay k name before after v what was same =
       pending = k.pending
           ++ (if b && stamp_lt k.complete.stamp v.stamp then new_pending v ∷ [] else []);
     }) no ∙ ap (λ ps. record k { pending = ps }) (append-nil k.pending) in
-    let stays = ap (λ x. begins before after.status || x) same ∙ or_true (begins before after.status) in
+    let stays = ap (λ x. begins before after.status || x) same ∙ or-true (begins before after.status) in
     views_none k name (begins before after.status || stamp_eq before.view after.view) _ stays
     ∙ ap (λ q. with_entries q name (stored_of name before after v what)) (sym still)
 
@@ -122,8 +105,7 @@ told k name n what number more before after = accept (finish (with_views k name 
 
 pub noted_is : (k views_ finished_ new : Watching) (name : ℕ) (n : Node) (what : NodeEvent) (number : ℕ) (more : List Entry) (before after : Standing)
     → before ≡ standing k name → after ≡ standing_after before n → views_ ≡ with_views k name before after (view_of n) what
-    → finished_ ≡ finish views_ name after → new ≡ accept finished_ number more
-    → new ≡ told_step k name n what number more
+    → finished_ ≡ finish views_ name after → new ≡ accept finished_ number more → new ≡ told_step k name n what number more
 unfolding told_step
 noted_is k views_ finished_ new name n what number more before after was stands s f a =
     a ∙ ap (λ q. accept q number more) (f ∙ ap (λ q. finish q name after) s)

@@ -1,4 +1,4 @@
-use Rattle.am_play.proofs.Beginnings.{runs_begin}
+use Rattle.am_laws.proofs.Words.{runs_begin}
 use Rattle.am_laws.proofs.Fronts.{front_begins}
 use Rattle.am_laws.proofs.runs_begin.Goals as goal
 

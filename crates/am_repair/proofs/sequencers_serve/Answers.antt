@@ -1,5 +1,4 @@
-use Rattle.am_repair.proofs.Ends.{fronts_rise}
-use Rattle.am_repair.proofs.Sequencers.{reports_are_taken, nacks_are_served}
+use Rattle.am_repair.proofs.{Ends.fronts_rise, Sequencers.reports_are_taken, Sequencers.nacks_are_served}
 use Rattle.am_repair.proofs.sequencers_serve.Goals as goal
 
 pub returns : goal.returns

@@ -1,5 +1,4 @@
-use Rattle.am_stands.proofs.ChainNames.{moves_named}
-use Rattle.am_stands.proofs.Branches.{branches_begin, moves_branch, decisions_are_new}
+use Rattle.am_stands.proofs.{ChainNames.moves_named, Branches.branches_begin, Branches.moves_branch, Branches.decisions_are_new}
 use Rattle.am_stands.proofs.decisions_find_leavers.Goals as goal
 
 pub returns : goal.returns

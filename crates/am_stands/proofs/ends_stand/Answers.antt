@@ -1,5 +1,4 @@
-use Rattle.am_stands.proofs.Closing.{close_stands}
-use Rattle.am_stands.proofs.Ends.{ends_stand}
+use Rattle.am_stands.proofs.{Closing.close_stands, Ends.ends_stand}
 use Rattle.am_stands.proofs.ends_stand.Goals as goal
 
 pub returns-clause-end : goal.returns-clause-end

@@ -1,5 +1,4 @@
-use Rattle.am_stands.proofs.Sending.{sent_says}
-use Rattle.am_stands.proofs.Silent.{departed_silent}
+use Rattle.am_stands.proofs.{Sending.sent_says, Silent.departed_silent}
 use Rattle.am_stands.proofs.letters_are_so.Goals as goal
 
 pub returns-clause-sent : goal.returns-clause-sent

@@ -1,5 +1,4 @@
-use Rattle.am_stands.proofs.Growing.{moves_grow}
-use Rattle.am_stands.proofs.Letters.{letters_stay}
+use Rattle.am_stands.proofs.{Growing.moves_grow, Letters.letters_stay}
 use Rattle.am_stands.proofs.letters_stay.Goals as goal
 
 pub returns-clause-moves : goal.returns-clause-moves

@@ -1,6 +1,4 @@
-use Rattle.am_stands.proofs.Accepting.{refresh_accepts}
-use Rattle.am_stands.proofs.Lasts.{closing_accepts}
-use Rattle.am_stands.proofs.Learning.{refresh_learns}
+use Rattle.am_stands.proofs.{Accepting.refresh_accepts, Lasts.closing_accepts, Learning.refresh_learns}
 use Rattle.am_stands.proofs.reports_accept.Goals as goal
 
 pub returns : goal.returns

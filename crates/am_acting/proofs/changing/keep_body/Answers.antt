@@ -1,5 +1,4 @@
-use Rattle.am_handlers.specs.Parts.{node_of}
-use Rattle.am_handlers.proofs.Keeping.{keeps_bodies}
+use Rattle.am_acting.proofs.Words.{node_of, keeps_bodies}
 use Rattle.am_acting.proofs.changing.keep_body.Goals as goal
 
 pub invariant_of-parts : goal.invariant_of-parts

@@ -1,4 +1,4 @@
-use Rattle.am_handlers.specs.Parts.{node_of}
+use Rattle.am_acting.proofs.Words.{node_of}
 use Rattle.am_acting.proofs.Changes.{keeps_status}
 use Rattle.am_acting.proofs.changing.set_status.Goals as goal
 

@@ -1,7 +1,4 @@
-use Rattle.std.proofs.Common.{sym, subst, arith}
-use Rattle.am_handlers.specs.declared.parts.Parts.{Parts}
-use Rattle.am_handlers.specs.Parts.{node_of}
-use Rattle.am_handlers.specs.Keeps.{NodeKeeps}
+use Rattle.am_acting.proofs.Words.{sym, subst, arith, Parts, node_of, NodeKeeps}
 use Rattle.am_acting.proofs.Changes.{keeps_taken}
 use Rattle.am_acting.proofs.changing.set_taken.Goals as goal
 

@@ -1,5 +1,4 @@
-use Rattle.am_handlers.specs.Parts.{node_of}
-use Rattle.am_handlers.proofs.Keeping.{keeps_sends}
+use Rattle.am_acting.proofs.Words.{node_of, keeps_sends}
 use Rattle.am_acting.proofs.Changes.{may_submit}
 use Rattle.am_acting.proofs.changing.submit.Goals as goal
 

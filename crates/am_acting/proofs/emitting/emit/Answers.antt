@@ -1,7 +1,5 @@
-use Rattle.std.proofs.Common.{sym, ◌∙◌}
-use Rattle.am_handlers.specs.Parts.{node_of}
-use Rattle.am_acting.proofs.Plans.{done_as}
-use Rattle.am_acting.proofs.Emits.{emit_none, emit_stays, emit_hands, emit_full, emit_numbers}
+use Rattle.am_acting.proofs.Words.{sym, ◌∙◌, node_of}
+use Rattle.am_acting.proofs.{Plans.done_as, Emits.emit_none, Emits.emit_stays, Emits.emit_hands, Emits.emit_full, Emits.emit_numbers}
 use Rattle.am_acting.proofs.emitting.emit.Goals as goal
 
 pub returns-in_default : goal.returns-in_default

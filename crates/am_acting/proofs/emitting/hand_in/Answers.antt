@@ -1,10 +1,6 @@
-use Rattle.std.proofs.Common.{ℕ, List, false, sym, ap, ◌∙◌}
-use Rattle.am_model.specs.Node.{only_name}
-use Rattle.am_handlers.specs.Parts.{node_of}
+use Rattle.am_acting.proofs.Words.{ℕ, List, false, sym, ap, ◌∙◌, only_name, node_of, noting}
 use Rattle.am_acting.specs.declared.note.Note.TheVariants as note
-use Rattle.am_acting.specs.Forms.{noting}
-use Rattle.am_acting.proofs.Plans.{done_as}
-use Rattle.am_acting.proofs.Emits.{hand_short, hand_spread}
+use Rattle.am_acting.proofs.{Plans.done_as, Emits.hand_short, Emits.hand_spread}
 use Rattle.am_acting.proofs.emitting.hand_in.Goals as goal
 
 pub returns-then-is_short : goal.returns-then-is_short

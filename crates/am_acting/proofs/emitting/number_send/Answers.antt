@@ -1,10 +1,4 @@
-use Rattle.std.proofs.Common.{◌≡◌, ◌+◌, sym, ap, ◌∙◌, subst}
-use Rattle.am_base.specs.declared.entry.Entry.{Entry}
-use Rattle.am_base.specs.declared.entry.Entry.TheVariants.{Data}
-use Rattle.am_base.specs.Lists.{fits}
-use Rattle.am_model.specs.Node.{image_of, push_entry}
-use Rattle.am_handlers.specs.Keeps.{NodeKeeps}
-use Rattle.am_handlers.specs.Parts.{node_of}
+use Rattle.am_acting.proofs.Words.{◌≡◌, ◌+◌, sym, ap, ◌∙◌, subst, Entry, Data, fits, image_of, push_entry, NodeKeeps, node_of}
 use Rattle.am_acting.proofs.Emits.{may_number, keeps_number}
 use Rattle.am_acting.proofs.emitting.number_send.Goals as goal
 

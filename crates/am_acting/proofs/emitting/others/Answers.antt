@@ -1,5 +1,4 @@
-use Rattle.am_handlers.specs.Parts.{node_of}
-use Rattle.am_handlers.proofs.Ends.{end_self}
+use Rattle.am_acting.proofs.Words.{node_of, end_self}
 use Rattle.am_acting.proofs.emitting.others.Goals as goal
 
 pub returns : goal.returns

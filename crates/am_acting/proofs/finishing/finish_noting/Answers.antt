@@ -1,4 +1,4 @@
-use Rattle.am_handlers.specs.Parts.{node_of}
+use Rattle.am_acting.proofs.Words.{node_of}
 use Rattle.am_acting.proofs.Plans.{done_noting}
 use Rattle.am_acting.proofs.finishing.finish_noting.Goals as goal
 

@@ -1,8 +1,4 @@
-use Rattle.std.proofs.Common.{◌∙◌, ap}
-use Rattle.am_packet.specs.Boxes.{with_letter}
-use Rattle.am_handlers.specs.Parts.{node_of}
-use Rattle.am_handlers.proofs.Doing.{core_tells}
-use Rattle.am_acting.specs.Notes.{packet_of}
+use Rattle.am_acting.proofs.Words.{◌∙◌, ap, with_letter, node_of, core_tells, packet_of}
 use Rattle.am_acting.proofs.finishing.tell.Goals as goal
 
 pub returns-clause-letters : goal.returns-clause-letters

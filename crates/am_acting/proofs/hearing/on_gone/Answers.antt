@@ -1,11 +1,6 @@
-use Rattle.std.proofs.Common.{sym, ◌∙◌}
+use Rattle.am_acting.proofs.Words.{sym, ◌∙◌, quiet, node_of, does_now, gone_row}
 use Rattle.am_base.specs.declared.outcome.Outcome.TheVariants as said
-use Rattle.am_model.specs.Emit.{quiet}
-use Rattle.am_handlers.specs.Parts.{node_of}
-use Rattle.am_handlers.proofs.Plans.{does_now}
-use Rattle.am_acting.proofs.Plans.{does_rest}
-use Rattle.am_model.specs.Joining.{gone_row}
-use Rattle.am_acting.proofs.Rows.{gone_leaving, gone_staying}
+use Rattle.am_acting.proofs.{Plans.does_rest, Rows.gone_leaving, Rows.gone_staying}
 use Rattle.am_acting.proofs.hearing.on_gone.Goals as goal
 
 pub returns-then-is_leaving : goal.returns-then-is_leaving

@@ -1,7 +1,4 @@
-use Rattle.std.proofs.Common.{sym, ◌∙◌}
-use Rattle.am_handlers.specs.Parts.{node_of}
-use Rattle.am_handlers.proofs.Plans.{does_now}
-use Rattle.am_model.specs.Receiving.{hold_row}
+use Rattle.am_acting.proofs.Words.{sym, ◌∙◌, node_of, does_now, hold_row}
 use Rattle.am_acting.proofs.Rows.{hold_waits, hold_idle}
 use Rattle.am_acting.proofs.hearing.on_hold.Goals as goal
 

@@ -1,11 +1,6 @@
-use Rattle.std.proofs.Common.{sym, ◌∙◌}
+use Rattle.am_acting.proofs.Words.{sym, ◌∙◌, quiet, node_of, does_now, spread_row}
 use Rattle.am_base.specs.declared.outcome.Outcome.TheVariants as said
-use Rattle.am_model.specs.Emit.{quiet}
-use Rattle.am_handlers.specs.Parts.{node_of}
-use Rattle.am_handlers.proofs.Plans.{does_now}
-use Rattle.am_acting.proofs.Plans.{does_rest}
-use Rattle.am_model.specs.Receiving.{spread_row}
-use Rattle.am_acting.proofs.Rows.{spread_known, spread_kept}
+use Rattle.am_acting.proofs.{Plans.does_rest, Rows.spread_known, Rows.spread_kept}
 use Rattle.am_acting.proofs.hearing.on_spread.Goals as goal
 
 pub returns-then-is_known : goal.returns-then-is_known

@@ -1,5 +1,4 @@
-use Rattle.std.proofs.Common.{◌<◌, ap, ◌∙◌, arith}
-use Rattle.std.specs.Prelude.{slice_set}
+use Rattle.am_acting.proofs.Words.{◌<◌, ap, ◌∙◌, arith, slice_set}
 use Rattle.am_acting.proofs.Lives.{ones, all_but, few}
 use Rattle.am_acting.proofs.joining.all_but.Goals as goal
 

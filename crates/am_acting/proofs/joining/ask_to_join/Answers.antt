@@ -1,7 +1,5 @@
-use Rattle.std.proofs.Common.{sym, ap, false}
-use Rattle.am_handlers.specs.Parts.{node_of}
+use Rattle.am_acting.proofs.Words.{sym, ap, false, node_of, noting}
 use Rattle.am_acting.specs.declared.note.Note.TheVariants as note
-use Rattle.am_acting.specs.Forms.{noting}
 use Rattle.am_acting.proofs.Plans.{done_as}
 use Rattle.am_acting.proofs.joining.ask_to_join.Goals as goal
 

@@ -1,10 +1,7 @@
+use Rattle.am_acting.proofs.Words.{node_of, join_row, ask_to_join, does_now}
 use Rattle.am_base.specs.declared.outcome.Outcome.TheVariants as said
 use Rattle.am_model.specs.declared.status.Status.TheVariants as status
-use Rattle.am_handlers.specs.Parts.{node_of}
-use Rattle.am_model.specs.Calls.{join_row, ask_to_join}
-use Rattle.am_handlers.proofs.Plans.{does_now}
-use Rattle.am_acting.proofs.Plans.{does_rest}
-use Rattle.am_acting.proofs.Rows.{join_is}
+use Rattle.am_acting.proofs.{Plans.does_rest, Rows.join_is}
 use Rattle.am_acting.proofs.joining.on_join.Goals as goal
 
 pub returns-in-Some : goal.returns-in-Some

@@ -1,6 +1,4 @@
-use Rattle.am_handlers.specs.Parts.{node_of}
-use Rattle.am_model.specs.Calls.{state_row}
-use Rattle.am_handlers.proofs.Plans.{does_now}
+use Rattle.am_acting.proofs.Words.{node_of, state_row, does_now}
 use Rattle.am_acting.proofs.joining.on_state.Goals as goal
 
 pub returns : goal.returns

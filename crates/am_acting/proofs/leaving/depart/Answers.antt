@@ -1,13 +1,5 @@
-use Rattle.std.proofs.Common.{◌≡◌, ℕ, ◌+◌, sym, ap, ◌∙◌, subst}
-use Rattle.am_base.specs.declared.entry.Entry.TheVariants.{Leave}
-use Rattle.am_base.specs.Lists.{fits}
-use Rattle.am_core.specs.Kept.{IsKept}
-use Rattle.am_fronts.specs.Refresh.{MayLead}
-use Rattle.am_model.specs.Node.{Node, image_of, push_entry}
-use Rattle.am_model.specs.Refresh.{lead}
-use Rattle.am_model.specs.Ends.{IsEndOf}
-use Rattle.am_handlers.specs.Keeps.{NodeKeeps}
-use Rattle.am_handlers.specs.Parts.{node_of}
+use Rattle.am_acting.proofs.Words.{◌≡◌, ℕ, ◌+◌, sym, ap, ◌∙◌, subst, Leave, fits, IsKept, MayLead, Node, image_of, push_entry, lead, IsEndOf, NodeKeeps}
+use Rattle.am_acting.proofs.Words.{node_of}
 use Rattle.am_acting.proofs.Leaves.{departed, leave_fits, keeps_left, may_lead_left, depart_end, left_alone}
 use Rattle.am_acting.proofs.leaving.depart.Goals as goal
 

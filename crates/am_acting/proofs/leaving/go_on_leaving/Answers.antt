@@ -1,8 +1,6 @@
-use Rattle.std.proofs.Common.{sym, ap, ◌∙◌}
-use Rattle.am_model.specs.Node.{only_name, lowest_or_first}
-use Rattle.am_handlers.specs.Parts.{node_of}
-use Rattle.am_acting.proofs.Plans.{done_as}
+use Rattle.am_acting.proofs.Words.{sym, ap, ◌∙◌, only_name, lowest_or_first, node_of}
 use Rattle.am_acting.proofs.Leaves.{some_others, no_others, go_asks, go_hands, go_held, go_departs, departs_done}
+use Rattle.am_acting.proofs.Plans.{done_as}
 use Rattle.am_acting.proofs.leaving.go_on_leaving.Goals as goal
 
 pub returns-then-not-is_sequencer : goal.returns-then-not-is_sequencer

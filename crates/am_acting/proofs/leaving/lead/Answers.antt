@@ -1,8 +1,4 @@
-use Rattle.std.proofs.Common.{arith}
-use Rattle.am_model.specs.Refresh.{with_led}
-use Rattle.am_fronts.specs.Refresh.{core_and_reports}
-use Rattle.am_handlers.specs.Parts.{node_of}
-use Rattle.am_handlers.proofs.Keeping.{keeps_steady, steady_led}
+use Rattle.am_acting.proofs.Words.{arith, with_led, core_and_reports, node_of, keeps_steady, steady_led}
 use Rattle.am_acting.proofs.Leaves.{lead_end}
 use Rattle.am_acting.proofs.leaving.lead.Goals as goal
 

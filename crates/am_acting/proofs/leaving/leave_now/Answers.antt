@@ -1,11 +1,6 @@
-use Rattle.std.proofs.Common.{sym, ap, ◌∙◌}
+use Rattle.am_acting.proofs.Words.{sym, ap, ◌∙◌, Node, waiting, quiet, go, node_of}
 use Rattle.am_base.specs.declared.outcome.Outcome.TheVariants as said
-use Rattle.am_model.specs.Node.{Node, waiting}
-use Rattle.am_model.specs.Emit.{quiet}
-use Rattle.am_model.specs.Calls.{go}
-use Rattle.am_handlers.specs.Parts.{node_of}
-use Rattle.am_acting.proofs.Plans.{done_as}
-use Rattle.am_acting.proofs.Leaves.{leave_leaving, leave_busy, leave_goes, idle_none}
+use Rattle.am_acting.proofs.{Plans.done_as, Leaves.leave_leaving, Leaves.leave_busy, Leaves.leave_goes, Leaves.idle_none}
 use Rattle.am_acting.proofs.leaving.leave_now.Goals as goal
 
 pub returns-then-is_leaving : goal.returns-then-is_leaving

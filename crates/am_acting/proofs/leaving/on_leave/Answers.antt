@@ -1,7 +1,4 @@
-use Rattle.std.proofs.Common.{sym, ◌∙◌}
-use Rattle.am_model.specs.Calls.{leave_row}
-use Rattle.am_handlers.specs.Parts.{node_of}
-use Rattle.am_handlers.proofs.Plans.{does_now}
+use Rattle.am_acting.proofs.Words.{sym, ◌∙◌, leave_row, node_of, does_now}
 use Rattle.am_acting.proofs.Leaves.{leave_member}
 use Rattle.am_acting.proofs.leaving.on_leave.Goals as goal
 

@@ -1,6 +1,5 @@
-use Rattle.std.proofs.Common.{sym, ◌∙◌}
+use Rattle.am_acting.proofs.Words.{sym, ◌∙◌, node_of}
 use Rattle.am_model.specs.declared.status.Status.TheVariants as status
-use Rattle.am_handlers.specs.Parts.{node_of}
 use Rattle.am_acting.proofs.Leaves.{leave_is, leave_outside}
 use Rattle.am_acting.proofs.leaving.outside.Goals as goal
 

@@ -1,11 +1,5 @@
-use Rattle.std.proofs.Common.{ap, sym, ◌∙◌, ℕ, List}
-use Rattle.am_base.specs.declared.image.Report.{Report}
-use Rattle.am_core.specs.Cores.{CoreState}
+use Rattle.am_acting.proofs.Words.{ap, sym, ◌∙◌, ℕ, List, Report, CoreState, bcast_of, with_core, Note, packet_of}
 use Rattle.am_packet.specs.declared.packet.Packet.TheVariants as packet
-use Rattle.am_model.specs.Emit.{bcast_of}
-use Rattle.am_handlers.specs.Cores.{with_core}
-use Rattle.am_acting.specs.declared.note.Note.{Note}
-use Rattle.am_acting.specs.Notes.{packet_of}
 use Rattle.am_acting.proofs.note.packet.Goals as goal
 
 pub returns-in-Request-clause-value : goal.returns-in-Request-clause-value

@@ -1,10 +1,6 @@
-use Rattle.std.proofs.Common.{sym, ap, ◌∙◌}
-use Rattle.am_model.specs.Emit.{quiet}
-use Rattle.am_handlers.specs.Parts.{node_of}
-use Rattle.am_acting.proofs.Plans.{does_rest}
+use Rattle.am_acting.proofs.Words.{sym, ap, ◌∙◌, quiet, node_of, done_row}
 use Rattle.am_sender.specs.Sends as own
-use Rattle.am_model.specs.Calls.{done_row}
-use Rattle.am_acting.proofs.Rows.{done_is}
+use Rattle.am_acting.proofs.{Plans.does_rest, Rows.done_is}
 use Rattle.am_acting.proofs.sending.on_done.Goals as goal
 
 pub returns : goal.returns

@@ -1,12 +1,6 @@
-use Rattle.std.proofs.Common.{refl, sym, ap, ◌∙◌}
+use Rattle.am_acting.proofs.Words.{refl, sym, ap, ◌∙◌, waiting, quiet, send_row, emit, node_of, does_now}
 use Rattle.am_base.specs.declared.outcome.Outcome.TheVariants as said
-use Rattle.am_model.specs.Node.{waiting}
-use Rattle.am_model.specs.Emit.{quiet}
-use Rattle.am_model.specs.Calls.{send_row, emit}
-use Rattle.am_handlers.specs.Parts.{node_of}
-use Rattle.am_handlers.proofs.Plans.{does_now}
-use Rattle.am_acting.proofs.Plans.{does_rest}
-use Rattle.am_acting.proofs.Rows.{send_outside, send_leaving, send_busy, send_waits, send_emits, not_few}
+use Rattle.am_acting.proofs.{Plans.does_rest, Rows.send_outside, Rows.send_leaving, Rows.send_busy, Rows.send_waits, Rows.send_emits, Rows.not_few}
 use Rattle.am_acting.proofs.sending.on_send.Goals as goal
 
 pub returns-then-not-is_member : goal.returns-then-not-is_member

@@ -1,11 +1,6 @@
-use Rattle.std.proofs.Common.{refl, sym, ◌∙◌}
+use Rattle.am_acting.proofs.Words.{refl, sym, ◌∙◌, quiet, take_row, node_of, does_now}
 use Rattle.am_base.specs.declared.outcome.Outcome.TheVariants as said
-use Rattle.am_model.specs.Emit.{quiet}
-use Rattle.am_model.specs.Calls.{take_row}
-use Rattle.am_handlers.specs.Parts.{node_of}
-use Rattle.am_handlers.proofs.Plans.{does_now}
-use Rattle.am_acting.proofs.Plans.{does_rest}
-use Rattle.am_acting.proofs.Rows.{take_outside, take_empty, take_given}
+use Rattle.am_acting.proofs.{Plans.does_rest, Rows.take_outside, Rows.take_empty, Rows.take_given}
 use Rattle.am_acting.proofs.taking.on_take.Goals as goal
 
 pub returns-then-not-is_member : goal.returns-then-not-is_member

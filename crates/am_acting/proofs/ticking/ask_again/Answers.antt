@@ -1,6 +1,4 @@
-use Rattle.std.proofs.Common.{ap, ◌∙◌}
-use Rattle.am_handlers.specs.Parts.{node_of}
-use Rattle.am_acting.specs.Forms.{by_again}
+use Rattle.am_acting.proofs.Words.{ap, ◌∙◌, node_of, by_again}
 use Rattle.am_acting.proofs.Plans.{done_as}
 use Rattle.am_acting.proofs.Ticks as ticks
 use Rattle.am_acting.proofs.ticking.ask_again.Goals as goal

@@ -1,8 +1,5 @@
-use Rattle.std.proofs.Common.{sym, ◌∙◌}
+use Rattle.am_acting.proofs.Words.{sym, ◌∙◌, tick_row, node_of, does_now}
 use Rattle.am_model.specs.declared.status.Status.TheVariants as status
-use Rattle.am_model.specs.Ticks.{tick_row}
-use Rattle.am_handlers.specs.Parts.{node_of}
-use Rattle.am_handlers.proofs.Plans.{does_now}
 use Rattle.am_acting.proofs.Ticks as ticks
 use Rattle.am_acting.proofs.ticking.on_tick.Goals as goal
 

@@ -1,8 +1,5 @@
-use Rattle.std.proofs.Common.{sym, ap, ◌∙◌}
-use Rattle.am_model.specs.Node.{only_name, lowest_or_first}
-use Rattle.am_handlers.specs.Parts.{node_of}
-use Rattle.am_acting.proofs.Plans.{done_as}
-use Rattle.am_acting.proofs.Leaves.{some_others, no_others}
+use Rattle.am_acting.proofs.Words.{sym, ap, ◌∙◌, only_name, lowest_or_first, node_of}
+use Rattle.am_acting.proofs.{Plans.done_as, Leaves.some_others, Leaves.no_others}
 use Rattle.am_acting.proofs.Ticks as ticks
 use Rattle.am_acting.proofs.ticking.poll_leaving.Goals as goal
 

@@ -1,7 +1,4 @@
-use Rattle.std.proofs.Common.{ℕ, Bool, nat_lt, ◌∙◌, ap, arith}
-use Rattle.am_fronts.specs.Reports.{reports_of}
-use Rattle.am_model.specs.Node.{those}
-use Rattle.am_ballots.proofs.Votes.{those_all}
+use Rattle.am_acting.proofs.Words.{ℕ, Bool, nat_lt, ◌∙◌, ap, arith, reports_of, those, those_all}
 use Rattle.am_acting.proofs.viewing.behind.Goals as goal
 
 pub returns : goal.returns

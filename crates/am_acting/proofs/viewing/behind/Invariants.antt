@@ -1,6 +1,4 @@
-use Rattle.std.proofs.Common.{◌≡◌, ℕ, ◌<◌, ◌≤◌, length, slice_index, nat_lt}
-use Rattle.am_fronts.specs.Reports.{reports_of}
-use Rattle.am_model.specs.Node.{name_where}
+use Rattle.am_acting.proofs.Words.{◌≡◌, ℕ, ◌<◌, ◌≤◌, length, slice_index, nat_lt, reports_of, name_where}
 use Rattle.am_acting.proofs.viewing.behind.Given as goal
 
 abbrev pub invariant-loop-place : goal.invariant-loop-place

@@ -1,5 +1,4 @@
-use Rattle.std.proofs.Common.{arith}
-use Rattle.am_handlers.specs.Parts.{node_of}
+use Rattle.am_acting.proofs.Words.{arith, node_of}
 use Rattle.am_acting.proofs.Views.{view_none, view_some}
 use Rattle.am_acting.proofs.viewing.tell_view.Goals as goal
 

@@ -1,19 +1,7 @@
-use Rattle.std.proofs.Common.{Option, sym, ap, subst, ◌∙◌}
-use Rattle.am_base.specs.declared.entry.Entry.{Entry}
-use Rattle.am_base.specs.declared.entry.Entry.TheVariants.{View}
+use Rattle.am_catching.proofs.Words.{Option, sym, ap, subst, ◌∙◌, Entry, View, node_of, end_self, only_name, push_entry, trim_up_to, telling, ack_of, IsEndOf}
+use Rattle.am_catching.proofs.Words.{hears_result, unless_reply, plan_of, MayStore, Reply, by_plan, replies_ack}
 use Rattle.am_base.specs.declared.outcome.Outcome.TheVariants as said
-use Rattle.am_handlers.specs.Parts.{node_of}
-use Rattle.am_handlers.proofs.Ends.{end_self}
-use Rattle.am_model.specs.Node.{only_name, push_entry, trim_up_to}
-use Rattle.am_model.specs.Emit.{telling, ack_of}
-use Rattle.am_model.specs.Ends.{IsEndOf}
-use Rattle.am_model.specs.Resets.{hears_result}
-use Rattle.am_catching.specs.Catching.{unless_reply, plan_of}
-use Rattle.am_deciding.specs.Deciding.{MayStore}
-use Rattle.am_replies.specs.declared.replies.Reply.{Reply}
 use Rattle.am_replies.specs.declared.replies.Telling.TheVariants as tell
-use Rattle.am_replies.proofs.Plans.{by_plan}
-use Rattle.am_replies.proofs.Replying.{replies_ack}
 use Rattle.am_catching.proofs.Pieces.{replies_plan, may_view, none_open}
 use Rattle.am_catching.proofs.catching.hears_result.Goals as goal
 

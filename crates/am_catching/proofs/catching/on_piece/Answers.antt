@@ -1,6 +1,4 @@
-use Rattle.std.proofs.Common.{sym}
-use Rattle.am_handlers.specs.Parts.{node_of}
-use Rattle.am_model.specs.Resets.{piece_row}
+use Rattle.am_catching.proofs.Words.{sym, node_of, piece_row}
 use Rattle.am_catching.proofs.catching.on_piece.Goals as goal
 
 pub returns : goal.returns

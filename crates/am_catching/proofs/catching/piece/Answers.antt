@@ -1,14 +1,7 @@
-use Rattle.std.proofs.Common.{Some, None, sym, subst, ◌∙◌}
+use Rattle.am_catching.proofs.Words.{Some, None, sym, subst, ◌∙◌, ballot_of, node_of, end_self, Node, piece_row, piece_for, piece_promised, Replies}
+use Rattle.am_catching.proofs.Words.{none_taken, one_taken, by_reply}
 use Rattle.am_base.specs.declared.outcome.Outcome.TheVariants as said
-use Rattle.am_ballots.specs.Kept.{ballot_of}
-use Rattle.am_handlers.specs.Parts.{node_of}
-use Rattle.am_handlers.proofs.Ends.{end_self}
-use Rattle.am_model.specs.Node.{Node}
-use Rattle.am_model.specs.Resets.{piece_row, piece_for, piece_promised}
 use Rattle.am_replies.specs.declared.replies.Telling.TheVariants as tell
-use Rattle.am_replies.specs.Replies.{Replies}
-use Rattle.am_deciding.proofs.Promises.{none_taken, one_taken}
-use Rattle.am_replies.proofs.Plans.{by_reply}
 use Rattle.am_catching.proofs.Pieces.{piece_apart, piece_by}
 use Rattle.am_catching.proofs.catching.piece.Goals as goal
 

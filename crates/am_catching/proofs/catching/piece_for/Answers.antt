@@ -1,11 +1,6 @@
-use Rattle.std.proofs.Common.{Some, sym, ◌∙◌}
+use Rattle.am_catching.proofs.Words.{Some, sym, ◌∙◌, ballot_of, node_of, piece_for, with_ballot, end_as, by_reply}
 use Rattle.am_base.specs.declared.outcome.Outcome.TheVariants as said
-use Rattle.am_ballots.specs.Kept.{ballot_of}
-use Rattle.am_handlers.specs.Parts.{node_of}
-use Rattle.am_model.specs.Resets.{piece_for}
-use Rattle.am_catching.specs.Catching.{with_ballot}
 use Rattle.am_replies.specs.declared.replies.Telling.TheVariants as tell
-use Rattle.am_replies.proofs.Plans.{end_as, by_reply}
 use Rattle.am_catching.proofs.Pieces.{piece_elsewhere}
 use Rattle.am_catching.proofs.catching.piece_for.Goals as goal
 

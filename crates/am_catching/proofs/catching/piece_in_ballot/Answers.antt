@@ -1,13 +1,6 @@
-use Rattle.std.proofs.Common.{true, false, Some, refl, sym, ◌∙◌, arith}
-use Rattle.am_ballots.specs.Kept.{ballot_of}
-use Rattle.am_handlers.specs.Parts.{node_of}
-use Rattle.am_handlers.proofs.Ends.{end_self}
-use Rattle.am_model.specs.Node.{push_entry, trim_up_to}
-use Rattle.am_model.specs.Resets.{push_fetched, decide_anew}
-use Rattle.am_catching.specs.Catching.{with_ballot}
+use Rattle.am_catching.proofs.Words.{true, false, Some, refl, sym, ◌∙◌, arith, ballot_of, node_of, end_self, push_entry, trim_up_to, push_fetched}
+use Rattle.am_catching.proofs.Words.{decide_anew, with_ballot, end_as, by_reply, taken_idle, top_push}
 use Rattle.am_replies.specs.declared.replies.Telling.TheVariants as tell
-use Rattle.am_replies.proofs.Plans.{end_as, by_reply}
-use Rattle.am_deciding.proofs.Nodes.{taken_idle, top_push}
 use Rattle.am_catching.proofs.Pieces.{may_store, taken_pushed, fetched_unless, fetched_then, replies_fetched}
 use Rattle.am_catching.proofs.catching.piece_in_ballot.Goals as goal
 

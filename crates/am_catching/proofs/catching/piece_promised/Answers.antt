@@ -1,13 +1,8 @@
-use Rattle.std.proofs.Common.{false, ◌==◌, sym, ◌∙◌}
+use Rattle.am_catching.proofs.Words.{false, ◌==◌, sym, ◌∙◌, node_of, end_self, push_entry, trim_up_to, piece_promised, catch_up, by_reply, not-true}
+use Rattle.am_catching.proofs.Words.{not-false}
 use Rattle.am_base.specs.declared.outcome.Outcome.TheVariants as said
-use Rattle.am_handlers.specs.Parts.{node_of}
-use Rattle.am_handlers.proofs.Ends.{end_self}
-use Rattle.am_model.specs.Node.{push_entry, trim_up_to}
-use Rattle.am_model.specs.Resets.{piece_promised, catch_up}
 use Rattle.am_replies.specs.declared.replies.Telling.TheVariants as tell
-use Rattle.am_replies.proofs.Plans.{by_reply}
 use Rattle.am_catching.proofs.Pieces.{may_store, other_view, fetched_unless, fetched_then, replies_caught, promised_other, promised_own}
-use Rattle.std.proofs.lemmas.Bool.{not-true, not-false}
 use Rattle.am_catching.proofs.catching.piece_promised.Goals as goal
 
 pub returns-then-ne-clause-replies : goal.returns-then-ne-clause-replies

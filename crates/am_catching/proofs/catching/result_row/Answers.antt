@@ -1,11 +1,6 @@
-use Rattle.std.proofs.Common.{sym, ap, ◌∙◌}
+use Rattle.am_catching.proofs.Words.{sym, ap, ◌∙◌, node_of, end_self, with_promise, result_row, by_reply}
 use Rattle.am_base.specs.declared.outcome.Outcome.TheVariants as said
-use Rattle.am_handlers.specs.Parts.{node_of}
-use Rattle.am_handlers.proofs.Ends.{end_self}
-use Rattle.am_model.specs.Ballots.{with_promise}
-use Rattle.am_model.specs.Resets.{result_row}
 use Rattle.am_replies.specs.declared.replies.Telling.TheVariants as tell
-use Rattle.am_replies.proofs.Plans.{by_reply}
 use Rattle.am_catching.proofs.Pieces.{result_elsewhere, result_heard}
 use Rattle.am_catching.proofs.catching.result_row.Goals as goal
 

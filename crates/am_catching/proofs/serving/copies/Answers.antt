@@ -1,8 +1,4 @@
-use Rattle.std.proofs.Common.{◌≡◌, ◌-◌, All, List, take, sym, ap, subst, ◌∙◌, arith}
-use Rattle.am_base.specs.declared.entry.Entry.{Entry}
-use Rattle.am_base.specs.Limits.{IsEntry}
-use Rattle.am_handlers.specs.Parts.{node_of}
-use Rattle.am_handlers.proofs.Served.{kept_above}
+use Rattle.am_catching.proofs.Words.{◌≡◌, ◌-◌, All, List, take, sym, ap, subst, ◌∙◌, arith, Entry, IsEntry, node_of, kept_above}
 use Rattle.am_catching.proofs.Serves.{copied_next, copied_all, served_within}
 use Rattle.am_catching.proofs.serving.copies.Goals as goal
 

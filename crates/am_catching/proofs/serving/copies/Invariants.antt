@@ -1,5 +1,4 @@
-use Rattle.std.proofs.Common.{◌≡◌, ◌-◌, ◌≤◌, length, take}
-use Rattle.am_handlers.proofs.Served.{kept_above}
+use Rattle.am_catching.proofs.Words.{◌≡◌, ◌-◌, ◌≤◌, length, take, kept_above}
 use Rattle.am_catching.proofs.serving.copies.Given as goal
 
 abbrev pub invariant-loop-before : goal.invariant-loop-before

@@ -1,12 +1,7 @@
-use Rattle.std.proofs.Common.{sym, subst, ◌∙◌}
-use Rattle.am_base.specs.declared.outcome.Outcome.TheVariants as said
-use Rattle.am_handlers.specs.Parts.{node_of}
-use Rattle.am_handlers.proofs.Ends.{end_self}
-use Rattle.am_model.specs.Emit.{Plan, finish}
+use Rattle.am_catching.proofs.Words.{sym, subst, ◌∙◌, node_of, end_self, Plan, finish, fetch_row, by_reply}
 use Rattle.am_model.specs.Ends.{ComesTo}
-use Rattle.am_model.specs.Resets.{fetch_row}
+use Rattle.am_base.specs.declared.outcome.Outcome.TheVariants as said
 use Rattle.am_replies.specs.declared.replies.Telling.TheVariants as tell
-use Rattle.am_replies.proofs.Plans.{by_reply}
 use Rattle.am_catching.proofs.Serves.{fetch_elsewhere, fetch_behind, fetch_serves}
 use Rattle.am_catching.proofs.serving.on_fetch.Goals as goal
 

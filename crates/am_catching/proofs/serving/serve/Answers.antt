@@ -1,10 +1,5 @@
-use Rattle.std.proofs.Common.{◌+◌, [], List, false, sym, ap, ◌∙◌}
-use Rattle.am_base.specs.declared.entry.Entry.{Entry}
+use Rattle.am_catching.proofs.Words.{◌+◌, [], List, false, sym, ap, ◌∙◌, Entry, node_of, with_told, end_self, only_name, put_all, piece_of}
 use Rattle.am_base.specs.declared.outcome.Outcome.TheVariants as said
-use Rattle.am_handlers.specs.Parts.{node_of, with_told}
-use Rattle.am_handlers.proofs.Ends.{end_self}
-use Rattle.am_model.specs.Node.{only_name}
-use Rattle.am_model.specs.Emit.{put_all, piece_of}
 use Rattle.am_catching.proofs.Serves.{serve_ends}
 use Rattle.am_catching.proofs.serving.serve.Goals as goal
 

@@ -1,8 +1,4 @@
-use Rattle.std.proofs.Common.{◌+◌, refl, sym, ◌∙◌, arith}
-use Rattle.am_handlers.specs.Parts.{node_of}
-use Rattle.am_model.specs.Node.{only_name}
-use Rattle.am_model.specs.Emit.{piece_of}
-use Rattle.am_handlers.proofs.Served.{put_none}
+use Rattle.am_catching.proofs.Words.{◌+◌, refl, sym, ◌∙◌, arith, node_of, only_name, piece_of, put_none}
 use Rattle.am_catching.proofs.Serves.{piece_next}
 use Rattle.am_catching.proofs.serving.tell_pieces.Goals as goal
 

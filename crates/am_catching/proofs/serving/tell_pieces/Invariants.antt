@@ -1,7 +1,4 @@
-use Rattle.std.proofs.Common.{◌≡◌, ◌+◌, ◌≤◌, [], length, take}
-use Rattle.am_model.specs.Node.{only_name}
-use Rattle.am_model.specs.Emit.{put_all, piece_of}
-use Rattle.am_handlers.specs.Parts.{node_of}
+use Rattle.am_catching.proofs.Words.{◌≡◌, ◌+◌, ◌≤◌, [], length, take, only_name, put_all, piece_of, node_of}
 use Rattle.am_catching.proofs.serving.tell_pieces.Given as goal
 
 abbrev pub invariant-loop-entry : goal.invariant-loop-entry

@@ -1,16 +1,8 @@
-use Rattle.std.proofs.Common.{◌≡◌, ◌+◌, true, not, ◌==◌, sym, ap, ◌∙◌, arith}
-use Rattle.std.proofs.lemmas.Bool.Decides.{nat_tests}
-use Rattle.am_base.specs.declared.image.Vote.{Vote}
+use Rattle.am_deciding.proofs.Words.{◌≡◌, ◌+◌, true, not, ◌==◌, sym, ap, ◌∙◌, arith, nat_tests, Vote, has, is_within, node_of, ballot_of, members, own_vote}
+use Rattle.am_deciding.proofs.Words.{has_those}
 use Rattle.am_base.specs.declared.outcome.Outcome.TheVariants as said
-use Rattle.am_base.specs.Names.{has, is_within}
-use Rattle.am_handlers.specs.Parts.{node_of}
-use Rattle.am_ballots.specs.Kept.{ballot_of}
-use Rattle.am_model.specs.Node.{members}
-use Rattle.am_model.specs.Ballots.{own_vote}
-use Rattle.am_model.proofs.Sets.{has_those}
-use Rattle.am_deciding.proofs.Sets.{those_within}
-use Rattle.am_deciding.proofs.Looked.{looked, inside_is, waited, idle, own_is, counted}
 use Rattle.am_deciding.proofs.Verdicts.{ended, kept_on, not_in_comes, waiting_comes, fetching_comes, too_few_comes, view_comes, best_own}
+use Rattle.am_deciding.proofs.{Sets.those_within, Looked.looked, Looked.inside_is, Looked.waited, Looked.idle, Looked.own_is, Looked.counted}
 use Rattle.am_deciding.proofs.deciding.decide.Goals as goal
 
 pub returns-then-not-has-clause-comes : goal.returns-then-not-has-clause-comes

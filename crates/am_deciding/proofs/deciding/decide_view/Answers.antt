@@ -1,8 +1,4 @@
-use Rattle.std.proofs.Common.{sym, ap, ◌∙◌, Some}
-use Rattle.am_base.specs.declared.outcome.Outcome.{Outcome}
-use Rattle.am_handlers.specs.Parts.{node_of}
-use Rattle.am_ballots.specs.Kept.{ballot_of}
-use Rattle.am_model.specs.Ballots.{with_end}
+use Rattle.am_deciding.proofs.Words.{sym, ap, ◌∙◌, Some, Outcome, node_of, ballot_of, with_end}
 use Rattle.am_deciding.proofs.Verdicts.{crowded_comes}
 use Rattle.am_deciding.proofs.deciding.decide_view.Goals as goal
 

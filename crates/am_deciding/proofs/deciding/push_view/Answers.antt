@@ -1,27 +1,8 @@
-use Rattle.std.proofs.Common.{◌≡◌, ◌+◌, ◌-◌, ◌≤◌, ℕ, List, length, max, true, Some, ap, sym, subst, ◌∙◌, arith}
-use Rattle.std.proofs.lemmas.Bool.Decides.{nat_tests}
-use Rattle.am_base.specs.declared.entry.Entry.{Entry}
-use Rattle.am_base.specs.declared.entry.Entry.TheVariants.{View}
-use Rattle.am_base.specs.declared.name.Stamp.{Stamp}
-use Rattle.am_base.specs.declared.outcome.Outcome.{Outcome}
-use Rattle.am_base.specs.Lists.{fits}
-use Rattle.am_base.specs.Names.{size, has}
-use Rattle.am_base.specs.Stamps.{stamp_lt}
-use Rattle.am_core.specs.Kept.{IsKept}
-use Rattle.am_fronts.specs.Reports.{reports_from}
-use Rattle.am_handlers.specs.Keeps.{NodeKeeps}
-use Rattle.am_handlers.specs.Parts.{node_of}
-use Rattle.am_ballots.specs.Kept.{ballot_of}
-use Rattle.am_model.specs.Node.{Node, Ballot, image_of, push_entry}
-use Rattle.am_model.specs.Ballots.{with_end}
-use Rattle.am_model.specs.Ends.{IsEndOf}
-use Rattle.am_deciding.proofs.Orders.{lt_self}
-use Rattle.am_model.proofs.Sets.{has_size}
-use Rattle.am_deciding.proofs.Views.{fits_view}
-use Rattle.am_deciding.proofs.Nodes.{keeps_pushed, taken_idle}
-use Rattle.am_deciding.proofs.Verdicts.{decided_comes}
+use Rattle.am_deciding.proofs.Words.{◌≡◌, ◌+◌, ◌-◌, ◌≤◌, ℕ, List, length, max, true, Some, ap, sym, subst, ◌∙◌, arith, nat_tests, Entry, View, Stamp, Outcome}
+use Rattle.am_deciding.proofs.Words.{fits, size, has, stamp_lt, IsKept, reports_from, NodeKeeps, node_of, ballot_of, Node, Ballot, image_of, push_entry}
+use Rattle.am_deciding.proofs.Words.{with_end, IsEndOf, has_size, IsTakenOut, MayBeView}
+use Rattle.am_deciding.proofs.{Orders.lt_self, Views.fits_view, Nodes.keeps_pushed, Nodes.taken_idle, Verdicts.decided_comes}
 use Rattle.am_deciding.proofs.deciding.push_view.Goals as goal
-use Rattle.am_deciding.specs.Deciding.{IsTakenOut, MayBeView}
 
 -- the View of a ballot that was taken out fits
 own_view_fits : (m : Node) (b : Ballot) (names : List ℕ) → IsTakenOut m b → MayBeView m names

@@ -1,8 +1,4 @@
-use Rattle.std.proofs.Common.{subst, sym}
-use Rattle.am_base.specs.declared.image.Report.{Report}
-use Rattle.std.proofs.Common.{ℕ}
-use Rattle.am_handlers.specs.Keeps.{NodeKeeps}
-use Rattle.am_handlers.specs.Parts.{node_of}
+use Rattle.am_deciding.proofs.Words.{subst, sym, Report, ℕ, NodeKeeps, node_of}
 use Rattle.am_deciding.proofs.Nodes.{keeps_restarted}
 use Rattle.am_deciding.proofs.deciding.restart.Goals as goal
 

@@ -1,10 +1,4 @@
-use Rattle.std.proofs.Common.{◌+◌, ap, sym, subst, arith}
-use Rattle.am_base.specs.declared.entry.Entry.{Entry}
-use Rattle.am_base.specs.Founding.{Rules}
-use Rattle.am_model.specs.Node.{Node, push_entry, trim_up_to}
-use Rattle.am_model.specs.Ends.{IsEndOf}
-use Rattle.am_handlers.specs.Keeps.{NodeKeeps, IsSteady}
-use Rattle.am_handlers.specs.Parts.{node_of}
+use Rattle.am_deciding.proofs.Words.{◌+◌, ap, sym, subst, arith, Entry, Rules, Node, push_entry, trim_up_to, IsEndOf, NodeKeeps, IsSteady, node_of}
 use Rattle.am_deciding.proofs.Nodes.{keeps_stored, steady_pushed}
 use Rattle.am_deciding.proofs.deciding.store.Goals as goal
 

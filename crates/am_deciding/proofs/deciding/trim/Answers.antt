@@ -1,4 +1,4 @@
-use Rattle.am_handlers.specs.Parts.{node_of}
+use Rattle.am_deciding.proofs.Words.{node_of}
 use Rattle.am_deciding.proofs.Nodes.{keeps_trimmed, steady_core}
 use Rattle.am_deciding.proofs.deciding.trim.Goals as goal
 

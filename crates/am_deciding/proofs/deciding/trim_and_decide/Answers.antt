@@ -1,10 +1,4 @@
-use Rattle.std.proofs.Common.{ap, ◌∙◌, arith}
-use Rattle.am_base.specs.declared.image.Image.{Image}
-use Rattle.am_base.specs.Lists.{members_of}
-use Rattle.am_base.specs.Names.{has, is_within}
-use Rattle.am_handlers.specs.Parts.{node_of}
-use Rattle.am_ballots.specs.Kept.{ballot_of}
-use Rattle.am_handlers.proofs.Keeping.{own_steady}
+use Rattle.am_deciding.proofs.Words.{ap, ◌∙◌, arith, Image, members_of, has, is_within, node_of, ballot_of, own_steady}
 use Rattle.am_deciding.proofs.Verdicts.{trimmed_comes}
 use Rattle.am_deciding.proofs.deciding.trim_and_decide.Goals as goal
 

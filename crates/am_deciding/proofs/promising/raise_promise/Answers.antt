@@ -1,11 +1,4 @@
-use Rattle.std.proofs.Common.{◌≡◌, ◌<◌, false, sym, ap, ◌∙◌, subst, Option}
-use Rattle.am_base.specs.declared.name.Stamp.{Stamp}
-use Rattle.am_base.specs.Stamps.{stamp_eq}
-use Rattle.am_core.specs.Cores.{CoreState}
-use Rattle.am_model.specs.Node.{Ballot}
-use Rattle.am_model.specs.Ballots.{overtake}
-use Rattle.am_handlers.specs.Keeps.{NodeKeeps}
-use Rattle.am_handlers.specs.Parts.{node_of}
+use Rattle.am_deciding.proofs.Words.{◌≡◌, ◌<◌, false, sym, ap, ◌∙◌, subst, Option, Stamp, stamp_eq, CoreState, Ballot, overtake, NodeKeeps, node_of}
 use Rattle.am_deciding.proofs.Promises.{promised_same, keeps_promised}
 use Rattle.am_deciding.proofs.promising.raise_promise.Goals as goal
 

@@ -1,6 +1,4 @@
-use Rattle.std.proofs.Common.{ap, sym, option_map, Option}
-use Rattle.am_ballots.specs.Kept.{Kept, ballot_of}
-use Rattle.am_handlers.specs.Parts.{node_of}
+use Rattle.am_deciding.proofs.Words.{ap, sym, option_map, Option, Kept, ballot_of, node_of}
 use Rattle.am_deciding.proofs.Promises.{taken_own}
 use Rattle.am_deciding.proofs.promising.take_ballot.Goals as goal
 

@@ -1,6 +1,4 @@
-use Rattle.std.proofs.Common.{refl}
-use Rattle.am_model.specs.Emit.{quiet}
-use Rattle.am_handlers.specs.Parts.{node_of}
+use Rattle.am_handlers.proofs.Words.{refl, quiet, node_of}
 use Rattle.am_handlers.proofs.Plans.{done_silent}
 use Rattle.am_handlers.proofs.finishing.finish_quietly.Goals as goal
 

@@ -1,8 +1,4 @@
-use Rattle.std.proofs.Common.{refl}
-use Rattle.am_model.specs.Node.{only_name}
-use Rattle.am_model.specs.Emit.{telling}
-use Rattle.am_handlers.specs.Finishing.{letter_of}
-use Rattle.am_handlers.specs.Parts.{node_of}
+use Rattle.am_handlers.proofs.Words.{refl, only_name, telling, letter_of, node_of}
 use Rattle.am_handlers.proofs.Plans.{done_telling}
 use Rattle.am_handlers.proofs.finishing.finish_telling.Goals as goal
 

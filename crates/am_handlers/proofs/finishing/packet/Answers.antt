@@ -1,10 +1,5 @@
-use Rattle.std.proofs.Common.{ap, sym, ◌∙◌}
-use Rattle.am_base.specs.declared.image.Report.{Report}
-use Rattle.am_core.specs.Cores.{CoreState}
+use Rattle.am_handlers.proofs.Words.{ap, sym, ◌∙◌, Report, CoreState, OneLetter, with_core, letter_of}
 use Rattle.am_packet.specs.declared.packet.Packet.TheVariants as packet
-use Rattle.am_handlers.specs.declared.finishing.OneLetter.{OneLetter}
-use Rattle.am_handlers.specs.Cores.{with_core}
-use Rattle.am_handlers.specs.Finishing.{letter_of}
 use Rattle.am_handlers.proofs.finishing.packet.Goals as goal
 
 pub returns-in-Nack-clause-value : goal.returns-in-Nack-clause-value

@@ -1,6 +1,4 @@
-use Rattle.std.proofs.Common.{ap, ◌∙◌}
-use Rattle.am_base.specs.declared.image.Report.{Report}
-use Rattle.am_core.specs.Cores.{CoreState}
+use Rattle.am_handlers.proofs.Words.{ap, ◌∙◌, Report, CoreState}
 use Rattle.am_packet.specs.declared.packet.Packet.TheVariants as packet
 use Rattle.am_handlers.proofs.packets.ack.Goals as goal
 

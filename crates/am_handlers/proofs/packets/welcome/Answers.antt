@@ -1,4 +1,4 @@
-use Rattle.std.proofs.Common.{refl, ◌∙◌}
+use Rattle.am_handlers.proofs.Words.{refl, ◌∙◌}
 use Rattle.am_handlers.proofs.Telling.{welcome_told}
 use Rattle.am_handlers.proofs.packets.welcome.Goals as goal
 

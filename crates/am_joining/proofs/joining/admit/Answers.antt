@@ -1,9 +1,4 @@
-use Rattle.std.proofs.Common.{ℕ, ap, sym, ◌∙◌, subst}
-use Rattle.am_base.specs.declared.image.Report.{Report}
-use Rattle.am_fronts.specs.Reports.{with_admitted, reports_of}
-use Rattle.am_model.specs.Node.{Node}
-use Rattle.am_handlers.specs.Keeps.{NodeKeeps}
-use Rattle.am_handlers.specs.Parts.{node_of}
+use Rattle.am_joining.proofs.Words.{ℕ, ap, sym, ◌∙◌, subst, Report, with_admitted, reports_of, Node, NodeKeeps, node_of}
 use Rattle.am_joining.proofs.Joins.{keeps_admitted}
 use Rattle.am_joining.proofs.joining.admit.Goals as goal
 

@@ -1,24 +1,9 @@
-use Rattle.std.proofs.Common.{◌≡◌, ◌+◌, List, true, refl, sym, ap, ◌∙◌, subst}
-use Rattle.am_base.specs.declared.image.Image.{Image}
-use Rattle.am_base.specs.declared.entry.Entry.TheVariants.{Join}
+use Rattle.am_joining.proofs.Words.{◌≡◌, ◌+◌, List, true, refl, sym, ap, ◌∙◌, subst, Image, Join, has, members_of, fits, told-push, Letter, with_letter, Node}
+use Rattle.am_joining.proofs.Words.{top, image_of, others, push_entry, IsEndOf, bcast_of, CoreTells, with_core, NodeKeeps, node_of, end_self, keeps_pushed}
+use Rattle.am_joining.proofs.Words.{leading_log, done, end_tells, told_numbered, number_join, and_welcome}
+use Rattle.am_model.specs.Joining.{with_admitted}
 use Rattle.am_base.specs.declared.outcome.Outcome.TheVariants as said
-use Rattle.am_base.specs.Names.{has}
-use Rattle.am_base.specs.Lists.{members_of, fits}
-use Rattle.am_core.proofs.Ends.{told-push}
-use Rattle.am_packet.specs.Boxes.{Letter, with_letter}
-use Rattle.am_model.specs.Node.{Node, top, image_of, others, push_entry}
-use Rattle.am_model.specs.Ends.{IsEndOf}
-use Rattle.am_model.specs.Emit.{bcast_of}
-use Rattle.am_handlers.specs.Cores.{CoreTells, with_core}
-use Rattle.am_handlers.specs.Keeps.{NodeKeeps}
-use Rattle.am_handlers.specs.Parts.{node_of}
-use Rattle.am_handlers.proofs.Ends.{end_self}
-use Rattle.am_handlers.proofs.Keeping.{keeps_pushed, leading_log}
-use Rattle.am_handlers.proofs.Plans.{done, end_tells, told_numbered}
-use Rattle.am_model.specs.Joining.{with_admitted, number_join}
-use Rattle.am_joining.specs.Pieces.{and_welcome}
-use Rattle.am_joining.proofs.Joins.{keeps_admitted, join_letters}
-use Rattle.am_joining.proofs.Members.{stays_by_join}
+use Rattle.am_joining.proofs.{Joins.keeps_admitted, Joins.join_letters, Members.stays_by_join}
 use Rattle.am_joining.proofs.joining.number_join.Goals as goal
 
 pub push-requires-clause-fits : goal.push-requires-clause-fits

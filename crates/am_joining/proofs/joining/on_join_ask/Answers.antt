@@ -1,10 +1,4 @@
-use Rattle.std.proofs.Common.{Some, None, sym, ◌∙◌, subst}
-use Rattle.am_base.specs.declared.outcome.Outcome.{Outcome}
-use Rattle.am_model.specs.Emit.{polling}
-use Rattle.am_model.specs.Joining.{join_ask_row}
-use Rattle.am_handlers.specs.Parts.{node_of}
-use Rattle.am_handlers.specs.Finishing.{Done}
-use Rattle.am_handlers.proofs.Plans.{does_now}
+use Rattle.am_joining.proofs.Words.{Some, None, sym, ◌∙◌, subst, Outcome, polling, join_ask_row, node_of, Done, does_now}
 use Rattle.am_joining.proofs.Joins.{join_by, rest_again, rest_held, rest_number}
 use Rattle.am_joining.proofs.joining.on_join_ask.Goals as goal
 

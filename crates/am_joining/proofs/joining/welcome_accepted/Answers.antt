@@ -1,9 +1,4 @@
-use Rattle.std.proofs.Common.{◌≡◌, ℕ, List, true, nat_le, ap, ◌∙◌, arith}
-use Rattle.std.proofs.lemmas.Bool.Decides.{nat_tests}
-use Rattle.am_core.specs.Cores.{CoreState}
-use Rattle.am_packet.specs.declared.packet.Packet.{Packet}
-use Rattle.am_packet.specs.Boxes.{with_letter}
-use Rattle.am_model.specs.Node.{only_name}
+use Rattle.am_joining.proofs.Words.{◌≡◌, ℕ, List, true, nat_le, ap, ◌∙◌, arith, nat_tests, CoreState, Packet, with_letter, only_name}
 use Rattle.am_joining.proofs.joining.welcome_accepted.Goals as goal
 
 pub returns-then-number-core : goal.returns-then-number-core

@@ -1,7 +1,4 @@
-use Rattle.std.proofs.Common.{sym, ◌∙◌, subst}
-use Rattle.am_model.specs.Emit.{Plan}
-use Rattle.am_handlers.specs.Parts.{node_of}
-use Rattle.am_handlers.specs.Finishing.{Done}
+use Rattle.am_joining.proofs.Words.{sym, ◌∙◌, subst, Plan, node_of, Done}
 use Rattle.am_joining.proofs.Joins.{again_none, again_welcome}
 use Rattle.am_joining.proofs.joining.welcome_again.Goals as goal
 

@@ -1,12 +1,5 @@
-use Rattle.std.proofs.Common.{sym, ap, ◌∙◌, subst, arith}
-use Rattle.am_base.specs.declared.image.Row.{Row}
-use Rattle.am_base.specs.declared.outcome.Outcome.{Outcome}
-use Rattle.am_model.specs.Node.{image_of}
-use Rattle.am_model.specs.Emit.{Plan, polling}
-use Rattle.am_handlers.specs.Parts.{node_of}
-use Rattle.am_handlers.specs.Finishing.{Done}
-use Rattle.am_joining.proofs.Leaves.{asks_again, asks_held, asks_number}
-use Rattle.am_joining.proofs.Members.{member_by_row}
+use Rattle.am_joining.proofs.Words.{sym, ap, ◌∙◌, subst, arith, Row, Outcome, image_of, Plan, polling, node_of, Done}
+use Rattle.am_joining.proofs.{Leaves.asks_again, Leaves.asks_held, Leaves.asks_number, Members.member_by_row}
 use Rattle.am_joining.proofs.leaving.asks_to_leave.Goals as goal
 
 pub returns-then-row-gt0 : goal.returns-then-row-gt0

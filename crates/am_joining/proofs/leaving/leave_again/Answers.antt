@@ -1,8 +1,4 @@
-use Rattle.std.proofs.Common.{refl, ap}
-use Rattle.am_base.specs.declared.image.Row.{Row}
-use Rattle.am_handlers.specs.Parts.{node_of}
-use Rattle.am_handlers.proofs.Plans.{done_here}
-use Rattle.am_joining.specs.Pieces.{leave_again}
+use Rattle.am_joining.proofs.Words.{refl, ap, Row, node_of, done_here, leave_again}
 use Rattle.am_joining.proofs.Leaves.{again_goes, again_stays, told_so, let_go_from}
 use Rattle.am_joining.proofs.leaving.leave_again.Goals as goal
 

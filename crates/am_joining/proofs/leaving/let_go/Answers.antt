@@ -1,9 +1,4 @@
-use Rattle.std.proofs.Common.{List, ℕ, sym, ap, ◌∙◌, subst, Bool}
-use Rattle.am_packet.specs.Boxes.{Letter, with_letter}
-use Rattle.am_model.specs.Joining.{may_go}
-use Rattle.am_model.specs.Ends.{Tells}
-use Rattle.am_handlers.specs.Parts.{node_of}
-use Rattle.am_joining.specs.Pieces.{and_let_go}
+use Rattle.am_joining.proofs.Words.{List, ℕ, sym, ap, ◌∙◌, subst, Bool, Letter, with_letter, may_go, Tells, node_of, and_let_go}
 use Rattle.am_joining.proofs.Leaves.{stays_here, goes_away}
 use Rattle.am_joining.proofs.leaving.let_go.Goals as goal
 

@@ -1,7 +1,4 @@
-use Rattle.std.proofs.Common.{ap, ◌∙◌}
-use Rattle.am_fronts.specs.Reports.{reports_of}
-use Rattle.am_handlers.specs.Parts.{node_of}
-use Rattle.am_joining.specs.Pieces.{is_stored}
+use Rattle.am_joining.proofs.Words.{ap, ◌∙◌, reports_of, node_of, is_stored}
 use Rattle.am_joining.proofs.Leaves.{goes_tells}
 use Rattle.am_joining.proofs.leaving.may_go.Goals as goal
 

@@ -1,22 +1,8 @@
-use Rattle.std.proofs.Common.{◌≡◌, ◌+◌, refl, ap, ◌∙◌, subst}
-use Rattle.am_base.specs.declared.image.Image.{Image}
-use Rattle.am_base.specs.declared.entry.Entry.TheVariants.{Leave}
+use Rattle.am_joining.proofs.Words.{◌≡◌, ◌+◌, refl, ap, ◌∙◌, subst, Image, Leave, has, members_of, told-push, with_letter, Node, top, image_of, others}
+use Rattle.am_joining.proofs.Words.{push_entry, IsEndOf, bcast_of, with_core, node_of, end_self, keeps_pushed, leading_log, done, end_tells, told_numbered}
+use Rattle.am_joining.proofs.Words.{number_leave}
 use Rattle.am_base.specs.declared.outcome.Outcome.TheVariants as said
-use Rattle.am_base.specs.Names.{has}
-use Rattle.am_base.specs.Lists.{members_of}
-use Rattle.am_core.proofs.Ends.{told-push}
-use Rattle.am_packet.specs.Boxes.{with_letter}
-use Rattle.am_model.specs.Node.{Node, top, image_of, others, push_entry}
-use Rattle.am_model.specs.Ends.{IsEndOf}
-use Rattle.am_model.specs.Emit.{bcast_of}
-use Rattle.am_handlers.specs.Cores.{with_core}
-use Rattle.am_handlers.specs.Parts.{node_of}
-use Rattle.am_handlers.proofs.Ends.{end_self}
-use Rattle.am_handlers.proofs.Keeping.{keeps_pushed, leading_log}
-use Rattle.am_handlers.proofs.Plans.{done, end_tells, told_numbered}
-use Rattle.am_joining.specs.Pieces.{number_leave}
-use Rattle.am_joining.proofs.Leaves.{leave_letters}
-use Rattle.am_joining.proofs.Members.{stays_by_leave, fits_leave}
+use Rattle.am_joining.proofs.{Leaves.leave_letters, Members.stays_by_leave, Members.fits_leave}
 use Rattle.am_joining.proofs.leaving.number_leave.Goals as goal
 
 pub push-requires-clause-fits : goal.push-requires-clause-fits

@@ -1,13 +1,5 @@
-use Rattle.std.proofs.Common.{sym, ap, ◌==◌, ◌∙◌}
-use Rattle.am_base.specs.declared.image.Image.{Image}
-use Rattle.am_base.specs.Lists.{row_of}
-use Rattle.am_model.specs.Node.{Node}
-use Rattle.am_model.specs.Sequencing.{take_report}
-use Rattle.am_model.specs.Joining.{asks_to_leave, leave_ask_row}
-use Rattle.am_ends.proofs.Sequencing.{alike_asks_to_leave}
-use Rattle.am_handlers.specs.Parts.{node_of}
-use Rattle.am_handlers.proofs.Keeping.{steady_serves}
-use Rattle.am_handlers.proofs.Plans.{does_now, done_whole}
+use Rattle.am_joining.proofs.Words.{sym, ap, ◌==◌, ◌∙◌, Image, row_of, Node, take_report, asks_to_leave, leave_ask_row, alike_asks_to_leave, node_of}
+use Rattle.am_joining.proofs.Words.{steady_serves, does_now, done_whole}
 use Rattle.am_joining.proofs.Leaves.{leave_unknown, leave_other, leave_reported}
 use Rattle.am_joining.proofs.leaving.on_leave_ask.Goals as goal
 

@@ -1,9 +1,4 @@
-use Rattle.std.proofs.Common.{sym, ap, subst}
-use Rattle.am_core.specs.Cores.{CoreState}
-use Rattle.am_model.specs.declared.status.Status.TheVariants.{Member}
-use Rattle.am_model.specs.Node.{Node}
-use Rattle.am_handlers.specs.Keeps.{NodeKeeps}
-use Rattle.am_handlers.specs.Parts.{node_of}
+use Rattle.am_joining.proofs.Words.{sym, ap, subst, CoreState, Member, Node, NodeKeeps, node_of}
 use Rattle.am_joining.proofs.Begun.{begun_keeps, asking_log}
 use Rattle.am_joining.proofs.welcomed.begin.Goals as goal
 

@@ -1,10 +1,4 @@
-use Rattle.std.proofs.Common.{ap, sym, ◌∙◌, subst}
-use Rattle.am_model.specs.Node.{Node}
-use Rattle.am_model.specs.Joining.{begin_list, ask_next, welcome_row}
-use Rattle.am_handlers.specs.Parts.{node_of}
-use Rattle.am_handlers.specs.Finishing.{Done}
-use Rattle.am_handlers.proofs.Plans.{does_now}
-use Rattle.am_joining.specs.Pieces.{is_unfit}
+use Rattle.am_joining.proofs.Words.{ap, sym, ◌∙◌, subst, Node, begin_list, ask_next, welcome_row, node_of, Done, does_now, is_unfit}
 use Rattle.am_joining.proofs.Begun.{welcome_known, welcome_elsewhere, welcome_unfit, welcome_begins, member_or_asks}
 use Rattle.am_joining.proofs.welcomed.on_welcome.Goals as goal
 

@@ -1,7 +1,4 @@
-use Rattle.std.proofs.Common.{◌≡◌, length, sym, ap, ◌∙◌, arith}
-use Rattle.std.proofs.lemmas.Result.{err_from_is_err_and}
-use Rattle.am_world.specs.Runs.{Play}
-use Rattle.am_pump.specs.Generating.{Drive, first_drive, drive, drive_once}
+use Rattle.am_pump.proofs.Words.{◌≡◌, length, sym, ap, ◌∙◌, arith, err_from_is_err_and, Play, Drive, first_drive, drive, drive_once}
 use Rattle.am_pump.proofs.Drives.{drive_next, so_many, play_is}
 use Rattle.am_pump.proofs.generate.generate.Goals as goal
 

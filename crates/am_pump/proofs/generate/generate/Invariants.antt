@@ -1,5 +1,4 @@
-use Rattle.std.proofs.Common.{◌≡◌}
-use Rattle.am_pump.specs.Generating.{first_drive, drive}
+use Rattle.am_pump.proofs.Words.{◌≡◌, first_drive, drive}
 use Rattle.am_pump.proofs.generate.generate.Given as goal
 
 abbrev pub invariant-loop-done : goal.invariant-loop-done

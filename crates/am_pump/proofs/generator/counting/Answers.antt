@@ -1,4 +1,4 @@
-use Rattle.std.proofs.Common.{◌∙◌, arith}
+use Rattle.am_pump.proofs.Words.{◌∙◌, arith}
 use Rattle.am_pump.proofs.Bodies.{filled}
 use Rattle.am_pump.proofs.generator.counting.Goals as goal
 

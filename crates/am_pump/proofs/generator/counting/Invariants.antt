@@ -1,5 +1,4 @@
-use Rattle.std.proofs.Common.{◌≡◌, ℕ, ◌+◌, ◌%◌, ◌<◌, length, slice_index}
-use Rattle.am_pump.specs.Generating.{most_drawn}
+use Rattle.am_pump.proofs.Words.{◌≡◌, ℕ, ◌+◌, ◌%◌, ◌<◌, length, slice_index, most_drawn}
 use Rattle.am_pump.proofs.generator.counting.Given as goal
 
 abbrev pub invariant-loop-index : goal.invariant-loop-index

@@ -1,8 +1,4 @@
-use Rattle.std.proofs.Common.{refl}
-use Rattle.am_handlers.specs.Parts.{node_of}
-use Rattle.am_handlers.proofs.Doing.{core_tells}
-use Rattle.am_handlers.proofs.Plans.{done_here}
-use Rattle.am_receiver.specs.Pieces.{accepting, ack_where}
+use Rattle.am_receiver.proofs.Words.{refl, node_of, core_tells, done_here, accepting, ack_where}
 use Rattle.am_receiver.proofs.Rows.{accept_risen, accept_same}
 use Rattle.am_receiver.proofs.receiver.finish_accepting.Goals as goal
 

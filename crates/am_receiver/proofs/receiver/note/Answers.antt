@@ -1,5 +1,4 @@
-use Rattle.am_handlers.specs.Parts.{node_of}
-use Rattle.am_handlers.proofs.Keeping.{steady_leads}
+use Rattle.am_receiver.proofs.Words.{node_of, steady_leads}
 use Rattle.am_receiver.proofs.Notes.{noted_end, end_noted_steady, end_noted_keeps}
 use Rattle.am_receiver.proofs.receiver.note.Goals as goal
 

@@ -1,14 +1,6 @@
-use Rattle.std.proofs.Common.{ℕ, sym, ap, ◌∙◌, subst}
+use Rattle.am_receiver.proofs.Words.{ℕ, sym, ap, ◌∙◌, subst, top_of, Parts, Node, only_name, telling, nack_of, with_noted, accept_row, node_of, Done}
+use Rattle.am_receiver.proofs.Words.{does_now, done_whole, accepting}
 use Rattle.am_base.specs.declared.outcome.Outcome.TheVariants as said
-use Rattle.am_base.specs.Lists.{top_of}
-use Rattle.am_handlers.specs.declared.parts.Parts.{Parts}
-use Rattle.am_model.specs.Node.{Node, only_name}
-use Rattle.am_model.specs.Emit.{telling, nack_of}
-use Rattle.am_model.specs.Receiving.{with_noted, accept_row}
-use Rattle.am_handlers.specs.Parts.{node_of}
-use Rattle.am_handlers.specs.Finishing.{Done}
-use Rattle.am_handlers.proofs.Plans.{does_now, done_whole}
-use Rattle.am_receiver.specs.Pieces.{accepting}
 use Rattle.am_receiver.proofs.Rows.{accept_short, accept_all, alike_asking, alike_accepting}
 use Rattle.am_receiver.proofs.receiver.on_accept.Goals as goal
 

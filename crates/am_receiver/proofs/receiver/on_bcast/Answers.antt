@@ -1,9 +1,5 @@
-use Rattle.std.proofs.Common.{refl, ap, ◌∙◌, Some}
+use Rattle.am_receiver.proofs.Words.{refl, ap, ◌∙◌, Some, bcast_row, is_member, node_of, does_now}
 use Rattle.am_base.specs.declared.outcome.Outcome.TheVariants as said
-use Rattle.am_model.specs.Receiving.{bcast_row}
-use Rattle.am_model.specs.Node.{is_member}
-use Rattle.am_handlers.specs.Parts.{node_of}
-use Rattle.am_handlers.proofs.Plans.{does_now}
 use Rattle.am_receiver.proofs.Notes.{noted_done}
 use Rattle.am_receiver.proofs.receiver.on_bcast.Goals as goal
 

@@ -1,12 +1,6 @@
-use Rattle.std.proofs.Common.{refl, ap, Option, ◌∙◌, subst}
-use Rattle.std.specs.Option.{option_copied}
-use Rattle.am_base.specs.declared.entry.Entry.{Entry}
+use Rattle.am_receiver.proofs.Words.{refl, ap, Option, ◌∙◌, subst, option_copied, Entry, with_noted, receive_entry, order_row, is_member, node_of, Done}
+use Rattle.am_receiver.proofs.Words.{does_now}
 use Rattle.am_base.specs.declared.outcome.Outcome.TheVariants as said
-use Rattle.am_model.specs.Receiving.{with_noted, receive_entry, order_row}
-use Rattle.am_model.specs.Node.{is_member}
-use Rattle.am_handlers.specs.Parts.{node_of}
-use Rattle.am_handlers.specs.Finishing.{Done}
-use Rattle.am_handlers.proofs.Plans.{does_now}
 use Rattle.am_receiver.proofs.Notes.{noted_done}
 use Rattle.am_receiver.proofs.receiver.on_order.Goals as goal
 

@@ -1,12 +1,4 @@
-use Rattle.std.proofs.Common.{sym, ap, ◌∙◌, subst, Option, arith}
-use Rattle.std.specs.Option.{option_copied}
-use Rattle.am_base.specs.declared.entry.Entry.{Entry}
-use Rattle.am_base.specs.Lists.{top_of}
-use Rattle.am_handlers.specs.declared.parts.Parts.{Parts}
-use Rattle.am_model.specs.Emit.{Plan}
-use Rattle.am_model.specs.Receiving.{store}
-use Rattle.am_handlers.specs.Parts.{node_of}
-use Rattle.am_handlers.specs.Finishing.{Done}
+use Rattle.am_receiver.proofs.Words.{sym, ap, ◌∙◌, subst, Option, arith, option_copied, Entry, top_of, Parts, Plan, store, node_of, Done}
 use Rattle.am_receiver.proofs.Rows.{received_known, received_left, received_gap, received_past, received_next}
 use Rattle.am_receiver.proofs.receiver.receive_entry.Goals as goal
 

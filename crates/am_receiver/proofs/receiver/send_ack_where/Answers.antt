@@ -1,7 +1,4 @@
-use Rattle.std.proofs.Common.{ap, ◌∙◌, [], List, ℕ}
-use Rattle.am_packet.specs.Boxes.{with_letter}
-use Rattle.am_packet.specs.declared.packet.Packet.{Packet}
-use Rattle.am_model.specs.Node.{only_name}
+use Rattle.am_receiver.proofs.Words.{ap, ◌∙◌, [], List, ℕ, with_letter, Packet, only_name}
 use Rattle.am_receiver.proofs.receiver.send_ack_where.Goals as goal
 
 pub returns-then-is_due-clause-letters : goal.returns-then-is_due-clause-letters

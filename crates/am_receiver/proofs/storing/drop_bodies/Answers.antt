@@ -1,8 +1,4 @@
-use Rattle.std.proofs.Common.{List, ap}
-use Rattle.am_bodies.specs.declared.KeptBody.{KeptBody}
-use Rattle.am_model.specs.Node.{Node}
-use Rattle.am_handlers.specs.Parts.{node_of}
-use Rattle.am_handlers.proofs.Keeping.{keeps_bodies}
+use Rattle.am_receiver.proofs.Words.{List, ap, KeptBody, Node, node_of, keeps_bodies}
 use Rattle.am_receiver.proofs.storing.drop_bodies.Goals as goal
 
 pub invariant_of-parts : goal.invariant_of-parts

@@ -1,5 +1,4 @@
-use Rattle.std.proofs.Common.{arith}
-use Rattle.std.proofs.lemmas.Bool.Decides.{nat_tests}
+use Rattle.am_receiver.proofs.Words.{arith, nat_tests}
 use Rattle.am_receiver.proofs.Lowest.{among_lowest}
 use Rattle.am_receiver.proofs.storing.is_among_lowest.Goals as goal
 

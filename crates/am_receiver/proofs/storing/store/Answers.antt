@@ -1,21 +1,8 @@
-use Rattle.std.proofs.Common.{◌≡◌, ◌+◌, true, refl, sym, ap, ◌∙◌, subst, arith}
-use Rattle.am_base.specs.declared.entry.Entry.{Entry}
-use Rattle.am_base.specs.Lists.{fits}
+use Rattle.am_receiver.proofs.Words.{◌≡◌, ◌+◌, true, refl, sym, ap, ◌∙◌, subst, arith, Entry, fits, Plan, Node, image_of, push_entry, bodies_after}
+use Rattle.am_receiver.proofs.Words.{acknowledges, store_fitting, IsEndOf, NodeKeeps, node_of, Done, core_tells, end_self, keeps_pushed, member_log, done}
+use Rattle.am_receiver.proofs.Words.{ack_where}
 use Rattle.am_base.specs.declared.outcome.Outcome.TheVariants as said
-use Rattle.am_model.specs.Emit.{Plan}
-use Rattle.am_model.specs.Node.{Node, image_of, push_entry}
-use Rattle.am_model.specs.Receiving.{bodies_after, acknowledges, store_fitting}
-use Rattle.am_model.specs.Ends.{IsEndOf}
-use Rattle.am_handlers.specs.Keeps.{NodeKeeps}
-use Rattle.am_handlers.specs.Parts.{node_of}
-use Rattle.am_handlers.specs.Finishing.{Done}
-use Rattle.am_handlers.proofs.Doing.{core_tells}
-use Rattle.am_handlers.proofs.Ends.{end_self}
-use Rattle.am_handlers.proofs.Keeping.{keeps_pushed, member_log}
-use Rattle.am_handlers.proofs.Plans.{done}
-use Rattle.am_receiver.specs.Pieces.{ack_where}
-use Rattle.am_receiver.proofs.Kept.{stored_letters}
-use Rattle.am_receiver.proofs.Rows.{store_unfit, store_fit, is_fit}
+use Rattle.am_receiver.proofs.{Kept.stored_letters, Rows.store_unfit, Rows.store_fit, Rows.is_fit}
 use Rattle.am_receiver.proofs.storing.store.Goals as goal
 
 pub returns-then-is_unfit : goal.returns-then-is_unfit

@@ -1,260 +1,96 @@
 -- The texts of these scripts, by computing. Written by tools/rows.py.
 use Rattle.std.proofs.Common.{refl}
-use Rattle.am_base.specs.Names.{by_place}
-use Rattle.am_base.specs.Lists.{after, fits, fold}
-use Rattle.am_base.specs.Fronts.{greatest}
-use Rattle.am_base.specs.Votes.{best_from}
-use Rattle.am_model.specs.Node.{those}
-use Rattle.am_core.specs.Cores.{accept, pass_over, unions}
-use Rattle.am_fronts.specs.Reports.{least_of}
-use Rattle.am_fronts.specs.Refresh.{own_report, tell, go_on, let_go}
-use Rattle.am_model.specs.Refresh.{lead, refresh, settle, refresh_at_end}
-use Rattle.am_model.specs.Emit.{put_all, finish}
-use Rattle.am_model.specs.Ballots.{best_of, decide, begin, keep_vote, give_up}
-use Rattle.am_model.specs.Calls.{everywhere_else, send_row, done_row, take_row, join_row, state_row, leave_row, reset_row, ask_row, give_up_row}
-use Rattle.am_model.specs.Ticks.{tick_row}
-use Rattle.am_model.specs.Sequencing.{request_row, ack_row, nack_row}
-use Rattle.am_model.specs.Receiving.{spread_row, bcast_row, order_row, accept_row, hold_row}
-use Rattle.am_model.specs.Joining.{join_ask_row, welcome_row, leave_ask_row, gone_row}
-use Rattle.am_model.specs.Resets.{invite_row, vote_row, fetch_row, piece_row, result_row, hand_over_row}
-use Rattle.am_model.specs.Hearing.{hear_row}
-use Rattle.am_model.specs.Step.{row, step, hear, hear_refusal}
-use Rattle.am_play.specs.World.{with_record, with_step, happens, happen}
-use Rattle.am_play.specs.Lawful.{is_complete, is_lawful, greatest_complete, watch, watch_all}
-use Rattle.am_play.specs.Settle.{running, hearings_from, waves, rounds, settle_events}
-use Rattle.am_play.specs.Text.{name_text, stamp_text, names_text, body_text, resilience_text, entry_text, outcome_word, outcome_parts, outcome_text, act_word}
-use Rattle.am_play.specs.Text.{act_parts, event_text, kind_word, addressees_text, letter_text, record_line, records_text, group_line, group_text, log_line}
-use Rattle.am_play.specs.Text.{empty_log_line, log_text, logs_text, mark_line, play_text}
-use Rattle.std.specs.Fmt.{digits}
-use Rattle.am_rows.specs.Scripts.{set_of}
+use Rattle.am_rows.proofs.Opened.{opened}
 use Rattle.am_rows.proofs.worked.texts.Goals as goal
 
 pub returns-clause-busy : goal.returns-clause-busy
-unfolding by_place after fits fold greatest best_from those accept pass_over unions least_of own_report tell go_on let_go lead refresh settle
-    refresh_at_end put_all finish best_of decide begin keep_vote give_up everywhere_else send_row done_row take_row join_row state_row leave_row
-    reset_row ask_row give_up_row tick_row request_row ack_row nack_row spread_row bcast_row order_row accept_row hold_row join_ask_row welcome_row
-    leave_ask_row gone_row invite_row vote_row fetch_row piece_row result_row hand_over_row hear_row row step hear hear_refusal with_record with_step
-    happens happen is_complete is_lawful greatest_complete watch watch_all running hearings_from waves rounds settle_events name_text stamp_text
-    names_text body_text resilience_text entry_text outcome_word outcome_parts outcome_text act_word act_parts event_text kind_word addressees_text
-    letter_text record_line records_text group_line group_text log_line empty_log_line log_text logs_text mark_line play_text digits set_of
+unfolding opened
 returns-clause-busy c = refl
 
 pub returns-clause-crowded : goal.returns-clause-crowded
-unfolding by_place after fits fold greatest best_from those accept pass_over unions least_of own_report tell go_on let_go lead refresh settle
-    refresh_at_end put_all finish best_of decide begin keep_vote give_up everywhere_else send_row done_row take_row join_row state_row leave_row
-    reset_row ask_row give_up_row tick_row request_row ack_row nack_row spread_row bcast_row order_row accept_row hold_row join_ask_row welcome_row
-    leave_ask_row gone_row invite_row vote_row fetch_row piece_row result_row hand_over_row hear_row row step hear hear_refusal with_record with_step
-    happens happen is_complete is_lawful greatest_complete watch watch_all running hearings_from waves rounds settle_events name_text stamp_text
-    names_text body_text resilience_text entry_text outcome_word outcome_parts outcome_text act_word act_parts event_text kind_word addressees_text
-    letter_text record_line records_text group_line group_text log_line empty_log_line log_text logs_text mark_line play_text digits set_of
+unfolding opened
 returns-clause-crowded c = refl
 
 pub returns-clause-crowded_given_up : goal.returns-clause-crowded_given_up
-unfolding by_place after fits fold greatest best_from those accept pass_over unions least_of own_report tell go_on let_go lead refresh settle
-    refresh_at_end put_all finish best_of decide begin keep_vote give_up everywhere_else send_row done_row take_row join_row state_row leave_row
-    reset_row ask_row give_up_row tick_row request_row ack_row nack_row spread_row bcast_row order_row accept_row hold_row join_ask_row welcome_row
-    leave_ask_row gone_row invite_row vote_row fetch_row piece_row result_row hand_over_row hear_row row step hear hear_refusal with_record with_step
-    happens happen is_complete is_lawful greatest_complete watch watch_all running hearings_from waves rounds settle_events name_text stamp_text
-    names_text body_text resilience_text entry_text outcome_word outcome_parts outcome_text act_word act_parts event_text kind_word addressees_text
-    letter_text record_line records_text group_line group_text log_line empty_log_line log_text logs_text mark_line play_text digits set_of
+unfolding opened
 returns-clause-crowded_given_up c = refl
 
 pub returns-clause-crowded_taken : goal.returns-clause-crowded_taken
-unfolding by_place after fits fold greatest best_from those accept pass_over unions least_of own_report tell go_on let_go lead refresh settle
-    refresh_at_end put_all finish best_of decide begin keep_vote give_up everywhere_else send_row done_row take_row join_row state_row leave_row
-    reset_row ask_row give_up_row tick_row request_row ack_row nack_row spread_row bcast_row order_row accept_row hold_row join_ask_row welcome_row
-    leave_ask_row gone_row invite_row vote_row fetch_row piece_row result_row hand_over_row hear_row row step hear hear_refusal with_record with_step
-    happens happen is_complete is_lawful greatest_complete watch watch_all running hearings_from waves rounds settle_events name_text stamp_text
-    names_text body_text resilience_text entry_text outcome_word outcome_parts outcome_text act_word act_parts event_text kind_word addressees_text
-    letter_text record_line records_text group_line group_text log_line empty_log_line log_text logs_text mark_line play_text digits set_of
+unfolding opened
 returns-clause-crowded_taken c = refl
 
 pub returns-clause-cut_packets : goal.returns-clause-cut_packets
-unfolding by_place after fits fold greatest best_from those accept pass_over unions least_of own_report tell go_on let_go lead refresh settle
-    refresh_at_end put_all finish best_of decide begin keep_vote give_up everywhere_else send_row done_row take_row join_row state_row leave_row
-    reset_row ask_row give_up_row tick_row request_row ack_row nack_row spread_row bcast_row order_row accept_row hold_row join_ask_row welcome_row
-    leave_ask_row gone_row invite_row vote_row fetch_row piece_row result_row hand_over_row hear_row row step hear hear_refusal with_record with_step
-    happens happen is_complete is_lawful greatest_complete watch watch_all running hearings_from waves rounds settle_events name_text stamp_text
-    names_text body_text resilience_text entry_text outcome_word outcome_parts outcome_text act_word act_parts event_text kind_word addressees_text
-    letter_text record_line records_text group_line group_text log_line empty_log_line log_text logs_text mark_line play_text digits set_of
+unfolding opened
 returns-clause-cut_packets c = refl
 
 pub returns-clause-every_life : goal.returns-clause-every_life
-unfolding by_place after fits fold greatest best_from those accept pass_over unions least_of own_report tell go_on let_go lead refresh settle
-    refresh_at_end put_all finish best_of decide begin keep_vote give_up everywhere_else send_row done_row take_row join_row state_row leave_row
-    reset_row ask_row give_up_row tick_row request_row ack_row nack_row spread_row bcast_row order_row accept_row hold_row join_ask_row welcome_row
-    leave_ask_row gone_row invite_row vote_row fetch_row piece_row result_row hand_over_row hear_row row step hear hear_refusal with_record with_step
-    happens happen is_complete is_lawful greatest_complete watch watch_all running hearings_from waves rounds settle_events name_text stamp_text
-    names_text body_text resilience_text entry_text outcome_word outcome_parts outcome_text act_word act_parts event_text kind_word addressees_text
-    letter_text record_line records_text group_line group_text log_line empty_log_line log_text logs_text mark_line play_text digits set_of
+unfolding opened
 returns-clause-every_life c = refl
 
 pub returns-clause-join_asked : goal.returns-clause-join_asked
-unfolding by_place after fits fold greatest best_from those accept pass_over unions least_of own_report tell go_on let_go lead refresh settle
-    refresh_at_end put_all finish best_of decide begin keep_vote give_up everywhere_else send_row done_row take_row join_row state_row leave_row
-    reset_row ask_row give_up_row tick_row request_row ack_row nack_row spread_row bcast_row order_row accept_row hold_row join_ask_row welcome_row
-    leave_ask_row gone_row invite_row vote_row fetch_row piece_row result_row hand_over_row hear_row row step hear hear_refusal with_record with_step
-    happens happen is_complete is_lawful greatest_complete watch watch_all running hearings_from waves rounds settle_events name_text stamp_text
-    names_text body_text resilience_text entry_text outcome_word outcome_parts outcome_text act_word act_parts event_text kind_word addressees_text
-    letter_text record_line records_text group_line group_text log_line empty_log_line log_text logs_text mark_line play_text digits set_of
+unfolding opened
 returns-clause-join_asked c = refl
 
 pub returns-clause-join_with_lost_welcome : goal.returns-clause-join_with_lost_welcome
-unfolding by_place after fits fold greatest best_from those accept pass_over unions least_of own_report tell go_on let_go lead refresh settle
-    refresh_at_end put_all finish best_of decide begin keep_vote give_up everywhere_else send_row done_row take_row join_row state_row leave_row
-    reset_row ask_row give_up_row tick_row request_row ack_row nack_row spread_row bcast_row order_row accept_row hold_row join_ask_row welcome_row
-    leave_ask_row gone_row invite_row vote_row fetch_row piece_row result_row hand_over_row hear_row row step hear hear_refusal with_record with_step
-    happens happen is_complete is_lawful greatest_complete watch watch_all running hearings_from waves rounds settle_events name_text stamp_text
-    names_text body_text resilience_text entry_text outcome_word outcome_parts outcome_text act_word act_parts event_text kind_word addressees_text
-    letter_text record_line records_text group_line group_text log_line empty_log_line log_text logs_text mark_line play_text digits set_of
+unfolding opened
 returns-clause-join_with_lost_welcome c = refl
 
 pub returns-clause-leave_asked : goal.returns-clause-leave_asked
-unfolding by_place after fits fold greatest best_from those accept pass_over unions least_of own_report tell go_on let_go lead refresh settle
-    refresh_at_end put_all finish best_of decide begin keep_vote give_up everywhere_else send_row done_row take_row join_row state_row leave_row
-    reset_row ask_row give_up_row tick_row request_row ack_row nack_row spread_row bcast_row order_row accept_row hold_row join_ask_row welcome_row
-    leave_ask_row gone_row invite_row vote_row fetch_row piece_row result_row hand_over_row hear_row row step hear hear_refusal with_record with_step
-    happens happen is_complete is_lawful greatest_complete watch watch_all running hearings_from waves rounds settle_events name_text stamp_text
-    names_text body_text resilience_text entry_text outcome_word outcome_parts outcome_text act_word act_parts event_text kind_word addressees_text
-    letter_text record_line records_text group_line group_text log_line empty_log_line log_text logs_text mark_line play_text digits set_of
+unfolding opened
 returns-clause-leave_asked c = refl
 
 pub returns-clause-long_body : goal.returns-clause-long_body
-unfolding by_place after fits fold greatest best_from those accept pass_over unions least_of own_report tell go_on let_go lead refresh settle
-    refresh_at_end put_all finish best_of decide begin keep_vote give_up everywhere_else send_row done_row take_row join_row state_row leave_row
-    reset_row ask_row give_up_row tick_row request_row ack_row nack_row spread_row bcast_row order_row accept_row hold_row join_ask_row welcome_row
-    leave_ask_row gone_row invite_row vote_row fetch_row piece_row result_row hand_over_row hear_row row step hear hear_refusal with_record with_step
-    happens happen is_complete is_lawful greatest_complete watch watch_all running hearings_from waves rounds settle_events name_text stamp_text
-    names_text body_text resilience_text entry_text outcome_word outcome_parts outcome_text act_word act_parts event_text kind_word addressees_text
-    letter_text record_line records_text group_line group_text log_line empty_log_line log_text logs_text mark_line play_text digits set_of
+unfolding opened
 returns-clause-long_body c = refl
 
 pub returns-clause-no_events : goal.returns-clause-no_events
-unfolding by_place after fits fold greatest best_from those accept pass_over unions least_of own_report tell go_on let_go lead refresh settle
-    refresh_at_end put_all finish best_of decide begin keep_vote give_up everywhere_else send_row done_row take_row join_row state_row leave_row
-    reset_row ask_row give_up_row tick_row request_row ack_row nack_row spread_row bcast_row order_row accept_row hold_row join_ask_row welcome_row
-    leave_ask_row gone_row invite_row vote_row fetch_row piece_row result_row hand_over_row hear_row row step hear hear_refusal with_record with_step
-    happens happen is_complete is_lawful greatest_complete watch watch_all running hearings_from waves rounds settle_events name_text stamp_text
-    names_text body_text resilience_text entry_text outcome_word outcome_parts outcome_text act_word act_parts event_text kind_word addressees_text
-    letter_text record_line records_text group_line group_text log_line empty_log_line log_text logs_text mark_line play_text digits set_of
+unfolding opened
 returns-clause-no_events c = refl
 
 pub returns-clause-only_founder_leaves : goal.returns-clause-only_founder_leaves
-unfolding by_place after fits fold greatest best_from those accept pass_over unions least_of own_report tell go_on let_go lead refresh settle
-    refresh_at_end put_all finish best_of decide begin keep_vote give_up everywhere_else send_row done_row take_row join_row state_row leave_row
-    reset_row ask_row give_up_row tick_row request_row ack_row nack_row spread_row bcast_row order_row accept_row hold_row join_ask_row welcome_row
-    leave_ask_row gone_row invite_row vote_row fetch_row piece_row result_row hand_over_row hear_row row step hear hear_refusal with_record with_step
-    happens happen is_complete is_lawful greatest_complete watch watch_all running hearings_from waves rounds settle_events name_text stamp_text
-    names_text body_text resilience_text entry_text outcome_word outcome_parts outcome_text act_word act_parts event_text kind_word addressees_text
-    letter_text record_line records_text group_line group_text log_line empty_log_line log_text logs_text mark_line play_text digits set_of
+unfolding opened
 returns-clause-only_founder_leaves c = refl
 
 pub returns-clause-reordering : goal.returns-clause-reordering
-unfolding by_place after fits fold greatest best_from those accept pass_over unions least_of own_report tell go_on let_go lead refresh settle
-    refresh_at_end put_all finish best_of decide begin keep_vote give_up everywhere_else send_row done_row take_row join_row state_row leave_row
-    reset_row ask_row give_up_row tick_row request_row ack_row nack_row spread_row bcast_row order_row accept_row hold_row join_ask_row welcome_row
-    leave_ask_row gone_row invite_row vote_row fetch_row piece_row result_row hand_over_row hear_row row step hear hear_refusal with_record with_step
-    happens happen is_complete is_lawful greatest_complete watch watch_all running hearings_from waves rounds settle_events name_text stamp_text
-    names_text body_text resilience_text entry_text outcome_word outcome_parts outcome_text act_word act_parts event_text kind_word addressees_text
-    letter_text record_line records_text group_line group_text log_line empty_log_line log_text logs_text mark_line play_text digits set_of
+unfolding opened
 returns-clause-reordering c = refl
 
 pub returns-clause-repeat : goal.returns-clause-repeat
-unfolding by_place after fits fold greatest best_from those accept pass_over unions least_of own_report tell go_on let_go lead refresh settle
-    refresh_at_end put_all finish best_of decide begin keep_vote give_up everywhere_else send_row done_row take_row join_row state_row leave_row
-    reset_row ask_row give_up_row tick_row request_row ack_row nack_row spread_row bcast_row order_row accept_row hold_row join_ask_row welcome_row
-    leave_ask_row gone_row invite_row vote_row fetch_row piece_row result_row hand_over_row hear_row row step hear hear_refusal with_record with_step
-    happens happen is_complete is_lawful greatest_complete watch watch_all running hearings_from waves rounds settle_events name_text stamp_text
-    names_text body_text resilience_text entry_text outcome_word outcome_parts outcome_text act_word act_parts event_text kind_word addressees_text
-    letter_text record_line records_text group_line group_text log_line empty_log_line log_text logs_text mark_line play_text digits set_of
+unfolding opened
 returns-clause-repeat c = refl
 
 pub returns-clause-return_after_leave : goal.returns-clause-return_after_leave
-unfolding by_place after fits fold greatest best_from those accept pass_over unions least_of own_report tell go_on let_go lead refresh settle
-    refresh_at_end put_all finish best_of decide begin keep_vote give_up everywhere_else send_row done_row take_row join_row state_row leave_row
-    reset_row ask_row give_up_row tick_row request_row ack_row nack_row spread_row bcast_row order_row accept_row hold_row join_ask_row welcome_row
-    leave_ask_row gone_row invite_row vote_row fetch_row piece_row result_row hand_over_row hear_row row step hear hear_refusal with_record with_step
-    happens happen is_complete is_lawful greatest_complete watch watch_all running hearings_from waves rounds settle_events name_text stamp_text
-    names_text body_text resilience_text entry_text outcome_word outcome_parts outcome_text act_word act_parts event_text kind_word addressees_text
-    letter_text record_line records_text group_line group_text log_line empty_log_line log_text logs_text mark_line play_text digits set_of
+unfolding opened
 returns-clause-return_after_leave c = refl
 
 pub returns-clause-return_after_stop : goal.returns-clause-return_after_stop
-unfolding by_place after fits fold greatest best_from those accept pass_over unions least_of own_report tell go_on let_go lead refresh settle
-    refresh_at_end put_all finish best_of decide begin keep_vote give_up everywhere_else send_row done_row take_row join_row state_row leave_row
-    reset_row ask_row give_up_row tick_row request_row ack_row nack_row spread_row bcast_row order_row accept_row hold_row join_ask_row welcome_row
-    leave_ask_row gone_row invite_row vote_row fetch_row piece_row result_row hand_over_row hear_row row step hear hear_refusal with_record with_step
-    happens happen is_complete is_lawful greatest_complete watch watch_all running hearings_from waves rounds settle_events name_text stamp_text
-    names_text body_text resilience_text entry_text outcome_word outcome_parts outcome_text act_word act_parts event_text kind_word addressees_text
-    letter_text record_line records_text group_line group_text log_line empty_log_line log_text logs_text mark_line play_text digits set_of
+unfolding opened
 returns-clause-return_after_stop c = refl
 
 pub returns-clause-returned_leaver_stops : goal.returns-clause-returned_leaver_stops
-unfolding by_place after fits fold greatest best_from those accept pass_over unions least_of own_report tell go_on let_go lead refresh settle
-    refresh_at_end put_all finish best_of decide begin keep_vote give_up everywhere_else send_row done_row take_row join_row state_row leave_row
-    reset_row ask_row give_up_row tick_row request_row ack_row nack_row spread_row bcast_row order_row accept_row hold_row join_ask_row welcome_row
-    leave_ask_row gone_row invite_row vote_row fetch_row piece_row result_row hand_over_row hear_row row step hear hear_refusal with_record with_step
-    happens happen is_complete is_lawful greatest_complete watch watch_all running hearings_from waves rounds settle_events name_text stamp_text
-    names_text body_text resilience_text entry_text outcome_word outcome_parts outcome_text act_word act_parts event_text kind_word addressees_text
-    letter_text record_line records_text group_line group_text log_line empty_log_line log_text logs_text mark_line play_text digits set_of
+unfolding opened
 returns-clause-returned_leaver_stops c = refl
 
 pub returns-clause-running_member : goal.returns-clause-running_member
-unfolding by_place after fits fold greatest best_from those accept pass_over unions least_of own_report tell go_on let_go lead refresh settle
-    refresh_at_end put_all finish best_of decide begin keep_vote give_up everywhere_else send_row done_row take_row join_row state_row leave_row
-    reset_row ask_row give_up_row tick_row request_row ack_row nack_row spread_row bcast_row order_row accept_row hold_row join_ask_row welcome_row
-    leave_ask_row gone_row invite_row vote_row fetch_row piece_row result_row hand_over_row hear_row row step hear hear_refusal with_record with_step
-    happens happen is_complete is_lawful greatest_complete watch watch_all running hearings_from waves rounds settle_events name_text stamp_text
-    names_text body_text resilience_text entry_text outcome_word outcome_parts outcome_text act_word act_parts event_text kind_word addressees_text
-    letter_text record_line records_text group_line group_text log_line empty_log_line log_text logs_text mark_line play_text digits set_of
+unfolding opened
 returns-clause-running_member c = refl
 
 pub returns-clause-settled : goal.returns-clause-settled
-unfolding by_place after fits fold greatest best_from those accept pass_over unions least_of own_report tell go_on let_go lead refresh settle
-    refresh_at_end put_all finish best_of decide begin keep_vote give_up everywhere_else send_row done_row take_row join_row state_row leave_row
-    reset_row ask_row give_up_row tick_row request_row ack_row nack_row spread_row bcast_row order_row accept_row hold_row join_ask_row welcome_row
-    leave_ask_row gone_row invite_row vote_row fetch_row piece_row result_row hand_over_row hear_row row step hear hear_refusal with_record with_step
-    happens happen is_complete is_lawful greatest_complete watch watch_all running hearings_from waves rounds settle_events name_text stamp_text
-    names_text body_text resilience_text entry_text outcome_word outcome_parts outcome_text act_word act_parts event_text kind_word addressees_text
-    letter_text record_line records_text group_line group_text log_line empty_log_line log_text logs_text mark_line play_text digits set_of
+unfolding opened
 returns-clause-settled c = refl
 
 pub returns-clause-short_body : goal.returns-clause-short_body
-unfolding by_place after fits fold greatest best_from those accept pass_over unions least_of own_report tell go_on let_go lead refresh settle
-    refresh_at_end put_all finish best_of decide begin keep_vote give_up everywhere_else send_row done_row take_row join_row state_row leave_row
-    reset_row ask_row give_up_row tick_row request_row ack_row nack_row spread_row bcast_row order_row accept_row hold_row join_ask_row welcome_row
-    leave_ask_row gone_row invite_row vote_row fetch_row piece_row result_row hand_over_row hear_row row step hear hear_refusal with_record with_step
-    happens happen is_complete is_lawful greatest_complete watch watch_all running hearings_from waves rounds settle_events name_text stamp_text
-    names_text body_text resilience_text entry_text outcome_word outcome_parts outcome_text act_word act_parts event_text kind_word addressees_text
-    letter_text record_line records_text group_line group_text log_line empty_log_line log_text logs_text mark_line play_text digits set_of
+unfolding opened
 returns-clause-short_body c = refl
 
 pub returns-clause-smallest_path : goal.returns-clause-smallest_path
-unfolding by_place after fits fold greatest best_from those accept pass_over unions least_of own_report tell go_on let_go lead refresh settle
-    refresh_at_end put_all finish best_of decide begin keep_vote give_up everywhere_else send_row done_row take_row join_row state_row leave_row
-    reset_row ask_row give_up_row tick_row request_row ack_row nack_row spread_row bcast_row order_row accept_row hold_row join_ask_row welcome_row
-    leave_ask_row gone_row invite_row vote_row fetch_row piece_row result_row hand_over_row hear_row row step hear hear_refusal with_record with_step
-    happens happen is_complete is_lawful greatest_complete watch watch_all running hearings_from waves rounds settle_events name_text stamp_text
-    names_text body_text resilience_text entry_text outcome_word outcome_parts outcome_text act_word act_parts event_text kind_word addressees_text
-    letter_text record_line records_text group_line group_text log_line empty_log_line log_text logs_text mark_line play_text digits set_of
+unfolding opened
 returns-clause-smallest_path c = refl
 
 pub returns-clause-spread_lost : goal.returns-clause-spread_lost
-unfolding by_place after fits fold greatest best_from those accept pass_over unions least_of own_report tell go_on let_go lead refresh settle
-    refresh_at_end put_all finish best_of decide begin keep_vote give_up everywhere_else send_row done_row take_row join_row state_row leave_row
-    reset_row ask_row give_up_row tick_row request_row ack_row nack_row spread_row bcast_row order_row accept_row hold_row join_ask_row welcome_row
-    leave_ask_row gone_row invite_row vote_row fetch_row piece_row result_row hand_over_row hear_row row step hear hear_refusal with_record with_step
-    happens happen is_complete is_lawful greatest_complete watch watch_all running hearings_from waves rounds settle_events name_text stamp_text
-    names_text body_text resilience_text entry_text outcome_word outcome_parts outcome_text act_word act_parts event_text kind_word addressees_text
-    letter_text record_line records_text group_line group_text log_line empty_log_line log_text logs_text mark_line play_text digits set_of
+unfolding opened
 returns-clause-spread_lost c = refl
 
 pub returns-clause-window_of_one : goal.returns-clause-window_of_one
-unfolding by_place after fits fold greatest best_from those accept pass_over unions least_of own_report tell go_on let_go lead refresh settle
-    refresh_at_end put_all finish best_of decide begin keep_vote give_up everywhere_else send_row done_row take_row join_row state_row leave_row
-    reset_row ask_row give_up_row tick_row request_row ack_row nack_row spread_row bcast_row order_row accept_row hold_row join_ask_row welcome_row
-    leave_ask_row gone_row invite_row vote_row fetch_row piece_row result_row hand_over_row hear_row row step hear hear_refusal with_record with_step
-    happens happen is_complete is_lawful greatest_complete watch watch_all running hearings_from waves rounds settle_events name_text stamp_text
-    names_text body_text resilience_text entry_text outcome_word outcome_parts outcome_text act_word act_parts event_text kind_word addressees_text
-    letter_text record_line records_text group_line group_text log_line empty_log_line log_text logs_text mark_line play_text digits set_of
+unfolding opened
 returns-clause-window_of_one c = refl

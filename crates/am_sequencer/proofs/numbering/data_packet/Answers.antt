@@ -1,7 +1,4 @@
-use Rattle.std.proofs.Common.{ap, ◌∙◌, List, ℕ}
-use Rattle.am_base.specs.declared.entry.Entry.TheVariants.{Data}
-use Rattle.am_model.specs.Emit.{bcast_of}
-use Rattle.am_handlers.specs.Cores.{with_core}
+use Rattle.am_sequencer.proofs.Words.{ap, ◌∙◌, List, ℕ, Data, bcast_of, with_core}
 use Rattle.am_sequencer.proofs.numbering.data_packet.Goals as goal
 
 pub returns-then-by_order-clause-value : goal.returns-then-by_order-clause-value

@@ -1,9 +1,5 @@
-use Rattle.std.proofs.Common.{refl}
+use Rattle.am_sequencer.proofs.Words.{refl, top, only_name, polling, and_telling, hold_of, node_of, done_telling}
 use Rattle.am_base.specs.declared.outcome.Outcome.TheVariants as said
-use Rattle.am_model.specs.Node.{top, only_name}
-use Rattle.am_model.specs.Emit.{polling, and_telling, hold_of}
-use Rattle.am_handlers.specs.Parts.{node_of}
-use Rattle.am_handlers.proofs.Plans.{done_telling}
 use Rattle.am_sequencer.proofs.numbering.put_off.Goals as goal
 
 pub returns : goal.returns

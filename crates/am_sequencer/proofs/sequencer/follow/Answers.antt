@@ -1,7 +1,4 @@
-use Rattle.std.proofs.Common.{refl}
-use Rattle.am_handlers.specs.Parts.{node_of}
-use Rattle.am_handlers.proofs.Plans.{done_silent}
-use Rattle.am_sequencer.specs.Pieces.{following}
+use Rattle.am_sequencer.proofs.Words.{refl, node_of, done_silent, following}
 use Rattle.am_sequencer.proofs.Rows.{follow_risen, follow_same}
 use Rattle.am_sequencer.proofs.sequencer.follow.Goals as goal
 

@@ -1,10 +1,4 @@
-use Rattle.std.proofs.Common.{ℕ, Some, None, refl, sym, ◌∙◌, subst}
-use Rattle.am_model.specs.Node.{Node, with_report}
-use Rattle.am_model.specs.Sequencing.{ack_row}
-use Rattle.am_handlers.specs.Parts.{node_of}
-use Rattle.am_handlers.specs.Finishing.{Done}
-use Rattle.am_handlers.proofs.Plans.{does_now}
-use Rattle.am_sequencer.specs.Pieces.{following}
+use Rattle.am_sequencer.proofs.Words.{ℕ, Some, None, refl, sym, ◌∙◌, subst, Node, with_report, ack_row, node_of, Done, does_now, following}
 use Rattle.am_sequencer.proofs.Rows.{ack_by}
 use Rattle.am_sequencer.proofs.sequencer.on_ack.Goals as goal
 

@@ -1,10 +1,4 @@
-use Rattle.std.proofs.Common.{Some, None, sym, ◌∙◌}
-use Rattle.am_model.specs.Node.{Node}
-use Rattle.am_model.specs.Sequencing.{take_report, nack_row, serve_again}
-use Rattle.am_handlers.specs.Parts.{node_of}
-use Rattle.am_handlers.proofs.Plans.{does_now, done_whole}
-use Rattle.std.proofs.Common.{arith}
-use Rattle.am_ends.proofs.Sequencing.{alike_asked_again}
+use Rattle.am_sequencer.proofs.Words.{Some, None, sym, ◌∙◌, Node, take_report, nack_row, serve_again, node_of, does_now, done_whole, arith, alike_asked_again}
 use Rattle.am_sequencer.proofs.Rows.{nack_by}
 use Rattle.am_sequencer.proofs.sequencer.on_nack.Goals as goal
 

@@ -1,26 +1,9 @@
-use Rattle.std.proofs.Common.{◌≡◌, ◌+◌, ℕ, List, [], Some, true, false, refl, sym, ◌∙◌, ap, ◌==◌, subst}
-use Rattle.am_base.specs.declared.entry.Entry.{Entry}
-use Rattle.am_base.specs.declared.entry.Entry.TheVariants.{Data}
-use Rattle.am_base.specs.declared.image.Image.{Image}
-use Rattle.am_base.specs.declared.image.Row.{Row}
-use Rattle.am_base.specs.declared.outcome.Outcome.{Outcome}
+use Rattle.am_sequencer.proofs.Words.{◌≡◌, ◌+◌, ℕ, List, [], Some, true, false, refl, sym, ◌∙◌, ap, ◌==◌, subst, Entry, Data, Image, Row, Outcome, row_of}
+use Rattle.am_sequencer.proofs.Words.{has, members_pushed, Letter, with_letter, Node, top, image_of, others, push_entry, Plan, IsEndOf, Tells, request_row}
+use Rattle.am_sequencer.proofs.Words.{number_data, node_of, with_told, Done, end_self, keeps_pushed, leading_log, steady_leads, does_now, done, end_tells}
+use Rattle.am_sequencer.proofs.Words.{letter_tells, told_numbered, data_packet, request_refusal}
 use Rattle.am_base.specs.declared.outcome.Outcome.TheVariants as said
-use Rattle.am_base.specs.Lists.{row_of}
-use Rattle.am_base.specs.Names.{has}
-use Rattle.am_core.proofs.Members.{members_pushed}
-use Rattle.am_packet.specs.Boxes.{Letter, with_letter}
-use Rattle.am_model.specs.Node.{Node, top, image_of, others, push_entry}
-use Rattle.am_model.specs.Emit.{Plan}
-use Rattle.am_model.specs.Ends.{IsEndOf, Tells}
-use Rattle.am_model.specs.Sequencing.{request_row, number_data}
-use Rattle.am_handlers.specs.Parts.{node_of, with_told}
-use Rattle.am_handlers.specs.Finishing.{Done}
-use Rattle.am_handlers.proofs.Ends.{end_self}
-use Rattle.am_handlers.proofs.Keeping.{keeps_pushed, leading_log, steady_leads}
-use Rattle.am_handlers.proofs.Plans.{does_now, done, end_tells, letter_tells, told_numbered}
-use Rattle.am_sequencer.specs.Pieces.{data_packet, request_refusal}
-use Rattle.am_sequencer.proofs.Numbers.{next_fits}
-use Rattle.am_sequencer.proofs.Rows.{request_by, after_report, request_refused, request_held, request_numbered}
+use Rattle.am_sequencer.proofs.{Numbers.next_fits, Rows.request_by, Rows.after_report, Rows.request_refused, Rows.request_held, Rows.request_numbered}
 use Rattle.am_sequencer.proofs.sequencer.on_request.Goals as goal
 
 pub returns-in-Some : goal.returns-in-Some

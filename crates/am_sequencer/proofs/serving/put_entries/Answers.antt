@@ -1,15 +1,6 @@
-use Rattle.std.proofs.Common.{◌≡◌, ◌+◌, ◌-◌, List, ℕ, Some, ap, sym, ◌∙◌, arith}
-use Rattle.am_base.specs.declared.entry.Entry.{Entry}
-use Rattle.am_base.specs.Lists.{entry_at}
-use Rattle.am_packet.specs.declared.packet.Packet.{Packet}
-use Rattle.am_packet.specs.Boxes.{with_letter}
-use Rattle.am_core.specs.Cores.{CoreState}
-use Rattle.am_model.specs.Node.{only_name}
-use Rattle.am_model.proofs.Letters.{one_more}
-use Rattle.am_sequencer.specs.Pieces.{bcast_from}
-use Rattle.am_handlers.proofs.Served.{kept_above, put_none}
-use Rattle.am_sequencer.proofs.Again.{bcast_is}
-use Rattle.am_sequencer.proofs.Served.{serve_next, served_letters, served_count}
+use Rattle.am_sequencer.proofs.Words.{◌≡◌, ◌+◌, ◌-◌, List, ℕ, Some, ap, sym, ◌∙◌, arith, Entry, entry_at, Packet, with_letter, CoreState, only_name, one_more}
+use Rattle.am_sequencer.proofs.Words.{bcast_from, kept_above, put_none}
+use Rattle.am_sequencer.proofs.{Again.bcast_is, Served.serve_next, Served.served_letters, Served.served_count}
 use Rattle.am_sequencer.proofs.serving.put_entries.Goals as goal
 
 pub loop-before-init : goal.loop-before-init

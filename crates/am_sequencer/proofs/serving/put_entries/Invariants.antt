@@ -1,8 +1,4 @@
-use Rattle.std.proofs.Common.{◌≡◌, ◌+◌, ◌-◌, ◌≤◌, [], length, take}
-use Rattle.am_model.specs.Node.{only_name}
-use Rattle.am_model.specs.Emit.{put_all}
-use Rattle.am_sequencer.specs.Pieces.{bcast_from}
-use Rattle.am_handlers.proofs.Served.{kept_above}
+use Rattle.am_sequencer.proofs.Words.{◌≡◌, ◌+◌, ◌-◌, ◌≤◌, [], length, take, only_name, put_all, bcast_from, kept_above}
 use Rattle.am_sequencer.proofs.serving.put_entries.Given as goal
 
 abbrev pub invariant-loop-before : goal.invariant-loop-before

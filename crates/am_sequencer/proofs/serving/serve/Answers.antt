@@ -1,9 +1,4 @@
-use Rattle.std.proofs.Common.{◌≡◌, refl, sym, ap, subst, arith}
-use Rattle.am_core.specs.Cores.{CoreState, IsInOrder}
-use Rattle.am_model.specs.Sequencing.{serve}
-use Rattle.am_handlers.specs.Parts.{node_of}
-use Rattle.am_handlers.proofs.Ends.{end_self, settled_end}
-use Rattle.am_handlers.proofs.Plans.{done}
+use Rattle.am_sequencer.proofs.Words.{◌≡◌, refl, sym, ap, subst, arith, CoreState, IsInOrder, serve, node_of, end_self, settled_end, done}
 use Rattle.am_sequencer.proofs.Again.{serves_count, serves_letters}
 use Rattle.am_sequencer.proofs.serving.serve.Goals as goal
 

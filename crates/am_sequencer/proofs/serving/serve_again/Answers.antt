@@ -1,8 +1,4 @@
-use Rattle.std.proofs.Common.{sym, ap, ◌∙◌, subst, arith}
-use Rattle.am_handlers.specs.declared.parts.Parts.{Parts}
-use Rattle.am_model.specs.Emit.{Plan}
-use Rattle.am_handlers.specs.Parts.{node_of}
-use Rattle.am_handlers.specs.Finishing.{Done}
+use Rattle.am_sequencer.proofs.Words.{sym, ap, ◌∙◌, subst, arith, Parts, Plan, node_of, Done}
 use Rattle.am_sequencer.proofs.Rows.{again_behind, again_served}
 use Rattle.am_sequencer.proofs.serving.serve_again.Goals as goal
 

@@ -1,13 +1,6 @@
-use Rattle.std.proofs.Common.{◌≡◌, min, None, sym, subst, ◌∙◌}
-use Rattle.am_ballots.specs.Kept.{ballot_of}
-use Rattle.am_handlers.specs.Parts.{node_of}
-use Rattle.am_handlers.proofs.Ends.{end_self}
-use Rattle.am_model.specs.Node.{Node, Ballot, others}
-use Rattle.am_model.specs.Ballots.{with_promise, next_stamp, new_ballot, begin, decide}
-use Rattle.am_deciding.specs.Deciding.{IsTakenOut}
-use Rattle.am_handlers.specs.Verdicts.{ComesTo}
+use Rattle.am_voting.proofs.Words.{◌≡◌, min, None, sym, subst, ◌∙◌, ballot_of, node_of, end_self, Node, Ballot, others, with_promise, next_stamp, new_ballot}
+use Rattle.am_voting.proofs.Words.{begin, decide, IsTakenOut, ComesTo, replies_ballot, decide_with}
 use Rattle.am_voting.proofs.Ballots.{begins, next_node}
-use Rattle.am_replies.proofs.Replying.{replies_ballot, decide_with}
 use Rattle.am_voting.proofs.voting.begin.Goals as goal
 
 pub decide-outcome-requires : goal.decide-outcome-requires

@@ -1,13 +1,5 @@
-use Rattle.std.proofs.Common.{sym, subst}
-use Rattle.am_handlers.specs.Parts.{node_of}
-use Rattle.am_ballots.specs.Kept.{ballot_of}
-use Rattle.am_handlers.proofs.Ends.{end_self}
-use Rattle.am_model.specs.Node.{Ballot}
-use Rattle.am_model.specs.Ballots.{without_voter, give_up, decide}
-use Rattle.am_deciding.specs.Deciding.{IsTakenOut}
-use Rattle.am_handlers.specs.Verdicts.{ComesTo}
+use Rattle.am_voting.proofs.Words.{sym, subst, node_of, ballot_of, end_self, Ballot, without_voter, give_up, decide, IsTakenOut, ComesTo, replies_silent}
 use Rattle.am_voting.proofs.Ballots.{taken_given}
-use Rattle.am_replies.proofs.Replying.{replies_silent}
 use Rattle.am_voting.proofs.voting.give_up.Goals as goal
 
 pub decide-outcome-requires : goal.decide-outcome-requires

@@ -1,11 +1,6 @@
-use Rattle.std.proofs.Common.{◌==◌, Some, sym, ap, ◌∙◌}
+use Rattle.am_voting.proofs.Words.{◌==◌, Some, sym, ap, ◌∙◌, ballot_of, node_of, Node, give_up_of, end_as, by_reply}
 use Rattle.am_base.specs.declared.outcome.Outcome.TheVariants as said
-use Rattle.am_ballots.specs.Kept.{ballot_of}
-use Rattle.am_handlers.specs.Parts.{node_of}
-use Rattle.am_model.specs.Node.{Node}
-use Rattle.am_model.specs.Calls.{give_up_of}
 use Rattle.am_replies.specs.declared.replies.Telling.TheVariants as tell
-use Rattle.am_replies.proofs.Plans.{end_as, by_reply}
 use Rattle.am_voting.proofs.VoteRows.{given_over, given_itself, given_up}
 use Rattle.am_voting.proofs.voting.give_up_of.Goals as goal
 

@@ -1,8 +1,4 @@
-use Rattle.std.proofs.Common.{◌≡◌, true, false, sym, ◌∙◌}
-use Rattle.am_base.specs.Stamps.{stamp_lt}
-use Rattle.am_handlers.specs.Parts.{node_of}
-use Rattle.am_handlers.proofs.Ends.{end_self}
-use Rattle.am_replies.proofs.Plans.{end_promised}
+use Rattle.am_voting.proofs.Words.{◌≡◌, true, false, sym, ◌∙◌, stamp_lt, node_of, end_self, end_promised}
 use Rattle.am_voting.proofs.VoteRows.{invite_newer, invite_voted}
 use Rattle.am_voting.proofs.voting.invite.Goals as goal
 

@@ -1,14 +1,6 @@
-use Rattle.std.proofs.Common.{◌≡◌, sym, subst}
-use Rattle.am_handlers.specs.Parts.{node_of}
-use Rattle.am_ballots.specs.Kept.{ballot_of}
-use Rattle.am_handlers.proofs.Ends.{end_self}
-use Rattle.am_model.specs.Node.{Ballot}
-use Rattle.am_model.specs.Ballots.{with_vote, newly_needed, keep_vote, decide}
-use Rattle.am_deciding.specs.Deciding.{IsTakenOut}
-use Rattle.am_handlers.specs.Verdicts.{ComesTo}
-use Rattle.am_voting.proofs.Ballots.{taken_voted}
-use Rattle.am_replies.proofs.Replying.{replies_asking}
-use Rattle.am_voting.proofs.Ballots.{newly_is}
+use Rattle.am_voting.proofs.Words.{◌≡◌, sym, subst, node_of, ballot_of, end_self, Ballot, with_vote, newly_needed, keep_vote, decide, IsTakenOut, ComesTo}
+use Rattle.am_voting.proofs.Words.{replies_asking}
+use Rattle.am_voting.proofs.Ballots.{taken_voted, newly_is}
 use Rattle.am_voting.proofs.voting.keep_vote.Goals as goal
 
 pub decide-outcome-requires : goal.decide-outcome-requires

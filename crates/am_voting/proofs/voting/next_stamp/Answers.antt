@@ -1,6 +1,4 @@
-use Rattle.std.proofs.Common.{◌∙◌, ◌+◌}
-use Rattle.am_base.specs.Stamps.{stamp_lt}
-use Rattle.am_handlers.specs.Parts.{node_of}
+use Rattle.am_voting.proofs.Words.{◌∙◌, ◌+◌, stamp_lt, node_of}
 use Rattle.am_voting.proofs.Ballots.{next_higher}
 use Rattle.am_voting.proofs.voting.next_stamp.Goals as goal
 

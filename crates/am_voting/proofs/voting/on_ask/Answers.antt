@@ -1,11 +1,6 @@
-use Rattle.std.proofs.Common.{sym}
-use Rattle.am_handlers.specs.Parts.{node_of}
-use Rattle.am_handlers.proofs.Ends.{end_self}
+use Rattle.am_voting.proofs.Words.{sym, node_of, end_self, ask_row, replies_quiet, by_plan, by_reply}
 use Rattle.am_model.specs.Emit as emit
-use Rattle.am_model.specs.Calls.{ask_row}
 use Rattle.am_replies.specs.declared.replies.Telling.TheVariants as tell
-use Rattle.am_replies.proofs.Replying.{replies_quiet}
-use Rattle.am_replies.proofs.Plans.{by_plan, by_reply}
 use Rattle.am_voting.proofs.voting.on_ask.Goals as goal
 
 pub returns : goal.returns

@@ -1,6 +1,4 @@
-use Rattle.std.proofs.Common.{sym}
-use Rattle.am_handlers.specs.Parts.{node_of}
-use Rattle.am_model.specs.Calls.{give_up_row}
+use Rattle.am_voting.proofs.Words.{sym, node_of, give_up_row}
 use Rattle.am_voting.proofs.voting.on_give_up.Goals as goal
 
 pub returns : goal.returns

@@ -1,10 +1,4 @@
-use Rattle.std.proofs.Common.{ℕ, ap, sym, ◌∙◌, subst}
-use Rattle.am_base.specs.Lists.{told_by}
-use Rattle.am_handlers.specs.declared.parts.Parts.{Parts}
-use Rattle.am_handlers.specs.Parts.{node_of}
-use Rattle.am_model.specs.Calls.{reset_row}
-use Rattle.am_model.specs.Resets.{hand_over_row}
-use Rattle.am_replies.specs.Replies.{Replies}
+use Rattle.am_voting.proofs.Words.{ℕ, ap, sym, ◌∙◌, subst, told_by, Parts, node_of, reset_row, hand_over_row, Replies}
 use Rattle.am_voting.proofs.voting.on_hand_over.Goals as goal
 
 pub returns : goal.returns

@@ -1,6 +1,4 @@
-use Rattle.std.proofs.Common.{sym}
-use Rattle.am_handlers.specs.Parts.{node_of}
-use Rattle.am_model.specs.Resets.{invite_row}
+use Rattle.am_voting.proofs.Words.{sym, node_of, invite_row}
 use Rattle.am_voting.proofs.voting.on_invite.Goals as goal
 
 pub returns : goal.returns

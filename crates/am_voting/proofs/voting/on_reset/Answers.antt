@@ -1,6 +1,4 @@
-use Rattle.std.proofs.Common.{sym}
-use Rattle.am_handlers.specs.Parts.{node_of}
-use Rattle.am_model.specs.Calls.{reset_row}
+use Rattle.am_voting.proofs.Words.{sym, node_of, reset_row}
 use Rattle.am_voting.proofs.voting.on_reset.Goals as goal
 
 pub returns : goal.returns

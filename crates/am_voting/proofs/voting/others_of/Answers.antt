@@ -1,5 +1,4 @@
-use Rattle.am_handlers.specs.Parts.{node_of}
-use Rattle.am_handlers.proofs.Ends.{end_self}
+use Rattle.am_voting.proofs.Words.{node_of, end_self}
 use Rattle.am_voting.proofs.voting.others_of.Goals as goal
 
 pub returns : goal.returns

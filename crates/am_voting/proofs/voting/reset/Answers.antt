@@ -1,14 +1,6 @@
-use Rattle.std.proofs.Common.{sym, ◌∙◌}
-use Rattle.am_base.specs.Names.{has}
+use Rattle.am_voting.proofs.Words.{sym, ◌∙◌, has, node_of, end_self, members, is_member, reset_row, and_both, member_log, by_reply}
 use Rattle.am_base.specs.declared.outcome.Outcome.TheVariants as said
-use Rattle.am_handlers.specs.Parts.{node_of}
-use Rattle.am_handlers.proofs.Ends.{end_self}
-use Rattle.am_model.specs.Node.{members, is_member}
-use Rattle.am_model.specs.Calls.{reset_row}
 use Rattle.am_replies.specs.declared.replies.Telling.TheVariants as tell
-use Rattle.am_base.proofs.Greatest.{and_both}
-use Rattle.am_handlers.proofs.Keeping.{member_log}
-use Rattle.am_replies.proofs.Plans.{by_reply}
 use Rattle.am_voting.proofs.VoteRows.{reset_outside, reset_leaving, reset_begins}
 use Rattle.am_voting.proofs.voting.reset.Goals as goal
 

@@ -1,15 +1,8 @@
-use Rattle.std.proofs.Common.{◌≡◌, true, false, not, ◌||◌, Bool, Some, sym, ◌∙◌}
+use Rattle.am_voting.proofs.Words.{◌≡◌, true, false, not, ◌||◌, Bool, Some, sym, ◌∙◌, stamp_lt, stamp_eq, ballot_of, node_of, Node, take_vote, is_open}
+use Rattle.am_voting.proofs.Words.{end_as, by_reply, and_both, not-true, not-false}
 use Rattle.am_base.specs.declared.outcome.Outcome.TheVariants as said
-use Rattle.am_base.specs.Stamps.{stamp_lt, stamp_eq}
-use Rattle.am_ballots.specs.Kept.{ballot_of}
-use Rattle.am_handlers.specs.Parts.{node_of}
-use Rattle.am_model.specs.Node.{Node}
-use Rattle.am_model.specs.Resets.{take_vote, is_open}
 use Rattle.am_replies.specs.declared.replies.Telling.TheVariants as tell
-use Rattle.am_replies.proofs.Plans.{end_as, by_reply}
 use Rattle.am_voting.proofs.VoteRows.{voted_elsewhere, voted_known, voted_kept}
-use Rattle.am_base.proofs.Greatest.{and_both}
-use Rattle.std.proofs.lemmas.Bool.{not-true, not-false}
 use Rattle.am_voting.proofs.voting.take_vote.Goals as goal
 
 or_right : (a b : Bool) → (a || b) ≡ false → b ≡ false
@@ -52,7 +45,6 @@ keep_vote-requires-clause-ballot c =
       order = c.requires.order;
       out = c.requires.out;
       own = c.requires.own;
-      is_open =
-          not-true b.is_over (and_both (not b.is_over) (stamp_eq b.stamp c.args.stamp) open_).0;
+      is_open = not-true b.is_over (and_both (not b.is_over) (stamp_eq b.stamp c.args.stamp) open_).0;
       number = c.requires.number;
     }

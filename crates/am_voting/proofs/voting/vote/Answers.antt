@@ -1,14 +1,7 @@
-use Rattle.std.proofs.Common.{Some, None, subst, ◌∙◌}
+use Rattle.am_voting.proofs.Words.{Some, None, subst, ◌∙◌, ballot_of, node_of, Node, take_vote, vote_row, Replies, replies_quiet, none_taken, one_taken}
+use Rattle.am_voting.proofs.Words.{end_as, end_promised, by_reply}
 use Rattle.am_base.specs.declared.outcome.Outcome.TheVariants as said
-use Rattle.am_ballots.specs.Kept.{ballot_of}
-use Rattle.am_handlers.specs.Parts.{node_of}
-use Rattle.am_model.specs.Node.{Node}
-use Rattle.am_model.specs.Resets.{take_vote, vote_row}
 use Rattle.am_replies.specs.declared.replies.Telling.TheVariants as tell
-use Rattle.am_replies.specs.Replies.{Replies}
-use Rattle.am_replies.proofs.Replying.{replies_quiet}
-use Rattle.am_deciding.proofs.Promises.{none_taken, one_taken}
-use Rattle.am_replies.proofs.Plans.{end_as, end_promised, by_reply}
 use Rattle.am_voting.proofs.VoteRows.{above_is, vote_overtaken, vote_by}
 use Rattle.am_voting.proofs.voting.vote.Goals as goal
 

@@ -1,5 +1,4 @@
-use Rattle.std.proofs.Common.{◌≡◌, ◌++◌, take, drop, map}
-use Rattle.am_watch.specs.Watching.{store_view}
+use Rattle.am_watch.proofs.Words.{◌≡◌, ◌++◌, take, drop, map, store_view}
 use Rattle.am_watch.proofs.views.store_in_each.Given as goal
 
 abbrev pub invariant-loop-v : goal.invariant-loop-v

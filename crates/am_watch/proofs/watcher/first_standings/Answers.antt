@@ -1,6 +1,4 @@
-use Rattle.std.proofs.Common.{arith}
-use Rattle.std.proofs.lemmas.List.FromFn.{fill_by_all}
-use Rattle.am_watch.specs.Watching.{blank_standing, first_standing}
+use Rattle.am_watch.proofs.Words.{arith, fill_by_all, blank_standing, first_standing}
 use Rattle.am_watch.proofs.watcher.first_standings.Goals as goal
 
 pub returns : goal.returns

@@ -1,5 +1,4 @@
-use Rattle.std.proofs.Common.{◌≡◌, ℕ, ◌<◌, length, slice_index_or}
-use Rattle.am_watch.specs.Watching.{blank_standing, first_standing}
+use Rattle.am_watch.proofs.Words.{◌≡◌, ℕ, ◌<◌, length, slice_index_or, blank_standing, first_standing}
 use Rattle.am_watch.proofs.watcher.first_standings.Given as goal
 
 abbrev pub invariant-loop-byte : goal.invariant-loop-byte

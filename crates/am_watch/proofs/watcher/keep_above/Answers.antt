@@ -1,6 +1,4 @@
-use Rattle.std.proofs.Common.{rules}
-use Rattle.std.proofs.lemmas.Fn.{filter_same}
-use Rattle.am_watch.specs.Watching.{is_above}
+use Rattle.am_watch.proofs.Words.{rules, filter_same, is_above}
 use Rattle.am_watch.proofs.watcher.keep_above.Goals as goal
 
 pub returns : goal.returns

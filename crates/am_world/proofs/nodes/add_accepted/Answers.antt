@@ -1,5 +1,4 @@
-use Rattle.std.proofs.Common.{[], ◌∷◌, ◌++◌, append_assoc, vec_len, sym, ap, ◌∙◌, arith}
-use Rattle.am_node.specs.Stands.{state_of}
+use Rattle.am_world.proofs.Words.{[], ◌∷◌, ◌++◌, append_assoc, vec_len, sym, ap, ◌∙◌, arith, state_of}
 use Rattle.am_world.proofs.Grown.{between, next_between, all_between}
 use Rattle.am_world.proofs.nodes.add_accepted.Goals as goal
 

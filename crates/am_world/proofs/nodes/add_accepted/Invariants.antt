@@ -1,5 +1,4 @@
-use Rattle.std.proofs.Common.{◌≡◌, ◌≤◌, ◌++◌, max, vec_capacity, vec_len}
-use Rattle.am_node.specs.Stands.{state_of}
+use Rattle.am_world.proofs.Words.{◌≡◌, ◌≤◌, ◌++◌, max, vec_capacity, vec_len, state_of}
 use Rattle.am_world.proofs.Grown.{between}
 use Rattle.am_world.proofs.nodes.add_accepted.Given as goal
 

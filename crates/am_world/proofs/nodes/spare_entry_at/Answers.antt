@@ -1,8 +1,4 @@
-use Rattle.std.proofs.Common.{◌<◌, length, ◌≡◌, sym, ◌∙◌, subst, arith}
-use Rattle.am_base.specs.Names.{place_of}
-use Rattle.am_node.specs.declared.node.Node.{Node}
-use Rattle.am_info.specs.Nodes.{HasPlace}
-use Rattle.am_node.specs.Stands.{state_of}
+use Rattle.am_world.proofs.Words.{◌<◌, length, ◌≡◌, sym, ◌∙◌, subst, arith, place_of, Node, HasPlace, state_of}
 use Rattle.am_world.proofs.Spots.{read_here}
 use Rattle.am_world.proofs.nodes.spare_entry_at.Goals as goal
 

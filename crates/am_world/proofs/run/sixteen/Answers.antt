@@ -1,5 +1,4 @@
-use Rattle.std.proofs.Common.{ap, ◌∙◌}
-use Rattle.am_play.specs.World.{first_node}
+use Rattle.am_world.proofs.Words.{ap, ◌∙◌, first_node}
 use Rattle.am_world.proofs.Begins.{first_more}
 use Rattle.am_world.proofs.run.sixteen.Goals as goal
 

@@ -1,5 +1,4 @@
-use Rattle.am_play.specs.World.{start}
-use Rattle.am_world.specs.Runs.{AreFirst}
+use Rattle.am_world.proofs.Words.{start, AreFirst}
 use Rattle.am_world.proofs.run.sixteen.Given as goal
 
 abbrev pub invariant-loop-place : goal.invariant-loop-place

@@ -1,5 +1,4 @@
-use Rattle.std.proofs.Common.{◌+◌, ◌∙◌, arith}
-use Rattle.am_watch.specs.Watchers.{watching_of}
+use Rattle.am_world.proofs.Words.{◌+◌, ◌∙◌, arith, watching_of}
 use Rattle.am_world.proofs.Watches.{accepted_start, accepted_next, accepted_all}
 use Rattle.am_world.proofs.watching.accept_above.Goals as goal
 

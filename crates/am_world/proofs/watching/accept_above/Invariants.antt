@@ -1,6 +1,4 @@
-use Rattle.std.proofs.Common.{◌≡◌, ◌+◌}
-use Rattle.am_watch.specs.Watching.{accept}
-use Rattle.am_watch.specs.Watchers.{watching_of}
+use Rattle.am_world.proofs.Words.{◌≡◌, ◌+◌, accept, watching_of}
 use Rattle.am_world.proofs.Watches.{part}
 use Rattle.am_world.proofs.watching.accept_above.Given as goal
 

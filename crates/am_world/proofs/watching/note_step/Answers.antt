@@ -1,6 +1,4 @@
-use Rattle.std.proofs.Common.{◌+◌, drop}
-use Rattle.am_node.specs.Stands.{state_of}
-use Rattle.am_watch.specs.Watchers.{watching_of}
+use Rattle.am_world.proofs.Words.{◌+◌, drop, state_of, watching_of}
 use Rattle.am_world.proofs.Watches.{noted_is}
 use Rattle.am_world.proofs.watching.note_step.Goals as goal
 

@@ -1,9 +1,4 @@
-use Rattle.std.proofs.Common.{sym, ap, ◌∙◌}
-use Rattle.am_node.specs.Stands.{state_of}
-use Rattle.am_watch.specs.Watches.{view_of}
-use Rattle.am_watch.specs.Watching.{with_entries}
-use Rattle.am_watch.specs.Watchers.{watching_of}
-use Rattle.am_world.specs.Watched.{stored_of, with_views}
+use Rattle.am_world.proofs.Words.{sym, ap, ◌∙◌, state_of, view_of, with_entries, watching_of, stored_of, with_views}
 use Rattle.am_world.proofs.Watches.{views_stay}
 use Rattle.am_world.proofs.watching.note_views.Goals as goal
 

@@ -1,6 +1,4 @@
-use Rattle.std.proofs.Common.{[], if◌then◌else◌, false, refl, ◌∙◌}
-use Rattle.am_watch.specs.Watchers.{watching_of}
-use Rattle.am_world.specs.Watched.{entry_in, one_of, last_view}
+use Rattle.am_world.proofs.Words.{[], if◌then◌else◌, false, refl, ◌∙◌, watching_of, entry_in, one_of, last_view}
 use Rattle.am_world.proofs.Watches.{views_more}
 use Rattle.am_world.proofs.watching.store_new_views.Goals as goal
 

@@ -1,7 +1,4 @@
-use Rattle.std.proofs.Common.{sym, ap, ◌∙◌}
-use Rattle.am_watch.specs.Watching.{with_entries}
-use Rattle.am_watch.specs.Watchers.{watching_of}
-use Rattle.am_world.specs.Watched.{one_of}
+use Rattle.am_world.proofs.Words.{sym, ap, ◌∙◌, with_entries, watching_of, one_of}
 use Rattle.am_world.proofs.Watches.{entries_none, entries_one}
 use Rattle.am_world.proofs.watching.store_one.Goals as goal
 

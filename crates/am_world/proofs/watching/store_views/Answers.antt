@@ -1,11 +1,8 @@
-use Rattle.std.proofs.Common.{[], ◌∷◌, ◌++◌, ◌||◌, if◌then◌else◌, sym, ap, ◌∙◌}
-use Rattle.am_base.specs.Stamps.{stamp_eq}
-use Rattle.am_watch.specs.Watching.{decides, with_entries}
-use Rattle.am_watch.specs.Watchers.{watching_of}
-use Rattle.am_world.specs.Watched.{begins, entry_in, one_of, last_view}
+use Rattle.am_world.proofs.Words.{[], ◌∷◌, ◌++◌, ◌||◌, if◌then◌else◌, sym, ap, ◌∙◌, stamp_eq, decides, with_entries, watching_of, begins, entry_in, one_of}
+use Rattle.am_world.proofs.Words.{last_view}
+use Rattle.am_world.proofs.watching.store_views.Goals.{then-begins-via-then-begins, then-begins-via-else-begins+then-is_same_stamp}
 use Rattle.am_world.proofs.Watches.{views_new, views_none}
 use Rattle.am_world.proofs.watching.store_views.Goals as goal
-use Rattle.am_world.proofs.watching.store_views.Goals.{then-begins-via-then-begins, then-begins-via-else-begins+then-is_same_stamp}
 
 pub returns : goal.returns
 returns c =

@@ -1,7 +1,4 @@
-use Rattle.std.proofs.Common.{◌≡◌, ◌-◌, map}
-use Rattle.std.specs.List.{range_with_len}
-use Rattle.am_base.specs.Votes.{best_from, best_vote}
-use Rattle.am_ballots.specs.Kept.{votes_of}
+use Rattle.am_ballots.proofs.Words.{◌≡◌, ◌-◌, map, range_with_len, best_from, best_vote, votes_of}
 use Rattle.am_ballots.proofs.Votes.{named}
 use Rattle.am_ballots.proofs.ballot.Ballot.best.Given as goal
 

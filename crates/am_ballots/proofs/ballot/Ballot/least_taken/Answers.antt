@@ -1,9 +1,4 @@
-use Rattle.std.proofs.Common.{◌≡◌, ℕ, ◌∙◌, ap, sym, length, arith}
-use Rattle.am_base.specs.Names.{names_of}
-use Rattle.am_fronts.specs.Reports.{least_of}
-use Rattle.am_fronts.proofs.ReportLaws.{least_end}
-use Rattle.am_model.specs.Ballots.{taken_by}
-use Rattle.am_ballots.specs.Kept.{ballot_of}
+use Rattle.am_ballots.proofs.Words.{◌≡◌, ℕ, ◌∙◌, ap, sym, length, arith, names_of, least_of, least_end, taken_by, ballot_of}
 use Rattle.am_ballots.proofs.Votes.{least_own}
 use Rattle.am_ballots.proofs.ballot.Ballot.least_taken.Goals as goal
 

@@ -1,8 +1,4 @@
-use Rattle.std.proofs.Common.{◌≡◌, drop}
-use Rattle.am_base.specs.Names.{names_of, names_from}
-use Rattle.am_fronts.specs.Reports.{lesser, least_of}
-use Rattle.am_model.specs.Ballots.{taken_by}
-use Rattle.am_ballots.specs.Kept.{ballot_of}
+use Rattle.am_ballots.proofs.Words.{◌≡◌, drop, names_of, names_from, lesser, least_of, taken_by, ballot_of}
 use Rattle.am_ballots.proofs.ballot.Ballot.least_taken.Given as goal
 
 abbrev pub invariant-loop-place : goal.invariant-loop-place

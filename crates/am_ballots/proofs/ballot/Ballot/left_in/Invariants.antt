@@ -1,6 +1,4 @@
-use Rattle.std.proofs.Common.{◌≡◌, ℕ, ◌<◌, ◌≤◌, length, slice_index, not}
-use Rattle.am_model.specs.Node.{name_where}
-use Rattle.am_ballots.specs.Kept.{ballot_of}
+use Rattle.am_ballots.proofs.Words.{◌≡◌, ℕ, ◌<◌, ◌≤◌, length, slice_index, not, name_where, ballot_of}
 use Rattle.am_ballots.proofs.ballot.Ballot.left_in.Given as goal
 
 abbrev pub invariant-loop-place : goal.invariant-loop-place

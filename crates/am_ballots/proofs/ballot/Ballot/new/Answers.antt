@@ -1,8 +1,5 @@
-use Rattle.std.proofs.Common.{ℕ, replicate, Option, None, Bool, false, ap, ◌∙◌}
-use Rattle.am_base.specs.declared.image.Vote.{Vote}
-use Rattle.am_model.specs.Ballots.{new_ballot}
+use Rattle.am_ballots.proofs.Words.{ℕ, replicate, Option, None, Bool, false, ap, ◌∙◌, Vote, new_ballot, marks_of}
 use Rattle.am_model.specs.Node as node
-use Rattle.am_ballots.specs.Kept.{marks_of}
 use Rattle.am_ballots.proofs.Votes.{all_same}
 use Rattle.am_ballots.proofs.ballot.Ballot.new.Goals as goal
 

@@ -1,7 +1,4 @@
-use Rattle.std.proofs.Common.{ℕ, Bool, not, ◌∙◌, ap, arith}
-use Rattle.am_model.specs.Node.{those}
-use Rattle.am_model.specs.Ballots.{has_voted}
-use Rattle.am_ballots.specs.Kept.{ballot_of}
+use Rattle.am_ballots.proofs.Words.{ℕ, Bool, not, ◌∙◌, ap, arith, those, has_voted, ballot_of}
 use Rattle.am_ballots.proofs.Votes.{those_all}
 use Rattle.am_ballots.proofs.ballot.Ballot.silent_in.Goals as goal
 

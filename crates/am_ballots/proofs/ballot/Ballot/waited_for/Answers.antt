@@ -1,7 +1,4 @@
-use Rattle.std.proofs.Common.{ℕ, Bool, not, ◌∙◌, ap}
-use Rattle.am_model.specs.Node.{those}
-use Rattle.am_model.specs.Ballots.{has_voted, left_in}
-use Rattle.am_ballots.specs.Kept.{ballot_of}
+use Rattle.am_ballots.proofs.Words.{ℕ, Bool, not, ◌∙◌, ap, has_voted, left_in, ballot_of}
 use Rattle.am_ballots.proofs.Votes.{those_twice}
 use Rattle.am_ballots.proofs.ballot.Ballot.waited_for.Goals as goal
 

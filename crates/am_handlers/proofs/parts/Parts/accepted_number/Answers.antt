@@ -1,11 +1,5 @@
-use Rattle.std.proofs.Common.{sym, ap, ◌∙◌, ◌+◌, arith}
-use Rattle.am_handlers.specs.declared.parts.Parts.{Parts}
-use Rattle.am_base.specs.Lists.{entry_at}
-use Rattle.am_core.proofs.Folds.{split}
-use Rattle.am_model.specs.Refresh.{is_data_of}
-use Rattle.am_handlers.specs.Parts.{node_of, passes}
-use Rattle.am_handlers.proofs.Settling.{number_found, number_none}
-use Rattle.am_handlers.proofs.Due.{stands_due}
+use Rattle.am_handlers.proofs.Words.{sym, ap, ◌∙◌, ◌+◌, arith, Parts, entry_at, split, is_data_of, node_of, passes}
+use Rattle.am_handlers.proofs.{Settling.number_found, Settling.number_none, Due.stands_due}
 use Rattle.am_handlers.proofs.parts.Parts.accepted_number.Goals as goal
 
 -- src/parts.rt:133:17

@@ -1,7 +1,4 @@
-use Rattle.std.proofs.Common.{◌≡◌, ℕ, ◌+◌, ◌<◌, ◌≤◌, false}
-use Rattle.am_base.specs.Lists.{entry_at}
-use Rattle.am_model.specs.Refresh.{is_data_of}
-use Rattle.am_handlers.specs.Parts.{passes}
+use Rattle.am_handlers.proofs.Words.{◌≡◌, ℕ, ◌+◌, ◌<◌, ◌≤◌, false, entry_at, is_data_of, passes}
 use Rattle.am_handlers.proofs.parts.Parts.accepted_number.Given as goal
 
 abbrev pub invariant-loop-before : goal.invariant-loop-before

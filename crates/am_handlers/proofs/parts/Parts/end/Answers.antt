@@ -1,5 +1,4 @@
-use Rattle.am_model.specs.Refresh.{refresh, settle, refresh_at_end}
-use Rattle.am_handlers.specs.Parts.{node_of}
+use Rattle.am_handlers.proofs.Words.{refresh, settle, refresh_at_end, node_of}
 use Rattle.am_handlers.proofs.Ends.{changes_then}
 use Rattle.am_handlers.proofs.parts.Parts.end.Goals as goal
 

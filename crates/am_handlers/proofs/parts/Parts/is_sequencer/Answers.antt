@@ -1,4 +1,4 @@
-use Rattle.am_handlers.specs.Parts.{node_of}
+use Rattle.am_handlers.proofs.Words.{node_of}
 use Rattle.am_handlers.proofs.Ends.{leads_tells}
 use Rattle.am_handlers.proofs.parts.Parts.is_sequencer.Goals as goal
 

@@ -1,6 +1,4 @@
-use Rattle.std.proofs.Common.{refl, ap}
-use Rattle.am_handlers.specs.declared.parts.Parts.{Parts}
-use Rattle.am_handlers.specs.Parts.{node_of}
+use Rattle.am_handlers.proofs.Words.{refl, ap, Parts, node_of}
 use Rattle.am_handlers.proofs.Ends.{others_tells}
 use Rattle.am_handlers.proofs.parts.Parts.others.Goals as goal
 

@@ -1,8 +1,4 @@
-use Rattle.std.proofs.Common.{ap, sym, subst}
-use Rattle.am_core.specs.Cores.{CoreState}
-use Rattle.am_model.specs.Node.{Node}
-use Rattle.am_handlers.specs.Keeps.{NodeKeeps}
-use Rattle.am_handlers.specs.Parts.{node_of}
+use Rattle.am_handlers.proofs.Words.{ap, sym, subst, CoreState, Node, NodeKeeps, node_of}
 use Rattle.am_handlers.proofs.parts.Parts.push.Goals as goal
 
 pub invariant_of-self : goal.invariant_of-self

@@ -1,10 +1,6 @@
-use Rattle.std.proofs.Common.{sym, ap, ◌∙◌, arith}
-use Rattle.am_core.specs.Cores.{CoreState}
-use Rattle.am_model.specs.Refresh.{with_led}
-use Rattle.am_fronts.specs.Refresh.{core_and_reports}
-use Rattle.am_handlers.specs.Parts.{node_of}
-use Rattle.am_handlers.proofs.Ends.{lead_changes, advance_changes, lead_again, advance_again}
-use Rattle.am_handlers.proofs.Keeping.{keeps_steady, keeps_advance, steady_led, may_lead}
+use Rattle.am_handlers.proofs.Words.{sym, ap, ◌∙◌, arith, CoreState, with_led, core_and_reports, node_of}
+use Rattle.am_handlers.proofs.{Ends.lead_changes, Ends.advance_changes, Ends.lead_again, Ends.advance_again, Keeping.keeps_steady, Keeping.keeps_advance}
+use Rattle.am_handlers.proofs.{Keeping.steady_led, Keeping.may_lead}
 use Rattle.am_handlers.proofs.parts.Parts.refresh.Goals as goal
 
 -- src/parts.rt:61:13

@@ -1,8 +1,4 @@
-use Rattle.std.proofs.Common.{ℕ, ap, sym, subst}
-use Rattle.am_base.specs.declared.image.Report.{Report}
-use Rattle.am_model.specs.Node.{Node}
-use Rattle.am_handlers.specs.Keeps.{NodeKeeps}
-use Rattle.am_handlers.specs.Parts.{node_of}
+use Rattle.am_handlers.proofs.Words.{ℕ, ap, sym, subst, Report, Node, NodeKeeps, node_of}
 use Rattle.am_handlers.proofs.Keeping.{keeps_report}
 use Rattle.am_handlers.proofs.parts.Parts.report.Goals as goal
 

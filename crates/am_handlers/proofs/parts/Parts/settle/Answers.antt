@@ -1,7 +1,5 @@
-use Rattle.std.proofs.Common.{sym, ◌∙◌}
-use Rattle.am_handlers.specs.Parts.{node_of}
-use Rattle.am_handlers.proofs.Settling.{settle_idle, settle_unaccepted, settle_accepted}
-use Rattle.am_handlers.proofs.Keeping.{keeps_sends, may_settle}
+use Rattle.am_handlers.proofs.Words.{sym, ◌∙◌, node_of}
+use Rattle.am_handlers.proofs.{Settling.settle_idle, Settling.settle_unaccepted, Settling.settle_accepted, Keeping.keeps_sends, Keeping.may_settle}
 use Rattle.am_handlers.proofs.parts.Parts.settle.Goals as goal
 
 -- src/parts.rt:156:13

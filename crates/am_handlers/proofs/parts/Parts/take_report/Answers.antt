@@ -1,11 +1,5 @@
-use Rattle.std.proofs.Common.{sym, subst}
-use Rattle.am_model.specs.Node.{Node}
-use Rattle.am_model.specs.Refresh.{refresh}
-use Rattle.am_model.specs.Ends.{IsEndOf}
-use Rattle.am_handlers.specs.Keeps.{IsSteady}
-use Rattle.am_handlers.specs.Parts.{node_of}
-use Rattle.am_handlers.proofs.Ends.{end_self, refreshed}
-use Rattle.am_handlers.proofs.Keeping.{refreshed_steady, report_steady, steady_then}
+use Rattle.am_handlers.proofs.Words.{sym, subst, Node, refresh, IsEndOf, IsSteady, node_of}
+use Rattle.am_handlers.proofs.{Ends.end_self, Ends.refreshed, Keeping.refreshed_steady, Keeping.report_steady, Keeping.steady_then}
 use Rattle.am_handlers.proofs.parts.Parts.take_report.Goals as goal
 
 pub returns-clause-end : goal.returns-clause-end

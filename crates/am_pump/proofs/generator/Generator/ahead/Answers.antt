@@ -1,8 +1,4 @@
-use Rattle.std.proofs.Common.{◌≡◌, slice_index, slice_index_or, sym, ap, ◌∙◌}
-use Rattle.am_group.specs.Journals.{letters_of}
-use Rattle.am_group.specs.Addressed.{next_for}
-use Rattle.am_world.specs.Runs.{replay}
-use Rattle.am_pump.specs.Generating.{Drive, no_progress, progress_at}
+use Rattle.am_pump.proofs.Words.{◌≡◌, slice_index, slice_index_or, sym, ap, ◌∙◌, letters_of, next_for, replay, Drive, no_progress, progress_at}
 use Rattle.am_pump.proofs.Seen.{seen_next}
 use Rattle.am_pump.proofs.generator.Generator.ahead.Goals as goal
 

@@ -1,9 +1,5 @@
-use Rattle.std.proofs.Common.{◌≡◌, length, slice_index, slice_index_or, sym, ap, ◌∙◌}
-use Rattle.am_group.specs.Addressed.{next_for}
-use Rattle.am_group.specs.Journals.{letters_of}
-use Rattle.am_world.specs.Runs.{replay}
-use Rattle.am_pump.specs.Counts.{seen_after}
-use Rattle.am_pump.specs.Generating.{Drive, no_progress, progress_at}
+use Rattle.am_pump.proofs.Words.{◌≡◌, length, slice_index, slice_index_or, sym, ap, ◌∙◌, next_for, letters_of, replay, seen_after, Drive, no_progress}
+use Rattle.am_pump.proofs.Words.{progress_at}
 use Rattle.am_pump.proofs.Seen.{seen_on}
 use Rattle.am_pump.proofs.generator.Generator.choose.Goals as goal
 

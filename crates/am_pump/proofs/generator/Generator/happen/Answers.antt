@@ -1,13 +1,6 @@
-use Rattle.std.proofs.Common.{◌≡◌, ◌+◌, ◌++◌, [], ◌∷◌, slice_set, sym, ap, ◌∙◌, subst}
-use mir.Val.{bool_byte}
-use Rattle.am_play.specs.World.{record_of}
-use Rattle.am_group.specs.Journals.{letters_of}
-use Rattle.am_group.proofs.Places.{letters_more}
-use Rattle.am_pump.specs.Counts.{AreSent, AreSeen, ends_sent}
-use Rattle.am_pump.specs.Generating.{Drive, sent_by}
-use Rattle.am_world.specs.Runs.{Play, replay}
-use Rattle.am_pump.proofs.Seen.{seen_grown}
-use Rattle.am_pump.proofs.Sends.{more_sent}
+use Rattle.am_pump.proofs.Words.{◌≡◌, ◌+◌, ◌++◌, [], ◌∷◌, slice_set, sym, ap, ◌∙◌, subst, bool_byte, record_of, letters_of, letters_more, AreSent, AreSeen}
+use Rattle.am_pump.proofs.Words.{ends_sent, Drive, sent_by, Play, replay}
+use Rattle.am_pump.proofs.{Seen.seen_grown, Sends.more_sent}
 use Rattle.am_pump.proofs.generator.Generator.happen.Goals as goal
 
 pub invariant_of-self-2 : goal.invariant_of-self-2

@@ -1,7 +1,5 @@
-use Rattle.std.proofs.Common.{rules}
-use Rattle.am_group.specs.Journals.{letters_of}
+use Rattle.am_pump.proofs.Words.{rules, letters_of, replay}
 use Rattle.am_play.specs.World as world
-use Rattle.am_world.specs.Runs.{replay}
 use Rattle.am_pump.proofs.Seen.{none_seen}
 use Rattle.am_pump.proofs.generator.Generator.new.Goals as goal
 

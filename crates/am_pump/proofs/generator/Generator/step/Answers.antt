@@ -1,9 +1,4 @@
-use Rattle.std.proofs.Common.{length, sym, ap, ◌∙◌}
-use Rattle.std.proofs.lemmas.Result.{on_ok_weaker, IfErr-weaker}
-use Rattle.rand_pcg.specs.Lcg.{Lcg}
-use Rattle.am_world.specs.Runs.{Play}
-use Rattle.am_chooser.specs.Choices.{draw, after_draw}
-use Rattle.am_pump.specs.Generating.{Drive, turn_of}
+use Rattle.am_pump.proofs.Words.{length, sym, ap, ◌∙◌, on_ok_weaker, IfErr-weaker, Lcg, Play, draw, after_draw, Drive, turn_of}
 use Rattle.am_pump.proofs.Drives.{drawn_twice, step_is, same_play}
 use Rattle.am_pump.proofs.generator.Generator.step.Goals as goal
 

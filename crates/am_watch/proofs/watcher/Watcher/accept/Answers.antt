@@ -1,6 +1,4 @@
-use Rattle.std.proofs.Common.{◌∷◌, [], ap, sym, ◌∙◌}
-use Rattle.am_watch.specs.Watching.{accept}
-use Rattle.am_watch.specs.Watchers.{watching_of}
+use Rattle.am_watch.proofs.Words.{◌∷◌, [], ap, sym, ◌∙◌, accept, watching_of}
 use Rattle.am_watch.proofs.Accepts.{accepts_data, accepts_join, accepts_leave, accepts_view}
 use Rattle.am_watch.proofs.watcher.Watcher.accept.Goals as goal
 

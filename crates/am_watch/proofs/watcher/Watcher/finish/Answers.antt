@@ -1,5 +1,4 @@
-use Rattle.std.proofs.Common.{ap, sym, ◌∙◌}
-use Rattle.am_watch.specs.Watching.{pass, look, finish}
+use Rattle.am_watch.proofs.Words.{ap, sym, ◌∙◌, pass, look, finish}
 use Rattle.am_watch.proofs.watcher.Watcher.finish.Goals as goal
 
 pub returns-then-is_quiet : goal.returns-then-is_quiet

@@ -1,6 +1,4 @@
-use Rattle.std.proofs.Common.{◌≡◌, drop}
-use Rattle.am_watch.specs.Watching.{greatest}
-use Rattle.am_watch.specs.Watchers.{watching_of}
+use Rattle.am_watch.proofs.Words.{◌≡◌, drop, greatest, watching_of}
 use Rattle.am_watch.proofs.watcher.Watcher.greatest.Given as goal
 
 abbrev pub invariant-loop-v : goal.invariant-loop-v

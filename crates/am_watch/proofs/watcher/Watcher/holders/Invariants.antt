@@ -1,7 +1,4 @@
-use Rattle.std.proofs.Common.{◌≡◌, ◌+◌, ◌≤◌, drop, count_by}
-use Rattle.am_base.specs.Names.{names_of, names_from}
-use Rattle.am_watch.specs.Watching.{has_stored}
-use Rattle.am_watch.specs.Watchers.{watching_of}
+use Rattle.am_watch.proofs.Words.{◌≡◌, ◌+◌, ◌≤◌, drop, count_by, names_of, names_from, has_stored, watching_of}
 use Rattle.am_watch.proofs.watcher.Watcher.holders.Given as goal
 
 abbrev pub invariant-loop-place : goal.invariant-loop-place

@@ -1,8 +1,4 @@
-use Rattle.std.proofs.Common.{◌≡◌, drop}
-use Rattle.std.specs.List.{list_any}
-use Rattle.am_base.specs.Names.{names_of, names_from}
-use Rattle.am_watch.specs.Watching.{lags}
-use Rattle.am_watch.specs.Watchers.{watching_of}
+use Rattle.am_watch.proofs.Words.{◌≡◌, drop, list_any, names_of, names_from, lags, watching_of}
 use Rattle.am_watch.proofs.watcher.Watcher.is_lagged.Given as goal
 
 abbrev pub invariant-loop-place : goal.invariant-loop-place

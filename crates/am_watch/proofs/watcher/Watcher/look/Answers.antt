@@ -1,6 +1,4 @@
-use Rattle.std.proofs.Common.{ap}
-use Rattle.am_watch.specs.Watching.{look, end_event}
-use Rattle.am_watch.specs.Watchers.{watching_of}
+use Rattle.am_watch.proofs.Words.{ap, look, end_event, watching_of}
 use Rattle.am_watch.proofs.watcher.Watcher.look.Goals as goal
 
 pub returns : goal.returns

@@ -1,4 +1,4 @@
-use Rattle.std.proofs.Common.{refl}
+use Rattle.am_watch.proofs.Words.{refl}
 use Rattle.am_watch.proofs.watcher.Watcher.new.Goals as goal
 
 pub returns : goal.returns

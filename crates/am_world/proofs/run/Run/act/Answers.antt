@@ -1,22 +1,9 @@
-use Rattle.std.proofs.Common.{◌≡◌, ◌+◌, ◌<◌, ◌≤◌, ℕ, Bool, List, Some, max}
-use Rattle.std.proofs.Common.{length, slice_get, slice_index_or, slice_set, vec_len, vec_capacity, ap, ◌∙◌, subst, arith}
-use Rattle.am_base.specs.Most.{most_events}
-use Rattle.am_base.specs.Names.{place_of}
-use Rattle.am_base.specs.Founding.{Rules}
-use Rattle.am_base.specs.declared.entry.Entry.{Entry}
-use Rattle.am_base.specs.declared.event.NodeEvent.{NodeEvent}
-use Rattle.am_group.specs.declared.event.Event.{Event}
-use Rattle.am_group.specs.declared.event.Record.{Record}
-use Rattle.am_play.specs.World.{current, happens}
-use Rattle.am_node.specs.declared.node.Node.{Node}
-use Rattle.am_node.specs.Stands.{state_of}
-use Rattle.am_world.specs.Moves.{HasPlaceAt, IsReady}
-use Rattle.am_world.specs.Runs.{Play, IsRun, play_of, replay, Answers, the_record}
-use Rattle.am_world.proofs.Spots.{read_here}
-use Rattle.am_world.proofs.Goes.{recorded, living_at, as_many}
-use Rattle.am_world.proofs.Acts.{ready_at, next_world, act_goes_on}
+use Rattle.am_world.proofs.Words.{◌≡◌, ◌+◌, ◌<◌, ◌≤◌, ℕ, Bool, List, Some, max, length, slice_get, slice_index_or, slice_set, vec_len, vec_capacity, ap, ◌∙◌}
+use Rattle.am_world.proofs.Words.{subst, arith, most_events, place_of, Rules, Entry, NodeEvent, Event, Record, current, happens, Node, state_of, HasPlaceAt}
+use Rattle.am_world.proofs.Words.{IsReady, Play, IsRun, play_of, replay, Answers, the_record}
+use Rattle.am_world.proofs.{Spots.read_here, Goes.recorded, Goes.living_at, Goes.as_many, Acts.ready_at, Acts.next_world, Acts.act_goes_on}
+use Rattle.am_world.proofs.{run.Run.act.Goals.After-push}
 use Rattle.am_world.proofs.run.Run.act.Goals as goal
-use Rattle.am_world.proofs.run.Run.act.Goals.{After-push}
 
 -- the node of an index that is a name's place
 there : (nodes : List Node) (name i : ℕ) (n : Node) → length nodes ≡ 16 → i ≡ place_of name → n ≡ slice_index_or nodes i n

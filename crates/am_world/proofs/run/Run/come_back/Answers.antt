@@ -1,12 +1,7 @@
-use Rattle.std.proofs.Common.{[], true, slice_set, ap, ◌∙◌}
+use Rattle.am_world.proofs.Words.{[], true, slice_set, ap, ◌∙◌, name_at, stranger, IsRun, play_of, replay, Answers}
 use Rattle.am_base.specs.declared.outcome.Outcome.TheVariants as said
-use Rattle.am_base.specs.Names.{name_at}
-use Rattle.am_model.specs.Node.{stranger}
-use Rattle.am_world.specs.Runs.{IsRun, play_of, replay, Answers}
-use Rattle.am_world.proofs.Goes.{recorded, living_at}
-use Rattle.am_world.proofs.Returns.{return_goes_on}
+use Rattle.am_world.proofs.{Goes.recorded, Goes.living_at, Returns.return_goes_on, run.Run.come_back.Goals.After-push}
 use Rattle.am_world.proofs.run.Run.come_back.Goals as goal
-use Rattle.am_world.proofs.run.Run.come_back.Goals.{After-push}
 
 made : (c : After-push) → IsRun (play_of c.push.new.self.founding c.push.new.self.records)
     (slice_set c.self.inside.nodes.items c.from.result c.in_ok-fresh.fresh) (slice_set c.self.inside.lives c.from-2.result c.args.life)

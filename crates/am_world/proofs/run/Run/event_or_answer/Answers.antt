@@ -1,12 +1,9 @@
-use Rattle.std.proofs.Common.{◌≡◌, ◌++◌, Ok, Err, Some, None, sym, ap, ◌∙◌}
-use Rattle.std.specs.Option.{option_copied}
+use Rattle.am_world.proofs.Words.{◌≡◌, ◌++◌, Ok, Err, Some, None, sym, ap, ◌∙◌, option_copied, letters_of, letter_at, state_of, flag_of, first_bytes}
+use Rattle.am_world.proofs.Words.{heard_of}
 use Rattle.am_base.specs.declared.event.NodeEvent.TheVariants as does
 use Rattle.am_base.specs.declared.outcome.Outcome.TheVariants as said
-use Rattle.am_group.specs.Journals.{letters_of, letter_at}
-use Rattle.am_node.specs.Stands.{state_of}
-use Rattle.am_world.specs.Asked.{flag_of, first_bytes, heard_of}
-use Rattle.am_world.proofs.Goes.{asked_comes, if_both}
 use Rattle.am_world.proofs.Heard.{no_packet, not_addressed, is_stopped, is_heard, found_packet, called_asked, called_packets, heard_comes}
+use Rattle.am_world.proofs.Goes.{asked_comes, if_both}
 use Rattle.am_world.proofs.run.Run.event_or_answer.Goals as goal
 
 pub returns-in_default-clause-comes : goal.returns-in_default-clause-comes

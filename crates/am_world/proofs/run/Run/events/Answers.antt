@@ -1,4 +1,4 @@
-use Rattle.std.proofs.Common.{◌≡◌, length, sym, ap, ◌∙◌, arith}
+use Rattle.am_world.proofs.Words.{◌≡◌, length, sym, ap, ◌∙◌, arith}
 use Rattle.am_world.proofs.Goes.{as_many, few_of}
 use Rattle.am_world.proofs.run.Run.events.Goals as goal
 

@@ -1,7 +1,5 @@
-use Rattle.std.proofs.Common.{◌<◌, length, ◌∙◌, arith}
-use Rattle.am_base.specs.Names.{place_of}
-use Rattle.am_world.proofs.Spots.{read_here}
-use Rattle.am_world.proofs.Goes.{shows_at}
+use Rattle.am_world.proofs.Words.{◌<◌, length, ◌∙◌, arith, place_of}
+use Rattle.am_world.proofs.{Spots.read_here, Goes.shows_at}
 use Rattle.am_world.proofs.run.Run.node.Goals as goal
 
 pub returns : goal.returns

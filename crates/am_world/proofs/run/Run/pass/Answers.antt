@@ -1,8 +1,6 @@
-use Rattle.std.proofs.Common.{[], ◌∙◌}
-use Rattle.am_world.specs.Runs.{IsRun, play_of, replay, Answers}
-use Rattle.am_world.proofs.Goes.{recorded, living_at, pass_goes_on}
+use Rattle.am_world.proofs.Words.{[], ◌∙◌, IsRun, play_of, replay, Answers}
+use Rattle.am_world.proofs.{Goes.recorded, Goes.living_at, Goes.pass_goes_on, run.Run.pass.Goals.After-push}
 use Rattle.am_world.proofs.run.Run.pass.Goals as goal
-use Rattle.am_world.proofs.run.Run.pass.Goals.{After-push}
 
 made : (c : After-push) → IsRun (play_of c.push.new.self.founding c.push.new.self.records) c.self.inside.nodes.items c.self.inside.lives c.self.inside.stopped
     c.push.new.self.records c.self.inside.group.items × Answers c.args.self.now c.args.event.now c.args.outcome

@@ -1,10 +1,7 @@
-use Rattle.std.proofs.Common.{[], true, slice_set, ◌∙◌}
+use Rattle.am_world.proofs.Words.{[], true, slice_set, ◌∙◌, IsRun, play_of, replay, Answers}
 use Rattle.am_base.specs.declared.outcome.Outcome.TheVariants as said
-use Rattle.am_world.specs.Runs.{IsRun, play_of, replay, Answers}
-use Rattle.am_world.proofs.Goes.{recorded, living_at}
-use Rattle.am_world.proofs.Stops.{stop_goes_on}
+use Rattle.am_world.proofs.{Goes.recorded, Goes.living_at, Stops.stop_goes_on, run.Run.stop.Goals.After-push}
 use Rattle.am_world.proofs.run.Run.stop.Goals as goal
-use Rattle.am_world.proofs.run.Run.stop.Goals.{After-push}
 
 made : (c : After-push) → IsRun (play_of c.push.new.self.founding c.push.new.self.records) c.self.inside.nodes.items c.self.inside.lives
     (slice_set c.self.inside.stopped c.from.result true) c.push.new.self.records c.self.inside.group.items

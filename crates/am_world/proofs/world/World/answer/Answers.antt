@@ -1,11 +1,5 @@
-use Rattle.std.proofs.Common.{◌≡◌, length, sym, ap, ◌∙◌, subst, arith}
-use Rattle.am_base.specs.Names.{place_of}
-use Rattle.am_world.specs.Asked.{after_answer}
-use Rattle.am_play.specs.World.{current, happens}
-use Rattle.am_watch.specs.Watching.{Watching}
-use Rattle.am_watch.specs.Watchers.{watching_of}
-use Rattle.am_world.specs.Runs.{Play, after, replay}
-use Rattle.am_world.specs.Watched.{IsWatched, stops_by}
+use Rattle.am_world.proofs.Words.{◌≡◌, length, sym, ap, ◌∙◌, subst, arith, place_of, after_answer, current, happens, Watching, watching_of, Play, after}
+use Rattle.am_world.proofs.Words.{replay, IsWatched, stops_by}
 use Rattle.am_world.proofs.Kept.{count_of, answer_is_watched}
 use Rattle.am_world.proofs.world.World.answer.Goals as goal
 

@@ -1,9 +1,4 @@
-use Rattle.std.proofs.Common.{ap, ◌∙◌}
-use Rattle.am_model.specs.Node.{has_log}
-use Rattle.am_play.specs.World.{World}
-use Rattle.am_play.proofs.Runs.{watched_is_run}
-use Rattle.am_watch.specs.declared.views.Standing.{Standing}
-use Rattle.am_world.specs.Runs.{Play, replay}
+use Rattle.am_world.proofs.Words.{ap, ◌∙◌, has_log, World, watched_is_run, Standing, Play, replay}
 use Rattle.am_world.proofs.world.World.has_log.Goals as goal
 
 pub returns : goal.returns

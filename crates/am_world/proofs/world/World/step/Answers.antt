@@ -1,13 +1,5 @@
-use Rattle.std.proofs.Common.{◌≡◌, Ok, length, sym, ap, ◌∙◌, subst, arith}
-use Rattle.am_base.specs.Names.{place_of}
-use Rattle.am_play.specs.World.{current, happens}
-use Rattle.am_model.specs.Ends.{IsEndOf}
-use Rattle.am_node.specs.Stands.{state_of}
-use Rattle.am_watch.specs.Watching.{Watching}
-use Rattle.am_watch.specs.Watchers.{watching_of}
-use Rattle.am_world.specs.Asked.{comes}
-use Rattle.am_world.specs.Runs.{Play, after, replay}
-use Rattle.am_world.specs.Watched.{IsWatched}
+use Rattle.am_world.proofs.Words.{◌≡◌, Ok, length, sym, ap, ◌∙◌, subst, arith, place_of, current, happens, IsEndOf, state_of, Watching, watching_of, comes}
+use Rattle.am_world.proofs.Words.{Play, after, replay, IsWatched}
 use Rattle.am_world.proofs.Kept.{count_of, act_is_watched, group_longer}
 use Rattle.am_world.proofs.world.World.step.Goals as goal
 

@@ -1,4 +1,4 @@
-use Rattle.am_watch.specs.Watchers.{watching_of}
+use Rattle.am_world.proofs.Words.{watching_of}
 use Rattle.am_world.proofs.Kept.{begin_is_watched}
 use Rattle.am_world.proofs.world.World.with_room.Goals as goal
 

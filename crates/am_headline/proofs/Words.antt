@@ -1,0 +1,100 @@
+-- The words of this crate's proofs, of the crates and definitions that they come from.
+pub use Rattle.am_stands.proofs.Words.{◌≡◌, ℕ, zero, suc, ◌<◌, ◌≤◌, ◌==◌, true, List, [], ◌∷◌, ◌++◌, length, take, None, Some, refl, sym, ap, ◌∙◌, subst}
+pub use Rattle.am_stands.proofs.Words.{arith, ◌⊎◌, ⊎_elim, inl, inr, ◌+◌, ◌-◌, max, ◌&&◌, not, nat_lt, Bool, if◌then◌else◌, slice_index, false, slice_get}
+pub use Rattle.am_stands.proofs.Words.{◌||◌, Option, nat_le, ◌≢◌, append-nil, drop, min, count_by, eqb-true, not-true, nat_tests, length-map}
+pub use Rattle.am_stands.proofs.Words.{take-append-drop, All-nil, All-cons, All-append, list_any-append, slice_get_within, list_any, All, View, Leave, Data}
+pub use Rattle.am_stands.proofs.Words.{Join, Rules, MayFound, has, size, place_of, life_of, IsSet, name_at, names_from, names_of, split, and_both, Entry}
+pub use Rattle.am_stands.proofs.Words.{Image, Row, Stamp, Outcome, Log, blank_row, member_life, members_of, members_at, image_at, top_of, after, told_by}
+pub use Rattle.am_stands.proofs.Words.{blank, fits, entry_at, stamp_eq, stamp_lt, Packet, CoreState, slice_get-drop, count_cons, OwnSend, Event, item_at}
+pub use Rattle.am_stands.proofs.Words.{Record, lowest_or_first, founding_stamp, has_departed, Node, Ballot, push_entry, view, is_member, acts, founder}
+pub use Rattle.am_stands.proofs.Words.{founders_view, has_log, is_asking, is_sequencer, waiting, unsettled_count, has_own_leave, stranger, those}
+pub use Rattle.am_stands.proofs.Words.{first_founder, Verdict, need_of, left_in, trim_for, with_promise, restart_reports, best_of, is_waited_for, Status}
+pub use Rattle.am_stands.proofs.Words.{is_unfinished, Step, Plan, quiet, hears_member, hears_in_view, hears_sequencer, begin_list, advance, settle_waiting}
+pub use Rattle.am_stands.proofs.Words.{settle_at, accepted_at, is_view, body_of, Departed, Decided, World, first_node, founders_decided, current, is_stopped}
+pub use Rattle.am_stands.proofs.Words.{views_after, lives_on, group_after, group_with, is_view_of, whole, line_of, IsGood, key, Begins, mem, BeginsBelow}
+pub use Rattle.am_stands.proofs.Words.{begins_refl, begins_nil, begins_both, begins_length, begins_push, begins_trans, begins_take, length_take, length_push}
+pub use Rattle.am_stands.proofs.Words.{begins_more, begins_same, good_begins, long_told, told_push, mem_in, in_mem, mem_viewed, In, row_at, long_after}
+pub use Rattle.am_stands.proofs.Words.{low_or_above, mod16, key_by, view_push, view_viewed, key_lt, view_small, view_up, view_below, Group, chain_of, IsUp}
+pub use Rattle.am_stands.proofs.Words.{how_many, opening, IsThere, put, Chosen, founded, counts_for, IsLawful, more, Move, with_node, gives_over, stops}
+pub use Rattle.am_stands.proofs.Words.{choice_of, longer, learns, begins, raises, welcomes, asks, departs, Kept, put_cases, put_other, put_same, run_keeps}
+pub use Rattle.am_stands.proofs.Words.{Cause, hears, Looks, decides, Carries, whole_entry, by_number, Change, refreshes, settles, begins_list, looks}
+pub use Rattle.am_stands.proofs.Words.{stores_view, unchanged, changed, MayBeWelcomed, queues, collects, takes, asks_to_join, asks_to_leave, rests_refresh}
+pub use Rattle.am_stands.proofs.Words.{rests_at_end, settle_is, refresh_is, told_pushed, same_stamp, bcast, order, piece, result, actor, idles, returns}
+pub use Rattle.am_stands.proofs.Words.{steps, all_get, get_front, get_last, logged, is_itself, Along, told_used, those_long, found_at, NamesNamed, Moves}
+pub use Rattle.am_stands.proofs.Words.{none, moves, MoveOk, GroupFor, NodeKeeps, GroupOk, PacketSays, PieceSays, WelcomeSays, WelcomeTo, has_begun, has_gone}
+pub use Rattle.am_stands.proofs.Words.{has_left, is_leaving, may_begin, Grows, EventStands, no_move, stop, NameStands, NotedStands, Stands, FrontsStand}
+pub use Rattle.am_stands.proofs.Words.{LinesOpen, OnBranch, on_chain, left_out, BranchesOk}
+unfoldable pub use Rattle.am_stands.proofs.Words.{accept, pass_over, own_report, tell, go_on, finish, hear_row, hear, hear_refusal, lead, refresh, settle}
+unfoldable pub use Rattle.am_stands.proofs.Words.{refresh_at_end, with_step, with_record, up_to_view, up_to_next, view_of, count}
+pub use Rattle.am_unballoted.proofs.Words.{length-append, append_assoc, find, take-append-le, length-take-le, All-push, All-filter, All-map, All-weaker}
+pub use Rattle.am_unballoted.proofs.Words.{slice_get-get_or, flat_map, AllFit, Letter, goes_to_any, entry-get, letter_at, Act, is_for, deliveries, name_of}
+pub use Rattle.am_unballoted.proofs.Words.{taken_in, given_to, get_before, get_behind, top, trim_up_to, start, run, record_of, heard_by, BeginsAt}
+pub use Rattle.am_unballoted.proofs.Words.{accepted_sends, sent_in, senders_in_order, send_stands_once, numbers, stores, fetches, closes, Changes, Says}
+pub use Rattle.am_unballoted.proofs.Words.{LetterSays, IsCause, WasSentTo, IsIdle, Happens, asking_log, events_have_effects, runs_keep, asking, Effect}
+pub use Rattle.am_unballoted.proofs.Words.{Answers, HasTaken, AnswersAsk, WasSettled, bounded_holds, sent_holds}
+pub use Rattle.am_steps.proofs.Words.{image_of, packet_length, with_noted, hears_letter, hear_cut, acts_as, Ending, let_go, closing, HeardUsed, each_along}
+pub use Rattle.am_steps.proofs.Words.{heard_used, run_owned, HeardNames, change_names, HasNames, change_does, Balloted, numbers_hold, heard_names, IsNoted}
+pub use Rattle.am_steps.proofs.Words.{AllViews, each_views, views_start, few_names, nil_of, goes_on, grows_same, Following, StepsMove, member_stays}
+pub use Rattle.am_steps.proofs.Words.{departed_silent, letters_stay, others_keep, taken_more}
+unfoldable pub use Rattle.am_steps.proofs.Words.{happens}
+pub use Rattle.std.proofs.lemmas.List.{take_all, get_or-map}
+pub use Rattle.std.proofs.lemmas.List.Sums.{count_by-le-length, sum_by-cons}
+pub use Rattle.std.specs.Prelude.{Contains, slice_index_or}
+pub use Rattle.am_base.specs.Lists.{with_entry}
+pub use Rattle.am_core.proofs.Ends.{image-push, image-top}
+pub use Rattle.am_model.specs.Node.{has_room, is_within_bound}
+pub use Rattle.am_model.specs.Ballots.{ends, decide_view}
+unfoldable pub use Rattle.am_model.specs.Ballots.{decide}
+pub use Rattle.am_model.specs.Calls.{with_queued}
+pub use Rattle.am_model.specs.Receiving.{store, receive_entry, data_of}
+unfoldable pub use Rattle.am_model.specs.Receiving.{bcast_row, order_row}
+pub use Rattle.am_model.specs.Resets.{push_fetched, catch_up, decide_anew, fetches_from, piece_promised, piece_for}
+unfoldable pub use Rattle.am_model.specs.Resets.{piece_row, result_row}
+unfoldable pub use Rattle.am_play.specs.World.{happen}
+pub use Rattle.am_play.specs.Lawful.{Watch, watch_run, watch_start, broken_at, lawful_front, greater_complete, broken_now, counts, is_lost, has_stored, lags}
+unfoldable pub use Rattle.am_play.specs.Lawful.{watch_all, is_complete, is_lawful, greatest_complete, watch}
+pub use Rattle.am_play.specs.Claims.{BecameComplete, FitsView, ViewsFit, Segment, KeepsView, Holds, HeadlineHolds}
+pub use Rattle.am_play.proofs.Runs.{front_is_lawful, watched_is_run, one_record_each, runs_go_on}
+pub use Rattle.am_play.proofs.Beginnings.{runs_begin}
+pub use Rattle.am_chain_lists.proofs.Rows.{in_viewed}
+pub use Rattle.am_chain_lists.proofs.Order.{lt_key}
+pub use Rattle.am_chain_moves.specs.Runs.{MayBegin, Completes, Run}
+pub use Rattle.am_effects.specs.Courses.{at_end}
+pub use Rattle.am_effects.proofs.Tests.{or_first}
+pub use Rattle.am_bounded.proofs.Changes.{kept_change}
+pub use Rattle.am_promises.specs.Ballots.{IsOfBallot, LastOk}
+pub use Rattle.am_promises.proofs.Ballots.{ballots_are_own}
+pub use Rattle.am_laws.proofs.Blank.{change_blank, no_member, Blanked, blank_holds}
+pub use Rattle.am_laws.proofs.Taken.{change_owned}
+pub use Rattle.am_laws.proofs.Trims.{Fronts}
+pub use Rattle.am_laws.proofs.Fronts.{front_begins}
+pub use Rattle.am_laws.proofs.CallCounts.{fewer_wait}
+pub use Rattle.am_laws.specs.Blank.{IsBlank}
+pub use Rattle.am_watched.proofs.Watched.{watch_push}
+pub use Rattle.am_watched.proofs.Lists.{lists_go_on}
+pub use Rattle.am_unballoted.proofs.Lists.{item_get, item_within, item_more, get_item, item_taken}
+pub use Rattle.am_unballoted.proofs.Steps.{taken_or, given_push}
+pub use Rattle.am_unballoted.proofs.Worlds.{StandsAt, GivenOk, begins_at, RecordOk}
+pub use Rattle.am_unballoted.proofs.Chains.{gave_still, passed_front, front, Gave, nothing, took, began, at_least, gave_begun, still_log}
+pub use Rattle.am_unballoted.proofs.Goes.{by_name}
+pub use Rattle.am_unballoted.proofs.Kept.{At, BeginsOk, SendOk, IsSettled, sends_more}
+pub use Rattle.am_unballoted.proofs.Records.{idle_takes, idle_welcomes, idle_sends, deliveries_push, given_same, not_given, idle_gives, given_more}
+pub use Rattle.am_unballoted.proofs.Records.{accepted_more, accepted_and, welcome_in, welcomes_push, idle_welcome, other_welcome, record_up}
+pub use Rattle.am_unballoted.proofs.Welcomes.{record_step, welcomed_step}
+pub use Rattle.am_unballoted.proofs.FirstChanges.{leader_member}
+pub use Rattle.am_stands.proofs.Begun.{start_keeps}
+pub use Rattle.am_stands.proofs.Branches.{branches_begin, up_as}
+pub use Rattle.am_stands.proofs.Onward.{group_kept, move_on}
+pub use Rattle.am_stands.proofs.Start.{start_stands}
+pub use Rattle.am_stands.proofs.Pieces.{plain as not_view}
+pub use Rattle.am_stands.proofs.Changes.{told_all, long_all}
+pub use Rattle.am_stands.proofs.Parts.{number_low, image_whole}
+pub use Rattle.am_stands.proofs.Events.{idle_stands, stop_stands, return_stands}
+pub use Rattle.am_stands.proofs.Joins.{Becomes, stayed, joins, founds, became, blank_nil}
+pub use Rattle.am_stands.proofs.Counting.{count_up_to, names_pass, names_few, name_small}
+pub use Rattle.am_stands.proofs.Opens.{runs_open, moves_open}
+pub use Rattle.am_stands.specs.Branches.{ChainNamed}
+pub use Rattle.am_stands.proofs.Growing.{same_name, grows_names, node_grows}
+pub use Rattle.am_steps.proofs.Silent.{departed_quiet}
+pub use Rattle.am_steps.proofs.Statuses.{departed_is}
+pub use Rattle.am_steps.proofs.Steps.{steps_move, deeds_there}

@@ -1,0 +1,122 @@
+-- The words of this crate's proofs, of the crates and definitions that they come from.
+pub use Rattle.am_laws.proofs.Words.{◌≡◌, ℕ, ◌+◌, ◌-◌, ◌<◌, ◌≤◌, ◌==◌, ◌&&◌, nat_le, Bool, true, false, List, [], length, take, refl, sym, ap, ◌∙◌, subst}
+pub use Rattle.am_laws.proofs.Words.{arith, ◌∷◌, slice_index, ◌⊎◌, inl, inr, ⊎_elim, ◌||◌, ◌++◌, Some, nat_lt, ◌≢◌, not, Option, slice_get, None, zero, suc}
+pub use Rattle.am_laws.proofs.Words.{if◌then◌else◌, max, set, get_or, unwrap_or, min, drop, map, option_map, cases_lt, nat_tests, length-map}
+pub use Rattle.am_laws.proofs.Words.{get_or-replicate, length-take, length-set, All-head, All-tail, All-nil, All-cons, All-append, All-take, list_any-append}
+pub use Rattle.am_laws.proofs.Words.{list_any, range_with_len, All, Entry, Report, Image, has, names_of, place_of, life_of, IsSet, name_at, size, names_from}
+pub use Rattle.am_laws.proofs.Words.{rank_of, by_place, Log, top_of, told_by, members_of, blank_row, blank, is_blank, at_place, member_life, row_after_view}
+pub use Rattle.am_laws.proofs.Words.{members_at, row_of, entry_at, image_at, accept_front, split, and_both, Rules, MayFound, Leave, View, Data, Join, Stamp}
+pub use Rattle.am_laws.proofs.Words.{stamp_eq, stamp_lt, Row, Outcome, Vote, NodeEvent, slice_index-by_place, vote_lt, Packet, stamp_of, unions, CoreState}
+pub use Rattle.am_laws.proofs.Words.{unions_most, member_at, unions_long, unions_least, least_of, least_taken, base_after, count_cons, least_in, OwnSend}
+pub use Rattle.am_laws.proofs.Words.{Event, Node, founder, stranger, founding_stamp, founders_view, lowest_or_first, view, acts, is_member, unsettled_count}
+pub use Rattle.am_laws.proofs.Words.{has_log, Ballot, members, is_asking, push_entry, set_at, is_sequencer, others, waiting, name_where, advance, accepted_at}
+pub use Rattle.am_laws.proofs.Words.{settle_at, settle_waiting, is_unfinished, join_by, state_by, leave_by, ask_of, give_up_of, hears_member, hears_in_view}
+pub use Rattle.am_laws.proofs.Words.{hears_sequencer, hears_asking, Verdict, overtake, with_promise, next_stamp, need_of, left_in, restart_reports, taken_by}
+pub use Rattle.am_laws.proofs.Words.{own_vote, trim_for, Status, Step, Plan, quiet, is_view, body_of, begin_list, viewed_by, tick_by, first_founder, World}
+pub use Rattle.am_laws.proofs.Words.{first_node, is_stopped, Decided, group_after, last_view, views_after, current, lives_on, group_with, founders_decided}
+pub use Rattle.am_laws.proofs.Words.{mod16, row_view, long_after, In, and_left, blank_joined, or_second, is_itself, same_stamp, stamp_itself, refreshes}
+pub use Rattle.am_laws.proofs.Words.{settles, begins_list, promises, opens, looks, stores_view, asks_to_join, Promises, invited, overtaken_by, told_result}
+pub use Rattle.am_laws.proofs.Words.{Numbers, asked_send, own_send, asked_join, asked_leave, MayBeWelcomed, Fetches, Carries, whole_entry, by_number, Change}
+pub use Rattle.am_laws.proofs.Words.{takes_report, admits, keeps_body, notes, queues, collects, takes, without_ballot, unchanged, changed, rests_refresh}
+pub use Rattle.am_laws.proofs.Words.{settle_is, rests_at_end, refresh_is, Cause, hears, BringsSend, by_request, by_spread, Balloting, Looks, finds_itself_out}
+pub use Rattle.am_laws.proofs.Words.{waits, fetches_from_best, finds_too_few, finds_no_room, decides, with_more, without_one, as_it_is, HasOpen, all_get}
+pub use Rattle.am_laws.proofs.Words.{get_front, get_last, logged, told_pushed, view_pushed, actor, idles, returns, steps, entry_is, request, spread, bcast}
+pub use Rattle.am_laws.proofs.Words.{order, hold, join_ask, welcome, gone, invite, vote, fetch, piece, result, hand_over, MayWelcome, just_joined, asks_again}
+unfoldable pub use Rattle.am_laws.proofs.Words.{fold, after, fits, accept, pass_over, own_report, tell, go_on, let_go, those, lead, refresh, settle}
+unfoldable pub use Rattle.am_laws.proofs.Words.{refresh_at_end, send_row, take_row, join_row, state_row, leave_row, reset_row, ask_row, give_up_row, done_row}
+unfoldable pub use Rattle.am_laws.proofs.Words.{hear_row, best_of, finish, tick_row, row, step, hear, hear_refusal, with_step, with_record}
+pub use Rattle.am_effects.proofs.Words.{Ok, Err, is_some, not-true, eq-eqb, slice_get_within, without_name, fold_append, Read, reading, slice_get-drop}
+pub use Rattle.am_effects.proofs.Words.{item_at, has_departed, only_name, has_own_leave, is_waited_for, may_fetch, Departed, read_row, asks_to_leave}
+pub use Rattle.am_effects.proofs.Words.{MayStore, overtaken, MayReport, BringsReport, with_send, by_ack, by_nack, by_leave_ask, BringsFronts, with_entry}
+pub use Rattle.am_effects.proofs.Words.{with_number, alone, HasLearned, leads, decided, ack, nack, leave_ask}
+pub use Rattle.std.proofs.Common.{count_by, append-nil}
+pub use Rattle.std.proofs.Math.Bool.{and-false}
+pub use Rattle.std.proofs.Math.Seq.{take-append-add, drop-append-add, drop-append_seam}
+pub use Rattle.std.proofs.lemmas.Bool.{leb-true, eqb-false, eqb-true}
+pub use Rattle.std.proofs.lemmas.Grind.{flat_map-append}
+pub use Rattle.std.proofs.lemmas.List.{length-append, append_assoc, get_or-set_other, take-append-drop}
+pub use Rattle.std.specs.List.{list_all}
+pub use Rattle.am_base.specs.Names.{is_within}
+pub use Rattle.am_base.specs.Lists.{with_row, requests_of, request_in}
+pub use Rattle.am_base.specs.Fronts.{counted_at, need_at, holders_at, is_held, is_satisfied, is_front, counted_of}
+pub use Rattle.am_base.specs.Stamps.{no_stamp}
+pub use Rattle.am_base.specs.declared.event.NodeEvent.TheVariants.{Done, State, Ask, GiveUp, Tick, Hear}
+pub use Rattle.am_packet.specs.declared.packet.Packet.TheVariants.{Request, Spread, Bcast, Order, Accept, Ack, Nack, Hold, JoinAsk, Welcome, LeaveAsk, Gone}
+pub use Rattle.am_packet.specs.declared.packet.Packet.TheVariants.{Invite, Vote as VoteOf, Fetch, Piece, Result, HandOver}
+pub use Rattle.am_core.proofs.Ranges.{all_at}
+pub use Rattle.am_fronts.specs.Reports.{after_report, with_admitted, reports_from}
+pub use Rattle.am_fronts.proofs.Again.{greatest_low, greatest_there}
+pub use Rattle.am_fronts.proofs.Views.{view_grows}
+pub use Rattle.am_group.specs.declared.event.Record.{Record}
+pub use Rattle.am_model.specs.Refresh.{concerned_names}
+pub use Rattle.am_model.specs.Ballots.{with_end, has_voted}
+pub use Rattle.am_model.specs.Joining.{all_stored}
+pub use Rattle.am_model.proofs.Sets.{some_size, has_size, has_those}
+pub use Rattle.am_play.specs.Claims.{line_of}
+unfoldable pub use Rattle.am_play.specs.Claims.{up_to_next, up_to_view}
+pub use Rattle.am_play.specs.Lawful.{whole, is_view_of}
+pub use Rattle.am_meaning.proofs.BestVotes.{best_vote_is}
+pub use Rattle.am_chain_lists.specs.Whole.{Begins, image_of, IsGood, BeginsBelow, NotView}
+unfoldable pub use Rattle.am_chain_lists.specs.Whole.{mem, view_of, key, resilience_of}
+pub use Rattle.am_chain_lists.proofs.Prefixes.{begins_take, begins_trans, begins_both, begins_length, length_take, begins_refl, begins_nil, begins_more}
+pub use Rattle.am_chain_lists.proofs.Prefixes.{below_of, below_length, length_push, begins_pushed, take_begins, begins_same, begins_push, next_of}
+pub use Rattle.am_chain_lists.proofs.Members.{good_begins, mem_between, mem_viewed, long_told, told_push, mem_in, in_mem, leaver_out, last_fits, mem_nil}
+pub use Rattle.am_chain_lists.proofs.Members.{viewed_mem, was_begins, good_push, leaver_in, mem_push}
+pub use Rattle.am_chain_lists.proofs.Rows.{low_or_above, row_at, row_set, same_name, Past, Was, past_after, not_both, view_parts}
+pub use Rattle.am_chain_lists.proofs.Order.{key_by, view_up, key_lt, view_small, view_viewed, view_push, view_below}
+pub use Rattle.am_chain_moves.specs.Group.{how_many, counted_in, IsHeld, MayAccept, Group, IsUp, chain_of, put2, opening, NoBetter, IsThere, Views, Chosen}
+pub use Rattle.am_chain_moves.specs.Group.{IsOngoing}
+unfoldable pub use Rattle.am_chain_moves.specs.Group.{put, count}
+pub use Rattle.am_chain_moves.specs.Kept.{Kept}
+pub use Rattle.am_chain_moves.specs.Moves.{MayDecide, Voted, with_choice, choice_of, own_stamp, longer, Move, IsAbove, MayDepart, with_node, with_line}
+pub use Rattle.am_chain_moves.specs.Moves.{numbers, stores, accepts, learns, begins, raises, shows, serves, fetches, gives_over, welcomes, asks, departs}
+pub use Rattle.am_chain_moves.specs.Moves.{closes, stops, MayNumber}
+pub use Rattle.am_chain_moves.specs.Runs.{IsLawful, first_choice, more, counts_for, founded, start, first_stamp}
+pub use Rattle.am_chain_moves.proofs.Start.{start_kept}
+pub use Rattle.am_chain_moves.proofs.Puts.{put_same, put_at, put2_cases, count_below, count_within, put_other, put_cases}
+pub use Rattle.am_chain_moves.proofs.Nodes.{own_above}
+pub use Rattle.am_chain.proofs.Heart.{ballot_ok, list_chain, departed_in}
+pub use Rattle.am_chain.proofs.Decide.{group_low}
+pub use Rattle.am_chain.proofs.Runs.{run_keeps}
+pub use Rattle.am_orders.proofs.Turns.{request_within, next_in}
+pub use Rattle.am_effects.proofs.Resets.{member_heard}
+pub use Rattle.am_effects.proofs.Rests.{leads_rests}
+pub use Rattle.am_effects.proofs.Items.{get_push}
+pub use Rattle.am_effects.proofs.Says.{leads_pushed}
+pub use Rattle.am_effects.specs.Letters.{MayTell, MayFetch}
+pub use Rattle.am_sent.proofs.Changes.{MaySend, body_of_sent, CauseSent, change_sent}
+pub use Rattle.am_laws.proofs.LeaderRows.{first_member}
+pub use Rattle.am_laws.proofs.Stamps.{equal_stamps}
+pub use Rattle.am_laws.proofs.ViewSteps.{after_same, after_view}
+pub use Rattle.am_laws.proofs.ViewChanges.{numbers_plain, OpenBallot, looked_at, none_of_asking}
+pub use Rattle.am_laws.proofs.Taken.{known_member, leave_fits, looked_vote, own_need, those_at}
+pub use Rattle.am_laws.proofs.Trims.{told_used}
+pub use Rattle.am_laws.proofs.TakenRuns.{Along, along_changes}
+pub use Rattle.am_laws.proofs.Named.{change_named}
+pub use Rattle.am_laws.proofs.ViewMembers.{those_long, viewed_members, those_some}
+pub use Rattle.am_laws.proofs.Limits.{set_those}
+pub use Rattle.am_unballoted.proofs.Turns.{waiting_is, one_more, waiting_settled, collected_turn}
+unfoldable pub use Rattle.am_unballoted.proofs.Turns.{Turn}
+pub use Rattle.am_unballoted.proofs.Says.{only_is}
+pub use Rattle.am_unballoted.proofs.Actors.{same_group as no_more_group}
+pub use Rattle.am_unballoted.proofs.Changes.{found_at}
+pub use Rattle.am_stands.specs.Standing.{NameStands, Stands, StandsBut, within, FrontsStand, NotedStands, ViewsStand, BeginsIn, StartStands}
+pub use Rattle.am_stands.specs.States.{Reporting, IsConcerned, ReportsStand, LeftOut, BodiesAsked, SendsOnce, FetchesStand, ReportsFresh, OpensStand, IsNew}
+pub use Rattle.am_stands.specs.States.{RunsLeaveOut, LineOpens, LinesOpen, RunsOpen, OwnDecided, HasRound, RoundsOk, RunsHaveRounds, VotesStand}
+pub use Rattle.am_stands.specs.Accepting.{MayCount, RefreshAccepts, CountsNames, CountsAmong, ComesTo, ClosingAccepts, Word, nothing, of_sequencer}
+pub use Rattle.am_stands.specs.Accepting.{AcceptsAndLearns, RefreshLearns}
+pub use Rattle.am_stands.specs.Keeping.{GroupFor, NodeKeeps, StartKeeps, BallotStands, LastStands, Stepping, Ballots, HeardSo, IsPlain, OwnTurn, GroupOk}
+pub use Rattle.am_stands.specs.Keeping.{OthersKeep, RefreshesKeep, Refreshing, ChangesGoOn, Next}
+pub use Rattle.am_stands.specs.Growing.{NewView, NameGrows, Grows, MovesGrow, LettersStay}
+pub use Rattle.am_stands.specs.Branches.{OnBranch, on_chain, left_out, BranchesOk, MovesBranch, DecisionsAreNew, BranchesBegin, MovesNamed}
+pub use Rattle.am_stands.specs.Steps.{MayMove, NeedsLook, after_look, ChangesStand, NeedsDecision, noting, NeedsNumber, IsOthers, NeedsEntry, NeedsPiece}
+pub use Rattle.am_stands.specs.Steps.{NeedsWelcome, FrontsBegin, EventsStand, EventStands, no_move, stop, WasBegun, Needs, FrontsStay, of_line as of_its_line}
+pub use Rattle.am_stands.specs.Steps.{of_shown as of_its_shown, after_change}
+pub use Rattle.am_stands.specs.Moving.{NamesNamed, MoveOk, Moves, none, moves, Leads, AllVoted}
+pub use Rattle.am_stands.specs.Sending.{RowsLive, KeptWhole, ListBegins, as_before, just_begun, Sender, ShowsMore, SaysSo, SentSays, DepartedSilent}
+pub use Rattle.am_stands.specs.Letters.{GoneSays, has_stopped, may_go, Trimmed, line, IsDecided, EntrySays, OrderSays, LeaverSays, of_view, before_it}
+pub use Rattle.am_stands.specs.Letters.{ResultSays, WasAsked, VoteTells, AllShown, SequencerSays, ReportSays, WelcomeSays, WelcomeTo, has_begun, has_gone}
+pub use Rattle.am_stands.specs.Letters.{has_left, is_leaving, may_begin, VoteSays, own, tells, over as over_vote, FetchSays, for_ballot, of_promise}
+pub use Rattle.am_stands.specs.Letters.{PieceSays, of_line, of_shown, over, ShownEntry, PacketSays}
+pub use Rattle.am_stands.specs.Ends.{NeedsClose, after_closing, CloseStands, Accepts, no_more, rises, Learns, departed, bare, before_end, EndsStand, MayLearn}
+pub use Rattle.am_stands.specs.Lawful.{IsNoStop, RunsGoOn}

@@ -1,0 +1,84 @@
+-- The words of this crate's proofs, of the crates and definitions that they come from.
+pub use Rattle.am_stands.proofs.Words.{◌≡◌, List, ℕ, zero, suc, ◌+◌, ◌-◌, ◌<◌, ◌≤◌, ◌==◌, ◌||◌, not, nat_le, true, false, [], ◌∷◌, Some, slice_get, refl, sym}
+pub use Rattle.am_stands.proofs.Words.{ap, ◌∙◌, subst, arith, nat_lt, Bool, length, ◌⊎◌, inl, inr, ⊎_elim, max, ◌++◌, ◌≢◌, ◌&&◌, take, drop, append-nil}
+pub use Rattle.am_stands.proofs.Words.{Option, None, if◌then◌else◌, slice_index, not-true, nat_tests, length-take, All-nil, All-append, All-cons, All-head}
+pub use Rattle.am_stands.proofs.Words.{All-tail, list_any-append, list_any, All, Rules, MayFound, Stamp, Image, Entry, View, Leave, Data, Outcome, stamp_eq}
+pub use Rattle.am_stands.proofs.Words.{stamp_lt, no_stamp, Log, top_of, told_by, entry_at, after, members_of, split, and_both, size, has, place_of, life_of}
+pub use Rattle.am_stands.proofs.Words.{Report, NodeEvent, GiveUp, Packet, stamp_of, CoreState, view_grows, Event, Record, item_at, Node, Ballot, view, acts}
+pub use Rattle.am_stands.proofs.Words.{is_member, is_asking, is_sequencer, others, push_entry, has_departed, has_log, set_at, lowest_or_first, Verdict}
+pub use Rattle.am_stands.proofs.Words.{trim_for, left_in, need_of, overtake, is_view, Step, Status, is_unfinished, hears_member, hears_asking, hears_in_view}
+pub use Rattle.am_stands.proofs.Words.{hears_sequencer, refresh, settle, step, hear, hear_refusal, Departed, World, group_after, Decided, last_view}
+pub use Rattle.am_stands.proofs.Words.{views_after, group_with, current, is_stopped, up_to_next, view_of, Begins, view_small, begins_refl, Group, chain_of}
+pub use Rattle.am_stands.proofs.Words.{IsUp, IsThere, longer, with_node, Kept, put_same, actor, steps, idles, returns, same_stamp, stamp_itself, Cause, hears}
+pub use Rattle.am_stands.proofs.Words.{by_request, BringsReport, with_send, BringsFronts, with_number, alone, with_entry, Looks, finds_itself_out, Balloting}
+pub use Rattle.am_stands.proofs.Words.{with_more, without_one, as_it_is, waits, fetches_from_best, finds_too_few, finds_no_room, decides, Change, refreshes}
+pub use Rattle.am_stands.proofs.Words.{settles, begins_list, promises, opens, looks, stores_view, unchanged, changed, Promises, invited, overtaken}
+pub use Rattle.am_stands.proofs.Words.{told_result, Carries, whole_entry, by_number, takes_report, admits, keeps_body, notes, queues, collects, takes}
+pub use Rattle.am_stands.proofs.Words.{asks_to_join, asks_to_leave, overtaken_by, rests_refresh, settle_is, rests_at_end, leads_rests, leads_pushed, logged}
+pub use Rattle.am_stands.proofs.Words.{all_get, CauseSent, none_of_asking, numbers_plain, looked_at, OpenBallot, Along, along_changes, equal_stamps}
+pub use Rattle.am_stands.proofs.Words.{NameStands, StandsBut, Stands, within, FrontsStand, ViewsStand, CountsNames, ComesTo, nothing, of_sequencer, MayCount}
+pub use Rattle.am_stands.proofs.Words.{Word, AcceptsAndLearns, NeedsClose, after_closing, NamesNamed, Leads, Moves, none, moves, MayMove, after_change}
+pub use Rattle.am_stands.proofs.Words.{after_look, FrontsStay, WasBegun, Stepping, HeardSo, GroupFor, NodeKeeps, Grows, SequencerSays, WasAsked, AllShown}
+pub use Rattle.am_stands.proofs.Words.{PacketSays, ShowsMore, Sender, ListBegins, just_begun, Reporting, SendsOnce, OwnDecided, FetchesStand}
+unfoldable pub use Rattle.am_stands.proofs.Words.{fold, refresh_at_end, with_record, with_step, key}
+pub use Rattle.am_laws.proofs.Words.{length-append, All-weaker, nobody, Letter, Act, is_for, letter_at, top, image_of, with_report, with_noted, packet_length}
+pub use Rattle.am_laws.proofs.Words.{start, run, hears_letter, hear_cut, acts_as, heard_by, IsCall, IsCause, stops, WasSentTo, EachKeeps, runs_keep, along}
+pub use Rattle.am_laws.proofs.Words.{calls, closes, Changes, numbers, stores, departs, fetches, all_item, Effect}
+unfoldable pub use Rattle.am_laws.proofs.Words.{happens}
+pub use Rattle.std.proofs.Common.{append_assoc, get_or-set_same}
+pub use Rattle.std.proofs.Math.Seq.{take-add}
+pub use Rattle.std.proofs.lemmas.List.{length-drop, drop-drop, drop-append-le, take-append-le}
+pub use Rattle.std.proofs.lemmas.List.Elements.{All-push}
+pub use Rattle.am_base.specs.Names.{with_name}
+pub use Rattle.am_packet.specs.Kinds.{goes_to_any, kind_of}
+pub use Rattle.am_play.specs.World.{record_of, does_event, gives_up, comes_back}
+pub use Rattle.am_effects.specs.Causes.{with_entry as by_entry}
+pub use Rattle.am_effects.specs.Looks.{MayLook, was_reset, was_handed, was_fetched, BeginsBy, by_reset, by_hand_over}
+pub use Rattle.am_effects.proofs.Rests.{rests_closed, with_sends}
+pub use Rattle.am_effects.specs.Courses.{IsPlain, Course, nothing_yet, used_report, and_then, Deeds, plainly, looked, Ending, at_end as ends_so, let_go}
+pub use Rattle.am_effects.specs.Courses.{closing}
+pub use Rattle.am_effects.proofs.Plans.{course_changes}
+pub use Rattle.am_effects.specs.Effects.{Answers, WasQueued, AnswersAsk}
+pub use Rattle.am_sent.proofs.Runs.{after_step, AllSent, sent_start, cause_sent}
+pub use Rattle.am_sent.proofs.Kept.{kept_refresh, EntrySent, SendSent, WasSent, kept_more}
+pub use Rattle.am_promises.specs.Claim.{AtMost, IsBegun, StampOk}
+pub use Rattle.am_promises.proofs.Stamps.{most_same, most_through}
+pub use Rattle.am_promises.proofs.Changes.{CauseBegun, Promised, promise_change}
+pub use Rattle.am_promises.proofs.Runs.{AllBegun, cause_begun, each_keeps, start_begun}
+pub use Rattle.am_laws.proofs.ViewChanges.{leads_member, changes_do, Balloted, change_does}
+pub use Rattle.am_laws.proofs.ViewNames.{HeardNames, HasNames, change_names, promised_named}
+pub use Rattle.am_laws.proofs.Taken.{HeardUsed}
+pub use Rattle.am_laws.proofs.TakenRuns.{AllOwned, run_owned, each_along, heard_used}
+pub use Rattle.am_laws.proofs.Stamps.{below, not_above, not_above_itself}
+pub use Rattle.am_laws.proofs.ViewSteps.{SameView, Stood, view_last, Goes}
+pub use Rattle.am_laws.proofs.Views.{IsNoted, AllViews, each_views, heard_names, views_start}
+pub use Rattle.am_laws.proofs.Named.{few_names, AllNamed, each_named, start_named}
+pub use Rattle.am_laws.proofs.RunCounts.{numbers_hold}
+pub use Rattle.am_unballoted.proofs.Records.{idle_queues}
+pub use Rattle.am_unballoted.proofs.Worlds.{AskedOk, asked_more, asked_other, unique}
+pub use Rattle.am_unballoted.proofs.Actors.{same_group}
+pub use Rattle.am_unballoted.proofs.Steps.{nil_of}
+pub use Rattle.am_stands.proofs.Parts.{view_its}
+pub use Rattle.am_stands.proofs.Changes.{member_stays, is_up, looked_open, Unmoved, own_name, unmoved_refresh, others_same, others_fronts, same_name}
+pub use Rattle.am_stands.specs.Steps.{FrontsAfter}
+pub use Rattle.am_stands.proofs.ChainNames.{front_named, counts_names, rows_live, concerned_small}
+pub use Rattle.am_stands.proofs.Closing.{close_stands}
+pub use Rattle.am_stands.proofs.Entries.{name_longer, key_stamp, view_whole}
+pub use Rattle.am_stands.proofs.Keeping.{kept, old, may_move, whole}
+pub use Rattle.am_stands.proofs.Lasts.{closing_accepts}
+pub use Rattle.am_stands.proofs.Names.{name_in, views_in, views_noted, each_within, fronts_within, lines_within}
+pub use Rattle.am_stands.proofs.Stepped.{changes_go_on}
+pub use Rattle.am_stands.proofs.Learning.{advanced, same_by, refresh_learns}
+pub use Rattle.am_stands.proofs.Sending.{nothing_viewed, sent_says}
+pub use Rattle.am_stands.proofs.Ends.{then_moves, accept_moves, taken_more, name_grows}
+pub use Rattle.am_stands.proofs.Onward.{grows_trans, grows_same, goes_on, group_whole}
+pub use Rattle.am_stands.proofs.Opens.{list_opens}
+pub use Rattle.am_stands.specs.Letters.{LetterSays}
+pub use Rattle.am_stands.specs.Running.{Following, Follows, StepsMove}
+pub use Rattle.am_stands.specs.Sending.{LeaderStands, NumbersStand, BallotStands, SendsStand, SendsNothing, as_before as began_before}
+pub use Rattle.am_stands.proofs.Letters.{letters_stay, trimmed_stays, all_stay, sequencer_stays}
+pub use Rattle.am_stands.proofs.Others.{keeps_in, others_keep}
+pub use Rattle.am_stands.proofs.Refreshing.{refreshes_keep}
+pub use Rattle.am_stands.proofs.Sent.{Speaks, leading}
+pub use Rattle.am_stands.proofs.Welcomes.{not_above_key}
+pub use Rattle.am_stands.proofs.Silent.{departed_silent}
