@@ -1,4 +1,5 @@
-ghost use Rattle.std.specs.Prelude.{◌≡◌, ◌<◌, [], ◌∷◌};
+ghost use Rattle.std.specs.Prelude.{◌≡◌, ◌<◌, [], ◌∷◌, length, nat_lt};
+ghost use Rattle.am_base.specs.Most.{most_word};
 ghost use Rattle.am_wire.specs.declared.rule.Key.TheVariants.{Caller as CallerKey};
 ghost use Rattle.am_wire.specs.Passes.{fresh};
 ghost use Rattle.am_races.specs.Callings.{HasMade, luck_after};
@@ -8,6 +9,7 @@ use crate::naming::Racing;
 use am_chooser::chooser::Chooser;
 use am_group::plan::RacePlan;
 use am_races::call::Tag;
+use am_races::calls::Calls;
 use am_wire::wire::Share;
 use std::marker::{Model, PhantomData};
 
@@ -31,25 +33,26 @@ impl Hand {
     }
 }
 
-/// Who makes the calls of one thread of a race, one after the other. Contracts see it as its number, how many calls it has
-/// made, and what it has seen of the journal; of what it has seen, its own records are those of its planned calls.
+/// Who makes calls, one after the other. Contracts see it as its number, the calls that it has made, and what it has seen of
+/// the journal; of what it has seen, its own records are those of its calls.
 #[derive(Drop)]
 pub struct Caller<N: Racing> {
     pub(crate) number: u32,
-    pub(crate) calls: u32,
+    pub(crate) count: u32,
+    pub(crate) calls: Calls,
     pub(crate) hand: Hand,
     race: PhantomData<N>,
 }
 
 impl<N: Racing> Model for Caller<N> {
     ghost use Rattle.am_races.specs.Callings.{Calling, IsHand, HasMade};
-    ghost use Rattle.std.specs.Prelude.{◌≡◌};
+    ghost use Rattle.std.specs.Prelude.{◌≡◌, length};
 
     ghost Value = { Calling };
 
     ghost view = { λ c. record { number = c.number; calls = c.calls; seen = c.hand.share.seen } };
 
-    ghost invariant = { λ c. IsHand N.wire N.plan c.number c.hand.share c.hand.chooser × HasMade N.plan c.number c.calls c.hand.share.seen };
+    ghost invariant = { λ c. IsHand N.wire N.plan c.number c.hand.share c.hand.chooser × HasMade N.plan c.number c.calls c.hand.share.seen × (c.count ≡ length c.calls) };
 }
 
 impl<N: Racing> Caller<N> {
@@ -57,12 +60,15 @@ impl<N: Racing> Caller<N> {
     pub fn new(plan: &RacePlan, number: u32, share: Share) -> Caller<N>
         requires plan { plan.now ≡ N.plan }
         requires share { share ≡ fresh N.wire (terms_of N.plan) (CallerKey number) }
-        ensures { result ≡ record { number = number; calls = 0; seen = [] } }
+        ensures { result ≡ record { number = number; calls = []; seen = [] } }
     {
+        let calls = Calls::new();
+        let hand = Hand::new(plan, number, share);
         Caller {
             number,
-            calls: 0,
-            hand: Hand::new(plan, number, share),
+            count: 0,
+            calls,
+            hand,
             race: PhantomData,
         }
     }
@@ -76,12 +82,19 @@ impl<N: Racing> Caller<N> {
 
     /// Its next call.
     pub fn next_call(&self) -> Tag
-        ensures { result ≡ record { caller = self.now.number; call = self.now.calls } }
+        ensures { result ≡ record { caller = self.now.number; call = length self.now.calls } }
     {
         Tag {
             caller: self.number,
-            call: self.calls,
+            call: self.count,
         }
+    }
+
+    /// Whether it may make a further call: it has made fewer than 4,294,967,295.
+    pub fn may_call(&self) -> bool
+        ensures { result ≡ nat_lt (length self.now.calls) most_word }
+    {
+        self.count < u32::MAX
     }
 
     /// Its share alone.
@@ -89,15 +102,15 @@ impl<N: Racing> Caller<N> {
         ensures own { result.wire ≡ N.wire }
         ensures keys { result.keys ≡ CallerKey self.number ∷ [] }
         ensures seen { result.seen ≡ self.seen }
-        ensures planned { HasMade N.plan self.number self.calls self.seen }
+        ensures made { HasMade N.plan self.number self.calls self.seen }
     {
         self.hand.share
     }
 
     /// How many calls it has made.
     pub fn calls(&self) -> u32
-        ensures { result ≡ self.now.calls }
+        ensures { result ≡ length self.now.calls }
     {
-        self.calls
+        self.count
     }
 }

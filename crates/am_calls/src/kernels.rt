@@ -1,5 +1,6 @@
-ghost use Rattle.std.specs.Prelude.{◌≡◌, ◌+◌, ◌<◌, ◌≤◌, [], ◌∷◌, IfOk, IfErr, true, vec_len, map, length, All};
+ghost use Rattle.std.specs.Prelude.{◌≡◌, ◌<◌, ◌≤◌, [], ◌∷◌, IfOk, IfErr, true, vec_len, map, length, All};
 ghost use Rattle.std.specs.List.{range_with_len};
+ghost use Rattle.am_base.specs.Most.{most_events, most_word};
 ghost use Rattle.am_base.specs.Names.{place_of};
 ghost use Rattle.am_group.specs.declared.event.Act.TheVariants as acts;
 ghost use Rattle.am_info.specs.Info.{info_of};
@@ -7,14 +8,15 @@ ghost use Rattle.am_wire.specs.declared.rule.Key.TheVariants.{Caller as CallerKe
 ghost use Rattle.am_wire.specs.Keys.{place_keys, caller_keys};
 ghost use Rattle.am_wire.specs.Passes.{Sees, fresh};
 ghost use Rattle.am_wire.specs.Seats.{GoesOn};
+ghost use Rattle.am_wire.specs.declared.wire.WireRefusal.TheVariants as refusals;
 ghost use Rattle.am_races.specs.Boxes.{node_by};
-ghost use Rattle.am_races.specs.Callings.{Called, IsHand, MayCall};
+ghost use Rattle.am_races.specs.Callings.{Called, IsHand};
 ghost use Rattle.am_races.specs.Going.{IsCame, HasBegun, Began, HasLooked, WasRefused, Made};
 ghost use Rattle.am_races.specs.Tags.{of_call, own_of};
 ghost use Rattle.am_races.specs.Lawful.{terms_of};
 ghost use Rattle.am_races.specs.Legal.{IsLegalWithTags};
-ghost use Rattle.am_races.specs.Plans.{calls_of, is_call};
-ghost use Rattle.am_races.specs.Ran.{fresh_callers, numbers_of, EndsFor};
+ghost use Rattle.am_races.specs.Plans.{is_call};
+ghost use Rattle.am_races.specs.Ran.{calls_by, fresh_callers, numbers_of, EndsFor};
 
 use crate::caller::{Caller, Hand};
 use crate::dealing::{all_places, boxes_of, callers_of, with_callers};
@@ -23,7 +25,7 @@ use crate::naming::{RaceLaw, Racing};
 use crate::node_box::{NodeBox, Visit};
 use am_answers::outcomes::{answer_at_end, is_take, late_after, own_answer, request_in_call};
 use am_base::NoMemory;
-use am_base::body::Body;
+use am_base::body::{Body, SentBody};
 use am_base::founding::Founding;
 use am_base::name::Name;
 use am_base::outcome::Outcome;
@@ -208,28 +210,30 @@ impl<'g, N: Racing, G: Gate> Kernels<'g, N, G> {
         }
     }
 
-    /// Makes a call, which is the caller's next planned one, and answers by its records (docs/PROTOCOL.md, "Races"). It ends
-    /// after its own act, at most as many turns as the race says, and its check.
+    /// Makes a call, and answers by its records (docs/PROTOCOL.md, "Races"). It ends after its own act, at most as many turns
+    /// as the race says, and its check. `Caller::may_call` tells whether the caller may make it.
     pub fn make<R: Wait>(&self, rt: &R, caller: &mut Caller<N>, node: Name, act: &Act) -> Answer
-        requires next { MayCall N.plan caller.old act.now }
+        requires room { length caller.old.calls < most_word }
         requires call { is_call act.now ≡ true }
-        ensures { Called N.plan node caller.old caller.new result }
+        ensures { Called N.plan node act.now caller.old caller.new result }
     {
         let tag = caller.next_call();
         let answer = self.do_call(rt, &mut caller.hand, tag, node, act);
-        caller.calls += 1;
+        caller.count += 1;
+        caller.calls.push(act);
         answer
     }
 
     /// Sends a body to the group. Sent with its number in the list; Late or PutOff where its turns were used before.
     pub fn send<R: Wait>(&self, rt: &R, caller: &mut Caller<N>, node: Name, body: Body) -> Answer
-        requires { MayCall N.plan caller.old (acts.Send body) }
-        ensures { Called N.plan node caller.old caller.new result }
+        requires { length caller.old.calls < most_word }
+        ensures { Called N.plan node (acts.Send body) caller.old caller.new result }
     {
-        match Act::send(self.alloc, body) {
-            Ok(act) => self.make(rt, caller, node, &act),
+        match SentBody::of(self.alloc, &body) {
+            Ok(sent) => self.make(rt, caller, node, &Act::Send(sent)),
             Err(_) => {
-                caller.calls += 1;
+                caller.count += 1;
+                caller.calls.push_send(&body);
                 Answer::NoMemory
             }
         }
@@ -237,24 +241,24 @@ impl<'g, N: Racing, G: Gate> Kernels<'g, N, G> {
 
     /// Takes the next accepted entry. Took with it; Late where its turns were used before there was one.
     pub fn receive<R: Wait>(&self, rt: &R, caller: &mut Caller<N>, node: Name) -> Answer
-        requires { MayCall N.plan caller.old acts.Take }
-        ensures { Called N.plan node caller.old caller.new result }
+        requires { length caller.old.calls < most_word }
+        ensures { Called N.plan node acts.Take caller.old caller.new result }
     {
         self.make(rt, caller, node, &Act::Take)
     }
 
     /// Joins the group. Joined with the number of its Join; Late where its turns were used before.
     pub fn join<R: Wait>(&self, rt: &R, caller: &mut Caller<N>, node: Name) -> Answer
-        requires { MayCall N.plan caller.old acts.Join }
-        ensures { Called N.plan node caller.old caller.new result }
+        requires { length caller.old.calls < most_word }
+        ensures { Called N.plan node acts.Join caller.old caller.new result }
     {
         self.make(rt, caller, node, &Act::Join)
     }
 
     /// Leaves the group. Left, or Late where its turns were used before.
     pub fn leave<R: Wait>(&self, rt: &R, caller: &mut Caller<N>, node: Name) -> Answer
-        requires { MayCall N.plan caller.old acts.Leave }
-        ensures { Called N.plan node caller.old caller.new result }
+        requires { length caller.old.calls < most_word }
+        ensures { Called N.plan node acts.Leave caller.old caller.new result }
     {
         self.make(rt, caller, node, &Act::Leave)
     }
@@ -268,16 +272,16 @@ impl<'g, N: Racing, G: Gate> Kernels<'g, N, G> {
         least: u8,
         resilience: u8,
     ) -> Answer
-        requires { MayCall N.plan caller.old (acts.Reset least resilience) }
-        ensures { Called N.plan node caller.old caller.new result }
+        requires { length caller.old.calls < most_word }
+        ensures { Called N.plan node (acts.Reset least resilience) caller.old caller.new result }
     {
         self.make(rt, caller, node, &Act::Reset { least, resilience })
     }
 
     /// Stops the node for good.
     pub fn stop<R: Wait>(&self, rt: &R, caller: &mut Caller<N>, node: Name) -> Answer
-        requires { MayCall N.plan caller.old acts.Stop }
-        ensures { Called N.plan node caller.old caller.new result }
+        requires { length caller.old.calls < most_word }
+        ensures { Called N.plan node acts.Stop caller.old caller.new result }
     {
         self.make(rt, caller, node, &Act::Stop)
     }
@@ -291,6 +295,8 @@ impl<'g, N: Racing, G: Gate> Kernels<'g, N, G> {
         ensures chooser { hand.new.chooser ≡ hand.old.chooser }
         ensures ok { IfOk result (λ info. info
             ≡ info_of (node_by N.plan hand.new.share.seen (place_of node))) }
+        ensures spent { IfErr result (λ refusal. refusal ≡ refusals.Spent
+            → length hand.new.share.seen ≡ most_events) }
     {
         for _ in rt.forever() {
             let mut guard = self.boxes[usize::from(node.place())].lock(rt);
@@ -301,8 +307,9 @@ impl<'g, N: Racing, G: Gate> Kernels<'g, N, G> {
         unreachable!()
     }
 
-    /// What a node knows of itself and of its group, by what the caller has then seen. It makes no record, and is no call that
-    /// counts. It is an error where the node's box was closed by one.
+    /// What a node knows of itself and of its group, by what the caller has then seen; a node that stopped, what it knew then. It
+    /// makes no record, and is no call that counts. It is an error where a record of the node was refused before: Spent, where the
+    /// journal had 100,000 records, or NoMemory.
     pub fn info<R: Wait>(
         &self,
         rt: &R,
@@ -314,15 +321,17 @@ impl<'g, N: Racing, G: Gate> Kernels<'g, N, G> {
         ensures goes { GoesOn (CallerKey caller.old.number ∷ []) caller.old.seen caller.new.seen }
         ensures ok { IfOk result (λ info. info
             ≡ info_of (node_by N.plan caller.new.seen (place_of node))) }
+        ensures spent { IfErr result (λ refusal. refusal ≡ refusals.Spent
+            → length caller.new.seen ≡ most_events) }
     {
         self.info_at(rt, &mut caller.hand, node)
     }
 
-    /// Ends a race, to which all its callers are handed in: the journal that they leave.
+    /// Ends a race, to which all its callers are handed in: the journal that they leave is legal with the calls that they made.
     pub fn finish<R: Wait>(self, rt: &R, callers: Vec<Caller<N>>) -> Journal
         requires callers { numbers_of callers.items ≡ range_with_len 0 (length N.plan.threads) }
         ensures founding { result.founding ≡ N.plan.founding }
-        ensures legal { IsLegalWithTags N.plan (calls_of N.plan) result.records }
+        ensures legal { IsLegalWithTags N.plan (calls_by callers.items) result.records }
         ensures ends { All (EndsFor result.records) callers.items }
         ensures callers { All (λ r. r.by.caller < length N.plan.threads) result.records }
     {

@@ -197,6 +197,8 @@ impl<N: Racing> NodeBox<N> {
         ensures ok { IfOk result (λ info. info
             ≡ info_of (node_by N.plan self.new.seen self.new.name)) }
         ensures err { IfErr result (λ refusal. self.new.closed ≡ Some refusal) }
+        ensures spent { IfErr result (λ refusal. refusal ≡ refusals.Spent
+            → length self.new.seen ≡ most_events) }
     {
         wire.meet(&mut self.pass, &mut hand.share);
         if let Some(refusal) = self.closed {

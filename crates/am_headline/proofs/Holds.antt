@@ -92,7 +92,7 @@ number_below rules w s d f became v r i number e old few y grows small low =
 
 -- ---- earlier moments
 
-prefix_whole : (rules : Rules) (events : List Event) (k : ℕ) → broken_at rules events ≡ None → broken_at rules (take k events) ≡ None
+pub prefix_whole : (rules : Rules) (events : List Event) (k : ℕ) → broken_at rules events ≡ None → broken_at rules (take k events) ≡ None
 prefix_whole rules events k whole = before_whole rules (take k events) (drop k events) (ap (broken_at rules) (take-append-drop k events) ∙ whole)
 
 group_grows : (rules : Rules) (events : List Event) (k : ℕ) → Begins (run rules (take k events)).group (run rules events).group

@@ -17,7 +17,6 @@ use Rattle.am_races.specs.Callers.{is_callers, are_calls, is_receive}
 use Rattle.am_races.specs.Callings.{IsHand, HasMade, luck_after}
 use Rattle.am_races.specs.Lawful.{IsLawful, terms_of}
 use Rattle.am_races.specs.Legal.{IsLegalWithTags}
-use Rattle.am_races.specs.Plans.{calls_of}
 use Rattle.am_races.proofs.Legality.{each_is_next}
 
 -- ---- callers that have made no call
@@ -44,17 +43,17 @@ fresh_luck plan number stream luck same is = is ∙ ap (λ (n : ℕ). luck_after
 
 pub fresh_hand : (wire : TableId) (plan plan' : RacePlan) (number : ℕ) (share its : Known) (luck : Luck) → plan' ≡ plan → its ≡ share
     → share ≡ fresh wire (terms_of plan) (Caller number)
-    → luck ≡ luck_after plan' number 0 → IsHand wire plan number its luck × HasMade plan number 0 its.seen
+    → luck ≡ luck_after plan' number 0 → IsHand wire plan number its luck × HasMade plan number [] its.seen
 fresh_hand wire plan plan' number share its luck same is new its_luck =
     let all : its ≡ fresh wire (terms_of plan) (Caller number) = is ∙ new in
-    subst (λ (k : Known). IsHand wire plan number k luck × HasMade plan number 0 k.seen) (sym all) (
+    subst (λ (k : Known). IsHand wire plan number k luck × HasMade plan number [] k.seen) (sym all) (
       record {
         own = refl;
         terms = refl;
         keys = refl;
         luck_ = its_luck ∙ ap (λ (p : RacePlan). luck_after p number 0) same;
       },
-      record { planned = none_called plan.turns 0 (calls_of plan number); earlier = λ k d h. absurd (omega arith) },
+      record { made = none_called plan.turns 0 []; earlier = λ k d h. absurd (omega arith) },
     )
 
 -- ---- the journal is legal with its tags
@@ -71,19 +70,18 @@ below_or a zero = inr (omega arith)
 below_or zero (suc n) = inl (omega arith)
 below_or (suc a) (suc n) = ⊎_elim (λ (h : a < n). inl (omega arith)) (λ (h : n ≤ a). inr (omega arith)) (below_or a n)
 
-pub legal_with_tags : (plan : RacePlan) (journal : List Record) → Follows (IsLawful (terms_of plan)) journal
+pub legal_with_tags : (plan : RacePlan) (calls : ℕ → List Act) (journal : List Record) → Follows (IsLawful (terms_of plan)) journal
     → All (λ r. r.by.caller < length plan.threads) journal
-    → ((caller : ℕ) → caller < length plan.threads → is_callers plan.turns (calls_of plan caller) (of_caller caller journal) ≡ true)
-    → IsLegalWithTags plan (calls_of plan) journal
+    → ((caller : ℕ) → caller < length plan.threads → is_callers plan.turns (calls caller) (of_caller caller journal) ≡ true)
+    → IsLegalWithTags plan calls journal
 unfolding is_turn
-legal_with_tags plan journal follows all each = record {
+legal_with_tags plan calls journal follows all each = record {
   legal = (each_is_next plan.founding journal).1 (λ before rest r e. (follows before rest r e).next);
   callers = λ caller. ⊎_elim (each caller) (beyond caller) (below_or caller (length plan.threads));
   turns = λ before rest r e is. (follows before rest r e).turn is;
   stops = λ before rest r e. (follows before rest r e).stop;
 }
   where
-    beyond : (caller : ℕ) → length plan.threads ≤ caller → is_callers plan.turns (calls_of plan caller) (of_caller caller journal) ≡ true
+    beyond : (caller : ℕ) → length plan.threads ≤ caller → is_callers plan.turns (calls caller) (of_caller caller journal) ≡ true
     beyond caller le =
-        ap (is_callers plan.turns (calls_of plan caller)) (of_none caller (length plan.threads) journal le all)
-        ∙ none_called plan.turns 0 (calls_of plan caller)
+        ap (is_callers plan.turns (calls caller)) (of_none caller (length plan.threads) journal le all) ∙ none_called plan.turns 0 (calls caller)

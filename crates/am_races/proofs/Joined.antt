@@ -1,11 +1,12 @@
 -- The passes of places and callers, joined to one with all keys.
 use Rattle.std.proofs.Common.{◌≡◌, ℕ, zero, suc, ◌+◌, ◌<◌, ◌≤◌, List, [], ◌∷◌, ◌++◌, length, get_or, Bool, true, false, true≢false, cond, sym}
-use Rattle.std.proofs.Common.{refl, ap, ◌∙◌, subst, arith, inl, inr, ⊎_elim}
+use Rattle.std.proofs.Common.{refl, ap, ◌∙◌, subst, arith, inl, inr, ⊎_elim, Option, Some, None, slice_get}
 use Rattle.std.specs.Prelude.{All, ◌⊎◌}
 use Rattle.std.specs.List.{range_with_len}
 use Rattle.std.proofs.lemmas.Bool.{eqb-true, ltb-true}
 use Rattle.std.proofs.lemmas.List.{get_or-map, length-map}
 use Rattle.std.proofs.lemmas.List.FromFn.{get_or-range_with_len, length-range_with_len}
+use Rattle.std.proofs.lemmas.Option.{slice_get_cases}
 use Rattle.am_group.specs.declared.event.Record.{Record}
 use Rattle.am_group.specs.declared.plan.RacePlan.{RacePlan}
 use Rattle.am_wire.specs.declared.rule.Key.{Key}
@@ -17,8 +18,7 @@ use Rattle.am_wire.proofs.Views.{times_append, times_cons, goes_through}
 use Rattle.am_races.specs.Tags.{of_caller}
 use Rattle.am_races.specs.Callers.{is_callers}
 use Rattle.am_races.specs.Callings.{Calling, HasMade}
-use Rattle.am_races.specs.Plans.{calls_of}
-use Rattle.am_races.specs.Ran.{HasPlaces, IsIn, EndsFor, numbers_of}
+use Rattle.am_races.specs.Ran.{HasPlaces, IsIn, EndsFor, numbers_of, calls_made, calls_by}
 use Rattle.am_races.proofs.Boxing.{own_key}
 
 -- ---- one key
@@ -104,35 +104,41 @@ pub ends_for : (plan : RacePlan) (p : Known) (c : Calling) → IsIn plan p c →
 ends_for plan p c is = record { begins = is.goes.begins; own = is.goes.own (Caller c.number) (own_key (Caller c.number)) }
 
 abbrev pub nobody : Calling
-nobody = record { number = 0; calls = 0; seen = [] }
+nobody = record { number = 0; calls = []; seen = [] }
 
 none_more : (i : ℕ) → 0 + i ≡ i
 none_more i = omega arith
 
--- the records of a caller are those of its planned calls
-planned_by : (plan : RacePlan) (p : Known) (c : Calling) → IsIn plan p c → is_callers plan.turns (calls_of plan c.number) (of_caller c.number p.seen) ≡ true
-planned_by plan p c is = ap (is_callers plan.turns (calls_of plan c.number)) (is.goes.own (Caller c.number) (own_key (Caller c.number))) ∙ is.made.planned
+-- the records of a caller are those of its calls
+called_by : (plan : RacePlan) (p : Known) (c : Calling) → IsIn plan p c → is_callers plan.turns c.calls (of_caller c.number p.seen) ≡ true
+called_by plan p c is = ap (is_callers plan.turns c.calls) (is.goes.own (Caller c.number) (own_key (Caller c.number))) ∙ is.made.made
 
 -- the caller of each number is there
-pub caller_at : (count caller : ℕ) (callers : List Calling) → numbers_of callers ≡ range_with_len 0 count → caller < count
-    → (caller < length callers) × ((get_or callers caller nobody).number ≡ caller)
-caller_at count caller callers is below =
+pub caller_at : (count caller : ℕ) (callers : List Calling) (d : Calling) → numbers_of callers ≡ range_with_len 0 count → caller < count
+    → (caller < length callers) × ((get_or callers caller d).number ≡ caller)
+caller_at count caller callers d is below =
     let many : length (numbers_of callers) ≡ length (range_with_len 0 count) = ap length is in
     let a = length-map callers (λ (c : Calling). c.number) in
     let b = length-range_with_len 0 count in
     let there : caller < length callers = omega arith in (
       there,
-      sym (get_or-map (λ (c : Calling). c.number) callers caller nobody 0 there) ∙ ap (λ (l : List ℕ). get_or l caller 0) is
+      sym (get_or-map (λ (c : Calling). c.number) callers caller d 0 there) ∙ ap (λ (l : List ℕ). get_or l caller 0) is
           ∙ get_or-range_with_len 0 count caller 0 below ∙ none_more caller,
     )
 
-pub planned_in : (plan : RacePlan) (p : Known) (callers : List Calling) → All (IsIn plan p) callers
+pub called_in : (plan : RacePlan) (p : Known) (callers : List Calling) → All (IsIn plan p) callers
     → numbers_of callers ≡ range_with_len 0 (length plan.threads)
-    → (caller : ℕ) → caller < length plan.threads → is_callers plan.turns (calls_of plan caller) (of_caller caller p.seen) ≡ true
-planned_in plan p callers all is caller below =
-    let there = caller_at (length plan.threads) caller callers is below in
-    subst (λ (n : ℕ). is_callers plan.turns (calls_of plan n) (of_caller n p.seen)
-    ≡ true) there.1 (planned_by plan p (get_or callers caller nobody) (all caller nobody there.0))
+    → (caller : ℕ) → caller < length plan.threads → is_callers plan.turns (calls_by callers caller) (of_caller caller p.seen) ≡ true
+called_in plan p callers all is caller below =
+    ⊎_elim
+    (λ (k : (x : Calling) × (caller < length callers) × (slice_get callers caller ≡ Some x) × (get_or callers caller x ≡ x)).
+    let its : k.0.number ≡ caller = ap (λ (c : Calling). c.number) (sym k.3) ∙ (caller_at (length plan.threads) caller callers k.0 is below).1 in
+    ap (λ (o : Option Calling). is_callers plan.turns (calls_made o) (of_caller caller p.seen)) k.2
+    ∙ ap (λ (n : ℕ). is_callers plan.turns k.0.calls (of_caller n p.seen)) (sym its)
+    ∙ called_by plan p k.0 (subst (IsIn plan p) k.3 (all caller k.0 k.1)))
+    (λ (past : (length callers ≤ caller) × (slice_get callers caller ≡ None)).
+    let there = (caller_at (length plan.threads) caller callers nobody is below).0 in absurd (let a = past.0 in omega arith))
+    (slice_get_cases callers caller).1
 
 pub all_end : (plan : RacePlan) (p : Known) (callers : List Calling) → All (IsIn plan p) callers → All (EndsFor p.seen) callers
 all_end plan p callers all = λ k d h. ends_for plan p (get_or callers k d) (all k d h)
@@ -141,5 +147,5 @@ pub has_all : (plan : RacePlan) (count : ℕ) (p : Known) (callers : List Callin
     → numbers_of callers ≡ range_with_len 0 count → HasAll count p.keys
 has_all plan count p callers places all is (Place place) low = places place (ltb-true place 16 low)
 has_all plan count p callers places all is (Caller caller) low =
-    let c = caller_at count caller callers is (ltb-true caller count low) in
+    let c = caller_at count caller callers nobody is (ltb-true caller count low) in
     subst (λ (n : ℕ). 0 < times (Caller n) p.keys) c.1 (all caller nobody c.0).key

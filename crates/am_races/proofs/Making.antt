@@ -26,14 +26,14 @@ use Rattle.am_races.specs.Tags.{of_caller, of_call, own_of, is_turn_part}
 use Rattle.am_races.specs.Answers.{own_answer, or_else, late_after, late, is_take, answer_of}
 use Rattle.am_races.specs.Boxes.{IsRefused}
 use Rattle.am_races.specs.Callers.{same_act, is_one_call, is_receive, at_one_place, first_call, behind, are_calls, is_callers}
-use Rattle.am_races.specs.Callings.{Calling, IsAnswer, HasMade, Called}
-use Rattle.am_races.specs.Plans.{calls_of, is_call, has_check}
+use Rattle.am_races.specs.Callings.{Calling, IsUnanswered, IsAnswer, HasMade, Called}
+use Rattle.am_races.specs.Plans.{is_call, has_check}
 use Rattle.am_races.specs.Going.{told_at_end, request_in_call, IsCame, HasBegun, Began, Turned, Ended}
 use Rattle.am_races.specs.Going.{WasRefused, Grows, Made}
 use Rattle.am_races.proofs.Boxing.{own_key}
 use Rattle.am_races.proofs.Finishing.{none_called}
 use Rattle.am_races.proofs.Growing.{both, all_more, just_one, none_of_call, call_grows, not_grown, one_grown, grows_through}
-use Rattle.am_races.proofs.Shapes.{AreTurns, IsEnd, ended_answer, same_call, turns_planned, end_planned, end_answers, own_answers, late_more}
+use Rattle.am_races.proofs.Shapes.{AreTurns, IsEnd, ended_answer, same_call, turns_planned, end_planned, end_answers, own_answers, late_more, unanswered}
 use Rattle.am_races.proofs.Shapes.{other_alone, other_call, is_plain, all_plain, plain_own, plain_at_end, plain_lates, own_first, no_own, head_turn}
 use Rattle.am_races.proofs.Shapes.{tail_turns}
 
@@ -46,11 +46,12 @@ answer_is turns mine seen node answer.Spent plain is = absurd (true≢false (sym
 answer_is turns mine seen node answer.NoMemory plain is = absurd (true≢false (sym plain))
 answer_is turns mine seen node _ plain is = is
 
-refused_is : (turns : ℕ) (mine seen : List Record) (node : ℕ) (its : Answer) → IsRefused seen (place_of node) its → IsAnswer turns mine seen node its
-refused_is turns mine seen node answer.Stopped is = is
-refused_is turns mine seen node answer.Spent is = is
-refused_is turns mine seen node answer.NoMemory is = is
-refused_is turns mine seen node _ is = absurd is
+refused_is : (turns : ℕ) (mine seen : List Record) (node : ℕ) (its : Answer) → IsUnanswered turns mine → IsRefused seen (place_of node) its
+    → IsAnswer turns mine seen node its
+refused_is turns mine seen node answer.Stopped none is = (is, none)
+refused_is turns mine seen node answer.Spent none is = (is, none)
+refused_is turns mine seen node answer.NoMemory none is = none
+refused_is turns mine seen node _ none is = absurd is
 
 not_spent : (its : Answer) → is_plain its ≡ true → its ≡ answer.Spent → ⊥
 not_spent its plain e = true≢false (sym plain ∙ ap is_plain e)
@@ -129,7 +130,7 @@ refused_call plan node tag a came request old middle new spent late its begun so
       planned = turns_planned plan.turns a came first so.mine begun so.turns (omega arith);
       most = omega arith;
       spent = λ e. omega arith;
-      answer_ = refused_is plan.turns (first ++ so.mine) new node its was.1;
+      answer_ = refused_is plan.turns (first ++ so.mine) new node its (unanswered plan.turns a came first so.mine begun so.turns) was.1;
     }
 
 told_or_late : (turns spent : ℕ) (o : Option Answer) (its : Answer) → (o ≡ None → turns ≤ spent)
@@ -184,6 +185,10 @@ none_planned turns a = either_way (is_take a)
     either_way true = refl
     either_way false = refl
 
+nothing_answers : (turns : ℕ) → IsUnanswered turns []
+unfolding answer_of
+nothing_answers turns = record { none = refl; unended = refl }
+
 -- its own act was refused
 pub refused_first : (plan : RacePlan) (node : ℕ) (tag : Tag) (a : Act) (old new : List Record) (its : Answer)
     → WasRefused (place_of node) tag.caller old new its → Made plan node tag a [] old new its
@@ -193,7 +198,7 @@ refused_first plan node tag a old new its was = record {
   planned = none_planned plan.turns a;
   most = omega arith;
   spent = λ e. omega arith;
-  answer_ = refused_is plan.turns [] new node its was.1;
+  answer_ = refused_is plan.turns [] new node its (nothing_answers plan.turns) was.1;
 }
 
 -- nothing of it was done
@@ -437,48 +442,69 @@ all_low call (r ∷ rs) own zero d h =
     let e : r.by.call ≡ call = eqb-true r.by.call call (and_parts (r.by.call == call) (list_all (λ q. q.by.call == call) rs) own).0 in omega arith
 all_low call (r ∷ rs) own (suc k) d h = all_low call rs (and_parts (r.by.call == call) (list_all (λ q. q.by.call == call) rs) own).1 k d (omega arith)
 
+-- further calls may be made behind these records
+pub calls_longer : (turns n : ℕ) (calls more : List Act) (records : List Record) → are_calls turns n calls records ≡ true
+    → are_calls turns n (calls ++ more) records ≡ true
+unfolding are_calls
+calls_longer turns n [] more [] is = none_called turns n more
+calls_longer turns n [] more (r ∷ rs) is = absurd (true≢false (sym is))
+calls_longer turns n (a ∷ calls) more records is =
+    let first : Bool = is_one_call turns a (first_call n records) in
+    let at : Bool = at_one_place (first_call n records) in
+    let p = and_parts first (at && are_calls turns (n + 1) calls (behind n records)) is in
+    let q = and_parts at (are_calls turns (n + 1) calls (behind n records)) p.1 in
+    both first (at && are_calls turns (n + 1) (calls ++ more) (behind n records)) p.0
+    (both at (are_calls turns (n + 1) (calls ++ more) (behind n records)) q.0 (calls_longer turns (n + 1) calls more (behind n records) q.1))
+
+last_there : (calls : List Act) (a : Act) → slice_get (calls ++ a ∷ []) (length calls) ≡ Some a
+last_there [] a = refl
+last_there (b ∷ calls) a = last_there calls a
+
 -- one call more was made
-pub has_made_more : (plan : RacePlan) (node number calls : ℕ) (a : Act) (old new : List Record) (its : Answer) → HasMade plan number calls old
-    → slice_get (calls_of plan number) calls ≡ Some a
-    → Made plan node (record { caller = number; call = calls }) a [] old new its → HasMade plan number (calls + 1) new
+pub has_made_more : (plan : RacePlan) (node number : ℕ) (calls : List Act) (a : Act) (old new : List Record) (its : Answer) → HasMade plan number calls old
+    → Made plan node (record { caller = number; call = length calls }) a [] old new its → HasMade plan number (calls ++ a ∷ []) new
 unfolding AreOf
-has_made_more plan node number calls a old new its has there made = record {
-  planned = ap (is_callers plan.turns (calls_of plan number)) made.grows.all
-      ∙ calls_more plan.turns 0 calls (calls_of plan number) a (of_caller number old) made.mine (omega arith) (ap (slice_get (calls_of plan number)) from_none
-      ∙ there)
-      has.planned has.earlier made.grows.call made.planned (one_place (place_of node) made.mine made.grows.place_);
-  earlier = subst (All (λ r. r.by.call < calls + 1)) (sym made.grows.all)
-      (All-append (λ (r : Record). r.by.call < calls + 1) (of_caller number old) made.mine (λ k d h. let l = has.earlier k d h in
-      omega arith) (all_low calls made.mine made.grows.call));
+has_made_more plan node number calls a old new its has made = record {
+  made = ap (is_callers plan.turns (calls ++ a ∷ [])) made.grows.all
+      ∙ calls_more plan.turns 0 (length calls) (calls ++ a ∷ []) a (of_caller number old) made.mine (omega arith)
+      (ap (slice_get (calls ++ a ∷ [])) from_none ∙ last_there calls a)
+      (calls_longer plan.turns 0 calls (a ∷ []) (of_caller number old) has.made) has.earlier made.grows.call made.planned
+      (one_place (place_of node) made.mine made.grows.place_);
+  earlier = subst (λ (n : ℕ). All (λ r. r.by.call < n) (of_caller number new)) (sym (length-append calls (a ∷ [])))
+      (subst (All (λ r. r.by.call < length calls + 1)) (sym made.grows.all)
+      (All-append (λ (r : Record). r.by.call < length calls + 1) (of_caller number old) made.mine (λ k d h. let l = has.earlier k d h in
+      omega arith) (all_low (length calls) made.mine made.grows.call)));
 }
   where
-    from_none : calls - 0 ≡ calls
+    from_none : length calls - 0 ≡ length calls
     from_none = omega arith
 
 -- behind records of others
-pub has_made_still : (plan : RacePlan) (number calls : ℕ) (old new : List Record) → HasMade plan number calls old → GoesOn (Caller number ∷ []) old new
+pub has_made_still : (plan : RacePlan) (number : ℕ) (calls : List Act) (old new : List Record) → HasMade plan number calls old → GoesOn (Caller number ∷ []) old new
     → HasMade plan number calls new
 has_made_still plan number calls old new has goes =
     let same : of_caller number new ≡ of_caller number old = goes.own (Caller number) (own_key (Caller number)) in record {
-      planned = ap (is_callers plan.turns (calls_of plan number)) same ∙ has.planned;
-      earlier = subst (All (λ r. r.by.call < calls)) (sym same) has.earlier;
+      made = ap (is_callers plan.turns calls) same ∙ has.made;
+      earlier = subst (All (λ r. r.by.call < length calls)) (sym same) has.earlier;
     }
 
-pub fresh_call : (plan : RacePlan) (number calls : ℕ) (seen : List Record) → HasMade plan number calls seen → of_call number calls seen ≡ []
-fresh_call plan number calls seen has = none_of_call number calls seen has.earlier
+pub fresh_call : (plan : RacePlan) (number : ℕ) (calls : List Act) (seen : List Record) → HasMade plan number calls seen
+    → of_call number (length calls) seen ≡ []
+fresh_call plan number calls seen has = none_of_call number (length calls) seen has.earlier
 
-pub was_called : (plan : RacePlan) (node number calls : ℕ) (a : Act) (old new : List Record) (its : Answer) → HasMade plan number calls old
-    → Made plan node (record { caller = number; call = calls }) a [] old new its
-    → Called plan node (record { number = number; calls = calls; seen = old }) (record { number = number; calls = calls + 1; seen = new }) its
+pub was_called : (plan : RacePlan) (node number : ℕ) (calls : List Act) (a : Act) (old new : List Record) (its : Answer) → HasMade plan number calls old
+    → Made plan node (record { caller = number; call = length calls }) a [] old new its
+    → Called plan node a (record { number = number; calls = calls; seen = old }) (record { number = number; calls = calls ++ a ∷ []; seen = new }) its
 was_called plan node number calls a old new its has made =
-    let mine : of_call number calls new ≡ made.mine =
-    call_grows (place_of node) (record { caller = number; call = calls }) old new made.mine made.grows
+    let mine : of_call number (length calls) new ≡ made.mine =
+    call_grows (place_of node) (record { caller = number; call = length calls }) old new made.mine made.grows
     ∙ ap (λ (l : List Record). l ++ made.mine) (fresh_call plan number calls old has)
     in record {
       number = refl;
       calls = refl;
       begins = made.grows.begins;
       others = made.grows.all ∙ ap (λ (l : List Record). of_caller number old ++ l) (sym mine);
+      its_records = ap (is_one_call plan.turns a) mine ∙ made.planned;
       place = ap (list_all (λ r. place_of r.event.node == place_of node)) mine ∙ made.grows.place_;
       most = subst (λ (l : List Record). length l ≤ plan.turns + 2) (sym mine) made.most;
       spent = λ e. subst (λ (l : List Record). length l ≤ plan.turns + 1) (sym mine) (made.spent e);
@@ -487,10 +513,11 @@ was_called plan node number calls a old new its has made =
 
 -- ---- a call of a caller
 
-module _ (plan : RacePlan) (number calls : ℕ) (old : List Record) (c : Calling) (tag : Tag) (view : record { number = number; calls = calls; seen = old } ≡ c)
-    (is : tag ≡ record { caller = c.number; call = c.calls }) (has : HasMade plan number calls old) where
-  its_tag : tag ≡ record { caller = number; call = calls }
-  its_tag = let t : Calling → Tag = λ x. record { caller = x.number; call = x.calls } in is ∙ ap t (sym view)
+module _ (plan : RacePlan) (number : ℕ) (calls : List Act) (old : List Record) (c : Calling) (tag : Tag)
+    (view : record { number = number; calls = calls; seen = old } ≡ c) (is : tag ≡ record { caller = c.number; call = length c.calls })
+    (has : HasMade plan number calls old) where
+  its_tag : tag ≡ record { caller = number; call = length calls }
+  its_tag = let t : Calling → Tag = λ x. record { caller = x.number; call = length x.calls } in is ∙ ap t (sym view)
 
   pub make_fresh : of_call tag.caller tag.call old ≡ []
   make_fresh = subst (λ (t : Tag). of_call t.caller t.call old ≡ []) (sym its_tag) (fresh_call plan number calls old has)
@@ -498,14 +525,12 @@ module _ (plan : RacePlan) (number calls : ℕ) (old : List Record) (c : Calling
   pub make_caller : tag.caller ≡ number
   make_caller = ap (λ (t : Tag). t.caller) its_tag
 
-  pub make_has : (node : ℕ) (a : Act) (new : List Record) (its : Answer) → slice_get (calls_of plan c.number) c.calls ≡ Some a
-      → Made plan node tag a [] old new its → HasMade plan number (calls + 1) new
-  make_has node a new its planned made =
-      has_made_more plan node number calls a old new its has (subst (λ (x : Calling). slice_get (calls_of plan x.number) x.calls ≡ Some a) (sym view) planned)
-      (subst (λ (t : Tag). Made plan node t a [] old new its) its_tag made)
+  pub make_has : (node : ℕ) (a : Act) (new : List Record) (its : Answer) → Made plan node tag a [] old new its → HasMade plan number (calls ++ a ∷ []) new
+  make_has node a new its made =
+      has_made_more plan node number calls a old new its has (subst (λ (t : Tag). Made plan node t a [] old new its) its_tag made)
 
   pub make_called : (node : ℕ) (a : Act) (new : List Record) (its : Answer) → Made plan node tag a [] old new its
-      → Called plan node c (record { number = number; calls = calls + 1; seen = new }) its
+      → Called plan node a c (record { number = number; calls = calls ++ a ∷ []; seen = new }) its
   make_called node a new its made =
-      subst (λ (x : Calling). Called plan node x (record { number = number; calls = calls + 1; seen = new }) its) view
+      subst (λ (x : Calling). Called plan node a x (record { number = number; calls = calls ++ a ∷ []; seen = new }) its) view
       (was_called plan node number calls a old new its has (subst (λ (t : Tag). Made plan node t a [] old new its) its_tag made))

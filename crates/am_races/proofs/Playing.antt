@@ -1,8 +1,8 @@
 -- A thread's calls, one after the other, are finished as far as they go on.
 use Rattle.std.proofs.Common.{◌≡◌, ℕ, zero, suc, ◌+◌, ◌*◌, ◌<◌, ◌≤◌, List, [], ◌∷◌, ◌++◌, length, take, drop, get_or, Bool, true, false, true≢false}
 use Rattle.std.proofs.Common.{cond, Option, Some, None, sym, refl, ap, ◌∙◌, subst, arith, append_assoc, append-nil, length-append, ne_eqb, slice_get}
-use Rattle.std.specs.Prelude.{All, if◌then◌else◌, ◌&&◌, ◌==◌}
-use Rattle.std.specs.List.{list_all, prefix_len}
+use Rattle.std.specs.Prelude.{All, if◌then◌else◌, not, ◌&&◌, ◌==◌}
+use Rattle.std.specs.List.{list_all, list_any, prefix_len}
 use Rattle.std.proofs.Math.Seq.{take-append_seam, drop-append_seam}
 use Rattle.std.proofs.lemmas.Bool.{and_parts, eqb-true}
 use Rattle.std.proofs.Math.Nat.{add-mul}
@@ -22,11 +22,12 @@ use Rattle.am_wire.specs.Stops.{has_stopped}
 use Rattle.am_races.specs.declared.answer.Answer.{Answer}
 use Rattle.am_races.specs.declared.answer.Answer.TheVariants as answer
 use Rattle.am_races.specs.Tags.{of_caller, of_call}
-use Rattle.am_races.specs.Answers.{answer_of}
+use Rattle.am_races.specs.Answers.{answer_of, is_end}
 use Rattle.am_races.specs.Callers.{is_empty, is_last, first_call, behind, goes_on, are_finished}
-use Rattle.am_races.specs.Callings.{Calling, Called, IsAnswer}
+use Rattle.am_races.specs.Callings.{Calling, Called, IsUnanswered, IsAnswer, of_next}
 use Rattle.am_races.specs.Plans.{calls_in}
 use Rattle.am_races.specs.Ran.{HasPlayed, HasRun, most_of, refusal_in, ends_thread, fresh_caller}
+use Rattle.am_races.proofs.Running.{next_call, calls_so_far}
 
 -- ---- the records of one call
 
@@ -67,19 +68,14 @@ behind_is call mine more own later = ap (λ (l : List Record). drop (length l) (
 -- whether its records and those behind are of finished calls
 one_more : (turns call : ℕ) (stopped : Bool) (a : Act) (calls : List Act) (mine more : List Record) → IsOf call mine → All (λ r. call + 1 ≤ r.by.call) more
     → are_finished turns stopped call (a ∷ calls) (mine ++ more)
-    ≡ goes_on stopped (answer_of turns mine) (are_finished turns stopped (call + 1) calls more) more
+    ≡ goes_on stopped (list_any is_end mine) (answer_of turns mine) (are_finished turns stopped (call + 1) calls more) more
 unfolding are_finished
 one_more turns call stopped a calls mine more own later =
-    ap (λ (l : List Record). goes_on stopped (answer_of turns l) (are_finished turns stopped (call + 1) calls (behind call (mine ++ more)))
+    ap (λ (l : List Record). goes_on stopped (list_any is_end l) (answer_of turns l) (are_finished turns stopped (call + 1) calls (behind call (mine ++ more)))
     (behind call (mine ++ more)))
     (first_is call mine more own later)
-    ∙ ap (λ (l : List Record). goes_on stopped (answer_of turns mine) (are_finished turns stopped (call + 1) calls l) l) (behind_is call mine more own later)
-
--- where a thread may end, nothing comes behind
-none_finished : (turns call : ℕ) (calls : List Act) → are_finished turns true call calls [] ≡ true
-unfolding are_finished answer_of
-none_finished turns call [] = refl
-none_finished turns call (a ∷ calls) = refl
+    ∙ ap (λ (l : List Record). goes_on stopped (list_any is_end mine) (answer_of turns mine) (are_finished turns stopped (call + 1) calls l) l)
+    (behind_is call mine more own later)
 
 -- ---- answers
 
@@ -113,7 +109,8 @@ going_on turns mine seen node answer.NoMemory is goes = absurd (true≢false goe
 -- so many calls of a thread were made at its node, and each goes on
 pub record Plays (plan : RacePlan) (thread : ThreadPlan) (number i : ℕ) (c : Calling) : Type 0 where
   pub number_ : c.number ≡ number
-  pub calls : c.calls ≡ i
+  pub count : length c.calls ≡ i
+  pub planned : c.calls ≡ take i thread.calls
   pub most : length (of_caller number c.seen) ≤ i * (plan.turns + 2)
   pub place : list_all (λ r. place_of r.event.node == place_of thread.node) (of_caller number c.seen) ≡ true
   pub goes : (stopped : Bool) (more : List Record) → All (λ r. i ≤ r.by.call) more → are_finished plan.turns stopped i (drop i thread.calls) more ≡ true
@@ -122,7 +119,7 @@ pub record Plays (plan : RacePlan) (thread : ThreadPlan) (number i : ℕ) (c : C
 pub none_played : (plan : RacePlan) (thread : ThreadPlan) (c : Calling) → c ≡ fresh_caller c.number → Plays plan thread c.number 0 c
 none_played plan thread c fresh =
     subst (λ (k : Calling). Plays plan thread c.number 0 k) (sym fresh)
-    (record { number_ = refl; calls = refl; most = omega arith; place = refl; goes = λ stopped more all h. h })
+    (record { number_ = refl; count = refl; planned = refl; most = omega arith; place = refl; goes = λ stopped more all h. h })
 
 pub two_hold : (a b : Bool) → a ≡ true → b ≡ true → (a && b) ≡ true
 two_hold true b p q = q
@@ -135,7 +132,8 @@ room_for i each old mine whole before this is = omega (arith, add-mul i 1 each)
 record Grows (plan : RacePlan) (thread : ThreadPlan) (number i : ℕ) (old new : Calling) (mine : List Record) : Type 0 where
   own : IsOf i mine
   number_ : new.number ≡ number
-  calls : new.calls ≡ i + 1
+  count : length new.calls ≡ i + 1
+  planned : new.calls ≡ take (i + 1) thread.calls
   all : of_caller number new.seen ≡ of_caller number old.seen ++ mine
   few : length mine ≤ plan.turns + 2
   place : list_all (λ r. place_of r.event.node == place_of thread.node) (of_caller number new.seen) ≡ true
@@ -150,17 +148,18 @@ low_call i mine own = λ k d h. by_eq (get_or mine k d).by.call (own k d h)
     by_eq : (call : ℕ) → (call == i) ≡ true → i ≤ call
     by_eq call e = let s : call ≡ i = eqb-true call i e in omega arith
 
-grows : (plan : RacePlan) (thread : ThreadPlan) (number i : ℕ) (old new : Calling) (its : Answer) → Plays plan thread number i old
-    → Called plan thread.node old new its
-    → Grows plan thread number i old new (of_call old.number old.calls new.seen)
-grows plan thread number i old new its plays called =
-    let mine : List Record = of_call old.number old.calls new.seen in
-    let own : IsOf i mine = subst (λ (n : ℕ). IsOf n mine) plays.calls (its_call old.number old.calls new.seen) in
+grows : (plan : RacePlan) (thread : ThreadPlan) (number i : ℕ) (a : Act) (old new : Calling) (its : Answer) → Plays plan thread number i old
+    → Called plan thread.node a old new its → i < length thread.calls → a ≡ get_or thread.calls i a
+    → Grows plan thread number i old new (of_next old new.seen)
+grows plan thread number i a old new its plays called below there =
+    let mine : List Record = of_next old new.seen in
+    let own : IsOf i mine = subst (λ (n : ℕ). IsOf n mine) plays.count (its_call old.number (length old.calls) new.seen) in
     let all : of_caller number new.seen ≡ of_caller number old.seen ++ mine =
     subst (λ (n : ℕ). of_caller n new.seen ≡ of_caller n old.seen ++ mine) plays.number_ called.others in record {
       own = own;
       number_ = called.number ∙ plays.number_;
-      calls = called.calls ∙ ap (λ (n : ℕ). n + 1) plays.calls;
+      count = ap length called.calls ∙ length-append old.calls (a ∷ []) ∙ ap (λ (n : ℕ). n + 1) plays.count;
+      planned = called.calls ∙ ap (λ (l : List Act). l ++ a ∷ []) plays.planned ∙ calls_so_far thread.calls i a below there;
       all = all;
       few = called.most;
       place = ap (list_all (λ (r : Record). place_of r.event.node == place_of thread.node)) all
@@ -176,21 +175,24 @@ grows plan thread number i old new its plays called =
 
 -- a call more that goes on
 pub plays_on : (plan : RacePlan) (thread : ThreadPlan) (number i : ℕ) (a : Act) (old new : Calling) (its : Answer) → Plays plan thread number i old
-    → Called plan thread.node old new its → ends_thread its ≡ false → drop i thread.calls ≡ a ∷ drop (i + 1) thread.calls → Plays plan thread number (i + 1) new
+    → Called plan thread.node a old new its → ends_thread its ≡ false → i < length thread.calls → a ≡ get_or thread.calls i a
+    → Plays plan thread number (i + 1) new
 unfolding IsGoingOn
-plays_on plan thread number i a old new its plays called goes there =
-    let g = grows plan thread number i old new its plays called in
-    let mine : List Record = of_call old.number old.calls new.seen in
-    let on = going_on plan.turns (of_call old.number old.calls new.seen) new.seen thread.node its called.answer_ goes in record {
+plays_on plan thread number i a old new its plays called goes below there =
+    let g = grows plan thread number i a old new its plays called below there in
+    let mine : List Record = of_next old new.seen in
+    let on = going_on plan.turns (of_next old new.seen) new.seen thread.node its called.answer_ goes in record {
       number_ = g.number_;
-      calls = g.calls;
+      count = g.count;
+      planned = g.planned;
       most = room_for i (plan.turns + 2) (length (of_caller number old.seen)) (length mine) (length (of_caller number new.seen)) plays.most g.few
           (ap length g.all ∙ length-append (of_caller number old.seen) mine);
       place = g.place;
       goes = λ stopped more later h. g.goes stopped more later
-          (ap (λ (l : List Act). are_finished plan.turns stopped i l (mine ++ more)) there
+          (ap (λ (l : List Act). are_finished plan.turns stopped i l (mine ++ more)) (next_call thread.calls i a below there)
           ∙ one_more plan.turns i stopped a (drop (i + 1) thread.calls) mine more g.own later
-          ∙ ap (λ (o : Option Answer). goes_on stopped o (are_finished plan.turns stopped (i + 1) (drop (i + 1) thread.calls) more) more) on.0
+          ∙ ap (λ (o : Option Answer). goes_on stopped (list_any is_end mine) o
+          (are_finished plan.turns stopped (i + 1) (drop (i + 1) thread.calls) more) more) on.0
           ∙ ap (λ (b : Bool). if b then is_empty more else are_finished plan.turns stopped (i + 1) (drop (i + 1) thread.calls) more) on.1 ∙ h);
     }
 
@@ -204,40 +206,41 @@ refused_no : (r : WireRefusal) → Some r ≡ None → ⊥
 unfolding is_some
 refused_no r e = true≢false (ap is_some e)
 
-any_way : (stopped others : Bool) (o : Option Answer) → stopped ≡ true → others ≡ true → goes_on stopped o others [] ≡ true
-any_way stopped others None p q = two_hold stopped true p refl
-any_way stopped others (Some a) p q = by_last (is_last a)
-  where
-    by_last : (b : Bool) → (if b then true else others) ≡ true
-    by_last true = refl
-    by_last false = q
+-- where the node stopped, a call without an answer and without an end may be the last
+may_end : (turns : ℕ) (mine : List Record) (stopped others : Bool) → IsUnanswered turns mine → stopped ≡ true
+    → goes_on stopped (list_any is_end mine) (answer_of turns mine) others [] ≡ true
+may_end turns mine stopped others none by =
+    ap (λ (o : Option Answer). goes_on stopped (list_any is_end mine) o others []) none.none
+    ∙ two_hold stopped (not (list_any is_end mine) && true) by (ap (λ (b : Bool). not b && true) none.unended)
 
 last_one : (turns : ℕ) (mine seen : List Record) (node : ℕ) (its : Answer) → IsAnswer turns mine seen node its → ends_thread its ≡ true → refusal_in its ≡ None
-    → (stopped others : Bool)
-    → (has_stopped seen (place_of node) ≡ true → stopped ≡ true) → (stopped ≡ true → others ≡ true) → goes_on stopped (answer_of turns mine) others [] ≡ true
-last_one turns mine seen node (answer.Late count) is ends none stopped others by rest = ap (λ (o : Option Answer). goes_on stopped o others []) is
-last_one turns mine seen node (answer.PutOff req base top) is ends none stopped others by rest = ap (λ (o : Option Answer). goes_on stopped o others []) is
-last_one turns mine seen node answer.Stopped is ends none stopped others by rest = any_way stopped others (answer_of turns mine) (by is) (rest (by is))
-last_one turns mine seen node answer.Spent is ends none stopped others by rest = absurd (refused_no refusals.Spent none)
-last_one turns mine seen node answer.NoMemory is ends none stopped others by rest = absurd (refused_no refusals.NoMemory none)
-last_one turns mine seen node (answer.Sent req number) is ends none stopped others by rest = absurd (true≢false (sym ends))
-last_one turns mine seen node (answer.Took number entry) is ends none stopped others by rest = absurd (true≢false (sym ends))
-last_one turns mine seen node (answer.Joined number) is ends none stopped others by rest = absurd (true≢false (sym ends))
-last_one turns mine seen node answer.Left is ends none stopped others by rest = absurd (true≢false (sym ends))
-last_one turns mine seen node (answer.Decided number members) is ends none stopped others by rest = absurd (true≢false (sym ends))
-last_one turns mine seen node answer.StopDone is ends none stopped others by rest = absurd (true≢false (sym ends))
-last_one turns mine seen node (answer.Busy queued) is ends none stopped others by rest = absurd (true≢false (sym ends))
-last_one turns mine seen node answer.NotMember is ends none stopped others by rest = absurd (true≢false (sym ends))
-last_one turns mine seen node answer.Leaving is ends none stopped others by rest = absurd (true≢false (sym ends))
-last_one turns mine seen node (answer.TooFew got least) is ends none stopped others by rest = absurd (true≢false (sym ends))
-last_one turns mine seen node (answer.Crowded base top) is ends none stopped others by rest = absurd (true≢false (sym ends))
-last_one turns mine seen node (answer.Overtaken other) is ends none stopped others by rest = absurd (true≢false (sym ends))
-last_one turns mine seen node (answer.NotIn best) is ends none stopped others by rest = absurd (true≢false (sym ends))
+    → (stopped others : Bool) → (has_stopped seen (place_of node) ≡ true → stopped ≡ true)
+    → goes_on stopped (list_any is_end mine) (answer_of turns mine) others [] ≡ true
+last_one turns mine seen node (answer.Late count) is ends none stopped others by =
+    ap (λ (o : Option Answer). goes_on stopped (list_any is_end mine) o others []) is
+last_one turns mine seen node (answer.PutOff req base top) is ends none stopped others by =
+    ap (λ (o : Option Answer). goes_on stopped (list_any is_end mine) o others []) is
+last_one turns mine seen node answer.Stopped is ends none stopped others by = may_end turns mine stopped others is.1 (by is.0)
+last_one turns mine seen node answer.Spent is ends none stopped others by = absurd (refused_no refusals.Spent none)
+last_one turns mine seen node answer.NoMemory is ends none stopped others by = absurd (refused_no refusals.NoMemory none)
+last_one turns mine seen node (answer.Sent req number) is ends none stopped others by = absurd (true≢false (sym ends))
+last_one turns mine seen node (answer.Took number entry) is ends none stopped others by = absurd (true≢false (sym ends))
+last_one turns mine seen node (answer.Joined number) is ends none stopped others by = absurd (true≢false (sym ends))
+last_one turns mine seen node answer.Left is ends none stopped others by = absurd (true≢false (sym ends))
+last_one turns mine seen node (answer.Decided number members) is ends none stopped others by = absurd (true≢false (sym ends))
+last_one turns mine seen node answer.StopDone is ends none stopped others by = absurd (true≢false (sym ends))
+last_one turns mine seen node (answer.Busy queued) is ends none stopped others by = absurd (true≢false (sym ends))
+last_one turns mine seen node answer.NotMember is ends none stopped others by = absurd (true≢false (sym ends))
+last_one turns mine seen node answer.Leaving is ends none stopped others by = absurd (true≢false (sym ends))
+last_one turns mine seen node (answer.TooFew got least) is ends none stopped others by = absurd (true≢false (sym ends))
+last_one turns mine seen node (answer.Crowded base top) is ends none stopped others by = absurd (true≢false (sym ends))
+last_one turns mine seen node (answer.Overtaken other) is ends none stopped others by = absurd (true≢false (sym ends))
+last_one turns mine seen node (answer.NotIn best) is ends none stopped others by = absurd (true≢false (sym ends))
 
 -- where a call found the journal full
 spent_only : (turns : ℕ) (mine seen : List Record) (node : ℕ) (its : Answer) → IsAnswer turns mine seen node its → refusal_in its ≡ Some refusals.Spent
     → (its ≡ answer.Spent) × (length seen ≡ most_events)
-spent_only turns mine seen node answer.Spent is e = (refl, is)
+spent_only turns mine seen node answer.Spent is e = (refl, is.0)
 spent_only turns mine seen node answer.NoMemory is e = absurd (true≢false (ap is_memory e))
   where
     is_memory : Option WireRefusal → Bool
@@ -263,6 +266,7 @@ spent_only turns mine seen node (answer.NotIn best) is e = absurd (refused_no re
 
 -- what has run, by the number of its caller
 record HasRunBy (plan : RacePlan) (thread : ThreadPlan) (number : ℕ) (c : Calling) (refusal : Option WireRefusal) : Type 0 where
+  planned : take (length c.calls) thread.calls ≡ c.calls
   most : length (of_caller number c.seen) ≤ length thread.calls * (plan.turns + 2)
   spent : refusal ≡ Some refusals.Spent → (length c.seen ≡ most_events) × (length (of_caller number c.seen) < length thread.calls * (plan.turns + 2))
   place : list_all (λ r. place_of r.event.node == place_of thread.node) (of_caller number c.seen) ≡ true
@@ -279,11 +283,15 @@ unfolding its_thread
 has_run plan thread c refusal there by =
     let all : most_of plan c.number ≡ length thread.calls * (plan.turns + 2) = ap (λ (o : Option ThreadPlan). length (calls_in o) * (plan.turns + 2)) there in
     record {
+      planned = ap (λ (o : Option ThreadPlan). take (length c.calls) (calls_in o)) there ∙ by.planned;
       most = subst (λ (n : ℕ). length (of_caller c.number c.seen) ≤ n) (sym all) by.most;
       spent = λ e. ((by.spent e).0, subst (λ (n : ℕ). length (of_caller c.number c.seen) < n) (sym all) (by.spent e).1);
       played = λ e other is. subst (λ (t : ThreadPlan). HasPlayed plan.turns t c) (ap (λ (o : Option ThreadPlan). its_thread o thread) (sym there ∙ is))
           (record { place = by.place; finished = by.finished e });
     }
+
+so_far : (calls : List Act) (i : ℕ) (made : List Act) → length made ≡ i → made ≡ take i calls → take (length made) calls ≡ made
+so_far calls i made count is = ap (λ (n : ℕ). take n calls) count ∙ sym is
 
 -- all calls of a thread went on
 pub all_played : (plan : RacePlan) (thread : ThreadPlan) (number i : ℕ) (c : Calling) → slice_get plan.threads number ≡ Some thread → i ≡ length thread.calls
@@ -292,6 +300,7 @@ unfolding are_finished
 all_played plan thread number i c there whole plays =
     has_run plan thread c None (ap (slice_get plan.threads) plays.number_ ∙ there)
     (subst (λ (n : ℕ). HasRunBy plan thread n c None) (sym plays.number_) (record {
+      planned = so_far thread.calls i c.calls plays.count plays.planned;
       most = subst (λ (n : ℕ). length (of_caller number c.seen) ≤ n * (plan.turns + 2)) whole plays.most;
       spent = λ e. absurd (refused_no refusals.Spent (sym e));
       place = plays.place;
@@ -304,11 +313,11 @@ all_played plan thread number i c there whole plays =
 -- a thread ended with an answer
 pub thread_ends : (plan : RacePlan) (thread : ThreadPlan) (number i : ℕ) (a : Act) (old new : Calling) (its : Answer)
     → slice_get plan.threads number ≡ Some thread
-    → Plays plan thread number i old → Called plan thread.node old new its → ends_thread its ≡ true → i < length thread.calls
-    → drop i thread.calls ≡ a ∷ drop (i + 1) thread.calls → HasRun plan new (refusal_in its)
+    → Plays plan thread number i old → Called plan thread.node a old new its → ends_thread its ≡ true → i < length thread.calls
+    → a ≡ get_or thread.calls i a → HasRun plan new (refusal_in its)
 thread_ends plan thread number i a old new its there plays called ends below here =
-    let mine : List Record = of_call old.number old.calls new.seen in
-    let g = grows plan thread number i old new its plays called in
+    let mine : List Record = of_next old new.seen in
+    let g = grows plan thread number i a old new its plays called below here in
     let whole : length (of_caller number new.seen) ≡ length (of_caller number old.seen) + length mine = ap length g.all
     ∙ length-append (of_caller number old.seen) mine in
     let room : (i + 1) * (plan.turns + 2) ≤ length thread.calls * (plan.turns + 2) =
@@ -316,9 +325,10 @@ thread_ends plan thread number i a old new its there plays called ends below her
     let one : (i + 1) * (plan.turns + 2) ≡ i * (plan.turns + 2) + 1 * (plan.turns + 2) = add-mul i 1 (plan.turns + 2) in
     has_run plan thread new (refusal_in its) (ap (slice_get plan.threads) g.number_ ∙ there)
     (subst (λ (n : ℕ). HasRunBy plan thread n new (refusal_in its)) (sym g.number_) (record {
+      planned = so_far thread.calls (i + 1) new.calls g.count g.planned;
       most = let before = plays.most in let few = g.few in omega arith;
       spent = λ e.
-          let s = spent_only plan.turns (of_call old.number old.calls new.seen) new.seen thread.node its called.answer_ e in
+          let s = spent_only plan.turns (of_next old new.seen) new.seen thread.node its called.answer_ e in
           let few : length mine ≤ plan.turns + 1 = called.spent s.0 in
           let before = plays.most in
           (s.1, omega arith);
@@ -326,10 +336,8 @@ thread_ends plan thread number i a old new its there plays called ends below her
       finished = λ none stopped by.
           ap (are_finished plan.turns stopped 0 thread.calls) (sym (append-nil (of_caller number new.seen)))
           ∙ g.goes stopped [] (λ k d h. absurd (omega arith))
-          (ap (λ (l : List Act). are_finished plan.turns stopped i l (mine ++ [])) here
+          (ap (λ (l : List Act). are_finished plan.turns stopped i l (mine ++ [])) (next_call thread.calls i a below here)
           ∙ one_more plan.turns i stopped a (drop (i + 1) thread.calls) mine [] g.own (λ k d h. absurd (omega arith))
           ∙ last_one plan.turns mine new.seen thread.node its called.answer_ ends none stopped
-          (are_finished plan.turns stopped (i + 1) (drop (i + 1) thread.calls) []) by
-          (λ s. ap (λ (b : Bool). are_finished plan.turns b (i + 1) (drop (i + 1) thread.calls) []) s
-          ∙ none_finished plan.turns (i + 1) (drop (i + 1) thread.calls)));
+          (are_finished plan.turns stopped (i + 1) (drop (i + 1) thread.calls) []) by);
     }))

@@ -1,12 +1,14 @@
 -- What the callers of a race leave in its journal.
-use Rattle.std.proofs.Common.{◌≡◌, ℕ, zero, suc, ◌+◌, ◌*◌, ◌<◌, ◌≤◌, List, [], ◌∷◌, ◌++◌, length, drop, map, get_or, Bool, true, false, true≢false, Option}
+use Rattle.std.proofs.Common.{◌≡◌, ℕ, zero, suc, ◌+◌, ◌*◌, ◌<◌, ◌≤◌, List, [], ◌∷◌, ◌++◌, length, take, drop, map, get_or, Bool, true, false, true≢false, Option}
 use Rattle.std.proofs.Common.{Some, None, sym, refl, ap, ◌∙◌, subst, arith, length-append, slice_get, ⊎_elim}
 use Rattle.std.specs.Prelude.{All, ◌==◌}
 use Rattle.std.specs.List.{list_all, range_with_len}
-use Rattle.std.proofs.lemmas.List.{get_or-map, length-map}
+use Rattle.std.proofs.lemmas.List.{get_or-map, length-map, take-append-drop}
+use Rattle.std.proofs.lemmas.List.Elements.{All-map, All-weaker}
 use Rattle.std.proofs.lemmas.List.FromFn.{get_or-range_with_len, length-range_with_len}
 use Rattle.std.proofs.lemmas.Option.{none-some, slice_get_cases}
 use Rattle.am_base.specs.Names.{place_of}
+use Rattle.am_group.specs.declared.event.Act.{Act}
 use Rattle.am_group.specs.declared.event.Record.{Record}
 use Rattle.am_group.specs.declared.plan.RacePlan.{RacePlan}
 use Rattle.am_group.specs.declared.plan.ThreadPlan.{ThreadPlan}
@@ -16,14 +18,16 @@ use Rattle.am_wire.specs.Seats.{StartsWith}
 use Rattle.am_wire.specs.Stops.{has_stopped}
 use Rattle.am_wire.proofs.Views.{rest_of}
 use Rattle.am_races.specs.Tags.{of_caller}
-use Rattle.am_races.specs.Callers.{are_finished}
+use Rattle.am_races.specs.Callers.{are_finished, is_callers}
 use Rattle.am_races.specs.Callings.{Calling}
-use Rattle.am_races.specs.Legal.{is_played}
-use Rattle.am_races.specs.Plans.{MayRace, ArePlayed, calls_in}
-use Rattle.am_races.specs.Ran.{HasPlayed, HasRun, EndsFor, first_refusal, fresh_callers, numbers_of}
+use Rattle.am_races.specs.Legal.{IsLegalWithTags, is_played}
+use Rattle.am_races.specs.Plans.{MayRace, ArePlayed, calls_in, calls_of}
+use Rattle.am_races.specs.Ran.{HasPlayed, HasRun, IsPlanned, EndsFor, first_refusal, fresh_callers, numbers_of, calls_made, calls_by}
 use Rattle.am_races.proofs.Nexts.{stopped_in_more, or_true}
 use Rattle.am_races.proofs.Playing.{two_hold}
 use Rattle.am_races.proofs.Counting.{one_lacks}
+use Rattle.am_races.proofs.Joined.{caller_at}
+use Rattle.am_races.proofs.Making.{calls_longer}
 use Rattle.am_races.proofs.Fresh.{fresh_numbers}
 use Rattle.am_races.proofs.Running.{called_numbers}
 
@@ -188,6 +192,48 @@ pub not_spent : (plan : RacePlan) (journal : List Record) (each : List (Option W
     → first_refusal each ≡ Some refusals.Spent → ⊥
 unfolding is_spent
 not_spent plan journal each may all did is = true≢false (ap is_spent (only_memory plan journal each refusals.Spent may all did is))
+
+-- ---- the calls that callers made are the first of those that were planned
+
+legal_more : (plan : RacePlan) (few all : ℕ → List Act) (journal : List Record) → ((n : ℕ) → (k : ℕ) × (take k (all n) ≡ few n)) → IsLegalWithTags plan few journal
+    → IsLegalWithTags plan all journal
+legal_more plan few all journal begins legal = record {
+  legal = legal.legal;
+  callers = λ n.
+      let b = begins n in
+      let whole : few n ++ drop b.0 (all n) ≡ all n = ap (λ (l : List Act). l ++ drop b.0 (all n)) (sym b.1) ∙ take-append-drop b.0 (all n) in
+      subst (λ (l : List Act). is_callers plan.turns l (of_caller n journal) ≡ true) whole
+      (calls_longer plan.turns 0 (few n) (drop b.0 (all n)) (of_caller n journal) (legal.callers n));
+  turns = legal.turns;
+  stops = legal.stops;
+}
+
+pub legal_as_planned : (plan : RacePlan) (callers : List Calling) (journal : List Record) → numbers_of callers ≡ range_with_len 0 (length plan.threads)
+    → All (IsPlanned plan) callers → IsLegalWithTags plan (calls_by callers) journal → IsLegalWithTags plan (calls_of plan) journal
+legal_as_planned plan callers journal numbers all legal = legal_more plan (calls_by callers) (calls_of plan) journal begins legal
+  where
+    below : (n : ℕ) → n < length callers → n < length plan.threads
+    below n low =
+        let a = length-map callers (λ (c : Calling). c.number) in
+        let e : length (numbers_of callers) ≡ length (range_with_len 0 (length plan.threads)) = ap length numbers in
+        let r = length-range_with_len 0 (length plan.threads) in
+        omega arith
+
+    begins : (n : ℕ) → (k : ℕ) × (take k (calls_of plan n) ≡ calls_by callers n)
+    begins n = ⊎_elim
+        (λ (k : (x : Calling) × (n < length callers) × (slice_get callers n ≡ Some x) × (get_or callers n x ≡ x)).
+        let its : k.0.number ≡ n = ap (λ (c : Calling). c.number) (sym k.3) ∙ (caller_at (length plan.threads) n callers k.0 numbers (below n k.1)).1 in
+        let planned : IsPlanned plan k.0 = subst (IsPlanned plan) k.3 (all n k.0 k.1) in
+        (length k.0.calls, ap (λ (m : ℕ). take (length k.0.calls) (calls_of plan m)) (sym its) ∙ planned ∙ ap calls_made (sym k.2)))
+        (λ (past : (length callers ≤ n) × (slice_get callers n ≡ None)). (0, ap calls_made (sym past.1)))
+        (slice_get_cases callers n).1
+
+pub run_planned : {X : Type 0} (call : X → Calling) (refused : X → Option WireRefusal) (plan : RacePlan) (xs : List X) (callers : List Calling)
+    → callers ≡ map call xs → All (λ x. HasRun plan (call x) (refused x)) xs → All (IsPlanned plan) callers
+run_planned {X} call refused plan xs callers are ran =
+    subst (All (IsPlanned plan)) (sym are)
+    (All-map (IsPlanned plan) call xs
+    (All-weaker (λ (x : X). HasRun plan (call x) (refused x)) (λ (x : X). IsPlanned plan (call x)) (λ x h. h.planned) xs ran))
 
 -- ---- threads that ran, and their callers
 

@@ -1,32 +1,25 @@
--- The threads of a plan: what each may call, and what all of them give.
-use Rattle.std.proofs.Common.{◌≡◌, ℕ, suc, ◌+◌, ◌<◌, List, [], ◌∷◌, ◌++◌, length, map, drop, get_or, Option}
-use Rattle.std.proofs.Common.{Some, None, sym, refl, ap, ◌∙◌, arith, slice_get}
+-- The threads of a plan: their calls, and what all of them give.
+use Rattle.std.proofs.Common.{◌≡◌, ℕ, suc, ◌+◌, ◌<◌, List, [], ◌∷◌, ◌++◌, length, map, take, drop, get_or, Option}
+use Rattle.std.proofs.Common.{Some, None, sym, refl, ap, ◌∙◌, arith}
 use Rattle.std.specs.Option.{option_or}
-use Rattle.std.proofs.Math.Seq.{drop-cons}
+use Rattle.std.proofs.Math.Seq.{drop-cons, take-suc}
 use Rattle.std.proofs.lemmas.List.{map-append}
-use Rattle.std.proofs.lemmas.Option.{slice_get_read}
 use Rattle.am_group.specs.declared.event.Act.{Act}
-use Rattle.am_group.specs.declared.plan.RacePlan.{RacePlan}
-use Rattle.am_group.specs.declared.plan.ThreadPlan.{ThreadPlan}
 use Rattle.am_wire.specs.declared.wire.WireRefusal.{WireRefusal}
 use Rattle.am_races.specs.Callings.{Calling}
-use Rattle.am_races.specs.Plans.{calls_of, calls_in}
 use Rattle.am_races.specs.Ran.{numbers_of, first_refusal}
 
 -- ---- the calls of a thread
-
-pub planned_call : (plan : RacePlan) (thread : ThreadPlan) (number i : ℕ) (c : Calling) (a : Act) → slice_get plan.threads number ≡ Some thread
-    → c.number ≡ number → c.calls ≡ i
-    → i < length thread.calls → a ≡ get_or thread.calls i a → slice_get (calls_of plan c.number) c.calls ≡ Some a
-planned_call plan thread number i c a its same made below there =
-    ap (λ (n : ℕ). slice_get (calls_of plan n) c.calls) same ∙ ap (slice_get (calls_of plan number)) made
-    ∙ ap (λ (o : Option ThreadPlan). slice_get (calls_in o) i) its
-    ∙ slice_get_read thread.calls (length thread.calls) i a refl below there
 
 pub next_call : (calls : List Act) (i : ℕ) (a : Act) → i < length calls → a ≡ get_or calls i a → drop i calls ≡ a ∷ drop (i + 1) calls
 next_call calls i a below there =
     let one : suc i ≡ i + 1 = omega arith in
     drop-cons calls i a below ∙ ap (λ (n : ℕ). get_or calls i a ∷ drop n calls) one ∙ ap (λ (x : Act). x ∷ drop (i + 1) calls) (sym there)
+
+pub calls_so_far : (calls : List Act) (i : ℕ) (a : Act) → i < length calls → a ≡ get_or calls i a → take i calls ++ a ∷ [] ≡ take (i + 1) calls
+calls_so_far calls i a below there =
+    let one : suc i ≡ i + 1 = omega arith in
+    ap (λ (x : Act). take i calls ++ x ∷ []) there ∙ sym (take-suc calls i a below) ∙ ap (λ (n : ℕ). take n calls) one
 
 -- ---- what threads give
 

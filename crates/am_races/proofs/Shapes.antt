@@ -1,6 +1,6 @@
 -- The records of one call: what may stand there, and what they answer.
 use Rattle.std.proofs.Common.{◌≡◌, ℕ, ◌-◌, ◌≤◌, List, [], ◌∷◌, ◌++◌, length, cond, Bool, true, false, true≢false, Option, Some, None}
-use Rattle.std.proofs.Common.{is_some, sym, refl, ap, ◌∙◌, arith, eq-eqb, nat_lt, nat_le, unwrap_or, count_by, sum_by}
+use Rattle.std.proofs.Common.{is_some, sym, refl, ap, ◌∙◌, subst, arith, eq-eqb, nat_lt, nat_le, unwrap_or, count_by, sum_by}
 use Rattle.std.specs.Prelude.{◌==◌, ◌&&◌, ◌||◌, if◌then◌else◌, fold}
 use Rattle.std.specs.List.{list_all, list_any}
 use Rattle.std.proofs.lemmas.Bool.{and_parts, lt-ltb}
@@ -22,6 +22,7 @@ use Rattle.am_races.specs.Answers.{or_else, queued_request, request_in, request_
 use Rattle.am_races.specs.Answers.{first_answer}
 use Rattle.am_races.specs.Answers.{is_take, is_end, answer_of}
 use Rattle.am_races.specs.Callers.{same_bytes, same_act, is_empty, asks, checks, is_followed, is_receive, is_other, is_one_call}
+use Rattle.am_races.specs.Callings.{IsUnanswered}
 use Rattle.am_races.specs.Ready.{round_in}
 use Rattle.am_races.specs.Plans.{is_call, has_check}
 use Rattle.am_races.specs.Going.{end_act, end_part, told_at_end, request_in_call, IsOwn, HasBegun}
@@ -319,7 +320,8 @@ take_answers turns a ts e take all part is =
     ∙ ap (λ (x : Act). own_answer x e.outcome) (is ∙ sym (take_is a take))
     ∙ sym (ap (λ (b : Bool). if b then own_answer a e.outcome else end_answer a e.outcome) take)
     in
-    let ends : list_any is_end recs ≡ true = any_last ts e (or_true (is_check e.by.part) (is_take e.event.act) (ap is_take is)) in
+    let ends : list_any is_end recs ≡ true = any_last ts e (or_true (is_check e.by.part) (is_own e.by.part && is_take e.event.act)
+    (both (is_own e.by.part) (is_take e.event.act) part (ap is_take is))) in
     let counted : count_by (λ r. is_turn_part r.by.part) recs ≡ length ts = with_end ts e all (own_turns e.by.part part) in
     let lates : late turns (request_by (own_of recs)) recs ≡ late_after None (late turns None ts) e.outcome =
     ap (λ (o : Option Record). late turns (request_by o) recs) own ∙ ap (λ (x : Act). late turns (request_of x e.outcome) recs) is ∙ late_more turns None ts e
@@ -351,7 +353,7 @@ check_answers turns a came own ts e has none is all part =
     ∙ ap (λ (x : Act). end_answer x e.outcome) is.act_ ∙ sym
     (ap (λ (b : Bool). if b then own_answer a e.outcome else end_answer a e.outcome) (no_receive a has))
     in
-    let ends : list_any is_end recs ≡ true = any_last (own ∷ ts) e (ap (λ (b : Bool). b || is_take e.event.act) part) in
+    let ends : list_any is_end recs ≡ true = any_last (own ∷ ts) e (ap (λ (b : Bool). b || (is_own e.by.part && is_take e.event.act)) part) in
     let counted : count_by (λ r. is_turn_part r.by.part) recs ≡ length ts =
     (let c = sum_by-cons (λ (r : Record). cond (is_turn_part r.by.part) 1 0) own rest in
     let z = none_if (is_turn_part own.by.part) (own_turns own.by.part is.part) in
@@ -402,6 +404,61 @@ own_answers turns a came own its is told =
     in
     ap (λ (o : Option Answer). or_else o (if list_any is_end (own ∷ [])
     && nat_le turns (count_by (λ r. is_turn_part r.by.part) (own ∷ [])) then Some (late turns (request_by (own_of (own ∷ []))) (own ∷ [])) else None)) first
+
+-- ---- records without an answer
+
+abbrev pub part_ends : Part → Act → Bool
+part_ends p a = is_check p || (is_own p && is_take a)
+
+turns_end_nothing : (ts : List Record) → AreTurns ts → list_any is_end ts ≡ false
+turns_end_nothing [] all = refl
+turns_end_nothing (t ∷ ts) all =
+    ap (λ (b : Bool). b || list_any is_end ts) (no_end t.by.part t.event.act (head_turn t ts all)) ∙ turns_end_nothing ts (tail_turns t ts all)
+  where
+    no_end : (p : Part) (a : Act) → is_turn_part p ≡ true → part_ends p a ≡ false
+    no_end Call a e = absurd (true≢false (sym e))
+    no_end (Turn lost) a e = refl
+    no_end Check a e = absurd (true≢false (sym e))
+
+-- records that tell nothing, and come to no end, have no answer
+tells_none : (turns : ℕ) (recs : List Record) → first_answer (act_of_call (own_of recs)) recs ≡ None → list_any is_end recs ≡ false
+    → IsUnanswered turns recs
+unfolding answer_of
+tells_none turns recs first ends = record {
+  none = ap (λ (o : Option Answer). or_else o (if list_any is_end recs
+      && nat_le turns (count_by (λ r. is_turn_part r.by.part) recs) then Some (late turns (request_by (own_of recs)) recs) else None)) first
+      ∙ ap (λ (b : Bool). if b && nat_le turns (count_by (λ r. is_turn_part r.by.part) recs) then Some
+      (late turns (request_by (own_of recs)) recs) else None) ends;
+  unended = ends;
+}
+
+alone_tell_nothing : (own : Act) (ts : List Record) → AreTurns ts → first_answer own ts ≡ None
+alone_tell_nothing own [] all = refl
+alone_tell_nothing own (t ∷ ts) all =
+    ap (λ (o : Option Answer). or_else o (first_answer own ts)) (nothing_told own t (head_turn t ts all)) ∙ alone_tell_nothing own ts (tail_turns t ts all)
+
+-- a call's own act without an answer, and turns behind it
+pub unanswered : (turns : ℕ) (a : Act) (came : Option Came) (first ts : List Record) → HasBegun a came first → AreTurns ts → IsUnanswered turns (first ++ ts)
+unanswered turns a None first ts begun all =
+    subst (λ (l : List Record). IsUnanswered turns (l ++ ts)) (sym begun.1)
+    (tells_none turns ts (alone_tell_nothing (act_of_call (own_of ts)) ts all) (turns_end_nothing ts all))
+unanswered turns a (Some came) first ts begun all =
+    let own : Record = begun.2.0 in
+    let is = begun.2.2 in
+    let silent : answer_in own.event.act own ≡ None =
+    ap (λ (b : Bool). if b then own_answer own.event.act own.outcome else if is_check own.by.part then end_answer own.event.act own.outcome else None) is.part
+    ∙ ap (λ (x : Act). own_answer x own.outcome) is.act_ ∙ ap (own_answer a) is.outcome ∙ begun.1 in
+    subst (λ (l : List Record). IsUnanswered turns (l ++ ts)) (sym begun.2.1)
+    (tells_none turns (own ∷ ts)
+    (ap (λ (o : Option Record). first_answer (act_of_call o) (own ∷ ts)) (own_first own ts is.part)
+    ∙ ap (λ (o : Option Answer). or_else o (first_answer own.event.act ts)) silent ∙ alone_tell_nothing own.event.act ts all)
+    (ap (λ (x : Act). part_ends own.by.part x || list_any is_end ts) is.act_
+    ∙ ap (λ (b : Bool). b || list_any is_end ts) (no_end own.by.part (no_receive a begun.0) is.part) ∙ turns_end_nothing ts all))
+  where
+    no_end : (p : Part) → is_take a ≡ false → is_own p ≡ true → part_ends p a ≡ false
+    no_end Call no_ e = no_
+    no_end (Turn lost) no_ e = absurd (true≢false (sym e))
+    no_end Check no_ e = absurd (true≢false (sym e))
 
 -- ---- answers that are of records
 

@@ -130,9 +130,9 @@ abbrev pub is_take : Act → Bool
 is_take act.Take = true
 is_take _ = false
 
--- a call ends with its check, and a receive with its Take
+-- a call ends with its check, and a receive with its own act
 abbrev pub is_end : Record → Bool
-is_end r = is_check r.by.part || is_take r.event.act
+is_end r = is_check r.by.part || (is_own r.by.part && is_take r.event.act)
 
 -- what the records of one call answer; None where it isn't finished
 unfoldable pub answer_of : ℕ → List Record → Option Answer

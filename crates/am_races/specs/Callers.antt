@@ -1,7 +1,7 @@
 -- A caller's records are those of its calls, one behind the other.
-use Rattle.std.specs.Prelude.{ℕ, ◌+◌, ◌-◌, List, [], ◌∷◌, length, drop, take_while, Option, Some, None, is_some, Bool, true, false, ◌&&◌, ◌==◌, nat_lt}
+use Rattle.std.specs.Prelude.{ℕ, ◌+◌, ◌-◌, List, [], ◌∷◌, length, drop, take_while, Option, Some, None, is_some, Bool, true, false, not, ◌&&◌, ◌==◌, nat_lt}
 use Rattle.std.specs.Prelude.{if◌then◌else◌}
-use Rattle.std.specs.List.{list_all}
+use Rattle.std.specs.List.{list_all, list_any}
 use Rattle.am_base.specs.declared.outcome.Outcome.{Outcome}
 use Rattle.am_base.specs.Names.{place_of}
 use Rattle.am_packet.specs.Boxes.{Letter}
@@ -11,7 +11,7 @@ use Rattle.am_group.specs.declared.event.Record.{Record}
 use Rattle.am_races.specs.declared.answer.Answer.{Answer}
 use Rattle.am_races.specs.declared.answer.Answer.TheVariants as answer
 use Rattle.am_races.specs.Tags.{is_own, is_turn_part, is_check}
-use Rattle.am_races.specs.Answers.{own_answer, answer_of, request_in, is_take}
+use Rattle.am_races.specs.Answers.{own_answer, answer_of, request_in, is_take, is_end}
 use Rattle.am_races.specs.Ready.{round_in}
 
 -- ---- one call
@@ -98,13 +98,14 @@ is_last (answer.Late turns) = true
 is_last (answer.PutOff req base top) = true
 is_last _ = false
 
-abbrev pub goes_on : Bool → Option Answer → Bool → List Record → Bool
-goes_on stopped None others records = stopped && is_empty records
-goes_on stopped (Some a) others records = if is_last a then is_empty records else others
+-- by whether its node stopped, whether the call came to its end, and its answer: one without an answer came to no end, and is the last
+abbrev pub goes_on : Bool → Bool → Option Answer → Bool → List Record → Bool
+goes_on stopped ended None others records = stopped && (not ended && is_empty records)
+goes_on stopped ended (Some a) others records = if is_last a then is_empty records else others
 
--- each call is finished, up to one that used its turns; only where the node stopped the thread may end before
+-- each call is finished, up to one that used its turns; only where the node stopped the thread may end before, at a call that came to no end
 unfoldable pub are_finished : ℕ → Bool → ℕ → List Act → List Record → Bool
 are_finished turns stopped number [] records = is_empty records
 are_finished turns stopped number (planned ∷ calls) records =
-    goes_on stopped (answer_of turns (first_call number records)) (are_finished turns stopped (number + 1) calls (behind number records))
-    (behind number records)
+    goes_on stopped (list_any is_end (first_call number records)) (answer_of turns (first_call number records))
+    (are_finished turns stopped (number + 1) calls (behind number records)) (behind number records)

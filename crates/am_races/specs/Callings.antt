@@ -1,7 +1,7 @@
 -- Callers as contracts see them, and what a blocking call leaves.
-use Rattle.std.specs.Prelude.{◌≡◌, ℕ, ◌+◌, ◌≤◌, ◌<◌, List, [], ◌∷◌, ◌++◌, length, Some, All, true, ◌==◌, slice_get}
-use Rattle.std.specs.List.{list_all}
-use Rattle.am_base.specs.Most.{most_events, most_word}
+use Rattle.std.specs.Prelude.{◌≡◌, ℕ, ◌+◌, ◌≤◌, ◌<◌, List, [], ◌∷◌, ◌++◌, length, Some, None, All, true, false, ◌==◌}
+use Rattle.std.specs.List.{list_all, list_any}
+use Rattle.am_base.specs.Most.{most_events}
 use Rattle.atomic_table.specs.Seated.{TableId}
 use Rattle.am_base.specs.Names.{place_of}
 use Rattle.am_group.specs.declared.event.Act.{Act}
@@ -15,16 +15,15 @@ use Rattle.am_wire.specs.Stops.{has_stopped}
 use Rattle.am_races.specs.declared.answer.Answer.{Answer}
 use Rattle.am_races.specs.declared.answer.Answer.TheVariants as answer
 use Rattle.am_races.specs.Tags.{of_caller, of_call}
-use Rattle.am_races.specs.Answers.{answer_of}
+use Rattle.am_races.specs.Answers.{answer_of, is_end}
 use Rattle.am_races.specs.Turns.{words_drawn, later}
-use Rattle.am_races.specs.Callers.{is_callers}
-use Rattle.am_races.specs.Plans.{calls_of}
+use Rattle.am_races.specs.Callers.{is_callers, is_one_call}
 use Rattle.am_races.specs.Lawful.{terms_of}
 
--- a caller: its number, how many calls it has made, and what it has seen
+-- a caller: its number, the calls that it has made, and what it has seen
 pub record Calling : Type 0 where
   pub number : ℕ
-  pub calls : ℕ
+  pub calls : List Act
   pub seen : List Record
 
 -- the chooser of a caller after so many words
@@ -38,30 +37,35 @@ pub record IsHand (wire : TableId) (plan : RacePlan) (number : ℕ) (share : Kno
   pub keys : share.keys ≡ Caller number ∷ []
   pub luck_ : luck ≡ luck_after plan number (words_drawn number share.seen)
 
--- its records are those of its planned calls, as many as it has made
-pub record HasMade (plan : RacePlan) (number calls : ℕ) (seen : List Record) : Type 0 where
-  pub planned : is_callers plan.turns (calls_of plan number) (of_caller number seen) ≡ true
-  pub earlier : All (λ r. r.by.call < calls) (of_caller number seen)
+-- its records are those of the calls that it has made
+pub record HasMade (plan : RacePlan) (number : ℕ) (calls : List Act) (seen : List Record) : Type 0 where
+  pub made : is_callers plan.turns calls (of_caller number seen) ≡ true
+  pub earlier : All (λ r. r.by.call < length calls) (of_caller number seen)
 
--- this act is its next planned call, which can be counted
-pub record MayCall (plan : RacePlan) (c : Calling) (a : Act) : Type 0 where
-  pub planned : slice_get (calls_of plan c.number) c.calls ≡ Some a
-  pub room : c.calls < most_word
+-- the records of a call have no answer, and it came to no end
+pub record IsUnanswered (turns : ℕ) (mine : List Record) : Type 0 where
+  pub none : answer_of turns mine ≡ None
+  pub unended : list_any is_end mine ≡ false
 
--- an answer goes by the records of its call: Stopped by its node's Stop, Spent by the journal's length, NoMemory by nothing
+-- an answer goes by the records of its call. Where these have none it was refused: Stopped by its node's Stop, Spent by the journal's length
 abbrev pub IsAnswer : ℕ → List Record → List Record → ℕ → Answer → Type 0
-IsAnswer turns mine seen node answer.Stopped = has_stopped seen (place_of node) ≡ true
-IsAnswer turns mine seen node answer.Spent = length seen ≡ most_events
-IsAnswer turns mine seen node answer.NoMemory = Unit {0}
+IsAnswer turns mine seen node answer.Stopped = (has_stopped seen (place_of node) ≡ true) × IsUnanswered turns mine
+IsAnswer turns mine seen node answer.Spent = (length seen ≡ most_events) × IsUnanswered turns mine
+IsAnswer turns mine seen node answer.NoMemory = IsUnanswered turns mine
 IsAnswer turns mine seen node other = answer_of turns mine ≡ Some other
 
+-- the records of the next call of a caller, in what it then has seen
+abbrev pub of_next : Calling → List Record → List Record
+of_next c seen = of_call c.number (length c.calls) seen
+
 -- one call was made at a node
-pub record Called (plan : RacePlan) (node : ℕ) (old new : Calling) (its : Answer) : Type 0 where
+pub record Called (plan : RacePlan) (node : ℕ) (a : Act) (old new : Calling) (its : Answer) : Type 0 where
   pub number : new.number ≡ old.number
-  pub calls : new.calls ≡ old.calls + 1
+  pub calls : new.calls ≡ old.calls ++ a ∷ []
   pub begins : StartsWith new.seen old.seen
-  pub others : of_caller old.number new.seen ≡ of_caller old.number old.seen ++ of_call old.number old.calls new.seen
-  pub place : list_all (λ r. place_of r.event.node == place_of node) (of_call old.number old.calls new.seen) ≡ true
-  pub most : length (of_call old.number old.calls new.seen) ≤ plan.turns + 2
-  pub spent : its ≡ answer.Spent → length (of_call old.number old.calls new.seen) ≤ plan.turns + 1
-  pub answer_ : IsAnswer plan.turns (of_call old.number old.calls new.seen) new.seen node its
+  pub others : of_caller old.number new.seen ≡ of_caller old.number old.seen ++ of_next old new.seen
+  pub its_records : is_one_call plan.turns a (of_next old new.seen) ≡ true
+  pub place : list_all (λ r. place_of r.event.node == place_of node) (of_next old new.seen) ≡ true
+  pub most : length (of_next old new.seen) ≤ plan.turns + 2
+  pub spent : its ≡ answer.Spent → length (of_next old new.seen) ≤ plan.turns + 1
+  pub answer_ : IsAnswer plan.turns (of_next old new.seen) new.seen node its

@@ -1,3 +1,4 @@
+pub mod Made
 pub mod Told
 pub mod Tags
 pub mod Answers

@@ -1,8 +1,9 @@
 -- What the callers of a race leave.
-use Rattle.std.specs.Prelude.{◌≡◌, ℕ, ◌+◌, ◌*◌, ◌<◌, ◌≤◌, List, [], ◌∷◌, length, map, Option, Some, None, Bool, true, ◌==◌, slice_get}
+use Rattle.std.specs.Prelude.{◌≡◌, ℕ, ◌+◌, ◌*◌, ◌<◌, ◌≤◌, List, [], ◌∷◌, length, map, take, Option, Some, None, Bool, true, ◌==◌, slice_get}
 use Rattle.std.specs.List.{list_all, range_with_len}
 use Rattle.am_base.specs.Most.{most_events}
 use Rattle.am_base.specs.Names.{place_of}
+use Rattle.am_group.specs.declared.event.Act.{Act}
 use Rattle.am_group.specs.declared.event.Record.{Record}
 use Rattle.am_group.specs.declared.plan.RacePlan.{RacePlan}
 use Rattle.am_group.specs.declared.plan.ThreadPlan.{ThreadPlan}
@@ -22,7 +23,7 @@ use Rattle.am_races.specs.Plans.{calls_of}
 
 -- a caller that has made no call
 abbrev pub fresh_caller : ℕ → Calling
-fresh_caller number = record { number = number; calls = 0; seen = [] }
+fresh_caller number = record { number = number; calls = []; seen = [] }
 
 -- so many of them, in their order
 abbrev pub fresh_callers : ℕ → List Calling
@@ -31,6 +32,14 @@ fresh_callers count = map fresh_caller (range_with_len 0 count)
 -- the numbers of callers
 abbrev pub numbers_of : List Calling → List ℕ
 numbers_of callers = map (λ (c : Calling). c.number) callers
+
+abbrev pub calls_made : Option Calling → List Act
+calls_made None = []
+calls_made (Some c) = c.calls
+
+-- the calls that the caller of a number has made, of several in their order
+abbrev pub calls_by : List Calling → ℕ → List Act
+calls_by callers number = calls_made (slice_get callers number)
 
 -- a journal goes on from what a caller has seen, with no record more of it
 pub record EndsFor (journal : List Record) (c : Calling) : Type 0 where
@@ -66,8 +75,14 @@ first_refusal (Some refusal ∷ others) = Some refusal
 abbrev pub most_of : RacePlan → ℕ → ℕ
 most_of plan caller = length (calls_of plan caller) * (plan.turns + 2)
 
--- a caller's thread has ended, perhaps with a refusal: where the journal was full, a call of it had room for more records
+-- a caller has made the first of its planned calls
+abbrev pub IsPlanned : RacePlan → Calling → Type 0
+IsPlanned plan c = take (length c.calls) (calls_of plan c.number) ≡ c.calls
+
+-- a caller's thread has ended, perhaps with a refusal: it has made the first of its planned calls; where the journal was full, a call of it had room
+-- for more records
 pub record HasRun (plan : RacePlan) (c : Calling) (refusal : Option WireRefusal) : Type 0 where
+  pub planned : IsPlanned plan c
   pub most : length (of_caller c.number c.seen) ≤ most_of plan c.number
   pub spent : refusal ≡ Some refusals.Spent → (length c.seen ≡ most_events) × (length (of_caller c.number c.seen) < most_of plan c.number)
   pub played : refusal ≡ None → (thread : ThreadPlan) → slice_get plan.threads c.number ≡ Some thread → HasPlayed plan.turns thread c
@@ -78,7 +93,7 @@ pub record HasRun (plan : RacePlan) (c : Calling) (refusal : Option WireRefusal)
 abbrev pub HasPlaces : ℕ → Known → Type 0
 HasPlaces count p = (place : ℕ) → place < count → 0 < times (Place place) p.keys
 
--- a pass has the key of a caller, and has seen what that has; its records are those of its planned calls
+-- a pass has the key of a caller, and has seen what that has; its records are those of its calls
 pub record IsIn (plan : RacePlan) (p : Known) (c : Calling) : Type 0 where
   pub key : 0 < times (Caller c.number) p.keys
   pub goes : GoesOn (Caller c.number ∷ []) c.seen p.seen

@@ -1,5 +1,5 @@
 -- How far a world has come with the events of a schedule.
-use Rattle.std.specs.Prelude.{◌≡◌, ℕ, ◌+◌, ◌<◌, List, [], ◌∷◌, ◌++◌, length, take, Bool, not, if◌then◌else◌}
+use Rattle.std.specs.Prelude.{◌≡◌, ◌↔◌, ℕ, ◌<◌, List, [], ◌∷◌, ◌++◌, length, take, Bool, not, if◌then◌else◌}
 use Rattle.am_base.specs.Most.{most_events}
 use Rattle.am_packet.specs.Boxes.{Letter}
 use Rattle.am_group.specs.declared.event.Act.{Act}
@@ -35,14 +35,13 @@ round_events w = (round (settling_of w)).events
 abbrev pub schedule_of : Play → List Event
 schedule_of w = settle_events w.rules (replay w)
 
--- the world did these events more, or a beginning of them
+-- the world did these events more
 abbrev pub Did : List Event → Play → Play → Type 0
 Did events old new = new ≡ record old { events = old.events ++ events }
 
-abbrev pub DidSome : List Event → Play → Play → Type 0
-DidSome events old new = (count : ℕ) × Did (take count events) old new
-
--- it did a beginning of them, and no more by this refusal: Spent where a run of all would have too many events
+-- it did so many of them, and not the further one that there is: Spent exactly where it then had done as many events as a run may have
 pub record Stuck (events : List Event) (old new : Play) (refusal : WorldRefusal) : Type 0 where
-  pub some : DidSome events old new
-  pub spent : refusal ≡ Spent → most_events < length old.events + length events
+  pub count : ℕ
+  pub further : count < length events
+  pub did : Did (take count events) old new
+  pub spent : (refusal ≡ Spent) ↔ (length new.events ≡ most_events)

@@ -141,8 +141,8 @@ fn event_count(world: &World) -> usize
 }
 
 /// Settles a world: does the whole lossless schedule from where it stands, and tells how much that was. After a refusal a
-/// beginning of the schedule was done: NoMemory where there was no memory for the next event, Spent where 100,000 events are
-/// too few for the whole (docs/PROTOCOL.md, "Schedules").
+/// beginning of the schedule was done, and it has a further event: Spent exactly where the world has done 100,000, and else
+/// NoMemory (docs/PROTOCOL.md, "Schedules").
 pub fn settle(world: &mut World) -> Result<Settled, WorldRefusal>
     ensures ok { OnOk result (Did (schedule_of world.old) world.old world.new) }
     ensures rounds { IfOk result (λ settled. settled.rounds ≡ round_count world.old.rules) }

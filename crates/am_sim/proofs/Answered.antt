@@ -1,17 +1,18 @@
 -- What a script's text is.
-use Rattle.std.proofs.Common.{◌≡◌, ℕ, ◌≤◌, List, [], ◌∷◌, ◌++◌, length, Bool, true, false, Option, Some, None, append-nil, subst, Ok, ◌∙◌, sym, ap, refl, arith}
+use Rattle.std.proofs.Common.{◌≡◌, ℕ, ◌≤◌, List, [], ◌∷◌, ◌++◌, length, take, Bool, true, false, Option, Some, None, append-nil, subst, Ok, ◌∙◌, sym, ap, refl, arith}
 use Rattle.std.specs.Io.KnownBytes.{Consumes}
 use Rattle.am_io.specs.Outside.{ReadToEnd, GaveAtMost}
 use Rattle.am_base.specs.Founding.{Rules, MayFound}
 use Rattle.am_group.specs.declared.event.Event.{Event}
 use Rattle.am_group.specs.declared.plan.RacePlan.{RacePlan}
 use Rattle.am_play.specs.World.{run}
-use Rattle.am_play.specs.Lawful.{Watch, watch_start, watch, watch_all, watch_run}
+use Rattle.am_play.specs.Claims.{FitsView}
+use Rattle.am_play.specs.Lawful.{Watch, watch_start, watch, watch_all, watch_run, before_break, lawful_front}
 use Rattle.am_play.specs.Play.{watched_text, text_of, summary_text_of}
 use Rattle.am_play.specs.Settle.{settle_events}
-use Rattle.am_play.proofs.Runs.{watched_is_run}
+use Rattle.am_play.proofs.Runs.{watched_is_run, front_is_lawful}
 use Rattle.am_headline.proofs.Fitted.{views_fit}
-use Rattle.am_headline.proofs.Holds.{headline_holds}
+use Rattle.am_headline.proofs.Holds.{headline_holds, prefix_whole}
 use Rattle.am_sent.proofs.Runs.{sent_holds}
 use Rattle.am_unballoted.proofs.Holds.{unballoted_holds}
 use Rattle.am_repaired.proofs.Settled.{settled_is_repaired}
@@ -43,11 +44,20 @@ text_is rules events true =
     ap (watched_text rules) (watched_then (watch_start rules) events (settle_events rules (run rules events))
     ∙ ap (λ w. watch_all s (settle_events rules w)) (sym world))
 
+-- at each moment up to its lawful front a View fits
+fits_then : (rules : Rules) (events : List Event) → MayFound rules → (moment name : ℕ)
+    → FitsView rules ((run rules (take moment (lawful_front rules events))).nodes name)
+fits_then rules events may moment name =
+    let es : List Event = take moment (lawful_front rules events) in
+    let whole : lawful_front rules es ≡ es =
+    ap (before_break es) (prefix_whole rules (lawful_front rules events) moment (front_is_lawful rules events)) in
+    subst (λ (l : List Event). FitsView rules ((run rules l).nodes name)) whole (views_fit rules es name may)
+
 -- each run keeps what is claimed
 pub keeps_all : (rules : Rules) (events : List Event) → MayFound rules → Keeps rules events
 keeps_all rules events may = record {
   headline = headline_holds rules events may;
-  fits = λ name. views_fit rules events name may;
+  fits = fits_then rules events may;
   sent = sent_holds rules events may;
   unballoted = λ none. unballoted_holds rules events may none;
 }

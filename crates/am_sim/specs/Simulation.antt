@@ -46,12 +46,12 @@ form_of_words words = form_of (map (λ word. word.now) words)
 abbrev pub run_text : Rules → List Event → Bool → List ℕ
 run_text rules events settles = if settles then settled_text_of rules events else text_of rules events
 
--- What is claimed of every run: the headline, which is up to its lawful front, and that no node ever kept more than it may; and that up to there a
--- View which leaves somebody out fits each node. Besides, of the whole run, whoever stops: everything in the one group list was sent before it
+-- What is claimed of every run: the headline, which is up to its lawful front, and that no node ever kept more than it may; and that at each moment up
+-- to there a View which leaves somebody out fits each node. Besides, of the whole run, whoever stops: everything in the one group list was sent before it
 -- stood there; and where nobody began a ballot, all but what the headline says of complete views.
 pub record Keeps (rules : Rules) (events : List Event) : Type 0 where
   pub headline : Headline rules events
-  pub fits : (name : ℕ) → FitsView rules ((run rules (lawful_front rules events)).nodes name)
+  pub fits : (moment name : ℕ) → FitsView rules ((run rules (take moment (lawful_front rules events))).nodes name)
   pub sent : Sent rules events
   pub unballoted : NoBallot (run rules events) → HoldsUnballoted rules events
 

@@ -2,7 +2,6 @@ use Rattle.std.proofs.Common.{◌<◌, ◌≤◌, List, length, get_or, sym, ap,
 use Rattle.am_group.specs.declared.event.Act.{Act}
 use Rattle.am_races.specs.Ran.{HasRun}
 use Rattle.am_races.proofs.Playing.{none_played, plays_on, thread_ends, all_played}
-use Rattle.am_races.proofs.Running.{next_call}
 use Rattle.am_calls.proofs.race.play.Goals as goal
 
 pub loop-act-init : goal.loop-act-init
@@ -16,8 +15,7 @@ returns-then-is_last-clause-ran g c =
     subst (HasRun g.N.Racing.plan c.make-answer.new.caller) (sym c.as_refusal-refusal.ensures)
     (thread_ends g.N.Racing.plan c.args.thread.now c.args.caller.number c.loop-act.act-index c.act-item.result c.loop-act.caller c.make-answer.new.caller
     c.make-answer.result
-    c.requires.its c.loop-act.invariant c.make-answer.ensures (sym c.is_last.ensures ∙ c.if-is_last.true) below
-    (next_call c.args.thread.now.calls c.loop-act.act-index c.act-item.result below there))
+    c.requires.its c.loop-act.invariant c.make-answer.ensures (sym c.is_last.ensures ∙ c.if-is_last.true) below there)
 
 pub loop-act-preserved : goal.loop-act-preserved
 loop-act-preserved g c =
@@ -26,8 +24,7 @@ loop-act-preserved g c =
     let there = c.act-item.is ∙ ap (λ (l : List Act). get_or l c.loop-act.act-index c.act-item.result) c.as_slice-act-items.ensures in
     plays_on g.N.Racing.plan c.args.thread.now c.args.caller.number c.loop-act.act-index c.act-item.result c.loop-act.caller c.make-answer.new.caller
     c.make-answer.result
-    c.loop-act.invariant c.make-answer.ensures (sym c.is_last.ensures ∙ c.if-is_last.false)
-    (next_call c.args.thread.now.calls c.loop-act.act-index c.act-item.result below there)
+    c.loop-act.invariant c.make-answer.ensures (sym c.is_last.ensures ∙ c.if-is_last.false) below there
 
 pub returns-clause-ran : goal.returns-clause-ran
 returns-clause-ran g c =

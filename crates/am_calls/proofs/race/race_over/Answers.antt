@@ -1,7 +1,7 @@
 use Rattle.std.proofs.Common.{◌≡◌, length, Some, sym, ◌∙◌, subst}
 use Rattle.am_wire.specs.declared.wire.WireRefusal.{WireRefusal}
 use Rattle.am_wire.specs.declared.wire.WireRefusal.TheVariants as refusals
-use Rattle.am_races.proofs.Raced.{run_numbers, run_did, are_played, not_spent}
+use Rattle.am_races.proofs.Raced.{run_numbers, run_did, run_planned, legal_as_planned, are_played, not_spent}
 use Rattle.am_calls.proofs.race.race_over.Goals as goal
 
 pub finish-journal-requires-clause-callers : goal.finish-journal-requires-clause-callers
@@ -27,3 +27,11 @@ returns-in-None-clause-played g c =
     (run_did _ _ g.N.Racing.plan c.finish-journal.result.records c.in_ok-ran.ran.items c.in_ok-callers.callers.items c.in_ok-callers.ensures.callers numbers
     c.in_ok-ran.ensures.ran c.finish-journal.ensures.ends)
     (sym c.in_ok-callers.ensures.refusal ∙ c.in-None.is)
+
+pub returns-in-None-clause-legal : goal.returns-in-None-clause-legal
+returns-in-None-clause-legal g c =
+    let numbers = run_numbers _ c.in_ok-ran.ran.items c.in_ok-callers.callers.items c.in_ok-kernels.callers.items (length g.N.Racing.plan.threads)
+    c.in_ok-callers.ensures.callers c.in_ok-ran.ensures.numbers c.in_ok-kernels.ensures in
+    legal_as_planned g.N.Racing.plan c.in_ok-callers.callers.items c.finish-journal.result.records numbers
+    (run_planned _ (λ r. r.refusal) g.N.Racing.plan c.in_ok-ran.ran.items c.in_ok-callers.callers.items c.in_ok-callers.ensures.callers c.in_ok-ran.ensures.ran)
+    c.finish-journal.ensures.legal

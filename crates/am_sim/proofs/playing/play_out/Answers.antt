@@ -3,6 +3,7 @@ use Rattle.std.proofs.lemmas.Result.{err_from_is_err_and}
 use Rattle.am_base.specs.Most.{most_events}
 use Rattle.am_world.specs.Runs.{Play, replay}
 use Rattle.am_play.specs.Settle.{settle_events}
+use Rattle.am_settle.proofs.Going.{stuck_long}
 use Rattle.am_sim.proofs.Done.{does_events, does_settling}
 use Rattle.am_sim.proofs.playing.play_out.Goals as goal
 
@@ -20,6 +21,6 @@ returns-in_err-settle-clause-err c =
     let p = err_from_is_err_and c.from_residual-in_err-settle.result c.from_residual-in_err-settle.ensures.1 in
     let done = c.in_ok-do_events.ensures.ok ∙ ap (λ (w : Play). record w { events = w.events ++ c.args.events.now }) c.in_ok-world.ensures in
     rw (p.1, p.2, c.if-settles.true) (λ is.
-    let many = subst (λ (w : Play). most_events < length w.events + length (settle_events w.rules (replay w))) done (c.in_err-settle.ensures.err.spent is) in
+    let many = subst (λ (w : Play). most_events < length w.events + length (settle_events w.rules (replay w))) done (stuck_long _ _ _ _ c.in_err-settle.ensures.err is) in
     let all = does_settling c.args.founding.now c.args.events.now in
     omega arith)

@@ -6,10 +6,9 @@ use Rattle.am_wire.specs.Passes.{HasAll}
 use Rattle.am_wire.specs.Seats.{Follows}
 use Rattle.am_races.specs.Lawful.{IsLawful}
 use Rattle.am_races.specs.Legal.{IsLegalWithTags}
-use Rattle.am_races.specs.Plans.{calls_of}
-use Rattle.am_races.specs.Ran.{EndsFor}
+use Rattle.am_races.specs.Ran.{EndsFor, calls_by}
 use Rattle.am_races.proofs.Finishing.{legal_with_tags}
-use Rattle.am_races.proofs.Joined.{has_all, planned_in, all_end}
+use Rattle.am_races.proofs.Joined.{has_all, called_in, all_end}
 use Rattle.am_calls.proofs.kernels.Kernels.finish.Goals as goal
 
 pub close-requires-clause-all : goal.close-requires-clause-all
@@ -20,11 +19,11 @@ close-requires-clause-all g c κs =
 
 pub returns-clause-legal : goal.returns-clause-legal
 returns-clause-legal g c =
-    subst (IsLegalWithTags g.N.Racing.plan (calls_of g.N.Racing.plan)) (sym c.close.ensures.records)
-    (legal_with_tags g.N.Racing.plan c.with_callers-pass.result.seen
+    subst (IsLegalWithTags g.N.Racing.plan (calls_by c.args.callers.items)) (sym c.close.ensures.records)
+    (legal_with_tags g.N.Racing.plan (calls_by c.args.callers.items) c.with_callers-pass.result.seen
     (subst (λ (t : Terms). Follows (IsLawful t) c.with_callers-pass.result.seen) c.args.self.planned c.close.ensures.lawful)
     (subst (λ (t : Terms). All (λ (r : Record). r.by.caller < t.callers) c.with_callers-pass.result.seen) c.args.self.planned c.close.ensures.callers)
-    (planned_in g.N.Racing.plan c.with_callers-pass.result c.args.callers.items c.with_callers-pass.ensures.callers c.requires.callers))
+    (called_in g.N.Racing.plan c.with_callers-pass.result c.args.callers.items c.with_callers-pass.ensures.callers c.requires.callers))
 
 pub returns-clause-ends : goal.returns-clause-ends
 returns-clause-ends g c =

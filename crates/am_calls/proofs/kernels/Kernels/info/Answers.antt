@@ -11,6 +11,7 @@ invariant_of-caller g c = (
   subst (IsHand g.N.Racing.wire g.N.Racing.plan c.caller.inside.number c.info_at.new.hand.share) (sym c.info_at.ensures.chooser)
       (hand_meets _ _ _ _ _ _ c.caller.invariant.0 c.info_at.ensures.share),
   has_made_still _ _ _ _ _ c.caller.invariant.1 (meets_goes _ _ _ _ _ _ c.caller.invariant.0 c.info_at.ensures.share),
+  c.caller.invariant.2,
 )
 
 pub returns-clause-goes : goal.returns-clause-goes

@@ -1,5 +1,6 @@
-use Rattle.std.proofs.Common.{ℕ, sym, subst}
-use Rattle.am_races.specs.Callings.{IsHand}
+use Rattle.std.proofs.Common.{ℕ, ◌+◌, List, [], ◌∷◌, length, length-append, sym, ap, ◌∙◌, subst}
+use Rattle.am_group.specs.declared.event.Act.{Act}
+use Rattle.am_races.specs.Callings.{IsHand, HasMade, Called}
 use Rattle.am_races.proofs.Making.{make_fresh, make_caller, make_has, make_called}
 use Rattle.am_calls.proofs.kernels.Kernels.make.Goals as goal
 
@@ -21,13 +22,15 @@ invariant_of-caller g c = (
       (make_caller g.N.Racing.plan c.caller.inside.number c.caller.inside.calls _ c.args.caller.now c.next_call-tag.result c.caller.view_is
       c.next_call-tag.ensures c.caller.invariant.1)
       c.do_call-answer.ensures.hand,
-  make_has g.N.Racing.plan c.caller.inside.number c.caller.inside.calls _ c.args.caller.now c.next_call-tag.result c.caller.view_is c.next_call-tag.ensures
-      c.caller.invariant.1
-      c.args.node c.args.act.now _ c.do_call-answer.result c.requires.next.planned c.do_call-answer.ensures.made,
+  subst (λ (l : List Act). HasMade g.N.Racing.plan c.caller.inside.number l c.do_call-answer.new.hand.share.seen) (sym c.push.ensures)
+      (make_has g.N.Racing.plan c.caller.inside.number c.caller.inside.calls _ c.args.caller.now c.next_call-tag.result c.caller.view_is c.next_call-tag.ensures
+      c.caller.invariant.1 c.args.node c.args.act.now _ c.do_call-answer.result c.do_call-answer.ensures.made),
+  ap (λ (n : ℕ). n + 1) c.caller.invariant.2 ∙ sym (ap length c.push.ensures ∙ length-append c.caller.inside.calls (c.args.act.now ∷ [])),
 )
 
 pub returns : goal.returns
 returns g c =
-    make_called g.N.Racing.plan c.caller.inside.number c.caller.inside.calls _ c.args.caller.now c.next_call-tag.result c.caller.view_is c.next_call-tag.ensures
-    c.caller.invariant.1
-    c.args.node c.args.act.now _ c.do_call-answer.result c.do_call-answer.ensures.made
+    subst (λ (l : List Act). Called g.N.Racing.plan c.args.node c.args.act.now c.args.caller.now
+    (record { number = c.caller.inside.number; calls = l; seen = c.do_call-answer.new.hand.share.seen }) c.do_call-answer.result) (sym c.push.ensures)
+    (make_called g.N.Racing.plan c.caller.inside.number c.caller.inside.calls _ c.args.caller.now c.next_call-tag.result c.caller.view_is
+    c.next_call-tag.ensures c.caller.invariant.1 c.args.node c.args.act.now _ c.do_call-answer.result c.do_call-answer.ensures.made)
