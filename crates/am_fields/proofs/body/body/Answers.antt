@@ -1,0 +1,29 @@
+use Rattle.std.proofs.Common.{◌≡◌, ℕ, List, ap₂, refl, ◌+◌, ◌*◌, ◌/◌, ◌%◌, ◌≤◌, ◌++◌, [], ◌∷◌, length, drop, false, true, ap, sym, ◌∙◌, rules, arith, append-nil, append_assoc, codes}
+use Rattle.am_fields.specs.Fields.{same, are_pairs, bytes_in}
+use Rattle.am_fields.proofs.Bytes.{pair_at, bytes_more, bytes_end, bytes_are, are_even}
+use Rattle.am_fields.proofs.body.body.Goals as goal
+
+pub loop-at-preserved : goal.loop-at-preserved
+loop-at-preserved c =
+    let pairs : are_pairs c.args.word.now ≡ true = grind arith in
+    let even = are_even c.args.word.now pairs in
+    let more = bytes_more c.args.word.now c.loop-at.at (omega (arith, even)) in
+    record {
+      so_far = ap (λ (bs : List ℕ). bs ++ bytes_in (drop (2 * (c.loop-at.at + 1)) c.args.word.now)) c.push_reserved.ensures.items
+          ∙ append_assoc c.loop-at.into.items _ _
+          ∙ ap₂ (λ (high low : ℕ). c.loop-at.into.items ++ ((16 * high + low) ∷ bytes_in (drop (2 * (c.loop-at.at + 1)) c.args.word.now)))
+          c.digit_value.ensures.value c.digit_value-in-loop-at.ensures.value
+          ∙ ap (λ (bs : List ℕ). c.loop-at.into.items ++ bs) (sym more) ∙ c.loop-at.invariant.so_far;
+      many = omega (arith, c.push_reserved.ensures.len, c.loop-at.invariant.many);
+      room = c.push_reserved.ensures.capacity ∙ c.loop-at.invariant.room;
+    }
+
+pub returns-clause-value : goal.returns-clause-value
+returns-clause-value c =
+    let pairs : are_pairs c.args.word.now ≡ true = grind arith in
+    let even = are_even c.args.word.now pairs in
+    let other : same c.args.word.now (codes "-") ≡ false = sym (ap (same c.args.word.now) c.as_slice.ensures) ∙ sym c.eq.ensures ∙ c.if-eq.false in
+    let read = bytes_are c.args.most c.args.word.now other pairs (omega arith) in
+    let all : c.loop-at.into.items ≡ bytes_in c.args.word.now = sym (append-nil c.loop-at.into.items)
+    ∙ ap (λ (bs : List ℕ). c.loop-at.into.items ++ bs) (sym (bytes_end c.args.word.now c.loop-at.at (omega (arith, even)))) ∙ c.loop-at.invariant.so_far in
+    rw read (refl, all)
