@@ -1,2 +1,4 @@
+pub mod Faulting
 pub mod Marks
+pub mod Passing
 pub mod Texts

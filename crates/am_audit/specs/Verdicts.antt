@@ -1,7 +1,8 @@
 -- The verdicts on what a text was read as.
-use Rattle.std.specs.Prelude.{ℕ, ◌+◌, ◌==◌, ◌&&◌, Bool, true, false, List, [], ◌∷◌, ◌++◌, length, reverse, filter, count_by, slice_get, unwrap_or, Option, Some, None, Result, Ok, Err}
+use Rattle.std.specs.Prelude.{ℕ, ◌+◌, ◌==◌, ◌&&◌, Bool, true, false, List, [], ◌∷◌, ◌++◌, length, filter, slice_get, unwrap_or, Option, Some, None, Result, Ok, Err}
 use Rattle.std.specs.Prelude.{if◌then◌else◌, nat_le, nat_lt, codes, decimal}
 use Rattle.std.specs.List.{list_all}
+use Rattle.am_base.specs.Most.{most_number}
 use Rattle.am_base.specs.Names.{has, lowest_of}
 use Rattle.am_base.specs.Lists.{blank, after, fits}
 use Rattle.am_base.specs.declared.image.Image.{Image}
@@ -83,10 +84,10 @@ abbrev pub once_more : ℕ → Option (Option ℕ) → Option ℕ
 once_more number None = Some number
 once_more number (Some before) = None
 
--- where a send stands in a list whose last entry stands first: nowhere, at one number, or at several
-abbrev pub stands : ℕ → List (List ℕ) → Option (Option ℕ)
-stands key [] = None
-stands key (text ∷ before) = if has_key key (data_in text) then Some (once_more (length before + 1) (stands key before)) else stands key before
+-- where a send stands in entries, the first of which has this number: nowhere, at one number, or at several
+abbrev pub stands : ℕ → ℕ → List (List ℕ) → Option (Option ℕ)
+stands number key [] = None
+stands number key (text ∷ texts) = if has_key key (data_in text) then Some (once_more number (stands (number + 1) key texts)) else stands (number + 1) key texts
 
 abbrev pub is_at : ℕ → Option (Option ℕ) → Bool
 is_at number (Some (Some found)) = found == number
@@ -94,7 +95,7 @@ is_at number (Some None) = false
 is_at number None = false
 
 abbrev pub lost_at : List (List ℕ) → Answer → Option Verdict
-lost_at group answer = if is_at answer.number (stands (send_key answer.name answer.req) (reverse group)) then None
+lost_at group answer = if is_at answer.number (stands 1 (send_key answer.name answer.req) group) then None
     else Some (verdicts.Lost answer.name answer.req)
 
 abbrev pub first_lost : List (List ℕ) → List Answer → Option Verdict
@@ -136,7 +137,7 @@ founds _ = false
 
 abbrev pub fits_at : ℕ → Image → Result Outline FieldFault → Bool
 fits_at number image (Err fault) = false
-fits_at number image (Ok outline) = if number == 1 then founds outline else fits image (bare_entry outline)
+fits_at number image (Ok outline) = if number == 1 then founds outline else nat_le number most_number && fits image (bare_entry outline)
 
 abbrev pub image_after : ℕ → Image → Result Outline FieldFault → Image
 image_after number image (Err fault) = image
@@ -157,14 +158,14 @@ abbrev pub first_skipped : List Line → List Line → Option Verdict
 first_skipped before [] = None
 first_skipped before (send ∷ sends) = or_else (skipped_at (last_of send.name before) send) (first_skipped (send ∷ before) sends)
 
--- the body of the first send with this name and request, in a list whose last one stands first
+-- the body of the first send with this name and request
 abbrev pub first_asked : ℕ → List Line → Option (List ℕ)
 first_asked key [] = None
-first_asked key (send ∷ before) = or_else (first_asked key before) (if send_key send.name send.number == key then Some send.text else None)
+first_asked key (send ∷ sends) = if send_key send.name send.number == key then Some send.text else first_asked key sends
 
 abbrev pub unsent_at : List Line → Result (ℕ × ℕ × List ℕ) FieldFault → Option Verdict
 unsent_at sends (Err fault) = None
-unsent_at sends (Ok sent) = if is_text (first_asked (send_key sent.0 sent.1) (reverse sends)) sent.2 then None
+unsent_at sends (Ok sent) = if is_text (first_asked (send_key sent.0 sent.1) sends) sent.2 then None
     else Some (verdicts.Unsent sent.0 sent.1)
 
 abbrev pub first_unsent : List Line → List (List ℕ) → Option Verdict
@@ -175,7 +176,8 @@ abbrev pub lines_of : ℕ → List Line → List Line
 lines_of name lines = filter (λ line. line.name == name) lines
 
 abbrev pub count_of : ℕ → List Line → ℕ
-count_of name lines = count_by (λ line. line.name == name) lines
+count_of name [] = 0
+count_of name (line ∷ lines) = if line.name == name then count_of name lines + 1 else count_of name lines
 
 abbrev pub is_line : Option Line → Line → Bool
 is_line None line = false

@@ -2,8 +2,10 @@
 #![tactic(auto)]
 
 pub mod fault;
+pub mod faults;
 pub mod fields;
 pub mod line;
+pub mod maps;
 pub mod mark;
 pub mod outline;
 pub mod reading;
