@@ -16,7 +16,7 @@ first_new logs found line at true is within none = (ap (λ f. or_else f (Some li
 first_new logs found line at false is within none = ap (λ f. or_else f None) none
 
 first_old : (logs : List Line) (found other : Option Line) (at : ℕ) → (found ≡ slice_get logs at) → at < length logs → or_else found other ≡ slice_get logs at
-first_old logs found other at is within = 
+first_old logs found other at is within =
     let line = get_or logs at (record { name = 0; number = 0; text = [] }) in
     let some : slice_get logs at ≡ Some line = slice_get-get_or logs at (record { name = 0; number = 0; text = [] }) within in
     ap (λ f. or_else f other) (is ∙ some) ∙ sym some
@@ -34,7 +34,7 @@ pub kept_more : (logs : List Line) (last : List (Option ℕ)) (first after sent 
 kept_more logs last first after sent later line before at is within size named added sends kept = record {
   numbers = λ name low. set_one last line.name name (Some line.number) None (omega arith) ∙ ap (cond (line.name == name) (Some line.number)) (kept.numbers name low);
   lines = λ number. subst (λ o. IsFirst logs o (first_with number (line ∷ before))) (sym (added number))
-    (first_more logs (get nat_cmp first number) (first_with number before) line at (line.number == number) is within (kept.lines number));
+      (first_more logs (get nat_cmp first number) (first_with number before) line at (line.number == number) is within (kept.lines number));
   sends = sends;
 }
 
@@ -67,9 +67,10 @@ faulted_item : (logs : List Line) (last : List (Option ℕ)) (first after sent l
 faulted_item logs last first after sent later known at item before verdict is within size named gap differs looked added twice kept =
     let no_gap : gap_at (last_of item.name before) item ≡ None = ap (λ o. gap_at o item) (sym (kept.numbers item.name named)) ∙ gap in
     let no_other : differs_at (first_with item.number before) item ≡ None
-    = sym (differs (first_with item.number before) (subst (λ o. IsFirst logs o (first_with item.number before)) (sym looked) (kept.lines item.number))) in
-    (fault_by_send before item verdict no_gap no_other (twice kept.sends).0,
-      λ none. kept_more logs last first after sent later item before at is within size named added (twice kept.sends).1 kept)
+    = sym (differs (first_with item.number before) (subst (λ o. IsFirst logs o (first_with item.number before)) (sym looked) (kept.lines item.number))) in (
+      fault_by_send before item verdict no_gap no_other (twice kept.sends).0,
+      λ none. kept_more logs last first after sent later item before at is within size named added (twice kept.sends).1 kept,
+    )
 
 -- what was found of a line, and that it is kept where it doesn't fault
 pub faulted : (logs : List Line) (last : List (Option ℕ)) (first after sent later : BTreeMap ℕ ℕ) (known : Option ℕ) (at n m : ℕ) (item line : Line)
@@ -84,10 +85,11 @@ pub faulted : (logs : List Line) (last : List (Option ℕ)) (first after sent la
 faulted logs last first after sent later known at n m item line before verdict is same within size named en em gap differs looked added twice kept =
     let here : slice_get logs at ≡ Some item = is ∙ ap Some same in
     let there = faulted_item logs last first after sent later known at item before verdict here within size named
-      (ap (λ (k : ℕ). gap_at (get_or last k None) item) (sym en) ∙ gap) differs looked added twice kept in
-    (there.0 ∙ ap (fault_at before) (sym same),
+    (ap (λ (k : ℕ). gap_at (get_or last k None) item) (sym en) ∙ gap) differs looked added twice kept in (
+      there.0 ∙ ap (fault_at before) (sym same),
       λ none. subst (λ (k : ℕ). IsKept logs (set last k (Some item.number)) after later (line ∷ before)) (sym em)
-        (subst (λ (x : Line). IsKept logs (set last item.name (Some item.number)) after later (x ∷ before)) (sym same) (there.1 none)))
+          (subst (λ (x : Line). IsKept logs (set last item.name (Some item.number)) after later (x ∷ before)) (sym same) (there.1 none)),
+    )
 
 -- where its number isn't the next
 pub faulted_gap : (last : List (Option ℕ)) (n : ℕ) (item line : Line) (before : List Line) (verdict : Verdict) → line ≡ item → n ≡ item.name

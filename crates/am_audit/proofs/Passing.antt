@@ -10,7 +10,8 @@ use Rattle.std.proofs.lemmas.List.{get_or-set_same, get_or-set_other, drop_more,
 use Rattle.std.proofs.lemmas.Option.{slice_get-map, slice_get-get_or}
 use Rattle.am_audit.specs.declared.line.TextLine.{TextLine}
 use Rattle.am_audit.specs.Lines.{Line}
-use Rattle.am_audit.specs.Verdicts.{or_else}
+use Rattle.am_audit.specs.Verdicts.{or_else, last_of}
+use Rattle.am_audit.specs.Keeping.{IsLast}
 use Rattle.am_audit.specs.Views.{line_of, lines_in}
 
 -- no line
@@ -40,9 +41,9 @@ lines_from logs at d within = ap lines_in (drop_more logs at d within)
 pub set_one : {A : Type 0} (xs : List A) (at q : ℕ) (x d : A) → at < length xs → get_or (set xs at x) q d ≡ cond (at == q) x (get_or xs q d)
 set_one {A} xs at q x d within = ⊎_elim
     (λ (same : at ≡ q). let yes : (at == q) ≡ true = eq-eqb at q same in
-      ap (λ (k : ℕ). get_or (set xs at x) k d) (sym same) ∙ get_or-set_same xs at x d within ∙ sym (ap (λ b. cond b x (get_or xs q d)) yes))
+    ap (λ (k : ℕ). get_or (set xs at x) k d) (sym same) ∙ get_or-set_same xs at x d within ∙ sym (ap (λ b. cond b x (get_or xs q d)) yes))
     (λ (other : at ≡ q → ⊥). let no : (at == q) ≡ false = grind (arith, nat_tests) in
-      get_or-set_other xs at q x d (λ e. other (sym e)) ∙ sym (ap (λ b. cond b x (get_or xs q d)) no))
+    get_or-set_other xs at q x d (λ e. other (sym e)) ∙ sym (ap (λ b. cond b x (get_or xs q d)) no))
     (cases_eq at q)
 
 -- the first of two is there, or isn't
@@ -59,3 +60,13 @@ lines_end logs at past = ap lines_in (drop_all at logs past)
 -- an empty map has nothing
 pub get_empty : {X : Type 0} (m : BTreeMap ℕ X) (key : ℕ) → IsEmpty m → get nat_cmp m key ≡ None
 get_empty m key empty = ap (lookup (is_at (nat_cmp key))) empty
+
+-- the last number of each name, with one line more
+pub last_more : (last : List (Option ℕ)) (before : List Line) (line : Line) (n : ℕ) → length last ≡ 256 → line.name < 256 → n ≡ line.name
+    → IsLast last before → IsLast (set last n (Some line.number)) (line ∷ before)
+last_more last before line n size named is kept = λ name low.
+    ap (λ (k : ℕ). get_or (set last k (Some line.number)) name None) is ∙ set_one last line.name name (Some line.number) None (omega arith)
+    ∙ ap (cond (line.name == name) (Some line.number)) (kept name low)
+
+pub at_last : (last : List (Option ℕ)) (before : List Line) (name n : ℕ) → name < 256 → n ≡ name → IsLast last before → get_or last n None ≡ last_of name before
+at_last last before name n named is kept = ap (λ (k : ℕ). get_or last k None) is ∙ kept name named

@@ -1,5 +1,5 @@
 -- The verdicts on what a text was read as.
-use Rattle.std.specs.Prelude.{ℕ, ◌+◌, ◌==◌, ◌&&◌, Bool, true, false, List, [], ◌∷◌, ◌++◌, length, filter, slice_get, unwrap_or, Option, Some, None, Result, Ok, Err}
+use Rattle.std.specs.Prelude.{ℕ, ◌+◌, ◌==◌, ◌&&◌, Bool, true, false, List, [], ◌∷◌, ◌++◌, length, filter, slice_get, option_map, unwrap_or, Option, Some, None, Result, Ok, Err}
 use Rattle.std.specs.Prelude.{if◌then◌else◌, nat_le, nat_lt, codes, decimal}
 use Rattle.std.specs.List.{list_all}
 use Rattle.am_base.specs.Most.{most_number}
@@ -158,14 +158,19 @@ abbrev pub first_skipped : List Line → List Line → Option Verdict
 first_skipped before [] = None
 first_skipped before (send ∷ sends) = or_else (skipped_at (last_of send.name before) send) (first_skipped (send ∷ before) sends)
 
--- the body of the first send with this name and request
-abbrev pub first_asked : ℕ → List Line → Option (List ℕ)
-first_asked key [] = None
-first_asked key (send ∷ sends) = if send_key send.name send.number == key then Some send.text else first_asked key sends
+-- the index of the first send with this name and request, where the first of these has this index
+abbrev pub first_asked : ℕ → ℕ → List Line → Option ℕ
+first_asked at key [] = None
+first_asked at key (send ∷ sends) = if send_key send.name send.number == key then Some at else first_asked (at + 1) key sends
+
+-- the body of the send at an index
+abbrev pub body_at : List Line → Option ℕ → Option (List ℕ)
+body_at sends None = None
+body_at sends (Some at) = option_map (λ send. send.text) (slice_get sends at)
 
 abbrev pub unsent_at : List Line → Result (ℕ × ℕ × List ℕ) FieldFault → Option Verdict
 unsent_at sends (Err fault) = None
-unsent_at sends (Ok sent) = if is_text (first_asked (send_key sent.0 sent.1) sends) sent.2 then None
+unsent_at sends (Ok sent) = if is_text (body_at sends (first_asked 0 (send_key sent.0 sent.1) sends)) sent.2 then None
     else Some (verdicts.Unsent sent.0 sent.1)
 
 abbrev pub first_unsent : List Line → List (List ℕ) → Option Verdict

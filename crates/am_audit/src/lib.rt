@@ -4,10 +4,14 @@
 pub mod fault;
 pub mod faults;
 pub mod fields;
+pub mod fitting;
 pub mod line;
+pub mod lists;
 pub mod maps;
 pub mod mark;
 pub mod outline;
 pub mod reading;
+pub mod sends;
+pub mod takes;
 pub mod text;
 pub mod verdict;
