@@ -1,6 +1,6 @@
 ghost use Rattle.std.specs.Prelude.{◌≡◌, ◌≤◌, ◌*◌, ◌+◌, ◌<◌, ◌/◌, ◌++◌, length, vec_capacity, MatchResult, IfOk, true};
 ghost use Rattle.std.specs.List.{list_all};
-ghost use Rattle.am_fields.specs.Fields.{is_pair_digit, digit_value, are_pairs, bytes_in, bytes_of};
+ghost use Rattle.am_fields.specs.Fields.{is_pair_digit, digit_value, are_pairs, bytes_in, bytes_of, and_then};
 
 use crate::fault::FieldFault;
 
@@ -62,6 +62,23 @@ pub fn body(word: &[u8], most: usize, into: &mut Vec<u8>) -> Result<(), FieldFau
     }
     for at in 0..count {
         into.push_reserved(16 * digit_value(word[2 * at]) + digit_value(word[2 * at + 1]));
+    }
+    Ok(())
+}
+
+/// Whether a word is a body of so many bytes at most.
+#[tactic(auto, unfolding(crate::specs::Fields::bytes_of))]
+pub fn is_body(word: &[u8], most: usize) -> Result<(), FieldFault>
+    ensures { result ≡ and_then (bytes_of most word.now) (λ bytes. Ok tt) }
+{
+    if word == b"-".as_slice() {
+        return Ok(());
+    }
+    if !are_pairs(word) {
+        return Err(FieldFault::Form);
+    }
+    if most < word.len() / 2 {
+        return Err(FieldFault::Limit);
     }
     Ok(())
 }

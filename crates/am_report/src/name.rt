@@ -61,8 +61,8 @@ pub fn push_names(out: &mut String, names: Names) -> Result<(), NoMemory>
     Ok(())
 }
 
-// Whether everybody has the first life.
-fn are_first(names: Names) -> bool
+/// Whether everybody has the first life.
+pub fn are_first(names: Names) -> bool
     ensures { result ≡ list_all (λ life. nat_le life 1) names }
 {
     names.are_first_lives()

@@ -1,0 +1,72 @@
+-- One line more in a pass over lines.
+use Rattle.std.proofs.Common.{◌≡◌, ℕ, ◌+◌, ◌<◌, ◌≤◌, ◌==◌, List, [], ◌∷◌, length, map, drop, get_or, set, Option, Some, None, slice_get, Result, Ok, Err, IfOk, true, false, cond, refl, sym, ap, ◌∙◌, arith, ⊎_elim}
+use Rattle.std.specs.Option.{option_map}
+use Rattle.std.specs.Ordering.{nat_cmp}
+use Rattle.std.specs.Map.{lookup}
+use Rattle.std.specs.BTreeMap.{BTreeMap, IsEmpty, is_at, get}
+use Rattle.std.proofs.lemmas.Bool.{cases_eq, eq-eqb}
+use Rattle.std.proofs.lemmas.Bool.Decides.{nat_tests}
+use Rattle.std.proofs.lemmas.List.{get_or-set_same, get_or-set_other, drop_more, drop_all}
+use Rattle.std.proofs.lemmas.Option.{slice_get-map, slice_get-get_or}
+use Rattle.am_audit.specs.declared.line.TextLine.{TextLine}
+use Rattle.am_audit.specs.Lines.{Line}
+use Rattle.am_audit.specs.Verdicts.{or_else, last_of}
+use Rattle.am_audit.specs.Keeping.{IsLast}
+use Rattle.am_audit.specs.Views.{line_of, lines_in}
+
+-- no line
+abbrev pub no_line : TextLine
+no_line = record { name = 0; number = 0; text = record { ref_ptr = (0, 0); now = [] } }
+
+-- what holds of what was returned, and what follows
+pub if_ok : {T E : Type 0} (r : Result T E) (P Q : T → Type 0) → ((x : T) → P x → Q x) → IfOk r P → IfOk r Q
+if_ok (Ok x) P Q h p = h x p
+if_ok (Err e) P Q h p = tt
+
+-- the line at an index, as it is kept
+pub line_at : (logs : List TextLine) (at : ℕ) (d : TextLine) (line : Line) → at < length logs → slice_get (lines_in logs) at ≡ Some line → line ≡ line_of (get_or logs at d)
+line_at logs at d line within is =
+    let found : slice_get (lines_in logs) at ≡ Some (line_of (get_or logs at d))
+    = slice_get-map line_of logs at ∙ ap (option_map line_of) (slice_get-get_or logs at d within) in
+    cc
+
+pub line_here : (logs : List TextLine) (at : ℕ) (d : TextLine) → at < length logs → slice_get (lines_in logs) at ≡ Some (line_of (get_or logs at d))
+line_here logs at d within = slice_get-map line_of logs at ∙ ap (option_map line_of) (slice_get-get_or logs at d within)
+
+-- the lines from an index on
+pub lines_from : (logs : List TextLine) (at : ℕ) (d : TextLine) → at < length logs → lines_in (drop at logs) ≡ line_of (get_or logs at d) ∷ lines_in (drop (at + 1) logs)
+lines_from logs at d within = ap lines_in (drop_more logs at d within)
+
+-- what each name has, where one gets something
+pub set_one : {A : Type 0} (xs : List A) (at q : ℕ) (x d : A) → at < length xs → get_or (set xs at x) q d ≡ cond (at == q) x (get_or xs q d)
+set_one {A} xs at q x d within = ⊎_elim
+    (λ (same : at ≡ q). let yes : (at == q) ≡ true = eq-eqb at q same in
+    ap (λ (k : ℕ). get_or (set xs at x) k d) (sym same) ∙ get_or-set_same xs at x d within ∙ sym (ap (λ b. cond b x (get_or xs q d)) yes))
+    (λ (other : at ≡ q → ⊥). let no : (at == q) ≡ false = grind (arith, nat_tests) in
+    get_or-set_other xs at q x d (λ e. other (sym e)) ∙ sym (ap (λ b. cond b x (get_or xs q d)) no))
+    (cases_eq at q)
+
+-- the first of two is there, or isn't
+pub or_else_none : {A : Type 0} (o second : Option A) → o ≡ None → or_else o second ≡ second
+or_else_none o second none = ap (λ p. or_else p second) none
+
+pub or_else_some : {A : Type 0} (o second : Option A) (x : A) → o ≡ Some x → or_else o second ≡ Some x
+or_else_some o second x some = ap (λ p. or_else p second) some
+
+-- no line is left
+pub lines_end : (logs : List TextLine) (at : ℕ) → length logs ≤ at → lines_in (drop at logs) ≡ []
+lines_end logs at past = ap lines_in (drop_all at logs past)
+
+-- an empty map has nothing
+pub get_empty : {X : Type 0} (m : BTreeMap ℕ X) (key : ℕ) → IsEmpty m → get nat_cmp m key ≡ None
+get_empty m key empty = ap (lookup (is_at (nat_cmp key))) empty
+
+-- the last number of each name, with one line more
+pub last_more : (last : List (Option ℕ)) (before : List Line) (line : Line) (n : ℕ) → length last ≡ 256 → line.name < 256 → n ≡ line.name
+    → IsLast last before → IsLast (set last n (Some line.number)) (line ∷ before)
+last_more last before line n size named is kept = λ name low.
+    ap (λ (k : ℕ). get_or (set last k (Some line.number)) name None) is ∙ set_one last line.name name (Some line.number) None (omega arith)
+    ∙ ap (cond (line.name == name) (Some line.number)) (kept name low)
+
+pub at_last : (last : List (Option ℕ)) (before : List Line) (name n : ℕ) → name < 256 → n ≡ name → IsLast last before → get_or last n None ≡ last_of name before
+at_last last before name n named is kept = ap (λ (k : ℕ). get_or last k None) is ∙ kept name named

@@ -1,0 +1,37 @@
+use Rattle.std.proofs.Common.{◌≡◌, ℕ, List, [], ◌∷◌, Option, Some, None, drop, sym, subst, ap, ◌∙◌, refl, arith}
+use Rattle.std.proofs.lemmas.List.{get_or-replicate}
+use Rattle.am_audit.specs.Lines.{Line}
+use Rattle.am_audit.specs.Verdicts.{fault_at, first_fault}
+use Rattle.am_audit.specs.Views.{line_of, lines_in}
+use Rattle.am_audit.specs.Keeping.{IsFirst}
+use Rattle.am_audit.proofs.Passing.{no_line, line_here, lines_from, lines_end, get_empty, or_else_none, or_else_some}
+use Rattle.am_audit.proofs.faults.first_fault.Goals as goal
+
+pub loop-at-init : goal.loop-at-init
+loop-at-init c = record {
+  before = [];
+  kept = record {
+    numbers = λ name low. get_or-replicate 256 name None None low;
+    lines = λ number. subst (λ (o : Option ℕ). IsFirst (lines_in c.args.logs.now) o None) (sym (get_empty c.new-first.result number c.new-first.ensures.empty)) refl;
+    sends = λ key. get_empty c.new-sent.result key c.new-sent.ensures.empty;
+  };
+  rest = refl;
+}
+
+pub loop-at-preserved : goal.loop-at-preserved
+loop-at-preserved c =
+    let inv = c.loop-at.invariant in
+    let here = line_here c.args.logs.now c.loop-at.at no_line c.loop-at-test.true in
+    let told = c.in_ok-found.ensures _ inv.before here inv.kept in
+    record {
+      before = _ ∷ inv.before;
+      kept = told.1 c.in-None.is;
+      rest = sym (or_else_none _ _ (sym told.0 ∙ c.in-None.is)) ∙ ap (first_fault inv.before) (sym (lines_from c.args.logs.now c.loop-at.at no_line c.loop-at-test.true)) ∙ inv.rest;
+    }
+
+pub returns-in-Some : goal.returns-in-Some
+returns-in-Some c =
+    let inv = c.loop-at.invariant in
+    let here = line_here c.args.logs.now c.loop-at.at no_line c.loop-at-test.true in
+    let told = c.in_ok-found.ensures _ inv.before here inv.kept in
+    sym (or_else_some _ _ c.in-Some.fault (sym told.0 ∙ c.in-Some.is)) ∙ ap (first_fault inv.before) (sym (lines_from c.args.logs.now c.loop-at.at no_line c.loop-at-test.true)) ∙ inv.rest

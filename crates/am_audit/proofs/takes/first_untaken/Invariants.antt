@@ -1,0 +1,14 @@
+use Rattle.std.proofs.Common.{◌≡◌, ℕ, ◌+◌, ◌<◌, ◌≤◌, List, [], length, drop, get_or}
+use Rattle.am_audit.specs.Lines.{Line}
+use Rattle.am_audit.specs.Views.{lines_in}
+use Rattle.am_audit.specs.Verdicts.{first_untaken}
+use Rattle.am_audit.specs.Keeping.{IsCount}
+use Rattle.am_audit.proofs.takes.first_untaken.Given as goal
+
+abbrev pub invariant-loop-at : goal.invariant-loop-at
+invariant-loop-at l = record {
+  before : List Line;
+  so_many : length before ≡ l.at;
+  done : IsCount l.done before;
+  rest : first_untaken (lines_in l.fn.takes) before (lines_in (drop l.at l.logs)) ≡ first_untaken (lines_in l.fn.takes) [] (lines_in l.logs);
+}

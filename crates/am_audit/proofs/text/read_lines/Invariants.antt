@@ -1,0 +1,15 @@
+use Rattle.std.proofs.Common.{◌≡◌, ◌+◌, ◌<◌, length}
+use Rattle.am_fields.specs.Fields.{parts_of}
+use Rattle.am_audit.specs.Lines.{nothing_read, read_lines}
+use Rattle.am_audit.specs.Views.{told}
+use Rattle.am_audit.proofs.text.read_lines.Given as goal
+
+-- what is read of the rest is what is read of all
+abbrev pub invariant-loop-line : goal.invariant-loop-line
+invariant-loop-line l = record {
+  read : read_lines l.number (told l.lines) (parts_of 10 l.rest) ≡ read_lines l.fn.first nothing_read (parts_of 10 l.fn.text);
+  few : l.number + length l.rest < 4294967296;
+}
+
+abbrev pub decreases-loop-line : goal.decreases-loop-line
+decreases-loop-line l = length l.rest

@@ -1,0 +1,40 @@
+-- What the code keeps of the lines that it went through, of which the last stands first.
+use Rattle.std.specs.Prelude.{◌≡◌, ℕ, ◌+◌, ◌<◌, ◌==◌, ◌&&◌, Bool, nat_lt, if◌then◌else◌, List, [], ◌∷◌, length, slice_index, slice_get, slice_index_or, Option, Some, None}
+use Rattle.std.specs.Ordering.{nat_cmp}
+use Rattle.std.specs.BTreeMap.{BTreeMap, get}
+use Rattle.am_group.specs.Journals.{item_at}
+use Rattle.am_audit.specs.Lines.{Line}
+use Rattle.am_audit.specs.Verdicts.{last_of, first_with, first_sent, count_of, is_text}
+
+-- an index is that of the line that was found
+abbrev pub IsFirst : List Line → Option ℕ → Option Line → Type 0
+IsFirst logs None found = found ≡ None
+IsFirst logs (Some at) found = (found ≡ slice_get logs at) × (at < length logs)
+
+-- each send's first number
+abbrev pub IsSent : BTreeMap ℕ ℕ → List Line → Type 0
+IsSent sent before = (key : ℕ) → get nat_cmp sent key ≡ first_sent key before
+
+-- the last number of each name
+abbrev pub IsLast : List (Option ℕ) → List Line → Type 0
+IsLast last before = (name : ℕ) → name < 256 → slice_index_or last name None ≡ last_of name before
+
+-- the number of each name's last line, the index of the first with each number, and the number of the first with each send
+pub record IsKept (logs : List Line) (last : List (Option ℕ)) (first sent : BTreeMap ℕ ℕ) (before : List Line) : Type 0 where
+  pub numbers : IsLast last before
+  pub lines : (number : ℕ) → IsFirst logs (get nat_cmp first number) (first_with number before)
+  pub sends : IsSent sent before
+
+-- how many lines each name has
+pub record IsCount (counts : List ℕ) (lines : List Line) : Type 0 where
+  pub size : length counts ≡ 256
+  pub counted : (name : ℕ) → name < 256 → slice_index counts name ≡ count_of name lines
+
+-- the number of a name's first line, 0 where it has none
+abbrev pub first_number : ℕ → List Line → ℕ
+first_number name [] = 0
+first_number name (line ∷ lines) = if line.name == name then line.number else first_number name lines
+
+-- a take is the entry behind so many of a log, which has this first number and length, where the list has it at its number
+abbrev pub is_next : List (List ℕ) → ℕ → ℕ → ℕ → Line → Bool
+is_next group first count before taken = nat_lt before count && ((taken.number == first + before) && is_text (item_at group taken.number) taken.text)

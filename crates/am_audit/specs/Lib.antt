@@ -1,0 +1,5 @@
+pub mod Fields
+pub mod Keeping
+pub mod Lines
+pub mod Verdicts
+pub mod Views

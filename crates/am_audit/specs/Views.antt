@@ -1,0 +1,54 @@
+-- What the code keeps of a text, as it was read.
+use Rattle.std.specs.Prelude.{◌≡◌, ℕ, List, map, Result, Ok, Err, IsErr}
+use Rattle.am_fields.specs.declared.fault.FieldFault.{FieldFault}
+use Rattle.am_audit.specs.declared.fault.LineFault.{LineFault}
+use Rattle.am_audit.specs.declared.fault.LineFault.TheVariants as faults
+use Rattle.am_audit.specs.declared.fault.TextRefusal.{TextRefusal}
+use Rattle.am_audit.specs.declared.fault.TextRefusal.TheVariants as refusals
+use Rattle.am_audit.specs.declared.line.TextLine.{TextLine}
+use Rattle.am_audit.specs.declared.line.Piece.{Piece}
+use Rattle.am_audit.specs.declared.reading.Lines.{Lines}
+use Rattle.am_audit.specs.Lines.{Line, Reading}
+
+abbrev pub line_of : TextLine → Line
+line_of line = record { name = line.name; number = line.number; text = line.text.now }
+
+abbrev pub lines_in : List TextLine → List Line
+lines_in lines = map line_of lines
+
+abbrev pub texts_in : List Piece → List (List ℕ)
+texts_in pieces = map (λ piece. piece.text.now) pieces
+
+abbrev pub told : Lines → Reading
+told s = record {
+  stage = s.stage;
+  names = s.names;
+  events = s.events;
+  sends = lines_in s.sends.items;
+  answers = s.answers.items;
+  takes = lines_in s.takes.items;
+  group = texts_in s.group.items;
+  logs = lines_in s.logs.items;
+  void_from = s.void_from;
+}
+
+abbrev pub Fails : LineFault → Result Reading FieldFault → Type 0
+Fails faults.Memory read = Unit {0}
+Fails (faults.Field fault) read = read ≡ Err fault
+
+-- a line was taken, and this is what was read since, or it wasn't, and why, unless there was no memory
+abbrev pub Takes : Result (Unit {0}) LineFault → Reading → Result Reading FieldFault → Type 0
+Takes (Ok done) new read = read ≡ Ok new
+Takes (Err fault) new read = Fails fault read
+
+-- the same of a line with a number
+abbrev pub TakesAt : ℕ → Result (Unit {0}) TextRefusal → Reading → Result Reading FieldFault → Type 0
+TakesAt number (Ok done) new read = read ≡ Ok new
+TakesAt number (Err refusals.NoMemory) new read = Unit {0}
+TakesAt number (Err (refusals.BadLine line)) new read = (line ≡ number) × IsErr read
+
+-- what a text was read as, or its first bad line, unless there was no memory
+abbrev pub Reads : Result Lines TextRefusal → Result Reading ℕ → Type 0
+Reads (Ok s) read = read ≡ Ok (told s)
+Reads (Err refusals.NoMemory) read = Unit {0}
+Reads (Err (refusals.BadLine line)) read = read ≡ Err line

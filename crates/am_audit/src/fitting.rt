@@ -1,0 +1,84 @@
+ghost use Rattle.std.specs.Prelude.{◌≡◌, ◌<◌, length};
+ghost use Rattle.am_base.specs.Lists.{blank};
+ghost use Rattle.am_audit.specs.Views.{texts_in};
+ghost use Rattle.am_audit.specs.Verdicts.{bare_entry, founds, first_misfit};
+
+use crate::fields::outline;
+use crate::line::Piece;
+use crate::outline::Outline;
+use crate::verdict::Verdict;
+use am_base::body::Body;
+use am_base::entry::Entry;
+use am_base::limits::MOST_NUMBER;
+use am_report::name::are_first;
+use am_table::table::Table;
+
+/// The entry, with nothing as a body.
+fn bare_entry(outline: &Outline) -> Entry
+    ensures { result ≡ bare_entry outline.now }
+{
+    match outline {
+        Outline::Data { from, req } => Entry::Data {
+            from: *from,
+            req: *req,
+            body: Body::default(),
+        },
+        Outline::Join(name) => Entry::Join(*name),
+        Outline::Leave(name) => Entry::Leave(*name),
+        Outline::View {
+            stamp,
+            members,
+            resilience,
+        } => Entry::View {
+            stamp: *stamp,
+            members: *members,
+            resilience: *resilience,
+        },
+    }
+}
+
+/// Whether it is a view with which a group is founded.
+fn founds(outline: &Outline) -> bool
+    ensures { result ≡ founds outline.now }
+{
+    let Outline::View {
+        stamp,
+        members,
+        resilience,
+    } = outline
+    else {
+        return false;
+    };
+    let Some(lowest) = members.lowest() else {
+        return false;
+    };
+    if stamp.round != 1 || lowest != stamp.by {
+        return false;
+    }
+    are_first(*members) && *resilience == 0
+}
+
+/// The first entry that doesn't fit what stands before it.
+pub fn first_misfit(group: &[Piece]) -> Option<Verdict>
+    requires few { length group.now < 4294967295 }
+    ensures { result ≡ first_misfit 1 blank (texts_in group.now) }
+{
+    let mut table = Table::blank();
+    for at in 0..group.len() {
+        let number = at as u32 + 1;
+        let Ok(outline) = outline(group[at].text) else {
+            return Some(Verdict::Misfit { number });
+        };
+        let entry = bare_entry(&outline);
+        let fits = if number == 1 {
+            founds(&outline)
+        } else {
+            number <= MOST_NUMBER && table.fits(&entry)
+        };
+        if !fits {
+            return Some(Verdict::Misfit { number });
+        }
+        table.apply(number, &entry);
+    }
+    None
+}

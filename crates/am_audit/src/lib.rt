@@ -1,0 +1,17 @@
+//! The audit of a printed text: whose logs agree with each other, with the group list, and with the events.
+#![tactic(auto)]
+
+pub mod fault;
+pub mod faults;
+pub mod fields;
+pub mod fitting;
+pub mod line;
+pub mod lists;
+pub mod maps;
+pub mod mark;
+pub mod outline;
+pub mod reading;
+pub mod sends;
+pub mod takes;
+pub mod text;
+pub mod verdict;

@@ -1,0 +1,273 @@
+ghost use Rattle.std.specs.Prelude.{◌≡◌, ◌≤◌, OnOk, length};
+ghost use Rattle.am_audit.specs.Fields.{two_of, send_of, answer_of, take_of, return_of};
+ghost use Rattle.am_audit.specs.Lines.{nothing_read, may_event, may_list, may_log, is_end, with_send, with_answer, with_take, with_return, counted};
+ghost use Rattle.am_audit.specs.Lines.{with_event, add_event, add_entry, logged, add_log, add_end, add_void, add_line, finish};
+ghost use Rattle.am_audit.specs.Views.{told, Takes};
+
+use crate::fault::LineFault;
+use crate::fields::{answer, expect, outline, return_of, send, take, two};
+use crate::line::{Answer, Piece, Stage, TextLine};
+use crate::mark::mark_cut;
+use am_base::NoMemory;
+use am_base::name::Name;
+use am_fields::fault::FieldFault;
+use am_fields::name::name;
+use am_fields::number::number;
+use std::alloc::Global;
+
+/// What was read of a text so far: its list, its logs, and its events that count.
+#[derive(Drop, Debug)]
+pub struct Lines<'a> {
+    pub stage: Stage,
+    /// The byte of the name at each place.
+    pub names: [u8; 16],
+    pub events: u32,
+    pub sends: Vec<TextLine<'a>>,
+    pub answers: Vec<Answer>,
+    pub takes: Vec<TextLine<'a>>,
+    pub group: Vec<Piece<'a>>,
+    pub logs: Vec<TextLine<'a>>,
+    pub void_from: Option<u32>,
+}
+
+/// Whether an event may come.
+fn may_event(stage: Stage) -> bool
+    ensures { result ≡ may_event stage }
+{
+    match stage {
+        Stage::Events => true,
+        _ => false,
+    }
+}
+
+/// Whether an entry of the group list may come.
+fn may_list(stage: Stage) -> bool
+    ensures { result ≡ may_list stage }
+{
+    match stage {
+        Stage::Events | Stage::List => true,
+        _ => false,
+    }
+}
+
+/// Whether a line of a log, or the last line, may come.
+fn may_log(stage: Stage) -> bool
+    ensures { result ≡ may_log stage }
+{
+    match stage {
+        Stage::List | Stage::Logs => true,
+        _ => false,
+    }
+}
+
+/// Whether the last line was read.
+pub fn is_end(stage: Stage) -> bool
+    ensures { result ≡ is_end stage }
+{
+    match stage {
+        Stage::End => true,
+        _ => false,
+    }
+}
+
+impl<'a> Lines<'a> {
+    /// Nothing yet.
+    pub fn new(alloc: Global) -> Lines<'a>
+        ensures { told result ≡ nothing_read }
+    {
+        Lines {
+            stage: Stage::Events,
+            names: [0, 1, 2, 3, 4, 5, 6, 7, 8, 9, 10, 11, 12, 13, 14, 15],
+            events: 0,
+            sends: Vec::new(alloc),
+            answers: Vec::new(alloc),
+            takes: Vec::new(alloc),
+            group: Vec::new(alloc),
+            logs: Vec::new(alloc),
+            void_from: None,
+        }
+    }
+
+    /// Keeps a send, where it is one.
+    fn count_send(&mut self, rest: &'a [u8], outcome: &[u8]) -> Result<(), NoMemory>
+        ensures { OnOk result (told self.new
+            ≡ with_send (told self.old) (send_of rest.entry.now outcome.now)) }
+    {
+        if let Ok((place, number, text)) = send(rest, outcome) {
+            let name = self.names[usize::from(place)];
+            self.sends.push(TextLine { name, number, text })?;
+        }
+        Ok(())
+    }
+
+    /// Keeps an answer, where it is one.
+    fn count_answer(&mut self, rest: &[u8], outcome: &[u8]) -> Result<(), NoMemory>
+        ensures { OnOk result (told self.new
+            ≡ with_answer (told self.old) (answer_of rest.now outcome.now)) }
+    {
+        if let Ok((place, req, number)) = answer(rest, outcome) {
+            let name = Name::of_byte(self.names[usize::from(place)]);
+            self.answers.push(Answer { name, req, number })?;
+        }
+        Ok(())
+    }
+
+    /// Keeps a take, where it is one.
+    fn count_take(&mut self, rest: &[u8], outcome: &'a [u8]) -> Result<(), NoMemory>
+        ensures { OnOk result (told self.new
+            ≡ with_take (told self.old) (take_of rest.now outcome.entry.now)) }
+    {
+        if let Ok((place, number, text)) = take(rest, outcome) {
+            let name = self.names[usize::from(place)];
+            self.takes.push(TextLine { name, number, text })?;
+        }
+        Ok(())
+    }
+
+    /// Keeps a return, where it is one.
+    fn count_return(&mut self, rest: &[u8], outcome: &[u8])
+        ensures { told self.new ≡ with_return (told self.old) (return_of rest.now outcome.now) }
+    {
+        if let Ok((place, name)) = return_of(rest, outcome) {
+            self.names[usize::from(place)] = name.get();
+        }
+    }
+
+    /// Keeps what counts of an event: its act, and its outcome.
+    #[tactic(auto, unfolding(crate::specs::Lines::counted))]
+    fn count(&mut self, act: &'a [u8], outcome: &'a [u8]) -> Result<(), NoMemory>
+        ensures { OnOk result (told self.new
+            ≡ counted (told self.old) (two_of act.entry.now) outcome.entry.now) }
+    {
+        let Ok((word, rest)) = two(act) else {
+            return Ok(());
+        };
+        if word == b"send".as_slice() {
+            return self.count_send(rest, outcome);
+        }
+        if word == b"done".as_slice() {
+            return self.count_answer(rest, outcome);
+        }
+        if word == b"take".as_slice() {
+            return self.count_take(rest, outcome);
+        }
+        if word == b"return".as_slice() {
+            self.count_return(rest, outcome);
+        }
+        Ok(())
+    }
+
+    /// Takes an event's line: its number, and what stands behind that.
+    #[tactic(auto, unfolding(crate::specs::Lines::add_event))]
+    fn add_event(&mut self, number_text: &[u8], rest: &'a [u8]) -> Result<(), LineFault>
+        ensures { Takes result (told self.new)
+            (add_event (told self.old) number_text.now rest.entry.now) }
+    {
+        let number = number(number_text)?;
+        if !may_event(self.stage) || u64::from(number) != u64::from(self.events) + 1 {
+            return Err(LineFault::Field(FieldFault::Form));
+        }
+        let (act, behind) = mark_cut(rest, b':');
+        let Some(behind) = behind else {
+            return Err(LineFault::Field(FieldFault::Form));
+        };
+        let (outcome, _) = mark_cut(behind, b'|');
+        self.events = number;
+        self.count(act, outcome)?;
+        Ok(())
+    }
+
+    /// Takes a line of the group list, behind its word.
+    #[tactic(auto, unfolding(crate::specs::Lines::add_entry))]
+    fn add_entry(&mut self, rest: &'a [u8]) -> Result<(), LineFault>
+        ensures { Takes result (told self.new) (add_entry (told self.old) rest.entry.now) }
+    {
+        let (first, text) = two(rest)?;
+        let number = number(first)?;
+        if !may_list(self.stage) || u64::from(number) != self.group.len() as u64 + 1 {
+            return Err(LineFault::Field(FieldFault::Form));
+        }
+        let _ = outline(text)?;
+        self.group.push(Piece { text })?;
+        self.stage = Stage::List;
+        Ok(())
+    }
+
+    /// Takes a log's line, behind its name.
+    #[tactic(auto, unfolding(crate::specs::Lines::logged))]
+    fn logged(&mut self, name: Name, rest: &'a [u8]) -> Result<(), LineFault>
+        ensures { Takes result (told self.new) (logged (told self.old) name rest.entry.now) }
+    {
+        if rest == b"empty".as_slice() {
+            self.stage = Stage::Logs;
+            return Ok(());
+        }
+        let (first, text) = two(rest)?;
+        let number = number(first)?;
+        let _ = outline(text)?;
+        self.logs.push(TextLine {
+            name: name.get(),
+            number,
+            text,
+        })?;
+        self.stage = Stage::Logs;
+        Ok(())
+    }
+
+    /// Takes a log's line, behind its word.
+    #[tactic(auto, unfolding(crate::specs::Lines::add_log))]
+    fn add_log(&mut self, rest: &'a [u8]) -> Result<(), LineFault>
+        ensures { Takes result (told self.new) (add_log (told self.old) rest.entry.now) }
+    {
+        let (first, behind) = two(rest)?;
+        let name = name(first)?;
+        if !may_log(self.stage) {
+            return Err(LineFault::Field(FieldFault::Form));
+        }
+        self.logged(name, behind)
+    }
+
+    /// Takes the last line.
+    fn add_end(&mut self, void_from: Option<u32>) -> Result<(), LineFault>
+        ensures { Takes result (told self.new) (add_end (told self.old) void_from) }
+    {
+        if !may_log(self.stage) {
+            return Err(LineFault::Field(FieldFault::Form));
+        }
+        self.stage = Stage::End;
+        self.void_from = void_from;
+        Ok(())
+    }
+
+    /// Takes the last line of a text that is void, behind its first word.
+    #[tactic(auto, unfolding(crate::specs::Lines::add_void))]
+    fn add_void(&mut self, rest: &[u8]) -> Result<(), LineFault>
+        ensures { Takes result (told self.new) (add_void (told self.old) rest.now) }
+    {
+        let (word, last) = two(rest)?;
+        expect(word, b"from".as_slice())?;
+        let number = number(last)?;
+        self.add_end(Some(number))
+    }
+
+    /// Takes one line more.
+    #[tactic(auto, unfolding(crate::specs::Lines::add_line))]
+    pub fn add_line(&mut self, line: &'a [u8]) -> Result<(), LineFault>
+        ensures { Takes result (told self.new) (add_line (told self.old) line.entry.now) }
+    {
+        if line == b"lawful".as_slice() {
+            return self.add_end(None);
+        }
+        let (word, rest) = two(line)?;
+        if word == b"group".as_slice() {
+            return self.add_entry(rest);
+        }
+        if word == b"log".as_slice() {
+            return self.add_log(rest);
+        }
+        if word == b"void".as_slice() {
+            return self.add_void(rest);
+        }
+        self.add_event(word, rest)
+    }
+}

@@ -1,0 +1,105 @@
+ghost use Rattle.std.specs.Prelude.{◌≡◌, ℕ, [], ◌<◌, length, IfOk, OnOk, Option, None, Some, ◌==◌, if◌then◌else◌};
+ghost use Rattle.std.specs.Ordering.{nat_cmp};
+ghost use Rattle.std.specs.BTreeMap.{get};
+ghost use Rattle.am_audit.specs.Fields.{data_in, send_key};
+ghost use Rattle.am_audit.specs.Views.{line_of, lines_in, texts_in};
+ghost use Rattle.am_audit.specs.Verdicts.{skipped_at, first_skipped, first_asked, unsent_at, first_unsent};
+
+use crate::fields::data_in;
+use crate::line::{Piece, TextLine};
+use crate::maps::send_key;
+use crate::verdict::Verdict;
+use am_base::NoMemory;
+use am_base::name::Name;
+use std::alloc::Global;
+use std::collections::BTreeMap;
+
+/// Whether a send's request isn't the one behind its name's last.
+fn skipped_at(last: Option<u32>, send: &TextLine) -> Option<Verdict>
+    ensures { result ≡ skipped_at last (line_of send.now) }
+{
+    let before = match last {
+        Some(last) => last,
+        None => 0,
+    };
+    if u64::from(send.number) == u64::from(before) + 1 {
+        return None;
+    }
+    Some(Verdict::Skipped {
+        node: Name::of_byte(send.name),
+        req: send.number,
+    })
+}
+
+/// The first send whose request isn't the one behind its name's last.
+pub fn first_skipped(sends: &[TextLine]) -> Option<Verdict>
+    ensures { result ≡ first_skipped [] (lines_in sends.now) }
+{
+    let mut last = [None; 256];
+    for at in 0..sends.len() {
+        let send = &sends[at];
+        match skipped_at(last[usize::from(send.name)], send) {
+            Some(skipped) => return Some(skipped),
+            None => {}
+        }
+        last[usize::from(send.name)] = Some(send.number);
+    }
+    None
+}
+
+/// Keeps the index of a send, before all that were kept.
+fn ask_at(map: &mut BTreeMap<u64, u64>, send: &TextLine, at: u64) -> Result<(), NoMemory>
+    ensures { OnOk result ((key : ℕ) → get nat_cmp map.new key
+        ≡ (if send_key send.now.name send.now.number == key then Some at else get nat_cmp map.old key)) }
+{
+    map.insert(send_key(Name::of_byte(send.name), send.number), at)?;
+    Ok(())
+}
+
+/// The index of the first send with each name and request.
+fn asking(alloc: Global, sends: &[TextLine]) -> Result<BTreeMap<u64, u64>, NoMemory>
+    ensures { IfOk result (λ map. (key : ℕ) → get nat_cmp map key
+        ≡ first_asked 0 key (lines_in sends.now)) }
+{
+    let mut map = BTreeMap::new(alloc);
+    let mut at = sends.len();
+    while 0 < at {
+        at -= 1;
+        ask_at(&mut map, &sends[at], at as u64)?;
+    }
+    Ok(map)
+}
+
+/// Whether nobody sent an entry, where it is data.
+fn unsent_at(map: &BTreeMap<u64, u64>, sends: &[TextLine], text: &[u8]) -> Option<Verdict>
+    requires { (key : ℕ) → get nat_cmp map.now key ≡ first_asked 0 key (lines_in sends.now) }
+    ensures { result ≡ unsent_at (lines_in sends.now) (data_in text.now) }
+{
+    let Ok((from, req, body)) = data_in(text) else {
+        return None;
+    };
+    if let Some(at) = map.get(&send_key(from, req)).copied() {
+        if at < sends.len() as u64 && sends[at as usize].text == body {
+            return None;
+        }
+    }
+    Some(Verdict::Unsent { from, req })
+}
+
+/// The first data of the list that nobody sent.
+pub fn first_unsent(
+    alloc: Global,
+    sends: &[TextLine],
+    group: &[Piece],
+) -> Result<Option<Verdict>, NoMemory>
+    ensures { IfOk result (λ found. found ≡ first_unsent (lines_in sends.now) (texts_in group.now)) }
+{
+    let map = asking(alloc, sends)?;
+    for at in 0..group.len() {
+        match unsent_at(&map, sends, group[at].text) {
+            Some(unsent) => return Ok(Some(unsent)),
+            None => {}
+        }
+    }
+    Ok(None)
+}
