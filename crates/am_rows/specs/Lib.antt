@@ -3,6 +3,7 @@ pub mod Worked
 pub mod WorkedResets
 pub mod StopTable
 pub mod Asked
+pub mod Directed
 pub mod ScenariosFirst
 pub mod ScenariosWindow
 pub mod ScenariosMoves

@@ -4,6 +4,26 @@ use Rattle.am_group.specs.declared.event.Act.TheVariants as act
 use Rattle.am_play.specs.Play.{text_of}
 use Rattle.am_rows.specs.Scripts.{rules_with, on, lines}
 
+abbrev pub CompleteBeforeAccepted : Type 0
+CompleteBeforeAccepted = text_of (rules_with (0 ∷ 1 ∷ 2 ∷ []) 0 64 256) (
+    on 1 (act.Reset 1 2) ∷ on 0 (act.Hear 1) ∷ on 2 (act.Hear 1) ∷ on 1 (act.Hear 2) ∷ on 1 (act.Hear 3) ∷ on 0 (act.Hear 4) ∷ on 2 (act.Hear 4) ∷
+    on 0 act.Stop ∷
+    []) ≡ lines (
+    codes "1 reset 1 1 r2 : waiting 0,2 | 1 Invite to 0,2" ∷
+    codes "2 hear 0 1 : voted | 2 Vote to 1" ∷
+    codes "3 hear 2 1 : voted | 3 Vote to 1" ∷
+    codes "4 hear 1 2 : waiting 2" ∷
+    codes "5 hear 1 3 : decided 2 0,1,2 | 4 Result to 0,2" ∷
+    codes "6 hear 0 4 : stored 2 | 5 Ack to 1" ∷
+    codes "7 hear 2 4 : stored 2 | 6 Ack to 1" ∷
+    codes "8 stop 0 : stopped" ∷
+    codes "group 1 view 1.0 0,1,2" ∷
+    codes "log 0 empty" ∷
+    codes "log 1 empty" ∷
+    codes "log 2 empty" ∷
+    codes "lawful" ∷
+    [])
+
 abbrev pub CoordinatorStopSurvived : Type 0
 CoordinatorStopSurvived = text_of (rules_with (0 ∷ 1 ∷ 2 ∷ []) 2 64 256) (
     on 0 act.Stop ∷ on 1 (act.Reset 1 2) ∷ on 1 (act.GiveUp 0) ∷ on 2 (act.Hear 1) ∷ on 1 (act.Hear 2) ∷ on 1 act.Stop ∷ on 2 (act.Reset 1 2) ∷
@@ -46,6 +66,34 @@ CoordinatorStopsToo = text_of (rules_with (0 ∷ 1 ∷ 2 ∷ []) 1 64 256) (
     codes "log 1 empty" ∷
     codes "log 2 empty" ∷
     codes "void from 6" ∷
+    [])
+
+abbrev pub LeaverLetGoBehind : Type 0
+LeaverLetGoBehind = text_of (rules_with (0 ∷ 1 ∷ 2 ∷ []) 0 64 256) (
+    on 2 act.Leave ∷ on 0 (act.Reset 1 1) ∷ on 1 (act.Hear 2) ∷ on 2 (act.Hear 2) ∷ on 0 (act.Hear 3) ∷ on 0 (act.Hear 4) ∷ on 1 (act.Hear 5) ∷
+    on 0 (act.Hear 6) ∷ on 0 (act.Hear 1) ∷ on 1 (act.Hear 8) ∷ on 0 (act.Hear 9) ∷ on 0 (act.Hear 1) ∷ on 2 (act.Hear 11) ∷ on 1 act.Stop ∷
+    []) ≡ lines (
+    codes "1 leave 2 : asked | 1 LeaveAsk to 0,1" ∷
+    codes "2 reset 0 1 r1 : waiting 1,2 | 2 Invite to 1,2" ∷
+    codes "3 hear 1 2 : voted | 3 Vote to 0" ∷
+    codes "4 hear 2 2 : voted | 4 Vote to 0" ∷
+    codes "5 hear 0 3 : waiting 2" ∷
+    codes "6 hear 0 4 : decided 2 0,1,2 | 5 Result to 1,2" ∷
+    codes "7 hear 1 5 : stored 2 | 6 Ack to 0" ∷
+    codes "8 hear 0 6 : accepted 2 | 7 Accept to 1,2" ∷
+    codes "9 hear 0 1 : numbered 3 | 8 Bcast to 1,2" ∷
+    codes "10 hear 1 8 : stored 3 | 9 Ack to 0" ∷
+    codes "11 hear 0 9 : accepted 3 | 10 Accept to 1" ∷
+    codes "12 hear 0 1 : let-go 3 | 11 Gone to 2" ∷
+    codes "13 hear 2 11 : departed" ∷
+    codes "14 stop 1 : stopped" ∷
+    codes "group 1 view 1.0 0,1,2" ∷
+    codes "group 2 view 2.0 0,1,2 r1" ∷
+    codes "group 3 leave 2" ∷
+    codes "log 0 empty" ∷
+    codes "log 1 empty" ∷
+    codes "log 2 empty" ∷
+    codes "lawful" ∷
     [])
 
 abbrev pub LeaverStaysBehind : Type 0

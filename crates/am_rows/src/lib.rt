@@ -2,6 +2,7 @@
 #![tactic(auto)]
 
 pub mod asked;
+pub mod directed;
 pub mod scenarios_all;
 pub mod scenarios_first;
 pub mod scenarios_lives;

@@ -3,6 +3,10 @@ use Rattle.std.proofs.Common.{refl}
 use Rattle.am_rows.proofs.Opened.{opened}
 use Rattle.am_rows.proofs.worked_resets.texts.Goals as goal
 
+pub returns-clause-complete_before_accepted : goal.returns-clause-complete_before_accepted
+unfolding opened
+returns-clause-complete_before_accepted c = refl
+
 pub returns-clause-coordinator_stop_survived : goal.returns-clause-coordinator_stop_survived
 unfolding opened
 returns-clause-coordinator_stop_survived c = refl
@@ -10,6 +14,10 @@ returns-clause-coordinator_stop_survived c = refl
 pub returns-clause-coordinator_stops_too : goal.returns-clause-coordinator_stops_too
 unfolding opened
 returns-clause-coordinator_stops_too c = refl
+
+pub returns-clause-leaver_let_go_behind : goal.returns-clause-leaver_let_go_behind
+unfolding opened
+returns-clause-leaver_let_go_behind c = refl
 
 pub returns-clause-leaver_stays_behind : goal.returns-clause-leaver_stays_behind
 unfolding opened
