@@ -1,3 +1,4 @@
+#!/usr/bin/env python3
 """Says in words why the program refuses a script.
 
     python3 tools/explain.py [PROGRAM [WORD]] < SCRIPT

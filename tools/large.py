@@ -1,3 +1,4 @@
+#!/usr/bin/env python3
 """Writes a script that is large in each direction, or the checksum that its text must have.
 
 Sixteen founders, bodies of 1,024 bytes, over 19,000 events and 2,000 packets, a window of 1,008 that fills, a thousand

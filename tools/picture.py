@@ -1,16 +1,22 @@
-"""Draws the text of a play as a space-time diagram.
+#!/usr/bin/env python3
+"""Draws the text of a play, or what a race wrote, as a space-time diagram.
 
-    python3 tools/picture.py < TEXT > PICTURE.svg
+    tools/picture.py < TEXT > PICTURE.svg
+    tools/picture.py --html < TEXT > RUN.html
 
 A column for each name, an event in each row, time downwards. A letter is an arrow from the event that sent it to each event
-that heard it; the end of the picture explains the marks. Ticks of places that take no part aren't drawn.
+that heard it; the end of the picture explains the marks. Ticks of places that take no part aren't drawn, and ticks in a row of
+which nobody hears anything are one. With --html it is a page to step through the run, one file that wants nothing else.
 """
 
 import html
 import sys
 
 from playtext import Run, key_of, read, short
+from stepping import page
+from words import words
 
+FAR = 30            # a letter that is heard so many rows later is drawn as two ends with its number
 ROW = 24            # the height of an event
 HEAD = 46           # the height of a line of names
 HEAD_EVERY = 40     # so many events below each line of names
@@ -28,7 +34,9 @@ DOTTED, DASHED, VOID, RETURNED = "1.5 4", "6 4", "10 3 2 3", "2 3"
 LEGEND = [
     ("dot", "another event"), ("numbered", "entry numbered"), ("stored", "stored"), ("taken", "given to the application"),
     ("arrow", "letter heard"), ("again", "heard again"), ("lost", "never heard"), ("cut", "cut, and refused"),
-    ("stop", "stopped"), ("end", "departed"), ("begin", "returned"), ("band", "in a view"), ("dotted", "not a member"),
+    ("far", "heard later, by its number"),
+    ("stop", "stopped"), ("end", "departed"), ("begin", "returned"), ("band", "in a view"), ("leads", "its sequencer"),
+    ("dotted", "not a member"),
     ("void", "from here on the run isn't lawful"),
 ]
 
@@ -164,6 +172,9 @@ class Picture:
             top, bottom = self.y(row), end if after[0] is None else self.y(after[0])
             fill = self.stamps.index(stamp) % 4
             self.under.append(self.band(x - BAND / 2, top, BAND, max(bottom - top, 2), fill))
+            if stamp[1] == name:
+                self.used.add("leads")
+                self.under.append(self.leads(x, top, max(bottom - top, 2)))
             if row == -1:
                 self.words.append(self.text(x, top + 4, self.view_text(stamp), size=11, anchor="middle", halo=True))
         joined = start if node.member_from == -1 else end if node.member_from is None else self.y(node.member_from)
@@ -177,6 +188,10 @@ class Picture:
     def band(self, x, y, width, height, fill):
         """A part of a view's band."""
         return tag("rect", x=x, y=y, width=width, height=height, fill=f"url(#view{fill})", stroke="#999", stroke_width=0.7)
+
+    def leads(self, x, y, height):
+        """The mark along the band of who numbers in a view."""
+        return tag("rect", x=x - BAND / 2, y=y, width=4, height=height, fill="#444")
 
     def line(self, x1, y1, x2, y2, dashes=None, colour="#555", width=1.2):
         return tag("line", x1=x1, y1=y1, x2=x2, y2=y2, stroke=colour, stroke_width=width, stroke_dasharray=dashes)
@@ -199,7 +214,12 @@ class Picture:
             side = 1 if x < self.columns[name] else -1
             again, word = name in seen, hearing.outcome[0]
             x2 = self.columns[name] - side * (self.half(hearing) + 1)
-            self.arrow(x + side * self.half(sending), y, x2, self.y(row), again, word)
+            if row - letter.row > FAR and word != "refused":
+                self.used.add("far")
+                self.stub(x + side * self.half(sending), y, side, letter.number)
+                self.arrow(x2 - side * 24, self.y(row) - 7, x2, self.y(row), again, word, letter.number)
+            else:
+                self.arrow(x + side * self.half(sending), y, x2, self.y(row), again, word)
             if word != "refused":
                 seen.add(name)
         lost = [n for n in letter.to if n not in seen] if letter.to is not None else [] if seen else ["all"]
@@ -212,7 +232,45 @@ class Picture:
             return 1 if len(self.names) == 1 or self.names.index(sender) < len(self.names) - 1 else -1
         return 1 if self.columns[sender] < self.columns[name] else -1
 
-    def arrow(self, x1, y1, x2, y2, again, word):
+    def stub(self, x, y, side, number):
+        """The beginning of a letter that is heard far below, with its number."""
+        ex, ey = x + side * 18, y + 6
+        if (x, y, ex, ey) not in self.segments:
+            self.segments.append((x, y, ex, ey))
+            self.lines.append(self.line(x, y, ex, ey, None, "#222"))
+            self.words.append(self.text(ex + side * 2, ey + 4, str(number), 9, None if side > 0 else "end", halo=True))
+
+    def bow(self, x1, y1, x2, y2):
+        """How far an arrow is bowed: it is where it would go close by another event, as if that had sent it on."""
+        for event in self.run.events:
+            x, y = self.columns[event.name], self.y(event.row)
+            if min(x1, x2) + 10 < x < max(x1, x2) - 10 and min(y1, y2) < y < max(y1, y2):
+                if abs(y1 + (y2 - y1) * (x - x1) / (x2 - x1) - y) < 12:
+                    return 26 if x1 < x2 else -26
+        return 0
+
+    def bowed(self, start, end, bow, dash, again):
+        """An arrow along a curve above the straight one."""
+        (x1, y1), (x2, y2) = start, end
+        length = ((x2 - x1) ** 2 + (y2 - y1) ** 2) ** 0.5 or 1
+        cx, cy = (x1 + x2) / 2 + bow * (y2 - y1) / length, (y1 + y2) / 2 - bow * (x2 - x1) / length
+        length = ((x2 - cx) ** 2 + (y2 - cy) ** 2) ** 0.5 or 1
+        ux, uy = (x2 - cx) / length, (y2 - cy) / length
+        bx, by = x2 - 8 * ux, y2 - 8 * uy
+        path = f"M{x1:.1f},{y1:.1f} Q{cx:.1f},{cy:.1f} {bx:.1f},{by:.1f}"
+        self.lines.append(tag("path", d=path, fill="none", stroke="#222", stroke_width=1.2, stroke_dasharray=dash))
+        self.head(x2, y2, ux, uy)
+
+    def head(self, x, y, ux, uy):
+        """The head of an arrow."""
+        bx, by = x - 8 * ux, y - 8 * uy
+        points = f"{x:.1f},{y:.1f} {bx - 3.4 * uy:.1f},{by + 3.4 * ux:.1f} {bx + 3.4 * uy:.1f},{by - 3.4 * ux:.1f}"
+        self.lines.append(tag("polygon", points=points, fill="#222"))
+
+    def arrow(self, x1, y1, x2, y2, again, word, number=None):
+        if number is not None:
+            side = 1 if x1 < x2 else -1
+            self.words.append(self.text(x1 - side * 2, y1 + 3, str(number), 9, "end" if side > 0 else None, halo=True))
         self.segments.append((x1, y1, x2, y2))
         dx, dy = x2 - x1, y2 - y1
         length = (dx * dx + dy * dy) ** 0.5 or 1
@@ -224,10 +282,11 @@ class Picture:
             self.lines.append(self.line(x1, y1, x2, y2, dash, "#222"))
             self.lines.append(self.line(x2 + 6 * uy, y2 - 6 * ux, x2 - 6 * uy, y2 + 6 * ux, None, "#222", 2))
             return
-        bx, by = x2 - 8 * ux, y2 - 8 * uy
-        self.lines.append(self.line(x1, y1, bx, by, dash, "#222"))
-        points = f"{x2:.1f},{y2:.1f} {bx - 3.4 * uy:.1f},{by + 3.4 * ux:.1f} {bx + 3.4 * uy:.1f},{by - 3.4 * ux:.1f}"
-        self.lines.append(tag("polygon", points=points, fill="#222"))
+        if bow := self.bow(x1, y1, x2, y2):
+            self.bowed((x1, y1), (x2, y2), bow, dash, again)
+            return
+        self.lines.append(self.line(x1, y1, x2 - 8 * ux, y2 - 8 * uy, dash, "#222"))
+        self.head(x2, y2, ux, uy)
 
     def lost(self, x, y, side):
         self.used.add("lost")
@@ -240,7 +299,10 @@ class Picture:
     def event(self, event):
         x, y = self.columns[event.name], self.y(event.row)
         self.used.add(event.mark)
-        self.marks.append(f"<g><title>{escape(event.line)}</title>")
+        if event.left_out:
+            ticks = "an idle tick isn't" if event.left_out == 1 else f"{event.left_out} idle ticks aren't"
+            self.words.append(self.text(LEFT, y - ROW / 2 + 3, f"({ticks} drawn)", 8, fill="#666"))
+        self.marks.append(f'<g data-row="{event.row}" data-entry="{event.entry}"><title>{escape(event.line)}</title>')
         self.marks.append(self.shape(event.mark, x, y, self.half(event), event.entry))
         self.marks.append("</g>")
         if event.mark == "begin":
@@ -343,7 +405,12 @@ class Picture:
         elif mark == "lost":
             self.lost(x - 14, y - 4, 1)
         elif mark == "band":
-            self.under.append(self.band(x - 14, y - 8, 28, 16, 1))
+            self.under.append(self.band(x - 14, y - 8, 28, 16, 0))
+        elif mark == "leads":
+            self.under.append(self.band(x - 14, y - 8, 28, 16, 0))
+            self.under.append(tag("rect", x=x - 14, y=y - 8, width=4, height=16, fill="#444"))
+        elif mark == "far":
+            self.stub(x - 14, y, 1, 7)
         elif mark == "dotted":
             self.lines.append(self.line(x, y - 9, x, y + 9, DOTTED))
         elif mark == "void":
@@ -353,12 +420,17 @@ class Picture:
 
 
 def main():
+    given = words(__doc__, 0, 1)
+    if given not in ([], ["--html"]):
+        raise SystemExit(__doc__.strip())
     lines = sys.stdin.read().splitlines()
     events, group, mark = read(lines)
     if not group:
         raise SystemExit("this is no text of a play: there is no group list")
     run = Run(events, group)
-    sys.stdout.write(Picture(run, group, mark).draw())
+    picture = Picture(run, group, mark)
+    drawn = picture.draw()
+    sys.stdout.write(page(picture, drawn) if given else drawn)
 
 
 if __name__ == "__main__":

@@ -43,6 +43,8 @@ class Event:
     view: tuple = None  # the stamp of a view that its name has from here on
     label: str = ""
     row: int = 0
+    left_out: int = 0       # so many idle ticks before it aren't drawn
+    last: int = 0           # the number of the last tick, where several in a row are drawn as this one
 
 
 @dataclass
@@ -81,10 +83,10 @@ def stamp_of(word):
 def read(lines):
     """The events, the group list and the last line of a text."""
     events, group, mark, lives = [], [], "", {}
-    for line in lines:
+    for number, line in enumerate(lines):
         words = line.split()
-        if not words:
-            continue
+        if not words or number == 0 and line.startswith("{"):
+            continue    # a race's text begins with what was done, as a script
         if words[0] == "group":
             group.append(words[1:])
         elif words[0] in ("lawful", "void"):
@@ -92,7 +94,7 @@ def read(lines):
         elif words[0].isdigit():
             events.append(event_of(line, lives))
         elif words[0] != "log":
-            raise SystemExit("this is no text of a play: " + line)
+            raise SystemExit("this is no text of a play: " + (line if len(line) <= 60 else line[:57] + "..."))
     return events, group, mark
 
 
@@ -114,6 +116,13 @@ def event_of(line, lives):
     return Event(int(said[0]), name, said[1], said[3:], answered, letters, text, line)
 
 
+def are_alike(last, event, heard):
+    """Whether two events are ticks of one name with the same answer, whose letters nobody hears."""
+    return (last.act, last.name, last.outcome) == (event.act, event.name, event.outcome) == ("tick", last.name, ["ticked"]) and not heard & {
+        number for number, _, _ in last.letters + event.letters
+    }
+
+
 class Run:
     """The events of a text, with what they come to at each name."""
 
@@ -128,11 +137,23 @@ class Run:
             self.follow(event)
 
     def drawn(self, events):
-        """The events of names that take part, each with its row."""
+        """The events of names that take part, each with its row. Ticks of a name one behind the other, of which nobody hears
+        anything, are one."""
         partners = {e.name for e in events if e.outcome != ["idle"]}
-        kept = [e for e in events if e.outcome != ["idle"] or e.name in partners]
-        for row, event in enumerate(kept):
-            event.row = row
+        heard = {int(e.arguments[0]) for e in events if e.act in ("hear", "cut")}
+        kept, left_out = [], 0
+        for event in events:
+            last = kept[-1] if kept else None
+            if event.outcome == ["idle"] and event.name not in partners:
+                left_out += 1
+            elif last and not left_out and are_alike(last, event, heard):
+                last.last = event.number
+                last.text = f"ticks {last.number} to {event.number} of {event.name} : {' '.join(event.outcome)}"
+                last.line = last.line.split("\n")[0] + f"\n{event.line}"
+                last.letters = []
+            else:
+                event.row, event.left_out, left_out = len(kept), left_out, 0
+                kept.append(event)
         return kept
 
     def node(self, name):
@@ -202,12 +223,14 @@ class Run:
         word = event.outcome[0]
         kinds = [kind for _, kind, _ in event.letters]
         event.label = event.act if word in PLAIN else f"{event.act}: {' '.join(event.outcome[:2])}"
+        if event.last:
+            event.label = f"{event.last - event.number + 1} ticks"
         if word == "queued":
             node.queued = int(event.outcome[1])
         if word == "took":
             event.mark, event.entry, event.label = "taken", int(event.outcome[1]), ""
         elif word == "stopped":
-            event.mark, node.ends = "stop", event.row
+            event.mark, node.ends = "stop", event.row if node.ends is None else node.ends
         elif word == "returned":
             self.come_back(event, node)
         elif event.act == "reset" and word in BALLOT:

@@ -1,3 +1,4 @@
+#!/usr/bin/env python3
 """Tries random races.
 
     python3 tools/races.py PROGRAM [--other OTHER] [--seed N] [--races N]

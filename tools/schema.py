@@ -1,3 +1,4 @@
+#!/usr/bin/env python3
 """Validates scripts against docs/script.schema.json, and tries that the schema agrees with the reader.
 
     python3 tools/schema.py SCRIPT...               says what is wrong with each script

@@ -1,3 +1,4 @@
+#!/usr/bin/env python3
 """Runs the program on scripts, and compares what it writes with the texts beside them.
 
     python3 tools/texts.py PROGRAM FOLDER...

@@ -4,7 +4,7 @@
 
 Each FOLDER has scripts NAME.json with their texts NAME.txt; scripts without a text are left out. Each picture must be XML,
 have a mark for each event that it draws with the event's line in it, and an arrow for each letter
-that was heard; and each View that an application was given must be the one that the picture has at this number. It prints
+that was heard; a page to step through it has the picture and each event; and each View that an application was given must be the one that the picture has at this number. It prints
 what fails, and how many texts passed.
 """
 
@@ -14,6 +14,7 @@ import xml.etree.ElementTree as xml
 
 import picture
 import playtext
+import stepping
 from words import words
 
 SVG = "{http://www.w3.org/2000/svg}"
@@ -29,7 +30,8 @@ def faults(text):
             if entry != ("view", playtext.stamp_of(event.outcome[3])):
                 yield f"event {event.number}: the picture has {entry}"
     drawing = picture.Picture(run, group, mark)
-    drawn = xml.fromstring(drawing.draw())
+    text_drawn = drawing.draw()
+    drawn = xml.fromstring(text_drawn)
     lines = [title.text for title in drawn.iterfind(f"{SVG}g/{SVG}title")]
     if lines != [event.line for event in run.events]:
         yield f"{len(lines)} marks for {len(run.events)} events"
@@ -37,9 +39,13 @@ def faults(text):
     heads = len(drawn.findall(f"{SVG}polygon")) - len(drawing.used & {"arrow", "again"})
     if heads != heard:
         yield f"{heads} arrows for {heard} letters that were heard"
-    left_out = [e for e in events if e not in run.events and e.outcome != ["idle"]]
+    shown = {number for event in run.events for number in range(event.number, (event.last or event.number) + 1)}
+    left_out = [e for e in events if e.number not in shown and e.outcome != ["idle"]]
     if left_out:
         yield f"event {left_out[0].number} isn't drawn"
+    page = stepping.page(drawing, text_drawn)
+    if text_drawn not in page or page.count('"line":') != len(run.events):
+        yield "the page to step through it lacks the picture or an event"
 
 
 def main():
