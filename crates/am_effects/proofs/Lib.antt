@@ -15,3 +15,4 @@ pub mod Resets
 pub mod Hearing
 pub mod Events
 pub mod Runs
+pub mod Nodes

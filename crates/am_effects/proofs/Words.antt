@@ -24,6 +24,7 @@ pub use Rattle.am_base.specs.declared.outcome.Outcome.{Outcome}
 pub use Rattle.am_base.specs.declared.event.NodeEvent.{NodeEvent}
 pub use Rattle.am_base.specs.declared.image.Report.{Report}
 pub use Rattle.am_base.specs.Stamps.{stamp_eq, stamp_lt}
+pub use Rattle.am_base.specs.Founding.{Rules}
 pub use Rattle.am_base.proofs.Folds.{fold_append}
 pub use Rattle.am_packet.specs.Boxes.{Letter, with_letter, letter_to, place_for}
 pub use Rattle.am_packet.specs.declared.packet.Packet.{Packet}
@@ -41,8 +42,8 @@ pub use Rattle.am_group.specs.declared.event.Event.{Event}
 pub use Rattle.am_group.specs.Addressed.{is_for}
 pub use Rattle.am_group.specs.Journals.{letter_at, item_at}
 pub use Rattle.am_model.specs.Node.{Node, top, image_of, name_where, others, push_entry, Ballot, view, members, only_name, is_member, own_row}
-pub use Rattle.am_model.specs.Node.{lowest_or_first, acts, has_room, is_asking, is_sequencer, waiting, unsettled_count, has_departed, with_report}
-pub use Rattle.am_model.specs.Node.{has_own_leave, is_within_bound, trim_up_to, report_fits, has_log}
+pub use Rattle.am_model.specs.Node.{lowest_or_first, acts, has_room, is_asking, is_sequencer, waiting, unsettled_count, has_departed, founder, stranger}
+pub use Rattle.am_model.specs.Node.{with_report, has_own_leave, is_within_bound, trim_up_to, report_fits, has_log}
 unfoldable pub use Rattle.am_model.specs.Node.{those}
 pub use Rattle.am_model.specs.Refresh.{advance, accepted_at, settle_at, settle_waiting}
 unfoldable pub use Rattle.am_model.specs.Refresh.{refresh_at_end, refresh, lead, settle}
@@ -76,8 +77,8 @@ unfoldable pub use Rattle.am_model.specs.Hearing.{hear_row}
 pub use Rattle.am_model.specs.declared.status.Status.TheVariants.{Departed}
 pub use Rattle.am_model.specs.Joining.{begin_list, ask_next, with_admitted, number_join, may_go, and_gone, counts_report}
 unfoldable pub use Rattle.am_model.specs.Joining.{welcome_row, gone_row, join_ask_row, leave_ask_row}
-pub use Rattle.am_play.specs.World.{World, current, is_stopped, does_event, gives_up, hears_letter, hear_cut, comes_back, acts_as, with_step}
-unfoldable pub use Rattle.am_play.specs.World.{happens, with_record, happen}
+pub use Rattle.am_play.specs.World.{World, current, is_stopped, does_event, gives_up, hears_letter, hear_cut, comes_back, acts_as, start, run, first_node}
+unfoldable pub use Rattle.am_play.specs.World.{happens, with_record, with_step, happen}
 pub use Rattle.am_play.specs.Claims.{heard_by}
 pub use Rattle.am_effects.specs.Causes.{Cause, calls, hears, refuses, by_request, by_spread, cause_of_read, cause_of, BringsFronts, with_entry, with_number}
 pub use Rattle.am_effects.specs.Causes.{alone, BringsSend, BringsReport, with_send, by_ack, by_nack, by_leave_ask}

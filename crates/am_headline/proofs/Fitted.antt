@@ -262,7 +262,7 @@ module _ (rules : Rules) (events : List Event) (e : Event) (c : Cause) (step : S
   node_now = record {
     each = λ number above within.
         (let owned = run_owned rules events may in
-        let names = heard_names rules w e c owned.blanks.views cause in
+        let names = heard_names rules w e c owned.blanks.base cause in
         let used = heard_used rules w e c owned cause in
         let all = fitting_changes rules c step.outcome m n names used effect.changes (each_along rules w i few owned)
         (λ k high low. inl ((h.nodes i).each k high low)) number above within in

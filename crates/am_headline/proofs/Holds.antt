@@ -99,7 +99,7 @@ group_grows : (rules : Rules) (events : List Event) (k : ℕ) → Begins (run ru
 group_grows rules events k = let b = (runs_begin rules events k).group in record { rest = b.0; same = sym b.1 }
 
 small_view : (rules : Rules) (events : List Event) (d : Decided) (k : ℕ) → MayFound rules → slice_get (run rules events).views k ≡ Some d → d.stamp.by < 256
-small_view rules events d k may at = (all_get (IsNoted (run rules events).nodes) (run rules events).views k d (run_owned rules events may).blanks.views.noted
+small_view rules events d k may at = (all_get (IsNoted (run rules events).nodes) (run rules events).views k d (run_owned rules events may).blanks.base.noted
     at).by
 
 -- ---- up to the lawful front
@@ -165,7 +165,7 @@ module _ (rules : Rules) (may : MayFound rules) where
             let g = given_then rules (take k events) moment.event (happens v moment.event) number e r may o.is (events_have_effects v moment.event)
             moment.done says in
             let i = actor v moment.event in
-            let few = few_names rules v moment.event (run_owned rules (take k events) may).blanks.views.named in
+            let few = few_names rules v moment.event (run_owned rules (take k events) may).blanks.base.named in
             let view_low : stamp_lt (view (v.nodes i)) d.stamp ≡ true = ap (λ j. stamp_lt (view (v.nodes j)) d.stamp) (sym g.by) ∙ low in
             let item = taking_in_group rules v o.to i number e o.follows few g.taking_ in
             let grows = group_grows rules events k in

@@ -84,7 +84,7 @@ plain {rules = rules} {events = events} {e = e} {step = step} {s = s} {t = t} x 
     open parts rules events e step use {w, i, n, v}
 
     few : i < 256
-    few = few_names rules w e (run_owned rules events x.may).blanks.views.named
+    few = few_names rules w e (run_owned rules events x.may).blanks.base.named
 
     node_v : v.nodes i ≡ n
     node_v = let u : (i == i) ≡ true = is_itself i in rw u refl

@@ -172,11 +172,11 @@ module _ (rules : Rules) (events : List Event) (e : Event) (c : Cause) (step : S
   inside_step : Inside (run rules events).group (actor (run rules events) e) c step.outcome before step.node
   inside_step =
       let i = actor (run rules events) e in
-      let few = few_names rules (run rules events) e (run_owned rules events may).blanks.views.named in
+      let few = few_names rules (run rules events) e (run_owned rules events may).blanks.base.named in
       let views = (run_owned rules events may).blanks in
-      let k = views.views.each i few in
+      let k = views.base.each i few in
       let num = (numbers_hold rules events).each i in
-      inside_chain (run rules events).group i c step.outcome before before step.node (heard_names rules (run rules events) e c views.views cause)
+      inside_chain (run rules events).group i c step.outcome before before step.node (heard_names rules (run rules events) e c views.base cause)
       effect.changes k.names
       k.balloted (views.each i few)
       (inside_start rules (run rules events).group i c step.outcome before num.kept num.given (λ none. (blank_holds rules events i may few none).acc)

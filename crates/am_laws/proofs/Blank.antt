@@ -1,13 +1,13 @@
 -- A node that has no list has a blank one.
-use Rattle.am_laws.proofs.Words.{logged, ◌≡◌, ℕ, ◌<◌, ◌==◌, true, false, [], refl, sym, ap, ◌∙◌, subst, arith, Outcome, Rules, has, Log, blank, top_of}
-use Rattle.am_laws.proofs.Words.{accept, pass_over, Status, Node, Ballot, is_member, is_sequencer, has_log, Verdict, refresh, World, start, first_node}
-use Rattle.am_laws.proofs.Words.{with_record, with_step, run, split, Cause, Change, refreshes, settles, numbers, notes, stores, begins_list, departs, looks}
-use Rattle.am_laws.proofs.Words.{fetches, stores_view, asks_to_join, closes, Changes, no_change, changed, actor, idles, stops, returns, steps, Looks}
-use Rattle.am_laws.proofs.Words.{finds_itself_out, rests_refresh, settle_is, EachKeeps, runs_keep, BlankHolds}
+use Rattle.am_laws.proofs.Words.{Each, each_node_keeps, first_has, logged, ◌≡◌, ℕ, ◌<◌, true, false, [], refl, sym, ap, ◌∙◌, subst, arith, Outcome, Rules}
+use Rattle.am_laws.proofs.Words.{Log, blank, top_of, accept, pass_over, Status, Node, Ballot, is_member, is_sequencer, has_log, Verdict, refresh, World}
+use Rattle.am_laws.proofs.Words.{start, first_node, run, split, Cause, Change, refreshes, settles, numbers, notes, stores, begins_list, departs, looks}
+use Rattle.am_laws.proofs.Words.{fetches, stores_view, asks_to_join, closes, Changes, no_change, changed, actor, Looks, finds_itself_out, rests_refresh}
+use Rattle.am_laws.proofs.Words.{settle_is, EachKeeps, runs_keep, BlankHolds}
 use Rattle.am_model.specs.declared.status.Status.TheVariants as status
 use Rattle.am_laws.proofs.ViewChanges.{Balloted, leads_member, in_view_log, member_of, looked_at, change_does}
-use Rattle.am_laws.proofs.{Named.few_names, RunCounts.numbers_hold, ViewNames.HasNames, ViewNames.HeardNames, ViewNames.change_names, Views.AllViews}
-use Rattle.am_laws.proofs.{Views.heard_names, Views.each_views, Views.views_start}
+use Rattle.am_laws.proofs.{RunCounts.numbers_hold, ViewNames.HasNames, ViewNames.HeardNames, ViewNames.change_names, Views.AllViews, Views.heard_names}
+use Rattle.am_laws.proofs.{Views.each_views, Views.views_start}
 
 -- by the parts of a node that stay while it has no list
 pub record NoList (log : Log) (base told begins : ℕ) : Type 0 where
@@ -68,30 +68,16 @@ changes_blank m n heard (changed {n = x} one more) names k h =
 
 -- ---- runs
 
-pub record AllBlank (rules : Rules) (w : World) : Type 0 where
-  pub views : AllViews rules w
-  pub each : (name : ℕ) → name < 256 → Blanked (w.nodes name)
+abbrev pub AllBlank : Rules → World → Type 0
+AllBlank rules = Each (AllViews rules) (λ name n. name < 256 → Blanked n)
 
 pub each_blank : (rules : Rules) → EachKeeps (AllBlank rules)
-unfolding with_record with_step
-each_blank rules w e v (idles o idle) h = record { views = each_views rules w e v (idles o idle) h.views; each = h.each }
-each_blank rules w e v (stops runs) h = record { views = each_views rules w e v (stops runs) h.views; each = h.each }
-each_blank rules w e v (returns place is left more) h = record { views = each_views rules w e v (returns place is left more) h.views; each = h.each }
-each_blank rules w e v (steps c s runs cause effect) h =
-    let name = actor w e in
-    let few = few_names rules w e h.views.named in
-    let kept = h.views.each name few in
-    let one : Blanked s.node = changes_blank (w.nodes name) s.node (heard_names rules w e c h.views cause) effect.changes kept.names kept.balloted
-    (h.each name few) in
-    record {
-      views = each_views rules w e v (steps c s runs cause effect) h.views;
-      each = λ other low. split (other == name) (λ t. rw t one) (λ f. rw f (h.each other low));
-    }
+each_blank rules = each_node_keeps (AllViews rules) _ (each_views rules)
+    (λ w e c s cause effect views blank few. let kept = views.each (actor w e) few in
+    changes_blank (w.nodes (actor w e)) s.node (heard_names rules w e c views cause) effect.changes kept.names kept.balloted (blank few))
 
 pub first_blank : (rules : Rules) (name : ℕ) → Blanked (first_node rules name)
-first_blank rules name = split (has rules.founders name)
-    (λ t. rw t (λ f. absurd (cc)))
-    (λ u. rw u (λ f. record { blank_ = refl; base_ = refl; told_ = refl; begins_ = refl }))
+first_blank rules name = first_has rules Blanked name (λ f. absurd (cc)) (λ f. record { blank_ = refl; base_ = refl; told_ = refl; begins_ = refl })
 
 none_in : (log : Log) → log ≡ record { start = 0; image = blank; entries = [] } → top_of log ≡ 0
 none_in log is = ap top_of is
@@ -100,7 +86,7 @@ pub blank_holds : BlankHolds
 blank_holds rules events name may few none =
     let w = run rules events in
     let h = runs_keep (AllBlank rules) (each_blank rules) (start rules) events
-    (record { views = views_start rules may; each = λ other low. first_blank rules other }) in
+    (record { base = views_start rules may; each = λ other low. first_blank rules other }) in
     let k = h.each name few none in
     let n = (numbers_hold rules events).each name in
     let given = n.given in
@@ -113,5 +99,5 @@ blank_holds rules events name may few none =
       start = k.begins_;
       acc = omega arith;
       taken = omega arith;
-      ballot = (h.views.each name few).balloted.none none;
+      ballot = (h.base.each name few).balloted.none none;
     }

@@ -1,9 +1,9 @@
 -- In each run no node trims more than its own application has taken.
-use Rattle.am_laws.proofs.Words.{◌≡◌, ℕ, ◌+◌, ◌<◌, ◌==◌, true, List, slice_index, subst, arith, All, nat_tests, All-nil, All-append, All-weaker, Outcome}
-use Rattle.am_laws.proofs.Words.{Rules, MayFound, place_of, life_of, has, fold, Packet, Letter, used_fold, Event, Node, founder, stranger, founding_stamp}
-use Rattle.am_laws.proofs.Words.{World, start, with_step, run, heard_by, split, Cause, Says, welcome, LetterSays, Changes, no_change, changed, actor}
-use Rattle.am_laws.proofs.Words.{WasSentTo, IsCause, all_item, EachKeeps, StepsKeep, SameParts, law_keeps, runs_keep, Keeps, kept_change, kept_founder}
-use Rattle.am_laws.proofs.Words.{kept_stranger, TakenHolds, JoinsFit}
+use Rattle.am_laws.proofs.Words.{first_has, kept_own, ◌≡◌, ℕ, ◌+◌, ◌<◌, ◌==◌, true, List, slice_index, subst, arith, All, nat_tests, All-nil, All-append}
+use Rattle.am_laws.proofs.Words.{All-weaker, Outcome, Rules, MayFound, place_of, life_of, has, fold, Packet, Letter, used_fold, Event, Node, founder}
+use Rattle.am_laws.proofs.Words.{stranger, founding_stamp, World, start, with_step, run, heard_by, split, Cause, Says, welcome, LetterSays, Changes}
+use Rattle.am_laws.proofs.Words.{no_change, changed, actor, WasSentTo, IsCause, all_item, EachKeeps, StepsKeep, SameParts, law_keeps, runs_keep, Keeps}
+use Rattle.am_laws.proofs.Words.{kept_change, TakenHolds, JoinsFit}
 use Rattle.am_laws.proofs.{LeaderRows.first_member, LeaderRows.used_blank, Named.few_names, ViewNames.HasNames, ViewNames.HeardNames, ViewNames.change_names}
 use Rattle.am_laws.proofs.{ViewChanges.Balloted, ViewChanges.change_does, Views.heard_names, Views.views_start, Blank.Blanked, Blank.change_blank}
 use Rattle.am_laws.proofs.{Blank.AllBlank, Blank.each_blank, Blank.first_blank, Trims.Fronts, Trims.Owned, Trims.WelcomeUsed, Taken.HeardUsed}
@@ -58,7 +58,7 @@ heard_used rules w e c h cause p is =
 
 pub each_along : (rules : Rules) (w : World) (name : ℕ) → name < 256 → AllOwned rules w → Along rules (w.nodes name)
 each_along rules w name few h =
-    let k = h.blanks.views.each name few in
+    let k = h.blanks.base.each name few in
     record { names = k.names; balloted = k.balloted; blanked = h.blanks.each name few; kept = h.kept name; owned = h.each name few }
 
 owned_step : (rules : Rules) → StepsKeep (AllBlank rules) (AllOwned rules)
@@ -66,8 +66,8 @@ unfolding with_step
 owned_step rules w e c s cause effect blanks h =
     let name = actor w e in
     let m = w.nodes name in
-    let few = few_names rules w e h.blanks.views.named in
-    let a = along_changes rules m s.node (heard_names rules w e c h.blanks.views cause) (heard_used rules w e c h cause) effect.changes
+    let few = few_names rules w e h.blanks.base.named in
+    let a = along_changes rules m s.node (heard_names rules w e c h.blanks.base cause) (heard_used rules w e c h cause) effect.changes
     (each_along rules w name few h) in
     let sender = effect.sender in
     let fronts : Fronts sender = subst Fronts effect.is a.owned.fronts in
@@ -125,9 +125,9 @@ stranger_owned rules name = record {
 
 pub owned_start : (rules : Rules) → MayFound rules → AllOwned rules (start rules)
 owned_start rules may = record {
-  blanks = record { views = views_start rules may; each = λ name low. first_blank rules name };
+  blanks = record { base = views_start rules may; each = λ name low. first_blank rules name };
   owned = record {
-    kept = λ name. split (has rules.founders name) (λ t. rw t (kept_founder rules name)) (λ f. rw f (kept_stranger rules name));
+    kept = λ name. first_has rules (Keeps rules) name ((kept_own rules).founder_has name) ((kept_own rules).stranger_has name);
     each = λ name low. split (has rules.founders name) (λ t. rw t (founder_owned rules name t)) (λ f. rw f (stranger_owned rules name));
     letters = All-nil UsedLetter;
   };

@@ -3,32 +3,32 @@ pub use Rattle.am_effects.proofs.Words.{◌≡◌, ℕ, ◌+◌, ◌≤◌, ◌=
 pub use Rattle.am_effects.proofs.Words.{refl, ap, arith, ◌<◌, [], sym, ◌∙◌, subst, ◌||◌, not, ◌∷◌, find, length-append, ◌⊎◌, inl, inr, ◌-◌, ◌&&◌, nat_le}
 pub use Rattle.am_effects.proofs.Words.{length, ◌++◌, zero, suc, slice_index, drop, ◌≢◌, slice_get, nat_tests, length-set, map-set, All-head, All-tail}
 pub use Rattle.am_effects.proofs.Words.{All-nil, All-cons, All-take, All-append, All-drop, list_any, All, Vote, View, Data, Leave, Join, Outcome, has}
-pub use Rattle.am_effects.proofs.Words.{place_of, life_of, size, split, and_both, Log, top_of, entry_at, at_place, row_of, member_life, told_by, members_of}
-pub use Rattle.am_effects.proofs.Words.{Entry, Report, Stamp, stamp_lt, stamp_eq, NodeEvent, Row, Image, slice_index-by_place, length-by_place, Packet}
-pub use Rattle.am_effects.proofs.Words.{Letter, base_after, is_of, keep_body, OwnSend, Act, Event, is_for, letter_at, Node, Ballot, top, image_of, push_entry}
-pub use Rattle.am_effects.proofs.Words.{is_member, is_sequencer, has_log, waiting, unsettled_count, view, acts, trim_up_to, with_report, is_within_bound}
-pub use Rattle.am_effects.proofs.Words.{name_where, members, is_asking, others, lowest_or_first, Verdict, with_promise, trim_for, next_stamp, new_ballot}
-pub use Rattle.am_effects.proofs.Words.{with_vote, without_voter, need_of, left_in, give_up_of, number_send, emit, with_queued, queue, give_out, join_by}
-pub use Rattle.am_effects.proofs.Words.{state_by, go, is_unfinished, leave_now, leave_by, ask_of, Status, advance, accepted_at, settle_at, settle_waiting}
-pub use Rattle.am_effects.proofs.Words.{Plan, quiet, Step, is_view, store_fitting, store, with_noted, receive_entry, data_of, body_of, answer_hold}
-pub use Rattle.am_effects.proofs.Words.{bodies_after, tick_ballot, tick_member, put_off, and_result, tick_sequencer, tick_acting, tick_with, tick_by}
-pub use Rattle.am_effects.proofs.Words.{viewed_by, refuse, packet_length, take_report, answer_request, serve_again, is_unknown, with_admitted, number_join}
-pub use Rattle.am_effects.proofs.Words.{begin_list, may_go, take_vote, push_fetched, catch_up, decide_anew, piece_promised, piece_for, hears_result}
-pub use Rattle.am_effects.proofs.Words.{hears_member, hears_asking, hears_sequencer, hears_in_view, World, is_stopped, hears_letter, hear_cut, acts_as}
-pub use Rattle.am_effects.proofs.Words.{current, heard_by, Cause, calls, hears, BringsSend, by_request, by_spread, Change, refreshes, settles, numbers, notes}
-pub use Rattle.am_effects.proofs.Words.{stores, begins_list, departs, looks, fetches, stores_view, asks_to_join, closes, Changes, no_change, changed}
-pub use Rattle.am_effects.proofs.Words.{promises, opens, asked_send, own_send, asked_join, asked_leave, Carries, whole_entry, by_number, unchanged}
-pub use Rattle.am_effects.proofs.Words.{keeps_body, queues, collects, invited, told_result, without_ballot, takes_report, admits, takes, MayBeWelcomed, actor}
-pub use Rattle.am_effects.proofs.Words.{idles, stops, returns, steps, IsCall, IsCause, WasSentTo, Happens, Looks, finds_itself_out, HasOpen, Balloting}
-pub use Rattle.am_effects.proofs.Words.{with_more, without_one, as_it_is, decides, finds_no_room, waits, fetches_from_best, finds_too_few, just_joined}
-pub use Rattle.am_effects.proofs.Words.{asks_again, Says, bcast, order, hold, join_ask, welcome, gone, invite, fetch, piece, result, hand_over, HasSend}
-pub use Rattle.am_effects.proofs.Words.{request, spread, vote, LetterSays, Effect}
+pub use Rattle.am_effects.proofs.Words.{place_of, life_of, size, split, and_both, Rules, Log, top_of, entry_at, at_place, row_of, member_life, told_by}
+pub use Rattle.am_effects.proofs.Words.{members_of, Entry, Report, Stamp, stamp_lt, stamp_eq, NodeEvent, Row, Image, slice_index-by_place, length-by_place}
+pub use Rattle.am_effects.proofs.Words.{Packet, Letter, base_after, is_of, keep_body, OwnSend, Act, Event, is_for, letter_at, Node, Ballot, top, image_of}
+pub use Rattle.am_effects.proofs.Words.{push_entry, is_member, is_sequencer, has_log, waiting, unsettled_count, view, acts, trim_up_to, with_report}
+pub use Rattle.am_effects.proofs.Words.{is_within_bound, name_where, stranger, founder, members, is_asking, others, lowest_or_first, Verdict, with_promise}
+pub use Rattle.am_effects.proofs.Words.{trim_for, next_stamp, new_ballot, with_vote, without_voter, need_of, left_in, give_up_of, number_send, emit}
+pub use Rattle.am_effects.proofs.Words.{with_queued, queue, give_out, join_by, state_by, go, is_unfinished, leave_now, leave_by, ask_of, Status, advance}
+pub use Rattle.am_effects.proofs.Words.{accepted_at, settle_at, settle_waiting, Plan, quiet, Step, is_view, store_fitting, store, with_noted, receive_entry}
+pub use Rattle.am_effects.proofs.Words.{data_of, body_of, answer_hold, bodies_after, tick_ballot, tick_member, put_off, and_result, tick_sequencer}
+pub use Rattle.am_effects.proofs.Words.{tick_acting, tick_with, tick_by, viewed_by, refuse, packet_length, take_report, answer_request, serve_again}
+pub use Rattle.am_effects.proofs.Words.{is_unknown, with_admitted, number_join, begin_list, may_go, take_vote, push_fetched, catch_up, decide_anew}
+pub use Rattle.am_effects.proofs.Words.{piece_promised, piece_for, hears_result, hears_member, hears_asking, hears_sequencer, hears_in_view, World, start}
+pub use Rattle.am_effects.proofs.Words.{first_node, run, is_stopped, hears_letter, hear_cut, acts_as, current, heard_by, Cause, calls, hears, BringsSend}
+pub use Rattle.am_effects.proofs.Words.{by_request, by_spread, Change, refreshes, settles, numbers, notes, stores, begins_list, departs, looks, fetches}
+pub use Rattle.am_effects.proofs.Words.{stores_view, asks_to_join, closes, Changes, no_change, changed, promises, opens, asked_send, own_send, asked_join}
+pub use Rattle.am_effects.proofs.Words.{asked_leave, Carries, whole_entry, by_number, unchanged, keeps_body, queues, collects, invited, told_result}
+pub use Rattle.am_effects.proofs.Words.{without_ballot, takes_report, admits, takes, MayBeWelcomed, actor, IsCall, IsCause, idles, stops, returns, steps}
+pub use Rattle.am_effects.proofs.Words.{WasSentTo, Happens, Looks, finds_itself_out, HasOpen, Balloting, with_more, without_one, as_it_is, decides}
+pub use Rattle.am_effects.proofs.Words.{finds_no_room, waits, fetches_from_best, finds_too_few, just_joined, asks_again, Says, bcast, order, hold, join_ask}
+pub use Rattle.am_effects.proofs.Words.{welcome, gone, invite, fetch, piece, result, hand_over, HasSend, request, spread, vote, LetterSays, Effect}
 unfoldable pub use Rattle.am_effects.proofs.Words.{fits, after, fold, pass_over, own_report, tell, go_on, those, decide, begin, keep_vote, give_up, best_of}
 unfoldable pub use Rattle.am_effects.proofs.Words.{give_up_row, reset_row, send_row, done_row, take_row, join_row, state_row, leave_row, ask_row, refresh}
 unfoldable pub use Rattle.am_effects.proofs.Words.{lead, settle, refresh_at_end, finish, spread_row, bcast_row, order_row, accept_row, hold_row, tick_row}
 unfoldable pub use Rattle.am_effects.proofs.Words.{step, hear, hear_refusal, row, request_row, ack_row, nack_row, join_ask_row, welcome_row, leave_ask_row}
 unfoldable pub use Rattle.am_effects.proofs.Words.{gone_row, invite_row, vote_row, fetch_row, piece_row, result_row, hand_over_row, hear_row, with_record}
-unfoldable pub use Rattle.am_effects.proofs.Words.{happens, happen}
+unfoldable pub use Rattle.am_effects.proofs.Words.{with_step, happens, happen}
 pub use Rattle.std.proofs.Common.{unwrap_or, filter, ⊎_elim, take, slice_index_or, map, set, length-drop, get_or}
 pub use Rattle.std.proofs.Math.Seq.{take-length}
 pub use Rattle.std.proofs.lemmas.Bool.{cases_lt}
@@ -39,7 +39,7 @@ pub use Rattle.std.proofs.lemmas.List.Sums.{sum_by-cons}
 pub use Rattle.std.specs.List.{count_by, range_with_len}
 pub use Rattle.am_base.specs.Names.{names_of, IsSet, nobody, name_at, rank_of, names_from}
 unfoldable pub use Rattle.am_base.specs.Names.{by_place}
-pub use Rattle.am_base.specs.Founding.{Rules, MayFound}
+pub use Rattle.am_base.specs.Founding.{MayFound}
 pub use Rattle.am_base.specs.Lists.{blank, blank_row, is_blank, row_after_view, image_at, members_at, with_entry}
 pub use Rattle.am_base.specs.Fronts.{accept_front}
 pub use Rattle.am_base.specs.Most.{most_body, most_number}
@@ -64,14 +64,13 @@ pub use Rattle.am_fronts.proofs.ReportLaws.{count_cons}
 pub use Rattle.am_bodies.specs.declared.KeptBody.{KeptBody}
 pub use Rattle.am_bodies.specs.Bodies.{find_body}
 pub use Rattle.am_sender.specs.Sends.{Sends, is_unsettled}
-pub use Rattle.am_model.specs.Node.{set_at, stranger, founder, founders_view, founding_stamp}
+pub use Rattle.am_model.specs.Node.{set_at, founders_view, founding_stamp}
 pub use Rattle.am_model.specs.Ballots.{taken_by, goes_on, ends as ended, decide_view, restart_reports, overtake, own_vote}
 pub use Rattle.am_model.specs.Receiving.{own_body, first_body}
 pub use Rattle.am_model.specs.Sequencing.{number_data}
 pub use Rattle.am_model.specs.Joining.{asks_to_leave}
 pub use Rattle.am_model.proofs.Founders.{first_founder}
-pub use Rattle.am_play.specs.World.{start, first_node, run, lives_on, group_with, group_after, Decided, founders_decided, last_view, views_after}
-unfoldable pub use Rattle.am_play.specs.World.{with_step}
+pub use Rattle.am_play.specs.World.{lives_on, group_with, group_after, Decided, founders_decided, last_view, views_after}
 pub use Rattle.am_play.specs.Claims.{Begins}
 pub use Rattle.am_play.specs.Lawful.{broken_at, before_break}
 pub use Rattle.am_play.proofs.Beginnings.{runs_begin}
@@ -81,6 +80,7 @@ pub use Rattle.am_chain_lists.proofs.Rows.{and_right, In, mod16, long_after, set
 pub use Rattle.am_chain_lists.proofs.Requests.{has_in}
 pub use Rattle.am_chain_lists.proofs.Order.{rank_same}
 pub use Rattle.am_chain_lists.proofs.Members.{index_members}
+pub use Rattle.am_effects.proofs.Nodes.{Each, each_node_keeps, first_has}
 pub use Rattle.am_effects.proofs.Statuses.{logged, asking_log}
 pub use Rattle.am_effects.specs.Changes.{Numbers, Promises, overtaken as overtaken_by, Fetches, for_ballot}
 pub use Rattle.am_effects.proofs.Rests.{rests_refresh, settle_is, rests_at_end, with_fronts, refresh_is, passed}
@@ -95,7 +95,7 @@ pub use Rattle.am_effects.proofs.Resets.{stamp_itself, same_stamp}
 pub use Rattle.am_effects.proofs.Ballots.{entry_is}
 pub use Rattle.am_bounded.proofs.Kept.{HasItself, Keeps}
 pub use Rattle.am_bounded.proofs.Changes.{itself, kept_change}
-pub use Rattle.am_bounded.proofs.Runs.{kept_founder, kept_stranger}
+pub use Rattle.am_bounded.proofs.Runs.{kept_own}
 pub use Rattle.am_laws.specs.Packets.{Bounds, up, UpTo}
 pub use Rattle.am_laws.specs.Blank.{BlankHolds}
 pub use Rattle.am_laws.specs.Begins.{FrontBegins}

@@ -1,24 +1,22 @@
 -- The words of this crate's proofs, of the crates and definitions that they come from.
 pub use Rattle.am_effects.proofs.Words.{◌≡◌, ℕ, ◌==◌, ◌&&◌, ◌||◌, not, true, false, List, [], ◌∷◌, ◌++◌, Option, Some, None, refl, sym, ap, ◌∙◌, subst, arith}
 pub use Rattle.am_effects.proofs.Words.{◌⊎◌, inl, inr, ◌+◌, nat_lt, Bool, nat_tests, All-nil, All-append, list_any, All, Stamp, Outcome, NodeEvent, stamp_lt}
-pub use Rattle.am_effects.proofs.Words.{has, split, and_both, Packet, Letter, Act, Node, Ballot, is_member, has_log, Verdict, World, current, is_stopped}
-pub use Rattle.am_effects.proofs.Words.{heard_by, Cause, calls, hears, refuses, Looks, waits, fetches_from_best, HasOpen, Balloting, with_more, without_one}
-pub use Rattle.am_effects.proofs.Words.{as_it_is, finds_itself_out, Change, refreshes, settles, begins_list, departs, promises, opens, looks, asks_to_join}
-pub use Rattle.am_effects.proofs.Words.{closes, invited, overtaken, told_result, actor, IsCall, IsCause, idles, stops, returns, steps, Says, request}
-pub use Rattle.am_effects.proofs.Words.{LetterSays}
-unfoldable pub use Rattle.am_effects.proofs.Words.{with_record}
+pub use Rattle.am_effects.proofs.Words.{Rules, has, split, and_both, Packet, Letter, Act, Node, Ballot, is_member, has_log, Verdict, World, start, current}
+pub use Rattle.am_effects.proofs.Words.{is_stopped, run, heard_by, Cause, calls, hears, refuses, Looks, waits, fetches_from_best, HasOpen, Balloting}
+pub use Rattle.am_effects.proofs.Words.{with_more, without_one, as_it_is, finds_itself_out, Change, refreshes, settles, begins_list, departs, promises, opens}
+pub use Rattle.am_effects.proofs.Words.{looks, asks_to_join, closes, invited, overtaken, told_result, actor, IsCall, IsCause, idles, stops, returns, steps}
+pub use Rattle.am_effects.proofs.Words.{Says, request, LetterSays}
+unfoldable pub use Rattle.am_effects.proofs.Words.{with_record, with_step}
 pub use Rattle.std.proofs.Common.{⊎_elim}
 pub use Rattle.std.proofs.lemmas.List.Elements.{All-weaker}
 pub use Rattle.std.proofs.lemmas.List.Folds.{list_any-append}
 pub use Rattle.am_base.specs.Stamps.{no_stamp}
-pub use Rattle.am_base.specs.Founding.{Rules, MayFound}
+pub use Rattle.am_base.specs.Founding.{MayFound}
 pub use Rattle.am_base.specs.Names.{rank_of}
 pub use Rattle.am_codec.specs.Spelling.{sender_of, stamp_of}
 pub use Rattle.am_model.specs.Node.{set_at, founding_stamp}
 pub use Rattle.am_model.specs.Ballots.{overtake}
 pub use Rattle.am_model.proofs.Founders.{first_founder}
-pub use Rattle.am_play.specs.World.{start, run}
-unfoldable pub use Rattle.am_play.specs.World.{with_step}
 pub use Rattle.am_effects.specs.Changes.{Promises}
 pub use Rattle.am_effects.proofs.Statuses.{logged, asking_log}
 pub use Rattle.am_effects.proofs.Receiving.{asking}

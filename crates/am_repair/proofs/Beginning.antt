@@ -12,7 +12,7 @@ use Rattle.am_repair.proofs.{Repaired.AllStored, Repaired.all_catch_up, OldLives
 -- a life that hasn't begun doesn't act
 born : (rules : Rules) (w : World) (name : ℕ) → AllOwned rules w → w.lives (place_of name) < life_of name → acts (w.nodes name) ≡ true → ⊥
 born rules w name laws low a =
-    let is = laws.blanks.views.named.unborn name low in
+    let is = laws.blanks.base.named.unborn name low in
     let t : acts (stranger rules name) ≡ true = subst (λ (m : Node). acts m ≡ true) is a in
     let member = (acting (stranger rules name) t).0 in
     cc
@@ -20,7 +20,7 @@ born rules w name laws low a =
 pub few_acting : (rules : Rules) (w : World) (name : ℕ) → AllOwned rules w → acts (w.nodes name) ≡ true → name < 256
 few_acting rules w name laws a = elim (cases_lt name 256) [
   | inl low ↦ low
-  | inr high ↦ (let most = laws.blanks.views.named.most (place_of name) in absurd (born rules w name laws (omega arith) a))
+  | inr high ↦ (let most = laws.blanks.base.named.most (place_of name) in absurd (born rules w name laws (omega arith) a))
 ]
 
 acting_there : (m : Node) → acts m ≡ true → has_departed m.status ≡ false
@@ -77,14 +77,14 @@ stays_here rules w place name b there = false_from_ne_true (w.nodes name).leavin
 at_rest : (rules : Rules) (w : World) (place name : ℕ) → Begun rules w place → acts (w.nodes name) ≡ true → IsAtRest (w.nodes name)
 at_rest rules w place name b a = record {
   stays = stays_here rules w place name b (acting_there (w.nodes name) a);
-  no_ballot = no_open (w.nodes name) (b.laws.blanks.views.each name (few_acting rules w name b.laws a)).balloted a;
+  no_ballot = no_open (w.nodes name) (b.laws.blanks.base.each name (few_acting rules w name b.laws a)).balloted a;
 }
 
 listed : (rules : Rules) (w : World) (place : ℕ) → Begun rules w place → has (members (w.nodes (current w place))) (current w place) ≡ true
 listed rules w place b =
     let q = current w place in
     let a = (leading (w.nodes q) b.may.leads).0 in
-    subst (λ i. has (members (w.nodes q)) i ≡ true) (b.laws.blanks.views.named.who q) ((b.laws.each q (few_acting rules w q b.laws a)).leads b.may.leads)
+    subst (λ i. has (members (w.nodes q)) i ≡ true) (b.laws.blanks.base.named.who q) ((b.laws.each q (few_acting rules w q b.laws a)).leads b.may.leads)
 
 leads_first : (rules : Rules) (w : World) (place : ℕ) → Begun rules w place → (let q = current w place in Leads (repair_of w q) (w.nodes q))
 leads_first rules w place b =
@@ -126,13 +126,13 @@ apart_first rules w place name b none there =
     let no_member = false_from_ne_true (is_member m.status) (λ t. (let in_ = b.agree.alone name t in cc)) in
     elim (cases_lt name 256) [
       | inl low ↦ record {
-        no_ballot = (b.laws.blanks.views.each name low).balloted.none (no_list m.status no_member there);
+        no_ballot = (b.laws.blanks.base.each name low).balloted.none (no_list m.status no_member there);
         stays = stays;
         promised = λ member. absurd (cc);
       }
       | inr high ↦
-          (let most = b.laws.blanks.views.named.most (place_of name) in
-          let is = b.laws.blanks.views.named.unborn name (omega arith) in
+          (let most = b.laws.blanks.base.named.most (place_of name) in
+          let is = b.laws.blanks.base.named.unborn name (omega arith) in
           record { no_ballot = ap (λ (x : Node). x.ballot) is; stays = stays; promised = λ member. absurd (cc) })
     ]
 
@@ -142,9 +142,9 @@ calm_first rules w place b =
     let m = w.nodes q in
     record {
       nodes = record {
-        own = (leading m b.may.leads).1 ∙ b.laws.blanks.views.named.who q;
+        own = (leading m b.may.leads).1 ∙ b.laws.blanks.base.named.who q;
         listed = listed rules w place b;
-        who = b.laws.blanks.views.named.who;
+        who = b.laws.blanks.base.named.who;
         leads = leads_first rules w place b;
         follows = λ name there other. follows_first rules w place name b there;
         apart = λ name none there. apart_first rules w place name b none there;

@@ -107,12 +107,12 @@ trim_join : (rules : Rules) (w : World) (e : Event) (a : Act) → AllOwned rules
     → AllTrim (acts_as w e (actor w e) a)
 trim_join rules w e (act.Hear number) laws h t =
     let name = actor w e in
-    let few = few_names rules w e laws.blanks.views.named in
+    let few = few_names rules w e laws.blanks.base.named in
     trim_letter w e name (hear (w.nodes name)) (letter_at w.letters number)
     (λ p u. asks_known (w.nodes name) p u (laws.each name few).fronts (h name few)) t h
 trim_join rules w e (act.Cut number keep) laws h t =
     let name = actor w e in
-    let few = few_names rules w e laws.blanks.views.named in
+    let few = few_names rules w e laws.blanks.base.named in
     trim_letter w e name (hear_cut (w.nodes name) keep) (letter_at w.letters number)
     (λ p u. cut_known (w.nodes name) keep p u (laws.each name few).fronts (h name few)) t h
 trim_join rules w e _ laws h t = absurd (cc)
@@ -123,12 +123,12 @@ trim_happens : (rules : Rules) (w : World) (e : Event) (v : World) → AllOwned 
 unfolding with_record with_step
 trim_happens rules w e v laws h none (steps c s runs cause effect) =
     let name = actor w e in
-    let few = few_names rules w e laws.blanks.views.named in
+    let few = few_names rules w e laws.blanks.base.named in
     let no_join : NoJoin c = λ sender stamp is. (let was = subst (IsCause w name e.act) is cause in
     let kind : (kind_of was.letter.packet == 9) ≡ true = ap (λ p. kind_of p == 9) was.is in
     let there = ap is_join was.there in
     cc) in
-    trim_step w e name s h (known_changes rules (w.nodes name) s.node no_join (heard_names rules w e c laws.blanks.views cause)
+    trim_step w e name s h (known_changes rules (w.nodes name) s.node no_join (heard_names rules w e c laws.blanks.base cause)
     (heard_used rules w e c laws cause) effect.changes (each_along rules w name few laws) (h name few))
 trim_happens rules w e v laws h none _ = h
 

@@ -190,7 +190,7 @@ one_list_agrees rules events place may low repair one settled_ =
           (let act = repair.all_act name there in
           let m = w.nodes name in
           let low_ = few_acting rules w name laws act.0 in
-          let who = laws.blanks.views.named.who name in
+          let who = laws.blanks.base.named.who name in
           let known = known_is_taken rules events by name may few low_ in
           agrees w q m one.good own (one.each name (acting m act.0).0) act.1 leads (laws.each name low_).fronts (settled_.trims name there)
           (subst (λ i. (q.reports i).taken ≤ max q.core.base m.core.taken) (sym who) known));

@@ -57,8 +57,8 @@ unfolding with_step
 told_step rules w e c s cause effect laws h =
     let name = actor w e in
     let n = s.node in
-    let few = few_names rules w e h.laws.blanks.views.named in
-    let a = told_changes rules w.nodes (w.nodes name) n (heard_names rules w e c h.laws.blanks.views cause) (heard_used rules w e c h.laws cause)
+    let few = few_names rules w e h.laws.blanks.base.named in
+    let a = told_changes rules w.nodes (w.nodes name) n (heard_names rules w e c h.laws.blanks.base cause) (heard_used rules w e c h.laws cause)
     (cause_taken w e c h.letters cause) effect.changes (each_along rules w name few h.laws) (h.each name few) in
     let v = with_step w e name s in
     let itself_ = is_itself name in
@@ -66,7 +66,7 @@ told_step rules w e c s cause effect laws h =
     let up : (other : ℕ) → (w.nodes other).core.taken ≤ (v.nodes other).core.taken = λ other. split (other == name)
     (λ t. let is = eqb-true other name t in rw (t, is) a.rises.taken) (λ f. rw f (omega arith)) in
     let sender = effect.sender in
-    let who : n.core.who ≡ name = ap (λ (x : Node). x.core.who) (sym here) ∙ laws.blanks.views.named.who name in
+    let who : n.core.who ≡ name = ap (λ (x : Node). x.core.who) (sym here) ∙ laws.blanks.base.named.who name in
     let same_who : sender.core.who ≡ name = sym (ap (λ (x : Node). x.core.who) effect.is) ∙ who in
     let same_taken : n.core.taken ≡ sender.core.taken = ap (λ (x : Node). x.core.taken) effect.is in
     let at : (v.nodes sender.core.who).core.taken ≡ n.core.taken = ap (λ k. (v.nodes k).core.taken) same_who ∙ ap (λ (x : Node). x.core.taken) here in
@@ -107,7 +107,7 @@ pub known_is_taken : KnownIsTaken
 known_is_taken rules events q name may few small =
     let all = run_told rules events may in
     let w = run rules events in
-    let who = all.laws.blanks.views.named.who q in
+    let who = all.laws.blanks.base.named.who q in
     split (name == q)
     (λ t. let is = eqb-true name q t in
     let own = (all.laws.each q few).fronts.reported in

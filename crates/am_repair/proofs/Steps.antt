@@ -183,9 +183,9 @@ leader_step rules r w e s laws h k same =
     let v = with_step w e name s in
     let ch = one_changed w e name s in
     let effect = subst (λ i. Effect (w.nodes i) c s) same k.effect in
-    let along = subst (λ i. Along rules (w.nodes i)) same (each_along rules w name (few_names rules w e laws.blanks.views.named) laws) in
+    let along = subst (λ i. Along rules (w.nodes i)) same (each_along rules w name (few_names rules w e laws.blanks.base.named) laws) in
     let g = lead_changes rules r (λ i. (w.nodes i).core.taken) w q q n h.own k.calm
-    (λ i v_ report brings. (told_taken r w c i v_ report brings k.calm).taken) (heard_names rules w e c laws.blanks.views k.is)
+    (λ i v_ report brings. (told_taken r w c i v_ report brings k.calm).taken) (heard_names rules w e c laws.blanks.base k.is)
     (heard_used rules w e c laws k.is) effect.changes along (goes_first r w h) in
     let node : v.nodes r.by ≡ n = ap (λ i. v.nodes i) (sym same) ∙ ch.here in
     let acts_ = acting n (leading n g.leads.leads).0 in
@@ -399,8 +399,8 @@ trust_step rules r taken w e s laws h k tells t = split (actor w e == r.by)
     let q = w.nodes r.by in
     let c = k.cause in
     let effect = subst (λ i. Effect (w.nodes i) c s) same k.effect in
-    let along = subst (λ i. Along rules (w.nodes i)) same (each_along rules w name (few_names rules w e laws.blanks.views.named) laws) in
-    let g = lead_changes rules r taken w q q s.node h.own k.calm tells (heard_names rules w e c laws.blanks.views k.is)
+    let along = subst (λ i. Along rules (w.nodes i)) same (each_along rules w name (few_names rules w e laws.blanks.base.named) laws) in
+    let g = lead_changes rules r taken w q q s.node h.own k.calm tells (heard_names rules w e c laws.blanks.base k.is)
     (heard_used rules w e c laws k.is) effect.changes along (record {
       own = h.who r.by;
       leads = h.leads;

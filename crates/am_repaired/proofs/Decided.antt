@@ -21,7 +21,7 @@ module _ (rules : Rules) (events : List Event) (e : Event) (c : Cause) (step : S
   is_new : s.views.decided (key (view n)) ≡ true → ⊥
   is_new d =
       let was = x.old.stands.views.decided (key (view n)) d in
-      let noted = all_get (IsNoted w.nodes) w.views was.index was.view (laws_w rules events e c step s t x).blanks.views.noted was.there in
+      let noted = all_get (IsNoted w.nodes) w.views was.index was.view (laws_w rules events e c step s t x).blanks.base.noted was.there in
       let same = key_stamp was.view.stamp (view n) noted.by (subst (λ j. j < 256) (sym own) small_i) was.is in
       let by : was.view.stamp.by ≡ i = ap (λ (u : Stamp). u.by) same ∙ own in
       let low : stamp_lt (view m) (view n) ≡ false = ap (stamp_lt (view m)) (sym same)

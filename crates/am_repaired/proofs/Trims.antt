@@ -64,16 +64,16 @@ module _ (rules : Rules) (events : List Event) (e : Event) (c : Cause) (step : S
   along = each_along rules w i few laws_w
 
   pub heard : HeardNames c
-  heard = heard_names rules w e c laws_w.blanks.views x.cause
+  heard = heard_names rules w e c laws_w.blanks.base x.cause
 
   pub used : HeardUsed c
   used = heard_used rules w e c laws_w x.cause
 
   pub who_w : (j : ℕ) → (w.nodes j).core.who ≡ j
-  who_w j = laws_w.blanks.views.named.who j
+  who_w j = laws_w.blanks.base.named.who j
 
   pub who_v : (j : ℕ) → (v.nodes j).core.who ≡ j
-  who_v j = laws_v.blanks.views.named.who j
+  who_v j = laws_v.blanks.base.named.who j
 
   pub who_n : n.core.who ≡ i
   who_n = ap (λ (y : Node). y.core.who) (sym node_v) ∙ who_v i

@@ -71,7 +71,7 @@ current_listed : (rules : Rules) (events : List Event) (s : Group) → MayFound 
     → has_log ((run rules events).nodes s.views.current.by).status ≡ true
 current_listed rules events s may old k =
     let was = old.stands.views.decided (key s.views.current) k.views.now in
-    let noted = all_get (IsNoted (run rules events).nodes) (run rules events).views was.index was.view (run_owned rules events may).blanks.views.noted
+    let noted = all_get (IsNoted (run rules events).nodes) (run rules events).views was.index was.view (run_owned rules events may).blanks.base.noted
     was.there in
     let same_by = key_by was.view.stamp s.views.current noted.by (current_small s k) was.is in
     subst (λ j. has_log ((run rules events).nodes j).status ≡ true) same_by noted.log_

@@ -1,26 +1,31 @@
 -- The words of this crate's proofs, of the crates and definitions that they come from.
-pub use Rattle.am_handlers.proofs.Words.{◌≡◌, ℕ, ◌+◌, ◌≤◌, List, [], length, sym, ap, ◌∙◌, true, false, ◌==◌, nat_lt, arith, ◌<◌, Bool, nat_le, if◌then◌else◌}
-pub use Rattle.am_handlers.proofs.Words.{Option, Some, None, refl, ◌-◌, min, take, drop, slice_index_or, subst, nat_tests, length-take, Entry, Row, Image}
-pub use Rattle.am_handlers.proofs.Words.{Data, Join, place_of, life_of, has, at_place, row_of, members_of, top_of, entry_at, Report, Outcome, Letter}
-pub use Rattle.am_handlers.proofs.Words.{with_letter, Packet, CoreState, IsInOrder, stands_self, split, Node, only_name, top, with_report, image_of, others}
-pub use Rattle.am_handlers.proofs.Words.{push_entry, put_all, Plan, quiet, polling, hold_of, Tells, IsEndOf, Does, CoreTells, with_core, Done, node_of}
-pub use Rattle.am_handlers.proofs.Words.{with_told, Parts, keeps_end}
-pub use Rattle.std.proofs.Common.{slice_index, not, length-drop}
+pub use Rattle.am_ends.proofs.Words.{◌≡◌, ℕ, ◌+◌, ◌≤◌, List, [], length, sym, ap, ◌∙◌, true, false, ◌==◌, nat_lt, arith, ◌<◌, Bool, not, nat_le}
+pub use Rattle.am_ends.proofs.Words.{if◌then◌else◌, Option, Some, None, refl, ◌-◌, min, take, drop, subst, nat_tests, drop-drop, Entry, Row, Image, Data}
+pub use Rattle.am_ends.proofs.Words.{Join, life_of, has, at_place, row_of, members_of, entry_at, Report, Outcome, Letter, with_letter, Packet, CoreState}
+pub use Rattle.am_ends.proofs.Words.{IsInOrder, split, Node, only_name, top, has_room, report_fits, with_report, image_of, others, push_entry, bcast_of}
+pub use Rattle.am_ends.proofs.Words.{entries_to_serve, put_all, Plan, quiet, polling, and_telling, hold_of, IsEndOf, Does, row_at, is_unknown, take_report}
+pub use Rattle.am_ends.proofs.Words.{serve_again, serve, answer_request, number_data}
+unfoldable pub use Rattle.am_ends.proofs.Words.{ack_row, nack_row, request_row}
+pub use Rattle.std.proofs.Common.{slice_index, slice_index_or, length-drop}
 pub use Rattle.std.proofs.Math.ListN.{get_or-map}
-pub use Rattle.std.proofs.lemmas.List.{drop-drop}
-pub use Rattle.am_base.specs.Lists.{blank_row, member_life}
+pub use Rattle.std.proofs.lemmas.List.{length-take}
+pub use Rattle.am_base.specs.Names.{place_of}
+pub use Rattle.am_base.specs.Lists.{blank_row, member_life, top_of}
 unfoldable pub use Rattle.am_base.specs.Lists.{fits}
+pub use Rattle.am_core.proofs.CoreLaws.{stands_self}
 pub use Rattle.am_core.proofs.Members.{members_pushed}
-pub use Rattle.am_model.specs.Node.{stranger, has_room, report_fits}
-pub use Rattle.am_model.specs.Emit.{bcast_of, entries_to_serve, and_telling}
-pub use Rattle.am_model.specs.Sequencing.{row_at, is_unknown, take_report, serve_again, serve, answer_request, number_data}
-unfoldable pub use Rattle.am_model.specs.Sequencing.{ack_row, nack_row, request_row}
+pub use Rattle.am_model.specs.Node.{stranger}
+pub use Rattle.am_model.specs.Ends.{Tells}
 pub use Rattle.am_model.proofs.Letters.{one_more}
+pub use Rattle.am_handlers.specs.Cores.{CoreTells, with_core}
 pub use Rattle.am_handlers.proofs.Doing.{core_tells}
 pub use Rattle.am_handlers.proofs.Plans.{end_tells, does_now, done_whole, done_telling, done_silent, done, letter_tells, told_numbered}
 pub use Rattle.am_handlers.proofs.Ends.{tells, end_self, settled_end}
-pub use Rattle.am_handlers.specs.Finishing.{unless}
+pub use Rattle.am_handlers.specs.Finishing.{Done, unless}
 pub use Rattle.am_handlers.proofs.Served.{kept_above, put_next, entry_there, entry_served, take_few, put_none}
+pub use Rattle.am_handlers.specs.Parts.{node_of, with_told}
 pub use Rattle.am_handlers.proofs.Keeping.{keeps_pushed, leading_log, steady_leads}
+pub use Rattle.am_handlers.specs.declared.parts.Parts.{Parts}
+pub use Rattle.am_ends.proofs.Nodes.{keeps_end}
 pub use Rattle.am_ends.proofs.Sequencing.{same_served, alike_requested, alike_asked_again}
 pub use Rattle.am_sequencer.specs.Pieces.{bcast_from, following, report_refusal, request_refusal, data_packet}

@@ -1,12 +1,12 @@
 -- Where a node's last ballot was decided and its promise is its own, it is that of the ballot, in every run.
-use Rattle.am_steps.proofs.Words.{none_of_asking, ◌≡◌, inr, ⊎_elim, ℕ, ◌<◌, ◌==◌, ◌&&◌, ◌||◌, not, true, false, List, Option, Some, None, sym, ap, ◌∙◌, subst}
-use Rattle.am_steps.proofs.Words.{arith, nat_tests, Stamp, Outcome, Rules, MayFound, has, stamp_lt, no_stamp, Event, Node, Ballot, is_member, is_asking}
-use Rattle.am_steps.proofs.Words.{Verdict, overtake, World, start, with_record, with_step, run, split, and_both, Cause, Looks, finds_itself_out, waits}
+use Rattle.am_steps.proofs.Words.{Each, each_node_keeps, first_has, none_of_asking, ◌≡◌, inr, ⊎_elim, ℕ, ◌<◌, ◌==◌, ◌&&◌, ◌||◌, not, true, false, List}
+use Rattle.am_steps.proofs.Words.{Option, Some, None, sym, ap, ◌∙◌, subst, arith, nat_tests, Stamp, Outcome, Rules, MayFound, stamp_lt, no_stamp, Event, Node}
+use Rattle.am_steps.proofs.Words.{Ballot, is_member, is_asking, Verdict, overtake, World, start, run, split, and_both, Cause, Looks, finds_itself_out, waits}
 use Rattle.am_steps.proofs.Words.{fetches_from_best, finds_too_few, finds_no_room, decides, Promises, invited, overtaken_by, told_result, Change, refreshes}
-use Rattle.am_steps.proofs.Words.{settles, begins_list, promises, opens, looks, closes, actor, idles, stops, returns, steps, rests_refresh, rests_closed}
-use Rattle.am_steps.proofs.Words.{settle_is, along, EachKeeps, runs_keep, few_names, equal_stamps, HasNames, HeardNames, change_names, promised_named}
-use Rattle.am_steps.proofs.Words.{Balloted, change_does, looked_at, AllViews, each_views, heard_names, views_start, AtMost, IsBegun, most_same, most_through}
-use Rattle.am_steps.proofs.Words.{CauseBegun, Promised, promise_change, AllBegun, cause_begun, each_keeps, start_begun, OwnDecided}
+use Rattle.am_steps.proofs.Words.{settles, begins_list, promises, opens, looks, closes, actor, rests_refresh, rests_closed, settle_is, along, EachKeeps}
+use Rattle.am_steps.proofs.Words.{runs_keep, equal_stamps, HasNames, HeardNames, change_names, promised_named, Balloted, change_does, looked_at, AllViews}
+use Rattle.am_steps.proofs.Words.{each_views, heard_names, views_start, AtMost, IsBegun, most_same, most_through, CauseBegun, Promised, promise_change}
+use Rattle.am_steps.proofs.Words.{AllBegun, cause_begun, each_keeps, start_begun, OwnDecided}
 use Rattle.am_base.specs.declared.outcome.Outcome.TheVariants as said
 
 -- ---- by the parts of a node
@@ -104,52 +104,28 @@ change_knows nodes i c o names begun x y z h = record {
 
 -- ---- runs
 
-pub record AllOwns (rules : Rules) (w : World) : Type 0 where
-  pub views : AllViews rules w
-  pub begun : AllBegun w
-  pub each : (i : ℕ) → i < 256 → OwnDecided (w.nodes i)
+abbrev pub AllOwns : Rules → World → Type 0
+AllOwns rules = Each (λ w. AllViews rules w × AllBegun w) (λ i n. i < 256 → OwnDecided n)
 
 pub owns_next : (rules : Rules) → EachKeeps (AllOwns rules)
-unfolding with_record with_step
-owns_next rules w e v (idles o idle) h = record {
-  views = each_views rules w e v (idles o idle) h.views;
-  begun = each_keeps w e v (idles o idle) h.begun;
-  each = h.each;
-}
-owns_next rules w e v (stops runs) h = record {
-  views = each_views rules w e v (stops runs) h.views;
-  begun = each_keeps w e v (stops runs) h.begun;
-  each = h.each;
-}
-owns_next rules w e v (returns place is gone more) h = record {
-  views = each_views rules w e v (returns place is gone more) h.views;
-  begun = each_keeps w e v (returns place is gone more) h.begun;
-  each = h.each;
-}
-owns_next rules w e v (steps c s runs cause effect) h =
+owns_next rules = each_node_keeps (λ w. AllViews rules w × AllBegun w) _
+    (λ w e v happens h. (each_views rules w e v happens h.0, each_keeps w e v happens h.1))
+    (λ w e c s cause effect base owns few.
     let i = actor w e in
-    let few = few_names rules w e h.views.named in
-    let k = h.views.each i few in
-    let now = along (Knows w.nodes i)
-    (change_knows w.nodes i c s.outcome (heard_names rules w e c h.views cause) (cause_begun w i e.act c h.begun.letters cause))
+    let k = base.0.each i few in
+    (along (Knows w.nodes i)
+    (change_knows w.nodes i c s.outcome (heard_names rules w e c base.0 cause) (cause_begun w i e.act c base.1.letters cause))
     effect.changes (record {
       named = k.names;
       balloted = k.balloted;
-      promised = record { who = h.begun.who i; up = most_same (w.nodes i).core.promise; begun = inr (h.begun.each i) };
-      owns = h.each i few;
-    }) in
-    record {
-      views = each_views rules w e v (steps c s runs cause effect) h.views;
-      begun = each_keeps w e v (steps c s runs cause effect) h.begun;
-      each = λ j low. split (j == i) (λ t. rw t now.owns) (λ f. rw f (h.each j low));
-    }
+      promised = record { who = base.1.who i; up = most_same (w.nodes i).core.promise; begun = inr (base.1.each i) };
+      owns = owns few;
+    })).owns)
 
 owns_start : (rules : Rules) → MayFound rules → AllOwns rules (start rules)
 owns_start rules may = record {
-  views = views_start rules may;
-  begun = start_begun rules may;
-  each = λ i low. split (has rules.founders i) (λ t. rw t (λ b number all at answer mine. absurd (cc)))
-      (λ f. rw f (λ b number all at answer mine. absurd (cc)));
+  base = (views_start rules may, start_begun rules may);
+  each = λ i low. first_has rules OwnDecided i (λ b number all at answer mine. absurd (cc)) (λ b number all at answer mine. absurd (cc));
 }
 
 pub run_owns : (rules : Rules) (events : List Event) → MayFound rules → AllOwns rules (run rules events)

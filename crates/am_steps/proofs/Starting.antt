@@ -123,14 +123,14 @@ module _ (rules : Rules) (events : List Event) (e : Event) (c : Cause) (step : S
   owns = run_owns rules events may
 
   few : name < 256
-  few = few_names rules w e owned.blanks.views.named
+  few = few_names rules w e owned.blanks.base.named
 
   begun : (p : Packet) → c ≡ hears p → WasBegun s (stamp_of p)
   begun p is =
       let was = was_sent w name e.act c p cause is in
-      let ok = all_item (StampOk w.nodes) w.letters (heard_by e.act) was.letter owns.begun.letters was.there in
-      let names = heard_names rules w e c owned.blanks.views cause in
-      begun_stands w s (stamp_of p) h.stands (λ i low. (owned.blanks.views.each i low).names.promise_) (names.stamps p is)
+      let ok = all_item (StampOk w.nodes) w.letters (heard_by e.act) was.letter owns.base.1.letters was.there in
+      let names = heard_names rules w e c owned.blanks.base cause in
+      begun_stands w s (stamp_of p) h.stands (λ i low. (owned.blanks.base.each i low).names.promise_) (names.stamps p is)
       (subst (λ (q : Packet). IsBegun w.nodes (stamp_of q)) was.is ok.begun)
 
   heard : (p : Packet) → c ≡ hears p → HeardSo begun_world s name p
@@ -142,11 +142,11 @@ module _ (rules : Rules) (events : List Event) (e : Event) (c : Cause) (step : S
   stepping_begins = record {
     group = h.group;
     stands = stands_but w (after_step w e step) name s h.stands;
-    by = record { few = few; names = heard_names rules w e c owned.blanks.views cause; used = heard_used rules w e c owned cause };
-    who = owned.blanks.views.named.who name;
+    by = record { few = few; names = heard_names rules w e c owned.blanks.base cause; used = heard_used rules w e c owned cause };
+    who = owned.blanks.base.named.who name;
     runs = runs;
     stopped = few_stopped rules events may;
-    noted = λ k d at. (all_get (IsNoted w.nodes) w.views k d owned.blanks.views.noted at).by;
+    noted = λ k d at. (all_get (IsNoted w.nodes) w.views k d owned.blanks.base.noted at).by;
     along = each_along rules w name few owned;
     sent = kept_more w.records _ name m ((run_sent rules events).all.each name);
     once = step_once rules events e c step cause effect;

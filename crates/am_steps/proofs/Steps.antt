@@ -111,7 +111,7 @@ module _ (rules : Rules) (events : List Event) (e : Event) (c : Cause) (s : Grou
   open acting rules events e use {w, name, m}
 
   few : name < 256
-  few = few_names rules w e (run_owned rules events may).blanks.views.named
+  few = few_names rules w e (run_owned rules events may).blanks.base.named
 
   abbrev after_ : Step → World
   after_ step = with_step (run rules events) e (actor (run rules events) e) step
@@ -148,7 +148,7 @@ module _ (rules : Rules) (events : List Event) (e : Event) (c : Cause) (s : Grou
       }
 
   noted : (k : ℕ) (d : Decided) → slice_get w.views k ≡ Some d → IsNoted w.nodes d
-  noted k d at = all_get (IsNoted w.nodes) w.views k d (run_owned rules events may).blanks.views.noted at
+  noted k d at = all_get (IsNoted w.nodes) w.views k d (run_owned rules events may).blanks.base.noted at
 
   -- ---- of who had departed
 
@@ -217,7 +217,7 @@ module _ (rules : Rules) (events : List Event) (e : Event) (c : Cause) (s : Grou
         let based = step_based rules m n h0.names h0.used effect.changes h0.along in
         let speaks = sends_so m n (Sender v name c m n a.to) h0.along.owned.fronts.kept based (λ acc start.
         sender rules (at_end w e name step) v name c m n a.to goes stands (is_node step) (same_seen step) (same_records step) (same_stopped step) mine there
-        (a.fronts there) after.views after.begun owns acc start) in
+        (a.fronts there) after.base.0 after.base.1 owns acc start) in
         landed_told rules w e name step s a.to h land (letters_told rules v name c m n sent a.to land.group speaks says)
 
     -- a leaver that is let go

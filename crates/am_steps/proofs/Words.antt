@@ -3,7 +3,7 @@ pub use Rattle.am_stands.proofs.Words.{◌≡◌, List, ℕ, zero, suc, ◌+◌,
 pub use Rattle.am_stands.proofs.Words.{ap, ◌∙◌, subst, arith, nat_lt, Bool, length, ◌⊎◌, inl, inr, ⊎_elim, max, ◌++◌, ◌≢◌, ◌&&◌, take, drop, append-nil}
 pub use Rattle.am_stands.proofs.Words.{Option, None, if◌then◌else◌, slice_index, not-true, nat_tests, length-take, All-nil, All-append, All-cons, All-head}
 pub use Rattle.am_stands.proofs.Words.{All-tail, list_any-append, list_any, All, Rules, MayFound, Stamp, Image, Entry, View, Leave, Data, Outcome, stamp_eq}
-pub use Rattle.am_stands.proofs.Words.{stamp_lt, no_stamp, Log, top_of, told_by, entry_at, after, members_of, split, and_both, size, has, place_of, life_of}
+pub use Rattle.am_stands.proofs.Words.{stamp_lt, no_stamp, Log, top_of, told_by, entry_at, after, members_of, split, and_both, size, place_of, life_of, has}
 pub use Rattle.am_stands.proofs.Words.{Report, NodeEvent, GiveUp, Packet, stamp_of, CoreState, view_grows, Event, Record, item_at, Node, Ballot, view, acts}
 pub use Rattle.am_stands.proofs.Words.{is_member, is_asking, is_sequencer, others, push_entry, has_departed, has_log, set_at, lowest_or_first, Verdict}
 pub use Rattle.am_stands.proofs.Words.{trim_for, left_in, need_of, overtake, is_view, Step, Status, is_unfinished, hears_member, hears_asking, hears_in_view}
@@ -23,7 +23,7 @@ pub use Rattle.am_stands.proofs.Words.{PacketSays, ShowsMore, Sender, ListBegins
 unfoldable pub use Rattle.am_stands.proofs.Words.{fold, refresh_at_end, with_record, with_step, key}
 pub use Rattle.am_laws.proofs.Words.{length-append, All-weaker, nobody, Letter, Act, is_for, letter_at, top, image_of, with_report, with_noted, packet_length}
 pub use Rattle.am_laws.proofs.Words.{start, run, hears_letter, hear_cut, acts_as, heard_by, IsCall, IsCause, stops, WasSentTo, EachKeeps, runs_keep, along}
-pub use Rattle.am_laws.proofs.Words.{calls, closes, Changes, numbers, stores, departs, fetches, all_item, Effect}
+pub use Rattle.am_laws.proofs.Words.{calls, closes, Changes, numbers, stores, departs, fetches, all_item, Effect, Each, each_node_keeps, first_has}
 unfoldable pub use Rattle.am_laws.proofs.Words.{happens}
 pub use Rattle.std.proofs.Common.{append_assoc, get_or-set_same}
 pub use Rattle.std.proofs.Math.Seq.{take-add}

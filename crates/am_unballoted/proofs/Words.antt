@@ -2,19 +2,21 @@
 pub use Rattle.am_effects.proofs.Words.{◌≡◌, ◌≢◌, ℕ, zero, suc, ◌-◌, ◌≤◌, ◌==◌, true, false, List, [], ◌∷◌, ◌++◌, length, drop, None, refl, sym, ap, ◌∙◌}
 pub use Rattle.am_effects.proofs.Words.{subst, arith, ◌+◌, ◌<◌, max, min, ◌&&◌, nat_lt, not, if◌then◌else◌, Option, Some, slice_get, length-append, ◌||◌}
 pub use Rattle.am_effects.proofs.Words.{slice_set, ◌⊎◌, inl, inr, slice_index, Bool, nat_le, find, is_some, nat_tests, All-head, All-tail, All-nil}
-pub use Rattle.am_effects.proofs.Words.{All-append, All-cons, slice_get_within, list_any, All, Stamp, Entry, View, Leave, Data, Join, Outcome, Log, at_place}
-pub use Rattle.am_effects.proofs.Words.{row_of, top_of, entry_at, told_by, split, and_both, Image, stamp_lt, stamp_eq, life_of, has, place_of, Report, Row}
-pub use Rattle.am_effects.proofs.Words.{NodeEvent, Letter, Packet, kind_of, slice_get-drop, OwnSend, Act, Event, item_at, letter_at, is_for, Departed, Node}
-pub use Rattle.am_effects.proofs.Words.{view, has_log, Ballot, acts, is_member, is_sequencer, push_entry, waiting, top, is_asking, trim_up_to, only_name}
-pub use Rattle.am_effects.proofs.Words.{Step, Status, advance, accepted_at, settle_at, settle_waiting, Verdict, begin_list, is_view, body_of, hears_member}
-pub use Rattle.am_effects.proofs.Words.{hears_in_view, hears_sequencer, viewed_by, World, happens, heard_by, Cause, calls, hears, refuses, BringsFronts}
-pub use Rattle.am_effects.proofs.Words.{with_entry, with_number, alone, Change, refreshes, settles, numbers, stores, begins_list, opens, looks, fetches}
-pub use Rattle.am_effects.proofs.Words.{stores_view, closes, MayBeWelcomed, departs, promises, queues, collects, takes, asks_to_join, Changes, unchanged}
-pub use Rattle.am_effects.proofs.Words.{changed, asked_send, own_send, asked_join, asked_leave, notes, Carries, whole_entry, by_number, invited, overtaken}
-pub use Rattle.am_effects.proofs.Words.{told_result, takes_report, admits, keeps_body, asks_to_leave, LetterSays, Stands, just_joined, asks_again, has_begun}
-pub use Rattle.am_effects.proofs.Words.{goes_on, leads, decided, Says, bcast, order, welcome, invite, vote, piece, result, Answers, Effect, actor, IsCause}
-pub use Rattle.am_effects.proofs.Words.{Happens, idles, stops, returns, steps, IsCall, WasSentTo, Looks, finds_itself_out}
-unfoldable pub use Rattle.am_effects.proofs.Words.{fold, after, fits, pass_over, own_report, tell, go_on, lead, refresh, settle, refresh_at_end, with_record}
+pub use Rattle.am_effects.proofs.Words.{All-append, All-cons, slice_get_within, list_any, All, Stamp, Entry, View, Leave, Data, Join, Outcome, Rules, Log}
+pub use Rattle.am_effects.proofs.Words.{at_place, row_of, top_of, entry_at, told_by, split, and_both, Image, stamp_lt, stamp_eq, life_of, has, place_of}
+pub use Rattle.am_effects.proofs.Words.{Report, Row, NodeEvent, Letter, Packet, kind_of, slice_get-drop, OwnSend, Act, Event, item_at, letter_at, is_for}
+pub use Rattle.am_effects.proofs.Words.{Departed, Node, view, has_log, Ballot, acts, is_member, is_sequencer, push_entry, waiting, top, is_asking, trim_up_to}
+pub use Rattle.am_effects.proofs.Words.{founder, stranger, only_name, Step, Status, advance, accepted_at, settle_at, settle_waiting, Verdict, begin_list}
+pub use Rattle.am_effects.proofs.Words.{is_view, body_of, hears_member, hears_in_view, hears_sequencer, viewed_by, World, run, start, happens, heard_by}
+pub use Rattle.am_effects.proofs.Words.{Cause, calls, hears, refuses, BringsFronts, with_entry, with_number, alone, Change, refreshes, settles, numbers}
+pub use Rattle.am_effects.proofs.Words.{stores, begins_list, opens, looks, fetches, stores_view, closes, MayBeWelcomed, departs, promises, queues, collects}
+pub use Rattle.am_effects.proofs.Words.{takes, asks_to_join, Changes, unchanged, changed, asked_send, own_send, asked_join, asked_leave, notes, Carries}
+pub use Rattle.am_effects.proofs.Words.{whole_entry, by_number, invited, overtaken, told_result, takes_report, admits, keeps_body, asks_to_leave, LetterSays}
+pub use Rattle.am_effects.proofs.Words.{Stands, just_joined, asks_again, has_begun, goes_on, leads, decided, Says, bcast, order, welcome, invite, vote, piece}
+pub use Rattle.am_effects.proofs.Words.{result, Answers, Effect, actor, IsCause, Happens, idles, stops, returns, steps, IsCall, WasSentTo, Looks}
+pub use Rattle.am_effects.proofs.Words.{finds_itself_out}
+unfoldable pub use Rattle.am_effects.proofs.Words.{fold, after, fits, pass_over, own_report, tell, go_on, lead, refresh, settle, refresh_at_end, with_step}
+unfoldable pub use Rattle.am_effects.proofs.Words.{with_record}
 pub use Rattle.std.proofs.Common.{⊎_elim, take, append_assoc, append-nil, get_or, map, slice_index_or, filter, is_none}
 pub use Rattle.std.proofs.lemmas.Grind.{flat_map-append}
 pub use Rattle.std.proofs.lemmas.List.{take-append-le, length-take-le, length-take, get_or-replicate, take-append-drop, get_or-set_same, get_or-set_other}
@@ -22,7 +24,7 @@ pub use Rattle.std.proofs.lemmas.List.Elements.{All-weaker, All-push, All-filter
 pub use Rattle.std.proofs.lemmas.List.Quantifiers.{position-Some}
 pub use Rattle.std.proofs.lemmas.Option.{slice_get-get_or, get_or_from_slice_get}
 pub use Rattle.std.specs.List.{range_with_len, flat_map}
-pub use Rattle.am_base.specs.Founding.{Rules, MayFound}
+pub use Rattle.am_base.specs.Founding.{MayFound}
 pub use Rattle.am_base.specs.Lists.{blank, requests_of, request_in, blank_row, with_row, image_at}
 unfoldable pub use Rattle.am_base.specs.Lists.{AllFit}
 pub use Rattle.am_base.specs.Names.{nobody}
@@ -36,13 +38,12 @@ pub use Rattle.am_group.specs.declared.event.Record.{Record}
 pub use Rattle.am_group.specs.Deliveries.{name_of, taken_in, given_to, deliveries}
 pub use Rattle.am_group.proofs.Places.{get_behind, get_before}
 pub use Rattle.am_group.specs.Groups.{above, numbered_entry, with_admitted}
-pub use Rattle.am_model.specs.Node.{set_at, entries_above, founders_view, founding_stamp, founder, stranger}
+pub use Rattle.am_model.specs.Node.{set_at, entries_above, founders_view, founding_stamp}
 pub use Rattle.am_model.specs.Refresh.{is_data_of}
 pub use Rattle.am_model.specs.Ballots.{overtake}
 pub use Rattle.am_model.proofs.Sends.{own_data}
 pub use Rattle.am_model.proofs.Founders.{first_founder}
-pub use Rattle.am_play.specs.World.{record_of, group_after, run, start}
-unfoldable pub use Rattle.am_play.specs.World.{with_step}
+pub use Rattle.am_play.specs.World.{record_of, group_after}
 pub use Rattle.am_play.specs.Claims.{welcomes, BeginsAt, UnballotedHolds, NoBallot, MovesOn, UnballotedMoves, is_welcome, welcomed_in, IsSend}
 pub use Rattle.am_play.specs.AbstractGroup.{Group, Move, append, Grows, none, more, next_of, admit, GivesOut, front_of, group_of}
 pub use Rattle.am_play.specs.Group.{accepted_sends, Accepted, sent_in}

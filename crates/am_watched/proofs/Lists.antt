@@ -1,9 +1,9 @@
 -- A name's step only adds entries to its list.
-use Rattle.am_watched.proofs.Words.{is_itself, ◌≡◌, ℕ, ◌<◌, ◌≤◌, ◌==◌, Bool, false, if◌then◌else◌, List, [], ◌++◌, length, drop, refl, sym, ap, ◌∙◌, subst}
-use Rattle.am_watched.proofs.Words.{arith, All, append-nil, drop-append_seam, Rules, MayFound, has, Packet, Event, Node, has_log, Step, World, start}
-use Rattle.am_watched.proofs.Words.{first_node, with_record, with_step, run, heard_by, split, Cause, Effect, actor, WasSentTo, IsCause, idles, stops, returns}
-use Rattle.am_watched.proofs.Words.{steps, along, EachKeeps, runs_keep, accepted_of, NodeNumbers, AllNamed, few_names, each_named, numbers_hold, AllViews}
-use Rattle.am_watched.proofs.Words.{heard_names, each_views, views_start, ListsGoOn}
+use Rattle.am_watched.proofs.Words.{Each, each_node_keeps, first_has, is_itself, ◌≡◌, ℕ, ◌<◌, ◌≤◌, Bool, false, if◌then◌else◌, List, [], ◌++◌, length, drop}
+use Rattle.am_watched.proofs.Words.{refl, sym, ap, ◌∙◌, subst, arith, All, append-nil, drop-append_seam, Rules, MayFound, Packet, Event, Node, has_log, Step}
+use Rattle.am_watched.proofs.Words.{World, start, first_node, with_step, run, heard_by, Cause, Effect, actor, WasSentTo, IsCause, steps, along, EachKeeps}
+use Rattle.am_watched.proofs.Words.{runs_keep, accepted_of, NodeNumbers, AllNamed, few_names, each_named, numbers_hold, AllViews, heard_names, each_views}
+use Rattle.am_watched.proofs.Words.{views_start, ListsGoOn}
 use Rattle.am_packet.specs.declared.packet.Packet.TheVariants as packet
 use Rattle.am_watched.proofs.Chains.{IsLonger, changes_longer, HeardLow, change_begins, changes_stay}
 
@@ -11,39 +11,28 @@ use Rattle.am_watched.proofs.Chains.{IsLonger, changes_longer, HeardLow, change_
 abbrev pub IsBare : Node → Type 0
 IsBare m = has_log m.status ≡ false → m.core.log.entries ≡ []
 
-pub record AllLists (rules : Rules) (w : World) : Type 0 where
-  pub views : AllViews rules w
-  pub bare : (name : ℕ) → name < 256 → IsBare (w.nodes name)
+abbrev pub AllLists : Rules → World → Type 0
+AllLists rules = Each (AllViews rules) (λ name n. name < 256 → IsBare n)
 
 -- what a step adds
 pub step_longer : (rules : Rules) (w : World) (e : Event) (c : Cause) (s : Step) → IsCause w (actor w e) e.act c → Effect (w.nodes (actor w e)) c s
-    → AllLists rules w → IsLonger (w.nodes (actor w e)) s.node
-step_longer rules w e c s cause effect h =
+    → AllViews rules w → (actor w e < 256 → IsBare (w.nodes (actor w e))) → IsLonger (w.nodes (actor w e)) s.node
+step_longer rules w e c s cause effect views bare =
     let m = w.nodes (actor w e) in
-    let few = few_names rules w e h.views.named in
-    let kept = h.views.each (actor w e) few in
-    changes_longer m m s.node (heard_names rules w e c h.views cause) effect.changes kept.names kept.balloted
-    (record { bare = h.bare (actor w e) few; more = []; is = sym (append-nil m.core.log.entries) })
+    let few = few_names rules w e views.named in
+    let kept = views.each (actor w e) few in
+    changes_longer m m s.node (heard_names rules w e c views cause) effect.changes kept.names kept.balloted
+    (record { bare = bare few; more = []; is = sym (append-nil m.core.log.entries) })
 
 pub each_lists : (rules : Rules) → EachKeeps (AllLists rules)
-unfolding with_record with_step
-each_lists rules w e v (idles o idle) h = record { views = each_views rules w e v (idles o idle) h.views; bare = h.bare }
-each_lists rules w e v (stops runs) h = record { views = each_views rules w e v (stops runs) h.views; bare = h.bare }
-each_lists rules w e v (returns place is left more) h = record { views = each_views rules w e v (returns place is left more) h.views; bare = h.bare }
-each_lists rules w e v (steps c s runs cause effect) h = record {
-  views = each_views rules w e v (steps c s runs cause effect) h.views;
-  bare = λ other few. split (other == actor w e)
-      (λ t. rw t (step_longer rules w e c s cause effect h).bare)
-      (λ f. rw f (h.bare other few));
-}
+each_lists rules = each_node_keeps (AllViews rules) _ (each_views rules)
+    (λ w e c s cause effect views bare few. (step_longer rules w e c s cause effect views bare).bare)
 
 bare_first : (rules : Rules) (name : ℕ) → IsBare (first_node rules name)
-bare_first rules name = split (has rules.founders name)
-    (λ t. rw t (λ f. absurd (cc)))
-    (λ f. rw f (λ g. refl))
+bare_first rules name = first_has rules IsBare name (λ f. absurd (cc)) (λ f. refl)
 
 pub lists_start : (rules : Rules) → MayFound rules → AllLists rules (start rules)
-lists_start rules may = record { views = views_start rules may; bare = λ name few. bare_first rules name }
+lists_start rules may = record { base = views_start rules may; each = λ name few. bare_first rules name }
 
 pub run_lists : (rules : Rules) (events : List Event) → MayFound rules → AllLists rules (run rules events)
 run_lists rules events may = runs_keep (AllLists rules) (each_lists rules) (start rules) events (lists_start rules may)
@@ -69,16 +58,16 @@ lists_go_on rules events e c s may runs cause effect =
     let m = w.nodes name in
     let n = s.node in
     let h = run_lists rules events may in
-    let longer = step_longer rules w e c s cause effect h in
-    let named : AllNamed rules (with_step w e name s) = each_named rules w e (with_step w e name s) (steps c s runs cause effect) h.views.named in
+    let longer = step_longer rules w e c s cause effect h.base (h.each name) in
+    let named : AllNamed rules (with_step w e name s) = each_named rules w e (with_step w e name s) (steps c s runs cause effect) h.base.named in
     let low : NodeNumbers (length events) (length w.group) m = (numbers_hold rules events).each name in
     let first : m.core.log.start ≤ length w.group = let a = low.kept in let b = low.base in omega arith in
     record {
-      within = few_names rules w e h.views.named;
+      within = few_names rules w e h.base.named;
       own = ap (λ (b : Bool). (if b then n else m).core.who) (sym (is_itself name)) ∙ named.who name;
       adds = longer.is ∙ ap (λ more. m.core.log.entries ++ more)
           (sym (ap (drop (length m.core.log.entries)) longer.is ∙ drop-append_seam m.core.log.entries longer.more));
       begins = along (λ (x : Node). x.core.log.start ≤ length w.group) (change_begins (length w.group) (heard_low rules events e c cause)) effect.changes first;
-      stays = λ t. (let kept = h.views.each name (few_names rules w e h.views.named) in
-          changes_stay m n (heard_names rules w e c h.views cause) effect.changes kept.names kept.balloted t);
+      stays = λ t. (let kept = h.base.each name (few_names rules w e h.base.named) in
+          changes_stay m n (heard_names rules w e c h.base cause) effect.changes kept.names kept.balloted t);
     }

@@ -140,12 +140,12 @@ step_of : (rules : Rules) (w : World) (e : Event) (c : Cause) (s : Step) → IsC
 step_of rules w e c s cause effect h =
     let name = actor w e in
     let m = w.nodes name in
-    let few = few_names rules w e h.lists.views.named in
-    let kept = h.lists.views.each name few in
-    let names = heard_names rules w e c h.lists.views cause in
+    let few = few_names rules w e h.lists.base.named in
+    let kept = h.lists.base.each name few in
+    let names = heard_names rules w e c h.lists.base cause in
     let g = changes_do m s.node names effect.changes kept.names kept.balloted in
     let first : Along w.nodes name m = record {
-      who = h.lists.views.named.who name;
+      who = h.lists.base.named.who name;
       rises = not_above_itself m.core.promise;
       below = λ f. h.promises name;
       told = h.told name;

@@ -3,7 +3,7 @@ pub use Rattle.am_laws.proofs.Words.{◌≡◌, ℕ, ◌≤◌, ◌==◌, not, t
 pub use Rattle.am_laws.proofs.Words.{drop, subst, ◌⊎◌, inl, inr, ⊎_elim, ◌+◌, ◌&&◌, max, nat_lt, slice_index, Option, Some, None, ◌-◌, ◌||◌, nat_tests}
 pub use Rattle.am_laws.proofs.Words.{All-nil, All-cons, All-append, All-weaker, All-take, All-drop, list_any-append, list_any, All, Outcome, Stamp, Image}
 pub use Rattle.am_laws.proofs.Words.{Entry, View, Leave, Data, Join, stamp_eq, stamp_lt, Log, members_of, entry_at, told_by, split, and_both, Rules, MayFound}
-pub use Rattle.am_laws.proofs.Words.{has, rank_of, Vote, Packet, Letter, stamp_of, Event, Node, Ballot, view, acts, is_sequencer, is_member, push_entry}
+pub use Rattle.am_laws.proofs.Words.{Vote, has, rank_of, Packet, Letter, stamp_of, Event, Node, Ballot, view, acts, is_sequencer, is_member, push_entry}
 pub use Rattle.am_laws.proofs.Words.{has_log, top, image_of, members, unsettled_count, trim_up_to, set_at, founders_view, lowest_or_first, is_asking, Verdict}
 pub use Rattle.am_laws.proofs.Words.{overtake, need_of, left_in, trim_for, next_stamp, refresh, settle, hears_member, Step, is_unfinished, is_view}
 pub use Rattle.am_laws.proofs.Words.{first_founder, World, start, first_node, run, Decided, founders_decided, last_view, views_after, group_after, happens}
@@ -11,10 +11,10 @@ pub use Rattle.am_laws.proofs.Words.{lives_on, current, is_stopped, heard_by, lo
 pub use Rattle.am_laws.proofs.Words.{as_it_is, Looks, finds_itself_out, decides, Change, refreshes, settles, numbers, stores, begins_list, departs, looks}
 pub use Rattle.am_laws.proofs.Words.{fetches, stores_view, asks_to_join, closes, Changes, unchanged, changed, Numbers, asked_send, own_send, asked_join}
 pub use Rattle.am_laws.proofs.Words.{asked_leave, Carries, whole_entry, by_number, promises, opens, no_change, Promises, invited, overtaken_by, told_result}
-pub use Rattle.am_laws.proofs.Words.{rests_refresh, rests_at_end, settle_is, is_itself, or_second, Effect, actor, WasSentTo, IsCause, idles, stops, returns}
-pub use Rattle.am_laws.proofs.Words.{steps, along, EachKeeps, runs_keep, StepsKeep, SameParts, law_keeps, stamp_itself, same_stamp, told_pushed, view_pushed}
-pub use Rattle.am_laws.proofs.Words.{all_get, all_item, Says, piece, result, LetterSays}
-unfoldable pub use Rattle.am_laws.proofs.Words.{fits, after, fold, with_record, with_step}
+pub use Rattle.am_laws.proofs.Words.{rests_refresh, rests_at_end, settle_is, Each, each_node_keeps, first_has, is_itself, or_second, Effect, actor, WasSentTo}
+pub use Rattle.am_laws.proofs.Words.{IsCause, steps, idles, stops, returns, along, EachKeeps, runs_keep, StepsKeep, SameParts, law_keeps, stamp_itself}
+pub use Rattle.am_laws.proofs.Words.{same_stamp, told_pushed, view_pushed, all_get, all_item, Says, piece, result, LetterSays}
+unfoldable pub use Rattle.am_laws.proofs.Words.{fits, after, fold, with_step, with_record}
 pub use Rattle.std.proofs.Common.{append_assoc}
 pub use Rattle.std.proofs.Math.Seq.{drop-append_seam}
 pub use Rattle.std.proofs.lemmas.Bool.{eqb-false, eqb-true}

@@ -31,16 +31,16 @@ is_heard keep name stopped found letter bytes there own runs same =
 
 -- no other letter is found
 pub found_packet : (found : Option Letter) (letter other : Letter) → found ≡ Some letter → IsPacket letter.packet → found ≡ Some other → IsPacket other.packet
-found_packet found letter other there is again = subst (λ (l : Letter). IsPacket l.packet) (same_Some (sym there ∙ again)) is
+found_packet found letter other there is again = subst (λ (l : Letter). IsPacket l.packet) (same_Some letter other (sym there ∙ again)) is
 
 -- ---- what comes of it
 
 heard_asked : (letters : List Letter) (flags : List Bool) (departed : Bool) (name : ℕ) (a : Act) (h : Heard) → heard_of a ≡ Some h
     → event_or_answer letters flags departed name a ≡ hears h.keep name (flag_of flags name) (letter_at letters h.packet)
 heard_asked letters flags departed name (act.Hear number) h is =
-    ap (λ (x : Heard). hears x.keep name (flag_of flags name) (letter_at letters x.packet)) (same_Some is)
+    ap (λ (x : Heard). hears x.keep name (flag_of flags name) (letter_at letters x.packet)) (same_Some (record { packet = number; keep = None }) h is)
 heard_asked letters flags departed name (act.Cut number keep) h is =
-    ap (λ (x : Heard). hears x.keep name (flag_of flags name) (letter_at letters x.packet)) (same_Some is)
+    ap (λ (x : Heard). hears x.keep name (flag_of flags name) (letter_at letters x.packet)) (same_Some (record { packet = number; keep = Some keep }) h is)
 heard_asked letters flags departed name _ h is = absurd (none-some _ is)
 
 -- what hears nothing needs no letters
@@ -80,7 +80,7 @@ heard_comes p first nodes lives flags records group e h name r view ok here hear
     ∙ sym (heard_asked w.letters flags (gone_now w e) (current w place) e.act h heard) in
     let spells : OnOk r (SpellsPacket w.letters e.act) =
     on_ok_weaker r (λ (all : (l : Letter) → letter_at (letters_of records) h.packet ≡ Some l → IsPacket l.packet).
-    λ g l of there. all l (ap (λ ls. letter_at ls h.packet) was.sent ∙ ap (λ (x : Heard). letter_at w.letters x.packet) (same_Some (sym heard ∙ of)) ∙ there))
+    λ g l of there. all l (ap (λ ls. letter_at ls h.packet) was.sent ∙ ap (λ (x : Heard). letter_at w.letters x.packet) (same_Some h l (sym heard ∙ of)) ∙ there))
     packets in
     happens_comes w e flags was.stopped.each within (was.living.within place within).0 (subst (λ q. OnOk q (SpellsPacket w.letters e.act)) now spells)
     ∙ ap (comes w e) (sym now)

@@ -26,9 +26,9 @@ stores rules events e what may is v =
     let w = run rules events in
     let name = actor w e in
     let h = run_lists rules events may in
-    let few = few_names rules w e h.views.named in
+    let few = few_names rules w e h.base.named in
     told_is name (w.nodes name) (step (w.nodes name) what).node what v
-    (step_adds name (w.nodes name) what ((names_hold rules events may).who name) (h.views.each name few).balloted (h.bare name few))
+    (step_adds name (w.nodes name) what ((names_hold rules events may).who name) (h.base.each name few).balloted (h.each name few))
 
 -- ---- its name, where its list begins, and a view that it decided
 
