@@ -15,5 +15,7 @@ pub mod reading;
 pub mod sends;
 pub mod takes;
 pub mod telling;
+#[cfg(test)]
+mod tests;
 pub mod text;
 pub mod verdict;
