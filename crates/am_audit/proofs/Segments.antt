@@ -9,8 +9,8 @@ use Rattle.am_group.specs.Journals.{item_at}
 use Rattle.am_fields.specs.Fields.{same}
 use Rattle.am_audit.specs.declared.verdict.Verdict.{Verdict}
 use Rattle.am_audit.specs.declared.verdict.Verdict.TheVariants as verdicts
-use Rattle.am_audit.specs.Lines.{Line}
-use Rattle.am_audit.specs.Verdicts.{or_else, last_of, gap_at, fault_at, first_fault, is_text, astray_at, first_astray, lines_of, count_of, is_line}
+use Rattle.am_audit.specs.Lines.{Line, Reading}
+use Rattle.am_audit.specs.Verdicts.{or_else, wrong_lists, last_of, gap_at, fault_at, first_fault, is_text, astray_at, first_astray, lines_of, count_of, is_line}
 use Rattle.am_audit.specs.Keeping.{IsCount, first_number, is_next}
 use Rattle.am_audit.proofs.Passing.{set_one}
 
@@ -35,11 +35,11 @@ abbrev pub lead : List Line → ℕ
 lead [] = 0
 lead (line ∷ lines) = line.number
 
-none_first : {A : Type 0} (o p : Option A) → or_else o p ≡ None → o ≡ None
+pub none_first : {A : Type 0} (o p : Option A) → or_else o p ≡ None → o ≡ None
 none_first None p h = refl
 none_first (Some x) p h = cc
 
-none_second : {A : Type 0} (o p : Option A) → or_else o p ≡ None → p ≡ None
+pub none_second : {A : Type 0} (o p : Option A) → or_else o p ≡ None → p ≡ None
 none_second None p h = h
 none_second (Some x) p h = cc
 
@@ -199,7 +199,7 @@ count_more_at : (done : List ℕ) (before : List Line) (line : Line) → line.na
 count_more_at done before line named kept = record {
   size = length-set done line.name (get_or done line.name 0 + 1) ∙ kept.size;
   counted = λ name low. set_one done line.name name (get_or done line.name 0 + 1) 0 (omega (arith, kept.size))
-    ∙ counted_by (line.name == name) (get_or done line.name 0) (get_or done name 0) (count_of name before)
+      ∙ counted_by (line.name == name) (get_or done line.name 0) (get_or done name 0) (count_of name before)
       (λ is. ap (λ (n : ℕ). get_or done n 0) (eqb-true line.name name is) ∙ kept.counted name low) (kept.counted name low);
 }
 
@@ -220,3 +220,12 @@ taken_next group logs before taken firsts lengths done n b faultless listed name
     ∙ ap (λ (x : ℕ). is_next group (get_or firsts taken.name 0) x (count_of taken.name before) taken) (sym (lengths_are.counted taken.name named))
     ∙ ap (λ (x : ℕ). is_next group (get_or firsts taken.name 0) (get_or lengths taken.name 0) x taken) (sym (done_are.counted taken.name named))
     ∙ ap (λ (k : ℕ). is_next group (get_or firsts k 0) (get_or lengths k 0) (get_or done k 0) taken) (sym is) ∙ sym found
+
+-- lists with nothing wrong are without a fault, and in the list
+pub faultless_where_right : (s : Reading) → wrong_lists s ≡ None → first_fault [] s.logs ≡ None
+unfolding wrong_lists
+faultless_where_right s none = none_first (first_fault [] s.logs) _ none
+
+pub listed_where_right : (s : Reading) → wrong_lists s ≡ None → first_astray s.group s.logs ≡ None
+unfolding wrong_lists
+listed_where_right s none = none_first (first_astray s.group s.logs) _ (none_second (first_fault [] s.logs) _ none)

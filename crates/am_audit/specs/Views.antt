@@ -8,7 +8,9 @@ use Rattle.am_audit.specs.declared.fault.TextRefusal.TheVariants as refusals
 use Rattle.am_audit.specs.declared.line.TextLine.{TextLine}
 use Rattle.am_audit.specs.declared.line.Piece.{Piece}
 use Rattle.am_audit.specs.declared.reading.Lines.{Lines}
+use Rattle.am_audit.specs.declared.verdict.Audit.{Audit}
 use Rattle.am_audit.specs.Lines.{Line, Reading}
+use Rattle.am_audit.specs.Verdicts.{verdict_of}
 
 abbrev pub line_of : TextLine → Line
 line_of line = record { name = line.name; number = line.number; text = line.text.now }
@@ -52,3 +54,9 @@ abbrev pub Reads : Result Lines TextRefusal → Result Reading ℕ → Type 0
 Reads (Ok s) read = read ≡ Ok (told s)
 Reads (Err refusals.NoMemory) read = Unit {0}
 Reads (Err (refusals.BadLine line)) read = read ≡ Err line
+
+-- an audit tells the verdict of what the text was read as, or its first bad line, unless there was no memory
+abbrev pub Audits : Result Audit TextRefusal → Result Reading ℕ → Type 0
+Audits (Ok audit) read = (s : Reading) × (read ≡ Ok s) × (audit.verdict ≡ verdict_of s) × (audit.void_from ≡ s.void_from)
+Audits (Err refusals.NoMemory) read = Unit {0}
+Audits (Err (refusals.BadLine line)) read = read ≡ Err line

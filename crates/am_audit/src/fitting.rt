@@ -1,4 +1,4 @@
-ghost use Rattle.std.specs.Prelude.{◌≡◌, ◌<◌, length};
+ghost use Rattle.std.specs.Prelude.{◌≡◌};
 ghost use Rattle.am_base.specs.Lists.{blank};
 ghost use Rattle.am_audit.specs.Views.{texts_in};
 ghost use Rattle.am_audit.specs.Verdicts.{bare_entry, founds, first_misfit};
@@ -60,7 +60,6 @@ fn founds(outline: &Outline) -> bool
 
 /// The first entry that doesn't fit what stands before it.
 pub fn first_misfit(group: &[Piece]) -> Option<Verdict>
-    requires few { length group.now < 4294967295 }
     ensures { result ≡ first_misfit 1 blank (texts_in group.now) }
 {
     let mut table = Table::blank();

@@ -1,6 +1,7 @@
 //! The audit of a printed text: whose logs agree with each other, with the group list, and with the events.
 #![tactic(auto)]
 
+pub mod audit;
 pub mod fault;
 pub mod faults;
 pub mod fields;
@@ -13,5 +14,8 @@ pub mod outline;
 pub mod reading;
 pub mod sends;
 pub mod takes;
+pub mod telling;
+#[cfg(test)]
+mod tests;
 pub mod text;
 pub mod verdict;

@@ -47,7 +47,7 @@ pub fn first_astray(group: &[Piece], logs: &[TextLine]) -> Option<Verdict>
 }
 
 /// Keeps where an entry's send stands, before all that was kept: at one number, or at several.
-fn stand_at(map: &mut BTreeMap<u64, Option<u32>>, text: &[u8], number: u32) -> Result<(), NoMemory>
+fn stand_at(map: &mut BTreeMap<u64, Option<u64>>, text: &[u8], number: u64) -> Result<(), NoMemory>
     ensures { OnOk result ((key : ℕ) → get nat_cmp map.new key ≡ (if has_key key (data_in text.now)
         then Some (once_more number (get nat_cmp map.old key)) else get nat_cmp map.old key)) }
 {
@@ -63,25 +63,24 @@ fn stand_at(map: &mut BTreeMap<u64, Option<u32>>, text: &[u8], number: u32) -> R
 }
 
 /// Where each send stands.
-fn standing(alloc: Global, group: &[Piece]) -> Result<BTreeMap<u64, Option<u32>>, NoMemory>
-    requires few { length group.now < 4294967295 }
+fn standing(alloc: Global, group: &[Piece]) -> Result<BTreeMap<u64, Option<u64>>, NoMemory>
     ensures { IfOk result (λ map. (key : ℕ) → get nat_cmp map key ≡ stands 1 key (texts_in group.now)) }
 {
     let mut map = BTreeMap::new(alloc);
     let mut at = group.len();
     while 0 < at {
         at -= 1;
-        stand_at(&mut map, group[at].text, at as u32 + 1)?;
+        stand_at(&mut map, group[at].text, at as u64 + 1)?;
     }
     Ok(map)
 }
 
 /// Whether a send stands at this one number.
-fn is_at(map: &BTreeMap<u64, Option<u32>>, key: u64, number: u32) -> bool
+fn is_at(map: &BTreeMap<u64, Option<u64>>, key: u64, number: u32) -> bool
     ensures { result ≡ is_at number (get nat_cmp map.now key) }
 {
     match map.get(&key).copied() {
-        Some(Some(found)) => found == number,
+        Some(Some(found)) => found == u64::from(number),
         _ => false,
     }
 }
@@ -92,7 +91,6 @@ pub fn first_lost(
     group: &[Piece],
     answers: &[Answer],
 ) -> Result<Option<Verdict>, NoMemory>
-    requires few { length group.now < 4294967295 }
     ensures { IfOk result (λ found. found ≡ first_lost (texts_in group.now) answers.now) }
 {
     let map = standing(alloc, group)?;

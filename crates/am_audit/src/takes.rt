@@ -10,8 +10,7 @@ use crate::verdict::Verdict;
 use am_base::name::Name;
 
 /// How many lines each name has.
-fn counts(lines: &[TextLine]) -> [u32; 256]
-    requires few { length lines.now < 4294967295 }
+fn counts(lines: &[TextLine]) -> [usize; 256]
     ensures { IsCount result (lines_in lines.now) }
 {
     let mut counts = [0; 256];
@@ -37,10 +36,10 @@ fn firsts(lines: &[TextLine]) -> [u32; 256]
 }
 
 /// Whether a take is the entry behind so many of a log, which has this first number and length.
-fn is_next(group: &[Piece], first: u32, count: u32, before: u32, taken: &TextLine) -> bool
+fn is_next(group: &[Piece], first: u32, count: usize, before: usize, taken: &TextLine) -> bool
     ensures { result ≡ is_next (texts_in group.now) first count before (line_of taken.now) }
 {
-    if count <= before || taken.number < first || taken.number - first != before {
+    if count <= before || taken.number < first || (taken.number - first) as usize != before {
         return false;
     }
     is_entry(group, taken.number, taken.text)
@@ -48,7 +47,6 @@ fn is_next(group: &[Piece], first: u32, count: u32, before: u32, taken: &TextLin
 
 /// The first take that isn't what its log has.
 pub fn first_unlogged(group: &[Piece], logs: &[TextLine], takes: &[TextLine]) -> Option<Verdict>
-    requires few { (length logs.now < 4294967295) × (length takes.now < 4294967295) }
     requires faultless { first_fault [] (lines_in logs.now) ≡ None }
     requires listed { first_astray (texts_in group.now) (lines_in logs.now) ≡ None }
     ensures { result ≡ first_unlogged (lines_in logs.now) [] (lines_in takes.now) }
@@ -72,7 +70,6 @@ pub fn first_unlogged(group: &[Piece], logs: &[TextLine], takes: &[TextLine]) ->
 
 /// The first log line that wasn't taken.
 pub fn first_untaken(takes: &[TextLine], logs: &[TextLine]) -> Option<Verdict>
-    requires few { (length logs.now < 4294967295) × (length takes.now < 4294967295) }
     ensures { result ≡ first_untaken (lines_in takes.now) [] (lines_in logs.now) }
 {
     let taken = counts(takes);

@@ -63,3 +63,10 @@ pub enum Verdict {
     /// All is right.
     Agrees,
 }
+
+/// What an audit of a text tells: its verdict, and the event from which on its run is void, where its last line says one.
+#[derive(Clone, Copy, PartialEq, Eq, Debug)]
+pub struct Audit {
+    pub verdict: Verdict,
+    pub void_from: Option<u32>,
+}
