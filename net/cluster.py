@@ -192,8 +192,10 @@ def tell(merged: Merged, wanted: argparse.Namespace) -> None:
     print(f"from a send to its last take {hundredths(delivered, 50)} ms, 99 of 100 within {hundredths(delivered, 99)} ms")
 
 
-def judge(merged: Merged, program: str) -> int:
-    """Runs the script by `play`, and compares its lines with what the processes answered; 1 where one differs."""
+def judge(merged: Merged, wanted: argparse.Namespace) -> int:
+    """Runs the script by `play`, and compares its lines with what the processes answered; 1 where one differs, or where the run isn't
+    lawful from another event on than a stop, or with no more stops than the resilience."""
+    program = wanted.judge or wanted.program
     most = min(len(merged.events), MOST_EVENTS)
     if most < len(merged.events):
         print(f"a run has {MOST_EVENTS} events at most: the first of them are judged")
@@ -202,7 +204,12 @@ def judge(merged: Merged, program: str) -> int:
         print(f"play ended with {done.returncode}: {done.stderr.decode().strip()}")
         return 1
     lines = done.stdout.decode().splitlines()
-    print(lines[-1])
+    stops = [number for number, event in enumerate(merged.events[:most], 1) if event["do"] == "stop"]
+    void = int(lines[-1].split(" ")[-1]) if lines[-1].startswith("void") else 0
+    print(lines[-1] + (f": the stop of {merged.steps[void - 1][0].name}, beyond the resilience" if void in stops else ""))
+    if (void and void not in stops) or (not void and not stops and lines[-1] != "lawful") or (void and len(stops) <= wanted.resilience):
+        print(f"{len(stops)} stopped, with a resilience of {wanted.resilience}")
+        return 1
     for mine, proved in zip(merged.lines[:most], lines):
         if mine != proved:
             print(f"a process answered: {mine}\nthe proved play:    {proved}")
@@ -249,7 +256,7 @@ def main() -> int:
         if wanted.keep:
             (folder / "script.json").write_text(merged.script())
         tell(merged, wanted)
-        return judge(merged, wanted.judge or wanted.program)
+        return judge(merged, wanted)
 
 
 if __name__ == "__main__":
