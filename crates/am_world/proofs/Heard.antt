@@ -80,7 +80,8 @@ heard_comes p first nodes lives flags records group e h name r view ok here hear
     ∙ sym (heard_asked w.letters flags (gone_now w e) (current w place) e.act h heard) in
     let spells : OnOk r (SpellsPacket w.letters e.act) =
     on_ok_weaker r (λ (all : (l : Letter) → letter_at (letters_of records) h.packet ≡ Some l → IsPacket l.packet).
-    λ g l of there. all l (ap (λ ls. letter_at ls h.packet) was.sent ∙ ap (λ (x : Heard). letter_at w.letters x.packet) (same_Some h l (sym heard ∙ of)) ∙ there))
+    λ g l of there. all l (ap (λ ls. letter_at ls h.packet) was.sent
+    ∙ ap (λ (x : Heard). letter_at w.letters x.packet) (same_Some h g (sym heard ∙ of)) ∙ there))
     packets in
     happens_comes w e flags was.stopped.each within (was.living.within place within).0 (subst (λ q. OnOk q (SpellsPacket w.letters e.act)) now spells)
     ∙ ap (comes w e) (sym now)
