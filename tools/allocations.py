@@ -1,8 +1,10 @@
 """Makes each allocation of the program fail in turn: it then tells that there was no memory and writes nothing, or does all as ever.
+And compares how often it asks for memory, and for how many bytes together, with the most that a list has for some scripts.
 
-Usage: allocations.py PROGRAM SCRIPT...
+Usage: allocations.py PROGRAM LIST SCRIPT...
 
-A script in a folder `races` is a race, of one thread.
+A line of the list is a script, how many allocations the program makes for it at most, and how many bytes these ask for at most. A
+script in a folder `races` is a race, of one thread.
 """
 
 import os
@@ -28,12 +30,18 @@ def run(program, library, script, **more):
     return done.returncode, done.stderr, done.stdout
 
 
-def refused_by(program, library, script):
-    """How many allocations there are, and for how many the program told that there was no memory."""
+def asked_by(program, library, script):
+    """How many allocations there are, how many bytes they ask for together, and the text that the program wrote."""
     text = Path(script).with_suffix(".txt").read_bytes()
     status, told, written = run(program, library, script, COUNT_ALLOCATIONS="1")
     assert (status, written) == (0, text), f"{script} doesn't print its text"
-    count = int(told)
+    count, size = told.split()
+    return int(count), int(size), text
+
+
+def refused_by(program, library, script):
+    """How many allocations there are, and for how many the program told that there was no memory."""
+    count, _, text = asked_by(program, library, script)
     refused = 0
     for number in range(1, count + 1):
         came = run(program, library, script, FAIL_AT=str(number))
@@ -45,12 +53,27 @@ def refused_by(program, library, script):
     return count, refused
 
 
-def main(program, scripts):
+def is_within(program, library, line):
+    """Whether the program asks for no more memory than a line of the list says."""
+    script, most, most_bytes = line.split()
+    count, size, _ = asked_by(program, library, script)
+    if count > int(most) or size > int(most_bytes):
+        print(f"refused: {script} takes {count} allocations of {size} bytes together, where {most} of {most_bytes} are the most")
+        return False
+    print(f"{script}: {count} allocations of {size} bytes together, at most {most} of {most_bytes}")
+    return True
+
+
+def main(program, bounds, scripts):
     here = Path(__file__).parent
+    lines = [line for line in Path(bounds).read_text().splitlines() if line and not line.startswith("#")]
     failed = False
     with tempfile.TemporaryDirectory() as folder:
         library = os.path.join(folder, "fail_malloc.so")
         subprocess.run(["cc", "-shared", "-fPIC", "-O2", "-o", library, here / "fail_malloc.c", "-ldl"], check=True)
+        for line in lines:
+            if not is_within(program, library, line):
+                failed = True
         for script in scripts:
             count, refused = refused_by(program, library, script)
             # most allocations are the program's own
@@ -63,5 +86,5 @@ def main(program, scripts):
 
 
 if __name__ == "__main__":
-    program, *scripts = words(__doc__, 2)
-    end(lambda: main(program, scripts))
+    program, bounds, *scripts = words(__doc__, 3)
+    end(lambda: main(program, bounds, scripts))

@@ -1,5 +1,5 @@
-/* Loaded before a program, makes its allocation of the number FAIL_AT fail, and tells on standard error how many there were
-   where COUNT_ALLOCATIONS is set. */
+/* Loaded before a program, makes its allocation of the number FAIL_AT fail, and tells on standard error how many there were,
+   and how many bytes they asked for together, where COUNT_ALLOCATIONS is set. */
 #define _GNU_SOURCE
 #include <dlfcn.h>
 #include <errno.h>
@@ -8,11 +8,13 @@
 #include <unistd.h>
 
 static long seen;
+static long bytes;
 
-static int fails(void)
+static int fails(size_t size)
 {
     const char *at = getenv("FAIL_AT");
     seen += 1;
+    bytes += (long)size;
     if (at == NULL || seen != atol(at))
         return 0;
     errno = ENOMEM;
@@ -22,19 +24,19 @@ static int fails(void)
 void *malloc(size_t size)
 {
     void *(*next)(size_t) = (void *(*)(size_t))dlsym(RTLD_NEXT, "malloc");
-    return fails() ? NULL : next(size);
+    return fails(size) ? NULL : next(size);
 }
 
 void *realloc(void *block, size_t size)
 {
     void *(*next)(void *, size_t) = (void *(*)(void *, size_t))dlsym(RTLD_NEXT, "realloc");
-    return fails() ? NULL : next(block, size);
+    return fails(size) ? NULL : next(block, size);
 }
 
 static void tell(void)
 {
     if (getenv("COUNT_ALLOCATIONS") != NULL)
-        fprintf(stderr, "%ld\n", seen);
+        fprintf(stderr, "%ld %ld\n", seen, bytes);
 }
 
 /* a program that may start threads ends by this, and others by the destructors */

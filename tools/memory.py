@@ -1,6 +1,7 @@
 """Lists where the sources make an answer that there was no memory, and compares with the list of them that has the reasons.
 
-No clause can say that memory sufficed, so this list is short, and a reader can check each place: memory was asked for there.
+No clause can say that memory sufficed, so this list is short, and a reader can check each place: memory was asked for there. With
+each place stand the conditions that lead to it in its function, from the outermost on, so that a condition more is another place.
 
 Usage: memory.py SOURCES LIST
 """
@@ -13,11 +14,49 @@ from words import words
 
 MADE = re.compile(r"\b(NoMemory|AllocError)\b(?!\s*>)")
 SAID = re.compile(r"^\s*(//|use |pub use |ghost |ensures |requires |impl |#)")
+# what opens a block without being a condition
+BLOCK = re.compile(r"(impl|mod|trait|struct|enum|loop)\b")
+FUNCTION = re.compile(r"(pub |pub\(crate\) )?(const )?fn\b")
+CLOSING = re.compile(r"[)\]{]|\}(?! else)")
+
+
+def depth(line):
+    return len(line) - len(line.lstrip(" "))
+
+
+def opening(lines, at):
+    """The line at which the statement begins whose block is opened at the end of a line, and its text without the brace."""
+    begins = at
+    while begins > 0 and (not lines[begins].strip() or depth(lines[begins]) > depth(lines[at]) or CLOSING.match(lines[begins].strip())):
+        begins -= 1
+    text = " ".join(line.strip() for line in lines[begins : at + 1] if not SAID.match(line))
+    return begins, text.removesuffix("{").strip()
+
+
+def conditions(lines, at):
+    """What leads to a line within its function, from the outermost on."""
+    found = []
+    level = depth(lines[at])
+    while at > 0 and level > 0:
+        at -= 1
+        line = lines[at]
+        # behind an `else` stand the conditions of the branches before it, at its own depth
+        below = level + 1 if found and found[0].startswith("} else") else level
+        if SAID.match(line) or depth(line) >= below or not line.rstrip().endswith("{"):
+            continue
+        at, text = opening(lines, at)
+        if FUNCTION.match(text):
+            break
+        level = depth(lines[at])
+        if not BLOCK.match(text):
+            found.insert(0, text)
+    return found
 
 
 def made_in(text):
-    """The lines that make it, without tests."""
-    for line in text.split("#[cfg(test)]")[0].splitlines():
+    """The lines that make it with their conditions, without tests."""
+    lines = text.split("#[cfg(test)]")[0].splitlines()
+    for at, line in enumerate(lines):
         code = line.strip()
         if SAID.match(line) or "->" in code or re.match(r"fn |pub fn |type |pub type ", code):
             continue
@@ -25,12 +64,12 @@ def made_in(text):
         after = code.split("=>")[-1] if "=>" in code else code
         after = re.sub(r"== [\w:]+", "", after)
         if MADE.search(after) and code != "NoMemory,":
-            yield code
+            yield " > ".join([*conditions(lines, at), code])
 
 
 def places(sources):
     for path in sorted(Path(sources).glob("*/src/**/*.rt")):
-        if path.name == "tests.rt":
+        if path.name == "tests.rt" or path.name.endswith("_tests.rt"):
             continue
         for code in made_in(path.read_text()):
             yield f"{path.relative_to(sources)}: {code}"

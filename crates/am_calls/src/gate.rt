@@ -3,9 +3,9 @@ use am_group::event::By;
 use std::sync::atomic::{AtomicBool, Ordering};
 
 /// What is done under a node's lock, between a look and the act that it finds. A test waits there until another thread is
-/// there too.
+/// there too. No clause says when it is done, and a test counts that it is done once for each record.
 pub trait Gate {
-    /// Is called with the node that acts, and with whose act it is.
+    /// Is given the node that acts, and whose act it is.
     fn between(&self, node: Name, by: &By);
 }
 
@@ -19,7 +19,8 @@ impl Gate for NoGate {
 /// How often a node at a meeting looks for the other.
 const MOST_LOOKS: u32 = 100_000_000;
 
-/// Each of two nodes, one at an even place and one at an odd place, waits until the other is there too.
+/// For tests: each of two nodes, one at an even place and one at an odd place, waits until the other is there too, or has looked
+/// for it 100,000,000 times. What it holds is for whoever looks then: no clause speaks of it.
 #[derive(Drop)]
 pub struct Meeting {
     here: [AtomicBool; 2],
@@ -27,7 +28,7 @@ pub struct Meeting {
 }
 
 impl Meeting {
-    /// A meeting where nobody is yet.
+    /// A meeting, to which nobody has come.
     pub fn new() -> Meeting {
         Meeting {
             here: [AtomicBool::new(false), AtomicBool::new(false)],
@@ -35,7 +36,7 @@ impl Meeting {
         }
     }
 
-    /// Whether each of the two has seen the other there.
+    /// Whether each of the two has noted that the other was there.
     pub fn has_met(&self) -> bool {
         self.met[0].load(Ordering::SeqCst) && self.met[1].load(Ordering::SeqCst)
     }

@@ -3,7 +3,10 @@
 
 pub mod caller;
 mod dealing;
+#[cfg(test)]
+mod echo_tests;
 pub mod gate;
+pub mod job;
 pub mod kernels;
 pub mod naming;
 pub mod node_box;

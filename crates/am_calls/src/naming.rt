@@ -5,7 +5,7 @@ use am_wire::Law;
 use std::marker::Brand;
 
 /// Which race it is: its wire, and its plan. Each race picks it.
-pub trait Racing: Send + Sync {
+pub trait Racing {
     ghost use Rattle.atomic_table.specs.Seated.{TableId};
     ghost use Rattle.am_group.specs.declared.plan.RacePlan.{RacePlan};
 

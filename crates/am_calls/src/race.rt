@@ -95,7 +95,7 @@ fn run<R: Wait, N: Racing, G: Gate>(
 }
 
 /// Each caller makes the calls of its thread, in a thread of its own.
-fn all_run<R: Threads + Wait + Sync, N: Racing, G: Gate + Sync>(
+fn all_run<R: Threads + Wait + Sync, N: Racing + Send + Sync, G: Gate + Sync>(
     rt: &R,
     kernels: &Kernels<N, G>,
     threads: &[ThreadPlan],
@@ -140,7 +140,7 @@ fn apart<N: Racing>(
 }
 
 /// The race of a plan, over a fresh wire of it. The journal is never full, since all calls together have room in it.
-fn race_over<R: Threads + Wait + Sync, N: Racing, G: Gate + Sync>(
+fn race_over<R: Threads + Wait + Sync, N: Racing + Send + Sync, G: Gate + Sync>(
     rt: &R,
     alloc: Global,
     plan: &RacePlan,
@@ -172,6 +172,20 @@ fn race_over<R: Threads + Wait + Sync, N: Racing, G: Gate + Sync>(
     }
 }
 
+/// What the wire of a plan is told.
+pub(crate) fn terms_of(plan: &RacePlan) -> Terms
+    requires { length plan.now.threads ≤ 16 }
+    ensures { result ≡ terms_of plan.now }
+{
+    Terms {
+        founding: plan.founding,
+        callers: plan.threads.as_slice().len() as u32,
+        seed: plan.seed_number,
+        loss: plan.loss,
+        repeat: plan.repeat,
+    }
+}
+
 /// Does a race (docs/PROTOCOL.md, "Races"): a thread for each thread plan makes its calls, and the journal that they leave is
 /// legal with their tags. Each thread's calls are done as far as they go on. There is no journal where a call, or the race
 /// itself, had no memory.
@@ -187,13 +201,6 @@ pub fn race<R: Threads + Wait + Sync, G: Gate + Sync>(
         (calls_of plan.now) journal.records) }
     ensures played { IfOk result (λ journal. ArePlayed plan.now journal.records) }
 {
-    let terms = Terms {
-        founding: plan.founding,
-        callers: plan.threads.as_slice().len() as u32,
-        seed: plan.seed_number,
-        loss: plan.loss,
-        repeat: plan.repeat,
-    };
-    let (wire, passes, shares) = Wire::<RaceLaw>::start(alloc, &terms)?;
+    let (wire, passes, shares) = Wire::<RaceLaw>::start(alloc, &terms_of(plan))?;
     race_over::<R, Brand, G>(rt, alloc, plan, gate, wire, passes, shares, PhantomData)
 }

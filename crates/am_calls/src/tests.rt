@@ -1,6 +1,10 @@
 ghost use Rattle.std.specs.Prelude.{◌≡◌, IfOk};
 
-use crate::gate::{Gate, Meeting};
+use crate::caller::Caller;
+use crate::gate::{Gate, Meeting, NoGate};
+use crate::job::{Job, let_do};
+use crate::kernels::Kernels;
+use crate::naming::Racing;
 use crate::race::race;
 use am_base::body::Body;
 use am_base::founding::Founding;
@@ -10,6 +14,7 @@ use am_base::names::Names;
 use am_group::delivered::deliveries;
 use am_group::event::{Act, By};
 use am_group::plan::{RacePlan, ThreadPlan};
+use std::sync::Wait;
 use std::sync::atomic::{AtomicU64, Ordering};
 use std::test::*;
 use std::thread;
@@ -45,11 +50,11 @@ fn thread_of(place: u8, calls: Vec<Act>) -> ThreadPlan
     }
 }
 
-fn plan_of(threads: Vec<ThreadPlan>, turns: u32) -> Result<RacePlan, Fail>
+fn plan_of(founders: u16, threads: Vec<ThreadPlan>, turns: u32) -> Result<RacePlan, Fail>
     ensures threads { IfOk result (λ plan. plan.threads ≡ threads.items) }
     ensures turns { IfOk result (λ plan. plan.turns ≡ turns) }
 {
-    let founding = Founding::new(Names::of_mask(3), 0, 64, 256).ok_or("a founding")?;
+    let founding = Founding::new(Names::of_mask(founders), 0, 64, 256).ok_or("a founding")?;
     Ok(RacePlan {
         founding,
         seed_number: 1,
@@ -66,7 +71,7 @@ fn two_nodes_at_once(rt: HostRuntime) -> Result<(), Fail> {
     let alloc = rt.alloc();
     let first = thread_of(0, vec![in alloc; Act::Take]?);
     let second = thread_of(1, vec![in alloc; Act::Take]?);
-    let plan = plan_of(vec![in alloc; first, second]?, 200)?;
+    let plan = plan_of(3, vec![in alloc; first, second]?, 200)?;
     let gate = Meeting::new();
     let journal = race(&rt, alloc, &plan, &gate).ok().ok_or("a journal")?;
     assert!(rt; gate.has_met());
@@ -82,7 +87,7 @@ fn both_receive_what_one_sends(rt: HostRuntime) -> Result<(), Fail> {
     let sends = vec![in alloc; Act::send(alloc, body)?, Act::Take, Act::Take]?;
     let first = thread_of(0, sends);
     let second = thread_of(1, vec![in alloc; Act::Take, Act::Take]?);
-    let plan = plan_of(vec![in alloc; first, second]?, 10000)?;
+    let plan = plan_of(3, vec![in alloc; first, second]?, 10000)?;
     let gate = InStep {
         acts: [AtomicU64::new(0), AtomicU64::new(0)],
     };
@@ -91,5 +96,108 @@ fn both_receive_what_one_sends(rt: HostRuntime) -> Result<(), Fail> {
         let given = deliveries(alloc, journal.records(), Name::of_byte(node))?;
         assert_eq!(rt; given.len(), 2, "of {node}");
     }
+    Ok(())
+}
+
+/// Counts the acts that are done under a node's lock.
+#[derive(Drop)]
+struct Counting {
+    acts: AtomicU64,
+}
+
+impl Gate for Counting {
+    fn between(&self, _node: Name, _by: &By) {
+        self.acts.fetch_add(1, Ordering::SeqCst);
+    }
+}
+
+// A second receive of a member that has nothing more to take makes its three turns, and takes nothing.
+#[test]
+fn each_act_passes_the_gate(rt: HostRuntime) -> Result<(), Fail> {
+    let alloc = rt.alloc();
+    let takes = thread_of(0, vec![in alloc; Act::Take, Act::Take]?);
+    let plan = plan_of(1, vec![in alloc; takes]?, 3)?;
+    let gate = Counting {
+        acts: AtomicU64::new(0),
+    };
+    let journal = race(&rt, alloc, &plan, &gate).ok().ok_or("a journal")?;
+    assert_eq!(rt; journal.records().len(), 5);
+    assert_eq!(rt; gate.acts.load(Ordering::SeqCst), 5);
+    Ok(())
+}
+
+// Of a node's name only the place counts: a name of a later life asks the place's first one.
+#[test]
+fn later_lives_call_at_their_place(rt: HostRuntime) -> Result<(), Fail> {
+    let alloc = rt.alloc();
+    let body = Body::of(b"a").ok_or("a body")?;
+    let reset = Act::Reset {
+        least: 1,
+        resilience: 0,
+    };
+    let calls = vec![in alloc;
+        Act::send(alloc, body)?,
+        Act::Take,
+        Act::Take,
+        Act::Join,
+        reset,
+        Act::Leave,
+        Act::Stop,
+    ]?;
+    let plan = plan_of(1, vec![in alloc; thread_of(16, calls)]?, 3)?;
+    let journal = race(&rt, alloc, &plan, &NoGate).ok().ok_or("a journal")?;
+    assert_eq!(rt; journal.records().len(), 8);
+    Ok(())
+}
+
+/// Asks what a node knows; how many of two names told the number of the last entry.
+#[derive(Drop)]
+struct Asks {
+    told: AtomicU64,
+}
+
+impl Asks {
+    fn ask<R: Wait, N: Racing, G: Gate>(
+        &self,
+        rt: &R,
+        kernels: &Kernels<N, G>,
+        caller: &mut Caller<N>,
+        name: Name,
+    )
+        ensures { caller.new.number ≡ caller.old.number }
+    {
+        if let Ok(info) = kernels.info(rt, caller, name)
+            && info.top == 1
+        {
+            self.told.fetch_add(1, Ordering::SeqCst);
+        }
+    }
+}
+
+impl Job for Asks {
+    fn run<R: Wait, N: Racing, G: Gate>(
+        &self,
+        rt: &R,
+        kernels: &Kernels<N, G>,
+        caller: &mut Caller<N>,
+    ) {
+        self.ask(rt, kernels, caller, Name::of_byte(0));
+        self.ask(rt, kernels, caller, Name::of_byte(16));
+    }
+}
+
+// A founder's list has the founders' View.
+#[test]
+fn both_lives_are_asked(rt: HostRuntime) -> Result<(), Fail> {
+    let alloc = rt.alloc();
+    let plan = plan_of(1, vec![in alloc; thread_of(0, Vec::new(alloc))]?, 3)?;
+    let job = Asks {
+        told: AtomicU64::new(0),
+    };
+    let journal = let_do(&rt, alloc, &plan, &NoGate, &job)
+        .ok()
+        .ok_or("a journal")?;
+    assert_eq!(rt; journal.records().len(), 0);
+    assert_eq!(rt; job.told.load(Ordering::SeqCst), 2);
     Ok(())
 }

@@ -132,7 +132,7 @@ impl Model for Generator {
 }
 
 impl Generator {
-    ghost use Rattle.std.specs.Prelude.{OnOk, IfOk, IfErr, length};
+    ghost use Rattle.std.specs.Prelude.{OnOk, OnErr, IfOk, IfErr, length};
     ghost use Rattle.am_play.specs.Settle.{event_at};
     ghost use Rattle.am_group.specs.Addressed.{next_for};
     ghost use Rattle.am_pump.specs.Generating.{first_drive, progress_at, act_at, sent_by, after_turn, drive_once};
@@ -224,6 +224,7 @@ impl Generator {
         requires { place < 4 }
         ensures ok { OnOk result (self.new
             ≡ record self.old { play = after self.old.play (event_at place act) }) }
+        ensures err { OnErr result (self.new.play ≡ self.old.play) }
         ensures spent { IfErr result (λ refusal. refusal ≡ refusals.Spent
             → length self.old.play.events ≡ most_events) }
     {
@@ -235,11 +236,12 @@ impl Generator {
         Ok(())
     }
 
-    /// Does the next event. After a refusal nothing more is to be done: NoMemory where there is no memory for it, and Spent
-    /// only where 100,000 events were done.
+    /// Does the next event. After a refusal the group is as it was, but words may have been drawn, so that nothing more is to be
+    /// done: NoMemory where there is no memory for it, and Spent only where 100,000 events were done.
     #[tactic(auto, unfolding(crate::specs::Generating::drive_once))]
     pub fn step(&mut self) -> Result<(), WorldRefusal>
         ensures ok { OnOk result (self.new ≡ drive_once self.old) }
+        ensures err { OnErr result (self.new.play ≡ self.old.play) }
         ensures spent { IfErr result (λ refusal. refusal ≡ refusals.Spent
             → length self.old.play.events ≡ most_events) }
     {

@@ -1,3 +1,4 @@
+pub mod Cases
 pub mod Legality
 pub mod Others
 pub mod Apart

@@ -13,3 +13,4 @@ pub mod Ran
 pub mod Boxes
 pub mod Going
 pub mod Laws
+pub mod Cases

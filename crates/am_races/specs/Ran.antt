@@ -1,5 +1,5 @@
 -- What the callers of a race leave.
-use Rattle.std.specs.Prelude.{◌≡◌, ℕ, ◌+◌, ◌*◌, ◌<◌, ◌≤◌, List, [], ◌∷◌, length, map, take, Option, Some, None, Bool, true, ◌==◌, slice_get}
+use Rattle.std.specs.Prelude.{◌≡◌, ℕ, ◌+◌, ◌*◌, ◌<◌, ◌≤◌, List, [], ◌∷◌, length, map, take, Option, Some, None, Bool, true, ◌==◌, slice_get, All}
 use Rattle.std.specs.List.{list_all, range_with_len}
 use Rattle.am_base.specs.Most.{most_events}
 use Rattle.am_base.specs.Names.{place_of}
@@ -19,6 +19,7 @@ use Rattle.am_races.specs.declared.answer.Answer.{Answer}
 use Rattle.am_races.specs.declared.answer.Answer.TheVariants as answer
 use Rattle.am_races.specs.Callers.{are_finished, is_last}
 use Rattle.am_races.specs.Callings.{Calling, HasMade}
+use Rattle.am_races.specs.Legal.{IsLegalWithTags}
 use Rattle.am_races.specs.Plans.{calls_of}
 
 -- a caller that has made no call
@@ -74,6 +75,13 @@ first_refusal (Some refusal ∷ others) = Some refusal
 -- how many records its calls have at most
 abbrev pub most_of : RacePlan → ℕ → ℕ
 most_of plan caller = length (calls_of plan caller) * (plan.turns + 2)
+
+-- the journal that so many callers left, which are numbered in their order: legal with the calls that they made, and with all their records
+pub record IsLeft (plan : RacePlan) (journal : List Record) : Type 0 where
+  pub callers : List Calling
+  pub numbers : numbers_of callers ≡ range_with_len 0 (length plan.threads)
+  pub legal : IsLegalWithTags plan (calls_by callers) journal
+  pub ends : All (EndsFor journal) callers
 
 -- a caller has made the first of its planned calls
 abbrev pub IsPlanned : RacePlan → Calling → Type 0

@@ -2,6 +2,7 @@
 
 ghost use Rattle.std.specs.Prelude.{List};
 ghost use Rattle.am_group.specs.declared.event.Record.{Record};
+ghost use Rattle.am_races.specs.Cases.{ReceivesUseTheirTurns};
 ghost use Rattle.am_races.specs.Laws.{EachIsNext, OthersAreApart, OthersStay, TurnsStay, StoppedAreKnown, HaveKeys};
 
 /// A journal is legal where each record is what its event gives behind those before it.
@@ -34,4 +35,11 @@ pub fn stopped_names_are_known()
 /// The records of a place and of a caller are those that a pass with their keys knows.
 pub fn places_and_callers_have_keys()
     ensures { (records : List Record) → HaveKeys records }
+{}
+
+/// A receive that ends without an answer has used its turns, also where its node stopped; where it stopped the thread may end
+/// before that end.
+#[tactic(auto, using(crate::proofs::Cases::receives_use_their_turns))]
+pub fn receives_use_their_turns()
+    ensures { ReceivesUseTheirTurns }
 {}

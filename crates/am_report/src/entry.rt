@@ -7,7 +7,7 @@ use am_base::NoMemory;
 use am_base::entry::Entry;
 use am_base::founding::Founding;
 
-/// Adds two lower-case hexadecimal digits for each byte.
+/// Adds two lower-case hexadecimal digits for each byte. After an error a part of it may have been added.
 pub fn push_bytes(out: &mut String, bytes: &[u8]) -> Result<(), NoMemory>
     ensures { OnOk result (string_bytes out.new
         ≡ string_bytes out.old ++ flat_map hex_byte bytes.now) }
@@ -16,7 +16,7 @@ pub fn push_bytes(out: &mut String, bytes: &[u8]) -> Result<(), NoMemory>
     out.push_str(digits.as_str())
 }
 
-/// Adds a body: its bytes, or a dash where there are none.
+/// Adds a body: its bytes, or a dash where there are none. After an error a part of it may have been added.
 #[tactic(auto, unfolding(am_play::specs::Text::body_text))]
 pub fn push_body(out: &mut String, bytes: &[u8]) -> Result<(), NoMemory>
     ensures { OnOk result (string_bytes out.new ≡ string_bytes out.old ++ body_text bytes.now) }
@@ -27,7 +27,7 @@ pub fn push_body(out: &mut String, bytes: &[u8]) -> Result<(), NoMemory>
     push_bytes(out, bytes)
 }
 
-/// Adds a resilience, where it isn't the founding's.
+/// Adds a resilience, where it isn't the founding's. After an error a part of it may have been added.
 #[tactic(auto, unfolding(am_play::specs::Text::resilience_text))]
 pub fn push_resilience(
     out: &mut String,
@@ -43,7 +43,7 @@ pub fn push_resilience(
     write!(out, " r{resilience}")
 }
 
-/// Adds an entry.
+/// Adds an entry. After an error a part of it may have been added.
 #[tactic(auto, unfolding(am_play::specs::Text::entry_text))]
 pub fn push_entry(out: &mut String, founding: &Founding, entry: &Entry) -> Result<(), NoMemory>
     ensures { OnOk result (string_bytes out.new

@@ -59,7 +59,7 @@ fn push_parts(out: &mut String, founding: &Founding, act: &Act) -> Result<(), No
     }
 }
 
-/// Adds an event: its act's word, the place of its node, and the rest.
+/// Adds an event: its act's word, the place of its node, and the rest. After an error a part of it may have been added.
 #[tactic(auto, unfolding(am_play::specs::Text::event_text))]
 pub fn push_event(out: &mut String, founding: &Founding, event: &Event) -> Result<(), NoMemory>
     ensures { OnOk result (string_bytes out.new

@@ -66,6 +66,7 @@ fn push_letter(out: &mut String, place: u8, number: u64, letter: &Letter) -> Res
 }
 
 /// Adds the letters of a node at this place, before which so many were sent.
+/// After an error a part of it may have been added.
 pub fn push_letters(
     out: &mut String,
     place: u8,

@@ -15,6 +15,7 @@ use am_base::name::Name;
 use am_group::event::Record;
 
 /// Adds the line of an event of this number, before which so many letters were sent.
+/// After an error a part of it may have been added.
 pub fn push_record(
     out: &mut String,
     founding: &Founding,
@@ -38,7 +39,7 @@ pub fn push_record(
     out.push_str("\n")
 }
 
-/// Adds the line of an entry of the group's list.
+/// Adds the line of an entry of the group's list. After an error a part of it may have been added.
 pub fn push_group_line(
     out: &mut String,
     founding: &Founding,
@@ -54,6 +55,7 @@ pub fn push_group_line(
 }
 
 /// Adds the line of an entry, with its number, that was given to a name's application.
+/// After an error a part of it may have been added.
 pub fn push_log_line(
     out: &mut String,
     founding: &Founding,
@@ -71,7 +73,7 @@ pub fn push_log_line(
     out.push_str("\n")
 }
 
-/// Adds the line of a name whose application was given nothing.
+/// Adds the line of a name whose application was given nothing. After an error a part of it may have been added.
 pub fn push_empty_log(out: &mut String, name: Name) -> Result<(), NoMemory>
     ensures { OnOk result (string_bytes out.new ≡ string_bytes out.old ++ empty_log_line name) }
 {
@@ -80,7 +82,7 @@ pub fn push_empty_log(out: &mut String, name: Name) -> Result<(), NoMemory>
     out.push_str(" empty\n")
 }
 
-/// Adds the last line: `lawful`, or which event broke the run.
+/// Adds the last line: `lawful`, or which event broke the run. After an error a part of it may have been added.
 pub fn push_mark(out: &mut String, broken: Option<u32>) -> Result<(), NoMemory>
     ensures { OnOk result (string_bytes out.new ≡ string_bytes out.old ++ mark_line broken) }
 {

@@ -8,6 +8,7 @@ use am_base::name::{Name, Stamp};
 use am_base::names::Names;
 
 /// Adds a name: its place, and a life other than the first behind a slash.
+/// After an error a part of it may have been added.
 #[tactic(auto, unfolding(am_play::specs::Text::name_text))]
 pub fn push_name(out: &mut String, name: Name) -> Result<(), NoMemory>
     ensures { OnOk result (string_bytes out.new ≡ string_bytes out.old ++ name_text name) }
@@ -20,7 +21,7 @@ pub fn push_name(out: &mut String, name: Name) -> Result<(), NoMemory>
     write!(out, "{place}/{life}")
 }
 
-/// Adds a stamp.
+/// Adds a stamp. After an error a part of it may have been added.
 #[tactic(auto, unfolding(am_play::specs::Text::stamp_text))]
 pub fn push_stamp(out: &mut String, stamp: Stamp) -> Result<(), NoMemory>
     ensures { OnOk result (string_bytes out.new ≡ string_bytes out.old ++ stamp_text stamp) }
@@ -48,6 +49,7 @@ fn push_place(out: &mut String, first: bool, names: Names, place: u8) -> Result<
 }
 
 /// Adds the names of a set, ascending, with commas between them, or a dash.
+/// After an error a part of it may have been added.
 pub fn push_names(out: &mut String, names: Names) -> Result<(), NoMemory>
     ensures { OnOk result (string_bytes out.new ≡ string_bytes out.old ++ names_text names) }
 {

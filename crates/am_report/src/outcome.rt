@@ -141,7 +141,7 @@ fn push_parts(out: &mut String, founding: &Founding, outcome: &Outcome) -> Resul
     }
 }
 
-/// Adds an outcome: its word and its parts.
+/// Adds an outcome: its word and its parts. After an error a part of it may have been added.
 #[tactic(auto, unfolding(am_play::specs::Text::outcome_text))]
 pub fn push_outcome(
     out: &mut String,

@@ -8,7 +8,7 @@ use Rattle.am_races.proofs.Fresh.{pass_at, sixteen_passes}
 use Rattle.am_calls.proofs.dealing.boxes_of.Goals as goal
 
 pub box_of-requires-clause-its : goal.box_of-requires-clause-its
-box_of-requires-clause-its g c κs within =
+box_of-requires-clause-its g c =
     let into = c.into_iter-pass-iterator.ensures.into_iter_gives in
     let turn = YieldsList-turn (YieldsList-from_vec c.args.passes.items into.0 (into.1 ∙ c.args.passes.ok.0)) c.loop-pass.yielded c.loop-pass.pass-iterator
     c.loop-pass.yielded_by c.next.result c.next.new.self c.in-Some.pass c.in-Some.is c.next.ensures.steps in

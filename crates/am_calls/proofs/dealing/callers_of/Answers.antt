@@ -18,7 +18,7 @@ overflow_cast-number g c =
     omega (arith, at.0, c.requires.few, c.len-number.ensures, c.loop-share.callers.ok.0, many_fresh _ _ c.loop-share.invariant)
 
 pub new-requires-clause-share : goal.new-requires-clause-share
-new-requires-clause-share g c κs within =
+new-requires-clause-share g c =
     let into = c.into_iter-share-iterator.ensures.into_iter_gives in
     let turn = YieldsList-turn (YieldsList-from_vec c.args.shares.items into.0 (into.1 ∙ c.args.shares.ok.0)) c.loop-share.yielded c.loop-share.share-iterator
     c.loop-share.yielded_by c.next.result c.next.new.self c.in-Some.share c.in-Some.is c.next.ensures.steps in

@@ -4,10 +4,11 @@ use Rattle.am_wire.specs.declared.wire.WireRefusal.TheVariants as refusals
 use Rattle.am_races.proofs.Raced.{run_numbers, run_did, run_planned, legal_as_planned, are_played, not_spent}
 use Rattle.am_calls.proofs.race.race_over.Goals as goal
 
-pub finish-journal-requires-clause-callers : goal.finish-journal-requires-clause-callers
-finish-journal-requires-clause-callers g c κs within =
-    run_numbers _ c.in_ok-ran.ran.items c.in_ok-callers.callers.items c.in_ok-kernels.callers.items (length g.N.Racing.plan.threads)
-    c.in_ok-callers.ensures.callers c.in_ok-ran.ensures.numbers c.in_ok-kernels.ensures
+pub finish-journal-requires : goal.finish-journal-requires
+finish-journal-requires g c = record {
+  callers = run_numbers _ c.in_ok-ran.ran.items c.in_ok-callers.callers.items c.in_ok-kernels.callers.items (length g.N.Racing.plan.threads)
+      c.in_ok-callers.ensures.callers c.in_ok-ran.ensures.numbers c.in_ok-kernels.ensures;
+}
 
 pub unreachable-requires : goal.unreachable-requires
 unreachable-requires g c =

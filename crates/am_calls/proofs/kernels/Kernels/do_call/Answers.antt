@@ -3,10 +3,10 @@ use Rattle.am_races.proofs.Making.{receive_begins, refused_first, own_call, bega
 use Rattle.am_calls.proofs.kernels.Kernels.do_call.Goals as goal
 
 pub go_on-requires-clause-begun : goal.go_on-requires-clause-begun
-go_on-requires-clause-begun g c κs within = receive_begins c.args.act.now _ (sym c.is_take.ensures ∙ c.if-is_take.true) c.requires.fresh
+go_on-requires-clause-begun g c = receive_begins c.args.act.now _ (sym c.is_take.ensures ∙ c.if-is_take.true) c.requires.fresh
 
 pub go_on-requires-in-None-clause-begun : goal.go_on-requires-in-None-clause-begun
-go_on-requires-in-None-clause-begun g c κs within =
+go_on-requires-in-None-clause-begun g c =
     began_call c.args.node c.args.tag c.args.act.now c.in-Ok.came _ _ c.requires.call (sym c.is_take.ensures
     ∙ c.if-is_take.false) c.requires.fresh c.in-Ok.ensures.ok (sym c.own_answer.ensures ∙ c.in-None.is)
 

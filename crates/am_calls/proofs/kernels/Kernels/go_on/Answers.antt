@@ -37,10 +37,10 @@ loop-spent-preserved g c = (
 )
 
 pub look-requires-clause-hand : goal.look-requires-clause-hand
-look-requires-clause-hand g c κs within = c.loop-spent.invariant.0
+look-requires-clause-hand g c = c.loop-spent.invariant.0
 
 pub look-requires-clause-came : goal.look-requires-clause-came
-look-requires-clause-came g c κs within =
+look-requires-clause-came g c =
     came_still g.N.Racing.plan c.args.node c.args.tag c.args.act.now c.args.came.now _ _ _ _ _ c.requires.begun c.loop-spent.invariant.1
 
 pub returns-in-Err-clause-made : goal.returns-in-Err-clause-made
@@ -66,10 +66,10 @@ returns-in-Ok-End-clause-made g c =
     c.in-Ok-End.field-0-is c.in-Ok-End.ensures.ok).1)
 
 pub look-requires-2-clause-hand : goal.look-requires-2-clause-hand
-look-requires-2-clause-hand g c κs within = c.loop-spent.invariant.0
+look-requires-2-clause-hand g c = c.loop-spent.invariant.0
 
 pub look-requires-2-clause-came : goal.look-requires-2-clause-came
-look-requires-2-clause-came g c κs within =
+look-requires-2-clause-came g c =
     came_still g.N.Racing.plan c.args.node c.args.tag c.args.act.now c.args.came.now _ _ _ _ _ c.requires.begun c.loop-spent.invariant.1
 
 pub returns-in-Err-look-clause-made : goal.returns-in-Err-look-clause-made

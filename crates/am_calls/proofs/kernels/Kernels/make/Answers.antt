@@ -5,12 +5,12 @@ use Rattle.am_races.proofs.Making.{make_fresh, make_caller, make_has, make_calle
 use Rattle.am_calls.proofs.kernels.Kernels.make.Goals as goal
 
 pub do_call-answer-requires-clause-fresh : goal.do_call-answer-requires-clause-fresh
-do_call-answer-requires-clause-fresh g c κs within =
+do_call-answer-requires-clause-fresh g c =
     make_fresh g.N.Racing.plan c.caller.inside.number c.caller.inside.calls _ c.args.caller.now c.next_call-tag.result c.caller.view_is c.next_call-tag.ensures
     c.caller.invariant.1
 
 pub do_call-answer-requires-clause-hand : goal.do_call-answer-requires-clause-hand
-do_call-answer-requires-clause-hand g c κs within =
+do_call-answer-requires-clause-hand g c =
     subst (λ (n : ℕ). IsHand g.N.Racing.wire g.N.Racing.plan n c.caller.inside.hand.share c.caller.inside.hand.chooser)
     (sym (make_caller g.N.Racing.plan c.caller.inside.number c.caller.inside.calls _ c.args.caller.now c.next_call-tag.result c.caller.view_is
     c.next_call-tag.ensures c.caller.invariant.1))

@@ -11,7 +11,7 @@ use Rattle.am_races.proofs.Looking.{call_asks, began_all, all_refused_since}
 use Rattle.am_calls.proofs.node_box.NodeBox.begin.Goals as goal
 
 pub ask-requires-clause-asks : goal.ask-requires-clause-asks
-ask-requires-clause-asks g c κs within = ap is_asked c.in-Ok.ensures ∙ call_asks c.args.act.now c.requires.call
+ask-requires-clause-asks g c = ap is_asked c.in-Ok.ensures ∙ call_asks c.args.act.now c.requires.call
 
 -- what asking leaves, by what was asked
 asked_as : (plan : RacePlan) (name name' : ℕ) (a a' : Act) (by by' : By) (old new : List Record) (r : Result Came Answer) → name' ≡ name → a' ≡ a → by' ≡ by

@@ -9,7 +9,7 @@ invariant_of-self g c = sees_more _ _ _ _ _ _ _ _ _ _ _ c.self.view_is c.self.in
     c.next_for-ahead.ensures.lawful
 
 pub turn_of_choice-requires-clause-sent : goal.turn_of_choice-requires-clause-sent
-turn_of_choice-requires-clause-sent g c κs within =
+turn_of_choice-requires-clause-sent g c =
     let after = sees_more _ _ _ _ _ _ _ _ _ _ _ c.self.view_is c.self.invariant c.requires.open_ c.next_for-ahead.ensures.sees c.next_for-ahead.ensures.lawful
     in
     choice_sent _ _ _ _ c.args.chooser.now _ _ after.place after.lawful c.next_for-ahead.ensures.value

@@ -7,10 +7,10 @@ use Rattle.am_races.proofs.Looking.{end_asks, end_no_turn, end_done}
 use Rattle.am_calls.proofs.node_box.NodeBox.end.Goals as goal
 
 pub ask-requires-clause-asks : goal.ask-requires-clause-asks
-ask-requires-clause-asks g c κs within = ap is_asked c.end_act-last.ensures ∙ end_asks c.args.act.now c.args.came.now
+ask-requires-clause-asks g c = ap is_asked c.end_act-last.ensures ∙ end_asks c.args.act.now c.args.came.now
 
 pub ask-requires-clause-no_turn : goal.ask-requires-clause-no_turn
-ask-requires-clause-no_turn g c κs within =
+ask-requires-clause-no_turn g c =
     ap (λ (b : By). is_turn_part b.part) c.with.ensures ∙ ap is_turn_part c.end_part-part.ensures ∙ end_no_turn c.args.act.now
 
 pub returns-in-Ok-clause-ok : goal.returns-in-Ok-clause-ok

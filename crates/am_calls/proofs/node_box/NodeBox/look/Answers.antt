@@ -7,7 +7,7 @@ use Rattle.am_races.proofs.Looking.{came_seen, last_looked, ready_looked, turn_l
 use Rattle.am_calls.proofs.node_box.NodeBox.look.Goals as goal
 
 pub spend-requires-clause-unready : goal.spend-requires-clause-unready
-spend-requires-clause-unready g c κs within =
+spend-requires-clause-unready g c =
     sym (c.is_ready.ensures.ready (own_of (of_call c.args.visit.now.tag.caller c.args.visit.now.tag.call c.meet_caller.new.self.seen))
     (came_seen c.args.visit.now.tag c.args.act.now c.args.came.now c.args.hand.now.share.seen c.meet_caller.new.hand.share.seen c.meet_caller.new.self.seen
     c.meet_caller.ensures.goes c.in_ok-meet_caller.ensures.ok.same c.requires.came))

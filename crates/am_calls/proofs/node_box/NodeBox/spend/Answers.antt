@@ -6,7 +6,7 @@ use Rattle.am_races.proofs.Looking.{turn_is_may, turn_hand, turn_grown, turn_ref
 use Rattle.am_calls.proofs.node_box.NodeBox.spend.Goals as goal
 
 pub act-requires-clause-may : goal.act-requires-clause-may
-act-requires-clause-may g c κs within =
+act-requires-clause-may g c =
     turn_is_may g.N.Racing.plan c.args.self.now c.turn-turn.new.self _ _ _ _ c.turn-turn.ensures.looks c.as_ref.ensures.value
     (still_runs _ _ _ _ _ _ _ _ _ c.args.self.now c.turn-turn.new.self c.self.view_is c.self.invariant c.turn-turn.ensures.looks c.requires.met.runs)
     c.turn-turn.ensures.turn c.turn-turn.ensures.hears

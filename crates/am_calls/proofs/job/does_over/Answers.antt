@@ -1,0 +1,18 @@
+use Rattle.std.proofs.Common.{length, ◌∙◌}
+use Rattle.am_races.proofs.Fresh.{fresh_numbers}
+use Rattle.am_calls.proofs.job.does_over.Goals as goal
+
+pub finish-requires : goal.finish-requires
+finish-requires g c = record {
+  callers = c.in_ok-callers.ensures.numbers
+      ∙ fresh_numbers (length g.N.Racing.plan.threads) c.in_ok-kernels.callers.items c.in_ok-kernels.ensures;
+}
+
+pub returns-clause-left : goal.returns-clause-left
+returns-clause-left g c = record {
+  callers = c.in_ok-callers.callers.items;
+  numbers = c.in_ok-callers.ensures.numbers
+      ∙ fresh_numbers (length g.N.Racing.plan.threads) c.in_ok-kernels.callers.items c.in_ok-kernels.ensures;
+  legal = c.finish.ensures.legal;
+  ends = c.finish.ensures.ends;
+}

@@ -1,0 +1,97 @@
+ghost use Rattle.std.specs.Prelude.{◌≡◌};
+
+use crate::caller::Caller;
+use crate::gate::{Gate, NoGate};
+use crate::job::{Job, let_do};
+use crate::kernels::Kernels;
+use crate::naming::Racing;
+use am_base::NoMemory;
+use am_base::body::Body;
+use am_base::entry::Entry;
+use am_base::founding::Founding;
+use am_base::items::Items;
+use am_base::name::Name;
+use am_base::names::Names;
+use am_group::plan::{RacePlan, ThreadPlan};
+use am_races::answer::Answer;
+use std::alloc::Global;
+use std::sync::Wait;
+use std::test::*;
+use std::thread::Threads;
+
+/// Receives, and sends what it received; whether it did both.
+fn echo_once<R: Wait, N: Racing, G: Gate>(
+    rt: &R,
+    kernels: &Kernels<N, G>,
+    caller: &mut Caller<N>,
+) -> bool
+    ensures { caller.new.number ≡ caller.old.number }
+{
+    let node = Name::of_byte(0);
+    if !caller.may_call() {
+        return false;
+    }
+    let answer = kernels.receive(rt, caller, node);
+    let Answer::Took {
+        entry: Entry::Data { body, .. },
+        ..
+    } = answer
+    else {
+        return false;
+    };
+    caller.may_call() && matches!(kernels.send(rt, caller, node, body), Answer::Sent { .. })
+}
+
+/// Sends a body, receives the founders' View, and twice receives and sends what it received.
+struct Echo;
+
+impl Job for Echo {
+    fn run<R: Wait, N: Racing, G: Gate>(
+        &self,
+        rt: &R,
+        kernels: &Kernels<N, G>,
+        caller: &mut Caller<N>,
+    ) {
+        let node = Name::of_byte(0);
+        if let Some(body) = Body::of(b"a")
+            && caller.may_call()
+        {
+            let _sent = kernels.send(rt, caller, node, body);
+        }
+        if caller.may_call() {
+            let _view = kernels.receive(rt, caller, node);
+        }
+        let _twice = echo_once(rt, kernels, caller) && echo_once(rt, kernels, caller);
+    }
+}
+
+/// One caller does this at place 0; how many records it leaves.
+pub fn echo_twice<R: Threads + Wait + Sync>(
+    rt: &R,
+    alloc: Global,
+    founding: Founding,
+) -> Result<usize, NoMemory> {
+    let mut threads = Items::new(alloc);
+    let calls = Items::new(alloc);
+    threads.push(ThreadPlan {
+        node: Name::of_byte(0),
+        calls,
+    })?;
+    let plan = RacePlan {
+        founding,
+        seed_number: 1,
+        loss: 10,
+        repeat: 5,
+        turns: 200,
+        threads,
+    };
+    Ok(let_do(rt, alloc, &plan, &NoGate, &Echo)?.records().len())
+}
+
+// A send leaves its act and its check, and a receive its Take.
+#[test]
+fn one_that_founds_alone_echoes(rt: HostRuntime) -> Result<(), Fail> {
+    let founding = Founding::new(Names::of_mask(1), 0, 64, 256).ok_or("a founding")?;
+    assert_eq!(rt; echo_twice(&rt, rt.alloc(), founding)?, 9);
+    Ok(())
+}
