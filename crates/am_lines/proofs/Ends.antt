@@ -1,5 +1,5 @@
 -- A node answers as every node does of which it is the end.
-use Rattle.std.proofs.Common.{◌≡◌, ℕ, ◌+◌, ◌<◌, ◌++◌, List, Bool, true, false, IsTrue, ◌↔◌, ◌&&◌, nat_lt, Result, Ok, Err, OnOk, refl, sym, ap, ap₂, ◌∙◌, subst, arith}
+use Rattle.std.proofs.Common.{◌≡◌, ℕ, ◌+◌, ◌++◌, List, Bool, true, false, IsTrue, ◌↔◌, ◌&&◌, nat_lt, Result, Ok, Err, OnOk, refl, sym, ap, ap₂, ◌∙◌, subst, arith}
 use Rattle.std.specs.Prelude.{codes, decimal}
 use Rattle.std.specs.List.{flat_map}
 use Rattle.std.proofs.lemmas.Bool.Decides.{nat_tests}
@@ -12,10 +12,9 @@ use Rattle.am_base.specs.declared.outcome.Outcome.{Outcome}
 use Rattle.am_core.specs.Cores.{IsInOrder}
 use Rattle.am_packet.specs.Boxes.{Letter}
 use Rattle.am_sender.specs.Sends.{Sends}
-use Rattle.am_model.specs.Node.{Node, Ballot, top, image_of}
-use Rattle.am_model.specs.Emit.{Step, finish}
+use Rattle.am_model.specs.Node.{Node, top, image_of}
 use Rattle.am_model.specs.Step.{row, step}
-use Rattle.am_model.specs.Ends.{IsEndOf, Does, EndsStepAlike}
+use Rattle.am_model.specs.Ends.{IsEndOf, Does}
 use Rattle.am_ends.proofs.Hearing.{ends_step_alike}
 use Rattle.am_handlers.proofs.Plans.{top_end, told_end}
 use Rattle.am_info.specs.Info.{info_of, waited_for}

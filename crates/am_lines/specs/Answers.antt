@@ -1,10 +1,9 @@
 -- What a node answers to a line.
-use Rattle.std.specs.Prelude.{ℕ, ◌+◌, List, [], ◌∷◌, ◌++◌, codes, decimal, Bool, true, false, ◌&&◌, nat_lt, if◌then◌else◌, slice_index}
+use Rattle.std.specs.Prelude.{ℕ, ◌+◌, List, ◌++◌, codes, decimal, Bool, true, false, ◌&&◌, nat_lt, if◌then◌else◌, slice_index}
 use Rattle.std.specs.List.{flat_map}
 use Rattle.am_base.specs.Founding.{Rules}
 use Rattle.am_base.specs.Most.{most_number}
 use Rattle.am_base.specs.Names.{place_of, has}
-use Rattle.am_base.specs.declared.event.NodeEvent.{NodeEvent}
 use Rattle.am_base.specs.declared.event.NodeEvent.TheVariants as does
 use Rattle.am_packet.specs.Boxes.{Letter}
 use Rattle.am_codec.specs.Spelling.{spelling}
@@ -14,7 +13,7 @@ use Rattle.am_model.specs.Step.{step}
 use Rattle.am_info.specs.Info.{role_of, waited_for}
 use Rattle.am_info.specs.declared.info.Role.{Role}
 use Rattle.am_info.specs.declared.info.Role.TheVariants as role
-use Rattle.am_play.specs.Text.{newline, stamp_text, names_text, hex_byte, outcome_text}
+use Rattle.am_play.specs.Text.{stamp_text, names_text, hex_byte, outcome_text}
 use Rattle.am_lines.specs.declared.line.Line.{Line}
 use Rattle.am_lines.specs.declared.line.Line.TheVariants as line
 use Rattle.am_lines.specs.Lines.{line_of, cause_of}

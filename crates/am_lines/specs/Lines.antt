@@ -1,8 +1,7 @@
 -- What a line says to a node.
-use Rattle.std.specs.Prelude.{ℕ, List, [], ◌∷◌, drop, length, codes, Option, Some, None, Result, Ok, Err, Bool, true, false, ◌==◌, nat_lt, if◌then◌else◌, slice_index}
+use Rattle.std.specs.Prelude.{ℕ, List, drop, length, codes, Option, Some, None, Result, Ok, Err, Bool, ◌==◌, nat_lt, if◌then◌else◌, slice_index}
 use Rattle.am_base.specs.Founding.{Rules}
 use Rattle.am_base.specs.Most.{most_body, most_packet}
-use Rattle.am_base.specs.declared.event.NodeEvent.{NodeEvent}
 use Rattle.am_base.specs.declared.event.NodeEvent.TheVariants as does
 use Rattle.am_fields.specs.declared.fault.FieldFault.{FieldFault}
 use Rattle.am_fields.specs.declared.fault.FieldFault.TheVariants as faults

@@ -1,13 +1,11 @@
 -- What a speaking node is to contracts.
 use Rattle.std.specs.Prelude.{◌≡◌, ℕ, ◌++◌, Bool, List}
 use Rattle.am_base.specs.Founding.{Rules}
-use Rattle.am_base.specs.declared.event.NodeEvent.{NodeEvent}
 use Rattle.am_model.specs.Node.{Node}
 use Rattle.am_model.specs.Ends.{IsEndOf}
-use Rattle.am_model.specs.Step.{step}
 use Rattle.am_node.specs.Stands.{state_of}
 use Rattle.am_lines.specs.declared.speaker.Speaker.{Speaker}
-use Rattle.am_lines.specs.Answers.{Answer, stepped, answer_to, answer_of}
+use Rattle.am_lines.specs.Answers.{Answer}
 
 -- its group's founding, its node, of which it keeps the end of the list, and whether there was no memory for an answer
 pub record SpeakerState : Type 0 where

@@ -1,4 +1,4 @@
-use Rattle.std.proofs.Common.{◌≡◌, sym, ◌∙◌, rules}
+use Rattle.std.proofs.Common.{sym, ◌∙◌, rules}
 use Rattle.am_lines.proofs.Ends.{spent_answers, done_answers, numbers_are}
 use Rattle.am_lines.proofs.speaker.Speaker.answer_to.Goals as goal
 

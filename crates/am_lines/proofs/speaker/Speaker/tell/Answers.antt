@@ -1,4 +1,3 @@
-use Rattle.std.proofs.Common.{rules, ◌≡◌}
 use Rattle.am_lines.proofs.Ends.{told_answers}
 use Rattle.am_lines.proofs.speaker.Speaker.tell.Goals as goal
 
