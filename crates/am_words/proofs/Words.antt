@@ -39,16 +39,18 @@ no_form (a ∷ b ∷ c ∷ x ∷ y ∷ z ∷ ws) one five = refl
 pub word_form : (words : List (Bor (List ℕ))) (d : Bor (List ℕ)) → length words ≡ 1 → form_of ((slice_index_or words 0 d).now ∷ []) ≡ form_of (texts words)
 word_form words d one = ap form_of (sym (one_word words d one))
 
-one_is_not_gen : (play race : Bool) → IsGen (if play then Some form.Play else (if race then Some form.Race else None)) → ⊥
-one_is_not_gen true race is = is
-one_is_not_gen false true is = is
-one_is_not_gen false false is = is
+one_is_not_gen : (play race audit : Bool)
+    → IsGen (if play then Some form.Play else (if race then Some form.Race else (if audit then Some form.Audit else None))) → ⊥
+one_is_not_gen true race audit is = is
+one_is_not_gen false true audit is = is
+one_is_not_gen false false true is = is
+one_is_not_gen false false false is = is
 
 -- words that are gen have numbers
 pub some_gen : (words : List (List ℕ)) → IsGen (form_of words) → gen_of words ≢ None
 unfolding form_of
 some_gen [] is none = is
-some_gen (a ∷ []) is none = one_is_not_gen (same a (codes "play")) (same a (codes "race")) is
+some_gen (a ∷ []) is none = one_is_not_gen (same a (codes "play")) (same a (codes "race")) (same a (codes "audit")) is
 some_gen (a ∷ b ∷ ws) is none = subst (λ n. IsGen (option_map form.Gen n)) none is
 
 -- and the form of these

@@ -55,9 +55,10 @@ gen_of words = numbers_in (texts_of words)
 
 -- the form of one word
 abbrev pub one_form : List ℕ → Option Form
-one_form word = if same word (codes "play") then Some form.Play else (if same word (codes "race") then Some form.Race else None)
+one_form word = if same word (codes "play") then Some form.Play else (if same word (codes "race") then Some form.Race
+    else (if same word (codes "audit") then Some form.Audit else None))
 
--- the one word play, the one word race, or gen with its options
+-- one of the words play, race and audit, or gen with its options
 unfoldable pub form_of : List (List ℕ) → Option Form
 form_of (word ∷ []) = one_form word
 form_of words = option_map form.Gen (gen_of words)
@@ -67,4 +68,5 @@ abbrev pub IsGen : Option Form → Type 0
 IsGen (Some (form.Gen numbers)) = Unit {0}
 IsGen (Some form.Play) = ⊥
 IsGen (Some form.Race) = ⊥
+IsGen (Some form.Audit) = ⊥
 IsGen None = ⊥

@@ -22,6 +22,8 @@ pub enum Form {
     Race,
     /// To make a run from two numbers.
     Gen(Numbers),
+    /// To audit a text.
+    Audit,
 }
 
 /// Whether all bytes are decimal digits.
@@ -90,10 +92,13 @@ fn form_of_one(word: &str) -> Option<Form>
     if word == "race" {
         return Some(Form::Race);
     }
+    if word == "audit" {
+        return Some(Form::Audit);
+    }
     None
 }
 
-/// The form of the words after the program's name: the one word `play`, the one word `race`, or `gen` with the options
+/// The form of the words after the program's name: one of the words `play`, `race` and `audit`, or `gen` with the options
 /// `--seed N` and `--count N`, each once, in either order. None where they have no form.
 pub fn form_of(words: &[&str]) -> Option<Form>
     ensures { result ≡ form_of (map (λ word. word.now) words.now) }

@@ -27,7 +27,9 @@ const GEN: [([&str; 5], u64, u32); 4] = [
 ];
 
 /// Words that have no form.
-const OTHER: [&[&str]; 16] = [
+const OTHER: [&[&str]; 18] = [
+    &["Audit"],
+    &["audit", "x"],
     &[],
     &["gen"],
     &["Race"],
@@ -58,6 +60,7 @@ fn gen_has_its_numbers(rt: HostRuntime) {
 fn other_words_have_no_form(rt: HostRuntime) {
     assert_eq!(rt; form_of(&["play"]), Some(Form::Play));
     assert_eq!(rt; form_of(&["race"]), Some(Form::Race));
+    assert_eq!(rt; form_of(&["audit"]), Some(Form::Audit));
     for words in OTHER {
         assert_eq!(rt; form_of(words), None);
     }
