@@ -219,6 +219,12 @@ wrong_events s = or_else (first_skipped [] s.sends) (or_else (first_unsent s.sen
 unfoldable pub verdict_of : Reading → Verdict
 verdict_of s = unwrap_or (wrong_lists s) (if s.events == 0 then verdicts.ListsAgree else unwrap_or (wrong_events s) verdicts.Agrees)
 
+-- a verdict that agrees
+abbrev pub is_right : Verdict → Bool
+is_right verdicts.Agrees = true
+is_right verdicts.ListsAgree = true
+is_right _ = false
+
 -- ---- how it is written
 
 abbrev pub named : List ℕ → ℕ → ℕ → List ℕ

@@ -64,6 +64,21 @@ pub enum Verdict {
     Agrees,
 }
 
+impl Verdict {
+    ghost use Rattle.std.specs.Prelude.{◌≡◌};
+    ghost use Rattle.am_audit.specs.Verdicts.{is_right};
+
+    /// Whether it is one that agrees: Agrees or ListsAgree.
+    pub fn is_right(self) -> bool
+        ensures { result ≡ is_right self }
+    {
+        match self {
+            Verdict::Agrees | Verdict::ListsAgree => true,
+            _ => false,
+        }
+    }
+}
+
 /// What an audit of a text tells: its verdict, and the event from which on its run is void, where its last line says one.
 #[derive(Clone, Copy, PartialEq, Eq, Debug)]
 pub struct Audit {

@@ -1,5 +1,5 @@
 -- What a call of the program did.
-use Rattle.std.specs.Prelude.{◌≡◌, ℕ, ◌<◌, ◌≤◌, true, List, length, map, take, Option, Some, Ok, Err, Bool, if◌then◌else◌}
+use Rattle.std.specs.Prelude.{◌≡◌, ℕ, ◌<◌, ◌≤◌, true, false, List, length, map, take, Option, Some, Ok, Err, Bool, if◌then◌else◌}
 use Rattle.std.specs.Borrow.{Bor}
 use Rattle.std.specs.Io.KnownBytes.{Appends}
 use Rattle.am_base.specs.Most.{most_events}
@@ -25,6 +25,10 @@ use Rattle.am_sim.specs.Playing.{done_of, IsRunText, IsLong}
 use Rattle.am_sim.specs.Racing.{events_of, race_text, IsRaced}
 use Rattle.am_io.specs.Outside.{next, ReadToEnd}
 use Rattle.am_pump.specs.Generating.{generated_rules, events_of_seed}
+use Rattle.am_audit.specs.declared.fault.TextRefusal.{TextRefusal}
+use Rattle.am_audit.specs.declared.fault.TextRefusal.TheVariants as texts
+use Rattle.am_audit.specs.Lines.{Reading, read_text}
+use Rattle.am_audit.specs.Verdicts.{verdict_of, verdict_line, is_right}
 use Rattle.am_words.specs.Forms.{form_of}
 use Rattle.am_words.specs.declared.form.Form.{Form}
 use Rattle.am_words.specs.declared.form.Form.TheVariants as form
@@ -32,7 +36,7 @@ use Rattle.am_words.specs.declared.form.Numbers.{Numbers}
 use Rattle.am_script.specs.declared.script.Script.{Script}
 use Rattle.am_script.specs.declared.script.Script.TheVariants.{Play, Race}
 use Rattle.am_sim.specs.declared.status.Status.{Status}
-use Rattle.am_sim.specs.declared.status.Status.TheVariants.{Done, Usage, BadScript, TooLong, ReadFault, WriteFault, NoMemory, Spent}
+use Rattle.am_sim.specs.declared.status.Status.TheVariants.{Done, Usage, BadScript, TooLong, ReadFault, WriteFault, NoMemory, Spent, BadText, Disagrees}
 
 -- the most bytes of an input
 abbrev pub most_input : ℕ
@@ -89,15 +93,49 @@ abbrev pub IsSummary : Option Form → List ℕ → Type 0
 IsSummary (Some (form.Gen numbers)) text = Generated numbers text
 IsSummary _ text = ⊥
 
+-- what was read is a text, and what was written is the line of its verdict
+pub record Audited (bytes text : List ℕ) : Type 0 where
+  pub reading : Reading
+  pub read : read_text bytes ≡ Ok reading
+  pub written : text ≡ verdict_line (verdict_of reading) reading.void_from
+
+-- a line is the verdict on the text that was read to the end of what was left
+abbrev pub IsAudited : Option (List ℕ) → Option (List ℕ) → List ℕ → Type 0
+IsAudited before after text = (bytes : List ℕ) × ReadToEnd before after bytes × Audited bytes text
+
+-- the verdict on bytes is one that agrees, or isn't
+abbrev pub HasVerdict : Bool → List ℕ → Type 0
+HasVerdict right bytes = (reading : Reading) × (read_text bytes ≡ Ok reading) × (is_right (verdict_of reading) ≡ right)
+
+abbrev pub GaveVerdict : Option (List ℕ) → Option (List ℕ) → Bool → Type 0
+GaveVerdict before after right = (bytes : List ℕ) × ReadToEnd before after bytes × HasVerdict right bytes
+
+-- why bytes have no verdict
+abbrev pub IsUnaudited : List ℕ → TextRefusal → Type 0
+IsUnaudited bytes texts.NoMemory = Unit {0}
+IsUnaudited bytes (texts.BadLine line) = read_text bytes ≡ Err line
+
+-- at Done the verdict agrees, and at Disagrees it doesn't
+abbrev pub Judges : Status → Option (List ℕ) → Option (List ℕ) → Type 0
+Judges Done before after = GaveVerdict before after true
+Judges Disagrees before after = GaveVerdict before after false
+Judges _ before after = Unit {0}
+
+abbrev pub IfAudit : Option Form → Type 0 → Type 0
+IfAudit (Some form.Audit) claim = claim
+IfAudit _ claim = Unit {0}
+
 -- a text is what words of a form ask for that waits for nobody
 abbrev pub IsAnswerAlone : Option Form → Option (List ℕ) → Option (List ℕ) → List ℕ → Type 0
 IsAnswerAlone (Some form.Play) before after text = IsPlayed before after text
+IsAnswerAlone (Some form.Audit) before after text = IsAudited before after text
 IsAnswerAlone other before after text = IsSummary other text
 
 -- the forms that read
 abbrev pub Reads : Option Form → Type 0
 Reads (Some form.Play) = Unit {0}
 Reads (Some form.Race) = Unit {0}
+Reads (Some form.Audit) = Unit {0}
 Reads _ = ⊥
 
 -- the key of the script that is read
@@ -116,7 +154,14 @@ EndsGen _ = ⊥
 abbrev pub Writes : Status → Type 0
 Writes Done = Unit {0}
 Writes WriteFault = Unit {0}
+Writes Disagrees = Unit {0}
 Writes _ = ⊥
+
+-- the statuses that come of an audit alone
+abbrev pub IsOfAudit : Status → Type 0
+IsOfAudit (BadText line) = Unit {0}
+IsOfAudit Disagrees = Unit {0}
+IsOfAudit _ = ⊥
 
 -- the numbers of the statuses
 abbrev pub number_of : Status → ℕ
@@ -128,10 +173,13 @@ number_of ReadFault = 4
 number_of WriteFault = 5
 number_of NoMemory = 6
 number_of Spent = 7
+number_of (BadText line) = 8
+number_of Disagrees = 9
 
--- what holds where all was done
+-- what holds where all was done and written
 abbrev pub OnDone : Status → Type 0 → Type 0
 OnDone Done claim = claim
+OnDone Disagrees claim = claim
 OnDone _ claim = Unit {0}
 
 -- what holds where a write failed
@@ -143,6 +191,11 @@ OnWriteFault _ claim = Unit {0}
 abbrev pub IfBadScript : Status → (ScriptRefusal → Type 0) → Type 0
 IfBadScript (BadScript cause) claim = claim cause
 IfBadScript _ claim = Unit {0}
+
+-- what holds of the first bad line where the input is no text
+abbrev pub IfBadText : Status → (ℕ → Type 0) → Type 0
+IfBadText (BadText line) claim = claim line
+IfBadText _ claim = Unit {0}
 
 -- a beginning of the text was appended
 abbrev pub WrotePart : Option (List ℕ) → Option (List ℕ) → List ℕ → Type 0
@@ -207,4 +260,5 @@ IsRacedText before after text = (bytes : List ℕ) × ReadToEnd before after byt
 abbrev pub IsAnswer : Option Form → Option (List ℕ) → Option (List ℕ) → List ℕ → Type 0
 IsAnswer (Some form.Play) before after text = IsPlayed before after text
 IsAnswer (Some form.Race) before after text = IsRacedText before after text
+IsAnswer (Some form.Audit) before after text = IsAudited before after text
 IsAnswer other before after text = IsSummary other text

@@ -3,17 +3,22 @@ use Rattle.std.specs.Prelude.{ℕ, List, [], ◌++◌, codes, decimal}
 use Rattle.am_script.specs.declared.refusal.ScriptRefusal.{ScriptRefusal}
 use Rattle.am_script.specs.Refusals.{number_of, place_of}
 use Rattle.am_sim.specs.declared.status.Status.{Status}
-use Rattle.am_sim.specs.declared.status.Status.TheVariants.{Done, Usage, BadScript, TooLong, ReadFault, WriteFault, NoMemory, Spent}
+use Rattle.am_sim.specs.declared.status.Status.TheVariants.{Done, Usage, BadScript, TooLong, ReadFault, WriteFault, NoMemory, Spent, BadText, Disagrees}
 
 abbrev pub bad_script_line : ScriptRefusal → List ℕ
 bad_script_line cause = codes "bad script " ++ decimal (number_of cause) ++ codes " at " ++ decimal (place_of cause)
 
+abbrev pub bad_text_line : ℕ → List ℕ
+bad_text_line line = codes "bad text at " ++ decimal line
+
 abbrev pub line_of : Status → List ℕ
 line_of Done = []
-line_of Usage = codes "usage: play | race | gen --seed N --count N"
+line_of Usage = codes "usage: play | race | gen --seed N --count N | audit"
 line_of (BadScript cause) = bad_script_line cause
 line_of TooLong = codes "too long"
 line_of ReadFault = codes "read fault"
 line_of WriteFault = codes "write fault"
 line_of NoMemory = codes "no memory"
 line_of Spent = codes "spent"
+line_of (BadText line) = bad_text_line line
+line_of Disagrees = []

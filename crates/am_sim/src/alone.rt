@@ -5,8 +5,10 @@ ghost use Rattle.am_script.specs.declared.key.Key.TheVariants as key;
 ghost use Rattle.am_script.specs.Scripts.{IsOfKind, reading};
 ghost use Rattle.am_words.specs.declared.form.Form.TheVariants as form;
 ghost use Rattle.am_words.specs.Forms.{IsGen};
-ghost use Rattle.am_sim.specs.Simulation.{form_of_words, most_input, Reads, key_for, EndsGen, IsAnswerAlone, IsPlayed, IsSummary, OnDone, OnWriteFault, IfBadScript, Writes, Played, WrotePart, IsSpent, IsText, IsUnrun, IsUnplayed, unplayed_for, reads_after, writes_after};
+ghost use Rattle.am_audit.specs.Lines.{read_text};
+ghost use Rattle.am_sim.specs.Simulation.{form_of_words, most_input, Reads, key_for, EndsGen, IsAnswerAlone, IsPlayed, IsSummary, OnDone, OnWriteFault, IfBadScript, Writes, IfBadText, IfAudit, Judges, IsOfAudit, Played, WrotePart, IsSpent, IsText, IsUnrun, IsUnplayed, unplayed_for, reads_after, writes_after};
 
+use crate::auditing::audit_text;
 use crate::generating::summary_of_run;
 use crate::playing::text_of_run;
 use crate::status::Status;
@@ -61,10 +63,16 @@ pub fn simulate_alone<S: Source, K: Sink>(
         × IsAnswerAlone (form_of_words words.now) (S.left source.old) (S.left source.new) text
         × Appends (K.contents sink.old) (K.contents sink.new) text)) }
     ensures unwritten { IfSome result (λ status. (Writes status → ⊥) → sink.new ≡ sink.old) }
+    ensures bad_text { IfSome result (λ status. IfBadText status (λ line. (bytes : List ℕ)
+        × ReadToEnd (S.left source.old) (S.left source.new) bytes × (read_text bytes ≡ Err line))) }
+    ensures judges { IfSome result (λ status. IfAudit (form_of_words words.now)
+        (Judges status (S.left source.old) (S.left source.new))) }
+    ensures audits { IfSome result (λ status. IsOfAudit status → form_of_words words.now ≡ Some form.Audit) }
 {
     match form_of(words) {
         Some(Form::Play) => Some(play(alloc, source, sink)),
         Some(Form::Gen(_)) => Some(generate_run(alloc, words, sink)),
+        Some(Form::Audit) => Some(audit_text(alloc, source, sink)),
         Some(Form::Race) => None,
         None => Some(Status::Usage),
     }
@@ -103,6 +111,7 @@ fn summary_of(alloc: Global, words: &[&str]) -> Result<String, NoMemory>
 #[tactic(auto, using(crate::proofs::Answered::gave_whole))]
 fn play<S: Source, K: Sink>(alloc: Global, source: &mut S, sink: &mut K) -> Status
     ensures not_usage { result ≢ Status.Usage }
+    ensures not_of_audit { IsOfAudit result → ⊥ }
     ensures reads { S.count source.new ≡ reads_after result (S.count source.old) }
     ensures writes { K.count sink.new ≡ writes_after result (K.count sink.old) }
     ensures too_long { result ≡ Status.TooLong

@@ -1,8 +1,9 @@
 //! The program: runs a script and prints what comes of it, lets the threads of a race make their calls and prints what they
-//! did, or makes a run from two numbers and prints its summary.
+//! did, makes a run from two numbers and prints its summary, or audits a text and prints the verdict.
 #![tactic(auto)]
 
 pub mod alone;
+mod auditing;
 mod generating;
 mod playing;
 mod racing;
@@ -46,7 +47,7 @@ fn answer<R: Threads + Wait + Sync>(
     simulate(rt, alloc, &NoGate, words.as_slice(), &mut source, &mut sink)
 }
 
-/// Tells of a status, but of Done, whose line is empty.
+/// Tells of a status, but of Done and Disagrees, whose lines are empty.
 fn tell(rt: &impl Eprint, status: Status) -> io::Result<()> {
     let line = line_of(status);
     if line.is_empty() {

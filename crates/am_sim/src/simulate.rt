@@ -7,7 +7,8 @@ ghost use Rattle.am_script.specs.Limits.{RaceWithin};
 ghost use Rattle.am_script.specs.Scripts.{reading};
 ghost use Rattle.am_words.specs.declared.form.Form.TheVariants as form;
 ghost use Rattle.am_words.specs.Forms.{IsGen};
-ghost use Rattle.am_sim.specs.Simulation.{form_of_words, most_input, Reads, key_for, EndsGen, IsAnswer, IsRacedText, OnDone, OnWriteFault, IfBadScript, Writes, Raced, WrotePart, IsSpent, reads_after, writes_after};
+ghost use Rattle.am_audit.specs.Lines.{read_text};
+ghost use Rattle.am_sim.specs.Simulation.{form_of_words, most_input, Reads, key_for, EndsGen, IsAnswer, IsRacedText, OnDone, OnWriteFault, IfBadScript, Writes, IfBadText, IfAudit, Judges, IsOfAudit, Raced, WrotePart, IsSpent, reads_after, writes_after};
 
 use crate::alone::{INPUT_MOST, simulate_alone};
 use crate::racing::text_of_race;
@@ -60,6 +61,11 @@ pub fn simulate<R: Threads + Wait + Sync, S: Source, K: Sink, G: Gate + Sync>(
         × IsAnswer (form_of_words words.now) (S.left source.old) (S.left source.new) text
         × Appends (K.contents sink.old) (K.contents sink.new) text) }
     ensures unwritten { (Writes result → ⊥) → sink.new ≡ sink.old }
+    ensures bad_text { IfBadText result (λ line. (bytes : List ℕ)
+        × ReadToEnd (S.left source.old) (S.left source.new) bytes × (read_text bytes ≡ Err line)) }
+    ensures judges { IfAudit (form_of_words words.now)
+        (Judges result (S.left source.old) (S.left source.new)) }
+    ensures audits { IsOfAudit result → form_of_words words.now ≡ Some form.Audit }
 {
     if is_race(words) {
         return race_script(rt, alloc, gate, source, sink);
@@ -78,6 +84,7 @@ fn is_race(words: &[&str]) -> bool
         Some(Form::Race) => true,
         Some(Form::Play) => false,
         Some(Form::Gen(_)) => false,
+        Some(Form::Audit) => false,
         None => false,
     }
 }
@@ -93,6 +100,7 @@ fn race_script<R: Threads + Wait + Sync, S: Source, K: Sink, G: Gate + Sync>(
 ) -> Status
     ensures not_usage { result ≢ Status.Usage }
     ensures not_spent { result ≢ Status.Spent }
+    ensures not_of_audit { IsOfAudit result → ⊥ }
     ensures reads { S.count source.new ≡ reads_after result (S.count source.old) }
     ensures writes { K.count sink.new ≡ writes_after result (K.count sink.old) }
     ensures too_long { result ≡ Status.TooLong

@@ -19,13 +19,17 @@ pub enum Status {
     NoMemory,
     /// A run would have more than 100,000 events.
     Spent,
+    /// The input isn't a text: this is its first bad line.
+    BadText { line: u32 },
+    /// The text's verdict is none that agrees, and was written.
+    Disagrees,
 }
 
 impl Status {
     ghost use Rattle.std.specs.Prelude.{◌≡◌};
     ghost use Rattle.am_sim.specs.Simulation.{number_of};
 
-    /// Its number, which a process ends with: 0 to 7.
+    /// Its number, which a process ends with: 0 to 9.
     pub fn number(self) -> u8
         ensures { result ≡ number_of self }
     {
@@ -38,6 +42,8 @@ impl Status {
             Status::WriteFault => 5,
             Status::NoMemory => 6,
             Status::Spent => 7,
+            Status::BadText { .. } => 8,
+            Status::Disagrees => 9,
         }
     }
 }

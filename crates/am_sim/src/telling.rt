@@ -1,6 +1,6 @@
 ghost use Rattle.std.specs.Prelude.{◌≡◌, ◌≤◌, ◌++◌, codes, decimal, length};
 ghost use Rattle.am_script.specs.Refusals as refusals;
-ghost use Rattle.am_sim.specs.Telling.{line_of, bad_script_line};
+ghost use Rattle.am_sim.specs.Telling.{line_of, bad_script_line, bad_text_line};
 
 use crate::status::Status;
 use am_script::refusal::ScriptRefusal;
@@ -8,11 +8,11 @@ use arrayvec::ArrayString;
 use itoa::Buffer;
 
 /// A line that tells of a status.
-pub type Line = ArrayString<64>;
+pub type Line = ArrayString<128>;
 
 /// Some words as a line.
 fn line(words: &str) -> Line
-    requires { length words.now ≤ 64 }
+    requires { length words.now ≤ 128 }
     ensures { result.bytes ≡ words.now }
 {
     let mut line = ArrayString::new();
@@ -32,19 +32,31 @@ fn bad_script_line(cause: ScriptRefusal) -> Line
     line
 }
 
-/// The line that tells of a status on standard error, without its end; empty for Done, of which nothing is told. It takes no
+/// The line for an input that is no text.
+fn bad_text_line(number: u32) -> Line
+    ensures { result.bytes ≡ bad_text_line number }
+{
+    let mut digits = Buffer::new();
+    let mut line = line("bad text at ");
+    line.push_str(digits.format(number));
+    line
+}
+
+/// The line that tells of a status on standard error, without its end; empty for Done and Disagrees, of which nothing is told. It takes no
 /// memory (docs/PROTOCOL.md, "Statuses").
 pub fn line_of(status: Status) -> Line
     ensures { result.bytes ≡ line_of status }
 {
     match status {
         Status::Done => ArrayString::new(),
-        Status::Usage => line("usage: play | race | gen --seed N --count N"),
+        Status::Usage => line("usage: play | race | gen --seed N --count N | audit"),
         Status::BadScript(cause) => bad_script_line(cause),
         Status::TooLong => line("too long"),
         Status::ReadFault => line("read fault"),
         Status::WriteFault => line("write fault"),
         Status::NoMemory => line("no memory"),
         Status::Spent => line("spent"),
+        Status::BadText { line } => bad_text_line(line),
+        Status::Disagrees => ArrayString::new(),
     }
 }

@@ -41,16 +41,18 @@ no_form (a ∷ b ∷ c ∷ x ∷ y ∷ z ∷ ws) one five = refl
 pub word_form : (words : List (Bor (List ℕ))) (d : Bor (List ℕ)) → length words ≡ 1 → other_form ((slice_index_or words 0 d).now ∷ []) ≡ other_form (texts words)
 word_form words d one = ap other_form (sym (one_word words d one))
 
-one_is_not_gen : (play race : Bool) → IsGen (if play then Some form.Play else (if race then Some form.Race else None)) → ⊥
-one_is_not_gen true race is = is
-one_is_not_gen false true is = is
-one_is_not_gen false false is = is
+one_is_not_gen : (play race audit : Bool)
+    → IsGen (if play then Some form.Play else (if race then Some form.Race else (if audit then Some form.Audit else None))) → ⊥
+one_is_not_gen true race audit is = is
+one_is_not_gen false true audit is = is
+one_is_not_gen false false true is = is
+one_is_not_gen false false false is = is
 
 -- words that are gen have numbers
 other_gen : (words : List (List ℕ)) → IsGen (other_form words) → gen_of words ≢ None
 unfolding other_form
 other_gen [] is none = is
-other_gen (a ∷ []) is none = one_is_not_gen (same a (codes "play")) (same a (codes "race")) is
+other_gen (a ∷ []) is none = one_is_not_gen (same a (codes "play")) (same a (codes "race")) (same a (codes "audit")) is
 other_gen (a ∷ b ∷ ws) is none = subst (λ n. IsGen (option_map form.Gen n)) none is
 
 node_is_not_gen : (node : Option NodeWords) → IsGen (option_map form.Node node) → ⊥

@@ -56,9 +56,10 @@ gen_of words = numbers_in (texts_of words)
 
 -- the form of one word
 abbrev pub one_form : List ℕ → Option Form
-one_form word = if same word (codes "play") then Some form.Play else (if same word (codes "race") then Some form.Race else None)
+one_form word = if same word (codes "play") then Some form.Play else (if same word (codes "race") then Some form.Race
+    else (if same word (codes "audit") then Some form.Audit else None))
 
--- the one word play, the one word race, or gen with its options
+-- one of the words play, race and audit, or gen with its options
 unfoldable pub other_form : List (List ℕ) → Option Form
 other_form (word ∷ []) = one_form word
 other_form words = option_map form.Gen (gen_of words)
@@ -78,4 +79,5 @@ IsGen (Some (form.Gen numbers)) = Unit {0}
 IsGen (Some form.Play) = ⊥
 IsGen (Some form.Race) = ⊥
 IsGen (Some (form.Node node)) = ⊥
+IsGen (Some form.Audit) = ⊥
 IsGen None = ⊥

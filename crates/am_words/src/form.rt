@@ -25,6 +25,8 @@ pub enum Form {
     Gen(Numbers),
     /// To be a node that speaks lines.
     Node(NodeWords),
+    /// To audit a text.
+    Audit,
 }
 
 /// Whether all bytes are decimal digits.
@@ -93,6 +95,9 @@ fn form_of_one(word: &str) -> Option<Form>
     if word == "race" {
         return Some(Form::Race);
     }
+    if word == "audit" {
+        return Some(Form::Audit);
+    }
     None
 }
 
@@ -116,8 +121,8 @@ fn is_node(words: &[&str]) -> bool
     !words.is_empty() && words[0] == "node"
 }
 
-/// The form of the words after the program's name: the one word `play`, the one word `race`, `gen` with the options
-/// `--seed N` and `--count N`, each once, in either order, or `node` with its options. None where they have no form.
+/// The form of the words after the program's name: one of the words `play`, `race` and `audit`, `gen` with the
+/// options `--seed N` and `--count N`, each once, in either order, or `node` with its options. None where they have no form.
 #[tactic(auto, unfolding(crate::specs::Forms::form_of))]
 pub fn form_of(words: &[&str]) -> Option<Form>
     ensures { result ≡ form_of (map (λ word. word.now) words.now) }

@@ -27,7 +27,9 @@ const GEN: [([&str; 5], u64, u32); 4] = [
 ];
 
 /// Words that have no form.
-const OTHER: [&[&str]; 16] = [
+const OTHER: [&[&str]; 18] = [
+    &["Audit"],
+    &["audit", "x"],
     &[],
     &["gen"],
     &["Race"],
@@ -138,6 +140,7 @@ fn node_has_its_options(rt: HostRuntime) {
 fn other_words_have_no_form(rt: HostRuntime) {
     assert_eq!(rt; form_of(&["play"]), Some(Form::Play));
     assert_eq!(rt; form_of(&["race"]), Some(Form::Race));
+    assert_eq!(rt; form_of(&["audit"]), Some(Form::Audit));
     for words in OTHER {
         assert_eq!(rt; form_of(words), None);
     }

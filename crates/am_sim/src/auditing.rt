@@ -1,0 +1,75 @@
+ghost use Rattle.std.specs.Prelude.{◌≡◌, ◌≢◌, ◌≤◌, length, List, ℕ, IfOk, IfErr, Err, string_bytes};
+ghost use Rattle.std.specs.Io.KnownBytes.{Appends};
+ghost use Rattle.am_io.specs.Outside.{ReadToEnd, GaveMore, GaveAtMost};
+ghost use Rattle.am_audit.specs.Lines.{read_text};
+ghost use Rattle.am_sim.specs.Simulation.{most_input, IsAudited, Audited, HasVerdict, Judges, OnDone, OnWriteFault, IfBadScript, IfBadText, Writes, WrotePart, IsUnaudited, reads_after, writes_after};
+
+use crate::alone::INPUT_MOST;
+use crate::status::Status;
+use am_audit::audit::audit;
+use am_audit::fault::TextRefusal;
+use am_audit::telling::push_audit;
+use am_io::outside::{Sink, Source};
+use am_io::whole::{ReadRefusal, read_all, write_all};
+use std::alloc::Global;
+
+/// The line of the verdict on a text, and whether that agrees.
+fn verdict_line(alloc: Global, bytes: &[u8]) -> Result<(String, bool), TextRefusal>
+    requires { length bytes.now ≤ most_input }
+    ensures audited { IfOk result (λ x. Audited bytes.now (string_bytes x.0)) }
+    ensures verdict { IfOk result (λ x. HasVerdict x.1 bytes.now) }
+    ensures refused { IfErr result (λ e. IsUnaudited bytes.now e) }
+{
+    let found = audit(alloc, bytes)?;
+    let mut line = String::new(alloc);
+    match push_audit(&mut line, &found) {
+        Ok(()) => Ok((line, found.verdict.is_right())),
+        Err(_) => Err(TextRefusal::NoMemory),
+    }
+}
+
+/// Reads a text to its end, and writes the line of its verdict.
+#[tactic(auto, using(crate::proofs::Answered::gave_whole))]
+pub fn audit_text<S: Source, K: Sink>(alloc: Global, source: &mut S, sink: &mut K) -> Status
+    ensures not_usage { result ≢ Status.Usage }
+    ensures not_spent { result ≢ Status.Spent }
+    ensures reads { S.count source.new ≡ reads_after result (S.count source.old) }
+    ensures writes { K.count sink.new ≡ writes_after result (K.count sink.old) }
+    ensures too_long { result ≡ Status.TooLong
+        → GaveMore most_input (S.left source.old) (S.left source.new) }
+    ensures within { result ≢ Status.TooLong
+        → GaveAtMost most_input (S.left source.old) (S.left source.new) }
+    ensures no_script { IfBadScript result (λ cause. ⊥) }
+    ensures bad_text { IfBadText result (λ line. (bytes : List ℕ)
+        × ReadToEnd (S.left source.old) (S.left source.new) bytes × (read_text bytes ≡ Err line)) }
+    ensures judges { Judges result (S.left source.old) (S.left source.new) }
+    ensures part { OnWriteFault result ((text : List ℕ)
+        × IsAudited (S.left source.old) (S.left source.new) text
+        × WrotePart (K.contents sink.old) (K.contents sink.new) text) }
+    ensures done { OnDone result ((text : List ℕ)
+        × IsAudited (S.left source.old) (S.left source.new) text
+        × Appends (K.contents sink.old) (K.contents sink.new) text) }
+    ensures unwritten { (Writes result → ⊥) → sink.new ≡ sink.old }
+{
+    let bytes = match read_all(alloc, source, INPUT_MOST) {
+        Ok(bytes) => bytes,
+        Err(ReadRefusal::Fault) => return Status::ReadFault,
+        Err(ReadRefusal::TooLong) => return Status::TooLong,
+        Err(ReadRefusal::NoMemory) => return Status::NoMemory,
+    };
+    let (line, right) = match verdict_line(alloc, bytes.as_slice()) {
+        Ok(found) => found,
+        Err(TextRefusal::NoMemory) => return Status::NoMemory,
+        Err(TextRefusal::BadLine { line }) => return Status::BadText { line },
+    };
+    match write_all(sink, line.as_bytes()) {
+        Ok(()) => {
+            if right {
+                Status::Done
+            } else {
+                Status::Disagrees
+            }
+        }
+        Err(_) => Status::WriteFault,
+    }
+}
