@@ -209,6 +209,7 @@ impl Generator {
         requires { place < 4 }
         ensures act { IfOk result (λ a. a ≡ act_at self.old place turn) }
         ensures turned { self.new ≡ after_turn self.old place turn }
+        ensures play { self.new.play ≡ self.old.play }
     {
         match turn {
             Turn::Send => self.send(place),

@@ -1,4 +1,4 @@
-ghost use Rattle.std.specs.Prelude.{◌≡◌, ◌||◌, [], Some, None, IfOk, length, take, Ok, Err};
+ghost use Rattle.std.specs.Prelude.{◌≡◌, ◌||◌, ℕ, List, [], Some, None, IfOk, length, take, Ok, Err};
 ghost use Rattle.am_base.specs.declared.event.NodeEvent.TheVariants as does;
 ghost use Rattle.am_base.specs.Names.{life_of};
 ghost use Rattle.am_world.specs.Asked as asks;
@@ -67,8 +67,10 @@ pub fn heard_by(act: &Act) -> Option<Heard>
     }
 }
 
-/// The room of what was heard is there for what is heard next.
-pub fn keep_room(room: &mut Vec<u8>, what: NodeEvent) {
+/// The bytes that were heard are handed on, for the room that they take; else all stays. How much room that is, no clause says.
+pub fn keep_room(room: &mut Vec<u8>, what: NodeEvent)
+    ensures heard { (bytes : List ℕ) → what ≡ does.Hear bytes → room.new.items ≡ bytes }
+{
     if let NodeEvent::Hear(bytes) = what {
         *room = bytes.into_vec();
     }

@@ -3,6 +3,7 @@
 
 pub mod asked;
 pub mod nodes;
+pub mod records;
 pub mod run;
 mod watching;
 pub mod world;
