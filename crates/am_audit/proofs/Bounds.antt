@@ -1,5 +1,5 @@
 -- What is read is within its limits.
-use Rattle.std.proofs.Common.{◌≡◌, ℕ, ◌≤◌, ◌==◌, List, Option, Some, None, Result, Ok, Err, Bool, true, false, cond, not, ◌||◌, nat_le, length, drop, get_or, refl, sym, subst, ap, ◌∙◌, arith, ◌⊎◌, ⊎_elim, inl, inr}
+use Rattle.std.proofs.Common.{◌≡◌, ℕ, ◌≤◌, ◌==◌, List, Option, Some, None, Result, Ok, Err, Bool, true, false, cond, not, ◌||◌, nat_le, length, drop, refl, sym, subst, ap, arith, ◌⊎◌, ⊎_elim, inl, inr}
 use Rattle.std.specs.Prelude.{codes, slice_index}
 use Rattle.std.specs.Str.Parse.{digits_value}
 use Rattle.std.proofs.lemmas.Bool.{leb-true}
@@ -82,7 +82,7 @@ view_within text outline h =
     subst (λ (o : Outline). IsEntry (bare_entry o)) is
     (stamp_within first.0.0 stamp.0 stamp.1, resilience_in_within (cut_of 32 first.0.1).1 resilience.0 resilience.1)
 
-parts_within : (text : List ℕ) (parts : ℕ × ℕ × List ℕ) → data_parts text ≡ Ok parts → parts.1 ≤ most_number
+pub parts_within : (text : List ℕ) (parts : ℕ × ℕ × List ℕ) → data_parts text ≡ Ok parts → parts.1 ≤ most_number
 unfolding data_parts
 parts_within text parts h =
     let first = bound (two_of text) _ parts h in

@@ -1,5 +1,5 @@
 -- What is kept of log lines, with one line more.
-use Rattle.std.proofs.Common.{◌≡◌, ℕ, ◌+◌, ◌<◌, ◌==◌, List, [], ◌∷◌, length, get_or, set, Option, Some, None, slice_get, Bool, true, false, cond, refl, sym, ap, ◌∙◌, subst, arith}
+use Rattle.std.proofs.Common.{◌≡◌, ℕ, ◌<◌, ◌==◌, List, [], ◌∷◌, length, get_or, set, Option, Some, None, slice_get, Bool, true, false, cond, sym, ap, ◌∙◌, subst, arith}
 use Rattle.std.specs.Ordering.{nat_cmp}
 use Rattle.std.specs.BTreeMap.{BTreeMap, get}
 use Rattle.std.proofs.lemmas.Option.{slice_get-get_or}
@@ -7,7 +7,8 @@ use Rattle.am_audit.specs.declared.verdict.Verdict.{Verdict}
 use Rattle.am_audit.specs.Fields.{data_in}
 use Rattle.am_audit.specs.Lines.{Line}
 use Rattle.am_audit.specs.Verdicts.{or_else, last_of, first_with, gap_at, differs_at, twice_at, fault_at}
-use Rattle.am_audit.specs.Keeping.{IsFirst, IsSent, IsKept}
+use Rattle.am_audit.specs.Keeping.{IsFirst, IsSent, IsKept, twice_by_key}
+use Rattle.am_audit.proofs.Keys.{twice_is}
 use Rattle.am_audit.proofs.Passing.{set_one}
 
 first_new : (logs : List Line) (found : Option Line) (line : Line) (at : ℕ) (b : Bool) → slice_get logs at ≡ Some line → at < length logs → found ≡ None
@@ -61,14 +62,14 @@ faulted_item : (logs : List Line) (last : List (Option ℕ)) (first after sent l
     → gap_at (get_or last item.name None) item ≡ None → ((found : Option Line) → IsFirst logs known found → None ≡ differs_at found item)
     → known ≡ get nat_cmp first item.number
     → ((q : ℕ) → get nat_cmp after q ≡ or_else (get nat_cmp first q) (cond (item.number == q) (Some at) None))
-    → (IsSent sent before → (verdict ≡ twice_at before (data_in item.text) item.number) × IsSent later (item ∷ before))
+    → (IsSent sent before → (verdict ≡ twice_by_key before (data_in item.text) item.number) × IsSent later (item ∷ before))
     → IsKept logs last first sent before
     → (verdict ≡ fault_at before item) × (verdict ≡ None → IsKept logs (set last item.name (Some item.number)) after later (item ∷ before))
 faulted_item logs last first after sent later known at item before verdict is within size named gap differs looked added twice kept =
     let no_gap : gap_at (last_of item.name before) item ≡ None = ap (λ o. gap_at o item) (sym (kept.numbers item.name named)) ∙ gap in
     let no_other : differs_at (first_with item.number before) item ≡ None
     = sym (differs (first_with item.number before) (subst (λ o. IsFirst logs o (first_with item.number before)) (sym looked) (kept.lines item.number))) in (
-      fault_by_send before item verdict no_gap no_other (twice kept.sends).0,
+      fault_by_send before item verdict no_gap no_other ((twice kept.sends).0 ∙ twice_is before item.text item.number),
       λ none. kept_more logs last first after sent later item before at is within size named added (twice kept.sends).1 kept,
     )
 
@@ -79,7 +80,7 @@ pub faulted : (logs : List Line) (last : List (Option ℕ)) (first after sent la
     → gap_at (get_or last n None) item ≡ None → ((found : Option Line) → IsFirst logs known found → None ≡ differs_at found item)
     → known ≡ get nat_cmp first item.number
     → ((q : ℕ) → get nat_cmp after q ≡ or_else (get nat_cmp first q) (cond (item.number == q) (Some at) None))
-    → (IsSent sent before → (verdict ≡ twice_at before (data_in item.text) item.number) × IsSent later (item ∷ before))
+    → (IsSent sent before → (verdict ≡ twice_by_key before (data_in item.text) item.number) × IsSent later (item ∷ before))
     → IsKept logs last first sent before
     → (verdict ≡ fault_at before line) × (verdict ≡ None → IsKept logs (set last m (Some item.number)) after later (line ∷ before))
 faulted logs last first after sent later known at n m item line before verdict is same within size named en em gap differs looked added twice kept =

@@ -1,7 +1,11 @@
 pub mod Bounds
+pub mod Deeds
 pub mod Entries
 pub mod Faulting
+pub mod Keys
 pub mod Marks
+pub mod Meaning
 pub mod Passing
 pub mod Segments
 pub mod Texts
+pub mod Wrongs

@@ -1,5 +1,5 @@
 -- Where a text is cut at a mark.
-use Rattle.std.proofs.Common.{◌≡◌, ℕ, zero, suc, ◌+◌, ◌<◌, List, [], ◌∷◌, length, take, drop, Option, Some, None, true, false, cond, refl, ap, ◌∙◌, arith}
+use Rattle.std.proofs.Common.{◌≡◌, ℕ, zero, suc, ◌<◌, List, [], ◌∷◌, length, take, drop, Some, None, true, false, cond, refl, ap, ◌∙◌, arith}
 use Rattle.am_fields.specs.Fields.{onto_cut}
 use Rattle.am_audit.specs.Lines.{begins_mark, mark_cut}
 

@@ -1,13 +1,12 @@
 -- Logs without a fault are pieces of the list.
-use Rattle.std.proofs.Common.{◌≡◌, ℕ, zero, suc, ◌+◌, ◌<◌, ◌≤◌, ◌==◌, ◌&&◌, nat_lt, List, [], ◌∷◌, length, filter, Option, Some, None, slice_get, Bool, true, false, cond, get_or, set, length-set, refl, sym, subst, ap, ◌∙◌, arith}
-use Rattle.std.proofs.Common.{◌⊎◌, ⊎_elim}
+use Rattle.std.proofs.Common.{◌≡◌, ℕ, zero, suc, ◌+◌, ◌<◌, ◌≤◌, ◌==◌, ◌&&◌, nat_lt, List, [], ◌∷◌, length, Option, Some, None, slice_get, Bool, true, false, cond, get_or, set, length-set, refl, sym, subst, ap, ◌∙◌, arith}
+use Rattle.std.proofs.Common.{⊎_elim}
 use Rattle.std.proofs.lemmas.Bool.{cases_eq, eq-eqb, eqb-true, lt-ltb, le-ltb}
 use Rattle.std.proofs.lemmas.Bool.Decides.{nat_tests}
-use Rattle.std.proofs.lemmas.Option.{slice_get_past, slice_get_within}
+use Rattle.std.proofs.lemmas.Option.{slice_get_within}
 use Rattle.std.proofs.lemmas.Slice.Eq.{bytes_eq-Decides}
 use Rattle.am_group.specs.Journals.{item_at}
 use Rattle.am_fields.specs.Fields.{same}
-use Rattle.am_audit.specs.declared.verdict.Verdict.{Verdict}
 use Rattle.am_audit.specs.declared.verdict.Verdict.TheVariants as verdicts
 use Rattle.am_audit.specs.Lines.{Line, Reading}
 use Rattle.am_audit.specs.Verdicts.{or_else, wrong_lists, last_of, gap_at, fault_at, first_fault, is_text, astray_at, first_astray, lines_of, count_of, is_line}
@@ -130,12 +129,12 @@ log_in_list group name (line ∷ logs) all = in_by group (line.name == name) lin
 
 -- ---- what comes next of a log
 
-number_at : (start k : ℕ) (lines : List Line) (line : Line) → IsRun start lines → slice_get lines k ≡ Some line → line.number ≡ start + k
+pub number_at : (start k : ℕ) (lines : List Line) (line : Line) → IsRun start lines → slice_get lines k ≡ Some line → line.number ≡ start + k
 number_at start k [] line run is = cc
 number_at start zero (first ∷ lines) line run is = let same : first ≡ line = cc in ap (λ (x : Line). x.number) (sym same) ∙ run.0 ∙ omega arith
 number_at start (suc k) (first ∷ lines) line run is = number_at (start + 1) k lines line run.1 is ∙ omega arith
 
-there_at : (group : List (List ℕ)) (k : ℕ) (lines : List Line) (line : Line) → AllIn group lines → slice_get lines k ≡ Some line
+pub there_at : (group : List (List ℕ)) (k : ℕ) (lines : List Line) (line : Line) → AllIn group lines → slice_get lines k ≡ Some line
     → is_text (item_at group line.number) line.text ≡ true
 there_at group k [] line all is = cc
 there_at group zero (first ∷ lines) line all is = let same : first ≡ line = cc in subst (λ (x : Line). is_text (item_at group x.number) x.text ≡ true) same all.0

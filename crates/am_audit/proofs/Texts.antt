@@ -1,5 +1,5 @@
 -- A text line by line.
-use Rattle.std.proofs.Common.{◌≡◌, ℕ, ◌+◌, List, [], ◌∷◌, Option, Some, None, Result, Ok, Err, IsErr, Bool, true, false, cond, ◌==◌, refl, sym, ap, ◌∙◌, subst}
+use Rattle.std.proofs.Common.{◌≡◌, ℕ, ◌+◌, List, [], ◌∷◌, Option, Some, None, Result, Ok, Err, IsErr, Bool, true, false, cond, ◌==◌, refl, sym, ap, ◌∙◌}
 use Rattle.am_fields.specs.declared.fault.FieldFault.{FieldFault}
 use Rattle.am_fields.specs.Fields.{cut_of, onto_cut, parts_of}
 use Rattle.am_fields.proofs.Cuts.{rest_parts, parts_begin}

@@ -1,8 +1,7 @@
 -- What the words of a text's lines tell: entries, and events that count.
-use Rattle.std.specs.Prelude.{ℕ, ◌*◌, ◌+◌, List, length, drop, slice_index, Option, Some, None, Result, Ok, Err, Bool, false, ◌≡◌, not, ◌||◌, ◌==◌, if◌then◌else◌, codes}
+use Rattle.std.specs.Prelude.{ℕ, List, length, drop, slice_index, Option, Some, None, Result, Ok, Err, Bool, false, ◌≡◌, not, ◌||◌, ◌&&◌, ◌==◌, if◌then◌else◌, codes}
 use Rattle.am_base.specs.Most.{most_body}
 use Rattle.am_base.specs.Names.{name_at}
-use Rattle.am_base.specs.declared.name.Stamp.{Stamp}
 use Rattle.am_fields.specs.declared.fault.FieldFault.{FieldFault}
 use Rattle.am_fields.specs.declared.fault.FieldFault.TheVariants.{Form}
 use Rattle.am_fields.specs.Fields.{cut_of, same, and_then, number_up_to, number_of, name_of, stamp_of, names_of, bytes_of}
@@ -96,10 +95,7 @@ unfoldable pub return_of : List ℕ → List ℕ → Result (ℕ × ℕ) FieldFa
 return_of rest outcome = and_then (number_up_to 15 rest) (λ place. and_then (two_of outcome) (λ told. and_then (expect (codes "returned") told.0) (λ checked.
     and_then (number_up_to 16 told.1) (λ life. if life == 0 then Err Form else Ok (place, name_at place life)))))
 
--- a send's name and request as one number
-abbrev pub send_key : ℕ → ℕ → ℕ
-send_key from req = from * 4294967296 + req
-
-abbrev pub has_key : ℕ → Result (ℕ × ℕ × List ℕ) FieldFault → Bool
-has_key key (Ok parts) = send_key parts.0 parts.1 == key
-has_key key (Err fault) = false
+-- whether data is this send
+abbrev pub is_send : ℕ → ℕ → Result (ℕ × ℕ × List ℕ) FieldFault → Bool
+is_send from req (Ok parts) = (parts.0 == from) && (parts.1 == req)
+is_send from req (Err fault) = false

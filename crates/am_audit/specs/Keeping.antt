@@ -1,19 +1,45 @@
 -- What the code keeps of the lines that it went through, of which the last stands first.
-use Rattle.std.specs.Prelude.{◌≡◌, ℕ, ◌+◌, ◌<◌, ◌==◌, ◌&&◌, Bool, nat_lt, if◌then◌else◌, List, [], ◌∷◌, length, slice_index, slice_get, slice_index_or, Option, Some, None}
+use Rattle.std.specs.Prelude.{◌≡◌, ℕ, ◌+◌, ◌*◌, ◌<◌, ◌==◌, ◌&&◌, Bool, false, Result, Ok, Err, nat_lt, if◌then◌else◌, List, [], ◌∷◌, length, slice_index, slice_get, slice_index_or, Option, Some, None}
 use Rattle.std.specs.Ordering.{nat_cmp}
 use Rattle.std.specs.BTreeMap.{BTreeMap, get}
 use Rattle.am_group.specs.Journals.{item_at}
+use Rattle.am_fields.specs.declared.fault.FieldFault.{FieldFault}
+use Rattle.am_audit.specs.declared.verdict.Verdict.{Verdict}
+use Rattle.am_audit.specs.Fields.{data_in}
 use Rattle.am_audit.specs.Lines.{Line}
-use Rattle.am_audit.specs.Verdicts.{last_of, first_with, first_sent, count_of, is_text}
+use Rattle.am_audit.specs.Verdicts.{last_of, first_with, or_else, twice_by, once_more, count_of, is_text}
 
 -- an index is that of the line that was found
 abbrev pub IsFirst : List Line → Option ℕ → Option Line → Type 0
 IsFirst logs None found = found ≡ None
 IsFirst logs (Some at) found = (found ≡ slice_get logs at) × (at < length logs)
 
+-- ---- sends by one number
+
+-- a send's name and request as one number
+abbrev pub send_key : ℕ → ℕ → ℕ
+send_key from req = from * 4294967296 + req
+
+abbrev pub has_key : ℕ → Result (ℕ × ℕ × List ℕ) FieldFault → Bool
+has_key key (Ok parts) = send_key parts.0 parts.1 == key
+has_key key (Err fault) = false
+
+abbrev pub first_by_key : ℕ → List Line → Option ℕ
+first_by_key key [] = None
+first_by_key key (line ∷ before) = or_else (first_by_key key before) (if has_key key (data_in line.text) then Some line.number else None)
+
+abbrev pub twice_by_key : List Line → Result (ℕ × ℕ × List ℕ) FieldFault → ℕ → Option Verdict
+twice_by_key before (Err fault) number = None
+twice_by_key before (Ok sent) number = twice_by (first_by_key (send_key sent.0 sent.1) before) sent.0 sent.1 number
+
+abbrev pub stands_by_key : ℕ → ℕ → List (List ℕ) → Option (Option ℕ)
+stands_by_key number key [] = None
+stands_by_key number key (text ∷ texts) = if has_key key (data_in text) then Some (once_more number (stands_by_key (number + 1) key texts))
+    else stands_by_key (number + 1) key texts
+
 -- each send's first number
 abbrev pub IsSent : BTreeMap ℕ ℕ → List Line → Type 0
-IsSent sent before = (key : ℕ) → get nat_cmp sent key ≡ first_sent key before
+IsSent sent before = (key : ℕ) → get nat_cmp sent key ≡ first_by_key key before
 
 -- the last number of each name
 abbrev pub IsLast : List (Option ℕ) → List Line → Type 0

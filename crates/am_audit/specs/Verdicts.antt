@@ -1,5 +1,5 @@
 -- The verdicts on what a text was read as.
-use Rattle.std.specs.Prelude.{ℕ, ◌+◌, ◌==◌, ◌&&◌, Bool, true, false, List, [], ◌∷◌, ◌++◌, length, filter, slice_get, option_map, unwrap_or, Option, Some, None, Result, Ok, Err}
+use Rattle.std.specs.Prelude.{ℕ, ◌+◌, ◌==◌, ◌&&◌, Bool, true, false, List, [], ◌∷◌, ◌++◌, filter, slice_get, option_map, unwrap_or, Option, Some, None, Result, Ok, Err}
 use Rattle.std.specs.Prelude.{if◌then◌else◌, nat_le, nat_lt, codes, decimal}
 use Rattle.std.specs.List.{list_all}
 use Rattle.am_base.specs.Most.{most_number}
@@ -17,7 +17,7 @@ use Rattle.am_audit.specs.declared.outline.Outline.TheVariants as outlines
 use Rattle.am_audit.specs.declared.line.Answer.{Answer}
 use Rattle.am_audit.specs.declared.verdict.Verdict.{Verdict}
 use Rattle.am_audit.specs.declared.verdict.Verdict.TheVariants as verdicts
-use Rattle.am_audit.specs.Fields.{outline_of, data_in, has_key, send_key}
+use Rattle.am_audit.specs.Fields.{outline_of, data_in, is_send}
 use Rattle.am_audit.specs.Lines.{Line, Reading}
 
 -- the first of two, where there is one, and else the second
@@ -38,9 +38,9 @@ first_with number [] = None
 first_with number (line ∷ before) = or_else (first_with number before) (if line.number == number then Some line else None)
 
 -- the number of the first line that has a send
-abbrev pub first_sent : ℕ → List Line → Option ℕ
-first_sent key [] = None
-first_sent key (line ∷ before) = or_else (first_sent key before) (if has_key key (data_in line.text) then Some line.number else None)
+abbrev pub first_sent : ℕ → ℕ → List Line → Option ℕ
+first_sent from req [] = None
+first_sent from req (line ∷ before) = or_else (first_sent from req before) (if is_send from req (data_in line.text) then Some line.number else None)
 
 abbrev pub gap_at : Option ℕ → Line → Option Verdict
 gap_at None line = None
@@ -56,7 +56,7 @@ twice_by (Some first) from req number = if first == number then None else Some (
 
 abbrev pub twice_at : List Line → Result (ℕ × ℕ × List ℕ) FieldFault → ℕ → Option Verdict
 twice_at before (Err fault) number = None
-twice_at before (Ok sent) number = twice_by (first_sent (send_key sent.0 sent.1) before) sent.0 sent.1 number
+twice_at before (Ok sent) number = twice_by (first_sent sent.0 sent.1 before) sent.0 sent.1 number
 
 abbrev pub fault_at : List Line → Line → Option Verdict
 fault_at before line = or_else (gap_at (last_of line.name before) line)
@@ -85,9 +85,10 @@ once_more number None = Some number
 once_more number (Some before) = None
 
 -- where a send stands in entries, the first of which has this number: nowhere, at one number, or at several
-abbrev pub stands : ℕ → ℕ → List (List ℕ) → Option (Option ℕ)
-stands number key [] = None
-stands number key (text ∷ texts) = if has_key key (data_in text) then Some (once_more number (stands (number + 1) key texts)) else stands (number + 1) key texts
+abbrev pub stands : ℕ → ℕ → ℕ → List (List ℕ) → Option (Option ℕ)
+stands number from req [] = None
+stands number from req (text ∷ texts) = if is_send from req (data_in text) then Some (once_more number (stands (number + 1) from req texts))
+    else stands (number + 1) from req texts
 
 abbrev pub is_at : ℕ → Option (Option ℕ) → Bool
 is_at number (Some (Some found)) = found == number
@@ -95,7 +96,7 @@ is_at number (Some None) = false
 is_at number None = false
 
 abbrev pub lost_at : List (List ℕ) → Answer → Option Verdict
-lost_at group answer = if is_at answer.number (stands 1 (send_key answer.name answer.req) group) then None
+lost_at group answer = if is_at answer.number (stands 1 answer.name answer.req group) then None
     else Some (verdicts.Lost answer.name answer.req)
 
 abbrev pub first_lost : List (List ℕ) → List Answer → Option Verdict
@@ -159,9 +160,9 @@ first_skipped before [] = None
 first_skipped before (send ∷ sends) = or_else (skipped_at (last_of send.name before) send) (first_skipped (send ∷ before) sends)
 
 -- the index of the first send with this name and request, where the first of these has this index
-abbrev pub first_asked : ℕ → ℕ → List Line → Option ℕ
-first_asked at key [] = None
-first_asked at key (send ∷ sends) = if send_key send.name send.number == key then Some at else first_asked (at + 1) key sends
+abbrev pub first_asked : ℕ → ℕ → ℕ → List Line → Option ℕ
+first_asked at from req [] = None
+first_asked at from req (send ∷ sends) = if (send.name == from) && (send.number == req) then Some at else first_asked (at + 1) from req sends
 
 -- the body of the send at an index
 abbrev pub body_at : List Line → Option ℕ → Option (List ℕ)
@@ -170,7 +171,7 @@ body_at sends (Some at) = option_map (λ send. send.text) (slice_get sends at)
 
 abbrev pub unsent_at : List Line → Result (ℕ × ℕ × List ℕ) FieldFault → Option Verdict
 unsent_at sends (Err fault) = None
-unsent_at sends (Ok sent) = if is_text (body_at sends (first_asked 0 (send_key sent.0 sent.1) sends)) sent.2 then None
+unsent_at sends (Ok sent) = if is_text (body_at sends (first_asked 0 sent.0 sent.1 sends)) sent.2 then None
     else Some (verdicts.Unsent sent.0 sent.1)
 
 abbrev pub first_unsent : List Line → List (List ℕ) → Option Verdict

@@ -1,8 +1,8 @@
 ghost use Rattle.std.specs.Prelude.{◌≡◌, ℕ, List, [], ◌∷◌, ◌<◌, length, slice_get, IfOk, Option, None, Some};
 ghost use Rattle.am_audit.specs.Views.{line_of, lines_in};
 ghost use Rattle.am_audit.specs.Lines.{Line};
-ghost use Rattle.am_audit.specs.Verdicts.{or_else, gap_at, differs_at, twice_by, twice_at, fault_at, first_fault};
-ghost use Rattle.am_audit.specs.Keeping.{IsFirst, IsSent, IsKept};
+ghost use Rattle.am_audit.specs.Verdicts.{or_else, gap_at, differs_at, twice_by, fault_at, first_fault};
+ghost use Rattle.am_audit.specs.Keeping.{IsFirst, IsSent, IsKept, twice_by_key};
 ghost use Rattle.am_audit.specs.Fields.{data_in};
 
 use crate::fields::data_in;
@@ -62,7 +62,7 @@ fn twice_by(first: Option<u64>, from: Name, req: u32, number: u32) -> Option<Ver
 /// Whether a line has a send that stands at another number too. The send is kept.
 fn twice_at(sent: &mut BTreeMap<u64, u64>, line: &TextLine) -> Result<Option<Verdict>, NoMemory>
     ensures { IfOk result (λ found. (before : List Line) → IsSent sent.old before
-        → (found ≡ twice_at before (data_in line.now.text.now) line.now.number)
+        → (found ≡ twice_by_key before (data_in line.now.text.now) line.now.number)
         × IsSent sent.new (line_of line.now ∷ before)) }
 {
     match data_in(line.text) {

@@ -6,6 +6,7 @@ pub mod fault;
 pub mod faults;
 pub mod fields;
 pub mod fitting;
+pub mod laws;
 pub mod line;
 pub mod lists;
 pub mod maps;

@@ -2,7 +2,8 @@ ghost use Rattle.std.specs.Prelude.{◌≡◌, ℕ, [], ◌<◌, length, IfOk, O
 ghost use Rattle.std.specs.Ordering.{nat_cmp};
 ghost use Rattle.std.specs.BTreeMap.{get};
 ghost use Rattle.am_group.specs.Journals.{item_at};
-ghost use Rattle.am_audit.specs.Fields.{has_key, data_in, outline_of};
+ghost use Rattle.am_audit.specs.Fields.{data_in, outline_of};
+ghost use Rattle.am_audit.specs.Keeping.{has_key, stands_by_key};
 ghost use Rattle.am_audit.specs.Views.{line_of, lines_in, texts_in};
 ghost use Rattle.am_audit.specs.Verdicts.{is_text, first_astray, once_more, stands, is_at, first_lost, may_begin, early_at, first_early};
 
@@ -64,7 +65,7 @@ fn stand_at(map: &mut BTreeMap<u64, Option<u64>>, text: &[u8], number: u64) -> R
 
 /// Where each send stands.
 fn standing(alloc: Global, group: &[Piece]) -> Result<BTreeMap<u64, Option<u64>>, NoMemory>
-    ensures { IfOk result (λ map. (key : ℕ) → get nat_cmp map key ≡ stands 1 key (texts_in group.now)) }
+    ensures { IfOk result (λ map. (key : ℕ) → get nat_cmp map key ≡ stands_by_key 1 key (texts_in group.now)) }
 {
     let mut map = BTreeMap::new(alloc);
     let mut at = group.len();
@@ -85,6 +86,14 @@ fn is_at(map: &BTreeMap<u64, Option<u64>>, key: u64, number: u32) -> bool
     }
 }
 
+/// Whether an answer's send stands at its number alone.
+fn stands_there(map: &BTreeMap<u64, Option<u64>>, group: &[Piece], answer: &Answer) -> bool
+    requires { (key : ℕ) → get nat_cmp map.now key ≡ stands_by_key 1 key (texts_in group.now) }
+    ensures { result ≡ is_at answer.now.number (stands 1 answer.now.name answer.now.req (texts_in group.now)) }
+{
+    is_at(map, send_key(answer.name, answer.req), answer.number)
+}
+
 /// The first answer whose send doesn't stand at its number alone.
 pub fn first_lost(
     alloc: Global,
@@ -96,7 +105,7 @@ pub fn first_lost(
     let map = standing(alloc, group)?;
     for at in 0..answers.len() {
         let answer = &answers[at];
-        if !is_at(&map, send_key(answer.name, answer.req), answer.number) {
+        if !stands_there(&map, group, answer) {
             return Ok(Some(Verdict::Lost {
                 node: answer.name,
                 req: answer.req,

@@ -1,7 +1,7 @@
 ghost use Rattle.std.specs.Prelude.{◌≡◌, ℕ, ◌==◌, ◌+◌, ◌*◌, OnOk, IfOk, Some, None, if◌then◌else◌};
 ghost use Rattle.std.specs.Ordering.{nat_cmp};
 ghost use Rattle.std.specs.BTreeMap.{get};
-ghost use Rattle.am_audit.specs.Fields.{send_key};
+ghost use Rattle.am_audit.specs.Keeping.{send_key};
 ghost use Rattle.am_audit.specs.Verdicts.{or_else};
 
 use am_base::NoMemory;
@@ -28,4 +28,13 @@ pub fn first_at(map: &mut BTreeMap<u64, u64>, key: u64, value: u64) -> Result<Op
             Ok(None)
         }
     }
+}
+
+/// A key gets a value.
+pub fn put(map: &mut BTreeMap<u64, u64>, key: u64, value: u64) -> Result<(), NoMemory>
+    ensures { OnOk result ((q : ℕ) → get nat_cmp map.new q
+        ≡ (if key == q then Some value else get nat_cmp map.old q)) }
+{
+    map.insert(key, value)?;
+    Ok(())
 }

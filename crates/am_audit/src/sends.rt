@@ -1,13 +1,14 @@
-ghost use Rattle.std.specs.Prelude.{◌≡◌, ℕ, [], ◌<◌, length, IfOk, OnOk, Option, None, Some, ◌==◌, if◌then◌else◌};
+ghost use Rattle.std.specs.Prelude.{◌≡◌, ℕ, [], ◌<◌, length, IfOk, OnOk, Option, None, Some, ◌==◌, ◌&&◌, if◌then◌else◌};
 ghost use Rattle.std.specs.Ordering.{nat_cmp};
 ghost use Rattle.std.specs.BTreeMap.{get};
-ghost use Rattle.am_audit.specs.Fields.{data_in, send_key};
+ghost use Rattle.am_audit.specs.Fields.{data_in};
+ghost use Rattle.am_audit.specs.Keeping.{send_key};
 ghost use Rattle.am_audit.specs.Views.{line_of, lines_in, texts_in};
 ghost use Rattle.am_audit.specs.Verdicts.{skipped_at, first_skipped, first_asked, unsent_at, first_unsent};
 
 use crate::fields::data_in;
 use crate::line::{Piece, TextLine};
-use crate::maps::send_key;
+use crate::maps::{put, send_key};
 use crate::verdict::Verdict;
 use am_base::NoMemory;
 use am_base::name::Name;
@@ -49,17 +50,17 @@ pub fn first_skipped(sends: &[TextLine]) -> Option<Verdict>
 
 /// Keeps the index of a send, before all that were kept.
 fn ask_at(map: &mut BTreeMap<u64, u64>, send: &TextLine, at: u64) -> Result<(), NoMemory>
-    ensures { OnOk result ((key : ℕ) → get nat_cmp map.new key
-        ≡ (if send_key send.now.name send.now.number == key then Some at else get nat_cmp map.old key)) }
+    ensures { OnOk result ((from req : ℕ) → req < 4294967296 → get nat_cmp map.new (send_key from req)
+        ≡ (if (send.now.name == from) && (send.now.number == req) then Some at
+        else get nat_cmp map.old (send_key from req))) }
 {
-    map.insert(send_key(Name::of_byte(send.name), send.number), at)?;
-    Ok(())
+    put(map, send_key(Name::of_byte(send.name), send.number), at)
 }
 
 /// The index of the first send with each name and request.
 fn asking(alloc: Global, sends: &[TextLine]) -> Result<BTreeMap<u64, u64>, NoMemory>
-    ensures { IfOk result (λ map. (key : ℕ) → get nat_cmp map key
-        ≡ first_asked 0 key (lines_in sends.now)) }
+    ensures { IfOk result (λ map. (from req : ℕ) → req < 4294967296
+        → get nat_cmp map (send_key from req) ≡ first_asked 0 from req (lines_in sends.now)) }
 {
     let mut map = BTreeMap::new(alloc);
     let mut at = sends.len();
@@ -72,7 +73,8 @@ fn asking(alloc: Global, sends: &[TextLine]) -> Result<BTreeMap<u64, u64>, NoMem
 
 /// Whether nobody sent an entry, where it is data.
 fn unsent_at(map: &BTreeMap<u64, u64>, sends: &[TextLine], text: &[u8]) -> Option<Verdict>
-    requires { (key : ℕ) → get nat_cmp map.now key ≡ first_asked 0 key (lines_in sends.now) }
+    requires { (from req : ℕ) → req < 4294967296
+        → get nat_cmp map.now (send_key from req) ≡ first_asked 0 from req (lines_in sends.now) }
     ensures { result ≡ unsent_at (lines_in sends.now) (data_in text.now) }
 {
     let Ok((from, req, body)) = data_in(text) else {

@@ -1,11 +1,11 @@
-use Rattle.std.proofs.Common.{◌≡◌, ℕ, ◌<◌, ◌==◌, List, Some, None, slice_get, length, map, sym, subst, ap, ◌∙◌, cond, arith}
+use Rattle.std.proofs.Common.{ℕ, ◌==◌, Some, None, sym, ap, ◌∙◌, cond, arith}
 use Rattle.std.specs.Ordering.{nat_cmp}
 use Rattle.std.specs.BTreeMap.{get}
 use Rattle.std.proofs.lemmas.List.{length-map}
 use Rattle.am_audit.specs.Verdicts.{or_else}
 use Rattle.am_audit.specs.Views.{line_of, lines_in}
 use Rattle.am_audit.proofs.Passing.{if_ok, line_at}
-use Rattle.am_audit.proofs.Faulting.{faulted, faulted_gap}
+use Rattle.am_audit.proofs.Faulting.{faulted}
 use Rattle.am_audit.proofs.faults.fault_at.Goals as goal
 
 pub returns : goal.returns

@@ -1,10 +1,9 @@
-use Rattle.std.proofs.Common.{◌≡◌, ℕ, List, [], ◌∷◌, Option, Some, None, drop, sym, subst, ap, ◌∙◌, refl, arith}
+use Rattle.std.proofs.Common.{ℕ, [], ◌∷◌, Option, None, sym, subst, ap, ◌∙◌, refl}
 use Rattle.std.proofs.lemmas.List.{get_or-replicate}
-use Rattle.am_audit.specs.Lines.{Line}
-use Rattle.am_audit.specs.Verdicts.{fault_at, first_fault}
-use Rattle.am_audit.specs.Views.{line_of, lines_in}
+use Rattle.am_audit.specs.Verdicts.{first_fault}
+use Rattle.am_audit.specs.Views.{lines_in}
 use Rattle.am_audit.specs.Keeping.{IsFirst}
-use Rattle.am_audit.proofs.Passing.{no_line, line_here, lines_from, lines_end, get_empty, or_else_none, or_else_some}
+use Rattle.am_audit.proofs.Passing.{no_line, line_here, lines_from, get_empty, or_else_none, or_else_some}
 use Rattle.am_audit.proofs.faults.first_fault.Goals as goal
 
 pub loop-at-init : goal.loop-at-init

@@ -1,4 +1,4 @@
-use Rattle.std.proofs.Common.{◌≡◌, ℕ, ◌+◌, ◌≤◌, List, [], length, drop}
+use Rattle.std.proofs.Common.{◌≡◌, ◌+◌, ◌≤◌, drop}
 use Rattle.am_audit.specs.Views.{texts_in}
 use Rattle.am_audit.specs.Verdicts.{first_misfit}
 use Rattle.am_base.specs.Most.{most_number}

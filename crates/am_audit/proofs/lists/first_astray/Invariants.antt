@@ -1,4 +1,4 @@
-use Rattle.std.proofs.Common.{◌≡◌, ℕ, ◌+◌, ◌≤◌, List, [], length, drop}
+use Rattle.std.proofs.Common.{◌≡◌, drop}
 use Rattle.am_audit.specs.Views.{lines_in, texts_in}
 use Rattle.am_audit.specs.Verdicts.{first_astray}
 use Rattle.am_audit.proofs.lists.first_astray.Given as goal

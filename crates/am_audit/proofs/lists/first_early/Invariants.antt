@@ -1,4 +1,4 @@
-use Rattle.std.proofs.Common.{◌≡◌, ℕ, ◌+◌, ◌≤◌, List, [], length, drop}
+use Rattle.std.proofs.Common.{◌≡◌, List, [], length, drop}
 use Rattle.am_audit.specs.Lines.{Line}
 use Rattle.am_audit.specs.Views.{lines_in}
 use Rattle.am_audit.specs.Verdicts.{first_early}

@@ -1,4 +1,4 @@
-use Rattle.std.proofs.Common.{◌≡◌, ℕ, ◌+◌, ◌≤◌, List, [], length, drop}
+use Rattle.std.proofs.Common.{◌≡◌, drop}
 use Rattle.am_audit.specs.Views.{texts_in}
 use Rattle.am_audit.specs.Verdicts.{first_lost}
 use Rattle.am_audit.proofs.lists.first_lost.Given as goal

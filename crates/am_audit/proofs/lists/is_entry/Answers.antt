@@ -1,4 +1,4 @@
-use Rattle.std.proofs.Common.{sym, ◌∙◌}
+use Rattle.std.proofs.Common.{◌∙◌}
 use Rattle.am_audit.proofs.Entries.{entry_there}
 use Rattle.am_audit.proofs.lists.is_entry.Goals as goal
 

@@ -1,5 +1,4 @@
-use Rattle.std.proofs.Common.{◌≡◌, ℕ, suc, ◌+◌, ◌-◌, ◌<◌, ◌≤◌, List, length, take, drop, Some, true, ap, ◌∙◌, sym, arith, length-drop, take_all, add-one}
-use Rattle.am_audit.specs.Lines.{begins_mark}
+use Rattle.std.proofs.Common.{◌≡◌, ℕ, suc, ◌+◌, ◌-◌, length, take, drop, Some, ap, ◌∙◌, sym, arith, length-drop, take_all}
 use Rattle.am_audit.proofs.Marks.{mark_at, mark_none}
 use Rattle.am_audit.proofs.mark.mark_cut.Goals as goal
 

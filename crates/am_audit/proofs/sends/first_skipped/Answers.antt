@@ -1,4 +1,4 @@
-use Rattle.std.proofs.Common.{◌≡◌, ℕ, ◌<◌, List, [], ◌∷◌, length, Option, Some, None, get_or, drop, sym, subst, ap, ◌∙◌, refl, arith, length-set}
+use Rattle.std.proofs.Common.{◌≡◌, ℕ, ◌<◌, [], ◌∷◌, Option, Some, None, get_or, sym, ap, ◌∙◌, refl, arith, length-set}
 use Rattle.std.proofs.lemmas.List.{get_or-replicate, length-replicate}
 use Rattle.am_audit.specs.Views.{line_of}
 use Rattle.am_audit.specs.Verdicts.{last_of, skipped_at, first_skipped}

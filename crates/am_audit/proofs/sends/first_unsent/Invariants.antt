@@ -1,4 +1,4 @@
-use Rattle.std.proofs.Common.{◌≡◌, ℕ, ◌+◌, ◌≤◌, List, [], length, drop}
+use Rattle.std.proofs.Common.{◌≡◌, drop}
 use Rattle.am_audit.specs.Views.{lines_in, texts_in}
 use Rattle.am_audit.specs.Verdicts.{first_unsent}
 use Rattle.am_audit.proofs.sends.first_unsent.Given as goal

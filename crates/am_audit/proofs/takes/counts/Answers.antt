@@ -1,8 +1,8 @@
-use Rattle.std.proofs.Common.{◌≡◌, ℕ, ◌+◌, ◌<◌, ◌≤◌, List, [], length, drop, get_or, map, sym, ap, ◌∙◌, refl, arith, length-drop}
+use Rattle.std.proofs.Common.{ℕ, ◌<◌, ◌≤◌, length, drop, sym, ap, ◌∙◌, arith, length-drop}
 use Rattle.std.proofs.lemmas.List.{get_or-replicate, length-replicate, length-map}
-use Rattle.am_audit.specs.Views.{line_of, lines_in}
+use Rattle.am_audit.specs.Views.{lines_in}
 use Rattle.am_audit.specs.Verdicts.{count_of}
-use Rattle.am_audit.proofs.Passing.{no_line, lines_end}
+use Rattle.am_audit.proofs.Passing.{lines_end}
 use Rattle.am_audit.proofs.Segments.{count_within}
 use Rattle.am_audit.proofs.takes.counts.Goals as goal
 

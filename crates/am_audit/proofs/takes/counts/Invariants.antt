@@ -1,5 +1,4 @@
-use Rattle.std.proofs.Common.{◌≡◌, ℕ, ◌+◌, ◌<◌, ◌≤◌, List, [], length, drop, get_or}
-use Rattle.am_audit.specs.Lines.{Line}
+use Rattle.std.proofs.Common.{◌≤◌, length, drop}
 use Rattle.am_audit.specs.Views.{lines_in}
 use Rattle.am_audit.specs.Keeping.{IsCount}
 use Rattle.am_audit.proofs.takes.counts.Given as goal

@@ -1,10 +1,8 @@
-use Rattle.std.proofs.Common.{◌≡◌, ℕ, ◌+◌, ◌<◌, List, [], ◌∷◌, length, get_or, Some, None, cond, Bool, true, false, sym, ap, ◌∙◌, refl, arith}
+use Rattle.std.proofs.Common.{◌≡◌, ℕ, ◌<◌, [], ◌∷◌, get_or, Some, None, cond, sym, ap, ◌∙◌, refl, arith}
 use Rattle.std.proofs.lemmas.List.{get_or-replicate, length-replicate}
 use Rattle.am_audit.specs.declared.verdict.Verdict.TheVariants as verdicts
-use Rattle.am_audit.specs.Lines.{Line}
 use Rattle.am_audit.specs.Views.{line_of, lines_in, texts_in}
 use Rattle.am_audit.specs.Verdicts.{first_unlogged, unlogged_at}
-use Rattle.am_audit.specs.Keeping.{IsCount}
 use Rattle.am_audit.proofs.Passing.{no_line, lines_from, or_else_none, or_else_some}
 use Rattle.am_audit.proofs.Segments.{taken_next, count_more}
 use Rattle.am_audit.proofs.takes.first_unlogged.Goals as goal

@@ -1,4 +1,4 @@
-use Rattle.std.proofs.Common.{◌≡◌, ℕ, ◌+◌, ◌<◌, ◌≤◌, List, [], length, sym, ap, ◌∙◌, refl, arith}
+use Rattle.std.proofs.Common.{ℕ, length, sym, ap, ◌∙◌, arith}
 use Rattle.std.proofs.lemmas.List.{get_or-replicate, length-replicate}
 use Rattle.am_audit.specs.Keeping.{first_number}
 use Rattle.am_audit.proofs.Passing.{lines_end}

@@ -1,5 +1,4 @@
-use Rattle.std.proofs.Common.{◌≡◌, ℕ, ◌+◌, ◌<◌, ◌≤◌, List, [], length, drop, get_or}
-use Rattle.am_audit.specs.Lines.{Line}
+use Rattle.std.proofs.Common.{◌≡◌, ℕ, ◌<◌, ◌≤◌, length, drop, get_or}
 use Rattle.am_audit.specs.Views.{lines_in}
 use Rattle.am_audit.specs.Keeping.{first_number}
 use Rattle.am_audit.proofs.takes.firsts.Given as goal

@@ -1,4 +1,4 @@
-use Rattle.std.proofs.Common.{◌≡◌, ◌∙◌, sym, subst, arith}
+use Rattle.std.proofs.Common.{◌∙◌, sym, subst, arith}
 use Rattle.am_audit.specs.Lines.{add_line}
 use Rattle.am_audit.specs.Views.{told, Reads}
 use Rattle.am_audit.proofs.Texts.{refused, line_taken, line_bad, line_last}
