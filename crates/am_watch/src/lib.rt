@@ -2,7 +2,6 @@
 //! were lost than it survives.
 #![tactic(auto)]
 
-pub mod laws;
 #[cfg(test)]
 mod tests;
 pub mod views;

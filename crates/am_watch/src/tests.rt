@@ -1,10 +1,10 @@
-use crate::views::{DecidedView, Standing};
 use crate::watcher::Watcher;
 use am_base::entry::Entry;
 use am_base::founding::Founding;
 use am_base::name::{Name, Stamp};
 use am_base::names::Names;
 use am_model::status::Status;
+use am_watching::views::{DecidedView, Standing};
 use std::process::Abort;
 use std::test::Fail;
 
