@@ -1,8 +1,8 @@
 -- What tests in a row say.
 use Rattle.am_effects.proofs.Words.{not-false, ℕ, ◌==◌, eq-eqb, ◌≡◌, Bool, true, false, not, ◌&&◌, ◌||◌, refl}
 
-pub is_itself : (n : ℕ) → (n == n) ≡ true
-is_itself n = eq-eqb n n refl
+pub equals_itself : (n : ℕ) → (n == n) ≡ true
+equals_itself n = eq-eqb n n refl
 
 -- where one of them would pass, none does
 pub or_first : (a b : Bool) → (a || b) ≡ false → a ≡ false

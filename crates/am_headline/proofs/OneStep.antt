@@ -1,5 +1,5 @@
 -- One step of a run, with the group that follows it: what each law that goes with the steps takes, and what is plain of it.
-use Rattle.am_headline.proofs.Words.{is_itself, ◌≡◌, ℕ, ◌<◌, ◌==◌, true, false, List, [], ◌∷◌, ◌++◌, refl, sym, ap, ◌∙◌, subst, Rules, MayFound, Event}
+use Rattle.am_headline.proofs.Words.{equals_itself, ◌≡◌, ℕ, ◌<◌, ◌==◌, true, false, List, [], ◌∷◌, ◌++◌, refl, sym, ap, ◌∙◌, subst, Rules, MayFound, Event}
 use Rattle.am_headline.proofs.Words.{Begins, Group, Kept, Node, lowest_or_first, Step, World, group_after, start, is_stopped, with_step, happens, happen, run}
 use Rattle.am_headline.proofs.Words.{runs_go_on, Cause, Effect, actor, IsCause, few_names, run_owned, NameStands, LinesOpen, Moves, Grows, Following}
 use Rattle.am_headline.proofs.Words.{group_kept, runs_open}
@@ -87,7 +87,7 @@ plain {rules = rules} {events = events} {e = e} {step = step} {s = s} {t = t} x 
     few = few_names rules w e (run_owned rules events x.may).blanks.base.named
 
     node_v : v.nodes i ≡ n
-    node_v = let u : (i == i) ≡ true = is_itself i in rw u refl
+    node_v = let u : (i == i) ≡ true = equals_itself i in rw u refl
 
     run_v : run rules (events ++ e ∷ []) ≡ v
     run_v = run_push rules events e ∙ sym x.is

@@ -1,6 +1,6 @@
 -- What each run keeps of what its applications were given: gapless, from where a name began, and each send that was settled at its number.
-use Rattle.am_headline.proofs.Words.{by_name, eqb-true, is_itself, ◌≡◌, ⊎_elim, inl, ℕ, zero, suc, ◌+◌, ◌-◌, ◌<◌, ◌≤◌, ◌==◌, nat_le, true, false, List, []}
-use Rattle.am_headline.proofs.Words.{◌∷◌, ◌++◌, length, Option, Some, None, refl, sym, ap, ◌∙◌, subst, append-nil, length-append, arith, All, flat_map}
+use Rattle.am_headline.proofs.Words.{by_name, eqb-true, equals_itself, ◌≡◌, ⊎_elim, inl, ℕ, zero, suc, ◌+◌, ◌-◌, ◌<◌, ◌≤◌, ◌==◌, nat_le, true, false, List}
+use Rattle.am_headline.proofs.Words.{[], ◌∷◌, ◌++◌, length, Option, Some, None, refl, sym, ap, ◌∙◌, subst, append-nil, length-append, arith, All, flat_map}
 use Rattle.am_headline.proofs.Words.{nat_tests, All-nil, All-cons, All-append, All-push, All-weaker, Entry, Data, Join, Outcome, Rules, MayFound, has}
 use Rattle.am_headline.proofs.Words.{entry_at, entry-get, Letter, Event, Record, name_of, taken_in, given_to, deliveries, item_at, IsGood, begins_refl}
 use Rattle.am_headline.proofs.Words.{begins_trans, good_begins, Group, Node, waiting, is_asking, founder, stranger, founders_view, lowest_or_first, has_log}
@@ -395,7 +395,7 @@ module _ (rules : Rules) (events : List Event) (e : Event) (c : Cause) (step : S
   unfolding with_step
   told_step =
       let r = record_of w e step.outcome step.letters in
-      let own : (name_of r == i) ≡ true = is_itself i in
+      let own : (name_of r == i) ≡ true = equals_itself i in
       let long = length-append w.letters step.letters in
       let all_more : (j : ℕ) → NameTold rules v.group j (w.nodes j) = λ j. subst (λ g. NameTold rules g j (w.nodes j)) group_grows.same
       (name_more rules w.group more j (w.nodes j) (h.each j)) in

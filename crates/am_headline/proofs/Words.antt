@@ -1,37 +1,38 @@
 -- The words of this crate's proofs, of the crates and definitions that they come from.
-pub use Rattle.am_stands.proofs.Words.{◌≡◌, ℕ, zero, suc, ◌<◌, ◌≤◌, ◌==◌, true, List, [], ◌∷◌, ◌++◌, length, take, None, Some, refl, sym, ap, ◌∙◌, subst}
-pub use Rattle.am_stands.proofs.Words.{arith, ◌⊎◌, ⊎_elim, inl, inr, ◌+◌, ◌-◌, max, ◌&&◌, not, nat_lt, Bool, if◌then◌else◌, slice_index, false, slice_get}
-pub use Rattle.am_stands.proofs.Words.{◌||◌, Option, nat_le, ◌≢◌, append-nil, drop, min, count_by, eqb-true, not-true, nat_tests, length-map}
-pub use Rattle.am_stands.proofs.Words.{take-append-drop, All-nil, All-cons, All-append, list_any-append, slice_get_within, list_any, All, View, Leave, Data}
-pub use Rattle.am_stands.proofs.Words.{Join, Rules, MayFound, has, size, place_of, life_of, IsSet, name_at, names_from, names_of, split, and_both, Entry}
-pub use Rattle.am_stands.proofs.Words.{Image, Row, Stamp, Outcome, Log, blank_row, member_life, members_of, members_at, image_at, top_of, after, told_by}
-pub use Rattle.am_stands.proofs.Words.{blank, fits, entry_at, stamp_eq, stamp_lt, Packet, CoreState, slice_get-drop, count_cons, OwnSend, Event, item_at}
-pub use Rattle.am_stands.proofs.Words.{Record, lowest_or_first, founding_stamp, has_departed, Node, Ballot, push_entry, view, is_member, acts, founder}
-pub use Rattle.am_stands.proofs.Words.{founders_view, has_log, is_asking, is_sequencer, waiting, unsettled_count, has_own_leave, stranger, those}
-pub use Rattle.am_stands.proofs.Words.{first_founder, Verdict, need_of, left_in, trim_for, with_promise, restart_reports, best_of, is_waited_for, Status}
-pub use Rattle.am_stands.proofs.Words.{is_unfinished, Step, Plan, quiet, hears_member, hears_in_view, hears_sequencer, begin_list, advance, settle_waiting}
-pub use Rattle.am_stands.proofs.Words.{settle_at, accepted_at, is_view, body_of, Departed, Decided, World, first_node, founders_decided, current, is_stopped}
-pub use Rattle.am_stands.proofs.Words.{views_after, lives_on, group_after, group_with, is_view_of, whole, line_of, IsGood, key, Begins, mem, BeginsBelow}
-pub use Rattle.am_stands.proofs.Words.{begins_refl, begins_nil, begins_both, begins_length, begins_push, begins_trans, begins_take, length_take, length_push}
-pub use Rattle.am_stands.proofs.Words.{begins_more, begins_same, good_begins, long_told, told_push, mem_in, in_mem, mem_viewed, In, row_at, long_after}
-pub use Rattle.am_stands.proofs.Words.{low_or_above, mod16, key_by, view_push, view_viewed, key_lt, view_small, view_up, view_below, Group, chain_of, IsUp}
+pub use Rattle.am_unballoted.proofs.Words.{◌≡◌, ℕ, zero, suc, ◌<◌, ◌≤◌, ◌==◌, true, List, [], ◌∷◌, ◌++◌, length, take, None, Some, refl, sym, ap, ◌∙◌, subst}
+pub use Rattle.am_unballoted.proofs.Words.{arith, ◌⊎◌, ⊎_elim, inl, inr, ◌+◌, ◌-◌, max, ◌&&◌, not, nat_lt, Bool, if◌then◌else◌, slice_index, length-append}
+pub use Rattle.am_unballoted.proofs.Words.{false, slice_get, ◌||◌, Option, nat_le, ◌≢◌, append-nil, append_assoc, drop, min, find, nat_tests, take-append-le}
+pub use Rattle.am_unballoted.proofs.Words.{take-append-drop, length-take-le, All-nil, All-cons, All-push, All-filter, All-map, All-weaker, All-append}
+pub use Rattle.am_unballoted.proofs.Words.{slice_get-get_or, slice_get_within, list_any, flat_map, All, View, Leave, Data, Join, Rules, MayFound, has}
+pub use Rattle.am_unballoted.proofs.Words.{place_of, life_of, split, and_both, Entry, Image, Row, Stamp, Outcome, Log, blank_row, image_at, top_of, after}
+pub use Rattle.am_unballoted.proofs.Words.{told_by, blank, AllFit, fits, entry_at, stamp_eq, stamp_lt, Packet, Letter, goes_to_any, entry-get, CoreState}
+pub use Rattle.am_unballoted.proofs.Words.{slice_get-drop, OwnSend, Event, item_at, letter_at, Record, Act, is_for, deliveries, name_of, taken_in, given_to}
+pub use Rattle.am_unballoted.proofs.Words.{get_before, get_behind, founding_stamp, Node, Ballot, top, push_entry, view, is_member, acts, founder}
+pub use Rattle.am_unballoted.proofs.Words.{founders_view, has_log, is_asking, is_sequencer, waiting, trim_up_to, stranger, first_founder, Verdict, Status}
+pub use Rattle.am_unballoted.proofs.Words.{Step, hears_member, hears_in_view, hears_sequencer, begin_list, advance, settle_waiting, settle_at, accepted_at}
+pub use Rattle.am_unballoted.proofs.Words.{is_view, body_of, Departed, World, start, run, record_of, group_after, heard_by, BeginsAt, accepted_sends, sent_in}
+pub use Rattle.am_unballoted.proofs.Words.{IsGood, Begins, mem, begins_push, begins_take, length_take, length_push, begins_same, good_begins, long_told}
+pub use Rattle.am_unballoted.proofs.Words.{told_push, mem_in, in_mem, row_at, Cause, hears, Looks, Carries, whole_entry, by_number, Change, refreshes}
+pub use Rattle.am_unballoted.proofs.Words.{settles, numbers, stores, begins_list, looks, fetches, stores_view, closes, Changes, unchanged, changed}
+pub use Rattle.am_unballoted.proofs.Words.{MayBeWelcomed, queues, collects, takes, asks_to_join, asks_to_leave, rests_refresh, settle_is, Says, bcast, order}
+pub use Rattle.am_unballoted.proofs.Words.{piece, result, LetterSays, IsCause, WasSentTo, actor, IsIdle, Happens, idles, returns, steps, all_get, get_front}
+pub use Rattle.am_unballoted.proofs.Words.{get_last, logged, asking_log, events_have_effects, runs_keep, asking, Effect, Answers, HasTaken, AnswersAsk}
+pub use Rattle.am_unballoted.proofs.Words.{WasSettled, bounded_holds, senders_in_order, send_stands_once, sent_holds}
+unfoldable pub use Rattle.am_unballoted.proofs.Words.{accept, pass_over, own_report, tell, go_on, lead, refresh, settle, refresh_at_end, with_step}
+unfoldable pub use Rattle.am_unballoted.proofs.Words.{with_record}
+pub use Rattle.am_stands.proofs.Words.{count_by, eqb-true, not-true, length-map, list_any-append, size, IsSet, name_at, names_from, names_of, member_life}
+pub use Rattle.am_stands.proofs.Words.{members_of, members_at, count_cons, lowest_or_first, has_departed, unsettled_count, has_own_leave, those, need_of}
+pub use Rattle.am_stands.proofs.Words.{left_in, trim_for, with_promise, restart_reports, best_of, is_waited_for, is_unfinished, Plan, quiet, Decided}
+pub use Rattle.am_stands.proofs.Words.{first_node, founders_decided, current, is_stopped, views_after, lives_on, group_with, is_view_of, whole, line_of, key}
+pub use Rattle.am_stands.proofs.Words.{BeginsBelow, begins_refl, begins_nil, begins_both, begins_length, begins_trans, begins_more, mem_viewed, In}
+pub use Rattle.am_stands.proofs.Words.{long_after, low_or_above, mod16, key_by, view_push, view_viewed, key_lt, view_small, view_up, view_below, decides}
+pub use Rattle.am_stands.proofs.Words.{rests_at_end, refresh_is, told_pushed, same_stamp, equals_itself, Along, told_used, those_long, Group, chain_of, IsUp}
 pub use Rattle.am_stands.proofs.Words.{how_many, opening, IsThere, put, Chosen, founded, counts_for, IsLawful, more, Move, with_node, gives_over, stops}
 pub use Rattle.am_stands.proofs.Words.{choice_of, longer, learns, begins, raises, welcomes, asks, departs, Kept, put_cases, put_other, put_same, run_keeps}
-pub use Rattle.am_stands.proofs.Words.{Cause, hears, Looks, decides, Carries, whole_entry, by_number, Change, refreshes, settles, begins_list, looks}
-pub use Rattle.am_stands.proofs.Words.{stores_view, unchanged, changed, MayBeWelcomed, queues, collects, takes, asks_to_join, asks_to_leave, rests_refresh}
-pub use Rattle.am_stands.proofs.Words.{rests_at_end, settle_is, refresh_is, told_pushed, same_stamp, bcast, order, piece, result, actor, idles, returns}
-pub use Rattle.am_stands.proofs.Words.{steps, all_get, get_front, get_last, logged, is_itself, Along, told_used, those_long, found_at, NamesNamed, Moves}
-pub use Rattle.am_stands.proofs.Words.{none, moves, MoveOk, GroupFor, NodeKeeps, GroupOk, PacketSays, PieceSays, WelcomeSays, WelcomeTo, has_begun, has_gone}
-pub use Rattle.am_stands.proofs.Words.{has_left, is_leaving, may_begin, Grows, EventStands, no_move, stop, NameStands, NotedStands, Stands, FrontsStand}
-pub use Rattle.am_stands.proofs.Words.{LinesOpen, OnBranch, on_chain, left_out, BranchesOk}
-unfoldable pub use Rattle.am_stands.proofs.Words.{accept, pass_over, own_report, tell, go_on, finish, hear_row, hear, hear_refusal, lead, refresh, settle}
-unfoldable pub use Rattle.am_stands.proofs.Words.{refresh_at_end, with_step, with_record, up_to_view, up_to_next, view_of, count}
-pub use Rattle.am_unballoted.proofs.Words.{length-append, append_assoc, find, take-append-le, length-take-le, All-push, All-filter, All-map, All-weaker}
-pub use Rattle.am_unballoted.proofs.Words.{slice_get-get_or, flat_map, AllFit, Letter, goes_to_any, entry-get, letter_at, Act, is_for, deliveries, name_of}
-pub use Rattle.am_unballoted.proofs.Words.{taken_in, given_to, get_before, get_behind, top, trim_up_to, start, run, record_of, heard_by, BeginsAt}
-pub use Rattle.am_unballoted.proofs.Words.{accepted_sends, sent_in, senders_in_order, send_stands_once, numbers, stores, fetches, closes, Changes, Says}
-pub use Rattle.am_unballoted.proofs.Words.{LetterSays, IsCause, WasSentTo, IsIdle, Happens, asking_log, events_have_effects, runs_keep, asking, Effect}
-pub use Rattle.am_unballoted.proofs.Words.{Answers, HasTaken, AnswersAsk, WasSettled, bounded_holds, sent_holds}
+pub use Rattle.am_stands.proofs.Words.{found_at, NamesNamed, Moves, none, moves, MoveOk, GroupFor, NodeKeeps, GroupOk, PacketSays, PieceSays, WelcomeSays}
+pub use Rattle.am_stands.proofs.Words.{WelcomeTo, has_begun, has_gone, has_left, is_leaving, may_begin, Grows, EventStands, no_move, stop, NameStands}
+pub use Rattle.am_stands.proofs.Words.{NotedStands, Stands, FrontsStand, LinesOpen, OnBranch, on_chain, left_out, BranchesOk}
+unfoldable pub use Rattle.am_stands.proofs.Words.{finish, hear_row, hear, hear_refusal, up_to_view, up_to_next, view_of, count}
 pub use Rattle.am_steps.proofs.Words.{image_of, packet_length, with_noted, hears_letter, hear_cut, acts_as, Ending, let_go, closing, HeardUsed, each_along}
 pub use Rattle.am_steps.proofs.Words.{heard_used, run_owned, HeardNames, change_names, HasNames, change_does, Balloted, numbers_hold, heard_names, IsNoted}
 pub use Rattle.am_steps.proofs.Words.{AllViews, each_views, views_start, few_names, nil_of, goes_on, grows_same, Following, StepsMove, member_stays}
@@ -58,12 +59,9 @@ pub use Rattle.am_play.proofs.Runs.{front_is_lawful, watched_is_run, one_record_
 pub use Rattle.am_play.proofs.Beginnings.{runs_begin}
 pub use Rattle.am_chain_lists.proofs.Rows.{in_viewed}
 pub use Rattle.am_chain_lists.proofs.Order.{lt_key}
-pub use Rattle.am_chain_moves.specs.Runs.{MayBegin, Completes, Run}
 pub use Rattle.am_effects.specs.Courses.{at_end}
 pub use Rattle.am_effects.proofs.Tests.{or_first}
 pub use Rattle.am_bounded.proofs.Changes.{kept_change}
-pub use Rattle.am_promises.specs.Ballots.{IsOfBallot, LastOk}
-pub use Rattle.am_promises.proofs.Ballots.{ballots_are_own}
 pub use Rattle.am_laws.proofs.Blank.{change_blank, no_member, Blanked, blank_holds}
 pub use Rattle.am_laws.proofs.Taken.{change_owned}
 pub use Rattle.am_laws.proofs.Trims.{Fronts}
@@ -72,6 +70,9 @@ pub use Rattle.am_laws.proofs.CallCounts.{fewer_wait}
 pub use Rattle.am_laws.specs.Blank.{IsBlank}
 pub use Rattle.am_watched.proofs.Watched.{watch_push}
 pub use Rattle.am_watched.proofs.Lists.{lists_go_on}
+pub use Rattle.am_chain_moves.specs.Runs.{MayBegin, Completes, Run}
+pub use Rattle.am_promises.specs.Ballots.{IsOfBallot, LastOk}
+pub use Rattle.am_promises.proofs.Ballots.{ballots_are_own}
 pub use Rattle.am_unballoted.proofs.Lists.{item_get, item_within, item_more, get_item, item_taken}
 pub use Rattle.am_unballoted.proofs.Steps.{taken_or, given_push}
 pub use Rattle.am_unballoted.proofs.Worlds.{StandsAt, GivenOk, begins_at, RecordOk}

@@ -19,6 +19,7 @@ pub use Rattle.am_model.specs.declared.status.Status.TheVariants.{Asking, Member
 pub use Rattle.am_model.specs.Node.{has_log, is_asking}
 pub use Rattle.am_model.specs.Joining.{let_go, counts_report}
 pub use Rattle.am_model.specs.Ends.{Tells}
+pub use Rattle.am_ends.proofs.Sequencing.{alike_asks_to_leave}
 pub use Rattle.am_handlers.specs.Keeps.{NodeKeeps}
 pub use Rattle.am_handlers.specs.Cores.{CoreTells, with_core}
 pub use Rattle.am_handlers.proofs.Doing.{core_tells}
@@ -27,5 +28,4 @@ pub use Rattle.am_handlers.proofs.Ends.{tells, told_same, end_self}
 pub use Rattle.am_handlers.specs.Parts.{node_of}
 pub use Rattle.am_handlers.proofs.Plans.{done, end_tells, told_numbered, does_now, done_here, done_whole}
 pub use Rattle.am_handlers.specs.Finishing.{Done}
-pub use Rattle.am_ends.proofs.Sequencing.{alike_asks_to_leave}
 pub use Rattle.am_joining.specs.Pieces.{is_unfit, refusal_of, needs_none, welcome_again, and_welcome, is_stored, and_let_go, number_leave, leave_again}

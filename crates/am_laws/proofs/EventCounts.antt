@@ -1,7 +1,7 @@
 -- How high the numbers of the acting name's node are after an event.
-use Rattle.am_laws.proofs.Words.{is_itself, ◌≡◌, ℕ, not, nat_lt, nat_le, Bool, true, false, if◌then◌else◌, List, Option, Some, None, refl, Outcome, NodeEvent}
-use Rattle.am_laws.proofs.Words.{Packet, Letter, Act, Event, is_for, letter_at, Node, Step, step, hear, hear_refusal, packet_length, World, is_stopped}
-use Rattle.am_laws.proofs.Words.{with_record, with_step, hears_letter, hear_cut, lives_on, acts_as, happens, heard_by, actor, Bounds, up, UpTo}
+use Rattle.am_laws.proofs.Words.{equals_itself, ◌≡◌, ℕ, not, nat_lt, nat_le, Bool, true, false, if◌then◌else◌, List, Option, Some, None, refl, Outcome}
+use Rattle.am_laws.proofs.Words.{NodeEvent, Packet, Letter, Act, Event, is_for, letter_at, Node, Step, step, hear, hear_refusal, packet_length, World}
+use Rattle.am_laws.proofs.Words.{is_stopped, with_record, with_step, hears_letter, hear_cut, lives_on, acts_as, happens, heard_by, actor, Bounds, up, UpTo}
 use Rattle.am_base.specs.declared.outcome.Outcome.TheVariants as said
 use Rattle.am_group.specs.declared.event.Act.TheVariants as act
 use Rattle.am_laws.proofs.HearingCounts.{IsDone, low_step, low_hear, low_refused}
@@ -31,7 +31,7 @@ more_lives b g name w e o place h = record { node = low_more b g (w.nodes name) 
 
 more_stepped : (b : Bounds) (g name : ℕ) (w : World) (e : Event) (s : Step) → Low (up b) g s.node → OneMore b g name (with_step w e name s)
 unfolding with_step
-more_stepped b g name w e s h = record { node = rw (is_itself name) h }
+more_stepped b g name w e s h = record { node = rw (equals_itself name) h }
 
 ruleset mores = (more_if, more_unchanged, more_stops, more_lives)
 

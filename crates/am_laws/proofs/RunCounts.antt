@@ -1,10 +1,10 @@
 -- How high all numbers of a run are, event by event.
-use Rattle.am_laws.proofs.Words.{is_itself, ◌≡◌, inl, inr, ⊎_elim, ℕ, ◌+◌, ◌-◌, ◌≤◌, ◌==◌, max, min, Bool, true, if◌then◌else◌, List, [], ◌∷◌, length, take}
-use Rattle.am_laws.proofs.Words.{drop, Option, Some, None, refl, ap, ◌∙◌, subst, arith, length-append, length-drop, All, length-take, All-nil, All-append}
-use Rattle.am_laws.proofs.Words.{All-weaker, Entry, Rules, has, row_of, Packet, Letter, Event, letter_at, Node, Ballot, top, image_of, set_at, founder}
-use Rattle.am_laws.proofs.Words.{stranger, Step, World, start, first_node, group_with, group_after, with_record, with_step, happens, happen, run, heard_by}
-use Rattle.am_laws.proofs.Words.{split, Cause, hears, MayWelcome, Says, welcome, LetterSays, Effect, actor, WasSentTo, IsCause, Happens, steps, all_item}
-use Rattle.am_laws.proofs.Words.{events_have_effects, Bounds, up, UpTo, NumbersHold}
+use Rattle.am_laws.proofs.Words.{equals_itself, ◌≡◌, inl, inr, ⊎_elim, ℕ, ◌+◌, ◌-◌, ◌≤◌, ◌==◌, max, min, Bool, true, if◌then◌else◌, List, [], ◌∷◌, length}
+use Rattle.am_laws.proofs.Words.{take, drop, Option, Some, None, refl, ap, ◌∙◌, subst, arith, length-append, length-drop, All, length-take, All-nil}
+use Rattle.am_laws.proofs.Words.{All-append, All-weaker, Entry, Rules, has, row_of, Packet, Letter, Event, letter_at, Node, Ballot, top, image_of, set_at}
+use Rattle.am_laws.proofs.Words.{founder, stranger, Step, World, start, first_node, group_with, group_after, with_record, with_step, happens, happen, run}
+use Rattle.am_laws.proofs.Words.{heard_by, split, Cause, hears, MayWelcome, Says, welcome, LetterSays, Effect, actor, WasSentTo, IsCause, Happens, steps}
+use Rattle.am_laws.proofs.Words.{all_item, events_have_effects, Bounds, up, UpTo, NumbersHold}
 use Rattle.am_laws.proofs.{Counts.IsKnown, Counts.VotesKnown, Counts.leads, Counts.Low, Counts.Behind, Counts.low_more, Images.blank_up, Images.image_up}
 use Rattle.am_laws.proofs.{ListImages.WelcomeUp, ListImages.ListUp, ListImages.changes_list, LetterCounts.Sends, LetterCounts.says_low}
 use Rattle.am_laws.proofs.{LetterCounts.welcome_low, EventCounts.actor_low}
@@ -157,7 +157,7 @@ low_stepped b w e c s cause effect raised h =
     let k = length (group_after w.group n) in
     let letters : (letter : Letter) → letter_at w.letters (heard_by e.act) ≡ Some letter → UpTo b g letter.packet =
     λ letter at. all_item (λ (l : Letter). UpTo b g l.packet) w.letters (heard_by e.act) letter h.letters at in
-    let low : Low (up b) g n = rw (is_itself name) at (raised b letters (h.each name)) in
+    let low : Low (up b) g n = rw (equals_itself name) at (raised b letters (h.each name)) in
     let grown : Grew b w.group n = grew b w.group n h.group low in
     let list : ListUp n = changes_list m n (heard_up b w e c h cause) effect.changes (h.images name) in
     let more = grown.more in

@@ -1,7 +1,7 @@
 -- Each letter of a run is a packet within its limits, so the run of packets is the run of bytes.
-use Rattle.am_laws.proofs.Words.{is_itself, ◌≡◌, ℕ, ◌+◌, ◌<◌, ◌≤◌, not, if◌then◌else◌, List, [], ◌∷◌, length, Option, Some, None, refl, ap, ◌∙◌, subst, arith}
-use Rattle.am_laws.proofs.Words.{All, All-nil, All-cons, All-head, All-tail, All-append, All-weaker, most_body, Rules, MayFound, top_of, Packet, Letter}
-use Rattle.am_laws.proofs.Words.{IsPacket, spelling_again, Act, Event, is_for, letter_at, Node, founder, stranger, founders_view, Step, World, start}
+use Rattle.am_laws.proofs.Words.{equals_itself, ◌≡◌, ℕ, ◌+◌, ◌<◌, ◌≤◌, not, if◌then◌else◌, List, [], ◌∷◌, length, Option, Some, None, refl, ap, ◌∙◌, subst}
+use Rattle.am_laws.proofs.Words.{arith, All, All-nil, All-cons, All-head, All-tail, All-append, All-weaker, most_body, Rules, MayFound, top_of, Packet}
+use Rattle.am_laws.proofs.Words.{Letter, IsPacket, spelling_again, Act, Event, is_for, letter_at, Node, founder, stranger, founders_view, Step, World, start}
 use Rattle.am_laws.proofs.Words.{is_stopped, with_record, with_step, hears_letter, acts_as, happens, happen, run, heard_by, spelling_is_heard, cut_is_heard}
 use Rattle.am_laws.proofs.Words.{Cause, LetterSays, Effect, actor, IsCall, IsCause, Happens, steps, all_item, events_have_effects, sender_of, Bounds, up}
 use Rattle.am_laws.proofs.Words.{UpTo, BodyWithin, IsShort, LettersArePackets, LettersAreRead, acts_by_bytes, happen_by_bytes, RunsAreOfBytes}
@@ -63,8 +63,8 @@ within_stepped rules b w e c s body cause effect low h =
     let m = w.nodes name in
     let n = s.node in
     let from = cause_within rules b w e c body h cause in
-    let numbers = rw (is_itself name) at (low.each name) in
-    let list : ListUp n = rw (is_itself name) at (low.images name) in
+    let numbers = rw (equals_itself name) at (low.each name) in
+    let list : ListUp n = rw (equals_itself name) at (low.images name) in
     let node : Within (up b) n = changes_within (up b) m n from numbers.rounds numbers.sends effect.changes (within_more b m (h.within.each name)) in
     let sender = effect.sender in
     let high = ap (λ (x : Node). top_of x.core.log) effect.is in

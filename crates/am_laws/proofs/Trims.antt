@@ -140,10 +140,10 @@ closed_fronts m leads h = settle_fronts (refresh m) (refresh_fronts m (λ t. lea
 
 -- ---- the last member's own Leave
 
-closed_row : (image : Image) (n name : ℕ) → 0 < n → length image.rows ≡ 16 → has (members_of image) name ≡ true
+members_at_last_leave : (image : Image) (n name : ℕ) → 0 < n → length image.rows ≡ 16 → has (members_of image) name ≡ true
     → members_of (after image n (Leave name)) ≡ set (members_of image) (place_of name) 0
 unfolding after
-closed_row image n name up long member =
+members_at_last_leave image n name up long member =
     let is = has_in image name long member in
     let alive : ((at_place image name).life == life_of name) ≡ true = let l = is.is in grind (arith, nat_tests) in
     let none : member_life (record (at_place image name) { left = n }) ≡ 0 = grind (arith, nat_tests) in
@@ -173,7 +173,7 @@ closed_leads m h member alone =
     let used = told_used m h in
     let used_p = pushed_fronts m e tt h in
     let high_p : top p ≡ n = simp length-append (omega arith) in
-    let members_p : members p ≡ others m = ap members_of told_is ∙ closed_row (image_of m) n who (omega arith) used.places member
+    let members_p : members p ≡ others m = ap members_of told_is ∙ members_at_last_leave (image_of m) n who (omega arith) used.places member
     ∙ sym (ap (λ (b : Bool). if b then set (members m) (place_of who) 0 else members m) member) in
     let nobody : size (members p) ≡ 0 = ap size members_p ∙ (let z : size (others m) ≡ 0 = grind (arith, nat_tests) in z) in
     let before : has (members_at p.core.log (top m)) who ≡ true =

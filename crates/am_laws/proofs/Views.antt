@@ -1,5 +1,5 @@
 -- A view is noted once, and its View stands at its number.
-use Rattle.am_laws.proofs.Words.{is_itself, logged, stamp_itself, and_both, ◌≡◌, ◌⊎◌, inl, inr, ⊎_elim, ℕ, zero, suc, ◌<◌, ◌==◌, not, Bool, true, false}
+use Rattle.am_laws.proofs.Words.{equals_itself, logged, stamp_itself, and_both, ◌≡◌, ◌⊎◌, inl, inr, ⊎_elim, ℕ, zero, suc, ◌<◌, ◌==◌, not, Bool, true, false}
 use Rattle.am_laws.proofs.Words.{if◌then◌else◌, List, [], ◌∷◌, ◌++◌, length, Some, slice_get, refl, sym, ap, ◌∙◌, subst, arith, All, nat_tests, All-nil}
 use Rattle.am_laws.proofs.Words.{All-cons, All-append, All-weaker, Stamp, View, Rules, MayFound, has, stamp_lt, stamp_eq, entry_at, fold, after, Packet}
 use Rattle.am_laws.proofs.Words.{Letter, Event, Node, image_of, view, set_at, is_member, founder, stranger, lowest_or_first, founders_view, has_log, Decided}
@@ -150,7 +150,7 @@ noted_after nodes name n views few who d h once =
     (λ t.
     let new = is_new m n d t in
     let by : (view n).by ≡ name = new.own ∙ who in
-    let at : set_at nodes name n (view n).by ≡ n = ap (set_at nodes name n) by ∙ ap (λ (b : Bool). if b then n else nodes name) (is_itself name) in
+    let at : set_at nodes name n (view n).by ≡ n = ap (set_at nodes name n) by ∙ ap (λ (b : Bool). if b then n else nodes name) (equals_itself name) in
     let there : IsNoted (set_at nodes name n) (last_view n) = record {
       by = omega arith;
       log_ = ap (λ (x : Node). has_log x.status) at ∙ d.log_ new.log_;
@@ -188,7 +188,7 @@ views_step rules w e c s cause effect named h =
     let few = few_names rules w e h.named in
     let kept = h.each name few in
     let g = changes_do m s.node (heard_names rules w e c h cause) effect.changes kept.names kept.balloted in
-    let who : s.node.core.who ≡ name = ap (λ (b : Bool). (if b then s.node else m).core.who) (sym (is_itself name)) ∙ named.who name in
+    let who : s.node.core.who ≡ name = ap (λ (b : Bool). (if b then s.node else m).core.who) (sym (equals_itself name)) ∙ named.who name in
     let after = noted_after w.nodes name s.node w.views few who g.does h.noted h.once in
     let sender = effect.sender in
     let names = sender_names s.node sender effect.is g.names in

@@ -74,19 +74,19 @@ pub use Rattle.am_play.specs.World.{lives_on, group_with, group_after, Decided, 
 pub use Rattle.am_play.specs.Claims.{Begins}
 pub use Rattle.am_play.specs.Lawful.{broken_at, before_break}
 pub use Rattle.am_play.proofs.Beginnings.{runs_begin}
-pub use Rattle.am_meaning.proofs.AcceptFronts.{accept_front_is}
-pub use Rattle.am_meaning.proofs.Bytes.{spelling_is_heard, cut_is_heard}
 pub use Rattle.am_chain_lists.proofs.Rows.{and_right, In, mod16, long_after, set_keeps, row_view, Spares, in_after, and_left, blank_joined}
 pub use Rattle.am_chain_lists.proofs.Requests.{has_in}
 pub use Rattle.am_chain_lists.proofs.Order.{rank_same}
 pub use Rattle.am_chain_lists.proofs.Members.{index_members}
+pub use Rattle.am_meaning.proofs.AcceptFronts.{accept_front_is}
+pub use Rattle.am_meaning.proofs.Bytes.{spelling_is_heard, cut_is_heard}
 pub use Rattle.am_effects.proofs.Nodes.{Each, each_node_keeps, first_has}
 pub use Rattle.am_effects.proofs.Statuses.{logged, asking_log}
 pub use Rattle.am_effects.specs.Changes.{Numbers, Promises, overtaken as overtaken_by, Fetches, for_ballot}
 pub use Rattle.am_effects.proofs.Rests.{rests_refresh, settle_is, rests_at_end, with_fronts, refresh_is, passed}
 pub use Rattle.am_effects.proofs.Runs.{EachKeeps, runs_keep, along, StepsKeep, SameParts, law_keeps}
 pub use Rattle.am_effects.proofs.Says.{view_pushed, told_pushed}
-pub use Rattle.am_effects.proofs.Tests.{is_itself, or_first, or_second}
+pub use Rattle.am_effects.proofs.Tests.{equals_itself, or_first, or_second}
 pub use Rattle.am_effects.specs.Letters.{MayWelcome}
 pub use Rattle.am_effects.proofs.Items.{all_get, all_item, all_find, get_front, get_last}
 pub use Rattle.am_effects.proofs.Events.{events_have_effects}

@@ -105,8 +105,8 @@ BestVoteIsGreatest = (votes : ℕ → Option Vote) (own : ℕ) (vote : Vote) →
 
 -- what an entry may do to the row of a place where somebody joined: nothing, one more send, the end of a membership that
 -- hadn't ended, or the beginning of a greater life's
-abbrev pub IsSame : Row → Row → Type 0
-IsSame before after_ = after_ ≡ before
+abbrev pub RowStays : Row → Row → Type 0
+RowStays before after_ = after_ ≡ before
 
 abbrev pub HasSent : Row → Row → Type 0
 HasSent before after_ = after_ ≡ record before { last = before.last + 1 }
@@ -118,7 +118,7 @@ abbrev pub HasJoined : ℕ → Row → Row → Type 0
 HasJoined number before after_ = (life : ℕ) × (before.life < life) × (0 < before.left) × (after_ ≡ record { life = life; joined = number; left = 0; last = 0 })
 
 abbrev pub RowStep : ℕ → Row → Row → Type 0
-RowStep number before after_ = (IsSame before after_ ⊎ HasSent before after_) ⊎ (HasLeft number before after_ ⊎ HasJoined number before after_)
+RowStep number before after_ = (RowStays before after_ ⊎ HasSent before after_) ⊎ (HasLeft number before after_ ⊎ HasJoined number before after_)
 
 abbrev pub RowsGoOn : Type 0
 RowsGoOn = (image : Image) (number : ℕ) (e : Entry) (name : ℕ) → fits image e ≡ true → 0 < (at_place image name).joined

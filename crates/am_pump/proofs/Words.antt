@@ -31,7 +31,7 @@ pub use Rattle.am_chooser.specs.Choices.{draw, after_draw, Luck, choice_of, agai
 pub use Rattle.am_chooser.specs.declared.chooser.Choice.{Choice}
 pub use Rattle.am_chooser.specs.declared.progress.Progress.{Progress}
 pub use Rattle.rand_pcg.specs.Lcg.{Lcg}
-pub use Rattle.am_pump.specs.Generating.{most_drawn, counting, Drive, generated_rules, sent_by, first_drive, turn_of, act_at, do_turn, no_progress}
+pub use Rattle.am_pump.specs.Generating.{most_drawn, counting, GeneratedRun, generated_rules, sent_by, first_drive, turn_of, act_at, do_turn, no_progress}
 pub use Rattle.am_pump.specs.Generating.{progress_at}
 unfoldable pub use Rattle.am_pump.specs.Generating.{after_turn, drive_once, drive, events_of_seed}
 pub use Rattle.am_pump.specs.declared.generator.Turn.{Turn}

@@ -24,7 +24,7 @@ abbrev pub generated_rules : Rules
 generated_rules = record { founders = of_mask 15; resilience = 1; window = 16; pb_up_to = 256 }
 
 -- a run on its way: what was done, the words and the chooser from here on, and how far each place has come
-pub record Drive : Type 0 where
+pub record GeneratedRun : Type 0 where
   pub play : Play
   pub words : Lcg
   pub luck : Luck
@@ -34,7 +34,7 @@ abbrev pub no_progress : Progress
 no_progress = record { cursor = 0; last = None }
 
 -- of a hundred letters ten are lost, and five more repeated
-abbrev pub first_drive : ℕ → Drive
+abbrev pub first_drive : ℕ → GeneratedRun
 first_drive seed = record {
   play = record { rules = generated_rules; events = [] };
   words = words_of seed 1000;
@@ -67,15 +67,15 @@ number_after w = length w.records + 1
 abbrev pub sent_by : World → ℕ → ℕ
 sent_by w place = count_by (λ r. is_sent r.outcome && (r.event.node == place)) w.records
 
-abbrev pub progress_at : Drive → ℕ → Progress
+abbrev pub progress_at : GeneratedRun → ℕ → Progress
 progress_at d place = slice_index_or d.progress place no_progress
 
 -- what the chooser says for a place
-abbrev pub choice_at : Drive → ℕ → Choice
+abbrev pub choice_at : GeneratedRun → ℕ → Choice
 choice_at d place = choice_of d.luck (next_for (replay d.play).letters place (progress_at d place).cursor) (progress_at d place).last
 
 -- what a place does at a turn
-unfoldable pub act_at : Drive → ℕ → Turn → Act
+unfoldable pub act_at : GeneratedRun → ℕ → Turn → Act
 act_at d place turn.Send = act.Send (counting (number_after (replay d.play)) (draw d.words (most_drawn + 1)))
 act_at d place turn.Done = act.Done (sent_by (replay d.play) place + 1)
 act_at d place turn.Take = act.Take
@@ -83,7 +83,7 @@ act_at d place turn.Tick = act.Tick
 act_at d place turn.Choose = act_of (choice_at d place)
 
 -- what is drawn for that, and how far the place is then
-unfoldable pub after_turn : Drive → ℕ → Turn → Drive
+unfoldable pub after_turn : GeneratedRun → ℕ → Turn → GeneratedRun
 after_turn d place turn.Send = record d { words = after_draw d.words }
 after_turn d place turn.Done = d
 after_turn d place turn.Take = d
@@ -94,15 +94,15 @@ after_turn d place turn.Choose = record d {
 }
 
 -- a place's turn is done
-abbrev pub do_turn : Drive → ℕ → Turn → Drive
+abbrev pub do_turn : GeneratedRun → ℕ → Turn → GeneratedRun
 do_turn d place t = record (after_turn d place t) { play = after d.play (event_at place (act_at d place t)) }
 
 -- one event more: the first word says which place it is, and the second what it does
-unfoldable pub drive_once : Drive → Drive
+unfoldable pub drive_once : GeneratedRun → GeneratedRun
 drive_once d = do_turn (record d { words = after_draw (after_draw d.words) }) (draw d.words 4) (turn_of (draw (after_draw d.words) 16))
 
 -- so many events more
-unfoldable pub drive : ℕ → Drive → Drive
+unfoldable pub drive : ℕ → GeneratedRun → GeneratedRun
 drive zero d = d
 drive (suc count) d = drive_once (drive count d)
 

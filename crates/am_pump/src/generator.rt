@@ -120,11 +120,11 @@ pub struct Generator {
 }
 
 impl Model for Generator {
-    ghost use Rattle.am_pump.specs.Generating.{Drive};
+    ghost use Rattle.am_pump.specs.Generating.{GeneratedRun};
     ghost use Rattle.am_pump.specs.Counts.{AreCounts};
     ghost use Rattle.am_world.specs.Runs.{replay};
 
-    ghost Value = { Drive };
+    ghost Value = { GeneratedRun };
 
     ghost view = { λ g. record { play = g.world; words = g.words; luck = g.chooser; progress = g.progress } };
 

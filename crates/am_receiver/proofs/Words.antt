@@ -19,6 +19,8 @@ pub use Rattle.am_model.specs.Refresh.{refresh_at_end}
 pub use Rattle.am_model.specs.Receiving.{bodies_after, acknowledges, store_fitting, with_noted, receive_entry, is_view, store}
 unfoldable pub use Rattle.am_model.specs.Receiving.{accept_row, bcast_row, order_row}
 pub use Rattle.am_model.specs.Ends.{IsEndOf, Tells, with_log}
+pub use Rattle.am_ends.proofs.Hearing.{alike_received}
+pub use Rattle.am_ends.proofs.Plans.{Alike, says_ack, says_nack, alike_saying, alike_telling, alike_where}
 pub use Rattle.am_handlers.proofs.Keeping.{at_end_who, keeps_steady, end_steady, end_keeps, steady_then, steady_leads, keeps_bodies, keeps_pushed, member_log}
 pub use Rattle.am_handlers.specs.Finishing.{Done}
 pub use Rattle.am_handlers.proofs.Plans.{done_whole, done_here, does_now, done}
@@ -27,6 +29,4 @@ pub use Rattle.am_handlers.proofs.Doing.{core_changes, core_tells}
 pub use Rattle.am_handlers.proofs.Ends.{end_self, tells}
 pub use Rattle.am_handlers.specs.Parts.{node_of}
 pub use Rattle.am_handlers.specs.declared.parts.Parts.{Parts}
-pub use Rattle.am_ends.proofs.Hearing.{alike_received}
-pub use Rattle.am_ends.proofs.Plans.{Alike, says_ack, says_nack, alike_saying, alike_telling, alike_where}
 pub use Rattle.am_receiver.specs.Pieces.{ack_where, note, accepting}

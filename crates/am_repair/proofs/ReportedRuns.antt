@@ -1,5 +1,5 @@
 -- In each run what anybody knows a name to have taken was taken, or is no more than its own base.
-use Rattle.am_repair.proofs.Words.{eqb-true, is_itself, MayFound, Rules, has, Outcome, Event, few_names, HeardUsed, HeardNames, heard_names, split, Node}
+use Rattle.am_repair.proofs.Words.{eqb-true, equals_itself, MayFound, Rules, has, Outcome, Event, few_names, HeardUsed, HeardNames, heard_names, split, Node}
 use Rattle.am_repair.proofs.Words.{Packet, ◌≡◌, ℕ, ◌<◌, ◌≤◌, ◌==◌, List, refl, sym, ap, ◌∙◌, subst, arith, All, All-nil, All-append, All-weaker, Letter}
 use Rattle.am_repair.proofs.Words.{World, start, with_step, run, heard_by, Cause, calls, hears, refuses, LetterSays, Changes, no_change, changed, actor}
 use Rattle.am_repair.proofs.Words.{WasSentTo, IsCause, all_item, EachKeeps, StepsKeep, SameParts, law_keeps, runs_keep, Along, along_changes, AllOwned}
@@ -61,7 +61,7 @@ told_step rules w e c s cause effect laws h =
     let a = told_changes rules w.nodes (w.nodes name) n (heard_names rules w e c h.laws.blanks.base cause) (heard_used rules w e c h.laws cause)
     (cause_taken w e c h.letters cause) effect.changes (each_along rules w name few h.laws) (h.each name few) in
     let v = with_step w e name s in
-    let itself_ = is_itself name in
+    let itself_ = equals_itself name in
     let here : v.nodes name ≡ n = rw itself_ refl in
     let up : (other : ℕ) → (w.nodes other).core.taken ≤ (v.nodes other).core.taken = λ other. split (other == name)
     (λ t. let is = eqb-true other name t in rw (t, is) a.rises.taken) (λ f. rw f (omega arith)) in

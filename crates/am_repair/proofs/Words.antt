@@ -12,7 +12,7 @@ pub use Rattle.am_laws.proofs.Words.{trim_up_to, with_report, others, Plan, Step
 pub use Rattle.am_laws.proofs.Words.{viewed_by, tick_with, tick_member, tick_sequencer, overtake, with_promise, Verdict, next_stamp, Status, settle}
 pub use Rattle.am_laws.proofs.Words.{hears_member, hears_asking, hears_in_view, hears_sequencer, is_unknown, take_report, answer_request, is_view}
 pub use Rattle.am_laws.proofs.Words.{bodies_after, with_noted, with_admitted, packet_length, World, current, is_stopped, run, start, hears_letter, hear_cut}
-pub use Rattle.am_laws.proofs.Words.{acts_as, Decided, heard_by, before_break, accept_front_is, has_in, In, long_after, in_after, mod16, told_pushed}
+pub use Rattle.am_laws.proofs.Words.{acts_as, Decided, heard_by, before_break, has_in, In, long_after, in_after, mod16, accept_front_is, told_pushed}
 pub use Rattle.am_laws.proofs.Words.{view_pushed, Cause, calls, hears, by_request, by_spread, HasOpen, Looks, decides, Balloting, with_more, without_one}
 pub use Rattle.am_laws.proofs.Words.{as_it_is, finds_no_room, Promises, invited, overtaken_by, told_result, Change, refreshes, settles, takes_report, admits}
 pub use Rattle.am_laws.proofs.Words.{numbers, begins_list, departs, promises, opens, looks, queues, collects, takes, asks_to_join, closes, Carries}
@@ -20,7 +20,7 @@ pub use Rattle.am_laws.proofs.Words.{whole_entry, by_number, stores, fetches, st
 pub use Rattle.am_laws.proofs.Words.{asked_join, asked_leave, notes, keeps_body, rests_at_end, settle_is, rests_refresh, same_stamp, stamp_itself, get_front}
 pub use Rattle.am_laws.proofs.Words.{all_item, all_get, events_have_effects, IsCause, actor, Happens, steps, idles, stops, returns, WasSentTo, Effect}
 pub use Rattle.am_laws.proofs.Words.{other_heard, EachKeeps, runs_keep, StepsKeep, SameParts, law_keeps, Says, LetterSays, bcast, order, welcome, invite}
-pub use Rattle.am_laws.proofs.Words.{vote, result, hand_over, is_itself}
+pub use Rattle.am_laws.proofs.Words.{vote, result, hand_over, equals_itself}
 unfoldable pub use Rattle.am_laws.proofs.Words.{after, fits, fold, accept, pass_over, own_report, tell, go_on, let_go, finish, step, row, hear, hear_refusal}
 unfoldable pub use Rattle.am_laws.proofs.Words.{tick_row, refresh_at_end, lead, refresh, hear_row, request_row, ack_row, nack_row, accept_row, bcast_row}
 unfoldable pub use Rattle.am_laws.proofs.Words.{join_ask_row, happens, happen, with_step, with_record}
@@ -60,15 +60,15 @@ pub use Rattle.am_play.proofs.Runs.{runs_go_on}
 pub use Rattle.am_play.proofs.Beginnings.{happens_begins, happen_begins}
 pub use Rattle.am_play.specs.Lawful.{is_lost, Watch, watch_start, greatest_complete, broken_now}
 unfoldable pub use Rattle.am_play.specs.Lawful.{is_lawful, watch, watch_all}
-pub use Rattle.am_meaning.proofs.Held.{end_core}
-pub use Rattle.am_meaning.specs.Laws.{AllSatisfied}
-pub use Rattle.am_meaning.proofs.AcceptFronts.{above_view, below_view}
 pub use Rattle.am_chain_lists.proofs.Rows.{row_at, row_set, Past, past_after, not_both}
 pub use Rattle.am_chain_lists.specs.Whole.{IsGood, key}
 unfoldable pub use Rattle.am_chain_lists.specs.Whole.{mem, view_of}
 pub use Rattle.am_chain_lists.proofs.Members.{fold_append, good_begins}
 pub use Rattle.am_chain_lists.proofs.Prefixes.{begins_length, begins_take, length_take, take_begins, begins_both, begins_push}
 pub use Rattle.am_chain_lists.proofs.Order.{view_up, view_below}
+pub use Rattle.am_meaning.proofs.Held.{end_core}
+pub use Rattle.am_meaning.specs.Laws.{AllSatisfied}
+pub use Rattle.am_meaning.proofs.AcceptFronts.{above_view, below_view}
 pub use Rattle.am_effects.proofs.Calls.{node_if}
 pub use Rattle.am_effects.proofs.Says.{acts_pushed, leads_pushed}
 pub use Rattle.am_effects.specs.Causes.{refuses, with_send, by_ack, by_nack, by_leave_ask, BringsReport}

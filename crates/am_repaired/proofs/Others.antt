@@ -1,5 +1,5 @@
 -- While another name steps, a sequencer that runs still trimmed no more than its members have taken.
-use Rattle.am_repaired.proofs.Words.{item_get, eqb-true, is_itself, ◌≡◌, ⊎_elim, ℕ, ◌<◌, ◌≤◌, ◌==◌, true, false, List, sym, ap, ◌∙◌, subst, arith, Stamp}
+use Rattle.am_repaired.proofs.Words.{item_get, eqb-true, equals_itself, ◌≡◌, ⊎_elim, ℕ, ◌<◌, ◌≤◌, ◌==◌, true, false, List, sym, ap, ◌∙◌, subst, arith, Stamp}
 use Rattle.am_repaired.proofs.Words.{Rules, Letter, Event, Group, Node, view, acts, is_sequencer, has_log, Step, is_stopped, run, heard_by, split, and_both}
 use Rattle.am_repaired.proofs.Words.{Cause, actor, WasSentTo, IsCause, parts, plain, Rises}
 use Rattle.am_packet.specs.declared.packet.Packet.TheVariants as packet
@@ -25,7 +25,7 @@ module _ (rules : Rules) (events : List Event) (e : Event) (c : Cause) (step : S
   up = rises_along rules m n (heard rules events e c step s t x) (used rules events e c step s t x) x.effect.changes (along rules events e c step s t x)
 
   apart : i ≡ q → ⊥
-  apart is = let z = ap (λ k. q == k) is ∙ is_itself q in let y = other in cc
+  apart is = let z = ap (λ k. q == k) is ∙ equals_itself q in let y = other in cc
 
   own_q : (view (w.nodes q)).by ≡ q
   own_q =

@@ -11,22 +11,22 @@ pub use Rattle.am_headline.proofs.Words.{with_promise, trim_for, left_in, need_o
 pub use Rattle.am_headline.proofs.Words.{hears_letter, hear_cut, acts_as, current, run, start, founders_decided, first_node, Decided, group_with, heard_by}
 pub use Rattle.am_headline.proofs.Words.{whole, broken_at, front_is_lawful, runs_go_on, Begins, IsGood, key, begins_trans, begins_length, length_push}
 pub use Rattle.am_headline.proofs.Words.{begins_take, begins_refl, begins_more, begins_both, begins_same, length_take, good_begins, told_push, mem_in}
-pub use Rattle.am_headline.proofs.Words.{long_told, in_mem, In, row_at, key_by, view_small, view_up, view_viewed, Group, opening, chain_of, IsUp, put, Kept}
+pub use Rattle.am_headline.proofs.Words.{long_told, in_mem, In, row_at, key_by, view_small, view_up, view_viewed, actor, WasSentTo, IsCause, steps, Cause}
+pub use Rattle.am_headline.proofs.Words.{hears, Changes, unchanged, changed, Change, refreshes, settles, numbers, stores, begins_list, looks, fetches}
+pub use Rattle.am_headline.proofs.Words.{stores_view, collects, takes, asks_to_join, asks_to_leave, closes, rests_refresh, settle_is, rests_at_end, logged}
+pub use Rattle.am_headline.proofs.Words.{asking_log, same_stamp, Looks, decides, all_get, Says, piece, result, LetterSays, equals_itself, Ending, at_end}
+pub use Rattle.am_headline.proofs.Words.{let_go, closing, Effect, asking, HeardNames, HasNames, HeardUsed, Along, run_owned, each_along, heard_used, Balloted}
+pub use Rattle.am_headline.proofs.Words.{change_does, Blanked, numbers_hold, IsNoted, heard_names, lists_go_on, Group, opening, chain_of, IsUp, put, Kept}
 pub use Rattle.am_headline.proofs.Words.{Move, choice_of, longer, learns, begins, raises, gives_over, welcomes, asks, stops, Run, founded, more, put_same}
-pub use Rattle.am_headline.proofs.Words.{run_keeps, actor, WasSentTo, IsCause, steps, Cause, hears, Changes, unchanged, changed, Change, refreshes, settles}
-pub use Rattle.am_headline.proofs.Words.{numbers, stores, begins_list, looks, fetches, stores_view, collects, takes, asks_to_join, asks_to_leave, closes}
-pub use Rattle.am_headline.proofs.Words.{rests_refresh, settle_is, rests_at_end, logged, asking_log, same_stamp, Looks, decides, all_get, Says, piece, result}
-pub use Rattle.am_headline.proofs.Words.{LetterSays, is_itself, Ending, at_end, let_go, closing, Effect, asking, HeardNames, HasNames, HeardUsed, Along}
-pub use Rattle.am_headline.proofs.Words.{run_owned, each_along, heard_used, Balloted, change_does, Blanked, numbers_hold, IsNoted, heard_names, lists_go_on}
-pub use Rattle.am_headline.proofs.Words.{NameStands, NamesNamed, Moves, Following, told_all, long_all, member_stays, name_small, group_kept, PacketSays}
-pub use Rattle.am_headline.proofs.Words.{WelcomeTo, has_begun, has_gone, has_left, is_leaving, may_begin, PieceSays, Becomes, stayed, joins, founds, became}
-pub use Rattle.am_headline.proofs.Words.{departed_silent, GroupOk, taken_more, steps_move, departed_quiet, departed_is}
+pub use Rattle.am_headline.proofs.Words.{run_keeps, NameStands, NamesNamed, Moves, Following, told_all, long_all, member_stays, name_small, group_kept}
+pub use Rattle.am_headline.proofs.Words.{PacketSays, WelcomeTo, has_begun, has_gone, has_left, is_leaving, may_begin, PieceSays, Becomes, stayed, joins}
+pub use Rattle.am_headline.proofs.Words.{founds, became, departed_silent, GroupOk, taken_more, steps_move, departed_quiet, departed_is}
 unfoldable pub use Rattle.am_headline.proofs.Words.{finish, hear, hear_refusal, hear_row, with_record, with_step, happens, view_of}
 pub use Rattle.am_stands.proofs.Words.{take-append-add, length-take, Report, at_place, counted_at, fold_append, view_grows, members, next_stamp}
-pub use Rattle.am_stands.proofs.Words.{begins_pushed, mem_push, was_begins, mem_between, leaver_in, leaver_out, Past, Was, counted_in, MayNumber, accepts}
-pub use Rattle.am_stands.proofs.Words.{shows, serves, first_stamp, put_at, Fetches, without_ballot, admits, keeps_body, notes, promises, opens, takes_report}
-pub use Rattle.am_stands.proofs.Words.{stamp_itself, finds_itself_out, waits, fetches_from_best, finds_too_few, finds_no_room, view_pushed, welcome}
-pub use Rattle.am_stands.proofs.Words.{along_changes, numbers_plain, looked_at, equal_stamps, after_view, of_line, of_shown, over, NewView}
+pub use Rattle.am_stands.proofs.Words.{begins_pushed, mem_push, was_begins, mem_between, leaver_in, leaver_out, Past, Was, Fetches, without_ballot, admits}
+pub use Rattle.am_stands.proofs.Words.{keeps_body, notes, promises, opens, takes_report, stamp_itself, finds_itself_out, waits, fetches_from_best}
+pub use Rattle.am_stands.proofs.Words.{finds_too_few, finds_no_room, view_pushed, welcome, along_changes, numbers_plain, looked_at, equal_stamps, after_view}
+pub use Rattle.am_stands.proofs.Words.{counted_in, MayNumber, accepts, shows, serves, first_stamp, put_at, of_line, of_shown, over, NewView}
 unfoldable pub use Rattle.am_stands.proofs.Words.{fits, fold, mem}
 pub use Rattle.std.proofs.Common.{All}
 pub use Rattle.am_model.specs.Node.{image_of as told_at, with_report}
@@ -35,7 +35,6 @@ unfoldable pub use Rattle.am_model.specs.Joining.{join_ask_row}
 pub use Rattle.am_play.specs.Claims.{MayRepair, HasCaughtUp, Repairs}
 pub use Rattle.am_play.specs.Settle.{settle_events}
 pub use Rattle.am_chain_lists.proofs.Members.{ends_of}
-pub use Rattle.am_chain_moves.specs.Group.{Leads, current_of}
 pub use Rattle.am_effects.proofs.Hearing.{other_heard}
 pub use Rattle.am_effects.specs.Changes.{for_ballot, departs}
 pub use Rattle.am_effects.proofs.Rests.{rests_closed}
@@ -46,6 +45,7 @@ pub use Rattle.am_laws.proofs.ViewChanges.{next_above}
 pub use Rattle.am_laws.proofs.Stamps.{not_above_itself, not_above, at_most, at_most_below, below}
 pub use Rattle.am_laws.proofs.ViewSteps.{SameView, Stood, view_last}
 pub use Rattle.am_laws.proofs.Named.{names_hold}
+pub use Rattle.am_chain_moves.specs.Group.{Leads, current_of}
 pub use Rattle.am_stands.proofs.ChainNames.{counts_names}
 pub use Rattle.am_stands.proofs.Parts.{stood, counted_whole}
 pub use Rattle.am_stands.proofs.Entries.{key_stamp}

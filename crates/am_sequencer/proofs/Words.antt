@@ -17,6 +17,8 @@ pub use Rattle.am_core.proofs.Members.{members_pushed}
 pub use Rattle.am_model.specs.Node.{stranger}
 pub use Rattle.am_model.specs.Ends.{Tells}
 pub use Rattle.am_model.proofs.Letters.{one_more}
+pub use Rattle.am_ends.proofs.Nodes.{keeps_end}
+pub use Rattle.am_ends.proofs.Sequencing.{same_served, alike_requested, alike_asked_again}
 pub use Rattle.am_handlers.specs.Cores.{CoreTells, with_core}
 pub use Rattle.am_handlers.proofs.Doing.{core_tells}
 pub use Rattle.am_handlers.proofs.Plans.{end_tells, does_now, done_whole, done_telling, done_silent, done, letter_tells, told_numbered}
@@ -26,6 +28,4 @@ pub use Rattle.am_handlers.proofs.Served.{kept_above, put_next, entry_there, ent
 pub use Rattle.am_handlers.specs.Parts.{node_of, with_told}
 pub use Rattle.am_handlers.proofs.Keeping.{keeps_pushed, leading_log, steady_leads}
 pub use Rattle.am_handlers.specs.declared.parts.Parts.{Parts}
-pub use Rattle.am_ends.proofs.Nodes.{keeps_end}
-pub use Rattle.am_ends.proofs.Sequencing.{same_served, alike_requested, alike_asked_again}
 pub use Rattle.am_sequencer.specs.Pieces.{bcast_from, following, report_refusal, request_refusal, data_packet}

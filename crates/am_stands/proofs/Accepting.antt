@@ -56,7 +56,8 @@ number_held v i n x a node reports stands may r blank above low high held =
       counts = counts;
       logs = λ h t. logged (node h) (take n a.list) (blank h) (omega arith) (stored h t);
       stored = stored;
-      enough = (let few : need_at log n ≤ count_by passes (names_of (counted_at log n)) = leb-true (need_at log n) (holders_at reports log n) held in omega arith);
+      enough = (let few : need_at log n ≤ count_by passes (names_of (counted_at log n)) = leb-true (need_at log n) (holders_at reports log n) held in
+          omega arith);
     }
 
 -- ---- up to the front

@@ -1,7 +1,7 @@
 -- The changes of a node that make no list longer, as moves of the group.
-use Rattle.am_stands.proofs.Words.{is_itself, ◌≡◌, ◌≢◌, ℕ, ◌+◌, ◌<◌, ◌≤◌, ◌==◌, ◌||◌, not, Bool, true, false, List, ◌++◌, length, take, Option, Some, None}
-use Rattle.am_stands.proofs.Words.{refl, sym, ap, ◌∙◌, subst, arith, nat_tests, length-append, length-take, Stamp, Entry, Image, stamp_lt, has, Log, blank}
-use Rattle.am_stands.proofs.Words.{members_of, fold, image_of, mem, key, key_lt, Group, IsThere, IsUp, Move, IsAbove, MayDepart, with_node, own_stamp}
+use Rattle.am_stands.proofs.Words.{equals_itself, ◌≡◌, ◌≢◌, ℕ, ◌+◌, ◌<◌, ◌≤◌, ◌==◌, ◌||◌, not, Bool, true, false, List, ◌++◌, length, take, Option, Some}
+use Rattle.am_stands.proofs.Words.{None, refl, sym, ap, ◌∙◌, subst, arith, nat_tests, length-append, length-take, Stamp, Entry, Image, stamp_lt, has, Log}
+use Rattle.am_stands.proofs.Words.{blank, members_of, fold, image_of, mem, key, key_lt, Group, IsThere, IsUp, Move, IsAbove, MayDepart, with_node, own_stamp}
 use Rattle.am_stands.proofs.Words.{put_same, Status, Node, Ballot, members, is_member, is_asking, has_log, has_departed, is_unfinished, refresh, Verdict}
 use Rattle.am_stands.proofs.Words.{overtake, with_promise, next_stamp, hears_member, World, is_stopped, fold_append, split, and_both, Cause, hears, Balloting}
 use Rattle.am_stands.proofs.Words.{with_more, without_one, as_it_is, Looks, finds_itself_out, finds_too_few, finds_no_room, decides, Promises, invited}
@@ -114,7 +114,7 @@ name_as w name x y a stamp open_ log status leaving start_ promise ballot k = re
 -- what stands for the name itself
 pub own_name : (w : World) (name : ℕ) (x : Node) (s : Group) → name < 256 → StandsBut name (within w name x) s
     → NameStands (within w name x) name x (s.node name)
-own_name w name x s few h = rw (is_itself name) at (h.each name few)
+own_name w name x s few h = rw (equals_itself name) at (h.each name few)
 
 -- who runs and hasn't departed is there
 pub is_there : (w : World) (name : ℕ) (x : Node) (a : groups.Node) → is_stopped w name ≡ false → has_departed x.status ≡ false

@@ -1,5 +1,5 @@
 -- The last member numbers its own Leave, accepts what it may, and goes: one move, which ends its step.
-use Rattle.am_stands.proofs.Words.{is_itself, ◌≡◌, ◌≢◌, ℕ, ◌<◌, ◌≤◌, ◌==◌, true, false, [], ◌∷◌, ◌++◌, length, take, Some, slice_get, refl, sym, ap, ◌∙◌}
+use Rattle.am_stands.proofs.Words.{equals_itself, ◌≡◌, ◌≢◌, ℕ, ◌<◌, ◌≤◌, ◌==◌, true, false, [], ◌∷◌, ◌++◌, length, take, Some, slice_get, refl, sym, ap, ◌∙◌}
 use Rattle.am_stands.proofs.Words.{subst, arith, nat_tests, Stamp, Leave, Log, Event, image_of, Group, put, Move, with_line, longer, Node, push_entry, set_at}
 use Rattle.am_stands.proofs.Words.{has_departed, Step, is_unfinished, Decided, World, group_after, with_step, up_to_next, line_of, split, rests_at_end}
 use Rattle.am_stands.proofs.Words.{NameStands, FrontsStand, StandsBut, Stands, within, NeedsClose, after_closing, CloseStands, MoveOk}
@@ -50,7 +50,7 @@ module _ (w : World) (e : Event) (name : ℕ) (x : Node) (step : Step) (s : Grou
       (λ u.
       let same : i ≡ name = grind (arith, nat_tests) in
       let mine : NameStands (within w name (push_entry x (Leave x.core.who))) name (push_entry x (Leave x.core.who))
-      (longer (s.node name) (Leave x.core.who)) = rw (is_itself name) at (h.each name few) in
+      (longer (s.node name) (Leave x.core.who)) = rw (equals_itself name) at (h.each name few) in
       let gone = gone_name w name x (longer (s.node name) (Leave x.core.who)) log mine in
       let here : NameStands (within w name (after_closing x)) name step.node
       (record (longer (s.node name) (Leave x.core.who)) { departed = true }) = subst (λ (n : Node). NameStands (within w name (after_closing x)) name n
@@ -70,7 +70,7 @@ module _ (w : World) (e : Event) (name : ℕ) (x : Node) (step : Step) (s : Grou
   lines v low = split (v.by == name)
       (λ u.
       let p = push_entry x (Leave x.core.who) in
-      let mine : NameStands (within w name p) name p (longer (s.node name) (Leave x.core.who)) = rw (is_itself name) at (h.each name few) in
+      let mine : NameStands (within w name p) name p (longer (s.node name) (Leave x.core.who)) = rw (equals_itself name) at (h.each name few) in
       let front = taken_more p.core.log.start w.group (group_after w.group step.node) needs.grows mine.begins.within in
       rw u (ap (λ (g : Log). up_to_next v (take g.start (group_after w.group step.node) ++ g.entries)) same_log
       ∙ ap (λ l. up_to_next v (l ++ p.core.log.entries)) front))

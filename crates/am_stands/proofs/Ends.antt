@@ -1,5 +1,5 @@
 -- At the end of a step the group accepts what its sequencer does, and the name learns how far that is.
-use Rattle.am_stands.proofs.Words.{is_itself, ◌≡◌, ◌≢◌, ℕ, zero, suc, ◌<◌, ◌≤◌, ◌==◌, max, true, false, if◌then◌else◌, List, [], ◌∷◌, ◌++◌, length, take}
+use Rattle.am_stands.proofs.Words.{equals_itself, ◌≡◌, ◌≢◌, ℕ, zero, suc, ◌<◌, ◌≤◌, ◌==◌, max, true, false, if◌then◌else◌, List, [], ◌∷◌, ◌++◌, length, take}
 use Rattle.am_stands.proofs.Words.{Some, slice_get, refl, sym, ap, ◌∙◌, subst, arith, nat_tests, Entry, Stamp, Event, Begins, image_of, begins_length, Group}
 use Rattle.am_stands.proofs.Words.{put, with_node, Node, set_at, has_departed, Step, Decided, World, is_stopped, group_after, views_after, with_step}
 use Rattle.am_stands.proofs.Words.{up_to_next, line_of, split, NameStands, FrontsStand, ViewsStand, Stands, Moves, none, moves, Leads, Accepts, no_more}
@@ -135,7 +135,7 @@ learned w e name step s told_ acc_ h = record {
 own_fronts : (n : Node) (name : ℕ) (s : Group) (told_ : ℕ) → n.core.told ≤ told_
     → FrontsStand n ((with_node s name (record (s.node name) { told = told_; acc = n.core.acc })).node name)
 unfolding put
-own_fronts n name s told_ low = rw (is_itself name) (record { told = low; acc = refl })
+own_fronts n name s told_ low = rw (equals_itself name) (record { told = low; acc = refl })
 
 learn_stands : (w : World) (e : Event) (name : ℕ) (step : Step) (s : Group) → s.group ≡ group_after w.group step.node → Ended w e name step s
     → (name < 256) → Learns w s name step.node → Leads (Stands (with_step w e name step)) s

@@ -369,7 +369,8 @@ keeps_by rules w v name c o x y s t (notes from u base acc by heard) plain q lat
     let trim = brings_trim w s name c from u base acc q.h.heard by in
     keep q (good_same q refl) (ballots_same q refl) (opens_same q refl refl refl) (reports_same q refl refl (omega arith))
     (fresh_same q refl refl (omega arith))
-    (trimmed_grow w s t y.core.base q.g (trimmed_max s x.core.base _ q.h.keeps.trimmed (either (nat_le base x.core.taken) base x.core.base trim q.h.keeps.trimmed)))
+    (trimmed_grow w s t y.core.base q.g (trimmed_max s x.core.base _ q.h.keeps.trimmed
+    (either (nat_le base x.core.taken) base x.core.base trim q.h.keeps.trimmed)))
     (turn_same q refl refl) (leaves_same q refl refl)
   where
     either : (b : Bool) (p q : ℕ) → Trimmed s p → Trimmed s q → Trimmed s (if b then p else q)
@@ -415,7 +416,8 @@ keeps_by rules w v name c o x y s t (fetches from u base number e is heard promi
 keeps_by rules w v name c o x y s t (stores_view from u base number names resilience is heard own other promise below may) plain q later =
     keep_pushed q (View u names resilience) (other_heard rules w name c x s q.h from heard).1 refl may.fits refl
     (omega arith) refl refl refl refl refl
-    (trimmed_grow w s t y.core.base q.g (trimmed_max s x.core.base base q.h.keeps.trimmed (q.h.heard (packet.Result from u base number names resilience) is).says.0))
+    (trimmed_grow w s t y.core.base q.g
+    (trimmed_max s x.core.base base q.h.keeps.trimmed (q.h.heard (packet.Result from u base number names resilience) is).says.0))
 keeps_by rules w v name c o x y s t (queues body is says_ member stays few) plain q later =
     keep_same q refl refl refl refl refl refl refl (turn_queued x.core.who (t.node name).list body x.sends
     (turn_grows x.core.who (s.node name).list (t.node name).list x.sends (q.g.each name).list q.h.keeps.turn))

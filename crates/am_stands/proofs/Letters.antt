@@ -1,7 +1,7 @@
 -- What a letter says stays so as the group goes on.
 use Rattle.am_stands.proofs.Words.{◌≡◌, inl, inr, ⊎_elim, ℕ, zero, suc, ◌≤◌, List, ◌++◌, length, take, Bool, true, false, Some, slice_get, refl, sym, ap, ◌∙◌}
 use Rattle.am_stands.proofs.Words.{subst, arith, slice_get_within, Stamp, Report, Vote, Image, Entry, Data, View, has, Request, Spread, Bcast, Order, Accept}
-use Rattle.am_stands.proofs.Words.{Ack, Nack, Hold, JoinAsk, Welcome, LeaveAsk, Gone, Invite, VoteOf, Fetch, Piece, Result, HandOver, item_at, Record, Begins}
+use Rattle.am_stands.proofs.Words.{Ack, Nack, Welcome, LeaveAsk, Gone, VoteOf, Fetch, Piece, Result, item_at, Record, Begins}
 use Rattle.am_stands.proofs.Words.{image_of, mem, key, begins_trans, begins_take, begins_both, begins_length, Group, Chosen, IsThere, World, get_front, line}
 use Rattle.am_stands.proofs.Words.{AllShown, Trimmed, SequencerSays, EntrySays, WasAsked, ReportSays, LeaverSays, of_view, before_it, WelcomeSays, WelcomeTo}
 use Rattle.am_stands.proofs.Words.{has_begun, has_gone, has_left, is_leaving, may_begin, GoneSays, has_stopped, may_go, VoteSays, own, tells, over_vote}
@@ -218,15 +218,12 @@ letters_stay w v s t to (Order i u base acc number from req) more g h = (
 letters_stay w v s t to (Accept i u base acc high poll) more g h = (trimmed_stays w v s t g more base h.0, sequencer_stays w v s t g more i u acc h.1)
 letters_stay w v s t to (Ack i u report) more g h = report_stays w v s t g more i u report h
 letters_stay w v s t to (Nack i u report) more g h = report_stays w v s t g more i u report h
-letters_stay w v s t to (Hold i u base high req) more g h = tt
-letters_stay w v s t to (JoinAsk i u) more g h = tt
 letters_stay w v s t to (Welcome i u base join image) more g h = (
   trimmed_stays w v s t g more base h.0,
   λ name in_. welcome_to_stays w v s t g more i u base join image name (h.1 name in_),
 )
 letters_stay w v s t to (LeaveAsk i u report) more g h = leaver_stays w v s t g more i u report h
 letters_stay w v s t to (Gone i u number) more g h = λ name in_. gone_stays w v s t g more number name (h name in_)
-letters_stay w v s t to (Invite i u) more g h = tt
 letters_stay w v s t to (VoteOf i u shown) more g h = (h.0, vote_stays w v s t g more i u shown h.1)
 letters_stay w v s t to (Fetch i u stored) more g h = fetch_stays w v s t g more i u to h
 letters_stay w v s t to (Piece i u base number e) more g h = (trimmed_stays w v s t g more base h.0, piece_stays w v s t g more i u number e h.1)
@@ -239,4 +236,4 @@ letters_stay w v s t to (Result i u base number names resilience) more g h = (
         stands = item_stays (line s u) (line t u) number (View u names resilience) (g.lines (key u) k.decided) k.stands;
       }),
 )
-letters_stay w v s t to (HandOver i u) more g h = tt
+letters_stay w v s t to _ more g h = tt

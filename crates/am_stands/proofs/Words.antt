@@ -14,7 +14,7 @@ pub use Rattle.am_laws.proofs.Words.{settle_at, settle_waiting, is_unfinished, j
 pub use Rattle.am_laws.proofs.Words.{hears_sequencer, hears_asking, Verdict, overtake, with_promise, next_stamp, need_of, left_in, restart_reports, taken_by}
 pub use Rattle.am_laws.proofs.Words.{own_vote, trim_for, Status, Step, Plan, quiet, is_view, body_of, begin_list, viewed_by, tick_by, first_founder, World}
 pub use Rattle.am_laws.proofs.Words.{first_node, is_stopped, Decided, group_after, last_view, views_after, current, lives_on, group_with, founders_decided}
-pub use Rattle.am_laws.proofs.Words.{mod16, row_view, long_after, In, and_left, blank_joined, or_second, is_itself, same_stamp, stamp_itself, refreshes}
+pub use Rattle.am_laws.proofs.Words.{mod16, row_view, long_after, In, and_left, blank_joined, or_second, equals_itself, same_stamp, stamp_itself, refreshes}
 pub use Rattle.am_laws.proofs.Words.{settles, begins_list, promises, opens, looks, stores_view, asks_to_join, Promises, invited, overtaken_by, told_result}
 pub use Rattle.am_laws.proofs.Words.{Numbers, asked_send, own_send, asked_join, asked_leave, MayBeWelcomed, Fetches, Carries, whole_entry, by_number, Change}
 pub use Rattle.am_laws.proofs.Words.{takes_report, admits, keeps_body, notes, queues, collects, takes, without_ballot, unchanged, changed, rests_refresh}
@@ -55,7 +55,6 @@ pub use Rattle.am_model.proofs.Sets.{some_size, has_size, has_those}
 pub use Rattle.am_play.specs.Claims.{line_of}
 unfoldable pub use Rattle.am_play.specs.Claims.{up_to_next, up_to_view}
 pub use Rattle.am_play.specs.Lawful.{whole, is_view_of}
-pub use Rattle.am_meaning.proofs.BestVotes.{best_vote_is}
 pub use Rattle.am_chain_lists.specs.Whole.{Begins, image_of, IsGood, BeginsBelow, NotView}
 unfoldable pub use Rattle.am_chain_lists.specs.Whole.{mem, view_of, key, resilience_of}
 pub use Rattle.am_chain_lists.proofs.Prefixes.{begins_take, begins_trans, begins_both, begins_length, length_take, begins_refl, begins_nil, begins_more}
@@ -64,6 +63,22 @@ pub use Rattle.am_chain_lists.proofs.Members.{good_begins, mem_between, mem_view
 pub use Rattle.am_chain_lists.proofs.Members.{viewed_mem, was_begins, good_push, leaver_in, mem_push}
 pub use Rattle.am_chain_lists.proofs.Rows.{low_or_above, row_at, row_set, same_name, Past, Was, past_after, not_both, view_parts}
 pub use Rattle.am_chain_lists.proofs.Order.{key_by, view_up, key_lt, view_small, view_viewed, view_push, view_below}
+pub use Rattle.am_meaning.proofs.BestVotes.{best_vote_is}
+pub use Rattle.am_effects.proofs.Resets.{member_heard}
+pub use Rattle.am_effects.proofs.Rests.{leads_rests}
+pub use Rattle.am_effects.proofs.Items.{get_push}
+pub use Rattle.am_effects.proofs.Says.{leads_pushed}
+pub use Rattle.am_effects.specs.Letters.{MayTell, MayFetch}
+pub use Rattle.am_laws.proofs.LeaderRows.{first_member}
+pub use Rattle.am_laws.proofs.Stamps.{equal_stamps}
+pub use Rattle.am_laws.proofs.ViewSteps.{after_same, after_view}
+pub use Rattle.am_laws.proofs.ViewChanges.{numbers_plain, OpenBallot, looked_at, none_of_asking}
+pub use Rattle.am_laws.proofs.Taken.{known_member, leave_fits, looked_vote, own_need, those_at}
+pub use Rattle.am_laws.proofs.Trims.{told_used}
+pub use Rattle.am_laws.proofs.TakenRuns.{Along, along_changes}
+pub use Rattle.am_laws.proofs.Named.{change_named}
+pub use Rattle.am_laws.proofs.ViewMembers.{those_long, viewed_members, those_some}
+pub use Rattle.am_laws.proofs.Limits.{set_those}
 pub use Rattle.am_chain_moves.specs.Group.{how_many, counted_in, IsHeld, MayAccept, Group, IsUp, chain_of, put2, opening, NoBetter, IsThere, Views, Chosen}
 pub use Rattle.am_chain_moves.specs.Group.{IsOngoing}
 unfoldable pub use Rattle.am_chain_moves.specs.Group.{put, count}
@@ -79,22 +94,7 @@ pub use Rattle.am_chain.proofs.Heart.{ballot_ok, list_chain, departed_in}
 pub use Rattle.am_chain.proofs.Decide.{group_low}
 pub use Rattle.am_chain.proofs.Runs.{run_keeps}
 pub use Rattle.am_orders.proofs.Turns.{request_within, next_in}
-pub use Rattle.am_effects.proofs.Resets.{member_heard}
-pub use Rattle.am_effects.proofs.Rests.{leads_rests}
-pub use Rattle.am_effects.proofs.Items.{get_push}
-pub use Rattle.am_effects.proofs.Says.{leads_pushed}
-pub use Rattle.am_effects.specs.Letters.{MayTell, MayFetch}
 pub use Rattle.am_sent.proofs.Changes.{MaySend, body_of_sent, CauseSent, change_sent}
-pub use Rattle.am_laws.proofs.LeaderRows.{first_member}
-pub use Rattle.am_laws.proofs.Stamps.{equal_stamps}
-pub use Rattle.am_laws.proofs.ViewSteps.{after_same, after_view}
-pub use Rattle.am_laws.proofs.ViewChanges.{numbers_plain, OpenBallot, looked_at, none_of_asking}
-pub use Rattle.am_laws.proofs.Taken.{known_member, leave_fits, looked_vote, own_need, those_at}
-pub use Rattle.am_laws.proofs.Trims.{told_used}
-pub use Rattle.am_laws.proofs.TakenRuns.{Along, along_changes}
-pub use Rattle.am_laws.proofs.Named.{change_named}
-pub use Rattle.am_laws.proofs.ViewMembers.{those_long, viewed_members, those_some}
-pub use Rattle.am_laws.proofs.Limits.{set_those}
 pub use Rattle.am_unballoted.proofs.Turns.{waiting_is, one_more, waiting_settled, collected_turn}
 unfoldable pub use Rattle.am_unballoted.proofs.Turns.{Turn}
 pub use Rattle.am_unballoted.proofs.Says.{only_is}

@@ -8,18 +8,18 @@ pub use Rattle.am_stands.proofs.Words.{Report, NodeEvent, GiveUp, Packet, stamp_
 pub use Rattle.am_stands.proofs.Words.{is_member, is_asking, is_sequencer, others, push_entry, has_departed, has_log, set_at, lowest_or_first, Verdict}
 pub use Rattle.am_stands.proofs.Words.{trim_for, left_in, need_of, overtake, is_view, Step, Status, is_unfinished, hears_member, hears_asking, hears_in_view}
 pub use Rattle.am_stands.proofs.Words.{hears_sequencer, refresh, settle, step, hear, hear_refusal, Departed, World, group_after, Decided, last_view}
-pub use Rattle.am_stands.proofs.Words.{views_after, group_with, current, is_stopped, up_to_next, view_of, Begins, view_small, begins_refl, Group, chain_of}
-pub use Rattle.am_stands.proofs.Words.{IsUp, IsThere, longer, with_node, Kept, put_same, actor, steps, idles, returns, same_stamp, stamp_itself, Cause, hears}
-pub use Rattle.am_stands.proofs.Words.{by_request, BringsReport, with_send, BringsFronts, with_number, alone, with_entry, Looks, finds_itself_out, Balloting}
-pub use Rattle.am_stands.proofs.Words.{with_more, without_one, as_it_is, waits, fetches_from_best, finds_too_few, finds_no_room, decides, Change, refreshes}
-pub use Rattle.am_stands.proofs.Words.{settles, begins_list, promises, opens, looks, stores_view, unchanged, changed, Promises, invited, overtaken}
-pub use Rattle.am_stands.proofs.Words.{told_result, Carries, whole_entry, by_number, takes_report, admits, keeps_body, notes, queues, collects, takes}
-pub use Rattle.am_stands.proofs.Words.{asks_to_join, asks_to_leave, overtaken_by, rests_refresh, settle_is, rests_at_end, leads_rests, leads_pushed, logged}
-pub use Rattle.am_stands.proofs.Words.{all_get, CauseSent, none_of_asking, numbers_plain, looked_at, OpenBallot, Along, along_changes, equal_stamps}
-pub use Rattle.am_stands.proofs.Words.{NameStands, StandsBut, Stands, within, FrontsStand, ViewsStand, CountsNames, ComesTo, nothing, of_sequencer, MayCount}
-pub use Rattle.am_stands.proofs.Words.{Word, AcceptsAndLearns, NeedsClose, after_closing, NamesNamed, Leads, Moves, none, moves, MayMove, after_change}
-pub use Rattle.am_stands.proofs.Words.{after_look, FrontsStay, WasBegun, Stepping, HeardSo, GroupFor, NodeKeeps, Grows, SequencerSays, WasAsked, AllShown}
-pub use Rattle.am_stands.proofs.Words.{PacketSays, ShowsMore, Sender, ListBegins, just_begun, Reporting, SendsOnce, OwnDecided, FetchesStand}
+pub use Rattle.am_stands.proofs.Words.{views_after, group_with, current, is_stopped, up_to_next, view_of, Begins, view_small, begins_refl, actor, steps}
+pub use Rattle.am_stands.proofs.Words.{idles, returns, same_stamp, stamp_itself, Cause, hears, by_request, BringsReport, with_send, BringsFronts, with_number}
+pub use Rattle.am_stands.proofs.Words.{alone, with_entry, Looks, finds_itself_out, Balloting, with_more, without_one, as_it_is, waits, fetches_from_best}
+pub use Rattle.am_stands.proofs.Words.{finds_too_few, finds_no_room, decides, Change, refreshes, settles, begins_list, promises, opens, looks, stores_view}
+pub use Rattle.am_stands.proofs.Words.{unchanged, changed, Promises, invited, overtaken, told_result, Carries, whole_entry, by_number, takes_report, admits}
+pub use Rattle.am_stands.proofs.Words.{keeps_body, notes, queues, collects, takes, asks_to_join, asks_to_leave, overtaken_by, rests_refresh, settle_is}
+pub use Rattle.am_stands.proofs.Words.{rests_at_end, leads_rests, leads_pushed, logged, all_get, none_of_asking, numbers_plain, looked_at, OpenBallot, Along}
+pub use Rattle.am_stands.proofs.Words.{along_changes, equal_stamps, Group, chain_of, IsUp, IsThere, longer, with_node, Kept, put_same, CauseSent, NameStands}
+pub use Rattle.am_stands.proofs.Words.{StandsBut, Stands, within, FrontsStand, ViewsStand, CountsNames, ComesTo, nothing, of_sequencer, MayCount, Word}
+pub use Rattle.am_stands.proofs.Words.{AcceptsAndLearns, NeedsClose, after_closing, NamesNamed, Leads, Moves, none, moves, MayMove, after_change, after_look}
+pub use Rattle.am_stands.proofs.Words.{FrontsStay, WasBegun, Stepping, HeardSo, GroupFor, NodeKeeps, Grows, SequencerSays, WasAsked, AllShown, PacketSays}
+pub use Rattle.am_stands.proofs.Words.{ShowsMore, Sender, ListBegins, just_begun, Reporting, SendsOnce, OwnDecided, FetchesStand}
 unfoldable pub use Rattle.am_stands.proofs.Words.{fold, refresh_at_end, with_record, with_step, key}
 pub use Rattle.am_laws.proofs.Words.{length-append, All-weaker, nobody, Letter, Act, is_for, letter_at, top, image_of, with_report, with_noted, packet_length}
 pub use Rattle.am_laws.proofs.Words.{start, run, hears_letter, hear_cut, acts_as, heard_by, IsCall, IsCause, stops, WasSentTo, EachKeeps, runs_keep, along}
@@ -39,12 +39,6 @@ pub use Rattle.am_effects.specs.Courses.{IsPlain, Course, nothing_yet, used_repo
 pub use Rattle.am_effects.specs.Courses.{closing}
 pub use Rattle.am_effects.proofs.Plans.{course_changes}
 pub use Rattle.am_effects.specs.Effects.{Answers, WasQueued, AnswersAsk}
-pub use Rattle.am_sent.proofs.Runs.{after_step, AllSent, sent_start, cause_sent}
-pub use Rattle.am_sent.proofs.Kept.{kept_refresh, EntrySent, SendSent, WasSent, kept_more}
-pub use Rattle.am_promises.specs.Claim.{AtMost, IsBegun, StampOk}
-pub use Rattle.am_promises.proofs.Stamps.{most_same, most_through}
-pub use Rattle.am_promises.proofs.Changes.{CauseBegun, Promised, promise_change}
-pub use Rattle.am_promises.proofs.Runs.{AllBegun, cause_begun, each_keeps, start_begun}
 pub use Rattle.am_laws.proofs.ViewChanges.{leads_member, changes_do, Balloted, change_does}
 pub use Rattle.am_laws.proofs.ViewNames.{HeardNames, HasNames, change_names, promised_named}
 pub use Rattle.am_laws.proofs.Taken.{HeardUsed}
@@ -54,6 +48,12 @@ pub use Rattle.am_laws.proofs.ViewSteps.{SameView, Stood, view_last, Goes}
 pub use Rattle.am_laws.proofs.Views.{IsNoted, AllViews, each_views, heard_names, views_start}
 pub use Rattle.am_laws.proofs.Named.{few_names, AllNamed, each_named, start_named}
 pub use Rattle.am_laws.proofs.RunCounts.{numbers_hold}
+pub use Rattle.am_sent.proofs.Runs.{after_step, AllSent, sent_start, cause_sent}
+pub use Rattle.am_sent.proofs.Kept.{kept_refresh, EntrySent, SendSent, WasSent, kept_more}
+pub use Rattle.am_promises.specs.Claim.{AtMost, IsBegun, StampOk}
+pub use Rattle.am_promises.proofs.Stamps.{most_same, most_through}
+pub use Rattle.am_promises.proofs.Changes.{CauseBegun, Promised, promise_change}
+pub use Rattle.am_promises.proofs.Runs.{AllBegun, cause_begun, each_keeps, start_begun}
 pub use Rattle.am_unballoted.proofs.Records.{idle_queues}
 pub use Rattle.am_unballoted.proofs.Worlds.{AskedOk, asked_more, asked_other, unique}
 pub use Rattle.am_unballoted.proofs.Actors.{same_group}

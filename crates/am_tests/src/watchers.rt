@@ -3,8 +3,8 @@ use am_base::founding::Founding;
 use am_base::name::{Name, Stamp};
 use am_base::names::Names;
 use am_model::status::Status;
-use am_watch::views::{DecidedView, Standing};
 use am_watch::watcher::Watcher;
+use am_watching::views::{DecidedView, Standing};
 use std::process::Abort;
 use std::test::Fail;
 

@@ -52,7 +52,6 @@ unfoldable pub use Rattle.am_chain_lists.specs.Whole.{mem, AllSmall}
 pub use Rattle.am_chain_lists.proofs.Members.{good_push, mem_in, in_mem, mem_push, good_begins, told_push, long_told, viewed_mem}
 pub use Rattle.am_chain_lists.proofs.Prefixes.{begins_take, begins_push, length_take, begins_same, length_push}
 pub use Rattle.am_chain_lists.proofs.Rows.{same_name, row_at, row_set, row_view}
-pub use Rattle.am_orders.proofs.Turns.{request_within, next_in, senders_in_order, send_stands_once}
 pub use Rattle.am_effects.specs.Changes.{Numbers, Promises}
 pub use Rattle.am_effects.specs.Letters.{MayWelcome}
 pub use Rattle.am_effects.specs.Effects.{WasQueued, AnswersAsk, HasTaken, WasSettled, HasBegun}
@@ -66,6 +65,7 @@ pub use Rattle.am_effects.proofs.Events.{events_have_effects}
 pub use Rattle.am_effects.proofs.Runs.{EachKeeps, runs_keep}
 pub use Rattle.am_effects.proofs.Ballots.{entry_is}
 pub use Rattle.am_bounded.proofs.Runs.{bounded_holds}
+pub use Rattle.am_orders.proofs.Turns.{request_within, next_in, senders_in_order, send_stands_once}
 pub use Rattle.am_sent.proofs.Kept.{Keeps, WasSent, EntrySent}
 pub use Rattle.am_sent.proofs.Changes.{CauseSent, change_sent, MaySend, body_of_sent}
 pub use Rattle.am_sent.proofs.Runs.{AllSent, all_sent_more, after_step, cause_sent, sent_holds, sent_start}

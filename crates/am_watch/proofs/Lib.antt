@@ -1,11 +1,2 @@
 pub mod Words
-pub mod Order
-pub mod Folds
-pub mod Numbers
-pub mod Complete
-pub mod Looks
-pub mod Steps
-pub mod Begins
-pub mod Members
 pub mod Accepts
-pub mod Events

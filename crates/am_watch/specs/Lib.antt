@@ -1,3 +1,1 @@
-pub mod Watching
-pub mod Watches
 pub mod Watchers

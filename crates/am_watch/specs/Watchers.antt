@@ -1,6 +1,6 @@
 -- What a watcher keeps, and whether it has room for one event more.
 use Rattle.std.specs.Prelude.{◌<◌, vec_len, vec_capacity}
-use Rattle.am_watch.specs.Watching.{Watching}
+use Rattle.am_watching.specs.Watching.{Watching}
 use Rattle.am_watch.specs.declared.watcher.Watcher.{Watcher}
 
 abbrev pub watching_of : Watcher → Watching

@@ -2,6 +2,5 @@
 //! were lost than it survives.
 #![tactic(auto)]
 
-pub mod laws;
 pub mod views;
 pub mod watcher;

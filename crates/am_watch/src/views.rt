@@ -1,49 +1,12 @@
 ghost use Rattle.std.specs.Prelude.{◌≡◌, map, if◌then◌else◌};
 ghost use Rattle.am_base.specs.Stamps.{stamp_eq};
 ghost use Rattle.am_model.specs.Node.{is_member, founding_stamp, has_departed};
-ghost use Rattle.am_watch.specs.Watching.{blank_standing, first_standing, first_view, same_flag, is_alike, decides, new_pending, store_view, or_else, place_view};
+ghost use Rattle.am_watching.specs.Watching.{blank_standing, first_standing, first_view, same_flag, is_alike, decides, new_pending, store_view, or_else, place_view};
 
 use am_base::founding::Founding;
 use am_base::name::{Name, Stamp};
-use am_base::names::Names;
 use am_model::status::Status;
-
-/// A view that a name decided.
-#[derive(Clone, Copy, Debug)]
-pub struct DecidedView {
-    /// The number of its View in the list of the name that decided it.
-    pub number: u32,
-    /// Its stamp.
-    pub stamp: Stamp,
-    /// Its members.
-    pub members: Names,
-    /// Its resilience, 0 to 15.
-    pub resilience: u8,
-}
-
-/// What a name's node shows.
-#[derive(Clone, Copy, Debug)]
-pub struct Standing {
-    /// How it stands to the group.
-    pub status: Status,
-    /// The stamp of its list's last View.
-    pub view: Stamp,
-    /// The number of its own Join, 1 for a founder, 0 where it has no list.
-    pub start: u32,
-    /// How many entries the group had accepted where its list begins.
-    pub from: u32,
-}
-
-/// A view that isn't complete: who stored its View in a list of its own, and where that stands in the group list.
-#[derive(Drop, Debug)]
-pub struct Pending {
-    /// The view.
-    pub view: DecidedView,
-    /// For each of the 256 names, whether its View stands among the entries that the name stored.
-    pub stored: [bool; 256],
-    /// The number of its View in the group list, where it stands there.
-    pub number_in_group: Option<u32>,
-}
+use am_watching::views::{DecidedView, Pending, Standing};
 
 fn is_member(status: Status) -> bool
     ensures { result ≡ is_member status }

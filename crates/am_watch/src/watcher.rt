@@ -2,17 +2,18 @@ ghost use Rattle.std.specs.Prelude.{◌≡◌, ◌&&◌, ◌||◌, ◌+◌, ◌<
 ghost use Rattle.std.specs.List.{list_any, range_with_len};
 ghost use Rattle.am_base.specs.Names.{names_of, name_at};
 ghost use Rattle.am_base.specs.Most.{most_word};
-ghost use Rattle.am_watch.specs.Watching.{first_watching, blank_standing, first_standing, standing, has_stopped, is_by, has_stored, lags, is_complete, greater, greatest, is_lost, is_lawful, broken_now, look, pass, stop, is_alike, with_standing, with_decided, with_entry, finish, accept, is_above, store_view, place_view};
+ghost use Rattle.am_watching.specs.Watching.{first_watching, blank_standing, first_standing, standing, has_stopped, is_by, has_stored, lags, is_complete, greater, greatest, is_lost, is_lawful, broken_now, look, pass, stop, is_alike, with_standing, with_decided, with_entry, finish, accept, is_above, store_view, place_view};
 ghost use Rattle.am_watch.specs.Watchers.{watching_of, HasRoom};
 
 use crate::views::{
-    DecidedView, Pending, Standing, blank_standing, decides, first_standing, first_view,
-    has_departed, is_alike, new_pending, place_in_each, store_in_each,
+    blank_standing, decides, first_standing, first_view, has_departed, is_alike, new_pending,
+    place_in_each, store_in_each,
 };
 use am_base::NoMemory;
 use am_base::entry::Entry;
 use am_base::founding::Founding;
 use am_base::name::{Name, Stamp};
+use am_watching::views::{DecidedView, Pending, Standing};
 use std::alloc::Global;
 
 /// Watches a run: it is told each event, and says whether the run is lawful (docs/PROTOCOL.md, "Complete views and lawful
@@ -183,7 +184,7 @@ impl Watcher {
     }
 
     /// Whether a running member's list hasn't reached a view.
-    #[tactic(auto, using(crate::proofs::Members::any_laws))]
+    #[tactic(auto, using(am_watching::proofs::Members::any_laws))]
     fn is_lagged(&self, v: &Pending) -> bool
         ensures { result ≡ list_any (lags (watching_of self.now) v.now.view.stamp)
             (names_of v.now.view.members) }
@@ -197,7 +198,7 @@ impl Watcher {
         false
     }
 
-    #[tactic(auto, unfolding(crate::specs::Watching::is_complete))]
+    #[tactic(auto, unfolding(am_watching::specs::Watching::is_complete))]
     fn is_complete(&self, v: &Pending) -> bool
         ensures { result ≡ is_complete (watching_of self.now) v.now }
     {
@@ -218,7 +219,7 @@ impl Watcher {
     }
 
     /// The greatest view that is complete now.
-    #[tactic(auto, using(crate::proofs::Members::greatest_laws))]
+    #[tactic(auto, using(am_watching::proofs::Members::greatest_laws))]
     fn greatest(&self) -> DecidedView
         ensures { result ≡ greatest (watching_of self.now) (watching_of self.now).complete
             (watching_of self.now).pending }
@@ -237,7 +238,7 @@ impl Watcher {
         (v.members.has(name) || v.number < standing.start) && !has_departed(standing.status)
     }
 
-    #[tactic(auto, unfolding(crate::specs::Watching::is_lawful))]
+    #[tactic(auto, unfolding(am_watching::specs::Watching::is_lawful))]
     fn is_lawful(&self, v: &DecidedView) -> bool
         ensures { result ≡ is_lawful (watching_of self.now) v.now }
     {
@@ -268,7 +269,7 @@ impl Watcher {
     }
 
     /// An event is over after which a view may have become complete, or somebody was lost.
-    #[tactic(auto, unfolding(crate::specs::Watching::look))]
+    #[tactic(auto, unfolding(am_watching::specs::Watching::look))]
     fn look(&mut self)
         requires { (watching_of self.old).count < most_word }
         ensures { watching_of self.new ≡ look (watching_of self.old) }

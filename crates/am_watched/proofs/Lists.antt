@@ -1,9 +1,9 @@
 -- A name's step only adds entries to its list.
-use Rattle.am_watched.proofs.Words.{Each, each_node_keeps, first_has, is_itself, ◌≡◌, ℕ, ◌<◌, ◌≤◌, Bool, false, if◌then◌else◌, List, [], ◌++◌, length, drop}
-use Rattle.am_watched.proofs.Words.{refl, sym, ap, ◌∙◌, subst, arith, All, append-nil, drop-append_seam, Rules, MayFound, Packet, Event, Node, has_log, Step}
-use Rattle.am_watched.proofs.Words.{World, start, first_node, with_step, run, heard_by, Cause, Effect, actor, WasSentTo, IsCause, steps, along, EachKeeps}
-use Rattle.am_watched.proofs.Words.{runs_keep, accepted_of, NodeNumbers, AllNamed, few_names, each_named, numbers_hold, AllViews, heard_names, each_views}
-use Rattle.am_watched.proofs.Words.{views_start, ListsGoOn}
+use Rattle.am_watched.proofs.Words.{Each, each_node_keeps, first_has, equals_itself, ◌≡◌, ℕ, ◌<◌, ◌≤◌, Bool, false, if◌then◌else◌, List, [], ◌++◌, length}
+use Rattle.am_watched.proofs.Words.{drop, refl, sym, ap, ◌∙◌, subst, arith, All, append-nil, drop-append_seam, Rules, MayFound, Packet, Event, Node, has_log}
+use Rattle.am_watched.proofs.Words.{Step, World, start, first_node, with_step, run, heard_by, Cause, Effect, actor, WasSentTo, IsCause, steps, along}
+use Rattle.am_watched.proofs.Words.{EachKeeps, runs_keep, accepted_of, NodeNumbers, AllNamed, few_names, each_named, numbers_hold, AllViews, heard_names}
+use Rattle.am_watched.proofs.Words.{each_views, views_start, ListsGoOn}
 use Rattle.am_packet.specs.declared.packet.Packet.TheVariants as packet
 use Rattle.am_watched.proofs.Chains.{IsLonger, changes_longer, HeardLow, change_begins, changes_stay}
 
@@ -64,7 +64,7 @@ lists_go_on rules events e c s may runs cause effect =
     let first : m.core.log.start ≤ length w.group = let a = low.kept in let b = low.base in omega arith in
     record {
       within = few_names rules w e h.base.named;
-      own = ap (λ (b : Bool). (if b then n else m).core.who) (sym (is_itself name)) ∙ named.who name;
+      own = ap (λ (b : Bool). (if b then n else m).core.who) (sym (equals_itself name)) ∙ named.who name;
       adds = longer.is ∙ ap (λ more. m.core.log.entries ++ more)
           (sym (ap (drop (length m.core.log.entries)) longer.is ∙ drop-append_seam m.core.log.entries longer.more));
       begins = along (λ (x : Node). x.core.log.start ≤ length w.group) (change_begins (length w.group) (heard_low rules events e c cause)) effect.changes first;

@@ -1,5 +1,5 @@
 -- In each run each noted view has the members that its View names.
-use Rattle.am_watched.proofs.Words.{view_rises, is_itself, logged, stamp_itself, ◌≡◌, ℕ, ◌==◌, not, Bool, true, false, if◌then◌else◌, List, [], ◌∷◌, Some}
+use Rattle.am_watched.proofs.Words.{view_rises, equals_itself, logged, stamp_itself, ◌≡◌, ℕ, ◌==◌, not, Bool, true, false, if◌then◌else◌, List, [], ◌∷◌, Some}
 use Rattle.am_watched.proofs.Words.{refl, sym, ap, ◌∙◌, subst, arith, All, nat_tests, All-nil, All-cons, All-append, All-weaker, View, Outcome, Rules}
 use Rattle.am_watched.proofs.Words.{MayFound, has, stamp_lt, stamp_eq, entry_at, after, fold, Event, Node, image_of, view, set_at, is_member, has_log, Step}
 use Rattle.am_watched.proofs.Words.{Decided, World, start, first_node, founders_decided, last_view, views_after, with_record, with_step, run, split, and_both}
@@ -68,7 +68,7 @@ views_whole nodes name n views d who new h =
     let a = and_both (is_member m.status) _ t in
     let b = and_both ((view n).by == n.core.who) (not (stamp_eq (view m) (view n))) a.1 in
     let by : (view n).by ≡ name = (let x : (view n).by ≡ n.core.who = (let y = b.0 in grind (arith, nat_tests)) in x ∙ who) in
-    let at : set_at nodes name n (view n).by ≡ n = ap (set_at nodes name n) by ∙ ap (λ (q : Bool). if q then n else m) (is_itself name) in
+    let at : set_at nodes name n (view n).by ≡ n = ap (set_at nodes name n) by ∙ ap (λ (q : Bool). if q then n else m) (equals_itself name) in
     let one : WholeView (set_at nodes name n) (last_view n) = record {
       log_ = ap (λ (x : Node). has_log x.status) at ∙ d.log_ (logged m.status a.0);
       there = ap (λ (x : Node). entry_at x.core.log (image_of n).view_number) at ∙ new t;
@@ -115,7 +115,7 @@ members_step rules w e c s cause effect own owned h =
     let start_ = each_along rules w name few h.owned in
     let kept = views.each name few in
     let d = (changes_do m n names effect.changes kept.names kept.balloted).does in
-    let who : n.core.who ≡ name = ap (λ (b : Bool). (if b then n else m).core.who) (sym (is_itself name)) ∙ own.lists.base.named.who name in
+    let who : n.core.who ≡ name = ap (λ (b : Bool). (if b then n else m).core.who) (sym (equals_itself name)) ∙ own.lists.base.named.who name in
     let new : runs.decides m n ≡ true → Whole n.core.log = λ t.
     (let member = (and_both (is_member m.status) _ t).0 in
     let first : Going rules name c m m = record {

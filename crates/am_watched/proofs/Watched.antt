@@ -5,7 +5,7 @@ use Rattle.am_watched.proofs.Words.{watch_all, watch_run, is_view_of, split, wat
 use Rattle.am_watched.proofs.Words.{standing_of, view_of, additions, IsNew, Steps, SteppedTo, SameBut, beginning_is_watched, steps_are_watched}
 use Rattle.am_watched.proofs.Words.{stops_are_watched, others_are_watched, watched_after, same_unchanged, same_stopped, same_lives, stepped_to, stored_since}
 use Rattle.am_watched.proofs.Words.{BeginningIsKept, BreakIsKept, after_step, StepIsWatched, StopIsWatched, ReturnIsWatched, PassIsWatched}
-use Rattle.am_watch.specs.Watches.{after}
+use Rattle.am_watching.specs.Watches.{after}
 use Rattle.am_play.specs.World as runs
 use Rattle.am_watched.proofs.{Lists.lists_go_on, New.decided_are_new}
 

@@ -11,9 +11,9 @@ pub use Rattle.am_laws.proofs.Words.{lives_on, current, is_stopped, heard_by, lo
 pub use Rattle.am_laws.proofs.Words.{as_it_is, Looks, finds_itself_out, decides, Change, refreshes, settles, numbers, stores, begins_list, departs, looks}
 pub use Rattle.am_laws.proofs.Words.{fetches, stores_view, asks_to_join, closes, Changes, unchanged, changed, Numbers, asked_send, own_send, asked_join}
 pub use Rattle.am_laws.proofs.Words.{asked_leave, Carries, whole_entry, by_number, promises, opens, no_change, Promises, invited, overtaken_by, told_result}
-pub use Rattle.am_laws.proofs.Words.{rests_refresh, rests_at_end, settle_is, Each, each_node_keeps, first_has, is_itself, or_second, Effect, actor, WasSentTo}
-pub use Rattle.am_laws.proofs.Words.{IsCause, steps, idles, stops, returns, along, EachKeeps, runs_keep, StepsKeep, SameParts, law_keeps, stamp_itself}
-pub use Rattle.am_laws.proofs.Words.{same_stamp, told_pushed, view_pushed, all_get, all_item, Says, piece, result, LetterSays}
+pub use Rattle.am_laws.proofs.Words.{rests_refresh, rests_at_end, settle_is, Each, each_node_keeps, first_has, equals_itself, or_second, Effect, actor}
+pub use Rattle.am_laws.proofs.Words.{WasSentTo, IsCause, steps, idles, stops, returns, along, EachKeeps, runs_keep, StepsKeep, SameParts, law_keeps}
+pub use Rattle.am_laws.proofs.Words.{stamp_itself, same_stamp, told_pushed, view_pushed, all_get, all_item, Says, piece, result, LetterSays}
 unfoldable pub use Rattle.am_laws.proofs.Words.{fits, after, fold, with_step, with_record}
 pub use Rattle.std.proofs.Common.{append_assoc}
 pub use Rattle.std.proofs.Math.Seq.{drop-append_seam}
@@ -24,12 +24,12 @@ pub use Rattle.am_base.specs.Stamps.{no_stamp}
 pub use Rattle.am_play.specs.Lawful.{is_view_of, Watch, watch_start, watch, watch_run}
 unfoldable pub use Rattle.am_play.specs.Lawful.{watch_all}
 pub use Rattle.am_play.proofs.Runs.{watched_is_run}
-pub use Rattle.am_watch.proofs.Folds.{not_both}
-pub use Rattle.am_watch.specs.Watching.{Watching, watch_step, stop, pass, accept}
-pub use Rattle.am_watch.specs.Watches.{Watches, standing_of, view_of, additions, IsNew, Steps, SteppedTo, SameBut}
-pub use Rattle.am_watch.proofs.Begins.{beginning_is_watched}
-pub use Rattle.am_watch.proofs.Steps.{steps_are_watched, stops_are_watched, others_are_watched}
-pub use Rattle.am_watch.proofs.Events.{watched_after, same_unchanged, same_stopped, same_lives, stepped_to}
+pub use Rattle.am_watching.proofs.Folds.{not_both}
+pub use Rattle.am_watching.specs.Watching.{Watching, watch_step, stop, pass, accept}
+pub use Rattle.am_watching.specs.Watches.{Watches, standing_of, view_of, additions, IsNew, Steps, SteppedTo, SameBut}
+pub use Rattle.am_watching.proofs.Begins.{beginning_is_watched}
+pub use Rattle.am_watching.proofs.Steps.{steps_are_watched, stops_are_watched, others_are_watched}
+pub use Rattle.am_watching.proofs.Events.{watched_after, same_unchanged, same_stopped, same_lives, stepped_to}
 pub use Rattle.am_effects.specs.Looks.{was_reset, was_handed, was_fetched}
 pub use Rattle.am_effects.specs.Changes.{asks_to_leave}
 pub use Rattle.am_effects.specs.Letters.{MayTell, leads, decided}

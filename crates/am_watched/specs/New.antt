@@ -8,7 +8,7 @@ use Rattle.am_play.specs.World.{run, is_stopped, decides}
 use Rattle.am_effects.specs.Causes.{Cause}
 use Rattle.am_effects.specs.Effects.{Effect}
 use Rattle.am_effects.specs.Events.{actor, IsCause}
-use Rattle.am_watch.specs.Watches.{IsNew}
+use Rattle.am_watching.specs.Watches.{IsNew}
 
 -- nobody had its View
 abbrev pub DecidedAreNew : Type 0

@@ -11,8 +11,8 @@ use Rattle.am_play.specs.Lawful.{watch_run, broken_at}
 use Rattle.am_effects.specs.Causes.{Cause}
 use Rattle.am_effects.specs.Effects.{Effect}
 use Rattle.am_effects.specs.Events.{actor, IsCause}
-use Rattle.am_watch.specs.Watching.{Watching, first_watching, watch_step, stop, pass, accept}
-use Rattle.am_watch.specs.Watches.{Watches, standing_of, view_of, additions}
+use Rattle.am_watching.specs.Watching.{Watching, first_watching, watch_step, stop, pass, accept}
+use Rattle.am_watching.specs.Watches.{Watches, standing_of, view_of, additions}
 use Rattle.am_watched.specs.Lists.{stored_since}
 
 -- this is kept of the run of these events

@@ -1,13 +1,13 @@
 -- A world's watcher keeps what is watched of its run.
-use Rattle.am_world.proofs.Words.{watch_push, is_itself, ◌≡◌, ℕ, ◌+◌, ◌<◌, ◌≤◌, not, Bool, true, false, if◌then◌else◌, List, [], ◌∷◌, ◌++◌, length, drop, Ok}
-use Rattle.am_world.proofs.Words.{refl, sym, ap, ◌∙◌, subst, arith, length-append, Entry, Image, Outcome, NodeEvent, Rules, MayFound, place_of, Event}
+use Rattle.am_world.proofs.Words.{watch_push, equals_itself, ◌≡◌, ℕ, ◌+◌, ◌<◌, ◌≤◌, not, Bool, true, false, if◌then◌else◌, List, [], ◌∷◌, ◌++◌, length, drop}
+use Rattle.am_world.proofs.Words.{Ok, refl, sym, ap, ◌∙◌, subst, arith, length-append, Entry, Image, Outcome, NodeEvent, Rules, MayFound, place_of, Event}
 use Rattle.am_world.proofs.Words.{members_of, end-told, view, set_at, step, run, happens, with_step, current, is_stopped, Watch, watch_start, watch}
 use Rattle.am_world.proofs.Words.{watch_all, watch_run, IsEndOf, watched_is_run, Standing, Watching, first_watching, standing, watched_step, stop, pass}
 use Rattle.am_world.proofs.Words.{accept, Watches, Steps, SteppedTo, standing_of, view_of, additions, IsNew, watched_after, stepped_to, steps_are_watched}
 use Rattle.am_world.proofs.Words.{stop_is_watched, pass_is_watched, return_is_watched, beginning_is_kept, Play, replay, after_answer, comes, begins}
 use Rattle.am_world.proofs.Words.{standing_after, stored_of, told_step, stops_by, IsWatched, actor, few_names, run_named}
 use Rattle.am_play.specs.World.{decides}
-use Rattle.am_watch.specs.Watches.{after}
+use Rattle.am_watching.specs.Watches.{after}
 use Rattle.am_base.specs.declared.outcome.Outcome.TheVariants as said
 use Rattle.am_model.specs.Node as protocol
 use Rattle.am_play.specs.World as model
@@ -86,7 +86,7 @@ act_at p k e what m known group may kept within is end known_is group_is =
     let v = with_step w e name st in
     let to = stepped_to w e name st in
     let same : w ≡ s.world = sym (watched_is_run p.rules p.events) in
-    let itself : set_at w.nodes name n name ≡ n = rw (is_itself name) refl in
+    let itself : set_at w.nodes name n name ≡ n = rw (equals_itself name) refl in
     let node_is : v.nodes name ≡ n = ap (λ (ns : ℕ → protocol.Node). ns name) to.nodes ∙ itself in
     let now : replay (runs.after p e) ≡ v = replay_after p e ∙ is in
     let ends : IsEndOf n m = subst (λ x. IsEndOf x m) (ap (λ (x : model.World). x.nodes name) now ∙ node_is) end in

@@ -1,5 +1,5 @@
 -- Where a node's list begins after a step: where it did, or at the base that a Welcome told.
-use Rattle.am_world.proofs.Words.{is_itself, logged, ◌≡◌, ℕ, ◌≤◌, ◌==◌, ◌&&◌, ◌||◌, not, Bool, true, false, if◌then◌else◌, List, None, refl, sym, ap, ◌∙◌}
+use Rattle.am_world.proofs.Words.{equals_itself, logged, ◌≡◌, ℕ, ◌≤◌, ◌==◌, ◌&&◌, ◌||◌, not, Bool, true, false, if◌then◌else◌, List, None, refl, sym, ap, ◌∙◌}
 use Rattle.am_world.proofs.Words.{subst, arith, nat_tests, Outcome, Stamp, Image, Rules, MayFound, stamp_eq, Log, Packet, Event, pass_over, Status, Ballot}
 use Rattle.am_world.proofs.Words.{view, is_sequencer, is_member, is_asking, has_log, Verdict, refresh, Step, World, run, happens, with_step, with_record}
 use Rattle.am_world.proofs.Words.{split, and_both, Cause, calls, hears, refuses, BringsFronts, with_entry, with_number, alone, BeginsBy, by_reset}
@@ -178,7 +178,7 @@ begins_in rules events e _ may (steps c s running cause effect) =
     let name = actor w e in
     let m = w.nodes name in
     let adds = lists_go_on rules events e c s may running cause effect in
-    rw (is_itself name) (split (has_log m.status)
+    rw (equals_itself name) (split (has_log m.status)
     (λ t. there_begins m s.node t (adds.stays t))
     (λ f. begins_by m s.node (kind c) effect.changes f (blank_holds rules events name may adds.within f)))
 begins_in rules events e _ may _ = begins_same ((run rules events).nodes (actor (run rules events) e))
@@ -193,4 +193,4 @@ step_begins rules events e s may is =
     let name = actor w e in
     let h : BeginsAt (w.nodes name) ((with_step w e name s).nodes name) =
     begins_in rules events e (with_step w e name s) may (subst (Happens w e) is (events_have_effects w e)) in
-    rw (is_itself name) at h
+    rw (equals_itself name) at h

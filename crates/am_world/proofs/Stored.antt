@@ -1,6 +1,6 @@
 -- What is so of a name's step in every run, as the world tells its watcher of it.
-use Rattle.am_world.proofs.Words.{is_itself, stamp_itself, ◌≡◌, ℕ, ◌≤◌, ◌&&◌, ◌||◌, not, Bool, true, false, if◌then◌else◌, List, length, refl, sym, ap, subst}
-use Rattle.am_world.proofs.Words.{arith, list_any, Stamp, NodeEvent, Rules, MayFound, Event, view, step, World, run, happens, with_step, with_record}
+use Rattle.am_world.proofs.Words.{equals_itself, stamp_itself, ◌≡◌, ℕ, ◌≤◌, ◌&&◌, ◌||◌, not, Bool, true, false, if◌then◌else◌, List, length, refl, sym, ap}
+use Rattle.am_world.proofs.Words.{subst, arith, list_any, Stamp, NodeEvent, Rules, MayFound, Event, view, step, World, run, happens, with_step, with_record}
 use Rattle.am_world.proofs.Words.{is_view_of, actor, Happens, idles, steps, events_have_effects, few_names, names_hold, numbers_hold, IsNew, standing_of}
 use Rattle.am_world.proofs.Words.{view_of, run_lists, lists_go_on, decided_are_new, begins, stored_of}
 use Rattle.am_model.specs.Node.{Node}
@@ -66,7 +66,7 @@ facts rules events e _ may is (steps c s running cause effect) =
     let name = actor w e in
     let adds = lists_go_on rules events e c s may running cause effect in
     let new = decided_are_new rules events e c s may running cause effect in
-    record { own = rw (is_itself name) adds.own; begins_ = rw (is_itself name) adds.begins; new = rw (is_itself name) new }
+    record { own = rw (equals_itself name) adds.own; begins_ = rw (equals_itself name) adds.begins; new = rw (equals_itself name) new }
 
 pub step_facts : (rules : Rules) (events : List Event) (e : Event) (v : World) → MayFound rules → happens (run rules events) e ≡ v
     → StepFacts (run rules events) v (actor (run rules events) e)

@@ -189,11 +189,7 @@ change_still m x y brings refreshes h = let r = rests_refresh x in still (still_
 change_still m x y brings settles h = let e = settle_is x in
     still (still_same m x (settle x) (ap (λ (n : Node). n.status) e) (ap (λ (n : Node). n.core.promise) e) (ap (λ (n : Node). n.core.log) e)
     (ap (λ (n : Node). n.ballot) e) h)
-change_still m x y brings (takes_report s v report by may) h = still (still_same m x y refl refl refl refl h)
-change_still m x y brings (admits s v is leads fit) h = still (still_same m x y refl refl refl refl h)
 change_still {c} m x y brings (numbers e leads room why) h = still (still_plain m x y e (numbers_plain c x e why) refl refl refl refl h)
-change_still m x y brings (keeps_body s v report req body is by) h = still (still_same m x y refl refl refl refl h)
-change_still m x y brings (notes s v base acc by from) h = still (still_same m x y refl refl refl refl h)
 change_still m x y brings (stores s v base acc number e by from plain may) h = still (still_plain m x y e plain refl refl refl refl h)
 change_still m x y brings (begins_list s v base join image is o may) h = welcomed_still m x s v base join image is o may h
 change_still m x y brings (departs s v number is by leaves) h = still (departed m x y refl refl refl h)
@@ -219,9 +215,6 @@ change_still {c} {o} m x y brings (looks b verdict over why look is) h = look_st
 change_still m x y brings (fetches s v base number e is by promise below from may) h = absurd (brings.pieces s v base number e is)
 change_still m x y brings (stores_view s v base number names resilience is by own other promise below may) h =
     absurd (brings.results s v base number names resilience is)
-change_still m x y brings (queues body is o member stays few) h = still (still_same m x y refl refl refl refl h)
-change_still m x y brings (collects req is) h = still (still_same m x y refl refl refl refl h)
-change_still m x y brings (takes e is o member some there) h = still (still_same m x y refl refl refl refl h)
 change_still m x y brings (asks_to_join is was) h = still (record {
   views = h.views;
   same = h.same;
@@ -230,12 +223,12 @@ change_still m x y brings (asks_to_join is was) h = still (record {
   member = λ t. absurd (cc);
   bare = λ f. h.bare (ap has_log was);
 })
-change_still m x y brings (asks_to_leave is was stays done) h = still (still_same m x y refl refl refl refl h)
 change_still m x y brings (closes leads leaves alone room) h =
     let p = push_entry x (Leave x.core.who) in
     let r = rests_at_end p in
     let k = still_plain m x (refresh_at_end p) (Leave x.core.who) refl r.rests.status r.rests.promise r.log r.rests.ballot h in
     still (departed m (refresh_at_end p) y refl refl refl k)
+change_still m x y brings _ h = still (still_same m x y refl refl refl refl h)
 
 -- ---- a View more
 

@@ -5,7 +5,7 @@ use Rattle.am_world.proofs.Words.{take_all, length-drop, Entry, Pending, stamp_e
 use Rattle.am_world.proofs.Words.{new_pending, standing, accept, place_among, number_of, or_else, NodeEvent, is_member, DecidedView, Standing, view_of}
 use Rattle.am_world.proofs.Words.{begins, standing_after, stored_of, with_views, told_step, entries_go_on, accepted_goes_on}
 use Rattle.std.proofs.lemmas.List.{append-nil}
-use Rattle.am_watch.specs.Watching.{with_entry, finish}
+use Rattle.am_watching.specs.Watching.{with_entry, finish}
 use Rattle.am_model.specs.Node.{Node}
 
 -- nothing was stored, or one entry

@@ -9,7 +9,7 @@ pub use Rattle.am_laws.proofs.Words.{is_member, is_asking, has_log, top, image_o
 pub use Rattle.am_laws.proofs.Words.{Status, Verdict, with_promise, need_of, best_of, left_in, trim_for, decide_view, restart_reports, overtake, next_stamp}
 pub use Rattle.am_laws.proofs.Words.{refresh_at_end, settle, push_fetched, catch_up, decide_anew, piece_promised, piece_for, hears_result, hears_member}
 pub use Rattle.am_laws.proofs.Words.{is_view, begin_list, current, group_with, group_after, start, first_node, World, is_stopped, hears_letter, hear_cut}
-pub use Rattle.am_laws.proofs.Words.{lives_on, acts_as, run, spelling_is_heard, cut_is_heard, all_item, is_itself, or_first, actor, Happens, steps, idles}
+pub use Rattle.am_laws.proofs.Words.{lives_on, acts_as, run, spelling_is_heard, cut_is_heard, all_item, equals_itself, or_first, actor, Happens, steps, idles}
 pub use Rattle.am_laws.proofs.Words.{logged, Cause, calls, hears, Balloting, with_more, without_one, as_it_is, Looks, finds_itself_out, waits}
 pub use Rattle.am_laws.proofs.Words.{fetches_from_best, finds_too_few, finds_no_room, HasOpen, whole_entry, by_number, Promises, invited, told_result, Change}
 pub use Rattle.am_laws.proofs.Words.{refreshes, settles, admits, numbers, notes, stores, begins_list, departs, promises, opens, looks, fetches, stores_view}
@@ -45,19 +45,18 @@ pub use Rattle.am_play.specs.World.{record_of, comes_back, does_event}
 pub use Rattle.am_play.proofs.Runs.{runs_go_on, watched_is_run}
 pub use Rattle.am_play.specs.Lawful.{Watch, watch_start, watch_run, is_view_of}
 unfoldable pub use Rattle.am_play.specs.Lawful.{watch, watch_all}
+pub use Rattle.am_watching.specs.declared.views.Standing.{Standing}
+pub use Rattle.am_watching.specs.Watching.{Watching, first_watching, standing, watch_step as watched_step, stop, pass, accept, decides, with_entries}
+pub use Rattle.am_watching.specs.Watching.{with_decided, new_pending, place_among, or_else}
+unfoldable pub use Rattle.am_watching.specs.Watching.{note_entries, number_of}
+pub use Rattle.am_watching.specs.Watches.{Watches, Steps, SteppedTo, standing_of, view_of, additions, IsNew}
+pub use Rattle.am_watching.proofs.Events.{watched_after, stepped_to}
+pub use Rattle.am_watching.proofs.Steps.{steps_are_watched, view_one, entries_go_on, accepted_goes_on}
+pub use Rattle.am_watching.specs.declared.views.Pending.{Pending}
+pub use Rattle.am_watching.specs.declared.views.DecidedView.{DecidedView}
+pub use Rattle.am_ends.proofs.Steps.{end_high, step_end, own_end}
 pub use Rattle.am_node.specs.declared.node.Node.{Node}
 pub use Rattle.am_node.specs.Stands.{state_of}
-pub use Rattle.am_watch.specs.declared.views.Standing.{Standing}
-pub use Rattle.am_watch.specs.Watching.{Watching, first_watching, standing, watch_step as watched_step, stop, pass, accept, decides, with_entries}
-pub use Rattle.am_watch.specs.Watching.{with_decided, new_pending, place_among, or_else}
-unfoldable pub use Rattle.am_watch.specs.Watching.{note_entries, number_of}
-pub use Rattle.am_watch.specs.Watches.{Watches, Steps, SteppedTo, standing_of, view_of, additions, IsNew}
-pub use Rattle.am_watch.proofs.Events.{watched_after, stepped_to}
-pub use Rattle.am_watch.proofs.Steps.{steps_are_watched, view_one, entries_go_on, accepted_goes_on}
-pub use Rattle.am_watch.specs.declared.views.Pending.{Pending}
-pub use Rattle.am_watch.specs.declared.views.DecidedView.{DecidedView}
-pub use Rattle.am_watch.specs.Watchers.{watching_of}
-pub use Rattle.am_ends.proofs.Steps.{end_high, step_end, own_end}
 pub use Rattle.am_effects.proofs.Items.{get_push}
 pub use Rattle.am_effects.specs.Causes.{refuses, BringsFronts, with_entry, with_number, alone}
 pub use Rattle.am_effects.specs.Looks.{BeginsBy, by_reset, by_hand_over}
@@ -76,6 +75,7 @@ pub use Rattle.am_watched.proofs.Watched.{watch_push, stop_is_watched, pass_is_w
 pub use Rattle.am_watched.proofs.Chains.{HeardLow, change_begins}
 pub use Rattle.am_watched.proofs.Lists.{lists_go_on, run_lists, IsBare}
 pub use Rattle.am_watched.proofs.New.{decided_are_new}
+pub use Rattle.am_watch.specs.Watchers.{watching_of}
 pub use Rattle.am_world.specs.Runs.{Play, replay, after, AreNodes, AreLives, AreFlags, IsRun, play_of, Answers, AreFirst, Shows, the_record}
 pub use Rattle.am_world.specs.Asked.{comes, flag_of, if_running, first_bytes, gives_up, stops, returns, event_or_answer, SpellsPacket, after_answer, heard_of}
 pub use Rattle.am_world.specs.Moves.{IsReadyAt, StepsAt, HasPlaceAt, IsReady}

@@ -13,10 +13,10 @@ use Rattle.am_codec.specs.Reading.{Read, reading}
 use Rattle.am_model.specs.declared.status.Status.{Status}
 use Rattle.am_model.specs.Node.{Node, view, is_member, has_log}
 use Rattle.am_play.specs.Lawful.{watch_run}
-use Rattle.am_watch.specs.declared.views.DecidedView.{DecidedView}
-use Rattle.am_watch.specs.declared.views.Standing.{Standing}
-use Rattle.am_watch.specs.Watching.{Watching, standing, decides, with_decided, with_entries, watch_step, accept}
-use Rattle.am_watch.specs.Watches.{Watches, view_of}
+use Rattle.am_watching.specs.declared.views.DecidedView.{DecidedView}
+use Rattle.am_watching.specs.declared.views.Standing.{Standing}
+use Rattle.am_watching.specs.Watching.{Watching, standing, decides, with_decided, with_entries, watch_step, accept}
+use Rattle.am_watching.specs.Watches.{Watches, view_of}
 use Rattle.am_world.specs.Runs.{Play}
 
 -- a name's list began in a step

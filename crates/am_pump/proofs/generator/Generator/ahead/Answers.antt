@@ -1,4 +1,4 @@
-use Rattle.am_pump.proofs.Words.{◌≡◌, slice_index, slice_index_or, sym, ap, ◌∙◌, letters_of, next_for, replay, Drive, no_progress, progress_at}
+use Rattle.am_pump.proofs.Words.{◌≡◌, slice_index, slice_index_or, sym, ap, ◌∙◌, letters_of, next_for, replay, GeneratedRun, no_progress, progress_at}
 use Rattle.am_pump.proofs.Seen.{seen_next}
 use Rattle.am_pump.proofs.generator.Generator.ahead.Goals as goal
 
@@ -14,4 +14,4 @@ returns c =
     ∙ ap (λ i. next_for (letters_of w.records) place (slice_index c.self.inside.seen i)) c.from.ensures
     ∙ sym (seen_next (letters_of w.records) place cursor (slice_index c.self.inside.seen place) (c.self.invariant.looked.each place c.requires))
     ∙ ap (λ ls. next_for ls place cursor) letters
-    ∙ ap (λ (d : Drive). next_for (replay d.play).letters place (progress_at d place).cursor) c.self.view_is
+    ∙ ap (λ (d : GeneratedRun). next_for (replay d.play).letters place (progress_at d place).cursor) c.self.view_is

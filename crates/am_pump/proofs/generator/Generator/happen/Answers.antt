@@ -1,5 +1,5 @@
 use Rattle.am_pump.proofs.Words.{◌≡◌, ◌+◌, ◌++◌, [], ◌∷◌, slice_set, sym, ap, ◌∙◌, subst, bool_byte, record_of, letters_of, letters_more, AreSent, AreSeen}
-use Rattle.am_pump.proofs.Words.{ends_sent, Drive, sent_by, Play, replay}
+use Rattle.am_pump.proofs.Words.{ends_sent, GeneratedRun, sent_by, Play, replay}
 use Rattle.am_pump.proofs.{Seen.seen_grown, Sends.more_sent}
 use Rattle.am_pump.proofs.generator.Generator.happen.Goals as goal
 
@@ -15,7 +15,7 @@ invariant_of-self-2 c =
     let told : c.from.result ≡ bool_byte (ends_sent v.records) = c.from.ensures
     ∙ ap bool_byte (c.ends_sent-is_sent.ensures ∙ ap ends_sent (c.records.ensures.value ∙ c.journal.ensures.records)) in
     let count : c.sent_by-sent.result ≡ sent_by w place = c.sent_by-sent.ensures.value
-    ∙ ap (λ (d : Drive). sent_by (replay d.play) place) (sym c.self.view_is) in
+    ∙ ap (λ (d : GeneratedRun). sent_by (replay d.play) place) (sym c.self.view_is) in
     let done = more_sent sent w v r place c.from.result c.self.invariant.counted c.requires records c.of_byte-node.ensures told in
     let letters : letters_of v.records ≡ letters_of w.records ++ r.packets = ap letters_of records ∙ letters_more w.records r in
     record {

@@ -1,4 +1,4 @@
-use Rattle.am_pump.proofs.Words.{length, sym, ap, ◌∙◌, on_ok_weaker, IfErr-weaker, Lcg, Play, draw, after_draw, Drive, turn_of}
+use Rattle.am_pump.proofs.Words.{length, sym, ap, ◌∙◌, on_ok_weaker, IfErr-weaker, Lcg, Play, draw, after_draw, GeneratedRun, turn_of}
 use Rattle.am_pump.proofs.Drives.{drawn_twice, step_is, same_play}
 use Rattle.am_pump.proofs.generator.Generator.step.Goals as goal
 
@@ -6,9 +6,9 @@ pub returns-clause-ok : goal.returns-clause-ok
 returns-clause-ok c =
     let back = c.self.view_is in
     let mid = drawn_twice c.self.view_is c.draw-place.ensures.drawn c.draw.ensures.drawn in
-    let at = c.draw-place.ensures.value ∙ ap (λ (d : Drive). draw d.words 4) back in
+    let at = c.draw-place.ensures.value ∙ ap (λ (d : GeneratedRun). draw d.words 4) back in
     let turns = c.turn_of-turn.ensures ∙ ap turn_of (c.draw.ensures.value ∙ ap (λ (w : Lcg). draw w 16) c.draw-place.ensures.drawn)
-    ∙ ap (λ (d : Drive). turn_of (draw (after_draw d.words) 16)) back in
+    ∙ ap (λ (d : GeneratedRun). turn_of (draw (after_draw d.words) 16)) back in
     on_ok_weaker c.happen.result (step_is c.args.self.now _ c.act.new.self c.happen.new.self c.draw-place.result c.turn_of-turn.result c.in_ok-act.act mid at
     turns c.in_ok-act.ensures.act c.act.ensures.turned)
     c.happen.ensures.ok

@@ -13,9 +13,9 @@ use Rattle.am_base.specs.Founding.{Rules}
 use Rattle.am_model.specs.declared.status.Status.TheVariants.{Stranger, Member}
 use Rattle.am_model.specs.Node.{is_member, founding_stamp, has_departed}
 use Rattle.am_play.specs.Lawful.{is_view_of}
-use Rattle.am_watch.specs.declared.views.DecidedView.{DecidedView}
-use Rattle.am_watch.specs.declared.views.Standing.{Standing}
-use Rattle.am_watch.specs.declared.views.Pending.{Pending}
+use Rattle.am_watching.specs.declared.views.DecidedView.{DecidedView}
+use Rattle.am_watching.specs.declared.views.Standing.{Standing}
+use Rattle.am_watching.specs.declared.views.Pending.{Pending}
 
 -- what a name shows before its first step
 abbrev pub blank_standing : Standing

@@ -1,18 +1,19 @@
 -- A step of a name, a stop, and any other event: what is kept afterwards is that of the world afterwards.
-use Rattle.am_watch.proofs.Words.{or_parts, or-true, or-false, not-true, ◌≡◌, ◌≢◌, ℕ, ◌+◌, ◌<◌, ◌≤◌, Bool, true, false, not, ◌&&◌, ◌||◌, ◌==◌, if◌then◌else◌}
-use Rattle.am_watch.proofs.Words.{List, [], ◌∷◌, ◌++◌, length, map, filter, replicate, count_by, min, nat_le, nat_lt, Option, Some, None, slice_index_or}
-use Rattle.am_watch.proofs.Words.{slice_set, refl, sym, ap, ◌∙◌, subst, inl, inr, arith, set-set, get_or-set_same, get_or-set_other, length-set}
-use Rattle.am_watch.proofs.Words.{length-append, length-replicate, get_or-replicate, append-nil, map-append, get_or_past, filter-append, cases_lt}
-use Rattle.am_watch.proofs.Words.{list_any-append, nat_tests, list_any, Stamp, Entry, Data, Join, Leave, View, has, size, names_of, stamp_lt, stamp_eq, Node}
-use Rattle.am_watch.proofs.Words.{view, is_member, set_at, has_departed, Decided, World, last_view, Watch, is_view_of, split, and_both, DecidedView, Standing}
-use Rattle.am_watch.proofs.Words.{Pending, Watching, blank_standing, standing, is_by, number_of, or_else, same_flag, is_alike, with_standing, new_pending}
-use Rattle.am_watch.proofs.Words.{decided_views, with_decided, with_entries, store_view, note_entries, note_entry, is_view, finish, watch_step, pass}
-use Rattle.am_watch.proofs.Words.{place_among, accept, standing_of, view_of, decided_of, has_in_list, comes_after, Each, Sees, IsNoted, WatchesUpTo, Watches}
-use Rattle.am_watch.proofs.Words.{after, IsNew, Steps, SteppedTo, SameBut, StepsAreWatched, StopsAreWatched, OthersAreWatched, EntriesGoOn, AcceptedGoesOn}
+use Rattle.am_watching.proofs.Words.{or_parts, not-true, cases_lt, or-true, or-false, ◌≡◌, ◌≢◌, ℕ, ◌+◌, ◌<◌, ◌≤◌, Bool, true, false, not, ◌&&◌, ◌||◌, ◌==◌}
+use Rattle.am_watching.proofs.Words.{if◌then◌else◌, List, [], ◌∷◌, ◌++◌, length, map, filter, replicate, count_by, min, nat_le, nat_lt, Option, Some, None}
+use Rattle.am_watching.proofs.Words.{slice_index_or, slice_set, refl, sym, ap, ◌∙◌, subst, inl, inr, arith, set-set, get_or-set_same, get_or-set_other}
+use Rattle.am_watching.proofs.Words.{length-set, length-append, length-replicate, get_or-replicate, append-nil, map-append, get_or_past, filter-append}
+use Rattle.am_watching.proofs.Words.{list_any-append, nat_tests, list_any, Stamp, Entry, Data, Join, Leave, View, has, size, names_of, stamp_lt, stamp_eq}
+use Rattle.am_watching.proofs.Words.{Node, view, is_member, set_at, has_departed, Decided, World, last_view, Watch, is_view_of, split, and_both, DecidedView}
+use Rattle.am_watching.proofs.Words.{Standing, Pending, Watching, blank_standing, standing, is_by, number_of, or_else, same_flag, is_alike, with_standing}
+use Rattle.am_watching.proofs.Words.{new_pending, decided_views, with_decided, with_entries, store_view, note_entries, note_entry, is_view, finish}
+use Rattle.am_watching.proofs.Words.{watch_step, pass, place_among, accept, standing_of, view_of, decided_of, has_in_list, comes_after, Each, Sees, IsNoted}
+use Rattle.am_watching.proofs.Words.{WatchesUpTo, Watches, after, IsNew, Steps, SteppedTo, SameBut, StepsAreWatched, StopsAreWatched, OthersAreWatched}
+use Rattle.am_watching.proofs.Words.{EntriesGoOn, AcceptedGoesOn}
 use Rattle.am_play.specs.World as run
-use Rattle.am_watch.specs.Watching as kept
-use Rattle.am_watch.proofs.{Order.same_stamp, Folds.each_of, Numbers.number_none, Numbers.number_append, Complete.complete_is, Looks.IsReady, Looks.looks}
-use Rattle.am_watch.proofs.{Looks.passes}
+use Rattle.am_watching.specs.Watching as kept
+use Rattle.am_watching.proofs.{Order.same_stamp, Folds.each_of, Numbers.number_none, Numbers.number_append, Complete.complete_is, Looks.IsReady, Looks.looks}
+use Rattle.am_watching.proofs.{Looks.passes}
 
 -- ---- each of a list
 

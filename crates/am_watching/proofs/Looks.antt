@@ -1,12 +1,12 @@
 -- The end of an event: where it is looked for a greater complete view, and where nothing changed that views ask for.
-use Rattle.am_watch.proofs.Words.{◌≡◌, ℕ, ◌+◌, Bool, true, false, ◌&&◌, if◌then◌else◌, List, [], ◌∷◌, length, map, filter, Option, Some, None, refl, sym, ap}
-use Rattle.am_watch.proofs.Words.{◌∙◌, subst, Entry, stamp_lt, Decided, World, Watch, split, DecidedView, Pending, Watching, standing, greater, greatest}
-use Rattle.am_watch.proofs.Words.{is_above, end_event, look, pass, decided_of, comes_after, Each, Sees, IsNoted, WatchesUpTo, after}
+use Rattle.am_watching.proofs.Words.{◌≡◌, ℕ, ◌+◌, Bool, true, false, ◌&&◌, if◌then◌else◌, List, [], ◌∷◌, length, map, filter, Option, Some, None, refl, sym}
+use Rattle.am_watching.proofs.Words.{ap, ◌∙◌, subst, Entry, stamp_lt, Decided, World, Watch, split, DecidedView, Pending, Watching, standing, greater}
+use Rattle.am_watching.proofs.Words.{greatest, is_above, end_event, look, pass, decided_of, comes_after, Each, Sees, IsNoted, WatchesUpTo, after}
 use Rattle.am_play.specs.Lawful as law
-use Rattle.am_watch.specs.Watching as kept
-use Rattle.am_watch.proofs.Folds.{IsUpTo, IsLeft, up_self, up_greatest, each_of, each_filter, map_filter, each_left, greatest_is, greatest_above}
-use Rattle.am_watch.proofs.Folds.{filter_above}
-use Rattle.am_watch.proofs.Complete.{each_kept, lawful_is}
+use Rattle.am_watching.specs.Watching as kept
+use Rattle.am_watching.proofs.Folds.{IsUpTo, IsLeft, up_self, up_greatest, each_of, each_filter, map_filter, each_left, greatest_is, greatest_above}
+use Rattle.am_watching.proofs.Folds.{filter_above}
+use Rattle.am_watching.proofs.Complete.{each_kept, lawful_is}
 
 -- what is kept when an event is almost over
 pub record IsReady (group : List Entry) (k : Watching) (s : Watch) (w : World) : Type 0 where

@@ -1,10 +1,10 @@
 -- What is kept says who stored a view, who lags, and who is lost, as the world does.
-use Rattle.am_watch.proofs.Words.{◌≡◌, ℕ, ◌+◌, min, Bool, false, not, ◌&&◌, ◌||◌, ◌==◌, nat_le, nat_lt, List, take, count_by, slice_index_or, sym, ap, ◌∙◌}
-use Rattle.am_watch.proofs.Words.{take-append-le, list_any-append, list_any, Stamp, Entry, has, size, names_of, stamp_lt, World, has_departed, is_view_of}
-use Rattle.am_watch.proofs.Words.{DecidedView, Standing, Pending, Watching, standing, is_by, number_of, decided_of, Sees, IsNoted, Each}
+use Rattle.am_watching.proofs.Words.{◌≡◌, ℕ, ◌+◌, min, Bool, false, not, ◌&&◌, ◌||◌, ◌==◌, nat_le, nat_lt, List, take, count_by, slice_index_or, sym, ap, ◌∙◌}
+use Rattle.am_watching.proofs.Words.{take-append-le, list_any-append, list_any, Stamp, Entry, has, size, names_of, stamp_lt, World, has_departed, is_view_of}
+use Rattle.am_watching.proofs.Words.{DecidedView, Standing, Pending, Watching, standing, is_by, number_of, decided_of, Sees, IsNoted, Each}
 use Rattle.am_play.specs.Lawful as law
-use Rattle.am_watch.specs.Watching as kept
-use Rattle.am_watch.proofs.{Folds.IsKept, Folds.each_of, Numbers.number_by}
+use Rattle.am_watching.specs.Watching as kept
+use Rattle.am_watching.proofs.{Folds.IsKept, Folds.each_of, Numbers.number_by}
 
 -- the group list up to where a name's list begins
 begin_is : (k : Watching) (w : World) (group : List Entry) (name : ℕ) → Sees k w group

@@ -1,5 +1,6 @@
 -- Stamps in order.
-use Rattle.am_watch.proofs.Words.{eqb-true, ◌≡◌, ℕ, Bool, true, false, nat_lt, ◌&&◌, ◌||◌, ◌==◌, refl, arith, nat_tests, Stamp, rank_of, stamp_lt, stamp_eq}
+use Rattle.am_watching.proofs.Words.{eqb-true, ◌≡◌, ℕ, Bool, true, false, nat_lt, ◌&&◌, ◌||◌, ◌==◌, refl, arith, nat_tests, Stamp, rank_of, stamp_lt}
+use Rattle.am_watching.proofs.Words.{stamp_eq}
 
 -- by the first number, then by the second
 abbrev pub pair_lt : ℕ → ℕ → ℕ → ℕ → Bool

@@ -1,9 +1,9 @@
 -- The greatest complete view among the pending ones, and among all.
-use Rattle.am_watch.proofs.Words.{◌≡◌, Bool, true, false, ◌&&◌, if◌then◌else◌, List, [], ◌∷◌, map, filter, refl, ap, ◌∙◌, Stamp, stamp_lt, Decided, World}
-use Rattle.am_watch.proofs.Words.{split, DecidedView, Pending, Watching, greater, greatest, decided_of, comes_after, Each}
+use Rattle.am_watching.proofs.Words.{◌≡◌, Bool, true, false, ◌&&◌, if◌then◌else◌, List, [], ◌∷◌, map, filter, refl, ap, ◌∙◌, Stamp, stamp_lt, Decided, World}
+use Rattle.am_watching.proofs.Words.{split, DecidedView, Pending, Watching, greater, greatest, decided_of, comes_after, Each}
 use Rattle.am_play.specs.Lawful as law
-use Rattle.am_watch.specs.Watching as kept
-use Rattle.am_watch.proofs.Order.{lt_trans, lt_self}
+use Rattle.am_watching.specs.Watching as kept
+use Rattle.am_watching.proofs.Order.{lt_trans, lt_self}
 
 pub each_of : {A : Type 0} (P Q : A → Type 0) → ((x : A) → P x → Q x) → (xs : List A) → Each P xs → Each Q xs
 unfolding Each

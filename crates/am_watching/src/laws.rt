@@ -1,4 +1,4 @@
-ghost use Rattle.am_watch.specs.Watches.{BeginningIsWatched, StepsAreWatched, StopsAreWatched, OthersAreWatched, EntriesGoOn, AcceptedGoesOn};
+ghost use Rattle.am_watching.specs.Watches.{BeginningIsWatched, StepsAreWatched, StopsAreWatched, OthersAreWatched, EntriesGoOn, AcceptedGoesOn};
 
 /// What is kept of a run begins and goes on with it: after each event the greatest complete view, the number of events and where
 /// the run broke are those of the watched run.

@@ -1,5 +1,5 @@
-use Rattle.am_watch.proofs.Steps.{steps_are_watched, stops_are_watched, others_are_watched}
-use Rattle.am_watch.proofs.laws.keeping_watches.Goals as goal
+use Rattle.am_watching.proofs.Steps.{steps_are_watched, stops_are_watched, others_are_watched}
+use Rattle.am_watching.proofs.laws.keeping_watches.Goals as goal
 
 pub returns-clause-steps : goal.returns-clause-steps
 returns-clause-steps c = steps_are_watched

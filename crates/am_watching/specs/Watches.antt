@@ -9,11 +9,11 @@ use Rattle.am_base.specs.Founding.{Rules, MayFound}
 use Rattle.am_model.specs.Node.{Node, image_of, view, members, set_at}
 use Rattle.am_play.specs.World.{Decided, World, decides, views_after}
 use Rattle.am_play.specs.Lawful.{Watch, watch_start, is_view_of, greatest_complete, watch_with}
-use Rattle.am_watch.specs.declared.views.DecidedView.{DecidedView}
-use Rattle.am_watch.specs.declared.views.Standing.{Standing}
-use Rattle.am_watch.specs.declared.views.Pending.{Pending}
-use Rattle.am_watch.specs.Watching as kept
-use Rattle.am_watch.specs.Watching.{Watching, standing, number_of, first_watching, with_entry, with_entries, watch_step, stop, pass, accept}
+use Rattle.am_watching.specs.declared.views.DecidedView.{DecidedView}
+use Rattle.am_watching.specs.declared.views.Standing.{Standing}
+use Rattle.am_watching.specs.declared.views.Pending.{Pending}
+use Rattle.am_watching.specs.Watching as kept
+use Rattle.am_watching.specs.Watching.{Watching, standing, number_of, first_watching, with_entry, with_entries, watch_step, stop, pass, accept}
 
 -- ---- what a node shows
 

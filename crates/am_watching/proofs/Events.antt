@@ -1,6 +1,7 @@
 -- What each kind of event makes of a world, in the words of what is kept.
-use Rattle.am_watch.proofs.Words.{◌≡◌, ℕ, ◌==◌, if◌then◌else◌, List, [], ◌∷◌, ◌++◌, refl, sym, append-nil, Entry, Outcome, Event, Node, view, Step, World}
-use Rattle.am_watch.proofs.Words.{with_record, lives_on, current, is_stopped, group_after, happens, Watch, watch, split, after, additions, SameBut, SteppedTo}
+use Rattle.am_watching.proofs.Words.{◌≡◌, ℕ, ◌==◌, if◌then◌else◌, List, [], ◌∷◌, ◌++◌, refl, sym, append-nil, Entry, Outcome, Event, Node, view, Step, World}
+use Rattle.am_watching.proofs.Words.{with_record, lives_on, current, is_stopped, group_after, happens, Watch, watch, split, after, additions, SameBut}
+use Rattle.am_watching.proofs.Words.{SteppedTo}
 use Rattle.am_play.specs.World as run
 
 -- the watched run after an event

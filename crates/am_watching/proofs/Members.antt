@@ -1,7 +1,7 @@
 -- Whether one of a set's names passes a test, place by place.
-use Rattle.am_watch.proofs.Words.{◌≡◌, ℕ, ◌+◌, ◌<◌, ◌≤◌, Bool, false, ◌&&◌, ◌||◌, nat_lt, List, ◌∷◌, length, drop, slice_index, slice_index_or, ap, list_any}
-use Rattle.am_watch.proofs.Words.{drop_more, at_drop_all, names_from, name_at, split, names_more, names_end, DecidedView, Pending, Watching, greater}
-use Rattle.am_watch.proofs.Words.{greatest}
+use Rattle.am_watching.proofs.Words.{◌≡◌, ℕ, ◌+◌, ◌<◌, ◌≤◌, Bool, false, ◌&&◌, ◌||◌, nat_lt, List, ◌∷◌, length, drop, slice_index, slice_index_or, ap}
+use Rattle.am_watching.proofs.Words.{list_any, drop_more, at_drop_all, names_from, name_at, split, names_more, names_end, DecidedView, Pending, Watching}
+use Rattle.am_watching.proofs.Words.{greater, greatest}
 
 pub any_more : (p : ℕ → Bool) (set : List ℕ) (place : ℕ) → place < length set
     → list_any p (names_from place (drop place set)) ≡ ((nat_lt 0 (slice_index set place) && p (name_at place (slice_index set place)))

@@ -1,6 +1,6 @@
 -- Where a View stands in the group list.
-use Rattle.am_watch.proofs.Words.{le-leb, lt-leb, ◌≡◌, ℕ, zero, suc, ◌+◌, ◌<◌, true, false, List, [], ◌∷◌, ◌++◌, length, take, None, refl, sym, ap, ◌∙◌}
-use Rattle.am_watch.proofs.Words.{arith, list_any, Stamp, Entry, is_view_of, split, is_by, or_else, number_of}
+use Rattle.am_watching.proofs.Words.{le-leb, lt-leb, ◌≡◌, ℕ, zero, suc, ◌+◌, ◌<◌, true, false, List, [], ◌∷◌, ◌++◌, length, take, None, refl, sym, ap, ◌∙◌}
+use Rattle.am_watching.proofs.Words.{arith, list_any, Stamp, Entry, is_view_of, split, is_by, or_else, number_of}
 
 number_low : (s : Stamp) (number n : ℕ) (xs : List Entry) → n < number → is_by (number_of s number xs) n ≡ false
 unfolding number_of

@@ -1,0 +1,10 @@
+pub mod Words
+pub mod Order
+pub mod Folds
+pub mod Numbers
+pub mod Complete
+pub mod Looks
+pub mod Steps
+pub mod Begins
+pub mod Members
+pub mod Events
