@@ -2,7 +2,7 @@
 
     python3 tools/audit.py < TEXT
 
-It is written from that page alone. It writes the verdict, and ends with 0 where it is `agrees` or `lists-agree`, else with 9; with 8 where
+It is written from that page alone, and does what `./muoswyld audit` does. It writes the verdict, and ends with 0 where it is `agrees` or `lists-agree`, else with 9; with 8 where
 the input is no text, with 3 where it is too long; then the cause stands on standard error.
 """
 

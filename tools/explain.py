@@ -1,10 +1,10 @@
 #!/usr/bin/env python3
-"""Says in words why the program refuses a script.
+"""Says in words why the program refuses a script, or a text.
 
     python3 tools/explain.py [PROGRAM [WORD]] < SCRIPT
 
-PROGRAM is crates/am_sim/out/am_sim where none is named, and WORD `play` or `race`: where none is said, what the script's own key
-is, else `play`. Whether a script is refused, with which cause and at which place, the program alone says. Of the keys that stand
+PROGRAM is crates/am_sim/out/am_sim where none is named, and WORD `play`, `race` or `audit`: where none is said, what the script's own key
+is, else `play`. Of a text, for `audit`, it shows the bad line, and says what may stand there. Whether a script is refused, with which cause and at which place, the program alone says. Of the keys that stand
 there it says which one it is, too: it is asked again about small scripts that have the event's keys up to one of them, in the order
 in which they are read, and lawful values behind it. The first that it refuses names the key.
 """
@@ -371,6 +371,33 @@ def of_event(ask, cause, event, where, form):
     return of_object(ask, cause, event, keys_of(event, form), where, kind) or f"{where}: which key it is, isn't known"
 
 
+def quoted(line):
+    """A line, or its beginning where it is long."""
+    text = line.decode(errors="replace")
+    return json.dumps(text if len(text) <= 80 else text[:76] + " ...")
+
+
+def of_text(data, number):
+    """What a text has at its bad line, and what may stand there."""
+    *lines, rest = data.split(b"\n")
+    before = lines[:number - 1]
+    entries = sum(line.startswith(b"group ") for line in before)
+    if before and re.match(b"lawful|void", before[-1]):
+        may = "nothing: the last line stands before it"
+    elif any(line.startswith(b"log ") for line in before):
+        may = "a line of a log, or the last line, `lawful` or `void from K`"
+    elif entries:
+        may = f"`group {entries + 1} ENTRY`, a line of a log, or the last line, `lawful` or `void from K`"
+    else:
+        event = number - sum(line.startswith(b"{") for line in before[:1])
+        may = f"`{event} ACT : OUTCOME` or `group 1 ENTRY`"
+    if number <= len(lines):
+        found = quoted(lines[number - 1])
+    else:
+        found = quoted(rest) + " without its end" if rest else "not there"
+    return f"line {number} is {found}; there may stand {may}"
+
+
 def word_of(data):
     """The word that a script is for, by its own key; `play` where it isn't told."""
     try:
@@ -383,12 +410,15 @@ def word_of(data):
 def answer(ask, data):
     """What there is to say of a script."""
     status, said = ask.say(data)
+    bad = re.fullmatch("bad text at ([0-9]+)", said)
+    if bad:
+        return of_text(data, int(bad[1]))
     told = refusal(status, said)
     if told:
         return explain(ask, data, *told)
     return {
-        0: f"the program takes this script, by the word {ask.word}",
-        3: "too long: a script has at most 16,777,216 bytes",
+        0: f"the program takes this {'text' if ask.word == 'audit' else 'script'}, by the word {ask.word}",
+        3: f"too long: a {'text' if ask.word == 'audit' else 'script'} has at most 16,777,216 bytes",
         7: "spent: the run would have more than 100,000 events, those that settle it among them",
     }.get(status, said or f"the program ended with {status}")
 
@@ -396,8 +426,8 @@ def answer(ask, data):
 def main():
     program, word, *_ = [*words(__doc__, 0, 2), None, None]
     program = program or str(PROGRAM)
-    if word not in (None, *SCRIPTS):
-        sys.exit(f"{word} isn't play or race")
+    if word not in (None, *SCRIPTS, "audit"):
+        sys.exit(f"{word} isn't play, race or audit")
     if not pathlib.Path(program).is_file():
         sys.exit(f"there is no program {program}: ./muoswyld play builds it")
     data = sys.stdin.buffer.read()

@@ -27,7 +27,8 @@ def settled(count):
 
 TEXT = b"group 1 view 1.0 0\nlog 0 empty\nlawful\n"
 LONG_WORD = "gen" * 100
-USAGE = "usage: play | race | gen --seed N --count N"
+USAGE = "usage: play | race | gen --seed N --count N | audit"
+GROUP = b"group 1 view 1.0 0\n"
 RACE = b'{"race":{"founders":[0],"seed":1,"threads":[{"node":0,"calls":[{"do":"send","body":"61"},{"do":"take"}]}]}}'
 RACED = b"""\
 {"play":{"events":[{"body":"61","do":"send","node":0},{"do":"done","node":0,"req":1},{"do":"take","node":0}],"founders":[0],"pb_up_to":256,"resilience":0,"window":64}}
@@ -82,6 +83,18 @@ CASES = [
     (["play"], b" " * 16777217, "too long", 3, b""),
     (["play"], b" " * 16777216, "bad script 1 at 0", 2, b""),
     (["play"], settled(100000), "spent", 7, b""),
+    (["audit"], RACED, "", 0, b"agrees\n"),
+    (["audit"], TEXT, "", 0, b"lists-agree\n"),
+    (["audit"], TEXT.replace(b"lawful", b"void from 1"), "", 0, b"lists-agree void from 1\n"),
+    (["audit"], RACED.replace(b"sent 1 2", b"sent 1 1"), "", 9, b"lost 0 1\n"),
+    (["audit"], GROUP + b"log 0 1 view 1.0 0\nlog 0 3 leave 0\nvoid from 2\n", "", 9, b"gap 0 3 void from 2\n"),
+    (["audit"], b"", "bad text at 1", 8, b""),
+    (["audit"], SMALL, "bad text at 1", 8, b""),
+    (["audit"], TEXT[:-1], "bad text at 3", 8, b""),
+    (["audit"], b"{" * 16777216, "bad text at 1", 8, b""),
+    (["audit"], b" " * 16777217, "too long", 3, b""),
+    (["audit", "audit"], TEXT, USAGE, 1, b""),
+    (["Audit"], TEXT, USAGE, 1, b""),
 ]
 
 
@@ -133,6 +146,10 @@ def where_something_fails(program, failed):
         with tempfile.TemporaryFile() as race:
             race.write(RACE)
             tell(failed, "a full device for race", line(["race"], again(race), full), (5, b"write fault\n"))
+        tell(failed, "a directory for audit", line(["audit"], folder, nothing), (4, b"read fault\n"))
+        with tempfile.TemporaryFile() as text:
+            text.write(TEXT)
+            tell(failed, "a full device for audit", line(["audit"], again(text), full), (5, b"write fault\n"))
         tell(failed, "a full device for gen", line(gen("1", "50"), again(small), full), (5, b"write fault\n"))
         tell(failed, "usage to a full device", run(program, ["x"], stdin=again(small), stdout=nothing, stderr=full), 1)
         closed = run(program, ["x"], stdin=again(small), stdout=nothing, preexec_fn=lambda: os.close(2))

@@ -3,7 +3,7 @@
     python3 tools/try_audit.py [--program PROGRAM] [--count COUNT] [--seed SEED] FOLDER...
 
 Each FOLDER has texts NAME.txt. One with a NAME.line beside it must be told that line by tools/audit.py; any other must agree, or end
-in ` void from K`, but for those that are no play's. COUNT texts are made by changing one of these at one to three places. With a
+in ` void from K`, but for those that are no play's; where there is a NAME.said, tools/explain.py must say that of its bad line. COUNT texts are made by changing one of these at one to three places. With a
 PROGRAM its word `audit` must tell the same of each text, changed or not. It prints what fails, and how many texts passed.
 """
 
@@ -15,6 +15,7 @@ import sys
 from collections import Counter
 
 import audit
+import explain
 
 # no texts of plays
 OTHER = {"about.txt", "sentences.txt"}
@@ -93,7 +94,10 @@ def changed(data: bytes, draw: random.Random) -> bytes:
 def is_right(path: pathlib.Path, data: bytes) -> bool:
     """Whether a text is told the line beside it; a play's agrees, or is void."""
     status, output, errors = told(data)
-    wanted = path.with_suffix(".line")
+    wanted, said = path.with_suffix(".line"), path.with_suffix(".said")
+    if said.exists():
+        number = int(errors.split()[-1])
+        return errors == wanted.read_bytes() and explain.of_text(data, number) == said.read_text().rstrip("\n")
     if wanted.exists():
         return output + errors == wanted.read_bytes()
     return status == 0 or b" void from " in output

@@ -19,7 +19,7 @@ import explain
 from words import words
 
 # what ./muoswyld says below a refusal where nobody looks
-HINT = r"muoswyld: in words: python3 tools/explain\.py \S+ (play|race) < SCRIPT\n"
+HINT = r"muoswyld: in words: tools/explain\.py \S+ (play|race) < FILE\n"
 
 
 def word_for(script):

@@ -24,9 +24,12 @@ use Rattle.am_script.specs.declared.script.Script.TheVariants.{Play, Race}
 use Rattle.am_script.specs.declared.key.Key.TheVariants as key
 use Rattle.am_script.specs.Scripts.{reading}
 use Rattle.am_script.specs.Limits.{ScriptWithin, RaceWithin}
+use Rattle.am_audit.specs.Lines.{Reading, read_text}
+use Rattle.am_audit.specs.Verdicts.{verdict_of, verdict_line}
+use Rattle.am_audit.proofs.Wrongs.{agrees_means, lists_agree_means}
 use Rattle.am_sim.specs.Playing.{done_of, IsRunText}
 use Rattle.am_sim.specs.Racing.{events_of, IsRaceText}
-use Rattle.am_sim.specs.Simulation.{Keeps, Repaired, Played, Generated, Raced, IsText, run_text}
+use Rattle.am_sim.specs.Simulation.{Keeps, Repaired, Played, Generated, Raced, Audited, IsText, run_text}
 
 -- ---- a run that is settled behind its own events
 
@@ -122,4 +125,16 @@ raced_by bytes text plan is within (journal, raced, same) = record {
   raced = raced;
   written = same;
   keeps = keeps_all plan.founding (events_of journal) within.may_found;
+}
+
+-- ---- a text that is audited
+
+pub audited_by : (bytes text : List ℕ) (reading : Reading) → read_text bytes ≡ Ok reading → text ≡ verdict_line (verdict_of reading) reading.void_from
+    → Audited bytes text
+audited_by bytes text reading is same = record {
+  reading = reading;
+  read = is;
+  written = same;
+  agrees = agrees_means reading;
+  lists_agree = lists_agree_means reading;
 }

@@ -27,6 +27,8 @@ use Rattle.am_io.specs.Outside.{next, ReadToEnd}
 use Rattle.am_pump.specs.Generating.{generated_rules, events_of_seed}
 use Rattle.am_audit.specs.declared.fault.TextRefusal.{TextRefusal}
 use Rattle.am_audit.specs.declared.fault.TextRefusal.TheVariants as texts
+use Rattle.am_audit.specs.declared.verdict.Verdict.TheVariants as verdicts
+use Rattle.am_audit.specs.Agreement.{Lists, Agreed}
 use Rattle.am_audit.specs.Lines.{Reading, read_text}
 use Rattle.am_audit.specs.Verdicts.{verdict_of, verdict_line, is_right}
 use Rattle.am_words.specs.Forms.{form_of}
@@ -93,11 +95,13 @@ abbrev pub IsSummary : Option Form → List ℕ → Type 0
 IsSummary (Some (form.Gen numbers)) text = Generated numbers text
 IsSummary _ text = ⊥
 
--- what was read is a text, and what was written is the line of its verdict
+-- what was read is a text, and what was written is the line of its verdict; where that agrees, the text keeps what that means
 pub record Audited (bytes text : List ℕ) : Type 0 where
   pub reading : Reading
   pub read : read_text bytes ≡ Ok reading
   pub written : text ≡ verdict_line (verdict_of reading) reading.void_from
+  pub agrees : verdict_of reading ≡ verdicts.Agrees → Agreed reading
+  pub lists_agree : verdict_of reading ≡ verdicts.ListsAgree → Lists reading
 
 -- a line is the verdict on the text that was read to the end of what was left
 abbrev pub IsAudited : Option (List ℕ) → Option (List ℕ) → List ℕ → Type 0

@@ -180,6 +180,8 @@ mod tests {
 
     const TICK: &str = "{\"play\":{\"founders\":[0],\"events\":[{\"do\":\"tick\",\"node\":0}]}}";
 
+    const EARLY: &str = "group 1 view 1.0 0\nlog 1 1 view 1.0 0\nlawful\n";
+
     const TICKED: &str = "1 tick 0 : ticked\ngroup 1 view 1.0 0\nlog 0 empty\nlawful\n";
 
     const RACE: &str =
@@ -196,7 +198,7 @@ mod tests {
 
     /// The words, the input, the reads and the writes that fail, the sink's size, the status and what is written, where a
     /// read gives 16 bytes at most and a write takes 20.
-    const CALLS: [(&[&str], &str, &[u64], &[u64], usize, Status, &str); 17] = [
+    const CALLS: [(&[&str], &str, &[u64], &[u64], usize, Status, &str); 23] = [
         (&["play"], SCRIPT, &[], &[], 52, Status::Done, TEXT),
         (&["play"], SCRIPT, &[2], &[], 52, Status::ReadFault, ""),
         (&["play"], SCRIPT, &[4], &[], 52, Status::ReadFault, ""),
@@ -250,6 +252,36 @@ mod tests {
             Status::Usage,
             "",
         ),
+        (&["audit"], TICKED, &[], &[], 7, Status::Done, "agrees\n"),
+        (
+            &["audit"],
+            TEXT,
+            &[],
+            &[],
+            12,
+            Status::Done,
+            "lists-agree\n",
+        ),
+        (
+            &["audit"],
+            EARLY,
+            &[],
+            &[],
+            10,
+            Status::Disagrees,
+            "early 1 1\n",
+        ),
+        (
+            &["audit"],
+            SCRIPT,
+            &[],
+            &[],
+            9,
+            Status::BadText { line: 1 },
+            "",
+        ),
+        (&["audit"], TEXT, &[2], &[], 12, Status::ReadFault, ""),
+        (&["audit"], TEXT, &[], &[1], 12, Status::WriteFault, ""),
         (&["race"], RACE, &[], &[], 164, Status::Done, RACED),
         (&["race"], RACE, &[2], &[], 164, Status::ReadFault, ""),
         (&["race"], RACE, &[], &[1], 164, Status::WriteFault, ""),
