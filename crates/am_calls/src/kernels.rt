@@ -1,4 +1,4 @@
-ghost use Rattle.std.specs.Prelude.{◌≡◌, ◌<◌, ◌≤◌, [], ◌∷◌, IfOk, IfErr, true, vec_len, map, length, All};
+ghost use Rattle.std.specs.Prelude.{◌≡◌, ◌<◌, ◌≤◌, [], ◌∷◌, IfOk, IfErr, true, false, count_by, vec_len, map, length, All};
 ghost use Rattle.std.specs.List.{range_with_len};
 ghost use Rattle.am_base.specs.Most.{most_events, most_word};
 ghost use Rattle.am_base.specs.Names.{place_of};
@@ -12,7 +12,8 @@ ghost use Rattle.am_wire.specs.declared.wire.WireRefusal.TheVariants as refusals
 ghost use Rattle.am_races.specs.Boxes.{node_by};
 ghost use Rattle.am_races.specs.Callings.{Called, IsHand};
 ghost use Rattle.am_races.specs.Going.{IsCame, HasBegun, Began, HasLooked, WasRefused, Made};
-ghost use Rattle.am_races.specs.Tags.{of_call, own_of};
+ghost use Rattle.am_races.specs.Answers.{is_take};
+ghost use Rattle.am_races.specs.Tags.{of_call, own_of, is_turn_part};
 ghost use Rattle.am_races.specs.Lawful.{terms_of};
 ghost use Rattle.am_races.specs.Legal.{IsLegalWithTags};
 ghost use Rattle.am_races.specs.Plans.{is_call};
@@ -110,6 +111,7 @@ impl<'g, N: Racing, G: Gate> Kernels<'g, N, G> {
     ) -> Result<Came, Answer>
         requires hand { IsHand N.wire N.plan tag.caller hand.old.share hand.old.chooser }
         requires call { is_call act.now ≡ true }
+        requires no_receive { is_take act.now ≡ false }
         ensures hand { IsHand N.wire N.plan tag.caller hand.new.share hand.new.chooser }
         ensures ok { IfOk result (λ came. Began
             (place_of node) tag act.entry.now came hand.old.share.seen hand.new.share.seen) }
@@ -139,6 +141,8 @@ impl<'g, N: Racing, G: Gate> Kernels<'g, N, G> {
         requires hand { IsHand N.wire N.plan tag.caller hand.old.share hand.old.chooser }
         requires came { IsCame act.now came.now
             (own_of (of_call tag.caller tag.call hand.old.share.seen)) }
+        requires used { has_turn ≡ false → N.plan.turns ≤ count_by (λ r. is_turn_part r.by.part)
+            (of_call tag.caller tag.call hand.old.share.seen) }
         ensures hand { IsHand N.wire N.plan tag.caller hand.new.share hand.new.chooser }
         ensures ok { IfOk result (HasLooked
             (place_of node) tag act.entry.now came.entry.now has_turn hand.old.share.seen

@@ -1,4 +1,4 @@
-ghost use Rattle.std.specs.Prelude.{◌≡◌, ℕ, ◌<◌, ◌≤◌, [], ◌∷◌, None, Some, length, IfOk, IfErr, IfSome, IfNone, OnOk, OnErr, Option, true, false};
+ghost use Rattle.std.specs.Prelude.{◌≡◌, ℕ, ◌<◌, ◌≤◌, [], ◌∷◌, None, Some, length, IfOk, IfErr, IfSome, IfNone, OnOk, OnErr, Option, true, false, count_by};
 ghost use Rattle.std.specs.Option.{option_copied};
 ghost use Rattle.am_base.specs.Most.{most_events};
 ghost use Rattle.am_play.specs.World.{first_node};
@@ -10,7 +10,7 @@ ghost use Rattle.am_wire.specs.declared.wire.WireRefusal.TheVariants as refusals
 ghost use Rattle.am_wire.specs.Seats.{GoesOn};
 ghost use Rattle.am_wire.specs.Passes.{Sees, fresh};
 ghost use Rattle.am_wire.specs.Stops.{has_stopped};
-ghost use Rattle.am_races.specs.Boxes.{what_of, MayAct, IsShareOf, IsTurn, Acted, IsRefused, Looks, refusal_answer, Hears, GivesUp, node_by, heard_in, lost_in, Picked, is_turn_act, Found, event_at, turn_by};
+ghost use Rattle.am_races.specs.Boxes.{what_of, MayAct, IsShareOf, IsTimely, Acted, IsRefused, Looks, refusal_answer, Hears, GivesUp, node_by, heard_in, lost_in, Picked, is_turn_act, Found, event_at, turn_by};
 ghost use Rattle.am_races.specs.Callings.{IsHand, luck_after};
 ghost use Rattle.am_races.specs.Going.{end_act, end_part, luck_behind, is_asked, ToldBy, Asked, IsCame, EndTells, Began, HasSpent, HasEnded, HasLooked, WasRefused, Meets};
 ghost use Rattle.am_races.specs.Plans.{is_call};
@@ -19,7 +19,8 @@ ghost use Rattle.am_races.specs.Tags.{of_call, own_of, is_turn_part};
 ghost use Rattle.am_chooser.specs.Choices.{act_of};
 ghost use Rattle.am_group.specs.declared.event.Act.TheVariants as acts;
 ghost use Rattle.am_races.specs.Lawful.{IsSent, plan_by, terms_of};
-ghost use Rattle.am_races.specs.Turns.{waits_in_vain, words_drawn, is_turn};
+ghost use Rattle.am_races.specs.Answers.{is_end_of, is_take};
+ghost use Rattle.am_races.specs.Turns.{waits_in_vain, words_drawn, is_turn, is_due};
 
 use crate::caller::Hand;
 use crate::gate::Gate;
@@ -207,8 +208,8 @@ impl<N: Racing> NodeBox<N> {
         Ok(self.node.info())
     }
 
-    /// Its node does an act of a caller, which both have then seen in the journal. Behind what both have seen it may do it, and a
-    /// turn is one of its call. After a refusal of the journal the box is closed; where there was no memory for the record, all is
+    /// Its node does an act of a caller, which both have then seen in the journal. Behind what both have seen it may do it, a turn
+    /// is one of its call, and a call may end there that it ends. After a refusal of the journal the box is closed; where there was no memory for the record, all is
     /// as it was.
     pub fn act<R: Wait>(
         &mut self,
@@ -226,7 +227,7 @@ impl<N: Racing> NodeBox<N> {
         requires few { length self.old.seen ≤ most_events }
         requires may { MayAct self.old.seen self.old.name act (option_copied letter) }
         requires met { share.old.seen ≡ self.old.seen }
-        requires turn { IsTurn N.plan self.old.seen
+        requires timely { IsTimely N.plan self.old.seen
             (record { node = self.old.name; act = act }) by }
         ensures name { self.new.name ≡ self.old.name }
         ensures share { IsShareOf N.wire N.plan by.caller share.new }
@@ -494,6 +495,9 @@ impl<N: Racing> NodeBox<N> {
         requires met { Meets N.wire N.plan by.caller self.old hand.old.share hand.old.chooser }
         requires asks { is_asked act ≡ true }
         requires no_turn { is_turn_part by.part ≡ false }
+        requires due { is_end_of by.part act ≡ true
+            → is_due N.plan (node_by N.plan self.old.seen self.old.name)
+            (of_call by.caller by.call self.old.seen) ≡ true }
         ensures hand { IsHand N.wire N.plan by.caller hand.new.share hand.new.chooser }
         ensures ok { IfOk result (λ came. Asked N.plan self.old.name act by came hand.old.share.seen
             hand.new.share.seen) }
@@ -508,7 +512,7 @@ impl<N: Racing> NodeBox<N> {
         }
     }
 
-    /// The end of a call: its check, or the act of a receive.
+    /// The end of a call, which is ready or has used its turns: its check, or the act of a receive.
     fn end<R: Wait, G: Gate>(
         &mut self,
         visit: &Visit<R, G>,
@@ -519,6 +523,8 @@ impl<N: Racing> NodeBox<N> {
         requires own { visit.now.wire.now.id ≡ N.wire }
         requires met { Meets N.wire N.plan visit.now.tag.caller self.old hand.old.share
             hand.old.chooser }
+        requires due { is_due N.plan (node_by N.plan self.old.seen self.old.name)
+            (of_call visit.now.tag.caller visit.now.tag.call self.old.seen) ≡ true }
         ensures hand { IsHand N.wire N.plan visit.now.tag.caller hand.new.share hand.new.chooser }
         ensures ok { IfOk result (HasEnded N.plan self.old.name visit.now.tag act.entry.now
             came.entry.now hand.old.share.seen hand.new.share.seen) }
@@ -543,6 +549,7 @@ impl<N: Racing> NodeBox<N> {
         requires own { visit.now.wire.now.id ≡ N.wire }
         requires hand { IsHand N.wire N.plan visit.now.tag.caller hand.old.share hand.old.chooser }
         requires call { is_call act.now ≡ true }
+        requires no_receive { is_take act.now ≡ false }
         ensures hand { IsHand N.wire N.plan visit.now.tag.caller hand.new.share hand.new.chooser }
         ensures ok { IfOk result (λ came. Began self.old.name visit.now.tag act.entry.now came
             hand.old.share.seen hand.new.share.seen) }
@@ -556,7 +563,8 @@ impl<N: Racing> NodeBox<N> {
         self.ask(visit, hand, own, visit.tag.with(Part::Call))
     }
 
-    /// A further look of a call: a turn, where it has one left and isn't ready, and else its end.
+    /// A further look of a call: a turn, where it has one left and isn't ready, and else its end. One that has no turn left has
+    /// used them.
     pub fn look<R: Wait, G: Gate>(
         &mut self,
         visit: &Visit<R, G>,
@@ -569,6 +577,8 @@ impl<N: Racing> NodeBox<N> {
         requires hand { IsHand N.wire N.plan visit.now.tag.caller hand.old.share hand.old.chooser }
         requires came { IsCame act.now came.now
             (own_of (of_call visit.now.tag.caller visit.now.tag.call hand.old.share.seen)) }
+        requires used { has_turn ≡ false → N.plan.turns ≤ count_by (λ r. is_turn_part r.by.part)
+            (of_call visit.now.tag.caller visit.now.tag.call hand.old.share.seen) }
         ensures hand { IsHand N.wire N.plan visit.now.tag.caller hand.new.share hand.new.chooser }
         ensures ok { IfOk result (HasLooked self.old.name visit.now.tag act.entry.now came.entry.now
             has_turn hand.old.share.seen hand.new.share.seen) }

@@ -183,6 +183,7 @@ pub(crate) fn terms_of(plan: &RacePlan) -> Terms
         seed: plan.seed_number,
         loss: plan.loss,
         repeat: plan.repeat,
+        turns: plan.turns,
     }
 }
 

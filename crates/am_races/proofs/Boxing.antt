@@ -43,16 +43,16 @@ use Rattle.am_wire.specs.Stops.{is_stop, has_stopped}
 use Rattle.am_wire.proofs.Views.{rest_of, times_cons}
 use Rattle.am_races.specs.Told.{world_after, IsNext}
 use Rattle.am_races.specs.Tags.{of_place}
-use Rattle.am_races.specs.Turns.{is_turn, greatest, passed_number, cursor, last_heard, lost_by, unless_nought, or_nought}
+use Rattle.am_races.specs.Turns.{is_turn, may_end, greatest, passed_number, cursor, last_heard, lost_by, unless_nought, or_nought}
 use Rattle.am_races.specs.Laws.{IsApart}
 use Rattle.am_races.specs.Lawful.{plan_by, terms_of, IsLawful}
-use Rattle.am_races.specs.Boxes.{what_of, Steps, MayAct, Boxed, Keeps, IsBox, IsShareOf, IsTurn, Acted, Looks, IsRefused, refusal_answer}
+use Rattle.am_races.specs.Boxes.{what_of, Steps, MayAct, Boxed, Keeps, IsBox, IsShareOf, IsTimely, Acted, Looks, IsRefused, refusal_answer}
 use Rattle.am_races.specs.declared.call.Came.{Came}
 use Rattle.am_races.specs.Ready.{round_in}
 use Rattle.am_races.proofs.Knows.{knows, name_now, told_more, stopped_more}
 use Rattle.am_races.proofs.Legality.{next_tells}
 use Rattle.am_races.proofs.Nexts.{nodes_stay, stopped_in_more, none_stop, or_true, or_none, item_more, lives_of, all_cons}
-use Rattle.am_races.proofs.Stays.{turns_stay}
+use Rattle.am_races.proofs.Stays.{turns_stay, ends_stay}
 use Rattle.am_races.proofs.Acting.{numbers_left, step_comes, Comes}
 
 -- ---- records of a key
@@ -243,7 +243,7 @@ comes terms before name m n a by l None outcome letters follows low may is end o
 pub lands : (plan : RacePlan) (name : ℕ) (seen before : List Record) (m n : Node) (a : Act) (by : By) (l : Option Letter) (what : Option NodeEvent)
     (outcome : Outcome) (letters : List Letter)
     → name < 16 → Beyond seen before name by.caller → Follows (IsLawful (terms_of plan)) before → Keeps plan name seen m → MayAct seen name a l
-    → IsTurn plan seen (record { node = name; act = a }) by → what ≡ what_of a l → Steps what m outcome letters n
+    → IsTimely plan seen (record { node = name; act = a }) by → what ≡ what_of a l → Steps what m outcome letters n
     → Lands (terms_of plan) before name n (item_of name a by outcome letters)
 lands plan name seen before m n a by l what outcome letters low beyond_ follows keeps may turn is steps =
     let terms : Terms = terms_of plan in
@@ -266,7 +266,9 @@ lands plan name seen before m n a by l what outcome letters low beyond_ follows 
         act_ = may.race;
         next = c.0.next;
         turn = λ part. subst (λ (rs : List Record). is_turn (plan_by terms) rs item.event by
-            ≡ true) (sym beyond_.is) (turns_stay (plan_by terms) seen more item.event by apart (turn part));
+            ≡ true) (sym beyond_.is) (turns_stay (plan_by terms) seen more item.event by apart (turn.turn part));
+        end_ = λ ends. subst (λ (rs : List Record). may_end (plan_by terms) rs item.event by
+            ≡ true) (sym beyond_.is) (ends_stay (plan_by terms) seen more item.event by apart (turn.end_ ends));
         stop = ap (has_stopped before) (first_name name low) ∙ still.runs;
         hears = λ number e.
             let h = still.hears number e in record {
@@ -327,7 +329,7 @@ pub record Doing (wire : TableId) (plan : RacePlan) (name : ℕ) (pass share : K
   pub share_ : IsShareOf wire plan by.caller share
   pub met : share.seen ≡ pass.seen
   pub may : MayAct pass.seen name a l
-  pub turn : IsTurn plan pass.seen (record { node = name; act = a }) by
+  pub turn : IsTimely plan pass.seen (record { node = name; act = a }) by
   pub asked : what ≡ what_of a l
   pub steps : Steps what m outcome letters n
 
@@ -336,7 +338,7 @@ pub doing : (wire : TableId) (plan : RacePlan) (name : ℕ) (pass share : Known)
     (a : Act) (by : By) (l : Option Letter) (what : Option NodeEvent) (outcome : Outcome) (letters : List Letter) (b : Boxed)
     → record { name = name; seen = pass.seen; closed = closed } ≡ b → IsBox wire plan name pass m far last stopped closed → b.closed ≡ None
     → IsShareOf wire plan by.caller share
-    → share.seen ≡ b.seen → MayAct b.seen b.name a l → IsTurn plan b.seen (record { node = b.name; act = a }) by → what ≡ what_of a l
+    → share.seen ≡ b.seen → MayAct b.seen b.name a l → IsTimely plan b.seen (record { node = b.name; act = a }) by → what ≡ what_of a l
     → Steps what m outcome letters n
     → Doing wire plan name pass share m n far last stopped closed a by l what outcome letters
 doing wire plan name pass share m n far last stopped closed a by l what outcome letters b is box open_ share_ met may turn asked steps = record {
@@ -345,7 +347,7 @@ doing wire plan name pass share m n far last stopped closed a by l what outcome 
   share_ = share_;
   met = met ∙ ap (λ (x : Boxed). x.seen) (sym is);
   may = subst (λ (x : Boxed). MayAct x.seen x.name a l) (sym is) may;
-  turn = subst (λ (x : Boxed). IsTurn plan x.seen (record { node = x.name; act = a }) by) (sym is) turn;
+  turn = subst (λ (x : Boxed). IsTimely plan x.seen (record { node = x.name; act = a }) by) (sym is) turn;
   asked = asked;
   steps = steps;
 }

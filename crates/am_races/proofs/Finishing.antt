@@ -11,7 +11,7 @@ use Rattle.am_wire.specs.declared.rule.Key.TheVariants.{Caller}
 use Rattle.am_wire.specs.Passes.{Known, fresh}
 use Rattle.am_wire.specs.Seats.{Follows}
 use Rattle.am_races.specs.Tags.{of_caller}
-use Rattle.am_races.specs.Turns.{is_turn, later}
+use Rattle.am_races.specs.Turns.{is_turn, may_end, later}
 use Rattle.am_races.specs.Answers.{is_take}
 use Rattle.am_races.specs.Callers.{is_callers, are_calls, is_receive}
 use Rattle.am_races.specs.Callings.{IsHand, HasMade, luck_after}
@@ -74,11 +74,12 @@ pub legal_with_tags : (plan : RacePlan) (calls : ℕ → List Act) (journal : Li
     → All (λ r. r.by.caller < length plan.threads) journal
     → ((caller : ℕ) → caller < length plan.threads → is_callers plan.turns (calls caller) (of_caller caller journal) ≡ true)
     → IsLegalWithTags plan calls journal
-unfolding is_turn
+unfolding is_turn may_end
 legal_with_tags plan calls journal follows all each = record {
   legal = (each_is_next plan.founding journal).1 (λ before rest r e. (follows before rest r e).next);
   callers = λ caller. ⊎_elim (each caller) (beyond caller) (below_or caller (length plan.threads));
   turns = λ before rest r e is. (follows before rest r e).turn is;
+  ends = λ before rest r e is. (follows before rest r e).end_ is;
   stops = λ before rest r e. (follows before rest r e).stop;
 }
   where

@@ -1,15 +1,15 @@
 -- One look at a node: a turn, an own act or an end, and what the caller's hand is then.
 use Rattle.std.proofs.Common.{◌≡◌, ℕ, zero, suc, ◌+◌, ◌<◌, ◌≤◌, List, [], ◌∷◌, ◌++◌, length, cond, max, Bool, true, false, true≢false, Option, Some}
-use Rattle.std.proofs.Common.{None, Result, Ok, Err, IfOk, IfErr, OnOk, sym, refl, ap, ◌∙◌, subst, arith, nat_lt, count_by, sum_by}
-use Rattle.std.specs.Prelude.{◌==◌, ◌&&◌, if◌then◌else◌, not}
-use Rattle.std.proofs.lemmas.Bool.{and_parts, lt-ltb}
+use Rattle.std.proofs.Common.{None, Result, Ok, Err, IfOk, IfErr, OnOk, sym, refl, ap, ◌∙◌, subst, arith, append-nil, nat_lt, nat_le, count_by, sum_by}
+use Rattle.std.specs.Prelude.{◌==◌, ◌&&◌, ◌||◌, if◌then◌else◌, not}
+use Rattle.std.proofs.lemmas.Bool.{and_parts, lt-ltb, le-leb}
 use Rattle.std.proofs.lemmas.List.Sums.{sum_by-cons, sum_by-append}
 use Rattle.std.proofs.lemmas.Option.{none-some}
 use Rattle.atomic_table.specs.Seated.{TableId}
 use Rattle.am_base.specs.Most.{most_events}
 use Rattle.am_base.specs.declared.outcome.Outcome.{Outcome}
 use Rattle.am_base.specs.declared.event.NodeEvent.{NodeEvent}
-use Rattle.am_base.specs.Names.{place_of}
+use Rattle.am_base.specs.Names.{place_of, name_at}
 use Rattle.am_packet.specs.Boxes.{Letter}
 use Rattle.am_group.specs.declared.event.Act.{Act}
 use Rattle.am_group.specs.declared.event.Act.TheVariants as act
@@ -43,18 +43,19 @@ use Rattle.am_races.specs.declared.call.Looked.TheVariants as looked
 use Rattle.am_races.specs.declared.call.Came.{Came}
 use Rattle.am_races.specs.Told.{world_after}
 use Rattle.am_races.specs.Tags.{of_caller, of_call, own_of, is_own, is_turn_part, up_to_last}
-use Rattle.am_races.specs.Answers.{is_take}
-use Rattle.am_races.specs.Turns.{passed_number, lost_by, words_drawn, later, is_waited, is_least, is_turn_of, is_turn, unless_nought}
+use Rattle.am_races.specs.Answers.{is_take, is_end_of}
+use Rattle.am_races.specs.Turns.{passed_number, lost_by, words_drawn, later, is_waited, is_least, is_turn_of, is_turn, unless_nought, is_due, may_end}
 use Rattle.am_races.specs.Ready.{is_ready, is_ready_after, may_take}
 use Rattle.am_races.specs.Lawful.{is_of_race, plan_by, terms_of}
 use Rattle.am_races.specs.Callings.{IsHand, luck_after}
 use Rattle.am_races.specs.Plans.{is_call}
-use Rattle.am_races.specs.Boxes.{what_of, Steps, MayAct, Hears, Boxed, Keeps, IsBox, IsShareOf, IsTurn, Acted, IsRefused, refusal_answer, Looks, node_by}
+use Rattle.am_races.specs.Boxes.{what_of, Steps, MayAct, Hears, Boxed, Keeps, IsBox, IsShareOf, IsTimely, Acted, IsRefused, refusal_answer, Looks, node_by}
 use Rattle.am_races.specs.Boxes.{lost_in, event_at}
 use Rattle.am_races.specs.Going.{by_of, end_act, end_part, IsOwn, IsCame, luck_behind, is_asked, ToldBy, EndTells, Grown, Asked, Began, Turned}
 use Rattle.am_races.specs.Going.{Ended, HasSpent, HasEnded, HasLooked, WasRefused, Grows, Meets}
 use Rattle.am_races.proofs.Acting.{told_is_run, events_of}
 use Rattle.am_races.proofs.Boxing.{same_closed}
+use Rattle.am_races.proofs.Knows.{knows, name_now}
 use Rattle.am_races.proofs.Growing.{one_grown, not_grown, call_grows}
 use Rattle.am_races.proofs.Requests.{requests_once, Once}
 use Rattle.am_races.proofs.Telling.{after_tells, take_tells}
@@ -297,8 +298,53 @@ may_ask seen name a runs asks = record {
   given = λ other e. absurd (true≢false (sym asks ∙ ap is_asked e));
 }
 
-pub no_turn_asked : (plan : RacePlan) (seen : List Record) (e : Event) (by : By) → is_turn_part by.part ≡ false → IsTurn plan seen e by
-no_turn_asked plan seen e by none_ is = absurd (true≢false (sym is ∙ none_))
+-- an act that is no turn is timely where its call is due, if it is its end
+pub asked_timely : (wire : TableId) (plan : RacePlan) (name : ℕ) (pass : Known) (m : Node) (far : ℕ) (last : Option ℕ) (stopped : Bool)
+    (closed : Option WireRefusal) (b : Boxed) (a : Act) (by : By)
+    → record { name = name; seen = pass.seen; closed = closed } ≡ b → IsBox wire plan name pass m far last stopped closed → is_turn_part by.part ≡ false
+    → (is_end_of by.part a ≡ true → is_due plan (node_by plan b.seen b.name) (of_call by.caller by.call b.seen) ≡ true)
+    → IsTimely plan b.seen (record { node = b.name; act = a }) by
+unfolding may_end
+asked_timely wire plan name pass m far last stopped closed b a by is box none_ due =
+    subst (λ (x : Boxed). (is_end_of by.part a ≡ true → is_due plan (node_by plan x.seen x.name) (of_call by.caller by.call x.seen) ≡ true)
+    → IsTimely plan x.seen (record { node = x.name; act = a }) by) is timely due
+  where
+    its_name : current (world_after plan.founding pass.seen) (place_of name) ≡ name
+    its_name =
+        name_now plan.founding pass.seen (knows (terms_of plan) pass.seen box.lawful) (place_of name)
+        ∙ (let low = box.place in let n : name_at (place_of name) 1 ≡ name = omega arith in n)
+
+    timely : (is_end_of by.part a ≡ true → is_due plan (node_by plan pass.seen name) (of_call by.caller by.call pass.seen) ≡ true)
+        → IsTimely plan pass.seen (record { node = name; act = a }) by
+    timely d = record {
+      turn = λ turn. absurd (true≢false (sym turn ∙ none_));
+      end_ = λ end. subst (λ (k : ℕ). is_due plan (node_by plan pass.seen k) (of_call by.caller by.call pass.seen) ≡ true) (sym its_name) (d end);
+    }
+
+-- a turn is no end
+pub turn_timely : (plan : RacePlan) (seen : List Record) (name name' : ℕ) (a : Act) (by : By) (tag : Tag) (lost : ℕ) → name' ≡ name → by ≡ by_of tag (Turn lost)
+    → is_turn (plan_by (terms_of plan)) seen (event_at name a) (by_of tag (Turn lost)) ≡ true → IsTimely plan seen (record { node = name'; act = a }) by
+turn_timely plan seen name name' a by tag lost same is turn = record {
+  turn = λ _part. subst (λ (b : By). is_turn (plan_by (terms_of plan)) seen (event_at name' a) b ≡ true) (sym is)
+      (subst (λ (n : ℕ). is_turn (plan_by (terms_of plan)) seen (event_at n a) (by_of tag (Turn lost)) ≡ true) (sym same) turn);
+  end_ = λ end. absurd (true≢false (sym end ∙ ap (λ (b : By). is_end_of b.part a) is));
+}
+
+-- a call is due where it is ready, or where its turns are used
+pub ready_due : (plan : RacePlan) (m : Node) (mine : List Record) → is_ready m (own_of mine) ≡ true → is_due plan m mine ≡ true
+ready_due plan m mine is = ap (λ (b : Bool). b || nat_le plan.turns (count_by (λ r. is_turn_part r.by.part) mine)) is
+
+pub used_due : (plan : RacePlan) (m : Node) (mine : List Record) → plan.turns ≤ count_by (λ r. is_turn_part r.by.part) mine → is_due plan m mine ≡ true
+used_due plan m mine used = either_way (is_ready m (own_of mine)) (le-leb plan.turns (count_by (λ r. is_turn_part r.by.part) mine) used)
+  where
+    either_way : (b : Bool) → nat_le plan.turns (count_by (λ r. is_turn_part r.by.part) mine) ≡ true
+        → (b || nat_le plan.turns (count_by (λ r. is_turn_part r.by.part) mine)) ≡ true
+    either_way true h = refl
+    either_way false h = h
+
+-- the own act of a call that is no receive is no end
+pub call_no_end : (a : Act) → is_take a ≡ false → is_end_of Call a ≡ false
+call_no_end a no_ = no_
 
 pub call_asks : (a : Act) → is_call a ≡ true → is_asked a ≡ true
 call_asks (act.Hear number) e = e
@@ -556,17 +602,25 @@ turn_looked name tag a came has_turn old middle new (Ok (looked.Turn outcome)) h
   record { item = t.item; grown = grown_since tag.caller old middle new t.item goes t.grown; is = t.is },
 )
 
+-- a call's records stay, whatever others added
+pub call_still : (tag : Tag) (old new : List Record) → GoesOn (Caller tag.caller ∷ []) old new
+    → of_call tag.caller tag.call new ≡ of_call tag.caller tag.call old
+call_still tag old new goes = call_grows 0 tag old new [] (not_grown 0 tag old new goes) ∙ append-nil (of_call tag.caller tag.call old)
+
+-- where its turns are used, it is due at its box
+pub used_at : (plan : RacePlan) (tag : Tag) (m : Node) (old shown seen : List Record) → GoesOn (Caller tag.caller ∷ []) old shown → shown ≡ seen
+    → plan.turns ≤ count_by (λ r. is_turn_part r.by.part) (of_call tag.caller tag.call old) → is_due plan m (of_call tag.caller tag.call seen) ≡ true
+used_at plan tag m old shown seen goes same used =
+    used_due plan m (of_call tag.caller tag.call seen)
+    (subst (λ (rs : List Record). plan.turns ≤ count_by (λ r. is_turn_part r.by.part) rs)
+    (sym (call_still tag old shown goes) ∙ ap (of_call tag.caller tag.call) same) used)
+
 -- what came of the own act is so, whatever others added
 pub came_since : (tag : Tag) (a : Act) (came : Option Came) (old new : List Record) → GoesOn (Caller tag.caller ∷ []) old new
     → IsCame a came (own_of (of_call tag.caller tag.call old))
     → IsCame a came (own_of (of_call tag.caller tag.call new))
 came_since tag a came old new goes is =
-    subst (λ (l : List Record). IsCame a came (own_of l))
-    (sym (call_grows 0 tag old new [] (not_grown 0 tag old new goes) ∙ nothing_behind (of_call tag.caller tag.call old))) is
-  where
-    nothing_behind : (l : List Record) → l ++ [] ≡ l
-    nothing_behind [] = refl
-    nothing_behind (x ∷ l) = ap (λ (m : List Record). x ∷ m) (nothing_behind l)
+    subst (λ (l : List Record). IsCame a came (own_of l)) (sym (call_still tag old new goes)) is
 
 pub came_seen : (tag : Tag) (a : Act) (came : Option Came) (old shown seen : List Record) → GoesOn (Caller tag.caller ∷ []) old shown → shown ≡ seen
     → IsCame a came (own_of (of_call tag.caller tag.call old)) → IsCame a came (own_of (of_call tag.caller tag.call seen))

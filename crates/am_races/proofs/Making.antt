@@ -1,11 +1,12 @@
 -- A call that is made: its turns so far, its end, and what its caller then has.
 use Rattle.std.proofs.Common.{◌≡◌, ℕ, zero, suc, ◌+◌, ◌-◌, ◌<◌, ◌≤◌, List, [], ◌∷◌, ◌++◌, length, get_or, take, drop, cond, Bool, true, false}
 use Rattle.std.proofs.Common.{true≢false, Option, Some, None, sym, refl, ap, ◌∙◌, subst, arith, append-nil, length-append}
-use Rattle.std.proofs.Common.{ne_eqb, nat_le, unwrap_or, slice_get}
+use Rattle.std.proofs.Common.{ne_eqb, nat_le, unwrap_or, slice_get, count_by, sum_by}
 use Rattle.std.specs.Prelude.{All, ◌==◌, ◌&&◌, if◌then◌else◌}
 use Rattle.std.specs.List.{list_all, prefix_len}
 use Rattle.std.proofs.lemmas.Bool.{and_parts, le-leb, eqb-true}
 use Rattle.std.proofs.lemmas.List.Elements.{All-append}
+use Rattle.std.proofs.lemmas.List.Sums.{sum_by-append}
 use Rattle.std.proofs.lemmas.Option.{none-some}
 use Rattle.am_base.specs.declared.outcome.Outcome.{Outcome}
 use Rattle.am_base.specs.declared.outcome.Outcome.TheVariants as said
@@ -33,7 +34,7 @@ use Rattle.am_races.specs.Going.{WasRefused, Grows, Made}
 use Rattle.am_races.proofs.Boxing.{own_key}
 use Rattle.am_races.proofs.Finishing.{none_called}
 use Rattle.am_races.proofs.Growing.{both, all_more, just_one, none_of_call, call_grows, not_grown, one_grown, grows_through}
-use Rattle.am_races.proofs.Shapes.{AreTurns, IsEnd, ended_answer, same_call, turns_planned, end_planned, end_answers, own_answers, late_more, unanswered}
+use Rattle.am_races.proofs.Shapes.{AreTurns, IsEnd, ended_answer, same_call, turns_planned, end_planned, end_answers, own_answers, late_more, unanswered, turns_count}
 use Rattle.am_races.proofs.Shapes.{other_alone, other_call, is_plain, all_plain, plain_own, plain_at_end, plain_lates, own_first, no_own, head_turn}
 use Rattle.am_races.proofs.Shapes.{tail_turns}
 
@@ -111,6 +112,18 @@ pub came_still : (plan : RacePlan) (node : ℕ) (tag : Tag) (a : Act) (came : Op
 came_still plan node tag a came request old new spent its begun so =
     subst (λ (l : List Record). IsCame a came (own_of l)) (sym (call_grows (place_of node) tag old new so.mine so.grows))
     (own_came a came (of_call tag.caller tag.call old) so.mine begun so.turns)
+
+-- all turns that it made are among its records
+pub turns_used : (plan : RacePlan) (node : ℕ) (tag : Tag) (request : Option ℕ) (old new : List Record) (spent : ℕ) (its : Answer)
+    → HasTurned plan node tag request old new spent its → plan.turns ≤ spent
+    → plan.turns ≤ count_by (λ r. is_turn_part r.by.part) (of_call tag.caller tag.call new)
+turns_used plan node tag request old new spent its so used =
+    let first : List Record = of_call tag.caller tag.call old in
+    let all = ap (count_by (λ (r : Record). is_turn_part r.by.part)) (call_grows (place_of node) tag old new so.mine so.grows) in
+    let both_ = sum_by-append (λ (r : Record). cond (is_turn_part r.by.part) 1 0) first so.mine in
+    let mine = turns_count so.mine so.turns in
+    let c = so.count in
+    omega arith
 
 -- ---- a call's end
 

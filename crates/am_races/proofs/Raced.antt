@@ -205,6 +205,7 @@ legal_more plan few all journal begins legal = record {
       subst (λ (l : List Act). is_callers plan.turns l (of_caller n journal) ≡ true) whole
       (calls_longer plan.turns 0 (few n) (drop b.0 (all n)) (of_caller n journal) (legal.callers n));
   turns = legal.turns;
+  ends = legal.ends;
   stops = legal.stops;
 }
 

@@ -20,7 +20,7 @@ use Rattle.am_races.specs.Tags.{is_own, is_turn_part, is_check, own_of}
 use Rattle.am_races.specs.Answers.{ballot_answer, join_answer, leave_answer, left_answer, send_answer, take_answer, stop_answer, own_answer, end_answer}
 use Rattle.am_races.specs.Answers.{or_else, queued_request, request_in, request_of, request_by, put_off_in, late_after, late, answer_in, act_of_call}
 use Rattle.am_races.specs.Answers.{first_answer}
-use Rattle.am_races.specs.Answers.{is_take, is_end, answer_of}
+use Rattle.am_races.specs.Answers.{is_take, is_end_of, is_end, answer_of}
 use Rattle.am_races.specs.Callers.{same_bytes, same_act, is_empty, asks, checks, is_followed, is_receive, is_other, is_one_call}
 use Rattle.am_races.specs.Callings.{IsUnanswered}
 use Rattle.am_races.specs.Ready.{round_in}
@@ -253,7 +253,7 @@ none_if : (b : Bool) → b ≡ false → ◌≡◌ {A = ℕ} (cond b 1 0) 0
 none_if true h = absurd (true≢false h)
 none_if false h = refl
 
-turns_count : (ts : List Record) → AreTurns ts → count_by (λ r. is_turn_part r.by.part) ts ≡ length ts
+pub turns_count : (ts : List Record) → AreTurns ts → count_by (λ r. is_turn_part r.by.part) ts ≡ length ts
 turns_count [] all = refl
 turns_count (t ∷ ts) all =
     let e = sum_by-cons (λ (r : Record). cond (is_turn_part r.by.part) 1 0) t ts in
@@ -407,15 +407,12 @@ own_answers turns a came own its is told =
 
 -- ---- records without an answer
 
-abbrev pub part_ends : Part → Act → Bool
-part_ends p a = is_check p || (is_own p && is_take a)
-
 turns_end_nothing : (ts : List Record) → AreTurns ts → list_any is_end ts ≡ false
 turns_end_nothing [] all = refl
 turns_end_nothing (t ∷ ts) all =
     ap (λ (b : Bool). b || list_any is_end ts) (no_end t.by.part t.event.act (head_turn t ts all)) ∙ turns_end_nothing ts (tail_turns t ts all)
   where
-    no_end : (p : Part) (a : Act) → is_turn_part p ≡ true → part_ends p a ≡ false
+    no_end : (p : Part) (a : Act) → is_turn_part p ≡ true → is_end_of p a ≡ false
     no_end Call a e = absurd (true≢false (sym e))
     no_end (Turn lost) a e = refl
     no_end Check a e = absurd (true≢false (sym e))
@@ -452,10 +449,10 @@ unanswered turns a (Some came) first ts begun all =
     (tells_none turns (own ∷ ts)
     (ap (λ (o : Option Record). first_answer (act_of_call o) (own ∷ ts)) (own_first own ts is.part)
     ∙ ap (λ (o : Option Answer). or_else o (first_answer own.event.act ts)) silent ∙ alone_tell_nothing own.event.act ts all)
-    (ap (λ (x : Act). part_ends own.by.part x || list_any is_end ts) is.act_
+    (ap (λ (x : Act). is_end_of own.by.part x || list_any is_end ts) is.act_
     ∙ ap (λ (b : Bool). b || list_any is_end ts) (no_end own.by.part (no_receive a begun.0) is.part) ∙ turns_end_nothing ts all))
   where
-    no_end : (p : Part) → is_take a ≡ false → is_own p ≡ true → part_ends p a ≡ false
+    no_end : (p : Part) → is_take a ≡ false → is_own p ≡ true → is_end_of p a ≡ false
     no_end Call no_ e = no_
     no_end (Turn lost) no_ e = absurd (true≢false (sym e))
     no_end Check no_ e = absurd (true≢false (sym e))

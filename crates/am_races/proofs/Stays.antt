@@ -23,7 +23,7 @@ use Rattle.am_races.specs.Told.{world_after}
 use Rattle.am_races.specs.Tags.{of_place, of_caller, of_call, own_of, is_turn_part, up_to_last}
 use Rattle.am_races.specs.Ready.{is_ready}
 use Rattle.am_races.specs.Turns.{cursor, last_heard, words_drawn, unless_nought, choice_after, follows, is_waited, is_choice, is_turn_of, turns_at, is_turn}
-use Rattle.am_races.specs.Turns.{lost_by}
+use Rattle.am_races.specs.Turns.{lost_by, is_due, may_end}
 use Rattle.am_races.specs.Turns.{greatest, passed_number}
 use Rattle.am_races.specs.Laws.{IsApart, IsLeft}
 use Rattle.am_races.proofs.Apart.{others_are_apart}
@@ -208,3 +208,34 @@ turns_stay plan before (r ∷ rest) e by apart is =
     let a = first_apart (IsApart (place_of e.node) by.caller) r rest apart in
     subst (λ (rs : List Record). is_turn plan rs e by ≡ true) (append_assoc before (r ∷ []) rest)
     (turns_stay plan (before ++ r ∷ []) rest e by a.1 (turn_stays plan before r e by a.0 is))
+
+-- ---- an end stays one, too
+
+end_stays : (plan : RacePlan) (before : List Record) (r : Record) (e : Event) (by : By) → IsApart (place_of e.node) by.caller r
+    → may_end plan before e by ≡ true → may_end plan (before ++ r ∷ []) e by ≡ true
+unfolding may_end
+end_stays plan before r e by apart is =
+    let w : World = world_after plan.founding before in
+    let v : World = world_after plan.founding (before ++ r ∷ []) in
+    let p : ℕ = place_of e.node in
+    let more : List Record = before ++ r ∷ [] in
+    let first = others_stay plan.founding before r p (λ s. apart.place (sym s ∙ same_place e.node)) in
+    let same : v.lives p ≡ w.lives p = ap v.lives (sym (same_place e.node)) ∙ first.1 ∙ ap w.lives (same_place e.node) in
+    let here : current v p ≡ current w p = ap (name_at p) same in
+    let name : ℕ = current w p in
+    let its : place_of name ≡ p = place_of_life e.node (w.lives p) in
+    let node = (others_stay plan.founding before r name (λ s. apart.place (sym s ∙ its))).0 in
+    let left : IsLeft p by.caller by.call before more = others_are_apart p by.caller by.call before r apart in
+    let due : is_due plan (v.nodes name) (of_call by.caller by.call more) ≡ true =
+    subst (λ (m : Node). is_due plan m (of_call by.caller by.call more) ≡ true) (sym node)
+    (subst (λ (rs : List Record). is_due plan (w.nodes name) rs ≡ true) (sym left.call) is)
+    in
+    subst (λ (k : ℕ). is_due plan (v.nodes k) (of_call by.caller by.call more) ≡ true) (sym here) due
+
+pub ends_stay : (plan : RacePlan) (before more : List Record) (e : Event) (by : By) → All (IsApart (place_of e.node) by.caller) more
+    → may_end plan before e by ≡ true → may_end plan (before ++ more) e by ≡ true
+ends_stay plan before [] e by apart is = subst (λ (rs : List Record). may_end plan rs e by ≡ true) (sym (append-nil before)) is
+ends_stay plan before (r ∷ rest) e by apart is =
+    let a = first_apart (IsApart (place_of e.node) by.caller) r rest apart in
+    subst (λ (rs : List Record). may_end plan rs e by ≡ true) (append_assoc before (r ∷ []) rest)
+    (ends_stay plan (before ++ r ∷ []) rest e by a.1 (end_stays plan before r e by a.0 is))

@@ -6,6 +6,7 @@ use Rattle.am_base.specs.declared.outcome.Outcome.{Outcome}
 use Rattle.am_base.specs.declared.outcome.Outcome.TheVariants as said
 use Rattle.am_group.specs.declared.event.Act.{Act}
 use Rattle.am_group.specs.declared.event.Act.TheVariants as act
+use Rattle.am_group.specs.declared.event.Part.{Part}
 use Rattle.am_group.specs.declared.event.Record.{Record}
 use Rattle.am_races.specs.declared.answer.Answer.{Answer}
 use Rattle.am_races.specs.declared.answer.Answer.TheVariants as answer
@@ -131,8 +132,11 @@ is_take act.Take = true
 is_take _ = false
 
 -- a call ends with its check, and a receive with its own act
+abbrev pub is_end_of : Part → Act → Bool
+is_end_of part a = is_check part || (is_own part && is_take a)
+
 abbrev pub is_end : Record → Bool
-is_end r = is_check r.by.part || (is_own r.by.part && is_take r.event.act)
+is_end r = is_end_of r.by.part r.event.act
 
 -- what the records of one call answer; None where it isn't finished
 unfoldable pub answer_of : ℕ → List Record → Option Answer

@@ -28,8 +28,9 @@ use Rattle.am_wire.specs.declared.wire.WireRefusal.TheVariants as refusals
 use Rattle.am_wire.specs.Passes.{Known}
 use Rattle.am_wire.specs.Seats.{Follows, GoesOn}
 use Rattle.am_wire.specs.Stops.{has_stopped}
+use Rattle.am_races.specs.Answers.{is_end_of}
 use Rattle.am_races.specs.Told.{world_after}
-use Rattle.am_races.specs.Turns.{cursor, last_heard, is_waited, is_least, waits_in_vain, is_turn}
+use Rattle.am_races.specs.Turns.{cursor, last_heard, is_waited, is_least, waits_in_vain, is_turn, may_end}
 use Rattle.am_chooser.specs.declared.chooser.Choice.{Choice}
 use Rattle.am_chooser.specs.declared.chooser.Choice.TheVariants as choice
 use Rattle.am_base.specs.Names.{place_of, has}
@@ -114,9 +115,10 @@ pub record IsShareOf (wire : TableId) (plan : RacePlan) (caller : ℕ) (share : 
   pub terms : share.terms ≡ terms_of plan
   pub keys : share.keys ≡ Caller caller ∷ []
 
--- where it is one, an act is a turn of its call by what was seen
-abbrev pub IsTurn : RacePlan → List Record → Event → By → Type 0
-IsTurn plan seen e by = is_turn_part by.part ≡ true → is_turn (plan_by (terms_of plan)) seen e by ≡ true
+-- by what was seen an act is a turn of its call, where it is one, and may be its end, where it is that
+pub record IsTimely (plan : RacePlan) (seen : List Record) (e : Event) (by : By) : Type 0 where
+  pub turn : is_turn_part by.part ≡ true → is_turn (plan_by (terms_of plan)) seen e by ≡ true
+  pub end_ : is_end_of by.part e.act ≡ true → may_end (plan_by (terms_of plan)) seen e by ≡ true
 
 -- the record of an act of a box's name, and what came of it
 pub record IsRecord (name : ℕ) (a : Act) (by : By) (came : Came) (item : Record) : Type 0 where

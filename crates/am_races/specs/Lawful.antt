@@ -12,15 +12,16 @@ use Rattle.am_wire.specs.declared.rule.Terms.{Terms}
 use Rattle.am_wire.specs.Stops.{has_stopped}
 use Rattle.am_races.specs.Told.{IsNext}
 use Rattle.am_races.specs.Tags.{is_turn_part}
-use Rattle.am_races.specs.Turns.{is_turn}
+use Rattle.am_races.specs.Answers.{is_end}
+use Rattle.am_races.specs.Turns.{is_turn, may_end}
 
 -- what the wire of a plan is told
 abbrev pub terms_of : RacePlan → Terms
-terms_of plan = record { founding = plan.founding; callers = length plan.threads; seed = plan.seed_number; loss = plan.loss; repeat = plan.repeat }
+terms_of plan = record { founding = plan.founding; callers = length plan.threads; seed = plan.seed_number; loss = plan.loss; repeat = plan.repeat; turns = plan.turns }
 
--- as far as turns go by it, the plan of a wire
+-- as far as turns and ends go by it, the plan of a wire
 abbrev pub plan_by : Terms → RacePlan
-plan_by terms = record { founding = terms.founding; seed_number = terms.seed; loss = terms.loss; repeat = terms.repeat; turns = 0; threads = [] }
+plan_by terms = record { founding = terms.founding; seed_number = terms.seed; loss = terms.loss; repeat = terms.repeat; turns = terms.turns; threads = [] }
 
 -- packets are heard whole, and nobody returns
 abbrev pub is_of_race : Act → Bool
@@ -35,11 +36,12 @@ pub record IsSent (before : List Record) (name number : ℕ) : Type 0 where
   pub its : is_for letter name ≡ true
 
 -- a record of its place's first life, which is what its event gives; it hears what was sent to it, is a turn of its
--- call where it is one, and isn't of a name that has stopped
+-- call where it is one, may be the end of its call where it is that, and isn't of a name that has stopped
 pub record IsLawful (terms : Terms) (before : List Record) (r : Record) : Type 0 where
   pub life : r.life ≡ 1
   pub act_ : is_of_race r.event.act ≡ true
   pub next : IsNext terms.founding before r
   pub turn : is_turn_part r.by.part ≡ true → is_turn (plan_by terms) before r.event r.by ≡ true
+  pub end_ : is_end r ≡ true → may_end (plan_by terms) before r.event r.by ≡ true
   pub stop : has_stopped before (name_of r) ≡ false
   pub hears : (number : ℕ) → r.event.act ≡ act.Hear number → IsSent before (name_of r) number

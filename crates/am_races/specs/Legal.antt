@@ -10,16 +10,18 @@ use Rattle.am_group.specs.Deliveries.{name_of}
 use Rattle.am_play.specs.Legal.{IsLegal}
 use Rattle.am_wire.specs.Stops.{has_stopped}
 use Rattle.am_races.specs.Tags.{of_caller, is_turn_part}
-use Rattle.am_races.specs.Turns.{is_turn}
+use Rattle.am_races.specs.Answers.{is_end}
+use Rattle.am_races.specs.Turns.{is_turn, may_end}
 use Rattle.am_races.specs.Callers.{is_callers, are_finished}
 
 -- the run of its events gives its outcomes and letters; the records of each caller are those of its calls; each turn
--- is one of its call by what stood before it;
+-- is one of its call by what stood before it; each call ends where it is ready, or has used its turns;
 -- and a name that stopped does nothing more
 pub record IsLegalWithTags (plan : RacePlan) (calls : ℕ → List Act) (journal : List Record) : Type 0 where
   pub legal : IsLegal plan.founding journal
   pub callers : (caller : ℕ) → is_callers plan.turns (calls caller) (of_caller caller journal) ≡ true
   pub turns : (before rest : List Record) (r : Record) → journal ≡ before ++ r ∷ rest → is_turn_part r.by.part ≡ true → is_turn plan before r.event r.by ≡ true
+  pub ends : (before rest : List Record) (r : Record) → journal ≡ before ++ r ∷ rest → is_end r ≡ true → may_end plan before r.event r.by ≡ true
   pub stops : (before rest : List Record) (r : Record) → journal ≡ before ++ r ∷ rest → has_stopped before (name_of r) ≡ false
 
 -- what a thread of a race has done: its calls at its node, each finished, up to one that used its turns; only where the node stopped it may have ended before

@@ -1,6 +1,6 @@
--- A turn: what a call does at its node between two looks. It gives up a stopped name that the node waits for, or does what
+-- A turn: what a call does at its node between two looks; and where its end may come. A turn gives up a stopped name that the node waits for, or does what
 -- the chooser says with the letters for the node.
-use Rattle.std.specs.Prelude.{ℕ, zero, suc, List, map, max, fold, count_by, Option, Some, None, is_none, Bool, false, not, ◌&&◌, ◌==◌, nat_lt}
+use Rattle.std.specs.Prelude.{ℕ, zero, suc, List, map, max, fold, count_by, Option, Some, None, is_none, Bool, false, not, ◌&&◌, ◌||◌, ◌==◌, nat_lt, nat_le}
 use Rattle.std.specs.List.{list_any}
 use Rattle.am_base.specs.Names.{place_of, name_lt, names_of, has}
 use Rattle.rand_pcg.specs.Lcg.{Lcg}
@@ -118,3 +118,15 @@ turns_at plan before w name e by =
 -- behind these records, an event with this tag is a turn of its call, which isn't ready
 unfoldable pub is_turn : RacePlan → List Record → Event → By → Bool
 is_turn plan before e by = turns_at plan before (world_after plan.founding before) (current (world_after plan.founding before) (place_of e.node)) e by
+
+-- ---- an end
+
+-- a call is ready, or has used its turns, by its records so far
+abbrev pub is_due : RacePlan → Node → List Record → Bool
+is_due plan m mine = is_ready m (own_of mine) || nat_le plan.turns (count_by (λ r. is_turn_part r.by.part) mine)
+
+-- behind these records, an event with this tag may be the end of its call
+unfoldable pub may_end : RacePlan → List Record → Event → By → Bool
+may_end plan before e by =
+    is_due plan ((world_after plan.founding before).nodes (current (world_after plan.founding before) (place_of e.node)))
+    (of_call by.caller by.call before)

@@ -4,6 +4,7 @@ use am_base::name::Name;
 use am_base::names::Names;
 use am_base::outcome::Outcome;
 use am_group::event::{Act, Event};
+use am_world::records::broken_at;
 use am_world::world::World;
 use std::process::Abort;
 use std::test::*;
@@ -125,5 +126,21 @@ fn an_event_without_memory_is_done_again(rt: HostRuntime) -> Result<(), Fail> {
     }
     assert_eq!(rt; world.group().len(), 2);
     assert_eq!(rt; world.name_at(Name::of_byte(1)).life(), 2);
+    Ok(())
+}
+
+// Founders whose resilience is 0 survive no stop.
+#[test]
+fn records_tell_what_broke_their_run(rt: HostRuntime) -> Result<(), Fail> {
+    let alloc = rt.alloc();
+    let mut world = two_founders(&rt)?;
+    let before = does(&mut world, 1, Act::Take)?;
+    assert_eq!(rt; before, ("another", 0));
+    let lawful = broken_at(alloc, world.journal().founding(), world.journal().records());
+    assert!(rt; matches!(lawful, Ok(None)));
+    let stop = does(&mut world, 0, Act::Stop)?;
+    assert_eq!(rt; stop, ("stopped", 0));
+    let broken = broken_at(alloc, world.journal().founding(), world.journal().records());
+    assert!(rt; matches!(broken, Ok(Some(2))));
     Ok(())
 }

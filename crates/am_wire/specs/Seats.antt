@@ -23,7 +23,7 @@ sight_of v = record { keys = v.keys; seen = v.seen }
 
 -- the terms of a seat that has no key any more
 abbrev pub no_terms : Terms
-no_terms = record { founding = record { founders = []; resilience = 0; window = 0; pb_up_to = 0 }; callers = 0; seed = 0; loss = 0; repeat = 0 }
+no_terms = record { founding = record { founders = []; resilience = 0; window = 0; pb_up_to = 0 }; callers = 0; seed = 0; loss = 0; repeat = 0; turns = 0 }
 
 -- the longer of two lists
 abbrev pub longer : List Record → List Record → List Record

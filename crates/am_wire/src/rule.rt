@@ -17,8 +17,8 @@ pub enum Key {
     Caller(u32),
 }
 
-/// What a wire is told once: how its group begins, how many callers there are, and the numbers of their choosers: the seed,
-/// and how many of a hundred letters are lost and how many more repeated.
+/// What a wire is told once: how its group begins, how many callers there are, the numbers of their choosers (the seed, and
+/// how many of a hundred letters are lost and how many more repeated), and how many turns a call has.
 #[derive(Drop)]
 pub struct Terms {
     pub founding: Founding,
@@ -26,6 +26,7 @@ pub struct Terms {
     pub seed: u64,
     pub loss: u32,
     pub repeat: u32,
+    pub turns: u32,
 }
 
 /// Which record may come next behind others, by the terms of a wire. Each record of the wire's journal does.

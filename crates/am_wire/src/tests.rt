@@ -39,6 +39,7 @@ fn terms_of(founders: u16, callers: u32) -> Result<Terms, Fail>
         seed: 1,
         loss: 0,
         repeat: 0,
+        turns: 0,
     })
 }
 

@@ -7,7 +7,7 @@ use Rattle.am_races.specs.Going.{told_at_end, request_in_call, HasLooked, Made}
 use Rattle.am_races.specs.Tags.{of_call}
 use Rattle.am_races.proofs.Growing.{not_grown}
 use Rattle.am_races.proofs.Looking.{nothing_since}
-use Rattle.am_races.proofs.Making.{HasTurned, none_turned, came_still, one_turned, refused_call, ended_call}
+use Rattle.am_races.proofs.Making.{HasTurned, none_turned, came_still, one_turned, turns_used, refused_call, ended_call}
 use Rattle.am_calls.proofs.kernels.Kernels.go_on.Goals as goal
 
 some_told : (o : Option Answer) → is_some o ≡ true → (turns spent : ℕ) → o ≡ None → turns ≤ spent
@@ -39,6 +39,9 @@ loop-spent-preserved g c = (
 pub look-requires-clause-hand : goal.look-requires-clause-hand
 look-requires-clause-hand g c = c.loop-spent.invariant.0
 
+pub look-requires-clause-used : goal.look-requires-clause-used
+look-requires-clause-used g c = λ none. absurd (true≢false none)
+
 pub look-requires-clause-came : goal.look-requires-clause-came
 look-requires-clause-came g c =
     came_still g.N.Racing.plan c.args.node c.args.tag c.args.act.now c.args.came.now _ _ _ _ _ c.requires.begun c.loop-spent.invariant.1
@@ -67,6 +70,11 @@ returns-in-Ok-End-clause-made g c =
 
 pub look-requires-2-clause-hand : goal.look-requires-2-clause-hand
 look-requires-2-clause-hand g c = c.loop-spent.invariant.0
+
+pub look-requires-2-clause-used : goal.look-requires-2-clause-used
+look-requires-2-clause-used g c = λ none.
+    turns_used g.N.Racing.plan c.args.node c.args.tag (request_in_call c.args.act.now c.args.came.now) _ _ c.loop-spent.spent c.loop-spent.late
+    c.loop-spent.invariant.1 (subst (λ (t : ℕ). t ≤ c.loop-spent.spent) c.args.self.now.turned c.loop-spent-test.false)
 
 pub look-requires-2-clause-came : goal.look-requires-2-clause-came
 look-requires-2-clause-came g c =

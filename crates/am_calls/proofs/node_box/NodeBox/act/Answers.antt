@@ -13,7 +13,7 @@ step-outcome-requires g c = record {
 pub commit-requires-clause-ready : goal.commit-requires-clause-ready
 commit-requires-clause-ready g c κs within =
     box_ready _ _ _ _ _ _ _ _ _ _ _ _ _ _ _ _ _
-    (doing _ _ _ _ _ _ _ _ _ _ _ _ _ _ _ _ _ _ c.self.view_is c.self.invariant c.requires.open_ c.requires.share c.requires.met c.requires.may c.requires.turn
+    (doing _ _ _ _ _ _ _ _ _ _ _ _ _ _ _ _ _ _ c.self.view_is c.self.invariant c.requires.open_ c.requires.share c.requires.met c.requires.may c.requires.timely
     c.in-Ok-room_for.ensures.what c.step-outcome.ensures.steps) c.args.wire.now.id _ c.requires.own
     (filled c.in-Ok.ensures c.copy_into.ensures c.into_letters.ensures)
     c.step-outcome.ensures.few
@@ -21,7 +21,7 @@ commit-requires-clause-ready g c κs within =
 pub invariant_of-self : goal.invariant_of-self
 invariant_of-self g c =
     box_after _ _ _ _ _ _ _ _ _ _ _ _ _ _ _ _ _
-    (doing _ _ _ _ _ _ _ _ _ _ _ _ _ _ _ _ _ _ c.self.view_is c.self.invariant c.requires.open_ c.requires.share c.requires.met c.requires.may c.requires.turn
+    (doing _ _ _ _ _ _ _ _ _ _ _ _ _ _ _ _ _ _ c.self.view_is c.self.invariant c.requires.open_ c.requires.share c.requires.met c.requires.may c.requires.timely
     c.in-Ok-room_for.ensures.what c.step-outcome.ensures.steps) _ _ _ _ _ _ _
     (filled c.in-Ok.ensures c.copy_into.ensures c.into_letters.ensures)
     c.in-Ok-commit.ensures.ok (search rules) (search rules) c.stops_by-self-inside.ensures c.commit.ensures.lawful
@@ -29,7 +29,7 @@ invariant_of-self g c =
 pub returns-in-Ok-commit-clause-ok : goal.returns-in-Ok-commit-clause-ok
 returns-in-Ok-commit-clause-ok g c =
     box_acted _ _ _ _ _ _ _ _ _ _ _ _ _ _ _ _ _
-    (doing _ _ _ _ _ _ _ _ _ _ _ _ _ _ _ _ _ _ c.self.view_is c.self.invariant c.requires.open_ c.requires.share c.requires.met c.requires.may c.requires.turn
+    (doing _ _ _ _ _ _ _ _ _ _ _ _ _ _ _ _ _ _ c.self.view_is c.self.invariant c.requires.open_ c.requires.share c.requires.met c.requires.may c.requires.timely
     c.in-Ok-room_for.ensures.what c.step-outcome.ensures.steps) _ _ _ _ _ _ c.self.view_is
     (filled c.in-Ok.ensures c.copy_into.ensures c.into_letters.ensures)
     c.in-Ok-commit.ensures.ok (λ i. c.step-outcome.result) (c.round_in-round.ensures ∙ ap round_in c.letters.ensures.value)

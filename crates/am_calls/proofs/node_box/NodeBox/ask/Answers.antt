@@ -1,11 +1,12 @@
-use Rattle.am_races.proofs.Looking.{may_ask, no_turn_asked, ask_hand, ask_done, ask_goes, ask_refused, refused_as}
+use Rattle.am_races.proofs.Looking.{may_ask, asked_timely, ask_hand, ask_done, ask_goes, ask_refused, refused_as}
 use Rattle.am_calls.proofs.node_box.NodeBox.ask.Goals as goal
 
 pub act-requires-clause-may : goal.act-requires-clause-may
 act-requires-clause-may g c = may_ask c.args.self.now.seen c.args.self.now.name c.args.act c.requires.met.runs c.requires.asks
 
-pub act-requires-clause-turn : goal.act-requires-clause-turn
-act-requires-clause-turn g c = no_turn_asked g.N.Racing.plan c.args.self.now.seen _ c.args.by c.requires.no_turn
+pub act-requires-clause-timely : goal.act-requires-clause-timely
+act-requires-clause-timely g c =
+    asked_timely _ _ _ _ _ _ _ _ _ c.args.self.now c.args.act c.args.by c.self.view_is c.self.invariant c.requires.no_turn c.requires.due
 
 pub returns-in-Ok-clause-hand : goal.returns-in-Ok-clause-hand
 returns-in-Ok-clause-hand g c =

@@ -1,4 +1,4 @@
-use Rattle.std.proofs.Common.{◌≡◌, ℕ, List, Result, Ok, Err, IfOk, IfErr, ap, ◌∙◌, subst}
+use Rattle.std.proofs.Common.{◌≡◌, ℕ, List, Result, Ok, Err, IfOk, IfErr, true≢false, sym, ap, ◌∙◌, subst}
 use Rattle.am_group.specs.declared.event.Act.{Act}
 use Rattle.am_group.specs.declared.event.By.{By}
 use Rattle.am_group.specs.declared.event.Part.TheVariants.{Call}
@@ -6,12 +6,17 @@ use Rattle.am_group.specs.declared.event.Record.{Record}
 use Rattle.am_group.specs.declared.plan.RacePlan.{RacePlan}
 use Rattle.am_races.specs.declared.answer.Answer.{Answer}
 use Rattle.am_races.specs.declared.call.Came.{Came}
+use Rattle.am_races.specs.Answers.{is_take, is_end_of}
 use Rattle.am_races.specs.Going.{by_of, is_asked, Asked, WasRefused}
 use Rattle.am_races.proofs.Looking.{call_asks, began_all, all_refused_since}
 use Rattle.am_calls.proofs.node_box.NodeBox.begin.Goals as goal
 
 pub ask-requires-clause-asks : goal.ask-requires-clause-asks
 ask-requires-clause-asks g c = ap is_asked c.in-Ok.ensures ∙ call_asks c.args.act.now c.requires.call
+
+pub ask-requires-clause-due : goal.ask-requires-clause-due
+ask-requires-clause-due g c = λ end.
+    absurd (true≢false (sym end ∙ ap (λ (b : By). is_end_of b.part c.in-Ok.own) c.with.ensures ∙ ap is_take c.in-Ok.ensures ∙ c.requires.no_receive))
 
 -- what asking leaves, by what was asked
 asked_as : (plan : RacePlan) (name name' : ℕ) (a a' : Act) (by by' : By) (old new : List Record) (r : Result Came Answer) → name' ≡ name → a' ≡ a → by' ≡ by

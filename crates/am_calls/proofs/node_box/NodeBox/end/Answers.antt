@@ -1,8 +1,10 @@
-use Rattle.std.proofs.Common.{ap, ◌∙◌, subst}
+use Rattle.std.proofs.Common.{◌≡◌, true, sym, ap, ◌∙◌, subst}
 use Rattle.am_group.specs.declared.event.Act.{Act}
 use Rattle.am_group.specs.declared.event.By.{By}
 use Rattle.am_races.specs.Going.{by_of, is_asked, end_part, Asked}
-use Rattle.am_races.specs.Tags.{is_turn_part}
+use Rattle.am_races.specs.Boxes.{node_by}
+use Rattle.am_races.specs.Tags.{is_turn_part, of_call}
+use Rattle.am_races.specs.Turns.{is_due}
 use Rattle.am_races.proofs.Looking.{end_asks, end_no_turn, end_done}
 use Rattle.am_calls.proofs.node_box.NodeBox.end.Goals as goal
 
@@ -12,6 +14,11 @@ ask-requires-clause-asks g c = ap is_asked c.end_act-last.ensures ∙ end_asks c
 pub ask-requires-clause-no_turn : goal.ask-requires-clause-no_turn
 ask-requires-clause-no_turn g c =
     ap (λ (b : By). is_turn_part b.part) c.with.ensures ∙ ap is_turn_part c.end_part-part.ensures ∙ end_no_turn c.args.act.now
+
+pub ask-requires-clause-due : goal.ask-requires-clause-due
+ask-requires-clause-due g c = λ end.
+    subst (λ (b : By). is_due g.N.Racing.plan (node_by g.N.Racing.plan c.args.self.now.seen c.args.self.now.name)
+    (of_call b.caller b.call c.args.self.now.seen) ≡ true) (sym c.with.ensures) c.requires.due
 
 pub returns-in-Ok-clause-ok : goal.returns-in-Ok-clause-ok
 returns-in-Ok-clause-ok g c =

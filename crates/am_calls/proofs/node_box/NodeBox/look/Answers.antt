@@ -3,7 +3,7 @@ use Rattle.am_group.specs.declared.event.Record.{Record}
 use Rattle.am_races.specs.Boxes.{node_by}
 use Rattle.am_races.specs.Tags.{of_call, own_of}
 use Rattle.am_races.specs.Going.{HasLooked, WasRefused, EndTells}
-use Rattle.am_races.proofs.Looking.{came_seen, last_looked, ready_looked, turn_looked, all_refused_since}
+use Rattle.am_races.proofs.Looking.{came_seen, used_at, ready_due, last_looked, ready_looked, turn_looked, all_refused_since}
 use Rattle.am_calls.proofs.node_box.NodeBox.look.Goals as goal
 
 pub spend-requires-clause-unready : goal.spend-requires-clause-unready
@@ -12,6 +12,21 @@ spend-requires-clause-unready g c =
     (came_seen c.args.visit.now.tag c.args.act.now c.args.came.now c.args.hand.now.share.seen c.meet_caller.new.hand.share.seen c.meet_caller.new.self.seen
     c.meet_caller.ensures.goes c.in_ok-meet_caller.ensures.ok.same c.requires.came))
     ∙ c.if-is_ready.false
+
+pub end-requires-clause-due : goal.end-requires-clause-due
+end-requires-clause-due g c =
+    used_at g.N.Racing.plan c.args.visit.now.tag (node_by g.N.Racing.plan c.meet_caller.new.self.seen c.meet_caller.new.self.name)
+    c.args.hand.now.share.seen c.meet_caller.new.hand.share.seen c.meet_caller.new.self.seen c.meet_caller.ensures.goes
+    c.in_ok-meet_caller.ensures.ok.same (c.requires.used c.if-not-has_turn.true)
+
+pub end-requires-then-is_ready-clause-due : goal.end-requires-then-is_ready-clause-due
+end-requires-then-is_ready-clause-due g c =
+    ready_due g.N.Racing.plan (node_by g.N.Racing.plan c.meet_caller.new.self.seen c.meet_caller.new.self.name)
+    (of_call c.args.visit.now.tag.caller c.args.visit.now.tag.call c.meet_caller.new.self.seen)
+    (sym (c.is_ready.ensures.ready (own_of (of_call c.args.visit.now.tag.caller c.args.visit.now.tag.call c.meet_caller.new.self.seen))
+    (came_seen c.args.visit.now.tag c.args.act.now c.args.came.now c.args.hand.now.share.seen c.meet_caller.new.hand.share.seen c.meet_caller.new.self.seen
+    c.meet_caller.ensures.goes c.in_ok-meet_caller.ensures.ok.same c.requires.came))
+    ∙ c.if-is_ready.true)
 
 pub returns-then-not-has_turn-clause-ok : goal.returns-then-not-has_turn-clause-ok
 returns-then-not-has_turn-clause-ok g c =

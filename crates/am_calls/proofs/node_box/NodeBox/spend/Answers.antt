@@ -2,7 +2,7 @@ use Rattle.std.proofs.Common.{ap, ◌∙◌}
 use Rattle.am_chooser.specs.Choices.{Luck}
 use Rattle.am_races.specs.Going.{luck_behind}
 use Rattle.am_races.proofs.Boxing.{still_runs}
-use Rattle.am_races.proofs.Looking.{turn_is_may, turn_hand, turn_grown, turn_refused, refused_hand, refused_as}
+use Rattle.am_races.proofs.Looking.{turn_is_may, turn_timely, turn_hand, turn_grown, turn_refused, refused_hand, refused_as}
 use Rattle.am_calls.proofs.node_box.NodeBox.spend.Goals as goal
 
 pub act-requires-clause-may : goal.act-requires-clause-may
@@ -10,6 +10,11 @@ act-requires-clause-may g c =
     turn_is_may g.N.Racing.plan c.args.self.now c.turn-turn.new.self _ _ _ _ c.turn-turn.ensures.looks c.as_ref.ensures.value
     (still_runs _ _ _ _ _ _ _ _ _ c.args.self.now c.turn-turn.new.self c.self.view_is c.self.invariant c.turn-turn.ensures.looks c.requires.met.runs)
     c.turn-turn.ensures.turn c.turn-turn.ensures.hears
+
+pub act-requires-clause-timely : goal.act-requires-clause-timely
+act-requires-clause-timely g c =
+    turn_timely g.N.Racing.plan c.turn-turn.new.self.seen c.args.self.now.name c.turn-turn.new.self.name _ _ c.args.visit.now.tag c.turn-turn.result.lost
+    c.turn-turn.ensures.looks.name c.with-by.ensures c.turn-turn.ensures.turn
 
 pub returns-in-Ok-act-clause-hand : goal.returns-in-Ok-act-clause-hand
 returns-in-Ok-act-clause-hand g c =
