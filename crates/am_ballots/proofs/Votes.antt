@@ -46,7 +46,6 @@ those_twice one other set =
 pub least_own : (who taken : ℕ) (b : Ballot) (set : List ℕ) (o : Option ℕ) → IsSet set → o ≡ least_of (taken_by who taken b) (names_of set) → has set who ≡ true
     → IfSome o (λ least. least ≤ taken)
 least_own who taken b set o is e h =
-    let long = is.places in
     let place : place_of who < 16 = omega arith in
     let there : slice_index set (place_of who) ≡ life_of who = grind (arith, nat_tests) in
     let found = least_in (taken_by who taken b) set 0 (place_of who) (omega arith) (omega arith) in

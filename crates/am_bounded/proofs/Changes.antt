@@ -40,7 +40,6 @@ kept_look rules m b v (decides may) own h =
     let before = trim_for m b names in
     let some = has_size names m.core.who (has_those (λ name. not (b.given_up name)) (need_of m b) m.core.who may.learned.needed (ap not own)) in
     let same = ap (λ (r : Rules). r.window) h.founding in
-    let room = may.room in
     let low : top m + 1 - before.core.base ≤ m.core.rules.window + 16 - size names = grind (arith, nat_tests) in
     let k = kept_trimmed rules m (unwrap_or (least_of (taken_by m.core.who m.core.taken b) (names_of names)) 0) h in
     let l = kept_next rules before (View b.stamp names (max b.resilience (image_of m).resilience)) k (omega arith) in
@@ -52,8 +51,6 @@ kept_look rules m b v _ own h = record { founding = h.founding; few = h.few; its
 -- the next number is within the bound
 kept_stored : (rules : Rules) (m : Node) (base number : ℕ) (e : Entry) → MayStore m m.core.base base number e → Keeps rules m → Keeps rules (push_entry m e)
 kept_stored rules m base number e may h =
-    let next = may.next in
-    let within = may.within in
     let same = ap (λ (r : Rules). r.window) h.founding in
     let low : number - m.core.base ≤ m.core.rules.window + 15 = grind (arith, nat_tests) in
     kept_next rules m e h (omega arith)

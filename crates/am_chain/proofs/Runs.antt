@@ -28,7 +28,6 @@ accept_grows : (node : ℕ → Node) (group list chain : List Entry) (to : ℕ) 
     → Begins group (take to list)
 accept_grows node group list chain to g l may =
     let long = length_take to list may.within in
-    let r = may.rises in
     begins_both g (begins_trans (begins_take to list) l) (omega arith)
 
 -- a move leaves what is decided, and what was accepted

@@ -64,7 +64,6 @@ rises_fold image n [] l f s = record { view = omega arith; resilience = omega ar
 rises_fold image n (e ∷ es) l f s =
     let one = rises_after image n e l f.0 s.0 in
     let more = rises_fold (after image n e) (n + 1) es one.small f.1 s.1 in
-    let a = one.view in let b = more.view in let c = one.resilience in let d = more.resilience in
     record { view = omega arith; resilience = omega arith; small = more.small }
 
 pub rises_begins : {a b : List Entry} → IsGood b → Begins a b → Rises (image_of a) (image_of b)

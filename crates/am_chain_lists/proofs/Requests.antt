@@ -73,7 +73,6 @@ send_parts image from req body long f =
     let a = has (members_of image) from in
     let b = req == (row_of image from).last + 1 in
     let m = has_in image from long (and_left a b f) in
-    let is = m.is in
     let t : ((row_at image (place_of from)).life == life_of from) ≡ true = grind (arith, nat_tests) in
     let same : (row_of image from).last ≡ (row_at image (place_of from)).last = rw t refl in
     let e : req ≡ (row_of image from).last + 1 = let g = and_right a b f in grind (arith, nat_tests) in

@@ -299,14 +299,13 @@ pub out_after : (image : Image) (n name : ℕ) → length image.rows ≡ 16 → 
     → In (row_at (after image n (Leave name)) (place_of name)) (life_of name) → ⊥
 unfolding after
 out_after image n name long up old new =
-    let is = old.is in
     let t : ((at_place image name).life == life_of name) ≡ true = grind (arith, nat_tests) in
     let now : In (row_at (with_row image name (record (at_place image name) { left = n })) (place_of name)) (life_of name) = rw t at new in
     ⊎_elim
     (λ (x : (place_of name ≡ place_of name) × (row_at (with_row image name (record (at_place image name) { left = n })) (place_of name)
     ≡ record (at_place image name) { left = n })).
     let g : In (record (at_place image name) { left = n }) (life_of name) = subst (λ r. In r (life_of name)) x.1 now in
-    let l = g.left in let z : ⊥ = omega arith in z)
+    let z : ⊥ = omega arith in z)
     (λ (x : (place_of name ≢ place_of name) × (row_at (with_row image name (record (at_place image name) { left = n })) (place_of name)
     ≡ row_at image (place_of name))). absurd (x.0 refl))
     (row_set image name (place_of name) (record (at_place image name) { left = n }) long)

@@ -33,7 +33,7 @@ later_all node i n h = put_at (λ j m. Later (node j) m) node i n h (λ j _. lat
 
 pub shown_later : (a b : ℕ → Node) (x name : ℕ) (l : List Entry) → ((j : ℕ) → Later (a j) (b j)) → ShownOk a x name l → ShownOk b x name l
 shown_later a b x name l up h =
-    let p = h.promised in let q = (up name).promise in let r = h.begun in let t = (up h.stamp.by).promise in
+    let q = (up name).promise in let t = (up h.stamp.by).promise in
     record {
       promised = omega arith;
       list = begins_trans h.list (up name).list;

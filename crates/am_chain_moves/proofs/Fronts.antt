@@ -50,7 +50,6 @@ witness_more node a b n h low w =
 pub node_accepts : (views : Views) (a b : List Entry) (i : ℕ) (m : Node) → Begins a b → NodeOk views a i m → NodeOk views b i m
 node_accepts views a b i m h ok =
     let more = begins_length h in
-    let t = ok.fronts.told in
     record {
       small = ok.small;
       list = ok.list;
@@ -77,7 +76,6 @@ accept_witness node list group to n start may low high =
     let h = may.held n low high in
     let m = h.0 in
     let a = h.1 in
-    let b = h.2 in
     let held = h.3 in
     let up : 0 < m = omega arith in
     let w : m ≤ length (take to list) = omega arith in
@@ -99,7 +97,6 @@ pub group_change : (s : Group) (k : Kept s) (list : List Entry) (to : ℕ) → l
 group_change s k list to is may =
     let long = length_take to list may.within in
     let chain : Begins (take to list) (chain_of s.views) = subst (Begins (take to list)) is (begins_take to list) in
-    let rises = may.rises in
     let grows : Begins s.group (take to list) = begins_both k.group chain (omega arith) in
     record {
       views = k.views;

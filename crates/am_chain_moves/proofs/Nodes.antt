@@ -11,8 +11,6 @@ pub fronts_longer : (group : List Entry) (m n : Node) (more : List Entry) → n.
     → FrontsOk group n
 fronts_longer group m n more list told acc h =
     let within = h.within in
-    let low = h.told in
-    let above = h.acc in
     let long = ap length list ∙ length-append m.list more in
     let same : take n.acc n.list ≡ take m.acc m.list = ap (λ k. take k n.list) acc ∙ ap (take m.acc) list ∙ take-append-le m.acc m.list more within in
     record { told = omega arith; acc = omega arith; within = omega arith; delivered = subst (λ l. Begins l group) (sym same) h.delivered }
@@ -107,7 +105,7 @@ not_late views group i m v u staying ok = ⊎_elim
     let shorter = begins_more o.before (o.last ∷ []) in
     let now = ok.stays u.there staying o.before (begins_trans shorter chain) o.member in
     let still = mem_between {b = o.before ++ o.last ∷ []} i v.good shorter chain o.member now in
-    let ended = o.ended in absurd (cc))
+    absurd (cc))
     (low_or_above (key views.current) (key m.promise))
   where
     low_or_above : (a b : ℕ) → (a ≤ b) ⊎ (b < a)
@@ -155,7 +153,6 @@ pub longer_ok : (views : Views) (group : List Entry) (i : ℕ) (m : Node) (e : E
 longer_ok views group i m e u chain ongoing leads late ballot ok =
     let there : IsThere (longer m e) → IsThere m = λ t. record { goes = t.goes; stays = t.stays } in
     let up : IsUp (longer m e) → IsUp m = λ u. record { log = u.log; there = there u.there } in
-    let log = u.log in
     record {
       small = ok.small;
       list = λ u. chain;
@@ -263,7 +260,7 @@ welcome_now s j stamp base join w v ok = ⊎_elim
     let part = begins_take join chosen in
     let now = ok.stays w.there w.staying (take join chosen) (begins_trans part whole) in_then in
     let p = ok.promised w.there (mem_between j v.good part whole in_then now) in
-    let q = w.promise in omega arith)
+    omega arith)
     (low_or_above (key s.views.current) (key stamp))
 
 pub welcome_ok : (s : Group) (j : ℕ) (stamp : Stamp) (base join : ℕ) → MayWelcome s j stamp base join → ViewsOk s.views → Begins s.group (chain_of s.views)
@@ -271,10 +268,8 @@ pub welcome_ok : (s : Group) (j : ℕ) (stamp : Stamp) (base join : ℕ) → May
     (record (s.node j) { list = take base s.group; has_log = true; start = join; promise = stamp; told = base; acc = base })
 welcome_ok s j stamp base join w v g ok =
     let now = welcome_now s j stamp base join w v ok in
-    let below = w.below in
     let accepted = w.accepted in
     let long = length_take base s.group (omega arith) in
-    let no_ballot = w.no_ballot in
     let there : IsThere (record (s.node j) { list = take base s.group; has_log = true; start = join; promise = stamp; told = base; acc = base })
     → IsThere (s.node j) = λ t. record { goes = t.goes; stays = t.stays } in
     record {

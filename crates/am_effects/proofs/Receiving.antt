@@ -152,7 +152,6 @@ other_name a s who t f = grind (arith, nat_tests)
 pub asking : (m : Node) (s : ℕ) (v : Stamp) (base join : ℕ) (image : Image) → MayBeWelcomed m s v base join image → is_asking m.status ≡ true
 asking m s v base join image h =
     let a = (and_both (not (s == m.core.who)) (is_member m.status || is_asking m.status) h.asks).1 in
-    let b = h.no_member in
     grind arith
 
 row_welcomed : (m : Node) (s : ℕ) (v : Stamp) (base join : ℕ) (image : Image) → MayBeWelcomed m s v base join image → (s == m.core.who) ≡ false

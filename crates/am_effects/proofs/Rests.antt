@@ -206,8 +206,6 @@ stands_rests {p} {n} base number e h s = record {
   there = ap (λ l. slice_get l s.index) h.entries ∙ get_front p.core.log.entries h.more s.index e s.there;
   at = λ b. s.at (subst (λ x. x ≤ base) h.start b) ∙ ap (λ x. x + s.index + 1) (sym h.start);
   within =
-      let w = s.within in
       let l = ap length h.entries ∙ length-append p.core.log.entries h.more in
-      let st = h.start in
       omega arith;
 }

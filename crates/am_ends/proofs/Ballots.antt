@@ -7,7 +7,7 @@ use Rattle.am_ends.proofs.Words.{decide_view, trim_for, decide, with_result, wit
 use Rattle.am_ends.proofs.Words.{keep_vote, without_voter, give_up, reset_row, give_up_of, give_up_row, decide_anew, with_log}
 use Rattle.am_base.specs.declared.outcome.Outcome.TheVariants as said
 use Rattle.am_ends.proofs.{Nodes.Keeps, Nodes.Whole, Nodes.reads, Nodes.keeps_pushed, Nodes.keeps_trimmed, Plans.Says, Plans.Alike, Plans.same_others}
-use Rattle.am_ends.proofs.{Plans.says_fetch, Plans.alike_if, Plans.alike_case, Plans.alike_quiet}
+use Rattle.am_ends.proofs.{Plans.says_fetch, Plans.alike, Plans.alike_if, Plans.alike_case, Plans.alike_quiet}
 
 -- ---- verdicts
 
@@ -171,10 +171,7 @@ alike_reset all m least resilience h =
 
 pub alike_give_up_of : (all : Log) (m : Node) (name : ℕ) (b : Option Ballot) → Keeps all m → Alike (give_up_of (with_log m all) name b) (give_up_of m name b)
 alike_give_up_of all m name None h = alike_quiet all m _ _ h refl
-alike_give_up_of all m name (Some b) h =
-    alike_case b.is_over _ _ _ _ (λ t. alike_quiet all m _ _ h refl)
-    (λ f. alike_case (name == m.core.who) _ _ _ _ (λ t. alike_quiet all m _ _ h refl)
-    (λ g. alike_give_up all m b name h))
+alike_give_up_of all m name (Some b) h = search (alike, alike_give_up)
 
 pub alike_give_up_row : (all : Log) (m : Node) (name : ℕ) → Keeps all m → Alike (give_up_row (with_log m all) name) (give_up_row m name)
 unfolding give_up_row

@@ -1,9 +1,9 @@
 -- Calls and ticks, on the kept end of a list as on all of it.
-use Rattle.am_ends.proofs.Words.{◌≡◌, ℕ, ◌+◌, ◌-◌, ◌<◌, true, not, ◌&&◌, ◌||◌, ◌==◌, nat_lt, nat_le, if◌then◌else◌, List, length, Option, Some, None, refl}
+use Rattle.am_ends.proofs.Words.{◌≡◌, ℕ, ◌+◌, ◌-◌, ◌<◌, true, not, ◌&&◌, ◌||◌, ◌==◌, nat_lt, nat_le, if◌then◌else◌, List, Option, Some, None, refl}
 use Rattle.am_ends.proofs.Words.{sym, ◌∙◌, ap, subst, arith, is_some, nat_tests, Entry, Data, Leave, Outcome, without_name, size, nobody, stamp_eq, Log}
 use Rattle.am_ends.proofs.Words.{members_of, row_of, entry_at, with_entry, split, Packet, Letter, with_letter, OwnSend, Status, Node, Ballot, top, image_of}
 use Rattle.am_ends.proofs.Words.{view, others, only_name, lowest_or_first, those, acts, is_member, is_sequencer, has_room, waiting, unsettled_count}
-use Rattle.am_ends.proofs.Words.{push_entry, Plan, request_of, spread_of, bcast_of, join_ask_of, leave_ask_of, hand_over_of, invite_of, fetch_of, ack_of}
+use Rattle.am_ends.proofs.Words.{push_entry, Plan, bcast_of, join_ask_of, leave_ask_of, hand_over_of, invite_of, fetch_of}
 use Rattle.am_ends.proofs.Words.{result_of, everywhere_else, would_emit, hand_in, number_send, emit, with_queued, queue, send_row, done_row, give_out}
 use Rattle.am_ends.proofs.Words.{take_row, ask_to_join, join_by, join_row, state_by, state_row, go, is_unfinished, leave_now, leave_by, leave_row, ask_of}
 use Rattle.am_ends.proofs.Words.{ask_row, tick_ballot, tick_promised, tick_member, put_off, behind_view, viewed_by, and_result, tick_sequencer, tick_acting}
@@ -12,7 +12,7 @@ use Rattle.am_base.specs.declared.outcome.Outcome.TheVariants as said
 use Rattle.am_sender.specs.Sends as own
 use Rattle.am_model.specs.declared.status.Status.TheVariants as status
 use Rattle.am_ends.proofs.Plans.{Alike, same_others, says_request, says_spread, says_ack, says_leave_ask, says_fetch, alike_if, alike_case, alike_quiet}
-use Rattle.am_ends.proofs.Plans.{alike_with, alike_telling, alike_and, alike_numbering}
+use Rattle.am_ends.proofs.Plans.{alike, alike_with, alike_telling, alike_and, alike_numbering}
 use Rattle.am_ends.proofs.Nodes.{Keeps, reads, same_entry, same_sequencer, keeps_pushed}
 
 -- ---- what a node tells
@@ -33,10 +33,7 @@ same_would all m None h = refl
 same_would all m (Some s) h = reads all m (λ i t. (is_member m.status && stamp_eq m.core.promise i.view) && nat_lt (row_of i m.core.who).last s.req) h
 
 pub alike_hand_in : (all : Log) (m : Node) (s : OwnSend) (o w : Outcome) → Keeps all m → o ≡ w → Alike (hand_in (with_log m all) s o) (hand_in m s w)
-alike_hand_in all m s o w h e =
-    alike_case (nat_le (length s.body) m.core.rules.pb_up_to) _ _ _ _
-    (λ t. alike_telling all m o w _ _ (λ n. request_of n s.req s.body) _ h e (same_viewer all m h) (says_request s.req s.body))
-    (λ f. alike_telling all m o w _ _ (λ n. spread_of n s.req s.body) _ h e (same_others all m h) (says_spread s.req s.body))
+alike_hand_in all m s o w h e = search (alike, alike_telling, same_viewer, says_request, same_others, says_spread)
 
 pub alike_number_send : (all : Log) (m : Node) (s : OwnSend) (o w : Outcome) → Keeps all m → o ≡ w
     → Alike (number_send (with_log m all) s o) (number_send m s w)
@@ -46,11 +43,7 @@ alike_number_send all m s o w h e =
 
 pub alike_emit : (all : Log) (m : Node) (s : Option OwnSend) (o w : Outcome) → Keeps all m → o ≡ w → Alike (emit (with_log m all) s o) (emit m s w)
 alike_emit all m None o w h e = alike_quiet all m o w h e
-alike_emit all m (Some s) o w h e =
-    alike_if _ _ _ _ _ _ (ap not (same_would all m (Some s) h)) (λ t. alike_quiet all m o w h e)
-    (λ f. alike_if _ _ _ _ _ _ (ap not (same_sequencer all m h)) (λ t. alike_hand_in all m s o w h e)
-    (λ g. alike_if _ _ _ _ _ _ (same_room all m h) (λ t. alike_number_send all m s o w h e)
-    (λ k. alike_quiet all m o w h e)))
+alike_emit all m (Some s) o w h e = search (alike, same_would, same_sequencer, alike_hand_in, same_room, alike_number_send)
 
 keeps_queued : (all : Log) (m : Node) (body : List ℕ) → Keeps all m → Keeps all (with_queued m body)
 keeps_queued all m body h = record { kept = h.kept; order = h.order }
@@ -63,11 +56,7 @@ alike_queue all m body h =
 
 pub alike_send : (all : Log) (m : Node) (body : List ℕ) → Keeps all m → Alike (send_row (with_log m all) body) (send_row m body)
 unfolding send_row
-alike_send all m body h =
-    alike_case (not (is_member m.status)) _ _ _ _ (λ t. alike_quiet all m _ _ h refl)
-    (λ f. alike_case m.leaving _ _ _ _ (λ t. alike_quiet all m _ _ h refl)
-    (λ g. alike_case (nat_le 4 (length m.sends.queue)) _ _ _ _ (λ t. alike_quiet all m _ _ h refl)
-    (λ k. alike_queue all m body h)))
+alike_send all m body h = search (alike, alike_queue)
 
 pub alike_done : (all : Log) (m : Node) (req : ℕ) → Keeps all m → Alike (done_row (with_log m all) req) (done_row m req)
 unfolding done_row
@@ -89,7 +78,6 @@ alike_given_same all m e w h more same = subst (λ x. Alike (give_out (with_log 
 pub alike_take : (all : Log) (m : Node) → Keeps all m → Alike (take_row (with_log m all)) (take_row m)
 unfolding take_row
 alike_take all m h =
-    let o = h.order in
     alike_case (not (is_member m.status)) _ _ _ _ (λ t. alike_quiet all m _ _ h refl)
     (λ f. alike_case (m.core.taken == m.core.acc) _ _ _ _ (λ t. alike_quiet all m _ _ h refl)
     (λ g. alike_given_same all m _ _ h (grind (arith, nat_tests)) (same_entry all m (m.core.taken + 1) h (omega arith))))
@@ -110,7 +98,7 @@ unfolding join_row
 alike_join all m h = alike_join_by all m m.status h
 
 pub alike_state_by : (all : Log) (m : Node) (s : Status) → Keeps all m → Alike (state_by (with_log m all) s) (state_by m s)
-alike_state_by all m status.Member h = alike_case m.leaving _ _ _ _ (λ t. alike_quiet all m _ _ h refl) (λ f. alike_quiet all m _ _ h refl)
+alike_state_by all m status.Member h = search alike
 alike_state_by all m _ h = alike_quiet all m _ _ h refl
 
 pub alike_state : (all : Log) (m : Node) → Keeps all m → Alike (state_row (with_log m all)) (state_row m)
@@ -173,9 +161,7 @@ alike_leave all m h = alike_leave_by all m m.status h
 
 pub alike_ask_of : (all : Log) (m : Node) (round : ℕ) (b : Option Ballot) → Keeps all m → Alike (ask_of (with_log m all) round b) (ask_of m round b)
 alike_ask_of all m round None h = alike_quiet all m _ _ h refl
-alike_ask_of all m round (Some b) h =
-    alike_case (nat_lt b.stamp.round round) _ _ _ _ (λ t. alike_quiet all m _ _ h refl)
-    (λ f. alike_case (nat_lt round b.stamp.round) _ _ _ _ (λ t. alike_quiet all m _ _ h refl) (λ g. alike_quiet all m _ _ h refl))
+alike_ask_of all m round (Some b) h = search alike
 
 pub alike_ask : (all : Log) (m : Node) (round : ℕ) → Keeps all m → Alike (ask_row (with_log m all) round) (ask_row m round)
 unfolding ask_row
@@ -189,15 +175,10 @@ alike_tick_ballot all m (said.Fetching from want) h = alike_telling all m _ _ (o
 alike_tick_ballot all m _ h = alike_quiet all m _ _ h refl
 
 pub alike_tick_promised : (all : Log) (m : Node) → Keeps all m → Alike (tick_promised (with_log m all)) (tick_promised m)
-alike_tick_promised all m h =
-    alike_case (m.core.promise.by == m.core.who) _ _ _ _ (λ t. alike_quiet all m _ _ h refl)
-    (λ f. alike_telling all m _ _ (only_name m.core.promise.by) (only_name m.core.promise.by) fetch_of fetch_of h refl refl says_fetch)
+alike_tick_promised all m h = search (alike, alike_telling, says_fetch)
 
 pub alike_tick_member : (all : Log) (m : Node) → Keeps all m → Alike (tick_member (with_log m all)) (tick_member m)
-alike_tick_member all m h =
-    alike_case m.leaving _ _ _ _ (λ t. alike_go _ _ (alike_quiet all m said.Ticked said.Ticked h refl))
-    (λ f. alike_if _ _ _ _ _ _ (same_would all m (waiting m) h) (λ t. alike_emit all m (waiting m) _ _ h refl)
-    (λ g. alike_telling all m _ _ _ _ ack_of ack_of h refl (same_viewer all m h) says_ack))
+alike_tick_member all m h = search (alike, alike_go, same_would, alike_emit, alike_telling, same_viewer, says_ack)
 
 same_put_off : (all : Log) (m : Node) (w : Option OwnSend) → Keeps all m → put_off (with_log m all) w ≡ put_off m w
 same_put_off all m None h = refl
@@ -218,7 +199,6 @@ says_result : (all : Log) (n : Node) (ls : List Letter) → Keeps all n
     → with_letter (behind_view n) (view_by n all) ls ≡ with_letter (behind_view n) (view_by n n.core.log) ls
 says_result all n ls h = split (nat_lt n.core.base (image_of n).view_number)
     (λ t.
-    let o = h.order in
     let above : n.core.log.start < (image_of n).view_number = grind (arith, nat_tests) in
     ap (λ e. with_letter (behind_view n) (result_of n (image_of n).view_number (viewed_by e) (image_of n).resilience) ls)
     (same_entry all n (image_of n).view_number h above))
@@ -243,9 +223,7 @@ alike_tick_sequencer all m h =
     alike_case m.leaving _ _ _ _ (λ t. alike_go (and_result p) (and_result q) a) (λ f. a)
 
 pub alike_tick_acting : (all : Log) (m : Node) → Keeps all m → Alike (tick_acting (with_log m all)) (tick_acting m)
-alike_tick_acting all m h =
-    alike_if _ _ _ _ _ _ (ap not (same_acts all m h)) (λ t. alike_tick_promised all m h)
-    (λ f. alike_if _ _ _ _ _ _ (same_sequencer all m h) (λ t. alike_tick_sequencer all m h) (λ g. alike_tick_member all m h))
+alike_tick_acting all m h = search (alike, same_acts, alike_tick_promised, same_sequencer, alike_tick_sequencer, alike_tick_member)
 
 pub alike_tick_with : (all : Log) (m : Node) (b : Option Ballot) → Keeps all m → Alike (tick_with (with_log m all) b) (tick_with m b)
 alike_tick_with all m None h = alike_tick_acting all m h

@@ -5,14 +5,14 @@ use Rattle.am_ends.proofs.Words.{names_of, stamp_lt, stamp_eq, Log, fits, row_of
 use Rattle.am_ends.proofs.Words.{keep_body, Node, Ballot, image_of, view, only_name, is_member, has_own_leave, is_within_bound, waiting, push_entry}
 use Rattle.am_ends.proofs.Words.{trim_up_to, Plan, ack_of, nack_of, fetch_of, piece_of, put_all, if_risen, spread_row, body_of, bodies_after, is_view}
 use Rattle.am_ends.proofs.Words.{with_noted, acknowledges, store_fitting, store, receive_entry, bcast_row, data_of, order_row, accept_row, answer_hold}
-use Rattle.am_ends.proofs.Words.{hold_row, with_promise, vote_of, invite_row, is_open, take_vote, vote_row, serve_pieces, fetch_row, is_view_past}
+use Rattle.am_ends.proofs.Words.{hold_row, with_promise, vote_of, invite_row, take_vote, vote_row, serve_pieces, fetch_row, is_view_past}
 use Rattle.am_ends.proofs.Words.{push_fetched, catch_up, decide_anew, fetches_from, piece_promised, piece_for, piece_row, hears_result, result_row}
-use Rattle.am_ends.proofs.Words.{hand_over_row, reset_row, hears_member, hears_asking, hears_in_view, hears_as_sequencer, hears_sequencer, where_heard}
+use Rattle.am_ends.proofs.Words.{hand_over_row, reset_row, hears_member, hears_in_view, hears_as_sequencer, hears_sequencer, where_heard}
 use Rattle.am_ends.proofs.Words.{hear_row, read_row, row, step, with_log, StepsAlike, EndsStepAlike, StepsKeepOrder}
 use Rattle.am_base.specs.declared.outcome.Outcome.TheVariants as said
 use Rattle.am_base.specs.declared.event.NodeEvent.TheVariants as does
 use Rattle.am_packet.specs.declared.packet.Packet.TheVariants as packet
-use Rattle.am_ends.proofs.Plans.{Alike, says_ack, says_nack, says_fetch, says_vote, alike_if, alike_case, alike_quiet, alike_saying, alike_sending}
+use Rattle.am_ends.proofs.Plans.{alike, Alike, says_ack, says_nack, says_fetch, says_vote, alike_if, alike_case, alike_quiet, alike_saying, alike_sending}
 use Rattle.am_ends.proofs.Plans.{alike_telling, alike_where, finish_alike, finish_ordered}
 use Rattle.am_ends.proofs.Calls.{alike_send, alike_done, alike_take, alike_join, alike_state, alike_leave, alike_ask, alike_tick}
 use Rattle.am_ends.proofs.Sequencing.{same_served, alike_request, alike_ack, alike_nack, alike_join_ask, alike_welcome, alike_leave_ask, alike_gone_row}
@@ -107,9 +107,7 @@ alike_invite all m s v h =
 pub alike_voted_for : (all : Log) (m : Node) (s : ℕ) (v : Stamp) (vote : Vote) (b : Option Ballot) → Keeps all m
     → Alike (take_vote (with_log m all) s v vote b) (take_vote m s v vote b)
 alike_voted_for all m s v vote None h = alike_quiet all m _ _ h refl
-alike_voted_for all m s v vote (Some b) h =
-    alike_case (stamp_lt v m.core.promise || not (is_open v b)) _ _ _ _ (λ t. alike_quiet all m _ _ h refl)
-    (λ f. alike_case (b.given_up s) _ _ _ _ (λ t. alike_quiet all m _ _ h refl) (λ g. alike_keep_vote all m b s vote h))
+alike_voted_for all m s v vote (Some b) h = search (alike, alike_keep_vote)
 
 pub alike_vote : (all : Log) (m : Node) (s : ℕ) (v : Stamp) (vote : Vote) → Keeps all m → Alike (vote_row (with_log m all) s v vote) (vote_row m s v vote)
 unfolding vote_row
@@ -228,32 +226,23 @@ alike_heard all m b c p q h e a = alike_if b c p q _ _ e (λ t. a) (λ f. alike_
 
 pub alike_hear : (all : Log) (m : Node) (p : Packet) → Keeps all m → Alike (hear_row (with_log m all) p) (hear_row m p)
 unfolding hear_row
-alike_hear all m (packet.Request s v report req body) h = alike_heard all m _ _ _ _ h (same_as_sequencer all m s v h)
-    (alike_request all m s report req body false h)
-alike_hear all m (packet.Spread s v report req body) h =
-    alike_heard all m _ _ _ _ h (same_in_view all m s v h)
-    (alike_if _ _ _ _ _ _ (same_sequencer all m h) (λ t. alike_request all m s report req body true h) (λ f. alike_spread all m s req body h))
+alike_hear all m (packet.Request s v report req body) h = search (alike, alike_heard, same_as_sequencer, alike_request)
+alike_hear all m (packet.Spread s v report req body) h = search (alike, alike_heard, same_in_view, same_sequencer, alike_request, alike_spread)
 alike_hear all m (packet.Bcast s v base acc number e) h = alike_heard all m _ _ _ _ h (same_of_sequencer all m s v h) (alike_bcast all m s base acc number e h)
-alike_hear all m (packet.Order s v base acc number from req) h = alike_heard all m _ _ _ _ h (same_of_sequencer all m s v h)
-    (alike_order all m s base acc number from req h)
-alike_hear all m (packet.Accept s v base acc high poll) h = alike_heard all m _ _ _ _ h (same_of_sequencer all m s v h)
-    (alike_accept all m s base acc high poll h)
+alike_hear all m (packet.Order s v base acc number from req) h = search (alike, alike_heard, same_of_sequencer, alike_order)
+alike_hear all m (packet.Accept s v base acc high poll) h = search (alike, alike_heard, same_of_sequencer, alike_accept)
 alike_hear all m (packet.Ack s v report) h = alike_heard all m _ _ _ _ h (same_as_sequencer all m s v h) (alike_ack all m s report h)
 alike_hear all m (packet.Nack s v report) h = alike_heard all m _ _ _ _ h (same_as_sequencer all m s v h) (alike_nack all m s report h)
 alike_hear all m (packet.Hold s v base high req) h = alike_heard all m _ _ _ _ h (same_of_sequencer all m s v h) (alike_hold all m base high req h)
 alike_hear all m (packet.JoinAsk s v) h = alike_heard all m _ _ _ _ h (ap (λ b. hears_member m s && b) (same_sequencer all m h)) (alike_join_ask all m s h)
-alike_hear all m (packet.Welcome s v base join image) h = alike_heard all m (hears_asking m s && (v.by == s))
-    (hears_asking m s && (v.by == s)) _ _ h refl (alike_welcome all m s v base join image h)
-alike_hear all m (packet.LeaveAsk s v report) h = alike_heard all m _ _ _ _ h (ap (λ b. hears_member m s && b) (same_sequencer all m h))
-    (alike_leave_ask all m s v report h)
+alike_hear all m (packet.Welcome s v base join image) h = search (alike, alike_heard, alike_welcome)
+alike_hear all m (packet.LeaveAsk s v report) h = search (alike, alike_heard, same_sequencer, alike_leave_ask)
 alike_hear all m (packet.Gone s v number) h = alike_heard all m (hears_member m s) (hears_member m s) _ _ h refl (alike_gone_row all m h)
-alike_hear all m (packet.Invite s v) h = alike_heard all m (hears_asking m s && (v.by == s)) (hears_asking m s && (v.by == s)) _ _ h refl
-    (alike_invite all m s v h)
+alike_hear all m (packet.Invite s v) h = search (alike, alike_heard, alike_invite)
 alike_hear all m (packet.Vote s v vote) h = alike_heard all m (hears_member m s) (hears_member m s) _ _ h refl (alike_vote all m s v vote h)
 alike_hear all m (packet.Fetch s v stored) h = alike_heard all m (hears_member m s) (hears_member m s) _ _ h refl (alike_fetch all m s v stored h)
 alike_hear all m (packet.Piece s v base number e) h = alike_heard all m (hears_member m s) (hears_member m s) _ _ h refl (alike_piece all m s v base number e h)
-alike_hear all m (packet.Result s v base number names resilience) h = alike_heard all m (hears_member m s && (v.by == s))
-    (hears_member m s && (v.by == s)) _ _ h refl (alike_result_row all m s v base number names resilience h)
+alike_hear all m (packet.Result s v base number names resilience) h = search (alike, alike_heard, alike_result_row)
 alike_hear all m (packet.HandOver s v) h = alike_heard all m _ _ _ _ h (same_of_sequencer all m s v h) (alike_hand_over all m h)
 
 pub alike_read : (all : Log) (m : Node) (r : Read Packet) → Keeps all m → Alike (read_row (with_log m all) r) (read_row m r)

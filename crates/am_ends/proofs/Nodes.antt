@@ -30,7 +30,6 @@ reads all m f h = ap (f (told_by all)) (sym (end-top all m.core.log h.kept)) ∙
 entries_end : (all kept : Log) (number : ℕ) → IsEnd all kept → kept.start ≤ number
     → drop (number - all.start) all.entries ≡ drop (number - kept.start) kept.entries
 entries_end all kept number is low =
-    let a = is.low in
     let at : (kept.start - all.start) + (number - kept.start) ≡ number - all.start = omega arith in
     ap (λ k. drop k all.entries) (sym at) ∙ sym (drop-drop (number - kept.start) (kept.start - all.start) all.entries) ∙ ap
     (drop (number - kept.start)) (sym is.entries)
@@ -39,9 +38,6 @@ entries_end all kept number is low =
 pub end_trans : (all some kept : Log) → IsEnd all some → IsEnd some kept → IsEnd all kept
 end_trans all some kept a b =
     let t = end-top all some a in
-    let c = a.low in
-    let d = b.low in
-    let e = b.high in
     record {
       low = omega arith;
       high = omega arith;
@@ -191,6 +187,5 @@ keeps_at_end all m h = keeps_settled all (refresh m) (waiting (refresh m)) (keep
 pub keeps_end : (all m : Node) → IsEndOf all m → IsInOrder m.core → Keeps all.core.log m
 keeps_end all m end order =
     let base = end.stands.base in
-    let low = order.let_go in
     let given = order.given in
     record { kept = end.stands.kept; order = record { base = omega arith; taken = omega arith; given = given; accepted = order.accepted } }

@@ -89,6 +89,8 @@ alike_quiet all m o w h e = alike_plan all m false (λ n. o) (λ n. w) (λ n. []
 pub alike_polling : (all : Log) (m : Node) (o w : Outcome) → Keeps all m → o ≡ w → Alike (polling (with_log m all) o) (polling m w)
 alike_polling all m o w h e = alike_plan all m true (λ n. o) (λ n. w) (λ n. []) (λ n. []) h (λ a n k. e) (λ a n k. refl)
 
+pub ruleset alike = (alike_if, alike_case, alike_quiet, alike_polling)
+
 -- with an answer that the step tells
 pub alike_saying : (all : Log) (m : Node) (o w : Outcome) (f g : Node → Outcome) → Keeps all m → Says f g
     → Alike (record (quiet (with_log m all) o) { outcome = f }) (record (quiet m w) { outcome = g })
@@ -105,8 +107,7 @@ more to at p q ls ks e f g = λ i. with_letter (e i) (f i) (g i)
 
 pub alike_telling : (all : Log) (m : Node) (o w : Outcome) (to at : List ℕ) (p q : Node → Packet) → Keeps all m → o ≡ w → to ≡ at → Says p q
     → Alike (telling (with_log m all) o to p) (telling m w at q)
-alike_telling all m o w to at p q h e f says = alike_plan all m false (λ n. o) (λ n. w) (λ n. with_letter to (p n) []) (λ n. with_letter at (q n) []) h
-    (λ a n k. e) (λ a n k. more to at (p (with_log n a)) (q n) [] [] f (says a n k) refl)
+alike_telling all m o w to at p q h e f says = search (alike_plan, more)
 
 -- a plan with other letters, and the members are polled or not
 pub alike_with : (p q : Plan) (ls ks : Node → List Letter) (b c : Bool) → Alike p q → Says ls ks → b ≡ c

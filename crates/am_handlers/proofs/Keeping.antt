@@ -17,7 +17,6 @@ steady_leads m n s = λ k. (is_member (s.status k) && stamp_eq (s.promise k) (s.
 
 pub steady_serves : (m n : Node) (from : ℕ) → IsSteady m n → MayServe m from → MayServe n from
 steady_serves m n from s serves =
-    let top = s.top in
     let number = serves.number in
     record { leads = steady_leads m n s ∙ serves.leads; other = λ is. serves.other (is ∙ s.who); number = omega arith }
 
@@ -239,7 +238,6 @@ pub end_keeps : (m n : Node) → IsEndOf m n → NodeKeeps m → NodeKeeps n
 end_keeps m n end keeps =
     let taken = ap (λ (x : Node). x.core.taken) end.same in
     let own = ap (λ (x : Node). (x.reports x.core.who).taken) end.same in
-    let before = keeps.own in
     keeps_steady m n (end_steady m n end) keeps (omega arith)
 
 -- other bodies, and all else the same

@@ -16,7 +16,6 @@ first_group rules = begun.start rules.founders (lowest_or_first rules.founders) 
 may_begin : (rules : Rules) → MayFound rules → MayBegin rules.founders (lowest_or_first rules.founders) rules.resilience
 may_begin rules may =
     let f = first_founder rules may in
-    let few = f.few in
     record { small = omega arith; among = f.founds }
 
 first_ok : (rules : Rules) → MayFound rules → GroupFor rules (first_group rules)
@@ -81,7 +80,6 @@ split_last (e ∷ []) n h = ([], e, refl, omega arith)
 split_last (e ∷ f ∷ es) zero h = absurd (omega arith)
 split_last (e ∷ f ∷ es) (suc n) h =
     let r = split_last (f ∷ es) n (omega arith) in
-    let long = r.3 in
     (e ∷ r.0, r.1, ap (λ l. e ∷ l) r.2, omega arith)
 
 only_in : (first d : Decided) (k : ℕ) → k < 1 → slice_index_or (first ∷ []) k d ≡ d → first ≡ d

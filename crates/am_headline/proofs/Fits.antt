@@ -142,7 +142,6 @@ look_fits rules c x b v same fronts (decides may) h =
     ∙ image-top (with_entry x.core.log e) ∙ told_pushed x e in
     let sizes = ap (λ i. size (members_of i)) is in
     let window = ap (λ (r : Rules). r.window) same in
-    let room = may.room in
     let low : top x + 1 - before.core.base ≤ x.core.rules.window + 16 - size names = grind (arith, nat_tests) in
     push_fits rules c x v.node e refl (omega arith) (inl (omega arith)) h
 look_fits rules c x b v same fronts _ h = same_fits rules c x v.node refl (omega arith) h

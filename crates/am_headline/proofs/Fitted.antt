@@ -391,7 +391,6 @@ first_fits rules name number may within =
     let rows = long_told (take (number - 0) list) in
     let count = length-map (image_of (take (number - 0) list)).rows member_life in
     let most = few_size (members_of (image_of (take (number - 0) list))) in
-    let window = may.window_least in
     omega arith
 
 start_fits : (rules : Rules) → MayFound rules → (name : ℕ) → FitsView rules ((start rules).nodes name)

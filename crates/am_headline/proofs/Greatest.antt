@@ -82,8 +82,6 @@ greatest_is w best (v ∷ vs) small few =
     let mid = greater_complete w best v in
     let one = greater_is w best v small v_small in
     let rest = greatest_is w mid vs (small_either w best v small v_small) (λ k d at. few (suc k) d at) in
-    let up_one = one.up in
-    let up_rest = rest.up in
     record {
       is = ⊎_elim
           (λ (same : greatest_complete w mid vs ≡ mid). ⊎_elim

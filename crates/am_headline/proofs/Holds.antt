@@ -81,7 +81,6 @@ number_below rules w s d f became v r i number e old few y grows small low =
     let k = group_kept rules.founders (lowest_or_first rules.founders) rules.resilience r old.group in
     let ok = (k.each i).fronts in
     let acc = (old.stands.fronts i few y.stays).acc in
-    let up_to = y.low in
     let good = (old.nodes i few y.stays).good in
     let viewed = view_is v r i a in
     let under = key_lt (view (v.nodes i)) d.stamp (subst (λ u. u.by < 256) viewed (view_small (r.node i).list good)) small low in

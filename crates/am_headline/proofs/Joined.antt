@@ -91,7 +91,6 @@ pub welcome_joins : (rules : Rules) (w : World) (s : Group) (i number : ℕ) (l 
     → is_for l i ≡ true → l.packet ≡ packet.Welcome from v base join image → has rules.founders i ≡ false → item_at w.group join ≡ Some (Join i)
 welcome_joins rules w s i number l from v base join image h good opens anys few runs asks at for_ is unfounded =
     let says = welcome_says rules w s i number l from v base join image h anys few runs asks at for_ is in
-    let above = says.above in
     let same : s.group ≡ w.group = h.stands.group in
     joined_at rules w.group i join good opens (omega arith) (subst (λ (g : List Entry). join ≤ length g) same says.accepted)
     (subst (λ g. mem (take join g) i ≡ true) same says.joined)

@@ -76,7 +76,6 @@ counts_too w s v j h noted few t =
     (let b = and_both (s.node j).has_log (nat_lt (length (opening ch)) (s.node j).start) a in
     let log : has_log (w.nodes j).status ≡ true = sym mine.log_ ∙ b.0 in
     let start_ = mine.start log in
-    let above = b.1 in
     let since : nat_lt v.number (w.nodes j).core.start ≡ true = grind (arith, nat_tests) in
     split (has v.members j) (λ y. rw y refl) (λ y. rw (y, since) refl)))
     (or_cases (has ch.members j) ((s.node j).has_log && nat_lt (length (opening ch)) (s.node j).start) t)
@@ -88,7 +87,6 @@ lawful_group w s v h noted t =
     let few = count_listed (λ name. counts_for s (key v.stamp) name && ((s.node name).stopped && not (s.node name).departed)) (is_lost w v) 256 w.stopped
     (λ j low passes. lost_too w s v j h noted low passes) in
     let least : count_by (is_lost w v) w.stopped ≤ v.resilience = grind (arith, nat_tests) in
-    let same = noted.resilience in
     omega arith
   where
     lost_too : (w : World) (s : Group) (v : Decided) (j : ℕ) → Stands w s → NotedStands w s.views v → j < 256

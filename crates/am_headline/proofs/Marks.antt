@@ -29,7 +29,6 @@ none_from p from (suc k) (suc b ∷ lives) low some h =
 
 pub none_passes : (p : ℕ → Bool) (set : List ℕ) (name : ℕ) → IsSet set → has set name ≡ true → list_any p (names_of set) ≡ false → p name ≡ false
 none_passes p set name is there h =
-    let long = is.places in
     let place = mod16 name in
     let life : slice_index set (place_of name) ≡ life_of name = (let z : (slice_index set (place_of name) == life_of name) ≡ true = there in
     grind (arith, nat_tests)) in

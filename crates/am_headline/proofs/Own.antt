@@ -21,7 +21,6 @@ pub taken_in_group : (w : World) (s : Group) (i number : ℕ) (e : Entry) → Ke
 taken_in_group w s i number e k h f group low at =
     let a = s.node i in
     let mine : item_at a.list number ≡ Some e = ap (λ l. item_at l number) h.list ∙ at in
-    let acc_ = f.acc in
     let there = item_begins number e (k.each i).fronts.delivered (item_taken a.acc a.list number e (omega arith) mine) in
     ap (λ l. item_at l number) (sym group) ∙ there
 

@@ -147,7 +147,6 @@ looked_one : (m : Node) (base number : ℕ) (e : Entry) (b : Ballot) → number 
 looked_one m base number e b next =
     let y = push_entry (trim_up_to m base) e in
     let a = decide_alike y b in
-    let up = a.base in
     record {
       next = next;
       base_ = omega arith;
@@ -242,6 +241,5 @@ row_ends m p =
     let x = (hear_row m p).node in
     let r = rests_at_end x in
     let e = ended (refresh_at_end x) (hear_row m p).departs in
-    let up = r.rests.base in
     let base = ap (λ (c : CoreState). c.base) e in
     record { log = ap (λ (c : CoreState). c.log) e ∙ r.log; base = omega arith }

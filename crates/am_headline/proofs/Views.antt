@@ -52,7 +52,6 @@ pub fit_node : (rules : Rules) (v : World) (i number : ℕ) (n : Node) (a : grou
     → FitIn rules a.list n.core.base number → FitsAt rules n number
 fit_node rules v i number n a h start f =
     let same = ap (λ (g : Image). size (members_of g)) (image_whole v i number n a h start) in
-    let fits = f.fits in
     omega arith
 
 -- ---- of letters

@@ -96,7 +96,6 @@ ends_begin : (most : Bounds) (g : ℕ) (m : Node) (least resilience : ℕ) → B
 unfolding begin
 ends_begin most g m least resilience k h =
     let stamp = next_stamp m in
-    let low = h.rounds in
     let n = low_promised (up most) g m stamp (omega arith) (low_more most g m h) in
     let votes : VotesKnown g (Some (new_ballot stamp least (min resilience 15))) = λ name vote is. absurd (cc) in
     ends_next most g _ (low_decide most g (with_promise m stamp) (new_ballot stamp least (min resilience 15)) h.entries votes

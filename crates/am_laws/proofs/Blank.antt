@@ -89,8 +89,6 @@ blank_holds rules events name may few none =
     (record { base = views_start rules may; each = λ other low. first_blank rules other }) in
     let k = h.each name few none in
     let n = (numbers_hold rules events).each name in
-    let given = n.given in
-    let accepted = n.accepted in
     let top = none_in (w.nodes name).core.log k.blank_ in
     record {
       log = k.blank_;

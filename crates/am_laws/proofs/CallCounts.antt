@@ -38,7 +38,6 @@ ends_queue : (most : Bounds) (g : ℕ) (m : Node) (body : List ℕ) → m.leavin
 ends_queue most g m body stays h =
     let last = h.sends in
     let few = h.entries in
-    let low = h.rounds in
     let now : Low (up most) g (with_queued m body) = record {
       counts = record { entries = omega arith; rounds = omega arith; sends = omega arith };
       order = h.order;
@@ -87,7 +86,6 @@ ends_given : (most : Bounds) (g : ℕ) (m : Node) (e : Option Entry) → (m.core
 ends_given most g m None more k h = ends_at most g _ h
 ends_given most g m (Some e) more k h =
     let given = h.given in
-    let low = k.acc in
     let next : m.core.taken < m.core.acc = grind (arith, nat_tests) in
     ends_at most g _ (record {
       counts = h.counts;

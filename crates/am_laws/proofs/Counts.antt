@@ -70,7 +70,6 @@ pub record Behind (g : ℕ) (m : Node) : Type 0 where
 
 pub low_more : (b : Bounds) (g : ℕ) (m : Node) → Low b g m → Low (up b) g m
 low_more b g m h =
-    let e = h.entries in let r = h.rounds in let s = h.sends in
     record {
       counts = record { entries = omega arith; rounds = omega arith; sends = omega arith };
       order = h.order;
@@ -86,7 +85,7 @@ low_more b g m h =
 -- an entry that is no View
 pub low_pushed : (b : Bounds) (g : ℕ) (m : Node) (e : Entry) → is_view e ≡ false → Low b g m → Low (up b) g (push_entry m e)
 low_pushed b g m e other h =
-    let f = h.entries in let r = h.rounds in let s = h.sends in let a = h.accepted in
+    let s = h.sends in
     let same : (view m).by ≡ (view (push_entry m e)).by = ap (λ (s : Stamp). s.by) (sym (view_pushed m e other)) in
     record {
       counts = record { entries = simp length-append (omega arith); rounds = omega arith; sends = omega arith };
@@ -103,7 +102,6 @@ low_pushed b g m e other h =
 -- any entry, where nothing is accepted that the group hasn't
 pub low_viewed : (b : Bounds) (g : ℕ) (m : Node) (e : Entry) → top m + 1 ≤ b.lists → Behind g m → Low b g m → Low b g (push_entry m e)
 low_viewed b g m e low k h =
-    let a = h.accepted in
     record {
       counts = record { entries = simp length-append (omega arith); rounds = h.rounds; sends = h.sends };
       order = record { given = h.given; accepted = simp length-append (omega arith); kept = h.kept };

@@ -47,10 +47,8 @@ record Told (b : Bounds) (g : ℕ) (n : Node) : Type 0 where
 told_of : (b : Bounds) (g : ℕ) (c : Cause) (m n : Node) → Sends b g c m n → Told b g n
 told_of b g c m n h =
     let high = h.low.entries in
-    let given = h.low.given in
     let accepted = h.low.accepted in
     let trims = h.low.trims in
-    let group = h.group in
     record {
       round = h.low.rounds;
       high = high;
@@ -65,13 +63,9 @@ told_of b g c m n h =
 pub says_low : (b : Bounds) (g : ℕ) (m n : Node) (c : Cause) (to : List ℕ) (p : Packet) → Sends b g c m n → Says m c n to p → UpTo b g p
 says_low b g m n c to p h (bcast _ number e l s) =
     let t = told_of b g c m n h in
-    let high = t.high in
-    let low = s.within in
     record { round = t.round; numbers = three_low b.lists n.core.base n.core.acc number t.base t.acc (omega arith); accepted = one_low g n.core.acc t.accepted }
 says_low b g m n c to p h (order _ number from req v report body is l s) =
     let t = told_of b g c m n h in
-    let high = t.high in
-    let low = s.within in
     record { round = t.round; numbers = three_low b.lists n.core.base n.core.acc number t.base t.acc (omega arith); accepted = one_low g n.core.acc t.accepted }
 says_low b g m n c to p h (accept _ poll l) =
     let t = told_of b g c m n h in
@@ -83,7 +77,6 @@ says_low b g m n c to p h (join_ask _ a) = record { round = h.low.rounds; number
 says_low b g m n c to p h (welcome s l may) =
     let t = told_of b g c m n h in
     let join = h.next s may in
-    let group = h.group in
     record {
       round = t.round;
       numbers = two_low b.lists n.core.base (row_of (image_of n) s).joined t.base (omega arith);
@@ -92,7 +85,6 @@ says_low b g m n c to p h (welcome s l may) =
 says_low b g m n c to p h (gone s l may) =
     let t = told_of b g c m n h in
     let low = gone_low n s may in
-    let acc = t.acc in
     record { round = t.round; numbers = one_low b.lists (row_at n s).left (omega arith); accepted = none_low g }
 says_low b g m n c to p h (invite _ may) = record { round = h.low.rounds; numbers = none_low b.lists; accepted = none_low g }
 says_low b g m n c to p h (fetch _ may) =
@@ -100,8 +92,6 @@ says_low b g m n c to p h (fetch _ may) =
     record { round = t.round; numbers = one_low b.lists (top n) t.high; accepted = none_low g }
 says_low b g m n c to p h (piece s v stored number e is may at) =
     let t = told_of b g c m n h in
-    let high = t.high in
-    let low = at.within in
     record { round = t.round; numbers = two_low b.lists n.core.base number t.base (omega arith); accepted = one_low g n.core.base t.trims }
 says_low b g m n c to p h (result _ number names is viewed may) =
     let t = told_of b g c m n h in

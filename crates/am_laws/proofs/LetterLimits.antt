@@ -120,7 +120,7 @@ is_packet b g (packet.Invite s v) n h =
     record { within = round; parts = tt }
 is_packet b g (packet.Vote s v shown) n h =
     let round = is_round b g (packet.Vote s v shown) n h.up_to in
-    let k = two_of b shown.top shown.taken n h.up_to.numbers in let low = h.within.1 in let rounds = n.rounds in
+    let k = two_of b shown.top shown.taken n h.up_to.numbers in
     record { within = (round, record { view = omega arith; top = k.0; taken = k.1 }); parts = h.within.0 }
 is_packet b g (packet.Fetch s v stored) n h =
     let round = is_round b g (packet.Fetch s v stored) n h.up_to in
@@ -131,7 +131,7 @@ is_packet b g (packet.Piece s v base number e) n h =
     record { within = (round, k.0, k.1, x.0); parts = x.1 }
 is_packet b g (packet.Result s v base number names resilience) n h =
     let round = is_round b g (packet.Result s v base number names resilience) n h.up_to in
-    let w = h.within in let low = w.0 in let lists = n.lists in
+    let w = h.within in
     record { within = (round, first_of b base [] n h.up_to.numbers, omega arith, w.2); parts = w.1 }
 is_packet b g (packet.HandOver s v) n h =
     let round = is_round b g (packet.HandOver s v) n h.up_to in

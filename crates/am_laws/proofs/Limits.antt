@@ -169,11 +169,7 @@ is_entry b (View stamp names resilience) n h = let r = n.rounds in let q = h.0 i
 
 pub is_image : (b : Bounds) (number : ℕ) (image : Image) → AreNumbers b → number ≤ b.lists → ImageUp number image → ImageWithin b image → IsImage image
 is_image b number image n low k h =
-    let lists = n.lists in
-    let rounds = n.rounds in
-    let requests = n.requests in
     let view = k.view in
-    let round = h.round in
     record {
       places = h.places;
       rows = λ place small. (let r = row_at_within b image.rows place h.rows in

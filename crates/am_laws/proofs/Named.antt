@@ -112,7 +112,6 @@ first_named rules name = split (has rules.founders name) (λ t. rw t refl) (λ f
 founders_first : (rules : Rules) (name : ℕ) → MayFound rules → 1 < life_of name → has rules.founders name ≡ false
 founders_first rules name may high = split (has rules.founders name)
     (λ t.
-    let long = may.names.places in
     let place : place_of name < 16 = omega arith in
     let first = may.first_lives (place_of name) (omega arith) in
     let is : slice_index rules.founders (place_of name) ≡ life_of name = grind (arith, nat_tests) in

@@ -256,7 +256,6 @@ view_within : (b : Bounds) (m : Node) (x : Ballot) → VotesWithin b x → Withi
     → EntryWithin b (View x.stamp (left_in x (need_of m x)) (max x.resilience (image_of m).resilience))
 view_within b m x k h =
     let t = (told_within b m.core.log h.entries h.image).resilience in
-    let r = k.resilience in
     (k.round, set_those (λ name. not (x.given_up name)) (need_of m x) (need_within b m x k h), omega arith)
 
 look_within : (b : Bounds) (m : Node) (x : Ballot) (v : Verdict) → Looks m x v → VotesWithin b x → Within b m → Within b v.node
@@ -382,6 +381,4 @@ pub changes_within : (b : Bounds) {c : Cause} {o : Outcome} (m n : Node) → Cau
 changes_within b m n from round last unchanged h = h
 changes_within b m n from round last (changed {n = x} z zs) h =
     let r = changes_rise x n zs in
-    let p = r.round in
-    let q = r.last in
     changes_within b x n from round last zs (change_within b m x from (omega arith) (omega arith) z h)

@@ -17,7 +17,6 @@ votes_wider g k (Some b) low h = λ name vote is. let v = h name vote is in omeg
 
 low_wider : (b : Bounds) (g k : ℕ) (m : Node) → g ≤ k → Low b g m → Low b k m
 low_wider b g k m low h =
-    let a = h.listed in let c = h.began in let d = h.took in let e = h.trims in
     let known : IsKnown k m.core.told m.core.acc (leads m) = ⊎_elim
     (λ (x : (m.core.told ≤ g) × (m.core.acc ≤ g)). let t = x.0 in let u = x.1 in inl (omega arith, omega arith))
     (λ (x : (leads m ≡ true) × (m.core.told ≤ max g m.core.acc)). let t = x.1 in inr (x.0, omega arith))
@@ -70,7 +69,6 @@ grew b group m few h = split (leads m)
     let long : length (group_after group m) ≡ max (length group) m.core.acc = ap (λ (x : Bool). length (if x then group_with group m.core else group)) t
     ∙ long_grown group m h.listed h.accepted in
     let a = h.accepted in
-    let e = h.entries in
     let told : m.core.told ≤ max (length group) m.core.acc = ⊎_elim
     (λ (x : (m.core.told ≤ length group) × (m.core.acc ≤ length group)). let y = x.0 in omega arith)
     (λ (x : (leads m ≡ true) × (m.core.told ≤ max (length group) m.core.acc)). x.1)
@@ -82,8 +80,6 @@ grew b group m few h = split (leads m)
     (λ (x : (m.core.told ≤ length group) × (m.core.acc ≤ length group)). x)
     (λ (x : (leads m ≡ true) × (m.core.told ≤ max (length group) m.core.acc)). let y = x.0 in absurd (cc))
     h.known in
-    let t = known.0 in
-    let a = known.1 in
     record { more = omega arith; few = omega arith; behind = record { told = omega arith; acc = omega arith } })
 
 -- ---- a world
@@ -99,7 +95,6 @@ pub record AllLow (b : Bounds) (w : World) : Type 0 where
 -- what is so of worlds that have the nodes, the letters and the group list of another
 low_same : (b : Bounds) (w v : World) → v.nodes ≡ w.nodes → v.letters ≡ w.letters → v.group ≡ w.group → AllLow b w → AllLow (up b) v
 low_same b w v nodes letters group h =
-    let more = h.group in
     record {
       each = rw (nodes, group) (λ name. low_more b (length w.group) (w.nodes name) (h.each name));
       behind = rw (nodes, group) h.behind;
@@ -278,7 +273,6 @@ numbers_hold rules events =
       group = let g = h.group in omega arith;
       letters = λ number letter at. (let x : UpTo (bounds_after (length events) first) (length w.group) letter.packet =
           all_item (λ (l : Letter). UpTo (bounds_after (length events) first) (length w.group) l.packet) w.letters number letter h.letters at in
-          let r = x.round in
           record {
             round = omega arith;
             numbers = All-weaker (λ n. n ≤ 1 + length events) (λ n. n ≤ length events + 1) (λ n le. omega arith) _ x.numbers;

@@ -68,7 +68,6 @@ within_stepped rules b w e c s body cause effect low h =
     let node : Within (up b) n = changes_within (up b) m n from numbers.rounds numbers.sends effect.changes (within_more b m (h.within.each name)) in
     let sender = effect.sender in
     let high = ap (λ (x : Node). top_of x.core.log) effect.is in
-    let entries = numbers.entries in
     record {
       each = set_same (Within (up b)) w.nodes name n (λ other. within_more b (w.nodes other) (h.within.each other)) node;
       letters = All-append (λ (l : Letter). PacketWithin (up b) l.packet) w.letters s.letters

@@ -20,7 +20,6 @@ is_lower : (a x b y : ℕ) → Lower a x b y → lt a x b y ≡ true
 is_lower a x b y h = ⊎_elim
     (λ (k : a < b). let t : nat_lt a b ≡ true = grind (arith, nat_tests) in rw t refl)
     (λ (k : (a ≡ b) × (x < y)).
-    let e = k.0 in let l = k.1 in
     let f : nat_lt a b ≡ false = grind (arith, nat_tests) in
     let t : (a == b) ≡ true = grind (arith, nat_tests) in
     let u : nat_lt x y ≡ true = grind (arith, nat_tests) in
@@ -44,7 +43,6 @@ is_not_lower a x b y h = ⊎_elim
     let u : (a == b) ≡ false = grind (arith, nat_tests) in
     rw (t, u) refl)
     (λ (k : (a ≡ b) × (y ≤ x)).
-    let e = k.0 in let l = k.1 in
     let f : nat_lt a b ≡ false = grind (arith, nat_tests) in
     let t : (a == b) ≡ true = grind (arith, nat_tests) in
     let u : nat_lt x y ≡ false = grind (arith, nat_tests) in
@@ -99,7 +97,7 @@ equal_stamps a b h k not_below not_over =
     (λ (p : b.round < a.round). absurd (⊎_elim (λ (q : a.round < b.round). omega arith) (λ (q : (b.round ≡ a.round) × (x ≤ y)). let e = q.0 in
     omega arith) (not_lower b.round y a.round x not_over)))
     (λ (p : (a.round ≡ b.round) × (y ≤ x)).
-    let r = p.0 in let l = p.1 in
+    let r = p.0 in
     let u : x ≤ y = ⊎_elim (λ (q : a.round < b.round). absurd (omega arith)) (λ (q : (b.round ≡ a.round) × (x ≤ y)). q.1)
     (not_lower b.round y a.round x not_over) in
     let n : a.by ≡ b.by = rank_same a.by b.by h k (omega arith) in

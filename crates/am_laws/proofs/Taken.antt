@@ -132,7 +132,6 @@ trimmed_own m b names long there =
     let itself_ : (who == who) ≡ true = grind (arith, nat_tests) in
     let own : taken_by who m.core.taken b who ≡ m.core.taken = rw itself_ refl in
     let at = ap (taken_by who m.core.taken b) name in
-    let most = found.2 in
     let is = ap (λ o. unwrap_or o 0) found.1 in
     omega arith
 
@@ -283,8 +282,6 @@ none_taken : (m : Node) → has_log m.status ≡ false → Blanked m → Fronts 
 none_taken m none blanked h =
     let b = blanked none in
     let high = ap top_of b.blank_ in
-    let given = h.given in
-    let accepted = h.accepted in
     omega arith
 
 pub change_owned : (c : Cause) (o : Outcome) (m n : Node) → HeardUsed c → HasItself m.core.who m.ballot → Balloted m → Blanked m → Change c o m n → Owned m
@@ -298,7 +295,6 @@ change_owned c o m n heard own k blanked refreshes h =
 change_owned c o m n heard own k blanked settles h = subst Owned (sym (settle_is m)) (record { fronts = h.fronts; leads = h.leads; vote = h.vote })
 change_owned c o m n heard own k blanked (takes_report s v report by may) h =
     let f = h.fronts in
-    let other = may.other in
     let flipped : (m.core.who == s) ≡ false = grind (arith, nat_tests) in
     record { fronts = reporting _ (rw flipped f.reported) f; leads = h.leads; vote = h.vote }
 change_owned c o m n heard own k blanked (admits s v is leads fit) h =
@@ -309,7 +305,6 @@ change_owned c o m n heard own k blanked (numbers e leads room why) h =
     record { fronts = pushed_fronts m e z.fit h.fronts; leads = λ t. z.member; vote = h.vote }
 change_owned c o m n heard own k blanked (notes s v base acc by from) h =
     let f = h.fronts in
-    let kept = f.kept in
     let low = f.base in
     let within : (if nat_le base m.core.taken then base else m.core.base) ≤ m.core.taken =
     split (nat_le base m.core.taken) (λ t. rw t (grind (arith, nat_tests))) (λ u. rw u low) in
@@ -369,7 +364,6 @@ change_owned c o m n heard own k blanked (stores_view s v base number names resi
     }
 change_owned c o m n heard own k blanked (takes e is says member some there) h =
     let f = h.fronts in
-    let low = f.base in
     let given = f.given in
     let reported = f.reported in
     let more : m.core.taken ≢ m.core.acc = λ same. (let t : (m.core.taken == m.core.acc) ≡ true = grind (arith, nat_tests) in cc) in

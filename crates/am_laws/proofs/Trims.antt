@@ -51,7 +51,6 @@ told_used m h = used_fold m.core.log.image (m.core.log.start + 1) m.core.log.ent
 
 pub pushed_fronts : (m : Node) (e : Entry) → JoinFits (image_of m) e → Fronts m → Fronts (push_entry m e)
 pushed_fronts m e fit h =
-    let a = h.accepted in
     record {
       used = h.used;
       joins = joins_push m.core.log.image (m.core.log.start + 1) m.core.log.entries e h.joins fit;
@@ -64,7 +63,6 @@ pushed_fronts m e fit h =
 
 pub trimmed_fronts : (m : Node) (base : ℕ) → base ≤ m.core.taken → Fronts m → Fronts (trim_up_to m base)
 trimmed_fronts m base low h =
-    let a = h.kept in let b = h.base in
     record { used = h.used; joins = h.joins; kept = omega arith; base = omega arith; given = h.given; accepted = h.accepted; reported = h.reported }
 
 -- ---- a refresh

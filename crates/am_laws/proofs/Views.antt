@@ -96,7 +96,6 @@ is_new : (m n : Node) → Does m n → decides m n ≡ true → IsNew m n
 is_new m n d h =
     let a = and_both (is_member m.status) _ h in
     let b = and_both ((view n).by == n.core.who) (not (stamp_eq (view m) (view n))) a.1 in
-    let own_ = b.0 in
     let log_m = logged m.status a.0 in
     let g = d.goes log_m in
     ⊎_elim
@@ -163,7 +162,6 @@ noted_after nodes name n views few who d h once =
     let here : u.stamp.by ≡ name = ap (λ (s : Stamp). s.by) e ∙ by in
     let low : stamp_lt (view m) u.stamp ≡ false = subst (λ x. stamp_lt (view (nodes x)) u.stamp ≡ false) here o.low in
     let low_ : stamp_lt (view m) (view n) ≡ false = subst (λ (s : Stamp). stamp_lt (view m) s ≡ false) e low in
-    let above = new.above in
     cc) in
     rw t (record {
       noted = All-append (IsNoted (set_at nodes name n)) views (last_view n ∷ []) old
@@ -220,7 +218,6 @@ kept_founder : (rules : Rules) (name : ℕ) → name < 256 → MayFound rules �
 unfolding fold after
 kept_founder rules name few may =
     let first = first_founder rules may in
-    let low = first.few in
     record {
       names = record {
         who_ = few;

@@ -77,7 +77,7 @@ below_view reports log front number h =
 
 pub one_front : (reports : ℕ → Report) (log : Log) (acc f g : ℕ) → IsGreatestFront reports log acc f → IsGreatestFront reports log acc g → f ≡ g
 one_front reports log acc f g h k =
-    let hl = h.least in let hm = h.most in let kl = k.least in let km = k.most in
+    let hl = h.least in let kl = k.least in
     elim (cases_lt (top_of log) acc) [
       | inl none ↦ omega arith
       | inr some ↦ (let a : f ≤ g = k.greatest f hl (omega arith) h.satisfied in let b : g ≤ f = h.greatest g kl (omega arith) k.satisfied in omega arith)
@@ -131,7 +131,6 @@ view_missed reports log acc m c is under missed h = record {
       | inl short ↦ (let t = sym (below_view reports log higher higher (omega arith)) ∙ all higher above (omega arith) in
           let v : nat_le (told_by log).view_number higher ≡ false = grind (arith, nat_tests) in absurd (cc))
       | inr far ↦ (let t = sym (above_view reports log higher m (omega arith)) ∙ all m under far in
-          let l = h.least in
           let z : c + 1 ≡ m = omega arith in
           let f = sym (ap (is_held reports log) z) ∙ h.next (omega arith) in absurd (cc))
     ]

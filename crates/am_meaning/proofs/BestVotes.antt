@@ -38,7 +38,6 @@ lower_trans r k t s l u x y w (inr a) (inr b) = let e = a.0 in let f = b.0 in in
 later_under : (k t l u y w : ℕ) → ¬ (Later k t l u) → Later k t y w → Later l u y w
 later_under k t l u y w not_ (inl b) = elim (cases_lt k l) [ inl a ↦ absurd (not_ (inl a)) | inr a ↦ inl (omega arith) ]
 later_under k t l u y w not_ (inr b) =
-    let e = b.0 in let f = b.1 in
     elim (cases_lt k l) [
       | inl a ↦ absurd (not_ (inl a))
       | inr a ↦ elim (cases_lt l k) [
@@ -50,7 +49,6 @@ later_under k t l u y w not_ (inr b) =
 lower_under : (r k t s l u x y w : ℕ) → ¬ (Lower r k t s l u) → Lower r k t x y w → Lower s l u x y w
 lower_under r k t s l u x y w not_ (inl b) = elim (cases_lt r s) [ inl a ↦ absurd (not_ (inl a)) | inr a ↦ inl (omega arith) ]
 lower_under r k t s l u x y w not_ (inr b) =
-    let e = b.0 in
     elim (cases_lt r s) [
       | inl a ↦ absurd (not_ (inl a))
       | inr a ↦ elim (cases_lt s r) [
@@ -176,7 +174,7 @@ at_first a other h f g = elim (cases_lt a other) [ inl up ↦ g (omega arith) | 
 found_after : (votes : ℕ → Option Vote) (a k : ℕ) (now best r : Shown) (rank : ℕ) → IsFound votes (a + 1) k now r rank → LowerVote best.vote r.vote
     → ((v : Vote) → votes (name_of a) ≡ Some v → LowerVote v r.vote) → IsFound votes a (suc k) best r rank
 found_after votes a k now best r rank f greater than_first =
-    let lo = f.low in let hi = f.high in record {
+    record {
       low = omega arith;
       high = omega arith;
       by = f.by;

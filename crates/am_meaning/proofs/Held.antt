@@ -57,7 +57,6 @@ requested_held m n s req body by_order h = split (nat_lt 0 (row_at m s).left)
 
 held_requested : (m n : Node) (s req : ℕ) (body : List ℕ) (by_order : Bool) → IsNext m s req → IsHeld ((answer_request m s req body by_order).outcome n)
 held_requested m n s req body by_order h =
-    let st = h.stays in let nx = h.next in
     let a : nat_lt 0 (row_at m s).left ≡ false = grind (arith, nat_tests) in
     let b : nat_le req (row_at m s).last ≡ false = grind (arith, nat_tests) in
     let c : nat_lt ((row_at m s).last + 1) req ≡ false = grind (arith, nat_tests) in
@@ -79,7 +78,6 @@ held_request : (m n : Node) (s : ℕ) (report : Report) (req : ℕ) (body : List
     × (has_room (take_report m s report) ≡ false) → IsHeld ((request_row m s report req body by_order).outcome n)
 unfolding request_row
 held_request m n s report req body by_order h =
-    let k = h.0.known in
     let a : is_unknown m s ≡ false = grind (arith, nat_tests) in
     let row = same_row m s report in
     rw (a, h.0.fits) (held_requested (take_report m s report) n s req body by_order

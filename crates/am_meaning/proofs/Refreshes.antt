@@ -95,7 +95,6 @@ satisfied_on : (reports : ℕ → Report) (log : Log) (f g n : ℕ) → f ≤ g 
 satisfied_on reports log f g n up h = elim (cases_lt n (told_by log).view_number) [
   | inl below ↦ (let b = and_both (nat_le (told_by log).view_number f) (is_held reports log (told_by log).view_number) (sym (below_view reports log f n below)
       ∙ h) in
-      let v = b.0 in
       let w : nat_le (told_by log).view_number g ≡ true = grind (arith, nat_tests) in
       below_view reports log g n below ∙ (rw (w, b.1) refl))
   | inr above ↦ above_view reports log g n above ∙ (sym (above_view reports log f n above) ∙ h)
@@ -103,7 +102,6 @@ satisfied_on reports log f g n up h = elim (cases_lt n (told_by log).view_number
 
 later_front : (reports : ℕ → Report) (log : Log) (acc t : ℕ) → IsGreatestFront reports log acc t → IsGreatestFront reports log (max acc (min t (top_of log))) t
 later_front reports log acc t h =
-    let hl = h.least in let hm = h.most in
     record {
       least = omega arith;
       most = omega arith;

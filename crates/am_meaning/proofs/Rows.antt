@@ -52,7 +52,6 @@ record IsMember (image : Image) (name : ℕ) : Type 0 where
 member_tests : (r : Row) (life : ℕ) → 0 < life → (member_life r == life) ≡ true → (0 < r.joined) × (r.left ≡ 0) × (r.life ≡ life)
 member_tests r life low h = split (nat_lt 0 r.joined && (r.left == 0))
     (λ t. let b = and_both (nat_lt 0 r.joined) (r.left == 0) t in
-    let j = b.0 in let l = b.1 in
     let z = rw t at h in
     (grind (arith, nat_tests), grind (arith, nat_tests), grind (arith, nat_tests)))
     (λ f. let z = rw f at h in absurd (grind (arith, nat_tests)))
@@ -213,13 +212,11 @@ step_goes_on number r s (inl (inl e)) = goes_on_as r r s e (record { life = refl
 step_goes_on number r s (inl (inr e)) =
     goes_on_as r (record r { last = r.last + 1 }) s e (record { life = refl; joined = refl; last = omega arith; left = λ h. refl })
 step_goes_on number r s (inr (inl e)) =
-    let z = e.0 in
     goes_on_as r (record r { left = number }) s e.1 (record { life = refl; joined = refl; last = omega arith; left = λ h. absurd (omega arith) })
 step_goes_on number r s (inr (inr e)) = inr (let l = ap (λ (x : Row). x.life) e.3 in let b = e.1 in omega arith)
 
 goes_on_trans : (q r s : Row) → GoesOn q r → GoesOn r s → GoesOn q s
 goes_on_trans q r s (inl a) (inl b) =
-    let al = a.last in let bl = b.last in
     inl (record { life = b.life ∙ a.life; joined = b.joined ∙ a.joined; last = omega arith; left = λ h. (let e = a.left h in b.left (omega arith) ∙ e) })
 goes_on_trans q r s (inl a) (inr b) = let l = a.life in inr (omega arith)
 goes_on_trans q r s (inr a) (inl b) = let l = b.life in inr (omega arith)

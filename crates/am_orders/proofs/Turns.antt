@@ -131,7 +131,6 @@ none_after : (name next req : ℕ) (body other : List ℕ) (e : Entry) (es : Lis
     → slice_get es k ≡ Some (Data name req other) → ⊥
 none_after name next req body other e es k h is also =
     let first = first_is_next name next req body e es h is in
-    let same = first.0 in
     let above = none_below name (next + 1) req other es k first.1 also in
     omega arith
 

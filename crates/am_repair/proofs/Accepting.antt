@@ -21,7 +21,6 @@ reports_pushed m high req body h =
     let more : top (push_entry m e) ≡ top m + 1 = simp length-append (omega arith) in
     let number : (image_of (push_entry m e)).view_number ≡ (image_of m).view_number = ap (λ (i : Image). i.view_number) (told_pushed m e)
     ∙ (after_same (image_of m) (top m + 1) e refl).number in
-    let view_ = h.view in
     record {
       stored = omega arith;
       view = omega arith;
@@ -59,8 +58,6 @@ AllKnown r w = (i : ℕ) → has r.members i ≡ true → (i == r.by) ≡ false 
 leads_reports : (r : Repair) (q : Node) → Leads r q → q.core.who ≡ r.by
     → ((i : ℕ) → has r.members i ≡ true → (i == r.by) ≡ false → r.high ≤ (q.reports i).stored) → HasReports q r.high
 leads_reports r q l who known =
-    let number = l.number in
-    let reached = l.reached in
     record {
       stored = l.high;
       view = omega arith;

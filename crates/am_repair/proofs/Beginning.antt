@@ -165,7 +165,6 @@ stored_first rules w place b =
       each = λ i there other.
           (let g = b.agree.each i there in
           let fronts = (b.laws.each i (few_acting rules w i b.laws (b.may.all_act i there).0)).fronts in
-          let base = g.base in let given = fronts.given in let accepted = fronts.accepted in
           record { fine = fine; stored_ = omega arith });
     }
 

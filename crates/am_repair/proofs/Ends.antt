@@ -18,7 +18,6 @@ follows m s v heard =
     let acting = and_both (acts m) _ b.1 in
     let same = same_stamp v (view m) acting.1 in
     let other : (s == m.core.who) ≡ false = not-true _ (and_both (not (s == m.core.who)) (is_member m.status) b.0).0 in
-    let sender = a.1 in
     let by : v.by ≡ s = grind (arith, nat_tests) in
     let own : ((view m).by == m.core.who) ≡ false = ap (λ (x : Stamp). x.by == m.core.who) (sym same) ∙ ap (λ k. k == m.core.who) by ∙ other in
     rw (acting.0, own) refl

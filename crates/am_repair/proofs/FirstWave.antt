@@ -43,7 +43,6 @@ pub is_known : (m : Node) (i : ℕ) → IsUsed (image_of m) → has (members m) 
 is_known m i used there =
     let k = has_in (image_of m) i used.places there in
     let life = k.is in
-    let joined = k.joined in
     let same : ((at_place (image_of m) i).life == life_of i) ≡ true = grind (arith, nat_tests) in
     rw same (grind (arith, nat_tests))
 
@@ -99,7 +98,7 @@ pub member_node : (rules : Rules) (r : Repair) (i : ℕ) (v : World) (n : Node) 
 member_node rules r i v n fine there other node =
     let f = fine.calm.follows i there other in
     let fronts = (fine.laws.each i (few_members rules r v i fine there)).fronts in
-    let given = fronts.given in let accepted = fronts.accepted in
+    let given = fronts.given in
     let top_ = ap (λ (x : Node). top x) node in
     let taken = ap (λ (x : Node). x.core.taken) node in
     record {
@@ -275,7 +274,6 @@ front_hear rules r i k l base acc high u h there other letter meant is_ far stor
     let node = node_is u e i s is in
     let heard = hears_own r (u.nodes r.by) m i h.calm.own (h.calm.follows i there other) (h.calm.who i) other in
     let hears_ = subst (λ p. HearsFront m acc (hear m p).node) (sym is_) (fronts_are_heard m r.by r.view base acc high true heard) in
-    let accepted = hears_.accepted in
     let same = ap (λ (x : Node). x.core.acc) node in
     omega arith
 

@@ -29,7 +29,7 @@ follows_as r c q m x y a h =
     let f = h.follows in
     let same = ap (λ (l : Log). top_of l) a.log in
     let low = f.low in let within = f.within in let base = f.base in let reported = f.reported in let reached = f.reached in
-    let stored = h.stored in let taken = h.taken in let more = a.taken in let acc = h.acc in let higher = a.acc in
+    let stored = h.stored in let taken = h.taken in let acc = h.acc in
     let who = ap (λ k. (q.reports k).taken) a.who in
     record {
       who = a.who ∙ h.who;

@@ -45,7 +45,6 @@ join_back image n name i long other h = ⊎_elim
     (place_of i) ≡ record { life = life_of name; joined = n; left = 0; last = 0 })).
     absurd (
     let is = (subst (λ y. In y (life_of i)) x.1 h).is in
-    let place = x.0 in
     let same : i ≡ name = omega arith in
     let z : ⊥ = grind (arith, nat_tests) in z))
     (λ (x : (place_of i ≢ place_of name) × (row_at (after image n (Join name)) (place_of i) ≡ row_at image (place_of i))). subst
@@ -69,7 +68,7 @@ lead_trims : (m : Node) (i : ℕ) → Fronts m → has (members m) i ≡ true �
 unfolding lead own_report tell go_on let_go accept pass_over
 lead_trims m i f there low =
     let c = (lead m).core in
-    let kept = f.kept in let base = f.base in let given = f.given in let accepted = f.accepted in
+    let base = f.base in
     let up = (lead_reports m i).taken in
     base_low ((lead m).reports i).taken m.core.base _ (omega arith) (λ to is. least_low m (lead m).reports (record c { base = m.core.base }) i to f refl
     (omega arith) (omega arith) there is)

@@ -38,7 +38,6 @@ pub leads_as : (r : Repair) (m n : Node) → Alike m n → Leads r m → Leads r
 leads_as r m n a h =
     let same = ap (λ (l : Log). top_of l) a.log in
     let high = h.high in
-    let acc = a.acc in
     record {
       leads = leads_alike a ∙ h.leads;
       view_ = view_alike a ∙ h.view_;
@@ -57,9 +56,7 @@ goes_as : (r : Repair) (taken : ℕ → ℕ) (q m n : Node) → Alike m n → ((
     → (m.reports name).stored ≤ (n.reports name).stored) → Trusts r taken n → Goes r taken q m → Goes r taken q n
 goes_as r taken q m n a kept t h =
     let up = h.up in
-    let more = a.taken in
     let acc = h.acc in
-    let higher = a.acc in
     record {
       own = a.who ∙ h.own;
       leads = leads_as r m n a h.leads;
@@ -99,7 +96,7 @@ lead_base : (m : Node) (name most : ℕ) → Fronts m → has (members m) name �
 unfolding lead own_report tell go_on let_go accept pass_over
 lead_base m name most f member other low reported =
     let c = (lead m).core in
-    let kept = f.kept in let base = f.base in let given = f.given in let accepted = f.accepted in
+    let base = f.base in
     base_low most m.core.base _ low (λ to is.
     (let a = least_low m (lead m).reports (record c { base = m.core.base }) name to f refl (omega arith) (omega arith) member is in
     let b = ap (λ (r : Report). r.taken) (lead_others m name other) in
@@ -162,8 +159,6 @@ member_joins : (image : Image) (name : ℕ) → length image.rows ≡ 16 → has
 unfolding fits
 member_joins image name long member fit =
     let k = has_in image name long member in
-    let j = k.joined in
-    let l = k.left in
     let z : ⊥ = grind (arith, nat_tests) in z
 
 admitted_stay : (r : Repair) (m : Node) (s : ℕ) → Leads r m → Fronts m → fits (image_of m) (Join s) ≡ true → (name : ℕ) → has r.members name ≡ true

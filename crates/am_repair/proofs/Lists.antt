@@ -17,8 +17,6 @@ grows_same a = record { top = omega arith; start = refl; image = λ number low. 
 
 pub grows_then : (a b c : Log) → LogGrows a b → LogGrows b c → LogGrows a c
 grows_then a b c x y =
-    let up = x.top in
-    let more = y.top in
     record {
       top = omega arith;
       start = y.start ∙ x.start;

@@ -52,8 +52,6 @@ entries_are_stored m s v base acc number e heard h =
     let n = trim_up_to (record m { core = record (m.core) { told = max m.core.told acc } }) base in
     let k = record (push_entry n e) { bodies = bodies_after m.bodies e } in
     let next = h.next in
-    let low = h.taken in
-    let room = h.within in
     let a : nat_le number (top m) ≡ false = grind (arith, nat_tests) in
     let b : nat_lt (top m + 1) number ≡ false = grind (arith, nat_tests) in
     let c : nat_lt m.core.taken base ≡ false = grind (arith, nat_tests) in

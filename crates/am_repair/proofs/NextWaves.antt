@@ -62,7 +62,6 @@ pub served_entry_goes : (rules : Rules) (r : Repair) (i letter number : ℕ) (u 
     → IsServed rules r i letter number u → IsServed rules r i letter number (happens u e)
 served_entry_goes rules r i letter number u e ours h there s =
     let grow = grow_goes rules r u e ours h in
-    let low = s.taken in
     let up = grow.taken i there in
     record {
       base = s.base;
@@ -102,7 +101,6 @@ served_by rules r i stored u v s h fine there other low node serves sent =
     let who : n.core.who ≡ r.by = ap (λ (x : Node). x.core.who) (sym node) ∙ fine.calm.who r.by in
     let promise : n.core.promise ≡ r.view = (acting n (leading n l.leads).0).1 ∙ l.view_ in
     let long = served_long q stored low in
-    let high = h.calm.leads.high in
     let few = (fine.laws.kept r.by).few in
     let base = ap (λ (x : Node). x.core.base) node in
     let top_ = ap (λ (x : Node). top x) node ∙ ap (λ (x : Log). top_of x) serves.same in
@@ -150,7 +148,6 @@ nack_hear rules r taken i stored k l report u h t bound there other late letter 
     (subst (λ p. IsCalm r u p) is_ (h.calm.letters k l late letter)) in
     let trims = report_trims rules r taken q i report h.calm.leads (h.calm.who r.by) fronts t there other low in
     let serves = nacks_are_served q i r.view report heard known (report_fits_list r u i report h.calm there other calm fits) (omega arith) in
-    let kept = fronts.kept in
     let base = t.base i there other in
     served_by rules r i stored u (happens u e) s h fine there other (omega arith) node
     (subst (λ p. Serves q i stored (hear q p)) (sym is_) (subst (λ x. Serves q i x (hear q (Nack i r.view report))) exact serves))

@@ -126,7 +126,6 @@ no_less w q m good own h same short = ⊎_elim
     (λ (x : ViewIn blank 1 (lists.whole w q)).
     let list = lists.whole w q in
     let tells = whole_told w q q own in
-    let at = x.number in
     let number = ap (λ (i : Image). i.view_number) tells in
     let stamp = (whole.image_of list).view in
     let long = whole_long w m h.within in
@@ -141,7 +140,6 @@ no_less w q m good own h same short = ⊎_elim
     let z : ⊥ = omega arith in z)
     (λ (x : Unviewed blank 1 (lists.whole w q)).
     let number = ap (λ (i : Image). i.view_number) (whole_told w q q own) in
-    let none = x.1 in
     let z : ⊥ = omega arith in z)
     (view_in blank 1 (lists.whole w q))
 
@@ -162,9 +160,6 @@ listed_is w q name own there = ap (λ (i : Image). has (members_of i) name) (sym
 agrees : (w : World) (q m : Node) → IsGood (lists.whole w q) → IsBeginning w q q → IsBeginning w q m → view m ≡ view q → Fronts q → Fronts m
     → q.core.base ≤ m.core.taken → (q.reports m.core.who).taken ≤ max q.core.base m.core.taken → Agrees q m
 agrees w q m good own h same fq fm trimmed_ known =
-    let kept = fq.kept in
-    let given = fm.given in
-    let accepted = fm.accepted in
     let low : q.core.log.start ≤ top m = omega arith in
     record {
       reached = has_last_view w q m good own h same;

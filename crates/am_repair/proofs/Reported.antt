@@ -103,9 +103,7 @@ rises_change c o m n k f settles = subst (Rises m) (sym (settle_is m)) (record {
 rises_change c o m n k f (notes s v base acc brings heard) = record { base = noted_up m.core.base base m.core.taken; taken = omega arith }
 rises_change c o m n k f (begins_list s v base join image is says may) =
     (let none = k (welcomed_none m s v base join image may) in
-    let a = none.base_ in
     let b = ap top_of none.blank_ in
-    let given = f.given in let accepted = f.accepted in
     record { base = omega arith; taken = omega arith })
 rises_change c o m n k f (looks b verdict over why look is) = rises_look m b verdict look
 rises_change c o m n k f (fetches s v base number e is heard promise below why may) = record { base = omega arith; taken = omega arith }

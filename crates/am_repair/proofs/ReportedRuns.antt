@@ -21,7 +21,6 @@ told_changes rules nodes m n names used w (changed {n = x} one more) a h =
     (truly_change nodes _ _ m x w a.blanked one h) in
     let r = rises_change _ _ m x a.blanked a.owned.fronts one in
     let s = next.rises in
-    let b1 = r.base in let b2 = s.base in let t1 = r.taken in let t2 = s.taken in
     record { truly = next.truly; rises = record { base = omega arith; taken = omega arith } }
 
 -- ---- worlds

@@ -140,7 +140,6 @@ pub wave_hits : (P Q : World → Type 0) (w : World) (after k place : ℕ) → I
     → P (happen w (hearings w after)) × Q (happen w (hearings w after))
 wave_hits P Q w after k place is h first =
     let within = letter_within w.letters k is.letter is.there in
-    let late = is.late in
     let r = wave_walks R w after (omega arith) step (first, λ low. absurd (omega arith)) in
     (r.0, r.1 (omega arith))
   where

@@ -110,7 +110,6 @@ tick_letters rules r w name high h low = split (has_departed m.status)
     (λ f. split (name == r.by)
     (λ t. let same = eqb-true name r.by t in
     let l = h.calm.leads in
-    let far = l.high in
     subst (λ i. All (SkipsLetter high) (step (w.nodes i) does.Tick).letters) (sym same) (tick_skips high (w.nodes r.by) l.rest (λ u. omega arith)))
     (λ g. let own : (m.core.who == r.by) ≡ false = ap (λ i. i == r.by) (h.calm.who name) ∙ g in
     split (has r.members name)

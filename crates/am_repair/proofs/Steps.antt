@@ -158,7 +158,6 @@ follows_on : (r : Repair) (w : World) (n : Node) (name : ℕ) → Calm r w → h
 follows_on r w n name h there other g =
     let f = h.follows name there other in
     let low = f.low in let within = f.within in
-    let start = g.grows.start in let up = g.grows.top in
     record {
       acts_ = f.acts_;
       view_ = f.view_;
@@ -193,7 +192,6 @@ leader_step rules r w e s laws h k same =
     let before = acting q (leading q h.leads.leads).0 in
     let promise : n.core.promise ≡ r.view = acts_.1 ∙ g.leads.view_ in
     let old : q.core.promise ≡ r.view = before.1 ∙ h.leads.view_ in
-    let start = g.grows.start in
     let kept = along.owned.fronts.kept in
     let sends : Sends r v q n = record {
       node = ap (λ i. v.nodes i) g.own ∙ node;

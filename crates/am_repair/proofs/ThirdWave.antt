@@ -28,8 +28,6 @@ entry_hear rules r i k number u h there other s next low =
     let used = (h.laws.each r.by (few_members rules r u r.by h h.calm.listed)).fronts.used in
     let here = subst (λ j. has r.members j ≡ true) (sym (h.calm.who i)) there in
     let founding = ap (λ (x : Rules). x.window) (h.laws.kept i).founding in
-    let reached = f.reached in
-    let at = l.number in
     let within = s.within in
     let before : number - 1 ≡ top m = omega arith in
     let comes : ComesNext m s.base number s.entry = record {
@@ -131,12 +129,9 @@ pub third_wave_stores : (rules : Rules) (r : Repair) (i after stored : ℕ) (w :
     → Served rules r i after stored w → stored ≤ top (w.nodes i) → has r.members i ≡ true → (i == r.by) ≡ false
     → HasStored rules r i (min (stored + 8) r.high) (happen w (hearings w after))
 third_wave_stores rules r i after stored w low long h x have there other =
-    let late = x.late in
-    let enough = x.enough in
     let z = wave_walks (IsOnWay rules r i after stored x.first x.many w) w after long
     (λ k l u later letter y. way_on rules r i after stored x.first x.many k l w u low later letter there other h y)
     (record { fine = h; stays = stays_same w; each = x.each; have = omega arith }) in
-    let got = z.have in
     record {
       fine = z.fine;
       stored_ = elim (cases_lt 0 x.many) [

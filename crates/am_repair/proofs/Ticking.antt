@@ -143,7 +143,6 @@ reported_tick rules r i after w h there other low far =
     let grow = (grow_goes rules r w e (our_ticks (place_of i)) h).stored i there in
     let top_ = ap (λ (x : Node). top x) node in
     let fronts = (fine.laws.each i (few_members rules r v i fine there)).fronts in
-    let given = fronts.given in let accepted = fronts.accepted in
     let taken = ap (λ (x : Node). x.core.taken) node in
     let meant : is_for says.letter r.by ≡ true = rw says.any (subst (λ k. has says.letter.to k ≡ true) by says.to) in
     record {

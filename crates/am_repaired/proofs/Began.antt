@@ -12,7 +12,6 @@ rises_along rules m n heard used unchanged a = record { base = omega arith; take
 rises_along rules m n heard used (changed {n = x} one more) a =
     let r = rises_change _ _ m x a.blanked a.owned.fronts one in
     let k = rises_along rules x n heard used more (along_changes rules m x heard used (changed one unchanged) a) in
-    let b1 = r.base in let b2 = k.base in let t1 = r.taken in let t2 = k.taken in
     record { base = omega arith; taken = omega arith }
 
 -- ---- who begins

@@ -53,8 +53,6 @@ stays_member s q list n name k left leads is low high view_ leaves h = split (me
     let at = stood list n name good (omega arith) high view_ h in
     let e = ends_of name at.begins_ at.member f in
     let reach = begins_length e.above in
-    let view_low = at.from in
-    let near = at.near in
     let by = leaves_last list e.before name e.last good e.within (omega arith) e.member e.ended in
     let there : Begins (e.before ++ Leave name ∷ []) list = subst (λ x. Begins (e.before ++ x ∷ []) list) by e.within in
     let asked = left.asked e.before name (subst (Begins (e.before ++ Leave name ∷ [])) is there) in
@@ -84,7 +82,6 @@ all_from P from (suc b ∷ lives) h = All-cons P (name_at from (suc b)) (names_f
 
 all_names : (P : ℕ → Type 0) (set : List ℕ) → IsSet set → ((name : ℕ) → has set name ≡ true → P name) → All P (names_of set)
 all_names P set is h = all_from P 0 set (λ k low some.
-    let long = is.places in
     let small : k < 16 = omega arith in
     let life = slice_index set k in
     let name = name_at (0 + k) life in

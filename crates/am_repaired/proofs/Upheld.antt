@@ -44,11 +44,10 @@ upward_kind : (low : ℕ) (c : Cause) (o : Outcome) (x y : Node) → Kind c o x 
 upward_kind low c o x y (ways.alike a) h = record { listed = ap has_log a.status ∙ h.listed; acc = let l = h.acc in let e = a.acc in omega arith }
 upward_kind low c o x y ways.refreshed h =
     let r = (rests_refresh x).rests in
-    let u = r.acc in
     record { listed = ap has_log r.status ∙ h.listed; acc = let l = h.acc in omega arith }
 upward_kind low c o x y ways.settled h = subst (Upward low) (sym (settle_is x)) (record { listed = h.listed; acc = h.acc })
 upward_kind low c o x y (ways.began s v base join image is says may) h = absurd (let none_ = asking_log x.status (asking x s v base join image may) in
-    let some = h.listed in cc)
+    cc)
 upward_kind low c o x y (ways.left member leaves) h = record { listed = refl; acc = h.acc }
 upward_kind low c o x y (ways.asked_in was) h = absurd (let some = h.listed in let z = ap has_log was in cc)
 upward_kind low c o x y (ways.gone member leaves) h = let r = rests_closed x in let u = r.acc in record { listed = refl; acc = let l = h.acc in omega arith }

@@ -71,7 +71,6 @@ own_body_sent : (all : List Record) (who : ℕ) (m : Node) (from req : ℕ) (w :
 own_body_sent all who m from req None sent h = tt
 own_body_sent all who m from req (Some s) sent h = split ((from == m.core.who) && (s.req == req))
     (λ t.
-    let name = h.name in
     let same : ((who == from) && (s.req == req)) ≡ true = grind (arith, nat_tests) in
     rw t (as_asked all who s.req from req s.body same (sent s refl)))
     (λ f. rw f tt)

@@ -32,9 +32,6 @@ pub number_held : (v : World) (i n : ℕ) (x : Node) (a : groups.Node) (node : �
     → x.core.acc < n → n ≤ nodes.top x → (nodes.image_of x).view_number ≤ n → is_held reports x.core.log n ≡ true → IsHeld node a.list n
 number_held v i n x a node reports stands may r blank above low high held =
     let log = x.core.log in
-    let kept = may.kept in
-    let base = may.base in
-    let taken = may.taken in
     let long = long_all v i x a stands in
     let same = counted_whole v i n x a stands (omega arith) in
     let last : (image_of a.list).view_number ≡ (nodes.image_of x).view_number = ap (λ (g : Image). g.view_number) (told_all v i x a stands) in
@@ -81,7 +78,6 @@ front_held v i x a node reports stands may r blank =
     let passes = is_front reports log acc in
     let low = greatest_low passes acc (top_of log - acc) in
     let up = low.0 in
-    let top = low.1 in
     let front = accept_front reports log acc in
     let long = long_all v i x a stands in
     record {
@@ -92,8 +88,6 @@ front_held v i x a node reports stands may r blank =
           let at : is_satisfied reports log front n ≡ true = all_at (is_satisfied reports log front) (acc + 1) (front - acc) n (omega arith)
           (omega arith) there in
           let m = satisfied_at reports log front n below at in
-          let over = m.1 in
-          let under = m.2 in
           (m.0, m.1, m.2, number_held v i m.0 x a node reports stands may r blank (omega arith) (omega arith) m.3 m.4));
     }
 
@@ -123,8 +117,6 @@ unfolding lead own_report tell go_on let_go accept pass_over
 lead_acc x within =
     let reports = after_report x.reports x.core.who (nodes.report_of x) in
     let low = greatest_low (is_front reports x.core.log x.core.acc) x.core.acc (top_of x.core.log - x.core.acc) in
-    let up = low.0 in
-    let top = low.1 in
     omega arith
 
 pub lead_told : (x : Node) → (lead x).core.told ≡ accept_front (after_report x.reports x.core.who (nodes.report_of x)) x.core.log x.core.acc

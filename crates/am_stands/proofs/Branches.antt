@@ -183,7 +183,6 @@ branches_of s t k steady moved opened b = record {
       (λ (y : IsUp (s.node c) × ((s.node c).ballot ≡ true) × (s.shown (key (s.node c).promise) j ≡ Some list)
       × (length (s.node c).list ≤ length (t.node c).list)).
       (let same = ap length z.0 in
-      let grows = y.3 in
       ⊎_elim
       (λ (x : length (s.node j).list ≤ length list). inl (omega arith))
       (λ (x : length (s.node j).list ≤ length (s.node c).list). inr (omega arith))

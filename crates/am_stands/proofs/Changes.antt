@@ -150,7 +150,6 @@ told_whole w name i x a h = told_all (within w name x) i x a h
 -- and how long it is
 pub long_all : (v : World) (i : ℕ) (x : Node) (a : groups.Node) → NameStands v i x a → length a.list ≡ nodes.top x
 long_all v i x a h =
-    let b = h.begins.within in
     let t = length-take x.core.log.start v.group in
     let m = length-append (take x.core.log.start v.group) x.core.log.entries in
     let l = ap length h.list in

@@ -28,7 +28,6 @@ pub concerned_push : (list : List Entry) (e : Entry) (name : ℕ) → NotView e 
 concerned_push list e name plain h =
     let same : (image_of (list ++ e ∷ [])).view_number ≡ (image_of list).view_number =
     ap (λ (i : Image). i.view_number) (told_push list e) ∙ (after_same (image_of list) (1 + length list) e (no_view e plain)).number in
-    let from_ = h.from in
     ⊎_elim
     (λ (z : Begins h.upto list). inl (record { upto = h.upto; begins = z; from = omega arith; member = h.member }))
     (λ (z : h.upto ≡ list ++ e ∷ []). ⊎_elim

@@ -102,7 +102,6 @@ counted_from p q from (suc b ∷ lives) long low h =
 -- those of a set's names that pass are no more than those of all names that are in it and pass
 pub names_pass : (p : ℕ → Bool) (set : List ℕ) → IsSet set → count_by p (names_of set) ≤ how_many (λ h. has set h && p h)
 names_pass p set is =
-    let long = is.places in
     counted_from p (λ h. has set h && p h) 0 set (omega arith) is.lives (λ k low some t.
     let small : k < 16 = omega arith in
     let life = slice_index set k in
@@ -149,7 +148,6 @@ few_of q from n (life ∷ lives) h =
 -- a set has no more names than lives
 pub names_few : (set : List ℕ) → IsSet set → how_many (has set) ≤ size set
 names_few set is =
-    let long = is.places in
     few_of (has set) 0 256 set (λ j t. (
       place_of j,
       (let low = mod16 j in omega arith),
@@ -160,7 +158,6 @@ names_few set is =
 -- and each is one of the 256
 pub name_small : (set : List ℕ) (name : ℕ) → IsSet set → has set name ≡ true → name < 256
 name_small set name is t =
-    let long = is.places in
     let place = mod16 name in
     let low : slice_index set (place_of name) ≤ 16 = is.lives (place_of name) (omega arith) in
     let at : slice_index set (place_of name) ≡ life_of name = (let z : (slice_index set (place_of name) == life_of name) ≡ true = t in

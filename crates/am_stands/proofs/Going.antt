@@ -63,7 +63,6 @@ stored_by n names number j long in_ all =
     let place = mod16 j in
     let found = least_in f names 0 (place_of j) (omega arith) (omega arith) in
     let name : name_at (0 + place_of j) (slice_index names (place_of j)) ≡ j = omega arith in
-    let most = found.2 in
     let is = ap f name in
     let least : nat_le number found.0 ≡ true = ap (λ (o : Option ℕ). elim o [ None ↦ true | Some least ↦ nat_le number least ]) (sym found.1) ∙ all in
     let low : number ≤ found.0 = grind (arith, nat_tests) in

@@ -64,7 +64,6 @@ number_grows s i e k leads = record {
 accepted_grows : (s : Group) (node : ℕ → groups.Node) (list : List Entry) (n : ℕ) → Begins s.group list → MayAccept node list (length s.group) n
     → Begins s.group (take n list)
 accepted_grows s node list n h may =
-    let up = may.rises in
     let long = length_take n list may.within in
     begins_both h (begins_take n list) (omega arith)
 

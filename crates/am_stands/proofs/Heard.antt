@@ -51,7 +51,6 @@ of_sequencer name from x v who h =
     let acting = and_both (is_member x.status) (stamp_eq x.core.promise (view x)) c.0 in
     let viewed : view x ≡ v = sym (same_stamp v (view x) c.1) in
     let differs = d.0 in
-    let by = a.1 in
     record {
       member = d.1;
       promise = same_stamp x.core.promise (view x) acting.1 ∙ viewed;

@@ -102,7 +102,7 @@ became image n (View stamp names resilience) name long some = λ h.
         → Becomes image n (View stamp names resilience) name
     first t is same now = split (slice_index names (place_of name) == 0)
         (λ u. absurd (let old : In (row_at image (place_of name)) (life_of name) = rw u at (subst (λ q. In q (life_of name)) same now) in
-        let none = blank_joined image (place_of name) t in let j = old.joined in omega arith))
+        let none = blank_joined image (place_of name) t in omega arith))
         (λ f. founds refl t (ap (λ (q : Row). q.joined) (is ∙ same) ∙ rw f refl))
 
     later : row_at (after image n (View stamp names resilience)) (place_of name) ≡ row_after_view (is_blank image) n (slice_index names (place_of name))
@@ -158,7 +158,6 @@ JoinsBy list name = In (row_at (image_of list) (place_of name)) (life_of name) �
 -- it joined before
 joins_before : (a : List Entry) (e : Entry) (name join : ℕ) → JoinsAt a name join → JoinsAt (a ++ e ∷ []) name join
 joins_before a e name join h =
-    let low = h.within in
     let long = length_push a e in
     record {
       some = h.some;

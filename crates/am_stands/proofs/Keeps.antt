@@ -267,9 +267,6 @@ module _ {rules : Rules} {w v : World} {name : ℕ} {c : Cause} {x y : Node} {s 
   base_within : Along rules y → y.core.base ≤ length (t.node name).list
   base_within later =
       let f = later.owned.fronts in
-      let a = f.base in
-      let b = f.given in
-      let d = f.accepted in
       let long = long_all (within v name y) name y (t.node name) q.new in
       omega arith
 

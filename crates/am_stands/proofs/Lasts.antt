@@ -49,7 +49,6 @@ alone v i x a stands who member none j its =
 up_to_group : (node : ℕ → groups.Node) (list : List Entry) (from g to : ℕ) → from ≤ g → g ≤ length list → MayAccept node list from to
     → MayAccept node list g (max g to)
 up_to_group node list from g to low some may =
-    let within_ = may.within in
     record {
       rises = omega arith;
       within = omega arith;

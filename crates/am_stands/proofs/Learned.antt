@@ -26,8 +26,6 @@ pub follower_learns : (v : World) (name heard : ℕ) (n : Node) (s : Group) (gro
 follower_learns v name heard n s group k old up grows word f =
     let ok = k.each name in
     let fronts = ok.fronts in
-    let told_ = fronts.told in
-    let acc_ = fronts.acc in
     let more = begins_length grows in
     let low = word_group s name heard word in
     let told = f.told in

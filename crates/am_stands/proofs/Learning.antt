@@ -22,7 +22,6 @@ grown_is v i n a h begins =
     let g = length v.group in
     let front = take start_ v.group in
     let entries = n.core.log.entries in
-    let low = h.begins.within in
     let long : length front ≡ start_ = (let c = length-take start_ v.group in omega arith) in
     let at : length front + (g - start_) ≡ g = omega arith in
     let rest : drop (g - start_) entries ≡ begins.rest =

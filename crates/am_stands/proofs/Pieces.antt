@@ -88,7 +88,6 @@ own_line w name x s h by decided =
     let noted = h.stands.views.decided (key (view x)) decided in
     let d = noted.view in
     let is = h.stands.views.noted noted.index d noted.there in
-    let few = h.few in
     let low : (view x).by < 256 = omega arith in
     let same : d.stamp ≡ view x = key_stamp d.stamp (view x) (h.noted noted.index d noted.there) low noted.is in
     let mine : d.stamp.by ≡ name = ap (λ (u : Stamp). u.by) same ∙ by in

@@ -35,8 +35,6 @@ follow_follows x f = rw f refl
 pub member_old : (list : List Entry) (name : ℕ) → mem list name ≡ true → IsNew (image_of list) name → ⊥
 member_old list name member new =
     let k = mem_in list name member in
-    let j = k.joined in
-    let i = k.is in
     ⊎_elim (λ z. omega arith) (λ z. omega arith) new
 
 -- ---- a refresh, where the group has accepted what it accepts

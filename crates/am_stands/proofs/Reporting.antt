@@ -97,7 +97,6 @@ concerned_before a e name good h = ⊎_elim
   where
     low : Begins h.upto a → (image_of a).view_number ≤ length h.upto
     low z =
-        let from_ = h.from in
         let short = begins_length z in
         let last = ap (λ (i : Image). i.view_number) (told_push a e) in
         split (is_view e)
@@ -200,8 +199,6 @@ leaver_true s from v list report d is good stamp viewed opens low (before_it lea
     let all : Begins (c.before ++ View v c.members c.resilience ∷ []) list = subst (λ (u : Stamp). Begins
     (c.before ++ View u c.members c.resilience ∷ []) list) stamp opens in
     let last = last_view_at c.before v c.members c.resilience list good all viewed in
-    let number = last.0 in
-    let from_ = concerned.from in
     let more = length_push c.before (View v c.members c.resilience) in
     let inside : Begins (c.before ++ View v c.members c.resilience ∷ []) concerned.upto = begins_both all concerned.begins (omega arith) in
     let front = begins_trans (h.later d) (begins_more c.before (View v c.members c.resilience ∷ [])) in

@@ -74,6 +74,5 @@ own_fits v i x a h good member k q is last =
     let here : (nodes.own_row x).last ≡ (row_at (image_of a.list) (place_of who)).last =
     ap (λ (r : Row). r.last) (ap (λ (g : Image). row_of g who) (sym told_is) ∙ member_row a.list who member) in
     let above : (nodes.own_row x).last < q.req = grind (arith, nat_tests) in
-    let low = k.low in
     let listed : has (members_of (nodes.image_of x)) who ≡ true = ap (λ (g : Image). has (members_of g) who) (sym told_is) ∙ member in
     fits_data (nodes.image_of x) who q.req q.body listed (omega arith)

@@ -224,7 +224,6 @@ sent_says v i c m n s to p h (join_ask _ a) = so v i c m n s h to _ tt
 sent_says v i c m n s to p h (welcome name t may) =
     let good = good_begins ((h.group.kept.each i).list (speaks_leading v i c m n s h t).up) h.group.kept.views.good in
     let base = h.numbers.base in
-    let taken = h.numbers.taken in
     let is = is_welcomed v i m n (s.node i) name h.stands good h.lives (start_leading v i c m n s h t) h.numbers.accepted may in
     so v i c m n s h (only_name name) _ (
       h.trimmed,
@@ -237,7 +236,6 @@ sent_says v i c m n s to p h (leave_ask _ member leaves) = so v i c m n s h to _
 sent_says v i c m n s to p h (gone name t may) =
     let l = h.leader t in
     let base = h.numbers.base in
-    let taken = h.numbers.taken in
     so v i c m n s h (only_name name) _ (gone_says v i n s name (record {
       speaks = speaks_leading v i c m n s h t;
       leads = t;
@@ -253,7 +251,6 @@ sent_says v i c m n s to p h (gone name t may) =
 sent_says v i c m n s to p h (invite _ may) = so v i c m n s h to _ tt
 sent_says v i c m n s to p h (vote from u is) =
     let taken = h.numbers.taken in
-    let within = h.numbers.within in
     let r = vote_said v i n s (record { kept = h.group.kept; stands = h.stands; there = h.there; small = h.small; begun = h.begun; taken = omega arith }) in
     record {
       to = r.to;

@@ -110,9 +110,6 @@ pub sequencer_said : (v : World) (i : ℕ) (n : Node) (s : Group) → Speaks v i
 sequencer_said v i n s h t f =
     let l = leading v i n s h t in
     let fronts = (h.kept.each i).fronts in
-    let told_ = fronts.told in
-    let given = fronts.acc in
-    let acc = f.acc in
     record {
       by = ap (λ (u : Stamp). u.by) (sym l.viewed) ∙ l.leads.by;
       decided = l.decided;

@@ -79,8 +79,6 @@ unfolding put
 told_next rules k s h = split (has rules.founders k)
     (λ t.
     let a = founds rules k s h t in
-    let told_ = a.told in
-    let acc_ = a.acc in
     let one : length s.group ≡ 1 = ap length h.group_ in
     let list_ : length (s.node k).list ≡ 1 = ap length a.list in
     let b = record (s.node k) { told = 1; acc = 1 } in

@@ -27,7 +27,6 @@ least_low f names j long at =
     let found = least_in f names 0 (place_of j) (omega arith) (omega arith) in
     let name : name_at (0 + place_of j) (slice_index names (place_of j)) ≡ j = omega arith in
     let is = ap f name in
-    let most = found.2 in
     (found.0, found.1, omega arith)
 
 -- ---- by reports
@@ -132,9 +131,7 @@ votes_trim w name x b s k h learned known =
     let itself_ : (x.core.who == x.core.who) ≡ true = grind (arith, nat_tests) in
     let own_taken : f x.core.who ≡ x.core.taken = rw itself_ refl in
     let own_least : least ≡ own_low.0 = ap (λ o. unwrap_or o 0) own_low.1 in
-    let own_most = own_low.2 in
     let taken = known.taken in
-    let within_ = known.within in
     let accepted = known.accepted in
     let on_chain = (k.each name).list h.up in
     let cut = begins_trans (begins_take least s.group) k.group in
@@ -149,7 +146,6 @@ votes_trim w name x b s k h learned known =
           let at = those_at (λ j. not (b.given_up j)) (need_of x b) j needed (ap not (spared j there)) in
           let low = least_low f names j long_names at in
           let same : least ≡ low.0 = ap (λ o. unwrap_or o 0) low.1 in
-          let most = low.2 in
           split (j == x.core.who)
           (λ t. (let is : j ≡ x.core.who = grind (arith, nat_tests) in subst (λ z. Begins (take least s.group) (s.node z).list) (sym (is ∙ h.who)) cut_in))
           (λ g.
@@ -157,7 +153,6 @@ votes_trim w name x b s k h learned known =
           let tells = h.votes j vote.0 vote.1 in
           let shown = (k.shown (key b.stamp) j tells.list tells.shown).list in
           let more = begins_length shown in
-          let tells_taken = tells.taken in
           let its : f j ≡ vote.0.taken = rw g (ap (λ o. unwrap_or (option_map (λ (z : Vote). z.taken) o) 0) vote.1) in
           split (s.node j).has_log
           (λ log. begins_both cut ((k.each j).list (record { log = log; there = there })) (omega arith))

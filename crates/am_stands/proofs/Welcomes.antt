@@ -38,7 +38,6 @@ welcome_needs w name from base join x v image s k who runs small few stays no_ba
         decided = says.decided;
         small = few;
         other = λ same. (let other = asks.0 in
-            let by = says.by in
             let z : (from == x.core.who) ≡ true = grind (arith, nat_tests) in
             let y : not true ≡ true = subst (λ b. not b ≡ true) z other in
             absurd (cc));

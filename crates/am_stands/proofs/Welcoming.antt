@@ -42,7 +42,6 @@ is_welcomed v i m n a name h good lives low up (just_joined number next high acc
     (Join name) = (let z : length a.list ≡ number = long ∙ high in ap (item_at a.list) z ∙ list_item v i n a m.core.base number (Join name) h low stands) in
     let member = last_joined a.list name at in
     let joins = joins_at a.list name good member in
-    let within = joins.within in
     let row = ap (λ (r : Row). r.joined) (ap (λ (g : Image). row_of g name) (sym (told_all v i n a h)) ∙ member_row a.list name member) in
     record { member = member; accepted = omega arith }
 is_welcomed v i m n a name h good lives low up (asks_again same life some stays accepted behind) =
@@ -71,9 +70,6 @@ welcome_said v i n s name h t f low kept is above =
     let a = s.node i in
     let l = leading v i n s h t in
     let fronts = (h.kept.each i).fronts in
-    let told_ = fronts.told in
-    let given = fronts.acc in
-    let acc = f.acc in
     let accepted = is.accepted in
     let chain = ((h.kept.each i).leads l.leads).chain in
     let good : IsGood a.list = subst IsGood (sym chain) h.kept.views.good in
@@ -119,7 +115,6 @@ welcome_to v i n s name h t f low kept is trimmed =
     let row : join ≡ (row_at (image_of a.list) (place_of name)).joined =
     ap (λ (r : Row). r.joined) (ap (λ (g : Image). row_of g name) (sym (told_all v i n a h.stands)) ∙ member_row a.list name is.member) in
     let joins : JoinsAt a.list name join = subst (JoinsAt a.list name) (sym row) (joins_at a.list name good is.member) in
-    let some = joins.some in
     let accepted = trimmed.accepted in
     let long = length_take n.core.base s.group trimmed.accepted in
     let front = length_take join a.list joins.within in

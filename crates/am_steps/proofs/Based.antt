@@ -38,10 +38,8 @@ based_change rules m x y (begins_list s v base join image is says may) a h =
     let asks = and_both (not (s == x.core.who)) (is_member x.status || is_asking x.status) may.asks in
     let none = a.blanked (none_of_asking x.status may.no_member asks.1) in
     let empty = ap top_of none.blank_ in
-    let high = a.owned.fronts.accepted in
     let before = bare_before m x (omega arith) h in
     let other = not-true (s == x.core.who) asks.0 in
-    let own = may.own in
     was_bare (ap was_welcomed is) (grind (arith, nat_tests)) (omega arith)
 based_change rules m x y (promises v low why) a h = based_other m x y refl refl (promise_brings v why).welcomes h
 based_change rules m x y (opens least resilience by may) a h = based_other m x y refl refl (begin_brings by).welcomes h

@@ -137,8 +137,6 @@ rests_step m x gone closed deeds =
     let follows : is_sequencer x ≡ false = split (is_sequencer x) (λ t. absurd (no_leader x (h.status ∙ gone) t)) (λ f. f) in
     let acc_ = (advanced x follows).1 in
     let settled : (refresh_at_end x).core.acc ≡ (refresh x).core.acc = ap (λ (n : Node). n.core.acc) (settle_is (refresh x)) in
-    let acc = h.acc in
-    let told = h.told in
     record {
       same = record {
         log = r.log ∙ h.same.log;

@@ -73,8 +73,6 @@ ended_on rules w name c o m x s sent d =
           let acc = ap (λ (z : Node). z.core.acc) same in
           let told_ = ap (λ (z : Node). z.core.told) same in
           let most = r.fronts.told here in
-          let none = r.nothing_heard in
-          let stays_told = one.fronts.told in
           record { told = omega arith; acc = one.fronts.acc ∙ r.fronts.acc here ∙ sym acc });
       seen = seen_end w m x n d.views log who d.seen;
     }
@@ -112,7 +110,7 @@ none_decided rules w name c m n t group h goes log_ there noted is member own di
     let by : was.view.stamp.by ≡ name = ap (λ (u : Stamp). u.by) same ∙ own ∙ h.who in
     let low : stamp_lt (view m) (view n) ≡ false = ap (stamp_lt (view m)) (sym same) ∙ subst (λ (i : Node). stamp_lt (view i) was.view.stamp ≡ false)
     (ap w.nodes by ∙ is) d.low in
-    let up_ = k.0 in cc))
+    cc))
     (goes had).view
 
 pub views_end : (rules : Rules) (w : World) (name : ℕ) (c : Cause) (m n : Node) (t : Group) (group : List Entry) (views : List Decided)
@@ -133,6 +131,6 @@ views_end rules w name c m n t group views h goes log_ there noted is (one_new d
     let differs : stamp_eq (view m) (view n) ≡ false = split (stamp_eq (view m) (view n))
     (λ u. absurd (let same_ = same_stamp (view m) (view n) u in
     let z : stamp_lt (view m) (view n) ≡ false = ap (stamp_lt (view m)) (sym same_) ∙ not_above_itself (view m) in
-    let up = d.above in cc)) (λ f. f) in
+    cc)) (λ f. f) in
     let member = d.member in
     rw (member, own, differs) same

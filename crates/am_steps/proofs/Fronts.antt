@@ -44,7 +44,6 @@ noted_fronts : (rules : Rules) (w : World) (name : ℕ) (c : Cause) (x : Node) (
 noted_fronts rules w name c x s t from v base acc by heard h stay g f =
     let says = fronts_said w s name c from v base acc by h.heard in
     let size = ap length h.stands.group in
-    let most = says.accepted in
     let low = f.low in
     let promised = ap key ((old rules w name c x s h).promise ∙ heard_view x from v heard) in
     split (nat_lt f.heard acc)

@@ -235,10 +235,7 @@ refresh_on rules w name c x s h f = split (is_member x.status)
     (λ t. member_refreshed rules w name c x s h f t (member_stays x.status t))
     (λ m. (
     let follows = advanced x (no_leader x m) in
-    let its_told = follows.0 in
-    let its_acc = follows.1 in
     let low = f.low in
-    let old_acc = h.accepted in
     let stays : has_departed (refresh x).status ≡ has_departed x.status = ap has_departed (rests_refresh x).rests.status in
     split (has_departed x.status)
     (λ d. other_refreshed rules w name c x s h f m (omega arith) (record {
@@ -250,8 +247,6 @@ refresh_on rules w name c x s h f = split (is_member x.status)
     }) refl)
     (λ d. (
     let none = h.along.blanked (bare_status x.status m d) in
-    let no_told = none.told_ in
-    let high = h.along.owned.fronts.accepted in
     let empty : nodes.top x ≡ 0 = ap top_of none.blank_ in
     other_refreshed rules w name c x s h f m (omega arith) (record {
       low = omega arith;

@@ -56,7 +56,6 @@ fetched_of : (rules : Rules) (list : List Entry) (acc i : ℕ) (m : Node) (c : C
 fetched_of rules list acc i m c s effect h none name v stored is =
     let same = start_same (λ a b d f g heard. (let z = sym is ∙ heard in absurd (cc))) effect.changes none in
     let core = ap (λ (x : Node). x.core.log.start) effect.is in
-    let low = h.fronts.base in
     omega arith
 
 -- ---- another name

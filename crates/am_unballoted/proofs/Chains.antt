@@ -131,7 +131,6 @@ gave_taken : {c : Cause} {o : Outcome} (rules : Rules) (list : List Entry) (acc 
     → n ≡ record m { core = record (m.core) { taken = m.core.taken + 1 } } → Gave c o k m → Gave c o k n
 gave_taken rules list acc i k m n e h member some says is (nothing x y z) =
     let f = h.fronts in
-    let t = f.taken in
     let less : m.core.taken < m.core.acc = grind (arith, nat_tests) in
     let p : m.core.start - 1 ≤ m.core.taken = at_least m.core.taken m.core.acc (m.core.start - 1) f.passed less in
     let new = ap front is in
@@ -153,7 +152,6 @@ pub gave_begun : {c : Cause} {o : Outcome} (k m : Node) (s : ℕ) (v : Stamp) (b
     → o ≡ said.Welcomed join → MayBeWelcomed m s v base join image → Gave c o k m → Gave c o k (begin_list m v base join image)
 gave_begun k m s v base join image is says may (nothing x y z) =
     let no = asking_log m.status (asking m s v base join image may) in
-    let above = may.above in
     began s v base join image is says (sym z ∙ no) refl refl (omega arith) (omega arith)
 gave_begun k m s v base join image is says may (took j e was x y z w u l) = let no = asking_log m.status (asking m s v base join image may) in absurd (cc)
 gave_begun k m s v base join image is says may (began s1 v1 base1 join1 image1 was said_ x y z w u) = let no =

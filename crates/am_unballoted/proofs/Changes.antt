@@ -15,8 +15,6 @@ leads_own m t =
     let a = and_both (acts m) ((view m).by == m.core.who) t in
     let b = and_both (is_member m.status) (stamp_eq m.core.promise (view m)) a.0 in
     let v = view m in
-    let c = b.1 in
-    let d = a.1 in
     (b.0, grind (arith, nat_tests))
 
 pub leads_first : (rules : Rules) (list : List Entry) (acc i : ℕ) (m : Node) → NodeOk rules list acc i m → is_sequencer m ≡ true → i ≡ first_of rules
@@ -31,10 +29,6 @@ pub advance_fronts : (first acc to i : ℕ) (core : CoreState) → acc ≤ to �
     → FrontsOk first to i (pass_over (accept core))
 unfolding pass_over accept
 advance_fronts first acc to i core up low h =
-    let a = h.accepted in
-    let w = h.within in
-    let t = h.taken in
-    let p = h.passed in
     split (nat_lt core.taken (core.start - 1))
     (λ y. rw y (record {
       accepted = omega arith;
@@ -82,7 +76,6 @@ settled_stands : (rules : Rules) (list : List Entry) (acc i : ℕ) (m : Node) (r
 settled_stands rules list acc i m req k h is =
     let f = found_at m req k is in
     let low = f.low in
-    let up = h.fronts.accepted in
     let base = h.fronts.base in
     let at = within_get list m.core.log.start m.core.log.entries ((m.core.base - m.core.log.start) + k) (Data m.core.who req f.body) h.log.within f.there in
     let there : item_at list (m.core.base + 1 + k) ≡ Some (Data m.core.who req f.body) =

@@ -51,10 +51,6 @@ first_rise rules m told base reports up h =
     let to = max m.core.acc (min told (top m)) in
     let n = node_up rules list m.core.acc to i m (omega arith) h.node in
     let f = h.node.fronts in
-    let t = f.taken in
-    let w = f.within in
-    let b = f.base in
-    let some = h.log in
     record {
       node = record {
         who = n.who;
@@ -193,7 +189,6 @@ numbered_fits rules c m e h member (own_send s is last) =
     let who = h.node.who in
     let o = h.own in
     let same = waiting_is o.next o.next m.sends.last m.sends.queue s o.turn is in
-    let low = o.low in
     let asked = last_asked rules m h member in
     let above : nat_lt (row_of (image_of list) i).last s.req ≡ true = ap (λ x. nat_lt (row_of x i).last s.req) (sym t)
     ∙ ap (λ w. nat_lt (row_of (nodes.image_of m) w).last s.req) (sym who) ∙ last in
@@ -228,7 +223,6 @@ not_heard rules m s v h t =
     let other = (and_both (not (s == m.core.who)) (is_member m.status) b.0).0 in
     let same = (and_both (acts m) (stamp_eq v (view m)) b.1).1 in
     let by = a.1 in
-    let who = h.node.who in
     let f = ap (λ (x : Stamp). x.by) (first_view rules m h) in
     let first = view m in
     let z : ⊥ = grind (arith, nat_tests) in z

@@ -15,8 +15,6 @@ given_log : (rules : Rules) (list : List Entry) (acc : ℕ) (w : World) (name : 
 given_log rules list acc w name h some = split (has_log (w.nodes name).status) (λ t. t)
     (λ f.
     let b = (h.each name).status.blank f in
-    let b0 = b.0 in
-    let b1 = b.1 in
     let count = (h.given name).count in
     absurd (some (nil_of (deliveries w.records name) (omega arith))))
 

@@ -103,11 +103,7 @@ moves_step rules list next acc to w v i n c o small h low k high is grew none_ a
     (λ (x : (number : ℕ) × (e : Entry) × (o ≡ said.Took number e)). (
     let m = w.nodes i in
     let t = has_taken m c n o x.0 x.1 none_ x.2 answer in
-    let nx = t.next in
-    let on = t.gone_on in
-    let some = t.some in
     let fm = (h.each i).fronts in
-    let lo = fm.taken in
     let less : m.core.taken < m.core.acc = grind (arith, nat_tests) in
     let p = at_least m.core.taken m.core.acc (m.core.start - 1) fm.passed less in
     absurd (omega arith)))
@@ -115,11 +111,7 @@ moves_step rules list next acc to w v i n c o small h low k high is grew none_ a
 moves_step rules list next acc to w v i n c o small h low k_ high is grew none_ answer (took k e says a b start lo ln lm) =
     let m = w.nodes i in
     let t = has_taken m c n o (k + 1) e none_ says answer in
-    let nx = t.next in
-    let some = t.some in
     let fm = (h.each i).fronts in
-    let within = fm.taken in
-    let up = fm.accepted in
     let less : m.core.taken < m.core.acc = grind (arith, nat_tests) in
     let item = entry_item rules list acc i m k e (h.each i) t.there in
     let there : item_at w.group (k + 1) ≡ Some e = ap (λ l. item_at l (k + 1)) h.group ∙ item_taken acc list (k + 1) e (omega arith) item in
@@ -141,7 +133,6 @@ moves_step rules list next acc to w v i n c o small h low k high is grew none_ a
     let no = no_founder rules list acc i m (h.each i) lm in
     let joined : At next to n.core.start (Join i) =
     ((subst (NodeOk rules next to i) is (k.each i)).status.begins ln).joiner no in
-    let lo = joined.low in
     let long : length (group_after w.group n) ≡ to = ap length (sym grew ∙ k.group) ∙ length-take-le to next high in
     let g : Group = record { entries = w.group; fronts = fronts_of w.nodes } in
     let mid : Group = record { entries = group_after w.group n; fronts = fronts_of w.nodes } in

@@ -94,7 +94,6 @@ pub taken_ok : (rules : Rules) (list : List Entry) (acc i : ℕ) (m : Node) → 
     → NodeOk rules list acc i m → NodeOk rules list acc i (record m { core = record (m.core) { taken = m.core.taken + 1 } })
 taken_ok rules list acc i m member some h =
     let f = h.fronts in
-    let t = f.taken in
     let p = f.passed in
     let less : m.core.taken < m.core.acc = grind (arith, nat_tests) in
     let stays : has_log m.status ≡ true = logged m.status member in

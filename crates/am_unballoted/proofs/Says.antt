@@ -73,7 +73,6 @@ first_image : (rules : Rules) (list : List Entry) (acc i : ℕ) (m n : Node) (ba
 unfolding fold
 first_image rules list acc i m n base h f =
     let image : n.core.log.image ≡ blank = h.log.image ∙ ap (λ k. image_of (take k list)) f.start in
-    let s = f.start in
     let one : n.core.log.start + 1 ≡ 1 = omega arith in
     let many : base - n.core.log.start ≡ base = omega arith in
     ap (λ x. fold x (n.core.log.start + 1) (take (base - n.core.log.start) n.core.log.entries)) image
@@ -86,7 +85,6 @@ first_told : (rules : Rules) (list : List Entry) (acc i : ℕ) (m n : Node) → 
 unfolding fold
 first_told rules list acc i m n h f =
     let image : n.core.log.image ≡ blank = h.log.image ∙ ap (λ k. image_of (take k list)) f.start in
-    let s = f.start in
     let one : n.core.log.start + 1 ≡ 1 = omega arith in
     ap (λ x. fold x (n.core.log.start + 1) n.core.log.entries) image ∙ ap (λ k. fold blank k n.core.log.entries) one ∙ ap (λ l. fold blank 1 l) (sym f.list_)
 
@@ -127,7 +125,6 @@ welcome_says rules list acc i m n s h f t (just_joined number next high low stan
     let row = join_row list stands.index s there (omega arith) in
     let item = stands_item rules list acc i m n number (Join s) h zero stands in
     let is : (row_of (nodes.image_of n) s).joined ≡ number = same ∙ row ∙ omega arith in
-    let a = f.acc_ in
     record {
       stamp = h.promise (leader_member n t);
       low = omega arith;
@@ -149,8 +146,6 @@ welcome_says rules list acc i m n s h f t (asks_again same lives some stays low 
     let is : row_of (nodes.image_of n) s ≡ at_place (image_of list) s = rw now (ap (λ x. at_place x s) (first_told rules list acc i m n h f)) in
     let joined = ap (λ (r : Row). r.joined) is in
     let joined_q = ap (λ (r : Row). r.joined) is_q in
-    let a = f.acc_ in
-    let up_ = f.high in
     record {
       stamp = h.promise (leader_member n t);
       low = omega arith;
@@ -168,7 +163,6 @@ result_says rules list acc i m n number names h f t high named =
     let v = group_view rules list f.group in
     let stamp = h.promise (leader_member n t) in
     let one : number ≡ 1 = high ∙ ap (λ (x : Image). x.view_number) told_ ∙ v.number in
-    let start = f.start in
     let first : slice_get list 0 ≡ Some (founders_view rules) = ap (λ l. slice_get l 0) f.group.is in
     let there : entry_at n.core.log number ≡ Some (founders_view rules) = entry_is n.core.log number 0 (omega arith)
     ∙ (ap (λ l. slice_get l 0) (sym f.list_) ∙ first) in

@@ -56,7 +56,6 @@ given_push list acc m n given k e h start a b some low at =
           (λ (y : (j ≡ length given) × ((k + 1, e) ≡ (number, x))). (
           let n_ : k + 1 ≡ number = ap (λ (p : ℕ × Entry). p.0) y.1 in
           let e_ : e ≡ x = ap (λ (p : ℕ × Entry). p.1) y.1 in
-          let j_ = y.0 in
           let sum : k + 1 ≡ n.core.start + j = omega arith in
           (sym n_ ∙ sum, subst (λ t. At list acc t x) sum (subst (At list acc (k + 1)) e_ at))))
           (get_push given (k + 1, e) j (number, x) is);
@@ -76,11 +75,7 @@ given_step rules list more acc to i m n c o given hm hn none answer h (nothing f
     })))
     (λ (x : (number : ℕ) × (e : Entry) × (o ≡ said.Took number e)). (
     let t = has_taken m c n o x.0 x.1 none x.2 answer in
-    let next = t.next in
-    let on = t.gone_on in
-    let some = t.some in
     let fm = hm.fronts in
-    let low = fm.taken in
     let less : m.core.taken < m.core.acc = grind (arith, nat_tests) in
     let p = at_least m.core.taken m.core.acc (m.core.start - 1) fm.passed less in
     absurd (omega arith)))
@@ -88,18 +83,13 @@ given_step rules list more acc to i m n c o given hm hn none answer h (nothing f
 given_step rules list more acc to i m n c o given hm hn none answer h (took k e is a b start low ln lm) =
     let t = has_taken m c n o (k + 1) e none is answer in
     let item = entry_item rules list acc i m k e hm t.there in
-    let on = t.gone_on in
     let fn = hn.fronts in
-    let u = fn.taken in
-    let v = fn.accepted in
     let at : At (list ++ more) to (k + 1) e = record { low = omega arith; there = item_more list more (k + 1) e item } in
     let some = (hm.status.begins lm).some in
     subst (GivenOk (list ++ more) to n) (ap (λ x. given ++ taken_in x) (sym is)) (given_push (list ++ more) to m n given k e h start a b some (omega arith) at)
 given_step rules list more acc to i m n c o given hm hn none answer h (began s v base join image cause is lm ln start f up) =
     let b = hm.status.blank lm in
     let count = h.count in
-    let b0 = b.0 in
-    let b1 = b.1 in
     let empty : given ≡ [] = nil_of given (omega arith) in
     subst (λ g. GivenOk (list ++ more) to n (g ++ taken_in o)) (sym empty)
     (subst (GivenOk (list ++ more) to n) (ap taken_in (sym is)) (record { count = omega arith; each = λ k number e x. absurd (cc) }))

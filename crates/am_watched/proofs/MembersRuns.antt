@@ -96,7 +96,6 @@ decided_whole c m n t (as_before same) = absurd (
 decided_whole c m n t (of_other f) = absurd (
     let a = and_both (is_member m.status) _ t in
     let b = and_both ((view n).by == n.core.who) (not (stamp_eq (view m) (view n))) a.1 in
-    let y = b.0 in
     cc)
 decided_whole c m n t (decided fresh) = fresh.whole
 

@@ -25,7 +25,6 @@ nobody_else : (rules : Rules) (name : ℕ) → MayFound rules → 256 ≤ name �
 nobody_else rules name may high = split (has rules.founders name)
     (λ t.
     let is : slice_index rules.founders (place_of name) ≡ life_of name = grind (arith, nat_tests) in
-    let places = may.names.places in
     let low : place_of name < length rules.founders = omega arith in
     let most : slice_index rules.founders (place_of name) ≤ 1 = may.first_lives (place_of name) low in
     absurd (omega arith))

@@ -28,8 +28,6 @@ end_accepted all m is = ap (λ (n : protocol.Node). n.core.acc) is.same
 grown_end : (group : List Entry) (all m : protocol.Node) → IsEndOf all m → m.core.base ≤ length group → group_with group m.core ≡ group_with group all.core
 grown_end group all m is base_low =
     let kept = is.stands.kept in
-    let base = is.stands.base in
-    let lowest = kept.low in
     let at : (m.core.log.start - all.core.log.start) + (length group - m.core.log.start) ≡ length group - all.core.log.start = omega arith in
     let rest : drop (length group - m.core.log.start) m.core.log.entries ≡ drop (length group - all.core.log.start) all.core.log.entries =
     ap (drop (length group - m.core.log.start)) kept.entries
@@ -72,7 +70,6 @@ numbers_left events accepted all m few lows is =
     let high = end_high all m is in
     let round = ap (λ (n : protocol.Node). n.core.promise.round) is.same in
     let last = ap (λ (n : protocol.Node). n.sends.last) is.same in
-    let a = lows.entries in let b = lows.round in let c = lows.requests in
     record { entries = omega arith; rounds = omega arith; requests = omega arith }
 
 -- what a step comes to is low, and isn't trimmed beyond the group list
@@ -90,7 +87,6 @@ next_low p e what n is end order =
     let l = length-append p.events (e ∷ []) in
     let high = end_high s n end in
     let stored = (subst (NodeNumbers (length (p.events ++ e ∷ [])) (length (replay (after p e)).group)) now (low p.rules (p.events ++ e ∷ []) name)).entries in
-    let accepted = order.accepted in
     (omega arith, omega arith)
 
 pub ready_at : (p : Play) (first : Rules) (nodes : List Node) (lives : List ℕ) (flags : List Bool) (records : List Record) (group : List Entry) (e : Event)
@@ -111,8 +107,6 @@ ready_at p first nodes lives flags records group e what name stored room view ok
       grows = λ outcome letters m does order.
           let done = step_end (w.nodes (current w place)) (state_of n) m what outcome letters stands.0 stands.1 does in
           let lows = next_low p e what m is done.node order in
-          let base = lows.0 in
-          let accepted = lows.1 in
           (omega arith, omega arith);
     }
 
@@ -141,7 +135,6 @@ nodes_step w e what nodes more place n within here placed kept h =
     go i k at false f =
         let other : i ≡ place → ⊥ = grind (arith, nat_tests) in
         let old = sym (get_set_other nodes place i n other) ∙ at in
-        let count = h.count in
         let inside = get_some nodes i k old in
         let apart : (current w i == current w (place_of e.node)) ≡ false = grind (arith, nat_tests) in
         rw apart (h.each i k old)

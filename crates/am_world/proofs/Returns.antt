@@ -22,7 +22,6 @@ lives_more w lives place life within next most h =
     at : (i : ℕ) → i < 16 → (b : Bool) → (i == place) ≡ b → slice_index (slice_set lives place life) i ≡ (if b then w.lives place + 1 else w.lives i)
     at i k true e =
         let here : i ≡ place = grind (arith, nat_tests) in
-        let count = h.count in
         ap (slice_index (slice_set lives place life)) here ∙ get_or-set_same lives place life 0 (omega arith) ∙ next
     at i k false e = let other : i ≢ place = grind (arith, nat_tests) in get_or-set_other lives place i life 0 other ∙ h.each i k
 
@@ -45,7 +44,6 @@ nodes_more w rules nodes place life n within next new is h =
         → Keeps (w.nodes (name_at i (if b then w.lives place + 1 else w.lives i))) (state_of k)
     go i k at true e =
         let here : i ≡ place = grind (arith, nat_tests) in
-        let count = h.count in
         let same : n ≡ k = get_set_here nodes place n k (omega arith) (ap (slice_get (slice_set nodes place n)) (sym here) ∙ at) in
         let kept = stranger_keeps rules (name_at place life) (state_of k) (ap state_of (sym same) ∙ is) in
         let all : w.nodes (name_at i (w.lives place + 1)) ≡ stranger rules (name_at place life) = ap (λ j. w.nodes (name_at j (w.lives place + 1))) here

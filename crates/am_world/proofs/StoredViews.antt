@@ -260,9 +260,7 @@ more_plain o m x y e plain stays log h =
 
 look_more : (o : Outcome) (m x : Node) (b : Ballot) (v : Verdict) → Looks x b v → o ≡ v.outcome → OneMore o m x → OneMore o m v.node
 look_more o m x b v (decides may) is h = absurd (
-    let first = h.is in
     let same : h.number ≡ top x + 1 = cc in
-    let low = h.low in
     omega arith)
 look_more o m x b v _ is h = more_same o m x v.node (λ t. t) refl h
 
@@ -327,7 +325,6 @@ leads_new c o m x leads h = absurd (
     let b = and_both (is_member x.status) (stamp_eq x.core.promise (view x)) a.0 in
     let same = same_stamp x.core.promise (view x) b.1 in
     let mine : (x.core.promise.by == x.core.who) ≡ true = ap (λ (s : Stamp). s.by == x.core.who) same ∙ a.1 in
-    let other = h.other in
     cc)
 
 change_new : {c : Cause} {o : Outcome} (m x y : Node) → BringsNone c → Change c o x y → Begun c o m x → Begun c o m y

@@ -20,8 +20,6 @@ push-requires-clause-fits c =
 pub push-requires-clause-room : goal.push-requires-clause-room
 push-requires-clause-room c =
     let bound = (is_fit (node_of c.args.parts.now) c.args.number c.args.entry.now (sym c.is_unfit.ensures.value ∙ c.if-is_unfit.false)).bound in
-    let kept = c.is_unfit.ensures.kept in
-    let next = c.requires.next in
     omega arith
 
 pub push-requires-clause-keeps : goal.push-requires-clause-keeps

@@ -8,8 +8,6 @@ loop-before-preserved c =
     let old = c.args.group.now.items in
     let had = vec_len c.args.group.now in
     let before = c.loop-before.before in
-    let low = c.accept_front-before-end.ensures.order.kept in
-    let base = c.requires.base in
     let e = c.in-Some.entry.now in
     let more = next_between core.log had before e (omega arith) (omega arith) (sym c.in-Some.ensures) in
     record {

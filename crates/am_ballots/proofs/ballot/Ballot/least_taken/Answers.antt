@@ -6,7 +6,6 @@ pub returns-clause-own : goal.returns-clause-own
 returns-clause-own c =
     let f : ℕ → ℕ = taken_by c.args.coordinator c.args.taken (ballot_of c.args.self.now) in
     let set = c.each_life-lives.ensures.set in
-    let long = set.places in
     let same = ap length c.each_life-lives.ensures.value in
     let e : c.loop-place.least ≡ least_of f (names_of c.args.names) =
     sym (least_end f c.loop-place.least c.each_life-lives.result c.loop-place.place (omega arith)) ∙ c.loop-place.invariant

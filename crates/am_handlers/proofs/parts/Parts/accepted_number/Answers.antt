@@ -6,11 +6,7 @@ use Rattle.am_handlers.proofs.parts.Parts.accepted_number.Goals as goal
 pub returns-then-stands_at-clause-value : goal.returns-then-stands_at-clause-value
 returns-then-stands_at-clause-value c =
     let order = c.accept_front-accepted.ensures.order in
-    let kept = order.kept in
     let base = c.base-before.ensures.value ∙ ap (λ (p : Parts). p.core.log.start) c.self.view_is in
-    let acc = c.accept_front-accepted.ensures.value in
-    let low = c.loop-before.auto.before in
-    let high = c.loop-before-test.true in
     number_found (node_of c.args.self.now) c.args.req c.loop-before.before order (omega arith) (omega arith) (sym c.stands_at.ensures
     ∙ c.if-stands_at.true) c.loop-before.invariant
 
@@ -30,13 +26,10 @@ returns-then-is_past_last-clause-value c =
 pub returns-clause-value : goal.returns-clause-value
 returns-clause-value c =
     let order = c.accept_front-accepted.ensures.order in
-    let acc = c.accept_front-accepted.ensures.value in
-    let high = c.loop-before-test.false in
     number_none (node_of c.args.self.now) c.args.req order (λ number low below. c.loop-before.invariant number low (omega arith))
 
 pub returns-then-stands_at-clause-due : goal.returns-then-stands_at-clause-due
 returns-then-stands_at-clause-due c =
     let base = c.base-before.ensures.value ∙ ap (λ (p : Parts). p.core.log.start) c.self.view_is in
-    let low = c.loop-before.auto.before in
     stands_due c.args.self.now.core.log (c.args.self.now.core.rules.window + 15) c.args.self.now.core.who c.args.req c.loop-before.before
     c.accept_front-accepted.ensures.kept (omega arith) (sym c.stands_at.ensures ∙ c.if-stands_at.true)

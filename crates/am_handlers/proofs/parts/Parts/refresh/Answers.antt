@@ -8,7 +8,6 @@ pub invariant_of-self : goal.invariant_of-self
 invariant_of-self c =
     let old = node_of c.args.self.now in
     let new = with_led old (core_and_reports c.refresh.new.core c.refresh.new.self) in
-    let own = c.refresh.ensures.own in
     record { keeps = keeps_steady old new (steady_led old _ c.is_sequencer.ensures.order c.refresh.ensures.value) c.args.self.now.keeps (omega arith) }
 
 -- src/parts.rt:63:13

@@ -6,7 +6,6 @@ pub returns : goal.returns
 returns c =
     let w = c.self.inside in
     let shows = shows_at c.args.self.now w.journal.founding w.nodes.items w.lives w.stopped w.journal.records w.group.items c.self.view_is c.self.invariant in
-    let count = shows.standing.count in
     let within : place_of c.args.place < length w.nodes.items = omega arith in
     (shows.standing.each (place_of c.args.place) c.index.result.now
     (read_here w.nodes.items c.from.result (place_of c.args.place) c.index.result.now (c.from.ensures ∙ c.place.ensures.value) within c.index.ensures)).0

@@ -8,7 +8,6 @@ note_answer-requires-clause-few c =
     let count = ap (λ (k : Watching). k.count) c.reserve.ensures.same in
     let events = count_of c.self.inside.run (watching_of c.self.inside.watcher) c.self.invariant in
     let long = ap (λ (p : Play). length p.events) c.self.view_is in
-    let few = c.requires.few in
     omega arith
 
 pub invariant_of-self-2 : goal.invariant_of-self-2

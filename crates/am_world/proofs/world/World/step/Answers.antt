@@ -7,8 +7,6 @@ pub note_step-requires-clause-few : goal.note_step-requires-clause-few
 note_step-requires-clause-few c =
     let count = ap (λ (k : Watching). k.count) c.reserve.ensures.same in
     let events = count_of c.self.inside.run (watching_of c.self.inside.watcher) c.self.invariant in
-    let long = c.events.ensures.value in
-    let few = c.events.ensures.few in
     omega arith
 
 pub note_step-requires-clause-known : goal.note_step-requires-clause-known
