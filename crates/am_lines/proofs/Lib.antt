@@ -2,3 +2,4 @@ pub mod Ends
 pub mod Lines
 pub mod Talks
 pub mod Printed
+pub mod Letters

@@ -2,6 +2,7 @@
 #![tactic(auto)]
 
 pub mod ending;
+pub mod laws;
 pub mod line;
 pub mod reading;
 pub mod speaker;
