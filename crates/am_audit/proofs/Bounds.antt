@@ -1,5 +1,6 @@
 -- What is read is within its limits.
-use Rattle.std.proofs.Common.{◌≡◌, ℕ, ◌≤◌, ◌==◌, List, Option, Some, None, Result, Ok, Err, Bool, true, false, cond, not, ◌||◌, nat_le, length, drop, refl, sym, subst, ap, arith, ◌⊎◌, ⊎_elim, inl, inr}
+use Rattle.std.proofs.Common.{◌≡◌, ℕ, ◌≤◌, ◌==◌, List, Option, Some, None, Result, Ok, Err, Bool, true, false, cond}
+use Rattle.std.proofs.Common.{not, ◌||◌, nat_le, length, drop, refl, sym, subst, ap, arith, ◌⊎◌, ⊎_elim, inl, inr}
 use Rattle.std.specs.Prelude.{codes, slice_index}
 use Rattle.std.specs.Str.Parse.{digits_value}
 use Rattle.std.proofs.lemmas.Bool.{leb-true}
@@ -61,7 +62,8 @@ stamp_within word stamp h =
 resilience_within : (word : List ℕ) (resilience : ℕ) → resilience_of word ≡ Ok resilience → resilience ≤ 15
 unfolding resilience_of
 resilience_within word resilience h =
-    let rest = unguarded ((length word == 0) || not (slice_index word 0 == 114)) (and_then (number_up_to 15 (drop 1 word)) (λ r. cond (r == 0) (Err Form) (Ok r))) Form resilience h in
+    let rest = unguarded ((length word == 0) || not (slice_index word 0 == 114)) (and_then (number_up_to 15 (drop 1 word)) (λ r. cond (r == 0)
+    (Err Form) (Ok r))) Form resilience h in
     let number = bound (number_up_to 15 (drop 1 word)) (λ r. cond (r == 0) (Err Form) (Ok r)) resilience rest.1 in
     let some = unguarded (number.0 == 0) (Ok number.0) Form resilience number.2 in
     let is : number.0 ≡ resilience = same_ok number.0 resilience (Ok number.0) refl some.1 in

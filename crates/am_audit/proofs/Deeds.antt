@@ -1,5 +1,6 @@
 -- What a verdict that agrees means: of events.
-use Rattle.std.proofs.Common.{◌≡◌, ℕ, zero, suc, ◌+◌, ◌<◌, ◌≤◌, ◌==◌, ◌&&◌, nat_lt, List, [], ◌∷◌, length, Option, Some, None, slice_get, Ok, Bool, true, false, cond, refl, sym, subst, ap, ◌∙◌, arith}
+use Rattle.std.proofs.Common.{◌≡◌, ℕ, zero, suc, ◌+◌, ◌<◌, ◌≤◌, ◌==◌, ◌&&◌, nat_lt, List, [], ◌∷◌, length, Option}
+use Rattle.std.proofs.Common.{Some, None, slice_get, Ok, Bool, true, false, cond, refl, sym, subst, ap, ◌∙◌, arith}
 use Rattle.std.specs.Prelude.{unwrap_or, option_map}
 use Rattle.std.proofs.lemmas.Bool.{eqb-true, ltb-true}
 use Rattle.std.proofs.lemmas.Slice.Eq.{bytes_eq-Decides}
@@ -7,7 +8,8 @@ use Rattle.am_fields.specs.Fields.{same}
 use Rattle.am_audit.specs.declared.verdict.Verdict.TheVariants as verdicts
 use Rattle.am_audit.specs.Fields.{data_in}
 use Rattle.am_audit.specs.Lines.{Line, Reading}
-use Rattle.am_audit.specs.Verdicts.{or_else, last_of, is_text, skipped_at, first_skipped, first_asked, body_at, unsent_at, first_unsent, lines_of, count_of, is_line}
+use Rattle.am_audit.specs.Verdicts.{or_else, last_of, is_text, skipped_at, first_skipped, first_asked}
+use Rattle.am_audit.specs.Verdicts.{body_at, unsent_at, first_unsent, lines_of, count_of, is_line}
 use Rattle.am_audit.specs.Verdicts.{unlogged_at, first_unlogged, untaken_at, first_untaken, wrong_events}
 use Rattle.am_audit.specs.Agreement.{Lists, Agreed}
 use Rattle.am_audit.proofs.Segments.{IsRun, none_first, none_second, number_at, count_is_length}
@@ -71,7 +73,8 @@ sent_all sends [] none k text is = cc
 sent_all sends (first ∷ group) none zero text is =
     let same : first ≡ text = cc in
     ap (λ (t : List ℕ). unsent_at sends (data_in t)) (sym same) ∙ none_first (unsent_at sends (data_in first)) (first_unsent sends group) none
-sent_all sends (first ∷ group) none (suc k) text is = sent_all sends group (none_second (unsent_at sends (data_in first)) (first_unsent sends group) none) k text is
+sent_all sends (first ∷ group) none (suc k) text is = sent_all sends group (none_second (unsent_at sends (data_in first))
+    (first_unsent sends group) none) k text is
 
 -- ---- each log is what was taken
 
@@ -95,7 +98,8 @@ there_by log true count (suc k) taken takes line here later is =
     let at : count + 1 + k ≡ count + suc k = omega arith in subst (λ (n : ℕ). IsThere log n line) at (later k is)
 there_by log false count k taken takes line here later is = later k is
 
-taken_there : (logs before takes : List Line) (name k : ℕ) (line : Line) → first_unlogged logs before takes ≡ None → slice_get (lines_of name takes) k ≡ Some line
+taken_there : (logs before takes : List Line) (name k : ℕ) (line : Line) → first_unlogged logs before takes ≡ None
+    → slice_get (lines_of name takes) k ≡ Some line
     → IsThere (lines_of name logs) (count_of name before + k) line
 taken_there logs before [] name k line none is = cc
 taken_there logs before (taken ∷ takes) name k line none is =
@@ -104,10 +108,12 @@ taken_there logs before (taken ∷ takes) name k line none is =
     there_by (lines_of name logs) (taken.name == name) (count_of name before) k taken (lines_of name takes) line
     (λ b. subst (λ (n : ℕ). IsThere (lines_of n logs) (count_of n before) taken) (eqb-true taken.name name b)
     (line_is (slice_get (lines_of taken.name logs) (count_of taken.name before)) taken right))
-    (λ j h. taken_there logs (taken ∷ before) takes name j line (none_second (unlogged_at logs before taken) (first_unlogged logs (taken ∷ before) takes) none) h)
+    (λ j h. taken_there logs (taken ∷ before) takes name j line (none_second (unlogged_at logs before taken) (first_unlogged logs
+    (taken ∷ before) takes) none) h)
     is
 
-counted_by : (b : Bool) (before later whole : ℕ) → (b ≡ true → before < whole) → before ≤ whole → (cond b (before + 1) before ≤ whole → cond b (before + 1) before + later ≤ whole)
+counted_by : (b : Bool) (before later whole : ℕ) → (b ≡ true → before < whole) → before ≤ whole → (cond b (before + 1) before ≤ whole
+    → cond b (before + 1) before + later ≤ whole)
     → before + cond b (later + 1) later ≤ whole
 counted_by true before later whole here low rest = omega (arith, rest (omega (arith, here refl)))
 counted_by false before later whole here low rest = rest low
@@ -119,7 +125,8 @@ all_taken takes before (line ∷ logs) name none low =
     let right = right_if (nat_lt (count_of line.name before) (count_of line.name takes)) (verdicts.Untaken line.name line.number)
     (none_first (untaken_at takes before line) (first_untaken takes (line ∷ before) logs) none) in
     counted_by (line.name == name) (count_of name before) (count_of name logs) (count_of name takes)
-    (λ b. subst (λ (n : ℕ). count_of n before < count_of n takes) (eqb-true line.name name b) (ltb-true (count_of line.name before) (count_of line.name takes) right))
+    (λ b. subst (λ (n : ℕ). count_of n before < count_of n takes) (eqb-true line.name name b) (ltb-true (count_of line.name before)
+    (count_of line.name takes) right))
     low
     (all_taken takes (line ∷ before) logs name (none_second (untaken_at takes before line) (first_untaken takes (line ∷ before) logs) none))
 
@@ -137,7 +144,8 @@ same_lists (x ∷ xs) (y ∷ ys) few each =
     let there : y ≡ x = let h = each 0 x refl in cc in
     ap (λ (l : Line). l ∷ xs) (sym there) ∙ ap (λ (ls : List Line). y ∷ ls) (same_lists xs ys (omega (arith, few)) (λ k z is. each (suc k) z is))
 
-taken_is : (s : Reading) (name : ℕ) → first_unlogged s.logs [] s.takes ≡ None → first_untaken s.takes [] s.logs ≡ None → lines_of name s.takes ≡ lines_of name s.logs
+taken_is : (s : Reading) (name : ℕ) → first_unlogged s.logs [] s.takes ≡ None → first_untaken s.takes [] s.logs ≡ None
+    → lines_of name s.takes ≡ lines_of name s.logs
 taken_is s name logged taken =
     let few = all_taken s.takes [] s.logs name taken (omega arith) in
     same_lists (lines_of name s.takes) (lines_of name s.logs) (omega (arith, few, count_is_length name s.takes, count_is_length name s.logs))
@@ -158,9 +166,12 @@ events_mean s lists none =
     let behind_unsent = none_second (first_unsent s.sends s.group) unlogged behind_skipped in
     record {
       lists = lists;
-      turn = λ name k send is. number_at 1 k (lines_of name s.sends) send (turned s.sends [] name (none_first (first_skipped [] s.sends) unsent none)) is ∙ omega arith;
+      turn = λ name k send is. number_at 1 k (lines_of name s.sends) send (turned s.sends [] name (none_first
+          (first_skipped [] s.sends) unsent none)) is ∙ omega arith;
       asked = λ k from req text body is sent.
           let item = item_of s.group k text is in
-          sent_by s.sends text from req body sent (sent_all s.sends s.group (none_first (first_unsent s.sends s.group) unlogged behind_skipped) item.0 text item.2);
-      taken = λ name. taken_is s name (none_first (first_unlogged s.logs [] s.takes) untaken behind_unsent) (none_second (first_unlogged s.logs [] s.takes) untaken behind_unsent);
+          sent_by s.sends text from req body sent (sent_all s.sends s.group (none_first
+          (first_unsent s.sends s.group) unlogged behind_skipped) item.0 text item.2);
+      taken = λ name. taken_is s name (none_first (first_unlogged s.logs [] s.takes) untaken behind_unsent) (none_second
+          (first_unlogged s.logs [] s.takes) untaken behind_unsent);
     }

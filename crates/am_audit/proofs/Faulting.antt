@@ -1,5 +1,6 @@
 -- What is kept of log lines, with one line more.
-use Rattle.std.proofs.Common.{◌≡◌, ℕ, ◌<◌, ◌==◌, List, [], ◌∷◌, length, get_or, set, Option, Some, None, slice_get, Bool, true, false, cond, sym, ap, ◌∙◌, subst, arith}
+use Rattle.std.proofs.Common.{◌≡◌, ℕ, ◌<◌, ◌==◌, List, [], ◌∷◌, length, get_or, set, Option, Some}
+use Rattle.std.proofs.Common.{None, slice_get, Bool, true, false, cond, sym, ap, ◌∙◌, subst, arith}
 use Rattle.std.specs.Ordering.{nat_cmp}
 use Rattle.std.specs.BTreeMap.{BTreeMap, get}
 use Rattle.std.proofs.lemmas.Option.{slice_get-get_or}
@@ -33,7 +34,8 @@ pub kept_more : (logs : List Line) (last : List (Option ℕ)) (first after sent 
     → ((q : ℕ) → get nat_cmp after q ≡ or_else (get nat_cmp first q) (cond (line.number == q) (Some at) None))
     → IsSent later (line ∷ before) → IsKept logs last first sent before → IsKept logs (set last line.name (Some line.number)) after later (line ∷ before)
 kept_more logs last first after sent later line before at is within size named added sends kept = record {
-  numbers = λ name low. set_one last line.name name (Some line.number) None (omega arith) ∙ ap (cond (line.name == name) (Some line.number)) (kept.numbers name low);
+  numbers = λ name low. set_one last line.name name (Some line.number) None (omega arith)
+      ∙ ap (cond (line.name == name) (Some line.number)) (kept.numbers name low);
   lines = λ number. subst (λ o. IsFirst logs o (first_with number (line ∷ before))) (sym (added number))
       (first_more logs (get nat_cmp first number) (first_with number before) line at (line.number == number) is within (kept.lines number));
   sends = sends;
@@ -52,12 +54,14 @@ fault_by_entry before line verdict gap differs =
     let second = or_else (differs_at (first_with line.number before) line) (twice_at before (data_in line.text) line.number) in
     ap (λ o. or_else o (twice_at before (data_in line.text) line.number)) differs ∙ sym (ap (λ o. or_else o second) gap)
 
-pub fault_by_number : (before : List Line) (line : Line) (verdict : Verdict) → Some verdict ≡ gap_at (last_of line.name before) line → Some verdict ≡ fault_at before line
+pub fault_by_number : (before : List Line) (line : Line) (verdict : Verdict) → Some verdict ≡ gap_at (last_of line.name before) line
+    → Some verdict ≡ fault_at before line
 fault_by_number before line verdict gap =
     let second = or_else (differs_at (first_with line.number before) line) (twice_at before (data_in line.text) line.number) in
     ap (λ o. or_else o second) gap
 
-faulted_item : (logs : List Line) (last : List (Option ℕ)) (first after sent later : BTreeMap ℕ ℕ) (known : Option ℕ) (at : ℕ) (item : Line) (before : List Line)
+faulted_item : (logs : List Line) (last : List (Option ℕ)) (first after sent later : BTreeMap ℕ ℕ) (known : Option ℕ) (at : ℕ) (item : Line)
+    (before : List Line)
     (verdict : Option Verdict) → slice_get logs at ≡ Some item → at < length logs → length last ≡ 256 → item.name < 256
     → gap_at (get_or last item.name None) item ≡ None → ((found : Option Line) → IsFirst logs known found → None ≡ differs_at found item)
     → known ≡ get nat_cmp first item.number
@@ -96,4 +100,5 @@ faulted logs last first after sent later known at n m item line before verdict i
 pub faulted_gap : (last : List (Option ℕ)) (n : ℕ) (item line : Line) (before : List Line) (verdict : Verdict) → line ≡ item → n ≡ item.name
     → Some verdict ≡ gap_at (get_or last n None) item → (get_or last item.name None ≡ last_of item.name before) → Some verdict ≡ fault_at before line
 faulted_gap last n item line before verdict same en gap kept =
-    fault_by_number before item verdict (gap ∙ ap (λ (k : ℕ). gap_at (get_or last k None) item) en ∙ ap (λ o. gap_at o item) kept) ∙ ap (fault_at before) (sym same)
+    fault_by_number before item verdict (gap ∙ ap (λ (k : ℕ). gap_at (get_or last k None) item) en ∙ ap (λ o. gap_at o item) kept)
+    ∙ ap (fault_at before) (sym same)

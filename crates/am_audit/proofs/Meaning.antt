@@ -1,5 +1,6 @@
 -- What a verdict that agrees means: of lists and logs.
-use Rattle.std.proofs.Common.{◌≡◌, ◌≢◌, ℕ, zero, suc, ◌+◌, ◌<◌, ◌==◌, ◌&&◌, nat_le, List, [], ◌∷◌, map, Option, Some, None, slice_get, Result, Ok, Err, Bool, true, false, cond, refl, sym, subst, ap, ◌∙◌, arith, add-one}
+use Rattle.std.proofs.Common.{◌≡◌, ◌≢◌, ℕ, zero, suc, ◌+◌, ◌<◌, ◌==◌, ◌&&◌, nat_le, List, [], ◌∷◌, map, Option, Some, None}
+use Rattle.std.proofs.Common.{slice_get, Result, Ok, Err, Bool, true, false, cond, refl, sym, subst, ap, ◌∙◌, arith, add-one}
 use Rattle.std.proofs.lemmas.Bool.{eq-eqb, eqb-true}
 use Rattle.std.proofs.lemmas.Bool.Decides.{nat_tests}
 use Rattle.std.proofs.lemmas.Slice.Eq.{bytes_eq-Decides}
@@ -15,7 +16,8 @@ use Rattle.am_audit.specs.declared.outline.Outline.TheVariants as outlines
 use Rattle.am_audit.specs.declared.line.Answer.{Answer}
 use Rattle.am_audit.specs.Fields.{outline_of, data_in, is_send}
 use Rattle.am_audit.specs.Lines.{Line, Reading}
-use Rattle.am_audit.specs.Verdicts.{or_else, last_of, first_fault, is_text, first_astray, once_more, stands, is_at, lost_at, first_lost, may_begin, early_at, first_early}
+use Rattle.am_audit.specs.Verdicts.{or_else, last_of, first_fault, is_text, first_astray, once_more}
+use Rattle.am_audit.specs.Verdicts.{stands, is_at, lost_at, first_lost, may_begin, early_at, first_early}
 use Rattle.am_audit.specs.Verdicts.{bare_entry, founds, fits_at, image_after, first_misfit, lines_of, wrong_lists}
 use Rattle.am_audit.specs.Keeping.{first_number}
 use Rattle.am_audit.specs.Agreement.{IsPiece, Begins, BeginsAt, StandsAlone, IsFounded, AreFitting, Lists}
@@ -67,7 +69,8 @@ begun (line ∷ logs) before name none first =
     (begun logs (line ∷ before) name (none_second (early_at (last_of line.name before) line) (first_early (line ∷ before) logs) none))
     first
 
-begins_by : (line : Line) (r : Result Outline FieldFault) → may_begin line r ≡ true → (outline : Outline) × (r ≡ Ok outline) × Begins line.number line.name outline
+begins_by : (line : Line) (r : Result Outline FieldFault) → may_begin line r ≡ true
+    → (outline : Outline) × (r ≡ Ok outline) × Begins line.number line.name outline
 begins_by line (Err fault) h = cc
 begins_by line (Ok (outlines.Data from req)) h = cc
 begins_by line (Ok (outlines.Join name)) h = (outlines.Join name, refl, eqb-true name line.name h)
@@ -106,7 +109,8 @@ pub segment_of : (s : Reading) (name : ℕ) → first_fault [] s.logs ≡ None �
 segment_of s name faultless listed begin some =
     let piece = piece_of s.group s.logs name faultless listed in (
       first_number name s.logs,
-      begins_of s.group name (lines_of name s.logs) (first_number name s.logs) some (first_is_lead name s.logs) (begun s.logs [] name begin refl) piece (named_in name s.logs),
+      begins_of s.group name (lines_of name s.logs) (first_number name s.logs) some (first_is_lead name s.logs)
+          (begun s.logs [] name begin refl) piece (named_in name s.logs),
       piece,
     )
 
@@ -126,10 +130,12 @@ send_is from req body sent is =
 abbrev Stood : ℕ → ℕ → ℕ → List (List ℕ) → Option (Option ℕ) → Type 0
 Stood number from req texts None = (k : ℕ) (text body : List ℕ) → slice_get texts k ≡ Some text → data_in text ≡ Ok (from, req, body) → ⊥
 Stood number from req texts (Some None) = Unit {0}
-Stood number from req texts (Some (Some n)) = (j : ℕ) × (text body : List ℕ) × (n ≡ number + j) × (slice_get texts j ≡ Some text) × (data_in text ≡ Ok (from, req, body))
+Stood number from req texts (Some (Some n)) = (j : ℕ) × (text body : List ℕ) × (n ≡ number + j) × (slice_get texts j ≡ Some text)
+    × (data_in text ≡ Ok (from, req, body))
     × ((k : ℕ) (text' body' : List ℕ) → slice_get texts k ≡ Some text' → data_in text' ≡ Ok (from, req, body') → k ≡ j)
 
-only_first : (from req : ℕ) (text : List ℕ) (texts : List (List ℕ)) → ((k : ℕ) (text body : List ℕ) → slice_get texts k ≡ Some text → data_in text ≡ Ok (from, req, body) → ⊥)
+only_first : (from req : ℕ) (text : List ℕ) (texts : List (List ℕ)) → ((k : ℕ) (text body : List ℕ) → slice_get texts k ≡ Some text
+    → data_in text ≡ Ok (from, req, body) → ⊥)
     → (k : ℕ) (other body : List ℕ) → slice_get (text ∷ texts) k ≡ Some other → data_in other ≡ Ok (from, req, body) → k ≡ 0
 only_first from req text texts later zero other body is sent = refl
 only_first from req text texts later (suc k) other body is sent = absurd (later k other body is sent)
@@ -188,7 +194,8 @@ pub item_of : (group : List (List ℕ)) (k : ℕ) (text : List ℕ) → item_at 
 item_of group zero text is = cc
 item_of group (suc j) text is = (j, omega arith, is)
 
-alone_by : (group : List (List ℕ)) (from req number : ℕ) (o : Option (Option ℕ)) → Stood 1 from req group o → is_at number o ≡ true → StandsAlone group from req number
+alone_by : (group : List (List ℕ)) (from req number : ℕ) (o : Option (Option ℕ)) → Stood 1 from req group o → is_at number o ≡ true
+    → StandsAlone group from req number
 alone_by group from req number None stood is = cc
 alone_by group from req number (Some None) stood is = cc
 alone_by group from req number (Some (Some n)) stood is =
@@ -248,7 +255,8 @@ founded_first [] none text is = cc
 founded_first (first ∷ texts) none text is =
     let same : first ≡ text = cc in
     let found = found_by (outline_of first) (right_if (fits_at 1 blank (outline_of first)) (verdicts.Misfit 1)
-    (none_first (cond (fits_at 1 blank (outline_of first)) None (Some (verdicts.Misfit 1))) (first_misfit 2 (image_after 1 blank (outline_of first)) texts) none)) in
+    (none_first (cond (fits_at 1 blank (outline_of first)) None (Some (verdicts.Misfit 1))) (first_misfit 2 (image_after 1 blank
+    (outline_of first)) texts) none)) in
     (found.0, ap outline_of (sym same) ∙ found.1, found.2)
 
 founded_fits : (group : List (List ℕ)) → first_misfit 1 blank group ≡ None → AreFitting group
@@ -258,8 +266,12 @@ founded_fits (first ∷ texts) none =
     let here = cond (fits_at 1 blank (outline_of first)) None (Some (verdicts.Misfit 1)) in
     let found = found_by (outline_of first) (right_if (fits_at 1 blank (outline_of first)) (verdicts.Misfit 1) (none_first here later none)) in
     let rest = fitting 2 (after blank 1 (bare_entry found.0)) texts (omega arith)
-    (subst (λ (r : Result Outline FieldFault). first_misfit 2 (image_after 1 blank r) texts ≡ None) found.1 (none_second here later none)) in
-    (found.0 ∷ rest.0, ap (λ (r : Result Outline FieldFault). r ∷ map outline_of texts) found.1 ∙ ap (λ (rs : List (Result Outline FieldFault)). Ok found.0 ∷ rs) rest.1, rest.2)
+    (subst (λ (r : Result Outline FieldFault). first_misfit 2 (image_after 1 blank r) texts ≡ None) found.1 (none_second here later none)) in (
+      found.0 ∷ rest.0,
+      ap (λ (r : Result Outline FieldFault). r ∷ map outline_of texts) found.1
+          ∙ ap (λ (rs : List (Result Outline FieldFault)). Ok found.0 ∷ rs) rest.1,
+      rest.2,
+    )
 
 -- lists and logs with nothing wrong
 pub lists_mean : (s : Reading) → wrong_lists s ≡ None → Lists s

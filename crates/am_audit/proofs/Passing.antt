@@ -1,5 +1,6 @@
 -- One line more in a pass over lines.
-use Rattle.std.proofs.Common.{◌≡◌, ℕ, ◌+◌, ◌<◌, ◌≤◌, ◌==◌, List, [], ◌∷◌, length, drop, get_or, set, Option, Some, None, slice_get, Result, Ok, Err, IfOk, true, false, cond, sym, ap, ◌∙◌, arith, ⊎_elim}
+use Rattle.std.proofs.Common.{◌≡◌, ℕ, ◌+◌, ◌<◌, ◌≤◌, ◌==◌, List, [], ◌∷◌, length, drop, get_or, set, Option, Some}
+use Rattle.std.proofs.Common.{None, slice_get, Result, Ok, Err, IfOk, true, false, cond, sym, ap, ◌∙◌, arith, ⊎_elim}
 use Rattle.std.specs.Option.{option_map}
 use Rattle.std.specs.Ordering.{nat_cmp}
 use Rattle.std.specs.Map.{lookup}
@@ -24,7 +25,8 @@ if_ok (Ok x) P Q h p = h x p
 if_ok (Err e) P Q h p = tt
 
 -- the line at an index, as it is kept
-pub line_at : (logs : List TextLine) (at : ℕ) (d : TextLine) (line : Line) → at < length logs → slice_get (lines_in logs) at ≡ Some line → line ≡ line_of (get_or logs at d)
+pub line_at : (logs : List TextLine) (at : ℕ) (d : TextLine) (line : Line) → at < length logs → slice_get (lines_in logs) at ≡ Some line
+    → line ≡ line_of (get_or logs at d)
 line_at logs at d line within is =
     let found : slice_get (lines_in logs) at ≡ Some (line_of (get_or logs at d))
     = slice_get-map line_of logs at ∙ ap (option_map line_of) (slice_get-get_or logs at d within) in
@@ -34,7 +36,8 @@ pub line_here : (logs : List TextLine) (at : ℕ) (d : TextLine) → at < length
 line_here logs at d within = slice_get-map line_of logs at ∙ ap (option_map line_of) (slice_get-get_or logs at d within)
 
 -- the lines from an index on
-pub lines_from : (logs : List TextLine) (at : ℕ) (d : TextLine) → at < length logs → lines_in (drop at logs) ≡ line_of (get_or logs at d) ∷ lines_in (drop (at + 1) logs)
+pub lines_from : (logs : List TextLine) (at : ℕ) (d : TextLine) → at < length logs
+    → lines_in (drop at logs) ≡ line_of (get_or logs at d) ∷ lines_in (drop (at + 1) logs)
 lines_from logs at d within = ap lines_in (drop_more logs at d within)
 
 -- what each name has, where one gets something

@@ -1,5 +1,6 @@
 -- Logs without a fault are pieces of the list.
-use Rattle.std.proofs.Common.{◌≡◌, ℕ, zero, suc, ◌+◌, ◌<◌, ◌≤◌, ◌==◌, ◌&&◌, nat_lt, List, [], ◌∷◌, length, Option, Some, None, slice_get, Bool, true, false, cond, get_or, set, length-set, refl, sym, subst, ap, ◌∙◌, arith}
+use Rattle.std.proofs.Common.{◌≡◌, ℕ, zero, suc, ◌+◌, ◌<◌, ◌≤◌, ◌==◌, ◌&&◌, nat_lt, List, [], ◌∷◌, length, Option, Some, None}
+use Rattle.std.proofs.Common.{slice_get, Bool, true, false, cond, get_or, set, length-set, refl, sym, subst, ap, ◌∙◌, arith}
 use Rattle.std.proofs.Common.{⊎_elim}
 use Rattle.std.proofs.lemmas.Bool.{cases_eq, eq-eqb, eqb-true, lt-ltb, le-ltb}
 use Rattle.std.proofs.lemmas.Bool.Decides.{nat_tests}
@@ -87,7 +88,8 @@ first_is_lead name (line ∷ logs) = lead_by name (line.name == name) line (firs
 
 -- a faultless log's numbers go up by one from its first
 pub log_runs : (logs : List Line) (name : ℕ) → first_fault [] logs ≡ None → IsRun (first_number name logs) (lines_of name logs)
-log_runs logs name none = subst (λ (n : ℕ). IsRun n (lines_of name logs)) (sym (first_is_lead name logs)) (run_from (lines_of name logs) (follows logs [] name none))
+log_runs logs name none = subst (λ (n : ℕ). IsRun n (lines_of name logs)) (sym (first_is_lead name logs)) (run_from (lines_of name logs)
+    (follows logs [] name none))
 
 count_by_length : (b : Bool) (line : Line) (n : ℕ) (lines : List Line) → n ≡ length lines → cond b (n + 1) n ≡ length (cond b (line ∷ lines) lines)
 count_by_length true line n lines is = omega (arith, is)
@@ -137,7 +139,8 @@ number_at start (suc k) (first ∷ lines) line run is = number_at (start + 1) k 
 pub there_at : (group : List (List ℕ)) (k : ℕ) (lines : List Line) (line : Line) → AllIn group lines → slice_get lines k ≡ Some line
     → is_text (item_at group line.number) line.text ≡ true
 there_at group k [] line all is = cc
-there_at group zero (first ∷ lines) line all is = let same : first ≡ line = cc in subst (λ (x : Line). is_text (item_at group x.number) x.text ≡ true) same all.0
+there_at group zero (first ∷ lines) line all is = let same : first ≡ line = cc in
+    subst (λ (x : Line). is_text (item_at group x.number) x.text ≡ true) same all.0
 there_at group (suc k) (first ∷ lines) line all is = there_at group k lines line all.1 is
 
 text_there : (found : Option (List ℕ)) (text other : List ℕ) → is_text found text ≡ true → same text other ≡ is_text found other
@@ -171,10 +174,12 @@ none_past [] k is = omega arith
 none_past (line ∷ lines) zero is = cc
 none_past (line ∷ lines) (suc k) is = omega (arith, none_past lines k is)
 
-next_by : (group : List (List ℕ)) (start k : ℕ) (lines : List Line) (taken : Line) (o : Option Line) → IsRun start lines → AllIn group lines → slice_get lines k ≡ o
+next_by : (group : List (List ℕ)) (start k : ℕ) (lines : List Line) (taken : Line) (o : Option Line) → IsRun start lines → AllIn group lines
+    → slice_get lines k ≡ o
     → is_line o taken ≡ is_next group start (length lines) k taken
 next_by group start k lines taken (Some line) run all is =
-    next_some group start k (length lines) line taken (number_at start k lines line run is) (there_at group k lines line all is) (slice_get_within lines k line is)
+    next_some group start k (length lines) line taken (number_at start k lines line run is) (there_at group k lines line all is)
+    (slice_get_within lines k line is)
 next_by group start k lines taken None run all is =
     let past : length lines ≤ k = none_past lines k is in
     sym (ap (λ b. b && ((taken.number == start + k) && is_text (item_at group taken.number) taken.text)) (le-ltb k (length lines) past))
@@ -183,7 +188,8 @@ next_by group start k lines taken None run all is =
 pub next_is : (group : List (List ℕ)) (logs : List Line) (k : ℕ) (taken : Line) → first_fault [] logs ≡ None → first_astray group logs ≡ None
     → is_line (slice_get (lines_of taken.name logs) k) taken ≡ is_next group (first_number taken.name logs) (count_of taken.name logs) k taken
 next_is group logs k taken faultless listed =
-    next_by group (first_number taken.name logs) k (lines_of taken.name logs) taken (slice_get (lines_of taken.name logs) k) (log_runs logs taken.name faultless)
+    next_by group (first_number taken.name logs) k (lines_of taken.name logs) taken (slice_get (lines_of taken.name logs) k)
+    (log_runs logs taken.name faultless)
     (log_in_list group taken.name logs (all_in group logs listed)) refl
     ∙ ap (λ (n : ℕ). is_next group (first_number taken.name logs) n k taken) (sym (count_is_length taken.name logs))
 

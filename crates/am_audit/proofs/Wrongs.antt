@@ -1,5 +1,6 @@
 -- What is wrong is no verdict that agrees.
-use Rattle.std.proofs.Common.{◌≡◌, ℕ, ◌+◌, ◌==◌, nat_lt, List, [], ◌∷◌, Option, Some, None, slice_get, Result, Ok, Err, Bool, true, false, cond, refl, sym, ap, ◌∙◌}
+use Rattle.std.proofs.Common.{◌≡◌, ℕ, ◌+◌, ◌==◌, nat_lt, List, [], ◌∷◌, Option, Some, None}
+use Rattle.std.proofs.Common.{slice_get, Result, Ok, Err, Bool, true, false, cond, refl, sym, ap, ◌∙◌}
 use Rattle.std.specs.Prelude.{unwrap_or}
 use Rattle.am_base.specs.Lists.{blank}
 use Rattle.am_base.specs.declared.image.Image.{Image}
@@ -11,8 +12,10 @@ use Rattle.am_audit.specs.declared.verdict.Verdict.TheVariants as verdicts
 use Rattle.am_audit.specs.declared.line.Answer.{Answer}
 use Rattle.am_audit.specs.Fields.{outline_of, data_in}
 use Rattle.am_audit.specs.Lines.{Line, Reading}
-use Rattle.am_audit.specs.Verdicts.{or_else, last_of, first_with, first_sent, gap_at, differs_at, twice_by, twice_at, fault_at, first_fault, is_text, first_astray, stands, is_at, first_lost}
-use Rattle.am_audit.specs.Verdicts.{may_begin, early_at, first_early, fits_at, image_after, first_misfit, first_skipped, first_asked, body_at, unsent_at, first_unsent}
+use Rattle.am_audit.specs.Verdicts.{or_else, last_of, first_with, first_sent, gap_at, differs_at, twice_by}
+use Rattle.am_audit.specs.Verdicts.{twice_at, fault_at, first_fault, is_text, first_astray, stands, is_at, first_lost}
+use Rattle.am_audit.specs.Verdicts.{may_begin, early_at, first_early, fits_at, image_after}
+use Rattle.am_audit.specs.Verdicts.{first_misfit, first_skipped, first_asked, body_at, unsent_at, first_unsent}
 use Rattle.am_audit.specs.Verdicts.{lines_of, count_of, is_line, first_unlogged, first_untaken, wrong_lists, wrong_events, verdict_of, is_right}
 use Rattle.am_audit.specs.Agreement.{Lists, Agreed}
 use Rattle.am_audit.proofs.Meaning.{lists_mean}
@@ -77,7 +80,8 @@ early_wrong before (line ∷ lines) = wrong_or (early_at (last_of line.name befo
 misfit_wrong : (number : ℕ) (image : Image) (texts : List (List ℕ)) → Wrong (first_misfit number image texts)
 misfit_wrong number image [] = tt
 misfit_wrong number image (text ∷ texts) = wrong_or _ (first_misfit (number + 1) (image_after number image (outline_of text)) texts)
-    (wrong_if (fits_at number image (outline_of text)) (verdicts.Misfit number) refl) (misfit_wrong (number + 1) (image_after number image (outline_of text)) texts)
+    (wrong_if (fits_at number image (outline_of text)) (verdicts.Misfit number) refl) (misfit_wrong (number + 1) (image_after number image
+    (outline_of text)) texts)
 
 skipped_wrong : (before sends : List Line) → Wrong (first_skipped before sends)
 skipped_wrong before [] = tt
@@ -90,7 +94,8 @@ at_wrong sends (Ok sent) = wrong_if (is_text (body_at sends (first_asked 0 sent.
 
 unsent_wrong : (sends : List Line) (texts : List (List ℕ)) → Wrong (first_unsent sends texts)
 unsent_wrong sends [] = tt
-unsent_wrong sends (text ∷ texts) = wrong_or (unsent_at sends (data_in text)) (first_unsent sends texts) (at_wrong sends (data_in text)) (unsent_wrong sends texts)
+unsent_wrong sends (text ∷ texts) = wrong_or (unsent_at sends (data_in text)) (first_unsent sends texts) (at_wrong sends (data_in text))
+    (unsent_wrong sends texts)
 
 unlogged_wrong : (logs before takes : List Line) → Wrong (first_unlogged logs before takes)
 unlogged_wrong logs before [] = tt
@@ -129,10 +134,12 @@ agreed_by s false lists is = events_mean s lists (right_lists (wrong_events s) v
 pub agrees_means : (s : Reading) → verdict_of s ≡ verdicts.Agrees → Agreed s
 unfolding verdict_of
 agrees_means s is =
-    let right = right_lists (wrong_lists s) (cond (s.events == 0) verdicts.ListsAgree (unwrap_or (wrong_events s) verdicts.Agrees)) verdicts.Agrees (lists_wrong s) is refl in
+    let right = right_lists (wrong_lists s) (cond (s.events == 0) verdicts.ListsAgree (unwrap_or (wrong_events s) verdicts.Agrees)) verdicts.Agrees
+    (lists_wrong s) is refl in
     agreed_by s (s.events == 0) (lists_mean s right.0) right.1
 
 pub lists_agree_means : (s : Reading) → verdict_of s ≡ verdicts.ListsAgree → Lists s
 unfolding verdict_of
 lists_agree_means s is = lists_mean s
-    (right_lists (wrong_lists s) (cond (s.events == 0) verdicts.ListsAgree (unwrap_or (wrong_events s) verdicts.Agrees)) verdicts.ListsAgree (lists_wrong s) is refl).0
+    (right_lists (wrong_lists s) (cond (s.events == 0) verdicts.ListsAgree (unwrap_or (wrong_events s) verdicts.Agrees)) verdicts.ListsAgree
+    (lists_wrong s) is refl).0

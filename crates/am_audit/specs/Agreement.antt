@@ -1,5 +1,6 @@
 -- What is claimed of a text whose verdict agrees.
-use Rattle.std.specs.Prelude.{◌≡◌, ◌≢◌, ℕ, ◌+◌, List, [], ◌∷◌, map, slice_get, Some, Ok, true}
+use Rattle.std.specs.Prelude.{◌≡◌, ◌≢◌, ℕ, ◌+◌, ◌≤◌, ◌==◌, not, List, [], ◌∷◌, ◌++◌, length, map, slice_get, Some, Ok, Err, true}
+use Rattle.std.specs.List.{list_all}
 use Rattle.am_base.specs.Names.{has}
 use Rattle.am_base.specs.Lists.{blank, after, AllFit}
 use Rattle.am_group.specs.Journals.{item_at}
@@ -7,7 +8,7 @@ use Rattle.am_audit.specs.declared.outline.Outline.{Outline}
 use Rattle.am_audit.specs.declared.outline.Outline.TheVariants as outlines
 use Rattle.am_audit.specs.declared.line.Answer.{Answer}
 use Rattle.am_audit.specs.Fields.{outline_of, data_in}
-use Rattle.am_audit.specs.Lines.{Line, Reading}
+use Rattle.am_audit.specs.Lines.{Line, Reading, read_text}
 use Rattle.am_audit.specs.declared.verdict.Verdict.TheVariants as verdicts
 use Rattle.am_audit.specs.Verdicts.{bare_entry, founds, lines_of, verdict_of}
 
@@ -23,7 +24,8 @@ Begins start name (outlines.Leave leaver) = ⊥
 Begins start name (outlines.View stamp members resilience) = (start ≡ 1) × (has members name ≡ true)
 
 abbrev pub BeginsAt : List (List ℕ) → ℕ → ℕ → Type 0
-BeginsAt group name start = (text : List ℕ) × (outline : Outline) × (item_at group start ≡ Some text) × (outline_of text ≡ Ok outline) × Begins start name outline
+BeginsAt group name start = (text : List ℕ) × (outline : Outline) × (item_at group start ≡ Some text) × (outline_of text ≡ Ok outline)
+    × Begins start name outline
 
 -- a send stands at a number of the list
 abbrev pub IsSentAt : List (List ℕ) → ℕ → ℕ → ℕ → Type 0
@@ -67,3 +69,23 @@ AgreesMeans = (s : Reading) → verdict_of s ≡ verdicts.Agrees → Agreed s
 
 abbrev pub ListsAgreeMeans : Type 0
 ListsAgreeMeans = (s : Reading) → verdict_of s ≡ verdicts.ListsAgree → Lists s
+
+-- ---- bad lines
+
+-- whole lines, each behind the one before, and what stands behind them
+abbrev pub lines_and : List (List ℕ) → List ℕ → List ℕ
+lines_and [] more = more
+lines_and (line ∷ lines) more = line ++ 10 ∷ lines_and lines more
+
+-- nothing of a line is a newline
+abbrev pub IsLine : List ℕ → Type 0
+IsLine line = list_all (λ c. not (c == 10)) line ≡ true
+
+abbrev pub AreLines : List (List ℕ) → Type 0
+AreLines [] = Unit {0}
+AreLines (line ∷ lines) = IsLine line × AreLines lines
+
+-- no text begins with lines of which one is bad
+abbrev pub BadLinesStay : Type 0
+BadLinesStay = (lines : List (List ℕ)) (more : List ℕ) (line : ℕ) → AreLines lines → line ≤ length lines
+    → read_text (lines_and lines []) ≡ Err line → read_text (lines_and lines more) ≡ Err line

@@ -1,5 +1,6 @@
 -- The verdicts on what a text was read as.
-use Rattle.std.specs.Prelude.{ℕ, ◌+◌, ◌==◌, ◌&&◌, Bool, true, false, List, [], ◌∷◌, ◌++◌, filter, slice_get, option_map, unwrap_or, Option, Some, None, Result, Ok, Err}
+use Rattle.std.specs.Prelude.{ℕ, ◌+◌, ◌==◌, ◌&&◌, Bool, true, false, List, [], ◌∷◌, ◌++◌, filter}
+use Rattle.std.specs.Prelude.{slice_get, option_map, unwrap_or, Option, Some, None, Result, Ok, Err}
 use Rattle.std.specs.Prelude.{if◌then◌else◌, nat_le, nat_lt, codes, decimal}
 use Rattle.std.specs.List.{list_all}
 use Rattle.am_base.specs.Most.{most_number}
@@ -233,7 +234,8 @@ named word name number = word ++ (codes " " ++ (name_text name ++ (codes " " ++ 
 
 unfoldable pub verdict_text : Verdict → List ℕ
 verdict_text (verdicts.Gap node number) = named (codes "gap") node number
-verdict_text (verdicts.Differs node_a node_b number) = codes "differs " ++ (name_text node_a ++ (codes " " ++ (name_text node_b ++ (codes " " ++ decimal number))))
+verdict_text (verdicts.Differs node_a node_b number) = codes "differs " ++ (name_text node_a ++ (codes " " ++ (name_text node_b ++
+    (codes " " ++ decimal number))))
 verdict_text (verdicts.Twice from req) = named (codes "twice") from req
 verdict_text (verdicts.Astray node number) = named (codes "astray") node number
 verdict_text (verdicts.Lost node req) = named (codes "lost") node req

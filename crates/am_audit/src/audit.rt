@@ -44,7 +44,8 @@ fn wrong_lists(alloc: Global, lines: &Lines) -> Result<Option<Verdict>, NoMemory
 #[tactic(auto, unfolding(crate::specs::Verdicts::wrong_events))]
 fn wrong_events(alloc: Global, lines: &Lines) -> Result<Option<Verdict>, NoMemory>
     requires faultless { first_fault [] (lines_in lines.now.logs.items) ≡ None }
-    requires listed { first_astray (texts_in lines.now.group.items) (lines_in lines.now.logs.items) ≡ None }
+    requires listed { first_astray (texts_in lines.now.group.items)
+        (lines_in lines.now.logs.items) ≡ None }
     ensures { IfOk result (λ found. found ≡ wrong_events (told lines.now)) }
 {
     match first_skipped(&lines.sends) {

@@ -1,4 +1,4 @@
-ghost use Rattle.am_audit.specs.Agreement.{AgreesMeans, ListsAgreeMeans};
+ghost use Rattle.am_audit.specs.Agreement.{AgreesMeans, ListsAgreeMeans, BadLinesStay};
 
 /// What the verdicts that agree mean (docs/AUDIT.md): at Agrees each log is a gapless piece of the one list, from the founders'
 /// view or its name's Join on, and is what the name's takes were; the list is one that a group can have; each send in it was asked
@@ -6,4 +6,9 @@ ghost use Rattle.am_audit.specs.Agreement.{AgreesMeans, ListsAgreeMeans};
 pub fn verdicts_mean()
     ensures agrees { AgreesMeans }
     ensures lists_agree { ListsAgreeMeans }
+{}
+
+/// Where one of some whole lines is bad, it is the bad line whatever stands behind them: no text begins with these lines.
+pub fn bad_lines_stay()
+    ensures { BadLinesStay }
 {}

@@ -65,7 +65,8 @@ fn stand_at(map: &mut BTreeMap<u64, Option<u64>>, text: &[u8], number: u64) -> R
 
 /// Where each send stands.
 fn standing(alloc: Global, group: &[Piece]) -> Result<BTreeMap<u64, Option<u64>>, NoMemory>
-    ensures { IfOk result (λ map. (key : ℕ) → get nat_cmp map key ≡ stands_by_key 1 key (texts_in group.now)) }
+    ensures { IfOk result (λ map. (key : ℕ) → get nat_cmp map key
+        ≡ stands_by_key 1 key (texts_in group.now)) }
 {
     let mut map = BTreeMap::new(alloc);
     let mut at = group.len();
@@ -89,7 +90,8 @@ fn is_at(map: &BTreeMap<u64, Option<u64>>, key: u64, number: u32) -> bool
 /// Whether an answer's send stands at its number alone.
 fn stands_there(map: &BTreeMap<u64, Option<u64>>, group: &[Piece], answer: &Answer) -> bool
     requires { (key : ℕ) → get nat_cmp map.now key ≡ stands_by_key 1 key (texts_in group.now) }
-    ensures { result ≡ is_at answer.now.number (stands 1 answer.now.name answer.now.req (texts_in group.now)) }
+    ensures { result ≡ is_at answer.now.number
+        (stands 1 answer.now.name answer.now.req (texts_in group.now)) }
 {
     is_at(map, send_key(answer.name, answer.req), answer.number)
 }

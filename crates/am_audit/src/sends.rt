@@ -50,7 +50,8 @@ pub fn first_skipped(sends: &[TextLine]) -> Option<Verdict>
 
 /// Keeps the index of a send, before all that were kept.
 fn ask_at(map: &mut BTreeMap<u64, u64>, send: &TextLine, at: u64) -> Result<(), NoMemory>
-    ensures { OnOk result ((from req : ℕ) → req < 4294967296 → get nat_cmp map.new (send_key from req)
+    ensures { OnOk result ((from req : ℕ) → req < 4294967296
+        → get nat_cmp map.new (send_key from req)
         ≡ (if (send.now.name == from) && (send.now.number == req) then Some at
         else get nat_cmp map.old (send_key from req))) }
 {
@@ -94,7 +95,8 @@ pub fn first_unsent(
     sends: &[TextLine],
     group: &[Piece],
 ) -> Result<Option<Verdict>, NoMemory>
-    ensures { IfOk result (λ found. found ≡ first_unsent (lines_in sends.now) (texts_in group.now)) }
+    ensures { IfOk result (λ found. found
+        ≡ first_unsent (lines_in sends.now) (texts_in group.now)) }
 {
     let map = asking(alloc, sends)?;
     for at in 0..group.len() {

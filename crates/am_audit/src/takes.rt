@@ -24,7 +24,8 @@ fn counts(lines: &[TextLine]) -> [usize; 256]
 
 /// The number of each name's first line, 0 where it has none.
 fn firsts(lines: &[TextLine]) -> [u32; 256]
-    ensures { (name : ℕ) → name < 256 → slice_index result name ≡ first_number name (lines_in lines.now) }
+    ensures { (name : ℕ) → name < 256
+        → slice_index result name ≡ first_number name (lines_in lines.now) }
 {
     let mut firsts = [0; 256];
     let mut at = lines.len();

@@ -11,7 +11,8 @@ use am_report::name::push_name;
 
 /// Adds a word, a name and a number.
 fn push_named(out: &mut String, word: &str, name: Name, number: u32) -> Result<(), NoMemory>
-    ensures { OnOk result (string_bytes out.new ≡ string_bytes out.old ++ named word.now name number) }
+    ensures { OnOk result (string_bytes out.new
+        ≡ string_bytes out.old ++ named word.now name number) }
 {
     out.push_str(word)?;
     out.push_str(" ")?;

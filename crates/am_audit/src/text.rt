@@ -21,7 +21,8 @@ fn add<'a>(lines: &mut Lines<'a>, number: u32, line: &'a [u8]) -> Result<(), Tex
 
 /// The first line, and what stands behind it; None where there is no newline.
 fn whole_line(text: &[u8]) -> Option<(&[u8], &[u8])>
-    ensures { MatchOption result ((cut_of 10 text.entry.now).1 ≡ None) (λ x. (cut_of 10 text.entry.now ≡ (x.0.now, Some x.1.now))
+    ensures { MatchOption result ((cut_of 10 text.entry.now).1 ≡ None)
+        (λ x. (cut_of 10 text.entry.now ≡ (x.0.now, Some x.1.now))
         × (length x.1.now < length text.entry.now)) }
 {
     let (line, behind) = cut(text, b'\n');

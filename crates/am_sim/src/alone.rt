@@ -67,7 +67,8 @@ pub fn simulate_alone<S: Source, K: Sink>(
         × ReadToEnd (S.left source.old) (S.left source.new) bytes × (read_text bytes ≡ Err line))) }
     ensures judges { IfSome result (λ status. IfAudit (form_of_words words.now)
         (Judges status (S.left source.old) (S.left source.new))) }
-    ensures audits { IfSome result (λ status. IsOfAudit status → form_of_words words.now ≡ Some form.Audit) }
+    ensures audits { IfSome result (λ status. IsOfAudit status
+        → form_of_words words.now ≡ Some form.Audit) }
 {
     match form_of(words) {
         Some(Form::Play) => Some(play(alloc, source, sink)),

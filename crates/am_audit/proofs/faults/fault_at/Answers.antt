@@ -11,7 +11,9 @@ use Rattle.am_audit.proofs.faults.fault_at.Goals as goal
 pub returns : goal.returns
 returns c = if_ok c.twice_at.result _ _ (λ found sent line before is kept.
     faulted (lines_in c.args.logs.now) c.args.last.now c.args.first.now c.first_at.new.map c.args.sent.now c.twice_at.new.sent c.in_ok-known.known c.args.at
-    c.from.result c.from-3.result _ line before found is (line_at c.args.logs.now c.args.at _ line c.requires is) (rw (length-map c.args.logs.now line_of) c.requires) c.told-last
+    c.from.result c.from-3.result _ line before found is (line_at c.args.logs.now c.args.at _ line c.requires is) (rw
+    (length-map c.args.logs.now line_of) c.requires) c.told-last
     (omega (arith, c.from.ensures)) c.from.ensures c.from-3.ensures
     (sym c.in_default.ensures) c.in_default-differs_at.ensures (c.in_ok-known.ensures.was ∙ ap (get nat_cmp c.args.first.now) c.from-2.ensures)
-    (λ q. c.in_ok-known.ensures.set q ∙ ap (λ (k : ℕ). or_else (get nat_cmp c.args.first.now q) (cond (k == q) (Some c.args.at) None)) c.from-2.ensures) (sent before) kept) c.twice_at.ensures
+    (λ q. c.in_ok-known.ensures.set q ∙ ap (λ (k : ℕ). or_else (get nat_cmp c.args.first.now q) (cond (k == q)
+    (Some c.args.at) None)) c.from-2.ensures) (sent before) kept) c.twice_at.ensures

@@ -11,7 +11,8 @@ loop-at-init c = record {
   before = [];
   kept = record {
     numbers = λ name low. get_or-replicate 256 name None None low;
-    lines = λ number. subst (λ (o : Option ℕ). IsFirst (lines_in c.args.logs.now) o None) (sym (get_empty c.new-first.result number c.new-first.ensures.empty)) refl;
+    lines = λ number. subst (λ (o : Option ℕ). IsFirst (lines_in c.args.logs.now) o None) (sym
+        (get_empty c.new-first.result number c.new-first.ensures.empty)) refl;
     sends = λ key. get_empty c.new-sent.result key c.new-sent.ensures.empty;
   };
   rest = refl;
@@ -25,7 +26,8 @@ loop-at-preserved c =
     record {
       before = _ ∷ inv.before;
       kept = told.1 c.in-None.is;
-      rest = sym (or_else_none _ _ (sym told.0 ∙ c.in-None.is)) ∙ ap (first_fault inv.before) (sym (lines_from c.args.logs.now c.loop-at.at no_line c.loop-at-test.true)) ∙ inv.rest;
+      rest = sym (or_else_none _ _ (sym told.0 ∙ c.in-None.is))
+          ∙ ap (first_fault inv.before) (sym (lines_from c.args.logs.now c.loop-at.at no_line c.loop-at-test.true)) ∙ inv.rest;
     }
 
 pub returns-in-Some : goal.returns-in-Some
@@ -33,4 +35,5 @@ returns-in-Some c =
     let inv = c.loop-at.invariant in
     let here = line_here c.args.logs.now c.loop-at.at no_line c.loop-at-test.true in
     let told = c.in_ok-found.ensures _ inv.before here inv.kept in
-    sym (or_else_some _ _ c.in-Some.fault (sym told.0 ∙ c.in-Some.is)) ∙ ap (first_fault inv.before) (sym (lines_from c.args.logs.now c.loop-at.at no_line c.loop-at-test.true)) ∙ inv.rest
+    sym (or_else_some _ _ c.in-Some.fault (sym told.0 ∙ c.in-Some.is))
+    ∙ ap (first_fault inv.before) (sym (lines_from c.args.logs.now c.loop-at.at no_line c.loop-at-test.true)) ∙ inv.rest

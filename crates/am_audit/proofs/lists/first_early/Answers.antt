@@ -6,7 +6,13 @@ use Rattle.am_audit.proofs.Passing.{no_line, lines_from, last_more, at_last, or_
 use Rattle.am_audit.proofs.lists.first_early.Goals as goal
 
 pub loop-at-init : goal.loop-at-init
-loop-at-init c = record { before = []; size = length-replicate {A = Option ℕ} 256 None; last = λ name low. get_or-replicate 256 name None None low; rest = refl }
+loop-at-init c = record {
+  before = [];
+  size = length-replicate {A = Option ℕ} 256 None;
+  last
+      = λ name low. get_or-replicate 256 name None None low;
+  rest = refl;
+}
 
 pub loop-at-preserved : goal.loop-at-preserved
 loop-at-preserved c =

@@ -6,7 +6,13 @@ use Rattle.am_audit.proofs.Passing.{no_line, lines_from, last_more, at_last, or_
 use Rattle.am_audit.proofs.sends.first_skipped.Goals as goal
 
 pub loop-at-init : goal.loop-at-init
-loop-at-init c = record { before = []; size = length-replicate {A = Option ℕ} 256 None; last = λ name low. get_or-replicate 256 name None None low; rest = refl }
+loop-at-init c = record {
+  before = [];
+  size = length-replicate {A = Option ℕ} 256 None;
+  last
+      = λ name low. get_or-replicate 256 name None None low;
+  rest = refl;
+}
 
 pub loop-at-preserved : goal.loop-at-preserved
 loop-at-preserved c =
@@ -19,5 +25,6 @@ loop-at-preserved c =
       before = line ∷ inv.before;
       size = length-set c.loop-at.last c.from-in-loop-at.result (Some line.number) ∙ inv.size;
       last = last_more c.loop-at.last inv.before line c.from-in-loop-at.result inv.size named c.from-in-loop-at.ensures inv.last;
-      rest = sym (or_else_none _ _ none) ∙ ap (first_skipped inv.before) (sym (lines_from c.args.sends.now c.loop-at.at no_line c.loop-at-test.true)) ∙ inv.rest;
+      rest = sym (or_else_none _ _ none) ∙ ap (first_skipped inv.before) (sym
+          (lines_from c.args.sends.now c.loop-at.at no_line c.loop-at-test.true)) ∙ inv.rest;
     }

@@ -21,14 +21,16 @@ loop-at-preserved c =
     let line = line_of (get_or c.args.takes.now c.loop-at.at no_line) in
     let named : (get_or c.args.takes.now c.loop-at.at no_line).name < 256 = omega (arith, c.from-name.ensures) in
     let right = taken_next (texts_in c.args.group.now) (lines_in c.args.logs.now) inv.before line c.firsts-firsts.result c.counts-lengths.result c.loop-at.done
-    c.from-name.result c.is_next.result c.requires.faultless c.requires.listed named c.from-name.ensures c.firsts-firsts.ensures c.counts-lengths.ensures inv.done c.is_next.ensures in
+    c.from-name.result c.is_next.result c.requires.faultless c.requires.listed named c.from-name.ensures c.firsts-firsts.ensures
+    c.counts-lengths.ensures inv.done c.is_next.ensures in
     let none : unlogged_at (lines_in c.args.logs.now) inv.before line ≡ None
     = ap (λ b. cond b None (Some (verdicts.Unlogged line.name line.number))) (right ∙ c.if-not-is_next.false) in
     record {
       before = line ∷ inv.before;
       so_many = omega (arith, inv.so_many);
       done = count_more c.loop-at.done inv.before line c.from-name.result named c.from-name.ensures inv.done;
-      rest = sym (or_else_none _ _ none) ∙ ap (first_unlogged (lines_in c.args.logs.now) inv.before) (sym (lines_from c.args.takes.now c.loop-at.at no_line c.loop-at-test.true)) ∙ inv.rest;
+      rest = sym (or_else_none _ _ none) ∙ ap (first_unlogged (lines_in c.args.logs.now) inv.before) (sym
+          (lines_from c.args.takes.now c.loop-at.at no_line c.loop-at-test.true)) ∙ inv.rest;
     }
 
 pub returns-then-not-is_next : goal.returns-then-not-is_next
@@ -37,8 +39,10 @@ returns-then-not-is_next c =
     let line = line_of (get_or c.args.takes.now c.loop-at.at no_line) in
     let named : (get_or c.args.takes.now c.loop-at.at no_line).name < 256 = omega (arith, c.from-name.ensures) in
     let right = taken_next (texts_in c.args.group.now) (lines_in c.args.logs.now) inv.before line c.firsts-firsts.result c.counts-lengths.result c.loop-at.done
-    c.from-name.result c.is_next.result c.requires.faultless c.requires.listed named c.from-name.ensures c.firsts-firsts.ensures c.counts-lengths.ensures inv.done c.is_next.ensures in
+    c.from-name.result c.is_next.result c.requires.faultless c.requires.listed named c.from-name.ensures c.firsts-firsts.ensures
+    c.counts-lengths.ensures inv.done c.is_next.ensures in
     let some : unlogged_at (lines_in c.args.logs.now) inv.before line ≡ Some (verdicts.Unlogged line.name line.number)
     = ap (λ b. cond b None (Some (verdicts.Unlogged line.name line.number))) (right ∙ c.if-not-is_next.true) in
     ap (λ (n : ℕ). Some (verdicts.Unlogged n line.number)) c.of_byte.ensures
-    ∙ sym (or_else_some _ _ _ some) ∙ ap (first_unlogged (lines_in c.args.logs.now) inv.before) (sym (lines_from c.args.takes.now c.loop-at.at no_line c.loop-at-test.true)) ∙ inv.rest
+    ∙ sym (or_else_some _ _ _ some) ∙ ap (first_unlogged (lines_in c.args.logs.now) inv.before) (sym
+    (lines_from c.args.takes.now c.loop-at.at no_line c.loop-at-test.true)) ∙ inv.rest

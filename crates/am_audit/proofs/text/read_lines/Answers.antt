@@ -13,7 +13,8 @@ loop-line-preserved c = record {
 
 pub returns-in-Err : goal.returns-in-Err
 returns-in-Err c = refused c.loop-line.number c.in-Err.refusal (told c.add.new.lines) (add_line (told c.loop-line.lines) c.in-Some.line.now) _
-    (λ bad. sym c.loop-line.invariant.read ∙ line_bad c.loop-line.number (told c.loop-line.lines) c.loop-line.rest.now c.in-Some.line.now c.in-Some.behind.now c.in-Some.ensures.0 bad)
+    (λ bad. sym c.loop-line.invariant.read ∙ line_bad c.loop-line.number
+    (told c.loop-line.lines) c.loop-line.rest.now c.in-Some.line.now c.in-Some.behind.now c.in-Some.ensures.0 bad)
     c.in-Err.ensures
 
 pub returns : goal.returns
