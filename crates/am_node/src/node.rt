@@ -8,6 +8,7 @@ use am_base::boxed::Boxed;
 use am_base::entry::Entry;
 use am_base::event::NodeEvent;
 use am_base::founding::Founding;
+use am_base::limits::MOST_NUMBER;
 use am_base::name::{Name, Stamp};
 use am_base::names::Names;
 use am_base::outcome::Outcome;
@@ -28,7 +29,7 @@ pub struct Node {
 }
 
 impl Node {
-    ghost use Rattle.std.specs.Prelude.{◌≡◌, ◌==◌, ◌≤◌, [], length, not, true, IfOk};
+    ghost use Rattle.std.specs.Prelude.{◌≡◌, ◌==◌, ◌≤◌, ◌↔◌, [], length, not, true, IfOk, IsTrue};
     ghost use Rattle.std.specs.Option.{option_copied};
     ghost use Rattle.am_handlers.specs.Prelude.{entry_at, has, IsInOrder, members, image_of, top, view, Does, Tells};
     ghost use Rattle.am_model.specs.Node.{founder, stranger};
@@ -72,6 +73,15 @@ impl Node {
             },
             _ => on_call(&mut self.parts, event, spare, out),
         }
+    }
+
+    /// Whether none of its numbers is at its end, as `step` wants it: those of entries and of rounds, and of its own requests.
+    pub fn has_numbers_left(&self) -> bool
+        ensures { IsTrue result ↔ HasNumbersLeft (state_of self.now) }
+    {
+        self.parts.core.log.top() + 1 < MOST_NUMBER
+            && self.parts.core.promise.round < MOST_NUMBER
+            && self.parts.sender.last() < MOST_NUMBER
     }
 
     /// A founder of the group. It is an error where there is no memory.

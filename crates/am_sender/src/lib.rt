@@ -116,6 +116,14 @@ impl Sender {
         Ok(self.last)
     }
 
+    /// The last request number that it gave out, 0 where it gave out none.
+    pub fn last(&self) -> u32
+        ensures value { result ≡ self.now.last }
+        ensures within { result ≤ most_number }
+    {
+        self.last
+    }
+
     /// The oldest send that has no number.
     fn first_unsettled(&self) -> Option<(u32, &Body)>
         ensures kept { AreKept self.now.last self.now.queue }

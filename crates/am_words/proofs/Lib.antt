@@ -1,3 +1,4 @@
 mod Digits
 mod Fits
 mod Words
+mod Nodes

@@ -1,5 +1,5 @@
 -- The forms of the program's words.
-use Rattle.std.specs.Prelude.{ℕ, ◌^◌, List, [], ◌∷◌, length, codes, Option, Some, None, option_map, Bool, ◌&&◌, nat_eq, nat_lt, nat_le, if◌then◌else◌}
+use Rattle.std.specs.Prelude.{ℕ, ◌^◌, List, [], ◌∷◌, length, codes, Option, Some, None, option_map, Bool, false, drop, ◌&&◌, nat_eq, nat_lt, nat_le, if◌then◌else◌}
 use Rattle.std.specs.Cmp.Lexicographic.{pointwise}
 use Rattle.std.specs.List.{list_all}
 use Rattle.std.specs.Char.{is_ascii_digit}
@@ -8,6 +8,7 @@ use Rattle.am_base.specs.Most.{most_events}
 use Rattle.am_words.specs.declared.form.Form.{Form}
 use Rattle.am_words.specs.declared.form.Form.TheVariants as form
 use Rattle.am_words.specs.declared.form.Numbers.{Numbers}
+use Rattle.am_words.specs.Nodes.{node_of}
 
 -- whether two texts are the same, byte by byte
 abbrev pub same : List ℕ → List ℕ → Bool
@@ -59,9 +60,18 @@ one_form word = if same word (codes "play") then Some form.Play else (if same wo
     else (if same word (codes "audit") then Some form.Audit else None))
 
 -- one of the words play, race and audit, or gen with its options
+unfoldable pub other_form : List (List ℕ) → Option Form
+other_form (word ∷ []) = one_form word
+other_form words = option_map form.Gen (gen_of words)
+
+-- words begin with node
+abbrev pub is_node : List (List ℕ) → Bool
+is_node [] = false
+is_node (word ∷ words) = same word (codes "node")
+
+-- one of these, or node with its options
 unfoldable pub form_of : List (List ℕ) → Option Form
-form_of (word ∷ []) = one_form word
-form_of words = option_map form.Gen (gen_of words)
+form_of words = if is_node words then option_map form.Node (node_of (drop 1 words)) else other_form words
 
 -- the words are gen
 abbrev pub IsGen : Option Form → Type 0
@@ -69,4 +79,5 @@ IsGen (Some (form.Gen numbers)) = Unit {0}
 IsGen (Some form.Play) = ⊥
 IsGen (Some form.Race) = ⊥
 IsGen (Some form.Audit) = ⊥
+IsGen (Some (form.Node node)) = ⊥
 IsGen None = ⊥

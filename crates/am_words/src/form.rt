@@ -2,8 +2,9 @@ ghost use Rattle.std.specs.Prelude.{◌≡◌, ◌≤◌, [], ◌∷◌, map, If
 ghost use Rattle.std.specs.List.{list_all};
 ghost use Rattle.std.specs.Char.{is_ascii_digit};
 ghost use Rattle.am_base.specs.Most.{most_events};
-ghost use Rattle.am_words.specs.Forms.{form_of, number_of, numbers_of, has_options};
+ghost use Rattle.am_words.specs.Forms.{form_of, other_form, is_node, number_of, numbers_of, has_options};
 
+use crate::node::{NodeWords, node_of};
 use am_base::limits::MOST_EVENTS;
 
 /// The numbers of `gen`: the seed, and how many events there are, 1 to 100,000.
@@ -24,6 +25,8 @@ pub enum Form {
     Gen(Numbers),
     /// To audit a text.
     Audit,
+    /// To be a node that speaks lines.
+    Node(NodeWords),
 }
 
 /// Whether all bytes are decimal digits.
@@ -68,9 +71,9 @@ fn has_options(word: &str, first: &str, second: &str, one: &str, other: &str) ->
 }
 
 /// The form of five words.
-#[tactic(auto, unfolding(crate::specs::Forms::form_of))]
+#[tactic(auto, unfolding(crate::specs::Forms::other_form))]
 fn form_of_five(word: &str, first: &str, one: &str, second: &str, other: &str) -> Option<Form>
-    ensures { result ≡ form_of (word.now ∷ first.now ∷ one.now ∷ second.now ∷ other.now ∷ []) }
+    ensures { result ≡ other_form (word.now ∷ first.now ∷ one.now ∷ second.now ∷ other.now ∷ []) }
 {
     if has_options(word, first, second, "--seed", "--count") {
         return numbers_of(one, other).map(Form::Gen);
@@ -82,9 +85,9 @@ fn form_of_five(word: &str, first: &str, one: &str, second: &str, other: &str) -
 }
 
 /// The form of one word.
-#[tactic(auto, unfolding(crate::specs::Forms::form_of))]
+#[tactic(auto, unfolding(crate::specs::Forms::other_form))]
 fn form_of_one(word: &str) -> Option<Form>
-    ensures { result ≡ form_of (word.now ∷ []) }
+    ensures { result ≡ other_form (word.now ∷ []) }
 {
     if word == "play" {
         return Some(Form::Play);
@@ -98,14 +101,34 @@ fn form_of_one(word: &str) -> Option<Form>
     None
 }
 
-/// The form of the words after the program's name: one of the words `play`, `race` and `audit`, or `gen` with the options
-/// `--seed N` and `--count N`, each once, in either order. None where they have no form.
+/// The form of words that don't begin with `node`.
+fn other_form(words: &[&str]) -> Option<Form>
+    ensures { result ≡ other_form (map (λ word. word.now) words.now) }
+{
+    if words.len() == 1 {
+        return form_of_one(words[0]);
+    }
+    if words.len() == 5 {
+        return form_of_five(words[0], words[1], words[2], words[3], words[4]);
+    }
+    None
+}
+
+/// Whether words begin with `node`.
+fn is_node(words: &[&str]) -> bool
+    ensures { result ≡ is_node (map (λ word. word.now) words.now) }
+{
+    !words.is_empty() && words[0] == "node"
+}
+
+/// The form of the words after the program's name: one of the words `play`, `race` and `audit`, `gen` with the options
+/// `--seed N` and `--count N`, each once, in either order, or `node` with its options. None where they have no form.
+#[tactic(auto, unfolding(crate::specs::Forms::form_of))]
 pub fn form_of(words: &[&str]) -> Option<Form>
     ensures { result ≡ form_of (map (λ word. word.now) words.now) }
 {
-    match words {
-        [word] => form_of_one(word),
-        [word, first, one, second, other] => form_of_five(word, first, one, second, other),
-        _ => None,
+    if is_node(words) {
+        return node_of(&words[1..]).map(Form::Node);
     }
+    other_form(words)
 }

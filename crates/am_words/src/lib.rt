@@ -2,6 +2,7 @@
 #![tactic(auto)]
 
 pub mod form;
+pub mod node;
 pub mod options;
 #[cfg(test)]
 mod tests;

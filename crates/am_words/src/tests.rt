@@ -56,6 +56,86 @@ fn gen_has_its_numbers(rt: HostRuntime) {
     }
 }
 
+/// Words behind `node` that ask for a node, with its name's place and life and the window of its group.
+const NODES: [(&[&str], u8, u8, u16); 3] = [
+    (&["node", "--name", "1", "--founders", "0,1,2"], 1, 1, 64),
+    (
+        &[
+            "node",
+            "--window",
+            "1008",
+            "--founders",
+            "0",
+            "--name",
+            "15/16",
+        ],
+        15,
+        16,
+        1008,
+    ),
+    (
+        &[
+            "node",
+            "--pb-up-to",
+            "1024",
+            "--resilience",
+            "15",
+            "--name",
+            "0",
+            "--window",
+            "1",
+            "--founders",
+            "3,7",
+        ],
+        0,
+        1,
+        1,
+    ),
+];
+
+/// Words that begin with `node` and have no form.
+const NO_NODES: [&[&str]; 14] = [
+    &["node"],
+    &["node", "--name"],
+    &["node", "--name", "1"],
+    &["node", "--founders", "0"],
+    &["node", "--name", "1", "--founders", "-"],
+    &["node", "--name", "1", "--founders", "0/2"],
+    &["node", "--name", "1", "--founders", "1,0"],
+    &["node", "--name", "16", "--founders", "0"],
+    &["node", "--name", "01", "--founders", "0"],
+    &["node", "--name", "1", "--founders", "0", "--name", "1"],
+    &["node", "--name", "1", "--founders", "0", "--window", "0"],
+    &["node", "--name", "1", "--founders", "0", "--window", "1009"],
+    &[
+        "node",
+        "--name",
+        "1",
+        "--founders",
+        "0",
+        "--resilience",
+        "16",
+    ],
+    &["node", "--name=1", "--founders=0"],
+];
+
+#[test]
+fn node_has_its_options(rt: HostRuntime) {
+    for (words, place, life, window) in NODES {
+        match form_of(words) {
+            Some(Form::Node(node)) => {
+                assert_eq!(rt; node.name.place(), place);
+                assert_eq!(rt; node.name.life(), life);
+                assert_eq!(rt; node.founding.window(), window);
+            }
+            _ => assert!(rt; false),
+        }
+    }
+    for words in NO_NODES {
+        assert_eq!(rt; form_of(words), None);
+    }
+}
+
 #[test]
 fn other_words_have_no_form(rt: HostRuntime) {
     assert_eq!(rt; form_of(&["play"]), Some(Form::Play));

@@ -1,0 +1,5 @@
+pub mod Ends
+pub mod Lines
+pub mod Talks
+pub mod Printed
+pub mod Letters

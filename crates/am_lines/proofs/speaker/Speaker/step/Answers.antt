@@ -1,0 +1,6 @@
+use Rattle.am_lines.proofs.Ends.{step_answers}
+use Rattle.am_lines.proofs.speaker.Speaker.step.Goals as goal
+
+pub returns-clause-ok : goal.returns-clause-ok
+returns-clause-ok c =
+    step_answers _ _ _ c.args.event.now c.step-outcome.result _ _ _ _ _ c.accept_front-order.ensures.order c.step-outcome.ensures.does c.letters.ensures.value c.push_step-told.ensures

@@ -1,0 +1,71 @@
+use Rattle.std.proofs.Common.{◌++◌, [], take, subst, sym, ◌∙◌, refl}
+use Rattle.am_io.proofs.Bytes.{takes_then}
+use Rattle.am_play.specs.World.{first_node}
+use Rattle.am_lines.specs.declared.ending.SpokenEnd.{SpokenEnd}
+use Rattle.am_lines.specs.Speaking.{Spoke}
+use Rattle.am_lines.proofs.Talks.{spoke_all, spoke_last, spoke_part, taken_to_end, consumes_none}
+use Rattle.am_lines.proofs.speaking.speak.Goals as goal
+use Rattle.am_lines.proofs.speaking.speak.Goals.{in-Ok-end_line, in-Err}
+
+pub reads-init : goal.reads-init
+reads-init g c = record {
+  talks = ([], consumes_none (g.S.Source.left c.args.source.now), c.in-Ok.ensures (g.K.Sink.contents c.args.sink.now));
+  reads = refl;
+  writes = refl;
+}
+
+pub returns-in-End-clause-spoke : goal.returns-in-End-clause-spoke
+returns-in-End-clause-spoke g c =
+    let rules = c.args.founding.now in
+    let name = c.args.name in
+    let start = g.K.Sink.contents c.args.sink.now in
+    let held = g.K.Sink.contents c.end_line.new.sink in
+    let before = g.S.Source.left c.args.source.now in
+    let after = g.S.Source.left c.read.new.self in
+    let given = c.reads.invariant.talks.0 in
+    let taken = c.reads.invariant.talks.1 in
+    let inv = c.reads.invariant.talks.2 in
+    let P : SpokenEnd → Type 0 = λ end. Spoke rules name end before after start held in
+    elim c.match-end_line.branch [
+      | in-Ok-end_line w ↦ subst P (sym w.result-is)
+          (spoke_all rules name before _ after start held given _ _ taken c.in-End.ensures.end (w.in-Ok-end_line.ensures.talks rules (first_node rules name) start given inv))
+      | in-Err w ↦ subst P (sym (w.result-is ∙ w.end.ensures))
+          (spoke_last rules name w.in-Err.fault before before after start held given (taken_to_end given before _ after taken c.in-End.ensures.end)
+          (w.in-Err.ensures.talks rules (first_node rules name) start given inv))
+    ]
+
+pub returns-in-Err-take_all-clause-spoke : goal.returns-in-Err-take_all-clause-spoke
+returns-in-Err-take_all-clause-spoke g c =
+    let rules = c.args.founding.now in
+    let name = c.args.name in
+    let start = g.K.Sink.contents c.args.sink.now in
+    let held = g.K.Sink.contents c.take_all.new.sink in
+    let before = g.S.Source.left c.args.source.now in
+    let after = g.S.Source.left c.read.new.self in
+    let given = c.reads.invariant.talks.0 in
+    let taken = c.reads.invariant.talks.1 in
+    let inv = c.reads.invariant.talks.2 in
+    let P : SpokenEnd → Type 0 = λ end. Spoke rules name end before after start held in
+    subst P (sym c.end-in-Err-take_all.ensures)
+    (spoke_part rules name c.in-Err-take_all.fault before after start held (given ++ take c.in-Took.n c.read.new.into) (takes_then before _ after given _ taken c.in-Took.ensures.took)
+    (c.in-Err-take_all.ensures.talks rules (first_node rules name) start given inv))
+
+pub reads-preserved : goal.reads-preserved
+reads-preserved g c =
+    let rules = c.args.founding.now in
+    let name = c.args.name in
+    let start = g.K.Sink.contents c.args.sink.now in
+    let before = g.S.Source.left c.args.source.now in
+    let after = g.S.Source.left c.read.new.self in
+    let given = c.reads.invariant.talks.0 in
+    let taken = c.reads.invariant.talks.1 in
+    let inv = c.reads.invariant.talks.2 in
+    record {
+      talks = (
+        given ++ take c.in-Took.n c.read.new.into,
+        takes_then before _ after given _ taken c.in-Took.ensures.took,
+        c.in_default-take_all.ensures.talks rules (first_node rules name) start given inv,
+      );
+      reads = c.in-Took.ensures.counts ∙ c.reads.invariant.reads;
+      writes = c.in_default-take_all.ensures.counts ∙ c.reads.invariant.writes;
+    }

@@ -1,0 +1,106 @@
+-- What a node answers to a line.
+use Rattle.std.specs.Prelude.{ℕ, ◌+◌, List, ◌++◌, codes, decimal, Bool, true, false, ◌&&◌, nat_lt, if◌then◌else◌, slice_index}
+use Rattle.std.specs.List.{flat_map}
+use Rattle.am_base.specs.Founding.{Rules}
+use Rattle.am_base.specs.Most.{most_number}
+use Rattle.am_base.specs.Names.{place_of, has}
+use Rattle.am_base.specs.declared.event.NodeEvent.TheVariants as does
+use Rattle.am_packet.specs.Boxes.{Letter}
+use Rattle.am_codec.specs.Spelling.{spelling}
+use Rattle.am_model.specs.Node.{Node, top, view, members, image_of}
+use Rattle.am_model.specs.Emit.{Step}
+use Rattle.am_model.specs.Step.{step}
+use Rattle.am_info.specs.Info.{role_of, waited_for}
+use Rattle.am_info.specs.declared.info.Role.{Role}
+use Rattle.am_info.specs.declared.info.Role.TheVariants as role
+use Rattle.am_play.specs.Text.{stamp_text, names_text, hex_byte, outcome_text}
+use Rattle.am_lines.specs.declared.line.Line.{Line}
+use Rattle.am_lines.specs.declared.line.Line.TheVariants as line
+use Rattle.am_lines.specs.Lines.{line_of, cause_of}
+
+-- ---- letters
+
+-- a letter's addressees, exactly: its names, with a star before them where it is for any life of their places
+unfoldable pub to_text : Letter → List ℕ
+to_text letter = if letter.any then codes "*" ++ names_text letter.to else names_text letter.to
+
+-- a letter behind an answer: its addressees and its bytes
+unfoldable pub letter_text : Letter → List ℕ
+letter_text letter = codes " | " ++ (to_text letter ++ (codes " " ++ flat_map hex_byte (spelling letter.packet)))
+
+-- a name is addressed: it is in the set, or any life of its place is
+abbrev pub is_addressed : Bool → List ℕ → ℕ → Bool
+is_addressed any to name = if any then nat_lt 0 (slice_index to (place_of name)) else has to name
+
+-- ---- what a node tells of itself
+
+abbrev pub role_word : Role → List ℕ
+role_word role.Stranger = codes "stranger"
+role_word role.Asking = codes "asking"
+role_word role.Member = codes "member"
+role_word role.Sequencer = codes "sequencer"
+role_word role.Coordinator = codes "coordinator"
+role_word role.Departed = codes "departed"
+
+-- its resilience and the numbers of its list, with a blank around each: base, taken, accepted, top
+unfoldable pub numbers_text : Node → List ℕ
+numbers_text m =
+    codes " " ++ (decimal (image_of m).resilience
+    ++ (codes " " ++ (decimal m.core.base
+    ++ (codes " " ++ (decimal m.core.taken
+    ++ (codes " " ++ (decimal m.core.acc
+    ++ (codes " " ++ (decimal (top m) ++ codes " ")))))))))
+
+-- its role; its view, and the number of that; the members; its numbers; the names that its ballot waits for
+unfoldable pub info_text : Node → List ℕ
+info_text m =
+    role_word (role_of m)
+    ++ (codes " " ++ (stamp_text (view m)
+    ++ (codes " " ++ (decimal (image_of m).view_number
+    ++ (codes " " ++ (names_text (members m)
+    ++ (numbers_text m ++ names_text (waited_for m.ballot))))))))
+
+-- ---- answers
+
+-- what a node makes of a line: the node after it, and what it answers, without the newline
+pub record Answer : Type 0 where
+  pub node : Node
+  pub text : List ℕ
+
+-- an answer that changes nothing
+abbrev pub unchanged : Node → List ℕ → Answer
+unchanged m text = record { node = m; text = text }
+
+-- the answer of a step: its outcome, and its letters in order
+abbrev pub stepped : Rules → Step → Answer
+stepped rules s = record { node = s.node; text = outcome_text rules s.outcome ++ flat_map letter_text s.letters }
+
+-- the answer to a line where no number is used up
+abbrev pub answer_by : Rules → Node → Line → Answer
+answer_by rules m (line.Does event) = stepped rules (step m event)
+answer_by rules m (line.Hears any to bytes) =
+    if is_addressed any to m.core.who then stepped rules (step m (does.Hear bytes)) else unchanged m (codes "not-addressed")
+answer_by rules m line.Info = unchanged m (info_text m)
+answer_by rules m (line.Bad cause) = unchanged m (codes "bad line " ++ decimal (cause_of cause))
+
+-- none of a node's numbers is at its end
+abbrev pub has_numbers_left : Node → Bool
+has_numbers_left m = nat_lt (top m + 1) most_number && (nat_lt m.core.promise.round most_number && nat_lt m.sends.last most_number)
+
+-- the line asks what the node knows
+abbrev pub is_info : Line → Bool
+is_info (line.Does event) = false
+is_info (line.Hears any to bytes) = false
+is_info line.Info = true
+is_info (line.Bad cause) = false
+
+-- where one is, every line but info has one answer
+abbrev pub answer_to : Rules → Node → Line → Answer
+answer_to rules m said =
+    if is_info said then unchanged m (info_text m)
+    else if has_numbers_left m then answer_by rules m said
+    else unchanged m (codes "no numbers left")
+
+-- the answer to a line's bytes
+unfoldable pub answer_of : Rules → Node → List ℕ → Answer
+answer_of rules m text = answer_to rules m (line_of rules text)

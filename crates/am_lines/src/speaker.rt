@@ -1,0 +1,213 @@
+ghost use Rattle.std.specs.Prelude.{◌≡◌, true, false, OnOk, OnErr, IfOk, IsErr, string_bytes};
+ghost use Rattle.am_info.specs.Nodes.{HasNumbersLeft, HasPlace};
+ghost use Rattle.am_node.specs.Stands.{state_of};
+ghost use Rattle.am_lines.specs.Answers.{is_addressed, is_info, info_text, unchanged};
+
+use crate::line::{BadLine, Line};
+use crate::reading::read_line;
+use crate::telling::{push_info, push_step};
+use am_base::NoMemory;
+use am_base::boxed::Boxed;
+use am_base::entry::Entry;
+use am_base::event::NodeEvent;
+use am_base::founding::Founding;
+use am_base::items::Items;
+use am_base::name::Name;
+use am_base::names::Names;
+use am_letter::out_box::{OutBox, Rooms};
+use am_node::node::Node;
+use std::alloc::Global;
+use std::mem;
+
+/// A node that speaks lines. Contracts see it as its group's founding, its node, of which it keeps the end of the list, and
+/// whether there was no memory for an answer.
+#[derive(Drop)]
+pub struct Speaker {
+    founding: Founding,
+    node: Node,
+    rooms: Rooms,
+    failed: bool,
+}
+
+/// Whether a name is in a set, or any life of its place is.
+fn is_addressed(any: bool, to: Names, name: Name) -> bool
+    ensures { result ≡ is_addressed any to name }
+{
+    if any {
+        return 0 < to.life_at(name.place());
+    }
+    to.has(name)
+}
+
+/// Whether a line asks what the node knows.
+fn is_info(line: &Line) -> bool
+    ensures { result ≡ is_info line.now }
+{
+    match line {
+        Line::Info => true,
+        Line::Does(_) | Line::Hears { .. } | Line::Bad(_) => false,
+    }
+}
+
+/// A place for the entry that a take finds.
+fn spare_entry(
+    alloc: Global,
+    node: &Node,
+    event: &NodeEvent,
+) -> Result<Option<Boxed<Entry>>, NoMemory>
+    ensures { IfOk result (λ spare. HasPlace (state_of node.now) event.now spare) }
+{
+    match event {
+        NodeEvent::Take if node.has_next() => Ok(Some(Boxed::of(alloc, Entry::default())?)),
+        _ => Ok(None),
+    }
+}
+
+impl Speaker {
+    ghost use Rattle.am_model.specs.Step.{step};
+    ghost use Rattle.am_play.specs.World.{first_node};
+    ghost use Rattle.am_base.specs.declared.event.NodeEvent.TheVariants as does;
+    ghost use Rattle.am_lines.specs.declared.line.Line.TheVariants as said;
+    ghost use Rattle.am_lines.specs.Answers.{stepped, answer_by, answer_to, answer_of};
+    ghost use Rattle.am_lines.specs.Speakers.{speaking, AnswersBy};
+
+    /// A name's node at its beginning: a founder where it is one of the founders, and else a name that nobody has seen. It is an
+    /// error where there is no memory.
+    pub fn new(alloc: Global, name: Name, founding: &Founding) -> Result<Speaker, NoMemory>
+        ensures node { IfOk result (λ s. (speaking s).node ≡ first_node founding.now name) }
+        ensures rules { IfOk result (λ s. (speaking s).rules ≡ founding.now) }
+        ensures ready { IfOk result (λ s. (speaking s).failed ≡ false) }
+    {
+        let node = if founding.founders().has(name) {
+            Node::founder(alloc, name, founding)?
+        } else {
+            Node::stranger(alloc, name, founding)?
+        };
+        Ok(Speaker {
+            founding: *founding,
+            node,
+            rooms: Rooms::new(),
+            failed: false,
+        })
+    }
+
+    /// Does a step, and adds what it came to.
+    fn step(
+        &mut self,
+        alloc: Global,
+        event: &NodeEvent,
+        answer: &mut String,
+    ) -> Result<(), NoMemory>
+        requires { HasNumbersLeft (speaking self.old).node }
+        ensures ok { OnOk result (AnswersBy (λ m. stepped (speaking self.old).rules (step m event.now))
+            (speaking self.old).node (string_bytes answer.old) (speaking self.new).node (string_bytes answer.new)) }
+        ensures rules { (speaking self.new).rules ≡ (speaking self.old).rules }
+        ensures flag { (speaking self.new).failed ≡ (speaking self.old).failed }
+    {
+        let spare = spare_entry(alloc, &self.node, event)?;
+        let left = mem::replace(&mut self.rooms, Rooms::new());
+        let mut out = OutBox::over(alloc, left)?;
+        let _order = self.node.accept_front();
+        let outcome = self.node.step(event, spare, &mut out);
+        let told = push_step(answer, &self.founding, &outcome, out.letters());
+        let (_, rooms) = out.into_letters(alloc);
+        self.rooms = rooms;
+        told
+    }
+
+    /// Hears bytes where the node is addressed, and adds what came of it.
+    fn hear(
+        &mut self,
+        alloc: Global,
+        any: bool,
+        to: Names,
+        bytes: Items<u8>,
+        answer: &mut String,
+    ) -> Result<(), NoMemory>
+        requires { HasNumbersLeft (speaking self.old).node }
+        ensures ok { OnOk result (AnswersBy (λ m. answer_by (speaking self.old).rules m
+            (said.Hears any to bytes))
+            (speaking self.old).node (string_bytes answer.old) (speaking self.new).node (string_bytes answer.new)) }
+        ensures rules { (speaking self.new).rules ≡ (speaking self.old).rules }
+        ensures flag { (speaking self.new).failed ≡ (speaking self.old).failed }
+    {
+        if is_addressed(any, to, self.node.name()) {
+            return self.step(alloc, &NodeEvent::Hear(bytes), answer);
+        }
+        answer.push_str("not-addressed")
+    }
+
+    /// Adds the answer to a bad line.
+    fn refuse(&self, cause: BadLine, answer: &mut String) -> Result<(), NoMemory>
+        ensures { OnOk result (AnswersBy (λ m. answer_by (speaking self.now).rules m (said.Bad cause))
+            (speaking self.now).node (string_bytes answer.old) (speaking self.now).node (string_bytes answer.new)) }
+    {
+        let number = cause.cause();
+        write!(answer, "bad line {number}")
+    }
+
+    /// Adds what the node knows of itself and of its group.
+    fn tell(&self, answer: &mut String) -> Result<(), NoMemory>
+        ensures { OnOk result (AnswersBy (λ m. unchanged m (info_text m))
+            (speaking self.now).node (string_bytes answer.old) (speaking self.now).node (string_bytes answer.new)) }
+    {
+        push_info(answer, &self.node)
+    }
+
+    /// Does what a line says where no number is used up, and adds the answer to it.
+    fn do_line(&mut self, alloc: Global, line: Line, answer: &mut String) -> Result<(), NoMemory>
+        requires { HasNumbersLeft (speaking self.old).node }
+        ensures ok { OnOk result (AnswersBy (λ m. answer_by (speaking self.old).rules m line)
+            (speaking self.old).node (string_bytes answer.old) (speaking self.new).node (string_bytes answer.new)) }
+        ensures rules { (speaking self.new).rules ≡ (speaking self.old).rules }
+        ensures flag { (speaking self.new).failed ≡ (speaking self.old).failed }
+    {
+        match line {
+            Line::Does(event) => self.step(alloc, &event, answer),
+            Line::Hears { any, to, bytes } => self.hear(alloc, any, to, bytes, answer),
+            Line::Info => self.tell(answer),
+            Line::Bad(cause) => self.refuse(cause, answer),
+        }
+    }
+
+    /// Does what a line says, and adds the answer to it.
+    fn answer_to(&mut self, alloc: Global, line: Line, answer: &mut String) -> Result<(), NoMemory>
+        ensures ok { OnOk result (AnswersBy (λ m. answer_to (speaking self.old).rules m line)
+            (speaking self.old).node (string_bytes answer.old) (speaking self.new).node (string_bytes answer.new)) }
+        ensures rules { (speaking self.new).rules ≡ (speaking self.old).rules }
+        ensures flag { (speaking self.new).failed ≡ (speaking self.old).failed }
+    {
+        if is_info(&line) {
+            return self.tell(answer);
+        }
+        if !self.node.has_numbers_left() {
+            return answer.push_str("no numbers left");
+        }
+        self.do_line(alloc, line, answer)
+    }
+
+    /// Does what a line says, and adds the answer to it, without a newline: that which the protocol gives for the whole node. It is
+    /// an error where there is no memory, and then from then on.
+    pub fn answer(
+        &mut self,
+        alloc: Global,
+        line: &[u8],
+        answer: &mut String,
+    ) -> Result<(), NoMemory>
+        ensures ok { OnOk result (AnswersBy (λ m. answer_of (speaking self.old).rules m line.now)
+            (speaking self.old).node (string_bytes answer.old) (speaking self.new).node (string_bytes answer.new)) }
+        ensures rules { (speaking self.new).rules ≡ (speaking self.old).rules }
+        ensures ready { OnOk result ((speaking self.new).failed ≡ false) }
+        ensures err { OnErr result ((speaking self.new).failed ≡ true) }
+        ensures fails { (speaking self.old).failed ≡ true → IsErr result }
+    {
+        if self.failed {
+            return Err(NoMemory);
+        }
+        self.failed = true;
+        let line = read_line(alloc, &self.founding, line)?;
+        self.answer_to(alloc, line, answer)?;
+        self.failed = false;
+        Ok(())
+    }
+}

@@ -1,0 +1,94 @@
+-- What one name does in a run, alone.
+use Rattle.std.specs.Prelude.{◌≡◌, ℕ, List, [], ◌∷◌, ◌++◌, take, Option, Some, None, not, ◌==◌, if◌then◌else◌}
+use Rattle.am_base.specs.Founding.{Rules}
+use Rattle.am_base.specs.Names.{place_of}
+use Rattle.am_base.specs.declared.outcome.Outcome.{Outcome}
+use Rattle.am_base.specs.declared.event.NodeEvent.{NodeEvent}
+use Rattle.am_base.specs.declared.event.NodeEvent.TheVariants as does
+use Rattle.am_packet.specs.Boxes.{Letter}
+use Rattle.am_codec.specs.Spelling.{spelling}
+use Rattle.am_group.specs.declared.event.Act.{Act}
+use Rattle.am_group.specs.declared.event.Act.TheVariants as act
+use Rattle.am_group.specs.declared.event.Event.{Event}
+use Rattle.am_group.specs.declared.event.Record.{Record}
+use Rattle.am_group.specs.Journals.{letter_at}
+use Rattle.am_group.specs.Addressed.{is_for}
+use Rattle.am_model.specs.Node.{Node}
+use Rattle.am_model.specs.Step.{step}
+use Rattle.am_play.specs.World.{World, start, first_node, current, is_stopped, happens, run}
+use Rattle.am_laws.specs.Bytes.{IsShort}
+
+-- what a node did: an event of its own or bytes that it heard, what it answered, and what it sent
+pub record Part : Type 0 where
+  pub event : NodeEvent
+  pub outcome : Outcome
+  pub letters : List Letter
+
+-- ---- what a name's node does at an act; None where no node does anything
+
+-- a stopped one does nothing
+abbrev pub unless_stopped : World → ℕ → NodeEvent → Option NodeEvent
+unless_stopped w name event = if is_stopped w name then None else Some event
+
+-- only a stopped name is given up
+abbrev pub giving_up : World → ℕ → ℕ → Option NodeEvent
+giving_up w name other = if is_stopped w name then None else if is_stopped w other then Some (does.GiveUp other) else None
+
+-- a letter's bytes, or some of them, are heard by whom it is for
+abbrev pub hearing_of : World → ℕ → (List ℕ → List ℕ) → Option Letter → Option NodeEvent
+hearing_of w name some None = None
+hearing_of w name some (Some letter) =
+    if not (is_for letter name) then None else if is_stopped w name then None else Some (does.Hear (some (spelling letter.packet)))
+
+abbrev pub own_event : World → ℕ → Act → Option NodeEvent
+own_event w name (act.Send body) = unless_stopped w name (does.Send body)
+own_event w name (act.Done req) = unless_stopped w name (does.Done req)
+own_event w name act.Take = unless_stopped w name does.Take
+own_event w name act.Join = unless_stopped w name does.Join
+own_event w name act.State = unless_stopped w name does.State
+own_event w name act.Leave = unless_stopped w name does.Leave
+own_event w name (act.Reset least resilience) = unless_stopped w name (does.Reset least resilience)
+own_event w name (act.Ask round) = unless_stopped w name (does.Ask round)
+own_event w name (act.GiveUp other) = giving_up w name other
+own_event w name act.Stop = None
+own_event w name act.Tick = unless_stopped w name does.Tick
+own_event w name (act.Hear number) = hearing_of w name (λ bytes. bytes) (letter_at w.letters number)
+own_event w name (act.Cut number keep) = hearing_of w name (take keep) (letter_at w.letters number)
+own_event w name act.Return = None
+
+-- ---- what a name did in a run, by the records that its events left
+
+abbrev pub part_of : Record → Option NodeEvent → List Part
+part_of happened None = []
+part_of happened (Some event) = record { event = event; outcome = happened.outcome; letters = happened.packets } ∷ []
+
+abbrev pub part_at : ℕ → World → Event → Record → List Part
+part_at name w e happened =
+    if name == current w (place_of e.node) then part_of happened (own_event w (current w (place_of e.node)) e.act) else []
+
+unfoldable pub parts_of : ℕ → World → List Event → List Record → List Part
+parts_of name w [] records = []
+parts_of name w (e ∷ es) [] = []
+parts_of name w (e ∷ es) (happened ∷ later) = part_at name w e happened ++ parts_of name (happens w e) es later
+
+-- ---- a node alone
+
+-- the node behind its parts
+unfoldable pub node_by : Node → List Part → Node
+node_by m [] = m
+node_by m (part ∷ parts) = node_by (step m part.event).node parts
+
+-- each part's answer and letters are those of the node's step
+unfoldable pub Answered : Node → List Part → Type 0
+Answered m [] = Unit {0}
+Answered m (part ∷ parts) = (part.outcome ≡ (step m part.event).outcome) × (part.letters ≡ (step m part.event).letters) × Answered (step m part.event).node parts
+
+-- a node came to another by its parts
+pub record IsMade (m : Node) (parts : List Part) (n : Node) : Type 0 where
+  pub node : n ≡ node_by m parts
+  pub answers : Answered m parts
+
+-- so is each name's node in every run
+abbrev pub RunsAreMadeOfNodes : Type 0
+RunsAreMadeOfNodes = (rules : Rules) (events : List Event) → IsShort rules events → (name : ℕ)
+    → IsMade (first_node rules name) (parts_of name (start rules) events (run rules events).records) ((run rules events).nodes name)

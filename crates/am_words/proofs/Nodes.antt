@@ -1,0 +1,78 @@
+-- What may found a group, as a test.
+use Rattle.std.proofs.Common.{◌≡◌, ℕ, suc, ◌≤◌, List, [], ◌∷◌, length, drop, take, take_all, length-drop, ◌-◌, Bor, slice_index, slice_index_or, option_and_then, Bool, true, false, Option, Some, None, IsSome, IfSome, ◌↔◌, EachIndex, nat_le, refl, sym, ap, ◌∙◌, if◌then◌else◌, arith}
+use Rattle.std.specs.List.{list_all}
+use Rattle.std.proofs.lemmas.List.Folds.{list_all_at}
+use Rattle.std.proofs.lemmas.Bool.Decides.{nat_tests}
+use Rattle.am_base.specs.Names.{IsSet}
+use Rattle.am_base.specs.Founding.{Rules, MayFound, rules_of}
+use Rattle.am_words.specs.declared.node.Options.{Options}
+use Rattle.am_words.specs.Nodes.{may_found, founding_of, put_option, options_from}
+use Rattle.am_words.proofs.Words.{texts, two_words}
+
+from_each : (set : List ℕ) → EachIndex set (λ place. slice_index set place ≤ 1) → list_all (λ life. nat_le life 1) set ≡ true
+from_each [] each = refl
+from_each (life ∷ lives) each = let h : life ≤ 1 = each 0 (omega arith) in let more = from_each lives (λ place within. each (suc place) (omega arith)) in
+    grind (arith, nat_tests)
+
+to_each : (set : List ℕ) → list_all (λ life. nat_le life 1) set ≡ true → EachIndex set (λ place. slice_index set place ≤ 1)
+to_each set all = λ place within. grind (arith, nat_tests, list_all_at (λ life. nat_le life 1) set place 0 within)
+
+test_of : (r : Rules) → MayFound r → may_found r ≡ true
+test_of r may =
+    let each = from_each r.founders may.first_lives in
+    let some = may.somebody in
+    let a = may.resilience_within in
+    let b = may.window_least in
+    let c = may.window_most in
+    let d = may.pb_up_to_within in
+    grind (arith, nat_tests)
+
+of_test : (r : Rules) → IsSet r.founders → may_found r ≡ true → MayFound r
+of_test r set is = record {
+  names = set;
+  somebody = grind (arith, nat_tests);
+  first_lives = to_each r.founders (grind (arith, nat_tests));
+  resilience_within = grind (arith, nat_tests);
+  window_least = grind (arith, nat_tests);
+  window_most = grind (arith, nat_tests);
+  pb_up_to_within = grind (arith, nat_tests);
+}
+
+none_by : (b : Bool) (r : Rules) → (b ≡ true → ⊥) → None ≡ (if b then Some r else None)
+none_by true r other = absurd (other refl)
+none_by false r other = refl
+
+is_none : IsSome {T = Rules} None → ⊥
+is_none is = cc
+
+pub founding_is : (founders : List ℕ) (resilience window pb_up_to : ℕ) (found : Option Rules) → IsSet founders
+    → (IsSome found ↔ MayFound (rules_of founders resilience window pb_up_to)) → IfSome found (λ f. f ≡ rules_of founders resilience window pb_up_to)
+    → found ≡ founding_of founders resilience window pb_up_to
+founding_is founders resilience window pb_up_to (Some f) set variant value =
+    ap Some value ∙ sym (rw (test_of (rules_of founders resilience window pb_up_to) (variant.0 refl)) refl)
+founding_is founders resilience window pb_up_to None set variant value =
+    none_by (may_found (rules_of founders resilience window pb_up_to)) (rules_of founders resilience window pb_up_to)
+    (λ is. is_none (variant.1 (of_test (rules_of founders resilience window pb_up_to) set is)))
+
+-- ---- options in turn
+
+pub options_none : (options : Options) (words : List (Bor (List ℕ))) → length words ≡ 0 → Some options ≡ options_from options (texts words)
+unfolding options_from
+options_none options [] none = refl
+options_none options (a ∷ ws) none = absurd (omega arith)
+
+pub options_one : (options : Options) (words : List (Bor (List ℕ))) → length words ≡ 1 → None ≡ options_from options (texts words)
+unfolding options_from
+options_one options [] one = absurd (omega arith)
+options_one options (a ∷ []) one = refl
+options_one options (a ∷ b ∷ ws) one = absurd (omega arith)
+
+pub options_two : (options : Options) (words : List (Bor (List ℕ))) (d e : Bor (List ℕ)) (r : Option Options) → 2 ≤ length words
+    → r ≡ put_option options (slice_index_or words 0 d).now (slice_index_or words 1 e).now
+    → option_and_then (λ more. options_from more (texts (take (length words - 2) (drop 2 words)))) r ≡ options_from options (texts words)
+unfolding options_from
+options_two options words d e r two is =
+    let rest : take (length words - 2) (drop 2 words) ≡ drop 2 words = take_all _ _ (omega (arith, length-drop 2 words)) in
+    ap (option_and_then (λ more. options_from more (texts (take (length words - 2) (drop 2 words))))) is
+    ∙ ap (λ (ws : List (Bor (List ℕ))). option_and_then (λ more. options_from more (texts ws)) (put_option options (slice_index_or words 0 d).now (slice_index_or words 1 e).now)) rest
+    ∙ ap (options_from options) (sym (two_words words d e two))
