@@ -31,6 +31,7 @@ use Rattle.am_audit.specs.declared.verdict.Verdict.TheVariants as verdicts
 use Rattle.am_audit.specs.Agreement.{Lists, Agreed}
 use Rattle.am_audit.specs.Lines.{Reading, read_text}
 use Rattle.am_audit.specs.Verdicts.{verdict_of, verdict_line, is_right}
+use Rattle.am_lines.specs.Speaking.{spoken}
 use Rattle.am_words.specs.Forms.{form_of}
 use Rattle.am_words.specs.declared.form.Form.{Form}
 use Rattle.am_words.specs.declared.form.Form.TheVariants as form
@@ -140,7 +141,14 @@ abbrev pub Reads : Option Form → Type 0
 Reads (Some form.Play) = Unit {0}
 Reads (Some form.Race) = Unit {0}
 Reads (Some form.Audit) = Unit {0}
+Reads (Some (form.Node node)) = Unit {0}
 Reads _ = ⊥
+
+-- the forms that may wait
+abbrev pub Waits : Option Form → Type 0
+Waits (Some form.Race) = Unit {0}
+Waits (Some (form.Node node)) = Unit {0}
+Waits _ = ⊥
 
 -- the key of the script that is read
 abbrev pub key_for : Option Form → Key
@@ -265,4 +273,5 @@ abbrev pub IsAnswer : Option Form → Option (List ℕ) → Option (List ℕ) �
 IsAnswer (Some form.Play) before after text = IsPlayed before after text
 IsAnswer (Some form.Race) before after text = IsRacedText before after text
 IsAnswer (Some form.Audit) before after text = IsAudited before after text
+IsAnswer (Some (form.Node node)) before after text = (bytes : List ℕ) × ReadToEnd before after bytes × (text ≡ spoken node.founding node.name bytes)
 IsAnswer other before after text = IsSummary other text

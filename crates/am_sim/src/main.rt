@@ -1,5 +1,6 @@
 //! The program: runs a script and prints what comes of it, lets the threads of a race make their calls and prints what they
-//! did, makes a run from two numbers and prints its summary, or audits a text and prints the verdict.
+//! did, makes a run from two numbers and prints its summary, audits a text and prints the verdict, or is one node that answers
+//! lines.
 #![tactic(auto)]
 
 pub mod alone;
@@ -8,6 +9,7 @@ mod generating;
 mod playing;
 mod racing;
 pub mod simulate;
+mod speaking;
 pub mod status;
 mod telling;
 

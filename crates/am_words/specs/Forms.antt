@@ -80,4 +80,5 @@ IsGen (Some form.Play) = ⊥
 IsGen (Some form.Race) = ⊥
 IsGen (Some (form.Node node)) = ⊥
 IsGen (Some form.Audit) = ⊥
+IsGen (Some (form.Node node)) = ⊥
 IsGen None = ⊥

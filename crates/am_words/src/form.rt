@@ -23,10 +23,10 @@ pub enum Form {
     Race,
     /// To make a run from two numbers.
     Gen(Numbers),
-    /// To be a node that speaks lines.
-    Node(NodeWords),
     /// To audit a text.
     Audit,
+    /// To be a node that speaks lines.
+    Node(NodeWords),
 }
 
 /// Whether all bytes are decimal digits.
@@ -121,8 +121,8 @@ fn is_node(words: &[&str]) -> bool
     !words.is_empty() && words[0] == "node"
 }
 
-/// The form of the words after the program's name: one of the words `play`, `race` and `audit`, `gen` with the
-/// options `--seed N` and `--count N`, each once, in either order, or `node` with its options. None where they have no form.
+/// The form of the words after the program's name: one of the words `play`, `race` and `audit`, `gen` with the options
+/// `--seed N` and `--count N`, each once, in either order, or `node` with its options. None where they have no form.
 #[tactic(auto, unfolding(crate::specs::Forms::form_of))]
 pub fn form_of(words: &[&str]) -> Option<Form>
     ensures { result ≡ form_of (map (λ word. word.now) words.now) }
