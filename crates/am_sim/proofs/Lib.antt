@@ -2,4 +2,5 @@ mod Answered
 mod Done
 mod Names
 mod Raced
+mod Spoken
 mod Texts

@@ -25,6 +25,7 @@ use Rattle.am_sim.specs.Playing.{done_of, IsRunText, IsLong}
 use Rattle.am_sim.specs.Racing.{events_of, race_text, IsRaced}
 use Rattle.am_io.specs.Outside.{next, ReadToEnd}
 use Rattle.am_pump.specs.Generating.{generated_rules, events_of_seed}
+use Rattle.am_lines.specs.Speaking.{spoken}
 use Rattle.am_words.specs.Forms.{form_of}
 use Rattle.am_words.specs.declared.form.Form.{Form}
 use Rattle.am_words.specs.declared.form.Form.TheVariants as form
@@ -98,7 +99,14 @@ IsAnswerAlone other before after text = IsSummary other text
 abbrev pub Reads : Option Form → Type 0
 Reads (Some form.Play) = Unit {0}
 Reads (Some form.Race) = Unit {0}
+Reads (Some (form.Node node)) = Unit {0}
 Reads _ = ⊥
+
+-- the forms that may wait
+abbrev pub Waits : Option Form → Type 0
+Waits (Some form.Race) = Unit {0}
+Waits (Some (form.Node node)) = Unit {0}
+Waits _ = ⊥
 
 -- the key of the script that is read
 abbrev pub key_for : Option Form → Key
@@ -207,4 +215,5 @@ IsRacedText before after text = (bytes : List ℕ) × ReadToEnd before after byt
 abbrev pub IsAnswer : Option Form → Option (List ℕ) → Option (List ℕ) → List ℕ → Type 0
 IsAnswer (Some form.Play) before after text = IsPlayed before after text
 IsAnswer (Some form.Race) before after text = IsRacedText before after text
+IsAnswer (Some (form.Node node)) before after text = (bytes : List ℕ) × ReadToEnd before after bytes × (text ≡ spoken node.founding node.name bytes)
 IsAnswer other before after text = IsSummary other text

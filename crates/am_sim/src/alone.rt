@@ -3,9 +3,8 @@ ghost use Rattle.std.specs.Io.KnownBytes.{Appends};
 ghost use Rattle.am_io.specs.Outside.{ReadToEnd, GaveMore, GaveAtMost};
 ghost use Rattle.am_script.specs.declared.key.Key.TheVariants as key;
 ghost use Rattle.am_script.specs.Scripts.{IsOfKind, reading};
-ghost use Rattle.am_words.specs.declared.form.Form.TheVariants as form;
 ghost use Rattle.am_words.specs.Forms.{IsGen};
-ghost use Rattle.am_sim.specs.Simulation.{form_of_words, most_input, Reads, key_for, EndsGen, IsAnswerAlone, IsPlayed, IsSummary, OnDone, OnWriteFault, IfBadScript, Writes, Played, WrotePart, IsSpent, IsText, IsUnrun, IsUnplayed, unplayed_for, reads_after, writes_after};
+ghost use Rattle.am_sim.specs.Simulation.{form_of_words, most_input, Reads, Waits, key_for, EndsGen, IsAnswerAlone, IsPlayed, IsSummary, OnDone, OnWriteFault, IfBadScript, Writes, Played, WrotePart, IsSpent, IsText, IsUnrun, IsUnplayed, unplayed_for, reads_after, writes_after};
 
 use crate::generating::summary_of_run;
 use crate::playing::text_of_run;
@@ -25,8 +24,8 @@ use std::alloc::Global;
 /// The most bytes of an input.
 pub const INPUT_MOST: u32 = 16_777_216;
 
-/// Does what the words ask for, as `simulate` does, but for the one word `race`, and waits for nobody. None exactly where the
-/// words are `race`; then nothing is read or written.
+/// Does what the words ask for, as `simulate` does, but for the one word `race` and for `node`, and waits for nobody. None exactly
+/// where the words are these; then nothing is read or written.
 #[tactic(auto, using(crate::proofs::Answered::gave_none))]
 pub fn simulate_alone<S: Source, K: Sink>(
     alloc: Global,
@@ -34,7 +33,7 @@ pub fn simulate_alone<S: Source, K: Sink>(
     source: &mut S,
     sink: &mut K,
 ) -> Option<Status>
-    ensures variant { (result ≡ None) ↔ (form_of_words words.now ≡ Some form.Race) }
+    ensures variant { (result ≡ None) ↔ Waits (form_of_words words.now) }
     ensures untouched_source { result ≡ None → source.new ≡ source.old }
     ensures untouched_sink { result ≡ None → sink.new ≡ sink.old }
     ensures usage { IfSome result (λ status. (status ≡ Status.Usage)
@@ -66,6 +65,7 @@ pub fn simulate_alone<S: Source, K: Sink>(
         Some(Form::Play) => Some(play(alloc, source, sink)),
         Some(Form::Gen(_)) => Some(generate_run(alloc, words, sink)),
         Some(Form::Race) => None,
+        Some(Form::Node(_)) => None,
         None => Some(Status::Usage),
     }
 }

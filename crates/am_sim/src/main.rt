@@ -1,5 +1,5 @@
 //! The program: runs a script and prints what comes of it, lets the threads of a race make their calls and prints what they
-//! did, or makes a run from two numbers and prints its summary.
+//! did, makes a run from two numbers and prints its summary, or is one node that answers lines.
 #![tactic(auto)]
 
 pub mod alone;
@@ -7,6 +7,7 @@ mod generating;
 mod playing;
 mod racing;
 pub mod simulate;
+mod speaking;
 pub mod status;
 mod telling;
 

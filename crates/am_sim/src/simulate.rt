@@ -7,10 +7,12 @@ ghost use Rattle.am_script.specs.Limits.{RaceWithin};
 ghost use Rattle.am_script.specs.Scripts.{reading};
 ghost use Rattle.am_words.specs.declared.form.Form.TheVariants as form;
 ghost use Rattle.am_words.specs.Forms.{IsGen};
+ghost use Rattle.am_sim.specs.Speaking.{Spoken, IfNode, IsNode};
 ghost use Rattle.am_sim.specs.Simulation.{form_of_words, most_input, Reads, key_for, EndsGen, IsAnswer, IsRacedText, OnDone, OnWriteFault, IfBadScript, Writes, Raced, WrotePart, IsSpent, reads_after, writes_after};
 
 use crate::alone::{INPUT_MOST, simulate_alone};
 use crate::racing::text_of_race;
+use crate::speaking::{node_in, speak_node};
 use crate::status::Status;
 use am_calls::gate::Gate;
 use am_group::plan::RacePlan;
@@ -29,7 +31,7 @@ use std::thread::Threads;
 /// and writes the text of its run (docs/PROTOCOL.md, "Play text"). `race` reads a race, lets its threads make their calls, with
 /// the gate between each look and its act, and writes what was done as a script, in one line, and the text of the run of that.
 /// `gen` reads nothing, makes the run of its two numbers, and writes its summary. On every status but Done and WriteFault nothing is
-/// written.
+/// written. `node` answers each line that it reads before it reads more (`speak` of am_lines), however many there are.
 pub fn simulate<R: Threads + Wait + Sync, S: Source, K: Sink, G: Gate + Sync>(
     rt: &R,
     alloc: Global,
@@ -46,23 +48,29 @@ pub fn simulate<R: Threads + Wait + Sync, S: Source, K: Sink, G: Gate + Sync>(
     ensures writes { K.count sink.new ≡ writes_after result (K.count sink.old) }
     ensures too_long { result ≡ Status.TooLong
         → GaveMore most_input (S.left source.old) (S.left source.new) }
-    ensures within { result ≢ Status.TooLong
+    ensures within { (IsNode (form_of_words words.now) → ⊥) → result ≢ Status.TooLong
         → GaveAtMost most_input (S.left source.old) (S.left source.new) }
     ensures bad_script { IfBadScript result (λ cause. (bytes : List ℕ)
         × ReadToEnd (S.left source.old) (S.left source.new) bytes
         × (reading (key_for (form_of_words words.now)) bytes ≡ Err cause)) }
     ensures spent { result ≡ Status.Spent → (bytes : List ℕ)
         × ReadToEnd (S.left source.old) (S.left source.new) bytes × IsSpent bytes }
-    ensures part { OnWriteFault result ((text : List ℕ)
+    ensures spoken { IfNode (form_of_words words.now) (λ node. Spoken node result
+        (S.left source.old) (S.left source.new) (K.contents sink.old) (K.contents sink.new)) }
+    ensures part { (IsNode (form_of_words words.now) → ⊥) → OnWriteFault result ((text : List ℕ)
         × IsAnswer (form_of_words words.now) (S.left source.old) (S.left source.new) text
         × WrotePart (K.contents sink.old) (K.contents sink.new) text) }
     ensures done { OnDone result ((text : List ℕ)
         × IsAnswer (form_of_words words.now) (S.left source.old) (S.left source.new) text
         × Appends (K.contents sink.old) (K.contents sink.new) text) }
-    ensures unwritten { (Writes result → ⊥) → sink.new ≡ sink.old }
+    ensures unwritten { (IsNode (form_of_words words.now) → ⊥) → (Writes result → ⊥)
+        → sink.new ≡ sink.old }
 {
     if is_race(words) {
         return race_script(rt, alloc, gate, source, sink);
+    }
+    if let Some(node) = node_in(words) {
+        return speak_node(rt, alloc, &node, source, sink);
     }
     match simulate_alone(alloc, words, source, sink) {
         Some(status) => status,
@@ -78,6 +86,7 @@ fn is_race(words: &[&str]) -> bool
         Some(Form::Race) => true,
         Some(Form::Play) => false,
         Some(Form::Gen(_)) => false,
+        Some(Form::Node(_)) => false,
         None => false,
     }
 }

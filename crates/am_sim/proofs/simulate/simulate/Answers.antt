@@ -30,7 +30,7 @@ returns-then-is_race-clause-bad_script g c =
     × (reading (key_for a) x ≡ Err cause))) (sym (is_asked g c)) c.race_script.ensures.bad_script
 
 pub returns-then-is_race-clause-part : goal.returns-then-is_race-clause-part
-returns-then-is_race-clause-part g c =
+returns-then-is_race-clause-part g c = λ not_node.
     subst (λ (a : Option Form). OnWriteFault c.race_script.result ((x : List ℕ)
     × IsAnswer a (g.S.Source.left c.args.source.now) (g.S.Source.left c.race_script.new.source) x
     × WrotePart (g.K.Sink.contents c.args.sink.now) (g.K.Sink.contents c.race_script.new.sink) x)) (sym (is_asked g c)) c.race_script.ensures.part

@@ -1,0 +1,54 @@
+ghost use Rattle.std.specs.Prelude.{◌≡◌};
+ghost use Rattle.am_sim.specs.Simulation.{form_of_words, reads_after, writes_after};
+ghost use Rattle.am_sim.specs.Speaking.{node_in, status_of, Spoken};
+
+use crate::status::Status;
+use am_io::outside::{Sink, Source};
+use am_lines::ending::SpokenEnd;
+use am_lines::speaking::speak;
+use am_words::form::{Form, form_of};
+use am_words::node::NodeWords;
+use std::alloc::Global;
+use std::sync::Wait;
+
+/// The node that words ask for.
+pub fn node_in(words: &[&str]) -> Option<NodeWords>
+    ensures { result ≡ node_in (form_of_words words.now) }
+{
+    match form_of(words) {
+        Some(Form::Node(node)) => Some(node),
+        Some(Form::Play) => None,
+        Some(Form::Race) => None,
+        Some(Form::Gen(_)) => None,
+        None => None,
+    }
+}
+
+/// The status of how a node's speaking ended.
+fn status_of(end: SpokenEnd) -> Status
+    ensures { result ≡ status_of end }
+{
+    match end {
+        SpokenEnd::Done => Status::Done,
+        SpokenEnd::ReadFault => Status::ReadFault,
+        SpokenEnd::WriteFault => Status::WriteFault,
+        SpokenEnd::NoMemory => Status::NoMemory,
+    }
+}
+
+/// A node answers the lines of a source to its end.
+pub fn speak_node<R: Wait, S: Source, K: Sink>(
+    rt: &R,
+    alloc: Global,
+    node: &NodeWords,
+    source: &mut S,
+    sink: &mut K,
+) -> Status
+    ensures spoken { Spoken node.now result (S.left source.old) (S.left source.new)
+        (K.contents sink.old) (K.contents sink.new) }
+    ensures reads { S.count source.new ≡ reads_after result (S.count source.old) }
+    ensures writes { K.count sink.new ≡ writes_after result (K.count sink.old) }
+{
+    let end = speak(rt, alloc, node.name, &node.founding, source, sink);
+    status_of(end)
+}
