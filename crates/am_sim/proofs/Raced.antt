@@ -1,11 +1,11 @@
 -- A race of a script may be run.
-use Rattle.std.proofs.Common.{◌≡◌, ℕ, suc, ◌<◌, List, [], ◌∷◌, length, Bool, true, false, ◌&&◌, refl, arith, All}
+use Rattle.std.proofs.Common.{◌≡◌, suc, List, [], ◌∷◌, Bool, true, false, ◌&&◌, refl, arith, All}
 use Rattle.std.specs.List.{list_all}
 use Rattle.am_group.specs.declared.event.Act.{Act}
 use Rattle.am_group.specs.declared.event.Act.TheVariants as act
 use Rattle.am_group.specs.declared.plan.ThreadPlan.{ThreadPlan}
 use Rattle.am_group.specs.declared.plan.RacePlan.{RacePlan}
-use Rattle.am_races.specs.Plans.{is_call, has_calls, most_records, MayRace}
+use Rattle.am_races.specs.Plans.{is_call, MayRace}
 use Rattle.am_script.specs.Limits.{CallWithin, ThreadWithin, RaceWithin}
 
 both : (a b : Bool) → a ≡ true → b ≡ true → (a && b) ≡ true

@@ -1,17 +1,15 @@
 -- What a node's speaking came to, as a status.
-use Rattle.std.proofs.Common.{◌≡◌, ℕ, List, Option, Some, None, refl, sym, ap, ◌∙◌, subst}
+use Rattle.std.proofs.Common.{◌≡◌, ℕ, List, Option, Some, None, refl, sym, ap, subst}
 use Rattle.std.specs.Io.KnownBytes.{Appends}
-use Rattle.am_io.specs.Outside.{ReadToEnd}
 use Rattle.am_words.specs.declared.form.Form.{Form}
 use Rattle.am_words.specs.declared.form.Form.TheVariants as form
 use Rattle.am_words.specs.declared.node.NodeWords.{NodeWords}
-use Rattle.am_script.specs.declared.refusal.ScriptRefusal.{ScriptRefusal}
 use Rattle.am_lines.specs.declared.ending.SpokenEnd.{SpokenEnd}
 use Rattle.am_lines.specs.declared.ending.SpokenEnd.TheVariants as ends
 use Rattle.am_lines.specs.Speaking as speaking
 use Rattle.am_sim.specs.declared.status.Status.{Status}
-use Rattle.am_sim.specs.declared.status.Status.TheVariants.{Done, Usage, BadScript, TooLong, ReadFault, WriteFault, NoMemory, Spent}
-use Rattle.am_sim.specs.Simulation.{reads_after, writes_after, OnDone, IfBadScript, IsAnswer}
+use Rattle.am_sim.specs.declared.status.Status.TheVariants.{Done, ReadFault, WriteFault, NoMemory}
+use Rattle.am_sim.specs.Simulation.{reads_after, writes_after, OnDone, IsAnswer}
 use Rattle.am_sim.specs.Speaking.{node_in, status_of, Spoken, IfNode, IsNode}
 
 -- ---- faults

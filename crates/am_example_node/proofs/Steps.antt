@@ -1,0 +1,18 @@
+-- A step of what is kept is one of the whole node.
+use Rattle.std.proofs.Common.{◌≡◌, List, sym, ◌∙◌}
+use Rattle.am_base.specs.declared.event.NodeEvent.{NodeEvent}
+use Rattle.am_base.specs.declared.outcome.Outcome.{Outcome}
+use Rattle.am_packet.specs.Boxes.{Letter}
+use Rattle.am_core.specs.Cores.{IsInOrder}
+use Rattle.am_model.specs.Node.{Node}
+use Rattle.am_model.specs.Step.{row, step}
+use Rattle.am_model.specs.Ends.{Does}
+use Rattle.am_ends.proofs.Hearing.{ends_step_alike}
+use Rattle.am_example_node.specs.Members.{StepsBy}
+
+pub steps_by : (event : NodeEvent) (old new : Node) (outcome : Outcome) (out letters : List Letter) → IsInOrder old.core → Does (λ m. row m event) old outcome out new
+    → letters ≡ out → StepsBy event old outcome letters new
+unfolding step
+steps_by event old new outcome out letters order does same = λ all end.
+    let alike = ends_step_alike all old event end order in
+    (does.answer ∙ sym alike.answer, same ∙ does.sent ∙ sym alike.sent, alike.node new does.node)
