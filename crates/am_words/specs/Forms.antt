@@ -78,7 +78,6 @@ abbrev pub IsGen : Option Form → Type 0
 IsGen (Some (form.Gen numbers)) = Unit {0}
 IsGen (Some form.Play) = ⊥
 IsGen (Some form.Race) = ⊥
-IsGen (Some (form.Node node)) = ⊥
 IsGen (Some form.Audit) = ⊥
 IsGen (Some (form.Node node)) = ⊥
 IsGen None = ⊥
