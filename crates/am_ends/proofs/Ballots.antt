@@ -6,8 +6,8 @@ use Rattle.am_ends.proofs.Words.{invite_of, result_of, Verdict, with_promise, be
 use Rattle.am_ends.proofs.Words.{decide_view, trim_for, decide, with_result, with_fetch, verdict_plan, next_stamp, new_ballot, begin, with_vote, newly_needed}
 use Rattle.am_ends.proofs.Words.{keep_vote, without_voter, give_up, reset_row, give_up_of, give_up_row, decide_anew, with_log}
 use Rattle.am_base.specs.declared.outcome.Outcome.TheVariants as said
-use Rattle.am_ends.proofs.{Nodes.Keeps, Nodes.Whole, Nodes.reads, Nodes.keeps_pushed, Nodes.keeps_trimmed, Plans.Says, Plans.Alike, Plans.same_others}
-use Rattle.am_ends.proofs.{Plans.says_fetch, Plans.alike, Plans.alike_if, Plans.alike_case, Plans.alike_quiet}
+use Rattle.am_ends.proofs.Plans.{Says, Alike, same_others, says_fetch, alike, alike_if, alike_case, alike_quiet}
+use Rattle.am_ends.proofs.Nodes.{Keeps, Whole, reads, keeps_pushed, keeps_trimmed}
 
 -- ---- verdicts
 

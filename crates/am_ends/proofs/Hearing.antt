@@ -5,10 +5,10 @@ use Rattle.am_ends.proofs.Words.{names_of, stamp_lt, stamp_eq, Log, fits, row_of
 use Rattle.am_ends.proofs.Words.{keep_body, Node, Ballot, image_of, view, only_name, is_member, has_own_leave, is_within_bound, waiting, push_entry}
 use Rattle.am_ends.proofs.Words.{trim_up_to, Plan, ack_of, nack_of, fetch_of, piece_of, put_all, if_risen, spread_row, body_of, bodies_after, is_view}
 use Rattle.am_ends.proofs.Words.{with_noted, acknowledges, store_fitting, store, receive_entry, bcast_row, data_of, order_row, accept_row, answer_hold}
-use Rattle.am_ends.proofs.Words.{hold_row, with_promise, vote_of, invite_row, take_vote, vote_row, serve_pieces, fetch_row, is_view_past}
-use Rattle.am_ends.proofs.Words.{push_fetched, catch_up, decide_anew, fetches_from, piece_promised, piece_for, piece_row, hears_result, result_row}
-use Rattle.am_ends.proofs.Words.{hand_over_row, reset_row, hears_member, hears_in_view, hears_as_sequencer, hears_sequencer, where_heard}
-use Rattle.am_ends.proofs.Words.{hear_row, read_row, row, step, with_log, StepsAlike, EndsStepAlike, StepsKeepOrder}
+use Rattle.am_ends.proofs.Words.{hold_row, with_promise, vote_of, invite_row, take_vote, vote_row, serve_pieces, fetch_row, is_view_past, push_fetched}
+use Rattle.am_ends.proofs.Words.{catch_up, decide_anew, fetches_from, piece_promised, piece_for, piece_row, hears_result, result_row, hand_over_row}
+use Rattle.am_ends.proofs.Words.{reset_row, hears_member, hears_in_view, hears_as_sequencer, hears_sequencer, where_heard, hear_row, read_row, row, step}
+use Rattle.am_ends.proofs.Words.{with_log, StepsAlike, EndsStepAlike, StepsKeepOrder}
 use Rattle.am_base.specs.declared.outcome.Outcome.TheVariants as said
 use Rattle.am_base.specs.declared.event.NodeEvent.TheVariants as does
 use Rattle.am_packet.specs.declared.packet.Packet.TheVariants as packet

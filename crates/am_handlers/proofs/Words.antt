@@ -7,37 +7,22 @@ pub use Rattle.am_ends.proofs.Words.{OwnSend, Node, others, is_member, is_sequen
 pub use Rattle.am_ends.proofs.Words.{only_name, Plan, hold_of, welcome_of, polling, quiet, telling, is_data_of, advance, led_of, accepted_at, settle_at}
 pub use Rattle.am_ends.proofs.Words.{settle_waiting, IsEndOf, ComesTo, Does, with_log, Status, is_view}
 unfoldable pub use Rattle.am_ends.proofs.Words.{accept, pass_over, own_report, tell, go_on, let_go, finish, refresh_at_end, refresh, lead, settle}
+pub use Rattle.std.{proofs.lemmas.List.Sums.position_or_len_is, proofs.lemmas.Option.slice_get-get_or, specs.List.position_or_len, specs.Prelude.position}
 pub use Rattle.std.proofs.Common.{⊎_elim, zero, suc, slice_get, ◌≢◌, inl, option_map, ◌++◌, slice_index_or, get_or}
 pub use Rattle.std.proofs.lemmas.List.{length-take-le, take_more, take_all, get_or-drop, get_or-take, length-take}
-pub use Rattle.std.proofs.lemmas.List.Sums.{position_or_len_is}
-pub use Rattle.std.proofs.lemmas.Option.{slice_get-get_or}
-pub use Rattle.std.specs.List.{position_or_len}
-pub use Rattle.std.specs.Prelude.{position}
-pub use Rattle.am_base.specs.Names.{place_of}
-pub use Rattle.am_base.specs.Lists.{request_in, top_of, members_at}
+pub use Rattle.am_base.specs.{Names.place_of, Lists.request_in, Lists.top_of, Lists.members_at}
 unfoldable pub use Rattle.am_base.specs.Lists.{after, fold, AllFit}
-pub use Rattle.am_core.specs.Cores.{Keeps, Stands}
-pub use Rattle.am_core.specs.Kept.{IsKept}
-pub use Rattle.am_core.proofs.Ends.{image-top, told-push}
-pub use Rattle.am_core.proofs.CoreLaws.{stands_self}
-pub use Rattle.am_fronts.specs.Refresh.{LeadsBy, StaysAt, MayLead, core_and_reports}
-pub use Rattle.am_fronts.specs.Reports.{after_report}
+pub use Rattle.am_core.specs.{Cores.Keeps, Cores.Stands, Kept.IsKept}
+pub use Rattle.am_core.proofs.{Ends.image-top, Ends.told-push, CoreLaws.stands_self}
+pub use Rattle.am_fronts.specs.{Refresh.LeadsBy, Refresh.StaysAt, Refresh.MayLead, Refresh.core_and_reports, Reports.after_report}
 pub use Rattle.am_bodies.specs.declared.KeptBody.{KeptBody}
 pub use Rattle.am_sender.specs.Sends.{Sends, next_request}
-pub use Rattle.am_model.specs.Node.{has_log, members}
+pub use Rattle.am_model.specs.{Node.has_log, Node.members, Refresh.with_led, Ends.Tells, Ends.Changes, declared.status.Status.TheVariants.Member}
+pub use Rattle.am_model.specs.{Ballots.own_vote}
 unfoldable pub use Rattle.am_model.specs.Emit.{put_all}
-pub use Rattle.am_model.specs.Refresh.{with_led}
-pub use Rattle.am_model.specs.Ends.{Tells, Changes}
 pub use Rattle.am_model.proofs.Sends.{own_data}
-pub use Rattle.am_model.specs.declared.status.Status.TheVariants.{Member}
-pub use Rattle.am_model.specs.Ballots.{own_vote}
-pub use Rattle.am_chain_lists.proofs.Rows.{row_at, long_after, and_left}
-pub use Rattle.am_chain_lists.proofs.Requests.{IsNext, entry_goes_on, own_request}
-pub use Rattle.am_ends.proofs.Nodes.{keeps_end, refresh_end}
-pub use Rattle.am_ends.proofs.Plans.{Alike, finish_alike, comes_whole}
-pub use Rattle.am_handlers.specs.Cores.{CoreTells, with_core}
-pub use Rattle.am_handlers.specs.Parts.{with_told, passes, accepted_number, node_of}
-pub use Rattle.am_handlers.specs.Keeps.{IsDue, NodeKeeps, IsOwnBallot, IsSteady, MayServe}
-pub use Rattle.am_handlers.specs.Finishing.{Done, letter_of}
-pub use Rattle.am_handlers.specs.declared.finishing.OneLetter.{OneLetter}
-pub use Rattle.am_handlers.specs.declared.parts.Parts.{Parts}
+pub use Rattle.am_chain_lists.proofs.{Rows.row_at, Rows.long_after, Rows.and_left, Requests.IsNext, Requests.entry_goes_on, Requests.own_request}
+pub use Rattle.am_ends.proofs.{Nodes.keeps_end, Nodes.refresh_end, Plans.Alike, Plans.finish_alike, Plans.comes_whole}
+pub use Rattle.am_handlers.specs.{Cores.CoreTells, Cores.with_core, Parts.with_told, Parts.passes, Parts.accepted_number, Parts.node_of, Keeps.IsDue}
+pub use Rattle.am_handlers.specs.{Keeps.NodeKeeps, Keeps.IsOwnBallot, Keeps.IsSteady, Keeps.MayServe, Finishing.Done, Finishing.letter_of}
+pub use Rattle.am_handlers.specs.{declared.finishing.OneLetter.OneLetter, declared.parts.Parts.Parts}

@@ -38,64 +38,39 @@ pub use Rattle.am_steps.proofs.Words.{heard_used, run_owned, HeardNames, change_
 pub use Rattle.am_steps.proofs.Words.{AllViews, each_views, views_start, few_names, nil_of, goes_on, grows_same, Following, StepsMove, member_stays}
 pub use Rattle.am_steps.proofs.Words.{departed_silent, letters_stay, others_keep, taken_more}
 unfoldable pub use Rattle.am_steps.proofs.Words.{happens}
-pub use Rattle.std.proofs.lemmas.List.{take_all, get_or-map}
-pub use Rattle.std.proofs.lemmas.List.Sums.{count_by-le-length, sum_by-cons}
-pub use Rattle.std.specs.Prelude.{Contains, slice_index_or}
+pub use Rattle.std.{proofs.lemmas.List.take_all, proofs.lemmas.List.get_or-map, proofs.lemmas.List.Sums.count_by-le-length}
+pub use Rattle.std.{proofs.lemmas.List.Sums.sum_by-cons, specs.Prelude.Contains, specs.Prelude.slice_index_or}
 pub use Rattle.am_base.specs.Lists.{with_entry}
 pub use Rattle.am_core.proofs.Ends.{image-push, image-top}
-pub use Rattle.am_model.specs.Node.{has_room, is_within_bound}
-pub use Rattle.am_model.specs.Ballots.{ends, decide_view}
-unfoldable pub use Rattle.am_model.specs.Ballots.{decide}
-pub use Rattle.am_model.specs.Calls.{with_queued}
-pub use Rattle.am_model.specs.Receiving.{store, receive_entry, data_of}
-unfoldable pub use Rattle.am_model.specs.Receiving.{bcast_row, order_row}
+pub use Rattle.am_model.specs.{Node.has_room, Node.is_within_bound, Ballots.ends, Ballots.decide_view, Calls.with_queued, Receiving.store}
+pub use Rattle.am_model.specs.{Receiving.receive_entry, Receiving.data_of}
 pub use Rattle.am_model.specs.Resets.{push_fetched, catch_up, decide_anew, fetches_from, piece_promised, piece_for}
-unfoldable pub use Rattle.am_model.specs.Resets.{piece_row, result_row}
-unfoldable pub use Rattle.am_play.specs.World.{happen}
+unfoldable pub use Rattle.am_model.specs.{Ballots.decide, Receiving.bcast_row, Receiving.order_row, Resets.piece_row, Resets.result_row}
+unfoldable pub use Rattle.am_play.specs.{World.happen, Lawful.watch_all, Lawful.is_complete, Lawful.is_lawful, Lawful.greatest_complete, Lawful.watch}
 pub use Rattle.am_play.specs.Lawful.{Watch, watch_run, watch_start, broken_at, lawful_front, greater_complete, broken_now, counts, is_lost, has_stored, lags}
-unfoldable pub use Rattle.am_play.specs.Lawful.{watch_all, is_complete, is_lawful, greatest_complete, watch}
 pub use Rattle.am_play.specs.Claims.{BecameComplete, FitsView, ViewsFit, Segment, KeepsView, Holds, HeadlineHolds}
-pub use Rattle.am_play.proofs.Runs.{front_is_lawful, watched_is_run, one_record_each, runs_go_on}
-pub use Rattle.am_play.proofs.Beginnings.{runs_begin}
-pub use Rattle.am_chain_lists.proofs.Rows.{in_viewed}
-pub use Rattle.am_chain_lists.proofs.Order.{lt_key}
+pub use Rattle.am_play.proofs.{Runs.front_is_lawful, Runs.watched_is_run, Runs.one_record_each, Runs.runs_go_on, Beginnings.runs_begin}
+pub use Rattle.am_chain_lists.proofs.{Rows.in_viewed, Order.lt_key}
 pub use Rattle.am_effects.specs.Courses.{at_end}
 pub use Rattle.am_effects.proofs.Tests.{or_first}
 pub use Rattle.am_bounded.proofs.Changes.{kept_change}
-pub use Rattle.am_laws.proofs.Blank.{change_blank, no_member, Blanked, blank_holds}
-pub use Rattle.am_laws.proofs.Taken.{change_owned}
-pub use Rattle.am_laws.proofs.Trims.{Fronts}
-pub use Rattle.am_laws.proofs.Fronts.{front_begins}
-pub use Rattle.am_laws.proofs.CallCounts.{fewer_wait}
+pub use Rattle.am_laws.proofs.{Blank.change_blank, Blank.no_member, Blank.Blanked, Blank.blank_holds, Taken.change_owned, Trims.Fronts, Fronts.front_begins}
+pub use Rattle.am_laws.proofs.{CallCounts.fewer_wait}
 pub use Rattle.am_laws.specs.Blank.{IsBlank}
-pub use Rattle.am_watched.proofs.Watched.{watch_push}
-pub use Rattle.am_watched.proofs.Lists.{lists_go_on}
+pub use Rattle.am_watched.proofs.{Watched.watch_push, Lists.lists_go_on}
 pub use Rattle.am_chain_moves.specs.Runs.{MayBegin, Completes, Run}
 pub use Rattle.am_promises.specs.Ballots.{IsOfBallot, LastOk}
 pub use Rattle.am_promises.proofs.Ballots.{ballots_are_own}
-pub use Rattle.am_unballoted.proofs.Lists.{item_get, item_within, item_more, get_item, item_taken}
-pub use Rattle.am_unballoted.proofs.Steps.{taken_or, given_push}
-pub use Rattle.am_unballoted.proofs.Worlds.{StandsAt, GivenOk, begins_at, RecordOk}
+pub use Rattle.am_unballoted.proofs.{Lists.item_get, Lists.item_within, Lists.item_more, Lists.get_item, Lists.item_taken, Steps.taken_or, Steps.given_push}
+pub use Rattle.am_unballoted.proofs.{Worlds.StandsAt, Worlds.GivenOk, Worlds.begins_at, Worlds.RecordOk, Goes.by_name, Kept.At, Kept.BeginsOk, Kept.SendOk}
+pub use Rattle.am_unballoted.proofs.{Kept.IsSettled, Kept.sends_more, Welcomes.record_step, Welcomes.welcomed_step, FirstChanges.leader_member}
 pub use Rattle.am_unballoted.proofs.Chains.{gave_still, passed_front, front, Gave, nothing, took, began, at_least, gave_begun, still_log}
-pub use Rattle.am_unballoted.proofs.Goes.{by_name}
-pub use Rattle.am_unballoted.proofs.Kept.{At, BeginsOk, SendOk, IsSettled, sends_more}
 pub use Rattle.am_unballoted.proofs.Records.{idle_takes, idle_welcomes, idle_sends, deliveries_push, given_same, not_given, idle_gives, given_more}
 pub use Rattle.am_unballoted.proofs.Records.{accepted_more, accepted_and, welcome_in, welcomes_push, idle_welcome, other_welcome, record_up}
-pub use Rattle.am_unballoted.proofs.Welcomes.{record_step, welcomed_step}
-pub use Rattle.am_unballoted.proofs.FirstChanges.{leader_member}
-pub use Rattle.am_stands.proofs.Begun.{start_keeps}
-pub use Rattle.am_stands.proofs.Branches.{branches_begin, up_as}
-pub use Rattle.am_stands.proofs.Onward.{group_kept, move_on}
-pub use Rattle.am_stands.proofs.Start.{start_stands}
-pub use Rattle.am_stands.proofs.Pieces.{plain as not_view}
-pub use Rattle.am_stands.proofs.Changes.{told_all, long_all}
-pub use Rattle.am_stands.proofs.Parts.{number_low, image_whole}
-pub use Rattle.am_stands.proofs.Events.{idle_stands, stop_stands, return_stands}
-pub use Rattle.am_stands.proofs.Joins.{Becomes, stayed, joins, founds, became, blank_nil}
-pub use Rattle.am_stands.proofs.Counting.{count_up_to, names_pass, names_few, name_small}
-pub use Rattle.am_stands.proofs.Opens.{runs_open, moves_open}
+pub use Rattle.am_stands.proofs.{Begun.start_keeps, Branches.branches_begin, Branches.up_as, Onward.group_kept, Onward.move_on, Start.start_stands}
+pub use Rattle.am_stands.proofs.{Pieces.plain as not_view, Changes.told_all, Changes.long_all, Parts.number_low, Parts.image_whole, Events.idle_stands}
+pub use Rattle.am_stands.proofs.{Events.stop_stands, Events.return_stands, Joins.Becomes, Joins.stayed, Joins.joins, Joins.founds, Joins.became}
+pub use Rattle.am_stands.proofs.{Joins.blank_nil, Counting.count_up_to, Counting.names_pass, Counting.names_few, Counting.name_small, Opens.runs_open}
+pub use Rattle.am_stands.proofs.{Opens.moves_open, Growing.same_name, Growing.grows_names, Growing.node_grows}
 pub use Rattle.am_stands.specs.Branches.{ChainNamed}
-pub use Rattle.am_stands.proofs.Growing.{same_name, grows_names, node_grows}
-pub use Rattle.am_steps.proofs.Silent.{departed_quiet}
-pub use Rattle.am_steps.proofs.Statuses.{departed_is}
-pub use Rattle.am_steps.proofs.Steps.{steps_move, deeds_there}
+pub use Rattle.am_steps.proofs.{Silent.departed_quiet, Statuses.departed_is, Steps.steps_move, Steps.deeds_there}

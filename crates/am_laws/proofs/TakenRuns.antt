@@ -110,15 +110,8 @@ founder_owned rules name there =
 stranger_owned : (rules : Rules) (name : ℕ) → Owned (stranger rules name)
 unfolding JoinsFit
 stranger_owned rules name = record {
-  fronts = record {
-    used = used_blank;
-    joins = tt;
-    kept = omega arith;
-    base = omega arith;
-    given = omega arith;
-    accepted = omega arith;
-    reported = omega arith;
-  };
+  fronts =
+      record { used = used_blank; joins = tt; kept = omega arith; base = omega arith; given = omega arith; accepted = omega arith; reported = omega arith };
   leads = λ t. absurd (cc);
   vote = tt;
 }

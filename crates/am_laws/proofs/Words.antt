@@ -29,80 +29,49 @@ unfoldable pub use Rattle.am_effects.proofs.Words.{lead, settle, refresh_at_end,
 unfoldable pub use Rattle.am_effects.proofs.Words.{step, hear, hear_refusal, row, request_row, ack_row, nack_row, join_ask_row, welcome_row, leave_ask_row}
 unfoldable pub use Rattle.am_effects.proofs.Words.{gone_row, invite_row, vote_row, fetch_row, piece_row, result_row, hand_over_row, hear_row, with_record}
 unfoldable pub use Rattle.am_effects.proofs.Words.{with_step, happens, happen}
+pub use Rattle.std.{proofs.Math.Seq.take-length, proofs.lemmas.Bool.cases_lt, proofs.lemmas.List.Folds.list_any-append, proofs.lemmas.List.Sums.sum_by-cons}
+pub use Rattle.std.{specs.List.count_by, specs.List.range_with_len}
 pub use Rattle.std.proofs.Common.{unwrap_or, filter, ⊎_elim, take, slice_index_or, map, set, length-drop, get_or}
-pub use Rattle.std.proofs.Math.Seq.{take-length}
-pub use Rattle.std.proofs.lemmas.Bool.{cases_lt}
 pub use Rattle.std.proofs.lemmas.List.{length-take, get_or-replicate, length-map, set-get_or, ext_get_or}
 pub use Rattle.std.proofs.lemmas.List.Elements.{All-map, All-set, All-weaker, All-replicate, All-get_or, All-from_get_or, All-filter}
-pub use Rattle.std.proofs.lemmas.List.Folds.{list_any-append}
-pub use Rattle.std.proofs.lemmas.List.Sums.{sum_by-cons}
-pub use Rattle.std.specs.List.{count_by, range_with_len}
-pub use Rattle.am_base.specs.Names.{names_of, IsSet, nobody, name_at, rank_of, names_from}
-unfoldable pub use Rattle.am_base.specs.Names.{by_place}
-pub use Rattle.am_base.specs.Founding.{MayFound}
+pub use Rattle.am_base.specs.{Names.names_of, Names.IsSet, Names.nobody, Names.name_at, Names.rank_of, Names.names_from, Founding.MayFound}
+pub use Rattle.am_base.specs.{Fronts.accept_front, Most.most_body, Most.most_number, Limits.IsNumber, Limits.IsReport, Limits.IsImage, Limits.IsEntry}
+pub use Rattle.am_base.specs.{Votes.Shown, Votes.vote_lt, Votes.all_names, Votes.better_of}
 pub use Rattle.am_base.specs.Lists.{blank, blank_row, is_blank, row_after_view, image_at, members_at, with_entry}
-pub use Rattle.am_base.specs.Fronts.{accept_front}
-pub use Rattle.am_base.specs.Most.{most_body, most_number}
-pub use Rattle.am_base.specs.Limits.{IsNumber, IsReport, IsImage, IsEntry}
-pub use Rattle.am_base.specs.Votes.{Shown, vote_lt, all_names, better_of}
-unfoldable pub use Rattle.am_base.specs.Votes.{best_from}
-pub use Rattle.am_codec.specs.Limits.{IsPacket, HasEntryParts}
+unfoldable pub use Rattle.am_base.specs.{Names.by_place, Votes.best_from}
+pub use Rattle.am_codec.specs.{Limits.IsPacket, Limits.HasEntryParts, Spelling.stamp_of, Spelling.sender_of}
 unfoldable pub use Rattle.am_codec.specs.Limits.{IsWithin, HasParts}
-pub use Rattle.am_codec.specs.Spelling.{stamp_of, sender_of}
 pub use Rattle.am_codec.proofs.Again.{spelling_again}
 pub use Rattle.am_core.specs.Cores.{CoreState, since_accepted}
 unfoldable pub use Rattle.am_core.specs.Cores.{accept, unions}
 pub use Rattle.am_core.proofs.Lives.{JoinFits, IsUsed, row_at, used_after, used_fold, life_fold, member_at, unions_most, unions_least, unions_long, any_fits}
 pub use Rattle.am_core.proofs.Lives.{member_row, leave_life}
-unfoldable pub use Rattle.am_core.proofs.Lives.{JoinsFit}
 pub use Rattle.am_core.proofs.Ends.{image-top, image-push}
+unfoldable pub use Rattle.am_core.proofs.Lives.{JoinsFit}
 pub use Rattle.am_fronts.specs.Reports.{lesser, least_taken}
-unfoldable pub use Rattle.am_fronts.specs.Reports.{least_of}
-unfoldable pub use Rattle.am_fronts.specs.Refresh.{let_go}
-pub use Rattle.am_fronts.proofs.Leaders.{least_reported, least_in}
-pub use Rattle.am_fronts.proofs.ReportLaws.{count_cons}
-pub use Rattle.am_bodies.specs.declared.KeptBody.{KeptBody}
-pub use Rattle.am_bodies.specs.Bodies.{find_body}
+unfoldable pub use Rattle.am_fronts.specs.{Reports.least_of, Refresh.let_go}
+pub use Rattle.am_fronts.proofs.{Leaders.least_reported, Leaders.least_in, ReportLaws.count_cons}
+pub use Rattle.am_bodies.specs.{declared.KeptBody.KeptBody, Bodies.find_body}
 pub use Rattle.am_sender.specs.Sends.{Sends, is_unsettled}
-pub use Rattle.am_model.specs.Node.{set_at, founders_view, founding_stamp}
+pub use Rattle.am_model.specs.{Node.set_at, Node.founders_view, Node.founding_stamp, Receiving.own_body, Receiving.first_body, Sequencing.number_data}
+pub use Rattle.am_model.specs.{Joining.asks_to_leave}
 pub use Rattle.am_model.specs.Ballots.{taken_by, goes_on, ends as ended, decide_view, restart_reports, overtake, own_vote}
-pub use Rattle.am_model.specs.Receiving.{own_body, first_body}
-pub use Rattle.am_model.specs.Sequencing.{number_data}
-pub use Rattle.am_model.specs.Joining.{asks_to_leave}
 pub use Rattle.am_model.proofs.Founders.{first_founder}
+pub use Rattle.am_play.specs.{Claims.Begins, Lawful.broken_at, Lawful.before_break}
 pub use Rattle.am_play.specs.World.{lives_on, group_with, group_after, Decided, founders_decided, last_view, views_after}
-pub use Rattle.am_play.specs.Claims.{Begins}
-pub use Rattle.am_play.specs.Lawful.{broken_at, before_break}
 pub use Rattle.am_play.proofs.Beginnings.{runs_begin}
+pub use Rattle.am_chain_lists.proofs.{Requests.has_in, Order.rank_same, Members.index_members}
 pub use Rattle.am_chain_lists.proofs.Rows.{and_right, In, mod16, long_after, set_keeps, row_view, Spares, in_after, and_left, blank_joined}
-pub use Rattle.am_chain_lists.proofs.Requests.{has_in}
-pub use Rattle.am_chain_lists.proofs.Order.{rank_same}
-pub use Rattle.am_chain_lists.proofs.Members.{index_members}
-pub use Rattle.am_meaning.proofs.AcceptFronts.{accept_front_is}
-pub use Rattle.am_meaning.proofs.Bytes.{spelling_is_heard, cut_is_heard}
-pub use Rattle.am_effects.proofs.Nodes.{Each, each_node_keeps, first_has}
-pub use Rattle.am_effects.proofs.Statuses.{logged, asking_log}
-pub use Rattle.am_effects.specs.Changes.{Numbers, Promises, overtaken as overtaken_by, Fetches, for_ballot}
-pub use Rattle.am_effects.proofs.Rests.{rests_refresh, settle_is, rests_at_end, with_fronts, refresh_is, passed}
-pub use Rattle.am_effects.proofs.Runs.{EachKeeps, runs_keep, along, StepsKeep, SameParts, law_keeps}
-pub use Rattle.am_effects.proofs.Says.{view_pushed, told_pushed}
-pub use Rattle.am_effects.proofs.Tests.{equals_itself, or_first, or_second}
-pub use Rattle.am_effects.specs.Letters.{MayWelcome}
-pub use Rattle.am_effects.proofs.Items.{all_get, all_item, all_find, get_front, get_last}
-pub use Rattle.am_effects.proofs.Events.{events_have_effects}
-pub use Rattle.am_effects.proofs.Hearing.{other_heard}
-pub use Rattle.am_effects.proofs.Resets.{stamp_itself, same_stamp}
-pub use Rattle.am_effects.proofs.Ballots.{entry_is}
-pub use Rattle.am_bounded.proofs.Kept.{HasItself, Keeps}
-pub use Rattle.am_bounded.proofs.Changes.{itself, kept_change}
-pub use Rattle.am_bounded.proofs.Runs.{kept_own}
-pub use Rattle.am_laws.specs.Packets.{Bounds, up, UpTo}
-pub use Rattle.am_laws.specs.Blank.{BlankHolds}
-pub use Rattle.am_laws.specs.Begins.{FrontBegins}
-pub use Rattle.am_laws.specs.GivenUp.{OnlyStoppedGivenUp}
-pub use Rattle.am_laws.specs.Named.{NamesHold}
-pub use Rattle.am_laws.specs.Numbers.{NumbersHold}
+pub use Rattle.am_meaning.proofs.{AcceptFronts.accept_front_is, Bytes.spelling_is_heard, Bytes.cut_is_heard}
+pub use Rattle.am_effects.proofs.{Nodes.Each, Nodes.each_node_keeps, Nodes.first_has, Statuses.logged, Statuses.asking_log, Rests.rests_refresh}
+pub use Rattle.am_effects.proofs.{Rests.settle_is, Rests.rests_at_end, Rests.with_fronts, Rests.refresh_is, Rests.passed, Runs.EachKeeps, Runs.runs_keep}
+pub use Rattle.am_effects.proofs.{Runs.along, Runs.StepsKeep, Runs.SameParts, Runs.law_keeps, Says.view_pushed, Says.told_pushed, Tests.equals_itself}
+pub use Rattle.am_effects.proofs.{Tests.or_first, Tests.or_second, Items.all_get, Items.all_item, Items.all_find, Items.get_front, Items.get_last}
+pub use Rattle.am_effects.proofs.{Events.events_have_effects, Hearing.other_heard, Resets.stamp_itself, Resets.same_stamp, Ballots.entry_is}
+pub use Rattle.am_effects.specs.{Changes.Numbers, Changes.Promises, Changes.overtaken as overtaken_by, Changes.Fetches, Changes.for_ballot}
+pub use Rattle.am_effects.specs.{Letters.MayWelcome}
+pub use Rattle.am_bounded.proofs.{Kept.HasItself, Kept.Keeps, Changes.itself, Changes.kept_change, Runs.kept_own}
+pub use Rattle.am_laws.specs.{Packets.Bounds, Packets.up, Packets.UpTo, Blank.BlankHolds, Begins.FrontBegins, GivenUp.OnlyStoppedGivenUp, Named.NamesHold}
+pub use Rattle.am_laws.specs.{Numbers.NumbersHold, Taken.TakenHolds, Views.ViewsHold}
 pub use Rattle.am_laws.specs.Bytes.{BodyWithin, IsShort, LettersArePackets, LettersAreRead, acts_by_bytes, RunsAreOfBytes}
 unfoldable pub use Rattle.am_laws.specs.Bytes.{happen_by_bytes}
-pub use Rattle.am_laws.specs.Taken.{TakenHolds}
-pub use Rattle.am_laws.specs.Views.{ViewsHold}

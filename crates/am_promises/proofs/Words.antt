@@ -7,21 +7,13 @@ pub use Rattle.am_effects.proofs.Words.{with_more, without_one, as_it_is, finds_
 pub use Rattle.am_effects.proofs.Words.{looks, asks_to_join, closes, invited, overtaken, told_result, actor, IsCall, IsCause, idles, stops, returns, steps}
 pub use Rattle.am_effects.proofs.Words.{Says, request, LetterSays}
 unfoldable pub use Rattle.am_effects.proofs.Words.{with_record, with_step}
-pub use Rattle.std.proofs.Common.{⊎_elim}
-pub use Rattle.std.proofs.lemmas.List.Elements.{All-weaker}
-pub use Rattle.std.proofs.lemmas.List.Folds.{list_any-append}
-pub use Rattle.am_base.specs.Stamps.{no_stamp}
-pub use Rattle.am_base.specs.Founding.{MayFound}
-pub use Rattle.am_base.specs.Names.{rank_of}
+pub use Rattle.std.{proofs.Common.⊎_elim, proofs.lemmas.List.Elements.All-weaker, proofs.lemmas.List.Folds.list_any-append}
+pub use Rattle.am_base.specs.{Stamps.no_stamp, Founding.MayFound, Names.rank_of}
 pub use Rattle.am_codec.specs.Spelling.{sender_of, stamp_of}
-pub use Rattle.am_model.specs.Node.{set_at, founding_stamp}
-pub use Rattle.am_model.specs.Ballots.{overtake}
+pub use Rattle.am_model.specs.{Node.set_at, Node.founding_stamp, Ballots.overtake}
 pub use Rattle.am_model.proofs.Founders.{first_founder}
 pub use Rattle.am_effects.specs.Changes.{Promises}
-pub use Rattle.am_effects.proofs.Statuses.{logged, asking_log}
-pub use Rattle.am_effects.proofs.Receiving.{asking}
-pub use Rattle.am_effects.proofs.Rests.{rests_refresh, rests_closed, settle_is}
-pub use Rattle.am_effects.proofs.Runs.{along, EachKeeps, runs_keep}
-pub use Rattle.am_effects.proofs.Items.{all_get, all_item}
-pub use Rattle.am_promises.specs.Claim.{AtMost, IsBegun, StampOk, PromisesAreBegun}
-pub use Rattle.am_promises.specs.Ballots.{IsOfBallot, BallotOk, LastOk, BallotsAreOwn}
+pub use Rattle.am_effects.proofs.{Statuses.logged, Statuses.asking_log, Receiving.asking, Rests.rests_refresh, Rests.rests_closed, Rests.settle_is}
+pub use Rattle.am_effects.proofs.{Runs.along, Runs.EachKeeps, Runs.runs_keep, Items.all_get, Items.all_item}
+pub use Rattle.am_promises.specs.{Claim.AtMost, Claim.IsBegun, Claim.StampOk, Claim.PromisesAreBegun, Ballots.IsOfBallot, Ballots.BallotOk, Ballots.LastOk}
+pub use Rattle.am_promises.specs.{Ballots.BallotsAreOwn}

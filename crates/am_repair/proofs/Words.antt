@@ -24,79 +24,53 @@ pub use Rattle.am_laws.proofs.Words.{vote, result, hand_over, equals_itself}
 unfoldable pub use Rattle.am_laws.proofs.Words.{after, fits, fold, accept, pass_over, own_report, tell, go_on, let_go, finish, step, row, hear, hear_refusal}
 unfoldable pub use Rattle.am_laws.proofs.Words.{tick_row, refresh_at_end, lead, refresh, hear_row, request_row, ack_row, nack_row, accept_row, bcast_row}
 unfoldable pub use Rattle.am_laws.proofs.Words.{join_ask_row, happens, happen, with_step, with_record}
+pub use Rattle.std.{proofs.Math.Seq.take-append-add, proofs.lemmas.List.take_all, proofs.lemmas.List.drop_all, proofs.lemmas.List.Elements.All-push}
+pub use Rattle.std.{proofs.lemmas.List.Elements.Contains-append_right, proofs.lemmas.Option.slice_get-get_or, proofs.lemmas.Option.slice_get_within}
+pub use Rattle.std.{specs.List.prefix_len, specs.Prelude.Contains, specs.Prelude.filter}
 pub use Rattle.std.proofs.Common.{count_by, append_assoc, append-nil, add-one, ◌*◌, ◌/◌, slice_set, get_or-set_same, get_or-set_other}
-pub use Rattle.std.proofs.Math.Seq.{take-append-add}
 pub use Rattle.std.proofs.lemmas.Bool.{false_from_ne_true, not-true, and_from, not-false, eqb-true, eq-eqb}
-pub use Rattle.std.proofs.lemmas.List.{take_all, drop_all}
-pub use Rattle.std.proofs.lemmas.List.Elements.{All-push, Contains-append_right}
-pub use Rattle.std.proofs.lemmas.Option.{slice_get-get_or, slice_get_within}
-pub use Rattle.std.specs.List.{prefix_len}
-pub use Rattle.std.specs.Prelude.{Contains, filter}
-pub use Rattle.am_base.specs.Names.{without_name}
-pub use Rattle.am_base.specs.Fronts.{counted_at, is_held, counted_of}
-pub use Rattle.am_base.specs.Lists.{with_row}
+pub use Rattle.am_base.specs.{Names.without_name, Fronts.counted_at, Fronts.is_held, Fronts.counted_of, Lists.with_row}
+pub use Rattle.am_packet.specs.{Boxes.letter_to, Boxes.place_for, Boxes.with_letter, Kinds.kind_of}
 pub use Rattle.am_packet.specs.declared.packet.Packet.TheVariants.{Request, Spread, Bcast, Order, Accept, Ack, Nack, Hold, JoinAsk, Welcome, LeaveAsk, Gone}
 pub use Rattle.am_packet.specs.declared.packet.Packet.TheVariants.{Invite, Vote, Fetch, Piece, Result, HandOver}
-pub use Rattle.am_packet.specs.Boxes.{letter_to, place_for, with_letter}
-pub use Rattle.am_packet.specs.Kinds.{kind_of}
-pub use Rattle.am_core.proofs.Ends.{image-next, entry-get}
-pub use Rattle.am_core.proofs.Lives.{fit_at}
-pub use Rattle.am_core.proofs.Folds.{slice_get-drop}
+pub use Rattle.am_core.proofs.{Ends.image-next, Ends.entry-get, Lives.fit_at, Folds.slice_get-drop}
 pub use Rattle.am_group.proofs.Places.{get_behind, get_before}
-pub use Rattle.am_model.specs.Node.{has_room, has_departed, report_of, only_name, report_fits, has_own_leave}
+pub use Rattle.am_model.specs.{Node.has_room, Node.has_departed, Node.report_of, Node.only_name, Node.report_fits, Node.has_own_leave, Calls.would_emit}
+pub use Rattle.am_model.specs.{Calls.everywhere_else, Calls.hand_in, Ticks.behind_view, Ticks.going, Hearing.where_heard, Hearing.hears_as_sequencer}
+pub use Rattle.am_model.specs.{Sequencing.serve}
 pub use Rattle.am_model.specs.Emit.{telling, nack_of, bcast_of, accept_of, tells_accepted, with_accept, entries_to_serve, ack_of, fetch_of, request_of}
 pub use Rattle.am_model.specs.Emit.{spread_of, join_ask_of, result_of}
 unfoldable pub use Rattle.am_model.specs.Emit.{put_all}
-pub use Rattle.am_model.specs.Calls.{would_emit, everywhere_else, hand_in}
-pub use Rattle.am_model.specs.Ticks.{behind_view, going}
-pub use Rattle.am_model.specs.Hearing.{where_heard, hears_as_sequencer}
-pub use Rattle.am_model.specs.Sequencing.{serve}
 pub use Rattle.am_model.proofs.Sets.{some_size}
+pub use Rattle.am_play.specs.{World.does_event, Claims.MayRepair, Claims.HasCaughtUp, Lawful.is_lost, Lawful.Watch, Lawful.watch_start}
+pub use Rattle.am_play.specs.{Lawful.greatest_complete, Lawful.broken_now}
 pub use Rattle.am_play.specs.Settle.{event_at, Settling, hearings, and_then, ticks, round, round_count, hearings_of}
-unfoldable pub use Rattle.am_play.specs.Settle.{running, waves, rounds, settle_events, hearings_from}
-pub use Rattle.am_play.specs.World.{does_event}
-pub use Rattle.am_play.specs.Claims.{MayRepair, HasCaughtUp}
-pub use Rattle.am_play.proofs.Runs.{runs_go_on}
-pub use Rattle.am_play.proofs.Beginnings.{happens_begins, happen_begins}
-pub use Rattle.am_play.specs.Lawful.{is_lost, Watch, watch_start, greatest_complete, broken_now}
-unfoldable pub use Rattle.am_play.specs.Lawful.{is_lawful, watch, watch_all}
-pub use Rattle.am_chain_lists.proofs.Rows.{row_at, row_set, Past, past_after, not_both}
+unfoldable pub use Rattle.am_play.specs.{Settle.running, Settle.waves, Settle.rounds, Settle.settle_events, Settle.hearings_from, Lawful.is_lawful}
+unfoldable pub use Rattle.am_play.specs.{Lawful.watch, Lawful.watch_all}
+pub use Rattle.am_play.proofs.{Runs.runs_go_on, Beginnings.happens_begins, Beginnings.happen_begins}
+pub use Rattle.am_chain_lists.proofs.{Rows.row_at, Rows.row_set, Rows.Past, Rows.past_after, Rows.not_both, Members.fold_append, Members.good_begins}
+pub use Rattle.am_chain_lists.proofs.{Order.view_up, Order.view_below}
+pub use Rattle.am_chain_lists.proofs.Prefixes.{begins_length, begins_take, length_take, take_begins, begins_both, begins_push}
 pub use Rattle.am_chain_lists.specs.Whole.{IsGood, key}
 unfoldable pub use Rattle.am_chain_lists.specs.Whole.{mem, view_of}
-pub use Rattle.am_chain_lists.proofs.Members.{fold_append, good_begins}
-pub use Rattle.am_chain_lists.proofs.Prefixes.{begins_length, begins_take, length_take, take_begins, begins_both, begins_push}
-pub use Rattle.am_chain_lists.proofs.Order.{view_up, view_below}
-pub use Rattle.am_meaning.proofs.Held.{end_core}
+pub use Rattle.am_meaning.proofs.{Held.end_core, AcceptFronts.above_view, AcceptFronts.below_view}
 pub use Rattle.am_meaning.specs.Laws.{AllSatisfied}
-pub use Rattle.am_meaning.proofs.AcceptFronts.{above_view, below_view}
-pub use Rattle.am_effects.proofs.Calls.{node_if}
-pub use Rattle.am_effects.proofs.Says.{acts_pushed, leads_pushed}
-pub use Rattle.am_effects.specs.Causes.{refuses, with_send, by_ack, by_nack, by_leave_ask, BringsReport}
-pub use Rattle.am_effects.specs.Looks.{BeginsBy, by_reset, by_hand_over}
-pub use Rattle.am_effects.specs.Changes.{asks_to_leave, overtaken}
-pub use Rattle.am_effects.proofs.Rests.{leads_rests, SameStanding, with_sends}
-pub use Rattle.am_effects.proofs.Items.{get_take, all_letter}
-pub use Rattle.am_effects.specs.Events.{tick}
-pub use Rattle.am_effects.proofs.Hearing.{steps_have_effects, hearing_has_effects}
+pub use Rattle.am_effects.proofs.{Calls.node_if, Says.acts_pushed, Says.leads_pushed, Rests.leads_rests, Rests.SameStanding, Rests.with_sends, Items.get_take}
+pub use Rattle.am_effects.proofs.{Items.all_letter, Hearing.steps_have_effects, Hearing.hearing_has_effects}
+pub use Rattle.am_effects.specs.{Causes.refuses, Causes.with_send, Causes.by_ack, Causes.by_nack, Causes.by_leave_ask, Causes.BringsReport, Looks.BeginsBy}
+pub use Rattle.am_effects.specs.{Looks.by_reset, Looks.by_hand_over, Changes.asks_to_leave, Changes.overtaken, Events.tick}
 pub use Rattle.am_effects.specs.Letters.{leave_ask, MayInvite, has_begun, goes_on, MayTell, leads, decided}
-pub use Rattle.am_laws.proofs.ViewSteps.{after_same, view_last}
+pub use Rattle.am_laws.proofs.{ViewSteps.after_same, ViewSteps.view_last, Trims.told_used, Trims.Fronts, Trims.reporting, Trims.pushed_fronts}
+pub use Rattle.am_laws.proofs.{ViewNames.HeardNames, Counts.base_low, LeaderRows.in_is, LeaderRows.least_within, LeaderRows.data_member, Stamps.at_most_below}
+pub use Rattle.am_laws.proofs.{Stamps.not_above_itself, ViewChanges.Balloted, ViewChanges.next_above, ViewChanges.OpenBallot, ViewChanges.welcomed_none}
+pub use Rattle.am_laws.proofs.{Named.few_names, Views.heard_names, Blank.Blanked}
 pub use Rattle.am_laws.proofs.TakenRuns.{AllOwned, run_owned, each_owned, Along, along_changes, heard_used, each_along, owned_start}
-pub use Rattle.am_laws.proofs.Trims.{told_used, Fronts, reporting, pushed_fronts}
-pub use Rattle.am_laws.proofs.ViewNames.{HeardNames}
 pub use Rattle.am_laws.proofs.Taken.{HeardUsed, fetch_follows, stamp_by, other_asks, promise_is, not_above_view, not_own}
-pub use Rattle.am_laws.proofs.Counts.{base_low}
-pub use Rattle.am_laws.proofs.LeaderRows.{in_is, least_within, data_member}
-pub use Rattle.am_laws.proofs.Stamps.{at_most_below, not_above_itself}
-pub use Rattle.am_laws.proofs.ViewChanges.{Balloted, next_above, OpenBallot, welcomed_none}
-pub use Rattle.am_laws.proofs.Named.{few_names}
-pub use Rattle.am_laws.proofs.Views.{heard_names}
-pub use Rattle.am_laws.proofs.Blank.{Blanked}
+pub use Rattle.am_repair.specs.{Calm.Repair, Calm.Leads, Calm.IsApart, Calm.Follows, Calm.Calm, Calm.ReportIs, Calm.IsCalm, Calm.Stands, Rounds.IsOurs}
+pub use Rattle.am_repair.specs.{Rounds.ticks as our_ticks, Rounds.CalmStays, Rounds.RoundsStore, Rounds.hears as hears_, Waves.IsSent, Waves.Polled}
+pub use Rattle.am_repair.specs.{Waves.Reported, Waves.Asked, Waves.IsServed, Waves.Served, Known.TrimsKnown, Known.SequencersTrimKnown, Known.KnownIsTaken}
 pub use Rattle.am_repair.specs.Rows.{IsAtRest, HasReported, HasReports, FrontsRise, IsReport, ack, nack, request, spread, Asks, HearsFront, FrontsAreHeard}
 pub use Rattle.am_repair.specs.Rows.{GapsAreAsked, EntriesAreStored, Serves, ReportsAreTaken, NacksAreServed, ComesNext, Polls, SequencersPoll, Reports}
 pub use Rattle.am_repair.specs.Rows.{MembersReport}
-unfoldable pub use Rattle.am_repair.specs.Rows.{bcasts}
-pub use Rattle.am_repair.specs.Calm.{Repair, Leads, IsApart, Follows, Calm, ReportIs, IsCalm, Stands}
-pub use Rattle.am_repair.specs.Rounds.{IsOurs, ticks as our_ticks, CalmStays, RoundsStore, hears as hears_}
 pub use Rattle.am_repair.specs.Standing.{Agree, RepairsWhereListsAgree, RepairableIsLawful, IsBeginning, Agrees, OneListAgrees}
-pub use Rattle.am_repair.specs.Waves.{IsSent, Polled, Reported, Asked, IsServed, Served}
-pub use Rattle.am_repair.specs.Known.{TrimsKnown, SequencersTrimKnown, KnownIsTaken}
+unfoldable pub use Rattle.am_repair.specs.Rows.{bcasts}

@@ -29,44 +29,25 @@ pub use Rattle.am_stands.proofs.Words.{finds_too_few, finds_no_room, view_pushed
 pub use Rattle.am_stands.proofs.Words.{counted_in, MayNumber, accepts, shows, serves, first_stamp, put_at, of_line, of_shown, over, NewView}
 unfoldable pub use Rattle.am_stands.proofs.Words.{fits, fold, mem}
 pub use Rattle.std.proofs.Common.{All}
-pub use Rattle.am_model.specs.Node.{image_of as told_at, with_report}
-pub use Rattle.am_model.specs.Joining.{with_admitted}
+pub use Rattle.am_model.specs.{Node.image_of as told_at, Node.with_report, Joining.with_admitted}
 unfoldable pub use Rattle.am_model.specs.Joining.{join_ask_row}
-pub use Rattle.am_play.specs.Claims.{MayRepair, HasCaughtUp, Repairs}
-pub use Rattle.am_play.specs.Settle.{settle_events}
+pub use Rattle.am_play.specs.{Claims.MayRepair, Claims.HasCaughtUp, Claims.Repairs, Settle.settle_events}
 pub use Rattle.am_chain_lists.proofs.Members.{ends_of}
-pub use Rattle.am_effects.proofs.Hearing.{other_heard}
+pub use Rattle.am_effects.proofs.{Hearing.other_heard, Rests.rests_closed}
 pub use Rattle.am_effects.specs.Changes.{for_ballot, departs}
-pub use Rattle.am_effects.proofs.Rests.{rests_closed}
 pub use Rattle.am_effects.specs.Courses.{IsPlain, Course, nothing_yet, used_report, and_then, Deeds, plainly, looked}
-pub use Rattle.am_laws.proofs.Taken.{stamp_by, other_asks}
-pub use Rattle.am_laws.proofs.TakenRuns.{taken_holds, AllOwned, each_owned}
-pub use Rattle.am_laws.proofs.ViewChanges.{next_above}
-pub use Rattle.am_laws.proofs.Stamps.{not_above_itself, not_above, at_most, at_most_below, below}
-pub use Rattle.am_laws.proofs.ViewSteps.{SameView, Stood, view_last}
-pub use Rattle.am_laws.proofs.Named.{names_hold}
+pub use Rattle.am_laws.proofs.{Taken.stamp_by, Taken.other_asks, TakenRuns.taken_holds, TakenRuns.AllOwned, TakenRuns.each_owned, ViewChanges.next_above}
+pub use Rattle.am_laws.proofs.{Stamps.not_above_itself, Stamps.not_above, Stamps.at_most, Stamps.at_most_below, Stamps.below, ViewSteps.SameView}
+pub use Rattle.am_laws.proofs.{ViewSteps.Stood, ViewSteps.view_last, Named.names_hold}
 pub use Rattle.am_chain_moves.specs.Group.{Leads, current_of}
-pub use Rattle.am_stands.proofs.ChainNames.{counts_names}
-pub use Rattle.am_stands.proofs.Parts.{stood, counted_whole}
-pub use Rattle.am_stands.proofs.Entries.{key_stamp}
-pub use Rattle.am_stands.proofs.Sent.{leading, Leading}
-pub use Rattle.am_stands.proofs.LeftOut.{last_is}
-pub use Rattle.am_stands.proofs.Growing.{moves_grow}
-pub use Rattle.am_steps.proofs.Any.{GoesSo, run_goes}
-pub use Rattle.am_steps.proofs.Starting.{item_get}
-pub use Rattle.am_steps.proofs.Departed.{rests_step, rests_course}
-pub use Rattle.am_headline.proofs.Ways.{Kind, kind_of}
-pub use Rattle.am_headline.proofs.Begun.{held}
-pub use Rattle.am_headline.proofs.OneStep.{parts, plain, OneStep}
-pub use Rattle.am_headline.proofs.Fold.{KeptBy, Quiet}
-pub use Rattle.am_headline.proofs.Shapes.{ListGoes, same, up, gone, list_moves}
+pub use Rattle.am_stands.proofs.{ChainNames.counts_names, Parts.stood, Parts.counted_whole, Entries.key_stamp, Sent.leading, Sent.Leading, LeftOut.last_is}
+pub use Rattle.am_stands.proofs.{Growing.moves_grow}
+pub use Rattle.am_steps.proofs.{Any.GoesSo, Any.run_goes, Starting.item_get, Departed.rests_step, Departed.rests_course}
+pub use Rattle.am_headline.proofs.{Ways.Kind, Ways.kind_of, Begun.held, OneStep.parts, OneStep.plain, OneStep.OneStep, Fold.KeptBy, Fold.Quiet}
+pub use Rattle.am_headline.proofs.{Shapes.ListGoes, Shapes.same, Shapes.up, Shapes.gone, Shapes.list_moves}
+pub use Rattle.am_repair.proofs.{Nodes.acting, Nodes.alike_refresh, Nodes.alike_settle, Nodes.view_alike, Nodes.acts_alike, Nodes.Alike}
+pub use Rattle.am_repair.proofs.{ReportedRuns.known_is_taken, ReportedRuns.run_told, ReportedRuns.cause_taken, Knowing.NoJoin, Lawfully.repairable_is_lawful}
+pub use Rattle.am_repair.proofs.{Beginning.repairs_where_lists_agree, KnownRuns.sequencers_trim_known, OneLists.one_list_agrees}
 pub use Rattle.am_repair.proofs.Reported.{end_same, Rises, rises_change, CauseTaken, told_so, refresh_same}
-pub use Rattle.am_repair.proofs.Nodes.{acting, alike_refresh, alike_settle, view_alike, acts_alike, Alike}
-pub use Rattle.am_repair.proofs.ReportedRuns.{known_is_taken, run_told, cause_taken}
-pub use Rattle.am_repair.proofs.Knowing.{NoJoin}
 pub use Rattle.am_repair.specs.Standing.{IsOneList, RepairableIsOneList}
-pub use Rattle.am_repair.proofs.Lawfully.{repairable_is_lawful}
-pub use Rattle.am_repair.proofs.Beginning.{repairs_where_lists_agree}
-pub use Rattle.am_repair.proofs.KnownRuns.{sequencers_trim_known}
-pub use Rattle.am_repair.proofs.OneLists.{one_list_agrees}
 pub use Rattle.am_repaired.specs.Trimmed.{RepairableTrims, RepairableCounts}

@@ -6,26 +6,17 @@ pub use Rattle.am_ends.proofs.Words.{IsInOrder, split, Node, only_name, top, has
 pub use Rattle.am_ends.proofs.Words.{entries_to_serve, put_all, Plan, quiet, polling, and_telling, hold_of, IsEndOf, Does, row_at, is_unknown, take_report}
 pub use Rattle.am_ends.proofs.Words.{serve_again, serve, answer_request, number_data}
 unfoldable pub use Rattle.am_ends.proofs.Words.{ack_row, nack_row, request_row}
-pub use Rattle.std.proofs.Common.{slice_index, slice_index_or, length-drop}
-pub use Rattle.std.proofs.Math.ListN.{get_or-map}
-pub use Rattle.std.proofs.lemmas.List.{length-take}
-pub use Rattle.am_base.specs.Names.{place_of}
-pub use Rattle.am_base.specs.Lists.{blank_row, member_life, top_of}
+pub use Rattle.std.{proofs.Common.slice_index, proofs.Common.slice_index_or, proofs.Common.length-drop, proofs.Math.ListN.get_or-map}
+pub use Rattle.std.{proofs.lemmas.List.length-take}
+pub use Rattle.am_base.specs.{Names.place_of, Lists.blank_row, Lists.member_life, Lists.top_of}
 unfoldable pub use Rattle.am_base.specs.Lists.{fits}
-pub use Rattle.am_core.proofs.CoreLaws.{stands_self}
-pub use Rattle.am_core.proofs.Members.{members_pushed}
-pub use Rattle.am_model.specs.Node.{stranger}
-pub use Rattle.am_model.specs.Ends.{Tells}
+pub use Rattle.am_core.proofs.{CoreLaws.stands_self, Members.members_pushed}
+pub use Rattle.am_model.specs.{Node.stranger, Ends.Tells}
 pub use Rattle.am_model.proofs.Letters.{one_more}
-pub use Rattle.am_ends.proofs.Nodes.{keeps_end}
-pub use Rattle.am_ends.proofs.Sequencing.{same_served, alike_requested, alike_asked_again}
-pub use Rattle.am_handlers.specs.Cores.{CoreTells, with_core}
-pub use Rattle.am_handlers.proofs.Doing.{core_tells}
+pub use Rattle.am_ends.proofs.{Nodes.keeps_end, Sequencing.same_served, Sequencing.alike_requested, Sequencing.alike_asked_again}
+pub use Rattle.am_handlers.specs.{Cores.CoreTells, Cores.with_core, Finishing.Done, Finishing.unless, Parts.node_of, Parts.with_told}
+pub use Rattle.am_handlers.specs.{declared.parts.Parts.Parts}
+pub use Rattle.am_handlers.proofs.{Doing.core_tells, Ends.tells, Ends.end_self, Ends.settled_end, Served.kept_above, Served.put_next, Served.entry_there}
+pub use Rattle.am_handlers.proofs.{Served.entry_served, Served.take_few, Served.put_none, Keeping.keeps_pushed, Keeping.leading_log, Keeping.steady_leads}
 pub use Rattle.am_handlers.proofs.Plans.{end_tells, does_now, done_whole, done_telling, done_silent, done, letter_tells, told_numbered}
-pub use Rattle.am_handlers.proofs.Ends.{tells, end_self, settled_end}
-pub use Rattle.am_handlers.specs.Finishing.{Done, unless}
-pub use Rattle.am_handlers.proofs.Served.{kept_above, put_next, entry_there, entry_served, take_few, put_none}
-pub use Rattle.am_handlers.specs.Parts.{node_of, with_told}
-pub use Rattle.am_handlers.proofs.Keeping.{keeps_pushed, leading_log, steady_leads}
-pub use Rattle.am_handlers.specs.declared.parts.Parts.{Parts}
 pub use Rattle.am_sequencer.specs.Pieces.{bcast_from, following, report_refusal, request_refusal, data_packet}

@@ -29,32 +29,23 @@ pub use Rattle.am_effects.proofs.Words.{Ok, Err, is_some, not-true, eq-eqb, slic
 pub use Rattle.am_effects.proofs.Words.{item_at, has_departed, only_name, has_own_leave, is_waited_for, may_fetch, Departed, read_row, asks_to_leave}
 pub use Rattle.am_effects.proofs.Words.{MayStore, overtaken, MayReport, BringsReport, with_send, by_ack, by_nack, by_leave_ask, BringsFronts, with_entry}
 pub use Rattle.am_effects.proofs.Words.{with_number, alone, HasLearned, leads, decided, ack, nack, leave_ask}
-pub use Rattle.std.proofs.Common.{count_by, append-nil}
-pub use Rattle.std.proofs.Math.Bool.{and-false}
-pub use Rattle.std.proofs.Math.Seq.{take-append-add, drop-append-add, drop-append_seam}
-pub use Rattle.std.proofs.lemmas.Bool.{leb-true, eqb-false, eqb-true}
-pub use Rattle.std.proofs.lemmas.Grind.{flat_map-append}
+pub use Rattle.std.{proofs.Common.count_by, proofs.Common.append-nil, proofs.Math.Bool.and-false, proofs.Math.Seq.take-append-add}
+pub use Rattle.std.{proofs.Math.Seq.drop-append-add, proofs.Math.Seq.drop-append_seam, proofs.lemmas.Bool.leb-true, proofs.lemmas.Bool.eqb-false}
+pub use Rattle.std.{proofs.lemmas.Bool.eqb-true, proofs.lemmas.Grind.flat_map-append, specs.List.list_all}
 pub use Rattle.std.proofs.lemmas.List.{length-append, append_assoc, get_or-set_other, take-append-drop}
-pub use Rattle.std.specs.List.{list_all}
-pub use Rattle.am_base.specs.Names.{is_within}
-pub use Rattle.am_base.specs.Lists.{with_row, requests_of, request_in}
+pub use Rattle.am_base.specs.{Names.is_within, Lists.with_row, Lists.requests_of, Lists.request_in, Stamps.no_stamp}
 pub use Rattle.am_base.specs.Fronts.{counted_at, need_at, holders_at, is_held, is_satisfied, is_front, counted_of}
-pub use Rattle.am_base.specs.Stamps.{no_stamp}
 pub use Rattle.am_base.specs.declared.event.NodeEvent.TheVariants.{Done, State, Ask, GiveUp, Tick, Hear}
-pub use Rattle.am_packet.specs.declared.packet.Packet.TheVariants.{Request, Spread, Bcast, Order, Accept, Ack, Nack, Hold, JoinAsk, Welcome, LeaveAsk, Gone}
-pub use Rattle.am_packet.specs.declared.packet.Packet.TheVariants.{Invite, Vote as VoteOf, Fetch, Piece, Result, HandOver}
+pub use Rattle.am_packet.specs.declared.packet.Packet.TheVariants.{Request, Spread, Bcast, Order, Accept, Ack, Nack, Welcome, LeaveAsk, Gone, Vote as VoteOf}
+pub use Rattle.am_packet.specs.declared.packet.Packet.TheVariants.{Fetch, Piece, Result}
 pub use Rattle.am_core.proofs.Ranges.{all_at}
 pub use Rattle.am_fronts.specs.Reports.{after_report, with_admitted, reports_from}
-pub use Rattle.am_fronts.proofs.Again.{greatest_low, greatest_there}
-pub use Rattle.am_fronts.proofs.Views.{view_grows}
+pub use Rattle.am_fronts.proofs.{Again.greatest_low, Again.greatest_there, Views.view_grows}
 pub use Rattle.am_group.specs.declared.event.Record.{Record}
-pub use Rattle.am_model.specs.Refresh.{concerned_names}
-pub use Rattle.am_model.specs.Ballots.{with_end, has_voted}
-pub use Rattle.am_model.specs.Joining.{all_stored}
+pub use Rattle.am_model.specs.{Refresh.concerned_names, Ballots.with_end, Ballots.has_voted, Joining.all_stored}
 pub use Rattle.am_model.proofs.Sets.{some_size, has_size, has_those}
-pub use Rattle.am_play.specs.Claims.{line_of}
+pub use Rattle.am_play.specs.{Claims.line_of, Lawful.whole, Lawful.is_view_of}
 unfoldable pub use Rattle.am_play.specs.Claims.{up_to_next, up_to_view}
-pub use Rattle.am_play.specs.Lawful.{whole, is_view_of}
 pub use Rattle.am_chain_lists.specs.Whole.{Begins, image_of, IsGood, BeginsBelow, NotView}
 unfoldable pub use Rattle.am_chain_lists.specs.Whole.{mem, view_of, key, resilience_of}
 pub use Rattle.am_chain_lists.proofs.Prefixes.{begins_take, begins_trans, begins_both, begins_length, length_take, begins_refl, begins_nil, begins_more}
@@ -64,42 +55,29 @@ pub use Rattle.am_chain_lists.proofs.Members.{viewed_mem, was_begins, good_push,
 pub use Rattle.am_chain_lists.proofs.Rows.{low_or_above, row_at, row_set, same_name, Past, Was, past_after, not_both, view_parts}
 pub use Rattle.am_chain_lists.proofs.Order.{key_by, view_up, key_lt, view_small, view_viewed, view_push, view_below}
 pub use Rattle.am_meaning.proofs.BestVotes.{best_vote_is}
-pub use Rattle.am_effects.proofs.Resets.{member_heard}
-pub use Rattle.am_effects.proofs.Rests.{leads_rests}
-pub use Rattle.am_effects.proofs.Items.{get_push}
-pub use Rattle.am_effects.proofs.Says.{leads_pushed}
+pub use Rattle.am_effects.proofs.{Resets.member_heard, Rests.leads_rests, Items.get_push, Says.leads_pushed}
 pub use Rattle.am_effects.specs.Letters.{MayTell, MayFetch}
-pub use Rattle.am_laws.proofs.LeaderRows.{first_member}
-pub use Rattle.am_laws.proofs.Stamps.{equal_stamps}
-pub use Rattle.am_laws.proofs.ViewSteps.{after_same, after_view}
-pub use Rattle.am_laws.proofs.ViewChanges.{numbers_plain, OpenBallot, looked_at, none_of_asking}
-pub use Rattle.am_laws.proofs.Taken.{known_member, leave_fits, looked_vote, own_need, those_at}
-pub use Rattle.am_laws.proofs.Trims.{told_used}
-pub use Rattle.am_laws.proofs.TakenRuns.{Along, along_changes}
-pub use Rattle.am_laws.proofs.Named.{change_named}
-pub use Rattle.am_laws.proofs.ViewMembers.{those_long, viewed_members, those_some}
-pub use Rattle.am_laws.proofs.Limits.{set_those}
+pub use Rattle.am_laws.proofs.{LeaderRows.first_member, Stamps.equal_stamps, ViewSteps.after_same, ViewSteps.after_view, ViewChanges.numbers_plain}
+pub use Rattle.am_laws.proofs.{ViewChanges.OpenBallot, ViewChanges.looked_at, ViewChanges.none_of_asking, Taken.known_member, Taken.leave_fits}
+pub use Rattle.am_laws.proofs.{Taken.looked_vote, Taken.own_need, Taken.those_at, Trims.told_used, TakenRuns.Along, TakenRuns.along_changes}
+pub use Rattle.am_laws.proofs.{Named.change_named, ViewMembers.those_long, ViewMembers.viewed_members, ViewMembers.those_some, Limits.set_those}
+pub use Rattle.am_chain_moves.specs.{Kept.Kept, Runs.IsLawful, Runs.first_choice, Runs.more, Runs.counts_for, Runs.founded, Runs.start, Runs.first_stamp}
 pub use Rattle.am_chain_moves.specs.Group.{how_many, counted_in, IsHeld, MayAccept, Group, IsUp, chain_of, put2, opening, NoBetter, IsThere, Views, Chosen}
 pub use Rattle.am_chain_moves.specs.Group.{IsOngoing}
-unfoldable pub use Rattle.am_chain_moves.specs.Group.{put, count}
-pub use Rattle.am_chain_moves.specs.Kept.{Kept}
 pub use Rattle.am_chain_moves.specs.Moves.{MayDecide, Voted, with_choice, choice_of, own_stamp, longer, Move, IsAbove, MayDepart, with_node, with_line}
 pub use Rattle.am_chain_moves.specs.Moves.{numbers, stores, accepts, learns, begins, raises, shows, serves, fetches, gives_over, welcomes, asks, departs}
 pub use Rattle.am_chain_moves.specs.Moves.{closes, stops, MayNumber}
-pub use Rattle.am_chain_moves.specs.Runs.{IsLawful, first_choice, more, counts_for, founded, start, first_stamp}
-pub use Rattle.am_chain_moves.proofs.Start.{start_kept}
-pub use Rattle.am_chain_moves.proofs.Puts.{put_same, put_at, put2_cases, count_below, count_within, put_other, put_cases}
-pub use Rattle.am_chain_moves.proofs.Nodes.{own_above}
-pub use Rattle.am_chain.proofs.Heart.{ballot_ok, list_chain, departed_in}
-pub use Rattle.am_chain.proofs.Decide.{group_low}
-pub use Rattle.am_chain.proofs.Runs.{run_keeps}
+unfoldable pub use Rattle.am_chain_moves.specs.Group.{put, count}
+pub use Rattle.am_chain_moves.proofs.{Start.start_kept, Puts.put_same, Puts.put_at, Puts.put2_cases, Puts.count_below, Puts.count_within, Puts.put_other}
+pub use Rattle.am_chain_moves.proofs.{Puts.put_cases, Nodes.own_above}
+pub use Rattle.am_chain.proofs.{Heart.ballot_ok, Heart.list_chain, Heart.departed_in, Decide.group_low, Runs.run_keeps}
 pub use Rattle.am_orders.proofs.Turns.{request_within, next_in}
 pub use Rattle.am_sent.proofs.Changes.{MaySend, body_of_sent, CauseSent, change_sent}
-pub use Rattle.am_unballoted.proofs.Turns.{waiting_is, one_more, waiting_settled, collected_turn}
+pub use Rattle.am_unballoted.proofs.{Turns.waiting_is, Turns.one_more, Turns.waiting_settled, Turns.collected_turn, Says.only_is}
+pub use Rattle.am_unballoted.proofs.{Actors.same_group as no_more_group, Changes.found_at}
 unfoldable pub use Rattle.am_unballoted.proofs.Turns.{Turn}
-pub use Rattle.am_unballoted.proofs.Says.{only_is}
-pub use Rattle.am_unballoted.proofs.Actors.{same_group as no_more_group}
-pub use Rattle.am_unballoted.proofs.Changes.{found_at}
+pub use Rattle.am_stands.specs.{Growing.NewView, Growing.NameGrows, Growing.Grows, Growing.MovesGrow, Growing.LettersStay, Moving.NamesNamed, Moving.MoveOk}
+pub use Rattle.am_stands.specs.{Moving.Moves, Moving.none, Moving.moves, Moving.Leads, Moving.AllVoted, Lawful.IsNoStop, Lawful.RunsGoOn}
 pub use Rattle.am_stands.specs.Standing.{NameStands, Stands, StandsBut, within, FrontsStand, NotedStands, ViewsStand, BeginsIn, StartStands}
 pub use Rattle.am_stands.specs.States.{Reporting, IsConcerned, ReportsStand, LeftOut, BodiesAsked, SendsOnce, FetchesStand, ReportsFresh, OpensStand, IsNew}
 pub use Rattle.am_stands.specs.States.{RunsLeaveOut, LineOpens, LinesOpen, RunsOpen, OwnDecided, HasRound, RoundsOk, RunsHaveRounds, VotesStand}
@@ -107,16 +85,13 @@ pub use Rattle.am_stands.specs.Accepting.{MayCount, RefreshAccepts, CountsNames,
 pub use Rattle.am_stands.specs.Accepting.{AcceptsAndLearns, RefreshLearns}
 pub use Rattle.am_stands.specs.Keeping.{GroupFor, NodeKeeps, StartKeeps, BallotStands, LastStands, Stepping, Ballots, HeardSo, IsPlain, OwnTurn, GroupOk}
 pub use Rattle.am_stands.specs.Keeping.{OthersKeep, RefreshesKeep, Refreshing, ChangesGoOn, Next}
-pub use Rattle.am_stands.specs.Growing.{NewView, NameGrows, Grows, MovesGrow, LettersStay}
 pub use Rattle.am_stands.specs.Branches.{OnBranch, on_chain, left_out, BranchesOk, MovesBranch, DecisionsAreNew, BranchesBegin, MovesNamed}
 pub use Rattle.am_stands.specs.Steps.{MayMove, NeedsLook, after_look, ChangesStand, NeedsDecision, noting, NeedsNumber, IsOthers, NeedsEntry, NeedsPiece}
 pub use Rattle.am_stands.specs.Steps.{NeedsWelcome, FrontsBegin, EventsStand, EventStands, no_move, stop, WasBegun, Needs, FrontsStay, of_line as of_its_line}
 pub use Rattle.am_stands.specs.Steps.{of_shown as of_its_shown, after_change}
-pub use Rattle.am_stands.specs.Moving.{NamesNamed, MoveOk, Moves, none, moves, Leads, AllVoted}
 pub use Rattle.am_stands.specs.Sending.{RowsLive, KeptWhole, ListBegins, as_before, just_begun, Sender, ShowsMore, SaysSo, SentSays, DepartedSilent}
 pub use Rattle.am_stands.specs.Letters.{GoneSays, has_stopped, may_go, Trimmed, line, IsDecided, EntrySays, OrderSays, LeaverSays, of_view, before_it}
 pub use Rattle.am_stands.specs.Letters.{ResultSays, WasAsked, VoteTells, AllShown, SequencerSays, ReportSays, WelcomeSays, WelcomeTo, has_begun, has_gone}
 pub use Rattle.am_stands.specs.Letters.{has_left, is_leaving, may_begin, VoteSays, own, tells, over as over_vote, FetchSays, for_ballot, of_promise}
 pub use Rattle.am_stands.specs.Letters.{PieceSays, of_line, of_shown, over, ShownEntry, PacketSays}
 pub use Rattle.am_stands.specs.Ends.{NeedsClose, after_closing, CloseStands, Accepts, no_more, rises, Learns, departed, bare, before_end, EndsStand, MayLearn}
-pub use Rattle.am_stands.specs.Lawful.{IsNoStop, RunsGoOn}

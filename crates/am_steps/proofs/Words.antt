@@ -25,60 +25,36 @@ pub use Rattle.am_laws.proofs.Words.{length-append, All-weaker, nobody, Letter, 
 pub use Rattle.am_laws.proofs.Words.{start, run, hears_letter, hear_cut, acts_as, heard_by, IsCall, IsCause, stops, WasSentTo, EachKeeps, runs_keep, along}
 pub use Rattle.am_laws.proofs.Words.{calls, closes, Changes, numbers, stores, departs, fetches, all_item, Effect, Each, each_node_keeps, first_has}
 unfoldable pub use Rattle.am_laws.proofs.Words.{happens}
-pub use Rattle.std.proofs.Common.{append_assoc, get_or-set_same}
-pub use Rattle.std.proofs.Math.Seq.{take-add}
+pub use Rattle.std.{proofs.Common.append_assoc, proofs.Common.get_or-set_same, proofs.Math.Seq.take-add, proofs.lemmas.List.Elements.All-push}
 pub use Rattle.std.proofs.lemmas.List.{length-drop, drop-drop, drop-append-le, take-append-le}
-pub use Rattle.std.proofs.lemmas.List.Elements.{All-push}
 pub use Rattle.am_base.specs.Names.{with_name}
 pub use Rattle.am_packet.specs.Kinds.{goes_to_any, kind_of}
 pub use Rattle.am_play.specs.World.{record_of, does_event, gives_up, comes_back}
-pub use Rattle.am_effects.specs.Causes.{with_entry as by_entry}
+pub use Rattle.am_effects.specs.{Causes.with_entry as by_entry, Effects.Answers, Effects.WasQueued, Effects.AnswersAsk}
 pub use Rattle.am_effects.specs.Looks.{MayLook, was_reset, was_handed, was_fetched, BeginsBy, by_reset, by_hand_over}
-pub use Rattle.am_effects.proofs.Rests.{rests_closed, with_sends}
 pub use Rattle.am_effects.specs.Courses.{IsPlain, Course, nothing_yet, used_report, and_then, Deeds, plainly, looked, Ending, at_end as ends_so, let_go}
 pub use Rattle.am_effects.specs.Courses.{closing}
-pub use Rattle.am_effects.proofs.Plans.{course_changes}
-pub use Rattle.am_effects.specs.Effects.{Answers, WasQueued, AnswersAsk}
-pub use Rattle.am_laws.proofs.ViewChanges.{leads_member, changes_do, Balloted, change_does}
-pub use Rattle.am_laws.proofs.ViewNames.{HeardNames, HasNames, change_names, promised_named}
-pub use Rattle.am_laws.proofs.Taken.{HeardUsed}
-pub use Rattle.am_laws.proofs.TakenRuns.{AllOwned, run_owned, each_along, heard_used}
-pub use Rattle.am_laws.proofs.Stamps.{below, not_above, not_above_itself}
-pub use Rattle.am_laws.proofs.ViewSteps.{SameView, Stood, view_last, Goes}
-pub use Rattle.am_laws.proofs.Views.{IsNoted, AllViews, each_views, heard_names, views_start}
-pub use Rattle.am_laws.proofs.Named.{few_names, AllNamed, each_named, start_named}
-pub use Rattle.am_laws.proofs.RunCounts.{numbers_hold}
-pub use Rattle.am_sent.proofs.Runs.{after_step, AllSent, sent_start, cause_sent}
-pub use Rattle.am_sent.proofs.Kept.{kept_refresh, EntrySent, SendSent, WasSent, kept_more}
+pub use Rattle.am_effects.proofs.{Rests.rests_closed, Rests.with_sends, Plans.course_changes}
+pub use Rattle.am_laws.proofs.{ViewChanges.leads_member, ViewChanges.changes_do, ViewChanges.Balloted, ViewChanges.change_does, ViewNames.HeardNames}
+pub use Rattle.am_laws.proofs.{ViewNames.HasNames, ViewNames.change_names, ViewNames.promised_named, Taken.HeardUsed, TakenRuns.AllOwned, TakenRuns.run_owned}
+pub use Rattle.am_laws.proofs.{TakenRuns.each_along, TakenRuns.heard_used, Stamps.below, Stamps.not_above, Stamps.not_above_itself, ViewSteps.SameView}
+pub use Rattle.am_laws.proofs.{ViewSteps.Stood, ViewSteps.view_last, ViewSteps.Goes, Views.IsNoted, Views.AllViews, Views.each_views, Views.heard_names}
+pub use Rattle.am_laws.proofs.{Views.views_start, Named.few_names, Named.AllNamed, Named.each_named, Named.start_named, RunCounts.numbers_hold}
+pub use Rattle.am_sent.proofs.{Runs.after_step, Runs.AllSent, Runs.sent_start, Runs.cause_sent, Kept.kept_refresh, Kept.EntrySent, Kept.SendSent}
+pub use Rattle.am_sent.proofs.{Kept.WasSent, Kept.kept_more}
 pub use Rattle.am_promises.specs.Claim.{AtMost, IsBegun, StampOk}
-pub use Rattle.am_promises.proofs.Stamps.{most_same, most_through}
-pub use Rattle.am_promises.proofs.Changes.{CauseBegun, Promised, promise_change}
-pub use Rattle.am_promises.proofs.Runs.{AllBegun, cause_begun, each_keeps, start_begun}
-pub use Rattle.am_unballoted.proofs.Records.{idle_queues}
-pub use Rattle.am_unballoted.proofs.Worlds.{AskedOk, asked_more, asked_other, unique}
-pub use Rattle.am_unballoted.proofs.Actors.{same_group}
-pub use Rattle.am_unballoted.proofs.Steps.{nil_of}
-pub use Rattle.am_stands.proofs.Parts.{view_its}
+pub use Rattle.am_promises.proofs.{Stamps.most_same, Stamps.most_through, Changes.CauseBegun, Changes.Promised, Changes.promise_change, Runs.AllBegun}
+pub use Rattle.am_promises.proofs.{Runs.cause_begun, Runs.each_keeps, Runs.start_begun}
+pub use Rattle.am_unballoted.proofs.{Records.idle_queues, Worlds.AskedOk, Worlds.asked_more, Worlds.asked_other, Worlds.unique, Actors.same_group}
+pub use Rattle.am_unballoted.proofs.{Steps.nil_of}
+pub use Rattle.am_stands.proofs.{Parts.view_its, ChainNames.front_named, ChainNames.counts_names, ChainNames.rows_live, ChainNames.concerned_small}
+pub use Rattle.am_stands.proofs.{Closing.close_stands, Entries.name_longer, Entries.key_stamp, Entries.view_whole, Keeping.kept, Keeping.old}
+pub use Rattle.am_stands.proofs.{Keeping.may_move, Keeping.whole, Lasts.closing_accepts, Names.name_in, Names.views_in, Names.views_noted, Names.each_within}
+pub use Rattle.am_stands.proofs.{Names.fronts_within, Names.lines_within, Stepped.changes_go_on, Learning.advanced, Learning.same_by, Learning.refresh_learns}
+pub use Rattle.am_stands.proofs.{Sending.nothing_viewed, Sending.sent_says, Ends.then_moves, Ends.accept_moves, Ends.taken_more, Ends.name_grows}
+pub use Rattle.am_stands.proofs.{Onward.grows_trans, Onward.grows_same, Onward.goes_on, Onward.group_whole, Opens.list_opens, Letters.letters_stay}
+pub use Rattle.am_stands.proofs.{Letters.trimmed_stays, Letters.all_stay, Letters.sequencer_stays, Others.keeps_in, Others.others_keep}
+pub use Rattle.am_stands.proofs.{Refreshing.refreshes_keep, Sent.Speaks, Sent.leading, Welcomes.not_above_key, Silent.departed_silent}
 pub use Rattle.am_stands.proofs.Changes.{member_stays, is_up, looked_open, Unmoved, own_name, unmoved_refresh, others_same, others_fronts, same_name}
-pub use Rattle.am_stands.specs.Steps.{FrontsAfter}
-pub use Rattle.am_stands.proofs.ChainNames.{front_named, counts_names, rows_live, concerned_small}
-pub use Rattle.am_stands.proofs.Closing.{close_stands}
-pub use Rattle.am_stands.proofs.Entries.{name_longer, key_stamp, view_whole}
-pub use Rattle.am_stands.proofs.Keeping.{kept, old, may_move, whole}
-pub use Rattle.am_stands.proofs.Lasts.{closing_accepts}
-pub use Rattle.am_stands.proofs.Names.{name_in, views_in, views_noted, each_within, fronts_within, lines_within}
-pub use Rattle.am_stands.proofs.Stepped.{changes_go_on}
-pub use Rattle.am_stands.proofs.Learning.{advanced, same_by, refresh_learns}
-pub use Rattle.am_stands.proofs.Sending.{nothing_viewed, sent_says}
-pub use Rattle.am_stands.proofs.Ends.{then_moves, accept_moves, taken_more, name_grows}
-pub use Rattle.am_stands.proofs.Onward.{grows_trans, grows_same, goes_on, group_whole}
-pub use Rattle.am_stands.proofs.Opens.{list_opens}
-pub use Rattle.am_stands.specs.Letters.{LetterSays}
-pub use Rattle.am_stands.specs.Running.{Following, Follows, StepsMove}
+pub use Rattle.am_stands.specs.{Steps.FrontsAfter, Letters.LetterSays, Running.Following, Running.Follows, Running.StepsMove}
 pub use Rattle.am_stands.specs.Sending.{LeaderStands, NumbersStand, BallotStands, SendsStand, SendsNothing, as_before as began_before}
-pub use Rattle.am_stands.proofs.Letters.{letters_stay, trimmed_stays, all_stay, sequencer_stays}
-pub use Rattle.am_stands.proofs.Others.{keeps_in, others_keep}
-pub use Rattle.am_stands.proofs.Refreshing.{refreshes_keep}
-pub use Rattle.am_stands.proofs.Sent.{Speaks, leading}
-pub use Rattle.am_stands.proofs.Welcomes.{not_above_key}
-pub use Rattle.am_stands.proofs.Silent.{departed_silent}

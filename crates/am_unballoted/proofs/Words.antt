@@ -17,55 +17,39 @@ pub use Rattle.am_effects.proofs.Words.{result, Answers, Effect, actor, IsCause,
 pub use Rattle.am_effects.proofs.Words.{finds_itself_out}
 unfoldable pub use Rattle.am_effects.proofs.Words.{fold, after, fits, pass_over, own_report, tell, go_on, lead, refresh, settle, refresh_at_end, with_step}
 unfoldable pub use Rattle.am_effects.proofs.Words.{with_record}
+pub use Rattle.std.{proofs.lemmas.Grind.flat_map-append, proofs.lemmas.List.Quantifiers.position-Some, proofs.lemmas.Option.slice_get-get_or}
+pub use Rattle.std.{proofs.lemmas.Option.get_or_from_slice_get, specs.List.range_with_len, specs.List.flat_map}
 pub use Rattle.std.proofs.Common.{⊎_elim, take, append_assoc, append-nil, get_or, map, slice_index_or, filter, is_none}
-pub use Rattle.std.proofs.lemmas.Grind.{flat_map-append}
 pub use Rattle.std.proofs.lemmas.List.{take-append-le, length-take-le, length-take, get_or-replicate, take-append-drop, get_or-set_same, get_or-set_other}
 pub use Rattle.std.proofs.lemmas.List.Elements.{All-weaker, All-push, All-filter, All-map}
-pub use Rattle.std.proofs.lemmas.List.Quantifiers.{position-Some}
-pub use Rattle.std.proofs.lemmas.Option.{slice_get-get_or, get_or_from_slice_get}
-pub use Rattle.std.specs.List.{range_with_len, flat_map}
-pub use Rattle.am_base.specs.Founding.{MayFound}
-pub use Rattle.am_base.specs.Lists.{blank, requests_of, request_in, blank_row, with_row, image_at}
+pub use Rattle.am_base.specs.{Founding.MayFound, Lists.blank, Lists.requests_of, Lists.request_in, Lists.blank_row, Lists.with_row, Lists.image_at}
+pub use Rattle.am_base.specs.{Names.nobody}
 unfoldable pub use Rattle.am_base.specs.Lists.{AllFit}
-pub use Rattle.am_base.specs.Names.{nobody}
 pub use Rattle.am_packet.specs.declared.packet.Packet.TheVariants.{Bcast, Order, Accept, Welcome, Invite, Vote, Piece, Result}
 pub use Rattle.am_packet.specs.Kinds.{goes_to_any}
 pub use Rattle.am_core.specs.Cores.{CoreState}
 unfoldable pub use Rattle.am_core.specs.Cores.{accept}
 pub use Rattle.am_core.proofs.Ends.{entry-get}
 unfoldable pub use Rattle.am_fronts.specs.Refresh.{let_go}
-pub use Rattle.am_group.specs.declared.event.Record.{Record}
-pub use Rattle.am_group.specs.Deliveries.{name_of, taken_in, given_to, deliveries}
+pub use Rattle.am_group.specs.{declared.event.Record.Record, Deliveries.name_of, Deliveries.taken_in, Deliveries.given_to, Deliveries.deliveries}
+pub use Rattle.am_group.specs.{Groups.above, Groups.numbered_entry, Groups.with_admitted}
 pub use Rattle.am_group.proofs.Places.{get_behind, get_before}
-pub use Rattle.am_group.specs.Groups.{above, numbered_entry, with_admitted}
-pub use Rattle.am_model.specs.Node.{set_at, entries_above, founders_view, founding_stamp}
-pub use Rattle.am_model.specs.Refresh.{is_data_of}
-pub use Rattle.am_model.specs.Ballots.{overtake}
-pub use Rattle.am_model.proofs.Sends.{own_data}
-pub use Rattle.am_model.proofs.Founders.{first_founder}
-pub use Rattle.am_play.specs.World.{record_of, group_after}
+pub use Rattle.am_model.specs.{Node.set_at, Node.entries_above, Node.founders_view, Node.founding_stamp, Refresh.is_data_of, Ballots.overtake}
+pub use Rattle.am_model.proofs.{Sends.own_data, Founders.first_founder}
+pub use Rattle.am_play.specs.{World.record_of, World.group_after, Group.accepted_sends, Group.Accepted, Group.sent_in}
 pub use Rattle.am_play.specs.Claims.{welcomes, BeginsAt, UnballotedHolds, NoBallot, MovesOn, UnballotedMoves, is_welcome, welcomed_in, IsSend}
 pub use Rattle.am_play.specs.AbstractGroup.{Group, Move, append, Grows, none, more, next_of, admit, GivesOut, front_of, group_of}
-pub use Rattle.am_play.specs.Group.{accepted_sends, Accepted, sent_in}
 pub use Rattle.am_chain_lists.specs.Whole.{IsGood, image_of, SmallName, Begins}
 unfoldable pub use Rattle.am_chain_lists.specs.Whole.{mem, AllSmall}
+pub use Rattle.am_chain_lists.proofs.{Prefixes.begins_take, Prefixes.begins_push, Prefixes.length_take, Prefixes.begins_same, Prefixes.length_push}
+pub use Rattle.am_chain_lists.proofs.{Rows.same_name, Rows.row_at, Rows.row_set, Rows.row_view}
 pub use Rattle.am_chain_lists.proofs.Members.{good_push, mem_in, in_mem, mem_push, good_begins, told_push, long_told, viewed_mem}
-pub use Rattle.am_chain_lists.proofs.Prefixes.{begins_take, begins_push, length_take, begins_same, length_push}
-pub use Rattle.am_chain_lists.proofs.Rows.{same_name, row_at, row_set, row_view}
-pub use Rattle.am_effects.specs.Changes.{Numbers, Promises}
-pub use Rattle.am_effects.specs.Letters.{MayWelcome}
-pub use Rattle.am_effects.specs.Effects.{WasQueued, AnswersAsk, HasTaken, WasSettled, HasBegun}
-pub use Rattle.am_effects.specs.Events.{IsIdle}
-pub use Rattle.am_effects.proofs.Items.{all_item, get_take, get_last, all_get, get_front, get_push}
-pub use Rattle.am_effects.proofs.Rests.{rests_refresh, rests_closed, settle_is, base_up}
-pub use Rattle.am_effects.proofs.Statuses.{logged, asking_log}
-pub use Rattle.am_effects.proofs.Receiving.{asking}
-pub use Rattle.am_effects.proofs.Resets.{stamp_itself}
-pub use Rattle.am_effects.proofs.Events.{events_have_effects}
-pub use Rattle.am_effects.proofs.Runs.{EachKeeps, runs_keep}
-pub use Rattle.am_effects.proofs.Ballots.{entry_is}
+pub use Rattle.am_effects.specs.{Changes.Numbers, Changes.Promises, Letters.MayWelcome, Effects.WasQueued, Effects.AnswersAsk, Effects.HasTaken}
+pub use Rattle.am_effects.specs.{Effects.WasSettled, Effects.HasBegun, Events.IsIdle}
+pub use Rattle.am_effects.proofs.{Items.all_item, Items.get_take, Items.get_last, Items.all_get, Items.get_front, Items.get_push, Rests.rests_refresh}
+pub use Rattle.am_effects.proofs.{Rests.rests_closed, Rests.settle_is, Rests.base_up, Statuses.logged, Statuses.asking_log, Receiving.asking}
+pub use Rattle.am_effects.proofs.{Resets.stamp_itself, Events.events_have_effects, Runs.EachKeeps, Runs.runs_keep, Ballots.entry_is}
 pub use Rattle.am_bounded.proofs.Runs.{bounded_holds}
 pub use Rattle.am_orders.proofs.Turns.{request_within, next_in, senders_in_order, send_stands_once}
-pub use Rattle.am_sent.proofs.Kept.{Keeps, WasSent, EntrySent}
-pub use Rattle.am_sent.proofs.Changes.{CauseSent, change_sent, MaySend, body_of_sent}
-pub use Rattle.am_sent.proofs.Runs.{AllSent, all_sent_more, after_step, cause_sent, sent_holds, sent_start}
+pub use Rattle.am_sent.proofs.{Kept.Keeps, Kept.WasSent, Kept.EntrySent, Changes.CauseSent, Changes.change_sent, Changes.MaySend, Changes.body_of_sent}
+pub use Rattle.am_sent.proofs.{Runs.AllSent, Runs.all_sent_more, Runs.after_step, Runs.cause_sent, Runs.sent_holds, Runs.sent_start}

@@ -15,38 +15,25 @@ pub use Rattle.am_laws.proofs.Words.{rests_refresh, rests_at_end, settle_is, Eac
 pub use Rattle.am_laws.proofs.Words.{WasSentTo, IsCause, steps, idles, stops, returns, along, EachKeeps, runs_keep, StepsKeep, SameParts, law_keeps}
 pub use Rattle.am_laws.proofs.Words.{stamp_itself, same_stamp, told_pushed, view_pushed, all_get, all_item, Says, piece, result, LetterSays}
 unfoldable pub use Rattle.am_laws.proofs.Words.{fits, after, fold, with_step, with_record}
-pub use Rattle.std.proofs.Common.{append_assoc}
-pub use Rattle.std.proofs.Math.Seq.{drop-append_seam}
-pub use Rattle.std.proofs.lemmas.Bool.{eqb-false, eqb-true}
-pub use Rattle.std.proofs.lemmas.List.{append-nil}
-pub use Rattle.std.proofs.lemmas.List.Folds.{list_any_none}
+pub use Rattle.std.{proofs.Common.append_assoc, proofs.Math.Seq.drop-append_seam, proofs.lemmas.Bool.eqb-false, proofs.lemmas.Bool.eqb-true}
+pub use Rattle.std.{proofs.lemmas.List.append-nil, proofs.lemmas.List.Folds.list_any_none}
 pub use Rattle.am_base.specs.Stamps.{no_stamp}
 pub use Rattle.am_play.specs.Lawful.{is_view_of, Watch, watch_start, watch, watch_run}
 unfoldable pub use Rattle.am_play.specs.Lawful.{watch_all}
 pub use Rattle.am_play.proofs.Runs.{watched_is_run}
-pub use Rattle.am_watching.proofs.Folds.{not_both}
+pub use Rattle.am_watching.proofs.{Folds.not_both, Begins.beginning_is_watched, Steps.steps_are_watched, Steps.stops_are_watched, Steps.others_are_watched}
+pub use Rattle.am_watching.proofs.{Events.watched_after, Events.same_unchanged, Events.same_stopped, Events.same_lives, Events.stepped_to}
 pub use Rattle.am_watching.specs.Watching.{Watching, watch_step, stop, pass, accept}
 pub use Rattle.am_watching.specs.Watches.{Watches, standing_of, view_of, additions, IsNew, Steps, SteppedTo, SameBut}
-pub use Rattle.am_watching.proofs.Begins.{beginning_is_watched}
-pub use Rattle.am_watching.proofs.Steps.{steps_are_watched, stops_are_watched, others_are_watched}
-pub use Rattle.am_watching.proofs.Events.{watched_after, same_unchanged, same_stopped, same_lives, stepped_to}
-pub use Rattle.am_effects.specs.Looks.{was_reset, was_handed, was_fetched}
-pub use Rattle.am_effects.specs.Changes.{asks_to_leave}
-pub use Rattle.am_effects.specs.Letters.{MayTell, leads, decided}
+pub use Rattle.am_effects.specs.{Looks.was_reset, Looks.was_handed, Looks.was_fetched, Changes.asks_to_leave, Letters.MayTell, Letters.leads, Letters.decided}
+pub use Rattle.am_laws.proofs.{ViewNames.HasNames, ViewNames.HeardNames, Named.AllNamed, Named.few_names, Named.each_named, Named.change_named}
+pub use Rattle.am_laws.proofs.{RunCounts.numbers_hold, Views.AllViews, Views.heard_names, Views.each_views, Views.views_start, Views.view_rises}
+pub use Rattle.am_laws.proofs.{Views.says_stamp, Stamps.at_most_below, Stamps.at_most, Stamps.not_above_itself, Stamps.not_above, ViewMembers.data_members}
+pub use Rattle.am_laws.proofs.{ViewMembers.viewed_members, ViewMembers.those_some, ViewMembers.those_long, Trims.NoOwnVote, Trims.told_used, Taken.own_need}
+pub use Rattle.am_laws.proofs.{Taken.looked_vote, Taken.HeardUsed}
 pub use Rattle.am_laws.proofs.ViewChanges.{in_view_log, welcomed_none, Balloted, changes_do, numbers_plain, Does, change_does, of_open, next_above, IsOpen}
-pub use Rattle.am_laws.proofs.ViewNames.{HasNames, HeardNames}
-pub use Rattle.am_laws.specs.Packets.{accepted_of}
-pub use Rattle.am_laws.specs.Numbers.{NodeNumbers}
-pub use Rattle.am_laws.proofs.Named.{AllNamed, few_names, each_named, change_named}
-pub use Rattle.am_laws.proofs.RunCounts.{numbers_hold}
-pub use Rattle.am_laws.proofs.Views.{AllViews, heard_names, each_views, views_start, view_rises, says_stamp}
-pub use Rattle.am_laws.proofs.Stamps.{at_most_below, at_most, not_above_itself, not_above}
 pub use Rattle.am_laws.proofs.ViewSteps.{entry_stays, after_same, view_last, view_there, SameView, Stood}
-pub use Rattle.am_laws.proofs.ViewMembers.{data_members, viewed_members, those_some, those_long}
-pub use Rattle.am_laws.proofs.Trims.{NoOwnVote, told_used}
-pub use Rattle.am_laws.proofs.Taken.{own_need, looked_vote, HeardUsed}
 pub use Rattle.am_laws.proofs.TakenRuns.{Along, along_changes, AllOwned, each_along, heard_used, each_owned, owned_start}
-pub use Rattle.am_watched.specs.Lists.{ListsGoOn, stored_since}
-pub use Rattle.am_watched.specs.Members.{MembersHold}
-pub use Rattle.am_watched.specs.New.{DecidedAreNew}
+pub use Rattle.am_laws.specs.{Packets.accepted_of, Numbers.NodeNumbers}
+pub use Rattle.am_watched.specs.{Lists.ListsGoOn, Lists.stored_since, Members.MembersHold, New.DecidedAreNew}
 pub use Rattle.am_watched.specs.Watched.{BeginningIsKept, BreakIsKept, after_step, StepIsWatched, StopIsWatched, ReturnIsWatched, PassIsWatched}

@@ -1,42 +1,31 @@
 -- The words of this crate's proofs, of the crates and definitions that they come from.
+pub use Rattle.std.{proofs.Math.Bool.or-true, proofs.Math.Bool.or-false, proofs.lemmas.Bool.Decides.nat_tests, proofs.lemmas.List.Elements.filter-append}
+pub use Rattle.std.{proofs.lemmas.List.Folds.list_any-append, proofs.lemmas.List.FromFn.get_or-map-range_with_len}
+pub use Rattle.std.{proofs.lemmas.List.FromFn.length-map-range_with_len, specs.List.range_with_len, specs.List.list_any}
 pub use Rattle.std.proofs.Common.{◌≡◌, ℕ, ◌<◌, ◌≤◌, true, false, if◌then◌else◌, [], length, map, slice_index, refl, sym, ap, ◌∙◌, inl, inr, arith, ◌+◌, min}
 pub use Rattle.std.proofs.Common.{Bool, not, ◌&&◌, ◌||◌, ◌==◌, nat_le, nat_lt, List, take, count_by, slice_index_or, ◌∷◌, ◌++◌, filter, Option, Some, None}
 pub use Rattle.std.proofs.Common.{subst, drop, zero, suc, ◌≢◌, replicate, slice_set}
-pub use Rattle.std.proofs.Math.Bool.{or-true, or-false}
 pub use Rattle.std.proofs.lemmas.Bool.{cases_lt, le-leb, lt-leb, eqb-true, or_parts, not-true}
-pub use Rattle.std.proofs.lemmas.Bool.Decides.{nat_tests}
 pub use Rattle.std.proofs.lemmas.List.{get_or_past, take-append-le, append-nil, drop_more, at_drop_all, set-set, get_or-set_same, get_or-set_other}
 pub use Rattle.std.proofs.lemmas.List.{length-set, length-append, length-replicate, get_or-replicate, map-append}
-pub use Rattle.std.proofs.lemmas.List.Elements.{filter-append}
-pub use Rattle.std.proofs.lemmas.List.Folds.{list_any-append}
-pub use Rattle.std.proofs.lemmas.List.FromFn.{get_or-map-range_with_len, length-map-range_with_len}
-pub use Rattle.std.specs.List.{range_with_len, list_any}
-pub use Rattle.am_base.specs.Names.{has, place_of, life_of, size, names_of, names_from, name_at, rank_of}
-unfoldable pub use Rattle.am_base.specs.Lists.{fold}
-pub use Rattle.am_base.specs.Founding.{Rules, MayFound}
-pub use Rattle.am_base.specs.Stamps.{stamp_lt, stamp_eq}
-pub use Rattle.am_base.proofs.Greatest.{split, and_both}
-pub use Rattle.am_base.specs.declared.name.Stamp.{Stamp}
-pub use Rattle.am_base.specs.declared.entry.Entry.{Entry}
-pub use Rattle.am_base.specs.declared.outcome.Outcome.{Outcome}
+pub use Rattle.am_base.specs.{Names.has, Names.place_of, Names.life_of, Names.size, Names.names_of, Names.names_from, Names.name_at, Names.rank_of}
+pub use Rattle.am_base.specs.{Founding.Rules, Founding.MayFound, Stamps.stamp_lt, Stamps.stamp_eq, declared.name.Stamp.Stamp, declared.entry.Entry.Entry}
+pub use Rattle.am_base.specs.{declared.outcome.Outcome.Outcome}
 pub use Rattle.am_base.specs.declared.entry.Entry.TheVariants.{Data, Join, Leave, View}
+unfoldable pub use Rattle.am_base.specs.Lists.{fold}
+pub use Rattle.am_base.proofs.Greatest.{split, and_both}
 pub use Rattle.am_fronts.proofs.ReportLaws.{names_more, names_end}
 pub use Rattle.am_group.specs.declared.event.Event.{Event}
-pub use Rattle.am_model.specs.declared.status.Status.TheVariants.{Member}
+pub use Rattle.am_model.specs.{declared.status.Status.TheVariants.Member, Emit.Step}
 pub use Rattle.am_model.specs.Node.{founder, stranger, founding_stamp, has_departed, Node, view, is_member, set_at}
-pub use Rattle.am_model.specs.Emit.{Step}
 pub use Rattle.am_play.specs.World.{first_node, World, lives_on, current, is_stopped, group_after, happens, Decided, last_view}
-unfoldable pub use Rattle.am_play.specs.World.{with_record}
 pub use Rattle.am_play.specs.Lawful.{is_view_of, Watch}
-unfoldable pub use Rattle.am_play.specs.Lawful.{watch}
+unfoldable pub use Rattle.am_play.specs.{World.with_record, Lawful.watch}
+pub use Rattle.am_watching.specs.{declared.views.DecidedView.DecidedView, declared.views.Standing.Standing, declared.views.Pending.Pending}
 pub use Rattle.am_watching.specs.Watching.{blank_standing, standing, first_standing, first_view, first_watching, Watching, is_by, greater, is_above}
 pub use Rattle.am_watching.specs.Watching.{end_event, pass, or_else, same_flag, is_alike, with_standing, new_pending, decided_views, with_decided}
 pub use Rattle.am_watching.specs.Watching.{with_entries, store_view, note_entry, is_view, watch_step, place_among, accept}
-unfoldable pub use Rattle.am_watching.specs.Watching.{number_of, greatest, look, note_entries, finish}
 pub use Rattle.am_watching.specs.Watches.{standing_of, BeginningIsWatched, decided_of, Sees, IsNoted, after, additions, SameBut, SteppedTo, comes_after}
 pub use Rattle.am_watching.specs.Watches.{WatchesUpTo, view_of, has_in_list, Watches, IsNew, Steps, StepsAreWatched, StopsAreWatched, OthersAreWatched}
 pub use Rattle.am_watching.specs.Watches.{EntriesGoOn, AcceptedGoesOn}
-unfoldable pub use Rattle.am_watching.specs.Watches.{Each}
-pub use Rattle.am_watching.specs.declared.views.DecidedView.{DecidedView}
-pub use Rattle.am_watching.specs.declared.views.Standing.{Standing}
-pub use Rattle.am_watching.specs.declared.views.Pending.{Pending}
+unfoldable pub use Rattle.am_watching.specs.{Watching.number_of, Watching.greatest, Watching.look, Watching.note_entries, Watching.finish, Watches.Each}
