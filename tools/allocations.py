@@ -2,7 +2,7 @@
 
 Usage: allocations.py PROGRAM SCRIPT...
 
-A script in a folder `races` is a race, of one thread.
+A script in a folder `races` is a race, of one thread; what stands in a folder `audits` is a text to audit, which agrees.
 """
 
 import os
@@ -12,8 +12,14 @@ import tempfile
 from pathlib import Path
 
 
+def word_for(script):
+    """The word that a script is for, by its folder."""
+    folders = {"races": "race", "audits": "audit"}
+    return next((folders[part] for part in Path(script).parts if part in folders), "play")
+
+
 def run(program, library, script, **more):
-    word = "race" if "races" in Path(script).parts else "play"
+    word = word_for(script)
     with open(script, "rb") as source:
         done = subprocess.run(
             [program, word],
@@ -28,7 +34,7 @@ def run(program, library, script, **more):
 
 def refused_by(program, library, script):
     """How many allocations there are, and for how many the program told that there was no memory."""
-    text = Path(script).with_suffix(".txt").read_bytes()
+    text = Path(script).with_suffix(".line" if word_for(script) == "audit" else ".txt").read_bytes()
     status, told, written = run(program, library, script, COUNT_ALLOCATIONS="1")
     assert (status, written) == (0, text), f"{script} doesn't print its text"
     count = int(told)
