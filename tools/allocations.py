@@ -4,7 +4,7 @@ And compares how often it asks for memory, and for how many bytes together, with
 Usage: allocations.py PROGRAM LIST SCRIPT...
 
 A line of the list is a script, how many allocations the program makes for it at most, and how many bytes these ask for at most. A
-script in a folder `races` is a race, of one thread.
+script in a folder `races` is a race, of one thread; what stands in a folder `audits` is a text to audit, which agrees.
 """
 
 import os
@@ -16,8 +16,14 @@ from pathlib import Path
 from words import end, words
 
 
+def word_for(script):
+    """The word that a script is for, by its folder."""
+    folders = {"races": "race", "audits": "audit"}
+    return next((folders[part] for part in Path(script).parts if part in folders), "play")
+
+
 def run(program, library, script, **more):
-    word = "race" if "races" in Path(script).parts else "play"
+    word = word_for(script)
     with open(script, "rb") as source:
         done = subprocess.run(
             [program, word],
@@ -32,7 +38,7 @@ def run(program, library, script, **more):
 
 def asked_by(program, library, script):
     """How many allocations there are, how many bytes they ask for together, and the text that the program wrote."""
-    text = Path(script).with_suffix(".txt").read_bytes()
+    text = Path(script).with_suffix(".line" if word_for(script) == "audit" else ".txt").read_bytes()
     status, told, written = run(program, library, script, COUNT_ALLOCATIONS="1")
     assert (status, written) == (0, text), f"{script} doesn't print its text"
     count, size = told.split()

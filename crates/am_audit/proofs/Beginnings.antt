@@ -61,7 +61,7 @@ behind_by line first lines more true one whole low bad =
     (ap (λ (c : List ℕ × Option (List ℕ)). read_behind c.1) (sym (line_cut first (lines_and lines []) one)) ∙ bad)
 behind_by line first lines more false one whole low bad = stays 1 line nothing_read (first ∷ lines) more (one, whole) low bad
 
-head : (first rest other : List ℕ) → slice_index (first ++ 10 ∷ rest) 0 ≡ slice_index (first ++ 10 ∷ other) 0
+pub head : (first rest other : List ℕ) → slice_index (first ++ 10 ∷ rest) 0 ≡ slice_index (first ++ 10 ∷ other) 0
 head [] rest other = refl
 head (c ∷ first) rest other = refl
 

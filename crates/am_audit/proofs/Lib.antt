@@ -6,6 +6,7 @@ pub mod Faulting
 pub mod Keys
 pub mod Marks
 pub mod Meaning
+pub mod Openings
 pub mod Passing
 pub mod Segments
 pub mod Texts

@@ -1,5 +1,5 @@
 -- What is claimed of a text whose verdict agrees.
-use Rattle.std.specs.Prelude.{◌≡◌, ◌≢◌, ℕ, ◌+◌, ◌≤◌, ◌==◌, not, List, [], ◌∷◌, ◌++◌, length, map, slice_get, Some, Ok, Err, true}
+use Rattle.std.specs.Prelude.{◌≡◌, ◌≢◌, ℕ, ◌+◌, ◌<◌, ◌≤◌, ◌==◌, not, List, [], ◌∷◌, ◌++◌, length, map, slice_get, Some, Ok, Err, true}
 use Rattle.std.specs.List.{list_all}
 use Rattle.am_base.specs.Names.{has}
 use Rattle.am_base.specs.Lists.{blank, after, AllFit}
@@ -89,3 +89,8 @@ AreLines (line ∷ lines) = IsLine line × AreLines lines
 abbrev pub BadLinesStay : Type 0
 BadLinesStay = (lines : List (List ℕ)) (more : List ℕ) (line : ℕ) → AreLines lines → line ≤ length lines
     → read_text (lines_and lines []) ≡ Err line → read_text (lines_and lines more) ≡ Err line
+
+-- and lines of which none is bad go on to a text
+abbrev pub GoodLinesGoOn : Type 0
+GoodLinesGoOn = (lines : List (List ℕ)) → AreLines lines → ((line : ℕ) → read_text (lines_and lines []) ≡ Err line → length lines < line)
+    → (more : List ℕ) × (s : Reading) × (read_text (lines_and lines more) ≡ Ok s)

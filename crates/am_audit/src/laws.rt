@@ -1,4 +1,4 @@
-ghost use Rattle.am_audit.specs.Agreement.{AgreesMeans, ListsAgreeMeans, BadLinesStay};
+ghost use Rattle.am_audit.specs.Agreement.{AgreesMeans, ListsAgreeMeans, BadLinesStay, GoodLinesGoOn};
 
 /// What the verdicts that agree mean (docs/AUDIT.md): at Agrees each log is a gapless piece of the one list, from the founders'
 /// view or its name's Join on, and is what the name's takes were; the list is one that a group can have; each send in it was asked
@@ -8,7 +8,9 @@ pub fn verdicts_mean()
     ensures lists_agree { ListsAgreeMeans }
 {}
 
-/// Where one of some whole lines is bad, it is the bad line whatever stands behind them: no text begins with these lines.
-pub fn bad_lines_stay()
-    ensures { BadLinesStay }
+/// BadLine is the first line up to which the lines begin no text. Where one of some whole lines is bad, it is the bad line whatever
+/// stands behind them; and whole lines of which none is bad go on to a text.
+pub fn first_bad_lines()
+    ensures stay { BadLinesStay }
+    ensures begin { GoodLinesGoOn }
 {}
