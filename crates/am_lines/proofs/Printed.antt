@@ -294,15 +294,23 @@ others_short : (names : List ℕ) → AreNames names → length (flat_map (λ na
 unfolding AreNames
 others_short [] low = omega arith
 others_short (name ∷ names) low =
-    omega (arith, name_short_by (life_of name == 1) name refl low.0, others_short names low.1,
-    length-append (44 ∷ name_text name) (flat_map (λ n. codes "," ++ name_text n) names))
+    omega (
+      arith,
+      name_short_by (life_of name == 1) name refl low.0,
+      others_short names low.1,
+      length-append (44 ∷ name_text name) (flat_map (λ n. codes "," ++ name_text n) names),
+    )
 
 list_short : (names : List ℕ) → AreNames names → length (list_text names) ≤ 6 * length names + 1
 unfolding AreNames
 list_short [] low = omega arith
 list_short (name ∷ names) low =
-    omega (arith, name_short_by (life_of name == 1) name refl low.0, others_short names low.1,
-    length-append (name_text name) (flat_map (λ n. codes "," ++ name_text n) names))
+    omega (
+      arith,
+      name_short_by (life_of name == 1) name refl low.0,
+      others_short names low.1,
+      length-append (name_text name) (flat_map (λ n. codes "," ++ name_text n) names),
+    )
 
 few_names : (place : ℕ) (lives : List ℕ) → length (names_from place lives) ≤ length lives
 few_names place [] = omega arith
