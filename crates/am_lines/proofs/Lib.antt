@@ -3,3 +3,4 @@ pub mod Lines
 pub mod Talks
 pub mod Printed
 pub mod Letters
+pub mod Reread
