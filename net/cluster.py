@@ -55,12 +55,22 @@ class Cluster:
         """A place's name now."""
         return f"{place}/{self.lives[place]}" if self.lives[place] > 1 else str(place)
 
+    def journal(self, place: int) -> pathlib.Path:
+        """Where the journal of a place's life now is."""
+        return self.folder / f"journal-{self.name(place).replace('/', '-')}"
+
+    def wait(self, place: int) -> None:
+        """Waits until a place's process has begun its journal."""
+        ends = time.monotonic() + 20
+        while not self.journal(place).exists() and time.monotonic() < ends:
+            time.sleep(0.01)
+
     def start(self, place: int) -> None:
         """Starts the place's process."""
         wanted, name = self.wanted, self.name(place)
         words = [sys.executable, str(HERE / "udp.py"), "--name", name, "--founders", ",".join(map(str, range(wanted.nodes)))]
         words += ["--peers", str(self.folder / "peers"), "--key", str(self.folder / "key")]
-        words += ["--journal", str(self.folder / f"journal-{name.replace('/', '-')}"), "--program", wanted.program]
+        words += ["--journal", str(self.journal(place)), "--program", wanted.program]
         words += ["--resilience", str(wanted.resilience), "--tick", str(wanted.tick), "--seconds", str(wanted.seconds + 30)]
         for option in ("loss", "repeat", "delay", "seed"):
             words += [f"--{option}", str(getattr(wanted, option))]
@@ -78,6 +88,7 @@ class Cluster:
 
     def kill(self, place: int) -> None:
         """Kills a member, and tells the others once it has ended: it can't act any more."""
+        self.wait(place)
         child = self.running.pop(place)
         child.send_signal(signal.SIGKILL)
         child.wait()
@@ -133,7 +144,8 @@ def act(wanted: argparse.Namespace, cluster: Cluster) -> None:
     """Runs the cluster for its time."""
     for place in range(wanted.nodes):
         cluster.start(place)
-    time.sleep(0.5)
+    for place in range(wanted.nodes):
+        cluster.wait(place)
     began, plan = time.monotonic(), moments(wanted)
     sending_ends = began + wanted.seconds * 0.85
     while (now := time.monotonic()) < began + wanted.seconds:

@@ -1,5 +1,5 @@
-"""Tries net/ and examples/ on 127.0.0.1: a small cluster with a crash, members that drop what isn't theirs, a dictionary and a chat,
-and journals that can't be merged.
+"""Tries net/ and examples/ on two addresses of this machine, 127.0.0.1 and 127.0.0.2: a small cluster with a crash,
+members that drop what isn't theirs, a dictionary and a chat, and journals that can't be merged.
 
     python3 tools/try_net.py PROGRAM
 
@@ -44,7 +44,7 @@ class Process:
         self.child.stdin.write(line + "\n")
         self.child.stdin.flush()
 
-    def wants(self, wanted: str, seconds: float = 15) -> bool:
+    def wants(self, wanted: str, seconds: float = 30) -> bool:
         """Whether a line comes that is this one, in so much time."""
         ends = time.monotonic() + seconds
         while (left := ends - time.monotonic()) > 0:
@@ -76,13 +76,18 @@ class Tried:
     def __init__(self, folder: pathlib.Path, program: str):
         self.folder, self.program = folder, program
         self.ports = free_ports(3)
-        (folder / "peers").write_text("".join(f"{place} 127.0.0.1:{port}  # place {place}\n" for place, port in enumerate(self.ports)))
+        # place 2 has an address of its own, as if it were another machine
+        lines = [f"{place} 127.0.0.{1 + place // 2}:{port}  # place {place}\n" for place, port in enumerate(self.ports)]
+        (folder / "peers").write_text("".join(lines))
 
     def start(self, script: str, name: str, *more: str) -> Process:
         """Starts a member."""
         words = [sys.executable, str(TOP / script), "--name", name, "--founders", "0,1,2", "--peers", str(self.folder / "peers")]
         words += ["--resilience", "1", "--seconds", "60", "--program", self.program, "--journal", str(self.journal(name)), *more]
-        return Process(words)
+        process, ends = Process(words), time.monotonic() + 20
+        while not self.journal(name).exists() and time.monotonic() < ends:
+            time.sleep(0.01)
+        return process
 
     def journal(self, name: str) -> pathlib.Path:
         """Where a member's journal is."""
@@ -103,7 +108,6 @@ def dropped(tried: Tried) -> list[str]:
     (tried.folder / "key").write_bytes(b"a key of these three")
     key = "--key", str(tried.folder / "key")
     members = [tried.start("net/udp.py", name, *key) for name in ("0", "1")]
-    time.sleep(1)
     with socket.socket(socket.AF_INET, socket.SOCK_DGRAM) as other:
         for _ in range(3):
             other.sendto(b"1 1 0\nAG", ("127.0.0.1", tried.ports[0]))
@@ -119,11 +123,10 @@ def dropped(tried: Tried) -> list[str]:
 def unknown(tried: Tried) -> list[str]:
     """Without a key a datagram of an address that isn't its sender's is dropped and counted; nonsense, too."""
     member = tried.start("net/udp.py", "0")
-    time.sleep(1)
     with socket.socket(socket.AF_INET, socket.SOCK_DGRAM) as other:
         for data in (b"1 1 0\nAG", b"", b"x\n", b"1 1\n", b"16 1 0\nAG", b"-1 1 0\n", b"\xff\xff 1 0\n", b"0 x 0\n"):
             other.sendto(data, ("127.0.0.1", tried.ports[0]))
-    time.sleep(1)
+    time.sleep(3)
     status = member.end()
     counts = [line.split("\t") for line in tried.journal("0").read_text().splitlines() if line.startswith("counts")]
     return [] if (status, counts[-1][4]) == (0, "8") else [f"status {status}, counts {counts[-1]}"]
@@ -137,11 +140,10 @@ def dictionary(tried: Tried) -> list[str]:
     def gets(name: str, key: str, value: str) -> None:
         for _ in range(50):
             members[name].tell(f"get {key}")
-            if members[name].wants(value, 0.2):
+            if members[name].wants(value, 0.5):
                 return
         wrong.append(f"{name} hasn't {value} at {key}")
 
-    time.sleep(0.5)
     members["1"].tell("put colour blue")
     members["2"].tell("put size 7")
     for name in members:
@@ -166,7 +168,6 @@ def dictionary(tried: Tried) -> list[str]:
 def chat(tried: Tried) -> list[str]:
     """Two say something, one leaves."""
     members = [tried.start("examples/chat.py", name) for name in ("0", "1", "2")]
-    time.sleep(0.5)
     members[0].tell("hello")
     wrong = [f"{place} didn't see it" for place, member in enumerate(members) if not member.wants("<0> hello")]
     members[2].tell("leave")
