@@ -1,5 +1,5 @@
 -- A letter's part of an answer is a line.
-use Rattle.std.proofs.Common.{◌≡◌, ℕ, zero, suc, ◌+◌, ◌*◌, ◌<◌, ◌≤◌, List, [], ◌∷◌, ◌++◌, length, drop, get_or, Bool, true, false, ◌==◌, nat_lt, if◌then◌else◌, Option, Some, None, Ok, refl, sym, ap, ap₂, ◌∙◌, arith, length-append}
+use Rattle.std.proofs.Common.{◌≡◌, ℕ, zero, suc, ◌<◌, ◌≤◌, List, [], ◌∷◌, ◌++◌, length, get_or, Bool, true, false, nat_lt, if◌then◌else◌, Ok, refl, ◌∙◌, arith, length-append}
 use Rattle.std.specs.Prelude.{codes}
 use Rattle.std.specs.List.{flat_map}
 use Rattle.std.specs.Int.{IsInRange}
@@ -7,11 +7,9 @@ use Rattle.std.proofs.lemmas.Bool.Decides.{nat_tests}
 use Rattle.am_base.specs.Founding.{Rules}
 use Rattle.am_base.specs.Most.{most_packet}
 use Rattle.am_base.specs.Names.{IsSet, names_from}
-use Rattle.am_packet.specs.Boxes.{Letter}
-use Rattle.am_fields.specs.Fields.{cut_of, and_then, names_of, bytes_of}
 use Rattle.am_play.specs.Text.{name_text, list_text, names_text, hex_byte}
 use Rattle.am_lines.specs.declared.line.Line.TheVariants as line
-use Rattle.am_lines.specs.Lines.{most_line, line_of, hear_line, is_for_any, addressees_of, letter_line, line_from}
+use Rattle.am_lines.specs.Lines.{most_line, line_of, hear_line, is_for_any, addressees_of}
 use Rattle.am_lines.specs.Answers.{to_text}
 use Rattle.am_lines.specs.Laws.{LettersAreLines}
 use Rattle.am_lines.proofs.Printed.{AreNames, cut_between, lacks_append, name_lacks, names_again, names_short, hex_again, pairs_length, are_names, are_lives, name_starts}

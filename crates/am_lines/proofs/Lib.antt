@@ -4,3 +4,4 @@ pub mod Talks
 pub mod Printed
 pub mod Letters
 pub mod Reread
+pub mod Sets

@@ -1,6 +1,6 @@
 -- What texts print is read again.
-use Rattle.std.proofs.Common.{◌≡◌, ℕ, zero, suc, ◌+◌, ◌-◌, ◌*◌, ◌/◌, ◌%◌, ◌^◌, ◌<◌, ◌≤◌, List, [], ◌∷◌, ◌++◌, length, get_or, Bool, true, false, ◌==◌, nat_le, nat_lt, if◌then◌else◌, lit<, refl, sym, ap, ◌∙◌, arith, rules}
-use Rattle.std.proofs.Common.{Option, Some, None, Result, Ok, Err, append-nil, append_assoc, length-append, map, replicate}
+use Rattle.std.proofs.Common.{◌≡◌, ℕ, zero, suc, ◌+◌, ◌*◌, ◌/◌, ◌%◌, ◌^◌, ◌<◌, ◌≤◌, List, [], ◌∷◌, ◌++◌, length, get_or, Bool, true, false, ◌==◌, nat_le, nat_lt, if◌then◌else◌, lit<, refl, sym, ap, ◌∙◌, arith, rules}
+use Rattle.std.proofs.Common.{Option, Some, Result, Ok, Err, append-nil, append_assoc, length-append, map, replicate}
 use Rattle.std.specs.Prelude.{codes, decimal, slice_set}
 use Rattle.std.specs.List.{list_all, flat_map}
 use Rattle.std.specs.Char.{is_ascii_digit}
@@ -13,9 +13,9 @@ use Rattle.std.proofs.lemmas.Bool.Decides.{nat_tests}
 use Rattle.am_base.specs.Names.{place_of, life_of, name_at, names_from, with_name, nobody, IsSet}
 use Rattle.am_fields.specs.declared.fault.FieldFault.TheVariants.{Form}
 use Rattle.am_fields.specs.declared.fault.FieldFault.{FieldFault}
-use Rattle.am_fields.specs.Fields.{names_of, names_onto, parts_of, cut_of, onto_cut, and_then, is_numeral, number_up_to, life_of_word, name_with, name_of, is_pair_digit, digit_value, are_pairs, bytes_in, bytes_of, same}
+use Rattle.am_fields.specs.Fields.{names_of, names_onto, parts_of, cut_of, onto_cut, and_then, is_numeral, number_up_to, name_of, is_pair_digit, digit_value, are_pairs, bytes_in, bytes_of, same}
 use Rattle.am_fields.proofs.Cuts.{cut_here, cut_on, cut_none, rest_parts, parts_begin}
-use Rattle.am_play.specs.Text.{name_text, list_text, names_text, hex_byte, body_text}
+use Rattle.am_play.specs.Text.{name_text, list_text, names_text, hex_byte}
 
 -- ---- numbers
 
@@ -173,7 +173,7 @@ list_parts first (second ∷ others) low all =
     parts_begin 44 text ∙ ap (λ (c : List ℕ × Option (List ℕ)). c.0 ∷ rest_parts 44 c.1) cut
     ∙ ap (λ (ps : List (List ℕ)). name_text first ∷ ps) (list_parts second others all.0 all.1)
 
-set_behind : (front rest : List ℕ) (x v i : ℕ) → length front ≡ i → slice_set (front ++ x ∷ rest) i v ≡ front ++ v ∷ rest
+pub set_behind : (front rest : List ℕ) (x v i : ℕ) → length front ≡ i → slice_set (front ++ x ∷ rest) i v ≡ front ++ v ∷ rest
 set_behind [] rest x v zero is = refl
 set_behind [] rest x v (suc i) is = absurd (omega arith)
 set_behind (f ∷ fs) rest x v zero is = absurd (omega arith)

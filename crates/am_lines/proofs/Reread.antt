@@ -1,5 +1,5 @@
 -- What is read is what texts print.
-use Rattle.std.proofs.Common.{◌≡◌, ℕ, zero, suc, ◌+◌, ◌-◌, ◌*◌, ◌/◌, ◌%◌, ◌^◌, ◌<◌, ◌≤◌, List, [], ◌∷◌, ◌++◌, length, get_or, Bool, true, false, not, ◌&&◌, ◌||◌, ◌⊎◌, inl, inr, ◌==◌, nat_le, nat_lt, if◌then◌else◌, lit<, refl, sym, ap, ap₂, ◌∙◌, arith}
+use Rattle.std.proofs.Common.{◌≡◌, ℕ, ◌+◌, ◌*◌, ◌/◌, ◌%◌, ◌^◌, ◌<◌, ◌≤◌, List, [], ◌∷◌, ◌++◌, length, get_or, Bool, true, false, ◌&&◌, ◌⊎◌, inl, inr, ◌==◌, nat_le, nat_lt, if◌then◌else◌, lit<, refl, sym, ap, ap₂, ◌∙◌, arith}
 use Rattle.std.proofs.Common.{Option, Some, None, Result, Ok, Err}
 use Rattle.std.specs.Prelude.{codes, decimal}
 use Rattle.std.specs.List.{list_all, flat_map}
@@ -61,7 +61,7 @@ number_is most n word low is =
 
 -- ---- names
 
-then_parts : {A B : Type 0} (r : Result A FieldFault) (k : A → Result B FieldFault) (y : B) → and_then r k ≡ Ok y → (x : A) × (r ≡ Ok x) × (k x ≡ Ok y)
+pub then_parts : {A B : Type 0} (r : Result A FieldFault) (k : A → Result B FieldFault) (y : B) → and_then r k ≡ Ok y → (x : A) × (r ≡ Ok x) × (k x ≡ Ok y)
 then_parts (Ok x) k y is = (x, refl, is)
 then_parts (Err fault) k y is = cc
 

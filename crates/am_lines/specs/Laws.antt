@@ -1,5 +1,5 @@
 -- What a node prints is read again.
-use Rattle.std.specs.Prelude.{◌≡◌, ℕ, ◌^◌, ◌<◌, ◌≤◌, List, ◌++◌, length, codes, decimal, slice_index, Ok}
+use Rattle.std.specs.Prelude.{◌≡◌, ℕ, ◌^◌, ◌<◌, ◌≤◌, List, ◌++◌, length, codes, decimal, Ok}
 use Rattle.std.specs.List.{flat_map}
 use Rattle.am_base.specs.Founding.{Rules}
 use Rattle.am_base.specs.Most.{most_packet}
@@ -31,6 +31,9 @@ NumbersArePrinted = (most n : ℕ) (word : List ℕ) → most < 2 ^ 64 → numbe
 
 abbrev pub NamesArePrinted : Type 0
 NamesArePrinted = (word : List ℕ) (name : ℕ) → name_of word ≡ Ok name → (name_text name ≡ word) × (name < 256)
+
+abbrev pub SetsArePrinted : Type 0
+SetsArePrinted = (word set : List ℕ) → names_of word ≡ Ok set → names_text set ≡ word
 
 abbrev pub BytesArePrinted : Type 0
 BytesArePrinted = (most : ℕ) (word bytes : List ℕ) → bytes_of most word ≡ Ok bytes → (body_text bytes ≡ word) × (length bytes ≤ most)

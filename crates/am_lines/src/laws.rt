@@ -1,6 +1,6 @@
 //! What a node prints is read again.
 
-ghost use Rattle.am_lines.specs.Laws.{NumbersAreRead, NamesAreRead, SetsAreRead, BytesAreRead, NumbersArePrinted, NamesArePrinted, BytesArePrinted, LettersAreLines};
+ghost use Rattle.am_lines.specs.Laws.{NumbersAreRead, NamesAreRead, SetsAreRead, BytesAreRead, NumbersArePrinted, NamesArePrinted, SetsArePrinted, BytesArePrinted, LettersAreLines};
 
 /// Numbers, names, sets of names and bytes are read as they are printed.
 pub fn what_is_printed_is_read()
@@ -10,10 +10,11 @@ pub fn what_is_printed_is_read()
     ensures bytes { BytesAreRead }
 {}
 
-/// What is read as a number, a name or bytes is what is printed of it.
+/// What is read as a number, a name, a set of names or bytes is what is printed of it.
 pub fn what_is_read_is_printed()
     ensures numbers { NumbersArePrinted }
     ensures names { NamesArePrinted }
+    ensures sets { SetsArePrinted }
     ensures bytes { BytesArePrinted }
 {}
 
