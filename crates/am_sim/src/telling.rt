@@ -49,7 +49,9 @@ pub fn line_of(status: Status) -> Line
 {
     match status {
         Status::Done => ArrayString::new(),
-        Status::Usage => line("usage: play | race | gen --seed N --count N | audit"),
+        Status::Usage => line(
+            "usage: play | race | gen --seed N --count N | audit | node --name N --founders N,N",
+        ),
         Status::BadScript(cause) => bad_script_line(cause),
         Status::TooLong => line("too long"),
         Status::ReadFault => line("read fault"),
