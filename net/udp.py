@@ -27,7 +27,8 @@ from node import PROGRAM, Ended, Letter, Node
 
 NAME = re.compile(r"([0-9]|1[0-5])(?:/([2-9]|1[0-6]))?")
 MOST_BODY = 1024
-MOST_UNDER_WAY = 4
+# a node emits a send at once only where none of its own is under way before it, and else at its next tick
+MOST_UNDER_WAY = 1
 # answers behind which there may be something to take
 TAKES_AFTER = {"stored", "advanced", "accepted", "numbered", "queued", "welcomed", "decided", "served", "again"}
 DIGEST = hashlib.sha256().digest_size
