@@ -62,7 +62,8 @@ class Cluster:
     def wait(self, place: int) -> None:
         """Waits until a place's process has begun its journal."""
         ends = time.monotonic() + 20
-        while not self.journal(place).exists() and time.monotonic() < ends:
+        journal = self.journal(place)
+        while not (journal.exists() and journal.stat().st_size) and time.monotonic() < ends:
             time.sleep(0.01)
 
     def start(self, place: int) -> None:

@@ -69,7 +69,9 @@ def read(path: str) -> Life:
     """A journal; a last line without its end isn't there."""
     with open(path, encoding="utf-8") as file:
         lines = [line.split("\t") for line in file.read().split("\n")[:-1]]
-    if not lines or lines[0][0] != "node" or len(lines[0]) != 6:
+    if not lines:
+        raise Unmerged(f"{path} has no whole line: its process ended before it did anything, so leave it out")
+    if lines[0][0] != "node" or len(lines[0]) != 6:
         raise Unmerged(f"{path} is no journal")
     life = Life(lines[0][1], lines[0][2:], [], False, [0] * 5)
     for fields in lines[1:]:
