@@ -8,6 +8,8 @@ use Rattle.am_base.specs.Most.{most_events}
 use Rattle.am_words.specs.declared.form.Form.{Form}
 use Rattle.am_words.specs.declared.form.Form.TheVariants as form
 use Rattle.am_words.specs.declared.form.Numbers.{Numbers}
+use Rattle.am_words.specs.declared.form.Shown.{Shown}
+use Rattle.am_words.specs.declared.form.Shown.TheVariants as shown
 use Rattle.am_words.specs.Nodes.{node_of}
 
 -- whether two texts are the same, byte by byte
@@ -54,14 +56,29 @@ numbers_in (Some texts) = numbers_of texts.0 texts.1
 abbrev pub gen_of : List (List ℕ) → Option Numbers
 gen_of words = numbers_in (texts_of words)
 
--- the form of one word
-abbrev pub one_form : List ℕ → Option Form
-one_form word = if same word (codes "play") then Some form.Play else (if same word (codes "race") then Some form.Race
-    else (if same word (codes "audit") then Some form.Audit else None))
+-- what a word asks for of a script's run
+abbrev pub shown_of : List ℕ → Option Shown
+shown_of word = if same word (codes "play") then Some shown.Text else (if same word (codes "messages") then Some shown.Messages
+    else (if same word (codes "directory") then Some shown.Directories else (if same word (codes "snapshots") then Some shown.Snapshots else None)))
 
--- one of the words play, race and audit, or gen with its options
+-- the form of one word
+unfoldable pub one_form : List ℕ → Option Form
+one_form word = if same word (codes "race") then Some form.Race else (if same word (codes "audit") then Some form.Audit
+    else (if same word (codes "parts") then Some form.Parts else option_map form.Play (shown_of word)))
+
+-- five of six words: all but --script, which stands before, between or behind the two options
+abbrev pub unscripted : List (List ℕ) → List (List ℕ)
+unscripted (word ∷ a ∷ b ∷ c ∷ d ∷ e ∷ []) =
+    if same a (codes "--script") then word ∷ b ∷ c ∷ d ∷ e ∷ []
+    else if same c (codes "--script") then word ∷ a ∷ b ∷ d ∷ e ∷ []
+    else if same e (codes "--script") then word ∷ a ∷ b ∷ c ∷ d ∷ []
+    else []
+unscripted _ = []
+
+-- a word that has a form by itself, or gen with its options
 unfoldable pub other_form : List (List ℕ) → Option Form
 other_form (word ∷ []) = one_form word
+other_form (word ∷ a ∷ b ∷ c ∷ d ∷ e ∷ []) = option_map form.Script (gen_of (unscripted (word ∷ a ∷ b ∷ c ∷ d ∷ e ∷ [])))
 other_form words = option_map form.Gen (gen_of words)
 
 -- words begin with node
@@ -73,11 +90,13 @@ is_node (word ∷ words) = same word (codes "node")
 unfoldable pub form_of : List (List ℕ) → Option Form
 form_of words = if is_node words then option_map form.Node (node_of (drop 1 words)) else other_form words
 
--- the words are gen
+-- the words are gen, for a summary
 abbrev pub IsGen : Option Form → Type 0
 IsGen (Some (form.Gen numbers)) = Unit {0}
-IsGen (Some form.Play) = ⊥
-IsGen (Some form.Race) = ⊥
-IsGen (Some form.Audit) = ⊥
-IsGen (Some (form.Node node)) = ⊥
-IsGen None = ⊥
+IsGen _ = ⊥
+
+-- the words are gen
+abbrev pub Generates : Option Form → Type 0
+Generates (Some (form.Gen numbers)) = Unit {0}
+Generates (Some (form.Script numbers)) = Unit {0}
+Generates _ = ⊥

@@ -1,8 +1,8 @@
-ghost use Rattle.std.specs.Prelude.{◌≡◌, ◌≤◌, [], ◌∷◌, map, IfSome};
+ghost use Rattle.std.specs.Prelude.{◌≡◌, ◌≤◌, [], ◌∷◌, length, map, IfSome};
 ghost use Rattle.std.specs.List.{list_all};
 ghost use Rattle.std.specs.Char.{is_ascii_digit};
 ghost use Rattle.am_base.specs.Most.{most_events};
-ghost use Rattle.am_words.specs.Forms.{form_of, other_form, is_node, number_of, numbers_of, has_options};
+ghost use Rattle.am_words.specs.Forms.{form_of, one_form, shown_of, other_form, gen_of, is_node, number_of, numbers_of, has_options};
 
 use crate::node::{NodeWords, node_of};
 use am_base::limits::MOST_EVENTS;
@@ -14,17 +14,34 @@ pub struct Numbers {
     pub count: u32,
 }
 
+/// What is written of a script's run, each by the word that asks for it.
+#[derive(Clone, Copy, PartialEq, Eq, Debug)]
+pub enum Shown {
+    /// `play`: its events, the one list and each node's log.
+    Text,
+    /// `messages`: the messages that ended in what each node was given (docs/MESSAGES.md).
+    Messages,
+    /// `directory`: each node's directory (docs/DIRECTORY.md).
+    Directories,
+    /// `snapshots`: the parts of each node's snapshot for each joiner (docs/DIRECTORY.md).
+    Snapshots,
+}
+
 /// What the program's words ask for.
 #[derive(Clone, Copy, PartialEq, Eq, Debug)]
 pub enum Form {
-    /// To run a script.
-    Play,
+    /// To run a script, and to write this of its run.
+    Play(Shown),
     /// To run the calls of threads.
     Race,
-    /// To make a run from two numbers.
+    /// To make a run from two numbers, and to write its summary.
     Gen(Numbers),
+    /// To make a run from two numbers, and to write its script.
+    Script(Numbers),
     /// To audit a text.
     Audit,
+    /// To cut a message into its parts.
+    Parts,
     /// To be a node that speaks lines.
     Node(NodeWords),
 }
@@ -70,35 +87,75 @@ fn has_options(word: &str, first: &str, second: &str, one: &str, other: &str) ->
     word == "gen" && first == one && second == other
 }
 
-/// The form of five words.
-#[tactic(auto, unfolding(crate::specs::Forms::other_form))]
-fn form_of_five(word: &str, first: &str, one: &str, second: &str, other: &str) -> Option<Form>
-    ensures { result ≡ other_form (word.now ∷ first.now ∷ one.now ∷ second.now ∷ other.now ∷ []) }
+/// The numbers of five words that are `gen` with its two options.
+fn numbers_of_five(
+    word: &str,
+    first: &str,
+    one: &str,
+    second: &str,
+    other: &str,
+) -> Option<Numbers>
+    ensures { result ≡ gen_of (word.now ∷ first.now ∷ one.now ∷ second.now ∷ other.now ∷ []) }
 {
     if has_options(word, first, second, "--seed", "--count") {
-        return numbers_of(one, other).map(Form::Gen);
+        return numbers_of(one, other);
     }
     if has_options(word, first, second, "--count", "--seed") {
-        return numbers_of(other, one).map(Form::Gen);
+        return numbers_of(other, one);
+    }
+    None
+}
+
+/// The form of six words: `gen` with its two options, before, between or behind which `--script` stands.
+fn form_of_six(words: &[&str]) -> Option<Form>
+    requires { length words.now ≡ 6 }
+    ensures { result ≡ other_form (map (λ word. word.now) words.now) }
+{
+    if words[1] == "--script" {
+        return numbers_of_five(words[0], words[2], words[3], words[4], words[5]).map(Form::Script);
+    }
+    if words[3] == "--script" {
+        return numbers_of_five(words[0], words[1], words[2], words[4], words[5]).map(Form::Script);
+    }
+    if words[5] == "--script" {
+        return numbers_of_five(words[0], words[1], words[2], words[3], words[4]).map(Form::Script);
+    }
+    None
+}
+
+/// What a word asks for of a script's run.
+fn shown_of(word: &str) -> Option<Shown>
+    ensures { result ≡ shown_of word.now }
+{
+    if word == "play" {
+        return Some(Shown::Text);
+    }
+    if word == "messages" {
+        return Some(Shown::Messages);
+    }
+    if word == "directory" {
+        return Some(Shown::Directories);
+    }
+    if word == "snapshots" {
+        return Some(Shown::Snapshots);
     }
     None
 }
 
 /// The form of one word.
-#[tactic(auto, unfolding(crate::specs::Forms::other_form))]
 fn form_of_one(word: &str) -> Option<Form>
-    ensures { result ≡ other_form (word.now ∷ []) }
+    ensures { result ≡ one_form word.now }
 {
-    if word == "play" {
-        return Some(Form::Play);
-    }
     if word == "race" {
         return Some(Form::Race);
     }
     if word == "audit" {
         return Some(Form::Audit);
     }
-    None
+    if word == "parts" {
+        return Some(Form::Parts);
+    }
+    shown_of(word).map(Form::Play)
 }
 
 /// The form of words that don't begin with `node`.
@@ -109,7 +166,10 @@ fn other_form(words: &[&str]) -> Option<Form>
         return form_of_one(words[0]);
     }
     if words.len() == 5 {
-        return form_of_five(words[0], words[1], words[2], words[3], words[4]);
+        return numbers_of_five(words[0], words[1], words[2], words[3], words[4]).map(Form::Gen);
+    }
+    if words.len() == 6 {
+        return form_of_six(words);
     }
     None
 }
@@ -121,8 +181,9 @@ fn is_node(words: &[&str]) -> bool
     !words.is_empty() && words[0] == "node"
 }
 
-/// The form of the words after the program's name: one of the words `play`, `race` and `audit`, `gen` with the options
-/// `--seed N` and `--count N`, each once, in either order, or `node` with its options. None where they have no form.
+/// The form of the words after the program's name: one of the words `play`, `messages`, `directory`, `snapshots`, `race`,
+/// `audit` and `parts`, `gen` with the options `--seed N` and `--count N`, each once, in either order, and with `--script`
+/// or without it, or `node` with its options. None where they have no form.
 #[tactic(auto, unfolding(crate::specs::Forms::form_of))]
 pub fn form_of(words: &[&str]) -> Option<Form>
     ensures { result ≡ form_of (map (λ word. word.now) words.now) }

@@ -1,4 +1,4 @@
-use crate::form::{Form, Numbers, form_of};
+use crate::form::{Form, Numbers, Shown, form_of};
 use crate::options::gen_numbers;
 use std::test::*;
 
@@ -26,8 +26,28 @@ const GEN: [([&str; 5], u64, u32); 4] = [
     ),
 ];
 
+/// Words that are gen with --script, of the seed 3 and the count 4.
+const SCRIPTS: [[&str; 6]; 4] = [
+    ["gen", "--script", "--seed", "3", "--count", "4"],
+    ["gen", "--seed", "3", "--script", "--count", "4"],
+    ["gen", "--seed", "3", "--count", "4", "--script"],
+    ["gen", "--count", "4", "--seed", "3", "--script"],
+];
+
+/// Words that run a script, with what is written of its run.
+const SHOWN: [(&str, Shown); 4] = [
+    ("play", Shown::Text),
+    ("messages", Shown::Messages),
+    ("directory", Shown::Directories),
+    ("snapshots", Shown::Snapshots),
+];
+
 /// Words that have no form.
-const OTHER: [&[&str]; 18] = [
+const OTHER: [&[&str]; 22] = [
+    &["directories"],
+    &["parts", "--script"],
+    &["gen", "--script", "--seed", "1", "--count"],
+    &["gen", "--script", "--script", "--seed", "1", "--count"],
     &["Audit"],
     &["audit", "x"],
     &[],
@@ -53,6 +73,9 @@ fn gen_has_its_numbers(rt: HostRuntime) {
     for (words, seed, count) in GEN {
         let numbers = Numbers { seed, count };
         assert_eq!(rt; form_of(&words), Some(Form::Gen(numbers)));
+    }
+    for words in SCRIPTS {
+        assert_eq!(rt; form_of(&words), Some(Form::Script(Numbers { seed: 3, count: 4 })));
     }
 }
 
@@ -138,7 +161,10 @@ fn node_has_its_options(rt: HostRuntime) {
 
 #[test]
 fn other_words_have_no_form(rt: HostRuntime) {
-    assert_eq!(rt; form_of(&["play"]), Some(Form::Play));
+    for (word, shown) in SHOWN {
+        assert_eq!(rt; form_of(&[word]), Some(Form::Play(shown)));
+    }
+    assert_eq!(rt; form_of(&["parts"]), Some(Form::Parts));
     assert_eq!(rt; form_of(&["race"]), Some(Form::Race));
     assert_eq!(rt; form_of(&["audit"]), Some(Form::Audit));
     for words in OTHER {
