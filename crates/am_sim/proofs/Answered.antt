@@ -8,7 +8,10 @@ use Rattle.am_group.specs.declared.plan.RacePlan.{RacePlan}
 use Rattle.am_play.specs.World.{run}
 use Rattle.am_play.specs.Claims.{FitsView}
 use Rattle.am_play.specs.Lawful.{Watch, watch_start, watch, watch_all, watch_run, before_break, lawful_front}
-use Rattle.am_play.specs.Play.{watched_text, text_of, summary_text_of}
+use Rattle.am_play.specs.Play.{summary_text_of}
+use Rattle.am_play.specs.Text.{newline}
+use Rattle.am_report.specs.Schedules.{script_text}
+use Rattle.am_words.specs.declared.form.Shown.{Shown}
 use Rattle.am_play.specs.Settle.{settle_events}
 use Rattle.am_play.proofs.Runs.{watched_is_run, front_is_lawful}
 use Rattle.am_headline.proofs.Fitted.{views_fit}
@@ -27,9 +30,9 @@ use Rattle.am_script.specs.Limits.{ScriptWithin, RaceWithin}
 use Rattle.am_audit.specs.Lines.{Reading, read_text}
 use Rattle.am_audit.specs.Verdicts.{verdict_of, verdict_line}
 use Rattle.am_audit.proofs.Wrongs.{agrees_means, lists_agree_means}
-use Rattle.am_sim.specs.Playing.{done_of, IsRunText}
+use Rattle.am_sim.specs.Playing.{done_of, shown_text, IsRunText}
 use Rattle.am_sim.specs.Racing.{events_of, IsRaceText}
-use Rattle.am_sim.specs.Simulation.{Keeps, Repaired, Played, Generated, Raced, Audited, IsText, run_text}
+use Rattle.am_sim.specs.Simulation.{Keeps, Repaired, Played, Generated, GeneratedScript, Raced, Audited, IsText, run_watch}
 
 -- ---- a run that is settled behind its own events
 
@@ -38,14 +41,14 @@ unfolding watch_all
 watched_then s [] ys = refl
 watched_then s (x ∷ xs) ys = watched_then (watch s x) xs ys
 
--- its text is that of all that was done
-text_is : (rules : Rules) (events : List Event) (settles : Bool) → text_of rules (done_of rules events settles) ≡ run_text rules events settles
-text_is rules events false = refl
-text_is rules events true =
+-- it is watched as all that was done is
+watch_is : (rules : Rules) (events : List Event) (settles : Bool) → watch_run rules (done_of rules events settles) ≡ run_watch rules events settles
+watch_is rules events false = refl
+watch_is rules events true =
     let s = watch_run rules events in
     let world = watched_is_run rules events in
-    ap (watched_text rules) (watched_then (watch_start rules) events (settle_events rules (run rules events))
-    ∙ ap (λ w. watch_all s (settle_events rules w)) (sym world))
+    watched_then (watch_start rules) events (settle_events rules (run rules events))
+    ∙ ap (λ w. watch_all s (settle_events rules w)) (sym world)
 
 -- at each moment up to its lawful front a View fits
 fits_then : (rules : Rules) (events : List Event) → MayFound rules → (moment name : ℕ)
@@ -69,9 +72,10 @@ keeps_all rules events may = record {
 repaired : (rules : Rules) (events : List Event) → MayFound rules → Repaired rules events
 repaired rules events may place low repair name member = settled_is_repaired rules events place may low repair name member
 
-pub played_by : (bytes text : List ℕ) (script : Script) → reading key.Play bytes ≡ Ok script → ScriptWithin script → IsText script text → Played bytes text
+pub played_by : (what : Shown) (bytes text : List ℕ) (script : Script) → reading key.Play bytes ≡ Ok script → ScriptWithin script → IsText what script text
+    → Played what bytes text
 unfolding IsRunText
-played_by bytes text (Play founding events settles) is within same =
+played_by what bytes text (Play founding events settles) is within same =
     let may = within.may_found in
     let done = done_of founding events settles in
     record {
@@ -79,18 +83,28 @@ played_by bytes text (Play founding events settles) is within same =
       events = events;
       settles = settles;
       script = is;
-      written = same.0 ∙ text_is founding events settles;
+      written = same.0 ∙ ap (shown_text what founding) (watch_is founding events settles);
       few = same.1;
       keeps = keeps_all founding done may;
       repaired = λ _settled. repaired founding events may;
     }
-played_by bytes text (Race plan) is within same = absurd same
+played_by what bytes text (Race plan) is within same = absurd same
 
 -- ---- a generated run
 
 pub generated_by : (numbers : Numbers) (text : List ℕ) → text ≡ summary_text_of generated_rules (events_of_seed numbers.seed numbers.count)
     → length (events_of_seed numbers.seed numbers.count) ≡ numbers.count → Generated numbers text
 generated_by numbers text is many =
+    let done = events_of_seed numbers.seed numbers.count in
+    record {
+      written = is;
+      count = many;
+      keeps = keeps_all generated_rules done may_found;
+    }
+
+pub scripted_by : (numbers : Numbers) (text : List ℕ) → text ≡ script_text generated_rules (events_of_seed numbers.seed numbers.count) ++ newline
+    → length (events_of_seed numbers.seed numbers.count) ≡ numbers.count → GeneratedScript numbers text
+scripted_by numbers text is many =
     let done = events_of_seed numbers.seed numbers.count in
     record {
       written = is;

@@ -19,15 +19,25 @@ use Rattle.am_world.specs.Runs as worlds
 use Rattle.am_world.specs.Runs.{replay}
 use Rattle.am_sim.proofs.Names.{has_log_in}
 
+-- what is written of a founding, records, a group list, the names with a list, and what broke, is that of the watched run
+told_of : (T : Rules → List Record → List Entry → List (ℕ × List (ℕ × Entry)) → Option ℕ → List ℕ)
+    (p : worlds.Play) (text : List ℕ) (founding : Rules) (records : List Record) (group : List Entry) (each : List ℕ) (broken : Option ℕ)
+    → founding ≡ p.rules → records ≡ (replay p).records → group ≡ (replay p).group → each ≡ filter (has_log_in (replay p)) all_names
+    → broken ≡ broken_at p.rules p.events → text ≡ T founding records group (logs_for records each) broken
+    → (λ (w : World). text ≡ T p.rules w.records w.group (logs w) (broken_at p.rules p.events)) (watch_run p.rules p.events).world
+told_of T p text founding records group each broken rules recorded agreed named mark is =
+    is
+    ∙ (λ k. T (rules k) (recorded k) (agreed k) (logs_for (recorded k) (named k)) (mark k))
+    ∙ ap (λ ls. T p.rules (replay p).records (replay p).group ls (broken_at p.rules p.events)) (sym (logs_are (replay p)))
+    ∙ ap (λ (w : World). T p.rules w.records w.group (logs w) (broken_at p.rules p.events)) (sym (watched_is_run p.rules p.events))
+
 pub world_text : (p : worlds.Play) (text : List ℕ) (founding : Rules) (records : List Record) (group : List Entry) (each : List ℕ) (broken : Option ℕ)
     → founding ≡ p.rules → records ≡ (replay p).records → group ≡ (replay p).group → each ≡ filter (has_log_in (replay p)) all_names
-    → broken ≡ broken_at p.rules p.events
-    → text ≡ play_text founding records group (logs_for records each) broken → text ≡ text_of p.rules p.events
+    → broken ≡ broken_at p.rules p.events → text ≡ play_text founding records group (logs_for records each) broken
+    → text ≡ shown_text shown.Text p.rules (watch_run p.rules p.events)
+unfolding shown_text
 world_text p text founding records group each broken rules recorded agreed named mark is =
-    is
-    ∙ (λ k. play_text (rules k) (recorded k) (agreed k) (logs_for (recorded k) (named k)) (mark k))
-    ∙ ap (λ ls. play_text p.rules (replay p).records (replay p).group ls (broken_at p.rules p.events)) (sym (logs_are (replay p)))
-    ∙ ap (λ (w : World). play_text p.rules w.records w.group (logs w) (broken_at p.rules p.events)) (sym (watched_is_run p.rules p.events))
+    told_of play_text p text founding records group each broken rules recorded agreed named mark is
 
 -- ---- a summary
 

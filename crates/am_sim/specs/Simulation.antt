@@ -1,5 +1,5 @@
 -- What a call of the program did.
-use Rattle.std.specs.Prelude.{◌≡◌, ℕ, ◌<◌, ◌≤◌, true, false, List, length, map, take, Option, Some, Ok, Err, Bool, if◌then◌else◌}
+use Rattle.std.specs.Prelude.{◌≡◌, ℕ, ◌<◌, ◌≤◌, true, false, List, ◌++◌, length, map, take, Option, Some, Ok, Err, Bool, if◌then◌else◌}
 use Rattle.std.specs.Borrow.{Bor}
 use Rattle.std.specs.Io.KnownBytes.{Appends}
 use Rattle.am_base.specs.Most.{most_events}
@@ -10,9 +10,10 @@ use Rattle.am_group.specs.declared.event.Record.{Record}
 use Rattle.am_group.specs.declared.plan.RacePlan.{RacePlan}
 use Rattle.am_model.specs.Node.{top, members}
 use Rattle.am_play.specs.World.{current, run}
-use Rattle.am_play.specs.Play.{text_of, settled_text_of, summary_text_of}
+use Rattle.am_play.specs.Play.{settle_run, summary_text_of}
+use Rattle.am_play.specs.Text.{newline}
 use Rattle.am_play.specs.Claims.{Headline, FitsView, Sent, NoBallot, HoldsUnballoted, MayRepair, HasCaughtUp}
-use Rattle.am_play.specs.Lawful.{lawful_front}
+use Rattle.am_play.specs.Lawful.{Watch, watch_run, lawful_front}
 use Rattle.am_script.specs.Scripts.{reading}
 use Rattle.am_script.specs.declared.key.Key.{Key}
 use Rattle.am_script.specs.declared.key.Key.TheVariants as key
@@ -21,7 +22,7 @@ use Rattle.am_sim.specs.declared.alone.Unplayed.{Unplayed}
 use Rattle.am_sim.specs.declared.alone.Unplayed.TheVariants as unplayed
 use Rattle.am_world.specs.declared.world.WorldRefusal.{WorldRefusal}
 use Rattle.am_world.specs.declared.world.WorldRefusal.TheVariants as refusals
-use Rattle.am_sim.specs.Playing.{done_of, IsRunText, IsLong}
+use Rattle.am_sim.specs.Playing.{done_of, shown_text, IsRunText, IsLong}
 use Rattle.am_sim.specs.Racing.{events_of, race_text, IsRaced}
 use Rattle.am_io.specs.Outside.{next, ReadToEnd}
 use Rattle.am_pump.specs.Generating.{generated_rules, events_of_seed}
@@ -36,6 +37,10 @@ use Rattle.am_words.specs.Forms.{form_of}
 use Rattle.am_words.specs.declared.form.Form.{Form}
 use Rattle.am_words.specs.declared.form.Form.TheVariants as form
 use Rattle.am_words.specs.declared.form.Numbers.{Numbers}
+use Rattle.am_words.specs.declared.form.Shown.{Shown}
+use Rattle.am_seg.specs.Parts.{most_message}
+use Rattle.am_services.specs.Texts.{parts_text}
+use Rattle.am_report.specs.Schedules.{script_text}
 use Rattle.am_script.specs.declared.script.Script.{Script}
 use Rattle.am_script.specs.declared.script.Script.TheVariants.{Play, Race}
 use Rattle.am_sim.specs.declared.status.Status.{Status}
@@ -45,13 +50,18 @@ use Rattle.am_sim.specs.declared.status.Status.TheVariants.{Done, Usage, BadScri
 abbrev pub most_input : ℕ
 most_input = 16777216
 
+-- the most that is read for a form
+abbrev pub most_of : Option Form → ℕ
+most_of (Some form.Parts) = most_message
+most_of _ = most_input
+
 -- the form of words
 abbrev pub form_of_words : List (Bor (List ℕ)) → Option Form
 form_of_words words = form_of (map (λ word. word.now) words)
 
--- the text of a script's run, which is settled behind its own events where that is asked for
-abbrev pub run_text : Rules → List Event → Bool → List ℕ
-run_text rules events settles = if settles then settled_text_of rules events else text_of rules events
+-- a script's run as it is watched, and settled behind its own events where that is asked for
+abbrev pub run_watch : Rules → List Event → Bool → Watch
+run_watch rules events settles = if settles then settle_run rules (watch_run rules events) else watch_run rules events
 
 -- What is claimed of every run: the headline, which is up to its lawful front, and that no node ever kept more than it may; and that at each moment up
 -- to there a View which leaves somebody out fits each node. Besides, of the whole run, whoever stops: everything in the one group list was sent before it
@@ -69,14 +79,14 @@ Repaired rules events = (place : ℕ) → place < 16 → MayRepair (run rules ev
     → (name : ℕ) → has (members ((run rules events).nodes (current (run rules events) place))) name ≡ true
     → HasCaughtUp ((run rules (done_of rules events true)).nodes name) (top ((run rules events).nodes (current (run rules events) place)))
 
--- what was read is a script, what was written is the text of its run, which has at most 100,000 events, and that run keeps what is claimed; where it is
+-- what was read is a script, what was written is shown of its run, which has at most 100,000 events, and that run keeps what is claimed; where it is
 -- settled, it is repaired
-pub record Played (bytes text : List ℕ) : Type 0 where
+pub record Played (what : Shown) (bytes text : List ℕ) : Type 0 where
   pub founding : Rules
   pub events : List Event
   pub settles : Bool
   pub script : reading key.Play bytes ≡ Ok (Play founding events settles)
-  pub written : text ≡ run_text founding events settles
+  pub written : text ≡ shown_text what founding (run_watch founding events settles)
   pub few : length (done_of founding events settles) ≤ most_events
   pub keeps : Keeps founding (done_of founding events settles)
   pub repaired : settles ≡ true → Repaired founding events
@@ -87,14 +97,30 @@ pub record Generated (numbers : Numbers) (text : List ℕ) : Type 0 where
   pub count : length (events_of_seed numbers.seed numbers.count) ≡ numbers.count
   pub keeps : Keeps generated_rules (events_of_seed numbers.seed numbers.count)
 
--- a text is that of the script that was read to the end of what was left
-abbrev pub IsPlayed : Option (List ℕ) → Option (List ℕ) → List ℕ → Type 0
-IsPlayed before after text = (bytes : List ℕ) × ReadToEnd before after bytes × Played bytes text
+-- what was written is the script of the run of two numbers, in one line, and that run keeps what is claimed
+pub record GeneratedScript (numbers : Numbers) (text : List ℕ) : Type 0 where
+  pub written : text ≡ script_text generated_rules (events_of_seed numbers.seed numbers.count) ++ newline
+  pub count : length (events_of_seed numbers.seed numbers.count) ≡ numbers.count
+  pub keeps : Keeps generated_rules (events_of_seed numbers.seed numbers.count)
 
--- a text is the summary that words of gen ask for
+-- a text is shown of the script that was read to the end of what was left
+abbrev pub IsPlayed : Shown → Option (List ℕ) → Option (List ℕ) → List ℕ → Type 0
+IsPlayed what before after text = (bytes : List ℕ) × ReadToEnd before after bytes × Played what bytes text
+
+-- a text is the summary that words of gen ask for, or the script
 abbrev pub IsSummary : Option Form → List ℕ → Type 0
 IsSummary (Some (form.Gen numbers)) text = Generated numbers text
+IsSummary (Some (form.Script numbers)) text = GeneratedScript numbers text
 IsSummary _ text = ⊥
+
+-- what was read is a message, and what was written are its parts, a line each
+pub record Parted (bytes text : List ℕ) : Type 0 where
+  pub few : length bytes ≤ most_message
+  pub written : text ≡ parts_text bytes
+
+-- a text has the parts of the message that was read to the end of what was left
+abbrev pub IsParted : Option (List ℕ) → Option (List ℕ) → List ℕ → Type 0
+IsParted before after text = (bytes : List ℕ) × ReadToEnd before after bytes × Parted bytes text
 
 -- what was read is a text, and what was written is the line of its verdict; where that agrees, the text keeps what that means
 pub record Audited (bytes text : List ℕ) : Type 0 where
@@ -132,15 +158,17 @@ IfAudit _ claim = Unit {0}
 
 -- a text is what words of a form ask for that waits for nobody
 abbrev pub IsAnswerAlone : Option Form → Option (List ℕ) → Option (List ℕ) → List ℕ → Type 0
-IsAnswerAlone (Some form.Play) before after text = IsPlayed before after text
+IsAnswerAlone (Some (form.Play what)) before after text = IsPlayed what before after text
 IsAnswerAlone (Some form.Audit) before after text = IsAudited before after text
+IsAnswerAlone (Some form.Parts) before after text = IsParted before after text
 IsAnswerAlone other before after text = IsSummary other text
 
 -- the forms that read
 abbrev pub Reads : Option Form → Type 0
-Reads (Some form.Play) = Unit {0}
+Reads (Some (form.Play what)) = Unit {0}
 Reads (Some form.Race) = Unit {0}
 Reads (Some form.Audit) = Unit {0}
+Reads (Some form.Parts) = Unit {0}
 Reads (Some (form.Node node)) = Unit {0}
 Reads _ = ⊥
 
@@ -222,10 +250,10 @@ IsScript bytes claim = (founding : Rules) × (events : List Event) × (settle : 
 abbrev pub IsSpent : List ℕ → Type 0
 IsSpent bytes = IsScript bytes IsLong
 
--- the text of what a play's run does
-abbrev pub IsText : Script → List ℕ → Type 0
-IsText (Play founding events settles) text = IsRunText founding events settles text
-IsText (Race plan) text = ⊥
+-- a text is shown of what a play's run does
+abbrev pub IsText : Shown → Script → List ℕ → Type 0
+IsText what (Play founding events settles) text = IsRunText what founding events settles text
+IsText what (Race plan) text = ⊥
 
 -- why a play isn't run
 abbrev pub IsUnrun : Script → Unplayed → Type 0
@@ -270,8 +298,9 @@ IsRacedText before after text = (bytes : List ℕ) × ReadToEnd before after byt
 
 -- a text is what words of a form ask for
 abbrev pub IsAnswer : Option Form → Option (List ℕ) → Option (List ℕ) → List ℕ → Type 0
-IsAnswer (Some form.Play) before after text = IsPlayed before after text
+IsAnswer (Some (form.Play what)) before after text = IsPlayed what before after text
 IsAnswer (Some form.Race) before after text = IsRacedText before after text
 IsAnswer (Some form.Audit) before after text = IsAudited before after text
+IsAnswer (Some form.Parts) before after text = IsParted before after text
 IsAnswer (Some (form.Node node)) before after text = (bytes : List ℕ) × ReadToEnd before after bytes × (text ≡ spoken node.founding node.name bytes)
 IsAnswer other before after text = IsSummary other text

@@ -3,13 +3,14 @@ ghost use Rattle.std.specs.Io.KnownBytes.{Appends};
 ghost use Rattle.am_io.specs.Outside.{ReadToEnd, GaveMore, GaveAtMost};
 ghost use Rattle.am_script.specs.declared.key.Key.TheVariants as key;
 ghost use Rattle.am_script.specs.Scripts.{IsOfKind, reading};
-ghost use Rattle.am_words.specs.Forms.{IsGen};
+ghost use Rattle.am_words.specs.Forms.{IsGen, Generates};
 ghost use Rattle.am_words.specs.declared.form.Form.TheVariants as form;
 ghost use Rattle.am_audit.specs.Lines.{read_text};
-ghost use Rattle.am_sim.specs.Simulation.{form_of_words, most_input, Reads, Waits, key_for, EndsGen, IsAnswerAlone, IsPlayed, IsSummary, OnDone, OnWriteFault, IfBadScript, Writes, IfBadText, IfAudit, Judges, IsOfAudit, Played, WrotePart, IsSpent, IsText, IsUnrun, IsUnplayed, unplayed_for, reads_after, writes_after};
+ghost use Rattle.am_sim.specs.Simulation.{form_of_words, most_input, most_of, Reads, Waits, key_for, EndsGen, IsAnswerAlone, IsPlayed, IsSummary, OnDone, OnWriteFault, IfBadScript, Writes, IfBadText, IfAudit, Judges, IsOfAudit, Played, WrotePart, IsSpent, IsText, IsUnrun, IsUnplayed, unplayed_for, reads_after, writes_after};
 
 use crate::auditing::audit_text;
-use crate::generating::summary_of_run;
+use crate::generating::{generate_script, summary_of_run};
+use crate::parting::write_parts;
 use crate::playing::text_of_run;
 use crate::status::Status;
 use am_base::NoMemory;
@@ -19,7 +20,7 @@ use am_script::key::Key;
 use am_script::read::read_script;
 use am_script::refusal::ScriptRefusal;
 use am_script::script::Script;
-use am_words::form::{Form, form_of};
+use am_words::form::{Form, Shown, form_of};
 use am_words::options::gen_numbers;
 use am_world::world::WorldRefusal;
 use std::alloc::Global;
@@ -42,15 +43,15 @@ pub fn simulate_alone<S: Source, K: Sink>(
     ensures usage { IfSome result (λ status. (status ≡ Status.Usage)
         ↔ (form_of_words words.now ≡ None)) }
     ensures unread { (Reads (form_of_words words.now) → ⊥) → source.new ≡ source.old }
-    ensures generates { IsGen (form_of_words words.now) → IfSome result EndsGen }
+    ensures generates { Generates (form_of_words words.now) → IfSome result EndsGen }
     ensures reads { IfSome result (λ status. S.count source.new
         ≡ reads_after status (S.count source.old)) }
     ensures writes { IfSome result (λ status. K.count sink.new
         ≡ writes_after status (K.count sink.old)) }
     ensures too_long { IfSome result (λ status. status ≡ Status.TooLong
-        → GaveMore most_input (S.left source.old) (S.left source.new)) }
+        → GaveMore (most_of (form_of_words words.now)) (S.left source.old) (S.left source.new)) }
     ensures within { IfSome result (λ status. status ≢ Status.TooLong
-        → GaveAtMost most_input (S.left source.old) (S.left source.new)) }
+        → GaveAtMost (most_of (form_of_words words.now)) (S.left source.old) (S.left source.new)) }
     ensures bad_script { IfSome result (λ status. IfBadScript status (λ cause. (bytes : List ℕ)
         × ReadToEnd (S.left source.old) (S.left source.new) bytes
         × (reading (key_for (form_of_words words.now)) bytes ≡ Err cause))) }
@@ -71,9 +72,11 @@ pub fn simulate_alone<S: Source, K: Sink>(
         → form_of_words words.now ≡ Some form.Audit) }
 {
     match form_of(words) {
-        Some(Form::Play) => Some(play(alloc, source, sink)),
+        Some(Form::Play(shown)) => Some(play(alloc, shown, source, sink)),
         Some(Form::Gen(_)) => Some(generate_run(alloc, words, sink)),
+        Some(Form::Script(numbers)) => Some(generate_script(alloc, numbers, sink)),
         Some(Form::Audit) => Some(audit_text(alloc, source, sink)),
+        Some(Form::Parts) => Some(write_parts(alloc, source, sink)),
         Some(Form::Race) => None,
         Some(Form::Node(_)) => None,
         None => Some(Status::Usage),
@@ -109,9 +112,9 @@ fn summary_of(alloc: Global, words: &[&str]) -> Result<String, NoMemory>
     summary_of_run(alloc, numbers)
 }
 
-/// Reads a script to its end, runs it, and writes the text of its run.
+/// Reads a script to its end, runs it, and writes this of its run.
 #[tactic(auto, using(crate::proofs::Answered::gave_whole))]
-fn play<S: Source, K: Sink>(alloc: Global, source: &mut S, sink: &mut K) -> Status
+fn play<S: Source, K: Sink>(alloc: Global, shown: Shown, source: &mut S, sink: &mut K) -> Status
     ensures not_usage { result ≢ Status.Usage }
     ensures not_of_audit { IsOfAudit result → ⊥ }
     ensures reads { S.count source.new ≡ reads_after result (S.count source.old) }
@@ -126,10 +129,10 @@ fn play<S: Source, K: Sink>(alloc: Global, source: &mut S, sink: &mut K) -> Stat
     ensures spent { result ≡ Status.Spent → (bytes : List ℕ)
         × ReadToEnd (S.left source.old) (S.left source.new) bytes × IsSpent bytes }
     ensures part { OnWriteFault result ((text : List ℕ)
-        × IsPlayed (S.left source.old) (S.left source.new) text
+        × IsPlayed shown (S.left source.old) (S.left source.new) text
         × WrotePart (K.contents sink.old) (K.contents sink.new) text) }
     ensures done { OnDone result ((text : List ℕ)
-        × IsPlayed (S.left source.old) (S.left source.new) text
+        × IsPlayed shown (S.left source.old) (S.left source.new) text
         × Appends (K.contents sink.old) (K.contents sink.new) text) }
     ensures unwritten { (Writes result → ⊥) → sink.new ≡ sink.old }
 {
@@ -139,7 +142,7 @@ fn play<S: Source, K: Sink>(alloc: Global, source: &mut S, sink: &mut K) -> Stat
         Err(ReadRefusal::TooLong) => return Status::TooLong,
         Err(ReadRefusal::NoMemory) => return Status::NoMemory,
     };
-    let text = match answer(alloc, bytes.as_slice()) {
+    let text = match answer(alloc, shown, bytes.as_slice()) {
         Ok(text) => text,
         Err(Unplayed::BadScript(cause)) => return Status::BadScript(cause),
         Err(Unplayed::Spent) => return Status::Spent,
@@ -170,10 +173,10 @@ impl From<WorldRefusal> for Unplayed {
     }
 }
 
-/// The text of a play's run.
-fn text_of_script(alloc: Global, script: &Script) -> Result<String, Unplayed>
+/// What is shown of a play's run.
+fn text_of_script(alloc: Global, shown: Shown, script: &Script) -> Result<String, Unplayed>
     requires { IsOfKind key.Play script.now }
-    ensures text { IfOk result (λ text. IsText script.now (string_bytes text)) }
+    ensures text { IfOk result (λ text. IsText shown script.now (string_bytes text)) }
     ensures unrun { IfErr result (λ e. IsUnrun script.now e) }
 {
     match script {
@@ -182,17 +185,17 @@ fn text_of_script(alloc: Global, script: &Script) -> Result<String, Unplayed>
             events,
             settle,
         } => {
-            let text = text_of_run(alloc, founding, events.as_slice(), *settle)?;
+            let text = text_of_run(alloc, shown, founding, events.as_slice(), *settle)?;
             Ok(text)
         }
         Script::Race(_) => unreachable!(),
     }
 }
 
-/// The text of the run of a script's bytes.
+/// What is shown of the run of a script's bytes.
 #[tactic(auto, using(crate::proofs::Answered::played_by))]
-fn answer(alloc: Global, bytes: &[u8]) -> Result<String, Unplayed>
-    ensures played { IfOk result (λ text. Played bytes.now (string_bytes text)) }
+fn answer(alloc: Global, shown: Shown, bytes: &[u8]) -> Result<String, Unplayed>
+    ensures played { IfOk result (λ text. Played shown bytes.now (string_bytes text)) }
     ensures unplayed { IfErr result (λ e. IsUnplayed bytes.now e) }
 {
     let script = match read_script(alloc, Key::Play, bytes) {
@@ -204,6 +207,6 @@ fn answer(alloc: Global, bytes: &[u8]) -> Result<String, Unplayed>
             return Err(Unplayed::BadScript(cause));
         }
     };
-    let text = text_of_script(alloc, &script)?;
+    let text = text_of_script(alloc, shown, &script)?;
     Ok(text)
 }

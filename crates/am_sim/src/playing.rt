@@ -2,17 +2,20 @@ ghost use Rattle.std.specs.Prelude.{◌≡◌, ◌<◌, ◌≤◌, ◌+◌, ◌+
 ghost use Rattle.am_base.specs.Most.{most_events};
 ghost use Rattle.am_base.specs.Votes.{all_names};
 ghost use Rattle.am_model.specs.Node.{has_log};
-ghost use Rattle.am_play.specs.Play.{text_of};
+ghost use Rattle.am_play.specs.Lawful.{watch_run};
 ghost use Rattle.am_world.specs.declared.world.WorldRefusal.TheVariants as refusals;
 ghost use Rattle.am_world.specs.Runs.{replay};
-ghost use Rattle.am_sim.specs.Playing.{done_of, IsRunText, IsLong};
+ghost use Rattle.am_sim.specs.Playing.{done_of, shown_text, IsRunText, IsLong};
 
 use am_base::NoMemory;
 use am_base::founding::Founding;
 use am_base::name::Name;
 use am_group::event::Event;
 use am_report::play::play_text;
+use am_services::directories::{directories_text, snapshots_text};
+use am_services::messages::messages_text;
 use am_settle::settle::settle;
+use am_words::form::Shown;
 use am_world::world::{World, WorldRefusal};
 use std::alloc::Global;
 
@@ -40,21 +43,21 @@ fn logged_names(alloc: Global, world: &World) -> Result<Vec<Name>, NoMemory>
     Ok(each)
 }
 
-/// The text of what a world did.
-#[tactic(auto, using(crate::proofs::Texts::world_text))]
-fn text_of_world(alloc: Global, world: &World) -> Result<String, NoMemory>
-    ensures { IfOk result (λ text. string_bytes text ≡ text_of world.now.rules world.now.events) }
+/// What is shown of what a world did.
+fn text_of_world(alloc: Global, shown: Shown, world: &World) -> Result<String, NoMemory>
+    ensures { IfOk result (λ text. string_bytes text
+        ≡ shown_text shown world.now.rules (watch_run world.now.rules world.now.events)) }
 {
-    let names = logged_names(alloc, world)?;
+    let each = logged_names(alloc, world)?;
+    let names = each.as_slice();
     let broken = world.broken_at();
-    let text = play_text(
-        alloc,
-        world.journal(),
-        world.group(),
-        names.as_slice(),
-        broken,
-    )?;
-    Ok(text)
+    let journal = world.journal();
+    match shown {
+        Shown::Text => play_text(alloc, journal, world.group(), names, broken),
+        Shown::Messages => messages_text(alloc, journal, names, broken),
+        Shown::Directories => directories_text(alloc, journal, names, broken),
+        Shown::Snapshots => snapshots_text(alloc, journal, names, broken),
+    }
 }
 
 /// A world does events in turn.
@@ -95,19 +98,20 @@ fn play_out(
     Ok(world)
 }
 
-/// The text of a script's run.
+/// What is shown of a script's run.
 #[tactic(auto, unfolding(crate::specs::Playing::IsRunText, crate::specs::Playing::IsLong))]
 pub fn text_of_run(
     alloc: Global,
+    shown: Shown,
     founding: &Founding,
     events: &[Event],
     settles: bool,
 ) -> Result<String, WorldRefusal>
-    ensures text { IfOk result (λ text. IsRunText founding.now events.now settles
+    ensures text { IfOk result (λ text. IsRunText shown founding.now events.now settles
         (string_bytes text)) }
     ensures spent { IfErr result (λ e. e ≡ refusals.Spent
         → IsLong founding.now events.now settles) }
 {
     let world = play_out(alloc, founding, events, settles)?;
-    Ok(text_of_world(alloc, &world)?)
+    Ok(text_of_world(alloc, shown, &world)?)
 }

@@ -15,13 +15,14 @@ use am_calls::race::race;
 use am_group::event::{Event, Record};
 use am_group::plan::RacePlan;
 use am_report::script::script_text;
+use am_words::form::Shown;
 use am_world::world::WorldRefusal;
 use std::alloc::Global;
 use std::sync::Wait;
 use std::thread::Threads;
 
 /// What was done, record by record.
-fn events_of(alloc: Global, records: &[Record]) -> Result<Items<Event>, NoMemory>
+pub(crate) fn events_of(alloc: Global, records: &[Record]) -> Result<Items<Event>, NoMemory>
     ensures { IfOk result (λ events. events ≡ events_of records.now) }
 {
     let mut events = Items::new(alloc);
@@ -54,7 +55,7 @@ fn text_of_events(alloc: Global, founding: &Founding, events: &[Event]) -> Resul
     requires { length events.now ≤ most_events }
     ensures { IfOk result (λ text. string_bytes text ≡ text_of founding.now events.now) }
 {
-    match text_of_run(alloc, founding, events, false) {
+    match text_of_run(alloc, Shown::Text, founding, events, false) {
         Ok(text) => Ok(text),
         Err(WorldRefusal::NoMemory) => Err(NoMemory),
         Err(WorldRefusal::Spent) => unreachable!(),

@@ -6,10 +6,10 @@ ghost use Rattle.am_script.specs.declared.script.Script.TheVariants as scripts;
 ghost use Rattle.am_script.specs.Limits.{RaceWithin};
 ghost use Rattle.am_script.specs.Scripts.{reading};
 ghost use Rattle.am_words.specs.declared.form.Form.TheVariants as form;
-ghost use Rattle.am_words.specs.Forms.{IsGen};
+ghost use Rattle.am_words.specs.Forms.{Generates};
 ghost use Rattle.am_sim.specs.Speaking.{Spoken, IfNode, IsNode};
 ghost use Rattle.am_audit.specs.Lines.{read_text};
-ghost use Rattle.am_sim.specs.Simulation.{form_of_words, most_input, Reads, key_for, EndsGen, IsAnswer, IsRacedText, OnDone, OnWriteFault, IfBadScript, Writes, IfBadText, IfAudit, Judges, IsOfAudit, Raced, WrotePart, IsSpent, reads_after, writes_after};
+ghost use Rattle.am_sim.specs.Simulation.{form_of_words, most_input, most_of, Reads, key_for, EndsGen, IsAnswer, IsRacedText, OnDone, OnWriteFault, IfBadScript, Writes, IfBadText, IfAudit, Judges, IsOfAudit, Raced, WrotePart, IsSpent, reads_after, writes_after};
 
 use crate::alone::{INPUT_MOST, simulate_alone};
 use crate::racing::text_of_race;
@@ -43,14 +43,14 @@ pub fn simulate<R: Threads + Wait + Sync, S: Source, K: Sink, G: Gate + Sync>(
 ) -> Status
     ensures usage { (result ≡ Status.Usage) ↔ (form_of_words words.now ≡ None) }
     ensures unread { (Reads (form_of_words words.now) → ⊥) → source.new ≡ source.old }
-    ensures generates { IsGen (form_of_words words.now) → EndsGen result }
+    ensures generates { Generates (form_of_words words.now) → EndsGen result }
     ensures races { form_of_words words.now ≡ Some form.Race → result ≢ Status.Spent }
     ensures reads { S.count source.new ≡ reads_after result (S.count source.old) }
     ensures writes { K.count sink.new ≡ writes_after result (K.count sink.old) }
     ensures too_long { result ≡ Status.TooLong
-        → GaveMore most_input (S.left source.old) (S.left source.new) }
+        → GaveMore (most_of (form_of_words words.now)) (S.left source.old) (S.left source.new) }
     ensures within { (IsNode (form_of_words words.now) → ⊥) → result ≢ Status.TooLong
-        → GaveAtMost most_input (S.left source.old) (S.left source.new) }
+        → GaveAtMost (most_of (form_of_words words.now)) (S.left source.old) (S.left source.new) }
     ensures bad_script { IfBadScript result (λ cause. (bytes : List ℕ)
         × ReadToEnd (S.left source.old) (S.left source.new) bytes
         × (reading (key_for (form_of_words words.now)) bytes ≡ Err cause)) }
@@ -90,9 +90,11 @@ fn is_race(words: &[&str]) -> bool
 {
     match form_of(words) {
         Some(Form::Race) => true,
-        Some(Form::Play) => false,
+        Some(Form::Play(_)) => false,
         Some(Form::Gen(_)) => false,
+        Some(Form::Script(_)) => false,
         Some(Form::Audit) => false,
+        Some(Form::Parts) => false,
         Some(Form::Node(_)) => false,
         None => false,
     }

@@ -17,10 +17,12 @@ pub fn node_in(words: &[&str]) -> Option<NodeWords>
 {
     match form_of(words) {
         Some(Form::Node(node)) => Some(node),
-        Some(Form::Play) => None,
+        Some(Form::Play(_)) => None,
         Some(Form::Race) => None,
         Some(Form::Gen(_)) => None,
+        Some(Form::Script(_)) => None,
         Some(Form::Audit) => None,
+        Some(Form::Parts) => None,
         None => None,
     }
 }

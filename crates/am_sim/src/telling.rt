@@ -8,11 +8,11 @@ use arrayvec::ArrayString;
 use itoa::Buffer;
 
 /// A line that tells of a status.
-pub type Line = ArrayString<128>;
+pub type Line = ArrayString<160>;
 
 /// Some words as a line.
 fn line(words: &str) -> Line
-    requires { length words.now ≤ 128 }
+    requires { length words.now ≤ 160 }
     ensures { result.bytes ≡ words.now }
 {
     let mut line = ArrayString::new();
@@ -50,7 +50,7 @@ pub fn line_of(status: Status) -> Line
     match status {
         Status::Done => ArrayString::new(),
         Status::Usage => line(
-            "usage: play | race | gen --seed N --count N | audit | node --name N --founders N,N",
+            "usage: play | race | gen --seed N --count N [--script] | audit | parts | messages | directory | snapshots | node --name N --founders N,N",
         ),
         Status::BadScript(cause) => bad_script_line(cause),
         Status::TooLong => line("too long"),

@@ -4,11 +4,11 @@ use Rattle.am_sim.proofs.Answered.{gave_whole, written_of}
 use Rattle.am_sim.proofs.alone.play.Goals as goal
 
 pub returns-in-Ok-write_all-clause-done : goal.returns-in-Ok-write_all-clause-done
-returns-in-Ok-write_all-clause-done g c = written_of Played (Appends _ _) _ _ _ _ _ _ c.in-Ok.ensures.ok c.as_slice.ensures.value
+returns-in-Ok-write_all-clause-done g c = written_of (Played _) (Appends _ _) _ _ _ _ _ _ c.in-Ok.ensures.ok c.as_slice.ensures.value
     c.in-Ok-answer.ensures.played c.as_bytes.ensures.value c.in-Ok-write_all.ensures.ok
 
 pub returns-clause-part : goal.returns-clause-part
-returns-clause-part g c = written_of Played (WrotePart _ _) _ _ _ _ _ _ c.in-Ok.ensures.ok c.as_slice.ensures.value
+returns-clause-part g c = written_of (Played _) (WrotePart _ _) _ _ _ _ _ _ c.in-Ok.ensures.ok c.as_slice.ensures.value
     c.in-Ok-answer.ensures.played c.as_bytes.ensures.value (c.in-Err.field-0.written, c.in-Err.ensures.part)
 
 pub returns-in-Ok-write_all-clause-within : goal.returns-in-Ok-write_all-clause-within

@@ -9,20 +9,20 @@ use Rattle.am_sim.proofs.alone.simulate_alone.Goals as goal
 
 pub returns-in-Some-Play-clause-bad_script : goal.returns-in-Some-Play-clause-bad_script
 returns-in-Some-Play-clause-bad_script g c =
-    let same : Some form.Play ≡ form_of_words c.args.words.now = search (rules, c.form_of.ensures, c.in-Some-Play.is, c.in-Some-Play.field-0-is) in
+    let same : Some (form.Play c.in-Some-Play.shown) ≡ form_of_words c.args.words.now = search (rules, c.form_of.ensures, c.in-Some-Play.is, c.in-Some-Play.field-0-is, c.in-Some-Play.shown-is) in
     subst (λ (a : Option Form). IfBadScript c.play.result (λ cause. (x : List ℕ)
     × ReadToEnd (g.S.Source.left c.args.source.now) (g.S.Source.left c.play.new.source) x
     × (reading (key_for a) x ≡ Err cause))) same c.play.ensures.bad_script
 
 pub returns-in-Some-Play-clause-part : goal.returns-in-Some-Play-clause-part
 returns-in-Some-Play-clause-part g c =
-    let same : Some form.Play ≡ form_of_words c.args.words.now = search (rules, c.form_of.ensures, c.in-Some-Play.is, c.in-Some-Play.field-0-is) in
+    let same : Some (form.Play c.in-Some-Play.shown) ≡ form_of_words c.args.words.now = search (rules, c.form_of.ensures, c.in-Some-Play.is, c.in-Some-Play.field-0-is, c.in-Some-Play.shown-is) in
     subst (λ (a : Option Form). OnWriteFault c.play.result ((x : List ℕ)
     × IsAnswerAlone a (g.S.Source.left c.args.source.now) (g.S.Source.left c.play.new.source) x
     × WrotePart (g.K.Sink.contents c.args.sink.now) (g.K.Sink.contents c.play.new.sink) x)) same c.play.ensures.part
 
 pub returns-in-Some-Play-clause-done : goal.returns-in-Some-Play-clause-done
 returns-in-Some-Play-clause-done g c =
-    let same : Some form.Play ≡ form_of_words c.args.words.now = search (rules, c.form_of.ensures, c.in-Some-Play.is, c.in-Some-Play.field-0-is) in
+    let same : Some (form.Play c.in-Some-Play.shown) ≡ form_of_words c.args.words.now = search (rules, c.form_of.ensures, c.in-Some-Play.is, c.in-Some-Play.field-0-is, c.in-Some-Play.shown-is) in
     subst (λ (a : Option Form). OnDone c.play.result ((x : List ℕ) × IsAnswerAlone a (g.S.Source.left c.args.source.now) (g.S.Source.left c.play.new.source) x
     × Appends (g.K.Sink.contents c.args.sink.now) (g.K.Sink.contents c.play.new.sink) x)) same c.play.ensures.done

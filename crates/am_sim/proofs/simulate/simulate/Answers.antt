@@ -3,7 +3,7 @@ use Rattle.std.specs.Io.KnownBytes.{Appends}
 use Rattle.am_io.specs.Outside.{ReadToEnd}
 use Rattle.am_words.specs.declared.form.Form.{Form}
 use Rattle.am_words.specs.declared.form.Form.TheVariants as form
-use Rattle.am_words.specs.Forms.{IsGen}
+use Rattle.am_words.specs.Forms.{Generates}
 use Rattle.am_script.specs.Scripts.{reading}
 use Rattle.am_sim.specs.Simulation.{form_of_words, Reads, key_for, IsAnswer, IfBadScript, OnDone, OnWriteFault, WrotePart}
 use Rattle.am_sim.proofs.simulate.simulate.Given.{Over}
@@ -21,7 +21,7 @@ pub returns-then-is_race-clause-unread : goal.returns-then-is_race-clause-unread
 returns-then-is_race-clause-unread g c = λ none. absurd (none (subst Reads (sym (is_asked g c)) tt))
 
 pub returns-then-is_race-clause-generates : goal.returns-then-is_race-clause-generates
-returns-then-is_race-clause-generates g c = λ gen. absurd (subst IsGen (is_asked g c) gen)
+returns-then-is_race-clause-generates g c = λ gen. absurd (subst Generates (is_asked g c) gen)
 
 pub returns-then-is_race-clause-bad_script : goal.returns-then-is_race-clause-bad_script
 returns-then-is_race-clause-bad_script g c =
