@@ -1,0 +1,7 @@
+//! Messages longer than a body: their parts, and how they are put together from a group's list (docs/MESSAGES.md).
+#![tactic(auto)]
+
+pub mod assembler;
+pub mod fed;
+pub mod parts;
+mod room;
