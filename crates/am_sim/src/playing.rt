@@ -12,8 +12,9 @@ use am_base::founding::Founding;
 use am_base::name::Name;
 use am_group::event::Event;
 use am_report::play::play_text;
-use am_services::directories::{directories_text, snapshots_text};
+use am_services::directories::directories_text;
 use am_services::messages::messages_text;
+use am_services::snapshots::snapshots_text;
 use am_settle::settle::settle;
 use am_words::form::Shown;
 use am_world::world::{World, WorldRefusal};
@@ -54,7 +55,7 @@ fn text_of_world(alloc: Global, shown: Shown, world: &World) -> Result<String, N
     let journal = world.journal();
     match shown {
         Shown::Text => play_text(alloc, journal, world.group(), names, broken),
-        Shown::Messages => messages_text(alloc, journal, names, broken),
+        Shown::Messages => messages_text(alloc, journal.records(), names, broken),
         Shown::Directories => directories_text(alloc, journal, names, broken),
         Shown::Snapshots => snapshots_text(alloc, journal, names, broken),
     }

@@ -1,0 +1,110 @@
+ghost use Rattle.std.specs.Prelude.{◌≡◌, ◌≤◌, ◌<◌, ◌++◌, ℕ, length, OnOk, IfOk, string_bytes};
+ghost use Rattle.am_group.specs.Deliveries.{given_to, deliveries};
+ghost use Rattle.am_report.specs.Logs.{logs_for};
+ghost use Rattle.am_seg.specs.Assembling.{Assembly};
+ghost use Rattle.am_seg.specs.Parts.{most_message, part_count, part_of};
+ghost use Rattle.am_services.specs.Texts.{parts_text, message_line, messages_of, messages_text};
+ghost use Rattle.am_services.specs.Telling.{assembled_with, messages_told};
+
+use am_base::NoMemory;
+use am_base::name::Name;
+use am_group::delivered::given_to;
+use am_group::event::Record;
+use am_report::entry::push_body;
+use am_report::lines::push_mark;
+use am_report::name::push_name;
+use am_seg::assembler::Assembler;
+use am_seg::fed::Fed;
+use am_seg::parts::{part_count, part_of};
+use std::alloc::Global;
+
+/// The parts of a message, a line of hexadecimal digits each.
+#[tactic(auto, unfolding(crate::specs::Texts::parts_text))]
+pub fn parts_text(alloc: Global, message: &[u8]) -> Result<String, NoMemory>
+    requires { length message.now ≤ most_message }
+    ensures { IfOk result (λ text. string_bytes text ≡ parts_text message.now) }
+{
+    let mut out = String::new(alloc);
+    for index in 0..part_count(message.len() as u32) {
+        let part = part_of(message, index);
+        push_body(&mut out, part.bytes())?;
+        out.push_str("\n")?;
+    }
+    Ok(out)
+}
+
+/// Adds the line of a message of a name that ended at a node, with an entry of this number.
+#[tactic(auto, unfolding(crate::specs::Texts::message_line))]
+fn push_message(
+    out: &mut String,
+    name: Name,
+    number: u32,
+    from: Name,
+    message: &[u8],
+) -> Result<(), NoMemory>
+    ensures { OnOk result (string_bytes out.new
+        ≡ string_bytes out.old ++ message_line name number from message.now) }
+{
+    out.push_str("message ")?;
+    push_name(out, name)?;
+    write!(out, " {number} ")?;
+    push_name(out, from)?;
+    out.push_str(" ")?;
+    push_body(out, message)?;
+    out.push_str("\n")
+}
+
+/// Feeds what a record gave to a name, where it gave something, and adds the line of the message that it ended.
+fn push_fed(
+    out: &mut String,
+    assembler: &mut Assembler,
+    name: Name,
+    item: &Record,
+) -> Result<(), NoMemory>
+    ensures text { OnOk result (string_bytes out.new
+        ≡ string_bytes out.old ++ messages_told name assembler.old (given_to name item.now)) }
+    ensures fed { OnOk result (assembler.new ≡ assembled_with assembler.old (given_to name item.now)) }
+{
+    let Some((number, entry)) = given_to(item, name) else {
+        return Ok(());
+    };
+    let Fed::Whole { from } = assembler.feed(entry) else {
+        return Ok(());
+    };
+    match assembler.message(from) {
+        Some(message) => push_message(out, name, number, from, message),
+        None => unreachable!(),
+    }
+}
+
+/// Adds the messages that ended in what a name was given.
+#[tactic(auto, unfolding(crate::specs::Texts::messages_of))]
+fn push_messages(out: &mut String, records: &[Record], name: Name) -> Result<(), NoMemory>
+    ensures { OnOk result (string_bytes out.new
+        ≡ string_bytes out.old ++ messages_of (name, deliveries records.now name)) }
+{
+    let mut assembler = Assembler::new(*out.allocator())?;
+    for item in records {
+        push_fed(out, &mut assembler, name, item)?;
+    }
+    Ok(())
+}
+
+/// The messages that ended in what each of these names was given, and the closing mark (docs/MESSAGES.md, "Printed").
+#[tactic(auto, unfolding(crate::specs::Texts::messages_text))]
+pub fn messages_text(
+    alloc: Global,
+    records: &[Record],
+    names: &[Name],
+    broken: Option<u32>,
+) -> Result<String, NoMemory>
+    ensures { IfOk result (λ text. string_bytes text
+        ≡ messages_text (logs_for records.now names.now) broken) }
+{
+    let mut out = String::new(alloc);
+    for name in names {
+        push_messages(&mut out, records, *name)?;
+    }
+    push_mark(&mut out, broken)?;
+    Ok(out)
+}
