@@ -1,5 +1,5 @@
 -- The forms of the program's words.
-use Rattle.std.specs.Prelude.{ℕ, ◌^◌, List, [], ◌∷◌, length, codes, Option, Some, None, option_map, Bool, false, drop, ◌&&◌, nat_eq, nat_lt, nat_le, if◌then◌else◌}
+use Rattle.std.specs.Prelude.{ℕ, ◌^◌, ◌≤◌, List, [], ◌∷◌, length, codes, Option, Some, None, option_map, Bool, false, drop, ◌&&◌, nat_eq, nat_lt, nat_le, if◌then◌else◌}
 use Rattle.std.specs.Cmp.Lexicographic.{pointwise}
 use Rattle.std.specs.List.{list_all}
 use Rattle.std.specs.Char.{is_ascii_digit}
@@ -100,3 +100,8 @@ abbrev pub Generates : Option Form → Type 0
 Generates (Some (form.Gen numbers)) = Unit {0}
 Generates (Some (form.Script numbers)) = Unit {0}
 Generates _ = ⊥
+
+-- a script of gen is of a run of at most 100,000 events
+abbrev pub IsShort : Form → Type 0
+IsShort (form.Script numbers) = numbers.count ≤ most_events
+IsShort _ = Unit {0}

@@ -2,7 +2,7 @@ ghost use Rattle.std.specs.Prelude.{◌≡◌, ◌≤◌, [], ◌∷◌, length,
 ghost use Rattle.std.specs.List.{list_all};
 ghost use Rattle.std.specs.Char.{is_ascii_digit};
 ghost use Rattle.am_base.specs.Most.{most_events};
-ghost use Rattle.am_words.specs.Forms.{form_of, one_form, shown_of, other_form, gen_of, is_node, number_of, numbers_of, has_options};
+ghost use Rattle.am_words.specs.Forms.{form_of, one_form, shown_of, other_form, gen_of, is_node, number_of, numbers_of, has_options, IsShort};
 
 use crate::node::{NodeWords, node_of};
 use am_base::limits::MOST_EVENTS;
@@ -88,14 +88,9 @@ fn has_options(word: &str, first: &str, second: &str, one: &str, other: &str) ->
 }
 
 /// The numbers of five words that are `gen` with its two options.
-fn numbers_of_five(
-    word: &str,
-    first: &str,
-    one: &str,
-    second: &str,
-    other: &str,
-) -> Option<Numbers>
-    ensures { result ≡ gen_of (word.now ∷ first.now ∷ one.now ∷ second.now ∷ other.now ∷ []) }
+fn numbers_of_five(word: &str, first: &str, one: &str, second: &str, other: &str) -> Option<Numbers>
+    ensures value { result ≡ gen_of (word.now ∷ first.now ∷ one.now ∷ second.now ∷ other.now ∷ []) }
+    ensures few { IfSome result (λ numbers. numbers.count ≤ most_events) }
 {
     if has_options(word, first, second, "--seed", "--count") {
         return numbers_of(one, other);
@@ -109,7 +104,8 @@ fn numbers_of_five(
 /// The form of six words: `gen` with its two options, before, between or behind which `--script` stands.
 fn form_of_six(words: &[&str]) -> Option<Form>
     requires { length words.now ≡ 6 }
-    ensures { result ≡ other_form (map (λ word. word.now) words.now) }
+    ensures value { result ≡ other_form (map (λ word. word.now) words.now) }
+    ensures few { IfSome result IsShort }
 {
     if words[1] == "--script" {
         return numbers_of_five(words[0], words[2], words[3], words[4], words[5]).map(Form::Script);
@@ -144,7 +140,8 @@ fn shown_of(word: &str) -> Option<Shown>
 
 /// The form of one word.
 fn form_of_one(word: &str) -> Option<Form>
-    ensures { result ≡ one_form word.now }
+    ensures value { result ≡ one_form word.now }
+    ensures few { IfSome result IsShort }
 {
     if word == "race" {
         return Some(Form::Race);
@@ -160,7 +157,8 @@ fn form_of_one(word: &str) -> Option<Form>
 
 /// The form of words that don't begin with `node`.
 fn other_form(words: &[&str]) -> Option<Form>
-    ensures { result ≡ other_form (map (λ word. word.now) words.now) }
+    ensures value { result ≡ other_form (map (λ word. word.now) words.now) }
+    ensures few { IfSome result IsShort }
 {
     if words.len() == 1 {
         return form_of_one(words[0]);
@@ -186,7 +184,8 @@ fn is_node(words: &[&str]) -> bool
 /// or without it, or `node` with its options. None where they have no form.
 #[tactic(auto, unfolding(crate::specs::Forms::form_of))]
 pub fn form_of(words: &[&str]) -> Option<Form>
-    ensures { result ≡ form_of (map (λ word. word.now) words.now) }
+    ensures value { result ≡ form_of (map (λ word. word.now) words.now) }
+    ensures few { IfSome result IsShort }
 {
     if is_node(words) {
         return node_of(&words[1..]).map(Form::Node);

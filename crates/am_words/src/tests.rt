@@ -75,7 +75,10 @@ fn gen_has_its_numbers(rt: HostRuntime) {
         assert_eq!(rt; form_of(&words), Some(Form::Gen(numbers)));
     }
     for words in SCRIPTS {
-        assert_eq!(rt; form_of(&words), Some(Form::Script(Numbers { seed: 3, count: 4 })));
+        assert_eq!(rt;
+            form_of(&words),
+            Some(Form::Script(Numbers { seed: 3, count: 4 }))
+        );
     }
 }
 

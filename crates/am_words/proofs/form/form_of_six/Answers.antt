@@ -2,26 +2,26 @@ use Rattle.std.proofs.Common.{sym, ◌∙◌, rules}
 use Rattle.am_words.proofs.Words.{script_second, script_fourth, script_sixth, no_script}
 use Rattle.am_words.proofs.form.form_of_six.Goals as goal
 
-pub returns-then-eq : goal.returns-then-eq
-returns-then-eq c =
+pub returns-then-eq-clause-value : goal.returns-then-eq-clause-value
+returns-then-eq-clause-value c =
     let is = script_second c.args.words.now _ c.requires (sym c.eq.ensures ∙ c.if-eq.true) in
-    let given = c.numbers_of_five.ensures in
+    let given = c.numbers_of_five.ensures.value in
     search rules
 
-pub returns-then-eq-2 : goal.returns-then-eq-2
-returns-then-eq-2 c =
+pub returns-then-eq-2-clause-value : goal.returns-then-eq-2-clause-value
+returns-then-eq-2-clause-value c =
     let is = script_fourth c.args.words.now _ c.requires (sym c.eq.ensures ∙ c.if-eq.false) (sym c.eq-2.ensures ∙ c.if-eq-2.true) in
-    let given = c.numbers_of_five-then-eq-2.ensures in
+    let given = c.numbers_of_five-then-eq-2.ensures.value in
     search rules
 
-pub returns-then-eq-3 : goal.returns-then-eq-3
-returns-then-eq-3 c =
+pub returns-then-eq-3-clause-value : goal.returns-then-eq-3-clause-value
+returns-then-eq-3-clause-value c =
     let other = sym c.eq-2.ensures ∙ c.if-eq-2.false in
     let is = script_sixth c.args.words.now _ c.requires (sym c.eq.ensures ∙ c.if-eq.false) other (sym c.eq-3.ensures ∙ c.if-eq-3.true) in
-    let given = c.numbers_of_five-then-eq-3.ensures in
+    let given = c.numbers_of_five-then-eq-3.ensures.value in
     search rules
 
-pub returns : goal.returns
-returns c =
+pub returns-clause-value : goal.returns-clause-value
+returns-clause-value c =
     let other = sym c.eq-2.ensures ∙ c.if-eq-2.false in
     no_script c.args.words.now _ c.requires (sym c.eq.ensures ∙ c.if-eq.false) other (sym c.eq-3.ensures ∙ c.if-eq-3.false)
