@@ -14,7 +14,7 @@ import tempfile
 
 from words import words
 
-USAGE = "usage: play | race | gen --seed N --count N | audit | node --name N --founders N,N\n"
+USAGE = "usage: play | race | gen --seed N --count N [--script] | audit | parts | messages | directory | snapshots | node --name N --founders N,N\n"
 GEN = ["gen", "--seed", "1", "--count", "50"]
 
 # words that have no form, and what stands in the lines below the usage
@@ -27,6 +27,9 @@ WITHOUT_FORM = [
     (["play", "scripts/smallest.json"], "./muoswyld play < scripts/smallest.json"),
     (["race", "race"], "./muoswyld race < race"),
     (["audit", "x.txt"], "./muoswyld audit < x.txt"),
+    (["directory", "x.json"], "./muoswyld directory < x.json"),
+    ([*GEN[:4], "--script", "5"], "--help says more"),
+    ([*GEN, "--script", "--script"], "--help says more"),
     (["node"], "--help says more"),
     (["node", "--name", "1"], "--help says more"),
     (["node", "--name", "1", "--founders"], "--help says more"),
@@ -45,7 +48,7 @@ WITHOUT_FORM = [
 ]
 
 # words that have a form: nothing is there to build, so the call ends with 70, in each way
-WITH_FORM = [["play"], ["race"], ["audit"], ["node", "--founders", "0,1", "--name", "1/2"], GEN, ["gen", "--count", "100000", "--seed", "18446744073709551615"], ["gen", "--count", "0009", "--seed", "0"]]
+WITH_FORM = [["play"], ["race"], ["audit"], ["messages"], ["directory"], ["snapshots"], ["parts"], [*GEN, "--script"], ["gen", "--script", *GEN[1:]], [*GEN[:3], "--script", *GEN[3:]], ["node", "--founders", "0,1", "--name", "1/2"], GEN, ["gen", "--count", "100000", "--seed", "18446744073709551615"], ["gen", "--count", "0009", "--seed", "0"]]
 
 
 def run(top: pathlib.Path, words: list[str]) -> tuple[int, str, str]:
