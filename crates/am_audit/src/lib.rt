@@ -16,7 +16,5 @@ pub mod reading;
 pub mod sends;
 pub mod takes;
 pub mod telling;
-#[cfg(test)]
-mod tests;
 pub mod text;
 pub mod verdict;

@@ -3,8 +3,6 @@
 
 pub mod caller;
 mod dealing;
-#[cfg(test)]
-mod echo_tests;
 pub mod gate;
 pub mod job;
 pub mod kernels;
@@ -14,5 +12,3 @@ pub mod plans;
 pub mod race;
 pub mod ready;
 mod steps;
-#[cfg(test)]
-mod tests;

@@ -3,5 +3,3 @@
 
 pub mod generate;
 mod generator;
-#[cfg(test)]
-mod tests;

@@ -2,5 +2,3 @@
 #![tactic(auto)]
 
 pub mod settle;
-#[cfg(test)]
-mod tests;

@@ -3,7 +3,15 @@
 #![tactic(auto)]
 
 #[cfg(test)]
+mod audits;
+#[cfg(test)]
+mod calls;
+#[cfg(test)]
 mod choosers;
+#[cfg(test)]
+mod echoes;
+#[cfg(test)]
+mod forms;
 #[cfg(test)]
 mod groups;
 #[cfg(test)]
@@ -13,9 +21,13 @@ mod packets;
 #[cfg(test)]
 mod plays;
 #[cfg(test)]
+mod pumps;
+#[cfg(test)]
 mod races;
 #[cfg(test)]
 mod schedules;
+#[cfg(test)]
+mod settlings;
 #[cfg(test)]
 mod texts;
 #[cfg(test)]

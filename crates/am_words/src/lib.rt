@@ -4,5 +4,3 @@
 pub mod form;
 pub mod node;
 pub mod options;
-#[cfg(test)]
-mod tests;

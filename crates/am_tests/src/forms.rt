@@ -1,5 +1,5 @@
-use crate::form::{Form, Numbers, Shown, form_of};
-use crate::options::gen_numbers;
+use am_words::form::{Form, Numbers, Shown, form_of};
+use am_words::options::gen_numbers;
 use std::test::*;
 
 const LARGEST: &str = "18446744073709551615";

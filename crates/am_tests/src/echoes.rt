@@ -1,10 +1,10 @@
 ghost use Rattle.std.specs.Prelude.{◌≡◌};
 
-use crate::caller::Caller;
-use crate::gate::{Gate, NoGate};
-use crate::job::{Job, let_do};
-use crate::kernels::Kernels;
-use crate::naming::Racing;
+use am_calls::caller::Caller;
+use am_calls::gate::{Gate, NoGate};
+use am_calls::job::{Job, let_do};
+use am_calls::kernels::Kernels;
+use am_calls::naming::Racing;
 use am_base::NoMemory;
 use am_base::body::Body;
 use am_base::entry::Entry;

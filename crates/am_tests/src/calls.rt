@@ -1,11 +1,11 @@
 ghost use Rattle.std.specs.Prelude.{◌≡◌, IfOk};
 
-use crate::caller::Caller;
-use crate::gate::{Gate, Meeting, NoGate};
-use crate::job::{Job, let_do};
-use crate::kernels::Kernels;
-use crate::naming::Racing;
-use crate::race::race;
+use am_calls::caller::Caller;
+use am_calls::gate::{Gate, Meeting, NoGate};
+use am_calls::job::{Job, let_do};
+use am_calls::kernels::Kernels;
+use am_calls::naming::Racing;
+use am_calls::race::race;
 use am_base::body::Body;
 use am_base::founding::Founding;
 use am_base::items::Items;

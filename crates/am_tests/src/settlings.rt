@@ -1,4 +1,4 @@
-use crate::settle::settle;
+use am_settle::settle::settle;
 use am_base::founding::Founding;
 use am_base::name::Name;
 use am_base::names::Names;

@@ -1,4 +1,4 @@
-use crate::generate::generate;
+use am_pump::generate::generate;
 use am_world::world::WorldRefusal;
 use std::test::*;
 

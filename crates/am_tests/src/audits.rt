@@ -1,6 +1,6 @@
-use crate::audit::audit;
-use crate::fault::TextRefusal;
-use crate::telling::push_audit;
+use am_audit::audit::audit;
+use am_audit::fault::TextRefusal;
+use am_audit::telling::push_audit;
 use std::alloc::Global;
 use std::test::Fail;
 
