@@ -40,6 +40,7 @@ use am_races::call::{Came, Looked, Tag};
 use am_wire::wire::{Pass, Share, Wire, WireRefusal};
 use std::alloc::Global;
 use std::sync::{Mutex, Wait};
+use std::thread;
 
 /// The nodes of a race, each in its box under a lock, over one journal; its callers make blocking calls at them.
 #[derive(Drop)]
@@ -159,7 +160,8 @@ impl<'g, N: Racing, G: Gate> Kernels<'g, N, G> {
         unreachable!()
     }
 
-    /// Looks at the node until the call has its answer.
+    /// Looks at the node until the call has its answer. Behind each turn other threads may go first, so that none spends its turns
+    /// while the others wait for a processor.
     fn go_on<R: Wait>(
         &self,
         rt: &R,
@@ -183,7 +185,10 @@ impl<'g, N: Racing, G: Gate> Kernels<'g, N, G> {
             match self.look(rt, hand, tag, node, act, came, true) {
                 Err(answer) => return answer,
                 Ok(Looked::End(outcome)) => return answer_at_end(act, request, &outcome, late),
-                Ok(Looked::Turn(outcome)) => late = late_after(request, late, &outcome),
+                Ok(Looked::Turn(outcome)) => {
+                    late = late_after(request, late, &outcome);
+                    thread::yield_now();
+                }
             }
         }
         match self.look(rt, hand, tag, node, act, came, false) {

@@ -21,6 +21,7 @@ use am_wire::wire::{Pass, Share, Wire, WireRefusal};
 use std::alloc::Global;
 use std::marker::{Brand, PhantomData};
 use std::sync::Wait;
+use std::sync::atomic::{AtomicU64, Ordering};
 use std::thread;
 use std::thread::Threads;
 
@@ -72,6 +73,21 @@ fn play<R: Wait, N: Racing, G: Gate>(
     }
 }
 
+/// How often a thread looks whether the others have begun.
+const MOST_LOOKS: u32 = 100_000;
+
+/// Waits until so many threads have begun, or has looked for them 100,000 times: the first one would else spend its turns before
+/// the last one is there.
+fn begin_together(begun: &AtomicU64, threads: u64) {
+    begun.fetch_add(1, Ordering::SeqCst);
+    for _ in 0..MOST_LOOKS {
+        if threads <= begun.load(Ordering::SeqCst) {
+            return;
+        }
+        thread::yield_now();
+    }
+}
+
 /// A caller makes the calls of its thread.
 fn run<R: Wait, N: Racing, G: Gate>(
     rt: &R,
@@ -108,6 +124,7 @@ fn all_run<R: Threads + Wait + Sync, N: Racing + Send + Sync, G: Gate + Sync>(
         ≡ numbers_of callers.items) }
     ensures ran { IfOk result (λ ran. All (λ r. HasRun N.plan r.caller r.refusal) ran.items) }
 {
+    let begun = AtomicU64::new(0);
     let ran = thread::map_vec(
         rt,
         callers,
@@ -117,7 +134,10 @@ fn all_run<R: Threads + Wait + Sync, N: Racing + Send + Sync, G: Gate + Sync>(
             requires fresh { caller ≡ fresh_caller caller.number }
             ensures number { result.caller.number ≡ caller.number }
             ensures ran { HasRun N.plan result.caller result.refusal }
-        { run(rt, kernels, threads, caller) },
+        {
+            begin_together(&begun, threads.len() as u64);
+            run(rt, kernels, threads, caller)
+        },
     )?;
     Ok(ran)
 }
