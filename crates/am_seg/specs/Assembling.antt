@@ -58,6 +58,13 @@ message_by from plain = None
 message_by from passed = None
 message_by from (part begun) = None
 
+-- the message that a Data ends
+abbrev pub whole_in : Taken → Option (List ℕ)
+whole_in (whole message) = Some message
+whole_in plain = None
+whole_in passed = None
+whole_in (part begun) = None
+
 abbrev pub fed_by : ℕ → Taken → Fed
 fed_by from plain = feds.Plain from
 fed_by from passed = feds.Passed from
@@ -95,6 +102,11 @@ fed_with a (Data from req body) = fed_by from (taken_at a from body)
 fed_with a (Join name) = feds.Other
 fed_with a (Leave name) = feds.Other
 fed_with a (View stamp members resilience) = feds.Other
+
+-- the message that the last entry ended, whoever sent it
+abbrev pub message_in : Option (ℕ × List ℕ) → Option (List ℕ)
+message_in None = None
+message_in (Some message) = Some message.1
 
 -- the message of a name that the last entry ended
 abbrev pub ended_from : ℕ → Option (ℕ × List ℕ) → Option (List ℕ)

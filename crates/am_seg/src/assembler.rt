@@ -1,5 +1,5 @@
 ghost use Rattle.std.specs.Prelude.{◌≡◌, IfOk, option_map};
-ghost use Rattle.am_seg.specs.Assembling.{no_parts, taken_at, fed_by, after_data, after_entry, fed_with, ended_from};
+ghost use Rattle.am_seg.specs.Assembling.{no_parts, taken_at, fed_by, after_data, after_entry, fed_with, ended_from, message_in};
 
 use crate::fed::Fed;
 use crate::room::Room;
@@ -82,5 +82,18 @@ impl Assembler {
             return None;
         }
         Some(self.rooms[from.place() as usize].bytes.as_slice())
+    }
+
+    /// The message that would end with the next entry; None where none would. It is an error where there is no memory for it.
+    #[tactic(auto, unfolding(crate::specs::Assembling::after_entry))]
+    pub fn whole_with(&self, alloc: Global, entry: &Entry) -> Result<Option<Vec<u8>>, NoMemory>
+        ensures { IfOk result (λ found. option_map (λ m. m.items) found ≡ message_in (after_entry self.now entry.now).ended) }
+    {
+        match entry {
+            Entry::Data { from, body, .. } => {
+                self.rooms[from.place() as usize].whole_with(alloc, *from, body.bytes())
+            }
+            Entry::Join(_) | Entry::Leave(_) | Entry::View { .. } => Ok(None),
+        }
     }
 }

@@ -30,9 +30,9 @@ pub struct Room {
 }
 
 impl Room {
-    ghost use Rattle.std.specs.Prelude.{◌==◌, ◌&&◌, IfOk, None, true};
+    ghost use Rattle.std.specs.Prelude.{◌==◌, ◌&&◌, IfOk, None, true, option_map};
     ghost use Rattle.am_seg.specs.Parts.{part_read, fits_message};
-    ghost use Rattle.am_seg.specs.Assembling.{with_part, take_part, taken_with, awaits, fed_by};
+    ghost use Rattle.am_seg.specs.Assembling.{with_part, take_part, taken_with, awaits, fed_by, whole_in};
     ghost use Rattle.am_seg.specs.Rooms.{begun_in, Keeps};
 
     /// Nothing began. It is an error where there is no memory for a whole message.
@@ -100,5 +100,28 @@ impl Room {
         }
         self.unfinished = None;
         Fed::Passed { from }
+    }
+
+    /// The message that would end with this body of a Data of a name; None where none would. It is an error where there is no
+    /// memory for it.
+    pub fn whole_with(&self, alloc: Global, from: Name, body: &[u8]) -> Result<Option<Vec<u8>>, NoMemory>
+        ensures { IfOk result (λ found. option_map (λ m. m.items) found ≡ whole_in (taken_with (begun_in self.now) from body.now)) }
+    {
+        let Some(part) = part_in(body) else {
+            return Ok(None);
+        };
+        if part.index + 1 != part.count {
+            return Ok(None);
+        }
+        if part.index == 0 {
+            return Ok(Some(Vec::from_slice(alloc, part.payload)?));
+        }
+        if !self.awaits(from, &part) {
+            return Ok(None);
+        }
+        let mut message = Vec::with_capacity(alloc, self.bytes.len() + part.payload.len())?;
+        message.extend_from_slice(self.bytes.as_slice())?;
+        message.extend_from_slice(part.payload)?;
+        Ok(Some(message))
     }
 }

@@ -1,0 +1,9 @@
+pub mod Commands
+pub mod Contents
+pub mod Fields
+pub mod Holding
+pub mod Kept
+pub mod Reading
+pub mod Replicas
+pub mod Snapshots
+pub mod Values
