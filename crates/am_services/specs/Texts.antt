@@ -11,7 +11,7 @@ use Rattle.am_seg.specs.Messages.{message_at}
 use Rattle.am_dir.specs.declared.setting.Setting.{Setting}
 use Rattle.am_dir.specs.Contents.{Contents}
 use Rattle.am_dir.specs.Snapshots.{snapshot_of}
-use Rattle.am_dir.specs.Replicas.{replica_contents}
+use Rattle.am_dir.specs.Replicas.{entries_of, replica_contents}
 
 -- ---- parts
 
@@ -30,15 +30,18 @@ abbrev pub ended_line : ℕ → ℕ → Option (ℕ × List ℕ) → List ℕ
 ended_line name number None = []
 ended_line name number (Some message) = message_line name number message.0 message.1
 
--- the lines of the messages that end with these entries, behind those that were given before
-abbrev pub messages_behind : ℕ → List Entry → List (ℕ × Entry) → List ℕ
-messages_behind name before [] = []
-messages_behind name before (pair ∷ rest) =
-    ended_line name pair.0 (message_at (before ++ pair.1 ∷ [])) ++ messages_behind name (before ++ pair.1 ∷ []) rest
+-- the lines of these entries, each by all that was given up to it, behind what was given before
+abbrev pub lines_behind : (List (ℕ × Entry) → ℕ × Entry → List ℕ) → List (ℕ × Entry) → List (ℕ × Entry) → List ℕ
+lines_behind line before [] = []
+lines_behind line before (pair ∷ rest) = line (before ++ pair ∷ []) pair ++ lines_behind line (before ++ pair ∷ []) rest
+
+-- the line of the message that ends with the last of what was given
+abbrev pub message_upto : ℕ → List (ℕ × Entry) → ℕ × Entry → List ℕ
+message_upto name upto pair = ended_line name pair.0 (message_at (entries_of upto))
 
 -- of a name and what it was given
 unfoldable pub messages_of : ℕ × List (ℕ × Entry) → List ℕ
-messages_of log = messages_behind log.0 [] log.1
+messages_of log = lines_behind (message_upto log.0) [] log.1
 
 -- the messages that ended in what each name was given, and the closing mark
 unfoldable pub messages_text : List (ℕ × List (ℕ × Entry)) → Option ℕ → List ℕ
@@ -94,15 +97,13 @@ unfoldable pub snapshot_at : ℕ → ℕ → Entry → Option Contents → List 
 snapshot_at name number (entries.Join joiner) (Some contents) = if joiner == name then [] else snapshot_lines name number contents
 snapshot_at name number entry contents = []
 
--- what these entries ask, behind those that were given before
-abbrev pub snapshots_behind : ℕ → ℕ → List (ℕ × Entry) → List (ℕ × Entry) → List ℕ
-snapshots_behind name start before [] = []
-snapshots_behind name start before (pair ∷ rest) = snapshot_at name pair.0 pair.1 (replica_contents start (before ++ pair ∷ []))
-    ++ snapshots_behind name start (before ++ pair ∷ []) rest
+-- what the last of what was given asks
+abbrev pub snapshot_upto : ℕ → ℕ → List (ℕ × Entry) → ℕ × Entry → List ℕ
+snapshot_upto name start upto pair = snapshot_at name pair.0 pair.1 (replica_contents start upto)
 
 -- of a name and what it was given
 unfoldable pub snapshots_of : Rules → ℕ × List (ℕ × Entry) → List ℕ
-snapshots_of rules log = snapshots_behind log.0 (start_of rules log) [] log.1
+snapshots_of rules log = lines_behind (snapshot_upto log.0 (start_of rules log)) [] log.1
 
 -- the snapshots that each node could send, and the closing mark
 unfoldable pub snapshots_text : Rules → List (ℕ × List (ℕ × Entry)) → Option ℕ → List ℕ
