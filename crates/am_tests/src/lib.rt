@@ -33,6 +33,8 @@ mod texts;
 #[cfg(test)]
 mod watchers;
 #[cfg(test)]
+mod wires;
+#[cfg(test)]
 mod worlds;
 #[cfg(test)]
 mod wrong_fields;

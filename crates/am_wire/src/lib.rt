@@ -3,8 +3,6 @@
 
 mod rule;
 mod sheet;
-#[cfg(test)]
-mod tests;
 pub mod wire;
 
 pub use rule::{Key, Law, Terms};

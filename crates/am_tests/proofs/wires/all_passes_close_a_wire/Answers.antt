@@ -7,7 +7,7 @@ use Rattle.am_wire.specs.Keys.{times, place_keys, caller_keys, all_keys}
 use Rattle.am_wire.specs.Passes.{Known, HasAll}
 use Rattle.am_wire.proofs.Views.{times_append}
 use Rattle.am_wire.proofs.Gathering.{gathered_all, fresh_times, fresh_wires}
-use Rattle.am_wire.proofs.tests.all_passes_close_a_wire.Goals as goal
+use Rattle.am_tests.proofs.wires.all_passes_close_a_wire.Goals as goal
 
 with_first : (P : Known → Type 0) (x : Known) (xs : List Known) → P x → All P xs → All P (x ∷ xs)
 with_first P x xs p all zero d h = p

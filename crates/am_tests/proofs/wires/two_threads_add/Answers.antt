@@ -7,7 +7,7 @@ use Rattle.am_wire.specs.declared.rule.Key.TheVariants.{Place, Caller}
 use Rattle.am_wire.specs.declared.rule.Terms.{Terms}
 use Rattle.am_wire.specs.Keys.{place_keys, caller_keys}
 use Rattle.am_wire.specs.Passes.{Known, fresh, IsReady}
-use Rattle.am_wire.proofs.tests.two_threads_add.Goals as goal
+use Rattle.am_tests.proofs.wires.two_threads_add.Goals as goal
 
 abbrev head_of : Known → List Known → Known
 head_of p [] = p
