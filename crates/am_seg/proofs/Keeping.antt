@@ -7,7 +7,7 @@ use Rattle.std.specs.Prelude.{slice_get}
 use Rattle.am_base.specs.Names.{place_of}
 use Rattle.am_seg.specs.declared.fed.Fed.TheVariants as feds
 use Rattle.am_seg.specs.declared.room.Room.{Room}
-use Rattle.am_seg.specs.Assembling.{Assembly, Taken, plain, passed, part, whole, message_by, fed_by, taken_with, taken_at, after_data}
+use Rattle.am_seg.specs.Assembling.{Assembly, Taken, plain, passed, part, whole, ended_by, fed_by, taken_with, taken_at, after_data}
 use Rattle.am_seg.specs.Rooms.{begun_in, Keeps, ended_in}
 
 room_there : (rooms : List Room) (place : ℕ) (room : Room) → place < length rooms → slice_get (set rooms place room) place ≡ Some room
@@ -17,7 +17,7 @@ room_there rooms place room there =
 
 -- where the last entry ended a message, its name's room has it
 pub ended_whole : (rooms : List Room) (from whose : ℕ) (room : Room) (taken : Taken) → place_of from < length rooms → Keeps room taken
-    → fed_by from taken ≡ feds.Whole whose → ended_in (set rooms (place_of from) room) (Some whose) ≡ message_by from taken
+    → fed_by from taken ≡ feds.Whole whose → ended_in (set rooms (place_of from) room) (Some whose) ≡ ended_by from taken
 ended_whole rooms from whose room plain there kept fed = absurd (cc)
 ended_whole rooms from whose room passed there kept fed = absurd (cc)
 ended_whole rooms from whose room (part begun) there kept fed = absurd (cc)
@@ -26,7 +26,7 @@ ended_whole rooms from whose room (whole message) there kept fed =
     let bytes : room.bytes.items ≡ message = kept.ended in
     rw (← same, room_there rooms (place_of from) room there, bytes) refl
 
-pub ended_other : (from : ℕ) (taken : Taken) → ((whose : ℕ) → fed_by from taken ≡ feds.Whole whose → ⊥) → None ≡ message_by from taken
+pub ended_other : (from : ℕ) (taken : Taken) → ((whose : ℕ) → fed_by from taken ≡ feds.Whole whose → ⊥) → None ≡ ended_by from taken
 ended_other from plain not_whole = refl
 ended_other from passed not_whole = refl
 ended_other from (part begun) not_whole = refl
@@ -34,7 +34,7 @@ ended_other from (whole message) not_whole = absurd (not_whole from refl)
 
 pub after_take : (rooms : List Room) (before after : Option ℕ) (from : ℕ) (old new : Room) (body : List ℕ) → place_of from < length rooms
     → old ≡ get_or rooms (place_of from) old → Keeps new (taken_with (begun_in old) from body)
-    → ended_in (set rooms (place_of from) new) after ≡ message_by from (taken_with (begun_in old) from body)
+    → ended_in (set rooms (place_of from) new) after ≡ ended_by from (taken_with (begun_in old) from body)
     → let a : Assembly = record { begun = map begun_in rooms; ended = ended_in rooms before } in
     let b : Assembly = record { begun = map begun_in (set rooms (place_of from) new); ended = ended_in (set rooms (place_of from) new) after } in
     b ≡ after_data a from (taken_at a from body)

@@ -1,5 +1,5 @@
 -- How messages are put together from the entries of a list, one entry after the other.
-use Rattle.std.specs.Prelude.{◌≡◌, ℕ, ◌+◌, ◌-◌, List, [], ◌++◌, replicate, slice_set, slice_index_or, fold}
+use Rattle.std.specs.Prelude.{◌≡◌, ◌↔◌, ℕ, ◌+◌, ◌-◌, List, [], ◌∷◌, ◌++◌, replicate, slice_set, slice_index_or, fold}
 use Rattle.std.specs.Prelude.{Option, Some, None, Bool, false, ◌&&◌, ◌==◌, if◌then◌else◌}
 use Rattle.am_base.specs.Names.{place_of}
 use Rattle.am_base.specs.declared.entry.Entry.{Entry}
@@ -52,11 +52,11 @@ begun_by plain = None
 begun_by passed = None
 begun_by (whole message) = None
 
-abbrev pub message_by : ℕ → Taken → Option (ℕ × List ℕ)
-message_by from (whole message) = Some (from, message)
-message_by from plain = None
-message_by from passed = None
-message_by from (part begun) = None
+abbrev pub ended_by : ℕ → Taken → Option (ℕ × List ℕ)
+ended_by from (whole message) = Some (from, message)
+ended_by from plain = None
+ended_by from passed = None
+ended_by from (part begun) = None
 
 -- the message that a Data ends
 abbrev pub whole_in : Taken → Option (List ℕ)
@@ -87,7 +87,7 @@ taken_at a from body = taken_with (slice_index_or a.begun (place_of from) None) 
 
 -- after a Data of a name
 abbrev pub after_data : Assembly → ℕ → Taken → Assembly
-after_data a from taken = record { begun = slice_set a.begun (place_of from) (begun_by taken); ended = message_by from taken }
+after_data a from taken = record { begun = slice_set a.begun (place_of from) (begun_by taken); ended = ended_by from taken }
 
 -- after one entry more
 unfoldable pub after_entry : Assembly → Entry → Assembly
@@ -120,10 +120,11 @@ assembled list = fold after_entry no_parts list
 -- ---- what is claimed of it
 
 -- it finds the messages of the definition, and no others
-abbrev pub MessagesAssemble : Type 0
-MessagesAssemble = (list : List Entry) → (assembled list).ended ≡ message_at list
+pub record FindsMessages (list : List Entry) : Type 0 where
+  -- after a list it has the message that ends with the last entry
+  pub ended : (assembled list).ended ≡ message_at list
+  -- one entry more is answered as whole exactly where a message of that name ends with it
+  pub whole : (e : Entry) (name : ℕ) → (fed_with (assembled list) e ≡ feds.Whole name) ↔ ((message : List ℕ) × (message_at (list ++ e ∷ []) ≡ Some (name, message)))
 
--- an entry is answered as whole exactly where a message ends with it
-abbrev pub whole_from : Option (ℕ × List ℕ) → Option Fed
-whole_from None = None
-whole_from (Some message) = Some (feds.Whole message.0)
+abbrev pub MessagesAssemble : Type 0
+MessagesAssemble = (list : List Entry) → FindsMessages list

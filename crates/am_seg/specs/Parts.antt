@@ -1,6 +1,6 @@
 -- A message longer than a body, cut into parts, each of which is a body: its first byte is 83, then come the index of the part and how
 -- many parts there are, two bytes each, the most significant first, and then its share of the message.
-use Rattle.std.specs.Prelude.{◌≡◌, ℕ, ◌+◌, ◌*◌, ◌/◌, ◌<◌, ◌≤◌, List, ◌∷◌, ◌++◌, length, take, drop, map, slice_index}
+use Rattle.std.specs.Prelude.{◌≡◌, ◌↔◌, ℕ, ◌+◌, ◌*◌, ◌/◌, ◌<◌, ◌≤◌, List, ◌∷◌, ◌++◌, length, take, drop, map, slice_index}
 use Rattle.std.specs.Prelude.{Option, Some, None, Bool, ◌&&◌, ◌==◌, nat_lt, nat_le, if◌then◌else◌}
 use Rattle.std.specs.List.{range_with_len}
 use Rattle.byteorder.specs.Endian.{big_bytes, big_from}
@@ -67,9 +67,15 @@ unfoldable pub part_in : List ℕ → Option Part
 part_in body = if (nat_le 5 (length body) && (slice_index body 0 == 83)) && fits_message (fields_of body) then Some (fields_of body) else None
 
 -- a body is a part of some message
-pub record IsPart (body : List ℕ) : Type 0 where
+pub record IsPart (body : List ℕ) (p : Part) : Type 0 where
   pub message : List ℕ
-  pub index : ℕ
   pub few : length message ≤ most_message
-  pub within : index < part_count (length message)
-  pub same : body ≡ part_of message index
+  pub within : p.index < part_count (length message)
+  pub same : body ≡ part_of message p.index
+  pub count : p.count ≡ part_count (length message)
+  pub payload : p.payload ≡ payload_of message p.index
+
+-- ---- what is claimed of it
+
+abbrev pub PartsAreRead : Type 0
+PartsAreRead = (body : List ℕ) (p : Part) → (part_in body ≡ Some p) ↔ IsPart body p

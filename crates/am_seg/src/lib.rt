@@ -3,5 +3,6 @@
 
 pub mod assembler;
 pub mod fed;
+pub mod laws;
 pub mod parts;
 mod room;
