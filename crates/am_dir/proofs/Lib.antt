@@ -1,5 +1,6 @@
 pub mod CommandLaws
 pub mod Entries
+pub mod Feeding
 pub mod Keeping
 pub mod Limits
 pub mod Loops

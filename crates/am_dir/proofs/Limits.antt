@@ -8,7 +8,8 @@ use Rattle.am_base.specs.Limits.{IsNumber}
 use Rattle.am_dir.specs.Values.{most_value, IsKey, IsValue}
 use Rattle.am_dir.specs.Fields.{◌>>=◌, Cut, Numbered, cut_at, field_in, number_in}
 use Rattle.am_dir.specs.Commands.{Command, Put, Delete, Claim, IsCommand, is_empty, sole, value_in, of_kind, command_of}
-use Rattle.am_dir.specs.Snapshots.{Read, limited_in, may_follow, setting_behind, setting_in}
+use Rattle.am_dir.specs.Contents.{Contents, most_keys}
+use Rattle.am_dir.specs.Snapshots.{Read, Head, limited_in, may_follow, setting_behind, setting_in, settings_in, head_behind, head_in, snapshot_in}
 
 -- what was bound gave something
 pub bound : {A B : Type 0} (o : Option A) (f : A → Option B) (b : B) → (o >>= f) ≡ Some b → (a : A) × (o ≡ Some a) × (f a ≡ Some b)
@@ -128,3 +129,29 @@ read_within last bytes read h =
       key = subst (λ (x : List ℕ). IsKey x) (sym r.0) (is_key bytes k.0 k.1);
       value = r.1;
     }
+
+-- ---- what a snapshot is read as
+
+pub head_few : (bytes : List ℕ) (head : Head) → head_in bytes ≡ Some head → head.count ≤ most_keys
+unfolding head_in head_behind
+head_few [] head h = cc
+head_few (kind ∷ bytes) head h =
+    let p = passed (kind == 4) _ head h in
+    let j = bound (limited_in bytes) _ head p.1 in
+    let c = bound (number_in 2 j.0.rest) _ head j.2 in
+    let q = passed (nat_le c.0.number most_keys) _ head c.2 in
+    let few : c.0.number ≤ 256 = grind (arith, nat_tests, q.0) in
+    let made : record { join = j.0.number; count = c.0.number; rest = c.0.rest } ≡ head = cc (q.1) in
+    subst (λ (x : Head). x.count ≤ 256) made few
+
+pub snapshot_none : (bytes : List ℕ) → head_in bytes ≡ None → None ≡ snapshot_in bytes
+unfolding snapshot_in
+snapshot_none bytes h =
+    sym (ap (λ (o : Option Head). o >>= λ head. option_map (λ (contents : Contents). (head.join, contents)) (settings_in head.count None head.rest)) h)
+
+pub snapshot_by : (bytes : List ℕ) (head : Head) (contents : Option Contents) → head_in bytes ≡ Some head → contents ≡ settings_in head.count None head.rest
+    → option_map (λ (c : Contents). (head.join, c)) contents ≡ snapshot_in bytes
+unfolding snapshot_in
+snapshot_by bytes head contents h e =
+    ap (λ (o : Option Contents). option_map (λ (c : Contents). (head.join, c)) o) e
+    ∙ sym (ap (λ (o : Option Head). o >>= λ x. option_map (λ (c : Contents). (x.join, c)) (settings_in x.count None x.rest)) h)

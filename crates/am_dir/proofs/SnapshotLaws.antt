@@ -256,14 +256,14 @@ setting_reads last key setting rest follows is_a_key is_number is =
     ∙ ap (λ (b : Bool). cond b (setting_behind (record { field = key; rest = big_bytes 4 setting.number ++ (field_bytes setting.value ++ rest) })) None) follows
     ∙ behind_reads key setting rest is_number is
 
+abbrev key_or : Option (List ℕ) → List ℕ
+key_or None = []
+key_or (Some key) = key
+
 follow_first : (last : Option (List ℕ)) (keys : List (List ℕ)) → AllByRecursion (λ k. key_cmp (key_or last) k ≡ Less) keys → AllByRecursion (λ k. may_follow last k ≡ true) keys
 follow_first last [] all = tt
 follow_first None (k ∷ keys) all = (refl, follow_first None keys all.1)
 follow_first (Some low) (k ∷ keys) all = (ap (λ o. is_lt o) all.0, follow_first (Some low) keys all.1)
-
-abbrev key_or : Option (List ℕ) → List ℕ
-key_or None = []
-key_or (Some key) = key
 
 settings_read : (last : Option (List ℕ)) (contents : Contents) → AllByRecursion (λ k. may_follow last k ≡ true) (keys_of contents) → IsStrictlySortedBy key_cmp (keys_of contents)
     → All IsKey (keys_of contents) → All (λ setting. IsValue setting.value) (values_of contents) → All (λ setting. IsNumber setting.number) (values_of contents)

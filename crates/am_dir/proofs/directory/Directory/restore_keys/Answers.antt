@@ -32,6 +32,6 @@ returns c =
     let all = restored_all c.args.count c.args.bytes.now c.loop.counter (option_copied c.loop.last) c.loop.rest.now c.loop.directory c.loop.invariant c.loop-test.false in
     let test : c.is_empty.result ≡ is_empty c.loop.rest.now = c.is_empty.ensures ∙ is_empty_by_length c.loop.rest.now in
     elim c.if-is_empty.branch [
-      | then-is_empty w ↦ w.result-is ∙ ap (λ (b : Bool). cond b (Some c.loop.directory) None) (sym w.if-is_empty ∙ test) ∙ all
-      | else-is_empty w ↦ w.result-is ∙ ap (λ (b : Bool). cond b (Some c.loop.directory) None) (sym w.if-is_empty ∙ test) ∙ all
+      | then-is_empty w ↦ w.result-is ∙ ap (λ (b : Bool). cond b (Some c.loop.directory) None) (sym w.if-is_empty.true ∙ test) ∙ all
+      | else-is_empty w ↦ w.result-is ∙ ap (λ (b : Bool). cond b (Some c.loop.directory) None) (sym w.if-is_empty.false ∙ test) ∙ all
     ]
