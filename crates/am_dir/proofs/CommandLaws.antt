@@ -107,6 +107,7 @@ command_reads (Claim key value) within =
     (ap (λ (o : Option (List ℕ)). option_map (Claim key) o) (value_reads value within.1))
 
 pub their_bytes : CommandsAreTheirBytes
-their_bytes body command =
-    (λ read. (command_is body command read, command_within body command read),
-    λ is. ap (λ (x : List ℕ). command_of x) is.0 ∙ command_reads command is.1)
+their_bytes body command = (
+  λ read. (command_is body command read, command_within body command read),
+  λ is. ap (λ (x : List ℕ). command_of x) is.0 ∙ command_reads command is.1,
+)

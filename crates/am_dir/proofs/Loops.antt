@@ -131,7 +131,7 @@ restored_more count bytes read last rest contents new first r below is e =
     let w = read_within last rest first is in
     let others = settings_in (count - (read + 1)) (Some first.key) first.rest in
     let at : settings_in (count - read) last rest ≡ option_map (λ o. (first.key, first.setting) ∷ o) others
-        = more ∙ ap (λ o. o >>= λ f. option_map (λ os. (f.key, f.setting) ∷ os) (settings_in (count - (read + 1)) (Some f.key) f.rest)) is in
+    = more ∙ ap (λ o. o >>= λ f. option_map (λ os. (f.key, f.setting) ∷ os) (settings_in (count - (read + 1)) (Some f.key) f.rest)) is in
     let above = r.below first.key w.follows in
     let end : new ≡ contents ++ (first.key, first.setting) ∷ [] = e ∙ insert-last nat_list_cmp_total first.key first.setting contents above in
     record {

@@ -71,7 +71,7 @@ wait_step start before pair =
     let all = before ++ pair ∷ [] in
     let held : held_with (held_all before) pair.0 pair.1 ≡ held_all all = sym (fold_push (λ sofar p. held_with sofar p.0 p.1) [] before pair) in
     let after : after_entry a0 pair.1 ≡ assembled (entries_of all)
-        = sym (fold_push after_entry no_parts (entries_of before) pair.1) ∙ ap (λ (es : List Entry). assembled es) (sym (entries_push before pair)) in
+    = sym (fold_push after_entry no_parts (entries_of before) pair.1) ∙ ap (λ (es : List Entry). assembled es) (sym (entries_push before pair)) in
     let ended : (after_entry a0 pair.1).ended ≡ message_at (entries_of all) = ap (λ (a : Assembly). a.ended) after ∙ (messages_assemble (entries_of all)).ended in
     ap (λ (h : List (ℕ × List ℕ)). arrived (so_far start before) (record { held = h; assembly = after_entry a0 pair.1 }) (snapshot_for start (after_entry a0 pair.1).ended)) held
     ∙ ap (λ (a : Assembly). arrived (so_far start before) (record { held = held_all all; assembly = a }) (snapshot_for start (after_entry a0 pair.1).ended)) after
@@ -83,8 +83,8 @@ wait_ends : (start : ℕ) (before rest : List (ℕ × Entry)) (pair : ℕ × Ent
 wait_ends start before rest pair contents h =
     let all = before ++ pair ∷ [] in
     let next : step (so_far start before) pair ≡ ready start (contents_from contents all) = wait_step start before pair
-        ∙ ap (λ (o : Option Contents). arrived (so_far start before) (record { held = held_all all; assembly = assembled (entries_of all) }) o) h
-        ∙ ap (λ (c : Contents). ready start c) (held_is contents [] all) in
+    ∙ ap (λ (o : Option Contents). arrived (so_far start before) (record { held = held_all all; assembly = assembled (entries_of all) }) o) h
+    ∙ ap (λ (c : Contents). ready start c) (held_is contents [] all) in
     ap (λ (s : ReplicaState). shown (fold step s rest)) next ∙ ap (λ (s : ReplicaState). shown s) (ready_all start (contents_from contents all) rest)
     ∙ ap (λ (c : Contents). Some c) (fold_append with_entry contents all rest)
 

@@ -248,8 +248,8 @@ setting_reads : (last : Option (List ℕ)) (key : List ℕ) (setting : Setting) 
 unfolding setting_in
 setting_reads last key setting rest follows is_a_key is_number is =
     let spelled : setting_bytes (key, setting) ++ rest ≡ field_bytes key ++ (big_bytes 4 setting.number ++ (field_bytes setting.value ++ rest))
-        = append_assoc (field_bytes key) (big_bytes 4 setting.number ++ field_bytes setting.value) rest
-        ∙ ap (λ (x : List ℕ). field_bytes key ++ x) (append_assoc (big_bytes 4 setting.number) (field_bytes setting.value) rest) in
+    = append_assoc (field_bytes key) (big_bytes 4 setting.number ++ field_bytes setting.value) rest
+    ∙ ap (λ (x : List ℕ). field_bytes key ++ x) (append_assoc (big_bytes 4 setting.number) (field_bytes setting.value) rest) in
     ap (λ (x : List ℕ). field_in 1 32 x >>= λ k. cond (may_follow last k.field) (setting_behind k) None) spelled
     ∙ ap (λ (o : Option Cut). o >>= λ k. cond (may_follow last k.field) (setting_behind k) None)
     (field_reads 1 32 key (big_bytes 4 setting.number ++ (field_bytes setting.value ++ rest)) is_a_key.some is_a_key.few)
@@ -272,9 +272,9 @@ unfolding settings_in IsStrictlySortedBy
 settings_read last [] follow ordered keys values numbers = refl
 settings_read last (e ∷ contents) follow ordered keys values numbers =
     let first = setting_reads last e.0 e.1 (flat_map setting_bytes contents) follow.0 (all_first IsKey e.0 (keys_of contents) keys)
-        (all_first (λ (s : Setting). IsNumber s.number) e.1 (values_of contents) numbers) (all_first (λ (s : Setting). IsValue s.value) e.1 (values_of contents) values) in
+    (all_first (λ (s : Setting). IsNumber s.number) e.1 (values_of contents) numbers) (all_first (λ (s : Setting). IsValue s.value) e.1 (values_of contents) values) in
     let others = settings_read (Some e.0) contents (follow_first (Some e.0) (keys_of contents) ordered.0) ordered.1 (all_rest IsKey e.0 (keys_of contents) keys)
-        (all_rest (λ (s : Setting). IsValue s.value) e.1 (values_of contents) values) (all_rest (λ (s : Setting). IsNumber s.number) e.1 (values_of contents) numbers) in
+    (all_rest (λ (s : Setting). IsValue s.value) e.1 (values_of contents) values) (all_rest (λ (s : Setting). IsNumber s.number) e.1 (values_of contents) numbers) in
     ap (λ (o : Option Read). o >>= λ read. option_map (λ more. (read.key, read.setting) ∷ more) (settings_in (length contents) (Some read.key) read.rest)) first
     ∙ ap (λ (o : Option Contents). option_map (λ more. e ∷ more) o) others
 
@@ -305,6 +305,7 @@ snapshot_reads contents join c is_number =
     (settings_read None contents (follow_none (keys_of contents)) d.ordered d.keys d.values c.numbers)
 
 pub their_bytes : SnapshotsAreTheirBytes
-their_bytes bytes join contents fits =
-    (λ read. snapshot_is bytes join contents fits read,
-    λ is. ap (λ (x : List ℕ). snapshot_in x) is.same ∙ snapshot_reads contents join is.within is.number)
+their_bytes bytes join contents fits = (
+  λ read. snapshot_is bytes join contents fits read,
+  λ is. ap (λ (x : List ℕ). snapshot_in x) is.same ∙ snapshot_reads contents join is.within is.number,
+)

@@ -15,6 +15,6 @@ returns-clause-was c = c.is_some.ensures ∙ ap (λ o. is_some o) (found_entry c
 pub invariant_of-self : goal.invariant_of-self
 invariant_of-self c =
     let new : contents_in c.remove.new.self.entries ≡ without_key c.args.self.now c.args.key.now =
-        removed_entry c.self.inside.map.entries c.remove.new.self.entries c.args.self.now c.args.key.now c.remove.ensures.entries c.self.view_is in
+    removed_entry c.self.inside.map.entries c.remove.new.self.entries c.args.self.now c.args.key.now c.remove.ensures.entries c.self.view_is in
     let old : IsDirectory c.args.self.now = subst (λ (contents : Contents). IsDirectory contents) c.self.view_is c.self.invariant in
     subst (λ (contents : Contents). IsDirectory contents) (sym new) (removed_is c.args.self.now c.args.key.now old)

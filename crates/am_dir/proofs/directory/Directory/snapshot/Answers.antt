@@ -10,7 +10,7 @@ use Rattle.am_dir.proofs.directory.Directory.snapshot.Goals as goal
 pub loop-key-init : goal.loop-key-init
 loop-key-init c =
     let head : c.push_head.new.bytes.items ≡ head_bytes c.args.join (length c.args.self.now) = c.in_ok-push_head.ensures
-        ∙ ap (λ (b : List ℕ). b ++ head_bytes c.args.join c.len.result) c.new-bytes.ensures.items ∙ ap (λ (n : ℕ). head_bytes c.args.join n) c.len.ensures.len in
+    ∙ ap (λ (b : List ℕ). b ++ head_bytes c.args.join c.len.result) c.new-bytes.ensures.items ∙ ap (λ (n : ℕ). head_bytes c.args.join n) c.len.ensures.len in
     let all : contents_in c.into_iter-key-iterator.result ≡ c.args.self.now = ap (λ (es : List (Vec ℕ Global × Setting)). contents_in es) c.into_iter-key-iterator.ensures.into_iter_gives ∙ c.iter-key-items.ensures.rest in
     subst (λ (rest : Contents). Written c.push_head.new.bytes.items rest (snapshot_of c.args.self.now c.args.join)) (sym all)
     (written_first c.args.self.now c.args.join c.push_head.new.bytes.items c.iter-key-items.ensures.within head)
