@@ -7,10 +7,12 @@ use Rattle.std.specs.Ordering.{is_lt}
 use Rattle.byteorder.specs.Endian.{big_bytes}
 use Rattle.am_base.specs.Most.{most_number}
 use Rattle.am_base.specs.Limits.{IsNumber}
+use Rattle.am_codec.specs.Laws.{IsBytes}
 use Rattle.am_dir.specs.declared.setting.Setting.{Setting}
 use Rattle.am_dir.specs.Fields.{◌>>=◌, Cut, Numbered, field_bytes, field_in, number_in}
 use Rattle.am_dir.specs.Commands.{is_empty}
 use Rattle.am_dir.specs.Values.{most_key, most_value}
+use Rattle.std.specs.Map.{values_of}
 use Rattle.am_dir.specs.Kept.{IsDirectory}
 use Rattle.am_dir.specs.Contents.{most_keys, Contents, key_cmp, applied}
 
@@ -33,7 +35,7 @@ snapshot_of contents join = head_bytes join (length contents) ++ flat_map settin
 -- contents that a snapshot can have
 pub record IsContents (contents : Contents) : Type 0 where
   pub directory : IsDirectory contents
-  pub numbers : All (λ entry. IsNumber entry.1.number) contents
+  pub numbers : All (λ setting. IsNumber setting.number) (values_of contents)
 
 -- these bytes are these contents for this Join
 pub record IsSnapshot (bytes : List ℕ) (join : ℕ) (contents : Contents) : Type 0 where
@@ -100,7 +102,7 @@ snapshot_in bytes = head_in bytes >>= λ head. option_map (λ contents. (head.jo
 
 -- bytes are read as a snapshot exactly where they are it
 abbrev pub SnapshotsAreTheirBytes : Type 0
-SnapshotsAreTheirBytes = (bytes : List ℕ) (join : ℕ) (contents : Contents) → ((k : ℕ) → slice_index bytes k < 256)
+SnapshotsAreTheirBytes = (bytes : List ℕ) (join : ℕ) (contents : Contents) → IsBytes bytes
     → (snapshot_in bytes ≡ Some (join, contents)) ↔ IsSnapshot bytes join contents
 
 -- contents stay such as a snapshot can have, whatever is applied

@@ -4,7 +4,7 @@ ghost use Rattle.std.specs.Map.Iter.{ShowsInOrder, deref_pair};
 ghost use Rattle.am_dir.specs.declared.setting.Setting.{Setting};
 ghost use Rattle.am_dir.specs.Contents.{most_keys, applied, answer_of, after_command, answer_to, setting_of, has_key, has_room, with_setting, without_key};
 ghost use Rattle.am_dir.specs.Commands.{Put, Claim, command_from, IsCommand};
-ghost use Rattle.am_dir.specs.Kept.{contents_in};
+ghost use Rattle.am_dir.specs.Kept.{contents_in, IsDirectory};
 ghost use Rattle.am_dir.specs.Values.{IsKey, IsValue};
 
 use crate::applied::Applied;
@@ -81,7 +81,7 @@ impl Directory {
     /// Its keys in order, each with what it has.
     pub fn iter(&self) -> Iter<'_, Vec<u8>, Setting>
         ensures rest { contents_in result ≡ self.now }
-        ensures few { length result ≤ most_keys }
+        ensures within { IsDirectory self.now }
         ensures runs { ShowsInOrder (deref_pair {K = Vec ℕ Global} {X = Setting}) }
     {
         self.map.iter()
@@ -90,6 +90,7 @@ impl Directory {
     /// A key gets what stands in a command or a snapshot. It is an error where there is no memory for the key; then nothing has changed.
     pub(crate) fn set(&mut self, key: &[u8], setting: Setting) -> Result<(), NoMemory>
         requires key { IsKey key.now }
+        requires value { IsValue setting.value }
         requires room { IsTrue (has_key self.old key.now) ⊎ IsTrue (has_room self.old) }
         ensures set { OnOk result (self.new ≡ with_setting self.old key.now setting) }
         ensures err { OnErr result (self.new ≡ self.old) }

@@ -39,7 +39,7 @@ pub struct SettingRef<'a> {
 }
 
 /// What a key has, behind it; None where there is nothing such.
-#[tactic(auto, unfolding(crate::specs::Snapshots::setting_behind))]
+#[tactic(auto, using(crate::proofs::Limits::is_value), unfolding(crate::specs::Snapshots::setting_behind))]
 fn setting_behind(key: Cut<'_>) -> Option<SettingRef<'_>>
     ensures { option_map setting_read result ≡ setting_behind (cut_read key.entry) }
 {
@@ -49,7 +49,7 @@ fn setting_behind(key: Cut<'_>) -> Option<SettingRef<'_>>
         key: key.field,
         setting: Setting {
             number: number.number,
-            value: ValueBytes::of(value.field)?,
+            value: ValueBytes::of(value.field).unwrap(),
         },
         rest: value.rest,
     })

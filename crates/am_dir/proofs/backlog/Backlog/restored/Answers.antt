@@ -1,0 +1,18 @@
+use Rattle.std.proofs.Common.{rules, ◌≡◌, ℕ, ◌+◌, ◌≤◌, length, Bool, true, false, cond, List, [], ◌∷◌, ◌++◌, Option, Some, None, IfOk, OnOk, sym, ap, ◌∙◌, subst, refl, arith}
+use Rattle.am_seg.specs.Assembling.{after_entry}
+use Rattle.am_dir.specs.declared.backlog.HeldCommand.{HeldCommand}
+use Rattle.am_dir.specs.Contents.{Contents, with_entry}
+use Rattle.am_dir.specs.Replicas.{apply_held, held_with, with_held, snapshot_for}
+use Rattle.am_dir.specs.Holding.{held_in}
+use Rattle.am_dir.proofs.Loops.{held_entry}
+use Rattle.am_dir.proofs.backlog.Backlog.restored.Goals as goal
+
+pub returns : goal.returns
+returns c =
+    let held : List (ℕ × List ℕ) = held_in c.args.self.now.held.items in
+    let found : Some c.in-Some.directory ≡ snapshot_for c.args.start (after_entry c.args.self.now.assembler c.args.entry.now).ended = sym c.in-Some.is ∙ c.in_ok-directory.ensures in
+    let before : c.apply_held.new.directory ≡ apply_held c.in-Some.directory held = c.in_ok-apply_held.ensures
+    ∙ ap (λ (h : List HeldCommand). apply_held c.in-Some.directory (held_in h)) c.as_slice.ensures.value in
+    ap (λ (d : Contents). Some d) (c.in_ok-apply_entry.ensures.applied ∙ ap (λ (d : Contents). with_entry d (c.args.number, c.args.entry.now)) before
+    ∙ held_entry c.in-Some.directory held c.args.number c.args.entry.now)
+    ∙ ap (λ (o : Option Contents). with_held (held_with held c.args.number c.args.entry.now) o) found

@@ -1,0 +1,7 @@
+use Rattle.std.proofs.Common.{rules, ◌≡◌, ℕ, ◌+◌, ◌-◌, ◌*◌, ◌<◌, ◌≤◌, length, Bool, true, false, cond, List, [], ◌∷◌, ◌++◌, Vec, Global, Bor, MutBor, Option, Some, None, sym, ap, ◌∙◌, subst, refl, arith, inl, inr, take}
+use Rattle.am_dir.specs.Commands.{command_from}
+use Rattle.am_dir.proofs.Limits.{command_within}
+use Rattle.am_dir.proofs.directory.Directory.apply.Goals as goal
+
+pub apply_command-requires : goal.apply_command-requires
+apply_command-requires c = command_within c.args.body.now (command_from c.in-Some.command) (sym c.in-Some.ensures)

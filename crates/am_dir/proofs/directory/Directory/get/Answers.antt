@@ -1,0 +1,7 @@
+use Rattle.std.proofs.Common.{rules, ◌≡◌, ℕ, ◌+◌, ◌-◌, ◌*◌, ◌<◌, ◌≤◌, length, Bool, true, false, cond, List, [], ◌∷◌, ◌++◌, Vec, Global, Bor, MutBor, Option, Some, None, sym, ap, ◌∙◌, subst, refl, arith, inl, inr, take}
+use Rattle.am_dir.proofs.Entries.{found_entry}
+use Rattle.std.specs.Option.{option_copied}
+use Rattle.am_dir.proofs.directory.Directory.get.Goals as goal
+
+pub returns : goal.returns
+returns c = found_entry c.self.inside.map.entries c.args.self.now c.args.key.now (option_copied c.get.result) c.get.ensures.value c.self.view_is

@@ -1,0 +1,8 @@
+use Rattle.std.proofs.Common.{rules, ◌≡◌, ℕ, ◌+◌, ◌-◌, ◌*◌, ◌<◌, ◌≤◌, length, Bool, true, false, cond, List, [], ◌∷◌, ◌++◌, Vec, Global, Bor, MutBor, Option, Some, None, sym, ap, ◌∙◌, subst, refl, arith, inl, inr, take}
+use Rattle.am_dir.specs.declared.setting.Setting.{Setting}
+use Rattle.am_dir.specs.Kept.{contents_in, IsDirectory}
+use Rattle.am_dir.proofs.Keeping.{empty_is}
+use Rattle.am_dir.proofs.directory.Directory.new.Goals as goal
+
+pub invariant_of-result : goal.invariant_of-result
+invariant_of-result c = subst (λ (es : List (Vec ℕ Global × Setting)). IsDirectory (contents_in es)) (sym c.new.ensures.empty) empty_is

@@ -1,0 +1,101 @@
+-- What replicas have in runs.
+use Rattle.std.proofs.Common.{◌≡◌, ◌≢◌, ℕ, zero, suc, ◌+◌, ◌≤◌, List, [], ◌∷◌, ◌++◌, length, take, Option, Some, None, Bool, true, false, cond, ◌==◌, slice_get, refl, sym, ap, ◌∙◌, subst, arith, ⊎_elim, inl, inr}
+use Rattle.std.specs.Option.{option_map}
+use Rattle.std.proofs.lemmas.Bool.{cases_eq}
+use Rattle.std.proofs.lemmas.Bool.Decides.{nat_tests}
+use Rattle.am_base.specs.declared.entry.Entry.{Entry}
+use Rattle.am_base.specs.declared.entry.Entry.TheVariants as entries
+use Rattle.am_base.specs.Names.{has}
+use Rattle.am_base.specs.Founding.{Rules, MayFound}
+use Rattle.am_group.specs.declared.event.Event.{Event}
+use Rattle.am_group.specs.Deliveries.{deliveries}
+use Rattle.am_group.specs.Journals.{item_at}
+use Rattle.am_model.specs.Node.{founders_view}
+use Rattle.am_play.specs.World.{World, start, run}
+use Rattle.am_play.specs.Lawful.{lawful_front}
+use Rattle.am_play.specs.Claims.{BeginsAt, IsSegment, Segment}
+use Rattle.am_play.proofs.Beginnings.{runs_begin}
+use Rattle.am_headline.proofs.Holds.{headline_holds}
+use Rattle.am_dir.specs.Contents.{Contents, with_entry, contents_from, contents_after}
+use Rattle.am_dir.specs.Replicas.{first_snapshot, replica_contents}
+use Rattle.am_replicated.specs.Claims.{last_number, front_of, contents_up_to, NoSnapshot, FoundersHold, JoinerHolds, JoinersHold}
+use Rattle.am_replicated.proofs.Pieces.{goes_on, last_is, splits}
+use Rattle.am_replicated.proofs.Waiting.{joiner_is, waits_till, waits_so}
+
+-- ---- founders
+
+-- a piece from 1 on comes to the contents up to its end
+pub piece_from_one : (given : List (ℕ × Entry)) (group : List Entry) → IsSegment given 1 group → replica_contents 1 given ≡ Some (contents_up_to group given)
+unfolding replica_contents
+piece_from_one given group piece =
+    ap (λ (c : Contents). Some c) (goes_on given 0 group piece ∙ ap (λ (n : ℕ). contents_after group n) (sym (last_is given 0 group piece)))
+
+founder_holds : (rules : Rules) (w : World) (name : ℕ) (given : List (ℕ × Entry)) → Segment rules w → has rules.founders name ≡ true → given ≡ deliveries w.records name
+    → IsSegment given 1 w.group
+founder_holds rules w name [] s founder is = λ k number e at. absurd (cc)
+founder_holds rules w name (pair ∷ given) s founder is =
+    let piece = s.each name (λ none. let no : pair ∷ given ≡ [] = is ∙ none in absurd (cc)) in
+    let from : IsSegment (deliveries w.records name) 1 w.group = subst (λ (n : ℕ). IsSegment (deliveries w.records name) n w.group) (piece.1.founder founder) piece.2 in
+    subst (λ (xs : List (ℕ × Entry)). IsSegment xs 1 w.group) (sym is) from
+
+pub founders_hold : FoundersHold
+founders_hold rules events name may founder =
+    let w = run rules (lawful_front rules events) in
+    let given = deliveries w.records name in
+    piece_from_one given w.group (founder_holds rules w name given (headline_holds rules events may).front.segment founder refl)
+
+-- ---- who joined
+
+-- the list begins with the founders' View, so nobody's Join is its first entry
+first_entry : (rules : Rules) (events : List Event) → item_at (run rules events).group 1 ≡ Some (founders_view rules)
+first_entry rules events = let b = (runs_begin rules events 0).group in ap (λ (es : List Entry). slice_get es 0) b.1
+
+not_first : (rules : Rules) (events : List Event) (name s : ℕ) → item_at (run rules events).group s ≡ Some (entries.Join name) → s ≡ 1 → ⊥
+not_first rules events name s joined one =
+    let there : item_at (run rules events).group 1 ≡ Some (entries.Join name) = subst (λ (n : ℕ). item_at (run rules events).group n ≡ Some (entries.Join name)) one joined in
+    let no : Some (founders_view rules) ≡ Some (entries.Join name) = sym (first_entry rules events) ∙ there in
+    cc
+
+other_start : (s : ℕ) → (s ≡ 1 → ⊥) → (s == 1) ≡ false
+other_start s no = grind (arith, nat_tests)
+
+-- what was given from a Join on, with the contents at that Join
+from_join : (given : List (ℕ × Entry)) (group : List Entry) (name n : ℕ) → given ≢ [] → IsSegment given (suc n) group → item_at group (suc n) ≡ Some (entries.Join name)
+    → contents_from (contents_after group (suc n)) given ≡ contents_up_to group given
+from_join [] group name n some piece joined = absurd (some refl)
+from_join (pair ∷ given) group name n some piece joined =
+    let s = splits given pair n group piece in
+    let is : pair.1 ≡ entries.Join name = let both : Some pair.1 ≡ Some (entries.Join name) = sym s.item ∙ joined in cc (both) in
+    let same : with_entry (contents_after group (suc n)) pair ≡ contents_after group (suc n) = ap (λ (e : Entry). with_entry (contents_after group (suc n)) (pair.0, e)) is in
+    let end : last_number pair.0 given ≡ suc n + length given = ap (λ (k : ℕ). last_number k given) s.number ∙ last_is given (suc n) group s.rest in
+    ap (λ (c : Contents). contents_from c given) same ∙ goes_on given (suc n) group s.rest ∙ ap (λ (k : ℕ). contents_after group k) (sym end)
+
+no_zero : (group : List Entry) (name s : ℕ) → item_at group s ≡ Some (entries.Join name) → (n : ℕ) × (s ≡ suc n)
+no_zero group name zero h = absurd (cc)
+no_zero group name (suc n) h = (n, refl)
+
+right_at : (given : List (ℕ × Entry)) (group : List Entry) (name s : ℕ) → given ≢ [] → IsSegment given s group → item_at group s ≡ Some (entries.Join name)
+    → contents_from (contents_after group s) given ≡ contents_up_to group given
+right_at given group name zero some piece joined = absurd (cc)
+right_at given group name (suc n) some piece joined = from_join given group name n some piece joined
+
+joiner_holds : (given : List (ℕ × Entry)) (group : List Entry) (name s : ℕ) → given ≢ [] → (s == 1) ≡ false → IsSegment given s group → item_at group s ≡ Some (entries.Join name)
+    → JoinerHolds group given s
+joiner_holds given group name s some other piece joined = record {
+  waits = (waits_till s given other, waits_so s given other);
+  right = λ first. joiner_is s given other ∙ ap (λ (o : Option Contents). option_map (λ c. contents_from c given) o) first
+      ∙ ap (λ (c : Contents). Some c) (right_at given group name s some piece joined);
+}
+
+-- a name was welcomed once
+same_start : (a b : ℕ) (xs : List ℕ) → xs ≡ a ∷ [] → xs ≡ b ∷ [] → a ≡ b
+same_start a b xs p q = let e : a ∷ [] ≡ b ∷ [] = sym p ∙ q in cc (e)
+
+pub joiners_hold : JoinersHold
+joiners_hold rules events may name s other some begins =
+    let w = run rules (lawful_front rules events) in
+    let piece = (headline_holds rules events may).front.segment.each name some in
+    let joins = begins.joiner other in
+    let same : piece.0 ≡ s = same_start piece.0 s _ (piece.1.joiner other).0 joins.0 in
+    let from : IsSegment (deliveries w.records name) s w.group = subst (λ (n : ℕ). IsSegment (deliveries w.records name) n w.group) same piece.2 in
+    joiner_holds (deliveries w.records name) w.group name s some (other_start s (not_first rules (lawful_front rules events) name s joins.1)) from joins.1

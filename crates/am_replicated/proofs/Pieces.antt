@@ -1,0 +1,70 @@
+-- The contents after a piece of a list, which goes on where other contents end.
+use Rattle.std.proofs.Common.{◌≡◌, ℕ, zero, suc, ◌+◌, ◌-◌, ◌≤◌, List, [], ◌∷◌, ◌++◌, length, take, Option, Some, None, slice_get, refl, sym, ap, ◌∙◌, subst, arith, add-zero}
+use Rattle.std.specs.List.{fold, enumerate_from}
+use Rattle.am_base.specs.declared.entry.Entry.{Entry}
+use Rattle.am_group.specs.Journals.{item_at}
+use Rattle.am_play.specs.Claims.{IsSegment}
+use Rattle.am_dir.specs.Contents.{Contents, with_entry, contents_from, contents_after}
+use Rattle.am_dir.proofs.ReplicaLaws.{fold_push}
+use Rattle.am_replicated.specs.Claims.{last_number}
+
+-- a list up to an item that it has
+pub record IsUpTo (list : List Entry) (n : ℕ) (e : Entry) : Type 0 where
+  pub more : take (suc n) list ≡ take n list ++ e ∷ []
+  pub long : length (take n list) ≡ n
+
+pub up_to : (list : List Entry) (n : ℕ) (e : Entry) → slice_get list n ≡ Some e → IsUpTo list n e
+up_to [] n e h = cc
+up_to (x ∷ xs) zero e h = record { more = ap (λ (y : Entry). y ∷ []) (let same : x ≡ e = cc (h) in same); long = refl }
+up_to (x ∷ xs) (suc n) e h = let u = up_to xs n e h in record { more = ap (λ (ys : List Entry). x ∷ ys) u.more; long = ap suc u.long }
+
+enumerate_push : (from : ℕ) (xs : List Entry) (x : Entry) → enumerate_from from (xs ++ x ∷ []) ≡ enumerate_from from xs ++ (from + length xs, x) ∷ []
+enumerate_push from [] x = ap (λ (n : ℕ). (n, x) ∷ []) (sym (add-zero from))
+enumerate_push from (y ∷ xs) x =
+    ap (λ (ps : List (ℕ × Entry)). (from, y) ∷ ps) (enumerate_push (from + 1) xs x
+    ∙ ap (λ (n : ℕ). enumerate_from (from + 1) xs ++ (n, x) ∷ []) (let e : from + 1 + length xs ≡ from + suc (length xs) = omega arith in e))
+
+pub contents_more : (list : List Entry) (n : ℕ) (e : Entry) → slice_get list n ≡ Some e → contents_after list (suc n) ≡ with_entry (contents_after list n) (suc n, e)
+contents_more list n e h =
+    let u = up_to list n e h in
+    let number : 1 + length (take n list) ≡ suc n = omega (arith, u.long) in
+    ap (λ (xs : List Entry). contents_from [] (enumerate_from 1 xs)) u.more
+    ∙ ap (λ (ps : List (ℕ × Entry)). contents_from [] ps) (enumerate_push 1 (take n list) e)
+    ∙ fold_push with_entry [] (enumerate_from 1 (take n list)) (1 + length (take n list), e)
+    ∙ ap (λ (k : ℕ). with_entry (contents_after list n) (k, e)) number
+
+-- the first of a piece, and the others
+pub record Splits (given : List (ℕ × Entry)) (pair : ℕ × Entry) (n : ℕ) (list : List Entry) : Type 0 where
+  pub number : pair.0 ≡ suc n
+  pub item : slice_get list n ≡ Some pair.1
+  pub rest : IsSegment given (suc (suc n)) list
+
+pub splits : (given : List (ℕ × Entry)) (pair : ℕ × Entry) (n : ℕ) (list : List Entry) → IsSegment (pair ∷ given) (suc n) list → Splits given pair n list
+splits given pair n list piece =
+    let first = piece 0 pair.0 pair.1 refl in
+    record {
+      number = omega (arith, first.0);
+      item = subst (λ (k : ℕ). item_at list k ≡ Some pair.1) (add-zero (suc n)) first.1;
+      rest = λ k number e at.
+          let later = piece (suc k) number e at in
+          let same : suc n + suc k ≡ suc (suc n) + k = omega arith in
+          (later.0 ∙ same, subst (λ (j : ℕ). item_at list j ≡ Some e) same later.1);
+    }
+
+-- contents up to a number, and the piece from there on
+pub goes_on : (given : List (ℕ × Entry)) (n : ℕ) (list : List Entry) → IsSegment given (suc n) list
+    → contents_from (contents_after list n) given ≡ contents_after list (n + length given)
+goes_on [] n list piece = ap (λ (k : ℕ). contents_after list k) (sym (add-zero n))
+goes_on (pair ∷ given) n list piece =
+    let s = splits given pair n list piece in
+    let next : with_entry (contents_after list n) pair ≡ contents_after list (suc n)
+        = ap (λ (k : ℕ). with_entry (contents_after list n) (k, pair.1)) s.number ∙ sym (contents_more list n pair.1 s.item) in
+    ap (λ (c : Contents). contents_from c given) next ∙ goes_on given (suc n) list s.rest
+    ∙ ap (λ (k : ℕ). contents_after list k) (let e : suc n + length given ≡ n + suc (length given) = omega arith in e)
+
+pub last_is : (given : List (ℕ × Entry)) (n : ℕ) (list : List Entry) → IsSegment given (suc n) list → last_number n given ≡ n + length given
+last_is [] n list piece = sym (add-zero n)
+last_is (pair ∷ given) n list piece =
+    let s = splits given pair n list piece in
+    ap (λ (k : ℕ). last_number k given) s.number ∙ last_is given (suc n) list s.rest
+    ∙ (let e : suc n + length given ≡ n + suc (length given) = omega arith in e)

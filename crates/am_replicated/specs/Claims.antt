@@ -1,0 +1,54 @@
+-- What is claimed of replicas in runs.
+use Rattle.std.specs.Prelude.{◌≡◌, ◌≢◌, ◌↔◌, ℕ, ◌≤◌, List, [], ◌∷◌, length, take, Option, Some, None, true, false}
+use Rattle.am_base.specs.declared.entry.Entry.{Entry}
+use Rattle.am_base.specs.Names.{has}
+use Rattle.am_base.specs.Founding.{Rules, MayFound}
+use Rattle.am_group.specs.declared.event.Event.{Event}
+use Rattle.am_group.specs.Deliveries.{deliveries}
+use Rattle.am_play.specs.World.{World, run}
+use Rattle.am_play.specs.Lawful.{lawful_front}
+use Rattle.am_play.specs.Claims.{BeginsAt}
+use Rattle.am_seg.specs.Messages.{message_at}
+use Rattle.am_dir.specs.Contents.{Contents, contents_after}
+use Rattle.am_dir.specs.Snapshots.{snapshot_in}
+use Rattle.am_dir.specs.Replicas.{entries_of, first_snapshot, replica_contents}
+
+-- the number of the last of some entries; this number, where there are none
+abbrev pub last_number : ℕ → List (ℕ × Entry) → ℕ
+last_number number [] = number
+last_number number (pair ∷ pairs) = last_number pair.0 pairs
+
+-- the number of the last entry that a name was given, 0 where it was given none
+abbrev pub front_of : List (ℕ × Entry) → ℕ
+front_of given = last_number 0 given
+
+-- the contents of the group's list up to there
+abbrev pub contents_up_to : List Entry → List (ℕ × Entry) → Contents
+contents_up_to group given = contents_after group (front_of given)
+
+-- no message that ends in what was given is a snapshot for this Join
+abbrev pub NoSnapshot : ℕ → List (ℕ × Entry) → Type 0
+NoSnapshot start given = (k name : ℕ) (message : List ℕ) (contents : Contents) → k ≤ length given → message_at (take k (entries_of given)) ≡ Some (name, message)
+    → snapshot_in message ≢ Some (start, contents)
+
+-- ---- who founded the group
+
+abbrev pub FoundersHold : Type 0
+FoundersHold = (rules : Rules) (events : List Event) (name : ℕ) → MayFound rules → has rules.founders name ≡ true
+    → replica_contents 1 (deliveries (run rules (lawful_front rules events)).records name)
+    ≡ Some (contents_up_to (run rules (lawful_front rules events)).group (deliveries (run rules (lawful_front rules events)).records name))
+
+-- ---- who joined
+
+pub record JoinerHolds (group : List Entry) (given : List (ℕ × Entry)) (start : ℕ) : Type 0 where
+  -- the replica waits as long as no snapshot for its Join ended
+  pub waits : (replica_contents start given ≡ None) ↔ NoSnapshot start given
+  -- where the first that ended is right, so is the replica
+  pub right : first_snapshot start given ≡ Some (contents_after group start) → replica_contents start given ≡ Some (contents_up_to group given)
+
+abbrev pub JoinersHoldIn : Rules → World → Type 0
+JoinersHoldIn rules w = (name start : ℕ) → has rules.founders name ≡ false → deliveries w.records name ≢ [] → BeginsAt rules w name start
+    → JoinerHolds w.group (deliveries w.records name) start
+
+abbrev pub JoinersHold : Type 0
+JoinersHold = (rules : Rules) (events : List Event) → MayFound rules → JoinersHoldIn rules (run rules (lawful_front rules events))

@@ -1,0 +1,16 @@
+//! What replicas have in every run, up to its lawful front (docs/DIRECTORY.md).
+#![tactic(auto)]
+
+ghost use Rattle.am_replicated.specs.Claims.{FoundersHold, JoinersHold};
+
+/// A founder's replica has the contents of the group's list, up to the last entry that the founder was given.
+pub fn founders_hold()
+    ensures { FoundersHold }
+{}
+
+/// The replica of a name that joined waits just as long as no snapshot for its Join has ended in what the name was given; and where the
+/// first of these has the contents of the group's list at that Join, the replica has the contents of the list up to the last entry that
+/// the name was given.
+pub fn joiners_hold()
+    ensures { JoinersHold }
+{}
