@@ -50,7 +50,7 @@ logs_more text records names i name within is = ap (λ ns. flat_map text (logs_f
 
 pub logs_end : (text : ℕ × List (ℕ × Entry) → List ℕ) (records : List Record) (names : List ℕ) (i : ℕ) → length names ≤ i
     → flat_map text (logs_for records (drop i names)) ≡ []
-logs_end text records names i over = ap (λ ns. flat_map text (logs_for records ns)) (drop_all names i over)
+logs_end text records names i over = ap (λ ns. flat_map text (logs_for records ns)) (drop_all i names over)
 
 -- a text that has what was told so far, and what comes next
 pub goes_on : (out next start this rest whole : List ℕ) → next ≡ out ++ this → out ++ (this ++ rest) ≡ start ++ whole → next ++ rest ≡ start ++ whole
