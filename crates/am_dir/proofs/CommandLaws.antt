@@ -1,5 +1,6 @@
 -- A body is a command exactly where it is that command's bytes.
-use Rattle.std.proofs.Common.{◌≡◌, ℕ, suc, ◌+◌, ◌≤◌, List, [], ◌∷◌, ◌++◌, Bool, true, false, cond, ◌&&◌, ◌==◌, nat_le, length, take, drop, Option, Some, None, refl, sym, ap, ◌∙◌, subst, arith, length-append, append-nil}
+use Rattle.std.proofs.Common.{◌≡◌, ℕ, suc, ◌+◌, ◌≤◌, List, [], ◌∷◌, ◌++◌, Bool, true, false, cond, ◌&&◌, ◌==◌, nat_le, length, take, drop, Option}
+use Rattle.std.proofs.Common.{Some, None, refl, sym, ap, ◌∙◌, subst, arith, length-append, append-nil}
 use Rattle.std.specs.Option.{option_map}
 use Rattle.std.proofs.lemmas.Bool.Decides.{nat_tests}
 use Rattle.std.proofs.lemmas.List.{take_at, drop_at}
@@ -44,14 +45,16 @@ kind_is kind bytes key command e h = by (kind == 1) (kind == 2) (kind == 3) refl
     with_rest rest r = e ∙ ap (λ (x : List ℕ). field_bytes key.field ++ x) r
 
     by : (one two three : Bool) → (kind == 1) ≡ one → (kind == 2) ≡ two → (kind == 3) ≡ three → cond one (option_map (Put key.field) (value_in key.rest))
-        (cond two (option_map Delete (sole key)) (cond three (option_map (Claim key.field) (value_in key.rest)) None)) ≡ Some command → kind ∷ bytes ≡ command_bytes command
+        (cond two (option_map Delete (sole key)) (cond three (option_map (Claim key.field) (value_in key.rest)) None)) ≡ Some command
+        → kind ∷ bytes ≡ command_bytes command
     by true two three is1 is2 is3 h =
         let m = mapped (value_in key.rest) (Put key.field) command h in
         spelled 1 is1 (Put key.field m.0) m.2 (ap (λ (x : List ℕ). 1 ∷ x) (with_rest (field_bytes m.0) (value_is key.rest m.0 m.1)))
     by false true three is1 is2 is3 h =
         let m = mapped (sole key) Delete command h in
         let s = sole_is key m.0 m.1 in
-        spelled 2 is2 (Delete m.0) m.2 (ap (λ (x : List ℕ). 2 ∷ x) (with_rest [] s.1 ∙ append-nil (field_bytes key.field) ∙ ap (λ (x : List ℕ). field_bytes x) s.0))
+        spelled 2 is2 (Delete m.0) m.2 (ap (λ (x : List ℕ). 2 ∷ x) (with_rest [] s.1 ∙ append-nil (field_bytes key.field)
+        ∙ ap (λ (x : List ℕ). field_bytes x) s.0))
     by false false true is1 is2 is3 h =
         let m = mapped (value_in key.rest) (Claim key.field) command h in
         spelled 3 is3 (Claim key.field m.0) m.2 (ap (λ (x : List ℕ). 3 ∷ x) (with_rest (field_bytes m.0) (value_is key.rest m.0 m.1)))
@@ -88,7 +91,8 @@ value_reads value short =
     ap (λ (x : List ℕ). field_in 0 64 x >>= sole) (sym (append-nil (field_bytes value)))
     ∙ ap (λ (o : Option Cut). o >>= sole) (field_reads 0 64 value [] (omega arith) short)
 
-kind_reads : (command : Command) (kind : ℕ) (key : Cut) (bytes : List ℕ) → command_bytes command ≡ kind ∷ bytes → bytes ≡ field_bytes key.field ++ key.rest → IsKey key.field
+kind_reads : (command : Command) (kind : ℕ) (key : Cut) (bytes : List ℕ) → command_bytes command ≡ kind ∷ bytes
+    → bytes ≡ field_bytes key.field ++ key.rest → IsKey key.field
     → of_kind kind key ≡ Some command → command_of (command_bytes command) ≡ Some command
 unfolding command_of
 kind_reads command kind key bytes e spelled is_key reads =

@@ -62,7 +62,8 @@ module _ {Y : Type 0} where
   abbrev key_of : Vec ℕ Y → List ℕ
   key_of key = key.items
 
-  pub found_entry : (es : List (Vec ℕ Y × Setting)) (contents : Contents) (key : List ℕ) (found : Option Setting) → found ≡ lookup (is_at (λ k. slice_cmp nat_cmp key k.items)) es
+  pub found_entry : (es : List (Vec ℕ Y × Setting)) (contents : Contents) (key : List ℕ) (found : Option Setting)
+      → found ≡ lookup (is_at (λ k. slice_cmp nat_cmp key k.items)) es
       → contents_in es ≡ contents → found ≡ setting_of contents key
   found_entry es contents key found e same =
       e ∙ lookup-seen key_of key_cmp (is_at (key_cmp key)) es ∙ ap (λ c. setting_of c key) same
@@ -71,8 +72,11 @@ module _ {Y : Type 0} where
       → new ≡ insert_entry (λ x y. slice_cmp nat_cmp x.items y.items) es key setting → contents_in es ≡ contents → key.items ≡ bytes
       → contents_in new ≡ with_setting contents bytes setting
   set_entry es new contents key bytes setting e same is =
-      ap (λ n. contents_in n) e ∙ insert-seen key_of key_cmp es key setting ∙ ap (λ c. with_setting c key.items setting) same ∙ ap (λ k. with_setting contents k setting) is
+      ap (λ n. contents_in n) e ∙ insert-seen key_of key_cmp es key setting ∙ ap (λ c. with_setting c key.items setting) same
+      ∙ ap (λ k. with_setting contents k setting) is
 
-  pub removed_entry : (es new : List (Vec ℕ Y × Setting)) (contents : Contents) (key : List ℕ) → new ≡ remove_entry (is_at (λ k. slice_cmp nat_cmp key k.items)) es
+  pub removed_entry : (es new : List (Vec ℕ Y × Setting)) (contents : Contents) (key : List ℕ)
+      → new ≡ remove_entry (is_at (λ k. slice_cmp nat_cmp key k.items)) es
       → contents_in es ≡ contents → contents_in new ≡ without_key contents key
-  removed_entry es new contents key e same = ap (λ n. contents_in n) e ∙ remove-seen key_of key_cmp (is_at (key_cmp key)) es ∙ ap (λ c. without_key c key) same
+  removed_entry es new contents key e same = ap (λ n. contents_in n) e ∙ remove-seen key_of key_cmp (is_at (key_cmp key)) es
+      ∙ ap (λ c. without_key c key) same

@@ -4,13 +4,15 @@ use Rattle.am_base.specs.declared.entry.Entry.{Entry}
 use Rattle.am_seg.specs.Assembling.{after_entry}
 use Rattle.am_dir.specs.declared.step.Step.{Step}
 use Rattle.am_dir.specs.Contents.{Contents, with_entry}
-use Rattle.am_dir.specs.Replicas.{ReplicaState, Waiting, snapshot_for, waiting_with, with_held, arrived, fed_waiting, fed, step_ready, step_arrived, step_waiting, step_of}
+use Rattle.am_dir.specs.Replicas.{ReplicaState, Waiting, snapshot_for, waiting_with, with_held, arrived, fed_waiting, fed, step_ready, step_arrived}
+use Rattle.am_dir.specs.Replicas.{step_waiting, step_of}
 
 pub on_ok : {X E P Q : Type 0} (r : Result X E) → (P → Q) → OnOk r P → OnOk r Q
 on_ok (Ok x) f h = f h
 on_ok (Err e) f h = h
 
-pub fed_ready : (s : ReplicaState) (number : ℕ) (entry : Entry) → s.waiting ≡ None → fed s number entry ≡ record s { contents = with_entry s.contents (number, entry) }
+pub fed_ready : (s : ReplicaState) (number : ℕ) (entry : Entry) → s.waiting ≡ None
+    → fed s number entry ≡ record s { contents = with_entry s.contents (number, entry) }
 unfolding fed
 fed_ready s number entry h = ap (λ (w : Option Waiting). fed_waiting s w number entry) h
 

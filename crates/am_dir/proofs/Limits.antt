@@ -1,5 +1,6 @@
 -- What is read is within its limits.
-use Rattle.std.proofs.Common.{◌≡◌, ℕ, zero, suc, ◌+◌, ◌≤◌, ◌<◌, List, [], ◌∷◌, ◌++◌, Bool, true, false, cond, ◌&&◌, ◌==◌, nat_le, length, take, drop, Option, Some, None, refl, sym, ap, ◌∙◌, subst, arith}
+use Rattle.std.proofs.Common.{◌≡◌, ℕ, zero, suc, ◌+◌, ◌≤◌, ◌<◌, List, [], ◌∷◌, ◌++◌, Bool, true, false, cond, ◌&&◌, ◌==◌, nat_le, length, take, drop}
+use Rattle.std.proofs.Common.{Option, Some, None, refl, sym, ap, ◌∙◌, subst, arith}
 use Rattle.std.specs.Option.{option_map}
 use Rattle.std.proofs.lemmas.Bool.Decides.{nat_tests}
 use Rattle.std.proofs.lemmas.List.{length-take-le, take-append-drop}
@@ -57,7 +58,8 @@ field_is least most (count ∷ bytes) cut h =
     record {
       least_is = omega (arith, c.length);
       most_is = omega (arith, c.length);
-      same = ap (λ n. n ∷ bytes) (sym c.length) ∙ ap (λ xs. length cut.field ∷ xs) (sym (ap (λ xs. xs ++ cut.rest) c.field ∙ ap (λ xs. take count bytes ++ xs) c.rest ∙ take-append-drop count bytes));
+      same = ap (λ n. n ∷ bytes) (sym c.length) ∙ ap (λ xs. length cut.field ∷ xs) (sym (ap (λ xs. xs ++ cut.rest) c.field
+          ∙ ap (λ xs. take count bytes ++ xs) c.rest ∙ take-append-drop count bytes));
     }
 
 pub is_key : (bytes : List ℕ) (cut : Cut) → field_in 1 32 bytes ≡ Some cut → IsKey cut.field

@@ -1,5 +1,6 @@
 -- What holds in the loops that write a snapshot, read one, and apply what was held.
-use Rattle.std.proofs.Common.{◌≡◌, ℕ, zero, suc, ◌+◌, ◌*◌, ◌-◌, ◌≤◌, ◌<◌, List, [], ◌∷◌, ◌++◌, Bool, true, false, cond, ◌==◌, length, take, drop, map, Option, Some, None, refl, sym, ap, ◌∙◌, subst, arith, ⊎_elim, inl, inr, append_assoc, append-nil, length-append}
+use Rattle.std.proofs.Common.{◌≡◌, ℕ, zero, suc, ◌+◌, ◌*◌, ◌-◌, ◌≤◌, ◌<◌, List, [], ◌∷◌, ◌++◌, Bool, true, false, cond, ◌==◌, length, take, drop, map}
+use Rattle.std.proofs.Common.{Option, Some, None, refl, sym, ap, ◌∙◌, subst, arith, ⊎_elim, inl, inr, append_assoc, append-nil, length-append}
 use Rattle.std.proofs.Common.{get_or, is_some}
 use Rattle.std.proofs.lemmas.List.{take_more}
 use Rattle.std.specs.Option.{option_map}
@@ -49,12 +50,28 @@ written_first contents join bytes d head = record {
   text = ap (λ b. b ++ flat_map setting_bytes contents) head;
   keys = d.keys;
   values = d.values;
-  room = omega (arith, d.few, ap (λ b. length b) head, length-append (4 ∷ big_bytes 4 join) (big_bytes 2 (length contents)), length-bytes_high_first 4 join, length-bytes_high_first 2 (length contents));
+  room = omega (
+    arith,
+    d.few,
+    ap (λ b. length b) head,
+    length-append (4 ∷ big_bytes 4 join) (big_bytes 2 (length contents)),
+    length-bytes_high_first 4
+        join,
+    length-bytes_high_first 2 (length contents),
+  );
 }
 
 setting_length : (key : List ℕ) (setting : Setting) → IsKey key → IsValue setting.value → length (setting_bytes (key, setting)) ≤ 102
 setting_length key setting is_key is_value =
-    omega (arith, is_key.few, is_value, length-append (field_bytes key) (big_bytes 4 setting.number ++ field_bytes setting.value), length-append (big_bytes 4 setting.number) (field_bytes setting.value), length-bytes_high_first 4 setting.number)
+    omega (
+      arith,
+      is_key.few,
+      is_value,
+      length-append (field_bytes key) (big_bytes 4 setting.number ++ field_bytes setting.value),
+      length-append
+          (big_bytes 4 setting.number) (field_bytes setting.value),
+      length-bytes_high_first 4 setting.number,
+    )
 
 pub written_more : (bytes : List ℕ) (key : List ℕ) (setting : Setting) (rest : Contents) (whole new : List ℕ) → Written bytes ((key, setting) ∷ rest) whole
     → new ≡ bytes ++ setting_bytes (key, setting) → Written new rest whole
@@ -62,10 +79,18 @@ written_more bytes key setting rest whole new w e = record {
   text = ap (λ b. b ++ flat_map setting_bytes rest) e ∙ append_assoc bytes (setting_bytes (key, setting)) (flat_map setting_bytes rest) ∙ w.text;
   keys = all_rest IsKey key (keys_of rest) w.keys;
   values = all_rest (λ (s : Setting). IsValue s.value) setting (values_of rest) w.values;
-  room = omega (arith, w.room, ap (λ b. length b) e, length-append bytes (setting_bytes (key, setting)), setting_length key setting (all_first IsKey key (keys_of rest) w.keys) (all_first (λ (s : Setting). IsValue s.value) setting (values_of rest) w.values));
+  room = omega (
+    arith,
+    w.room,
+    ap (λ b. length b) e,
+    length-append bytes (setting_bytes (key, setting)),
+    setting_length key setting (all_first IsKey key
+        (keys_of rest) w.keys) (all_first (λ (s : Setting). IsValue s.value) setting (values_of rest) w.values),
+  );
 }
 
-pub written_key : (bytes : List ℕ) (key : List ℕ) (setting : Setting) (rest : Contents) (whole : List ℕ) → Written bytes ((key, setting) ∷ rest) whole → IsKey key
+pub written_key : (bytes : List ℕ) (key : List ℕ) (setting : Setting) (rest : Contents) (whole : List ℕ) → Written bytes ((key, setting) ∷ rest) whole
+    → IsKey key
 written_key bytes key setting rest whole w = all_first IsKey key (keys_of rest) w.keys
 
 pub written_all : (bytes whole : List ℕ) → Written bytes [] whole → bytes ≡ whole
@@ -92,16 +117,20 @@ restored_first count bytes = record {
 
 settings_more : (count read : ℕ) (last : Option (List ℕ)) (rest : List ℕ) → read < count
     → settings_in (count - read) last rest
-    ≡ (setting_in last rest >>= λ first. option_map (λ others. (first.key, first.setting) ∷ others) (settings_in (count - (read + 1)) (Some first.key) first.rest))
+    ≡ (setting_in last rest >>= λ first. option_map (λ others. (first.key, first.setting) ∷ others) (settings_in (count - (read + 1)) (Some first.key)
+    first.rest))
 unfolding settings_in
 settings_more count read last rest below = ap (λ n. settings_in n last rest) (let e : count - read ≡ suc (count - (read + 1)) = omega arith in e)
 
 -- where the next isn't there, nothing is
-pub restored_none : (count : ℕ) (bytes : List ℕ) (read : ℕ) (last : Option (List ℕ)) (rest : List ℕ) (contents : Contents) → Restored count bytes read last rest contents
+pub restored_none : (count : ℕ) (bytes : List ℕ) (read : ℕ) (last : Option (List ℕ)) (rest : List ℕ) (contents : Contents)
+    → Restored count bytes read last rest contents
     → read < count → setting_in last rest ≡ None → None ≡ settings_in count None bytes
 restored_none count bytes read last rest contents r below none =
     let more = settings_more count read last rest below in
-    let nothing : settings_in (count - read) last rest ≡ None = more ∙ ap (λ o. o >>= λ first. option_map (λ others. (first.key, first.setting) ∷ others) (settings_in (count - (read + 1)) (Some first.key) first.rest)) none in
+    let nothing : settings_in (count - read) last rest ≡ None = more
+    ∙ ap (λ o. o >>= λ first. option_map (λ others. (first.key, first.setting) ∷ others) (settings_in (count - (read + 1)) (Some first.key)
+    first.rest)) none in
     ap (λ o. option_map (λ others. contents ++ others) o) (sym nothing) ∙ r.whole
 
 map_map : (contents : Contents) (e : List ℕ × Setting) (o : Option Contents)
@@ -109,7 +138,8 @@ map_map : (contents : Contents) (e : List ℕ × Setting) (o : Option Contents)
 map_map contents e None = refl
 map_map contents e (Some others) = ap Some (sym (append_assoc contents (e ∷ []) others))
 
-all_append : {K X : Type 0} (P : K → Type 0) (es : List (K × X)) (e : K × X) → AllByRecursion P (keys_of es) → P e.0 → AllByRecursion P (keys_of (es ++ e ∷ []))
+all_append : {K X : Type 0} (P : K → Type 0) (es : List (K × X)) (e : K × X) → AllByRecursion P (keys_of es) → P e.0
+    → AllByRecursion P (keys_of (es ++ e ∷ []))
 all_append P [] e all p = (p, tt)
 all_append P (x ∷ es) e all p = (all.0, all_append P es e all.1 p)
 
@@ -123,7 +153,8 @@ is_less Less h = refl
 is_less Equal h = cc
 is_less Greater h = cc
 
-pub restored_more : (count : ℕ) (bytes : List ℕ) (read : ℕ) (last : Option (List ℕ)) (rest : List ℕ) (contents new : Contents) (first : Read) → Restored count bytes read last rest contents
+pub restored_more : (count : ℕ) (bytes : List ℕ) (read : ℕ) (last : Option (List ℕ)) (rest : List ℕ) (contents new : Contents) (first : Read)
+    → Restored count bytes read last rest contents
     → read < count → setting_in last rest ≡ Some first → new ≡ with_setting contents first.key first.setting
     → Restored count bytes (read + 1) (Some first.key) first.rest new
 restored_more count bytes read last rest contents new first r below is e =
@@ -135,7 +166,8 @@ restored_more count bytes read last rest contents new first r below is e =
     let above = r.below first.key w.follows in
     let end : new ≡ contents ++ (first.key, first.setting) ∷ [] = e ∙ insert-last nat_list_cmp_total first.key first.setting contents above in
     record {
-      whole = ap (λ c. option_map (λ os. c ++ os) others) end ∙ sym (map_map contents (first.key, first.setting) others) ∙ ap (λ o. option_map (λ os. contents ++ os) o) (sym at) ∙ r.whole;
+      whole = ap (λ c. option_map (λ os. c ++ os) others) end ∙ sym (map_map contents (first.key, first.setting) others)
+          ∙ ap (λ o. option_map (λ os. contents ++ os) o) (sym at) ∙ r.whole;
       many = ap (λ c. length c) end ∙ length-append contents ((first.key, first.setting) ∷ []) ∙ ap (λ n. n + 1) r.many;
       below = λ key follows.
           let less = is_less (key_cmp first.key key) follows in
@@ -144,7 +176,8 @@ restored_more count bytes read last rest contents new first r below is e =
     }
 
 -- all are read
-pub restored_all : (count : ℕ) (bytes : List ℕ) (read : ℕ) (last : Option (List ℕ)) (rest : List ℕ) (contents : Contents) → Restored count bytes read last rest contents
+pub restored_all : (count : ℕ) (bytes : List ℕ) (read : ℕ) (last : Option (List ℕ)) (rest : List ℕ) (contents : Contents)
+    → Restored count bytes read last rest contents
     → count ≤ read → cond (is_empty rest) (Some contents) None ≡ settings_in count None bytes
 unfolding settings_in
 restored_all count bytes read last rest contents r above =
@@ -156,17 +189,20 @@ restored_all count bytes read last rest contents r above =
     by true = ap Some (sym (append-nil contents))
     by false = refl
 
-pub restored_room : (count : ℕ) (bytes : List ℕ) (read : ℕ) (last : Option (List ℕ)) (rest : List ℕ) (contents : Contents) → Restored count bytes read last rest contents
+pub restored_room : (count : ℕ) (bytes : List ℕ) (read : ℕ) (last : Option (List ℕ)) (rest : List ℕ) (contents : Contents)
+    → Restored count bytes read last rest contents
     → read < count → count ≤ most_keys → has_room contents ≡ true
 restored_room count bytes read last rest contents r below few = let short : length contents < 256 = omega (arith, r.many) in grind (arith, nat_tests)
 
 -- ---- what was held is applied
 
-held_push : (contents : Contents) (held : List HeldCommand) (h : HeldCommand) → apply_held contents (held_in (held ++ h ∷ [])) ≡ applied (apply_held contents (held_in held)) h.number h.body
+held_push : (contents : Contents) (held : List HeldCommand) (h : HeldCommand)
+    → apply_held contents (held_in (held ++ h ∷ [])) ≡ applied (apply_held contents (held_in held)) h.number h.body
 held_push contents [] h = refl
 held_push contents (first ∷ held) h = held_push (applied contents first.number first.body) held h
 
-pub held_step : (contents : Contents) (held : List HeldCommand) (i : ℕ) (h : HeldCommand) (before new : Contents) → before ≡ apply_held contents (held_in (take i held))
+pub held_step : (contents : Contents) (held : List HeldCommand) (i : ℕ) (h : HeldCommand) (before new : Contents)
+    → before ≡ apply_held contents (held_in (take i held))
     → i < length held → h ≡ get_or held i h → new ≡ applied before h.number h.body → new ≡ apply_held contents (held_in (take (i + 1) held))
 held_step contents held i h before new so below is e =
     let more : take (i + 1) held ≡ take i held ++ h ∷ [] = take_more held i h below ∙ ap (λ x. take i held ++ x ∷ []) (sym is) in
@@ -182,7 +218,8 @@ held_body contents held number body None h =
     ap (λ (o : Option Command). after_read (apply_held contents held) number o) h
     ∙ ap (λ (o : Option Command). apply_held contents (cond (is_some o) (held ++ (number, body) ∷ []) held)) (sym h)
 held_body contents held number body (Some command) h =
-    sym (held_more contents held (number, body)) ∙ ap (λ (o : Option Command). apply_held contents (cond (is_some o) (held ++ (number, body) ∷ []) held)) (sym h)
+    sym (held_more contents held (number, body)) ∙ ap (λ (o : Option Command). apply_held contents (cond (is_some o) (held ++ (number, body) ∷ []) held))
+    (sym h)
 
 -- an entry's body applied, where it is a command, and else nothing
 pub held_entry : (contents : Contents) (held : List (ℕ × List ℕ)) (number : ℕ) (entry : Entry)

@@ -1,5 +1,6 @@
 -- Entries in order stay in order, whatever goes in or out, and how many they are.
-use Rattle.std.proofs.Common.{◌≡◌, ℕ, suc, ◌+◌, ◌≤◌, List, [], ◌∷◌, ◌++◌, Bool, true, false, cond, Option, Some, None, length, map, refl, sym, ap, ◌∙◌, subst, arith}
+use Rattle.std.proofs.Common.{◌≡◌, ℕ, suc, ◌+◌, ◌≤◌, List, [], ◌∷◌, ◌++◌, Bool, true, false, cond, Option, Some, None, length, map, refl, sym, ap}
+use Rattle.std.proofs.Common.{◌∙◌, subst, arith}
 use Rattle.std.specs.Prelude.{is_some}
 use Rattle.std.specs.declared.cmp.Ordering.{Ordering}
 use Rattle.std.specs.declared.cmp.Ordering.TheVariants.{Less, Equal, Greater}
@@ -17,7 +18,8 @@ module _ {K X : Type 0} (R : K → K → Ordering) (k : K) (v : X) where
   all-insert P [] a p = (p, tt)
   all-insert P (e ∷ es) a p = by (R k e.0) (all-insert P es a.1 p)
     where
-      by : (o : Ordering) → AllByRecursion P (keys_of (insert_entry R es k v)) → AllByRecursion P (keys_of (match_ordering o ((k, v) ∷ e ∷ es) ((e.0, v) ∷ es) (e ∷ insert_entry R es k v)))
+      by : (o : Ordering) → AllByRecursion P (keys_of (insert_entry R es k v))
+          → AllByRecursion P (keys_of (match_ordering o ((k, v) ∷ e ∷ es) ((e.0, v) ∷ es) (e ∷ insert_entry R es k v)))
       by Less rest = (p, a)
       by Equal rest = (a.0, a.1)
       by Greater rest = (a.0, rest)
@@ -26,7 +28,8 @@ module _ {K X : Type 0} (R : K → K → Ordering) (k : K) (v : X) where
   length-insert [] = omega arith
   length-insert (e ∷ es) = by (R k e.0) (length-insert es)
     where
-      by : (o : Ordering) → length (insert_entry R es k v) ≤ length es + 1 → length (match_ordering o ((k, v) ∷ e ∷ es) ((e.0, v) ∷ es) (e ∷ insert_entry R es k v)) ≤ length (e ∷ es) + 1
+      by : (o : Ordering) → length (insert_entry R es k v) ≤ length es + 1
+          → length (match_ordering o ((k, v) ∷ e ∷ es) ((e.0, v) ∷ es) (e ∷ insert_entry R es k v)) ≤ length (e ∷ es) + 1
       by Less rest = omega arith
       by Equal rest = omega arith
       by Greater rest = omega arith
@@ -54,7 +57,8 @@ module _ {K X : Type 0} {R : K → K → Ordering} (total : IsTotalOrder R) (k :
   length-insert_found [] s found = cc
   length-insert_found (e ∷ es) s found = by (R k e.0) refl (length-insert_found es s.1)
     where
-      by : (o : Ordering) → R k e.0 ≡ o → (is_some (lookup (is_at (R k)) es) ≡ true → length (insert_entry R es k v) ≡ length es) → length (match_ordering o ((k, v) ∷ e ∷ es) ((e.0, v) ∷ es) (e ∷ insert_entry R es k v)) ≡ length (e ∷ es)
+      by : (o : Ordering) → R k e.0 ≡ o → (is_some (lookup (is_at (R k)) es) ≡ true → length (insert_entry R es k v) ≡ length es)
+          → length (match_ordering o ((k, v) ∷ e ∷ es) ((e.0, v) ∷ es) (e ∷ insert_entry R es k v)) ≡ length (e ∷ es)
       by Less h rest =
           let none = lookup-none (is_at (R k)) (e ∷ es) (none_below_head total k e es s h) in
           let no : false ≡ true = sym (ap is_some none) ∙ found in

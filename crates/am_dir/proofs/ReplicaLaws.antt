@@ -8,10 +8,11 @@ use Rattle.am_seg.specs.Messages.{message_at}
 use Rattle.am_seg.specs.Assembling.{Assembly, no_parts, after_entry, assembled}
 use Rattle.am_seg.proofs.Fold.{messages_assemble}
 use Rattle.am_dir.specs.Contents.{Contents, with_entry, contents_from}
-use Rattle.am_dir.specs.Replicas.{or_else, snapshot_for, first_behind, entries_of, first_snapshot, replica_contents, ReplicaState, Waiting, begin_waiting, shown, held_with, apply_held, waiting_with, arrived, fed, replayed, ReplicasShow}
+use Rattle.am_dir.specs.Replicas.{or_else, snapshot_for, first_behind, entries_of, first_snapshot, replica_contents, ReplicaState, Waiting}
+use Rattle.am_dir.specs.Replicas.{begin_waiting, shown, held_with, apply_held, waiting_with, arrived, fed, replayed, ReplicasShow}
 use Rattle.am_dir.proofs.Loops.{held_entry}
 
-fold_push : {A B : Type 0} (f : B → A → B) (b : B) (xs : List A) (x : A) → fold f b (xs ++ x ∷ []) ≡ f (fold f b xs) x
+pub fold_push : {A B : Type 0} (f : B → A → B) (b : B) (xs : List A) (x : A) → fold f b (xs ++ x ∷ []) ≡ f (fold f b xs) x
 fold_push f b [] x = refl
 fold_push f b (y ∷ xs) x = fold_push f (f b y) xs x
 
@@ -72,13 +73,18 @@ wait_step start before pair =
     let held : held_with (held_all before) pair.0 pair.1 ≡ held_all all = sym (fold_push (λ sofar p. held_with sofar p.0 p.1) [] before pair) in
     let after : after_entry a0 pair.1 ≡ assembled (entries_of all)
     = sym (fold_push after_entry no_parts (entries_of before) pair.1) ∙ ap (λ (es : List Entry). assembled es) (sym (entries_push before pair)) in
-    let ended : (after_entry a0 pair.1).ended ≡ message_at (entries_of all) = ap (λ (a : Assembly). a.ended) after ∙ (messages_assemble (entries_of all)).ended in
-    ap (λ (h : List (ℕ × List ℕ)). arrived (so_far start before) (record { held = h; assembly = after_entry a0 pair.1 }) (snapshot_for start (after_entry a0 pair.1).ended)) held
-    ∙ ap (λ (a : Assembly). arrived (so_far start before) (record { held = held_all all; assembly = a }) (snapshot_for start (after_entry a0 pair.1).ended)) after
-    ∙ ap (λ (m : Option (ℕ × List ℕ)). arrived (so_far start before) (record { held = held_all all; assembly = assembled (entries_of all) }) (snapshot_for start m)) ended
+    let ended : (after_entry a0 pair.1).ended ≡ message_at (entries_of all) = ap (λ (a : Assembly). a.ended) after
+    ∙ (messages_assemble (entries_of all)).ended in
+    ap (λ (h : List (ℕ × List ℕ)). arrived (so_far start before) (record { held = h; assembly = after_entry a0 pair.1 }) (snapshot_for start (after_entry
+    a0 pair.1).ended)) held
+    ∙ ap (λ (a : Assembly). arrived (so_far start before) (record { held = held_all all; assembly = a }) (snapshot_for start (after_entry a0
+    pair.1).ended)) after
+    ∙ ap (λ (m : Option (ℕ × List ℕ)). arrived (so_far start before) (record { held = held_all all; assembly = assembled (entries_of all) })
+    (snapshot_for start m)) ended
 
 -- it ends a snapshot for the start
-wait_ends : (start : ℕ) (before rest : List (ℕ × Entry)) (pair : ℕ × Entry) (contents : Contents) → snapshot_for start (message_at (entries_of (before ++ pair ∷ []))) ≡ Some contents
+wait_ends : (start : ℕ) (before rest : List (ℕ × Entry)) (pair : ℕ × Entry) (contents : Contents)
+    → snapshot_for start (message_at (entries_of (before ++ pair ∷ []))) ≡ Some contents
     → shown (fold step (so_far start before) (pair ∷ rest)) ≡ Some (contents_from contents (before ++ pair ∷ [] ++ rest))
 wait_ends start before rest pair contents h =
     let all = before ++ pair ∷ [] in
@@ -97,7 +103,8 @@ wait_on start before rest pair h =
     ∙ ap (λ (o : Option Contents). arrived (so_far start before) (record { held = held_all all; assembly = assembled (entries_of all) }) o) h)
 
 -- what the definition says where an entry is the first that is left
-first_more : (start : ℕ) (before rest : List (ℕ × Entry)) (pair : ℕ × Entry) (o : Option Contents) → snapshot_for start (message_at (entries_of (before ++ pair ∷ []))) ≡ o
+first_more : (start : ℕ) (before rest : List (ℕ × Entry)) (pair : ℕ × Entry) (o : Option Contents)
+    → snapshot_for start (message_at (entries_of (before ++ pair ∷ []))) ≡ o
     → first_behind start (entries_of before) (entries_of (pair ∷ rest)) ≡ or_else o (first_behind start (entries_of (before ++ pair ∷ [])) (entries_of rest))
 first_more start before rest pair o h =
     ap (λ (es : List Entry). or_else (snapshot_for start (message_at es)) (first_behind start es (entries_of rest))) (sym (entries_push before pair))
@@ -106,14 +113,16 @@ first_more start before rest pair o h =
 joined : (before rest : List (ℕ × Entry)) (pair : ℕ × Entry) → before ++ pair ∷ [] ++ rest ≡ before ++ pair ∷ rest
 joined before rest pair = append_assoc before (pair ∷ []) rest
 
-wait_more : (start : ℕ) (before rest : List (ℕ × Entry)) (pair : ℕ × Entry) (o : Option Contents) → snapshot_for start (message_at (entries_of (before ++ pair ∷ []))) ≡ o
+wait_more : (start : ℕ) (before rest : List (ℕ × Entry)) (pair : ℕ × Entry) (o : Option Contents)
+    → snapshot_for start (message_at (entries_of (before ++ pair ∷ []))) ≡ o
     → shown (fold step (so_far start (before ++ pair ∷ [])) rest)
     ≡ option_map (λ c. contents_from c (before ++ pair ∷ [] ++ rest)) (first_behind start (entries_of (before ++ pair ∷ [])) (entries_of rest))
     → shown (fold step (so_far start before) (pair ∷ rest))
     ≡ option_map (λ c. contents_from c (before ++ pair ∷ rest)) (first_behind start (entries_of before) (entries_of (pair ∷ rest)))
 wait_more start before rest pair None h later =
     ap (λ (s : ReplicaState). shown s) (wait_on start before rest pair h) ∙ later
-    ∙ ap (λ (xs : List (ℕ × Entry)). option_map (λ c. contents_from c xs) (first_behind start (entries_of (before ++ pair ∷ [])) (entries_of rest))) (joined before rest pair)
+    ∙ ap (λ (xs : List (ℕ × Entry)). option_map (λ c. contents_from c xs) (first_behind start (entries_of (before ++ pair ∷ [])) (entries_of rest)))
+    (joined before rest pair)
     ∙ ap (λ (x : Option Contents). option_map (λ c. contents_from c (before ++ pair ∷ rest)) x) (sym (first_more start before rest pair None h))
 wait_more start before rest pair (Some contents) h later =
     wait_ends start before rest pair contents h
@@ -126,7 +135,11 @@ wait_all start before [] = refl
 wait_all start before (pair ∷ rest) =
     wait_more start before rest pair (snapshot_for start (message_at (entries_of (before ++ pair ∷ [])))) refl (wait_all start (before ++ pair ∷ []) rest)
 
-show_by : (start : ℕ) (pairs : List (ℕ × Entry)) (b : Bool) → shown (fold step (record { start = start; waiting = cond b None (Some begin_waiting); contents = [] }) pairs)
+show_by : (start : ℕ) (pairs : List (ℕ × Entry)) (b : Bool) → shown (fold step (record {
+  start = start;
+  waiting = cond b None (Some begin_waiting);
+  contents = [];
+}) pairs)
     ≡ cond b (Some (contents_from [] pairs)) (option_map (λ c. contents_from c pairs) (first_behind start [] (entries_of pairs)))
 show_by start pairs true = ap (λ (s : ReplicaState). shown s) (ready_all start [] pairs)
 show_by start pairs false = wait_all start [] pairs

@@ -1,5 +1,6 @@
 -- Bytes are read as a snapshot exactly where they are it.
-use Rattle.std.proofs.Common.{◌≡◌, ℕ, zero, suc, ◌+◌, ◌^◌, ◌≤◌, ◌<◌, List, [], ◌∷◌, ◌++◌, Bool, true, false, cond, ◌&&◌, ◌==◌, nat_le, length, take, drop, Option, Some, None, refl, sym, ap, ◌∙◌, subst, arith, length-append, append-nil, append_assoc}
+use Rattle.std.proofs.Common.{◌≡◌, ℕ, zero, suc, ◌+◌, ◌^◌, ◌≤◌, ◌<◌, List, [], ◌∷◌, ◌++◌, Bool, true, false, cond, ◌&&◌, ◌==◌, nat_le, length, take}
+use Rattle.std.proofs.Common.{drop, Option, Some, None, refl, sym, ap, ◌∙◌, subst, arith, length-append, append-nil, append_assoc}
 use Rattle.std.specs.Option.{option_map}
 use Rattle.std.specs.List.{All, AllByRecursion, flat_map}
 use Rattle.std.specs.List.Sorted.{IsStrictlySortedBy}
@@ -21,7 +22,8 @@ use Rattle.am_dir.specs.Fields.{◌>>=◌, Cut, Numbered, field_bytes, field_in,
 use Rattle.am_dir.specs.Commands.{is_empty}
 use Rattle.am_dir.specs.Contents.{Contents, key_cmp, most_keys}
 use Rattle.am_dir.specs.Kept.{IsDirectory}
-use Rattle.am_dir.specs.Snapshots.{Read, Head, head_bytes, setting_bytes, snapshot_of, IsContents, IsSnapshot, limited_in, may_follow, setting_behind, setting_in, settings_in, head_behind, head_in, snapshot_in, SnapshotsAreTheirBytes}
+use Rattle.am_dir.specs.Snapshots.{Read, Head, head_bytes, setting_bytes, snapshot_of, IsContents, IsSnapshot, limited_in, may_follow, setting_behind}
+use Rattle.am_dir.specs.Snapshots.{setting_in, settings_in, head_behind, head_in, snapshot_in, SnapshotsAreTheirBytes}
 use Rattle.am_dir.proofs.Limits.{bound, mapped, passed, field_is, is_key, is_value}
 use Rattle.am_dir.proofs.Loops.{is_less, all_first, all_rest}
 use Rattle.am_dir.proofs.CommandLaws.{empty_is_nil, field_reads}
@@ -40,7 +42,12 @@ numbered_is count bytes n fits h =
     let p = passed (nat_le count (length bytes)) _ n h in
     let long : count ≤ length bytes = grind (arith, nat_tests, p.0) in
     let same : record { number = big_number count bytes; rest = drop count bytes } ≡ n = cc (p.1) in
-    subst (λ (m : Numbered). IsNumbered count bytes m) same (record { same = front count bytes long fits; rest = IsBytes-drop count bytes fits; below = big_number-lt count bytes fits })
+    subst (λ (m : Numbered). IsNumbered count bytes m) same (record {
+      same = front count bytes long fits;
+      rest = IsBytes-drop count bytes fits;
+      below =
+          big_number-lt count bytes fits;
+    })
 
 pub record IsLimited (bytes : List ℕ) (n : Numbered) : Type 0 where
   pub numbered : IsNumbered 4 bytes n
@@ -115,7 +122,8 @@ pub record AreRead (count : ℕ) (last : Option (List ℕ)) (bytes : List ℕ) (
   pub values : All (λ setting. IsValue setting.value) (values_of contents)
   pub numbers : All (λ setting. IsNumber setting.number) (values_of contents)
 
-no_more : (last : Option (List ℕ)) (bytes : List ℕ) (contents : Contents) → cond (is_empty bytes) (Some []) None ≡ Some contents → AreRead 0 last bytes contents
+no_more : (last : Option (List ℕ)) (bytes : List ℕ) (contents : Contents) → cond (is_empty bytes) (Some []) None ≡ Some contents
+    → AreRead 0 last bytes contents
 unfolding IsStrictlySortedBy
 no_more last bytes contents h =
     let p = passed (is_empty bytes) (Some []) contents h in
@@ -135,14 +143,19 @@ less_all : (key : List ℕ) (keys : List (List ℕ)) → AllByRecursion (λ k. m
 less_all key [] all = tt
 less_all key (k ∷ keys) all = (is_less (key_cmp key k) all.0, less_all key keys all.1)
 
-follow_on : (last : Option (List ℕ)) (key : List ℕ) (keys : List (List ℕ)) → may_follow last key ≡ true → AllByRecursion (λ k. may_follow (Some key) k ≡ true) keys
+follow_on : (last : Option (List ℕ)) (key : List ℕ) (keys : List (List ℕ)) → may_follow last key ≡ true
+    → AllByRecursion (λ k. may_follow (Some key) k ≡ true) keys
     → AllByRecursion (λ k. may_follow last k ≡ true) keys
 follow_on last key [] first all = tt
 follow_on None key (k ∷ keys) first all = (refl, follow_on None key keys first all.1)
-follow_on (Some low) key (k ∷ keys) first all =
-    (ap (λ o. is_lt o) (nat_list_cmp_total.trans low key k (is_less (key_cmp low key) first) (is_less (key_cmp key k) all.0)), follow_on (Some low) key keys first all.1)
+follow_on (Some low) key (k ∷ keys) first all = (
+  ap (λ o. is_lt o) (nat_list_cmp_total.trans low key k (is_less (key_cmp low key) first) (is_less (key_cmp key k) all.0)),
+  follow_on (Some low) key
+      keys first all.1,
+)
 
-one_more : (count : ℕ) (last : Option (List ℕ)) (bytes : List ℕ) (read : Read) (others : Contents) → IsRead last bytes read → AreRead count (Some read.key) read.rest others
+one_more : (count : ℕ) (last : Option (List ℕ)) (bytes : List ℕ) (read : Read) (others : Contents) → IsRead last bytes read
+    → AreRead count (Some read.key) read.rest others
     → AreRead (suc count) last bytes ((read.key, read.setting) ∷ others)
 unfolding IsStrictlySortedBy
 one_more count last bytes read others r a = record {
@@ -163,7 +176,8 @@ are_read (suc count) last bytes contents fits h =
     let b = bound (setting_in last bytes) _ contents h in
     let r = read_is last bytes b.0 fits b.1 in
     let m = mapped (settings_in count (Some b.0.key) b.0.rest) _ contents b.2 in
-    subst (λ (c : Contents). AreRead (suc count) last bytes c) m.2 (one_more count last bytes b.0 m.0 r (are_read count (Some b.0.key) b.0.rest m.0 r.rest m.1))
+    subst (λ (c : Contents). AreRead (suc count) last bytes c) m.2 (one_more count last bytes b.0 m.0 r (are_read count (Some b.0.key) b.0.rest m.0
+    r.rest m.1))
 
 pub record IsHead (bytes : List ℕ) (head : Head) : Type 0 where
   pub same : bytes ≡ head_bytes head.join head.count ++ head.rest
@@ -211,18 +225,29 @@ snapshot_is bytes join contents fits h =
     let is : IsSnapshot bytes b.0.join m.0 = record {
       number = head.join;
       within = record { directory = record { few = few; ordered = all.ordered; keys = all.keys; values = all.values }; numbers = all.numbers };
-      same = head.same ∙ ap (λ (x : List ℕ). head_bytes b.0.join b.0.count ++ x) all.same ∙ ap (λ (n : ℕ). head_bytes b.0.join n ++ flat_map setting_bytes m.0) (sym all.many);
+      same = head.same ∙ ap (λ (x : List ℕ). head_bytes b.0.join b.0.count ++ x) all.same
+          ∙ ap (λ (n : ℕ). head_bytes b.0.join n ++ flat_map setting_bytes m.0) (sym all.many);
     } in
     subst (λ (c : Contents). IsSnapshot bytes join c) same-contents (subst (λ (j : ℕ). IsSnapshot bytes j m.0) same-join is)
 
 -- ---- what is spelled so is read
 
-number_reads : (count number : ℕ) (rest : List ℕ) → number < 256 ^ count → number_in count (big_bytes count number ++ rest) ≡ Some (record { number = number; rest = rest })
+number_reads : (count number : ℕ) (rest : List ℕ) → number < 256 ^ count
+    → number_in count (big_bytes count number ++ rest) ≡ Some (record { number = number; rest = rest })
 unfolding number_in
 number_reads count number rest below =
-    let long : count ≤ length (big_bytes count number ++ rest) = omega (arith, length-append (big_bytes count number) rest, length-bytes_high_first count number) in
+    let long : count ≤ length (big_bytes count number ++ rest) = omega (
+      arith,
+      length-append (big_bytes count number) rest,
+      length-bytes_high_first count
+          number,
+    ) in
     let test : nat_le count (length (big_bytes count number ++ rest)) ≡ true = grind (arith, nat_tests) in
-    ap (λ (b : Bool). cond b (Some (record { number = big_number count (big_bytes count number ++ rest); rest = drop count (big_bytes count number ++ rest) })) None) test
+    ap (λ (b : Bool). cond b (Some (record {
+      number = big_number count (big_bytes count number ++ rest);
+      rest = drop count (big_bytes count number ++
+          rest);
+    })) None) test
     ∙ ap (λ (n : ℕ). Some (record { number = n; rest = drop count (big_bytes count number ++ rest) })) (big_number-reads_back count number rest below)
     ∙ ap (λ (r : List ℕ). Some (record { number = number; rest = r })) (drop_at (big_bytes count number) rest count (length-bytes_high_first count number))
 
@@ -235,15 +260,33 @@ limited_reads number rest is =
     ∙ ap (λ (b : Bool). cond b (Some (record { number = number; rest = rest })) None) test
 
 behind_reads : (key : List ℕ) (setting : Setting) (rest : List ℕ) → IsNumber setting.number → IsValue setting.value
-    → setting_behind (record { field = key; rest = big_bytes 4 setting.number ++ (field_bytes setting.value ++ rest) }) ≡ Some (record { key = key; setting = setting; rest = rest })
+    → setting_behind (record { field = key; rest = big_bytes 4 setting.number ++ (field_bytes setting.value ++ rest) }) ≡ Some (record {
+      key = key;
+      setting = setting;
+      rest = rest;
+    })
 unfolding setting_behind
 behind_reads key setting rest is_number is =
-    ap (λ (o : Option Numbered). o >>= λ number. (field_in 0 64 number.rest >>= λ value. Some (record { key = key; setting = record { number = number.number; value = value.field }; rest = value.rest })))
+    ap (λ (o : Option Numbered). o >>= λ number. (field_in 0 64 number.rest >>= λ value. Some (record {
+      key = key;
+      setting = record {
+        number =
+            number.number;
+        value = value.field;
+      };
+      rest = value.rest;
+    })))
     (limited_reads setting.number (field_bytes setting.value ++ rest) is_number)
-    ∙ ap (λ (o : Option Cut). o >>= λ value. Some (record { key = key; setting = record { number = setting.number; value = value.field }; rest = value.rest }))
+    ∙ ap (λ (o : Option Cut). o >>= λ value. Some (record {
+      key = key;
+      setting = record { number = setting.number; value = value.field };
+      rest =
+          value.rest;
+    }))
     (field_reads 0 64 setting.value rest (omega arith) is)
 
-setting_reads : (last : Option (List ℕ)) (key : List ℕ) (setting : Setting) (rest : List ℕ) → may_follow last key ≡ true → IsKey key → IsNumber setting.number → IsValue setting.value
+setting_reads : (last : Option (List ℕ)) (key : List ℕ) (setting : Setting) (rest : List ℕ) → may_follow last key ≡ true → IsKey key
+    → IsNumber setting.number → IsValue setting.value
     → setting_in last (setting_bytes (key, setting) ++ rest) ≡ Some (record { key = key; setting = setting; rest = rest })
 unfolding setting_in
 setting_reads last key setting rest follows is_a_key is_number is =
@@ -253,38 +296,52 @@ setting_reads last key setting rest follows is_a_key is_number is =
     ap (λ (x : List ℕ). field_in 1 32 x >>= λ k. cond (may_follow last k.field) (setting_behind k) None) spelled
     ∙ ap (λ (o : Option Cut). o >>= λ k. cond (may_follow last k.field) (setting_behind k) None)
     (field_reads 1 32 key (big_bytes 4 setting.number ++ (field_bytes setting.value ++ rest)) is_a_key.some is_a_key.few)
-    ∙ ap (λ (b : Bool). cond b (setting_behind (record { field = key; rest = big_bytes 4 setting.number ++ (field_bytes setting.value ++ rest) })) None) follows
+    ∙ ap (λ (b : Bool). cond b (setting_behind (record { field = key; rest = big_bytes 4 setting.number ++ (field_bytes setting.value ++ rest) })) None)
+    follows
     ∙ behind_reads key setting rest is_number is
 
 abbrev key_or : Option (List ℕ) → List ℕ
 key_or None = []
 key_or (Some key) = key
 
-follow_first : (last : Option (List ℕ)) (keys : List (List ℕ)) → AllByRecursion (λ k. key_cmp (key_or last) k ≡ Less) keys → AllByRecursion (λ k. may_follow last k ≡ true) keys
+follow_first : (last : Option (List ℕ)) (keys : List (List ℕ)) → AllByRecursion (λ k. key_cmp (key_or last) k ≡ Less) keys
+    → AllByRecursion (λ k. may_follow last k ≡ true) keys
 follow_first last [] all = tt
 follow_first None (k ∷ keys) all = (refl, follow_first None keys all.1)
 follow_first (Some low) (k ∷ keys) all = (ap (λ o. is_lt o) all.0, follow_first (Some low) keys all.1)
 
-settings_read : (last : Option (List ℕ)) (contents : Contents) → AllByRecursion (λ k. may_follow last k ≡ true) (keys_of contents) → IsStrictlySortedBy key_cmp (keys_of contents)
-    → All IsKey (keys_of contents) → All (λ setting. IsValue setting.value) (values_of contents) → All (λ setting. IsNumber setting.number) (values_of contents)
+settings_read : (last : Option (List ℕ)) (contents : Contents) → AllByRecursion (λ k. may_follow last k ≡ true) (keys_of contents)
+    → IsStrictlySortedBy key_cmp (keys_of contents)
+    → All IsKey (keys_of contents) → All (λ setting. IsValue setting.value) (values_of contents)
+    → All (λ setting. IsNumber setting.number) (values_of contents)
     → settings_in (length contents) last (flat_map setting_bytes contents) ≡ Some contents
 unfolding settings_in IsStrictlySortedBy
 settings_read last [] follow ordered keys values numbers = refl
 settings_read last (e ∷ contents) follow ordered keys values numbers =
     let first = setting_reads last e.0 e.1 (flat_map setting_bytes contents) follow.0 (all_first IsKey e.0 (keys_of contents) keys)
-    (all_first (λ (s : Setting). IsNumber s.number) e.1 (values_of contents) numbers) (all_first (λ (s : Setting). IsValue s.value) e.1 (values_of contents) values) in
-    let others = settings_read (Some e.0) contents (follow_first (Some e.0) (keys_of contents) ordered.0) ordered.1 (all_rest IsKey e.0 (keys_of contents) keys)
-    (all_rest (λ (s : Setting). IsValue s.value) e.1 (values_of contents) values) (all_rest (λ (s : Setting). IsNumber s.number) e.1 (values_of contents) numbers) in
-    ap (λ (o : Option Read). o >>= λ read. option_map (λ more. (read.key, read.setting) ∷ more) (settings_in (length contents) (Some read.key) read.rest)) first
+    (all_first (λ (s : Setting). IsNumber s.number) e.1 (values_of contents) numbers) (all_first (λ (s : Setting). IsValue s.value) e.1 (values_of
+    contents) values) in
+    let others = settings_read (Some e.0) contents (follow_first (Some e.0) (keys_of contents) ordered.0) ordered.1 (all_rest IsKey e.0 (keys_of
+    contents) keys)
+    (all_rest (λ (s : Setting). IsValue s.value) e.1 (values_of contents) values) (all_rest (λ (s : Setting). IsNumber s.number) e.1 (values_of contents)
+    numbers) in
+    ap (λ (o : Option Read). o >>= λ read. option_map (λ more. (read.key, read.setting) ∷ more) (settings_in (length contents) (Some read.key)
+    read.rest)) first
     ∙ ap (λ (o : Option Contents). option_map (λ more. e ∷ more) o) others
 
-head_reads : (join count : ℕ) (rest : List ℕ) → IsNumber join → count ≤ most_keys → head_in (head_bytes join count ++ rest) ≡ Some (record { join = join; count = count; rest = rest })
+head_reads : (join count : ℕ) (rest : List ℕ) → IsNumber join → count ≤ most_keys
+    → head_in (head_bytes join count ++ rest) ≡ Some (record { join = join; count = count; rest = rest })
 unfolding head_in head_behind
 head_reads join count rest is_number few =
     let below : count < 65536 = omega (arith, few) in
     let test : nat_le count 256 ≡ true = grind (arith, nat_tests) in
     ap (λ (x : List ℕ). head_in x) (append_assoc (4 ∷ big_bytes 4 join) (big_bytes 2 count) rest)
-    ∙ ap (λ (o : Option Numbered). o >>= λ j. (number_in 2 j.rest >>= λ c. cond (nat_le c.number most_keys) (Some (record { join = j.number; count = c.number; rest = c.rest })) None))
+    ∙ ap (λ (o : Option Numbered). o >>= λ j. (number_in 2 j.rest >>= λ c. cond (nat_le c.number most_keys) (Some (record {
+      join = j.number;
+      count =
+          c.number;
+      rest = c.rest;
+    })) None))
     (limited_reads join (big_bytes 2 count ++ rest) is_number)
     ∙ ap (λ (o : Option Numbered). o >>= λ c. cond (nat_le c.number most_keys) (Some (record { join = join; count = c.number; rest = c.rest })) None)
     (number_reads 2 count rest below)

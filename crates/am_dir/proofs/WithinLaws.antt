@@ -39,13 +39,15 @@ stay_command : (contents : Contents) (number : ℕ) (command : Command) → IsCo
     → IsContents (after_command contents number command)
 stay_command contents number (Put key value) c n k = by (has_key contents key || has_room contents) refl
   where
-    by : (b : Bool) → (has_key contents key || has_room contents) ≡ b → IsContents (cond b (with_setting contents key (record { number = number; value = value })) contents)
+    by : (b : Bool) → (has_key contents key || has_room contents) ≡ b
+        → IsContents (cond b (with_setting contents key (record { number = number; value = value })) contents)
     by true h = stay_set contents number key value c n k.0 k.1 (either (has_key contents key) (has_room contents) h)
     by false h = c
 stay_command contents number (Delete key) c n k = stay_removed contents key c
 stay_command contents number (Claim key value) c n k = by (not (has_key contents key) && has_room contents) refl
   where
-    by : (b : Bool) → (not (has_key contents key) && has_room contents) ≡ b → IsContents (cond b (with_setting contents key (record { number = number; value = value })) contents)
+    by : (b : Bool) → (not (has_key contents key) && has_room contents) ≡ b
+        → IsContents (cond b (with_setting contents key (record { number = number; value = value })) contents)
     by true h = stay_set contents number key value c n k.0 k.1 (inr (second (not (has_key contents key)) (has_room contents) h))
     by false h = c
 

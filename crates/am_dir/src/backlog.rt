@@ -96,7 +96,8 @@ impl Backlog {
         number: u32,
         entry: &Entry,
     ) -> Result<Option<Directory>, NoMemory>
-        ensures { IfOk result (λ found. found ≡ with_held (held_with (waiting_in self.now).held number entry.now)
+        ensures { IfOk result (λ found. found
+            ≡ with_held (held_with (waiting_in self.now).held number entry.now)
             (snapshot_for start (after_entry (waiting_in self.now).assembly entry.now).ended)) }
     {
         let Some(mut directory) = self.snapshot_with(alloc, start, entry)? else {
@@ -110,7 +111,8 @@ impl Backlog {
     /// Holds the body of an entry of a number, where it is a command.
     fn hold(&mut self, alloc: Global, number: u32, entry: &Entry) -> Result<Step, NoMemory>
         ensures step { IfOk result (λ step. step ≡ step_held entry.now) }
-        ensures held { OnOk result ((waiting_in self.new).held ≡ held_with (waiting_in self.old).held number entry.now) }
+        ensures held { OnOk result ((waiting_in self.new).held
+            ≡ held_with (waiting_in self.old).held number entry.now) }
         ensures same { (waiting_in self.new).assembly ≡ (waiting_in self.old).assembly }
         ensures err { OnErr result (waiting_in self.new ≡ waiting_in self.old) }
     {
@@ -127,7 +129,8 @@ impl Backlog {
     /// Takes the next entry, which ends no snapshot for the replica.
     pub fn take(&mut self, alloc: Global, number: u32, entry: &Entry) -> Result<Step, NoMemory>
         ensures step { IfOk result (λ step. step ≡ step_held entry.now) }
-        ensures taken { OnOk result (waiting_in self.new ≡ waiting_with (waiting_in self.old) number entry.now) }
+        ensures taken { OnOk result (waiting_in self.new
+            ≡ waiting_with (waiting_in self.old) number entry.now) }
         ensures err { OnErr result (waiting_in self.new ≡ waiting_in self.old) }
     {
         let step = self.hold(alloc, number, entry)?;

@@ -91,7 +91,8 @@ fn keyed(kind: u8, key: &[u8]) -> Option<Body>
 /// A kind, a key and a value as a body; None where the key or the value is outside its limits.
 fn valued(kind: u8, key: &[u8], value: &[u8]) -> Option<Body>
     ensures variant { IsSome result ↔ (IsKey key.now × IsValue value.now) }
-    ensures value { IfSome result (λ body. body ≡ kind ∷ field_bytes key.now ++ field_bytes value.now) }
+    ensures value { IfSome result (λ body. body
+        ≡ kind ∷ field_bytes key.now ++ field_bytes value.now) }
 {
     if !is_key(key) || MOST_VALUE < value.len() {
         return None;

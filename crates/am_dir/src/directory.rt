@@ -112,8 +112,10 @@ impl Directory {
     fn put(&mut self, number: u32, key: &[u8], value: &[u8]) -> Result<Applied, NoMemory>
         requires key { IsKey key.now }
         requires value { IsValue value.now }
-        ensures answer { IfOk result (λ answer. answer ≡ answer_to self.old (Put key.now value.now)) }
-        ensures applied { OnOk result (self.new ≡ after_command self.old number (Put key.now value.now)) }
+        ensures answer { IfOk result (λ answer. answer
+            ≡ answer_to self.old (Put key.now value.now)) }
+        ensures applied { OnOk result (self.new
+            ≡ after_command self.old number (Put key.now value.now)) }
         ensures err { OnErr result (self.new ≡ self.old) }
     {
         let was_there = self.has_key(key);
@@ -133,8 +135,10 @@ impl Directory {
     fn claim(&mut self, number: u32, key: &[u8], value: &[u8]) -> Result<Applied, NoMemory>
         requires key { IsKey key.now }
         requires value { IsValue value.now }
-        ensures answer { IfOk result (λ answer. answer ≡ answer_to self.old (Claim key.now value.now)) }
-        ensures applied { OnOk result (self.new ≡ after_command self.old number (Claim key.now value.now)) }
+        ensures answer { IfOk result (λ answer. answer
+            ≡ answer_to self.old (Claim key.now value.now)) }
+        ensures applied { OnOk result (self.new
+            ≡ after_command self.old number (Claim key.now value.now)) }
         ensures err { OnErr result (self.new ≡ self.old) }
     {
         if self.has_key(key) {
@@ -151,8 +155,10 @@ impl Directory {
     /// Applies a command that is within its limits.
     fn apply_command(&mut self, number: u32, command: &Command) -> Result<Applied, NoMemory>
         requires { IsCommand (command_from command.now) }
-        ensures answer { IfOk result (λ answer. answer ≡ answer_to self.old (command_from command.now)) }
-        ensures applied { OnOk result (self.new ≡ after_command self.old number (command_from command.now)) }
+        ensures answer { IfOk result (λ answer. answer
+            ≡ answer_to self.old (command_from command.now)) }
+        ensures applied { OnOk result (self.new
+            ≡ after_command self.old number (command_from command.now)) }
         ensures err { OnErr result (self.new ≡ self.old) }
     {
         match command {

@@ -13,3 +13,5 @@ pub mod setting;
 mod snapshots;
 mod spelling;
 pub mod step;
+#[cfg(test)]
+mod tests;

@@ -54,7 +54,7 @@ impl Replica {
         self.backlog.is_none()
     }
 
-    /// Its directory. Until it is ready that has no keys.
+    /// Its directory: once it is ready, what its node knows of the group's.
     pub fn directory(&self) -> &Directory
         ensures { result.now ≡ self.now.contents }
     {

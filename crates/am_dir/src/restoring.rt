@@ -58,7 +58,8 @@ fn setting_behind(key: Cut<'_>) -> Option<SettingRef<'_>>
 /// The first key with what it has, behind the last key; None where there is none.
 #[tactic(auto, unfolding(crate::specs::Snapshots::setting_in))]
 pub fn setting_in<'a>(last: Option<&'a [u8]>, bytes: &'a [u8]) -> Option<SettingRef<'a>>
-    ensures { option_map setting_read result ≡ setting_in (option_copied last.entry) bytes.entry.now }
+    ensures { option_map setting_read result
+        ≡ setting_in (option_copied last.entry) bytes.entry.now }
 {
     let key = field_in(bytes, 1, 32)?;
     if may_follow(last, key.field) {

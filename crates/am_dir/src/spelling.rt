@@ -28,7 +28,8 @@ pub fn push_head(bytes: &mut Vec<u8>, join: u32, count: usize) -> Result<(), NoM
 /// Adds a key with what it has.
 pub fn push_setting(bytes: &mut Vec<u8>, key: &[u8], setting: &Setting) -> Result<(), NoMemory>
     requires { IsKey key.now }
-    ensures { OnOk result (bytes.new.items ≡ bytes.old.items ++ setting_bytes (key.now, setting.now)) }
+    ensures { OnOk result (bytes.new.items
+        ≡ bytes.old.items ++ setting_bytes (key.now, setting.now)) }
 {
     push_field(bytes, key)?;
     bytes.extend_from_slice(&setting.number.to_be_bytes())?;

@@ -4,3 +4,4 @@
 pub mod counter;
 pub mod one_send;
 pub mod send_and_take;
+pub mod store;

@@ -1,5 +1,6 @@
 -- What replicas have in runs.
-use Rattle.std.proofs.Common.{◌≡◌, ◌≢◌, ℕ, zero, suc, ◌+◌, ◌≤◌, List, [], ◌∷◌, ◌++◌, length, take, Option, Some, None, Bool, true, false, cond, ◌==◌, slice_get, refl, sym, ap, ◌∙◌, subst, arith, ⊎_elim, inl, inr}
+use Rattle.std.proofs.Common.{◌≡◌, ◌≢◌, ℕ, zero, suc, ◌+◌, ◌≤◌, List, [], ◌∷◌, ◌++◌, length, take, Option, Some, None, Bool, true, false, cond, ◌==◌}
+use Rattle.std.proofs.Common.{slice_get, refl, sym, ap, ◌∙◌, subst, arith, ⊎_elim, inl, inr}
 use Rattle.std.specs.Option.{option_map}
 use Rattle.std.proofs.lemmas.Bool.{cases_eq}
 use Rattle.std.proofs.lemmas.Bool.Decides.{nat_tests}
@@ -11,7 +12,7 @@ use Rattle.am_group.specs.declared.event.Event.{Event}
 use Rattle.am_group.specs.Deliveries.{deliveries}
 use Rattle.am_group.specs.Journals.{item_at}
 use Rattle.am_model.specs.Node.{founders_view}
-use Rattle.am_play.specs.World.{World, start, run}
+use Rattle.am_play.specs.World.{World, start, happen, run}
 use Rattle.am_play.specs.Lawful.{lawful_front}
 use Rattle.am_play.specs.Claims.{BeginsAt, IsSegment, Segment}
 use Rattle.am_play.proofs.Beginnings.{runs_begin}
@@ -30,12 +31,14 @@ unfolding replica_contents
 piece_from_one given group piece =
     ap (λ (c : Contents). Some c) (goes_on given 0 group piece ∙ ap (λ (n : ℕ). contents_after group n) (sym (last_is given 0 group piece)))
 
-founder_holds : (rules : Rules) (w : World) (name : ℕ) (given : List (ℕ × Entry)) → Segment rules w → has rules.founders name ≡ true → given ≡ deliveries w.records name
+founder_holds : (rules : Rules) (w : World) (name : ℕ) (given : List (ℕ × Entry)) → Segment rules w → has rules.founders name ≡ true
+    → given ≡ deliveries w.records name
     → IsSegment given 1 w.group
 founder_holds rules w name [] s founder is = λ k number e at. absurd (cc)
 founder_holds rules w name (pair ∷ given) s founder is =
-    let piece = s.each name (λ none. let no : pair ∷ given ≡ [] = is ∙ none in absurd (cc)) in
-    let from : IsSegment (deliveries w.records name) 1 w.group = subst (λ (n : ℕ). IsSegment (deliveries w.records name) n w.group) (piece.1.founder founder) piece.2 in
+    let piece = s.each name (λ none. let never : pair ∷ given ≡ [] = is ∙ none in absurd (cc)) in
+    let from : IsSegment (deliveries w.records name) 1 w.group = subst (λ (n : ℕ). IsSegment (deliveries w.records name) n w.group) (piece.1.founder
+    founder) piece.2 in
     subst (λ (xs : List (ℕ × Entry)). IsSegment xs 1 w.group) (sym is) from
 
 pub founders_hold : FoundersHold
@@ -48,25 +51,29 @@ founders_hold rules events name may founder =
 
 -- the list begins with the founders' View, so nobody's Join is its first entry
 first_entry : (rules : Rules) (events : List Event) → item_at (run rules events).group 1 ≡ Some (founders_view rules)
-first_entry rules events = let b = (runs_begin rules events 0).group in ap (λ (es : List Entry). slice_get es 0) b.1
+unfolding happen
+first_entry rules events = let b = (runs_begin rules events 0).group in ap (λ (es : List Entry). item_at es 1) b.1
 
 not_first : (rules : Rules) (events : List Event) (name s : ℕ) → item_at (run rules events).group s ≡ Some (entries.Join name) → s ≡ 1 → ⊥
 not_first rules events name s joined one =
-    let there : item_at (run rules events).group 1 ≡ Some (entries.Join name) = subst (λ (n : ℕ). item_at (run rules events).group n ≡ Some (entries.Join name)) one joined in
-    let no : Some (founders_view rules) ≡ Some (entries.Join name) = sym (first_entry rules events) ∙ there in
+    let there : item_at (run rules events).group 1 ≡ Some (entries.Join name) = subst (λ (n : ℕ). item_at (run rules events).group n ≡ Some (entries.Join
+    name)) one joined in
+    let never : Some (founders_view rules) ≡ Some (entries.Join name) = sym (first_entry rules events) ∙ there in
     cc
 
 other_start : (s : ℕ) → (s ≡ 1 → ⊥) → (s == 1) ≡ false
-other_start s no = grind (arith, nat_tests)
+other_start s never = grind (arith, nat_tests)
 
 -- what was given from a Join on, with the contents at that Join
-from_join : (given : List (ℕ × Entry)) (group : List Entry) (name n : ℕ) → given ≢ [] → IsSegment given (suc n) group → item_at group (suc n) ≡ Some (entries.Join name)
+from_join : (given : List (ℕ × Entry)) (group : List Entry) (name n : ℕ) → given ≢ [] → IsSegment given (suc n) group
+    → item_at group (suc n) ≡ Some (entries.Join name)
     → contents_from (contents_after group (suc n)) given ≡ contents_up_to group given
 from_join [] group name n some piece joined = absurd (some refl)
 from_join (pair ∷ given) group name n some piece joined =
     let s = splits given pair n group piece in
     let is : pair.1 ≡ entries.Join name = let both : Some pair.1 ≡ Some (entries.Join name) = sym s.item ∙ joined in cc (both) in
-    let same : with_entry (contents_after group (suc n)) pair ≡ contents_after group (suc n) = ap (λ (e : Entry). with_entry (contents_after group (suc n)) (pair.0, e)) is in
+    let same : with_entry (contents_after group (suc n)) pair ≡ contents_after group (suc n) = ap (λ (e : Entry). with_entry (contents_after group (suc
+    n)) (pair.0, e)) is in
     let end : last_number pair.0 given ≡ suc n + length given = ap (λ (k : ℕ). last_number k given) s.number ∙ last_is given (suc n) group s.rest in
     ap (λ (c : Contents). contents_from c given) same ∙ goes_on given (suc n) group s.rest ∙ ap (λ (k : ℕ). contents_after group k) (sym end)
 
@@ -79,7 +86,8 @@ right_at : (given : List (ℕ × Entry)) (group : List Entry) (name s : ℕ) →
 right_at given group name zero some piece joined = absurd (cc)
 right_at given group name (suc n) some piece joined = from_join given group name n some piece joined
 
-joiner_holds : (given : List (ℕ × Entry)) (group : List Entry) (name s : ℕ) → given ≢ [] → (s == 1) ≡ false → IsSegment given s group → item_at group s ≡ Some (entries.Join name)
+joiner_holds : (given : List (ℕ × Entry)) (group : List Entry) (name s : ℕ) → given ≢ [] → (s == 1) ≡ false → IsSegment given s group
+    → item_at group s ≡ Some (entries.Join name)
     → JoinerHolds group given s
 joiner_holds given group name s some other piece joined = record {
   waits = (waits_till s given other, waits_so s given other);

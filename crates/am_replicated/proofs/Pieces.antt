@@ -1,5 +1,6 @@
 -- The contents after a piece of a list, which goes on where other contents end.
-use Rattle.std.proofs.Common.{◌≡◌, ℕ, zero, suc, ◌+◌, ◌-◌, ◌≤◌, List, [], ◌∷◌, ◌++◌, length, take, Option, Some, None, slice_get, refl, sym, ap, ◌∙◌, subst, arith, add-zero}
+use Rattle.std.proofs.Common.{◌≡◌, ℕ, zero, suc, ◌+◌, ◌-◌, ◌≤◌, List, [], ◌∷◌, ◌++◌, length, take, Option, Some, None, slice_get, refl, sym, ap, ◌∙◌}
+use Rattle.std.proofs.Common.{subst, arith, add-zero}
 use Rattle.std.specs.List.{fold, enumerate_from}
 use Rattle.am_base.specs.declared.entry.Entry.{Entry}
 use Rattle.am_group.specs.Journals.{item_at}
@@ -24,7 +25,8 @@ enumerate_push from (y ∷ xs) x =
     ap (λ (ps : List (ℕ × Entry)). (from, y) ∷ ps) (enumerate_push (from + 1) xs x
     ∙ ap (λ (n : ℕ). enumerate_from (from + 1) xs ++ (n, x) ∷ []) (let e : from + 1 + length xs ≡ from + suc (length xs) = omega arith in e))
 
-pub contents_more : (list : List Entry) (n : ℕ) (e : Entry) → slice_get list n ≡ Some e → contents_after list (suc n) ≡ with_entry (contents_after list n) (suc n, e)
+pub contents_more : (list : List Entry) (n : ℕ) (e : Entry) → slice_get list n ≡ Some e
+    → contents_after list (suc n) ≡ with_entry (contents_after list n) (suc n, e)
 contents_more list n e h =
     let u = up_to list n e h in
     let number : 1 + length (take n list) ≡ suc n = omega (arith, u.long) in
@@ -58,7 +60,7 @@ goes_on [] n list piece = ap (λ (k : ℕ). contents_after list k) (sym (add-zer
 goes_on (pair ∷ given) n list piece =
     let s = splits given pair n list piece in
     let next : with_entry (contents_after list n) pair ≡ contents_after list (suc n)
-        = ap (λ (k : ℕ). with_entry (contents_after list n) (k, pair.1)) s.number ∙ sym (contents_more list n pair.1 s.item) in
+    = ap (λ (k : ℕ). with_entry (contents_after list n) (k, pair.1)) s.number ∙ sym (contents_more list n pair.1 s.item) in
     ap (λ (c : Contents). contents_from c given) next ∙ goes_on given (suc n) list s.rest
     ∙ ap (λ (k : ℕ). contents_after list k) (let e : suc n + length given ≡ n + suc (length given) = omega arith in e)
 

@@ -1,5 +1,6 @@
 -- A replica waits just as long as no snapshot for its start ended.
-use Rattle.std.proofs.Common.{◌≡◌, ◌≢◌, ℕ, zero, suc, ◌+◌, ◌≤◌, ◌<◌, List, [], ◌∷◌, ◌++◌, length, take, Option, Some, None, Bool, true, false, cond, ◌==◌, refl, sym, ap, ◌∙◌, subst, arith, append_assoc}
+use Rattle.std.proofs.Common.{◌≡◌, ◌≢◌, ℕ, zero, suc, ◌+◌, ◌≤◌, ◌<◌, List, [], ◌∷◌, ◌++◌, length, take, Option, Some, None, Bool, true, false, cond}
+use Rattle.std.proofs.Common.{◌==◌, refl, sym, ap, ◌∙◌, subst, arith, append_assoc}
 use Rattle.std.specs.Option.{option_map}
 use Rattle.std.proofs.lemmas.Bool.Decides.{nat_tests}
 use Rattle.am_base.specs.declared.entry.Entry.{Entry}
@@ -18,7 +19,8 @@ for_join_is : (start : ℕ) (contents : Contents) → for_join start (Some (star
 for_join_is start contents = ap (λ (b : Bool). cond b (Some contents) None) (eq_same start)
 
 -- what is no snapshot for the start
-pub no_snapshot : (start : ℕ) (message : List ℕ) (contents : Contents) → for_join start (snapshot_in message) ≡ None → snapshot_in message ≡ Some (start, contents) → ⊥
+pub no_snapshot : (start : ℕ) (message : List ℕ) (contents : Contents) → for_join start (snapshot_in message) ≡ None
+    → snapshot_in message ≡ Some (start, contents) → ⊥
 no_snapshot start message contents none is =
     let some : Some contents ≡ None = sym (for_join_is start contents) ∙ ap (λ (o : Option (ℕ × Contents)). for_join start o) (sym is) ∙ none in
     cc
@@ -45,7 +47,8 @@ or_none (Some x) p h = absurd (cc)
 pub none_found : (start : ℕ) (before rest : List Entry) → first_behind start before rest ≡ None → (k : ℕ) → k < length rest
     → snapshot_for start (message_at (before ++ take (suc k) rest)) ≡ None
 none_found start before [] h k below = absurd (omega arith)
-none_found start before (e ∷ rest) h zero below = (or_none (snapshot_for start (message_at (before ++ e ∷ []))) (first_behind start (before ++ e ∷ []) rest) h).0
+none_found start before (e ∷ rest) h zero below = (or_none (snapshot_for start (message_at (before ++ e ∷ []))) (first_behind start (before ++ e ∷ [])
+    rest) h).0
 none_found start before (e ∷ rest) h (suc k) below =
     let o = or_none (snapshot_for start (message_at (before ++ e ∷ []))) (first_behind start (before ++ e ∷ []) rest) h in
     ap (λ (es : List Entry). snapshot_for start (message_at es)) (sym (append_assoc before (e ∷ []) (take (suc k) rest)))
@@ -58,7 +61,8 @@ found_none start before [] none = refl
 found_none start before (e ∷ rest) none =
     let first : snapshot_for start (message_at (before ++ e ∷ [])) ≡ None = none 0 (omega arith) in
     let others = found_none start (before ++ e ∷ []) rest (λ k below.
-        ap (λ (es : List Entry). snapshot_for start (message_at es)) (append_assoc before (e ∷ []) (take (suc k) rest)) ∙ none (suc k) (omega (arith, below))) in
+    ap (λ (es : List Entry). snapshot_for start (message_at es)) (append_assoc before (e ∷ []) (take (suc k) rest))
+    ∙ none (suc k) (omega (arith, below))) in
     ap (λ (o : Option Contents). or_else o (first_behind start (before ++ e ∷ []) rest)) first ∙ others
 
 length_entries : (given : List (ℕ × Entry)) → length (entries_of given) ≡ length given
@@ -69,39 +73,44 @@ at_none : message_at [] ≡ None
 unfolding message_at
 at_none = refl
 
-no_message : (start name k : ℕ) (given : List (ℕ × Entry)) (message : List ℕ) (contents : Contents) → first_behind start [] (entries_of given) ≡ None → k ≤ length given
+no_message : (start name k : ℕ) (given : List (ℕ × Entry)) (message : List ℕ) (contents : Contents) → first_behind start [] (entries_of given) ≡ None
+    → k ≤ length given
     → message_at (take k (entries_of given)) ≡ Some (name, message) → snapshot_in message ≡ Some (start, contents) → ⊥
-no_message start name zero given message contents none below ends is = let no : None ≡ Some (name, message) = sym at_none ∙ ends in cc
+no_message start name zero given message contents none below ends is =
+    let never : ◌≡◌ {A = Option (ℕ × List ℕ)} None (Some (name, message)) = sym at_none ∙ ends in absurd (cc)
 no_message start name (suc k) given message contents none below ends is =
     let nothing = none_found start [] (entries_of given) none k (omega (arith, below, length_entries given)) in
     no_snapshot start message contents (ap (λ (o : Option (ℕ × List ℕ)). snapshot_for start o) (sym ends) ∙ nothing) is
 
-no_contents : (start : ℕ) (o : Option (ℕ × List ℕ)) → ((name : ℕ) (message : List ℕ) (contents : Contents) → o ≡ Some (name, message) → snapshot_in message ≡ Some (start, contents) → ⊥)
+no_contents : (start : ℕ) (o : Option (ℕ × List ℕ)) → ((name : ℕ) (message : List ℕ) (contents : Contents) → o ≡ Some (name, message)
+    → snapshot_in message ≡ Some (start, contents) → ⊥)
     → snapshot_for start o ≡ None
-no_contents start None no = refl
-no_contents start (Some message) no = by (for_join start (snapshot_in message.1)) refl
+no_contents start None never = refl
+no_contents start (Some message) never = by (for_join start (snapshot_in message.1)) refl
   where
     by : (o : Option Contents) → for_join start (snapshot_in message.1) ≡ o → o ≡ None
     by None h = refl
-    by (Some contents) h = absurd (no message.0 message.1 contents refl (joined_is start (snapshot_in message.1) contents h))
+    by (Some contents) h = absurd (never message.0 message.1 contents refl (joined_is start (snapshot_in message.1) contents h))
 
 -- nothing is found exactly where no snapshot for the start ended
 pub nothing_first : (start : ℕ) (given : List (ℕ × Entry)) → first_behind start [] (entries_of given) ≡ None → NoSnapshot start given
 nothing_first start given none k name message contents below ends is = no_message start name k given message contents none below ends is
 
 pub nothing_ended : (start : ℕ) (given : List (ℕ × Entry)) → NoSnapshot start given → first_behind start [] (entries_of given) ≡ None
-nothing_ended start given no = found_none start [] (entries_of given) (λ k below.
+nothing_ended start given never = found_none start [] (entries_of given) (λ k below.
     no_contents start (message_at (take (suc k) (entries_of given))) (λ name message contents ends is.
-    no (suc k) name message contents (omega (arith, below, length_entries given)) ends is))
+    never (suc k) name message contents (omega (arith, below, length_entries given)) ends is))
 
 map_none : {A B : Type 0} (f : A → B) (o : Option A) → option_map f o ≡ None → o ≡ None
 map_none f None h = refl
 map_none f (Some x) h = absurd (cc)
 
 -- what the definition says of who joined
-pub joiner_is : (start : ℕ) (given : List (ℕ × Entry)) → (start == 1) ≡ false → replica_contents start given ≡ option_map (λ c. contents_from c given) (first_snapshot start given)
+pub joiner_is : (start : ℕ) (given : List (ℕ × Entry)) → (start == 1) ≡ false
+    → replica_contents start given ≡ option_map (λ c. contents_from c given) (first_snapshot start given)
 unfolding replica_contents
-joiner_is start given other = ap (λ (b : Bool). cond b (Some (contents_from [] given)) (option_map (λ c. contents_from c given) (first_snapshot start given))) other
+joiner_is start given other = ap (λ (b : Bool). cond b (Some (contents_from [] given)) (option_map (λ c. contents_from c given) (first_snapshot start
+    given))) other
 
 pub waits_till : (start : ℕ) (given : List (ℕ × Entry)) → (start == 1) ≡ false → replica_contents start given ≡ None → NoSnapshot start given
 unfolding first_snapshot
@@ -110,5 +119,5 @@ waits_till start given other none =
 
 pub waits_so : (start : ℕ) (given : List (ℕ × Entry)) → (start == 1) ≡ false → NoSnapshot start given → replica_contents start given ≡ None
 unfolding first_snapshot
-waits_so start given other no =
-    joiner_is start given other ∙ ap (λ (o : Option Contents). option_map (λ c. contents_from c given) o) (nothing_ended start given no)
+waits_so start given other never =
+    joiner_is start given other ∙ ap (λ (o : Option Contents). option_map (λ c. contents_from c given) o) (nothing_ended start given never)

@@ -28,7 +28,8 @@ contents_up_to group given = contents_after group (front_of given)
 
 -- no message that ends in what was given is a snapshot for this Join
 abbrev pub NoSnapshot : ℕ → List (ℕ × Entry) → Type 0
-NoSnapshot start given = (k name : ℕ) (message : List ℕ) (contents : Contents) → k ≤ length given → message_at (take k (entries_of given)) ≡ Some (name, message)
+NoSnapshot start given = (k name : ℕ) (message : List ℕ) (contents : Contents) → k ≤ length given
+    → message_at (take k (entries_of given)) ≡ Some (name, message)
     → snapshot_in message ≢ Some (start, contents)
 
 -- ---- who founded the group

@@ -1,4 +1,5 @@
-use Rattle.std.proofs.Common.{rules, ◌≡◌, ℕ, ◌+◌, ◌-◌, ◌*◌, ◌<◌, ◌≤◌, length, Bool, true, false, cond, List, [], ◌∷◌, ◌++◌, Vec, Global, Bor, MutBor, Option, Some, None, sym, ap, ◌∙◌, subst, refl, arith, inl, inr, take}
+use Rattle.std.proofs.Common.{rules, ◌≡◌, ℕ, ◌+◌, ◌-◌, ◌*◌, ◌<◌, ◌≤◌, length, Bool, true, false, cond, List, [], ◌∷◌, ◌++◌, Vec, Global, Bor, MutBor}
+use Rattle.std.proofs.Common.{Option, Some, None, sym, ap, ◌∙◌, subst, refl, arith, inl, inr, take}
 use Rattle.std.proofs.lemmas.List.{take_all}
 use Rattle.am_dir.specs.declared.backlog.HeldCommand.{HeldCommand}
 use Rattle.am_dir.specs.Contents.{applied}
@@ -11,8 +12,10 @@ pub loop-at-init : goal.loop-at-init
 loop-at-init c = refl
 
 pub loop-at-preserved : goal.loop-at-preserved
-loop-at-preserved c = held_step c.args.directory.now c.args.held.now c.loop-at.at c.index-held-at.result c.loop-at.directory c.apply.new.self c.loop-at.invariant c.loop-at-test.true c.index-held-at.is
+loop-at-preserved c = held_step c.args.directory.now c.args.held.now c.loop-at.at c.index-held-at.result c.loop-at.directory c.apply.new.self
+    c.loop-at.invariant c.loop-at-test.true c.index-held-at.is
     (c.in_ok-apply.ensures.applied ∙ ap (λ (b : List ℕ). applied c.loop-at.directory c.index-held-at.result.number b) c.bytes.ensures.value)
 
 pub returns : goal.returns
-returns c = c.loop-at.invariant ∙ ap (λ (h : List HeldCommand). apply_held c.args.directory.now (held_in h)) (take_all c.loop-at.at c.args.held.now c.loop-at-test.false)
+returns c = c.loop-at.invariant ∙ ap (λ (h : List HeldCommand). apply_held c.args.directory.now (held_in h)) (take_all c.loop-at.at c.args.held.now
+    c.loop-at-test.false)

@@ -1,4 +1,5 @@
-use Rattle.std.proofs.Common.{rules, ◌≡◌, ℕ, ◌+◌, ◌≤◌, length, Bool, true, false, cond, List, [], ◌∷◌, ◌++◌, Option, Some, None, IfOk, OnOk, sym, ap, ◌∙◌, subst, refl, arith}
+use Rattle.std.proofs.Common.{rules, ◌≡◌, ℕ, ◌+◌, ◌≤◌, length, Bool, true, false, cond, List, [], ◌∷◌, ◌++◌, Option, Some, None, IfOk, OnOk, sym, ap}
+use Rattle.std.proofs.Common.{◌∙◌, subst, refl, arith}
 use Rattle.am_seg.specs.Assembling.{after_entry}
 use Rattle.am_dir.specs.declared.backlog.HeldCommand.{HeldCommand}
 use Rattle.am_dir.specs.Contents.{Contents, with_entry}
@@ -10,7 +11,8 @@ use Rattle.am_dir.proofs.backlog.Backlog.restored.Goals as goal
 pub returns : goal.returns
 returns c =
     let held : List (ℕ × List ℕ) = held_in c.args.self.now.held.items in
-    let found : Some c.in-Some.directory ≡ snapshot_for c.args.start (after_entry c.args.self.now.assembler c.args.entry.now).ended = sym c.in-Some.is ∙ c.in_ok-directory.ensures in
+    let found : Some c.in-Some.directory ≡ snapshot_for c.args.start (after_entry c.args.self.now.assembler c.args.entry.now).ended = sym c.in-Some.is
+    ∙ c.in_ok-directory.ensures in
     let before : c.apply_held.new.directory ≡ apply_held c.in-Some.directory held = c.in_ok-apply_held.ensures
     ∙ ap (λ (h : List HeldCommand). apply_held c.in-Some.directory (held_in h)) c.as_slice.ensures.value in
     ap (λ (d : Contents). Some d) (c.in_ok-apply_entry.ensures.applied ∙ ap (λ (d : Contents). with_entry d (c.args.number, c.args.entry.now)) before

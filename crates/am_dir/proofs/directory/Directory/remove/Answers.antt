@@ -1,4 +1,5 @@
-use Rattle.std.proofs.Common.{rules, ◌≡◌, ℕ, ◌+◌, ◌-◌, ◌*◌, ◌<◌, ◌≤◌, length, Bool, true, false, cond, List, [], ◌∷◌, ◌++◌, Vec, Global, Bor, MutBor, Option, Some, None, sym, ap, ◌∙◌, subst, refl, arith, inl, inr, take}
+use Rattle.std.proofs.Common.{rules, ◌≡◌, ℕ, ◌+◌, ◌-◌, ◌*◌, ◌<◌, ◌≤◌, length, Bool, true, false, cond, List, [], ◌∷◌, ◌++◌, Vec, Global, Bor, MutBor}
+use Rattle.std.proofs.Common.{Option, Some, None, sym, ap, ◌∙◌, subst, refl, arith, inl, inr, take}
 use Rattle.am_dir.specs.Contents.{Contents, without_key}
 use Rattle.am_dir.specs.Kept.{contents_in, IsDirectory}
 use Rattle.am_dir.proofs.Entries.{found_entry, removed_entry}
@@ -7,10 +8,12 @@ use Rattle.std.specs.Option.{is_some}
 use Rattle.am_dir.proofs.directory.Directory.remove.Goals as goal
 
 pub returns-clause-removed : goal.returns-clause-removed
-returns-clause-removed c = removed_entry c.self.inside.map.entries c.remove.new.self.entries c.args.self.now c.args.key.now c.remove.ensures.entries c.self.view_is
+returns-clause-removed c = removed_entry c.self.inside.map.entries c.remove.new.self.entries c.args.self.now c.args.key.now c.remove.ensures.entries
+    c.self.view_is
 
 pub returns-clause-was : goal.returns-clause-was
-returns-clause-was c = c.is_some.ensures ∙ ap (λ o. is_some o) (found_entry c.self.inside.map.entries c.args.self.now c.args.key.now c.remove.result c.remove.ensures.value c.self.view_is)
+returns-clause-was c = c.is_some.ensures ∙ ap (λ o. is_some o) (found_entry c.self.inside.map.entries c.args.self.now c.args.key.now c.remove.result
+    c.remove.ensures.value c.self.view_is)
 
 pub invariant_of-self : goal.invariant_of-self
 invariant_of-self c =

@@ -1,4 +1,5 @@
-use Rattle.std.proofs.Common.{rules, ◌≡◌, ℕ, ◌+◌, ◌-◌, ◌*◌, ◌<◌, ◌≤◌, length, Bool, true, false, cond, List, [], ◌∷◌, ◌++◌, Vec, Global, Bor, MutBor, Option, Some, None, sym, ap, ◌∙◌, subst, refl, arith, inl, inr, take}
+use Rattle.std.proofs.Common.{rules, ◌≡◌, ℕ, ◌+◌, ◌-◌, ◌*◌, ◌<◌, ◌≤◌, length, Bool, true, false, cond, List, [], ◌∷◌, ◌++◌, Vec, Global, Bor, MutBor}
+use Rattle.std.proofs.Common.{Option, Some, None, sym, ap, ◌∙◌, subst, refl, arith, inl, inr, take}
 use Rattle.std.specs.Option.{option_copied}
 use Rattle.am_dir.specs.Contents.{Contents}
 use Rattle.am_dir.specs.Commands.{is_empty}
@@ -10,10 +11,12 @@ use Rattle.am_dir.proofs.directory.Directory.restore_keys.Goals as goal
 use Rattle.am_dir.proofs.directory.Directory.restore_keys.Goals.{then-is_empty, else-is_empty}
 
 pub loop-init : goal.loop-init
-loop-init c = subst (λ (d : Contents). Restored c.args.count c.args.bytes.now 0 None c.args.bytes.now d) (sym c.new-directory.ensures) (restored_first c.args.count c.args.bytes.now)
+loop-init c = subst (λ (d : Contents). Restored c.args.count c.args.bytes.now 0 None c.args.bytes.now d) (sym c.new-directory.ensures) (restored_first
+    c.args.count c.args.bytes.now)
 
 pub returns-in_default : goal.returns-in_default
-returns-in_default c = restored_none c.args.count c.args.bytes.now c.loop.counter (option_copied c.loop.last) c.loop.rest.now c.loop.directory c.loop.invariant c.loop-test.true (sym c.in_default.ensures)
+returns-in_default c = restored_none c.args.count c.args.bytes.now c.loop.counter (option_copied c.loop.last) c.loop.rest.now c.loop.directory
+    c.loop.invariant c.loop-test.true (sym c.in_default.ensures)
 
 pub set-requires-clause-key : goal.set-requires-clause-key
 set-requires-clause-key c = (read_within (option_copied c.loop.last) c.loop.rest.now (setting_read c.in-Some.read) (sym c.in-Some.ensures)).key
@@ -22,14 +25,17 @@ pub set-requires-clause-value : goal.set-requires-clause-value
 set-requires-clause-value c = (read_within (option_copied c.loop.last) c.loop.rest.now (setting_read c.in-Some.read) (sym c.in-Some.ensures)).value
 
 pub set-requires-clause-room : goal.set-requires-clause-room
-set-requires-clause-room c = inr (restored_room c.args.count c.args.bytes.now c.loop.counter (option_copied c.loop.last) c.loop.rest.now c.loop.directory c.loop.invariant c.loop-test.true c.requires)
+set-requires-clause-room c = inr (restored_room c.args.count c.args.bytes.now c.loop.counter (option_copied c.loop.last) c.loop.rest.now c.loop.directory
+    c.loop.invariant c.loop-test.true c.requires)
 
 pub loop-preserved : goal.loop-preserved
-loop-preserved c = restored_more c.args.count c.args.bytes.now c.loop.counter (option_copied c.loop.last) c.loop.rest.now c.loop.directory c.set.new.self (setting_read c.in-Some.read) c.loop.invariant c.loop-test.true (sym c.in-Some.ensures) c.in_ok-set.ensures.set
+loop-preserved c = restored_more c.args.count c.args.bytes.now c.loop.counter (option_copied c.loop.last) c.loop.rest.now c.loop.directory c.set.new.self
+    (setting_read c.in-Some.read) c.loop.invariant c.loop-test.true (sym c.in-Some.ensures) c.in_ok-set.ensures.set
 
 pub returns : goal.returns
 returns c =
-    let all = restored_all c.args.count c.args.bytes.now c.loop.counter (option_copied c.loop.last) c.loop.rest.now c.loop.directory c.loop.invariant c.loop-test.false in
+    let all = restored_all c.args.count c.args.bytes.now c.loop.counter (option_copied c.loop.last) c.loop.rest.now c.loop.directory c.loop.invariant
+    c.loop-test.false in
     let test : c.is_empty.result ≡ is_empty c.loop.rest.now = c.is_empty.ensures ∙ is_empty_by_length c.loop.rest.now in
     elim c.if-is_empty.branch [
       | then-is_empty w ↦ w.result-is ∙ ap (λ (b : Bool). cond b (Some c.loop.directory) None) (sym w.if-is_empty.true ∙ test) ∙ all

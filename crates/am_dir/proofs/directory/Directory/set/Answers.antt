@@ -1,4 +1,5 @@
-use Rattle.std.proofs.Common.{rules, ◌≡◌, ℕ, ◌+◌, ◌-◌, ◌*◌, ◌<◌, ◌≤◌, length, Bool, true, false, cond, List, [], ◌∷◌, ◌++◌, Vec, Global, Bor, MutBor, Option, Some, None, sym, ap, ◌∙◌, subst, refl, arith, inl, inr, take}
+use Rattle.std.proofs.Common.{rules, ◌≡◌, ℕ, ◌+◌, ◌-◌, ◌*◌, ◌<◌, ◌≤◌, length, Bool, true, false, cond, List, [], ◌∷◌, ◌++◌, Vec, Global, Bor, MutBor}
+use Rattle.std.proofs.Common.{Option, Some, None, sym, ap, ◌∙◌, subst, refl, arith, inl, inr, take}
 use Rattle.am_dir.specs.Contents.{Contents, with_setting}
 use Rattle.am_dir.specs.Kept.{contents_in, IsDirectory}
 use Rattle.am_dir.proofs.Entries.{set_entry}
@@ -6,11 +7,14 @@ use Rattle.am_dir.proofs.Keeping.{set_is}
 use Rattle.am_dir.proofs.directory.Directory.set.Goals as goal
 
 pub returns-clause-set : goal.returns-clause-set
-returns-clause-set c = set_entry c.self.inside.map.entries c.insert.new.self.entries c.args.self.now c.in_ok-key.key c.args.key.now c.args.setting c.in_ok-insert.ensures.entries c.self.view_is c.in_ok-key.ensures.items
+returns-clause-set c = set_entry c.self.inside.map.entries c.insert.new.self.entries c.args.self.now c.in_ok-key.key c.args.key.now c.args.setting
+    c.in_ok-insert.ensures.entries c.self.view_is c.in_ok-key.ensures.items
 
 pub invariant_of-self-2 : goal.invariant_of-self-2
 invariant_of-self-2 c =
     let new : contents_in c.insert.new.self.entries ≡ with_setting c.args.self.now c.args.key.now c.args.setting =
-    set_entry c.self.inside.map.entries c.insert.new.self.entries c.args.self.now c.in_ok-key.key c.args.key.now c.args.setting c.in_ok-insert.ensures.entries c.self.view_is c.in_ok-key.ensures.items in
+    set_entry c.self.inside.map.entries c.insert.new.self.entries c.args.self.now c.in_ok-key.key c.args.key.now c.args.setting
+    c.in_ok-insert.ensures.entries c.self.view_is c.in_ok-key.ensures.items in
     let old : IsDirectory c.args.self.now = subst (λ (contents : Contents). IsDirectory contents) c.self.view_is c.self.invariant in
-    subst (λ (contents : Contents). IsDirectory contents) (sym new) (set_is c.args.self.now c.args.key.now c.args.setting old c.requires.key c.requires.value c.requires.room)
+    subst (λ (contents : Contents). IsDirectory contents) (sym new) (set_is c.args.self.now c.args.key.now c.args.setting old c.requires.key
+    c.requires.value c.requires.room)

@@ -1,4 +1,5 @@
-use Rattle.std.proofs.Common.{rules, ◌≡◌, ℕ, ◌+◌, ◌≤◌, length, Bool, true, false, cond, List, [], ◌∷◌, ◌++◌, Option, Some, None, IfOk, OnOk, sym, ap, ◌∙◌, subst, refl, arith}
+use Rattle.std.proofs.Common.{rules, ◌≡◌, ℕ, ◌+◌, ◌≤◌, length, Bool, true, false, cond, List, [], ◌∷◌, ◌++◌, Option, Some, None, IfOk, OnOk, sym, ap}
+use Rattle.std.proofs.Common.{◌∙◌, subst, refl, arith}
 use Rattle.am_seg.specs.Assembling.{after_entry}
 use Rattle.am_dir.specs.declared.backlog.Backlog.{Backlog}
 use Rattle.am_dir.specs.declared.step.Step.{Step}
@@ -20,7 +21,11 @@ returns-in_default-clause-step c =
 pub returns-in_default-clause-fed : goal.returns-in_default-clause-fed
 returns-in_default-clause-fed c =
     let none : (state_of c.self.inside).waiting ≡ None = ap (λ (b : Option Backlog). option_map waiting_in b) c.in_default.is in
-    on_ok c.apply_entry.result (λ is. ap (λ (d : Contents). record { start = c.self.inside.start; waiting = option_map waiting_in c.self.inside.backlog; contents = d }) is
+    on_ok c.apply_entry.result (λ is. ap (λ (d : Contents). record {
+      start = c.self.inside.start;
+      waiting = option_map waiting_in c.self.inside.backlog;
+      contents = d;
+    }) is
     ∙ sym (fed_ready (state_of c.self.inside) c.args.number c.args.entry.now none)
     ∙ ap (λ (s : ReplicaState). fed s c.args.number c.args.entry.now) c.self.view_is) c.apply_entry.ensures.applied
 
@@ -29,7 +34,8 @@ returns-in-None-clause-step c =
     let w : Waiting = waiting_in c.in-Some.backlog in
     let waits : (state_of c.self.inside).waiting ≡ Some w = ap (λ (b : Option Backlog). option_map waiting_in b) c.in-Some.is in
     let none : snapshot_for c.self.inside.start (after_entry w.assembly c.args.entry.now).ended ≡ None
-    = held_none (held_with w.held c.args.number c.args.entry.now) (snapshot_for c.self.inside.start (after_entry w.assembly c.args.entry.now).ended) (sym c.in_ok-restored.ensures ∙ c.in-None.is) in
+    = held_none (held_with w.held c.args.number c.args.entry.now) (snapshot_for c.self.inside.start (after_entry w.assembly c.args.entry.now).ended) (sym
+    c.in_ok-restored.ensures ∙ c.in-None.is) in
     let e : step_held c.args.entry.now ≡ step_of c.args.self.now c.args.entry.now
     = sym (step_on (state_of c.self.inside) c.args.entry.now w None waits none) ∙ ap (λ (s : ReplicaState). step_of s c.args.entry.now) c.self.view_is in
     subst (λ (x : Step). IfOk c.take.result (λ step. step ≡ x)) e c.take.ensures.step
@@ -39,7 +45,8 @@ returns-in-None-clause-fed c =
     let w : Waiting = waiting_in c.in-Some.backlog in
     let waits : (state_of c.self.inside).waiting ≡ Some w = ap (λ (b : Option Backlog). option_map waiting_in b) c.in-Some.is in
     let none : snapshot_for c.self.inside.start (after_entry w.assembly c.args.entry.now).ended ≡ None
-    = held_none (held_with w.held c.args.number c.args.entry.now) (snapshot_for c.self.inside.start (after_entry w.assembly c.args.entry.now).ended) (sym c.in_ok-restored.ensures ∙ c.in-None.is) in
+    = held_none (held_with w.held c.args.number c.args.entry.now) (snapshot_for c.self.inside.start (after_entry w.assembly c.args.entry.now).ended) (sym
+    c.in_ok-restored.ensures ∙ c.in-None.is) in
     on_ok c.take.result (λ is. ap (λ (x : Waiting). record { start = c.self.inside.start; waiting = Some x; contents = c.self.inside.directory }) is
     ∙ sym (fed_on (state_of c.self.inside) c.args.number c.args.entry.now w None waits none)
     ∙ ap (λ (s : ReplicaState). fed s c.args.number c.args.entry.now) c.self.view_is) c.take.ensures.taken
@@ -48,7 +55,8 @@ pub returns-in-Some-2-clause-step : goal.returns-in-Some-2-clause-step
 returns-in-Some-2-clause-step c =
     let w : Waiting = waiting_in c.in-Some.backlog in
     let waits : (state_of c.self.inside).waiting ≡ Some w = ap (λ (b : Option Backlog). option_map waiting_in b) c.in-Some.is in
-    let m = mapped (snapshot_for c.self.inside.start (after_entry w.assembly c.args.entry.now).ended) (λ d. apply_held d (held_with w.held c.args.number c.args.entry.now)) c.in-Some-2.directory
+    let m = mapped (snapshot_for c.self.inside.start (after_entry w.assembly c.args.entry.now).ended) (λ d. apply_held d (held_with w.held c.args.number
+    c.args.entry.now)) c.in-Some-2.directory
     (sym c.in_ok-restored.ensures ∙ c.in-Some-2.is) in
     sym (step_on (state_of c.self.inside) c.args.entry.now w (Some m.0) waits m.1) ∙ ap (λ (s : ReplicaState). step_of s c.args.entry.now) c.self.view_is
 
@@ -56,7 +64,8 @@ pub returns-in-Some-2-clause-fed : goal.returns-in-Some-2-clause-fed
 returns-in-Some-2-clause-fed c =
     let w : Waiting = waiting_in c.in-Some.backlog in
     let waits : (state_of c.self.inside).waiting ≡ Some w = ap (λ (b : Option Backlog). option_map waiting_in b) c.in-Some.is in
-    let m = mapped (snapshot_for c.self.inside.start (after_entry w.assembly c.args.entry.now).ended) (λ d. apply_held d (held_with w.held c.args.number c.args.entry.now)) c.in-Some-2.directory
+    let m = mapped (snapshot_for c.self.inside.start (after_entry w.assembly c.args.entry.now).ended) (λ d. apply_held d (held_with w.held c.args.number
+    c.args.entry.now)) c.in-Some-2.directory
     (sym c.in_ok-restored.ensures ∙ c.in-Some-2.is) in
     ap (λ (d : Contents). record { start = c.self.inside.start; waiting = None; contents = d }) (sym m.2)
     ∙ sym (fed_on (state_of c.self.inside) c.args.number c.args.entry.now w (Some m.0) waits m.1)

@@ -1,0 +1,73 @@
+use am_base::NoMemory;
+use am_base::name::Name;
+use am_dir::command::Command;
+use am_dir::replica::Replica;
+use am_group::delivered::given_to;
+use am_group::event::{Act, Event};
+use am_world::world::{World, WorldRefusal};
+use std::alloc::Global;
+
+/// A place takes what comes next, and its replica is fed with that; whether there was something.
+pub fn take(world: &mut World, place: Name, replica: &mut Replica) -> Result<bool, WorldRefusal> {
+    world.step(&Event {
+        node: place,
+        act: Act::Take,
+    })?;
+    let name = world.name_at(place);
+    let Some(last) = world.journal().records().last() else {
+        return Ok(false);
+    };
+    let Some((number, entry)) = given_to(last, name) else {
+        return Ok(false);
+    };
+    replica.feed(number, entry)?;
+    Ok(true)
+}
+
+/// A place sends a command, where its key and its value are within their limits; whether they are.
+pub fn put(
+    world: &mut World,
+    alloc: Global,
+    place: Name,
+    command: &Command,
+) -> Result<bool, WorldRefusal> {
+    let Some(body) = command.to_body() else {
+        return Ok(false);
+    };
+    world.step(&Event {
+        node: place,
+        act: Act::send(alloc, body)?,
+    })?;
+    Ok(true)
+}
+
+#[cfg(test)]
+mod tests {
+    use super::*;
+    use am_base::founding::Founding;
+    use am_base::names::Names;
+    use std::test::Fail;
+
+    #[test]
+    fn a_put_is_got(rt: HostRuntime) -> Result<(), Fail> {
+        let founding = Founding::new(Names::of_mask(1), 0, 64, 256).ok_or("a founding")?;
+        let mut world = World::new(rt.alloc(), &founding)?;
+        let mut replica = Replica::new(rt.alloc(), 1)?;
+        let place = Name::of_byte(0);
+        put(
+            &mut world,
+            rt.alloc(),
+            place,
+            &Command::Put {
+                key: b"color",
+                value: b"red",
+            },
+        )?;
+        for _ in 0..3 {
+            take(&mut world, place, &mut replica)?;
+        }
+        let setting = replica.directory().get(b"color").ok_or("the key")?;
+        assert_eq!(rt; setting.value.bytes(), b"red".as_slice());
+        Ok(())
+    }
+}
