@@ -45,12 +45,14 @@ module _ (R Z : RattleType) (L : Laws Z) (g : Ghosts Z.Denot) where
     parts_out t d vs k =
         fsplit t $ fpick t (λ uss. fsplit t $ feq_l t (λ ev. fsplit t $ feq_l t (λ ep. fsplit t $ handle_tells al t d.alloc uss.1.0 (λ hv eh fa.
         move t (1 ∷ []) $ drop t $ move t (1 ∷ []) $
-        in_a_block t d.ptr (λ q. box_owns (g.dealloc_token d.alloc) R q d.value) (fst∗ 𝓤 (never 𝓤) (sem 𝓛 (g.dealloc_token d.alloc (bare (lone R.mir)) null_ptr))) (λ b o at.
+        let none_at_null = fst∗ 𝓤 (never 𝓤) (sem 𝓛 (g.dealloc_token d.alloc (bare (lone R.mir)) null_ptr)) in
+        in_a_block t d.ptr (λ q. box_owns (g.dealloc_token d.alloc) R q d.value) none_at_null (λ b o at.
         k b o hv at (ev ∙ (λ i. vstruct (of_list ((ep ∙ ap (λ (q : Ptr). ptr_val q ∷ []) at) i ++ (eh i ++ []))) ∷ [])) fa)))))
 
     pub parts_in : K → (b o : ℕ) (hv : Val) (a : Z.Denot) (x : R.Denot)
         → Step K 𝓛 (‵ (Parts.own_val (record { ptr = block_ptr b o; alloc = a; value = x }) (parts_val hv b o ∷ [])) ∷ Γ) G
         (‵ (box_owns (g.dealloc_token a) R (block_ptr b o) x) ∷ ‵ (Z.own_val a (hv ∷ [])) ∷ Γ) G
     parts_in t b o hv a x = step (λ s. let w = parts_val hv b o in
-        move t (1 ∷ []) $ nothing t $ move t (1 ∷ 0 ∷ []) $ fjoin t $ feq_i t (List Val) (vptr b o ∷ []) (vptr b o ∷ []) refl $ fjoin t $ feq_i t (List Val) (w ∷ []) (w ∷ []) refl $ fjoin t $
-        fpack t (Valss (RawPtr ∷ Z ∷ [])) (within (shape (parts.the_type R Z g)) (block_ptr b o, (a, tt)) (w ∷ [])) (vptr b o ∷ [], (hv ∷ [], tt)) $ fjoin t $ s)
+        let fields = within (shape (parts.the_type R Z g)) (block_ptr b o, (a, tt)) (w ∷ []) in
+        move t (1 ∷ []) $ nothing t $ move t (1 ∷ 0 ∷ []) $ fjoin t $ feq_i t (List Val) (vptr b o ∷ []) (vptr b o ∷ []) refl $ fjoin t $
+        feq_i t (List Val) (w ∷ []) (w ∷ []) refl $ fjoin t $ fpack t (Valss (RawPtr ∷ Z ∷ [])) fields (vptr b o ∷ [], (hv ∷ [], tt)) $ fjoin t $ s)

@@ -1,5 +1,5 @@
 -- A session from call to call.
-use Rattle.std.proofs.Common.{◌≡◌, ℕ, ◌≤◌, List, [], ◌∷◌, ◌++◌, length, take, drop, Option, Some, None, true, false, Bool, not, refl, sym, ap, ◌∙◌, subst}
+use Rattle.std.proofs.Common.{◌≡◌, ℕ, ◌≤◌, List, [], ◌∷◌, ◌++◌, length, drop, Option, Some, None, true, false, Bool, not, refl, sym, ap, ◌∙◌, subst}
 use Rattle.std.proofs.lemmas.Slice.Eq.{slice_eq-Decides}
 use Rattle.std.proofs.lemmas.Bool.{eqb-true, eq-eqb}
 use Rattle.std.specs.Cmp.Lexicographic.{pointwise}
@@ -28,7 +28,8 @@ first_ready s rules name stage founded ready first =
 
 -- ---- a line is held
 
-pub now_waits : (old new : Session) (rules : Rules) (name : ℕ) (lines : List (List ℕ)) (line shown before : List ℕ) → shown ≡ kept line → new.line.items ≡ shown → before ≡ []
+pub now_waits : (old new : Session) (rules : Rules) (name : ℕ) (lines : List (List ℕ)) (line shown before : List ℕ)
+    → shown ≡ kept line → new.line.items ≡ shown → before ≡ []
     → new.stage ≡ Waits → (speaking new.speaker).rules ≡ (speaking old.speaker).rules
     → AnswersBy (λ m. answer_of (speaking old.speaker).rules m shown) (speaking old.speaker).node before (speaking new.speaker).node (string_bytes new.answer)
     → IsReady old rules name lines → IsWaiting new rules name lines line
@@ -53,17 +54,19 @@ is_ready Waits = ⊥
 is_ready Spent = ⊥
 
 pub same_bytes : (xs ys : List ℕ) (other : Bool) → other ≡ not (pointwise nat_eq xs ys) → other ≡ false → xs ≡ ys
-same_bytes xs ys other is same = (slice_eq-Decides (λ a b. (eqb-true a b, eq-eqb a b)) xs ys (pointwise nat_eq xs ys) refl).0 (flipped (pointwise nat_eq xs ys) (sym is ∙ same)) where
-  flipped : (b : Bool) → not b ≡ false → b ≡ true
-  flipped true e = refl
-  flipped false e = sym e
+same_bytes xs ys other is same =
+    (slice_eq-Decides (λ a b. (eqb-true a b, eq-eqb a b)) xs ys (pointwise nat_eq xs ys) refl).0 (flipped (pointwise nat_eq xs ys) (sym is ∙ same)) where
+      flipped : (b : Bool) → not b ≡ false → b ≡ true
+      flipped true e = refl
+      flipped false e = sym e
 
-pub waits_again : (s : Session) (rules : Rules) (name : ℕ) (lines : List (List ℕ)) (waiting : Option (List ℕ)) (line : List ℕ) → s.stage ≡ Waits → s.line.items ≡ kept line
-    → IsBehind s rules name lines waiting → IsWaiting s rules name lines line
+pub waits_again : (s : Session) (rules : Rules) (name : ℕ) (lines : List (List ℕ)) (waiting : Option (List ℕ)) (line : List ℕ)
+    → s.stage ≡ Waits → s.line.items ≡ kept line → IsBehind s rules name lines waiting → IsWaiting s rules name lines line
 waits_again s rules name lines None line stage same r = absurd (subst is_ready (sym r.stage ∙ stage) tt)
 waits_again s rules name lines (Some other) line stage same w =
     let all = node_after rules (first_node rules name) lines in
-    let alike : answer_of rules all other ≡ answer_of rules all line = sym (cut_answer rules all other) ∙ ap (answer_of rules all) (sym w.waits ∙ same) ∙ cut_answer rules all line in
+    let alike : answer_of rules all other ≡ answer_of rules all line =
+    sym (cut_answer rules all other) ∙ ap (answer_of rules all) (sym w.waits ∙ same) ∙ cut_answer rules all line in
     record {
       stage = stage;
       waits = same;
@@ -91,7 +94,8 @@ now_ready old new rules name lines line stage same w =
           (subst (λ s. IsEndOf (answer_behind rules name lines line).node (speaking s).node) (sym same) w.node);
     }
 
-pub written : (told text copied room : List ℕ) → copied ≡ told → told ≡ text → length told ≤ length room → IsWritten text room (copied ++ drop (length told) room) (length told)
+pub written : (told text copied room : List ℕ) → copied ≡ told → told ≡ text → length told ≤ length room
+    → IsWritten text room (copied ++ drop (length told) room) (length told)
 written told text copied room same is fits = record {
   answer = ap (λ (xs : List ℕ). xs ++ drop (length told) room) same ∙ ap (λ (xs : List ℕ). xs ++ drop (length xs) room) is;
   long = ap length is;

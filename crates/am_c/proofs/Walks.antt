@@ -1,5 +1,5 @@
 -- What the three walks of a handle share: the rows, their machine values, and how each is taken apart and made. Assumes `Logic`.
-use Rattle.std.proofs.Common.{ℕ, List, [], ◌∷◌, ◌++◌, ◌≡◌, refl, sym, subst, ap, ◌∙◌}
+use Rattle.std.proofs.Common.{ℕ, List, [], ◌∷◌, ◌++◌, ◌≡◌, refl, sym, ap, ◌∙◌}
 use Rattle.std.specs.Prelude.{Option, Some, None}
 use Rattle.std.proofs.alloc.Calls.{Al, Fits, handle_tells}
 use Rattle.std.specs.Box.Ownership.{box_owns}
@@ -28,31 +28,22 @@ use Rattle.am_c.specs.contracts.session.Session.{the_row as Row}
 use Rattle.std.specs.contracts.alloc.Global as heap
 use Rattle.std.proofs.alloc.Global.TheLaws as heap_laws
 use Rattle.std.specs.contracts.impls.GlobalAllocator.TheImpl.{ghosts}
-use Rattle.am_c.specs.contracts.parts.Parts as parts
+use Rattle.am_c.proofs.Boxes as boxes
 use Rattle.am_c.specs.Handles.{may_free, held}
 use Rattle.am_c.specs.contracts.handle.Handle as handle
 
-abbrev pub al : Al
-al = record { row = heap.the_row; laws = heap_laws.the_row_laws; g = ghosts; d = impl [] tnil dnil; drops = impl [] tnil dnil }
-
+-- the parts of a session's box
 abbrev pub Parts : RattleType
-Parts = parts.the_row Row heap.the_row ghosts
+Parts = boxes.Parts Row heap.the_row heap_laws.the_row_laws ghosts
+
+abbrev pub al : Al
+al = boxes.al Row heap.the_row heap_laws.the_row_laws ghosts
 
 abbrev pub Handle : RattleType
 Handle = handle.the_row
 
-abbrev pub parts_val : Val → ℕ → ℕ → Val
-parts_val hv b o = vstruct (vcons (vptr b o) (vcons hv vnil))
-
 abbrev pub handle_val : Ptr → Val
 handle_val p = vstruct (vcons (ptr_val p) vnil)
-
-pub and_tt : (b : Bool) → T b → T (b && true)
-and_tt true t = tt
-and_tt false t = absurd t
-
-pub parts_typed : (hv : Val) (b o : ℕ) → Fits al hv → T (has_ty (layout Parts) (parts_val hv b o)) × WT (parts_val hv b o)
-parts_typed hv b o fa = (and_tt (has_ty (layout heap.the_row) hv) fa.0, (tt, (fa.1, tt)))
 
 -- a pointer whose block may be freed may be compared with null
 module _ {M : Type 1} {𝓤 : Ura M} (𝓛 : Logic 𝓤) where
@@ -60,28 +51,16 @@ module _ {M : Type 1} {𝓤 : Ura M} (𝓛 : Logic 𝓤) where
       → ent 𝓤 (sem 𝓛 (box_owns may_free Row (block_ptr b n) x)) (guard 𝓤 (Testable (block_ptr b n)) (sem 𝓛 (box_owns may_free Row (block_ptr b n) x)))
   testable b n x =
       let p = block_ptr b n in let τ = bare (lone Row.mir) in let Owned = sem 𝓛 (box_owns may_free Row p x) in
-      fact_use 𝓤 (Testable p) (via 𝓤 _ (snd∗ 𝓤 (sem 𝓛 (lies_at Row full_share p x)) (sem 𝓛 (may_free τ p))) (dealloc_token-Testable 𝓛 (record { memory = record { seal = tt } }) τ p))
+      let freed = snd∗ 𝓤 (sem 𝓛 (lies_at Row full_share p x)) (sem 𝓛 (may_free τ p)) in
+      fact_use 𝓤 (Testable p) (via 𝓤 _ freed (dealloc_token-Testable 𝓛 (record { memory = record { seal = tt } }) τ p))
       (guard_i 𝓤 (Testable p) Owned)
 
 module _ {M : Type 1} {𝓤 : Ura M} {𝓛 : Logic 𝓤} {K : Type 0} {Γ : List (Item 𝓤)} {G : Goal 𝓤 𝓛.H} where
-  -- the parts are the box in a block, and the allocator
-  pub parts_out : K → (d : Parts.Denot) (vs : List Val)
-      → ((b o : ℕ) (hv : Val) → vs ≡ parts_val hv b o ∷ [] → Fits al hv → Seq K 𝓛 (‵ (box_owns may_free Row (block_ptr b o) d.value) ∷ Γ) G)
-      → Seq K 𝓛 (‵ (Parts.own_val d vs) ∷ Γ) G
-  parts_out t d vs k =
-      fsplit t $ fpick t (λ uss. fsplit t $ feq_l t (λ ev. fsplit t $ feq_l t (λ ep. fsplit t $ handle_tells al t d.alloc uss.1.0 (λ hv eh fa. drop t $ drop t $
-      in_a_block t d.ptr (λ q. box_owns may_free Row q d.value) (fst∗ 𝓤 (never 𝓤) (sem 𝓛 (may_free (bare (lone Row.mir)) null_ptr))) (λ b o at.
-      k b o hv (ev ∙ (λ i. vstruct (of_list ((ep ∙ ap (λ (q : Ptr). ptr_val q ∷ []) at) i ++ (eh i ++ []))) ∷ [])) fa)))))
-
-  pub parts_in : K → (b o : ℕ) (hv : Val) (d : Parts.Denot) → d.ptr ≡ block_ptr b o
-      → Step K 𝓛 (‵ (Parts.own_val d (parts_val hv b o ∷ [])) ∷ Γ) G (‵ (heap.the_row.own_val d.alloc (hv ∷ [])) ∷ ‵ (box_owns may_free Row d.ptr d.value) ∷ Γ) G
-  parts_in t b o hv d at = step (λ s. let w = parts_val hv b o in
-      nothing t $ move t (1 ∷ 0 ∷ []) $ fjoin t $ feq_i t (List Val) (vptr b o ∷ []) (ptr_val d.ptr ∷ []) (ap (λ (q : Ptr). ptr_val q ∷ []) (sym at)) $ fjoin t $ feq_i t (List Val) (w ∷ []) (w ∷ []) refl $ fjoin t $
-      fpack t (Valss (RawPtr ∷ heap.the_row ∷ [])) (within (shape (parts.the_type Row heap.the_row ghosts)) (d.ptr, (d.alloc, tt)) (w ∷ [])) (vptr b o ∷ [], (hv ∷ [], tt)) $ fjoin t $ s)
-
   -- a handle is its pointer, and what it owns
-  pub handle_out : K → (h : Handle.Denot) (vs : List Val) → (vs ≡ handle_val h.at ∷ [] → Seq K 𝓛 (‵ (held h.at h.session) ∷ Γ) G) → Seq K 𝓛 (‵ (Handle.own_val h vs) ∷ Γ) G
-  handle_out t h vs k = fsplit t $ fpick t (λ uss. fsplit t $ feq_l t (λ ev. fsplit t $ feq_l t (λ ep. drop t $ k (ev ∙ (λ i. vstruct (of_list (ep i ++ [])) ∷ [])))))
+  pub handle_out : K → (h : Handle.Denot) (vs : List Val)
+      → (vs ≡ handle_val h.at ∷ [] → Seq K 𝓛 (‵ (held h.at h.session) ∷ Γ) G) → Seq K 𝓛 (‵ (Handle.own_val h vs) ∷ Γ) G
+  handle_out t h vs k =
+      fsplit t $ fpick t (λ uss. fsplit t $ feq_l t (λ ev. fsplit t $ feq_l t (λ ep. drop t $ k (ev ∙ (λ i. vstruct (of_list (ep i ++ [])) ∷ [])))))
 
   pub handle_in : K → (h : Handle.Denot) → Step K 𝓛 (‵ (Handle.own_val h (handle_val h.at ∷ [])) ∷ Γ) G (‵ (held h.at h.session) ∷ Γ) G
   handle_in t h = step (λ s. let w = handle_val h.at in
@@ -95,5 +74,6 @@ module _ {M : Type 1} {𝓤 : Ura M} {𝓛 : Logic 𝓤} {K : Type 0} {Γ : List
   by_open t null_ptr None shut opened = drop t $ shut refl refl
   by_open t (block_ptr b n) None shut opened = use1 𝓛 (given ⊥ (‵ ftrue)) (never_e 𝓤 _) $ learn t (λ z. absurd z)
   by_open t p (Some x) shut opened =
-      in_a_block t p (λ q. box_owns may_free Row q x) (fst∗ 𝓤 (never 𝓤) (sem 𝓛 (may_free (bare (lone Row.mir)) null_ptr))) (λ b n at.
+      let none_at_null = fst∗ 𝓤 (never 𝓤) (sem 𝓛 (may_free (bare (lone Row.mir)) null_ptr)) in
+      in_a_block t p (λ q. box_owns may_free Row q x) none_at_null (λ b n at.
       use1 𝓛 (given (Testable (block_ptr b n)) (‵ (box_owns may_free Row (block_ptr b n) x))) (testable 𝓛 b n x) $ learn t (λ may. opened b n x at refl may))

@@ -1,5 +1,5 @@
 -- What a handle stands for, and what the number of a call says.
-use Rattle.std.specs.Prelude.{◌≡◌, ◌≢◌, [], ℕ, List, ℤ, Option, Some, None}
+use Rattle.std.specs.Prelude.{◌≡◌, [], ℕ, List, Option, Some, None}
 use Rattle.std.specs.Box.Ownership.{box_owns}
 use Rattle.std.specs.Global.{Global}
 use Rattle.std.specs.contracts.impls.GlobalAllocator.TheImpl.{ghosts}

@@ -1,5 +1,5 @@
 -- The numbers that calls give.
-use Rattle.std.specs.Prelude.{◌≡◌, ℤ, pos, Option, Some, None}
+use Rattle.std.specs.Prelude.{ℤ, pos, Option, Some, None}
 use Rattle.am_c.specs.declared.session.Session.{Session}
 use Rattle.am_c.specs.declared.session.StepEnd.{StepEnd}
 use Rattle.am_c.specs.declared.session.StepEnd.TheVariants.{Told, NoMemory, NoRoom, OtherLine}

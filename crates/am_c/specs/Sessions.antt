@@ -10,7 +10,7 @@ use Rattle.am_lines.specs.Answers.{Answer, answer_of}
 use Rattle.am_lines.specs.Speaking.{node_after}
 use Rattle.am_lines.specs.Speakers.{speaking}
 use Rattle.am_c.specs.declared.session.Session.{Session}
-use Rattle.am_c.specs.declared.session.Stage.TheVariants.{Ready, Waits, Spent}
+use Rattle.am_c.specs.declared.session.Stage.TheVariants.{Ready, Waits}
 
 -- ---- options
 

@@ -103,10 +103,13 @@ impl Session {
 
     /// Has the answer to a line: the one that waits, where it is this line's, or that of the node.
     fn have_answer(&mut self, alloc: Global, line: &[u8]) -> Result<(), StepEnd>
-        ensures waits { OnOk result ((rules : Rules) (name : ℕ) (lines : List (List ℕ)) (waiting : Option (List ℕ))
-            → IsBehind self.old rules name lines waiting → IsWaiting self.new rules name lines line.now) }
-        ensures spent { IfErr result (λ end. end ≡ StepEnd.NoMemory → self.new.stage ≡ stages.Spent) }
-        ensures other { IfErr result (λ end. end ≡ StepEnd.OtherLine → WaitsForOther self.old line.now) }
+        ensures waits { OnOk result ((rules : Rules) (name : ℕ) (lines : List (List ℕ))
+            (waiting : Option (List ℕ)) → IsBehind self.old rules name lines waiting
+            → IsWaiting self.new rules name lines line.now) }
+        ensures spent { IfErr result (λ end. end ≡ StepEnd.NoMemory
+            → self.new.stage ≡ stages.Spent) }
+        ensures other { IfErr result (λ end. end ≡ StepEnd.OtherLine
+            → WaitsForOther self.old line.now) }
         ensures same { IfErr result (λ end. end ≡ StepEnd.OtherLine → self.new ≡ self.old) }
         ensures ends { IfErr result (λ end. end ≢ StepEnd.NoMemory → end ≡ StepEnd.OtherLine) }
         ensures fails { self.old.stage ≡ stages.Spent → result ≡ Err StepEnd.NoMemory }
@@ -129,11 +132,15 @@ impl Session {
 
     /// Tells the answer that waits, where the room is long enough, and how long it is.
     fn tell(&mut self, room: &mut [u8], said: &mut usize) -> StepEnd
-        ensures told { result ≡ StepEnd.Told → (rules : Rules) (name : ℕ) (lines : List (List ℕ)) (line : List ℕ)
-            → IsWaiting self.old rules name lines line → IsReady self.new rules name (lines ++ line ∷ [])
+        ensures told { result ≡ StepEnd.Told → (rules : Rules) (name : ℕ)
+            (lines : List (List ℕ)) (line : List ℕ) → IsWaiting self.old rules name lines line
+            → IsReady self.new rules name (lines ++ line ∷ [])
             × IsWritten (answer_behind rules name lines line).text room.old room.new said.new }
-        ensures no_room { result ≢ StepEnd.Told → (result ≡ StepEnd.NoRoom) × (self.new ≡ self.old) × (room.new ≡ room.old) }
-        ensures short { result ≢ StepEnd.Told → (said.new ≡ length (string_bytes self.old.answer)) × (length room.old < said.new) }
+        ensures no_room { result ≢ StepEnd.Told → result ≡ StepEnd.NoRoom }
+        ensures same { result ≢ StepEnd.Told → self.new ≡ self.old }
+        ensures unwritten { result ≢ StepEnd.Told → room.new ≡ room.old }
+        ensures long { said.new ≡ length (string_bytes self.old.answer) }
+        ensures short { result ≢ StepEnd.Told → length room.old < said.new }
     {
         let answer = self.answer.as_bytes();
         let n = answer.len();

@@ -1,4 +1,4 @@
-use Rattle.std.proofs.Common.{length, take, sym, arith, take_all}
+use Rattle.std.proofs.Common.{sym, arith, take_all}
 use Rattle.std.proofs.lemmas.List.{length-take}
 use Rattle.am_c.proofs.session.kept.Goals as goal
 
