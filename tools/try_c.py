@@ -21,6 +21,7 @@ import subprocess
 import sys
 import tempfile
 
+from library import kit
 from try_lines import STATES, mutated
 
 TOP = pathlib.Path(__file__).resolve().parent.parent
@@ -34,7 +35,7 @@ class Tried:
         self.folder, self.program, self.seed = folder, shlex.split(wanted.program), wanted.seed
         self.count = 100_000 if wanted.sanitize else wanted.count
         self.sanitize, self.cargo = wanted.sanitize, None if wanted.sanitize else shutil.which("cargo")
-        self.kit = pathlib.Path(run(["rt", "doc"]).stdout.decode().strip()).parent
+        self.kit = kit()
         self.compiler = os.environ.get("CC") or shutil.which("cc") or str(self.kit / "toolchain" / "bin" / "clang")
         self.cargo_words = {**os.environ, "KIT": str(self.kit), "CARGO_TARGET_DIR": str(folder / "target"), "CARGO_NET_OFFLINE": "true"}
 
@@ -48,7 +49,7 @@ class Tried:
 
 def run(words: list[str], lines: bytes = b"", **more) -> subprocess.CompletedProcess[bytes]:
     """Runs a command to its end."""
-    return subprocess.run(words, input=lines, capture_output=True, timeout=900, check=False, **more)
+    return subprocess.run(words, input=lines, capture_output=True, timeout=3600, check=False, **more)
 
 
 def told(what: str, ran: subprocess.CompletedProcess[bytes]) -> list[str]:
@@ -58,7 +59,7 @@ def told(what: str, ran: subprocess.CompletedProcess[bytes]) -> list[str]:
 
 def built(tried: Tried) -> list[str]:
     """The library, and the programs over it."""
-    wrong = told("rt lib", run(["rt", "lib"], cwd=TOP / "crates" / "am_c"))
+    wrong = told("tools/library.py", run([sys.executable, str(TOP / "tools" / "library.py")]))
     more = "-g -fsanitize=address,undefined -fno-sanitize-recover=all" if tried.sanitize else ""
     words = ["make", "-B", "-C", str(TOP / "bindings" / "c"), f"KIT={tried.kit}", f"OUT={tried.folder}", f"CC={tried.compiler}", f"MORE={more}"]
     wrong = wrong or told("make", run(words))
