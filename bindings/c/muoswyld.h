@@ -75,12 +75,14 @@ static inline int muoswyld_open(muoswyld_node *node, const void *options, size_t
 }
 
 /* Gives an open node a line of n bytes, without a newline. Its answer is written to the head of `answer`, which has `room`
-   bytes, and its length to `length`. No zero stands behind it. A line that is none is answered `bad line CAUSE`, as ever.
+   bytes, and its length to `length`. No zero stands behind it. A line that is none is answered `bad line CAUSE`, as ever; so is
+   an empty one, which the word `node` passes over, and one with a newline in it.
 
    DONE: the line has its answer. At any other number it has none, and `answer` is as it was:
    NO_ROOM: `length` says how many bytes the answer has. Give the same line again, with so much room. The answer waits until
      then; so that it is never lost, any other line is refused with OTHER_LINE, and changes nothing. (Lines above 4,096 bytes
-     are all the same to a node: their answer is `bad line 4`.) An answer has seldom more than 4,096 bytes.
+     are all the same to a node: their answer is `bad line 4`.) Few answers have more than 4,096 bytes; of nine letters, the most
+     that there are, one has some 24,000.
    NO_MEMORY: no line has an answer from now on. It isn't given while an answer waits.
    CLOSED, and nothing changes. NULL (`answer` may be null where `room` is 0), LENGTH. */
 static inline int muoswyld_step(muoswyld_node *node, const void *line, size_t n, void *answer, size_t room, size_t *length) {

@@ -1,21 +1,17 @@
 -- What the three walks of a handle share: the rows, their machine values, and how each is taken apart and made. Assumes `Logic`.
-use Rattle.std.proofs.Common.{ℕ, List, [], ◌∷◌, ◌++◌, ◌≡◌, refl, sym, ap, ◌∙◌}
+use Rattle.std.proofs.Common.{ℕ, List, [], ◌∷◌, ◌++◌, ◌≡◌, refl, ◌∙◌}
 use Rattle.std.specs.Prelude.{Option, Some, None}
-use Rattle.std.proofs.alloc.Calls.{Al, Fits, handle_tells}
+use Rattle.std.proofs.alloc.Calls.{Al}
 use Rattle.std.specs.Box.Ownership.{box_owns}
 use base.Fraction.{full_share}
 use base.Fml.{ftrue}
 use base.Logic.{ent, guard, guard_i, via, fst∗, snd∗, never, never_e}
-use mathlib.Core.Bool.{Bool, true, false, ◌&&◌}
-use lib.Dec.{T}
-use mir.Syntax.{tnil, dnil, impl}
 use mir.Raw.{raw as bare}
-use mir.Val.{Val, vptr, vcons, vnil, vstruct, of_list, has_ty, WT}
+use mir.Val.{Val, vcons, vnil, vstruct, of_list}
 use seplogic.Ra.Ura.{Ura}
 use types.Logic.{Logic, sem}
-use types.Kit.{Goal, Item, Seq, Step, step, ‵, given, learn, use1, ◌$◌, move, drop, fsplit, fjoin, fpick, fpack, feq_i, feq_l}
+use types.Kit.{Goal, Item, Seq, Step, step, ‵, given, learn, use1, ◌$◌, drop, fsplit, fjoin, fpick, fpack, feq_i, feq_l}
 use denote.Memory.{lone}
-use denote.Param.{layout}
 use denote.RattleType.{RattleType, Valss}
 use contract.Monad.{fact_use}
 use denote.RawPtr.{Ptr, RawPtr, block_ptr, null_ptr, ptr_val, in_a_block, lies_at, Testable}
