@@ -1,0 +1,4 @@
+pub mod Boxes
+pub mod Walks
+pub mod Sessions
+pub mod Calls

@@ -1,0 +1,52 @@
+-- The numbers that calls give.
+use Rattle.std.specs.Prelude.{ℤ, pos, Option, Some, None}
+use Rattle.am_c.specs.declared.session.Session.{Session}
+use Rattle.am_c.specs.declared.session.StepEnd.{StepEnd}
+use Rattle.am_c.specs.declared.session.StepEnd.TheVariants.{Told, NoMemory, NoRoom, OtherLine}
+use Rattle.am_c.specs.declared.options.OptionsFault.{OptionsFault}
+use Rattle.am_c.specs.declared.options.OptionsFault.TheVariants as faults
+
+-- all was done
+abbrev pub done : ℤ
+done = pos 0
+
+-- there was no memory, now or before
+abbrev pub no_memory : ℤ
+no_memory = pos 1
+
+-- the room is too short for the answer
+abbrev pub no_room : ℤ
+no_room = pos 2
+
+-- the handle is closed
+abbrev pub closed : ℤ
+closed = pos 3
+
+-- the handle is open
+abbrev pub open_now : ℤ
+open_now = pos 4
+
+-- the options are none
+abbrev pub bad_options : ℤ
+bad_options = pos 5
+
+-- another line's answer waits for room
+abbrev pub other_line : ℤ
+other_line = pos 6
+
+-- ---- which a call gives
+
+abbrev pub number_of : StepEnd → ℤ
+number_of Told = done
+number_of NoMemory = no_memory
+number_of NoRoom = no_room
+number_of OtherLine = other_line
+
+abbrev pub number_for : OptionsFault → ℤ
+number_for faults.Form = bad_options
+number_for faults.NoMemory = no_memory
+
+-- what closing gives
+abbrev pub number_closing : Option Session → ℤ
+number_closing None = closed
+number_closing (Some session) = done

@@ -1,0 +1,103 @@
+//! A node for C and whatever calls C: a handle is opened with a node's options, answers lines, and is closed. The lines and the
+//! answers are those of the program's word `node` (docs/NETWORK.md), and bindings/c/muoswyld.h is the header.
+#![tactic(auto)]
+
+ghost use Rattle.std.specs.Prelude.{◌≡◌, ◌≢◌, ◌↔◌, None, IsSome, IfSome, IsUtf8};
+ghost use Rattle.am_words.specs.Forms.{form_of};
+ghost use Rattle.am_c.specs.declared.session.Stage.TheVariants as stages;
+ghost use Rattle.am_c.specs.Numbers.{done, no_memory, no_room, closed, open_now, bad_options, other_line, number_closing};
+ghost use Rattle.am_c.specs.Sessions.{IsNode, words_of, Told, FoundNoRoom, WaitsForOther};
+ghost use Rattle.am_c.specs.Handles.{Opened, Between};
+
+use handle::Handle;
+use numbers::{CLOSED, DONE, OPEN};
+use options::opened;
+use parts::Parts;
+use std::alloc::Global;
+use std::mem::replace;
+
+mod handle;
+mod numbers;
+mod options;
+mod parts;
+mod session;
+
+/// Opens a handle, which is closed: a node of its own, by the options of the program's word `node`, with one blank between two words.
+/// It gives 0; 1 where there is no memory, 4 where the handle is open, or 5 where the options are none.
+#[unsafe(no_mangle)]
+pub extern "C" fn muoswyld_open(alloc: Global, node: &mut Handle, options: &[u8]) -> i32
+    ensures opened { result ≡ done → Opened options.now node.new.session }
+    ensures open { (result ≡ open_now) ↔ IsSome node.old.session }
+    ensures same { result ≡ open_now → node.new.session ≡ node.old.session }
+    ensures stays_closed { result ≢ done → result ≢ open_now → node.new.session ≡ None }
+    ensures options { result ≡ bad_options → IsUtf8 options.now
+        → IsNode (form_of (words_of options.now)) → ⊥ }
+    ensures numbers { result ≢ done → result ≢ open_now → result ≢ bad_options
+        → result ≡ no_memory }
+{
+    if let Some(parts) = replace(node, Handle::closed()).take(alloc) {
+        *node = Handle::of(parts);
+        return OPEN;
+    }
+    match opened(alloc, options) {
+        Ok(session) => {
+            *node = Handle::of(Parts::of(session));
+            DONE
+        }
+        Err(fault) => fault.number(),
+    }
+}
+
+/// Gives a line its answer: 0, and the answer stands at the head of `answer`, and its length in `length`. Else no line has its answer
+/// that had none: 1 where there is no memory, and from then on; 2 where the answer is longer than there is room, and then `length`
+/// says how long it is, and it waits until the same line comes again; 3 where the handle is closed; 6 where the answer to another line
+/// waits.
+#[unsafe(no_mangle)]
+pub extern "C" fn muoswyld_step(
+    alloc: Global,
+    node: &mut Handle,
+    line: &[u8],
+    answer: &mut [u8],
+    length: &mut usize,
+) -> i32
+    ensures told { result ≡ done → Between node.old.session node.new.session
+        (λ old new. Told old line.now new answer.old answer.new length.new) }
+    ensures no_room { result ≡ no_room → Between node.old.session node.new.session
+        (λ old new. FoundNoRoom old line.now new answer.old length.new) }
+    ensures no_memory { result ≡ no_memory → Between node.old.session node.new.session
+        (λ old new. new.stage ≡ stages.Spent) }
+    ensures other { result ≡ other_line → Between node.old.session node.new.session
+        (λ old new. WaitsForOther old line.now) }
+    ensures closed { (result ≡ closed) ↔ (node.old.session ≡ None) }
+    ensures fails { IfSome node.old.session (λ s. s.stage ≡ stages.Spent → result ≡ no_memory) }
+    ensures lasts { IfSome node.old.session (λ s. s.stage ≡ stages.Waits → result ≢ no_memory) }
+    ensures same_other { result ≡ other_line → node.new.session ≡ node.old.session }
+    ensures same_closed { result ≡ closed → node.new.session ≡ None }
+    ensures unwritten { result ≢ done → answer.new ≡ answer.old }
+    ensures unsaid { result ≢ done → result ≢ no_room → length.new ≡ length.old }
+    ensures numbers { result ≢ done → result ≢ no_memory → result ≢ no_room → result ≢ closed
+        → result ≡ other_line }
+{
+    let Some(parts) = replace(node, Handle::closed()).take(alloc) else {
+        return CLOSED;
+    };
+    let mut session = parts.into_box();
+    let end = session.step(alloc, line, answer, length);
+    *node = Handle::of(Parts::of(session));
+    end.number()
+}
+
+/// Closes a handle, and gives its memory back: 0, or 3 where it is closed.
+#[unsafe(no_mangle)]
+pub extern "C" fn muoswyld_close(alloc: Global, node: &mut Handle) -> i32
+    ensures closed { node.new.session ≡ None }
+    ensures number { result ≡ number_closing node.old.session }
+{
+    match replace(node, Handle::closed()).take(alloc) {
+        Some(parts) => {
+            drop(parts.into_box());
+            DONE
+        }
+        None => CLOSED,
+    }
+}

@@ -1,0 +1,213 @@
+#!/usr/bin/env python3
+"""Tries the library for C and Rust: builds it, and the programs of bindings/ over it, and compares what they answer with the word `node`.
+
+    tools/try_c.py PROGRAM [--count N] [--seed N] [--sanitize]
+
+PROGRAM is the command whose word `node` is run. N lines (2,000), random and mutated, go to a node in each of nine states: through the
+C driver, through the Rust crate where cargo is there, and to the word `node`, and all must answer the same. Besides it tries each
+refusal, each allocation failing in turn, three members with a crash in C and in Rust, and a shared library from Python. With --sanitize
+the C programs are built with the address and the undefined sanitizer, and 100,000 lines go to each state. CC names the compiler (cc,
+or else the toolchain's). It prints what fails, and how many parts passed.
+"""
+
+import argparse
+import ctypes
+import os
+import pathlib
+import random
+import shlex
+import shutil
+import subprocess
+import sys
+import tempfile
+
+from library import kit
+from try_lines import STATES, mutated
+
+TOP = pathlib.Path(__file__).resolve().parent.parent
+ANYTHING = "send 61", "tick", "take", "hear 1 414703050000000001000019" + "00000000" * 2 + "0000000101", "info", "send", "reset 2"
+
+
+class Tried:
+    """Where the programs are, and what they are run with."""
+
+    def __init__(self, wanted: argparse.Namespace, folder: pathlib.Path):
+        self.folder, self.program, self.seed = folder, shlex.split(wanted.program), wanted.seed
+        self.count = 100_000 if wanted.sanitize else wanted.count
+        self.sanitize, self.cargo = wanted.sanitize, None if wanted.sanitize else shutil.which("cargo")
+        self.kit = kit()
+        self.compiler = os.environ.get("CC") or shutil.which("cc") or str(self.kit / "toolchain" / "bin" / "clang")
+        self.cargo_words = {**os.environ, "KIT": str(self.kit), "CARGO_TARGET_DIR": str(folder / "target"), "CARGO_NET_OFFLINE": "true"}
+
+    def drivers(self) -> dict[str, list[str]]:
+        """The commands that answer lines, by what is behind them."""
+        found = {"C": [str(self.folder / "driver")]}
+        if self.cargo:
+            found["Rust"] = [str(self.folder / "target" / "release" / "examples" / "driver")]
+        return found
+
+
+def run(words: list[str], lines: bytes = b"", **more) -> subprocess.CompletedProcess[bytes]:
+    """Runs a command to its end."""
+    return subprocess.run(words, input=lines, capture_output=True, timeout=3600, check=False, **more)
+
+
+def told(what: str, ran: subprocess.CompletedProcess[bytes]) -> list[str]:
+    """What is wrong with a command that should have ended with 0."""
+    return [] if ran.returncode == 0 else [f"{what} ended with {ran.returncode}: {(ran.stdout + ran.stderr).decode(errors='replace')[-2000:]}"]
+
+
+def built(tried: Tried) -> list[str]:
+    """The library, and the programs over it."""
+    wrong = told("tools/library.py", run([sys.executable, str(TOP / "tools" / "library.py")]))
+    more = "-g -fsanitize=address,undefined -fno-sanitize-recover=all" if tried.sanitize else ""
+    words = ["make", "-B", "-C", str(TOP / "bindings" / "c"), f"KIT={tried.kit}", f"OUT={tried.folder}", f"CC={tried.compiler}", f"MORE={more}"]
+    wrong = wrong or told("make", run(words))
+    if tried.cargo and not wrong:
+        words = [tried.cargo, "build", "--release", "--offline", "--examples"]
+        wrong = told("cargo build", run(words, cwd=TOP / "bindings" / "rust", env=tried.cargo_words))
+    return wrong
+
+
+def transcripts(tried: Tried) -> list[str]:
+    """Each driver answers as the word `node`, in each state, and is refused the options that it is."""
+    wrong = []
+    for state, (name, begins) in STATES.items():
+        draw = random.Random(f"c {tried.seed} {state}")
+        lines = b"\n".join([line.encode() for line in begins] + [mutated(draw) for _ in range(tried.count)])
+        options = ["--name", name, "--founders", "0,1,2", "--resilience", "1"]
+        wanted = run([*tried.program, "node", *options], lines)
+        wrong += told(f"{state}: the word node", wanted)
+        for what, driver in tried.drivers().items():
+            ran = run([*driver, *options], lines)
+            wrong += told(f"{state}: {what}", ran)
+            for k, (one, other) in enumerate(zip(ran.stdout.split(b"\n"), wanted.stdout.split(b"\n"))):
+                if one != other:
+                    wrong.append(f"{state}: {what} answered line {k + 1} {one!r}, and the word node {other!r}")
+                    break
+            else:
+                if ran.stdout != wanted.stdout:
+                    wrong.append(f"{state}: {what} answered {len(ran.stdout)} bytes, and the word node {len(wanted.stdout)}")
+    return wrong
+
+
+def same_options(tried: Tried) -> list[str]:
+    """The same options are taken, those of the word `node` and no others."""
+    wrong, draw = [], random.Random(f"options {tried.seed}")
+    values = {
+        "--name": ["0", "1", "15", "1/2", "3/16", "16", "01", "1/1", "x", ""],
+        "--founders": ["0,1,2", "0", "1,0", "0,1/2", "-", "0,15", "0,0", "0,1,"],
+        "--resilience": ["0", "15", "16", "-1"],
+        "--window": ["1", "64", "1008", "1009", "0"],
+        "--pb-up-to": ["0", "256", "1024", "1025"],
+    }
+    for _ in range(300):
+        words: list[str] = []
+        for option in draw.sample(["--name", "--founders"] + draw.sample(sorted(values), draw.randrange(4)), k=2 + draw.randrange(1)):
+            words += [option, draw.choice(values[option][:2] if draw.random() < 0.7 else values[option])]
+        more = draw.choice([[], [], ["--window", draw.choice(values["--window"])], ["--resilience"], ["--other", "1"]])
+        words = [word for word in words + more if word]
+        wanted = run([*tried.program, "node", *words], b"tick\n")
+        for what, driver in tried.drivers().items():
+            ran = run([*driver, *words], b"tick\n")
+            if (ran.returncode == 0, ran.stdout) != (wanted.returncode == 0, wanted.stdout):
+                wrong.append(f"{what} took {words} with {ran.returncode}, {ran.stdout!r}; the word node with {wanted.returncode}, {wanted.stdout!r}")
+    return wrong
+
+
+def refusals(tried: Tried) -> list[str]:
+    """Null pointers, lengths, handles that are closed or open, options, rooms and other lines, each with its number."""
+    return told("refusals", run([str(tried.folder / "refusals")]))
+
+
+def no_memory(tried: Tried) -> list[str]:
+    """With each allocation failing in turn a driver answers all, or a beginning of it and says that there was no memory."""
+    if tried.sanitize:
+        return []
+    library = tried.folder / "fail_malloc.so"
+    words = [tried.compiler, "-shared", "-fPIC", "-O2", str(TOP / "tools" / "fail_malloc.c"), "-o", str(library), "-ldl"]
+    wrong = told("fail_malloc", run(words))
+    lines = "\n".join(ANYTHING).encode()
+    driver = [*tried.drivers()["C"], "--name", "1", "--founders", "0,1,2"]
+    whole = run(driver, lines).stdout
+    failed = 0
+    for at in range(1, 100_000):
+        ran = run(driver, lines, env={**os.environ, "LD_PRELOAD": str(library), "FAIL_AT": str(at), "COUNT_ALLOCATIONS": "1"})
+        failed += ran.returncode == 1
+        if ran.returncode not in (0, 1) or not whole.startswith(ran.stdout) or (ran.returncode == 0 and ran.stdout != whole):
+            wrong.append(f"where allocation {at} fails the driver ended with {ran.returncode} and {ran.stdout!r}")
+        if int(ran.stderr.split()[-2]) < at:
+            break
+    return wrong or ([] if failed > 50 else [f"want of memory was told {failed} times in {at} runs"])
+
+
+def crash(tried: Tried) -> list[str]:
+    """Three members, of which the first crashes: the others take the same, and go on in a view of their own."""
+    wrong, programs = [], {"three": [str(tried.folder / "three")]}
+    if tried.cargo:
+        programs["three over UDP"] = [str(tried.folder / "target" / "release" / "examples" / "three")]
+    for what, program in programs.items():
+        ran = run(program)
+        wrong += told(what, ran)
+        took: dict[str, list[str]] = {}
+        for words in (line.split(" took ") for line in ran.stdout.decode().splitlines() if " took " in line):
+            took.setdefault(words[0], []).append(words[1])
+        first, one, two = (took.get(f"member {place}", []) for place in range(3))
+        begins = ["1 view 1.0 0,1,2", "2 data 1 1 68656c6c6f"]
+        ends = [entry.split(" ")[1:] for entry in one[2:]]
+        if first != begins or one[:2] != begins or one != two or not any(entry[0] == "view" and entry[-1] == "1,2" for entry in ends):
+            wrong.append(f"{what}: the members took {first}, {one} and {two}")
+        elif ["data", "2", "1", b"still here".hex()] not in ends:
+            wrong.append(f"{what}: nobody took what was sent after the crash: {one}")
+    return wrong
+
+
+def from_python(tried: Tried) -> list[str]:
+    """The shared library answers Python, as docs/NETWORK.md shows it."""
+    if tried.sanitize:
+        return []
+    library = ctypes.CDLL(str(tried.folder / "libmuoswyld.so"))
+    node, length, answer = ctypes.c_void_p(), ctypes.c_size_t(), ctypes.create_string_buffer(4096)
+    size, options = ctypes.c_size_t, b"--name 1 --founders 0,1,2"
+    numbers = [library.muoswyld_open(ctypes.byref(node), options, size(len(options)))]
+    said = []
+    for line in (b"send 61", b"tick", b"nonsense"):
+        numbers.append(library.muoswyld_step(ctypes.byref(node), line, size(len(line)), answer, size(4096), ctypes.byref(length)))
+        said.append(answer.raw[: length.value])
+    numbers += [library.muoswyld_close(ctypes.byref(node)), library.muoswyld_close(ctypes.byref(node))]
+    wanted = run([*tried.program, "node", *options.decode().split()], b"send 61\ntick\nnonsense\n").stdout.split(b"\n")[:-1]
+    return [] if (numbers, said) == ([0, 0, 0, 0, 0, 3], wanted) else [f"Python was given {numbers} and {said}"]
+
+
+def rust_tests(tried: Tried) -> list[str]:
+    """The tests of the Rust crate."""
+    if not tried.cargo:
+        return []
+    return told("cargo test", run([tried.cargo, "test", "--offline"], cwd=TOP / "bindings" / "rust", env=tried.cargo_words))
+
+
+def main() -> int:
+    """Tries all parts."""
+    parser = argparse.ArgumentParser(description=__doc__, formatter_class=argparse.RawDescriptionHelpFormatter)
+    parser.add_argument("program")
+    parser.add_argument("--count", type=int, default=2000)
+    parser.add_argument("--seed", type=int, default=1)
+    parser.add_argument("--sanitize", action="store_true")
+    with tempfile.TemporaryDirectory() as folder:
+        tried = Tried(parser.parse_args(), pathlib.Path(folder))
+        parts = built, transcripts, same_options, refusals, no_memory, crash, from_python, rust_tests
+        failed = 0
+        for part in parts:
+            wrong = part(tried)
+            failed += bool(wrong)
+            for line in wrong:
+                print(f"refused: {part.__name__}: {line}")
+            if wrong and part is built:
+                break
+    cargo = "" if tried.cargo or tried.sanitize else "; cargo isn't here, so the Rust crate wasn't tried"
+    print(f"tools/try_c.py: {len(parts) - failed} passed, {failed} failed{cargo}")
+    return 1 if failed else 0
+
+
+if __name__ == "__main__":
+    sys.exit(main())
