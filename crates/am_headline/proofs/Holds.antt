@@ -8,6 +8,7 @@ use Rattle.am_headline.proofs.Words.{Segment, line_of, BecameComplete, KeepsView
 use Rattle.am_headline.proofs.Words.{events_have_effects, all_get, senders_in_order, send_stands_once, bounded_holds, sent_holds, front_begins, few_names}
 use Rattle.am_headline.proofs.Words.{run_owned, IsNoted, nil_of, StandsAt, NameStands, NotedStands, told_all, group_kept, steps_move, Following}
 use Rattle.am_chain_moves.specs.Kept as groups
+use Rattle.am_headline.specs.Lists.{LawfulListsFit}
 use Rattle.am_headline.proofs.{Lists.item_begins, Lists.item_back, Fold.Quiet, Fold.KeptBy, Fold.Became, Fold.Held, Begun.held, Greatest.unbroken, Told.Told}
 use Rattle.am_headline.proofs.{Told.Taking, Told.taking_in_group, Told.told_same, Told.told_idle, Told.told_step, Told.told_start, Moments.done_then}
 use Rattle.am_headline.proofs.{Moments.given_then}
@@ -198,3 +199,9 @@ headline_holds rules events may = record {
   begins = front_begins rules events;
   bounded = bounded_holds rules events may;
 }
+
+pub lists_fit : LawfulListsFit
+lists_fit rules events may whole =
+    let w = run rules events in
+    let h = at_moment rules may events whole in
+    record { fits = (group_good rules w h.to h.follows).fit; listed = λ name some. has_list rules may w name h.is some }

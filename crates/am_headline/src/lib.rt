@@ -2,6 +2,7 @@
 //! name is moves of the group that stands for its world (`am_steps`).
 #![tactic(auto)]
 
+ghost use Rattle.am_headline.specs.Lists.{LawfulListsFit};
 ghost use Rattle.am_play.specs.Claims.{HeadlineHolds, ViewsFit};
 
 /// Up to its lawful front each run keeps the headline: each name is given a gapless segment of the group's list, which has each accepted send
@@ -14,4 +15,9 @@ pub fn the_headline_holds()
 /// Up to there a View that leaves somebody out always fits: each entry lies so far above its node's base that there is room for it.
 pub fn views_fit()
     ensures { ViewsFit }
+{}
+
+/// Where a run isn't broken each entry of the group's list fits those before it, and who was given something has or had a list.
+pub fn lawful_lists_fit()
+    ensures { LawfulListsFit }
 {}

@@ -12,7 +12,7 @@ use Rattle.am_lines.specs.declared.line.Line.TheVariants as line
 use Rattle.am_lines.specs.Lines.{most_line, line_of, hear_line, is_for_any, addressees_of}
 use Rattle.am_lines.specs.Answers.{to_text}
 use Rattle.am_lines.specs.Laws.{LettersAreLines}
-use Rattle.am_lines.proofs.Printed.{AreNames, cut_between, lacks_append, name_lacks, names_again, names_short, hex_again, pairs_length, are_names, are_lives, name_starts}
+use Rattle.am_printed.proofs.Printed.{AreNames, cut_between, lacks_append, name_lacks, names_again, names_short, hex_again, pairs_length, are_names, are_lives, name_starts}
 
 -- ---- a set's text has no blank and doesn't begin with a star
 

@@ -2,6 +2,7 @@
 use Rattle.am_unballoted.proofs.Words.{◌≡◌, ◌≢◌, ℕ, ◌+◌, true, List, [], Some, refl, sym, ◌∙◌, subst, arith, Entry, Data, Join, Rules, blank, AllFit, item_at}
 use Rattle.am_unballoted.proofs.Words.{deliveries, World, run, accepted_sends, has_log, BeginsAt, UnballotedHolds, split, good_begins, begins_take}
 use Rattle.am_unballoted.proofs.Words.{senders_in_order, send_stands_once, bounded_holds, sent_holds, all_get}
+use Rattle.am_unballoted.specs.Lists.{UnballotedListsFit}
 use Rattle.am_unballoted.proofs.{Lists.item_taken, Kept.first_of, Kept.At, Worlds.StandsAt, Worlds.Kept, Worlds.WorldOk, Steps.nil_of, Runs.world_ok}
 
 -- what is accepted stands in the group's list
@@ -57,3 +58,10 @@ unballoted_holds rules events may none =
       senders_order = senders_in_order w fit;
       bounded = bounded_holds rules events may;
     }
+
+pub unballoted_lists_fit : UnballotedListsFit
+unballoted_lists_fit rules events may none =
+    let w = run rules events in
+    let h = world_ok rules events may none in
+    let m = w.nodes (first_of rules) in
+    record { fits = group_fits rules w h; listed = λ name some. given_log rules m.core.log.entries m.core.acc w name h.kept some }

@@ -12,8 +12,8 @@ use Rattle.am_fields.specs.declared.fault.FieldFault.TheVariants.{Form}
 use Rattle.am_fields.specs.Fields.{parts_of, cut_of, name_of, names_onto, names_of, same}
 use Rattle.am_fields.proofs.Cuts.{rest_parts, parts_begin}
 use Rattle.am_play.specs.Text.{name_text, list_text, names_text}
-use Rattle.am_lines.proofs.Printed.{set_behind}
-use Rattle.am_lines.proofs.Reread.{then_parts, name_is}
+use Rattle.am_printed.proofs.Printed.{set_behind}
+use Rattle.am_printed.proofs.Reread.{then_parts, name_is}
 
 order_by : (b : Bool) (r : Result (List ℕ) FieldFault) (out : List ℕ) → (if b then Err Form else r) ≡ Ok out → (b ≡ false) × (r ≡ Ok out)
 order_by true r out is = cc

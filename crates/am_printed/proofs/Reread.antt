@@ -14,7 +14,7 @@ use Rattle.am_fields.specs.declared.fault.FieldFault.{FieldFault}
 use Rattle.am_fields.specs.declared.fault.FieldFault.TheVariants.{Form, Limit}
 use Rattle.am_fields.specs.Fields.{cut_of, onto_cut, and_then, is_numeral, number_up_to, life_of_word, name_with, name_of, is_pair_digit, digit_value, are_pairs, bytes_in, bytes_of, same}
 use Rattle.am_play.specs.Text.{name_text, hex_byte, body_text}
-use Rattle.am_lines.proofs.Printed.{own}
+use Rattle.am_printed.proofs.Printed.{own}
 
 -- ---- numbers
 

@@ -1,0 +1,292 @@
+-- The text of a run whose list fits agrees.
+use Rattle.std.proofs.Common.{◌≡◌, ◌≢◌, ℕ, zero, suc, ◌+◌, ◌≤◌, ◌==◌, true, false, if◌then◌else◌, List, [], ◌∷◌, ◌++◌, length, take, get_or, unwrap_or}
+use Rattle.std.proofs.Common.{refl, sym, ap, ◌∙◌, arith, subst, Option, Some, None, slice_get}
+use Rattle.std.specs.Prelude.{All}
+use Rattle.std.specs.List.{range_with_len}
+use Rattle.std.proofs.lemmas.List.{take_all}
+use Rattle.std.proofs.lemmas.Option.{slice_get-get_or}
+use Rattle.std.proofs.lemmas.List.Elements.{All-nil, All-cons, All-head, All-tail}
+use Rattle.std.proofs.lemmas.Bool.Decides.{nat_tests}
+use Rattle.am_base.specs.Names.{place_of}
+use Rattle.am_base.specs.Founding.{Rules, MayFound}
+use Rattle.am_base.specs.Lists.{blank, AllFit}
+use Rattle.am_base.specs.declared.entry.Entry.{Entry}
+use Rattle.am_base.specs.declared.entry.Entry.TheVariants as entries
+use Rattle.am_base.specs.declared.outcome.Outcome.{Outcome}
+use Rattle.am_base.specs.declared.outcome.Outcome.TheVariants as said
+use Rattle.am_group.specs.declared.event.Act.{Act}
+use Rattle.am_group.specs.declared.event.Act.TheVariants as acts
+use Rattle.am_group.specs.declared.event.Event.{Event}
+use Rattle.am_group.specs.declared.event.Record.{Record}
+use Rattle.am_group.specs.Journals.{item_at}
+use Rattle.am_group.specs.Deliveries.{name_of, taken_in, given_to, deliveries}
+use Rattle.am_model.specs.Node.{Node, founders_view, has_log}
+use Rattle.am_play.specs.World.{World, run}
+use Rattle.am_play.specs.Group.{logs}
+use Rattle.am_play.specs.Claims.{Segment, Once, Sent}
+use Rattle.am_play.specs.Lawful.{watch_run, lawful_front, before_break}
+use Rattle.am_play.proofs.Runs.{watched_is_run, one_record_each}
+use Rattle.am_effects.proofs.Items.{all_item}
+use Rattle.am_report.specs.Schedules.{IsOfBytes, AreOfBytes}
+use Rattle.am_laws.specs.Bytes.{IsShort, BodyWithin}
+use Rattle.am_laws.proofs.Named.{run_named}
+use Rattle.am_laws.proofs.RunCounts.{numbers_hold}
+use Rattle.am_unballoted.specs.Lists.{ListFits}
+use Rattle.am_unballoted.proofs.Holds.{unballoted_holds, unballoted_lists_fit}
+use Rattle.am_headline.proofs.Holds.{headline_holds, lists_fit}
+use Rattle.am_audit.specs.declared.verdict.Verdict.TheVariants as verdicts
+use Rattle.am_audit.specs.Lines.{Reading}
+use Rattle.am_audit.specs.Verdicts.{or_else, first_fault, first_astray, first_lost, first_early, first_misfit, first_skipped, first_unsent, first_unlogged}
+use Rattle.am_audit.specs.Verdicts.{first_untaken, lines_of, wrong_lists, wrong_events, verdict_of}
+use Rattle.am_records.specs.Records.{IsSayable, AsksBytes}
+use Rattle.am_records.proofs.Sound.{records_are_sound, requests_in_turn}
+use Rattle.am_audited.specs.Texts.{sends_of, answers_of, takes_of, texts_of, logs_in, reading_of}
+use Rattle.am_audited.specs.Claims.{right_verdict, TextAgrees, RunsHaveTheirTexts, LawfulTextsAgree, UnballotedTextsAgree}
+use Rattle.am_audited.proofs.Entries.{IsRaised}
+use Rattle.am_audited.proofs.Runs.{GivesRaised, GaveRaised, group_begins, run_read}
+use Rattle.am_audited.proofs.Fitting.{all_raised, no_misfit}
+use Rattle.am_audited.proofs.Logs.{IsRight, no_fault, no_astray, no_early, run_goes}
+use Rattle.am_audited.proofs.Sends.{none_lost, answers_once, none_skipped, requests_are}
+use Rattle.am_audited.proofs.Asked.{InTurn, none_unsent, asked_there, all_asked}
+use Rattle.am_audited.proofs.Takes.{IsListed, none_unlogged, none_untaken, takes_are, logs_are}
+
+-- ---- bodies
+
+asks_by : (act : Act) → BodyWithin act → IsOfBytes act → AsksBytes act
+asks_by (acts.Send body) within bytes = (bytes, within)
+asks_by _ within bytes = tt
+
+pub all_ask : (events : List Event) → All (λ (e : Event). BodyWithin e.act) events → AreOfBytes events → All (λ (e : Event). AsksBytes e.act) events
+all_ask [] within bytes = All-nil (λ (e : Event). AsksBytes e.act)
+all_ask (e ∷ es) within bytes = All-cons (λ (x : Event). AsksBytes x.act) e es
+    (asks_by e.act (All-head (λ (x : Event). BodyWithin x.act) e es within) (All-head (λ (x : Event). IsOfBytes x.act) e es bytes))
+    (all_ask es (All-tail (λ (x : Event). BodyWithin x.act) e es within) (All-tail (λ (x : Event). IsOfBytes x.act) e es bytes))
+
+-- ---- what a run is whose list fits
+
+record IsFit (rules : Rules) (events : List Event) : Type 0 where
+  short : IsShort rules events
+  asks : All (λ (e : Event). AsksBytes e.act) events
+  segment : Segment rules (run rules events)
+  once : Once (run rules events)
+  sent : Sent rules events
+  lists : ListFits (run rules events)
+
+right : (rules : Rules) (events : List Event) → IsFit rules events → IsRight rules (run rules events).group
+right rules events h =
+    let begins = group_begins rules events in
+    record {
+      fits = h.lists.fits;
+      say = (records_are_sound rules events h.short h.asks).group;
+      raised = subst (All (IsRaised rules)) (sym begins.1) (all_raised rules begins.0 (subst (AllFit blank 1) begins.1 h.lists.fits));
+      rest = begins.0;
+      begins = begins.1;
+    }
+
+-- ---- what was given out is in the list
+
+-- an item of one list is in another
+There : {A : Type 0} → A → List A → Type 0
+There x xs = (j : ℕ) × (slice_get xs j ≡ Some x)
+
+there_front : {A : Type 0} (x : A) (xs ys : List A) → There x xs → There x (xs ++ ys)
+unfolding There
+there_front x [] ys (j, is) = absurd (cc)
+there_front x (z ∷ xs) ys (zero, is) = (0, is)
+there_front x (z ∷ xs) ys (suc j, is) = let rest = there_front x xs ys (j, is) in (suc rest.0, rest.1)
+
+there_back : {A : Type 0} (x : A) (xs ys : List A) → There x ys → There x (xs ++ ys)
+unfolding There
+there_back x [] ys h = h
+there_back x (z ∷ xs) ys h = let rest = there_back x xs ys h in (suc rest.0, rest.1)
+
+given_one : (r : Record) (number : ℕ) (e : Entry) → r.outcome ≡ said.Took number e → There (number, e) (given_to (name_of r) r)
+unfolding There
+given_one r number e is =
+    let own : (name_of r == name_of r) ≡ true = grind (arith, nat_tests) in
+    let given : given_to (name_of r) r ≡ (number, e) ∷ [] = ap (λ b. if b then taken_in r.outcome else []) own ∙ ap taken_in is in
+    (0, ap (λ (l : List (ℕ × Entry)). slice_get l 0) given)
+
+given_there : (records : List Record) (k : ℕ) (r : Record) (number : ℕ) (e : Entry) → slice_get records k ≡ Some r → r.outcome ≡ said.Took number e
+    → There (number, e) (deliveries records (name_of r))
+given_there [] k r number e at is = absurd (cc)
+given_there (x ∷ xs) zero r number e at is =
+    let same : x ≡ r = cc in
+    there_front (number, e) (given_to (name_of r) x) (deliveries xs (name_of r))
+    (subst (λ (y : Record). There (number, e) (given_to (name_of r) y)) (sym same) (given_one r number e is))
+given_there (x ∷ xs) (suc k) r number e at is =
+    there_back (number, e) (given_to (name_of r) x) (deliveries xs (name_of r)) (given_there xs k r number e at is)
+
+some_there : {A : Type 0} (x : A) (xs : List A) → There x xs → xs ≢ []
+unfolding There
+some_there x [] h = absurd (let is = h.1 in cc)
+some_there x (z ∷ xs) h = λ is. absurd (cc)
+
+took_raised : (rules : Rules) (w : World) (number : ℕ) (e : Entry) (name : ℕ) → IsRight rules w.group → Segment rules w
+    → There (number, e) (deliveries w.records name) → IsRaised rules e
+unfolding There
+took_raised rules w number e name right segment there =
+    let found = segment.each name (some_there (number, e) (deliveries w.records name) there) in
+    let at = found.2 there.0 number e there.1 in
+    all_item (IsRaised rules) w.group (found.0 + there.0) e right.raised at.1
+
+gave_one : (rules : Rules) (w : World) (k : ℕ) (r : Record) (o : Outcome) → IsRight rules w.group → Segment rules w → slice_get w.records k ≡ Some r
+    → r.outcome ≡ o → GivesRaised rules o
+gave_one rules w k r (said.Took number e) right segment at is =
+    took_raised rules w number e (name_of r) right segment (given_there w.records k r number e at is)
+gave_one rules w k r _ right segment at is = tt
+
+gave : (rules : Rules) (w : World) → IsRight rules w.group → Segment rules w → All (GaveRaised rules) w.records
+gave rules w right segment = λ k d low.
+    gave_one rules w k (get_or w.records k d) (get_or w.records k d).outcome right segment (slice_get-get_or w.records k d low) refl
+
+-- ---- who was given something has a list
+
+no_log : (w : World) → ListFits w → IsListed w
+no_log w fits name none = by (deliveries w.records name) refl
+  where
+    by : (given : List (ℕ × Entry)) → deliveries w.records name ≡ given → deliveries w.records name ≡ []
+    by [] is = is
+    by (x ∷ xs) is = absurd (
+        let has = fits.listed name (λ empty. let no : x ∷ xs ≡ [] = sym is ∙ empty in absurd (cc)) in
+        let no : true ≡ false = sym has ∙ none in cc)
+
+no_name : (rules : Rules) (events : List Event) → MayFound rules → IsListed (run rules events) → (name : ℕ) → 256 ≤ name
+    → deliveries (run rules events).records name ≡ []
+no_name rules events may listed name above =
+    let w = run rules events in
+    let named = run_named rules events may in
+    let most = named.most (place_of name) in
+    let strange = named.unborn name (omega arith) in
+    listed name (ap (λ (n : Node). has_log n.status) strange)
+
+-- ---- the verdict
+
+lists_right : (rules : Rules) (events : List Event) (broken : Option ℕ) (s : Reading) → IsFit rules events
+    → s.group ≡ texts_of rules (run rules events).group → s.logs ≡ logs_in rules (logs (run rules events))
+    → s.answers ≡ answers_of (run rules events).records → wrong_lists s ≡ None
+unfolding wrong_lists
+lists_right rules events broken s h group lines answers =
+    let w = run rules events in
+    let r = right rules events h in
+    let go = run_goes rules w r h.segment in
+    let long = (numbers_hold rules events).group in
+    let few = h.short.few in
+    let may = h.short.founds in
+    let fault : first_fault [] s.logs ≡ None = ap (first_fault []) lines ∙ no_fault rules w.group [] (logs_in rules (logs w)) r tt go in
+    let astray : first_astray s.group s.logs ≡ None =
+    ap (λ g. first_astray g s.logs) group ∙ ap (first_astray (texts_of rules w.group)) lines ∙ no_astray rules w.group [] (logs_in rules (logs w)) go in
+    let lost : first_lost s.group s.answers ≡ None =
+    ap (λ g. first_lost g s.answers) group ∙ ap (first_lost (texts_of rules w.group)) answers
+    ∙ none_lost rules w.group (answers_of w.records) r.say (answers_once w.group w.records h.once.each) in
+    let early : first_early [] s.logs ≡ None = ap (first_early []) lines ∙ no_early rules w.group [] (logs_in rules (logs w)) go in
+    let same : length w.group ≡ length (founders_view rules ∷ r.rest) = ap length r.begins in
+    let misfit : first_misfit 1 blank s.group ≡ None =
+    ap (first_misfit 1 blank) (group ∙ ap (texts_of rules) r.begins)
+    ∙ no_misfit rules r.rest may (subst (AllFit blank 1) r.begins r.fits) (subst (All IsSayable) r.begins r.say) (omega arith) in
+    ap (λ o. or_else o (or_else (first_astray s.group s.logs) (or_else (first_lost s.group s.answers) (or_else (first_early [] s.logs) (first_misfit 1 blank
+    s.group))))) fault
+    ∙ ap (λ o. or_else o (or_else (first_lost s.group s.answers) (or_else (first_early [] s.logs) (first_misfit 1 blank s.group)))) astray
+    ∙ ap (λ o. or_else o (or_else (first_early [] s.logs) (first_misfit 1 blank s.group))) lost
+    ∙ ap (λ o. or_else o (first_misfit 1 blank s.group)) early ∙ misfit
+
+in_turn : (rules : Rules) (events : List Event) → IsFit rules events → InTurn (sends_of (run rules events).records)
+in_turn rules events h = λ name.
+    let w = run rules events in
+    let is = requests_are name w.records (records_are_sound rules events h.short h.asks).records in
+    is ∙ requests_in_turn rules events h.short.founds name ∙ ap (λ (l : List ℕ). range_with_len 1 (length l)) (sym is)
+
+events_right : (rules : Rules) (events : List Event) (s : Reading) → IsFit rules events
+    → s.group ≡ texts_of rules (run rules events).group → s.logs ≡ logs_in rules (logs (run rules events))
+    → s.sends ≡ sends_of (run rules events).records → s.takes ≡ takes_of rules (run rules events).records → wrong_events s ≡ None
+unfolding wrong_events
+events_right rules events s h group lines sends takes =
+    let w = run rules events in
+    let r = right rules events h in
+    let sound = records_are_sound rules events h.short h.asks in
+    let turn = in_turn rules events h in
+    let skipped : first_skipped [] s.sends ≡ None = ap (first_skipped []) sends ∙ none_skipped [] (sends_of w.records) (λ name. refl) turn in
+    let asked = all_asked (sends_of w.records) w.group (λ k from req body at.
+    let all : run rules (take (length events) events) ≡ w = ap (run rules) (take_all (length events) events (omega arith)) in
+    let was = h.sent.each (length events) (suc k) from req body (ap (λ (v : World). item_at v.group (suc k)) all ∙ at) in
+    asked_there w.records was.0 was.1 from req body was.3 was.4) in
+    let unsent : first_unsent s.sends s.group ≡ None =
+    ap (λ l. first_unsent l s.group) sends ∙ ap (first_unsent (sends_of w.records)) group
+    ∙ none_unsent rules (sends_of w.records) w.group turn r.say asked in
+    let listed = no_log w h.lists in
+    let logged : (name : ℕ) → lines_of name s.takes ≡ lines_of name s.logs = λ name.
+    ap (lines_of name) takes ∙ takes_are rules name w.records sound.records
+    ∙ sym (logs_are rules w name listed (no_name rules events h.short.founds listed)) ∙ ap (lines_of name) (sym lines) in
+    let unlogged : first_unlogged s.logs [] s.takes ≡ None = none_unlogged s.logs s.takes logged in
+    ap (λ o. or_else o (or_else (first_unsent s.sends s.group) (or_else (first_unlogged s.logs [] s.takes) (first_untaken s.takes [] s.logs)))) skipped
+    ∙ ap (λ o. or_else o (or_else (first_unlogged s.logs [] s.takes) (first_untaken s.takes [] s.logs))) unsent
+    ∙ ap (λ o. or_else o (first_untaken s.takes [] s.logs)) unlogged ∙ none_untaken s.logs s.takes logged
+
+agrees_by : (s : Reading) (events : List Event) → wrong_lists s ≡ None → wrong_events s ≡ None → s.events ≡ length events → verdict_of s ≡ right_verdict events
+unfolding verdict_of
+agrees_by s events lists deeds many =
+    ap (λ o. unwrap_or o (if s.events == 0 then verdicts.ListsAgree else unwrap_or (wrong_events s) verdicts.Agrees)) lists
+    ∙ ap (λ o. if s.events == 0 then verdicts.ListsAgree else unwrap_or o verdicts.Agrees) deeds
+    ∙ ap (λ n. if n == 0 then verdicts.ListsAgree else verdicts.Agrees) many
+
+fit_agrees : (rules : Rules) (events : List Event) → IsFit rules events → TextAgrees rules events
+fit_agrees rules events h =
+    let s = watch_run rules events in
+    let is = watched_is_run rules events in
+    let r = right rules events h in
+    let reading = reading_of rules s in
+    let group : reading.group ≡ texts_of rules (run rules events).group = ap (λ (w : World). texts_of rules w.group) is in
+    let lines : reading.logs ≡ logs_in rules (logs (run rules events)) = ap (λ (w : World). logs_in rules (logs w)) is in
+    let answers : reading.answers ≡ answers_of (run rules events).records = ap (λ (w : World). answers_of w.records) is in
+    let sends : reading.sends ≡ sends_of (run rules events).records = ap (λ (w : World). sends_of w.records) is in
+    let takes : reading.takes ≡ takes_of rules (run rules events).records = ap (λ (w : World). takes_of rules w.records) is in
+    let many : reading.events ≡ length events = ap (λ (w : World). length w.records) is ∙ one_record_each rules events in
+    record {
+      reads = run_read rules events h.short h.asks (record { group = r.raised; given = gave rules (run rules events) r h.segment });
+      verdict = agrees_by reading events (lists_right rules events s.broken reading h group lines answers)
+          (events_right rules events reading h group lines sends takes) many;
+    }
+
+-- ---- what is claimed
+
+pub unballoted_texts_agree : UnballotedTextsAgree
+unballoted_texts_agree rules events short bytes none =
+    let holds = unballoted_holds rules events short.founds none in
+    fit_agrees rules events (record {
+      short = short;
+      asks = all_ask events short.bodies bytes;
+      segment = holds.segment;
+      once = holds.once;
+      sent = holds.sent;
+      lists = unballoted_lists_fit rules events short.founds none;
+    })
+
+pub lawful_texts_agree : LawfulTextsAgree
+lawful_texts_agree rules events short bytes whole =
+    let all : lawful_front rules events ≡ events = ap (before_break events) whole in
+    let front = (headline_holds rules events short.founds).front in
+    fit_agrees rules events (record {
+      short = short;
+      asks = all_ask events short.bodies bytes;
+      segment = subst (λ (es : List Event). Segment rules (run rules es)) all front.segment;
+      once = subst (λ (es : List Event). Once (run rules es)) all front.once;
+      sent = subst (λ (es : List Event). Sent rules es) all front.sent;
+      lists = lists_fit rules events short.founds whole;
+    })
+
+raised_entry : (rules : Rules) (e : Entry) → rules.resilience ≡ 0 → IsRaised rules e
+raised_entry rules (entries.View stamp members resilience) none = λ zero. none
+raised_entry rules (entries.Data from req body) none = tt
+raised_entry rules (entries.Join name) none = tt
+raised_entry rules (entries.Leave name) none = tt
+
+raised_outcome : (rules : Rules) (o : Outcome) → rules.resilience ≡ 0 → GivesRaised rules o
+raised_outcome rules (said.Took number e) none = raised_entry rules e none
+raised_outcome rules _ none = tt
+
+pub runs_have_their_texts : RunsHaveTheirTexts
+runs_have_their_texts rules events short bytes none =
+    run_read rules events short (all_ask events short.bodies bytes) (record {
+      group = λ k d low. raised_entry rules (get_or (run rules events).group k d) none;
+      given = λ k d low. raised_outcome rules (get_or (run rules events).records k d).outcome none;
+    })

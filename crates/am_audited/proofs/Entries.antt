@@ -1,0 +1,129 @@
+-- An entry that is printed is read.
+use Rattle.std.proofs.Common.{◌≡◌, ℕ, ◌<◌, ◌≤◌, ◌==◌, ◌&&◌, zero, suc, Bool, true, false, List, [], ◌∷◌, ◌++◌, length, lit<, refl, ap, ◌∙◌, arith}
+use Rattle.std.proofs.Common.{Result, Ok, Err, Option, Some, None, if◌then◌else◌}
+use Rattle.std.specs.Prelude.{codes, decimal}
+use Rattle.std.proofs.lemmas.List.{append-nil}
+use Rattle.std.proofs.lemmas.Bool.Decides.{nat_tests}
+use Rattle.am_base.specs.Most.{most_number, most_body}
+use Rattle.am_base.specs.Names.{IsSet}
+use Rattle.am_base.specs.Founding.{Rules}
+use Rattle.am_base.specs.declared.name.Stamp.{Stamp}
+use Rattle.am_base.specs.declared.entry.Entry.{Entry}
+use Rattle.am_base.specs.declared.entry.Entry.TheVariants as entries
+use Rattle.am_fields.specs.declared.fault.FieldFault.{FieldFault}
+use Rattle.am_fields.specs.declared.fault.FieldFault.TheVariants.{Form}
+use Rattle.am_fields.specs.Fields.{cut_of}
+use Rattle.am_play.specs.Text.{name_text, stamp_text, names_text, body_text, resilience_text, entry_text}
+use Rattle.am_audit.specs.declared.outline.Outline.{Outline}
+use Rattle.am_audit.specs.declared.outline.Outline.TheVariants as outlines
+use Rattle.am_audit.specs.Fields.{data_parts, data_of, resilience_of, resilience_in, view_of, outline_of, data_in}
+use Rattle.am_printed.proofs.Printed.{number_again, name_again, names_again}
+use Rattle.am_printed.proofs.Words.{decimal_word, name_word, stamp_word, names_word, word_cut, word_whole, stamp_again, body_again}
+use Rattle.am_records.specs.Records.{IsSayable}
+use Rattle.am_audited.proofs.Chars.{HasBytes}
+use Rattle.am_audited.proofs.Outcomes.{two_words, IsReadAs}
+
+-- a resilience as it is read, where the founding's is read as 0
+abbrev pub resilience_as : Rules → ℕ → ℕ
+resilience_as rules resilience = if resilience == rules.resilience then 0 else resilience
+
+-- what an entry's text is read as
+abbrev pub outline_as : Rules → Entry → Outline
+outline_as rules (entries.Data from req body) = outlines.Data from req
+outline_as rules (entries.Join name) = outlines.Join name
+outline_as rules (entries.Leave name) = outlines.Leave name
+outline_as rules (entries.View stamp members resilience) = outlines.View stamp members (resilience_as rules resilience)
+
+-- no View has the resilience 0 but where the founding has
+abbrev pub IsRaised : Rules → Entry → Type 0
+IsRaised rules (entries.View stamp members resilience) = resilience ≡ 0 → rules.resilience ≡ 0
+IsRaised rules _ = Unit {0}
+
+pub has_bytes : (entry : Entry) → IsSayable entry → HasBytes entry
+has_bytes (entries.Data from req body) say = say.2
+has_bytes _ say = tt
+
+-- ---- views
+
+-- a resilience's word, or none
+abbrev word_by : Bool → ℕ → Option (List ℕ)
+word_by true resilience = None
+word_by false resilience = Some (114 ∷ decimal resilience)
+
+text_by : Bool → ℕ → List ℕ
+text_by b resilience = if b then [] else codes " r" ++ decimal resilience
+
+cut_by : (b : Bool) (members : List ℕ) (resilience : ℕ) → cut_of 32 (names_text members ++ text_by b resilience) ≡ (names_text members, word_by b resilience)
+unfolding text_by
+cut_by true members resilience = ap (cut_of 32) (append-nil (names_text members)) ∙ word_whole (names_text members) (names_word members)
+cut_by false members resilience = word_cut (names_text members) (114 ∷ decimal resilience) (names_word members)
+
+resilience_read : (b : Bool) (resilience : ℕ) → resilience ≤ 15 → (b ≡ false → 0 < resilience) → resilience_in (word_by b resilience)
+    ≡ Ok (if b then 0 else resilience)
+unfolding resilience_of
+resilience_read true resilience low some = refl
+resilience_read false resilience low some =
+    let above = some refl in
+    let other : (resilience == 0) ≡ false = grind (arith, nat_tests) in
+    let filled : (length (114 ∷ decimal resilience) == 0) ≡ false = grind (arith, nat_tests) in
+    rw (number_again 15 resilience low (lit< tt), other, filled) refl
+
+view_read : (b : Bool) (stamp : Stamp) (members : List ℕ) (resilience : ℕ) → stamp.round ≤ most_number → stamp.by < 256 → IsSet members → resilience ≤ 15
+    → (b ≡ false → 0 < resilience) → view_of (stamp_text stamp ++ 32 ∷ (names_text members ++ text_by b resilience))
+    ≡ Ok (outlines.View stamp members (if b then 0 else resilience))
+unfolding view_of
+view_read b stamp members resilience round by set low some =
+    rw (
+      two_words (stamp_text stamp) (names_text members ++ text_by b resilience) (stamp_word stamp),
+      stamp_again stamp round by,
+      cut_by b members resilience,
+      names_again members set,
+      resilience_read b resilience low some,
+    ) refl
+
+-- ---- entries
+
+data_read : (from req : ℕ) (body : List ℕ) → from < 256 → req ≤ most_number
+    → data_parts (name_text from ++ 32 ∷ (decimal req ++ 32 ∷ body_text body)) ≡ Ok (from, req, body_text body)
+unfolding data_parts
+data_read from req body low within =
+    rw (
+      two_words (name_text from) (decimal req ++ 32 ∷ body_text body) (name_word from),
+      name_again from low,
+      two_words (decimal req) (body_text body) (decimal_word req),
+      number_again most_number req within (lit< tt),
+    ) refl
+
+pub entry_read : (rules : Rules) (entry : Entry) → IsSayable entry → IsRaised rules entry → outline_of (entry_text rules entry) ≡ Ok (outline_as rules entry)
+unfolding outline_of entry_text data_of resilience_text text_by
+entry_read rules (entries.Data from req body) say raised =
+    rw (data_read from req body say.0 say.1, body_again most_body body say.2 say.3) refl
+entry_read rules (entries.Join name) say raised = rw (name_again name say) refl
+entry_read rules (entries.Leave name) say raised = rw (name_again name say) refl
+entry_read rules (entries.View stamp members resilience) say raised =
+    view_read (resilience == rules.resilience) stamp members resilience say.1 say.0 say.2 say.3 (λ other. above (rules.resilience) resilience other raised)
+  where
+    above : (least resilience : ℕ) → (resilience == least) ≡ false → (resilience ≡ 0 → least ≡ 0) → 0 < resilience
+    above least zero other raised = absurd (let same = raised refl in grind (arith, nat_tests))
+    above least (suc before) other raised = omega arith
+
+pub is_read : (rules : Rules) (entry : Entry) → IsSayable entry → IsRaised rules entry → IsReadAs rules entry
+is_read rules entry say raised = (outline_as rules entry, entry_read rules entry say raised)
+
+-- ---- sends
+
+-- the entry is this send, whatever its body
+abbrev pub is_of : ℕ → ℕ → Entry → Bool
+is_of from req (entries.Data f r body) = (f == from) && (r == req)
+is_of from req _ = false
+
+abbrev pub data_as : Entry → Result (ℕ × ℕ × List ℕ) FieldFault
+data_as (entries.Data from req body) = Ok (from, req, body_text body)
+data_as _ = Err Form
+
+pub data_in_is : (rules : Rules) (entry : Entry) → IsSayable entry → data_in (entry_text rules entry) ≡ data_as entry
+unfolding data_in entry_text
+data_in_is rules (entries.Data from req body) say = data_read from req body say.0 say.1
+data_in_is rules (entries.Join name) say = refl
+data_in_is rules (entries.Leave name) say = refl
+data_in_is rules (entries.View stamp members resilience) say = refl

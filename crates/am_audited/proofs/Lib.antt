@@ -1,0 +1,12 @@
+pub mod Chars
+pub mod Outcomes
+pub mod Reading
+pub mod Whole
+pub mod Entries
+pub mod Runs
+pub mod Fitting
+pub mod Logs
+pub mod Sends
+pub mod Asked
+pub mod Takes
+pub mod Agree

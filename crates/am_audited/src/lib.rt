@@ -1,0 +1,20 @@
+//! What an audit tells of the text of a run: it is read as that run, and where the run is lawful its verdict agrees.
+#![tactic(auto)]
+
+ghost use Rattle.am_audited.specs.Claims.{RunsHaveTheirTexts, LawfulTextsAgree, UnballotedTextsAgree};
+
+/// The text of every run of at most 100,000 events of a group that is founded without resilience, lawful or not, is read as the run's
+/// records, its group list and its logs.
+pub fn runs_have_their_texts()
+    ensures { RunsHaveTheirTexts }
+{}
+
+/// So is the text of every lawful run, whatever the resilience, and its verdict agrees; where there are no events, the lists agree.
+pub fn lawful_texts_agree()
+    ensures { LawfulTextsAgree }
+{}
+
+/// And so is the text of every run in which nobody began a ballot, whoever stops.
+pub fn unballoted_texts_agree()
+    ensures { UnballotedTextsAgree }
+{}

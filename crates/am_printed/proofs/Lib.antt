@@ -1,0 +1,4 @@
+pub mod Printed
+pub mod Reread
+pub mod Sets
+pub mod Words

@@ -1,0 +1,5 @@
+pub mod Names
+pub mod Limits
+pub mod Settled
+pub mod Lives
+pub mod Sound

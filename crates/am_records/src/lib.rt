@@ -1,0 +1,22 @@
+//! What is so of the records of every run, whoever stops and whatever was lost: the lives that they tell, the limits of what they tell, and
+//! the requests that they give out.
+#![tactic(auto)]
+
+ghost use Rattle.am_records.specs.Records.{LivesAreTold, RecordsAreSound, RequestsInTurn};
+
+/// A record's life is what the last return of its place before it tells, or 1 where there is none.
+pub fn lives_are_told()
+    ensures { LivesAreTold }
+{}
+
+/// In a run of at most 100,000 events, whose bodies are bytes, each send, answer and take is of its act alone, with numbers within their
+/// limits; each entry that is taken or stands in the group list is of names that there are, within their limits; and a place returns with a
+/// life that there is.
+pub fn records_are_sound()
+    ensures { RecordsAreSound }
+{}
+
+/// The requests that a name was given are 1, 2, 3 and so on.
+pub fn requests_are_in_turn()
+    ensures { RequestsInTurn }
+{}
