@@ -59,3 +59,9 @@ goes_on out next start this rest whole more so_far = ap (λ t. t ++ rest) more �
 -- and where nothing is left, all of it
 pub ends : (out start rest whole : List ℕ) → rest ≡ [] → out ++ rest ≡ start ++ whole → out ≡ start ++ whole
 ends out start rest whole none so_far = sym (append-nil out) ∙ ap (λ t. out ++ t) (sym none) ∙ so_far
+
+pub ruleset given = (told_more, told_end, goes_on, ends)
+
+pub ruleset folded = (folded_more, folded_end)
+
+pub ruleset logs = (logs_more, logs_end, goes_on, ends)

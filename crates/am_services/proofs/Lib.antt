@@ -1,2 +1,6 @@
 mod Given
 mod Told
+mod Ended
+mod Parts
+mod Starts
+mod Entries

@@ -3,8 +3,17 @@ use Rattle.std.proofs.Common.{◌≡◌, ℕ, List, [], ◌∷◌, ◌++◌, ref
 use Rattle.std.specs.List.{fold}
 use Rattle.std.proofs.lemmas.List.Sums.{fold-append}
 use Rattle.am_base.specs.declared.entry.Entry.{Entry}
-use Rattle.am_services.specs.Texts.{lines_behind}
-use Rattle.am_services.specs.Telling.{told}
+use Rattle.std.proofs.Common.{map}
+use Rattle.std.proofs.lemmas.List.Folds.{fold-map}
+use Rattle.am_base.specs.Founding.{Rules}
+use Rattle.am_seg.specs.Messages.{message_at}
+use Rattle.am_seg.specs.Assembling.{no_parts, after_entry}
+use Rattle.am_seg.proofs.Fold.{messages_assemble}
+use Rattle.am_dir.specs.Replicas.{entries_of, fresh}
+use Rattle.am_dir.proofs.ReplicaLaws.{replicas_show}
+use Rattle.am_services.specs.Texts.{ended_line, lines_behind, message_upto, messages_of, start_of, snapshot_at, snapshot_upto, snapshots_of, front_of, directory_lines, directory_of}
+use Rattle.am_services.specs.Telling.{told, assembled_then, message_told, messages_told, replayed_then, replayed_with, snapshot_told, snapshots_told}
+use Rattle.am_dir.specs.Replicas.{ReplicaState, shown}
 
 told_behind : {S : Type 0} (next : S → ℕ × Entry → S) (line : ℕ × Entry → S → List ℕ) (s : S) (upto : List (ℕ × Entry) → ℕ × Entry → List ℕ)
     → ((before : List (ℕ × Entry)) (pair : ℕ × Entry) → line pair (fold next s (before ++ pair ∷ [])) ≡ upto (before ++ pair ∷ []) pair)
@@ -16,3 +25,37 @@ told_behind next line s upto same before (pair ∷ rest) =
     let tail : told next line (next (fold next s before) pair) rest ≡ lines_behind upto (before ++ pair ∷ []) rest =
     ap (λ x. told next line x rest) (sym one) ∙ told_behind next line s upto same (before ++ pair ∷ []) rest in
     (λ k. head k ++ tail k)
+
+-- ---- messages
+
+ends_upto : (name : ℕ) (before : List (ℕ × Entry)) (pair : ℕ × Entry)
+    → message_told name pair (fold assembled_then no_parts (before ++ pair ∷ [])) ≡ message_upto name (before ++ pair ∷ []) pair
+ends_upto name before pair =
+    let upto : List (ℕ × Entry) = before ++ pair ∷ [] in
+    ap (λ a. ended_line name pair.0 a.ended) (sym (fold-map after_entry (λ (p : ℕ × Entry). p.1) no_parts upto))
+    ∙ ap (ended_line name pair.0) (messages_assemble (entries_of upto)).ended
+
+pub messages_are : (name : ℕ) (given : List (ℕ × Entry)) → messages_told name no_parts given ≡ messages_of (name, given)
+unfolding messages_of
+messages_are name given = told_behind assembled_then (message_told name) no_parts (message_upto name) (ends_upto name) [] given
+
+-- ---- directories and snapshots
+
+asks_upto : (name start : ℕ) (before : List (ℕ × Entry)) (pair : ℕ × Entry)
+    → snapshot_told name pair (fold replayed_then (fresh start) (before ++ pair ∷ [])) ≡ snapshot_upto name start (before ++ pair ∷ []) pair
+asks_upto name start before pair = ap (snapshot_at name pair.0 pair.1) (replicas_show start (before ++ pair ∷ []))
+
+pub snapshots_are : (rules : Rules) (name : ℕ) (given : List (ℕ × Entry))
+    → snapshots_told name (fresh (start_of rules (name, given))) given ≡ snapshots_of rules (name, given)
+unfolding snapshots_of
+snapshots_are rules name given =
+    let start = start_of rules (name, given) in
+    told_behind replayed_then (snapshot_told name) (fresh start) (snapshot_upto name start) (asks_upto name start) [] given
+
+pub directory_is : (rules : Rules) (name : ℕ) (given : List (ℕ × Entry)) (s : ReplicaState) (front : ℕ)
+    → s ≡ replayed_with (fresh (start_of rules (name, given))) given → front ≡ front_of given
+    → directory_lines name front (shown s) ≡ directory_of rules (name, given)
+unfolding directory_of
+directory_is rules name given s front replayed last =
+    (λ k. directory_lines name (last k) (shown (replayed k)))
+    ∙ ap (directory_lines name (front_of given)) (replicas_show (start_of rules (name, given)) given)

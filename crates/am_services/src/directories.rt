@@ -20,7 +20,7 @@ use am_report::name::push_name;
 use std::alloc::Global;
 
 /// The number from which a name's list begins, by what it was given.
-#[tactic(auto, unfolding(crate::specs::Texts::start_of))]
+#[tactic(auto, using(crate::proofs::Starts::starts))]
 pub(crate) fn start_of(founding: &Founding, records: &[Record], name: Name) -> u32
     ensures { result ≡ start_of founding.now (name, deliveries records.now name) }
 {
@@ -89,12 +89,7 @@ fn push_replica(out: &mut String, name: Name, front: u32, replica: &Replica) -> 
 }
 
 /// Feeds what a record gave to a name, where it gave something; the number of the last entry that it was given.
-fn feed_given(
-    replica: &mut Replica,
-    front: u32,
-    name: Name,
-    item: &Record,
-) -> Result<u32, NoMemory>
+fn feed_given(replica: &mut Replica, front: u32, name: Name, item: &Record) -> Result<u32, NoMemory>
     ensures fed { OnOk result (replica.new ≡ replayed_with replica.old (given_to name item.now)) }
     ensures front { IfOk result (λ last. last ≡ fold (λ f pair. pair.0) front (given_to name item.now)) }
 {
@@ -106,7 +101,7 @@ fn feed_given(
 }
 
 /// Adds the directory of a name.
-#[tactic(auto, unfolding(crate::specs::Texts::directory_of))]
+#[tactic(auto, using(crate::proofs::Given::folded, crate::proofs::Told::directory_is))]
 fn push_directory(
     out: &mut String,
     founding: &Founding,
@@ -125,7 +120,7 @@ fn push_directory(
 }
 
 /// The directory of each of these names, and the closing mark (docs/DIRECTORY.md, "Printed").
-#[tactic(auto, unfolding(crate::specs::Texts::directories_text))]
+#[tactic(auto, using(crate::proofs::Given::logs), unfolding(crate::specs::Texts::directories_text))]
 pub fn directories_text(
     alloc: Global,
     journal: &Journal,

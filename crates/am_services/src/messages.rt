@@ -19,7 +19,6 @@ use am_seg::parts::{part_count, part_of};
 use std::alloc::Global;
 
 /// The parts of a message, a line of hexadecimal digits each.
-#[tactic(auto, unfolding(crate::specs::Texts::parts_text))]
 pub fn parts_text(alloc: Global, message: &[u8]) -> Result<String, NoMemory>
     requires { length message.now ≤ most_message }
     ensures { IfOk result (λ text. string_bytes text ≡ parts_text message.now) }
@@ -78,7 +77,7 @@ fn push_fed(
 }
 
 /// Adds the messages that ended in what a name was given.
-#[tactic(auto, unfolding(crate::specs::Texts::messages_of))]
+#[tactic(auto, using(crate::proofs::Given::given, crate::proofs::Told::messages_are))]
 fn push_messages(out: &mut String, records: &[Record], name: Name) -> Result<(), NoMemory>
     ensures { OnOk result (string_bytes out.new
         ≡ string_bytes out.old ++ messages_of (name, deliveries records.now name)) }
@@ -91,7 +90,7 @@ fn push_messages(out: &mut String, records: &[Record], name: Name) -> Result<(),
 }
 
 /// The messages that ended in what each of these names was given, and the closing mark (docs/MESSAGES.md, "Printed").
-#[tactic(auto, unfolding(crate::specs::Texts::messages_text))]
+#[tactic(auto, using(crate::proofs::Given::logs), unfolding(crate::specs::Texts::messages_text))]
 pub fn messages_text(
     alloc: Global,
     records: &[Record],

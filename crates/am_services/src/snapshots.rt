@@ -89,7 +89,7 @@ fn push_fed(
 }
 
 /// Adds the snapshots that a name could send.
-#[tactic(auto, unfolding(crate::specs::Texts::snapshots_of))]
+#[tactic(auto, using(crate::proofs::Given::given, crate::proofs::Told::snapshots_are))]
 fn push_snapshots(
     out: &mut String,
     founding: &Founding,
@@ -107,7 +107,7 @@ fn push_snapshots(
 }
 
 /// The snapshots that each of these names could send, and the closing mark (docs/DIRECTORY.md, "Printed").
-#[tactic(auto, unfolding(crate::specs::Texts::snapshots_text))]
+#[tactic(auto, using(crate::proofs::Given::logs), unfolding(crate::specs::Texts::snapshots_text))]
 pub fn snapshots_text(
     alloc: Global,
     journal: &Journal,

@@ -1,0 +1,38 @@
+-- What an assembler answers to an entry, and what has ended then.
+use Rattle.std.proofs.Common.{◌≡◌, ◌≢◌, ℕ, List, Bool, true, false, ◌==◌, Option, Some, None, cond, refl, sym, ap, ◌∙◌, subst}
+use Rattle.std.proofs.lemmas.Bool.Decides.{nat_tests}
+use Rattle.std.proofs.Common.{arith}
+use Rattle.am_base.specs.declared.entry.Entry.{Entry}
+use Rattle.am_base.specs.declared.entry.Entry.TheVariants.{Data, Join, Leave, View}
+use Rattle.am_seg.specs.declared.fed.Fed.TheVariants as feds
+use Rattle.am_seg.specs.Assembling.{Assembly, Taken, plain, passed, part, whole, taken_at, fed_by, ended_by, after_entry, fed_with, ended_from}
+use Rattle.am_seg.proofs.Keeping.{ended_other}
+
+-- where the answer isn't that a message is whole, none has ended
+pub none_ended : (a : Assembly) (entry : Entry) → ((whose : ℕ) → fed_with a entry ≡ feds.Whole whose → ⊥) → (after_entry a entry).ended ≡ None
+unfolding after_entry fed_with
+none_ended a (Data from req body) other = sym (ended_other from (taken_at a from body) other)
+none_ended a (Join name) other = refl
+none_ended a (Leave name) other = refl
+none_ended a (View stamp members resilience) other = refl
+
+some_by : (from whose : ℕ) (taken : Taken) → fed_by from taken ≡ feds.Whole whose → (message : List ℕ) × (ended_by from taken ≡ Some (whose, message))
+some_by from whose plain is = absurd (cc)
+some_by from whose passed is = absurd (cc)
+some_by from whose (part begun) is = absurd (cc)
+some_by from whose (whole message) is = let same : from ≡ whose = cc in (message, ap (λ n. Some (n, message)) same)
+
+-- where it is, one of that name has ended
+pub some_ended : (a : Assembly) (entry : Entry) (whose : ℕ) → fed_with a entry ≡ feds.Whole whose
+    → (message : List ℕ) × ((after_entry a entry).ended ≡ Some (whose, message))
+unfolding after_entry fed_with
+some_ended a (Data from req body) whose is = some_by from whose (taken_at a from body) is
+some_ended a (Join name) whose is = absurd (cc)
+some_ended a (Leave name) whose is = absurd (cc)
+some_ended a (View stamp members resilience) whose is = absurd (cc)
+
+-- it is the one that is told of that name
+pub told_from : (ended : Option (ℕ × List ℕ)) (whose : ℕ) (message : List ℕ) → ended ≡ Some (whose, message) → ended_from whose ended ≡ Some message
+told_from ended whose message is =
+    let own : (whose == whose) ≡ true = grind (arith, nat_tests) in
+    ap (ended_from whose) is ∙ ap (λ b. cond b (Some message) None) own

@@ -1,0 +1,34 @@
+-- The number from which a name's list begins.
+use Rattle.std.proofs.Common.{◌≡◌, ℕ, ◌+◌, ◌<◌, ◌≤◌, List, [], ◌∷◌, ◌++◌, length, drop, slice_index_or, cond, refl, sym, ap, ◌∙◌}
+use Rattle.am_base.specs.declared.entry.Entry.{Entry}
+use Rattle.am_base.specs.Founding.{Rules}
+use Rattle.am_base.specs.Names.{has}
+use Rattle.am_group.specs.declared.event.Record.{Record}
+use Rattle.am_group.specs.Deliveries.{deliveries, given_to}
+use Rattle.am_report.proofs.Logs.{given_more, given_end}
+use Rattle.am_services.specs.Texts.{start_of}
+
+-- by the first record that gave something
+pub starts_at : (rules : Rules) (records : List Record) (name i : ℕ) (d : Record) (number : ℕ) (entry : Entry) → i < length records
+    → deliveries (drop i records) name ≡ deliveries records name → (number, entry) ∷ [] ≡ given_to name (slice_index_or records i d)
+    → number ≡ start_of rules (name, deliveries records name)
+unfolding start_of
+starts_at rules records name i d number entry within same given =
+    let first : deliveries records name ≡ (number, entry) ∷ deliveries (drop (i + 1) records) name = sym same ∙ given_more records name i d within
+    ∙ ap (λ g. g ++ deliveries (drop (i + 1) records) name) (sym given) in
+    rw first refl
+
+pub nothing_given : (records : List Record) (name i : ℕ) (d : Record) → i < length records → [] ≡ given_to name (slice_index_or records i d)
+    → deliveries (drop i records) name ≡ deliveries records name → deliveries (drop (i + 1) records) name ≡ deliveries records name
+nothing_given records name i d within none same =
+    ap (λ g. g ++ deliveries (drop (i + 1) records) name) none ∙ sym (given_more records name i d within) ∙ same
+
+-- where none gave anything
+pub starts_new : (rules : Rules) (records : List Record) (name i : ℕ) → length records ≤ i → deliveries (drop i records) name ≡ deliveries records name
+    → cond (has rules.founders name) 1 2 ≡ start_of rules (name, deliveries records name)
+unfolding start_of
+starts_new rules records name i over same =
+    let none : deliveries records name ≡ [] = sym same ∙ given_end records name i over in
+    rw none refl
+
+pub ruleset starts = (starts_at, nothing_given)

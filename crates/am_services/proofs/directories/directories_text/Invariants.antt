@@ -1,0 +1,8 @@
+use Rattle.std.proofs.Common.{◌≡◌, ◌++◌, drop, string_bytes}
+use Rattle.std.specs.List.{flat_map}
+use Rattle.am_report.specs.Logs.{logs_for}
+use Rattle.am_services.specs.Texts.{directory_of}
+use Rattle.am_services.proofs.directories.directories_text.Given as goal
+
+abbrev pub invariant-loop-name : goal.invariant-loop-name
+invariant-loop-name l = string_bytes l.out ++ flat_map (directory_of l.journal.founding) (logs_for l.journal.records (drop l.name-index l.names)) ≡ flat_map (directory_of l.journal.founding) (logs_for l.journal.records l.names)
