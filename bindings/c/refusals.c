@@ -53,13 +53,11 @@ static void steps(void) {
     WANT(muoswyld_step(&node, "tick", SIZE_MAX, answer, sizeof answer, &length) == MUOSWYLD_LENGTH);
     WANT(muoswyld_step(&node, "tick", 4, answer, SIZE_MAX, &length) == MUOSWYLD_LENGTH);
     WANT(length == 77 && same());
-    WANT(step("info", sizeof answer) == MUOSWYLD_DONE);
-    WANT(length == 32 && memcmp(answer, "member 1.0 0 0,1,2 0 0 0 1 1 -", 30) != 0);
+    WANT(step("nonsense", sizeof answer) == MUOSWYLD_DONE && length == 10 && memcmp(answer, "bad line 1", 10) == 0);
 }
 
 /* An answer that finds no room waits: it is told once, to the same line, and other lines are refused until then. */
 static void rooms(void) {
-    char first[64];
     WANT(step("send 61", 0) == MUOSWYLD_NO_ROOM && same());
     size_t wanted = length;
     WANT(muoswyld_step(&node, "send 61", 7, NULL, 0, &length) == MUOSWYLD_NO_ROOM && length == wanted);
@@ -79,7 +77,6 @@ static void rooms(void) {
     WANT(muoswyld_step(&node, longer, 4096, answer, 20, &length) == MUOSWYLD_OTHER_LINE);
     WANT(muoswyld_step(&node, longer, sizeof longer, answer, 20, &length) == MUOSWYLD_DONE && memcmp(answer, "bad line 4", 10) == 0);
     WANT(step("", sizeof answer) == MUOSWYLD_DONE && length == 10 && memcmp(answer, "bad line 1", 10) == 0);
-    (void)first;
 }
 
 int main(void) {

@@ -27,9 +27,14 @@ impl Member {
     fn tell(&mut self, line: &str) -> Result<String, Refusal> {
         let answer = self.node.step(line)?;
         for letter in &answer.letters {
-            for place in letter.names().filter_map(|name| name.split('/').next()?.parse::<usize>().ok()) {
+            for place in letter
+                .names()
+                .filter_map(|name| name.split('/').next()?.parse::<usize>().ok())
+            {
                 // a letter that gets lost is sent again at a tick
-                let _ = self.socket.send_to(letter.heard().as_bytes(), self.peers[place]);
+                let _ = self
+                    .socket
+                    .send_to(letter.heard().as_bytes(), self.peers[place]);
             }
         }
         Ok(answer.said)
@@ -76,7 +81,9 @@ impl Member {
 /// Waits until the members have taken an entry that ends so.
 fn wait(took: &Receiver<(u8, String)>, mut members: Vec<u8>, end: &str) {
     while !members.is_empty() {
-        let (place, entry) = took.recv_timeout(Duration::from_secs(20)).expect("an entry within 20 seconds");
+        let (place, entry) = took
+            .recv_timeout(Duration::from_secs(20))
+            .expect("an entry within 20 seconds");
         println!("member {place} took {entry}");
         if entry.ends_with(end) {
             members.retain(|other| *other != place);
@@ -85,26 +92,44 @@ fn wait(took: &Receiver<(u8, String)>, mut members: Vec<u8>, end: &str) {
 }
 
 fn main() {
-    let sockets: Vec<UdpSocket> = (0..3).map(|_| UdpSocket::bind("127.0.0.1:0").expect("a socket")).collect();
-    let peers: Vec<SocketAddr> = sockets.iter().map(|socket| socket.local_addr().expect("its address")).collect();
+    let sockets: Vec<UdpSocket> = (0..3)
+        .map(|_| UdpSocket::bind("127.0.0.1:0").expect("a socket"))
+        .collect();
+    let peers: Vec<SocketAddr> = sockets
+        .iter()
+        .map(|socket| socket.local_addr().expect("its address"))
+        .collect();
     let (take, took) = channel();
     let mut tell = Vec::new();
     let mut threads = Vec::new();
     for (place, socket) in sockets.into_iter().enumerate() {
         let (sender, told) = channel();
         let (peers, took) = (peers.clone(), take.clone());
-        socket.set_read_timeout(Some(Duration::from_millis(2))).expect("a timeout");
+        socket
+            .set_read_timeout(Some(Duration::from_millis(2)))
+            .expect("a timeout");
         threads.push(thread::spawn(move || {
             // a node stays on the thread that opens it
             let node = Node::open(&format!("--name {place} --founders 0,1,2 --resilience 1"))?;
-            Member { place: place as u8, node, socket, peers, took }.run(told)
+            Member {
+                place: place as u8,
+                node,
+                socket,
+                peers,
+                took,
+            }
+            .run(told)
         }));
         tell.push(sender);
     }
     tell[1].send(Told::Send("hello")).expect("it runs");
     wait(&took, vec![0, 1, 2], "data 1 1 68656c6c6f");
     tell[0].send(Told::Crash).expect("it runs");
-    threads.remove(0).join().expect("it ended").expect("there was memory");
+    threads
+        .remove(0)
+        .join()
+        .expect("it ended")
+        .expect("there was memory");
     tell[2].send(Told::Send("still here")).expect("it runs");
     tell[1].send(Told::Stopped(0)).expect("it runs");
     wait(&took, vec![1, 2], "data 2 1 7374696c6c2068657265");

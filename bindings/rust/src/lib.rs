@@ -33,7 +33,14 @@ struct Handle {
 
 extern "C" {
     fn muoswyld_open(node: *mut Handle, options: *const u8, n: usize) -> i32;
-    fn muoswyld_step(node: *mut Handle, line: *const u8, n: usize, answer: *mut u8, room: usize, length: *mut usize) -> i32;
+    fn muoswyld_step(
+        node: *mut Handle,
+        line: *const u8,
+        n: usize,
+        answer: *mut u8,
+        room: usize,
+        length: *mut usize,
+    ) -> i32;
     fn muoswyld_close(node: *mut Handle) -> i32;
 }
 
@@ -73,7 +80,10 @@ pub struct Letter {
 impl Letter {
     /// The names that it is for; of a letter for any life, names of some life of their places.
     pub fn names(&self) -> impl Iterator<Item = &str> {
-        self.to.trim_start_matches('*').split(',').filter(|name| *name != "-")
+        self.to
+            .trim_start_matches('*')
+            .split(',')
+            .filter(|name| *name != "-")
     }
 
     /// The line by which a node hears it.
@@ -95,8 +105,16 @@ impl Answer {
     fn of(text: &str) -> Answer {
         let mut parts = text.split(" | ");
         let said = parts.next().unwrap_or_default().to_string();
-        let letter = |part: &str| part.split_once(' ').map(|(to, data)| Letter { to: to.into(), data: data.into() });
-        Answer { said, letters: parts.filter_map(letter).collect() }
+        let letter = |part: &str| {
+            part.split_once(' ').map(|(to, data)| Letter {
+                to: to.into(),
+                data: data.into(),
+            })
+        };
+        Answer {
+            said,
+            letters: parts.filter_map(letter).collect(),
+        }
     }
 }
 
@@ -109,7 +127,12 @@ pub struct Node {
 impl Node {
     /// A node by the options of the program's word `node`, with one blank between two words.
     pub fn open(options: &str) -> Result<Node, Refusal> {
-        let mut node = Node { handle: Handle { at: ptr::null_mut() }, answer: vec![0; 4096] };
+        let mut node = Node {
+            handle: Handle {
+                at: ptr::null_mut(),
+            },
+            answer: vec![0; 4096],
+        };
         // SAFETY: the handle is closed, and nothing else has it; the options are read for the call.
         match unsafe { muoswyld_open(&mut node.handle, options.as_ptr(), options.len()) } {
             DONE => Ok(node),
@@ -126,7 +149,14 @@ impl Node {
             // SAFETY: the handle came from `muoswyld_open`, and `&mut self` makes this the only call on it. The line is read for the
             // call, and the answer has as many bytes as are said.
             let number = unsafe {
-                muoswyld_step(&mut self.handle, line.as_ptr(), line.len(), answer.as_mut_ptr(), answer.len(), &mut length)
+                muoswyld_step(
+                    &mut self.handle,
+                    line.as_ptr(),
+                    line.len(),
+                    answer.as_mut_ptr(),
+                    answer.len(),
+                    &mut length,
+                )
             };
             match number {
                 DONE => return Ok(&self.answer[..length]),
@@ -139,7 +169,8 @@ impl Node {
 
     /// The answer to a line, taken apart.
     pub fn step(&mut self, line: &str) -> Result<Answer, Refusal> {
-        self.tell(line.as_bytes()).map(|answer| Answer::of(&String::from_utf8_lossy(answer)))
+        self.tell(line.as_bytes())
+            .map(|answer| Answer::of(&String::from_utf8_lossy(answer)))
     }
 }
 

@@ -10,12 +10,25 @@ struct Group {
 impl Group {
     fn new(count: usize) -> Group {
         let founders: Vec<String> = (0..count).map(|place| place.to_string()).collect();
-        let open = |place| Node::open(&format!("--name {place} --founders {} --resilience 1", founders.join(","))).ok();
-        Group { nodes: (0..count).map(open).collect(), letters: VecDeque::new() }
+        let open = |place| {
+            Node::open(&format!(
+                "--name {place} --founders {} --resilience 1",
+                founders.join(",")
+            ))
+            .ok()
+        };
+        Group {
+            nodes: (0..count).map(open).collect(),
+            letters: VecDeque::new(),
+        }
     }
 
     fn tell(&mut self, place: usize, line: &str) -> String {
-        let answer = self.nodes[place].as_mut().expect("it runs").step(line).expect("there is memory");
+        let answer = self.nodes[place]
+            .as_mut()
+            .expect("it runs")
+            .step(line)
+            .expect("there is memory");
         self.letters.extend(answer.letters);
         answer.said
     }
@@ -34,7 +47,9 @@ impl Group {
     }
 
     fn running(&self) -> Vec<usize> {
-        (0..self.nodes.len()).filter(|place| self.nodes[*place].is_some()).collect()
+        (0..self.nodes.len())
+            .filter(|place| self.nodes[*place].is_some())
+            .collect()
     }
 
     fn take(&mut self, place: usize) -> Vec<String> {
@@ -53,9 +68,17 @@ impl Group {
 fn answers_as_the_page_says() {
     let mut node = Node::open("--name 1 --founders 0,1,2 --resilience 1").unwrap();
     let sent = node.tell(b"send 61").unwrap();
-    assert_eq!(sent, b"queued 1 | 0 41470301010000000100001900000001000000000000000161");
-    let stored = node.step("hear 1,2 41470303000000000100001f00000000000000020000000201010000000161").unwrap();
-    assert_eq!((stored.said.as_str(), stored.letters.len()), ("stored 2", 0));
+    assert_eq!(
+        sent,
+        b"queued 1 | 0 41470301010000000100001900000001000000000000000161"
+    );
+    let stored = node
+        .step("hear 1,2 41470303000000000100001f00000000000000020000000201010000000161")
+        .unwrap();
+    assert_eq!(
+        (stored.said.as_str(), stored.letters.len()),
+        ("stored 2", 0)
+    );
     assert_eq!(node.step("take").unwrap().said, "took 1 view 1.0 0,1,2");
     assert_eq!(node.step("take").unwrap().said, "took 2 data 1 1 61");
 }
@@ -63,8 +86,18 @@ fn answers_as_the_page_says() {
 #[test]
 fn bad_lines_have_their_causes() {
     let mut node = Node::open("--name 1 --founders 0,1,2").unwrap();
-    for (line, cause) in [("", 1), ("sends 61", 1), ("send 6", 2), ("ask 0", 3), ("tick\n", 1)] {
-        assert_eq!(node.step(line).unwrap().said, format!("bad line {cause}"), "{line:?}");
+    for (line, cause) in [
+        ("", 1),
+        ("sends 61", 1),
+        ("send 6", 2),
+        ("ask 0", 3),
+        ("tick\n", 1),
+    ] {
+        assert_eq!(
+            node.step(line).unwrap().said,
+            format!("bad line {cause}"),
+            "{line:?}"
+        );
     }
     assert_eq!(node.tell(&[b'a'; 4097]).unwrap(), b"bad line 4");
     assert_eq!(node.tell(&vec![0xff; 1 << 20]).unwrap(), b"bad line 4");
@@ -73,9 +106,19 @@ fn bad_lines_have_their_causes() {
 
 #[test]
 fn options_that_are_none_open_nothing() {
-    let of = ["", "--name 1", "--name 16 --founders 0,1", "--name 1  --founders 0,1", "--name 1 --founders 0,1 --name 1"];
+    let of = [
+        "",
+        "--name 1",
+        "--name 16 --founders 0,1",
+        "--name 1  --founders 0,1",
+        "--name 1 --founders 0,1 --name 1",
+    ];
     for options in of {
-        assert_eq!(Node::open(options).err(), Some(Refusal::BadOptions), "{options:?}");
+        assert_eq!(
+            Node::open(options).err(),
+            Some(Refusal::BadOptions),
+            "{options:?}"
+        );
     }
 }
 
@@ -87,7 +130,10 @@ fn an_answer_longer_than_its_room_is_told_whole() {
     assert_eq!(group.tell(0, &format!("send {body}")), "queued 1");
     group.run(5);
     let taken = group.take(0);
-    assert_eq!(taken, ["1 view 1.0 0,1".to_string(), format!("2 data 0 1 {body}")]);
+    assert_eq!(
+        taken,
+        ["1 view 1.0 0,1".to_string(), format!("2 data 0 1 {body}")]
+    );
 }
 
 #[test]
@@ -106,6 +152,13 @@ fn a_group_goes_on_without_a_member_that_crashed() {
     group.run(20);
     let (one, two) = (group.take(1), group.take(2));
     assert_eq!(one, two);
-    assert!(one.iter().any(|entry| entry.starts_with("3 view ") && entry.ends_with(" 1,2")), "{one:?}");
-    assert!(one.iter().any(|entry| entry.ends_with("data 2 1 74776f")), "{one:?}");
+    assert!(
+        one.iter()
+            .any(|entry| entry.starts_with("3 view ") && entry.ends_with(" 1,2")),
+        "{one:?}"
+    );
+    assert!(
+        one.iter().any(|entry| entry.ends_with("data 2 1 74776f")),
+        "{one:?}"
+    );
 }
