@@ -107,7 +107,7 @@ is_ending sent count name whose message h =
       },
     )
 
-length-parts_from : (name : ℕ) (message : List ℕ) → length (parts_from name message) ≡ part_count (length message)
+pub length-parts_from : (name : ℕ) (message : List ℕ) → length (parts_from name message) ≡ part_count (length message)
 unfolding parts_of
 length-parts_from name message = length-map (parts_of message) _ ∙ length-map-range_with_len _ 0 (part_count (length message))
 
