@@ -1,7 +1,6 @@
 -- What holds of a run up to its lawful front: its list fits, requests are above nought, and each stands for one body.
-use Rattle.std.proofs.Common.{◌≡◌, ℕ, ◌+◌, ◌<◌, ◌≤◌, List, [], ◌∷◌, ◌++◌, length, take, Some, slice_get, refl, sym, ap, ◌∙◌, subst, arith, ⊎_elim}
+use Rattle.std.proofs.Common.{◌≡◌, ℕ, ◌+◌, ◌<◌, List, [], ◌∷◌, ◌++◌, length, take, Some, slice_get, sym, ap, ◌∙◌, subst, arith, ⊎_elim}
 use Rattle.am_base.specs.Founding.{Rules, MayFound}
-use Rattle.am_base.specs.declared.outcome.Outcome.{Outcome}
 use Rattle.am_base.specs.declared.outcome.Outcome.TheVariants as said
 use Rattle.am_base.specs.declared.event.NodeEvent.TheVariants as does
 use Rattle.am_group.specs.declared.event.Act.{Act}
@@ -16,11 +15,12 @@ use Rattle.am_model.specs.Step.{step}
 use Rattle.am_effects.specs.Causes.{Cause, calls}
 use Rattle.am_effects.specs.Effects.{Answers, WasQueued, AnswersAsk}
 use Rattle.am_effects.specs.Events as event
-use Rattle.am_effects.specs.Events.{actor, IsCall, IsCause, Happens, IsIdle, idles, returns, steps}
+use Rattle.am_effects.specs.Events.{actor, IsCall, IsCause, Happens, idles, returns, steps}
 use Rattle.am_effects.proofs.Items.{get_front, get_last}
 use Rattle.am_effects.proofs.Events.{events_have_effects}
 use Rattle.am_effects.proofs.Hearing.{steps_have_effects}
 use Rattle.am_steps.proofs.Once.{step_once}
+use Rattle.am_steps.proofs.Words.{idle_queues}
 use Rattle.am_headline.proofs.Words.{IsGood, good_begins, Group, lowest_or_first, group_kept, steps_move}
 use Rattle.am_headline.proofs.Fold.{KeptBy}
 use Rattle.am_headline.proofs.Begun.{held}
@@ -62,9 +62,6 @@ no_ask : (w : World) (name : ℕ) (a : Act) (c : Cause) (body : List ℕ) (round
 no_ask w name a c body round is asked cause =
     let call : IsCall w (act.Send body) (does.Ask round) = subst (λ x. IsCall w x (does.Ask round)) is (subst (IsCause w name a) asked cause) in
     elim call [ ]
-
-idle_queues : (o : Outcome) (req : ℕ) → IsIdle o → o ≡ said.Queued req → ⊥
-idle_queues o req idle is = subst IsIdle is idle
 
 same_record : (records : List Record) (a r : Record) → slice_get (records ++ a ∷ []) (length records) ≡ Some r → a ≡ r
 same_record records a r h = let same : Some a ≡ Some r = sym (get_last records a) ∙ h in cc

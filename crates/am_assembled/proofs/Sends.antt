@@ -1,12 +1,11 @@
 -- The claims of runs.
-use Rattle.std.proofs.Common.{◌≡◌, ◌≢◌, ℕ, zero, suc, ◌+◌, ◌-◌, ◌<◌, ◌≤◌, List, [], ◌∷◌, ◌++◌, length, take, Some, None, slice_get, true, false, refl, sym, ap, ◌∙◌, subst, arith}
+use Rattle.std.proofs.Common.{◌≡◌, ℕ, zero, suc, ◌+◌, ◌-◌, ◌<◌, List, [], ◌∷◌, ◌++◌, length, take, Some, slice_get, ap, ◌∙◌, subst, arith}
 use Rattle.std.proofs.Math.Seq.{take-length}
 use Rattle.std.proofs.lemmas.List.{length-take-le}
 use Rattle.std.proofs.lemmas.Option.{slice_get_within}
 use Rattle.am_base.proofs.Greatest.{split}
 use Rattle.am_base.specs.Names.{has, place_of}
 use Rattle.am_base.specs.Founding.{Rules, MayFound}
-use Rattle.am_base.specs.declared.entry.Entry.{Entry}
 use Rattle.am_base.specs.declared.entry.Entry.TheVariants.{Data, Join}
 use Rattle.am_group.specs.declared.event.Event.{Event}
 use Rattle.am_group.specs.Journals.{item_at}
@@ -95,7 +94,8 @@ ends_there rules events name first (suc k) message body may sent above at =
     let below : k < suc k = omega arith in
     let long : length (take (suc k) w.group) ≡ k + 1 = length-take-le (suc k) w.group (omega arith) ∙ omega arith in
     let last : slice_get (take (suc k) w.group) k ≡ Some (Data name req body) = slice_get-take (suc k) k w.group below ∙ at in
-    let cut : take (suc k) w.group ≡ take k (take (suc k) w.group) ++ Data name req body ∷ [] = cut_at (take (suc k) w.group) k (Data name req body) last long in
+    let cut : take (suc k) w.group ≡ take k (take (suc k) w.group) ++ Data name req body ∷ [] =
+    cut_at (take (suc k) w.group) k (Data name req body) last long in
     let init = take k (take (suc k) w.group) in
     let good : IsGood (init ++ Data name req body ∷ []) = subst IsGood cut (good_begins (begins_take (suc k) w.group) (group_good rules events may)) in
     let parts : SendsParts name first message (init ++ Data name req body ∷ []) = subst (SendsParts name first message) cut

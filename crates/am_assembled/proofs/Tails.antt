@@ -1,8 +1,8 @@
 -- What the last Data of a member's place are, along a list that fits.
-use Rattle.std.proofs.Common.{◌≡◌, ℕ, ◌+◌, ◌-◌, ◌<◌, ◌≤◌, ◌==◌, Bool, true, false, List, [], ◌∷◌, ◌++◌, length, get_or, slice_get, Some, slice_index}
+use Rattle.std.proofs.Common.{◌≡◌, ℕ, ◌+◌, ◌-◌, ◌<◌, ◌≤◌, ◌==◌, true, List, [], ◌∷◌, ◌++◌, length, get_or, slice_get, Some, slice_index}
 use Rattle.std.proofs.Common.{refl, sym, ap, ◌∙◌, subst, arith, ⊎_elim, suc, append_assoc, append-nil, length-append}
 use Rattle.std.proofs.Math.Seq.{get_or-append_seam}
-use Rattle.std.proofs.lemmas.Bool.{eqb-true, eqb-false, ne_eqb, cond-true, cond-false}
+use Rattle.std.proofs.lemmas.Bool.{eqb-true, eqb-false, cond-false}
 use Rattle.std.proofs.lemmas.List.Concat.{flat_map-append}
 use Rattle.std.proofs.lemmas.List.FromFn.{get_or-range_with_len}
 use Rattle.std.specs.List.{range_with_len}
@@ -10,7 +10,7 @@ use Rattle.am_base.proofs.Greatest.{split}
 use Rattle.am_base.specs.Names.{place_of, life_of}
 use Rattle.am_base.specs.declared.entry.Entry.{Entry}
 use Rattle.am_base.specs.declared.entry.Entry.TheVariants.{Data, Join, Leave, View}
-use Rattle.am_base.specs.Lists.{members_of, fits, row_of, request_in, requests_of}
+use Rattle.am_base.specs.Lists.{members_of, fits, request_in, requests_of}
 use Rattle.am_chain_lists.specs.Whole.{Begins, IsGood, image_of, mem}
 use Rattle.am_chain_lists.proofs.Prefixes.{begins_refl, begins_more, begins_trans, push_next, next_of}
 use Rattle.am_chain_lists.proofs.Members.{good_begins, last_fits, mem_between}
@@ -194,7 +194,8 @@ tail_ends name first message list req body good some last parts =
     let next = next_count name list req body good in
     let front = begins_more list (Data name req body ∷ []) in
     let own = sender_in list name req body good in
-    let in_list : SendsParts name first message list = λ k r b at. parts k r b (get_before list (Data name req body ∷ []) k (slice_get_within list k (Data name r b) at) ∙ at) in
+    let in_list : SendsParts name first message list =
+    λ k r b at. parts k r b (get_before list (Data name req body ∷ []) k (slice_get_within list k (Data name r b) at) ∙ at) in
     let none : Tailed name first message [] = λ up below. absurd (omega arith) in
     let inner : Tailed name first message list = tails name first message list [] list (good_begins front good) own refl in_list none in
     let there : slice_get all (length list) ≡ Some (Data name req body) = next_of list (Data name req body) (begins_refl (list ++ Data name req body ∷ [])) in

@@ -7,7 +7,7 @@ use Rattle.am_group.specs.declared.event.Event.{Event}
 use Rattle.am_group.specs.declared.event.Record.{Record}
 use Rattle.am_group.specs.Deliveries.{deliveries}
 use Rattle.am_play.specs.World.{World, run}
-use Rattle.am_play.specs.Group.{Accepted, accepted_sends}
+use Rattle.am_play.specs.Group.{accepted_sends}
 use Rattle.am_play.specs.Claims.{BeginsAt, IsSend}
 use Rattle.am_play.specs.Lawful.{lawful_front}
 use Rattle.am_seg.specs.Parts.{most_message, part_count, part_of}
