@@ -23,7 +23,8 @@ next_part : (begun : Option Begun) (name : ℕ) (p : Part) (bytes : List ℕ) �
 next_part begun name p bytes first other = ⊎_elim
     (λ (some : 0 < p.index).
     let not_first : (p.index == 0) ≡ false = ne_eqb p.index 0 (λ e. omega arith) in
-    let waits : awaits begun name p ≡ true = ap (λ b. awaits b name p) (other some) ∙ and_from _ _ (and_from _ _ (eq-eqb name name refl) (eq-eqb p.index p.index refl)) (eq-eqb p.count p.count refl) in
+    let waits : awaits begun name p ≡ true =
+    ap (λ b. awaits b name p) (other some) ∙ and_from _ _ (and_from _ _ (eq-eqb name name refl) (eq-eqb p.index p.index refl)) (eq-eqb p.count p.count refl) in
     let same : bytes_of begun ≡ bytes = ap bytes_of (other some) in
     cond-false (p.index == 0) (with_part name p []) _ not_first ∙ cond-true (awaits begun name p) (with_part name p (bytes_of begun)) passed waits
     ∙ ap (with_part name p) same)
@@ -98,7 +99,8 @@ completes sent whose body name message ending =
     ap (λ n. ended_by n (taken_with (begun_after sent) n body)) last.whose_is
     ∙ ap (λ b. ended_by name (taken_with (begun_after sent) name b)) last.body_is
     ∙ ap (ended_by name) (takes_part (begun_after sent) name message last.index ending.few within before
-    ∙ cond-true (last.index + 1 == count) (whole (take (1019 * last.index) message ++ payload_of message last.index)) _ (eq-eqb (last.index + 1) count last.last))
+    ∙ cond-true (last.index + 1 == count) (whole (take (1019 * last.index) message ++ payload_of message last.index)) _
+    (eq-eqb (last.index + 1) count last.last))
     ∙ ap (λ m. Some (name, m)) all
 
 -- ---- what is put together are parts in turn
@@ -209,11 +211,13 @@ kept name p bytes taken is = split (p.index + 1 == p.count)
     (λ last. inl (eqb-true (p.index + 1) p.count last, is ∙ cond-true (p.index + 1 == p.count) (whole (bytes ++ p.payload)) _ last))
     (λ more. inr (eqb-false (p.index + 1) p.count more, is ∙ cond-false (p.index + 1 == p.count) (whole (bytes ++ p.payload)) _ more))
 
-sound_by : (sent : List (ℕ × List ℕ)) (name : ℕ) (body : List ℕ) (taken : Taken) → Comes sent name body taken → IsSound (sent ++ (name, body) ∷ []) (begun_by taken)
+sound_by : (sent : List (ℕ × List ℕ)) (name : ℕ) (body : List ℕ) (taken : Taken) → Comes sent name body taken
+    → IsSound (sent ++ (name, body) ∷ []) (begun_by taken)
 sound_by sent name body taken (as_plain is) b had = let none : ◌≡◌ {A = Option Begun} None (Some b) = sym (ap begun_by is) ∙ had in absurd (cc)
 sound_by sent name body taken (as_passed is) b had = let none : ◌≡◌ {A = Option Begun} None (Some b) = sym (ap begun_by is) ∙ had in absurd (cc)
 sound_by sent name body taken (as_part p bytes read h is) b had = ⊎_elim
-    (λ (last : (p.index + 1 ≡ p.count) × (taken ≡ whole (bytes ++ p.payload))). let none : ◌≡◌ {A = Option Begun} None (Some b) = sym (ap begun_by last.1) ∙ had in absurd (cc))
+    (λ (last : (p.index + 1 ≡ p.count) × (taken ≡ whole (bytes ++ p.payload))).
+    let none : ◌≡◌ {A = Option Begun} None (Some b) = sym (ap begun_by last.1) ∙ had in absurd (cc))
     (λ (more : (p.index + 1 ≡ p.count → ⊥) × (taken ≡ part (record { from = name; next = p.index + 1; count = p.count; bytes = bytes ++ p.payload }))).
     let fit = part_is_fit body p read in
     let full = fit.full (omega (arith, fit.within, more.0)) in
@@ -238,8 +242,10 @@ sound_after sent = sound_from [] sent None (λ b had. absurd (cc))
 
 ends_by : (sent : List (ℕ × List ℕ)) (whose : ℕ) (body : List ℕ) (name : ℕ) (message : List ℕ) (taken : Taken) → Comes sent whose body taken
     → ended_by whose taken ≡ Some (name, message) → (name ≡ whose) × Ending (sent ++ (whose, body) ∷ []) name message
-ends_by sent whose body name message taken (as_plain is) had = let none : ◌≡◌ {A = Option (ℕ × List ℕ)} None (Some (name, message)) = sym (ap (ended_by whose) is) ∙ had in absurd (cc)
-ends_by sent whose body name message taken (as_passed is) had = let none : ◌≡◌ {A = Option (ℕ × List ℕ)} None (Some (name, message)) = sym (ap (ended_by whose) is) ∙ had in absurd (cc)
+ends_by sent whose body name message taken (as_plain is) had =
+    let none : ◌≡◌ {A = Option (ℕ × List ℕ)} None (Some (name, message)) = sym (ap (ended_by whose) is) ∙ had in absurd (cc)
+ends_by sent whose body name message taken (as_passed is) had =
+    let none : ◌≡◌ {A = Option (ℕ × List ℕ)} None (Some (name, message)) = sym (ap (ended_by whose) is) ∙ had in absurd (cc)
 ends_by sent whose body name message taken (as_part p bytes read h is) had = ⊎_elim
     (λ (last : (p.index + 1 ≡ p.count) × (taken ≡ whole (bytes ++ p.payload))).
     let fit = part_is_fit body p read in

@@ -1,6 +1,7 @@
 -- The parts of a message at the end of what was sent, and what they are together.
 use Rattle.std.proofs.Common.{◌≡◌, ℕ, zero, suc, ◌+◌, ◌-◌, ◌*◌, ◌≤◌, ◌==◌, nat_le, true, List, [], ◌∷◌, ◌++◌, length, take, drop, map}
-use Rattle.std.proofs.Common.{Option, Some, None, refl, sym, ap, ◌∙◌, subst, arith, append_assoc, length-append, take-append-drop, zero-add, add-one, cond, append-nil}
+use Rattle.std.proofs.Common.{Option, Some, None, refl, sym, ap, ◌∙◌, subst, arith, append_assoc, length-append, take-append-drop, zero-add, add-one}
+use Rattle.std.proofs.Common.{cond, append-nil}
 use Rattle.std.proofs.lemmas.Bool.{leb-true, eqb-true, le-leb, eq-eqb, and_parts, and_from, cond-true}
 use Rattle.std.proofs.lemmas.List.{take_all, take_at, drop_at, length-map}
 use Rattle.std.proofs.lemmas.List.FromFn.{map-range_with_len_more, length-map-range_with_len}
@@ -107,7 +108,7 @@ is_ending sent count name whose message h =
       },
     )
 
-length-parts_from : (name : ℕ) (message : List ℕ) → length (parts_from name message) ≡ part_count (length message)
+pub length-parts_from : (name : ℕ) (message : List ℕ) → length (parts_from name message) ≡ part_count (length message)
 unfolding parts_of
 length-parts_from name message = length-map (parts_of message) _ ∙ length-map-range_with_len _ 0 (part_count (length message))
 
@@ -143,7 +144,8 @@ last_part sent whose body name message ending =
     let last : index + 1 ≡ count = omega (arith, (sized (length message)).some) in
     let all : parts_from name message ≡ first_parts name count message index ++ (name, part_bytes index count (payload_of message index)) ∷ [] =
     all_first name message ∙ ap (first_parts name count message) (sym last) ∙ first_parts-more name count message index in
-    let is : sent ++ (whose, body) ∷ [] ≡ (ending.before ++ first_parts name count message index) ++ (name, part_bytes index count (payload_of message index)) ∷ [] =
+    let is : sent ++ (whose, body) ∷ [] ≡ (ending.before ++ first_parts name count message index)
+    ++ (name, part_bytes index count (payload_of message index)) ∷ [] =
     ending.parts ∙ ap (λ xs. ending.before ++ xs) all ∙ sym (append_assoc ending.before _ _) in
     let parts = snoc_parts sent _ (whose, body) _ is in
     record {

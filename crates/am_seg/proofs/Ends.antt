@@ -24,14 +24,14 @@ slice_get-append_seam : {A : Type 0} (xs : List A) (x : A) (ys : List A) → sli
 slice_get-append_seam [] x ys = refl
 slice_get-append_seam (y ∷ xs) x ys = slice_get-append_seam xs x ys
 
-slice_get-take : {A : Type 0} (n k : ℕ) (xs : List A) → k < n → slice_get (take n xs) k ≡ slice_get xs k
+pub slice_get-take : {A : Type 0} (n k : ℕ) (xs : List A) → k < n → slice_get (take n xs) k ≡ slice_get xs k
 slice_get-take zero k xs below = absurd (omega arith)
 slice_get-take (suc n) k [] below = refl
 slice_get-take (suc n) zero (x ∷ xs) below = refl
 slice_get-take (suc n) (suc k) (x ∷ xs) below = slice_get-take n k xs (omega arith)
 
 -- the item at the end of a list
-cut_at : {A : Type 0} (xs : List A) (k : ℕ) (x : A) → slice_get xs k ≡ Some x → length xs ≡ k + 1 → xs ≡ take k xs ++ x ∷ []
+pub cut_at : {A : Type 0} (xs : List A) (k : ℕ) (x : A) → slice_get xs k ≡ Some x → length xs ≡ k + 1 → xs ≡ take k xs ++ x ∷ []
 cut_at [] k x at long = absurd (cc)
 cut_at (y ∷ xs) zero x at long =
     let none : xs ≡ [] = empty xs (omega arith) in

@@ -14,7 +14,8 @@ use Rattle.am_base.specs.declared.entry.Entry.{Entry}
 use Rattle.am_base.specs.declared.entry.Entry.TheVariants.{Data, Join, Leave, View}
 use Rattle.am_seg.specs.declared.fed.Fed.TheVariants as feds
 use Rattle.am_seg.specs.Messages.{sent_from, from_place, last_of, message_of, message_at}
-use Rattle.am_seg.specs.Assembling.{Begun, Assembly, Taken, plain, passed, part, whole, taken_with, taken_at, begun_by, ended_by, fed_by, no_parts, after_entry, fed_with, assembled, MessagesAssemble}
+use Rattle.am_seg.specs.Assembling.{Begun, Assembly, Taken, plain, passed, part, whole, taken_with, taken_at, begun_by}
+use Rattle.am_seg.specs.Assembling.{ended_by, fed_by, no_parts, after_entry, fed_with, assembled, MessagesAssemble}
 use Rattle.am_seg.proofs.Ends.{from_place-more, sent_own, message_at-more, found}
 use Rattle.am_seg.proofs.Endings.{Ending, is_ending, unsnoc}
 use Rattle.am_seg.proofs.Assembles.{begun_next, begun_after, completes, ends_message}
@@ -41,7 +42,8 @@ place_after a (Data from req body) place long there = split (place_of from == pl
     ∙ ap (fold begun_next (get_or a.begun place None)) (sym (cond-true (place_of from == place) ((from, body) ∷ []) [] here)))
     (λ other.
     let not_at : place ≡ place_of from → ⊥ = λ e. eqb-false (place_of from) place other (sym e) in
-    get_or-set_other a.begun (place_of from) place _ None not_at ∙ ap (fold begun_next (get_or a.begun place None)) (sym (cond-false (place_of from == place) ((from, body) ∷ []) [] other)))
+    get_or-set_other a.begun (place_of from) place _ None not_at
+    ∙ ap (fold begun_next (get_or a.begun place None)) (sym (cond-false (place_of from == place) ((from, body) ∷ []) [] other)))
 place_after a (Join name) place long there = refl
 place_after a (Leave name) place long there = refl
 place_after a (View stamp members resilience) place long there = refl
@@ -78,7 +80,8 @@ data_ends sent whose body = same_messages _ _
     let is = is_ending (sent ++ (whose, body) ∷ []) (big_from 3 2 body) whose m.0 m.1 had in
     completes sent whose body m.0 m.1 (subst (λ n. Ending (sent ++ (whose, body) ∷ []) n m.1) (sym is.0) is.1))
 
-taken_data : (list : List Entry) (from req : ℕ) (body : List ℕ) → ended_by from (taken_at (assembled list) from body) ≡ message_at (list ++ Data from req body ∷ [])
+taken_data : (list : List Entry) (from req : ℕ) (body : List ℕ)
+    → ended_by from (taken_at (assembled list) from body) ≡ message_at (list ++ Data from req body ∷ [])
 taken_data list from req body =
     let there : place_of from < 16 = omega arith in
     ap (λ b. ended_by from (taken_with b from body)) (begun_at list (place_of from) there)
@@ -131,8 +134,10 @@ whole_fed : (list : List Entry) (e : Entry) (name : ℕ) (message : List ℕ) �
 unfolding fed_with
 whole_fed list (Data from req body) name message had =
     of_whole from name (taken_at (assembled list) from body) message (taken_data list from req body ∙ had)
-whole_fed list (Join joiner) name message had = let none : ◌≡◌ {A = Option (ℕ × List ℕ)} None (Some (name, message)) = sym (message_at-more list (Join joiner)) ∙ had in absurd (cc)
-whole_fed list (Leave leaver) name message had = let none : ◌≡◌ {A = Option (ℕ × List ℕ)} None (Some (name, message)) = sym (message_at-more list (Leave leaver)) ∙ had in absurd (cc)
+whole_fed list (Join joiner) name message had =
+    let none : ◌≡◌ {A = Option (ℕ × List ℕ)} None (Some (name, message)) = sym (message_at-more list (Join joiner)) ∙ had in absurd (cc)
+whole_fed list (Leave leaver) name message had =
+    let none : ◌≡◌ {A = Option (ℕ × List ℕ)} None (Some (name, message)) = sym (message_at-more list (Leave leaver)) ∙ had in absurd (cc)
 whole_fed list (View stamp members resilience) name message had =
     let none : ◌≡◌ {A = Option (ℕ × List ℕ)} None (Some (name, message)) = sym (message_at-more list (View stamp members resilience)) ∙ had in absurd (cc)
 

@@ -39,5 +39,6 @@ pub after_take : (rooms : List Room) (before after : Option ℕ) (from : ℕ) (o
     let b : Assembly = record { begun = map begun_in (set rooms (place_of from) new); ended = ended_in (set rooms (place_of from) new) after } in
     b ≡ after_data a from (taken_at a from body)
 after_take rooms before after from old new body there was kept ended =
-    let at : get_or (map begun_in rooms) (place_of from) None ≡ begun_in old = get_or-map begun_in rooms (place_of from) old None there ∙ ap begun_in (sym was) in
+    let at : get_or (map begun_in rooms) (place_of from) None ≡ begun_in old =
+    get_or-map begun_in rooms (place_of from) old None there ∙ ap begun_in (sym was) in
     rw (at, map-set, kept.begun, ended) refl

@@ -124,7 +124,8 @@ pub record FindsMessages (list : List Entry) : Type 0 where
   -- after a list it has the message that ends with the last entry
   pub ended : (assembled list).ended ≡ message_at list
   -- one entry more is answered as whole exactly where a message of that name ends with it
-  pub whole : (e : Entry) (name : ℕ) → (fed_with (assembled list) e ≡ feds.Whole name) ↔ ((message : List ℕ) × (message_at (list ++ e ∷ []) ≡ Some (name, message)))
+  pub whole : (e : Entry) (name : ℕ) → (fed_with (assembled list) e ≡ feds.Whole name)
+      ↔ ((message : List ℕ) × (message_at (list ++ e ∷ []) ≡ Some (name, message)))
 
 abbrev pub MessagesAssemble : Type 0
 MessagesAssemble = (list : List Entry) → FindsMessages list

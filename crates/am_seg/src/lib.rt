@@ -6,3 +6,5 @@ pub mod fed;
 pub mod laws;
 pub mod parts;
 mod room;
+#[cfg(test)]
+mod tests;

@@ -1,0 +1,4 @@
+pub mod Pieces
+pub mod Runs
+pub mod Sends
+pub mod Tails
