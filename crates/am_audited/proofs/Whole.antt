@@ -89,7 +89,8 @@ logs_may rules s (log ∷ logs) may = logs_may rules (with_given rules s log) lo
 -- ---- the whole
 
 -- all that is printed is within its limits
-pub record IsPrinted (rules : Rules) (records : List Record) (first : Entry) (others : List Entry) (logs : List (ℕ × List (ℕ × Entry))) (broken : Option ℕ) : Type
+pub record IsPrinted (rules : Rules) (records : List Record) (first : Entry) (others : List Entry) (logs : List (ℕ × List (ℕ
+    × Entry))) (broken : Option ℕ) : Type
     0 where
   pub told : AreTold (first_names) records
   pub shown : AreShown rules records
