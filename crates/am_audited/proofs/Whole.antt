@@ -114,7 +114,7 @@ read_as rules records group logs broken = record {
 }
 
 -- no text of a run begins with a brace
-no_brace : (rules : Rules) (records : List Record) (first : Entry) (others : List Entry) (logs : List (ℕ × List (ℕ × Entry))) (broken : Option ℕ)
+pub no_brace : (rules : Rules) (records : List Record) (first : Entry) (others : List Entry) (logs : List (ℕ × List (ℕ × Entry))) (broken : Option ℕ)
     → (slice_index (play_text rules records (first ∷ others) logs broken) 0 == 123) ≡ false
 unfolding play_text records_text record_line group_text group_line digits
 no_brace rules [] first others logs broken = refl

@@ -29,6 +29,7 @@ use Rattle.am_audit.specs.Verdicts.{verdict_of, verdict_line}
 use Rattle.am_audit.proofs.Wrongs.{agrees_means, lists_agree_means}
 use Rattle.am_sim.specs.Playing.{done_of, IsRunText}
 use Rattle.am_sim.specs.Racing.{events_of, IsRaceText}
+use Rattle.am_sim.proofs.Reread.{play_reads, play_agrees, race_reads, race_agrees}
 use Rattle.am_sim.specs.Simulation.{Keeps, Repaired, Played, Generated, Raced, Audited, IsText, run_text}
 
 -- ---- a run that is settled behind its own events
@@ -83,6 +84,8 @@ played_by bytes text (Play founding events settles) is within same =
       few = same.1;
       keeps = keeps_all founding done may;
       repaired = λ _settled. repaired founding events may;
+      reads = λ none. rw same.0 (play_reads bytes founding events settles is within same.1 none);
+      agrees = λ one. rw same.0 (play_agrees bytes founding events settles is within same.1 one);
     }
 played_by bytes text (Race plan) is within same = absurd same
 
@@ -125,6 +128,8 @@ raced_by bytes text plan is within (journal, raced, same) = record {
   raced = raced;
   written = same;
   keeps = keeps_all plan.founding (events_of journal) within.may_found;
+  reads = λ none. rw same (race_reads bytes plan journal is within raced none);
+  agrees = λ one. rw same (race_agrees bytes plan journal is within raced one);
 }
 
 -- ---- a text that is audited
