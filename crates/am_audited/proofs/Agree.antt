@@ -1,6 +1,7 @@
 -- The text of a run whose list fits agrees.
 use Rattle.std.proofs.Common.{◌≡◌, ◌≢◌, ℕ, zero, suc, ◌+◌, ◌≤◌, ◌==◌, true, false, if◌then◌else◌, List, [], ◌∷◌, ◌++◌, length, take, get_or, unwrap_or}
 use Rattle.std.proofs.Common.{refl, sym, ap, ◌∙◌, arith, subst, Option, Some, None, slice_get}
+use Rattle.std.proofs.Common.{⊎_elim}
 use Rattle.std.specs.Prelude.{All}
 use Rattle.std.specs.List.{range_with_len}
 use Rattle.std.proofs.lemmas.List.{take_all}
@@ -23,8 +24,9 @@ use Rattle.am_group.specs.Deliveries.{name_of, taken_in, given_to, deliveries}
 use Rattle.am_model.specs.Node.{Node, founders_view, has_log}
 use Rattle.am_play.specs.World.{World, run}
 use Rattle.am_play.specs.Group.{logs}
-use Rattle.am_play.specs.Claims.{Segment, Once, Sent}
-use Rattle.am_play.specs.Lawful.{watch_run, lawful_front, before_break}
+use Rattle.am_play.specs.Play.{text_of}
+use Rattle.am_play.specs.Claims.{NoBallot, Segment, Once, Sent}
+use Rattle.am_play.specs.Lawful.{broken_at, watch_run, lawful_front, before_break}
 use Rattle.am_play.proofs.Runs.{watched_is_run, one_record_each}
 use Rattle.am_effects.proofs.Items.{all_item}
 use Rattle.am_report.specs.Schedules.{IsOfBytes, AreOfBytes}
@@ -41,7 +43,7 @@ use Rattle.am_audit.specs.Verdicts.{first_untaken, lines_of, wrong_lists, wrong_
 use Rattle.am_records.specs.Records.{IsSayable, AsksBytes}
 use Rattle.am_records.proofs.Sound.{records_are_sound, requests_in_turn}
 use Rattle.am_audited.specs.Texts.{sends_of, answers_of, takes_of, texts_of, logs_in, reading_of}
-use Rattle.am_audited.specs.Claims.{right_verdict, TextAgrees, RunsHaveTheirTexts, LawfulTextsAgree, UnballotedTextsAgree}
+use Rattle.am_audited.specs.Claims.{right_verdict, AgreesAs, RunsHaveTheirTexts, LawfulTextsAgree}
 use Rattle.am_audited.proofs.Entries.{IsRaised}
 use Rattle.am_audited.proofs.Runs.{GivesRaised, GaveRaised, group_begins, run_read}
 use Rattle.am_audited.proofs.Fitting.{all_raised, no_misfit}
@@ -229,7 +231,7 @@ agrees_by s events lists deeds many =
     ∙ ap (λ o. if s.events == 0 then verdicts.ListsAgree else unwrap_or o verdicts.Agrees) deeds
     ∙ ap (λ n. if n == 0 then verdicts.ListsAgree else verdicts.Agrees) many
 
-fit_agrees : (rules : Rules) (events : List Event) → IsFit rules events → TextAgrees rules events
+fit_agrees : (rules : Rules) (events : List Event) → IsFit rules events → AgreesAs rules events (text_of rules events)
 fit_agrees rules events h =
     let s = watch_run rules events in
     let is = watched_is_run rules events in
@@ -249,30 +251,36 @@ fit_agrees rules events h =
 
 -- ---- what is claimed
 
-pub unballoted_texts_agree : UnballotedTextsAgree
-unballoted_texts_agree rules events short bytes none =
+unballoted_is_fit : (rules : Rules) (events : List Event) → IsShort rules events → AreOfBytes events → NoBallot (run rules events) → IsFit rules events
+unballoted_is_fit rules events short bytes none =
     let holds = unballoted_holds rules events short.founds none in
-    fit_agrees rules events (record {
+    record {
       short = short;
       asks = all_ask events short.bodies bytes;
       segment = holds.segment;
       once = holds.once;
       sent = holds.sent;
       lists = unballoted_lists_fit rules events short.founds none;
-    })
+    }
 
-pub lawful_texts_agree : LawfulTextsAgree
-lawful_texts_agree rules events short bytes whole =
+lawful_is_fit : (rules : Rules) (events : List Event) → IsShort rules events → AreOfBytes events → broken_at rules events ≡ None → IsFit rules events
+lawful_is_fit rules events short bytes whole =
     let all : lawful_front rules events ≡ events = ap (before_break events) whole in
     let front = (headline_holds rules events short.founds).front in
-    fit_agrees rules events (record {
+    record {
       short = short;
       asks = all_ask events short.bodies bytes;
       segment = subst (λ (es : List Event). Segment rules (run rules es)) all front.segment;
       once = subst (λ (es : List Event). Once (run rules es)) all front.once;
       sent = subst (λ (es : List Event). Sent rules es) all front.sent;
       lists = lists_fit rules events short.founds whole;
-    })
+    }
+
+pub lawful_texts_agree : LawfulTextsAgree
+lawful_texts_agree rules events short bytes one = ⊎_elim
+    (λ whole. fit_agrees rules events (lawful_is_fit rules events short bytes whole))
+    (λ none. fit_agrees rules events (unballoted_is_fit rules events short bytes none))
+    one
 
 raised_entry : (rules : Rules) (e : Entry) → rules.resilience ≡ 0 → IsRaised rules e
 raised_entry rules (entries.View stamp members resilience) none = λ zero. none

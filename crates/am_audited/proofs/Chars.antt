@@ -19,7 +19,8 @@ use Rattle.am_group.specs.declared.event.Act.TheVariants as acts
 use Rattle.am_group.specs.declared.event.Event.{Event}
 use Rattle.am_fields.specs.Fields.{onto_cut}
 use Rattle.am_play.specs.Text.{name_text, stamp_text, names_text, body_text, resilience_text, entry_text, outcome_word, numbers_text, outcome_numbers}
-use Rattle.am_play.specs.Text.{outcome_parts, outcome_text, act_word, act_parts, event_text, kind_word, is_everybody_else, addressees_text, letter_text, letters_text}
+use Rattle.am_play.specs.Text.{outcome_parts, outcome_text, act_word, act_parts, event_text, kind_word, is_everybody_else, addressees_text, letter_text}
+use Rattle.am_play.specs.Text.{letters_text}
 use Rattle.am_audit.specs.Lines.{begins_mark, mark_cut}
 use Rattle.am_audit.specs.Agreement.{IsLine}
 use Rattle.am_printed.proofs.Words.{is_plain_byte, IsWord, IsPlain, both, all_append, all_weaker, word_plain, plains, decimal_word, name_word}
@@ -163,7 +164,8 @@ letter_line place number letter =
 pub letters_line : (place number : ℕ) (letters : List Letter) → IsLine (letters_text place number letters)
 letters_line place number [] = refl
 letters_line place number (letter ∷ letters) =
-    lines (letter_text place number letter) (letters_text place (number + 1) letters) (letter_line place number letter) (letters_line place (number + 1) letters)
+    lines (letter_text place number letter) (letters_text place (number + 1) letters) (letter_line place number letter) (letters_line place
+    (number + 1) letters)
 
 -- letters are none, or begin with a bar
 abbrev pub IsBehind : List ℕ → Type 0

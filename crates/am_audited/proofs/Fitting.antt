@@ -149,7 +149,8 @@ none_misfits rules number image (e ∷ es) fit h say later low =
     ∙ none_misfits rules (number + 1) (after image number e) es fit.1 (after_above rules image number e (omega arith) fit.0 h)
     (All-tail IsSayable e es say) (omega arith) (omega arith)
 
-raised_from : (rules : Rules) (number : ℕ) (image : Image) (es : List Entry) → AllFit image number es → IsAbove rules image → 0 < number → All (IsRaised rules) es
+raised_from : (rules : Rules) (number : ℕ) (image : Image) (es : List Entry) → AllFit image number es → IsAbove rules image → 0 < number
+    → All (IsRaised rules) es
 unfolding AllFit
 raised_from rules number image [] fit h some = All-nil (IsRaised rules)
 raised_from rules number image (e ∷ es) fit h some =
@@ -165,7 +166,8 @@ first_above rules = record { viewed = omega arith; least = omega arith }
 pub all_raised : (rules : Rules) (rest : List Entry) → AllFit blank 1 (founders_view rules ∷ rest) → All (IsRaised rules) (founders_view rules ∷ rest)
 unfolding AllFit
 all_raised rules rest fit =
-    All-cons (IsRaised rules) (founders_view rules) rest (λ none. none) (raised_from rules 2 (after blank 1 (founders_view rules)) rest fit.1 (first_above rules)
+    All-cons (IsRaised rules) (founders_view rules) rest (λ none. none) (raised_from rules 2 (after blank 1 (founders_view rules)) rest fit.1
+    (first_above rules)
     (omega arith))
 
 nobody_there : (xs : List ℕ) → lowest_of xs ≡ None → has xs 0 ≡ true → ⊥

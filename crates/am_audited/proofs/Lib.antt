@@ -10,3 +10,4 @@ pub mod Sends
 pub mod Asked
 pub mod Takes
 pub mod Agree
+pub mod Scripts

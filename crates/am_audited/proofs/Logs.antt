@@ -76,7 +76,8 @@ gap_none last line (inr some) =
 goes_on : (before : List Line) (line : Line) → Goes before line → gap_at (last_of line.name before) line ≡ None
 goes_on before line goes = gap_none (last_of line.name before) line (⊎_elim (λ first. inl first.0) (λ next. inr next) goes)
 
-with_by : (o : Option Line) (b : Bool) (line first : Line) → or_else o (if b then Some line else None) ≡ Some first → (o ≡ Some first) ⊎ ((b ≡ true) × (line ≡ first))
+with_by : (o : Option Line) (b : Bool) (line first : Line) → or_else o (if b then Some line else None) ≡ Some first → (o ≡ Some first) ⊎ ((b ≡ true)
+    × (line ≡ first))
 with_by (Some x) b line first is = inl is
 with_by None true line first is = inr (refl, let same : line ≡ first = cc in same)
 with_by None false line first is = absurd (cc)
@@ -190,16 +191,19 @@ pub item_text : (rules : Rules) (group : List Entry) (number : ℕ) (e : Entry) 
 item_text rules group zero e is = absurd (cc)
 item_text rules group (suc before) e is = slice_get-map (entry_text rules) group before ∙ ap (option_map (entry_text rules)) is
 
-pub no_astray : (rules : Rules) (group : List Entry) (before lines : List Line) → AllGo rules group before lines → first_astray (texts_of rules group) lines ≡ None
+pub no_astray : (rules : Rules) (group : List Entry) (before lines : List Line) → AllGo rules group before lines
+    → first_astray (texts_of rules group) lines ≡ None
 no_astray rules group before [] all = refl
 no_astray rules group before (line ∷ lines) all =
     let here = all.1 in
     let test : is_text (item_at (texts_of rules group) line.number) line.text ≡ true =
-    ap (λ o. is_text o line.text) (item_text rules group line.number here.entry here.there) ∙ ap (λ t. same t line.text) (sym here.text) ∙ same_self line.text in
+    ap (λ o. is_text o line.text) (item_text rules group line.number here.entry here.there) ∙ ap (λ t. same t line.text) (sym here.text)
+    ∙ same_self line.text in
     ap (λ b. or_else (if b then None else Some (verdicts.Astray line.name line.number)) (first_astray (texts_of rules group) lines)) test
     ∙ no_astray rules group (line ∷ before) lines all.2
 
-early_none : (last : Option ℕ) (line : Line) → ((last ≡ None) × (may_begin line (outline_of line.text) ≡ true)) ⊎ ((n : ℕ) × (last ≡ Some n) × (n + 1 ≡ line.number))
+early_none : (last : Option ℕ) (line : Line) → ((last ≡ None) × (may_begin line (outline_of line.text) ≡ true)) ⊎ ((n : ℕ) × (last ≡ Some n)
+    × (n + 1 ≡ line.number))
     → early_at last line ≡ None
 early_none last line (inl first) =
     ap (λ o. early_at o line) first.0 ∙ ap (λ b. if b then None else Some (verdicts.Early line.name line.number)) first.1

@@ -150,7 +150,8 @@ pub records_read : (rules : Rules) (s : Reading) (number before : ℕ) (records 
 records_read rules s number before [] rest shown stage next low = ap (λ n. read_lines n s (parts_of 10 rest)) (omega arith)
 records_read rules s number before (r ∷ rs) rest shown stage next low =
     let later = lines_from rules (number + 1) (before + length r.packets) rs in
-    ap (λ t. read_lines number s (parts_of 10 t)) (append_assoc (record_line rules number before r) later rest ∙ line_ends rules number before r (later ++ rest))
+    ap (λ t. read_lines number s (parts_of 10 t)) (append_assoc (record_line rules number before r) later rest
+    ∙ line_ends rules number before r (later ++ rest))
     ∙ line_read number s (after_record rules s r) (line_of rules number before r) (later ++ rest) (record_whole rules number before r shown.0)
     (line_added rules s number before r shown.0 stage next (omega arith))
     ∙ records_read rules (after_record rules s r) (number + 1) (before + length r.packets) rs rest shown.1 stage (omega arith) (omega arith)

@@ -127,7 +127,8 @@ takes_are rules name (r ∷ rs) sound =
 
 -- ---- the logs
 
-log_lines : (rules : Rules) (name who : ℕ) (given : List (ℕ × Entry)) → lines_of name (log_in rules who given) ≡ (if who == name then log_in rules who given else [])
+log_lines : (rules : Rules) (name who : ℕ) (given : List (ℕ × Entry)) → lines_of name (log_in rules who given) ≡
+    (if who == name then log_in rules who given else [])
 log_lines rules name who [] = split (who == name) (λ t. rw t refl) (λ f. rw f refl)
 log_lines rules name who (one ∷ given) = split (who == name)
     (λ t. let rest = rw t at (log_lines rules name who given) in

@@ -89,7 +89,8 @@ logs_may rules s (log ∷ logs) may = logs_may rules (with_given rules s log) lo
 -- ---- the whole
 
 -- all that is printed is within its limits
-pub record IsPrinted (rules : Rules) (records : List Record) (first : Entry) (others : List Entry) (logs : List (ℕ × List (ℕ × Entry))) (broken : Option ℕ) : Type
+pub record IsPrinted (rules : Rules) (records : List Record) (first : Entry) (others : List Entry) (logs : List (ℕ × List (ℕ
+    × Entry))) (broken : Option ℕ) : Type
     0 where
   pub told : AreTold (first_names) records
   pub shown : AreShown rules records
@@ -113,7 +114,7 @@ read_as rules records group logs broken = record {
 }
 
 -- no text of a run begins with a brace
-no_brace : (rules : Rules) (records : List Record) (first : Entry) (others : List Entry) (logs : List (ℕ × List (ℕ × Entry))) (broken : Option ℕ)
+pub no_brace : (rules : Rules) (records : List Record) (first : Entry) (others : List Entry) (logs : List (ℕ × List (ℕ × Entry))) (broken : Option ℕ)
     → (slice_index (play_text rules records (first ∷ others) logs broken) 0 == 123) ≡ false
 unfolding play_text records_text record_line group_text group_line digits
 no_brace rules [] first others logs broken = refl

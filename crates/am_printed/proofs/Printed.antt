@@ -1,5 +1,6 @@
 -- What texts print is read again.
-use Rattle.std.proofs.Common.{◌≡◌, ℕ, zero, suc, ◌+◌, ◌*◌, ◌/◌, ◌%◌, ◌^◌, ◌<◌, ◌≤◌, List, [], ◌∷◌, ◌++◌, length, get_or, Bool, true, false, ◌==◌, nat_le, nat_lt, if◌then◌else◌, lit<, refl, sym, ap, ◌∙◌, arith, rules}
+use Rattle.std.proofs.Common.{◌≡◌, ℕ, zero, suc, ◌+◌, ◌*◌, ◌/◌, ◌%◌, ◌^◌, ◌<◌, ◌≤◌, List, [], ◌∷◌, ◌++◌, length, get_or, Bool, true, false, ◌==◌, nat_le}
+use Rattle.std.proofs.Common.{nat_lt, if◌then◌else◌, lit<, refl, sym, ap, ◌∙◌, arith, rules}
 use Rattle.std.proofs.Common.{Option, Some, Result, Ok, Err, append-nil, append_assoc, length-append, map, replicate}
 use Rattle.std.specs.Prelude.{codes, decimal, slice_set}
 use Rattle.std.specs.List.{list_all, flat_map}
@@ -13,7 +14,8 @@ use Rattle.std.proofs.lemmas.Bool.Decides.{nat_tests}
 use Rattle.am_base.specs.Names.{place_of, life_of, name_at, names_from, with_name, nobody, IsSet}
 use Rattle.am_fields.specs.declared.fault.FieldFault.TheVariants.{Form}
 use Rattle.am_fields.specs.declared.fault.FieldFault.{FieldFault}
-use Rattle.am_fields.specs.Fields.{names_of, names_onto, parts_of, cut_of, onto_cut, and_then, is_numeral, number_up_to, name_of, is_pair_digit, digit_value, are_pairs, bytes_in, bytes_of, same}
+use Rattle.am_fields.specs.Fields.{names_of, names_onto, parts_of, cut_of, onto_cut, and_then, is_numeral, number_up_to, name_of, is_pair_digit}
+use Rattle.am_fields.specs.Fields.{digit_value, are_pairs, bytes_in, bytes_of, same}
 use Rattle.am_fields.proofs.Cuts.{cut_here, cut_on, cut_none, rest_parts, parts_begin}
 use Rattle.am_play.specs.Text.{name_text, list_text, names_text, hex_byte}
 
@@ -27,7 +29,8 @@ numeral_by word some first all = grind (arith, nat_tests)
 
 decimal_numeral : (n : ℕ) → n < 2 ^ 64 → is_numeral (decimal n) ≡ true
 decimal_numeral zero low = rw (decimal_digit 0 (lit< tt)) refl
-decimal_numeral (suc n) low = numeral_by (decimal (suc n)) (decimal_nonempty (suc n) low) (first_decimal (suc n) (omega arith) low) (digits_decimal own (suc n) low)
+decimal_numeral (suc n) low = numeral_by (decimal (suc n)) (decimal_nonempty (suc n) low) (first_decimal (suc n) (omega arith) low) (digits_decimal own
+    (suc n) low)
 
 pub number_again : (most n : ℕ) → n ≤ most → most < 2 ^ 64 → number_up_to most (decimal n) ≡ Ok n
 unfolding number_up_to
@@ -39,7 +42,8 @@ number_again most n within low =
 pub lacks : (n c : ℕ) → n < 2 ^ 64 → (IsInRange 48 57 c → ⊥) → (i : ℕ) → i < length (decimal n) → get_or (decimal n) i 0 ≡ c → ⊥
 lacks n c low other i within is = not_in_digits own (decimal n) c (digits_decimal own n low) other i within is
 
-pub cut_between : (separator : ℕ) (xs rest : List ℕ) → ((i : ℕ) → i < length xs → get_or xs i 0 ≡ separator → ⊥) → cut_of separator (xs ++ separator ∷ rest) ≡ (xs, Some rest)
+pub cut_between : (separator : ℕ) (xs rest : List ℕ) → ((i : ℕ) → i < length xs → get_or xs i 0 ≡ separator → ⊥)
+    → cut_of separator (xs ++ separator ∷ rest) ≡ (xs, Some rest)
 cut_between separator [] rest none = cut_here separator separator rest refl
 cut_between separator (x ∷ xs) rest none =
     cut_on separator x (xs ++ separator ∷ rest) (none 0 (omega arith))
@@ -61,7 +65,13 @@ unfolding name_of
 later_again place life low later most =
     let fits : place < 2 ^ 64 = omega arith in
     let two : nat_lt life 2 ≡ false = grind (arith, nat_tests) in
-    rw (cut_between 47 (decimal place) (decimal life) (lacks place 47 fits slash), number_again 15 place low (lit< tt), number_again 16 life most (lit< tt), two) refl
+    rw (
+      cut_between 47 (decimal place) (decimal life) (lacks place 47 fits slash),
+      number_again 15 place low (lit< tt),
+      number_again 16 life most
+          (lit< tt),
+      two,
+    ) refl
 
 name_by : (b : Bool) (name : ℕ) → (life_of name == 1) ≡ b → name < 256 → name_of (name_text name) ≡ Ok name
 unfolding name_text
@@ -111,7 +121,8 @@ pairs_length [] = refl
 pairs_length (b ∷ bs) = let more = pairs_length bs in omega arith
 
 -- bytes as they are printed are read as these bytes
-pub hex_again : (most : ℕ) (bytes : List ℕ) → ((i : ℕ) → get_or bytes i 0 < 256) → 0 < length bytes → length bytes ≤ most → bytes_of most (flat_map hex_byte bytes) ≡ Ok bytes
+pub hex_again : (most : ℕ) (bytes : List ℕ) → ((i : ℕ) → get_or bytes i 0 < 256) → 0 < length bytes → length bytes ≤ most
+    → bytes_of most (flat_map hex_byte bytes) ≡ Ok bytes
 unfolding bytes_of
 hex_again most [] low some few = absurd (omega arith)
 hex_again most (b ∷ bs) low some few =
@@ -129,7 +140,8 @@ hex_again most (b ∷ bs) low some few =
 abbrev pub Lacks : ℕ → List ℕ → Type 0
 Lacks c xs = (i : ℕ) → i < length xs → get_or xs i 0 ≡ c → ⊥
 
-lacks_cons : (c x : ℕ) (xs : List ℕ) → (x ≡ c → ⊥) → ((i : ℕ) → i < length xs → get_or xs i 0 ≡ c → ⊥) → (i : ℕ) → i < length (x ∷ xs) → get_or (x ∷ xs) i 0 ≡ c → ⊥
+lacks_cons : (c x : ℕ) (xs : List ℕ) → (x ≡ c → ⊥) → ((i : ℕ) → i < length xs → get_or xs i 0 ≡ c → ⊥) → (i : ℕ) → i < length (x ∷ xs)
+    → get_or (x ∷ xs) i 0 ≡ c → ⊥
 lacks_cons c x xs other none zero within is = other is
 lacks_cons c x xs other none (suc i) within is = none i (omega arith) is
 
@@ -147,7 +159,8 @@ name_lacks_by false name c is low digit other =
     rw is (lacks_append c (decimal (place_of name)) (47 ∷ decimal (life_of name)) (lacks (place_of name) c (omega arith) digit)
     (lacks_cons c 47 (decimal (life_of name)) other (lacks (life_of name) c (omega arith) digit)))
 
-pub name_lacks : (name c : ℕ) → name < 256 → (IsInRange 48 57 c → ⊥) → (47 ≡ c → ⊥) → (i : ℕ) → i < length (name_text name) → get_or (name_text name) i 0 ≡ c → ⊥
+pub name_lacks : (name c : ℕ) → name < 256 → (IsInRange 48 57 c → ⊥) → (47 ≡ c → ⊥) → (i : ℕ) → i < length (name_text name)
+    → get_or (name_text name) i 0 ≡ c → ⊥
 name_lacks name c low digit other = name_lacks_by (life_of name == 1) name c refl low digit other
 
 -- ---- sets of names
@@ -205,10 +218,12 @@ onto_again least place front (suc before ∷ lives) at many above all =
     ap (λ (v : ℕ). slice_set set (place_of name) v) life
     ∙ set_behind front (replicate (length lives) 0) 0 (suc before) (place_of name) (at ∙ sym its)
     ∙ sym (append_assoc front (suc before ∷ []) (replicate (length lives) 0)) in
-    ap (λ (r : Result ℕ FieldFault). and_then r (λ n. if nat_lt (place_of n) least then Err Form else names_onto (place_of n + 1) (with_name set n) rest)) (name_again name small)
+    ap (λ (r : Result ℕ FieldFault). and_then r (λ n. if nat_lt (place_of n) least then Err Form else names_onto (place_of n + 1) (with_name set n) rest))
+    (name_again name small)
     ∙ rw in_order (ap (λ (p : ℕ). names_onto (p + 1) (with_name set name) rest) its
     ∙ ap (λ (s : List ℕ). names_onto (place + 1) s rest) with
-    ∙ onto_again (place + 1) (place + 1) (front ++ suc before ∷ []) lives (omega (arith, length-append front (suc before ∷ []))) (omega arith) (omega arith) all.1
+    ∙ onto_again (place + 1) (place + 1) (front ++ suc before ∷ []) lives (omega (arith, length-append front (suc before ∷ []))) (omega arith)
+    (omega arith) all.1
     ∙ ap (λ (s : List ℕ). Ok s) (append_assoc front (suc before ∷ []) lives))
 
 none_listed : (place : ℕ) (lives : List ℕ) → names_from place lives ≡ [] → lives ≡ replicate (length lives) 0
@@ -288,7 +303,13 @@ name_short_by : (b : Bool) (name : ℕ) → (life_of name == 1) ≡ b → name <
 unfolding name_text
 name_short_by true name is low = rw is (omega (arith, short_decimal (place_of name) (omega arith)))
 name_short_by false name is low =
-    rw is (omega (arith, short_decimal (place_of name) (omega arith), short_decimal (life_of name) (omega arith), length-append (decimal (place_of name)) (47 ∷ decimal (life_of name))))
+    rw is (omega (
+      arith,
+      short_decimal (place_of name) (omega arith),
+      short_decimal (life_of name) (omega arith),
+      length-append (decimal (place_of name))
+          (47 ∷ decimal (life_of name)),
+    ))
 
 others_short : (names : List ℕ) → AreNames names → length (flat_map (λ name. codes "," ++ name_text name) names) ≤ 6 * length names
 unfolding AreNames

@@ -1,5 +1,6 @@
 -- What is read is what texts print.
-use Rattle.std.proofs.Common.{◌≡◌, ℕ, ◌+◌, ◌*◌, ◌/◌, ◌%◌, ◌^◌, ◌<◌, ◌≤◌, List, [], ◌∷◌, ◌++◌, length, get_or, Bool, true, false, ◌&&◌, ◌⊎◌, inl, inr, ◌==◌, nat_le, nat_lt, if◌then◌else◌, lit<, refl, sym, ap, ap₂, ◌∙◌, arith}
+use Rattle.std.proofs.Common.{◌≡◌, ℕ, ◌+◌, ◌*◌, ◌/◌, ◌%◌, ◌^◌, ◌<◌, ◌≤◌, List, [], ◌∷◌, ◌++◌, length, get_or, Bool, true, false, ◌&&◌, ◌⊎◌, inl, inr, ◌==◌}
+use Rattle.std.proofs.Common.{nat_le, nat_lt, if◌then◌else◌, lit<, refl, sym, ap, ap₂, ◌∙◌, arith}
 use Rattle.std.proofs.Common.{Option, Some, None, Result, Ok, Err}
 use Rattle.std.specs.Prelude.{codes, decimal}
 use Rattle.std.specs.List.{list_all, flat_map}
@@ -12,7 +13,8 @@ use Rattle.std.proofs.lemmas.Bool.Decides.{nat_tests}
 use Rattle.am_base.specs.Names.{place_of, life_of, name_at}
 use Rattle.am_fields.specs.declared.fault.FieldFault.{FieldFault}
 use Rattle.am_fields.specs.declared.fault.FieldFault.TheVariants.{Form, Limit}
-use Rattle.am_fields.specs.Fields.{cut_of, onto_cut, and_then, is_numeral, number_up_to, life_of_word, name_with, name_of, is_pair_digit, digit_value, are_pairs, bytes_in, bytes_of, same}
+use Rattle.am_fields.specs.Fields.{cut_of, onto_cut, and_then, is_numeral, number_up_to, life_of_word, name_with, name_of, is_pair_digit, digit_value}
+use Rattle.am_fields.specs.Fields.{are_pairs, bytes_in, bytes_of, same}
 use Rattle.am_play.specs.Text.{name_text, hex_byte, body_text}
 use Rattle.am_printed.proofs.Printed.{own}
 
@@ -32,7 +34,8 @@ digits_by false c cs is h = h
 
 numeral_digits : (word : List ℕ) → is_numeral word ≡ true → list_all is_ascii_digit word ≡ true
 numeral_digits [] is = refl
-numeral_digits (c ∷ cs) is = digits_by (c == 48) c cs refl (by_length (c ∷ cs) (if c == 48 then length (c ∷ cs) == 1 else list_all is_ascii_digit (c ∷ cs)) (omega arith) is)
+numeral_digits (c ∷ cs) is = digits_by (c == 48) c cs refl (by_length (c ∷ cs) (if c == 48 then length (c ∷ cs) == 1 else list_all is_ascii_digit
+    (c ∷ cs)) (omega arith) is)
   where
     by_length : (xs : List ℕ) (b : Bool) → 0 < length xs → (if length xs == 0 then false else b) ≡ true → b ≡ true
     by_length xs b some h = let other : (length xs == 0) ≡ false = grind (arith, nat_tests) in rw other at h
@@ -55,7 +58,8 @@ unfolding number_up_to
 number_is most n word low is =
     let parts = number_parts (is_numeral word) (nat_le (digits_value 10 word) most) (digits_value 10 word) n is in
     let within : digits_value 10 word ≤ most = let h = parts.1 in grind (arith, nat_tests) in (
-      ap decimal (sym parts.2) ∙ decimal-digits_value own word (numeral_digits word parts.0) (numeral_some word parts.0) (numeral_leads word parts.0) (omega arith),
+      ap decimal (sym parts.2) ∙ decimal-digits_value own word (numeral_digits word parts.0) (numeral_some word parts.0) (numeral_leads word parts.0)
+          (omega arith),
       let same = parts.2 in omega arith,
     )
 
@@ -75,7 +79,8 @@ joined_on separator x first None = refl
 joined_on separator x first (Some rest) = refl
 
 join_by : (b : Bool) (separator x : ℕ) (xs : List ℕ) → (x == separator) ≡ b → xs ≡ joined separator (cut_of separator xs).0 (cut_of separator xs).1
-    → x ∷ xs ≡ joined separator (if b then ([], Some xs) else onto_cut x (cut_of separator xs)).0 (if b then ([], Some xs) else onto_cut x (cut_of separator xs)).1
+    → x ∷ xs ≡ joined separator (if b then ([], Some xs) else onto_cut x (cut_of separator xs)).0 (if b then ([], Some xs) else onto_cut x
+    (cut_of separator xs)).1
 unfolding joined
 join_by true separator x xs is whole = let same : x ≡ separator = grind (arith, nat_tests) in ap (λ (c : ℕ). c ∷ xs) same
 join_by false separator x xs is whole = ap (λ (ys : List ℕ). x ∷ ys) whole ∙ sym (joined_on separator x (cut_of separator xs).0 (cut_of separator xs).1)

@@ -1,5 +1,6 @@
 -- What is read as a set of names is what texts print of it.
-use Rattle.std.proofs.Common.{◌≡◌, ℕ, zero, suc, ◌+◌, ◌-◌, ◌/◌, ◌<◌, ◌≤◌, List, [], ◌∷◌, ◌++◌, length, map, replicate, Bool, true, false, nat_lt, if◌then◌else◌, refl, sym, ap, ap₂, ◌∙◌, arith}
+use Rattle.std.proofs.Common.{◌≡◌, ℕ, zero, suc, ◌+◌, ◌-◌, ◌/◌, ◌<◌, ◌≤◌, List, [], ◌∷◌, ◌++◌, length, map, replicate, Bool, true, false, nat_lt}
+use Rattle.std.proofs.Common.{if◌then◌else◌, refl, sym, ap, ap₂, ◌∙◌, arith}
 use Rattle.std.proofs.Common.{Result, Ok, Err, append-nil, append_assoc, length-append, add-zero, add-one, zero-add}
 use Rattle.std.specs.Prelude.{codes, slice_set}
 use Rattle.std.specs.List.{join_with_byte}
@@ -46,7 +47,8 @@ named front least name long above =
     let more = zeros (16 - (p + 1)) in
     let zs = zeros (p - least) in
     let whole : front ++ zeros (16 - least) ≡ (front ++ zs) ++ 0 ∷ more =
-    ap (λ (k : ℕ). front ++ zeros k) some ∙ ap (λ (xs : List ℕ). front ++ xs) (zeros_split (p - least) (suc (16 - (p + 1)))) ∙ sym (append_assoc front zs (0 ∷ more)) in
+    ap (λ (k : ℕ). front ++ zeros k) some ∙ ap (λ (xs : List ℕ). front ++ xs) (zeros_split (p - least) (suc (16 - (p + 1))))
+    ∙ sym (append_assoc front zs (0 ∷ more)) in
     ap (λ (xs : List ℕ). slice_set xs p (life_of name)) whole
     ∙ set_behind (front ++ zs) more 0 (life_of name) p (omega (arith, long, length-append front zs, zeros_long (p - least)))
     ∙ sym (append_assoc (front ++ zs) (life_of name ∷ []) more)
@@ -64,7 +66,8 @@ listed least name tail above low =
     ∙ ap (λ (n : ℕ). n ∷ names_from (p + 1) tail) its
 
 -- names that were read onto a front are those of what comes behind it
-onto_is : (parts : List (List ℕ)) (least : ℕ) (front out : List ℕ) → length front ≡ least → least ≤ 16 → names_onto least (front ++ zeros (16 - least)) parts ≡ Ok out
+onto_is : (parts : List (List ℕ)) (least : ℕ) (front out : List ℕ) → length front ≡ least → least ≤ 16
+    → names_onto least (front ++ zeros (16 - least)) parts ≡ Ok out
     → (tail : List ℕ) × (out ≡ front ++ tail) × (map name_text (names_from least tail) ≡ parts)
 onto_is [] least front out long low is =
     let none : names_from least (zeros (16 - least)) ≡ [] =
@@ -73,7 +76,8 @@ onto_is [] least front out long low is =
     (zeros (16 - least), sym same, ap (map name_text) none)
 onto_is (part ∷ parts) least front out long low is =
     let set = front ++ zeros (16 - least) in
-    let one = then_parts (name_of part) (λ name. if nat_lt (place_of name) least then Err Form else names_onto (place_of name + 1) (with_name set name) parts) out is in
+    let one = then_parts (name_of part) (λ name. if nat_lt (place_of name) least then Err Form else names_onto (place_of name + 1)
+    (with_name set name) parts) out is in
     let name = one.0 in
     let printed = name_is part name one.1 in
     let two = order_by (nat_lt (place_of name) least) (names_onto (place_of name + 1) (with_name set name) parts) out one.2 in
@@ -103,9 +107,11 @@ nobody_text : names_text nobody ≡ codes "-"
 unfolding names_text
 nobody_text = refl
 
-set_by : (b : Bool) (word set : List ℕ) → same word (codes "-") ≡ b → (if b then Ok nobody else names_onto 0 nobody (parts_of 44 word)) ≡ Ok set → names_text set ≡ word
+set_by : (b : Bool) (word set : List ℕ) → same word (codes "-") ≡ b → (if b then Ok nobody else names_onto 0 nobody (parts_of 44 word)) ≡ Ok set
+    → names_text set ≡ word
 unfolding names_text
-set_by true word set dash is = let its : nobody ≡ set = cc in ap (λ (s : List ℕ). names_text s) (sym its) ∙ nobody_text ∙ sym (same_text word (codes "-") (sym dash))
+set_by true word set dash is = let its : nobody ≡ set = cc in ap (λ (s : List ℕ). names_text s) (sym its) ∙ nobody_text
+    ∙ sym (same_text word (codes "-") (sym dash))
 set_by false word set dash is =
     let all = onto_is (parts_of 44 word) 0 [] set refl (omega arith) is in
     join_is (names_from 0 set) word (ap (λ (s : List ℕ). map name_text (names_from 0 s)) all.1 ∙ all.2)

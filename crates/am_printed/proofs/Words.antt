@@ -108,7 +108,7 @@ names_word set = list_word (names_of set)
 
 -- ---- bytes
 
-hex_word : (bytes : List ℕ) → ((i : ℕ) → get_or bytes i 0 < 256) → IsWord (flat_map hex_byte bytes)
+pub hex_word : (bytes : List ℕ) → ((i : ℕ) → get_or bytes i 0 < 256) → IsWord (flat_map hex_byte bytes)
 hex_word [] low = refl
 hex_word (b ∷ bs) low =
     let here = low 0 in

@@ -140,7 +140,8 @@ act_tells w e name (act.GiveUp other) is = gives_tells w e (act.GiveUp other) na
 act_tells w e name act.Stop is = stops_tells w e act.Stop name (record { same = λ o. refl; back = λ o. tt })
 act_tells w e name act.Tick is = does_tells w e act.Tick name _ (record { same = λ o. refl; back = λ o. tt })
 act_tells w e name (act.Hear number) is = hears_tells w e (act.Hear number) name _ (letter_at w.letters number) (record { same = λ o. refl; back = λ o. tt })
-act_tells w e name (act.Cut number keep) is = hears_tells w e (act.Cut number keep) name _ (letter_at w.letters number) (record { same = λ o. refl; back = λ o. tt })
+act_tells w e name (act.Cut number keep) is = hears_tells w e (act.Cut number keep) name _ (letter_at w.letters number)
+    (record { same = λ o. refl; back = λ o. tt })
 act_tells w e name act.Return is = back_tells w e (place_of name) is
 
 pub tells : (w : World) (e : Event) → Tells w e e.act (happens w e)
@@ -185,7 +186,8 @@ returned_names : (w v : World) (place : ℕ) (o : Outcome) → place < 16 → v.
 returned_names w v place (said.Returned life) low lives = set_names w v place life low lives
 returned_names w v place _ low lives = same_names w v lives
 
-after_names : (w v : World) (place : ℕ) (a : Act) (o : Outcome) → place < 16 → v.lives ≡ lives_after w.lives place a o → names_after (names_in w) place a o ≡ names_in v
+after_names : (w v : World) (place : ℕ) (a : Act) (o : Outcome) → place < 16 → v.lives ≡ lives_after w.lives place a o
+    → names_after (names_in w) place a o ≡ names_in v
 after_names w v place act.Return o low lives = returned_names w v place o low lives
 after_names w v place _ o low lives = same_names w v lives
 
@@ -205,7 +207,8 @@ told_on : (w v : World) (e : Event) (new : Record) → new.event ≡ e → new.l
     → v.lives ≡ lives_after w.lives (place_of e.node) e.act new.outcome → v.records ≡ w.records ++ new ∷ [] → LivesTold w → LivesTold v
 told_on w v e new event life lives records h =
     let place : place_of e.node < 16 = omega arith in
-    let named : name_of new ≡ current w (place_of e.node) = ap (λ (x : Event). name_at (place_of x.node) new.life) event ∙ ap (name_at (place_of e.node)) life in
+    let named : name_of new ≡ current w (place_of e.node) = ap (λ (x : Event). name_at (place_of x.node) new.life) event
+    ∙ ap (name_at (place_of e.node)) life in
     let there : slice_index (names_told first_names w.records) (place_of new.event.node) ≡ name_of new =
     ap (λ (names : List ℕ). slice_index names (place_of new.event.node)) h.last ∙ ap (λ (x : Event). slice_index (names_in w) (place_of x.node)) event
     ∙ name_there w (place_of e.node) place ∙ sym named in

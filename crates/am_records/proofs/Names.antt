@@ -1,11 +1,15 @@
 -- Each entry that a node has, a letter tells or a group lists speaks of names that there are.
 use Rattle.am_laws.proofs.Words.{◌≡◌, ℕ, ◌-◌, ◌<◌, ◌==◌, ◌&&◌, not, length, List, [], ◌∷◌, Option, Some, None, refl, sym, subst, arith, nat_tests, All}
-use Rattle.am_laws.proofs.Words.{All-nil, All-cons, All-append, All-take, All-drop, All-weaker, split, Stamp, Report, stamp_lt, Entry, Data, Join, Leave, View, Outcome}
+use Rattle.am_laws.proofs.Words.{All-nil, All-cons, All-append, All-take, All-drop, All-weaker, split, Stamp, Report, stamp_lt, Entry, Data, Join, Leave}
+use Rattle.am_laws.proofs.Words.{View, Outcome}
 use Rattle.am_laws.proofs.Words.{Rules, MayFound, Packet, Letter, Event, Node, Ballot, push_entry, view, set_at, founders_view}
-use Rattle.am_laws.proofs.Words.{group_after, overtake, Verdict, refresh, settle, refresh_at_end, Step, World, start, run, with_record, with_step, heard_by, Cause}
-use Rattle.am_laws.proofs.Words.{hears, Looks, decides, HasOpen, Balloting, with_more, without_one, as_it_is, Numbers, asked_send, own_send, asked_join, asked_leave}
+use Rattle.am_laws.proofs.Words.{group_after, overtake, Verdict, refresh, settle, refresh_at_end, Step, World, start, run, with_record, with_step, heard_by}
+use Rattle.am_laws.proofs.Words.{Cause}
+use Rattle.am_laws.proofs.Words.{hears, Looks, decides, HasOpen, Balloting, with_more, without_one, as_it_is, Numbers, asked_send, own_send, asked_join}
+use Rattle.am_laws.proofs.Words.{asked_leave}
 use Rattle.am_laws.proofs.Words.{Carries, whole_entry, by_number, BringsSend, by_request, by_spread, Change, refreshes, settles}
-use Rattle.am_laws.proofs.Words.{numbers, stores, begins_list, promises, opens, looks, fetches, stores_view, closes, Says, bcast, order, piece, LetterSays, Effect}
+use Rattle.am_laws.proofs.Words.{numbers, stores, begins_list, promises, opens, looks, fetches, stores_view, closes, Says, bcast, order, piece, LetterSays}
+use Rattle.am_laws.proofs.Words.{Effect}
 use Rattle.am_laws.proofs.Words.{actor, IsCause, idles, stops, returns, steps, all_get, all_item, refresh_is, settle_is, along, EachKeeps, runs_keep, sender_of}
 use Rattle.am_laws.proofs.Words.{first_founder, first_has}
 use Rattle.am_packet.specs.declared.packet.Packet.TheVariants as packet
@@ -172,7 +176,8 @@ stepped_named rules w e c s base cause effect h =
       base = base;
       each = set_named w.nodes name s.node h.each node;
       letters = All-append LetterNamed w.letters s.letters h.letters
-          (All-weaker (LetterSays m c effect.sender) LetterNamed (λ l x. says_named m effect.sender c l.to l.packet from x.says sender) s.letters effect.letters);
+          (All-weaker (LetterSays m c effect.sender) LetterNamed
+          (λ l x. says_named m effect.sender c l.to l.packet from x.says sender) s.letters effect.letters);
       group = grown_named w.group s.node h.group node.entries;
     }
 

@@ -1,9 +1,12 @@
 -- What each record of a run tells is within its limits, and each name's requests are 1, 2, 3 and so on.
-use Rattle.am_laws.proofs.Words.{◌≡◌, ℕ, zero, suc, ◌+◌, ◌-◌, ◌<◌, ◌≤◌, ◌==◌, nat_le, Bool, true, false, if◌then◌else◌, List, [], ◌∷◌, ◌++◌, length, ◌⊎◌, inl, inr}
+use Rattle.am_laws.proofs.Words.{◌≡◌, ℕ, zero, suc, ◌+◌, ◌-◌, ◌<◌, ◌≤◌, ◌==◌, nat_le, Bool, true, false, if◌then◌else◌, List, [], ◌∷◌, ◌++◌, length, ◌⊎◌}
+use Rattle.am_laws.proofs.Words.{inl, inr}
 use Rattle.am_laws.proofs.Words.{⊎_elim, Option, Some, None, slice_get, refl, sym, ap, ◌∙◌, subst, arith, nat_tests, All, All-nil, All-cons, All-head, All-tail}
-use Rattle.am_laws.proofs.Words.{All-append, range_with_len, length-append, most_number, most_body, split, Entry, Data, Join, Leave, View, Outcome, Log, entry_at, top_of}
+use Rattle.am_laws.proofs.Words.{All-append, range_with_len, length-append, most_number, most_body, split, Entry, Data, Join, Leave, View, Outcome, Log}
+use Rattle.am_laws.proofs.Words.{entry_at, top_of}
 use Rattle.am_laws.proofs.Words.{Rules, MayFound, Act, Event, Node, Ballot, push_entry, Verdict, Step, World, start, run, happen}
-use Rattle.am_laws.proofs.Words.{happens, with_record, with_step, Cause, calls, Looks, finds_itself_out, Change, Changes, no_change, changed, refreshes, settles}
+use Rattle.am_laws.proofs.Words.{happens, with_record, with_step, Cause, calls, Looks, finds_itself_out, Change, Changes, no_change, changed, refreshes}
+use Rattle.am_laws.proofs.Words.{settles}
 use Rattle.am_laws.proofs.Words.{looks, queues, collects, closes, Effect, actor, IsCall, IsCause, Happens, idles, stops, returns, steps}
 use Rattle.am_laws.proofs.Words.{all_get, first_has, current, events_have_effects, rests_refresh, settle_is, rests_at_end, BodyWithin, IsShort, Bounds}
 use Rattle.std.proofs.lemmas.Option.{slice_get_within}
@@ -41,10 +44,12 @@ use Rattle.am_records.proofs.Lives.{tells}
 
 -- ---- entries
 
-asked_so : (records : List Record) (from req : ℕ) (body : List ℕ) → WasSent records from req body → All IsSound records → IsBytes body × (length body ≤ most_body)
+asked_so : (records : List Record) (from req : ℕ) (body : List ℕ) → WasSent records from req body → All IsSound records → IsBytes body
+    × (length body ≤ most_body)
 asked_so records from req body was sound = subst AsksBytes was.is.asked (all_get IsSound records was.index was.send sound was.there).asks
 
-sayable : (records : List Record) (b : Bounds) (e : Entry) → AreNumbers b → All IsSound records → EntryWithin b e → EntryNamed e → EntrySent records e → IsSayable e
+sayable : (records : List Record) (b : Bounds) (e : Entry) → AreNumbers b → All IsSound records → EntryWithin b e → EntryNamed e → EntrySent records e
+    → IsSayable e
 sayable records b (Data from req body) small sound within named sent =
     let asked = asked_so records from req body sent sound in
     let low = within.0 in

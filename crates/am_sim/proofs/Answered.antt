@@ -8,7 +8,9 @@ use Rattle.am_group.specs.declared.plan.RacePlan.{RacePlan}
 use Rattle.am_play.specs.World.{run}
 use Rattle.am_play.specs.Claims.{FitsView}
 use Rattle.am_play.specs.Lawful.{Watch, watch_start, watch, watch_all, watch_run, before_break, lawful_front}
-use Rattle.am_play.specs.Play.{summary_text_of}
+use Rattle.am_play.specs.Play.{text_of, summary_text_of}
+use Rattle.am_audited.specs.Claims.{ReadsAs, AgreesAs}
+use Rattle.am_words.specs.declared.form.Shown.TheVariants as shown
 use Rattle.am_play.specs.Text.{newline}
 use Rattle.am_report.specs.Schedules.{script_text}
 use Rattle.am_words.specs.declared.form.Shown.{Shown}
@@ -33,6 +35,7 @@ use Rattle.am_audit.proofs.Wrongs.{agrees_means, lists_agree_means}
 use Rattle.am_sim.specs.Playing.{done_of, shown_text, IsRunText}
 use Rattle.am_sim.specs.Racing.{events_of, IsRaceText}
 use Rattle.am_sim.specs.Simulation.{Keeps, Repaired, Played, Generated, GeneratedScript, Raced, Audited, IsText, run_watch}
+use Rattle.am_sim.proofs.Reread.{play_reads, play_agrees, race_reads, race_agrees}
 
 -- ---- a run that is settled behind its own events
 
@@ -74,10 +77,12 @@ repaired rules events may place low repair name member = settled_is_repaired rul
 
 pub played_by : (what : Shown) (bytes text : List ℕ) (script : Script) → reading key.Play bytes ≡ Ok script → ScriptWithin script → IsText what script text
     → Played what bytes text
-unfolding IsRunText
+unfolding IsRunText shown_text
 played_by what bytes text (Play founding events settles) is within same =
     let may = within.may_found in
     let done = done_of founding events settles in
+    let run_text : what ≡ shown.Text → text_of founding done ≡ text =
+    λ is_text. sym (same.0 ∙ ap (λ w. shown_text w founding (watch_run founding done)) is_text) in
     record {
       founding = founding;
       events = events;
@@ -87,6 +92,8 @@ played_by what bytes text (Play founding events settles) is within same =
       few = same.1;
       keeps = keeps_all founding done may;
       repaired = λ _settled. repaired founding events may;
+      reads = λ is_text none. subst (ReadsAs founding done) (run_text is_text) (play_reads bytes founding events settles is within same.1 none);
+      agrees = λ is_text one. subst (AgreesAs founding done) (run_text is_text) (play_agrees bytes founding events settles is within same.1 one);
     }
 played_by what bytes text (Race plan) is within same = absurd same
 
@@ -139,6 +146,8 @@ raced_by bytes text plan is within (journal, raced, same) = record {
   raced = raced;
   written = same;
   keeps = keeps_all plan.founding (events_of journal) within.may_found;
+  reads = λ none. rw same (race_reads bytes plan journal is within raced none);
+  agrees = λ one. rw same (race_agrees bytes plan journal is within raced one);
 }
 
 -- ---- a text that is audited

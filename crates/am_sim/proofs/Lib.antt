@@ -4,3 +4,4 @@ mod Names
 mod Raced
 mod Spoken
 mod Texts
+pub mod Reread

@@ -6,10 +6,13 @@ use Rattle.am_base.specs.Votes.{all_names}
 use Rattle.am_group.specs.declared.event.Record.{Record}
 use Rattle.am_play.specs.World.{World}
 use Rattle.am_play.specs.Group.{logs}
-use Rattle.am_play.specs.Lawful.{broken_at}
+use Rattle.am_play.specs.Lawful.{watch_run, broken_at}
 use Rattle.am_play.specs.Text.{play_text, mark_line}
 use Rattle.am_base.specs.Outcomes.{is_took, is_sent, is_held}
-use Rattle.am_play.specs.Play.{text_of, count_line, summary_text_of}
+use Rattle.am_play.specs.Play.{count_line, summary_text_of}
+use Rattle.am_services.specs.Texts.{messages_text, directories_text, snapshots_text}
+use Rattle.am_words.specs.declared.form.Shown.TheVariants as shown
+use Rattle.am_sim.specs.Playing.{shown_text}
 use Rattle.am_play.proofs.Runs.{watched_is_run}
 use Rattle.am_group.specs.Journals.{letters_of}
 use Rattle.am_report.specs.Logs.{logs_for}
@@ -24,7 +27,8 @@ told_of : (T : Rules → List Record → List Entry → List (ℕ × List (ℕ �
     (p : worlds.Play) (text : List ℕ) (founding : Rules) (records : List Record) (group : List Entry) (each : List ℕ) (broken : Option ℕ)
     → founding ≡ p.rules → records ≡ (replay p).records → group ≡ (replay p).group → each ≡ filter (has_log_in (replay p)) all_names
     → broken ≡ broken_at p.rules p.events → text ≡ T founding records group (logs_for records each) broken
-    → (λ (w : World). text ≡ T p.rules w.records w.group (logs w) (broken_at p.rules p.events)) (watch_run p.rules p.events).world
+    → text ≡ T p.rules (watch_run p.rules p.events).world.records (watch_run p.rules p.events).world.group (logs (watch_run p.rules p.events).world)
+    (broken_at p.rules p.events)
 told_of T p text founding records group each broken rules recorded agreed named mark is =
     is
     ∙ (λ k. T (rules k) (recorded k) (agreed k) (logs_for (recorded k) (named k)) (mark k))
@@ -38,6 +42,29 @@ pub world_text : (p : worlds.Play) (text : List ℕ) (founding : Rules) (records
 unfolding shown_text
 world_text p text founding records group each broken rules recorded agreed named mark is =
     told_of play_text p text founding records group each broken rules recorded agreed named mark is
+
+pub world_messages : (p : worlds.Play) (text : List ℕ) (records : List Record) (each : List ℕ) (broken : Option ℕ)
+    → records ≡ (replay p).records → each ≡ filter (has_log_in (replay p)) all_names → broken ≡ broken_at p.rules p.events
+    → text ≡ messages_text (logs_for records each) broken → text ≡ shown_text shown.Messages p.rules (watch_run p.rules p.events)
+unfolding shown_text
+world_messages p text records each broken recorded named mark is =
+    told_of (λ rules records group logs broken. messages_text logs broken) p text p.rules records (replay p).group each broken refl recorded refl named mark is
+
+pub world_directories : (p : worlds.Play) (text : List ℕ) (founding : Rules) (records : List Record) (each : List ℕ) (broken : Option ℕ)
+    → founding ≡ p.rules → records ≡ (replay p).records → each ≡ filter (has_log_in (replay p)) all_names → broken ≡ broken_at p.rules p.events
+    → text ≡ directories_text founding (logs_for records each) broken → text ≡ shown_text shown.Directories p.rules (watch_run p.rules p.events)
+unfolding shown_text
+world_directories p text founding records each broken rules recorded named mark is =
+    told_of (λ rules records group logs broken. directories_text rules logs broken) p text founding records (replay p).group each broken rules recorded refl
+    named mark is
+
+pub world_snapshots : (p : worlds.Play) (text : List ℕ) (founding : Rules) (records : List Record) (each : List ℕ) (broken : Option ℕ)
+    → founding ≡ p.rules → records ≡ (replay p).records → each ≡ filter (has_log_in (replay p)) all_names → broken ≡ broken_at p.rules p.events
+    → text ≡ snapshots_text founding (logs_for records each) broken → text ≡ shown_text shown.Snapshots p.rules (watch_run p.rules p.events)
+unfolding shown_text
+world_snapshots p text founding records each broken rules recorded named mark is =
+    told_of (λ rules records group logs broken. snapshots_text rules logs broken) p text founding records (replay p).group each broken rules recorded refl
+    named mark is
 
 -- ---- a summary
 

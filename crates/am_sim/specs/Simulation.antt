@@ -32,12 +32,14 @@ use Rattle.am_audit.specs.declared.verdict.Verdict.TheVariants as verdicts
 use Rattle.am_audit.specs.Agreement.{Lists, Agreed}
 use Rattle.am_audit.specs.Lines.{Reading, read_text}
 use Rattle.am_audit.specs.Verdicts.{verdict_of, verdict_line, is_right}
+use Rattle.am_audited.specs.Claims.{ReadsAs, AgreesAs, IsOfOneList}
 use Rattle.am_lines.specs.Speaking.{spoken}
 use Rattle.am_words.specs.Forms.{form_of}
 use Rattle.am_words.specs.declared.form.Form.{Form}
 use Rattle.am_words.specs.declared.form.Form.TheVariants as form
 use Rattle.am_words.specs.declared.form.Numbers.{Numbers}
 use Rattle.am_words.specs.declared.form.Shown.{Shown}
+use Rattle.am_words.specs.declared.form.Shown.TheVariants as shown
 use Rattle.am_seg.specs.Parts.{most_message}
 use Rattle.am_services.specs.Texts.{parts_text}
 use Rattle.am_report.specs.Schedules.{script_text}
@@ -80,7 +82,8 @@ Repaired rules events = (place : ℕ) → place < 16 → MayRepair (run rules ev
     → HasCaughtUp ((run rules (done_of rules events true)).nodes name) (top ((run rules events).nodes (current (run rules events) place)))
 
 -- what was read is a script, what was written is shown of its run, which has at most 100,000 events, and that run keeps what is claimed; where it is
--- settled, it is repaired
+-- settled, it is repaired. Where the run's text was written, an audit reads it as that run where the group was founded without resilience; and where the
+-- run is lawful, or nobody began a ballot, it does, and its verdict agrees
 pub record Played (what : Shown) (bytes text : List ℕ) : Type 0 where
   pub founding : Rules
   pub events : List Event
@@ -90,6 +93,8 @@ pub record Played (what : Shown) (bytes text : List ℕ) : Type 0 where
   pub few : length (done_of founding events settles) ≤ most_events
   pub keeps : Keeps founding (done_of founding events settles)
   pub repaired : settles ≡ true → Repaired founding events
+  pub reads : what ≡ shown.Text → founding.resilience ≡ 0 → ReadsAs founding (done_of founding events settles) text
+  pub agrees : what ≡ shown.Text → IsOfOneList founding (done_of founding events settles) → AgreesAs founding (done_of founding events settles) text
 
 -- what was written is the summary of the run of two numbers, and that run keeps what is claimed
 pub record Generated (numbers : Numbers) (text : List ℕ) : Type 0 where
@@ -283,7 +288,7 @@ writes_after WriteFault before = next before
 writes_after _ before = before
 
 -- what was read is a race, what was written is what was done in it as a script, in one line, and the text of the run of that,
--- and that run keeps what is claimed
+-- and that run keeps what is claimed; an audit tells of the whole text what it tells of a play's
 pub record Raced (bytes text : List ℕ) : Type 0 where
   pub plan : RacePlan
   pub script : reading key.Race bytes ≡ Ok (Race plan)
@@ -291,6 +296,8 @@ pub record Raced (bytes text : List ℕ) : Type 0 where
   pub raced : IsRaced plan journal
   pub written : text ≡ race_text plan.founding (events_of journal)
   pub keeps : Keeps plan.founding (events_of journal)
+  pub reads : plan.founding.resilience ≡ 0 → ReadsAs plan.founding (events_of journal) text
+  pub agrees : IsOfOneList plan.founding (events_of journal) → AgreesAs plan.founding (events_of journal) text
 
 -- a text is that of a race that was read to the end of what was left
 abbrev pub IsRacedText : Option (List ℕ) → Option (List ℕ) → List ℕ → Type 0

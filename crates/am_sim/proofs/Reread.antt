@@ -1,0 +1,163 @@
+-- What an audit tells of what is written.
+use Rattle.std.proofs.Common.{◌≡◌, ℕ, zero, suc, ◌+◌, ◌<◌, ◌≤◌, List, [], ◌∷◌, ◌++◌, length, map, Bool, true, false, refl, sym, ap, ◌∙◌, arith, Ok, Option, Some}
+use Rattle.std.specs.Prelude.{All}
+use Rattle.std.proofs.lemmas.List.{length-map}
+use Rattle.std.proofs.lemmas.List.Elements.{All-nil, All-cons, All-append, All-head, All-tail, All-weaker, All-map}
+use Rattle.std.specs.List.{range_with_len}
+use Rattle.am_base.specs.Most.{most_events}
+use Rattle.am_base.specs.Founding.{Rules, MayFound}
+use Rattle.am_packet.specs.Boxes.{Letter}
+use Rattle.am_group.specs.Addressed.{is_for}
+use Rattle.am_group.specs.declared.event.Act.{Act}
+use Rattle.am_group.specs.declared.event.Act.TheVariants as act
+use Rattle.am_group.specs.declared.event.Event.{Event}
+use Rattle.am_group.specs.declared.event.Record.{Record}
+use Rattle.am_group.specs.declared.plan.RacePlan.{RacePlan}
+use Rattle.am_group.specs.declared.plan.ThreadPlan.{ThreadPlan}
+use Rattle.am_play.specs.World.{World, current, run}
+use Rattle.am_play.specs.Settle.{Settling, and_then, event_at, running, ticks, hearings_of, hearings_from, hearings, waves, round, rounds, round_count, settle_events}
+use Rattle.am_play.specs.Play.{text_of}
+use Rattle.am_laws.specs.Bytes.{BodyWithin, IsShort}
+use Rattle.am_report.specs.Schedules.{IsOfBytes, AreOfBytes}
+use Rattle.am_script.specs.declared.key.Key.TheVariants as key
+use Rattle.am_script.specs.declared.script.Script.TheVariants.{Play, Race}
+use Rattle.am_script.specs.Scripts.{reading}
+use Rattle.am_script.specs.Limits.{ActWithin, EventWithin, IsWithin, CallWithin, ThreadWithin, RaceWithin}
+use Rattle.am_scripted.specs.Bodies.{ThreadOfBytes}
+use Rattle.am_scripted.proofs.Bodies.{plays_are_of_bytes, races_are_of_bytes}
+use Rattle.am_raced.specs.Bodies.{HasBody, ThreadHasBodies}
+use Rattle.am_raced.proofs.Bodies.{races_have_planned_bodies}
+use Rattle.am_audited.specs.Claims.{ReadsAs, AgreesAs, IsOfOneList}
+use Rattle.am_audited.proofs.Agree.{runs_have_their_texts, lawful_texts_agree}
+use Rattle.am_audited.proofs.Scripts.{scripts_are_passed_over}
+use Rattle.am_sim.specs.Playing.{done_of}
+use Rattle.am_sim.specs.Racing.{events_of, race_text, IsRaced}
+
+-- ---- bodies
+
+abbrev Has : Event → Type 0
+Has e = HasBody e.act
+
+act_has : (a : Act) → ActWithin a → IsOfBytes a → HasBody a
+act_has (act.Send body) within bytes = record { within = within; bytes = bytes }
+act_has _ within bytes = record { within = tt; bytes = tt }
+
+events_have : (events : List Event) → All EventWithin events → AreOfBytes events → All Has events
+events_have [] within bytes = All-nil Has
+events_have (e ∷ es) within bytes = All-cons Has e es
+    (act_has e.act (All-head EventWithin e es within).1 (All-head (λ (x : Event). IsOfBytes x.act) e es bytes))
+    (events_have es (All-tail EventWithin e es within) (All-tail (λ (x : Event). IsOfBytes x.act) e es bytes))
+
+-- ---- the events that settle a run have none
+
+at_places : (a : Act) (places : List ℕ) → HasBody a → All Has (map (λ place. event_at place a) places)
+at_places a [] has = All-nil Has
+at_places a (place ∷ places) has = All-cons Has (event_at place a) (map (λ p. event_at p a) places) has (at_places a places has)
+
+bare : (a : Act) → BodyWithin a → IsOfBytes a → HasBody a
+bare a within bytes = record { within = within; bytes = bytes }
+
+heard_have : (w : World) (number : ℕ) (letters : List Letter) → All Has (hearings_from w number letters)
+unfolding hearings_from
+heard_have w number [] = All-nil Has
+heard_have w number (l ∷ ls) = All-append Has (hearings_of w number l) (hearings_from w (number + 1) ls)
+    (at_places (act.Hear number) _ (bare (act.Hear number) tt tt)) (heard_have w (number + 1) ls)
+
+waves_have : (left after : ℕ) (s : Settling) → All Has s.events → All Has (waves left after s).events
+unfolding waves
+waves_have zero after s has = has
+waves_have (suc left) after s has =
+    waves_have left (length s.world.letters) (and_then s (hearings s.world after))
+    (All-append Has s.events (hearings s.world after) has (heard_have s.world (after + 1) _))
+
+round_has : (s : Settling) → All Has s.events → All Has (round s).events
+round_has s has = waves_have 5 (length s.world.letters) (and_then s (ticks s.world))
+    (All-append Has s.events (ticks s.world) has (at_places act.Tick _ (bare act.Tick tt tt)))
+
+rounds_have : (left : ℕ) (s : Settling) → All Has s.events → All Has (rounds left s).events
+unfolding rounds
+rounds_have zero s has = has
+rounds_have (suc left) s has = rounds_have left (round s) (round_has s has)
+
+settling_has : (rules : Rules) (w : World) → All Has (settle_events rules w)
+unfolding settle_events
+settling_has rules w = rounds_have (round_count rules) (record { world = w; events = [] }) (All-nil Has)
+
+done_have : (rules : Rules) (events : List Event) (settles : Bool) → All Has events → All Has (done_of rules events settles)
+done_have rules events true has = All-append Has events (settle_events rules (run rules events)) has (settling_has rules (run rules events))
+done_have rules events false has = has
+
+-- ---- plays
+
+short : (rules : Rules) (events : List Event) → MayFound rules → All Has events → length events ≤ most_events → IsShort rules events
+short rules events founds has few = record {
+  founds = founds;
+  bodies = All-weaker Has (λ (e : Event). BodyWithin e.act) (λ e h. h.within) events has;
+  few = few;
+}
+
+of_bytes : (events : List Event) → All Has events → AreOfBytes events
+of_bytes events has = All-weaker Has (λ (e : Event). IsOfBytes e.act) (λ e h. h.bytes) events has
+
+play_has : (bytes : List ℕ) (founding : Rules) (events : List Event) (settles : Bool) → reading key.Play bytes ≡ Ok (Play founding events settles)
+    → IsWithin founding events → All Has (done_of founding events settles)
+play_has bytes founding events settles is within =
+    done_have founding events settles (events_have events within.each (plays_are_of_bytes bytes founding events settles is))
+
+pub play_reads : (bytes : List ℕ) (founding : Rules) (events : List Event) (settles : Bool) → reading key.Play bytes ≡ Ok (Play founding events settles)
+    → IsWithin founding events → length (done_of founding events settles) ≤ most_events → founding.resilience ≡ 0
+    → ReadsAs founding (done_of founding events settles) (text_of founding (done_of founding events settles))
+play_reads bytes founding events settles is within few none =
+    let done = done_of founding events settles in
+    let has = play_has bytes founding events settles is within in
+    runs_have_their_texts founding done (short founding done within.may_found has few) (of_bytes done has) none
+
+pub play_agrees : (bytes : List ℕ) (founding : Rules) (events : List Event) (settles : Bool) → reading key.Play bytes ≡ Ok (Play founding events settles)
+    → IsWithin founding events → length (done_of founding events settles) ≤ most_events → IsOfOneList founding (done_of founding events settles)
+    → AgreesAs founding (done_of founding events settles) (text_of founding (done_of founding events settles))
+play_agrees bytes founding events settles is within few one =
+    let done = done_of founding events settles in
+    let has = play_has bytes founding events settles is within in
+    lawful_texts_agree founding done (short founding done within.may_found has few) (of_bytes done has) one
+
+-- ---- races
+
+call_has : (a : Act) → CallWithin a → IsOfBytes a → HasBody a
+call_has (act.Send body) within bytes = record { within = within; bytes = bytes }
+call_has _ within bytes = record { within = tt; bytes = tt }
+
+calls_have : (calls : List Act) → All CallWithin calls → All IsOfBytes calls → All HasBody calls
+calls_have [] within bytes = All-nil HasBody
+calls_have (a ∷ calls) within bytes = All-cons HasBody a calls (call_has a (All-head CallWithin a calls within) (All-head IsOfBytes a calls bytes))
+    (calls_have calls (All-tail CallWithin a calls within) (All-tail IsOfBytes a calls bytes))
+
+threads_have : (threads : List ThreadPlan) → All ThreadWithin threads → All ThreadOfBytes threads → All ThreadHasBodies threads
+threads_have [] within bytes = All-nil ThreadHasBodies
+threads_have (t ∷ threads) within bytes = All-cons ThreadHasBodies t threads
+    (calls_have t.calls (All-head ThreadWithin t threads within).calls (All-head ThreadOfBytes t threads bytes))
+    (threads_have threads (All-tail ThreadWithin t threads within) (All-tail ThreadOfBytes t threads bytes))
+
+race_has : (bytes : List ℕ) (plan : RacePlan) (journal : List Record) → reading key.Race bytes ≡ Ok (Race plan) → RaceWithin plan → IsRaced plan journal
+    → All Has (events_of journal)
+race_has bytes plan journal is within raced =
+    All-map Has (λ (r : Record). r.event) journal
+    (races_have_planned_bodies plan journal (threads_have plan.threads within.each (races_are_of_bytes bytes plan is)) raced.legal)
+
+race_few : (plan : RacePlan) (journal : List Record) → IsRaced plan journal → length (events_of journal) ≤ most_events
+race_few plan journal raced = let few = raced.few in omega (arith, length-map journal (λ (r : Record). r.event), few)
+
+pub race_reads : (bytes : List ℕ) (plan : RacePlan) (journal : List Record) → reading key.Race bytes ≡ Ok (Race plan) → RaceWithin plan → IsRaced plan journal
+    → plan.founding.resilience ≡ 0 → ReadsAs plan.founding (events_of journal) (race_text plan.founding (events_of journal))
+race_reads bytes plan journal is within raced none =
+    let done = events_of journal in
+    let has = race_has bytes plan journal is within raced in
+    scripts_are_passed_over plan.founding done (of_bytes done has)
+    (runs_have_their_texts plan.founding done (short plan.founding done within.may_found has (race_few plan journal raced)) (of_bytes done has) none)
+
+pub race_agrees : (bytes : List ℕ) (plan : RacePlan) (journal : List Record) → reading key.Race bytes ≡ Ok (Race plan) → RaceWithin plan → IsRaced plan journal
+    → IsOfOneList plan.founding (events_of journal) → AgreesAs plan.founding (events_of journal) (race_text plan.founding (events_of journal))
+race_agrees bytes plan journal is within raced one =
+    let done = events_of journal in
+    let has = race_has bytes plan journal is within raced in
+    let h = lawful_texts_agree plan.founding done (short plan.founding done within.may_found has (race_few plan journal raced)) (of_bytes done has) one in
+    record { reads = scripts_are_passed_over plan.founding done (of_bytes done has) h.reads; verdict = h.verdict }
