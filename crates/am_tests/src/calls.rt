@@ -1,16 +1,16 @@
 ghost use Rattle.std.specs.Prelude.{◌≡◌, IfOk};
 
+use am_base::body::Body;
+use am_base::founding::Founding;
+use am_base::items::Items;
+use am_base::name::Name;
+use am_base::names::Names;
 use am_calls::caller::Caller;
 use am_calls::gate::{Gate, Meeting, NoGate};
 use am_calls::job::{Job, let_do};
 use am_calls::kernels::Kernels;
 use am_calls::naming::Racing;
 use am_calls::race::race;
-use am_base::body::Body;
-use am_base::founding::Founding;
-use am_base::items::Items;
-use am_base::name::Name;
-use am_base::names::Names;
 use am_group::delivered::deliveries;
 use am_group::event::{Act, By};
 use am_group::plan::{RacePlan, ThreadPlan};

@@ -1,10 +1,5 @@
 ghost use Rattle.std.specs.Prelude.{◌≡◌};
 
-use am_calls::caller::Caller;
-use am_calls::gate::{Gate, NoGate};
-use am_calls::job::{Job, let_do};
-use am_calls::kernels::Kernels;
-use am_calls::naming::Racing;
 use am_base::NoMemory;
 use am_base::body::Body;
 use am_base::entry::Entry;
@@ -12,6 +7,11 @@ use am_base::founding::Founding;
 use am_base::items::Items;
 use am_base::name::Name;
 use am_base::names::Names;
+use am_calls::caller::Caller;
+use am_calls::gate::{Gate, NoGate};
+use am_calls::job::{Job, let_do};
+use am_calls::kernels::Kernels;
+use am_calls::naming::Racing;
 use am_group::plan::{RacePlan, ThreadPlan};
 use am_races::answer::Answer;
 use std::alloc::Global;

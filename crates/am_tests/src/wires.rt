@@ -3,8 +3,6 @@ ghost use Rattle.am_base.specs.Names.{place_of, of_mask};
 ghost use Rattle.am_wire.specs.declared.rule.Key.TheVariants.{Place, Caller};
 ghost use Rattle.am_wire.specs.Passes.{IsReady};
 
-use am_wire::{Law, Terms};
-use am_wire::wire::{Pass, Share, Wire, WireRefusal};
 use am_base::founding::Founding;
 use am_base::items::Items;
 use am_base::name::{Name, Stamp};
@@ -14,6 +12,8 @@ use am_group::event::{Act, By, Event, Part, Record};
 use am_group::journal::Journal;
 use am_letter::letter::Letter;
 use am_packet::packet::Packet;
+use am_wire::wire::{Pass, Share, Wire, WireRefusal};
+use am_wire::{Law, Terms};
 use std::alloc::Global;
 use std::sync::Wait;
 use std::test::*;
