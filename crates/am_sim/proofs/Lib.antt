@@ -2,6 +2,7 @@ mod Answered
 mod Done
 mod Names
 mod Raced
+mod Scripts
 mod Spoken
 mod Texts
 pub mod Reread

@@ -1,11 +1,11 @@
 use Rattle.std.proofs.Common.{◌≡◌, ℕ, List, Option, Err, Some, subst, sym}
 use Rattle.std.specs.Io.KnownBytes.{Appends}
-use Rattle.am_io.specs.Outside.{ReadToEnd}
+use Rattle.am_io.specs.Outside.{ReadToEnd, GaveAtMost}
 use Rattle.am_words.specs.declared.form.Form.{Form}
 use Rattle.am_words.specs.declared.form.Form.TheVariants as form
 use Rattle.am_words.specs.Forms.{Generates}
 use Rattle.am_script.specs.Scripts.{reading}
-use Rattle.am_sim.specs.Simulation.{form_of_words, Reads, key_for, IsAnswer, IfBadScript, OnDone, OnWriteFault, WrotePart}
+use Rattle.am_sim.specs.Simulation.{form_of_words, most_of, Reads, key_for, IsAnswer, IfBadScript, OnDone, OnWriteFault, WrotePart}
 use Rattle.am_sim.proofs.simulate.simulate.Given.{Over}
 use Rattle.am_sim.proofs.simulate.simulate.Goals as goal
 
@@ -40,3 +40,8 @@ returns-then-is_race-clause-done g c =
     subst (λ (a : Option Form). OnDone c.race_script.result ((x : List ℕ)
     × IsAnswer a (g.S.Source.left c.args.source.now) (g.S.Source.left c.race_script.new.source) x
     × Appends (g.K.Sink.contents c.args.sink.now) (g.K.Sink.contents c.race_script.new.sink) x)) (sym (is_asked g c)) c.race_script.ensures.done
+
+pub returns-then-is_race-clause-within : goal.returns-then-is_race-clause-within
+returns-then-is_race-clause-within g c = λ not_node other.
+    subst (λ (a : Option Form). GaveAtMost (most_of a) (g.S.Source.left c.args.source.now) (g.S.Source.left c.race_script.new.source)) (sym (is_asked g c))
+    (c.race_script.ensures.within other)
