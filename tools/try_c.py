@@ -47,9 +47,12 @@ class Tried:
         return found
 
 
-def run(words: list[str], lines: bytes = b"", **more) -> subprocess.CompletedProcess[bytes]:
-    """Runs a command to its end."""
-    return subprocess.run(words, input=lines, capture_output=True, timeout=3600, check=False, **more)
+def run(words: list[str], lines: bytes = b"", seconds: int = 300, **more) -> subprocess.CompletedProcess[bytes]:
+    """Runs a command to its end, which comes within so many seconds."""
+    try:
+        return subprocess.run(words, input=lines, capture_output=True, timeout=seconds, check=False, **more)
+    except subprocess.TimeoutExpired as late:
+        return subprocess.CompletedProcess(words, -1, late.stdout or b"", f"not within {seconds} seconds".encode())
 
 
 def told(what: str, ran: subprocess.CompletedProcess[bytes]) -> list[str]:
@@ -59,7 +62,7 @@ def told(what: str, ran: subprocess.CompletedProcess[bytes]) -> list[str]:
 
 def built(tried: Tried) -> list[str]:
     """The library, and the programs over it."""
-    wrong = told("tools/library.py", run([sys.executable, str(TOP / "tools" / "library.py")]))
+    wrong = told("tools/library.py", run([sys.executable, str(TOP / "tools" / "library.py")], seconds=7200))
     more = "-g -fsanitize=address,undefined -fno-sanitize-recover=all" if tried.sanitize else ""
     words = ["make", "-B", "-C", str(TOP / "bindings" / "c"), f"KIT={tried.kit}", f"OUT={tried.folder}", f"CC={tried.compiler}", f"MORE={more}"]
     wrong = wrong or told("make", run(words))

@@ -37,6 +37,7 @@ int main(int count, char **words) {
         if (line[n - 1] == '\n') n--;
         if (n > 0) number = answered(&node, line, (size_t)n, &answer, &room);
     }
+    if (number == MUOSWYLD_DONE && !feof(stdin)) number = MUOSWYLD_NO_MEMORY; /* none for the line, which getline keeps */
     muoswyld_close(&node);
     free(line);
     free(answer);

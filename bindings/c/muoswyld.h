@@ -57,21 +57,21 @@ enum {
     MUOSWYLD_LENGTH = 8
 };
 
-/* The calls of the library, which are proved, and trust their pointers. Those below look at the pointers first. */
-int muoswyld_proved_open(muoswyld_node *node, const uint8_t *options, size_t n) __asm__("muoswyld_open");
-int muoswyld_proved_step(muoswyld_node *node, const uint8_t *line, size_t n, uint8_t *answer, size_t room, size_t *length)
-    __asm__("muoswyld_step");
-int muoswyld_proved_close(muoswyld_node *node) __asm__("muoswyld_close");
+/* The calls of the library, which are proved, and trust their pointers. Behind the end of this file these names stand for the
+   functions below, which look at pointers and lengths first, and then make the same call. */
+int muoswyld_open(muoswyld_node *node, const uint8_t *options, size_t n);
+int muoswyld_step(muoswyld_node *node, const uint8_t *line, size_t n, uint8_t *answer, size_t room, size_t *length);
+int muoswyld_close(muoswyld_node *node);
 
 /* Opens a closed handle: `options` are the n bytes behind the word `node` of a command, with one blank between two words:
    `--name N --founders N,N,..`, and maybe `--resilience N`, `--window N` and `--pb-up-to N`, each once, in any order. A name that
    is a founder begins as a member, and any other as one that nobody has seen.
 
    DONE; NO_MEMORY, and the handle stays closed; OPEN, and it stays as it is; BAD_OPTIONS, and it stays closed. NULL, LENGTH. */
-static inline int muoswyld_open(muoswyld_node *node, const void *options, size_t n) {
+static inline int muoswyld_checked_open(muoswyld_node *node, const void *options, size_t n) {
     if (node == NULL || options == NULL) return MUOSWYLD_NULL;
     if (n > PTRDIFF_MAX) return MUOSWYLD_LENGTH;
-    return muoswyld_proved_open(node, (const uint8_t *)options, n);
+    return muoswyld_open(node, (const uint8_t *)options, n);
 }
 
 /* Gives an open node a line of n bytes, without a newline. Its answer is written to the head of `answer`, which has `room`
@@ -85,17 +85,21 @@ static inline int muoswyld_open(muoswyld_node *node, const void *options, size_t
      that there are, one has some 24,000.
    NO_MEMORY: no line has an answer from now on. It isn't given while an answer waits.
    CLOSED, and nothing changes. NULL (`answer` may be null where `room` is 0), LENGTH. */
-static inline int muoswyld_step(muoswyld_node *node, const void *line, size_t n, void *answer, size_t room, size_t *length) {
+static inline int muoswyld_checked_step(muoswyld_node *node, const void *line, size_t n, void *answer, size_t room, size_t *length) {
     uint8_t none;
     if (node == NULL || line == NULL || length == NULL || (answer == NULL && room != 0)) return MUOSWYLD_NULL;
     if (n > PTRDIFF_MAX || room > PTRDIFF_MAX) return MUOSWYLD_LENGTH;
-    return muoswyld_proved_step(node, (const uint8_t *)line, n, answer == NULL ? &none : (uint8_t *)answer, room, length);
+    return muoswyld_step(node, (const uint8_t *)line, n, answer == NULL ? &none : (uint8_t *)answer, room, length);
 }
 
 /* Closes a handle, and gives its memory back. DONE; CLOSED where it was closed. NULL. */
-static inline int muoswyld_close(muoswyld_node *node) {
-    return node == NULL ? MUOSWYLD_NULL : muoswyld_proved_close(node);
+static inline int muoswyld_checked_close(muoswyld_node *node) {
+    return node == NULL ? MUOSWYLD_NULL : muoswyld_close(node);
 }
+
+#define muoswyld_open muoswyld_checked_open
+#define muoswyld_step muoswyld_checked_step
+#define muoswyld_close muoswyld_checked_close
 
 #ifdef __cplusplus
 }

@@ -1,4 +1,4 @@
-/* How many lines a second one processor answers, each line COUNT times: `speed COUNT OPTIONS < LINES`. */
+/* How many lines are answered in a second of one processor's time, each line COUNT times: `speed COUNT OPTIONS < LINES`. */
 #include "muoswyld.h"
 
 #include <stdio.h>
@@ -8,7 +8,7 @@
 
 static double now(void) {
     struct timespec t;
-    clock_gettime(CLOCK_MONOTONIC, &t);
+    clock_gettime(CLOCK_PROCESS_CPUTIME_ID, &t);
     return (double)t.tv_sec + (double)t.tv_nsec / 1e9;
 }
 

@@ -66,7 +66,7 @@ impl Group {
 
 #[test]
 fn answers_as_the_page_says() {
-    let mut node = Node::open("--name 1 --founders 0,1,2 --resilience 1").unwrap();
+    let mut node = Node::open("--name 1 --founders 0,1,2").unwrap();
     let sent = node.tell(b"send 61").unwrap();
     assert_eq!(
         sent,
