@@ -96,7 +96,7 @@ joiner_holds given group name s some other piece joined = record {
 }
 
 -- a name was welcomed once
-same_start : (a b : ℕ) (xs : List ℕ) → xs ≡ a ∷ [] → xs ≡ b ∷ [] → a ≡ b
+pub same_start : (a b : ℕ) (xs : List ℕ) → xs ≡ a ∷ [] → xs ≡ b ∷ [] → a ≡ b
 same_start a b xs p q = let e : a ∷ [] ≡ b ∷ [] = sym p ∙ q in cc (e)
 
 pub joiners_hold : JoinersHold
