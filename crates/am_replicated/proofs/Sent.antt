@@ -88,16 +88,21 @@ found_by : (group : List Entry) (given : List (ℕ × Entry)) (sender start plac
 found_by group given sender start zero number below ends none = let from : 0 < 0 = ends.from_one in absurd (omega arith)
 found_by group given sender start (suc k) number below ends none = found_at group given sender start k number below ends none
 
+some_given : (given : List (ℕ × Entry)) (place : ℕ) → 0 < place → place ≤ length given → given ≢ []
+some_given [] place above below none = omega arith
+some_given (pair ∷ given) place above below none = cc
+
 pub sent_snapshots_restore : SentSnapshotsRestore
-sent_snapshots_restore rules events sender first number joiner start place may other some begins s =
+sent_snapshots_restore rules events sender first number joiner start place may other begins s =
     let w = run rules (lawful_front rules events) in
     let message = snapshot_of (contents_after w.group start) start in
     let sent : EndsAt w.group number sender message = sent_end rules events sender first number message may s.sent in
+    let some = some_given (deliveries w.records joiner) place s.from_one s.within in
     let whole = whole_delivered rules events joiner may some in
     let same : whole.0 ≡ start = same_start whole.0 start _ (whole.1.begins.joiner other).0 (begins.joiner other).0 in
     let is : Whole rules w joiner start = subst (λ (n : ℕ). Whole rules w joiner n) same whole.1 in
     let there : EndsAt w.group (start + place - 1) sender message = subst (λ (n : ℕ). EndsAt w.group n sender message) s.there sent in
     let long : place ≤ length (entries_of (deliveries w.records joiner)) = omega (arith, s.within, length_entries (deliveries w.records joiner)) in
     let ends = is.ends place sender message there long s.behind in
-    (joiners_hold rules events may joiner start other some begins).right
+    (joiners_hold rules events may joiner start other begins).right
     (found_by w.group (deliveries w.records joiner) sender start place s.small s.within ends s.alone)
