@@ -1,4 +1,4 @@
-//! The examples of README.
+//! The examples of README and of docs/DIRECTORY.md.
 #![tactic(auto)]
 
 pub mod counter;

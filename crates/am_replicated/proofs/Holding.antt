@@ -19,7 +19,8 @@ use Rattle.am_play.proofs.Beginnings.{runs_begin}
 use Rattle.am_headline.proofs.Holds.{headline_holds}
 use Rattle.am_dir.specs.Contents.{Contents, with_entry, contents_from, contents_after}
 use Rattle.am_dir.specs.Replicas.{first_snapshot, replica_contents}
-use Rattle.am_replicated.specs.Claims.{last_number, front_of, contents_up_to, NoSnapshot, FoundersHold, JoinerHolds, JoinersHold}
+use Rattle.am_replicated.specs.Claims.{last_number, front_of, contents_up_to, NoSnapshot, FoundersHold, JoinerHolds, JoinersHold, ReplicasHold}
+use Rattle.am_replicated.proofs.Starts.{names_begin}
 use Rattle.am_replicated.proofs.Pieces.{goes_on, last_is, splits}
 use Rattle.am_replicated.proofs.Waiting.{joiner_is, waits_till, waits_so}
 
@@ -77,33 +78,62 @@ from_join (pair ∷ given) group name n some piece joined =
     let end : last_number pair.0 given ≡ suc n + length given = ap (λ (k : ℕ). last_number k given) s.number ∙ last_is given (suc n) group s.rest in
     ap (λ (c : Contents). contents_from c given) same ∙ goes_on given (suc n) group s.rest ∙ ap (λ (k : ℕ). contents_after group k) (sym end)
 
-no_zero : (group : List Entry) (name s : ℕ) → item_at group s ≡ Some (entries.Join name) → (n : ℕ) × (s ≡ suc n)
-no_zero group name zero h = absurd (cc)
-no_zero group name (suc n) h = (n, refl)
-
 right_at : (given : List (ℕ × Entry)) (group : List Entry) (name s : ℕ) → given ≢ [] → IsSegment given s group → item_at group s ≡ Some (entries.Join name)
     → contents_from (contents_after group s) given ≡ contents_up_to group given
 right_at given group name zero some piece joined = absurd (cc)
 right_at given group name (suc n) some piece joined = from_join given group name n some piece joined
 
-joiner_holds : (given : List (ℕ × Entry)) (group : List Entry) (name s : ℕ) → given ≢ [] → (s == 1) ≡ false → IsSegment given s group
+-- where nothing was given, no snapshot was
+none_given : (start : ℕ) (contents : Contents) → first_snapshot start [] ≡ Some contents → ⊥
+unfolding first_snapshot
+none_given start contents h = let never : ◌≡◌ {A = Option Contents} None (Some contents) = h in cc
+
+right_of : (given : List (ℕ × Entry)) (group : List Entry) (name s : ℕ) → (s == 1) ≡ false → IsSegment given s group
     → item_at group s ≡ Some (entries.Join name)
-    → JoinerHolds group given s
-joiner_holds given group name s some other piece joined = record {
+    → first_snapshot s given ≡ Some (contents_after group s) → replica_contents s given ≡ Some (contents_up_to group given)
+right_of [] group name s other piece joined first = absurd (none_given s (contents_after group s) first)
+right_of (pair ∷ given) group name s other piece joined first =
+    let some : pair ∷ given ≢ [] = λ none. cc (none) in
+    joiner_is s (pair ∷ given) other ∙ ap (λ (o : Option Contents). option_map (λ c. contents_from c (pair ∷ given)) o) first
+    ∙ ap (λ (c : Contents). Some c) (right_at (pair ∷ given) group name s some piece joined)
+
+joiner_holds : (given : List (ℕ × Entry)) (group : List Entry) (name s : ℕ) → (s == 1) ≡ false → IsSegment given s group
+    → item_at group s ≡ Some (entries.Join name) → JoinerHolds group given s
+joiner_holds given group name s other piece joined = record {
   waits = (waits_till s given other, waits_so s given other);
-  right = λ first. joiner_is s given other ∙ ap (λ (o : Option Contents). option_map (λ c. contents_from c given) o) first
-      ∙ ap (λ (c : Contents). Some c) (right_at given group name s some piece joined);
+  right = right_of given group name s other piece joined;
 }
 
 -- a name was welcomed once
-same_start : (a b : ℕ) (xs : List ℕ) → xs ≡ a ∷ [] → xs ≡ b ∷ [] → a ≡ b
+pub same_start : (a b : ℕ) (xs : List ℕ) → xs ≡ a ∷ [] → xs ≡ b ∷ [] → a ≡ b
 same_start a b xs p q = let e : a ∷ [] ≡ b ∷ [] = sym p ∙ q in cc (e)
 
-pub joiners_hold : JoinersHold
-joiners_hold rules events may name s other some begins =
-    let w = run rules (lawful_front rules events) in
-    let piece = (headline_holds rules events may).front.segment.each name some in
-    let joins = begins.joiner other in
-    let same : piece.0 ≡ s = same_start piece.0 s _ (piece.1.joiner other).0 joins.0 in
+joiner_piece : (rules : Rules) (w : World) (name s : ℕ) (given : List (ℕ × Entry)) → Segment rules w → has rules.founders name ≡ false → BeginsAt rules w name s
+    → given ≡ deliveries w.records name → IsSegment given s w.group
+joiner_piece rules w name s [] segment other begins is = λ k number e at. absurd (cc)
+joiner_piece rules w name s (pair ∷ given) segment other begins is =
+    let piece = segment.each name (λ none. let never : pair ∷ given ≡ [] = is ∙ none in absurd (cc)) in
+    let same : piece.0 ≡ s = same_start piece.0 s _ (piece.1.joiner other).0 (begins.joiner other).0 in
     let from : IsSegment (deliveries w.records name) s w.group = subst (λ (n : ℕ). IsSegment (deliveries w.records name) n w.group) same piece.2 in
-    joiner_holds (deliveries w.records name) w.group name s some (other_start s (not_first rules (lawful_front rules events) name s joins.1)) from joins.1
+    subst (λ (xs : List (ℕ × Entry)). IsSegment xs s w.group) (sym is) from
+
+pub joiners_hold : JoinersHold
+joiners_hold rules events may name s other begins =
+    let w = run rules (lawful_front rules events) in
+    let given = deliveries w.records name in
+    let joined = (begins.joiner other).1 in
+    joiner_holds given w.group name s (other_start s (not_first rules (lawful_front rules events) name s joined))
+    (joiner_piece rules w name s given (headline_holds rules events may).front.segment other begins refl) joined
+
+-- ---- each name that has or had a list
+
+pub replicas_hold : ReplicasHold
+replicas_hold rules events name may log =
+    let w = run rules (lawful_front rules events) in
+    let begins = names_begin rules events name may log in
+    record {
+      begins = begins;
+      founder = λ founder. ap (λ (n : ℕ). replica_contents n (deliveries w.records name)) (begins.founder founder)
+          ∙ founders_hold rules events name may founder;
+      joiner = λ other. joiners_hold rules events may name (w.nodes name).core.start other begins;
+    }

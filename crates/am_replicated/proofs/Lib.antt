@@ -1,3 +1,5 @@
-pub mod Pieces
-pub mod Waiting
 pub mod Holding
+pub mod Pieces
+pub mod Sent
+pub mod Starts
+pub mod Waiting

@@ -15,7 +15,7 @@ use Rattle.am_replicated.specs.Claims.{NoSnapshot}
 eq_same : (n : ℕ) → (n == n) ≡ true
 eq_same n = grind (arith, nat_tests)
 
-for_join_is : (start : ℕ) (contents : Contents) → for_join start (Some (start, contents)) ≡ Some contents
+pub for_join_is : (start : ℕ) (contents : Contents) → for_join start (Some (start, contents)) ≡ Some contents
 for_join_is start contents = ap (λ (b : Bool). cond b (Some contents) None) (eq_same start)
 
 -- what is no snapshot for the start
@@ -65,7 +65,7 @@ found_none start before (e ∷ rest) none =
     ∙ none (suc k) (omega (arith, below))) in
     ap (λ (o : Option Contents). or_else o (first_behind start (before ++ e ∷ []) rest)) first ∙ others
 
-length_entries : (given : List (ℕ × Entry)) → length (entries_of given) ≡ length given
+pub length_entries : (given : List (ℕ × Entry)) → length (entries_of given) ≡ length given
 length_entries [] = refl
 length_entries (pair ∷ given) = ap suc (length_entries given)
 
@@ -82,7 +82,7 @@ no_message start name (suc k) given message contents none below ends is =
     let nothing = none_found start [] (entries_of given) none k (omega (arith, below, length_entries given)) in
     no_snapshot start message contents (ap (λ (o : Option (ℕ × List ℕ)). snapshot_for start o) (sym ends) ∙ nothing) is
 
-no_contents : (start : ℕ) (o : Option (ℕ × List ℕ)) → ((name : ℕ) (message : List ℕ) (contents : Contents) → o ≡ Some (name, message)
+pub no_contents : (start : ℕ) (o : Option (ℕ × List ℕ)) → ((name : ℕ) (message : List ℕ) (contents : Contents) → o ≡ Some (name, message)
     → snapshot_in message ≡ Some (start, contents) → ⊥)
     → snapshot_for start o ≡ None
 no_contents start None never = refl

@@ -1,7 +1,7 @@
 //! What replicas have in every run, up to its lawful front (docs/DIRECTORY.md).
 #![tactic(auto)]
 
-ghost use Rattle.am_replicated.specs.Claims.{FoundersHold, JoinersHold};
+ghost use Rattle.am_replicated.specs.Claims.{FoundersHold, JoinersHold, ReplicasHold, SentSnapshotsRestore};
 
 /// A founder's replica has the contents of the group's list, up to the last entry that the founder was given.
 pub fn founders_hold()
@@ -13,4 +13,17 @@ pub fn founders_hold()
 /// the name was given.
 pub fn joiners_hold()
     ensures { JoinersHold }
+{}
+
+/// The same of each name that has or had a list, by the number at which its list begins: 1 for a founder, for others where they were
+/// welcomed, which is their Join.
+pub fn replicas_hold()
+    ensures { ReplicasHold }
+{}
+
+/// Where a name sent the snapshot of the group's contents at a Join part by part, and was answered, and the name that joined there was
+/// given all of it before any other snapshot for its Join ended, that name's replica is ready, and has the contents of the group's list up
+/// to the last entry that the name was given.
+pub fn sent_snapshots_restore()
+    ensures { SentSnapshotsRestore }
 {}

@@ -87,7 +87,8 @@ impl Assembler {
     /// The message that would end with the next entry; None where none would. It is an error where there is no memory for it.
     #[tactic(auto, unfolding(crate::specs::Assembling::after_entry))]
     pub fn whole_with(&self, alloc: Global, entry: &Entry) -> Result<Option<Vec<u8>>, NoMemory>
-        ensures { IfOk result (λ found. option_map (λ m. m.items) found ≡ message_in (after_entry self.now entry.now).ended) }
+        ensures { IfOk result (λ found. option_map (λ m. m.items) found
+            ≡ message_in (after_entry self.now entry.now).ended) }
     {
         match entry {
             Entry::Data { from, body, .. } => {

@@ -110,9 +110,11 @@ impl Room {
         from: Name,
         body: &[u8],
     ) -> Result<Option<Vec<u8>>, NoMemory>
-        ensures { IfOk result (λ found. option_map (λ m. m.items) found ≡ whole_in (taken_with (begun_in self.now) from body.now)) }
+        ensures { IfOk result (λ found. option_map (λ m. m.items) found
+            ≡ whole_in (taken_with (begun_in self.now) from body.now)) }
     {
-        let Some(part) = part_in(body) else {
+        let found = part_in(body);
+        let Some(part) = found else {
             return Ok(None);
         };
         if part.index + 1 != part.count {
