@@ -18,6 +18,8 @@ use Rattle.am_play.specs.Settle.{settle_events}
 use Rattle.am_play.proofs.Runs.{watched_is_run, front_is_lawful}
 use Rattle.am_headline.proofs.Fitted.{views_fit}
 use Rattle.am_headline.proofs.Holds.{headline_holds, prefix_whole}
+use Rattle.am_assembled.proofs.Sends.{delivered_end}
+use Rattle.am_replicated.proofs.Holding.{replicas_hold}
 use Rattle.am_sent.proofs.Runs.{sent_holds}
 use Rattle.am_unballoted.proofs.Holds.{unballoted_holds}
 use Rattle.am_repaired.proofs.Settled.{settled_is_repaired}
@@ -69,6 +71,8 @@ keeps_all rules events may = record {
   fits = fits_then rules events may;
   sent = sent_holds rules events may;
   unballoted = λ none. unballoted_holds rules events may none;
+  messages = λ name some. delivered_end rules events name may some;
+  replicas = λ name has. replicas_hold rules events name may has;
 }
 
 -- a run that is settled is repaired

@@ -1,5 +1,5 @@
 -- What a call of the program did.
-use Rattle.std.specs.Prelude.{◌≡◌, ℕ, ◌<◌, ◌≤◌, true, false, List, ◌++◌, length, map, take, Option, Some, Ok, Err, Bool, if◌then◌else◌}
+use Rattle.std.specs.Prelude.{◌≡◌, ◌≢◌, ℕ, ◌<◌, ◌≤◌, true, false, List, [], ◌++◌, length, map, take, Option, Some, Ok, Err, Bool, if◌then◌else◌}
 use Rattle.std.specs.Borrow.{Bor}
 use Rattle.std.specs.Io.KnownBytes.{Appends}
 use Rattle.am_base.specs.Most.{most_events}
@@ -8,7 +8,8 @@ use Rattle.am_base.specs.Names.{has}
 use Rattle.am_group.specs.declared.event.Event.{Event}
 use Rattle.am_group.specs.declared.event.Record.{Record}
 use Rattle.am_group.specs.declared.plan.RacePlan.{RacePlan}
-use Rattle.am_model.specs.Node.{top, members}
+use Rattle.am_group.specs.Deliveries.{deliveries}
+use Rattle.am_model.specs.Node.{top, members, has_log}
 use Rattle.am_play.specs.World.{current, run}
 use Rattle.am_play.specs.Play.{settle_run, summary_text_of}
 use Rattle.am_play.specs.Text.{newline}
@@ -32,6 +33,8 @@ use Rattle.am_audit.specs.declared.verdict.Verdict.TheVariants as verdicts
 use Rattle.am_audit.specs.Agreement.{Lists, Agreed}
 use Rattle.am_audit.specs.Lines.{Reading, read_text}
 use Rattle.am_audit.specs.Verdicts.{verdict_of, verdict_line, is_right}
+use Rattle.am_assembled.specs.Claims.{front_of, Delivered}
+use Rattle.am_replicated.specs.Claims.{ReplicaHolds}
 use Rattle.am_audited.specs.Claims.{ReadsAs, AgreesAs, IsOfOneList}
 use Rattle.am_lines.specs.Speaking.{spoken}
 use Rattle.am_words.specs.Forms.{form_of}
@@ -66,13 +69,16 @@ abbrev pub run_watch : Rules → List Event → Bool → Watch
 run_watch rules events settles = if settles then settle_run rules (watch_run rules events) else watch_run rules events
 
 -- What is claimed of every run: the headline, which is up to its lawful front, and that no node ever kept more than it may; and that at each moment up
--- to there a View which leaves somebody out fits each node. Besides, of the whole run, whoever stops: everything in the one group list was sent before it
+-- to there a View which leaves somebody out fits each node. Up to there, too, a message that ends in what a name was given ends in the group's list, and
+-- each name's replica of a directory has the contents of that list, or waits for a snapshot, or got a wrong one. Besides, of the whole run, whoever stops: everything in the one group list was sent before it
 -- stood there; and where nobody began a ballot, all but what the headline says of complete views.
 pub record Keeps (rules : Rules) (events : List Event) : Type 0 where
   pub headline : Headline rules events
   pub fits : (moment name : ℕ) → FitsView rules ((run rules (take moment (lawful_front rules events))).nodes name)
   pub sent : Sent rules events
   pub unballoted : NoBallot (run rules events) → HoldsUnballoted rules events
+  pub messages : (name : ℕ) → deliveries (front_of rules events).records name ≢ [] → (start : ℕ) × Delivered rules (front_of rules events) name start
+  pub replicas : (name : ℕ) → has_log ((front_of rules events).nodes name).status ≡ true → ReplicaHolds rules (front_of rules events) name
 
 -- Where a run's group may be repaired, the events that settle the run bring each member of the sequencer's list to where the sequencer stood: it has
 -- stored all up to there, and knows it to be accepted.
