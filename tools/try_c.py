@@ -6,8 +6,8 @@
 PROGRAM is the command whose word `node` is run. N lines (2,000), random and mutated, go to a node in each of nine states: through the
 C driver, through the Rust crate where cargo is there, and to the word `node`, and all must answer the same. Besides it tries each
 refusal, each allocation failing in turn, three members with a crash in C and in Rust, and a shared library from Python. With --sanitize
-the C programs are built with the address and the undefined sanitizer, and 100,000 lines go to each state. CC names the compiler (cc,
-or else the toolchain's). It prints what fails, and how many parts passed.
+the C programs are built with the address and the undefined sanitizer, and 100,000 lines go to each state. CC names the compiler (else
+cc, gcc or clang; the toolchain's own clang has no headers). It prints what fails, and how many parts passed.
 """
 
 import argparse
@@ -36,7 +36,7 @@ class Tried:
         self.count = 100_000 if wanted.sanitize else wanted.count
         self.sanitize, self.cargo = wanted.sanitize, None if wanted.sanitize else shutil.which("cargo")
         self.kit = kit()
-        self.compiler = os.environ.get("CC") or shutil.which("cc") or str(self.kit / "toolchain" / "bin" / "clang")
+        self.compiler = os.environ.get("CC") or shutil.which("cc") or shutil.which("gcc") or "clang"
         self.cargo_words = {**os.environ, "KIT": str(self.kit), "CARGO_TARGET_DIR": str(folder / "target"), "CARGO_NET_OFFLINE": "true"}
 
     def drivers(self) -> dict[str, list[str]]:
