@@ -1,6 +1,6 @@
 -- What replicas have in runs.
 use Rattle.std.proofs.Common.{◌≡◌, ◌≢◌, ℕ, zero, suc, ◌+◌, ◌≤◌, List, [], ◌∷◌, ◌++◌, length, take, Option, Some, None, Bool, true, false, cond, ◌==◌}
-use Rattle.std.proofs.Common.{slice_get, refl, sym, ap, ◌∙◌, subst, arith, ⊎_elim, inl, inr}
+use Rattle.std.proofs.Common.{slice_get, refl, sym, ap, ◌∙◌, subst, arith, ⊎_elim, inl, inr, add-zero}
 use Rattle.std.specs.Option.{option_map}
 use Rattle.std.proofs.lemmas.Bool.{cases_eq}
 use Rattle.std.proofs.lemmas.Bool.Decides.{nat_tests}
@@ -127,13 +127,25 @@ joiners_hold rules events may name s other begins =
 
 -- ---- each name that has or had a list
 
+piece_of : (rules : Rules) (w : World) (name s : ℕ) (founds : Bool) → Segment rules w → BeginsAt rules w name s → has rules.founders name ≡ founds
+    → IsSegment (deliveries w.records name) s w.group
+piece_of rules w name s true segment begins is =
+    subst (λ (n : ℕ). IsSegment (deliveries w.records name) n w.group) (sym (begins.founder is))
+    (founder_holds rules w name (deliveries w.records name) segment is refl)
+piece_of rules w name s false segment begins is = joiner_piece rules w name s (deliveries w.records name) segment is begins refl
+
+first_number : (given rest : List (ℕ × Entry)) (pair : ℕ × Entry) (s : ℕ) (group : List Entry) → IsSegment given s group → given ≡ pair ∷ rest → pair.0 ≡ s
+first_number given rest pair s group piece e = (piece 0 pair.0 pair.1 (ap (λ (xs : List (ℕ × Entry)). slice_get xs 0) e)).0 ∙ add-zero s
+
 pub replicas_hold : ReplicasHold
 replicas_hold rules events name may log =
     let w = run rules (lawful_front rules events) in
+    let given = deliveries w.records name in
     let begins = names_begin rules events name may log in
+    let piece = piece_of rules w name (w.nodes name).core.start (has rules.founders name) (headline_holds rules events may).front.segment begins refl in
     record {
       begins = begins;
-      founder = λ founder. ap (λ (n : ℕ). replica_contents n (deliveries w.records name)) (begins.founder founder)
-          ∙ founders_hold rules events name may founder;
+      first = λ pair rest e. first_number given rest pair (w.nodes name).core.start w.group piece e;
+      founder = λ founder. ap (λ (n : ℕ). replica_contents n given) (begins.founder founder) ∙ founders_hold rules events name may founder;
       joiner = λ other. joiners_hold rules events may name (w.nodes name).core.start other begins;
     }

@@ -63,6 +63,8 @@ JoinersHold = (rules : Rules) (events : List Event) → MayFound rules → Joine
 -- by the number at which the name's list begins
 pub record ReplicaHolds (rules : Rules) (w : World) (name : ℕ) : Type 0 where
   pub begins : BeginsAt rules w name (w.nodes name).core.start
+  -- the first entry that the name was given has that number
+  pub first : (pair : ℕ × Entry) (rest : List (ℕ × Entry)) → deliveries w.records name ≡ pair ∷ rest → pair.0 ≡ (w.nodes name).core.start
   pub founder : has rules.founders name ≡ true
       → replica_contents (w.nodes name).core.start (deliveries w.records name) ≡ Some (contents_up_to w.group (deliveries w.records name))
   pub joiner : has rules.founders name ≡ false → JoinerHolds w.group (deliveries w.records name) (w.nodes name).core.start
