@@ -1,0 +1,130 @@
+#!/usr/bin/env python3
+"""Compares what the program writes of messages and directories with tools/services.py.
+
+    python3 tools/try_services.py PROGRAM [--count N] [--seed N] FOLDER..
+
+It takes the scripts of the folders, as they are and with other bodies in their sends: commands of few keys, parts of messages in
+order and out of it, snapshots that a node of the same run could send, and bytes that are none of these. For each it compares what
+`messages`, `directory` and `snapshots` write with what the other program makes of the text of `play`, and for random messages what
+`parts` writes. It prints what differs, how many scripts were alike, and how many messages, keys, waiting and restored replicas there
+were in them.
+"""
+
+import argparse
+import collections
+import json
+import pathlib
+import random
+import subprocess
+import sys
+
+import services
+
+WORDS = ("messages", "directory", "snapshots")
+
+
+def run(program: str, word: str, given: bytes) -> tuple[int, list[str]]:
+    """The status of a call, and the lines that it wrote."""
+    done = subprocess.run([program, word], input=given, capture_output=True, timeout=120, check=False)
+    return done.returncode, done.stdout.decode().splitlines()
+
+
+def command(draw: random.Random) -> bytes:
+    """A command of one of a few keys, or nearly one."""
+    key = bytes([draw.randrange(97, 101)]) * draw.choice((1, 1, 1, 2, 32, 33))
+    value = bytes(draw.randrange(256) for _ in range(draw.choice((0, 1, 3, 64, 65))))
+    kind = draw.choice((1, 1, 2, 3, 3, 5))
+    body = bytes([kind, len(key)]) + key + (b"" if kind == 2 else bytes([len(value)]) + value)
+    return body + (b"x" if draw.random() < 0.05 else b"")
+
+
+def message_parts(draw: random.Random) -> list[bytes]:
+    """The parts of a message, now and then with one left out, twice, or changed."""
+    parts = services.parts(bytes([draw.randrange(97, 123)]) * draw.choice((0, 2, 1_019, 1_020, 2_500)))
+    if draw.random() < 0.2:
+        at = draw.randrange(len(parts))
+        parts[at : at + 1] = draw.choice(([], [parts[at]] * 2, [parts[at][:-1]]))
+    return parts
+
+
+def with_bodies(script: dict, sent: list[str], draw: random.Random) -> dict:
+    """The script with other bodies; `sent` are parts of snapshots that nodes of it could send, in order."""
+    play = json.loads(json.dumps(script))
+    begun: dict[int, list[bytes]] = collections.defaultdict(list)
+    snapshots = [bytes.fromhex(part) for part in sent]
+    for event in play["play"]["events"]:
+        if event["do"] != "send":
+            continue
+        if begun[event["node"]]:
+            body = begun[event["node"]].pop(0)
+        elif snapshots and draw.random() < 0.3:
+            body = snapshots.pop(draw.randrange(min(2, len(snapshots))))
+        elif draw.random() < 0.25:
+            begun[event["node"]] = message_parts(draw)
+            body = begun[event["node"]].pop(0) if begun[event["node"]] else b""
+        else:
+            body = command(draw)
+        event["body"] = body[:1024].hex()
+    return play
+
+
+def faults(program: str, script: bytes, seen: collections.Counter) -> list[str]:
+    """What differs for a script; counts what is in it."""
+    status, text = run(program, "play", script)
+    if status != 0:
+        return []
+    found = []
+    for word in WORDS:
+        wanted = list({"messages": services.messages, "directory": services.directory, "snapshots": services.snapshots}[word](text))
+        if (ended := run(program, word, script)) != (0, wanted):
+            found.append(f"{word}: status {ended[0]}, {[pair for pair in zip(ended[1], wanted) if pair[0] != pair[1]][:2]}")
+        for line in wanted:
+            kind = line.split(" ")[0]
+            seen["waiting" if line.endswith(" waiting") else kind] += 1
+    return found
+
+
+def scripts_of(folders: list[str]) -> list[dict]:
+    """The plays of the folders that are scripts."""
+    found = []
+    for folder in folders:
+        for path in sorted(pathlib.Path(folder).glob("*.json")):
+            if not path.with_suffix(".cause").exists():
+                found.append(json.loads(path.read_bytes()))
+    return [script for script in found if "play" in script]
+
+
+def main() -> int:
+    """Tries so many scripts; 1 where something differs."""
+    reads = argparse.ArgumentParser(description=__doc__, formatter_class=argparse.RawDescriptionHelpFormatter)
+    reads.add_argument("program")
+    reads.add_argument("folders", nargs="+")
+    reads.add_argument("--count", type=int, default=300)
+    reads.add_argument("--seed", type=int, default=1)
+    asked = reads.parse_args()
+    draw = random.Random(asked.seed)
+    scripts = scripts_of(asked.folders)
+    seen: collections.Counter = collections.Counter()
+    failed = 0
+    for number in range(asked.count):
+        script = scripts[number % len(scripts)]
+        sent: list[str] = []
+        for _ in range(3 if number >= len(scripts) else 1):
+            given = json.dumps(script if number < len(scripts) else with_bodies(script, sent, draw)).encode()
+            for fault in faults(asked.program, given, seen):
+                print(f"script {number}: {fault}\n{given.decode()[:2000]}")
+                failed += 1
+            sent = [line.split(" ")[3] for line in run(asked.program, "snapshots", given)[1] if line.startswith("snapshot ")]
+        message = bytes(draw.randrange(256) for _ in range(draw.choice((0, 1, 1_018, 1_019, 1_020, 5_000, draw.randrange(65_536)))))
+        if run(asked.program, "parts", message) != (0, [part.hex() for part in services.parts(message)]):
+            print(f"the parts of a message of {len(message)} bytes differ")
+            failed += 1
+    if asked.count > len(scripts) and not all(seen[kind] for kind in ("message", "directory", "name", "waiting", "snapshot")):
+        print(f"nothing to compare of some kind: {dict(seen)}")
+        failed += 1
+    print(f"tools/try_services.py: {asked.count} scripts, {failed} differ; {dict(seen)}")
+    return 1 if failed else 0
+
+
+if __name__ == "__main__":
+    sys.exit(main())
