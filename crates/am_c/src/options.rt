@@ -59,10 +59,12 @@ pub(crate) fn node_of(alloc: Global, options: &[u8]) -> Result<NodeWords, Option
     };
     match form_of(words.as_slice()) {
         Some(Form::Node(node)) => Ok(node),
-        Some(Form::Play) => Err(OptionsFault::Form),
+        Some(Form::Play(_)) => Err(OptionsFault::Form),
         Some(Form::Race) => Err(OptionsFault::Form),
         Some(Form::Gen(_)) => Err(OptionsFault::Form),
+        Some(Form::Script(_)) => Err(OptionsFault::Form),
         Some(Form::Audit) => Err(OptionsFault::Form),
+        Some(Form::Parts) => Err(OptionsFault::Form),
         None => Err(OptionsFault::Form),
     }
 }
