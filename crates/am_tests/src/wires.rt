@@ -122,7 +122,7 @@ fn add_both<R: Threads + Wait + Sync>(
     (one, other, a && b)
 }
 
-#[tactic(auto, unfolding(am_wire::specs::Keys::place_keys, crate::specs::Keys::caller_keys))]
+#[tactic(auto, unfolding(am_wire::specs::Keys::place_keys, am_wire::specs::Keys::caller_keys))]
 #[test]
 fn two_threads_add(rt: HostRuntime) -> Result<(), Fail> {
     let alloc = rt.alloc();
@@ -160,7 +160,7 @@ fn two_threads_add(rt: HostRuntime) -> Result<(), Fail> {
 }
 
 /// Without callers nothing is added, and the sixteen passes together give the empty journal.
-#[tactic(auto, unfolding(am_wire::specs::Keys::place_keys, crate::specs::Keys::caller_keys))]
+#[tactic(auto, unfolding(am_wire::specs::Keys::place_keys, am_wire::specs::Keys::caller_keys))]
 #[test]
 fn all_passes_close_a_wire(rt: HostRuntime) -> Result<(), Fail> {
     let terms = terms_of(5, 0)?;
