@@ -69,10 +69,10 @@ def with_bodies(script: dict, sent: list[str], draw: random.Random) -> dict:
 
 
 def faults(program: str, script: bytes, seen: collections.Counter) -> list[str]:
-    """What differs for a script; counts what is in it."""
+    """What differs for a script, or that it isn't played; counts what is in it."""
     status, text = run(program, "play", script)
     if status != 0:
-        return []
+        return [f"play: status {status}"]
     found = []
     for word in WORDS:
         wanted = list({"messages": services.messages, "directory": services.directory, "snapshots": services.snapshots}[word](text))

@@ -25,7 +25,7 @@ use am_words::options::gen_numbers;
 use am_world::world::WorldRefusal;
 use std::alloc::Global;
 
-/// The most bytes of an input.
+/// The most bytes of an input that is no message.
 pub const INPUT_MOST: u32 = 16_777_216;
 
 /// Does what the words ask for, as `simulate` does, but for the one word `race` and for `node`, and waits for nobody. None exactly

@@ -31,8 +31,10 @@ use std::thread::Threads;
 /// Does what the words ask for (`form_of` of am_words). `play` reads a script of at most 16,777,216 bytes to its end, runs it,
 /// and writes the text of its run (docs/PROTOCOL.md, "Play text"). `race` reads a race, lets its threads make their calls, with
 /// the gate between each look and its act, and writes what was done as a script, in one line, and the text of the run of that.
-/// `gen` reads nothing, makes the run of its two numbers, and writes its summary. On every status but Done and WriteFault nothing is
-/// written. `node` answers each line that it reads before it reads more (`speak` of am_lines), however many there are.
+/// `messages`, `directory` and `snapshots` read and run a script as `play` does, and write these of its run (docs/MESSAGES.md,
+/// docs/DIRECTORY.md). `gen` reads nothing, makes the run of its two numbers, and writes its summary, or with `--script` its script.
+/// `audit` reads a text and writes the line of its verdict (docs/AUDIT.md). `parts` reads a message of at most 65,535 bytes, and
+/// writes its parts. On every status but Done, Disagrees and WriteFault nothing is written. `node` answers each line that it reads before it reads more (`speak` of am_lines), however many there are.
 pub fn simulate<R: Threads + Wait + Sync, S: Source, K: Sink, G: Gate + Sync>(
     rt: &R,
     alloc: Global,

@@ -9,7 +9,7 @@ pub enum Status {
     Usage,
     /// The input isn't a script, by this cause.
     BadScript(ScriptRefusal),
-    /// The input has more than 16,777,216 bytes.
+    /// The input has more than 16,777,216 bytes, or as a message more than 65,535.
     TooLong,
     /// A read failed.
     ReadFault,
