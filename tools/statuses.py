@@ -108,6 +108,45 @@ CASES = [
     (["Audit"], TEXT, USAGE, 1, b""),
 ]
 
+# words that have no form, one line each
+NO_FORMS = """\
+directories
+parts --script
+gen --script --seed 1 --count
+gen --script --script --seed 1 --count
+audit x
+race x
+play x
+gen --seed x --count 5
+gen --seed +1 --count 5
+gen --seed -1 --count 5
+gen --seed  --count 5
+gen --seed 000000000000000000001 --count 5
+node
+node --name
+node --name 1
+node --founders 0
+node --name 1 --founders -
+node --name 1 --founders 0/2
+node --name 1 --founders 1,0
+node --name 16 --founders 0
+node --name 01 --founders 0
+node --name 1 --founders 0 --name 1
+node --name 1 --founders 0 --window 0
+node --name 1 --founders 0 --window 1009
+node --name 1 --founders 0 --resilience 16
+node --name=1 --founders=0
+"""
+CASES += [(words.split(" "), b"", USAGE, 1, b"") for words in NO_FORMS.splitlines()]
+
+# words of nodes, which are given no line
+NODES = """\
+node --name 1 --founders 0,1,2
+node --window 1008 --founders 0 --name 15/16
+node --pb-up-to 1024 --resilience 15 --name 0 --window 1 --founders 3,7
+"""
+CASES += [(words.split(" "), b"", "", 0, b"") for words in NODES.splitlines()]
+
 
 def run(program, words, **how):
     done = subprocess.run([program, *words], timeout=110, check=False, **how)

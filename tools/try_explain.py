@@ -4,10 +4,13 @@
 
 FOLDER has scripts NAME.json, and beside each NAME.cause, the line that `PROGRAM WORD < NAME.json` must write on standard error,
 with status 2 and nothing on standard output, where WORD is `race` for names that begin with race_, else `play`; and sentences.txt, a line `NAME: SENTENCE` with what tools/explain.py must say of
-each. Each cause must be there, and of each key every cause that it can have. COMMAND, which is ./muoswyld, must write the line,
-and below it the sentence where standard error is a terminal, else how to get it. It prints what fails, and how many passed.
+each. Each cause must be there, and of each key every cause that it can have. FOLDER/rows.txt has more, a line each: WORD NUMBER PLACE TEXT,
+where TEXT, a JSON string, must be refused by `PROGRAM WORD` for the cause of this number at this place. COMMAND, which is
+./muoswyld, must write the line, and below it the sentence where standard error is a terminal, else how to get it. It prints
+what fails, and how many passed.
 """
 
+import json
 import os
 import pathlib
 import pty
@@ -62,6 +65,14 @@ def faults(program, script, sentences):
         yield f"'{said}' and not '{sentences.get(script.stem)}'"
 
 
+def faults_of_row(program, row):
+    """What is wrong with the answer to a row of rows.txt."""
+    word, number, place, text = row.split(" ", 3)
+    ran = subprocess.run([program, word], input=json.loads(text).encode(), capture_output=True)
+    if (ran.returncode, ran.stdout, ran.stderr) != (2, b"", f"bad script {number} at {place}\n".encode()):
+        yield f"status {ran.returncode}, {ran.stderr!r} and not {number} at {place}"
+
+
 def at_a_terminal(command, script):
     """What a command writes on standard error where that is a terminal, and its status."""
     ours, theirs = pty.openpty()
@@ -104,6 +115,11 @@ def main():
             print(f"{script}: {line}")
         cause = int(script.with_suffix(".cause").read_text().split()[2])
         seen |= {cause, covered(cause, sentences.get(script.stem, ""))}
+    for row in (folder / "rows.txt").read_text().splitlines():
+        wrong = list(faults_of_row(program, row))
+        passed, failed = passed + (not wrong), failed + len(wrong)
+        for line in wrong:
+            print(f"{row}: {line}")
     for absent in sorted(map(str, (set(wanted()) | set(range(1, 6))) - seen)):
         print(f"there is no script for {absent}")
         failed += 1

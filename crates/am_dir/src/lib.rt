@@ -13,5 +13,3 @@ pub mod setting;
 mod snapshots;
 mod spelling;
 pub mod step;
-#[cfg(test)]
-mod tests;

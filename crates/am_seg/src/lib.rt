@@ -6,5 +6,3 @@ pub mod fed;
 pub mod laws;
 pub mod parts;
 mod room;
-#[cfg(test)]
-mod tests;

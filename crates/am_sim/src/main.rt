@@ -68,8 +68,3 @@ fn main(rt: HostRuntime) -> ExitCode {
     let _ = tell(&rt, status);
     ExitCode::from(status.number())
 }
-
-#[cfg(test)]
-mod race_tests;
-#[cfg(test)]
-mod script_tests;

@@ -3,37 +3,39 @@
 #![tactic(auto)]
 
 #[cfg(test)]
-mod audits;
+mod ballots;
 #[cfg(test)]
 mod calls;
 #[cfg(test)]
 mod choosers;
 #[cfg(test)]
-mod echoes;
+mod directories;
 #[cfg(test)]
-mod forms;
+mod echoes;
 #[cfg(test)]
 mod groups;
 #[cfg(test)]
+mod histories;
+#[cfg(test)]
 mod letters;
+#[cfg(test)]
+mod messages;
 #[cfg(test)]
 mod packets;
 #[cfg(test)]
-mod plays;
+mod pools;
 #[cfg(test)]
 mod pumps;
 #[cfg(test)]
-mod races;
-#[cfg(test)]
 mod schedules;
+#[cfg(test)]
+mod senders;
 #[cfg(test)]
 mod settlings;
 #[cfg(test)]
-mod texts;
+mod tables;
 #[cfg(test)]
 mod watchers;
-#[cfg(test)]
-mod wires;
 #[cfg(test)]
 mod worlds;
 #[cfg(test)]

@@ -1,8 +1,8 @@
-use crate::applied::Applied;
-use crate::command::Command;
-use crate::directory::Directory;
-use crate::replica::Replica;
-use crate::step::Step;
+use am_dir::applied::Applied;
+use am_dir::command::Command;
+use am_dir::directory::Directory;
+use am_dir::replica::Replica;
+use am_dir::step::Step;
 use am_base::body::Body;
 use am_base::entry::Entry;
 use am_base::name::Name;
