@@ -1,3 +1,4 @@
 pub mod Places
 pub mod Search
 pub mod Fronts
+pub mod Seen

@@ -1,5 +1,5 @@
 -- For whom a letter is.
-use Rattle.std.specs.Prelude.{ℕ, ◌+◌, List, [], ◌∷◌, drop, Option, Some, None, Bool, nat_lt, if◌then◌else◌, slice_index}
+use Rattle.std.specs.Prelude.{◌≡◌, ℕ, ◌+◌, ◌≤◌, List, [], ◌∷◌, length, take, drop, Option, Some, None, Bool, nat_lt, if◌then◌else◌, slice_index}
 use Rattle.am_base.specs.Names.{place_of, has}
 use Rattle.am_packet.specs.Boxes.{Letter}
 
@@ -15,3 +15,9 @@ first_for (letter ∷ letters) number name = if is_for letter name then Some num
 -- the least number above another whose letter is for a name
 unfoldable pub next_for : List Letter → ℕ → ℕ → Option ℕ
 next_for letters name after = first_for (drop after letters) (after + 1) name
+
+-- the letters up to a number were looked through: none of them above another number is for the name
+pub record IsSeen (letters : List Letter) (name after seen : ℕ) : Type 0 where
+  pub low : after ≤ seen
+  pub high : seen ≤ length letters
+  pub none : next_for (take seen letters) name after ≡ None

@@ -1,70 +1,8 @@
 -- Letters that were looked through needn't be looked through again.
-use Rattle.am_pump.proofs.Words.{split, ◌≡◌, ◌≢◌, ℕ, zero, suc, ◌+◌, ◌<◌, ◌≤◌, ◌==◌, List, [], ◌∷◌, ◌++◌, length, take, drop, Option, Some, None, nat_lt}
-use Rattle.am_pump.proofs.Words.{slice_index, slice_index_or, slice_set, refl, sym, ap, ◌∙◌, add-zero, arith, length-drop, take-append-le, drop-append-le}
-use Rattle.am_pump.proofs.Words.{length-take-le, take-append-drop, take_all, drop_all, length-append, length-set, get_or-set_same, get_or-set_other}
-use Rattle.am_pump.proofs.Words.{nat_tests, Letter, is_for, first_for, next_for, Luck, choice_of, again, progress_after, draw, Choice, Progress, no_progress}
-use Rattle.am_pump.proofs.Words.{IsSeen, AreSeen, seen_after}
-
--- none of the first letters is for the name
-behind : (xs ys : List Letter) (number name : ℕ) → first_for xs number name ≡ None → first_for (xs ++ ys) number name ≡ first_for ys (number + length xs) name
-behind [] ys number name none = ap (λ k. first_for ys k name) (sym (add-zero number))
-behind (x ∷ xs) ys number name none =
-    split (is_for x name)
-    (λ t. absurd (let n = rw t at none in cc))
-    (λ f. let at : number + 1 + length xs ≡ number + suc (length xs) = omega arith in
-    rw f (behind xs ys (number + 1) name (rw f at none) ∙ ap (λ k. first_for ys k name) at))
-
--- the letter that is found is one of them
-within : (xs : List Letter) (number name found : ℕ) → first_for xs number name ≡ Some found → found < number + length xs
-within [] number name found is = absurd (cc)
-within (x ∷ xs) number name found is =
-    split (is_for x name)
-    (λ t. let e : number ≡ found = (let s = rw t at is in cc) in omega arith)
-    (λ f. let less = within xs (number + 1) name found (rw f at is) in omega arith)
-
-pub seen_next : (letters : List Letter) (place cursor seen : ℕ) → IsSeen letters place cursor seen
-    → next_for letters place cursor ≡ next_for letters place seen
-unfolding next_for
-seen_next letters place cursor seen is =
-    let low = is.low in
-    let long = length-take-le seen letters is.high in
-    let parts : drop cursor letters ≡ drop cursor (take seen letters) ++ drop seen letters
-    = ap (drop cursor) (sym (take-append-drop seen letters)) ∙ drop-append-le cursor (take seen letters) (drop seen letters) (omega arith) in
-    let less = length-drop cursor (take seen letters) in
-    let at : cursor + 1 + length (drop cursor (take seen letters)) ≡ seen + 1 = omega arith in
-    ap (λ xs. first_for xs (cursor + 1) place) parts ∙ behind (drop cursor (take seen letters)) (drop seen letters) (cursor + 1) place is.none
-    ∙ ap (λ k. first_for (drop seen letters) k place) at
-
-pub seen_more : (letters more : List Letter) (place cursor seen : ℕ) → IsSeen letters place cursor seen → IsSeen (letters ++ more) place cursor seen
-seen_more letters more place cursor seen is = record {
-  low = is.low;
-  high = let high = is.high in let long = length-append letters more in omega arith;
-  none = ap (λ xs. next_for xs place cursor) (take-append-le seen letters more is.high) ∙ is.none;
-}
-
--- nothing stands above a letter up to it
-pub seen_to : (letters : List Letter) (place number : ℕ) → number ≤ length letters → IsSeen letters place number number
-unfolding next_for
-seen_to letters place number h = record {
-  low = omega arith;
-  high = h;
-  none = let long = length-take-le number letters h in ap (λ xs. first_for xs (number + 1) place) (drop_all number (take number letters) (omega arith));
-}
-
-seen_all : (letters : List Letter) (place cursor : ℕ) → cursor ≤ length letters → next_for letters place cursor ≡ None
-    → IsSeen letters place cursor (length letters)
-seen_all letters place cursor h none = record {
-  low = h;
-  high = omega arith;
-  none = ap (λ xs. next_for xs place cursor) (take_all (length letters) letters (omega arith)) ∙ none;
-}
-
-few : (letters : List Letter) (place cursor number : ℕ) → cursor ≤ length letters → next_for letters place cursor ≡ Some number → number ≤ length letters
-unfolding next_for
-few letters place cursor number h is =
-    let less = within (drop cursor letters) (cursor + 1) place number is in
-    let long = length-drop cursor letters in
-    omega arith
+use Rattle.am_pump.proofs.Words.{split, ◌≡◌, ◌≢◌, ℕ, zero, suc, ◌+◌, ◌<◌, ◌≤◌, ◌==◌, List, [], ◌∷◌, ◌++◌, length, Option, Some, None, nat_lt}
+use Rattle.am_pump.proofs.Words.{slice_index, slice_index_or, slice_set, refl, sym, ap, ◌∙◌, arith, length-set, get_or-set_same, get_or-set_other}
+use Rattle.am_pump.proofs.Words.{nat_tests, Letter, next_for, Luck, choice_of, again, progress_after, draw, Choice, Progress, no_progress}
+use Rattle.am_pump.proofs.Words.{IsSeen, AreSeen, seen_after, seen_more, seen_to, seen_all, few}
 
 abbrev Sees : List Letter → ℕ → Progress → ℕ → Choice → Type 0
 Sees letters place p seen c = IsSeen letters place (progress_after p c).cursor (seen_after c seen (length letters))

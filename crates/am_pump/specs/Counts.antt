@@ -1,9 +1,9 @@
 -- What a generator counts.
-use Rattle.std.specs.Prelude.{◌≡◌, ℕ, ◌-◌, ◌<◌, ◌≤◌, List, length, take, Option, Some, None, Bool, false, slice_get, slice_index, slice_index_or}
+use Rattle.std.specs.Prelude.{◌≡◌, ℕ, ◌-◌, ◌<◌, ◌≤◌, List, length, Option, Some, None, Bool, false, slice_get, slice_index, slice_index_or}
 use Rattle.am_base.specs.Outcomes.{is_sent}
 use Rattle.am_packet.specs.Boxes.{Letter}
 use Rattle.am_group.specs.declared.event.Record.{Record}
-use Rattle.am_group.specs.Addressed.{next_for}
+use Rattle.am_group.specs.Addressed.{IsSeen}
 use Rattle.am_group.specs.Journals.{letters_of}
 use Rattle.am_play.specs.World.{World}
 use Rattle.am_chooser.specs.declared.chooser.Choice.{Choice}
@@ -23,12 +23,6 @@ is_sent_in (Some r) = is_sent r.outcome
 
 abbrev pub ends_sent : List Record → Bool
 ends_sent records = is_sent_in (slice_get records (length records - 1))
-
--- the letters up to a number were looked through: none of them above the cursor is for the place
-pub record IsSeen (letters : List Letter) (place cursor seen : ℕ) : Type 0 where
-  pub low : cursor ≤ seen
-  pub high : seen ≤ length letters
-  pub none : next_for (take seen letters) place cursor ≡ None
 
 -- up to which number each place has looked through the letters
 pub record AreSeen (seen : List ℕ) (progress : List Progress) (letters : List Letter) : Type 0 where

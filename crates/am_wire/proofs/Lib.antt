@@ -1,3 +1,4 @@
+pub mod Looks
 pub mod Views
 pub mod Dealt
 pub mod Keeps

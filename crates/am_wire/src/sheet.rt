@@ -14,22 +14,35 @@ use am_letter::letter::LetterCopy;
 use std::alloc::Global;
 use std::marker::Model;
 
-/// What lies in the slot: the journal, and who has stopped in it. Contracts see it as a founding and records.
+/// How far the letters above a number were looked through for a name: none of them up to there is for it.
+#[derive(Clone, Copy, Debug)]
+pub struct Look {
+    pub name: Name,
+    pub after: u32,
+    pub seen: u32,
+}
+
+/// What lies in the slot: the journal, who has stopped in it, and for each place the last look for letters that found none.
+/// Contracts see it as a founding and records.
 #[derive(Drop)]
 pub struct Sheet {
     journal: Journal,
     stopped: Names,
+    looks: [Look; 16],
 }
 
 impl Model for Sheet {
     ghost use Rattle.std.specs.Prelude.{◌≡◌};
+    ghost use Rattle.am_group.specs.Journals.{letters_of};
+    ghost use Rattle.am_wire.specs.Looks.{AreLooks};
     ghost use Rattle.am_wire.specs.Stops.{Page, stopped_names};
 
     ghost Value = { Page };
 
     ghost view = { λ s. record { founding = s.journal.founding; records = s.journal.records } };
 
-    ghost invariant = { λ s. s.stopped ≡ stopped_names s.journal.records };
+    ghost invariant = { λ s. (s.stopped ≡ stopped_names s.journal.records)
+        × AreLooks (letters_of s.journal.records) s.looks };
 }
 
 /// Whether an act is a stop.
@@ -57,9 +70,15 @@ impl Sheet {
     pub fn new(alloc: Global, founding: &Founding) -> Sheet
         ensures { result ≡ record { founding = founding.now; records = [] } }
     {
+        let look = Look {
+            name: Name::of_byte(0),
+            after: 0,
+            seen: 0,
+        };
         Sheet {
             journal: Journal::new(alloc, founding),
             stopped: Names::empty(),
+            looks: [look; 16],
         }
     }
 
@@ -72,6 +91,7 @@ impl Sheet {
     }
 
     /// Adds a record, or leaves all as it was where there is no memory.
+    #[tactic(auto, using(crate::proofs::Looks::looks_more))]
     pub fn add(&mut self, item: Record) -> Result<(), NoMemory>
         requires few { length self.old.records < most_events }
         requires letters { length item.packets ≤ 24 }
@@ -95,11 +115,35 @@ impl Sheet {
         }
     }
 
-    /// The least number above another of a letter that is for this name.
-    pub fn next_for(&self, node: Name, after: u32) -> Option<u32>
-        ensures { result ≡ next_for (letters_of self.now.records) node after }
+    /// From where on the letters above a number are to be looked through for a name.
+    #[tactic(auto, using(crate::proofs::Looks::looked_from))]
+    fn from(&self, node: Name, after: u32) -> u32
+        ensures { next_for (letters_of self.now.records) node result
+            ≡ next_for (letters_of self.now.records) node after }
     {
-        self.journal.next_for(node, after)
+        let look = self.looks[usize::from(node.place())];
+        if look.name == node && look.after == after {
+            look.seen
+        } else {
+            after
+        }
+    }
+
+    /// The least number above another of a letter that is for this name. What was looked through in vain isn't looked through
+    /// again.
+    #[tactic(auto, using(crate::proofs::Looks::looks_set))]
+    pub fn next_for(&mut self, node: Name, after: u32) -> Option<u32>
+        ensures value { result ≡ next_for (letters_of self.old.records) node after }
+        ensures same { self.new ≡ self.old }
+    {
+        let from = self.from(node, after);
+        let found = self.journal.next_for(node, from);
+        let seen = self.journal.packets();
+        if found.is_none() && after <= seen {
+            let name = node;
+            self.looks[usize::from(node.place())] = Look { name, after, seen };
+        }
+        found
     }
 
     /// Who has stopped.

@@ -1,5 +1,5 @@
 use Rattle.am_pump.proofs.Words.{◌≡◌, slice_index, slice_index_or, sym, ap, ◌∙◌, letters_of, next_for, replay, GeneratedRun, no_progress, progress_at}
-use Rattle.am_pump.proofs.Seen.{seen_next}
+use Rattle.am_group.proofs.Seen.{seen_next}
 use Rattle.am_pump.proofs.generator.Generator.ahead.Goals as goal
 
 pub returns : goal.returns

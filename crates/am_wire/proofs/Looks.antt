@@ -1,0 +1,48 @@
+-- What was looked through for a place needn't be looked through again.
+use Rattle.std.proofs.Common.{◌≡◌, ℕ, ◌<◌, ◌≤◌, List, [], ◌∷◌, ◌++◌, length, None, replicate, slice_index_or, slice_set, sym, ◌∙◌, subst, arith}
+use Rattle.std.specs.List.{All}
+use Rattle.std.proofs.lemmas.List.{length-set, length-replicate}
+use Rattle.std.proofs.lemmas.List.Elements.{All-set, All-weaker, All-replicate}
+use Rattle.am_packet.specs.Boxes.{Letter}
+use Rattle.am_group.specs.declared.event.Record.{Record}
+use Rattle.am_group.specs.Addressed.{next_for, IsSeen}
+use Rattle.am_group.specs.Journals.{letters_of}
+use Rattle.am_group.proofs.Places.{letters_more}
+use Rattle.am_group.proofs.Seen.{seen_next, seen_more, seen_to, seen_all}
+use Rattle.am_wire.specs.declared.sheet.Look.{Look}
+use Rattle.am_wire.specs.Looks.{IsLook, AreLooks}
+
+-- before the first letter
+pub first_looks : (letters : List Letter) (look : Look) → look.after ≡ 0 → look.seen ≡ 0 → AreLooks letters (replicate 16 look)
+first_looks letters look after seen = record {
+  count = length-replicate 16 look;
+  each = All-replicate (IsLook letters) 16 look (let from : IsSeen letters look.name 0 0 = seen_to letters look.name 0 (omega arith) in rw (after, seen) from);
+}
+
+-- where letters come
+pub looks_more : (before : List Record) (item : Record) (looks : List Look) → AreLooks (letters_of before) looks → AreLooks (letters_of (before ++ item ∷ [])) looks
+looks_more before item looks are = record {
+  count = are.count;
+  each = subst (λ letters. All (IsLook letters) looks) (sym (letters_more before item))
+      (All-weaker (IsLook (letters_of before)) (IsLook (letters_of before ++ item.packets))
+      (λ look is. seen_more (letters_of before) item.packets look.name look.after look.seen is) looks are.each);
+}
+
+-- a letter for a name is found behind what was looked through for it
+pub looked_from : (letters : List Letter) (looks : List Look) (place name after : ℕ) (d : Look) → AreLooks letters looks → place < 16
+    → (slice_index_or looks place d).name ≡ name → (slice_index_or looks place d).after ≡ after
+    → next_for letters name (slice_index_or looks place d).seen ≡ next_for letters name after
+looked_from letters looks place name after d are low same from =
+    let look = slice_index_or looks place d in
+    let count = are.count in
+    let is : IsSeen letters look.name look.after look.seen = are.each place d (omega arith) in
+    sym (rw (sym same, sym from) (seen_next letters look.name look.after look.seen is))
+
+-- a look that found none
+pub looks_set : (letters : List Letter) (looks : List Look) (place : ℕ) (look : Look) → AreLooks letters looks → look.seen ≡ length letters
+    → look.after ≤ look.seen → next_for letters look.name look.after ≡ None → AreLooks letters (slice_set looks place look)
+looks_set letters looks place look are all low none = record {
+  count = length-set looks place look ∙ are.count;
+  each = All-set (IsLook letters) looks place look
+      (subst (IsSeen letters look.name look.after) (sym all) (seen_all letters look.name look.after (omega arith) none)) are.each;
+}
