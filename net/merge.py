@@ -234,6 +234,9 @@ class Merged:
 def main() -> int:
     """Merges the journals that are named."""
     words = sys.argv[1:]
+    if words[:1] in (["-h"], ["--help"]):
+        print(__doc__.strip())
+        return 0
     if not [word for word in words if word != "--lines"]:
         print(__doc__, file=sys.stderr)
         return 2

@@ -307,10 +307,11 @@ class Member:
 
 
 def options() -> argparse.Namespace:
-    """The words of the command."""
-    parser = argparse.ArgumentParser(description="One member of a group, over UDP (docs/NETWORK.md)")
+    """The words of the command, whose page is that of the application that is run."""
+    page = sys.modules["__main__"].__doc__
+    parser = argparse.ArgumentParser(description=page, formatter_class=argparse.RawDescriptionHelpFormatter)
     parser.add_argument("--name", required=True, help="PLACE, or PLACE/LIFE for a place that comes back")
-    parser.add_argument("--founders", required=True, help="places, as 0,1,2")
+    parser.add_argument("--founders", required=True, help="places in ascending order, as 0,1,2")
     parser.add_argument("--peers", required=True, help="a file with a line PLACE HOST:PORT for each place")
     parser.add_argument("--resilience", default="0")
     parser.add_argument("--window", default="64")

@@ -1,9 +1,10 @@
-"""Audits a printed text: whose logs agree with each other, with the group list, and with the events. docs/AUDIT.md says what each verdict is.
+"""Audits a printed text: whose logs agree with each other, with the group list, and with the events. docs/AUDIT.md says what each
+verdict is.
 
     python3 tools/audit.py < TEXT
 
-It is written from that page alone, and does what `./muoswyld audit` does. It writes the verdict, and ends with 0 where it is `agrees` or `lists-agree`, else with 9; with 8 where
-the input is no text, with 3 where it is too long; then the cause stands on standard error.
+It is written from that page alone, and does what `./muoswyld audit` does. It writes the verdict, and ends with 0 where it is `agrees` or
+`lists-agree`, else with 9; with 8 where the input is no text, with 3 where it is too long; then the cause stands on standard error.
 """
 
 import re
@@ -11,6 +12,8 @@ import sys
 from collections.abc import Iterator
 from dataclasses import dataclass, field
 from itertools import islice
+
+from words import words
 
 MOST_BYTES = 16_777_216
 MOST_NUMBER = 2_000_000_000
@@ -423,6 +426,7 @@ def audit(data: bytes) -> tuple[str, int]:
 
 
 def main() -> int:
+    words(__doc__, most=0)
     data = sys.stdin.buffer.read(MOST_BYTES + 1)
     if len(data) > MOST_BYTES:
         print("too long", file=sys.stderr)

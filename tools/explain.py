@@ -4,9 +4,10 @@
     python3 tools/explain.py [PROGRAM [WORD]] < SCRIPT
 
 PROGRAM is crates/am_sim/out/am_sim where none is named, and WORD `play`, `race` or `audit`: where none is said, what the script's own key
-is, else `play`. Of a text, for `audit`, it shows the bad line, and says what may stand there. Whether a script is refused, with which cause and at which place, the program alone says. Of the keys that stand
-there it says which one it is, too: it is asked again about small scripts that have the event's keys up to one of them, in the order
-in which they are read, and lawful values behind it. The first that it refuses names the key.
+is, else `play`. Of a text, for `audit`, it shows the bad line, and says what may stand there. Whether a script is refused, with which
+cause and at which place, the program alone says. Of the keys that stand there it says which one it is, too: it is asked again about
+small scripts that have the event's keys up to one of them, in the order in which they are read, and lawful values behind it. The first
+that it refuses names the key.
 """
 
 import json

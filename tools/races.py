@@ -70,11 +70,11 @@ def told(text):
 
 
 def main():
-    words = argparse.ArgumentParser(description="Tries random races.")
-    words.add_argument("program")
-    words.add_argument("--other")
-    words.add_argument("--seed", type=int, default=1)
-    words.add_argument("--races", type=int, default=100)
+    words = argparse.ArgumentParser(description=__doc__, formatter_class=argparse.RawDescriptionHelpFormatter)
+    words.add_argument("program", help="the command whose words race and play are run")
+    words.add_argument("--other", help="a further command whose word play is run")
+    words.add_argument("--seed", type=int, default=1, help="of the races")
+    words.add_argument("--races", type=int, default=100, help="how many")
     asked = words.parse_args()
     drawn, outcomes, failed = random.Random(asked.seed), collections.Counter(), 0
     players = [asked.program, *([asked.other] if asked.other else [])]

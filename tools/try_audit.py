@@ -3,8 +3,9 @@
     python3 tools/try_audit.py [--program PROGRAM] [--count COUNT] [--seed SEED] FOLDER...
 
 Each FOLDER has texts NAME.txt. One with a NAME.line beside it must be told that line by tools/audit.py; any other must agree, or end
-in ` void from K`, but for those that are no play's; where there is a NAME.said, tools/explain.py must say that of its bad line. COUNT texts are made by changing one of these at one to three places. With a
-PROGRAM its word `audit` must tell the same of each text, changed or not. It prints what fails, and how many texts passed.
+in ` void from K`, but for those that are no play's; where there is a NAME.said, tools/explain.py must say that of its bad line. COUNT
+texts are made by changing one of these at one to three places. With a PROGRAM its word `audit` must tell the same of each text, changed
+or not. It prints what fails, and how many texts passed.
 """
 
 import argparse
@@ -104,10 +105,10 @@ def is_right(path: pathlib.Path, data: bytes) -> bool:
 
 
 def main() -> int:
-    words = argparse.ArgumentParser()
-    words.add_argument("--program")
-    words.add_argument("--count", type=int, default=0)
-    words.add_argument("--seed", type=int, default=1)
+    words = argparse.ArgumentParser(description=__doc__, formatter_class=argparse.RawDescriptionHelpFormatter)
+    words.add_argument("--program", help="the command whose word audit must tell the same")
+    words.add_argument("--count", type=int, default=0, help="how many changed texts")
+    words.add_argument("--seed", type=int, default=1, help="of the changes")
     words.add_argument("folders", nargs="+", type=pathlib.Path)
     given = words.parse_args()
     passed = failed = 0

@@ -3,11 +3,11 @@
     python3 tools/try_explain.py PROGRAM FOLDER COMMAND
 
 FOLDER has scripts NAME.json, and beside each NAME.cause, the line that `PROGRAM WORD < NAME.json` must write on standard error,
-with status 2 and nothing on standard output, where WORD is `race` for names that begin with race_, else `play`; and sentences.txt, a line `NAME: SENTENCE` with what tools/explain.py must say of
-each. Each cause must be there, and of each key every cause that it can have. FOLDER/rows.txt has more, a line each: WORD NUMBER PLACE TEXT,
-where TEXT, a JSON string, must be refused by `PROGRAM WORD` for the cause of this number at this place. COMMAND, which is
-./muoswyld, must write the line, and below it the sentence where standard error is a terminal, else how to get it. It prints
-what fails, and how many passed.
+with status 2 and nothing on standard output, where WORD is `race` for names that begin with race_, else `play`; and sentences.txt, a
+line `NAME: SENTENCE` with what tools/explain.py must say of each. Each cause must be there, and of each key every cause that it can
+have. FOLDER/rows.txt has more, a line each: WORD NUMBER PLACE TEXT, where TEXT, a JSON string, must be refused by `PROGRAM WORD` for
+the cause of this number at this place. COMMAND, which is ./muoswyld, must write the line, and below it the sentence where standard
+error is a terminal, else how to get it. It prints what fails, and how many passed.
 """
 
 import json

@@ -2,10 +2,10 @@
 
     python3 tools/try_picture.py FOLDER...
 
-Each FOLDER has scripts NAME.json with their texts NAME.txt; scripts without a text are left out. Each picture must be XML,
-have a mark for each event that it draws with the event's line in it, and an arrow for each letter
-that was heard; a page to step through it has the picture and each event; and each View that an application was given must be the one that the picture has at this number. It prints
-what fails, and how many texts passed.
+Each FOLDER has scripts NAME.json with their texts NAME.txt; scripts without a text are left out. Each picture must be XML, have a mark
+for each event that it draws with the event's line in it, and an arrow for each letter that was heard; a page to step through it has the
+picture and each event; and each View that an application was given must be the one that the picture has at this number. It prints what
+fails, and how many texts passed.
 """
 
 import pathlib
