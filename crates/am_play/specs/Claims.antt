@@ -17,9 +17,8 @@ use Rattle.am_group.specs.declared.event.Act.{Act}
 use Rattle.am_group.specs.declared.event.Act.TheVariants as act
 use Rattle.am_group.specs.declared.event.Event.{Event}
 use Rattle.am_group.specs.declared.event.Record.{Record}
-use Rattle.am_model.specs.Node.{Node, top, view, members, acts, is_sequencer, has_departed}
-use Rattle.am_play.specs.Settle.{settle_events}
-use Rattle.am_play.specs.World.{Decided, World, current, is_stopped, happens, happen, run}
+use Rattle.am_model.specs.Node.{Node, top, view}
+use Rattle.am_play.specs.World.{Decided, World, happens, run}
 use Rattle.am_group.specs.Journals.{letter_at, item_at}
 use Rattle.am_group.specs.Deliveries.{name_of, deliveries}
 use Rattle.am_play.specs.Group.{Accepted, accepted_sends}
@@ -181,24 +180,3 @@ pub record FitsView (rules : Rules) (m : Node) : Type 0 where
 
 abbrev pub ViewsFit : Type 0
 ViewsFit = (rules : Rules) (events : List Event) (name : ℕ) → MayFound rules → FitsView rules ((run rules (lawful_front rules events)).nodes name)
-
--- ---- what a lossless schedule repairs
-
--- a sequencer whose members all act in its view, while nobody is leaving and whoever stopped had departed
-pub record MayRepair (w : World) (place : ℕ) : Type 0 where
-  pub leads : is_sequencer (w.nodes (current w place)) ≡ true
-  pub nobody_stopped : (name : ℕ) → is_stopped w name ≡ true → has_departed (w.nodes name).status ≡ true
-  pub nobody_leaves : (name : ℕ) → (w.nodes name).leaving ≡ true → has_departed (w.nodes name).status ≡ true
-  pub all_act : (name : ℕ) → has (members (w.nodes (current w place))) name ≡ true → (acts (w.nodes name) ≡ true)
-      × (view (w.nodes name) ≡ view (w.nodes (current w place)))
-
--- a member has stored and accepted all up to a number
-pub record HasCaughtUp (m : Node) (number : ℕ) : Type 0 where
-  pub stored : number ≤ top m
-  pub accepted : number ≤ m.core.acc
-
-abbrev pub Repairs : Type 0
-Repairs = (rules : Rules) (events : List Event) (place : ℕ) → MayFound rules → place < 16 → MayRepair (run rules events) place
-    → (name : ℕ) → has (members ((run rules events).nodes (current (run rules events) place))) name ≡ true
-    → HasCaughtUp ((happen (run rules events) (settle_events rules (run rules events))).nodes name)
-    (top ((run rules events).nodes (current (run rules events) place)))
