@@ -2,10 +2,11 @@ use am_base::name::Name;
 use am_group::event::By;
 use std::sync::atomic::{AtomicBool, Ordering};
 
-/// What is done under a node's lock, between a look and the act that it finds. A test waits there until another thread is
-/// there too. No clause says when it is done, and a test counts that it is done once for each record.
+/// What is done under a node's lock, between a look and the act that it finds, with the node that acts and whose act it is. A
+/// test waits there until another thread is there too. No clause says when it is done or with what: a test counts that it is
+/// done once for each record, with that record's node and caller.
 pub trait Gate {
-    /// Is given the node that acts, and whose act it is.
+    /// Does what it will: no clause says what, or what it is given.
     fn between(&self, node: Name, by: &By);
 }
 
@@ -28,7 +29,7 @@ pub struct Meeting {
 }
 
 impl Meeting {
-    /// A meeting, to which nobody has come.
+    /// A new meeting. That nobody has come to it, no clause says.
     pub fn new() -> Meeting {
         Meeting {
             here: [AtomicBool::new(false), AtomicBool::new(false)],
@@ -36,7 +37,7 @@ impl Meeting {
         }
     }
 
-    /// Whether each of the two has noted that the other was there.
+    /// What the two have noted: that each saw the other, or not. No clause ties it to what they did.
     pub fn has_met(&self) -> bool {
         self.met[0].load(Ordering::SeqCst) && self.met[1].load(Ordering::SeqCst)
     }

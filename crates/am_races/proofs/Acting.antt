@@ -44,7 +44,7 @@ use Rattle.am_races.proofs.Knows.{knows, name_now, each_keeps, told_more}
 
 -- ---- the run
 
-pub events_of : List Record → List Event
+unfoldable pub events_of : List Record → List Event
 events_of records = map (λ r. r.event) records
 
 IsTheRun : Rules → List Record → Type 0

@@ -262,6 +262,7 @@ lands plan name seen before m n a by l what outcome letters low beyond_ follows 
     let apart : All (IsApart (place_of name) by.caller) more = subst (λ (p : ℕ). All (IsApart p by.caller) more) (sym (low_place name low)) beyond_.apart in
     record {
       lawful = record {
+        node = low;
         life = refl;
         act_ = may.race;
         next = c.0.next;

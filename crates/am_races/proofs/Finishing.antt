@@ -81,6 +81,7 @@ legal_with_tags plan calls journal follows all each = record {
   turns = λ before rest r e is. (follows before rest r e).turn is;
   ends = λ before rest r e is. (follows before rest r e).end_ is;
   stops = λ before rest r e. (follows before rest r e).stop;
+  each = λ before rest r e. let l = follows before rest r e in record { node = l.node; life = l.life; act_ = l.act_; hears = l.hears };
 }
   where
     beyond : (caller : ℕ) → length plan.threads ≤ caller → is_callers plan.turns (calls caller) (of_caller caller journal) ≡ true

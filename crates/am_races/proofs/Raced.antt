@@ -207,6 +207,7 @@ legal_more plan few all journal begins legal = record {
   turns = legal.turns;
   ends = legal.ends;
   stops = legal.stops;
+  each = legal.each;
 }
 
 pub legal_as_planned : (plan : RacePlan) (callers : List Calling) (journal : List Record) → numbers_of callers ≡ range_with_len 0 (length plan.threads)

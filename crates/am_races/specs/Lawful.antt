@@ -1,5 +1,5 @@
 -- Which record may come next in the journal of a race.
-use Rattle.std.specs.Prelude.{◌≡◌, ℕ, List, [], length, Some, Bool, true, false}
+use Rattle.std.specs.Prelude.{◌≡◌, ℕ, ◌<◌, List, [], length, Some, Bool, true, false}
 use Rattle.am_packet.specs.Boxes.{Letter}
 use Rattle.am_group.specs.Addressed.{is_for}
 use Rattle.am_group.specs.Journals.{letters_of, letter_at}
@@ -35,9 +35,10 @@ pub record IsSent (before : List Record) (name number : ℕ) : Type 0 where
   pub there : letter_at (letters_of before) number ≡ Some letter
   pub its : is_for letter name ≡ true
 
--- a record of its place's first life, which is what its event gives; it hears what was sent to it, is a turn of its
--- call where it is one, may be the end of its call where it is that, and isn't of a name that has stopped
+-- a record of its place's first life, which its event names, and which is what its event gives; it hears what was sent to it,
+-- is a turn of its call where it is one, may be the end of its call where it is that, and isn't of a name that has stopped
 pub record IsLawful (terms : Terms) (before : List Record) (r : Record) : Type 0 where
+  pub node : r.event.node < 16
   pub life : r.life ≡ 1
   pub act_ : is_of_race r.event.act ≡ true
   pub next : IsNext terms.founding before r

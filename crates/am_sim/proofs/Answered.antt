@@ -37,7 +37,7 @@ use Rattle.am_audit.proofs.Wrongs.{agrees_means, lists_agree_means}
 use Rattle.am_sim.specs.Playing.{done_of, shown_text, IsRunText}
 use Rattle.am_sim.specs.Racing.{events_of, IsRaceText}
 use Rattle.am_sim.specs.Simulation.{Keeps, Repaired, Played, Generated, GeneratedScript, Raced, Audited, IsText, run_watch}
-use Rattle.am_sim.proofs.Reread.{play_reads, play_agrees, race_reads, race_agrees}
+use Rattle.am_sim.proofs.Reread.{play_reads, play_agrees, race_again, race_reads, race_agrees}
 
 -- ---- a run that is settled behind its own events
 
@@ -143,12 +143,13 @@ gave_none limit (Some left) = ([], refl, omega arith)
 gave_none limit None = ([], tt, omega arith)
 
 pub raced_by : (bytes text : List ℕ) (plan : RacePlan) → reading key.Race bytes ≡ Ok (Race plan) → RaceWithin plan → IsRaceText plan text → Raced bytes text
-raced_by bytes text plan is within (journal, raced, same) = record {
+raced_by bytes text plan is within (journal, raced, same, again) = record {
   plan = plan;
   script = is;
   journal = journal;
   raced = raced;
   written = same;
+  again = race_again bytes plan journal is within raced again;
   keeps = keeps_all plan.founding (events_of journal) within.may_found;
   reads = λ none. rw same (race_reads bytes plan journal is within raced none);
   agrees = λ one. rw same (race_agrees bytes plan journal is within raced one);

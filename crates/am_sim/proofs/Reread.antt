@@ -18,7 +18,7 @@ use Rattle.am_play.specs.World.{World, current, run}
 use Rattle.am_play.specs.Settle.{Settling, and_then, event_at, running, ticks, hearings_of, hearings_from, hearings, waves, round, rounds, round_count, settle_events}
 use Rattle.am_play.specs.Play.{text_of}
 use Rattle.am_laws.specs.Bytes.{BodyWithin, IsShort}
-use Rattle.am_report.specs.Schedules.{IsOfBytes, AreOfBytes}
+use Rattle.am_report.specs.Schedules.{script_text, IsOfBytes, AreOfBytes}
 use Rattle.am_script.specs.declared.key.Key.TheVariants as key
 use Rattle.am_script.specs.declared.script.Script.TheVariants.{Play, Race}
 use Rattle.am_script.specs.Scripts.{reading}
@@ -27,11 +27,12 @@ use Rattle.am_scripted.specs.Bodies.{ThreadOfBytes}
 use Rattle.am_scripted.proofs.Bodies.{plays_are_of_bytes, races_are_of_bytes}
 use Rattle.am_raced.specs.Bodies.{HasBody, ThreadHasBodies}
 use Rattle.am_raced.proofs.Bodies.{races_have_planned_bodies}
+use Rattle.am_raced.proofs.Scripts.{races_have_scripts}
 use Rattle.am_audited.specs.Claims.{ReadsAs, AgreesAs, IsOfOneList}
 use Rattle.am_audited.proofs.Agree.{runs_have_their_texts, lawful_texts_agree}
 use Rattle.am_audited.proofs.Scripts.{scripts_are_passed_over}
 use Rattle.am_sim.specs.Playing.{done_of}
-use Rattle.am_sim.specs.Racing.{events_of, race_text, IsRaced}
+use Rattle.am_sim.specs.Racing.{events_of, race_text, IsRaced, IsReadAgain}
 
 -- ---- bodies
 
@@ -137,11 +138,21 @@ threads_have (t ∷ threads) within bytes = All-cons ThreadHasBodies t threads
     (calls_have t.calls (All-head ThreadWithin t threads within).calls (All-head ThreadOfBytes t threads bytes))
     (threads_have threads (All-tail ThreadWithin t threads within) (All-tail ThreadOfBytes t threads bytes))
 
+race_threads : (bytes : List ℕ) (plan : RacePlan) → reading key.Race bytes ≡ Ok (Race plan) → RaceWithin plan → All ThreadHasBodies plan.threads
+race_threads bytes plan is within = threads_have plan.threads within.each (races_are_of_bytes bytes plan is)
+
 race_has : (bytes : List ℕ) (plan : RacePlan) (journal : List Record) → reading key.Race bytes ≡ Ok (Race plan) → RaceWithin plan → IsRaced plan journal
     → All Has (events_of journal)
 race_has bytes plan journal is within raced =
-    All-map Has (λ (r : Record). r.event) journal
-    (races_have_planned_bodies plan journal (threads_have plan.threads within.each (races_are_of_bytes bytes plan is)) raced.legal)
+    All-map Has (λ (r : Record). r.event) journal (races_have_planned_bodies plan journal (race_threads bytes plan is within) raced.legal)
+
+-- what was done is read as a script
+pub race_again : (bytes : List ℕ) (plan : RacePlan) (journal : List Record) → reading key.Race bytes ≡ Ok (Race plan) → RaceWithin plan → IsRaced plan journal
+    → IsReadAgain plan.founding (events_of journal)
+    → reading key.Play (script_text plan.founding (events_of journal)) ≡ Ok (Play plan.founding (events_of journal) false)
+race_again bytes plan journal is within raced again =
+    again (races_have_scripts plan journal within (race_threads bytes plan is within) raced.few raced.legal)
+    (of_bytes (events_of journal) (race_has bytes plan journal is within raced))
 
 race_few : (plan : RacePlan) (journal : List Record) → IsRaced plan journal → length (events_of journal) ≤ most_events
 race_few plan journal raced = let few = raced.few in omega (arith, length-map journal (λ (r : Record). r.event), few)

@@ -1,5 +1,5 @@
 -- What a race writes.
-use Rattle.std.specs.Prelude.{◌≡◌, ℕ, ◌≤◌, List, ◌++◌, length, map}
+use Rattle.std.specs.Prelude.{◌≡◌, ℕ, ◌≤◌, List, ◌++◌, length, map, Ok, false}
 use Rattle.am_base.specs.Most.{most_events}
 use Rattle.am_base.specs.Founding.{Rules}
 use Rattle.am_group.specs.declared.event.Event.{Event}
@@ -7,7 +7,11 @@ use Rattle.am_group.specs.declared.event.Record.{Record}
 use Rattle.am_group.specs.declared.plan.RacePlan.{RacePlan}
 use Rattle.am_play.specs.Text.{newline}
 use Rattle.am_play.specs.Play.{text_of}
-use Rattle.am_report.specs.Schedules.{script_text}
+use Rattle.am_script.specs.declared.key.Key.TheVariants as key
+use Rattle.am_script.specs.declared.script.Script.TheVariants.{Play}
+use Rattle.am_script.specs.Limits.{IsWithin}
+use Rattle.am_script.specs.Scripts.{reading}
+use Rattle.am_report.specs.Schedules.{script_text, AreOfBytes}
 use Rattle.am_races.specs.Legal.{IsLegalWithTags}
 use Rattle.am_races.specs.Plans.{calls_of, ArePlayed}
 
@@ -25,6 +29,11 @@ pub record IsRaced (plan : RacePlan) (journal : List Record) : Type 0 where
   pub played : ArePlayed plan journal
   pub few : length journal ≤ most_events
 
--- a text is that of a journal of a race
+-- events within the limits of scripts are read again as their script
+abbrev pub IsReadAgain : Rules → List Event → Type 0
+IsReadAgain rules events = IsWithin rules events → AreOfBytes events → reading key.Play (script_text rules events) ≡ Ok (Play rules events false)
+
+-- a text is that of a journal of a race, whose script is read again
 abbrev pub IsRaceText : RacePlan → List ℕ → Type 0
 IsRaceText plan text = (journal : List Record) × IsRaced plan journal × (text ≡ race_text plan.founding (events_of journal))
+    × IsReadAgain plan.founding (events_of journal)

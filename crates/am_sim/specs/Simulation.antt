@@ -293,14 +293,15 @@ abbrev pub writes_after : Status → ℕ → ℕ
 writes_after WriteFault before = next before
 writes_after _ before = before
 
--- what was read is a race, what was written is what was done in it as a script, in one line, and the text of the run of that,
--- and that run keeps what is claimed; an audit tells of the whole text what it tells of a play's
+-- what was read is a race, what was written is what was done in it as a script, in one line, and the text of the run of that;
+-- that line is read as this script; and that run keeps what is claimed; an audit tells of the whole text what it tells of a play's
 pub record Raced (bytes text : List ℕ) : Type 0 where
   pub plan : RacePlan
   pub script : reading key.Race bytes ≡ Ok (Race plan)
   pub journal : List Record
   pub raced : IsRaced plan journal
   pub written : text ≡ race_text plan.founding (events_of journal)
+  pub again : reading key.Play (script_text plan.founding (events_of journal)) ≡ Ok (Play plan.founding (events_of journal) false)
   pub keeps : Keeps plan.founding (events_of journal)
   pub reads : plan.founding.resilience ≡ 0 → ReadsAs plan.founding (events_of journal) text
   pub agrees : IsOfOneList plan.founding (events_of journal) → AgreesAs plan.founding (events_of journal) text

@@ -1,10 +1,10 @@
-ghost use Rattle.std.specs.Prelude.{◌≡◌, ◌≤◌, ◌++◌, List, length, IfOk, string_bytes};
+ghost use Rattle.std.specs.Prelude.{◌≡◌, ◌≤◌, ◌++◌, List, length, IfOk, OnOk, string_bytes};
 ghost use Rattle.am_base.specs.Most.{most_events};
 ghost use Rattle.am_group.specs.declared.event.Record.{Record};
 ghost use Rattle.am_play.specs.Play.{text_of};
 ghost use Rattle.am_report.specs.Schedules.{script_text};
 ghost use Rattle.am_script.specs.Limits.{RaceWithin};
-ghost use Rattle.am_sim.specs.Racing.{events_of, race_text, IsRaced, IsRaceText};
+ghost use Rattle.am_sim.specs.Racing.{events_of, race_text, IsRaced, IsReadAgain, IsRaceText};
 
 use crate::playing::text_of_run;
 use am_base::NoMemory;
@@ -69,7 +69,8 @@ fn text_with_script(
     events: &[Event],
 ) -> Result<String, NoMemory>
     requires { length events.now ≤ most_events }
-    ensures { IfOk result (λ text. string_bytes text ≡ race_text founding.now events.now) }
+    ensures text { IfOk result (λ text. string_bytes text ≡ race_text founding.now events.now) }
+    ensures again { OnOk result (IsReadAgain founding.now events.now) }
 {
     let mut text = script_text(alloc, founding, events)?;
     text.push_str("\n")?;

@@ -99,30 +99,38 @@ fn both_receive_what_one_sends(rt: HostRuntime) -> Result<(), Fail> {
     Ok(())
 }
 
-/// Counts the acts that are done under a node's lock.
+/// Counts the acts that are done under two nodes' locks, and those of two callers.
 #[derive(Drop)]
 struct Counting {
-    acts: AtomicU64,
+    nodes: [AtomicU64; 2],
+    callers: [AtomicU64; 2],
 }
 
 impl Gate for Counting {
-    fn between(&self, _node: Name, _by: &By) {
-        self.acts.fetch_add(1, Ordering::SeqCst);
+    fn between(&self, node: Name, by: &By) {
+        self.nodes[usize::from(node.place() % 2)].fetch_add(1, Ordering::SeqCst);
+        self.callers[(by.caller % 2) as usize].fetch_add(1, Ordering::SeqCst);
     }
 }
 
-// A second receive of a member that has nothing more to take makes its three turns, and takes nothing.
+// A second receive of a member that has nothing more to take makes its three turns, and takes nothing: the second caller, at
+// the first node, has five records, and the first caller, at the second node, has one.
 #[test]
 fn each_act_passes_the_gate(rt: HostRuntime) -> Result<(), Fail> {
     let alloc = rt.alloc();
-    let takes = thread_of(0, vec![in alloc; Act::Take, Act::Take]?);
-    let plan = plan_of(1, vec![in alloc; takes]?, 3)?;
+    let one = thread_of(1, vec![in alloc; Act::Take]?);
+    let two = thread_of(0, vec![in alloc; Act::Take, Act::Take]?);
+    let plan = plan_of(3, vec![in alloc; one, two]?, 3)?;
     let gate = Counting {
-        acts: AtomicU64::new(0),
+        nodes: [AtomicU64::new(0), AtomicU64::new(0)],
+        callers: [AtomicU64::new(0), AtomicU64::new(0)],
     };
     let journal = race(&rt, alloc, &plan, &gate).ok().ok_or("a journal")?;
-    assert_eq!(rt; journal.records().len(), 5);
-    assert_eq!(rt; gate.acts.load(Ordering::SeqCst), 5);
+    assert_eq!(rt; journal.records().len(), 6);
+    assert_eq!(rt; gate.nodes[0].load(Ordering::SeqCst), 5);
+    assert_eq!(rt; gate.nodes[1].load(Ordering::SeqCst), 1);
+    assert_eq!(rt; gate.callers[0].load(Ordering::SeqCst), 1);
+    assert_eq!(rt; gate.callers[1].load(Ordering::SeqCst), 5);
     Ok(())
 }
 
