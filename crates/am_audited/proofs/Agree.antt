@@ -1,26 +1,20 @@
 -- The text of a run whose list fits agrees.
-use Rattle.std.proofs.Common.{◌≡◌, ◌≢◌, ℕ, zero, suc, ◌+◌, ◌≤◌, ◌==◌, true, false, if◌then◌else◌, List, [], ◌∷◌, ◌++◌, length, take, get_or, unwrap_or}
-use Rattle.std.proofs.Common.{refl, sym, ap, ◌∙◌, arith, subst, Option, Some, None, slice_get}
+use Rattle.std.proofs.Common.{◌≡◌, ℕ, suc, ◌≤◌, ◌==◌, true, false, if◌then◌else◌, List, [], ◌∷◌, length, take, unwrap_or}
+use Rattle.std.proofs.Common.{refl, sym, ap, ◌∙◌, arith, subst, Option, None}
 use Rattle.std.proofs.Common.{⊎_elim}
 use Rattle.std.specs.Prelude.{All}
 use Rattle.std.specs.List.{range_with_len}
 use Rattle.std.proofs.lemmas.List.{take_all}
-use Rattle.std.proofs.lemmas.Option.{slice_get-get_or}
 use Rattle.std.proofs.lemmas.List.Elements.{All-nil, All-cons, All-head, All-tail}
-use Rattle.std.proofs.lemmas.Bool.Decides.{nat_tests}
 use Rattle.am_base.specs.Names.{place_of}
 use Rattle.am_base.specs.Founding.{Rules, MayFound}
 use Rattle.am_base.specs.Lists.{blank, AllFit}
 use Rattle.am_base.specs.declared.entry.Entry.{Entry}
-use Rattle.am_base.specs.declared.entry.Entry.TheVariants as entries
-use Rattle.am_base.specs.declared.outcome.Outcome.{Outcome}
-use Rattle.am_base.specs.declared.outcome.Outcome.TheVariants as said
 use Rattle.am_group.specs.declared.event.Act.{Act}
 use Rattle.am_group.specs.declared.event.Act.TheVariants as acts
 use Rattle.am_group.specs.declared.event.Event.{Event}
-use Rattle.am_group.specs.declared.event.Record.{Record}
 use Rattle.am_group.specs.Journals.{item_at}
-use Rattle.am_group.specs.Deliveries.{name_of, taken_in, given_to, deliveries}
+use Rattle.am_group.specs.Deliveries.{deliveries}
 use Rattle.am_model.specs.Node.{Node, founders_view, has_log}
 use Rattle.am_play.specs.World.{World, run}
 use Rattle.am_play.specs.Group.{logs}
@@ -28,7 +22,6 @@ use Rattle.am_play.specs.Play.{text_of}
 use Rattle.am_play.specs.Claims.{NoBallot, Segment, Once, Sent}
 use Rattle.am_play.specs.Lawful.{broken_at, watch_run, lawful_front, before_break}
 use Rattle.am_play.proofs.Runs.{watched_is_run, one_record_each}
-use Rattle.am_effects.proofs.Items.{all_item}
 use Rattle.am_report.specs.Schedules.{IsOfBytes, AreOfBytes}
 use Rattle.am_laws.specs.Bytes.{IsShort, BodyWithin}
 use Rattle.am_laws.proofs.Named.{run_named}
@@ -41,12 +34,13 @@ use Rattle.am_audit.specs.Lines.{Reading}
 use Rattle.am_audit.specs.Verdicts.{or_else, first_fault, first_astray, first_lost, first_early, first_misfit, first_skipped, first_unsent, first_unlogged}
 use Rattle.am_audit.specs.Verdicts.{first_untaken, lines_of, wrong_lists, wrong_events, verdict_of}
 use Rattle.am_records.specs.Records.{IsSayable, AsksBytes}
+use Rattle.am_records.specs.Resiliences.{IsRaised}
 use Rattle.am_records.proofs.Sound.{records_are_sound, requests_in_turn}
+use Rattle.am_records.proofs.RaisedRuns.{resiliences_hold}
 use Rattle.am_audited.specs.Texts.{sends_of, answers_of, takes_of, texts_of, logs_in, reading_of}
 use Rattle.am_audited.specs.Claims.{right_verdict, AgreesAs, RunsHaveTheirTexts, LawfulTextsAgree}
-use Rattle.am_audited.proofs.Entries.{IsRaised}
-use Rattle.am_audited.proofs.Runs.{GivesRaised, GaveRaised, group_begins, run_read}
-use Rattle.am_audited.proofs.Fitting.{all_raised, no_misfit}
+use Rattle.am_audited.proofs.Runs.{group_begins, run_read}
+use Rattle.am_audited.proofs.Fitting.{no_misfit}
 use Rattle.am_audited.proofs.Logs.{IsRight, no_fault, no_astray, no_early, run_goes}
 use Rattle.am_audited.proofs.Sends.{none_lost, answers_once, none_skipped, requests_are}
 use Rattle.am_audited.proofs.Asked.{InTurn, none_unsent, asked_there, all_asked}
@@ -80,67 +74,10 @@ right rules events h =
     record {
       fits = h.lists.fits;
       say = (records_are_sound rules events h.short h.asks).group;
-      raised = subst (All (IsRaised rules)) (sym begins.1) (all_raised rules begins.0 (subst (AllFit blank 1) begins.1 h.lists.fits));
+      raised = (resiliences_hold rules events h.short.founds).group;
       rest = begins.0;
       begins = begins.1;
     }
-
--- ---- what was given out is in the list
-
--- an item of one list is in another
-There : {A : Type 0} → A → List A → Type 0
-There x xs = (j : ℕ) × (slice_get xs j ≡ Some x)
-
-there_front : {A : Type 0} (x : A) (xs ys : List A) → There x xs → There x (xs ++ ys)
-unfolding There
-there_front x [] ys (j, is) = absurd (cc)
-there_front x (z ∷ xs) ys (zero, is) = (0, is)
-there_front x (z ∷ xs) ys (suc j, is) = let rest = there_front x xs ys (j, is) in (suc rest.0, rest.1)
-
-there_back : {A : Type 0} (x : A) (xs ys : List A) → There x ys → There x (xs ++ ys)
-unfolding There
-there_back x [] ys h = h
-there_back x (z ∷ xs) ys h = let rest = there_back x xs ys h in (suc rest.0, rest.1)
-
-given_one : (r : Record) (number : ℕ) (e : Entry) → r.outcome ≡ said.Took number e → There (number, e) (given_to (name_of r) r)
-unfolding There
-given_one r number e is =
-    let own : (name_of r == name_of r) ≡ true = grind (arith, nat_tests) in
-    let given : given_to (name_of r) r ≡ (number, e) ∷ [] = ap (λ b. if b then taken_in r.outcome else []) own ∙ ap taken_in is in
-    (0, ap (λ (l : List (ℕ × Entry)). slice_get l 0) given)
-
-given_there : (records : List Record) (k : ℕ) (r : Record) (number : ℕ) (e : Entry) → slice_get records k ≡ Some r → r.outcome ≡ said.Took number e
-    → There (number, e) (deliveries records (name_of r))
-given_there [] k r number e at is = absurd (cc)
-given_there (x ∷ xs) zero r number e at is =
-    let same : x ≡ r = cc in
-    there_front (number, e) (given_to (name_of r) x) (deliveries xs (name_of r))
-    (subst (λ (y : Record). There (number, e) (given_to (name_of r) y)) (sym same) (given_one r number e is))
-given_there (x ∷ xs) (suc k) r number e at is =
-    there_back (number, e) (given_to (name_of r) x) (deliveries xs (name_of r)) (given_there xs k r number e at is)
-
-some_there : {A : Type 0} (x : A) (xs : List A) → There x xs → xs ≢ []
-unfolding There
-some_there x [] h = absurd (let is = h.1 in cc)
-some_there x (z ∷ xs) h = λ is. absurd (cc)
-
-took_raised : (rules : Rules) (w : World) (number : ℕ) (e : Entry) (name : ℕ) → IsRight rules w.group → Segment rules w
-    → There (number, e) (deliveries w.records name) → IsRaised rules e
-unfolding There
-took_raised rules w number e name right segment there =
-    let found = segment.each name (some_there (number, e) (deliveries w.records name) there) in
-    let at = found.2 there.0 number e there.1 in
-    all_item (IsRaised rules) w.group (found.0 + there.0) e right.raised at.1
-
-gave_one : (rules : Rules) (w : World) (k : ℕ) (r : Record) (o : Outcome) → IsRight rules w.group → Segment rules w → slice_get w.records k ≡ Some r
-    → r.outcome ≡ o → GivesRaised rules o
-gave_one rules w k r (said.Took number e) right segment at is =
-    took_raised rules w number e (name_of r) right segment (given_there w.records k r number e at is)
-gave_one rules w k r _ right segment at is = tt
-
-gave : (rules : Rules) (w : World) → IsRight rules w.group → Segment rules w → All (GaveRaised rules) w.records
-gave rules w right segment = λ k d low.
-    gave_one rules w k (get_or w.records k d) (get_or w.records k d).outcome right segment (slice_get-get_or w.records k d low) refl
 
 -- ---- who was given something has a list
 
@@ -185,7 +122,8 @@ lists_right rules events broken s h group lines answers =
     let same : length w.group ≡ length (founders_view rules ∷ r.rest) = ap length r.begins in
     let misfit : first_misfit 1 blank s.group ≡ None =
     ap (first_misfit 1 blank) (group ∙ ap (texts_of rules) r.begins)
-    ∙ no_misfit rules r.rest may (subst (AllFit blank 1) r.begins r.fits) (subst (All IsSayable) r.begins r.say) (omega arith) in
+    ∙ no_misfit rules r.rest may (subst (AllFit blank 1) r.begins r.fits) (subst (All IsSayable) r.begins r.say)
+    (subst (All (IsRaised rules)) r.begins r.raised) (omega arith) in
     ap (λ o. or_else o (or_else (first_astray s.group s.logs) (or_else (first_lost s.group s.answers) (or_else (first_early [] s.logs) (first_misfit 1 blank
     s.group))))) fault
     ∙ ap (λ o. or_else o (or_else (first_lost s.group s.answers) (or_else (first_early [] s.logs) (first_misfit 1 blank s.group)))) astray
@@ -244,7 +182,7 @@ fit_agrees rules events h =
     let takes : reading.takes ≡ takes_of rules (run rules events).records = ap (λ (w : World). takes_of rules w.records) is in
     let many : reading.events ≡ length events = ap (λ (w : World). length w.records) is ∙ one_record_each rules events in
     record {
-      reads = run_read rules events h.short h.asks (record { group = r.raised; given = gave rules (run rules events) r h.segment });
+      reads = run_read rules events h.short h.asks;
       verdict = agrees_by reading events (lists_right rules events s.broken reading h group lines answers)
           (events_right rules events reading h group lines sends takes) many;
     }
@@ -282,19 +220,5 @@ lawful_texts_agree rules events short bytes one = ⊎_elim
     (λ none. fit_agrees rules events (unballoted_is_fit rules events short bytes none))
     one
 
-raised_entry : (rules : Rules) (e : Entry) → rules.resilience ≡ 0 → IsRaised rules e
-raised_entry rules (entries.View stamp members resilience) none = λ zero. none
-raised_entry rules (entries.Data from req body) none = tt
-raised_entry rules (entries.Join name) none = tt
-raised_entry rules (entries.Leave name) none = tt
-
-raised_outcome : (rules : Rules) (o : Outcome) → rules.resilience ≡ 0 → GivesRaised rules o
-raised_outcome rules (said.Took number e) none = raised_entry rules e none
-raised_outcome rules _ none = tt
-
 pub runs_have_their_texts : RunsHaveTheirTexts
-runs_have_their_texts rules events short bytes none =
-    run_read rules events short (all_ask events short.bodies bytes) (record {
-      group = λ k d low. raised_entry rules (get_or (run rules events).group k d) none;
-      given = λ k d low. raised_outcome rules (get_or (run rules events).records k d).outcome none;
-    })
+runs_have_their_texts rules events short bytes = run_read rules events short (all_ask events short.bodies bytes)

@@ -21,6 +21,7 @@ use Rattle.am_fields.specs.Fields.{onto_cut}
 use Rattle.am_play.specs.Text.{name_text, stamp_text, names_text, body_text, resilience_text, entry_text, outcome_word, numbers_text, outcome_numbers}
 use Rattle.am_play.specs.Text.{outcome_parts, outcome_text, act_word, act_parts, event_text, kind_word, is_everybody_else, addressees_text, letter_text}
 use Rattle.am_play.specs.Text.{letters_text}
+use Rattle.am_report.specs.Schedules.{IsOfBytes}
 use Rattle.am_audit.specs.Lines.{begins_mark, mark_cut}
 use Rattle.am_audit.specs.Agreement.{IsLine}
 use Rattle.am_printed.proofs.Words.{is_plain_byte, IsWord, IsPlain, both, all_append, all_weaker, word_plain, plains, decimal_word, name_word}
@@ -102,16 +103,12 @@ outcome_plain rules outcome bytes =
 
 -- ---- events
 
-abbrev pub AsksBytes : Act → Type 0
-AsksBytes (acts.Send body) = IsBytes body
-AsksBytes _ = Unit {0}
-
 pub act_is_word : (act : Act) → IsWord (act_word act)
 unfolding act_word
 act_is_word acts.Take = refl
 act_is_word _ = refl
 
-act_plain : (rules : Rules) (act : Act) → AsksBytes act → IsPlain (act_parts rules act)
+act_plain : (rules : Rules) (act : Act) → IsOfBytes act → IsPlain (act_parts rules act)
 unfolding act_parts
 act_plain rules (acts.Send body) bytes = word_plain (body_text body) (body_word body bytes)
 act_plain rules (acts.Done req) bytes = number_plain req
@@ -123,7 +120,7 @@ act_plain rules (acts.Hear packet) bytes = number_plain packet
 act_plain rules (acts.Cut packet keep) bytes = plains (decimal packet) (codes " " ++ decimal keep) (number_plain packet) (number_plain keep)
 act_plain rules _ bytes = refl
 
-pub event_plain : (rules : Rules) (event : Event) → AsksBytes event.act → IsPlain (event_text rules event)
+pub event_plain : (rules : Rules) (event : Event) → IsOfBytes event.act → IsPlain (event_text rules event)
 unfolding event_text
 event_plain rules event bytes =
     plains (act_word event.act) (codes " " ++ (decimal (place_of event.node) ++ act_parts rules event.act))

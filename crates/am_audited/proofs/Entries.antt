@@ -20,6 +20,7 @@ use Rattle.am_audit.specs.Fields.{data_parts, data_of, resilience_of, resilience
 use Rattle.am_printed.proofs.Printed.{number_again, name_again, names_again}
 use Rattle.am_printed.proofs.Words.{decimal_word, name_word, stamp_word, names_word, word_cut, word_whole, stamp_again, body_again}
 use Rattle.am_records.specs.Records.{IsSayable}
+use Rattle.am_records.specs.Resiliences.{IsRaised}
 use Rattle.am_audited.proofs.Chars.{HasBytes}
 use Rattle.am_audited.proofs.Outcomes.{two_words, IsReadAs}
 
@@ -33,11 +34,6 @@ outline_as rules (entries.Data from req body) = outlines.Data from req
 outline_as rules (entries.Join name) = outlines.Join name
 outline_as rules (entries.Leave name) = outlines.Leave name
 outline_as rules (entries.View stamp members resilience) = outlines.View stamp members (resilience_as rules resilience)
-
--- no View has the resilience 0 but where the founding has
-abbrev pub IsRaised : Rules → Entry → Type 0
-IsRaised rules (entries.View stamp members resilience) = resilience ≡ 0 → rules.resilience ≡ 0
-IsRaised rules _ = Unit {0}
 
 pub has_bytes : (entry : Entry) → IsSayable entry → HasBytes entry
 has_bytes (entries.Data from req body) say = say.2
@@ -103,8 +99,8 @@ entry_read rules (entries.Leave name) say raised = rw (name_again name say) refl
 entry_read rules (entries.View stamp members resilience) say raised =
     view_read (resilience == rules.resilience) stamp members resilience say.1 say.0 say.2 say.3 (λ other. above (rules.resilience) resilience other raised)
   where
-    above : (least resilience : ℕ) → (resilience == least) ≡ false → (resilience ≡ 0 → least ≡ 0) → 0 < resilience
-    above least zero other raised = absurd (let same = raised refl in grind (arith, nat_tests))
+    above : (least resilience : ℕ) → (resilience == least) ≡ false → least ≤ resilience → 0 < resilience
+    above least zero other raised = absurd (grind (arith, nat_tests))
     above least (suc before) other raised = omega arith
 
 pub is_read : (rules : Rules) (entry : Entry) → IsSayable entry → IsRaised rules entry → IsReadAs rules entry

@@ -5,7 +5,7 @@ use Rattle.std.specs.Prelude.{All, slice_index, slice_index_or}
 use Rattle.std.specs.List.{list_all, range_with_len}
 use Rattle.std.proofs.lemmas.Bool.{and_parts, and_from}
 use Rattle.std.proofs.lemmas.Bool.Decides.{nat_tests}
-use Rattle.std.proofs.lemmas.List.Elements.{All-nil, All-cons, All-head, All-tail}
+use Rattle.std.proofs.lemmas.List.Elements.{All-head, All-tail}
 use Rattle.am_base.specs.Most.{most_number}
 use Rattle.am_base.specs.Founding.{Rules, MayFound}
 use Rattle.am_base.specs.Names.{has, life_of, is_within, lowest_of, by_place}
@@ -24,8 +24,9 @@ use Rattle.am_audit.specs.declared.verdict.Verdict.TheVariants as verdicts
 use Rattle.am_audit.specs.Fields.{outline_of}
 use Rattle.am_audit.specs.Verdicts.{or_else, bare_entry, is_lowest, founds, fits_at, image_after, first_misfit}
 use Rattle.am_records.specs.Records.{IsSayable}
+use Rattle.am_records.specs.Resiliences.{IsRaised}
 use Rattle.am_audited.specs.Texts.{texts_of}
-use Rattle.am_audited.proofs.Entries.{resilience_as, outline_as, IsRaised, entry_read}
+use Rattle.am_audited.proofs.Entries.{resilience_as, outline_as, entry_read}
 
 -- ---- images
 
@@ -110,19 +111,6 @@ after_low rules image number (entries.View stamp members resilience) viewed =
 
 -- ---- the list
 
-raised_by : (rules : Rules) (image : Image) (e : Entry) → IsAbove rules image → fits image e ≡ true → IsRaised rules e
-unfolding fits
-raised_by rules image (entries.Data from req body) h fit = tt
-raised_by rules image (entries.Join name) h fit = tt
-raised_by rules image (entries.Leave name) h fit = tt
-raised_by rules image (entries.View stamp members resilience) h fit =
-    let a = (and_parts (stamp_lt image.view stamp) _ fit).1 in
-    let b = (and_parts (is_blank image || is_within members (members_of image)) _ a).1 in
-    let c = (and_parts (has members stamp.by) (nat_le image.resilience resilience) b).1 in
-    let up : image.resilience ≤ resilience = grind (arith, nat_tests) in
-    let least = h.least in
-    λ none. omega arith
-
 fit_by : (rules : Rules) (number : ℕ) (image : Image) (o : Outline) (text : Result Outline _) (rest : Option Verdict) → text ≡ Ok o
     → fits_at number image (Ok o) ≡ true → or_else (if fits_at number image text then None else Some (verdicts.Misfit number)) rest ≡ rest
 fit_by rules number image o text rest is fit =
@@ -136,39 +124,24 @@ fits_at_later number image o later low fit =
     let within : nat_le number most_number ≡ true = grind (arith, nat_tests) in
     ap (λ b. if b then founds o else nat_le number most_number && fits image (bare_entry o)) other ∙ and_from (nat_le number most_number) _ within fit
 
-none_misfits : (rules : Rules) (number : ℕ) (image : Image) (es : List Entry) → AllFit image number es → IsAbove rules image → All IsSayable es → 1 < number
-    → number + length es ≤ most_number + 1 → first_misfit number (lowered rules image) (texts_of rules es) ≡ None
+none_misfits : (rules : Rules) (number : ℕ) (image : Image) (es : List Entry) → AllFit image number es → IsAbove rules image → All IsSayable es → All (IsRaised rules) es
+    → 1 < number → number + length es ≤ most_number + 1 → first_misfit number (lowered rules image) (texts_of rules es) ≡ None
 unfolding AllFit
-none_misfits rules number image [] fit h say later low = refl
-none_misfits rules number image (e ∷ es) fit h say later low =
-    let read = entry_read rules e (All-head IsSayable e es say) (raised_by rules image e h fit.0) in
+none_misfits rules number image [] fit h say raised later low = refl
+none_misfits rules number image (e ∷ es) fit h say raised later low =
+    let read = entry_read rules e (All-head IsSayable e es say) (All-head (IsRaised rules) e es raised) in
     fit_by rules number (lowered rules image) (outline_as rules e) (outline_of (entry_text rules e)) _ read
     (fits_at_later number (lowered rules image) (outline_as rules e) later (omega arith) (fits_low rules image e h fit.0))
     ∙ ap (λ t. first_misfit (number + 1) (image_after number (lowered rules image) t) (texts_of rules es)) read
     ∙ ap (λ i. first_misfit (number + 1) i (texts_of rules es)) (after_low rules image number e h.viewed)
     ∙ none_misfits rules (number + 1) (after image number e) es fit.1 (after_above rules image number e (omega arith) fit.0 h)
-    (All-tail IsSayable e es say) (omega arith) (omega arith)
-
-raised_from : (rules : Rules) (number : ℕ) (image : Image) (es : List Entry) → AllFit image number es → IsAbove rules image → 0 < number
-    → All (IsRaised rules) es
-unfolding AllFit
-raised_from rules number image [] fit h some = All-nil (IsRaised rules)
-raised_from rules number image (e ∷ es) fit h some =
-    All-cons (IsRaised rules) e es (raised_by rules image e h fit.0)
-    (raised_from rules (number + 1) (after image number e) es fit.1 (after_above rules image number e some fit.0 h) (omega arith))
+    (All-tail IsSayable e es say) (All-tail (IsRaised rules) e es raised) (omega arith) (omega arith)
 
 -- ---- from the founders' view on
 
 first_above : (rules : Rules) → IsAbove rules (after blank 1 (founders_view rules))
 unfolding after
 first_above rules = record { viewed = omega arith; least = omega arith }
-
-pub all_raised : (rules : Rules) (rest : List Entry) → AllFit blank 1 (founders_view rules ∷ rest) → All (IsRaised rules) (founders_view rules ∷ rest)
-unfolding AllFit
-all_raised rules rest fit =
-    All-cons (IsRaised rules) (founders_view rules) rest (λ none. none) (raised_from rules 2 (after blank 1 (founders_view rules)) rest fit.1
-    (first_above rules)
-    (omega arith))
 
 nobody_there : (xs : List ℕ) → lowest_of xs ≡ None → has xs 0 ≡ true → ⊥
 nobody_there [] is there = cc
@@ -197,11 +170,12 @@ founders_found rules may =
     (and_from (list_all (λ life. nat_le life 1) rules.founders) _ (low_lives rules.founders may.first_lives) none)
 
 pub no_misfit : (rules : Rules) (rest : List Entry) → MayFound rules → AllFit blank 1 (founders_view rules ∷ rest) → All IsSayable (founders_view rules ∷ rest)
-    → length (founders_view rules ∷ rest) ≤ most_number → first_misfit 1 blank (texts_of rules (founders_view rules ∷ rest)) ≡ None
+    → All (IsRaised rules) (founders_view rules ∷ rest) → length (founders_view rules ∷ rest) ≤ most_number → first_misfit 1 blank (texts_of rules (founders_view rules ∷ rest)) ≡ None
 unfolding AllFit after by_place
-no_misfit rules rest may fit say low =
+no_misfit rules rest may fit say raised low =
     let first = founders_view rules in
-    let read = entry_read rules first (All-head IsSayable first rest say) (λ none. none) in
+    let read = entry_read rules first (All-head IsSayable first rest say) (All-head (IsRaised rules) first rest raised) in
     fit_by rules 1 blank (outline_as rules first) (outline_of (entry_text rules first)) _ read (founders_found rules may)
     ∙ ap (λ t. first_misfit 2 (image_after 1 blank t) (texts_of rules rest)) read
-    ∙ none_misfits rules 2 (after blank 1 first) rest fit.1 (first_above rules) (All-tail IsSayable first rest say) (omega arith) (omega arith)
+    ∙ none_misfits rules 2 (after blank 1 first) rest fit.1 (first_above rules) (All-tail IsSayable first rest say)
+    (All-tail (IsRaised rules) first rest raised) (omega arith) (omega arith)

@@ -32,9 +32,10 @@ use Rattle.am_audit.specs.Lines.{Line}
 use Rattle.am_audit.specs.Verdicts.{or_else, last_of, first_with, first_sent, gap_at, differs_at, twice_by, twice_at, fault_at, first_fault, is_text}
 use Rattle.am_audit.specs.Verdicts.{first_astray, may_begin, early_at, first_early}
 use Rattle.am_records.specs.Records.{IsSayable}
+use Rattle.am_records.specs.Resiliences.{IsRaised}
 use Rattle.am_audited.specs.Texts.{texts_of, log_in, logs_in}
 use Rattle.am_audited.proofs.Outcomes.{same_self}
-use Rattle.am_audited.proofs.Entries.{outline_as, IsRaised, entry_read, is_of, data_as, data_in_is}
+use Rattle.am_audited.proofs.Entries.{outline_as, entry_read, is_of, data_as, data_in_is}
 
 -- ---- a list that fits
 

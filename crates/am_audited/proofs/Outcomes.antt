@@ -23,7 +23,7 @@ use Rattle.am_audit.specs.Lines.{Reading, with_send, with_answer, with_take, wit
 use Rattle.am_printed.proofs.Printed.{number_again}
 use Rattle.am_printed.proofs.Words.{IsWord, decimal_word, word_cut, word_whole, body_again}
 use Rattle.am_audited.specs.Texts.{queued_as, send_in, sent_as, answer_in, took_as, take_in}
-use Rattle.am_records.specs.Records.{returned_as, names_after}
+use Rattle.am_records.specs.Records.{returned_as, names_after, HasLife}
 use Rattle.am_audited.proofs.Chars.{outcome_is_word}
 
 -- ---- words and what stands behind them
@@ -232,11 +232,7 @@ return_read rules place life low some most =
     let other : (life == 0) ≡ false = grind (arith, nat_tests) in
     rw (number_again 15 place low (lit< tt), append-nil (decimal life), number_again 16 life most (lit< tt), other) refl
 
-abbrev pub IsReturned : Outcome → Type 0
-IsReturned (said.Returned life) = (0 < life) × (life ≤ 16)
-IsReturned _ = Unit {0}
-
-return_counts : (rules : Rules) (s : Reading) (place : ℕ) (outcome : Outcome) → place ≤ 15 → IsReturned outcome
+return_counts : (rules : Rules) (s : Reading) (place : ℕ) (outcome : Outcome) → place ≤ 15 → HasLife outcome
     → with_return s (return_of (decimal place) (outcome_text rules outcome)) ≡ record s { names = returned_as s.names place outcome }
 unfolding outcome_word
 return_counts rules s place (said.Returned life) low fits = ap (with_return s) (return_read rules place life low fits.0 fits.1)
@@ -258,7 +254,7 @@ abbrev pub IsCounted : Rules → Act → Outcome → Type 0
 IsCounted rules (acts.Send body) outcome = IsBytes body × (length body ≤ most_body) × IsQueued outcome
 IsCounted rules (acts.Done req) outcome = IsAnswered req outcome
 IsCounted rules acts.Take outcome = IsTaken rules outcome
-IsCounted rules acts.Return outcome = IsReturned outcome
+IsCounted rules acts.Return outcome = HasLife outcome
 IsCounted rules _ outcome = Unit {0}
 
 pub event_counts : (rules : Rules) (s : Reading) (place : ℕ) (act : Act) (outcome : Outcome) → place ≤ 15 → IsCounted rules act outcome

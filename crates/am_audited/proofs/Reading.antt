@@ -17,6 +17,7 @@ use Rattle.am_fields.specs.declared.fault.FieldFault.TheVariants.{Form}
 use Rattle.am_fields.specs.Fields.{same, and_then, number_up_to, number_of, parts_of}
 use Rattle.am_play.specs.Text.{name_text, entry_text, outcome_text, act_word, act_parts, event_text, letters_text, record_line, lines_from}
 use Rattle.am_play.specs.Text.{group_line, group_from, log_line, empty_log_line, log_text, logs_text, mark_line}
+use Rattle.am_report.specs.Schedules.{IsOfBytes}
 use Rattle.am_audit.specs.declared.line.Stage.{Stage}
 use Rattle.am_audit.specs.declared.line.Stage.TheVariants as stages
 use Rattle.am_audit.specs.Fields.{two_of}
@@ -28,7 +29,7 @@ use Rattle.am_audit.proofs.Beginnings.{line_cut}
 use Rattle.am_printed.proofs.Printed.{number_again, name_again}
 use Rattle.am_printed.proofs.Words.{decimal_word, name_word, word_plain}
 use Rattle.am_audited.specs.Texts.{log_in}
-use Rattle.am_audited.proofs.Chars.{HasBytes, entry_plain, GivesBytes, outcome_plain, AsksBytes, act_is_word, event_plain, plain_line, lines, letters_line}
+use Rattle.am_audited.proofs.Chars.{HasBytes, entry_plain, GivesBytes, outcome_plain, act_is_word, event_plain, plain_line, lines, letters_line}
 use Rattle.am_audited.proofs.Chars.{letters_behind, colon_ends, bar_ends}
 use Rattle.am_audited.proofs.Outcomes.{two_words, IsReadAs, after_event, IsCounted, event_counts}
 
@@ -56,7 +57,7 @@ other_line line word rest one two none = other_text line one (λ is. let no : Ok
 
 -- what a record counts for, within its limits, and of bytes
 pub record IsShown (rules : Rules) (r : Record) : Type 0 where
-  pub asks : AsksBytes r.event.act
+  pub asks : IsOfBytes r.event.act
   pub gives : GivesBytes r.outcome
   pub counts : IsCounted rules r.event.act r.outcome
 

@@ -24,28 +24,25 @@ use Rattle.am_play.specs.Play.{text_of}
 use Rattle.am_play.specs.Text.{play_text}
 use Rattle.am_play.proofs.Runs.{watched_is_run, one_record_each}
 use Rattle.am_play.proofs.Beginnings.{runs_begin}
+use Rattle.am_report.specs.Schedules.{IsOfBytes}
 use Rattle.am_audit.specs.Lines.{Reading, read_text}
 use Rattle.am_laws.specs.Bytes.{IsShort}
 use Rattle.am_laws.proofs.RunCounts.{numbers_hold}
 use Rattle.am_records.specs.Records.{IsSayable, AsksBytes, IsAnswer, IsBack, IsSound, LivesTold}
 use Rattle.am_records.proofs.Lives.{lives_are_told}
 use Rattle.am_records.proofs.Sound.{records_are_sound}
+use Rattle.am_records.specs.Resiliences.{IsRaised, GivesRaised, GaveRaised}
+use Rattle.am_records.proofs.RaisedRuns.{resiliences_hold}
 use Rattle.am_audited.specs.Texts.{reading_of}
-use Rattle.am_audited.proofs.Chars as chars
 use Rattle.am_audited.proofs.Chars.{GivesBytes}
-use Rattle.am_audited.proofs.Outcomes.{IsQueued, IsAnswered, IsTaken, IsReturned, IsCounted}
+use Rattle.am_audited.proofs.Outcomes.{IsQueued, IsAnswered, IsTaken, IsCounted}
 use Rattle.am_audited.proofs.Reading.{IsShown, AreShown, IsListed, AreListed, AreGiven, AreLogs, IsMark}
 use Rattle.am_audited.proofs.Whole.{IsPrinted, read_as, text_read}
-use Rattle.am_audited.proofs.Entries.{IsRaised, has_bytes, is_read}
+use Rattle.am_audited.proofs.Entries.{has_bytes, is_read}
 
 -- ---- records
 
--- an entry that is given out isn't one that can't be read
-abbrev pub GivesRaised : Rules → Outcome → Type 0
-GivesRaised rules (said.Took number entry) = IsRaised rules entry
-GivesRaised rules _ = Unit {0}
-
-asks_bytes : (act : Act) → AsksBytes act → chars.AsksBytes act
+asks_bytes : (act : Act) → AsksBytes act → IsOfBytes act
 asks_bytes (acts.Send body) asks = asks.0
 asks_bytes _ asks = tt
 
@@ -68,16 +65,12 @@ taken : (rules : Rules) (act : Act) (outcome : Outcome) → IsAnswer act outcome
 taken rules act (said.Took number entry) answer raised = (answer.1, is_read rules entry answer.2 raised)
 taken rules act _ answer raised = tt
 
-returned : (outcome : Outcome) → IsBack acts.Return outcome → IsReturned outcome
-returned (said.Returned life) back = back
-returned _ back = tt
-
 counted : (rules : Rules) (act : Act) (outcome : Outcome) → AsksBytes act → IsAnswer act outcome → IsBack act outcome → GivesRaised rules outcome
     → IsCounted rules act outcome
 counted rules (acts.Send body) outcome asks answer back raised = (asks.0, asks.1, queued (acts.Send body) outcome answer)
 counted rules (acts.Done req) outcome asks answer back raised = answered req outcome answer
 counted rules acts.Take outcome asks answer back raised = taken rules acts.Take outcome answer raised
-counted rules acts.Return outcome asks answer back raised = returned outcome back
+counted rules acts.Return outcome asks answer back raised = back
 counted rules _ outcome asks answer back raised = tt
 
 shown : (rules : Rules) (r : Record) → IsSound r → GivesRaised rules r.outcome → IsShown rules r
@@ -86,9 +79,6 @@ shown rules r sound raised = record {
   gives = gives_bytes r.event.act r.outcome sound.answer;
   counts = counted rules r.event.act r.outcome sound.asks sound.answer sound.back raised;
 }
-
-abbrev pub GaveRaised : Rules → Record → Type 0
-GaveRaised rules r = GivesRaised rules r.outcome
 
 all_shown : (rules : Rules) (records : List Record) → All IsSound records → All (GaveRaised rules) records → AreShown rules records
 all_shown rules [] sound raised = tt
@@ -130,9 +120,6 @@ all_given rules name (r ∷ rs) sound raised =
 logs_more : (rules : Rules) (xs ys : List (ℕ × List (ℕ × Entry))) → AreLogs rules xs → AreLogs rules ys → AreLogs rules (xs ++ ys)
 logs_more rules [] ys h k = k
 logs_more rules (x ∷ xs) ys h k = (h.0, h.1, logs_more rules xs ys h.2 k)
-
-name_by_rank : ℕ → ℕ
-name_by_rank rank = rank / 16 + 16 * (rank % 16)
 
 logs_from : (rules : Rules) (w : World) (a n : ℕ) → a + n ≤ 256 → ((name : ℕ) → AreGiven rules (deliveries w.records name))
     → AreLogs rules (flat_map (λ name. if has_log (w.nodes name).status then (name, deliveries w.records name) ∷ [] else [])
@@ -188,11 +175,6 @@ run_marked rules events =
 
 -- ---- the text
 
--- no entry that is printed has a resilience that can't be read
-pub record AllRaised (rules : Rules) (w : World) : Type 0 where
-  pub group : All (IsRaised rules) w.group
-  pub given : All (GaveRaised rules) w.records
-
 -- the list begins with the founders' view
 pub group_begins : (rules : Rules) (events : List Event) → (rest : List Entry) × ((run rules events).group ≡ founders_view rules ∷ rest)
 unfolding happen
@@ -207,11 +189,12 @@ text_by rules s group first others is same printed =
     ∙ text_read rules s.world.records first others (logs s.world) s.broken printed
 
 printed_run : (rules : Rules) (events : List Event) (rest : List Entry) → IsShort rules events → All (λ (e : Event). AsksBytes e.act) events
-    → AllRaised rules (run rules events) → (run rules events).group ≡ founders_view rules ∷ rest
+    → (run rules events).group ≡ founders_view rules ∷ rest
     → IsPrinted rules (run rules events).records (founders_view rules) rest (logs (run rules events)) (watch_run rules events).broken
-printed_run rules events rest short asks raised group =
+printed_run rules events rest short asks group =
     let w = run rules events in
     let sound = records_are_sound rules events short asks in
+    let raised = resiliences_hold rules events short.founds in
     let few = short.few in
     let many = one_record_each rules events in
     let long = (numbers_hold rules events).group in
@@ -232,16 +215,16 @@ read_run rules s rest told group =
     ap (λ (g : List Entry). read_as rules s.world.records g (logs s.world) s.broken) (sym group)
     ∙ ap (λ (names : List ℕ). record (read_as rules s.world.records s.world.group (logs s.world) s.broken) { names = names }) told.last
 
--- the text of a run whose resiliences can be read
-pub run_read : (rules : Rules) (events : List Event) → IsShort rules events → All (λ (e : Event). AsksBytes e.act) events → AllRaised rules (run rules events)
+-- the text of a run
+pub run_read : (rules : Rules) (events : List Event) → IsShort rules events → All (λ (e : Event). AsksBytes e.act) events
     → read_text (text_of rules events) ≡ Ok (reading_of rules (watch_run rules events))
-run_read rules events short asks raised =
+run_read rules events short asks =
     let s = watch_run rules events in
     let same : run rules events ≡ s.world = sym (watched_is_run rules events) in
     let begins = group_begins rules events in
     let group : s.world.group ≡ founders_view rules ∷ begins.0 = ap (λ (w : World). w.group) (sym same) ∙ begins.1 in
     let printed = subst (λ (w : World). IsPrinted rules w.records (founders_view rules) begins.0 (logs w) s.broken) same
-    (printed_run rules events begins.0 short asks raised begins.1) in
+    (printed_run rules events begins.0 short asks begins.1) in
     let told = subst LivesTold same (lives_are_told rules events) in
     text_by rules s s.world.group (founders_view rules) begins.0 group refl printed
     ∙ ap (λ (r : Reading). Ok r) (read_run rules s begins.0 told group)

@@ -1,8 +1,7 @@
 -- A line that begins with a brace before a run's text is passed over, as what was done in a race is as a script.
-use Rattle.std.proofs.Common.{◌≡◌, ℕ, ◌+◌, ◌==◌, ◌&&◌, ◌||◌, not, Bool, true, false, cond, List, [], ◌∷◌, ◌++◌, length, refl, sym, ap, ◌∙◌, Result, Ok, Err, Option, Some, None}
-use Rattle.std.proofs.Common.{append_assoc}
-use Rattle.std.specs.Prelude.{codes, decimal, slice_index, All}
-use Rattle.std.specs.List.{list_all, flat_map}
+use Rattle.std.proofs.Common.{◌≡◌, ℕ, ◌+◌, ◌==◌, ◌&&◌, Bool, true, false, cond, List, [], ◌∷◌, ◌++◌, length, refl, sym, ap, ◌∙◌, Result, Ok, Err, Option}
+use Rattle.std.specs.Prelude.{codes, decimal, slice_index}
+use Rattle.std.specs.List.{flat_map}
 use Rattle.std.proofs.lemmas.List.Elements.{All-head, All-tail}
 use Rattle.am_base.specs.Founding.{Rules}
 use Rattle.am_base.specs.Names.{place_of, life_of}
@@ -14,13 +13,13 @@ use Rattle.am_fields.specs.Fields.{cut_of, parts_of}
 use Rattle.am_play.specs.Text.{newline, hex_byte, act_word, names_text}
 use Rattle.am_report.specs.Schedules.{life_json, resilience_json, body_json, keys_before, keys_behind, word_json, event_json, others_json, list_json, events_json}
 use Rattle.am_report.specs.Schedules.{founders_json, numbers_json, script_text, IsOfBytes, AreOfBytes}
-use Rattle.am_audit.specs.Lines.{Reading, nothing_read, finish, is_end, add_line, read_on, read_lines, read_behind, read_text}
+use Rattle.am_audit.specs.Lines.{Reading, nothing_read, is_end, add_line, read_on, read_lines, read_behind, read_text}
 use Rattle.am_audit.specs.Agreement.{IsLine}
 use Rattle.am_audit.proofs.Beginnings.{line_cut}
 use Rattle.am_printed.proofs.Words.{decimal_word, names_word, word_plain, hex_word}
 use Rattle.am_base.specs.declared.entry.Entry.{Entry}
 use Rattle.am_model.specs.Node.{founders_view}
-use Rattle.am_play.specs.World.{World, run}
+use Rattle.am_play.specs.World.{World}
 use Rattle.am_play.specs.Group.{logs}
 use Rattle.am_play.specs.Lawful.{Watch, watch_run}
 use Rattle.am_play.specs.Play.{watched_text, text_of}

@@ -32,10 +32,9 @@ pub record AgreesAs (rules : Rules) (events : List Event) (text : List ℕ) : Ty
 abbrev pub IsOfOneList : Rules → List Event → Type 0
 IsOfOneList rules events = (broken_at rules events ≡ None) ⊎ NoBallot (run rules events)
 
--- every run of a group that is founded without resilience, lawful or not
+-- every run, lawful or not
 abbrev pub RunsHaveTheirTexts : Type 0
-RunsHaveTheirTexts = (rules : Rules) (events : List Event) → IsShort rules events → AreOfBytes events → rules.resilience ≡ 0
-    → ReadsAs rules events (text_of rules events)
+RunsHaveTheirTexts = (rules : Rules) (events : List Event) → IsShort rules events → AreOfBytes events → ReadsAs rules events (text_of rules events)
 
 abbrev pub LawfulTextsAgree : Type 0
 LawfulTextsAgree = (rules : Rules) (events : List Event) → IsShort rules events → AreOfBytes events → IsOfOneList rules events

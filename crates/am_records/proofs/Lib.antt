@@ -3,3 +3,5 @@ pub mod Limits
 pub mod Settled
 pub mod Lives
 pub mod Sound
+pub mod Raised
+pub mod RaisedRuns

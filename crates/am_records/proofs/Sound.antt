@@ -74,7 +74,7 @@ there_by : (b : Bool) (at : Option Entry) (e : Entry) → (if b then at else Non
 there_by true at e is = is
 there_by false at e is = absurd (cc)
 
-has_entry : (P : Entry → Type 0) (log : Log) (number : ℕ) (e : Entry) → All P log.entries → entry_at log number ≡ Some e → P e × (number ≤ top_of log)
+pub has_entry : (P : Entry → Type 0) (log : Log) (number : ℕ) (e : Entry) → All P log.entries → entry_at log number ≡ Some e → P e × (number ≤ top_of log)
 has_entry P log zero e h is = absurd (cc)
 has_entry P log (suc before) e h is =
     let at = there_by (nat_le log.start before) (slice_get log.entries (before - log.start)) e is in
@@ -133,7 +133,7 @@ record Facts (rules : Rules) (many : ℕ) (b : Bounds) (w : World) : Type 0 wher
   low : (e : Event) → actor w e < 256
 
 -- what is asked of a ballot is answered as a ballot is
-of_ballot : (w : World) (name : ℕ) (c : Cause) (o : Outcome) → BallotsOk w → AnswersAsk (w.nodes name) c o → IsOfBallot o
+pub of_ballot : (w : World) (name : ℕ) (c : Cause) (o : Outcome) → BallotsOk w → AnswersAsk (w.nodes name) c o → IsOfBallot o
 of_ballot w name c o ballots a =
     subst IsOfBallot (sym a.same) (subst (LastOk w name (w.nodes name).core.promise) a.last (ballots.each name)).answer
 
@@ -216,11 +216,11 @@ adds_by rules many b w e v (steps c s runs cause effect) f = record {
 -- ---- runs
 
 -- what is so of no events, and of one more, is so of all
-by_last : (P : List Event → Type 0) → ((es : List Event) (e : Event) → P es → P (es ++ e ∷ [])) → (front es : List Event) → P front → P (front ++ es)
+pub by_last : (P : List Event → Type 0) → ((es : List Event) (e : Event) → P es → P (es ++ e ∷ [])) → (front es : List Event) → P front → P (front ++ es)
 by_last P more front [] h = subst P (sym (append-nil front)) h
 by_last P more front (e ∷ es) h = subst P (append_assoc front (e ∷ []) es) (by_last P more (front ++ e ∷ []) es (more front e h))
 
-one_more : (rules : Rules) (es : List Event) (e : Event) → run rules (es ++ e ∷ []) ≡ happens (run rules es) e
+pub one_more : (rules : Rules) (es : List Event) (e : Event) → run rules (es ++ e ∷ []) ≡ happens (run rules es) e
 unfolding happen
 one_more rules es e = runs_go_on (start rules) es (e ∷ [])
 

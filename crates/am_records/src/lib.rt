@@ -1,8 +1,9 @@
-//! What is so of the records of every run, whoever stops and whatever was lost: the lives that they tell, the limits of what they tell, and
-//! the requests that they give out.
+//! What is so of the records of every run, whoever stops and whatever was lost: the lives that they tell, the limits of what they tell, the
+//! requests that they give out, and that no View in them has less resilience than the founding.
 #![tactic(auto)]
 
 ghost use Rattle.am_records.specs.Records.{LivesAreTold, RecordsAreSound, RequestsInTurn};
+ghost use Rattle.am_records.specs.Resiliences.{ResiliencesHold};
 
 /// A record's life is what the last return of its place before it tells, or 1 where there is none.
 pub fn lives_are_told()
@@ -19,4 +20,10 @@ pub fn records_are_sound()
 /// The requests that a name was given are 1, 2, 3 and so on.
 pub fn requests_are_in_turn()
     ensures { RequestsInTurn }
+{}
+
+/// No View has less resilience than the founding, be it in a node's list or the group's, fetched, told of a ballot, or given out. Entry 1 of
+/// each list is a View, and who has or had a list has promised a round that isn't 0.
+pub fn resiliences_hold()
+    ensures { ResiliencesHold }
 {}

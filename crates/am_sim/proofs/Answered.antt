@@ -96,7 +96,7 @@ played_by what bytes text (Play founding events settles) is within same =
       few = same.1;
       keeps = keeps_all founding done may;
       repaired = λ _settled. repaired founding events may;
-      reads = λ is_text none. subst (ReadsAs founding done) (run_text is_text) (play_reads bytes founding events settles is within same.1 none);
+      reads = λ is_text. subst (ReadsAs founding done) (run_text is_text) (play_reads bytes founding events settles is within same.1);
       agrees = λ is_text one. subst (AgreesAs founding done) (run_text is_text) (play_agrees bytes founding events settles is within same.1 one);
     }
 played_by what bytes text (Race plan) is within same = absurd same
@@ -151,7 +151,7 @@ raced_by bytes text plan is within (journal, raced, same, again) = record {
   written = same;
   again = race_again bytes plan journal is within raced again;
   keeps = keeps_all plan.founding (events_of journal) within.may_found;
-  reads = λ none. rw same (race_reads bytes plan journal is within raced none);
+  reads = rw same (race_reads bytes plan journal is within raced);
   agrees = λ one. rw same (race_agrees bytes plan journal is within raced one);
 }
 

@@ -106,12 +106,12 @@ play_has bytes founding events settles is within =
     done_have founding events settles (events_have events within.each (plays_are_of_bytes bytes founding events settles is))
 
 pub play_reads : (bytes : List ℕ) (founding : Rules) (events : List Event) (settles : Bool) → reading key.Play bytes ≡ Ok (Play founding events settles)
-    → IsWithin founding events → length (done_of founding events settles) ≤ most_events → founding.resilience ≡ 0
+    → IsWithin founding events → length (done_of founding events settles) ≤ most_events
     → ReadsAs founding (done_of founding events settles) (text_of founding (done_of founding events settles))
-play_reads bytes founding events settles is within few none =
+play_reads bytes founding events settles is within few =
     let done = done_of founding events settles in
     let has = play_has bytes founding events settles is within in
-    runs_have_their_texts founding done (short founding done within.may_found has few) (of_bytes done has) none
+    runs_have_their_texts founding done (short founding done within.may_found has few) (of_bytes done has)
 
 pub play_agrees : (bytes : List ℕ) (founding : Rules) (events : List Event) (settles : Bool) → reading key.Play bytes ≡ Ok (Play founding events settles)
     → IsWithin founding events → length (done_of founding events settles) ≤ most_events → IsOfOneList founding (done_of founding events settles)
@@ -158,12 +158,12 @@ race_few : (plan : RacePlan) (journal : List Record) → IsRaced plan journal �
 race_few plan journal raced = let few = raced.few in omega (arith, length-map journal (λ (r : Record). r.event), few)
 
 pub race_reads : (bytes : List ℕ) (plan : RacePlan) (journal : List Record) → reading key.Race bytes ≡ Ok (Race plan) → RaceWithin plan → IsRaced plan journal
-    → plan.founding.resilience ≡ 0 → ReadsAs plan.founding (events_of journal) (race_text plan.founding (events_of journal))
-race_reads bytes plan journal is within raced none =
+    → ReadsAs plan.founding (events_of journal) (race_text plan.founding (events_of journal))
+race_reads bytes plan journal is within raced =
     let done = events_of journal in
     let has = race_has bytes plan journal is within raced in
     scripts_are_passed_over plan.founding done (of_bytes done has)
-    (runs_have_their_texts plan.founding done (short plan.founding done within.may_found has (race_few plan journal raced)) (of_bytes done has) none)
+    (runs_have_their_texts plan.founding done (short plan.founding done within.may_found has (race_few plan journal raced)) (of_bytes done has))
 
 pub race_agrees : (bytes : List ℕ) (plan : RacePlan) (journal : List Record) → reading key.Race bytes ≡ Ok (Race plan) → RaceWithin plan → IsRaced plan journal
     → IsOfOneList plan.founding (events_of journal) → AgreesAs plan.founding (events_of journal) (race_text plan.founding (events_of journal))

@@ -88,8 +88,8 @@ Repaired rules events = (place : ℕ) → place < 16 → MayRepair (run rules ev
     → HasCaughtUp ((run rules (done_of rules events true)).nodes name) (top ((run rules events).nodes (current (run rules events) place)))
 
 -- what was read is a script, what was written is shown of its run, which has at most 100,000 events, and that run keeps what is claimed; where it is
--- settled, it is repaired. Where the run's text was written, an audit reads it as that run where the group was founded without resilience; and where the
--- run is lawful, or nobody began a ballot, it does, and its verdict agrees
+-- settled, it is repaired. Where the run's text was written, an audit reads it as that run; and where the run is lawful, or nobody began a ballot, its
+-- verdict agrees
 pub record Played (what : Shown) (bytes text : List ℕ) : Type 0 where
   pub founding : Rules
   pub events : List Event
@@ -99,7 +99,7 @@ pub record Played (what : Shown) (bytes text : List ℕ) : Type 0 where
   pub few : length (done_of founding events settles) ≤ most_events
   pub keeps : Keeps founding (done_of founding events settles)
   pub repaired : settles ≡ true → Repaired founding events
-  pub reads : what ≡ shown.Text → founding.resilience ≡ 0 → ReadsAs founding (done_of founding events settles) text
+  pub reads : what ≡ shown.Text → ReadsAs founding (done_of founding events settles) text
   pub agrees : what ≡ shown.Text → IsOfOneList founding (done_of founding events settles) → AgreesAs founding (done_of founding events settles) text
 
 -- what was written is the summary of the run of two numbers, and that run keeps what is claimed
@@ -303,7 +303,7 @@ pub record Raced (bytes text : List ℕ) : Type 0 where
   pub written : text ≡ race_text plan.founding (events_of journal)
   pub again : reading key.Play (script_text plan.founding (events_of journal)) ≡ Ok (Play plan.founding (events_of journal) false)
   pub keeps : Keeps plan.founding (events_of journal)
-  pub reads : plan.founding.resilience ≡ 0 → ReadsAs plan.founding (events_of journal) text
+  pub reads : ReadsAs plan.founding (events_of journal) text
   pub agrees : IsOfOneList plan.founding (events_of journal) → AgreesAs plan.founding (events_of journal) text
 
 -- a text is that of a race that was read to the end of what was left
