@@ -1,8 +1,8 @@
 -- What the changes of anybody else keep while a schedule runs.
-use Rattle.am_repair.proofs.Words.{◌≡◌, ◌==◌, true, false, refl, sym, ap, ◌∙◌, subst, Stamp, Outcome, Node, Ballot, view, is_member, is_sequencer}
-use Rattle.am_repair.proofs.Words.{has_departed, overtake, World, Cause, HasOpen, Promises, invited, overtaken_by, told_result, Change, refreshes, settles}
-use Rattle.am_repair.proofs.Words.{takes_report, admits, numbers, begins_list, departs, promises, opens, looks, queues, collects, takes, asks_to_join}
-use Rattle.am_repair.proofs.Words.{asks_to_leave, closes, Repair, IsApart}
+use Rattle.am_repair.proofs.Words.{eqb-true, ◌≡◌, ◌==◌, true, false, refl, sym, ap, ◌∙◌, subst, Stamp, Outcome, Node, Ballot, view, is_member}
+use Rattle.am_repair.proofs.Words.{is_sequencer, has_departed, overtake, World, Cause, HasOpen, Promises, invited, overtaken_by, told_result, Change}
+use Rattle.am_repair.proofs.Words.{refreshes, settles, takes_report, admits, numbers, begins_list, departs, promises, opens, looks, queues, collects}
+use Rattle.am_repair.proofs.Words.{takes, asks_to_join, asks_to_leave, closes, Repair, IsApart}
 use Rattle.am_repair.proofs.{Nodes.CalmCause, Nodes.acting, Nodes.leading, Nodes.leads_not, Nodes.Alike, Nodes.alike_refresh, Nodes.alike_settle}
 use Rattle.am_repair.proofs.{Leading.no_ballot_begun, Leading.looked_open}
 
@@ -33,10 +33,10 @@ no_leader r m x by other h t =
 not_open : (r : Repair) (m x : Node) → StaysApart r m x → (b : Ballot) → HasOpen x b → ⊥
 not_open r m x h b o = let none = h.apart.no_ballot in let some = o.last in cc
 
-promised_view : (r : Repair) (w : World) (c : Cause) (x : Node) (v : Stamp) → CalmCause r w c → Promises c x v → v ≡ r.view
+pub promised_view : (r : Repair) (w : World) (c : Cause) (x : Node) (v : Stamp) → CalmCause r w c → Promises c x v → v ≡ r.view
 promised_view r w c x v calm (invited s v_ is heard own) = absurd (subst (CalmCause r w) is calm)
 promised_view r w c x v calm (overtaken_by s v_ vote is heard above) = absurd (subst (CalmCause r w) is calm)
-promised_view r w c x v calm (told_result s v_ base number names resilience is heard own other) = subst (CalmCause r w) is calm
+promised_view r w c x v calm (told_result s v_ base number names resilience is heard own other) = (subst (CalmCause r w) is calm) (eqb-true v.by s own)
 
 pub apart_change : (r : Repair) (w : World) (c : Cause) (o : Outcome) (m x y : Node) → r.view.by ≡ r.by → (m.core.who == r.by) ≡ false → CalmCause r w c
     → Change c o x y → StaysApart r m x → StaysApart r m y

@@ -1,10 +1,11 @@
 -- What a member's changes keep while a schedule runs.
-use Rattle.am_repair.proofs.Words.{not-false, same_stamp, ◌≡◌, ℕ, ◌+◌, ◌≤◌, ◌==◌, true, false, Option, Some, None, refl, sym, ap, ◌∙◌, subst, arith}
-use Rattle.am_repair.proofs.Words.{length-append, ◌≢◌, Stamp, Image, Entry, Data, Outcome, Log, top_of, told_by, entry_at, image_at, after, image-next, Node}
-use Rattle.am_repair.proofs.Words.{Ballot, top, image_of, is_sequencer, push_entry, is_unfinished, overtake, with_promise, is_view, bodies_after, World}
-use Rattle.am_repair.proofs.Words.{Cause, hears, Promises, invited, overtaken_by, told_result, Carries, whole_entry, by_number, Change, refreshes, settles}
-use Rattle.am_repair.proofs.Words.{takes_report, admits, numbers, stores, begins_list, departs, promises, opens, looks, fetches, stores_view, queues}
-use Rattle.am_repair.proofs.Words.{collects, takes, asks_to_join, asks_to_leave, closes, told_pushed, view_pushed, acts_pushed, Repair, Follows, Stands}
+use Rattle.am_repair.proofs.Words.{eqb-true, not-false, same_stamp, ◌≡◌, ℕ, ◌+◌, ◌≤◌, ◌==◌, true, false, Option, Some, None, refl, sym, ap, ◌∙◌}
+use Rattle.am_repair.proofs.Words.{subst, arith, length-append, ◌≢◌, Stamp, Image, Entry, Data, Outcome, Log, top_of, told_by, entry_at, image_at}
+use Rattle.am_repair.proofs.Words.{after, image-next, Node, Ballot, top, image_of, is_sequencer, push_entry, is_unfinished, overtake, with_promise}
+use Rattle.am_repair.proofs.Words.{is_view, bodies_after, World, Cause, hears, Promises, invited, overtaken_by, told_result, Carries, whole_entry}
+use Rattle.am_repair.proofs.Words.{by_number, Change, refreshes, settles, takes_report, admits, numbers, stores, begins_list, departs, promises}
+use Rattle.am_repair.proofs.Words.{opens, looks, fetches, stores_view, queues, collects, takes, asks_to_join, asks_to_leave, closes, told_pushed}
+use Rattle.am_repair.proofs.Words.{view_pushed, acts_pushed, Repair, Follows, Stands}
 use Rattle.am_packet.specs.declared.packet.Packet.TheVariants as packet
 use Rattle.am_repair.proofs.Nodes.{CalmCause, acting, leads_not, not_open, Alike, alike_here, alike_refresh, alike_settle, view_alike, acts_alike, rest_alike}
 use Rattle.am_repair.proofs.{Lists.entry_within, Lists.same_after, Leading.no_ballot_begun, Leading.looked_open, Leading.not_behind}
@@ -98,7 +99,7 @@ carried r w c x s v base acc number e calm (by_number from req body is there) =
     let k = subst (CalmCause r w) is calm in (Data from req k.0, k.1, λ image. same_after image number from req body k.0)
 
 -- a promise of its own view changes nothing
-overtaken_same : (v : Stamp) (o : Option Ballot) → is_unfinished o ≡ false → overtake v o ≡ o
+pub overtaken_same : (v : Stamp) (o : Option Ballot) → is_unfinished o ≡ false → overtake v o ≡ o
 overtaken_same v None h = refl
 overtaken_same v (Some b) h = let over = not-false b.is_over h in rw over refl
 
@@ -106,7 +107,7 @@ promised_same : (r : Repair) (w : World) (c : Cause) (q x : Node) (v : Stamp) �
 promised_same r w c q x v calm f (invited s v_ is heard own) = absurd (subst (CalmCause r w) is calm)
 promised_same r w c q x v calm f (overtaken_by s v_ vote is heard above) = absurd (subst (CalmCause r w) is calm)
 promised_same r w c q x v calm f (told_result s v_ base number names resilience is heard own other) =
-    let same : v ≡ r.view = subst (CalmCause r w) is calm in
+    let same : v ≡ r.view = (subst (CalmCause r w) is calm) (eqb-true v.by s own) in
     let promise = same ∙ sym f.view_ ∙ sym (acting x f.acts_).1 in
     alike_here x (with_promise x v) refl refl promise refl refl (overtaken_same v x.ballot f.rest.no_ballot) (omega arith) (omega arith)
 

@@ -1,15 +1,16 @@
 -- A calm world stays calm while a schedule runs.
-use Rattle.am_repair.proofs.Words.{not-false, ◌≡◌, ◌⊎◌, inl, inr, ℕ, ◌<◌, ◌==◌, not, Bool, true, false, if◌then◌else◌, Option, Some, None, refl, sym, ap, ◌∙◌}
-use Rattle.am_repair.proofs.Words.{Outcome, Rules, Letter, Event, is_for, letter_at, Status, Node, is_member, has_departed, Step, step, hear, event_at, World}
-use Rattle.am_repair.proofs.Words.{is_stopped, with_record, with_step, happens, hears_letter, Cause, calls, hears, Changes, no_change, changed, Effect, actor}
-use Rattle.am_repair.proofs.Words.{IsCause, tick, steps_have_effects, hearing_has_effects, HeardNames, HeardUsed, Along, along_changes, IsOurs, hears_}
-use Rattle.am_repair.proofs.Words.{Repair, Calm}
+use Rattle.am_repair.proofs.Words.{not-false, ◌≡◌, ◌⊎◌, inl, inr, ℕ, ◌<◌, ◌==◌, not, Bool, true, false, if◌then◌else◌, Option, Some, None, refl, sym}
+use Rattle.am_repair.proofs.Words.{ap, ◌∙◌, Outcome, Rules, Letter, Event, is_for, letter_at, Status, Node, is_member, has_departed, Step, step, hear}
+use Rattle.am_repair.proofs.Words.{event_at, World, is_stopped, with_record, with_step, happens, hears_letter, Cause, calls, hears, Changes}
+use Rattle.am_repair.proofs.Words.{no_change, changed, Effect, actor, IsCause, tick, steps_have_effects, hearing_has_effects, HeardNames, HeardUsed}
+use Rattle.am_repair.proofs.Words.{Along, along_changes, IsOurs, hears_, Repair, Calm}
 use Rattle.am_repair.specs.Rounds.{ticks}
 use Rattle.am_base.specs.declared.outcome.Outcome.TheVariants as said
 use Rattle.am_base.specs.declared.event.NodeEvent.TheVariants as does
 use Rattle.am_group.specs.declared.event.Act.TheVariants as act
 use Rattle.am_model.specs.declared.status.Status.TheVariants as status
 use Rattle.am_repair.proofs.{Nodes.CalmCause, Leading.Goes, Leading.lead_change, Leading.TellsTaken, Following.FollowsOn, Following.follow_change}
+use Rattle.am_repair.proofs.{Leaving.StaysLeft, Leaving.left_change}
 use Rattle.am_repair.proofs.{Apart.StaysApart, Apart.apart_change, Departed.IsStill, Departed.departed_ticks, Departed.departed_hears}
 
 -- ---- the events of a schedule
@@ -20,6 +21,7 @@ pub record OurStep (r : Repair) (w : World) (e : Event) (s : Step) : Type 0 wher
   pub calm : CalmCause r w cause
   pub is : IsCause w (actor w e) e.act cause
   pub effect : Effect (w.nodes (actor w e)) cause s
+  pub runs : is_stopped w (actor w e) ≡ false
   pub still : has_departed (w.nodes (actor w e)).status ≡ true → IsStill (w.nodes (actor w e)) s
 
 pub data Ours (r : Repair) (w : World) (e : Event) : World → Type 0 where
@@ -41,6 +43,7 @@ our_tick r w place =
       calm = tt;
       is = tick;
       effect = steps_have_effects m does.Tick;
+      runs = f;
       still = departed_ticks m;
     }))
 
@@ -57,6 +60,7 @@ our_letter r w place number (Some l) is late h =
       calm = h.letters number l late is;
       is = record { letter = l; there = is; addressed = not-false _ f; is = refl };
       effect = hearing_has_effects m l.packet;
+      runs = g;
       still = departed_hears m l.packet;
     })))
 
@@ -85,6 +89,10 @@ pub apart_changes : (r : Repair) (w : World) {c : Cause} {o : Outcome} (m x y : 
 apart_changes r w m x y by other calm no_change h = h
 apart_changes r w m x y by other calm (changed {n = z} one more) h = apart_changes r w m z y by other calm more
     (apart_change r w _ _ m x z by other calm one h)
+
+pub left_changes : (r : Repair) (w : World) {c : Cause} {o : Outcome} (m x y : Node) → CalmCause r w c → Changes c o x y → StaysLeft r m x → StaysLeft r m y
+left_changes r w m x y calm no_change h = h
+left_changes r w m x y calm (changed {n = z} one more) h = left_changes r w m z y calm more (left_change r w _ _ m x z calm one h)
 
 -- ---- who sends is the node after the step
 

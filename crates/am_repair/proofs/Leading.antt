@@ -1,16 +1,18 @@
 -- What the sequencer's changes keep while a schedule runs.
-use Rattle.am_repair.proofs.Words.{with_send, by_ack, by_nack, by_request, by_spread, by_leave_ask, base_low, stamp_itself, same_stamp, has_in, inl, inr, ◌-◌}
-use Rattle.am_repair.proofs.Words.{◌≡◌, ℕ, ◌+◌, ◌≤◌, ◌==◌, true, false, Some, refl, sym, ap, ◌∙◌, subst, arith, length-append, length, All, cases_lt, Join}
-use Rattle.am_repair.proofs.Words.{nat_tests, Stamp, Image, Report, Entry, Outcome, has, names_of, stamp_eq, Log, top_of, told_by, members_of, members_at}
-use Rattle.am_repair.proofs.Words.{entry_at, fits, image_at, counted_at, CoreState, accept, pass_over, since_accepted, image-top, IsUsed, used_fold}
-use Rattle.am_repair.proofs.Words.{member_row, least_taken, own_report, tell, go_on, let_go, Node, Ballot, top, image_of, view, members, acts, is_member}
-use Rattle.am_repair.proofs.Words.{push_entry, with_report, lead, refresh, settle, with_admitted, World, split, and_both, Cause, BringsReport, HasOpen}
-use Rattle.am_repair.proofs.Words.{BeginsBy, by_reset, by_hand_over, Balloting, with_more, without_one, as_it_is, Promises, invited, overtaken, told_result}
-use Rattle.am_repair.proofs.Words.{Numbers, asked_send, own_send, asked_join, asked_leave, Change, refreshes, settles, takes_report, admits, numbers}
-use Rattle.am_repair.proofs.Words.{keeps_body, notes, stores, begins_list, departs, promises, opens, looks, fetches, stores_view, queues, collects, takes}
-use Rattle.am_repair.proofs.Words.{asks_to_join, asks_to_leave, closes, settle_is, told_pushed, view_pushed, leads_pushed, JoinsFit, least_within, Fronts}
-use Rattle.am_repair.proofs.Words.{told_used, after_same, Repair, Leads, ReportIs}
+use Rattle.am_repair.proofs.Words.{with_send, by_ack, by_nack, by_request, by_spread, by_leave_ask, base_low, stamp_itself, same_stamp, has_in, inl}
+use Rattle.am_repair.proofs.Words.{inr, ◌-◌, ◌≡◌, ℕ, ◌+◌, ◌≤◌, ◌==◌, true, false, Some, refl, sym, ap, ◌∙◌, subst, arith, length-append, length, All}
+use Rattle.am_repair.proofs.Words.{cases_lt, Join, nat_tests, Stamp, Image, Report, Entry, Outcome, has, names_of, stamp_eq, Log, top_of, told_by}
+use Rattle.am_repair.proofs.Words.{members_of, members_at, entry_at, fits, image_at, counted_at, CoreState, accept, pass_over, since_accepted}
+use Rattle.am_repair.proofs.Words.{image-top, IsUsed, used_fold, member_row, least_taken, own_report, tell, go_on, let_go, Node, Ballot, top}
+use Rattle.am_repair.proofs.Words.{image_of, view, members, acts, is_member, push_entry, with_report, lead, refresh, settle, with_admitted, World}
+use Rattle.am_repair.proofs.Words.{split, and_both, Cause, BringsReport, HasOpen, BeginsBy, by_reset, by_hand_over, Balloting, with_more, without_one}
+use Rattle.am_repair.proofs.Words.{as_it_is, Promises, invited, overtaken, told_result, Numbers, asked_send, own_send, asked_join, asked_leave}
+use Rattle.am_repair.proofs.Words.{Change, refreshes, settles, takes_report, admits, numbers, keeps_body, notes, stores, begins_list, departs}
+use Rattle.am_repair.proofs.Words.{promises, opens, looks, fetches, stores_view, queues, collects, takes, asks_to_join, asks_to_leave, closes}
+use Rattle.am_repair.proofs.Words.{settle_is, told_pushed, view_pushed, leads_pushed, JoinsFit, least_within, Fronts, told_used, after_same, eqb-true}
+use Rattle.am_repair.proofs.Words.{Repair, Leads, ReportIs, is_past}
 use Rattle.am_repair.proofs.Lists.{LogGrows, grows_then, grows_push, counted_stays, IsJoinOrData, is_data, is_join, plain, member_after}
+use Rattle.am_repair.proofs.Lists.{past_stays, past_left}
 use Rattle.am_repair.proofs.Nodes.{CalmCause, acting, leading, not_open, Alike, alike_here, alike_refresh, alike_settle, view_alike, leads_alike, rest_alike}
 use Rattle.am_repair.proofs.Ends.{follows, refreshed_stay, raise_up}
 
@@ -48,6 +50,7 @@ leads_as r m n a h =
       fit = subst (λ (l : Log). (k : ℕ) (e : Entry) → k ≤ r.high → entry_at l k ≡ Some e → fits (image_at l (k - 1)) e ≡ true) (sym a.log) h.fit;
       members_ = subst (λ (l : Log). (name k : ℕ) → has r.members name ≡ true → r.high ≤ k → k ≤ top_of l → has (members_at l k) name ≡ true)
           (sym a.log) h.members_;
+      gone = subst (λ (l : Log). (name : ℕ) → r.gone name ≡ true → is_past (told_by l) name ≡ true) (sym a.log) h.gone;
       counted = λ k above within view. subst (λ (l : Log). All (λ name. has r.members name ≡ true) (names_of (counted_at l k))) (sym a.log)
           (h.counted k (omega arith) within view);
     }
@@ -129,7 +132,7 @@ told_taken r w c s v report (with_send s_ v_ report_ req body (by_request s1 v1 
 told_taken r w c s v report (with_send s_ v_ report_ req body (by_spread s1 v1 report1 req1 body1)) h = h
 told_taken r w c s v report (by_ack s_ v_ report_) h = h
 told_taken r w c s v report (by_nack s_ v_ report_) h = h
-told_taken r w c s v report (by_leave_ask s_ v_ report_) h = absurd h
+told_taken r w c s v report (by_leave_ask s_ v_ report_) h = h.1
 
 pub trusts_report : (r : Repair) (taken : ℕ → ℕ) (m : Node) (s : ℕ) (report : Report) → (has r.members s ≡ true → report.taken ≤ taken s)
     → Trusts r taken m → Trusts r taken (with_report m s report)
@@ -172,11 +175,13 @@ admitted_stay r m s h f fit name there = split (name == s)
 
 -- ---- an entry more
 
-numbered_plain : (r : Repair) (w : World) (c : Cause) (m : Node) (e : Entry) → CalmCause r w c → Numbers c m e → IsJoinOrData (image_of m) e
-numbered_plain r w c m e h (asked_send s v report req body by known left next) = is_data s req body
-numbered_plain r w c m e h (own_send s is last) = is_data m.core.who s.req s.body
-numbered_plain r w c m e h (asked_join s v is other fit) = is_join s fit
-numbered_plain r w c m e h (asked_leave s v report is other known stays) = absurd (subst (CalmCause r w) is h)
+-- no Leave: who asks to leave has left
+numbered_plain : (r : Repair) (w : World) (c : Cause) (m : Node) (e : Entry) → CalmCause r w c → Leads r m → Numbers c m e → IsJoinOrData (image_of m) e
+numbered_plain r w c m e h l (asked_send s v report req body by known left next) = is_data s req body
+numbered_plain r w c m e h l (own_send s is last) = is_data m.core.who s.req s.body
+numbered_plain r w c m e h l (asked_join s v is other fit) = is_join s fit
+numbered_plain r w c m e h l (asked_leave s v report is other known stays) = absurd
+    (let k = subst (CalmCause r w) is h in past_left (image_of m) s (l.gone s k.0) known stays)
 
 -- what a list told up to a number it tells when it goes on
 fit_on : (r : Repair) (a b : Log) → r.high ≤ top_of a → LogGrows a b → ((k : ℕ) (e : Entry) → k ≤ r.high → entry_at a k ≡ Some e
@@ -207,6 +212,8 @@ leads_pushed_ r m e f joins h =
             ap (λ (i : Image). has (members_of i) name) (ap (image_at (push_entry m e).core.log) last ∙ image-top (push_entry m e).core.log ∙ image)
             ∙ member_after (image_of m) (top m + 1) e name used.places joins (is_member_now r m name h there))
       ];
+      gone = λ name t. subst (λ (i : Image). is_past i name ≡ true) (sym image)
+          (past_stays (image_of m) (top m + 1) e name used.places (omega arith) joins (h.gone name t));
       counted = λ k above within view. subst (λ set. All (λ name. has r.members name ≡ true) (names_of set))
           (sym (counted_stays m.core.log (push_entry m e).core.log k grows (omega arith))) (h.counted k above within view);
     }
@@ -233,7 +240,7 @@ no_promise : (r : Repair) (w : World) (c : Cause) (m : Node) (v : Stamp) → r.v
 no_promise r w c m v by h (invited s v_ is heard own) = subst (CalmCause r w) is h
 no_promise r w c m v by h (overtaken s v_ vote is heard above) = subst (CalmCause r w) is h
 no_promise r w c m v by h (told_result s v_ base number names resilience is heard own other) =
-    let same : v ≡ r.view = subst (CalmCause r w) is h in
+    let same : v ≡ r.view = (subst (CalmCause r w) is h) (eqb-true v.by s own) in
     let w_ : v.by ≡ m.core.who = ap (λ (x : Stamp). x.by) same ∙ by in
     let z : ⊥ = grind (arith, nat_tests) in z
 
@@ -269,7 +276,7 @@ lead_change r taken w q c o m n by calm tells f (takes_report s v report brings 
     (trusts_report r _ m s report (tells s v report brings) h.trusts) h
 lead_change r taken w q c o m n by calm tells f (admits s v is leads fit) h = goes_as r _ q m n
     (alike_here m n refl refl refl refl refl refl (omega arith) (omega arith)) (admitted_stay r m s h.leads f fit) (trusts_admitted r _ m s h.trusts) h
-lead_change r taken w q c o m n by calm tells f (numbers e leads room why) h = goes_pushed r _ q m e f (numbered_plain r w c m e calm why) h
+lead_change r taken w q c o m n by calm tells f (numbers e leads room why) h = goes_pushed r _ q m e f (numbered_plain r w c m e calm h.leads why) h
 lead_change r taken w q c o m n by calm tells f (keeps_body s v report req body is heard) h =
     goes_as r _ q m n (alike_here m n refl refl refl refl refl refl (omega arith) (omega arith)) (λ name there. omega arith)
     (record { base = h.trusts.base; reported = h.trusts.reported }) h

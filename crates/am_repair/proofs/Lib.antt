@@ -10,6 +10,8 @@ pub mod Nodes
 pub mod Leading
 pub mod Following
 pub mod Apart
+pub mod Leaving
+pub mod Silent
 pub mod Departed
 pub mod Saying
 pub mod Going
@@ -30,7 +32,7 @@ pub mod ReportedRuns
 pub mod Knowing
 pub mod KnownRuns
 pub mod OldLives
+pub mod Leavers
 pub mod Beginning
 pub mod OneLists
-pub mod Lawfully
 pub mod Claims

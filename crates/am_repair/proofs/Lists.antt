@@ -1,8 +1,10 @@
 -- A list that goes on tells what it told, and what it tells after an entry more.
 use Rattle.am_repair.proofs.Words.{has_in, ◌≡◌, ℕ, zero, suc, ◌-◌, ◌<◌, ◌≤◌, nat_le, true, false, List, [], ◌∷◌, length, Some, refl, ap, ◌∙◌, arith}
-use Rattle.am_repair.proofs.Words.{length-append, nat_tests, slice_get_within, Entry, Data, Join, Image, has, Log, top_of, entry_at, image_at, members_of}
-use Rattle.am_repair.proofs.Words.{after, fits, with_entry, counted_of, counted_at, get_before, image-push, long_after, in_after, is_view, split, in_is}
-use Rattle.am_repair.proofs.Words.{data_member}
+use Rattle.am_repair.proofs.Words.{length-append, nat_tests, slice_get_within, Entry, Data, Join, Image, has, Log, top_of, entry_at, image_at}
+use Rattle.am_repair.proofs.Words.{members_of, after, fits, with_entry, counted_of, counted_at, get_before, image-push, long_after, in_after, is_view}
+use Rattle.am_repair.proofs.Words.{split, in_is, data_member, inl, inr, ⊎_elim, ◌&&◌, ◌||◌, ◌==◌, nat_lt, Bool, Row, place_of, life_of, at_place}
+use Rattle.am_repair.proofs.Words.{row_of, row_at, Past, past_after, is_past, mod16}
+use Rattle.am_chain_lists.proofs.Rows.{set_keeps}
 
 -- ---- a list that goes on
 
@@ -80,3 +82,51 @@ member_after image number e name long (is_data from req body) member = data_memb
     (long_after image number e long) member
 member_after image number e name long (is_join joiner fit) member =
     in_is (after image number e) name (long_after image number e long) (in_after image number e name long fit tt (has_in image name long member))
+
+-- ---- whose membership has ended
+
+abbrev ended : Row → ℕ → Bool
+ended r life = nat_lt 0 r.joined && (nat_lt life r.life || ((r.life == life) && nat_lt 0 r.left))
+
+row_past : (r : Row) (life : ℕ) → ended r life ≡ true → Past r life
+row_past r life h = record {
+  joined = grind (arith, nat_tests);
+  gone = split (nat_lt life r.life)
+      (λ t. inl (grind (arith, nat_tests)))
+      (λ f. inr (grind (arith, nat_tests), grind (arith, nat_tests)));
+}
+
+past_row : (r : Row) (life : ℕ) → Past r life → ended r life ≡ true
+past_row r life h = let joined = h.joined in ⊎_elim
+    (λ (x : life < r.life). grind (arith, nat_tests))
+    (λ (x : (r.life ≡ life) × (0 < r.left)). let same = x.0 in let left = x.1 in grind (arith, nat_tests))
+    h.gone
+
+pub past_is : (image : Image) (name : ℕ) → is_past image name ≡ true → Past (row_at image (place_of name)) (life_of name)
+past_is image name h = row_past (row_at image (place_of name)) (life_of name) h
+
+pub is_past_by : (image : Image) (name : ℕ) → Past (row_at image (place_of name)) (life_of name) → is_past image name ≡ true
+is_past_by image name h = past_row (row_at image (place_of name)) (life_of name) h
+
+data_past : (image : Image) (number from req : ℕ) (body : List ℕ) (name : ℕ) → length image.rows ≡ 16 → Past (row_at image (place_of name)) (life_of name)
+    → Past (row_at (after image number (Data from req body)) (place_of name)) (life_of name)
+unfolding after
+data_past image number from req body name long h = split ((at_place image from).life == life_of from)
+    (λ t. rw t (set_keeps (λ r. Past r (life_of name)) image from (place_of name) (record (at_place image from) { last = req }) long
+    (λ is x. record { joined = x.joined; gone = x.gone }) h))
+    (λ f. rw f h)
+
+-- it stays so
+pub past_stays : (image : Image) (number : ℕ) (e : Entry) (name : ℕ) → length image.rows ≡ 16 → 0 < number → IsJoinOrData image e → is_past image name ≡ true
+    → is_past (after image number e) name ≡ true
+past_stays image number e name long up (is_data from req body) h =
+    is_past_by (after image number e) name (data_past image number from req body name long (past_is image name h))
+past_stays image number e name long up (is_join joiner fit) h =
+    is_past_by (after image number e) name (past_after image number e (place_of name) (life_of name) long (mod16 name) up fit (past_is image name h))
+
+-- its own Leave isn't asked for
+pub past_left : (image : Image) (name : ℕ) → is_past image name ≡ true → ((row_of image name).joined == 0) ≡ false
+    → ((row_of image name).left == 0) ≡ true → ⊥
+past_left image name h known stays = split ((at_place image name).life == life_of name)
+    (λ t. let j = rw t at known in let l = rw t at stays in let z : ⊥ = grind (arith, nat_tests) in z)
+    (λ f. let j : (0 == 0) ≡ false = rw f at known in cc)

@@ -1,12 +1,14 @@
 -- In each run a name whose place has a greater life has stopped.
 use Rattle.am_repair.proofs.Words.{◌≡◌, ℕ, ◌+◌, ◌<◌, ◌==◌, true, false, List, [], ◌∷◌, ◌++◌, refl, sym, ap, ◌∙◌, subst, arith, list_any, nat_tests}
-use Rattle.am_repair.proofs.Words.{list_any-append, Rules, place_of, life_of, Event, World, start, current, is_stopped, with_record, with_step, run, split}
-use Rattle.am_repair.proofs.Words.{actor, idles, stops, returns, steps, EachKeeps, runs_keep}
-use Rattle.am_repair.proofs.Lawfully.{with_more}
+use Rattle.am_repair.proofs.Words.{list_any-append, Rules, place_of, life_of, Event, World, start, current, is_stopped, with_record, with_step, run}
+use Rattle.am_repair.proofs.Words.{split, actor, idles, stops, returns, steps, EachKeeps, runs_keep}
 
 pub record OldStopped (w : World) : Type 0 where
   pub born : (place : ℕ) → 0 < w.lives place
   pub old : (name : ℕ) → life_of name < w.lives (place_of name) → is_stopped w name ≡ true
+
+with_more : (xs ys : List ℕ) (name : ℕ) → list_any (λ x. x == name) xs ≡ true → list_any (λ x. x == name) (xs ++ ys) ≡ true
+with_more xs ys name there = list_any-append (λ x. x == name) xs ys ∙ rw there refl
 
 last_there : (xs : List ℕ) (name : ℕ) → list_any (λ x. x == name) (xs ++ name ∷ []) ≡ true
 last_there xs name =

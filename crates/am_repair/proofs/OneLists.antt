@@ -1,13 +1,16 @@
 -- What one list of a group gives: each member's list tells what the sequencer's tells up to there.
 use Rattle.am_repair.proofs.Words.{◌≡◌, max, ◌⊎◌, inl, inr, ⊎_elim, ℕ, zero, suc, ◌+◌, ◌-◌, ◌<◌, ◌≤◌, nat_le, true, List, [], ◌∷◌, length, take, Some}
-use Rattle.am_repair.proofs.Words.{slice_get, refl, sym, ap, ◌∙◌, arith, length-append, subst, cases_lt, nat_tests, take-append-add, Image, Entry, Data, Join}
-use Rattle.am_repair.proofs.Words.{Leave, View, has, entry_at, image_at, blank, fold, after, fits, members_of, fit_at, IsGood, mem, view_of, key, fold_append}
-use Rattle.am_repair.proofs.Words.{good_begins, begins_length, begins_take, length_take, take_begins, begins_both, begins_push, view_up, view_below}
-use Rattle.am_repair.proofs.Words.{get_behind, Node, top, image_of, view, members, World, split, current, run, slice_get_within, Fronts, run_owned}
-use Rattle.am_repair.proofs.Words.{after_same, IsBeginning, Agrees, OneListAgrees}
+use Rattle.am_repair.proofs.Words.{slice_get, refl, sym, ap, ◌∙◌, arith, length-append, subst, cases_lt, nat_tests, take-append-add, Image, Entry}
+use Rattle.am_repair.proofs.Words.{Data, Join, Leave, View, has, entry_at, image_at, blank, fold, after, fits, members_of, fit_at, IsGood, mem}
+use Rattle.am_repair.proofs.Words.{view_of, key, fold_append, good_begins, begins_length, begins_take, length_take, take_begins, begins_both}
+use Rattle.am_repair.proofs.Words.{begins_push, view_up, view_below, get_behind, Node, top, image_of, view, members, World, split, current, run}
+use Rattle.am_repair.proofs.Words.{slice_get_within, Fronts, run_owned, false, false_from_ne_true, is_member, is_stopped, Rules, MayFound, Event}
+use Rattle.am_repair.proofs.Words.{MayRepair, is_past, after_same, IsBeginning, Agrees, HasLeft, OneListAgrees}
+use Rattle.am_repair.specs.Standing.{IsOneList}
 use Rattle.am_chain_lists.specs.Whole as whole
 use Rattle.am_play.specs.Lawful as lists
-use Rattle.am_repair.proofs.{Nodes.acting, Nodes.leading, ReportedRuns.known_is_taken, Beginning.few_acting, Lists.entry_within}
+use Rattle.am_repair.proofs.{Nodes.acting, Nodes.leading, ReportedRuns.known_is_taken, Beginning.few_acting, Beginning.out_at_top}
+use Rattle.am_repair.proofs.{Beginning.member_runs, Going.member_there, Lists.entry_within}
 
 -- ---- a node's whole list
 
@@ -170,6 +173,25 @@ agrees w q m good own h same fq fm trimmed_ known =
       reported = omega arith;
     }
 
+-- a leaver has left it
+has_left : (rules : Rules) (events : List Event) (place name : ℕ) → MayFound rules → MayRepair (run rules events) place
+    → (let w = run rules events in let q = w.nodes (current w place) in q.core.acc ≤ top q → IsOneList w q → IsBeginning w q q
+    → has (members q) q.core.who ≡ true → is_member (w.nodes name).status ≡ true → is_stopped w name ≡ false → (w.nodes name).leaving ≡ true
+    → HasLeft q (w.nodes name))
+has_left rules events place name may repair low one own itself member goes leaves =
+    let w = run rules events in
+    let q = w.nodes (current w place) in
+    let m = w.nodes name in
+    let who = (run_owned rules events may).blanks.base.named.who name in
+    let none = out_at_top w q name low (repair.nobody_leaves name leaves) (member_there m member) in
+    let no_member = false_from_ne_true (mem (lists.whole w q) name) (λ t. (let in_ = listed_is w q name own t in cc)) in
+    record {
+      past = subst (λ i. is_past (image_of q) i ≡ true) (sym who)
+          (ap (λ (i : Image). is_past i name) (sym (whole_told w q q own)) ∙ one.past name member goes no_member);
+      tells = λ t mine. (let same = one.tells name member goes t mine in
+          let in_ = subst (λ i. has (members q) i ≡ true) (sym same) itself in cc);
+    }
+
 pub one_list_agrees : OneListAgrees
 one_list_agrees rules events place may low repair one settled_ =
     let w = run rules events in
@@ -177,9 +199,12 @@ one_list_agrees rules events place may low repair one settled_ =
     let q = w.nodes by in
     let laws = run_owned rules events may in
     let acts_ = (leading q repair.leads).0 in
-    let own = one.each by (acting q acts_).0 in
     let few = few_acting rules w by laws acts_ in
     let leads = (laws.each by few).fronts in
+    let itself = (laws.each by few).leads repair.leads in
+    let goes : (name : ℕ) → has (members q) name ≡ true → is_stopped w name ≡ false = λ name there. member_runs w place name repair leads.accepted there in
+    let here = subst (λ i. has (members q) i ≡ true) (laws.blanks.base.named.who by) itself in
+    let own = one.each by (acting q acts_).0 (goes by here) in
     record {
       each = λ name there.
           (let act = repair.all_act name there in
@@ -187,9 +212,10 @@ one_list_agrees rules events place may low repair one settled_ =
           let low_ = few_acting rules w name laws act.0 in
           let who = laws.blanks.base.named.who name in
           let known = known_is_taken rules events by name may few low_ in
-          agrees w q m one.good own (one.each name (acting m act.0).0) act.1 leads (laws.each name low_).fronts (settled_.trims name there)
-          (subst (λ i. (q.reports i).taken ≤ max q.core.base m.core.taken) (sym who) known));
-      alone = λ name member. listed_is w q name own (one.listed name member);
+          agrees w q m one.good own (one.each name (acting m act.0).0 (goes name there)) act.1 leads (laws.each name low_).fronts
+          (settled_.trims name there) (subst (λ i. (q.reports i).taken ≤ max q.core.base m.core.taken) (sym who) known));
+      alone = λ name member runs stays. listed_is w q name own (one.listed name member runs stays);
+      left = λ name member runs leaves. has_left rules events place name may repair leads.accepted one own itself member runs leaves;
       fit = λ number e there. fits_there w q number e one.good own there;
       counted = settled_.counted;
     }

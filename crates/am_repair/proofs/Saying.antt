@@ -1,8 +1,8 @@
 -- The letters that a schedule's steps send.
-use Rattle.am_repair.proofs.Words.{◌≡◌, ℕ, suc, ◌+◌, ◌-◌, ◌≤◌, nat_le, true, false, List, Some, slice_get, sym, ap, ◌∙◌, subst, arith, nat_tests, Report}
-use Rattle.am_repair.proofs.Words.{Entry, Data, has, Log, entry_at, Packet, Node, Ballot, top, is_sequencer, report_of, is_unfinished, next_stamp, World}
-use Rattle.am_repair.proofs.Words.{Cause, MayInvite, has_begun, goes_on, MayTell, leads, decided, Says, bcast, order, welcome, leave_ask, invite, vote}
-use Rattle.am_repair.proofs.Words.{result, hand_over, Repair, ReportIs, Stands, IsCalm}
+use Rattle.am_repair.proofs.Words.{◌≡◌, ℕ, suc, ◌+◌, ◌-◌, ◌≤◌, nat_le, true, false, List, Some, slice_get, sym, ap, ◌∙◌, subst, arith, nat_tests}
+use Rattle.am_repair.proofs.Words.{Report, Entry, Data, has, Log, entry_at, Packet, Node, Ballot, top, is_sequencer, report_of, is_unfinished}
+use Rattle.am_repair.proofs.Words.{next_stamp, World, Cause, MayInvite, has_begun, goes_on, MayTell, Says, bcast, order, welcome, leave_ask, invite}
+use Rattle.am_repair.proofs.Words.{vote, result, hand_over, Repair, ReportIs, Stands, IsCalm}
 use Rattle.am_effects.specs.Letters.{request, spread, ack, nack}
 use Rattle.am_packet.specs.declared.packet.Packet.TheVariants as packet
 use Rattle.am_effects.specs.Letters as letters
@@ -36,7 +36,7 @@ calm_stays r w v (packet.Order s v_ base acc number from req) g h = (h.0, stands
 calm_stays r w v (packet.Ack s v_ report) g h = report_stays r w v s report g h
 calm_stays r w v (packet.Nack s v_ report) g h = report_stays r w v s report g h
 calm_stays r w v (packet.Welcome s v_ base join image) g h = h
-calm_stays r w v (packet.LeaveAsk s v_ report) g h = h
+calm_stays r w v (packet.LeaveAsk s v_ report) g h = (h.0, report_stays r w v s report g h.1)
 calm_stays r w v (packet.Invite s v_) g h = h
 calm_stays r w v (packet.Vote s v_ vote_) g h = h
 calm_stays r w v (packet.Result s v_ base number names resilience) g h = h
@@ -48,11 +48,12 @@ calm_stays r w v _ g h = tt
 -- a name's step, from a node to one that stands in the world after it
 pub record Sends (r : Repair) (v : World) (m n : Node) : Type 0 where
   pub node : v.nodes n.core.who ≡ n
-  pub stays : n.leaving ≡ false
+  pub leaves : n.leaving ≡ true → r.gone n.core.who ≡ true
   pub no_ballot : is_unfinished m.ballot ≡ false
   pub begins_none : (b : Ballot) → n.ballot ≡ Some b → n.core.promise ≡ next_stamp m → ⊥
-  pub decides_own : (b : Ballot) → n.ballot ≡ Some b → n.core.promise ≡ r.view
+  pub tells : MayTell n → n.core.promise.by ≡ n.core.who → n.core.promise ≡ r.view
   -- only one leads
+  pub stays : is_sequencer n ≡ true → n.leaving ≡ false
   pub own : is_sequencer n ≡ true → n.core.who ≡ r.by
   pub promise : is_sequencer n ≡ true → n.core.promise ≡ r.view
   pub base : is_sequencer n ≡ true → n.core.log.start ≤ m.core.base
@@ -82,10 +83,6 @@ not_invited : (r : Repair) (v : World) (m n : Node) → Sends r v m n → MayInv
 not_invited r v m n h (has_begun b is next) = h.begins_none b is next
 not_invited r v m n h (goes_on b open_) = not_open m b open_ h.no_ballot
 
-told_view : (r : Repair) (v : World) (m n : Node) → Sends r v m n → MayTell n → n.core.promise ≡ r.view
-told_view r v m n h (leads t) = h.promise t
-told_view r v m n h (decided b number names is answer same) = h.decides_own b is
-
 pub says_calm : (r : Repair) (w v : World) (m n : Node) (c : Cause) (to : List ℕ) (p : Packet) → CalmCause r w c → Sends r v m n → Says m c n to p
     → IsCalm r v p
 says_calm r w v m n c to p calm h (request _ req body a f s) = report_sent r v m n h
@@ -95,9 +92,9 @@ says_calm r w v m n c to p calm h (order _ number from req v_ report body is l s
 says_calm r w v m n c to p calm h (ack _ a) = report_sent r v m n h
 says_calm r w v m n c to p calm h (nack _ a) = report_sent r v m n h
 says_calm r w v m n c to p calm h (welcome s l may) = h.promise l
-says_calm r w v m n c to p calm h (leave_ask _ a leaves) = absurd (let s = h.stays in cc)
+says_calm r w v m n c to p calm h (leave_ask _ a leaves) = (h.leaves leaves, report_sent r v m n h)
 says_calm r w v m n c to p calm h (invite _ may) = absurd (not_invited r v m n h may)
 says_calm r w v m n c to p calm h (vote s v_ is) = absurd (subst (CalmCause r w) is calm)
-says_calm r w v m n c to p calm h (result _ number names is viewed may) = told_view r v m n h may
-says_calm r w v m n c to p calm h (hand_over _ l leaves) = absurd (let s = h.stays in cc)
+says_calm r w v m n c to p calm h (result _ number names is viewed may) = h.tells may
+says_calm r w v m n c to p calm h (hand_over _ l leaves) = absurd (let s = h.stays l in cc)
 says_calm r w v m n c to p calm h _ = tt

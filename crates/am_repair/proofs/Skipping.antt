@@ -1,18 +1,19 @@
 -- What ticks send is no next entry of a member that has less than the sequencer's list began with.
-use Rattle.am_repair.proofs.Words.{eqb-true, not-false, ◌≡◌, ◌⊎◌, inl, ⊎_elim, ℕ, ◌+◌, ◌<◌, ◌==◌, not, nat_le, Bool, true, false, if◌then◌else◌, List, []}
-use Rattle.am_repair.proofs.Words.{length, Option, Some, None, slice_get, refl, sym, ap, ◌∙◌, subst, arith, All, All-nil, Stamp, Data, Outcome, Rules, has}
-use Rattle.am_repair.proofs.Words.{entry_at, Packet, Letter, letter_at, OwnSend, Status, Node, top, image_of, view, acts, others, only_name, is_sequencer}
-use Rattle.am_repair.proofs.Words.{has_room, waiting, has_departed, Plan, quiet, telling, bcast_of, ack_of, fetch_of, request_of, spread_of, join_ask_of}
-use Rattle.am_repair.proofs.Words.{accept_of, result_of, tells_accepted, with_accept, finish, step, row, is_unfinished, would_emit, emit, everywhere_else}
-use Rattle.am_repair.proofs.Words.{tick_row, tick_by, tick_acting, and_result, put_off, behind_view, viewed_by, event_at, running, ticks, World, is_stopped}
-use Rattle.am_repair.proofs.Words.{with_record, with_step, happens, happen, split, Cause, calls, hears, refuses, actor, IsCause, all_letter, all_get}
-use Rattle.am_repair.proofs.Words.{IsAtRest, Repair, our_ticks}
+use Rattle.am_repair.proofs.Words.{eqb-true, not-false, ◌≡◌, ◌⊎◌, inl, ⊎_elim, ℕ, ◌+◌, ◌<◌, ◌==◌, not, nat_le, Bool, true, false, if◌then◌else◌, List}
+use Rattle.am_repair.proofs.Words.{[], length, Option, Some, None, slice_get, refl, sym, ap, ◌∙◌, subst, arith, All, All-nil, Stamp, Data, Outcome}
+use Rattle.am_repair.proofs.Words.{Rules, has, entry_at, Packet, Letter, letter_at, OwnSend, Status, Node, top, image_of, view, acts, others}
+use Rattle.am_repair.proofs.Words.{only_name, is_sequencer, has_room, waiting, has_departed, Plan, quiet, telling, bcast_of, ack_of, fetch_of}
+use Rattle.am_repair.proofs.Words.{request_of, spread_of, join_ask_of, accept_of, result_of, tells_accepted, with_accept, finish, step, row}
+use Rattle.am_repair.proofs.Words.{is_unfinished, would_emit, emit, everywhere_else, tick_row, tick_by, tick_acting, and_result, put_off, behind_view}
+use Rattle.am_repair.proofs.Words.{viewed_by, event_at, running, ticks, World, is_stopped, with_record, with_step, happens, happen, split, Cause}
+use Rattle.am_repair.proofs.Words.{calls, hears, refuses, actor, IsCause, all_letter, all_get, inr, Repair, IsApart, IsLeaver, our_ticks}
+use Rattle.am_model.specs.Emit.{leave_ask_of}
 use Rattle.am_base.specs.declared.event.NodeEvent.TheVariants as does
 use Rattle.am_base.specs.declared.outcome.Outcome.TheVariants as said
 use Rattle.am_group.specs.declared.event.Act.TheVariants as act
 use Rattle.am_model.specs.declared.status.Status.TheVariants as status
 use Rattle.am_repair.proofs.{Schedules.letter_within, Schedules.acts_keep, Nodes.acting, Nodes.leading, Nodes.leads_not, Following.Skips}
-use Rattle.am_repair.proofs.{Departed.departed_ticks, Ticks.without_ballot, Ticks.goes_not, Steps.letter_either, Steps.ours_skip, Fine.Fine, Fine.fine_goes}
+use Rattle.am_repair.proofs.{Leaving.leads_not as leads_not_left, Departed.departed_ticks, Ticks.without_ballot, Ticks.goes_not, Steps.letter_either, Steps.ours_skip, Fine.Fine, Fine.fine_goes}
 
 -- ---- letters that are no next entry
 
@@ -59,7 +60,7 @@ emit_skips high m (Some s) o far =
     })
     (λ t. skips_quiet high m o)))
 
-acting_skips : (high : ℕ) (m : Node) → m.leaving ≡ false → (is_sequencer m ≡ true → high < top m) → PlanSkips high (tick_acting m)
+acting_skips : (high : ℕ) (m : Node) → (is_sequencer m ≡ true → m.leaving ≡ false) → (is_sequencer m ≡ true → high < top m) → PlanSkips high (tick_acting m)
 acting_skips high m stays far =
     skips_if high (not (acts m)) _ _
     (λ t. skips_if high (m.core.promise.by == m.core.who) _ _ (λ u. skips_quiet high m said.Ticked)
@@ -73,20 +74,23 @@ acting_skips high m stays far =
           (image_of n).resilience) (e.letters n) tt
           ((emit_skips high m (waiting m) (put_off m (waiting m)) far).each n);
     } in
-    subst (PlanSkips high) (sym (goes_not m p stays)) skips)
-    (λ g. skips_if high m.leaving _ _ (λ t. absurd (cc))
+    subst (PlanSkips high) (sym (goes_not m p (stays t))) skips)
+    (λ g. skips_if high m.leaving _ _
+    (λ t. skips_if high (not (is_sequencer m)) _ _
+    (λ u. record { each = λ n. all_letter (SkipsLetter high) (others m) (leave_ask_of n) [] tt (All-nil (SkipsLetter high)) })
+    (λ u. absurd (cc)))
     (λ t. skips_if high (would_emit m (waiting m)) _ _ (λ u. emit_skips high m (waiting m) said.Ticked far)
     (λ u. skips_telling high m said.Ticked (only_name (view m).by) ack_of (λ n. tt)))))
 
-row_skips : (high : ℕ) (m : Node) (s : Status) → IsAtRest m → (is_sequencer m ≡ true → high < top m) → PlanSkips high (tick_by m s)
-row_skips high m status.Stranger rest far = skips_quiet high m said.Idle
-row_skips high m status.Asking rest far = skips_telling high m said.Ticked (everywhere_else m) join_ask_of (λ n. tt)
-row_skips high m status.Member rest far = subst (PlanSkips high) (sym (without_ballot m m.ballot rest.no_ballot)) (acting_skips high m rest.stays far)
-row_skips high m status.Departed rest far = skips_quiet high m said.Idle
+row_skips : (high : ℕ) (m : Node) (s : Status) → is_unfinished m.ballot ≡ false → (is_sequencer m ≡ true → m.leaving ≡ false) → (is_sequencer m ≡ true → high < top m) → PlanSkips high (tick_by m s)
+row_skips high m status.Stranger none stays far = skips_quiet high m said.Idle
+row_skips high m status.Asking none stays far = skips_telling high m said.Ticked (everywhere_else m) join_ask_of (λ n. tt)
+row_skips high m status.Member none stays far = subst (PlanSkips high) (sym (without_ballot m m.ballot none)) (acting_skips high m stays far)
+row_skips high m status.Departed none stays far = skips_quiet high m said.Idle
 
-pub tick_skips : (high : ℕ) (m : Node) → IsAtRest m → (is_sequencer m ≡ true → high < top m) → All (SkipsLetter high) (step m does.Tick).letters
+pub tick_skips : (high : ℕ) (m : Node) → is_unfinished m.ballot ≡ false → (is_sequencer m ≡ true → m.leaving ≡ false) → (is_sequencer m ≡ true → high < top m) → All (SkipsLetter high) (step m does.Tick).letters
 unfolding step row tick_row
-tick_skips high m rest far = finish_skips high m (tick_by m m.status) (row_skips high m m.status rest far)
+tick_skips high m none stays far = finish_skips high m (tick_by m m.status) (row_skips high m m.status none stays far)
 
 -- ---- in a world
 
@@ -95,29 +99,33 @@ abbrev pub AllSkip : ℕ → ℕ → World → Type 0
 AllSkip high after w = (k : ℕ) (l : Letter) → after < k → letter_at w.letters k ≡ Some l → SkipsLetter high l
 
 tick_either : (w : World) (place k : ℕ) (l : Letter) → (let e = event_at place act.Tick in letter_at (happens w e).letters k ≡ Some l
-    → (letter_at w.letters k ≡ Some l) ⊎ ((j : ℕ) × (slice_get (step (w.nodes (actor w e)) does.Tick).letters j ≡ Some l)))
+    → (letter_at w.letters k ≡ Some l) ⊎ ((is_stopped w (actor w e) ≡ false) × ((j : ℕ) × (slice_get (step (w.nodes (actor w e)) does.Tick).letters j ≡ Some l))))
 unfolding happens with_record with_step
 tick_either w place k l there =
     let e = event_at place act.Tick in
-    split (is_stopped w (actor w e)) (λ t. inl (rw t at there)) (λ f. letter_either w.letters (step (w.nodes (actor w e)) does.Tick).letters k l
-    (rw f at there))
+    split (is_stopped w (actor w e)) (λ t. inl (rw t at there)) (λ f. ⊎_elim
+    (λ (old : letter_at w.letters k ≡ Some l). inl old)
+    (λ (new : (j : ℕ) × (slice_get (step (w.nodes (actor w e)) does.Tick).letters j ≡ Some l)). inr (f, new))
+    (letter_either w.letters (step (w.nodes (actor w e)) does.Tick).letters k l (rw f at there)))
 
--- who ticks is at rest, and only one leads
-tick_letters : (rules : Rules) (r : Repair) (w : World) (name high : ℕ) → Fine rules r w → high < r.high
+-- who ticks has no open ballot, and only one leads
+tick_letters : (rules : Rules) (r : Repair) (w : World) (name high : ℕ) → Fine rules r w → high < r.high → is_stopped w name ≡ false
     → All (SkipsLetter high) (step (w.nodes name) does.Tick).letters
-tick_letters rules r w name high h low = split (has_departed m.status)
+tick_letters rules r w name high h low goes = split (has_departed m.status)
     (λ t. subst (All (SkipsLetter high)) (sym (departed_ticks m t).letters) (All-nil (SkipsLetter high)))
     (λ f. split (name == r.by)
     (λ t. let same = eqb-true name r.by t in
     let l = h.calm.leads in
-    subst (λ i. All (SkipsLetter high) (step (w.nodes i) does.Tick).letters) (sym same) (tick_skips high (w.nodes r.by) l.rest (λ u. omega arith)))
+    subst (λ i. All (SkipsLetter high) (step (w.nodes i) does.Tick).letters) (sym same) (tick_skips high (w.nodes r.by) l.rest.no_ballot (λ u. l.rest.stays) (λ u. omega arith)))
     (λ g. let own : (m.core.who == r.by) ≡ false = ap (λ i. i == r.by) (h.calm.who name) ∙ g in
     split (has r.members name)
     (λ there. let x = h.calm.follows name there g in
-    tick_skips high m x.rest (λ u. absurd (leads_not m r.by (ap (λ (v : Stamp). v.by) x.view_ ∙ h.calm.own) own u)))
-    (λ none. let x = h.calm.apart name none f in
-    tick_skips high m (record { stays = x.stays; no_ballot = ap is_unfinished x.no_ballot })
-    (λ u. absurd (let is = acting m (leading m u).0 in leads_not m r.by (ap (λ (v : Stamp). v.by) (sym is.1 ∙ x.promised is.0) ∙ h.calm.own) own u)))))
+    tick_skips high m x.rest.no_ballot (λ u. x.rest.stays) (λ u. absurd (leads_not m r.by (ap (λ (v : Stamp). v.by) x.view_ ∙ h.calm.own) own u)))
+    (λ none. ⊎_elim
+    (λ (x : IsApart r m). tick_skips high m (ap is_unfinished x.no_ballot) (λ u. x.stays)
+    (λ u. absurd (let is = acting m (leading m u).0 in leads_not m r.by (ap (λ (v : Stamp). v.by) (sym is.1 ∙ x.promised is.0) ∙ h.calm.own) own u)))
+    (λ (x : IsLeaver r m). tick_skips high m x.no_ballot (λ u. absurd (leads_not_left r m x u)) (λ u. absurd (leads_not_left r m x u)))
+    (h.calm.apart name none goes f))))
   where
     m : Node
     m = w.nodes name
@@ -142,8 +150,8 @@ tick_waits rules r i after high u place there other low h =
       stored = ours_skip r u e i (our_ticks place) h.fine.calm there other (tick_cause u _ (top (u.nodes i))) ∙ h.stored;
       skips = λ k l late at. ⊎_elim
           (λ (old : letter_at u.letters k ≡ Some l). h.skips k l late old)
-          (λ (new : (j : ℕ) × (slice_get (step (u.nodes (actor u e)) does.Tick).letters j ≡ Some l)). all_get (SkipsLetter high) _ new.0 l
-          (tick_letters rules r u (actor u e) high h.fine low) new.1)
+          (λ (new : (is_stopped u (actor u e) ≡ false) × ((j : ℕ) × (slice_get (step (u.nodes (actor u e)) does.Tick).letters j ≡ Some l))).
+          all_get (SkipsLetter high) _ new.1.0 l (tick_letters rules r u (actor u e) high h.fine low new.0) new.1.1)
           (tick_either u place k l at);
     }
 

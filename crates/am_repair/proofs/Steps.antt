@@ -1,13 +1,14 @@
 -- Each event of a schedule keeps a world calm.
-use Rattle.am_repair.proofs.Words.{eq-eqb, eqb-true, ◌≡◌, ◌⊎◌, inl, inr, ⊎_elim, ℕ, zero, suc, ◌≤◌, ◌==◌, true, false, List, [], ◌∷◌, ◌++◌, Some, slice_get}
-use Rattle.am_repair.proofs.Words.{refl, sym, ap, ◌∙◌, subst, arith, All, nat_tests, Stamp, Outcome, Rules, has, Letter, Event, letter_at, Node, top}
-use Rattle.am_repair.proofs.Words.{is_sequencer, has_departed, is_unfinished, next_stamp, Step, World, with_record, with_step, happens, split, Cause}
-use Rattle.am_repair.proofs.Words.{LetterSays, Effect, actor, IsCause, all_get, few_names, heard_names, Along, AllOwned, heard_used, each_along, Repair}
-use Rattle.am_repair.proofs.Words.{Leads, Follows, IsApart, IsCalm, Calm, IsOurs}
-use Rattle.am_repair.proofs.Going.{OurStep, Ours, idles, steps, ours, lead_changes, follow_changes, apart_changes, sender_is, member_there}
+use Rattle.am_repair.proofs.Words.{eq-eqb, eqb-true, ◌≡◌, ◌⊎◌, inl, inr, ⊎_elim, ℕ, zero, suc, ◌≤◌, ◌==◌, true, false, List, [], ◌∷◌, ◌++◌, Some}
+use Rattle.am_repair.proofs.Words.{slice_get, refl, sym, ap, ◌∙◌, subst, arith, All, nat_tests, Stamp, Outcome, Rules, has, Letter, Event, letter_at}
+use Rattle.am_repair.proofs.Words.{Node, top, is_sequencer, has_departed, is_unfinished, next_stamp, Step, World, with_record, with_step, happens}
+use Rattle.am_repair.proofs.Words.{split, Cause, LetterSays, Effect, actor, IsCause, all_get, few_names, heard_names, Along, AllOwned, heard_used}
+use Rattle.am_repair.proofs.Words.{each_along, Repair, Leads, Follows, IsApart, IsLeaver, IsElsewhere, IsCalm, Calm, IsOurs, is_stopped, None}
+use Rattle.am_repair.proofs.Words.{MayTell, leads, decided}
+use Rattle.am_repair.proofs.Going.{OurStep, Ours, idles, steps, ours, lead_changes, follow_changes, apart_changes, left_changes, sender_is, member_there}
 use Rattle.am_repair.proofs.{Nodes.CalmCause, Nodes.acting, Nodes.leading, Nodes.leads_not, Leading.Goes, Leading.told_taken, Leading.Trusts}
 use Rattle.am_repair.proofs.{Leading.TellsTaken, Lists.LogGrows, Lists.grows_same, Following.Skips, Saying.Grow, Saying.calm_stays, Saying.Sends}
-use Rattle.am_repair.proofs.{Saying.says_calm}
+use Rattle.am_repair.proofs.{Saying.says_calm, Leaving.leads_not as leads_not_left, Silent.Here, Silent.none_or_here, Silent.same_sender}
 
 -- ---- names
 
@@ -45,6 +46,7 @@ calm_unchanged r w e o h = record {
   nodes = h.nodes;
   current_ = h.current_;
   runs = h.runs;
+  apart = h.apart;
   letters = λ number l late there. calm_stays r w (with_record w e o) l.packet (same_grows r w (with_record w e o) refl) (h.letters number l late there);
 }
 
@@ -55,7 +57,7 @@ record StepKeeps (r : Repair) (w v : World) (name : ℕ) (s : Step) : Type 0 whe
   who : s.node.core.who ≡ name
   leads : Leads r (v.nodes r.by)
   follows : (other : ℕ) → has r.members other ≡ true → (other == r.by) ≡ false → Follows r (v.nodes r.by) (v.nodes other)
-  apart : (other : ℕ) → has r.members other ≡ false → has_departed (v.nodes other).status ≡ false → IsApart r (v.nodes other)
+  apart : (other : ℕ) → has r.members other ≡ false → is_stopped w other ≡ false → has_departed (v.nodes other).status ≡ false → IsElsewhere r (v.nodes other)
   grow : Grow r w v
   letters : (k : ℕ) (l : Letter) → slice_get s.letters k ≡ Some l → IsCalm r v l.packet
 
@@ -69,10 +71,10 @@ calm_stepped r w e name s h k = record {
     who = λ other. split (other == name) (λ t. rw t (k.who ∙ sym (eqb-true other name t))) (λ f. rw f (h.who other));
     leads = k.leads;
     follows = k.follows;
-    apart = k.apart;
   };
   current_ = h.current_;
   runs = h.runs;
+  apart = k.apart;
   letters = λ number l late there. ⊎_elim
       (λ (old : letter_at w.letters number ≡ Some l). calm_stays r w (with_step w e name s) l.packet k.grow (h.letters number l late old))
       (λ (new : (j : ℕ) × (slice_get s.letters j ≡ Some l)). k.letters new.0 l new.1)
@@ -125,10 +127,10 @@ same_reports r w v q a b i there = let x = ap (λ (n : Node). (n.reports i).stor
 
 -- who isn't there stays so
 apart_others : (r : Repair) (w v : World) (name other : ℕ) (n : Node) → OneChanged w v name n → Calm r w → (other == name) ≡ false
-    → has r.members other ≡ false → has_departed (v.nodes other).status ≡ false → IsApart r (v.nodes other)
-apart_others r w v name other n ch h f none there =
+    → has r.members other ≡ false → is_stopped w other ≡ false → has_departed (v.nodes other).status ≡ false → IsElsewhere r (v.nodes other)
+apart_others r w v name other n ch h f none goes there =
     let same = ch.others other f in
-    subst (IsApart r) (sym same) (h.apart other none (subst (λ (x : Node). has_departed x.status ≡ false) same there))
+    subst (IsElsewhere r) (sym same) (h.apart other none goes (subst (λ (x : Node). has_departed x.status ≡ false) same there))
 
 -- ---- the sequencer's step
 
@@ -195,10 +197,11 @@ leader_step rules r w e s laws h k same =
     let kept = along.owned.fronts.kept in
     let sends : Sends r v q n = record {
       node = ap (λ i. v.nodes i) g.own ∙ node;
-      stays = g.leads.rest.stays;
+      leaves = λ t. absurd (let f = g.leads.rest.stays in cc);
       no_ballot = h.leads.rest.no_ballot;
       begins_none = λ b is next. later_round q n r.view old promise next;
-      decides_own = λ b is. promise;
+      tells = λ t mine. promise;
+      stays = λ t. g.leads.rest.stays;
       own = λ t. g.own;
       promise = λ t. promise;
       base = λ t. omega arith;
@@ -212,7 +215,7 @@ leader_step rules r w e s laws h k same =
       leads = subst (Leads r) (sym node) g.leads;
       follows = λ other there f. subst (λ (x : Node). Follows r x (v.nodes other)) (sym node)
           (subst (Follows r n) (sym (ch.others other (not_own other f))) (follows_on r w n other h there f g));
-      apart = λ other none there. apart_others r w v name other n ch h (not_own other (differs r.members r.by other h.listed none)) none there;
+      apart = λ other none goes there. apart_others r w v name other n ch h (not_own other (differs r.members r.by other h.listed none)) none goes there;
       grow = grow_changed r w v name n ch (subst (λ (x : Node). LogGrows q.core.log x.core.log) (sym node) g.grows) kept_on (λ there. up);
       letters = sent_calm r w v q n c s.letters k.calm sends (subst (λ (x : Node). All (LetterSays q c x) s.letters) sender effect.letters);
     }
@@ -243,10 +246,11 @@ member_step r w e s h k other there =
     (ap (λ i. i == r.by) g.who ∙ own) t in
     let sends : Sends r v m n = record {
       node = ap (λ i. v.nodes i) (g.who ∙ h.who name) ∙ ch.here;
-      stays = g.follows.rest.stays;
+      leaves = λ t. absurd (let f = g.follows.rest.stays in cc);
       no_ballot = f.rest.no_ballot;
       begins_none = λ b is next. later_round m n r.view old promise next;
-      decides_own = λ b is. promise;
+      tells = λ t mine. promise;
+      stays = λ t. absurd (no_leader t);
       own = λ t. absurd (no_leader t);
       promise = λ t. promise;
       base = λ t. absurd (no_leader t);
@@ -258,7 +262,7 @@ member_step r w e s h k other there =
       who = g.who ∙ h.who name;
       leads = subst (Leads r) (sym node) h.leads;
       follows = λ i here d. subst (λ (x : Node). Follows r x (v.nodes i)) (sym node) (follows_new i here d);
-      apart = λ i none here. apart_others r w v name i n ch h (differs r.members name i there none) none here;
+      apart = λ i none goes here. apart_others r w v name i n ch h (differs r.members name i there none) none goes here;
       grow = grow_changed r w v name n ch (subst (λ (x : Node). LogGrows q.core.log x.core.log) (sym node) (grows_same q.core.log))
           (same_reports r w v q refl node) (λ here. (g.stored, g.taken, g.acc));
       letters = sent_calm r w v m n c s.letters k.calm sends (subst (λ (x : Node). All (LetterSays m c x) s.letters) sender k.effect.letters);
@@ -269,7 +273,7 @@ member_step r w e s h k other there =
 -- it changes no member
 elsewhere_step : (r : Repair) (w : World) (e : Event) (s : Step) → Calm r w → (actor w e == r.by) ≡ false → has r.members (actor w e) ≡ false
     → s.node.core.who ≡ actor w e
-    → (has_departed s.node.status ≡ false → IsApart r s.node) → ((k : ℕ) (l : Letter) → slice_get s.letters k ≡ Some l
+    → (has_departed s.node.status ≡ false → IsElsewhere r s.node) → ((k : ℕ) (l : Letter) → slice_get s.letters k ≡ Some l
     → IsCalm r (with_step w e (actor w e) s) l.packet) → StepKeeps r w (with_step w e (actor w e) s) (actor w e) s
 elsewhere_step r w e s h other none who apart letters =
     let name = actor w e in
@@ -283,20 +287,25 @@ elsewhere_step r w e s h other none who apart letters =
       leads = subst (Leads r) (sym node) h.leads;
       follows = λ i here d. subst (λ (x : Node). Follows r x (v.nodes i)) (sym node)
           (subst (Follows r q) (sym (ch.others i (is_other name i (differs r.members i name here none)))) (h.follows i here d));
-      apart = λ i gone here. split (i == name)
+      apart = λ i gone goes here. split (i == name)
           (λ t. let e = eqb-true i name t in
           let same : v.nodes i ≡ n = ap (λ j. v.nodes j) e ∙ ch.here in
-          subst (IsApart r) (sym same) (apart (subst (λ (x : Node). has_departed x.status ≡ false) same here)))
-          (λ f. apart_others r w v name i n ch h f gone here);
+          subst (IsElsewhere r) (sym same) (apart (subst (λ (x : Node). has_departed x.status ≡ false) same here)))
+          (λ f. apart_others r w v name i n ch h f gone goes here);
       grow = grow_changed r w v name n ch (subst (λ (x : Node). LogGrows q.core.log x.core.log) (sym node) (grows_same q.core.log))
           (same_reports r w v q refl node) (λ here. absurd (cc));
       letters = letters;
     }
 
+-- who has no ballot and doesn't lead tells no View
+no_tell : (n : Node) → n.ballot ≡ None → (is_sequencer n ≡ true → ⊥) → MayTell n → ⊥
+no_tell n none no_leader (leads t) = no_leader t
+no_tell n none no_leader (decided b number names is answer same) = absurd (cc)
+
 apart_step : (r : Repair) (w : World) (e : Event) (s : Step) → Calm r w → (k : OurStep r w e s) → (actor w e == r.by) ≡ false
-    → has r.members (actor w e) ≡ false → has_departed (w.nodes (actor w e)).status ≡ false
+    → has r.members (actor w e) ≡ false → has_departed (w.nodes (actor w e)).status ≡ false → IsApart r (w.nodes (actor w e))
     → StepKeeps r w (with_step w e (actor w e) s) (actor w e) s
-apart_step r w e s h k other none there =
+apart_step r w e s h k other none there a =
     let name = actor w e in
     let m = w.nodes name in
     let n = s.node in
@@ -304,23 +313,63 @@ apart_step r w e s h k other none there =
     let v = with_step w e name s in
     let ch = one_changed w e name s in
     let own : (m.core.who == r.by) ≡ false = ap (λ i. i == r.by) (h.who name) ∙ other in
-    let a = h.apart name none there in
     let g = apart_changes r w m m n h.own own k.calm k.effect.changes (record { who = refl; there = there; apart = a }) in
     let sender = sender_is n k.effect.sender k.effect.is k.effect.stays g.there in
     let no_leader : is_sequencer n ≡ true → ⊥ = λ t. (let is = acting n (leading n t).0 in
     leads_not n r.by (ap (λ (x : Stamp). x.by) (sym is.1 ∙ g.apart.promised is.0) ∙ h.own) (ap (λ i. i == r.by) g.who ∙ own) t) in
     let sends : Sends r v m n = record {
       node = ap (λ i. v.nodes i) (g.who ∙ h.who name) ∙ ch.here;
-      stays = g.apart.stays;
+      leaves = λ t. absurd (let f = g.apart.stays in cc);
       no_ballot = ap is_unfinished a.no_ballot;
       begins_none = λ b is next. (let x = g.apart.no_ballot in cc);
-      decides_own = λ b is. absurd (let x = g.apart.no_ballot in cc);
+      tells = λ t mine. absurd (no_tell n g.apart.no_ballot no_leader t);
+      stays = λ t. absurd (no_leader t);
       own = λ t. absurd (no_leader t);
       promise = λ t. absurd (no_leader t);
       base = λ t. absurd (no_leader t);
     } in
-    elsewhere_step r w e s h other none (g.who ∙ h.who name) (λ here. g.apart)
+    elsewhere_step r w e s h other none (g.who ∙ h.who name) (λ here. inl g.apart)
     (sent_calm r w v m n c s.letters k.calm sends (subst (λ (x : Node). All (LetterSays m c x) s.letters) sender k.effect.letters))
+
+-- a leaver departs, and sends nothing, or goes on
+left_step : (r : Repair) (w : World) (e : Event) (s : Step) → Calm r w → (k : OurStep r w e s) → (actor w e == r.by) ≡ false
+    → has r.members (actor w e) ≡ false → has_departed (w.nodes (actor w e)).status ≡ false → IsLeaver r (w.nodes (actor w e))
+    → StepKeeps r w (with_step w e (actor w e) s) (actor w e) s
+left_step r w e s h k other none there a =
+    let name = actor w e in
+    let m = w.nodes name in
+    let n = s.node in
+    let c = k.cause in
+    let v = with_step w e name s in
+    let ch = one_changed w e name s in
+    let g = left_changes r w m m n k.calm k.effect.changes (record { who = refl; left = a; promise = inl refl }) in
+    let no_leader : is_sequencer n ≡ true → ⊥ = leads_not_left r n g.left in
+    let sends : Sends r v m n = record {
+      node = ap (λ i. v.nodes i) (g.who ∙ h.who name) ∙ ch.here;
+      leaves = λ t. g.left.gone;
+      no_ballot = a.no_ballot;
+      begins_none = λ b is next. not_next m n g.promise next;
+      tells = λ t mine. absurd (g.left.tells t mine);
+      stays = λ t. absurd (no_leader t);
+      own = λ t. absurd (no_leader t);
+      promise = λ t. absurd (no_leader t);
+      base = λ t. absurd (no_leader t);
+    } in
+    elsewhere_step r w e s h other none (g.who ∙ h.who name) (λ here. inr g.left)
+    (⊎_elim
+    (λ (nothing : s.letters ≡ []). λ i l there_. absurd (let z = ap (λ ls. slice_get ls i) nothing in cc))
+    (λ (here : Here n).
+    let sender = same_sender m c s k.effect here in
+    sent_calm r w v m n c s.letters k.calm sends (subst (λ (x : Node). All (LetterSays m c x) s.letters) sender k.effect.letters))
+    (none_or_here m s.letters n k.effect.ending there))
+  where
+    not_next : (m n : Node) → (n.core.promise ≡ m.core.promise) ⊎ ((n.core.promise.by == m.core.who) ≡ false) → n.core.promise ≡ next_stamp m → ⊥
+    not_next m n h next = ⊎_elim
+        (λ (same : n.core.promise ≡ m.core.promise). later_round m n m.core.promise refl same next)
+        (λ (other : (n.core.promise.by == m.core.who) ≡ false).
+        let by = ap (λ (u : Stamp). u.by) next in
+        let z : ⊥ = grind (arith, nat_tests) in z)
+        h
 
 gone_step : (r : Repair) (w : World) (e : Event) (s : Step) → Calm r w → (k : OurStep r w e s) → (actor w e == r.by) ≡ false
     → has r.members (actor w e) ≡ false → has_departed (w.nodes (actor w e)).status ≡ true → StepKeeps r w (with_step w e (actor w e) s) (actor w e) s
@@ -340,7 +389,10 @@ step_keeps rules r w e s laws h k = split (actor w e == r.by)
     (λ there. member_step r w e s h k f there)
     (λ none. split (has_departed (w.nodes (actor w e)).status)
     (λ gone. gone_step r w e s h k f none gone)
-    (λ here. apart_step r w e s h k f none here)))
+    (λ here. ⊎_elim
+    (λ (a : IsApart r (w.nodes (actor w e))). apart_step r w e s h k f none here a)
+    (λ (a : IsLeaver r (w.nodes (actor w e))). left_step r w e s h k f none here a)
+    (h.apart (actor w e) none k.runs here))))
 
 calm_ours : (rules : Rules) (r : Repair) (w : World) (e : Event) (v : World) → AllOwned rules w → Calm r w → Ours r w e v → Calm r v
 calm_ours rules r w e v laws h (idles o) = calm_unchanged r w e o h

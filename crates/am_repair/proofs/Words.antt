@@ -12,7 +12,7 @@ pub use Rattle.am_laws.proofs.Words.{trim_up_to, with_report, others, Plan, Step
 pub use Rattle.am_laws.proofs.Words.{viewed_by, tick_with, tick_member, tick_sequencer, overtake, with_promise, Verdict, next_stamp, Status, settle}
 pub use Rattle.am_laws.proofs.Words.{hears_member, hears_asking, hears_in_view, hears_sequencer, is_unknown, take_report, answer_request, is_view}
 pub use Rattle.am_laws.proofs.Words.{bodies_after, with_noted, with_admitted, packet_length, World, current, is_stopped, run, start, hears_letter, hear_cut}
-pub use Rattle.am_laws.proofs.Words.{acts_as, Decided, heard_by, before_break, has_in, In, long_after, in_after, mod16, accept_front_is, told_pushed}
+pub use Rattle.am_laws.proofs.Words.{acts_as, heard_by, has_in, In, long_after, in_after, mod16, accept_front_is, told_pushed}
 pub use Rattle.am_laws.proofs.Words.{view_pushed, Cause, calls, hears, by_request, by_spread, HasOpen, Looks, decides, Balloting, with_more, without_one}
 pub use Rattle.am_laws.proofs.Words.{as_it_is, finds_no_room, Promises, invited, overtaken_by, told_result, Change, refreshes, settles, takes_report, admits}
 pub use Rattle.am_laws.proofs.Words.{numbers, begins_list, departs, promises, opens, looks, queues, collects, takes, asks_to_join, closes, Carries}
@@ -42,11 +42,9 @@ pub use Rattle.am_model.specs.Emit.{telling, nack_of, bcast_of, accept_of, tells
 pub use Rattle.am_model.specs.Emit.{spread_of, join_ask_of, result_of}
 unfoldable pub use Rattle.am_model.specs.Emit.{put_all}
 pub use Rattle.am_model.proofs.Sets.{some_size}
-pub use Rattle.am_play.specs.{World.does_event, Claims.MayRepair, Claims.HasCaughtUp, Lawful.is_lost, Lawful.Watch, Lawful.watch_start}
-pub use Rattle.am_play.specs.{Lawful.greatest_complete, Lawful.broken_now}
+pub use Rattle.am_play.specs.{World.does_event}
 pub use Rattle.am_play.specs.Settle.{event_at, Settling, hearings, and_then, ticks, round, round_count, hearings_of}
-unfoldable pub use Rattle.am_play.specs.{Settle.running, Settle.waves, Settle.rounds, Settle.settle_events, Settle.hearings_from, Lawful.is_lawful}
-unfoldable pub use Rattle.am_play.specs.{Lawful.watch, Lawful.watch_all}
+unfoldable pub use Rattle.am_play.specs.{Settle.running, Settle.waves, Settle.rounds, Settle.settle_events, Settle.hearings_from}
 pub use Rattle.am_play.proofs.{Runs.runs_go_on, Beginnings.happens_begins, Beginnings.happen_begins}
 pub use Rattle.am_chain_lists.proofs.{Rows.row_at, Rows.row_set, Rows.Past, Rows.past_after, Rows.not_both, Members.fold_append, Members.good_begins}
 pub use Rattle.am_chain_lists.proofs.{Order.view_up, Order.view_below}
@@ -66,11 +64,12 @@ pub use Rattle.am_laws.proofs.{Stamps.not_above_itself, ViewChanges.Balloted, Vi
 pub use Rattle.am_laws.proofs.{Named.few_names, Views.heard_names, Blank.Blanked}
 pub use Rattle.am_laws.proofs.TakenRuns.{AllOwned, run_owned, each_owned, Along, along_changes, heard_used, each_along, owned_start}
 pub use Rattle.am_laws.proofs.Taken.{HeardUsed, fetch_follows, stamp_by, other_asks, promise_is, not_above_view, not_own}
-pub use Rattle.am_repair.specs.{Calm.Repair, Calm.Leads, Calm.IsApart, Calm.Follows, Calm.Calm, Calm.ReportIs, Calm.IsCalm, Calm.Stands, Rounds.IsOurs}
+pub use Rattle.am_repair.specs.{Calm.Repair, Calm.Leads, Calm.IsApart, Calm.IsLeaver, Calm.IsElsewhere, Calm.is_past, Calm.Follows, Calm.Calm, Calm.ReportIs, Calm.IsCalm, Calm.Stands, Rounds.IsOurs}
 pub use Rattle.am_repair.specs.{Rounds.ticks as our_ticks, Rounds.CalmStays, Rounds.RoundsStore, Rounds.hears as hears_, Waves.IsSent, Waves.Polled}
 pub use Rattle.am_repair.specs.{Waves.Reported, Waves.Asked, Waves.IsServed, Waves.Served, Known.TrimsKnown, Known.SequencersTrimKnown, Known.KnownIsTaken}
 pub use Rattle.am_repair.specs.Rows.{IsAtRest, HasReported, HasReports, FrontsRise, IsReport, ack, nack, request, spread, Asks, HearsFront, FrontsAreHeard}
 pub use Rattle.am_repair.specs.Rows.{GapsAreAsked, EntriesAreStored, Serves, ReportsAreTaken, NacksAreServed, ComesNext, Polls, SequencersPoll, Reports}
 pub use Rattle.am_repair.specs.Rows.{MembersReport}
-pub use Rattle.am_repair.specs.Standing.{Agree, RepairsWhereListsAgree, RepairableIsLawful, IsBeginning, Agrees, OneListAgrees}
+pub use Rattle.am_repair.specs.Claim.{MayRepair, HasCaughtUp}
+pub use Rattle.am_repair.specs.Standing.{Agree, RepairsWhereListsAgree, IsBeginning, Agrees, HasLeft, OneListAgrees}
 unfoldable pub use Rattle.am_repair.specs.Rows.{bcasts}

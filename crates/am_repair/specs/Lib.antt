@@ -1,3 +1,4 @@
+pub mod Claim
 pub mod Rows
 pub mod Calm
 pub mod Rounds

@@ -1,7 +1,7 @@
 //! What a lossless schedule repairs: laws of a group that stands in one view, proved on the definitions alone.
 #![tactic(auto)]
 
-ghost use Rattle.am_repair.specs.Standing.{OneListAgrees, RepairableIsLawful, RepairsWhereListsAgree};
+ghost use Rattle.am_repair.specs.Standing.{OneListAgrees, RepairsWhereListsAgree};
 ghost use Rattle.am_repair.specs.Known.{KnownIsTaken, SequencersTrimKnown};
 ghost use Rattle.am_repair.specs.Rounds.{CalmStays, RoundsStore};
 ghost use Rattle.am_repair.specs.Rows.{
@@ -47,11 +47,6 @@ pub fn calm_worlds_go_on()
 /// to where their sequencer stood.
 pub fn schedules_repair()
     ensures { RepairsWhereListsAgree }
-{}
-
-/// A run that ends where a group may be repaired is lawful from its beginning on: nobody was ever stopped undeparted.
-pub fn repairable_runs_are_lawful()
-    ensures { RepairableIsLawful }
 {}
 
 /// A sequencer trims no more than it knows each member of its list to have taken.

@@ -1,13 +1,18 @@
 -- Whose storage counts behind the last View, where a run may be repaired: each of them is a member still.
-use Rattle.am_repaired.proofs.Words.{◌≡◌, ◌≢◌, ℕ, zero, suc, ◌+◌, ◌<◌, ◌≤◌, ◌==◌, true, false, List, [], ◌∷◌, ◌++◌, length, slice_index, All, sym, ap, ◌∙◌}
-use Rattle.am_repaired.proofs.Words.{subst, arith, nat_tests, All-nil, All-cons, Entry, Data, Join, Leave, View, Image, Rules, MayFound, IsSet, has, place_of}
-use Rattle.am_repaired.proofs.Words.{life_of, name_at, names_from, names_of, fold, blank, members_of, counted_at, Event, view_grows, Begins, IsGood, mem}
-use Rattle.am_repaired.proofs.Words.{view_of, key, begins_trans, begins_length, length_push, good_begins, told_push, mem_push, ends_of, Group, Leads}
-use Rattle.am_repaired.proofs.Words.{counted_in, opening, chain_of, current_of, Kept, Node, top, told_at, members, lowest_or_first, MayRepair, World, current}
-use Rattle.am_repaired.proofs.Words.{run, fold_append, split, names_hold, numbers_hold, taken_holds, after_view, NameStands, NamesNamed, Following, told_all}
-use Rattle.am_repaired.proofs.Words.{long_all, counts_names, name_small, group_kept, stood, counted_whole, steps_move, held}
+use Rattle.am_repaired.proofs.Words.{◌≡◌, ◌≢◌, ℕ, zero, suc, ◌+◌, ◌<◌, ◌≤◌, ◌==◌, true, false, List, [], ◌∷◌, ◌++◌, length, slice_index, All, sym, ap}
+use Rattle.am_repaired.proofs.Words.{◌∙◌, subst, arith, nat_tests, All-nil, All-cons, Entry, Data, Join, Leave, View, Image, Rules, MayFound, IsSet}
+use Rattle.am_repaired.proofs.Words.{has, place_of, life_of, name_at, names_from, names_of, fold, blank, members_of, counted_at, Event, view_grows}
+use Rattle.am_repaired.proofs.Words.{Begins, IsGood, mem, view_of, key, begins_trans, begins_length, length_push, good_begins, told_push, mem_push}
+use Rattle.am_repaired.proofs.Words.{ends_of, Group, Leads, counted_in, opening, chain_of, current_of, Kept, Node, top, told_at, members}
+use Rattle.am_repaired.proofs.Words.{lowest_or_first, MayRepair, lawful_front, has_departed, take, World, current, run, fold_append, split}
+use Rattle.am_repaired.proofs.Words.{names_hold, numbers_hold, taken_holds, after_view, NameStands, NamesNamed, Following, told_all, long_all}
+use Rattle.am_repaired.proofs.Words.{counts_names, name_small, group_kept, stood, counted_whole, steps_move, held}
 use Rattle.am_chain_lists.specs.Whole.{image_of}
 use Rattle.am_repaired.proofs.{Left.AllLeft, Left.GoneBy, Left.accepted, Left.last, Left.once, Left.runs_left, OneList.lawful_events, OneList.small_name}
+use Rattle.am_repaired.proofs.OneList.{leader_runs}
+use Rattle.am_stands.proofs.Parts.{image_whole}
+use Rattle.am_chain_lists.proofs.Prefixes.{take_begins}
+use Rattle.am_base.specs.Lists.{image_at, members_at}
 use Rattle.am_repaired.proofs.{OneList.leading, Upheld.Upheld, Upheld.upheld_start, Upheld.upheld_keeps}
 
 -- ---- who counts for a number
@@ -44,7 +49,8 @@ leaves_last list before name (View stamp names resilience) good within view_ is 
 
 -- who counts for a number that the sequencer hasn't accepted, behind the last View, is a member at the list's end
 stays_member : (s : Group) (q : ℕ) (list : List Entry) (n name : ℕ) → Kept s → AllLeft s → Leads q (s.node q) → list ≡ chain_of s.views
-    → length s.group < n → n ≤ length list → (image_of list).view_number ≤ n → ((s.node name).leaving ≡ true → (s.node name).departed ≡ true)
+    → length s.group < n → n ≤ length list → (image_of list).view_number ≤ n
+    → ((at : ℕ) → n ≤ at + 1 → at ≤ length list → mem (take at list) name ≡ true → (s.node name).leaving ≡ true → (s.node name).departed ≡ true)
     → has (counted_in list n) name ≡ true → mem list name ≡ true
 stays_member s q list n name k left leads is low high view_ leaves h = split (mem list name)
     (λ t. t)
@@ -56,7 +62,10 @@ stays_member s q list n name k left leads is low high view_ leaves h = split (me
     let by = leaves_last list e.before name e.last good e.within (omega arith) e.member e.ended in
     let there : Begins (e.before ++ Leave name ∷ []) list = subst (λ x. Begins (e.before ++ x ∷ []) list) by e.within in
     let asked = left.asked e.before name (subst (Begins (e.before ++ Leave name ∷ [])) is there) in
-    by_gone e.before good there (omega arith) (left.gone name (leaves asked))))
+    let size = begins_length at.begins_ in
+    let near = at.near in
+    let part = subst (λ l. mem l name ≡ true) (sym (take_begins at.begins_)) at.member in
+    by_gone e.before good there (omega arith) (left.gone name (leaves (length at.upto) (omega arith) (omega arith) part asked))))
   where
     by_gone : (before : List Entry) → IsGood list → Begins (before ++ Leave name ∷ []) list → n ≤ length before + 1 → GoneBy s name → ⊥
     by_gone before good there far (accepted earlier begins_) =
@@ -92,7 +101,8 @@ all_names P set is h = all_from P 0 set (λ k low some.
 
 -- ---- in every run
 
-module _ (rules : Rules) (events : List Event) (place : ℕ) (may : MayFound rules) (low : place < 16) (repair : MayRepair (run rules events) place) where
+module _ (rules : Rules) (events : List Event) (place : ℕ) (may : MayFound rules) (low : place < 16) (lawful : lawful_front rules events ≡ events)
+    (repair : MayRepair (run rules events) place) where
   abbrev w : World
   w = run rules events
 
@@ -120,7 +130,7 @@ module _ (rules : Rules) (events : List Event) (place : ℕ) (may : MayFound rul
     stands = old.stands.each q few
 
     leads : Leads q (s.node q)
-    leads = leading rules w s place old repair few own
+    leads = leading rules w s place old repair few (leader_runs rules events place may low repair) own
 
     is : list ≡ chain_of s.views
     is = ((kept.each q).leads leads).chain
@@ -168,6 +178,22 @@ module _ (rules : Rules) (events : List Event) (place : ℕ) (may : MayFound rul
         let c = num.given in
         omega arith
 
+    -- who is leaving and was a member since what is accepted has departed
+    gone : (name at : ℕ) → m.core.acc ≤ at → at ≤ top m → mem (take at list) name ≡ true → (w.nodes name).leaving ≡ true
+        → has_departed (w.nodes name).status ≡ true
+    unfolding mem
+    gone name at front within_ member t = split (has_departed (w.nodes name).status)
+        (λ d. d)
+        (λ d. absurd (
+        let num = (numbers_hold rules events).each q in
+        let a = num.kept in
+        let b = taken_holds rules events q may few in
+        let c = num.given in
+        let none = repair.nobody_leaves name t d at front within_ in
+        let same : image_at m.core.log at ≡ image_of (take at list) = image_whole w q at m (s.node q) stands (omega arith) in
+        let there : has (members_at m.core.log at) name ≡ true = ap (λ (g : Image). has (members_of g) name) same ∙ member in
+        cc))
+
     each : (name : ℕ) → name < 256 → has (counted_at m.core.log number) name ≡ true → has (members m) name ≡ true
     unfolding mem
     each name small h =
@@ -175,7 +201,8 @@ module _ (rules : Rules) (events : List Event) (place : ℕ) (may : MayFound rul
         let num = numbered in
         let counts : has (counted_in list number) name ≡ true = ap (λ set. has set name) (sym (counted_whole w q number m (s.node q) stands start_low)) ∙ h in
         let b = old.stands.each name small in
-        let leaves : (s.node name).leaving ≡ true → (s.node name).departed ≡ true = λ t. b.departed ∙ repair.nobody_leaves name (sym b.leaving ∙ t) in
+        let leaves : (at : ℕ) → number ≤ at + 1 → at ≤ length list → mem (take at list) name ≡ true → (s.node name).leaving ≡ true
+        → (s.node name).departed ≡ true = λ at near within_ member t. b.departed ∙ gone name at (omega arith) (omega arith) member (sym b.leaving ∙ t) in
         let there : mem list name ≡ true = stays_member s q list number name kept left leads is behind (omega arith) (omega arith) leaves counts in
         ap (λ (g : Image). has (members_of g) name) (sym (told_all w q m (s.node q) stands)) ∙ there
 
@@ -189,6 +216,6 @@ module _ (rules : Rules) (events : List Event) (place : ℕ) (may : MayFound rul
   pub repairable_counts : (number : ℕ) → m.core.acc < number → number ≤ top m → (told_at m).view_number ≤ number
       → All (λ name. has (members m) name ≡ true) (names_of (counted_at m.core.log number))
   repairable_counts number above within view_ =
-      let h = held Upheld rules (upheld_keeps rules) steps_move may (λ t f. upheld_start rules t may f) events (lawful_events rules events place repair) in
+      let h = held Upheld rules (upheld_keeps rules) steps_move may (λ t f. upheld_start rules t may f) events (lawful_events rules events lawful) in
       let left = runs_left rules.founders (lowest_or_first rules.founders) rules.resilience h.to h.follows.group.run in
       all_count h.to left h.follows h.is number above within view_

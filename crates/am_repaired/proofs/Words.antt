@@ -29,13 +29,13 @@ pub use Rattle.am_stands.proofs.Words.{finds_too_few, finds_no_room, view_pushed
 pub use Rattle.am_stands.proofs.Words.{counted_in, MayNumber, accepts, shows, serves, first_stamp, put_at, of_line, of_shown, over, NewView}
 unfoldable pub use Rattle.am_stands.proofs.Words.{fits, fold, mem}
 pub use Rattle.std.proofs.Common.{All}
-pub use Rattle.am_model.specs.{Node.image_of as told_at, Node.with_report, Joining.with_admitted}
+pub use Rattle.am_model.specs.{Node.image_of as told_at, Joining.with_admitted}
 unfoldable pub use Rattle.am_model.specs.Joining.{join_ask_row}
-pub use Rattle.am_play.specs.{Claims.MayRepair, Claims.HasCaughtUp, Claims.Repairs, Settle.settle_events}
+pub use Rattle.am_play.specs.{Lawful.lawful_front, Settle.settle_events}
+pub use Rattle.am_repair.specs.Claim.{MayRepair, HasCaughtUp, Repairs}
 pub use Rattle.am_chain_lists.proofs.Members.{ends_of}
 pub use Rattle.am_effects.proofs.{Hearing.other_heard, Rests.rests_closed}
 pub use Rattle.am_effects.specs.Changes.{for_ballot, departs}
-pub use Rattle.am_effects.specs.Courses.{IsPlain, Course, nothing_yet, used_report, and_then, Deeds, plainly, looked}
 pub use Rattle.am_laws.proofs.{Taken.stamp_by, Taken.other_asks, TakenRuns.taken_holds, TakenRuns.AllOwned, TakenRuns.each_owned, ViewChanges.next_above}
 pub use Rattle.am_laws.proofs.{Stamps.not_above_itself, Stamps.not_above, Stamps.at_most, Stamps.at_most_below, Stamps.below, ViewSteps.SameView}
 pub use Rattle.am_laws.proofs.{ViewSteps.Stood, ViewSteps.view_last, Named.names_hold}
@@ -46,7 +46,7 @@ pub use Rattle.am_steps.proofs.{Any.GoesSo, Any.run_goes, Starting.item_get, Dep
 pub use Rattle.am_headline.proofs.{Ways.Kind, Ways.kind_of, Begun.held, OneStep.parts, OneStep.plain, OneStep.OneStep, Fold.KeptBy, Fold.Quiet}
 pub use Rattle.am_headline.proofs.{Shapes.ListGoes, Shapes.same, Shapes.up, Shapes.gone, Shapes.list_moves}
 pub use Rattle.am_repair.proofs.{Nodes.acting, Nodes.alike_refresh, Nodes.alike_settle, Nodes.view_alike, Nodes.acts_alike, Nodes.Alike}
-pub use Rattle.am_repair.proofs.{ReportedRuns.known_is_taken, ReportedRuns.run_told, ReportedRuns.cause_taken, Knowing.NoJoin, Lawfully.repairable_is_lawful}
+pub use Rattle.am_repair.proofs.{ReportedRuns.known_is_taken, ReportedRuns.run_told, ReportedRuns.cause_taken, Knowing.NoJoin}
 pub use Rattle.am_repair.proofs.{Beginning.repairs_where_lists_agree, KnownRuns.sequencers_trim_known, OneLists.one_list_agrees}
 pub use Rattle.am_repair.proofs.Reported.{end_same, Rises, rises_change, CauseTaken, told_so, refresh_same}
 pub use Rattle.am_repair.specs.Standing.{IsOneList, RepairableIsOneList}

@@ -1,12 +1,12 @@
-//! What a lossless schedule repairs, in every run (docs/REPAIR.md): what the way to the claim takes from the argument why a group has one
+//! What a lossless schedule repairs, in every lawful run (docs/REPAIR.md): what the way to the claim takes from the argument why a group has one
 //! list, and the claim.
 #![tactic(auto)]
 
-ghost use Rattle.am_play.specs.Claims.{Repairs};
-ghost use Rattle.am_repair.specs.Standing.{RepairableIsOneList};
+ghost use Rattle.am_repair.specs.{Claim.Repairs, Standing.RepairableIsOneList};
 ghost use Rattle.am_repaired.specs.Trimmed.{RepairableCounts, RepairableTrims};
 
-/// Where a run may be repaired, the sequencer's whole list fits, each Member's begins it, and each Member is a member by it.
+/// Where a lawful run may be repaired, the sequencer's whole list fits, and the one of each Member that runs begins it. Each of them is a
+/// member by it, or was one and leaves.
 pub fn repairable_runs_have_one_list()
     ensures { RepairableIsOneList }
 {}
@@ -22,7 +22,7 @@ pub fn repairable_runs_trim_taken()
     ensures { RepairableTrims }
 {}
 
-/// The claim: where a run may be repaired, a lossless schedule brings each member of the sequencer's list to where the sequencer stood.
+/// The claim: where a lawful run may be repaired, a lossless schedule brings each member of the sequencer's list to where the sequencer stood.
 pub fn lossless_schedules_repair()
     ensures { Repairs }
 {}

@@ -4,6 +4,7 @@ pub mod WorkedResets
 pub mod StopTable
 pub mod Asked
 pub mod Directed
+pub mod Repaired
 pub mod ScenariosFirst
 pub mod ScenariosWindow
 pub mod ScenariosMoves

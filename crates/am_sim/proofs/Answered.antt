@@ -77,7 +77,7 @@ keeps_all rules events may = record {
 
 -- a run that is settled is repaired
 repaired : (rules : Rules) (events : List Event) → MayFound rules → Repaired rules events
-repaired rules events may place low repair name member = settled_is_repaired rules events place may low repair name member
+repaired rules events may place low lawful repair name member = settled_is_repaired rules events place may low lawful repair name member
 
 pub played_by : (what : Shown) (bytes text : List ℕ) (script : Script) → reading key.Play bytes ≡ Ok script → ScriptWithin script → IsText what script text
     → Played what bytes text

@@ -13,7 +13,7 @@ use Rattle.am_model.specs.Node.{top, members, has_log}
 use Rattle.am_play.specs.World.{current, run}
 use Rattle.am_play.specs.Play.{settle_run, summary_text_of}
 use Rattle.am_play.specs.Text.{newline}
-use Rattle.am_play.specs.Claims.{Headline, FitsView, Sent, NoBallot, HoldsUnballoted, MayRepair, HasCaughtUp}
+use Rattle.am_play.specs.Claims.{Headline, FitsView, Sent, NoBallot, HoldsUnballoted}
 use Rattle.am_play.specs.Lawful.{Watch, watch_run, lawful_front}
 use Rattle.am_script.specs.Scripts.{reading}
 use Rattle.am_script.specs.declared.key.Key.{Key}
@@ -35,6 +35,7 @@ use Rattle.am_audit.specs.Lines.{Reading, read_text}
 use Rattle.am_audit.specs.Verdicts.{verdict_of, verdict_line, is_right}
 use Rattle.am_assembled.specs.Claims.{front_of, Delivered}
 use Rattle.am_replicated.specs.Claims.{ReplicaHolds}
+use Rattle.am_repair.specs.Claim.{MayRepair, HasCaughtUp}
 use Rattle.am_audited.specs.Claims.{ReadsAs, AgreesAs, IsOfOneList}
 use Rattle.am_lines.specs.Speaking.{spoken}
 use Rattle.am_words.specs.Forms.{form_of}
@@ -80,10 +81,10 @@ pub record Keeps (rules : Rules) (events : List Event) : Type 0 where
   pub messages : (name : ℕ) → deliveries (front_of rules events).records name ≢ [] → (start : ℕ) × Delivered rules (front_of rules events) name start
   pub replicas : (name : ℕ) → has_log ((front_of rules events).nodes name).status ≡ true → ReplicaHolds rules (front_of rules events) name
 
--- Where a run's group may be repaired, the events that settle the run bring each member of the sequencer's list to where the sequencer stood: it has
--- stored all up to there, and knows it to be accepted.
+-- Where a run is lawful and its group may be repaired, the events that settle the run bring each member of the sequencer's list to where the sequencer
+-- stood: it has stored all up to there, and knows it to be accepted.
 abbrev pub Repaired : Rules → List Event → Type 0
-Repaired rules events = (place : ℕ) → place < 16 → MayRepair (run rules events) place
+Repaired rules events = (place : ℕ) → place < 16 → lawful_front rules events ≡ events → MayRepair (run rules events) place
     → (name : ℕ) → has (members ((run rules events).nodes (current (run rules events) place))) name ≡ true
     → HasCaughtUp ((run rules (done_of rules events true)).nodes name) (top ((run rules events).nodes (current (run rules events) place)))
 
