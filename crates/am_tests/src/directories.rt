@@ -1,11 +1,11 @@
+use am_base::body::Body;
+use am_base::entry::Entry;
+use am_base::name::Name;
 use am_dir::applied::Applied;
 use am_dir::command::Command;
 use am_dir::directory::Directory;
 use am_dir::replica::Replica;
 use am_dir::step::Step;
-use am_base::body::Body;
-use am_base::entry::Entry;
-use am_base::name::Name;
 use am_seg::parts::part_of;
 use std::alloc::Global;
 use std::test::Fail;

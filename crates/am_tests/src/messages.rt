@@ -1,9 +1,9 @@
-use am_seg::assembler::Assembler;
-use am_seg::fed::Fed;
-use am_seg::parts::{part_count, part_in, part_of};
 use am_base::body::Body;
 use am_base::entry::Entry;
 use am_base::name::Name;
+use am_seg::assembler::Assembler;
+use am_seg::fed::Fed;
+use am_seg::parts::{part_count, part_in, part_of};
 use std::alloc::Global;
 use std::test::Fail;
 
