@@ -67,7 +67,8 @@ pub fn heard_by(act: &Act) -> Option<Heard>
     }
 }
 
-/// The bytes that were heard are handed on, for the room that they take; else all stays. How much room that is, no clause says.
+/// The bytes that were heard are handed on, for the room that they take. How much room that is, no clause says, nor that a room
+/// stays as it is where nothing was heard.
 pub fn keep_room(room: &mut Vec<u8>, what: NodeEvent)
     ensures heard { (bytes : List ℕ) → what ≡ does.Hear bytes → room.new.items ≡ bytes }
 {
