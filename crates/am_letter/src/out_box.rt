@@ -32,7 +32,7 @@ pub struct Rooms {
 }
 
 impl Rooms {
-    /// No rooms.
+    /// No rooms, though no clause counts them.
     pub fn new() -> Rooms {
         Rooms { kept: None }
     }
