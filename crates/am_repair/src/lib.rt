@@ -59,8 +59,8 @@ pub fn what_is_known_was_taken()
     ensures { KnownIsTaken }
 {}
 
-/// Lists agree where the sequencer's whole list fits and each Member's begins it, where it trims no more than each member has taken, and
-/// where who has left is accepted to have left.
+/// Lists agree where the sequencer's whole list fits and the one of each Member that runs begins it, where it trims no more than each member
+/// has taken, and where who counts for what isn't accepted is a member.
 pub fn one_list_agrees()
     ensures { OneListAgrees }
 {}

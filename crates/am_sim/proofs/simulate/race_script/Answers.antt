@@ -16,3 +16,6 @@ returns-in-Ok-write_all-clause-within g c = λ other. gave_whole _ _ _ _ c.in-Ok
 
 pub returns-clause-within : goal.returns-clause-within
 returns-clause-within g c = λ other. gave_whole _ _ _ _ c.in-Ok.ensures.ok c.in-Ok.ensures.within
+
+pub returns-clause-unwritten : goal.returns-clause-unwritten
+returns-clause-unwritten g c = λ unwritten. absurd (unwritten tt)
