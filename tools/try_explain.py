@@ -5,7 +5,7 @@
 FOLDER has scripts NAME.json, and beside each NAME.cause, the line that `PROGRAM WORD < NAME.json` must write on standard error,
 with status 2 and nothing on standard output, where WORD is `race` for names that begin with race_, else `play`; and sentences.txt, a
 line `NAME: SENTENCE` with what tools/explain.py must say of each. Each cause must be there, and of each key every cause that it can
-have. FOLDER/rows.txt has more, a line each: WORD NUMBER PLACE TEXT, where TEXT, a JSON string, must be refused by `PROGRAM WORD` for
+have. FOLDER/rows.list has more, a line each: WORD NUMBER PLACE TEXT, where TEXT, a JSON string, must be refused by `PROGRAM WORD` for
 the cause of this number at this place. COMMAND, which is ./muoswyld, must write the line, and below it the sentence where standard
 error is a terminal, else how to get it. It prints what fails, and how many passed.
 """
@@ -66,7 +66,7 @@ def faults(program, script, sentences):
 
 
 def faults_of_row(program, row):
-    """What is wrong with the answer to a row of rows.txt."""
+    """What is wrong with the answer to a row of rows.list."""
     word, number, place, text = row.split(" ", 3)
     ran = subprocess.run([program, word], input=json.loads(text).encode(), capture_output=True)
     if (ran.returncode, ran.stdout, ran.stderr) != (2, b"", f"bad script {number} at {place}\n".encode()):
@@ -115,7 +115,7 @@ def main():
             print(f"{script}: {line}")
         cause = int(script.with_suffix(".cause").read_text().split()[2])
         seen |= {cause, covered(cause, sentences.get(script.stem, ""))}
-    for row in (folder / "rows.txt").read_text().splitlines():
+    for row in (folder / "rows.list").read_text().splitlines():
         wrong = list(faults_of_row(program, row))
         passed, failed = passed + (not wrong), failed + len(wrong)
         for line in wrong:
