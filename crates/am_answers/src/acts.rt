@@ -17,8 +17,8 @@ use am_base::name::Name;
 use am_base::names::Names;
 use am_base::outcome::Outcome;
 use am_group::event::{Act, By, Event, Part, Record};
-use am_letter::letter::LetterCopy;
 use am_letter::out_box::OutBox;
+use am_post::letter::LetterCopy;
 use std::alloc::Global;
 
 /// What an act asks of a node that runs, with the letter that it hears; None where it is no step of one.

@@ -11,10 +11,11 @@ use am_base::names::Names;
 use am_base::outcome::Outcome;
 use am_group::event::{Act, By, Event, Part, Record};
 use am_group::journal::Journal;
-use am_letter::letter::Letter;
+use am_letter::letter::letter_of;
 use am_letter::reader::decode;
 use am_letter::writer::encode;
 use am_packet::packet::Packet;
+use am_post::letter::Letter;
 use std::alloc::{AllocError, Global};
 use std::time::Instant;
 use std::{env, io};
@@ -75,7 +76,7 @@ fn letter_to(alloc: Global, to: Names) -> Result<Letter, AllocError> {
             by: Name::of_byte(0),
         },
     };
-    Letter::of(alloc, to, &invite)
+    letter_of(alloc, to, &invite)
 }
 
 /// A journal of so many records with one letter each.

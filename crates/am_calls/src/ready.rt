@@ -7,10 +7,11 @@ use am_answers::outcomes::ballot_answer;
 use am_base::outcome::Outcome;
 use am_group::event::Act;
 use am_info::info::BallotEnd;
-use am_letter::letter::Letter;
+use am_letter::letter::packet_of;
 use am_model::status::Status;
 use am_node::node::Node;
 use am_packet::packet::Packet;
+use am_post::letter::Letter;
 use am_races::call::Came;
 
 /// The round of a packet that is an Invite.
@@ -28,7 +29,7 @@ pub fn round_in(letters: &[Letter]) -> u32
     ensures { result ≡ round_in letters.now }
 {
     for letter in letters {
-        if let Some(round) = invite_round(&letter.packet()) {
+        if let Some(round) = invite_round(&packet_of(letter)) {
             return round;
         }
     }

@@ -16,10 +16,10 @@ use am_base::founding::Founding;
 use am_base::items::Items;
 use am_base::name::Name;
 use am_base::outcome::Outcome;
-use am_letter::letter::Letter;
 use am_letter::out_box::{OutBox, Rooms};
 use am_letter::reader::decode;
 use am_node::node::Node;
+use am_post::letter::Letter;
 use std::alloc::Global;
 use std::mem;
 

@@ -1,5 +1,4 @@
 pub mod Images
 pub mod Nobody
 pub mod Pieces
-pub mod Read
 pub mod Rows

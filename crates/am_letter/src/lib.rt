@@ -1,4 +1,4 @@
-//! Letters: packets written as bytes, the one spelling of each, and read from them; the bytes of a packet with its addressees; and
+//! Packets written as bytes, the one spelling of each, and read from them; the letters of packets, and the packets of letters; and
 //! the letters of one step in their order.
 #![tactic(auto)]
 

@@ -3,13 +3,13 @@ ghost use Rattle.am_base.specs.Names.{size};
 ghost use Rattle.am_packet.specs.Boxes.{with_letter, place_for};
 ghost use Rattle.am_codec.specs.Limits.{IsWithin};
 
-use crate::letter::Letter;
 use crate::writer::encode;
 use am_base::NoMemory;
 use am_base::body::PacketBytes;
 use am_base::items::Items;
 use am_base::names::Names;
 use am_packet::packet::Packet;
+use am_post::letter::Letter;
 use std::alloc::Global;
 use std::marker::Model;
 use std::mem;
@@ -155,7 +155,7 @@ impl OutBox {
     }
 
     /// Adds a letter behind those of its own kind and of lower ones; nothing where it is for nobody. It takes no memory.
-    #[tactic(auto, using(crate::proofs::Read::spelled))]
+    #[tactic(auto, using(am_post::proofs::Read::spelled))]
     pub fn put(&mut self, to: Names, packet: &Packet)
         requires room { length self.old < 24 }
         requires within { IsWithin packet.now }

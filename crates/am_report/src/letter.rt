@@ -4,7 +4,7 @@ ghost use Rattle.am_play.specs.Text.{kind_word, addressees_text, letter_text, le
 
 use crate::name::{is_everybody_else, push_names};
 use am_base::NoMemory;
-use am_letter::letter::Letter;
+use am_post::letter::Letter;
 
 /// The name of a kind by its number.
 fn word_at(kind: u8) -> &'static str

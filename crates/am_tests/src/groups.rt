@@ -12,9 +12,10 @@ use am_group::delivered::deliveries;
 use am_group::event::{Act, By, Event, Record};
 use am_group::group::Group;
 use am_group::journal::Journal;
-use am_letter::letter::Letter;
+use am_letter::letter::letter_of;
 use am_letter::reader::decode;
 use am_packet::packet::Packet;
+use am_post::letter::Letter;
 use std::alloc::Global;
 use std::test::*;
 
@@ -27,7 +28,7 @@ const INVITE: &[u8] = b"AG\x03\x0d\x00\x00\x00\x00\x02\x00\x00\x0c";
 
 fn invite_to(alloc: Global, to: Names) -> Result<Letter, Fail> {
     let invite = decode(INVITE).ok().ok_or("an Invite")?;
-    Ok(Letter::of(alloc, to, &invite)?)
+    Ok(letter_of(alloc, to, &invite)?)
 }
 
 fn record_of(alloc: Global, node: u8, outcome: Outcome, to: &[u16]) -> Result<Record, Fail> {
@@ -87,7 +88,7 @@ fn a_letter_with_any_is_for_each_life(rt: HostRuntime) -> Result<(), Fail> {
             by: Name::of_byte(0),
         },
     };
-    let letter = Letter::of(rt.alloc(), Names::of_mask(2), &ask)?;
+    let letter = letter_of(rt.alloc(), Names::of_mask(2), &ask)?;
     for (name, wanted) in [(1, true), (17, true), (241, true), (0, false), (2, false)] {
         assert_eq!(rt; is_for(&letter, Name::of_byte(name)), wanted, "of {name}");
     }

@@ -3,7 +3,7 @@ ghost use Rattle.am_codec.specs.Limits.{IsWithin};
 
 use am_base::names::Names;
 use am_codec::vectors::{ACK, ALL, NACK};
-use am_letter::letter::Letter;
+use am_letter::letter::{letter_of, packet_of};
 use am_letter::out_box::OutBox;
 use am_letter::reader::decode;
 use am_packet::packet::Packet;
@@ -25,7 +25,7 @@ fn packet(bytes: &[u8]) -> Result<Packet, Fail>
 #[test]
 fn each_kind_has_its_bytes(rt: HostRuntime) -> Result<(), Fail> {
     for bytes in ALL {
-        let letter = Letter::of(rt.alloc(), Names::of_mask(6), &packet(bytes)?)?;
+        let letter = letter_of(rt.alloc(), Names::of_mask(6), &packet(bytes)?)?;
         assert_eq!(rt; letter.bytes(), bytes);
     }
     Ok(())
@@ -33,12 +33,12 @@ fn each_kind_has_its_bytes(rt: HostRuntime) -> Result<(), Fail> {
 
 #[test]
 fn a_letter_has_its_bytes(rt: HostRuntime) -> Result<(), Fail> {
-    let letter = Letter::of(rt.alloc(), Names::of_mask(6), &packet(JOIN_ASK)?)?;
+    let letter = letter_of(rt.alloc(), Names::of_mask(6), &packet(JOIN_ASK)?)?;
     assert_eq!(rt; letter.bytes(), JOIN_ASK);
     assert!(rt; letter.is_for_any());
     assert_eq!(rt; letter.to().mask(), 6);
     assert_eq!(rt; letter.kind(), 9);
-    assert_eq!(rt; letter.packet().kind(), 9);
+    assert_eq!(rt; packet_of(&letter).kind(), 9);
     assert!(rt; letter.copy().bytes() == letter.bytes());
     Ok(())
 }
@@ -51,7 +51,7 @@ fn a_long_letter_has_its_bytes(rt: HostRuntime) -> Result<(), Fail> {
     let letter = letters.as_slice().first().ok_or("a letter")?;
     assert_eq!(rt; letter.bytes(), LONG);
     assert!(rt; letter.copy().bytes() == LONG);
-    match letter.packet() {
+    match packet_of(letter) {
         Packet::Request { req, body, .. } => {
             assert!(rt; req == 3 && body.bytes().len() == 41 && body.bytes().ends_with(b"67890"));
         }

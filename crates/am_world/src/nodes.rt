@@ -12,9 +12,9 @@ use am_base::event::NodeEvent;
 use am_base::items::Items;
 use am_base::name::Name;
 use am_base::outcome::Outcome;
-use am_letter::letter::Letter;
 use am_letter::out_box::{OutBox, Rooms};
 use am_node::node::Node;
+use am_post::letter::Letter;
 use std::alloc::Global;
 use std::mem;
 

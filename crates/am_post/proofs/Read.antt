@@ -5,7 +5,7 @@ use Rattle.am_packet.specs.Kinds.{kind_of}
 use Rattle.am_codec.specs.Limits.{IsPacket}
 use Rattle.am_codec.specs.Spelling.{spelling}
 use Rattle.am_codec.proofs.Again.{fields_short, spelling_again, length-spelling}
-use Rattle.am_letter.specs.Letters.{packet_in, read_packet, IsSpelled}
+use Rattle.am_post.specs.Letters.{packet_in, read_packet, IsSpelled}
 
 pub read_spelled : (packet : Packet) → IsPacket packet → packet_in (spelling packet) ≡ packet
 read_spelled packet is = ap read_packet (spelling_again packet is)
