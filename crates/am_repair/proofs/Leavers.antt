@@ -3,7 +3,7 @@ use Rattle.am_repair.proofs.Words.{◌≡◌, ℕ, ◌||◌, Bool, true, false, 
 use Rattle.am_repair.proofs.Words.{is_unfinished, Verdict, run, Cause, Looks, Change, refreshes, settles, begins_list, departs, promises, opens}
 use Rattle.am_repair.proofs.Words.{looks, asks_to_join, asks_to_leave, closes, rests_refresh, settle_is, welcomed_none}
 use Rattle.am_effects.proofs.{Nodes.nodes_keep, Rests.rests_closed}
-use Rattle.am_effects.specs.Looks.{finds_itself_out, waits, fetches_from_best, finds_too_few, finds_no_room, decides}
+use Rattle.am_effects.specs.Looks.{finds_itself_out}
 use Rattle.am_repair.proofs.{Leading.looked_open, Nodes.not_open, Following.overtaken_same}
 
 pub record LeavesSo (m : Node) : Type 0 where
@@ -20,11 +20,7 @@ same_leaves x y leaving status ballot h t =
 
 looked_leaving : (x : Node) (b : Ballot) (v : Verdict) → Looks x b v → v.node.leaving ≡ x.leaving
 looked_leaving x b v (finds_itself_out w) = refl
-looked_leaving x b v (waits y z) = refl
-looked_leaving x b v (fetches_from_best y z u) = refl
-looked_leaving x b v (finds_too_few y z) = refl
-looked_leaving x b v (finds_no_room y) = refl
-looked_leaving x b v (decides may) = refl
+looked_leaving x b v _ = refl
 
 neither : (a b : Bool) → (a || b) ≡ false → b ≡ false
 neither true b h = absurd (cc)

@@ -4,7 +4,7 @@ use Rattle.am_repair.proofs.Words.{slice_get, refl, sym, ap, ◌∙◌, subst, a
 use Rattle.am_repair.proofs.Words.{Node, top, is_sequencer, has_departed, is_unfinished, next_stamp, Step, World, with_record, with_step, happens}
 use Rattle.am_repair.proofs.Words.{split, Cause, LetterSays, Effect, actor, IsCause, all_get, few_names, heard_names, Along, AllOwned, heard_used}
 use Rattle.am_repair.proofs.Words.{each_along, Repair, Leads, Follows, IsApart, IsLeaver, IsElsewhere, IsCalm, Calm, IsOurs, is_stopped, None}
-use Rattle.am_repair.proofs.Words.{MayTell, leads, decided}
+use Rattle.am_repair.proofs.Words.{MayTell, leads, decided, Ballot}
 use Rattle.am_repair.proofs.Going.{OurStep, Ours, idles, steps, ours, lead_changes, follow_changes, apart_changes, left_changes, sender_is, member_there}
 use Rattle.am_repair.proofs.{Nodes.CalmCause, Nodes.acting, Nodes.leading, Nodes.leads_not, Leading.Goes, Leading.told_taken, Leading.Trusts}
 use Rattle.am_repair.proofs.{Leading.TellsTaken, Lists.LogGrows, Lists.grows_same, Following.Skips, Saying.Grow, Saying.calm_stays, Saying.Sends}
@@ -222,6 +222,34 @@ leader_step rules r w e s laws h k same =
 
 -- ---- a member's step
 
+-- what a node that doesn't lead keeps in its step, so that what it sends is calm
+record Aside (r : Repair) (m n : Node) : Type 0 where
+  who : n.core.who ≡ m.core.who
+  leaves : n.leaving ≡ true → r.gone n.core.who ≡ true
+  no_ballot : is_unfinished m.ballot ≡ false
+  begins_none : (b : Ballot) → n.ballot ≡ Some b → n.core.promise ≡ next_stamp m → ⊥
+  tells : MayTell n → n.core.promise.by ≡ n.core.who → n.core.promise ≡ r.view
+  no_leader : is_sequencer n ≡ true → ⊥
+
+aside_calm : (r : Repair) (w : World) (e : Event) (s : Step) → Calm r w → (k : OurStep r w e s) → Aside r (w.nodes (actor w e)) s.node
+    → k.effect.sender ≡ s.node → (i : ℕ) (l : Letter) → slice_get s.letters i ≡ Some l → IsCalm r (with_step w e (actor w e) s) l.packet
+aside_calm r w e s h k a sender =
+    let name = actor w e in
+    let m = w.nodes name in
+    let v = with_step w e name s in
+    let sends : Sends r v m s.node = record {
+      node = ap (λ i. v.nodes i) (a.who ∙ h.who name) ∙ (one_changed w e name s).here;
+      leaves = a.leaves;
+      no_ballot = a.no_ballot;
+      begins_none = a.begins_none;
+      tells = a.tells;
+      stays = λ t. absurd (a.no_leader t);
+      own = λ t. absurd (a.no_leader t);
+      promise = λ t. absurd (a.no_leader t);
+      base = λ t. absurd (a.no_leader t);
+    } in
+    sent_calm r w v m s.node k.cause s.letters k.calm sends (subst (λ (x : Node). All (LetterSays m k.cause x) s.letters) sender k.effect.letters)
+
 member_step : (r : Repair) (w : World) (e : Event) (s : Step) → Calm r w → (k : OurStep r w e s) → (actor w e == r.by) ≡ false
     → has r.members (actor w e) ≡ true → StepKeeps r w (with_step w e (actor w e) s) (actor w e) s
 member_step r w e s h k other there =
@@ -229,7 +257,6 @@ member_step r w e s h k other there =
     let m = w.nodes name in
     let n = s.node in
     let q = w.nodes r.by in
-    let c = k.cause in
     let v = with_step w e name s in
     let ch = one_changed w e name s in
     let own : (m.core.who == r.by) ≡ false = ap (λ i. i == r.by) (h.who name) ∙ other in
@@ -238,23 +265,11 @@ member_step r w e s h k other there =
     (record { who = refl; follows = f; stored = omega arith; taken = omega arith; acc = omega arith; skips = λ x. refl }) in
     let node : v.nodes r.by ≡ q = ch.others r.by (is_other name r.by other) in
     let acts_ = acting n g.follows.acts_ in
-    let sender = sender_is n k.effect.sender k.effect.is k.effect.stays (member_there n acts_.0) in
     let before = acting m f.acts_ in
     let promise : n.core.promise ≡ r.view = acts_.1 ∙ g.follows.view_ in
     let old : m.core.promise ≡ r.view = before.1 ∙ f.view_ in
     let no_leader : is_sequencer n ≡ true → ⊥ = λ t. leads_not n r.by (ap (λ (x : Stamp). x.by) g.follows.view_ ∙ h.own)
     (ap (λ i. i == r.by) g.who ∙ own) t in
-    let sends : Sends r v m n = record {
-      node = ap (λ i. v.nodes i) (g.who ∙ h.who name) ∙ ch.here;
-      leaves = λ t. absurd (let f = g.follows.rest.stays in cc);
-      no_ballot = f.rest.no_ballot;
-      begins_none = λ b is next. later_round m n r.view old promise next;
-      tells = λ t mine. promise;
-      stays = λ t. absurd (no_leader t);
-      own = λ t. absurd (no_leader t);
-      promise = λ t. promise;
-      base = λ t. absurd (no_leader t);
-    } in
     let follows_new : (i : ℕ) → has r.members i ≡ true → (i == r.by) ≡ false → Follows r q (v.nodes i) = λ i here d. split (i == name)
     (λ t. subst (λ j. Follows r q (v.nodes j)) (sym (eqb-true i name t)) (subst (Follows r q) (sym ch.here) g.follows))
     (λ t. subst (Follows r q) (sym (ch.others i t)) (h.follows i here d)) in
@@ -265,7 +280,14 @@ member_step r w e s h k other there =
       apart = λ i none goes here. apart_others r w v name i n ch h (differs r.members name i there none) none goes here;
       grow = grow_changed r w v name n ch (subst (λ (x : Node). LogGrows q.core.log x.core.log) (sym node) (grows_same q.core.log))
           (same_reports r w v q refl node) (λ here. (g.stored, g.taken, g.acc));
-      letters = sent_calm r w v m n c s.letters k.calm sends (subst (λ (x : Node). All (LetterSays m c x) s.letters) sender k.effect.letters);
+      letters = aside_calm r w e s h k (record {
+        who = g.who;
+        leaves = λ t. absurd (let f = g.follows.rest.stays in cc);
+        no_ballot = f.rest.no_ballot;
+        begins_none = λ b is next. later_round m n r.view old promise next;
+        tells = λ t mine. promise;
+        no_leader = no_leader;
+      }) (sender_is n k.effect.sender k.effect.is k.effect.stays (member_there n acts_.0));
     }
 
 -- ---- anybody else's
@@ -302,74 +324,53 @@ no_tell : (n : Node) → n.ballot ≡ None → (is_sequencer n ≡ true → ⊥)
 no_tell n none no_leader (leads t) = no_leader t
 no_tell n none no_leader (decided b number names is answer same) = absurd (cc)
 
-apart_step : (r : Repair) (w : World) (e : Event) (s : Step) → Calm r w → (k : OurStep r w e s) → (actor w e == r.by) ≡ false
-    → has r.members (actor w e) ≡ false → has_departed (w.nodes (actor w e)).status ≡ false → IsApart r (w.nodes (actor w e))
-    → StepKeeps r w (with_step w e (actor w e) s) (actor w e) s
-apart_step r w e s h k other none there a =
-    let name = actor w e in
-    let m = w.nodes name in
-    let n = s.node in
-    let c = k.cause in
-    let v = with_step w e name s in
-    let ch = one_changed w e name s in
-    let own : (m.core.who == r.by) ≡ false = ap (λ i. i == r.by) (h.who name) ∙ other in
-    let g = apart_changes r w m m n h.own own k.calm k.effect.changes (record { who = refl; there = there; apart = a }) in
-    let sender = sender_is n k.effect.sender k.effect.is k.effect.stays g.there in
-    let no_leader : is_sequencer n ≡ true → ⊥ = λ t. (let is = acting n (leading n t).0 in
-    leads_not n r.by (ap (λ (x : Stamp). x.by) (sym is.1 ∙ g.apart.promised is.0) ∙ h.own) (ap (λ i. i == r.by) g.who ∙ own) t) in
-    let sends : Sends r v m n = record {
-      node = ap (λ i. v.nodes i) (g.who ∙ h.who name) ∙ ch.here;
-      leaves = λ t. absurd (let f = g.apart.stays in cc);
-      no_ballot = ap is_unfinished a.no_ballot;
-      begins_none = λ b is next. (let x = g.apart.no_ballot in cc);
-      tells = λ t mine. absurd (no_tell n g.apart.no_ballot no_leader t);
-      stays = λ t. absurd (no_leader t);
-      own = λ t. absurd (no_leader t);
-      promise = λ t. absurd (no_leader t);
-      base = λ t. absurd (no_leader t);
-    } in
-    elsewhere_step r w e s h other none (g.who ∙ h.who name) (λ here. inl g.apart)
-    (sent_calm r w v m n c s.letters k.calm sends (subst (λ (x : Node). All (LetterSays m c x) s.letters) sender k.effect.letters))
+-- whoever isn't the leader, nor a member of its view, and hasn't departed
+module _ (r : Repair) (w : World) (e : Event) (s : Step) (h : Calm r w) (k : OurStep r w e s) (other : (actor w e == r.by) ≡ false)
+    (none : has r.members (actor w e) ≡ false) (there : has_departed (w.nodes (actor w e)).status ≡ false) where
+  abbrev was_ : Node
+  was_ = w.nodes (actor w e)
 
--- a leaver departs, and sends nothing, or goes on
-left_step : (r : Repair) (w : World) (e : Event) (s : Step) → Calm r w → (k : OurStep r w e s) → (actor w e == r.by) ≡ false
-    → has r.members (actor w e) ≡ false → has_departed (w.nodes (actor w e)).status ≡ false → IsLeaver r (w.nodes (actor w e))
-    → StepKeeps r w (with_step w e (actor w e) s) (actor w e) s
-left_step r w e s h k other none there a =
-    let name = actor w e in
-    let m = w.nodes name in
-    let n = s.node in
-    let c = k.cause in
-    let v = with_step w e name s in
-    let ch = one_changed w e name s in
-    let g = left_changes r w m m n k.calm k.effect.changes (record { who = refl; left = a; promise = inl refl }) in
-    let no_leader : is_sequencer n ≡ true → ⊥ = leads_not_left r n g.left in
-    let sends : Sends r v m n = record {
-      node = ap (λ i. v.nodes i) (g.who ∙ h.who name) ∙ ch.here;
-      leaves = λ t. g.left.gone;
-      no_ballot = a.no_ballot;
-      begins_none = λ b is next. not_next m n g.promise next;
-      tells = λ t mine. absurd (g.left.tells t mine);
-      stays = λ t. absurd (no_leader t);
-      own = λ t. absurd (no_leader t);
-      promise = λ t. absurd (no_leader t);
-      base = λ t. absurd (no_leader t);
-    } in
-    elsewhere_step r w e s h other none (g.who ∙ h.who name) (λ here. inr g.left)
-    (⊎_elim
-    (λ (nothing : s.letters ≡ []). λ i l there_. absurd (let z = ap (λ ls. slice_get ls i) nothing in cc))
-    (λ (here : Here n).
-    let sender = same_sender m c s k.effect here in
-    sent_calm r w v m n c s.letters k.calm sends (subst (λ (x : Node). All (LetterSays m c x) s.letters) sender k.effect.letters))
-    (none_or_here m s.letters n k.effect.ending there))
-  where
-    not_next : (m n : Node) → (n.core.promise ≡ m.core.promise) ⊎ ((n.core.promise.by == m.core.who) ≡ false) → n.core.promise ≡ next_stamp m → ⊥
-    not_next m n h next = ⊎_elim
-        (λ (same : n.core.promise ≡ m.core.promise). later_round m n m.core.promise refl same next)
-        (λ (other : (n.core.promise.by == m.core.who) ≡ false).
-        let by = ap (λ (u : Stamp). u.by) next in
-        let z : ⊥ = grind (arith, nat_tests) in z)
-        h
+  abbrev now_ : Node
+  now_ = s.node
+
+  apart_step : IsApart r was_ → StepKeeps r w (with_step w e (actor w e) s) (actor w e) s
+  apart_step a =
+      let own : (was_.core.who == r.by) ≡ false = ap (λ i. i == r.by) (h.who (actor w e)) ∙ other in
+      let g = apart_changes r w was_ was_ now_ h.own own k.calm k.effect.changes (record { who = refl; there = there; apart = a }) in
+      let no_leader : is_sequencer now_ ≡ true → ⊥ = λ t. (let acts_ = acting now_ (leading now_ t).0 in
+      leads_not now_ r.by (ap (λ (x : Stamp). x.by) (sym acts_.1 ∙ g.apart.promised acts_.0) ∙ h.own) (ap (λ i. i == r.by) g.who ∙ own) t) in
+      elsewhere_step r w e s h other none (g.who ∙ h.who (actor w e)) (λ here. inl g.apart) (aside_calm r w e s h k (record {
+        who = g.who;
+        leaves = λ t. absurd (let f = g.apart.stays in cc);
+        no_ballot = ap is_unfinished a.no_ballot;
+        begins_none = λ b some next. (let x = g.apart.no_ballot in cc);
+        tells = λ t mine. absurd (no_tell now_ g.apart.no_ballot no_leader t);
+        no_leader = no_leader;
+      }) (sender_is now_ k.effect.sender k.effect.is k.effect.stays g.there))
+
+  -- a leaver departs, and sends nothing, or goes on
+  left_step : IsLeaver r was_ → StepKeeps r w (with_step w e (actor w e) s) (actor w e) s
+  left_step a =
+      let g = left_changes r w was_ was_ now_ k.calm k.effect.changes (record { who = refl; left = a; promise = inl refl }) in
+      elsewhere_step r w e s h other none (g.who ∙ h.who (actor w e)) (λ here. inr g.left) (⊎_elim
+      (λ (nothing : s.letters ≡ []). λ i l there_. absurd (let z = ap (λ ls. slice_get ls i) nothing in cc))
+      (λ (here : Here now_). aside_calm r w e s h k (record {
+        who = g.who;
+        leaves = λ t. g.left.gone;
+        no_ballot = a.no_ballot;
+        begins_none = λ b some next. not_next was_ now_ g.promise next;
+        tells = λ t mine. absurd (g.left.tells t mine);
+        no_leader = leads_not_left r now_ g.left;
+      }) (same_sender was_ k.cause s k.effect here))
+      (none_or_here was_ s.letters now_ k.effect.ending there))
+    where
+      not_next : (m n : Node) → (n.core.promise ≡ m.core.promise) ⊎ ((n.core.promise.by == m.core.who) ≡ false) → n.core.promise ≡ next_stamp m → ⊥
+      not_next m n h next = ⊎_elim
+          (λ (same : n.core.promise ≡ m.core.promise). later_round m n m.core.promise refl same next)
+          (λ (other : (n.core.promise.by == m.core.who) ≡ false).
+          let by = ap (λ (u : Stamp). u.by) next in
+          let z : ⊥ = grind (arith, nat_tests) in z)
+          h
 
 gone_step : (r : Repair) (w : World) (e : Event) (s : Step) → Calm r w → (k : OurStep r w e s) → (actor w e == r.by) ≡ false
     → has r.members (actor w e) ≡ false → has_departed (w.nodes (actor w e)).status ≡ true → StepKeeps r w (with_step w e (actor w e) s) (actor w e) s
