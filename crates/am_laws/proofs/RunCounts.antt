@@ -1,6 +1,6 @@
 -- How high all numbers of a run are, event by event.
 use Rattle.am_laws.proofs.Words.{equals_itself, ◌≡◌, inl, inr, ⊎_elim, ℕ, ◌+◌, ◌-◌, ◌≤◌, ◌==◌, max, min, Bool, true, if◌then◌else◌, List, [], ◌∷◌, length}
-use Rattle.am_laws.proofs.Words.{take, drop, Option, Some, None, refl, ap, ◌∙◌, subst, arith, length-append, length-drop, All, length-take, All-nil}
+use Rattle.am_laws.proofs.Words.{take, drop, Option, Some, None, refl, ap, ◌∙◌, subst, arith, length-append, length-drop, All, length-take, All-nil, All-head, All-tail}
 use Rattle.am_laws.proofs.Words.{All-append, All-weaker, Entry, Rules, has, row_of, Packet, Letter, Event, letter_at, Node, Ballot, top, image_of, set_at}
 use Rattle.am_laws.proofs.Words.{founder, stranger, Step, World, start, first_node, group_with, group_after, with_record, with_step, happens, happen, run}
 use Rattle.am_laws.proofs.Words.{heard_by, split, Cause, hears, MayWelcome, Says, welcome, LetterSays, Effect, actor, WasSentTo, IsCause, Happens, steps}
@@ -199,18 +199,17 @@ low_happens b w e h = low_event b w e (happens w e) (events_have_effects w e)
 abbrev pub bounds_after : ℕ → Bounds → Bounds
 bounds_after many b = record { lists = b.lists + many; rounds = b.rounds + many; requests = b.requests + many }
 
-pub same_bounds : (b c : Bounds) (w : World) → b ≡ c → AllLow b w → AllLow c w
-same_bounds b c w is h = subst (λ x. AllLow x w) is h
-
-low_happen : (b : Bounds) (w : World) (events : List Event) → AllLow b w → AllLow (bounds_after (length events) b) (happen w events)
+-- what each event keeps, by bounds that are one higher behind it
+pub counted_happen : (P : Bounds → World → Type 0) (Q : Event → Type 0) → ((b : Bounds) (w : World) (e : Event) → Q e → P b w → P (up b) (happens w e))
+    → (b : Bounds) (w : World) (events : List Event) → All Q events → P b w → P (bounds_after (length events) b) (happen w events)
 unfolding happen
-low_happen b w [] h =
+counted_happen P Q keeps b w [] each h =
     let z : (n : ℕ) → n ≡ n + 0 = λ n. omega arith in
-    same_bounds b _ w (λ i. record { lists = z b.lists i; rounds = z b.rounds i; requests = z b.requests i }) h
-low_happen b w (e ∷ es) h =
+    subst (λ x. P x w) (λ i. record { lists = z b.lists i; rounds = z b.rounds i; requests = z b.requests i }) h
+counted_happen P Q keeps b w (e ∷ es) each h =
     let z : (n : ℕ) → n + 1 + length es ≡ n + length (e ∷ es) = λ n. omega arith in
-    same_bounds _ _ _ (λ i. record { lists = z b.lists i; rounds = z b.rounds i; requests = z b.requests i })
-    (low_happen (up b) (happens w e) es (low_happens b w e h))
+    subst (λ x. P x (happen (happens w e) es)) (λ i. record { lists = z b.lists i; rounds = z b.rounds i; requests = z b.requests i })
+    (counted_happen P Q keeps (up b) (happens w e) es (All-tail Q e es each) (keeps b w e (All-head Q e es each) h))
 
 -- ---- the start
 
@@ -250,7 +249,8 @@ low_start rules = record {
 }
 
 pub run_low : (rules : Rules) (events : List Event) → AllLow (bounds_after (length events) (record { lists = 1; rounds = 1; requests = 0 })) (run rules events)
-run_low rules events = low_happen (record { lists = 1; rounds = 1; requests = 0 }) (start rules) events (low_start rules)
+run_low rules events = counted_happen AllLow (λ _. Unit {0}) (λ b w e _ h. low_happens b w e h) (record { lists = 1; rounds = 1; requests = 0 }) (start rules)
+    events (λ k e at. tt) (low_start rules)
 
 pub numbers_hold : NumbersHold
 numbers_hold rules events =

@@ -1,5 +1,5 @@
 -- Each letter of a run is a packet within its limits, so the run of packets is the run of bytes.
-use Rattle.am_laws.proofs.Words.{equals_itself, ◌≡◌, ℕ, ◌+◌, ◌<◌, ◌≤◌, not, if◌then◌else◌, List, [], ◌∷◌, length, Option, Some, None, refl, ap, ◌∙◌, subst}
+use Rattle.am_laws.proofs.Words.{equals_itself, ◌≡◌, ℕ, ◌<◌, ◌≤◌, not, if◌then◌else◌, List, [], ◌∷◌, length, Option, Some, None, refl, ap, ◌∙◌, subst}
 use Rattle.am_laws.proofs.Words.{arith, All, All-nil, All-cons, All-head, All-tail, All-append, All-weaker, most_body, Rules, MayFound, top_of, Packet}
 use Rattle.am_laws.proofs.Words.{Letter, IsPacket, spelling_again, Act, Event, is_for, letter_at, Node, founder, stranger, founders_view, Step, World, start}
 use Rattle.am_laws.proofs.Words.{is_stopped, with_record, with_step, hears_letter, acts_as, happens, happen, run, heard_by, spelling_is_heard, cut_is_heard}
@@ -9,7 +9,7 @@ use Rattle.am_base.specs.declared.outcome.Outcome.TheVariants as said
 use Rattle.am_base.specs.declared.event.NodeEvent.TheVariants as does
 use Rattle.am_group.specs.declared.event.Act.TheVariants as act
 use Rattle.am_effects.specs.Events as event
-use Rattle.am_laws.proofs.RunCounts.{was_heard, AllLow, low_happens, low_start, sender_list, set_same, bounds_after, first_of}
+use Rattle.am_laws.proofs.RunCounts.{was_heard, AllLow, low_happens, low_start, sender_list, set_same, bounds_after, counted_happen, first_of}
 use Rattle.am_laws.proofs.NodeLimits.{SendWithin, KeptWithin, Within, PacketWithin, CauseWithin, within_more, packet_more, changes_within}
 use Rattle.am_laws.proofs.{Limits.EntryWithin, Limits.AreNumbers, Limits.is_blank_within, ListImages.WelcomeUp, ListImages.ListUp, LetterLimits.says_within}
 use Rattle.am_laws.proofs.{LetterLimits.is_packet, Named.AllNamed, Named.each_named, Named.start_named}
@@ -86,7 +86,7 @@ unfolding with_record
 within_event rules b w e v body (steps c s runs cause effect) low h = within_stepped rules b w e c s body cause effect low h
 within_event rules b w e v body _ low h = within_same b w v refl refl h.within
 
-limited_happens : (rules : Rules) (b : Bounds) (w : World) (e : Event) → BodyWithin e.act → Limited rules b w → Limited rules (up b) (happens w e)
+pub limited_happens : (rules : Rules) (b : Bounds) (w : World) (e : Event) → BodyWithin e.act → Limited rules b w → Limited rules (up b) (happens w e)
 limited_happens rules b w e body h =
     let low = low_happens b w e h.low in
     record {
@@ -128,15 +128,7 @@ fewer b many h = let l = h.lists in let r = h.rounds in let q = h.requests in re
 
 limited_happen : (rules : Rules) (b : Bounds) (w : World) (events : List Event) → All (λ (e : Event). BodyWithin e.act) events → Limited rules b w
     → Limited rules (bounds_after (length events) b) (happen w events)
-unfolding happen
-limited_happen rules b w [] bodies h =
-    let z : (n : ℕ) → n ≡ n + 0 = λ n. omega arith in
-    subst (λ x. Limited rules x w) (λ i. record { lists = z b.lists i; rounds = z b.rounds i; requests = z b.requests i }) h
-limited_happen rules b w (e ∷ es) bodies h =
-    let z : (n : ℕ) → n + 1 + length es ≡ n + length (e ∷ es) = λ n. omega arith in
-    subst (λ x. Limited rules x (happen (happens w e) es)) (λ i. record { lists = z b.lists i; rounds = z b.rounds i; requests = z b.requests i })
-    (limited_happen rules (up b) (happens w e) es (All-tail (λ (x : Event). BodyWithin x.act) e es bodies)
-    (limited_happens rules b w e (All-head (λ (x : Event). BodyWithin x.act) e es bodies) h))
+limited_happen rules = counted_happen (Limited rules) (λ e. BodyWithin e.act) (limited_happens rules)
 
 same_happen : (rules : Rules) (b : Bounds) (w : World) (events : List Event) → AreNumbers (bounds_after (length events) b)
     → All (λ (e : Event). BodyWithin e.act) events → Limited rules b w → happen_by_bytes w events ≡ happen w events
@@ -152,7 +144,7 @@ same_happen rules b w (e ∷ es) small bodies h =
 
 -- ---- the start
 
-first_bounds : Bounds
+pub first_bounds : Bounds
 first_bounds = record { lists = 1; rounds = 1; requests = 0 }
 
 founder_within : (rules : Rules) (name : ℕ) → MayFound rules → Within first_bounds (founder rules name)
@@ -174,7 +166,7 @@ stranger_within rules name = record {
   ballot = tt;
 }
 
-limited_start : (rules : Rules) → MayFound rules → Limited rules first_bounds (start rules)
+pub limited_start : (rules : Rules) → MayFound rules → Limited rules first_bounds (start rules)
 unfolding first_bounds
 limited_start rules may = record {
   low = low_start rules;
@@ -187,7 +179,8 @@ limited_start rules may = record {
 
 -- ---- what is claimed
 
-small_run : (rules : Rules) (events : List Event) → IsShort rules events → AreNumbers (bounds_after (length events) first_bounds)
+-- the bounds of a short run are numbers
+pub small_run : (rules : Rules) (events : List Event) → IsShort rules events → AreNumbers (bounds_after (length events) first_bounds)
 unfolding first_bounds
 small_run rules events short = let few = short.few in record { lists = omega arith; rounds = omega arith; requests = omega arith }
 
