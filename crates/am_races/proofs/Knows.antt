@@ -88,20 +88,12 @@ heard_still w e name hearing (Some letter) =
     (either_still w stopped hears (is_stopped w name) (unchanged_still w e said.IsStopped) (stepped_still w e name (hearing letter.packet)))
 
 acts_still : (w : World) (e : Event) (name : ℕ) (a : Act) → is_of_race a ≡ true → is_stop a ≡ false → Still w (acts_as w e name a)
-acts_still w e name (act.Send body) its other_act = does_still w e name (does.Send body)
-acts_still w e name (act.Done req) its other_act = does_still w e name (does.Done req)
-acts_still w e name act.Take its other_act = does_still w e name does.Take
-acts_still w e name act.Join its other_act = does_still w e name does.Join
-acts_still w e name act.State its other_act = does_still w e name does.State
-acts_still w e name act.Leave its other_act = does_still w e name does.Leave
-acts_still w e name (act.Reset least resilience) its other_act = does_still w e name (does.Reset least resilience)
-acts_still w e name (act.Ask round) its other_act = does_still w e name (does.Ask round)
 acts_still w e name (act.GiveUp other) its other_act = gives_up_still w e name other
 acts_still w e name act.Stop its other_act = absurd (true≢false other_act)
-acts_still w e name act.Tick its other_act = does_still w e name does.Tick
 acts_still w e name (act.Hear number) its other_act = heard_still w e name (hear (w.nodes name)) (letter_at w.letters number)
 acts_still w e name (act.Cut number keep) its other_act = absurd (true≢false (sym its))
 acts_still w e name act.Return its other_act = absurd (true≢false (sym its))
+acts_still w e name _ its other_act = does_still w e name _
 
 -- a name that runs stops
 record Stops (w w' : World) (name : ℕ) : Type 0 where
@@ -116,19 +108,7 @@ stop_case w e name false runs = record { lives = refl; stopped = refl }
 
 stop_acts : (w : World) (e : Event) (name : ℕ) (a : Act) → is_stop a ≡ true → is_stopped w name ≡ false → Stops w (acts_as w e name a) name
 stop_acts w e name act.Stop its runs = stop_case w e name (is_stopped w name) runs
-stop_acts w e name (act.Send body) its runs = absurd (true≢false (sym its))
-stop_acts w e name (act.Done req) its runs = absurd (true≢false (sym its))
-stop_acts w e name act.Take its runs = absurd (true≢false (sym its))
-stop_acts w e name act.Join its runs = absurd (true≢false (sym its))
-stop_acts w e name act.State its runs = absurd (true≢false (sym its))
-stop_acts w e name act.Leave its runs = absurd (true≢false (sym its))
-stop_acts w e name (act.Reset least resilience) its runs = absurd (true≢false (sym its))
-stop_acts w e name (act.Ask round) its runs = absurd (true≢false (sym its))
-stop_acts w e name (act.GiveUp other) its runs = absurd (true≢false (sym its))
-stop_acts w e name act.Tick its runs = absurd (true≢false (sym its))
-stop_acts w e name (act.Hear number) its runs = absurd (true≢false (sym its))
-stop_acts w e name (act.Cut number keep) its runs = absurd (true≢false (sym its))
-stop_acts w e name act.Return its runs = absurd (true≢false (sym its))
+stop_acts w e name _ its runs = absurd (true≢false (sym its))
 
 -- ---- what is known
 

@@ -147,17 +147,7 @@ turn_of_stays plan before knew r m name caller does lost place its is = by_act d
     by_act act.Tick zero e = let a = and_true _ _ e in both_true _ _ a.0 (ap (λ (k : ℕ). is_none (next_for (letters_of knew) name k)) same_cursor ∙ a.1)
     by_act act.Tick (suc k) e = let a = and_true _ _ e in both_true _ _ a.0 (picks act.Tick (suc k) refl a.1)
     by_act (act.Hear number) l e = let a = and_true _ _ e in both_true _ _ a.0 (picks (act.Hear number) l refl a.1)
-    by_act (act.Send body) l e = absurd (true≢false (sym e))
-    by_act (act.Done req) l e = absurd (true≢false (sym e))
-    by_act act.Take l e = absurd (true≢false (sym e))
-    by_act act.Join l e = absurd (true≢false (sym e))
-    by_act act.State l e = absurd (true≢false (sym e))
-    by_act act.Leave l e = absurd (true≢false (sym e))
-    by_act (act.Reset least resilience) l e = absurd (true≢false (sym e))
-    by_act (act.Ask round) l e = absurd (true≢false (sym e))
-    by_act act.Stop l e = absurd (true≢false (sym e))
-    by_act (act.Cut packet keep) l e = absurd (true≢false (sym e))
-    by_act act.Return l e = absurd (true≢false (sym e))
+    by_act _ l e = absurd (true≢false (sym e))
 
 pub same_place : (n : ℕ) → place_of (place_of n) ≡ place_of n
 same_place n = omega arith
@@ -165,77 +155,84 @@ same_place n = omega arith
 pub place_of_life : (n life : ℕ) → place_of (name_at (place_of n) life) ≡ place_of n
 place_of_life n life = omega arith
 
--- one record of another place and another caller
-pub turn_stays : (plan : RacePlan) (before : List Record) (r : Record) (e : Event) (by : By) → IsApart (place_of e.node) by.caller r
-    → is_turn plan before e by ≡ true → is_turn plan (before ++ r ∷ []) e by ≡ true
-unfolding is_turn
-turn_stays plan before r e by apart is =
-    let w : World = world_after plan.founding before in
-    let v : World = world_after plan.founding (before ++ r ∷ []) in
-    let p : ℕ = place_of e.node in
-    let more : List Record = before ++ r ∷ [] in
-    let first = others_stay plan.founding before r p (λ s. apart.place (sym s ∙ same_place e.node)) in
-    let same : v.lives p ≡ w.lives p = ap v.lives (sym (same_place e.node)) ∙ first.1 ∙ ap w.lives (same_place e.node) in
-    let here : current v p ≡ current w p = ap (name_at p) same in
-    let name : ℕ = current w p in
-    let its : place_of name ≡ p = place_of_life e.node (w.lives p) in
-    let node = (others_stay plan.founding before r name (λ s. apart.place (sym s ∙ its))).0 in
-    let left : IsLeft p by.caller by.call before more = others_are_apart p by.caller by.call before r apart in
-    let place : of_place (place_of name) more ≡ of_place (place_of name) before = ap (λ (k : ℕ). of_place k more) its ∙ left.place
-    ∙ ap (λ (k : ℕ). of_place k before) (sym its) in
-    let knew : up_to_last (place_of name) by.caller more ≡ up_to_last (place_of name) by.caller before = ap (λ (k : ℕ). up_to_last k by.caller more) its
-    ∙ left.known ∙ ap (λ (k : ℕ). up_to_last k by.caller before) (sym its) in
-    let both = and_true _ _ is in
-    let ready : not (is_ready (v.nodes name) (own_of (of_call by.caller by.call more))) ≡ true =
-    subst (λ (m : Node). not (is_ready m (own_of (of_call by.caller by.call more))) ≡ true) (sym node)
-    (subst (λ (rs : List Record). not (is_ready (w.nodes name) (own_of rs)) ≡ true) (sym left.call) both.0)
-    in
-    let turn : is_turn_of plan more (up_to_last (place_of name) by.caller more) (v.nodes name) name by.caller e.act (lost_by by.part) ≡ true =
-    subst (λ (m : Node). is_turn_of plan more (up_to_last (place_of name) by.caller more) m name by.caller e.act (lost_by by.part) ≡ true) (sym node)
-    (subst (λ (rs : List Record). is_turn_of plan more rs (w.nodes name) name by.caller e.act (lost_by by.part) ≡ true) (sym knew)
-    (turn_of_stays plan before (up_to_last (place_of name) by.caller before) r (w.nodes name) name by.caller e.act (lost_by by.part) place left.caller both.1))
-    in
-    subst (λ (k : ℕ). turns_at plan more v k e by ≡ true) (sym here) (both_true _ _ ready turn)
+-- behind one record of another place and another caller
+module _ (plan : RacePlan) (before : List Record) (r : Record) (e : Event) (by : By) (apart : IsApart (place_of e.node) by.caller r) where
+  abbrev old : World
+  old = world_after plan.founding before
+
+  abbrev new : World
+  new = world_after plan.founding (before ++ r ∷ [])
+
+  abbrev place : ℕ
+  place = place_of e.node
+
+  abbrev more : List Record
+  more = before ++ r ∷ []
+
+  abbrev name : ℕ
+  name = current old place
+
+  here : current new place ≡ name
+  here =
+      let first = others_stay plan.founding before r place (λ s. apart.place (sym s ∙ same_place e.node)) in
+      ap (name_at place) (ap new.lives (sym (same_place e.node)) ∙ first.1 ∙ ap old.lives (same_place e.node))
+
+  its : place_of name ≡ place
+  its = place_of_life e.node (old.lives place)
+
+  node : new.nodes name ≡ old.nodes name
+  node = (others_stay plan.founding before r name (λ s. apart.place (sym s ∙ its))).0
+
+  left : IsLeft place by.caller by.call before more
+  left = others_are_apart place by.caller by.call before r apart
+
+  turn_stays : is_turn plan before e by ≡ true → is_turn plan more e by ≡ true
+  unfolding is_turn
+  turn_stays is =
+      let its_place : of_place (place_of name) more ≡ of_place (place_of name) before = ap (λ (k : ℕ). of_place k more) its ∙ left.place
+      ∙ ap (λ (k : ℕ). of_place k before) (sym its) in
+      let knew : up_to_last (place_of name) by.caller more ≡ up_to_last (place_of name) by.caller before = ap (λ (k : ℕ). up_to_last k by.caller more) its
+      ∙ left.known ∙ ap (λ (k : ℕ). up_to_last k by.caller before) (sym its) in
+      let both = and_true _ _ is in
+      let ready : not (is_ready (new.nodes name) (own_of (of_call by.caller by.call more))) ≡ true =
+      subst (λ (m : Node). not (is_ready m (own_of (of_call by.caller by.call more))) ≡ true) (sym node)
+      (subst (λ (rs : List Record). not (is_ready (old.nodes name) (own_of rs)) ≡ true) (sym left.call) both.0)
+      in
+      let turn : is_turn_of plan more (up_to_last (place_of name) by.caller more) (new.nodes name) name by.caller e.act (lost_by by.part) ≡ true =
+      subst (λ (m : Node). is_turn_of plan more (up_to_last (place_of name) by.caller more) m name by.caller e.act (lost_by by.part) ≡ true) (sym node)
+      (subst (λ (rs : List Record). is_turn_of plan more rs (old.nodes name) name by.caller e.act (lost_by by.part) ≡ true) (sym knew)
+      (turn_of_stays plan before (up_to_last (place_of name) by.caller before) r (old.nodes name) name by.caller e.act (lost_by by.part) its_place left.caller
+      both.1))
+      in
+      subst (λ (k : ℕ). turns_at plan more new k e by ≡ true) (sym here) (both_true _ _ ready turn)
+
+  -- an end stays one, too
+  end_stays : may_end plan before e by ≡ true → may_end plan more e by ≡ true
+  unfolding may_end
+  end_stays is =
+      let due : is_due plan (new.nodes name) (of_call by.caller by.call more) ≡ true =
+      subst (λ (m : Node). is_due plan m (of_call by.caller by.call more) ≡ true) (sym node)
+      (subst (λ (rs : List Record). is_due plan (old.nodes name) rs ≡ true) (sym left.call) is)
+      in
+      subst (λ (k : ℕ). is_due plan (new.nodes k) (of_call by.caller by.call more) ≡ true) (sym here) due
 
 pub first_apart : (P : Record → Type 0) (r : Record) (rest : List Record) → All P (r ∷ rest) → P r × All P rest
 first_apart P r rest all = (all 0 r (omega arith), λ k d h. all (suc k) d (omega arith))
 
--- several of them
+-- behind several of them
+stays_through : (P : List Record → Type 0) (Q : Record → Type 0) → ((before : List Record) (r : Record) → Q r → P before → P (before ++ r ∷ []))
+    → (before more : List Record) → All Q more → P before → P (before ++ more)
+stays_through P Q stays before [] apart is = subst P (sym (append-nil before)) is
+stays_through P Q stays before (r ∷ rest) apart is =
+    let a = first_apart Q r rest apart in
+    subst P (append_assoc before (r ∷ []) rest) (stays_through P Q stays (before ++ r ∷ []) rest a.1 (stays before r a.0 is))
+
 pub turns_stay : (plan : RacePlan) (before more : List Record) (e : Event) (by : By) → All (IsApart (place_of e.node) by.caller) more
     → is_turn plan before e by ≡ true → is_turn plan (before ++ more) e by ≡ true
-turns_stay plan before [] e by apart is = subst (λ (rs : List Record). is_turn plan rs e by ≡ true) (sym (append-nil before)) is
-turns_stay plan before (r ∷ rest) e by apart is =
-    let a = first_apart (IsApart (place_of e.node) by.caller) r rest apart in
-    subst (λ (rs : List Record). is_turn plan rs e by ≡ true) (append_assoc before (r ∷ []) rest)
-    (turns_stay plan (before ++ r ∷ []) rest e by a.1 (turn_stays plan before r e by a.0 is))
-
--- ---- an end stays one, too
-
-end_stays : (plan : RacePlan) (before : List Record) (r : Record) (e : Event) (by : By) → IsApart (place_of e.node) by.caller r
-    → may_end plan before e by ≡ true → may_end plan (before ++ r ∷ []) e by ≡ true
-unfolding may_end
-end_stays plan before r e by apart is =
-    let w : World = world_after plan.founding before in
-    let v : World = world_after plan.founding (before ++ r ∷ []) in
-    let p : ℕ = place_of e.node in
-    let more : List Record = before ++ r ∷ [] in
-    let first = others_stay plan.founding before r p (λ s. apart.place (sym s ∙ same_place e.node)) in
-    let same : v.lives p ≡ w.lives p = ap v.lives (sym (same_place e.node)) ∙ first.1 ∙ ap w.lives (same_place e.node) in
-    let here : current v p ≡ current w p = ap (name_at p) same in
-    let name : ℕ = current w p in
-    let its : place_of name ≡ p = place_of_life e.node (w.lives p) in
-    let node = (others_stay plan.founding before r name (λ s. apart.place (sym s ∙ its))).0 in
-    let left : IsLeft p by.caller by.call before more = others_are_apart p by.caller by.call before r apart in
-    let due : is_due plan (v.nodes name) (of_call by.caller by.call more) ≡ true =
-    subst (λ (m : Node). is_due plan m (of_call by.caller by.call more) ≡ true) (sym node)
-    (subst (λ (rs : List Record). is_due plan (w.nodes name) rs ≡ true) (sym left.call) is)
-    in
-    subst (λ (k : ℕ). is_due plan (v.nodes k) (of_call by.caller by.call more) ≡ true) (sym here) due
+turns_stay plan before more e by = stays_through (λ rs. is_turn plan rs e by ≡ true) (IsApart (place_of e.node) by.caller)
+    (λ b r apart is. turn_stays plan b r e by apart is) before more
 
 pub ends_stay : (plan : RacePlan) (before more : List Record) (e : Event) (by : By) → All (IsApart (place_of e.node) by.caller) more
     → may_end plan before e by ≡ true → may_end plan (before ++ more) e by ≡ true
-ends_stay plan before [] e by apart is = subst (λ (rs : List Record). may_end plan rs e by ≡ true) (sym (append-nil before)) is
-ends_stay plan before (r ∷ rest) e by apart is =
-    let a = first_apart (IsApart (place_of e.node) by.caller) r rest apart in
-    subst (λ (rs : List Record). may_end plan rs e by ≡ true) (append_assoc before (r ∷ []) rest)
-    (ends_stay plan (before ++ r ∷ []) rest e by a.1 (end_stays plan before r e by a.0 is))
+ends_stay plan before more e by = stays_through (λ rs. may_end plan rs e by ≡ true) (IsApart (place_of e.node) by.caller)
+    (λ b r apart is. end_stays plan b r e by apart is) before more
