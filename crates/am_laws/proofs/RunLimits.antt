@@ -147,7 +147,7 @@ same_happen rules b w (e ∷ es) small bodies h =
 pub first_bounds : Bounds
 first_bounds = record { lists = 1; rounds = 1; requests = 0 }
 
-founder_within : (rules : Rules) (name : ℕ) → MayFound rules → Within first_bounds (founder rules name)
+pub founder_within : (rules : Rules) (name : ℕ) → MayFound rules → Within first_bounds (founder rules name)
 unfolding first_bounds
 founder_within rules name may = record {
   image = is_blank_within first_bounds;

@@ -1,9 +1,9 @@
 -- Each entry that a node has, a letter tells or a group lists speaks of names that there are.
-use Rattle.am_laws.proofs.Words.{◌≡◌, ℕ, ◌-◌, ◌<◌, ◌==◌, ◌&&◌, not, length, List, [], ◌∷◌, Option, Some, None, refl, sym, subst, arith, nat_tests, All}
-use Rattle.am_laws.proofs.Words.{All-nil, All-cons, All-append, All-take, All-drop, All-weaker, split, Stamp, Report, stamp_lt, Entry, Data, Join, Leave}
+use Rattle.am_laws.proofs.Words.{◌≡◌, ℕ, ◌<◌, ◌==◌, ◌&&◌, not, List, [], ◌∷◌, Option, Some, None, refl, sym, subst, arith, nat_tests, All}
+use Rattle.am_laws.proofs.Words.{All-nil, All-cons, All-append, All-weaker, split, Stamp, Report, stamp_lt, Entry, Data, Join, Leave}
 use Rattle.am_laws.proofs.Words.{View, Outcome}
-use Rattle.am_laws.proofs.Words.{Rules, MayFound, Packet, Letter, Event, Node, Ballot, push_entry, view, set_at, founders_view}
-use Rattle.am_laws.proofs.Words.{group_after, overtake, Verdict, refresh, settle, refresh_at_end, Step, World, start, run, with_record, with_step, heard_by}
+use Rattle.am_laws.proofs.Words.{Rules, MayFound, Packet, Letter, Event, Node, Ballot, push_entry, set_at, founders_view}
+use Rattle.am_laws.proofs.Words.{overtake, Verdict, refresh, settle, refresh_at_end, Step, World, start, run, with_record, with_step, heard_by}
 use Rattle.am_laws.proofs.Words.{Cause}
 use Rattle.am_laws.proofs.Words.{hears, Looks, decides, HasOpen, Balloting, with_more, without_one, as_it_is, Numbers, asked_send, own_send, asked_join}
 use Rattle.am_laws.proofs.Words.{asked_leave}
@@ -15,6 +15,7 @@ use Rattle.am_laws.proofs.Words.{first_founder, first_has}
 use Rattle.am_packet.specs.declared.packet.Packet.TheVariants as packet
 use Rattle.am_laws.proofs.Named.{AllNamed, few_names, each_named, start_named}
 use Rattle.am_laws.proofs.RunCounts.{was_heard}
+use Rattle.am_sent.proofs.Runs.{grown_all}
 
 -- ---- names in entries
 
@@ -152,12 +153,6 @@ sender_is : (n sender : Node) → n ≡ record sender { status = n.status } → 
 sender_is n sender is h = let k : NodeNamed (record sender { status = n.status }) = subst NodeNamed is h in
     record { who = k.who; entries = k.entries; ballot = k.ballot }
 
-grown_named : (group : List Entry) (m : Node) → All EntryNamed group → All EntryNamed m.core.log.entries → All EntryNamed (group_after group m)
-grown_named group m h k = split ((view m).by == m.core.who)
-    (λ t. rw t (All-append EntryNamed group _ h (All-take EntryNamed (m.core.acc - length group) _
-    (All-drop EntryNamed (length group - m.core.log.start) m.core.log.entries k))))
-    (λ f. rw f h)
-
 set_named : (nodes : ℕ → Node) (name : ℕ) (n : Node) → ((other : ℕ) → other < 256 → NodeNamed (nodes other)) → NodeNamed n → (other : ℕ) → other < 256
     → NodeNamed (set_at nodes name n other)
 set_named nodes name n h k other low = split (other == name) (λ t. rw t k) (λ f. rw f (h other low))
@@ -178,7 +173,7 @@ stepped_named rules w e c s base cause effect h =
       letters = All-append LetterNamed w.letters s.letters h.letters
           (All-weaker (LetterSays m c effect.sender) LetterNamed
           (λ l x. says_named m effect.sender c l.to l.packet from x.says sender) s.letters effect.letters);
-      group = grown_named w.group s.node h.group node.entries;
+      group = grown_all EntryNamed w.group s.node h.group node.entries;
     }
 
 said_keeps : (rules : Rules) → EachKeeps (AllSaid rules)

@@ -1,8 +1,8 @@
 -- In each run no View has less resilience than the founding, whoever stops.
-use Rattle.am_laws.proofs.Words.{◌≡◌, inl, ⊎_elim, ℕ, ◌-◌, ◌<◌, ◌≤◌, ◌==◌, true, List, [], ◌∷◌, ◌++◌, length, Some, slice_get, refl, sym, ap}
-use Rattle.am_laws.proofs.Words.{◌∙◌, subst, arith, nat_tests, All, All-nil, All-cons, All-append, All-take, All-drop, All-weaker, split, Entry, Image, Outcome}
-use Rattle.am_laws.proofs.Words.{Stamp, Rules, MayFound, Packet, Event, Node, Ballot, top, image_of, view, has_log, founder, stranger, founders_view}
-use Rattle.am_laws.proofs.Words.{is_view, group_after, Verdict, Step, World, start, run, happen, happens, with_record, with_step, heard_by, Cause, hears, Looks}
+use Rattle.am_laws.proofs.Words.{◌≡◌, inl, ⊎_elim, ℕ, ◌<◌, ◌≤◌, ◌==◌, true, List, [], ◌∷◌, ◌++◌, Some, slice_get, refl, sym, ap}
+use Rattle.am_laws.proofs.Words.{◌∙◌, subst, arith, nat_tests, All, All-nil, All-cons, All-append, All-weaker, split, Entry, Image, Outcome}
+use Rattle.am_laws.proofs.Words.{Stamp, Rules, MayFound, Packet, Event, Node, Ballot, top, image_of, has_log, founder, stranger, founders_view}
+use Rattle.am_laws.proofs.Words.{is_view, Verdict, Step, World, start, run, happen, happens, with_record, with_step, heard_by, Cause, hears, Looks}
 use Rattle.am_laws.proofs.Words.{finds_itself_out, Change, refreshes, settles, begins_list, looks, closes, push_entry, Leave, Says, welcome, piece, result}
 use Rattle.am_laws.proofs.Words.{LetterSays, Effect, actor, IsCause, Happens, idles, stops, returns, steps, all_get, all_item, equals_itself, along, EachKeeps}
 use Rattle.am_laws.proofs.Words.{StepsKeep, SameParts, law_keeps, runs_keep, first_has, rests_refresh, rests_at_end, settle_is, events_have_effects, logged}
@@ -16,6 +16,7 @@ use Rattle.am_laws.proofs.RunCounts.{was_heard, set_same}
 use Rattle.am_laws.proofs.Trims.{Owned}
 use Rattle.am_laws.proofs.TakenRuns.{AllOwned, each_owned, owned_start}
 use Rattle.am_laws.proofs.ViewChanges.{leads_member}
+use Rattle.am_sent.proofs.Runs.{grown_all}
 use Rattle.am_promises.specs.Ballots.{BallotsOk}
 use Rattle.am_promises.proofs.Ballots.{ballots_are_own}
 use Rattle.am_records.specs.Resiliences.{IsRaised, GivesRaised, GaveRaised, FirstIsView, ListRaised, NodeRaised, PacketRaised, LetterRaised}
@@ -85,13 +86,6 @@ heard_raised rules w e c h cause p is =
     let was = was_heard w e c p is cause in
     subst (PacketRaised rules) was.is (all_item (LetterRaised rules) w.letters (heard_by e.act) was.letter h.letters was.there)
 
-grown_raised : (rules : Rules) (group : List Entry) (m : Node) → All (IsRaised rules) group → All (IsRaised rules) m.core.log.entries
-    → All (IsRaised rules) (group_after group m)
-grown_raised rules group m h k = split ((view m).by == m.core.who)
-    (λ t. rw t (All-append (IsRaised rules) group _ h (All-take (IsRaised rules) (m.core.acc - length group) _
-    (All-drop (IsRaised rules) (length group - m.core.log.start) m.core.log.entries k))))
-    (λ f. rw f h)
-
 -- the sender is the node after the step, but for its status
 tells_by : (rules : Rules) (c : Cause) (m : Node) (s : Step) → NodeRaised rules s.node → Owned m → Owned s.node
     → (e : Effect m c s) → Tells rules c m e.sender
@@ -122,7 +116,7 @@ raised_step rules w e c s cause effect base h =
       letters = All-append (LetterRaised rules) w.letters s.letters h.letters
           (All-weaker (LetterSays m c effect.sender) (LetterRaised rules)
           (λ l x. says_raised rules m effect.sender c l.to l.packet tells x.says) s.letters effect.letters);
-      group = grown_raised rules w.group s.node h.group node.list.entries;
+      group = grown_all (IsRaised rules) w.group s.node h.group node.list.entries;
     }
 
 raised_same : (rules : Rules) (w v : World) → SameParts w v → AllOwned rules v → AllRaised rules w → AllRaised rules v

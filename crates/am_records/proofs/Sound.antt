@@ -30,6 +30,7 @@ use Rattle.am_laws.specs.Numbers.{NodeNumbers}
 use Rattle.am_laws.proofs.RunCounts.{numbers_hold, bounds_after}
 use Rattle.am_laws.proofs.Limits.{EntryWithin, AreNumbers}
 use Rattle.am_laws.proofs.NodeLimits.{SendWithin}
+use Rattle.am_laws.proofs.RunLimits.{first_bounds, small_run}
 use Rattle.am_laws.proofs.Named.{run_named}
 use Rattle.am_sent.proofs.Kept.{WasSent, EntrySent}
 use Rattle.am_sent.proofs.Runs.{AllSent, each_keeps, sent_start}
@@ -38,7 +39,7 @@ use Rattle.am_promises.specs.Ballots.{IsOfBallot, LastOk, BallotsOk}
 use Rattle.am_promises.proofs.Ballots.{ballots_are_own}
 use Rattle.am_records.specs.Records.{AsksBytes, IsSayable, IsAnswer, IsSound, RecordsAreSound, queued_in, queued_by, requests_given, RequestsInTurn, IsBack}
 use Rattle.am_records.proofs.Names.{EntryNamed, run_said}
-use Rattle.am_records.proofs.Limits.{Held, first_bounds, run_held, small_bounds}
+use Rattle.am_records.proofs.Limits.{Held, run_held}
 use Rattle.am_records.proofs.Settled.{IsUpTo, SendsOk, sends_ok}
 use Rattle.am_records.proofs.Lives.{tells}
 
@@ -250,7 +251,7 @@ facts rules es short sound =
     let numbers = numbers_hold rules es in
     record {
       held = run_held rules es short.founds short.bodies;
-      small = small_bounds rules es short;
+      small = small_run rules es short;
       few = omega arith;
       numbers = numbers.each;
       named = λ name low. (said.each name low).entries;

@@ -58,11 +58,10 @@ set_kept all nodes name n h k other = split (other == name)
     (λ t. let is : name ≡ other = grind (arith, nat_tests) in rw t (subst (λ i. Keeps all i n) is k))
     (λ f. rw f (h other))
 
-group_sent : (all : List Record) (group : List Entry) (m : Node) → All (EntrySent all) group → All (EntrySent all) m.core.log.entries
-    → All (EntrySent all) (group_after group m)
-group_sent all group m h k = split ((view m).by == m.core.who)
-    (λ t. rw t (All-append (EntrySent all) group _ h (All-take (EntrySent all) (m.core.acc - length group) _
-    (All-drop (EntrySent all) (length group - m.core.log.start) m.core.log.entries k))))
+-- what each entry of a group list and of a node is, each of the list is after the node's step
+pub grown_all : (P : Entry → Type 0) (group : List Entry) (m : Node) → All P group → All P m.core.log.entries → All P (group_after group m)
+grown_all P group m h k = split ((view m).by == m.core.who)
+    (λ t. rw t (All-append P group _ h (All-take P (m.core.acc - length group) _ (All-drop P (length group - m.core.log.start) m.core.log.entries k))))
     (λ f. rw f h)
 
 -- the records with that of a step
@@ -79,7 +78,7 @@ sent_stepped w e name s h k =
       all = record {
         each = set_kept all w.nodes name s.node old.each k.node;
         sent = All-append (LetterSent all) w.letters s.letters old.sent k.letters;
-        list = group_sent all w.group s.node old.list k.node.entries;
+        list = grown_all (EntrySent all) w.group s.node old.list k.node.entries;
       };
     }
 
