@@ -207,21 +207,12 @@ module _ (s : Group) (k : Kept s) (i : ℕ) (e : Entry) (leads : Leads i (s.node
       → ((j : ℕ) → j ≢ i → IsThere (s.node j) → (s.node j).leaving ≡ false → Spares j e)
       → NodeOk grown s.group i n → Kept (record s { node = put s.node i n; views = grown })
   chain_change n list_n log start promise ballot staying gone spares ok =
-      let later : Later (s.node i) n = record {
-        list = subst (Begins (s.node i).list) (sym list_n) (begins_more (s.node i).list (e ∷ []));
-        log = λ h. log;
-        start = λ h. start;
-        there = λ h. leads.up.there;
-        staying = staying;
-        promise = let z = ap key promise in omega arith;
-      } in
-      let up = later_all s.node i n later in
       let chain_n : n.list ≡ chain_of grown = list_n ∙ sym chain_is in
       record {
         views = views_grow;
         group = begins_trans k.group chain_grows;
         each = put_at (λ j m. NodeOk grown s.group j m) s.node i n ok (λ j other. others_grow j other (spares j other));
-        shown = λ x name l h. shown_later s.node (put s.node i n) x name l up (k.shown x name l h);
+        shown = λ x name l h. shown_later s.node (put s.node i n) x name l up_all (k.shown x name l h);
         still = put_at (λ v m. (l : List Entry) → s.shown (key m.promise) v ≡ Some l → s.views.decided (key m.promise) ≡ false → m.list ≡ l) s.node i n
             (λ l h none. let now = k.views.now in let at = ap (λ p. s.views.decided (key p)) (promise ∙ leads.acts ∙ view_is) in absurd (cc))
             (λ v _. k.still v);
@@ -231,14 +222,14 @@ module _ (s : Group) (k : Kept s) (i : ℕ) (e : Entry) (leads : Leads i (s.node
             → ServedOk (put s.node i n) grown (key m.promise) l)
             s.node i n
             (λ u b. absurd (no_ballot (sym ballot ∙ b)))
-            (λ c other u b a d. let o = served_later s.node (put s.node i n) s.views (key (s.node c).promise) l up (k.served c h l u b a d) in
+            (λ c other u b a d. let o = served_later s.node (put s.node i n) s.views (key (s.node c).promise) l up_all (k.served c h l u b a d) in
             record { chain = begins_trans o.chain chain_grows; promised = o.promised }) c;
         sent = k.sent;
-        witness = λ m low high. witness_later s.node (put s.node i n) s.group m up (k.witness m low high);
+        witness = λ m low high. witness_later s.node (put s.node i n) s.group m up_all (k.witness m low high);
         departed = put_at (λ d m. m.departed ≡ true → DepartedOk (put s.node i n) grown d) s.node i n
             (λ h. ⊎_elim
             (λ (o : (s.node i).departed ≡ true). departed_grows i (k.departed i o))
-            (λ (o : DepartedOk s.node grown i). departed_later s.node (put s.node i n) grown i up o)
+            (λ (o : DepartedOk s.node grown i). departed_later s.node (put s.node i n) grown i up_all o)
             (gone h))
             (λ d other h. departed_grows d (k.departed d h));
         enough = λ x decided holders counts stored much. split (holders i)
