@@ -1,5 +1,5 @@
 -- Sets of names, part by part.
-use Rattle.std.proofs.Common.{◌≡◌, ℕ, ◌+◌, List, ◌∷◌, Option, Result, Ok, Err, if◌then◌else◌, nat_lt, refl, sym, ap, ◌∙◌}
+use Rattle.std.proofs.Common.{◌≡◌, ℕ, ◌+◌, List, Option, Result, Err, if◌then◌else◌, nat_lt, sym, ap, ◌∙◌}
 use Rattle.am_base.specs.Names.{place_of, with_name}
 use Rattle.am_fields.specs.declared.fault.FieldFault.{FieldFault}
 use Rattle.am_fields.specs.declared.fault.FieldFault.TheVariants.{Form}

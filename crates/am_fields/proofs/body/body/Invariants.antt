@@ -1,4 +1,4 @@
-use Rattle.std.proofs.Common.{◌≡◌, ℕ, ◌+◌, ◌*◌, ◌++◌, drop, length, vec_capacity}
+use Rattle.std.proofs.Common.{◌≡◌, ◌*◌, ◌++◌, drop, length, vec_capacity}
 use Rattle.am_fields.specs.Fields.{bytes_in}
 use Rattle.am_fields.proofs.body.body.Given as goal
 

@@ -1,4 +1,4 @@
-use Rattle.std.proofs.Common.{◌≡◌, ℕ, suc, ◌+◌, ◌-◌, ◌<◌, ◌≤◌, List, length, take, drop, get_or, Some, ap, ◌∙◌, sym, arith, length-drop, take_all, add-one}
+use Rattle.std.proofs.Common.{◌≡◌, ℕ, ◌+◌, ◌-◌, length, take, drop, Some, ap, ◌∙◌, sym, arith, length-drop, take_all, add-one}
 use Rattle.am_fields.proofs.Cuts.{cut_at, cut_none}
 use Rattle.am_fields.proofs.cut.cut.Goals as goal
 

@@ -1,4 +1,4 @@
-use Rattle.std.proofs.Common.{◌≡◌, ℕ, List, ◌+◌, Ok, Err, ap, ap₂, sym, ◌∙◌, rules, arith, true, false, nat_lt}
+use Rattle.std.proofs.Common.{◌≡◌, ℕ, List, ◌+◌, Ok, Err, ap, ap₂, ◌∙◌, rules, arith, true, false, nat_lt}
 use Rattle.am_base.specs.Names.{place_of}
 use Rattle.std.proofs.lemmas.Bool.Decides.{nat_tests}
 use Rattle.am_fields.specs.Fields.{names_onto, parts_of}

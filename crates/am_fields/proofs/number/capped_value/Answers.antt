@@ -1,4 +1,4 @@
-use Rattle.std.proofs.Common.{◌≡◌, ◌+◌, ◌-◌, ◌*◌, min, get_or, arith, rules, ◌∙◌, sym, ap, ap₂, ℕ, refl}
+use Rattle.std.proofs.Common.{◌+◌, ◌*◌, min, get_or, ◌∙◌, ap₂, ℕ, refl}
 use Rattle.am_fields.proofs.Digits.{value_more, digit_at}
 use Rattle.am_fields.proofs.number.capped_value.Goals as goal
 
