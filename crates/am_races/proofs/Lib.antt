@@ -23,5 +23,6 @@ pub mod Growing
 pub mod Shapes
 pub mod Making
 pub mod Mayings
+pub mod Hands
 pub mod Looking
 pub mod Starting

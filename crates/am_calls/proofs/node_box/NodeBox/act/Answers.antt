@@ -1,7 +1,7 @@
 use Rattle.std.proofs.Common.{rules, ap, ◌∙◌}
 use Rattle.am_races.specs.Ready.{round_in}
 use Rattle.am_races.proofs.Boxing.{filled, doing, box_numbers, box_ready, box_after, box_acted}
-use Rattle.am_races.proofs.Looking.{act_told}
+use Rattle.am_races.proofs.Hands.{act_told}
 use Rattle.am_calls.proofs.node_box.NodeBox.act.Goals as goal
 
 pub step-outcome-requires : goal.step-outcome-requires

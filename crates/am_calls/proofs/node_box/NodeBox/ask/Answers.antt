@@ -1,4 +1,5 @@
-use Rattle.am_races.proofs.Looking.{may_ask, asked_timely, ask_hand, ask_done, ask_goes, ask_refused, refused_as}
+use Rattle.am_races.proofs.Hands.{may_ask, asked_timely}
+use Rattle.am_races.proofs.Looking.{ask_hand, ask_done, ask_goes, ask_refused, refused_as}
 use Rattle.am_calls.proofs.node_box.NodeBox.ask.Goals as goal
 
 pub act-requires-clause-may : goal.act-requires-clause-may

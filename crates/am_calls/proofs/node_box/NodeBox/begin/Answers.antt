@@ -8,7 +8,8 @@ use Rattle.am_races.specs.declared.answer.Answer.{Answer}
 use Rattle.am_races.specs.declared.call.Came.{Came}
 use Rattle.am_races.specs.Answers.{is_take, is_end_of}
 use Rattle.am_races.specs.Going.{by_of, is_asked, Asked, WasRefused}
-use Rattle.am_races.proofs.Looking.{call_asks, began_all, all_refused_since}
+use Rattle.am_races.proofs.Hands.{call_asks}
+use Rattle.am_races.proofs.Looking.{began_all, all_refused_since}
 use Rattle.am_calls.proofs.node_box.NodeBox.begin.Goals as goal
 
 pub ask-requires-clause-asks : goal.ask-requires-clause-asks

@@ -5,7 +5,8 @@ use Rattle.am_races.specs.Going.{by_of, is_asked, end_part, Asked}
 use Rattle.am_races.specs.Boxes.{node_by}
 use Rattle.am_races.specs.Tags.{is_turn_part, of_call}
 use Rattle.am_races.specs.Turns.{is_due}
-use Rattle.am_races.proofs.Looking.{end_asks, end_no_turn, end_done}
+use Rattle.am_races.proofs.Hands.{end_asks, end_no_turn}
+use Rattle.am_races.proofs.Looking.{end_done}
 use Rattle.am_calls.proofs.node_box.NodeBox.end.Goals as goal
 
 pub ask-requires-clause-asks : goal.ask-requires-clause-asks

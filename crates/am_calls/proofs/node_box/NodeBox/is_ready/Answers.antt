@@ -2,7 +2,7 @@ use Rattle.std.proofs.Common.{Option, sym, ◌∙◌, subst}
 use Rattle.am_races.specs.declared.call.Came.{Came}
 use Rattle.am_races.specs.Boxes.{node_by}
 use Rattle.am_races.specs.Going.{IsCame, EndTells}
-use Rattle.am_races.proofs.Looking.{receive_ready, call_ready, receive_told, call_told}
+use Rattle.am_races.proofs.Hands.{receive_ready, call_ready, receive_told, call_told}
 use Rattle.am_calls.proofs.node_box.NodeBox.is_ready.Goals as goal
 
 pub returns-in-None-clause-ready : goal.returns-in-None-clause-ready

@@ -3,7 +3,8 @@ use Rattle.am_group.specs.declared.event.Record.{Record}
 use Rattle.am_races.specs.Boxes.{node_by}
 use Rattle.am_races.specs.Tags.{of_call, own_of}
 use Rattle.am_races.specs.Going.{HasLooked, WasRefused, EndTells}
-use Rattle.am_races.proofs.Looking.{came_seen, used_at, ready_due, last_looked, ready_looked, turn_looked, all_refused_since}
+use Rattle.am_races.proofs.Hands.{ready_due}
+use Rattle.am_races.proofs.Looking.{came_seen, used_at, last_looked, ready_looked, turn_looked, all_refused_since}
 use Rattle.am_calls.proofs.node_box.NodeBox.look.Goals as goal
 
 pub spend-requires-clause-unready : goal.spend-requires-clause-unready

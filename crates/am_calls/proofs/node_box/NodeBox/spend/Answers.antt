@@ -2,7 +2,8 @@ use Rattle.std.proofs.Common.{ap, ◌∙◌}
 use Rattle.am_chooser.specs.Choices.{Luck}
 use Rattle.am_races.specs.Going.{luck_behind}
 use Rattle.am_races.proofs.Boxing.{still_runs}
-use Rattle.am_races.proofs.Looking.{turn_is_may, turn_timely, turn_hand, turn_grown, turn_refused, refused_hand, refused_as}
+use Rattle.am_races.proofs.Hands.{turn_timely}
+use Rattle.am_races.proofs.Looking.{turn_is_may, turn_hand, turn_grown, turn_refused, refused_hand, refused_as}
 use Rattle.am_calls.proofs.node_box.NodeBox.spend.Goals as goal
 
 pub act-requires-clause-may : goal.act-requires-clause-may
