@@ -1,5 +1,5 @@
 use Rattle.std.proofs.Common.{rules}
-use Rattle.am_wire.proofs.Keeps.{opens}
+use Rattle.am_wire.proofs.Sharing.{opens}
 use Rattle.am_wire.proofs.wire.Wire.new.Goals as goal
 
 pub new-requires-2 : goal.new-requires-2

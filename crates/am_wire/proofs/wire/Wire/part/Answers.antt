@@ -1,5 +1,5 @@
 use Rattle.std.proofs.Common.{rules}
-use Rattle.am_wire.proofs.Keeps.{splits}
+use Rattle.am_wire.proofs.Sharing.{splits}
 use Rattle.am_wire.proofs.wire.Wire.part.Goals as goal
 
 pub split_seat-requires : goal.split_seat-requires

@@ -1,6 +1,6 @@
 use Rattle.std.proofs.Common.{rules, ap, ◌∙◌}
 use Rattle.am_wire.specs.Seats.{Sat}
-use Rattle.am_wire.proofs.Keeps.{joins, look_allows, unites_by}
+use Rattle.am_wire.proofs.Sharing.{joins, look_allows, unites_by}
 use Rattle.am_wire.proofs.wire.Wire.unite.Goals as goal
 
 pub join_seat-requires : goal.join_seat-requires
