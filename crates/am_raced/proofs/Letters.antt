@@ -83,20 +83,12 @@ few_heard w e name (Some l) packets =
     (subst (λ (s : Step). length s.letters ≤ 9) same (few_letters (w.nodes name) (does.Hear (spelling l.packet))))))
 
 few_acts : (w : World) (e : Event) (name : ℕ) (a : Act) → is_of_race a ≡ true → ArePackets w.letters → Few w (acts_as w e name a)
-few_acts w e name (act.Send body) race packets = few_done w e name (does.Send body)
-few_acts w e name (act.Done req) race packets = few_done w e name (does.Done req)
-few_acts w e name act.Take race packets = few_done w e name does.Take
-few_acts w e name act.Join race packets = few_done w e name does.Join
-few_acts w e name act.State race packets = few_done w e name does.State
-few_acts w e name act.Leave race packets = few_done w e name does.Leave
-few_acts w e name (act.Reset least resilience) race packets = few_done w e name (does.Reset least resilience)
-few_acts w e name (act.Ask round) race packets = few_done w e name (does.Ask round)
 few_acts w e name (act.GiveUp other) race packets = few_given_up w e name other
 few_acts w e name act.Stop race packets = few_stop w e name
-few_acts w e name act.Tick race packets = few_done w e name does.Tick
 few_acts w e name (act.Hear number) race packets = few_heard w e name (letter_at w.letters number) (λ letter there. packets number letter there)
 few_acts w e name (act.Cut number keep) race packets = absurd (true≢false (sym race))
 few_acts w e name act.Return race packets = absurd (true≢false (sym race))
+few_acts w e name _ race packets = few_done w e name _
 
 few_happen : (w : World) (e : Event) → is_of_race e.act ≡ true → ArePackets w.letters → Few w (happens w e)
 unfolding happens

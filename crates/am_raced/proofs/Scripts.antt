@@ -30,7 +30,7 @@ use Rattle.am_races.specs.Answers.{own_answer, send_answer, ballot_answer, reque
 use Rattle.am_races.specs.Callers.{same_act, asks}
 use Rattle.am_races.specs.Lawful.{IsLawful, terms_of}
 use Rattle.am_races.specs.Legal.{IsLegalWithTags}
-use Rattle.am_races.specs.Plans.{calls_of}
+use Rattle.am_races.specs.Plans.{is_call, calls_of}
 use Rattle.am_races.specs.Ready.{is_ready, round_in}
 use Rattle.am_races.specs.Tags.{is_turn_part, of_call, own_of, up_to_last}
 use Rattle.am_races.specs.Told.{world_after}
@@ -88,13 +88,14 @@ planned_within act.Leave act.Leave h within = tt
 planned_within act.Stop act.Stop h within = tt
 planned_within _ _ h within = absurd (true≢false (sym h))
 
-call_within : (a : Act) → CallWithin a → ActWithin a
-call_within (act.Send body) h = h
-call_within act.Take h = tt
-call_within act.Join h = tt
-call_within act.Leave h = tt
-call_within (act.Reset least resilience) h = h
-call_within act.Stop h = tt
+-- what a call within its limits is
+pub call_within : (a : Act) → CallWithin a → (is_call a ≡ true) × ActWithin a
+call_within (act.Send body) h = (refl, h)
+call_within (act.Reset least resilience) h = (refl, h)
+call_within act.Take h = (refl, tt)
+call_within act.Join h = (refl, tt)
+call_within act.Leave h = (refl, tt)
+call_within act.Stop h = (refl, tt)
 call_within _ h = absurd h
 
 -- ---- letters
@@ -193,7 +194,7 @@ module _ (plan : RacePlan) (journal : List Record) (within : RaceWithin plan) (t
 
   calls_within : All (λ (thread : ThreadPlan). All ActWithin thread.calls) plan.threads
   calls_within = All-weaker ThreadWithin (λ (thread : ThreadPlan). All ActWithin thread.calls)
-      (λ thread t. All-weaker CallWithin ActWithin call_within thread.calls t.calls) plan.threads within.each
+      (λ thread t. All-weaker CallWithin ActWithin (λ a call. (call_within a call).1) thread.calls t.calls) plan.threads within.each
 
   -- ---- a record
 

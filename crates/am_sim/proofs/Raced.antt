@@ -2,11 +2,11 @@
 use Rattle.std.proofs.Common.{◌≡◌, suc, List, [], ◌∷◌, Bool, true, false, ◌&&◌, refl, arith, All}
 use Rattle.std.specs.List.{list_all}
 use Rattle.am_group.specs.declared.event.Act.{Act}
-use Rattle.am_group.specs.declared.event.Act.TheVariants as act
 use Rattle.am_group.specs.declared.plan.ThreadPlan.{ThreadPlan}
 use Rattle.am_group.specs.declared.plan.RacePlan.{RacePlan}
 use Rattle.am_races.specs.Plans.{is_call, MayRace}
 use Rattle.am_script.specs.Limits.{CallWithin, ThreadWithin, RaceWithin}
+use Rattle.am_raced.proofs.Scripts.{call_within}
 
 both : (a b : Bool) → a ≡ true → b ≡ true → (a && b) ≡ true
 both true b is more = more
@@ -15,18 +15,9 @@ both false b is more = cc
 later : {A : Type 0} (P : A → Type 0) (x : A) (xs : List A) → All P (x ∷ xs) → All P xs
 later P x xs all = λ k d within. all (suc k) d (omega arith)
 
-call_is : (a : Act) → CallWithin a → is_call a ≡ true
-call_is (act.Send body) within = refl
-call_is act.Take within = refl
-call_is act.Join within = refl
-call_is act.Leave within = refl
-call_is (act.Reset least resilience) within = refl
-call_is act.Stop within = refl
-call_is _ within = absurd within
-
 calls_are : (calls : List Act) → All CallWithin calls → list_all is_call calls ≡ true
 calls_are [] all = refl
-calls_are (a ∷ calls) all = both (is_call a) (list_all is_call calls) (call_is a (all 0 a (omega arith))) (calls_are calls (later CallWithin a calls all))
+calls_are (a ∷ calls) all = both (is_call a) (list_all is_call calls) (call_within a (all 0 a (omega arith))).0 (calls_are calls (later CallWithin a calls all))
 
 threads_call : (threads : List ThreadPlan) → All ThreadWithin threads → list_all (λ thread. list_all is_call thread.calls) threads ≡ true
 threads_call [] all = refl
