@@ -105,7 +105,7 @@ small_view rules events d k may at = (all_get (IsNoted (run rules events).nodes)
 -- ---- up to the lawful front
 
 module _ (rules : Rules) (may : MayFound rules) where
-  abbrev Kept_ : World → Group → Type 0
+  abbrev pub Kept_ : World → Group → Type 0
   Kept_ w s = Told rules w
 
   by_idle : (w v : World) (s t : Group) → Quiet w v s t → Told rules w → Told rules v
@@ -121,7 +121,7 @@ module _ (rules : Rules) (may : MayFound rules) where
     by_quiet = by_idle;
   }
 
-  at_moment : (events : List Event) → broken_at rules events ≡ None → Held Kept_ rules events
+  pub at_moment : (events : List Event) → broken_at rules events ≡ None → Held Kept_ rules events
   at_moment events whole = held Kept_ rules keeps steps_move may (λ t f. told_start rules) events whole
 
   -- ---- segment
@@ -135,7 +135,7 @@ module _ (rules : Rules) (may : MayFound rules) where
       let count = (h.given name).count in
       absurd (some (nil_of (deliveries w.records name) (omega arith))))
 
-  begins_there : (w : World) (name : ℕ) → Told rules w → has_log (w.nodes name).status ≡ true → BeginsAt rules w name (w.nodes name).core.start
+  pub begins_there : (w : World) (name : ℕ) → Told rules w → has_log (w.nodes name).status ≡ true → BeginsAt rules w name (w.nodes name).core.start
   begins_there w name h log =
       let b = (h.each name).begins log in
       record { founder = b.founder; joiner = λ f. (h.welcomed name f ∙ rw log refl, (b.joiner f).there) }
