@@ -3,7 +3,6 @@ use Rattle.std.proofs.Common.{◌≡◌, ℕ, ◌+◌, ◌<◌, List, [], ◌∷
 use Rattle.am_base.specs.Founding.{Rules, MayFound}
 use Rattle.am_base.specs.declared.outcome.Outcome.TheVariants as said
 use Rattle.am_base.specs.declared.event.NodeEvent.TheVariants as does
-use Rattle.am_group.specs.declared.event.Act.{Act}
 use Rattle.am_group.specs.declared.event.Act.TheVariants as act
 use Rattle.am_group.specs.declared.event.Event.{Event}
 use Rattle.am_group.specs.declared.event.Record.{Record}
@@ -12,14 +11,14 @@ use Rattle.am_play.specs.Claims.{IsSend}
 use Rattle.am_play.specs.Lawful.{lawful_front}
 use Rattle.am_play.proofs.Runs.{front_is_lawful}
 use Rattle.am_model.specs.Step.{step}
-use Rattle.am_effects.specs.Causes.{Cause, calls}
+use Rattle.am_effects.specs.Causes.{calls}
 use Rattle.am_effects.specs.Effects.{Answers, WasQueued, AnswersAsk}
 use Rattle.am_effects.specs.Events as event
-use Rattle.am_effects.specs.Events.{actor, IsCall, IsCause, Happens, idles, returns, steps}
+use Rattle.am_effects.specs.Events.{actor, Happens, idles, returns, steps}
 use Rattle.am_effects.proofs.Items.{get_front, get_last}
 use Rattle.am_effects.proofs.Events.{events_have_effects}
 use Rattle.am_effects.proofs.Hearing.{steps_have_effects}
-use Rattle.am_steps.proofs.Once.{step_once}
+use Rattle.am_steps.proofs.Once.{no_ask, step_once}
 use Rattle.am_steps.proofs.Words.{idle_queues}
 use Rattle.am_headline.proofs.Words.{IsGood, good_begins, Group, lowest_or_first, group_kept, steps_move}
 use Rattle.am_headline.proofs.Fold.{KeptBy}
@@ -57,11 +56,6 @@ one_body rules events name req k l a b r s one other is also =
     (record { index = l; done = s; there = get_front w.records more l s other; is = also })
 
 -- ---- requests are above nought
-
-no_ask : (w : World) (name : ℕ) (a : Act) (c : Cause) (body : List ℕ) (round : ℕ) → a ≡ act.Send body → c ≡ calls (does.Ask round) → IsCause w name a c → ⊥
-no_ask w name a c body round is asked cause =
-    let call : IsCall w (act.Send body) (does.Ask round) = subst (λ x. IsCall w x (does.Ask round)) is (subst (IsCause w name a) asked cause) in
-    elim call [ ]
 
 same_record : (records : List Record) (a r : Record) → slice_get (records ++ a ∷ []) (length records) ≡ Some r → a ≡ r
 same_record records a r h = let same : Some a ≡ Some r = sym (get_last records a) ∙ h in cc

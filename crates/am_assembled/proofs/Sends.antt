@@ -1,5 +1,5 @@
 -- The claims of runs.
-use Rattle.std.proofs.Common.{◌≡◌, ℕ, zero, suc, ◌+◌, ◌-◌, ◌<◌, List, [], ◌∷◌, ◌++◌, length, take, Some, slice_get, ap, ◌∙◌, subst, arith}
+use Rattle.std.proofs.Common.{◌≡◌, ◌≢◌, ℕ, zero, suc, ◌+◌, ◌-◌, ◌<◌, List, [], ◌∷◌, ◌++◌, length, take, Some, slice_get, ap, ◌∙◌, subst, arith}
 use Rattle.std.proofs.Math.Seq.{take-length}
 use Rattle.std.proofs.lemmas.List.{length-take-le}
 use Rattle.std.proofs.lemmas.Option.{slice_get_within}
@@ -11,7 +11,7 @@ use Rattle.am_group.specs.declared.event.Event.{Event}
 use Rattle.am_group.specs.Journals.{item_at}
 use Rattle.am_group.specs.Deliveries.{deliveries}
 use Rattle.am_play.specs.World.{World, run}
-use Rattle.am_play.specs.Claims.{BeginsAt, IsSend}
+use Rattle.am_play.specs.Claims.{IsSegment, BeginsAt, IsSend}
 use Rattle.am_play.specs.Lawful.{lawful_front}
 use Rattle.am_chain_lists.specs.Whole.{IsGood}
 use Rattle.am_chain_lists.proofs.Prefixes.{begins_take}
@@ -38,27 +38,33 @@ start_above rules w name start begins = split (has rules.founders name)
     above zero at = absurd (cc)
     above (suc n) at = omega arith
 
+-- the piece of the group's list that a name was given
+given_piece : (rules : Rules) (events : List Event) (name : ℕ) → MayFound rules → deliveries (front_of rules events).records name ≢ []
+    → (start : ℕ) × BeginsAt rules (front_of rules events) name start × IsSegment (deliveries (front_of rules events).records name) start
+    (front_of rules events).group × (0 < start)
+given_piece rules events name may some =
+    let piece = (headline_holds rules events may).front.segment.each name some in
+    (piece.0, piece.1, piece.2, start_above rules (front_of rules events) name piece.0 piece.1)
+
 pub delivered_end : DeliveredMessagesEnd
 delivered_end rules events name may some =
     let w = front_of rules events in
-    let piece = (headline_holds rules events may).front.segment.each name some in
-    let above = start_above rules w name piece.0 piece.1 in (
+    let piece = given_piece rules events name may some in (
       piece.0,
       record {
         begins = piece.1;
-        ends = λ k from message ends. ends_in_list (deliveries w.records name) piece.0 w.group k from message above piece.2 ends;
+        ends = λ k from message ends. ends_in_list (deliveries w.records name) piece.0 w.group k from message piece.3 piece.2 ends;
       },
     )
 
 pub whole_delivered : WholeMessagesAreDelivered
 whole_delivered rules events name may some =
     let w = front_of rules events in
-    let piece = (headline_holds rules events may).front.segment.each name some in
-    let above = start_above rules w name piece.0 piece.1 in (
+    let piece = given_piece rules events name may some in (
       piece.0,
       record {
         begins = piece.1;
-        ends = λ k from message ends low all. ends_in_piece (deliveries w.records name) piece.0 w.group k from message above piece.2 ends low all;
+        ends = λ k from message ends low all. ends_in_piece (deliveries w.records name) piece.0 w.group k from message piece.3 piece.2 ends low all;
       },
     )
 

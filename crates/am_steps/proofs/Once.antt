@@ -27,7 +27,7 @@ last_kept low m n _ h = h
 -- ---- a step
 
 -- an Ask is no Send
-no_ask : (w : World) (name : ℕ) (a : Act) (c : Cause) (body : List ℕ) (round : ℕ) → a ≡ act.Send body → c ≡ calls (does.Ask round) → IsCause w name a c → ⊥
+pub no_ask : (w : World) (name : ℕ) (a : Act) (c : Cause) (body : List ℕ) (round : ℕ) → a ≡ act.Send body → c ≡ calls (does.Ask round) → IsCause w name a c → ⊥
 no_ask w name a c body round is asked cause =
     let call : IsCall w (act.Send body) (does.Ask round) = subst (λ x. IsCall w x (does.Ask round)) is (subst (IsCause w name a) asked cause) in
     elim call [ ]
