@@ -12,10 +12,9 @@ use Rattle.am_group.specs.Journals.{item_at}
 use Rattle.am_group.proofs.Places.{get_before}
 use Rattle.am_play.specs.Claims.{IsSegment}
 use Rattle.am_seg.specs.Parts.{part_count}
-use Rattle.am_seg.specs.Messages.{sent_from, from_place, parts_from, EndsAt}
+use Rattle.am_seg.specs.Messages.{entries_of, sent_from, from_place, parts_from, EndsAt}
 use Rattle.am_seg.proofs.Endings.{length-parts_from}
 use Rattle.am_seg.proofs.Spelled.{sized}
-use Rattle.am_assembled.specs.Claims.{entries_of}
 
 -- ---- lists
 

@@ -1,5 +1,5 @@
 -- What is claimed of the messages of runs.
-use Rattle.std.specs.Prelude.{◌≡◌, ◌≢◌, ℕ, ◌+◌, ◌-◌, ◌<◌, ◌≤◌, List, [], length, take, map, Some, slice_get}
+use Rattle.std.specs.Prelude.{◌≡◌, ◌≢◌, ℕ, ◌+◌, ◌-◌, ◌<◌, ◌≤◌, List, [], length, take, Some, slice_get}
 use Rattle.am_base.specs.Names.{place_of}
 use Rattle.am_base.specs.Founding.{Rules, MayFound}
 use Rattle.am_base.specs.declared.entry.Entry.{Entry}
@@ -11,11 +11,7 @@ use Rattle.am_play.specs.Group.{accepted_sends}
 use Rattle.am_play.specs.Claims.{BeginsAt, IsSend}
 use Rattle.am_play.specs.Lawful.{lawful_front}
 use Rattle.am_seg.specs.Parts.{most_message, part_count, part_of}
-use Rattle.am_seg.specs.Messages.{from_place, EndsAt}
-
--- the entries that were given, without their numbers
-abbrev pub entries_of : List (ℕ × Entry) → List Entry
-entries_of given = map (λ one. one.1) given
+use Rattle.am_seg.specs.Messages.{entries_of, from_place, EndsAt}
 
 -- what a name was given
 abbrev pub given_in : World → ℕ → List Entry

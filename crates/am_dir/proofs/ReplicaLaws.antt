@@ -1,15 +1,15 @@
 -- Entry by entry, a replica comes to the contents of the definition.
-use Rattle.std.proofs.Common.{◌≡◌, ℕ, List, [], ◌∷◌, ◌++◌, map, Bool, true, false, cond, ◌==◌, Option, Some, None, refl, sym, ap, ◌∙◌, append_assoc}
+use Rattle.std.proofs.Common.{◌≡◌, ℕ, List, [], ◌∷◌, ◌++◌, Bool, true, false, cond, ◌==◌, Option, Some, None, refl, sym, ap, ◌∙◌, append_assoc}
 use Rattle.std.specs.Option.{option_map}
 use Rattle.std.specs.List.{fold}
 use Rattle.std.proofs.lemmas.List.{map-append}
 use Rattle.am_base.specs.declared.entry.Entry.{Entry}
-use Rattle.am_seg.specs.Messages.{message_at}
+use Rattle.am_seg.specs.Messages.{entries_of, message_at}
 use Rattle.am_seg.specs.Assembling.{Assembly, no_parts, after_entry, assembled}
 use Rattle.am_seg.proofs.Fold.{messages_assemble}
 use Rattle.am_dir.specs.Contents.{Contents, with_entry, contents_from}
-use Rattle.am_dir.specs.Replicas.{or_else, snapshot_for, first_behind, entries_of, first_snapshot, replica_contents, ReplicaState, Waiting}
-use Rattle.am_dir.specs.Replicas.{begin_waiting, shown, held_with, apply_held, waiting_with, arrived, fed, replayed, ReplicasShow}
+use Rattle.am_dir.specs.Replicas.{or_else, snapshot_for, first_behind, first_snapshot, replica_contents, ReplicaState}
+use Rattle.am_dir.specs.Replicas.{begin_waiting, shown, held_with, apply_held, arrived, fed, ReplicasShow}
 use Rattle.am_dir.proofs.Loops.{held_entry}
 
 pub fold_push : {A B : Type 0} (f : B → A → B) (b : B) (xs : List A) (x : A) → fold f b (xs ++ x ∷ []) ≡ f (fold f b xs) x

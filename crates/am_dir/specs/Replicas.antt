@@ -1,10 +1,10 @@
 -- What a name makes of the entries that it was given: the contents from the list's beginning on, or from a snapshot on.
-use Rattle.std.specs.Prelude.{◌≡◌, ℕ, List, [], ◌∷◌, ◌++◌, map, Bool, true, false, ◌==◌, is_some, is_none, if◌then◌else◌, Option, Some, None, ⊤}
+use Rattle.std.specs.Prelude.{◌≡◌, ℕ, List, [], ◌∷◌, ◌++◌, ◌==◌, is_some, is_none, if◌then◌else◌, Option, Some, None}
 use Rattle.std.specs.Option.{option_map}
 use Rattle.std.specs.List.{fold}
 use Rattle.am_base.specs.declared.entry.Entry.{Entry}
 use Rattle.am_base.specs.declared.entry.Entry.TheVariants as entries
-use Rattle.am_seg.specs.Messages.{message_at}
+use Rattle.am_seg.specs.Messages.{entries_of, message_at}
 use Rattle.am_seg.specs.Assembling.{Assembly, no_parts, after_entry}
 use Rattle.am_dir.specs.declared.step.Step.{Step}
 use Rattle.am_dir.specs.declared.step.Step.TheVariants as steps
@@ -35,9 +35,6 @@ abbrev pub first_behind : ℕ → List Entry → List Entry → Option Contents
 first_behind start before [] = None
 first_behind start before (entry ∷ rest) =
     or_else (snapshot_for start (message_at (before ++ entry ∷ []))) (first_behind start (before ++ entry ∷ []) rest)
-
-abbrev pub entries_of : List (ℕ × Entry) → List Entry
-entries_of pairs = map (λ pair. pair.1) pairs
 
 unfoldable pub first_snapshot : ℕ → List (ℕ × Entry) → Option Contents
 first_snapshot start pairs = first_behind start [] (entries_of pairs)

@@ -1,30 +1,26 @@
 -- A snapshot that was sent in parts makes its joiner's replica ready.
-use Rattle.std.proofs.Common.{◌≡◌, ◌≢◌, ℕ, zero, suc, ◌+◌, ◌-◌, ◌≤◌, ◌<◌, List, [], ◌∷◌, ◌++◌, length, take, Option, Some, None, Bool, true, false}
-use Rattle.std.proofs.Common.{cond, ◌==◌, refl, sym, ap, ◌∙◌, subst, arith, append_assoc}
-use Rattle.std.specs.List.{All, enumerate_from}
+use Rattle.std.proofs.Common.{◌≡◌, ◌≢◌, ℕ, zero, suc, ◌+◌, ◌-◌, ◌≤◌, ◌<◌, List, [], ◌∷◌, ◌++◌, length, take, Option, Some, None, ap, ◌∙◌, subst}
+use Rattle.std.proofs.Common.{arith, append_assoc}
+use Rattle.std.specs.List.{enumerate_from}
 use Rattle.std.proofs.lemmas.List.{length-take}
 use Rattle.am_base.specs.declared.entry.Entry.{Entry}
 use Rattle.am_base.specs.declared.entry.Entry.TheVariants as entries
 use Rattle.am_base.specs.Most.{most_number}
 use Rattle.am_base.specs.Limits.{IsNumber}
-use Rattle.am_base.specs.Names.{has, place_of}
-use Rattle.am_base.specs.Founding.{Rules, MayFound}
-use Rattle.am_group.specs.declared.event.Event.{Event}
 use Rattle.am_group.specs.Deliveries.{deliveries}
-use Rattle.am_play.specs.World.{World, run}
+use Rattle.am_play.specs.World.{run}
 use Rattle.am_play.specs.Lawful.{lawful_front}
-use Rattle.am_seg.specs.Parts.{part_count}
-use Rattle.am_seg.specs.Messages.{EndsAt, from_place, message_at}
+use Rattle.am_seg.specs.Messages.{entries_of, EndsAt, message_at}
 use Rattle.am_seg.proofs.Ends.{messages_end}
 use Rattle.am_assembled.specs.Claims.{Whole}
 use Rattle.am_assembled.proofs.Sends.{sent_end, whole_delivered}
 use Rattle.am_dir.specs.Contents.{Contents, with_entry, contents_from, contents_after}
-use Rattle.am_dir.specs.Snapshots.{IsContents, snapshot_of, snapshot_in}
-use Rattle.am_dir.specs.Replicas.{or_else, for_join, snapshot_for, first_behind, entries_of, first_snapshot, replica_contents}
+use Rattle.am_dir.specs.Snapshots.{IsContents, snapshot_of}
+use Rattle.am_dir.specs.Replicas.{or_else, for_join, snapshot_for, first_behind, first_snapshot}
 use Rattle.am_dir.proofs.Keeping.{empty_is}
 use Rattle.am_dir.proofs.SnapshotLaws.{snapshot_reads}
 use Rattle.am_dir.proofs.WithinLaws.{stay_within}
-use Rattle.am_replicated.specs.Claims.{NoneBefore, SentSnapshot, SentSnapshotsRestore, JoinerHolds, contents_up_to}
+use Rattle.am_replicated.specs.Claims.{NoneBefore, SentSnapshotsRestore}
 use Rattle.am_replicated.proofs.Waiting.{no_contents, for_join_is, length_entries}
 use Rattle.am_replicated.proofs.Holding.{joiners_hold, same_start}
 

@@ -1,13 +1,13 @@
 -- A replica waits just as long as no snapshot for its start ended.
-use Rattle.std.proofs.Common.{◌≡◌, ◌≢◌, ℕ, zero, suc, ◌+◌, ◌≤◌, ◌<◌, List, [], ◌∷◌, ◌++◌, length, take, Option, Some, None, Bool, true, false, cond}
-use Rattle.std.proofs.Common.{◌==◌, refl, sym, ap, ◌∙◌, subst, arith, append_assoc}
+use Rattle.std.proofs.Common.{◌≡◌, ℕ, zero, suc, ◌≤◌, ◌<◌, List, [], ◌∷◌, ◌++◌, length, take, Option, Some, None, Bool, true, false, cond}
+use Rattle.std.proofs.Common.{◌==◌, refl, sym, ap, ◌∙◌, arith, append_assoc}
 use Rattle.std.specs.Option.{option_map}
 use Rattle.std.proofs.lemmas.Bool.Decides.{nat_tests}
 use Rattle.am_base.specs.declared.entry.Entry.{Entry}
-use Rattle.am_seg.specs.Messages.{message_by, message_at}
+use Rattle.am_seg.specs.Messages.{entries_of, message_at}
 use Rattle.am_dir.specs.Contents.{Contents, contents_from}
 use Rattle.am_dir.specs.Snapshots.{snapshot_in}
-use Rattle.am_dir.specs.Replicas.{or_else, for_join, snapshot_for, first_behind, entries_of, first_snapshot, replica_contents}
+use Rattle.am_dir.specs.Replicas.{or_else, for_join, snapshot_for, first_behind, first_snapshot, replica_contents}
 use Rattle.am_replicated.specs.Claims.{NoSnapshot}
 
 -- ---- one message

@@ -1,5 +1,5 @@
 -- What is claimed of replicas in runs.
-use Rattle.std.specs.Prelude.{◌≡◌, ◌≢◌, ◌↔◌, ℕ, ◌+◌, ◌-◌, ◌<◌, ◌≤◌, List, [], ◌∷◌, length, take, Option, Some, None, true, false}
+use Rattle.std.specs.Prelude.{◌≡◌, ◌≢◌, ◌↔◌, ℕ, ◌+◌, ◌-◌, ◌<◌, ◌≤◌, List, [], ◌∷◌, length, take, Some, None, true, false}
 use Rattle.am_base.specs.declared.entry.Entry.{Entry}
 use Rattle.am_base.specs.Limits.{IsNumber}
 use Rattle.am_base.specs.Names.{has, place_of}
@@ -11,11 +11,11 @@ use Rattle.am_play.specs.World.{World, run}
 use Rattle.am_play.specs.Lawful.{lawful_front}
 use Rattle.am_play.specs.Claims.{BeginsAt}
 use Rattle.am_seg.specs.Parts.{part_count}
-use Rattle.am_seg.specs.Messages.{from_place, message_at}
+use Rattle.am_seg.specs.Messages.{entries_of, from_place, message_at}
 use Rattle.am_assembled.specs.Claims.{SentInParts}
 use Rattle.am_dir.specs.Contents.{Contents, contents_after}
 use Rattle.am_dir.specs.Snapshots.{snapshot_of, snapshot_in}
-use Rattle.am_dir.specs.Replicas.{entries_of, first_snapshot, replica_contents}
+use Rattle.am_dir.specs.Replicas.{first_snapshot, replica_contents}
 
 -- the number of the last of some entries; this number, where there are none
 abbrev pub last_number : ℕ → List (ℕ × Entry) → ℕ

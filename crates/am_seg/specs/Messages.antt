@@ -9,6 +9,10 @@ use Rattle.am_base.specs.declared.entry.Entry.{Entry}
 use Rattle.am_base.specs.declared.entry.Entry.TheVariants.{Data, Join, Leave, View}
 use Rattle.am_seg.specs.Parts.{most_message, parts_of}
 
+-- the entries that were given, without their numbers
+abbrev pub entries_of : List (ℕ × Entry) → List Entry
+entries_of given = map (λ one. one.1) given
+
 -- the Data of an entry, where it is of a name of this place: its sender and its body
 abbrev pub sent_from : ℕ → Entry → List (ℕ × List ℕ)
 sent_from place (Data from req body) = if place_of from == place then (from, body) ∷ [] else []

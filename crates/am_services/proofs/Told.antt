@@ -3,13 +3,12 @@ use Rattle.std.proofs.Common.{◌≡◌, ℕ, List, [], ◌∷◌, ◌++◌, ref
 use Rattle.std.specs.List.{fold}
 use Rattle.std.proofs.lemmas.List.Sums.{fold-append}
 use Rattle.am_base.specs.declared.entry.Entry.{Entry}
-use Rattle.std.proofs.Common.{map}
 use Rattle.std.proofs.lemmas.List.Folds.{fold-map}
 use Rattle.am_base.specs.Founding.{Rules}
-use Rattle.am_seg.specs.Messages.{message_at}
+use Rattle.am_seg.specs.Messages.{entries_of}
 use Rattle.am_seg.specs.Assembling.{no_parts, after_entry}
 use Rattle.am_seg.proofs.Fold.{messages_assemble}
-use Rattle.am_dir.specs.Replicas.{entries_of, fresh}
+use Rattle.am_dir.specs.Replicas.{fresh}
 use Rattle.am_dir.proofs.ReplicaLaws.{replicas_show}
 use Rattle.am_services.specs.Texts.{ended_line, lines_behind, message_upto, messages_of, start_of, snapshot_at, snapshot_upto, snapshots_of, front_of, directory_lines, directory_of}
 use Rattle.am_services.specs.Telling.{told, assembled_then, message_told, messages_told, replayed_then, replayed_with, snapshot_told, snapshots_told}
