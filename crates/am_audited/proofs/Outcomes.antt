@@ -88,11 +88,19 @@ other_word {B} word rules outcome next other =
     (subst (λ b. IsErr (and_then (cond b (Ok tt) (Err Form)) (λ checked. next some.0))) (sym other) refl))
     (outcome_words rules outcome)
 
--- ---- sends
+-- another word behind a place fails
+other_behind : {B : Type 0} (word : List ℕ) (rules : Rules) (outcome : Outcome) (rest : List ℕ) (next : ℕ → List ℕ → Result B FieldFault)
+    → same (outcome_word outcome) word ≡ false → IsErr (and_then (number_up_to 15 rest) (λ place.
+    and_then (two_of (outcome_text rules outcome)) (λ told. and_then (expect word told.0) (λ checked. next place told.1))))
+other_behind word rules outcome rest next other = fails_then (number_up_to 15 rest) _ (λ place. other_word word rules outcome (next place) other)
 
-nothing : (s : Reading) (r : Result (ℕ × ℕ × List ℕ) FieldFault) → IsErr r → with_send s r ≡ s
-nothing s (Ok x) h = cc
-nothing s (Err fault) h = refl
+-- what fails doesn't count
+nothing : {A : Type 0} (s : Reading) (count : Result A FieldFault → Reading) → ((fault : FieldFault) → count (Err fault) ≡ s) → (r : Result A FieldFault)
+    → IsErr r → count r ≡ s
+nothing s count none (Ok x) h = cc
+nothing s count none (Err fault) h = none fault
+
+-- ---- sends
 
 send_none : (rules : Rules) (rest : List ℕ) (outcome : Outcome) → same (outcome_word outcome) (codes "queued") ≡ false
     → IsErr (send_of rest (outcome_text rules outcome))
@@ -124,13 +132,9 @@ send_counts : (rules : Rules) (s : Reading) (place : ℕ) (body : List ℕ) (out
 unfolding outcome_word
 send_counts rules s place body (said.Queued req) low bytes few within = ap (with_send s) (send_read rules place body req low bytes few within)
 send_counts rules s place body outcome low bytes few within =
-    nothing s _ (send_none rules (decimal place ++ 32 ∷ body_text body) outcome refl) ∙ (λ i. record s { sends = sym (append-nil s.sends) i })
+    nothing s (with_send s) (λ fault. refl) _ (send_none rules (decimal place ++ 32 ∷ body_text body) outcome refl) ∙ (λ i. record s { sends = sym (append-nil s.sends) i })
 
 -- ---- answers
-
-nothing_answered : (s : Reading) (r : Result (ℕ × ℕ × ℕ) FieldFault) → IsErr r → with_answer s r ≡ s
-nothing_answered s (Ok x) h = cc
-nothing_answered s (Err fault) h = refl
 
 answer_none : (rules : Rules) (rest : List ℕ) (outcome : Outcome) → same (outcome_word outcome) (codes "sent") ≡ false
     → IsErr (answer_of rest (outcome_text rules outcome))
@@ -168,22 +172,16 @@ answer_counts rules s place asked (said.Sent req number) low fits =
     ap (λ a. with_answer s (answer_of (decimal place ++ 32 ∷ decimal a) (outcome_text rules (said.Sent req number)))) fits.0
     ∙ ap (with_answer s) (answer_read rules place req number low fits.1 fits.2)
 answer_counts rules s place asked outcome low fits =
-    nothing_answered s _ (answer_none rules (decimal place ++ 32 ∷ decimal asked) outcome refl) ∙ (λ i. record s { answers = sym (append-nil s.answers) i })
+    nothing s (with_answer s) (λ fault. refl) _ (answer_none rules (decimal place ++ 32 ∷ decimal asked) outcome refl) ∙ (λ i. record s { answers = sym (append-nil s.answers) i })
 
 -- ---- takes
-
-nothing_taken : (s : Reading) (r : Result (ℕ × ℕ × List ℕ) FieldFault) → IsErr r → with_take s r ≡ s
-nothing_taken s (Ok x) h = cc
-nothing_taken s (Err fault) h = refl
 
 take_none : (rules : Rules) (rest : List ℕ) (outcome : Outcome) → same (outcome_word outcome) (codes "took") ≡ false
     → IsErr (take_of rest (outcome_text rules outcome))
 unfolding take_of
-take_none rules rest outcome other =
-    fails_then (number_up_to 15 rest) _ (λ place.
-    other_word (codes "took") rules outcome
-    (λ behind. and_then (two_of behind) (λ last. and_then (number_of last.0) (λ number. and_then (outline_of last.1) (λ entry. Ok (place, number, last.1)))))
-    other)
+take_none rules rest outcome other = other_behind (codes "took") rules outcome rest
+    (λ place behind. and_then (two_of behind) (λ last. and_then (number_of last.0) (λ number. and_then (outline_of last.1) (λ entry. Ok (place, number, last.1)))))
+    other
 
 -- an entry that is read
 abbrev pub IsReadAs : Rules → Entry → Type 0
@@ -209,21 +207,15 @@ take_counts : (rules : Rules) (s : Reading) (place : ℕ) (outcome : Outcome) �
 unfolding outcome_word
 take_counts rules s place (said.Took number entry) low fits = ap (with_take s) (take_read rules place number entry low fits.0 fits.1)
 take_counts rules s place outcome low fits =
-    nothing_taken s _ (take_none rules (decimal place) outcome refl) ∙ (λ i. record s { takes = sym (append-nil s.takes) i })
+    nothing s (with_take s) (λ fault. refl) _ (take_none rules (decimal place) outcome refl) ∙ (λ i. record s { takes = sym (append-nil s.takes) i })
 
 -- ---- returns
-
-nothing_returned : (s : Reading) (r : Result (ℕ × ℕ) FieldFault) → IsErr r → with_return s r ≡ s
-nothing_returned s (Ok x) h = cc
-nothing_returned s (Err fault) h = refl
 
 return_none : (rules : Rules) (rest : List ℕ) (outcome : Outcome) → same (outcome_word outcome) (codes "returned") ≡ false
     → IsErr (return_of rest (outcome_text rules outcome))
 unfolding return_of
-return_none rules rest outcome other =
-    fails_then (number_up_to 15 rest) _ (λ place.
-    other_word (codes "returned") rules outcome
-    (λ behind. and_then (number_up_to 16 behind) (λ life. cond (life == 0) (Err Form) (Ok (place, name_at place life)))) other)
+return_none rules rest outcome other = other_behind (codes "returned") rules outcome rest
+    (λ place behind. and_then (number_up_to 16 behind) (λ life. cond (life == 0) (Err Form) (Ok (place, name_at place life)))) other
 
 return_read : (rules : Rules) (place life : ℕ) → place ≤ 15 → 0 < life → life ≤ 16
     → return_of (decimal place) (outcome_text rules (said.Returned life)) ≡ Ok (place, name_at place life)
@@ -236,7 +228,7 @@ return_counts : (rules : Rules) (s : Reading) (place : ℕ) (outcome : Outcome) 
     → with_return s (return_of (decimal place) (outcome_text rules outcome)) ≡ record s { names = returned_as s.names place outcome }
 unfolding outcome_word
 return_counts rules s place (said.Returned life) low fits = ap (with_return s) (return_read rules place life low fits.0 fits.1)
-return_counts rules s place outcome low fits = nothing_returned s _ (return_none rules (decimal place) outcome refl)
+return_counts rules s place outcome low fits = nothing s (with_return s) (λ fault. refl) _ (return_none rules (decimal place) outcome refl)
 
 -- ---- events
 
