@@ -1,5 +1,5 @@
 -- The number from which a name's list begins.
-use Rattle.std.proofs.Common.{◌≡◌, ℕ, ◌+◌, ◌<◌, ◌≤◌, List, [], ◌∷◌, ◌++◌, length, drop, slice_index_or, cond, refl, sym, ap, ◌∙◌}
+use Rattle.std.proofs.Common.{◌≡◌, ℕ, ◌+◌, ◌<◌, ◌≤◌, Bool, List, [], ◌∷◌, ◌++◌, length, drop, slice_index_or, cond, refl, sym, ap, ◌∙◌}
 use Rattle.am_base.specs.declared.entry.Entry.{Entry}
 use Rattle.am_base.specs.Founding.{Rules}
 use Rattle.am_base.specs.Names.{has}
@@ -24,11 +24,13 @@ nothing_given records name i d within none same =
     ap (λ g. g ++ deliveries (drop (i + 1) records) name) none ∙ sym (given_more records name i d within) ∙ same
 
 -- where none gave anything
-pub starts_new : (rules : Rules) (records : List Record) (name i : ℕ) → length records ≤ i → deliveries (drop i records) name ≡ deliveries records name
-    → cond (has rules.founders name) 1 2 ≡ start_of rules (name, deliveries records name)
+pub starts_new : (rules : Rules) (records : List Record) (name i : ℕ) (founder : Bool) → length records ≤ i
+    → deliveries (drop i records) name ≡ deliveries records name → has rules.founders name ≡ founder
+    → cond founder 1 2 ≡ start_of rules (name, deliveries records name)
 unfolding start_of
-starts_new rules records name i over same =
+starts_new rules records name i founder over same is =
     let none : deliveries records name ≡ [] = sym same ∙ given_end records name i over in
-    rw none refl
+    let new : cond (has rules.founders name) 1 2 ≡ start_of rules (name, deliveries records name) = rw none refl in
+    ap (λ b. cond b 1 2) (sym is) ∙ new
 
 pub ruleset starts = (starts_at, nothing_given)
