@@ -1,8 +1,7 @@
 -- What feeding an entry comes to, by whether the replica waits.
-use Rattle.std.proofs.Common.{◌≡◌, ℕ, List, Option, Some, None, Result, Ok, Err, OnOk, IfOk, refl, sym, ap, ◌∙◌, subst}
+use Rattle.std.proofs.Common.{◌≡◌, ℕ, List, Option, Some, None, Result, Ok, Err, OnOk, refl, ap, ◌∙◌}
 use Rattle.am_base.specs.declared.entry.Entry.{Entry}
 use Rattle.am_seg.specs.Assembling.{after_entry}
-use Rattle.am_dir.specs.declared.step.Step.{Step}
 use Rattle.am_dir.specs.Contents.{Contents, with_entry}
 use Rattle.am_dir.specs.Replicas.{ReplicaState, Waiting, snapshot_for, waiting_with, with_held, arrived, fed_waiting, fed, step_ready, step_arrived}
 use Rattle.am_dir.specs.Replicas.{step_waiting, step_of}

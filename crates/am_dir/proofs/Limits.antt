@@ -1,13 +1,11 @@
 -- What is read is within its limits.
-use Rattle.std.proofs.Common.{◌≡◌, ℕ, zero, suc, ◌+◌, ◌≤◌, ◌<◌, List, [], ◌∷◌, ◌++◌, Bool, true, false, cond, ◌&&◌, ◌==◌, nat_le, length, take, drop}
+use Rattle.std.proofs.Common.{◌≡◌, ℕ, ◌≤◌, List, [], ◌∷◌, ◌++◌, Bool, true, false, cond, ◌&&◌, ◌==◌, nat_le, length, take, drop}
 use Rattle.std.proofs.Common.{Option, Some, None, refl, sym, ap, ◌∙◌, subst, arith}
 use Rattle.std.specs.Option.{option_map}
 use Rattle.std.proofs.lemmas.Bool.Decides.{nat_tests}
 use Rattle.std.proofs.lemmas.List.{length-take-le, take-append-drop}
-use Rattle.am_base.specs.Most.{most_number}
-use Rattle.am_base.specs.Limits.{IsNumber}
-use Rattle.am_dir.specs.Values.{most_value, IsKey, IsValue}
-use Rattle.am_dir.specs.Fields.{◌>>=◌, Cut, Numbered, cut_at, field_in, number_in}
+use Rattle.am_dir.specs.Values.{IsKey, IsValue}
+use Rattle.am_dir.specs.Fields.{◌>>=◌, Cut, cut_at, field_in, number_in}
 use Rattle.am_dir.specs.Commands.{Command, Put, Delete, Claim, IsCommand, is_empty, sole, value_in, of_kind, command_of}
 use Rattle.am_dir.specs.Contents.{Contents, most_keys}
 use Rattle.am_dir.specs.Snapshots.{Read, Head, limited_in, may_follow, setting_behind, setting_in, settings_in, head_behind, head_in, snapshot_in}

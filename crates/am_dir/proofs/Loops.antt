@@ -1,10 +1,10 @@
 -- What holds in the loops that write a snapshot, read one, and apply what was held.
-use Rattle.std.proofs.Common.{◌≡◌, ℕ, zero, suc, ◌+◌, ◌*◌, ◌-◌, ◌≤◌, ◌<◌, List, [], ◌∷◌, ◌++◌, Bool, true, false, cond, ◌==◌, length, take, drop, map}
-use Rattle.std.proofs.Common.{Option, Some, None, refl, sym, ap, ◌∙◌, subst, arith, ⊎_elim, inl, inr, append_assoc, append-nil, length-append}
+use Rattle.std.proofs.Common.{◌≡◌, ℕ, suc, ◌+◌, ◌*◌, ◌-◌, ◌≤◌, ◌<◌, List, [], ◌∷◌, ◌++◌, Bool, true, false, cond, ◌==◌, length, take}
+use Rattle.std.proofs.Common.{Option, Some, None, refl, sym, ap, ◌∙◌, subst, arith, append_assoc, append-nil, length-append}
 use Rattle.std.proofs.Common.{get_or, is_some}
 use Rattle.std.proofs.lemmas.List.{take_more}
 use Rattle.std.specs.Option.{option_map}
-use Rattle.std.specs.List.{All, AllByRecursion, flat_map, fold}
+use Rattle.std.specs.List.{All, AllByRecursion, flat_map}
 use Rattle.std.specs.Map.{keys_of, values_of}
 use Rattle.std.specs.declared.cmp.Ordering.TheVariants.{Less, Equal, Greater}
 use Rattle.std.specs.Ordering.{is_lt}
@@ -25,7 +25,7 @@ use Rattle.am_base.specs.declared.entry.Entry.TheVariants as entries
 use Rattle.am_dir.specs.declared.backlog.HeldCommand.{HeldCommand}
 use Rattle.am_dir.specs.Holding.{held_in}
 use Rattle.am_dir.specs.Replicas.{apply_held, held_with}
-use Rattle.am_dir.proofs.Limits.{ReadIsWithin, read_within}
+use Rattle.am_dir.proofs.Limits.{read_within}
 use Rattle.am_dir.proofs.Ordered.{insert-last}
 
 -- ---- a snapshot is written

@@ -1,6 +1,6 @@
 -- Bytes are read as a snapshot exactly where they are it.
-use Rattle.std.proofs.Common.{◌≡◌, ℕ, zero, suc, ◌+◌, ◌^◌, ◌≤◌, ◌<◌, List, [], ◌∷◌, ◌++◌, Bool, true, false, cond, ◌&&◌, ◌==◌, nat_le, length, take}
-use Rattle.std.proofs.Common.{drop, Option, Some, None, refl, sym, ap, ◌∙◌, subst, arith, length-append, append-nil, append_assoc}
+use Rattle.std.proofs.Common.{◌≡◌, ℕ, zero, suc, ◌^◌, ◌≤◌, ◌<◌, List, [], ◌∷◌, ◌++◌, Bool, true, cond, ◌==◌, nat_le, length}
+use Rattle.std.proofs.Common.{drop, Option, Some, None, refl, sym, ap, ◌∙◌, subst, arith, length-append, append_assoc}
 use Rattle.std.specs.Option.{option_map}
 use Rattle.std.specs.List.{All, AllByRecursion, flat_map}
 use Rattle.std.specs.List.Sorted.{IsStrictlySortedBy}
@@ -21,10 +21,9 @@ use Rattle.am_dir.specs.Values.{IsKey, IsValue}
 use Rattle.am_dir.specs.Fields.{◌>>=◌, Cut, Numbered, field_bytes, field_in, number_in}
 use Rattle.am_dir.specs.Commands.{is_empty}
 use Rattle.am_dir.specs.Contents.{Contents, key_cmp, most_keys}
-use Rattle.am_dir.specs.Kept.{IsDirectory}
 use Rattle.am_dir.specs.Snapshots.{Read, Head, head_bytes, setting_bytes, snapshot_of, IsContents, IsSnapshot, limited_in, may_follow, setting_behind}
 use Rattle.am_dir.specs.Snapshots.{setting_in, settings_in, head_behind, head_in, snapshot_in, SnapshotsAreTheirBytes}
-use Rattle.am_dir.proofs.Limits.{bound, mapped, passed, field_is, is_key, is_value}
+use Rattle.am_dir.proofs.Limits.{bound, mapped, passed, field_is, is_key}
 use Rattle.am_dir.proofs.Loops.{is_less, all_first, all_rest}
 use Rattle.am_dir.proofs.CommandLaws.{empty_is_nil, field_reads}
 

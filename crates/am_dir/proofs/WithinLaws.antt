@@ -1,13 +1,12 @@
 -- Contents that a snapshot can have stay such, whatever is applied.
-use Rattle.std.proofs.Common.{◌≡◌, ℕ, List, [], ◌∷◌, Bool, true, false, cond, not, ◌&&◌, ◌||◌, Option, Some, None, refl, sym, ap, ◌∙◌, subst, ◌⊎◌, inl, inr}
-use Rattle.std.specs.Map.{values_of}
+use Rattle.std.proofs.Common.{◌≡◌, ℕ, List, Bool, true, false, cond, not, ◌&&◌, ◌||◌, Option, Some, None, refl, ◌⊎◌, inl, inr}
 use Rattle.std.specs.BTreeMap.{is_at}
 use Rattle.std.proofs.lemmas.Map.Views.{All-values-insert_entry, All-map-remove_entry}
 use Rattle.am_base.specs.Limits.{IsNumber}
 use Rattle.am_dir.specs.declared.setting.Setting.{Setting}
 use Rattle.am_dir.specs.Values.{IsKey, IsValue}
 use Rattle.am_dir.specs.Commands.{Command, Put, Delete, Claim, IsCommand, command_of}
-use Rattle.am_dir.specs.Contents.{Contents, key_cmp, has_key, has_room, with_setting, without_key, after_command, after_read, applied}
+use Rattle.am_dir.specs.Contents.{Contents, key_cmp, has_key, has_room, with_setting, without_key, after_command, after_read}
 use Rattle.am_dir.specs.Snapshots.{IsContents, ContentsStayWithin}
 use Rattle.am_dir.proofs.Keeping.{set_is, removed_is}
 use Rattle.am_dir.proofs.Limits.{command_within}

@@ -1,5 +1,5 @@
 -- What a directory has: its keys in the order of their bytes, each with its value and the number of the entry that set it last.
-use Rattle.std.specs.Prelude.{ℕ, List, [], ◌∷◌, length, take, Bool, not, ◌&&◌, ◌||◌, nat_lt, is_some, if◌then◌else◌, Option, Some, None}
+use Rattle.std.specs.Prelude.{ℕ, List, [], length, take, Bool, not, ◌&&◌, ◌||◌, nat_lt, is_some, if◌then◌else◌, Option, Some, None}
 use Rattle.std.specs.List.{fold, enumerate_from}
 use Rattle.std.specs.declared.cmp.Ordering.{Ordering}
 use Rattle.std.specs.Ordering.{nat_cmp}

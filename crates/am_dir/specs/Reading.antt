@@ -1,5 +1,4 @@
 -- What stands in bytes, as the definitions have it.
-use Rattle.std.specs.Prelude.{ℕ, List}
 use Rattle.am_dir.specs.declared.field.Cut as cuts
 use Rattle.am_dir.specs.declared.field.Numbered as numbers
 use Rattle.am_dir.specs.declared.restoring.SettingRef as settings

@@ -1,13 +1,12 @@
 -- What replicas have in runs.
-use Rattle.std.proofs.Common.{◌≡◌, ◌≢◌, ℕ, zero, suc, ◌+◌, ◌≤◌, List, [], ◌∷◌, ◌++◌, length, take, Option, Some, None, Bool, true, false, cond, ◌==◌}
-use Rattle.std.proofs.Common.{slice_get, refl, sym, ap, ◌∙◌, subst, arith, ⊎_elim, inl, inr, add-zero}
+use Rattle.std.proofs.Common.{◌≡◌, ◌≢◌, ℕ, zero, suc, ◌+◌, List, [], ◌∷◌, length, Option, Some, None, Bool, true, false, ◌==◌, slice_get, refl, sym}
+use Rattle.std.proofs.Common.{ap, ◌∙◌, subst, arith, add-zero}
 use Rattle.std.specs.Option.{option_map}
-use Rattle.std.proofs.lemmas.Bool.{cases_eq}
 use Rattle.std.proofs.lemmas.Bool.Decides.{nat_tests}
 use Rattle.am_base.specs.declared.entry.Entry.{Entry}
 use Rattle.am_base.specs.declared.entry.Entry.TheVariants as entries
 use Rattle.am_base.specs.Names.{has}
-use Rattle.am_base.specs.Founding.{Rules, MayFound}
+use Rattle.am_base.specs.Founding.{Rules}
 use Rattle.am_group.specs.declared.event.Event.{Event}
 use Rattle.am_group.specs.Deliveries.{deliveries}
 use Rattle.am_group.specs.Journals.{item_at}
@@ -19,7 +18,7 @@ use Rattle.am_play.proofs.Beginnings.{runs_begin}
 use Rattle.am_headline.proofs.Holds.{headline_holds}
 use Rattle.am_dir.specs.Contents.{Contents, with_entry, contents_from, contents_after}
 use Rattle.am_dir.specs.Replicas.{first_snapshot, replica_contents}
-use Rattle.am_replicated.specs.Claims.{last_number, front_of, contents_up_to, NoSnapshot, FoundersHold, JoinerHolds, JoinersHold, ReplicasHold}
+use Rattle.am_replicated.specs.Claims.{last_number, contents_up_to, FoundersHold, JoinerHolds, JoinersHold, ReplicasHold}
 use Rattle.am_replicated.proofs.Starts.{names_begin}
 use Rattle.am_replicated.proofs.Pieces.{goes_on, last_is, splits}
 use Rattle.am_replicated.proofs.Waiting.{joiner_is, waits_till, waits_so}

@@ -1,7 +1,7 @@
 -- The contents after a piece of a list, which goes on where other contents end.
-use Rattle.std.proofs.Common.{◌≡◌, ℕ, zero, suc, ◌+◌, ◌-◌, ◌≤◌, List, [], ◌∷◌, ◌++◌, length, take, Option, Some, None, slice_get, refl, sym, ap, ◌∙◌}
+use Rattle.std.proofs.Common.{◌≡◌, ℕ, zero, suc, ◌+◌, List, [], ◌∷◌, ◌++◌, length, take, Some, slice_get, refl, sym, ap, ◌∙◌}
 use Rattle.std.proofs.Common.{subst, arith, add-zero}
-use Rattle.std.specs.List.{fold, enumerate_from}
+use Rattle.std.specs.List.{enumerate_from}
 use Rattle.am_base.specs.declared.entry.Entry.{Entry}
 use Rattle.am_group.specs.Journals.{item_at}
 use Rattle.am_play.specs.Claims.{IsSegment}

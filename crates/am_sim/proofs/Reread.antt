@@ -1,21 +1,19 @@
 -- What an audit tells of what is written.
-use Rattle.std.proofs.Common.{◌≡◌, ℕ, zero, suc, ◌+◌, ◌<◌, ◌≤◌, List, [], ◌∷◌, ◌++◌, length, map, Bool, true, false, refl, sym, ap, ◌∙◌, arith, Ok, Option, Some}
+use Rattle.std.proofs.Common.{◌≡◌, ℕ, zero, suc, ◌+◌, ◌≤◌, List, [], ◌∷◌, length, map, Bool, true, false, arith, Ok}
 use Rattle.std.specs.Prelude.{All}
 use Rattle.std.proofs.lemmas.List.{length-map}
 use Rattle.std.proofs.lemmas.List.Elements.{All-nil, All-cons, All-append, All-head, All-tail, All-weaker, All-map}
-use Rattle.std.specs.List.{range_with_len}
 use Rattle.am_base.specs.Most.{most_events}
 use Rattle.am_base.specs.Founding.{Rules, MayFound}
 use Rattle.am_packet.specs.Boxes.{Letter}
-use Rattle.am_group.specs.Addressed.{is_for}
 use Rattle.am_group.specs.declared.event.Act.{Act}
 use Rattle.am_group.specs.declared.event.Act.TheVariants as act
 use Rattle.am_group.specs.declared.event.Event.{Event}
 use Rattle.am_group.specs.declared.event.Record.{Record}
 use Rattle.am_group.specs.declared.plan.RacePlan.{RacePlan}
 use Rattle.am_group.specs.declared.plan.ThreadPlan.{ThreadPlan}
-use Rattle.am_play.specs.World.{World, current, run}
-use Rattle.am_play.specs.Settle.{Settling, and_then, event_at, running, ticks, hearings_of, hearings_from, hearings, waves, round, rounds, round_count, settle_events}
+use Rattle.am_play.specs.World.{World, run}
+use Rattle.am_play.specs.Settle.{Settling, and_then, event_at, ticks, hearings_of, hearings_from, hearings, waves, round, rounds, round_count, settle_events}
 use Rattle.am_play.specs.Play.{text_of}
 use Rattle.am_laws.specs.Bytes.{BodyWithin, IsShort}
 use Rattle.am_report.specs.Schedules.{script_text, IsOfBytes, AreOfBytes}

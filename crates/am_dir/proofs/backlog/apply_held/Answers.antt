@@ -1,5 +1,5 @@
-use Rattle.std.proofs.Common.{rules, ◌≡◌, ℕ, ◌+◌, ◌-◌, ◌*◌, ◌<◌, ◌≤◌, length, Bool, true, false, cond, List, [], ◌∷◌, ◌++◌, Vec, Global, Bor, MutBor}
-use Rattle.std.proofs.Common.{Option, Some, None, sym, ap, ◌∙◌, subst, refl, arith, inl, inr, take}
+use Rattle.std.proofs.Common.{ℕ, true, false, List}
+use Rattle.std.proofs.Common.{ap, ◌∙◌, refl}
 use Rattle.std.proofs.lemmas.List.{take_all}
 use Rattle.am_dir.specs.declared.backlog.HeldCommand.{HeldCommand}
 use Rattle.am_dir.specs.Contents.{applied}

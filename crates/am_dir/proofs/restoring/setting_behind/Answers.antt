@@ -1,5 +1,4 @@
-use Rattle.std.proofs.Common.{rules, ◌≡◌, ℕ, ◌+◌, ◌≤◌, length, Bool, true, false, cond, List, [], ◌∷◌, ◌++◌, Option, Some, None, IfOk, OnOk, sym, ap}
-use Rattle.std.proofs.Common.{◌∙◌, subst, refl, arith}
+use Rattle.std.proofs.Common.{sym}
 use Rattle.am_dir.specs.Reading.{cut_read}
 use Rattle.am_dir.proofs.Limits.{is_value}
 use Rattle.am_dir.proofs.restoring.setting_behind.Goals as goal

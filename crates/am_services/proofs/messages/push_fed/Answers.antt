@@ -1,4 +1,4 @@
-use Rattle.std.proofs.Common.{◌≡◌, Some, None, List, ℕ, sym, ap, ◌∙◌, rules}
+use Rattle.std.proofs.Common.{◌≡◌, Some, None, sym, ap, ◌∙◌, rules}
 use Rattle.am_services.proofs.Ended.{none_ended, some_ended, told_from}
 use Rattle.am_services.proofs.messages.push_fed.Goals as goal
 

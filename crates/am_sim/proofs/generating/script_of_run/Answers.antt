@@ -1,9 +1,7 @@
-use Rattle.std.proofs.Common.{◌≡◌, List, ℕ, ◌++◌, ◌∙◌, sym, ap, length, string_bytes}
+use Rattle.std.proofs.Common.{◌≡◌, ◌++◌, ◌∙◌, sym, ap, length, string_bytes}
 use Rattle.am_play.specs.Text.{newline}
-use Rattle.am_group.specs.declared.event.Event.{Event}
 use Rattle.am_report.specs.Schedules.{script_text}
 use Rattle.am_world.specs.Runs.{Play}
-use Rattle.am_pump.specs.Generating.{generated_rules, events_of_seed}
 use Rattle.am_sim.specs.Racing.{events_of}
 use Rattle.am_sim.proofs.Answered.{scripted_by}
 use Rattle.am_sim.proofs.Scripts.{run_events}

@@ -1,5 +1,5 @@
-use Rattle.std.proofs.Common.{rules, ◌≡◌, ℕ, ◌+◌, ◌≤◌, length, Bool, true, false, cond, List, [], ◌∷◌, ◌++◌, Option, Some, None, IfOk, OnOk, sym, ap}
-use Rattle.std.proofs.Common.{◌∙◌, subst, refl, arith}
+use Rattle.std.proofs.Common.{◌≡◌, ℕ, List, Option, Some, sym, ap}
+use Rattle.std.proofs.Common.{◌∙◌}
 use Rattle.am_seg.specs.Assembling.{after_entry}
 use Rattle.am_dir.specs.declared.backlog.HeldCommand.{HeldCommand}
 use Rattle.am_dir.specs.Contents.{Contents, with_entry}

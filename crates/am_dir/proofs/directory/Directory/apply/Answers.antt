@@ -1,5 +1,4 @@
-use Rattle.std.proofs.Common.{rules, ◌≡◌, ℕ, ◌+◌, ◌-◌, ◌*◌, ◌<◌, ◌≤◌, length, Bool, true, false, cond, List, [], ◌∷◌, ◌++◌, Vec, Global, Bor, MutBor}
-use Rattle.std.proofs.Common.{Option, Some, None, sym, ap, ◌∙◌, subst, refl, arith, inl, inr, take}
+use Rattle.std.proofs.Common.{sym}
 use Rattle.am_dir.specs.Commands.{command_from}
 use Rattle.am_dir.proofs.Limits.{command_within}
 use Rattle.am_dir.proofs.directory.Directory.apply.Goals as goal

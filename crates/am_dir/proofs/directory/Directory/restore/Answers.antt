@@ -1,5 +1,5 @@
-use Rattle.std.proofs.Common.{rules, ◌≡◌, ℕ, ◌+◌, ◌≤◌, length, Bool, true, false, cond, List, [], ◌∷◌, ◌++◌, Option, Some, None, IfOk, OnOk, sym, ap}
-use Rattle.std.proofs.Common.{◌∙◌, subst, refl, arith}
+use Rattle.std.proofs.Common.{Some, None, sym}
+use Rattle.std.proofs.Common.{◌∙◌}
 use Rattle.am_dir.specs.Reading.{head_read}
 use Rattle.am_dir.proofs.Limits.{head_few, snapshot_none, snapshot_by}
 use Rattle.am_dir.proofs.directory.Directory.restore.Goals as goal

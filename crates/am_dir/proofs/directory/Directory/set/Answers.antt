@@ -1,5 +1,5 @@
-use Rattle.std.proofs.Common.{rules, ◌≡◌, ℕ, ◌+◌, ◌-◌, ◌*◌, ◌<◌, ◌≤◌, length, Bool, true, false, cond, List, [], ◌∷◌, ◌++◌, Vec, Global, Bor, MutBor}
-use Rattle.std.proofs.Common.{Option, Some, None, sym, ap, ◌∙◌, subst, refl, arith, inl, inr, take}
+use Rattle.std.proofs.Common.{◌≡◌}
+use Rattle.std.proofs.Common.{sym, subst}
 use Rattle.am_dir.specs.Contents.{Contents, with_setting}
 use Rattle.am_dir.specs.Kept.{contents_in, IsDirectory}
 use Rattle.am_dir.proofs.Entries.{set_entry}

@@ -1,5 +1,5 @@
-use Rattle.std.proofs.Common.{rules, ◌≡◌, ℕ, ◌+◌, ◌-◌, ◌*◌, ◌<◌, ◌≤◌, length, Bool, true, false, cond, List, [], ◌∷◌, ◌++◌, Vec, Global, Bor, MutBor}
-use Rattle.std.proofs.Common.{Option, Some, None, sym, ap, ◌∙◌, subst, refl, arith, inl, inr, take}
+use Rattle.std.proofs.Common.{◌≡◌, ℕ, length, List, ◌++◌, Vec, Global}
+use Rattle.std.proofs.Common.{sym, ap, ◌∙◌, subst, arith}
 use Rattle.am_dir.specs.declared.setting.Setting.{Setting}
 use Rattle.am_dir.specs.Values.{IsKey}
 use Rattle.am_dir.specs.Contents.{Contents}
