@@ -70,6 +70,17 @@ pub fn value_in(object: &Value, key: Key, place: u64) -> Read<&Value>
     }
 }
 
+/// The value at a key of an object, to be changed; Missing where the key isn't there.
+pub fn value_in_mut(object: &mut Value, key: Key, place: u64) -> Read<&mut Value>
+    ensures { result_map_both (λ v. view v.now) (λ e. e) result
+        ≡ value_in key place (view object.old) }
+{
+    match object.get_mut(key.word()) {
+        Some(value) => Ok(value),
+        None => Err(ScriptRefusal::Missing { key, place }),
+    }
+}
+
 /// The text at a key of an object; BadValue where it is another value.
 pub fn text_in(object: &Value, key: Key, place: u64) -> Read<&str>
     ensures { result_map_both (λ s. s.now) (λ e. e) result ≡ text_in key place (view object.now) }

@@ -4,7 +4,7 @@ ghost use Rattle.am_script.specs.Refusals.{Answers};
 ghost use Rattle.am_script.specs.Limits.{ScriptWithin};
 ghost use Rattle.am_script.specs.Scripts.{IsKind, IsOfKind, script_from, document_in, document_from, reading};
 
-use crate::fields::{known, object, value_in};
+use crate::fields::{known, object, value_in, value_in_mut};
 use crate::key::Key;
 use crate::play::play;
 use crate::race::race;
@@ -16,9 +16,9 @@ use std::alloc::Global;
 
 /// The script behind its key.
 #[tactic(auto, using(crate::proofs::Answered::others_are_plays))]
-fn script(alloc: Global, asked: Key, value: &Value) -> Read<Script>
+fn script(alloc: Global, asked: Key, value: &mut Value) -> Read<Script>
     requires { IsKind asked }
-    ensures { Answers (script_from asked (view value.now)) result }
+    ensures { Answers (script_from asked (view value.old)) result }
 {
     if asked == Key::Race {
         return Ok(Script::Race(race(alloc, value)?));
@@ -28,14 +28,14 @@ fn script(alloc: Global, asked: Key, value: &Value) -> Read<Script>
 
 /// The script of a document.
 #[tactic(auto, unfolding(crate::specs::Scripts::document_from))]
-fn document(alloc: Global, asked: Key, value: &Value) -> Read<Script>
+fn document(alloc: Global, asked: Key, value: &mut Value) -> Read<Script>
     requires { IsKind asked }
-    ensures { Answers (document_from asked (view value.now)) result }
+    ensures { Answers (document_from asked (view value.old)) result }
 {
     object(value, Key::Top, 0)?;
-    let inner = value_in(value, asked, 0)?;
+    let _there = value_in(value, asked, 0)?;
     known(&[asked], value, 0)?;
-    script(alloc, asked, inner)
+    script(alloc, asked, value_in_mut(value, asked, 0)?)
 }
 
 /// The document that bytes are JSON of.
@@ -68,6 +68,6 @@ pub fn read_script(alloc: Global, asked: Key, bytes: &[u8]) -> Result<Script, Sc
         → reading asked bytes.now ≡ Err e) }
     ensures memory { IfErr result (λ e. e ≡ ScriptRefusal.NoMemory → 0 < length bytes.now) }
 {
-    let value = parse(alloc, bytes)?;
-    document(alloc, asked, &value)
+    let mut value = parse(alloc, bytes)?;
+    document(alloc, asked, &mut value)
 }

@@ -6,5 +6,5 @@ use Rattle.am_script.specs.Events.{event_from}
 use Rattle.am_script.proofs.play.each_event.Given as goal
 
 abbrev pub invariant-loop-before : goal.invariant-loop-before
-invariant-loop-before l = each_from (event_from l.fn.founding) 1 (items_view l.list)
+invariant-loop-before l = each_from (event_from l.fn.founding) 1 (items_view l.fn.list)
     ≡ (each_from (event_from l.fn.founding) (l.before + 1) (items_view (drop l.before l.list)) >>= λ later. Ok (l.events ++ later))
