@@ -3,6 +3,7 @@ ghost use Rattle.std.specs.List.{flat_map};
 ghost use Rattle.am_play.specs.Text.{hex_byte, body_text, resilience_text, entry_text};
 
 use crate::name::{push_name, push_names, push_stamp};
+use crate::number::push_behind;
 use am_base::NoMemory;
 use am_base::entry::Entry;
 use am_base::founding::Founding;
@@ -40,7 +41,7 @@ pub fn push_resilience(
     if resilience == founding.resilience() {
         return Ok(());
     }
-    write!(out, " r{resilience}")
+    push_behind(out, " r", u64::from(resilience))
 }
 
 /// Adds an entry. After an error a part of it may have been added.
@@ -53,7 +54,8 @@ pub fn push_entry(out: &mut String, founding: &Founding, entry: &Entry) -> Resul
         Entry::Data { from, req, body } => {
             out.push_str("data ")?;
             push_name(out, *from)?;
-            write!(out, " {req} ")?;
+            push_behind(out, " ", u64::from(*req))?;
+            out.push_str(" ")?;
             push_body(out, body.bytes())
         }
         Entry::Join(name) => {

@@ -3,6 +3,7 @@ ghost use Rattle.am_play.specs.Text.{act_word, act_parts, event_text};
 
 use crate::entry::{push_body, push_resilience};
 use crate::name::push_name;
+use crate::number::push_behind;
 use am_base::NoMemory;
 use am_base::founding::Founding;
 use am_group::event::{Act, Event};
@@ -41,18 +42,21 @@ fn push_parts(out: &mut String, founding: &Founding, act: &Act) -> Result<(), No
             out.push_str(" ")?;
             push_body(out, body.bytes())
         }
-        Act::Done(req) => write!(out, " {req}"),
+        Act::Done(req) => push_behind(out, " ", u64::from(*req)),
         Act::Reset { least, resilience } => {
-            write!(out, " {least}")?;
+            push_behind(out, " ", u64::from(*least))?;
             push_resilience(out, founding, *resilience)
         }
-        Act::Ask(round) => write!(out, " {round}"),
+        Act::Ask(round) => push_behind(out, " ", u64::from(*round)),
         Act::GiveUp(name) => {
             out.push_str(" ")?;
             push_name(out, *name)
         }
-        Act::Hear(packet) => write!(out, " {packet}"),
-        Act::Cut { packet, keep } => write!(out, " {packet} {keep}"),
+        Act::Hear(packet) => push_behind(out, " ", u64::from(*packet)),
+        Act::Cut { packet, keep } => {
+            push_behind(out, " ", u64::from(*packet))?;
+            push_behind(out, " ", u64::from(*keep))
+        }
         Act::Take | Act::Join | Act::State | Act::Leave | Act::Stop | Act::Tick | Act::Return => {
             Ok(())
         }
@@ -65,8 +69,7 @@ pub fn push_event(out: &mut String, founding: &Founding, event: &Event) -> Resul
     ensures { OnOk result (string_bytes out.new
         ≡ string_bytes out.old ++ event_text founding.now event.now) }
 {
-    let word = act_word(&event.act);
-    let place = event.node.place();
-    write!(out, "{word} {place}")?;
+    out.push_str(act_word(&event.act))?;
+    push_behind(out, " ", u64::from(event.node.place()))?;
     push_parts(out, founding, &event.act)
 }

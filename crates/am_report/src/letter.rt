@@ -3,6 +3,7 @@ ghost use Rattle.am_report.specs.Kinds.{word_at};
 ghost use Rattle.am_play.specs.Text.{kind_word, addressees_text, letter_text, letters_text};
 
 use crate::name::{is_everybody_else, push_names};
+use crate::number::push_behind;
 use am_base::NoMemory;
 use am_post::letter::Letter;
 
@@ -60,8 +61,10 @@ fn push_letter(out: &mut String, place: u8, number: u64, letter: &Letter) -> Res
     ensures { OnOk result (string_bytes out.new
         ≡ string_bytes out.old ++ letter_text place number letter.now) }
 {
-    let word = kind_word(letter);
-    write!(out, " | {number} {word} to ")?;
+    push_behind(out, " | ", number)?;
+    out.push_str(" ")?;
+    out.push_str(kind_word(letter))?;
+    out.push_str(" to ")?;
     push_addressees(out, place, letter)
 }
 

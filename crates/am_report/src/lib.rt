@@ -6,6 +6,7 @@ pub mod event;
 pub mod letter;
 pub mod lines;
 pub mod name;
+pub mod number;
 pub mod outcome;
 pub mod play;
 pub mod script;

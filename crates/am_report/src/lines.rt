@@ -7,6 +7,7 @@ use crate::entry::push_entry;
 use crate::event::push_event;
 use crate::letter::push_letters;
 use crate::name::push_name;
+use crate::number::{push_behind, push_number};
 use crate::outcome::push_outcome;
 use am_base::NoMemory;
 use am_base::entry::Entry;
@@ -26,7 +27,8 @@ pub fn push_record(
     ensures { OnOk result (string_bytes out.new
         ≡ string_bytes out.old ++ record_line founding.now number before happened.now) }
 {
-    write!(out, "{number} ")?;
+    push_number(out, u64::from(number))?;
+    out.push_str(" ")?;
     push_event(out, founding, &happened.event)?;
     out.push_str(" : ")?;
     push_outcome(out, founding, &happened.outcome)?;
@@ -49,7 +51,8 @@ pub fn push_group_line(
     ensures { OnOk result (string_bytes out.new
         ≡ string_bytes out.old ++ group_line founding.now number entry.now) }
 {
-    write!(out, "group {number} ")?;
+    push_behind(out, "group ", number)?;
+    out.push_str(" ")?;
     push_entry(out, founding, entry)?;
     out.push_str("\n")
 }
@@ -68,7 +71,8 @@ pub fn push_log_line(
     let (number, entry) = given;
     out.push_str("log ")?;
     push_name(out, name)?;
-    write!(out, " {number} ")?;
+    push_behind(out, " ", u64::from(number))?;
+    out.push_str(" ")?;
     push_entry(out, founding, entry)?;
     out.push_str("\n")
 }
@@ -88,6 +92,9 @@ pub fn push_mark(out: &mut String, broken: Option<u32>) -> Result<(), NoMemory>
 {
     match broken {
         None => out.push_str("lawful\n"),
-        Some(number) => writeln!(out, "void from {number}"),
+        Some(number) => {
+            push_behind(out, "void from ", u64::from(number))?;
+            out.push_str("\n")
+        }
     }
 }

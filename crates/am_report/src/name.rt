@@ -3,6 +3,7 @@ ghost use Rattle.std.specs.List.{list_all};
 ghost use Rattle.am_play.specs.Text.{name_text, stamp_text, names_text, is_everybody_else};
 ghost use Rattle.am_report.specs.Names.{rest_text, with_life};
 
+use crate::number::{push_behind, push_number};
 use am_base::NoMemory;
 use am_base::name::{Name, Stamp};
 use am_base::names::Names;
@@ -16,9 +17,10 @@ pub fn push_name(out: &mut String, name: Name) -> Result<(), NoMemory>
     let place = name.place();
     let life = name.life();
     if life == 1 {
-        return write!(out, "{place}");
+        return push_number(out, u64::from(place));
     }
-    write!(out, "{place}/{life}")
+    push_number(out, u64::from(place))?;
+    push_behind(out, "/", u64::from(life))
 }
 
 /// Adds a stamp. After an error a part of it may have been added.
@@ -27,7 +29,8 @@ pub fn push_stamp(out: &mut String, stamp: Stamp) -> Result<(), NoMemory>
     ensures { OnOk result (string_bytes out.new ≡ string_bytes out.old ++ stamp_text stamp) }
 {
     let round = stamp.round;
-    write!(out, "{round}.")?;
+    push_number(out, u64::from(round))?;
+    out.push_str(".")?;
     push_name(out, stamp.by)
 }
 

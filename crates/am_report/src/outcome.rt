@@ -3,6 +3,7 @@ ghost use Rattle.am_play.specs.Text.{outcome_word, numbers_text, outcome_numbers
 
 use crate::entry::push_entry;
 use crate::name::{push_name, push_names, push_stamp};
+use crate::number::push_behind;
 use am_base::NoMemory;
 use am_base::founding::Founding;
 use am_base::outcome::Outcome;
@@ -77,28 +78,44 @@ fn push_numbers(out: &mut String, outcome: &Outcome) -> Result<(), NoMemory>
         ≡ string_bytes out.old ++ numbers_text (outcome_numbers outcome.now)) }
 {
     match outcome {
-        Outcome::Queued { req } => write!(out, " {req}"),
-        Outcome::Busy { queued } => write!(out, " {queued}"),
-        Outcome::Pending { req } => write!(out, " {req}"),
-        Outcome::Sent { req, number } => write!(out, " {req} {number}"),
-        Outcome::Joined { number } => write!(out, " {number}"),
-        Outcome::PutOff { req, base, top } => write!(out, " {req} {base} {top}"),
-        Outcome::Numbered { number } => write!(out, " {number}"),
-        Outcome::Early { last } => write!(out, " {last}"),
-        Outcome::Held { base, top } => write!(out, " {base} {top}"),
-        Outcome::Stored { number } => write!(out, " {number}"),
-        Outcome::Gap { want } => write!(out, " {want}"),
-        Outcome::Advanced { acc } => write!(out, " {acc}"),
-        Outcome::Accepted { acc } => write!(out, " {acc}"),
-        Outcome::Served { count } => write!(out, " {count}"),
-        Outcome::Welcomed { number } => write!(out, " {number}"),
-        Outcome::LetGo { number } => write!(out, " {number}"),
-        Outcome::Refused { cause } => write!(out, " {cause}"),
-        Outcome::Catching { want } => write!(out, " {want}"),
-        Outcome::TooFew { got, least } => write!(out, " {got} {least}"),
-        Outcome::Crowded { base, top } => write!(out, " {base} {top}"),
-        Outcome::Running { life } => write!(out, " {life}"),
-        Outcome::Returned { life } => write!(out, " {life}"),
+        Outcome::Queued { req } => push_behind(out, " ", u64::from(*req)),
+        Outcome::Busy { queued } => push_behind(out, " ", u64::from(*queued)),
+        Outcome::Pending { req } => push_behind(out, " ", u64::from(*req)),
+        Outcome::Sent { req, number } => {
+            push_behind(out, " ", u64::from(*req))?;
+            push_behind(out, " ", u64::from(*number))
+        }
+        Outcome::Joined { number } => push_behind(out, " ", u64::from(*number)),
+        Outcome::PutOff { req, base, top } => {
+            push_behind(out, " ", u64::from(*req))?;
+            push_behind(out, " ", u64::from(*base))?;
+            push_behind(out, " ", u64::from(*top))
+        }
+        Outcome::Numbered { number } => push_behind(out, " ", u64::from(*number)),
+        Outcome::Early { last } => push_behind(out, " ", u64::from(*last)),
+        Outcome::Held { base, top } => {
+            push_behind(out, " ", u64::from(*base))?;
+            push_behind(out, " ", u64::from(*top))
+        }
+        Outcome::Stored { number } => push_behind(out, " ", u64::from(*number)),
+        Outcome::Gap { want } => push_behind(out, " ", u64::from(*want)),
+        Outcome::Advanced { acc } => push_behind(out, " ", u64::from(*acc)),
+        Outcome::Accepted { acc } => push_behind(out, " ", u64::from(*acc)),
+        Outcome::Served { count } => push_behind(out, " ", u64::from(*count)),
+        Outcome::Welcomed { number } => push_behind(out, " ", u64::from(*number)),
+        Outcome::LetGo { number } => push_behind(out, " ", u64::from(*number)),
+        Outcome::Refused { cause } => push_behind(out, " ", u64::from(*cause)),
+        Outcome::Catching { want } => push_behind(out, " ", u64::from(*want)),
+        Outcome::TooFew { got, least } => {
+            push_behind(out, " ", u64::from(*got))?;
+            push_behind(out, " ", u64::from(*least))
+        }
+        Outcome::Crowded { base, top } => {
+            push_behind(out, " ", u64::from(*base))?;
+            push_behind(out, " ", u64::from(*top))
+        }
+        Outcome::Running { life } => push_behind(out, " ", u64::from(*life)),
+        Outcome::Returned { life } => push_behind(out, " ", u64::from(*life)),
         _ => Ok(()),
     }
 }
@@ -111,13 +128,14 @@ fn push_parts(out: &mut String, founding: &Founding, outcome: &Outcome) -> Resul
 {
     match outcome {
         Outcome::Took { number, entry } => {
-            write!(out, " {number} ")?;
+            push_behind(out, " ", u64::from(*number))?;
+            out.push_str(" ")?;
             push_entry(out, founding, entry.get())
         }
         Outcome::NoBody { from, req: number } | Outcome::Fetching { from, want: number } => {
             out.push_str(" ")?;
             push_name(out, *from)?;
-            write!(out, " {number}")
+            push_behind(out, " ", u64::from(*number))
         }
         Outcome::Newer { promise: stamp }
         | Outcome::Overtaken { by: stamp }
@@ -130,7 +148,8 @@ fn push_parts(out: &mut String, founding: &Founding, outcome: &Outcome) -> Resul
             push_names(out, *names)
         }
         Outcome::Decided { number, members } => {
-            write!(out, " {number} ")?;
+            push_behind(out, " ", u64::from(*number))?;
+            out.push_str(" ")?;
             push_names(out, *members)
         }
         Outcome::Occupied { name } => {
