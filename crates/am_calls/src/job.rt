@@ -35,7 +35,7 @@ pub trait Job {
         ensures number { caller.new.number ≡ caller.old.number };
 }
 
-/// A caller does a job.
+/// A caller does a job, once the others have begun too.
 fn one_does<R: Wait, N: Racing, G: Gate, J: Job>(
     rt: &R,
     kernels: &Kernels<N, G>,
@@ -45,7 +45,9 @@ fn one_does<R: Wait, N: Racing, G: Gate, J: Job>(
     requires fresh { caller ≡ fresh_caller caller.number }
     ensures number { result.number ≡ caller.number }
 {
+    kernels.crowd.begin();
     job.run(rt, kernels, &mut caller);
+    kernels.crowd.end();
     caller
 }
 

@@ -20,6 +20,7 @@ ghost use Rattle.am_races.specs.Plans.{is_call};
 ghost use Rattle.am_races.specs.Ran.{calls_by, fresh_callers, numbers_of, EndsFor};
 
 use crate::caller::{Caller, Hand};
+use crate::crowd::Crowd;
 use crate::dealing::{all_places, boxes_of, callers_of, with_callers};
 use crate::gate::Gate;
 use crate::naming::{RaceLaw, Racing};
@@ -40,7 +41,9 @@ use am_races::call::{Came, Looked, Tag};
 use am_wire::wire::{Pass, Share, Wire, WireRefusal};
 use std::alloc::Global;
 use std::sync::{Mutex, Wait};
-use std::thread;
+
+/// How often a call without a turn to make looks at its node: as often as a journal has records.
+const MOST_RESTS: u32 = 100_000;
 
 /// The nodes of a race, each in its box under a lock, over one journal; its callers make blocking calls at them.
 #[derive(Drop)]
@@ -49,6 +52,7 @@ pub struct Kernels<'g, N: Racing, G: Gate> {
     wire: Wire<RaceLaw>,
     boxes: Vec<Mutex<NodeBox<N>>>,
     gate: &'g G,
+    pub(crate) crowd: Crowd,
     turns: u32,
     ghost named: { wire.id ≡ N.wire },
     ghost planned: { wire.terms ≡ terms_of N.plan },
@@ -82,6 +86,7 @@ impl<'g, N: Racing, G: Gate> Kernels<'g, N, G> {
             wire,
             boxes,
             gate,
+            crowd: Crowd::new(plan.threads.as_slice().len() as u64),
             turns: plan.turns,
         };
         Ok((kernels, callers))
@@ -122,13 +127,40 @@ impl<'g, N: Racing, G: Gate> Kernels<'g, N, G> {
         for _ in rt.forever() {
             let mut guard = self.boxes[usize::from(node.place())].lock(rt);
             if guard.name().place() == node.place() {
-                return guard.begin(&self.visit(rt, tag), hand, act);
+                let begun = guard.begin(&self.visit(rt, tag), hand, act);
+                self.crowd.stir();
+                return begun;
             }
         }
         unreachable!()
     }
 
-    /// A further look of a call.
+    /// Whether a node has something to do, as `NodeBox::has_to_do`.
+    fn has_to_do<R: Wait>(&self, rt: &R, node: Name, act: &Act, came: &Option<Came>) -> bool {
+        for _ in rt.forever() {
+            let mut guard = self.boxes[usize::from(node.place())].lock(rt);
+            if guard.name().place() == node.place() {
+                return guard.has_to_do(rt, &self.wire, act, came);
+            }
+        }
+        unreachable!()
+    }
+
+    /// Lets other callers go first, where a turn of a call would hear nothing: until there is something to do, or its caller is due.
+    fn rest<R: Wait>(&self, rt: &R, tag: Tag, node: Name, act: &Act, came: &Option<Came>) {
+        let due = self.crowd.due(tag.caller);
+        for _ in 0..MOST_RESTS {
+            let round = self.crowd.round();
+            if self.crowd.due(tag.caller) != due || self.has_to_do(rt, node, act, came) {
+                return;
+            }
+            if !self.crowd.rest(round) {
+                return;
+            }
+        }
+    }
+
+    /// A further look of a call, which rests before a turn.
     fn look<R: Wait>(
         &self,
         rt: &R,
@@ -151,17 +183,21 @@ impl<'g, N: Racing, G: Gate> Kernels<'g, N, G> {
         ensures err { IfErr result (WasRefused
             (place_of node) tag.caller hand.old.share.seen hand.new.share.seen) }
     {
+        if has_turn {
+            self.rest(rt, tag, node, act, came);
+        }
         for _ in rt.forever() {
             let mut guard = self.boxes[usize::from(node.place())].lock(rt);
             if guard.name().place() == node.place() {
-                return guard.look(&self.visit(rt, tag), hand, act, came, has_turn);
+                let looked = guard.look(&self.visit(rt, tag), hand, act, came, has_turn);
+                self.crowd.stir();
+                return looked;
             }
         }
         unreachable!()
     }
 
-    /// Looks at the node until the call has its answer. Behind each turn other threads may go first, so that none spends its turns
-    /// while the others wait for a processor.
+    /// Looks at the node until the call has its answer.
     fn go_on<R: Wait>(
         &self,
         rt: &R,
@@ -185,10 +221,7 @@ impl<'g, N: Racing, G: Gate> Kernels<'g, N, G> {
             match self.look(rt, hand, tag, node, act, came, true) {
                 Err(answer) => return answer,
                 Ok(Looked::End(outcome)) => return answer_at_end(act, request, &outcome, late),
-                Ok(Looked::Turn(outcome)) => {
-                    late = late_after(request, late, &outcome);
-                    thread::yield_now();
-                }
+                Ok(Looked::Turn(outcome)) => late = late_after(request, late, &outcome),
             }
         }
         match self.look(rt, hand, tag, node, act, came, false) {

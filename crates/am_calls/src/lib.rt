@@ -2,6 +2,7 @@
 #![tactic(auto)]
 
 pub mod caller;
+mod crowd;
 mod dealing;
 pub mod gate;
 pub mod job;

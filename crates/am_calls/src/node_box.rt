@@ -420,6 +420,40 @@ impl<N: Racing> NodeBox<N> {
         }
     }
 
+    /// Whether there is a letter for its node that it hasn't come to.
+    fn has_letter<R: Wait>(&mut self, rt: &R, wire: &Wire<RaceLaw>) -> bool
+        requires own { wire.now.id ≡ N.wire }
+        requires open_ { self.old.closed ≡ None }
+        ensures looks { Looks self.old self.new }
+    {
+        let ahead = wire.next_for(rt, &mut self.pass, self.name, self.cursor);
+        ahead.is_some()
+    }
+
+    /// Whether a look of a call would do more than tick: it ends, or is refused, or its node gives somebody up or comes to a letter.
+    /// No clause says so, and a call that goes by it may tick all the same.
+    pub fn has_to_do<R: Wait>(
+        &mut self,
+        rt: &R,
+        wire: &Wire<RaceLaw>,
+        act: &Act,
+        came: &Option<Came>,
+    ) -> bool
+        requires own { wire.now.id ≡ N.wire }
+        ensures { self.new.name ≡ self.old.name }
+    {
+        if let Some(_refusal) = self.closed {
+            return true;
+        }
+        if self.is_stopped || self.is_ready(act, came) {
+            return true;
+        }
+        if let Some(_name) = self.in_vain(rt, wire) {
+            return true;
+        }
+        self.has_letter(rt, wire)
+    }
+
     /// The box and a caller see what either has seen. It is an error where the box does nothing more.
     fn meet_caller(&mut self, wire: &Wire<RaceLaw>, hand: &mut Hand, tag: Tag) -> Result<(), Answer>
         requires own { wire.now.id ≡ N.wire }

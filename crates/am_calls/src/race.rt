@@ -21,7 +21,6 @@ use am_wire::wire::{Pass, Share, Wire, WireRefusal};
 use std::alloc::Global;
 use std::marker::{Brand, PhantomData};
 use std::sync::Wait;
-use std::sync::atomic::{AtomicU64, Ordering};
 use std::thread;
 use std::thread::Threads;
 
@@ -73,22 +72,7 @@ fn play<R: Wait, N: Racing, G: Gate>(
     }
 }
 
-/// How often a thread looks whether the others have begun.
-const MOST_LOOKS: u32 = 100_000;
-
-/// Waits until so many threads have begun, or has looked for them 100,000 times: the first one would else spend its turns before
-/// the last one is there.
-fn begin_together(begun: &AtomicU64, threads: u64) {
-    begun.fetch_add(1, Ordering::SeqCst);
-    for _ in 0..MOST_LOOKS {
-        if threads <= begun.load(Ordering::SeqCst) {
-            return;
-        }
-        thread::yield_now();
-    }
-}
-
-/// A caller makes the calls of its thread.
+/// A caller makes the calls of its thread, once the others have begun too.
 fn run<R: Wait, N: Racing, G: Gate>(
     rt: &R,
     kernels: &Kernels<N, G>,
@@ -101,13 +85,16 @@ fn run<R: Wait, N: Racing, G: Gate>(
     ensures number { result.caller.number ≡ caller.number }
     ensures ran { HasRun N.plan result.caller result.refusal }
 {
-    match threads.get(caller.number() as usize) {
+    kernels.crowd.begin();
+    let ran = match threads.get(caller.number() as usize) {
         Some(thread) => play(rt, kernels, thread, caller),
         None => Ran {
             caller,
             refusal: None,
         },
-    }
+    };
+    kernels.crowd.end();
+    ran
 }
 
 /// Each caller makes the calls of its thread, in a thread of its own.
@@ -124,7 +111,6 @@ fn all_run<R: Threads + Wait + Sync, N: Racing + Send + Sync, G: Gate + Sync>(
         ≡ numbers_of callers.items) }
     ensures ran { IfOk result (λ ran. All (λ r. HasRun N.plan r.caller r.refusal) ran.items) }
 {
-    let begun = AtomicU64::new(0);
     let ran = thread::map_vec(
         rt,
         callers,
@@ -134,10 +120,7 @@ fn all_run<R: Threads + Wait + Sync, N: Racing + Send + Sync, G: Gate + Sync>(
             requires fresh { caller ≡ fresh_caller caller.number }
             ensures number { result.caller.number ≡ caller.number }
             ensures ran { HasRun N.plan result.caller result.refusal }
-        {
-            begin_together(&begun, threads.len() as u64);
-            run(rt, kernels, threads, caller)
-        },
+        { run(rt, kernels, threads, caller) },
     )?;
     Ok(ran)
 }

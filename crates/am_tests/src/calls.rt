@@ -17,29 +17,6 @@ use am_group::plan::{RacePlan, ThreadPlan};
 use std::sync::Wait;
 use std::sync::atomic::{AtomicU64, Ordering};
 use std::test::*;
-use std::thread;
-
-/// How often a node that is ahead looks whether the other has come as far.
-const MOST_WAITS: u32 = 1000;
-
-/// Two nodes go in step, so that none spends all its turns while the other's thread doesn't run.
-#[derive(Drop)]
-struct InStep {
-    acts: [AtomicU64; 2],
-}
-
-impl Gate for InStep {
-    fn between(&self, node: Name, _by: &By) {
-        let mine = usize::from(node.place() % 2);
-        let count = self.acts[mine].fetch_add(1, Ordering::SeqCst);
-        for _ in 0..MOST_WAITS {
-            if count <= self.acts[1 - mine].load(Ordering::SeqCst) {
-                return;
-            }
-            thread::yield_now();
-        }
-    }
-}
 
 fn thread_of(place: u8, calls: Vec<Act>) -> ThreadPlan
     ensures { result.calls ≡ calls.items }
@@ -88,10 +65,7 @@ fn both_receive_what_one_sends(rt: HostRuntime) -> Result<(), Fail> {
     let first = thread_of(0, sends);
     let second = thread_of(1, vec![in alloc; Act::Take, Act::Take]?);
     let plan = plan_of(3, vec![in alloc; first, second]?, 10000)?;
-    let gate = InStep {
-        acts: [AtomicU64::new(0), AtomicU64::new(0)],
-    };
-    let journal = race(&rt, alloc, &plan, &gate).ok().ok_or("a journal")?;
+    let journal = race(&rt, alloc, &plan, &NoGate).ok().ok_or("a journal")?;
     for node in [0, 1] {
         let given = deliveries(alloc, journal.records(), Name::of_byte(node))?;
         assert_eq!(rt; given.len(), 2, "of {node}");
