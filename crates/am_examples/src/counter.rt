@@ -1,7 +1,5 @@
 use am_base::entry::Entry;
 use am_base::name::Name;
-use am_group::delivered::given_to;
-use am_group::event::{Act, Event};
 use am_world::world::{World, WorldRefusal};
 
 /// A counter that each member of a group keeps: all are given the same bodies in the same order, and so all count the same.
@@ -28,17 +26,10 @@ impl Counter {
 
     /// Takes one entry and counts it; whether there was one.
     pub fn take(&mut self, world: &mut World) -> Result<bool, WorldRefusal> {
-        world.step(&Event {
-            node: self.node,
-            act: Act::Take,
-        })?;
-        let Some(last) = world.journal().records().last() else {
+        let Some((_number, entry)) = world.take(self.node)? else {
             return Ok(false);
         };
-        let Some((_, entry)) = given_to(last, self.node) else {
-            return Ok(false);
-        };
-        self.count(entry);
+        self.count(&entry);
         Ok(true)
     }
 }
@@ -49,6 +40,7 @@ mod tests {
     use am_base::body::Body;
     use am_base::founding::Founding;
     use am_base::names::Names;
+    use am_group::event::{Act, Event};
     use am_settle::settle::settle;
     use std::test::Fail;
 

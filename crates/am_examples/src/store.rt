@@ -2,25 +2,16 @@ use am_base::NoMemory;
 use am_base::name::Name;
 use am_dir::command::Command;
 use am_dir::replica::Replica;
-use am_group::delivered::given_to;
 use am_group::event::{Act, Event};
 use am_world::world::{World, WorldRefusal};
 use std::alloc::Global;
 
 /// A place takes what comes next, and its replica is fed with that; whether there was something.
 pub fn take(world: &mut World, place: Name, replica: &mut Replica) -> Result<bool, WorldRefusal> {
-    world.step(&Event {
-        node: place,
-        act: Act::Take,
-    })?;
-    let name = world.name_at(place);
-    let Some(last) = world.journal().records().last() else {
+    let Some((number, entry)) = world.take(place)? else {
         return Ok(false);
     };
-    let Some((number, entry)) = given_to(last, name) else {
-        return Ok(false);
-    };
-    replica.feed(number, entry)?;
+    replica.feed(number, &entry)?;
     Ok(true)
 }
 

@@ -17,3 +17,4 @@ pub mod StoredPieces
 pub mod StoredSteps
 pub mod Stored
 pub mod Kept
+pub mod Latest

@@ -5,5 +5,6 @@ pub mod asked;
 pub mod nodes;
 pub mod records;
 pub mod run;
+pub mod using;
 mod watching;
 pub mod world;

@@ -1,0 +1,28 @@
+-- What the last record of a run is, and what it gives.
+use Rattle.am_world.proofs.Words.{◌≡◌, ℕ, ◌-◌, List, [], ◌∷◌, ◌++◌, length, Some, slice_get, ap, ◌∙◌, arith, length-append, append-nil, Event, Record}
+use Rattle.am_world.proofs.Words.{Play, after, replay, record_of}
+use Rattle.std.proofs.lemmas.Grind.{flat_map-append}
+use Rattle.am_effects.proofs.Items.{get_last}
+use Rattle.am_group.specs.Deliveries.{given_to, deliveries}
+use Rattle.am_world.specs.Runs.{IsOneMore}
+
+-- an event's record
+abbrev pub its : (p : Play) (e : Event) → IsOneMore p e → Record
+its p e more = record_of (replay p) e more.0 more.1.0
+
+pub last_is : (p : Play) (e : Event) (more : IsOneMore p e)
+    → slice_get (replay (after p e)).records (length (replay (after p e)).records - 1) ≡ Some (its p e more)
+last_is p e more =
+    let old = (replay p).records in
+    let new = (replay (after p e)).records in
+    let is : new ≡ old ++ its p e more ∷ [] = more.1.1 in
+    let long = ap length is ∙ length-append old (its p e more ∷ []) in
+    let at : length new - 1 ≡ length old = omega arith in
+    ap (slice_get new) at ∙ ap (λ rs. slice_get rs (length old)) is ∙ get_last old (its p e more)
+
+pub gives_more : (p : Play) (e : Event) (more : IsOneMore p e) (name : ℕ)
+    → deliveries (replay (after p e)).records name ≡ deliveries (replay p).records name ++ given_to name (its p e more)
+gives_more p e more name =
+    let old = (replay p).records in
+    ap (λ rs. deliveries rs name) more.1.1 ∙ flat_map-append (given_to name) old (its p e more ∷ [])
+    ∙ ap (λ xs. deliveries old name ++ xs) (append-nil (given_to name (its p e more)))
