@@ -72,7 +72,29 @@ fn play<R: Wait, N: Racing, G: Gate>(
     }
 }
 
-/// A caller makes the calls of its thread, once the others have begun too.
+/// A caller makes the calls of its thread.
+fn make_calls<R: Wait, N: Racing, G: Gate>(
+    rt: &R,
+    kernels: &Kernels<N, G>,
+    threads: &[ThreadPlan],
+    caller: Caller<N>,
+) -> Ran<N>
+    requires plan { MayRace N.plan }
+    requires threads { threads.now ≡ N.plan.threads }
+    requires fresh { caller ≡ fresh_caller caller.number }
+    ensures number { result.caller.number ≡ caller.number }
+    ensures ran { HasRun N.plan result.caller result.refusal }
+{
+    match threads.get(caller.number() as usize) {
+        Some(thread) => play(rt, kernels, thread, caller),
+        None => Ran {
+            caller,
+            refusal: None,
+        },
+    }
+}
+
+/// The same, once the others have begun too.
 fn run<R: Wait, N: Racing, G: Gate>(
     rt: &R,
     kernels: &Kernels<N, G>,
@@ -86,13 +108,7 @@ fn run<R: Wait, N: Racing, G: Gate>(
     ensures ran { HasRun N.plan result.caller result.refusal }
 {
     kernels.crowd.begin();
-    let ran = match threads.get(caller.number() as usize) {
-        Some(thread) => play(rt, kernels, thread, caller),
-        None => Ran {
-            caller,
-            refusal: None,
-        },
-    };
+    let ran = make_calls(rt, kernels, threads, caller);
     kernels.crowd.end();
     ran
 }

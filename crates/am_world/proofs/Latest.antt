@@ -1,7 +1,8 @@
 -- What the last record of a run is, and what it gives.
-use Rattle.am_world.proofs.Words.{◌≡◌, ℕ, ◌-◌, List, [], ◌∷◌, ◌++◌, length, Some, slice_get, ap, ◌∙◌, arith, length-append, append-nil, Event, Record}
+use Rattle.am_world.proofs.Words.{◌≡◌, ℕ, ◌-◌, [], ◌∷◌, ◌++◌, length, Some, slice_get, ap, ◌∙◌, arith, length-append, append-nil, sym, Event, Record}
 use Rattle.am_world.proofs.Words.{Play, after, replay, record_of}
 use Rattle.std.proofs.lemmas.Grind.{flat_map-append}
+use Rattle.std.proofs.Common.{unwrap_or}
 use Rattle.am_effects.proofs.Items.{get_last}
 use Rattle.am_group.specs.Deliveries.{given_to, deliveries}
 use Rattle.am_world.specs.Runs.{IsOneMore}
@@ -26,3 +27,13 @@ gives_more p e more name =
     let old = (replay p).records in
     ap (λ rs. deliveries rs name) more.1.1 ∙ flat_map-append (given_to name) old (its p e more ∷ [])
     ∙ ap (λ xs. deliveries old name ++ xs) (append-nil (given_to name (its p e more)))
+
+-- so a name was given what a record gives that stands last behind an event
+pub gives_last : (p : Play) (e : Event) (more : IsOneMore p e) (q : Play) (name : ℕ) (last : Record) → q ≡ after p e
+    → Some last ≡ slice_get (replay q).records (length (replay q).records - 1)
+    → deliveries (replay q).records name ≡ deliveries (replay p).records name ++ given_to name last
+gives_last p e more q name last is at =
+    let last_at = λ (r : Play). slice_get (replay r).records (length (replay r).records - 1) in
+    let same : last ≡ its p e more = ap (λ o. unwrap_or o last) (at ∙ ap last_at is ∙ last_is p e more) in
+    ap (λ r. deliveries (replay r).records name) is ∙ gives_more p e more name
+    ∙ ap (λ r. deliveries (replay p).records name ++ given_to name r) (sym same)
