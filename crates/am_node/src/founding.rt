@@ -1,4 +1,5 @@
-ghost use Rattle.std.specs.Prelude.{◌≡◌, ◌≤◌, EachIndex, slice_index, true, IfOk, if◌then◌else◌};
+ghost use Rattle.std.specs.Prelude.{◌≡◌, ◌+◌, ◌≤◌, [], EachIndex, slice_index, true, IfOk, if◌then◌else◌};
+ghost use Rattle.am_base.specs.Lists.{blank};
 ghost use Rattle.am_handlers.specs.Prelude.{has, node_of};
 ghost use Rattle.am_base.specs.Founding.{MayFound};
 ghost use Rattle.am_fronts.specs.Reports.{reports_of, after_report, no_report};
@@ -18,6 +19,7 @@ use am_history::history::History;
 use am_model::status::Status;
 use am_sender::Sender;
 use std::alloc::{AllocError, Global};
+use std::marker::Model;
 
 /// The stamp of the founders' view.
 pub fn founding_stamp(founding: &Founding) -> Stamp
@@ -42,12 +44,44 @@ pub fn founders_view(founding: &Founding) -> Entry
     }
 }
 
-/// The core of a name that no one has seen.
-fn blank(alloc: Global, name: Name, founding: &Founding) -> Result<Core<History>, AllocError>
-    ensures value { IfOk result (λ core. core ≡ (stranger founding.now name).core) }
+/// The memory that a node takes for the end of its list, before it begins. Contracts see it as its group's founding.
+#[derive(Drop)]
+pub struct Room {
+    log: History,
+    founding: Founding,
+}
+
+impl Model for Room {
+    ghost use Rattle.std.specs.Prelude.{◌≡◌, ◌+◌, []};
+    ghost use Rattle.am_base.specs.Founding.{Rules};
+    ghost use Rattle.am_base.specs.Lists.{blank};
+
+    ghost Value = { Rules };
+
+    ghost view = { λ r. r.founding };
+
+    ghost invariant = { λ r. (r.log.list ≡ record { start = 0; image = blank; entries = [] }) × (r.log.capacity ≡ r.founding.window + 15) };
+}
+
+impl Room {
+    /// Room for a node of this group. It is an error where there is no memory.
+    pub fn new(alloc: Global, founding: &Founding) -> Result<Room, AllocError>
+        ensures { IfOk result (λ room. room ≡ founding.now) }
+    {
+        Ok(Room {
+            log: History::new(alloc, founding.window())?,
+            founding: *founding,
+        })
+    }
+}
+
+/// The core of a name that no one has seen, over a blank history.
+fn first_core(log: History, name: Name, founding: &Founding) -> Core<History>
+    requires list { log.list ≡ record { start = 0; image = blank; entries = [] } }
+    requires capacity { log.capacity ≡ founding.now.window + 15 }
+    ensures value { result ≡ (stranger founding.now name).core }
 {
-    let log = History::new(alloc, founding.window())?;
-    Ok(Core {
+    Core {
         who: name,
         rules: *founding,
         log,
@@ -56,15 +90,15 @@ fn blank(alloc: Global, name: Name, founding: &Founding) -> Result<Core<History>
         acc: 0,
         taken: 0,
         start: 0,
-    })
+    }
 }
 
 /// The parts of a name that no one has seen.
-pub fn stranger(alloc: Global, name: Name, founding: &Founding) -> Result<Parts, AllocError>
-    ensures { IfOk result (λ p. node_of p ≡ stranger founding.now name) }
+pub fn stranger(room: Room, name: Name) -> Parts
+    ensures { node_of result ≡ stranger room name }
 {
-    let core = blank(alloc, name, founding)?;
-    Ok(Parts {
+    let core = first_core(room.log, name, &room.founding);
+    Parts {
         core,
         status: Status::Stranger,
         leaving: false,
@@ -72,7 +106,7 @@ pub fn stranger(alloc: Global, name: Name, founding: &Founding) -> Result<Parts,
         pool: Pool::new(),
         fronts: Fronts::new(),
         ballot: None,
-    })
+    }
 }
 
 /// A founder has stored the founders' View.
@@ -103,27 +137,29 @@ fn first_reports(founders: Names) -> Fronts
     fronts
 }
 
-/// The core of a founder.
-fn founder_core(alloc: Global, name: Name, founding: &Founding) -> Result<Core<History>, AllocError>
-    ensures { IfOk result (λ core. core ≡ (founder founding.now name).core) }
+/// The core of a founder, over a blank history.
+fn founder_core(log: History, name: Name, founding: &Founding) -> Core<History>
+    requires list { log.list ≡ record { start = 0; image = blank; entries = [] } }
+    requires capacity { log.capacity ≡ founding.now.window + 15 }
+    ensures { result ≡ (founder founding.now name).core }
 {
-    let mut core = blank(alloc, name, founding)?;
+    let mut core = first_core(log, name, founding);
     core.push(founders_view(founding));
     core.promise = founding_stamp(founding);
     core.told = 1;
     core.acc = 1;
     core.start = 1;
-    Ok(core)
+    core
 }
 
 /// The parts of a founder.
-pub fn founder(alloc: Global, name: Name, founding: &Founding) -> Result<Parts, AllocError>
-    requires { has founding.now.founders name ≡ true }
-    ensures { IfOk result (λ p. node_of p ≡ founder founding.now name) }
+pub fn founder(room: Room, name: Name) -> Parts
+    requires { has room.founders name ≡ true }
+    ensures { node_of result ≡ founder room name }
 {
-    let fronts = first_reports(founding.founders());
-    let core = founder_core(alloc, name, founding)?;
-    Ok(Parts {
+    let fronts = first_reports(room.founding.founders());
+    let core = founder_core(room.log, name, &room.founding);
+    Parts {
         core,
         status: Status::Member,
         leaving: false,
@@ -131,5 +167,5 @@ pub fn founder(alloc: Global, name: Name, founding: &Founding) -> Result<Parts, 
         pool: Pool::new(),
         fronts,
         ballot: None,
-    })
+    }
 }

@@ -1,6 +1,7 @@
 ghost use Rattle.am_handlers.specs.Prelude.{most_number};
 
 use crate::acting::on_call;
+use crate::founding::Room;
 use crate::gate::is_heard;
 use crate::hearing::heard_row;
 use crate::{founding, info};
@@ -89,18 +90,35 @@ impl Node {
         requires { has founding.now.founders name ≡ true }
         ensures { IfOk result (λ n. state_of n ≡ founder founding.now name) }
     {
-        Ok(Node {
-            parts: founding::founder(alloc, name, founding)?,
-        })
+        let room = Room::new(alloc, founding)?;
+        Ok(Node::founder_in(room, name))
+    }
+
+    /// The same in room that is there. It takes no memory.
+    pub fn founder_in(room: Room, name: Name) -> Node
+        requires { has room.founders name ≡ true }
+        ensures { state_of result ≡ founder room name }
+    {
+        Node {
+            parts: founding::founder(room, name),
+        }
     }
 
     /// A name that no one has seen. It is an error where there is no memory.
     pub fn stranger(alloc: Global, name: Name, founding: &Founding) -> Result<Node, AllocError>
         ensures { IfOk result (λ n. state_of n ≡ stranger founding.now name) }
     {
-        Ok(Node {
-            parts: founding::stranger(alloc, name, founding)?,
-        })
+        let room = Room::new(alloc, founding)?;
+        Ok(Node::stranger_in(room, name))
+    }
+
+    /// The same in room that is there. It takes no memory.
+    pub fn stranger_in(room: Room, name: Name) -> Node
+        ensures { state_of result ≡ stranger room name }
+    {
+        Node {
+            parts: founding::stranger(room, name),
+        }
     }
 
     /// What it knows of itself and of its group.

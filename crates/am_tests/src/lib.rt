@@ -5,13 +5,9 @@
 #[cfg(test)]
 mod ballots;
 #[cfg(test)]
-mod calls;
-#[cfg(test)]
 mod choosers;
 #[cfg(test)]
 mod directories;
-#[cfg(test)]
-mod echoes;
 #[cfg(test)]
 mod groups;
 #[cfg(test)]
@@ -25,18 +21,12 @@ mod packets;
 #[cfg(test)]
 mod pools;
 #[cfg(test)]
-mod pumps;
-#[cfg(test)]
 mod schedules;
 #[cfg(test)]
 mod senders;
 #[cfg(test)]
-mod settlings;
-#[cfg(test)]
 mod tables;
 #[cfg(test)]
 mod watchers;
-#[cfg(test)]
-mod worlds;
 #[cfg(test)]
 mod wrong_fields;

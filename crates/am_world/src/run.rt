@@ -23,7 +23,7 @@ use am_group::event::{By, Event, Part, Record};
 use am_group::journal::Journal;
 use am_letter::out_box::Rooms;
 use am_model::status::Status;
-use am_node::founding::founders_view;
+use am_node::founding::{Room, founders_view};
 use am_node::node::Node;
 use am_post::letter::Letter;
 use std::alloc::Global;
@@ -31,24 +31,26 @@ use std::marker::Model;
 use std::mem;
 
 /// A life's first node: a founder's, or one that no one has seen.
-fn first_node(alloc: Global, name: Name, founding: &Founding) -> Result<Node, NoMemory>
-    ensures { IfOk result (λ n. state_of n ≡ first_node founding.now name) }
+fn first_node(room: Room, name: Name, founding: &Founding) -> Node
+    requires { room ≡ founding.now }
+    ensures { state_of result ≡ first_node founding.now name }
 {
     if founding.founders().has(name) {
-        return Node::founder(alloc, name, founding);
+        return Node::founder_in(room, name);
     }
-    Node::stranger(alloc, name, founding)
+    Node::stranger_in(room, name)
 }
 
-/// The sixteen nodes of a group to which nothing has happened.
+/// The sixteen nodes of a group to which nothing has happened. Each goes where it stays: nodes are large.
 #[tactic(auto, using(crate::proofs::Begins::begins))]
 fn sixteen(alloc: Global, founding: &Founding) -> Result<Vec<Node>, NoMemory>
     ensures { IfOk result (λ v. AreNodes v.items (start founding.now)) }
 {
     let mut nodes = Vec::with_capacity(alloc, 16)?;
     for place in 0..16u8 {
-        let node = first_node(alloc, Name::of_byte(place), founding)?;
-        nodes.push(node)?;
+        let room = Room::new(alloc, founding)?;
+        let node = first_node(room, Name::of_byte(place), founding);
+        nodes.push_reserved(node);
     }
     Ok(nodes)
 }

@@ -6,8 +6,8 @@ use Rattle.am_node.proofs.founding.stranger.Goals as goal
 
 pub invariant_of-result : goal.invariant_of-result
 invariant_of-result c =
-    let own = ap (λ (r : ℕ → Report). (r c.in_ok-core.core.who).taken) c.new-3.ensures in
+    let own = ap (λ (r : ℕ → Report). (r c.first_core-core.result.who).taken) c.new-3.ensures in
     record {
-      keeps = keeps_as (stranger c.args.founding.now c.args.name) _ c.in_ok-core.ensures.value (omega arith) refl refl refl c.new.ensures
-          (stranger_keeps c.args.founding.now c.args.name);
+      keeps = keeps_as (stranger c.room.inside.founding c.args.name) _ c.first_core-core.ensures.value (omega arith) refl refl refl c.new.ensures
+          (stranger_keeps c.room.inside.founding c.args.name);
     }

@@ -1,0 +1,13 @@
+//! Tests of what crates of runs and of races offer: each module is of one crate. They stand apart from those of am_tests, which load less.
+#![tactic(auto)]
+
+#[cfg(test)]
+mod calls;
+#[cfg(test)]
+mod echoes;
+#[cfg(test)]
+mod pumps;
+#[cfg(test)]
+mod settlings;
+#[cfg(test)]
+mod worlds;
