@@ -1,4 +1,4 @@
-ghost use Rattle.std.specs.Prelude.{◌≡◌, ◌≤◌, ◌↔◌, ◌+◌, ◌++◌, [], length, IsSome, IfSome, IfOk};
+ghost use Rattle.std.specs.Prelude.{◌≡◌, ◌≤◌, ◌↔◌, ◌+◌, ◌++◌, [], length, vec_capacity, IsSome, IfSome, IfOk};
 ghost use Rattle.am_base.specs.Most.{most_body, most_packet};
 
 use crate::limits::{MOST_BODY, MOST_PACKET};
@@ -144,6 +144,18 @@ impl SentBody {
         ensures { IfOk result (λ b. b ≡ bytes.now) }
     {
         Ok(SentBody(Vec::from_slice(alloc, bytes)?))
+    }
+
+    /// The same body in room that is there. It takes no memory, and gives back the room that is left over.
+    pub(crate) fn in_room(room: Vec<u8>, body: &BodyRef<'_>) -> SentBody
+        requires blank { room.items ≡ [] }
+        requires room { length body.now ≤ vec_capacity room }
+        ensures { result ≡ body.now }
+    {
+        let mut bytes = room;
+        let _ = bytes.extend_from_slice(body.bytes());
+        bytes.shrink_to_fit();
+        SentBody(bytes)
     }
 
     /// Its bytes.

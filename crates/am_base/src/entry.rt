@@ -1,6 +1,7 @@
-ghost use Rattle.std.specs.Prelude.{◌≡◌};
+ghost use Rattle.std.specs.Prelude.{◌≡◌, ◌≤◌};
 ghost use Rattle.am_base.specs.declared.entry.Entry.TheVariants as entries;
-ghost use Rattle.am_base.specs.Entries.{entry_of};
+ghost use Rattle.am_base.specs.Entries.{entry_of, body_len};
+ghost use Rattle.am_base.specs.Most.{most_body};
 
 use crate::body::{Body, BodyRef};
 use crate::name::{Name, Stamp};
@@ -69,6 +70,14 @@ impl Entry {
     {
         self.as_ref().to_entry()
     }
+
+    /// How many bytes its body has: none, where it has no body.
+    pub fn body_len(&self) -> usize
+        ensures value { result ≡ body_len self.now }
+        ensures fits { result ≤ most_body }
+    {
+        self.as_ref().body_len()
+    }
 }
 
 /// What an entry is, with a body where it stands.
@@ -135,6 +144,17 @@ impl<'a> EntryRef<'a> {
         ensures { entry_of result.now ≡ self.now }
     {
         &self.parts
+    }
+
+    /// How many bytes its body has: none, where it has no body.
+    pub fn body_len(&self) -> usize
+        ensures value { result ≡ body_len self.now }
+        ensures fits { result ≤ most_body }
+    {
+        match &self.parts {
+            EntryParts::Data { body, .. } => body.bytes().len(),
+            EntryParts::Join(_) | EntryParts::Leave(_) | EntryParts::View { .. } => 0,
+        }
     }
 
     /// The same entry, where it stands.

@@ -2,7 +2,6 @@
 #![tactic(auto)]
 
 pub mod body;
-pub mod boxed;
 pub mod entry;
 pub mod event;
 pub mod founding;
@@ -12,5 +11,6 @@ pub mod limits;
 pub mod name;
 pub mod names;
 pub mod outcome;
+pub mod taken;
 
 pub use std::alloc::AllocError as NoMemory;

@@ -1,9 +1,8 @@
 ghost use Rattle.std.specs.Prelude.{◌≡◌};
 
-use crate::boxed::Boxed;
-use crate::entry::Entry;
 use crate::name::{Name, Stamp};
 use crate::names::Names;
+use crate::taken::TakenEntry;
 
 /// What came of a call, a tick, a hearing, or of an event of the world (docs/PROTOCOL.md, "Outcomes").
 #[derive(Drop, Debug)]
@@ -19,7 +18,7 @@ pub enum Outcome {
     /// There is no such send, or no such ballot.
     Unknown,
     /// The application was given this entry.
-    Took { number: u32, entry: Boxed<Entry> },
+    Took { number: u32, entry: TakenEntry },
     /// Nothing more is accepted.
     Empty,
     /// The ask went out.

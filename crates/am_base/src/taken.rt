@@ -1,0 +1,121 @@
+ghost use Rattle.std.specs.Prelude.{◌≡◌, ◌≤◌, IfOk};
+ghost use Rattle.am_base.specs.Entries.{body_len};
+
+use crate::body::SentBody;
+use crate::entry::{EntryParts, EntryRef};
+use crate::name::{Name, Stamp};
+use crate::names::Names;
+use std::alloc::{AllocError, Global};
+use std::marker::Model;
+
+/// What an entry is, with a body that stands apart.
+#[derive(Drop, Debug)]
+enum TakenParts {
+    /// A send of a member: its request number, from 1, and its body.
+    Data {
+        from: Name,
+        req: u32,
+        body: SentBody,
+    },
+    /// A name becomes a member.
+    Join(Name),
+    /// A member goes.
+    Leave(Name),
+    /// A view begins.
+    View {
+        stamp: Stamp,
+        members: Names,
+        resilience: u8,
+    },
+}
+
+/// An entry that was taken from a list, with as many bytes as its body has. Contracts see it as the entry.
+#[derive(Drop, Debug)]
+pub struct TakenEntry {
+    parts: TakenParts,
+}
+
+impl Model for TakenEntry {
+    ghost use Rattle.am_base.specs.declared.entry.Entry.{Entry};
+
+    ghost Value = { Entry };
+
+    ghost use Rattle.am_base.specs.Entries.{taken_of};
+
+    ghost view = { λ e. taken_of e.parts };
+}
+
+impl TakenEntry {
+    /// The entry where it stands.
+    pub fn as_ref(&self) -> EntryRef<'_>
+        ensures { result ≡ self.now }
+    {
+        EntryRef::of(match &self.parts {
+            TakenParts::Data { from, req, body } => EntryParts::Data {
+                from: *from,
+                req: *req,
+                body: body.as_ref(),
+            },
+            TakenParts::Join(name) => EntryParts::Join(*name),
+            TakenParts::Leave(name) => EntryParts::Leave(*name),
+            TakenParts::View {
+                stamp,
+                members,
+                resilience,
+            } => EntryParts::View {
+                stamp: *stamp,
+                members: *members,
+                resilience: *resilience,
+            },
+        })
+    }
+}
+
+/// Room for an entry whose body has at most so many bytes. Contracts see it as that number.
+#[derive(Drop)]
+pub struct EntryRoom(Vec<u8>);
+
+impl Model for EntryRoom {
+    ghost use Rattle.std.specs.Prelude.{◌≡◌, ℕ, [], vec_capacity};
+
+    ghost Value = { ℕ };
+
+    ghost view = { λ r. vec_capacity r.0 };
+
+    ghost invariant = { λ r. r.0.items ≡ [] };
+}
+
+impl EntryRoom {
+    /// Room for a body of so many bytes. It is an error where there is no memory for them.
+    pub fn new(alloc: Global, bytes: usize) -> Result<EntryRoom, AllocError>
+        ensures { IfOk result (λ room. bytes ≤ room) }
+    {
+        Ok(EntryRoom(Vec::with_capacity(alloc, bytes)?))
+    }
+
+    /// The entry in this room. It takes no memory, and gives back the room that the body leaves over.
+    pub fn fill(self, entry: &EntryRef<'_>) -> TakenEntry
+        requires { body_len entry.now ≤ self }
+        ensures { result ≡ entry.now }
+    {
+        let parts = match entry.parts() {
+            EntryParts::Data { from, req, body } => TakenParts::Data {
+                from: *from,
+                req: *req,
+                body: SentBody::in_room(self.0, body),
+            },
+            EntryParts::Join(name) => TakenParts::Join(*name),
+            EntryParts::Leave(name) => TakenParts::Leave(*name),
+            EntryParts::View {
+                stamp,
+                members,
+                resilience,
+            } => TakenParts::View {
+                stamp: *stamp,
+                members: *members,
+                resilience: *resilience,
+            },
+        };
+        TakenEntry { parts }
+    }
+}
