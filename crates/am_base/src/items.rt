@@ -1,4 +1,4 @@
-ghost use Rattle.std.specs.Prelude.{◌≡◌, ◌++◌, ◌∷◌, [], OnOk, OnErr};
+ghost use Rattle.std.specs.Prelude.{◌≡◌, ◌++◌, ◌∷◌, [], OnOk, OnErr, IfOk};
 
 use std::alloc::{AllocError, Global};
 use std::marker::Model;
@@ -24,6 +24,13 @@ impl<T> Items<T> {
         ensures { result ≡ [] }
     {
         Items(Vec::new(alloc))
+    }
+
+    /// No items yet, and room for so many. It is an error where there is no memory for them.
+    pub fn with_room(alloc: Global, most: usize) -> Result<Items<T>, AllocError>
+        ensures { IfOk result (λ items. items ≡ []) }
+    {
+        Ok(Items(Vec::with_capacity(alloc, most)?))
     }
 
     /// These items.

@@ -31,7 +31,7 @@ fn each_event(alloc: Global, list: &mut [Value], founding: u8) -> Read<Items<Eve
     requires { founding ≤ 15 }
     ensures { Answers (each_from (event_from founding) 1 (items_view list.old)) result }
 {
-    let mut events = Items::new(alloc);
+    let mut events = Items::with_room(alloc, list.len())?;
     for (before, value) in list.iter_mut().enumerate() {
         let value = value.take();
         events.push(event(alloc, &value, before as u64 + 1, founding)?)?;
