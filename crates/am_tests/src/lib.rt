@@ -3,8 +3,6 @@
 #![tactic(auto)]
 
 #[cfg(test)]
-mod ballots;
-#[cfg(test)]
 mod choosers;
 #[cfg(test)]
 mod directories;
@@ -19,14 +17,6 @@ mod messages;
 #[cfg(test)]
 mod packets;
 #[cfg(test)]
-mod pools;
-#[cfg(test)]
 mod schedules;
-#[cfg(test)]
-mod senders;
-#[cfg(test)]
-mod tables;
-#[cfg(test)]
-mod watchers;
 #[cfg(test)]
 mod wrong_fields;
