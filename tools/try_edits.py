@@ -1,0 +1,313 @@
+"""Tries edits: changes of one function's body, each of which that function's contract must refuse.
+
+    tools/try_edits.py [--only NAME..]
+
+An edit is a file crates/NAME/edits/WORDS.edit of such lines:
+
+    function: module::Type::name
+    file: src/module.rt
+    old: a part of one line, which stands in the file once
+    new: what is put in its place
+
+The function is named as a check prints it behind `fn NAME::`. Further pairs of `old:` and `new:`, and further files, apply to what the
+earlier ones made. It stands on what `rt ci` or `rt lib` has left of the crates below. All edits of a crate that change different
+functions are tried together, in one check of these functions alone. An edit is refused where its function isn't proved, for a cause at
+its own lines or in its own proof; that a proof names what is gone is no such cause. What isn't refused is tried again without the
+others, over what was proved, and last alone. Given --only, the crates that it names are tried. It prints what fails, and how many edits
+were refused.
+"""
+
+import concurrent.futures
+import dataclasses
+import functools
+import os
+import pathlib
+import re
+import shutil
+import subprocess
+import sys
+import tempfile
+
+from library import TOP, is_there, kit
+from words import words
+
+CRATES = TOP / "crates"
+KNOWN: dict = {}  # the crates of crates.txt that were read, by their folders
+MEMORY = 2_000_000_000  # what a check may take, in bytes
+
+# what the prover says where a proof names what is no longer there
+GONE = re.compile(r"has no field|is not in scope|has no `|was not admitted")
+# a cause: its file, line and words
+CAUSE = re.compile(r"^(?:note: )?(?:\./)?(\S+?):(\d+):\d+: (error.*|it is not proved.*)", re.M)
+# an error of a text, and its words where they are of one declaration
+ERROR = re.compile(r"^(?:\./)?(\S+?):\d+:\d+: error: (`[^`]*`: )?(.*)", re.M)
+# words on a text that can't be read, whatever is true
+UNREADABLE = re.compile(r"is not in scope|has no field|is no name|operand is missing|expected the end|cannot continue")
+
+
+@dataclasses.dataclass(frozen=True)
+class Change:
+    """One text in place of another."""
+
+    file: str
+    old: str
+    new: str
+
+
+@dataclasses.dataclass(frozen=True)
+class Edit:
+    """An edit of a crate, as its file has it."""
+
+    name: str
+    function: str
+    changes: tuple[Change, ...]
+
+
+@dataclasses.dataclass
+class Tried:
+    """What a try of edits came to: those refused, what failed, with its words, and the seconds of processor."""
+
+    refused: set[str] = dataclasses.field(default_factory=set)
+    failed: list[str] = dataclasses.field(default_factory=list)
+    seconds: float = 0
+
+
+@functools.cache
+def toolchain():
+    """The toolchain's own words."""
+    sys.path.insert(0, str(kit() / "bin"))
+    import rtlib
+
+    rtlib.Crate.stamp = functools.cache(rtlib.Crate.stamp)  # of all sources below; none changes meanwhile
+    return rtlib
+
+
+def read(path: pathlib.Path) -> Edit | str:
+    """The edit of a file, or why it is none."""
+    if path.suffix != ".edit":
+        return "its name doesn't end in .edit"
+    function = file = old = ""
+    changes: list[Change] = []
+    for line in path.read_text().splitlines():
+        word, _, rest = line.partition(":")
+        rest = rest.removeprefix(" ")
+        if word == "function" and not function:
+            function = rest
+        elif word == "file" and rest.startswith("src/") and os.path.normpath(rest) == rest:
+            file = rest
+        elif word == "old" and file and rest and not old:
+            old = rest
+        elif word == "new" and old and rest != old:
+            changes.append(Change(file, old, rest))
+            old = ""
+        else:
+            return f"a line out of place: {line}"
+    if not function or not changes or old:
+        return "it lacks a function, or a pair of an old text and a new one"
+    return Edit(path.name, function, tuple(changes))
+
+
+def apply(edit: Edit, folder: pathlib.Path) -> str:
+    """Changes the texts of a crate by an edit; why it can't, or nothing."""
+    for change in edit.changes:
+        path = folder / change.file
+        text = path.read_text() if path.is_file() else ""
+        if text.count(change.old) != 1:
+            return f"an old text stands in {change.file} {text.count(change.old)} times: {change.old}"
+        path.write_text(text.replace(change.old, change.new))
+    return ""
+
+
+def type_of(head: str) -> str:
+    """The type that the first line of an `impl` is for."""
+    depth, plain = 0, ""
+    for letter in head.removeprefix("impl"):
+        depth -= letter == ">"
+        plain += letter if not depth and letter not in "<>" else " "
+        depth += letter == "<"
+    name = plain.partition(" for ")[2] or plain
+    return re.findall(r"\w+", name.partition(" where ")[0])[-1]
+
+
+def lines_in(text: str, owner: str, name: str) -> tuple[int, int] | None:
+    """The first and the last line of a function of a text, in the layout of `rt fmt`, of a type or of none."""
+    lines = text.split("\n")
+    margin, within, first = "    " if owner else "", "", 0
+    for number, line in enumerate(lines, 1):
+        if first and line == f"{margin}}}":
+            return first, number
+        if line.startswith("impl"):
+            within = type_of(line)
+        elif line == "}":
+            within = ""
+        if not first and within == owner and re.match(rf'{margin}(?:(?:pub(?:\([a-z]*\))?|const|unsafe|extern "C") )*fn {name}\b', line):
+            first = number
+    return None
+
+
+def place(function: str, folder: pathlib.Path) -> tuple[str, int, int] | None:
+    """The file of a function in a crate's folder, and its lines there."""
+    parts = function.split("::")
+    for depth in (len(parts) - 1, len(parts) - 2):
+        owner = parts[depth] if depth == len(parts) - 2 else ""
+        module = "/".join(parts[:depth])
+        for file in [f"src/{module}.rt", f"src/{module}/mod.rt"] if module else ["src/lib.rt", "src/main.rt"]:
+            lines = lines_in((folder / file).read_text(), owner, parts[-1]) if depth >= 0 and (folder / file).is_file() else None
+            if lines:
+                return file, *lines
+    return None
+
+
+def is_within(edit: Edit, folder: pathlib.Path) -> bool:
+    """Whether an edit changes nothing but its function."""
+    found = place(edit.function, folder)
+    texts = {it.file: (folder / it.file).read_text() for it in edit.changes if (folder / it.file).is_file()}
+    for change in edit.changes:
+        before, old, _ = texts.get(change.file, "").partition(change.old)
+        if not found or not old or found[0] != change.file or not found[1] <= before.count("\n") + 1 <= found[2]:
+            return False
+        texts[change.file] = texts[change.file].replace(change.old, change.new)
+    return True
+
+
+def rounds_of(edits: list[Edit], folder: pathlib.Path) -> list[list[Edit]]:
+    """As few rounds as it takes: in each are edits of different functions that change nothing else, or one."""
+    together: list[list[Edit]] = []
+    alone = [[edit] for edit in edits if not is_within(edit, folder)]
+    for edit in edits:
+        if [edit] not in alone:
+            free = next((it for it in together if all(other.function != edit.function for other in it)), [])
+            together += [] if free else [free]
+            free.append(edit)
+    return together + alone
+
+
+def unread(said: str, changed: set[str]) -> str:
+    """The first line that tells that an edited text couldn't be read, if any, where an edit that only makes a contract false reads well."""
+    for error in ERROR.finditer(said):
+        file, declaration, why = error.groups()
+        if (file in changed or file.startswith(("src/", "specs/"))) and (not declaration or UNREADABLE.search(re.sub("`[^`]*`", "", why))):
+            return error[0]
+    if not re.search(r"^fn \S+: ", said, re.M):
+        return next((line for line in said.splitlines() if "error" in line), "it said nothing of functions")
+    return ""
+
+
+def is_refused(edit: Edit, said: str, crate: str, folder: pathlib.Path) -> bool:
+    """Whether a check of the edited texts says that the edit's function isn't proved, for a cause of its own."""
+    found = place(edit.function, folder)
+    if not found or not re.search(rf"^fn {crate}::{re.escape(edit.function)}: (?:not proved|no proof)", said, re.M):
+        return False
+    file, first, last = found
+    proof = f"proofs/{edit.function.replace('::', '/')}/"
+    causes = [(at, int(line)) for at, line, why in CAUSE.findall(said) if not GONE.search(why)]
+    return any(at.startswith(proof) or at == file and first <= line <= last for at, line in causes)
+
+
+def check(crate, folder: pathlib.Path, functions: list[str], kept: pathlib.Path, guard: list[str]) -> tuple[str, int, float]:
+    """What a check of some functions says over the libraries below, its status, and the seconds of processor that it took."""
+    call = [toolchain().RATTLE, "check", *crate.words(["--jobs", "1"], keeps=False), "--incremental", str(kept)]
+    call += [word for function in functions for word in ("--only", function)]
+    with open(f"{folder}.said", "w+b") as said:
+        started = subprocess.Popen([*guard, *call], cwd=folder, stdin=subprocess.DEVNULL, stdout=said, stderr=subprocess.STDOUT)
+        _, status, usage = os.wait4(started.pid, 0)
+        started.returncode = os.waitstatus_to_exitcode(status)
+        said.seek(0)
+        return said.read().decode(errors="replace"), started.returncode, usage.ru_utime + usage.ru_stime
+
+
+def try_together(crate, edits: list[Edit], room: pathlib.Path, guard: list[str]) -> Tried:
+    """Tries edits in one check, over what earlier checks in the room proved; what isn't refused is left out of both lists."""
+    folder = pathlib.Path(tempfile.mkdtemp(dir=room))
+    for part in toolchain().PARTS:
+        if os.path.isdir(f"{crate.folder}/{part}"):
+            shutil.copytree(f"{crate.folder}/{part}", folder / part)
+    for edit in edits:
+        why = apply(edit, folder)
+        if why or not place(edit.function, folder):
+            return Tried(failed=[f"{edit.name}: {why or f'there is no function {edit.function}'}"])
+    said, status, seconds = check(crate, folder, [edit.function for edit in edits], room / "kept", guard)
+    names = ", ".join(edit.name for edit in edits)
+    why = unread(said, {change.file for edit in edits for change in edit.changes})
+    if status not in (0, 1, 3) or why:
+        return Tried(failed=[f"{names}: the check ended with {status}: {why or said[-300:]}"], seconds=seconds)
+    refused = {edit.name for edit in edits if is_refused(edit, said, crate.name, folder)}
+    shutil.rmtree(folder)
+    return Tried(refused, [], seconds)
+
+
+def try_round(crate, edits: list[Edit], room: pathlib.Path, guard: list[str]) -> Tried:
+    """Tries a round: together, then those that weren't refused together, and last each alone."""
+    tried = try_together(crate, edits, room, guard)
+    rest = [edit for edit in edits if edit.name not in tried.refused]
+    if tried.failed or not rest:
+        return tried
+    if len(edits) == 1:
+        tried.failed.append(f"{rest[0].name}: NOT REFUSED: {rest[0].function} is still proved, or isn't for no cause of its own")
+        return tried
+    for more in [rest] if tried.refused else [[edit] for edit in rest]:
+        again = try_round(crate, more, room, guard)
+        tried.refused |= again.refused
+        tried.failed += again.failed
+        tried.seconds += again.seconds
+    return tried
+
+
+def try_crate(name: str, whole: pathlib.Path, guard: list[str]) -> Tried:
+    """Tries all edits of a crate."""
+    crate = toolchain().Crate(str(CRATES / name), str(TOP), KNOWN)
+    lacking = [it.name for it in crate.below() if not is_there(it)]
+    if lacking:
+        return Tried(failed=[f"{', '.join(lacking)} of the crates below isn't built of its sources: run rt ci, or rt lib there"])
+    found = {path.name: read(path) for path in sorted((CRATES / name / "edits").iterdir())}
+    tried = Tried(failed=[f"{file}: {it}" for file, it in found.items() if isinstance(it, str)])
+    room = whole / name
+    room.mkdir()
+    for edits in rounds_of([it for it in found.values() if isinstance(it, Edit)], CRATES / name):
+        more = try_round(crate, edits, room, guard)
+        tried.refused |= more.refused
+        tried.failed += more.failed
+        tried.seconds += more.seconds
+    shutil.rmtree(room)
+    return tried
+
+
+def places() -> int:
+    """How many checks may run side by side."""
+    lines = pathlib.Path("/proc/meminfo").read_text().splitlines()
+    free = next(int(line.split()[1]) * 1024 for line in lines if line.startswith("MemAvailable"))
+    return max(1, min(len(os.sched_getaffinity(0)), free // MEMORY))
+
+
+def count(number: int) -> str:
+    """So many edits, in words."""
+    return f"{number} edit{'s' if number != 1 else ''} refused"
+
+
+def chosen() -> list[str]:
+    """The crates to try, those with the most text first; the page, where the words are wrong."""
+    there = {path.parent.name for path in CRATES.glob("*/edits") if any(path.iterdir())}
+    given = words(__doc__)
+    if given and (given[0] != "--only" or len(given) < 2 or not there.issuperset(given[1:])):
+        print(__doc__.strip(), file=sys.stderr)
+        sys.exit(2)
+    return sorted(set(given[1:]) or there, key=lambda name: -sum(it.stat().st_size for it in (CRATES / name).glob("src/**/*.rt")))
+
+
+def main() -> int:
+    """Tries those of each crate."""
+    names, guard, refused, failed = chosen(), toolchain().guarded(), 0, 0
+    with tempfile.TemporaryDirectory() as whole, concurrent.futures.ThreadPoolExecutor(places()) as pool:
+        runs = {pool.submit(try_crate, name, pathlib.Path(whole), guard): name for name in names}
+        for run in concurrent.futures.as_completed(runs):
+            tried = run.result()
+            print(f"{runs[run]}: {count(len(tried.refused))} in {tried.seconds:.0f} s of processor", flush=True)
+            for why in tried.failed:
+                print(f"{runs[run]}: {why}", flush=True)
+            refused, failed = refused + len(tried.refused), failed + len(tried.failed)
+    print(count(refused))
+    return 1 if failed else 0
+
+
+if __name__ == "__main__":
+    sys.exit(main())
