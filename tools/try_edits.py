@@ -24,6 +24,7 @@ import os
 import pathlib
 import re
 import shutil
+import signal
 import subprocess
 import sys
 import tempfile
@@ -118,26 +119,26 @@ def apply(edit: Edit, folder: pathlib.Path) -> str:
     return ""
 
 
-def type_of(head: str) -> str:
-    """The type that the first line of an `impl` is for."""
+def owner_of(head: str) -> str:
+    """What a check calls the functions of an `impl` by, from its first line: its type, with the trait behind it where it is of one."""
     depth, plain = 0, ""
-    for letter in head.removeprefix("impl"):
+    for letter in head.removeprefix("impl").partition(" where ")[0]:
         depth -= letter == ">"
         plain += letter if not depth and letter not in "<>" else " "
         depth += letter == "<"
-    name = plain.partition(" for ")[2] or plain
-    return re.findall(r"\w+", name.partition(" where ")[0])[-1]
+    trait, _, name = plain.rpartition(" for ")
+    return "".join(re.findall(r"\w+", it)[-1] for it in (name, trait) if it.strip())
 
 
 def lines_in(text: str, owner: str, name: str) -> tuple[int, int] | None:
-    """The first and the last line of a function of a text, in the layout of `rt fmt`, of a type or of none."""
+    """The first and the last line of a function of a text, in the layout of `rt fmt`, of an `impl` or of none."""
     lines = text.split("\n")
     margin, within, first = "    " if owner else "", "", 0
     for number, line in enumerate(lines, 1):
         if first and line == f"{margin}}}":
             return first, number
         if line.startswith("impl"):
-            within = type_of(line)
+            within = owner_of(line)
         elif line == "}":
             within = ""
         if not first and within == owner and re.match(rf'{margin}(?:(?:pub(?:\([a-z]*\))?|const|unsafe|extern "C") )*fn {name}\b', line):
@@ -226,7 +227,11 @@ def try_together(crate, edits: list[Edit], room: pathlib.Path, guard: list[str])
         why = apply(edit, folder)
         if why or not place(edit.function, folder):
             return Tried(failed=[f"{edit.name}: {why or f'there is no function {edit.function}'}"])
-    said, status, seconds = check(crate, folder, [edit.function for edit in edits], room / "kept", guard)
+    call = crate, folder, [edit.function for edit in edits], room / "kept", guard
+    said, status, seconds = check(*call)
+    if status == -signal.SIGKILL:  # most likely for memory
+        said, status, more = check(*call)
+        seconds += more
     names = ", ".join(edit.name for edit in edits)
     why = unread(said, {change.file for edit in edits for change in edit.changes})
     if status not in (0, 1, 3) or why:
