@@ -130,6 +130,13 @@ def owner_of(head: str) -> str:
     return "".join(re.findall(r"\w+", it)[-1] for it in (name, trait) if it.strip())
 
 
+def first_of(lines: list[str], number: int) -> int:
+    """The first line of the item whose name stands in a line, with its page and its attributes."""
+    while number > 1 and lines[number - 2] and (lines[number - 2].lstrip().startswith(("///", "#[")) or lines[number - 2][-1] not in "{};"):
+        number -= 1
+    return number
+
+
 def lines_in(text: str, owner: str, name: str) -> tuple[int, int] | None:
     """The first and the last line of a function of a text, in the layout of `rt fmt`, of an `impl` or of none."""
     lines = text.split("\n")
@@ -142,7 +149,7 @@ def lines_in(text: str, owner: str, name: str) -> tuple[int, int] | None:
         elif line == "}":
             within = ""
         if not first and within == owner and re.match(rf'{margin}(?:(?:pub(?:\([a-z]*\))?|const|unsafe|extern "C") )*fn {name}\b', line):
-            first = number
+            first = first_of(lines, number)
     return None
 
 
