@@ -1,10 +1,10 @@
-ghost use Rattle.std.specs.Prelude.{◌≡◌, ◌==◌, ◌++◌, IfOk, OnOk, option_map};
+ghost use Rattle.std.specs.Prelude.{◌≡◌, ◌==◌, ◌++◌, IfOk, OnOk};
 ghost use Rattle.std.specs.Option.{option_to_list};
 ghost use Rattle.am_group.specs.Deliveries.{name_of, given_to, deliveries};
 
 use crate::event::Record;
 use am_base::NoMemory;
-use am_base::entry::Entry;
+use am_base::entry::{Entry, EntryRef};
 use am_base::name::Name;
 use am_base::outcome::Outcome;
 use std::alloc::Global;
@@ -18,14 +18,14 @@ fn is_of(item: &Record, node: Name) -> bool
 }
 
 /// The entry that a record gave to a name's application, with its number; None exactly where it gave it none.
-pub fn given_to(item: &Record, node: Name) -> Option<(u32, &Entry)>
-    ensures { option_to_list (option_map (λ g. (g.0, g.1.now)) result) ≡ given_to node item.now }
+pub fn given_to(item: &Record, node: Name) -> Option<(u32, EntryRef<'_>)>
+    ensures { option_to_list result ≡ given_to node item.now }
 {
     if !is_of(item, node) {
         return None;
     }
     match &item.outcome {
-        Outcome::Took { number, entry } => Some((*number, entry.get())),
+        Outcome::Took { number, entry } => Some((*number, entry.as_ref())),
         _ => None,
     }
 }
@@ -35,7 +35,7 @@ fn put_given(item: &Record, node: Name, given: &mut Vec<(u32, Entry)>) -> Result
     ensures { OnOk result (given.new.items ≡ given.old.items ++ given_to node item.now) }
 {
     if let Some((number, entry)) = given_to(item, node) {
-        given.push((number, entry.copy()))?;
+        given.push((number, entry.to_entry()))?;
     }
     Ok(())
 }
