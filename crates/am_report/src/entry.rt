@@ -5,7 +5,7 @@ ghost use Rattle.am_play.specs.Text.{hex_byte, body_text, resilience_text, entry
 use crate::name::{push_name, push_names, push_stamp};
 use crate::number::push_behind;
 use am_base::NoMemory;
-use am_base::entry::Entry;
+use am_base::entry::{EntryParts, EntryRef};
 use am_base::founding::Founding;
 
 /// Adds two lower-case hexadecimal digits for each byte. After an error a part of it may have been added.
@@ -46,27 +46,31 @@ pub fn push_resilience(
 
 /// Adds an entry. After an error a part of it may have been added.
 #[tactic(auto, unfolding(am_play::specs::Text::entry_text))]
-pub fn push_entry(out: &mut String, founding: &Founding, entry: &Entry) -> Result<(), NoMemory>
+pub fn push_entry(
+    out: &mut String,
+    founding: &Founding,
+    entry: &EntryRef<'_>,
+) -> Result<(), NoMemory>
     ensures { OnOk result (string_bytes out.new
         ≡ string_bytes out.old ++ entry_text founding.now entry.now) }
 {
-    match entry {
-        Entry::Data { from, req, body } => {
+    match entry.parts() {
+        EntryParts::Data { from, req, body } => {
             out.push_str("data ")?;
             push_name(out, *from)?;
             push_behind(out, " ", u64::from(*req))?;
             out.push_str(" ")?;
             push_body(out, body.bytes())
         }
-        Entry::Join(name) => {
+        EntryParts::Join(name) => {
             out.push_str("join ")?;
             push_name(out, *name)
         }
-        Entry::Leave(name) => {
+        EntryParts::Leave(name) => {
             out.push_str("leave ")?;
             push_name(out, *name)
         }
-        Entry::View {
+        EntryParts::View {
             stamp,
             members,
             resilience,

@@ -10,7 +10,7 @@ use crate::name::push_name;
 use crate::number::{push_behind, push_number};
 use crate::outcome::push_outcome;
 use am_base::NoMemory;
-use am_base::entry::Entry;
+use am_base::entry::{Entry, EntryRef};
 use am_base::founding::Founding;
 use am_base::name::Name;
 use am_group::event::Record;
@@ -53,7 +53,7 @@ pub fn push_group_line(
 {
     push_behind(out, "group ", number)?;
     out.push_str(" ")?;
-    push_entry(out, founding, entry)?;
+    push_entry(out, founding, &entry.as_ref())?;
     out.push_str("\n")
 }
 
@@ -63,17 +63,17 @@ pub fn push_log_line(
     out: &mut String,
     founding: &Founding,
     name: Name,
-    given: (u32, &Entry),
+    given: (u32, EntryRef<'_>),
 ) -> Result<(), NoMemory>
     ensures { OnOk result (string_bytes out.new
-        ≡ string_bytes out.old ++ log_line founding.now name given.entry.0 given.entry.1.now) }
+        ≡ string_bytes out.old ++ log_line founding.now name given.entry.0 given.entry.1) }
 {
     let (number, entry) = given;
     out.push_str("log ")?;
     push_name(out, name)?;
     push_behind(out, " ", u64::from(number))?;
     out.push_str(" ")?;
-    push_entry(out, founding, entry)?;
+    push_entry(out, founding, &entry)?;
     out.push_str("\n")
 }
 

@@ -130,7 +130,7 @@ fn push_parts(out: &mut String, founding: &Founding, outcome: &Outcome) -> Resul
         Outcome::Took { number, entry } => {
             push_behind(out, " ", u64::from(*number))?;
             out.push_str(" ")?;
-            push_entry(out, founding, entry.get())
+            push_entry(out, founding, &entry.as_ref())
         }
         Outcome::NoBody { from, req: number } | Outcome::Fetching { from, want: number } => {
             out.push_str(" ")?;
