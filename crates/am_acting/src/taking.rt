@@ -1,20 +1,21 @@
-ghost use Rattle.std.specs.Prelude.{◌≡◌, ◌≢◌, ◌≤◌, ◌+◌, [], Some, IsNone, IsSome, IfSome, ◌↔◌};
+ghost use Rattle.std.specs.Prelude.{◌≡◌, ◌≢◌, ◌≤◌, ◌+◌, [], Some, IsNone, IfSome, ◌↔◌};
+ghost use Rattle.am_base.specs.Entries.{HasRoom, len_of};
 ghost use Rattle.am_handlers.specs.Prelude.{entry_at, Performs};
 ghost use Rattle.am_model.specs.Calls.{take_row};
 
 use crate::changing::{is_member, set_taken};
-use am_base::boxed::Boxed;
-use am_base::entry::Entry;
 use am_base::outcome::Outcome;
+use am_base::taken::{EntryRoom, TakenEntry};
 use am_core::log::Log;
 use am_handlers::finishing::finish_quietly;
 use am_handlers::parts::Parts;
 use am_letter::out_box::OutBox;
 
 /// The entry after those that the application has taken, with its number; None exactly where all that is accepted is taken.
-/// It is put where a spare one was.
-fn next(parts: &Parts, spare: Option<Boxed<Entry>>) -> Option<(u32, Boxed<Entry>)>
-    requires place { parts.now.core.taken ≢ parts.now.core.acc → IsSome spare }
+/// It is put into the spare room.
+fn next(parts: &Parts, spare: Option<EntryRoom>) -> Option<(u32, TakenEntry)>
+    requires place { parts.now.core.taken ≢ parts.now.core.acc
+        → HasRoom (len_of (entry_at parts.now.core.log (parts.now.core.taken + 1))) spare }
     ensures none { IsNone result ↔ (parts.now.core.taken ≡ parts.now.core.acc) }
     ensures number { IfSome result (λ given. given.0 ≡ parts.now.core.taken + 1) }
     ensures accepted { IfSome result (λ given. given.0 ≤ parts.now.core.acc) }
@@ -25,15 +26,16 @@ fn next(parts: &Parts, spare: Option<Boxed<Entry>>) -> Option<(u32, Boxed<Entry>
         return None;
     }
     let number = parts.core.taken + 1;
-    let mut place = spare?;
-    place.set(parts.core.log.entry(number)?.copy());
-    Some((number, place))
+    let room = spare?;
+    let entry = parts.core.log.entry(number)?;
+    Some((number, room.fill(&entry.as_ref())))
 }
 
 /// The application takes the next entry (docs/PROTOCOL.md, "Calls"). NotMember where the node is none; Empty where all that
-/// is accepted is taken; else Took, with the entry where the spare one was.
-pub fn on_take(parts: &mut Parts, spare: Option<Boxed<Entry>>, out: &mut OutBox) -> Outcome
-    requires place { parts.old.core.taken ≢ parts.old.core.acc → IsSome spare }
+/// is accepted is taken; else Took, with the entry in the spare room.
+pub fn on_take(parts: &mut Parts, spare: Option<EntryRoom>, out: &mut OutBox) -> Outcome
+    requires place { parts.old.core.taken ≢ parts.old.core.acc
+        → HasRoom (len_of (entry_at parts.old.core.log (parts.old.core.taken + 1))) spare }
     requires empty { out.old ≡ [] }
     ensures { Performs take_row parts.old result out.new parts.new }
 {

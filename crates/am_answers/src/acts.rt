@@ -1,5 +1,6 @@
-ghost use Rattle.std.specs.Prelude.{◌≡◌, ℕ, ◌||◌, ◌<◌, [], None, Some, length, max, IfOk, IfSome, IfNone, Option, true};
+ghost use Rattle.std.specs.Prelude.{◌≡◌, ℕ, ◌||◌, ◌<◌, ◌≤◌, [], None, Some, length, max, IfOk, IfSome, IfNone, Option, true};
 ghost use Rattle.std.specs.Option.{option_copied};
+ghost use Rattle.am_base.specs.Most.{most_body};
 ghost use Rattle.am_base.specs.declared.outcome.Outcome.TheVariants as said;
 ghost use Rattle.am_play.specs.Claims.{heard_by};
 ghost use Rattle.am_group.specs.declared.event.Record.{Record};
@@ -9,13 +10,13 @@ ghost use Rattle.am_races.specs.Turns.{lost_by, unless_nought, or_nought};
 
 use am_base::NoMemory;
 use am_base::body::SentBody;
-use am_base::boxed::Boxed;
-use am_base::entry::Entry;
 use am_base::event::NodeEvent;
 use am_base::items::Items;
+use am_base::limits::MOST_BODY;
 use am_base::name::Name;
 use am_base::names::Names;
 use am_base::outcome::Outcome;
+use am_base::taken::EntryRoom;
 use am_group::event::{Act, By, Event, Part, Record};
 use am_letter::out_box::OutBox;
 use am_post::letter::LetterCopy;
@@ -127,34 +128,38 @@ pub fn blank(alloc: Global, name: Name, act: &Act, by: By) -> Result<Record, NoM
 #[derive(Drop)]
 pub struct Room {
     pub what: Option<NodeEvent>,
-    pub spare: Boxed<Entry>,
-    pub given: Boxed<Entry>,
+    pub spare: EntryRoom,
+    pub given: EntryRoom,
     pub out: OutBox,
 }
 
 /// The memory for an act.
 pub fn room_for(alloc: Global, act: &Act, letter: Option<&LetterCopy>) -> Result<Room, NoMemory>
     ensures what { IfOk result (λ r. r.what ≡ what_of act.now (option_copied letter.entry)) }
+    ensures spare { IfOk result (λ r. most_body ≤ r.spare) }
+    ensures given { IfOk result (λ r. most_body ≤ r.given) }
     ensures out { IfOk result (λ r. r.out ≡ []) }
 {
     Ok(Room {
         what: what_of(alloc, act, letter)?,
-        spare: Boxed::of(alloc, Entry::default())?,
-        given: Boxed::of(alloc, Entry::default())?,
+        spare: EntryRoom::new(alloc, MOST_BODY)?,
+        given: EntryRoom::new(alloc, MOST_BODY)?,
         out: OutBox::new(alloc)?,
     })
 }
 
 /// The same outcome, with room for its entry.
-pub fn copy_into(outcome: &Outcome, mut room: Boxed<Entry>) -> Outcome
+pub fn copy_into(outcome: &Outcome, room: EntryRoom) -> Outcome
+    requires { most_body ≤ room }
     ensures { result ≡ outcome.now }
 {
     match outcome {
         Outcome::Took { number, entry } => {
-            room.set(entry.get().copy());
+            let entry = entry.as_ref();
+            let _fits = entry.body_len();
             Outcome::Took {
                 number: *number,
-                entry: room,
+                entry: room.fill(&entry),
             }
         }
         other => other.copy(),

@@ -117,7 +117,7 @@ fn take_answer(outcome: &Outcome) -> Option<Answer>
     match outcome {
         Outcome::Took { number, entry } => Some(Answer::Took {
             number: *number,
-            entry: entry.get().copy(),
+            entry: entry.as_ref().to_entry(),
         }),
         Outcome::NotMember => Some(Answer::NotMember),
         _ => None,

@@ -33,7 +33,6 @@ use am_answers::acts::{
 };
 use am_answers::outcomes::{is_take, request_in};
 use am_base::NoMemory;
-use am_base::boxed::Boxed;
 use am_base::name::Name;
 use am_base::outcome::Outcome;
 use am_chooser::chooser::{Choice, Chooser};

@@ -1,12 +1,12 @@
 ghost use Rattle.std.specs.Prelude.{◌≡◌, ◌≤◌, [], length};
+ghost use Rattle.am_base.specs.Most.{most_body};
 ghost use Rattle.am_info.specs.Nodes.{HasNumbersLeft};
 ghost use Rattle.am_node.specs.Stands.{state_of};
 ghost use Rattle.am_races.specs.Boxes.{Steps};
 
-use am_base::boxed::Boxed;
-use am_base::entry::Entry;
 use am_base::event::NodeEvent;
 use am_base::outcome::Outcome;
+use am_base::taken::EntryRoom;
 use am_letter::out_box::OutBox;
 use am_node::node::Node;
 
@@ -15,15 +15,17 @@ pub fn step(
     node: &mut Node,
     out: &mut OutBox,
     what: &Option<NodeEvent>,
-    spare: Boxed<Entry>,
+    spare: EntryRoom,
 ) -> Outcome
     requires numbers { HasNumbersLeft (state_of node.old) }
+    requires room { most_body ≤ spare }
     requires empty { out.old ≡ [] }
     ensures steps { Steps what.now (state_of node.old) result out.new (state_of node.new) }
     ensures few { length out.new ≤ 9 }
 {
     match what {
         Some(what) => {
+            let _fits = node.next_len();
             let outcome = node.step(what, Some(spare), out);
             let _accepted = node.accept_front();
             outcome

@@ -3,14 +3,11 @@
 
 ghost use Rattle.std.specs.Prelude.{◌≡◌, ◌≢◌, ◌++◌, [], List, IfOk, IfErr, OnErr, OnOk, IsTrue, ◌↔◌, Ok, true};
 ghost use Rattle.am_base.specs.declared.event.NodeEvent.TheVariants as does;
-ghost use Rattle.am_info.specs.Nodes.{HasNumbersLeft, HasPlace};
-ghost use Rattle.am_node.specs.Stands.{state_of};
+ghost use Rattle.am_info.specs.Nodes.{HasNumbersLeft};
 ghost use Rattle.am_play.specs.World.{first_node};
 ghost use Rattle.am_example_node.specs.Members.{kept_by, StepsBy, is_read};
 
 use am_base::NoMemory;
-use am_base::boxed::Boxed;
-use am_base::entry::Entry;
 use am_base::event::NodeEvent;
 use am_base::founding::Founding;
 use am_base::items::Items;
@@ -53,20 +50,6 @@ pub fn is_packet(bytes: &[u8]) -> bool
     decode(bytes).is_ok()
 }
 
-/// A place for the entry that a take finds.
-fn spare_entry(
-    alloc: Global,
-    node: &Node,
-    event: &NodeEvent,
-) -> Result<Option<Boxed<Entry>>, NoMemory>
-    ensures { IfOk result (λ spare. HasPlace (state_of node.now) event.now spare) }
-{
-    match event {
-        NodeEvent::Take if node.has_next() => Ok(Some(Boxed::of(alloc, Entry::default())?)),
-        _ => Ok(None),
-    }
-}
-
 /// An empty box for the letters of a step, over the rooms that earlier ones left.
 fn empty_box(alloc: Global, rooms: &mut Rooms) -> Result<OutBox, NoMemory>
     ensures { IfOk result (λ b. b ≡ []) }
@@ -102,7 +85,7 @@ impl Member {
         if !self.node.has_numbers_left() {
             return Err(Idle::Spent);
         }
-        let Ok(spare) = spare_entry(alloc, &self.node, event) else {
+        let Ok(spare) = self.node.room_for(alloc, event) else {
             return Err(Idle::NoMemory);
         };
         let Ok(mut out) = empty_box(alloc, &mut self.rooms) else {

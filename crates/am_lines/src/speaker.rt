@@ -1,14 +1,11 @@
 ghost use Rattle.std.specs.Prelude.{◌≡◌, true, false, OnOk, OnErr, IfOk, IsErr, string_bytes};
-ghost use Rattle.am_info.specs.Nodes.{HasNumbersLeft, HasPlace};
-ghost use Rattle.am_node.specs.Stands.{state_of};
+ghost use Rattle.am_info.specs.Nodes.{HasNumbersLeft};
 ghost use Rattle.am_lines.specs.Answers.{is_addressed, is_info, info_text, unchanged};
 
 use crate::line::{BadLine, Line};
 use crate::reading::read_line;
 use crate::telling::{push_info, push_step};
 use am_base::NoMemory;
-use am_base::boxed::Boxed;
-use am_base::entry::Entry;
 use am_base::event::NodeEvent;
 use am_base::founding::Founding;
 use am_base::items::Items;
@@ -46,20 +43,6 @@ fn is_info(line: &Line) -> bool
     match line {
         Line::Info => true,
         Line::Does(_) | Line::Hears { .. } | Line::Bad(_) => false,
-    }
-}
-
-/// A place for the entry that a take finds.
-fn spare_entry(
-    alloc: Global,
-    node: &Node,
-    event: &NodeEvent,
-) -> Result<Option<Boxed<Entry>>, NoMemory>
-    ensures { IfOk result (λ spare. HasPlace (state_of node.now) event.now spare) }
-{
-    match event {
-        NodeEvent::Take if node.has_next() => Ok(Some(Boxed::of(alloc, Entry::default())?)),
-        _ => Ok(None),
     }
 }
 
@@ -104,7 +87,7 @@ impl Speaker {
         ensures rules { (speaking self.new).rules ≡ (speaking self.old).rules }
         ensures flag { (speaking self.new).failed ≡ (speaking self.old).failed }
     {
-        let spare = spare_entry(alloc, &self.node, event)?;
+        let spare = self.node.room_for(alloc, event)?;
         let left = mem::replace(&mut self.rooms, Rooms::new());
         let mut out = OutBox::over(alloc, left)?;
         let _order = self.node.accept_front();

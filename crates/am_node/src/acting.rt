@@ -7,10 +7,9 @@ use am_acting::leaving::on_leave;
 use am_acting::sending::{on_done, on_send};
 use am_acting::taking::on_take;
 use am_acting::ticking::on_tick;
-use am_base::boxed::Boxed;
-use am_base::entry::Entry;
 use am_base::event::NodeEvent;
 use am_base::outcome::Outcome;
+use am_base::taken::EntryRoom;
 use am_handlers::parts::Parts;
 use am_letter::out_box::OutBox;
 use am_voting::voting::{on_ask, on_give_up, on_reset};
@@ -21,7 +20,7 @@ use am_voting::voting::{on_ask, on_give_up, on_reset};
 pub fn on_call(
     parts: &mut Parts,
     event: &NodeEvent,
-    spare: Option<Boxed<Entry>>,
+    spare: Option<EntryRoom>,
     out: &mut OutBox,
 ) -> Outcome
     requires { MayStep (node_of parts.old) event.now spare out.old }

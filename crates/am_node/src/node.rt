@@ -1,3 +1,4 @@
+ghost use Rattle.am_base.specs.Most.{most_body};
 ghost use Rattle.am_handlers.specs.Prelude.{most_number};
 
 use crate::acting::on_call;
@@ -5,7 +6,6 @@ use crate::founding::Room;
 use crate::gate::is_heard;
 use crate::hearing::heard_row;
 use crate::{founding, info};
-use am_base::boxed::Boxed;
 use am_base::entry::Entry;
 use am_base::event::NodeEvent;
 use am_base::founding::Founding;
@@ -13,6 +13,7 @@ use am_base::limits::MOST_NUMBER;
 use am_base::name::{Name, Stamp};
 use am_base::names::Names;
 use am_base::outcome::Outcome;
+use am_base::taken::EntryRoom;
 use am_core::log::Log;
 use am_handlers::finishing::finish_quietly;
 use am_handlers::parts::Parts;
@@ -37,19 +38,14 @@ impl Node {
     ghost use Rattle.am_model.specs.Step.{row};
     ghost use Rattle.am_sender.specs.Sends.{is_settled};
     ghost use Rattle.am_info.specs.Info.{info_of, ballot_end, waited_for};
-    ghost use Rattle.am_info.specs.Nodes.{HasNumbersLeft, HasPlace};
+    ghost use Rattle.am_info.specs.Nodes.{HasNumbersLeft, HasPlace, next_len};
     ghost use Rattle.am_node.specs.Stands.{state_of};
 
     /// Does one step: answer, letters and next state are those of the table of steps (docs/PROTOCOL.md, "Steps of a
     /// node"), for any event and any bytes. Bytes that spell no packet are refused by their cause. It takes no memory: an
-    /// entry that is taken goes where the spare one was, which only a Take wants that finds one. The out box must be empty,
+    /// entry that is taken goes into the spare room, which only a Take wants that finds one. The out box must be empty,
     /// and no number of the node at its end. A packet that isn't heard by its kind is Elsewhere.
-    pub fn step(
-        &mut self,
-        event: &NodeEvent,
-        spare: Option<Boxed<Entry>>,
-        out: &mut OutBox,
-    ) -> Outcome
+    pub fn step(&mut self, event: &NodeEvent, spare: Option<EntryRoom>, out: &mut OutBox) -> Outcome
         requires numbers { HasNumbersLeft (state_of self.old) }
         requires place { HasPlace (state_of self.old) event.now spare }
         requires empty { out.old ≡ [] }
@@ -155,6 +151,34 @@ impl Node {
         ensures { result ≡ not ((state_of self.now).core.taken == (state_of self.now).core.acc) }
     {
         self.parts.core.taken != self.parts.core.acc
+    }
+
+    /// How many bytes the body of the entry has that a Take would give: none, where there is no such entry.
+    pub fn next_len(&self) -> usize
+        ensures value { result ≡ next_len (state_of self.now) }
+        ensures fits { result ≤ most_body }
+    {
+        let _kept = self.parts.accept_front();
+        match self.parts.core.log.entry(self.parts.core.taken + 1) {
+            Some(entry) => entry.body_len(),
+            None => 0,
+        }
+    }
+
+    /// Room for the entry that a step of this event takes, where it takes one. It is an error where there is no memory for it.
+    pub fn room_for(
+        &self,
+        alloc: Global,
+        event: &NodeEvent,
+    ) -> Result<Option<EntryRoom>, AllocError>
+        ensures { IfOk result (λ spare. HasPlace (state_of self.now) event.now spare) }
+    {
+        match event {
+            NodeEvent::Take if self.has_next() => {
+                Ok(Some(EntryRoom::new(alloc, self.next_len())?))
+            }
+            _ => Ok(None),
+        }
     }
 
     /// Its name.

@@ -96,7 +96,7 @@ fn feed_given(replica: &mut Replica, front: u32, name: Name, item: &Record) -> R
     let Some((number, entry)) = given_to(item, name) else {
         return Ok(front);
     };
-    replica.feed(number, entry)?;
+    replica.feed(number, &entry.to_entry())?;
     Ok(number)
 }
 

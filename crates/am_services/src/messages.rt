@@ -67,7 +67,7 @@ fn push_fed(
     let Some((number, entry)) = given_to(item, name) else {
         return Ok(());
     };
-    let Fed::Whole { from } = assembler.feed(entry) else {
+    let Fed::Whole { from } = assembler.feed(&entry.to_entry()) else {
         return Ok(());
     };
     match assembler.message(from) {

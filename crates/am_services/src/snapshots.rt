@@ -84,8 +84,9 @@ fn push_fed(
     let Some((number, entry)) = given_to(item, name) else {
         return Ok(());
     };
-    replica.feed(number, entry)?;
-    push_asked(out, name, number, entry, replica)
+    let entry = entry.to_entry();
+    replica.feed(number, &entry)?;
+    push_asked(out, name, number, &entry, replica)
 }
 
 /// Adds the snapshots that a name could send.

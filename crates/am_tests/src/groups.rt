@@ -1,12 +1,12 @@
 use am_base::NoMemory;
 use am_base::body::Body;
-use am_base::boxed::Boxed;
 use am_base::entry::Entry;
 use am_base::founding::Founding;
 use am_base::items::Items;
 use am_base::name::{Name, Stamp};
 use am_base::names::Names;
 use am_base::outcome::Outcome;
+use am_base::taken::EntryRoom;
 use am_group::addressed::is_for;
 use am_group::delivered::deliveries;
 use am_group::event::{Act, By, Event, Record};
@@ -146,7 +146,7 @@ fn a_name_has_its_deliveries(rt: HostRuntime) -> Result<(), Fail> {
     for (node, number) in [(1, 1), (0, 1), (1, 2)] {
         let outcome = Outcome::Took {
             number,
-            entry: Boxed::of(alloc, sent.copy())?,
+            entry: EntryRoom::new(alloc, sent.body_len())?.fill(&sent.as_ref()),
         };
         records.push(record_of(alloc, node, outcome, &[])?)?;
     }

@@ -27,8 +27,8 @@ pub record IsReady (m : model.Node) (what : NodeEvent) (stored room : ℕ) : Typ
 abbrev pub IsReadyAt : List Node → ℕ → NodeEvent → ℕ → ℕ → Type 0
 IsReadyAt nodes place what stored room = (n : Node) → slice_get nodes place ≡ Some n → IsReady (state_of n) what stored room
 
--- there is a place for what the node of this place takes
-abbrev pub HasPlaceAt : List Node → ℕ → NodeEvent → Option Entry → Type 0
+-- there is room for what the node of this place takes
+abbrev pub HasPlaceAt : List Node → ℕ → NodeEvent → Option ℕ → Type 0
 HasPlaceAt nodes place what spare = (n : Node) → slice_get nodes place ≡ Some n → HasPlace (state_of n) what spare
 
 -- the node of this place does a step of the table, the others stay, and the group list grows by it

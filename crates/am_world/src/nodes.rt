@@ -1,17 +1,16 @@
 ghost use Rattle.std.specs.Prelude.{◌≡◌, ◌+◌, ◌-◌, ◌<◌, ◌≤◌, ◌++◌, ◌∷◌, [], length, max, take, drop, vec_len, vec_capacity, OnOk, IfOk};
 ghost use Rattle.am_base.specs.Names.{place_of};
 ghost use Rattle.am_play.specs.World.{group_with, group_after};
-ghost use Rattle.am_info.specs.Nodes.{HasPlace};
 ghost use Rattle.am_node.specs.Stands.{state_of};
 ghost use Rattle.am_world.specs.Moves.{HasPlaceAt, IsReadyAt, StepsAt};
 
 use am_base::NoMemory;
-use am_base::boxed::Boxed;
 use am_base::entry::Entry;
 use am_base::event::NodeEvent;
 use am_base::items::Items;
 use am_base::name::Name;
 use am_base::outcome::Outcome;
+use am_base::taken::EntryRoom;
 use am_letter::out_box::{OutBox, Rooms};
 use am_node::node::Node;
 use am_post::letter::Letter;
@@ -37,37 +36,17 @@ pub fn packets_of(alloc: Global, out: OutBox, rooms: &mut Rooms) -> Items<Letter
     letters
 }
 
-/// A place for an entry.
-#[inline(never)]
-fn entry_place(alloc: Global) -> Result<Boxed<Entry>, NoMemory> {
-    Ok(Boxed::of(alloc, Entry::default())?)
-}
-
-/// A place for the entry that an event takes of a node, where it takes one.
-fn spare_entry(
-    alloc: Global,
-    node: &Node,
-    what: &NodeEvent,
-) -> Result<Option<Boxed<Entry>>, NoMemory>
-    ensures { IfOk result (λ spare. HasPlace (state_of node.now) what.now spare) }
-{
-    match what {
-        NodeEvent::Take if node.has_next() => Ok(Some(entry_place(alloc)?)),
-        _ => Ok(None),
-    }
-}
-
-/// The same for the node of a name's place.
+/// Room for the entry that an event takes of the node of a name's place, where it takes one.
 pub fn spare_entry_at(
     alloc: Global,
     nodes: &[Node],
     name: Name,
     what: &NodeEvent,
-) -> Result<Option<Boxed<Entry>>, NoMemory>
+) -> Result<Option<EntryRoom>, NoMemory>
     requires places { length nodes.now ≡ 16 }
     ensures { IfOk result (λ spare. HasPlaceAt nodes.now (place_of name) what.now spare) }
 {
-    let spare = spare_entry(alloc, &nodes[usize::from(name.place())], what)?;
+    let spare = nodes[usize::from(name.place())].room_for(alloc, what)?;
     Ok(spare)
 }
 

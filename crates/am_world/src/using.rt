@@ -43,7 +43,7 @@ impl World {
             return Ok(None);
         };
         match given_to(last, name) {
-            Some((number, entry)) => Ok(Some((number, entry.copy()))),
+            Some((number, entry)) => Ok(Some((number, entry.to_entry()))),
             None => Ok(None),
         }
     }

@@ -7,6 +7,7 @@ use Rattle.am_calls.proofs.node_box.NodeBox.act.Goals as goal
 pub step-outcome-requires : goal.step-outcome-requires
 step-outcome-requires g c = record {
   numbers = box_numbers _ _ _ _ _ _ _ _ _ _ c.self.view_is c.self.invariant c.requires.open_ c.requires.few;
+  room = c.in-Ok-room_for.ensures.spare;
   empty = c.in-Ok-room_for.ensures.out;
 }
 

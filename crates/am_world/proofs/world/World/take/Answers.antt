@@ -1,5 +1,4 @@
 use Rattle.std.specs.Option.{option_copied, option_to_list}
-use Rattle.std.specs.Prelude.{option_map}
 use Rattle.am_group.specs.Deliveries.{deliveries}
 use Rattle.am_group.specs.declared.event.Act.TheVariants as acts
 use Rattle.am_play.specs.Settle.{event_at}
@@ -12,11 +11,11 @@ returns-in-Some-given_to-clause-given c =
     let p = c.args.self.now in
     let name = c.name_at-name.result in
     let before = deliveries (replay p).records in
-    let shown = sym c.given_to.ensures ∙ ap (λ g. option_to_list (option_map (λ g. (g.0, g.1.now)) g)) c.in-Some-given_to.is
-    ∙ ap (λ x. (c.in-Some-given_to.number, x) ∷ []) (sym c.copy.ensures) in
+    let shown = sym c.given_to.ensures ∙ ap option_to_list c.in-Some-given_to.is
+    ∙ ap (λ x. (c.in-Some-given_to.number, x) ∷ []) (sym c.to_entry.ensures) in
     let grown = gives_last p (event_at c.args.place acts.Take) c.in_ok-step.ensures.one c.step.new.self name c.in-Some.last.now
     c.in_ok-step.ensures.ok (sym (ap option_copied c.in-Some.is) ∙ c.last_record.ensures) in
-    subst (λ n. deliveries (replay c.step.new.self).records n ≡ deliveries (replay p).records n ++ (c.in-Some-given_to.number, c.copy.result) ∷ [])
+    subst (λ n. deliveries (replay c.step.new.self).records n ≡ deliveries (replay p).records n ++ (c.in-Some-given_to.number, c.to_entry.result) ∷ [])
     c.name_at-name.ensures (grown ∙ ap (λ xs. before name ++ xs) shown)
 
 pub returns-in-None-clause-given : goal.returns-in-None-clause-given
@@ -24,7 +23,7 @@ returns-in-None-clause-given c =
     let p = c.args.self.now in
     let name = c.name_at-name.result in
     let before = deliveries (replay p).records in
-    let shown = sym c.given_to.ensures ∙ ap (λ g. option_to_list (option_map (λ g. (g.0, g.1.now)) g)) c.in-None.is in
+    let shown = sym c.given_to.ensures ∙ ap option_to_list c.in-None.is in
     let grown = gives_last p (event_at c.args.place acts.Take) c.in_ok-step.ensures.one c.step.new.self name c.in-Some.last.now
     c.in_ok-step.ensures.ok (sym (ap option_copied c.in-Some.is) ∙ c.last_record.ensures) in
     subst (λ n. deliveries (replay c.step.new.self).records n ≡ deliveries (replay p).records n ++ [])
