@@ -111,7 +111,11 @@ impl<'a> BodyRef<'a> {
     pub fn to_body(&self) -> Body
         ensures { result ≡ self.now }
     {
-        Body::of(self.0).unwrap()
+        let mut body = ArrayVec::new();
+        match body.try_extend_from_slice(self.0) {
+            Ok(()) => Body(body),
+            Err(_) => unreachable!(),
+        }
     }
 }
 

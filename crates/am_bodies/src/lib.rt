@@ -1,8 +1,8 @@
 //! The bodies of sends that came before their numbers.
 #![tactic(auto)]
 
-ghost use Rattle.std.specs.Prelude.{◌≡◌, ◌≤◌, [], length, option_map};
-ghost use Rattle.std.specs.List.{list_any};
+ghost use Rattle.std.specs.Prelude.{◌≡◌, ◌≤◌, ◌==◌, ◌&&◌, [], length, option_map, not, nat_le};
+ghost use Rattle.std.specs.List.{list_any, list_all};
 ghost use Rattle.am_bodies.specs.Bodies.{is_of, find_body, keep_body, drop_bodies};
 
 use am_base::body::{Body, BodyRef};
@@ -102,10 +102,24 @@ impl Pool {
         self.bodies.push(kept);
     }
 
-    /// Gives up this name's bodies up to a request.
+    /// Whether none of this name's bodies up to a request is kept.
+    fn has_none_upto(&self, from: Name, req: u32) -> bool
+        ensures { result ≡ list_all (λ kept. not ((kept.from == from) && nat_le kept.req req))
+            self.now }
+    {
+        self.bodies
+            .as_slice()
+            .iter()
+            .all(|kept| !(kept.from == from && kept.req <= req))
+    }
+
+    /// Gives up this name's bodies up to a request. Where there is none, no body is moved.
     pub fn drop_upto(&mut self, from: Name, req: u32)
         ensures { self.new ≡ drop_bodies from req self.old }
     {
+        if self.has_none_upto(from, req) {
+            return;
+        }
         self.bodies
             .retain(|kept| !(kept.from == from && kept.req <= req));
     }

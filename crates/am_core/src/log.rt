@@ -6,7 +6,7 @@ ghost use Rattle.am_base.specs.Lists.{top_of, entry_at, members_at, told_by, wit
 ghost use Rattle.am_base.specs.Limits.{IsStamp, IsNumber, IsRow, IsImage, IsEntry};
 ghost use Rattle.am_core.specs.Kept.{IsKept, above};
 
-use am_base::entry::Entry;
+use am_base::entry::{Entry, EntryRef};
 use am_base::image::{Image, Row};
 use am_base::name::{Name, Stamp};
 use am_base::names::Names;
@@ -70,16 +70,16 @@ pub trait Log {
         ensures within { IsImage result.now };
 
     /// Whether an entry fits behind the last one.
-    fn fits(&self, entry: &Entry) -> bool
+    fn fits(&self, entry: &EntryRef) -> bool
         ensures { result ≡ fits (told_by (list self.now)) entry.now };
 
     /// Adds an entry at the end.
-    fn push(&mut self, entry: Entry)
-        requires fits { fits (told_by (list self.old)) entry ≡ true }
+    fn push(&mut self, entry: &EntryRef)
+        requires fits { fits (told_by (list self.old)) entry.now ≡ true }
         requires room { length (list self.old).entries < capacity self.old }
-        requires entry { IsEntry entry }
+        requires entry { IsEntry entry.now }
         requires number { top_of (list self.old) < most_number }
-        ensures list { list self.new ≡ with_entry (list self.old) entry }
+        ensures list { list self.new ≡ with_entry (list self.old) entry.now }
         ensures capacity { capacity self.new ≡ capacity self.old };
 
     /// Lets go of all up to a number.

@@ -3,7 +3,7 @@ ghost use Rattle.am_base.specs.Most.{most_number};
 ghost use Rattle.am_base.specs.Lists.{top_of, members_at};
 
 use crate::log::Log;
-use am_base::entry::Entry;
+use am_base::entry::{Entry, EntryRef};
 use am_base::founding::Founding;
 use am_base::name::{Name, Stamp};
 use am_base::names::Names;
@@ -100,13 +100,13 @@ impl<L: Log> Core<L> {
 
     /// Adds an entry at the end.
     #[tactic(auto, using(crate::proofs::CoreLaws::core_laws))]
-    pub fn push(&mut self, entry: Entry)
-        requires fits { fits (told_by self.old.log) entry ≡ true }
+    pub fn push(&mut self, entry: &EntryRef)
+        requires fits { fits (told_by self.old.log) entry.now ≡ true }
         requires room { length self.old.log.entries < self.old.rules.window + 15 }
-        requires entry { IsEntry entry }
+        requires entry { IsEntry entry.now }
         requires number { top_of self.old.log < most_number }
-        ensures value { self.new ≡ record self.old { log = with_entry self.old.log entry } }
-        ensures adds { Adds entry self.old self.new }
+        ensures value { self.new ≡ record self.old { log = with_entry self.old.log entry.now } }
+        ensures adds { Adds entry.now self.old self.new }
         ensures order { IsInOrder self.new }
     {
         self.log.push(entry);
