@@ -147,7 +147,7 @@ pub fn number_send<'a>(parts: &mut Parts, send: &'a WaitingSend) -> Note<'a>
         req: send.req,
         body: send.body.as_ref(),
     });
-    parts.push(entry.to_entry());
+    parts.push(&entry);
     Note::Bcast { number, entry }
 }
 

@@ -12,7 +12,7 @@ use crate::changing::{begin_leaving, is_leaving, is_member, set_status, status};
 use crate::emitting::{others, who};
 use crate::finishing::finish_noting;
 use crate::note::Note;
-use am_base::entry::Entry;
+use am_base::entry::EntryRef;
 use am_base::name::Name;
 use am_base::names::Names;
 use am_base::outcome::Outcome;
@@ -86,7 +86,7 @@ pub fn depart(parts: &mut Parts)
     set_status(parts, Status::Departed);
     let _before = parts.accept_front();
     let who = who(parts);
-    parts.push(Entry::Leave(who));
+    parts.push(&EntryRef::leave(who));
     lead(parts);
 }
 

@@ -69,15 +69,16 @@ pub fn first_misfit(group: &[Piece]) -> Option<Verdict>
             return Some(Verdict::Misfit { number });
         };
         let entry = bare_entry(&outline);
+        let standing = entry.as_ref();
         let fits = if number == 1 {
             founds(&outline)
         } else {
-            number <= MOST_NUMBER && table.fits(&entry)
+            number <= MOST_NUMBER && table.fits(&standing)
         };
         if !fits {
             return Some(Verdict::Misfit { number });
         }
-        table.apply(number, &entry);
+        table.apply(number, &standing);
     }
     None
 }

@@ -54,10 +54,11 @@ fn push(history: &mut History, room: u32, entry: Entry) -> bool
     if history.top() - history.base() >= room || history.top() >= MOST_NUMBER {
         return false;
     }
+    let entry = entry.as_ref();
     if !history.fits(&entry) {
         return false;
     }
-    history.push(entry);
+    history.push(&entry);
     true
 }
 

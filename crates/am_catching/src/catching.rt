@@ -1,5 +1,6 @@
 ghost use Rattle.std.specs.Prelude.{◌≡◌, ◌≢◌, ◌<◌, ◌≤◌, ◌+◌, ◌==◌, ◌||◌, ◌&&◌, max, not, Option, Some, None, IfNone, IfSome, true, false, []};
 ghost use Rattle.am_handlers.specs.Prelude.{most_number, IsEntry, IsStamp, fits, top_of, stamp_eq, stamp_lt, IsInOrder, has_log, Node, only_name, push_entry, image_of, trim_up_to, view, is_within_bound, IsOwnBallot, node_of, Performs};
+ghost use Rattle.am_base.specs.declared.entry.Entry.TheVariants.{View};
 ghost use Rattle.am_ballots.specs.Kept.{ballot_of};
 ghost use Rattle.am_model.specs.Node as node;
 ghost use Rattle.am_model.specs.Emit.{Plan, telling, ack_of};
@@ -11,7 +12,7 @@ ghost use Rattle.am_replies.specs.Replies.{Replies, MayTell};
 
 use crate::reading::{has_own_leave, is_beyond, is_view, last_of, taken_of};
 use am_ballots::ballot::Ballot;
-use am_base::entry::{Entry, EntryRef};
+use am_base::entry::{EntryParts, EntryRef};
 use am_base::name::{Name, Stamp};
 use am_base::names::Names;
 use am_base::outcome::Outcome;
@@ -34,20 +35,20 @@ fn is_past(stamp: &Stamp, in_ballot: bool, view: &Stamp) -> bool
 }
 
 /// Whether an entry is a View that can't come by fetching: one above the stamp, or in a ballot of it.
-fn is_view_past(stamp: &Stamp, in_ballot: bool, entry: &Entry) -> bool
+fn is_view_past(stamp: &Stamp, in_ballot: bool, entry: &EntryRef) -> bool
     ensures value { result ≡ is_view_past stamp.now in_ballot entry.now }
     ensures below { in_ballot ≡ true → result ≡ false → IsBelow stamp.now entry.now }
 {
-    match entry {
-        Entry::View { stamp: view, .. } => is_past(stamp, in_ballot, view),
-        Entry::Data { .. } => false,
-        Entry::Join(_) => false,
-        Entry::Leave(_) => false,
+    match entry.parts() {
+        EntryParts::View { stamp: view, .. } => is_past(stamp, in_ballot, view),
+        EntryParts::Data { .. } => false,
+        EntryParts::Join(_) => false,
+        EntryParts::Leave(_) => false,
     }
 }
 
 /// Whether an entry fits behind the list.
-fn fits(parts: &Parts, entry: &Entry) -> bool
+fn fits(parts: &Parts, entry: &EntryRef) -> bool
     ensures { result ≡ fits (image_of (node_of parts.now)) entry.now }
 {
     parts.core.log.fits(entry)
@@ -59,7 +60,7 @@ fn refusal(
     stamp: &Stamp,
     base: u32,
     number: u32,
-    entry: &Entry,
+    entry: &EntryRef,
     in_ballot: bool,
 ) -> Option<Outcome>
     ensures value { (x : Option node.Ballot) (then_ : Node → Plan)
@@ -105,7 +106,7 @@ fn piece_promised(
     stamp: Stamp,
     base: u32,
     number: u32,
-    entry: &Entry,
+    entry: &EntryRef,
 ) -> Reply
     requires order { IsInOrder parts.old.core }
     requires logged { has_log parts.old.status ≡ true }
@@ -142,7 +143,7 @@ fn piece_in_ballot(
     stamp: &Stamp,
     base: u32,
     number: u32,
-    entry: &Entry,
+    entry: &EntryRef,
     ballot: Ballot,
 ) -> Reply
     requires ballot { IsTakenOut (node_of parts.old) (ballot_of ballot) }
@@ -180,7 +181,7 @@ fn piece_for(
     stamp: Stamp,
     base: u32,
     number: u32,
-    entry: &Entry,
+    entry: &EntryRef,
     ballot: Ballot,
 ) -> Reply
     requires order { IsInOrder parts.old.core }
@@ -214,7 +215,7 @@ fn piece(
     stamp: Stamp,
     base: u32,
     number: u32,
-    entry: &Entry,
+    entry: &EntryRef,
 ) -> Reply
     requires order { IsInOrder parts.old.core }
     requires logged { has_log parts.old.status ≡ true }
@@ -253,24 +254,23 @@ pub fn on_piece(
         result out.new parts.new }
 {
     let before = parts.accept_front();
-    let entry = entry.to_entry();
-    let reply = piece(parts, from, stamp, base, number, &entry);
+    let reply = piece(parts, from, stamp, base, number, entry);
     finish(parts, before, reply, out)
 }
 
 /// The View of a decided view.
-fn view_entry(stamp: &Stamp, members: Names, resilience: u8) -> Entry
-    ensures { result ≡ Entry.View stamp.now members resilience }
+fn view_entry<'a>(stamp: &Stamp, members: Names, resilience: u8) -> EntryRef<'a>
+    ensures { result ≡ View stamp.now members resilience }
 {
-    Entry::View {
+    EntryRef::of(EntryParts::View {
         stamp: copy_of(stamp),
         members,
         resilience,
-    }
+    })
 }
 
 /// Whether an entry doesn't fit behind the list, or is beyond the bound.
-fn is_unfit(parts: &Parts, entry: &Entry, base: u32, number: u32) -> bool
+fn is_unfit(parts: &Parts, entry: &EntryRef, base: u32, number: u32) -> bool
     ensures { result ≡ (not (fits (image_of (node_of parts.now)) entry.now)
         || not (is_within_bound (node_of parts.now) (max parts.now.core.base base) number)) }
 {
@@ -290,7 +290,7 @@ fn result_refusal(
     ensures value { hears_result (node_of parts.now) from stamp.now base number members resilience
         ≡ unless_reply result (node_of parts.now)
         (telling (push_entry (trim_up_to (node_of parts.now) base)
-        (Entry.View stamp.now members resilience)) (Outcome.Stored number)
+        (View stamp.now members resilience)) (Outcome.Stored number)
         (only_name from) ack_of) }
     ensures next { IfNone result (FollowsAsView
         (node_of parts.now) stamp.now base number members resilience) }
@@ -338,7 +338,7 @@ fn hears_result(
     requires logged { has_log parts.old.status ≡ true }
     requires promise { stamp.now ≡ parts.old.core.promise }
     requires other { stamp.now.by ≢ parts.old.core.who }
-    requires within { IsEntry (Entry.View stamp.now members resilience) }
+    requires within { IsEntry (View stamp.now members resilience) }
     requires number { top_of parts.old.core.log < most_number }
     ensures replies { Replies (hears_result
         (node_of parts.old) from stamp.now base number members resilience) result.outcome

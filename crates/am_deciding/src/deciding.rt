@@ -1,6 +1,7 @@
 ghost use Rattle.std.specs.Prelude.{◌≡◌, ◌<◌, ◌≤◌, ◌+◌, ◌-◌, max, nat_lt, Some, true, false, length, unwrap_or};
 ghost use Rattle.am_handlers.specs.Prelude.{most_number, IsEntry, fits, told_by, top_of, has, names_of, size, IsInOrder, Node, push_entry, trim_up_to, Changes, IsEndOf, IsOwnBallot, IsSteady, NodeKeeps, node_of};
 ghost use Rattle.am_base.specs.Outcomes.{is_took};
+ghost use Rattle.am_base.specs.declared.entry.Entry.TheVariants.{View};
 ghost use Rattle.am_model.specs.Ballots.{with_end, with_answer, decide, decide_view, trim_for, taken_by};
 ghost use Rattle.am_fronts.specs.Reports.{reports_from, least_of};
 ghost use Rattle.am_ballots.specs.Kept.{ballot_of};
@@ -9,7 +10,7 @@ ghost use Rattle.am_handlers.specs.Verdicts.{ComesTo, IsTold};
 
 use crate::reading::{base_of, name_of};
 use am_ballots::ballot::Ballot;
-use am_base::entry::Entry;
+use am_base::entry::{EntryParts, EntryRef};
 use am_base::names::Names;
 use am_base::outcome::Outcome;
 use am_core::log::Log;
@@ -31,21 +32,21 @@ pub fn trim(parts: &mut Parts, base: u32)
 }
 
 /// Adds an entry at the end of the list.
-fn push(parts: &mut Parts, entry: Entry)
-    requires fits { fits (told_by parts.old.core.log) entry ≡ true }
+fn push(parts: &mut Parts, entry: &EntryRef)
+    requires fits { fits (told_by parts.old.core.log) entry.now ≡ true }
     requires room { length parts.old.core.log.entries < parts.old.core.rules.window + 15 }
-    requires entry { IsEntry entry }
+    requires entry { IsEntry entry.now }
     requires number { top_of parts.old.core.log < most_number }
-    requires keeps { NodeKeeps (push_entry (node_of parts.old) entry) }
-    ensures value { node_of parts.new ≡ push_entry (node_of parts.old) entry }
-    ensures changes { Changes (λ m. push_entry m entry) (node_of parts.old) (node_of parts.new) }
+    requires keeps { NodeKeeps (push_entry (node_of parts.old) entry.now) }
+    ensures value { node_of parts.new ≡ push_entry (node_of parts.old) entry.now }
+    ensures changes { Changes (λ m. push_entry m entry.now) (node_of parts.old) (node_of parts.new) }
     ensures order { IsInOrder parts.new.core }
 {
     parts.core.push(entry);
 }
 
 /// Trims the list up to a base, where that is greater, and stores an entry behind it.
-pub fn store(parts: &mut Parts, base: u32, entry: &Entry)
+pub fn store(parts: &mut Parts, base: u32, entry: &EntryRef)
     requires { MayStore (node_of parts.old) base entry.now }
     ensures changes { Changes (λ m. push_entry (trim_up_to m base) entry.now) (node_of parts.old)
         (node_of parts.new) }
@@ -54,7 +55,7 @@ pub fn store(parts: &mut Parts, base: u32, entry: &Entry)
 {
     trim(parts, base);
     let _before = parts.accept_front();
-    push(parts, entry.copy());
+    push(parts, entry);
 }
 
 /// The ballot ends with this answer.
@@ -112,18 +113,18 @@ fn decided_answer(parts: &Parts, names: Names) -> Outcome
 }
 
 /// The View of these members, with the ballot's stamp and the greater of its resilience and the list's.
-fn view_of(parts: &Parts, ballot: &Ballot, names: Names) -> Entry
+fn view_of<'a>(parts: &Parts, ballot: &Ballot, names: Names) -> EntryRef<'a>
     requires stamp { ballot.now.stamp ≡ parts.now.core.promise }
     requires resilience { ballot.now.resilience ≤ 15 }
-    ensures value { result ≡ Entry.View ballot.now.stamp names
+    ensures value { result ≡ View ballot.now.stamp names
         (max ballot.now.resilience (told_by parts.now.core.log).resilience) }
     ensures within { IsEntry result }
 {
-    Entry::View {
+    EntryRef::of(EntryParts::View {
         stamp: ballot.stamp(),
         members: names,
         resilience: ballot.resilience().max(parts.core.log.resilience()),
-    }
+    })
 }
 
 /// All reports begin anew at the base.
@@ -147,7 +148,7 @@ fn push_view(parts: &mut Parts, ballot: Ballot, names: Names) -> Outcome
     let _before = parts.accept_front();
     let answer = decided_answer(parts, names);
     let base = base_of(parts);
-    push(parts, view_of(parts, &ballot, names));
+    push(parts, &view_of(parts, &ballot, names));
     restart(parts, base);
     close(parts, ballot, answer)
 }

@@ -6,7 +6,7 @@ ghost use Rattle.am_handlers.specs.Keeps.{node_with, NodeKeeps, IsSteady};
 
 use crate::packet_from;
 use am_ballots::ballot::Ballot;
-use am_base::entry::Entry;
+use am_base::entry::{Entry, EntryRef};
 use am_base::image::Report;
 use am_base::name::Name;
 use am_base::names::Names;
@@ -152,13 +152,13 @@ impl Parts {
     }
 
     /// Adds an entry at the end of the list.
-    pub fn push(&mut self, entry: Entry)
-        requires fits { fits (image_of (node_of self.old)) entry ≡ true }
+    pub fn push(&mut self, entry: &EntryRef)
+        requires fits { fits (image_of (node_of self.old)) entry.now ≡ true }
         requires room { length self.old.core.log.entries < self.old.core.rules.window + 15 }
-        requires entry { IsEntry entry }
+        requires entry { IsEntry entry.now }
         requires number { top (node_of self.old) < most_number }
-        requires keeps { NodeKeeps (push_entry (node_of self.old) entry) }
-        ensures node { node_of self.new ≡ push_entry (node_of self.old) entry }
+        requires keeps { NodeKeeps (push_entry (node_of self.old) entry.now) }
+        ensures node { node_of self.new ≡ push_entry (node_of self.old) entry.now }
         ensures order { IsInOrder self.new.core }
     {
         self.core.push(entry);

@@ -3,7 +3,7 @@ ghost use Rattle.am_base.specs.Most.{most_window};
 ghost use Rattle.am_base.specs.Limits.{IsNumber, IsEntry};
 ghost use Rattle.am_base.specs.Lists.{blank};
 
-use am_base::entry::Entry;
+use am_base::entry::{Entry, EntryRef};
 use am_base::image::{Image, Row};
 use am_base::limits::MOST_NUMBER;
 use am_base::name::{Name, Stamp};
@@ -83,10 +83,11 @@ impl History {
         ensures list { self.new.list ≡ above self.old.list (self.old.list.start + 1) }
         ensures capacity { self.new.capacity ≡ self.old.capacity }
     {
-        match self.ring.pop_front() {
+        match self.ring.front() {
             Some(slot) => {
                 self.base += 1;
-                self.below.apply(self.base, &slot.entry);
+                self.below.apply(self.base, &slot.entry.as_ref());
+                let _ = self.ring.pop_front();
             }
             None => {}
         }
@@ -150,15 +151,18 @@ impl Log for History {
         self.below.image()
     }
 
-    fn fits(&self, entry: &Entry) -> bool {
+    fn fits(&self, entry: &EntryRef) -> bool {
         self.above.fits(entry)
     }
 
-    fn push(&mut self, entry: Entry) {
+    fn push(&mut self, entry: &EntryRef) {
         self.above
-            .apply(self.base + self.ring.len() as u32 + 1, &entry);
+            .apply(self.base + self.ring.len() as u32 + 1, entry);
         let members = self.above.members();
-        let _ = self.ring.push_back(Slot { entry, members });
+        let _ = self.ring.push_back(Slot {
+            entry: entry.to_entry(),
+            members,
+        });
     }
 
     fn trim(&mut self, to: u32) {

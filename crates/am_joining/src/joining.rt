@@ -4,7 +4,7 @@ ghost use Rattle.am_base.specs.declared.entry.Entry.TheVariants.{Join};
 ghost use Rattle.am_model.specs.Joining.{with_admitted, number_join, join_ask_row};
 ghost use Rattle.am_joining.specs.Pieces.{refusal_of, needs_none, welcome_again, and_welcome};
 
-use am_base::entry::{Entry, EntryRef};
+use am_base::entry::EntryRef;
 use am_base::image::Row;
 use am_base::name::Name;
 use am_base::outcome::Outcome;
@@ -46,7 +46,7 @@ fn refusal_of(accepted: u32, name: Name, row: Row) -> Option<Outcome>
 fn may_join(parts: &Parts, name: Name) -> bool
     ensures { result ≡ fits (image_of (node_of parts.now)) (Join name) }
 {
-    parts.core.log.fits(&Entry::Join(name))
+    parts.core.log.fits(&EntryRef::join(name))
 }
 
 /// Welcomes a name whose Join has a number, where that is accepted.
@@ -87,7 +87,7 @@ fn number_join(parts: &mut Parts, before: u32, from: Name, out: &mut OutBox) -> 
     let number = next_number(parts);
     let others = parts.others();
     admit(parts, from);
-    parts.push(Entry::Join(from));
+    parts.push(&EntryRef::join(from));
     parts.end();
     out.put(others, &bcast(&parts.core, number, EntryRef::join(from)));
     welcome_accepted(&parts.core, number, from, out);

@@ -5,7 +5,7 @@ ghost use Rattle.am_model.specs.Sequencing.{is_unknown};
 ghost use Rattle.am_model.specs.Joining.{may_go, counts_report, asks_to_leave, leave_ask_row};
 ghost use Rattle.am_joining.specs.Pieces.{is_stored, and_let_go, number_leave, leave_again};
 
-use am_base::entry::{Entry, EntryRef};
+use am_base::entry::EntryRef;
 use am_base::image::Report;
 use am_base::name::{Name, Stamp};
 use am_base::names::Names;
@@ -77,7 +77,7 @@ fn number_leave(parts: &mut Parts, before: u32, from: Name, out: &mut OutBox) ->
 {
     let number = next_number(parts);
     let others = parts.others();
-    parts.push(Entry::Leave(from));
+    parts.push(&EntryRef::leave(from));
     parts.end();
     out.put(others, &bcast(&parts.core, number, EntryRef::leave(from)));
     let _goes = let_go(parts, from, out);

@@ -144,7 +144,7 @@ fn founder_core(log: History, name: Name, founding: &Founding) -> Core<History>
     ensures { result ≡ (founder founding.now name).core }
 {
     let mut core = first_core(log, name, founding);
-    core.push(founders_view(founding));
+    core.push(&founders_view(founding).as_ref());
     core.promise = founding_stamp(founding);
     core.told = 1;
     core.acc = 1;

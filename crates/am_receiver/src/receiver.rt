@@ -124,7 +124,7 @@ fn receive_entry(
     from: Name,
     base: u32,
     number: u32,
-    found: Option<&Entry>,
+    found: Option<&EntryRef>,
     missing: Outcome,
     out: &mut OutBox,
 ) -> Outcome
@@ -177,7 +177,6 @@ pub fn on_bcast(
         result out.new parts.new }
 {
     let before = parts.accept_front();
-    let entry = entry.to_entry();
     note(parts, base, acc);
     receive_entry(
         parts,
@@ -185,7 +184,7 @@ pub fn on_bcast(
         from,
         base,
         number,
-        Some(&entry),
+        Some(entry),
         Outcome::Known,
         out,
     )
@@ -215,6 +214,16 @@ fn data_of(parts: &Parts, from: Name, req: u32) -> Option<Entry>
         req,
         body: body.copy(),
     })
+}
+
+/// An entry that may be there, where it stands.
+fn standing(entry: &Option<Entry>) -> Option<EntryRef<'_>>
+    ensures { result ≡ entry.now }
+{
+    match entry {
+        Some(entry) => Some(entry.as_ref()),
+        None => None,
+    }
 }
 
 /// The sequencer tells the number of a send that was spread: its body is that of the node's waiting send where that is
@@ -247,7 +256,7 @@ pub fn on_order(
         sequencer,
         base,
         number,
-        found.as_ref(),
+        standing(&found).as_ref(),
         missing,
         out,
     )

@@ -6,7 +6,7 @@ ghost use Rattle.am_model.specs.Receiving.{is_view, bodies_after, acknowledges, 
 ghost use Rattle.am_receiver.specs.Pieces.{Follows};
 
 use crate::receiver::send_ack_where;
-use am_base::entry::Entry;
+use am_base::entry::{EntryParts, EntryRef};
 use am_base::name::Name;
 use am_base::names::Names;
 use am_base::outcome::Outcome;
@@ -17,19 +17,19 @@ use am_handlers::parts::Parts;
 use am_letter::out_box::OutBox;
 
 /// Whether an entry is a View.
-fn is_view(entry: &Entry) -> bool
+fn is_view(entry: &EntryRef) -> bool
     ensures { result ≡ is_view entry.now }
 {
-    match entry {
-        Entry::View { .. } => true,
-        Entry::Data { .. } => false,
-        Entry::Join(_) => false,
-        Entry::Leave(_) => false,
+    match entry.parts() {
+        EntryParts::View { .. } => true,
+        EntryParts::Data { .. } => false,
+        EntryParts::Join(_) => false,
+        EntryParts::Leave(_) => false,
     }
 }
 
 /// Whether an entry may not be stored with this number.
-fn is_unfit(parts: &Parts, number: u32, entry: &Entry) -> bool
+fn is_unfit(parts: &Parts, number: u32, entry: &EntryRef) -> bool
     ensures value { result ≡ (is_view entry.now
         || (not (fits (image_of (node_of parts.now)) entry.now)
         || not (is_within_bound (node_of parts.now) parts.now.core.base number))) }
@@ -41,19 +41,19 @@ fn is_unfit(parts: &Parts, number: u32, entry: &Entry) -> bool
 }
 
 /// The bodies that a stored entry leaves.
-fn drop_from(pool: &mut Pool, entry: &Entry)
+fn drop_from(pool: &mut Pool, entry: &EntryRef)
     ensures { pool.new ≡ bodies_after pool.old entry.now }
 {
-    match entry {
-        Entry::Data { from, req, .. } => pool.drop_upto(*from, *req),
-        Entry::Join(_) => {}
-        Entry::Leave(_) => {}
-        Entry::View { .. } => {}
+    match entry.parts() {
+        EntryParts::Data { from, req, .. } => pool.drop_upto(*from, *req),
+        EntryParts::Join(_) => {}
+        EntryParts::Leave(_) => {}
+        EntryParts::View { .. } => {}
     }
 }
 
 /// Lets go of the bodies that a stored entry leaves behind.
-fn drop_bodies(parts: &mut Parts, entry: &Entry)
+fn drop_bodies(parts: &mut Parts, entry: &EntryRef)
     ensures { node_of parts.new ≡ record (node_of parts.old)
         { bodies = bodies_after (node_of parts.old).bodies entry.now } }
 {
@@ -101,7 +101,7 @@ pub fn store(
     before: u32,
     from: Name,
     number: u32,
-    entry: &Entry,
+    entry: &EntryRef,
     out: &mut OutBox,
 ) -> Outcome
     requires entry { IsEntry entry.now }
@@ -116,7 +116,7 @@ pub fn store(
         return finish_quietly(parts, before, Outcome::Unfit, out);
     }
     let _before = parts.accept_front();
-    parts.push(entry.copy());
+    parts.push(entry);
     drop_bodies(parts, entry);
     let is_due = acknowledges(parts, from);
     parts.end();

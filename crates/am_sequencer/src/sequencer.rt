@@ -6,7 +6,7 @@ ghost use Rattle.am_sequencer.specs.Pieces.{following, report_refusal};
 use crate::numbering::{data_packet, put_off, request_refusal};
 use crate::serving::serve_again;
 use am_base::body::BodyRef;
-use am_base::entry::Entry;
+use am_base::entry::{EntryParts, EntryRef};
 use am_base::image::Report;
 use am_base::name::Name;
 use am_base::outcome::Outcome;
@@ -110,11 +110,12 @@ pub fn on_request(
     }
     let number = next_number(parts);
     let others = parts.others();
-    parts.push(Entry::Data {
+    let entry = EntryRef::of(EntryParts::Data {
         from,
         req,
-        body: body.to_body(),
+        body: body.again(),
     });
+    parts.push(&entry);
     parts.end();
     let packet = data_packet(&parts.core, number, from, req, body, by_order);
     out.put(others, &packet);

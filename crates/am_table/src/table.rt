@@ -5,7 +5,7 @@ ghost use Rattle.am_base.specs.Lists.{blank, blank_row, after, fits, members_of,
 ghost use Rattle.am_base.specs.Limits.{IsNumber, IsStamp, IsRow, IsImage, IsEntry};
 ghost use Rattle.am_base.specs.declared.entry.Entry.TheVariants.{View};
 
-use am_base::entry::Entry;
+use am_base::entry::{EntryParts, EntryRef};
 use am_base::image::{Image, Row};
 use am_base::name::{Name, Stamp};
 use am_base::names::Names;
@@ -234,19 +234,19 @@ impl Table {
     /// member's Leave; a greater view of some of the members with its own name among them and no less resilience. On a
     /// blank table a View's members needn't be members.
     #[tactic(auto, unfolding(am_base::specs::Lists::fits))]
-    pub fn fits(&self, entry: &Entry) -> bool
+    pub fn fits(&self, entry: &EntryRef) -> bool
         ensures { result ≡ fits self.now entry.now }
     {
-        match entry {
-            Entry::Data { from, req, .. } => {
+        match entry.parts() {
+            EntryParts::Data { from, req, .. } => {
                 self.has_member(*from) && u64::from(*req) == u64::from(self.row(*from).last) + 1
             }
-            Entry::Join(name) => {
+            EntryParts::Join(name) => {
                 let row = self.at_place(*name);
                 row.joined == 0 || (0 < row.left && row.life < name.life())
             }
-            Entry::Leave(name) => self.has_member(*name),
-            Entry::View {
+            EntryParts::Leave(name) => self.has_member(*name),
+            EntryParts::View {
                 stamp,
                 members,
                 resilience,
@@ -284,22 +284,22 @@ impl Table {
 
     /// Adds an entry, which has this number.
     #[tactic(auto, using(crate::proofs::Rows::row_laws), unfolding(am_base::specs::Lists::after))]
-    pub fn apply(&mut self, number: u32, entry: &Entry)
+    pub fn apply(&mut self, number: u32, entry: &EntryRef)
         requires number { (1 ≤ number) × IsNumber number }
         requires entry { IsEntry entry.now }
         ensures value { self.new ≡ after self.old number entry.now }
         ensures within { IsImage self.new }
     {
         let _rows = &self.image.rows;
-        match entry {
-            Entry::Data { from, req, .. } => {
+        match entry.parts() {
+            EntryParts::Data { from, req, .. } => {
                 let row = self.at_place(*from);
                 if row.life == from.life() {
                     let members = self.members();
                     self.set_row(*from, Row { last: *req, ..row }, members);
                 }
             }
-            Entry::Join(name) => {
+            EntryParts::Join(name) => {
                 let row = Row {
                     life: name.life(),
                     joined: number,
@@ -308,7 +308,7 @@ impl Table {
                 let members = self.members().with(*name);
                 self.set_row(*name, row, members);
             }
-            Entry::Leave(name) => {
+            EntryParts::Leave(name) => {
                 let row = self.at_place(*name);
                 if row.life == name.life() {
                     let members = self.members().without(*name);
@@ -322,7 +322,7 @@ impl Table {
                     );
                 }
             }
-            Entry::View {
+            EntryParts::View {
                 stamp,
                 members,
                 resilience,

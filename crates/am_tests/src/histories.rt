@@ -20,10 +20,11 @@ fn push_if_fits(history: &mut History, entry: Entry) -> bool
     if history.top() - history.base() >= 16 || history.top() >= MOST_NUMBER {
         return false;
     }
+    let entry = entry.as_ref();
     if !history.fits(&entry) {
         return false;
     }
-    history.push(entry);
+    history.push(&entry);
     true
 }
 

@@ -1,5 +1,5 @@
-use Rattle.am_acting.proofs.Words.{◌≡◌, ℕ, ◌+◌, sym, ap, ◌∙◌, subst, Leave, fits, IsKept, MayLead, Node, image_of, push_entry, lead, IsEndOf, NodeKeeps}
-use Rattle.am_acting.proofs.Words.{node_of}
+use Rattle.am_acting.proofs.Words.{◌≡◌, ◌+◌, sym, ap, ◌∙◌, subst, Leave, fits, IsKept, MayLead, Node, image_of, push_entry, lead, IsEndOf, NodeKeeps}
+use Rattle.am_acting.proofs.Words.{node_of, Entry}
 use Rattle.am_acting.proofs.Leaves.{departed, leave_fits, keeps_left, may_lead_left, depart_end, left_alone}
 use Rattle.am_acting.proofs.leaving.depart.Goals as goal
 
@@ -8,7 +8,8 @@ push-requires-clause-fits c =
     let m = node_of c.args.parts.now in
     let member = c.args.parts.now.keeps.leads c.requires.leads in
     let who : c.who-who.result ≡ m.core.who = c.who-who.ensures ∙ ap (λ (x : Node). x.core.who) c.set_status.ensures in
-    ap (λ k. fits (image_of (node_of c.set_status.new.parts)) (Leave k)) who ∙ ap (λ (x : Node). fits (image_of x) (Leave m.core.who)) c.set_status.ensures
+    ap (fits (image_of (node_of c.set_status.new.parts))) c.leave.ensures
+    ∙ ap (λ k. fits (image_of (node_of c.set_status.new.parts)) (Leave k)) who ∙ ap (λ (x : Node). fits (image_of x) (Leave m.core.who)) c.set_status.ensures
     ∙ leave_fits m member
 
 pub push-requires-clause-keeps : goal.push-requires-clause-keeps
@@ -19,7 +20,7 @@ push-requires-clause-keeps c =
     let keeps : NodeKeeps (departed m) = subst (λ (x : Node). NodeKeeps x) c.set_status.ensures c.set_status.new.parts.keeps in
     let kept : IsKept m.core.log (m.core.rules.window + 15) =
     subst (λ (x : Node). IsKept x.core.log (x.core.rules.window + 15)) c.set_status.ensures c.accept_front-before.ensures.kept in
-    subst (λ (k : ℕ). NodeKeeps (push_entry (node_of c.set_status.new.parts) (Leave k))) (sym who)
+    subst (λ (e : Entry). NodeKeeps (push_entry (node_of c.set_status.new.parts) e)) (sym (c.leave.ensures ∙ ap Leave who))
     (subst (λ (x : Node). NodeKeeps (push_entry x (Leave m.core.who))) (sym c.set_status.ensures) (keeps_left m (m.core.rules.window + 15) kept member keeps))
 
 pub lead-requires-clause-leads : goal.lead-requires-clause-leads
@@ -30,7 +31,7 @@ lead-requires-clause-leads c =
     let kept : IsKept m.core.log (m.core.rules.window + 15) =
     subst (λ (x : Node). IsKept x.core.log (x.core.rules.window + 15)) c.set_status.ensures c.accept_front-before.ensures.kept in
     let node : node_of c.push.new.self ≡ push_entry (departed m) (Leave m.core.who) = c.push.ensures.node
-    ∙ (λ k. push_entry (c.set_status.ensures k) (Leave (who k))) in
+    ∙ (λ k. push_entry (c.set_status.ensures k) ((c.leave.ensures ∙ ap Leave who) k)) in
     subst (λ (x : Node). MayLead x.core) (sym node) (may_lead_left m (m.core.rules.window + 15) kept member c.requires.alone)
 
 pub returns-clause-end : goal.returns-clause-end
@@ -38,7 +39,7 @@ returns-clause-end c =
     let m = node_of c.args.parts.now in
     let who : c.who-who.result ≡ m.core.who = c.who-who.ensures ∙ ap (λ (x : Node). x.core.who) c.set_status.ensures in
     let node : node_of c.push.new.self ≡ push_entry (departed m) (Leave m.core.who) = c.push.ensures.node
-    ∙ (λ k. push_entry (c.set_status.ensures k) (Leave (who k))) in
+    ∙ (λ k. push_entry (c.set_status.ensures k) ((c.leave.ensures ∙ ap Leave who) k)) in
     subst (λ (x : Node). IsEndOf x (node_of c.lead.new.parts)) (ap lead node ∙ sym (depart_end m c.requires.idle c.requires.leads)) c.lead.ensures
 
 pub returns-clause-alone : goal.returns-clause-alone

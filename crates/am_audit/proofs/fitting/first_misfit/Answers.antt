@@ -4,4 +4,4 @@ use Rattle.am_audit.proofs.Bounds.{outline_within}
 use Rattle.am_audit.proofs.fitting.first_misfit.Goals as goal
 
 pub apply-requires-clause-entry : goal.apply-requires-clause-entry
-apply-requires-clause-entry c = subst IsEntry (sym c.bare_entry-entry.ensures) (outline_within _ c.in-Ok.outline (sym c.outline.ensures ∙ c.in-Ok.is))
+apply-requires-clause-entry c = subst IsEntry (sym (c.as_ref-standing.ensures ∙ c.bare_entry-entry.ensures)) (outline_within _ c.in-Ok.outline (sym c.outline.ensures ∙ c.in-Ok.is))

@@ -1,4 +1,4 @@
-use Rattle.am_deciding.proofs.Words.{◌+◌, ap, sym, subst, arith, Entry, Rules, Node, push_entry, trim_up_to, IsEndOf, NodeKeeps, IsSteady, node_of}
+use Rattle.am_deciding.proofs.Words.{◌+◌, ap, sym, subst, arith, Rules, Node, push_entry, trim_up_to, IsSteady, node_of}
 use Rattle.am_deciding.proofs.Nodes.{keeps_stored, steady_pushed}
 use Rattle.am_deciding.proofs.deciding.store.Goals as goal
 
@@ -14,20 +14,15 @@ push-requires-clause-room c =
 pub push-requires-clause-keeps : goal.push-requires-clause-keeps
 push-requires-clause-keeps c =
     let mid = node_of c.trim.new.parts in
-    subst (λ (e : Entry). NodeKeeps (push_entry mid e)) (sym c.copy.ensures)
-    (keeps_stored (node_of c.args.parts.now) mid c.args.base c.args.entry.now
-    (mid.core.rules.window + 15) c.accept_front-before.ensures.kept c.requires c.trim.ensures.steady c.trim.new.parts.keeps)
+    keeps_stored (node_of c.args.parts.now) mid c.args.base c.args.entry.now
+    (mid.core.rules.window + 15) c.accept_front-before.ensures.kept c.requires c.trim.ensures.steady c.trim.new.parts.keeps
 
 pub returns-clause-changes : goal.returns-clause-changes
-returns-clause-changes c = λ all e.
-    let new = node_of c.push.new.parts in
-    subst (λ (x : Entry). IsEndOf (push_entry (trim_up_to all c.args.base) x) new) c.copy.ensures
-    (c.push.ensures.changes (trim_up_to all c.args.base) (c.trim.ensures.changes all e))
+returns-clause-changes c = λ all e. c.push.ensures.changes (trim_up_to all c.args.base) (c.trim.ensures.changes all e)
 
 pub returns-clause-steady : goal.returns-clause-steady
 returns-clause-steady c =
     let old = node_of c.args.parts.now in
     let mid = node_of c.trim.new.parts in
     let e = c.args.entry.now in
-    subst (λ (x : Node). IsSteady (push_entry old e) x) (sym c.push.ensures.value)
-    (subst (λ (x : Entry). IsSteady (push_entry old e) (push_entry mid x)) (sym c.copy.ensures) (steady_pushed old mid e c.trim.ensures.steady))
+    subst (λ (x : Node). IsSteady (push_entry old e) x) (sym c.push.ensures.value) (steady_pushed old mid e c.trim.ensures.steady)

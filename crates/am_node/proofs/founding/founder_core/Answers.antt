@@ -7,6 +7,6 @@ use Rattle.am_node.proofs.founding.founder_core.Goals as goal
 pub push-requires-clause-fits : goal.push-requires-clause-fits
 unfolding fold
 push-requires-clause-fits c =
-    ap (λ (x : CoreState). fits (told_by x.log) c.founders_view.result) c.first_core-core.ensures.value
-    ∙ ap (fits blank) c.founders_view.ensures.value
+    ap (λ (x : CoreState). fits (told_by x.log) c.as_ref.result) c.first_core-core.ensures.value
+    ∙ ap (fits blank) (c.as_ref.ensures ∙ c.founders_view.ensures.value)
     ∙ founders_fit c.args.founding.now c.founders_view.ensures.within

@@ -7,10 +7,10 @@ pub returns : goal.returns
 unfolding bcast_row
 returns c =
     let old = node_of c.args.parts.now in
-    rw (← c.to_entry-entry.ensures) (does_now (λ m. bcast_row m c.args.from c.args.base c.args.acc c.args.number c.to_entry-entry.result) old
+    does_now (λ m. bcast_row m c.args.from c.args.base c.args.acc c.args.number c.args.entry.now) old
     c.accept_front-before.ensures.value refl
     (noted_done c.accept_front-before.result old (node_of c.note.new.parts) _ c.args.base c.args.acc c.args.from c.args.number
-    (Some c.to_entry-entry.result) said.Known _ _ c.note.ensures.end c.note.ensures.order c.receive_entry.ensures))
+    (Some c.args.entry.now) said.Known _ _ c.note.ensures.end c.note.ensures.order c.receive_entry.ensures)
 
 pub receive_entry-requires-clause-follows : goal.receive_entry-requires-clause-follows
 receive_entry-requires-clause-follows c =

@@ -13,7 +13,7 @@ returns c =
     (receive_entry (with_noted old c.args.base c.args.acc) c.args.sequencer c.args.base c.args.number found missing) c.receive_entry.result
     c.receive_entry.new.out (node_of c.receive_entry.new.parts) in
     does_now (λ m. order_row m c.args.sequencer c.args.base c.args.acc c.args.number c.args.from c.args.req) old c.accept_front-before.ensures.value refl
-    (subst P (c.as_ref.ensures.value ∙ c.data_of-found.ensures.value)
+    (subst P (c.as_ref.ensures.value ∙ c.standing.ensures ∙ c.data_of-found.ensures.value)
     (noted_done c.accept_front-before.result old (node_of c.note.new.parts) _ c.args.base c.args.acc c.args.sequencer c.args.number
     (option_copied c.as_ref.result) missing _ _ c.note.ensures.end c.note.ensures.order c.receive_entry.ensures))
 

@@ -1,5 +1,5 @@
-use Rattle.am_receiver.proofs.Words.{◌≡◌, ◌+◌, true, refl, sym, ap, ◌∙◌, subst, arith, Entry, fits, Plan, Node, image_of, push_entry, bodies_after}
-use Rattle.am_receiver.proofs.Words.{acknowledges, store_fitting, IsEndOf, NodeKeeps, node_of, Done, core_tells, end_self, keeps_pushed, member_log, done}
+use Rattle.am_receiver.proofs.Words.{◌≡◌, ◌+◌, refl, sym, ap, ◌∙◌, subst, arith, Plan, Node, push_entry, bodies_after}
+use Rattle.am_receiver.proofs.Words.{acknowledges, store_fitting, IsEndOf, node_of, Done, core_tells, end_self, keeps_pushed, member_log, done}
 use Rattle.am_receiver.proofs.Words.{ack_where}
 use Rattle.am_base.specs.declared.outcome.Outcome.TheVariants as said
 use Rattle.am_receiver.proofs.{Kept.stored_letters, Rows.store_unfit, Rows.store_fit, Rows.is_fit}
@@ -13,9 +13,7 @@ returns-then-is_unfit c = λ missing.
 
 pub push-requires-clause-fits : goal.push-requires-clause-fits
 push-requires-clause-fits c =
-    let old = node_of c.args.parts.now in
-    let P : Entry → Type 0 = λ e. fits (image_of old) e ≡ true in
-    subst P (sym c.copy.ensures) (is_fit old c.args.number c.args.entry.now (sym c.is_unfit.ensures.value ∙ c.if-is_unfit.false)).fits
+    (is_fit (node_of c.args.parts.now) c.args.number c.args.entry.now (sym c.is_unfit.ensures.value ∙ c.if-is_unfit.false)).fits
 
 pub push-requires-clause-room : goal.push-requires-clause-room
 push-requires-clause-room c =
@@ -26,10 +24,9 @@ pub push-requires-clause-keeps : goal.push-requires-clause-keeps
 push-requires-clause-keeps c =
     let old = node_of c.args.parts.now in
     let fit = is_fit old c.args.number c.args.entry.now (sym c.is_unfit.ensures.value ∙ c.if-is_unfit.false) in
-    let P : Entry → Type 0 = λ e. NodeKeeps (push_entry old e) in
-    subst P (sym c.copy.ensures) (keeps_pushed old c.args.entry.now fit.plain fit.fits
+    keeps_pushed old c.args.entry.now fit.plain fit.fits
     (old.core.rules.window + 15) c.accept_front-before.ensures.kept (member_log old.status c.requires.follows.member)
-    (λ leads. absurd (let no = sym c.requires.follows.follows ∙ leads in cc)) c.args.parts.now.keeps)
+    (λ leads. absurd (let no = sym c.requires.follows.follows ∙ leads in cc)) c.args.parts.now.keeps
 
 pub returns : goal.returns
 returns c = λ missing.
@@ -37,7 +34,7 @@ returns c = λ missing.
     let mid = node_of c.drop_bodies.new.parts in
     let new = node_of c.end.new.self in
     let e = c.args.entry.now in
-    let put : node_of c.push.new.self ≡ push_entry old e = c.push.ensures.node ∙ ap (push_entry old) c.copy.ensures in
+    let put : node_of c.push.new.self ≡ push_entry old e = c.push.ensures.node in
     let after : Node = record (push_entry old e) { bodies = bodies_after old.bodies e } in
     let node : mid ≡ after = c.drop_bodies.ensures ∙ ap (λ (x : Node). let n : Node = record x { bodies = bodies_after x.bodies e } in n) put in
     let kept = c.push.ensures.order.kept in

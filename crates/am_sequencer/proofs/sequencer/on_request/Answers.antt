@@ -3,6 +3,8 @@ use Rattle.am_sequencer.proofs.Words.{has, members_pushed, Letter, with_letter, 
 use Rattle.am_sequencer.proofs.Words.{number_data, node_of, with_told, Done, end_self, keeps_pushed, leading_log, steady_leads, does_now, done, end_tells}
 use Rattle.am_sequencer.proofs.Words.{letter_tells, told_numbered, data_packet, request_refusal}
 use Rattle.am_base.specs.declared.outcome.Outcome.TheVariants as said
+use Rattle.am_sequencer.proofs.Words.{fits}
+use Rattle.am_handlers.specs.Keeps.{NodeKeeps}
 use Rattle.am_sequencer.proofs.{Numbers.next_fits, Rows.request_by, Rows.after_report, Rows.request_refused, Rows.request_held, Rows.request_numbered}
 use Rattle.am_sequencer.proofs.sequencer.on_request.Goals as goal
 
@@ -37,24 +39,29 @@ returns-then-not-has_room c =
 
 pub push-requires-clause-fits : goal.push-requires-clause-fits
 push-requires-clause-fits c =
+    let is : c.of-entry.result ≡ Data c.args.from c.args.req c.args.body.now = c.of-entry.ensures ∙ ap (Data c.args.from c.args.req) c.again.ensures in
     let mid = node_of c.take_report.new.self in
     let row = c.row-row.ensures.value in
     let known = ap (λ (i : Image). (row_of i c.args.from).joined == 0) c.take_report.ensures.steady.told ∙ c.in_default.ensures.known in
-    next_fits (image_of mid) c.args.from c.args.req c.to_body.result known
+    ap (fits (image_of mid)) is ∙ next_fits (image_of mid) c.args.from c.args.req c.args.body.now known
     (sym (ap (λ (r : Row). r.left) row) ∙ c.in_default-request_refusal.ensures.stays)
     (c.in_default-request_refusal.ensures.next ∙ ap (λ (r : Row). r.last + 1) row)
 
 pub push-requires-clause-keeps : goal.push-requires-clause-keeps
 push-requires-clause-keeps c =
+    let is : c.of-entry.result ≡ Data c.args.from c.args.req c.args.body.now = c.of-entry.ensures ∙ ap (Data c.args.from c.args.req) c.again.ensures in
     let old = node_of c.take_report.new.self in
     let keeps = c.take_report.new.self.keeps in
     let leads = steady_leads (node_of c.args.parts.now) old c.take_report.ensures.steady ∙ c.requires.serves.leads in
-    keeps_pushed old (Data c.args.from c.args.req c.to_body.result) refl (push-requires-clause-fits c)
+    let fit = sym (ap (fits (image_of old)) is) ∙ push-requires-clause-fits c in
+    subst (λ (e : Entry). NodeKeeps (push_entry old e)) (sym is)
+    (keeps_pushed old (Data c.args.from c.args.req c.args.body.now) refl fit
     (old.core.rules.window + 15) c.next_number-number.ensures.kept (leading_log old leads)
-    (λ leads. ap (λ set. has set old.core.who) (members_pushed old.core.log c.args.from c.args.req c.to_body.result) ∙ keeps.leads leads) keeps
+    (λ leads. ap (λ set. has set old.core.who) (members_pushed old.core.log c.args.from c.args.req c.args.body.now) ∙ keeps.leads leads) keeps)
 
 pub returns : goal.returns
 returns c =
+    let is : c.of-entry.result ≡ Data c.args.from c.args.req c.args.body.now = c.of-entry.ensures ∙ ap (Data c.args.from c.args.req) c.again.ensures in
     let before = c.accept_front-before.result in
     let old = node_of c.take_report.new.self in
     let mid = node_of c.push.new.self in
@@ -62,7 +69,7 @@ returns c =
     let e : Entry = Data c.args.from c.args.req c.args.body.now in
     let packet = c.data_packet-packet.result in
     let answer : Outcome = said.Numbered c.next_number-number.result in
-    let node : mid ≡ push_entry old e = c.push.ensures.node ∙ ap (λ (body : List ℕ). push_entry old (Data c.args.from c.args.req body)) c.to_body.ensures in
+    let node : mid ≡ push_entry old e = c.push.ensures.node ∙ ap (push_entry old) is in
     let end : IsEndOf (push_entry old e) mid = subst (λ (x : Node). IsEndOf x mid) node (end_self mid c.push.ensures.order.kept) in
     let to : c.others-others.result ≡ others old = end_tells others old c.others-others.result c.next_number-number.ensures.order.kept c.others-others.ensures
     in
