@@ -82,7 +82,7 @@ fn is_heard(world: &World, number: u32, place: u8) -> bool
 }
 
 /// Each place that runs hears a letter, where it is for its name.
-fn hear_all(world: &mut World, number: u32) -> Result<(), WorldRefusal>
+fn hear_letter(world: &mut World, number: u32) -> Result<(), WorldRefusal>
     ensures ok { (l : boxes.Letter) → letter_at (replay world.old).letters number ≡ Some l
         → OnOk result (Did (hearings_of (replay world.old) number l) world.old world.new) }
     ensures err { (l : boxes.Letter) → letter_at (replay world.old).letters number ≡ Some l
@@ -96,17 +96,21 @@ fn hear_all(world: &mut World, number: u32) -> Result<(), WorldRefusal>
     Ok(())
 }
 
-/// A wave: each letter above a number, of those that are sent when the wave begins, is heard.
-fn wave(world: &mut World, after: u32) -> Result<(), WorldRefusal>
+/// Each letter above this number, of those that were sent before the call, is heard by each node that it is for and that hasn't
+/// stopped: letter by letter, and each place by place. It tells the number of the last one, above which a next call goes on.
+/// After a refusal a beginning of these events was done, and there is a further one: Spent exactly where the world has done
+/// 100,000, and else NoMemory.
+pub fn hear_all(world: &mut World, after: u32) -> Result<u32, WorldRefusal>
     ensures ok { OnOk result (Did (hearings (replay world.old) after) world.old world.new) }
+    ensures last { IfOk result (λ last. last ≡ length (replay world.old).letters) }
     ensures err { IfErr result (λ refusal. Stuck
         (hearings (replay world.old) after) world.old world.new refusal) }
 {
     let last = letter_count(world);
     for number in after..last {
-        hear_all(world, number + 1)?;
+        hear_letter(world, number + 1)?;
     }
-    Ok(())
+    Ok(last)
 }
 
 /// A round: all tick, and five waves are heard, each of the letters that were sent since the wave before it began.
@@ -118,9 +122,7 @@ fn round(world: &mut World) -> Result<(), WorldRefusal>
     let mut after = letter_count(world);
     tick_all(world)?;
     for _wave in 0..5u8 {
-        let sent = letter_count(world);
-        wave(world, after)?;
-        after = sent;
+        after = hear_all(world, after)?;
     }
     Ok(())
 }

@@ -13,18 +13,18 @@ loop-wave-init c =
     subst (λ n. Rounding 0 n c.args.world.now c.tick_all.new.world) (sym c.letter_count-after.ensures)
     (ticks_first c.args.world.now c.tick_all.new.world c.in_ok-tick_all.ensures.ok)
 
-pub returns-in_err-wave-clause-err : goal.returns-in_err-wave-clause-err
-returns-in_err-wave-clause-err c =
-    let p = err_from_is_err_and c.from_residual-in_err-wave.result c.from_residual-in_err-wave.ensures.1 in
+pub returns-in_err-after-clause-err : goal.returns-in_err-after-clause-err
+returns-in_err-after-clause-err c =
+    let p = err_from_is_err_and c.from_residual-in_err-after.result c.from_residual-in_err-after.ensures.1 in
     rw (p.1, p.2)
-    (round_stuck c.loop-wave._wave c.loop-wave.after c.args.world.now c.loop-wave.world c.wave.new.world c.in_err-wave.field-0.0
-    c.loop-wave-test.true c.loop-wave.invariant c.in_err-wave.ensures.err)
+    (round_stuck c.loop-wave._wave c.loop-wave.after c.args.world.now c.loop-wave.world c.hear_all.new.world c.in_err-after.field-0.0
+    c.loop-wave-test.true c.loop-wave.invariant c.in_err-after.ensures.err)
 
 pub loop-wave-preserved : goal.loop-wave-preserved
 loop-wave-preserved c =
-    subst (λ n. Rounding (c.loop-wave._wave + 1) n c.args.world.now c.wave.new.world) (sym c.letter_count-sent.ensures)
-    (wave_next c.loop-wave._wave c.loop-wave.after c.args.world.now c.loop-wave.world c.wave.new.world c.loop-wave-test.true c.loop-wave.invariant
-    c.in_ok-wave.ensures.ok)
+    subst (λ n. Rounding (c.loop-wave._wave + 1) n c.args.world.now c.hear_all.new.world) (sym c.in_ok-after.ensures.last)
+    (wave_next c.loop-wave._wave c.loop-wave.after c.args.world.now c.loop-wave.world c.hear_all.new.world c.loop-wave-test.true c.loop-wave.invariant
+    c.in_ok-after.ensures.ok)
 
 pub returns-clause-ok : goal.returns-clause-ok
 returns-clause-ok c = round_done c.loop-wave._wave c.loop-wave.after c.args.world.now c.loop-wave.world c.loop-wave-test.false c.loop-wave.invariant
