@@ -18,7 +18,7 @@ use am_base::names::Names;
 use am_base::outcome::Outcome;
 use am_base::taken::EntryRoom;
 use am_group::event::{Act, By, Event, Part, Record};
-use am_letter::out_box::OutBox;
+use am_letter::out_box::{OutBox, Rooms};
 use am_post::letter::LetterCopy;
 use std::alloc::Global;
 
@@ -133,8 +133,13 @@ pub struct Room {
     pub out: OutBox,
 }
 
-/// The memory for an act.
-pub fn room_for(alloc: Global, act: &Act, letter: Option<&LetterCopy>) -> Result<Room, NoMemory>
+/// The memory for an act, over the rooms for letters that an earlier one left.
+pub fn room_for(
+    alloc: Global,
+    rooms: Rooms,
+    act: &Act,
+    letter: Option<&LetterCopy>,
+) -> Result<Room, NoMemory>
     ensures what { IfOk result (λ r. r.what ≡ what_of act.now (option_copied letter.entry)) }
     ensures spare { IfOk result (λ r. most_body ≤ r.spare) }
     ensures given { IfOk result (λ r. most_body ≤ r.given) }
@@ -144,7 +149,7 @@ pub fn room_for(alloc: Global, act: &Act, letter: Option<&LetterCopy>) -> Result
         what: what_of(alloc, act, letter)?,
         spare: EntryRoom::new(alloc, MOST_BODY)?,
         given: EntryRoom::new(alloc, MOST_BODY)?,
-        out: OutBox::new(alloc)?,
+        out: OutBox::over(alloc, rooms)?,
     })
 }
 

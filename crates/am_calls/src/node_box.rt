@@ -38,6 +38,7 @@ use am_base::outcome::Outcome;
 use am_chooser::chooser::{Choice, Chooser};
 use am_group::event::{Act, By, Part, Record};
 use am_info::info::Info;
+use am_letter::out_box::Rooms;
 use am_node::node::Node;
 use am_post::letter::LetterCopy;
 use am_races::answer::Answer;
@@ -45,6 +46,7 @@ use am_races::call::{Came, Looked, Tag};
 use am_wire::wire::{Pass, Share, Wire, WireRefusal};
 use std::alloc::Global;
 use std::marker::{Model, PhantomData};
+use std::mem;
 use std::sync::Wait;
 
 /// A turn: what the node does, the letter that it hears, and the number of the letter that it lost, or 0.
@@ -67,6 +69,7 @@ pub struct NodeBox<N: Racing> {
     last: Option<u32>,
     is_stopped: bool,
     closed: Option<WireRefusal>,
+    rooms: Rooms,
     race: PhantomData<N>,
 }
 
@@ -140,6 +143,7 @@ impl<N: Racing> NodeBox<N> {
             last: None,
             is_stopped: false,
             closed: None,
+            rooms: Rooms::new(),
             race: PhantomData,
         }
     }
@@ -243,7 +247,8 @@ impl<N: Racing> NodeBox<N> {
         let Ok(mut item) = blank(alloc, self.name, &act, by) else {
             return Err(WireRefusal::NoMemory);
         };
-        let Ok(room) = room_for(alloc, &act, letter) else {
+        let rooms = mem::replace(&mut self.rooms, Rooms::new());
+        let Ok(room) = room_for(alloc, rooms, &act, letter) else {
             return Err(WireRefusal::NoMemory);
         };
         let Room {
@@ -254,8 +259,10 @@ impl<N: Racing> NodeBox<N> {
         } = room;
         let outcome = step(&mut self.node, &mut out, &what, spare);
         let round = round_in(out.letters());
+        let (letters, rooms) = out.into_letters(alloc);
         item.outcome = copy_into(&outcome, given);
-        item.packets = out.into_letters(alloc).0;
+        item.packets = letters;
+        self.rooms = rooms;
         match wire.commit(rt, &mut self.pass, share, item) {
             Ok(_number) => {
                 let heard = heard_by(&act);

@@ -16,15 +16,15 @@ commit-requires-clause-ready g c κs within =
     box_ready _ _ _ _ _ _ _ _ _ _ _ _ _ _ _ _ _
     (doing _ _ _ _ _ _ _ _ _ _ _ _ _ _ _ _ _ _ c.self.view_is c.self.invariant c.requires.open_ c.requires.share c.requires.met c.requires.may c.requires.timely
     c.in-Ok-room_for.ensures.what c.step-outcome.ensures.steps) c.args.wire.now.id _ c.requires.own
-    (filled c.in-Ok.ensures c.copy_into.ensures c.into_letters.ensures)
+    (filled c.in-Ok.ensures c.copy_into.ensures c.into_letters-letters.ensures)
     c.step-outcome.ensures.few
 
-pub invariant_of-self : goal.invariant_of-self
-invariant_of-self g c =
+pub invariant_of-self-in-Ok-commit : goal.invariant_of-self-in-Ok-commit
+invariant_of-self-in-Ok-commit g c =
     box_after _ _ _ _ _ _ _ _ _ _ _ _ _ _ _ _ _
     (doing _ _ _ _ _ _ _ _ _ _ _ _ _ _ _ _ _ _ c.self.view_is c.self.invariant c.requires.open_ c.requires.share c.requires.met c.requires.may c.requires.timely
     c.in-Ok-room_for.ensures.what c.step-outcome.ensures.steps) _ _ _ _ _ _ _
-    (filled c.in-Ok.ensures c.copy_into.ensures c.into_letters.ensures)
+    (filled c.in-Ok.ensures c.copy_into.ensures c.into_letters-letters.ensures)
     c.in-Ok-commit.ensures.ok (search rules) (search rules) c.stops_by-self-inside.ensures c.commit.ensures.lawful
 
 pub returns-in-Ok-commit-clause-ok : goal.returns-in-Ok-commit-clause-ok
@@ -32,7 +32,7 @@ returns-in-Ok-commit-clause-ok g c =
     box_acted _ _ _ _ _ _ _ _ _ _ _ _ _ _ _ _ _
     (doing _ _ _ _ _ _ _ _ _ _ _ _ _ _ _ _ _ _ c.self.view_is c.self.invariant c.requires.open_ c.requires.share c.requires.met c.requires.may c.requires.timely
     c.in-Ok-room_for.ensures.what c.step-outcome.ensures.steps) _ _ _ _ _ _ c.self.view_is
-    (filled c.in-Ok.ensures c.copy_into.ensures c.into_letters.ensures)
+    (filled c.in-Ok.ensures c.copy_into.ensures c.into_letters-letters.ensures)
     c.in-Ok-commit.ensures.ok (λ i. c.step-outcome.result) (c.round_in-round.ensures ∙ ap round_in c.letters.ensures.value)
 
 pub returns-in-Ok-commit-clause-told : goal.returns-in-Ok-commit-clause-told
