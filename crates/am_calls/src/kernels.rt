@@ -135,32 +135,8 @@ impl<'g, N: Racing, G: Gate> Kernels<'g, N, G> {
         unreachable!()
     }
 
-    /// Whether a node has something to do, as `NodeBox::has_to_do`.
-    fn has_to_do<R: Wait>(&self, rt: &R, node: Name, act: &Act, came: &Option<Came>) -> bool {
-        for _ in rt.forever() {
-            let mut guard = self.boxes[usize::from(node.place())].lock(rt);
-            if guard.name().place() == node.place() {
-                return guard.has_to_do(rt, &self.wire, act, came);
-            }
-        }
-        unreachable!()
-    }
-
-    /// Lets other callers go first, where a turn of a call would hear nothing: until there is something to do, or its caller is due.
-    fn rest<R: Wait>(&self, rt: &R, tag: Tag, node: Name, act: &Act, came: &Option<Came>) {
-        let due = self.crowd.due(tag.caller);
-        for _ in 0..MOST_RESTS {
-            let round = self.crowd.round();
-            if self.crowd.due(tag.caller) != due || self.has_to_do(rt, node, act, came) {
-                return;
-            }
-            if !self.crowd.rest(round) {
-                return;
-            }
-        }
-    }
-
-    /// A further look of a call, which rests before a turn.
+    /// A further look of a call. Where it has a turn left and its node would only tick, it lets other callers go first: until there
+    /// is something to do, or its caller is due.
     fn look<R: Wait>(
         &self,
         rt: &R,
@@ -183,15 +159,25 @@ impl<'g, N: Racing, G: Gate> Kernels<'g, N, G> {
         ensures err { IfErr result (WasRefused
             (place_of node) tag.caller hand.old.share.seen hand.new.share.seen) }
     {
-        if has_turn {
-            self.rest(rt, tag, node, act, came);
-        }
+        let due = self.crowd.due(tag.caller);
+        let mut rests = if has_turn { MOST_RESTS } else { 0 };
         for _ in rt.forever() {
+            let round = self.crowd.round();
+            if self.crowd.due(tag.caller) != due {
+                rests = 0;
+            }
             let mut guard = self.boxes[usize::from(node.place())].lock(rt);
             if guard.name().place() == node.place() {
-                let looked = guard.look(&self.visit(rt, tag), hand, act, came, has_turn);
-                self.crowd.stir();
-                return looked;
+                if rests == 0 || guard.has_to_do(rt, &self.wire, act, came) {
+                    let looked = guard.look(&self.visit(rt, tag), hand, act, came, has_turn);
+                    self.crowd.stir();
+                    return looked;
+                }
+            }
+            drop(guard);
+            rests = rests.saturating_sub(1);
+            if !self.crowd.rest(round) {
+                rests = 0;
             }
         }
         unreachable!()
