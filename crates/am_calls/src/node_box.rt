@@ -1,4 +1,4 @@
-ghost use Rattle.std.specs.Prelude.{◌≡◌, ℕ, ◌<◌, ◌≤◌, [], ◌∷◌, None, Some, length, IfOk, IfErr, IfSome, IfNone, OnOk, OnErr, Option, true, false, count_by};
+ghost use Rattle.std.specs.Prelude.{◌≡◌, ◌<◌, ◌≤◌, [], ◌∷◌, None, Some, length, IfOk, IfErr, OnOk, OnErr, Option, true, false, count_by};
 ghost use Rattle.std.specs.Option.{option_copied};
 ghost use Rattle.am_base.specs.Most.{most_events};
 ghost use Rattle.am_play.specs.World.{first_node};
@@ -10,17 +10,17 @@ ghost use Rattle.am_wire.specs.declared.wire.WireRefusal.TheVariants as refusals
 ghost use Rattle.am_wire.specs.Seats.{GoesOn};
 ghost use Rattle.am_wire.specs.Passes.{Sees, fresh};
 ghost use Rattle.am_wire.specs.Stops.{has_stopped};
-ghost use Rattle.am_races.specs.Boxes.{what_of, MayAct, IsShareOf, IsTimely, Acted, IsRefused, Looks, refusal_answer, Hears, GivesUp, node_by, heard_in, lost_in, Picked, is_turn_act, Found, event_at, turn_by};
-ghost use Rattle.am_races.specs.Callings.{IsHand, luck_after};
-ghost use Rattle.am_races.specs.Going.{end_act, end_part, luck_behind, is_asked, ToldBy, Asked, IsCame, EndTells, Began, HasSpent, HasEnded, HasLooked, WasRefused, Meets};
+ghost use Rattle.am_races.specs.Boxes.{what_of, MayAct, IsShareOf, IsTimely, Acted, IsRefused, Looks, refusal_answer, node_by};
+ghost use Rattle.am_races.specs.Callings.{IsHand};
+ghost use Rattle.am_races.specs.Going.{end_act, end_part, is_asked, ToldBy, Asked, IsCame, EndTells, Began, HasSpent, HasEnded, HasLooked, WasRefused, Meets};
 ghost use Rattle.am_races.specs.Plans.{is_call};
 ghost use Rattle.am_races.specs.Ready.{is_ready};
 ghost use Rattle.am_races.specs.Tags.{of_call, own_of, is_turn_part};
-ghost use Rattle.am_chooser.specs.Choices.{act_of};
-ghost use Rattle.am_group.specs.declared.event.Act.TheVariants as acts;
-ghost use Rattle.am_races.specs.Lawful.{IsSent, plan_by, terms_of};
+ghost use Rattle.am_races.specs.Lawful.{terms_of};
 ghost use Rattle.am_races.specs.Answers.{is_end_of, is_take};
-ghost use Rattle.am_races.specs.Turns.{waits_in_vain, words_drawn, is_turn, is_due};
+ghost use Rattle.am_races.specs.Turns.{is_due};
+
+mod finding;
 
 use crate::caller::Hand;
 use crate::gate::Gate;
@@ -28,14 +28,11 @@ use crate::naming::{RaceLaw, Racing};
 use crate::ready::{is_ready_after, may_take, round_in};
 use crate::steps::step;
 use am_answers::acts::{
-    Room, blank, copy_into, cursor_after, heard_by, last_after, least_of_both, lost_by, room_for,
-    stops_by,
+    Room, blank, copy_into, cursor_after, heard_by, last_after, lost_by, room_for, stops_by,
 };
 use am_answers::outcomes::{is_take, request_in};
 use am_base::NoMemory;
 use am_base::name::Name;
-use am_base::outcome::Outcome;
-use am_chooser::chooser::{Choice, Chooser};
 use am_group::event::{Act, By, Part, Record};
 use am_info::info::Info;
 use am_letter::out_box::Rooms;
@@ -44,18 +41,11 @@ use am_post::letter::LetterCopy;
 use am_races::answer::Answer;
 use am_races::call::{Came, Looked, Tag};
 use am_wire::wire::{Pass, Share, Wire, WireRefusal};
+use finding::Turn;
 use std::alloc::Global;
 use std::marker::{Model, PhantomData};
 use std::mem;
 use std::sync::Wait;
-
-/// A turn: what the node does, the letter that it hears, and the number of the letter that it lost, or 0.
-#[derive(Drop)]
-struct Turn {
-    act: Act,
-    letter: Option<LetterCopy>,
-    lost: u32,
-}
 
 /// A node's place: its node, its pass, and how far it has come with the letters for it. Contracts see it as its name, what
 /// its pass has seen, and the refusal that closed it, if one did: of a closed box nothing more is known, and it does
@@ -278,140 +268,6 @@ impl<N: Racing> NodeBox<N> {
         }
     }
 
-    /// The least name that its ballot waits for and that has stopped.
-    fn in_vain<R: Wait>(&mut self, rt: &R, wire: &Wire<RaceLaw>) -> Option<Name>
-        requires own { wire.now.id ≡ N.wire }
-        requires open_ { self.old.closed ≡ None }
-        ensures looks { Looks self.old self.new }
-        ensures some { IfSome result (GivesUp N.plan self.new.seen self.new.name) }
-        ensures none { IfNone result (waits_in_vain
-            (node_by N.plan self.new.seen self.new.name) self.new.seen ≡ false) }
-    {
-        let waited = self.node.waits_for();
-        waited.lowest()?;
-        let stopped = wire.stopped_names(rt, &mut self.pass);
-        least_of_both(waited, stopped)
-    }
-
-    /// A letter that was sent to its node.
-    fn letter<R: Wait>(&mut self, rt: &R, wire: &Wire<RaceLaw>, number: u32) -> LetterCopy
-        requires own { wire.now.id ≡ N.wire }
-        requires open_ { self.old.closed ≡ None }
-        requires sent { IsSent self.old.seen self.old.name number }
-        ensures looks { Looks self.old self.new }
-        ensures hears { Hears self.new.seen self.new.name number (Some result) }
-    {
-        match wire.read(rt, &mut self.pass, number) {
-            Some(letter) => {
-                let _bytes = letter.bytes();
-                letter
-            }
-            None => unreachable!(),
-        }
-    }
-
-    /// What a choice does, which hears only what was sent to the node.
-    fn turn_of_choice<R: Wait>(&mut self, rt: &R, wire: &Wire<RaceLaw>, choice: Choice) -> Turn
-        requires own { wire.now.id ≡ N.wire }
-        requires open_ { self.old.closed ≡ None }
-        requires sent { (number : ℕ) → heard_in choice ≡ Some number
-            → IsSent self.old.seen self.old.name number }
-        ensures looks { Looks self.old self.new }
-        ensures act_ { result.act ≡ act_of choice }
-        ensures lost_ { result.lost ≡ lost_in choice }
-        ensures hears { (number : ℕ) → heard_in choice ≡ Some number
-            → Hears self.new.seen self.new.name number result.letter }
-    {
-        match choice {
-            Choice::Tick => Turn {
-                act: Act::Tick,
-                letter: None,
-                lost: 0,
-            },
-            Choice::Lose(number) => Turn {
-                act: Act::Tick,
-                letter: None,
-                lost: number,
-            },
-            Choice::Hear(number) | Choice::Repeat(number) => Turn {
-                act: Act::Hear(number),
-                letter: Some(self.letter(rt, wire, number)),
-                lost: 0,
-            },
-        }
-    }
-
-    /// What the chooser says by the letters for its node.
-    fn choose<R: Wait>(&mut self, rt: &R, wire: &Wire<RaceLaw>, chooser: &mut Chooser) -> Turn
-        requires own { wire.now.id ≡ N.wire }
-        requires open_ { self.old.closed ≡ None }
-        ensures looks { Looks self.old self.new }
-        ensures picked { Picked chooser.old self.old.name self.old.seen self.new.seen result.act
-            result.lost }
-        ensures hears { (number : ℕ) → result.act ≡ acts.Hear number
-            → Hears self.new.seen self.new.name number result.letter }
-        ensures turns { is_turn_act result.act ≡ true }
-        ensures drawn { chooser.new ≡ luck_behind chooser.old result.act result.lost }
-    {
-        let ahead = wire.next_for(rt, &mut self.pass, self.name, self.cursor);
-        let choice = chooser.choose(ahead, self.last);
-        self.turn_of_choice(rt, wire, choice)
-    }
-
-    /// What its node does at a turn: it gives up the least name that it waits for and that has stopped, or does what the chooser
-    /// says.
-    fn find<R: Wait>(&mut self, rt: &R, wire: &Wire<RaceLaw>, chooser: &mut Chooser) -> Turn
-        requires own { wire.now.id ≡ N.wire }
-        requires open_ { self.old.closed ≡ None }
-        ensures looks { Looks self.old self.new }
-        ensures found { Found N.plan chooser.old self.old.name self.old.seen self.new.seen
-            result.act result.lost }
-        ensures drawn { chooser.new ≡ luck_behind chooser.old result.act result.lost }
-        ensures hears { (number : ℕ) → result.act ≡ acts.Hear number
-            → Hears self.new.seen self.new.name number result.letter }
-    {
-        match self.in_vain(rt, wire) {
-            Some(name) => Turn {
-                act: Act::GiveUp(name),
-                letter: None,
-                lost: 0,
-            },
-            None => self.choose(rt, wire, chooser),
-        }
-    }
-
-    /// What its node does at a turn of a caller's call, which isn't ready. Box and caller then see the same again.
-    fn turn<R: Wait>(
-        &mut self,
-        rt: &R,
-        wire: &Wire<RaceLaw>,
-        share: &mut Share,
-        chooser: &mut Chooser,
-        tag: Tag,
-    ) -> Turn
-        requires own { wire.now.id ≡ N.wire }
-        requires open_ { self.old.closed ≡ None }
-        requires share { IsShareOf N.wire N.plan tag.caller share.old }
-        requires met { share.old.seen ≡ self.old.seen }
-        requires luck { chooser.old ≡ luck_after N.plan tag.caller
-            (words_drawn tag.caller self.old.seen) }
-        requires unready { is_ready (node_by N.plan self.old.seen self.old.name)
-            (own_of (of_call tag.caller tag.call self.old.seen)) ≡ false }
-        ensures looks { Looks self.old self.new }
-        ensures share { Sees share.old share.new }
-        ensures met { share.new.seen ≡ self.new.seen }
-        ensures few { length self.new.seen ≤ most_events }
-        ensures turn { is_turn (plan_by (terms_of N.plan)) self.new.seen
-            (event_at self.old.name result.act) (turn_by tag.caller tag.call result.lost) ≡ true }
-        ensures hears { (number : ℕ) → result.act ≡ acts.Hear number
-            → Hears self.new.seen self.new.name number result.letter }
-        ensures drawn { chooser.new ≡ luck_behind chooser.old result.act result.lost }
-    {
-        let turn = self.find(rt, wire, chooser);
-        wire.meet(&mut self.pass, share);
-        turn
-    }
-
     /// Whether the end of a call would tell its answer, so that it makes no turn. Its node then tells one.
     fn is_ready(&self, act: &Act, came: &Option<Came>) -> bool
         requires open_ { self.now.closed ≡ None }
@@ -424,40 +280,6 @@ impl<N: Racing> NodeBox<N> {
             None => may_take(&self.node),
             Some(came) => is_ready_after(&self.node, act, came),
         }
-    }
-
-    /// Whether there is a letter for its node that it hasn't come to.
-    fn has_letter<R: Wait>(&mut self, rt: &R, wire: &Wire<RaceLaw>) -> bool
-        requires own { wire.now.id ≡ N.wire }
-        requires open_ { self.old.closed ≡ None }
-        ensures looks { Looks self.old self.new }
-    {
-        let ahead = wire.next_for(rt, &mut self.pass, self.name, self.cursor);
-        ahead.is_some()
-    }
-
-    /// Whether a look of a call would do more than tick: it ends, or is refused, or its node gives somebody up or comes to a letter.
-    /// No clause says so, and a call that goes by it may tick all the same.
-    pub fn has_to_do<R: Wait>(
-        &mut self,
-        rt: &R,
-        wire: &Wire<RaceLaw>,
-        act: &Act,
-        came: &Option<Came>,
-    ) -> bool
-        requires own { wire.now.id ≡ N.wire }
-        ensures { self.new.name ≡ self.old.name }
-    {
-        if let Some(_refusal) = self.closed {
-            return true;
-        }
-        if self.is_stopped || self.is_ready(act, came) {
-            return true;
-        }
-        if let Some(_name) = self.in_vain(rt, wire) {
-            return true;
-        }
-        self.has_letter(rt, wire)
     }
 
     /// The box and a caller see what either has seen. It is an error where the box does nothing more.

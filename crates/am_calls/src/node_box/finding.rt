@@ -1,0 +1,201 @@
+ghost use Rattle.std.specs.Prelude.{◌≡◌, ℕ, ◌<◌, ◌≤◌, None, Some, length, IfSome, IfNone, Option, true, false};
+ghost use Rattle.am_base.specs.Most.{most_events};
+ghost use Rattle.am_wire.specs.Passes.{Sees};
+ghost use Rattle.am_races.specs.Boxes.{IsShareOf, Looks, Hears, GivesUp, node_by, heard_in, lost_in, Picked, is_turn_act, Found, event_at, turn_by};
+ghost use Rattle.am_races.specs.Callings.{luck_after};
+ghost use Rattle.am_races.specs.Going.{luck_behind};
+ghost use Rattle.am_races.specs.Ready.{is_ready};
+ghost use Rattle.am_races.specs.Tags.{of_call, own_of};
+ghost use Rattle.am_chooser.specs.Choices.{act_of};
+ghost use Rattle.am_group.specs.declared.event.Act.TheVariants as acts;
+ghost use Rattle.am_races.specs.Lawful.{IsSent, plan_by, terms_of};
+ghost use Rattle.am_races.specs.Turns.{waits_in_vain, words_drawn, is_turn};
+
+use super::NodeBox;
+use crate::naming::{RaceLaw, Racing};
+use am_answers::acts::least_of_both;
+use am_base::name::Name;
+use am_chooser::chooser::{Choice, Chooser};
+use am_group::event::Act;
+use am_post::letter::LetterCopy;
+use am_races::call::{Came, Tag};
+use am_wire::wire::{Share, Wire};
+use std::sync::Wait;
+
+/// A turn: what the node does, the letter that it hears, and the number of the letter that it lost, or 0.
+#[derive(Drop)]
+pub(super) struct Turn {
+    pub(super) act: Act,
+    pub(super) letter: Option<LetterCopy>,
+    pub(super) lost: u32,
+}
+
+impl<N: Racing> NodeBox<N> {
+    /// The least name that its ballot waits for and that has stopped.
+    fn in_vain<R: Wait>(&mut self, rt: &R, wire: &Wire<RaceLaw>) -> Option<Name>
+        requires own { wire.now.id ≡ N.wire }
+        requires open_ { self.old.closed ≡ None }
+        ensures looks { Looks self.old self.new }
+        ensures some { IfSome result (GivesUp N.plan self.new.seen self.new.name) }
+        ensures none { IfNone result (waits_in_vain
+            (node_by N.plan self.new.seen self.new.name) self.new.seen ≡ false) }
+    {
+        let waited = self.node.waits_for();
+        waited.lowest()?;
+        let stopped = wire.stopped_names(rt, &mut self.pass);
+        least_of_both(waited, stopped)
+    }
+
+    /// A letter that was sent to its node.
+    fn letter<R: Wait>(&mut self, rt: &R, wire: &Wire<RaceLaw>, number: u32) -> LetterCopy
+        requires own { wire.now.id ≡ N.wire }
+        requires open_ { self.old.closed ≡ None }
+        requires sent { IsSent self.old.seen self.old.name number }
+        ensures looks { Looks self.old self.new }
+        ensures hears { Hears self.new.seen self.new.name number (Some result) }
+    {
+        match wire.read(rt, &mut self.pass, number) {
+            Some(letter) => {
+                let _bytes = letter.bytes();
+                letter
+            }
+            None => unreachable!(),
+        }
+    }
+
+    /// What a choice does, which hears only what was sent to the node.
+    fn turn_of_choice<R: Wait>(&mut self, rt: &R, wire: &Wire<RaceLaw>, choice: Choice) -> Turn
+        requires own { wire.now.id ≡ N.wire }
+        requires open_ { self.old.closed ≡ None }
+        requires sent { (number : ℕ) → heard_in choice ≡ Some number
+            → IsSent self.old.seen self.old.name number }
+        ensures looks { Looks self.old self.new }
+        ensures act_ { result.act ≡ act_of choice }
+        ensures lost_ { result.lost ≡ lost_in choice }
+        ensures hears { (number : ℕ) → heard_in choice ≡ Some number
+            → Hears self.new.seen self.new.name number result.letter }
+    {
+        match choice {
+            Choice::Tick => Turn {
+                act: Act::Tick,
+                letter: None,
+                lost: 0,
+            },
+            Choice::Lose(number) => Turn {
+                act: Act::Tick,
+                letter: None,
+                lost: number,
+            },
+            Choice::Hear(number) | Choice::Repeat(number) => Turn {
+                act: Act::Hear(number),
+                letter: Some(self.letter(rt, wire, number)),
+                lost: 0,
+            },
+        }
+    }
+
+    /// What the chooser says by the letters for its node.
+    fn choose<R: Wait>(&mut self, rt: &R, wire: &Wire<RaceLaw>, chooser: &mut Chooser) -> Turn
+        requires own { wire.now.id ≡ N.wire }
+        requires open_ { self.old.closed ≡ None }
+        ensures looks { Looks self.old self.new }
+        ensures picked { Picked chooser.old self.old.name self.old.seen self.new.seen result.act
+            result.lost }
+        ensures hears { (number : ℕ) → result.act ≡ acts.Hear number
+            → Hears self.new.seen self.new.name number result.letter }
+        ensures turns { is_turn_act result.act ≡ true }
+        ensures drawn { chooser.new ≡ luck_behind chooser.old result.act result.lost }
+    {
+        let ahead = wire.next_for(rt, &mut self.pass, self.name, self.cursor);
+        let choice = chooser.choose(ahead, self.last);
+        self.turn_of_choice(rt, wire, choice)
+    }
+
+    /// What its node does at a turn: it gives up the least name that it waits for and that has stopped, or does what the chooser
+    /// says.
+    fn find<R: Wait>(&mut self, rt: &R, wire: &Wire<RaceLaw>, chooser: &mut Chooser) -> Turn
+        requires own { wire.now.id ≡ N.wire }
+        requires open_ { self.old.closed ≡ None }
+        ensures looks { Looks self.old self.new }
+        ensures found { Found N.plan chooser.old self.old.name self.old.seen self.new.seen
+            result.act result.lost }
+        ensures drawn { chooser.new ≡ luck_behind chooser.old result.act result.lost }
+        ensures hears { (number : ℕ) → result.act ≡ acts.Hear number
+            → Hears self.new.seen self.new.name number result.letter }
+    {
+        match self.in_vain(rt, wire) {
+            Some(name) => Turn {
+                act: Act::GiveUp(name),
+                letter: None,
+                lost: 0,
+            },
+            None => self.choose(rt, wire, chooser),
+        }
+    }
+
+    /// What its node does at a turn of a caller's call, which isn't ready. Box and caller then see the same again.
+    pub(super) fn turn<R: Wait>(
+        &mut self,
+        rt: &R,
+        wire: &Wire<RaceLaw>,
+        share: &mut Share,
+        chooser: &mut Chooser,
+        tag: Tag,
+    ) -> Turn
+        requires own { wire.now.id ≡ N.wire }
+        requires open_ { self.old.closed ≡ None }
+        requires share { IsShareOf N.wire N.plan tag.caller share.old }
+        requires met { share.old.seen ≡ self.old.seen }
+        requires luck { chooser.old ≡ luck_after N.plan tag.caller
+            (words_drawn tag.caller self.old.seen) }
+        requires unready { is_ready (node_by N.plan self.old.seen self.old.name)
+            (own_of (of_call tag.caller tag.call self.old.seen)) ≡ false }
+        ensures looks { Looks self.old self.new }
+        ensures share { Sees share.old share.new }
+        ensures met { share.new.seen ≡ self.new.seen }
+        ensures few { length self.new.seen ≤ most_events }
+        ensures turn { is_turn (plan_by (terms_of N.plan)) self.new.seen
+            (event_at self.old.name result.act) (turn_by tag.caller tag.call result.lost) ≡ true }
+        ensures hears { (number : ℕ) → result.act ≡ acts.Hear number
+            → Hears self.new.seen self.new.name number result.letter }
+        ensures drawn { chooser.new ≡ luck_behind chooser.old result.act result.lost }
+    {
+        let turn = self.find(rt, wire, chooser);
+        wire.meet(&mut self.pass, share);
+        turn
+    }
+
+    /// Whether there is a letter for its node that it hasn't come to.
+    fn has_letter<R: Wait>(&mut self, rt: &R, wire: &Wire<RaceLaw>) -> bool
+        requires own { wire.now.id ≡ N.wire }
+        requires open_ { self.old.closed ≡ None }
+        ensures looks { Looks self.old self.new }
+    {
+        let ahead = wire.next_for(rt, &mut self.pass, self.name, self.cursor);
+        ahead.is_some()
+    }
+
+    /// Whether a look of a call would do more than tick: it ends, or is refused, or its node gives somebody up or comes to a letter.
+    /// No clause says so, and a call that goes by it may tick all the same.
+    pub fn has_to_do<R: Wait>(
+        &mut self,
+        rt: &R,
+        wire: &Wire<RaceLaw>,
+        act: &Act,
+        came: &Option<Came>,
+    ) -> bool
+        requires own { wire.now.id ≡ N.wire }
+        ensures { self.new.name ≡ self.old.name }
+    {
+        if let Some(_refusal) = self.closed {
+            return true;
+        }
+        if self.is_stopped || self.is_ready(act, came) {
+            return true;
+        }
+        if let Some(_name) = self.in_vain(rt, wire) {
+            return true;
+        }
+        self.has_letter(rt, wire)
+    }
+}
