@@ -159,7 +159,9 @@ def place(function: str, folder: pathlib.Path) -> tuple[str, int, int] | None:
     for depth in (len(parts) - 1, len(parts) - 2):
         owner = parts[depth] if depth == len(parts) - 2 else ""
         module = "/".join(parts[:depth])
-        for file in [f"src/{module}.rt", f"src/{module}/mod.rt"] if module else ["src/lib.rt", "src/main.rt"]:
+        own = [f"src/{module}.rt", f"src/{module}/mod.rt"] if module else ["src/lib.rt", "src/main.rt"]
+        others = sorted(str(it.relative_to(folder)) for it in folder.glob("src/**/*.rt")) if owner else []  # a type's methods may stand elsewhere
+        for file in own + others:
             lines = lines_in((folder / file).read_text(), owner, parts[-1]) if depth >= 0 and (folder / file).is_file() else None
             if lines:
                 return file, *lines

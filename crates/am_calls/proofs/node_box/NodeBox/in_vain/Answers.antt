@@ -4,8 +4,8 @@ use Rattle.am_races.specs.Boxes.{IsBox, GivesUp, node_by}
 use Rattle.am_races.specs.Turns.{waits_in_vain}
 use Rattle.am_races.proofs.Boxing.{sees_more, same_closed}
 use Rattle.am_races.proofs.Turning.{found_by}
-use Rattle.am_calls.proofs.node_box.finding.NodeBox.in_vain.Given.{Over}
-use Rattle.am_calls.proofs.node_box.finding.NodeBox.in_vain.Goals as goal
+use Rattle.am_calls.proofs.node_box.NodeBox.in_vain.Given.{Over}
+use Rattle.am_calls.proofs.node_box.NodeBox.in_vain.Goals as goal
 
 after : (g : Over) (c : goal.After-least_of_both g)
     → IsBox g.N.Racing.wire g.N.Racing.plan c.self.inside.name c.stopped_names-stopped.new.pass (state_of c.self.inside.node) c.self.inside.cursor

@@ -2,7 +2,7 @@ use Rattle.std.proofs.Common.{ℕ, ◌<◌, sym, ◌∙◌, arith}
 use Rattle.am_races.proofs.Boxing.{sees_more, same_closed, goes_place}
 use Rattle.am_races.proofs.Turning.{choice_sent, looks_through, ahead_is_sent}
 use Rattle.am_races.proofs.Hands.{drawn_by, last_high}
-use Rattle.am_calls.proofs.node_box.finding.NodeBox.choose.Goals as goal
+use Rattle.am_calls.proofs.node_box.NodeBox.choose.Goals as goal
 
 pub invariant_of-self : goal.invariant_of-self
 invariant_of-self g c = sees_more _ _ _ _ _ _ _ _ _ _ _ c.self.view_is c.self.invariant c.requires.open_ c.next_for-ahead.ensures.sees

@@ -3,7 +3,7 @@ use Rattle.am_races.specs.Boxes.{Boxed}
 use Rattle.am_races.specs.Lawful.{IsSent}
 use Rattle.am_races.proofs.Boxing.{sees_more}
 use Rattle.am_races.proofs.Turning.{sent_by, not_there, hears_it}
-use Rattle.am_calls.proofs.node_box.finding.NodeBox.letter.Goals as goal
+use Rattle.am_calls.proofs.node_box.NodeBox.letter.Goals as goal
 
 pub invariant_of-self : goal.invariant_of-self
 invariant_of-self g c = sees_more _ _ _ _ _ _ _ _ _ _ _ c.self.view_is c.self.invariant c.requires.open_ c.read.ensures.sees c.read.ensures.lawful

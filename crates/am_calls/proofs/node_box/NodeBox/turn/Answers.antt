@@ -1,6 +1,6 @@
 use Rattle.am_races.proofs.Boxing.{box_sees}
 use Rattle.am_races.proofs.Finding.{turn_by_box}
-use Rattle.am_calls.proofs.node_box.finding.NodeBox.turn.Goals as goal
+use Rattle.am_calls.proofs.node_box.NodeBox.turn.Goals as goal
 
 pub invariant_of-self : goal.invariant_of-self
 invariant_of-self g c = box_sees _ _ _ _ _ _ _ _ _ _ c.self.invariant c.meet.ensures.pass c.meet.ensures.lawful c.meet.ensures.few
