@@ -267,9 +267,16 @@ def try_round(crate, edits: list[Edit], room: pathlib.Path, guard: list[str]) ->
     return tried
 
 
-def try_crate(name: str, whole: pathlib.Path, guard: list[str]) -> Tried:
-    """Tries all edits of a crate."""
+def known(name: str):
+    """A crate of crates.txt, with all that it stands on. Two threads mustn't read crates at once: each would make its own."""
     crate = toolchain().Crate(str(CRATES / name), str(TOP), KNOWN)
+    crate.below()
+    return crate
+
+
+def try_crate(crate, whole: pathlib.Path, guard: list[str]) -> Tried:
+    """Tries all edits of a crate."""
+    name = crate.name
     lacking = [it.name for it in crate.below() if not is_there(it)]
     if lacking:
         return Tried(failed=[f"{', '.join(lacking)} of the crates below isn't built of its sources: run rt ci, or rt lib there"])
@@ -310,9 +317,9 @@ def chosen() -> list[str]:
 
 def main() -> int:
     """Tries those of each crate."""
-    names, guard, refused, failed = chosen(), toolchain().guarded(), 0, 0
+    crates, guard, refused, failed = [known(name) for name in chosen()], toolchain().guarded(), 0, 0
     with tempfile.TemporaryDirectory() as whole, concurrent.futures.ThreadPoolExecutor(places()) as pool:
-        runs = {pool.submit(try_crate, name, pathlib.Path(whole), guard): name for name in names}
+        runs = {pool.submit(try_crate, crate, pathlib.Path(whole), guard): crate.name for crate in crates}
         for run in concurrent.futures.as_completed(runs):
             tried = run.result()
             print(f"{runs[run]}: {count(len(tried.refused))} in {tried.seconds:.0f} s of processor", flush=True)
