@@ -209,9 +209,10 @@ def is_refused(edit: Edit, said: str, crate: str, folder: pathlib.Path) -> bool:
     if not found or not re.search(rf"^fn {crate}::{re.escape(edit.function)}: (?:not proved|no proof)", said, re.M):
         return False
     file, first, last = found
-    proof = f"proofs/{edit.function.replace('::', '/')}/"
+    way, _, name = edit.function.replace("::", "/").rpartition("/")
+    proofs = tuple(f"{pathlib.PurePath('proofs', way, of)}/" for of in (name, f"+{name}"))  # the second where it calls itself
     causes = [(at, int(line)) for at, line, why in CAUSE.findall(said) if not GONE.search(why)]
-    return any(at.startswith(proof) or at == file and first <= line <= last for at, line in causes)
+    return any(at.startswith(proofs) or at == file and first <= line <= last for at, line in causes)
 
 
 def check(crate, folder: pathlib.Path, functions: list[str], kept: pathlib.Path, guard: list[str]) -> tuple[str, int, float]:
