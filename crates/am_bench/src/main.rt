@@ -1,166 +1,40 @@
-//! Times encoding, decoding and the look-up of a packet. Without arguments it does each once and prints nothing.
+//! Times what nodes and races do most.
+//!
+//!     am_bench codec COUNT          packets that are read and written, and letters that are looked up, so many times
+//!     am_bench parts                a node's history and fronts
+//!     am_bench race THREADS ROUNDS  events a second of so many races, over nodes with a lock each and over one lock round the group
+//!     am_bench                      a little of parts and of a race of one thread: what came of it
 #![tactic(auto)]
 
-ghost use Rattle.am_codec.specs.Limits.{IsWithin};
+mod codec;
+mod locked;
+mod parts;
+mod races;
 
-use am_base::body::PacketBytes;
-use am_base::founding::Founding;
-use am_base::items::Items;
-use am_base::name::{Name, Stamp};
-use am_base::names::Names;
-use am_base::outcome::Outcome;
-use am_group::event::{Act, By, Event, Part, Record};
-use am_group::journal::Journal;
-use am_letter::letter::letter_of;
-use am_letter::reader::decode;
-use am_letter::writer::encode;
-use am_packet::packet::Packet;
-use am_post::letter::Letter;
-use std::alloc::{AllocError, Global};
-use std::time::Instant;
 use std::{env, io};
 
-/// An Ack of 20 bytes.
-const ACK: &[u8] = b"AG\x03\x06\x01\x00\x00\x00\x02\x00\x00\x14\x00\x00\x00\x05\x00\x00\x00\x04";
-
-/// A Request with a body of 1,024 bytes, of which the header and the numbers stand here.
-const REQUEST: &[u8] =
-    b"AG\x03\x01\x01\x00\x00\x00\x02\x00\x04\x18\x00\x00\x00\x05\x00\x00\x00\x04\x00\x00\x00\x03";
-
-/// Decodes so many times, with another last byte each time.
-fn decode_many(bytes: &mut [u8], count: u32) -> u64 {
-    let mut sum = 0u64;
-    for i in 0..count {
-        if let Some(last) = bytes.last_mut() {
-            *last = (i % 256) as u8;
-        }
-        if let Ok(packet) = &decode(bytes) {
-            sum = sum.wrapping_add(u64::from(packet.kind()));
-        }
+/// The number of a word, or 0.
+fn number_in(words: &[String], at: usize) -> u32 {
+    match words.get(at) {
+        Some(word) => word.as_str().parse::<u32>().unwrap_or(0),
+        None => 0,
     }
-    sum
 }
 
-/// Encodes two packets in turn, so many times.
-fn encode_many(
-    alloc: Global,
-    first: &Packet,
-    second: &Packet,
-    count: u32,
-) -> Result<u64, AllocError>
-    requires first { IsWithin first.now }
-    requires second { IsWithin second.now }
-{
-    let mut written = PacketBytes::new(alloc)?;
-    let mut sum = 0u64;
-    for i in 0..count {
-        if i % 2 == 0 {
-            encode(first, &mut written);
-        } else {
-            encode(second, &mut written);
-        }
-        if let Some(last) = written.bytes().last() {
-            sum = sum.wrapping_add(u64::from(*last));
-        }
-    }
-    Ok(sum)
-}
-
-/// A letter for these names.
-#[tactic(auto, unfolding(am_codec::specs::Limits::IsWithin))]
-fn letter_to(alloc: Global, to: Names) -> Result<Letter, AllocError> {
-    let invite = Packet::Invite {
-        sender: Name::of_byte(0),
-        stamp: Stamp {
-            round: 1,
-            by: Name::of_byte(0),
-        },
-    };
-    letter_of(alloc, to, &invite)
-}
-
-/// A journal of so many records with one letter each.
-fn journal_of(alloc: Global, founding: &Founding, records: u32) -> Result<Journal, AllocError> {
-    let mut journal = Journal::new(alloc, founding);
-    for _ in 0..records {
-        let mut packets = Items::new(alloc);
-        packets.push(letter_to(alloc, founding.founders())?)?;
-        journal.reserve()?;
-        let item = Record {
-            event: Event {
-                node: Name::of_byte(0),
-                act: Act::Tick,
-            },
-            life: 1,
-            by: By {
-                caller: 0,
-                call: 0,
-                part: Part::Call,
-            },
-            outcome: Outcome::Ticked,
-            packets,
-        };
-        if journal.records().len() < 100000 && item.packets.as_slice().len() <= 24 {
-            journal.push(item);
-        }
-    }
-    Ok(journal)
-}
-
-/// Looks up so many packets, spread over the last hundred.
-fn look_up_many(journal: &Journal, count: u32) -> u64 {
-    let mut sum = 0u64;
-    let first = journal.packets().saturating_sub(100);
-    for i in 0..count {
-        if let Some(letter) = journal.packet(first.wrapping_add(i % 100 + 1)) {
-            sum = sum.wrapping_add(u64::from(letter.kind()));
-        }
-    }
-    sum
-}
-
-/// Times each part as often as the first word says, and tells what it took; without one it does each once.
 fn main(rt: HostRuntime) -> io::Result<()> {
     let alloc = rt.alloc();
     let words: Vec<String> = env::args(&rt)?.collect(alloc)?;
-    let asked = match words.get(1) {
-        Some(word) => word.as_str().parse::<u32>().unwrap_or(0),
-        None => 0,
-    };
-    let count = asked.max(1);
-    for (what, front, total) in [
-        ("20-byte Ack", ACK, 20),
-        ("1,024-byte Request", REQUEST, 1048),
-    ] {
-        let mut bytes = Vec::from_slice(alloc, front)?;
-        bytes.resize(total, 7)?;
-        let start = Instant::now(&rt)?;
-        let read = decode_many(&mut bytes, count);
-        let decoding = start.elapsed(&rt)?.as_nanos() / u128::from(count);
-        if 0 < asked {
-            println!(rt; "proved   decode {what}: {decoding} ns ({read})")?;
+    let first = number_in(words.as_slice(), 2);
+    match words.get(1).map(String::as_str) {
+        Some("codec") => codec::time(&rt, first),
+        Some("parts") => parts::measure_all(&rt, true),
+        Some("race") => {
+            let threads = first.clamp(1, 16) as u8;
+            races::time(&rt, threads, number_in(words.as_slice(), 3))
         }
-        bytes.truncate(total);
-        if let (Ok(first), Ok(second)) = (decode(&bytes), decode(&bytes)) {
-            let start = Instant::now(&rt)?;
-            let written = encode_many(rt.alloc(), &first, &second, count)?;
-            let encoding = start.elapsed(&rt)?.as_nanos() / u128::from(count);
-            if 0 < asked {
-                println!(rt; "proved   encode {what}: {encoding} ns ({written})")?;
-            }
+        _ => {
+            parts::measure_all(&rt, false)?;
+            races::compare(&rt)
         }
     }
-    let Some(founding) = Founding::new(Names::of_mask(1), 0, 64, 256) else {
-        return Ok(());
-    };
-    for records in [100u32, 10000] {
-        let journal = journal_of(alloc, &founding, records.min(count))?;
-        let start = Instant::now(&rt)?;
-        let found = look_up_many(&journal, count);
-        let looking = start.elapsed(&rt)?.as_nanos() / u128::from(count);
-        if 0 < asked {
-            println!(rt; "Journal::packet among {records}: {looking} ns ({found})")?;
-        }
-    }
-    Ok(())
 }

@@ -18,10 +18,3 @@ fn choices_go_by_the_words(rt: HostRuntime) {
         assert_eq!(rt; chooser.choose(ahead, last), wanted);
     }
 }
-
-#[test]
-fn nothing_is_repeated_before_something_was_heard(rt: HostRuntime) {
-    let mut chooser = Chooser::new(1, 1001, 0, 100);
-    assert_eq!(rt; chooser.choose(Some(1), None), Choice::Hear(1));
-    assert_eq!(rt; chooser.choose(Some(2), Some(1)), Choice::Repeat(1));
-}

@@ -2,14 +2,12 @@ ghost use Rattle.std.specs.Prelude.{IfOk};
 ghost use Rattle.am_codec.specs.Limits.{IsWithin};
 
 use am_base::names::Names;
-use am_codec::vectors::{ACK, ALL, NACK};
-use am_letter::letter::{letter_of, packet_of};
+use am_codec::vectors::{ACK, NACK};
+use am_letter::letter::packet_of;
 use am_letter::out_box::OutBox;
 use am_letter::reader::decode;
 use am_packet::packet::Packet;
 use std::test::*;
-
-const JOIN_ASK: &[u8] = b"AG\x03\x09\x11\x00\x00\x00\x00\x00\x00\x0c";
 
 /// A Request of 65 bytes, one more than stand within a letter.
 const LONG: &[u8] =
@@ -20,27 +18,6 @@ fn packet(bytes: &[u8]) -> Result<Packet, Fail>
     ensures { IfOk result IsWithin }
 {
     Ok(decode(bytes).ok().ok_or("a packet")?)
-}
-
-#[test]
-fn each_kind_has_its_bytes(rt: HostRuntime) -> Result<(), Fail> {
-    for bytes in ALL {
-        let letter = letter_of(rt.alloc(), Names::of_mask(6), &packet(bytes)?)?;
-        assert_eq!(rt; letter.bytes(), bytes);
-    }
-    Ok(())
-}
-
-#[test]
-fn a_letter_has_its_bytes(rt: HostRuntime) -> Result<(), Fail> {
-    let letter = letter_of(rt.alloc(), Names::of_mask(6), &packet(JOIN_ASK)?)?;
-    assert_eq!(rt; letter.bytes(), JOIN_ASK);
-    assert!(rt; letter.is_for_any());
-    assert_eq!(rt; letter.to().mask(), 6);
-    assert_eq!(rt; letter.kind(), 9);
-    assert_eq!(rt; packet_of(&letter).kind(), 9);
-    assert!(rt; letter.copy().bytes() == letter.bytes());
-    Ok(())
 }
 
 #[test]

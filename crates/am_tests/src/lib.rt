@@ -9,11 +9,7 @@ mod directories;
 #[cfg(test)]
 mod groups;
 #[cfg(test)]
-mod histories;
-#[cfg(test)]
 mod letters;
-#[cfg(test)]
-mod messages;
 #[cfg(test)]
 mod packets;
 #[cfg(test)]

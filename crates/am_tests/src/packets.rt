@@ -1,11 +1,12 @@
 use crate::wrong_fields::FAULTS;
-use am_base::limits::MOST_NUMBER;
+use am_base::names::Names;
 use am_codec::PacketRefusal;
 use am_codec::vectors::{
     ACCEPT, ACK, BCAST_DATA, BCAST_JOIN, BCAST_LEAVE, BCAST_VIEW, FETCH, GONE, HAND_OVER, HOLD,
     INVITE, JOIN_ASK, LEAVE_ASK, NACK, ORDER, PIECE_DATA, PIECE_JOIN, PIECE_LEAVE, PIECE_VIEW,
     REQUEST, RESULT, SPREAD, VOTE, WELCOME,
 };
+use am_letter::letter::letter_of;
 use am_letter::reader::decode;
 use std::alloc::Global;
 use std::test::*;
@@ -170,43 +171,59 @@ const TOTALS: [(&[u8], usize); 47] = [
 const TEN: &[u8] =
     b"AG\x03\x03\x00\x00\x00\x00\x01\x00\x00\x28\x00\x00\x00\x00\x00\x00\x00\x02\x00\x00\x00\x02\x01\x01\x00\x00\x00\x010123456789";
 
+/// Headers that no packet has: an offset, another byte there, and what is said of it.
+const HEADERS: [(usize, u8, PacketRefusal); 7] = [
+    (0, b'B', PacketRefusal::BadMark),
+    (1, b'A', PacketRefusal::BadMark),
+    (2, 2, PacketRefusal::BadVersion(2)),
+    (2, 4, PacketRefusal::BadVersion(4)),
+    (3, 0, PacketRefusal::BadKind(0)),
+    (3, 19, PacketRefusal::BadKind(19)),
+    (
+        11,
+        41,
+        PacketRefusal::BadLength {
+            said: 41,
+            found: 40,
+        },
+    ),
+];
+
 #[test]
-fn each_kind_is_read(rt: HostRuntime) -> Result<(), Fail> {
+fn each_kind_is_read_and_written(rt: HostRuntime) -> Result<(), Fail> {
     for vector in &VECTORS {
         let packet = decode(vector.bytes).ok().ok_or("the bytes are a packet")?;
         let text = format!(in rt.alloc(); "{packet:?}")?;
         assert_eq!(rt; text.as_str(), vector.text);
+        let letter = letter_of(rt.alloc(), Names::of_mask(6), &packet)?;
+        assert_eq!(rt; letter.bytes(), vector.bytes);
     }
     Ok(())
 }
 
-/// The bytes with another one at an offset.
-fn with_byte(alloc: Global, bytes: &[u8], at: usize, byte: u8) -> Result<Vec<u8>, Fail> {
+/// What is said of the bytes with another one at an offset.
+fn refused(
+    alloc: Global,
+    bytes: &[u8],
+    at: usize,
+    byte: u8,
+) -> Result<Option<PacketRefusal>, Fail> {
     let mut changed = Vec::from_slice(alloc, bytes)?;
     let place = changed.get_mut(at).ok_or("the offset is within")?;
     *place = byte;
-    Ok(changed)
-}
-
-/// The first so many of the bytes and zeros, with this total in their header.
-fn with_total(alloc: Global, bytes: &[u8], total: usize) -> Result<Vec<u8>, Fail> {
-    let mut changed = Vec::from_slice(alloc, bytes)?;
-    changed.resize(total, 0)?;
-    let high = changed.get_mut(10).ok_or("there is a header")?;
-    *high = (total / 256 % 256) as u8;
-    let low = changed.get_mut(11).ok_or("there is a header")?;
-    *low = (total % 256) as u8;
-    Ok(changed)
+    Ok(decode(&changed).err())
 }
 
 #[test]
-fn a_wrong_field_is_refused_at_its_offset(rt: HostRuntime) -> Result<(), Fail> {
+fn a_wrong_byte_is_refused_at_its_offset(rt: HostRuntime) -> Result<(), Fail> {
     for (packet, at, byte, refused_at) in FAULTS {
-        let bytes = with_byte(rt.alloc(), packet, at, byte)?;
-        let refused = decode(&bytes).err();
+        let wanted = Some(PacketRefusal::BadField { at: refused_at });
+        assert_eq!(rt; refused(rt.alloc(), packet, at, byte)?, wanted, "at {at}");
+    }
+    for (at, byte, wanted) in HEADERS {
         assert_eq!(rt;
-            refused,
-            Some(PacketRefusal::BadField { at: refused_at }),
+            refused(rt.alloc(), TEN, at, byte)?,
+            Some(wanted),
             "at {at}"
         );
     }
@@ -214,82 +231,16 @@ fn a_wrong_field_is_refused_at_its_offset(rt: HostRuntime) -> Result<(), Fail> {
 }
 
 #[test]
-fn the_greatest_number_is_read(rt: HostRuntime) -> Result<(), Fail> {
-    let above = PacketRefusal::BadField { at: 20 };
-    for (req, refused) in [(MOST_NUMBER, None), (MOST_NUMBER + 1, Some(above))] {
-        let mut bytes = Vec::from_slice(rt.alloc(), SPREAD)?;
-        bytes.truncate(20);
-        bytes.extend_from_slice(&req.to_be_bytes())?;
-        assert_eq!(rt; decode(&bytes).err(), refused, "of {req}");
-    }
-    Ok(())
-}
-
-#[test]
 fn a_wrong_total_is_refused(rt: HostRuntime) -> Result<(), Fail> {
     for (bytes, total) in TOTALS {
-        let changed = with_total(rt.alloc(), bytes, total)?;
-        let refused = decode(&changed).err();
-        assert_eq!(rt;
-            refused,
-            Some(PacketRefusal::BadField { at: 10 }),
-            "with {total}"
-        );
+        let mut changed = Vec::from_slice(rt.alloc(), bytes)?;
+        changed.resize(total, 0)?;
+        let field = (total as u16).to_be_bytes();
+        for (place, byte) in changed.iter_mut().skip(10).zip(field) {
+            *place = byte;
+        }
+        let wanted = Some(PacketRefusal::BadField { at: 10 });
+        assert_eq!(rt; decode(&changed).err(), wanted, "with {total}");
     }
-    for (bytes, total) in [(REQUEST, 1048), (BCAST_DATA, 1054), (PIECE_DATA, 1050)] {
-        let changed = with_total(rt.alloc(), bytes, total)?;
-        assert!(rt; decode(&changed).is_ok(), "with {total}");
-    }
-    Ok(())
-}
-
-#[test]
-fn a_wrong_header_is_refused(rt: HostRuntime) -> Result<(), Fail> {
-    for (at, byte, refused) in [
-        (0, b'B', PacketRefusal::BadMark),
-        (1, b'A', PacketRefusal::BadMark),
-        (2, 2, PacketRefusal::BadVersion(2)),
-        (2, 4, PacketRefusal::BadVersion(4)),
-        (3, 0, PacketRefusal::BadKind(0)),
-        (3, 19, PacketRefusal::BadKind(19)),
-        (
-            11,
-            41,
-            PacketRefusal::BadLength {
-                said: 41,
-                found: 40,
-            },
-        ),
-    ] {
-        let bytes = with_byte(rt.alloc(), TEN, at, byte)?;
-        assert_eq!(rt; decode(&bytes).err(), Some(refused), "at {at}");
-    }
-    Ok(())
-}
-
-#[test]
-fn no_part_and_no_more_is_a_packet(rt: HostRuntime) -> Result<(), Fail> {
-    let mut more = Vec::from_slice(rt.alloc(), TEN)?;
-    more.push(0)?;
-    for (found, _) in more.iter().enumerate() {
-        let refused = decode(&more[..found]).err();
-        let wanted = match found {
-            0..12 => Some(PacketRefusal::Short),
-            12..40 => Some(PacketRefusal::BadLength {
-                said: 40,
-                found: found as u32,
-            }),
-            _ => None,
-        };
-        assert_eq!(rt; refused, wanted, "of {found}");
-    }
-    let refused = decode(&more).err();
-    assert_eq!(rt;
-        refused,
-        Some(PacketRefusal::BadLength {
-            said: 40,
-            found: 41
-        })
-    );
     Ok(())
 }

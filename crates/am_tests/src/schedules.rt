@@ -54,17 +54,10 @@ fn acts_with_texts() -> [(u8, Act, &'static str); 14] {
     ]
 }
 
-fn founding(names: &[u8], resilience: u8, window: u16, pb_up_to: u16) -> Option<Founding> {
-    let mut founders = Names::empty();
-    for byte in names {
-        founders = founders.with(Name::of_byte(*byte));
-    }
-    Founding::new(founders, resilience, window, pb_up_to)
-}
-
 #[test]
 fn each_act_in_a_script(rt: HostRuntime) -> Result<(), Fail> {
-    let founding = founding(&[14, 0, 3], 2, 1008, 1024).ok_or("a founding")?;
+    let founders = Names::of_mask(1 << 14 | 1 << 3 | 1);
+    let founding = Founding::new(founders, 2, 1008, 1024).ok_or("a founding")?;
     for (byte, act, event) in acts_with_texts() {
         let node = Name::of_byte(byte);
         let events = [Event { node, act }];
@@ -73,34 +66,5 @@ fn each_act_in_a_script(rt: HostRuntime) -> Result<(), Fail> {
         let wanted = format!(in rt.alloc(); r#"{{"play":{{"events":[{event}{tail}"#)?;
         assert!(rt; text.as_str() == wanted.as_str(), "{event}");
     }
-    Ok(())
-}
-
-#[test]
-fn sends_in_a_script(rt: HostRuntime) -> Result<(), Fail> {
-    let founding = founding(&[0], 0, 64, 256).ok_or("a founding")?;
-    let node = Name::of_byte(0);
-    let none = script_text(rt.alloc(), &founding, &[])?;
-    let empty =
-        r#"{"play":{"events":[],"founders":[0],"pb_up_to":256,"resilience":0,"window":64}}"#;
-    assert!(rt; none.as_str() == empty);
-    let events = [
-        Event {
-            node,
-            act: Act::send(rt.alloc(), Body::of(b"a").ok_or("a body")?)?,
-        },
-        Event {
-            node,
-            act: Act::Done(1),
-        },
-        Event {
-            node,
-            act: Act::send(rt.alloc(), Body::of(b"").ok_or("a body")?)?,
-        },
-    ];
-    let text = script_text(rt.alloc(), &founding, &events)?;
-    let wanted =
-        r#"{"play":{"events":[{"body":"61","do":"send","node":0},{"do":"done","node":0,"req":1},{"body":"","do":"send","node":0}],"founders":[0],"pb_up_to":256,"resilience":0,"window":64}}"#;
-    assert!(rt; text.as_str() == wanted);
     Ok(())
 }

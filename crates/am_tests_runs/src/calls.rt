@@ -1,6 +1,5 @@
 ghost use Rattle.std.specs.Prelude.{◌≡◌, IfOk};
 
-use am_base::body::Body;
 use am_base::founding::Founding;
 use am_base::items::Items;
 use am_base::name::Name;
@@ -11,7 +10,6 @@ use am_calls::job::{Job, let_do};
 use am_calls::kernels::Kernels;
 use am_calls::naming::Racing;
 use am_calls::race::race;
-use am_group::delivered::deliveries;
 use am_group::event::{Act, By};
 use am_group::plan::{RacePlan, ThreadPlan};
 use std::sync::Wait;
@@ -56,23 +54,6 @@ fn two_nodes_at_once(rt: HostRuntime) -> Result<(), Fail> {
     Ok(())
 }
 
-/// A thread sends and receives, and another receives the same.
-#[test]
-fn both_receive_what_one_sends(rt: HostRuntime) -> Result<(), Fail> {
-    let alloc = rt.alloc();
-    let body = Body::of(b"a").ok_or("a body")?;
-    let sends = vec![in alloc; Act::send(alloc, body)?, Act::Take, Act::Take]?;
-    let first = thread_of(0, sends);
-    let second = thread_of(1, vec![in alloc; Act::Take, Act::Take]?);
-    let plan = plan_of(3, vec![in alloc; first, second]?, 10000)?;
-    let journal = race(&rt, alloc, &plan, &NoGate).ok().ok_or("a journal")?;
-    for node in [0, 1] {
-        let given = deliveries(alloc, journal.records(), Name::of_byte(node))?;
-        assert_eq!(rt; given.len(), 2, "of {node}");
-    }
-    Ok(())
-}
-
 /// Counts the acts that are done under two nodes' locks, and those of two callers.
 #[derive(Drop)]
 struct Counting {
@@ -88,12 +69,13 @@ impl Gate for Counting {
 }
 
 // A second receive of a member that has nothing more to take makes its three turns, and takes nothing: the second caller, at
-// the first node, has five records, and the first caller, at the second node, has one.
+// the first node, has five records, and the first caller, at the second node, has one. Of a node's name only the place counts:
+// the second caller's is of its place's second life, and asks the first one.
 #[test]
 fn each_act_passes_the_gate(rt: HostRuntime) -> Result<(), Fail> {
     let alloc = rt.alloc();
     let one = thread_of(1, vec![in alloc; Act::Take]?);
-    let two = thread_of(0, vec![in alloc; Act::Take, Act::Take]?);
+    let two = thread_of(16, vec![in alloc; Act::Take, Act::Take]?);
     let plan = plan_of(3, vec![in alloc; one, two]?, 3)?;
     let gate = Counting {
         nodes: [AtomicU64::new(0), AtomicU64::new(0)],
@@ -105,30 +87,6 @@ fn each_act_passes_the_gate(rt: HostRuntime) -> Result<(), Fail> {
     assert_eq!(rt; gate.nodes[1].load(Ordering::SeqCst), 1);
     assert_eq!(rt; gate.callers[0].load(Ordering::SeqCst), 1);
     assert_eq!(rt; gate.callers[1].load(Ordering::SeqCst), 5);
-    Ok(())
-}
-
-// Of a node's name only the place counts: a name of a later life asks the place's first one.
-#[test]
-fn later_lives_call_at_their_place(rt: HostRuntime) -> Result<(), Fail> {
-    let alloc = rt.alloc();
-    let body = Body::of(b"a").ok_or("a body")?;
-    let reset = Act::Reset {
-        least: 1,
-        resilience: 0,
-    };
-    let calls = vec![in alloc;
-        Act::send(alloc, body)?,
-        Act::Take,
-        Act::Take,
-        Act::Join,
-        reset,
-        Act::Leave,
-        Act::Stop,
-    ]?;
-    let plan = plan_of(1, vec![in alloc; thread_of(16, calls)]?, 3)?;
-    let journal = race(&rt, alloc, &plan, &NoGate).ok().ok_or("a journal")?;
-    assert_eq!(rt; journal.records().len(), 8);
     Ok(())
 }
 

@@ -6,8 +6,4 @@ mod calls;
 #[cfg(test)]
 mod echoes;
 #[cfg(test)]
-mod pumps;
-#[cfg(test)]
 mod settlings;
-#[cfg(test)]
-mod worlds;

@@ -36,16 +36,3 @@ fn who_runs_ticks_in_each_round(rt: HostRuntime) -> Result<(), Fail> {
     assert_eq!(rt; ticks, [0, 4, 4, 4, 4, 4, 4, 4, 4, 4, 4, 4, 4, 4, 4, 4]);
     Ok(())
 }
-
-// Sixteen places that have stopped do nothing more.
-#[test]
-fn nobody_who_stopped_ticks(rt: HostRuntime) -> Result<(), Fail> {
-    let founding = Founding::new(Names::of_mask(3), 0, 1, 256).ok_or("a founding")?;
-    let mut world = World::new(rt.alloc(), &founding)?;
-    for place in 0..16u8 {
-        assert!(rt; world.step(&stop(place)).is_ok());
-    }
-    assert!(rt; settle(&mut world).is_ok());
-    assert_eq!(rt; world.journal().records().len(), 16);
-    Ok(())
-}

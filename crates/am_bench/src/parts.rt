@@ -1,6 +1,3 @@
-//! What a node calls most, over and over. It prints what came of it, and with the word `time` how long each call took.
-#![tactic(auto)]
-
 ghost use Rattle.std.specs.Prelude.{◌≡◌, ◌+◌, ◌≤◌, IfOk};
 ghost use Rattle.am_base.specs.Most.{most_window};
 ghost use Rattle.am_base.specs.Limits.{IsEntry};
@@ -15,9 +12,9 @@ use am_core::log::Log;
 use am_fronts::fronts::Fronts;
 use am_history::history::History;
 use std::alloc::{AllocError, Global};
+use std::io;
 use std::rt::Clock;
 use std::time::Instant;
-use std::{env, io};
 
 /// How many times a history is filled and emptied for one line, where that is timed.
 const ROUNDS: u32 = 400;
@@ -246,13 +243,10 @@ fn measure_fronts(
     Ok(())
 }
 
-/// Measures histories of two sizes, and then the accept front.
-fn main(rt: HostRuntime) -> io::Result<()> {
-    let alloc = rt.alloc();
-    let words: Vec<String> = env::args(&rt)?.collect(alloc)?;
-    let timed = words.iter().any(|word| word.as_str() == "time");
+/// Fills, reads and empties histories of two sizes, and finds accept fronts. It prints how long each call took, or else what came of it.
+pub fn measure_all(rt: &(impl Clock + Print + AllocGlobal), timed: bool) -> io::Result<()> {
     let body = Body::default();
-    measure(&rt, 112, &body, timed)?;
-    measure(&rt, 1008, &body, timed)?;
-    measure_fronts(&rt, &body, timed)
+    measure(rt, 112, &body, timed)?;
+    measure(rt, 1008, &body, timed)?;
+    measure_fronts(rt, &body, timed)
 }

@@ -1,9 +1,4 @@
-//! Calls of threads, over nodes with a lock each and one shared journal, or over one lock round a whole group. Without arguments
-//! it prints how many records one thread leaves in each; with a number of threads and one of rounds, how many events a second.
-#![tactic(auto)]
-
-mod locked;
-
+use crate::locked::race_in_one;
 use am_base::NoMemory;
 use am_base::body::Body;
 use am_base::founding::Founding;
@@ -15,13 +10,12 @@ use am_calls::plans::may_race;
 use am_calls::race::race;
 use am_group::event::Act;
 use am_group::plan::{RacePlan, ThreadPlan};
-use locked::race_in_one;
 use std::alloc::Global;
+use std::io;
 use std::rt::Clock;
 use std::sync::Wait;
 use std::thread::Threads;
 use std::time::Instant;
-use std::{env, io};
 
 /// How many turns a call has.
 const TURNS: u32 = 200;
@@ -107,33 +101,35 @@ fn rate<R: Clock + Threads + Wait + Sync>(
     Ok(u128::from(events) * 1_000_000 / spent)
 }
 
-/// The number of a word, or 0.
-fn number_in(words: &[String], at: usize) -> u32 {
-    match words.get(at) {
-        Some(word) => word.as_str().parse::<u32>().unwrap_or(0),
-        None => 0,
-    }
+/// The race of so many threads, at a founder each.
+fn plan_for(alloc: Global, threads: u8) -> io::Result<Option<RacePlan>> {
+    let founders = Names::of_mask(u16::MAX >> (16 - threads.clamp(1, 16)));
+    let Some(founding) = Founding::new(founders, 0, 64, 256) else {
+        return Ok(None);
+    };
+    Ok(Some(plan_of(alloc, founding, threads)?))
 }
 
-fn main(rt: HostRuntime) -> io::Result<()> {
-    let alloc = rt.alloc();
-    let words: Vec<String> = env::args(&rt)?.collect(alloc)?;
-    let threads = number_in(words.as_slice(), 1).clamp(1, 16) as u8;
-    let rounds = number_in(words.as_slice(), 2);
-    let founders = Names::of_mask(u16::MAX >> (16 - threads));
-    let Some(founding) = Founding::new(founders, 0, 64, 256) else {
+/// Prints how many records one thread leaves over nodes, and over one lock round the group.
+pub fn compare<R: Print + AllocGlobal + Threads + Wait + Sync>(rt: &R) -> io::Result<()> {
+    let Some(plan) = plan_for(rt.alloc(), 1)? else {
         return Ok(());
     };
-    let plan = plan_of(alloc, founding, threads)?;
-    if rounds == 0 {
-        println!(rt;
-            "{} {}",
-            records(&rt, alloc, &plan, Lock::Node),
-            records(&rt, alloc, &plan, Lock::Group)
-        )?;
+    let nodes = records(rt, rt.alloc(), &plan, Lock::Node);
+    let group = records(rt, rt.alloc(), &plan, Lock::Group);
+    println!(rt; "{nodes} {group}")
+}
+
+/// Prints how many events a second so many races of so many threads do, over nodes and over one lock round the group.
+pub fn time<R: Clock + Print + AllocGlobal + Threads + Wait + Sync>(
+    rt: &R,
+    threads: u8,
+    rounds: u32,
+) -> io::Result<()> {
+    let Some(plan) = plan_for(rt.alloc(), threads)? else {
         return Ok(());
-    }
-    let nodes = rate(&rt, alloc, &plan, Lock::Node, rounds)?;
-    let group = rate(&rt, alloc, &plan, Lock::Group, rounds)?;
+    };
+    let nodes = rate(rt, rt.alloc(), &plan, Lock::Node, rounds)?;
+    let group = rate(rt, rt.alloc(), &plan, Lock::Group, rounds)?;
     println!(rt; "{threads} {nodes} {group}")
 }

@@ -1,5 +1,5 @@
 use Rattle.std.proofs.Common.{◌≡◌}
-use Rattle.am_bench_parts.proofs.empty.Given as goal
+use Rattle.am_bench.proofs.parts.fill.Given as goal
 
 abbrev pub invariant-loop : goal.invariant-loop
 invariant-loop l = l.history.capacity ≡ l.room
