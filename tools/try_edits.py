@@ -10,10 +10,11 @@ An edit is a file crates/NAME/edits/WORDS.edit of such lines:
     new: what is put in its place
 
 The function is named as a check prints it behind `fn NAME::`. Further pairs of `old:` and `new:`, and further files, apply to what the
-earlier ones made. It stands on what `rt ci` or `rt lib` has left of the crates below. All edits of a crate that change different
-functions are tried together, in one check of these functions alone. An edit is refused where its function isn't proved, for a cause at
-its own lines or in its own proof; that a proof names what is gone is no such cause. What isn't refused is tried again without the
-others, over what was proved, and last alone. Given --only, the crates that it names are tried. It prints what fails, and how many edits
+earlier ones made. It stands on what `rt ci` has proved: the crates below, as it or `rt lib` has left them, and the crate itself. All
+edits of a crate that change different functions are tried together, in one check of these functions alone; for what else of the crate
+they call, a hole stands in place of the proof, as `rt ci` has proved that. An edit is refused where its function isn't proved, for a
+cause at its own lines or in its own proof; that a proof names what is gone is no such cause. What isn't refused is tried again without
+the others, and last alone. Given --only, the crates that it names are tried. It prints what fails, and how many edits
 were refused.
 """
 
@@ -35,6 +36,8 @@ from words import words
 CRATES = TOP / "crates"
 KNOWN: dict = {}  # the crates of crates.txt that were read, by their folders
 MEMORY = 2_000_000_000  # what a check may take, in bytes
+
+PROOFS = {"Proof.antt", "Answers.antt", "Invariants.antt"}  # the files of a function's proof
 
 # what the prover says where a proof names what is no longer there
 GONE = re.compile(r"has no field|is not in scope|has no `|was not admitted")
@@ -192,6 +195,24 @@ def rounds_of(edits: list[Edit], folder: pathlib.Path) -> list[list[Edit]]:
     return together + alone
 
 
+def proof_of(function: str) -> pathlib.PurePath:
+    """The folder of a function's proof."""
+    return pathlib.PurePath("proofs", *function.split("::"))
+
+
+def hollow(crate: str, folder: pathlib.Path, functions: list[str]) -> None:
+    """Puts a hole in place of each proof of a crate's functions, but for these ones and for those that call themselves."""
+    kept = {folder / proof_of(function) for function in functions}
+    for at in {file.parent for file in folder.glob("proofs/**/*.antt") if file.name in PROOFS} - kept:
+        path = at.relative_to(folder / "proofs").parts
+        if not path or not all(re.fullmatch(r"\w+", it) for it in path):
+            continue
+        for file in PROOFS:
+            (at / file).unlink(missing_ok=True)
+        statement = f"use Rattle.{crate}.proofs.{'.'.join(path)}.Statement.{{statement}}"
+        (at / "Proof.antt").write_text(f"{statement}\n\npub {path[-1]}_spec : {{M : Type 1}} → statement M\n{path[-1]}_spec = ?\n")
+
+
 def unread(said: str, changed: set[str]) -> str:
     """The first line that tells that an edited text couldn't be read, if any, where an edit that only makes a contract false reads well."""
     for error in ERROR.finditer(said):
@@ -209,15 +230,15 @@ def is_refused(edit: Edit, said: str, crate: str, folder: pathlib.Path) -> bool:
     if not found or not re.search(rf"^fn {crate}::{re.escape(edit.function)}: (?:not proved|no proof)", said, re.M):
         return False
     file, first, last = found
-    way, _, name = edit.function.replace("::", "/").rpartition("/")
-    proofs = tuple(f"{pathlib.PurePath('proofs', way, of)}/" for of in (name, f"+{name}"))  # the second where it calls itself
+    proof = proof_of(edit.function)
+    proofs = f"{proof}/", f"{proof.with_name(f'+{proof.name}')}/"  # the second where it calls itself
     causes = [(at, int(line)) for at, line, why in CAUSE.findall(said) if not GONE.search(why)]
     return any(at.startswith(proofs) or at == file and first <= line <= last for at, line in causes)
 
 
 def check(crate, folder: pathlib.Path, functions: list[str], kept: pathlib.Path, guard: list[str]) -> tuple[str, int, float]:
     """What a check of some functions says over the libraries below, its status, and the seconds of processor that it took."""
-    call = [toolchain().RATTLE, "check", *crate.words(["--jobs", "1"], keeps=False), "--incremental", str(kept)]
+    call = [toolchain().RATTLE, "check", *crate.words(["--jobs", "1"], keeps=False), "--incremental", str(kept), "--allow-holes", "--short-goals"]
     call += [word for function in functions for word in ("--only", function)]
     with open(f"{folder}.said", "w+b") as said:
         started = subprocess.Popen([*guard, *call], cwd=folder, stdin=subprocess.DEVNULL, stdout=said, stderr=subprocess.STDOUT)
@@ -237,7 +258,9 @@ def try_together(crate, edits: list[Edit], room: pathlib.Path, guard: list[str])
         why = apply(edit, folder)
         if why or not place(edit.function, folder):
             return Tried(failed=[f"{edit.name}: {why or f'there is no function {edit.function}'}"])
-    call = crate, folder, [edit.function for edit in edits], room / "kept", guard
+    functions = [edit.function for edit in edits]
+    hollow(crate.name, folder, functions)
+    call = crate, folder, functions, room / "kept", guard
     said, status, seconds = check(*call)
     if status == -signal.SIGKILL:  # most likely for memory
         said, status, more = check(*call)

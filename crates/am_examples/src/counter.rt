@@ -33,37 +33,3 @@ impl Counter {
         Ok(true)
     }
 }
-
-#[cfg(test)]
-mod tests {
-    use super::*;
-    use am_base::body::Body;
-    use am_base::founding::Founding;
-    use am_base::names::Names;
-    use am_group::event::{Act, Event};
-    use am_settle::settle::settle;
-    use std::test::Fail;
-
-    #[test]
-    fn three_nodes_count_the_same(rt: HostRuntime) -> Result<(), Fail> {
-        let founding = Founding::new(Names::of_mask(7), 0, 64, 256).ok_or("a founding")?;
-        let mut world = World::new(rt.alloc(), &founding)?;
-        for (place, amount) in [(0, 5u8), (1, 30), (2, 7)] {
-            let body = Body::of(&[amount]).ok_or("a body")?;
-            let act = Act::send(rt.alloc(), body)?;
-            world.step(&Event {
-                node: Name::of_byte(place),
-                act,
-            })?;
-        }
-        settle(&mut world)?;
-        for place in 0..3u8 {
-            let mut counter = Counter::new(Name::of_byte(place));
-            for _ in 0..10 {
-                counter.take(&mut world)?;
-            }
-            assert_eq!(rt; counter.total, 42);
-        }
-        Ok(())
-    }
-}

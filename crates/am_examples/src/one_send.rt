@@ -16,18 +16,3 @@ pub fn one_send(alloc: Global, founding: &Founding, body: Body) -> Result<usize,
     hear_all(&mut world, 0)?;
     Ok(world.group().len())
 }
-
-#[cfg(test)]
-mod tests {
-    use super::*;
-    use am_base::names::Names;
-    use std::test::Fail;
-
-    #[test]
-    fn a_send_is_numbered(rt: HostRuntime) -> Result<(), Fail> {
-        let founding = Founding::new(Names::of_mask(3), 0, 64, 256).ok_or("a founding")?;
-        let entries = one_send(rt.alloc(), &founding, Body::default())?;
-        assert_eq!(rt; entries, 2);
-        Ok(())
-    }
-}

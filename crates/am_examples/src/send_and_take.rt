@@ -45,18 +45,3 @@ pub fn send_and_take<R: Threads + Wait + Sync>(
     }
     Ok(race(rt, alloc, &plan, &NoGate)?.records().len())
 }
-
-#[cfg(test)]
-mod tests {
-    use super::*;
-    use am_base::names::Names;
-    use std::test::Fail;
-
-    #[test]
-    fn two_threads_leave_their_records(rt: HostRuntime) -> Result<(), Fail> {
-        let founding = Founding::new(Names::of_mask(3), 0, 64, 256).ok_or("a founding")?;
-        let records = send_and_take(&rt, rt.alloc(), founding, Body::default())?;
-        assert!(rt; 2 <= records);
-        Ok(())
-    }
-}

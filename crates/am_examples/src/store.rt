@@ -31,34 +31,3 @@ pub fn put(
     })?;
     Ok(true)
 }
-
-#[cfg(test)]
-mod tests {
-    use super::*;
-    use am_base::founding::Founding;
-    use am_base::names::Names;
-    use std::test::Fail;
-
-    #[test]
-    fn a_put_is_got(rt: HostRuntime) -> Result<(), Fail> {
-        let founding = Founding::new(Names::of_mask(1), 0, 64, 256).ok_or("a founding")?;
-        let mut world = World::new(rt.alloc(), &founding)?;
-        let mut replica = Replica::new(rt.alloc(), 1)?;
-        let place = Name::of_byte(0);
-        put(
-            &mut world,
-            rt.alloc(),
-            place,
-            &Command::Put {
-                key: b"color",
-                value: b"red",
-            },
-        )?;
-        for _ in 0..3 {
-            take(&mut world, place, &mut replica)?;
-        }
-        let setting = replica.directory().get(b"color").ok_or("the key")?;
-        assert_eq!(rt; setting.value.bytes(), b"red".as_slice());
-        Ok(())
-    }
-}

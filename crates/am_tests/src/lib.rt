@@ -15,4 +15,6 @@ mod packets;
 #[cfg(test)]
 mod schedules;
 #[cfg(test)]
+mod streams;
+#[cfg(test)]
 mod wrong_fields;

@@ -6,4 +6,6 @@ mod calls;
 #[cfg(test)]
 mod echoes;
 #[cfg(test)]
+mod examples;
+#[cfg(test)]
 mod settlings;
