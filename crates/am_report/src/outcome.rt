@@ -1,5 +1,6 @@
 ghost use Rattle.std.specs.Prelude.{◌≡◌, ◌++◌, OnOk, string_bytes};
 ghost use Rattle.am_play.specs.Text.{outcome_word, numbers_text, outcome_numbers, outcome_parts, outcome_text};
+ghost use Rattle.am_report.specs.Outcomes.{numbers_in};
 
 use crate::entry::push_entry;
 use crate::name::{push_name, push_names, push_stamp};
@@ -72,51 +73,64 @@ pub fn outcome_word(outcome: &Outcome) -> &'static str
     }
 }
 
+/// The numbers of an outcome, in order.
+enum Numbers {
+    Nothing,
+    One(u32),
+    Two(u32, u32),
+    Three(u32, u32, u32),
+}
+
+// The numbers of an outcome that has nothing but numbers.
+#[tactic(auto, unfolding(crate::specs::Outcomes::numbers_in))]
+fn numbers_of(outcome: &Outcome) -> Numbers
+    ensures { numbers_in result ≡ outcome_numbers outcome.now }
+{
+    match outcome {
+        Outcome::Queued { req } => Numbers::One(*req),
+        Outcome::Busy { queued } => Numbers::One(u32::from(*queued)),
+        Outcome::Pending { req } => Numbers::One(*req),
+        Outcome::Sent { req, number } => Numbers::Two(*req, *number),
+        Outcome::Joined { number } => Numbers::One(*number),
+        Outcome::PutOff { req, base, top } => Numbers::Three(*req, *base, *top),
+        Outcome::Numbered { number } => Numbers::One(*number),
+        Outcome::Early { last } => Numbers::One(*last),
+        Outcome::Held { base, top } => Numbers::Two(*base, *top),
+        Outcome::Stored { number } => Numbers::One(*number),
+        Outcome::Gap { want } => Numbers::One(*want),
+        Outcome::Advanced { acc } => Numbers::One(*acc),
+        Outcome::Accepted { acc } => Numbers::One(*acc),
+        Outcome::Served { count } => Numbers::One(*count),
+        Outcome::Welcomed { number } => Numbers::One(*number),
+        Outcome::LetGo { number } => Numbers::One(*number),
+        Outcome::Refused { cause } => Numbers::One(u32::from(*cause)),
+        Outcome::Catching { want } => Numbers::One(*want),
+        Outcome::TooFew { got, least } => Numbers::Two(u32::from(*got), u32::from(*least)),
+        Outcome::Crowded { base, top } => Numbers::Two(*base, *top),
+        Outcome::Running { life } => Numbers::One(u32::from(*life)),
+        Outcome::Returned { life } => Numbers::One(u32::from(*life)),
+        _ => Numbers::Nothing,
+    }
+}
+
 // Adds the numbers of an outcome that has nothing but numbers, with a blank before each.
+#[tactic(auto, unfolding(crate::specs::Outcomes::numbers_in))]
 fn push_numbers(out: &mut String, outcome: &Outcome) -> Result<(), NoMemory>
     ensures { OnOk result (string_bytes out.new
         ≡ string_bytes out.old ++ numbers_text (outcome_numbers outcome.now)) }
 {
-    match outcome {
-        Outcome::Queued { req } => push_behind(out, " ", u64::from(*req)),
-        Outcome::Busy { queued } => push_behind(out, " ", u64::from(*queued)),
-        Outcome::Pending { req } => push_behind(out, " ", u64::from(*req)),
-        Outcome::Sent { req, number } => {
-            push_behind(out, " ", u64::from(*req))?;
-            push_behind(out, " ", u64::from(*number))
+    match numbers_of(outcome) {
+        Numbers::Nothing => Ok(()),
+        Numbers::One(first) => push_behind(out, " ", u64::from(first)),
+        Numbers::Two(first, second) => {
+            push_behind(out, " ", u64::from(first))?;
+            push_behind(out, " ", u64::from(second))
         }
-        Outcome::Joined { number } => push_behind(out, " ", u64::from(*number)),
-        Outcome::PutOff { req, base, top } => {
-            push_behind(out, " ", u64::from(*req))?;
-            push_behind(out, " ", u64::from(*base))?;
-            push_behind(out, " ", u64::from(*top))
+        Numbers::Three(first, second, third) => {
+            push_behind(out, " ", u64::from(first))?;
+            push_behind(out, " ", u64::from(second))?;
+            push_behind(out, " ", u64::from(third))
         }
-        Outcome::Numbered { number } => push_behind(out, " ", u64::from(*number)),
-        Outcome::Early { last } => push_behind(out, " ", u64::from(*last)),
-        Outcome::Held { base, top } => {
-            push_behind(out, " ", u64::from(*base))?;
-            push_behind(out, " ", u64::from(*top))
-        }
-        Outcome::Stored { number } => push_behind(out, " ", u64::from(*number)),
-        Outcome::Gap { want } => push_behind(out, " ", u64::from(*want)),
-        Outcome::Advanced { acc } => push_behind(out, " ", u64::from(*acc)),
-        Outcome::Accepted { acc } => push_behind(out, " ", u64::from(*acc)),
-        Outcome::Served { count } => push_behind(out, " ", u64::from(*count)),
-        Outcome::Welcomed { number } => push_behind(out, " ", u64::from(*number)),
-        Outcome::LetGo { number } => push_behind(out, " ", u64::from(*number)),
-        Outcome::Refused { cause } => push_behind(out, " ", u64::from(*cause)),
-        Outcome::Catching { want } => push_behind(out, " ", u64::from(*want)),
-        Outcome::TooFew { got, least } => {
-            push_behind(out, " ", u64::from(*got))?;
-            push_behind(out, " ", u64::from(*least))
-        }
-        Outcome::Crowded { base, top } => {
-            push_behind(out, " ", u64::from(*base))?;
-            push_behind(out, " ", u64::from(*top))
-        }
-        Outcome::Running { life } => push_behind(out, " ", u64::from(*life)),
-        Outcome::Returned { life } => push_behind(out, " ", u64::from(*life)),
-        _ => Ok(()),
     }
 }
 
