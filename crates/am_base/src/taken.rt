@@ -6,10 +6,11 @@ use crate::entry::{EntryParts, EntryRef};
 use crate::name::{Name, Stamp};
 use crate::names::Names;
 use std::alloc::{AllocError, Global};
+use std::fmt;
 use std::marker::Model;
 
 /// What an entry is, with a body that stands apart.
-#[derive(Drop, Debug)]
+#[derive(Drop)]
 enum TakenParts {
     /// A send of a member: its request number, from 1, and its body.
     Data {
@@ -30,7 +31,7 @@ enum TakenParts {
 }
 
 /// An entry that was taken from a list, with as many bytes as its body has. Contracts see it as the entry.
-#[derive(Drop, Debug)]
+#[derive(Drop)]
 pub struct TakenEntry {
     parts: TakenParts,
 }
@@ -43,6 +44,12 @@ impl Model for TakenEntry {
     ghost use Rattle.am_base.specs.Entries.{taken_of};
 
     ghost view = { λ e. taken_of e.parts };
+}
+
+impl fmt::Debug for TakenEntry {
+    fn fmt<W: fmt::Write>(&self, f: &mut fmt::Formatter<W>) -> fmt::Result {
+        self.as_ref().fmt(f)
+    }
 }
 
 impl TakenEntry {
