@@ -12,7 +12,7 @@ use am_base::outcome::Outcome;
 use am_base::taken::EntryRoom;
 use am_handlers::parts::Parts;
 use am_letter::out_box::OutBox;
-use am_voting::voting::{on_ask, on_give_up, on_reset};
+use am_resetting::voting::{on_ask, on_give_up, on_reset};
 
 /// One step that hears nothing: what a node does where its application calls, and where time passes (docs/PROTOCOL.md, "Steps
 /// of a node").

@@ -5,17 +5,17 @@ ghost use Rattle.am_info.specs.Nodes.{HasNumbersLeft};
 
 use am_acting::hearing::{on_gone, on_hold, on_spread};
 use am_base::outcome::Outcome;
-use am_catching::catching::{on_piece, on_result};
-use am_catching::serving::on_fetch;
 use am_handlers::parts::Parts;
-use am_joining::joining::on_join_ask;
-use am_joining::leaving::on_leave_ask;
-use am_joining::welcomed::on_welcome;
 use am_letter::out_box::OutBox;
+use am_ordering::joining::on_join_ask;
+use am_ordering::leaving::on_leave_ask;
+use am_ordering::receiver::{on_accept, on_bcast, on_order};
+use am_ordering::sequencer::{on_ack, on_nack, on_request};
+use am_ordering::welcomed::on_welcome;
 use am_packet::packet::Packet;
-use am_receiver::receiver::{on_accept, on_bcast, on_order};
-use am_sequencer::sequencer::{on_ack, on_nack, on_request};
-use am_voting::voting::{on_hand_over, on_invite, on_vote};
+use am_resetting::catching::{on_piece, on_result};
+use am_resetting::serving::on_fetch;
+use am_resetting::voting::{on_hand_over, on_invite, on_vote};
 
 /// Does the row of a packet of the view in which the node acts, or that names join and leave by. A body that its sender spread
 /// is numbered by the sequencer, and kept by another member.

@@ -1,3 +1,0 @@
-pub mod Words
-mod Pieces
-mod Serves

@@ -1,7 +1,0 @@
-use Rattle.am_catching.proofs.Words.{sym, node_of, piece_row}
-use Rattle.am_catching.proofs.catching.on_piece.Goals as goal
-
-pub returns : goal.returns
-returns c = c.finish.ensures (node_of c.args.parts.now) (piece_row
-    (node_of c.args.parts.now) c.args.from c.args.stamp c.args.base c.args.number c.args.entry.now)
-    (sym c.accept_front-before.ensures.value) c.piece-reply.ensures.replies

@@ -1,7 +1,0 @@
-use Rattle.am_catching.proofs.Words.{sym, node_of, result_row}
-use Rattle.am_catching.proofs.catching.on_result.Goals as goal
-
-pub returns : goal.returns
-returns c = c.finish.ensures (node_of c.args.parts.now) (result_row
-    (node_of c.args.parts.now) c.args.from c.args.stamp c.args.base c.args.number c.args.members c.args.resilience)
-    (sym c.accept_front-before.ensures.value) c.result_row-reply.ensures.replies

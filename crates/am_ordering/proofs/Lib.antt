@@ -1,0 +1,15 @@
+pub mod ReceivingWords
+pub mod Lowest
+pub mod Notes
+pub mod ReceivingRows
+pub mod Kept
+pub mod SequencingWords
+pub mod Numbers
+pub mod Served
+pub mod SequencingRows
+pub mod Again
+pub mod JoiningWords
+pub mod Members
+pub mod Joins
+pub mod Leaves
+pub mod Begun

@@ -1,0 +1,57 @@
+-- Whether a name is among so many lowest of a set.
+use Rattle.am_ordering.proofs.ReceivingWords.{◌≡◌, ℕ, zero, suc, ◌+◌, ◌<◌, ◌≤◌, List, [], ◌∷◌, length, take, slice_index, refl, sym, ◌∙◌, ap, Bool, true, false, ◌&&◌}
+use Rattle.am_ordering.proofs.ReceivingWords.{◌==◌, if◌then◌else◌, nat_lt, count_by, arith, list_any, nat_tests, count_cons, IsSet, has, place_of, life_of, name_at}
+use Rattle.am_ordering.proofs.ReceivingWords.{names_from, names_of}
+
+-- how many places there are a life of
+abbrev pub lives_in : List ℕ → ℕ
+lives_in lives = count_by (λ life. nat_lt 0 life) lives
+
+other_place : (who p b : ℕ) → p < 16 → (place_of who ≡ p → ⊥) → (name_at p (suc b) == who) ≡ false
+other_place who p b h ne =
+    let no : name_at p (suc b) ≡ who → ⊥ = λ e. ne (omega arith) in
+    grind (arith, nat_tests)
+
+same_place : (who p b : ℕ) → place_of who ≡ p → (name_at p (suc b) == who) ≡ (suc b == life_of who)
+same_place who p b at = grind (arith, nat_tests)
+
+life_more : (b : ℕ) (lives : List ℕ) → lives_in (suc b ∷ lives) ≡ 1 + lives_in lives
+life_more b lives =
+    let some : nat_lt 0 (suc b) ≡ true = grind (arith, nat_tests) in
+    count_cons (λ life. nat_lt 0 life) (suc b) lives ∙ ap (λ (t : Bool). (if t then 1 else 0) + lives_in lives) some
+
+one_more : (n r : ℕ) → nat_lt n r ≡ nat_lt (1 + n) (suc r)
+one_more n r = grind (arith, nat_tests)
+
+none_above : (lives : List ℕ) (who p r : ℕ) → p + length lives ≤ 16 → place_of who < p → list_any (λ name. name == who) (take r (names_from p lives)) ≡ false
+none_above lives who p zero h past = refl
+none_above [] who p (suc r) h past = refl
+none_above (zero ∷ lives) who p (suc r) h past = none_above lives who (p + 1) (suc r) (omega arith) (omega arith)
+none_above (suc b ∷ lives) who p (suc r) h past =
+    let here = other_place who p b (omega arith) (λ e. omega arith) in
+    let rest = none_above lives who (p + 1) r (omega arith) (omega arith) in
+    rw (here, rest) refl
+
+among : (lives : List ℕ) (who p i r : ℕ) → p + length lives ≤ 16 → place_of who ≡ p + i
+    → list_any (λ name. name == who) (take r (names_from p lives)) ≡ ((slice_index lives i == life_of who) && nat_lt (lives_in (take i lives)) r)
+among [] who p i zero h at = grind (arith, nat_tests)
+among [] who p i (suc r) h at = grind (arith, nat_tests)
+among (zero ∷ lives) who p zero r h at =
+    let rest = none_above lives who (p + 1) r (omega arith) (omega arith) in
+    let no : (0 == life_of who) ≡ false = grind (arith, nat_tests) in
+    rw (rest, no) refl
+among (zero ∷ lives) who p (suc j) r h at = among lives who (p + 1) j r (omega arith) (omega arith)
+among (suc b ∷ lives) who p i zero h at = grind (arith, nat_tests)
+among (suc b ∷ lives) who p zero (suc r) h at =
+    let rest = none_above lives who (p + 1) r (omega arith) (omega arith) in
+    let here = same_place who p b (omega arith) in
+    rw (rest, here) (grind (arith, nat_tests))
+among (suc b ∷ lives) who p (suc j) (suc r) h at =
+    let here = other_place who p b (omega arith) (λ e. omega arith) in
+    let rest = among lives who (p + 1) j r (omega arith) (omega arith) in
+    rw (here, rest) (ap (λ t. (slice_index lives j == life_of who) && t) (one_more (lives_in (take j lives)) r
+    ∙ ap (λ k. nat_lt k (suc r)) (sym (life_more b (take j lives)))))
+
+pub among_lowest : (set : List ℕ) (who count : ℕ) → IsSet set
+    → list_any (λ name. name == who) (take count (names_of set)) ≡ (has set who && nat_lt (lives_in (take (place_of who) set)) count)
+among_lowest set who count is = let l = is.places in among set who 0 (place_of who) count (omega arith) (omega arith)

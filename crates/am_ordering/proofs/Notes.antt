@@ -1,0 +1,26 @@
+-- What a member notes of the sequencer's fronts, and what stays.
+use Rattle.am_ordering.proofs.ReceivingWords.{◌≡◌, ℕ, List, Option, refl, Entry, Outcome, Letter, alike_received, Done, done_whole, CoreState, Keeps, IsInOrder, Node}
+use Rattle.am_ordering.proofs.ReceivingWords.{with_noted, receive_entry, IsEndOf, NodeKeeps, IsSteady, core_changes, end_self, keeps_steady, end_steady, end_keeps}
+use Rattle.am_ordering.proofs.ReceivingWords.{steady_then, note}
+
+pub noted_end : (m : Node) (core : CoreState) (base acc : ℕ) → m.core.base ≡ m.core.log.start → Keeps (note base acc) m.core core
+    → IsEndOf (with_noted m base acc) (record m { core = core })
+noted_end m core base acc kept keeps = core_changes (note base acc) m core keeps m (end_self m kept)
+
+noted_steady : (m : Node) (base acc : ℕ) → IsSteady m (with_noted m base acc)
+noted_steady m base acc = record { who = refl; promise = refl; told = refl; top = refl; status = refl; ballot = refl; leaving = refl; sends = refl }
+
+pub end_noted_steady : (m n : Node) (base acc : ℕ) → IsEndOf (with_noted m base acc) n → IsSteady m n
+end_noted_steady m n base acc end = steady_then m (with_noted m base acc) n (noted_steady m base acc) (end_steady (with_noted m base acc) n end)
+
+pub end_noted_keeps : (m n : Node) (base acc : ℕ) → IsEndOf (with_noted m base acc) n → NodeKeeps m → NodeKeeps n
+end_noted_keeps m n base acc end keeps = end_keeps (with_noted m base acc) n end
+    (keeps_steady m (with_noted m base acc) (noted_steady m base acc) keeps keeps.own)
+
+-- what is done of an entry with the noted fronts, the whole node does
+pub noted_done : (before : ℕ) (m mid new : Node) (base acc from number : ℕ) (found : Option Entry) (missing answer : Outcome) (letters : List Letter)
+    → IsEndOf (with_noted m base acc) mid → IsInOrder mid.core → Done before (receive_entry mid from base number found missing) answer letters new
+    → Done before (receive_entry (with_noted m base acc) from base number found missing) answer letters new
+noted_done before m mid new base acc from number found missing answer letters end order did =
+    done_whole before (λ n. receive_entry n from base number found missing) (with_noted m base acc) mid new answer letters end order
+    (λ all keeps. alike_received all mid from base number found missing keeps) did

@@ -1,0 +1,263 @@
+ghost use Rattle.std.specs.Prelude.{◌≡◌, ◌+◌, ◌≤◌, ◌<◌, [], Some, false, nat_lt, ◌&&◌, not, length, IfSome};
+ghost use Rattle.std.specs.Option.{option_copied};
+ghost use Rattle.am_handlers.specs.Prelude.{IsNumber, IsEntry, IsInOrder, has_own_leave, is_sequencer, top, waiting, IsEndOf, CoreTells, IsSteady, node_of, Finishes, Performs};
+ghost use Rattle.am_core.specs.Cores.{Keeps};
+ghost use Rattle.am_model.specs.Receiving.{with_noted, accept_row, bcast_row, order_row, receive_entry, own_body, body_of, data_of};
+ghost use Rattle.am_ordering.specs.Receiving.{note, ack_where, accepting, Follows};
+
+use crate::storing::store;
+use am_base::body::Body;
+use am_base::entry::{Entry, EntryRef};
+use am_base::name::Name;
+use am_base::outcome::Outcome;
+use am_core::log::Log;
+use am_core::state::Core;
+use am_handlers::finishing::{OneLetter, finish_quietly, finish_telling};
+use am_handlers::packets::{ack, only};
+use am_handlers::parts::Parts;
+use am_letter::out_box::OutBox;
+
+/// A core notes what the sequencer's packet tells of its fronts.
+fn note_fronts<L: Log>(core: &mut Core<L>, base: u32, acc: u32)
+    ensures { Keeps (note base acc) core.old core.new }
+{
+    core.told = core.told.max(acc);
+    if base <= core.taken {
+        core.trim_to(base);
+    }
+}
+
+/// Notes what the sequencer's packet tells of its fronts.
+fn note(parts: &mut Parts, base: u32, acc: u32)
+    ensures end { IsEndOf (with_noted (node_of parts.old) base acc) (node_of parts.new) }
+    ensures steady { IsSteady (node_of parts.old) (node_of parts.new) }
+    ensures status { parts.new.status ≡ parts.old.status }
+    ensures leads { is_sequencer (node_of parts.new) ≡ is_sequencer (node_of parts.old) }
+    ensures order { IsInOrder parts.new.core }
+{
+    let _before = parts.accept_front();
+    note_fronts(&mut parts.core, base, acc);
+    let _after = parts.accept_front();
+}
+
+/// Whether the node's own Leave stands in its list.
+fn has_left(parts: &Parts) -> bool
+    ensures { result ≡ has_own_leave (node_of parts.now) }
+{
+    0 < parts.core.log.row(parts.core.who).left
+}
+
+/// Whether an entry up to a number isn't stored that the node may still store.
+fn is_short_of(parts: &Parts, high: u32) -> bool
+    ensures { result ≡ (nat_lt (top (node_of parts.now)) high
+        && not (has_own_leave (node_of parts.now))) }
+{
+    parts.core.log.top() < high && !has_left(parts)
+}
+
+/// Sends a name an Ack, where it is due.
+#[tactic(auto, using(am_model::proofs::Letters::one_more))]
+pub fn send_ack_where<L: Log>(is_due: bool, core: &Core<L>, to: Name, out: &mut OutBox)
+    requires { out.old ≡ [] }
+    ensures letters { CoreTells (ack_where is_due to) core.now out.new }
+    ensures few { length out.new ≤ 1 }
+{
+    if is_due {
+        out.put(only(to), &ack(core));
+    }
+}
+
+/// The end of a step that noted how far the list is accepted. It tells whether that rose.
+fn finish_accepting(
+    parts: &mut Parts,
+    before: u32,
+    poll: bool,
+    from: Name,
+    out: &mut OutBox,
+) -> Outcome
+    requires { out.old ≡ [] }
+    ensures { Finishes before (accepting before poll from (node_of parts.old))
+        result out.new parts.new }
+{
+    let _before = parts.accept_front();
+    parts.end();
+    send_ack_where(poll, &parts.core, from, out);
+    parts.tell_accepted(before, false, false, out);
+    let acc = parts.accept_front();
+    if before < acc {
+        return Outcome::Advanced { acc };
+    }
+    Outcome::Known
+}
+
+/// The sequencer tells how far the list goes and is accepted (docs/PROTOCOL.md, "Numbered entries, at a member").
+/// Gap, with a Nack, where an entry up to `high` isn't stored and the node's own Leave doesn't stand in its list.
+/// Else Advanced where what is accepted rose, and Known where it didn't; an Ack goes out where `poll` asks for it.
+pub fn on_accept(
+    parts: &mut Parts,
+    base: u32,
+    acc: u32,
+    high: u32,
+    poll: bool,
+    from: Name,
+    out: &mut OutBox,
+) -> Outcome
+    requires { out.old ≡ [] }
+    ensures { Performs (λ m. accept_row m from base acc high poll) parts.old
+        result out.new parts.new }
+{
+    let before = parts.accept_front();
+    let stored = parts.core.log.top();
+    let short = is_short_of(parts, high);
+    note(parts, base, acc);
+    if short {
+        let answer = Outcome::Gap { want: stored + 1 };
+        return finish_telling(parts, before, from, OneLetter::Nack, answer, out);
+    }
+    finish_accepting(parts, before, poll, from, out)
+}
+
+/// Does what a numbered entry asks for, once its fronts are noted.
+fn receive_entry(
+    parts: &mut Parts,
+    before: u32,
+    from: Name,
+    base: u32,
+    number: u32,
+    found: Option<&EntryRef>,
+    missing: Outcome,
+    out: &mut OutBox,
+) -> Outcome
+    requires follows { Follows (node_of parts.old) }
+    requires number { IsNumber number }
+    requires entry { IfSome found (λ e. IsEntry e.now) }
+    requires empty { out.old ≡ [] }
+    ensures { Finishes before (receive_entry (node_of parts.old) from base number
+        (option_copied found.entry) missing) result out.new parts.new }
+{
+    let top = parts.core.log.top();
+    if number <= top {
+        return finish_quietly(parts, before, Outcome::Known, out);
+    }
+    if has_left(parts) {
+        return finish_quietly(parts, before, Outcome::Behind, out);
+    }
+    if top + 1 < number {
+        let answer = Outcome::Gap { want: top + 1 };
+        return finish_telling(parts, before, from, OneLetter::Nack, answer, out);
+    }
+    if parts.core.taken < base {
+        return finish_quietly(parts, before, Outcome::Behind, out);
+    }
+    match found {
+        Some(entry) => store(parts, before, from, number, entry, out),
+        None => finish_telling(parts, before, from, OneLetter::Nack, missing, out),
+    }
+}
+
+/// The sequencer tells an entry and its number (docs/PROTOCOL.md, "Numbered entries, at a member"). Known where the
+/// number is stored. Behind where the node's own Leave stands in its list, or the base is above what is taken. Gap,
+/// with a Nack, where an earlier entry isn't stored. Unfit where the entry is a View, doesn't fit the list, or
+/// isn't within the bound. Else Stored; as many of the lowest members as the resilience says send an Ack at once. The
+/// node must be a member that isn't the sequencer.
+pub fn on_bcast(
+    parts: &mut Parts,
+    from: Name,
+    base: u32,
+    acc: u32,
+    number: u32,
+    entry: &EntryRef,
+    out: &mut OutBox,
+) -> Outcome
+    requires follows { Follows (node_of parts.old) }
+    requires number { IsNumber number }
+    requires entry { IsEntry entry.now }
+    requires empty { out.old ≡ [] }
+    ensures { Performs (λ m. bcast_row m from base acc number entry.now) parts.old
+        result out.new parts.new }
+{
+    let before = parts.accept_front();
+    note(parts, base, acc);
+    receive_entry(
+        parts,
+        before,
+        from,
+        base,
+        number,
+        Some(entry),
+        Outcome::Known,
+        out,
+    )
+}
+
+/// The body of the waiting send, where that is this send of the node's own.
+fn own_body(parts: &Parts, from: Name, req: u32) -> Option<&Body>
+    ensures { option_copied result ≡ own_body (node_of parts.now) from req
+        (waiting (node_of parts.now)) }
+{
+    let send = parts.sender.waiting()?;
+    if from == parts.core.who && send.0 == req {
+        return Some(send.1);
+    }
+    None
+}
+
+/// The Data of a send whose body was spread; None where the node has no such body.
+fn data_of(parts: &Parts, from: Name, req: u32) -> Option<Entry>
+    requires { IsNumber req }
+    ensures value { result ≡ data_of from req (body_of (node_of parts.now) from req) }
+    ensures within { IfSome result (λ e. IsEntry e) }
+{
+    let body = own_body(parts, from, req).or(parts.pool.find(from, req))?;
+    Some(Entry::Data {
+        from,
+        req,
+        body: body.copy(),
+    })
+}
+
+/// An entry that may be there, where it stands.
+fn standing(entry: &Option<Entry>) -> Option<EntryRef<'_>>
+    ensures { result ≡ entry.now }
+{
+    match entry {
+        Some(entry) => Some(entry.as_ref()),
+        None => None,
+    }
+}
+
+/// The sequencer tells the number of a send that was spread: its body is that of the node's waiting send where that is
+/// the send, and else a kept one. NoBody, with a Nack, where there is none and the entry would be stored next. The
+/// other answers are those of `on_bcast`, and so are the premises.
+pub fn on_order(
+    parts: &mut Parts,
+    sequencer: Name,
+    base: u32,
+    acc: u32,
+    number: u32,
+    from: Name,
+    req: u32,
+    out: &mut OutBox,
+) -> Outcome
+    requires follows { Follows (node_of parts.old) }
+    requires number { IsNumber number }
+    requires req { IsNumber req }
+    requires empty { out.old ≡ [] }
+    ensures { Performs (λ m. order_row m sequencer base acc number from req) parts.old
+        result out.new parts.new }
+{
+    let before = parts.accept_front();
+    let missing = Outcome::NoBody { from, req };
+    let found = data_of(parts, from, req);
+    note(parts, base, acc);
+    receive_entry(
+        parts,
+        before,
+        sequencer,
+        base,
+        number,
+        standing(&found).as_ref(),
+        missing,
+        out,
+    )
+}

@@ -1,0 +1,126 @@
+ghost use Rattle.std.specs.Prelude.{◌≡◌, ◌+◌, ◌-◌, ◌<◌, ◌==◌, [], Some, true, false, nat_lt, take, count_by, ◌||◌, not};
+ghost use Rattle.std.specs.List.{list_any};
+ghost use Rattle.am_handlers.specs.Prelude.{IsNumber, IsEntry, fits, IsSet, names_of, is_within_bound, image_of, top, node_of, Finishes};
+ghost use Rattle.am_base.specs.declared.outcome.Outcome.{Outcome};
+ghost use Rattle.am_model.specs.Receiving.{is_view, bodies_after, acknowledges, store};
+ghost use Rattle.am_ordering.specs.Receiving.{Follows};
+
+use crate::receiver::send_ack_where;
+use am_base::entry::{EntryParts, EntryRef};
+use am_base::name::Name;
+use am_base::names::Names;
+use am_base::outcome::Outcome;
+use am_bodies::Pool;
+use am_core::log::Log;
+use am_handlers::finishing::finish_quietly;
+use am_handlers::parts::Parts;
+use am_letter::out_box::OutBox;
+
+/// Whether an entry is a View.
+fn is_view(entry: &EntryRef) -> bool
+    ensures { result ≡ is_view entry.now }
+{
+    match entry.parts() {
+        EntryParts::View { .. } => true,
+        EntryParts::Data { .. } => false,
+        EntryParts::Join(_) => false,
+        EntryParts::Leave(_) => false,
+    }
+}
+
+/// Whether an entry may not be stored with this number.
+fn is_unfit(parts: &Parts, number: u32, entry: &EntryRef) -> bool
+    ensures value { result ≡ (is_view entry.now
+        || (not (fits (image_of (node_of parts.now)) entry.now)
+        || not (is_within_bound (node_of parts.now) parts.now.core.base number))) }
+    ensures kept { parts.now.core.base ≡ parts.now.core.log.start }
+{
+    is_view(entry)
+        || !parts.core.log.fits(entry)
+        || number.saturating_sub(parts.core.log.base()) > u32::from(parts.core.rules.window()) + 15
+}
+
+/// The bodies that a stored entry leaves.
+fn drop_from(pool: &mut Pool, entry: &EntryRef)
+    ensures { pool.new ≡ bodies_after pool.old entry.now }
+{
+    match entry.parts() {
+        EntryParts::Data { from, req, .. } => pool.drop_upto(*from, *req),
+        EntryParts::Join(_) => {}
+        EntryParts::Leave(_) => {}
+        EntryParts::View { .. } => {}
+    }
+}
+
+/// Lets go of the bodies that a stored entry leaves behind.
+fn drop_bodies(parts: &mut Parts, entry: &EntryRef)
+    ensures { node_of parts.new ≡ record (node_of parts.old)
+        { bodies = bodies_after (node_of parts.old).bodies entry.now } }
+{
+    drop_from(&mut parts.pool, entry);
+}
+
+/// How many names of a set stand at lower places than this.
+fn lives_below(set: Names, place: u8) -> usize
+    requires { place < 16 }
+    ensures value { result ≡ count_by (λ life. nat_lt 0 life) (take place set) }
+    ensures set { IsSet set }
+{
+    let lives = set.each_life();
+    lives[..usize::from(place)]
+        .iter()
+        .filter(|life| 0 < **life)
+        .count()
+}
+
+/// Whether a name is among so many lowest ones of a set.
+fn is_among_lowest(set: Names, count: u8, name: Name) -> bool
+    ensures { result ≡ list_any (λ other. other == name) (take count (names_of set)) }
+{
+    let lower = lives_below(set, name.place());
+    set.has(name) && lower < usize::from(count)
+}
+
+/// Whether the node is among so many lowest members other than the sequencer.
+#[tactic(auto, using(am_core::proofs::Ends::top_laws))]
+fn acknowledges(parts: &Parts, sequencer: Name) -> bool
+    ensures { result ≡ acknowledges (node_of parts.now) sequencer (node_of parts.now) }
+{
+    let members = parts.core.log.members_after(parts.core.log.top());
+    is_among_lowest(
+        members.without(sequencer),
+        parts.core.log.resilience(),
+        parts.core.who,
+    )
+}
+
+/// Stores the entry that is told next, where it fits, and acknowledges it where that is due. Unfit where it doesn't fit, else
+/// Stored.
+pub fn store(
+    parts: &mut Parts,
+    before: u32,
+    from: Name,
+    number: u32,
+    entry: &EntryRef,
+    out: &mut OutBox,
+) -> Outcome
+    requires entry { IsEntry entry.now }
+    requires number { IsNumber number }
+    requires next { number ≡ top (node_of parts.old) + 1 }
+    requires follows { Follows (node_of parts.old) }
+    requires empty { out.old ≡ [] }
+    ensures { (missing : Outcome) → Finishes before (store
+        (node_of parts.old) from number (Some entry.now) missing) result out.new parts.new }
+{
+    if is_unfit(parts, number, entry) {
+        return finish_quietly(parts, before, Outcome::Unfit, out);
+    }
+    let _before = parts.accept_front();
+    parts.push(entry);
+    drop_bodies(parts, entry);
+    let is_due = acknowledges(parts, from);
+    parts.end();
+    send_ack_where(is_due, &parts.core, from, out);
+    parts.tell_accepted(before, false, false, out);
+    Outcome::Stored { number }
+}

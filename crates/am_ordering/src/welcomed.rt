@@ -1,0 +1,145 @@
+ghost use Rattle.std.specs.Prelude.{◌≡◌, ◌≢◌, ◌||◌, [], true, false, nat_lt};
+ghost use Rattle.am_handlers.specs.Prelude.{IsNumber, IsStamp, IsImage, row_of, top_of, stamp_eq, stamp_lt, is_member, view, node_of, Finishes, Performs};
+ghost use Rattle.am_model.specs.Node.{is_asking};
+ghost use Rattle.am_model.specs.Joining.{begin_list, begun_core, ask_next, welcome_row};
+ghost use Rattle.am_ordering.specs.Joining.{is_unfit};
+
+use am_base::image::Image;
+use am_base::name::{Name, Stamp};
+use am_base::outcome::Outcome;
+use am_core::log::Log;
+use am_core::state::Core;
+use am_handlers::finishing::{OneLetter, finish_quietly, finish_telling};
+use am_handlers::parts::Parts;
+use am_letter::out_box::OutBox;
+use am_model::status::Status;
+use am_packet::image_ref::ImageRef;
+
+/// Whether the node is a member.
+fn is_member(parts: &Parts) -> bool
+    ensures { result ≡ is_member (node_of parts.now).status }
+{
+    parts.status == Status::Member
+}
+
+/// Whether the node has promised to a greater stamp.
+fn has_promised_more(parts: &Parts, stamp: Stamp) -> bool
+    ensures { result ≡ stamp_lt stamp parts.now.core.promise }
+{
+    stamp.is_below(parts.core.promise)
+}
+
+/// Whether a name has joined already by what an image tells.
+fn has_joined(image: &Image, name: Name) -> bool
+    ensures { result ≡ nat_lt 0 (row_of image.now name).joined }
+{
+    let row = image.rows[usize::from(name.place())];
+    row.life == name.life() && 0 < row.joined
+}
+
+/// Whether a Welcome can't be this node's.
+fn is_unfit(parts: &Parts, stamp: &Stamp, base: u32, join: u32, image: &Image) -> bool
+    ensures { result ≡ is_unfit (node_of parts.now) stamp.now base join image.now }
+{
+    if join <= base || u32::from(parts.core.rules.window()) + 15 < join - base {
+        return true;
+    }
+    stamp.is_below(image.view) || has_joined(image, parts.core.who)
+}
+
+/// A core's list begins at the base, with what was told up to there.
+fn begin_core<L: Log>(core: &mut Core<L>, stamp: Stamp, base: u32, join: u32, image: &Image)
+    requires blank { top_of core.old.log ≡ 0 }
+    requires stamp { IsStamp stamp }
+    requires base { IsNumber base }
+    requires image { IsImage image.now }
+    ensures { core.new ≡ begun_core core.old stamp base join image.now }
+{
+    core.log.begin(base, image);
+    core.promise = stamp;
+    core.told = base;
+    core.acc = base;
+    core.taken = base;
+    core.start = join;
+}
+
+/// The list begins at the base, with what was told up to there, and the node is a member.
+fn begin(parts: &mut Parts, stamp: Stamp, base: u32, join: u32, image: &Image)
+    requires asking { is_asking (node_of parts.old).status ≡ true }
+    requires other { stamp.by ≢ parts.old.core.who }
+    requires fits { is_unfit (node_of parts.old) stamp base join image.now ≡ false }
+    requires stamp { IsStamp stamp }
+    requires base { IsNumber base }
+    requires image { IsImage image.now }
+    ensures { node_of parts.new ≡ begin_list (node_of parts.old) stamp base join image.now }
+{
+    let _before = parts.accept_front();
+    begin_core(&mut parts.core, stamp, base, join, image);
+    parts.status = Status::Member;
+}
+
+/// Whether the node's view is this one.
+fn has_view(parts: &Parts, stamp: Stamp) -> bool
+    ensures { result ≡ stamp_eq (view (node_of parts.now)) stamp }
+{
+    let view = parts.core.log.view();
+    view.round == stamp.round && view.by == stamp.by
+}
+
+/// A joiner whose list has begun asks for what comes next.
+fn ask_on(
+    parts: &mut Parts,
+    before: u32,
+    from: Name,
+    stamp: Stamp,
+    join: u32,
+    out: &mut OutBox,
+) -> Outcome
+    requires { out.old ≡ [] }
+    ensures { Finishes before (ask_next (node_of parts.old) from stamp join)
+        result out.new parts.new }
+{
+    let answer = Outcome::Welcomed { number: join };
+    if has_view(parts, stamp) {
+        return finish_telling(parts, before, from, OneLetter::Nack, answer, out);
+    }
+    finish_telling(parts, before, from, OneLetter::Fetch, answer, out)
+}
+
+/// Takes a Welcome of the sequencer of a view, at a node that has asked to join or is a member. Known: it is a member.
+/// Elsewhere: the node has promised to more. Unfit: the Join is out of bounds, the image is of a later view, or the name
+/// stands in it. Else the list begins at the base and the node asks for what comes next: Welcomed. The out box must be empty.
+#[inline(never)]
+pub fn on_welcome(
+    parts: &mut Parts,
+    from: Name,
+    stamp: Stamp,
+    base: u32,
+    join: u32,
+    image: &ImageRef,
+    out: &mut OutBox,
+) -> Outcome
+    requires hears { (is_member (node_of parts.old).status || is_asking (node_of parts.old).status)
+        ≡ true }
+    requires other { stamp.by ≢ parts.old.core.who }
+    requires stamp { IsStamp stamp }
+    requires base { IsNumber base }
+    requires image { IsImage image.now }
+    requires empty { out.old ≡ [] }
+    ensures { Performs (λ m. welcome_row m from stamp base join image.now) parts.old
+        result out.new parts.new }
+{
+    let before = parts.accept_front();
+    if is_member(parts) {
+        return finish_quietly(parts, before, Outcome::Known, out);
+    }
+    if has_promised_more(parts, stamp) {
+        return finish_quietly(parts, before, Outcome::Elsewhere, out);
+    }
+    let image = image.to_image();
+    if is_unfit(parts, &stamp, base, join, &image) {
+        return finish_quietly(parts, before, Outcome::Unfit, out);
+    }
+    begin(parts, stamp, base, join, &image);
+    ask_on(parts, before, from, stamp, join, out)
+}

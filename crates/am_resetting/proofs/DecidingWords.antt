@@ -1,0 +1,31 @@
+-- The words of this crate's proofs, of the crates and definitions that they come from.
+pub use Rattle.std.{proofs.lemmas.Bool.cases_lt, proofs.lemmas.Bool.Decides.nat_tests, proofs.lemmas.List.get_or_past, proofs.lemmas.List.length-map}
+pub use Rattle.std.{specs.Option.IfSome}
+pub use Rattle.std.proofs.Common.{◌≡◌, ℕ, ◌<◌, ◌≤◌, List, Bool, true, false, not, nat_lt, ◌==◌, sym, ◌∙◌, ap, arith, ◌⊎◌, ⊎_elim, inl, inr, ◌+◌, [], ◌∷◌}
+pub use Rattle.std.proofs.Common.{◌&&◌, Some, refl, subst, length-append, ◌||◌, Option, None, option_map, slice_index, ◌-◌, max, if◌then◌else◌, unwrap_or}
+pub use Rattle.std.proofs.Common.{length, nat_le}
+pub use Rattle.am_base.specs.{declared.image.Vote.Vote, Votes.Shown, Votes.best_vote, Votes.better_of, Votes.all_names, Votes.vote_lt}
+pub use Rattle.am_base.specs.{declared.image.Image.Image, declared.name.Stamp.Stamp, declared.entry.Entry.Entry, Stamps.stamp_lt, Stamps.stamp_eq}
+pub use Rattle.am_base.specs.{declared.outcome.Outcome.TheVariants.Overtaken, declared.outcome.Outcome.Outcome, declared.image.Row.Row}
+pub use Rattle.am_base.specs.{declared.image.Report.Report, Founding.Rules}
+pub use Rattle.am_base.specs.Names.{has, size, rank_of, name_at, is_within, by_place, names_of, place_of, life_of}
+pub use Rattle.am_base.specs.declared.entry.Entry.TheVariants.{Data, Join, Leave, View}
+pub use Rattle.am_base.specs.Lists.{Log, top_of, with_entry, members_of, blank_row, is_blank, at_place, member_life, row_after_view}
+unfoldable pub use Rattle.am_base.specs.{Votes.best_from, Lists.after, Lists.fits}
+pub use Rattle.am_base.proofs.{Places.slice_index-by_place, Places.get_or-by_place, Places.length-by_place, Greatest.and_both}
+pub use Rattle.am_core.specs.{Cores.CoreState, Cores.Keeps, Cores.trim_to, Cores.Stands, Kept.IsKept}
+pub use Rattle.am_core.proofs.{Ends.end-top, Ends.end-told, Ends.told-push, CoreLaws.stands_self, Folds.split, Lives.row_at, Lives.member_at}
+pub use Rattle.am_table.proofs.Rows.{within_all, within_none}
+pub use Rattle.am_fronts.specs.Reports.{least_of, reports_from}
+pub use Rattle.am_sender.specs.Sends.{next_request}
+pub use Rattle.am_model.specs.Node.{Node, Ballot, has_log, top, image_of, view, members, acts, is_member, is_sequencer, push_entry, name_where, trim_up_to}
+pub use Rattle.am_model.specs.Ballots.{own_vote, is_waited_for, left_in, overtake, with_promise, Verdict, taken_by, with_answer, with_end, goes_on, ends}
+pub use Rattle.am_model.specs.Ballots.{decide_view, trim_for}
+pub use Rattle.am_model.specs.Ends.{IsEndOf, with_log}
+unfoldable pub use Rattle.am_model.specs.{Node.those, Ballots.best_of, Ballots.decide}
+pub use Rattle.am_model.proofs.Sets.{has_those, has_size}
+pub use Rattle.am_ballots.specs.Kept.{Kept, ballot_of}
+pub use Rattle.am_handlers.specs.{Keeps.NodeKeeps, Keeps.IsSteady, Keeps.IsOwnBallot, Verdicts.ComesTo, Parts.node_of}
+pub use Rattle.am_handlers.proofs.{Keeping.due_pushed, Keeping.keeps_steady, Keeping.over_own, Keeping.own_for, Keeping.own_steady, Ends.told_same}
+pub use Rattle.am_handlers.proofs.{Ends.top_same, Shown.own_vote_same}
+pub use Rattle.am_resetting.specs.Deciding.{IsTakenOut, IsUpTo, MayStore, MayBeView}

@@ -1,0 +1,190 @@
+-- What the rows of pieces and results come to.
+use Rattle.am_resetting.proofs.CatchingWords.{◌≡◌, ◌≢◌, ℕ, ◌+◌, ◌-◌, ◌<◌, ◌≤◌, max, Bool, true, false, not, ◌||◌, ◌&&◌, ◌==◌, if◌then◌else◌, List, Option, Some, None}
+use Rattle.am_resetting.proofs.CatchingWords.{refl, sym, ap, subst, ◌∙◌, arith, nat_tests, most_number, Stamp, Entry, Data, Join, Leave, View, Image, Outcome, IsEntry}
+use Rattle.am_resetting.proofs.CatchingWords.{nobody, stamp_lt, stamp_eq, IsInOrder, told-push, split, has_log, Node, Ballot, top, image_of, view, acts, is_member}
+use Rattle.am_resetting.proofs.CatchingWords.{push_entry, trim_up_to, Plan, quiet, Verdict, with_promise, decide, is_view_past, push_fetched, catch_up, decide_anew}
+use Rattle.am_resetting.proofs.CatchingWords.{fetches_from, piece_promised, piece_for, piece_row, hears_result, result_row, IsEndOf, NodeKeeps, IsOwnBallot, IsSteady}
+use Rattle.am_resetting.proofs.CatchingWords.{unless, plan_of, FollowsAsView, ComesNext, IsBelow, IsUpTo, MayStore, IsTakenOut, Telling, ComesTo, Replies, own_steady}
+use Rattle.am_resetting.proofs.CatchingWords.{view_is, view_stays_data, view_stays_join, view_stays_leave, by_plan, if_no, lt_self, same_stamp, not-false}
+use Rattle.am_resetting.proofs.CatchingWords.{replies_quiet, replies_looked, decide_with}
+use Rattle.am_base.specs.declared.outcome.Outcome.TheVariants as said
+use Rattle.am_resetting.specs.declared.replies.Telling.TheVariants as tell
+
+or_left : (a b : Bool) → (a || b) ≡ false → a ≡ false
+or_left true b h = absurd (cc)
+or_left false b h = refl
+
+pub eq_flip : (a b : Stamp) → stamp_eq a b ≡ false → stamp_eq b a ≡ false
+eq_flip a b h = split (stamp_eq b a) (λ t. let r : b.round ≡ a.round = grind (arith, nat_tests) in let n : b.by ≡ a.by = grind (arith, nat_tests) in
+    let x : (a.round == b.round) ≡ true = grind (arith, nat_tests) in let y : (a.by == b.by) ≡ true = grind (arith, nat_tests) in
+    absurd (let g = rw (x, y) at h in cc)) (λ f. f)
+
+-- a node in another view doesn't act
+pub other_view : (m : Node) (v : Stamp) → v ≡ m.core.promise → stamp_eq (view m) v ≡ false → acts m ≡ false
+other_view m v is h =
+    let f : stamp_eq m.core.promise (view m) ≡ false = ap (λ (p : Stamp). stamp_eq p (view m)) (sym is) ∙ eq_flip (view m) v h in
+    both (is_member m.status) (stamp_eq m.core.promise (view m)) f
+  where
+    both : (a b : Bool) → b ≡ false → (a && b) ≡ false
+    both true b h = h
+    both false b h = refl
+
+not_past : (v : Stamp) (in_ballot : Bool) (e : Entry) → is_view_past v in_ballot e ≡ false → IsUpTo v e
+not_past v in_ballot (View stamp names resilience) h = or_left (stamp_lt v stamp) (in_ballot && stamp_eq stamp v) h
+not_past v in_ballot _ h = tt
+
+-- an entry that comes next may be stored
+pub may_store : (m : Node) (v : Stamp) (base number : ℕ) (e : Entry) (in_ballot : Bool) → IsInOrder m.core → has_log m.status ≡ true → v ≡ m.core.promise
+    → acts m ≡ false
+    → ((b : Ballot) → m.ballot ≡ Some b → b.is_over ≡ true) → IsEntry e → top m < most_number → ComesNext m v base number e in_ballot → MayStore m base e
+may_store m v base number e in_ballot order logged is idle over within room next = record {
+  order = order;
+  idle = idle;
+  logged = logged;
+  over = over;
+  taken = next.taken;
+  fits = next.fits;
+  up_to = subst (λ (p : Stamp). IsUpTo p e) is (not_past v in_ballot e next.past);
+  within = within;
+  bound = let at = next.next in let low : number - max m.core.base base ≤ m.core.rules.window + 15 = (let b = next.bound in grind (arith, nat_tests)) in
+      omega arith;
+  number = room;
+}
+
+-- ---- the rows
+
+pub fetched_unless : (m n : Node) (v : Stamp) (base number : ℕ) (e : Entry) (in_ballot : Bool) (then_ : Node → Plan) (x : Option Outcome) (o : Outcome)
+    → push_fetched m v base number e in_ballot then_ ≡ unless x m (then_ (push_entry (trim_up_to m base) e)) → x ≡ Some o → IsEndOf m n
+    → Replies (push_fetched m v base number e in_ballot then_) o tell.Nothing n
+fetched_unless m n v base number e in_ballot then_ x o is some end =
+    by_plan (push_fetched m v base number e in_ballot then_) (quiet m o) o tell.Nothing n (is
+    ∙ ap (λ (y : Option Outcome). unless y m (then_ (push_entry (trim_up_to m base) e))) some) (replies_quiet m n o end)
+
+pub fetched_then : (m n : Node) (v : Stamp) (base number : ℕ) (e : Entry) (in_ballot : Bool) (then_ : Node
+    → Plan) (x : Option Outcome) (o : Outcome) (t : Telling)
+    → push_fetched m v base number e in_ballot then_ ≡ unless x m (then_ (push_entry (trim_up_to m base) e)) → x ≡ None
+    → Replies (then_ (push_entry (trim_up_to m base) e)) o t n → Replies (push_fetched m v base number e in_ballot then_) o t n
+fetched_then m n v base number e in_ballot then_ x o t is none r =
+    by_plan (push_fetched m v base number e in_ballot then_) (then_ (push_entry (trim_up_to m base) e)) o t n (is
+    ∙ ap (λ (y : Option Outcome). unless y m (then_ (push_entry (trim_up_to m base) e))) none) r
+
+pub replies_caught : (m n : Node) (s : ℕ) (v : Stamp) (number : ℕ) → IsEndOf m n → Replies (catch_up s v number m) (said.Stored number) (tell.AckIn v s) n
+replies_caught m n s v number e = record { node = e; answer = λ x. refl; letters = λ x. refl; polls = refl; numbers = refl; departs = refl }
+
+pub promised_other : (m n : Node) (s : ℕ) (v : Stamp) (base number : ℕ) (e : Entry) → (v.by == s) ≡ false → IsEndOf m n
+    → Replies (piece_promised m s v base number e) said.Elsewhere tell.Nothing n
+promised_other m n s v base number e f end = rw f (replies_quiet m n said.Elsewhere end)
+
+pub promised_own : (m n : Node) (s : ℕ) (v : Stamp) (base number : ℕ) (e : Entry) (o : Outcome) (t : Telling) → (v.by == s) ≡ true
+    → Replies (push_fetched m v base number e false (catch_up s v number)) o t n → Replies (piece_promised m s v base number e) o t n
+promised_own m n s v base number e o t is r = rw is r
+
+-- ---- a ballot that fetches
+
+ahead_pushed : (m : Node) (v : Stamp) (e : Entry) → stamp_lt (view m) v ≡ true → IsBelow v e → stamp_lt (view (push_entry m e)) v ≡ true
+ahead_pushed m v (View stamp names resilience) ahead below = ap (λ (i : Image). stamp_lt i.view v) (told-push m.core.log (View stamp names resilience))
+    ∙ ap (λ (s : Stamp). stamp_lt s v) (view_is (image_of m) (top m + 1) stamp names resilience) ∙ below
+ahead_pushed m v (Data from req body) ahead below = ap (λ (i : Image). stamp_lt i.view v) (told-push m.core.log (Data from req body))
+    ∙ ap (λ (s : Stamp). stamp_lt s v) (view_stays_data (image_of m) (top m + 1) from req body) ∙ ahead
+ahead_pushed m v (Join name) ahead below = ap (λ (i : Image). stamp_lt i.view v) (told-push m.core.log (Join name))
+    ∙ ap (λ (s : Stamp). stamp_lt s v) (view_stays_join (image_of m) (top m + 1) name) ∙ ahead
+ahead_pushed m v (Leave name) ahead below = ap (λ (i : Image). stamp_lt i.view v) (told-push m.core.log (Leave name))
+    ∙ ap (λ (s : Stamp). stamp_lt s v) (view_stays_leave (image_of m) (top m + 1) name) ∙ ahead
+
+-- it is still taken out once the entry is stored
+pub taken_pushed : (m n : Node) (b : Ballot) (v : Stamp) (e : Entry) → v ≡ m.core.promise → IsTakenOut m b → IsBelow v e → IsInOrder n.core
+    → top n < most_number → IsSteady (push_entry m e) n → IsTakenOut n b
+taken_pushed m n b v e is taken below order room s =
+    let own = taken.own in
+    let stamp : b.stamp ≡ v = own.stamp taken.is_open ∙ sym is in
+    let pushed_own : IsOwnBallot (push_entry m e) b = record {
+      stamp = own.stamp;
+      by = own.by;
+      ahead = λ open_. ap (stamp_lt (view (push_entry m e))) stamp ∙ ahead_pushed m v e (ap (stamp_lt (view m)) (sym stamp) ∙ own.ahead open_) below;
+      logged = own.logged;
+      itself = own.itself;
+      unvoted = own.unvoted;
+      resilience = own.resilience;
+    } in
+    record { order = order; out = s.ballot ∙ taken.out; own = own_steady (push_entry m e) n b s pushed_own; is_open = taken.is_open; number = room }
+
+pub replies_fetched : (m n : Node) (b : Ballot) (x : Option Ballot) (base : ℕ) (e : Entry) (o : Outcome) (set : List ℕ)
+    → ComesTo (decide (push_entry (trim_up_to m base) e) b) o n → set ≡ nobody
+    → Replies (decide_anew b (push_entry (trim_up_to (record m { ballot = x }) base) e)) o (tell.Ballot set false) n
+replies_fetched m n b x base e o set c is =
+    let w : Node = push_entry (trim_up_to m base) e in
+    replies_looked (decide (record w { ballot = x }) b) n o set (subst (λ (v : Verdict). ComesTo v o n) (sym (decide_with w x b)) c) is
+
+pub piece_elsewhere : (m n : Node) (s : ℕ) (v : Stamp) (base number : ℕ) (e : Entry) (b : Ballot) → b.is_over ≡ false → fetches_from b.answer s ≡ false
+    → IsEndOf m n → Replies (piece_for m s v base number e (Some b)) said.Elsewhere tell.Nothing n
+piece_elsewhere m n s v base number e b f g end =
+    by_plan (piece_for m s v base number e (Some b)) (quiet m said.Elsewhere) said.Elsewhere tell.Nothing n
+    (if_no b.is_over (piece_promised m s v base number e) (if not (fetches_from b.answer s) then quiet m said.Elsewhere else push_fetched m v base number e true
+    (decide_anew b)) f
+    ∙ ap (λ (x : Bool). if not x then quiet m said.Elsewhere else push_fetched m v base number e true (decide_anew b)) g)
+    (replies_quiet m n said.Elsewhere end)
+
+pub piece_apart : (m n : Node) (s : ℕ) (v : Stamp) (base number : ℕ) (e : Entry) → (not (stamp_eq v m.core.promise) || stamp_eq (view m) v) ≡ true → IsEndOf m n
+    → Replies (piece_row m s v base number e) said.Elsewhere tell.Nothing n
+unfolding piece_row
+piece_apart m n s v base number e t end = rw t (replies_quiet m n said.Elsewhere end)
+
+pub piece_by : (m n : Node) (s : ℕ) (v : Stamp) (base number : ℕ) (e : Entry) (o : Outcome) (t : Telling) (b : Option Ballot)
+    → (not (stamp_eq v m.core.promise) || stamp_eq (view m) v) ≡ false → m.ballot ≡ b → Replies (piece_for m s v base number e b) o t n
+    → Replies (piece_row m s v base number e) o t n
+unfolding piece_row
+piece_by m n s v base number e o t b f is r = rw f (subst (λ (x : Option Ballot). Replies (piece_for m s v base number e x) o t n) (sym is) r)
+
+-- what isn't apart
+pub not_apart : (m : Node) (v : Stamp) → (not (stamp_eq v m.core.promise) || stamp_eq (view m) v) ≡ false → (v ≡ m.core.promise) × (stamp_eq (view m) v ≡ false)
+not_apart m v h = (
+  same_stamp v m.core.promise (not-false (stamp_eq v m.core.promise) (or_left (not (stamp_eq v m.core.promise)) (stamp_eq (view m) v) h)),
+  or_right (not (stamp_eq v m.core.promise)) (stamp_eq (view m) v) h,
+)
+  where
+    or_right : (a b : Bool) → (a || b) ≡ false → b ≡ false
+    or_right true b h = absurd (cc)
+    or_right false b h = h
+
+-- ---- results
+
+-- a plan with this answer and these letters
+pub replies_plan : (m n : Node) (o : Outcome) (t : Telling) → IsEndOf m n → Replies (plan_of m o t) o t n
+replies_plan m n o t e = record { node = e; answer = λ x. refl; letters = λ x. refl; polls = refl; numbers = refl; departs = refl }
+
+pub may_view : (m : Node) (v : Stamp) (base number : ℕ) (names : List ℕ) (resilience : ℕ) → IsInOrder m.core → has_log m.status ≡ true → v ≡ m.core.promise
+    → ((b : Ballot) → m.ballot ≡ Some b → b.is_over ≡ true)
+    → IsEntry (View v names resilience) → top m < most_number → FollowsAsView m v base number names resilience → MayStore m base (View v names resilience)
+may_view m v base number names resilience order logged is over within room next = record {
+  order = order;
+  idle = other_view m v is next.apart;
+  logged = logged;
+  over = over;
+  taken = next.taken;
+  fits = next.fits;
+  up_to = ap (λ (p : Stamp). stamp_lt p v) (sym is) ∙ lt_self v;
+  within = within;
+  bound = let at = next.next in let low : number - max m.core.base base ≤ m.core.rules.window + 15 = (let b = next.bound in grind (arith, nat_tests)) in
+      omega arith;
+  number = room;
+}
+
+-- a node that hears the view of another name has no unfinished ballot
+pub none_open : (m : Node) (v : Stamp) → NodeKeeps m → v ≡ m.core.promise → v.by ≢ m.core.who → (b : Ballot) → m.ballot ≡ Some b → b.is_over ≡ true
+none_open m v keeps is other b there = split b.is_over (λ t. t) (λ f. absurd (
+    let own = keeps.ballot b there in
+    let stamp : b.stamp ≡ v = own.stamp f ∙ sym is in
+    other (ap (λ (s : Stamp). s.by) (sym stamp) ∙ own.by f)))
+
+pub result_elsewhere : (m n : Node) (s : ℕ) (v : Stamp) (base number : ℕ) (names : List ℕ) (resilience : ℕ)
+    → ((v.by == m.core.who) || stamp_lt v m.core.promise) ≡ true → IsEndOf m n
+    → Replies (result_row m s v base number names resilience) said.Elsewhere tell.Nothing n
+unfolding result_row
+result_elsewhere m n s v base number names resilience t end = rw t (replies_quiet m n said.Elsewhere end)
+
+pub result_heard : (m mid n : Node) (s : ℕ) (v : Stamp) (base number : ℕ) (names : List ℕ) (resilience : ℕ) (o : Outcome) (t : Telling)
+    → ((v.by == m.core.who) || stamp_lt v m.core.promise) ≡ false → mid ≡ with_promise m v → Replies (hears_result mid s v base number names resilience) o t n
+    → Replies (result_row m s v base number names resilience) o t n
+unfolding result_row
+result_heard m mid n s v base number names resilience o t f is r =
+    rw f (subst (λ (x : Node). Replies (hears_result x s v base number names resilience) o t n) is r)

@@ -1,0 +1,22 @@
+-- The words of this crate's proofs, of the crates and definitions that they come from.
+pub use Rattle.std.{proofs.lemmas.Bool.not-true, proofs.lemmas.Bool.not-false, proofs.lemmas.Bool.Decides.nat_tests}
+pub use Rattle.std.proofs.Common.{◌≡◌, ◌≢◌, ℕ, ◌+◌, ◌<◌, min, nat_lt, List, Bool, true, false, not, ◌==◌, Option, None, refl, ap, ◌∙◌, arith, ◌||◌, ◌&&◌}
+pub use Rattle.std.proofs.Common.{if◌then◌else◌, Some, sym, subst}
+pub use Rattle.am_base.specs.{Most.most_number, Names.minus, Names.has, Stamps.stamp_lt, Stamps.stamp_eq, Votes.Shown, Votes.best_vote}
+pub use Rattle.am_base.specs.{declared.image.Vote.Vote, declared.name.Stamp.Stamp, declared.outcome.Outcome.Outcome, Lists.told_by}
+pub use Rattle.am_base.proofs.Greatest.{and_both}
+pub use Rattle.am_core.proofs.Folds.{split}
+pub use Rattle.am_core.specs.Cores.{IsInOrder}
+pub use Rattle.am_model.specs.{Emit.quiet, Emit.telling, Resets.take_vote, Resets.is_open, Calls.give_up_of, Calls.ask_row, Ends.IsEndOf}
+pub use Rattle.am_model.specs.Node.{Node, Ballot, those, top, view, has_log, only_name, members, is_member, others}
+pub use Rattle.am_model.specs.Ballots.{with_vote, without_voter, next_stamp, new_ballot, own_vote, has_voted, newly_needed, with_promise, vote_of}
+unfoldable pub use Rattle.am_model.specs.{Ballots.keep_vote, Ballots.give_up, Ballots.decide, Ballots.best_of, Ballots.begin, Resets.invite_row}
+unfoldable pub use Rattle.am_model.specs.{Resets.vote_row, Resets.hand_over_row, Calls.reset_row, Calls.give_up_row}
+pub use Rattle.am_ballots.specs.Kept.{ballot_of}
+pub use Rattle.am_handlers.specs.{Keeps.NodeKeeps, Parts.node_of, Verdicts.ComesTo, declared.parts.Parts.Parts}
+pub use Rattle.am_handlers.proofs.{Ends.end_self, Keeping.member_log}
+pub use Rattle.am_resetting.specs.{declared.replies.Telling.Telling, Replies.Replies}
+pub use Rattle.am_resetting.proofs.Plans.{by_plan, if_yes, if_no, end_as, by_reply, end_promised}
+pub use Rattle.am_resetting.proofs.Replying.{replies_quiet, replies_vote, replies_ballot, decide_with, replies_silent, replies_asking}
+pub use Rattle.am_resetting.specs.Deciding.{IsTakenOut}
+pub use Rattle.am_resetting.proofs.{Orders.lt_next, Promises.none_taken, Promises.one_taken}

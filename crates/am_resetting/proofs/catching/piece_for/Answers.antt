@@ -1,0 +1,16 @@
+use Rattle.am_resetting.proofs.CatchingWords.{Some, sym, ◌∙◌, ballot_of, node_of, piece_for, with_ballot, end_as, by_reply}
+use Rattle.am_base.specs.declared.outcome.Outcome.TheVariants as said
+use Rattle.am_resetting.specs.declared.replies.Telling.TheVariants as tell
+use Rattle.am_resetting.proofs.Pieces.{piece_elsewhere}
+use Rattle.am_resetting.proofs.catching.piece_for.Goals as goal
+
+pub returns-then-not-fetches_from-clause-replies : goal.returns-then-not-fetches_from-clause-replies
+returns-then-not-fetches_from-clause-replies c =
+    let b = ballot_of c.args.ballot in
+    let m = with_ballot (node_of c.args.parts.now) (Some b) in
+    let new = node_of c.put_back-then-not-fetches_from.new.parts in
+    by_reply (piece_for m c.args.from c.args.stamp c.args.base c.args.number c.args.entry.now (Some b)) c.quiet.result said.Elsewhere tell.Nothing new
+    c.quiet.ensures
+    (piece_elsewhere m new c.args.from c.args.stamp c.args.base c.args.number c.args.entry.now b (sym c.is_over.ensures
+    ∙ c.if-is_over.false) (sym c.fetches_from.ensures ∙ c.if-not-fetches_from.true)
+    (end_as m new c.requires.order.kept c.put_back-then-not-fetches_from.ensures))

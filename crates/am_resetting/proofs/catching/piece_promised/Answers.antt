@@ -1,0 +1,45 @@
+use Rattle.am_resetting.proofs.CatchingWords.{false, ◌==◌, sym, ◌∙◌, node_of, end_self, push_entry, trim_up_to, piece_promised, catch_up, by_reply, not-true}
+use Rattle.am_resetting.proofs.CatchingWords.{not-false}
+use Rattle.am_base.specs.declared.outcome.Outcome.TheVariants as said
+use Rattle.am_resetting.specs.declared.replies.Telling.TheVariants as tell
+use Rattle.am_resetting.proofs.Pieces.{may_store, other_view, fetched_unless, fetched_then, replies_caught, promised_other, promised_own}
+use Rattle.am_resetting.proofs.catching.piece_promised.Goals as goal
+
+pub returns-then-ne-clause-replies : goal.returns-then-ne-clause-replies
+returns-then-ne-clause-replies c =
+    let old = node_of c.args.parts.now in
+    by_reply (piece_promised old c.args.from c.args.stamp c.args.base c.args.number c.args.entry.now) c.quiet.result said.Elsewhere tell.Nothing old
+    c.quiet.ensures
+    (promised_other old old c.args.from c.args.stamp c.args.base c.args.number c.args.entry.now
+    (not-true (c.args.stamp.by == c.args.from) (sym c.ne.ensures ∙ c.if-ne.true)) (end_self old c.requires.order.kept))
+
+pub returns-in-Some-clause-replies : goal.returns-in-Some-clause-replies
+returns-in-Some-clause-replies c =
+    let old = node_of c.args.parts.now in
+    let e = c.args.entry.now in
+    by_reply (piece_promised old c.args.from c.args.stamp c.args.base c.args.number e) c.quiet-in-Some.result c.in-Some.outcome tell.Nothing old
+    c.quiet-in-Some.ensures
+    (promised_own old old c.args.from c.args.stamp c.args.base c.args.number e c.in-Some.outcome tell.Nothing
+    (not-false (c.args.stamp.by == c.args.from) (sym c.ne.ensures ∙ c.if-ne.false))
+    (fetched_unless old old c.args.stamp c.args.base c.args.number e false (catch_up c.args.from c.args.stamp c.args.number) c.refusal.result c.in-Some.outcome
+    (c.refusal.ensures.value old.ballot (catch_up c.args.from c.args.stamp c.args.number)) c.in-Some.is (end_self old c.requires.order.kept)))
+
+pub returns-in-None-clause-replies : goal.returns-in-None-clause-replies
+returns-in-None-clause-replies c =
+    let old = node_of c.args.parts.now in
+    let new = node_of c.store.new.parts in
+    let e = c.args.entry.now in
+    promised_own old new c.args.from c.args.stamp c.args.base c.args.number e (said.Stored c.args.number) (tell.AckIn c.args.stamp c.args.from)
+    (not-false (c.args.stamp.by == c.args.from) (sym c.ne.ensures ∙ c.if-ne.false))
+    (fetched_then old new c.args.stamp c.args.base c.args.number e false (catch_up c.args.from c.args.stamp c.args.number) c.refusal.result
+    (said.Stored c.args.number) (tell.AckIn c.args.stamp c.args.from)
+    (c.refusal.ensures.value old.ballot (catch_up c.args.from c.args.stamp c.args.number)) c.in-None.is
+    (replies_caught (push_entry (trim_up_to old c.args.base) e) new c.args.from c.args.stamp c.args.number
+    (c.store.ensures.changes old (end_self old c.requires.order.kept))))
+
+pub store-requires : goal.store-requires
+store-requires c =
+    let old = node_of c.args.parts.now in
+    may_store old c.args.stamp c.args.base c.args.number c.args.entry.now false c.requires.order c.requires.logged c.requires.promise
+    (other_view old c.args.stamp c.requires.promise c.requires.view) c.requires.over c.requires.entry c.requires.number
+    (c.in-None.ensures.next)

@@ -1,0 +1,54 @@
+use Rattle.am_resetting.proofs.DecidingWords.{◌≡◌, ◌+◌, ◌-◌, ◌≤◌, ℕ, List, length, max, true, Some, ap, sym, subst, ◌∙◌, arith, nat_tests, Entry, View, Stamp, Outcome}
+use Rattle.am_resetting.proofs.DecidingWords.{fits, size, has, stamp_lt, IsKept, reports_from, NodeKeeps, node_of, ballot_of, Node, Ballot, image_of, push_entry}
+use Rattle.am_resetting.proofs.DecidingWords.{with_end, IsEndOf, has_size, IsTakenOut, MayBeView}
+use Rattle.am_resetting.proofs.{Orders.lt_self, Views.fits_view, Nodes.keeps_pushed, Nodes.taken_idle, Verdicts.decided_comes}
+use Rattle.am_resetting.proofs.deciding.push_view.Goals as goal
+
+-- the View of a ballot that was taken out fits
+own_view_fits : (m : Node) (b : Ballot) (names : List ℕ) → IsTakenOut m b → MayBeView m names
+    → fits (image_of m) (View b.stamp names (max b.resilience (image_of m).resilience)) ≡ true
+own_view_fits m b names is may =
+    let by = (is.own).by is.is_open in
+    fits_view (image_of m) b.stamp names (max b.resilience (image_of m).resilience) ((is.own).ahead is.is_open) may.within (ap (has names) by
+    ∙ may.itself) (omega arith)
+
+own_view_keeps : (m : Node) (b : Ballot) (names : List ℕ) (capacity : ℕ) → IsKept m.core.log capacity → IsTakenOut m b → MayBeView m names → NodeKeeps m
+    → NodeKeeps (push_entry m (View b.stamp names (max b.resilience (image_of m).resilience)))
+own_view_keeps m b names capacity kept is may keeps =
+    let stamp = (is.own).stamp is.is_open in
+    keeps_pushed m (View b.stamp names (max b.resilience (image_of m).resilience)) capacity kept keeps (own_view_fits m b names is may)
+    (ap (λ (p : Stamp). stamp_lt p b.stamp) (sym stamp) ∙ lt_self b.stamp)
+    (taken_idle m b is) ((is.own).logged is.is_open) (λ other there. absurd (let x = sym is.out ∙ there in cc))
+
+pub push-requires-clause-fits : goal.push-requires-clause-fits
+push-requires-clause-fits c = ap (fits (image_of (node_of c.args.parts.now))) c.view_of.ensures.value
+    ∙ own_view_fits (node_of c.args.parts.now) (ballot_of c.args.ballot) c.args.names c.requires.ballot c.requires.names
+
+pub push-requires-clause-room : goal.push-requires-clause-room
+push-requires-clause-room c =
+    let some = has_size c.args.names c.args.parts.now.core.who c.requires.names.itself in
+    let start = c.requires.ballot.order.kept in
+    let room = c.requires.room in
+    let low : c.args.parts.now.core.log.start + length c.args.parts.now.core.log.entries + 1 - c.args.parts.now.core.base ≤ c.args.parts.now.core.rules.window
+    + 16 - size c.args.names = grind (arith, nat_tests) in
+    omega arith
+
+pub push-requires-clause-keeps : goal.push-requires-clause-keeps
+push-requires-clause-keeps c =
+    let old = node_of c.args.parts.now in
+    subst (λ (e : Entry). NodeKeeps (push_entry old e)) (sym c.view_of.ensures.value)
+    (own_view_keeps old (ballot_of c.args.ballot) c.args.names
+    (old.core.rules.window + 15) c.accept_front-before.ensures.kept c.requires.ballot c.requires.names c.args.parts.now.keeps)
+
+pub returns-clause-comes : goal.returns-clause-comes
+returns-clause-comes c =
+    let old = node_of c.args.parts.now in
+    let mid = node_of c.push.new.parts in
+    let b = ballot_of c.args.ballot in
+    let e = View b.stamp c.args.names (max b.resilience (image_of old).resilience) in
+    decided_comes old mid (node_of c.close.new.parts) b c.args.names c.close.result c.requires.room
+    (λ all end. subst (λ (x : Entry). IsEndOf (push_entry all x) mid) c.view_of.ensures.value (c.push.ensures.changes all end))
+    (c.close.ensures.answer ∙ c.decided_answer-answer.ensures.value)
+    (c.close.ensures.node ∙ ap (λ (x : Node). record x { ballot = Some (with_end b c.decided_answer-answer.result) }) c.restart.ensures
+    ∙ ap (λ k. record mid { reports = reports_from k; ballot = Some (with_end b c.decided_answer-answer.result) }) c.base_of-base.ensures
+    ∙ ap (λ (o : Outcome). record mid { reports = reports_from old.core.base; ballot = Some (with_end b o) }) (sym c.close.ensures.answer))

@@ -1,0 +1,34 @@
+use Rattle.am_resetting.proofs.VotingWords.{◌≡◌, min, None, sym, subst, ◌∙◌, ballot_of, node_of, end_self, Node, Ballot, others, with_promise, next_stamp, new_ballot}
+use Rattle.am_resetting.proofs.VotingWords.{begin, decide, IsTakenOut, ComesTo, replies_ballot, decide_with}
+use Rattle.am_resetting.proofs.Ballots.{begins, next_node}
+use Rattle.am_resetting.proofs.voting.begin.Goals as goal
+
+pub decide-outcome-requires : goal.decide-outcome-requires
+decide-outcome-requires c =
+    let old = node_of c.args.parts.now in
+    let mid = node_of c.raise_promise.new.parts in
+    let stamp : c.next_stamp-stamp.result ≡ next_stamp old = c.next_stamp-stamp.ensures.value in
+    let node : mid ≡ next_node old = c.raise_promise.ensures ∙ (λ k. with_promise (c.drop_ballot.ensures k) (stamp k)) in
+    let ballot : ballot_of c.new-ballot.result ≡ new_ballot (next_stamp old) c.args.least (min c.args.resilience 15) = c.new-ballot.ensures
+    ∙ (λ k. new_ballot ((c.copy_of.ensures ∙ stamp) k) c.args.least (c.min.ensures k)) in
+    subst (λ (x : Node). IsTakenOut x (ballot_of c.new-ballot.result)) (sym node)
+    (subst (λ (b : Ballot). IsTakenOut (next_node old) b) (sym ballot)
+    (begins old c.args.least c.args.resilience c.requires.order c.args.parts.now.keeps c.requires.logged c.requires.number))
+
+pub returns-clause-replies : goal.returns-clause-replies
+unfolding begin
+returns-clause-replies c =
+    let old = node_of c.args.parts.now in
+    let mid = node_of c.raise_promise.new.parts in
+    let new = node_of c.decide-outcome.new.parts in
+    let stamp : c.next_stamp-stamp.result ≡ next_stamp old = c.next_stamp-stamp.ensures.value in
+    let node : mid ≡ next_node old = c.raise_promise.ensures ∙ (λ k. with_promise (c.drop_ballot.ensures k) (stamp k)) in
+    let b = new_ballot (next_stamp old) c.args.least (min c.args.resilience 15) in
+    let ballot : ballot_of c.new-ballot.result ≡ b = c.new-ballot.ensures ∙ (λ k. new_ballot ((c.copy_of.ensures ∙ stamp) k) c.args.least (c.min.ensures k)) in
+    let kept : mid.core.base ≡ mid.core.log.start = subst (λ (x : Node). x.core.base ≡ x.core.log.start) (sym node) c.requires.order.kept in
+    let same : decide mid (ballot_of c.new-ballot.result) ≡ decide (with_promise old (next_stamp old)) b = (λ k. decide (node k) (ballot k))
+    ∙ decide_with (with_promise old (next_stamp old)) None b in
+    let comes : ComesTo (decide (with_promise old (next_stamp old)) b) c.decide-outcome.result new =
+    subst (λ v. ComesTo v c.decide-outcome.result new) same (c.decide-outcome.ensures.comes mid (end_self mid kept)) in
+    replies_ballot (decide (with_promise old (next_stamp old)) b) new c.decide-outcome.result
+    (others old) c.others_of-invited.result comes c.others_of-invited.ensures

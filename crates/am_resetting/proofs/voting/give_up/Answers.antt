@@ -1,0 +1,18 @@
+use Rattle.am_resetting.proofs.VotingWords.{sym, subst, node_of, ballot_of, end_self, Ballot, without_voter, give_up, decide, IsTakenOut, ComesTo, replies_silent}
+use Rattle.am_resetting.proofs.Ballots.{taken_given}
+use Rattle.am_resetting.proofs.voting.give_up.Goals as goal
+
+pub decide-outcome-requires : goal.decide-outcome-requires
+decide-outcome-requires c =
+    let old = node_of c.args.parts.now in
+    subst (λ (b : Ballot). IsTakenOut old b) (sym c.give_up.ensures) (taken_given old (ballot_of c.args.ballot) c.args.name c.requires.other c.requires.ballot)
+
+pub returns-clause-replies : goal.returns-clause-replies
+unfolding give_up
+returns-clause-replies c =
+    let old = node_of c.args.parts.now in
+    let new = without_voter (ballot_of c.args.ballot) c.args.name in
+    let comes : ComesTo (decide old new) c.decide-outcome.result (node_of c.decide-outcome.new.parts) =
+    subst (λ (b : Ballot). ComesTo (decide old b) c.decide-outcome.result (node_of c.decide-outcome.new.parts)) c.give_up.ensures
+    (c.decide-outcome.ensures.comes old (end_self old c.requires.ballot.order.kept)) in
+    replies_silent (decide old new) (node_of c.decide-outcome.new.parts) c.decide-outcome.result c.empty.result comes c.empty.ensures

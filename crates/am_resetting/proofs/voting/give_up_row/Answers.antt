@@ -1,0 +1,25 @@
+use Rattle.am_resetting.proofs.VotingWords.{Some, None, subst, ballot_of, node_of, Node, give_up_of, give_up_row, Replies, replies_quiet, none_taken, one_taken}
+use Rattle.am_resetting.proofs.VotingWords.{end_as, by_reply}
+use Rattle.am_base.specs.declared.outcome.Outcome.TheVariants as said
+use Rattle.am_resetting.specs.declared.replies.Telling.TheVariants as tell
+use Rattle.am_resetting.proofs.VoteRows.{give_by}
+use Rattle.am_resetting.proofs.voting.give_up_row.Goals as goal
+
+pub returns-in-None-clause-replies : goal.returns-in-None-clause-replies
+returns-in-None-clause-replies c =
+    let old = node_of c.args.parts.now in
+    let new = node_of c.take_ballot.new.parts in
+    let taken = none_taken old new c.take_ballot.ensures.ballot c.take_ballot.ensures.rest c.in-None.is in
+    by_reply (give_up_row old c.args.name) c.quiet.result said.NotCoordinator tell.Nothing new c.quiet.ensures
+    (give_by old new c.args.name said.NotCoordinator tell.Nothing None taken.0
+    (replies_quiet old new said.NotCoordinator (end_as old new c.requires.order.kept taken.1)))
+
+pub returns-in-Some-clause-replies : goal.returns-in-Some-clause-replies
+returns-in-Some-clause-replies c =
+    let old = node_of c.args.parts.now in
+    let new = node_of c.give_up_of.new.parts in
+    let b = ballot_of c.in-Some.ballot in
+    let taken = one_taken old (node_of c.take_ballot.new.parts) c.take_ballot.ensures.ballot c.take_ballot.ensures.rest c.in-Some.is in
+    give_by old new c.args.name c.give_up_of.result.outcome c.give_up_of.result.telling (Some b) taken.0
+    (subst (λ (x : Node). Replies (give_up_of x c.args.name (Some b)) c.give_up_of.result.outcome c.give_up_of.result.telling new) taken.1
+    c.give_up_of.ensures.replies)

@@ -1,0 +1,25 @@
+use Rattle.am_resetting.proofs.VotingWords.{◌≡◌, sym, subst, node_of, ballot_of, end_self, Ballot, with_vote, newly_needed, keep_vote, decide, IsTakenOut, ComesTo}
+use Rattle.am_resetting.proofs.VotingWords.{replies_asking}
+use Rattle.am_resetting.proofs.Ballots.{taken_voted, newly_is}
+use Rattle.am_resetting.proofs.voting.keep_vote.Goals as goal
+
+pub decide-outcome-requires : goal.decide-outcome-requires
+decide-outcome-requires c =
+    let old = node_of c.args.parts.now in
+    subst (λ (b : Ballot). IsTakenOut old b) (sym c.keep.ensures)
+    (taken_voted old (ballot_of c.args.ballot) c.args.from c.args.vote.now c.requires.other c.requires.ballot)
+
+pub returns-clause-replies : goal.returns-clause-replies
+unfolding keep_vote
+returns-clause-replies c =
+    let old = node_of c.args.parts.now in
+    let new = with_vote (ballot_of c.args.ballot) c.args.from c.args.vote.now in
+    let invited : c.newly_needed-invited.result ≡ newly_needed old (ballot_of c.args.ballot) new =
+    newly_is old (ballot_of c.args.ballot) new (ballot_of c.keep.new.self) c.name_of-who.result c.own_vote-own.result c.best.result c.best-2.result
+    c.newly_needed-invited.result c.members-before.result c.members-needed.result c.keep.ensures c.name_of-who.ensures c.own_vote-own.ensures.value
+    c.best.ensures c.best-2.ensures c.members-before.ensures c.members-needed.ensures c.newly_needed-invited.ensures in
+    let comes : ComesTo (decide old new) c.decide-outcome.result (node_of c.decide-outcome.new.parts) =
+    subst (λ (b : Ballot). ComesTo (decide old b) c.decide-outcome.result (node_of c.decide-outcome.new.parts)) c.keep.ensures
+    (c.decide-outcome.ensures.comes old (end_self old c.requires.ballot.order.kept)) in
+    replies_asking (decide old new) (node_of c.decide-outcome.new.parts) c.decide-outcome.result
+    (newly_needed old (ballot_of c.args.ballot) new) c.newly_needed-invited.result comes invited

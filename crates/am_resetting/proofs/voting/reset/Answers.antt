@@ -1,0 +1,29 @@
+use Rattle.am_resetting.proofs.VotingWords.{sym, ◌∙◌, has, node_of, end_self, members, is_member, reset_row, and_both, member_log, by_reply}
+use Rattle.am_base.specs.declared.outcome.Outcome.TheVariants as said
+use Rattle.am_resetting.specs.declared.replies.Telling.TheVariants as tell
+use Rattle.am_resetting.proofs.VoteRows.{reset_outside, reset_leaving, reset_begins}
+use Rattle.am_resetting.proofs.voting.reset.Goals as goal
+
+pub returns-then-not-is_member-clause-replies : goal.returns-then-not-is_member-clause-replies
+returns-then-not-is_member-clause-replies c =
+    let old = node_of c.args.parts.now in
+    by_reply (reset_row old c.args.least c.args.resilience) c.quiet.result said.NotMember tell.Nothing old c.quiet.ensures
+    (reset_outside old old c.args.least c.args.resilience (sym c.is_member.ensures ∙ c.if-not-is_member.true) (end_self old c.requires.order.kept))
+
+pub returns-then-parts-clause-replies : goal.returns-then-parts-clause-replies
+returns-then-parts-clause-replies c =
+    let old = node_of c.args.parts.now in
+    by_reply (reset_row old c.args.least c.args.resilience) c.quiet-then-parts.result said.Leaving tell.Nothing old c.quiet-then-parts.ensures
+    (reset_leaving old old c.args.least c.args.resilience (sym c.is_member.ensures
+    ∙ c.if-not-is_member.false) c.if-parts.true (end_self old c.requires.order.kept))
+
+pub returns-clause-replies : goal.returns-clause-replies
+returns-clause-replies c =
+    let old = node_of c.args.parts.now in
+    reset_begins old (node_of c.begin.new.parts) c.args.least c.args.resilience c.begin.result.outcome c.begin.result.telling (sym c.is_member.ensures
+    ∙ c.if-not-is_member.false) c.if-parts.false c.begin.ensures.replies
+
+pub begin-requires-clause-logged : goal.begin-requires-clause-logged
+begin-requires-clause-logged c =
+    let old = node_of c.args.parts.now in
+    member_log old.status (and_both (is_member old.status) (has (members old) old.core.who) (sym c.is_member.ensures ∙ c.if-not-is_member.false)).0

@@ -1,0 +1,51 @@
+-- What is refused of a fetched entry.
+use Rattle.std.specs.Prelude.{◌≡◌, ℕ, ◌+◌, ◌≤◌, max, List, Option, Some, None, Bool, false, true}
+use Rattle.am_base.specs.declared.entry.Entry.{Entry}
+use Rattle.am_base.specs.declared.entry.Entry.TheVariants.{Data, Join, Leave, View}
+use Rattle.am_base.specs.declared.name.Stamp.{Stamp}
+use Rattle.am_base.specs.Stamps.{stamp_lt, stamp_eq}
+use Rattle.am_base.specs.declared.outcome.Outcome.{Outcome}
+use Rattle.am_base.specs.Lists.{fits}
+use Rattle.am_model.specs.Node.{Node, Ballot, top, view, image_of, is_within_bound}
+use Rattle.am_model.specs.Emit.{Plan, quiet}
+use Rattle.am_model.specs.Resets.{is_view_past}
+use Rattle.am_resetting.specs.declared.replies.Reply.{Reply}
+use Rattle.am_resetting.specs.declared.replies.Telling.{Telling}
+use Rattle.am_resetting.specs.Replies.{letters_of}
+
+-- the node with this ballot
+abbrev pub with_ballot : Node → Option Ballot → Node
+with_ballot m ballot = record m { ballot = ballot }
+
+-- no View that isn't below a stamp
+abbrev pub IsBelow : Stamp → Entry → Type 0
+IsBelow v (Data from req body) = Unit {0}
+IsBelow v (Join name) = Unit {0}
+IsBelow v (Leave name) = Unit {0}
+IsBelow v (View stamp names resilience) = stamp_lt stamp v ≡ true
+
+-- an entry that comes next and isn't refused above this base
+pub record ComesNext (m : Node) (v : Stamp) (base number : ℕ) (e : Entry) (in_ballot : Bool) : Type 0 where
+  pub next : number ≡ top m + 1
+  pub taken : base ≤ m.core.taken
+  pub fits : fits (image_of m) e ≡ true
+  pub past : is_view_past v in_ballot e ≡ false
+  pub below : in_ballot ≡ true → IsBelow v e
+  pub bound : is_within_bound m (max m.core.base base) number ≡ true
+
+-- a plan that answers this and sends that
+abbrev pub plan_of : Node → Outcome → Telling → Plan
+plan_of m outcome telling = record (quiet m outcome) { letters = λ n. letters_of outcome telling n }
+
+-- a reply at once, or else the plan
+abbrev pub unless_reply : Option Reply → Node → Plan → Plan
+unless_reply None m plan = plan
+unless_reply (Some reply) m plan = plan_of m reply.outcome reply.telling
+
+-- a decided view that comes next and isn't refused above this base
+pub record FollowsAsView (m : Node) (v : Stamp) (base number : ℕ) (names : List ℕ) (resilience : ℕ) : Type 0 where
+  pub apart : stamp_eq (view m) v ≡ false
+  pub next : number ≡ top m + 1
+  pub taken : base ≤ m.core.taken
+  pub fits : fits (image_of m) (View v names resilience) ≡ true
+  pub bound : is_within_bound m (max m.core.base base) number ≡ true

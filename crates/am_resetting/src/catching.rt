@@ -1,0 +1,420 @@
+ghost use Rattle.std.specs.Prelude.{◌≡◌, ◌≢◌, ◌<◌, ◌≤◌, ◌+◌, ◌==◌, ◌||◌, ◌&&◌, max, not, Option, Some, None, IfNone, IfSome, true, false, []};
+ghost use Rattle.am_handlers.specs.Prelude.{most_number, IsEntry, IsStamp, fits, top_of, stamp_eq, stamp_lt, IsInOrder, has_log, Node, only_name, push_entry, image_of, trim_up_to, view, is_within_bound, IsOwnBallot, node_of, Performs};
+ghost use Rattle.am_base.specs.declared.entry.Entry.TheVariants.{View};
+ghost use Rattle.am_ballots.specs.Kept.{ballot_of};
+ghost use Rattle.am_model.specs.Node as node;
+ghost use Rattle.am_model.specs.Emit.{Plan, telling, ack_of};
+ghost use Rattle.am_model.specs.Resets.{piece_row, result_row, hears_result, push_fetched, is_view_past, decide_anew, piece_promised, piece_for};
+ghost use Rattle.am_handlers.specs.Finishing.{unless};
+ghost use Rattle.am_resetting.specs.Catching.{unless_reply, with_ballot, ComesNext, FollowsAsView, IsBelow};
+ghost use Rattle.am_resetting.specs.Deciding.{IsTakenOut};
+ghost use Rattle.am_resetting.specs.Replies.{Replies, MayTell};
+
+use crate::deciding::{decide, store};
+use crate::promising::{put_back, raise_promise, take_ballot};
+use crate::reading::{
+    copy_of, has_own_leave, is_beyond, is_same, is_view, last_of, name_of, promise_of, taken_of,
+};
+use crate::replies::{Reply, Telling, finish, quiet};
+use am_ballots::ballot::Ballot;
+use am_base::entry::{EntryParts, EntryRef};
+use am_base::name::{Name, Stamp};
+use am_base::names::Names;
+use am_base::outcome::Outcome;
+use am_core::log::Log;
+use am_handlers::parts::Parts;
+use am_letter::out_box::OutBox;
+
+/// Whether a view's stamp is above another, or in a ballot is that.
+fn is_past(stamp: &Stamp, in_ballot: bool, view: &Stamp) -> bool
+    ensures value { result ≡ (stamp_lt stamp.now view.now
+        || (in_ballot && stamp_eq view.now stamp.now)) }
+    ensures below { in_ballot ≡ true → result ≡ false → stamp_lt view.now stamp.now ≡ true }
+{
+    let same = is_same(view, stamp);
+    copy_of(stamp).is_below(copy_of(view)) || (in_ballot && same)
+}
+
+/// Whether an entry is a View that can't come by fetching: one above the stamp, or in a ballot of it.
+fn is_view_past(stamp: &Stamp, in_ballot: bool, entry: &EntryRef) -> bool
+    ensures value { result ≡ is_view_past stamp.now in_ballot entry.now }
+    ensures below { in_ballot ≡ true → result ≡ false → IsBelow stamp.now entry.now }
+{
+    match entry.parts() {
+        EntryParts::View { stamp: view, .. } => is_past(stamp, in_ballot, view),
+        EntryParts::Data { .. } => false,
+        EntryParts::Join(_) => false,
+        EntryParts::Leave(_) => false,
+    }
+}
+
+/// Whether an entry fits behind the list.
+fn fits(parts: &Parts, entry: &EntryRef) -> bool
+    ensures { result ≡ fits (image_of (node_of parts.now)) entry.now }
+{
+    parts.core.log.fits(entry)
+}
+
+/// Why a fetched entry isn't stored; None where it is the next one and nothing is against it.
+fn refusal(
+    parts: &Parts,
+    stamp: &Stamp,
+    base: u32,
+    number: u32,
+    entry: &EntryRef,
+    in_ballot: bool,
+) -> Option<Outcome>
+    ensures value { (x : Option node.Ballot) (then_ : Node → Plan)
+        → push_fetched (with_ballot (node_of parts.now) x) stamp.now base number entry.now in_ballot
+        then_ ≡ unless result (with_ballot (node_of parts.now) x)
+        (then_ (push_entry (trim_up_to (with_ballot (node_of parts.now) x) base) entry.now)) }
+    ensures next { IfNone result (ComesNext
+        (node_of parts.now) stamp.now base number entry.now in_ballot) }
+{
+    let top = last_of(parts);
+    if number <= top {
+        return Some(Outcome::Known);
+    }
+    if has_own_leave(parts) {
+        return Some(Outcome::Behind);
+    }
+    if top + 1 < number {
+        return Some(Outcome::Gap { want: top + 1 });
+    }
+    if taken_of(parts) < base {
+        return Some(Outcome::Behind);
+    }
+    if !fits(parts, entry)
+        || (is_view_past(stamp, in_ballot, entry) || is_beyond(parts, base, number))
+    {
+        return Some(Outcome::Unfit);
+    }
+    None
+}
+
+/// Whether a stamp isn't the promise, or is the view.
+fn is_apart(parts: &Parts, stamp: &Stamp) -> bool
+    ensures { result ≡ (not (stamp_eq stamp.now parts.now.core.promise)
+        || stamp_eq (view (node_of parts.now)) stamp.now) }
+{
+    !is_same(stamp, &promise_of(parts)) || is_view(parts, stamp)
+}
+
+/// What a node that has no unfinished ballot does with an entry of the view that it has promised.
+fn piece_promised(
+    parts: &mut Parts,
+    from: Name,
+    stamp: Stamp,
+    base: u32,
+    number: u32,
+    entry: &EntryRef,
+) -> Reply
+    requires order { IsInOrder parts.old.core }
+    requires logged { has_log parts.old.status ≡ true }
+    requires promise { stamp ≡ parts.old.core.promise }
+    requires view { stamp_eq (view (node_of parts.old)) stamp ≡ false }
+    requires over { (b : node.Ballot) → (node_of parts.old).ballot ≡ Some b → b.is_over ≡ true }
+    requires entry { IsEntry entry.now }
+    requires number { top_of parts.old.core.log < most_number }
+    ensures replies { Replies (piece_promised (node_of parts.old) from stamp base number entry.now)
+        result.outcome result.telling (node_of parts.new) }
+    ensures told { MayTell result.telling result.outcome }
+{
+    if stamp.by != from {
+        return quiet(Outcome::Elsewhere);
+    }
+    match refusal(parts, &stamp, base, number, entry, false) {
+        Some(outcome) => quiet(outcome),
+        None => {
+            store(parts, base, entry);
+            Reply {
+                outcome: Outcome::Stored { number },
+                telling: Telling::AckIn {
+                    view: stamp,
+                    to: from,
+                },
+            }
+        }
+    }
+}
+
+/// What a coordinator does with an entry that its unfinished ballot fetches; the ballot was taken out of the parts.
+fn piece_in_ballot(
+    parts: &mut Parts,
+    stamp: &Stamp,
+    base: u32,
+    number: u32,
+    entry: &EntryRef,
+    ballot: Ballot,
+) -> Reply
+    requires ballot { IsTakenOut (node_of parts.old) (ballot_of ballot) }
+    requires promise { stamp.now ≡ parts.old.core.promise }
+    requires entry { IsEntry entry.now }
+    requires number { top_of parts.old.core.log + 1 < most_number }
+    ensures replies { Replies (push_fetched (with_ballot (node_of parts.old)
+        (Some (ballot_of ballot))) stamp.now base number entry.now true
+        (decide_anew (ballot_of ballot))) result.outcome result.telling (node_of parts.new) }
+    ensures told { MayTell result.telling result.outcome }
+{
+    match refusal(parts, stamp, base, number, entry, true) {
+        Some(outcome) => {
+            put_back(parts, ballot);
+            quiet(outcome)
+        }
+        None => {
+            store(parts, base, entry);
+            let outcome = decide(parts, ballot);
+            Reply {
+                outcome,
+                telling: Telling::Ballot {
+                    invited: Names::empty(),
+                    fetches: false,
+                },
+            }
+        }
+    }
+}
+
+/// What becomes of an entry of a promised view where a ballot was taken out of the parts.
+fn piece_for(
+    parts: &mut Parts,
+    from: Name,
+    stamp: Stamp,
+    base: u32,
+    number: u32,
+    entry: &EntryRef,
+    ballot: Ballot,
+) -> Reply
+    requires order { IsInOrder parts.old.core }
+    requires out { (node_of parts.old).ballot ≡ None }
+    requires own { IsOwnBallot (node_of parts.old) (ballot_of ballot) }
+    requires logged { has_log parts.old.status ≡ true }
+    requires promise { stamp ≡ parts.old.core.promise }
+    requires view { stamp_eq (view (node_of parts.old)) stamp ≡ false }
+    requires entry { IsEntry entry.now }
+    requires number { top_of parts.old.core.log + 1 < most_number }
+    ensures replies { Replies (piece_for (with_ballot (node_of parts.old) (Some (ballot_of ballot)))
+        from stamp base number entry.now (Some (ballot_of ballot))) result.outcome result.telling
+        (node_of parts.new) }
+    ensures told { MayTell result.telling result.outcome }
+{
+    if ballot.is_over() {
+        put_back(parts, ballot);
+        return piece_promised(parts, from, stamp, base, number, entry);
+    }
+    if !ballot.fetches_from(from) {
+        put_back(parts, ballot);
+        return quiet(Outcome::Elsewhere);
+    }
+    piece_in_ballot(parts, &stamp, base, number, entry, ballot)
+}
+
+/// What becomes of a fetched entry.
+fn piece(
+    parts: &mut Parts,
+    from: Name,
+    stamp: Stamp,
+    base: u32,
+    number: u32,
+    entry: &EntryRef,
+) -> Reply
+    requires order { IsInOrder parts.old.core }
+    requires logged { has_log parts.old.status ≡ true }
+    requires entry { IsEntry entry.now }
+    requires number { top_of parts.old.core.log + 1 < most_number }
+    ensures replies { Replies (piece_row (node_of parts.old) from stamp base number entry.now)
+        result.outcome result.telling (node_of parts.new) }
+    ensures told { MayTell result.telling result.outcome }
+{
+    if is_apart(parts, &stamp) {
+        return quiet(Outcome::Elsewhere);
+    }
+    match take_ballot(parts) {
+        None => piece_promised(parts, from, stamp, base, number, entry),
+        Some(ballot) => piece_for(parts, from, stamp, base, number, entry, ballot),
+    }
+}
+
+/// A fetched entry comes (docs/PROTOCOL.md, "Ballots and views"). Elsewhere where it isn't of the promised view's list; the
+/// first refusal where it can't be stored; else what the unfinished ballot comes to, or without one Stored, with an Ack where
+/// the view is reached. The node must have a list.
+pub fn on_piece(
+    parts: &mut Parts,
+    from: Name,
+    stamp: Stamp,
+    base: u32,
+    number: u32,
+    entry: &EntryRef,
+    out: &mut OutBox,
+) -> Outcome
+    requires empty { out.old ≡ [] }
+    requires logged { has_log parts.old.status ≡ true }
+    requires entry { IsEntry entry.now }
+    requires number { top_of parts.old.core.log + 1 < most_number }
+    ensures { Performs (λ m. piece_row m from stamp base number entry.now) parts.old
+        result out.new parts.new }
+{
+    let before = parts.accept_front();
+    let reply = piece(parts, from, stamp, base, number, entry);
+    finish(parts, before, reply, out)
+}
+
+/// The View of a decided view.
+fn view_entry<'a>(stamp: &Stamp, members: Names, resilience: u8) -> EntryRef<'a>
+    ensures { result ≡ View stamp.now members resilience }
+{
+    EntryRef::of(EntryParts::View {
+        stamp: copy_of(stamp),
+        members,
+        resilience,
+    })
+}
+
+/// Whether an entry doesn't fit behind the list, or is beyond the bound.
+fn is_unfit(parts: &Parts, entry: &EntryRef, base: u32, number: u32) -> bool
+    ensures { result ≡ (not (fits (image_of (node_of parts.now)) entry.now)
+        || not (is_within_bound (node_of parts.now) (max parts.now.core.base base) number)) }
+{
+    !fits(parts, entry) || is_beyond(parts, base, number)
+}
+
+/// What is replied where a decided view isn't stored; None where it comes next and nothing is against it.
+fn result_refusal(
+    parts: &Parts,
+    from: Name,
+    stamp: &Stamp,
+    base: u32,
+    number: u32,
+    members: Names,
+    resilience: u8,
+) -> Option<Reply>
+    ensures value { hears_result (node_of parts.now) from stamp.now base number members resilience
+        ≡ unless_reply result (node_of parts.now)
+        (telling (push_entry (trim_up_to (node_of parts.now) base)
+        (View stamp.now members resilience)) (Outcome.Stored number)
+        (only_name from) ack_of) }
+    ensures next { IfNone result (FollowsAsView
+        (node_of parts.now) stamp.now base number members resilience) }
+    ensures told { IfSome result (λ reply. MayTell reply.telling reply.outcome) }
+{
+    if is_view(parts, stamp) {
+        return Some(Reply {
+            outcome: Outcome::Known,
+            telling: Telling::Ack(from),
+        });
+    }
+    let top = last_of(parts);
+    if number <= top {
+        return Some(quiet(Outcome::Unfit));
+    }
+    if has_own_leave(parts) {
+        return Some(quiet(Outcome::Behind));
+    }
+    if top + 1 < number {
+        return Some(Reply {
+            outcome: Outcome::Catching { want: top + 1 },
+            telling: Telling::Fetch(from),
+        });
+    }
+    if taken_of(parts) < base {
+        return Some(quiet(Outcome::Behind));
+    }
+    if is_unfit(parts, &view_entry(stamp, members, resilience), base, number) {
+        return Some(quiet(Outcome::Unfit));
+    }
+    None
+}
+
+/// What a node does with a decided view that it has promised.
+fn hears_result(
+    parts: &mut Parts,
+    from: Name,
+    stamp: &Stamp,
+    base: u32,
+    number: u32,
+    members: Names,
+    resilience: u8,
+) -> Reply
+    requires order { IsInOrder parts.old.core }
+    requires logged { has_log parts.old.status ≡ true }
+    requires promise { stamp.now ≡ parts.old.core.promise }
+    requires other { stamp.now.by ≢ parts.old.core.who }
+    requires within { IsEntry (View stamp.now members resilience) }
+    requires number { top_of parts.old.core.log < most_number }
+    ensures replies { Replies (hears_result
+        (node_of parts.old) from stamp.now base number members resilience) result.outcome
+        result.telling (node_of parts.new) }
+    ensures told { MayTell result.telling result.outcome }
+{
+    match result_refusal(parts, from, stamp, base, number, members, resilience) {
+        Some(reply) => reply,
+        None => {
+            store(parts, base, &view_entry(stamp, members, resilience));
+            Reply {
+                outcome: Outcome::Stored { number },
+                telling: Telling::Ack(from),
+            }
+        }
+    }
+}
+
+/// Whether a stamp is of the node's own, or below its promise.
+fn is_passed(parts: &Parts, stamp: &Stamp) -> bool
+    ensures { result ≡ ((stamp.now.by == parts.now.core.who)
+        || stamp_lt stamp.now parts.now.core.promise) }
+{
+    stamp.by == name_of(parts) || copy_of(stamp).is_below(promise_of(parts))
+}
+
+/// What becomes of a decided view.
+fn result_row(
+    parts: &mut Parts,
+    from: Name,
+    stamp: Stamp,
+    base: u32,
+    number: u32,
+    members: Names,
+    resilience: u8,
+) -> Reply
+    requires order { IsInOrder parts.old.core }
+    requires logged { has_log parts.old.status ≡ true }
+    requires within { IsStamp stamp }
+    requires resilience { resilience ≤ 15 }
+    requires number { top_of parts.old.core.log < most_number }
+    ensures replies { Replies (result_row
+        (node_of parts.old) from stamp base number members resilience) result.outcome result.telling
+        (node_of parts.new) }
+    ensures told { MayTell result.telling result.outcome }
+{
+    if is_passed(parts, &stamp) {
+        return quiet(Outcome::Elsewhere);
+    }
+    raise_promise(parts, copy_of(&stamp));
+    hears_result(parts, from, &stamp, base, number, members, resilience)
+}
+
+/// A view was decided (docs/PROTOCOL.md, "Ballots and views"). Elsewhere where it is the node's own or below the promise, else it
+/// is promised; Known where it is the view; Unfit, Behind or Catching, with a Fetch, where it isn't the next entry or can't be
+/// stored; else Stored, with an Ack. The node must have a list.
+pub fn on_result(
+    parts: &mut Parts,
+    from: Name,
+    stamp: Stamp,
+    base: u32,
+    number: u32,
+    members: Names,
+    resilience: u8,
+    out: &mut OutBox,
+) -> Outcome
+    requires empty { out.old ≡ [] }
+    requires logged { has_log parts.old.status ≡ true }
+    requires within { IsStamp stamp }
+    requires resilience { resilience ≤ 15 }
+    requires number { top_of parts.old.core.log < most_number }
+    ensures { Performs (λ m. result_row m from stamp base number members resilience) parts.old
+        result out.new parts.new }
+{
+    let before = parts.accept_front();
+    let reply = result_row(parts, from, stamp, base, number, members, resilience);
+    finish(parts, before, reply, out)
+}

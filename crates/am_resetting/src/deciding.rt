@@ -1,0 +1,225 @@
+ghost use Rattle.std.specs.Prelude.{◌≡◌, ◌<◌, ◌≤◌, ◌+◌, ◌-◌, max, nat_lt, Some, true, false, length, unwrap_or};
+ghost use Rattle.am_handlers.specs.Prelude.{most_number, IsEntry, fits, told_by, top_of, has, names_of, size, IsInOrder, Node, push_entry, trim_up_to, Changes, IsEndOf, IsOwnBallot, IsSteady, NodeKeeps, node_of};
+ghost use Rattle.am_base.specs.Outcomes.{is_took};
+ghost use Rattle.am_base.specs.declared.entry.Entry.TheVariants.{View};
+ghost use Rattle.am_model.specs.Ballots.{with_end, with_answer, decide, decide_view, trim_for, taken_by};
+ghost use Rattle.am_fronts.specs.Reports.{reports_from, least_of};
+ghost use Rattle.am_ballots.specs.Kept.{ballot_of};
+ghost use Rattle.am_resetting.specs.Deciding.{Answered, IsTakenOut, MayBeView, MayStore};
+ghost use Rattle.am_handlers.specs.Verdicts.{ComesTo, IsTold};
+
+use crate::reading::{base_of, name_of};
+use am_ballots::ballot::Ballot;
+use am_base::entry::{EntryParts, EntryRef};
+use am_base::names::Names;
+use am_base::outcome::Outcome;
+use am_core::log::Log;
+use am_handlers::parts::Parts;
+use am_handlers::votes::own_vote;
+
+/// Trims the list up to a base, where that is greater.
+pub fn trim(parts: &mut Parts, base: u32)
+    requires order { IsInOrder parts.old.core }
+    requires taken { base ≤ parts.old.core.taken }
+    ensures changes { Changes (λ m. trim_up_to m base) (node_of parts.old) (node_of parts.new) }
+    ensures steady { IsSteady (node_of parts.old) (node_of parts.new) }
+    ensures base { parts.new.core.base ≡ max parts.old.core.base base }
+    ensures rules { parts.new.core.rules ≡ parts.old.core.rules }
+    ensures taken { parts.new.core.taken ≡ parts.old.core.taken }
+    ensures order { IsInOrder parts.new.core }
+{
+    parts.core.trim_to(base);
+}
+
+/// Adds an entry at the end of the list.
+fn push(parts: &mut Parts, entry: &EntryRef)
+    requires fits { fits (told_by parts.old.core.log) entry.now ≡ true }
+    requires room { length parts.old.core.log.entries < parts.old.core.rules.window + 15 }
+    requires entry { IsEntry entry.now }
+    requires number { top_of parts.old.core.log < most_number }
+    requires keeps { NodeKeeps (push_entry (node_of parts.old) entry.now) }
+    ensures value { node_of parts.new ≡ push_entry (node_of parts.old) entry.now }
+    ensures changes { Changes (λ m. push_entry m entry.now) (node_of parts.old) (node_of parts.new) }
+    ensures order { IsInOrder parts.new.core }
+{
+    parts.core.push(entry);
+}
+
+/// Trims the list up to a base, where that is greater, and stores an entry behind it.
+pub fn store(parts: &mut Parts, base: u32, entry: &EntryRef)
+    requires { MayStore (node_of parts.old) base entry.now }
+    ensures changes { Changes (λ m. push_entry (trim_up_to m base) entry.now) (node_of parts.old)
+        (node_of parts.new) }
+    ensures steady { IsSteady (push_entry (node_of parts.old) entry.now) (node_of parts.new) }
+    ensures order { IsInOrder parts.new.core }
+{
+    trim(parts, base);
+    let _before = parts.accept_front();
+    push(parts, entry);
+}
+
+/// The ballot ends with this answer.
+fn close(parts: &mut Parts, mut ballot: Ballot, answer: Outcome) -> Outcome
+    requires resilience { ballot.resilience ≤ 15 }
+    requires plain { is_took answer ≡ false }
+    ensures { Answered parts.old (with_end (ballot_of ballot) answer) answer result parts.new }
+{
+    ballot.end(&answer);
+    parts.ballot = Some(ballot);
+    answer
+}
+
+/// The ballot goes on, and this is its answer.
+fn keep_on(parts: &mut Parts, mut ballot: Ballot, answer: Outcome) -> Outcome
+    requires own { IsOwnBallot (node_of parts.old) (ballot_of ballot) }
+    requires is_open { ballot.is_over ≡ false }
+    requires plain { is_took answer ≡ false }
+    ensures { Answered parts.old (with_answer (ballot_of ballot) answer) answer result parts.new }
+{
+    ballot.go_on(&answer);
+    parts.ballot = Some(ballot);
+    answer
+}
+
+/// Whether there is no room for a View of so many.
+fn is_crowded(parts: &Parts, names: Names) -> bool
+    ensures { result ≡ nat_lt (parts.now.core.rules.window + 16 - size names)
+        (top_of parts.now.core.log + 1 - parts.now.core.base) }
+{
+    let room = u32::from(parts.core.rules.window()) + 16 - names.len();
+    room < parts.core.log.top() + 1 - parts.core.log.base()
+}
+
+/// The answer where there is no room.
+fn crowded_answer(parts: &Parts) -> Outcome
+    ensures { result ≡ Outcome.Crowded parts.now.core.base (top_of parts.now.core.log) }
+{
+    Outcome::Crowded {
+        base: parts.core.log.base(),
+        top: parts.core.log.top(),
+    }
+}
+
+/// The answer where the next entry is the view of these members.
+fn decided_answer(parts: &Parts, names: Names) -> Outcome
+    requires { top_of parts.now.core.log < most_number }
+    ensures value { result ≡ Outcome.Decided (top_of parts.now.core.log + 1) names }
+    ensures told { IsTold result }
+{
+    Outcome::Decided {
+        number: parts.core.log.top() + 1,
+        members: names,
+    }
+}
+
+/// The View of these members, with the ballot's stamp and the greater of its resilience and the list's.
+fn view_of<'a>(parts: &Parts, ballot: &Ballot, names: Names) -> EntryRef<'a>
+    requires stamp { ballot.now.stamp ≡ parts.now.core.promise }
+    requires resilience { ballot.now.resilience ≤ 15 }
+    ensures value { result ≡ View ballot.now.stamp names
+        (max ballot.now.resilience (told_by parts.now.core.log).resilience) }
+    ensures within { IsEntry result }
+{
+    EntryRef::of(EntryParts::View {
+        stamp: ballot.stamp(),
+        members: names,
+        resilience: ballot.resilience().max(parts.core.log.resilience()),
+    })
+}
+
+/// All reports begin anew at the base.
+fn restart(parts: &mut Parts, base: u32)
+    requires { base ≤ parts.old.core.taken }
+    ensures { node_of parts.new ≡ record (node_of parts.old) { reports = reports_from base } }
+{
+    parts.fronts.restart(base);
+}
+
+/// Pushes the view of these members, and ends the ballot.
+fn push_view(parts: &mut Parts, ballot: Ballot, names: Names) -> Outcome
+    requires ballot { IsTakenOut (node_of parts.old) (ballot_of ballot) }
+    requires names { MayBeView (node_of parts.old) names }
+    requires room { nat_lt (parts.old.core.rules.window + 16 - size names)
+        (top_of parts.old.core.log + 1 - parts.old.core.base) ≡ false }
+    ensures comes { (all : Node) → IsEndOf all (node_of parts.old)
+        → ComesTo (decide_view all (ballot_of ballot) names) result (node_of parts.new) }
+    ensures told { IsTold result }
+{
+    let _before = parts.accept_front();
+    let answer = decided_answer(parts, names);
+    let base = base_of(parts);
+    push(parts, &view_of(parts, &ballot, names));
+    restart(parts, base);
+    close(parts, ballot, answer)
+}
+
+/// Pushes the view of these members, where there is room for so many. Crowded where there isn't, else Decided; the ballot ends.
+fn decide_view(parts: &mut Parts, ballot: Ballot, names: Names) -> Outcome
+    requires ballot { IsTakenOut (node_of parts.old) (ballot_of ballot) }
+    requires names { MayBeView (node_of parts.old) names }
+    ensures comes { (all : Node) → IsEndOf all (node_of parts.old)
+        → ComesTo (decide_view all (ballot_of ballot) names) result (node_of parts.new) }
+    ensures told { IsTold result }
+{
+    if is_crowded(parts, names) {
+        return close(parts, ballot, crowded_answer(parts));
+    }
+    push_view(parts, ballot, names)
+}
+
+/// The least that these have taken, 0 where there is nobody.
+fn least_taken(parts: &Parts, ballot: &Ballot, names: Names) -> u32
+    ensures value { result ≡ unwrap_or (least_of (taken_by parts.now.core.who parts.now.core.taken
+        (ballot_of ballot.now)) (names_of names)) 0 }
+    ensures own { has names parts.now.core.who ≡ true → result ≤ parts.now.core.taken }
+{
+    let least = ballot.least_taken(parts.core.who, parts.core.taken, names);
+    least.unwrap_or(0)
+}
+
+/// Trims the list to what these members have taken, and pushes their view.
+fn trim_and_decide(parts: &mut Parts, ballot: Ballot, names: Names) -> Outcome
+    requires ballot { IsTakenOut (node_of parts.old) (ballot_of ballot) }
+    requires names { MayBeView (node_of parts.old) names }
+    ensures comes { (all : Node) → IsEndOf all (node_of parts.old)
+        → ComesTo (decide_view (trim_for all (ballot_of ballot) names) (ballot_of ballot) names)
+        result (node_of parts.new) }
+    ensures told { IsTold result }
+{
+    let least = least_taken(parts, &ballot, names);
+    trim(parts, least);
+    decide_view(parts, ballot, names)
+}
+
+/// Looks at an unfinished ballot that was taken out of the parts (docs/PROTOCOL.md, "A ballot"), and puts it back. NotIn where
+/// the coordinator isn't needed; Waiting for who is needed and neither voted nor was given up; Fetching from who holds the best
+/// vote; TooFew where fewer than the least size are left; else what pushing the view comes to.
+pub fn decide(parts: &mut Parts, ballot: Ballot) -> Outcome
+    requires { IsTakenOut (node_of parts.old) (ballot_of ballot) }
+    ensures comes { (all : Node) → IsEndOf all (node_of parts.old)
+        → ComesTo (decide all (ballot_of ballot)) result (node_of parts.new) }
+    ensures told { IsTold result }
+{
+    let own = own_vote(parts);
+    let who = name_of(parts);
+    let best = ballot.best(who, &own);
+    let needed = best.members();
+    if !needed.has(who) {
+        return close(parts, ballot, Outcome::NotIn { best: best.view() });
+    }
+    let waited = ballot.waited_for(who, needed);
+    if 0 < waited.len() {
+        return keep_on(parts, ballot, Outcome::Waiting { names: waited });
+    }
+    let from = best.by();
+    if from != who {
+        let want = own.top + 1;
+        return keep_on(parts, ballot, Outcome::Fetching { from, want });
+    }
+    let left = ballot.left_in(needed);
+    let (got, least) = (left.len(), u32::from(ballot.least()));
+    if got < least {
+        return close(parts, ballot, Outcome::TooFew { got, least });
+    }
+    trim_and_decide(parts, ballot, left)
+}

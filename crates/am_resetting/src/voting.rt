@@ -1,0 +1,363 @@
+ghost use Rattle.std.specs.Prelude.{◌≡◌, ◌≢◌, ◌<◌, ◌+◌, Some, None, true, false, not, ◌&&◌, ◌||◌, []};
+ghost use Rattle.am_handlers.specs.Prelude.{most_number, IsStamp, top_of, has, stamp_lt, IsInOrder, has_log, is_member, members, others, Node, IsOwnBallot, node_of, Performs};
+ghost use Rattle.am_ballots.specs.Kept.{ballot_of};
+ghost use Rattle.am_model.specs.Emit as emit;
+ghost use Rattle.am_model.specs.Ballots.{keep_vote, give_up, begin, next_stamp};
+ghost use Rattle.am_model.specs.Resets.{invite_row, vote_row, take_vote, is_open, hand_over_row};
+ghost use Rattle.am_model.specs.Calls.{reset_row, ask_row, ask_of, give_up_row, give_up_of};
+ghost use Rattle.am_resetting.specs.Deciding.{IsTakenOut};
+ghost use Rattle.am_resetting.specs.Replies.{Replies, MayTell};
+
+use crate::deciding::decide;
+use crate::promising::{put_back, raise_promise, take_ballot};
+use crate::reading::{copy_of, name_of, promise_of};
+use crate::replies::{Reply, Telling, finish, quiet};
+use am_ballots::ballot::Ballot;
+use am_base::image::Vote;
+use am_base::limits::MOST_RESILIENCE;
+use am_base::name::{Name, Stamp};
+use am_base::names::Names;
+use am_base::outcome::Outcome;
+use am_core::log::Log;
+use am_handlers::parts::Parts;
+use am_handlers::votes::own_vote;
+use am_letter::out_box::OutBox;
+use am_model::status::Status;
+
+/// The members without the node itself.
+fn others_of(parts: &Parts) -> Names
+    requires { IsInOrder parts.now.core }
+    ensures { result ≡ others (node_of parts.now) }
+{
+    parts.others()
+}
+
+/// Whether it is a member by its status and by its list.
+fn is_member(parts: &Parts) -> bool
+    ensures { result ≡ (is_member parts.now.status
+        && has (members (node_of parts.now)) parts.now.core.who) }
+{
+    parts.status == Status::Member && parts.core.is_member()
+}
+
+/// A vote is kept, and the ballot looked at; it was taken out of the parts.
+fn keep_vote(parts: &mut Parts, from: Name, vote: &Vote, ballot: Ballot) -> Reply
+    requires ballot { IsTakenOut (node_of parts.old) (ballot_of ballot) }
+    requires other { from ≢ parts.old.core.who }
+    ensures replies { Replies (keep_vote (node_of parts.old) (ballot_of ballot) from vote.now)
+        result.outcome result.telling (node_of parts.new) }
+    ensures told { MayTell result.telling result.outcome }
+{
+    let own = own_vote(parts);
+    let who = name_of(parts);
+    let before = ballot.best(who, &own).members();
+    let mut ballot = ballot;
+    ballot.keep(from, vote);
+    let needed = ballot.best(who, &own).members();
+    let invited = ballot.newly_needed(who, needed, before);
+    let outcome = decide(parts, ballot);
+    Reply {
+        outcome,
+        telling: Telling::Ballot {
+            invited,
+            fetches: true,
+        },
+    }
+}
+
+/// A name is given up, and the ballot looked at; it was taken out of the parts.
+fn give_up(parts: &mut Parts, name: Name, ballot: Ballot) -> Reply
+    requires ballot { IsTakenOut (node_of parts.old) (ballot_of ballot) }
+    requires other { name ≢ parts.old.core.who }
+    ensures replies { Replies (give_up (node_of parts.old) (ballot_of ballot) name) result.outcome
+        result.telling (node_of parts.new) }
+    ensures told { MayTell result.telling result.outcome }
+{
+    let mut ballot = ballot;
+    ballot.give_up(name);
+    let outcome = decide(parts, ballot);
+    Reply {
+        outcome,
+        telling: Telling::Ballot {
+            invited: Names::empty(),
+            fetches: true,
+        },
+    }
+}
+
+/// Whether a vote of this stamp is none for an unfinished ballot.
+fn is_stale(parts: &Parts, stamp: &Stamp, ballot: &Ballot) -> bool
+    ensures { result ≡ (stamp_lt stamp.now parts.now.core.promise
+        || not (is_open stamp.now (ballot_of ballot.now))) }
+{
+    copy_of(stamp).is_below(promise_of(parts)) || !ballot.is_open(copy_of(stamp))
+}
+
+/// What a vote does to a ballot that was taken out of the parts.
+fn take_vote(parts: &mut Parts, from: Name, stamp: Stamp, vote: &Vote, ballot: Ballot) -> Reply
+    requires order { IsInOrder parts.old.core }
+    requires out { (node_of parts.old).ballot ≡ None }
+    requires own { IsOwnBallot (node_of parts.old) (ballot_of ballot) }
+    requires number { top_of parts.old.core.log < most_number }
+    requires other { from ≢ parts.old.core.who }
+    ensures replies { Replies (take_vote (record (node_of parts.old)
+        { ballot = Some (ballot_of ballot) }) from stamp vote.now (Some (ballot_of ballot)))
+        result.outcome result.telling (node_of parts.new) }
+    ensures told { MayTell result.telling result.outcome }
+{
+    if is_stale(parts, &stamp, &ballot) {
+        put_back(parts, ballot);
+        return quiet(Outcome::Elsewhere);
+    }
+    if ballot.has_given_up(from) {
+        put_back(parts, ballot);
+        return quiet(Outcome::Known);
+    }
+    keep_vote(parts, from, vote, ballot)
+}
+
+/// What becomes of a vote.
+fn vote(parts: &mut Parts, from: Name, stamp: Stamp, vote: &Vote) -> Reply
+    requires within { IsStamp stamp }
+    requires number { top_of parts.old.core.log < most_number }
+    requires other { from ≢ parts.old.core.who }
+    ensures replies { Replies (vote_row (node_of parts.old) from stamp vote.now) result.outcome
+        result.telling (node_of parts.new) }
+    ensures told { MayTell result.telling result.outcome }
+{
+    if promise_of(parts).is_below(copy_of(&stamp)) {
+        let by = copy_of(&stamp);
+        raise_promise(parts, stamp);
+        return quiet(Outcome::Overtaken { by });
+    }
+    match take_ballot(parts) {
+        None => quiet(Outcome::Elsewhere),
+        Some(ballot) => take_vote(parts, from, stamp, vote, ballot),
+    }
+}
+
+/// What becomes of an invitation.
+fn invite(parts: &mut Parts, from: Name, stamp: Stamp) -> Reply
+    requires within { IsStamp stamp }
+    ensures replies { Replies (invite_row (node_of parts.old) from stamp) result.outcome
+        result.telling (node_of parts.new) }
+    ensures told { MayTell result.telling result.outcome }
+{
+    let telling = Telling::Vote(from);
+    let promise = promise_of(parts);
+    if copy_of(&stamp).is_below(copy_of(&promise)) {
+        return Reply {
+            outcome: Outcome::Newer { promise },
+            telling,
+        };
+    }
+    raise_promise(parts, stamp);
+    Reply {
+        outcome: Outcome::Voted,
+        telling,
+    }
+}
+
+/// What giving up a name does to a ballot that was taken out of the parts.
+fn give_up_of(parts: &mut Parts, name: Name, ballot: Ballot) -> Reply
+    requires order { IsInOrder parts.old.core }
+    requires out { (node_of parts.old).ballot ≡ None }
+    requires own { IsOwnBallot (node_of parts.old) (ballot_of ballot) }
+    requires number { top_of parts.old.core.log < most_number }
+    ensures replies { Replies (give_up_of (record (node_of parts.old)
+        { ballot = Some (ballot_of ballot) }) name (Some (ballot_of ballot))) result.outcome
+        result.telling (node_of parts.new) }
+    ensures told { MayTell result.telling result.outcome }
+{
+    if ballot.is_over() {
+        put_back(parts, ballot);
+        return quiet(Outcome::NotCoordinator);
+    }
+    if name == name_of(parts) {
+        put_back(parts, ballot);
+        return quiet(Outcome::Unfit);
+    }
+    give_up(parts, name, ballot)
+}
+
+/// What becomes of a call to give up a name.
+fn give_up_row(parts: &mut Parts, name: Name) -> Reply
+    requires order { IsInOrder parts.old.core }
+    requires number { top_of parts.old.core.log < most_number }
+    ensures replies { Replies (give_up_row (node_of parts.old) name) result.outcome result.telling
+        (node_of parts.new) }
+    ensures told { MayTell result.telling result.outcome }
+{
+    match take_ballot(parts) {
+        None => quiet(Outcome::NotCoordinator),
+        Some(ballot) => give_up_of(parts, name, ballot),
+    }
+}
+
+/// The stamp of the next round of the node's own.
+fn next_stamp(parts: &Parts) -> Stamp
+    requires { parts.now.core.promise.round < most_number }
+    ensures value { result ≡ next_stamp (node_of parts.now) }
+    ensures within { IsStamp result }
+    ensures higher { stamp_lt result parts.now.core.promise ≡ false }
+{
+    let promise = promise_of(parts);
+    Stamp {
+        round: promise.round + 1,
+        by: name_of(parts),
+    }
+}
+
+/// Forgets the last ballot.
+fn drop_ballot(parts: &mut Parts)
+    ensures { node_of parts.new ≡ record (node_of parts.old) { ballot = None } }
+{
+    parts.ballot = None;
+}
+
+/// A ballot begins in place of the last one.
+fn begin(parts: &mut Parts, least: u8, resilience: u8) -> Reply
+    requires order { IsInOrder parts.old.core }
+    requires round { parts.old.core.promise.round < most_number }
+    requires number { top_of parts.old.core.log < most_number }
+    requires logged { has_log parts.old.status ≡ true }
+    ensures replies { Replies (begin (node_of parts.old) least resilience) result.outcome
+        result.telling (node_of parts.new) }
+    ensures told { MayTell result.telling result.outcome }
+{
+    let stamp = next_stamp(parts);
+    let invited = others_of(parts);
+    let ballot = Ballot::new(copy_of(&stamp), least, resilience.min(MOST_RESILIENCE));
+    drop_ballot(parts);
+    raise_promise(parts, stamp);
+    let outcome = decide(parts, ballot);
+    Reply {
+        outcome,
+        telling: Telling::Ballot {
+            invited,
+            fetches: false,
+        },
+    }
+}
+
+/// What becomes of a call for a ballot.
+fn reset(parts: &mut Parts, least: u8, resilience: u8) -> Reply
+    requires order { IsInOrder parts.old.core }
+    requires round { parts.old.core.promise.round < most_number }
+    requires number { top_of parts.old.core.log < most_number }
+    ensures replies { Replies (reset_row (node_of parts.old) least resilience) result.outcome
+        result.telling (node_of parts.new) }
+    ensures told { MayTell result.telling result.outcome }
+{
+    if !is_member(parts) {
+        return quiet(Outcome::NotMember);
+    }
+    if parts.leaving {
+        return quiet(Outcome::Leaving);
+    }
+    begin(parts, least, resilience)
+}
+
+/// What a ballot answers to who asks for a round.
+fn answer_of(ballot: &Ballot, round: u32) -> Outcome
+    ensures { (m : Node) → ask_of m round (Some (ballot_of ballot.now)) ≡ emit.quiet m result }
+{
+    let stamp = ballot.stamp();
+    if stamp.round < round {
+        return Outcome::Unknown;
+    }
+    if round < stamp.round {
+        return Outcome::Overtaken { by: stamp };
+    }
+    ballot.answer().copy()
+}
+
+/// What the last ballot answers to who asks for a round; Unknown where there is none.
+#[tactic(auto, unfolding(am_model::specs::Calls::ask_row))]
+fn ask(parts: &Parts, round: u32) -> Outcome
+    ensures { ask_row (node_of parts.now) round ≡ emit.quiet (node_of parts.now) result }
+{
+    match &parts.ballot {
+        None => Outcome::Unknown,
+        Some(ballot) => answer_of(ballot, round),
+    }
+}
+
+/// Somebody asks for a vote (docs/PROTOCOL.md, "Ballots and views"): Newer where more is promised, else Voted. Either way a Vote
+/// goes back.
+pub fn on_invite(parts: &mut Parts, from: Name, stamp: Stamp, out: &mut OutBox) -> Outcome
+    requires empty { out.old ≡ [] }
+    requires within { IsStamp stamp }
+    ensures { Performs (λ m. invite_row m from stamp) parts.old result out.new parts.new }
+{
+    let before = parts.accept_front();
+    let reply = invite(parts, from, stamp);
+    finish(parts, before, reply, out)
+}
+
+/// Another name votes: Overtaken where its stamp is above the promise; Elsewhere where no unfinished ballot has it; Known where
+/// the name was given up; else what the ballot comes to.
+pub fn on_vote(
+    parts: &mut Parts,
+    from: Name,
+    stamp: Stamp,
+    shown: &Vote,
+    out: &mut OutBox,
+) -> Outcome
+    requires empty { out.old ≡ [] }
+    requires within { IsStamp stamp }
+    requires other { from ≢ parts.old.core.who }
+    requires number { top_of parts.old.core.log < most_number }
+    ensures { Performs (λ m. vote_row m from stamp shown.now) parts.old result out.new parts.new }
+{
+    let before = parts.accept_front();
+    let reply = vote(parts, from, stamp, shown);
+    finish(parts, before, reply, out)
+}
+
+/// A stopped name is given up: NotCoordinator where there is no unfinished ballot, Unfit for the node itself, else what the
+/// ballot comes to.
+pub fn on_give_up(parts: &mut Parts, name: Name, out: &mut OutBox) -> Outcome
+    requires empty { out.old ≡ [] }
+    requires number { top_of parts.old.core.log < most_number }
+    ensures { Performs (λ m. give_up_row m name) parts.old result out.new parts.new }
+{
+    let before = parts.accept_front();
+    let reply = give_up_row(parts, name);
+    finish(parts, before, reply, out)
+}
+
+/// A ballot is to begin for a view of at least so many members: NotMember or Leaving where it may not, else what it comes to.
+pub fn on_reset(parts: &mut Parts, least: u8, resilience: u8, out: &mut OutBox) -> Outcome
+    requires empty { out.old ≡ [] }
+    requires round { parts.old.core.promise.round < most_number }
+    requires number { top_of parts.old.core.log < most_number }
+    ensures { Performs (λ m. reset_row m least resilience) parts.old result out.new parts.new }
+{
+    let before = parts.accept_front();
+    let reply = reset(parts, least, resilience);
+    finish(parts, before, reply, out)
+}
+
+/// The sequencer hands over: as a reset with least size 1 and the list's resilience.
+pub fn on_hand_over(parts: &mut Parts, out: &mut OutBox) -> Outcome
+    requires empty { out.old ≡ [] }
+    requires round { parts.old.core.promise.round < most_number }
+    requires number { top_of parts.old.core.log < most_number }
+    ensures { Performs (λ m. hand_over_row m) parts.old result out.new parts.new }
+{
+    let before = parts.accept_front();
+    let resilience = parts.core.log.resilience();
+    let reply = reset(parts, 1, resilience);
+    finish(parts, before, reply, out)
+}
+
+/// The application asks how the ballot of a round stands: Unknown, Overtaken by a later one, or what was last decided on it.
+pub fn on_ask(parts: &mut Parts, round: u32, out: &mut OutBox) -> Outcome
+    requires empty { out.old ≡ [] }
+    ensures { Performs (λ m. ask_row m round) parts.old result out.new parts.new }
+{
+    let before = parts.accept_front();
+    let reply = quiet(ask(parts, round));
+    finish(parts, before, reply, out)
+}

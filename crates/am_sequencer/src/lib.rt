@@ -1,6 +1,0 @@
-//! What the sequencer does with sends and reports.
-#![tactic(auto)]
-
-mod numbering;
-pub mod sequencer;
-mod serving;

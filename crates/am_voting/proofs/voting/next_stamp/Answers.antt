@@ -1,7 +1,0 @@
-use Rattle.am_voting.proofs.Words.{◌∙◌, ◌+◌, stamp_lt, node_of}
-use Rattle.am_voting.proofs.Ballots.{next_higher}
-use Rattle.am_voting.proofs.voting.next_stamp.Goals as goal
-
-pub returns-clause-higher : goal.returns-clause-higher
-returns-clause-higher c = (λ k. stamp_lt (record { round = (c.promise_of-promise.ensures.value k).round + 1; by = c.name_of.ensures k })
-    c.args.parts.now.core.promise) ∙ next_higher (node_of c.args.parts.now)

@@ -1,6 +1,0 @@
-use Rattle.am_voting.proofs.Words.{sym, node_of, invite_row}
-use Rattle.am_voting.proofs.voting.on_invite.Goals as goal
-
-pub returns : goal.returns
-returns c = c.finish.ensures (node_of c.args.parts.now) (invite_row (node_of c.args.parts.now) c.args.from c.args.stamp)
-    (sym c.accept_front-before.ensures.value) c.invite-reply.ensures.replies

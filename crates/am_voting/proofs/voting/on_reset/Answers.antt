@@ -1,6 +1,0 @@
-use Rattle.am_voting.proofs.Words.{sym, node_of, reset_row}
-use Rattle.am_voting.proofs.voting.on_reset.Goals as goal
-
-pub returns : goal.returns
-returns c = c.finish.ensures (node_of c.args.parts.now) (reset_row (node_of c.args.parts.now) c.args.least c.args.resilience)
-    (sym c.accept_front-before.ensures.value) c.reset-reply.ensures.replies

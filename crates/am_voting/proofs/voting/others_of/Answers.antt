@@ -1,5 +1,0 @@
-use Rattle.am_voting.proofs.Words.{node_of, end_self}
-use Rattle.am_voting.proofs.voting.others_of.Goals as goal
-
-pub returns : goal.returns
-returns c = c.others.ensures (node_of c.args.parts.now) (end_self (node_of c.args.parts.now) c.requires.kept)
