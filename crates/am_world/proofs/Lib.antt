@@ -18,3 +18,5 @@ pub mod StoredSteps
 pub mod Stored
 pub mod Kept
 pub mod Latest
+pub mod WatchWords
+pub mod Accepts

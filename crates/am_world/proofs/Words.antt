@@ -55,7 +55,7 @@ pub use Rattle.am_laws.proofs.{Stamps.not_above}
 pub use Rattle.am_laws.proofs.ViewChanges.{leads_member, member_of, IsOpen, OpenBallot, Balloted, next_above, welcomed_none, numbers_plain}
 pub use Rattle.am_watched.proofs.{Chains.HeardLow, Chains.change_begins, Lists.lists_go_on, Lists.run_lists, Lists.IsBare, New.decided_are_new}
 pub use Rattle.am_watched.proofs.Watched.{watch_push, stop_is_watched, pass_is_watched, return_is_watched, beginning_is_kept}
-pub use Rattle.am_watch.specs.Watchers.{watching_of}
+pub use Rattle.am_world.specs.Watchers.{watching_of}
 pub use Rattle.am_world.specs.{Moves.IsReadyAt, Moves.StepsAt, Moves.HasPlaceAt, Moves.IsReady, declared.asked.Heard.Heard}
 pub use Rattle.am_world.specs.Runs.{Play, replay, after, AreNodes, AreLives, AreFlags, IsRun, play_of, Answers, AreFirst, Shows, the_record}
 pub use Rattle.am_world.specs.Asked.{comes, flag_of, if_running, first_bytes, gives_up, stops, returns, event_or_answer, SpellsPacket, after_answer, heard_of}

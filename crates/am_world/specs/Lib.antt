@@ -2,3 +2,4 @@ pub mod Runs
 pub mod Asked
 pub mod Moves
 pub mod Watched
+pub mod Watchers

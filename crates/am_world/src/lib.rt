@@ -1,4 +1,5 @@
-//! A whole group: the nodes of sixteen places, every packet that was sent, and the one group list.
+//! A whole group: the nodes of sixteen places, every packet that was sent, and the one group list. Whether its run is lawful is kept
+//! event by event.
 #![tactic(auto)]
 
 pub mod asked;
@@ -6,5 +7,7 @@ pub mod nodes;
 pub mod records;
 pub mod run;
 pub mod using;
+pub mod views;
+pub mod watcher;
 mod watching;
 pub mod world;

@@ -7,6 +7,7 @@ ghost use Rattle.am_base.specs.Names.{place_of};
 
 use crate::asked::keep_room;
 use crate::run::Run;
+use crate::watcher::Watcher;
 use crate::watching::{has_log, note_answer, note_step};
 use am_base::NoMemory;
 use am_base::entry::Entry;
@@ -18,7 +19,6 @@ use am_group::event::Event;
 use am_group::journal::Journal;
 use am_info::info::Info;
 use am_node::node::Node;
-use am_watch::watcher::Watcher;
 use std::alloc::Global;
 use std::marker::Model;
 
@@ -63,7 +63,7 @@ pub struct World {
 }
 
 impl Model for World {
-    ghost use Rattle.am_watch.specs.Watchers.{watching_of};
+    ghost use Rattle.am_world.specs.Watchers.{watching_of};
     ghost use Rattle.am_world.specs.Runs.{Play};
     ghost use Rattle.am_world.specs.Watched.{IsWatched};
 
