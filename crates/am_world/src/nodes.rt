@@ -50,6 +50,24 @@ pub fn spare_entry_at(
     Ok(spare)
 }
 
+/// What a step of the node of a name's place is done in: room for the entry that it takes, where it takes one, and an empty box.
+#[inline(always)]
+pub fn room_at(
+    alloc: Global,
+    nodes: &[Node],
+    name: Name,
+    what: &NodeEvent,
+    rooms: &mut Rooms,
+) -> Result<(Option<EntryRoom>, OutBox), NoMemory>
+    requires places { length nodes.now ≡ 16 }
+    ensures spare { IfOk result (λ r. HasPlaceAt nodes.now (place_of name) what.now r.0) }
+    ensures out { IfOk result (λ r. r.1 ≡ []) }
+{
+    let spare = spare_entry_at(alloc, nodes, name, what)?;
+    let out = empty_box(alloc, rooms)?;
+    Ok((spare, out))
+}
+
 /// Makes room for so many entries in all.
 pub fn make_room(group: &mut Vec<Entry>, most: usize) -> Result<(), NoMemory>
     ensures items { group.new.items ≡ group.old.items }

@@ -1,4 +1,5 @@
-ghost use Rattle.std.specs.Prelude.{◌≡◌, ◌+◌, ◌<◌, ◌≤◌, ◌++◌, ◌↔◌, [], length, IfOk};
+ghost use Rattle.std.specs.Prelude.{◌≡◌, ◌+◌, ◌<◌, ◌≤◌, ◌++◌, ◌↔◌, [], true, length, IfOk, OnOk};
+ghost use Rattle.am_base.specs.declared.outcome.Outcome.TheVariants as said;
 ghost use Rattle.am_base.specs.Most.{most_events};
 ghost use Rattle.am_base.specs.Founding.{MayFound};
 ghost use Rattle.am_base.specs.Names.{has, name_at, life_of};
@@ -9,7 +10,7 @@ ghost use Rattle.am_node.specs.Stands.{state_of};
 ghost use Rattle.am_world.specs.Runs.{AreNodes, AreFirst, the_record};
 
 use crate::asked::{call_or_answer, first_bytes, heard_by, is_stopped};
-use crate::nodes::{empty_box, grow, make_room, packets_of, spare_entry_at};
+use crate::nodes::{grow, make_room, packets_of, room_at};
 use am_base::NoMemory;
 use am_base::entry::Entry;
 use am_base::event::NodeEvent;
@@ -72,12 +73,58 @@ fn record_of(event: Event, life: u8, outcome: Outcome, packets: Items<Letter>) -
     }
 }
 
-/// The record of an event of which this outcome came, and no letter.
-fn new_record(alloc: Global, event: &Event, life: u8, outcome: Outcome) -> Result<Record, NoMemory>
-    ensures { IfOk result (λ r. r ≡ the_record event.now life outcome []) }
+/// A copy of an event for its record, for which the journal then has room.
+fn copied(journal: &mut Journal, event: &Event) -> Result<Event, NoMemory>
+    ensures copy { IfOk result (λ done. done ≡ event.now) }
+    ensures room { OnOk result (journal.new.has_room ≡ true) }
+    ensures founding { journal.new.founding ≡ journal.old.founding }
+    ensures records { journal.new.records ≡ journal.old.records }
 {
-    let done = event.try_copy()?;
+    journal.reserve()?;
+    event.try_copy()
+}
+
+/// The record of an event of which this outcome came, and no letter. The journal then has room for it.
+fn new_record(
+    alloc: Global,
+    journal: &mut Journal,
+    event: &Event,
+    life: u8,
+    outcome: Outcome,
+) -> Result<Record, NoMemory>
+    ensures value { IfOk result (λ r. r ≡ the_record event.now life outcome []) }
+    ensures room { OnOk result (journal.new.has_room ≡ true) }
+    ensures founding { journal.new.founding ≡ journal.old.founding }
+    ensures records { journal.new.records ≡ journal.old.records }
+{
+    let done = copied(journal, event)?;
     Ok(record_of(done, life, outcome, Items::new(alloc)))
+}
+
+/// The record of a return to life, and room for the node of that life. The journal then has room for the record.
+fn new_life(
+    alloc: Global,
+    journal: &mut Journal,
+    event: &Event,
+    name: Name,
+    life: u8,
+) -> Result<(Record, Room), NoMemory>
+    ensures record_ { IfOk result (λ r. r.0
+        ≡ the_record event.now (life_of name) (said.Returned life) []) }
+    ensures node { IfOk result (λ r. r.1 ≡ journal.old.founding) }
+    ensures room { OnOk result (journal.new.has_room ≡ true) }
+    ensures founding { journal.new.founding ≡ journal.old.founding }
+    ensures records { journal.new.records ≡ journal.old.records }
+{
+    let record = new_record(
+        alloc,
+        journal,
+        event,
+        name.life(),
+        Outcome::Returned { life },
+    )?;
+    let room = Room::new(alloc, journal.founding())?;
+    Ok((record, room))
 }
 
 fn has_departed(status: Status) -> bool
@@ -114,9 +161,8 @@ impl Model for Run {
 }
 
 impl Run {
-    ghost use Rattle.std.specs.Prelude.{OnOk, OnErr, IfErr, Ok};
+    ghost use Rattle.std.specs.Prelude.{OnErr, IfErr, Ok};
     ghost use Rattle.am_base.specs.Names.{place_of};
-    ghost use Rattle.am_base.specs.declared.outcome.Outcome.TheVariants as said;
     ghost use Rattle.am_group.specs.Journals.{letters_of};
     ghost use Rattle.am_play.specs.World.{current, is_stopped, with_record, happens};
     ghost use Rattle.am_world.specs.Runs.{after, replay, IsOneMore};
@@ -204,8 +250,7 @@ impl Run {
         ensures one { OnOk result (IsOneMore self.old event.now) }
         ensures err { OnErr result (self.new ≡ self.old) }
     {
-        self.journal.reserve()?;
-        let record = new_record(self.alloc, event, name.life(), outcome)?;
+        let record = new_record(self.alloc, &mut self.journal, event, name.life(), outcome)?;
         self.journal.push(record);
         Ok(())
     }
@@ -220,8 +265,13 @@ impl Run {
         ensures one { OnOk result (IsOneMore self.old event.now) }
         ensures err { OnErr result (self.new ≡ self.old) }
     {
-        self.journal.reserve()?;
-        let record = new_record(self.alloc, event, name.life(), Outcome::Stopped)?;
+        let record = new_record(
+            self.alloc,
+            &mut self.journal,
+            event,
+            name.life(),
+            Outcome::Stopped,
+        )?;
         self.stopped[usize::from(name.get())] = true;
         self.journal.push(record);
         Ok(())
@@ -239,14 +289,9 @@ impl Run {
         ensures one { OnOk result (IsOneMore self.old event.now) }
         ensures err { OnErr result (self.new ≡ self.old) }
     {
-        self.journal.reserve()?;
-        let record = new_record(self.alloc, event, name.life(), Outcome::Returned { life })?;
+        let (record, room) = new_life(self.alloc, &mut self.journal, event, name, life)?;
         let place = name.place();
-        let fresh = Node::stranger(
-            self.alloc,
-            Name::of(place, life).unwrap(),
-            self.journal.founding(),
-        )?;
+        let fresh = Node::stranger_in(room, Name::of(place, life).unwrap());
         self.nodes[usize::from(place)] = fresh;
         self.lives[usize::from(place)] = life;
         self.stopped[usize::from(name.get())] = true;
@@ -282,11 +327,9 @@ impl Run {
         ensures one { OnOk result (IsOneMore self.old event.now) }
         ensures err { OnErr result (self.new ≡ self.old) }
     {
-        self.journal.reserve()?;
-        let done = event.try_copy()?;
-        let spare = spare_entry_at(self.alloc, &self.nodes, name, what)?;
         make_room(&mut self.group, self.journal.records().len() + 2)?;
-        let mut out = empty_box(self.alloc, &mut self.rooms)?;
+        let done = copied(&mut self.journal, event)?;
+        let (spare, mut out) = room_at(self.alloc, &self.nodes, name, what, &mut self.rooms)?;
         let node = &mut self.nodes[usize::from(name.place())];
         let outcome = node.step(what, spare, &mut out);
         let _accepted = node.accept_front();

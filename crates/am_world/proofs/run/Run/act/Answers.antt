@@ -25,7 +25,7 @@ pub step-outcome-requires-clause-numbers : goal.step-outcome-requires-clause-num
 step-outcome-requires-clause-numbers c =
     let w = c.self.inside in
     let group = c.make_room.new.group in
-    let kept = ap length (c.records.ensures.value ∙ c.reserve.ensures.records) in
+    let kept = ap length c.records.ensures.value in
     let room = c.in_ok-make_room.ensures.room in
     (ready c.args.self.now w.journal.founding w.nodes.items w.lives w.stopped w.journal.records w.group.items
     c.args.event.now c.args.what.now c.args.name c.from.result (vec_len group) (vec_capacity group) c.index_mut-node.result.now
@@ -35,7 +35,7 @@ step-outcome-requires-clause-numbers c =
 pub step-outcome-requires-clause-place : goal.step-outcome-requires-clause-place
 step-outcome-requires-clause-place c =
     let w = c.self.inside in
-    subst (λ ns. HasPlaceAt ns (place_of c.args.name) c.args.what.now c.in_ok-spare.spare) c.deref.ensures.value c.in_ok-spare.ensures
+    subst (λ ns. HasPlaceAt ns (place_of c.args.name) c.args.what.now c.in_ok-spare.spare) c.deref.ensures.value c.in_ok-spare.ensures.spare
     c.index_mut-node.result.now (there w.nodes.items c.args.name c.from.result c.index_mut-node.result.now c.self.invariant.shows.standing.count
     (c.from.ensures ∙ c.place.ensures.value) c.index_mut-node.ensures.value)
 
@@ -43,7 +43,7 @@ pub grow-requires : goal.grow-requires
 grow-requires c =
     let w = c.self.inside in
     let group = c.make_room.new.group in
-    let kept = ap length (c.records.ensures.value ∙ c.reserve.ensures.records) in
+    let kept = ap length c.records.ensures.value in
     let room = c.in_ok-make_room.ensures.room in
     let grows = (ready c.args.self.now w.journal.founding w.nodes.items w.lives w.stopped w.journal.records w.group.items
     c.args.event.now c.args.what.now c.args.name c.from.result (vec_len group) (vec_capacity group)
@@ -74,10 +74,10 @@ made c =
       grows = rw (← c.make_room.ensures.items) c.grow.ensures;
     })
     (recorded (replay p) c.args.event.now c.step-outcome.result c.step-outcome.new.out w.lives c.args.name c.life.result _ w.journal.founding
-    c.push.new.self.founding w.journal.records c.reserve.new.self.records c.push.new.self.records living c.requires.name c.life.ensures.value
-    (c.record_of.ensures ∙ ap (λ (e : Event). the_record e c.life.result c.step-outcome.result c.packets_of-packets.result) c.in_ok-done.ensures
+    c.push.new.self.founding w.journal.records c.copied.new.journal.records c.push.new.self.records living c.requires.name c.life.ensures.value
+    (c.record_of.ensures ∙ ap (λ (e : Event). the_record e c.life.result c.step-outcome.result c.packets_of-packets.result) c.in_ok-done.ensures.copy
     ∙ ap (the_record c.args.event.now c.life.result c.step-outcome.result) c.packets_of-packets.ensures) (c.push.ensures.founding
-    ∙ c.reserve.ensures.founding) c.reserve.ensures.records c.push.ensures.records)
+    ∙ c.copied.ensures.founding) c.copied.ensures.records c.push.ensures.records)
     c.requires.comes
 
 pub invariant_of-self-2 : goal.invariant_of-self-2

@@ -1,10 +1,10 @@
-use Rattle.am_world.proofs.Words.{[], true, slice_set, ap, ◌∙◌, name_at, stranger, IsRun, play_of, replay, Answers}
+use Rattle.am_world.proofs.Words.{[], true, slice_set, refl, ap, ◌∙◌, life_of, name_at, stranger, IsRun, play_of, replay, Answers}
 use Rattle.am_base.specs.declared.outcome.Outcome.TheVariants as said
 use Rattle.am_world.proofs.{Goes.recorded, Goes.living_at, Returns.return_goes_on, run.Run.come_back.Goals.After-push}
 use Rattle.am_world.proofs.run.Run.come_back.Goals as goal
 
 made : (c : After-push) → IsRun (play_of c.push.new.self.founding c.push.new.self.records)
-    (slice_set c.self.inside.nodes.items c.from.result c.in_ok-fresh.fresh) (slice_set c.self.inside.lives c.from-2.result c.args.life)
+    (slice_set c.self.inside.nodes.items c.from.result c.stranger_in-fresh.result) (slice_set c.self.inside.lives c.from-2.result c.args.life)
     (slice_set c.self.inside.stopped c.from-3.result true) c.push.new.self.records c.self.inside.group.items
     × Answers c.args.self.now c.args.event.now (said.Returned c.args.life)
 made c =
@@ -14,15 +14,15 @@ made c =
     let named = rw c.unwrap.ensures at c.of.ensures.value in
     let place = c.place-place.ensures.value in
     return_goes_on p w.journal.founding c.push.new.self.founding w.nodes.items w.lives w.stopped w.journal.records c.push.new.self.records w.group.items
-    c.args.event.now c.args.name c.from.result c.from-2.result c.unwrap.result c.from-3.result c.args.life c.in_ok-fresh.fresh
+    c.args.event.now c.args.name c.from.result c.from-2.result c.unwrap.result c.from-3.result c.args.life c.stranger_in-fresh.result
     c.self.view_is c.self.invariant c.requires.few c.requires.name (c.from.ensures ∙ place) (c.from-2.ensures ∙ place) (c.from-3.ensures
     ∙ c.get.ensures.value) c.requires.next c.requires.most
-    (named ∙ ap (λ k. name_at k c.args.life) place) (c.in_ok-fresh.ensures
-    ∙ ap (λ r. stranger r c.unwrap.result) (c.founding.ensures ∙ c.reserve.ensures.founding))
+    (named ∙ ap (λ k. name_at k c.args.life) place) (c.stranger_in-fresh.ensures
+    ∙ ap (λ r. stranger r c.unwrap.result) c.in_ok-record.ensures.node)
     (recorded (replay p) c.args.event.now (said.Returned c.args.life)
-    [] w.lives c.args.name c.life.result c.in_ok-record.record w.journal.founding c.push.new.self.founding w.journal.records c.reserve.new.self.records
-    c.push.new.self.records living c.requires.name c.life.ensures.value c.in_ok-record.ensures (c.push.ensures.founding
-    ∙ c.reserve.ensures.founding) c.reserve.ensures.records c.push.ensures.records)
+    [] w.lives c.args.name (life_of c.args.name) c.in_ok-record.record w.journal.founding c.push.new.self.founding w.journal.records c.new_life.new.journal.records
+    c.push.new.self.records living c.requires.name refl c.in_ok-record.ensures.record_ (c.push.ensures.founding
+    ∙ c.new_life.ensures.founding) c.new_life.ensures.records c.push.ensures.records)
     c.requires.comes
 
 pub invariant_of-self-2 : goal.invariant_of-self-2
