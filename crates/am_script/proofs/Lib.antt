@@ -4,3 +4,6 @@ pub mod Steps
 pub mod Limits
 pub mod Races
 pub mod Answered
+pub mod Tokens
+pub mod Ranges
+pub mod Seeing

@@ -13,14 +13,14 @@ use Rattle.am_group.specs.declared.plan.RacePlan.{RacePlan}
 use Rattle.serde_json.specs.Data.{Data, Items, no_items, item}
 use Rattle.serde_json.specs.Events.{items_len}
 use Rattle.serde_json.specs.Find.{as_array, as_object}
-use Rattle.serde_json.specs.View.{view, items_view}
-use Rattle.serde_json.specs.declared.value.Value.{Value}
+use Rattle.json.specs.declared.value.Value.{Value}
 use Rattle.am_script.specs.declared.key.Key.TheVariants as key
 use Rattle.am_script.specs.declared.kind.Kind.{Kind}
 use Rattle.am_script.specs.declared.kind.Kind.TheVariants.{Send, Done, Take, Join, State, Leave, Reset, Ask, GiveUp, Stop, Tick, Hear, Cut, Return}
 use Rattle.am_script.specs.declared.refusal.ScriptRefusal.TheVariants.{BadValue}
 use Rattle.am_script.specs.Keys.{has_only}
 use Rattle.am_script.specs.Refusals.{Read, ◌>>=◌}
+use Rattle.am_script.specs.Seen.{seen, items_seen}
 use Rattle.am_script.specs.Values.{value_in, text_in, number_in, number_or, body_from}
 use Rattle.am_script.specs.Events.{kind_in, send_in, reset_in, act_in}
 use Rattle.am_script.specs.Founders.{founding_in}
@@ -92,17 +92,17 @@ read_more : (thread : ThreadPlan) (threads : List ThreadPlan) (later : Read (Lis
 read_more thread threads (Ok xs) = ap (λ (ys : List ThreadPlan). let r : Read (List ThreadPlan) = Ok ys in r) (sym (append_assoc threads (thread ∷ []) xs))
 read_more thread threads (Err e) = refl
 
-pub threads_go_on : (founding first i count : ℕ) (list : List Value) (value : Value) (thread : ThreadPlan) (threads more : List ThreadPlan)
+pub threads_go_on : {A : Type 0} (founding first i count : ℕ) (list : List (Value A)) (value : Value A) (thread : ThreadPlan) (threads more : List ThreadPlan)
     (whole : Read (List ThreadPlan))
-    → i < length list → value ≡ slice_index_or list i value → thread_from founding first (view value) ≡ Ok thread → count ≡ length thread.calls
+    → i < length list → value ≡ slice_index_or list i value → thread_from founding first (seen value) ≡ Ok thread → count ≡ length thread.calls
     → more ≡ threads ++ thread ∷ []
-    → whole ≡ (each_thread founding first (items_view (drop i list)) >>= λ later. Ok (threads ++ later))
-    → whole ≡ (each_thread founding (first + count) (items_view (drop (i + 1) list)) >>= λ later. Ok (more ++ later))
+    → whole ≡ (each_thread founding first (items_seen (drop i list)) >>= λ later. Ok (threads ++ later))
+    → whole ≡ (each_thread founding (first + count) (items_seen (drop (i + 1) list)) >>= λ later. Ok (more ++ later))
 threads_go_on founding first i count list value thread threads more whole within is told counted pushed h =
-    let rest = items_view (drop (i + 1) list) in
+    let rest = items_seen (drop (i + 1) list) in
     let left : drop i list ≡ value ∷ drop (i + 1) list = drop_more list i value within ∙ ap (λ v. v ∷ drop (i + 1) list) (sym is) in
-    let opened : each_thread founding first (items_view (drop i list)) ≡ (each_thread founding (first + length thread.calls) rest >>= λ xs. Ok (thread ∷ xs)) =
-    ap (λ vs. each_thread founding first (items_view vs)) left
+    let opened : each_thread founding first (items_seen (drop i list)) ≡ (each_thread founding (first + length thread.calls) rest >>= λ xs. Ok (thread ∷ xs)) =
+    ap (λ vs. each_thread founding first (items_seen vs)) left
     ∙ ap (λ (r : Read ThreadPlan). r >>= λ one. each_thread founding (first + length one.calls) rest >>= λ xs. Ok (one ∷ xs)) told in
     h ∙ ap (λ (r : Read (List ThreadPlan)). r >>= λ later. Ok (threads ++ later)) opened
     ∙ read_more thread threads (each_thread founding (first + length thread.calls) rest)

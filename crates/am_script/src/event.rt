@@ -1,8 +1,8 @@
 ghost use Rattle.std.specs.Prelude.{◌≡◌, ◌≤◌, ◌%◌, length};
 ghost use Rattle.std.specs.List.{list_all};
 ghost use Rattle.am_base.specs.Most.{most_number};
-ghost use Rattle.serde_json.specs.View.{view};
 ghost use Rattle.am_script.specs.Refusals.{Answers};
+ghost use Rattle.am_script.specs.Seen.{seen};
 ghost use Rattle.am_script.specs.Values.{is_digit, are_pairs, body_from, number_in};
 ghost use Rattle.am_script.specs.Events.{kind_in, send_in, reset_in, give_up_in, cut_in, act_in, event_as, event_from};
 
@@ -14,13 +14,13 @@ use am_base::body::Body;
 use am_base::limits::{MOST_BODY, MOST_NUMBER, MOST_PACKET};
 use am_base::name::Name;
 use am_group::event::{Act, Event};
-use serde_json::Value;
+use json::Value;
 use std::alloc::Global;
 
 /// The kind of an event or a call.
 #[tactic(auto, unfolding(crate::specs::Events::kind_in))]
 pub fn kind(event: &Value, place: u64) -> Read<Kind>
-    ensures { result ≡ kind_in place (view event.now) }
+    ensures { result ≡ kind_in place (seen event.now) }
 {
     let word = text_in(event, Key::Do, place)?;
     match Kind::of(word) {
@@ -72,7 +72,7 @@ fn body(text: &str, place: u64) -> Read<Body>
 
 /// The number of a request, a round or a packet at a key of an event.
 fn count(event: &Value, key: Key, place: u64) -> Read<u32>
-    ensures { result ≡ number_in key place 1 most_number (view event.now) }
+    ensures { result ≡ number_in key place 1 most_number (seen event.now) }
 {
     Ok(number_in(event, key, place, 1, u64::from(MOST_NUMBER))? as u32)
 }
@@ -80,7 +80,7 @@ fn count(event: &Value, key: Key, place: u64) -> Read<u32>
 /// A send.
 #[tactic(auto, unfolding(crate::specs::Events::send_in))]
 fn send(alloc: Global, event: &Value, place: u64) -> Read<Act>
-    ensures { Answers (send_in place (view event.now)) result }
+    ensures { Answers (send_in place (seen event.now)) result }
 {
     let text = text_in(event, Key::Body, place)?;
     Ok(Act::send(alloc, body(text, place)?)?)
@@ -90,7 +90,7 @@ fn send(alloc: Global, event: &Value, place: u64) -> Read<Act>
 #[tactic(auto, unfolding(crate::specs::Events::reset_in))]
 fn reset(event: &Value, place: u64, founding: u8) -> Read<Act>
     requires { founding ≤ 15 }
-    ensures { result ≡ reset_in founding place (view event.now) }
+    ensures { result ≡ reset_in founding place (seen event.now) }
 {
     let least = number_in(event, Key::Least, place, 1, 16)?;
     let resilience = number_or(u64::from(founding), event, Key::Resilience, place, 0, 15)?;
@@ -103,7 +103,7 @@ fn reset(event: &Value, place: u64, founding: u8) -> Read<Act>
 /// The giving up of a name, of life 1 where none is said.
 #[tactic(auto, unfolding(crate::specs::Events::give_up_in))]
 fn give_up(event: &Value, place: u64) -> Read<Act>
-    ensures { result ≡ give_up_in place (view event.now) }
+    ensures { result ≡ give_up_in place (seen event.now) }
 {
     let seat = number_in(event, Key::Name, place, 0, 15)?;
     let life = number_or(1, event, Key::Life, place, 1, 16)?;
@@ -113,7 +113,7 @@ fn give_up(event: &Value, place: u64) -> Read<Act>
 /// The hearing of the first bytes of a packet.
 #[tactic(auto, unfolding(crate::specs::Events::cut_in))]
 fn cut(event: &Value, place: u64) -> Read<Act>
-    ensures { result ≡ cut_in place (view event.now) }
+    ensures { result ≡ cut_in place (seen event.now) }
 {
     let packet = count(event, Key::Packet, place)?;
     let keep = number_in(event, Key::Keep, place, 0, MOST_PACKET as u64)?;
@@ -127,7 +127,7 @@ fn cut(event: &Value, place: u64) -> Read<Act>
 #[tactic(auto, unfolding(crate::specs::Events::act_in))]
 pub fn act(alloc: Global, kind: Kind, event: &Value, place: u64, founding: u8) -> Read<Act>
     requires { founding ≤ 15 }
-    ensures { Answers (act_in kind founding place (view event.now)) result }
+    ensures { Answers (act_in kind founding place (seen event.now)) result }
 {
     match kind {
         Kind::Send => send(alloc, event, place),
@@ -151,7 +151,7 @@ pub fn act(alloc: Global, kind: Kind, event: &Value, place: u64, founding: u8) -
 #[tactic(auto, unfolding(crate::specs::Events::event_as))]
 fn event_of_kind(alloc: Global, kind: Kind, event: &Value, place: u64, founding: u8) -> Read<Event>
     requires { founding ≤ 15 }
-    ensures { Answers (event_as kind founding place (view event.now)) result }
+    ensures { Answers (event_as kind founding place (seen event.now)) result }
 {
     known(kind.keys(), event, place)?;
     let node = number_in(event, Key::Node, place, 0, 15)?;
@@ -163,7 +163,7 @@ fn event_of_kind(alloc: Global, kind: Kind, event: &Value, place: u64, founding:
 #[tactic(auto, unfolding(crate::specs::Events::event_from))]
 pub fn event(alloc: Global, value: &Value, place: u64, founding: u8) -> Read<Event>
     requires { founding ≤ 15 }
-    ensures { Answers (event_from founding place (view value.now)) result }
+    ensures { Answers (event_from founding place (seen value.now)) result }
 {
     object(value, Key::Events, place)?;
     let kind = kind(value, place)?;

@@ -1,20 +1,21 @@
 ghost use Rattle.std.specs.Prelude.{◌≡◌};
-ghost use Rattle.serde_json.specs.View.{view, items_view};
+ghost use Rattle.am_script.specs.Seen.{seen, items_seen};
 ghost use Rattle.am_base.specs.Names.{nobody};
 ghost use Rattle.am_script.specs.Founders.{each_founder, founders_from, founding_in};
 
 use crate::fields::{number, number_or, value_in};
 use crate::key::Key;
 use crate::refusal::{Read, ScriptRefusal};
+use crate::tree::items;
 use am_base::founding::Founding;
 use am_base::limits::{MOST_BODY, MOST_WINDOW};
 use am_base::name::Name;
 use am_base::names::Names;
-use serde_json::Value;
+use json::Value;
 
 /// The names of places, each of which is new.
 fn each_founder(list: &[Value]) -> Read<Names>
-    ensures { result ≡ each_founder nobody (items_view list.now) }
+    ensures { result ≡ each_founder nobody (items_seen list.now) }
 {
     let mut names = Names::empty();
     for value in list {
@@ -29,23 +30,23 @@ fn each_founder(list: &[Value]) -> Read<Names>
 }
 
 /// The founders: 1 to 16 places, each once.
-#[tactic(auto, using(crate::proofs::Json::items_len_view), unfolding(crate::specs::Founders::founders_from))]
+#[tactic(auto, using(crate::proofs::Json::items_len_seen), unfolding(crate::specs::Founders::founders_from))]
 fn founders(value: &Value) -> Read<Names>
-    ensures { result ≡ founders_from (view value.now) }
+    ensures { result ≡ founders_from (seen value.now) }
 {
-    let Some(list) = value.as_array() else {
+    let Some(list) = items(value) else {
         return Err(ScriptRefusal::bad_value(Key::Founders, 0));
     };
     if list.is_empty() || 16 < list.len() {
         return Err(ScriptRefusal::out_of_range(Key::Founders, 0, list.len() as u64, 1, 16));
     }
-    each_founder(list.as_slice())
+    each_founder(list)
 }
 
 /// How a group begins, by the keys that a play and a race both have. A refusal is the first cause that it says none.
 #[tactic(auto, using(crate::proofs::Limits::founders_are), unfolding(crate::specs::Founders::founding_in))]
 pub fn founding(value: &Value) -> Read<Founding>
-    ensures { result ≡ founding_in (view value.now) }
+    ensures { result ≡ founding_in (seen value.now) }
 {
     let founders = founders(value_in(value, Key::Founders, 0)?)?;
     let resilience = number_or(0, value, Key::Resilience, 0, 0, 15)?;

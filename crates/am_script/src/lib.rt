@@ -1,6 +1,7 @@
 //! Scripts: how a group begins and what happens then, read from JSON.
 #![tactic(auto)]
 
+mod document;
 mod event;
 mod fields;
 mod founding;
@@ -11,3 +12,4 @@ mod race;
 pub mod read;
 pub mod refusal;
 pub mod script;
+mod tree;

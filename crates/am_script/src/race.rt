@@ -1,5 +1,5 @@
 ghost use Rattle.std.specs.Prelude.{◌≡◌, ◌≤◌, ◌<◌, ◌+◌, ◌*◌, ◌^◌, length, IfOk};
-ghost use Rattle.serde_json.specs.View.{view, items_view};
+ghost use Rattle.am_script.specs.Seen.{seen, items_seen};
 ghost use Rattle.am_script.specs.Refusals.{Answers};
 ghost use Rattle.am_script.specs.Values.{each_from};
 ghost use Rattle.am_script.specs.Races.{most_turns, call_kind_in, call_as, call_from, calls_from, parts_of_thread, thread_from, each_thread, threads_from, calls_of, of_right_size, parts_of_race, race_from};
@@ -10,12 +10,13 @@ use crate::founding::founding;
 use crate::key::Key;
 use crate::kind::Kind;
 use crate::refusal::{Read, ScriptRefusal};
+use crate::tree::items;
 use am_base::items::Items;
 use am_base::limits::MOST_EVENTS;
 use am_base::name::Name;
 use am_group::event::Act;
 use am_group::plan::{RacePlan, ThreadPlan};
-use serde_json::Value;
+use json::Value;
 use std::alloc::Global;
 
 /// The keys of a thread.
@@ -49,7 +50,7 @@ const MOST_CALLS: u64 = 1_000;
 /// The kind of a call.
 #[tactic(auto, unfolding(crate::specs::Races::call_kind_in))]
 fn call_kind(call: &Value, place: u64) -> Read<Kind>
-    ensures { result ≡ call_kind_in place (view call.now) }
+    ensures { result ≡ call_kind_in place (seen call.now) }
 {
     let kind = kind(call, place)?;
     if !kind.is_call() {
@@ -62,7 +63,7 @@ fn call_kind(call: &Value, place: u64) -> Read<Kind>
 #[tactic(auto, unfolding(crate::specs::Races::call_as))]
 fn call_of_kind(alloc: Global, kind: Kind, call: &Value, place: u64, founding: u8) -> Read<Act>
     requires { founding ≤ 15 }
-    ensures { Answers (call_as kind founding place (view call.now)) result }
+    ensures { Answers (call_as kind founding place (seen call.now)) result }
 {
     known(kind.call_keys(), call, place)?;
     act(alloc, kind, call, place, founding)
@@ -72,7 +73,7 @@ fn call_of_kind(alloc: Global, kind: Kind, call: &Value, place: u64, founding: u
 #[tactic(auto, unfolding(crate::specs::Races::call_from))]
 fn call(alloc: Global, value: &Value, place: u64, founding: u8) -> Read<Act>
     requires { founding ≤ 15 }
-    ensures { Answers (call_from founding place (view value.now)) result }
+    ensures { Answers (call_from founding place (seen value.now)) result }
 {
     object(value, Key::Calls, place)?;
     let kind = call_kind(value, place)?;
@@ -83,7 +84,7 @@ fn call(alloc: Global, value: &Value, place: u64, founding: u8) -> Read<Act>
 fn each_call(alloc: Global, list: &[Value], first: u64, founding: u8) -> Read<Items<Act>>
     requires founding { founding ≤ 15 }
     requires first { first ≤ 2 ^ 63 }
-    ensures { Answers (each_from (call_from founding) first (items_view list.now)) result }
+    ensures { Answers (each_from (call_from founding) first (items_seen list.now)) result }
 {
     let mut calls = Items::new(alloc);
     for (before, value) in list.iter().enumerate() {
@@ -97,12 +98,12 @@ fn each_call(alloc: Global, list: &[Value], first: u64, founding: u8) -> Read<It
 fn calls(alloc: Global, value: &Value, first: u64, founding: u8) -> Read<Items<Act>>
     requires founding { founding ≤ 15 }
     requires first { first ≤ 2 ^ 63 }
-    ensures { Answers (calls_from founding first (view value.now)) result }
+    ensures { Answers (calls_from founding first (seen value.now)) result }
 {
-    let Some(list) = value.as_array() else {
+    let Some(list) = items(value) else {
         return Err(ScriptRefusal::bad_value(Key::Calls, 0));
     };
-    each_call(alloc, list.as_slice(), first, founding)
+    each_call(alloc, list, first, founding)
 }
 
 /// A thread's parts.
@@ -110,7 +111,7 @@ fn calls(alloc: Global, value: &Value, first: u64, founding: u8) -> Read<Items<A
 fn parts_of_thread(alloc: Global, value: &Value, first: u64, founding: u8) -> Read<ThreadPlan>
     requires founding { founding ≤ 15 }
     requires first { first ≤ 2 ^ 63 }
-    ensures { Answers (parts_of_thread founding first (view value.now)) result }
+    ensures { Answers (parts_of_thread founding first (seen value.now)) result }
 {
     let node = number_in(value, Key::Node, 0, 0, 15)?;
     let list = value_in(value, Key::Calls, 0)?;
@@ -126,7 +127,7 @@ fn parts_of_thread(alloc: Global, value: &Value, first: u64, founding: u8) -> Re
 fn thread(alloc: Global, value: &Value, first: u64, founding: u8) -> Read<ThreadPlan>
     requires founding { founding ≤ 15 }
     requires first { first ≤ 2 ^ 63 }
-    ensures { Answers (thread_from founding first (view value.now)) result }
+    ensures { Answers (thread_from founding first (seen value.now)) result }
 {
     object(value, Key::Threads, 0)?;
     known(&THREAD_KEYS, value, 0)?;
@@ -137,7 +138,7 @@ fn thread(alloc: Global, value: &Value, first: u64, founding: u8) -> Read<Thread
 fn each_thread(alloc: Global, list: &[Value], founding: u8) -> Read<Items<ThreadPlan>>
     requires founding { founding ≤ 15 }
     requires few { length list.now ≤ 16 }
-    ensures { Answers (each_thread founding 1 (items_view list.now)) result }
+    ensures { Answers (each_thread founding 1 (items_seen list.now)) result }
 {
     let mut threads = Items::new(alloc);
     let mut first = 1;
@@ -150,18 +151,18 @@ fn each_thread(alloc: Global, list: &[Value], founding: u8) -> Read<Items<Thread
 }
 
 /// The threads of a race: 1 to 16.
-#[tactic(auto, using(crate::proofs::Json::items_len_view), unfolding(crate::specs::Races::threads_from))]
+#[tactic(auto, using(crate::proofs::Json::items_len_seen), unfolding(crate::specs::Races::threads_from))]
 fn threads(alloc: Global, value: &Value, founding: u8) -> Read<Items<ThreadPlan>>
     requires { founding ≤ 15 }
-    ensures { Answers (threads_from founding (view value.now)) result }
+    ensures { Answers (threads_from founding (seen value.now)) result }
 {
-    let Some(list) = value.as_array() else {
+    let Some(list) = items(value) else {
         return Err(ScriptRefusal::bad_value(Key::Threads, 0));
     };
     if list.is_empty() || 16 < list.len() {
         return Err(ScriptRefusal::out_of_range(Key::Threads, 0, list.len() as u64, 1, 16));
     }
-    each_thread(alloc, list.as_slice(), founding)
+    each_thread(alloc, list, founding)
 }
 
 /// How many calls threads have in all.
@@ -198,7 +199,7 @@ fn of_right_size(plan: RacePlan) -> Read<RacePlan>
 /// A race's parts.
 #[tactic(auto, using(crate::proofs::Races::few_threads), unfolding(crate::specs::Races::parts_of_race))]
 fn parts(alloc: Global, value: &Value) -> Read<RacePlan>
-    ensures { Answers (parts_of_race (view value.now)) result }
+    ensures { Answers (parts_of_race (seen value.now)) result }
 {
     let founding = founding(value)?;
     let seed_number = number_in(value, Key::Seed, 0, 0, u64::MAX)?;
@@ -221,7 +222,7 @@ fn parts(alloc: Global, value: &Value) -> Read<RacePlan>
 /// NoMemory is the first cause that the value tells none.
 #[tactic(auto, unfolding(crate::specs::Races::race_from))]
 pub fn race(alloc: Global, value: &Value) -> Read<RacePlan>
-    ensures { Answers (race_from (view value.now)) result }
+    ensures { Answers (race_from (seen value.now)) result }
 {
     object(value, Key::Race, 0)?;
     known(&RACE_KEYS, value, 0)?;

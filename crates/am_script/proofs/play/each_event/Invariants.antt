@@ -1,10 +1,10 @@
 use Rattle.std.proofs.Common.{◌≡◌, ◌+◌, ◌++◌, drop, Ok}
-use Rattle.serde_json.specs.View.{items_view}
+use Rattle.am_script.specs.Seen.{items_seen}
 use Rattle.am_script.specs.Refusals.{◌>>=◌}
 use Rattle.am_script.specs.Values.{each_from}
 use Rattle.am_script.specs.Events.{event_from}
 use Rattle.am_script.proofs.play.each_event.Given as goal
 
 abbrev pub invariant-loop-before : goal.invariant-loop-before
-invariant-loop-before l = each_from (event_from l.fn.founding) 1 (items_view l.fn.list)
-    ≡ (each_from (event_from l.fn.founding) (l.before + 1) (items_view (drop l.before l.list)) >>= λ later. Ok (l.events ++ later))
+invariant-loop-before l = each_from (event_from l.fn.founding) 1 (items_seen l.fn.list)
+    ≡ (each_from (event_from l.fn.founding) (l.before + 1) (items_seen (drop l.before l.list)) >>= λ later. Ok (l.events ++ later))

@@ -1,0 +1,186 @@
+-- Looking into a tree is looking into its data.
+use Rattle.std.proofs.Common.{◌≡◌, ℕ, List, [], ◌∷◌, Bool, true, false, ◌&&◌, cond, Option, Some, None, option_map, option_and_then, refl, sym, ap, ◌∙◌, subst}
+use Rattle.std.proofs.Common.{Vec, bytes_eq, Bor, Ordering, Less, Equal, Greater, nat_cmp, is_eq}
+use Rattle.std.proofs.lemmas.Map.Text.{is_eq-slice_cmp}
+use Rattle.std.specs.Ordering.{match_ordering}
+use Rattle.std.specs.Cmp.Lexicographic.{slice_cmp}
+use Rattle.std.proofs.lemmas.Slice.Eq.{bytes_eq-Decides}
+use Rattle.std.specs.List.{list_all}
+use Rattle.std.specs.Option.{option_map_or}
+use Rattle.json.specs.Json as json
+use Rattle.json.specs.Find as finds
+use Rattle.json.specs.Value.{members_view}
+use Rattle.json.specs.declared.value.Value.{Value}
+use Rattle.json.specs.declared.value.Value.TheVariants.{Object}
+use Rattle.serde_json.specs.Data.{Num, Data, null, number, Members, no_members, member, put}
+use Rattle.serde_json.specs.Find.{get, get_member, as_str, as_bool, as_number, as_u64, as_object, as_array}
+use Rattle.serde_json.specs.Read.{number_of}
+use Rattle.serde_json.proofs.Views.{get_member-put, get_member-put_other}
+use Rattle.json.proofs.Trees.{view-Object}
+use Rattle.am_script.specs.declared.key.Key.{Key}
+use Rattle.am_script.specs.Keys.{words_of, is_among, has_only}
+use Rattle.am_script.specs.Seen.{data_of, items_of, members_of, whole_of, seen}
+
+number_str : (found : Option Num) → as_str (option_map_or number found null) ≡ None
+number_str None = refl
+number_str (Some n) = refl
+
+pub text_seen : (j : json.Json) → as_str (data_of j) ≡ finds.as_str j
+text_seen json.null = refl
+text_seen (json.boolean b) = refl
+text_seen (json.number s) = number_str (number_of s)
+text_seen (json.string s) = refl
+text_seen (json.array js) = refl
+text_seen (json.object ms) = refl
+
+number_bool : (found : Option Num) → as_bool (option_map_or number found null) ≡ None
+number_bool None = refl
+number_bool (Some n) = refl
+
+pub flag_seen : (j : json.Json) → as_bool (data_of j) ≡ finds.as_bool j
+flag_seen json.null = refl
+flag_seen (json.boolean b) = refl
+flag_seen (json.number s) = number_bool (number_of s)
+flag_seen (json.string s) = refl
+flag_seen (json.array js) = refl
+flag_seen (json.object ms) = refl
+
+number_whole : (found : Option Num) → option_and_then as_u64 (as_number (option_map_or number found null)) ≡ option_and_then as_u64 found
+number_whole None = refl
+number_whole (Some n) = refl
+
+pub whole_seen : (j : json.Json) → option_and_then as_u64 (as_number (data_of j)) ≡ option_and_then whole_of (finds.as_number j)
+whole_seen json.null = refl
+whole_seen (json.boolean b) = refl
+whole_seen (json.number s) = number_whole (number_of s)
+whole_seen (json.string s) = refl
+whole_seen (json.array js) = refl
+whole_seen (json.object ms) = refl
+
+number_array : (found : Option Num) → as_array (option_map_or number found null) ≡ None
+number_array None = refl
+number_array (Some n) = refl
+
+pub array_seen : (j : json.Json) → as_array (data_of j) ≡ option_map items_of (finds.as_array j)
+array_seen json.null = refl
+array_seen (json.boolean b) = refl
+array_seen (json.number s) = number_array (number_of s)
+array_seen (json.string s) = refl
+array_seen (json.array js) = refl
+array_seen (json.object ms) = refl
+
+number_object : (found : Option Num) → as_object (option_map_or number found null) ≡ None
+number_object None = refl
+number_object (Some n) = refl
+
+pub object_seen : (j : json.Json) → as_object (data_of j) ≡ option_map (λ ms. members_of ms no_members) (finds.as_object j)
+object_seen json.null = refl
+object_seen (json.boolean b) = refl
+object_seen (json.number s) = number_object (number_of s)
+object_seen (json.string s) = refl
+object_seen (json.array js) = refl
+object_seen (json.object ms) = refl
+
+-- ---- members
+
+abbrev or_else : {A : Type 0} → Option A → Option A → Option A
+or_else (Some x) other = Some x
+or_else None other = other
+
+or_none : {A : Type 0} (found : Option A) → or_else found None ≡ found
+or_none (Some x) = refl
+or_none None = refl
+
+put_found : (later : Option json.Json) (b : Bool) (k l : List ℕ) (j : json.Json) (found : Members) → bytes_eq l k ≡ b
+    → or_else (option_map data_of later) (get_member k (put l (data_of j) found))
+    ≡ or_else (option_map data_of (finds.later_or later (cond b (Some j) None))) (get_member k found)
+put_found (Some x) b k l j found is = refl
+put_found None true k l j found is =
+    subst (λ (x : List ℕ). get_member x (put l (data_of j) found) ≡ Some (data_of j)) ((bytes_eq-Decides l k).0 is) (get_member-put l (data_of j) found)
+put_found None false k l j found is =
+    get_member-put_other k l (data_of j) found (λ h. let clash : true ≡ false = sym ((bytes_eq-Decides l k).1 (sym h)) ∙ is in cc)
+
+members_get : (k : List ℕ) (ms : json.Members) (found : Members)
+    → get_member k (members_of ms found) ≡ or_else (option_map data_of (finds.get_member k ms)) (get_member k found)
+members_get k json.no_members found = refl
+members_get k (json.member l j ms) found = members_get k ms (put l (data_of j) found) ∙ put_found (finds.get_member k ms) (bytes_eq l k) k l j found refl
+
+number_get : (k : List ℕ) (found : Option Num) → get k (option_map_or number found null) ≡ None
+number_get k None = refl
+number_get k (Some n) = refl
+
+pub member_seen : (k : List ℕ) (j : json.Json) → get k (data_of j) ≡ option_map data_of (finds.get k j)
+member_seen k json.null = refl
+member_seen k (json.boolean b) = refl
+member_seen k (json.number s) = number_get k (number_of s)
+member_seen k (json.string s) = refl
+member_seen k (json.array js) = refl
+member_seen k (json.object ms) = members_get k ms no_members ∙ or_none (option_map data_of (finds.get_member k ms))
+
+-- ---- their words
+
+abbrev all_keys : (List ℕ → Bool) → json.Members → Bool
+all_keys p json.no_members = true
+all_keys p (json.member k j ms) = p k && all_keys p ms
+
+twice : (a b : Bool) → (a && b) ≡ (a && (a && b))
+twice true b = refl
+twice false b = refl
+
+swapped : (a b c : Bool) → (a && (b && c)) ≡ (b && (a && c))
+swapped true b c = refl
+swapped false true c = refl
+swapped false false c = refl
+
+put_at : (o : Ordering) (p : List ℕ → Bool) (k l : List ℕ) (d e : Data) (ms : Members) → slice_cmp nat_cmp k l ≡ o
+    → list_all p (words_of (put k d ms)) ≡ (p k && list_all p (words_of ms))
+    → list_all p (words_of (match_ordering o (member k d (member l e ms)) (member l d ms) (member l e (put k d ms)))) ≡ (p k && (p l && list_all p (words_of ms)))
+put_at Less p k l d e ms is later = refl
+put_at Equal p k l d e ms is later =
+    let same : k ≡ l = (bytes_eq-Decides k l).0 (sym (is_eq-slice_cmp k l) ∙ ap is_eq is) in
+    subst (λ (x : List ℕ). (p l && list_all p (words_of ms)) ≡ (p x && (p l && list_all p (words_of ms)))) (sym same) (twice (p l) (list_all p (words_of ms)))
+put_at Greater p k l d e ms is later = ap (λ b. p l && b) later ∙ swapped (p l) (p k) (list_all p (words_of ms))
+
+put_words : (p : List ℕ → Bool) (k : List ℕ) (d : Data) (ms : Members) → list_all p (words_of (put k d ms)) ≡ (p k && list_all p (words_of ms))
+put_words p k d no_members = refl
+put_words p k d (member l e ms) = put_at (slice_cmp nat_cmp k l) p k l d e ms refl (put_words p k d ms)
+
+and_last : (a b c : Bool) → (b && (a && c)) ≡ ((a && b) && c)
+and_last true b c = refl
+and_last false true c = refl
+and_last false false c = refl
+
+members_words : (p : List ℕ → Bool) (ms : json.Members) (found : Members)
+    → list_all p (words_of (members_of ms found)) ≡ (all_keys p ms && list_all p (words_of found))
+members_words p json.no_members found = refl
+members_words p (json.member k j ms) found =
+    members_words p ms (put k (data_of j) found) ∙ ap (λ b. all_keys p ms && b) (put_words p k (data_of j) found)
+    ∙ and_last (p k) (all_keys p ms) (list_all p (words_of found))
+
+and_true : (a : Bool) → (a && true) ≡ a
+and_true true = refl
+and_true false = refl
+
+view_keys : {A : Type 0} (p : List ℕ → Bool) (ms : List (Bor (List ℕ) × Value A)) → all_keys p (members_view ms) ≡ list_all (λ m. p m.0.now) ms
+view_keys p [] = refl
+view_keys p (m ∷ ms) = ap (λ b. p m.0.now && b) (view_keys p ms)
+
+-- the words of an object are those of its members
+pub words_seen : {A : Type 0} (p : List ℕ → Bool) (ms : List (Bor (List ℕ) × Value A))
+    → list_all p (words_of (members_of (members_view ms) no_members)) ≡ list_all (λ m. p m.0.now) ms
+words_seen p ms = members_words p (members_view ms) no_members ∙ and_true (all_keys p (members_view ms)) ∙ view_keys p ms
+
+-- ---- of trees
+
+map_twice : {V : Type 0} (found : Option V) (f : V → json.Json) → option_map (λ v. data_of (f v)) found ≡ option_map data_of (option_map f found)
+map_twice None f = refl
+map_twice (Some v) f = refl
+
+pub at_seen : {V : Type 0} (found : Option V) (f : V → json.Json) (word named : List ℕ) (j : json.Json) → word ≡ named → option_map f found ≡ finds.get word j
+    → option_map (λ v. data_of (f v)) found ≡ get named (data_of j)
+at_seen found f word named j same is =
+    map_twice found f ∙ ap (option_map data_of) is ∙ sym (member_seen word j) ∙ ap (λ w. get w (data_of j)) same
+
+pub only_seen : {A : Type 0} (keys : List Key) (v : Vec (Bor (List ℕ) × Value A) A) → list_all (λ m. is_among keys m.0.now) v.items ≡ has_only keys (seen (Object v))
+only_seen keys v =
+    sym (words_seen (is_among keys) v.items) ∙ ap (λ j. has_only keys (data_of j)) (sym (view-Object v))
