@@ -117,7 +117,7 @@ const VECTORS: [Vector; 24] = [
 ];
 
 /// Totals that a kind or a tag can't have.
-const TOTALS: [(&[u8], usize); 47] = [
+const TOTALS: [(&[u8], u16); 47] = [
     (REQUEST, 23),
     (REQUEST, 1049),
     (SPREAD, 23),
@@ -234,8 +234,8 @@ fn a_wrong_byte_is_refused_at_its_offset(rt: HostRuntime) -> Result<(), Fail> {
 fn a_wrong_total_is_refused(rt: HostRuntime) -> Result<(), Fail> {
     for (bytes, total) in TOTALS {
         let mut changed = Vec::from_slice(rt.alloc(), bytes)?;
-        changed.resize(total, 0)?;
-        let field = (total as u16).to_be_bytes();
+        changed.resize(usize::from(total), 0)?;
+        let field = total.to_be_bytes();
         for (place, byte) in changed.iter_mut().skip(10).zip(field) {
             *place = byte;
         }
