@@ -26,17 +26,17 @@ use Rattle.am_report.specs.Schedules.{IsOfBytes, AreOfBytes}
 use Rattle.am_laws.specs.Bytes.{IsShort, BodyWithin}
 use Rattle.am_laws.proofs.Named.{run_named}
 use Rattle.am_laws.proofs.RunCounts.{numbers_hold}
-use Rattle.am_unballoted.specs.Lists.{ListFits}
-use Rattle.am_unballoted.proofs.Holds.{unballoted_holds, unballoted_lists_fit}
+use Rattle.am_runs.specs.Lists.{ListFits}
+use Rattle.am_runs.proofs.Holds.{unballoted_holds, unballoted_lists_fit}
 use Rattle.am_headline.proofs.Holds.{headline_holds, lists_fit}
 use Rattle.am_audit.specs.declared.verdict.Verdict.TheVariants as verdicts
 use Rattle.am_audit.specs.Lines.{Reading}
 use Rattle.am_audit.specs.Verdicts.{or_else, first_fault, first_astray, first_lost, first_early, first_misfit, first_skipped, first_unsent, first_unlogged}
 use Rattle.am_audit.specs.Verdicts.{first_untaken, lines_of, wrong_lists, wrong_events, verdict_of}
-use Rattle.am_records.specs.Records.{IsSayable, AsksBytes}
-use Rattle.am_records.specs.Resiliences.{IsRaised}
-use Rattle.am_records.proofs.Sound.{records_are_sound, requests_in_turn}
-use Rattle.am_records.proofs.RaisedRuns.{resiliences_hold}
+use Rattle.am_headline.specs.Records.{IsSayable, AsksBytes}
+use Rattle.am_headline.specs.Resiliences.{IsRaised}
+use Rattle.am_headline.proofs.Sound.{records_are_sound, requests_in_turn}
+use Rattle.am_headline.proofs.RaisedRuns.{resiliences_hold}
 use Rattle.am_audited.specs.Texts.{sends_of, answers_of, takes_of, texts_of, logs_in, reading_of}
 use Rattle.am_audited.specs.Claims.{right_verdict, AgreesAs, RunsHaveTheirTexts, LawfulTextsAgree}
 use Rattle.am_audited.proofs.Runs.{group_begins, run_read}

@@ -21,7 +21,7 @@ use Rattle.am_play.specs.Claims.{IsSend}
 use Rattle.am_audit.specs.declared.verdict.Verdict.TheVariants as verdicts
 use Rattle.am_audit.specs.Lines.{Line}
 use Rattle.am_audit.specs.Verdicts.{or_else, first_asked, body_at, is_text, unsent_at, first_unsent, lines_of}
-use Rattle.am_records.specs.Records.{IsSayable}
+use Rattle.am_headline.specs.Records.{IsSayable}
 use Rattle.am_audited.specs.Texts.{send_in, sends_of, texts_of}
 use Rattle.am_audited.proofs.Outcomes.{same_self}
 use Rattle.am_audited.proofs.Entries.{data_as, data_in_is}

@@ -19,8 +19,8 @@ use Rattle.am_audit.specs.declared.outline.Outline.TheVariants as outlines
 use Rattle.am_audit.specs.Fields.{data_parts, data_of, resilience_of, resilience_in, view_of, outline_of, data_in}
 use Rattle.am_printed.proofs.Printed.{number_again, name_again, names_again}
 use Rattle.am_printed.proofs.Words.{decimal_word, name_word, stamp_word, names_word, word_cut, word_whole, stamp_again, body_again}
-use Rattle.am_records.specs.Records.{IsSayable}
-use Rattle.am_records.specs.Resiliences.{IsRaised}
+use Rattle.am_headline.specs.Records.{IsSayable}
+use Rattle.am_headline.specs.Resiliences.{IsRaised}
 use Rattle.am_audited.proofs.Chars.{HasBytes}
 use Rattle.am_audited.proofs.Outcomes.{two_words, IsReadAs}
 

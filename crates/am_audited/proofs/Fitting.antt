@@ -23,8 +23,8 @@ use Rattle.am_audit.specs.declared.verdict.Verdict.{Verdict}
 use Rattle.am_audit.specs.declared.verdict.Verdict.TheVariants as verdicts
 use Rattle.am_audit.specs.Fields.{outline_of}
 use Rattle.am_audit.specs.Verdicts.{or_else, bare_entry, is_lowest, founds, fits_at, image_after, first_misfit}
-use Rattle.am_records.specs.Records.{IsSayable}
-use Rattle.am_records.specs.Resiliences.{IsRaised}
+use Rattle.am_headline.specs.Records.{IsSayable}
+use Rattle.am_headline.specs.Resiliences.{IsRaised}
 use Rattle.am_audited.specs.Texts.{texts_of}
 use Rattle.am_audited.proofs.Entries.{resilience_as, outline_as, entry_read}
 

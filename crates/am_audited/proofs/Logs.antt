@@ -23,16 +23,16 @@ use Rattle.am_play.specs.Text.{entry_text}
 use Rattle.am_play.specs.World.{World}
 use Rattle.am_play.specs.Group.{logs}
 use Rattle.am_play.specs.Claims.{BeginsAt, IsSegment, Segment}
-use Rattle.am_effects.proofs.Items.{all_item}
-use Rattle.am_orders.proofs.Turns.{no_send_twice}
+use Rattle.am_laws.proofs.Items.{all_item}
+use Rattle.am_chain.proofs.Turns.{no_send_twice}
 use Rattle.am_audit.specs.declared.verdict.Verdict.{Verdict}
 use Rattle.am_audit.specs.declared.verdict.Verdict.TheVariants as verdicts
 use Rattle.am_audit.specs.Fields.{outline_of, data_in, is_send}
 use Rattle.am_audit.specs.Lines.{Line}
 use Rattle.am_audit.specs.Verdicts.{or_else, last_of, first_with, first_sent, gap_at, differs_at, twice_by, twice_at, fault_at, first_fault, is_text}
 use Rattle.am_audit.specs.Verdicts.{first_astray, may_begin, early_at, first_early}
-use Rattle.am_records.specs.Records.{IsSayable}
-use Rattle.am_records.specs.Resiliences.{IsRaised}
+use Rattle.am_headline.specs.Records.{IsSayable}
+use Rattle.am_headline.specs.Resiliences.{IsRaised}
 use Rattle.am_audited.specs.Texts.{texts_of, log_in, logs_in}
 use Rattle.am_audited.proofs.Outcomes.{same_self}
 use Rattle.am_audited.proofs.Entries.{outline_as, entry_read, is_of, data_as, data_in_is}

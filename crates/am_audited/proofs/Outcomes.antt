@@ -23,7 +23,7 @@ use Rattle.am_audit.specs.Lines.{Reading, with_send, with_answer, with_take, wit
 use Rattle.am_printed.proofs.Printed.{number_again}
 use Rattle.am_printed.proofs.Words.{IsWord, decimal_word, word_cut, word_whole, body_again}
 use Rattle.am_audited.specs.Texts.{queued_as, send_in, sent_as, answer_in, took_as, take_in}
-use Rattle.am_records.specs.Records.{returned_as, names_after, HasLife}
+use Rattle.am_headline.specs.Records.{returned_as, names_after, HasLife}
 use Rattle.am_audited.proofs.Chars.{outcome_is_word}
 
 -- ---- words and what stands behind them

@@ -28,11 +28,11 @@ use Rattle.am_report.specs.Schedules.{IsOfBytes}
 use Rattle.am_audit.specs.Lines.{Reading, read_text}
 use Rattle.am_laws.specs.Bytes.{IsShort}
 use Rattle.am_laws.proofs.RunCounts.{numbers_hold}
-use Rattle.am_records.specs.Records.{IsSayable, AsksBytes, IsAnswer, IsBack, IsSound, LivesTold}
-use Rattle.am_records.proofs.Lives.{lives_are_told}
-use Rattle.am_records.proofs.Sound.{records_are_sound}
-use Rattle.am_records.specs.Resiliences.{IsRaised, GivesRaised, GaveRaised}
-use Rattle.am_records.proofs.RaisedRuns.{resiliences_hold}
+use Rattle.am_headline.specs.Records.{IsSayable, AsksBytes, IsAnswer, IsBack, IsSound, LivesTold}
+use Rattle.am_headline.proofs.Lives.{lives_are_told}
+use Rattle.am_headline.proofs.Sound.{records_are_sound}
+use Rattle.am_headline.specs.Resiliences.{IsRaised, GivesRaised, GaveRaised}
+use Rattle.am_headline.proofs.RaisedRuns.{resiliences_hold}
 use Rattle.am_audited.specs.Texts.{reading_of}
 use Rattle.am_audited.proofs.Chars.{GivesBytes}
 use Rattle.am_audited.proofs.Outcomes.{IsQueued, IsAnswered, IsTaken, IsCounted}

@@ -26,7 +26,7 @@ use Rattle.am_audit.specs.Fields.{data_in, is_send}
 use Rattle.am_audit.specs.Lines.{Line}
 use Rattle.am_audit.specs.Verdicts.{or_else, last_of, once_more, stands, is_at, first_lost, first_skipped}
 use Rattle.am_audit.specs.Verdicts.{lines_of, count_of}
-use Rattle.am_records.specs.Records.{IsSayable, IsAnswer, IsSound, queued_in, queued_by, requests_given}
+use Rattle.am_headline.specs.Records.{IsSayable, IsAnswer, IsSound, queued_in, queued_by, requests_given}
 use Rattle.am_audited.specs.Texts.{send_in, sends_of, answer_in, answers_of, texts_of}
 use Rattle.am_audited.proofs.Entries.{is_of}
 use Rattle.am_audited.proofs.Logs.{send_test, is_data}

@@ -25,7 +25,7 @@ use Rattle.am_audit.specs.declared.verdict.Verdict.TheVariants as verdicts
 use Rattle.am_audit.specs.Lines.{Line}
 use Rattle.am_audit.specs.Verdicts.{or_else, lines_of, count_of, is_line, first_unlogged, first_untaken}
 use Rattle.am_audit.proofs.Segments.{count_is_length}
-use Rattle.am_records.specs.Records.{IsAnswer, IsSound}
+use Rattle.am_headline.specs.Records.{IsAnswer, IsSound}
 use Rattle.am_audited.specs.Texts.{take_in, takes_of, log_in, logs_in}
 use Rattle.am_audited.proofs.Outcomes.{same_self}
 use Rattle.am_audited.proofs.Sends.{filter_more, get_behind}

@@ -14,7 +14,7 @@ use Rattle.am_play.specs.Text.{entry_text, record_line, records_text, group_line
 use Rattle.am_audit.specs.declared.line.Stage.TheVariants as stages
 use Rattle.am_audit.specs.Lines.{Reading, nothing_read, may_log, read_lines, read_behind, read_text}
 use Rattle.am_audited.specs.Texts.{send_in, answer_in, take_in, sends_of, answers_of, takes_of, texts_of, log_in, logs_in}
-use Rattle.am_records.specs.Records.{names_told, AreTold, first_names}
+use Rattle.am_headline.specs.Records.{names_told, AreTold, first_names}
 use Rattle.am_audited.proofs.Reading.{after_record, after_records, AreShown, records_read, AreListed, with_entries, group_read, with_given}
 use Rattle.am_audited.proofs.Reading.{after_logs, AreLogs, all_read, ended, IsMark, end_read}
 

@@ -15,7 +15,7 @@ use Rattle.am_play.specs.Lawful.{Watch}
 use Rattle.am_audit.specs.declared.line.Answer.{Answer}
 use Rattle.am_audit.specs.declared.line.Stage.TheVariants as stages
 use Rattle.am_audit.specs.Lines.{Line, Reading}
-use Rattle.am_records.specs.Records.{names_in}
+use Rattle.am_headline.specs.Records.{names_in}
 
 -- ---- what an event counts for, by the name that did it
 

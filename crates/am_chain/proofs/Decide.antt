@@ -11,13 +11,13 @@ use Rattle.am_chain_lists.proofs.Prefixes.{begins_refl, begins_more, begins_tran
 use Rattle.am_chain_lists.proofs.Prefixes.{begins_pushed, begins_take}
 use Rattle.am_chain_lists.proofs.Members.{mem_between, mem_viewed, viewed_mem, good_begins, good_push, Ends, ends_of}
 use Rattle.am_chain_lists.proofs.Order.{view_viewed, view_fits, key_by, resilience_viewed}
-use Rattle.am_chain_moves.specs.Group.{put, how_many, Node, Chosen, opening, Views, Group, chain_of, current_of, IsThere, IsUp}
-use Rattle.am_chain_moves.specs.Moves.{MayDecide, choice_of, with_choice}
-use Rattle.am_chain_moves.specs.Runs.{IsLawful}
-use Rattle.am_chain_moves.specs.Kept.{LateOk, NodeOk, ServedOk, DepartedOk, ViewsOk, Kept}
-use Rattle.am_chain_moves.proofs.Puts.{put_cases, put_same, put_other, put_at}
-use Rattle.am_chain_moves.proofs.Frames.{Later, later_all, shown_later, served_later, witness_later}
-use Rattle.am_chain_moves.proofs.Nodes.{fronts_longer, view_current}
+use Rattle.am_chain.specs.Group.{put, how_many, Node, Chosen, opening, Views, Group, chain_of, current_of, IsThere, IsUp}
+use Rattle.am_chain.specs.Moves.{MayDecide, choice_of, with_choice}
+use Rattle.am_chain.specs.Runs.{IsLawful}
+use Rattle.am_chain.specs.Kept.{LateOk, NodeOk, ServedOk, DepartedOk, ViewsOk, Kept}
+use Rattle.am_chain.proofs.Puts.{put_cases, put_same, put_other, put_at}
+use Rattle.am_chain.proofs.Frames.{Later, later_all, shown_later, served_later, witness_later}
+use Rattle.am_chain.proofs.Nodes.{fronts_longer, view_current}
 use Rattle.am_chain.proofs.Heart.{ballot_ok, list_chain, member_above, needed_promised, needed_low, departed_in, complete_in, group_in, too_few}
 
 module _ (s : Group) (k : Kept s) (lawful : IsLawful s) (c : ℕ) (members : List ℕ) (resilience : ℕ) (d : MayDecide s c members resilience) where

@@ -13,11 +13,11 @@ use Rattle.am_chain_lists.proofs.Prefixes.{begins_refl, begins_nil, begins_more,
 use Rattle.am_chain_lists.proofs.Prefixes.{length_push, begins_take, length_take, take_begins}
 use Rattle.am_chain_lists.proofs.Members.{mem_between, mem_nil, mem_viewed, viewed_mem, good_begins, leaver_in, leaver_out}
 use Rattle.am_chain_lists.proofs.Order.{view_up, resilience_up, resilience_viewed}
-use Rattle.am_chain_moves.specs.Group.{how_many, counted_in, opening, Group, chain_of, IsThere, IsUp, NoBetter}
-use Rattle.am_chain_moves.specs.Moves.{MayDecide, Voted}
-use Rattle.am_chain_moves.specs.Runs.{counts_for, IsLawful}
-use Rattle.am_chain_moves.specs.Kept.{BallotOk, Kept}
-use Rattle.am_chain_moves.proofs.Puts.{count_within, count_below}
+use Rattle.am_chain.specs.Group.{how_many, counted_in, opening, Group, chain_of, IsThere, IsUp, NoBetter}
+use Rattle.am_chain.specs.Moves.{MayDecide, Voted}
+use Rattle.am_chain.specs.Runs.{counts_for, IsLawful}
+use Rattle.am_chain.specs.Kept.{BallotOk, Kept}
+use Rattle.am_chain.proofs.Puts.{count_within, count_below}
 
 -- the greatest number that passes
 pub greatest_of : (p : ℕ → Bool) (bound x : ℕ) → p x ≡ true → ((y : ℕ) → p y ≡ true → y ≤ bound) → (g : ℕ) × (p g ≡ true) × ((y : ℕ) → p y ≡ true → y ≤ g)

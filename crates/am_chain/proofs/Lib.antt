@@ -1,4 +1,14 @@
+pub mod Words
+pub mod Puts
+pub mod Frames
+pub mod Start
+pub mod Nodes
+pub mod Fronts
+pub mod Quiet
+pub mod Ballots
+pub mod Steps
 pub mod Heart
 pub mod Decide
 pub mod Marks
 pub mod Runs
+pub mod Turns

@@ -9,9 +9,9 @@ use Rattle.am_chain_lists.specs.Whole.{Begins, view_of, key}
 use Rattle.am_chain_lists.proofs.Prefixes.{begins_more, begins_both, length_push}
 use Rattle.am_chain_lists.proofs.Members.{good_begins}
 use Rattle.am_chain_lists.proofs.Order.{view_up, view_below}
-use Rattle.am_chain_moves.specs.Group.{opening, Views, Group, chain_of, IsThere}
-use Rattle.am_chain_moves.specs.Runs.{Completes}
-use Rattle.am_chain_moves.specs.Kept.{NodeOk, Kept}
+use Rattle.am_chain.specs.Group.{opening, Views, Group, chain_of, IsThere}
+use Rattle.am_chain.specs.Runs.{Completes}
+use Rattle.am_chain.specs.Kept.{NodeOk, Kept}
 
 view_nil : key (view_of []) ≡ 0
 unfolding fold view_of key

@@ -4,14 +4,14 @@ use Rattle.am_base.specs.declared.entry.Entry.{Entry}
 use Rattle.am_base.specs.declared.entry.Entry.TheVariants.{Leave}
 use Rattle.am_chain_lists.specs.Whole.{Begins}
 use Rattle.am_chain_lists.proofs.Prefixes.{begins_refl, begins_trans, begins_take, begins_both, length_take}
-use Rattle.am_chain_moves.specs.Group.{count, Node, opening, Group, chain_of, MayAccept, put}
-use Rattle.am_chain_moves.specs.Moves.{Move, numbers, stores, accepts, learns, begins, raises, shows, serves, fetches, decides, gives_over, welcomes, asks}
-use Rattle.am_chain_moves.specs.Moves.{departs, closes, stops, longer}
-use Rattle.am_chain_moves.specs.Runs.{Step, IsLawful, start, Run, founded, more, Onward, here, onward, counts_for}
-use Rattle.am_chain_moves.specs.Kept.{Kept}
+use Rattle.am_chain.specs.Group.{count, Node, opening, Group, chain_of, MayAccept, put}
+use Rattle.am_chain.specs.Moves.{Move, numbers, stores, accepts, learns, begins, raises, shows, serves, fetches, decides, gives_over, welcomes, asks}
+use Rattle.am_chain.specs.Moves.{departs, closes, stops, longer}
+use Rattle.am_chain.specs.Runs.{Step, IsLawful, start, Run, founded, more, Onward, here, onward, counts_for}
+use Rattle.am_chain.specs.Kept.{Kept}
 use Rattle.am_chain.specs.Claims.{RunsKeep, ChoicesKeep, CompleteViewsStand}
-use Rattle.am_chain_moves.proofs.Start.{start_kept}
-use Rattle.am_chain_moves.proofs.Steps.{quiet_keeps}
+use Rattle.am_chain.proofs.Start.{start_kept}
+use Rattle.am_chain.proofs.Steps.{quiet_keeps}
 use Rattle.am_chain.proofs.Decide.{decides_keeps, chosen_old, decided_old, group_low}
 use Rattle.am_chain.proofs.Marks.{marks_keep}
 use Rattle.am_chain_lists.specs.Whole.{image_of}

@@ -1,10 +1,10 @@
 -- What is claimed of every run.
 use Rattle.std.specs.Prelude.{◌≡◌, ℕ, true, List}
 use Rattle.am_chain_lists.specs.Whole.{Begins}
-use Rattle.am_chain_moves.specs.Group.{opening, Group, chain_of}
-use Rattle.am_chain_moves.specs.Moves.{MayDecide, choice_of}
-use Rattle.am_chain_moves.specs.Runs.{Run, Onward}
-use Rattle.am_chain_moves.specs.Kept.{Kept}
+use Rattle.am_chain.specs.Group.{opening, Group, chain_of}
+use Rattle.am_chain.specs.Moves.{MayDecide, choice_of}
+use Rattle.am_chain.specs.Runs.{Run, Onward}
+use Rattle.am_chain.specs.Kept.{Kept}
 
 -- in a lawful run, all that is kept
 abbrev pub RunsKeep : Type 0

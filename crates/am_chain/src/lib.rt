@@ -1,6 +1,9 @@
 //! Why a group has one list: each accepted entry stands in what every later ballot chooses (docs/SAFETY.md).
 #![tactic(auto)]
 
+pub mod chain_moves;
+pub mod orders;
+
 ghost use Rattle.am_chain.specs.Claims.{RunsKeep, ChoicesKeep, CompleteViewsStand};
 
 /// In a run in which never more of the names that count for the greatest complete view are stopped undeparted than its

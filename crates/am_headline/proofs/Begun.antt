@@ -5,7 +5,7 @@ use Rattle.am_headline.proofs.Words.{IsGood, key, begins_refl, begins_nil, good_
 use Rattle.am_headline.proofs.Words.{founding_stamp, has_departed, Decided, World, start, first_node, founders_decided, happen, run, Watch, watch_all}
 use Rattle.am_headline.proofs.Words.{watch_run, watch_start, broken_at, BecameComplete, split, first_founder, NamesNamed, GroupFor, start_keeps}
 use Rattle.am_headline.proofs.Words.{branches_begin, goes_on, start_stands, Following, StepsMove}
-use Rattle.am_chain_moves.specs.Runs as begun
+use Rattle.am_chain.specs.Runs as begun
 use Rattle.am_headline.proofs.{Shapes.Shaped, Shapes.shaped_moves, Greatest.unbroken, Fold.KeptBy, Fold.Held, Fold.moves_mark, Fold.next}
 
 abbrev first_group : Rules → Group

@@ -7,9 +7,9 @@ use Rattle.am_headline.proofs.Words.{views_after, with_record, with_step, lives_
 use Rattle.am_headline.proofs.Words.{greatest_complete, broken_at, BecameComplete, split, and_both, watched_is_run, Cause, actor, IsIdle, Happens, idles}
 use Rattle.am_headline.proofs.Words.{returns, steps, events_have_effects, all_get, get_front, runs_keep, IsNoted, AllViews, each_views, views_start, Moves}
 use Rattle.am_headline.proofs.Words.{none, moves, Grows, EventStands, no_move, stop, idle_stands, stop_stands, return_stands, Following, StepsMove}
-use Rattle.am_chain_moves.specs.Moves.{numbers}
+use Rattle.am_chain.specs.Moves.{numbers}
 use Rattle.am_play.specs.World as worlds
-use Rattle.am_effects.specs.Events as event
+use Rattle.am_laws.specs.Events as event
 use Rattle.am_headline.proofs.Ready.{marked, given, halted, MayMark, Ready, Stays, stays_same, grows_marked, grows_halted, shaped_marked, marked_follows}
 use Rattle.am_headline.proofs.Ready.{ready_given, ready_halted, stays_follows, grows_given}
 use Rattle.am_headline.proofs.Greatest.{Passing, any_passing, passing_any, Small, IsGreatest, greatest_is, unbroken, watch_complete}

@@ -7,7 +7,7 @@ use Rattle.am_headline.proofs.Words.{has_log, accepted_sends, Decided, World, ha
 use Rattle.am_headline.proofs.Words.{Segment, line_of, BecameComplete, KeepsView, Holds, HeadlineHolds, split, runs_begin, front_is_lawful, actor, IsIdle}
 use Rattle.am_headline.proofs.Words.{events_have_effects, all_get, senders_in_order, send_stands_once, bounded_holds, sent_holds, front_begins, few_names}
 use Rattle.am_headline.proofs.Words.{run_owned, IsNoted, nil_of, StandsAt, NameStands, NotedStands, told_all, group_kept, steps_move, Following}
-use Rattle.am_chain_moves.specs.Kept as groups
+use Rattle.am_chain.specs.Kept as groups
 use Rattle.am_headline.specs.Lists.{LawfulListsFit}
 use Rattle.am_headline.proofs.{Lists.item_begins, Lists.item_back, Fold.Quiet, Fold.KeptBy, Fold.Became, Fold.Held, Begun.held, Greatest.unbroken, Told.Told}
 use Rattle.am_headline.proofs.{Told.Taking, Told.taking_in_group, Told.told_same, Told.told_idle, Told.told_step, Told.told_start, Moments.done_then}

@@ -4,7 +4,7 @@ use Rattle.am_headline.proofs.Words.{length-take-le, slice_get_within, Entry, Ou
 use Rattle.am_headline.proofs.Words.{with_record, with_step, happens, run, runs_begin, one_record_each, actor, IsIdle, Happens, idles, returns, steps}
 use Rattle.am_headline.proofs.Words.{get_last}
 use Rattle.am_base.specs.declared.outcome.Outcome.TheVariants as said
-use Rattle.am_effects.specs.Events as event
+use Rattle.am_laws.specs.Events as event
 use Rattle.am_headline.proofs.{OneStep.run_push, Told.Told, Told.Taking, Told.taking}
 
 -- ---- an event of a run

@@ -6,7 +6,7 @@ use Rattle.am_headline.proofs.Words.{is_unfinished, World, is_stopped, NameStand
 use Rattle.am_headline.proofs.Words.{BranchesOk, ChainNamed, NodeKeeps, same_name, grows_names, node_grows, letters_stay, group_kept, move_on, grows_same}
 use Rattle.am_headline.proofs.Words.{moves_open, runs_open, others_keep, Following}
 use Rattle.am_stands.specs.Letters.{LetterSays}
-use Rattle.am_chain_moves.specs.Group as groups
+use Rattle.am_chain.specs.Group as groups
 use Rattle.am_headline.proofs.Shapes.{Shaped, shaped_move, shaped_stop}
 
 abbrev pub RunFor : Rules → Group → Type 0

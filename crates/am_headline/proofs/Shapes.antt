@@ -4,8 +4,8 @@ use Rattle.am_headline.proofs.Words.{up_as, ◌≡◌, ◌≢◌, ◌⊎◌, ⊎
 use Rattle.am_headline.proofs.Words.{IsSet, item_at, Begins, IsGood, view_of, key, begins_refl, begins_trans, good_begins, Group, Chosen, IsUp, put, chain_of}
 use Rattle.am_headline.proofs.Words.{Move, with_node, choice_of, longer, learns, begins, raises, gives_over, welcomes, asks, stops, Kept, put_cases, put_same}
 use Rattle.am_headline.proofs.Words.{MoveOk, Moves, none, moves, Grows, GroupOk, group_kept, move_on, departs}
-use Rattle.am_chain_moves.specs.Moves.{numbers, stores, fetches, decides, closes}
-use Rattle.am_chain_moves.specs.Group as groups
+use Rattle.am_chain.specs.Moves.{numbers, stores, fetches, decides, closes}
+use Rattle.am_chain.specs.Group as groups
 use Rattle.am_headline.proofs.Lists.{item_begins, item_back}
 
 -- a list on the line of a decided view

@@ -13,10 +13,10 @@ use Rattle.am_headline.proofs.Words.{idle_welcomes, idle_sends, deliveries_push,
 use Rattle.am_headline.proofs.Words.{welcome_in, welcomes_push, idle_welcome, other_welcome, record_up, taken_or, nil_of, given_push, record_step}
 use Rattle.am_headline.proofs.Words.{welcomed_step, GivenOk, begins_at, RecordOk, StandsAt, group_kept, Following}
 use Rattle.am_play.specs.Claims.{welcomes}
-use Rattle.am_unballoted.proofs.Kept.{begins_more}
+use Rattle.am_runs.proofs.UnballotedKept.{begins_more}
 use Rattle.am_base.specs.declared.outcome.Outcome.TheVariants as said
 use Rattle.am_packet.specs.declared.packet.Packet.TheVariants as packet
-use Rattle.am_chain_moves.specs.Group as groups
+use Rattle.am_chain.specs.Group as groups
 use Rattle.am_headline.proofs.{Lists.item_begins, Shapes.Along, Shapes.along_up, Shapes.along_moves, Ways.kind_of, Inside.Fresh, Inside.Settled}
 use Rattle.am_headline.proofs.{Inside.SendIn, Inside.Inside, Inside.inside_kind, Joined.Opens, Joined.AnyLetter, Joined.welcome_joins, OneStep.OneStep}
 use Rattle.am_headline.proofs.{OneStep.parts, OneStep.plain, Own.whole_item, Own.taken_in_group, Own.step_in_group}

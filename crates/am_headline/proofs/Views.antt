@@ -5,7 +5,7 @@ use Rattle.am_headline.proofs.Words.{begins_length, length_push, Group, IsUp, Ke
 use Rattle.am_headline.proofs.Words.{image_whole}
 use Rattle.am_chain_lists.specs.Whole.{image_of}
 use Rattle.am_packet.specs.declared.packet.Packet.TheVariants as packet
-use Rattle.am_chain_moves.specs.Group as groups
+use Rattle.am_chain.specs.Group as groups
 use Rattle.am_headline.proofs.{Lists.item_begins, Shapes.Shaped, Fits.FitsAt, Rows.Stores}
 
 -- ---- a number of a list

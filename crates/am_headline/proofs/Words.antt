@@ -1,25 +1,25 @@
 -- The words of this crate's proofs, of the crates and definitions that they come from.
-pub use Rattle.am_unballoted.proofs.Words.{◌≡◌, ℕ, zero, suc, ◌<◌, ◌≤◌, ◌==◌, true, List, [], ◌∷◌, ◌++◌, length, take, None, Some, refl, sym, ap, ◌∙◌, subst}
-pub use Rattle.am_unballoted.proofs.Words.{arith, ◌⊎◌, ⊎_elim, inl, inr, ◌+◌, ◌-◌, max, ◌&&◌, not, nat_lt, Bool, if◌then◌else◌, slice_index, length-append}
-pub use Rattle.am_unballoted.proofs.Words.{false, slice_get, ◌||◌, Option, nat_le, ◌≢◌, append-nil, append_assoc, drop, min, find, nat_tests, take-append-le}
-pub use Rattle.am_unballoted.proofs.Words.{take-append-drop, length-take-le, All-nil, All-cons, All-push, All-filter, All-map, All-weaker, All-append}
-pub use Rattle.am_unballoted.proofs.Words.{slice_get-get_or, slice_get_within, list_any, flat_map, All, View, Leave, Data, Join, Rules, MayFound, has}
-pub use Rattle.am_unballoted.proofs.Words.{place_of, life_of, split, and_both, Entry, Image, Row, Stamp, Outcome, Log, blank_row, image_at, top_of, after}
-pub use Rattle.am_unballoted.proofs.Words.{told_by, blank, AllFit, fits, entry_at, stamp_eq, stamp_lt, Packet, Letter, goes_to_any, entry-get, CoreState}
-pub use Rattle.am_unballoted.proofs.Words.{slice_get-drop, OwnSend, Event, item_at, letter_at, Record, Act, is_for, deliveries, name_of, taken_in, given_to}
-pub use Rattle.am_unballoted.proofs.Words.{get_before, get_behind, founding_stamp, Node, Ballot, top, push_entry, view, is_member, acts, founder}
-pub use Rattle.am_unballoted.proofs.Words.{founders_view, has_log, is_asking, is_sequencer, waiting, trim_up_to, stranger, first_founder, Verdict, Status}
-pub use Rattle.am_unballoted.proofs.Words.{Step, hears_member, hears_in_view, hears_sequencer, begin_list, advance, settle_waiting, settle_at, accepted_at}
-pub use Rattle.am_unballoted.proofs.Words.{is_view, body_of, Departed, World, start, run, record_of, group_after, heard_by, BeginsAt, accepted_sends, sent_in}
-pub use Rattle.am_unballoted.proofs.Words.{IsGood, Begins, mem, begins_push, begins_take, length_take, length_push, begins_same, good_begins, long_told}
-pub use Rattle.am_unballoted.proofs.Words.{told_push, mem_in, in_mem, row_at, Cause, hears, Looks, Carries, whole_entry, by_number, Change, refreshes}
-pub use Rattle.am_unballoted.proofs.Words.{settles, numbers, stores, begins_list, looks, fetches, stores_view, closes, Changes, unchanged, changed}
-pub use Rattle.am_unballoted.proofs.Words.{MayBeWelcomed, queues, collects, takes, asks_to_join, asks_to_leave, rests_refresh, settle_is, Says, bcast, order}
-pub use Rattle.am_unballoted.proofs.Words.{piece, result, LetterSays, IsCause, WasSentTo, actor, IsIdle, Happens, idles, returns, steps, all_get, get_front}
-pub use Rattle.am_unballoted.proofs.Words.{get_last, logged, asking_log, events_have_effects, runs_keep, asking, Effect, Answers, HasTaken, AnswersAsk}
-pub use Rattle.am_unballoted.proofs.Words.{WasSettled, bounded_holds, senders_in_order, send_stands_once, sent_holds}
-unfoldable pub use Rattle.am_unballoted.proofs.Words.{accept, pass_over, own_report, tell, go_on, lead, refresh, settle, refresh_at_end, with_step}
-unfoldable pub use Rattle.am_unballoted.proofs.Words.{with_record}
+pub use Rattle.am_runs.proofs.UnballotedWords.{◌≡◌, ℕ, zero, suc, ◌<◌, ◌≤◌, ◌==◌, true, List, [], ◌∷◌, ◌++◌, length, take, None, Some, refl, sym, ap, ◌∙◌, subst}
+pub use Rattle.am_runs.proofs.UnballotedWords.{arith, ◌⊎◌, ⊎_elim, inl, inr, ◌+◌, ◌-◌, max, ◌&&◌, not, nat_lt, Bool, if◌then◌else◌, slice_index, length-append}
+pub use Rattle.am_runs.proofs.UnballotedWords.{false, slice_get, ◌||◌, Option, nat_le, ◌≢◌, append-nil, append_assoc, drop, min, find, nat_tests, take-append-le}
+pub use Rattle.am_runs.proofs.UnballotedWords.{take-append-drop, length-take-le, All-nil, All-cons, All-push, All-filter, All-map, All-weaker, All-append}
+pub use Rattle.am_runs.proofs.UnballotedWords.{slice_get-get_or, slice_get_within, list_any, flat_map, All, View, Leave, Data, Join, Rules, MayFound, has}
+pub use Rattle.am_runs.proofs.UnballotedWords.{place_of, life_of, split, and_both, Entry, Image, Row, Stamp, Outcome, Log, blank_row, image_at, top_of, after}
+pub use Rattle.am_runs.proofs.UnballotedWords.{told_by, blank, AllFit, fits, entry_at, stamp_eq, stamp_lt, Packet, Letter, goes_to_any, entry-get, CoreState}
+pub use Rattle.am_runs.proofs.UnballotedWords.{slice_get-drop, OwnSend, Event, item_at, letter_at, Record, Act, is_for, deliveries, name_of, taken_in, given_to}
+pub use Rattle.am_runs.proofs.UnballotedWords.{get_before, get_behind, founding_stamp, Node, Ballot, top, push_entry, view, is_member, acts, founder}
+pub use Rattle.am_runs.proofs.UnballotedWords.{founders_view, has_log, is_asking, is_sequencer, waiting, trim_up_to, stranger, first_founder, Verdict, Status}
+pub use Rattle.am_runs.proofs.UnballotedWords.{Step, hears_member, hears_in_view, hears_sequencer, begin_list, advance, settle_waiting, settle_at, accepted_at}
+pub use Rattle.am_runs.proofs.UnballotedWords.{is_view, body_of, Departed, World, start, run, record_of, group_after, heard_by, BeginsAt, accepted_sends, sent_in}
+pub use Rattle.am_runs.proofs.UnballotedWords.{IsGood, Begins, mem, begins_push, begins_take, length_take, length_push, begins_same, good_begins, long_told}
+pub use Rattle.am_runs.proofs.UnballotedWords.{told_push, mem_in, in_mem, row_at, Cause, hears, Looks, Carries, whole_entry, by_number, Change, refreshes}
+pub use Rattle.am_runs.proofs.UnballotedWords.{settles, numbers, stores, begins_list, looks, fetches, stores_view, closes, Changes, unchanged, changed}
+pub use Rattle.am_runs.proofs.UnballotedWords.{MayBeWelcomed, queues, collects, takes, asks_to_join, asks_to_leave, rests_refresh, settle_is, Says, bcast, order}
+pub use Rattle.am_runs.proofs.UnballotedWords.{piece, result, LetterSays, IsCause, WasSentTo, actor, IsIdle, Happens, idles, returns, steps, all_get, get_front}
+pub use Rattle.am_runs.proofs.UnballotedWords.{get_last, logged, asking_log, events_have_effects, runs_keep, asking, Effect, Answers, HasTaken, AnswersAsk}
+pub use Rattle.am_runs.proofs.UnballotedWords.{WasSettled, bounded_holds, senders_in_order, send_stands_once, sent_holds}
+unfoldable pub use Rattle.am_runs.proofs.UnballotedWords.{accept, pass_over, own_report, tell, go_on, lead, refresh, settle, refresh_at_end, with_step}
+unfoldable pub use Rattle.am_runs.proofs.UnballotedWords.{with_record}
 pub use Rattle.am_stands.proofs.Words.{count_by, eqb-true, not-true, length-map, list_any-append, size, IsSet, name_at, names_from, names_of, member_life}
 pub use Rattle.am_stands.proofs.Words.{members_of, members_at, count_cons, lowest_or_first, has_departed, unsettled_count, has_own_leave, those, need_of}
 pub use Rattle.am_stands.proofs.Words.{left_in, trim_for, with_promise, restart_reports, best_of, is_waited_for, is_unfinished, Plan, quiet, Decided}
@@ -33,11 +33,11 @@ pub use Rattle.am_stands.proofs.Words.{found_at, NamesNamed, Moves, none, moves,
 pub use Rattle.am_stands.proofs.Words.{WelcomeTo, has_begun, has_gone, has_left, is_leaving, may_begin, Grows, EventStands, no_move, stop, NameStands}
 pub use Rattle.am_stands.proofs.Words.{NotedStands, Stands, FrontsStand, LinesOpen, OnBranch, on_chain, left_out, BranchesOk}
 unfoldable pub use Rattle.am_stands.proofs.Words.{finish, hear_row, hear, hear_refusal, up_to_view, up_to_next, view_of, count}
-pub use Rattle.am_steps.proofs.Words.{image_of, packet_length, with_noted, hears_letter, hear_cut, acts_as, Ending, let_go, closing, HeardUsed, each_along}
-pub use Rattle.am_steps.proofs.Words.{heard_used, run_owned, HeardNames, change_names, HasNames, change_does, Balloted, numbers_hold, heard_names, IsNoted}
-pub use Rattle.am_steps.proofs.Words.{AllViews, each_views, views_start, few_names, nil_of, goes_on, grows_same, Following, StepsMove, member_stays}
-pub use Rattle.am_steps.proofs.Words.{departed_silent, letters_stay, others_keep, taken_more}
-unfoldable pub use Rattle.am_steps.proofs.Words.{happens}
+pub use Rattle.am_stands.proofs.StepsMoveWords.{image_of, packet_length, with_noted, hears_letter, hear_cut, acts_as, Ending, let_go, closing, HeardUsed, each_along}
+pub use Rattle.am_stands.proofs.StepsMoveWords.{heard_used, run_owned, HeardNames, change_names, HasNames, change_does, Balloted, numbers_hold, heard_names, IsNoted}
+pub use Rattle.am_stands.proofs.StepsMoveWords.{AllViews, each_views, views_start, few_names, nil_of, goes_on, grows_same, Following, StepsMove, member_stays}
+pub use Rattle.am_stands.proofs.StepsMoveWords.{departed_silent, letters_stay, others_keep, taken_more}
+unfoldable pub use Rattle.am_stands.proofs.StepsMoveWords.{happens}
 pub use Rattle.std.{proofs.lemmas.List.take_all, proofs.lemmas.List.get_or-map, proofs.lemmas.List.Sums.count_by-le-length}
 pub use Rattle.std.{proofs.lemmas.List.Sums.sum_by-cons, specs.Prelude.Contains, specs.Prelude.slice_index_or}
 pub use Rattle.am_base.specs.Lists.{with_entry}
@@ -51,26 +51,26 @@ pub use Rattle.am_play.specs.Lawful.{Watch, watch_run, watch_start, broken_at, l
 pub use Rattle.am_play.specs.Claims.{BecameComplete, FitsView, ViewsFit, Segment, KeepsView, Holds, HeadlineHolds}
 pub use Rattle.am_play.proofs.{Runs.front_is_lawful, Runs.watched_is_run, Runs.one_record_each, Runs.runs_go_on, Beginnings.runs_begin}
 pub use Rattle.am_chain_lists.proofs.{Rows.in_viewed, Order.lt_key}
-pub use Rattle.am_effects.specs.Courses.{at_end}
-pub use Rattle.am_effects.proofs.Tests.{or_first}
-pub use Rattle.am_bounded.proofs.Changes.{kept_change}
+pub use Rattle.am_laws.specs.Courses.{at_end}
+pub use Rattle.am_laws.proofs.Tests.{or_first}
+pub use Rattle.am_laws.proofs.Changes.{kept_change}
 pub use Rattle.am_laws.proofs.{Blank.change_blank, Blank.no_member, Blank.Blanked, Blank.blank_holds, Taken.change_owned, Trims.Fronts, Fronts.front_begins}
 pub use Rattle.am_laws.proofs.{CallCounts.fewer_wait}
 pub use Rattle.am_laws.specs.Blank.{IsBlank}
-pub use Rattle.am_watched.proofs.{Watched.watch_push, Lists.lists_go_on}
-pub use Rattle.am_chain_moves.specs.Runs.{MayBegin, Completes, Run}
-pub use Rattle.am_promises.specs.Ballots.{IsOfBallot, LastOk}
-pub use Rattle.am_promises.proofs.Ballots.{ballots_are_own}
-pub use Rattle.am_unballoted.proofs.{Lists.item_get, Lists.item_within, Lists.item_more, Lists.get_item, Lists.item_taken, Steps.taken_or, Steps.given_push}
-pub use Rattle.am_unballoted.proofs.{Worlds.StandsAt, Worlds.GivenOk, Worlds.begins_at, Worlds.RecordOk, Goes.by_name, Kept.At, Kept.BeginsOk, Kept.SendOk}
-pub use Rattle.am_unballoted.proofs.{Kept.IsSettled, Kept.sends_more, Welcomes.record_step, Welcomes.welcomed_step, FirstChanges.leader_member}
-pub use Rattle.am_unballoted.proofs.Chains.{gave_still, passed_front, front, Gave, nothing, took, began, at_least, gave_begun, still_log}
-pub use Rattle.am_unballoted.proofs.Records.{idle_takes, idle_welcomes, idle_sends, deliveries_push, given_same, not_given, idle_gives, given_more}
-pub use Rattle.am_unballoted.proofs.Records.{accepted_more, accepted_and, welcome_in, welcomes_push, idle_welcome, other_welcome, record_up}
+pub use Rattle.am_laws.proofs.{Watched.watch_push, Lists.lists_go_on}
+pub use Rattle.am_chain.specs.Runs.{MayBegin, Completes, Run}
+pub use Rattle.am_runs.specs.Ballots.{IsOfBallot, LastOk}
+pub use Rattle.am_runs.proofs.Ballots.{ballots_are_own}
+pub use Rattle.am_runs.proofs.{Lists.item_get, Lists.item_within, Lists.item_more, Lists.get_item, Lists.item_taken, Steps.taken_or, Steps.given_push}
+pub use Rattle.am_runs.proofs.{Worlds.StandsAt, Worlds.GivenOk, Worlds.begins_at, Worlds.RecordOk, Goes.by_name, UnballotedKept.At, UnballotedKept.BeginsOk, UnballotedKept.SendOk}
+pub use Rattle.am_runs.proofs.{UnballotedKept.IsSettled, UnballotedKept.sends_more, Welcomes.record_step, Welcomes.welcomed_step, FirstChanges.leader_member}
+pub use Rattle.am_runs.proofs.Chains.{gave_still, passed_front, front, Gave, nothing, took, began, at_least, gave_begun, still_log}
+pub use Rattle.am_runs.proofs.Records.{idle_takes, idle_welcomes, idle_sends, deliveries_push, given_same, not_given, idle_gives, given_more}
+pub use Rattle.am_runs.proofs.Records.{accepted_more, accepted_and, welcome_in, welcomes_push, idle_welcome, other_welcome, record_up}
 pub use Rattle.am_stands.proofs.{Begun.start_keeps, Branches.branches_begin, Branches.up_as, Onward.group_kept, Onward.move_on, Start.start_stands}
 pub use Rattle.am_stands.proofs.{Pieces.plain as not_view, Changes.told_all, Changes.long_all, Parts.number_low, Parts.image_whole, Events.idle_stands}
 pub use Rattle.am_stands.proofs.{Events.stop_stands, Events.return_stands, Joins.Becomes, Joins.stayed, Joins.joins, Joins.founds, Joins.became}
 pub use Rattle.am_stands.proofs.{Joins.blank_nil, Counting.count_up_to, Counting.names_pass, Counting.names_few, Counting.name_small, Opens.runs_open}
 pub use Rattle.am_stands.proofs.{Opens.moves_open, Growing.same_name, Growing.grows_names, Growing.node_grows}
 pub use Rattle.am_stands.specs.Branches.{ChainNamed}
-pub use Rattle.am_steps.proofs.{Silent.departed_quiet, Statuses.departed_is, Steps.steps_move, Steps.deeds_there}
+pub use Rattle.am_stands.proofs.{StepsMoveSilent.departed_quiet, Statuses.departed_is, Steps.steps_move, Steps.deeds_there}

@@ -1,1 +1,12 @@
 pub mod Lists
+pub mod Records
+pub mod Resiliences
+pub mod Parts
+pub mod Claim
+pub mod Rows
+pub mod Calm
+pub mod Rounds
+pub mod Known
+pub mod Standing
+pub mod Waves
+pub mod Trimmed

@@ -4,7 +4,7 @@ use Rattle.am_base.specs.Founding.{Rules, MayFound}
 use Rattle.am_group.specs.declared.event.Event.{Event}
 use Rattle.am_play.specs.World.{run}
 use Rattle.am_play.specs.Lawful.{broken_at}
-use Rattle.am_unballoted.specs.Lists.{ListFits}
+use Rattle.am_runs.specs.Lists.{ListFits}
 
 -- in a run that isn't broken
 abbrev pub LawfulListsFit : Type 0

@@ -1,6 +1,11 @@
 //! The headline, from the argument why a group has one list (docs/SAFETY.md): what every run keeps up to its lawful front. Each step of a
-//! name is moves of the group that stands for its world (`am_steps`).
+//! name is moves of the group that stands for its world (`am_stands`).
 #![tactic(auto)]
+
+pub mod parts;
+pub mod repair;
+pub mod repaired_runs;
+pub mod sound_records;
 
 ghost use Rattle.am_headline.specs.Lists.{LawfulListsFit};
 ghost use Rattle.am_play.specs.Claims.{HeadlineHolds, ViewsFit};

@@ -6,7 +6,7 @@ use Rattle.am_laws.proofs.Words.{calls, HasOpen, Balloting, with_more, without_o
 use Rattle.am_laws.proofs.Words.{opens, looks, closes, actor, IsCall, IsCause, idles, stops, returns, steps, rests_refresh, rests_at_end, settle_is, along}
 use Rattle.am_laws.proofs.Words.{EachKeeps, runs_keep, OnlyStoppedGivenUp}
 use Rattle.am_base.specs.declared.event.NodeEvent.TheVariants as does
-use Rattle.am_effects.specs.Events as event
+use Rattle.am_laws.specs.Events as event
 
 -- a ballot gives up only such names
 abbrev GivesUp : (ℕ → Type 0) → Option Ballot → Type 0

@@ -3,7 +3,7 @@ use Rattle.am_laws.proofs.Words.{◌≡◌, ℕ, ◌≤◌, ◌==◌, nat_lt, na
 use Rattle.am_laws.proofs.Words.{row_of, told_by, Packet, Node, top, image_of, may_go, split, Cause, MayWelcome, just_joined, asks_again, Says, bcast, order}
 use Rattle.am_laws.proofs.Words.{hold, join_ask, welcome, gone, invite, fetch, piece, result, hand_over, Bounds, UpTo}
 use Rattle.am_model.specs.Sequencing.{row_at}
-use Rattle.am_effects.specs.Letters.{accept}
+use Rattle.am_laws.specs.Letters.{accept}
 use Rattle.am_laws.proofs.{Counts.Low, Counts.Behind, Images.ImageUp, Images.told_up, Images.row_up}
 
 one_low : (g x : ℕ) → x ≤ g → All (λ n. n ≤ g) (x ∷ [])

@@ -8,7 +8,7 @@ use Rattle.am_laws.proofs.Words.{UpTo, BodyWithin, IsShort, LettersArePackets, L
 use Rattle.am_base.specs.declared.outcome.Outcome.TheVariants as said
 use Rattle.am_base.specs.declared.event.NodeEvent.TheVariants as does
 use Rattle.am_group.specs.declared.event.Act.TheVariants as act
-use Rattle.am_effects.specs.Events as event
+use Rattle.am_laws.specs.Events as event
 use Rattle.am_laws.proofs.RunCounts.{was_heard, AllLow, low_happens, low_start, sender_list, set_same, bounds_after, counted_happen, first_of}
 use Rattle.am_laws.proofs.NodeLimits.{SendWithin, KeptWithin, Within, PacketWithin, CauseWithin, within_more, packet_more, changes_within}
 use Rattle.am_laws.proofs.{Limits.EntryWithin, Limits.AreNumbers, Limits.is_blank_within, ListImages.WelcomeUp, ListImages.ListUp, LetterLimits.says_within}

@@ -1,3 +1,11 @@
+pub mod Causes
+pub mod Looks
+pub mod Changes
+pub mod Courses
+pub mod Letters
+pub mod Effects
+pub mod Events
+pub mod Claim
 pub mod Packets
 pub mod Numbers
 pub mod GivenUp
@@ -7,3 +15,7 @@ pub mod Begins
 pub mod Blank
 pub mod Bytes
 pub mod Taken
+pub mod Lists
+pub mod New
+pub mod Members
+pub mod Watched

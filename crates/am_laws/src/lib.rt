@@ -1,6 +1,10 @@
 //! What every run of the whole definitions keeps, proved on the definitions alone.
 #![tactic(auto)]
 
+pub mod bounded_nodes;
+pub mod step_effects;
+pub mod watched_runs;
+
 ghost use Rattle.am_laws.specs.Begins.{RunsBegin, FrontBegins};
 ghost use Rattle.am_laws.specs.Blank.{BlankHolds};
 ghost use Rattle.am_laws.specs.Bytes.{LettersArePackets, LettersAreRead, RunsAreOfBytes};

@@ -9,8 +9,8 @@ use Rattle.am_group.specs.declared.event.Event.{Event}
 use Rattle.am_group.specs.declared.event.Record.{Record}
 use Rattle.am_play.specs.World.{World, start, with_record, with_step, happens, happen, record_of, no_caller}
 use Rattle.am_play.specs.Group.{with_tag}
-use Rattle.am_effects.specs.Events.{Happens, idles, stops, returns, steps}
-use Rattle.am_effects.proofs.Events.{events_have_effects}
+use Rattle.am_laws.specs.Events.{Happens, idles, stops, returns, steps}
+use Rattle.am_laws.proofs.Events.{events_have_effects}
 use Rattle.am_races.specs.Told.{tells, world_after, IsNext}
 use Rattle.am_races.specs.Laws.{EachIsNext}
 

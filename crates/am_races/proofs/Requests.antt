@@ -18,13 +18,13 @@ use Rattle.am_model.specs.Ballots.{Verdict}
 use Rattle.am_model.specs.Refresh.{refresh, accepted_at, settle_at, settle_waiting, settle, refresh_at_end}
 use Rattle.am_play.specs.World.{World, start, with_record, with_step, run}
 use Rattle.am_base.proofs.Greatest.{split}
-use Rattle.am_effects.specs.Causes.{Cause}
-use Rattle.am_effects.specs.Looks.{Looks, finds_itself_out, waits, fetches_from_best, finds_too_few, finds_no_room, decides}
-use Rattle.am_effects.specs.Changes.{Change, refreshes, settles, takes_report, admits, numbers, keeps_body, notes, stores, begins_list, departs, promises}
-use Rattle.am_effects.specs.Changes.{opens, looks, fetches, stores_view, queues, collects, takes, asks_to_join, asks_to_leave, closes}
-use Rattle.am_effects.specs.Events.{actor, idles, stops, returns, steps}
-use Rattle.am_effects.proofs.Rests.{refresh_is}
-use Rattle.am_effects.proofs.Runs.{along, EachKeeps, runs_keep}
+use Rattle.am_laws.specs.Causes.{Cause}
+use Rattle.am_laws.specs.Looks.{Looks, finds_itself_out, waits, fetches_from_best, finds_too_few, finds_no_room, decides}
+use Rattle.am_laws.specs.Changes.{Change, refreshes, settles, takes_report, admits, numbers, keeps_body, notes, stores, begins_list, departs, promises}
+use Rattle.am_laws.specs.Changes.{opens, looks, fetches, stores_view, queues, collects, takes, asks_to_join, asks_to_leave, closes}
+use Rattle.am_laws.specs.Events.{actor, idles, stops, returns, steps}
+use Rattle.am_laws.proofs.Rests.{refresh_is}
+use Rattle.am_laws.proofs.StepEffectsRuns.{along, EachKeeps, runs_keep}
 
 -- ---- sends with different requests
 

@@ -12,7 +12,7 @@ use Rattle.am_base.specs.declared.event.NodeEvent.TheVariants as does
 use Rattle.am_base.specs.Lists.{entry_at}
 use Rattle.am_core.specs.Cores.{IsInOrder}
 use Rattle.am_core.proofs.Ends.{end-entry}
-use Rattle.am_effects.proofs.Ballots.{entry_is}
+use Rattle.am_laws.proofs.Ballots.{entry_is}
 use Rattle.am_sender.specs.Sends.{Sends, collected_of, outcome_of, collect_outcome, is_settled}
 use Rattle.am_group.specs.declared.event.Act.{Act}
 use Rattle.am_group.specs.declared.event.Act.TheVariants as act

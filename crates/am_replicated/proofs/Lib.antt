@@ -1,3 +1,7 @@
+pub mod AssembledPieces
+pub mod Runs
+pub mod Sends
+pub mod Tails
 pub mod Holding
 pub mod Pieces
 pub mod Sent

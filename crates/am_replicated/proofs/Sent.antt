@@ -12,8 +12,8 @@ use Rattle.am_play.specs.World.{run}
 use Rattle.am_play.specs.Lawful.{lawful_front}
 use Rattle.am_seg.specs.Messages.{entries_of, EndsAt, message_at}
 use Rattle.am_seg.proofs.Ends.{messages_end}
-use Rattle.am_assembled.specs.Claims.{Whole}
-use Rattle.am_assembled.proofs.Sends.{sent_end, whole_delivered}
+use Rattle.am_replicated.specs.AssembledClaims.{Whole}
+use Rattle.am_replicated.proofs.Sends.{sent_end, whole_delivered}
 use Rattle.am_dir.specs.Contents.{Contents, with_entry, contents_from, contents_after}
 use Rattle.am_dir.specs.Snapshots.{IsContents, snapshot_of}
 use Rattle.am_dir.specs.Replicas.{or_else, for_join, snapshot_for, first_behind, first_snapshot}

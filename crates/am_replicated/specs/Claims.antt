@@ -12,7 +12,7 @@ use Rattle.am_play.specs.Lawful.{lawful_front}
 use Rattle.am_play.specs.Claims.{BeginsAt}
 use Rattle.am_seg.specs.Parts.{part_count}
 use Rattle.am_seg.specs.Messages.{entries_of, from_place, message_at}
-use Rattle.am_assembled.specs.Claims.{SentInParts}
+use Rattle.am_replicated.specs.AssembledClaims.{SentInParts}
 use Rattle.am_dir.specs.Contents.{Contents, contents_after}
 use Rattle.am_dir.specs.Snapshots.{snapshot_of, snapshot_in}
 use Rattle.am_dir.specs.Replicas.{first_snapshot, replica_contents}

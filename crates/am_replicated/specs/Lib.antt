@@ -1,1 +1,2 @@
+pub mod AssembledClaims
 pub mod Claims

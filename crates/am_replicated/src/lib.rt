@@ -1,6 +1,8 @@
 //! What replicas have in every run, up to its lawful front (docs/DIRECTORY.md).
 #![tactic(auto)]
 
+pub mod assembled;
+
 ghost use Rattle.am_replicated.specs.Claims.{FoundersHold, JoinersHold, ReplicasHold, SentSnapshotsRestore};
 
 /// A founder's replica has the contents of the group's list, up to the last entry that the founder was given.

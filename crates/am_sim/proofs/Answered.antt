@@ -18,11 +18,11 @@ use Rattle.am_play.specs.Settle.{settle_events}
 use Rattle.am_play.proofs.Runs.{watched_is_run, front_is_lawful}
 use Rattle.am_headline.proofs.Fitted.{views_fit}
 use Rattle.am_headline.proofs.Holds.{headline_holds, prefix_whole}
-use Rattle.am_assembled.proofs.Sends.{delivered_end}
+use Rattle.am_replicated.proofs.Sends.{delivered_end}
 use Rattle.am_replicated.proofs.Holding.{replicas_hold}
-use Rattle.am_sent.proofs.Runs.{sent_holds}
-use Rattle.am_unballoted.proofs.Holds.{unballoted_holds}
-use Rattle.am_repaired.proofs.Settled.{settled_is_repaired}
+use Rattle.am_runs.proofs.SentDataRuns.{sent_holds}
+use Rattle.am_runs.proofs.Holds.{unballoted_holds}
+use Rattle.am_headline.proofs.RepairedRunsSettled.{settled_is_repaired}
 use Rattle.am_pump.specs.Generating.{generated_rules, events_of_seed}
 use Rattle.am_pump.proofs.Rules.{may_found}
 use Rattle.am_words.specs.declared.form.Numbers.{Numbers}

@@ -23,9 +23,9 @@ use Rattle.am_script.specs.Scripts.{reading}
 use Rattle.am_script.specs.Limits.{ActWithin, EventWithin, IsWithin, CallWithin, ThreadWithin, RaceWithin}
 use Rattle.am_scripted.specs.Bodies.{ThreadOfBytes}
 use Rattle.am_scripted.proofs.Bodies.{plays_are_of_bytes, races_are_of_bytes}
-use Rattle.am_raced.specs.Bodies.{HasBody, ThreadHasBodies}
-use Rattle.am_raced.proofs.Bodies.{races_have_planned_bodies}
-use Rattle.am_raced.proofs.Scripts.{races_have_scripts}
+use Rattle.am_scripted.specs.RacedBodies.{HasBody, ThreadHasBodies}
+use Rattle.am_scripted.proofs.RacedBodies.{races_have_planned_bodies}
+use Rattle.am_scripted.proofs.Scripts.{races_have_scripts}
 use Rattle.am_audited.specs.Claims.{ReadsAs, AgreesAs, IsOfOneList}
 use Rattle.am_audited.proofs.Agree.{runs_have_their_texts, lawful_texts_agree}
 use Rattle.am_audited.proofs.Scripts.{scripts_are_passed_over}

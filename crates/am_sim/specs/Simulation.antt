@@ -33,9 +33,9 @@ use Rattle.am_audit.specs.declared.verdict.Verdict.TheVariants as verdicts
 use Rattle.am_audit.specs.Agreement.{Lists, Agreed}
 use Rattle.am_audit.specs.Lines.{Reading, read_text}
 use Rattle.am_audit.specs.Verdicts.{verdict_of, verdict_line, is_right}
-use Rattle.am_assembled.specs.Claims.{front_of, Delivered}
+use Rattle.am_replicated.specs.AssembledClaims.{front_of, Delivered}
 use Rattle.am_replicated.specs.Claims.{ReplicaHolds}
-use Rattle.am_repair.specs.Claim.{MayRepair, HasCaughtUp}
+use Rattle.am_headline.specs.Claim.{MayRepair, HasCaughtUp}
 use Rattle.am_audited.specs.Claims.{ReadsAs, AgreesAs, IsOfOneList}
 use Rattle.am_lines.specs.Speaking.{spoken}
 use Rattle.am_words.specs.Forms.{form_of}

@@ -5,7 +5,7 @@ use Rattle.am_stands.proofs.Words.{holders_at, is_held, is_satisfied, is_front, 
 use Rattle.am_stands.proofs.Words.{go_on, let_go, greatest_low, greatest_there, Begins, image_of, begins_take, begins_trans, begins_both, begins_length}
 use Rattle.am_stands.proofs.Words.{length_take, how_many, counted_in, IsHeld, MayAccept, Node, lead, refresh, World, split, and_both, NameStands, Reporting}
 use Rattle.am_stands.proofs.Words.{MayCount, RefreshAccepts}
-use Rattle.am_chain_moves.specs.Group as groups
+use Rattle.am_chain.specs.Group as groups
 use Rattle.am_model.specs.Node as nodes
 use Rattle.am_stands.proofs.{Changes.told_all, Changes.long_all, Counting.names_pass, Counting.name_small, Parts.counted_whole, Parts.need_whole}
 use Rattle.am_stands.proofs.{Parts.counted_concerned}

@@ -4,7 +4,7 @@ use Rattle.am_stands.proofs.Words.{acts, is_member, unsettled_count, has_log, ha
 use Rattle.am_stands.proofs.Words.{hears_sequencer, World, and_both, refreshes, settles, begins_list, promises, opens, looks, stores_view, asks_to_join}
 use Rattle.am_stands.proofs.Words.{asks_to_leave, rests_refresh, settle_is, StandsBut, within, Verdict, Cause, Balloting, Looks, finds_itself_out, waits}
 use Rattle.am_stands.proofs.Words.{fetches_from_best, finds_too_few, finds_no_room, decides, MayMove, NeedsLook, after_look, ChangesStand}
-use Rattle.am_effects.specs.Changes.{numbers, stores, departs, fetches, closes}
+use Rattle.am_laws.specs.Changes.{numbers, stores, departs, fetches, closes}
 use Rattle.am_stands.specs.Steps.{of_line}
 use Rattle.am_stands.proofs.Changes.{unmoved, promise_stands, open_stands, look_stands, looked_open, ask_stands, depart_stands}
 use Rattle.am_stands.proofs.{Names.Onto, Decisions.decision_stands, Entries.piece_stands, Entries.number_stands, Entries.welcome_stands}

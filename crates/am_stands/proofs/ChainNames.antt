@@ -6,8 +6,8 @@ use Rattle.am_stands.proofs.Words.{life_of, has, blank_row, blank, is_blank, at_
 use Rattle.am_stands.proofs.Words.{counted_of, unions_most, member_at, Begins, image_of, key, row_at, row_set, row_view, long_after, mod16, long_told}
 use Rattle.am_stands.proofs.Words.{opening, chain_of, choice_of, longer, put_same, all_get, Node, concerned_names, World, NamesNamed, NameStands, CountsNames}
 use Rattle.am_stands.proofs.Words.{RowsLive, MovesNamed}
-use Rattle.am_chain_moves.specs.Group as groups
-use Rattle.am_chain_moves.specs.Moves as group
+use Rattle.am_chain.specs.Group as groups
+use Rattle.am_chain.specs.Moves as group
 use Rattle.am_model.specs.Node as nodes
 use Rattle.am_stands.proofs.{Changes.told_all, LeftOut.longer_chain, Parts.counted_whole, Parts.image_whole}
 

@@ -7,8 +7,8 @@ use Rattle.am_stands.proofs.Words.{overtake, with_promise, next_stamp, hears_mem
 use Rattle.am_stands.proofs.Words.{with_more, without_one, as_it_is, Looks, finds_itself_out, finds_too_few, finds_no_room, decides, Promises, invited}
 use Rattle.am_stands.proofs.Words.{overtaken_by, told_result, rests_refresh, logged, equal_stamps, NameStands, FrontsStand, StandsBut, within, GoneSays}
 use Rattle.am_stands.proofs.Words.{has_stopped, may_go, MoveOk, MayMove}
-use Rattle.am_chain_moves.specs.Group as groups
-use Rattle.am_chain_moves.specs.Moves as group
+use Rattle.am_chain.specs.Group as groups
+use Rattle.am_chain.specs.Moves as group
 use Rattle.am_model.specs.declared.status.Status.TheVariants as status
 use Rattle.am_model.specs.Node as nodes
 use Rattle.am_packet.specs.declared.packet.Packet.TheVariants as packet

@@ -3,8 +3,8 @@ use Rattle.am_stands.proofs.Words.{equals_itself, ◌≡◌, ◌≢◌, ℕ, ◌
 use Rattle.am_stands.proofs.Words.{subst, arith, nat_tests, Stamp, Leave, Log, Event, image_of, Group, put, Move, with_line, longer, Node, push_entry, set_at}
 use Rattle.am_stands.proofs.Words.{has_departed, Step, is_unfinished, Decided, World, group_after, with_step, up_to_next, line_of, split, rests_at_end}
 use Rattle.am_stands.proofs.Words.{NameStands, FrontsStand, StandsBut, Stands, within, NeedsClose, after_closing, CloseStands, MoveOk}
-use Rattle.am_chain_moves.specs.Group as groups
-use Rattle.am_chain_moves.specs.Moves as group
+use Rattle.am_chain.specs.Group as groups
+use Rattle.am_chain.specs.Moves as group
 use Rattle.am_stands.proofs.{Names.one_move, Names.views_noted, Changes.own_name, Changes.is_up, Entries.is_leading, Entries.numbered_stands, Ends.taken_more}
 use Rattle.am_stands.proofs.{Ends.name_grows}
 

@@ -6,11 +6,11 @@ use Rattle.am_stands.proofs.Words.{with_end, Decided, World, last_view, whole, i
 use Rattle.am_stands.proofs.Words.{with_more, without_one, as_it_is, get_front, get_last, get_push, told_pushed, after_view, NameStands, NotedStands}
 use Rattle.am_stands.proofs.Words.{ViewsStand, StandsBut, within, MayMove, NeedsDecision, noting}
 use Rattle.std.proofs.lemmas.List.{append-nil}
-use Rattle.am_chain_moves.specs.Group as groups
-use Rattle.am_chain_moves.specs.Moves as group
+use Rattle.am_chain.specs.Group as groups
+use Rattle.am_chain.specs.Moves as group
 use Rattle.am_model.specs.Node as nodes
 use Rattle.am_base.specs.declared.outcome.Outcome.TheVariants as said
-use Rattle.am_effects.specs.Looks as looks
+use Rattle.am_laws.specs.Looks as looks
 use Rattle.am_stands.proofs.{Names.Onto, Names.onto_move, Names.name_in, Names.each_within, Names.fronts_within, Changes.own_name, Changes.long_all}
 use Rattle.am_stands.proofs.{Lines.line_ends, Entries.noted_stands, Entries.line_here}
 

@@ -5,8 +5,8 @@ use Rattle.am_stands.proofs.Words.{put, with_node, Node, set_at, has_departed, S
 use Rattle.am_stands.proofs.Words.{up_to_next, line_of, split, NameStands, FrontsStand, ViewsStand, Stands, Moves, none, moves, Leads, Accepts, no_more}
 use Rattle.am_stands.proofs.Words.{rises, Learns, departed, bare, before_end, EndsStand}
 use Rattle.am_stands.specs.Ends.{learns}
-use Rattle.am_chain_moves.specs.Group as groups
-use Rattle.am_chain_moves.specs.Moves as group
+use Rattle.am_chain.specs.Group as groups
+use Rattle.am_chain.specs.Moves as group
 use Rattle.am_stands.proofs.Names.{no_move, one_move, views_noted}
 
 -- ---- a longer group list

@@ -8,8 +8,8 @@ use Rattle.am_stands.proofs.Words.{ViewsStand, StandsBut, within, MoveOk, Leads,
 use Rattle.am_stands.proofs.Words.{FrontsBegin}
 use Rattle.std.proofs.lemmas.List.{append-nil}
 use Rattle.am_stands.specs.Steps.{of_line, of_shown}
-use Rattle.am_chain_moves.specs.Group as groups
-use Rattle.am_chain_moves.specs.Moves as group
+use Rattle.am_chain.specs.Group as groups
+use Rattle.am_chain.specs.Moves as group
 use Rattle.am_stands.proofs.{Names.Onto, Names.onto_move, Names.one_move, Names.views_noted, Names.each_within, Names.fronts_within, Names.noted_line}
 use Rattle.am_stands.proofs.{Changes.own_name, Changes.is_up, Changes.told_whole, Lines.HasViewOf, Lines.next_of_list, Lines.line_stays, Lines.line_ends}
 use Rattle.am_stands.proofs.{Lines.line_grows, Lines.opened}

@@ -3,9 +3,9 @@ use Rattle.am_stands.proofs.Words.{◌≡◌, ℕ, ◌+◌, ◌≤◌, ◌==◌,
 use Rattle.am_stands.proofs.Words.{length, take, list_any, nat_tests, list_any-append, Outcome, Entry, Event, image_of, Group, put, with_node, Node, set_at}
 use Rattle.am_stands.proofs.Words.{has_departed, up_to_next, World, current, is_stopped, with_record, lives_on, split, actor, idles, returns, steps}
 use Rattle.am_stands.proofs.Words.{NameStands, FrontsStand, Stands, EventsStand, EventStands, no_move, stop}
-use Rattle.am_effects.specs.Events.{stops}
+use Rattle.am_laws.specs.Events.{stops}
 use Rattle.am_base.specs.declared.outcome.Outcome.TheVariants as said
-use Rattle.am_chain_moves.specs.Group as groups
+use Rattle.am_chain.specs.Group as groups
 use Rattle.am_stands.proofs.Names.{name_in, views_in}
 
 -- ---- a record more

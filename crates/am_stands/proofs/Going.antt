@@ -8,7 +8,7 @@ use Rattle.am_stands.proofs.Words.{Group, IsThere, Node, is_sequencer, only_name
 use Rattle.am_stands.proofs.Words.{Trimmed, GoneSays, has_stopped, ReportsStand, LeftOut}
 use Rattle.am_model.specs.Joining.{may_go}
 use Rattle.am_model.specs.Sequencing.{row_at}
-use Rattle.am_chain_moves.specs.Group as groups
+use Rattle.am_chain.specs.Group as groups
 use Rattle.am_model.specs.Node as nodes
 use Rattle.am_stands.specs.Letters as letters
 use Rattle.am_stands.proofs.{Changes.told_all, Changes.long_all, Leaving.LeavesAt, Leaving.by_leave, Leaving.by_view, Leaving.leaves_at, Parts.image_whole}

@@ -4,9 +4,9 @@ use Rattle.am_stands.proofs.Words.{arith, nat_tests, Entry, Leave, Begins, view_
 use Rattle.am_stands.proofs.Words.{begins_take, length_take, Group, put, put2, opening, MayAccept, with_node, with_line, with_choice, choice_of, longer}
 use Rattle.am_stands.proofs.Words.{numbers, stores, accepts, learns, begins, raises, shows, serves, fetches, gives_over, welcomes, asks, departs, closes}
 use Rattle.am_stands.proofs.Words.{stops, Kept, own_above, put_at, put2_cases, NameGrows, NewView, Grows, MovesGrow}
-use Rattle.am_chain_moves.specs.Group.{Leads}
-use Rattle.am_chain_moves.specs.Moves.{decides}
-use Rattle.am_chain_moves.specs.Group as groups
+use Rattle.am_chain.specs.Group.{Leads}
+use Rattle.am_chain.specs.Moves.{decides}
+use Rattle.am_chain.specs.Group as groups
 
 -- ---- one name
 

@@ -12,7 +12,7 @@ use Rattle.am_stands.proofs.Words.{stores_view, queues, collects, takes, asks_to
 use Rattle.am_stands.proofs.Words.{NameStands, within, Trimmed, VoteTells, AllShown, Grows, FetchesStand, ReportsStand, ReportsFresh, OpensStand, IsNew}
 use Rattle.am_stands.proofs.Words.{IsConcerned, Reporting, BallotStands, Ballots, GroupFor, HeardSo, IsPlain, NodeKeeps, OwnTurn, Stepping}
 use Rattle.am_model.specs.Ballots.{overtake as overtaken_by}
-use Rattle.am_effects.specs.Changes.{numbers, stores, departs, fetches, closes}
+use Rattle.am_laws.specs.Changes.{numbers, stores, departs, fetches, closes}
 use Rattle.am_base.specs.declared.outcome.Outcome.TheVariants as said
 use Rattle.am_packet.specs.declared.packet.Packet.TheVariants as packet
 use Rattle.am_model.specs.Node as nodes

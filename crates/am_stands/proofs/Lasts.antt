@@ -7,7 +7,7 @@ use Rattle.am_stands.proofs.Words.{Group, put, MayAccept, longer, Kept, put_same
 use Rattle.am_stands.proofs.Words.{refresh_at_end, Decided, World, group_with, group_after, views_after, some_size, rests_refresh, settle_is, leads_rests}
 use Rattle.am_stands.proofs.Words.{leads_pushed, view_pushed, leave_fits, NameStands, within, NeedsClose, after_closing, CountsNames, MayCount, CountsAmong}
 use Rattle.am_stands.proofs.Words.{ComesTo, ClosingAccepts}
-use Rattle.am_chain_moves.specs.Group as groups
+use Rattle.am_chain.specs.Group as groups
 use Rattle.am_model.specs.Node as nodes
 use Rattle.am_stands.proofs.{Changes.same_name, Changes.told_all, Changes.is_up, Changes.unmoved_refresh, Concerned.reporting_push, Entries.name_longer}
 use Rattle.am_stands.proofs.{Growing.leads_line, Sent.Speaks, Sent.leading, Accepting.refresh_accepts, Learning.same_by, Learning.grown_is}

@@ -3,8 +3,8 @@ use Rattle.am_stands.proofs.Words.{split, ◌≡◌, inl, ℕ, ◌==◌, ◌&&�
 use Rattle.am_stands.proofs.Words.{nat_tests, has, key, Group, Chosen, put, opening, Move, with_choice, choice_of, longer, numbers, stores, learns, begins}
 use Rattle.am_stands.proofs.Words.{raises, fetches, gives_over, welcomes, asks, departs, closes, stops, more, counts_for, IsLawful, Kept, put_at}
 use Rattle.am_stands.proofs.Words.{count_within, run_keeps, IsNoStop, RunsGoOn}
-use Rattle.am_chain_moves.specs.Moves.{decides}
-use Rattle.am_chain_moves.specs.Group as groups
+use Rattle.am_chain.specs.Moves.{decides}
+use Rattle.am_chain.specs.Group as groups
 
 -- ---- what counts as lost
 

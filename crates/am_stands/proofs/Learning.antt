@@ -4,7 +4,7 @@ use Rattle.am_stands.proofs.Words.{ap, ◌∙◌, subst, arith, append-nil, take
 use Rattle.am_stands.proofs.Words.{top_of, CoreState, accept, pass_over, Begins, key, begins_refl, begins_length, begins_both, begins_take, length_take}
 use Rattle.am_stands.proofs.Words.{Group, IsUp, MayAccept, Kept, Node, view, acts, is_sequencer, refresh, World, group_with, group_after, split, and_both}
 use Rattle.am_stands.proofs.Words.{rests_refresh, leads_rests, NameStands, within, no_more, rises, ComesTo, AcceptsAndLearns, RefreshLearns}
-use Rattle.am_chain_moves.specs.Group as groups
+use Rattle.am_chain.specs.Group as groups
 use Rattle.am_model.specs.Node as nodes
 use Rattle.am_stands.proofs.{Changes.same_name, Changes.is_up, Changes.unmoved_refresh, Sent.Speaks, Sent.leading, Learned.word_group}
 use Rattle.am_stands.proofs.{Learned.follower_learns, Accepting.lead_acc, Accepting.lead_told, Accepting.refresh_accepts}

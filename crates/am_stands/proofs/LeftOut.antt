@@ -5,9 +5,9 @@ use Rattle.am_stands.proofs.Words.{length_push, good_begins, leaver_in, leaver_o
 use Rattle.am_stands.proofs.Words.{with_line, with_choice, choice_of, longer, numbers, stores, learns, begins, raises, fetches, gives_over, welcomes, asks}
 use Rattle.am_stands.proofs.Words.{departs, closes, stops, Kept, IsLawful, founded, more, start, first_stamp, put_same, put_at, list_chain, departed_in}
 use Rattle.am_stands.proofs.Words.{run_keeps, get_last, LeftOut, RunsLeaveOut}
-use Rattle.am_chain_moves.specs.Group.{Leads}
-use Rattle.am_chain_moves.specs.Moves.{decides}
-use Rattle.am_chain_moves.specs.Group as groups
+use Rattle.am_chain.specs.Group.{Leads}
+use Rattle.am_chain.specs.Moves.{decides}
+use Rattle.am_chain.specs.Group as groups
 use Rattle.am_stands.proofs.Opens.{numbers_plain}
 
 -- ---- who stopped stays so

@@ -3,7 +3,7 @@ use Rattle.am_stands.proofs.Words.{◌≡◌, ◌≢◌, ℕ, ◌<◌, ◌≤◌
 use Rattle.am_stands.proofs.Words.{Stamp, Entry, Log, Begins, image_of, key, Group, Views, put, opening, Move, Node, has_departed, Decided, World, is_stopped}
 use Rattle.am_stands.proofs.Words.{up_to_next, line_of, split, NameStands, NotedStands, FrontsStand, ViewsStand, StandsBut, within, FrontsStay, MoveOk, none}
 use Rattle.am_stands.proofs.Words.{moves, Leads}
-use Rattle.am_chain_moves.specs.Group as groups
+use Rattle.am_chain.specs.Group as groups
 
 -- ---- moves in turn
 

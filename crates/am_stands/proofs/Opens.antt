@@ -4,9 +4,9 @@ use Rattle.am_stands.proofs.Words.{Stamp, Begins, NotView, view_of, key, view_vi
 use Rattle.am_stands.proofs.Words.{begins_length, Group, put, opening, IsUp, Move, MayNumber, MayDecide, with_line, with_choice, choice_of, longer, numbers}
 use Rattle.am_stands.proofs.Words.{closes, Kept, founded, more, start, first_stamp, put_same, put_other, put_cases, put_at, run_keeps, LineOpens, LinesOpen}
 use Rattle.am_stands.proofs.Words.{RunsOpen}
-use Rattle.am_chain_moves.specs.Group.{Leads}
-use Rattle.am_chain_moves.specs.Moves.{decides}
-use Rattle.am_chain_moves.specs.Group as groups
+use Rattle.am_chain.specs.Group.{Leads}
+use Rattle.am_chain.specs.Moves.{decides}
+use Rattle.am_chain.specs.Group as groups
 use Rattle.am_stands.proofs.Growing.{leads_line}
 
 -- ---- an entry more of a sequencer

@@ -1,7 +1,7 @@
 -- What a node keeps, while another name does a step, or stops.
 use Rattle.am_stands.proofs.Words.{◌≡◌, ℕ, ◌++◌, Option, Some, None, true, sym, ap, ◌∙◌, subst, Begins, IsGood, Group, Node, Ballot, World, is_stopped}
 use Rattle.am_stands.proofs.Words.{NameStands, Reporting, LastStands, NodeKeeps, OwnTurn, OthersKeep}
-use Rattle.am_chain_moves.specs.Group as groups
+use Rattle.am_chain.specs.Group as groups
 use Rattle.am_stands.proofs.{Ends.taken_more, Keeps.trimmed_grow, Keeps.fetches_grow, Reporting.reporting_grow, Shown.votes_grow}
 
 -- its list is the same, as its log is, and the group list only grows

@@ -5,8 +5,8 @@ use Rattle.am_stands.proofs.Words.{IsSet, has, size, blank, fold, after, members
 use Rattle.am_stands.proofs.Words.{slice_get-drop, view_grows, IsGood, image_of, mem, resilience_of, Begins, begins_take, begins_push, length_take}
 use Rattle.am_stands.proofs.Words.{length_push, take_begins, good_begins, told_push, viewed_mem, how_many, counted_in, Node, is_view, World, fold_append}
 use Rattle.am_stands.proofs.Words.{split, entry_is, after_same, NameStands, IsConcerned}
-use Rattle.am_chain_moves.specs.Group.{need_of}
-use Rattle.am_chain_moves.specs.Group as groups
+use Rattle.am_chain.specs.Group.{need_of}
+use Rattle.am_chain.specs.Group as groups
 use Rattle.am_stands.proofs.Counting.{names_few}
 
 -- ---- by numbers

@@ -6,7 +6,7 @@ use Rattle.am_stands.proofs.Words.{good_begins, Group, IsUp, Kept, Node, Ballot,
 use Rattle.am_stands.proofs.Words.{World, Decided, is_stopped, split, HasOpen, MayStore, Fetches, without_ballot, NameStands, StandsBut, within, line}
 use Rattle.am_stands.proofs.Words.{IsDecided, PieceSays, ShownEntry, of_line, of_shown, over, LinesOpen, IsOthers, NeedsPiece, of_its_line, of_its_shown}
 use Rattle.std.proofs.Common.{length-append}
-use Rattle.am_effects.specs.Changes.{for_ballot}
+use Rattle.am_laws.specs.Changes.{for_ballot}
 use Rattle.am_model.specs.Node as nodes
 use Rattle.am_stands.proofs.{Changes.own_name, Changes.long_all, Changes.is_up, Entries.key_stamp, Entries.line_here, Entries.view_whole, Sent.Speaks}
 use Rattle.am_stands.proofs.{Sent.promise_line, Heard.item_next, Heard.entry_needs, Letters.item_stays, Votes.undecided}

@@ -6,7 +6,7 @@ use Rattle.am_stands.proofs.Words.{with_admitted, reports_from, Begins, IsGood, 
 use Rattle.am_stands.proofs.Words.{begins_both, begins_length, begins_take, begins_pushed, length_push, length_take, take_begins, row_at, In, mod16, row_set}
 use Rattle.am_stands.proofs.Words.{row_view, blank_joined, good_begins, told_push, long_told, mem_in, in_mem, mem_between, mem_viewed, Group, opening}
 use Rattle.am_stands.proofs.Words.{is_view, split, after_same, line, IsDecided, ReportSays, LeaverSays, of_view, before_it, IsConcerned, Reporting, IsNew}
-use Rattle.am_chain_moves.specs.Group as groups
+use Rattle.am_chain.specs.Group as groups
 use Rattle.am_stands.proofs.{Concerned.reporting_joins, Joins.Becomes, Joins.stayed, Joins.joins, Joins.founds, Joins.became, Joins.blank_nil}
 use Rattle.am_stands.proofs.{Parts.number_low, Parts.view_its, Results.last_view_at}
 

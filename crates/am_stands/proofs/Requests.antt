@@ -4,7 +4,7 @@ use Rattle.am_stands.proofs.Words.{arith, flat_map-append, nat_tests, length-app
 use Rattle.am_stands.proofs.Words.{request_in, Begins, IsGood, image_of, mem, row_at, mem_in, OwnSend, Node, waiting, accepted_at, settle_at, settle_waiting}
 use Rattle.am_stands.proofs.Words.{settle, World, split, request_within, next_in, found_at, Turn, waiting_is, one_more, waiting_settled, collected_turn}
 use Rattle.am_stands.proofs.Words.{NameStands, OwnTurn}
-use Rattle.am_chain_moves.specs.Group as groups
+use Rattle.am_chain.specs.Group as groups
 use Rattle.am_sender.specs.Sends as own
 use Rattle.am_model.specs.Node as nodes
 use Rattle.am_stands.proofs.{Changes.told_all, Heard.OwnFits, Heard.fits_data, Parts.part_get, Welcoming.member_row}

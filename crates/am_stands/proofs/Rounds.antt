@@ -2,8 +2,8 @@
 use Rattle.am_stands.proofs.Words.{◌≡◌, ◌≢◌, ⊎_elim, ℕ, ◌+◌, ◌<◌, List, true, false, refl, sym, ap, ◌∙◌, subst, arith, nat_tests, Stamp, key, Group, put}
 use Rattle.am_stands.proofs.Words.{Move, own_stamp, numbers, stores, learns, begins, raises, fetches, gives_over, welcomes, asks, departs, closes, stops}
 use Rattle.am_stands.proofs.Words.{founded, more, start, first_stamp, put_cases, put_at, HasRound, RoundsOk, RunsHaveRounds}
-use Rattle.am_chain_moves.specs.Moves.{decides}
-use Rattle.am_chain_moves.specs.Group as groups
+use Rattle.am_chain.specs.Moves.{decides}
+use Rattle.am_chain.specs.Group as groups
 
 some_round : (round by : ℕ) → 0 < round → HasRound (key (record { round = round; by = by }))
 unfolding key

@@ -7,12 +7,12 @@ use Rattle.am_stands.proofs.Words.{viewed_by, World, split, and_both, Cause, hea
 use Rattle.am_stands.proofs.Words.{nack, hold, join_ask, welcome, leave_ask, gone, invite, vote, fetch, piece, result, hand_over, logged, IsDecided, AllShown}
 use Rattle.am_stands.proofs.Words.{FetchSays, PacketSays, ResultSays, none, Leads, KeptWhole, ListBegins, as_before, just_begun, Sender, ShowsMore, SaysSo}
 use Rattle.am_stands.proofs.Words.{SentSays}
-use Rattle.am_effects.specs.Letters.{for_ballot, of_promise, accept}
+use Rattle.am_laws.specs.Letters.{for_ballot, of_promise, accept}
 use Rattle.am_packet.specs.declared.packet.Packet.TheVariants as packet
-use Rattle.am_chain_moves.specs.Group as groups
+use Rattle.am_chain.specs.Group as groups
 use Rattle.am_model.specs.declared.status.Status.TheVariants as status
 use Rattle.am_model.specs.Node as nodes
-use Rattle.am_effects.specs.Letters as letters
+use Rattle.am_laws.specs.Letters as letters
 use Rattle.am_stands.specs.Letters as says
 use Rattle.am_stands.proofs.{Changes.told_all, Changes.long_all, Entries.key_stamp, Going.gone_says, Opens.list_opens, Results.tells_leads}
 use Rattle.am_stands.proofs.{Results.result_said, Sent.Speaks, Sent.leading, Sent.report_said, Sent.leaver_said, Sent.sequencer_said, Sent.entry_said}

@@ -4,9 +4,9 @@ use Rattle.am_stands.proofs.Words.{◌∙◌, subst, arith, cases_lt, length-tak
 use Rattle.am_stands.proofs.Words.{begins_trans, take_begins, begins_refl, Group, IsUp, chain_of, Kept, Node, view, is_member, acts, is_sequencer, World}
 use Rattle.am_stands.proofs.Words.{split, and_both, NameStands, FrontsStand, line, IsDecided, SequencerSays, EntrySays, ReportSays, LeaverSays, of_view}
 use Rattle.am_stands.proofs.Words.{before_it, PieceSays, of_line}
-use Rattle.am_chain_moves.specs.Group as groups
+use Rattle.am_chain.specs.Group as groups
 use Rattle.am_model.specs.Node as nodes
-use Rattle.am_effects.specs.Letters as letters
+use Rattle.am_laws.specs.Letters as letters
 use Rattle.am_stands.proofs.{Changes.told_all, Changes.long_all, Growing.leads_line}
 
 -- ---- what is known of who sends

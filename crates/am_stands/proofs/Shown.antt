@@ -5,9 +5,9 @@ use Rattle.am_stands.proofs.Words.{Node, Ballot, is_member, own_vote, World, spl
 use Rattle.am_stands.proofs.Words.{as_it_is, NameStands, Stands, VoteTells, VoteSays, FetchSays, PieceSays, own, tells, over, for_ballot, of_promise}
 use Rattle.am_stands.proofs.Words.{of_shown, Moves, none, moves, Leads, VotesStand, Grows, ShowsMore}
 use Rattle.am_packet.specs.declared.packet.Packet.TheVariants as packet
-use Rattle.am_chain_moves.specs.Moves as group
+use Rattle.am_chain.specs.Moves as group
 use Rattle.am_model.specs.Node as nodes
-use Rattle.am_effects.specs.Letters as letters
+use Rattle.am_laws.specs.Letters as letters
 use Rattle.am_stands.proofs.{Changes.told_all, Changes.long_all, Sent.Speaks, Sent.list_item}
 
 -- ---- the votes that a coordinator keeps

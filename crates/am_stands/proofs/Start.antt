@@ -5,9 +5,9 @@ use Rattle.am_stands.proofs.Words.{Group, put, opening, with_node, Node, founder
 use Rattle.am_stands.proofs.Words.{has_departed, is_unfinished, Decided, first_node, founders_decided, whole, up_to_view, up_to_next, line_of, split}
 use Rattle.am_stands.proofs.Words.{first_founder, BeginsIn, NameStands, FrontsStand, NotedStands, ViewsStand, StartStands, none, moves, Leads}
 use Rattle.am_play.specs.World.{start}
-use Rattle.am_chain_moves.specs.Group as groups
-use Rattle.am_chain_moves.specs.Moves as group
-use Rattle.am_chain_moves.specs.Runs as begun
+use Rattle.am_chain.specs.Group as groups
+use Rattle.am_chain.specs.Moves as group
+use Rattle.am_chain.specs.Runs as begun
 use Rattle.am_stands.proofs.{Ends.then_moves, Decisions.last_same}
 
 -- ---- each founder in turn

@@ -4,7 +4,7 @@ use Rattle.am_stands.proofs.Words.{Rules, view_small, Group, Node, Ballot, view,
 use Rattle.am_stands.proofs.Words.{finds_itself_out, waits, fetches_from_best, finds_too_few, finds_no_room, decides, Change, refreshes, settles, begins_list}
 use Rattle.am_stands.proofs.Words.{looks, unchanged, changed, get_push, settle_is, stamp_of, change_named, Along, along_changes, CauseSent, change_sent}
 use Rattle.am_stands.proofs.Words.{StandsBut, within, Needs, after_change, after_look, SendsOnce, WasAsked, ChangesGoOn, IsPlain, Next, NodeKeeps, Stepping}
-use Rattle.am_effects.specs.Changes.{closes}
+use Rattle.am_laws.specs.Changes.{closes}
 use Rattle.am_stands.proofs.{Others.keeps_in, Carried.changes_stand, Changes.own_name, Entries.view_whole, Keeping.may_move, Keeping.needs, Keeping.IsNoClose}
 use Rattle.am_stands.proofs.{Keeps.keeps_next, Letters.letters_stay, Onward.GoesOn, Onward.goes_on}
 

@@ -9,7 +9,7 @@ use Rattle.am_stands.proofs.Words.{need_of, has_voted, is_waited_for, left_in, W
 use Rattle.am_stands.proofs.Words.{own_need, those_at, viewed_members, those_some, those_long, NameStands, within, told_pushed, VoteTells, AllShown, AllVoted}
 use Rattle.am_stands.proofs.Words.{NeedsDecision}
 use Rattle.am_model.specs.Node as nodes
-use Rattle.am_effects.specs.Looks as looks
+use Rattle.am_laws.specs.Looks as looks
 use Rattle.am_stands.proofs.{Lines.HasViewOf, Lines.viewed_as, Changes.told_whole, Changes.long_all}
 
 -- ---- what is known of a ballot

@@ -5,7 +5,7 @@ use Rattle.am_stands.proofs.Words.{Begins, IsGood, image_of, mem, begins_refl, b
 use Rattle.am_stands.proofs.Words.{take_begins, row_at, In, mem_in, in_mem, mem_between, Group, Node, is_sequencer, only_name, World, split, MayWelcome}
 use Rattle.am_stands.proofs.Words.{just_joined, asks_again, NameStands, FrontsStand, Trimmed, WelcomeSays, WelcomeTo, has_begun, has_gone, has_left}
 use Rattle.am_stands.proofs.Words.{is_leaving, may_begin, RowsLive}
-use Rattle.am_chain_moves.specs.Group as groups
+use Rattle.am_chain.specs.Group as groups
 use Rattle.am_model.specs.Node as nodes
 use Rattle.am_stands.proofs.{Changes.told_all, Changes.long_all, Ends.taken_more, Joins.joined_in, Joins.JoinsAt, Joins.joins_at, Parts.image_whole}
 use Rattle.am_stands.proofs.{Parts.next_part, Sent.Speaks, Sent.leading, Sent.list_item}

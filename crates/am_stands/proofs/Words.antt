@@ -25,10 +25,10 @@ pub use Rattle.am_laws.proofs.Words.{order, hold, join_ask, welcome, gone, invit
 unfoldable pub use Rattle.am_laws.proofs.Words.{fold, after, fits, accept, pass_over, own_report, tell, go_on, let_go, those, lead, refresh, settle}
 unfoldable pub use Rattle.am_laws.proofs.Words.{refresh_at_end, send_row, take_row, join_row, state_row, leave_row, reset_row, ask_row, give_up_row, done_row}
 unfoldable pub use Rattle.am_laws.proofs.Words.{hear_row, best_of, finish, tick_row, row, step, hear, hear_refusal, with_step, with_record}
-pub use Rattle.am_effects.proofs.Words.{Ok, Err, is_some, not-true, eq-eqb, slice_get_within, without_name, fold_append, Read, reading, slice_get-drop}
-pub use Rattle.am_effects.proofs.Words.{item_at, has_departed, only_name, has_own_leave, is_waited_for, may_fetch, Departed, read_row, asks_to_leave}
-pub use Rattle.am_effects.proofs.Words.{MayStore, overtaken, MayReport, BringsReport, with_send, by_ack, by_nack, by_leave_ask, BringsFronts, with_entry}
-pub use Rattle.am_effects.proofs.Words.{with_number, alone, HasLearned, leads, decided, ack, nack, leave_ask}
+pub use Rattle.am_laws.proofs.StepEffectsWords.{Ok, Err, is_some, not-true, eq-eqb, slice_get_within, without_name, fold_append, Read, reading, slice_get-drop}
+pub use Rattle.am_laws.proofs.StepEffectsWords.{item_at, has_departed, only_name, has_own_leave, is_waited_for, may_fetch, Departed, read_row, asks_to_leave}
+pub use Rattle.am_laws.proofs.StepEffectsWords.{MayStore, overtaken, MayReport, BringsReport, with_send, by_ack, by_nack, by_leave_ask, BringsFronts, with_entry}
+pub use Rattle.am_laws.proofs.StepEffectsWords.{with_number, alone, HasLearned, leads, decided, ack, nack, leave_ask}
 pub use Rattle.std.{proofs.Common.count_by, proofs.Common.append-nil, proofs.Math.Bool.and-false, proofs.Math.Seq.take-append-add}
 pub use Rattle.std.{proofs.Math.Seq.drop-append-add, proofs.Math.Seq.drop-append_seam, proofs.lemmas.Bool.leb-true, proofs.lemmas.Bool.eqb-false}
 pub use Rattle.std.{proofs.lemmas.Bool.eqb-true, proofs.lemmas.Grind.flat_map-append, specs.List.list_all}
@@ -55,27 +55,27 @@ pub use Rattle.am_chain_lists.proofs.Members.{viewed_mem, was_begins, good_push,
 pub use Rattle.am_chain_lists.proofs.Rows.{low_or_above, row_at, row_set, same_name, Past, Was, past_after, not_both, view_parts}
 pub use Rattle.am_chain_lists.proofs.Order.{key_by, view_up, key_lt, view_small, view_viewed, view_push, view_below}
 pub use Rattle.am_meaning.proofs.BestVotes.{best_vote_is}
-pub use Rattle.am_effects.proofs.{Resets.member_heard, Rests.leads_rests, Items.get_push, Says.leads_pushed}
-pub use Rattle.am_effects.specs.Letters.{MayTell, MayFetch}
+pub use Rattle.am_laws.proofs.{Resets.member_heard, Rests.leads_rests, Items.get_push, Says.leads_pushed}
+pub use Rattle.am_laws.specs.Letters.{MayTell, MayFetch}
 pub use Rattle.am_laws.proofs.{LeaderRows.first_member, Stamps.equal_stamps, ViewSteps.after_same, ViewSteps.after_view, ViewChanges.numbers_plain}
 pub use Rattle.am_laws.proofs.{ViewChanges.OpenBallot, ViewChanges.looked_at, ViewChanges.none_of_asking, Taken.known_member, Taken.leave_fits}
 pub use Rattle.am_laws.proofs.{Taken.looked_vote, Taken.own_need, Taken.those_at, Trims.told_used, TakenRuns.Along, TakenRuns.along_changes}
 pub use Rattle.am_laws.proofs.{Named.change_named, ViewMembers.those_long, ViewMembers.viewed_members, ViewMembers.those_some, Limits.set_those}
-pub use Rattle.am_chain_moves.specs.{Kept.Kept, Runs.IsLawful, Runs.first_choice, Runs.more, Runs.counts_for, Runs.founded, Runs.start, Runs.first_stamp}
-pub use Rattle.am_chain_moves.specs.Group.{how_many, counted_in, IsHeld, MayAccept, Group, IsUp, chain_of, put2, opening, NoBetter, IsThere, Views, Chosen}
-pub use Rattle.am_chain_moves.specs.Group.{IsOngoing}
-pub use Rattle.am_chain_moves.specs.Moves.{MayDecide, Voted, with_choice, choice_of, own_stamp, longer, Move, IsAbove, MayDepart, with_node, with_line}
-pub use Rattle.am_chain_moves.specs.Moves.{numbers, stores, accepts, learns, begins, raises, shows, serves, fetches, gives_over, welcomes, asks, departs}
-pub use Rattle.am_chain_moves.specs.Moves.{closes, stops, MayNumber}
-unfoldable pub use Rattle.am_chain_moves.specs.Group.{put, count}
-pub use Rattle.am_chain_moves.proofs.{Start.start_kept, Puts.put_same, Puts.put_at, Puts.put2_cases, Puts.count_below, Puts.count_within, Puts.put_other}
-pub use Rattle.am_chain_moves.proofs.{Puts.put_cases, Nodes.own_above}
+pub use Rattle.am_chain.specs.{Kept.Kept, Runs.IsLawful, Runs.first_choice, Runs.more, Runs.counts_for, Runs.founded, Runs.start, Runs.first_stamp}
+pub use Rattle.am_chain.specs.Group.{how_many, counted_in, IsHeld, MayAccept, Group, IsUp, chain_of, put2, opening, NoBetter, IsThere, Views, Chosen}
+pub use Rattle.am_chain.specs.Group.{IsOngoing}
+pub use Rattle.am_chain.specs.Moves.{MayDecide, Voted, with_choice, choice_of, own_stamp, longer, Move, IsAbove, MayDepart, with_node, with_line}
+pub use Rattle.am_chain.specs.Moves.{numbers, stores, accepts, learns, begins, raises, shows, serves, fetches, gives_over, welcomes, asks, departs}
+pub use Rattle.am_chain.specs.Moves.{closes, stops, MayNumber}
+unfoldable pub use Rattle.am_chain.specs.Group.{put, count}
+pub use Rattle.am_chain.proofs.{Start.start_kept, Puts.put_same, Puts.put_at, Puts.put2_cases, Puts.count_below, Puts.count_within, Puts.put_other}
+pub use Rattle.am_chain.proofs.{Puts.put_cases, Nodes.own_above}
 pub use Rattle.am_chain.proofs.{Heart.ballot_ok, Heart.list_chain, Heart.departed_in, Decide.group_low, Runs.run_keeps}
-pub use Rattle.am_orders.proofs.Turns.{request_within, next_in}
-pub use Rattle.am_sent.proofs.Changes.{MaySend, body_of_sent, CauseSent, change_sent}
-pub use Rattle.am_unballoted.proofs.{Turns.waiting_is, Turns.one_more, Turns.waiting_settled, Turns.collected_turn, Says.only_is}
-pub use Rattle.am_unballoted.proofs.{Actors.same_group as no_more_group, Changes.found_at}
-unfoldable pub use Rattle.am_unballoted.proofs.Turns.{Turn}
+pub use Rattle.am_chain.proofs.Turns.{request_within, next_in}
+pub use Rattle.am_runs.proofs.SentDataChanges.{MaySend, body_of_sent, CauseSent, change_sent}
+pub use Rattle.am_runs.proofs.{Turns.waiting_is, Turns.one_more, Turns.waiting_settled, Turns.collected_turn, Says.only_is}
+pub use Rattle.am_runs.proofs.{Actors.same_group as no_more_group, UnballotedChanges.found_at}
+unfoldable pub use Rattle.am_runs.proofs.Turns.{Turn}
 pub use Rattle.am_stands.specs.{Growing.NewView, Growing.NameGrows, Growing.Grows, Growing.MovesGrow, Growing.LettersStay, Moving.NamesNamed, Moving.MoveOk}
 pub use Rattle.am_stands.specs.{Moving.Moves, Moving.none, Moving.moves, Moving.Leads, Moving.AllVoted, Lawful.IsNoStop, Lawful.RunsGoOn}
 pub use Rattle.am_stands.specs.Standing.{NameStands, Stands, StandsBut, within, FrontsStand, NotedStands, ViewsStand, BeginsIn, StartStands}

@@ -6,9 +6,9 @@ use Rattle.am_base.specs.Names.{IsSet, size}
 use Rattle.am_base.specs.Fronts.{counted_at}
 use Rattle.am_base.specs.declared.name.Stamp.{Stamp}
 use Rattle.am_chain_lists.specs.Whole.{Begins, IsGood, key}
-use Rattle.am_chain_moves.specs.Group as groups
-use Rattle.am_chain_moves.specs.Group.{Group, MayAccept}
-use Rattle.am_chain_moves.specs.Kept.{Kept}
+use Rattle.am_chain.specs.Group as groups
+use Rattle.am_chain.specs.Group.{Group, MayAccept}
+use Rattle.am_chain.specs.Kept.{Kept}
 use Rattle.am_model.specs.Node.{Node, top, view, others, is_member, is_sequencer, push_entry}
 use Rattle.am_model.specs.Refresh.{refresh}
 use Rattle.am_play.specs.World.{World, is_stopped, group_after}

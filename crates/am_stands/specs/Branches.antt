@@ -5,10 +5,10 @@ use Rattle.am_base.specs.declared.entry.Entry.{Entry}
 use Rattle.am_base.specs.declared.entry.Entry.TheVariants.{View}
 use Rattle.am_base.specs.Names.{has}
 use Rattle.am_chain_lists.specs.Whole.{Begins, BeginsBelow, IsGood, mem, key}
-use Rattle.am_chain_moves.specs.Group.{Group, IsUp, chain_of}
-use Rattle.am_chain_moves.specs.Moves.{Move}
-use Rattle.am_chain_moves.specs.Kept.{Kept}
-use Rattle.am_chain_moves.specs.Runs.{IsLawful, MayBegin, start}
+use Rattle.am_chain.specs.Group.{Group, IsUp, chain_of}
+use Rattle.am_chain.specs.Moves.{Move}
+use Rattle.am_chain.specs.Kept.{Kept}
+use Rattle.am_chain.specs.Runs.{IsLawful, MayBegin, start}
 use Rattle.am_stands.specs.Moving.{NamesNamed, MoveOk}
 use Rattle.am_stands.specs.Growing.{DecidesNew}
 

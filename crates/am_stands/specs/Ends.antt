@@ -4,13 +4,13 @@ use Rattle.am_base.specs.declared.entry.Entry.{Entry}
 use Rattle.am_group.specs.declared.event.Event.{Event}
 use Rattle.am_base.specs.declared.entry.Entry.TheVariants.{Leave}
 use Rattle.am_chain_lists.specs.Whole.{Begins, mem, view_of, key}
-use Rattle.am_chain_moves.specs.Group as groups
-use Rattle.am_chain_moves.specs.Group.{Group, IsUp, MayAccept, put}
-use Rattle.am_chain_moves.specs.Moves.{longer}
+use Rattle.am_chain.specs.Group as groups
+use Rattle.am_chain.specs.Group.{Group, IsUp, MayAccept, put}
+use Rattle.am_chain.specs.Moves.{longer}
 use Rattle.am_model.specs.declared.status.Status.TheVariants.{Departed}
 use Rattle.am_model.specs.Node.{Node, set_at, is_sequencer, push_entry, has_departed}
 use Rattle.am_model.specs.Refresh.{refresh_at_end}
-use Rattle.am_effects.specs.Causes.{Cause}
+use Rattle.am_laws.specs.Causes.{Cause}
 use Rattle.am_model.specs.Emit.{Step}
 use Rattle.am_play.specs.World.{Decided, World, group_after, views_after, with_step}
 use Rattle.am_stands.specs.Standing.{FrontsStand, StandsBut, Stands, within}

@@ -5,10 +5,10 @@ use Rattle.am_base.specs.Names.{has}
 use Rattle.am_packet.specs.declared.packet.Packet.{Packet}
 use Rattle.am_group.specs.declared.event.Record.{Record}
 use Rattle.am_chain_lists.specs.Whole.{Begins, key}
-use Rattle.am_chain_moves.specs.Group as groups
-use Rattle.am_chain_moves.specs.Group.{Group}
-use Rattle.am_chain_moves.specs.Moves.{Move, decides}
-use Rattle.am_chain_moves.specs.Kept.{Kept}
+use Rattle.am_chain.specs.Group as groups
+use Rattle.am_chain.specs.Group.{Group}
+use Rattle.am_chain.specs.Moves.{Move, decides}
+use Rattle.am_chain.specs.Kept.{Kept}
 use Rattle.am_play.specs.World.{World}
 use Rattle.am_stands.specs.Letters.{PacketSays}
 

@@ -10,20 +10,20 @@ use Rattle.am_packet.specs.declared.packet.Packet.{Packet}
 use Rattle.am_base.specs.Lists.{requests_of}
 use Rattle.am_sender.specs.Sends as own
 use Rattle.am_chain_lists.specs.Whole.{Begins, IsGood}
-use Rattle.am_chain_moves.specs.Group.{Group}
-use Rattle.am_chain_moves.specs.Runs.{Run}
+use Rattle.am_chain.specs.Group.{Group}
+use Rattle.am_chain.specs.Runs.{Run}
 use Rattle.am_model.specs.Node.{Node, Ballot, lowest_or_first, has_log}
 use Rattle.am_model.specs.Refresh.{refresh}
 use Rattle.am_play.specs.World.{Decided, World, start, first_node, is_stopped}
-use Rattle.am_effects.specs.Causes.{Cause, calls, hears}
-use Rattle.am_effects.specs.Changes.{Change, refreshes, closes}
+use Rattle.am_laws.specs.Causes.{Cause, calls, hears}
+use Rattle.am_laws.specs.Changes.{Change, refreshes, closes}
 use Rattle.am_laws.proofs.Taken.{HeardUsed}
 use Rattle.am_laws.proofs.TakenRuns.{Along}
 use Rattle.am_laws.proofs.ViewNames.{HeardNames}
 use Rattle.am_codec.specs.Spelling.{stamp_of}
-use Rattle.am_sent.proofs.Kept as sent
-use Rattle.am_sent.proofs.Changes.{CauseSent}
-use Rattle.am_unballoted.proofs.Turns.{Turn}
+use Rattle.am_runs.proofs.SentDataKept as sent
+use Rattle.am_runs.proofs.SentDataChanges.{CauseSent}
+use Rattle.am_runs.proofs.Turns.{Turn}
 use Rattle.am_stands.specs.Standing.{NameStands, StandsBut, Stands, within}
 use Rattle.am_stands.specs.Letters.{Trimmed, PacketSays}
 use Rattle.am_stands.specs.Growing.{Grows}

@@ -1,8 +1,8 @@
 -- Lawfulness between the moves of one event.
 use Rattle.std.specs.Prelude.{ℕ, List}
-use Rattle.am_chain_moves.specs.Group.{Group}
-use Rattle.am_chain_moves.specs.Moves.{Move, stops}
-use Rattle.am_chain_moves.specs.Runs.{Run}
+use Rattle.am_chain.specs.Group.{Group}
+use Rattle.am_chain.specs.Moves.{Move, stops}
+use Rattle.am_chain.specs.Runs.{Run}
 
 abbrev pub IsNoStop : {s t : Group} → Move s t → Type 0
 IsNoStop (stops i) = ⊥

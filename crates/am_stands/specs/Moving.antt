@@ -4,8 +4,8 @@ use Rattle.am_base.specs.declared.entry.Entry.{Entry}
 use Rattle.am_base.specs.declared.entry.Entry.TheVariants.{Data, Join, Leave, View}
 use Rattle.am_base.specs.Names.{IsSet, has}
 use Rattle.am_chain_lists.specs.Whole.{key}
-use Rattle.am_chain_moves.specs.Group.{Group}
-use Rattle.am_chain_moves.specs.Moves.{Move, Voted, decides, numbers, stops}
+use Rattle.am_chain.specs.Group.{Group}
+use Rattle.am_chain.specs.Moves.{Move, Voted, decides, numbers, stops}
 
 -- who joins is one of the 256 names, and a View has a set of them
 abbrev pub NamesNamed : Entry → Type 0

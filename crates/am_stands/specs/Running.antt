@@ -3,14 +3,14 @@ use Rattle.std.specs.Prelude.{◌≡◌, ℕ, ◌<◌, List, Some, true, false, 
 use Rattle.am_base.specs.Founding.{Rules, MayFound}
 use Rattle.am_packet.specs.Boxes.{Letter}
 use Rattle.am_group.specs.declared.event.Event.{Event}
-use Rattle.am_chain_moves.specs.Group.{Group}
+use Rattle.am_chain.specs.Group.{Group}
 use Rattle.am_model.specs.Emit.{Step}
 use Rattle.am_model.specs.Calls.{is_unfinished}
 use Rattle.am_play.specs.World.{World, run, is_stopped, with_step, happens}
 use Rattle.am_model.specs.Node.{has_departed}
-use Rattle.am_effects.specs.Causes.{Cause}
-use Rattle.am_effects.specs.Effects.{Effect}
-use Rattle.am_effects.specs.Events.{actor, IsCause}
+use Rattle.am_laws.specs.Causes.{Cause}
+use Rattle.am_laws.specs.Effects.{Effect}
+use Rattle.am_laws.specs.Events.{actor, IsCause}
 use Rattle.am_stands.specs.Standing.{Stands}
 use Rattle.am_stands.specs.Letters.{LetterSays}
 use Rattle.am_stands.specs.Growing.{Grows}

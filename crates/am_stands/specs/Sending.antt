@@ -9,17 +9,17 @@ use Rattle.am_base.specs.Lists.{at_place}
 use Rattle.am_packet.specs.declared.packet.Packet.{Packet}
 use Rattle.am_packet.specs.declared.packet.Packet.TheVariants as packet
 use Rattle.am_chain_lists.specs.Whole.{key}
-use Rattle.am_chain_moves.specs.Group.{Group, IsThere}
-use Rattle.am_chain_moves.specs.Kept.{Kept}
+use Rattle.am_chain.specs.Group.{Group, IsThere}
+use Rattle.am_chain.specs.Kept.{Kept}
 use Rattle.am_model.specs.Node.{Node, Ballot, top, image_of, is_sequencer, has_log}
 use Rattle.am_model.specs.declared.status.Status.TheVariants.{Departed}
 use Rattle.am_model.specs.Calls.{is_unfinished}
 use Rattle.am_model.specs.Step.{step, hear, hear_refusal}
 use Rattle.am_model.specs.Refresh.{concerned_names}
 use Rattle.am_play.specs.World.{Decided, World}
-use Rattle.am_effects.specs.Causes.{Cause, hears}
-use Rattle.am_effects.specs.Looks.{HasOpen}
-use Rattle.am_effects.specs.Letters.{HasSend, Says}
+use Rattle.am_laws.specs.Causes.{Cause, hears}
+use Rattle.am_laws.specs.Looks.{HasOpen}
+use Rattle.am_laws.specs.Letters.{HasSend, Says}
 use Rattle.am_stands.specs.Standing.{NameStands, FrontsStand, ViewsStand}
 use Rattle.am_stands.specs.Letters.{Trimmed, AllShown, WasAsked, FetchSays, PacketSays}
 use Rattle.am_stands.specs.Moving.{Leads}

@@ -2,9 +2,9 @@
 use Rattle.std.specs.Prelude.{◌≡◌, ◌≢◌, ℕ, ◌+◌, ◌<◌, ◌≤◌, List, [], ◌∷◌, ◌++◌, length, take, Some, Bool, true, false, slice_get}
 use Rattle.am_base.specs.Lists.{Log}
 use Rattle.am_chain_lists.specs.Whole.{Begins, image_of, key}
-use Rattle.am_chain_moves.specs.Group as groups
-use Rattle.am_chain_moves.specs.Group.{Chosen, Group, Views, opening}
-use Rattle.am_chain_moves.specs.Runs as begun
+use Rattle.am_chain.specs.Group as groups
+use Rattle.am_chain.specs.Group.{Chosen, Group, Views, opening}
+use Rattle.am_chain.specs.Runs as begun
 use Rattle.am_base.specs.Founding.{Rules, MayFound}
 use Rattle.am_stands.specs.Moving.{Leads}
 use Rattle.am_model.specs.declared.status.Status.{Status}

@@ -10,12 +10,12 @@ use Rattle.am_base.specs.declared.image.Image.{Image}
 use Rattle.am_base.specs.Names.{life_of, has}
 use Rattle.am_base.specs.Lists.{at_place}
 use Rattle.am_chain_lists.specs.Whole.{Begins, image_of, mem, view_of, key}
-use Rattle.am_chain_moves.specs.Group as groups
-use Rattle.am_chain_moves.specs.Group.{Group, opening, chain_of}
+use Rattle.am_chain.specs.Group as groups
+use Rattle.am_chain.specs.Group.{Group, opening, chain_of}
 use Rattle.am_model.specs.Node as nodes
 use Rattle.am_model.specs.Node.{Node, Ballot, is_member}
 use Rattle.am_model.specs.Calls.{is_unfinished}
-use Rattle.am_chain_moves.specs.Runs.{Run}
+use Rattle.am_chain.specs.Runs.{Run}
 use Rattle.am_model.specs.Receiving.{body_of}
 use Rattle.am_play.specs.World.{World}
 use Rattle.am_stands.specs.Letters.{VoteTells, AllShown, IsDecided, WasAsked, line}

@@ -12,19 +12,19 @@ use Rattle.am_packet.specs.declared.packet.Packet.TheVariants as packet
 use Rattle.am_group.specs.declared.event.Event.{Event}
 use Rattle.am_chain_lists.specs.Whole as whole
 use Rattle.am_chain_lists.specs.Whole.{view_of, key}
-use Rattle.am_chain_moves.specs.Group.{Group, IsOngoing}
-use Rattle.am_chain_moves.specs.Moves.{with_node, MayNumber, MayWelcome, MayDecide}
+use Rattle.am_chain.specs.Group.{Group, IsOngoing}
+use Rattle.am_chain.specs.Moves.{with_node, MayNumber, MayWelcome, MayDecide}
 use Rattle.am_model.specs.Node.{Node, Ballot, image_of, view, members}
 use Rattle.am_model.specs.Calls.{is_unfinished}
 use Rattle.am_model.specs.Receiving.{is_view}
 use Rattle.am_model.specs.Ballots.{Verdict, need_of, left_in}
 use Rattle.am_play.specs.Lawful.{is_view_of}
 use Rattle.am_play.specs.World.{Decided, World, is_stopped, last_view}
-use Rattle.am_effects.specs.Causes.{Cause, hears}
-use Rattle.am_effects.specs.Looks as looks
-use Rattle.am_effects.specs.Looks.{Looks, decides}
-use Rattle.am_effects.specs.Changes.{Promises, Change, numbers, stores, begins_list, looks, fetches, stores_view, closes}
-use Rattle.am_effects.specs.Events.{Happens, steps}
+use Rattle.am_laws.specs.Causes.{Cause, hears}
+use Rattle.am_laws.specs.Looks as looks
+use Rattle.am_laws.specs.Looks.{Looks, decides}
+use Rattle.am_laws.specs.Changes.{Promises, Change, numbers, stores, begins_list, looks, fetches, stores_view, closes}
+use Rattle.am_laws.specs.Events.{Happens, steps}
 use Rattle.am_stands.specs.Standing.{StandsBut, Stands, within}
 use Rattle.am_stands.specs.Letters.{GoneSays}
 use Rattle.am_stands.specs.Moving.{NamesNamed, AllVoted, Leads}

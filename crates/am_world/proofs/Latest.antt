@@ -3,7 +3,7 @@ use Rattle.am_world.proofs.Words.{◌≡◌, ℕ, ◌-◌, [], ◌∷◌, ◌++�
 use Rattle.am_world.proofs.Words.{Play, after, replay, record_of}
 use Rattle.std.proofs.lemmas.Grind.{flat_map-append}
 use Rattle.std.proofs.Common.{unwrap_or}
-use Rattle.am_effects.proofs.Items.{get_last}
+use Rattle.am_laws.proofs.Items.{get_last}
 use Rattle.am_group.specs.Deliveries.{given_to, deliveries}
 use Rattle.am_world.specs.Runs.{IsOneMore}
 

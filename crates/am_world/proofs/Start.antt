@@ -10,7 +10,7 @@ use Rattle.am_world.proofs.Words.{actor, Happens, steps, events_have_effects, re
 use Rattle.am_world.proofs.Words.{standing_of, HeardLow, change_begins, lists_go_on, begins}
 use Rattle.am_core.specs.Cores.{accept}
 use Rattle.am_model.specs.Node.{Node}
-use Rattle.am_effects.specs.Looks.{decides}
+use Rattle.am_laws.specs.Looks.{decides}
 use Rattle.am_packet.specs.declared.packet.Packet.TheVariants as packet
 use Rattle.am_model.specs.declared.status.Status.TheVariants as status
 

@@ -5,7 +5,7 @@ use Rattle.am_world.proofs.Words.{is_view_of, actor, Happens, idles, steps, even
 use Rattle.am_world.proofs.Words.{view_of, run_lists, lists_go_on, decided_are_new, begins, stored_of}
 use Rattle.am_model.specs.Node.{Node}
 use Rattle.am_play.specs.World.{decides}
-use Rattle.am_effects.specs.Events.{stops, returns}
+use Rattle.am_laws.specs.Events.{stops, returns}
 use Rattle.am_world.proofs.{Start.step_begins, StoredSteps.step_adds, StoredSteps.told_is}
 
 -- where the list of a name's node begins after a step

@@ -10,7 +10,7 @@ use Rattle.am_world.proofs.Words.{takes_report, admits, numbers, keeps_body, not
 use Rattle.am_world.proofs.Words.{stores_view, queues, collects, takes, asks_to_join, asks_to_leave, closes, Changes, rests_refresh, rests_at_end, settle_is}
 use Rattle.am_world.proofs.Words.{view_pushed, along, at_most, at_most_below, not_above}
 use Rattle.am_model.specs.Node.{Node}
-use Rattle.am_effects.specs.Looks.{decides}
+use Rattle.am_laws.specs.Looks.{decides}
 use Rattle.am_base.specs.declared.outcome.Outcome.TheVariants as said
 use Rattle.am_packet.specs.declared.packet.Packet.TheVariants as packet
 use Rattle.am_model.specs.declared.status.Status.TheVariants as status

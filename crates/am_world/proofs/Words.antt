@@ -45,16 +45,16 @@ pub use Rattle.am_watching.proofs.{Events.watched_after, Events.stepped_to, Step
 pub use Rattle.am_watching.proofs.{Steps.accepted_goes_on}
 pub use Rattle.am_ends.proofs.Steps.{end_high, step_end, own_end}
 pub use Rattle.am_node.specs.{declared.node.Node.Node, Stands.state_of}
-pub use Rattle.am_effects.proofs.{Items.get_push, Hearing.steps_have_effects, Hearing.hearing_has_effects, Hearing.refusing_has_effects}
-pub use Rattle.am_effects.specs.{Causes.refuses, Causes.BringsFronts, Causes.with_entry, Causes.with_number, Causes.alone, Looks.BeginsBy, Looks.by_reset}
-pub use Rattle.am_effects.specs.{Looks.by_hand_over, Changes.overtaken, Changes.asks_to_leave}
+pub use Rattle.am_laws.proofs.{Items.get_push, Hearing.steps_have_effects, Hearing.hearing_has_effects, Hearing.refusing_has_effects}
+pub use Rattle.am_laws.specs.{Causes.refuses, Causes.BringsFronts, Causes.with_entry, Causes.with_number, Causes.alone, Looks.BeginsBy, Looks.by_reset}
+pub use Rattle.am_laws.specs.{Looks.by_hand_over, Changes.overtaken, Changes.asks_to_leave}
 pub use Rattle.am_laws.specs.{Numbers.NodeNumbers, Blank.IsBlank}
 pub use Rattle.am_laws.proofs.{Named.few_names, Named.run_named, Named.names_hold, EventCounts.actor_low, RunCounts.bounds_after, RunCounts.run_low}
 pub use Rattle.am_laws.proofs.{RunCounts.numbers_hold, Blank.blank_holds, ViewSteps.view_last, Stamps.not_above_itself, Stamps.at_most, Stamps.at_most_below}
 pub use Rattle.am_laws.proofs.{Stamps.not_above}
 pub use Rattle.am_laws.proofs.ViewChanges.{leads_member, member_of, IsOpen, OpenBallot, Balloted, next_above, welcomed_none, numbers_plain}
-pub use Rattle.am_watched.proofs.{Chains.HeardLow, Chains.change_begins, Lists.lists_go_on, Lists.run_lists, Lists.IsBare, New.decided_are_new}
-pub use Rattle.am_watched.proofs.Watched.{watch_push, stop_is_watched, pass_is_watched, return_is_watched, beginning_is_kept}
+pub use Rattle.am_laws.proofs.{Chains.HeardLow, Chains.change_begins, Lists.lists_go_on, Lists.run_lists, Lists.IsBare, New.decided_are_new}
+pub use Rattle.am_laws.proofs.Watched.{watch_push, stop_is_watched, pass_is_watched, return_is_watched, beginning_is_kept}
 pub use Rattle.am_world.specs.Watchers.{watching_of}
 pub use Rattle.am_world.specs.{Moves.IsReadyAt, Moves.StepsAt, Moves.HasPlaceAt, Moves.IsReady, declared.asked.Heard.Heard}
 pub use Rattle.am_world.specs.Runs.{Play, replay, after, AreNodes, AreLives, AreFlags, IsRun, play_of, Answers, AreFirst, Shows, the_record}

@@ -1,4 +1,0 @@
-pub mod Pieces
-pub mod Runs
-pub mod Sends
-pub mod Tails

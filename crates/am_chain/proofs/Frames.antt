@@ -1,0 +1,165 @@
+-- What a change of one node leaves as it was.
+use Rattle.am_chain.proofs.Words.{split, ◌≡◌, ◌≢◌, ◌⊎◌, ⊎_elim, inl, inr, ℕ, ◌≤◌, true, false, List, length, Some, refl, sym, ap, ◌∙◌, subst, arith}
+use Rattle.am_chain.proofs.Words.{Entry, Begins, key, begins_refl, begins_trans, begins_length, put, Node, opening, Views, Group, IsThere, IsUp}
+use Rattle.am_chain.proofs.Words.{with_node, NodeOk, ShownOk, ServedOk, Witness, DepartedOk, Kept}
+use Rattle.am_chain.proofs.Puts.{put_cases, put_same, put_at}
+
+-- a node later on: it has no less, and it isn't there again nor stays again
+pub record Later (a b : Node) : Type 0 where
+  pub list : Begins a.list b.list
+  pub log : a.has_log ≡ true → b.has_log ≡ true
+  pub start : a.has_log ≡ true → b.start ≡ a.start
+  pub there : IsThere b → IsThere a
+  pub staying : b.leaving ≡ false → a.leaving ≡ false
+  pub promise : key a.promise ≤ key b.promise
+
+pub later_refl : (a : Node) → Later a a
+later_refl a = record { list = begins_refl a.list; log = λ h. h; start = λ h. refl; there = λ h. h; staying = λ h. h; promise = omega arith }
+
+-- with the same list, and the same but for its promise and its ballot
+pub later_promise : (a b : Node) → b.list ≡ a.list → b.has_log ≡ a.has_log → b.start ≡ a.start → b.leaving ≡ a.leaving → (IsThere b → IsThere a)
+    → key a.promise ≤ key b.promise → Later a b
+later_promise a b list log start leaving there up = record {
+  list = subst (Begins a.list) (sym list) (begins_refl a.list);
+  log = λ h. log ∙ h;
+  start = λ h. start;
+  there = there;
+  staying = λ h. sym leaving ∙ h;
+  promise = up;
+}
+
+pub later_all : (node : ℕ → Node) (i : ℕ) (n : Node) → Later (node i) n → (j : ℕ) → Later (node j) (put node i n j)
+later_all node i n h = put_at (λ j m. Later (node j) m) node i n h (λ j _. later_refl (node j))
+
+pub shown_later : (a b : ℕ → Node) (x name : ℕ) (l : List Entry) → ((j : ℕ) → Later (a j) (b j)) → ShownOk a x name l → ShownOk b x name l
+shown_later a b x name l up h =
+    let q = (up name).promise in let t = (up h.stamp.by).promise in
+    record {
+      promised = omega arith;
+      list = begins_trans h.list (up name).list;
+      stamp = h.stamp;
+      is = h.is;
+      small = h.small;
+      other = h.other;
+      begun = omega arith;
+    }
+
+pub served_later : (a b : ℕ → Node) (views : Views) (x : ℕ) (l : List Entry) → ((j : ℕ) → Later (a j) (b j)) → ServedOk a views x l → ServedOk b views x l
+served_later a b views x l up h = record {
+  chain = h.chain;
+  promised = λ j t m. let p = h.promised j ((up j).there t) m in let q = (up j).promise in
+      omega arith;
+}
+
+pub witness_later : (a b : ℕ → Node) (group : List Entry) (n : ℕ) → ((j : ℕ) → Later (a j) (b j)) → Witness a group n → Witness b group n
+witness_later a b group n up w = record {
+  number = w.number;
+  above = w.above;
+  within = w.within;
+  holders = w.holders;
+  counts = w.counts;
+  logs = λ h t. (up h).log (w.logs h t);
+  joined = λ h t. let e = (up h).start (w.logs h t) in let z = w.joined h t in omega arith;
+  stored = λ h t. begins_trans (w.stored h t) (up h).list;
+  enough = w.enough;
+}
+
+pub departed_later : (a b : ℕ → Node) (views : Views) (d : ℕ) → ((j : ℕ) → Later (a j) (b j)) → DepartedOk a views d → DepartedOk b views d
+departed_later a b views d up h = record {
+  before = h.before;
+  chain = h.chain;
+  stored = λ j m t l. begins_trans (h.stored j m ((up j).there t) ((up j).staying l)) (up j).list;
+}
+
+module _ (s : Group) (k : Kept s) (i : ℕ) (n : Node) where
+  -- its ballot is the one that it had, or one that nobody voted for yet
+  abbrev pub OldBallot : Type 0
+  OldBallot = IsUp n → n.ballot ≡ true → (IsUp (s.node i) × ((s.node i).ballot ≡ true) × (n.promise ≡ (s.node i).promise))
+      ⊎ ((h : ℕ) (l : List Entry) → s.shown (key n.promise) h ≡ Some l → ⊥)
+
+  -- its list is as it was, or no longer than what it showed to each unfinished ballot, or than what the coordinator has
+  abbrev pub OldList : Type 0
+  OldList = ((n.list ≡ (s.node i).list) × (IsUp n → IsUp (s.node i)))
+      ⊎ (IsUp n × ((c : ℕ) (l : List Entry) → c ≢ i → IsUp (s.node c) → (s.node c).ballot ≡ true → s.shown (key (s.node c).promise) i ≡ Some l
+      → (length n.list ≤ length l) ⊎ (length n.list ≤ length (s.node c).list)))
+
+  pub node_change : Later (s.node i) n → NodeOk s.views s.group i n → OldBallot → OldList
+      → ((l : List Entry) → s.shown (key n.promise) i ≡ Some l → s.views.decided (key n.promise) ≡ false → n.list ≡ l)
+      → (n.departed ≡ true → ((s.node i).departed ≡ true) ⊎ DepartedOk s.node s.views i) → Kept (with_node s i n)
+  node_change later ok ballot list still gone = record {
+    views = k.views;
+    group = k.group;
+    each = put_at (λ j m. NodeOk s.views s.group j m) s.node i n ok (λ j _. k.each j);
+    shown = λ x name l h. shown_later s.node (put s.node i n) x name l up (k.shown x name l h);
+    still = put_at (λ v m. (l : List Entry) → s.shown (key m.promise) v ≡ Some l → s.views.decided (key m.promise) ≡ false
+        → m.list ≡ l) s.node i n still (λ v _. k.still v);
+    short = λ c v l. put_at
+        (λ c m. IsUp m → m.ballot ≡ true → s.shown (key m.promise) v ≡ Some l → IsUp (put s.node i n v)
+        → (length (put s.node i n v).list ≤ length l) ⊎ (length (put s.node i n v).list ≤ length m.list))
+        s.node i n (short_own v l) (λ c other. short_other c v l other) c;
+    served = λ c h l. put_at
+        (λ c m. IsUp m → m.ballot ≡ true → s.served (key m.promise) h ≡ true → s.shown (key m.promise) h ≡ Some l
+        → ServedOk (put s.node i n) s.views (key m.promise) l)
+        s.node i n
+        (λ u b a d. ⊎_elim
+        (λ (o : IsUp (s.node i) × ((s.node i).ballot ≡ true) × (n.promise ≡ (s.node i).promise)).
+        subst (λ p. ServedOk (put s.node i n) s.views (key p) l) (sym o.2) (served_later s.node (put s.node i n) s.views (key (s.node i).promise) l up
+        (k.served i h l o.0 o.1 (subst (λ p. s.served (key p) h ≡ true) o.2 a) (subst (λ p. s.shown (key p) h ≡ Some l) o.2 d))))
+        (λ (o : (h : ℕ) (l : List Entry) → s.shown (key n.promise) h ≡ Some l → ⊥). absurd (o h l d))
+        (ballot u b))
+        (λ c other u b a d. served_later s.node (put s.node i n) s.views (key (s.node c).promise) l up (k.served c h l u b a d)) c;
+    sent = k.sent;
+    witness = λ m low high. witness_later s.node (put s.node i n) s.group m up (k.witness m low high);
+    departed = put_at (λ d m. m.departed ≡ true → DepartedOk (put s.node i n) s.views d) s.node i n
+        (λ h. ⊎_elim
+        (λ (o : (s.node i).departed ≡ true). departed_later s.node (put s.node i n) s.views i up (k.departed i o))
+        (λ (o : DepartedOk s.node s.views i). departed_later s.node (put s.node i n) s.views i up o)
+        (gone h))
+        (λ d other h. departed_later s.node (put s.node i n) s.views d up (k.departed d h));
+    enough = λ x decided holders counts stored much. split (holders i)
+        (λ t. ⊎_elim
+        (λ (o : (n.list ≡ (s.node i).list) × (IsUp n → IsUp (s.node i))).
+        k.enough x decided holders counts (λ h y. ⊎_elim
+        (λ (z : (h ≡ i) × (put s.node i n h ≡ n)). subst (λ j. Begins (opening (s.views.chosen x)) (s.node j).list) (sym z.0)
+        (subst (Begins (opening (s.views.chosen x))) (ap (λ (m : Node). m.list) z.1 ∙ o.0) (stored h y)))
+        (λ (z : (h ≢ i) × (put s.node i n h ≡ s.node h)). subst (λ (m : Node). Begins (opening (s.views.chosen x)) m.list) z.1 (stored h y))
+        (put_cases s.node i n h)) much)
+        (λ (o : IsUp n × ((c : ℕ) (l : List Entry) → c ≢ i → IsUp (s.node c) → (s.node c).ballot ≡ true → s.shown (key (s.node c).promise) i ≡ Some l
+        → (length n.list ≤ length l) ⊎ (length n.list ≤ length (s.node c).list))).
+        begins_trans (subst (λ (m : Node). Begins (opening (s.views.chosen x)) m.list) (put_same s.node i n) (stored i t)) (ok.list o.0))
+        list)
+        (λ f. k.enough x decided holders counts (λ h y. ⊎_elim
+        (λ (z : (h ≡ i) × (put s.node i n h ≡ n)). let u : holders i ≡ true = subst (λ j. holders j ≡ true) z.0 y in absurd (cc))
+        (λ (z : (h ≢ i) × (put s.node i n h ≡ s.node h)). subst (λ (m : Node). Begins (opening (s.views.chosen x)) m.list) z.1 (stored h y))
+        (put_cases s.node i n h)) much);
+  }
+    where
+      up : (j : ℕ) → Later (s.node j) (put s.node i n j)
+      up = later_all s.node i n later
+
+      short_own : (v : ℕ) (l : List Entry) → IsUp n → n.ballot ≡ true → s.shown (key n.promise) v ≡ Some l → IsUp (put s.node i n v)
+          → (length (put s.node i n v).list ≤ length l) ⊎ (length (put s.node i n v).list ≤ length n.list)
+      short_own v l u b d = put_at
+          (λ v m. s.shown (key n.promise) v ≡ Some l → IsUp m → (length m.list ≤ length l) ⊎ (length m.list ≤ length n.list))
+          s.node i n (λ _ _. inr (omega arith))
+          (λ v other d w. ⊎_elim
+          (λ (o : IsUp (s.node i) × ((s.node i).ballot ≡ true) × (n.promise ≡ (s.node i).promise)).
+          let more = begins_length later.list in
+          ⊎_elim (λ (a : length (s.node v).list ≤ length l). inl a) (λ (a : length (s.node v).list ≤ length (s.node i).list). inr (omega arith))
+          (k.short i v l o.0 o.1 (subst (λ p. s.shown (key p) v ≡ Some l) o.2 d) w))
+          (λ (o : (h : ℕ) (l : List Entry) → s.shown (key n.promise) h ≡ Some l → ⊥). absurd (o v l d))
+          (ballot u b)) v d
+
+      short_other : (c v : ℕ) (l : List Entry) → c ≢ i → IsUp (s.node c) → (s.node c).ballot ≡ true → s.shown (key (s.node c).promise) v ≡ Some l
+          → IsUp (put s.node i n v) → (length (put s.node i n v).list ≤ length l) ⊎ (length (put s.node i n v).list ≤ length (s.node c).list)
+      short_other c v l other u b d = put_at
+          (λ v m. s.shown (key (s.node c).promise) v ≡ Some l → IsUp m → (length m.list ≤ length l) ⊎ (length m.list ≤ length (s.node c).list))
+          s.node i n
+          (λ d w. ⊎_elim
+          (λ (o : (n.list ≡ (s.node i).list) × (IsUp n → IsUp (s.node i))). let e = ap length o.0 in
+          ⊎_elim (λ (a : length (s.node i).list ≤ length l). inl (omega arith)) (λ (a : length (s.node i).list ≤ length (s.node c).list). inr (omega arith))
+          (k.short c i l u b d (o.1 w)))
+          (λ (o : IsUp n × ((c : ℕ) (l : List Entry) → c ≢ i → IsUp (s.node c) → (s.node c).ballot ≡ true → s.shown (key (s.node c).promise) i ≡ Some l
+          → (length n.list ≤ length l) ⊎ (length n.list ≤ length (s.node c).list))). o.1 c l other u b d)
+          list)
+          (λ v _ d w. k.short c v l u b d w) v d

@@ -1,0 +1,277 @@
+-- The group list grows, and the chain does.
+use Rattle.am_chain.proofs.Words.{low_or_above, split, ◌≡◌, ◌≢◌, ◌⊎◌, ⊎_elim, ℕ, zero, suc, ◌+◌, ◌-◌, ◌<◌, ◌≤◌, min, true, false, List, [], ◌∷◌, ◌++◌}
+use Rattle.am_chain.proofs.Words.{length, take, Some, slice_get, refl, sym, ap, ◌∙◌, subst, arith, take-append-le, Entry, View, has, members_of, fits}
+use Rattle.am_chain.proofs.Words.{counted_of, Begins, IsGood, NotView, SmallName, image_of, mem, view_of, key, resilience_of, begins_refl, begins_more}
+use Rattle.am_chain.proofs.Words.{begins_trans, begins_length, begins_both, begins_pushed, begins_take, length_take, Spares, mem_push, good_push}
+use Rattle.am_chain.proofs.Words.{view_push, put, how_many, counted_in, need_of, Node, opening, Views, Group, chain_of, IsThere, IsUp, Leads, MayAccept}
+use Rattle.am_chain.proofs.Words.{NodeOk, ServedOk, Witness, DepartedOk, ViewsOk, Kept}
+use Rattle.am_chain.proofs.{Puts.put_cases, Puts.put_same, Puts.put_at, Frames.Later, Frames.later_all, Frames.shown_later, Frames.served_later}
+use Rattle.am_chain.proofs.{Frames.witness_later, Frames.departed_later}
+
+pub take_more : {a b : List Entry} (n : ℕ) → Begins a b → n ≤ length a → take n b ≡ take n a
+take_more {a} {b} n h l = ap (take n) (sym h.same) ∙ take-append-le n a h.rest l
+
+get_more : (a r : List Entry) (n : ℕ) → n < length a → slice_get (a ++ r) n ≡ slice_get a n
+get_more [] r n l = absurd (omega arith)
+get_more (e ∷ a) r zero l = refl
+get_more (e ∷ a) r (suc n) l = get_more a r n (omega arith)
+
+-- what counts at a number is the same in a longer list
+pub counted_more : {a b : List Entry} (n : ℕ) → Begins a b → 0 < n → n ≤ length a → counted_in b n ≡ counted_in a n
+counted_more {a} {b} n h low l =
+    let z : n - 1 ≤ length a = omega arith in
+    let w : n - 1 < length a = omega arith in
+    ap (λ (x : List Entry). counted_of (slice_get b (n - 1)) (members_of (image_of x))) (take_more (n - 1) h z)
+    ∙ ap (λ o. counted_of o (members_of (image_of (take (n - 1) a)))) (ap (λ l. slice_get l (n - 1)) (sym h.same) ∙ get_more a h.rest (n - 1) w)
+
+pub need_more : {a b : List Entry} (n : ℕ) → Begins a b → 0 < n → n ≤ length a → need_of b n ≡ need_of a n
+need_more {a} {b} n h low l =
+    ap (λ m. min (resilience_of (take n b) + 1) (how_many (has m))) (counted_more n h low l)
+    ∙ ap (λ x. min (resilience_of x + 1) (how_many (has (counted_in a n)))) (take_more n h l)
+
+-- the same witness, of a longer list
+pub witness_more : (node : ℕ → Node) (a b : List Entry) (n : ℕ) → Begins a b → 0 < n → Witness node a n → Witness node b n
+witness_more node a b n h low w =
+    let above = w.above in let within = w.within in let more = begins_length h in
+    let up : 0 < w.number = omega arith in
+    record {
+      number = w.number;
+      above = above;
+      within = omega arith;
+      holders = w.holders;
+      counts = λ x t. subst (λ m. has m x ≡ true) (sym (counted_more w.number h up within)) (w.counts x t);
+      logs = w.logs;
+      joined = w.joined;
+      stored = λ x t. subst (λ l. Begins l (node x).list) (sym (take_more w.number h within)) (w.stored x t);
+      enough = subst (λ k. k ≤ how_many w.holders) (sym (need_more w.number h up within)) w.enough;
+    }
+
+-- what a name keeps, when more is accepted
+pub node_accepts : (views : Views) (a b : List Entry) (i : ℕ) (m : Node) → Begins a b → NodeOk views a i m → NodeOk views b i m
+node_accepts views a b i m h ok =
+    let more = begins_length h in
+    record {
+      small = ok.small;
+      list = ok.list;
+      blank = ok.blank;
+      fronts = record { told = omega arith; acc = ok.fronts.acc; within = ok.fronts.within; delivered = begins_trans ok.fronts.delivered h };
+      leads = ok.leads;
+      promised = ok.promised;
+      stays = ok.stays;
+      joined = λ l. let o = ok.joined l in let x = o.accepted in
+          record { accepted = omega arith; member = subst (λ l. mem l i ≡ true) (sym (take_more m.start h x)) o.member };
+      own = ok.own;
+      late = ok.late;
+      ballot = ok.ballot;
+      complete = ok.complete;
+      heard = ok.heard;
+    }
+
+-- an entry that is held as the list is accepted up to a number
+pub accept_witness : (node : ℕ → Node) (list group : List Entry) (to n : ℕ) → ((j : ℕ) → (node j).has_log ≡ true → (node j).start ≤ length group)
+    → MayAccept node list (length group) to → length group < n → n ≤ to → Witness node (take to list) n
+accept_witness node list group to n start may low high =
+    let long = length_take to list may.within in
+    let it = begins_take to list in
+    let h = may.held n low high in
+    let m = h.0 in
+    let a = h.1 in
+    let held = h.3 in
+    let up : 0 < m = omega arith in
+    let w : m ≤ length (take to list) = omega arith in
+    record {
+      number = m;
+      above = a;
+      within = w;
+      holders = held.holders;
+      counts = λ x t. subst (λ l. has l x ≡ true) (counted_more m it up w) (held.counts x t);
+      logs = held.logs;
+      joined = λ x t. let s = start x (held.logs x t) in omega arith;
+      stored = λ x t. subst (λ l. Begins l (node x).list) (take_more m it w) (held.stored x t);
+      enough = subst (λ k. k ≤ how_many held.holders) (need_more m it up w) held.enough;
+    }
+
+-- more of the chain is accepted
+pub group_change : (s : Group) (k : Kept s) (list : List Entry) (to : ℕ) → list ≡ chain_of s.views → MayAccept s.node list (length s.group) to
+    → Kept (record s { group = take to list })
+group_change s k list to is may =
+    let long = length_take to list may.within in
+    let chain : Begins (take to list) (chain_of s.views) = subst (Begins (take to list)) is (begins_take to list) in
+    let grows : Begins s.group (take to list) = begins_both k.group chain (omega arith) in
+    record {
+      views = k.views;
+      group = chain;
+      each = λ j. node_accepts s.views s.group (take to list) j (s.node j) grows (k.each j);
+      shown = k.shown;
+      still = k.still;
+      short = k.short;
+      served = k.served;
+      sent = k.sent;
+      witness = λ n low high. ⊎_elim
+          (λ (h : n ≤ length s.group). witness_more s.node s.group (take to list) n grows (omega arith) (k.witness n low h))
+          (λ (h : length s.group < n). accept_witness s.node list s.group to n (λ j l. ((k.each j).joined l).accepted) may h (omega arith))
+          (low_or_above n (length s.group));
+      departed = k.departed;
+      enough = k.enough;
+    }
+
+-- One entry more of the chain, by its sequencer.
+module _ (s : Group) (k : Kept s) (i : ℕ) (e : Entry) (leads : Leads i (s.node i)) (fit : fits (image_of (s.node i).list) e ≡ true) (plain : NotView e) where
+  pub list_is : (s.node i).list ≡ chain_of s.views
+  list_is = ((k.each i).leads leads).chain
+
+  pub view_is : view_of (s.node i).list ≡ s.views.current
+  view_is = ap view_of list_is ∙ k.views.view
+
+  abbrev pub grown : Views
+  grown = record s.views { line = put s.views.line (key (view_of (s.node i).list)) ((s.node i).list ++ e ∷ []) }
+
+  pub chain_is : chain_of grown ≡ (s.node i).list ++ e ∷ []
+  chain_is = ap (λ x. put s.views.line x ((s.node i).list ++ e ∷ []) (key s.views.current)) (ap key view_is)
+      ∙ put_same s.views.line (key s.views.current) ((s.node i).list ++ e ∷ [])
+
+  chain_grows : Begins (chain_of s.views) (chain_of grown)
+  chain_grows = subst (Begins (chain_of s.views)) (sym chain_is)
+      (subst (λ l. Begins l ((s.node i).list ++ e ∷ [])) list_is (begins_more (s.node i).list (e ∷ [])))
+
+  line_grows : (x : ℕ) → Begins (s.views.line x) (put s.views.line (key (view_of (s.node i).list)) ((s.node i).list ++ e ∷ []) x)
+  line_grows x = ⊎_elim
+      (λ (c : (x ≡ key (view_of (s.node i).list)) × (put s.views.line (key (view_of (s.node i).list)) ((s.node i).list ++ e ∷ []) x
+      ≡ (s.node i).list ++ e ∷ [])).
+      let at : x ≡ key s.views.current = c.0 ∙ ap key view_is in
+      subst (Begins (s.views.line x)) (sym c.1) (subst (λ l. Begins l ((s.node i).list ++ e ∷ [])) (list_is
+      ∙ ap s.views.line (sym at)) (begins_more (s.node i).list (e ∷ []))))
+      (λ (c : (x ≢ key (view_of (s.node i).list)) × (put s.views.line (key (view_of (s.node i).list)) ((s.node i).list ++ e ∷ []) x ≡ s.views.line x)).
+      subst (Begins (s.views.line x)) (sym c.1) (begins_refl (s.views.line x)))
+      (put_cases s.views.line (key (view_of (s.node i).list)) ((s.node i).list ++ e ∷ []) x)
+
+  small_plain : (e : Entry) → NotView e → SmallName e
+  small_plain (View stamp members resilience) h = absurd h
+  small_plain _ h = tt
+
+  pub good_grown : IsGood ((s.node i).list ++ e ∷ [])
+  good_grown = good_push (s.node i).list e (subst IsGood (sym list_is) k.views.good) fit (small_plain e plain)
+
+  pub views_grow : ViewsOk grown
+  views_grow = record {
+    now = k.views.now;
+    order = k.views.order;
+    stamps = k.views.stamps;
+    good = subst IsGood (sym chain_is) good_grown;
+    view = ap view_of chain_is ∙ view_push (s.node i).list e plain ∙ view_is;
+    opens = begins_trans k.views.opens chain_grows;
+    complete = λ x c. begins_trans (k.views.complete x c) chain_grows;
+    marked = k.views.marked;
+    some = k.views.some;
+  }
+
+  -- what each other name keeps
+  others_grow : (j : ℕ) → j ≢ i → (IsThere (s.node j) → (s.node j).leaving ≡ false → Spares j e) → NodeOk grown s.group j (s.node j)
+  others_grow j other spares =
+      let ok = k.each j in
+      record {
+        small = ok.small;
+        list = λ u. begins_trans (ok.list u) chain_grows;
+        blank = ok.blank;
+        fronts = ok.fronts;
+        leads = λ l.
+            let o = ok.leads l in
+            absurd (other (sym l.by ∙ ap (λ (x : List Entry). (view_of x).by) (o.chain ∙ sym list_is) ∙ leads.by));
+        promised = ok.promised;
+        stays = λ t l a h m. ⊎_elim
+            (λ (x : Begins a (s.node i).list). stay (ok.stays t l a (subst (Begins a) list_is x) m) t l)
+            (λ (x : a ≡ (s.node i).list ++ e ∷ []). subst (λ y. mem y j ≡ true) (x ∙ sym chain_is) m)
+            (begins_pushed e (subst (Begins a) chain_is h));
+        joined = ok.joined;
+        own = ok.own;
+        late = λ u l. let o = ok.late u l in record {
+          before = o.before;
+          last = o.last;
+          list = o.list;
+          member = o.member;
+          ended = o.ended;
+          lines = λ x d h. begins_trans (o.lines x d h) (line_grows x);
+        };
+        ballot = λ u b. let o = ok.ballot u b in record { small = o.small; above = o.above; by = o.by; staying = o.staying; member = o.member };
+        complete = ok.complete;
+        heard = ok.heard;
+      }
+    where
+      stay : mem (chain_of s.views) j ≡ true → IsThere (s.node j) → (s.node j).leaving ≡ false → mem (chain_of grown) j ≡ true
+      stay m t l = subst (λ y. mem y j ≡ true) (sym chain_is)
+          (mem_push (s.node i).list e j good_grown (spares t l) (subst (λ y. mem y j ≡ true) (sym list_is) m))
+
+  pub chain_change : (n : Node) → n.list ≡ (s.node i).list ++ e ∷ [] → n.has_log ≡ true → n.start ≡ (s.node i).start → n.promise ≡ (s.node i).promise
+      → n.ballot ≡ (s.node i).ballot
+      → (n.leaving ≡ false → (s.node i).leaving ≡ false) → (n.departed ≡ true → ((s.node i).departed ≡ true) ⊎ DepartedOk s.node grown i)
+      → ((j : ℕ) → j ≢ i → IsThere (s.node j) → (s.node j).leaving ≡ false → Spares j e)
+      → NodeOk grown s.group i n → Kept (record s { node = put s.node i n; views = grown })
+  chain_change n list_n log start promise ballot staying gone spares ok =
+      let chain_n : n.list ≡ chain_of grown = list_n ∙ sym chain_is in
+      record {
+        views = views_grow;
+        group = begins_trans k.group chain_grows;
+        each = put_at (λ j m. NodeOk grown s.group j m) s.node i n ok (λ j other. others_grow j other (spares j other));
+        shown = λ x name l h. shown_later s.node (put s.node i n) x name l up_all (k.shown x name l h);
+        still = put_at (λ v m. (l : List Entry) → s.shown (key m.promise) v ≡ Some l → s.views.decided (key m.promise) ≡ false → m.list ≡ l) s.node i n
+            (λ l h none. let now = k.views.now in let at = ap (λ p. s.views.decided (key p)) (promise ∙ leads.acts ∙ view_is) in absurd (cc))
+            (λ v _. k.still v);
+        short = λ c v l u b h w. absurd_short c v l u b h w;
+        served = λ c h l. put_at
+            (λ c m. IsUp m → m.ballot ≡ true → s.served (key m.promise) h ≡ true → s.shown (key m.promise) h ≡ Some l
+            → ServedOk (put s.node i n) grown (key m.promise) l)
+            s.node i n
+            (λ u b. absurd (no_ballot (sym ballot ∙ b)))
+            (λ c other u b a d. let o = served_later s.node (put s.node i n) s.views (key (s.node c).promise) l up_all (k.served c h l u b a d) in
+            record { chain = begins_trans o.chain chain_grows; promised = o.promised }) c;
+        sent = k.sent;
+        witness = λ m low high. witness_later s.node (put s.node i n) s.group m up_all (k.witness m low high);
+        departed = put_at (λ d m. m.departed ≡ true → DepartedOk (put s.node i n) grown d) s.node i n
+            (λ h. ⊎_elim
+            (λ (o : (s.node i).departed ≡ true). departed_grows i (k.departed i o))
+            (λ (o : DepartedOk s.node grown i). departed_later s.node (put s.node i n) grown i up_all o)
+            (gone h))
+            (λ d other h. departed_grows d (k.departed d h));
+        enough = λ x decided holders counts stored much. split (holders i)
+            (λ t. subst (Begins (opening (s.views.chosen x))) (ap (λ (m : Node). m.list) (put_same s.node i n) ∙ chain_n) (stored i t))
+            (λ f. begins_trans (k.enough x decided holders counts (λ h y. ⊎_elim
+            (λ (z : (h ≡ i) × (put s.node i n h ≡ n)). let u : holders i ≡ true = subst (λ j. holders j ≡ true) z.0 y in absurd (cc))
+            (λ (z : (h ≢ i) × (put s.node i n h ≡ s.node h)). subst (λ (m : Node). Begins (opening (s.views.chosen x)) m.list) z.1 (stored h y))
+            (put_cases s.node i n h)) much) chain_grows);
+      }
+    where
+      no_ballot : (s.node i).ballot ≡ true → ⊥
+      no_ballot b =
+          let o = (k.each i).ballot leads.up b in
+          let a = o.above in
+          let p = ap key (leads.acts ∙ view_is) in omega arith
+
+      up_all : (j : ℕ) → Later (s.node j) (put s.node i n j)
+      up_all = later_all s.node i n (record {
+        list = subst (Begins (s.node i).list) (sym list_n) (begins_more (s.node i).list (e ∷ []));
+        log = λ h. log;
+        start = λ h. start;
+        there = λ h. leads.up.there;
+        staying = staying;
+        promise = let z = ap key promise in omega arith;
+      })
+
+      departed_grows : (d : ℕ) → DepartedOk s.node s.views d → DepartedOk (put s.node i n) grown d
+      departed_grows d h = let o = departed_later s.node (put s.node i n) s.views d up_all h in
+          record { before = o.before; chain = begins_trans o.chain chain_grows; stored = o.stored }
+
+      -- nobody voted for a ballot above the current view and numbers
+      absurd_short : (c v : ℕ) (l : List Entry) → IsUp (put s.node i n c) → (put s.node i n c).ballot ≡ true
+          → s.shown (key (put s.node i n c).promise) v ≡ Some l → IsUp (put s.node i n v)
+          → (length (put s.node i n v).list ≤ length l) ⊎ (length (put s.node i n v).list ≤ length (put s.node i n c).list)
+      absurd_short c v l = put_at
+          (λ c m. IsUp m → m.ballot ≡ true → s.shown (key m.promise) v ≡ Some l → IsUp (put s.node i n v)
+          → (length (put s.node i n v).list ≤ length l) ⊎ (length (put s.node i n v).list ≤ length m.list))
+          s.node i n
+          (λ u b. absurd (no_ballot (sym ballot ∙ b)))
+          (λ c other u b h. put_at
+          (λ v m. s.shown (key (s.node c).promise) v ≡ Some l → IsUp m → (length m.list ≤ length l) ⊎ (length m.list ≤ length (s.node c).list))
+          s.node i n
+          (λ h w. let o = (k.each c).ballot u b in let a = o.above in let p = (k.shown (key (s.node c).promise) i l h).promised in
+          let q = ap key (leads.acts ∙ view_is) in absurd (omega arith))
+          (λ v differ h w. k.short c v l u b h w) v h) c

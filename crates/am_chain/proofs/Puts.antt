@@ -1,0 +1,54 @@
+-- Changed functions, and counts.
+use Rattle.am_chain.proofs.Words.{split, ◌≡◌, ◌≢◌, ◌⊎◌, ⊎_elim, inl, inr, ℕ, zero, suc, ◌<◌, ◌≤◌, ◌==◌, ◌&&◌, Bool, true, false, refl, sym, subst}
+use Rattle.am_chain.proofs.Words.{arith, nat_tests, put, put2, count}
+
+pub put_cases : {A : Type 0} (f : ℕ → A) (i : ℕ) (x : A) (j : ℕ) → ((j ≡ i) × (put f i x j ≡ x)) ⊎ ((j ≢ i) × (put f i x j ≡ f j))
+unfolding put
+put_cases f i x j = split (j == i)
+    (λ t. inl (grind (arith, nat_tests), rw t refl))
+    (λ t. inr (grind (arith, nat_tests), rw t refl))
+
+pub put_same : {A : Type 0} (f : ℕ → A) (i : ℕ) (x : A) → put f i x i ≡ x
+put_same f i x = ⊎_elim (λ (c : (i ≡ i) × (put f i x i ≡ x)). c.1) (λ (c : (i ≢ i) × (put f i x i ≡ f i)). absurd (c.0 refl)) (put_cases f i x i)
+
+pub put_other : {A : Type 0} (f : ℕ → A) (i : ℕ) (x : A) (j : ℕ) → j ≢ i → put f i x j ≡ f j
+put_other f i x j h = ⊎_elim (λ (c : (j ≡ i) × (put f i x j ≡ x)). absurd (h c.0)) (λ (c : (j ≢ i) × (put f i x j ≡ f j)). c.1) (put_cases f i x j)
+
+-- what holds of the new value and of each other old one
+pub put_at : {A : Type 0} (P : ℕ → A → Type 0) (f : ℕ → A) (i : ℕ) (x : A) → P i x → ((j : ℕ) → j ≢ i → P j (f j)) → (j : ℕ) → P j (put f i x j)
+put_at P f i x new old j = ⊎_elim
+    (λ (c : (j ≡ i) × (put f i x j ≡ x)). subst (λ y. P j y) (sym c.1) (subst (λ k. P k x) (sym c.0) new))
+    (λ (c : (j ≢ i) × (put f i x j ≡ f j)). subst (λ y. P j y) (sym c.1) (old j c.0))
+    (put_cases f i x j)
+
+pub put2_cases : {A : Type 0} (f : ℕ → ℕ → A) (a b : ℕ) (x : A) (c d : ℕ)
+    → ((c ≡ a) × (d ≡ b) × (put2 f a b x c d ≡ x)) ⊎ (((c ≡ a) × (d ≡ b) → ⊥) × (put2 f a b x c d ≡ f c d))
+unfolding put2
+put2_cases f a b x c d = split ((c == a) && (d == b))
+    (λ t. let both : (c ≡ a) × (d ≡ b) = grind (arith, nat_tests) in inl (both.0, both.1, rw t refl))
+    (λ t. let no : (c ≡ a) × (d ≡ b) → ⊥ = grind (arith, nat_tests) in inr (no, rw t refl))
+
+-- each that passes one test passes another: there are no more of them
+pub count_within : (p q : ℕ → Bool) (n : ℕ) → ((j : ℕ) → p j ≡ true → q j ≡ true) → count p n ≤ count q n
+unfolding count
+count_within p q zero h = omega arith
+count_within p q (suc n) h =
+    let r = count_within p q n h in
+    split (p n)
+    (λ t. let u = h n t in rw (t, u) (omega arith))
+    (λ t. split (q n) (λ u. rw (t, u) (omega arith)) (λ u. rw (t, u) (omega arith)))
+
+-- and fewer, where one passes the other alone
+pub count_below : (p q : ℕ → Bool) (n k : ℕ) → ((j : ℕ) → p j ≡ true → q j ≡ true) → k < n → p k ≡ false → q k ≡ true → count p n < count q n
+unfolding count
+count_below p q zero k h l x y = absurd (omega arith)
+count_below p q (suc n) k h l x y = split (k == n)
+    (λ t. let e : k ≡ n = grind (arith, nat_tests) in
+    let a : p n ≡ false = subst (λ m. p m ≡ false) e x in
+    let b : q n ≡ true = subst (λ m. q m ≡ true) e y in
+    let r = count_within p q n h in rw (a, b) (omega arith))
+    (λ t. let e : k ≢ n = grind (arith, nat_tests) in
+    let r = count_below p q n k h (omega arith) x y in
+    split (p n)
+    (λ v. let u = h n v in rw (v, u) (omega arith))
+    (λ v. split (q n) (λ u. rw (v, u) (omega arith)) (λ u. rw (v, u) (omega arith))))

@@ -1,0 +1,109 @@
+-- What a group keeps at its start.
+use Rattle.am_chain.proofs.Words.{◌≡◌, ⊎_elim, ℕ, ◌<◌, ◌≤◌, nat_le, if◌then◌else◌, Bool, true, false, List, [], ◌∷◌, ◌++◌, length, refl, sym, subst}
+use Rattle.am_chain.proofs.Words.{arith, nat_tests, Entry, View, has, no_stamp, blank, fits, fold, Begins, IsGood, mem, key, begins_refl, begins_nil}
+use Rattle.am_chain.proofs.Words.{begins_length, begins_same, begins_pushed, below_length, good_nil, good_push, mem_nil, mem_viewed, viewed_mem}
+use Rattle.am_chain.proofs.Words.{view_viewed, opening, Views, MayBegin, first_stamp, first_choice, start, NodeOk, Kept}
+
+first_fits : (founders : List ℕ) (first resilience : ℕ) → has founders first ≡ true → fits blank (View (first_stamp first) founders resilience) ≡ true
+unfolding fits
+first_fits founders first resilience h = let z : nat_le 0 resilience ≡ true = grind (arith, nat_tests) in rw (h, z) refl
+
+module _ (founders : List ℕ) (first resilience : ℕ) (may : MayBegin founders first resilience) where
+  first_list : List Entry
+  first_list = opening (first_choice founders first resilience)
+
+  first_views : Views
+  first_views = (start founders first resilience).views
+
+  first_good : IsGood (opening (first_choice founders first resilience))
+  unfolding fold
+  first_good = good_push [] (View (first_stamp first) founders resilience) good_nil (first_fits founders first resilience may.among) may.small
+
+  nobody : (a : List Entry) (j : ℕ) → length a ≤ 0 → mem a j ≡ true → ⊥
+  nobody a j short m = mem_nil j (subst (λ l. mem l j ≡ true) (sym (begins_same (begins_nil a) short)) m)
+
+  member_first : (a : List Entry) (j : ℕ) → Begins a (opening (first_choice founders first resilience)) → mem a j ≡ true → has founders j ≡ true
+  member_first a j h m = ⊎_elim
+      (λ (x : Begins a []). absurd (nobody a j (begins_length x) m))
+      (λ (x : a ≡ [] ++ View (first_stamp first) founders resilience ∷ []). mem_viewed [] (first_stamp first) founders resilience j
+      (subst (λ l. mem l j ≡ true) x m))
+      (begins_pushed {a = a} {b = []} (View (first_stamp first) founders resilience) h)
+
+  first_member : (j : ℕ) → has founders j ≡ true → mem (opening (first_choice founders first resilience)) j ≡ true
+  first_member j h = viewed_mem [] (first_stamp first) founders resilience j first_good h
+
+  first_ok : (b : Bool) (j : ℕ) → has founders j ≡ b → NodeOk (start founders first resilience).views (opening (first_choice founders first resilience)) j
+      (record {
+        list = if b then opening (first_choice founders first resilience) else [];
+        has_log = b;
+        stopped = false;
+        departed = false;
+        leaving = false;
+        start = 1;
+        promise = if b then first_stamp first else no_stamp;
+        told = 0;
+        acc = 0;
+        ballot = false;
+      })
+  first_ok true j h = record {
+    small = may.small;
+    list = λ u. begins_refl (opening (first_choice founders first resilience));
+    blank = λ z. absurd (cc);
+    fronts = record { told = omega arith; acc = omega arith; within = omega arith; delivered = begins_nil (opening (first_choice founders first resilience)) };
+    leads = λ l. record { chain = refl; member = first_member j h };
+    promised = λ t m. absurd (mem_nil j m);
+    stays = λ t l a b m. first_member j h;
+    joined = λ l. record { accepted = omega arith; member = first_member j h };
+    own = λ u a d below b m. let x = below_length below in let y = begins_length b in let z : length a ≤ 0 = omega arith in absurd (nobody a j z m);
+    late = λ u l. absurd (omega arith);
+    ballot = λ u b. absurd (cc);
+    complete = λ x c t m. begins_refl (opening (first_choice founders first resilience));
+    heard = λ x d l. omega arith;
+  }
+  first_ok false j h =
+      let zero_small : 0 < 256 = omega arith in
+      record {
+        small = zero_small;
+        list = λ u. let z = u.log in absurd (cc);
+        blank = λ z. refl;
+        fronts = record {
+          told = omega arith;
+          acc = omega arith;
+          within = omega arith;
+          delivered = begins_nil (opening (first_choice founders first resilience));
+        };
+        leads = λ l. let z = l.up.log in absurd (cc);
+        promised = λ t m. absurd (mem_nil j m);
+        stays = λ t l a b m. let y = member_first a j b m in absurd (cc);
+        joined = λ l. absurd (cc);
+        own = λ u. let z = u.log in absurd (cc);
+        late = λ u l. let z = u.log in absurd (cc);
+        ballot = λ u b. absurd (cc);
+        complete = λ x c t m. absurd (cc);
+        heard = λ x d l. omega arith;
+      }
+
+  pub start_kept : Kept (start founders first resilience)
+  start_kept = record {
+    views = record {
+      now = grind (arith, nat_tests);
+      order = λ x d. grind (arith, nat_tests);
+      stamps = λ x d. grind (arith, nat_tests);
+      good = first_good;
+      view = view_viewed [] (first_stamp first) founders resilience;
+      opens = begins_refl (opening (first_choice founders first resilience));
+      complete = λ x d. begins_refl (opening (first_choice founders first resilience));
+      marked = λ x d. d;
+      some = (key (first_stamp first), grind (arith, nat_tests));
+    };
+    group = begins_refl (opening (first_choice founders first resilience));
+    each = λ j. first_ok (has founders j) j refl;
+    shown = λ x j l h. absurd (cc);
+    still = λ v l h. absurd (cc);
+    short = λ c v l u b h. absurd (cc);
+    served = λ c h l u b x. absurd (cc);
+    sent = λ x h e. absurd (cc);
+    witness = λ n low high. absurd (omega arith);
+    departed = λ d h. absurd (cc);
+    enough = λ x d holders counts stored much. begins_refl (opening (first_choice founders first resilience));
+  }

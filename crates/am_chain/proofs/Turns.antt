@@ -1,0 +1,162 @@
+-- The requests of a name along a list.
+use Rattle.am_base.proofs.Greatest.{split}
+use Rattle.std.proofs.Common.{◌≡◌, ◌⊎◌, ⊎_elim, inl, inr, ℕ, zero, suc, ◌+◌, ◌<◌, ◌≤◌, ◌==◌, List, [], ◌∷◌, ◌++◌, length, Some, slice_get, refl, sym, ap, ◌∙◌}
+use Rattle.std.proofs.Common.{subst, arith}
+use Rattle.std.specs.List.{range_with_len}
+use Rattle.am_base.specs.declared.image.Image.{Image}
+use Rattle.am_base.specs.declared.entry.Entry.{Entry}
+use Rattle.am_base.specs.declared.entry.Entry.TheVariants.{Data}
+use Rattle.am_base.specs.Names.{place_of, life_of}
+use Rattle.am_base.specs.Lists.{blank, after, fold, AllFit, request_in, requests_of}
+use Rattle.am_chain_lists.proofs.Rows.{row_at, long_after}
+use Rattle.am_chain.specs.OrdersClaims.{InTurn, RequestsInTurn, NoSendTwice, SendersInOrder, SendStandsOnce}
+use Rattle.am_chain_lists.proofs.Requests.{IsNext, own_request, entry_goes_on, next_at_first}
+
+-- ---- one entry before a list
+
+before_none : (name next : ℕ) (e : Entry) (es : List Entry) → request_in name e ≡ [] → InTurn name next es → InTurn name next (e ∷ es)
+before_none name next e es none h = subst (λ found. found ++ requests_of name es ≡ range_with_len next (length (found ++ requests_of name es))) (sym none) h
+
+before_next : (name next : ℕ) (e : Entry) (es : List Entry) → request_in name e ≡ next ∷ [] → InTurn name (next + 1) es → InTurn name next (e ∷ es)
+before_next name next e es one h = subst (λ found. found ++ requests_of name es
+    ≡ range_with_len next (length (found ++ requests_of name es))) (sym one) (ap (λ found. next ∷ found) h)
+
+-- ---- in turn
+
+fit_in_turn : (image : Image) (n : ℕ) (es : List Entry) (name next : ℕ) → length image.rows ≡ 16 → 0 < n → AllFit image n es
+    → IsNext (row_at image (place_of name)) (life_of name) next → InTurn name next es
+unfolding AllFit
+fit_in_turn image n [] name next long up fit h = refl
+fit_in_turn image n (e ∷ es) name next long up fit h =
+    let then_long = long_after image n e long in
+    let then_up : 0 < n + 1 = omega arith in
+    ⊎_elim
+    (λ (x : (request_in name e ≡ []) × IsNext (row_at (after image n e) (place_of name)) (life_of name) next). before_none name next e es x.0
+    (fit_in_turn (after image n e) (n + 1) es name next then_long then_up fit.1 x.1))
+    (λ (x : (request_in name e ≡ next ∷ []) × IsNext (row_at (after image n e) (place_of name)) (life_of name) (next + 1)). before_next name next e es x.0
+    (fit_in_turn (after image n e) (n + 1) es name (next + 1) then_long then_up fit.1 x.1))
+    (entry_goes_on image n e name next long up fit.0 h)
+
+pub requests_in_turn : RequestsInTurn
+requests_in_turn list fit name = let one : 0 < 1 = omega arith in fit_in_turn blank 1 list name 1 refl one fit (next_at_first name)
+
+-- ---- and so at most once
+
+-- what a list says of all but its first entry
+abbrev Rest : ℕ → ℕ → Entry → List Entry → Type 0
+Rest name next e es = ((request_in name e ≡ []) × InTurn name next es) ⊎ ((request_in name e ≡ next ∷ []) × InTurn name (next + 1) es)
+
+rest_of : (name next : ℕ) (e : Entry) (es : List Entry) → InTurn name next (e ∷ es) → Rest name next e es
+rest_of name next (Data from req body) es h = split (from == name)
+    (λ t. let all : req ∷ requests_of name es ≡ next ∷ range_with_len (next + 1) (length (requests_of name es)) = rw t at h in
+    let first : req ≡ next = cc in
+    inr (rw t (ap (λ i. i ∷ []) first), cc))
+    (λ f. inl (rw f refl, rw f at h))
+rest_of name next _ es h = inl (refl, h)
+
+-- where the first entry is a send of the name, that is the next request
+first_is_next : (name next req : ℕ) (body : List ℕ) (e : Entry) (es : List Entry) → InTurn name next (e ∷ es) → Some e ≡ Some (Data name req body)
+    → (req ≡ next) × InTurn name (next + 1) es
+first_is_next name next req body e es h is =
+    let same : e ≡ Data name req body = cc in
+    let found : request_in name e ≡ req ∷ [] = ap (request_in name) same ∙ own_request name req body in
+    ⊎_elim
+    (λ (x : (request_in name e ≡ []) × InTurn name next es). let none = x.0 in absurd (cc))
+    (λ (x : (request_in name e ≡ next ∷ []) × InTurn name (next + 1) es). let one = x.0 in (cc, x.1))
+    (rest_of name next e es h)
+
+-- how many more come, so many requests there are
+none_above : (name next req : ℕ) (body : List ℕ) (list : List Entry) (k : ℕ) → InTurn name next list → slice_get list k ≡ Some (Data name req body)
+    → req < next + length (requests_of name list)
+none_above name next req body [] k h is = absurd (cc)
+none_above name next req body (e ∷ es) zero h is =
+    let same : e ≡ Data name req body = cc in
+    let found : request_in name e ≡ req ∷ [] = ap (request_in name) same ∙ own_request name req body in
+    let long : length (requests_of name (e ∷ es)) ≡ suc (length (requests_of name es)) = ap (λ l. length (l ++ requests_of name es)) found in
+    let first = (first_is_next name next req body e es h is).0 in
+    omega arith
+none_above name next req body (e ∷ es) (suc k) h is = ⊎_elim
+    (λ (x : (request_in name e ≡ []) × InTurn name next es).
+    let rest = none_above name next req body es k x.1 is in
+    let long : length (requests_of name (e ∷ es)) ≡ length (requests_of name es) = ap (λ l. length (l ++ requests_of name es)) x.0 in
+    omega arith)
+    (λ (x : (request_in name e ≡ next ∷ []) × InTurn name (next + 1) es).
+    let rest = none_above name (next + 1) req body es k x.1 is in
+    let long : length (requests_of name (e ∷ es)) ≡ suc (length (requests_of name es)) = ap (λ l. length (l ++ requests_of name es)) x.0 in
+    omega arith)
+    (rest_of name next e es h)
+
+-- a request that stands in a whole list is one of so many
+pub request_within : (list : List Entry) (name req : ℕ) (body : List ℕ) (k : ℕ) → AllFit blank 1 list → slice_get list k ≡ Some (Data name req body)
+    → req ≤ length (requests_of name list)
+request_within list name req body k fit is = let low = none_above name 1 req body list k (requests_in_turn list fit name) is in omega arith
+
+-- ---- the row at the end
+
+next_fold : (image : Image) (n : ℕ) (es : List Entry) (name next : ℕ) → length image.rows ≡ 16 → 0 < n → AllFit image n es
+    → IsNext (row_at image (place_of name)) (life_of name) next
+    → IsNext (row_at (fold image n es) (place_of name)) (life_of name) (next + length (requests_of name es))
+unfolding AllFit fold
+next_fold image n [] name next long up fit h = let z : next ≡ next + 0 = omega arith in subst (IsNext (row_at image (place_of name)) (life_of name)) z h
+next_fold image n (e ∷ es) name next long up fit h =
+    let then_long = long_after image n e long in
+    let then_up : 0 < n + 1 = omega arith in
+    let row = row_at (fold (after image n e) (n + 1) es) (place_of name) in
+    ⊎_elim
+    (λ (x : (request_in name e ≡ []) × IsNext (row_at (after image n e) (place_of name)) (life_of name) next).
+    let same : next + length (requests_of name es) ≡ next + length (requests_of name (e ∷ es)) = ap (λ l. next + length (l ++ requests_of name es)) (sym x.0) in
+    subst (IsNext row (life_of name)) same (next_fold (after image n e) (n + 1) es name next then_long then_up fit.1 x.1))
+    (λ (x : (request_in name e ≡ next ∷ []) × IsNext (row_at (after image n e) (place_of name)) (life_of name) (next + 1)).
+    let long_ : suc (length (requests_of name es)) ≡ length (requests_of name (e ∷ es)) = ap (λ l. length (l ++ requests_of name es)) (sym x.0) in
+    let same : (next + 1) + length (requests_of name es) ≡ next + length (requests_of name (e ∷ es)) = omega arith in
+    subst (IsNext row (life_of name)) same (next_fold (after image n e) (n + 1) es name (next + 1) then_long then_up fit.1 x.1))
+    (entry_goes_on image n e name next long up fit.0 h)
+
+-- at the end of a whole list a name's next request is the one after so many
+pub next_in : (list : List Entry) (name : ℕ) → AllFit blank 1 list
+    → IsNext (row_at (fold blank 1 list) (place_of name)) (life_of name) (1 + length (requests_of name list))
+next_in list name fit = let one : 0 < 1 = omega arith in next_fold blank 1 list name 1 refl one fit (next_at_first name)
+
+-- no request below the next
+none_below : (name next req : ℕ) (body : List ℕ) (list : List Entry) (k : ℕ) → InTurn name next list → slice_get list k ≡ Some (Data name req body) → next ≤ req
+none_below name next req body [] k h is = absurd (cc)
+none_below name next req body (e ∷ es) zero h is = let first = (first_is_next name next req body e es h is).0 in omega arith
+none_below name next req body (e ∷ es) (suc k) h is = ⊎_elim
+    (λ (x : (request_in name e ≡ []) × InTurn name next es). none_below name next req body es k x.1 is)
+    (λ (x : (request_in name e ≡ next ∷ []) × InTurn name (next + 1) es). let above = none_below name (next + 1) req body es k x.1 is in omega arith)
+    (rest_of name next e es h)
+
+-- after a send of the name stands no other with its request
+none_after : (name next req : ℕ) (body other : List ℕ) (e : Entry) (es : List Entry) (k : ℕ) → InTurn name next (e ∷ es) → Some e ≡ Some (Data name req body)
+    → slice_get es k ≡ Some (Data name req other) → ⊥
+none_after name next req body other e es k h is also =
+    let first = first_is_next name next req body e es h is in
+    let above = none_below name (next + 1) req other es k first.1 also in
+    omega arith
+
+one_place : (name next req : ℕ) (body other : List ℕ) (list : List Entry) (k l : ℕ) → InTurn name next list → slice_get list k ≡ Some (Data name req body)
+    → slice_get list l ≡ Some (Data name req other) → k ≡ l
+one_place name next req body other [] k l h is also = absurd (cc)
+one_place name next req body other (e ∷ es) zero zero h is also = refl
+one_place name next req body other (e ∷ es) zero (suc l) h is also = absurd (none_after name next req body other e es l h is also)
+one_place name next req body other (e ∷ es) (suc k) zero h is also = absurd (none_after name next req other body e es k h also is)
+one_place name next req body other (e ∷ es) (suc k) (suc l) h is also = ⊎_elim
+    (λ (x : (request_in name e ≡ []) × InTurn name next es). ap suc (one_place name next req body other es k l x.1 is also))
+    (λ (x : (request_in name e ≡ next ∷ []) × InTurn name (next + 1) es). ap suc (one_place name (next + 1) req body other es k l x.1 is also))
+    (rest_of name next e es h)
+
+pub no_send_twice : NoSendTwice
+no_send_twice list fit name req zero l body other is also = absurd (cc)
+no_send_twice list fit name req (suc k) zero body other is also = absurd (cc)
+no_send_twice list fit name req (suc k) (suc l) body other is also = ap suc (one_place name 1 req body other list k l (requests_in_turn list fit name) is also)
+
+-- ---- of a group
+
+pub senders_in_order : SendersInOrder
+senders_in_order w fit = record { each = requests_in_turn w.group fit }
+
+pub send_stands_once : SendStandsOnce
+send_stands_once w fit name req number body is = record {
+  there = (body, is);
+  only = λ k other also. no_send_twice w.group fit name req k number other body also is;
+}

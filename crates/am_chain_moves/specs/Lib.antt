@@ -1,5 +1,0 @@
-pub mod Group
-pub mod Moves
-pub mod Runs
-pub mod Kept
-pub mod Claims

@@ -1,5 +1,0 @@
-use Rattle.am_effects.proofs.Hearing.{hearing_has_effects}
-use Rattle.am_effects.proofs.each_hearing_has_its_effect.Goals as goal
-
-pub returns : goal.returns
-returns c = hearing_has_effects

@@ -1,0 +1,224 @@
+-- Where a group may be repaired and its lists agree, the world is calm; so the schedule repairs it.
+use Rattle.am_headline.proofs.RepairWords.{false_from_ne_true, inl, inr, ◌≡◌, ℕ, ◌<◌, true, false, length, refl, sym, ap, ◌∙◌, subst, arith, cases_lt, Image}
+use Rattle.am_headline.proofs.RepairWords.{Rules, place_of, life_of, has, members_of, members_at, image-top, Status, Node, top, image_of, view, members, acts}
+use Rattle.am_headline.proofs.RepairWords.{is_member, stranger, has_log, has_departed, World, current, is_stopped, run, MayRepair, AllOwned, run_owned}
+use Rattle.am_headline.proofs.RepairWords.{IsAtRest, Repair, Leads, ◌≤◌, split, Follows, IsApart, IsLeaver, is_past, Calm, Agree, RepairsWhereListsAgree}
+use Rattle.am_headline.specs.Claim.{IsOut}
+use Rattle.am_model.specs.declared.status.Status.TheVariants as status
+use Rattle.am_headline.proofs.{Nodes.acting, Nodes.leading, Nodes.no_open, Going.member_there, Schedules.letter_within, Fine.Fine, Fine.IsThere}
+use Rattle.am_headline.proofs.{Repaired.AllStored, Repaired.all_catch_up, OldLives.OldStopped, OldLives.old_lives, Leavers.Leaves, Leavers.run_leaves}
+
+-- ---- who is there
+
+-- a life that hasn't begun doesn't act
+born : (rules : Rules) (w : World) (name : ℕ) → AllOwned rules w → w.lives (place_of name) < life_of name → acts (w.nodes name) ≡ true → ⊥
+born rules w name laws low a =
+    let is = laws.blanks.base.named.unborn name low in
+    let t : acts (stranger rules name) ≡ true = subst (λ (m : Node). acts m ≡ true) is a in
+    let member = (acting (stranger rules name) t).0 in
+    cc
+
+pub few_acting : (rules : Rules) (w : World) (name : ℕ) → AllOwned rules w → acts (w.nodes name) ≡ true → name < 256
+few_acting rules w name laws a = elim (cases_lt name 256) [
+  | inl low ↦ low
+  | inr high ↦ (let most = laws.blanks.base.named.most (place_of name) in absurd (born rules w name laws (omega arith) a))
+]
+
+acting_there : (m : Node) → acts m ≡ true → has_departed m.status ≡ false
+acting_there m a = member_there m (acting m a).0
+
+-- who is out is no member of the sequencer's list
+pub out_at_top : (w : World) (q : Node) (name : ℕ) → q.core.acc ≤ top q → IsOut w q name → has_departed (w.nodes name).status ≡ false
+    → has (members q) name ≡ false
+out_at_top w q name low out here = ap (λ (i : Image). has (members_of i) name) (sym (image-top q.core.log)) ∙ out here (top q) low (omega arith)
+
+-- who acts and is a member of its list runs, and isn't leaving
+pub member_runs : (w : World) (place name : ℕ) → MayRepair w place
+    → (let q = w.nodes (current w place) in q.core.acc ≤ top q → has (members q) name ≡ true → is_stopped w name ≡ false)
+member_runs w place name may low there = false_from_ne_true (is_stopped w name)
+    (λ t. (let none = out_at_top w (w.nodes (current w place)) name low (may.nobody_stopped name t) (acting_there (w.nodes name) (may.all_act name there).0)
+    in cc))
+
+pub member_stays : (w : World) (place name : ℕ) → MayRepair w place
+    → (let q = w.nodes (current w place) in q.core.acc ≤ top q → has (members q) name ≡ true → (w.nodes name).leaving ≡ false)
+member_stays w place name may low there = false_from_ne_true (w.nodes name).leaving
+    (λ t. (let none = out_at_top w (w.nodes (current w place)) name low (may.nobody_leaves name t) (acting_there (w.nodes name) (may.all_act name there).0)
+    in cc))
+
+there_now : (rules : Rules) (w : World) (name : ℕ) → AllOwned rules w → OldStopped w → acts (w.nodes name) ≡ true → is_stopped w name ≡ false
+    → IsThere w name
+there_now rules w name laws old a runs =
+    let least = old.born (place_of name) in
+    record {
+      current_ = elim (cases_lt (w.lives (place_of name)) (life_of name)) [
+        | inl low ↦ absurd (born rules w name laws low a)
+        | inr at_least ↦ elim (cases_lt (life_of name) (w.lives (place_of name))) [
+          | inl older ↦ absurd (let t = old.old name older in cc)
+          | inr at_most ↦ omega arith
+        ]
+      ];
+      runs = runs;
+    }
+
+-- ---- the beginning
+
+-- who isn't a Member and hasn't departed has no list
+no_list : (s : Status) → is_member s ≡ false → has_departed s ≡ false → has_log s ≡ false
+no_list status.Stranger member gone = refl
+no_list status.Asking member gone = refl
+no_list status.Member member gone = absurd (cc)
+no_list status.Departed member gone = absurd (cc)
+
+-- who has or had one, and hasn't departed, is a Member
+has_list : (s : Status) → has_log s ≡ true → has_departed s ≡ false → is_member s ≡ true
+has_list status.Member log gone = refl
+has_list _ log gone = absurd (cc)
+
+abbrev repair_of : World → ℕ → Repair
+repair_of w q = record {
+  by = q;
+  view = view (w.nodes q);
+  at = (image_of (w.nodes q)).view_number;
+  members = members (w.nodes q);
+  gone = is_past (image_of (w.nodes q));
+  high = top (w.nodes q);
+  sent = length w.letters;
+}
+
+-- a world of a run that may be repaired, and in which lists agree
+record Begun (rules : Rules) (w : World) (place : ℕ) : Type 0 where
+  laws : AllOwned rules w
+  old : OldStopped w
+  low : place < 16
+  may : MayRepair w place
+  agree : Agree w (w.nodes (current w place))
+  leaves : (name : ℕ) → Leaves (w.nodes name)
+
+within : (rules : Rules) (w : World) (place : ℕ) → Begun rules w place → (let q = w.nodes (current w place) in q.core.acc ≤ top q)
+within rules w place b =
+    let q = current w place in
+    let f = (b.laws.each q (few_acting rules w q b.laws (leading (w.nodes q) b.may.leads).0)).fronts in
+    f.accepted
+
+at_rest : (rules : Rules) (w : World) (place name : ℕ) → Begun rules w place → has (members (w.nodes (current w place))) name ≡ true
+    → IsAtRest (w.nodes name)
+at_rest rules w place name b there =
+    let a = (b.may.all_act name there).0 in
+    record {
+      stays = member_stays w place name b.may (within rules w place b) there;
+      no_ballot = no_open (w.nodes name) (b.laws.blanks.base.each name (few_acting rules w name b.laws a)).balloted a;
+    }
+
+listed : (rules : Rules) (w : World) (place : ℕ) → Begun rules w place → has (members (w.nodes (current w place))) (current w place) ≡ true
+listed rules w place b =
+    let q = current w place in
+    let a = (leading (w.nodes q) b.may.leads).0 in
+    subst (λ i. has (members (w.nodes q)) i ≡ true) (b.laws.blanks.base.named.who q) ((b.laws.each q (few_acting rules w q b.laws a)).leads b.may.leads)
+
+leads_first : (rules : Rules) (w : World) (place : ℕ) → Begun rules w place → (let q = current w place in Leads (repair_of w q) (w.nodes q))
+leads_first rules w place b =
+    let q = current w place in
+    let m = w.nodes q in
+    let own = b.agree.each q (listed rules w place b) in
+    record {
+      leads = b.may.leads;
+      view_ = refl;
+      number = refl;
+      rest = at_rest rules w place q b (listed rules w place b);
+      high = omega arith;
+      reached = own.reached;
+      fit = λ k e low there. b.agree.fit k e there;
+      members_ = λ name k there above within. (let last : k ≡ top m = omega arith in ap (λ n. has (members_at m.core.log n) name) last
+          ∙ ap (λ (i : Image). has (members_of i) name) (image-top m.core.log) ∙ there);
+      gone = λ name t. t;
+      counted = b.agree.counted;
+    }
+
+follows_first : (rules : Rules) (w : World) (place name : ℕ) → Begun rules w place
+    → (let q = current w place in has (members (w.nodes q)) name ≡ true → Follows (repair_of w q) (w.nodes q) (w.nodes name))
+follows_first rules w place name b there =
+    let act = b.may.all_act name there in
+    let g = b.agree.each name there in
+    record {
+      acts_ = act.0;
+      view_ = act.1;
+      rest = at_rest rules w place name b there;
+      agrees = g;
+    }
+
+apart_first : (rules : Rules) (w : World) (place name : ℕ) → Begun rules w place → (let q = current w place in has (members (w.nodes q)) name ≡ false
+    → is_stopped w name ≡ false → has_departed (w.nodes name).status ≡ false → (w.nodes name).leaving ≡ false → IsApart (repair_of w q) (w.nodes name))
+apart_first rules w place name b none goes there stays =
+    let q = current w place in
+    let m = w.nodes name in
+    let no_member = false_from_ne_true (is_member m.status) (λ t. (let in_ = b.agree.alone name t goes stays in cc)) in
+    elim (cases_lt name 256) [
+      | inl low ↦ record {
+        no_ballot = (b.laws.blanks.base.each name low).balloted.none (no_list m.status no_member there);
+        stays = stays;
+        promised = λ member. absurd (cc);
+      }
+      | inr high ↦
+          (let most = b.laws.blanks.base.named.most (place_of name) in
+          let is = b.laws.blanks.base.named.unborn name (omega arith) in
+          record { no_ballot = ap (λ (x : Node). x.ballot) is; stays = stays; promised = λ member. absurd (cc) })
+    ]
+
+leaver_first : (rules : Rules) (w : World) (place name : ℕ) → Begun rules w place → is_stopped w name ≡ false
+    → has_departed (w.nodes name).status ≡ false → (w.nodes name).leaving ≡ true → IsLeaver (repair_of w (current w place)) (w.nodes name)
+leaver_first rules w place name b goes there leaves =
+    let m = w.nodes name in
+    let l = b.leaves name leaves in
+    let h = b.agree.left name (has_list m.status l.log there) goes leaves in
+    record { gone = h.past; leaves = leaves; log = l.log; no_ballot = l.no_ballot; tells = h.tells }
+
+calm_first : (rules : Rules) (w : World) (place : ℕ) → Begun rules w place → Calm (repair_of w (current w place)) w
+calm_first rules w place b =
+    let q = current w place in
+    let m = w.nodes q in
+    let goes : (name : ℕ) → has (members m) name ≡ true → is_stopped w name ≡ false =
+    λ name there. member_runs w place name b.may (within rules w place b) there in
+    record {
+      nodes = record {
+        own = (leading m b.may.leads).1 ∙ b.laws.blanks.base.named.who q;
+        listed = listed rules w place b;
+        who = b.laws.blanks.base.named.who;
+        leads = leads_first rules w place b;
+        follows = λ name there other. follows_first rules w place name b there;
+      };
+      current_ = λ name there. (there_now rules w name b.laws b.old (b.may.all_act name there).0 (goes name there)).current_;
+      runs = goes;
+      apart = λ name none runs there. split (w.nodes name).leaving
+          (λ t. inr (leaver_first rules w place name b runs there t))
+          (λ f. inl (apart_first rules w place name b none runs there f));
+      letters = λ number l late there. absurd (let within = letter_within w.letters number l there in omega arith);
+    }
+
+stored_first : (rules : Rules) (w : World) (place : ℕ) → Begun rules w place
+    → (let q = current w place in AllStored rules (repair_of w q) (w.nodes q).core.base w)
+stored_first rules w place b =
+    let q = current w place in
+    let fine : Fine rules (repair_of w q) w = record { laws = b.laws; calm = calm_first rules w place b } in
+    record {
+      fine = fine;
+      sent = omega arith;
+      each = λ i there other.
+          (let g = b.agree.each i there in
+          let fronts = (b.laws.each i (few_acting rules w i b.laws (b.may.all_act i there).0)).fronts in
+          record { fine = fine; stored_ = omega arith });
+    }
+
+pub repairs_where_lists_agree : RepairsWhereListsAgree
+repairs_where_lists_agree rules events place may low repair agree name there =
+    let w = run rules events in
+    let q = current w place in
+    let b : Begun rules w place = record {
+      laws = run_owned rules events may;
+      old = old_lives rules events;
+      low = low;
+      may = repair;
+      agree = agree;
+      leaves = run_leaves rules events;
+    } in
+    let few = (b.laws.kept q).few in
+    all_catch_up rules (repair_of w q) (w.nodes q).core.base w few (stored_first rules w place b) name there

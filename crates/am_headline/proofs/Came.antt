@@ -1,0 +1,174 @@
+-- How a name comes to act in a view: it did before, it decided it, or a letter of the view's own name told it, whose base it had taken.
+use Rattle.am_headline.proofs.RepairedRunsWords.{numbers_plain, stamp_by, other_asks, other_heard, stamp_itself, same_stamp, ◌≡◌, ⊎_elim, ℕ, ◌<◌, ◌≤◌, ◌==◌, ◌&&◌, max}
+use Rattle.am_headline.proofs.RepairedRunsWords.{true, false, List, [], refl, sym, ap, ◌∙◌, subst, arith, nat_tests, Entry, Data, Join, Leave, View, Image, Stamp}
+use Rattle.am_headline.proofs.RepairedRunsWords.{Outcome, Rules, stamp_lt, stamp_eq, Log, blank, fold, told_by, Node, Ballot, view, image_of, acts, is_member, push_entry}
+use Rattle.am_headline.proofs.RepairedRunsWords.{trim_up_to, has_log, Verdict, with_promise, next_stamp, trim_for, left_in, need_of, is_view, split, Cause, hears, Looks}
+use Rattle.am_headline.proofs.RepairedRunsWords.{finds_itself_out, waits, fetches_from_best, finds_too_few, finds_no_room, decides, Fetches, without_ballot, for_ballot}
+use Rattle.am_headline.proofs.RepairedRunsWords.{Change, refreshes, settles, admits, numbers, keeps_body, notes, stores, begins_list, departs, promises, opens, looks}
+use Rattle.am_headline.proofs.RepairedRunsWords.{fetches, stores_view, collects, takes, asks_to_join, asks_to_leave, closes, Changes, unchanged, changed, view_pushed}
+use Rattle.am_headline.proofs.RepairedRunsWords.{Blanked, not_above_itself, not_above, equal_stamps, at_most, at_most_below, HasNames, HeardNames, SameView, Stood}
+use Rattle.am_headline.proofs.RepairedRunsWords.{view_last, Balloted, next_above, looked_at, change_does, HeardUsed, Along, along_changes, acting, alike_refresh}
+use Rattle.am_headline.proofs.RepairedRunsWords.{alike_settle, view_alike, acts_alike, Alike}
+use Rattle.am_packet.specs.declared.packet.Packet.TheVariants as packet
+
+-- ---- names
+
+-- ---- who tells a view
+
+-- the letter that brings it, with its base
+pub data Tells : Cause → ℕ → Stamp → ℕ → Type 0 where
+  by_piece : (s : ℕ) (v : Stamp) (base number : ℕ) (e : Entry) → Tells (hears (packet.Piece s v base number e)) s v base
+  by_result : (s : ℕ) (v : Stamp) (base number : ℕ) (names : List ℕ) (resilience : ℕ) → Tells (hears (packet.Result s v base number names resilience)) s v base
+  by_welcome : (s : ℕ) (v : Stamp) (base join : ℕ) (image : Image) → Tells (hears (packet.Welcome s v base join image)) s v base
+
+pub data Came (c : Cause) (m y : Node) : Type 0 where
+  before : acts m ≡ true → view y ≡ view m → m.core.taken ≤ y.core.taken → Came c m y
+  own : (view y).by ≡ y.core.who → stamp_lt (view m) (view y) ≡ true → Came c m y
+  told_so : (s : ℕ) (v : Stamp) (base : ℕ) → Tells c s v base → view y ≡ v → v.by ≡ s → (s == y.core.who) ≡ false → base ≤ y.core.taken → Came c m y
+
+-- nothing of that changes
+pub record Stays (x y : Node) : Type 0 where
+  pub who : y.core.who ≡ x.core.who
+  pub view_ : view y ≡ view x
+  pub acts_ : acts y ≡ true → acts x ≡ true
+  pub taken : x.core.taken ≤ y.core.taken
+
+came_on : (c : Cause) (m x y : Node) → Stays x y → Came c m x → Came c m y
+came_on c m x y s (before a v low) = before a (s.view_ ∙ v) (let t = s.taken in omega arith)
+came_on c m x y s (own is above) = own (ap (λ (u : Stamp). u.by) s.view_ ∙ is ∙ sym s.who) (ap (stamp_lt (view m)) s.view_ ∙ above)
+came_on c m x y s (told_so from v base tells v_is by other low) =
+    told_so from v base tells (s.view_ ∙ v_is) by (ap (λ k. from == k) s.who ∙ other) (let t = s.taken in omega arith)
+
+stays_alike : (x y : Node) → Alike x y → Stays x y
+stays_alike x y h = record { who = h.who; view_ = view_alike h; acts_ = λ t. sym (acts_alike h) ∙ t; taken = h.taken }
+
+stays_pushed : (x y : Node) (e : Entry) → is_view e ≡ false → y.core.who ≡ x.core.who → view y ≡ view (push_entry x e) → y.core.promise ≡ x.core.promise
+    → y.status ≡ x.status → x.core.taken ≤ y.core.taken → Stays x y
+stays_pushed x y e plain who viewed promise status taken =
+    let v = viewed ∙ view_pushed x e plain in
+    record { who = who; view_ = v; acts_ = λ t. sym (λ i. is_member (status i) && stamp_eq (promise i) (v i)) ∙ t; taken = taken }
+
+-- nothing but numbers and sets that aren't named here
+plain_stay : (x y : Node) → y.core.who ≡ x.core.who → y.core.log ≡ x.core.log → y.core.promise ≡ x.core.promise → y.status ≡ x.status
+    → x.core.taken ≤ y.core.taken → Stays x y
+plain_stay x y who log promise status taken =
+    let v : view y ≡ view x = ap (λ (l : Log). (told_by l).view) log in
+    record { who = who; view_ = v; acts_ = λ t. sym (λ i. is_member (status i) && stamp_eq (promise i) (v i)) ∙ t; taken = taken }
+
+-- ---- each change
+
+came_look : (c : Cause) (m x : Node) (b : Ballot) (v : Verdict) → Looks x b v → b.stamp.by ≡ x.core.who → stamp_lt (view m) b.stamp ≡ true
+    → (acts x ≡ true → Came c m x) → acts v.node ≡ true → Came c m v.node
+came_look c m x b v (finds_itself_out w) mine above h t = came_on c m x v.node (record { who = refl; view_ = refl; acts_ = λ a. a; taken = omega arith }) (h t)
+came_look c m x b v (waits w u) mine above h t = came_on c m x v.node (record { who = refl; view_ = refl; acts_ = λ a. a; taken = omega arith }) (h t)
+came_look c m x b v (fetches_from_best w u z) mine above h t = came_on c m x v.node (record {
+  who = refl;
+  view_ = refl;
+  acts_ = λ a. a;
+  taken = omega arith;
+}) (h t)
+came_look c m x b v (finds_too_few w u) mine above h t = came_on c m x v.node (record { who = refl; view_ = refl; acts_ = λ a. a; taken = omega arith }) (h t)
+came_look c m x b v (finds_no_room w) mine above h t = came_on c m x v.node (record { who = refl; view_ = refl; acts_ = λ a. a; taken = omega arith }) (h t)
+came_look c m x b v (decides may) mine above h t =
+    let is : view v.node ≡ b.stamp = view_last (trim_for x b (left_in b (need_of x b))) b.stamp (left_in b (need_of x b))
+    (max b.resilience (image_of x).resilience) in
+    own (ap (λ (u : Stamp). u.by) is ∙ mine) (ap (stamp_lt (view m)) is ∙ above)
+
+-- a promise of the view that the node is in is no new one
+promised_acts : (x : Node) (v : Stamp) → HasNames x → v.by < 256 → Balloted x → stamp_lt v x.core.promise ≡ false → acts (with_promise x v) ≡ true → acts x
+    ≡ true
+promised_acts x v names few k low t =
+    let a = acting (with_promise x v) t in
+    let up : stamp_lt x.core.promise v ≡ false = ap (stamp_lt x.core.promise) a.1 ∙ k.high in
+    let same : v ≡ x.core.promise = equal_stamps v x.core.promise few names.promise_ low up in
+    sym (ap (λ s. is_member x.status && stamp_eq s (view x)) same) ∙ t
+
+-- what is fetched is no View, or that of the promise, from its own name
+fetched_view : (x : Node) (s : ℕ) (v : Stamp) (base : ℕ) (e : Entry) → Fetches x s v e → v ≡ x.core.promise → is_view e ≡ true
+    → acts (push_entry (trim_up_to x base) e) ≡ true → (view (push_entry (trim_up_to x base) e) ≡ v) × (v.by ≡ s)
+fetched_view x s v base (Data from req body) why promise is t = absurd (cc)
+fetched_view x s v base (Join name) why promise is t = absurd (cc)
+fetched_view x s v base (Leave name) why promise is t = absurd (cc)
+fetched_view x s v base (View stamp names resilience) why promise is t =
+    let last = view_last (trim_up_to x base) stamp names resilience in
+    let at : stamp ≡ v = sym ((acting (push_entry (trim_up_to x base) (View stamp names resilience)) t).1 ∙ last) ∙ sym promise in
+    (last ∙ at, by_name why at)
+  where
+    by_name : Fetches x s v (View stamp names resilience) → stamp ≡ v → v.by ≡ s
+    by_name (without_ballot none from past) at = stamp_by v s from
+    by_name (for_ballot b open_ from past) at =
+        let u : stamp_eq stamp v ≡ true = ap (stamp_eq stamp) (sym at) ∙ stamp_itself stamp in
+        absurd (split (stamp_lt v stamp) (λ y. let p = rw y at past in cc) (λ y. let p = rw (y, u) at past in cc))
+
+came_change : (c : Cause) (o : Outcome) (m x y : Node) → HeardNames c → HasNames x → HasNames y → Balloted x → stamp_lt (view x) (view m) ≡ false
+    → Change c o x y → (acts x ≡ true → Came c m x) → acts y ≡ true → Came c m y
+came_change c o m x y heard names after k low refreshes h t = let s = stays_alike x y (alike_refresh x) in came_on c m x y s (h (s.acts_ t))
+came_change c o m x y heard names after k low settles h t = let s = stays_alike x y (alike_settle x) in came_on c m x y s (h (s.acts_ t))
+came_change c o m x y heard names after k low (admits s v is leads fit) h t = came_on c m x y (plain_stay x y refl refl refl refl (omega arith)) (h t)
+came_change c o m x y heard names after k low (numbers e leads room why) h t =
+    let s = stays_pushed x y e (numbers_plain c x e why) refl refl refl refl (omega arith) in came_on c m x y s (h (s.acts_ t))
+came_change c o m x y heard names after k low (keeps_body s v report req body is heard_) h t = came_on c m x y
+    (plain_stay x y refl refl refl refl (omega arith)) (h t)
+came_change c o m x y heard names after k low (notes s v base acc brings heard_) h t = came_on c m x y (plain_stay x y refl refl refl refl (omega arith)) (h t)
+came_change c o m x y heard names after k low (stores s v base acc number e carries heard_ plain may) h t =
+    let s_ = stays_pushed x y e plain refl refl refl refl (omega arith) in came_on c m x y s_ (h (s_.acts_ t))
+came_change c o m x y heard names after k low (begins_list s v base join image is says may) h t =
+    let at : view y ≡ v = sym (acting y t).1 in
+    told_so s v base (subst (λ z. Tells z s v base) (sym is) (by_welcome s v base join image)) at (stamp_by v s may.own) (other_asks x s may.asks)
+    (omega arith)
+came_change c o m x y heard names after k low (departs s v number is heard_ leaves) h t = absurd (cc)
+came_change c o m x y heard names after k low (promises v high why) h t =
+    let a = promised_acts x v names after.promise_ k high t in
+    came_on c m x y (record { who = refl; view_ = refl; acts_ = λ u. a; taken = omega arith }) (h a)
+came_change c o m x y heard names after k low (opens least resilience begins may) h t = absurd (
+    let above = at_most_below (view x) x.core.promise (next_stamp x) k.high (next_above x.core.promise x.core.who) in
+    let z : stamp_lt (view x) (view x) ≡ true = subst (λ s. stamp_lt (view x) s ≡ true) (acting y t).1 above in
+    let w = not_above_itself (view x) in cc)
+came_change c o m x y heard names after k low (looks b verdict over why look is) h t =
+    let l = (looked_at x b why k).open_ in
+    came_look c m x b verdict look l.own (at_most_below (view m) (view x) b.stamp low l.above) h t
+came_change c o m x y heard names after k low (fetches s v base number e is heard_ promise below why may) h t =
+    split (is_view e)
+    (λ u. let at = fetched_view x s v base e why (same_stamp v x.core.promise promise) u t in
+    told_so s v base (subst (λ z. Tells z s v base) (sym is) (by_piece s v base number e)) at.0 at.1 (other_heard x s heard_) may.taken)
+    (λ f. let s_ = stays_pushed x y e f refl refl refl refl (omega arith) in came_on c m x y s_ (h (s_.acts_ t)))
+came_change c o m x y heard names after k low (stores_view s v base number names_ resilience is heard_ own_ other promise below may) h t =
+    told_so s v base (subst (λ z. Tells z s v base) (sym is) (by_result s v base number names_ resilience)) (view_last (trim_up_to x base) v names_ resilience)
+    (stamp_by v s own_) (other_heard x s heard_) may.taken
+came_change c o m x y heard names after k low (collects req is) h t = came_on c m x y (plain_stay x y refl refl refl refl (omega arith)) (h t)
+came_change c o m x y heard names after k low (takes e is says member some there) h t =
+    came_on c m x y (record { who = refl; view_ = refl; acts_ = λ a. a; taken = omega arith }) (h t)
+came_change c o m x y heard names after k low (asks_to_join is was) h t = absurd (cc)
+came_change c o m x y heard names after k low (asks_to_leave is was stays done) h t = came_on c m x y
+    (record { who = refl; view_ = refl; acts_ = λ a. a; taken = omega arith }) (h t)
+came_change c o m x y heard names after k low (closes leads leaves alone room) h t = absurd (cc)
+came_change c o m x y heard names after k low _ h t = came_on c m x y (plain_stay x y refl refl refl refl (omega arith))
+    (h t)
+
+-- ---- a step
+
+-- no stamp is below that of an empty list
+blank_low : (v : Stamp) → stamp_lt v (told_by (record { start = 0; image = blank; entries = [] })).view ≡ false
+unfolding fold
+blank_low v = grind (arith, nat_tests)
+
+-- a view doesn't fall
+pub view_rises : {c : Cause} {o : Outcome} (x y : Node) → Blanked x → HeardNames c → HasNames x → Balloted x → Change c o x y
+    → stamp_lt (view y) (view x) ≡ false
+view_rises x y blank heard names k z = split (has_log x.status)
+    (λ t. ⊎_elim
+    (λ (same : SameView (told_by y.core.log) (told_by x.core.log)). ap (λ u. stamp_lt u (view x)) same.view ∙ not_above_itself (view x))
+    (λ (up : (stamp_lt (view x) (view y) ≡ true) × Stood y.core.log). not_above (view x) (view y) up.0)
+    ((change_does heard x y z names k).goes t).view)
+    (λ f. subst (λ (l : Log). stamp_lt (view y) (told_by l).view ≡ false) (sym (blank f).blank_) (blank_low (view y)))
+
+came_along : (rules : Rules) {c : Cause} {o : Outcome} (m x n : Node) → HeardNames c → HeardUsed c → Changes c o x n → Along rules x
+    → stamp_lt (view x) (view m) ≡ false → (acts x ≡ true → Came c m x) → acts n ≡ true → Came c m n
+came_along rules m x n heard used unchanged a low h t = h t
+came_along rules m x n heard used (changed {n = y} one more) a low h t =
+    let b = along_changes rules x y heard used (changed one unchanged) a in
+    came_along rules m y n heard used more b (at_most (view m) (view x) (view y) low (view_rises x y a.blanked heard a.names a.balloted one))
+    (came_change _ _ m x y heard a.names b.names a.balloted low one h) t
+
+pub came : (rules : Rules) {c : Cause} {o : Outcome} (m n : Node) → HeardNames c → HeardUsed c → Changes c o m n → Along rules m → acts n ≡ true → Came c m n
+came rules m n heard used all a t = came_along rules m m n heard used all a (not_above_itself (view m)) (λ u. before u refl (omega arith)) t

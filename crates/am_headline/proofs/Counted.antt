@@ -1,0 +1,221 @@
+-- Whose storage counts behind the last View, where a run may be repaired: each of them is a member still.
+use Rattle.am_headline.proofs.RepairedRunsWords.{◌≡◌, ◌≢◌, ℕ, zero, suc, ◌+◌, ◌<◌, ◌≤◌, ◌==◌, true, false, List, [], ◌∷◌, ◌++◌, length, slice_index, All, sym, ap}
+use Rattle.am_headline.proofs.RepairedRunsWords.{◌∙◌, subst, arith, nat_tests, All-nil, All-cons, Entry, Data, Join, Leave, View, Image, Rules, MayFound, IsSet}
+use Rattle.am_headline.proofs.RepairedRunsWords.{has, place_of, life_of, name_at, names_from, names_of, fold, blank, members_of, counted_at, Event, view_grows}
+use Rattle.am_headline.proofs.RepairedRunsWords.{Begins, IsGood, mem, view_of, key, begins_trans, begins_length, length_push, good_begins, told_push, mem_push}
+use Rattle.am_headline.proofs.RepairedRunsWords.{ends_of, Group, Leads, counted_in, opening, chain_of, current_of, Kept, Node, top, told_at, members}
+use Rattle.am_headline.proofs.RepairedRunsWords.{lowest_or_first, MayRepair, lawful_front, has_departed, take, World, current, run, fold_append, split}
+use Rattle.am_headline.proofs.RepairedRunsWords.{names_hold, numbers_hold, taken_holds, after_view, NameStands, NamesNamed, Following, told_all, long_all}
+use Rattle.am_headline.proofs.RepairedRunsWords.{counts_names, name_small, group_kept, stood, counted_whole, steps_move, held}
+use Rattle.am_chain_lists.specs.Whole.{image_of}
+use Rattle.am_headline.proofs.{Left.AllLeft, Left.GoneBy, Left.accepted, Left.last, Left.once, Left.runs_left, OneList.lawful_events, OneList.small_name}
+use Rattle.am_headline.proofs.OneList.{leader_runs}
+use Rattle.am_stands.proofs.Parts.{image_whole}
+use Rattle.am_chain_lists.proofs.Prefixes.{take_begins}
+use Rattle.am_base.specs.Lists.{image_at, members_at}
+use Rattle.am_headline.proofs.{OneList.leading, Upheld.Upheld, Upheld.upheld_start, Upheld.upheld_keeps}
+
+-- ---- who counts for a number
+
+-- ---- how a membership ends behind the last View
+
+-- by its own Leave, as no View stands there
+leaves_last : (list before : List Entry) (name : ℕ) (e : Entry) → IsGood list → Begins (before ++ e ∷ []) list → (image_of list).view_number ≤ length before
+    → mem before name ≡ true → mem (before ++ e ∷ []) name ≡ false → e ≡ Leave name
+leaves_last list before name (Data from req body) good within view_ is none =
+    absurd (let z = mem_push before (Data from req body) name (good_begins within good) tt is in cc)
+leaves_last list before name (Join joiner) good within view_ is none =
+    absurd (let z = mem_push before (Join joiner) name (good_begins within good) tt is in cc)
+leaves_last list before name (Leave leaver) good within view_ is none = split (leaver == name)
+    (λ t. ap (λ k. Leave k) (same leaver name t))
+    (λ f. absurd (let z = mem_push before (Leave leaver) name (good_begins within good) (other leaver name f) is in cc))
+  where
+    same : (a b : ℕ) → (a == b) ≡ true → a ≡ b
+    same a b t = grind (arith, nat_tests)
+
+    other : (a b : ℕ) → (a == b) ≡ false → a ≢ b
+    other a b f = λ u. grind (arith, nat_tests)
+leaves_last list before name (View stamp names resilience) good within view_ is none = absurd (
+    let a = before ++ View stamp names resilience ∷ [] in
+    let long = length_push before (View stamp names resilience) in
+    let its = after_view (image_of before) (1 + length before) stamp names resilience in
+    let here : (image_of a).view_number ≡ 1 + length before = ap (λ (g : Image). g.view_number) (told_push before (View stamp names resilience)) ∙ its.1 in
+    let all : image_of list ≡ fold (image_of a) (1 + length a) within.rest = ap image_of (sym within.same) ∙ fold_append blank 1 a within.rest in
+    let number = ap (λ (g : Image). g.view_number) all in
+    let more = view_grows (image_of a) (1 + length a) within.rest (omega arith) in
+    omega arith)
+
+-- ---- of a group
+
+-- who counts for a number that the sequencer hasn't accepted, behind the last View, is a member at the list's end
+stays_member : (s : Group) (q : ℕ) (list : List Entry) (n name : ℕ) → Kept s → AllLeft s → Leads q (s.node q) → list ≡ chain_of s.views
+    → length s.group < n → n ≤ length list → (image_of list).view_number ≤ n
+    → ((at : ℕ) → n ≤ at + 1 → at ≤ length list → mem (take at list) name ≡ true → (s.node name).leaving ≡ true → (s.node name).departed ≡ true)
+    → has (counted_in list n) name ≡ true → mem list name ≡ true
+stays_member s q list n name k left leads is low high view_ leaves h = split (mem list name)
+    (λ t. t)
+    (λ f. absurd (
+    let good : IsGood list = subst IsGood (sym is) k.views.good in
+    let at = stood list n name good (omega arith) high view_ h in
+    let e = ends_of name at.begins_ at.member f in
+    let reach = begins_length e.above in
+    let by = leaves_last list e.before name e.last good e.within (omega arith) e.member e.ended in
+    let there : Begins (e.before ++ Leave name ∷ []) list = subst (λ x. Begins (e.before ++ x ∷ []) list) by e.within in
+    let asked = left.asked e.before name (subst (Begins (e.before ++ Leave name ∷ [])) is there) in
+    let size = begins_length at.begins_ in
+    let near = at.near in
+    let part = subst (λ l. mem l name ≡ true) (sym (take_begins at.begins_)) at.member in
+    by_gone e.before good there (omega arith) (left.gone name (leaves (length at.upto) (omega arith) (omega arith) part asked))))
+  where
+    by_gone : (before : List Entry) → IsGood list → Begins (before ++ Leave name ∷ []) list → n ≤ length before + 1 → GoneBy s name → ⊥
+    by_gone before good there far (accepted earlier begins_) =
+        let size = begins_length begins_ in
+        let long = length_push earlier (Leave name) in
+        let on : Begins (earlier ++ Leave name ∷ []) list = subst (Begins (earlier ++ Leave name ∷ [])) (sym is) (begins_trans begins_ k.group) in
+        once list earlier before name good on there (omega arith)
+    by_gone before good there far (last earlier chain none) = none q ((k.each q).leads leads).member
+
+-- ---- all the names of a set
+
+all_from : (P : ℕ → Type 0) (from : ℕ) (lives : List ℕ) → ((k : ℕ) → k < length lives → 0 < slice_index lives k → P (name_at (from + k) (slice_index lives k)))
+    → All P (names_from from lives)
+all_from P from [] h = All-nil P
+all_from P from (zero ∷ lives) h = all_from P (from + 1) lives (λ k low some.
+    let at : from + suc k ≡ from + 1 + k = omega arith in
+    subst (λ i. P (name_at i (slice_index lives k))) at (h (suc k) (omega arith) some))
+all_from P from (suc b ∷ lives) h = All-cons P (name_at from (suc b)) (names_from (from + 1) lives)
+    (let at : from + zero ≡ from = omega arith in subst (λ i. P (name_at i (suc b))) at (h zero (omega arith) (omega arith)))
+    (all_from P (from + 1) lives (λ k low some.
+    let at : from + suc k ≡ from + 1 + k = omega arith in
+    subst (λ i. P (name_at i (slice_index lives k))) at (h (suc k) (omega arith) some)))
+
+all_names : (P : ℕ → Type 0) (set : List ℕ) → IsSet set → ((name : ℕ) → has set name ≡ true → P name) → All P (names_of set)
+all_names P set is h = all_from P 0 set (λ k low some.
+    let small : k < 16 = omega arith in
+    let life = slice_index set k in
+    let name = name_at (0 + k) life in
+    let place : place_of name ≡ k = omega arith in
+    let its : life_of name ≡ life = omega arith in
+    let there : has set name ≡ true = (let at : slice_index set (place_of name) ≡ life = ap (slice_index set) place in grind (arith, nat_tests)) in
+    h name there)
+
+-- ---- in every run
+
+module _ (rules : Rules) (events : List Event) (place : ℕ) (may : MayFound rules) (low : place < 16) (lawful : lawful_front rules events ≡ events)
+    (repair : MayRepair (run rules events) place) where
+  abbrev w : World
+  w = run rules events
+
+  abbrev q : ℕ
+  q = current w place
+
+  abbrev m : Node
+  m = w.nodes q
+
+  module _ (s : Group) (left : AllLeft s) (old : Following rules w s) (up : Upheld w s) (number : ℕ) (above : m.core.acc < number) (within : number ≤ top m)
+      (view_ : (told_at m).view_number ≤ number) where
+    abbrev list : List Entry
+    list = (s.node q).list
+
+    few : q < 256
+    few = small_name rules events place may low
+
+    own : m.core.who ≡ q
+    own = (names_hold rules events may).who q
+
+    kept : Kept s
+    kept = group_kept rules.founders (lowest_or_first rules.founders) rules.resilience s old.group
+
+    stands : NameStands w q m (s.node q)
+    stands = old.stands.each q few
+
+    leads : Leads q (s.node q)
+    leads = leading rules w s place old repair few (leader_runs rules events place may low repair) own
+
+    is : list ≡ chain_of s.views
+    is = ((kept.each q).leads leads).chain
+
+    numbered : (image_of list).view_number ≡ (told_at m).view_number
+    numbered = ap (λ (g : Image). g.view_number) (told_all w q m (s.node q) stands)
+
+    viewed : view_of list ≡ s.views.current
+    viewed = ap view_of is ∙ kept.views.view
+
+    -- what the group accepted lies below the number
+    behind : length s.group < number
+    behind =
+        let ch = current_of s.views in
+        let good : IsGood list = subst IsGood (sym is) kept.views.good in
+        let stamp = kept.views.stamps (key s.views.current) kept.views.now in
+        let opens : Begins (opening ch) list = subst (Begins (opening ch)) (sym is) kept.views.opens in
+        let by : s.views.current.by ≡ q = ap (λ u. u.by) (sym viewed) ∙ leads.by in
+        let acc = ap (λ k. (w.nodes k).core.acc) by in
+        let size = ap length old.stands.group in
+        let reach = reached ch.before opens in
+        let num = numbered in
+        omega arith
+      where
+        reached : (before : List Entry)
+            → Begins (before ++ View (current_of s.views).stamp (current_of s.views).members (current_of s.views).resilience ∷ []) list
+            → length before < (image_of list).view_number
+        reached before on =
+            let e = View (current_of s.views).stamp (current_of s.views).members (current_of s.views).resilience in
+            let a = before ++ e ∷ [] in
+            let long = length_push before e in
+            let its = after_view (image_of before) (1 + length before) (current_of s.views).stamp (current_of s.views).members
+            (current_of s.views).resilience in
+            let here : (image_of a).view_number ≡ 1 + length before = ap (λ (g : Image). g.view_number) (told_push before e) ∙ its.1 in
+            let all : image_of list ≡ fold (image_of a) (1 + length a) on.rest = ap image_of (sym on.same) ∙ fold_append blank 1 a on.rest in
+            let same = ap (λ (g : Image). g.view_number) all in
+            let more = view_grows (image_of a) (1 + length a) on.rest (omega arith) in
+            omega arith
+
+    start_low : m.core.log.start < number
+    start_low =
+        let num = (numbers_hold rules events).each q in
+        let a = num.kept in
+        let b = taken_holds rules events q may few in
+        let c = num.given in
+        omega arith
+
+    -- who is leaving and was a member since what is accepted has departed
+    gone : (name at : ℕ) → m.core.acc ≤ at → at ≤ top m → mem (take at list) name ≡ true → (w.nodes name).leaving ≡ true
+        → has_departed (w.nodes name).status ≡ true
+    unfolding mem
+    gone name at front within_ member t = split (has_departed (w.nodes name).status)
+        (λ d. d)
+        (λ d. absurd (
+        let num = (numbers_hold rules events).each q in
+        let a = num.kept in
+        let b = taken_holds rules events q may few in
+        let c = num.given in
+        let none = repair.nobody_leaves name t d at front within_ in
+        let same : image_at m.core.log at ≡ image_of (take at list) = image_whole w q at m (s.node q) stands (omega arith) in
+        let there : has (members_at m.core.log at) name ≡ true = ap (λ (g : Image). has (members_of g) name) same ∙ member in
+        cc))
+
+    each : (name : ℕ) → name < 256 → has (counted_at m.core.log number) name ≡ true → has (members m) name ≡ true
+    unfolding mem
+    each name small h =
+        let long = long_all w q m (s.node q) stands in
+        let num = numbered in
+        let counts : has (counted_in list number) name ≡ true = ap (λ set. has set name) (sym (counted_whole w q number m (s.node q) stands start_low)) ∙ h in
+        let b = old.stands.each name small in
+        let leaves : (at : ℕ) → number ≤ at + 1 → at ≤ length list → mem (take at list) name ≡ true → (s.node name).leaving ≡ true
+        → (s.node name).departed ≡ true = λ at near within_ member t. b.departed ∙ gone name at (omega arith) (omega arith) member (sym b.leaving ∙ t) in
+        let there : mem list name ≡ true = stays_member s q list number name kept left leads is behind (omega arith) (omega arith) leaves counts in
+        ap (λ (g : Image). has (members_of g) name) (sym (told_all w q m (s.node q) stands)) ∙ there
+
+    all_count : All (λ name. has (members m) name ≡ true) (names_of (counted_at m.core.log number))
+    all_count =
+        let named : All NamesNamed list = subst (All NamesNamed) (sym is) old.group.named in
+        let set : IsSet (counted_at m.core.log number) = counts_names w q m (s.node q) stands named number start_low in
+        all_names (λ name. has (members m) name ≡ true) (counted_at m.core.log number) set
+        (λ name t. each name (name_small (counted_at m.core.log number) name set t) t)
+
+  pub repairable_counts : (number : ℕ) → m.core.acc < number → number ≤ top m → (told_at m).view_number ≤ number
+      → All (λ name. has (members m) name ≡ true) (names_of (counted_at m.core.log number))
+  repairable_counts number above within view_ =
+      let h = held Upheld rules (upheld_keeps rules) steps_move may (λ t f. upheld_start rules t may f) events (lawful_events rules events lawful) in
+      let left = runs_left rules.founders (lowest_or_first rules.founders) rules.resilience h.to h.follows.group.run in
+      all_count h.to left h.follows h.is number above within view_

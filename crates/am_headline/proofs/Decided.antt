@@ -1,0 +1,74 @@
+-- Who steps decides a view in it, and is its sequencer: what it trimmed as it decided is what its members have taken.
+use Rattle.am_headline.proofs.RepairedRunsWords.{eqb-true, ◌≡◌, ℕ, ◌<◌, ◌≤◌, ◌==◌, max, true, false, List, [], ◌∷◌, ◌++◌, Some, slice_get, refl, sym, ap, ◌∙◌, subst}
+use Rattle.am_headline.proofs.RepairedRunsWords.{arith, Stamp, Rules, stamp_lt, Packet, Letter, Event, key, Group, Node, view, acts, is_sequencer, Step, World, run}
+use Rattle.am_headline.proofs.RepairedRunsWords.{split, and_both, Cause, actor, all_get, IsNoted, PacketSays, key_stamp, parts, plain, known_is_taken}
+use Rattle.am_packet.specs.declared.packet.Packet.TheVariants as packet
+use Rattle.am_headline.proofs.Trims.{LetterLow, Knows, took, Settles, TrimStep, Sent, before, now, laws_w, laws_v, who_n, letter_v, piece_decided}
+use Rattle.am_headline.proofs.Mailed.{says_low}
+
+module _ (rules : Rules) (events : List Event) (e : Event) (c : Cause) (step : Step) (s t : Group) (x : TrimStep rules events e c step s t)
+    (leads : is_sequencer step.node ≡ true)
+    (above : stamp_lt (view ((run rules events).nodes (actor (run rules events) e))) (view step.node) ≡ true) where
+  open parts rules events e step use {w, i, m, n, v}
+  open plain x.goes use {few as small_i, node_v as at_i, others_v, run_v}
+
+  own : (view n).by ≡ i
+  own =
+      let both = and_both (acts n) ((view n).by == n.core.who) leads in
+      eqb-true (view n).by n.core.who both.1 ∙ who_n rules events e c step s t x
+
+  -- before, nobody had decided that view
+  is_new : s.views.decided (key (view n)) ≡ true → ⊥
+  is_new d =
+      let was = x.old.stands.views.decided (key (view n)) d in
+      let noted = all_get (IsNoted w.nodes) w.views was.index was.view (laws_w rules events e c step s t x).blanks.base.noted was.there in
+      let same = key_stamp was.view.stamp (view n) noted.by (subst (λ j. j < 256) (sym own) small_i) was.is in
+      let by : was.view.stamp.by ≡ i = ap (λ (u : Stamp). u.by) same ∙ own in
+      let low : stamp_lt (view m) (view n) ≡ false = ap (stamp_lt (view m)) (sym same)
+      ∙ subst (λ (y : Node). stamp_lt (view y) was.view.stamp ≡ false) (ap w.nodes by) noted.low in
+      let up = above in
+      cc
+
+  -- so no letter told it
+  old_low : (k : ℕ) (l : Letter) (low : ℕ) → slice_get w.letters k ≡ Some l → (to : List ℕ) (p : Packet) → p ≡ l.packet → PacketSays w s to p
+      → LetterLow i (view n) low p
+  old_low k l low at to (packet.Piece from u base number y) is says = λ mine same. absurd (is_new (ap (λ (z : Stamp). s.views.decided (key z)) (sym same)
+      ∙ piece_decided rules events e c step s t x from u number y (subst (λ j. j < 256) (sym mine) small_i) (ap (λ (z : Stamp). z.by) same ∙ own ∙ sym mine)
+      says.1))
+  old_low k l low at to (packet.Result from u base number names resilience) is says = λ mine same. absurd (is_new
+      (ap (λ (z : Stamp). s.views.decided (key z)) (sym same) ∙ (says.1 (ap (λ (z : Stamp). z.by) same ∙ own ∙ sym mine)).decided))
+  old_low k l low at to (packet.Welcome from u base join image) is says = λ mine same. absurd (is_new
+      (ap (λ (z : Stamp). s.views.decided (key z)) (sym same) ∙ x.trims.welcomes k l from u base join image at (sym is)))
+  old_low k l low at to _ is says = tt
+
+  letter_low : (l : Letter) → Sent w m n c l → LetterLow i (view n) n.core.base l.packet
+  letter_low l (before k at) = old_low k l n.core.base at l.to l.packet refl (x.old.letters k l at)
+  letter_low l (now says) = says_low m n c i (view n) n.core.base l.to l.packet (omega arith) says.says
+
+  -- what is known was taken, or is no more than the base
+  known : (j : ℕ) → j < 256 → (n.reports j).taken ≤ max n.core.base (v.nodes j).core.taken
+  known j few_j =
+      let all = subst (λ (u : World). ((u.nodes i).reports j).taken ≤ max (u.nodes i).core.base (u.nodes j).core.taken) run_v
+      (known_is_taken rules (events ++ e ∷ []) i j x.may small_i few_j) in
+      subst (λ (y : Node). (y.reports j).taken ≤ max y.core.base (v.nodes j).core.taken) at_i all
+
+  acting : (j : ℕ) → j < 256 → acts (v.nodes j) ≡ true → view (v.nodes j) ≡ view n → n.core.base ≤ (v.nodes j).core.taken
+  acting j few_j act same = split (j == i)
+      (λ u.
+      let is : v.nodes j ≡ n = ap v.nodes (eqb-true j i u) ∙ at_i in
+      let b = ((laws_v rules events e c step s t x).each j few_j).fronts.base in
+      let z = ap (λ (y : Node). y.core.base) is in
+      omega arith)
+      (λ f.
+      let is = others_v j f in
+      let d = x.trims.decided j few_j (ap acts (sym is) ∙ act) in
+      absurd (is_new (ap (λ (z : Stamp). s.views.decided (key z)) (sym same) ∙ ap (λ (y : Node). s.views.decided (key (view y))) is ∙ d)))
+
+  pub decided_settles : Settles v i
+  decided_settles = record {
+    low = n.core.base;
+    base = let z = ap (λ (y : Node). y.core.base) at_i in omega arith;
+    acting = λ j few_j act same. acting j few_j act (same ∙ ap view at_i);
+    letters = λ k l at. subst (λ u. LetterLow i u n.core.base l.packet) (ap view (sym at_i)) (letter_low l (letter_v rules events e c step s t x k l at));
+    knows = λ j few_j other. subst (λ y. Knows v n.core.base y j) (sym at_i) (took (known j few_j));
+  }

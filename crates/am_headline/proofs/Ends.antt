@@ -1,0 +1,117 @@
+-- The end of a step, for who follows and for who leads.
+use Rattle.am_headline.proofs.RepairWords.{end_core, not-true, same_stamp, ◌≡◌, inl, inr, ⊎_elim, ℕ, ◌<◌, ◌≤◌, ◌==◌, not, max, min, nat_le, true, false, List, []}
+use Rattle.am_headline.proofs.RepairWords.{◌∷◌, refl, sym, ap, ◌∙◌, subst, arith, cases_lt, nat_tests, All-weaker, Stamp, Report, Outcome, size, names_of, counted_at}
+use Rattle.am_headline.proofs.RepairWords.{is_held, accept_front, Packet, letter_to, CoreState, accept, pass_over, own_report, tell, go_on, let_go, Node, top}
+use Rattle.am_headline.proofs.RepairWords.{image_of, view, acts, is_member, is_sequencer, report_of, lead, refresh, refresh_at_end, telling, finish, hears_member}
+use Rattle.am_headline.proofs.RepairWords.{hears_in_view, hears_sequencer, AllSatisfied, split, and_both, accept_front_is, above_view, below_view, settle_is}
+use Rattle.am_headline.proofs.RepairWords.{rests_at_end, leads_rests, HasReported, HasReports, FrontsRise}
+use Rattle.am_fronts.specs.Reports as reports
+use Rattle.am_headline.proofs.Sets.{count_named}
+
+-- ---- who follows
+
+-- who hears its sequencer isn't one
+pub follows : (m : Node) (s : ℕ) (v : Stamp) → hears_sequencer m s v ≡ true → is_sequencer m ≡ false
+follows m s v heard =
+    let a = and_both (hears_in_view m s v) (v.by == s) heard in
+    let b = and_both (hears_member m s) _ a.0 in
+    let acting = and_both (acts m) _ b.1 in
+    let same = same_stamp v (view m) acting.1 in
+    let other : (s == m.core.who) ≡ false = not-true _ (and_both (not (s == m.core.who)) (is_member m.status) b.0).0 in
+    let by : v.by ≡ s = grind (arith, nat_tests) in
+    let own : ((view m).by == m.core.who) ≡ false = ap (λ (x : Stamp). x.by == m.core.who) (sym same) ∙ ap (λ k. k == m.core.who) by ∙ other in
+    rw (acting.0, own) refl
+
+-- ---- the end of a step
+
+end_reports : (m : Node) → (refresh_at_end m).reports ≡ (refresh m).reports
+unfolding refresh_at_end
+end_reports m = ap (λ (n : Node). n.reports) (settle_is (refresh m))
+
+pub follower_accepts : (m : Node) → is_sequencer m ≡ false → (refresh_at_end m).core.acc ≡ max m.core.acc (min m.core.told (top m))
+unfolding refresh accept pass_over
+follower_accepts m f = ap (λ (c : CoreState). c.acc) (end_core m) ∙ rw f refl
+
+-- one letter of who follows
+pub one_letter : (m p : Node) (o : Outcome) (to : List ℕ) (packet : Node → Packet) → is_sequencer p ≡ false → (size to == 0) ≡ false
+    → (finish m (telling p o to packet)).letters ≡ letter_to to (packet (refresh_at_end p)) ∷ []
+unfolding finish
+one_letter m p o to packet f some =
+    let n = refresh_at_end p in
+    let g : is_sequencer n ≡ false = leads_rests (rests_at_end p).rests ∙ f in
+    rw (g, some) refl
+
+-- ---- reports
+
+pub record NoLess (old new : Report) : Type 0 where
+  pub stored : old.stored ≤ new.stored
+  pub taken : old.taken ≤ new.taken
+
+pub raise_up : (kept : ℕ → Report) (who : ℕ) (r : Report) (name : ℕ) → NoLess (kept name) (reports.after_report kept who r name)
+raise_up kept who r name = split (name == who)
+    (λ t. let e : name ≡ who = grind (arith, nat_tests) in rw (t, e) (record { stored = omega arith; taken = omega arith }))
+    (λ f. rw f (record { stored = omega arith; taken = omega arith }))
+
+pub lead_reports : (m : Node) (name : ℕ) → NoLess (m.reports name) ((lead m).reports name)
+unfolding lead own_report tell go_on let_go accept pass_over
+lead_reports m name =
+    let first = reports.after_report m.reports m.core.who (report_of m) in
+    let a = raise_up m.reports m.core.who (report_of m) name in
+    let b = raise_up first m.core.who (record { stored = top m; taken = (lead m).core.taken }) name in
+    record { stored = omega arith; taken = omega arith }
+
+-- no report is lowered
+pub refreshed_stay : (m : Node) (name : ℕ) → (m.reports name).stored ≤ ((refresh m).reports name).stored
+unfolding refresh
+refreshed_stay m name = split (is_sequencer m) (λ t. rw t (lead_reports m name).stored) (λ f. rw f (omega arith))
+
+pub reports_stay : (m : Node) (name : ℕ) → (m.reports name).stored ≤ ((refresh_at_end m).reports name).stored
+reports_stay m name = subst (λ (f : ℕ → Report). (m.reports name).stored ≤ (f name).stored) (sym (end_reports m)) (refreshed_stay m name)
+
+-- ---- how far the sequencer accepts
+
+own_reports : Node → ℕ → Report
+own_reports m = reports.after_report m.reports m.core.who (report_of m)
+
+lead_front : (m : Node) → (lead m).core.acc ≡ max m.core.acc (min (accept_front (own_reports m) m.core.log m.core.acc) (top m))
+unfolding lead own_report tell go_on let_go accept pass_over own_reports
+lead_front m = refl
+
+has_stored : (m : Node) (high number name : ℕ) → high ≤ top m → number ≤ high → HasReported m high name → nat_le number (own_reports m name).stored ≡ true
+unfolding own_reports
+has_stored m high number name stored within h = ⊎_elim
+    (λ (own : name ≡ m.core.who). let t : (name == m.core.who) ≡ true = grind (arith, nat_tests) in rw t
+    (let z : number ≤ max (m.reports name).stored (top m) = omega arith in grind (arith, nat_tests)))
+    (λ (told_ : high ≤ (m.reports name).stored). let up = (raise_up m.reports m.core.who (report_of m) name).stored in grind (arith, nat_tests))
+    h
+
+all_hold : (m : Node) (high number : ℕ) → HasReports m high → m.core.acc < number → number ≤ high → (image_of m).view_number ≤ number
+    → is_held (own_reports m) m.core.log number ≡ true
+all_hold m high number h low within view =
+    let set = counted_at m.core.log number in
+    let count = count_named (λ name. nat_le number (own_reports m name).stored) set 0
+    (All-weaker (HasReported m high) (λ name. nat_le number (own_reports m name).stored ≡ true) (λ name x. has_stored m high number name h.stored within x)
+    (names_of set) (h.each number low within view)) in
+    grind (arith, nat_tests)
+
+all_satisfied : (m : Node) (high : ℕ) → HasReports m high → AllSatisfied (own_reports m) m.core.log m.core.acc high
+all_satisfied m high h n low within = ⊎_elim
+    (λ (above : (image_of m).view_number ≤ n). above_view (own_reports m) m.core.log high n above ∙ all_hold m high n h low within above)
+    (λ (below : n < (image_of m).view_number).
+    let reached = h.view in
+    let v : nat_le (image_of m).view_number high ≡ true = grind (arith, nat_tests) in
+    let held = all_hold m high (image_of m).view_number h (omega arith) reached (omega arith) in
+    below_view (own_reports m) m.core.log high n below ∙ rw (v, held) refl)
+    (elim (cases_lt n (image_of m).view_number) [ inl a ↦ inr a | inr b ↦ inl b ])
+
+pub fronts_rise : FrontsRise
+unfolding refresh
+fronts_rise m high leads h =
+    let front = accept_front_is (own_reports m) m.core.log m.core.acc in
+    let stored = h.stored in
+    let is : (refresh_at_end m).core.acc ≡ max m.core.acc (min (accept_front (own_reports m) m.core.log m.core.acc) (top m)) =
+    ap (λ (c : CoreState). c.acc) (end_core m) ∙ rw leads (lead_front m) in
+    elim (cases_lt m.core.acc high) [
+      | inl above ↦ (let reached = front.greatest high (omega arith) stored (all_satisfied m high h) in omega arith)
+      | inr within ↦ omega arith
+    ]

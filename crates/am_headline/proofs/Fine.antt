@@ -1,0 +1,90 @@
+-- Worlds along a schedule: laws of every run, and calm. What an event of the schedule does there.
+use Rattle.am_headline.proofs.RepairWords.{◌≡◌, ℕ, zero, suc, ◌+◌, ◌<◌, ◌≤◌, ◌==◌, true, false, List, ◌++◌, length, Some, slice_get, refl, ap, ◌∙◌, arith}
+use Rattle.am_headline.proofs.RepairWords.{length-append, Contains, nat_tests, slice_get-get_or, Rules, place_of, has, Letter, Event, is_for, letter_at, get_behind}
+use Rattle.am_headline.proofs.RepairWords.{Step, step, hear, event_at, World, current, is_stopped, with_step, does_event, hears_letter, happens, happens_begins}
+use Rattle.am_headline.proofs.RepairWords.{get_front, events_have_effects, AllOwned, each_owned, Repair, Calm, IsOurs}
+use Rattle.am_base.specs.declared.event.NodeEvent.TheVariants as does
+use Rattle.am_group.specs.declared.event.Act.TheVariants as act
+use Rattle.am_headline.proofs.{Saying.Grow, Steps.calm_goes, Steps.ours_grow}
+
+pub record Fine (rules : Rules) (r : Repair) (w : World) : Type 0 where
+  pub laws : AllOwned rules w
+  pub calm : Calm r w
+
+pub fine_goes : (rules : Rules) (r : Repair) (w : World) (e : Event) → IsOurs r e → Fine rules r w → Fine rules r (happens w e)
+fine_goes rules r w e is h = record {
+  laws = each_owned rules w e (happens w e) (events_have_effects w e) h.laws;
+  calm = calm_goes rules r w e is h.laws h.calm;
+}
+
+pub grow_goes : (rules : Rules) (r : Repair) (w : World) (e : Event) → IsOurs r e → Fine rules r w → Grow r w (happens w e)
+grow_goes rules r w e is h = ours_grow rules r w e is h.laws h.calm
+
+-- a member is one of the 256 names
+pub few_members : (rules : Rules) (r : Repair) (w : World) (i : ℕ) → Fine rules r w → has r.members i ≡ true → i < 256
+few_members rules r w i h there =
+    let at = h.calm.current_ i there in
+    let most = h.laws.blanks.base.named.most (place_of i) in
+    let least = h.laws.blanks.base.named.least (place_of i) in
+    omega arith
+
+-- ---- letters only go on
+
+pub letter_goes : (w : World) (e : Event) (k : ℕ) (l : Letter) → letter_at w.letters k ≡ Some l → letter_at (happens w e).letters k ≡ Some l
+letter_goes w e zero l there = absurd (cc)
+letter_goes w e (suc before) l there =
+    let more = (happens_begins w e).letters in
+    ap (λ ls. slice_get ls before) more.1 ∙ get_front w.letters more.0 before l there
+
+pub letters_more : (w : World) (e : Event) → length w.letters ≤ length (happens w e).letters
+letters_more w e =
+    let more = (happens_begins w e).letters in
+    let long = ap length more.1 ∙ length-append w.letters more.0 in
+    omega arith
+
+-- ---- an event of a name that is there
+
+pub record IsThere (w : World) (name : ℕ) : Type 0 where
+  pub current_ : current w (place_of name) ≡ name
+  pub runs : is_stopped w name ≡ false
+
+pub member_there : (rules : Rules) (r : Repair) (w : World) (name : ℕ) → Fine rules r w → has r.members name ≡ true → IsThere w name
+member_there rules r w name h there = record { current_ = h.calm.current_ name there; runs = h.calm.runs name there }
+
+acts_now : (w : World) (name : ℕ) → IsThere w name → current w (place_of (place_of name)) ≡ name
+acts_now w name h = let same : place_of (place_of name) ≡ place_of name = omega arith in ap (current w) same ∙ h.current_
+
+pub tick_is : (w : World) (name : ℕ) → IsThere w name
+    → (let e = event_at (place_of name) act.Tick in happens w e ≡ with_step w e name (step (w.nodes name) does.Tick))
+unfolding happens
+tick_is w name h =
+    let e = event_at (place_of name) act.Tick in
+    ap (λ x. does_event w e x does.Tick) (acts_now w name h) ∙ rw (h.runs) refl
+
+pub hear_is : (w : World) (name k : ℕ) (l : Letter) → IsThere w name → letter_at w.letters k ≡ Some l → is_for l name ≡ true
+    → (let e = event_at (place_of name) (act.Hear k) in happens w e ≡ with_step w e name (hear (w.nodes name) l.packet))
+unfolding happens
+hear_is w name k l h there meant =
+    let e = event_at (place_of name) (act.Hear k) in
+    ap (λ x. hears_letter w e x (hear (w.nodes x)) (letter_at w.letters k)) (acts_now w name h)
+    ∙ ap (hears_letter w e name (hear (w.nodes name))) there ∙ rw (meant, h.runs) refl
+
+-- ---- what a step sends is there
+
+append_at : (xs ys : List Letter) (j : ℕ) (l : Letter) → slice_get ys j ≡ Some l → letter_at (xs ++ ys) (length xs + 1 + j) ≡ Some l
+append_at xs ys j l there =
+    let at : length xs + 1 + j ≡ suc (length xs + j) = omega arith in
+    ap (letter_at (xs ++ ys)) at ∙ get_behind xs ys j ∙ there
+
+-- by its number in the world after it
+pub sent_at : (w : World) (e : Event) (name : ℕ) (s : Step) (j : ℕ) (l : Letter) → slice_get s.letters j ≡ Some l
+    → letter_at (with_step w e name s).letters (length w.letters + 1 + j) ≡ Some l
+unfolding with_step
+sent_at w e name s j l there = append_at w.letters s.letters j l there
+
+pub contained_at : (ls : List Letter) (l : Letter) → Contains ls l → (j : ℕ) × (slice_get ls j ≡ Some l)
+contained_at ls l h = (h.0, slice_get-get_or ls h.0 l h.1 ∙ ap Some h.2)
+
+pub stepped_node : (w : World) (e : Event) (name : ℕ) (s : Step) → (with_step w e name s).nodes name ≡ s.node
+unfolding with_step
+stepped_node w e name s = let t : (name == name) ≡ true = grind (arith, nat_tests) in rw t refl

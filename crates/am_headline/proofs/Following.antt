@@ -1,0 +1,147 @@
+-- What a member's changes keep while a schedule runs.
+use Rattle.am_headline.proofs.RepairWords.{eqb-true, not-false, same_stamp, ◌≡◌, ℕ, ◌+◌, ◌≤◌, ◌==◌, true, false, Option, Some, None, refl, sym, ap, ◌∙◌}
+use Rattle.am_headline.proofs.RepairWords.{subst, arith, length-append, ◌≢◌, Stamp, Image, Entry, Data, Outcome, Log, top_of, told_by, entry_at, image_at}
+use Rattle.am_headline.proofs.RepairWords.{after, image-next, Node, Ballot, top, image_of, is_sequencer, push_entry, is_unfinished, overtake, with_promise}
+use Rattle.am_headline.proofs.RepairWords.{is_view, bodies_after, World, Cause, hears, Promises, invited, overtaken_by, told_result, Carries, whole_entry}
+use Rattle.am_headline.proofs.RepairWords.{by_number, Change, refreshes, settles, takes_report, admits, numbers, stores, begins_list, departs, promises}
+use Rattle.am_headline.proofs.RepairWords.{opens, looks, fetches, stores_view, queues, collects, takes, asks_to_join, asks_to_leave, closes, told_pushed}
+use Rattle.am_headline.proofs.RepairWords.{view_pushed, acts_pushed, Repair, Follows, Stands}
+use Rattle.am_packet.specs.declared.packet.Packet.TheVariants as packet
+use Rattle.am_headline.proofs.Nodes.{CalmCause, acting, leads_not, not_open, Alike, alike_here, alike_refresh, alike_settle, view_alike, acts_alike, rest_alike}
+use Rattle.am_headline.proofs.{RepairLists.entry_within, RepairLists.same_after, RepairLeading.no_ballot_begun, RepairLeading.looked_open, RepairLeading.not_behind}
+
+-- an entry that isn't the next above a number
+abbrev pub Skips : ℕ → Cause → Type 0
+Skips high (hears (packet.Bcast s v base acc number e)) = number ≢ high + 1
+Skips high (hears (packet.Order s v base acc number from req)) = number ≢ high + 1
+Skips high _ = Unit {0}
+
+-- a member that was another node before, in a step of this cause
+pub record FollowsOn (r : Repair) (c : Cause) (q m x : Node) : Type 0 where
+  pub who : x.core.who ≡ m.core.who
+  pub follows : Follows r q x
+  pub stored : top m ≤ top x
+  pub taken : m.core.taken ≤ x.core.taken
+  pub acc : m.core.acc ≤ x.core.acc
+  pub skips : Skips (top m) c → top x ≡ top m
+
+follows_as : (r : Repair) (c : Cause) (q m x y : Node) → Alike x y → FollowsOn r c q m x → FollowsOn r c q m y
+follows_as r c q m x y a h =
+    let f = h.follows in
+    let same = ap (λ (l : Log). top_of l) a.log in
+    let low = f.low in let within = f.within in let base = f.base in let reported = f.reported in let reached = f.reached in
+    let stored = h.stored in let taken = h.taken in let acc = h.acc in
+    let who = ap (λ k. (q.reports k).taken) a.who in
+    record {
+      who = a.who ∙ h.who;
+      follows = record {
+        acts_ = acts_alike a ∙ f.acts_;
+        view_ = view_alike a ∙ f.view_;
+        rest = rest_alike a f.rest;
+        agrees = record {
+          reached = omega arith;
+          low = omega arith;
+          within = omega arith;
+          told_ = ap told_by a.log ∙ f.told_ ∙ ap (image_at q.core.log) (sym same);
+          base = omega arith;
+          reported = omega arith;
+        };
+      };
+      stored = omega arith;
+      taken = omega arith;
+      acc = omega arith;
+      skips = λ k. same ∙ h.skips k;
+    }
+
+-- it stores what comes next in the sequencer's list
+follows_pushed : (r : Repair) (c : Cause) (q m x : Node) (e there : Entry) → (Skips (top m) c → top x + 1 ≢ top m + 1) → is_view e ≡ false
+    → entry_at q.core.log (top x + 1) ≡ Some there → ((image : Image) → after image (top x + 1) e ≡ after image (top x + 1) there)
+    → FollowsOn r c q m x → FollowsOn r c q m (record (push_entry x e) { bodies = bodies_after x.bodies e })
+follows_pushed r c q m x e there skips plain is same h =
+    let f = h.follows in
+    let low = f.low in let stored = h.stored in let reached = f.reached in
+    let more : top (push_entry x e) ≡ top x + 1 = simp length-append (omega arith) in
+    let within = (entry_within q.core.log (top x + 1) there is).1 in
+    let next = image-next q.core.log (top x) there low is in
+    record {
+      who = h.who;
+      follows = record {
+        acts_ = acts_pushed x e plain ∙ f.acts_;
+        view_ = view_pushed x e plain ∙ f.view_;
+        rest = record { stays = f.rest.stays; no_ballot = f.rest.no_ballot };
+        agrees = record {
+          reached = omega arith;
+          low = omega arith;
+          within = omega arith;
+          told_ = told_pushed x e ∙ same (image_of x) ∙ ap (λ (i : Image). after i (top x + 1) there) f.told_ ∙ sym next ∙ ap (image_at q.core.log) (sym more);
+          base = f.base;
+          reported = f.reported;
+        };
+      };
+      stored = omega arith;
+      taken = h.taken;
+      acc = h.acc;
+      skips = λ k. absurd (skips k (let same_top = h.skips k in omega arith));
+    }
+
+-- what is carried stands above no number that it skips
+carried_skips : (high : ℕ) (c : Cause) (x : Node) (s : ℕ) (v : Stamp) (base acc number : ℕ) (e : Entry) → Carries c x s v base acc number e → Skips high c
+    → number ≢ high + 1
+carried_skips high c x s v base acc number e (whole_entry e_ is) k = subst (Skips high) is k
+carried_skips high c x s v base acc number e (by_number from req body is there) k = subst (Skips high) is k
+
+-- what is carried stands in the sequencer's list
+carried : (r : Repair) (w : World) (c : Cause) (x : Node) (s : ℕ) (v : Stamp) (base acc number : ℕ) (e : Entry) → CalmCause r w c
+    → Carries c x s v base acc number e
+    → (there : Entry) × Stands r w number there × ((image : Image) → after image number e ≡ after image number there)
+carried r w c x s v base acc number e calm (whole_entry e_ is) = (e, subst (CalmCause r w) is calm, λ image. refl)
+carried r w c x s v base acc number e calm (by_number from req body is there) =
+    let k = subst (CalmCause r w) is calm in (Data from req k.0, k.1, λ image. same_after image number from req body k.0)
+
+-- a promise of its own view changes nothing
+pub overtaken_same : (v : Stamp) (o : Option Ballot) → is_unfinished o ≡ false → overtake v o ≡ o
+overtaken_same v None h = refl
+overtaken_same v (Some b) h = let over = not-false b.is_over h in rw over refl
+
+promised_same : (r : Repair) (w : World) (c : Cause) (q x : Node) (v : Stamp) → CalmCause r w c → Follows r q x → Promises c x v → Alike x (with_promise x v)
+promised_same r w c q x v calm f (invited s v_ is heard own) = absurd (subst (CalmCause r w) is calm)
+promised_same r w c q x v calm f (overtaken_by s v_ vote is heard above) = absurd (subst (CalmCause r w) is calm)
+promised_same r w c q x v calm f (told_result s v_ base number names resilience is heard own other) =
+    let same : v ≡ r.view = (subst (CalmCause r w) is calm) (eqb-true v.by s own) in
+    let promise = same ∙ sym f.view_ ∙ sym (acting x f.acts_).1 in
+    alike_here x (with_promise x v) refl refl promise refl refl (overtaken_same v x.ballot f.rest.no_ballot) (omega arith) (omega arith)
+
+no_leader : (r : Repair) (c : Cause) (q m x : Node) → r.view.by ≡ r.by → (m.core.who == r.by) ≡ false → FollowsOn r c q m x → is_sequencer x ≡ true → ⊥
+no_leader r c q m x by other h t = leads_not x r.by (ap (λ (v : Stamp). v.by) h.follows.view_ ∙ by) (ap (λ k. k == r.by) h.who ∙ other) t
+
+pub follow_change : (r : Repair) (w : World) (c : Cause) (o : Outcome) (m x y : Node) → r.view.by ≡ r.by → (m.core.who == r.by) ≡ false
+    → CalmCause r w c → Change c o x y → FollowsOn r c (w.nodes r.by) m x → FollowsOn r c (w.nodes r.by) m y
+follow_change r w c o m x y by other calm refreshes h = follows_as r c _ m x y (alike_refresh x) h
+follow_change r w c o m x y by other calm settles h = follows_as r c _ m x y (alike_settle x) h
+follow_change r w c o m x y by other calm (takes_report s v report brings may) h = absurd (no_leader r c _ m x by other h may.leads)
+follow_change r w c o m x y by other calm (admits s v is leads fit) h = absurd (no_leader r c _ m x by other h leads)
+follow_change r w c o m x y by other calm (numbers e leads room why) h = absurd (no_leader r c _ m x by other h leads)
+follow_change r w c o m x y by other calm (stores s v base acc number e carries heard plain may) h =
+    let k = carried r w c x s v base acc number e calm carries in
+    let next = may.next in
+    follows_pushed r c _ m x e k.0 (λ skips same. carried_skips (top m) c x s v base acc number e carries skips (next ∙ same)) plain
+    (subst (λ n. Stands r w n k.0) next k.1) (subst (λ n. (image : Image) → after image n e ≡ after image n k.0) next k.2) h
+follow_change r w c o m x y by other calm (begins_list s v base join image is says may) h = absurd
+    (let a = (acting x h.follows.acts_).0 in let b = may.no_member in cc)
+follow_change r w c o m x y by other calm (departs s v number is heard leaves) h = absurd (let a = h.follows.rest.stays in cc)
+follow_change r w c o m x y by other calm (promises v low why) h = follows_as r c _ m x y (promised_same r w c _ x v calm h.follows why) h
+follow_change r w c o m x y by other calm (opens least resilience begins may) h = absurd (no_ballot_begun r w c x calm begins)
+follow_change r w c o m x y by other calm (looks b verdict over why look is) h = absurd
+    (let k = looked_open c x b why in not_open x k.0 k.1 h.follows.rest.no_ballot)
+follow_change r w c o m x y by other calm (fetches s v base number e is heard promise below why may) h = absurd
+    (not_behind x v h.follows.acts_ (same_stamp v x.core.promise promise) below)
+follow_change r w c o m x y by other calm (stores_view s v base number names resilience is heard own other_ promise below may) h = absurd
+    (not_behind x v h.follows.acts_ (sym promise) below)
+follow_change r w c o m x y by other calm (queues body is says member stays few) h = absurd (subst (CalmCause r w) is calm)
+follow_change r w c o m x y by other calm (collects req is) h = absurd (subst (CalmCause r w) is calm)
+follow_change r w c o m x y by other calm (takes e is says member some there) h = absurd (subst (CalmCause r w) is calm)
+follow_change r w c o m x y by other calm (asks_to_join is was) h = absurd (subst (CalmCause r w) is calm)
+follow_change r w c o m x y by other calm (asks_to_leave is was stays done) h = absurd (subst (CalmCause r w) is calm)
+follow_change r w c o m x y by other calm (closes leads leaves alone room) h = absurd (no_leader r c _ m x by other h leads)
+follow_change r w c o m x y by other calm _ h = follows_as r c _ m x y
+    (alike_here x y refl refl refl refl refl refl (omega arith) (omega arith)) h

@@ -1,0 +1,167 @@
+-- A sequencer trims no more than it knows each member of its list to have taken: each change keeps it.
+use Rattle.am_headline.proofs.RepairWords.{fetch_follows, stamp_by, other_asks, promise_is, not_above_view, not_own, base_low, other_heard, has_in, ◌≡◌, ◌≢◌, ⊎_elim}
+use Rattle.am_headline.proofs.RepairWords.{ℕ, ◌+◌, ◌<◌, ◌≤◌, ◌==◌, nat_lt, true, false, List, length, refl, sym, ap, ◌∙◌, subst, arith, nat_tests, Stamp, Image}
+use Rattle.am_headline.proofs.RepairWords.{Report, Row, Entry, Data, Join, Leave, Outcome, place_of, life_of, has, at_place, members_of, with_row, after, row_at, In}
+use Rattle.am_headline.proofs.RepairWords.{row_set, long_after, accept, pass_over, own_report, tell, go_on, let_go, Node, Ballot, top, image_of, view, members}
+use Rattle.am_headline.proofs.RepairWords.{is_sequencer, push_entry, trim_up_to, with_report, lead, refresh, settle, refresh_at_end, Verdict, with_promise}
+use Rattle.am_headline.proofs.RepairWords.{next_stamp, with_admitted, split, Cause, hears, HasOpen, Looks, decides, Promises, invited, overtaken, told_result}
+use Rattle.am_headline.proofs.RepairWords.{Numbers, asked_send, own_send, asked_join, asked_leave, Change, refreshes, settles, takes_report, admits, numbers, notes}
+use Rattle.am_headline.proofs.RepairWords.{stores, begins_list, departs, promises, opens, looks, fetches, stores_view, asks_to_join, closes, settle_is, told_pushed}
+use Rattle.am_headline.proofs.RepairWords.{leads_pushed, in_is, at_most_below, view_last, Balloted, next_above, Fronts, told_used, TrimsKnown}
+use Rattle.am_packet.specs.declared.packet.Packet.TheVariants as packet
+use Rattle.am_headline.proofs.{Ends.follows, Ends.raise_up, Ends.lead_reports, Nodes.leading, Nodes.no_open, Nodes.not_open, Nodes.alike_refresh}
+use Rattle.am_headline.proofs.{Nodes.leads_alike, RepairLeading.least_low, RepairLeading.looked_open}
+
+-- ---- who is a member after an entry was one before, but for a joiner
+
+set_back : (image : Image) (name i : ℕ) (r : Row) → length image.rows ≡ 16 → (In r (life_of i) → In (row_at image (place_of name)) (life_of i))
+    → In (row_at (with_row image name r) (place_of i)) (life_of i) → In (row_at image (place_of i)) (life_of i)
+set_back image name i r long back h = ⊎_elim
+    (λ (x : (place_of i ≡ place_of name) × (row_at (with_row image name r) (place_of i) ≡ r)).
+    subst (λ p. In (row_at image p) (life_of i)) (sym x.0) (back (subst (λ y. In y (life_of i)) x.1 h)))
+    (λ (x : (place_of i ≢ place_of name) × (row_at (with_row image name r) (place_of i) ≡ row_at image (place_of i))). subst (λ y. In y (life_of i)) x.1 h)
+    (row_set image name (place_of i) r long)
+
+data_back : (image : Image) (n from req i : ℕ) (body : List ℕ) → length image.rows ≡ 16
+    → In (row_at (after image n (Data from req body)) (place_of i)) (life_of i) → In (row_at image (place_of i)) (life_of i)
+unfolding after
+data_back image n from req i body long h = split ((at_place image from).life == life_of from)
+    (λ t. set_back image from i (record (at_place image from) { last = req }) long (λ x. record { joined = x.joined; left = x.left; is = x.is })
+    (rw t at h))
+    (λ f. rw f at h)
+
+leave_back : (image : Image) (n name i : ℕ) → length image.rows ≡ 16 → 0 < n → In (row_at (after image n (Leave name)) (place_of i)) (life_of i)
+    → In (row_at image (place_of i)) (life_of i)
+unfolding after
+leave_back image n name i long up h = split ((at_place image name).life == life_of name)
+    (λ t. set_back image name i (record (at_place image name) { left = n }) long (λ x. absurd (let none = x.left in omega arith)) (rw t at h))
+    (λ f. rw f at h)
+
+join_back : (image : Image) (n name i : ℕ) → length image.rows ≡ 16 → (i == name) ≡ false
+    → In (row_at (after image n (Join name)) (place_of i)) (life_of i) → In (row_at image (place_of i)) (life_of i)
+unfolding after
+join_back image n name i long other h = ⊎_elim
+    (λ (x : (place_of i ≡ place_of name) × (row_at (after image n (Join name))
+    (place_of i) ≡ record { life = life_of name; joined = n; left = 0; last = 0 })).
+    absurd (
+    let is = (subst (λ y. In y (life_of i)) x.1 h).is in
+    let same : i ≡ name = omega arith in
+    let z : ⊥ = grind (arith, nat_tests) in z))
+    (λ (x : (place_of i ≢ place_of name) × (row_at (after image n (Join name)) (place_of i) ≡ row_at image (place_of i))). subst
+    (λ y. In y (life_of i)) x.1 h)
+    (row_set image name (place_of i) (record { life = life_of name; joined = n; left = 0; last = 0 }) long)
+
+-- a member of a longer list
+member_back : (m : Node) (e : Entry) (i : ℕ) → Fronts m → (length (image_of m).rows ≡ 16
+    → In (row_at (after (image_of m) (top m + 1) e) (place_of i)) (life_of i)
+    → In (row_at (image_of m) (place_of i)) (life_of i))
+    → has (members (push_entry m e)) i ≡ true → has (members m) i ≡ true
+member_back m e i f back there =
+    let used = told_used m f in
+    let longer = long_after (image_of m) (top m + 1) e used.places in
+    let here = ap (λ (x : Image). has (members_of x) i) (sym (told_pushed m e)) ∙ there in
+    in_is (image_of m) i used.places (back used.places (has_in (after (image_of m) (top m + 1) e) i longer here))
+
+-- ---- a refresh
+
+lead_trims : (m : Node) (i : ℕ) → Fronts m → has (members m) i ≡ true → m.core.base ≤ (m.reports i).taken → (lead m).core.base ≤ ((lead m).reports i).taken
+unfolding lead own_report tell go_on let_go accept pass_over
+lead_trims m i f there low =
+    let c = (lead m).core in
+    let base = f.base in
+    let up = (lead_reports m i).taken in
+    base_low ((lead m).reports i).taken m.core.base _ (omega arith) (λ to is. least_low m (lead m).reports (record c { base = m.core.base }) i to f refl
+    (omega arith) (omega arith) there is)
+
+known_refresh : (m : Node) → Fronts m → TrimsKnown m → TrimsKnown (refresh m)
+unfolding refresh lead let_go own_report go_on pass_over accept tell
+known_refresh m f h = split (is_sequencer m)
+    (λ t. rw t (λ u i few there. lead_trims m i f there (h t i few there)))
+    (λ g. λ u i few there. absurd (let same = leads_alike (alike_refresh m) in cc))
+
+known_settle : (m : Node) → TrimsKnown m → TrimsKnown (settle m)
+known_settle m h = subst TrimsKnown (sym (settle_is m)) h
+
+pub known_end : (m : Node) → Fronts m → TrimsKnown m → TrimsKnown (refresh_at_end m)
+unfolding refresh_at_end
+known_end m f h = known_settle (refresh m) (known_refresh m f h)
+
+-- ---- reports, and entries that the sequencer numbers
+
+known_report : (m : Node) (s : ℕ) (report : Report) → TrimsKnown m → TrimsKnown (with_report m s report)
+known_report m s report h t i few there = let a = h t i few there in let b = (raise_up m.reports s report i).taken in omega arith
+
+-- no more members than before
+known_pushed : (m : Node) (e : Entry) → is_sequencer (push_entry m e) ≡ is_sequencer m
+    → ((i : ℕ) → has (members (push_entry m e)) i ≡ true → has (members m) i ≡ true) → TrimsKnown m → TrimsKnown (push_entry m e)
+known_pushed m e same back h t i few there = h (sym same ∙ t) i few (back i there)
+
+-- a joiner begins at the base
+pub known_joined : (m : Node) (s : ℕ) → Fronts m → TrimsKnown m → TrimsKnown (push_entry (with_admitted m s) (Join s))
+known_joined m s f h t i few there = split (i == s)
+    (λ same. rw same (omega arith))
+    (λ other. rw other (h (sym (leads_pushed m (Join s) refl) ∙ t) i few
+    (member_back m (Join s) i f (λ long x. join_back (image_of m) (top m + 1) s i long other x) there)))
+
+abbrev pub NoJoin : Cause → Type 0
+NoJoin c = (s : ℕ) (v : Stamp) → c ≡ hears (packet.JoinAsk s v) → ⊥
+
+known_numbered : (c : Cause) (m : Node) (e : Entry) → NoJoin c → Numbers c m e → Fronts m → TrimsKnown m → TrimsKnown (push_entry m e)
+known_numbered c m e none (asked_send s v report req body by known left next) f h =
+    known_pushed m (Data s req body) (leads_pushed m (Data s req body) refl)
+    (λ i there. member_back m (Data s req body) i f (λ long x. data_back (image_of m) (top m + 1) s req i body long x) there) h
+known_numbered c m e none (own_send s is last) f h =
+    let d = Data m.core.who s.req s.body in
+    known_pushed m d (leads_pushed m d refl) (λ i there. member_back m d i f
+    (λ long x. data_back (image_of m) (top m + 1) m.core.who s.req i s.body long x) there) h
+known_numbered c m e none (asked_join s v is other fit) f h = absurd (none s v is)
+known_numbered c m e none (asked_leave s v report is other known stays) f h =
+    known_pushed m (Leave s) (leads_pushed m (Leave s) refl) (λ i there. member_back m (Leave s) i f
+    (λ long x. leave_back (image_of m) (top m + 1) s i long (omega arith) x) there) h
+
+-- ---- who doesn't lead
+
+promised_leads : (c : Cause) (m : Node) (v : Stamp) → Promises c m v → Balloted m → is_sequencer (with_promise m v) ≡ true → ⊥
+promised_leads c m v (invited s _ is heard own) k t =
+    not_own (with_promise m v) s (ap (λ (x : Stamp). x.by) (sym (promise_is (with_promise m v) t)) ∙ stamp_by v s own) (other_asks m s heard) t
+promised_leads c m v (told_result s _ base number names resilience is heard own other) k t =
+    not_own (with_promise m v) v.by (ap (λ (x : Stamp). x.by) (sym (promise_is (with_promise m v) t))) other t
+promised_leads c m v (overtaken s _ vote is heard above) k t = not_above_view (with_promise m v) (at_most_below (view m) m.core.promise v k.high above) t
+
+-- an open ballot's node doesn't act
+open_leads : (m : Node) (b : Ballot) → HasOpen m b → Balloted m → is_sequencer m ≡ true → ⊥
+open_leads m b o k t = not_open m b o (no_open m k (leading m t).0)
+
+known_look : (m : Node) (b : Ballot) (v : Verdict) → Looks m b v → (is_sequencer m ≡ true → ⊥) → TrimsKnown v.node
+known_look m b v (decides may) none = λ t i few there. (let low : nat_lt i 256 ≡ true = grind (arith, nat_tests) in rw low (omega arith))
+known_look m b v _ none = λ t i few there. absurd (none t)
+
+-- ---- each change
+
+pub known_change : (c : Cause) (o : Outcome) (m n : Node) → NoJoin c → Balloted m → Fronts m → Change c o m n → TrimsKnown m → TrimsKnown n
+known_change c o m n none k f refreshes h = known_refresh m f h
+known_change c o m n none k f settles h = known_settle m h
+known_change c o m n none k f (takes_report s v report brings may) h = known_report m s report h
+known_change c o m n none k f (admits s v is leads fit) h = absurd (none s v is)
+known_change c o m n none k f (numbers e leads room why) h = known_numbered c m e none why f h
+known_change c o m n none k f (notes s v base acc brings heard) h = λ t i few there. absurd (let g = follows m s v heard in cc)
+known_change c o m n none k f (stores s v base acc number e carries heard plain may) h = λ t i few there. absurd
+    (let g = follows m s v heard in let same = leads_pushed m e plain in cc)
+known_change c o m n none k f (begins_list s v base join image is says may) h = λ t i few there. absurd (
+    let own = stamp_by v s may.own in
+    let p = promise_is n t in
+    not_own n s (ap (λ (x : Stamp). x.by) (sym p) ∙ own) (other_asks m s may.asks) t)
+known_change c o m n none k f (departs s v number is heard leaves) h = λ t i few there. absurd (cc)
+known_change c o m n none k f (promises v low why) h = λ t i few there. absurd (promised_leads c m v why k t)
+known_change c o m n none k f (opens least resilience begins may) h = λ t i few there. absurd (
+    let above = at_most_below (view m) m.core.promise (next_stamp m) k.high (next_above m.core.promise m.core.who) in
+    not_above_view n above t)
+known_change c o m n none k f (looks b verdict over why look is) h = (let old = looked_open c m b why in known_look m b verdict look
+    (open_leads m old.0 old.1 k))
+known_change c o m n none k f (fetches s v base number e is heard promise below why may) h = λ t i few there. absurd
+    (fetch_follows m s v base e why (other_heard m s heard) promise below t)
+known_change c o m n none k f (stores_view s v base number names resilience is heard own other promise below may) h = λ t i few there. absurd (
+    not_own n v.by (ap (λ (x : Stamp). x.by) (view_last (trim_up_to m base) v names resilience)) other t)
+known_change c o m n none k f (asks_to_join is was) h = λ t i few there. absurd (cc)
+known_change c o m n none k f (closes leads leaves alone room) h = λ t i few there. absurd (cc)
+known_change c o m n none k f _ h = h

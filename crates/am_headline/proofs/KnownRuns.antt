@@ -1,0 +1,150 @@
+-- In each run a sequencer trims no more than it knows each member of its list to have taken.
+use Rattle.am_headline.proofs.RepairWords.{◌≡◌, ℕ, ◌<◌, ◌==◌, ◌&&◌, ◌||◌, not, nat_lt, nat_le, Bool, true, false, if◌then◌else◌, List, [], ◌∷◌, Option, Some, None}
+use Rattle.am_headline.proofs.RepairWords.{refl, sym, ap, subst, arith, Stamp, Row, Outcome, Join, Rules, life_of, has, at_place, fits, Packet, Letter, kind_of, Act}
+use Rattle.am_headline.proofs.RepairWords.{Event, is_for, letter_at, Node, image_of, is_sequencer, has_room, push_entry, Plan, Step, finish, hear, hear_refusal}
+use Rattle.am_headline.proofs.RepairWords.{packet_length, with_admitted, join_ask_row, hears_member, hear_row, World, start, is_stopped, with_record, with_step}
+use Rattle.am_headline.proofs.RepairWords.{hears_letter, hear_cut, acts_as, happens, happen, heard_by, split, Cause, Changes, no_change, changed, actor, IsCause}
+use Rattle.am_headline.proofs.RepairWords.{Happens, steps, events_have_effects, few_names, heard_names, HeardNames, HeardUsed, Fronts, reporting, pushed_fronts}
+use Rattle.am_headline.proofs.RepairWords.{Along, along_changes, AllOwned, heard_used, each_along, each_owned, owned_start, TrimsKnown, SequencersTrimKnown}
+use Rattle.am_model.specs.Joining.{asks_to_join}
+use Rattle.am_base.specs.declared.outcome.Outcome.TheVariants as said
+use Rattle.am_packet.specs.declared.packet.Packet.TheVariants as packet
+use Rattle.am_group.specs.declared.event.Act.TheVariants as act
+use Rattle.am_headline.proofs.Knowing.{NoJoin, known_change, known_end, known_joined}
+
+-- ---- a step of another cause than a request to join
+
+known_changes : (rules : Rules) {c : Cause} {o : Outcome} (m n : Node) → NoJoin c → HeardNames c → HeardUsed c → Changes c o m n → Along rules m
+    → TrimsKnown m → TrimsKnown n
+known_changes rules m n none names used no_change a h = h
+known_changes rules m n none names used (changed {n = x} one more) a h =
+    known_changes rules x n none names used more (along_changes rules m x names used (changed one no_change) a)
+    (known_change _ _ m x none a.balloted a.owned.fronts one h)
+
+-- ---- a request to join
+
+joined_fronts : (m : Node) (s : ℕ) → Fronts m → fits (image_of m) (Join s) ≡ true → Fronts (push_entry (with_admitted m s) (Join s))
+joined_fronts m s f fit =
+    pushed_fronts (with_admitted m s) (Join s) fit (reporting _ (split (m.core.who == s) (λ t. rw t f.base) (λ g. rw g f.reported)) f)
+
+-- a plan whose node keeps it
+record PlanKnown (p : Plan) : Type 0 where
+  stays : p.departs ≡ false
+  fronts : Fronts p.node
+  known : TrimsKnown p.node
+
+plan_if : (b : Bool) (p q : Plan) → (b ≡ true → PlanKnown p) → (b ≡ false → PlanKnown q) → PlanKnown (if b then p else q)
+plan_if true p q f g = f refl
+plan_if false p q f g = g refl
+
+plan_known : (m : Node) (p : Plan) → PlanKnown p → TrimsKnown (finish m p).node
+unfolding finish
+plan_known m p h = rw h.stays (known_end p.node h.fronts h.known)
+
+asked_known : (m : Node) (s : ℕ) (q : Row) → Fronts m → TrimsKnown m → PlanKnown (asks_to_join m s q)
+asked_known m s q f h =
+    plan_if (nat_lt (life_of s) q.life) _ _ (λ t. record { stays = refl; fronts = f; known = h })
+    (λ a. plan_if ((q.life == life_of s) && nat_lt 0 q.left) _ _ (λ t. record { stays = refl; fronts = f; known = h })
+    (λ b. plan_if (nat_lt q.life (life_of s) && (nat_lt 0 q.life && ((q.left == 0) || nat_lt m.core.acc q.left))) _ _
+    (λ t. record { stays = refl; fronts = f; known = h })
+    (λ c. plan_if (fits (image_of m) (Join s) && not (has_room m)) _ _ (λ t. record { stays = refl; fronts = f; known = h })
+    (λ d. plan_if (fits (image_of m) (Join s)) _ _ (λ fit. record { stays = refl; fronts = joined_fronts m s f fit; known = known_joined m s f h })
+    (λ e. plan_if (nat_le q.joined (m.reports s).stored || nat_lt m.core.acc q.joined) _ _ (λ t. record { stays = refl; fronts = f; known = h })
+    (λ t. record { stays = refl; fronts = f; known = h }))))))
+
+join_ends : (m : Node) (s : ℕ) (v : Stamp) → Fronts m → TrimsKnown m → TrimsKnown (hear m (packet.JoinAsk s v)).node
+unfolding hear hear_row join_ask_row
+join_ends m s v f h = plan_known m _ (plan_if (hears_member m s && is_sequencer m) _ _ (λ t. asked_known m s (at_place (image_of m) s) f h)
+    (λ t. record { stays = refl; fronts = f; known = h }))
+
+refused_known : (m : Node) (cause : ℕ) → Fronts m → TrimsKnown m → TrimsKnown (hear_refusal m cause).node
+unfolding hear_refusal finish
+refused_known m cause f h = known_end m f h
+
+-- a request to join, among packets
+ask_of : (p : Packet) → (kind_of p == 9) ≡ true → (s : ℕ) × (v : Stamp) × (p ≡ packet.JoinAsk s v)
+ask_of (packet.JoinAsk s v) t = (s, v, refl)
+ask_of _ t = absurd (cc)
+
+asks_known : (m : Node) (p : Packet) → (kind_of p == 9) ≡ true → Fronts m → TrimsKnown m → TrimsKnown (hear m p).node
+asks_known m p t f h = let k = ask_of p t in subst (λ x. TrimsKnown (hear m x).node) (sym k.2) (join_ends m k.0 k.1 f h)
+
+cut_known : (m : Node) (keep : ℕ) (p : Packet) → (kind_of p == 9) ≡ true → Fronts m → TrimsKnown m → TrimsKnown (hear_cut m keep p).node
+cut_known m keep p t f h = split (nat_le (packet_length p) keep)
+    (λ a. rw a (asks_known m p t f h))
+    (λ a. split (nat_lt keep 12) (λ b. rw (a, b) (refused_known m 1 f h)) (λ b. rw (a, b) (refused_known m 5 f h)))
+
+-- ---- worlds
+
+abbrev AllTrim : World → Type 0
+AllTrim w = (name : ℕ) → name < 256 → TrimsKnown (w.nodes name)
+
+trim_step : (w : World) (e : Event) (name : ℕ) (s : Step) → AllTrim w → TrimsKnown s.node → AllTrim (with_step w e name s)
+unfolding with_step
+trim_step w e name s h k other few = split (other == name) (λ t. rw t k) (λ f. rw f (h other few))
+
+trim_if : (b : Bool) (u v : World) → AllTrim u → AllTrim v → AllTrim (if b then u else v)
+trim_if true u v f g = f
+trim_if false u v f g = g
+
+trim_unchanged : (w : World) (e : Event) (o : Outcome) → AllTrim w → AllTrim (with_record w e o)
+unfolding with_record
+trim_unchanged w e o h = h
+
+abbrev is_join : Option Letter → Bool
+is_join None = false
+is_join (Some l) = kind_of l.packet == 9
+
+-- a request to join is heard, whole or in part
+trim_letter : (w : World) (e : Event) (name : ℕ) (hearing : Packet → Step) (o : Option Letter)
+    → ((p : Packet) → (kind_of p == 9) ≡ true → TrimsKnown (hearing p).node) → is_join o ≡ true → AllTrim w → AllTrim (hears_letter w e name hearing o)
+trim_letter w e name hearing None k t h = absurd (cc)
+trim_letter w e name hearing (Some l) k t h =
+    trim_if (not (is_for l name)) _ _ (trim_unchanged w e said.NotAddressed h)
+    (trim_if (is_stopped w name) _ _ (trim_unchanged w e said.IsStopped h) (trim_step w e name (hearing l.packet) h (k l.packet t)))
+
+trim_join : (rules : Rules) (w : World) (e : Event) (a : Act) → AllOwned rules w → AllTrim w → is_join (letter_at w.letters (heard_by a)) ≡ true
+    → AllTrim (acts_as w e (actor w e) a)
+trim_join rules w e (act.Hear number) laws h t =
+    let name = actor w e in
+    let few = few_names rules w e laws.blanks.base.named in
+    trim_letter w e name (hear (w.nodes name)) (letter_at w.letters number)
+    (λ p u. asks_known (w.nodes name) p u (laws.each name few).fronts (h name few)) t h
+trim_join rules w e (act.Cut number keep) laws h t =
+    let name = actor w e in
+    let few = few_names rules w e laws.blanks.base.named in
+    trim_letter w e name (hear_cut (w.nodes name) keep) (letter_at w.letters number)
+    (λ p u. cut_known (w.nodes name) keep p u (laws.each name few).fronts (h name few)) t h
+trim_join rules w e _ laws h t = absurd (cc)
+
+-- anything else
+trim_happens : (rules : Rules) (w : World) (e : Event) (v : World) → AllOwned rules w → AllTrim w → is_join (letter_at w.letters (heard_by e.act)) ≡ false
+    → Happens w e v → AllTrim v
+unfolding with_record with_step
+trim_happens rules w e v laws h none (steps c s runs cause effect) =
+    let name = actor w e in
+    let few = few_names rules w e laws.blanks.base.named in
+    let no_join : NoJoin c = λ sender stamp is. (let was = subst (IsCause w name e.act) is cause in
+    let kind : (kind_of was.letter.packet == 9) ≡ true = ap (λ p. kind_of p == 9) was.is in
+    let there = ap is_join was.there in
+    cc) in
+    trim_step w e name s h (known_changes rules (w.nodes name) s.node no_join (heard_names rules w e c laws.blanks.base cause)
+    (heard_used rules w e c laws cause) effect.changes (each_along rules w name few laws) (h name few))
+trim_happens rules w e v laws h none _ = h
+
+trim_event : (rules : Rules) (w : World) (e : Event) → AllOwned rules w → AllTrim w → AllTrim (happens w e)
+unfolding happens
+trim_event rules w e laws h = split (is_join (letter_at w.letters (heard_by e.act))) (λ t. trim_join rules w e e.act laws h t)
+    (λ f. trim_happens rules w e (happens w e) laws h f (events_have_effects w e))
+
+trim_along : (rules : Rules) (w : World) (es : List Event) → AllOwned rules w → AllTrim w → AllTrim (happen w es)
+unfolding happen
+trim_along rules w [] laws h = h
+trim_along rules w (e ∷ es) laws h = trim_along rules (happens w e) es (each_owned rules w e (happens w e) (events_have_effects w e) laws)
+    (trim_event rules w e laws h)
+
+trim_start : (rules : Rules) → AllTrim (start rules)
+trim_start rules name few = split (has rules.founders name) (λ t. rw t (λ u i low there. omega arith)) (λ f. rw f (λ u i low there. omega arith))
+
+pub sequencers_trim_known : SequencersTrimKnown
+sequencers_trim_known rules events name may few = trim_along rules (start rules) events (owned_start rules may) (trim_start rules) name few

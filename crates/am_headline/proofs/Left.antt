@@ -1,0 +1,236 @@
+-- Who left: whose Leave stands on the chain asked to leave, and who departed has its Leave accepted, unless nobody is left.
+use Rattle.am_headline.proofs.RepairedRunsWords.{last_is, ◌≡◌, ◌⊎◌, ⊎_elim, inl, inr, ℕ, ◌+◌, ◌<◌, ◌≤◌, List, [], ◌∷◌, ◌++◌, length, true, false, refl, sym, ap, ◌∙◌}
+use Rattle.am_headline.proofs.RepairedRunsWords.{subst, arith, Entry, Data, Join, Leave, View, Image, place_of, life_of, Begins, IsGood, mem, view_of, key, In, row_at}
+use Rattle.am_headline.proofs.RepairedRunsWords.{begins_refl, begins_more, begins_trans, begins_both, begins_same, begins_length, begins_pushed, length_push, good_begins}
+use Rattle.am_headline.proofs.RepairedRunsWords.{told_push, long_told, mem_in, in_mem, mem_between, leaver_in, leaver_out, Group, put, opening, Leads, chain_of, Move}
+use Rattle.am_headline.proofs.RepairedRunsWords.{MayNumber, choice_of, longer, accepts, learns, begins, raises, shows, serves, gives_over, welcomes, asks, stops, Kept}
+use Rattle.am_headline.proofs.RepairedRunsWords.{Run, founded, more, first_stamp, put_same, put_at, run_keeps, moves_grow, Becomes, stayed, joins, founds, became}
+use Rattle.am_chain_lists.specs.Whole.{image_of}
+use Rattle.am_chain.specs.Moves.{numbers, stores, fetches, decides, departs, closes}
+use Rattle.am_chain.specs.Group as groups
+
+-- ---- what is kept
+
+abbrev pub LeavesAsked : Group → Type 0
+LeavesAsked s = (a : List Entry) (j : ℕ) → Begins (a ++ Leave j ∷ []) (chain_of s.views) → (s.node j).leaving ≡ true
+
+pub data GoneBy (s : Group) (d : ℕ) : Type 0 where
+  accepted : (before : List Entry) → Begins (before ++ Leave d ∷ []) s.group → GoneBy s d
+  last : (before : List Entry) → chain_of s.views ≡ before ++ Leave d ∷ [] → ((j : ℕ) → mem (chain_of s.views) j ≡ true → ⊥) → GoneBy s d
+
+abbrev pub AllGone : Group → Type 0
+AllGone s = (d : ℕ) → (s.node d).departed ≡ true → GoneBy s d
+
+-- ---- lists
+
+same_leave : (a b : ℕ) → Leave a ≡ Leave b → a ≡ b
+same_leave a b h = cc
+
+-- a Leave adds nobody
+none_more : (list : List Entry) (name j : ℕ) → mem (list ++ Leave name ∷ []) j ≡ true → mem list j ≡ true
+none_more list name j h = by_kind (became (image_of list) (1 + length list) (Leave name) j (long_told list) (omega arith)
+    (subst (λ (i : Image). In (row_at i (place_of j)) (life_of j)) (told_push list (Leave name)) (mem_in (list ++ Leave name ∷ []) j h)))
+  where
+    by_kind : Becomes (image_of list) (1 + length list) (Leave name) j → mem list j ≡ true
+    by_kind (stayed old same) = in_mem list j old
+    by_kind (joins is same) = absurd (cc)
+    by_kind (founds is blank_ same) = absurd (cc)
+
+-- a name leaves a list once
+pub once : (list a b : List Entry) (d : ℕ) → IsGood list → Begins (a ++ Leave d ∷ []) list → Begins (b ++ Leave d ∷ []) list → length a < length b → ⊥
+once list a b d good h k less =
+    let good_a = good_begins h good in
+    let good_b = good_begins k good in
+    let long = length_push a (Leave d) in
+    let front : Begins (a ++ Leave d ∷ []) b = begins_both h (begins_trans (begins_more b (Leave d ∷ [])) k) (omega arith) in
+    leaver_out a d good_a (mem_between d (good_begins (begins_more b (Leave d ∷ [])) good_b) (begins_more a (Leave d ∷ [])) front (leaver_in a d good_a)
+    (leaver_in b d good_b))
+
+-- ---- Leaves
+
+put_leaving : (s : Group) (i : ℕ) (m : groups.Node) → ((s.node i).leaving ≡ true → m.leaving ≡ true) → (j : ℕ) → (s.node j).leaving ≡ true
+    → (put s.node i m j).leaving ≡ true
+put_leaving s i m f j = put_at (λ k n. (s.node k).leaving ≡ true → n.leaving ≡ true) s.node i m f (λ k other z. z) j
+
+-- the chain stays
+asked_same : (s t : Group) → chain_of t.views ≡ chain_of s.views → ((j : ℕ) → (s.node j).leaving ≡ true → (t.node j).leaving ≡ true) → LeavesAsked s
+    → LeavesAsked t
+asked_same s t chain leaving h a j begins_ = leaving j (h a j (subst (Begins (a ++ Leave j ∷ [])) chain begins_))
+
+-- it gets an entry
+asked_more : (s t : Group) (e : Entry) → chain_of t.views ≡ chain_of s.views ++ e ∷ [] → ((j : ℕ) → (s.node j).leaving ≡ true → (t.node j).leaving ≡ true)
+    → ((j : ℕ) → e ≡ Leave j → (s.node j).leaving ≡ true) → LeavesAsked s → LeavesAsked t
+asked_more s t e chain leaving new h a j begins_ = leaving j (⊎_elim
+    (λ (old : Begins (a ++ Leave j ∷ []) (chain_of s.views)). h a j old)
+    (λ (now : a ++ Leave j ∷ [] ≡ chain_of s.views ++ e ∷ []). new j (sym (last_is a (chain_of s.views) (Leave j) e now)))
+    (begins_pushed e (subst (Begins (a ++ Leave j ∷ [])) chain begins_)))
+
+-- the chain of a sequencer's group, with an entry more
+chain_more : (s : Group) (i : ℕ) (list : List Entry) → Kept s → Leads i (s.node i)
+    → put s.views.line (key (view_of (s.node i).list)) list (key s.views.current) ≡ list
+chain_more s i list k leads =
+    let ok = (k.each i).leads leads in
+    let viewed : view_of (s.node i).list ≡ s.views.current = ap view_of ok.chain ∙ k.views.view in
+    ap (λ u. put s.views.line (key u) list (key s.views.current)) viewed ∙ put_same s.views.line (key s.views.current) list
+
+numbers_asked : (s : Group) (i : ℕ) (e : Entry) → MayNumber s.node i e → (j : ℕ) → e ≡ Leave j → (s.node j).leaving ≡ true
+numbers_asked s i (Data from req body) may j is = absurd (cc)
+numbers_asked s i (Join name) may j is = absurd (cc)
+numbers_asked s i (Leave name) may j is = let same : name ≡ j = same_leave name j is in ap (λ k. (s.node k).leaving) (sym same) ∙ may.0
+numbers_asked s i (View stamp members resilience) may j is = absurd may
+
+asked_move : (s t : Group) → Move s t → Kept s → LeavesAsked s → LeavesAsked t
+asked_move s t (numbers i e leads fit may) k h =
+    let ok = (k.each i).leads leads in
+    asked_more s t e (chain_more s i ((s.node i).list ++ e ∷ []) k leads ∙ ap (λ l. l ++ e ∷ []) ok.chain) (put_leaving s i (longer (s.node i) e) (λ z. z))
+    (numbers_asked s i e may) h
+asked_move s t (closes i n leads leaving alone may) k h =
+    let ok = (k.each i).leads leads in
+    asked_more s t (Leave i) (chain_more s i ((s.node i).list ++ Leave i ∷ []) k leads ∙ ap (λ l. l ++ Leave i ∷ []) ok.chain)
+    (put_leaving s i (record (longer (s.node i) (Leave i)) { departed = true }) (λ z. z))
+    (λ j is. let same : i ≡ j = same_leave i j is in ap (λ x. (s.node x).leaving) (sym same) ∙ leaving) h
+asked_move s t (decides i members resilience may) k h = λ a j begins_.
+    (let m = s.node i in
+    let all = opening (choice_of m members resilience) in
+    let is : chain_of t.views ≡ all = put_same s.views.line (key m.promise) all in
+    put_leaving s i (record m { list = all; ballot = false }) (λ z. z) j (⊎_elim
+    (λ (old : Begins (a ++ Leave j ∷ []) m.list). h a j (begins_trans old ((k.each i).list may.up)))
+    (λ (now : a ++ Leave j ∷ [] ≡ all). absurd (let e = last_is a m.list (Leave j) (View m.promise members resilience) now in cc))
+    (begins_pushed (View m.promise members resilience) (subst (Begins (a ++ Leave j ∷ [])) is begins_))))
+asked_move s t (stores i e up decided other stays next) k h = asked_same s t refl (put_leaving s i (longer (s.node i) e) (λ z. z)) h
+asked_move s t (learns i told_ acc up rises within before up_to given low) k h = asked_same s t refl (put_leaving s i _ (λ z. z)) h
+asked_move s t (begins i few up stays member) k h = asked_same s t refl (put_leaving s i _ (λ z. z)) h
+asked_move s t (raises i stamp there above) k h = asked_same s t refl (put_leaving s i _ (λ z. z)) h
+asked_move s t (fetches i f list e up ballot served shown next) k h = asked_same s t refl (put_leaving s i (longer (s.node i) e) (λ z. z)) h
+asked_move s t (gives_over i) k h = asked_same s t refl (put_leaving s i _ (λ z. z)) h
+asked_move s t (welcomes j stamp base join may) k h = asked_same s t refl (put_leaving s j _ (λ z. z)) h
+asked_move s t (asks i up unballoted) k h = asked_same s t refl (put_leaving s i _ (λ z. refl)) h
+asked_move s t (departs i before may) k h = asked_same s t refl (put_leaving s i _ (λ z. z)) h
+asked_move s t (stops i) k h = asked_same s t refl (put_leaving s i _ (λ z. z)) h
+asked_move s t _ k h = asked_same s t refl (λ j z. z) h
+
+-- ---- who departed
+
+-- as it was, or this name departed now
+put_gone : (s : Group) (i : ℕ) (m : groups.Node) (d : ℕ) → (put s.node i m d).departed ≡ true → ((s.node d).departed ≡ true) ⊎ ((d ≡ i) × (m.departed ≡ true))
+put_gone s i m d = put_at (λ k n. n.departed ≡ true → ((s.node k).departed ≡ true) ⊎ ((k ≡ i) × (m.departed ≡ true))) s.node i m (λ z. inr (refl, z))
+    (λ k other z. inl z) d
+
+not_now : (s : Group) (i : ℕ) (m : groups.Node) (d : ℕ) → m.departed ≡ (s.node i).departed → (put s.node i m d).departed ≡ true → (s.node d).departed ≡ true
+not_now s i m d same t = ⊎_elim
+    (λ (a : (s.node d).departed ≡ true). a)
+    (λ (a : (d ≡ i) × (m.departed ≡ true)). ap (λ k. (s.node k).departed) a.0 ∙ sym same ∙ a.1)
+    (put_gone s i m d t)
+
+-- the chain stays, and more is accepted
+gone_same : (s t : Group) → chain_of t.views ≡ chain_of s.views → Begins s.group t.group → (d : ℕ) → GoneBy s d → GoneBy t d
+gone_same s t chain group d (accepted before h) = accepted before (begins_trans h group)
+gone_same s t chain group d (last before is none) = last before (chain ∙ is) (λ j member. none j (subst (λ l. mem l j ≡ true) chain member))
+
+-- while somebody leads, nobody was the last
+gone_led : (s t : Group) (i : ℕ) → Kept s → Leads i (s.node i) → Begins s.group t.group → (d : ℕ) → GoneBy s d → GoneBy t d
+gone_led s t i k leads group d (accepted before h) = accepted before (begins_trans h group)
+gone_led s t i k leads group d (last before is none) = absurd (none i ((k.each i).leads leads).member)
+
+-- of the group after a move: its chain is a good one, and who departed has its Leave there
+record Ends (t : Group) : Type 0 where
+  good : IsGood (chain_of t.views)
+  there : (d : ℕ) → (t.node d).departed ≡ true → (before : List Entry) × Begins (before ++ Leave d ∷ []) (chain_of t.views)
+
+-- nor decides a ballot, as that would want the last Leave
+gone_decided : (s t : Group) (i : ℕ) (members : List ℕ) (resilience : ℕ) → Kept s → Ends t → groups.IsUp (s.node i) → mem (s.node i).list i ≡ true
+    → chain_of t.views ≡ opening (choice_of (s.node i) members resilience) → Begins s.group t.group → (d : ℕ) → (t.node d).departed ≡ true → GoneBy s d
+    → GoneBy t d
+gone_decided s t i members resilience k kt up member is group d gone (accepted before h) = accepted before (begins_trans h group)
+gone_decided s t i members resilience k kt up member is group d gone (last before chain none) = absurd (
+    let m = s.node i in
+    let there = kt.there d gone in
+    let part : Begins (there.0 ++ Leave d ∷ []) m.list = ⊎_elim
+    (λ (old : Begins (there.0 ++ Leave d ∷ []) m.list). old)
+    (λ (now : there.0 ++ Leave d ∷ [] ≡ opening (choice_of m members resilience)).
+    absurd (let e = last_is there.0 m.list (Leave d) (View m.promise members resilience) now in cc))
+    (begins_pushed (View m.promise members resilience) (subst (Begins (there.0 ++ Leave d ∷ [])) is there.1)) in
+    let on = (k.each i).list up in
+    let long_a = length_push there.0 (Leave d) in
+    let long_b = length_push before (Leave d) in
+    let whole = ap length chain in
+    let short = begins_length on in
+    let low = begins_length part in
+    ⊎_elim
+    (λ (less : length there.0 < length before). once (chain_of s.views) there.0 before d k.views.good (begins_trans part on)
+    (subst (Begins (before ++ Leave d ∷ [])) (sym chain) (begins_refl (before ++ Leave d ∷ []))) less)
+    (λ (all : length before ≤ length there.0). (let same : m.list ≡ chain_of s.views = begins_same on (omega arith) in
+    none i (subst (λ l. mem l i ≡ true) same member)))
+    (two (length there.0) (length before)))
+  where
+    two : (a b : ℕ) → (a < b) ⊎ (b ≤ a)
+    two a b = grind arith
+
+gone_move : (s t : Group) → Move s t → Kept s → Ends t → AllGone s → AllGone t
+gone_move s t (numbers i e leads fit may) k kt h = λ d gone. gone_led s t i k leads (begins_refl s.group) d
+    (h d (not_now s i (longer (s.node i) e) d refl gone))
+gone_move s t (accepts i n leads may) k kt h = λ d gone. gone_led s t i k leads (moves_grow s t (accepts i n leads may) k tt).group d (h d gone)
+gone_move s t (closes i n leads leaving alone may) k kt h = λ d gone.
+    (let m = record (longer (s.node i) (Leave i)) { departed = true } in
+    let ok = (k.each i).leads leads in
+    let is : chain_of t.views ≡ (s.node i).list ++ Leave i ∷ [] = chain_more s i ((s.node i).list ++ Leave i ∷ []) k leads in
+    ⊎_elim
+    (λ (old : (s.node d).departed ≡ true). gone_led s t i k leads (moves_grow s t (closes i n leads leaving alone may) k tt).group d (h d old))
+    (λ (now : (d ≡ i) × (m.departed ≡ true)). subst (GoneBy t) (sym now.0) (last (s.node i).list is (λ j member.
+    (let before = none_more (s.node i).list i j (subst (λ l. mem l j ≡ true) is member) in
+    let same = alone j before in
+    leaver_out (s.node i).list i (subst IsGood is kt.good) (subst (λ x. mem ((s.node i).list ++ Leave i ∷ []) x ≡ true) same (subst (λ l. mem l j ≡ true) is
+    member))))))
+    (put_gone s i m d gone))
+gone_move s t (decides i members resilience may) k kt h = λ d gone.
+    gone_decided s t i members resilience k kt may.up may.needed (put_same s.views.line (key (s.node i).promise) (opening (choice_of (s.node i) members
+    resilience)))
+    (begins_refl s.group) d gone (h d (not_now s i _ d refl gone))
+gone_move s t (departs i before may) k kt h = λ d gone. ⊎_elim
+    (λ (old : (s.node d).departed ≡ true). gone_same s t refl (begins_refl s.group) d (h d old))
+    (λ (now : (d ≡ i) × (true ≡ true)). subst (GoneBy t) (sym now.0) (accepted before may.accepted))
+    (put_gone s i (record (s.node i) { departed = true }) d gone)
+gone_move s t (stores i e up decided other stays next) k kt h = λ d gone. gone_same s t refl (begins_refl s.group) d
+    (h d (not_now s i (longer (s.node i) e) d refl gone))
+gone_move s t (learns i told_ acc up rises within before up_to given low) k kt h = λ d gone. gone_same s t refl (begins_refl s.group) d
+    (h d (not_now s i _ d refl gone))
+gone_move s t (begins i few up stays member) k kt h = λ d gone. gone_same s t refl (begins_refl s.group) d (h d (not_now s i _ d refl gone))
+gone_move s t (raises i stamp there above) k kt h = λ d gone. gone_same s t refl (begins_refl s.group) d (h d (not_now s i _ d refl gone))
+gone_move s t (shows i there small other begun unshown) k kt h = λ d gone. gone_same s t refl (begins_refl s.group) d (h d gone)
+gone_move s t (serves i list up shown others) k kt h = λ d gone. gone_same s t refl (begins_refl s.group) d (h d gone)
+gone_move s t (fetches i f list e up ballot served shown next) k kt h = λ d gone. gone_same s t refl (begins_refl s.group) d
+    (h d (not_now s i (longer (s.node i) e) d refl gone))
+gone_move s t (gives_over i) k kt h = λ d gone. gone_same s t refl (begins_refl s.group) d (h d (not_now s i _ d refl gone))
+gone_move s t (welcomes j stamp base join may) k kt h = λ d gone. gone_same s t refl (begins_refl s.group) d (h d (not_now s j _ d refl gone))
+gone_move s t (asks i up unballoted) k kt h = λ d gone. gone_same s t refl (begins_refl s.group) d (h d (not_now s i _ d refl gone))
+gone_move s t (stops i) k kt h = λ d gone. gone_same s t refl (begins_refl s.group) d (h d (not_now s i _ d refl gone))
+
+-- ---- each run
+
+pub record AllLeft (s : Group) : Type 0 where
+  pub asked : LeavesAsked s
+  pub gone : AllGone s
+
+nil_none : (a : List Entry) (e x : Entry) → Begins (a ++ x ∷ []) (e ∷ []) → x ≡ e
+nil_none a e x h = ⊎_elim
+    (λ (z : Begins (a ++ x ∷ []) []). absurd (let l = begins_length z in let k = length_push a x in omega arith))
+    (λ (z : a ++ x ∷ [] ≡ [] ++ e ∷ []). last_is a [] x e z)
+    (begins_pushed e h)
+
+pub runs_left : (founders : List ℕ) (first resilience : ℕ) (s : Group) → Run founders first resilience s → AllLeft s
+runs_left founders first resilience s (founded may) = record {
+  asked = λ a j begins_. absurd (let e = nil_none a (View (first_stamp first) founders resilience) (Leave j) begins_ in cc);
+  gone = λ d gone. absurd (cc);
+}
+runs_left founders first resilience t (more {s = s} run step law) =
+    let old = run_keeps founders first resilience s run in
+    let new = (run_keeps founders first resilience t (more run step law)).kept in
+    let h = runs_left founders first resilience s run in
+    let u : Group = record (step.moved) { views = record (step.moved.views) { complete = step.complete } } in
+    let kept : Kept u = subst Kept step.is new in
+    let ends : Ends step.moved = record { good = kept.views.good; there = λ d gone. (let k = kept.departed d gone in (k.before, k.chain)) } in
+    let gone = gone_move s step.moved step.move old.kept ends h.gone in
+    subst AllLeft (sym step.is) (record {
+      asked = asked_same step.moved u refl (λ j z. z) (asked_move s step.moved step.move old.kept h.asked);
+      gone = λ d g. gone_same step.moved u refl (begins_refl step.moved.group) d (gone d g);
+    })

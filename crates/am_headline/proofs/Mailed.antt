@@ -1,0 +1,40 @@
+-- What a letter of a step tells: its base is that of the node after it, and a Welcome is a sequencer's.
+use Rattle.am_headline.proofs.RepairedRunsWords.{◌≡◌, ℕ, ◌≤◌, true, List, refl, subst, Image, Stamp, Packet, Letter, Node, is_sequencer, Cause, Says, welcome, piece}
+use Rattle.am_headline.proofs.RepairedRunsWords.{result, LetterSays}
+use Rattle.am_packet.specs.declared.packet.Packet.TheVariants as packet
+use Rattle.am_headline.proofs.Trims.{LetterLow}
+
+-- ---- what such a letter says
+
+-- its base is that of its sender
+pub says_low : (m n : Node) (c : Cause) (q : ℕ) (u : Stamp) (low : ℕ) (to : List ℕ) (p : Packet) → low ≤ n.core.base → Says m c n to p → LetterLow q u low p
+says_low m n c q u low to p most (welcome s l may) = λ mine is. most
+says_low m n c q u low to p most (piece s v stored number e is may at) = λ mine is_. most
+says_low m n c q u low to p most (result _ number names is viewed may) = λ mine is_. most
+says_low m n c q u low to p most _ = tt
+
+-- and so is its name
+pub says_apart : (m n : Node) (c : Cause) (q : ℕ) (u : Stamp) (low : ℕ) (to : List ℕ) (p : Packet) → (n.core.who ≡ q → ⊥) → Says m c n to p
+    → LetterLow q u low p
+says_apart m n c q u low to p other (welcome s l may) = λ mine is. absurd (other mine)
+says_apart m n c q u low to p other (piece s v stored number e is may at) = λ mine is_. absurd (other mine)
+says_apart m n c q u low to p other (result _ number names is viewed may) = λ mine is_. absurd (other mine)
+says_apart m n c q u low to p other _ = tt
+
+-- a Welcome is a sequencer's, of its promise and its base
+pub record Welcomes (n : Node) (u : Stamp) (base : ℕ) : Type 0 where
+  pub leads : is_sequencer n ≡ true
+  pub stamp : u ≡ n.core.promise
+  pub base_ : base ≡ n.core.base
+
+abbrev IfWelcome : Node → Packet → Type 0
+IfWelcome n (packet.Welcome from u base join image) = Welcomes n u base
+IfWelcome n _ = Unit {0}
+
+if_welcome : (m n : Node) (c : Cause) (to : List ℕ) (p : Packet) → Says m c n to p → IfWelcome n p
+if_welcome m n c to p (welcome s l may) = record { leads = l; stamp = refl; base_ = refl }
+if_welcome m n c to p _ = tt
+
+pub says_welcome : (m n : Node) (c : Cause) (l : Letter) (from : ℕ) (u : Stamp) (base join : ℕ) (image : Image) → LetterSays m c n l
+    → l.packet ≡ packet.Welcome from u base join image → Welcomes n u base
+says_welcome m n c l from u base join image h is = subst (IfWelcome n) is (if_welcome m n c l.to l.packet h.says)

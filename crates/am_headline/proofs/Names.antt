@@ -1,0 +1,208 @@
+-- Each entry that a node has, a letter tells or a group lists speaks of names that there are.
+use Rattle.am_laws.proofs.Words.{◌≡◌, ℕ, ◌<◌, ◌==◌, ◌&&◌, not, List, [], ◌∷◌, Option, Some, None, refl, sym, subst, arith, nat_tests, All}
+use Rattle.am_laws.proofs.Words.{All-nil, All-cons, All-append, All-weaker, split, Stamp, Report, stamp_lt, Entry, Data, Join, Leave}
+use Rattle.am_laws.proofs.Words.{View, Outcome}
+use Rattle.am_laws.proofs.Words.{Rules, MayFound, Packet, Letter, Event, Node, Ballot, push_entry, set_at, founders_view}
+use Rattle.am_laws.proofs.Words.{overtake, Verdict, refresh, settle, refresh_at_end, Step, World, start, run, with_record, with_step, heard_by}
+use Rattle.am_laws.proofs.Words.{Cause}
+use Rattle.am_laws.proofs.Words.{hears, Looks, decides, HasOpen, Balloting, with_more, without_one, as_it_is, Numbers, asked_send, own_send, asked_join}
+use Rattle.am_laws.proofs.Words.{asked_leave}
+use Rattle.am_laws.proofs.Words.{Carries, whole_entry, by_number, BringsSend, by_request, by_spread, Change, refreshes, settles}
+use Rattle.am_laws.proofs.Words.{numbers, stores, begins_list, promises, opens, looks, fetches, stores_view, closes, Says, bcast, order, piece, LetterSays}
+use Rattle.am_laws.proofs.Words.{Effect}
+use Rattle.am_laws.proofs.Words.{actor, IsCause, idles, stops, returns, steps, all_get, all_item, refresh_is, settle_is, along, EachKeeps, runs_keep, sender_of}
+use Rattle.am_laws.proofs.Words.{first_founder, first_has}
+use Rattle.am_packet.specs.declared.packet.Packet.TheVariants as packet
+use Rattle.am_laws.proofs.Named.{AllNamed, few_names, each_named, start_named}
+use Rattle.am_laws.proofs.RunCounts.{was_heard}
+use Rattle.am_runs.proofs.SentDataRuns.{grown_all}
+
+-- ---- names in entries
+
+abbrev pub EntryNamed : Entry → Type 0
+EntryNamed (Data from req body) = from < 256
+EntryNamed (Join name) = name < 256
+EntryNamed (Leave name) = name < 256
+EntryNamed (View stamp names resilience) = stamp.by < 256
+
+abbrev pub PacketNamed : Packet → Type 0
+PacketNamed (packet.Bcast s v base acc number e) = EntryNamed e
+PacketNamed (packet.Order s v base acc number from req) = from < 256
+PacketNamed (packet.Piece s v base number e) = EntryNamed e
+PacketNamed _ = Unit {0}
+
+abbrev pub LetterNamed : Letter → Type 0
+LetterNamed letter = PacketNamed letter.packet
+
+abbrev pub BallotNamed : Option Ballot → Type 0
+BallotNamed None = Unit {0}
+BallotNamed (Some b) = b.stamp.by < 256
+
+pub record NodeNamed (m : Node) : Type 0 where
+  pub who : m.core.who < 256
+  pub entries : All EntryNamed m.core.log.entries
+  pub ballot : BallotNamed m.ballot
+
+-- what makes a node do a step
+pub record CauseNamed (c : Cause) : Type 0 where
+  pub heard : (p : Packet) → c ≡ hears p → PacketNamed p
+  pub senders : (p : Packet) → c ≡ hears p → sender_of p < 256
+
+-- ---- changes
+
+pushed_named : (m : Node) (e : Entry) → EntryNamed e → NodeNamed m → NodeNamed (push_entry m e)
+pushed_named m e is h = record {
+  who = h.who;
+  entries = All-append EntryNamed m.core.log.entries (e ∷ []) h.entries (All-cons EntryNamed e [] is (All-nil EntryNamed));
+  ballot = h.ballot;
+}
+
+brought_named : (c : Cause) (s : ℕ) (v : Stamp) (report : Report) (req : ℕ) (body : List ℕ) → BringsSend c s v report req body → CauseNamed c → s < 256
+brought_named c s v report req body (by_request s1 v1 report1 req1 body1) from = from.senders (packet.Request s v report req body) refl
+brought_named c s v report req body (by_spread s1 v1 report1 req1 body1) from = from.senders (packet.Spread s v report req body) refl
+
+numbered_named : (c : Cause) (m : Node) (e : Entry) → Numbers c m e → CauseNamed c → NodeNamed m → EntryNamed e
+numbered_named c m e (asked_send s v report req body by known stays next) from h = brought_named c s v report req body by from
+numbered_named c m e (own_send s is last) from h = h.who
+numbered_named c m e (asked_join s v is other fit) from h = from.senders (packet.JoinAsk s v) is
+numbered_named c m e (asked_leave s v report is other known stays) from h = from.senders (packet.LeaveAsk s v report) is
+
+carried_named : (c : Cause) (m : Node) (s : ℕ) (v : Stamp) (base acc number : ℕ) (e : Entry) → Carries c m s v base acc number e → CauseNamed c → EntryNamed e
+carried_named c m s v base acc number e (whole_entry x is) from = from.heard (packet.Bcast s v base acc number e) is
+carried_named c m s v base acc number e (by_number name req body is found) from = from.heard (packet.Order s v base acc number name req) is
+
+overtaken_named : (by : Stamp) (ballot : Option Ballot) → BallotNamed ballot → BallotNamed (overtake by ballot)
+overtaken_named by None h = tt
+overtaken_named by (Some b) h = split (not b.is_over && stamp_lt b.stamp by) (λ t. rw t h) (λ f. rw f h)
+
+open_named : (m : Node) (b : Ballot) → HasOpen m b → NodeNamed m → b.stamp.by < 256
+open_named m b open_ h = subst BallotNamed open_.last h.ballot
+
+looked_named : (c : Cause) (m : Node) (b : Ballot) → Balloting c m b → NodeNamed m → b.stamp.by < 256
+looked_named c m b (with_more old s v shown is by low high open_ same stays) h = open_named m old open_ h
+looked_named c m b (without_one old name is open_ other) h = open_named m old open_ h
+looked_named c m b (as_it_is old open_ on) h = open_named m old open_ h
+
+look_named : (m : Node) (b : Ballot) (v : Verdict) → Looks m b v → b.stamp.by < 256 → NodeNamed m → NodeNamed v.node
+look_named m b v (decides may) by h =
+    let p = pushed_named m (View b.stamp _ _) by h in
+    record { who = p.who; entries = p.entries; ballot = by }
+look_named m b v _ by h = record { who = h.who; entries = h.entries; ballot = by }
+
+refresh_named : (m : Node) → NodeNamed m → NodeNamed (refresh m)
+refresh_named m h = subst NodeNamed (sym (refresh_is m)) (record { who = h.who; entries = h.entries; ballot = h.ballot })
+
+settle_named : (m : Node) → NodeNamed m → NodeNamed (settle m)
+settle_named m h = subst NodeNamed (sym (settle_is m)) (record { who = h.who; entries = h.entries; ballot = h.ballot })
+
+at_end_named : (m : Node) → NodeNamed m → NodeNamed (refresh_at_end m)
+unfolding refresh_at_end
+at_end_named m h = settle_named (refresh m) (refresh_named m h)
+
+change_keeps : {c : Cause} {o : Outcome} → CauseNamed c → (m n : Node) → Change c o m n → NodeNamed m → NodeNamed n
+change_keeps from m n refreshes h = refresh_named m h
+change_keeps from m n settles h = settle_named m h
+change_keeps from m n (numbers e leads room why) h = pushed_named m e (numbered_named _ m e why from h) h
+change_keeps from m n (stores s v base acc number e by seq plain may) h =
+    let p = pushed_named m e (carried_named _ m s v base acc number e by from) h in
+    record { who = p.who; entries = p.entries; ballot = p.ballot }
+change_keeps from m n (begins_list s v base join image is o may) h = record { who = h.who; entries = All-nil EntryNamed; ballot = h.ballot }
+change_keeps from m n (promises v low why) h = record { who = h.who; entries = h.entries; ballot = overtaken_named v m.ballot h.ballot }
+change_keeps from m n (opens least resilience by may) h = record { who = h.who; entries = h.entries; ballot = h.who }
+change_keeps from m n (looks b verdict over why look is) h = look_named m b verdict look (looked_named _ m b why h) h
+change_keeps from m n (fetches s v base number e is by promise other which may) h =
+    let p = pushed_named m e (from.heard (packet.Piece s v base number e) is) h in
+    record { who = p.who; entries = p.entries; ballot = p.ballot }
+change_keeps from m n (stores_view s v base number names resilience is by own other promise below may) h =
+    let sender = from.senders (packet.Result s v base number names resilience) is in
+    let same : v.by ≡ s = grind (arith, nat_tests) in
+    let p = pushed_named m (View v names resilience) (omega (arith, sender, same)) h in
+    record { who = p.who; entries = p.entries; ballot = p.ballot }
+change_keeps from m n (closes leads leaves alone room) h =
+    let p = at_end_named (push_entry m (Leave m.core.who)) (pushed_named m (Leave m.core.who) h.who h) in
+    record { who = p.who; entries = p.entries; ballot = p.ballot }
+change_keeps from m n _ h = record { who = h.who; entries = h.entries; ballot = h.ballot }
+
+-- ---- letters
+
+says_named : (m n : Node) (c : Cause) (to : List ℕ) (p : Packet) → CauseNamed c → Says m c n to p → NodeNamed n → PacketNamed p
+says_named m n c to p from (bcast _ number e l s) h = all_get EntryNamed n.core.log.entries s.index e h.entries s.there
+says_named m n c to p from (order _ number name req v report body is l s) h =
+    from.senders (packet.Spread name v report req body) is
+says_named m n c to p from (piece s v stored number e is may at) h = all_get EntryNamed n.core.log.entries at.index e h.entries at.there
+says_named m n c to p from _ h = tt
+
+-- ---- worlds
+
+pub record AllSaid (rules : Rules) (w : World) : Type 0 where
+  pub base : AllNamed rules w
+  pub each : (name : ℕ) → name < 256 → NodeNamed (w.nodes name)
+  pub letters : All LetterNamed w.letters
+  pub group : All EntryNamed w.group
+
+cause_named : (rules : Rules) (w : World) (e : Event) (c : Cause) → AllSaid rules w → IsCause w (actor w e) e.act c → CauseNamed c
+cause_named rules w e c h cause = record {
+  heard = λ p is. (let was = was_heard w e c p is cause in
+      subst PacketNamed was.is (all_item LetterNamed w.letters (heard_by e.act) was.letter h.letters was.there));
+  senders = λ p is. (let was = was_heard w e c p is cause in
+      subst (λ (x : Packet). sender_of x < 256) was.is (all_item (λ (l : Letter). sender_of l.packet < 256) w.letters
+      (heard_by e.act) was.letter h.base.senders was.there));
+}
+
+sender_is : (n sender : Node) → n ≡ record sender { status = n.status } → NodeNamed n → NodeNamed sender
+sender_is n sender is h = let k : NodeNamed (record sender { status = n.status }) = subst NodeNamed is h in
+    record { who = k.who; entries = k.entries; ballot = k.ballot }
+
+set_named : (nodes : ℕ → Node) (name : ℕ) (n : Node) → ((other : ℕ) → other < 256 → NodeNamed (nodes other)) → NodeNamed n → (other : ℕ) → other < 256
+    → NodeNamed (set_at nodes name n other)
+set_named nodes name n h k other low = split (other == name) (λ t. rw t k) (λ f. rw f (h other low))
+
+stepped_named : (rules : Rules) (w : World) (e : Event) (c : Cause) (s : Step) → AllNamed rules (with_step w e (actor w e) s)
+    → IsCause w (actor w e) e.act c → Effect (w.nodes (actor w e)) c s → AllSaid rules w → AllSaid rules (with_step w e (actor w e) s)
+unfolding with_step
+stepped_named rules w e c s base cause effect h =
+    let name = actor w e in
+    let m = w.nodes name in
+    let low = few_names rules w e h.base in
+    let from = cause_named rules w e c h cause in
+    let node = along NodeNamed (change_keeps from) effect.changes (h.each name low) in
+    let sender = sender_is s.node effect.sender effect.is node in
+    record {
+      base = base;
+      each = set_named w.nodes name s.node h.each node;
+      letters = All-append LetterNamed w.letters s.letters h.letters
+          (All-weaker (LetterSays m c effect.sender) LetterNamed
+          (λ l x. says_named m effect.sender c l.to l.packet from x.says sender) s.letters effect.letters);
+      group = grown_all EntryNamed w.group s.node h.group node.entries;
+    }
+
+said_keeps : (rules : Rules) → EachKeeps (AllSaid rules)
+unfolding with_record
+said_keeps rules w e v (steps c s runs cause effect) h =
+    stepped_named rules w e c s (each_named rules w e v (steps c s runs cause effect) h.base) cause effect h
+said_keeps rules w e v (idles o idle) h = record { base = each_named rules w e v (idles o idle) h.base; each = h.each; letters = h.letters; group = h.group }
+said_keeps rules w e v (stops runs) h = record { base = each_named rules w e v (stops runs) h.base; each = h.each; letters = h.letters; group = h.group }
+said_keeps rules w e v (returns place is left more) h =
+    record { base = each_named rules w e v (returns place is left more) h.base; each = h.each; letters = h.letters; group = h.group }
+
+-- ---- runs
+
+view_named : (rules : Rules) → MayFound rules → All EntryNamed (founders_view rules ∷ [])
+view_named rules may = let low = (first_founder rules may).few in All-cons EntryNamed (founders_view rules) [] (omega arith) (All-nil EntryNamed)
+
+first_named : (rules : Rules) (name : ℕ) → MayFound rules → name < 256 → NodeNamed ((start rules).nodes name)
+first_named rules name may low = first_has rules NodeNamed name
+    (record { who = low; entries = view_named rules may; ballot = tt })
+    (record { who = low; entries = All-nil EntryNamed; ballot = tt })
+
+start_said : (rules : Rules) → MayFound rules → AllSaid rules (start rules)
+start_said rules may = record {
+  base = start_named rules may;
+  each = λ name low. first_named rules name may low;
+  letters = All-nil LetterNamed;
+  group = view_named rules may;
+}
+
+-- each entry of every run
+pub run_said : (rules : Rules) (events : List Event) → MayFound rules → AllSaid rules (run rules events)
+run_said rules events may = runs_keep (AllSaid rules) (said_keeps rules) (start rules) events (start_said rules may)

@@ -1,0 +1,241 @@
+-- What the second and the third wave of a round bring about: what is missing is sent again, and stored.
+use Rattle.am_headline.proofs.RepairWords.{◌≡◌, ℕ, zero, suc, ◌+◌, ◌-◌, ◌<◌, ◌≤◌, ◌==◌, min, true, false, List, [], ◌∷◌, length, drop, Some, slice_get, refl, sym, ap}
+use Rattle.am_headline.proofs.RepairWords.{◌∙◌, subst, arith, length-drop, nat_tests, length-take, Stamp, Report, Entry, NodeEvent, Rules, place_of, has, Log, top_of}
+use Rattle.am_headline.proofs.RepairWords.{entry_at, fits, Bcast, Nack, Letter, letter_to, slice_get-drop, Event, is_for, letter_at, Node, top, only_name}
+use Rattle.am_headline.proofs.RepairWords.{with_report, Step, bcast_of, entries_to_serve, hear, event_at, hearings, take_report, World, happens, happen, Cause, calls}
+use Rattle.am_headline.proofs.RepairWords.{hears, refuses, BringsReport, with_send, by_request, by_spread, by_ack, by_nack, by_leave_ask, IsCause, get_take}
+use Rattle.am_headline.proofs.RepairWords.{get_front, Fronts, reporting, told_used, bcasts, Serves, Repair, Leads, IsCalm, IsServed, Served, IsOurs, hears_}
+use Rattle.am_group.specs.declared.event.Act.TheVariants as act
+use Rattle.am_headline.specs.Rows as rows
+use Rattle.am_headline.proofs.RepairLeading.{Trusts, TellsTaken, told_taken, is_member_now, leads_as, trusts_report, trusts_refresh}
+use Rattle.am_headline.proofs.FirstWave.{hears_members, is_known, report_calm, report_fits_list, Stays, stays_same, stays_goes, letter_is, heard_there}
+use Rattle.am_headline.proofs.FirstWave.{HasAsked}
+use Rattle.am_headline.proofs.{Nodes.acting, Nodes.leading, Nodes.alike_here, RepairLists.entry_stays, RepairLists.entry_within, Saying.entry_of}
+use Rattle.am_headline.proofs.{Sequencers.nacks_are_served, Steps.goes_first, Steps.ours_trust, Memberships.get_some, Schedules.WaveHits, Schedules.wave_hits}
+use Rattle.am_headline.proofs.{Fine.Fine, Fine.fine_goes, Fine.few_members, Fine.grow_goes, Fine.letter_goes, Fine.member_there, Fine.hear_is, Fine.sent_at}
+use Rattle.am_headline.proofs.{Ticking.node_is}
+
+-- ---- what a Nack is answered with
+
+bcasts_get : (n : Node) (to : List ℕ) (number : ℕ) (es : List Entry) (k : ℕ) (e : Entry) → slice_get es k ≡ Some e
+    → slice_get (bcasts n to number es) k ≡ Some (letter_to to (bcast_of n (number + k) e))
+unfolding bcasts
+bcasts_get n to number [] k e there = absurd (cc)
+bcasts_get n to number (x ∷ es) zero e there =
+    let same : x ≡ e = cc in
+    let at : number ≡ number + 0 = omega arith in
+    ap (λ y. Some (letter_to to (bcast_of n number y))) same ∙ ap (λ j. Some (letter_to to (bcast_of n j e))) at
+bcasts_get n to number (x ∷ es) (suc k) e there =
+    let at : number + 1 + k ≡ number + suc k = omega arith in
+    bcasts_get n to (number + 1) es k e there ∙ ap (λ j. Some (letter_to to (bcast_of n j e))) at
+
+-- the entries above a number
+served_long : (q : Node) (stored : ℕ) → q.core.log.start ≤ stored → length (entries_to_serve q stored) ≡ min 8 (top q - stored)
+served_long q stored low =
+    let entries = q.core.log.entries in
+    let skip = stored - q.core.log.start in
+    let a = length-take 8 (drop skip entries) in
+    let b = length-drop skip entries in
+    omega arith
+
+served_get : (q : Node) (stored k : ℕ) (e : Entry) → q.core.log.start ≤ stored → slice_get (entries_to_serve q stored) k ≡ Some e
+    → entry_at q.core.log (stored + 1 + k) ≡ Some e
+served_get q stored k e low there =
+    let entries = q.core.log.entries in
+    let skip = stored - q.core.log.start in
+    let at = get_take 8 (drop skip entries) k e there in
+    entry_of q.core.log (skip + k) (stored + 1 + k) e (sym (slice_get-drop skip k entries) ∙ at) (omega arith)
+
+-- the sequencer trims no more than was taken, with a member's report
+report_trims : (rules : Rules) (r : Repair) (taken : ℕ → ℕ) (q : Node) (i : ℕ) (report : Report) → Leads r q → q.core.who ≡ r.by → Fronts q
+    → Trusts r taken q → has r.members i ≡ true → (i == r.by) ≡ false → report.taken ≤ taken i → (take_report q i report).core.base ≤ taken i
+report_trims rules r taken q i report l who f t there other low =
+    let p = with_report q i report in
+    let own : (q.core.who == i) ≡ false = grind (arith, nat_tests) in
+    let lp = leads_as r q p (alike_here q p refl refl refl refl refl refl (omega arith) (omega arith)) l in
+    let fp : Fronts p = reporting _ (rw own f.reported) f in
+    (trusts_refresh r taken p who lp fp (trusts_report r taken q i report (λ here. low) t)).base i there other
+
+-- ---- entries on their way
+
+pub served_entry_goes : (rules : Rules) (r : Repair) (i letter number : ℕ) (u : World) (e : Event) → IsOurs r e → Fine rules r u → has r.members i ≡ true
+    → IsServed rules r i letter number u → IsServed rules r i letter number (happens u e)
+served_entry_goes rules r i letter number u e ours h there s =
+    let grow = grow_goes rules r u e ours h in
+    let up = grow.taken i there in
+    record {
+      base = s.base;
+      acc = s.acc;
+      entry = s.entry;
+      there = letter_goes u e letter _ s.there;
+      stands = entry_stays (u.nodes r.by).core.log ((happens u e).nodes r.by).core.log number s.entry grow.log s.stands;
+      taken = omega arith;
+      within = s.within;
+    }
+
+pub served_goes : (rules : Rules) (r : Repair) (i after stored : ℕ) (u : World) (e : Event) → IsOurs r e → Fine rules r u → has r.members i ≡ true
+    → Served rules r i after stored u → Served rules r i after stored (happens u e)
+served_goes rules r i after stored u e ours h there s = record {
+  first = s.first;
+  late = s.late;
+  many = s.many;
+  enough = s.enough;
+  each = λ k low. served_entry_goes rules r i (s.first + 1 + k) (stored + 1 + k) u e ours h there (s.each k low);
+}
+
+same_bcast : (n : Node) (s : ℕ) (v : Stamp) (number : ℕ) (e : Entry) → n.core.who ≡ s → n.core.promise ≡ v
+    → bcast_of n number e ≡ Bcast s v n.core.base n.core.acc number e
+same_bcast n s v number e a b = cc
+
+-- ---- the sequencer hears what is missing
+
+-- the world after it, where it serves
+served_by : (rules : Rules) (r : Repair) (i stored : ℕ) (u v : World) (s : Step) → Fine rules r u → Fine rules r v → has r.members i ≡ true
+    → (i == r.by) ≡ false → (u.nodes r.by).core.log.start ≤ stored → v.nodes r.by ≡ s.node → Serves (u.nodes r.by) i stored s
+    → ((j : ℕ) (l : Letter) → slice_get s.letters j ≡ Some l → letter_at v.letters (length u.letters + 1 + j) ≡ Some l)
+    → Served rules r i (length u.letters) stored v
+served_by rules r i stored u v s h fine there other low node serves sent =
+    let q = u.nodes r.by in
+    let n = s.node in
+    let l = subst (Leads r) node fine.calm.leads in
+    let who : n.core.who ≡ r.by = ap (λ (x : Node). x.core.who) (sym node) ∙ fine.calm.who r.by in
+    let promise : n.core.promise ≡ r.view = (acting n (leading n l.leads).0).1 ∙ l.view_ in
+    let long = served_long q stored low in
+    let few = (fine.laws.kept r.by).few in
+    let base = ap (λ (x : Node). x.core.base) node in
+    let top_ = ap (λ (x : Node). top x) node ∙ ap (λ (x : Log). top_of x) serves.same in
+    let trims = (fine.calm.follows i there other).base in
+    record {
+      first = length u.letters;
+      late = omega arith;
+      many = length (entries_to_serve q stored);
+      enough = omega arith;
+      each = λ k below.
+          (let some = get_some (entries_to_serve q stored) k below in
+          let e = some.0 in
+          let stands = served_get q stored k e low some.1 in
+          let within = (entry_within q.core.log (stored + 1 + k) e stands).1 in
+          let letter = ap (λ ls. slice_get ls k) serves.letters ∙ get_front _ serves.more k _
+          (bcasts_get n (only_name i) (stored + 1) (entries_to_serve q stored) k e some.1) in
+          record {
+            base = n.core.base;
+            acc = n.core.acc;
+            entry = e;
+            there = sent k _ letter ∙ ap (λ p. Some (letter_to (only_name i) p)) (same_bcast n r.by r.view (stored + 1 + k) e who promise);
+            stands = ap (λ (x : Node). entry_at x.core.log (stored + 1 + k)) node ∙ ap (λ (x : Log). entry_at x (stored + 1 + k)) serves.same ∙ stands;
+            taken = omega arith;
+            within = omega arith;
+          });
+    }
+
+nack_hear : (rules : Rules) (r : Repair) (taken : ℕ → ℕ) (i stored k : ℕ) (l : Letter) (report : Report) (u : World) → Fine rules r u
+    → Trusts r taken (u.nodes r.by) → taken i ≤ stored → has r.members i ≡ true → (i == r.by) ≡ false → r.sent < k → letter_at u.letters k ≡ Some l
+    → is_for l r.by ≡ true → l.packet ≡ Nack i r.view report → report.taken ≤ report.stored → report.taken ≤ taken i → report.stored ≡ stored
+    → Served rules r i (length u.letters) stored (happens u (event_at (place_of r.by) (act.Hear k)))
+nack_hear rules r taken i stored k l report u h t bound there other late letter meant is_ fits low exact =
+    let e = event_at (place_of r.by) (act.Hear k) in
+    let q = u.nodes r.by in
+    let s = hear q l.packet in
+    let is = hear_is u r.by k l (member_there rules r u r.by h h.calm.listed) letter meant in
+    let fine = fine_goes rules r u e (hears_ (place_of r.by) k late) h in
+    let node = node_is u e r.by s is in
+    let few = few_members rules r u r.by h h.calm.listed in
+    let fronts = (h.laws.each r.by few).fronts in
+    let heard = hears_members r q i h.calm.leads (h.calm.who r.by) other in
+    let used = told_used q fronts in
+    let known = is_known q i used (is_member_now r q i h.calm.leads there) in
+    let calm = report_calm r u (Nack i r.view report) i r.view report (rows.nack i r.view report)
+    (subst (λ p. IsCalm r u p) is_ (h.calm.letters k l late letter)) in
+    let trims = report_trims rules r taken q i report h.calm.leads (h.calm.who r.by) fronts t there other low in
+    let serves = nacks_are_served q i r.view report heard known (report_fits_list r u i report h.calm there other calm fits) (omega arith) in
+    let base = t.base i there other in
+    served_by rules r i stored u (happens u e) s h fine there other (omega arith) node
+    (subst (λ p. Serves q i stored (hear q p)) (sym is_) (subst (λ x. Serves q i x (hear q (Nack i r.view report))) exact serves))
+    (λ j x there_. ap (λ (v : World). letter_at v.letters (length u.letters + 1 + j)) is ∙ sent_at u e r.by s j x there_)
+
+no_report : (event : NodeEvent) (s : ℕ) (v : Stamp) (report : Report) → BringsReport (calls event) s v report → ⊥
+no_report event s v report brings = by_cause (calls event) refl s v report brings
+  where
+    by_cause : (c : Cause) → c ≡ calls event → (s : ℕ) (v : Stamp) (report : Report) → BringsReport c s v report → ⊥
+    by_cause c is s v report (with_send s_ v_ report_ req body (by_request s1 v1 report1 req1 body1)) = absurd (cc)
+    by_cause c is s v report (with_send s_ v_ report_ req body (by_spread s1 v1 report1 req1 body1)) = absurd (cc)
+    by_cause c is s v report (by_ack s_ v_ report_) = absurd (cc)
+    by_cause c is s v report (by_nack s_ v_ report_) = absurd (cc)
+    by_cause c is s v report (by_leave_ask s_ v_ report_) = absurd (cc)
+
+none_refused : (s : ℕ) (v : Stamp) (report : Report) → BringsReport refuses s v report → ⊥
+none_refused s v report brings = by_cause refuses refl s v report brings
+  where
+    by_cause : (c : Cause) → c ≡ refuses → (s : ℕ) (v : Stamp) (report : Report) → BringsReport c s v report → ⊥
+    by_cause c is s v report (with_send s_ v_ report_ req body (by_request s1 v1 report1 req1 body1)) = absurd (cc)
+    by_cause c is s v report (with_send s_ v_ report_ req body (by_spread s1 v1 report1 req1 body1)) = absurd (cc)
+    by_cause c is s v report (by_ack s_ v_ report_) = absurd (cc)
+    by_cause c is s v report (by_nack s_ v_ report_) = absurd (cc)
+    by_cause c is s v report (by_leave_ask s_ v_ report_) = absurd (cc)
+
+-- what the reports of a wave tell was taken by the wave's beginning
+wave_tells : (rules : Rules) (r : Repair) (w u : World) (after k name : ℕ) → Fine rules r w → Stays w u → r.sent ≤ after → after < k → k ≤ length w.letters
+    → (c : Cause) → IsCause u name (act.Hear k) c → TellsTaken r (λ i. (w.nodes i).core.taken) c
+wave_tells rules r w u after k name h stays low late within (calls event) is s v report brings there = absurd (no_report event s v report brings)
+wave_tells rules r w u after k name h stays low late within (hears p) is s v report brings there =
+    let letter = letter_is w u k is.letter stays (omega arith) within is.there in
+    let calm = subst (IsCalm r w) is.is (h.calm.letters k is.letter (omega arith) letter) in
+    (told_taken r w (hears p) s v report brings calm).taken there
+wave_tells rules r w u after k name h stays low late within refuses is s v report brings there = absurd (none_refused s v report brings)
+
+-- the second wave's end
+pub record IsServing (rules : Rules) (r : Repair) (i after stored : ℕ) (u : World) : Type 0 where
+  pub fine : Fine rules r u
+  pub served_ : Served rules r i after stored u
+
+pub second_wave_serves : (rules : Rules) (r : Repair) (i after stored : ℕ) (w : World) → r.sent ≤ after → HasAsked rules r i after stored w
+    → has r.members i ≡ true → (i == r.by) ≡ false → IsServing rules r i (length w.letters) stored (happen w (hearings w after))
+second_wave_serves rules r i after stored w low x there other =
+    let z = wave_hits P (Served rules r i (length w.letters) stored) w after x.asked.sent.number (place_of r.by)
+    (heard_there rules r w after r.by x.asked.letter x.fine x.fine.calm.listed x.asked.sent) hits (x.fine, trusts_first, stays_same w) in
+    record { fine = z.0.0; served_ = z.1 }
+  where
+    taken : ℕ → ℕ
+    taken name = (w.nodes name).core.taken
+
+    trusts_first : Trusts r taken (w.nodes r.by)
+    trusts_first = (goes_first r w x.fine.calm).trusts
+
+    P : World → Type 0
+    P u = Fine rules r u × Trusts r taken (u.nodes r.by) × Stays w u
+
+    keeps : (p n : ℕ) (u : World) → after < n → n ≤ length w.letters → P u → P (happens u (event_at p (act.Hear n)))
+    keeps p n u late within k =
+        let e = event_at p (act.Hear n) in
+        let ours = hears_ p n (omega arith) in (
+          fine_goes rules r u e ours k.0,
+          ours_trust rules r taken u e ours k.0.laws k.0.calm
+              (λ c is. wave_tells rules r w u after n _ x.fine k.2 low late within c is) k.1,
+          stays_goes w u e k.2,
+        )
+
+    low_taken : taken i ≤ stored
+    low_taken =
+        let fronts = (x.fine.laws.each i (few_members rules r w i x.fine there)).fronts in
+        let given = fronts.given in let accepted = fronts.accepted in let at = x.stored_ in
+        omega arith
+
+    tells : x.asked.report.taken ≤ taken i
+    tells =
+        let s = x.asked.sent in
+        let late = s.late in
+        let calm = subst (λ p. IsCalm r w p) x.asked.is (x.fine.calm.letters s.number x.asked.letter (omega arith) s.there) in
+        calm.taken there
+
+    later : (u : World) → length w.letters ≤ length u.letters → (v : World) → Served rules r i (length u.letters) stored v
+        → Served rules r i (length w.letters) stored v
+    later u long v s = let late = s.late in record { first = s.first; late = omega arith; many = s.many; enough = s.enough; each = s.each }
+
+    hits : WaveHits P (Served rules r i (length w.letters) stored) after (length w.letters) x.asked.sent.number (place_of r.by)
+    hits = record {
+      keeps = keeps;
+      hits = λ u k. (let s = x.asked.sent in let late = s.late in
+          later u k.2.long _ (nack_hear rules r taken i stored s.number x.asked.letter x.asked.report u k.0 k.1 low_taken there other (omega arith)
+          (k.2.letters s.number x.asked.letter s.there) s.meant x.asked.is x.asked.fits tells x.asked.exact));
+      stays = λ p n u late within k q. served_goes rules r i (length w.letters) stored u (event_at p (act.Hear n)) (hears_ p n (omega arith)) k.0 there q;
+    }

@@ -1,0 +1,53 @@
+-- In each run a name whose place has a greater life has stopped.
+use Rattle.am_headline.proofs.RepairWords.{◌≡◌, ℕ, ◌+◌, ◌<◌, ◌==◌, true, false, List, [], ◌∷◌, ◌++◌, refl, sym, ap, ◌∙◌, subst, arith, list_any, nat_tests}
+use Rattle.am_headline.proofs.RepairWords.{list_any-append, Rules, place_of, life_of, Event, World, start, current, is_stopped, with_record, with_step, run}
+use Rattle.am_headline.proofs.RepairWords.{split, actor, idles, stops, returns, steps, EachKeeps, runs_keep}
+
+pub record OldStopped (w : World) : Type 0 where
+  pub born : (place : ℕ) → 0 < w.lives place
+  pub old : (name : ℕ) → life_of name < w.lives (place_of name) → is_stopped w name ≡ true
+
+with_more : (xs ys : List ℕ) (name : ℕ) → list_any (λ x. x == name) xs ≡ true → list_any (λ x. x == name) (xs ++ ys) ≡ true
+with_more xs ys name there = list_any-append (λ x. x == name) xs ys ∙ rw there refl
+
+last_there : (xs : List ℕ) (name : ℕ) → list_any (λ x. x == name) (xs ++ name ∷ []) ≡ true
+last_there xs name =
+    let t : (name == name) ≡ true = grind (arith, nat_tests) in
+    list_any-append (λ x. x == name) xs (name ∷ []) ∙ split (list_any (λ x. x == name) xs) (λ a. rw a refl) (λ a. rw (a, t) refl)
+
+old_life : (place lives name : ℕ) → place_of name ≡ place → life_of name < lives + 1 → (life_of name == lives) ≡ false → life_of name < lives
+old_life place lives name at low f = let differs : life_of name ≡ lives → ⊥ = λ same. (let z : ⊥ = grind (arith, nat_tests) in z) in omega arith
+
+-- whoever acts at a place is a name of that place
+each_old : EachKeeps OldStopped
+unfolding with_record with_step
+each_old w e v (idles o idle) h = record { born = h.born; old = h.old }
+each_old w e v (stops runs) h = record { born = h.born; old = λ name low. with_more w.stopped (actor w e ∷ []) name (h.old name low) }
+each_old w e v (steps c s runs cause effect) h = record { born = h.born; old = h.old }
+each_old w e v (returns place is left more) h = record {
+  born = λ p. split (p == place) (λ t. rw t (omega arith)) (λ f. rw f (h.born p));
+  old = λ name low. split (place_of name == place)
+      (λ t.
+      let at : place_of name ≡ place = grind (arith, nat_tests) in
+      let lives = ap (λ p. w.lives p) at in
+      let older : life_of name < w.lives place + 1 = rw t at low in
+      split (life_of name == w.lives place)
+      (λ now.
+      let life : life_of name ≡ w.lives place = grind (arith, nat_tests) in
+      let same : current w place ≡ name = omega arith in
+      split (is_stopped w (current w place))
+      (λ s. rw s (subst (λ x. is_stopped w x ≡ true) same s))
+      (λ s. rw s (subst (λ x. list_any (λ y. y == name) (w.stopped ++ x ∷ []) ≡ true) (sym same) (last_there w.stopped name))))
+      (λ before.
+      let was = h.old name (let younger = old_life place (w.lives place) name at older before in omega arith) in
+      split (is_stopped w (current w place)) (λ s. rw s was) (λ s. rw s (with_more w.stopped (current w place ∷ []) name was))))
+      (λ f.
+      let was = h.old name (rw f at low) in
+      split (is_stopped w (current w place)) (λ s. rw s was) (λ s. rw s (with_more w.stopped (current w place ∷ []) name was)));
+}
+
+old_start : (rules : Rules) → OldStopped (start rules)
+old_start rules = record { born = λ place. omega arith; old = λ name low. absurd (omega arith) }
+
+pub old_lives : (rules : Rules) (events : List Event) → OldStopped (run rules events)
+old_lives rules events = runs_keep OldStopped each_old (start rules) events (old_start rules)

@@ -1,0 +1,151 @@
+-- A sequencer's step in its view keeps what is known of what was taken.
+use Rattle.am_headline.proofs.RepairedRunsWords.{eqb-true, ◌≡◌, ◌⊎◌, inl, inr, ⊎_elim, ℕ, ◌<◌, ◌≤◌, ◌==◌, max, true, false, List, Some, slice_get, refl, sym, ap, ◌∙◌}
+use Rattle.am_headline.proofs.RepairedRunsWords.{subst, arith, Join, Stamp, Rules, stamp_lt, fits, top_of, Letter, Event, Group, Node, image_of, view, acts, is_sequencer}
+use Rattle.am_headline.proofs.RepairedRunsWords.{has_log, Step, World, is_stopped, run, split, Cause, hears, actor, WasSentTo, IsCause, all_get, not_above_itself, GoesSo}
+use Rattle.am_headline.proofs.RepairedRunsWords.{run_goes, parts, plain, NoJoin, Rises, run_told, cause_taken}
+use Rattle.am_packet.specs.declared.packet.Packet.TheVariants as packet
+use Rattle.am_headline.proofs.Trims.{LetterLow, Knows, took, joins, halts, Settles, TrimStep, Sent, before, now}
+use Rattle.am_headline.proofs.{Asked.Asked, Asked.as_before, Asked.admitted_, Asked.asked_event, Began.rises_along, Fresh.Welcomed, Fresh.no_list}
+use Rattle.am_headline.proofs.{Fresh.no_welcome, Fresh.welcomed_in, Knew.Know, Knew.knew, Knew.anew, Knew.know, Mailed.says_low, Mailed.says_welcome}
+use Rattle.am_headline.proofs.Trims as trims
+
+-- ---- a request to join, or none
+
+record JoinAsked (c : Cause) : Type 0 where
+  from : ℕ
+  stamp : Stamp
+  is : c ≡ hears (packet.JoinAsk from stamp)
+
+join_or_none : (c : Cause) → JoinAsked c ⊎ NoJoin c
+join_or_none (hears (packet.JoinAsk from stamp)) = inl (record { from = from; stamp = stamp; is = refl })
+join_or_none _ = inr (λ s v is. absurd (cc))
+
+-- ---- the step
+
+module _ (rules : Rules) (events : List Event) (e : Event) (c : Cause) (step : Step) (s t : Group) (x : TrimStep rules events e c step s t)
+    (leads : is_sequencer ((run rules events).nodes (actor (run rules events) e)) ≡ true)
+    (same : view step.node ≡ view ((run rules events).nodes (actor (run rules events) e))) where
+  open parts rules events e step use {w, i, m, n, v}
+  open plain x.goes use {few as few_i, kept_s, node_v as here, others_v as there}
+
+  was : Settles w i
+  was = x.trims.settles i few_i leads x.runs
+
+  rises : Rises m n
+  rises = rises_along rules m n (trims.heard rules events e c step s t x) (trims.used rules events e c step s t x) x.effect.changes
+      (trims.along rules events e c step s t x)
+
+  same_v : view (v.nodes i) ≡ view m
+  same_v = ap view here ∙ same
+
+  -- who has no list has taken nothing
+  none_taken : (j : ℕ) → j < 256 → has_log (w.nodes j).status ≡ false → (w.nodes j).core.taken ≡ 0
+  none_taken j few none =
+      let laws = trims.laws_w rules events e c step s t x in
+      let blank = (laws.blanks.each j few none).blank_ in
+      let size = ap top_of blank in
+      let fronts = (laws.each j few).fronts in
+      let given = fronts.given in
+      let accepted = fronts.accepted in
+      omega arith
+
+  -- a Welcome that was sent before, or now
+  welcomed : (j base low : ℕ) → low ≤ m.core.base → ((b : ℕ) → Welcomed w j b → low ≤ b) → Welcomed v j base → low ≤ base
+  welcomed j base low under old h = by_kind (trims.letter_v rules events e c step s t x h.number h.letter h.there)
+    where
+      by_kind : Sent w m n c h.letter → low ≤ base
+      by_kind (before k at) = old base (welcomed_in v w j base h k at)
+      by_kind (now says) =
+          let is_ = (says_welcome m n c h.letter h.from h.stamp base h.join h.image says h.is).base_ in
+          let up = rises.base in
+          omega arith
+
+  -- what is known of a name is what was known, or was taken
+  known_on : (j : ℕ) → j < 256 → (j == i) ≡ false → (n.reports j).taken ≤ max (m.reports j).taken (w.nodes j).core.taken → Knows v was.low n j
+  known_on j few other most = by_kind (was.knows j few other)
+    where
+      taken_v : (v.nodes j).core.taken ≡ (w.nodes j).core.taken
+      taken_v = ap (λ (y : Node). y.core.taken) (there j other)
+
+      by_kind : Knows w was.low m j → Knows v was.low n j
+      by_kind (took low) = took (let z = taken_v in omega arith)
+      by_kind (joins none low welcomes) =
+          let zero_ = none_taken j few none in
+          let up = rises.base in
+          joins (ap (λ (y : Node). has_log y.status) (there j other) ∙ none) (omega arith)
+          (λ base h. (let b = welcomed j base (m.reports j).taken low welcomes h in omega arith))
+      by_kind (halts stop) = halts (trims.stopped_v rules events e c step s t x j ∙ stop)
+
+  -- a name whose Join was numbered now
+  known_joined : (j : ℕ) → j < 256 → (j == i) ≡ false → fits (image_of m) (Join j) ≡ true → (n.reports j).taken ≡ m.core.base → Knows v was.low n j
+  known_joined j few other fit base = split (is_stopped w j)
+      (λ stop. halts (trims.stopped_v rules events e c step s t x j ∙ stop))
+      (λ goes.
+      let who = trims.who_w rules events e c step s t x i in
+      let none = no_list rules w s i j x.old kept_s few_i few who leads x.runs fit in
+      let up = rises.base in
+      joins (ap (λ (y : Node). has_log y.status) (there j other) ∙ none) (omega arith)
+      (λ b h. (let z = welcomed j b m.core.base (omega arith)
+      (λ b_ h_. absurd (no_welcome rules w s i j x.old kept_s few_i few who leads x.runs fit b_ goes h_
+      (all_get GoesSo w.letters h_.number h_.letter (run_goes rules events) h_.there))) h in omega arith)))
+
+  knows_n : (j : ℕ) → j < 256 → (j == i) ≡ false → Knows v was.low n j
+  knows_n j few other = ⊎_elim joined plainly (join_or_none c)
+    where
+      own : (j == m.core.who) ≡ false
+      own = ap (λ k. j == k) (trims.who_w rules events e c step s t x i) ∙ other
+
+      plainly : NoJoin c → Knows v was.low n j
+      plainly none = by_know (know rules w.nodes m n none (cause_taken w e c (run_told rules events x.may).letters x.cause)
+          (trims.heard rules events e c step s t x) (trims.used rules events e c step s t x) x.effect.changes (trims.along rules events e c step s t x))
+        where
+          by_know : Know w.nodes m n → Knows v was.low n j
+          by_know (knew who h) = known_on j few other (h j own)
+          by_know (anew up) = absurd (let z = sym (ap (stamp_lt (view m)) same) ∙ up in let y = not_above_itself (view m) in cc)
+
+      joined : JoinAsked c → Knows v was.low n j
+      joined a = by_ask (subst (λ y. Asked m y a.from) (ap (λ (u : World). u.nodes i) (sym x.is) ∙ here)
+          (asked_event w e a.from a.stamp sent.letter sent.there sent.is))
+        where
+          sent : WasSentTo w i e.act (packet.JoinAsk a.from a.stamp)
+          sent = subst (IsCause w i e.act) a.is x.cause
+
+          by_ask : Asked m n a.from → Knows v was.low n j
+          by_ask (as_before h) = known_on j few other (let z = h j own in let y = ap (λ r. r.taken) z in omega arith)
+          by_ask (admitted_ apart leads_ fit base h) = split (j == a.from)
+              (λ u.
+              let is_ = eqb-true j a.from u in
+              known_joined j few other (ap (λ k. fits (image_of m) (Join k)) is_ ∙ fit) (ap (λ k. (n.reports k).taken) is_ ∙ base))
+              (λ f. known_on j few other (let z = h j own f in let y = ap (λ r. r.taken) z in omega arith))
+
+  acting_v : (j : ℕ) → j < 256 → acts (v.nodes j) ≡ true → view (v.nodes j) ≡ view (v.nodes i) → was.low ≤ (v.nodes j).core.taken
+  acting_v j few act at = split (j == i)
+      (λ u.
+      let is_ = eqb-true j i u in
+      let own = ((trims.laws_v rules events e c step s t x).each j few).fronts.base in
+      let base = ap (λ k. (v.nodes k).core.base) is_ ∙ ap (λ (y : Node). y.core.base) here in
+      let up = rises.base in
+      let low = was.base in
+      omega arith)
+      (λ f.
+      let node = there j f in
+      let old = was.acting j few (sym (ap acts node) ∙ act) (sym (ap view node) ∙ at ∙ same_v) in
+      let taken = ap (λ (y : Node). y.core.taken) node in
+      omega arith)
+
+  letters_v : (k : ℕ) (l : Letter) → slice_get v.letters k ≡ Some l → LetterLow i (view (v.nodes i)) was.low l.packet
+  letters_v k l at = by_kind (trims.letter_v rules events e c step s t x k l at)
+    where
+      by_kind : Sent w m n c l → LetterLow i (view (v.nodes i)) was.low l.packet
+      by_kind (before k_ at_) = subst (λ u. LetterLow i u was.low l.packet) (sym same_v) (was.letters k_ l at_)
+      by_kind (now says) = says_low m n c i (view (v.nodes i)) was.low l.to l.packet
+          (let up = rises.base in let low = was.base in omega arith) says.says
+
+  pub leading_settles : Settles v i
+  leading_settles = record {
+    low = was.low;
+    base = (let up = rises.base in let low = was.base in let base = ap (λ (y : Node). y.core.base) here in omega arith);
+    acting = acting_v;
+    letters = letters_v;
+    knows = λ j few other. subst (λ y. Knows v was.low y j) (sym here) (knows_n j few other);
+  }

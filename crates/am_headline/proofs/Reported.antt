@@ -1,0 +1,125 @@
+-- What is known of a name to be taken, through each change: it was reported so, and taken, or is no more than the base.
+use Rattle.am_headline.proofs.RepairWords.{welcomed_none, top_of, Leave, Report, Stamp, Outcome, settle_is, rests_at_end, rests_refresh, split, Verdict, Ballot}
+use Rattle.am_headline.proofs.RepairWords.{is_sequencer, with_report, push_entry, Node, with_admitted, refresh_at_end, refresh, nat_tests, ◌≡◌, ℕ, ◌≤◌, ◌==◌, max}
+use Rattle.am_headline.proofs.RepairWords.{nat_lt, nat_le, false, if◌then◌else◌, List, refl, sym, ap, ◌∙◌, subst, arith, Change, refreshes, settles, takes_report}
+use Rattle.am_headline.proofs.RepairWords.{admits, notes, begins_list, looks, fetches, stores_view, takes, closes, Says, leave_ask, Looks, finds_no_room, decides}
+use Rattle.am_headline.proofs.RepairWords.{Cause, hears, by_request, BringsReport, with_send, Packet, Fronts, Blanked}
+use Rattle.am_laws.specs.Letters.{request, spread, ack, nack}
+use Rattle.am_packet.specs.declared.packet.Packet.TheVariants as packet
+use Rattle.am_headline.proofs.RepairLeading.{lead_others}
+
+-- what a letter reports of its sender was taken
+abbrev pub ReportTaken : (ℕ → Node) → Packet → Type 0
+ReportTaken nodes (packet.Request s v report req body) = report.taken ≤ (nodes s).core.taken
+ReportTaken nodes (packet.Spread s v report req body) = report.taken ≤ (nodes s).core.taken
+ReportTaken nodes (packet.Ack s v report) = report.taken ≤ (nodes s).core.taken
+ReportTaken nodes (packet.Nack s v report) = report.taken ≤ (nodes s).core.taken
+ReportTaken nodes (packet.LeaveAsk s v report) = report.taken ≤ (nodes s).core.taken
+ReportTaken nodes _ = Unit {0}
+
+abbrev pub CauseTaken : (ℕ → Node) → Cause → Type 0
+CauseTaken nodes (hears p) = ReportTaken nodes p
+CauseTaken nodes _ = Unit {0}
+
+-- what a report tells to be taken was taken
+pub told_so : (nodes : ℕ → Node) (c : Cause) (s : ℕ) (v : Stamp) (report : Report) → BringsReport c s v report → CauseTaken nodes c
+    → report.taken ≤ (nodes s).core.taken
+told_so nodes c s v report (with_send s_ v_ report_ req body (by_request s1 v1 report1 req1 body1)) h = h
+told_so nodes c s v report _ h = h
+
+-- of another name
+abbrev pub Truly : (ℕ → Node) → Node → Type 0
+Truly nodes m = (name : ℕ) → (name == m.core.who) ≡ false → (m.reports name).taken ≤ max m.core.base (nodes name).core.taken
+
+-- what rises
+pub record Rises (m n : Node) : Type 0 where
+  pub base : m.core.base ≤ n.core.base
+  pub taken : m.core.taken ≤ n.core.taken
+
+rises_same : (m n : Node) → n.core.base ≡ m.core.base → n.core.taken ≡ m.core.taken → Rises m n
+rises_same m n base taken = record { base = omega arith; taken = omega arith }
+
+noted_up : (old base taken : ℕ) → old ≤ max old (if nat_le base taken then base else old)
+noted_up old base taken = omega arith
+
+-- reports of others stay, and the base rises
+truly_more : (nodes : ℕ → Node) (m n : Node) → n.core.who ≡ m.core.who → m.core.base ≤ n.core.base
+    → ((name : ℕ) → (name == m.core.who) ≡ false → n.reports name ≡ m.reports name) → Truly nodes m → Truly nodes n
+truly_more nodes m n who up same h name other =
+    let o : (name == m.core.who) ≡ false = ap (λ k. name == k) (sym who) ∙ other in
+    let a = h name o in
+    let b = ap (λ (r : Report). r.taken) (same name o) in
+    omega arith
+
+pub refresh_same : (m : Node) (name : ℕ) → (name == m.core.who) ≡ false → (refresh m).reports name ≡ m.reports name
+unfolding refresh
+refresh_same m name other = split (is_sequencer m) (λ t. rw t (lead_others m name other)) (λ f. rw f refl)
+
+pub end_same : (m : Node) (name : ℕ) → (name == m.core.who) ≡ false → (refresh_at_end m).reports name ≡ m.reports name
+unfolding refresh_at_end
+end_same m name other = ap (λ (n : Node). n.reports name) (settle_is (refresh m)) ∙ refresh_same m name other
+
+truly_report : (nodes : ℕ → Node) (m : Node) (s : ℕ) (report : Report) → report.taken ≤ (nodes s).core.taken → Truly nodes m
+    → Truly nodes (with_report m s report)
+truly_report nodes m s report low h name other = split (name == s)
+    (λ t. let e : name ≡ s = grind (arith, nat_tests) in let a = h s (ap (λ k. k == m.core.who) (sym e) ∙ other) in rw (t, e) (omega arith))
+    (λ f. rw f (h name other))
+
+truly_admitted : (nodes : ℕ → Node) (m : Node) (s : ℕ) → Truly nodes m → Truly nodes (with_admitted m s)
+truly_admitted nodes m s h name other = split (name == s) (λ t. rw t (omega arith)) (λ f. rw f (h name other))
+
+truly_look : (nodes : ℕ → Node) (m : Node) (b : Ballot) (v : Verdict) → Looks m b v → Truly nodes m → Truly nodes v.node
+truly_look nodes m b v (finds_no_room learned) h = truly_more nodes m v.node refl (omega arith) (λ name other. refl) h
+truly_look nodes m b v (decides may) h = λ name other. split (nat_lt name 256) (λ t. rw t (omega arith)) (λ f. rw f (omega arith))
+truly_look nodes m b v _ h = h
+
+rises_look : (m : Node) (b : Ballot) (v : Verdict) → Looks m b v → Rises m v.node
+rises_look m b v (finds_no_room learned) = record { base = omega arith; taken = omega arith }
+rises_look m b v (decides may) = record { base = omega arith; taken = omega arith }
+rises_look m b v _ = rises_same m _ refl refl
+
+pub truly_change : (nodes : ℕ → Node) (c : Cause) (o : Outcome) (m n : Node) → CauseTaken nodes c → Blanked m → Change c o m n → Truly nodes m
+    → Truly nodes n
+truly_change nodes c o m n w k refreshes h = (let r = (rests_refresh m).rests in truly_more nodes m n r.who r.base (refresh_same m) h)
+truly_change nodes c o m n w k settles h = subst (Truly nodes) (sym (settle_is m)) h
+truly_change nodes c o m n w k (takes_report s v report brings may) h = truly_report nodes m s report (told_so nodes c s v report brings w) h
+truly_change nodes c o m n w k (admits s v is leads fit) h = truly_admitted nodes m s h
+truly_change nodes c o m n w k (notes s v base acc brings heard) h =
+    truly_more nodes m n refl (noted_up m.core.base base m.core.taken) (λ name other. refl) h
+truly_change nodes c o m n w k (begins_list s v base join image is says may) h =
+    (let none = (k (welcomed_none m s v base join image may)).base_ in truly_more nodes m n refl (omega arith) (λ name other. refl) h)
+truly_change nodes c o m n w k (looks b verdict over why look is) h = truly_look nodes m b verdict look h
+truly_change nodes c o m n w k (fetches s v base number e is heard promise below why may) h =
+    truly_more nodes m n refl (omega arith) (λ name other. refl) h
+truly_change nodes c o m n w k (stores_view s v base number names resilience is heard own other promise below may) h =
+    truly_more nodes m n refl (omega arith) (λ name other. refl) h
+truly_change nodes c o m n w k (closes leads leaves alone room) h =
+    (let r = (rests_at_end (push_entry m (Leave m.core.who))).rests in truly_more nodes m n r.who r.base (end_same (push_entry m (Leave m.core.who))) h)
+truly_change nodes c o m n w k _ h = h
+
+pub rises_change : (c : Cause) (o : Outcome) (m n : Node) → Blanked m → Fronts m → Change c o m n → Rises m n
+rises_change c o m n k f refreshes = (let r = (rests_refresh m).rests in record { base = r.base; taken = r.taken })
+rises_change c o m n k f settles = subst (Rises m) (sym (settle_is m)) (record { base = omega arith; taken = omega arith })
+rises_change c o m n k f (notes s v base acc brings heard) = record { base = noted_up m.core.base base m.core.taken; taken = omega arith }
+rises_change c o m n k f (begins_list s v base join image is says may) =
+    (let none = k (welcomed_none m s v base join image may) in
+    let b = ap top_of none.blank_ in
+    record { base = omega arith; taken = omega arith })
+rises_change c o m n k f (looks b verdict over why look is) = rises_look m b verdict look
+rises_change c o m n k f (fetches s v base number e is heard promise below why may) = record { base = omega arith; taken = omega arith }
+rises_change c o m n k f (stores_view s v base number names resilience is heard own other promise below may) =
+    record { base = omega arith; taken = omega arith }
+rises_change c o m n k f (takes e is says member some there_) = record { base = omega arith; taken = omega arith }
+rises_change c o m n k f (closes leads leaves alone room) =
+    (let r = (rests_at_end (push_entry m (Leave m.core.who))).rests in record { base = r.base; taken = r.taken })
+rises_change c o m n k f _ = rises_same m n refl refl
+
+-- what a letter of a step reports
+pub says_taken : (nodes : ℕ → Node) (m n : Node) (c : Cause) (to : List ℕ) (p : Packet) → n.core.taken ≤ (nodes n.core.who).core.taken
+    → Says m c n to p → ReportTaken nodes p
+says_taken nodes m n c to p low (request _ req body a f s) = low
+says_taken nodes m n c to p low (spread _ req body a f s) = low
+says_taken nodes m n c to p low (ack _ a) = low
+says_taken nodes m n c to p low (nack _ a) = low
+says_taken nodes m n c to p low (leave_ask _ a l) = low
+says_taken nodes m n c to p low _ = tt

@@ -1,0 +1,122 @@
+-- What a round brings about, and what is kept by all of its events.
+use Rattle.am_headline.proofs.RepairWords.{◌≡◌, inl, inr, ℕ, ◌+◌, ◌≤◌, ◌==◌, min, true, false, length, refl, ap, ◌∙◌, arith, length-append, cases_lt, Rules, has}
+use Rattle.am_headline.proofs.RepairWords.{Event, top, Settling, event_at, running, ticks, hearings, waves, round, World, happens, happen, happen_begins, Repair}
+use Rattle.am_headline.proofs.RepairWords.{IsOurs, our_ticks, hears_}
+use Rattle.am_group.specs.declared.event.Act.TheVariants as act
+use Rattle.am_headline.proofs.{Schedules.acts_keep, Schedules.wave_keeps, Fine.fine_goes, Fine.grow_goes, Ticking.Bounds, Ticking.ticks_poll}
+use Rattle.am_headline.proofs.{Skipping.ticks_wait, FirstWave.first_wave_asks, NextWaves.second_wave_serves, ThirdWave.HasStored, ThirdWave.third_wave_stores}
+
+-- ---- the world after a round
+
+abbrev pub after_ticks : World → World
+after_ticks w = happen w (ticks w)
+
+abbrev pub after_wave : ℕ → World → World
+after_wave after w = happen w (hearings w after)
+
+-- after the third of five waves, each of what the wave before it sent
+abbrev pub after_third : World → World
+after_third w =
+    let a = after_ticks w in
+    let b = after_wave (length w.letters) a in
+    let c = after_wave (length a.letters) b in
+    after_wave (length b.letters) c
+
+-- and after all of them
+abbrev pub after_waves : World → World
+after_waves w =
+    let n = length w.letters in
+    let a = after_ticks w in
+    let b = after_wave n a in
+    let c = after_wave (length a.letters) b in
+    let d = after_wave (length b.letters) c in
+    let e = after_wave (length c.letters) d in
+    after_wave (length d.letters) e
+
+pub round_is : (s : Settling) → (round s).world ≡ after_waves s.world
+unfolding waves
+round_is s = refl
+
+-- ---- what all events keep
+
+pub record Stable (r : Repair) (P : World → Type 0) : Type 0 where
+  pub keeps : (w : World) (e : Event) → IsOurs r e → P w → P (happens w e)
+
+pub ticks_keep : (r : Repair) (P : World → Type 0) → Stable r P → (w : World) → P w → P (after_ticks w)
+ticks_keep r P s w h = acts_keep P act.Tick (λ p u k. s.keeps u (event_at p act.Tick) (our_ticks p) k) (running w) w h
+
+pub wave_keep : (r : Repair) (P : World → Type 0) → Stable r P → (after : ℕ) → r.sent ≤ after → (w : World) → P w → P (after_wave after w)
+wave_keep r P s after low w h = wave_keeps P w after (λ p k u late x. s.keeps u (event_at p (act.Hear k)) (hears_ p k (omega arith)) x) h
+
+long_ticks : (w : World) → length w.letters ≤ length (after_ticks w).letters
+long_ticks w = let more = (happen_begins w (ticks w)).letters in let long = ap length more.1 ∙ length-append w.letters more.0 in omega arith
+
+long_wave : (after : ℕ) (w : World) → length w.letters ≤ length (after_wave after w).letters
+long_wave after w = let more = (happen_begins w (hearings w after)).letters in let long = ap length more.1 ∙ length-append w.letters more.0 in omega arith
+
+-- the waves behind the third
+pub last_waves : (r : Repair) (P : World → Type 0) → Stable r P → (w : World) → r.sent ≤ length w.letters → P (after_third w) → P (after_waves w)
+last_waves r P s w low h =
+    let a = after_ticks w in
+    let b = after_wave (length w.letters) a in
+    let c = after_wave (length a.letters) b in
+    let d = after_wave (length b.letters) c in
+    let e = after_wave (length c.letters) d in
+    let la = long_ticks w in
+    let lb = long_wave (length w.letters) a in
+    let lc = long_wave (length a.letters) b in
+    let ld = long_wave (length b.letters) c in
+    wave_keep r P s (length d.letters) (omega arith) e (wave_keep r P s (length c.letters) (omega arith) d h)
+
+-- those behind the first
+pub later_waves : (r : Repair) (P : World → Type 0) → Stable r P → (w : World) → r.sent ≤ length w.letters
+    → (let a = after_ticks w in P (after_wave (length w.letters) a) → P (after_waves w))
+later_waves r P s w low h =
+    let a = after_ticks w in
+    let b = after_wave (length w.letters) a in
+    let c = after_wave (length a.letters) b in
+    let la = long_ticks w in
+    let lb = long_wave (length w.letters) a in
+    last_waves r P s w low (wave_keep r P s (length b.letters) (omega arith) c (wave_keep r P s (length a.letters) (omega arith) b h))
+
+pub round_keeps : (r : Repair) (P : World → Type 0) → Stable r P → (w : World) → r.sent ≤ length w.letters → P w → P (after_waves w)
+round_keeps r P s w low h = later_waves r P s w low (wave_keep r P s (length w.letters) low (after_ticks w) (ticks_keep r P s w h))
+
+-- ---- a member has stored more
+
+pub stored_stable : (rules : Rules) (r : Repair) (i stored : ℕ) → has r.members i ≡ true → Stable r (HasStored rules r i stored)
+stored_stable rules r i stored there = record {
+  keeps = λ w e is h.
+      (let grow = (grow_goes rules r w e is h.fine).stored i there in
+      record { fine = fine_goes rules r w e is h.fine; stored_ = omega arith });
+}
+
+no_bound : (rules : Rules) (r : Repair) → Bounds rules r (λ w. Unit {0}) 0
+no_bound rules r = record { keeps = λ w e is h x. tt; gives = λ w h x. omega arith }
+
+-- with eight entries more, or all
+pub round_stores : (rules : Rules) (r : Repair) (i stored : ℕ) (w : World) → r.sent ≤ length w.letters → has r.members i ≡ true → (i == r.by) ≡ false
+    → HasStored rules r i (min stored r.high) w → HasStored rules r i (min (stored + 8) r.high) (after_waves w)
+round_stores rules r i stored w low there other h = elim (cases_lt (top (w.nodes i)) r.high) [
+  | inl short ↦
+      (let have = top (w.nodes i) in
+      let a = after_ticks w in
+      let b = after_wave (length w.letters) a in
+      let c = after_wave (length a.letters) b in
+      let la = long_ticks w in
+      let lb = long_wave (length w.letters) a in
+      let lc = long_wave (length a.letters) b in
+      let waits = ticks_wait rules r i w h.fine there other short in
+      let poll = ticks_poll rules r (λ u. Unit {0}) i 0 w (no_bound rules r) h.fine tt there other in
+      let asked = first_wave_asks rules r i (length w.letters) have 0 a low waits poll there other short in
+      let serving = second_wave_serves rules r i (length a.letters) have b (omega arith) asked there other in
+      let kept = wave_keep r (HasStored rules r i have) (stored_stable rules r i have there) (length a.letters) (omega arith) b
+      (record { fine = asked.fine; stored_ = (let same = asked.stored_ in omega arith) }) in
+      let stores = third_wave_stores rules r i (length b.letters) have c (omega arith) lc serving.fine serving.served_ kept.stored_ there other in
+      let more = last_waves r (HasStored rules r i (min (have + 8) r.high)) (stored_stable rules r i (min (have + 8) r.high) there) w low stores in
+      let got = more.stored_ in
+      record { fine = more.fine; stored_ = omega arith })
+  | inr all ↦
+      (let kept = round_keeps r (HasStored rules r i r.high) (stored_stable rules r i r.high there) w low (record { fine = h.fine; stored_ = all }) in
+      record { fine = kept.fine; stored_ = omega arith })
+]

@@ -1,0 +1,100 @@
+-- The letters that a schedule's steps send.
+use Rattle.am_headline.proofs.RepairWords.{◌≡◌, ℕ, suc, ◌+◌, ◌-◌, ◌≤◌, nat_le, true, false, List, Some, slice_get, sym, ap, ◌∙◌, subst, arith, nat_tests}
+use Rattle.am_headline.proofs.RepairWords.{Report, Entry, Data, has, Log, entry_at, Packet, Node, Ballot, top, is_sequencer, report_of, is_unfinished}
+use Rattle.am_headline.proofs.RepairWords.{next_stamp, World, Cause, MayInvite, has_begun, goes_on, MayTell, Says, bcast, order, welcome, leave_ask, invite}
+use Rattle.am_headline.proofs.RepairWords.{vote, result, hand_over, Repair, ReportIs, Stands, IsCalm}
+use Rattle.am_laws.specs.Letters.{request, spread, ack, nack}
+use Rattle.am_packet.specs.declared.packet.Packet.TheVariants as packet
+use Rattle.am_laws.specs.Letters as letters
+use Rattle.am_headline.proofs.{RepairLists.LogGrows, RepairLists.entry_stays, Nodes.CalmCause, Nodes.not_open}
+
+-- ---- what a letter says stays so
+
+-- members have no less
+pub record Grow (r : Repair) (w v : World) : Type 0 where
+  pub log : LogGrows (w.nodes r.by).core.log (v.nodes r.by).core.log
+  pub stored : (name : ℕ) → has r.members name ≡ true → top (w.nodes name) ≤ top (v.nodes name)
+  pub taken : (name : ℕ) → has r.members name ≡ true → (w.nodes name).core.taken ≤ (v.nodes name).core.taken
+  pub acc : (name : ℕ) → has r.members name ≡ true → (w.nodes name).core.acc ≤ (v.nodes name).core.acc
+  -- and the sequencer keeps their reports
+  pub kept : (name : ℕ) → has r.members name ≡ true → ((w.nodes r.by).reports name).stored ≤ ((v.nodes r.by).reports name).stored
+
+report_stays : (r : Repair) (w v : World) (s : ℕ) (report : Report) → Grow r w v → ReportIs r w s report → ReportIs r v s report
+report_stays r w v s report g h = record {
+  stored = λ there. (let a = h.stored there in let b = g.stored s there in omega arith);
+  taken = λ there. (let a = h.taken there in let b = g.taken s there in omega arith);
+}
+
+stands_stays : (r : Repair) (w v : World) (number : ℕ) (e : Entry) → Grow r w v → Stands r w number e → Stands r v number e
+stands_stays r w v number e g h = entry_stays (w.nodes r.by).core.log (v.nodes r.by).core.log number e g.log h
+
+pub calm_stays : (r : Repair) (w v : World) (p : Packet) → Grow r w v → IsCalm r w p → IsCalm r v p
+calm_stays r w v (packet.Request s v_ report req body) g h = report_stays r w v s report g h
+calm_stays r w v (packet.Spread s v_ report req body) g h = report_stays r w v s report g h
+calm_stays r w v (packet.Bcast s v_ base acc number e) g h = stands_stays r w v number e g h
+calm_stays r w v (packet.Order s v_ base acc number from req) g h = (h.0, stands_stays r w v number (Data from req h.0) g h.1)
+calm_stays r w v (packet.Ack s v_ report) g h = report_stays r w v s report g h
+calm_stays r w v (packet.Nack s v_ report) g h = report_stays r w v s report g h
+calm_stays r w v (packet.Welcome s v_ base join image) g h = h
+calm_stays r w v (packet.LeaveAsk s v_ report) g h = (h.0, report_stays r w v s report g h.1)
+calm_stays r w v (packet.Invite s v_) g h = h
+calm_stays r w v (packet.Vote s v_ vote_) g h = h
+calm_stays r w v (packet.Result s v_ base number names resilience) g h = h
+calm_stays r w v (packet.HandOver s v_) g h = h
+calm_stays r w v _ g h = tt
+
+-- ---- what is sent is so
+
+-- a name's step, from a node to one that stands in the world after it
+pub record Sends (r : Repair) (v : World) (m n : Node) : Type 0 where
+  pub node : v.nodes n.core.who ≡ n
+  pub leaves : n.leaving ≡ true → r.gone n.core.who ≡ true
+  pub no_ballot : is_unfinished m.ballot ≡ false
+  pub begins_none : (b : Ballot) → n.ballot ≡ Some b → n.core.promise ≡ next_stamp m → ⊥
+  pub tells : MayTell n → n.core.promise.by ≡ n.core.who → n.core.promise ≡ r.view
+  -- only one leads
+  pub stays : is_sequencer n ≡ true → n.leaving ≡ false
+  pub own : is_sequencer n ≡ true → n.core.who ≡ r.by
+  pub promise : is_sequencer n ≡ true → n.core.promise ≡ r.view
+  pub base : is_sequencer n ≡ true → n.core.log.start ≤ m.core.base
+
+pub entry_of : (log : Log) (index number : ℕ) (e : Entry) → slice_get log.entries index ≡ Some e → number ≡ log.start + index + 1
+    → entry_at log number ≡ Some e
+entry_of log index number e there is =
+    let before = log.start + index in
+    let at : number ≡ suc before = omega arith in
+    let low : nat_le log.start before ≡ true = grind (arith, nat_tests) in
+    let skip : before - log.start ≡ index = omega arith in
+    ap (entry_at log) at ∙ rw low (ap (slice_get log.entries) skip ∙ there)
+
+numbered_stands : (r : Repair) (v : World) (m n : Node) (number : ℕ) (e : Entry) → Sends r v m n → is_sequencer n ≡ true
+    → letters.Stands n.core.log m.core.base number e → Stands r v number e
+numbered_stands r v m n number e h t s =
+    let node = ap (λ k. v.nodes k) (sym (h.own t)) ∙ h.node in
+    ap (λ (x : Node). entry_at x.core.log number) node ∙ entry_of n.core.log s.index number e s.there (s.at (h.base t))
+
+report_sent : (r : Repair) (v : World) (m n : Node) → Sends r v m n → ReportIs r v n.core.who (report_of n)
+report_sent r v m n h =
+    let stored = ap (λ (x : Node). top x) h.node in
+    let taken = ap (λ (x : Node). x.core.taken) h.node in
+    record { stored = λ there. omega arith; taken = λ there. omega arith }
+
+not_invited : (r : Repair) (v : World) (m n : Node) → Sends r v m n → MayInvite m n → ⊥
+not_invited r v m n h (has_begun b is next) = h.begins_none b is next
+not_invited r v m n h (goes_on b open_) = not_open m b open_ h.no_ballot
+
+pub says_calm : (r : Repair) (w v : World) (m n : Node) (c : Cause) (to : List ℕ) (p : Packet) → CalmCause r w c → Sends r v m n → Says m c n to p
+    → IsCalm r v p
+says_calm r w v m n c to p calm h (request _ req body a f s) = report_sent r v m n h
+says_calm r w v m n c to p calm h (spread _ req body a f s) = report_sent r v m n h
+says_calm r w v m n c to p calm h (bcast _ number e l s) = numbered_stands r v m n number e h l s
+says_calm r w v m n c to p calm h (order _ number from req v_ report body is l s) = (body, numbered_stands r v m n number (Data from req body) h l s)
+says_calm r w v m n c to p calm h (ack _ a) = report_sent r v m n h
+says_calm r w v m n c to p calm h (nack _ a) = report_sent r v m n h
+says_calm r w v m n c to p calm h (welcome s l may) = h.promise l
+says_calm r w v m n c to p calm h (leave_ask _ a leaves) = (h.leaves leaves, report_sent r v m n h)
+says_calm r w v m n c to p calm h (invite _ may) = absurd (not_invited r v m n h may)
+says_calm r w v m n c to p calm h (vote s v_ is) = absurd (subst (CalmCause r w) is calm)
+says_calm r w v m n c to p calm h (result _ number names is viewed may) = h.tells may
+says_calm r w v m n c to p calm h (hand_over _ l leaves) = absurd (let s = h.stays l in cc)
+says_calm r w v m n c to p calm h _ = tt

@@ -1,0 +1,45 @@
+-- Who departs in a step sends nothing.
+use Rattle.am_headline.proofs.RepairWords.{◌≡◌, ◌⊎◌, inl, inr, ⊎_elim, false, List, [], refl, sym, ap, ◌∙◌, Outcome, Letter, Status, Verdict, Step, Node}
+use Rattle.am_headline.proofs.RepairWords.{Ballot, with_report, has_departed, Cause, Looks, Change, refreshes, settles, begins_list, departs, looks}
+use Rattle.am_headline.proofs.RepairWords.{asks_to_join, closes, Effect, rests_refresh, rests_at_end, settle_is}
+use Rattle.am_model.specs.declared.status.Status.TheVariants as status
+use Rattle.am_laws.specs.Looks.{finds_itself_out}
+use Rattle.am_laws.specs.Courses.{IsPlain, Course, nothing_yet, used_report, and_then, Deeds, plainly, looked, Ending, at_end, let_go, closing}
+
+abbrev pub Here : Node → Type 0
+Here x = has_departed x.status ≡ false
+
+here_change : (c : Cause) (o : Outcome) (x y : Node) (z : Change c o x y) → IsPlain z → Here x → Here y
+here_change c o x y refreshes plain h = absurd plain
+here_change c o x y settles plain h = ap (λ (n : Node). has_departed n.status) (settle_is x) ∙ h
+here_change c o x y (begins_list s v base join image is says may) plain h = refl
+here_change c o x y (departs s v number is heard leaves) plain h = absurd plain
+here_change c o x y (looks b verdict over why look is) plain h = absurd plain
+here_change c o x y (asks_to_join is was) plain h = refl
+here_change c o x y (closes leads leaves alone room) plain h = absurd plain
+here_change c o x y _ plain h = h
+
+here_course : {c : Cause} {o : Outcome} (m x : Node) → Course c o m x → Here m → Here x
+here_course m x nothing_yet h = h
+here_course m x (used_report s v report brings may) h = ap has_departed (rests_refresh (with_report m s report)).rests.status ∙ h
+here_course m x (and_then {n = y} course z plain) h = here_change _ _ y x z plain (here_course m y course h)
+
+here_look : (x : Node) (b : Ballot) (v : Verdict) → Looks x b v → Here x → Here v.node
+here_look x b v (finds_itself_out w) h = h
+here_look x b v _ h = h
+
+here_deeds : {c : Cause} {o : Outcome} (m x : Node) → Deeds c o m x → Here m → Here x
+here_deeds m x (plainly course) h = here_course m x course h
+here_deeds m x (looked {n = y} b verdict course over why look is) h = here_look y b verdict look (here_course m y course h)
+
+pub none_or_here : {c : Cause} {o : Outcome} (m : Node) (letters : List Letter) (n : Node) → Ending c o m letters n → Here m → (letters ≡ []) ⊎ Here n
+none_or_here m letters n (at_end {x = x} deeds) h = inr (ap has_departed (rests_at_end x).rests.status ∙ here_deeds m x deeds h)
+none_or_here m letters n (let_go s v number is heard leaves) h = inl refl
+none_or_here m letters n (closing {x = x} event call course leads leaves alone room same) h = inl refl
+
+-- who is there after the step is who sent
+pub same_sender : (m : Node) (c : Cause) (step : Step) → (effect : Effect m c step) → Here step.node → effect.sender ≡ step.node
+same_sender m c step effect h = ⊎_elim
+    (λ (same : step.node.status ≡ effect.sender.status). sym (effect.is ∙ ap (λ (t : Status). record effect.sender { status = t }) same))
+    (λ (gone : step.node.status ≡ status.Departed). absurd (let z = sym h ∙ ap has_departed gone in cc))
+    effect.stays

@@ -1,0 +1,5 @@
+use Rattle.am_headline.proofs.RepairedRunsSettled.{repairs}
+use Rattle.am_headline.proofs.repaired_runs.lossless_schedules_repair.Goals as goal
+
+pub returns : goal.returns
+returns c = repairs

@@ -1,0 +1,5 @@
+use Rattle.am_headline.proofs.RepairedRunsSettled.{counts_members}
+use Rattle.am_headline.proofs.repaired_runs.repairable_runs_count_members.Goals as goal
+
+pub returns : goal.returns
+returns c = counts_members

@@ -1,0 +1,24 @@
+ghost use Rattle.am_headline.specs.{Claim.Repairs, Standing.RepairableIsOneList};
+ghost use Rattle.am_headline.specs.Trimmed.{RepairableCounts, RepairableTrims};
+
+/// Where a lawful run may be repaired, the sequencer's whole list fits, and the one of each Member that runs begins it. Each of them is a
+/// member by it, or was one and leaves.
+pub fn repairable_runs_have_one_list()
+    ensures { RepairableIsOneList }
+{}
+
+/// And from its last View on, whose storage counts for what it hasn't accepted yet is a member by its list: who left since has its Leave
+/// accepted.
+pub fn repairable_runs_count_members()
+    ensures { RepairableCounts }
+{}
+
+/// And it trimmed no more than each member of its list has taken.
+pub fn repairable_runs_trim_taken()
+    ensures { RepairableTrims }
+{}
+
+/// The claim: where a lawful run may be repaired, a lossless schedule brings each member of the sequencer's list to where the sequencer stood.
+pub fn lossless_schedules_repair()
+    ensures { Repairs }
+{}

@@ -1,0 +1,115 @@
+-- What the changes of a step do to a node's entries, one after another.
+use Rattle.am_laws.proofs.WatchedRunsWords.{in_view_log, welcomed_none, logged, ◌≡◌, ℕ, ◌≤◌, ◌==◌, not, true, false, List, [], ◌∷◌, ◌++◌, refl, sym, ap, ◌∙◌}
+use Rattle.am_laws.proofs.WatchedRunsWords.{append_assoc, arith, Outcome, Stamp, Image, Entry, View, Leave, stamp_eq, Log, Node, Ballot, view, acts, is_sequencer}
+use Rattle.am_laws.proofs.WatchedRunsWords.{is_member, push_entry, has_log, Verdict, refresh, settle, hears_member, split, and_both, Cause, hears, HasOpen, Balloting}
+use Rattle.am_laws.proofs.WatchedRunsWords.{with_more, without_one, as_it_is, Looks, finds_itself_out, decides, Change, refreshes, settles, numbers, stores}
+use Rattle.am_laws.proofs.WatchedRunsWords.{begins_list, departs, looks, fetches, stores_view, asks_to_join, closes, Changes, unchanged, changed, rests_refresh}
+use Rattle.am_laws.proofs.WatchedRunsWords.{rests_at_end, settle_is, HasNames, HeardNames, Balloted, changes_do}
+use Rattle.am_packet.specs.declared.packet.Packet.TheVariants as packet
+
+-- ---- who has a list
+
+leads_log : (m : Node) → is_sequencer m ≡ true → has_log m.status ≡ true
+leads_log m h = logged m.status (and_both (is_member m.status) (stamp_eq m.core.promise (view m)) (and_both (acts m) ((view m).by == m.core.who) h).0).0
+
+hears_log : (m : Node) (s : ℕ) → hears_member m s ≡ true → has_log m.status ≡ true
+hears_log m s h = logged m.status (and_both (not (s == m.core.who)) (is_member m.status) h).1
+
+ballot_log : (m : Node) (b : Ballot) → HasOpen m b → Balloted m → has_log m.status ≡ true
+ballot_log m b open_ h = split (has_log m.status) (λ t. t) (λ f. absurd (let none = h.none f in let is = open_.last in cc))
+
+pub looked_log : {c : Cause} (m : Node) (b : Ballot) → Balloting c m b → Balloted m → has_log m.status ≡ true
+looked_log m b (with_more old s v shown is by low high open_ same stays) h = ballot_log m old open_ h
+looked_log m b (without_one old name is open_ other) h = ballot_log m old open_ h
+looked_log m b (as_it_is old open_ on) h = ballot_log m old open_ h
+
+-- ---- entries
+
+-- after some changes: without a list there are no entries, and else there are more
+pub record IsLonger (m n : Node) : Type 0 where
+  pub bare : has_log n.status ≡ false → n.core.log.entries ≡ []
+  pub more : List Entry
+  pub is : n.core.log.entries ≡ m.core.log.entries ++ more
+
+longer_same : (m x y : Node) → y.status ≡ x.status → y.core.log ≡ x.core.log → IsLonger m x → IsLonger m y
+longer_same m x y stays log h = record {
+  bare = λ f. ap (λ (l : Log). l.entries) log ∙ h.bare (ap has_log (sym stays) ∙ f);
+  more = h.more;
+  is = ap (λ (l : Log). l.entries) log ∙ h.is;
+}
+
+longer_pushed : (m x y : Node) (e : Entry) → has_log y.status ≡ true → y.core.log.entries ≡ x.core.log.entries ++ e ∷ [] → IsLonger m x → IsLonger m y
+longer_pushed m x y e log is h = record {
+  bare = λ f. absurd (cc);
+  more = h.more ++ e ∷ [];
+  is = is ∙ ap (λ es. es ++ e ∷ []) h.is ∙ append_assoc m.core.log.entries h.more (e ∷ []);
+}
+
+look_longer : (m x : Node) (b : Ballot) (v : Verdict) → Looks x b v → has_log x.status ≡ true → IsLonger m x → IsLonger m v.node
+look_longer m x b v (decides may) log h = longer_pushed m x v.node _ log refl h
+look_longer m x b v _ log h = longer_same m x v.node refl refl h
+
+change_longer : {c : Cause} {o : Outcome} (m x y : Node) → Change c o x y → Balloted x → IsLonger m x → IsLonger m y
+change_longer m x y refreshes k h = let r = rests_refresh x in longer_same m x (refresh x) r.rests.status r.log h
+change_longer m x y settles k h = longer_same m x (settle x) (ap (λ (n : Node). n.status) (settle_is x)) (ap (λ (n : Node). n.core.log) (settle_is x)) h
+change_longer m x y (numbers e leads room why) k h = longer_pushed m x y e (leads_log x leads) refl h
+change_longer m x y (stores s v base acc number e by from plain may) k h = longer_pushed m x y e (in_view_log x s v from) refl h
+change_longer m x y (begins_list s v base join image is o may) k h =
+    let none : x.core.log.entries ≡ [] = h.bare (welcomed_none x s v base join image may) in
+    record { bare = λ f. refl; more = h.more; is = sym none ∙ h.is }
+change_longer m x y (departs s v number is by leaves) k h = record { bare = λ f. absurd (cc); more = h.more; is = h.is }
+change_longer m x y (looks b verdict over why look is) k h = look_longer m x b verdict look (looked_log x b why k) h
+change_longer m x y (fetches s v base number e is by promise below from may) k h = longer_pushed m x y e (hears_log x s by) refl h
+change_longer m x y (stores_view s v base number names resilience is by own other promise below may) k h =
+    longer_pushed m x y (View v names resilience) (hears_log x s by) refl h
+change_longer m x y (asks_to_join is was) k h = record { bare = λ f. h.bare (ap has_log was); more = h.more; is = h.is }
+change_longer m x y (closes leads leaves alone room) k h =
+    let p = push_entry x (Leave x.core.who) in
+    let r = rests_at_end p in
+    longer_pushed m x y (Leave x.core.who) refl (ap (λ (l : Log). l.entries) r.log) h
+change_longer m x y _ k h = longer_same m x y refl refl h
+
+pub changes_longer : {c : Cause} {o : Outcome} (m x n : Node) → HeardNames c → Changes c o x n → HasNames x → Balloted x → IsLonger m x → IsLonger m n
+changes_longer m x n heard unchanged k b h = h
+changes_longer m x n heard (changed {n = y} one more) k b h =
+    let g = changes_do x y heard (changed one unchanged) k b in
+    changes_longer m y n heard more g.names g.does.balloted (change_longer m x y one b h)
+
+-- ---- where a list begins
+
+-- a Welcome begins a list at a number up to this one
+pub record HeardLow (c : Cause) (g : ℕ) : Type 0 where
+  pub welcome : (s : ℕ) (v : Stamp) (base join : ℕ) (image : Image) → c ≡ hears (packet.Welcome s v base join image) → base ≤ g
+
+look_begins : (g : ℕ) (x : Node) (b : Ballot) (v : Verdict) → Looks x b v → x.core.log.start ≤ g → v.node.core.log.start ≤ g
+look_begins g x b v (finds_itself_out y) h = h
+look_begins g x b v _ h = h
+
+pub change_begins : {c : Cause} {o : Outcome} (g : ℕ) → HeardLow c g → (x y : Node) → Change c o x y → x.core.log.start ≤ g → y.core.log.start ≤ g
+change_begins g heard x y refreshes h = let e = ap (λ (l : Log). l.start) (rests_refresh x).log in omega arith
+change_begins g heard x y settles h = let e = ap (λ (n : Node). n.core.log.start) (settle_is x) in omega arith
+change_begins g heard x y (begins_list s v base join image is o may) h = heard.welcome s v base join image is
+change_begins g heard x y (looks b verdict over why look is) h = look_begins g x b verdict look h
+change_begins g heard x y (closes leads leaves alone room) h = let e = ap (λ (l : Log). l.start) (rests_at_end (push_entry x (Leave x.core.who))).log in omega
+    arith
+change_begins g heard x y _ h = h
+
+-- a list that is there begins where it did
+look_stays : (x : Node) (b : Ballot) (v : Verdict) → Looks x b v → v.node.core.log.start ≡ x.core.log.start
+look_stays x b v (finds_itself_out y) = refl
+look_stays x b v _ = refl
+
+change_stays : {c : Cause} {o : Outcome} (x y : Node) → Change c o x y → has_log x.status ≡ true → y.core.log.start ≡ x.core.log.start
+change_stays x y refreshes t = ap (λ (l : Log). l.start) (rests_refresh x).log
+change_stays x y settles t = ap (λ (n : Node). n.core.log.start) (settle_is x)
+change_stays x y (begins_list s v base join image is o may) t = absurd (let f = welcomed_none x s v base join image may in cc)
+change_stays x y (looks b verdict over why look is) t = look_stays x b verdict look
+change_stays x y (closes leads leaves alone room) t = ap (λ (l : Log). l.start) (rests_at_end (push_entry x (Leave x.core.who))).log
+change_stays x y _ t = refl
+
+pub changes_stay : {c : Cause} {o : Outcome} (x n : Node) → HeardNames c → Changes c o x n → HasNames x → Balloted x → has_log x.status ≡ true
+    → n.core.log.start ≡ x.core.log.start
+changes_stay x n heard unchanged k b t = refl
+changes_stay x n heard (changed {n = y} one more) k b t =
+    let g = changes_do x y heard (changed one unchanged) k b in
+    changes_stay y n heard more g.names g.does.balloted (g.does.log_ t) ∙ change_stays x y one t

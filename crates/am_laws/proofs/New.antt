@@ -1,0 +1,308 @@
+-- In every run a view that is decided is a new one: its View stood nowhere before.
+use Rattle.am_laws.proofs.WatchedRunsWords.{view_rises, logged, stamp_itself, same_stamp, ◌≡◌, ◌⊎◌, ⊎_elim, ℕ, ◌-◌, ◌==◌, not, true, false, List, [], length, refl}
+use Rattle.am_laws.proofs.WatchedRunsWords.{sym, ap, ◌∙◌, subst, arith, All, nat_tests, list_any_none, All-nil, All-cons, All-append, All-weaker, All-take, All-drop}
+use Rattle.am_laws.proofs.WatchedRunsWords.{Stamp, Entry, View, Rules, MayFound, has, rank_of, stamp_lt, stamp_eq, no_stamp, fold, after, Packet, Letter, Event, Node}
+use Rattle.am_laws.proofs.WatchedRunsWords.{view, acts, is_member, set_at, founders_view, lowest_or_first, has_log, Step, World, start, first_node, with_step}
+use Rattle.am_laws.proofs.WatchedRunsWords.{group_after, run, is_view_of, heard_by, split, and_both, Cause, MayTell, leads, decided, Says, piece, result, LetterSays}
+use Rattle.am_laws.proofs.WatchedRunsWords.{Effect, actor, WasSentTo, IsCause, all_get, all_item, EachKeeps, StepsKeep, SameParts, law_keeps, runs_keep, stamp_of}
+use Rattle.am_laws.proofs.WatchedRunsWords.{first_founder, few_names, at_most, not_above_itself, SameView, Stood, Balloted, Does, changes_do, heard_names, says_stamp}
+use Rattle.am_laws.proofs.WatchedRunsWords.{DecidedAreNew}
+use Rattle.am_packet.specs.declared.packet.Packet.TheVariants as packet
+use Rattle.am_model.specs.declared.status.Status.TheVariants as status
+use Rattle.am_play.specs.World as runs
+use Rattle.am_laws.proofs.{Lists.AllLists, Lists.each_lists, Lists.lists_start, Own.Below, Own.IsKnown, Own.Known, Own.HeardOwn, Own.Told, Own.IsOwn}
+use Rattle.am_laws.proofs.{Own.Chained, Own.Along, Own.known_chained, Own.changes_along}
+
+-- ---- what is so of a world
+
+abbrev pub PacketKnown : (ℕ → Node) → Packet → Type 0
+PacketKnown nodes (packet.Piece s v base number e) = Known nodes e
+PacketKnown nodes (packet.Result s v base number names resilience) = (v.by == s) ≡ true → IsKnown nodes v
+PacketKnown nodes _ = Unit {0}
+
+abbrev StampBelow : (ℕ → Node) → Letter → Type 0
+StampBelow nodes l = Below nodes (stamp_of l.packet)
+
+abbrev LetterKnown : (ℕ → Node) → Letter → Type 0
+LetterKnown nodes l = PacketKnown nodes l.packet
+
+abbrev ToldNode : Node → Type 0
+ToldNode m = Told m.core.who m.core.promise m.ballot
+
+-- of nodes, letters and the group list
+pub record OwnKept (nodes : ℕ → Node) (letters : List Letter) (list : List Entry) : Type 0 where
+  pub promises : (name : ℕ) → Below nodes (nodes name).core.promise
+  pub told : (name : ℕ) → ToldNode (nodes name)
+  pub entries : (name : ℕ) → All (Known nodes) (nodes name).core.log.entries
+  pub stamps : All (StampBelow nodes) letters
+  pub heard : All (LetterKnown nodes) letters
+  pub group : All (Known nodes) list
+
+pub record AllOwn (rules : Rules) (w : World) : Type 0 where
+  pub lists : AllLists rules w
+  pub own : OwnKept w.nodes w.letters w.group
+  pub open own use *
+
+-- ---- a step of a name
+
+module _ (nodes : ℕ → Node) (name : ℕ) (n : Node) (d : Does (nodes name) n) (rises : stamp_lt n.core.promise (nodes name).core.promise ≡ false) where
+  below_up : (v : Stamp) → Below nodes v → Below (set_at nodes name n) v
+  below_up v h = split (v.by == name)
+      (λ t. let same : v.by ≡ name = grind (arith, nat_tests) in
+      let low : stamp_lt (nodes name).core.promise v ≡ false = subst (λ k. stamp_lt (nodes k).core.promise v ≡ false) same h in
+      rw t (at_most v (nodes name).core.promise n.core.promise low rises))
+      (λ f. rw f h)
+
+  known_stamp : (v : Stamp) → IsKnown nodes v → IsKnown (set_at nodes name n) v
+  known_stamp v h = split (v.by == name)
+      (λ t. let same : v.by ≡ name = grind (arith, nat_tests) in
+      let log : has_log (nodes name).status ≡ true = subst (λ k. has_log (nodes k).status ≡ true) same h.has_list in
+      let low : stamp_lt (view (nodes name)) v ≡ false = subst (λ k. stamp_lt (view (nodes k)) v ≡ false) same h.low in
+      record { low = rw t (at_most v (view (nodes name)) (view n) low (view_rises (nodes name) n (d.goes log))); has_list = rw t (d.log_ log) })
+      (λ f. record { low = rw f h.low; has_list = rw f h.has_list })
+
+  known_up : (e : Entry) → Known nodes e → Known (set_at nodes name n) e
+  known_up (View stamp names resilience) h = known_stamp stamp h
+  known_up _ h = tt
+
+  own_known : (v : Stamp) → IsOwn name n v → IsKnown (set_at nodes name n) v
+  own_known v o =
+      let t : (v.by == name) ≡ true = let same = o.by in grind (arith, nat_tests) in
+      record { low = rw t o.low; has_list = rw t o.has_list }
+
+  chained_known : (e : Entry) → Chained nodes name n e → Known (set_at nodes name n) e
+  chained_known (View stamp names resilience) h = ⊎_elim (λ (k : IsKnown nodes stamp). known_stamp stamp k) (λ (o : IsOwn name n stamp). own_known stamp o) h
+  chained_known _ h = tt
+
+  packet_up : (p : Packet) → PacketKnown nodes p → PacketKnown (set_at nodes name n) p
+  packet_up (packet.Piece s v base number e) h = known_up e h
+  packet_up (packet.Result s v base number names resilience) h = λ t. known_stamp v (h t)
+  packet_up _ h = tt
+
+-- ---- what a step's letters say
+
+-- who tells a View of its own has it, and promised nothing above
+says_known : (nodes : ℕ → Node) (m x : Node) (c : Cause) (to : List ℕ) (p : Packet) → All (Known nodes) x.core.log.entries → ToldNode x
+    → (MayTell x → x.core.promise.by ≡ x.core.who → view x ≡ x.core.promise → IsKnown nodes x.core.promise) → Says m c x to p → PacketKnown nodes p
+says_known nodes m x c to p entries told own (piece s v stored number e is may at) = all_get (Known nodes) x.core.log.entries at.index e entries at.there
+says_known nodes m x c to p entries told own (result _ number names is viewed may) = λ t. (
+    let mine : x.core.promise.by ≡ x.core.who = grind (arith, nat_tests) in
+    own may mine (may_view x may told mine))
+  where
+    may_view : (x : Node) → MayTell x → ToldNode x → x.core.promise.by ≡ x.core.who → view x ≡ x.core.promise
+    may_view x (leads l) told mine = sym (same_stamp x.core.promise (view x)
+        (and_both (is_member x.status) (stamp_eq x.core.promise (view x)) (and_both (acts x) ((view x).by == x.core.who) l).0).1)
+    may_view x (decided b number names there answer at) told mine = at ∙ sym (told.is b number names there answer mine)
+says_known nodes m x c to p entries told own _ = tt
+
+-- who may tell has a list, also where it departs
+tells_list : (n x : Node) → n ≡ record x { status = n.status } → (n.status ≡ x.status) ⊎ (n.status ≡ status.Departed) → Balloted n → MayTell x
+    → has_log n.status ≡ true
+tells_list n x is stays b (leads l) = ⊎_elim
+    (λ (e : n.status ≡ x.status). ap has_log e ∙ logged x.status
+    (and_both (is_member x.status) (stamp_eq x.core.promise (view x)) (and_both (acts x) ((view x).by == x.core.who) l).0).0)
+    (λ (e : n.status ≡ status.Departed). ap has_log e)
+    stays
+tells_list n x is stays b (decided ballot number names there answer at) = split (has_log n.status)
+    (λ t. t)
+    (λ f. absurd (let none = b.none f in let same : n.ballot ≡ x.ballot = ap (λ (y : Node). y.ballot) is in cc))
+
+-- ---- a step of a world
+
+grown_known : (nodes : ℕ → Node) (group : List Entry) (n : Node) → All (Known nodes) group → All (Known nodes) n.core.log.entries
+    → All (Known nodes) (group_after group n)
+grown_known nodes group n h g = split ((view n).by == n.core.who)
+    (λ t. rw t (All-append (Known nodes) group _ h (All-take (Known nodes) (n.core.acc - length group) _
+    (All-drop (Known nodes) (length group - n.core.log.start) n.core.log.entries g))))
+    (λ f. rw f h)
+
+pub heard_own : (rules : Rules) (w : World) (e : Event) (c : Cause) → AllOwn rules w → IsCause w (actor w e) e.act c → HeardOwn w.nodes c
+heard_own rules w e c h cause = record {
+  stamp = λ p is. (let was : WasSentTo w (actor w e) e.act p = subst (IsCause w (actor w e) e.act) is cause in
+      subst (λ (x : Packet). Below w.nodes (stamp_of x)) was.is (all_item (StampBelow w.nodes) w.letters (heard_by e.act) was.letter h.stamps was.there));
+  piece = λ s v base number x is. (let was : WasSentTo w (actor w e) e.act (packet.Piece s v base number x) = subst (IsCause w (actor w e) e.act) is cause in
+      let known : PacketKnown w.nodes (packet.Piece s v base number x) =
+      subst (PacketKnown w.nodes) was.is (all_item (LetterKnown w.nodes) w.letters (heard_by e.act) was.letter h.heard was.there) in known);
+  result = λ s v base number names resilience is. (let was : WasSentTo w (actor w e) e.act (packet.Result s v base number names resilience) =
+      subst (IsCause w (actor w e) e.act) is cause in
+      let known : PacketKnown w.nodes (packet.Result s v base number names resilience) =
+      subst (PacketKnown w.nodes) was.is (all_item (LetterKnown w.nodes) w.letters (heard_by e.act) was.letter h.heard was.there) in known);
+}
+
+-- what a step comes to
+record Stepped (w : World) (name : ℕ) (n : Node) : Type 0 where
+  does : Does (w.nodes name) n
+  balloted : Balloted n
+  chain : Along w.nodes name n
+
+step_of : (rules : Rules) (w : World) (e : Event) (c : Cause) (s : Step) → IsCause w (actor w e) e.act c → Effect (w.nodes (actor w e)) c s → AllOwn rules w
+    → Stepped w (actor w e) s.node
+step_of rules w e c s cause effect h =
+    let name = actor w e in
+    let m = w.nodes name in
+    let few = few_names rules w e h.lists.base.named in
+    let kept = h.lists.base.each name few in
+    let names = heard_names rules w e c h.lists.base cause in
+    let g = changes_do m s.node names effect.changes kept.names kept.balloted in
+    let first : Along w.nodes name m = record {
+      who = h.lists.base.named.who name;
+      rises = not_above_itself m.core.promise;
+      below = λ f. h.promises name;
+      told = h.told name;
+      entries = All-weaker (Known w.nodes) (Chained w.nodes name m) (known_chained w.nodes name m) m.core.log.entries (h.entries name);
+    } in
+    record {
+      does = g.does;
+      balloted = g.does.balloted;
+      chain = changes_along w.nodes name (heard_own rules w e c h cause) names m s.node effect.changes kept.names kept.balloted first;
+    }
+
+own_step : (rules : Rules) → StepsKeep (AllLists rules) (AllOwn rules)
+unfolding with_step
+own_step rules w e c s cause effect lists h =
+    let name = actor w e in
+    let m = w.nodes name in
+    let n = s.node in
+    let x = effect.sender in
+    let g = step_of rules w e c s cause effect h in
+    let d = g.does in
+    let a = g.chain in
+    let next = set_at w.nodes name n in
+    let up : (k : Entry) → Known w.nodes k → Known next k = known_up w.nodes name n d a.rises in
+    let mine : All (Known next) n.core.log.entries = All-weaker (Chained w.nodes name n) (Known next)
+    (chained_known w.nodes name n d a.rises) n.core.log.entries a.entries in
+    let promise : Below next n.core.promise = split (n.core.promise.by == name)
+    (λ t. rw t (not_above_itself n.core.promise))
+    (λ f. below_up w.nodes name n d a.rises n.core.promise (a.below f)) in
+    let same : n.core ≡ x.core = ap (λ (y : Node). y.core) effect.is in
+    let sender_entries : All (Known next) x.core.log.entries = subst (λ k. All (Known next) k.log.entries) same mine in
+    let sender_told : ToldNode x = let e2 : n.ballot ≡ x.ballot = ap (λ (y : Node). y.ballot) effect.is in
+    subst (λ b. Told x.core.who x.core.promise b) e2 (subst (λ k. Told k.who k.promise n.ballot) same a.told) in
+    let own : MayTell x → x.core.promise.by ≡ x.core.who → view x ≡ x.core.promise → IsKnown next x.core.promise = λ may by viewed.
+    (let there : view n ≡ x.core.promise = ap (λ (y : Node). view y) effect.is ∙ viewed in
+    own_known w.nodes name n d a.rises x.core.promise (record {
+      by = by ∙ ap (λ k. k.who) (sym same) ∙ a.who;
+      low = subst (λ (v : Stamp). stamp_lt v x.core.promise ≡ false) (sym there) (not_above_itself x.core.promise);
+      has_list = tells_list n x effect.is effect.stays g.balloted may;
+    })) in
+    record {
+      lists = lists;
+      own = record {
+        promises = λ other. split (other == name)
+            (λ t. rw t promise)
+            (λ f. rw f (below_up w.nodes name n d a.rises (w.nodes other).core.promise (h.promises other)));
+        told = λ other. split (other == name) (λ t. rw t a.told) (λ f. rw f (h.told other));
+        entries = λ other. split (other == name)
+            (λ t. rw t mine)
+            (λ f. rw f (All-weaker (Known w.nodes) (Known next) up (w.nodes other).core.log.entries (h.entries other)));
+        stamps = All-append (StampBelow next) w.letters s.letters
+            (All-weaker (StampBelow w.nodes) (StampBelow next) (λ l k. below_up w.nodes name n d a.rises (stamp_of l.packet) k) w.letters h.stamps)
+            (All-weaker (LetterSays m c x) (StampBelow next) (λ l k. subst (Below next) (ap (λ y. y.promise) same
+            ∙ sym (says_stamp m x c l.to l.packet k.says)) promise) s.letters effect.letters);
+        heard = All-append (LetterKnown next) w.letters s.letters
+            (All-weaker (LetterKnown w.nodes) (LetterKnown next) (λ l k. packet_up w.nodes name n d a.rises l.packet k) w.letters h.heard)
+            (All-weaker (LetterSays m c x) (LetterKnown next) (λ l k. says_known next m x c l.to l.packet sender_entries sender_told own k.says) s.letters
+            effect.letters);
+        group = grown_known next w.group n (All-weaker (Known w.nodes) (Known next) up w.group h.group) mine;
+      };
+    }
+
+own_same : (rules : Rules) (w v : World) → SameParts w v → AllLists rules v → AllOwn rules w → AllOwn rules v
+own_same rules w v same lists h = record { lists = lists; own = rw (same.nodes, same.letters, same.group) h.own }
+
+pub each_own : (rules : Rules) → EachKeeps (AllOwn rules)
+each_own rules = law_keeps (AllLists rules) (AllOwn rules) (each_lists rules) (λ w h. h.lists) (own_step rules) (own_same rules)
+
+-- ---- the start
+
+none_below : (v : Stamp) → stamp_lt v no_stamp ≡ false
+none_below v = let z : rank_of 0 ≡ 0 = omega arith in grind (arith, nat_tests)
+
+promise_first : (rules : Rules) → MayFound rules → (name : ℕ) → Below (first_node rules) (first_node rules name).core.promise
+promise_first rules may name =
+    let first = first_founder rules may in
+    split (has rules.founders name)
+    (λ t. rw t (rw first.founds (not_above_itself (record { round = 1; by = lowest_or_first rules.founders }))))
+    (λ f. rw f (none_below (first_node rules 0).core.promise))
+
+told_first : (rules : Rules) (name : ℕ) → ToldNode (first_node rules name)
+told_first rules name = split (has rules.founders name)
+    (λ t. rw t (record { is = λ b number names there answer own. absurd (cc) }))
+    (λ f. rw f (record { is = λ b number names there answer own. absurd (cc) }))
+
+first_known : (rules : Rules) → MayFound rules → Known (first_node rules) (founders_view rules)
+unfolding fold after
+first_known rules may =
+    let first = first_founder rules may in
+    record {
+      low = rw first.founds (not_above_itself (record { round = 1; by = lowest_or_first rules.founders }));
+      has_list = rw first.founds refl;
+    }
+
+entries_first : (rules : Rules) → MayFound rules → (name : ℕ) → All (Known (first_node rules)) (first_node rules name).core.log.entries
+entries_first rules may name = split (has rules.founders name)
+    (λ t. rw t (All-cons (Known (first_node rules)) (founders_view rules) [] (first_known rules may) (All-nil (Known (first_node rules)))))
+    (λ f. rw f (All-nil (Known (first_node rules))))
+
+pub own_start : (rules : Rules) → MayFound rules → AllOwn rules (start rules)
+own_start rules may = record {
+  lists = lists_start rules may;
+  own = record {
+    promises = promise_first rules may;
+    told = told_first rules;
+    entries = entries_first rules may;
+    stamps = All-nil (StampBelow (first_node rules));
+    heard = All-nil (LetterKnown (first_node rules));
+    group = All-cons (Known (first_node rules)) (founders_view rules) [] (first_known rules may) (All-nil (Known (first_node rules)));
+  };
+}
+
+pub run_own : (rules : Rules) (events : List Event) → MayFound rules → AllOwn rules (run rules events)
+run_own rules events may = runs_keep (AllOwn rules) (each_own rules) (start rules) events (own_start rules may)
+
+-- ---- a decided view
+
+-- it is of the name, and above the name's view
+record IsDecided (name : ℕ) (m n : Node) : Type 0 where
+  by : (view n).by ≡ name
+  above : stamp_lt (view m) (view n) ≡ true
+
+is_decided : (name : ℕ) (m n : Node) → n.core.who ≡ name → Does m n → runs.decides m n ≡ true → IsDecided name m n
+is_decided name m n who d h =
+    let a = and_both (is_member m.status) _ h in
+    let b = and_both ((view n).by == n.core.who) (not (stamp_eq (view m) (view n))) a.1 in
+    let g = d.goes (logged m.status a.0) in
+    let by : (view n).by ≡ n.core.who = let t = b.0 in grind (arith, nat_tests) in
+    ⊎_elim
+    (λ (s : SameView _ _). absurd (
+    let e : stamp_eq (view m) (view n) ≡ true = ap (λ (v : Stamp). stamp_eq (view m) v) s.view ∙ stamp_itself (view m) in
+    let x = rw e at b.1 in cc))
+    (λ (s : (stamp_lt (view m) (view n) ≡ true) × Stood n.core.log). record { by = by ∙ who; above = s.0 })
+    g.view
+
+-- no View that is known is its
+other_view : (nodes : ℕ → Node) (name : ℕ) (v : Stamp) → v.by ≡ name → stamp_lt (view (nodes name)) v ≡ true → (e : Entry) → Known nodes e
+    → is_view_of v e ≡ false
+other_view nodes name v by above (View stamp names resilience) h = split (stamp_eq stamp v)
+    (λ t.
+    let same : stamp ≡ v = same_stamp stamp v t in
+    let low : stamp_lt (view (nodes v.by)) v ≡ false = subst (λ (s : Stamp). stamp_lt (view (nodes s.by)) s ≡ false) same h.low in
+    let mine : stamp_lt (view (nodes name)) v ≡ false = subst (λ k. stamp_lt (view (nodes k)) v ≡ false) by low in
+    absurd (cc))
+    (λ f. f)
+other_view nodes name v by above _ h = refl
+
+pub decided_are_new : DecidedAreNew
+decided_are_new rules events e c s may runs_ cause effect decides_ =
+    let w = run rules events in
+    let name = actor w e in
+    let h = run_own rules events may in
+    let g = step_of rules w e c s cause effect h in
+    let is = is_decided name (w.nodes name) s.node g.chain.who g.does decides_ in
+    let v = view s.node in
+    let none : (k : Entry) → Known w.nodes k → is_view_of v k ≡ false = other_view w.nodes name v is.by is.above in
+    record {
+      lists = λ other. list_any_none (is_view_of v) (w.nodes other).core.log.entries
+          (All-weaker (Known w.nodes) (λ k. is_view_of v k ≡ false) none (w.nodes other).core.log.entries (h.entries other));
+      group = list_any_none (is_view_of v) w.group (All-weaker (Known w.nodes) (λ k. is_view_of v k ≡ false) none w.group h.group);
+    }

@@ -1,0 +1,212 @@
+-- Views of a name come from that name alone: along the changes of a step, its promise never falls, what it tells is what it decided, and
+-- each View in its list is of another name's list or is not above its own view.
+use Rattle.am_laws.proofs.WatchedRunsWords.{eqb-false, not_both, view_rises, of_open, next_above, welcomed_none, eqb-true, ◌≡◌, ◌⊎◌, inl, inr, ⊎_elim, ℕ, ◌+◌, ◌==◌}
+use Rattle.am_laws.proofs.WatchedRunsWords.{◌||◌, not, true, false, List, [], ◌∷◌, ◌++◌, Option, Some, refl, sym, ap, ◌∙◌, subst, arith, All, nat_tests, All-nil}
+use Rattle.am_laws.proofs.WatchedRunsWords.{All-cons, All-append, All-weaker, Outcome, Stamp, Entry, Leave, View, stamp_lt, Log, Packet, Node, Ballot, view}
+use Rattle.am_laws.proofs.WatchedRunsWords.{is_member, is_asking, push_entry, has_log, Verdict, next_stamp, need_of, left_in, trim_for, refresh, settle, is_view}
+use Rattle.am_laws.proofs.WatchedRunsWords.{and_both, Cause, hears, Balloting, with_more, without_one, as_it_is, Looks, decides, Promises, invited, overtaken_by}
+use Rattle.am_laws.proofs.WatchedRunsWords.{told_result, Change, refreshes, settles, numbers, stores, begins_list, promises, opens, looks, fetches, stores_view}
+use Rattle.am_laws.proofs.WatchedRunsWords.{closes, Changes, unchanged, changed, rests_refresh, rests_at_end, settle_is, stamp_of, at_most, not_above}
+use Rattle.am_laws.proofs.WatchedRunsWords.{not_above_itself, HasNames, HeardNames, view_last, Balloted, IsOpen, Does, changes_do, numbers_plain}
+use Rattle.am_base.specs.declared.outcome.Outcome.TheVariants as said
+use Rattle.am_packet.specs.declared.packet.Packet.TheVariants as packet
+use Rattle.am_laws.proofs.Chains.{looked_log}
+
+-- ---- what is known of nodes before a step
+
+-- a stamp is at most its name's promise
+abbrev pub Below : (ℕ → Node) → Stamp → Type 0
+Below nodes v = stamp_lt (nodes v.by).core.promise v ≡ false
+
+-- a View isn't above the view of its name, which has a list
+pub record IsKnown (nodes : ℕ → Node) (v : Stamp) : Type 0 where
+  pub low : stamp_lt (view (nodes v.by)) v ≡ false
+  pub has_list : has_log (nodes v.by).status ≡ true
+
+abbrev pub Known : (ℕ → Node) → Entry → Type 0
+Known nodes (View stamp names resilience) = IsKnown nodes stamp
+Known nodes _ = Unit {0}
+
+-- what is heard was known
+pub record HeardOwn (nodes : ℕ → Node) (c : Cause) : Type 0 where
+  pub stamp : (p : Packet) → c ≡ hears p → Below nodes (stamp_of p)
+  pub piece : (s : ℕ) (v : Stamp) (base number : ℕ) (e : Entry) → c ≡ hears (packet.Piece s v base number e) → Known nodes e
+  pub result : (s : ℕ) (v : Stamp) (base number : ℕ) (names : List ℕ) (resilience : ℕ) → c ≡ hears (packet.Result s v base number names resilience)
+      → (v.by == s) ≡ true → IsKnown nodes v
+
+-- ---- what is so along a step
+
+-- where the last ballot was decided and the promise is the node's own, it is that of the ballot
+pub record Told (who : ℕ) (promise : Stamp) (ballot : Option Ballot) : Type 0 where
+  pub is : (b : Ballot) (number : ℕ) (names : List ℕ) → ballot ≡ Some b → b.answer ≡ said.Decided number names → promise.by ≡ who → promise ≡ b.stamp
+
+pub record IsOwn (name : ℕ) (x : Node) (v : Stamp) : Type 0 where
+  pub by : v.by ≡ name
+  pub low : stamp_lt (view x) v ≡ false
+  pub has_list : has_log x.status ≡ true
+
+abbrev pub Chained : (ℕ → Node) → ℕ → Node → Entry → Type 0
+Chained nodes name x (View stamp names resilience) = IsKnown nodes stamp ⊎ IsOwn name x stamp
+Chained nodes name x _ = Unit {0}
+
+pub record Along (nodes : ℕ → Node) (name : ℕ) (x : Node) : Type 0 where
+  pub who : x.core.who ≡ name
+  pub rises : stamp_lt x.core.promise (nodes name).core.promise ≡ false
+  pub below : (x.core.promise.by == name) ≡ false → Below nodes x.core.promise
+  pub told : Told x.core.who x.core.promise x.ballot
+  pub entries : All (Chained nodes name x) x.core.log.entries
+
+chained_up : (nodes : ℕ → Node) (name : ℕ) (x y : Node) → Does x y → (e : Entry) → Chained nodes name x e → Chained nodes name y e
+chained_up nodes name x y d (View stamp names resilience) h = ⊎_elim
+    (λ (k : IsKnown nodes stamp). inl k)
+    (λ (o : IsOwn name x stamp). inr (record {
+      by = o.by;
+      low = at_most stamp (view x) (view y) o.low (view_rises x y (d.goes o.has_list));
+      has_list = d.log_ o.has_list;
+    }))
+    h
+chained_up nodes name x y d _ h = tt
+
+pub known_chained : (nodes : ℕ → Node) (name : ℕ) (x : Node) (e : Entry) → Known nodes e → Chained nodes name x e
+known_chained nodes name x (View stamp names resilience) h = inl h
+known_chained nodes name x _ h = tt
+
+plain_chained : (nodes : ℕ → Node) (name : ℕ) (x : Node) (e : Entry) → is_view e ≡ false → Chained nodes name x e
+plain_chained nodes name x (View stamp names resilience) h = absurd (cc)
+plain_chained nodes name x _ h = tt
+
+-- ---- the kinds of changes
+
+along_same : (nodes : ℕ → Node) (name : ℕ) (x y : Node) → y.core.who ≡ x.core.who → y.core.promise ≡ x.core.promise → y.core.log ≡ x.core.log
+    → y.ballot ≡ x.ballot → Does x y → Along nodes name x → Along nodes name y
+along_same nodes name x y who promise log ballot d h = record {
+  who = who ∙ h.who;
+  rises = ap (λ (v : Stamp). stamp_lt v (nodes name).core.promise) promise ∙ h.rises;
+  below = λ f. subst (Below nodes) (sym promise) (h.below (ap (λ (v : Stamp). v.by == name) (sym promise) ∙ f));
+  told = rw (who, promise, ballot) h.told;
+  entries = subst (λ (l : Log). All (Chained nodes name y) l.entries) (sym log)
+      (All-weaker (Chained nodes name x) (Chained nodes name y) (chained_up nodes name x y d) x.core.log.entries h.entries);
+}
+
+along_pushed : (nodes : ℕ → Node) (name : ℕ) (x y : Node) (e : Entry) → y.core.who ≡ x.core.who → y.core.promise ≡ x.core.promise
+    → y.core.log.entries ≡ x.core.log.entries ++ e ∷ [] → y.ballot ≡ x.ballot → Chained nodes name y e → Does x y → Along nodes name x → Along nodes name y
+along_pushed nodes name x y e who promise entries ballot new d h = record {
+  who = who ∙ h.who;
+  rises = ap (λ (v : Stamp). stamp_lt v (nodes name).core.promise) promise ∙ h.rises;
+  below = λ f. subst (Below nodes) (sym promise) (h.below (ap (λ (v : Stamp). v.by == name) (sym promise) ∙ f));
+  told = rw (who, promise, ballot) h.told;
+  entries = subst (All (Chained nodes name y)) (sym entries) (All-append (Chained nodes name y) x.core.log.entries (e ∷ [])
+      (All-weaker (Chained nodes name x) (Chained nodes name y) (chained_up nodes name x y d) x.core.log.entries h.entries)
+      (All-cons (Chained nodes name y) e [] new (All-nil (Chained nodes name y))));
+}
+
+-- ---- promises
+
+-- no promise of another's ballot, or of one that is heard of, is the node's own
+not_own : (nodes : ℕ → Node) (name : ℕ) (c : Cause) (x : Node) (v : Stamp) → HeardOwn nodes c → Promises c x v → Along nodes name x → v.by ≡ x.core.who → ⊥
+not_own nodes name c x v heard (invited s _ is by own) h e =
+    let other = (and_both (not (s == x.core.who)) (is_member x.status || is_asking x.status) by).0 in
+    let same : s ≡ x.core.who = sym (eqb-true v.by s own) ∙ e in
+    grind (arith, nat_tests)
+not_own nodes name c x v heard (overtaken_by s _ shown is by above) h e =
+    let low : Below nodes v = heard.stamp (packet.Vote s v shown) is in
+    let mine : stamp_lt (nodes name).core.promise v ≡ false = subst (λ k. stamp_lt (nodes k).core.promise v ≡ false) (e ∙ h.who) low in
+    let up : stamp_lt x.core.promise v ≡ false = at_most v (nodes name).core.promise x.core.promise mine h.rises in
+    not_both (stamp_lt x.core.promise v) above up
+not_own nodes name c x v heard (told_result s _ base number names resilience is by own other) h e = eqb-false v.by x.core.who other e
+
+heard_promise : (nodes : ℕ → Node) (c : Cause) (x : Node) (v : Stamp) → HeardOwn nodes c → Promises c x v → Below nodes v
+heard_promise nodes c x v heard (invited s _ is by own) = heard.stamp (packet.Invite s v) is
+heard_promise nodes c x v heard (overtaken_by s _ shown is by above) = heard.stamp (packet.Vote s v shown) is
+heard_promise nodes c x v heard (told_result s _ base number names resilience is by own other) = heard.stamp (packet.Result s v base number names resilience) is
+
+-- ---- looks
+
+look_along : (nodes : ℕ → Node) (name : ℕ) (x : Node) (b : Ballot) (v : Verdict) → Looks x b v → Does x v.node → IsOpen x.core.who x.core.promise (view x) b
+    → has_log x.status ≡ true → Along nodes name x → Along nodes name v.node
+look_along nodes name x b v (decides may) d o log h =
+    let names = left_in b (need_of x b) in
+    let same : view v.node ≡ b.stamp = view_last (trim_for x b names) b.stamp names _ in
+    let own : IsOwn name v.node b.stamp = record {
+      by = o.own ∙ h.who;
+      low = subst (λ (s : Stamp). stamp_lt s b.stamp ≡ false) (sym same) (not_above_itself b.stamp);
+      has_list = log;
+    } in
+    record {
+      who = h.who;
+      rises = h.rises;
+      below = h.below;
+      told = record { is = λ b2 number ns is answer mine. (let e : b.stamp ≡ b2.stamp = cc in o.promised ∙ e) };
+      entries = All-append (Chained nodes name v.node) x.core.log.entries _
+          (All-weaker (Chained nodes name x) (Chained nodes name v.node) (chained_up nodes name x v.node d) x.core.log.entries h.entries)
+          (All-cons (Chained nodes name v.node) _ [] (inr own) (All-nil (Chained nodes name v.node)));
+    }
+look_along nodes name x b v _ d o log h = record {
+  who = h.who;
+  rises = h.rises;
+  below = h.below;
+  told = record { is = λ b2 number names is answer own. absurd (cc) };
+  entries = All-weaker (Chained nodes name x) (Chained nodes name v.node) (chained_up nodes name x v.node d) x.core.log.entries h.entries;
+}
+
+pub looked_open : {c : Cause} (m : Node) (b : Ballot) → Balloting c m b → Balloted m → IsOpen m.core.who m.core.promise (view m) b
+looked_open m b (with_more old s v shown is by low high open_ same stays) h =
+    let o = of_open m old open_ h in record { above = o.above; promised = o.promised; own = o.own }
+looked_open m b (without_one old name is open_ other) h =
+    let o = of_open m old open_ h in record { above = o.above; promised = o.promised; own = o.own }
+looked_open m b (as_it_is old open_ on) h = of_open m old open_ h
+
+-- ---- each change
+
+change_along : (nodes : ℕ → Node) (name : ℕ) {c : Cause} {o : Outcome} → HeardOwn nodes c → (x y : Node) → Change c o x y → Does x y → Balloted x
+    → Along nodes name x → Along nodes name y
+change_along nodes name heard x y refreshes d k h = let r = rests_refresh x in
+    along_same nodes name x (refresh x) r.rests.who r.rests.promise r.log r.rests.ballot d h
+change_along nodes name heard x y settles d k h = let e = settle_is x in
+    along_same nodes name x (settle x) (ap (λ (n : Node). n.core.who) e) (ap (λ (n : Node). n.core.promise) e) (ap (λ (n : Node). n.core.log) e)
+    (ap (λ (n : Node). n.ballot) e) d h
+change_along nodes name heard x y (numbers e leads room why) d k h =
+    along_pushed nodes name x y e refl refl refl refl (plain_chained nodes name y e (numbers_plain _ x e why)) d h
+change_along nodes name heard x y (stores s v base acc number e by from plain may) d k h =
+    along_pushed nodes name x y e refl refl refl refl (plain_chained nodes name y e plain) d h
+change_along nodes name heard x y (begins_list s v base join image is o may) d k h =
+    let none = k.none (welcomed_none x s v base join image may) in
+    record {
+      who = h.who;
+      rises = at_most (nodes name).core.promise x.core.promise v h.rises may.promise;
+      below = λ f. heard.stamp (packet.Welcome s v base join image) is;
+      told = record { is = λ b number names there answer own. absurd (cc) };
+      entries = All-nil (Chained nodes name y);
+    }
+change_along nodes name heard x y (promises v low why) d k h = record {
+  who = h.who;
+  rises = at_most (nodes name).core.promise x.core.promise v h.rises low;
+  below = λ f. heard_promise nodes _ x v heard why;
+  told = record { is = λ b number names there answer own. absurd (not_own nodes name _ x v heard why h own) };
+  entries = All-weaker (Chained nodes name x) (Chained nodes name y) (chained_up nodes name x y d) x.core.log.entries h.entries;
+}
+change_along nodes name heard x y (opens least resilience by may) d k h = record {
+  who = h.who;
+  rises = at_most (nodes name).core.promise x.core.promise (next_stamp x) h.rises
+      (not_above x.core.promise (next_stamp x) (next_above x.core.promise x.core.who));
+  below = λ f. absurd (eqb-false x.core.who name f h.who);
+  told = record { is = λ b number names there answer own. absurd (cc) };
+  entries = All-weaker (Chained nodes name x) (Chained nodes name y) (chained_up nodes name x y d) x.core.log.entries h.entries;
+}
+change_along nodes name heard x y (looks b verdict over why look is) d k h =
+    look_along nodes name x b verdict look d (looked_open x b why k) (looked_log x b why k) h
+change_along nodes name heard x y (fetches s v base number e is by promise below from may) d k h =
+    along_pushed nodes name x y e refl refl refl refl (known_chained nodes name y e (heard.piece s v base number e is)) d h
+change_along nodes name heard x y (stores_view s v base number names resilience is by own other promise below may) d k h =
+    along_pushed nodes name x y (View v names resilience) refl refl refl refl (inl (heard.result s v base number names resilience is own)) d h
+change_along nodes name heard x y (closes leads leaves alone room) d k h =
+    let r = rests_at_end (push_entry x (Leave x.core.who)) in
+    along_pushed nodes name x y (Leave x.core.who) r.rests.who r.rests.promise (ap (λ (l : Log). l.entries) r.log) r.rests.ballot tt d h
+change_along nodes name heard x y _ d k h = along_same nodes name x y refl refl refl refl d h
+
+pub changes_along : (nodes : ℕ → Node) (name : ℕ) {c : Cause} {o : Outcome} → HeardOwn nodes c → HeardNames c → (x n : Node) → Changes c o x n → HasNames x
+    → Balloted x → Along nodes name x → Along nodes name n
+changes_along nodes name heard names x n unchanged k b h = h
+changes_along nodes name heard names x n (changed {n = y} one more) k b h =
+    let g = changes_do x y names (changed one unchanged) k b in
+    changes_along nodes name heard names y n more g.names g.does.balloted (change_along nodes name heard x y one g.does b h)

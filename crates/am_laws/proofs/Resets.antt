@@ -1,0 +1,207 @@
+-- The effects of what belongs to ballots.
+use Rattle.am_laws.proofs.StepEffectsWords.{not-true, not-false, ◌≡◌, ℕ, ◌+◌, ◌≤◌, max, ◌==◌, ◌&&◌, ◌||◌, nat_lt, nat_le, not, Bool, true, false, List, [], Option}
+use Rattle.am_laws.proofs.StepEffectsWords.{Some, None, refl, sym, ap, ◌∙◌, arith, nat_tests, Vote, Image, Stamp, Entry, View, Outcome, stamp_lt, stamp_eq, fits}
+use Rattle.am_laws.proofs.StepEffectsWords.{Node, Ballot, top, image_of, view, only_name, is_member, has_own_leave, is_within_bound, push_entry, trim_up_to, Plan}
+use Rattle.am_laws.proofs.StepEffectsWords.{quiet, ack_of, fetch_of, piece_of, is_unfinished, with_promise, vote_of, invite_row, is_open, take_vote, vote_row}
+use Rattle.am_laws.proofs.StepEffectsWords.{may_fetch, fetch_row, is_view_past, push_fetched, catch_up, decide_anew, fetches_from, piece_promised, piece_for}
+use Rattle.am_laws.proofs.StepEffectsWords.{piece_row, hears_result, result_row, hears_member, hears_asking, and_both, Cause, hears, HasOpen, with_more, as_it_is}
+use Rattle.am_laws.proofs.StepEffectsWords.{was_fetched, MayStore, without_ballot, invited, overtaken, told_result, promises, fetches, stores_view, Course}
+use Rattle.am_laws.proofs.StepEffectsWords.{nothing_yet, and_then, vote, piece, ack, fetch, of_promise}
+use Rattle.am_laws.specs.Changes.{for_ballot}
+use Rattle.am_base.specs.declared.outcome.Outcome.TheVariants as said
+use Rattle.am_packet.specs.declared.packet.Packet.TheVariants as packet
+use Rattle.am_laws.proofs.Plans.{none_says, Comes, HasEffect, effect_if, effect_of, does_quiet, does_telling, does_where, rows}
+use Rattle.am_laws.proofs.{Receiving.stamp_turned, Receiving.may_store, Tests.or_first, Tests.or_second, Rests.RestsWhole, Says.told_pushed}
+use Rattle.am_laws.proofs.{Says.says_served, Says.tells_ack, Ballots.viewed, Ballots.effect_answered, Ballots.row_keep_vote, Calls.Allows}
+
+-- ---- stamps
+
+pub same_stamp : (a b : Stamp) → stamp_eq a b ≡ true → a ≡ b
+same_stamp a b t =
+    let r : a.round ≡ b.round = grind (arith, nat_tests) in
+    let n : a.by ≡ b.by = grind (arith, nat_tests) in
+    λ i. record { round = r i; by = n i }
+
+pub stamp_itself : (a : Stamp) → stamp_eq a a ≡ true
+stamp_itself a = grind (arith, nat_tests)
+
+-- ---- votes
+
+pub row_invite : (m : Node) (s : ℕ) (v : Stamp) → hears_asking m s ≡ true → (v.by == s) ≡ true → HasEffect m (hears (packet.Invite s v)) (invite_row m s v)
+unfolding invite_row
+row_invite m s v heard own =
+    let c = hears (packet.Invite s v) in
+    effect_if m c (stamp_lt v m.core.promise) _ _
+    (λ t. effect_of m c _ (does_telling RestsWhole m c m (said.Newer m.core.promise) (only_name s) vote_of nothing_yet (λ n r. tt) (λ n r. vote s v refl)))
+    (λ f. effect_of m c _ (does_telling RestsWhole m c (with_promise m v) said.Voted
+    (only_name s) vote_of (and_then nothing_yet (promises {m = m} v f (invited s v refl heard own)) tt) (λ n r. tt) (λ n r. vote s v refl)))
+
+row_voted_for : (m : Node) (s : ℕ) (v : Stamp) (show : Vote) (b : Option Ballot) → m.ballot ≡ b → hears_member m s ≡ true → stamp_lt m.core.promise v ≡ false
+    → HasEffect m (hears (packet.Vote s v show)) (take_vote m s v show b)
+row_voted_for m s v show None is heard high = search rows
+row_voted_for m s v show (Some b) is heard high =
+    let c = hears (packet.Vote s v show) in
+    effect_if m c (stamp_lt v m.core.promise || not (is_open v b)) _ _ (λ t. search rows)
+    (λ f.
+    let low = or_first (stamp_lt v m.core.promise) (not (is_open v b)) f in
+    let open_ = and_both (not b.is_over) (stamp_eq b.stamp v) (not-false _ (or_second (stamp_lt v m.core.promise) (not (is_open v b)) f)) in
+    let has_open : HasOpen m b = record { last = is; open_ = not-true _ open_.0 } in
+    effect_if m c (b.given_up s) _ _ (λ t. search rows)
+    (λ g. row_keep_vote m c b s show has_open (with_more b s v show refl heard low high has_open (same_stamp b.stamp v open_.1) g)))
+
+pub row_vote : (m : Node) (s : ℕ) (v : Stamp) (show : Vote) → hears_member m s ≡ true → HasEffect m (hears (packet.Vote s v show)) (vote_row m s v show)
+unfolding vote_row
+row_vote m s v show heard =
+    let c = hears (packet.Vote s v show) in
+    effect_if m c (stamp_lt m.core.promise v) _ _
+    (λ t.
+    let f : stamp_lt v m.core.promise ≡ false = grind (arith, nat_tests) in
+    effect_of m c _ (does_quiet RestsWhole m c (with_promise m v) (said.Overtaken v)
+    (and_then nothing_yet (promises {m = m} v f (overtaken s v show refl heard t)) tt) (λ n r. tt)))
+    (λ f. row_voted_for m s v show m.ballot refl heard f)
+
+-- ---- fetching
+
+pub row_fetch : (m : Node) (s : ℕ) (v : Stamp) (low : ℕ) → HasEffect m (hears (packet.Fetch s v low)) (fetch_row m s v low)
+unfolding fetch_row
+row_fetch m s v low =
+    let c = hears (packet.Fetch s v low) in
+    effect_if m c (not (may_fetch m s v)) _ _ (λ t. search rows)
+    (λ may. effect_if m c (nat_lt low m.core.base || nat_lt (top m) low) _ _ (λ t. search rows)
+    (λ f.
+    let g = or_first (nat_lt low m.core.base) (nat_lt (top m) low) f in
+    let above : m.core.base ≤ low = grind (arith, nat_tests) in
+    effect_of m c _ (record {
+      stays = refl;
+      changes = λ n. nothing_yet;
+      answer = λ n r. tt;
+      letters = λ n r. says_served m c m n (piece_of n) (only_name s) low above r.rests
+          (λ number e stands. piece s v low number e refl ((λ i. stamp_eq v (r.rests.promise i)
+          && ((v.by == s) || ((v.by == r.rests.who i) && stamp_eq (r.rests.view i) v))) ∙ not-false _ may) stands);
+    })))
+
+row_fetched : (m : Node) (c : Cause) (v : Stamp) (base number : ℕ) (e : Entry) (in_ballot : Bool) (then_ : Node → Plan)
+    → (MayStore m (max m.core.base base) base number e → is_view_past v in_ballot e ≡ false → HasEffect m c (then_ (push_entry (trim_up_to m base) e)))
+    → HasEffect m c (push_fetched m v base number e in_ballot then_)
+row_fetched m c v base number e in_ballot then_ goes =
+    let within = is_within_bound m (max m.core.base base) number in
+    effect_if m c (nat_le number (top m)) _ _ (λ t. search rows)
+    (λ new. effect_if m c (has_own_leave m) _ _ (λ t. search rows)
+    (λ stays. effect_if m c (nat_lt (top m + 1) number) _ _ (λ t. search rows)
+    (λ near. effect_if m c (nat_lt m.core.taken base) _ _ (λ t. search rows)
+    (λ low. effect_if m c (not (fits (image_of m) e) || (is_view_past v in_ballot e || not within)) _ _ (λ t. search rows)
+    (λ f.
+    let rest = or_second (not (fits (image_of m) e)) (is_view_past v in_ballot e || not within) f in
+    let next : number ≡ top m + 1 = grind (arith, nat_tests) in
+    let taken : base ≤ m.core.taken = grind (arith, nat_tests) in
+    goes (may_store m (max m.core.base base) base number e next taken stays
+    (or_first (not (fits (image_of m) e)) (is_view_past v in_ballot e || not within) f) (or_second (is_view_past v in_ballot e) (not within) rest))
+    (or_first (is_view_past v in_ballot e) (not within) rest))))))
+
+-- a Piece of a promise, or of a ballot
+record OfPromise (m : Node) (s : ℕ) (v : Stamp) : Type 0 where
+  heard : hears_member m s ≡ true
+  promise : stamp_eq v m.core.promise ≡ true
+  below : stamp_eq (view m) v ≡ false
+
+pub member_heard : (m : Node) (s : ℕ) → hears_member m s ≡ true → is_member m.status ≡ true
+member_heard m s t = (and_both (not (s == m.core.who)) (is_member m.status) t).1
+
+stamps_meet : (a b d : Stamp) → stamp_eq a b ≡ true → stamp_eq d a ≡ true → stamp_eq b d ≡ true
+stamps_meet a b d s t = grind (arith, nat_tests)
+
+row_piece_promised : (m : Node) (s : ℕ) (v : Stamp) (base number : ℕ) (e : Entry) → OfPromise m s v → is_unfinished m.ballot ≡ false
+    → HasEffect m (hears (packet.Piece s v base number e)) (piece_promised m s v base number e)
+row_piece_promised m s v base number e h none =
+    let c = hears (packet.Piece s v base number e) in
+    let p = push_entry (trim_up_to m base) e in
+    effect_if m c (not (v.by == s)) _ _ (λ t. search rows)
+    (λ own. row_fetched m c v base number e false (catch_up s v number)
+    (λ may past.
+    let change : Course c (said.Stored number) m p = and_then nothing_yet
+    (fetches {m = m} s v base number e refl h.heard h.promise h.below (without_ballot none (not-false _ own) past) may) tt in
+    effect_of m c _ (does_where RestsWhole m c (λ n. stamp_eq (view n) v) (quiet p (said.Stored number))
+    (only_name s) ack_of (does_quiet RestsWhole m c p (said.Stored number) change (λ n r. tt))
+    (λ n r t.
+    let member : is_member n.status ≡ true = ap is_member r.rests.status ∙ member_heard m s h.heard in
+    let same : stamp_eq n.core.promise (view n) ≡ true = ap (λ x. stamp_eq x (view n)) r.rests.promise ∙ stamps_meet v m.core.promise (view n) h.promise t in
+    ack (only_name s) (rw (member, same) refl)))))
+
+row_piece_for : (m : Node) (s : ℕ) (v : Stamp) (base number : ℕ) (e : Entry) (b : Option Ballot) → m.ballot ≡ b → OfPromise m s v
+    → HasEffect m (hears (packet.Piece s v base number e)) (piece_for m s v base number e b)
+row_piece_for m s v base number e None is h = row_piece_promised m s v base number e h (ap is_unfinished is)
+row_piece_for m s v base number e (Some b) is h =
+    let c = hears (packet.Piece s v base number e) in
+    let p = push_entry (trim_up_to m base) e in
+    effect_if m c b.is_over _ _ (λ t. row_piece_promised m s v base number e h (ap is_unfinished is ∙ ap not t))
+    (λ f.
+    let has_open : HasOpen m b = record { last = is; open_ = f } in
+    effect_if m c (not (fetches_from b.answer s)) _ _ (λ t. search rows)
+    (λ from. row_fetched m c v base number e true (decide_anew b)
+    (λ may past.
+    let comes : Comes m c p = λ o. and_then nothing_yet (fetches {m =
+    m} s v base number e refl h.heard h.promise h.below (for_ballot b has_open (not-false _ from) past) may) tt in
+    effect_answered m c p b (λ n. []) comes f (as_it_is b (record { last = is; open_ = f }) (was_fetched s v base number e refl h.promise))
+    (λ n r. none_says m c n))))
+
+pub row_piece : (m : Node) (s : ℕ) (v : Stamp) (base number : ℕ) (e : Entry) → hears_member m s ≡ true
+    → HasEffect m (hears (packet.Piece s v base number e)) (piece_row m s v base number e)
+unfolding piece_row
+row_piece m s v base number e heard =
+    let c = hears (packet.Piece s v base number e) in
+    effect_if m c (not (stamp_eq v m.core.promise) || stamp_eq (view m) v) _ _ (λ t. search rows)
+    (λ f. row_piece_for m s v base number e m.ballot refl
+    (record {
+      heard = heard;
+      promise = not-false _ (or_first (not (stamp_eq v m.core.promise)) (stamp_eq (view m) v) f);
+      below = or_second (not (stamp_eq v m.core.promise)) (stamp_eq (view m) v) f;
+    }))
+
+-- ---- a decided view
+
+row_hears_result : (m : Node) (s : ℕ) (v : Stamp) (base number : ℕ) (names : List ℕ) (resilience : ℕ) → hears_member m s ≡ true → (v.by == s) ≡ true
+    → (v.by == m.core.who) ≡ false → stamp_lt v m.core.promise ≡ false
+    → HasEffect m (hears (packet.Result s v base number names resilience)) (hears_result (with_promise m v) s v base number names resilience)
+row_hears_result m s v base number names resilience heard own other low =
+    let c = hears (packet.Result s v base number names resilience) in
+    let p = with_promise m v in
+    let e = View v names resilience in
+    let member = member_heard m s heard in
+    let comes : Comes m c p = λ o. and_then nothing_yet (promises {m = m} v low (told_result s v base number names resilience refl heard own other)) tt in
+    let quietly : (o : Outcome) → Allows m c o → HasEffect m c (quiet p o) = λ o b. effect_of m c _ (does_quiet RestsWhole m c p o (comes o) (λ n r. b n)) in
+    let within = is_within_bound p (max p.core.base base) number in
+    effect_if m c (stamp_eq (view p) v) _ _
+    (λ t.
+    let back = stamp_turned (view p) v t in
+    effect_of m c _ (does_telling RestsWhole m c p said.Known (only_name s) ack_of (comes _) (λ n r. tt)
+    (tells_ack m c p (only_name s) (rw (member, back) refl))))
+    (λ below. effect_if m c (nat_le number (top p)) _ _ (λ t. quietly said.Unfit (λ n. tt))
+    (λ new. effect_if m c (has_own_leave p) _ _ (λ t. quietly said.Behind (λ n. tt))
+    (λ stays. effect_if m c (nat_lt (top p + 1) number) _ _
+    (λ t.
+    let by : v.by ≡ s = grind (arith, nat_tests) in
+    effect_of m c _ (does_telling RestsWhole m c p (said.Catching (top p + 1)) (only_name s) fetch_of (comes _) (λ n r. tt)
+    (λ n r. fetch (only_name s) (of_promise ((λ i. (r.rests.promise i).by == r.rests.who i) ∙ other) (ap only_name (sym by)
+    ∙ ap (λ (x : Stamp). only_name x.by) (sym r.rests.promise))))))
+    (λ near. effect_if m c (nat_lt p.core.taken base) _ _ (λ t. quietly said.Behind (λ n. tt))
+    (λ up. effect_if m c (not (fits (image_of p) e) || not within) _ _ (λ t. quietly said.Unfit (λ n. tt))
+    (λ f.
+    let next : number ≡ top p + 1 = grind (arith, nat_tests) in
+    let taken : base ≤ p.core.taken = grind (arith, nat_tests) in
+    let n = push_entry (trim_up_to p base) e in
+    let may : MayStore p (max p.core.base base) base number e = may_store p (max p.core.base base) base number e next taken stays
+    (or_first (not (fits (image_of p) e)) (not within) f) (or_second (not (fits (image_of p) e)) (not within) f) in
+    let stamp : view n ≡ v = ap (λ (i : Image). i.view) (told_pushed (trim_up_to p base) e) ∙ (viewed (image_of p) (top p + 1) v names resilience).1 in
+    let same : stamp_eq v (view n) ≡ true = ap (stamp_eq v) stamp ∙ stamp_itself v in
+    effect_of m c _ (does_telling RestsWhole m c n (said.Stored number)
+    (only_name s) ack_of (and_then (comes _) (stores_view {m = p} s v base number names resilience refl heard own other refl below may) tt) (λ k r. tt)
+    (tells_ack m c n (only_name s) (rw (member, same) refl)))))))))
+
+pub row_result : (m : Node) (s : ℕ) (v : Stamp) (base number : ℕ) (names : List ℕ) (resilience : ℕ) → hears_member m s ≡ true → (v.by == s) ≡ true
+    → HasEffect m (hears (packet.Result s v base number names resilience)) (result_row m s v base number names resilience)
+unfolding result_row
+row_result m s v base number names resilience heard own =
+    let c = hears (packet.Result s v base number names resilience) in
+    effect_if m c ((v.by == m.core.who) || stamp_lt v m.core.promise) _ _ (λ t. search rows)
+    (λ f. row_hears_result m s v base number names resilience heard own (or_first (v.by == m.core.who) (stamp_lt v m.core.promise) f)
+    (or_second (v.by == m.core.who) (stamp_lt v m.core.promise) f))

@@ -1,0 +1,211 @@
+-- What a refresh and the end of a step leave as it is.
+use Rattle.am_laws.proofs.StepEffectsWords.{◌≡◌, ℕ, ◌+◌, ◌-◌, ◌≤◌, ◌==◌, ◌&&◌, max, min, nat_lt, if◌then◌else◌, List, [], ◌∷◌, ◌++◌, length, Option, Some, None}
+use Rattle.am_laws.proofs.StepEffectsWords.{slice_get, option_map, refl, sym, ap, ◌∙◌, subst, arith, length-append, slice_get-map, append-nil, Entry, Leave, Image}
+use Rattle.am_laws.proofs.StepEffectsWords.{stamp_eq, Log, at_place, after, fold, told_by, life_of, pass_over, base_after, own_report, tell, go_on, OwnSend, Node}
+use Rattle.am_laws.proofs.StepEffectsWords.{image_of, view, is_member, acts, is_sequencer, push_entry, waiting, advance, lead, refresh, accepted_at, settle_at}
+use Rattle.am_laws.proofs.StepEffectsWords.{settle_waiting, settle, refresh_at_end, fold_append, split, HasSend, Stands}
+use Rattle.am_core.specs.Cores.{accept}
+use Rattle.am_fronts.specs.Refresh.{let_go}
+use Rattle.am_sender.specs.Sends as own
+use Rattle.am_laws.proofs.Items.{get_front}
+
+-- ---- a refresh
+
+-- the node with the fronts and the reports of another
+abbrev pub with_fronts : Node → Node → Node
+with_fronts m n = record m { core = record (m.core) { base = n.core.base; told = n.core.told; acc = n.core.acc; taken = n.core.taken }; reports = n.reports }
+
+pub lead_is : (m : Node) → lead m ≡ with_fronts m (lead m)
+unfolding lead own_report tell go_on let_go accept pass_over
+lead_is m = refl
+
+pub advance_is : (m : Node) → advance m ≡ with_fronts m (advance m)
+unfolding accept pass_over
+advance_is m = refl
+
+-- a refresh changes fronts and reports alone
+pub refresh_is : (m : Node) → refresh m ≡ with_fronts m (refresh m)
+unfolding refresh
+refresh_is m = split (is_sequencer m) (λ t. rw t (lead_is m)) (λ f. rw f (advance_is m))
+
+-- ---- the end of a step
+
+-- and the waiting send may be settled then
+abbrev pub with_sends : Node → Node → Node
+with_sends m n = record m { sends = record m.sends { queue = n.sends.queue } }
+
+settled_at_is : (m : Node) (req : ℕ) (at : Option ℕ) → settle_at m req at ≡ with_sends m (settle_at m req at)
+settled_at_is m req None = refl
+settled_at_is m req (Some k) = refl
+
+settled_is : (m : Node) (w : Option OwnSend) → settle_waiting m w ≡ with_sends m (settle_waiting m w)
+settled_is m None = refl
+settled_is m (Some s) = settled_at_is m s.req (accepted_at m s.req)
+
+pub settle_is : (m : Node) → settle m ≡ with_sends m (settle m)
+unfolding settle
+settle_is m = settled_is m (waiting m)
+
+-- a send keeps its request and its body
+same_send : (req number : ℕ) (s : OwnSend) → ((own.settle_send req number s).req ≡ s.req) × ((own.settle_send req number s).body ≡ s.body)
+same_send req number s = split (s.req == req) (λ t. rw t (refl, refl)) (λ f. rw f (refl, refl))
+
+sends_settled_at : (m : Node) (req : ℕ) (at : Option ℕ) (q : ℕ) (body : List ℕ) → HasSend m q body → HasSend (settle_at m req at) q body
+sends_settled_at m req None q body h = h
+sends_settled_at m req (Some k) q body h =
+    let f = own.settle_send req (m.core.base + 1 + k) in
+    let same = same_send req (m.core.base + 1 + k) h.send in
+    record {
+      index = h.index;
+      send = f h.send;
+      there = slice_get-map f m.sends.queue h.index ∙ ap (option_map f) h.there;
+      request = same.0 ∙ h.request;
+      body_ = same.1 ∙ h.body_;
+    }
+
+sends_settled : (m : Node) (w : Option OwnSend) (q : ℕ) (body : List ℕ) → HasSend m q body → HasSend (settle_waiting m w) q body
+sends_settled m None q body h = h
+sends_settled m (Some s) q body h = sends_settled_at m s.req (accepted_at m s.req) q body h
+
+pub sends_settle : (m : Node) (q : ℕ) (body : List ℕ) → HasSend m q body → HasSend (settle m) q body
+unfolding settle
+sends_settle m q body h = sends_settled m (waiting m) q body h
+
+-- ---- what stays
+
+-- who it is, and how it stands in the group
+pub record SameStanding (p n : Node) : Type 0 where
+  pub who : n.core.who ≡ p.core.who
+  pub promise : n.core.promise ≡ p.core.promise
+  pub status : n.status ≡ p.status
+  pub leaving : n.leaving ≡ p.leaving
+  pub ballot : n.ballot ≡ p.ballot
+
+-- its numbers don't fall
+pub record Rises (p n : Node) : Type 0 where
+  pub base : p.core.base ≤ n.core.base
+  pub acc : p.core.acc ≤ n.core.acc
+  pub taken : p.core.taken ≤ n.core.taken
+
+-- a list may have more
+pub record Longer (old new : Log) : Type 0 where
+  pub start : new.start ≡ old.start
+  pub more : List Entry
+  pub entries : new.entries ≡ old.entries ++ more
+
+-- What a node keeps to the end of a step; its list may have its own Leave more, where it departs.
+pub record Rests (p n : Node) : Type 0 where
+  pub same : SameStanding p n
+  pub open same use *
+  pub rules : n.core.rules ≡ p.core.rules
+  pub longer : Longer p.core.log n.core.log
+  pub open longer use *
+  pub view : view n ≡ view p
+  pub rises : Rises p n
+  pub open rises use *
+  pub asked : n.sends.last ≡ p.sends.last
+  pub sends : (req : ℕ) (body : List ℕ) → HasSend p req body → HasSend n req body
+
+-- and the whole list stays, and the number of the joining
+pub record RestsWhole (p n : Node) : Type 0 where
+  pub rests : Rests p n
+  pub log : n.core.log ≡ p.core.log
+  pub begins : n.core.start ≡ p.core.start
+
+-- a trim lowers no base
+pub base_up : (least : Option ℕ) (base : ℕ) → base ≤ base_after least base
+base_up None base = omega arith
+base_up (Some to) base = omega arith
+
+pub passed : (taken acc start : ℕ) → taken ≤ (if nat_lt taken (start - 1) then max taken (min acc (start - 1)) else taken)
+passed taken acc start = split (nat_lt taken (start - 1)) (λ t. rw t (omega arith)) (λ f. rw f (omega arith))
+
+rises_lead : (m : Node) → Rises m (lead m)
+unfolding lead own_report tell go_on let_go accept pass_over
+rises_lead m = record { base = base_up _ m.core.base; acc = omega arith; taken = passed m.core.taken _ m.core.start }
+
+rises_advance : (m : Node) → Rises m (advance m)
+unfolding accept pass_over
+rises_advance m = record { base = omega arith; acc = omega arith; taken = passed m.core.taken _ m.core.start }
+
+rises_refresh : (m : Node) → Rises m (refresh m)
+unfolding refresh
+rises_refresh m = split (is_sequencer m) (λ t. rw t (rises_lead m)) (λ f. rw f (rises_advance m))
+
+abbrev KeepsSends : Node → Node → Type 0
+KeepsSends m n = (req : ℕ) (body : List ℕ) → HasSend m req body → HasSend n req body
+
+-- the node with another list
+abbrev with_list : Node → Log → Node
+with_list m log = record m { core = record (m.core) { log = log } }
+
+-- another list that goes on, with other fronts and other sends
+rests_with : (p n k : Node) (log : Log) → Longer p.core.log log → (told_by log).view ≡ view p → Rises p n → KeepsSends p k
+    → Rests p (with_sends (with_fronts (with_list p log) n) k)
+rests_with p n k log longer same_view r sends = record {
+  same = record { who = refl; promise = refl; status = refl; leaving = refl; ballot = refl };
+  rules = refl;
+  longer = longer;
+  view = same_view;
+  rises = record { base = r.base; acc = r.acc; taken = r.taken };
+  asked = refl;
+  sends = λ req body h. (let x = sends req body h in record { index = x.index; send = x.send; there = x.there; request = x.request; body_ = x.body_ });
+}
+
+rests_whole : (m n k : Node) → Rises m n → KeepsSends m k → RestsWhole m (with_sends (with_fronts m n) k)
+rests_whole m n k r sends = record {
+  rests = rests_with m n k m.core.log (record { start = refl; more = []; entries = sym (append-nil m.core.log.entries) }) refl r sends;
+  log = refl;
+  begins = refl;
+}
+
+pub rests_refresh : (m : Node) → RestsWhole m (refresh m)
+rests_refresh m = subst (RestsWhole m) (sym (refresh_is m)) (rests_whole m (refresh m) m (rises_refresh m) (λ req body h. h))
+
+end_is : (m : Node) → refresh_at_end m ≡ with_sends (with_fronts m (refresh m)) (settle (refresh m))
+unfolding refresh_at_end
+end_is m = settle_is (refresh m) ∙ ap (λ (n : Node). with_sends n (settle (refresh m))) (refresh_is m)
+
+end_sends : (m : Node) → KeepsSends m (settle (refresh m))
+end_sends m req body h = sends_settle (refresh m) req body ((rests_refresh m).rests.sends req body h)
+
+pub rests_at_end : (m : Node) → RestsWhole m (refresh_at_end m)
+rests_at_end m = subst (RestsWhole m) (sym (end_is m)) (rests_whole m (refresh m) (settle (refresh m)) (rises_refresh m) (end_sends m))
+
+-- ---- its own Leave more
+
+-- a Leave changes no view
+view_left : (image : Image) (number name : ℕ) → (after image number (Leave name)).view ≡ image.view
+unfolding after
+view_left image number name = split ((at_place image name).life == life_of name) (λ t. rw t refl) (λ f. rw f refl)
+
+pub rests_closed : (p : Node) → Rests p (refresh_at_end (push_entry p (Leave p.core.who)))
+unfolding fold
+rests_closed p =
+    let e = Leave p.core.who in
+    let m = push_entry p e in
+    let r = rises_refresh m in
+    let same_view = ap (λ (i : Image). i.view) (fold_append p.core.log.image (p.core.log.start + 1) p.core.log.entries (e ∷ []))
+    ∙ view_left (image_of p) (p.core.log.start + 1 + length p.core.log.entries) p.core.who in
+    let sends : KeepsSends p (settle (refresh m)) = λ req body h. end_sends m req body
+    (record { index = h.index; send = h.send; there = h.there; request = h.request; body_ = h.body_ }) in
+    subst (Rests p) (sym (end_is m)) (rests_with p (refresh m) (settle (refresh m)) m.core.log
+    (record { start = refl; more = e ∷ []; entries = refl }) same_view (record { base = r.base; acc = r.acc; taken = r.taken }) sends)
+
+-- ---- what follows
+
+pub acts_rests : {p n : Node} → Rests p n → acts n ≡ acts p
+acts_rests {p} {n} h = λ i. is_member (h.status i) && stamp_eq (h.promise i) (h.view i)
+
+pub leads_rests : {p n : Node} → Rests p n → is_sequencer n ≡ is_sequencer p
+leads_rests {p} {n} h = λ i. acts_rests h i && ((h.view i).by == h.who i)
+
+pub stands_rests : {p n : Node} (base number : ℕ) (e : Entry) → Rests p n → Stands p.core.log base number e → Stands n.core.log base number e
+stands_rests {p} {n} base number e h s = record {
+  index = s.index;
+  there = ap (λ l. slice_get l s.index) h.entries ∙ get_front p.core.log.entries h.more s.index e s.there;
+  at = λ b. s.at (subst (λ x. x ≤ base) h.start b) ∙ ap (λ x. x + s.index + 1) (sym h.start);
+  within =
+      let l = ap length h.entries ∙ length-append p.core.log.entries h.more in
+      omega arith;
+}

@@ -1,5 +1,0 @@
-pub mod Words
-pub mod Stamps
-pub mod Changes
-pub mod Runs
-pub mod Ballots

@@ -1,0 +1,126 @@
+-- The claims of runs.
+use Rattle.std.proofs.Common.{◌≡◌, ◌≢◌, ℕ, zero, suc, ◌+◌, ◌-◌, ◌<◌, List, [], ◌∷◌, ◌++◌, length, take, Some, slice_get, ap, ◌∙◌, subst, arith}
+use Rattle.std.proofs.Math.Seq.{take-length}
+use Rattle.std.proofs.lemmas.List.{length-take-le}
+use Rattle.std.proofs.lemmas.Option.{slice_get_within}
+use Rattle.am_base.proofs.Greatest.{split}
+use Rattle.am_base.specs.Names.{has, place_of}
+use Rattle.am_base.specs.Founding.{Rules, MayFound}
+use Rattle.am_base.specs.declared.entry.Entry.TheVariants.{Data, Join}
+use Rattle.am_group.specs.declared.event.Event.{Event}
+use Rattle.am_group.specs.Journals.{item_at}
+use Rattle.am_group.specs.Deliveries.{deliveries}
+use Rattle.am_play.specs.World.{World, run}
+use Rattle.am_play.specs.Claims.{IsSegment, BeginsAt, IsSend}
+use Rattle.am_play.specs.Lawful.{lawful_front}
+use Rattle.am_chain_lists.specs.Whole.{IsGood}
+use Rattle.am_chain_lists.proofs.Prefixes.{begins_take}
+use Rattle.am_chain_lists.proofs.Members.{good_begins}
+use Rattle.am_laws.proofs.Items.{get_take}
+use Rattle.am_headline.proofs.Holds.{headline_holds}
+use Rattle.am_seg.specs.Parts.{part_count, part_of}
+use Rattle.am_seg.specs.Messages.{from_place, EndsAt}
+use Rattle.am_seg.proofs.Spelled.{sized}
+use Rattle.am_seg.proofs.Ends.{cut_at, slice_get-take}
+use Rattle.am_replicated.specs.AssembledClaims.{front_of, DeliveredMessagesEnd, WholeMessagesAreDelivered, SentInParts, SentMessagesEnd}
+use Rattle.am_replicated.proofs.AssembledPieces.{ends_in_list, ends_in_piece}
+use Rattle.am_replicated.proofs.Runs.{group_good, one_body, request_above}
+use Rattle.am_replicated.proofs.Tails.{SendsParts, tail_ends}
+
+-- ---- what was given
+
+start_above : (rules : Rules) (w : World) (name start : ℕ) → BeginsAt rules w name start → 0 < start
+start_above rules w name start begins = split (has rules.founders name)
+    (λ founder. omega (arith, begins.founder founder))
+    (λ joiner. above start (begins.joiner joiner).1)
+  where
+    above : (n : ℕ) → item_at w.group n ≡ Some (Join name) → 0 < n
+    above zero at = absurd (cc)
+    above (suc n) at = omega arith
+
+-- the piece of the group's list that a name was given
+given_piece : (rules : Rules) (events : List Event) (name : ℕ) → MayFound rules → deliveries (front_of rules events).records name ≢ []
+    → (start : ℕ) × BeginsAt rules (front_of rules events) name start × IsSegment (deliveries (front_of rules events).records name) start
+    (front_of rules events).group × (0 < start)
+given_piece rules events name may some =
+    let piece = (headline_holds rules events may).front.segment.each name some in
+    (piece.0, piece.1, piece.2, start_above rules (front_of rules events) name piece.0 piece.1)
+
+pub delivered_end : DeliveredMessagesEnd
+delivered_end rules events name may some =
+    let w = front_of rules events in
+    let piece = given_piece rules events name may some in (
+      piece.0,
+      record {
+        begins = piece.1;
+        ends = λ k from message ends. ends_in_list (deliveries w.records name) piece.0 w.group k from message piece.3 piece.2 ends;
+      },
+    )
+
+pub whole_delivered : WholeMessagesAreDelivered
+whole_delivered rules events name may some =
+    let w = front_of rules events in
+    let piece = given_piece rules events name may some in (
+      piece.0,
+      record {
+        begins = piece.1;
+        ends = λ k from message ends low all. ends_in_piece (deliveries w.records name) piece.0 w.group k from message piece.3 piece.2 ends low all;
+      },
+    )
+
+-- ---- what was sent
+
+-- each Data of the name that stands in the list was sent with that body, and so is a part where it has a part's request
+sends_parts : (rules : Rules) (events : List Event) (name first number : ℕ) (message : List ℕ) → MayFound rules
+    → SentInParts (front_of rules events) name first number message → SendsParts name first message (front_of rules events).group
+sends_parts rules events name first number message may sent k req body at up below =
+    let front = lawful_front rules events in
+    let index = req - first in
+    let within : index < part_count (length message) = omega arith in
+    let request : first + index ≡ req = omega arith in
+    let all : run rules (take (length front) front) ≡ run rules front = ap (run rules) (take-length front) in
+    let there : item_at (run rules (take (length front) front)).group (suc k) ≡ Some (Data name req body) = ap (λ (w : World). slice_get w.group k) all ∙ at in
+    let was = (headline_holds rules events may).front.sent.each (length front) (suc k) name req body there in
+    let part = sent.sends index within in
+    one_body rules front name req was.0 part.0 body (part_of message index) was.1 part.1 was.3 part.2 was.4
+    (subst (λ n. IsSend part.1 name n (part_of message index)) request part.3)
+
+-- by where the last part stands
+ends_there : (rules : Rules) (events : List Event) (name first number : ℕ) (message body : List ℕ) → MayFound rules
+    → SentInParts (front_of rules events) name first number message → 0 < first
+    → item_at (front_of rules events).group number ≡ Some (Data name (first + part_count (length message) - 1) body)
+    → EndsAt (front_of rules events).group number name message
+ends_there rules events name first zero message body may sent above at = absurd (cc)
+ends_there rules events name first (suc k) message body may sent above at =
+    let w = front_of rules events in
+    let req = first + part_count (length message) - 1 in
+    let some = (sized (length message)).some in
+    let within = slice_get_within w.group k (Data name req body) at in
+    let place : suc k - 1 ≡ k = omega arith in
+    let below : k < suc k = omega arith in
+    let long : length (take (suc k) w.group) ≡ k + 1 = length-take-le (suc k) w.group (omega arith) ∙ omega arith in
+    let last : slice_get (take (suc k) w.group) k ≡ Some (Data name req body) = slice_get-take (suc k) k w.group below ∙ at in
+    let cut : take (suc k) w.group ≡ take k (take (suc k) w.group) ++ Data name req body ∷ [] =
+    cut_at (take (suc k) w.group) k (Data name req body) last long in
+    let init = take k (take (suc k) w.group) in
+    let good : IsGood (init ++ Data name req body ∷ []) = subst IsGood cut (good_begins (begins_take (suc k) w.group) (group_good rules events may)) in
+    let parts : SendsParts name first message (init ++ Data name req body ∷ []) = subst (SendsParts name first message) cut
+    (λ j r b there. sends_parts rules events name first (suc k) message may sent j r b (get_take (suc k) w.group j (Data name r b) there)) in
+    let ends = tail_ends name first message init req body good above (omega (arith, some)) parts in
+    record {
+      from_one = omega arith;
+      last = (req, body, ap (slice_get w.group) place ∙ at);
+      few = sent.few;
+      parts = (ends.0, ap (from_place (place_of name)) cut ∙ ends.1);
+    }
+
+pub sent_end : SentMessagesEnd
+sent_end rules events name first number message may sent =
+    let w = front_of rules events in
+    let front = lawful_front rules events in
+    let once = (headline_holds rules events may).front.once.each sent.answer _ sent.answered in
+    let body = once.there.0 in
+    let some = (sized (length message)).some in
+    let first_part = sent.sends 0 some in
+    let above : 0 < first = omega (arith, request_above rules front first_part.0 first_part.1 name (first + 0) (part_of message 0) first_part.2 first_part.3) in
+    ends_there rules events name first number message body may sent above once.there.1

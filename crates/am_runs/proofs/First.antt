@@ -1,0 +1,136 @@
+-- What each change of the first founder keeps, which is the sequencer as long as it is a member.
+use Rattle.am_runs.proofs.UnballotedWords.{◌≡◌, ℕ, ◌+◌, ◌≤◌, ◌==◌, true, false, List, [], ◌∷◌, ◌++◌, length, take, Some, slice_get, refl, sym, ap, ◌∙◌, subst}
+use Rattle.am_runs.proofs.UnballotedWords.{length-append, arith, All, flat_map-append, All-push, All-head, All-tail, Image, Entry, Data, Join, Leave, View, Rules}
+use Rattle.am_runs.proofs.UnballotedWords.{life_of, Log, blank, fold, after, fits, at_place, requests_of, request_in, Node, top, is_member, push_entry}
+use Rattle.am_runs.proofs.UnballotedWords.{founders_view, founding_stamp, has_log, is_view, split, IsGood, image_of, mem, SmallName, good_push, get_last}
+use Rattle.am_sender.specs.Sends as own
+use Rattle.am_model.specs.Node as nodes
+use Rattle.am_runs.proofs.{UnballotedKept.first_of, UnballotedKept.NodeOk, UnballotedKept.node_more, Others.pushed_ok, Turns.Turn}
+
+-- ---- the whole list
+
+-- the founders' View, and then no other
+pub record IsGroup (rules : Rules) (list : List Entry) : Type 0 where
+  pub rest : List Entry
+  pub is : list ≡ founders_view rules ∷ rest
+  pub plain : All (λ e. is_view e ≡ false) rest
+
+-- what the last View says stays
+pub record SameView (a b : Image) : Type 0 where
+  pub view : b.view ≡ a.view
+  pub number : b.view_number ≡ a.view_number
+  pub resilience : b.resilience ≡ a.resilience
+
+same_after : (image : Image) (n : ℕ) (e : Entry) → is_view e ≡ false → SameView image (after image n e)
+unfolding after
+same_after image n (Data from req body) f = split ((at_place image from).life == life_of from)
+    (λ t. rw t (record { view = refl; number = refl; resilience = refl })) (λ g. rw g (record { view = refl; number = refl; resilience = refl }))
+same_after image n (Join name) f = record { view = refl; number = refl; resilience = refl }
+same_after image n (Leave name) f = split ((at_place image name).life == life_of name) (λ t. rw t (record { view = refl; number = refl; resilience = refl }))
+    (λ g. rw g (record { view = refl; number = refl; resilience = refl }))
+same_after image n (View stamp names resilience) f = absurd (cc)
+
+same_fold : (image : Image) (n : ℕ) (es : List Entry) → All (λ e. is_view e ≡ false) es → SameView image (fold image n es)
+unfolding fold
+same_fold image n [] h = record { view = refl; number = refl; resilience = refl }
+same_fold image n (e ∷ es) h =
+    let P : Entry → Type 0 = λ x. is_view x ≡ false in
+    let a = same_after image n e (All-head P e es h) in
+    let b = same_fold (after image n e) (n + 1) es (All-tail P e es h) in
+    record { view = b.view ∙ a.view; number = b.number ∙ a.number; resilience = b.resilience ∙ a.resilience }
+
+-- what the founders' View says
+pub record FoundersView (rules : Rules) (image : Image) : Type 0 where
+  pub view : image.view ≡ founding_stamp rules
+  pub number : image.view_number ≡ 1
+  pub resilience : image.resilience ≡ rules.resilience
+
+founded : (rules : Rules) → FoundersView rules (after blank 1 (founders_view rules))
+unfolding after
+founded rules = record { view = refl; number = refl; resilience = refl }
+
+pub group_view : (rules : Rules) (list : List Entry) → IsGroup rules list → FoundersView rules (image_of list)
+unfolding fold
+group_view rules list h =
+    let a = founded rules in
+    let b = same_fold (after blank 1 (founders_view rules)) (1 + 1) h.rest h.plain in
+    subst (λ l. FoundersView rules (image_of l)) (sym h.is) (record {
+      view = b.view ∙ a.view;
+      number = b.number ∙ a.number;
+      resilience = b.resilience
+          ∙ a.resilience;
+    })
+
+-- ---- its own sends
+
+pub record OwnOk (rules : Rules) (list : List Entry) (sends : own.Sends) : Type 0 where
+  pub next : ℕ
+  pub turn : Turn next next sends.queue sends.last
+  pub low : next ≤ length (requests_of (first_of rules) list) + 1
+
+-- ---- the founder
+
+pub record FirstBase (rules : Rules) (m : Node) : Type 0 where
+  pub node : NodeOk rules m.core.log.entries m.core.acc (first_of rules) m
+  pub start : m.core.log.start ≡ 0
+  pub group : IsGroup rules m.core.log.entries
+  pub good : IsGood m.core.log.entries
+  pub log : has_log m.status ≡ true
+  pub own : OwnOk rules m.core.log.entries m.sends
+
+-- with the same list and the same sends
+pub base_as : (rules : Rules) (m n : Node) → n.core.log ≡ m.core.log → n.sends ≡ m.sends → has_log n.status ≡ true
+    → NodeOk rules n.core.log.entries n.core.acc (first_of rules) n → FirstBase rules m → FirstBase rules n
+base_as rules m n log sends listed node h = record {
+  node = node;
+  start = ap (λ (l : Log). l.start) log ∙ h.start;
+  group = subst (λ (l : Log). IsGroup rules l.entries) (sym log) h.group;
+  good = subst (λ (l : Log). IsGood l.entries) (sym log) h.good;
+  log = listed;
+  own = subst (λ (q : own.Sends). OwnOk rules n.core.log.entries q) (sym sends) (subst (λ (l : Log). OwnOk rules l.entries m.sends) (sym log) h.own);
+}
+
+pub record FirstOk (rules : Rules) (m : Node) : Type 0 where
+  pub base : FirstBase rules m
+  pub member : is_member m.status ≡ true → mem m.core.log.entries (first_of rules) ≡ true
+
+pub first_told : (rules : Rules) (m : Node) → FirstBase rules m → nodes.image_of m ≡ image_of m.core.log.entries
+unfolding fold
+first_told rules m h =
+    let list = m.core.log.entries in
+    let image : m.core.log.image ≡ blank = h.node.log.image ∙ ap (λ n. image_of (take n list)) h.start in
+    let one : m.core.log.start + 1 ≡ 1 = let s = h.start in omega arith in
+    ap (λ i. fold i (m.core.log.start + 1) list) image ∙ ap (λ n. fold blank n list) one
+
+-- ---- an entry more
+
+small : (e : Entry) → is_view e ≡ false → SmallName e
+small (View stamp names resilience) f = absurd (cc)
+small _ f = tt
+
+group_push : (rules : Rules) (list : List Entry) (e : Entry) → is_view e ≡ false → IsGroup rules list → IsGroup rules (list ++ e ∷ [])
+group_push rules list e f h = record { rest = h.rest ++ e ∷ []; is = ap (λ l. l ++ e ∷ []) h.is; plain = All-push (λ x. is_view x ≡ false) h.rest e h.plain f }
+
+own_push : (rules : Rules) (list : List Entry) (e : Entry) (sends : own.Sends) → OwnOk rules list sends → OwnOk rules (list ++ e ∷ []) sends
+own_push rules list e sends h =
+    let a = flat_map-append (request_in (first_of rules)) list (e ∷ []) in
+    let b = ap length a in
+    let d = length-append (requests_of (first_of rules) list) (requests_of (first_of rules) (e ∷ [])) in
+    record { next = h.next; turn = h.turn; low = let l = h.low in omega arith }
+
+pub first_push : (rules : Rules) (m : Node) (e : Entry) → is_view e ≡ false → fits (image_of m.core.log.entries) e ≡ true → FirstBase rules m
+    → FirstBase rules (push_entry m e)
+first_push rules m e plain fit h =
+    let list = m.core.log.entries in
+    let i = first_of rules in
+    let more = node_more rules list (e ∷ []) m.core.acc m.core.acc i m (omega arith) h.node in
+    let high : top m ≡ length list = (let s = h.start in omega arith) in
+    let next : slice_get (list ++ e ∷ []) (top m) ≡ Some e = ap (slice_get (list ++ e ∷ [])) high ∙ get_last list e in
+    record {
+      node = pushed_ok rules (list ++ e ∷ []) m.core.acc i m e next more;
+      start = h.start;
+      group = group_push rules list e plain h.group;
+      good = good_push list e h.good fit (small e plain);
+      log = h.log;
+      own = own_push rules list e m.sends h.own;
+    }

@@ -1,0 +1,354 @@
+-- What each change of the first founder keeps, as long as its ballot is none.
+use Rattle.am_runs.proofs.UnballotedWords.{stamp_itself, ◌≡◌, ℕ, ◌+◌, ◌-◌, ◌<◌, ◌≤◌, max, min, ◌==◌, ◌&&◌, ◌||◌, not, nat_lt, true, false, if◌then◌else◌, List}
+use Rattle.am_runs.proofs.UnballotedWords.{[], length, map, Option, Some, None, refl, sym, ap, ◌∙◌, subst, append-nil, arith, nat_tests, Stamp, Report, Row}
+use Rattle.am_runs.proofs.UnballotedWords.{Image, Entry, Data, Join, Leave, Outcome, Rules, life_of, stamp_eq, Log, fits, at_place, row_of, requests_of, accept}
+use Rattle.am_runs.proofs.UnballotedWords.{pass_over, own_report, tell, go_on, let_go, OwnSend, Status, Node, top, view, is_member, is_asking, acts, is_sequencer}
+use Rattle.am_runs.proofs.UnballotedWords.{push_entry, waiting, founding_stamp, has_log, advance, lead, refresh, accepted_at, settle_at, settle_waiting, settle}
+use Rattle.am_runs.proofs.UnballotedWords.{refresh_at_end, is_view, hears_member, hears_in_view, hears_sequencer, split, and_both, image_of, mem, mem_in, in_mem}
+use Rattle.am_runs.proofs.UnballotedWords.{mem_push, request_within, next_in, Cause, Numbers, asked_send, own_send, asked_join, asked_leave, MayBeWelcomed}
+use Rattle.am_runs.proofs.UnballotedWords.{Change, refreshes, settles, numbers, notes, stores, begins_list, departs, promises, opens, looks, fetches, stores_view}
+use Rattle.am_runs.proofs.UnballotedWords.{queues, collects, takes, asks_to_join, closes, base_up, rests_refresh, settle_is, logged}
+use Rattle.am_sender.specs.Sends as own
+use Rattle.am_model.specs.declared.status.Status.TheVariants as status
+use Rattle.am_model.specs.Node as nodes
+use Rattle.am_chain_lists.proofs.Rows as rows
+use Rattle.am_runs.proofs.{UnballotedKept.first_of, UnballotedKept.NodeOk, UnballotedKept.CauseOk, UnballotedKept.node_more, UnballotedChanges.found_at, UnballotedChanges.settle_ok, UnballotedChanges.queued_ok}
+use Rattle.am_runs.proofs.{UnballotedChanges.collected_ok, Others.same_node, Others.looks_leave, Others.promised_first, Others.with_status, Others.with_promise}
+use Rattle.am_runs.proofs.{Others.taken_ok, Turns.Turn, Turns.waiting_is, Turns.one_more, Turns.waiting_settled, Turns.collected_turn, First.group_view}
+use Rattle.am_runs.proofs.{First.base_as, First.OwnOk, First.FirstBase, First.FirstOk, First.first_told, First.first_push}
+
+-- ---- what is accepted goes on
+
+passed_within : (taken acc start : ℕ) → taken ≤ acc → (if nat_lt taken (start - 1) then max taken (min acc (start - 1)) else taken) ≤ acc
+passed_within taken acc start low = split (nat_lt taken (start - 1)) (λ t. rw t (omega arith)) (λ f. rw f low)
+
+passed_over : (taken acc start : ℕ) → (if nat_lt taken (start - 1) then max taken (min acc (start - 1)) else taken) < start - 1
+    → acc ≤ (if nat_lt taken (start - 1) then max taken (min acc (start - 1)) else taken)
+passed_over taken acc start = split (nat_lt taken (start - 1))
+    (λ t. rw t (λ b. omega arith))
+    (λ f. let z : start - 1 ≤ taken = grind (arith, nat_tests) in rw f (λ b. absurd (omega arith)))
+
+-- with other fronts and reports, as a refresh leaves them
+abbrev risen : Node → ℕ → ℕ → (ℕ → Report) → Node
+risen m told base reports = record m {
+  core = record (m.core) {
+    told = told;
+    acc = max m.core.acc (min told (top m));
+    taken = if nat_lt m.core.taken (m.core.start - 1) then max m.core.taken (min (max m.core.acc (min told (top m))) (m.core.start - 1)) else m.core.taken;
+    base = base;
+  };
+  reports = reports;
+}
+
+pub node_up : (rules : Rules) (list : List Entry) (acc to i : ℕ) (m : Node) → acc ≤ to → NodeOk rules list acc i m → NodeOk rules list to i m
+node_up rules list acc to i m up h = subst (λ l. NodeOk rules l to i m) (append-nil list) (node_more rules list [] acc to i m up h)
+
+first_rise : (rules : Rules) (m : Node) (told base : ℕ) (reports : ℕ → Report) → m.core.base ≤ base → FirstBase rules m
+    → FirstBase rules (risen m told base reports)
+first_rise rules m told base reports up h =
+    let list = m.core.log.entries in
+    let i = first_of rules in
+    let to = max m.core.acc (min told (top m)) in
+    let n = node_up rules list m.core.acc to i m (omega arith) h.node in
+    let f = h.node.fronts in
+    record {
+      node = record {
+        who = n.who;
+        log = record { start = n.log.start; image = n.log.image; within = n.log.within };
+        fronts = record {
+          accepted = omega arith;
+          within = omega arith;
+          taken = passed_within m.core.taken to m.core.start (omega arith);
+          base = omega arith;
+          told = λ d. absurd (d refl);
+          passed = passed_over m.core.taken to m.core.start;
+        };
+        status = record { promise = n.status.promise; founder = n.status.founder; blank = λ z. absurd (cc); begins = n.status.begins };
+        sends = n.sends;
+      };
+      start = h.start;
+      group = h.group;
+      good = h.good;
+      log = h.log;
+      own = h.own;
+    }
+
+first_lead : (rules : Rules) (m : Node) → FirstBase rules m → FirstBase rules (lead m)
+unfolding lead own_report tell go_on let_go accept pass_over
+first_lead rules m h = first_rise rules m _ _ _ (base_up _ m.core.base) h
+
+first_advance : (rules : Rules) (m : Node) → FirstBase rules m → FirstBase rules (advance m)
+unfolding accept pass_over
+first_advance rules m h = first_rise rules m m.core.told m.core.base m.reports (omega arith) h
+
+first_refresh : (rules : Rules) (m : Node) → FirstBase rules m → FirstBase rules (refresh m)
+unfolding refresh
+first_refresh rules m h = split (is_sequencer m) (λ t. rw t (first_lead rules m h)) (λ f. rw f (first_advance rules m h))
+
+-- ---- its waiting send is settled
+
+with_own : (rules : Rules) (m : Node) (sends : own.Sends) → NodeOk rules m.core.log.entries m.core.acc (first_of rules) (record m { sends = sends })
+    → OwnOk rules m.core.log.entries sends → FirstBase rules m → FirstBase rules (record m { sends = sends })
+with_own rules m sends n o h = record { node = n; start = h.start; group = h.group; good = h.good; log = h.log; own = o }
+
+-- where it stands, so many requests are there
+asked_there : (rules : Rules) (m : Node) (req k : ℕ) → FirstBase rules m → accepted_at m req ≡ Some k
+    → req ≤ length (requests_of (first_of rules) m.core.log.entries)
+asked_there rules m req k h is =
+    let f = found_at m req k is in
+    let there = f.there ∙ ap (λ w. Some (Data w req f.body)) h.node.who in
+    request_within m.core.log.entries (first_of rules) req f.body ((m.core.base - m.core.log.start) + k) h.good.fit there
+
+first_settled_at : (rules : Rules) (m : Node) (s : OwnSend) (at : Option ℕ) → waiting m ≡ Some s → accepted_at m s.req ≡ at
+    → NodeOk rules m.core.log.entries m.core.acc (first_of rules) (settle_at m s.req at) → FirstBase rules m → FirstBase rules (settle_at m s.req at)
+first_settled_at rules m s None w is n h = h
+first_settled_at rules m s (Some k) w is n h =
+    let o = h.own in
+    let number = m.core.base + 1 + k in
+    let same = waiting_is o.next o.next m.sends.last m.sends.queue s o.turn w in
+    let there = asked_there rules m s.req k h is in
+    let turn = waiting_settled o.next o.next m.sends.last number m.sends.queue s (omega arith) w o.turn in
+    with_own rules m (own.settle s.req number m.sends) n
+    (record {
+      next = o.next + 1;
+      turn = subst (λ r. Turn (o.next + 1) (o.next + 1) (map (own.settle_send r number) m.sends.queue) m.sends.last) (sym same) turn;
+      low = omega arith;
+    }) h
+
+first_settled : (rules : Rules) (m : Node) (w : Option OwnSend) → waiting m ≡ w
+    → NodeOk rules m.core.log.entries m.core.acc (first_of rules) (settle_waiting m w) → FirstBase rules m → FirstBase rules (settle_waiting m w)
+first_settled rules m None w n h = h
+first_settled rules m (Some s) w n h = first_settled_at rules m s (accepted_at m s.req) w refl n h
+
+first_settle : (rules : Rules) (m : Node) → FirstBase rules m → FirstBase rules (settle m)
+unfolding settle
+first_settle rules m h = first_settled rules m (waiting m) refl (settle_ok rules m.core.log.entries m.core.acc (first_of rules) m h.node) h
+
+pub first_at_end : (rules : Rules) (m : Node) → FirstBase rules m → FirstBase rules (refresh_at_end m)
+unfolding refresh_at_end
+first_at_end rules m h = first_settle rules (refresh m) (first_refresh rules m h)
+
+-- ---- what it numbers
+
+-- the row of a name that is there
+row_is : (image : Image) (name : ℕ) → (0 < (row_of image name).joined) → (row_of image name ≡ at_place image name) × ((at_place image name).life ≡ life_of name)
+row_is image name some = split ((at_place image name).life == life_of name)
+    (λ t. let same : (at_place image name).life ≡ life_of name = grind (arith, nat_tests) in (rw t refl, same))
+    (λ f. let none = rw f at some in absurd (omega arith))
+
+-- a name whose Join stands and which hasn't left is a member
+known_member : (list : List Entry) (name : ℕ) → ((row_of (image_of list) name).joined == 0) ≡ false → (row_of (image_of list) name).left ≡ 0 → mem list name
+    ≡ true
+known_member list name known stays =
+    let some : 0 < (row_of (image_of list) name).joined = grind (arith, nat_tests) in
+    let r = row_is (image_of list) name some in
+    in_mem list name (record {
+      joined = subst (λ (x : Row). 0 < x.joined) r.0 some;
+      left = subst (λ (x : Row). x.left ≡ 0) r.0 stays;
+      is = r.1;
+    })
+
+fits_data : (list : List Entry) (name req : ℕ) (body : List ℕ) → mem list name ≡ true → req ≡ (row_of (image_of list) name).last + 1
+    → fits (image_of list) (Data name req body) ≡ true
+unfolding fits mem
+fits_data list name req body member next =
+    let t : (req == (row_of (image_of list) name).last + 1) ≡ true = grind (arith, nat_tests) in
+    rw (member, t) refl
+
+fits_leave : (list : List Entry) (name : ℕ) → mem list name ≡ true → fits (image_of list) (Leave name) ≡ true
+unfolding fits mem
+fits_leave list name member = member
+
+-- of a member the last request is that of so many
+last_asked : (rules : Rules) (m : Node) → FirstBase rules m → mem m.core.log.entries (first_of rules) ≡ true
+    → (row_of (image_of m.core.log.entries) (first_of rules)).last ≡ length (requests_of (first_of rules) m.core.log.entries)
+last_asked rules m h member =
+    let list = m.core.log.entries in
+    let i = first_of rules in
+    let in_ = mem_in list i member in
+    let next = (next_in list i h.good.fit).own in_.joined in_.is in
+    let alive : ((at_place (image_of list) i).life == life_of i) ≡ true = (let e = in_.is in grind (arith, nat_tests)) in
+    let same : row_of (image_of list) i ≡ at_place (image_of list) i = rw alive refl in
+    let last = ap (λ (r : Row). r.last) same in
+    omega arith
+
+numbered_fits : (rules : Rules) (c : Cause) (m : Node) (e : Entry) → FirstBase rules m → mem m.core.log.entries (first_of rules) ≡ true → Numbers c m e
+    → (is_view e ≡ false) × (fits (image_of m.core.log.entries) e ≡ true)
+numbered_fits rules c m e h member (asked_send s v report req body by known stays next) =
+    let list = m.core.log.entries in
+    let t = first_told rules m h in
+    let known_ : ((row_of (image_of list) s).joined == 0) ≡ false = ap (λ i. (row_of i s).joined == 0) (sym t) ∙ known in
+    let stays_ : nat_lt 0 (row_of (image_of list) s).left ≡ false = ap (λ i. nat_lt 0 (row_of i s).left) (sym t) ∙ stays in
+    let left : (row_of (image_of list) s).left ≡ 0 = grind (arith, nat_tests) in
+    let next_ : req ≡ (row_of (image_of list) s).last + 1 = next ∙ ap (λ i. (row_of i s).last + 1) t in
+    (refl, fits_data list s req body (known_member list s known_ left) next_)
+numbered_fits rules c m e h member (own_send s is last) =
+    let list = m.core.log.entries in
+    let i = first_of rules in
+    let t = first_told rules m h in
+    let who = h.node.who in
+    let o = h.own in
+    let same = waiting_is o.next o.next m.sends.last m.sends.queue s o.turn is in
+    let asked = last_asked rules m h member in
+    let above : nat_lt (row_of (image_of list) i).last s.req ≡ true = ap (λ x. nat_lt (row_of x i).last s.req) (sym t)
+    ∙ ap (λ w. nat_lt (row_of (nodes.image_of m) w).last s.req) (sym who) ∙ last in
+    let less : (row_of (image_of list) i).last < s.req = grind (arith, nat_tests) in
+    let next : s.req ≡ (row_of (image_of list) i).last + 1 = omega arith in
+    (refl, ap (λ w. fits (image_of list) (Data w s.req s.body)) who ∙ fits_data list i s.req s.body member next)
+numbered_fits rules c m e h member (asked_join s v is other fit) = (refl, ap (λ i. fits i (Join s)) (sym (first_told rules m h)) ∙ fit)
+numbered_fits rules c m e h member (asked_leave s v report is other known stays) =
+    let list = m.core.log.entries in
+    let t = first_told rules m h in
+    let known_ : ((row_of (image_of list) s).joined == 0) ≡ false = ap (λ i. (row_of i s).joined == 0) (sym t) ∙ known in
+    let stays_ : ((row_of (image_of list) s).left == 0) ≡ true = ap (λ i. (row_of i s).left == 0) (sym t) ∙ stays in
+    let left : (row_of (image_of list) s).left ≡ 0 = grind (arith, nat_tests) in
+    (refl, fits_leave list s (known_member list s known_ left))
+
+-- it spares itself
+numbered_spares : (rules : Rules) (c : Cause) (m : Node) (e : Entry) → m.core.who ≡ first_of rules → Numbers c m e → rows.Spares (first_of rules) e
+numbered_spares rules c m e who (asked_leave s v report is other known stays) =
+    λ same. (let z : s ≡ m.core.who = same ∙ sym who in absurd (let y : ⊥ = grind (arith, nat_tests) in y))
+numbered_spares rules c m e who _ = tt
+
+-- ---- what it doesn't hear
+
+pub first_view : (rules : Rules) (m : Node) → FirstBase rules m → view m ≡ founding_stamp rules
+first_view rules m h = ap (λ (i : Image). i.view) (first_told rules m h) ∙ (group_view rules m.core.log.entries h.group).view
+
+-- another name isn't its sequencer
+not_heard : (rules : Rules) (m : Node) (s : ℕ) (v : Stamp) → FirstBase rules m → hears_sequencer m s v ≡ true → ⊥
+not_heard rules m s v h t =
+    let a = and_both (hears_in_view m s v) (v.by == s) t in
+    let b = and_both (hears_member m s) (acts m && stamp_eq v (view m)) a.0 in
+    let other = (and_both (not (s == m.core.who)) (is_member m.status) b.0).0 in
+    let same = (and_both (acts m) (stamp_eq v (view m)) b.1).1 in
+    let by = a.1 in
+    let f = ap (λ (x : Stamp). x.by) (first_view rules m h) in
+    let first = view m in
+    let z : ⊥ = grind (arith, nat_tests) in z
+
+not_fetched : (rules : Rules) (m : Node) (v : Stamp) → FirstBase rules m → is_member m.status ≡ true → stamp_eq v m.core.promise ≡ true
+    → stamp_eq (view m) v ≡ false → ⊥
+not_fetched rules m v h member promise below =
+    let p = h.node.status.promise (logged m.status member) in
+    let f = first_view rules m h in
+    let t : stamp_eq v (founding_stamp rules) ≡ true = ap (stamp_eq v) (sym p) ∙ promise in
+    let u : stamp_eq (founding_stamp rules) v ≡ false = ap (λ x. stamp_eq x v) (sym f) ∙ below in
+    let first = founding_stamp rules in
+    let z : ⊥ = grind (arith, nat_tests) in z
+
+-- who has a list joins no more
+pub not_welcomed : (m : Node) (s : ℕ) (v : Stamp) (base join : ℕ) (image : Image) → MayBeWelcomed m s v base join image → has_log m.status ≡ true → ⊥
+not_welcomed m s v base join image h log =
+    let a = (and_both (not (s == m.core.who)) (is_member m.status || is_asking m.status) h.asks).1 in
+    let b = h.no_member in
+    none m.status b a log
+  where
+    none : (x : Status) → is_member x ≡ false → (is_member x || is_asking x) ≡ true → has_log x ≡ true → ⊥
+    none status.Stranger b a l = absurd (cc)
+    none status.Asking b a l = absurd (cc)
+    none status.Member b a l = absurd (cc)
+    none status.Departed b a l = absurd (cc)
+
+-- collecting changes no request number
+collected_last : (next req : ℕ) (sends : own.Sends) → Turn next next sends.queue sends.last
+    → Turn next next (own.collect req sends).queue (own.collect req sends).last
+collected_last next req sends h = subst (Turn next next (own.collect req sends).queue) (sym same)
+    (collected_turn next next sends.last req sends (omega arith) h)
+  where
+    same : (own.collect req sends).last ≡ sends.last
+    same = split (own.is_settled req sends) (λ t. rw t refl) (λ f. rw f refl)
+
+-- ---- each change
+
+member_refreshed : (rules : Rules) (m : Node) → FirstOk rules m → is_member (refresh m).status ≡ true → mem (refresh m).core.log.entries (first_of rules) ≡ true
+member_refreshed rules m h t =
+    let r = rests_refresh m in
+    ap (λ (l : Log). mem l.entries (first_of rules)) r.log ∙ h.member (ap is_member (sym r.rests.status) ∙ t)
+
+member_settled : (rules : Rules) (m : Node) → FirstOk rules m → is_member (settle m).status ≡ true → mem (settle m).core.log.entries (first_of rules) ≡ true
+member_settled rules m h = subst (λ (n : Node). is_member n.status ≡ true → mem n.core.log.entries (first_of rules) ≡ true) (sym (settle_is m)) h.member
+
+pub leader_member : (m : Node) → is_sequencer m ≡ true → is_member m.status ≡ true
+leader_member m t = (and_both (is_member m.status) _ (and_both (acts m) _ t).0).0
+
+numbered : (rules : Rules) (c : Cause) (m : Node) (e : Entry) → is_sequencer m ≡ true → Numbers c m e → FirstOk rules m → FirstOk rules (push_entry m e)
+numbered rules c m e leads why h =
+    let i = first_of rules in
+    let member = h.member (leader_member m leads) in
+    let f = numbered_fits rules c m e h.base member why in
+    let base = first_push rules m e f.0 f.1 h.base in
+    record { base = base; member = λ t. mem_push m.core.log.entries e i base.good (numbered_spares rules c m e h.base.node.who why) member }
+
+closed : (rules : Rules) (m : Node) → is_sequencer m ≡ true → FirstOk rules m
+    → FirstOk rules (record (refresh_at_end (push_entry m (Leave m.core.who))) { status = status.Departed })
+closed rules m leads h =
+    let i = first_of rules in
+    let list = m.core.log.entries in
+    let member = h.member (leader_member m leads) in
+    let fit : fits (image_of list) (Leave m.core.who) ≡ true = fits_leave list m.core.who (ap (mem list) h.base.node.who ∙ member) in
+    let p = push_entry m (Leave m.core.who) in
+    let n = refresh_at_end p in
+    let base = first_at_end rules p (first_push rules m (Leave m.core.who) refl fit h.base) in
+    record {
+      base = base_as rules n (record n { status = status.Departed }) refl refl refl
+          (with_status rules n.core.log.entries n.core.acc i n status.Departed (sym base.log) base.node) base;
+      member = λ t. absurd (cc);
+    }
+
+pub first_change : (rules : Rules) (list : List Entry) (acc : ℕ) (c : Cause) (o : Outcome) (m n : Node) → CauseOk rules list acc (first_of rules) c
+    → Change c o m n → n.ballot ≡ None → FirstOk rules m → FirstOk rules n
+first_change rules list acc c o m n w refreshes none h = record { base = first_refresh rules m h.base; member = member_refreshed rules m h }
+first_change rules list acc c o m n w settles none h = record { base = first_settle rules m h.base; member = member_settled rules m h }
+first_change rules list acc c o m n w (numbers e leads room why) none h = numbered rules c m e leads why h
+first_change rules list acc c o m n w (notes s v base a by heard) none h = absurd (not_heard rules m s v h.base heard)
+first_change rules list acc c o m n w (stores s v base a number e by heard plain may) none h = absurd (not_heard rules m s v h.base heard)
+first_change rules list acc c o m n w (begins_list s v base join image is says may) none h = absurd (not_welcomed m s v base join image may h.base.log)
+first_change rules list acc c o m n w (departs s v number is heard leaves) none h =
+    let b = h.base in
+    record {
+      base = base_as rules m n refl refl refl (with_status rules _ _ _ m status.Departed (sym b.log) b.node) b;
+      member = λ t. absurd (cc);
+    }
+first_change rules list acc c o m n w (promises v low why) none h =
+    let b = h.base in
+    record {
+      base = base_as rules m n refl refl b.log (with_promise rules _ _ _ m n v refl (promised_first rules list acc (first_of rules) c m v why w) b.node) b;
+      member = h.member;
+    }
+first_change rules list acc c o m n w (opens least resilience by may) none h = absurd (cc)
+first_change rules list acc c o m n w (looks b verdict over why look is) none h = absurd (looks_leave m b verdict look none)
+first_change rules list acc c o m n w (fetches s v base number e is heard promise below from may) none h =
+    absurd (not_fetched rules m v h.base (and_both (not (s == m.core.who)) (is_member m.status) heard).1 promise below)
+first_change rules list acc c o m n w (stores_view s v base number names resilience is heard own other promise below may) none h =
+    absurd (not_fetched rules m v h.base (and_both (not (s == m.core.who)) (is_member m.status) heard).1 (ap (stamp_eq v) promise ∙ stamp_itself v) below)
+first_change rules list acc c o m n w (queues body is says member stays few) none h =
+    let b = h.base in
+    let own_ = b.own in
+    record {
+      base = with_own rules m (own.submit body m.sends) (queued_ok rules m.core.log.entries m.core.acc (first_of rules) m body b.node)
+          (record { next = own_.next; turn = one_more own_.next own_.next m.sends.last m.sends.queue body own_.turn; low = own_.low }) b;
+      member = h.member;
+    }
+first_change rules list acc c o m n w (collects req is) none h =
+    let b = h.base in
+    let own_ = b.own in
+    record {
+      base = with_own rules m (own.collect req m.sends) (collected_ok rules m.core.log.entries m.core.acc (first_of rules) m req b.node)
+          (record { next = own_.next; turn = collected_last own_.next req m.sends own_.turn; low = own_.low }) b;
+      member = h.member;
+    }
+first_change rules list acc c o m n w (takes e is says member some there) none h =
+    let b = h.base in
+    record {
+      base = base_as rules m n refl refl b.log (taken_ok rules _ _ _ m member some b.node) b;
+      member = h.member;
+    }
+first_change rules list acc c o m n w (asks_to_join is was) none h = let l = h.base.log in let z = ap has_log was in absurd (cc)
+first_change rules list acc c o m n w (closes leads leaves last room) none h = closed rules m leads h
+first_change rules list acc c o m n w _ none h =
+    let b = h.base in
+    record {
+      base = base_as rules m n refl refl b.log (same_node rules _ _ _ m n refl refl refl b.node) b;
+      member = h.member;
+    }

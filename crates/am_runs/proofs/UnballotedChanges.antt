@@ -1,0 +1,125 @@
+-- What each change of a node keeps, as long as its ballot is none: of any name but the first founder, and of that.
+use Rattle.am_runs.proofs.UnballotedWords.{◌≡◌, ℕ, ◌+◌, ◌-◌, ◌<◌, ◌≤◌, ◌==◌, nat_lt, true, not, List, take, get_or, Option, Some, None, slice_get, refl, sym, ap}
+use Rattle.am_runs.proofs.UnballotedWords.{◌∙◌, subst, arith, All, nat_tests, length-take, position-Some, slice_get-get_or, All-push, All-filter, All-map}
+use Rattle.am_runs.proofs.UnballotedWords.{All-weaker, Stamp, Entry, Data, Join, Rules, stamp_eq, CoreState, accept, pass_over, slice_get-drop, OwnSend, item_at}
+use Rattle.am_runs.proofs.UnballotedWords.{Node, view, is_member, acts, is_sequencer, entries_above, waiting, is_data_of, accepted_at, settle_at, settle_waiting}
+use Rattle.am_runs.proofs.UnballotedWords.{settle, split, and_both, own_data, logged, get_take}
+use Rattle.am_sender.specs.Sends as own
+use Rattle.am_runs.proofs.{Lists.get_item, Lists.within_get, UnballotedKept.first_of, UnballotedKept.At, UnballotedKept.FrontsOk, UnballotedKept.SendOk, UnballotedKept.NodeOk}
+
+-- ---- who leads
+
+-- a sequencer's name is in its promise
+leads_own : (m : Node) → is_sequencer m ≡ true → (is_member m.status ≡ true) × (m.core.promise.by ≡ m.core.who)
+leads_own m t =
+    let a = and_both (acts m) ((view m).by == m.core.who) t in
+    let b = and_both (is_member m.status) (stamp_eq m.core.promise (view m)) a.0 in
+    let v = view m in
+    (b.0, grind (arith, nat_tests))
+
+pub leads_first : (rules : Rules) (list : List Entry) (acc i : ℕ) (m : Node) → NodeOk rules list acc i m → is_sequencer m ≡ true → i ≡ first_of rules
+leads_first rules list acc i m h t =
+    let a = leads_own m t in
+    sym h.who ∙ sym a.1 ∙ ap (λ (s : Stamp). s.by) (h.status.promise (logged m.status a.0))
+
+-- ---- fronts
+
+-- what is accepted goes on to what is told, and a joiner passes over what is below its Join
+pub advance_fronts : (first acc to i : ℕ) (core : CoreState) → acc ≤ to → core.told ≤ to → FrontsOk first acc i core
+    → FrontsOk first to i (pass_over (accept core))
+unfolding pass_over accept
+advance_fronts first acc to i core up low h =
+    split (nat_lt core.taken (core.start - 1))
+    (λ y. rw y (record {
+      accepted = omega arith;
+      within = omega arith;
+      taken = omega arith;
+      base = h.base;
+      told = λ d. low;
+      passed = λ b. omega arith;
+    }))
+    (λ n. let z : core.start - 1 ≤ core.taken = grind (arith, nat_tests) in
+    rw n (record {
+      accepted = omega arith;
+      within = omega arith;
+      taken = omega arith;
+      base = h.base;
+      told = λ d. low;
+      passed = λ b. absurd (omega arith);
+    }))
+
+-- ---- a send that is settled
+
+-- where a send of the node's own stands among what is accepted
+pub record Found (m : Node) (req k : ℕ) : Type 0 where
+  pub body : List ℕ
+  pub there : slice_get m.core.log.entries ((m.core.base - m.core.log.start) + k) ≡ Some (Data m.core.who req body)
+  pub low : m.core.base + k < m.core.acc
+
+pub found_at : (m : Node) (req k : ℕ) → accepted_at m req ≡ Some k → Found m req k
+found_at m req k is =
+    let test = is_data_of m.core.who req in
+    let above = entries_above m m.core.base in
+    let few = m.core.acc - m.core.base in
+    let p = position-Some test (take few above) k (Join 0) is in
+    let e = get_or (take few above) k (Join 0) in
+    let found = own_data m.core.who req e p.1 in
+    let low = p.0 in
+    let long = length-take few above in
+    let here = slice_get-get_or (take few above) k (Join 0) low in
+    let there : slice_get m.core.log.entries ((m.core.base - m.core.log.start) + k) ≡ Some e =
+    sym (slice_get-drop (m.core.base - m.core.log.start) k m.core.log.entries) ∙ get_take few above k e here in
+    record { body = found.0; there = there ∙ ap Some found.1; low = omega arith }
+
+settled_stands : (rules : Rules) (list : List Entry) (acc i : ℕ) (m : Node) (req k : ℕ) → NodeOk rules list acc i m → accepted_at m req ≡ Some k
+    → (body : List ℕ) × At list acc (m.core.base + 1 + k) (Data i req body)
+settled_stands rules list acc i m req k h is =
+    let f = found_at m req k is in
+    let low = f.low in
+    let base = h.fronts.base in
+    let at = within_get list m.core.log.start m.core.log.entries ((m.core.base - m.core.log.start) + k) (Data m.core.who req f.body) h.log.within f.there in
+    let there : item_at list (m.core.base + 1 + k) ≡ Some (Data m.core.who req f.body) =
+    get_item list (m.core.base + 1 + k) (m.core.log.start + ((m.core.base - m.core.log.start) + k)) _ (omega arith) at in
+    (f.body, record { low = omega arith; there = there ∙ ap (λ w. Some (Data w req f.body)) h.who })
+
+settled_send : (list : List Entry) (acc i req number : ℕ) (s : OwnSend) → ((body : List ℕ) × At list acc number (Data i req body)) → SendOk list acc i s
+    → SendOk list acc i (own.settle_send req number s)
+settled_send list acc i req number s stands h = split (s.req == req)
+    (λ t. let e : req ≡ s.req = grind (arith, nat_tests) in rw t (stands.0, subst (λ r. At list acc number (Data i r stands.0)) e stands.1))
+    (λ f. rw f h)
+
+with_queue : (rules : Rules) (list : List Entry) (acc i : ℕ) (m : Node) (sends : own.Sends) → All (SendOk list acc i) sends.queue → NodeOk rules list acc i m
+    → NodeOk rules list acc i (record m { sends = sends })
+with_queue rules list acc i m sends q h = record { who = h.who; log = h.log; fronts = h.fronts; status = h.status; sends = q }
+
+settled_at_ok : (rules : Rules) (list : List Entry) (acc i : ℕ) (m : Node) (req : ℕ) (at : Option ℕ) → accepted_at m req ≡ at → NodeOk rules list acc i m
+    → NodeOk rules list acc i (settle_at m req at)
+settled_at_ok rules list acc i m req None is h = h
+settled_at_ok rules list acc i m req (Some k) is h =
+    let number = m.core.base + 1 + k in
+    let stands = settled_stands rules list acc i m req k h is in
+    with_queue rules list acc i m (own.settle req number m.sends)
+    (All-map (SendOk list acc i) (own.settle_send req number) m.sends.queue
+    (All-weaker (SendOk list acc i) (λ s. SendOk list acc i (own.settle_send req number s))
+    (λ s. settled_send list acc i req number s stands) m.sends.queue h.sends)) h
+
+settled_ok : (rules : Rules) (list : List Entry) (acc i : ℕ) (m : Node) (w : Option OwnSend) → NodeOk rules list acc i m
+    → NodeOk rules list acc i (settle_waiting m w)
+settled_ok rules list acc i m None h = h
+settled_ok rules list acc i m (Some s) h = settled_at_ok rules list acc i m s.req (accepted_at m s.req) refl h
+
+pub settle_ok : (rules : Rules) (list : List Entry) (acc i : ℕ) (m : Node) → NodeOk rules list acc i m → NodeOk rules list acc i (settle m)
+unfolding settle
+settle_ok rules list acc i m h = settled_ok rules list acc i m (waiting m) h
+
+-- ---- sends
+
+pub queued_ok : (rules : Rules) (list : List Entry) (acc i : ℕ) (m : Node) (body : List ℕ) → NodeOk rules list acc i m
+    → NodeOk rules list acc i (record m { sends = own.submit body m.sends })
+queued_ok rules list acc i m body h = with_queue rules list acc i m (own.submit body m.sends) (All-push (SendOk list acc i) m.sends.queue _ h.sends tt) h
+
+pub collected_ok : (rules : Rules) (list : List Entry) (acc i : ℕ) (m : Node) (req : ℕ) → NodeOk rules list acc i m
+    → NodeOk rules list acc i (record m { sends = own.collect req m.sends })
+collected_ok rules list acc i m req h = split (own.is_settled req m.sends)
+    (λ t. rw t (with_queue rules list acc i m _ (All-filter (λ s. not (own.is_request req s)) (SendOk list acc i) m.sends.queue h.sends) h))
+    (λ f. rw f h)

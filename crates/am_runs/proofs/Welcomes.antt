@@ -1,0 +1,102 @@
+-- Who was welcomed, after a step.
+use Rattle.am_runs.proofs.UnballotedWords.{◌≡◌, ◌≢◌, ◌⊎◌, ⊎_elim, inl, inr, ℕ, ◌≤◌, ◌==◌, true, false, if◌then◌else◌, List, [], ◌∷◌, ◌++◌, length, refl, sym, ap}
+use Rattle.am_runs.proofs.UnballotedWords.{◌∙◌, subst, append-nil, arith, nat_tests, Outcome, NodeEvent, Packet, Letter, kind_of, Act, Record, letter_at, name_of}
+use Rattle.am_runs.proofs.UnballotedWords.{Node, has_log, World, heard_by, is_welcome, welcomed_in, split, Cause, calls, hears, refuses, Answers, HasBegun}
+use Rattle.am_runs.proofs.UnballotedWords.{IsCall, IsCause, WasSentTo, asking_log}
+use Rattle.am_base.specs.declared.outcome.Outcome.TheVariants as said
+use Rattle.am_packet.specs.declared.packet.Packet.TheVariants as packet
+use Rattle.am_laws.specs.Events as event
+use Rattle.am_runs.proofs.{Lists.item_more, Lists.item_within, Worlds.begins_at, Worlds.RecordOk, Records.welcome_in, Records.idle_welcome, Chains.Gave}
+use Rattle.am_runs.proofs.{Chains.nothing, Chains.took, Chains.began}
+
+-- a call hears nothing
+call_unheard : (w : World) (a : Act) (ev : NodeEvent) → IsCall w a ev → heard_by a ≡ 0
+call_unheard w a ev (event.send body) = refl
+call_unheard w a ev _ = refl
+
+-- ---- the record of a step
+
+record_answer : (m : Node) (n : Node) (o : Outcome) → welcomed_in o ≢ [] → Answers m refuses n o → ⊥
+record_answer m n (said.Welcomed join) some h = h
+record_answer m n _ some h = absurd (some refl)
+
+pub record_step : (w : World) (i : ℕ) (m n : Node) (c : Cause) (r : Record) (many : ℕ) → IsCause w i r.event.act c → length w.letters ≤ many
+    → Answers m c n r.outcome → RecordOk many r
+record_step w i m n (calls ev) r many cause up answer some = let z = call_unheard w r.event.act ev cause in omega arith
+record_step w i m n (hears p) r many cause up answer some = let z = (item_within w.letters (heard_by r.event.act) cause.letter cause.there).1 in omega arith
+record_step w i m n refuses r many cause up answer some = absurd (record_answer m n r.outcome some answer)
+
+-- ---- what it tells
+
+silent : (letters : List Letter) (i : ℕ) (r : Record) → is_welcome (letter_at letters (heard_by r.event.act)) ≡ false → welcome_in letters i r ≡ []
+silent letters i r f = split (name_of r == i) (λ t. rw (t, f) refl) (λ g. rw g refl)
+
+letter_now : (w : World) (i : ℕ) (a : Act) (p : Packet) (more : List Letter) → WasSentTo w i a p
+    → is_welcome (letter_at (w.letters ++ more) (heard_by a)) ≡ (kind_of p == 10)
+letter_now w i a p more h =
+    let there = item_more w.letters more (heard_by a) h.letter h.there in
+    ap is_welcome there ∙ ap (λ x. kind_of x == 10) h.is
+
+-- a Welcome that is answered so begins a list
+begun_log : (m n : Node) (p : Packet) (o : Outcome) → has_log n.status ≡ has_log m.status → (kind_of p == 10) ≡ true → Answers m (hears p) n o
+    → welcomed_in o ≡ []
+begun_log m n p o log kind answer = by_packet p o kind answer
+  where
+    begins : (join : ℕ) → HasBegun m n join → welcomed_in (said.Welcomed join) ≡ []
+    begins join h = let a = asking_log m.status h.asked in let b = ap has_log h.member in absurd (cc)
+
+    by_packet : (p : Packet) (o : Outcome) → (kind_of p == 10) ≡ true → Answers m (hears p) n o → welcomed_in o ≡ []
+    by_packet (packet.Welcome s v base join image) (said.Welcomed number) k h = begins number h
+    by_packet (packet.JoinAsk s v) (said.Welcomed number) k h = absurd (cc)
+    by_packet (packet.Request s v report req body) (said.Welcomed number) k h = absurd h
+    by_packet (packet.Spread s v report req body) (said.Welcomed number) k h = absurd h
+    by_packet (packet.Bcast s v base a number_ e) (said.Welcomed number) k h = absurd h
+    by_packet (packet.Order s v base a number_ from req) (said.Welcomed number) k h = absurd h
+    by_packet (packet.Accept s v base a high poll) (said.Welcomed number) k h = absurd h
+    by_packet (packet.Ack s v report) (said.Welcomed number) k h = absurd h
+    by_packet (packet.Nack s v report) (said.Welcomed number) k h = absurd h
+    by_packet (packet.Hold s v base high req) (said.Welcomed number) k h = absurd h
+    by_packet (packet.LeaveAsk s v report) (said.Welcomed number) k h = absurd h
+    by_packet (packet.Gone s v number_) (said.Welcomed number) k h = absurd h
+    by_packet (packet.Invite s v) (said.Welcomed number) k h = absurd h
+    by_packet (packet.Vote s v shown) (said.Welcomed number) k h = absurd h
+    by_packet (packet.Fetch s v stored) (said.Welcomed number) k h = absurd h
+    by_packet (packet.Piece s v base number_ e) (said.Welcomed number) k h = absurd h
+    by_packet (packet.Result s v base number_ names resilience) (said.Welcomed number) k h = absurd h
+    by_packet (packet.HandOver s v) (said.Welcomed number) k h = absurd h
+    by_packet p _ k h = refl
+
+-- where nothing begins, nothing is told
+none_told : (w : World) (i : ℕ) (m n : Node) (c : Cause) (r : Record) (more : List Letter) → IsCause w i r.event.act c → Answers m c n r.outcome
+    → has_log n.status ≡ has_log m.status → welcome_in (w.letters ++ more) i r ≡ []
+none_told w i m n (calls ev) r more cause answer log =
+    let z = call_unheard w r.event.act ev cause in
+    silent (w.letters ++ more) i r (ap (λ k. is_welcome (letter_at (w.letters ++ more) k)) z)
+none_told w i m n (hears p) r more cause answer log = split (kind_of p == 10)
+    (λ t. idle_welcome (w.letters ++ more) i r (begun_log m n p r.outcome log t answer))
+    (λ f. silent (w.letters ++ more) i r (letter_now w i r.event.act p more cause ∙ f))
+none_told w i m n refuses r more cause answer log = ⊎_elim
+    (λ (x : welcomed_in r.outcome ≡ []). idle_welcome (w.letters ++ more) i r x)
+    (λ (x : welcomed_in r.outcome ≢ []). absurd (record_answer m n r.outcome x answer))
+    (or_none r.outcome)
+  where
+    or_none : (o : Outcome) → (welcomed_in o ≡ []) ⊎ (welcomed_in o ≢ [])
+    or_none (said.Welcomed number) = inr (λ e. absurd (cc))
+    or_none _ = inl refl
+
+pub welcomed_step : (w : World) (i : ℕ) (m n : Node) (c : Cause) (r : Record) (more : List Letter) → name_of r ≡ i → IsCause w i r.event.act c
+    → Answers m c n r.outcome → Gave c r.outcome m n → begins_at m ++ welcome_in (w.letters ++ more) i r ≡ begins_at n
+welcomed_step w i m n c r more by cause answer (nothing f start log) =
+    ap (λ l. begins_at m ++ l) (none_told w i m n c r more cause answer log) ∙ append-nil (begins_at m) ∙ sym (λ j. if log j then start j ∷ [] else [])
+welcomed_step w i m n c r more by cause answer (took k e is a b start low ln lm) =
+    ap (λ l. begins_at m ++ l) (idle_welcome (w.letters ++ more) i r (ap welcomed_in is)) ∙ append-nil (begins_at m)
+    ∙ sym (λ j. if (ln ∙ sym lm) j then start j ∷ [] else [])
+welcomed_step w i m n c r more by cause answer (began s v base join image heard is lm ln start f up) =
+    let sent : WasSentTo w i r.event.act (packet.Welcome s v base join image) = subst (IsCause w i r.event.act) heard cause in
+    let there : is_welcome (letter_at (w.letters ++ more) (heard_by r.event.act)) ≡ true =
+    letter_now w i r.event.act (packet.Welcome s v base join image) more sent in
+    let own : (name_of r == i) ≡ true = grind (arith, nat_tests) in
+    let told : welcome_in (w.letters ++ more) i r ≡ join ∷ [] = rw (own, there) (ap welcomed_in is) in
+    let before : begins_at m ≡ [] = rw lm refl in
+    let now : begins_at n ≡ n.core.start ∷ [] = rw ln refl in
+    (λ j. before j ++ told j) ∙ ap (λ x. x ∷ []) (sym start) ∙ sym now

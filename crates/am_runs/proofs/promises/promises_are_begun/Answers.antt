@@ -1,0 +1,5 @@
+use Rattle.am_runs.proofs.PromisesRuns.{promises_are_begun}
+use Rattle.am_runs.proofs.promises.promises_are_begun.Goals as goal
+
+pub returns : goal.returns
+returns c = promises_are_begun

@@ -1,0 +1,4 @@
+pub mod SentDataClaim
+pub mod Lists
+pub mod PromisesClaim
+pub mod Ballots

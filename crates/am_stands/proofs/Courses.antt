@@ -1,0 +1,135 @@
+-- The plain changes of a step: what each does to who acts, and to a sequencer that took a report.
+use Rattle.am_stands.proofs.StepsMoveWords.{numbers_plain, ◌≡◌, ℕ, ◌≤◌, ◌==◌, ◌||◌, not, nat_lt, Bool, true, false, List, length, refl, sym, ap, ◌∙◌, subst, Report}
+use Rattle.am_stands.proofs.StepsMoveWords.{Stamp, Entry, Outcome, kind_of, Status, Node, Ballot, top, is_member, is_asking, is_sequencer, has_departed, World}
+use Rattle.am_stands.proofs.StepsMoveWords.{group_after, and_both, Cause, hears, by_request, BringsReport, with_send, BringsFronts, by_entry, with_number, alone}
+use Rattle.am_stands.proofs.StepsMoveWords.{MayLook, was_reset, was_handed, was_fetched, Balloting, with_more, without_one, as_it_is, BeginsBy, by_reset, by_hand_over}
+use Rattle.am_stands.proofs.StepsMoveWords.{Promises, invited, overtaken, told_result, Carries, whole_entry, by_number, Change, refreshes, settles, takes_report}
+use Rattle.am_stands.proofs.StepsMoveWords.{admits, numbers, keeps_body, notes, stores, begins_list, departs, promises, opens, looks, fetches, stores_view, queues}
+use Rattle.am_stands.proofs.StepsMoveWords.{collects, takes, asks_to_join, asks_to_leave, closes, IsPlain, settle_is, leads_pushed, after_change}
+use Rattle.am_model.specs.declared.status.Status.TheVariants as status
+use Rattle.am_stands.specs.Keeping as plainly
+use Rattle.am_stands.proofs.{Grown.pushed_group, Statuses.asking_stays}
+
+-- ---- what brings a report
+
+abbrev pub brings_report : Cause → Bool
+brings_report (hears p) = nat_lt (kind_of p) 3 || ((kind_of p == 6) || ((kind_of p == 7) || (kind_of p == 11)))
+brings_report _ = false
+
+-- a Welcome
+abbrev pub was_welcomed : Cause → Bool
+was_welcomed (hears p) = kind_of p == 10
+was_welcomed _ = false
+
+pub brings_true : {c : Cause} (s : ℕ) (v : Stamp) (report : Report) → BringsReport c s v report → brings_report c ≡ true
+brings_true s v report (with_send from u told req body (by_request a b d e f)) = refl
+brings_true s v report _ = refl
+
+fronts_bring : {c : Cause} (s : ℕ) (v : Stamp) (base acc : ℕ) → BringsFronts c s v base acc → brings_report c ≡ false
+fronts_bring s v base acc (by_entry a b d e f g) = refl
+fronts_bring s v base acc (with_number a b d e f g i) = refl
+fronts_bring s v base acc (alone a b d e f g) = refl
+
+carried_brings : {c : Cause} {m : Node} (s : ℕ) (v : Stamp) (base acc number : ℕ) (e : Entry) → Carries c m s v base acc number e → brings_report c ≡ false
+carried_brings s v base acc number e (whole_entry x is) = ap brings_report is
+carried_brings s v base acc number e (by_number from req body is found) = ap brings_report is
+
+-- a cause that brings no report, and is no Welcome
+pub record BringsNothing (c : Cause) : Type 0 where
+  pub brings : brings_report c ≡ false
+  pub welcomes : was_welcomed c ≡ false
+
+pub promise_brings : {c : Cause} {m : Node} (v : Stamp) → Promises c m v → BringsNothing c
+promise_brings v (invited s u is heard own) = record { brings = ap brings_report is; welcomes = ap was_welcomed is }
+promise_brings v (overtaken s u shown is heard above) = record { brings = ap brings_report is; welcomes = ap was_welcomed is }
+promise_brings v (told_result s u base number names resilience is heard own other) = record { brings = ap brings_report is; welcomes = ap was_welcomed is }
+
+pub begin_brings : {c : Cause} {m : Node} → BeginsBy m c → BringsNothing c
+begin_brings (by_reset least resilience) = record { brings = refl; welcomes = refl }
+begin_brings (by_hand_over s v heard) = record { brings = refl; welcomes = refl }
+
+may_look_brings : {c : Cause} {m : Node} → MayLook c m → BringsNothing c
+may_look_brings (was_reset least resilience is) = record { brings = ap brings_report is; welcomes = ap was_welcomed is }
+may_look_brings (was_handed s v is) = record { brings = ap brings_report is; welcomes = ap was_welcomed is }
+may_look_brings (was_fetched s v base number e is same) = record { brings = ap brings_report is; welcomes = ap was_welcomed is }
+
+pub look_brings : {c : Cause} {m : Node} (b : Ballot) → Balloting c m b → BringsNothing c
+look_brings b (with_more old s v vote is heard low high open_ same stays) = record { brings = ap brings_report is; welcomes = ap was_welcomed is }
+look_brings b (without_one old name is open_ other) = record { brings = ap brings_report is; welcomes = ap was_welcomed is }
+look_brings b (as_it_is old open_ on) = may_look_brings on
+
+pub both_ways : (b : Bool) → b ≡ true → b ≡ false → ⊥
+both_ways b t f = (let z = sym t ∙ f in cc)
+
+-- ---- each plain change
+
+-- it is plain, too, to what is known within a step
+pub plain_too : {c : Cause} {o : Outcome} {x y : Node} (z : Change c o x y) → IsPlain z → plainly.IsPlain z
+plain_too refreshes p = p
+plain_too (departs from v number is heard leaves) p = absurd p
+plain_too (looks b verdict over why look is) p = absurd p
+plain_too (closes leads leaves alone_ room) p = p
+plain_too _ p = tt
+
+-- and notes no view
+pub none_noted : {c : Cause} {o : Outcome} {x y : Node} (z : Change c o x y) → IsPlain z → (w : World) → after_change z w ≡ w
+none_noted (looks b verdict over why look is) p w = absurd p
+none_noted _ p w = refl
+
+-- nobody departs by it, and who is a member then was one before, or was welcomed
+pub record Stays (c : Cause) (x y : Node) : Type 0 where
+  pub there : has_departed x.status ≡ false → has_departed y.status ≡ false
+  pub gone : has_departed x.status ≡ true → y.status ≡ x.status
+  pub member : was_welcomed c ≡ false → is_member y.status ≡ true → is_member x.status ≡ true
+
+stays_same : {c : Cause} (x y : Node) → y.status ≡ x.status → Stays c x y
+stays_same x y is = record { there = λ f. ap has_departed is ∙ f; gone = λ t. is; member = λ f t. ap is_member (sym is) ∙ t }
+
+not_gone : (t : Status) → t ≡ status.Stranger → has_departed t ≡ true → ⊥
+not_gone t is gone = (let z = sym gone ∙ ap has_departed is in cc)
+
+pub stays : {c : Cause} {o : Outcome} (x y : Node) (z : Change c o x y) → IsPlain z → Stays c x y
+stays x y refreshes p = absurd p
+stays x y settles p = stays_same x y (ap (λ (n : Node). n.status) (settle_is x))
+stays x y (begins_list from v base join image is says_ may) p = record {
+  there = λ f. refl;
+  gone = λ t. absurd (asking_stays x.status (and_both (not (from == x.core.who)) (is_member x.status || is_asking x.status) may.asks).1 t);
+  member = λ f t. absurd (both_ways _ (ap was_welcomed is) f);
+}
+stays x y (departs from v number is heard leaves) p = absurd p
+stays x y (looks b verdict over why look is) p = absurd p
+stays x y (asks_to_join is was) p = record { there = λ f. refl; gone = λ t. absurd (not_gone x.status was t); member = λ f t. absurd (cc) }
+stays x y (closes leads leaves alone_ room) p = absurd p
+stays x y _ p = stays_same x y refl
+
+-- ---- a sequencer that took a report
+
+-- it still leads, and has accepted the same
+pub record Leads (group : List Entry) (x y : Node) : Type 0 where
+  pub leads : is_sequencer y ≡ true
+  pub start : y.core.log.start ≤ length group
+  pub same : group_after group y ≡ group_after group x
+
+-- ⊥ where the cause brings no report
+pub leads_on : {c : Cause} {o : Outcome} (group : List Entry) (x y : Node) (z : Change c o x y) → IsPlain z → brings_report c ≡ true → is_sequencer x ≡ true
+    → x.core.log.start ≤ length group → x.core.acc ≤ top x → Leads group x y
+leads_on group x y settles p t l low high = subst (Leads group x) (sym (settle_is x)) (record { leads = l; start = low; same = refl })
+leads_on group x y (takes_report from v report by may) p t l low high = record { leads = l; start = low; same = refl }
+leads_on group x y (admits from v is leads fit) p t l low high = absurd (both_ways _ t (ap brings_report is))
+leads_on group x y (numbers e leads room why) p t l low high = (let plain = numbers_plain _ x e why in
+    record { leads = leads_pushed x e plain ∙ l; start = low; same = pushed_group group x e l plain low high })
+leads_on group x y (keeps_body from v report req body is heard) p t l low high = record { leads = l; start = low; same = refl }
+leads_on group x y (notes from v base acc by heard) p t l low high = absurd (both_ways _ t (fronts_bring from v base acc by))
+leads_on group x y (stores from v base acc number e by heard plain may) p t l low high = absurd (both_ways _ t (carried_brings from v base acc number e by))
+leads_on group x y (begins_list from v base join image is says_ may) p t l low high = absurd (both_ways _ t (ap brings_report is))
+leads_on group x y (promises v below why) p t l low high = absurd (both_ways _ t (promise_brings v why).brings)
+leads_on group x y (opens least resilience by may) p t l low high = absurd (both_ways _ t (begin_brings by).brings)
+leads_on group x y (fetches from v base number e is heard promise below why may) p t l low high = absurd (both_ways _ t (ap brings_report is))
+leads_on group x y (stores_view from v base number names resilience is heard own other promise below may) p t l low high =
+    absurd (both_ways _ t (ap brings_report is))
+leads_on group x y (queues body is says_ member stays_ few) p t l low high = absurd (both_ways _ t (ap brings_report is))
+leads_on group x y (collects req is) p t l low high = absurd (both_ways _ t (ap brings_report is))
+leads_on group x y (takes e is says_ member some there) p t l low high = absurd (both_ways _ t (ap brings_report is))
+leads_on group x y (asks_to_join is was) p t l low high = absurd (both_ways _ t (ap brings_report is))
+leads_on group x y (asks_to_leave is was stays_ done) p t l low high = absurd (both_ways _ t (ap brings_report is))
+leads_on group x y _ p t l low high = absurd p

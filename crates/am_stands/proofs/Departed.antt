@@ -1,0 +1,153 @@
+-- A step of who had departed before it changes nothing that the group looks at.
+use Rattle.am_stands.proofs.StepsMoveWords.{◌≡◌, ℕ, ◌≤◌, ◌==◌, ◌||◌, not, max, true, false, refl, sym, ap, ◌∙◌, subst, arith, Stamp, Outcome, Status, Node, is_member}
+use Rattle.am_stands.proofs.StepsMoveWords.{is_asking, is_sequencer, has_log, has_departed, is_unfinished, hears_member, hears_asking, hears_in_view, hears_sequencer}
+use Rattle.am_stands.proofs.StepsMoveWords.{refresh, settle, refresh_at_end, split, and_both, Cause, Promises, invited, overtaken, told_result, Change, refreshes}
+use Rattle.am_stands.proofs.StepsMoveWords.{settles, takes_report, admits, numbers, keeps_body, notes, stores, begins_list, departs, promises, opens, looks, fetches}
+use Rattle.am_stands.proofs.StepsMoveWords.{stores_view, queues, collects, takes, asks_to_join, asks_to_leave, closes, IsPlain, Course, nothing_yet, used_report}
+use Rattle.am_stands.proofs.StepsMoveWords.{and_then, Deeds, plainly, looked, rests_at_end, with_sends, settle_is, leads_member, Unmoved, looked_open, advanced}
+use Rattle.am_model.specs.declared.status.Status.TheVariants as status
+
+-- it is the same to the group, and to the application
+pub record Rests (x y : Node) : Type 0 where
+  pub same : Unmoved x y
+  pub status : y.status ≡ x.status
+  pub ballot : y.ballot ≡ x.ballot
+  pub told : y.core.told ≡ x.core.told
+  pub acc : y.core.acc ≡ x.core.acc
+
+pub rests_itself : (x : Node) → Rests x x
+rests_itself x = record {
+  same = record { log = refl; log_ = refl; departed = refl; leaving = refl; promise = refl; ballot = refl; start = refl };
+  status = refl;
+  ballot = refl;
+  told = refl;
+  acc = refl;
+}
+
+rests_then : (x y z : Node) → Rests x y → Rests y z → Rests x z
+rests_then x y z a b = record {
+  same = record {
+    log = b.same.log ∙ a.same.log;
+    log_ = b.same.log_ ∙ a.same.log_;
+    departed = b.same.departed ∙ a.same.departed;
+    leaving = b.same.leaving ∙ a.same.leaving;
+    promise = b.same.promise ∙ a.same.promise;
+    ballot = b.same.ballot ∙ a.same.ballot;
+    start = b.same.start ∙ a.same.start;
+  };
+  status = b.status ∙ a.status;
+  ballot = b.ballot ∙ a.ballot;
+  told = b.told ∙ a.told;
+  acc = b.acc ∙ a.acc;
+}
+
+-- ---- what it can't be
+
+module _ (x : Node) (gone : x.status ≡ status.Departed) where
+  no_member : is_member x.status ≡ true → ⊥
+  no_member t = (let z = sym t ∙ ap is_member gone in cc)
+
+  no_leader : is_sequencer x ≡ true → ⊥
+  no_leader t = no_member (leads_member x t)
+
+  no_hearer : (s : ℕ) → hears_member x s ≡ true → ⊥
+  no_hearer s t = no_member (and_both (not (s == x.core.who)) (is_member x.status) t).1
+
+  no_asker : (s : ℕ) → hears_asking x s ≡ true → ⊥
+  no_asker s t = none (and_both (not (s == x.core.who)) (is_member x.status || is_asking x.status) t).1
+    where
+      none : (is_member x.status || is_asking x.status) ≡ true → ⊥
+      none u = (let z = sym u ∙ ap (λ (q : Status). is_member q || is_asking q) gone in cc)
+
+  no_viewer : (s : ℕ) (v : Stamp) → hears_in_view x s v ≡ true → ⊥
+  no_viewer s v t = no_hearer s (and_both (hears_member x s) _ t).0
+
+  no_follower : (s : ℕ) (v : Stamp) → hears_sequencer x s v ≡ true → ⊥
+  no_follower s v t = no_viewer s v (and_both (hears_in_view x s v) (v.by == s) t).0
+
+  no_promise : (c : Cause) (v : Stamp) → Promises c x v → ⊥
+  no_promise c v (invited s _ is heard own) = no_asker s heard
+  no_promise c v (overtaken s _ shown is heard above) = no_hearer s heard
+  no_promise c v (told_result s _ base number names resilience is heard own other) = no_hearer s heard
+
+  other_status : (t : Status) → x.status ≡ t → has_departed t ≡ false → ⊥
+  other_status t is f = (let z = sym (ap has_departed (sym is ∙ gone)) ∙ f in cc)
+
+  pub rests_change : {c : Cause} {o : Outcome} (y : Node) (z : Change c o x y) → IsPlain z → Rests x y
+  rests_change y refreshes p = absurd p
+  rests_change y settles p = subst (Rests x) (sym (settle_is x)) (record { same = settled; status = refl; ballot = refl; told = refl; acc = refl })
+    where
+      settled : Unmoved x (with_sends x (settle x))
+      settled = record { log = refl; log_ = refl; departed = refl; leaving = refl; promise = refl; ballot = refl; start = refl }
+  rests_change y (takes_report s v report by may) p = absurd (no_leader may.leads)
+  rests_change y (admits s v is leads fit) p = absurd (no_leader leads)
+  rests_change y (numbers e leads room why) p = absurd (no_leader leads)
+  rests_change y (keeps_body s v report req body is heard) p = absurd (no_viewer s v heard)
+  rests_change y (notes s v base acc by heard) p = absurd (no_follower s v heard)
+  rests_change y (stores s v base acc number e by heard plain may) p = absurd (no_follower s v heard)
+  rests_change y (begins_list s v base join image is says may) p = absurd (no_asker s may.asks)
+  rests_change y (departs s v number is heard leaves) p = absurd p
+  rests_change y (promises v low why) p = absurd (no_promise _ v why)
+  rests_change y (opens least resilience by may) p = absurd (no_member may.member)
+  rests_change y (looks b verdict over why look is) p = absurd p
+  rests_change y (fetches s v base number e is heard promise below why may) p = absurd (no_hearer s heard)
+  rests_change y (stores_view s v base number names resilience is heard own other promise below may) p = absurd (no_hearer s heard)
+  rests_change y (queues body is says member stays few) p = absurd (no_member member)
+  rests_change y (collects req is) p = record {
+    same = record { log = refl; log_ = refl; departed = refl; leaving = refl; promise = refl; ballot = refl; start = refl };
+    status = refl;
+    ballot = refl;
+    told = refl;
+    acc = refl;
+  }
+  rests_change y (takes e is says member some there) p = absurd (no_member member)
+  rests_change y (asks_to_join is was) p = absurd (other_status status.Stranger was refl)
+  rests_change y (asks_to_leave is was stays done) p = absurd (other_status status.Member was refl)
+  rests_change y (closes leads leaves alone room) p = absurd p
+
+-- ---- a step
+
+pub rests_course : {c : Cause} {o : Outcome} (m x : Node) → m.status ≡ status.Departed → Course c o m x → Rests m x
+rests_course m x gone nothing_yet = rests_itself m
+rests_course m x gone (used_report s v report by may) = absurd (no_leader m gone may.leads)
+rests_course m x gone (and_then {n = n} before z plain) =
+    let h = rests_course m n gone before in
+    rests_then m n x h (rests_change n (h.status ∙ gone) x z plain)
+
+rests_deeds : {c : Cause} {o : Outcome} (m x : Node) → m.status ≡ status.Departed → is_unfinished m.ballot ≡ false → Deeds c o m x → Rests m x
+rests_deeds m x gone closed (plainly course) = rests_course m x gone course
+rests_deeds {c = c} m x gone closed (looked {n = n} b verdict course over why look is) = absurd (
+    let h = rests_course m n gone course in
+    let open_ = looked_open c n b why in
+    let z = sym open_ ∙ ap is_unfinished h.ballot ∙ closed in cc)
+
+-- with the refresh at its end
+pub record Ended (m n : Node) : Type 0 where
+  pub same : Unmoved m n
+  pub status : n.status ≡ m.status
+  pub ballot : n.ballot ≡ m.ballot
+  pub low : n.core.acc ≤ max m.core.acc m.core.told
+
+pub rests_step : {c : Cause} {o : Outcome} (m x : Node) → m.status ≡ status.Departed → is_unfinished m.ballot ≡ false → Deeds c o m x
+    → Ended m (refresh_at_end x)
+unfolding refresh_at_end
+rests_step m x gone closed deeds =
+    let r = rests_at_end x in
+    let h = rests_deeds m x gone closed deeds in
+    let follows : is_sequencer x ≡ false = split (is_sequencer x) (λ t. absurd (no_leader x (h.status ∙ gone) t)) (λ f. f) in
+    let acc_ = (advanced x follows).1 in
+    let settled : (refresh_at_end x).core.acc ≡ (refresh x).core.acc = ap (λ (n : Node). n.core.acc) (settle_is (refresh x)) in
+    record {
+      same = record {
+        log = r.log ∙ h.same.log;
+        log_ = ap has_log r.rests.status ∙ h.same.log_;
+        departed = ap has_departed r.rests.status ∙ h.same.departed;
+        leaving = r.rests.leaving ∙ h.same.leaving;
+        promise = r.rests.promise ∙ h.same.promise;
+        ballot = ap is_unfinished r.rests.ballot ∙ h.same.ballot;
+        start = r.begins ∙ h.same.start;
+      };
+      status = r.rests.status ∙ h.status;
+      ballot = r.rests.ballot ∙ h.ballot;
+      low = omega arith;
+    }

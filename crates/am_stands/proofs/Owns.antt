@@ -1,0 +1,132 @@
+-- Where a node's last ballot was decided and its promise is its own, it is that of the ballot, in every run.
+use Rattle.am_stands.proofs.StepsMoveWords.{Each, each_node_keeps, first_has, none_of_asking, ◌≡◌, inr, ⊎_elim, ℕ, ◌<◌, ◌==◌, ◌&&◌, ◌||◌, not, true, false, List}
+use Rattle.am_stands.proofs.StepsMoveWords.{Option, Some, None, sym, ap, ◌∙◌, subst, arith, nat_tests, Stamp, Outcome, Rules, MayFound, stamp_lt, no_stamp, Event, Node}
+use Rattle.am_stands.proofs.StepsMoveWords.{Ballot, is_member, is_asking, Verdict, overtake, World, start, run, split, and_both, Cause, Looks, finds_itself_out, waits}
+use Rattle.am_stands.proofs.StepsMoveWords.{fetches_from_best, finds_too_few, finds_no_room, decides, Promises, invited, overtaken_by, told_result, Change, refreshes}
+use Rattle.am_stands.proofs.StepsMoveWords.{settles, begins_list, promises, opens, looks, closes, actor, rests_refresh, rests_closed, settle_is, along, EachKeeps}
+use Rattle.am_stands.proofs.StepsMoveWords.{runs_keep, equal_stamps, HasNames, HeardNames, change_names, promised_named, Balloted, change_does, looked_at, AllViews}
+use Rattle.am_stands.proofs.StepsMoveWords.{each_views, heard_names, views_start, AtMost, IsBegun, most_same, most_through, CauseBegun, Promised, promise_change}
+use Rattle.am_stands.proofs.StepsMoveWords.{AllBegun, cause_begun, each_keeps, start_begun, OwnDecided}
+use Rattle.am_base.specs.declared.outcome.Outcome.TheVariants as said
+
+-- ---- by the parts of a node
+
+abbrev Owning : ℕ → Stamp → Option Ballot → Type 0
+Owning who promise ballot = (b : Ballot) (number : ℕ) (names : List ℕ) → ballot ≡ Some b → b.answer ≡ said.Decided number names → promise.by ≡ who
+    → promise ≡ b.stamp
+
+same_owning : (x y : Node) → y.core.who ≡ x.core.who → y.core.promise ≡ x.core.promise → y.ballot ≡ x.ballot → OwnDecided x → OwnDecided y
+same_owning x y who promise ballot h = subst (λ k. Owning k y.core.promise y.ballot) (sym who)
+    (subst (λ (v : Stamp). Owning x.core.who v y.ballot) (sym promise) (subst (Owning x.core.who x.core.promise) (sym ballot) h))
+
+-- a ballot that was decided isn't overtaken
+still_decided : (v : Stamp) (ballot : Option Ballot) (b : Ballot) (number : ℕ) (names : List ℕ) → overtake v ballot ≡ Some b
+    → b.answer ≡ said.Decided number names → ballot ≡ Some b
+still_decided v None b number names is answer = is
+still_decided v (Some a) b number names is answer = split (not a.is_over && stamp_lt a.stamp v)
+    (λ t. absurd (let z = rw t at is in
+    let same : record a { answer = said.Overtaken v; is_over = true } ≡ b = cc in
+    let said_ : said.Overtaken v ≡ said.Decided number names = ap (λ (x : Ballot). x.answer) same ∙ answer in cc))
+    (λ f. rw f at is)
+
+none_least : (p : Stamp) → AtMost no_stamp p
+none_least p = grind (arith, nat_tests)
+
+-- ---- a change
+
+-- what is known along a step
+record Knows (nodes : ℕ → Node) (i : ℕ) (x : Node) : Type 0 where
+  named : HasNames x
+  balloted : Balloted x
+  promised : Promised nodes i x
+  owns : OwnDecided x
+
+promise_owns : (nodes : ℕ → Node) (i : ℕ) (c : Cause) (x : Node) (v : Stamp) → HeardNames c → CauseBegun nodes c → Promises c x v
+    → stamp_lt v x.core.promise ≡ false → IsBegun nodes v → Knows nodes i x → Owning x.core.who v (overtake v x.ballot)
+promise_owns nodes i c x v names begun why low is h b number all at answer mine =
+    let old = still_decided v x.ballot b number all at answer in
+    let who = h.promised.who in
+    let small : v.by < 256 = promised_named c x v why names in
+    let most : AtMost v x.core.promise = ⊎_elim
+    (λ (z : v ≡ no_stamp). subst (λ (u : Stamp). AtMost u x.core.promise) (sym z) (none_least x.core.promise))
+    (λ (z : AtMost v (nodes v.by).core.promise). most_through v (nodes i).core.promise x.core.promise
+    (subst (λ k. AtMost v (nodes k).core.promise) (mine ∙ who) z) h.promised.up)
+    is in
+    let same : v ≡ x.core.promise = equal_stamps v x.core.promise small h.named.promise_ low most in
+    same ∙ h.owns b number all old answer (ap (λ (u : Stamp). u.by) (sym same) ∙ mine)
+
+abbrev answer_in : Option Ballot → Outcome
+answer_in None = said.Asked
+answer_in (Some a) = a.answer
+
+abbrev stamp_in : Option Ballot → Stamp
+stamp_in None = no_stamp
+stamp_in (Some a) = a.stamp
+
+look_owns : (x : Node) (b : Ballot) (v : Verdict) → Looks x b v → x.core.promise ≡ b.stamp → OwnDecided v.node
+look_owns x b v (finds_itself_out y) promise = λ a number names is answer mine. absurd (let z = ap answer_in is ∙ answer in cc)
+look_owns x b v (waits y z) promise = λ a number names is answer mine. absurd (let u = ap answer_in is ∙ answer in cc)
+look_owns x b v (fetches_from_best y z u) promise = λ a number names is answer mine. absurd (let t = ap answer_in is ∙ answer in cc)
+look_owns x b v (finds_too_few y z) promise = λ a number names is answer mine. absurd (let u = ap answer_in is ∙ answer in cc)
+look_owns x b v (finds_no_room y) promise = λ a number names is answer mine. absurd (let z = ap answer_in is ∙ answer in cc)
+look_owns x b v (decides may) promise = λ a number names is answer mine. promise ∙ ap stamp_in is
+
+change_owns : (nodes : ℕ → Node) (i : ℕ) (c : Cause) (o : Outcome) (x y : Node) → HeardNames c → CauseBegun nodes c → Change c o x y → Knows nodes i x
+    → OwnDecided y
+change_owns nodes i c o x y names begun refreshes h = let r = (rests_refresh x).rests in same_owning x y r.who r.promise r.ballot h.owns
+change_owns nodes i c o x y names begun settles h = same_owning x y (ap (λ (n : Node). n.core.who) (settle_is x))
+    (ap (λ (n : Node). n.core.promise) (settle_is x))
+    (ap (λ (n : Node). n.ballot) (settle_is x)) h.owns
+change_owns nodes i c o x y names begun (begins_list s v base join image is says may) h = λ b number all at answer mine. absurd (
+    let asks = and_both (not (s == x.core.who)) (is_member x.status || is_asking x.status) may.asks in
+    let none = h.balloted.none (none_of_asking x.status may.no_member asks.1) in
+    let z = sym none ∙ at in
+    cc)
+change_owns nodes i c o x y names begun (promises v low why) h = promise_owns nodes i c x v names begun why low (raised why) h
+  where
+    raised : {v : Stamp} → Promises c x v → IsBegun nodes v
+    raised (invited s w is heard own) = subst (CauseBegun nodes) is begun
+    raised (overtaken_by s w shown is heard above) = subst (CauseBegun nodes) is begun
+    raised (told_result s w base number names_ resilience is heard own other) = subst (CauseBegun nodes) is begun
+change_owns nodes i c o x y names begun (opens least resilience by may) h = λ b number all at answer mine. absurd (let z = ap answer_in at ∙ answer in cc)
+change_owns nodes i c o x y names begun (looks b verdict over why look is) h = look_owns x b verdict look (looked_at x b why h.balloted).open_.promised
+change_owns nodes i c o x y names begun (closes leads leaves alone room) h = let r = rests_closed x in same_owning x y r.who r.promise r.ballot h.owns
+change_owns nodes i c o x y names begun _ h = h.owns
+
+change_knows : (nodes : ℕ → Node) (i : ℕ) (c : Cause) (o : Outcome) → HeardNames c → CauseBegun nodes c → (x y : Node) → Change c o x y → Knows nodes i x
+    → Knows nodes i y
+change_knows nodes i c o names begun x y z h = record {
+  named = change_names names x y z h.named;
+  balloted = (change_does names x y z h.named h.balloted).balloted;
+  promised = promise_change nodes i c o x y begun z h.promised;
+  owns = change_owns nodes i c o x y names begun z h;
+}
+
+-- ---- runs
+
+abbrev pub AllOwns : Rules → World → Type 0
+AllOwns rules = Each (λ w. AllViews rules w × AllBegun w) (λ i n. i < 256 → OwnDecided n)
+
+pub owns_next : (rules : Rules) → EachKeeps (AllOwns rules)
+owns_next rules = each_node_keeps (λ w. AllViews rules w × AllBegun w) _
+    (λ w e v happens h. (each_views rules w e v happens h.0, each_keeps w e v happens h.1))
+    (λ w e c s cause effect base owns few.
+    let i = actor w e in
+    let k = base.0.each i few in
+    (along (Knows w.nodes i)
+    (change_knows w.nodes i c s.outcome (heard_names rules w e c base.0 cause) (cause_begun w i e.act c base.1.letters cause))
+    effect.changes (record {
+      named = k.names;
+      balloted = k.balloted;
+      promised = record { who = base.1.who i; up = most_same (w.nodes i).core.promise; begun = inr (base.1.each i) };
+      owns = owns few;
+    })).owns)
+
+owns_start : (rules : Rules) → MayFound rules → AllOwns rules (start rules)
+owns_start rules may = record {
+  base = (views_start rules may, start_begun rules may);
+  each = λ i low. first_has rules OwnDecided i (λ b number all at answer mine. absurd (cc)) (λ b number all at answer mine. absurd (cc));
+}
+
+pub run_owns : (rules : Rules) (events : List Event) → MayFound rules → AllOwns rules (run rules events)
+run_owns rules events may = runs_keep (AllOwns rules) (owns_next rules) (start rules) events (owns_start rules may)

@@ -1,0 +1,161 @@
+-- What is known where a step begins: what the run keeps, with the step's record.
+use Rattle.am_stands.proofs.StepsMoveWords.{◌≡◌, ⊎_elim, ℕ, zero, suc, ◌<◌, ◌≤◌, ◌==◌, true, false, List, Some, slice_get, slice_index, get_or-set_same, refl, sym, ap}
+use Rattle.am_stands.proofs.StepsMoveWords.{◌∙◌, subst, arith, All, nat_tests, Stamp, NodeEvent, GiveUp, Rules, MayFound, place_of, life_of, nobody, with_name, has}
+use Rattle.am_stands.proofs.StepsMoveWords.{no_stamp, Packet, Letter, goes_to_any, Act, Event, Record, item_at, key, begins_refl, Group, Node, set_at, has_departed}
+use Rattle.am_stands.proofs.StepsMoveWords.{Step, World, start, is_stopped, run, heard_by, split, Cause, calls, hears, Effect, actor, WasSentTo, IsCall, IsCause}
+use Rattle.am_stands.proofs.StepsMoveWords.{all_get, all_item, runs_keep, stamp_of, few_names, numbers_hold, IsNoted, heard_names, AllOwned, run_owned, each_along}
+use Rattle.am_stands.proofs.StepsMoveWords.{heard_used, kept_more, AllSent, after_step, sent_start, AtMost, IsBegun, StampOk, NameStands, StandsBut, Stands, within}
+use Rattle.am_stands.proofs.StepsMoveWords.{PacketSays, LetterSays, WasBegun, HeardSo, Stepping, Following, letters_stay, name_in, views_in, grows_same, others_keep}
+use Rattle.am_stands.proofs.StepsMoveWords.{not_above_key}
+use Rattle.am_runs.proofs.SentDataRuns.{each_keeps}
+use Rattle.am_packet.specs.declared.packet.Packet.TheVariants as packet
+use Rattle.am_chain.specs.Group as groups
+use Rattle.am_laws.specs.Events as event
+use Rattle.am_stands.proofs.{Any.GoesSo, Any.run_goes, Once.step_once, Owns.AllOwns, Owns.run_owns, Stopped.few_stopped}
+
+-- ---- a world with other records
+
+abbrev pub recorded : World → List Record → World
+recorded w records = record w { records = records }
+
+name_recorded : (w : World) (records : List Record) (i : ℕ) (m : Node) (a : groups.Node) → NameStands w i m a → NameStands (recorded w records) i m a
+name_recorded w records i m a h = name_in w (recorded w records) i m a refl refl h
+
+set_is : (f : ℕ → Node) (i j : ℕ) → set_at f i (f i) j ≡ f j
+set_is f i j = split (j == i) (λ t. rw t (let same : i ≡ j = grind (arith, nat_tests) in ap f same)) (λ g. rw g refl)
+
+set_same : (f : ℕ → Node) (i : ℕ) → set_at f i (f i) ≡ f
+set_same f i = λ k j. set_is f i j k
+
+-- as it is where a name's step begins
+pub stands_but : (w : World) (records : List Record) (name : ℕ) (s : Group) → Stands w s → StandsBut name (within (recorded w records) name (w.nodes name)) s
+stands_but w records name s h = subst (λ f. StandsBut name (record (recorded w records) { nodes = f }) s) (sym (set_same w.nodes name)) (record {
+  each = λ i few. name_recorded w records i (w.nodes i) (s.node i) (h.each i few);
+  fronts = λ i few other d. h.fronts i few d;
+  views = views_in w (recorded w records) s.views refl (λ v. refl) h.views;
+  group = h.group;
+})
+
+-- ---- what is heard
+
+pub item_get : {A : Type 0} (xs : List A) (number : ℕ) (x : A) → item_at xs number ≡ Some x → (k : ℕ) × (slice_get xs k ≡ Some x)
+item_get xs zero x is = absurd (cc)
+item_get xs (suc k) x is = (k, is)
+
+none_key : (p : ℕ) → key no_stamp ≤ p
+unfolding key
+none_key p = omega arith
+
+-- a stamp that was begun by a node was begun by what stands for it
+pub begun_stands : (w : World) (s : Group) (v : Stamp) → Stands w s → ((i : ℕ) → i < 256 → (w.nodes i).core.promise.by < 256) → v.by < 256 → IsBegun w.nodes v
+    → WasBegun s v
+begun_stands w s v h named small is = record {
+  small = small;
+  begun = subst (λ (u : Stamp). key v ≤ key u) (sym (h.each v.by small).promise) (⊎_elim
+      (λ (z : v ≡ no_stamp). subst (λ (u : Stamp). key u ≤ key (w.nodes v.by).core.promise) (sym z) (none_key _))
+      (λ (z : AtMost v (w.nodes v.by).core.promise). not_above_key v (w.nodes v.by).core.promise small (named v.by small) z)
+      is);
+}
+
+-- only a joiner's asking goes to any life, and says nothing
+any_says : (w : World) (s : Group) (to : List ℕ) (p : Packet) → goes_to_any p ≡ true → PacketSays w s to p
+any_says w s to (packet.JoinAsk i v) t = tt
+any_says w s to _ t = absurd (cc)
+
+only_has : (name : ℕ) → has (with_name nobody name) name ≡ true
+only_has name =
+    let is : slice_index (with_name nobody name) (place_of name) ≡ life_of name = get_or-set_same nobody (place_of name) (life_of name) 0 (omega arith) in
+    grind (arith, nat_tests)
+
+was_sent : (w : World) (name : ℕ) (a : Act) (c : Cause) (p : Packet) → IsCause w name a c → c ≡ hears p → WasSentTo w name a p
+was_sent w name a c p cause is = subst (IsCause w name a) is cause
+
+heard_so : (w : World) (s : Group) (name : ℕ) (a : Act) (p : Packet) → ((k : ℕ) (letter : Letter) → slice_get w.letters k ≡ Some letter → LetterSays w s letter)
+    → All GoesSo w.letters → WasSentTo w name a p → HeardSo w s name p
+heard_so w s name a p says goes was =
+    let at = item_get w.letters (heard_by a) was.letter was.there in
+    let so = all_get GoesSo w.letters at.0 was.letter goes at.1 in
+    let told = subst (PacketSays w s was.letter.to) was.is (says at.0 was.letter at.1) in
+    split was.letter.any
+    (λ t. record {
+      to = with_name nobody name;
+      addressed = only_has name;
+      says = any_says w s (with_name nobody name) p (ap goes_to_any (sym was.is) ∙ sym so ∙ t);
+    })
+    (λ f. record { to = was.letter.to; addressed = rw f at was.addressed; says = told })
+
+given_stopped : (w : World) (a : Act) (ev : NodeEvent) (other : ℕ) → ev ≡ GiveUp other → IsCall w a ev → is_stopped w other ≡ true
+given_stopped w a ev other is (event.give_up name t) = (let same : name ≡ other = cc in subst (λ k. is_stopped w k ≡ true) same t)
+given_stopped w a ev other is _ = absurd (cc)
+
+-- ---- where a step begins
+
+pub run_sent : (rules : Rules) (events : List Event) → AllSent (run rules events)
+run_sent rules events = runs_keep AllSent each_keeps (start rules) events (sent_start rules)
+
+-- the world of a run, the name that an event is of, and its node
+pub record Acting : Type 0 where
+  pub w : World
+  pub name : ℕ
+  pub m : Node
+
+abbrev pub acting : Rules → List Event → Event → Acting
+acting rules events e = record {
+  w = run rules events;
+  name = actor (run rules events) e;
+  m = (run rules events).nodes (actor (run rules events) e);
+}
+
+module _ (rules : Rules) (events : List Event) (e : Event) (c : Cause) (step : Step) (s : Group) (may : MayFound rules)
+    (runs : is_stopped (run rules events) (actor (run rules events) e) ≡ false) (cause : IsCause (run rules events) (actor (run rules events) e) e.act c)
+    (effect : Effect ((run rules events).nodes (actor (run rules events) e)) c step) (h : Following rules (run rules events) s)
+    (here : has_departed ((run rules events).nodes (actor (run rules events) e)).status ≡ false) where
+  open acting rules events e use {w, name, m}
+
+  -- with the step's record
+  abbrev pub begun_world : World
+  begun_world = recorded (run rules events) (after_step (run rules events) e step)
+
+  owned : AllOwned rules w
+  owned = run_owned rules events may
+
+  owns : AllOwns rules w
+  owns = run_owns rules events may
+
+  few : name < 256
+  few = few_names rules w e owned.blanks.base.named
+
+  begun : (p : Packet) → c ≡ hears p → WasBegun s (stamp_of p)
+  begun p is =
+      let was = was_sent w name e.act c p cause is in
+      let ok = all_item (StampOk w.nodes) w.letters (heard_by e.act) was.letter owns.base.1.letters was.there in
+      let names = heard_names rules w e c owned.blanks.base cause in
+      begun_stands w s (stamp_of p) h.stands (λ i low. (owned.blanks.base.each i low).names.promise_) (names.stamps p is)
+      (subst (λ (q : Packet). IsBegun w.nodes (stamp_of q)) was.is ok.begun)
+
+  heard : (p : Packet) → c ≡ hears p → HeardSo begun_world s name p
+  heard p is =
+      let k = heard_so w s name e.act p h.letters (run_goes rules events) (was_sent w name e.act c p cause is) in
+      record { to = k.to; addressed = k.addressed; says = letters_stay w begun_world s s k.to p (_, refl) (grows_same s) k.says }
+
+  pub stepping_begins : Stepping rules begun_world name c m s
+  stepping_begins = record {
+    group = h.group;
+    stands = stands_but w (after_step w e step) name s h.stands;
+    by = record { few = few; names = heard_names rules w e c owned.blanks.base cause; used = heard_used rules w e c owned cause };
+    who = owned.blanks.base.named.who name;
+    runs = runs;
+    stopped = few_stopped rules events may;
+    noted = λ k d at. (all_get (IsNoted w.nodes) w.views k d owned.blanks.base.noted at).by;
+    along = each_along rules w name few owned;
+    sent = kept_more w.records _ name m ((run_sent rules events).all.each name);
+    once = step_once rules events e c step cause effect;
+    begun = begun;
+    heard = heard;
+    given = λ other is. (let call : IsCause w name e.act (calls (GiveUp other)) = subst (IsCause w name e.act) is cause in
+        given_stopped w e.act (GiveUp other) other refl call);
+    keeps = others_keep w begun_world s s name m (λ j t. t) (grows_same s) (h.stands.each name few)
+        (name_recorded w (after_step w e step) name m (s.node name) (h.stands.each name few))
+        (begins_refl w.group) (h.nodes name few here);
+    accepted = ((numbers_hold rules events).each name).acc;
+  }

@@ -1,0 +1,291 @@
+-- Each step of a name of a run is moves of the group that stands for it.
+use Rattle.am_stands.proofs.StepsMoveWords.{same_group, member_stays, stamp_itself, same_stamp, ◌≡◌, ⊎_elim, Option, None, ℕ, ◌<◌, ◌≤◌, ◌==◌, not, nat_lt, true, false}
+use Rattle.am_stands.proofs.StepsMoveWords.{List, [], Some, slice_get, refl, sym, ap, ◌∙◌, subst, arith, All, nat_tests, Stamp, NodeEvent, Outcome, Entry, Leave, Rules}
+use Rattle.am_stands.proofs.StepsMoveWords.{MayFound, Log, told_by, size, stamp_lt, stamp_eq, Letter, Event, Group, Departed, Node, Ballot, view, acts, is_member}
+use Rattle.am_stands.proofs.StepsMoveWords.{others, is_sequencer, push_entry, has_departed, is_unfinished, Step, hears_member, refresh, settle, refresh_at_end, Decided}
+use Rattle.am_stands.proofs.StepsMoveWords.{World, is_stopped, group_after, views_after, run, with_step, happens, split, and_both, Cause, calls, hears, departs, Course}
+use Rattle.am_stands.proofs.StepsMoveWords.{nothing_yet, used_report, and_then, Deeds, plainly, looked, Ending, ends_so, let_go, closing, Effect, actor, IsCause, steps}
+use Rattle.am_stands.proofs.StepsMoveWords.{all_get, rests_refresh, rests_at_end, few_names, numbers_hold, not_above_itself, run_owned, Balloted, OpenBallot}
+use Rattle.am_stands.proofs.StepsMoveWords.{leads_member, changes_do, IsNoted, CauseSent, after_step, cause_sent, NameStands, StandsBut, within, nothing, none}
+use Rattle.am_stands.proofs.StepsMoveWords.{OwnDecided, Sender, ListBegins, began_before, just_begun, Stepping, Following, Follows, StepsMove, then_moves}
+use Rattle.am_stands.proofs.StepsMoveWords.{departed_silent}
+use Rattle.am_packet.specs.declared.packet.Packet.TheVariants as packet
+use Rattle.am_laws.specs.Letters as letters
+use Rattle.am_stands.proofs.Starting.{acting, recorded, stands_but, run_sent, stepping_begins}
+use Rattle.am_stands.proofs.{Statuses.departed_is, Owns.owns_next, Owns.run_owns, Worlds.growing, Worlds.same_stands, Refreshed.Fronted, Courses.brings_report}
+use Rattle.am_stands.proofs.{Courses.was_welcomed, Courses.both_ways, Courses.stays, Fronts.looked_fronts, StepsMoveGoing.Grown, StepsMoveGoing.as_before, StepsMoveGoing.by_reports}
+use Rattle.am_stands.proofs.{StepsMoveGoing.change_on, StepsMoveGoing.going_on, Deeds.further, Deeds.Seen, Deeds.none_new, Deeds.one_new, Deeds.Done, Deeds.deeds_on, StepsMoveEnds.AtEnd}
+use Rattle.am_stands.proofs.{StepsMoveEnds.ended_on, StepsMoveEnds.views_end, Based.Based, Based.as_it_was, Based.was_bare, Based.step_based, Based.bare_follows, StepsMoveLetters.Told}
+use Rattle.am_stands.proofs.{StepsMoveLetters.none_told, StepsMoveLetters.letters_told, Landing.at_end, Landing.landed, Landing.ended_stands, Landing.ended_keeps}
+use Rattle.am_stands.proofs.{Landing.landed_told, StepsMoveSilent.departed_quiet, Senders.sender, Departed.rests_course, Departed.rests_step, StepsMoveClosing.closes_on}
+
+-- ---- by how a step ends
+
+by_ending : {c : Cause} {o : Outcome} {m : Node} (P : List Letter → Node → Type 0)
+    → ((letters : List Letter) (x : Node) → Deeds c o m x → P letters (refresh_at_end x))
+    → ((from : ℕ) (v : Stamp) (number : ℕ) → c ≡ hears (packet.Gone from v number) → hears_member m from ≡ true → m.leaving ≡ true
+    → P [] (refresh_at_end (record m { status = Departed })))
+    → ((x : Node) (event : NodeEvent) → c ≡ calls event → Course c o m x → is_sequencer x ≡ true → x.leaving ≡ true → nat_lt 0 (size (others x)) ≡ false
+    → view x ≡ view m → P [] (record (refresh_at_end (push_entry x (Leave x.core.who))) { status = Departed }))
+    → (letters : List Letter) (n : Node) → Ending c o m letters n → P letters n
+by_ending P f g h letters n (ends_so {x = x} deeds) = f letters x deeds
+by_ending P f g h letters n (let_go from v number is heard leaves) = g from v number is heard leaves
+by_ending P f g h letters n (closing {x = x} event is course leads leaves alone room viewed) = h x event is course leads leaves alone viewed
+
+-- ---- small facts
+
+-- plain changes leave who is there
+pub course_there : {c : Cause} {o : Outcome} (m x : Node) → Course c o m x → has_departed m.status ≡ false → has_departed x.status ≡ false
+course_there m x nothing_yet f = f
+course_there m x (used_report from v report by may) f = ap has_departed (rests_refresh _).rests.status ∙ f
+course_there m x (and_then {n = n} before z plain) f = (stays n x z plain).there (course_there m n before f)
+
+pub deeds_there : {c : Cause} {o : Outcome} (m x : Node) → Deeds c o m x → has_departed m.status ≡ false → has_departed x.status ≡ false
+deeds_there m x (plainly course) f = course_there m x course f
+deeds_there m x (looked {n = n} b verdict course over why look is) f = ap has_departed (looked_fronts look).2 ∙ course_there m n course f
+
+-- who had departed doesn't lead
+no_leader_gone : {c : Cause} {o : Outcome} {m : Node} (x : Node) → Course c o m x → has_departed m.status ≡ true → is_sequencer x ≡ true → ⊥
+no_leader_gone {m = m} x course left leads =
+    let r = rests_course m x (departed_is m.status left) course in
+    let member = leads_member x leads in
+    let z = sym member ∙ ap is_member (r.status ∙ departed_is m.status left) in
+    cc
+
+-- who acts has no open ballot
+leader_closed : (x : Node) → Balloted x → is_sequencer x ≡ true → is_unfinished x.ballot ≡ false
+leader_closed x h leads = by_ballot x.ballot h.opened
+  where
+    same : x.core.promise ≡ view x
+    same =
+        let a = and_both (acts x) ((view x).by == x.core.who) leads in
+        let b = and_both (is_member x.status) (stamp_eq x.core.promise (view x)) a.0 in
+        same_stamp x.core.promise (view x) b.1
+
+    by_ballot : (ballot : Option Ballot) → OpenBallot x.core.who x.core.promise (view x) ballot → is_unfinished ballot ≡ false
+    by_ballot None o = refl
+    by_ballot (Some b) o = split b.is_over
+        (λ t. rw t refl)
+        (λ f. absurd (
+        let k = o f in
+        let z : stamp_lt (view x) (view x) ≡ true = ap (stamp_lt (view x)) (sym same ∙ k.promised) ∙ k.above in
+        let y = not_above_itself (view x) in cc))
+
+-- a step that stays in its view notes none
+quiet_views : (views : List Decided) (m n : Node) → view n ≡ view m → views_after views m n ≡ views
+quiet_views views m n same =
+    let t : stamp_eq (view m) (view n) ≡ true = ap (stamp_eq (view m)) same ∙ stamp_itself (view m) in
+    split (is_member m.status) (λ a. split ((view n).by == n.core.who) (λ b. rw (a, b, t) refl) (λ b. rw (a, b) refl)) (λ a. rw a refl)
+
+stranger_views : (views : List Decided) (m n : Node) → is_member m.status ≡ false → views_after views m n ≡ views
+stranger_views views m n f = rw f refl
+
+seen_none : (w : World) (m n : Node) (views : List Decided) → view n ≡ view m → Seen w m n views → views ≡ w.views
+seen_none w m n views same (none_new is) = is
+seen_none w m n views same (one_new d is) = absurd (let z : stamp_lt (view m) (view m) ≡ true = ap (stamp_lt (view m)) (sym same) ∙ d.above in
+    let y = not_above_itself (view m) in cc)
+
+-- where no report came, nothing more was accepted before the end
+grown_none : {c : Cause} (old group : List Entry) (x : Node) (event : NodeEvent) → c ≡ calls event → Grown c old group x → group ≡ old
+grown_none old group x event is (as_before same) = same
+grown_none old group x event is (by_reports brings leads start same) = absurd (both_ways _ brings (ap brings_report is))
+
+-- the sender of its letters is the node
+is_sender : (n sender : Node) → n ≡ record sender { status = n.status } → n.status ≡ sender.status → sender ≡ n
+is_sender n sender is same = sym (is ∙ (λ i. record sender { status = same i }))
+
+end_is : (x : Node) → refresh_at_end x ≡ settle (refresh x)
+unfolding refresh_at_end
+end_is x = refl
+
+-- where its list begins: it leads only where it had one before
+sends_so : {c : Cause} (m n : Node) (P : Type 0) → m.core.log.start ≤ m.core.base → Based c m n → (m.core.acc ≤ n.core.acc → ListBegins c m n → P) → P
+sends_so m n P low (as_it_was same up) f = f up (began_before (omega arith))
+sends_so m n P low (was_bare welcomed other up) f = f up (just_begun (bare_follows n other) (λ from stored u is. both_ways _ welcomed (ap was_welcomed is)))
+
+-- ---- a step of a run
+
+module _ (rules : Rules) (events : List Event) (e : Event) (c : Cause) (s : Group) (may : MayFound rules)
+    (runs : is_stopped (run rules events) (actor (run rules events) e) ≡ false) (cause : IsCause (run rules events) (actor (run rules events) e) e.act c)
+    (h : Following rules (run rules events) s) where
+  open acting rules events e use {w, name, m}
+
+  few : name < 256
+  few = few_names rules w e (run_owned rules events may).blanks.base.named
+
+  abbrev after_ : Step → World
+  after_ step = with_step (run rules events) e (actor (run rules events) e) step
+
+  is_node : (step : Step) → (with_step (run rules events) e (actor (run rules events) e) step).nodes (actor (run rules events) e) ≡ step.node
+  unfolding with_step
+  is_node step = (let t : (name == name) ≡ true = grind (arith, nat_tests) in rw t refl)
+
+  same_seen : (step : Step)
+      → (with_step (run rules events) e (actor (run rules events) e) step).views ≡ (at_end (run rules events) e (actor (run rules events) e) step).views
+  unfolding with_step
+  same_seen step = refl
+
+  same_records : (step : Step)
+      → (with_step (run rules events) e (actor (run rules events) e) step).records ≡ (at_end (run rules events) e (actor (run rules events) e) step).records
+  unfolding with_step
+  same_records step = refl
+
+  same_stopped : (step : Step)
+      → (with_step (run rules events) e (actor (run rules events) e) step).stopped ≡ (at_end (run rules events) e (actor (run rules events) e) step).stopped
+  unfolding with_step
+  same_stopped step = refl
+
+  -- how far it was told, and gives out, where it begins
+  fronts_begin : (step : Step) → Fronted (recorded (run rules events) (after_step (run rules events) e step)) (actor (run rules events) e) m s
+  fronts_begin step =
+      let k = (numbers_hold rules events).each name in
+      record {
+        low = k.told;
+        heard = 0;
+        word = nothing refl;
+        acc = λ d. (h.stands.fronts name few d).acc;
+        told = λ d. (let low = (h.stands.fronts name few d).told in omega arith);
+      }
+
+  noted : (k : ℕ) (d : Decided) → slice_get w.views k ≡ Some d → IsNoted w.nodes d
+  noted k d at = all_get (IsNoted w.nodes) w.views k d (run_owned rules events may).blanks.base.noted at
+
+  -- ---- of who had departed
+
+  gone_follows : (o : Outcome) (sent : List Letter) (x : Node) → Deeds c o m x → has_departed m.status ≡ true
+      → Effect m c (record { node = refresh_at_end x; outcome = o; letters = sent })
+      → happens w e ≡ after_ (record { node = refresh_at_end x; outcome = o; letters = sent })
+      → Follows rules (after_ (record { node = refresh_at_end x; outcome = o; letters = sent })) s
+  gone_follows o sent x deeds left effect is =
+      let step : Step = record { node = refresh_at_end x; outcome = o; letters = sent } in
+      let n = refresh_at_end x in
+      let gone = departed_is m.status left in
+      let closed = h.gone name few left in
+      let r = rests_step m x gone closed deeds in
+      let k = (numbers_hold rules events).each name in
+      let low = r.low in
+      let told_ = k.told in
+      let acc_ = k.acc in
+      let group_ : group_after w.group n ≡ w.group = same_group w.group n (omega arith) in
+      let views_ : views_after w.views m n ≡ w.views = stranger_views w.views m n (ap is_member gone) in
+      let begun = recorded w (after_step w e step) in
+      let stands = same_stands begun name m n s r.same (stands_but w (after_step w e step) name s h.stands) in
+      let there : StandsBut name (within (at_end w e name step) name n) s =
+      subst (λ vs. StandsBut name (within (further begun (group_after w.group n) vs) name n) s) (sym views_)
+      (subst (λ g. StandsBut name (within (further begun g w.views) name n) s) (sym group_) stands) in
+      let status : has_departed n.status ≡ true = ap has_departed r.status ∙ left in
+      let all = ended_stands w e name step s there (λ d. absurd (both_ways _ status d)) in
+      let land = landed rules w e name step s s h none all (λ d. absurd (both_ways _ status d)) (λ d. ap is_unfinished r.ballot ∙ closed) in
+      let quiet : sent ≡ [] = departed_quiet w e step (departed_silent m gone closed) is in
+      landed_told rules w e name step s s h land (subst (λ l. Told rules (after_ step) l s) (sym quiet) (none_told rules (after_ step) s land.group))
+
+  -- ---- of who is there
+
+  module _ (here : has_departed m.status ≡ false) where
+    begins_so : (step : Step) → Effect m c step
+        → Stepping rules (recorded (run rules events) (after_step (run rules events) e step)) (actor (run rules events) e) c m s
+    begins_so step effect = stepping_begins rules events e c step s may runs cause effect h here
+
+    sent_so : (step : Step) → CauseSent (after_step (run rules events) e step) (actor (run rules events) e) step.outcome c
+    sent_so step = cause_sent w e step c (run_sent rules events) cause
+
+    -- a step that goes on to its end
+    plain_follows : (o : Outcome) (sent : List Letter) (x : Node) → Deeds c o m x → Effect m c (record { node = refresh_at_end x; outcome = o; letters = sent })
+        → Follows rules (after_ (record { node = refresh_at_end x; outcome = o; letters = sent })) s
+    plain_follows o sent x deeds effect =
+        let step : Step = record { node = refresh_at_end x; outcome = o; letters = sent } in
+        let n = refresh_at_end x in
+        let v = after_ step in
+        let begun = recorded w (after_step w e step) in
+        let h0 = begins_so step effect in
+        let done = deeds_on rules begun name c o m x s deeds h0 (fronts_begin step) (sent_so step) in
+        let a : AtEnd rules begun name c m n s = subst (λ k. AtEnd rules begun name c m k s) (sym (end_is x))
+        (ended_on rules begun name c o m x s (sent_so step) done) in
+        let does = (changes_do m n h0.names effect.changes h0.along.names h0.along.balloted).does in
+        let there : has_departed n.status ≡ false = ap has_departed (rests_at_end x).rests.status ∙ deeds_there m x deeds here in
+        let same_views = views_end rules begun name c m n a.to (group_after w.group n) a.views a.goes does.goes does.log_ (λ d. there) noted refl a.seen in
+        let goes : Stepping rules (at_end w e name step) name c n a.to = subst
+        (λ vs. Stepping rules (further begun (group_after w.group n) vs) name c n a.to) same_views a.goes in
+        let stands = ended_stands w e name step a.to goes.stands a.fronts in
+        let land = landed rules w e name step s a.to h a.path stands (λ d. ended_keeps rules w e name c step a.to goes) (λ d. absurd (both_ways _ d there)) in
+        let sender_is : effect.sender ≡ n = is_sender n effect.sender effect.is (⊎_elim (λ (z : n.status ≡ effect.sender.status). z)
+        (λ (z : n.status ≡ Departed). absurd (both_ways _ (ap has_departed z) there)) effect.stays) in
+        let says = subst (λ k. All (letters.LetterSays m c k) sent) sender_is effect.letters in
+        let after = owns_next rules w e v (steps c step runs cause effect) (run_owns rules events may) in
+        let mine : NameStands v name n (a.to.node name) = subst (λ k. NameStands v name k (a.to.node name)) (is_node step) (stands.each name few) in
+        let owns = subst OwnDecided (is_node step) (after.each name few) in
+        let based = step_based rules m n h0.names h0.used effect.changes h0.along in
+        let speaks = sends_so m n (Sender v name c m n a.to) h0.along.owned.fronts.kept based (λ acc start.
+        sender rules (at_end w e name step) v name c m n a.to goes stands (is_node step) (same_seen step) (same_records step) (same_stopped step) mine there
+        (a.fronts there) after.base.0 after.base.1 owns acc start) in
+        landed_told rules w e name step s a.to h land (letters_told rules v name c m n sent a.to land.group speaks says)
+
+    -- a leaver that is let go
+    let_go_follows : (o : Outcome) (from : ℕ) (u : Stamp) (number : ℕ) → c ≡ hears (packet.Gone from u number) → hears_member m from ≡ true → m.leaving ≡ true
+        → Effect m c (record { node = refresh_at_end (record m { status = Departed }); outcome = o; letters = [] })
+        → Follows rules (after_ (record { node = refresh_at_end (record m { status = Departed }); outcome = o; letters = [] })) s
+    let_go_follows o from u number is heard leaves effect =
+        let x = record m { status = Departed } in
+        let step : Step = record { node = refresh_at_end x; outcome = o; letters = [] } in
+        let n = refresh_at_end x in
+        let begun = recorded w (after_step w e step) in
+        let h0 = begins_so step effect in
+        let one = change_on rules begun name c o m x s (departs {m = m} from u number is heard leaves) tt refl h0 (sent_so step) (fronts_begin step) in
+        let done : Done rules begun name c m x s = record {
+          group = w.group;
+          views = w.views;
+          changed = one;
+          grown = as_before refl;
+          seen = none_new refl;
+        } in
+        let a : AtEnd rules begun name c m n s = subst (λ k. AtEnd rules begun name c m k s) (sym (end_is x))
+        (ended_on rules begun name c o m x s (sent_so step) done) in
+        let viewed : view n ≡ view m = ap (λ (l : Log). (told_by l).view) (rests_at_end x).log in
+        let same_views : a.views ≡ views_after w.views m n = seen_none begun m n a.views viewed a.seen ∙ sym (quiet_views w.views m n viewed) in
+        let goes : Stepping rules (at_end w e name step) name c n a.to = subst
+        (λ vs. Stepping rules (further begun (group_after w.group n) vs) name c n a.to) same_views a.goes in
+        let left : has_departed n.status ≡ true = ap has_departed (rests_at_end x).rests.status in
+        let all = ended_stands w e name step a.to goes.stands (λ d. absurd (both_ways _ left d)) in
+        let open_ : is_unfinished m.ballot ≡ false = split (is_unfinished m.ballot) (λ t. absurd (both_ways _ leaves (h0.keeps.opens t).1)) (λ f. f) in
+        let land = landed rules w e name step s a.to h a.path all (λ d. absurd (both_ways _ left d)) (λ d. ap is_unfinished (rests_at_end x).rests.ballot
+        ∙ open_) in
+        landed_told rules w e name step s a.to h land (none_told rules (after_ step) a.to land.group)
+
+    -- the last member, which numbers its own Leave
+    closing_follows : (o : Outcome) (x : Node) (event : NodeEvent) → c ≡ calls event → Course c o m x → is_sequencer x ≡ true → x.leaving ≡ true
+        → nat_lt 0 (size (others x)) ≡ false → view x ≡ view m
+        → Effect m c (record { node = record (refresh_at_end (push_entry x (Leave x.core.who))) { status = Departed }; outcome = o; letters = [] })
+        → Follows rules (after_ (record { node = record (refresh_at_end (push_entry x (Leave x.core.who))) { status = Departed }; outcome = o; letters = [] }))
+        s
+    closing_follows o x event called course leads leaves alone viewed effect =
+        let n = record (refresh_at_end (push_entry x (Leave x.core.who))) { status = Departed } in
+        let step : Step = record { node = n; outcome = o; letters = [] } in
+        let begun = recorded w (after_step w e step) in
+        let h0 = begins_so step effect in
+        let g = going_on rules begun name c o m x s course h0 (fronts_begin step) (sent_so step) in
+        let same = grown_none w.group g.group x event called g.grown in
+        let goes : Stepping rules begun name c x g.to = subst (λ k. Stepping rules (growing begun k) name c x g.to) same g.goes in
+        let fronts : Fronted begun name x g.to = subst (λ k. Fronted (growing begun k) name x g.to) same g.fronts in
+        let one = closes_on rules w (after_step w e step) name c x g.to goes fronts leads e step leaves alone (sym viewed) refl in
+        let closed = leader_closed x goes.along.balloted leads in
+        let land = landed rules w e name step s one.to h (then_moves g.path one.path) one.is (λ d. absurd (cc))
+        (λ d. ap is_unfinished (rests_at_end (push_entry x (Leave x.core.who))).rests.ballot ∙ closed) in
+        landed_told rules w e name step s one.to h land (none_told rules (after_ step) one.to land.group)
+
+  -- ---- each step
+
+  follows : (o : Outcome) (sent : List Letter) (n : Node) → Ending c o m sent n → Effect m c (record { node = n; outcome = o; letters = sent })
+      → happens w e ≡ after_ (record { node = n; outcome = o; letters = sent }) → Follows rules (after_ (record { node = n; outcome = o; letters = sent })) s
+  follows o sent n ending = by_ending
+      (λ l k. Effect m c (record { node = k; outcome = o; letters = l }) → happens w e ≡ after_ (record { node = k; outcome = o; letters = l })
+      → Follows rules (after_ (record { node = k; outcome = o; letters = l })) s)
+      (λ l x deeds effect is. split (has_departed m.status) (λ left. gone_follows o l x deeds left effect is) (λ here. plain_follows here o l x deeds effect))
+      (λ from u number is heard leaves effect same. let_go_follows (member_stays m.status (and_both (not (from == m.core.who)) (is_member m.status) heard).1)
+      o from u number is heard leaves effect)
+      (λ x event called course leads leaves alone viewed effect same. split (has_departed m.status)
+      (λ left. absurd (no_leader_gone x course left leads)) (λ here. closing_follows here o x event called course leads leaves alone viewed effect))
+      sent n ending
+
+pub steps_move : StepsMove
+steps_move rules events e c step s may runs cause effect is h =
+    follows rules events e c s may runs cause h step.outcome step.letters step.node effect.ending effect is

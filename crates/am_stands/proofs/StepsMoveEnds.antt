@@ -1,0 +1,136 @@
+-- The end of a step: the refresh, what of it settles a send, and what the step noted.
+use Rattle.am_stands.proofs.StepsMoveWords.{nothing_viewed, member_stays, not-true, logged, stamp_itself, same_stamp, ◌≡◌, ◌≢◌, ⊎_elim, ℕ, ◌<◌, ◌≤◌, ◌==◌, ◌&&◌, not}
+use Rattle.am_stands.proofs.StepsMoveWords.{true, false, List, [], ◌∷◌, ◌++◌, slice_get, Some, refl, sym, ap, ◌∙◌, subst, arith, nat_tests, Stamp, Entry, Outcome}
+use Rattle.am_stands.proofs.StepsMoveWords.{Rules, Log, told_by, members_of, stamp_lt, stamp_eq, no_stamp, view_of, key, view_small, Group, IsUp, Node, top, view}
+use Rattle.am_stands.proofs.StepsMoveWords.{image_of, is_member, has_log, has_departed, refresh, settle, Decided, World, group_after, views_after, split, and_both}
+use Rattle.am_stands.proofs.StepsMoveWords.{Cause, settles, rests_refresh, leads_rests, settle_is, not_above_itself, IsNoted, SameView, Stood, Goes, CauseSent}
+use Rattle.am_stands.proofs.StepsMoveWords.{FrontsStand, Grows, Moves, Stepping, then_moves, key_stamp, view_whole, old, whole, grows_trans, list_opens, changes_go_on}
+use Rattle.am_play.specs.World.{decides}
+use Rattle.am_stands.proofs.{Worlds.growing, Refreshed.refresh_on, Grown.accepted_twice, StepsMoveGoing.Grown, StepsMoveGoing.as_before, StepsMoveGoing.by_reports, Deeds.further}
+use Rattle.am_stands.proofs.{Deeds.Seen, Deeds.none_new, Deeds.one_new, Deeds.Done}
+
+-- ---- the group list at the end
+
+settled_group : (group : List Entry) (y : Node) → group_after group (settle y) ≡ group_after group y
+settled_group group y = subst (λ n. group_after group n ≡ group_after group y) (sym (settle_is y)) refl
+
+end_group : {c : Cause} (old_ group : List Entry) (x : Node) → x.core.acc ≤ top x → Grown c old_ group x
+    → group_after group (refresh x) ≡ group_after old_ (refresh x)
+end_group old_ group x high (as_before is) = ap (λ g. group_after g (refresh x)) is
+end_group old_ group x high (by_reports brings leads start is) =
+    let r = rests_refresh x in
+    ap (λ g. group_after g (refresh x)) is ∙ accepted_twice old_ x (refresh x) leads (leads_rests r.rests ∙ leads) r.log start r.rests.acc high
+
+-- ---- the end
+
+-- what is known of the node as it is then
+pub record AtEnd (rules : Rules) (w : World) (name : ℕ) (c : Cause) (m n : Node) (s : Group) : Type 0 where
+  pub views : List Decided
+  pub to : Group
+  pub path : Moves s to
+  pub grows : Grows s to
+  pub goes : Stepping rules (further w (group_after w.group n) views) name c n to
+  pub fronts : has_departed n.status ≡ false → FrontsStand n (to.node name)
+  pub seen : Seen w m n views
+
+seen_end : (w : World) (m x n : Node) (views : List Decided) → n.core.log ≡ x.core.log → n.core.who ≡ x.core.who → Seen w m x views → Seen w m n views
+seen_end w m x n views log who (none_new is) = none_new is
+seen_end w m x n views log who (one_new d is) =
+    let viewed : view n ≡ view x = ap (λ (l : Log). (told_by l).view) log in
+    one_new (record {
+      member = d.member;
+      own = ap (λ (u : Stamp). u.by) viewed ∙ d.own ∙ sym who;
+      above = ap (stamp_lt (view m)) viewed ∙ d.above;
+    }) (is ∙ ap (λ (l : Log). w.views ++ record {
+      number = (told_by l).view_number;
+      stamp = (told_by l).view;
+      members = members_of (told_by l);
+      resilience = (told_by l).resilience;
+    } ∷ []) (sym log))
+
+pub ended_on : (rules : Rules) (w : World) (name : ℕ) (c : Cause) (o : Outcome) (m x : Node) (s : Group) → CauseSent w.records name o c
+    → Done rules w name c m x s → AtEnd rules w name c m (settle (refresh x)) s
+ended_on rules w name c o m x s sent d =
+    let now = further w d.group d.views in
+    let y = refresh x in
+    let n = settle y in
+    let r = refresh_on rules now name c x d.to d.goes d.fronts in
+    let later = growing now (group_after d.group y) in
+    let one = changes_go_on rules later name c o y n r.to (settles {m = y}) tt r.goes sent in
+    let is : group_after d.group y ≡ group_after w.group n = end_group w.group d.group x d.goes.along.owned.fronts.accepted d.grown
+    ∙ sym (settled_group w.group y) in
+    let same = settle_is y in
+    let log : n.core.log ≡ x.core.log = ap (λ (z : Node). z.core.log) same ∙ (rests_refresh x).log in
+    let who : n.core.who ≡ x.core.who = ap (λ (z : Node). z.core.who) same ∙ (rests_refresh x).rests.who in
+    record {
+      views = d.views;
+      to = one.to;
+      path = then_moves d.path (then_moves r.path one.path);
+      grows = grows_trans s d.to one.to d.grows (grows_trans d.to r.to one.to r.grows one.grows);
+      goes = subst (λ g. Stepping rules (further w g d.views) name c n one.to) is one.goes;
+      fronts = λ u. (
+          let here : has_departed y.status ≡ false = sym (ap (λ (z : Node). has_departed z.status) same) ∙ u in
+          let acc = ap (λ (z : Node). z.core.acc) same in
+          let told_ = ap (λ (z : Node). z.core.told) same in
+          let most = r.fronts.told here in
+          record { told = omega arith; acc = one.fronts.acc ∙ r.fronts.acc here ∙ sym acc });
+      seen = seen_end w m x n d.views log who d.seen;
+    }
+
+-- ---- what was noted
+
+none_below : (a : Stamp) → stamp_lt a no_stamp ≡ false
+none_below a = grind (arith, nat_tests)
+
+-- a step that noted no view decided none
+none_decided : (rules : Rules) (w : World) (name : ℕ) (c : Cause) (m n : Node) (t : Group) (group : List Entry)
+    → Stepping rules (further w group w.views) name c n t → (has_log m.status ≡ true → Goes m.core.log n.core.log)
+    → (has_log m.status ≡ true → has_log n.status ≡ true) → (has_departed m.status ≡ false → has_departed n.status ≡ false)
+    → ((k : ℕ) (d : Decided) → slice_get w.views k ≡ Some d → IsNoted w.nodes d) → w.nodes name ≡ m → (member : is_member m.status ≡ true)
+    → (view n).by ≡ n.core.who → stamp_eq (view m) (view n) ≡ false → ⊥
+none_decided rules w name c m n t group h goes log_ there noted is member own differs =
+    let had = logged m.status member in
+    let mine = old rules (further w group w.views) name c n t h in
+    let up : IsUp (t.node name) = record {
+      log = mine.log_ ∙ log_ had;
+      there = record { goes = mine.stopped ∙ h.runs; stays = mine.departed ∙ there (member_stays m.status member) };
+    } in
+    ⊎_elim
+    (λ (same : SameView (image_of n) (image_of m)). (let z : stamp_eq (view m) (view n) ≡ true = ap (stamp_eq (view m)) same.view
+    ∙ stamp_itself (view m) in cc)) (λ (k : (stamp_lt (view m) (view n) ≡ true) × Stood n.core.log). (
+    let viewed : view_of (t.node name).list ≡ view n = view_whole (further w group w.views) name n (t.node name) mine in
+    let g = whole rules (further w group w.views) name c n t h in
+    let some : (t.node name).list ≢ [] = λ none. (let z : view n ≡ no_stamp = sym viewed ∙ ap view_of none ∙ nothing_viewed in
+    let low : stamp_lt (view m) (view n) ≡ false = ap (stamp_lt (view m)) z ∙ none_below (view m) in let up_ = k.0 in cc) in
+    let opens = list_opens t name g.kept g.opens up some in
+    let was = h.stands.views.decided (key (view n)) (ap (λ (u : Stamp). t.views.decided (key u)) (sym viewed) ∙ opens.decided) in
+    let small : (view n).by < 256 = subst (λ (u : Stamp). u.by < 256) viewed (view_small (t.node name).list h.keeps.good) in
+    let d = noted was.index was.view was.there in
+    let same : was.view.stamp ≡ view n = key_stamp was.view.stamp (view n) d.by small was.is in
+    let by : was.view.stamp.by ≡ name = ap (λ (u : Stamp). u.by) same ∙ own ∙ h.who in
+    let low : stamp_lt (view m) (view n) ≡ false = ap (stamp_lt (view m)) (sym same) ∙ subst (λ (i : Node). stamp_lt (view i) was.view.stamp ≡ false)
+    (ap w.nodes by ∙ is) d.low in
+    cc))
+    (goes had).view
+
+pub views_end : (rules : Rules) (w : World) (name : ℕ) (c : Cause) (m n : Node) (t : Group) (group : List Entry) (views : List Decided)
+    → Stepping rules (further w group views) name c n t → (has_log m.status ≡ true → Goes m.core.log n.core.log)
+    → (has_log m.status ≡ true → has_log n.status ≡ true) → (has_departed m.status ≡ false → has_departed n.status ≡ false)
+    → ((k : ℕ) (d : Decided) → slice_get w.views k ≡ Some d → IsNoted w.nodes d) → w.nodes name ≡ m → Seen w m n views
+    → views ≡ views_after w.views m n
+views_end rules w name c m n t group views h goes log_ there noted is (none_new same) = split (decides m n)
+    (λ u. absurd (
+    let a = and_both (is_member m.status) (((view n).by == n.core.who) && not (stamp_eq (view m) (view n))) u in
+    let b = and_both ((view n).by == n.core.who) (not (stamp_eq (view m) (view n))) a.1 in
+    let own : (view n).by ≡ n.core.who = (let z = b.0 in grind (arith, nat_tests)) in
+    none_decided rules w name c m n t group (subst (λ vs. Stepping rules (further w group vs) name c n t) same h) goes log_ there noted is a.0 own
+    (not-true (stamp_eq (view m) (view n)) b.1)))
+    (λ f. rw f same)
+views_end rules w name c m n t group views h goes log_ there noted is (one_new d same) =
+    let own : ((view n).by == n.core.who) ≡ true = (let z = d.own in grind (arith, nat_tests)) in
+    let differs : stamp_eq (view m) (view n) ≡ false = split (stamp_eq (view m) (view n))
+    (λ u. absurd (let same_ = same_stamp (view m) (view n) u in
+    let z : stamp_lt (view m) (view n) ≡ false = ap (stamp_lt (view m)) (sym same_) ∙ not_above_itself (view m) in
+    cc)) (λ f. f) in
+    let member = d.member in
+    rw (member, own, differs) same

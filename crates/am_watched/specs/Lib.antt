@@ -1,4 +1,0 @@
-pub mod Lists
-pub mod New
-pub mod Members
-pub mod Watched
