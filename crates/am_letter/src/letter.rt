@@ -21,7 +21,7 @@ pub fn letter_of(alloc: Global, to: Names, packet: &Packet) -> Result<Letter, No
     let mut rooms = Vec::with_capacity(alloc, 1)?;
     let mut written = PacketBytes::new(alloc)?;
     encode(packet, &mut written);
-    Ok(Letter::with_bytes(to, written, &mut rooms))
+    Ok(Letter::with_bytes(alloc, to, written, &mut rooms))
 }
 
 /// The packet that a letter's bytes spell.

@@ -78,6 +78,7 @@ fn has_nobody(set: Names) -> bool
 /// it mostly is: the large room then stays. Contracts see it as their list.
 #[derive(Drop)]
 pub struct OutBox {
+    alloc: Global,
     kept: Box<Kept>,
 }
 
@@ -113,7 +114,7 @@ impl OutBox {
         kept.single.clear();
         kept.single.reserve_exact(1)?;
         fill(alloc, &mut kept.rooms)?;
-        Ok(OutBox { kept })
+        Ok(OutBox { alloc, kept })
     }
 
     /// The letters in their order.
@@ -154,7 +155,8 @@ impl OutBox {
             .count()
     }
 
-    /// Adds a letter behind those of its own kind and of lower ones; nothing where it is for nobody. It takes no memory.
+    /// Adds a letter behind those of its own kind and of lower ones; nothing where it is for nobody. Where there is no memory for its
+    /// bytes, it takes room that is there.
     #[tactic(auto, using(am_post::proofs::Read::spelled))]
     pub fn put(&mut self, to: Names, packet: &Packet)
         requires room { length self.old < 24 }
@@ -167,7 +169,7 @@ impl OutBox {
         let at = self.place_for(packet.kind());
         let mut written = self.kept.rooms.pop().unwrap();
         encode(packet, &mut written);
-        let letter = Letter::with_bytes(to, written, &mut self.kept.rooms);
+        let letter = Letter::with_bytes(self.alloc, to, written, &mut self.kept.rooms);
         match self.kept.letters.insert(at, letter) {
             Ok(()) => {}
             Err(_) => unreachable!(),

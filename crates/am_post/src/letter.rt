@@ -10,6 +10,7 @@ use am_base::body::PacketBytes;
 use am_base::limits::MOST_PACKET;
 use am_base::names::Names;
 use arrayvec::ArrayVec;
+use std::alloc::Global;
 use std::marker::Model;
 
 /// The kind of a request to join, which goes to every life of its places.
@@ -19,7 +20,7 @@ const JOIN_ASK: u8 = 9;
 const KIND_AT: usize = 3;
 
 /// Up to so many bytes a letter has in itself; more stand apart.
-const MOST_WITHIN: usize = 64;
+const MOST_WITHIN: usize = 32;
 
 /// The bytes of a packet with its addressees: the names in a set, or every life of their places. Contracts see it as the
 /// packet that its bytes spell, with these addressees (docs/PROTOCOL.md, "Letters").
@@ -55,9 +56,15 @@ fn bytes_in<'a>(within: &'a [u8], apart: &'a Option<Vec<u8>>) -> &'a [u8]
 
 impl Letter {
     /// The packet that these bytes spell, for the names of a set, or, where it is a request to join, for every life of their places.
-    /// Where the bytes are many, the room in which they stand is its own then, else that goes to the rooms. It takes no memory.
+    /// Where the bytes are many, as much memory is taken as they need, and the room in which they stand where there is none. Else that
+    /// goes to the rooms.
     #[tactic(auto, using(crate::proofs::Read::header))]
-    pub fn with_bytes(to: Names, written: PacketBytes, rooms: &mut Vec<PacketBytes>) -> Letter
+    pub fn with_bytes(
+        alloc: Global,
+        to: Names,
+        written: PacketBytes,
+        rooms: &mut Vec<PacketBytes>,
+    ) -> Letter
         requires spelled { IsSpelled written }
         requires room { vec_len rooms.old < vec_capacity rooms.old }
         ensures value { result ≡ letter_to to (packet_in written) }
@@ -65,20 +72,26 @@ impl Letter {
     {
         let any = written.bytes()[KIND_AT] == JOIN_ASK;
         let mut within = ArrayVec::new();
-        if within.try_extend_from_slice(written.bytes()).is_ok() {
-            rooms.push_reserved(written);
-            return Letter {
-                to,
-                any,
-                within,
-                apart: None,
-            };
-        }
+        let apart = match within.try_extend_from_slice(written.bytes()) {
+            Ok(()) => None,
+            Err(_) => match Vec::from_slice(alloc, written.bytes()) {
+                Ok(bytes) => Some(bytes),
+                Err(_) => {
+                    return Letter {
+                        to,
+                        any,
+                        within,
+                        apart: Some(written.into_bytes()),
+                    };
+                }
+            },
+        };
+        rooms.push_reserved(written);
         Letter {
             to,
             any,
             within,
-            apart: Some(written.into_bytes()),
+            apart,
         }
     }
 
