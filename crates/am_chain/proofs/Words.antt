@@ -14,7 +14,7 @@ pub use Rattle.am_chain_lists.proofs.Prefixes.{begins_refl, begins_trans, begins
 pub use Rattle.am_chain_lists.proofs.Prefixes.{begins_same, begins_push, length_push, below_begins, below_length, below_of, begins_nil}
 pub use Rattle.am_chain_lists.proofs.Members.{mem_push, good_push, mem_between, good_nil, mem_nil, mem_viewed, viewed_mem}
 pub use Rattle.am_chain.specs.{Runs.MayBegin, Runs.first_stamp, Runs.first_choice, Runs.start, Runs.IsNoDecision, Runs.quiet, Runs.quietly}
-pub use Rattle.am_chain.specs.{ChainMovesClaims.QuietRunsKeep}
+pub use Rattle.am_chain.specs.{MovesClaims.QuietRunsKeep}
 pub use Rattle.am_chain.specs.Group.{Group, IsThere, IsUp, Node, opening, Views, how_many, counted_in, need_of, chain_of, Leads, MayAccept, current_of}
 pub use Rattle.am_chain.specs.Group.{IsOngoing, IsHeld}
 pub use Rattle.am_chain.specs.Kept.{Kept, NodeOk, ShownOk, ServedOk, Witness, DepartedOk, ViewsOk, FrontsOk, LateOk, BallotOk}

@@ -2,6 +2,6 @@ pub mod Group
 pub mod Moves
 pub mod Runs
 pub mod Kept
-pub mod ChainMovesClaims
+pub mod MovesClaims
 pub mod Claims
 pub mod OrdersClaims

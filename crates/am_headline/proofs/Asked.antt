@@ -1,9 +1,9 @@
 -- What a node knows of others to be taken, through a request to join: the row itself.
-use Rattle.am_headline.proofs.RepairedRunsWords.{other_heard, ◌≡◌, ℕ, ◌==◌, ◌&&◌, ◌||◌, not, nat_lt, nat_le, Bool, true, false, if◌then◌else◌, Some, refl, sym, ap, ◌∙◌}
-use Rattle.am_headline.proofs.RepairedRunsWords.{subst, arith, nat_tests, Stamp, Join, Report, Outcome, Row, life_of, at_place, fits, Packet, Letter, Act, Event, is_for}
-use Rattle.am_headline.proofs.RepairedRunsWords.{letter_at, Node, image_of, is_sequencer, has_room, Plan, Step, finish, hear, hear_refusal, with_admitted, join_ask_row}
-use Rattle.am_headline.proofs.RepairedRunsWords.{hears_member, hear_row, packet_length, refresh_at_end, World, is_stopped, with_record, with_step, hears_letter, hear_cut}
-use Rattle.am_headline.proofs.RepairedRunsWords.{acts_as, happens, heard_by, split, and_both, actor, end_same}
+use Rattle.am_headline.proofs.RepairedWords.{other_heard, ◌≡◌, ℕ, ◌==◌, ◌&&◌, ◌||◌, not, nat_lt, nat_le, Bool, true, false, if◌then◌else◌, Some, refl, sym, ap, ◌∙◌}
+use Rattle.am_headline.proofs.RepairedWords.{subst, arith, nat_tests, Stamp, Join, Report, Outcome, Row, life_of, at_place, fits, Packet, Letter, Act, Event, is_for}
+use Rattle.am_headline.proofs.RepairedWords.{letter_at, Node, image_of, is_sequencer, has_room, Plan, Step, finish, hear, hear_refusal, with_admitted, join_ask_row}
+use Rattle.am_headline.proofs.RepairedWords.{hears_member, hear_row, packet_length, refresh_at_end, World, is_stopped, with_record, with_step, hears_letter, hear_cut}
+use Rattle.am_headline.proofs.RepairedWords.{acts_as, happens, heard_by, split, and_both, actor, end_same}
 use Rattle.am_model.specs.Joining.{asks_to_join}
 use Rattle.am_base.specs.declared.outcome.Outcome.TheVariants as said
 use Rattle.am_packet.specs.declared.packet.Packet.TheVariants as packet

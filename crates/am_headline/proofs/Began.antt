@@ -1,7 +1,7 @@
 -- What rises in a step, and that a list begins by a Welcome alone, whose base was taken.
-use Rattle.am_headline.proofs.RepairedRunsWords.{◌≡◌, ◌⊎◌, inl, inr, ⊎_elim, ℕ, ◌≤◌, false, refl, sym, ap, ◌∙◌, subst, arith, Image, Stamp, Outcome, Rules, has_log, Node}
-use Rattle.am_headline.proofs.RepairedRunsWords.{Cause, hears, Changes, unchanged, changed, rests_refresh, rests_closed, settle_is, logged, HeardNames, HeardUsed, Along}
-use Rattle.am_headline.proofs.RepairedRunsWords.{along_changes, Rises, rises_change, Kind, kind_of}
+use Rattle.am_headline.proofs.RepairedWords.{◌≡◌, ◌⊎◌, inl, inr, ⊎_elim, ℕ, ◌≤◌, false, refl, sym, ap, ◌∙◌, subst, arith, Image, Stamp, Outcome, Rules, has_log, Node}
+use Rattle.am_headline.proofs.RepairedWords.{Cause, hears, Changes, unchanged, changed, rests_refresh, rests_closed, settle_is, logged, HeardNames, HeardUsed, Along}
+use Rattle.am_headline.proofs.RepairedWords.{along_changes, Rises, rises_change, Kind, kind_of}
 use Rattle.am_packet.specs.declared.packet.Packet.TheVariants as packet
 use Rattle.am_headline.proofs.Ways as ways
 

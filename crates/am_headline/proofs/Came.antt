@@ -1,14 +1,14 @@
 -- How a name comes to act in a view: it did before, it decided it, or a letter of the view's own name told it, whose base it had taken.
-use Rattle.am_headline.proofs.RepairedRunsWords.{numbers_plain, stamp_by, other_asks, other_heard, stamp_itself, same_stamp, ◌≡◌, ⊎_elim, ℕ, ◌<◌, ◌≤◌, ◌==◌, ◌&&◌, max}
-use Rattle.am_headline.proofs.RepairedRunsWords.{true, false, List, [], refl, sym, ap, ◌∙◌, subst, arith, nat_tests, Entry, Data, Join, Leave, View, Image, Stamp}
-use Rattle.am_headline.proofs.RepairedRunsWords.{Outcome, Rules, stamp_lt, stamp_eq, Log, blank, fold, told_by, Node, Ballot, view, image_of, acts, is_member, push_entry}
-use Rattle.am_headline.proofs.RepairedRunsWords.{trim_up_to, has_log, Verdict, with_promise, next_stamp, trim_for, left_in, need_of, is_view, split, Cause, hears, Looks}
-use Rattle.am_headline.proofs.RepairedRunsWords.{finds_itself_out, waits, fetches_from_best, finds_too_few, finds_no_room, decides, Fetches, without_ballot, for_ballot}
-use Rattle.am_headline.proofs.RepairedRunsWords.{Change, refreshes, settles, admits, numbers, keeps_body, notes, stores, begins_list, departs, promises, opens, looks}
-use Rattle.am_headline.proofs.RepairedRunsWords.{fetches, stores_view, collects, takes, asks_to_join, asks_to_leave, closes, Changes, unchanged, changed, view_pushed}
-use Rattle.am_headline.proofs.RepairedRunsWords.{Blanked, not_above_itself, not_above, equal_stamps, at_most, at_most_below, HasNames, HeardNames, SameView, Stood}
-use Rattle.am_headline.proofs.RepairedRunsWords.{view_last, Balloted, next_above, looked_at, change_does, HeardUsed, Along, along_changes, acting, alike_refresh}
-use Rattle.am_headline.proofs.RepairedRunsWords.{alike_settle, view_alike, acts_alike, Alike}
+use Rattle.am_headline.proofs.RepairedWords.{numbers_plain, stamp_by, other_asks, other_heard, stamp_itself, same_stamp, ◌≡◌, ⊎_elim, ℕ, ◌<◌, ◌≤◌, ◌==◌, ◌&&◌, max}
+use Rattle.am_headline.proofs.RepairedWords.{true, false, List, [], refl, sym, ap, ◌∙◌, subst, arith, nat_tests, Entry, Data, Join, Leave, View, Image, Stamp}
+use Rattle.am_headline.proofs.RepairedWords.{Outcome, Rules, stamp_lt, stamp_eq, Log, blank, fold, told_by, Node, Ballot, view, image_of, acts, is_member, push_entry}
+use Rattle.am_headline.proofs.RepairedWords.{trim_up_to, has_log, Verdict, with_promise, next_stamp, trim_for, left_in, need_of, is_view, split, Cause, hears, Looks}
+use Rattle.am_headline.proofs.RepairedWords.{finds_itself_out, waits, fetches_from_best, finds_too_few, finds_no_room, decides, Fetches, without_ballot, for_ballot}
+use Rattle.am_headline.proofs.RepairedWords.{Change, refreshes, settles, admits, numbers, keeps_body, notes, stores, begins_list, departs, promises, opens, looks}
+use Rattle.am_headline.proofs.RepairedWords.{fetches, stores_view, collects, takes, asks_to_join, asks_to_leave, closes, Changes, unchanged, changed, view_pushed}
+use Rattle.am_headline.proofs.RepairedWords.{Blanked, not_above_itself, not_above, equal_stamps, at_most, at_most_below, HasNames, HeardNames, SameView, Stood}
+use Rattle.am_headline.proofs.RepairedWords.{view_last, Balloted, next_above, looked_at, change_does, HeardUsed, Along, along_changes, acting, alike_refresh}
+use Rattle.am_headline.proofs.RepairedWords.{alike_settle, view_alike, acts_alike, Alike}
 use Rattle.am_packet.specs.declared.packet.Packet.TheVariants as packet
 
 -- ---- names

@@ -1,11 +1,11 @@
 -- In every run, with the group that follows it: what a sequencer knows to be taken was taken, but for what it began with.
-use Rattle.am_headline.proofs.RepairedRunsWords.{eqb-true, ◌≡◌, ℕ, ◌<◌, ◌==◌, true, false, List, Some, slice_get, refl, sym, ap, ◌∙◌, subst, arith, nat_tests, Image}
-use Rattle.am_headline.proofs.RepairedRunsWords.{Stamp, Rules, has, Letter, Event, key, Group, Node, view, acts, is_sequencer, founding_stamp, has_log, Step, World}
-use Rattle.am_headline.proofs.RepairedRunsWords.{start, founders_decided, first_node, is_stopped, split, Cause, Following, KeptBy, Quiet, parts, plain, acting}
+use Rattle.am_headline.proofs.RepairedWords.{eqb-true, ◌≡◌, ℕ, ◌<◌, ◌==◌, true, false, List, Some, slice_get, refl, sym, ap, ◌∙◌, subst, arith, nat_tests, Image}
+use Rattle.am_headline.proofs.RepairedWords.{Stamp, Rules, has, Letter, Event, key, Group, Node, view, acts, is_sequencer, founding_stamp, has_log, Step, World}
+use Rattle.am_headline.proofs.RepairedWords.{start, founders_decided, first_node, is_stopped, split, Cause, Following, KeptBy, Quiet, parts, plain, acting}
 use Rattle.am_headline.proofs.Nodes.{leading}
 use Rattle.am_packet.specs.declared.packet.Packet.TheVariants as packet
 use Rattle.am_headline.proofs.Trims.{LetterLow, Knows, took, joins, halts, Settles, Trims, TrimStep, Sent}
-use Rattle.am_headline.proofs.{Came.Came, Came.before, Came.own, Came.told_so, Decided.decided_settles, Fresh.welcomed_in, RepairedRunsLeading.leading_settles}
+use Rattle.am_headline.proofs.{Came.Came, Came.before, Came.own, Came.told_so, Decided.decided_settles, Fresh.welcomed_in, RepairedLeading.leading_settles}
 use Rattle.am_headline.proofs.{Mailed.says_welcome, One.runs_leading, Others.others_settle}
 use Rattle.am_headline.proofs.Trims as trims
 

@@ -1,10 +1,10 @@
 -- Who left: whose Leave stands on the chain asked to leave, and who departed has its Leave accepted, unless nobody is left.
-use Rattle.am_headline.proofs.RepairedRunsWords.{last_is, ◌≡◌, ◌⊎◌, ⊎_elim, inl, inr, ℕ, ◌+◌, ◌<◌, ◌≤◌, List, [], ◌∷◌, ◌++◌, length, true, false, refl, sym, ap, ◌∙◌}
-use Rattle.am_headline.proofs.RepairedRunsWords.{subst, arith, Entry, Data, Join, Leave, View, Image, place_of, life_of, Begins, IsGood, mem, view_of, key, In, row_at}
-use Rattle.am_headline.proofs.RepairedRunsWords.{begins_refl, begins_more, begins_trans, begins_both, begins_same, begins_length, begins_pushed, length_push, good_begins}
-use Rattle.am_headline.proofs.RepairedRunsWords.{told_push, long_told, mem_in, in_mem, mem_between, leaver_in, leaver_out, Group, put, opening, Leads, chain_of, Move}
-use Rattle.am_headline.proofs.RepairedRunsWords.{MayNumber, choice_of, longer, accepts, learns, begins, raises, shows, serves, gives_over, welcomes, asks, stops, Kept}
-use Rattle.am_headline.proofs.RepairedRunsWords.{Run, founded, more, first_stamp, put_same, put_at, run_keeps, moves_grow, Becomes, stayed, joins, founds, became}
+use Rattle.am_headline.proofs.RepairedWords.{last_is, ◌≡◌, ◌⊎◌, ⊎_elim, inl, inr, ℕ, ◌+◌, ◌<◌, ◌≤◌, List, [], ◌∷◌, ◌++◌, length, true, false, refl, sym, ap, ◌∙◌}
+use Rattle.am_headline.proofs.RepairedWords.{subst, arith, Entry, Data, Join, Leave, View, Image, place_of, life_of, Begins, IsGood, mem, view_of, key, In, row_at}
+use Rattle.am_headline.proofs.RepairedWords.{begins_refl, begins_more, begins_trans, begins_both, begins_same, begins_length, begins_pushed, length_push, good_begins}
+use Rattle.am_headline.proofs.RepairedWords.{told_push, long_told, mem_in, in_mem, mem_between, leaver_in, leaver_out, Group, put, opening, Leads, chain_of, Move}
+use Rattle.am_headline.proofs.RepairedWords.{MayNumber, choice_of, longer, accepts, learns, begins, raises, shows, serves, gives_over, welcomes, asks, stops, Kept}
+use Rattle.am_headline.proofs.RepairedWords.{Run, founded, more, first_stamp, put_same, put_at, run_keeps, moves_grow, Becomes, stayed, joins, founds, became}
 use Rattle.am_chain_lists.specs.Whole.{image_of}
 use Rattle.am_chain.specs.Moves.{numbers, stores, fetches, decides, departs, closes}
 use Rattle.am_chain.specs.Group as groups

@@ -22,7 +22,7 @@ pub mod Views
 pub mod Fitted
 pub mod Names
 pub mod Limits
-pub mod SoundRecordsSettled
+pub mod RecordsSettled
 pub mod Lives
 pub mod Sound
 pub mod Raised
@@ -66,7 +66,7 @@ pub mod Leavers
 pub mod Beginning
 pub mod OneLists
 pub mod Claims
-pub mod RepairedRunsWords
+pub mod RepairedWords
 pub mod Came
 pub mod Knew
 pub mod Asked
@@ -76,7 +76,7 @@ pub mod Sends
 pub mod One
 pub mod Trims
 pub mod Mailed
-pub mod RepairedRunsLeading
+pub mod RepairedLeading
 pub mod Decided
 pub mod Others
 pub mod Kept
@@ -84,4 +84,4 @@ pub mod OneList
 pub mod Left
 pub mod Upheld
 pub mod Counted
-pub mod RepairedRunsSettled
+pub mod RepairedSettled

@@ -6,7 +6,7 @@ use Rattle.am_laws.proofs.RunCounts.{bounds_after, counted_happen}
 use Rattle.am_laws.proofs.NodeLimits.{Within}
 use Rattle.am_laws.proofs.{Limits.EntryWithin, Limits.entry_more}
 use Rattle.am_laws.proofs.RunLimits.{AllWithin, Limited, limited_happens, first_bounds, founder_within, limited_start}
-use Rattle.am_runs.proofs.SentDataRuns.{grown_all}
+use Rattle.am_runs.proofs.SentRuns.{grown_all}
 
 -- what nodes and letters have, and the group lists
 pub record Held (rules : Rules) (b : Bounds) (w : World) : Type 0 where

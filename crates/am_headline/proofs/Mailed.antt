@@ -1,6 +1,6 @@
 -- What a letter of a step tells: its base is that of the node after it, and a Welcome is a sequencer's.
-use Rattle.am_headline.proofs.RepairedRunsWords.{◌≡◌, ℕ, ◌≤◌, true, List, refl, subst, Image, Stamp, Packet, Letter, Node, is_sequencer, Cause, Says, welcome, piece}
-use Rattle.am_headline.proofs.RepairedRunsWords.{result, LetterSays}
+use Rattle.am_headline.proofs.RepairedWords.{◌≡◌, ℕ, ◌≤◌, true, List, refl, subst, Image, Stamp, Packet, Letter, Node, is_sequencer, Cause, Says, welcome, piece}
+use Rattle.am_headline.proofs.RepairedWords.{result, LetterSays}
 use Rattle.am_packet.specs.declared.packet.Packet.TheVariants as packet
 use Rattle.am_headline.proofs.Trims.{LetterLow}
 

@@ -15,7 +15,7 @@ use Rattle.am_laws.proofs.Words.{first_founder, first_has}
 use Rattle.am_packet.specs.declared.packet.Packet.TheVariants as packet
 use Rattle.am_laws.proofs.Named.{AllNamed, few_names, each_named, start_named}
 use Rattle.am_laws.proofs.RunCounts.{was_heard}
-use Rattle.am_runs.proofs.SentDataRuns.{grown_all}
+use Rattle.am_runs.proofs.SentRuns.{grown_all}
 
 -- ---- names in entries
 

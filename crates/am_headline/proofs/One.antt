@@ -1,6 +1,6 @@
 -- There is one sequencer that runs.
-use Rattle.am_headline.proofs.RepairedRunsWords.{member_stays, ◌≡◌, ℕ, ◌<◌, true, false, sym, ap, ◌∙◌, Rules, view_of, Group, IsUp, Kept, acts, is_member, is_sequencer}
-use Rattle.am_headline.proofs.RepairedRunsWords.{World, is_stopped, and_both, logged, Following, Leading, leading}
+use Rattle.am_headline.proofs.RepairedWords.{member_stays, ◌≡◌, ℕ, ◌<◌, true, false, sym, ap, ◌∙◌, Rules, view_of, Group, IsUp, Kept, acts, is_member, is_sequencer}
+use Rattle.am_headline.proofs.RepairedWords.{World, is_stopped, and_both, logged, Following, Leading, leading}
 use Rattle.am_chain.specs.Group as groups
 
 -- it leads the group

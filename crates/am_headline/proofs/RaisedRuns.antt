@@ -16,7 +16,7 @@ use Rattle.am_laws.proofs.RunCounts.{was_heard, set_same}
 use Rattle.am_laws.proofs.Trims.{Owned}
 use Rattle.am_laws.proofs.TakenRuns.{AllOwned, each_owned, owned_start}
 use Rattle.am_laws.proofs.ViewChanges.{leads_member}
-use Rattle.am_runs.proofs.SentDataRuns.{grown_all}
+use Rattle.am_runs.proofs.SentRuns.{grown_all}
 use Rattle.am_runs.specs.Ballots.{BallotsOk}
 use Rattle.am_runs.proofs.Ballots.{ballots_are_own}
 use Rattle.am_headline.specs.Resiliences.{IsRaised, GivesRaised, GaveRaised, FirstIsView, ListRaised, NodeRaised, PacketRaised, LetterRaised}

@@ -32,15 +32,15 @@ use Rattle.am_laws.proofs.Limits.{EntryWithin, AreNumbers}
 use Rattle.am_laws.proofs.NodeLimits.{SendWithin}
 use Rattle.am_laws.proofs.RunLimits.{first_bounds, small_run}
 use Rattle.am_laws.proofs.Named.{run_named}
-use Rattle.am_runs.proofs.SentDataKept.{WasSent, EntrySent}
-use Rattle.am_runs.proofs.SentDataRuns.{AllSent, each_keeps, sent_start}
-use Rattle.am_laws.proofs.StepEffectsRuns.{runs_keep}
+use Rattle.am_runs.proofs.SentKept.{WasSent, EntrySent}
+use Rattle.am_runs.proofs.SentRuns.{AllSent, each_keeps, sent_start}
+use Rattle.am_laws.proofs.EffectRuns.{runs_keep}
 use Rattle.am_runs.specs.Ballots.{IsOfBallot, LastOk, BallotsOk}
 use Rattle.am_runs.proofs.Ballots.{ballots_are_own}
 use Rattle.am_headline.specs.Records.{AsksBytes, IsSayable, IsAnswer, IsSound, RecordsAreSound, queued_in, queued_by, requests_given, RequestsInTurn, IsBack}
 use Rattle.am_headline.proofs.Names.{EntryNamed, run_said}
 use Rattle.am_headline.proofs.Limits.{Held, run_held}
-use Rattle.am_headline.proofs.SoundRecordsSettled.{IsUpTo, SendsOk, sends_ok}
+use Rattle.am_headline.proofs.RecordsSettled.{IsUpTo, SendsOk, sends_ok}
 use Rattle.am_headline.proofs.Lives.{tells}
 
 -- ---- entries

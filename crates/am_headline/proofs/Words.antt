@@ -33,11 +33,11 @@ pub use Rattle.am_stands.proofs.Words.{found_at, NamesNamed, Moves, none, moves,
 pub use Rattle.am_stands.proofs.Words.{WelcomeTo, has_begun, has_gone, has_left, is_leaving, may_begin, Grows, EventStands, no_move, stop, NameStands}
 pub use Rattle.am_stands.proofs.Words.{NotedStands, Stands, FrontsStand, LinesOpen, OnBranch, on_chain, left_out, BranchesOk}
 unfoldable pub use Rattle.am_stands.proofs.Words.{finish, hear_row, hear, hear_refusal, up_to_view, up_to_next, view_of, count}
-pub use Rattle.am_stands.proofs.StepsMoveWords.{image_of, packet_length, with_noted, hears_letter, hear_cut, acts_as, Ending, let_go, closing, HeardUsed, each_along}
-pub use Rattle.am_stands.proofs.StepsMoveWords.{heard_used, run_owned, HeardNames, change_names, HasNames, change_does, Balloted, numbers_hold, heard_names, IsNoted}
-pub use Rattle.am_stands.proofs.StepsMoveWords.{AllViews, each_views, views_start, few_names, nil_of, goes_on, grows_same, Following, StepsMove, member_stays}
-pub use Rattle.am_stands.proofs.StepsMoveWords.{departed_silent, letters_stay, others_keep, taken_more}
-unfoldable pub use Rattle.am_stands.proofs.StepsMoveWords.{happens}
+pub use Rattle.am_stands.proofs.StepWords.{image_of, packet_length, with_noted, hears_letter, hear_cut, acts_as, Ending, let_go, closing, HeardUsed, each_along}
+pub use Rattle.am_stands.proofs.StepWords.{heard_used, run_owned, HeardNames, change_names, HasNames, change_does, Balloted, numbers_hold, heard_names, IsNoted}
+pub use Rattle.am_stands.proofs.StepWords.{AllViews, each_views, views_start, few_names, nil_of, goes_on, grows_same, Following, StepsMove, member_stays}
+pub use Rattle.am_stands.proofs.StepWords.{departed_silent, letters_stay, others_keep, taken_more}
+unfoldable pub use Rattle.am_stands.proofs.StepWords.{happens}
 pub use Rattle.std.{proofs.lemmas.List.take_all, proofs.lemmas.List.get_or-map, proofs.lemmas.List.Sums.count_by-le-length}
 pub use Rattle.std.{proofs.lemmas.List.Sums.sum_by-cons, specs.Prelude.Contains, specs.Prelude.slice_index_or}
 pub use Rattle.am_base.specs.Lists.{with_entry}
@@ -73,4 +73,4 @@ pub use Rattle.am_stands.proofs.{Events.stop_stands, Events.return_stands, Joins
 pub use Rattle.am_stands.proofs.{Joins.blank_nil, Counting.count_up_to, Counting.names_pass, Counting.names_few, Counting.name_small, Opens.runs_open}
 pub use Rattle.am_stands.proofs.{Opens.moves_open, Growing.same_name, Growing.grows_names, Growing.node_grows}
 pub use Rattle.am_stands.specs.Branches.{ChainNamed}
-pub use Rattle.am_stands.proofs.{StepsMoveSilent.departed_quiet, Statuses.departed_is, Steps.steps_move, Steps.deeds_there}
+pub use Rattle.am_stands.proofs.{StepSilent.departed_quiet, Statuses.departed_is, Steps.steps_move, Steps.deeds_there}

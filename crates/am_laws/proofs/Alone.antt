@@ -1,9 +1,9 @@
 -- A sequencer that is alone is so once its own Leave is numbered, and so it tells nobody.
-use Rattle.am_laws.proofs.StepEffectsWords.{members_data, ◌≡◌, ℕ, zero, suc, ◌+◌, ◌<◌, ◌≤◌, ◌==◌, nat_lt, Bool, true, false, if◌then◌else◌, List, [], ◌∷◌, length}
-use Rattle.am_laws.proofs.StepEffectsWords.{slice_index, slice_set, get_or-set_same, get_or-set_other, refl, sym, ap, ◌∙◌, subst, arith, nat_tests, map-set}
-use Rattle.am_laws.proofs.StepEffectsWords.{get_or_past, length-set, Image, Row, Data, Leave, place_of, life_of, has, size, without_name, Log, told_by, at_place}
-use Rattle.am_laws.proofs.StepEffectsWords.{members_of, member_life, after, slice_index-by_place, length-by_place, Node, top, image_of, name_where, those, others}
-use Rattle.am_laws.proofs.StepEffectsWords.{push_entry, refresh_at_end, split, size_cons}
+use Rattle.am_laws.proofs.EffectWords.{members_data, ◌≡◌, ℕ, zero, suc, ◌+◌, ◌<◌, ◌≤◌, ◌==◌, nat_lt, Bool, true, false, if◌then◌else◌, List, [], ◌∷◌, length}
+use Rattle.am_laws.proofs.EffectWords.{slice_index, slice_set, get_or-set_same, get_or-set_other, refl, sym, ap, ◌∙◌, subst, arith, nat_tests, map-set}
+use Rattle.am_laws.proofs.EffectWords.{get_or_past, length-set, Image, Row, Data, Leave, place_of, life_of, has, size, without_name, Log, told_by, at_place}
+use Rattle.am_laws.proofs.EffectWords.{members_of, member_life, after, slice_index-by_place, length-by_place, Node, top, image_of, name_where, those, others}
+use Rattle.am_laws.proofs.EffectWords.{push_entry, refresh_at_end, split, size_cons}
 use Rattle.am_laws.proofs.{Rests.rests_at_end, Says.told_pushed}
 
 -- ---- sets without a name

@@ -1,12 +1,12 @@
 -- The effects of the calls.
-use Rattle.am_laws.proofs.StepEffectsWords.{not-true, not-false, ◌≡◌, ℕ, ◌+◌, ◌||◌, ◌==◌, nat_lt, nat_le, not, Bool, true, false, if◌then◌else◌, List, [], length}
-use Rattle.am_laws.proofs.StepEffectsWords.{Option, Some, None, find, is_some, inl, inr, refl, ap, ◌∙◌, arith, nat_tests, Entry, Data, Outcome, NodeEvent, size}
-use Rattle.am_laws.proofs.StepEffectsWords.{entry_at, OwnSend, Status, Node, Ballot, top, view, own_row, others, only_name, lowest_or_first, acts, has_room}
-use Rattle.am_laws.proofs.StepEffectsWords.{is_member, is_asking, is_sequencer, waiting, unsettled_count, push_entry, Plan, quiet, join_ask_of, leave_ask_of}
-use Rattle.am_laws.proofs.StepEffectsWords.{hand_over_of, request_of, spread_of, bcast_of, everywhere_else, would_emit, hand_in, number_send, emit, with_queued}
-use Rattle.am_laws.proofs.StepEffectsWords.{queue, give_out, ask_to_join, join_by, state_by, go, leave_now, leave_by, is_unfinished, ask_of, send_row, done_row}
-use Rattle.am_laws.proofs.StepEffectsWords.{take_row, join_row, state_row, leave_row, ask_row, and_both, Cause, calls, numbers, own_send, queues, collects, takes}
-use Rattle.am_laws.proofs.StepEffectsWords.{asks_to_join, asks_to_leave, Course, nothing_yet, and_then, HasSend, join_ask, leave_ask, hand_over, Answers}
+use Rattle.am_laws.proofs.EffectWords.{not-true, not-false, ◌≡◌, ℕ, ◌+◌, ◌||◌, ◌==◌, nat_lt, nat_le, not, Bool, true, false, if◌then◌else◌, List, [], length}
+use Rattle.am_laws.proofs.EffectWords.{Option, Some, None, find, is_some, inl, inr, refl, ap, ◌∙◌, arith, nat_tests, Entry, Data, Outcome, NodeEvent, size}
+use Rattle.am_laws.proofs.EffectWords.{entry_at, OwnSend, Status, Node, Ballot, top, view, own_row, others, only_name, lowest_or_first, acts, has_room}
+use Rattle.am_laws.proofs.EffectWords.{is_member, is_asking, is_sequencer, waiting, unsettled_count, push_entry, Plan, quiet, join_ask_of, leave_ask_of}
+use Rattle.am_laws.proofs.EffectWords.{hand_over_of, request_of, spread_of, bcast_of, everywhere_else, would_emit, hand_in, number_send, emit, with_queued}
+use Rattle.am_laws.proofs.EffectWords.{queue, give_out, ask_to_join, join_by, state_by, go, leave_now, leave_by, is_unfinished, ask_of, send_row, done_row}
+use Rattle.am_laws.proofs.EffectWords.{take_row, join_row, state_row, leave_row, ask_row, and_both, Cause, calls, numbers, own_send, queues, collects, takes}
+use Rattle.am_laws.proofs.EffectWords.{asks_to_join, asks_to_leave, Course, nothing_yet, and_then, HasSend, join_ask, leave_ask, hand_over, Answers}
 use Rattle.am_base.specs.declared.outcome.Outcome.TheVariants as said
 use Rattle.am_base.specs.declared.event.NodeEvent.TheVariants as does
 use Rattle.am_sender.specs.Sends as own

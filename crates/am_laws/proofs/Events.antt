@@ -1,9 +1,9 @@
 -- Each event has its effect on a world.
-use Rattle.am_laws.proofs.StepEffectsWords.{not-false, ◌≡◌, ℕ, nat_lt, nat_le, ◌==◌, ◌||◌, Bool, true, false, not, if◌then◌else◌, Option, Some, None, refl, sym, ap}
-use Rattle.am_laws.proofs.StepEffectsWords.{subst, NodeEvent, place_of, Packet, Letter, Act, Event, is_for, letter_at, Node, has_departed, Step, step, hear}
-use Rattle.am_laws.proofs.StepEffectsWords.{hear_refusal, packet_length, World, current, is_stopped, does_event, gives_up, hears_letter, hear_cut, comes_back}
-use Rattle.am_laws.proofs.StepEffectsWords.{acts_as, happens, heard_by, Cause, calls, hears, refuses, Effect, actor, WasSentTo, IsCall, send, done, take, join, state}
-use Rattle.am_laws.proofs.StepEffectsWords.{leave, reset, ask, tick, IsCause, Happens, idles, stops, returns, steps, EventsHaveEffects}
+use Rattle.am_laws.proofs.EffectWords.{not-false, ◌≡◌, ℕ, nat_lt, nat_le, ◌==◌, ◌||◌, Bool, true, false, not, if◌then◌else◌, Option, Some, None, refl, sym, ap}
+use Rattle.am_laws.proofs.EffectWords.{subst, NodeEvent, place_of, Packet, Letter, Act, Event, is_for, letter_at, Node, has_departed, Step, step, hear}
+use Rattle.am_laws.proofs.EffectWords.{hear_refusal, packet_length, World, current, is_stopped, does_event, gives_up, hears_letter, hear_cut, comes_back}
+use Rattle.am_laws.proofs.EffectWords.{acts_as, happens, heard_by, Cause, calls, hears, refuses, Effect, actor, WasSentTo, IsCall, send, done, take, join, state}
+use Rattle.am_laws.proofs.EffectWords.{leave, reset, ask, tick, IsCause, Happens, idles, stops, returns, steps, EventsHaveEffects}
 use Rattle.am_laws.specs.Events.{give_up}
 use Rattle.am_base.specs.declared.outcome.Outcome.TheVariants as said
 use Rattle.am_base.specs.declared.event.NodeEvent.TheVariants as does

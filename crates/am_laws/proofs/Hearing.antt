@@ -1,9 +1,9 @@
 -- Each row has its effect.
-use Rattle.am_laws.proofs.StepEffectsWords.{not-true, ◌≡◌, ℕ, ◌==◌, ◌&&◌, Bool, true, false, not, if◌then◌else◌, List, Ok, Err, refl, Stamp, Report, NodeEvent}
-use Rattle.am_laws.proofs.StepEffectsWords.{stamp_eq, Packet, Read, reading, Node, image_of, view, acts, is_sequencer, Plan, request_row, spread_row, hand_over_row}
-use Rattle.am_laws.proofs.StepEffectsWords.{hears_member, hears_asking, hears_in_view, hears_sequencer, where_heard, hear_row, read_row, row, step, hear, refuse}
-use Rattle.am_laws.proofs.StepEffectsWords.{hear_refusal, and_both, Cause, hears, refuses, by_request, by_spread, cause_of_read, cause_of, by_reset, by_hand_over}
-use Rattle.am_laws.proofs.StepEffectsWords.{StepsHaveEffects, HearingHasEffects, RefusingHasEffects}
+use Rattle.am_laws.proofs.EffectWords.{not-true, ◌≡◌, ℕ, ◌==◌, ◌&&◌, Bool, true, false, not, if◌then◌else◌, List, Ok, Err, refl, Stamp, Report, NodeEvent}
+use Rattle.am_laws.proofs.EffectWords.{stamp_eq, Packet, Read, reading, Node, image_of, view, acts, is_sequencer, Plan, request_row, spread_row, hand_over_row}
+use Rattle.am_laws.proofs.EffectWords.{hears_member, hears_asking, hears_in_view, hears_sequencer, where_heard, hear_row, read_row, row, step, hear, refuse}
+use Rattle.am_laws.proofs.EffectWords.{hear_refusal, and_both, Cause, hears, refuses, by_request, by_spread, cause_of_read, cause_of, by_reset, by_hand_over}
+use Rattle.am_laws.proofs.EffectWords.{StepsHaveEffects, HearingHasEffects, RefusingHasEffects}
 use Rattle.am_base.specs.declared.event.NodeEvent.TheVariants as does
 use Rattle.am_packet.specs.declared.packet.Packet.TheVariants as packet
 use Rattle.am_laws.proofs.Sequencing.{FromMember, row_request, row_ack, row_nack, row_join_ask, row_leave_ask}

@@ -1,7 +1,7 @@
 -- Items of lists, and what holds of each of them.
-use Rattle.am_laws.proofs.StepEffectsWords.{◌≡◌, ◌⊎◌, inl, inr, ℕ, zero, suc, ◌==◌, Bool, true, List, [], ◌∷◌, ◌++◌, length, find, Some, slice_get, refl, sym, ap}
-use Rattle.am_laws.proofs.StepEffectsWords.{◌∙◌, subst, All, All-head, All-tail, All-cons, All-append, All-take, All-drop, size, Packet, Letter, letter_to, place_for}
-use Rattle.am_laws.proofs.StepEffectsWords.{with_letter, kind_of, item_at, split}
+use Rattle.am_laws.proofs.EffectWords.{◌≡◌, ◌⊎◌, inl, inr, ℕ, zero, suc, ◌==◌, Bool, true, List, [], ◌∷◌, ◌++◌, length, find, Some, slice_get, refl, sym, ap}
+use Rattle.am_laws.proofs.EffectWords.{◌∙◌, subst, All, All-head, All-tail, All-cons, All-append, All-take, All-drop, size, Packet, Letter, letter_to, place_for}
+use Rattle.am_laws.proofs.EffectWords.{with_letter, kind_of, item_at, split}
 use Rattle.std.proofs.Common.{take}
 
 -- ---- an item

@@ -1,4 +1,4 @@
-pub mod StepEffectsWords
+pub mod EffectWords
 pub mod Tests
 pub mod Statuses
 pub mod Items
@@ -14,11 +14,11 @@ pub mod Receiving
 pub mod Resets
 pub mod Hearing
 pub mod Events
-pub mod StepEffectsRuns
+pub mod EffectRuns
 pub mod Nodes
 pub mod Kept
 pub mod Changes
-pub mod BoundedNodesRuns
+pub mod BoundedRuns
 pub mod Words
 pub mod Counts
 pub mod BallotCounts
@@ -47,7 +47,7 @@ pub mod Trims
 pub mod Taken
 pub mod TakenRuns
 pub mod ViewMembers
-pub mod WatchedRunsWords
+pub mod WatchedWords
 pub mod Chains
 pub mod Lists
 pub mod Own

@@ -1,9 +1,9 @@
 -- A name's step only adds entries to its list.
-use Rattle.am_laws.proofs.WatchedRunsWords.{Each, each_node_keeps, first_has, equals_itself, ◌≡◌, ℕ, ◌<◌, ◌≤◌, Bool, false, if◌then◌else◌, List, [], ◌++◌, length}
-use Rattle.am_laws.proofs.WatchedRunsWords.{drop, refl, sym, ap, ◌∙◌, subst, arith, All, append-nil, drop-append_seam, Rules, MayFound, Packet, Event, Node, has_log}
-use Rattle.am_laws.proofs.WatchedRunsWords.{Step, World, start, first_node, with_step, run, heard_by, Cause, Effect, actor, WasSentTo, IsCause, steps, along}
-use Rattle.am_laws.proofs.WatchedRunsWords.{EachKeeps, runs_keep, accepted_of, NodeNumbers, AllNamed, few_names, each_named, numbers_hold, AllViews, heard_names}
-use Rattle.am_laws.proofs.WatchedRunsWords.{each_views, views_start, ListsGoOn}
+use Rattle.am_laws.proofs.WatchedWords.{Each, each_node_keeps, first_has, equals_itself, ◌≡◌, ℕ, ◌<◌, ◌≤◌, Bool, false, if◌then◌else◌, List, [], ◌++◌, length}
+use Rattle.am_laws.proofs.WatchedWords.{drop, refl, sym, ap, ◌∙◌, subst, arith, All, append-nil, drop-append_seam, Rules, MayFound, Packet, Event, Node, has_log}
+use Rattle.am_laws.proofs.WatchedWords.{Step, World, start, first_node, with_step, run, heard_by, Cause, Effect, actor, WasSentTo, IsCause, steps, along}
+use Rattle.am_laws.proofs.WatchedWords.{EachKeeps, runs_keep, accepted_of, NodeNumbers, AllNamed, few_names, each_named, numbers_hold, AllViews, heard_names}
+use Rattle.am_laws.proofs.WatchedWords.{each_views, views_start, ListsGoOn}
 use Rattle.am_packet.specs.declared.packet.Packet.TheVariants as packet
 use Rattle.am_laws.proofs.Chains.{IsLonger, changes_longer, HeardLow, change_begins, changes_stay}
 

@@ -1,7 +1,7 @@
 -- What each node keeps in every run, beside a law of worlds that it may stand on.
-use Rattle.am_laws.proofs.StepEffectsWords.{◌≡◌, ℕ, ◌==◌, List, subst, arith, nat_tests, split, Outcome, Rules, has, Event, Node, founder, stranger, Step, World}
-use Rattle.am_laws.proofs.StepEffectsWords.{start, run, first_node, with_record, with_step, Cause, Change, Effect, actor, IsCause, idles, stops, returns, steps}
-use Rattle.am_laws.proofs.StepEffectsRuns.{along, EachKeeps, runs_keep}
+use Rattle.am_laws.proofs.EffectWords.{◌≡◌, ℕ, ◌==◌, List, subst, arith, nat_tests, split, Outcome, Rules, has, Event, Node, founder, stranger, Step, World}
+use Rattle.am_laws.proofs.EffectWords.{start, run, first_node, with_record, with_step, Cause, Change, Effect, actor, IsCause, idles, stops, returns, steps}
+use Rattle.am_laws.proofs.EffectRuns.{along, EachKeeps, runs_keep}
 
 -- what is so of each name's node, and a law of the world beside it
 pub record Each (Base : World → Type 0) (P : ℕ → Node → Type 0) (w : World) : Type 0 where

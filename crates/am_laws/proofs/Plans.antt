@@ -1,11 +1,11 @@
 -- What a row's plan does, and the effect once it is done.
-use Rattle.am_laws.proofs.StepEffectsWords.{◌≡◌, ℕ, Bool, true, false, nat_lt, ◌==◌, ◌&&◌, if◌then◌else◌, List, [], inl, inr, refl, ap, arith, All, nat_tests}
-use Rattle.am_laws.proofs.StepEffectsWords.{All-nil, Stamp, stamp_eq, Entry, Leave, Outcome, NodeEvent, size, Packet, Letter, with_letter, Status, Departed, Node}
-use Rattle.am_laws.proofs.StepEffectsWords.{view, others, is_member, is_sequencer, has_room, with_report, push_entry, refresh, refresh_at_end, Plan, quiet, telling}
-use Rattle.am_laws.proofs.StepEffectsWords.{polling, and_telling, and_where, numbering, accept_of, tells_accepted, with_accept, finish, split, and_both, hears_member}
-use Rattle.am_laws.proofs.StepEffectsWords.{Cause, calls, hears, Change, refreshes, settles, takes_report, departs, looks, closes, Changes, unchanged, changed}
-use Rattle.am_laws.proofs.StepEffectsWords.{Course, nothing_yet, used_report, and_then, Deeds, plainly, looked, at_end, let_go, closing, Says, accept, LetterSays}
-use Rattle.am_laws.proofs.StepEffectsWords.{Answers, Effect}
+use Rattle.am_laws.proofs.EffectWords.{◌≡◌, ℕ, Bool, true, false, nat_lt, ◌==◌, ◌&&◌, if◌then◌else◌, List, [], inl, inr, refl, ap, arith, All, nat_tests}
+use Rattle.am_laws.proofs.EffectWords.{All-nil, Stamp, stamp_eq, Entry, Leave, Outcome, NodeEvent, size, Packet, Letter, with_letter, Status, Departed, Node}
+use Rattle.am_laws.proofs.EffectWords.{view, others, is_member, is_sequencer, has_room, with_report, push_entry, refresh, refresh_at_end, Plan, quiet, telling}
+use Rattle.am_laws.proofs.EffectWords.{polling, and_telling, and_where, numbering, accept_of, tells_accepted, with_accept, finish, split, and_both, hears_member}
+use Rattle.am_laws.proofs.EffectWords.{Cause, calls, hears, Change, refreshes, settles, takes_report, departs, looks, closes, Changes, unchanged, changed}
+use Rattle.am_laws.proofs.EffectWords.{Course, nothing_yet, used_report, and_then, Deeds, plainly, looked, at_end, let_go, closing, Says, accept, LetterSays}
+use Rattle.am_laws.proofs.EffectWords.{Answers, Effect}
 use Rattle.am_base.specs.declared.outcome.Outcome.TheVariants as said
 use Rattle.am_packet.specs.declared.packet.Packet.TheVariants as packet
 use Rattle.am_laws.proofs.{Items.all_letter, Rests.Rests, Rests.RestsWhole, Rests.rests_at_end}

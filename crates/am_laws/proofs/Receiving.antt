@@ -1,13 +1,13 @@
 -- The effects of what a member hears of its sequencer, of bodies that are spread, and of a joiner's Welcome.
-use Rattle.am_laws.proofs.StepEffectsWords.{not-false, same_Some, ◌≡◌, ℕ, ◌+◌, ◌<◌, ◌≤◌, ◌==◌, ◌&&◌, ◌||◌, nat_lt, nat_le, not, Bool, true, false, List, Option, Some}
-use Rattle.am_laws.proofs.StepEffectsWords.{None, refl, sym, ap, subst, ◌∙◌, arith, list_any, nat_tests, Report, Image, Stamp, Entry, Data, Outcome, stamp_lt}
-use Rattle.am_laws.proofs.StepEffectsWords.{stamp_eq, fits, row_of, OwnSend, is_of, keep_body, Node, top, image_of, view, only_name, acts, is_member, is_asking}
-use Rattle.am_laws.proofs.StepEffectsWords.{has_own_leave, is_within_bound, waiting, push_entry, quiet, ack_of, nack_of, fetch_of, row_at, if_risen, spread_row}
-use Rattle.am_laws.proofs.StepEffectsWords.{is_view, with_noted, acknowledges, bodies_after, body_of, store_fitting, store, receive_entry, bcast_row, data_of}
-use Rattle.am_laws.proofs.StepEffectsWords.{order_row, accept_row, answer_hold, hold_row, begin_list, ask_next, welcome_row, gone_row, hears_member, hears_asking}
-use Rattle.am_laws.proofs.StepEffectsWords.{hears_in_view, hears_sequencer, split, and_both, Cause, hears, BringsFronts, with_entry, with_number, alone, MayStore}
-use Rattle.am_laws.proofs.StepEffectsWords.{Carries, whole_entry, by_number, MayBeWelcomed, keeps_body, notes, stores, begins_list, Course, nothing_yet, and_then}
-use Rattle.am_laws.proofs.StepEffectsWords.{fetch, of_promise, Answers}
+use Rattle.am_laws.proofs.EffectWords.{not-false, same_Some, ◌≡◌, ℕ, ◌+◌, ◌<◌, ◌≤◌, ◌==◌, ◌&&◌, ◌||◌, nat_lt, nat_le, not, Bool, true, false, List, Option, Some}
+use Rattle.am_laws.proofs.EffectWords.{None, refl, sym, ap, subst, ◌∙◌, arith, list_any, nat_tests, Report, Image, Stamp, Entry, Data, Outcome, stamp_lt}
+use Rattle.am_laws.proofs.EffectWords.{stamp_eq, fits, row_of, OwnSend, is_of, keep_body, Node, top, image_of, view, only_name, acts, is_member, is_asking}
+use Rattle.am_laws.proofs.EffectWords.{has_own_leave, is_within_bound, waiting, push_entry, quiet, ack_of, nack_of, fetch_of, row_at, if_risen, spread_row}
+use Rattle.am_laws.proofs.EffectWords.{is_view, with_noted, acknowledges, bodies_after, body_of, store_fitting, store, receive_entry, bcast_row, data_of}
+use Rattle.am_laws.proofs.EffectWords.{order_row, accept_row, answer_hold, hold_row, begin_list, ask_next, welcome_row, gone_row, hears_member, hears_asking}
+use Rattle.am_laws.proofs.EffectWords.{hears_in_view, hears_sequencer, split, and_both, Cause, hears, BringsFronts, with_entry, with_number, alone, MayStore}
+use Rattle.am_laws.proofs.EffectWords.{Carries, whole_entry, by_number, MayBeWelcomed, keeps_body, notes, stores, begins_list, Course, nothing_yet, and_then}
+use Rattle.am_laws.proofs.EffectWords.{fetch, of_promise, Answers}
 use Rattle.am_base.specs.declared.outcome.Outcome.TheVariants as said
 use Rattle.am_packet.specs.declared.packet.Packet.TheVariants as packet
 use Rattle.am_laws.proofs.Plans.{Comes, HasEffect, effect_if, effect_of, does_quiet, does_saying, does_telling, does_where, row_let_go, rows}

@@ -1,12 +1,12 @@
 -- The effects of what belongs to ballots.
-use Rattle.am_laws.proofs.StepEffectsWords.{not-true, not-false, ◌≡◌, ℕ, ◌+◌, ◌≤◌, max, ◌==◌, ◌&&◌, ◌||◌, nat_lt, nat_le, not, Bool, true, false, List, [], Option}
-use Rattle.am_laws.proofs.StepEffectsWords.{Some, None, refl, sym, ap, ◌∙◌, arith, nat_tests, Vote, Image, Stamp, Entry, View, Outcome, stamp_lt, stamp_eq, fits}
-use Rattle.am_laws.proofs.StepEffectsWords.{Node, Ballot, top, image_of, view, only_name, is_member, has_own_leave, is_within_bound, push_entry, trim_up_to, Plan}
-use Rattle.am_laws.proofs.StepEffectsWords.{quiet, ack_of, fetch_of, piece_of, is_unfinished, with_promise, vote_of, invite_row, is_open, take_vote, vote_row}
-use Rattle.am_laws.proofs.StepEffectsWords.{may_fetch, fetch_row, is_view_past, push_fetched, catch_up, decide_anew, fetches_from, piece_promised, piece_for}
-use Rattle.am_laws.proofs.StepEffectsWords.{piece_row, hears_result, result_row, hears_member, hears_asking, and_both, Cause, hears, HasOpen, with_more, as_it_is}
-use Rattle.am_laws.proofs.StepEffectsWords.{was_fetched, MayStore, without_ballot, invited, overtaken, told_result, promises, fetches, stores_view, Course}
-use Rattle.am_laws.proofs.StepEffectsWords.{nothing_yet, and_then, vote, piece, ack, fetch, of_promise}
+use Rattle.am_laws.proofs.EffectWords.{not-true, not-false, ◌≡◌, ℕ, ◌+◌, ◌≤◌, max, ◌==◌, ◌&&◌, ◌||◌, nat_lt, nat_le, not, Bool, true, false, List, [], Option}
+use Rattle.am_laws.proofs.EffectWords.{Some, None, refl, sym, ap, ◌∙◌, arith, nat_tests, Vote, Image, Stamp, Entry, View, Outcome, stamp_lt, stamp_eq, fits}
+use Rattle.am_laws.proofs.EffectWords.{Node, Ballot, top, image_of, view, only_name, is_member, has_own_leave, is_within_bound, push_entry, trim_up_to, Plan}
+use Rattle.am_laws.proofs.EffectWords.{quiet, ack_of, fetch_of, piece_of, is_unfinished, with_promise, vote_of, invite_row, is_open, take_vote, vote_row}
+use Rattle.am_laws.proofs.EffectWords.{may_fetch, fetch_row, is_view_past, push_fetched, catch_up, decide_anew, fetches_from, piece_promised, piece_for}
+use Rattle.am_laws.proofs.EffectWords.{piece_row, hears_result, result_row, hears_member, hears_asking, and_both, Cause, hears, HasOpen, with_more, as_it_is}
+use Rattle.am_laws.proofs.EffectWords.{was_fetched, MayStore, without_ballot, invited, overtaken, told_result, promises, fetches, stores_view, Course}
+use Rattle.am_laws.proofs.EffectWords.{nothing_yet, and_then, vote, piece, ack, fetch, of_promise}
 use Rattle.am_laws.specs.Changes.{for_ballot}
 use Rattle.am_base.specs.declared.outcome.Outcome.TheVariants as said
 use Rattle.am_packet.specs.declared.packet.Packet.TheVariants as packet

@@ -1,12 +1,12 @@
 -- The effects of what the sequencer hears.
-use Rattle.am_laws.proofs.StepEffectsWords.{not-false, ◌≡◌, ◌≢◌, ℕ, ◌+◌, ◌<◌, ◌≤◌, ◌==◌, ◌&&◌, ◌||◌, nat_lt, nat_le, not, Bool, true, false, List, [], ◌∷◌, refl, sym}
-use Rattle.am_laws.proofs.StepEffectsWords.{ap, ◌∙◌, length-append, arith, nat_tests, Report, Row, Stamp, Data, Join, Leave, Outcome, life_of, stamp_eq, Log, top_of}
-use Rattle.am_laws.proofs.StepEffectsWords.{fits, at_place, row_of, told_by, Node, top, image_of, view, others, only_name, is_sequencer, has_room, report_fits}
-use Rattle.am_laws.proofs.StepEffectsWords.{with_report, push_entry, Plan, quiet, polling, numbering, bcast_of, hold_of, welcome_of, gone_of, row_at, is_unknown}
-use Rattle.am_laws.proofs.StepEffectsWords.{take_report, answer_request, request_row, if_risen, ack_row, serve_again, nack_row, with_admitted, number_join}
-use Rattle.am_laws.proofs.StepEffectsWords.{join_ask_row, may_go, and_gone, counts_report, leave_ask_row, split, and_both, Cause, hears, BringsSend, BringsReport}
-use Rattle.am_laws.proofs.StepEffectsWords.{with_send, by_ack, by_nack, by_leave_ask, MayReport, takes_report, admits, numbers, asked_send, asked_join, asked_leave}
-use Rattle.am_laws.proofs.StepEffectsWords.{Course, nothing_yet, used_report, and_then, Stands, bcast, order, hold, welcome, gone, just_joined, asks_again, Answers}
+use Rattle.am_laws.proofs.EffectWords.{not-false, ◌≡◌, ◌≢◌, ℕ, ◌+◌, ◌<◌, ◌≤◌, ◌==◌, ◌&&◌, ◌||◌, nat_lt, nat_le, not, Bool, true, false, List, [], ◌∷◌, refl, sym}
+use Rattle.am_laws.proofs.EffectWords.{ap, ◌∙◌, length-append, arith, nat_tests, Report, Row, Stamp, Data, Join, Leave, Outcome, life_of, stamp_eq, Log, top_of}
+use Rattle.am_laws.proofs.EffectWords.{fits, at_place, row_of, told_by, Node, top, image_of, view, others, only_name, is_sequencer, has_room, report_fits}
+use Rattle.am_laws.proofs.EffectWords.{with_report, push_entry, Plan, quiet, polling, numbering, bcast_of, hold_of, welcome_of, gone_of, row_at, is_unknown}
+use Rattle.am_laws.proofs.EffectWords.{take_report, answer_request, request_row, if_risen, ack_row, serve_again, nack_row, with_admitted, number_join}
+use Rattle.am_laws.proofs.EffectWords.{join_ask_row, may_go, and_gone, counts_report, leave_ask_row, split, and_both, Cause, hears, BringsSend, BringsReport}
+use Rattle.am_laws.proofs.EffectWords.{with_send, by_ack, by_nack, by_leave_ask, MayReport, takes_report, admits, numbers, asked_send, asked_join, asked_leave}
+use Rattle.am_laws.proofs.EffectWords.{Course, nothing_yet, used_report, and_then, Stands, bcast, order, hold, welcome, gone, just_joined, asks_again, Answers}
 use Rattle.am_model.specs.Joining.{asks_to_join, let_go, asks_to_leave}
 use Rattle.am_base.specs.declared.outcome.Outcome.TheVariants as said
 use Rattle.am_packet.specs.declared.packet.Packet.TheVariants as packet

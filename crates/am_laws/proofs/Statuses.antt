@@ -1,5 +1,5 @@
 -- Who has a list, by its status.
-use Rattle.am_laws.proofs.StepEffectsWords.{◌≡◌, true, false, refl, Status, is_member, is_asking, has_log}
+use Rattle.am_laws.proofs.EffectWords.{◌≡◌, true, false, refl, Status, is_member, is_asking, has_log}
 use Rattle.am_model.specs.declared.status.Status.TheVariants as status
 
 -- a member has one

@@ -1,5 +1,5 @@
 -- What tests in a row say.
-use Rattle.am_laws.proofs.StepEffectsWords.{not-false, ℕ, ◌==◌, eq-eqb, ◌≡◌, Bool, true, false, not, ◌&&◌, ◌||◌, refl}
+use Rattle.am_laws.proofs.EffectWords.{not-false, ℕ, ◌==◌, eq-eqb, ◌≡◌, Bool, true, false, not, ◌&&◌, ◌||◌, refl}
 
 pub equals_itself : (n : ℕ) → (n == n) ≡ true
 equals_itself n = eq-eqb n n refl

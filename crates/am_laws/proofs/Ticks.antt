@@ -1,10 +1,10 @@
 -- The effect of the tick.
-use Rattle.am_laws.proofs.StepEffectsWords.{not-false, ◌≡◌, ◌==◌, ◌&&◌, nat_lt, nat_le, [], length, not, true, false, Option, Some, None, refl, sym, ap, ◌∙◌, arith}
-use Rattle.am_laws.proofs.StepEffectsWords.{nat_tests, Stamp, Outcome, Data, size, entry_at, OwnSend, Status, Node, Ballot, image_of, view, others, only_name, acts}
-use Rattle.am_laws.proofs.StepEffectsWords.{has_room, is_asking, is_member, is_sequencer, waiting, quiet, ack_of, invite_of, fetch_of, result_of, would_emit, emit}
-use Rattle.am_laws.proofs.StepEffectsWords.{go, tick_ballot, tick_promised, tick_member, put_off, behind_view, viewed_by, and_result, tick_sequencer, tick_acting}
-use Rattle.am_laws.proofs.StepEffectsWords.{tick_with, tick_by, tick_row, split, Cause, calls, nothing_yet, HasOpen, Says, invite, fetch, result, goes_on, for_ballot}
-use Rattle.am_laws.proofs.StepEffectsWords.{of_promise, leads, Answers}
+use Rattle.am_laws.proofs.EffectWords.{not-false, ◌≡◌, ◌==◌, ◌&&◌, nat_lt, nat_le, [], length, not, true, false, Option, Some, None, refl, sym, ap, ◌∙◌, arith}
+use Rattle.am_laws.proofs.EffectWords.{nat_tests, Stamp, Outcome, Data, size, entry_at, OwnSend, Status, Node, Ballot, image_of, view, others, only_name, acts}
+use Rattle.am_laws.proofs.EffectWords.{has_room, is_asking, is_member, is_sequencer, waiting, quiet, ack_of, invite_of, fetch_of, result_of, would_emit, emit}
+use Rattle.am_laws.proofs.EffectWords.{go, tick_ballot, tick_promised, tick_member, put_off, behind_view, viewed_by, and_result, tick_sequencer, tick_acting}
+use Rattle.am_laws.proofs.EffectWords.{tick_with, tick_by, tick_row, split, Cause, calls, nothing_yet, HasOpen, Says, invite, fetch, result, goes_on, for_ballot}
+use Rattle.am_laws.proofs.EffectWords.{of_promise, leads, Answers}
 use Rattle.am_base.specs.declared.outcome.Outcome.TheVariants as said
 use Rattle.am_base.specs.declared.event.NodeEvent.TheVariants as does
 use Rattle.am_model.specs.declared.status.Status.TheVariants as status

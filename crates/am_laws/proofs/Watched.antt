@@ -1,10 +1,10 @@
 -- What is kept goes on with the watched run of one event more.
-use Rattle.am_laws.proofs.WatchedRunsWords.{◌≡◌, ℕ, ◌+◌, ◌<◌, ◌≤◌, true, List, [], ◌∷◌, ◌++◌, length, refl, sym, ap, ◌∙◌, subst, list_any, list_any-append, Entry}
-use Rattle.am_laws.proofs.WatchedRunsWords.{Rules, Event, Node, view, World, run, happens, with_record, lives_on, current, is_stopped, Watch, watch_start, watch}
-use Rattle.am_laws.proofs.WatchedRunsWords.{watch_all, watch_run, is_view_of, split, watched_is_run, actor, Watching, watch_step, stop, pass, accept, Watches}
-use Rattle.am_laws.proofs.WatchedRunsWords.{standing_of, view_of, additions, IsNew, Steps, SteppedTo, SameBut, beginning_is_watched, steps_are_watched}
-use Rattle.am_laws.proofs.WatchedRunsWords.{stops_are_watched, others_are_watched, watched_after, same_unchanged, same_stopped, same_lives, stepped_to, stored_since}
-use Rattle.am_laws.proofs.WatchedRunsWords.{BeginningIsKept, BreakIsKept, after_step, StepIsWatched, StopIsWatched, ReturnIsWatched, PassIsWatched}
+use Rattle.am_laws.proofs.WatchedWords.{◌≡◌, ℕ, ◌+◌, ◌<◌, ◌≤◌, true, List, [], ◌∷◌, ◌++◌, length, refl, sym, ap, ◌∙◌, subst, list_any, list_any-append, Entry}
+use Rattle.am_laws.proofs.WatchedWords.{Rules, Event, Node, view, World, run, happens, with_record, lives_on, current, is_stopped, Watch, watch_start, watch}
+use Rattle.am_laws.proofs.WatchedWords.{watch_all, watch_run, is_view_of, split, watched_is_run, actor, Watching, watch_step, stop, pass, accept, Watches}
+use Rattle.am_laws.proofs.WatchedWords.{standing_of, view_of, additions, IsNew, Steps, SteppedTo, SameBut, beginning_is_watched, steps_are_watched}
+use Rattle.am_laws.proofs.WatchedWords.{stops_are_watched, others_are_watched, watched_after, same_unchanged, same_stopped, same_lives, stepped_to, stored_since}
+use Rattle.am_laws.proofs.WatchedWords.{BeginningIsKept, BreakIsKept, after_step, StepIsWatched, StopIsWatched, ReturnIsWatched, PassIsWatched}
 use Rattle.am_watching.specs.Watches.{after}
 use Rattle.am_play.specs.World as runs
 use Rattle.am_laws.proofs.{Lists.lists_go_on, New.decided_are_new}

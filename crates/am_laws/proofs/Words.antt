@@ -1,34 +1,34 @@
 -- The words of this crate's proofs, of the crates and definitions that they come from.
-pub use Rattle.am_laws.proofs.StepEffectsWords.{◌≡◌, ℕ, ◌+◌, ◌≤◌, ◌==◌, nat_lt, max, min, Bool, true, false, if◌then◌else◌, List, Option, Some, None, option_map}
-pub use Rattle.am_laws.proofs.StepEffectsWords.{refl, ap, arith, ◌<◌, [], sym, ◌∙◌, subst, ◌||◌, not, ◌∷◌, find, length-append, ◌⊎◌, inl, inr, ◌-◌, ◌&&◌, nat_le}
-pub use Rattle.am_laws.proofs.StepEffectsWords.{length, ◌++◌, zero, suc, slice_index, drop, ◌≢◌, slice_get, nat_tests, length-set, map-set, All-head, All-tail}
-pub use Rattle.am_laws.proofs.StepEffectsWords.{All-nil, All-cons, All-take, All-append, All-drop, list_any, All, Vote, View, Data, Leave, Join, Outcome, has}
-pub use Rattle.am_laws.proofs.StepEffectsWords.{place_of, life_of, size, split, and_both, Rules, Log, top_of, entry_at, at_place, row_of, member_life, told_by}
-pub use Rattle.am_laws.proofs.StepEffectsWords.{members_of, Entry, Report, Stamp, stamp_lt, stamp_eq, NodeEvent, Row, Image, slice_index-by_place, length-by_place}
-pub use Rattle.am_laws.proofs.StepEffectsWords.{Packet, Letter, base_after, is_of, keep_body, OwnSend, Act, Event, is_for, letter_at, Node, Ballot, top, image_of}
-pub use Rattle.am_laws.proofs.StepEffectsWords.{push_entry, is_member, is_sequencer, has_log, waiting, unsettled_count, view, acts, trim_up_to, with_report}
-pub use Rattle.am_laws.proofs.StepEffectsWords.{is_within_bound, name_where, stranger, founder, members, is_asking, others, lowest_or_first, Verdict, with_promise}
-pub use Rattle.am_laws.proofs.StepEffectsWords.{trim_for, next_stamp, new_ballot, with_vote, without_voter, need_of, left_in, give_up_of, number_send, emit}
-pub use Rattle.am_laws.proofs.StepEffectsWords.{with_queued, queue, give_out, join_by, state_by, go, is_unfinished, leave_now, leave_by, ask_of, Status, advance}
-pub use Rattle.am_laws.proofs.StepEffectsWords.{accepted_at, settle_at, settle_waiting, Plan, quiet, Step, is_view, store_fitting, store, with_noted, receive_entry}
-pub use Rattle.am_laws.proofs.StepEffectsWords.{data_of, body_of, answer_hold, bodies_after, tick_ballot, tick_member, put_off, and_result, tick_sequencer}
-pub use Rattle.am_laws.proofs.StepEffectsWords.{tick_acting, tick_with, tick_by, viewed_by, refuse, packet_length, take_report, answer_request, serve_again}
-pub use Rattle.am_laws.proofs.StepEffectsWords.{is_unknown, with_admitted, number_join, begin_list, may_go, take_vote, push_fetched, catch_up, decide_anew}
-pub use Rattle.am_laws.proofs.StepEffectsWords.{piece_promised, piece_for, hears_result, hears_member, hears_asking, hears_sequencer, hears_in_view, World, start}
-pub use Rattle.am_laws.proofs.StepEffectsWords.{first_node, run, is_stopped, hears_letter, hear_cut, acts_as, current, heard_by, Cause, calls, hears, BringsSend}
-pub use Rattle.am_laws.proofs.StepEffectsWords.{by_request, by_spread, Change, refreshes, settles, numbers, notes, stores, begins_list, departs, looks, fetches}
-pub use Rattle.am_laws.proofs.StepEffectsWords.{stores_view, asks_to_join, closes, Changes, no_change, changed, promises, opens, asked_send, own_send, asked_join}
-pub use Rattle.am_laws.proofs.StepEffectsWords.{asked_leave, Carries, whole_entry, by_number, unchanged, keeps_body, queues, collects, invited, told_result}
-pub use Rattle.am_laws.proofs.StepEffectsWords.{without_ballot, takes_report, admits, takes, MayBeWelcomed, actor, IsCall, IsCause, idles, stops, returns, steps}
-pub use Rattle.am_laws.proofs.StepEffectsWords.{WasSentTo, Happens, Looks, finds_itself_out, HasOpen, Balloting, with_more, without_one, as_it_is, decides}
-pub use Rattle.am_laws.proofs.StepEffectsWords.{finds_no_room, waits, fetches_from_best, finds_too_few, just_joined, asks_again, Says, bcast, order, hold, join_ask}
-pub use Rattle.am_laws.proofs.StepEffectsWords.{welcome, gone, invite, fetch, piece, result, hand_over, HasSend, request, spread, vote, LetterSays, Effect}
-unfoldable pub use Rattle.am_laws.proofs.StepEffectsWords.{fits, after, fold, pass_over, own_report, tell, go_on, those, decide, begin, keep_vote, give_up, best_of}
-unfoldable pub use Rattle.am_laws.proofs.StepEffectsWords.{give_up_row, reset_row, send_row, done_row, take_row, join_row, state_row, leave_row, ask_row, refresh}
-unfoldable pub use Rattle.am_laws.proofs.StepEffectsWords.{lead, settle, refresh_at_end, finish, spread_row, bcast_row, order_row, accept_row, hold_row, tick_row}
-unfoldable pub use Rattle.am_laws.proofs.StepEffectsWords.{step, hear, hear_refusal, row, request_row, ack_row, nack_row, join_ask_row, welcome_row, leave_ask_row}
-unfoldable pub use Rattle.am_laws.proofs.StepEffectsWords.{gone_row, invite_row, vote_row, fetch_row, piece_row, result_row, hand_over_row, hear_row, with_record}
-unfoldable pub use Rattle.am_laws.proofs.StepEffectsWords.{with_step, happens, happen}
+pub use Rattle.am_laws.proofs.EffectWords.{◌≡◌, ℕ, ◌+◌, ◌≤◌, ◌==◌, nat_lt, max, min, Bool, true, false, if◌then◌else◌, List, Option, Some, None, option_map}
+pub use Rattle.am_laws.proofs.EffectWords.{refl, ap, arith, ◌<◌, [], sym, ◌∙◌, subst, ◌||◌, not, ◌∷◌, find, length-append, ◌⊎◌, inl, inr, ◌-◌, ◌&&◌, nat_le}
+pub use Rattle.am_laws.proofs.EffectWords.{length, ◌++◌, zero, suc, slice_index, drop, ◌≢◌, slice_get, nat_tests, length-set, map-set, All-head, All-tail}
+pub use Rattle.am_laws.proofs.EffectWords.{All-nil, All-cons, All-take, All-append, All-drop, list_any, All, Vote, View, Data, Leave, Join, Outcome, has}
+pub use Rattle.am_laws.proofs.EffectWords.{place_of, life_of, size, split, and_both, Rules, Log, top_of, entry_at, at_place, row_of, member_life, told_by}
+pub use Rattle.am_laws.proofs.EffectWords.{members_of, Entry, Report, Stamp, stamp_lt, stamp_eq, NodeEvent, Row, Image, slice_index-by_place, length-by_place}
+pub use Rattle.am_laws.proofs.EffectWords.{Packet, Letter, base_after, is_of, keep_body, OwnSend, Act, Event, is_for, letter_at, Node, Ballot, top, image_of}
+pub use Rattle.am_laws.proofs.EffectWords.{push_entry, is_member, is_sequencer, has_log, waiting, unsettled_count, view, acts, trim_up_to, with_report}
+pub use Rattle.am_laws.proofs.EffectWords.{is_within_bound, name_where, stranger, founder, members, is_asking, others, lowest_or_first, Verdict, with_promise}
+pub use Rattle.am_laws.proofs.EffectWords.{trim_for, next_stamp, new_ballot, with_vote, without_voter, need_of, left_in, give_up_of, number_send, emit}
+pub use Rattle.am_laws.proofs.EffectWords.{with_queued, queue, give_out, join_by, state_by, go, is_unfinished, leave_now, leave_by, ask_of, Status, advance}
+pub use Rattle.am_laws.proofs.EffectWords.{accepted_at, settle_at, settle_waiting, Plan, quiet, Step, is_view, store_fitting, store, with_noted, receive_entry}
+pub use Rattle.am_laws.proofs.EffectWords.{data_of, body_of, answer_hold, bodies_after, tick_ballot, tick_member, put_off, and_result, tick_sequencer}
+pub use Rattle.am_laws.proofs.EffectWords.{tick_acting, tick_with, tick_by, viewed_by, refuse, packet_length, take_report, answer_request, serve_again}
+pub use Rattle.am_laws.proofs.EffectWords.{is_unknown, with_admitted, number_join, begin_list, may_go, take_vote, push_fetched, catch_up, decide_anew}
+pub use Rattle.am_laws.proofs.EffectWords.{piece_promised, piece_for, hears_result, hears_member, hears_asking, hears_sequencer, hears_in_view, World, start}
+pub use Rattle.am_laws.proofs.EffectWords.{first_node, run, is_stopped, hears_letter, hear_cut, acts_as, current, heard_by, Cause, calls, hears, BringsSend}
+pub use Rattle.am_laws.proofs.EffectWords.{by_request, by_spread, Change, refreshes, settles, numbers, notes, stores, begins_list, departs, looks, fetches}
+pub use Rattle.am_laws.proofs.EffectWords.{stores_view, asks_to_join, closes, Changes, no_change, changed, promises, opens, asked_send, own_send, asked_join}
+pub use Rattle.am_laws.proofs.EffectWords.{asked_leave, Carries, whole_entry, by_number, unchanged, keeps_body, queues, collects, invited, told_result}
+pub use Rattle.am_laws.proofs.EffectWords.{without_ballot, takes_report, admits, takes, MayBeWelcomed, actor, IsCall, IsCause, idles, stops, returns, steps}
+pub use Rattle.am_laws.proofs.EffectWords.{WasSentTo, Happens, Looks, finds_itself_out, HasOpen, Balloting, with_more, without_one, as_it_is, decides}
+pub use Rattle.am_laws.proofs.EffectWords.{finds_no_room, waits, fetches_from_best, finds_too_few, just_joined, asks_again, Says, bcast, order, hold, join_ask}
+pub use Rattle.am_laws.proofs.EffectWords.{welcome, gone, invite, fetch, piece, result, hand_over, HasSend, request, spread, vote, LetterSays, Effect}
+unfoldable pub use Rattle.am_laws.proofs.EffectWords.{fits, after, fold, pass_over, own_report, tell, go_on, those, decide, begin, keep_vote, give_up, best_of}
+unfoldable pub use Rattle.am_laws.proofs.EffectWords.{give_up_row, reset_row, send_row, done_row, take_row, join_row, state_row, leave_row, ask_row, refresh}
+unfoldable pub use Rattle.am_laws.proofs.EffectWords.{lead, settle, refresh_at_end, finish, spread_row, bcast_row, order_row, accept_row, hold_row, tick_row}
+unfoldable pub use Rattle.am_laws.proofs.EffectWords.{step, hear, hear_refusal, row, request_row, ack_row, nack_row, join_ask_row, welcome_row, leave_ask_row}
+unfoldable pub use Rattle.am_laws.proofs.EffectWords.{gone_row, invite_row, vote_row, fetch_row, piece_row, result_row, hand_over_row, hear_row, with_record}
+unfoldable pub use Rattle.am_laws.proofs.EffectWords.{with_step, happens, happen}
 pub use Rattle.std.{proofs.Math.Seq.take-length, proofs.lemmas.Bool.cases_lt, proofs.lemmas.List.Folds.list_any-append, proofs.lemmas.List.Sums.sum_by-cons}
 pub use Rattle.std.{specs.List.count_by, specs.List.range_with_len}
 pub use Rattle.std.proofs.Common.{unwrap_or, filter, ⊎_elim, take, slice_index_or, map, set, length-drop, get_or}
@@ -64,13 +64,13 @@ pub use Rattle.am_chain_lists.proofs.{Requests.has_in, Order.rank_same, Members.
 pub use Rattle.am_chain_lists.proofs.Rows.{and_right, In, mod16, long_after, set_keeps, row_view, Spares, in_after, and_left, blank_joined}
 pub use Rattle.am_meaning.proofs.{AcceptFronts.accept_front_is, Bytes.spelling_is_heard, Bytes.cut_is_heard}
 pub use Rattle.am_laws.proofs.{Nodes.Each, Nodes.each_node_keeps, Nodes.first_has, Statuses.logged, Statuses.asking_log, Rests.rests_refresh}
-pub use Rattle.am_laws.proofs.{Rests.settle_is, Rests.rests_at_end, Rests.with_fronts, Rests.refresh_is, Rests.passed, StepEffectsRuns.EachKeeps, StepEffectsRuns.runs_keep}
-pub use Rattle.am_laws.proofs.{StepEffectsRuns.along, StepEffectsRuns.StepsKeep, StepEffectsRuns.SameParts, StepEffectsRuns.law_keeps, Says.view_pushed, Says.told_pushed, Tests.equals_itself}
+pub use Rattle.am_laws.proofs.{Rests.settle_is, Rests.rests_at_end, Rests.with_fronts, Rests.refresh_is, Rests.passed, EffectRuns.EachKeeps, EffectRuns.runs_keep}
+pub use Rattle.am_laws.proofs.{EffectRuns.along, EffectRuns.StepsKeep, EffectRuns.SameParts, EffectRuns.law_keeps, Says.view_pushed, Says.told_pushed, Tests.equals_itself}
 pub use Rattle.am_laws.proofs.{Tests.or_first, Tests.or_second, Items.all_get, Items.all_item, Items.all_find, Items.get_front, Items.get_last}
 pub use Rattle.am_laws.proofs.{Events.events_have_effects, Hearing.other_heard, Resets.stamp_itself, Resets.same_stamp, Ballots.entry_is}
 pub use Rattle.am_laws.specs.{Changes.Numbers, Changes.Promises, Changes.overtaken as overtaken_by, Changes.Fetches, Changes.for_ballot}
 pub use Rattle.am_laws.specs.{Letters.MayWelcome}
-pub use Rattle.am_laws.proofs.{Kept.HasItself, Kept.Keeps, Changes.itself, Changes.kept_change, BoundedNodesRuns.kept_own}
+pub use Rattle.am_laws.proofs.{Kept.HasItself, Kept.Keeps, Changes.itself, Changes.kept_change, BoundedRuns.kept_own}
 pub use Rattle.am_laws.specs.{Packets.Bounds, Packets.up, Packets.UpTo, Blank.BlankHolds, Begins.FrontBegins, GivenUp.OnlyStoppedGivenUp, Named.NamesHold}
 pub use Rattle.am_laws.specs.{Numbers.NumbersHold, Taken.TakenHolds, Views.ViewsHold}
 pub use Rattle.am_laws.specs.Bytes.{BodyWithin, IsShort, LettersArePackets, LettersAreRead, acts_by_bytes, RunsAreOfBytes}

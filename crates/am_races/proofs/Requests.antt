@@ -24,7 +24,7 @@ use Rattle.am_laws.specs.Changes.{Change, refreshes, settles, takes_report, admi
 use Rattle.am_laws.specs.Changes.{opens, looks, fetches, stores_view, queues, collects, takes, asks_to_join, asks_to_leave, closes}
 use Rattle.am_laws.specs.Events.{actor, idles, stops, returns, steps}
 use Rattle.am_laws.proofs.Rests.{refresh_is}
-use Rattle.am_laws.proofs.StepEffectsRuns.{along, EachKeeps, runs_keep}
+use Rattle.am_laws.proofs.EffectRuns.{along, EachKeeps, runs_keep}
 
 -- ---- sends with different requests
 

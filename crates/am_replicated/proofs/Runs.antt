@@ -19,7 +19,7 @@ use Rattle.am_laws.proofs.Items.{get_front, get_last}
 use Rattle.am_laws.proofs.Events.{events_have_effects}
 use Rattle.am_laws.proofs.Hearing.{steps_have_effects}
 use Rattle.am_stands.proofs.Once.{no_ask, step_once}
-use Rattle.am_stands.proofs.StepsMoveWords.{idle_queues}
+use Rattle.am_stands.proofs.StepWords.{idle_queues}
 use Rattle.am_headline.proofs.Words.{IsGood, good_begins, Group, lowest_or_first, group_kept, steps_move}
 use Rattle.am_headline.proofs.Fold.{KeptBy}
 use Rattle.am_headline.proofs.Begun.{held}

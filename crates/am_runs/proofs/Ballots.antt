@@ -1,11 +1,11 @@
 -- What each change keeps of a name's ballot, and each run of all.
-use Rattle.am_runs.proofs.PromisesWords.{◌≡◌, ℕ, ◌==◌, ◌&&◌, ◌||◌, not, true, false, List, [], ◌∷◌, ◌++◌, Option, Some, None, refl, sym, ap, ◌∙◌, subst, arith}
-use Rattle.am_runs.proofs.PromisesWords.{list_any, nat_tests, list_any-append, Stamp, Outcome, NodeEvent, stamp_lt, Rules, has, Act, Node, Ballot, is_member}
-use Rattle.am_runs.proofs.PromisesWords.{has_log, Verdict, overtake, World, start, current, is_stopped, with_record, with_step, split, and_both, Cause, calls}
-use Rattle.am_runs.proofs.PromisesWords.{hears, refuses, Looks, waits, fetches_from_best, HasOpen, Balloting, with_more, without_one, as_it_is, Change, refreshes}
-use Rattle.am_runs.proofs.PromisesWords.{settles, begins_list, departs, promises, opens, looks, asks_to_join, closes, actor, IsCall, IsCause, idles, stops}
-use Rattle.am_runs.proofs.PromisesWords.{returns, steps, logged, asking_log, asking, rests_refresh, rests_closed, settle_is, along, EachKeeps, runs_keep, AtMost}
-use Rattle.am_runs.proofs.PromisesWords.{IsOfBallot, BallotOk, LastOk, BallotsAreOwn}
+use Rattle.am_runs.proofs.PromisedWords.{◌≡◌, ℕ, ◌==◌, ◌&&◌, ◌||◌, not, true, false, List, [], ◌∷◌, ◌++◌, Option, Some, None, refl, sym, ap, ◌∙◌, subst, arith}
+use Rattle.am_runs.proofs.PromisedWords.{list_any, nat_tests, list_any-append, Stamp, Outcome, NodeEvent, stamp_lt, Rules, has, Act, Node, Ballot, is_member}
+use Rattle.am_runs.proofs.PromisedWords.{has_log, Verdict, overtake, World, start, current, is_stopped, with_record, with_step, split, and_both, Cause, calls}
+use Rattle.am_runs.proofs.PromisedWords.{hears, refuses, Looks, waits, fetches_from_best, HasOpen, Balloting, with_more, without_one, as_it_is, Change, refreshes}
+use Rattle.am_runs.proofs.PromisedWords.{settles, begins_list, departs, promises, opens, looks, asks_to_join, closes, actor, IsCall, IsCause, idles, stops}
+use Rattle.am_runs.proofs.PromisedWords.{returns, steps, logged, asking_log, asking, rests_refresh, rests_closed, settle_is, along, EachKeeps, runs_keep, AtMost}
+use Rattle.am_runs.proofs.PromisedWords.{IsOfBallot, BallotOk, LastOk, BallotsAreOwn}
 use Rattle.am_base.specs.declared.event.NodeEvent.TheVariants as does
 use Rattle.am_laws.specs.Events as event
 use Rattle.am_runs.proofs.Stamps.{most_same, most_through}

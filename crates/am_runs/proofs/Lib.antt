@@ -1,6 +1,6 @@
-pub mod SentDataKept
-pub mod SentDataChanges
-pub mod SentDataRuns
+pub mod SentKept
+pub mod SentChanges
+pub mod SentRuns
 pub mod UnballotedWords
 pub mod Lists
 pub mod UnballotedKept
@@ -22,8 +22,8 @@ pub mod UnballotedRuns
 pub mod Holds
 pub mod Fronts
 pub mod Moves
-pub mod PromisesWords
+pub mod PromisedWords
 pub mod Stamps
-pub mod PromisesChanges
-pub mod PromisesRuns
+pub mod PromisedChanges
+pub mod PromisedRuns
 pub mod Ballots

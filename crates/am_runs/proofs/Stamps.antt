@@ -1,5 +1,5 @@
 -- Stamps in their order.
-use Rattle.am_runs.proofs.PromisesWords.{◌≡◌, ℕ, ◌+◌, ◌==◌, ◌&&◌, ◌||◌, nat_lt, Bool, false, arith, nat_tests, Stamp, rank_of, AtMost}
+use Rattle.am_runs.proofs.PromisedWords.{◌≡◌, ℕ, ◌+◌, ◌==◌, ◌&&◌, ◌||◌, nat_lt, Bool, false, arith, nat_tests, Stamp, rank_of, AtMost}
 
 -- by two numbers, the first of which counts first
 abbrev below : ℕ → ℕ → ℕ → ℕ → Bool

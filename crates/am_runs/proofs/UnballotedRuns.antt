@@ -3,7 +3,7 @@ use Rattle.am_runs.proofs.UnballotedWords.{◌≡◌, ℕ, ◌<◌, ◌≤◌, �
 use Rattle.am_runs.proofs.UnballotedWords.{Entry, Rules, MayFound, has, fold, AllFit, fits, top_of, CoreState, Event, Node, set_at, founder, stranger}
 use Rattle.am_runs.proofs.UnballotedWords.{founders_view, founding_stamp, World, start, record_of, with_record, with_step, run, NoBallot, split, actor, idles}
 use Rattle.am_runs.proofs.UnballotedWords.{stops, returns, steps, EachKeeps, runs_keep, IsGood, AllSmall, mem, viewed_mem, first_founder, AllSent, sent_start}
-use Rattle.am_runs.proofs.SentDataRuns as sent
+use Rattle.am_runs.proofs.SentRuns as sent
 use Rattle.am_runs.proofs.{Lists.within_all, Lists.within_none, UnballotedKept.first_of, UnballotedKept.FrontsOk, UnballotedKept.fronts_ok, UnballotedKept.NodeOk, First.FirstOk, Turns.Turn}
 use Rattle.am_runs.proofs.{Chains.none_first, Worlds.GivenOk, Worlds.begins_at, Worlds.Kept, Worlds.WorldOk, Goes.idle_ok, Actors.other_step}
 use Rattle.am_runs.proofs.{Actors.first_step}

@@ -1,22 +1,22 @@
 -- The words of this crate's proofs, of the crates and definitions that they come from.
-pub use Rattle.am_laws.proofs.StepEffectsWords.{◌≡◌, ◌≢◌, ℕ, zero, suc, ◌-◌, ◌≤◌, ◌==◌, true, false, List, [], ◌∷◌, ◌++◌, length, drop, None, refl, sym, ap, ◌∙◌}
-pub use Rattle.am_laws.proofs.StepEffectsWords.{subst, arith, ◌+◌, ◌<◌, max, min, ◌&&◌, nat_lt, not, if◌then◌else◌, Option, Some, slice_get, length-append, ◌||◌}
-pub use Rattle.am_laws.proofs.StepEffectsWords.{slice_set, ◌⊎◌, inl, inr, slice_index, Bool, nat_le, find, is_some, nat_tests, All-head, All-tail, All-nil}
-pub use Rattle.am_laws.proofs.StepEffectsWords.{All-append, All-cons, slice_get_within, list_any, All, Stamp, Entry, View, Leave, Data, Join, Outcome, Rules, Log}
-pub use Rattle.am_laws.proofs.StepEffectsWords.{at_place, row_of, top_of, entry_at, told_by, split, and_both, Image, stamp_lt, stamp_eq, life_of, has, place_of}
-pub use Rattle.am_laws.proofs.StepEffectsWords.{Report, Row, NodeEvent, Letter, Packet, kind_of, slice_get-drop, OwnSend, Act, Event, item_at, letter_at, is_for}
-pub use Rattle.am_laws.proofs.StepEffectsWords.{Departed, Node, view, has_log, Ballot, acts, is_member, is_sequencer, push_entry, waiting, top, is_asking, trim_up_to}
-pub use Rattle.am_laws.proofs.StepEffectsWords.{founder, stranger, only_name, Step, Status, advance, accepted_at, settle_at, settle_waiting, Verdict, begin_list}
-pub use Rattle.am_laws.proofs.StepEffectsWords.{is_view, body_of, hears_member, hears_in_view, hears_sequencer, viewed_by, World, run, start, happens, heard_by}
-pub use Rattle.am_laws.proofs.StepEffectsWords.{Cause, calls, hears, refuses, BringsFronts, with_entry, with_number, alone, Change, refreshes, settles, numbers}
-pub use Rattle.am_laws.proofs.StepEffectsWords.{stores, begins_list, opens, looks, fetches, stores_view, closes, MayBeWelcomed, departs, promises, queues, collects}
-pub use Rattle.am_laws.proofs.StepEffectsWords.{takes, asks_to_join, Changes, unchanged, changed, asked_send, own_send, asked_join, asked_leave, notes, Carries}
-pub use Rattle.am_laws.proofs.StepEffectsWords.{whole_entry, by_number, invited, overtaken, told_result, takes_report, admits, keeps_body, asks_to_leave, LetterSays}
-pub use Rattle.am_laws.proofs.StepEffectsWords.{Stands, just_joined, asks_again, has_begun, goes_on, leads, decided, Says, bcast, order, welcome, invite, vote, piece}
-pub use Rattle.am_laws.proofs.StepEffectsWords.{result, Answers, Effect, actor, IsCause, Happens, idles, stops, returns, steps, IsCall, WasSentTo, Looks}
-pub use Rattle.am_laws.proofs.StepEffectsWords.{finds_itself_out}
-unfoldable pub use Rattle.am_laws.proofs.StepEffectsWords.{fold, after, fits, pass_over, own_report, tell, go_on, lead, refresh, settle, refresh_at_end, with_step}
-unfoldable pub use Rattle.am_laws.proofs.StepEffectsWords.{with_record}
+pub use Rattle.am_laws.proofs.EffectWords.{◌≡◌, ◌≢◌, ℕ, zero, suc, ◌-◌, ◌≤◌, ◌==◌, true, false, List, [], ◌∷◌, ◌++◌, length, drop, None, refl, sym, ap, ◌∙◌}
+pub use Rattle.am_laws.proofs.EffectWords.{subst, arith, ◌+◌, ◌<◌, max, min, ◌&&◌, nat_lt, not, if◌then◌else◌, Option, Some, slice_get, length-append, ◌||◌}
+pub use Rattle.am_laws.proofs.EffectWords.{slice_set, ◌⊎◌, inl, inr, slice_index, Bool, nat_le, find, is_some, nat_tests, All-head, All-tail, All-nil}
+pub use Rattle.am_laws.proofs.EffectWords.{All-append, All-cons, slice_get_within, list_any, All, Stamp, Entry, View, Leave, Data, Join, Outcome, Rules, Log}
+pub use Rattle.am_laws.proofs.EffectWords.{at_place, row_of, top_of, entry_at, told_by, split, and_both, Image, stamp_lt, stamp_eq, life_of, has, place_of}
+pub use Rattle.am_laws.proofs.EffectWords.{Report, Row, NodeEvent, Letter, Packet, kind_of, slice_get-drop, OwnSend, Act, Event, item_at, letter_at, is_for}
+pub use Rattle.am_laws.proofs.EffectWords.{Departed, Node, view, has_log, Ballot, acts, is_member, is_sequencer, push_entry, waiting, top, is_asking, trim_up_to}
+pub use Rattle.am_laws.proofs.EffectWords.{founder, stranger, only_name, Step, Status, advance, accepted_at, settle_at, settle_waiting, Verdict, begin_list}
+pub use Rattle.am_laws.proofs.EffectWords.{is_view, body_of, hears_member, hears_in_view, hears_sequencer, viewed_by, World, run, start, happens, heard_by}
+pub use Rattle.am_laws.proofs.EffectWords.{Cause, calls, hears, refuses, BringsFronts, with_entry, with_number, alone, Change, refreshes, settles, numbers}
+pub use Rattle.am_laws.proofs.EffectWords.{stores, begins_list, opens, looks, fetches, stores_view, closes, MayBeWelcomed, departs, promises, queues, collects}
+pub use Rattle.am_laws.proofs.EffectWords.{takes, asks_to_join, Changes, unchanged, changed, asked_send, own_send, asked_join, asked_leave, notes, Carries}
+pub use Rattle.am_laws.proofs.EffectWords.{whole_entry, by_number, invited, overtaken, told_result, takes_report, admits, keeps_body, asks_to_leave, LetterSays}
+pub use Rattle.am_laws.proofs.EffectWords.{Stands, just_joined, asks_again, has_begun, goes_on, leads, decided, Says, bcast, order, welcome, invite, vote, piece}
+pub use Rattle.am_laws.proofs.EffectWords.{result, Answers, Effect, actor, IsCause, Happens, idles, stops, returns, steps, IsCall, WasSentTo, Looks}
+pub use Rattle.am_laws.proofs.EffectWords.{finds_itself_out}
+unfoldable pub use Rattle.am_laws.proofs.EffectWords.{fold, after, fits, pass_over, own_report, tell, go_on, lead, refresh, settle, refresh_at_end, with_step}
+unfoldable pub use Rattle.am_laws.proofs.EffectWords.{with_record}
 pub use Rattle.std.{proofs.lemmas.Grind.flat_map-append, proofs.lemmas.List.Quantifiers.position-Some, proofs.lemmas.Option.slice_get-get_or}
 pub use Rattle.std.{proofs.lemmas.Option.get_or_from_slice_get, specs.List.range_with_len, specs.List.flat_map}
 pub use Rattle.std.proofs.Common.{⊎_elim, take, append_assoc, append-nil, get_or, map, slice_index_or, filter, is_none}
@@ -48,8 +48,8 @@ pub use Rattle.am_laws.specs.{Changes.Numbers, Changes.Promises, Letters.MayWelc
 pub use Rattle.am_laws.specs.{Effects.WasSettled, Effects.HasBegun, Events.IsIdle}
 pub use Rattle.am_laws.proofs.{Items.all_item, Items.get_take, Items.get_last, Items.all_get, Items.get_front, Items.get_push, Rests.rests_refresh}
 pub use Rattle.am_laws.proofs.{Rests.rests_closed, Rests.settle_is, Rests.base_up, Statuses.logged, Statuses.asking_log, Receiving.asking}
-pub use Rattle.am_laws.proofs.{Resets.stamp_itself, Events.events_have_effects, StepEffectsRuns.EachKeeps, StepEffectsRuns.runs_keep, Ballots.entry_is}
-pub use Rattle.am_laws.proofs.BoundedNodesRuns.{bounded_holds}
+pub use Rattle.am_laws.proofs.{Resets.stamp_itself, Events.events_have_effects, EffectRuns.EachKeeps, EffectRuns.runs_keep, Ballots.entry_is}
+pub use Rattle.am_laws.proofs.BoundedRuns.{bounded_holds}
 pub use Rattle.am_chain.proofs.Turns.{request_within, next_in, senders_in_order, send_stands_once}
-pub use Rattle.am_runs.proofs.{SentDataKept.Keeps, SentDataKept.WasSent, SentDataKept.EntrySent, SentDataChanges.CauseSent, SentDataChanges.change_sent, SentDataChanges.MaySend, SentDataChanges.body_of_sent}
-pub use Rattle.am_runs.proofs.{SentDataRuns.AllSent, SentDataRuns.all_sent_more, SentDataRuns.after_step, SentDataRuns.cause_sent, SentDataRuns.sent_holds, SentDataRuns.sent_start}
+pub use Rattle.am_runs.proofs.{SentKept.Keeps, SentKept.WasSent, SentKept.EntrySent, SentChanges.CauseSent, SentChanges.change_sent, SentChanges.MaySend, SentChanges.body_of_sent}
+pub use Rattle.am_runs.proofs.{SentRuns.AllSent, SentRuns.all_sent_more, SentRuns.after_step, SentRuns.cause_sent, SentRuns.sent_holds, SentRuns.sent_start}

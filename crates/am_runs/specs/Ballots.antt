@@ -7,7 +7,7 @@ use Rattle.am_base.specs.Founding.{Rules, MayFound}
 use Rattle.am_group.specs.declared.event.Event.{Event}
 use Rattle.am_model.specs.Node.{Ballot, has_log}
 use Rattle.am_play.specs.World.{World, is_stopped, run}
-use Rattle.am_runs.specs.PromisesClaim.{AtMost}
+use Rattle.am_runs.specs.PromisedClaim.{AtMost}
 
 -- what a ballot may be answered with
 abbrev pub IsOfBallot : Outcome → Type 0

@@ -1,4 +1,4 @@
-pub mod SentDataClaim
+pub mod SentClaim
 pub mod Lists
-pub mod PromisesClaim
+pub mod PromisedClaim
 pub mod Ballots

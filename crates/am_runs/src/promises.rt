@@ -1,5 +1,5 @@
 ghost use Rattle.am_runs.specs.Ballots.{BallotsAreOwn};
-ghost use Rattle.am_runs.specs.PromisesClaim.{PromisesAreBegun};
+ghost use Rattle.am_runs.specs.PromisedClaim.{PromisesAreBegun};
 
 /// Each promise was begun by its name, which has promised no less since; and so was each letter's stamp, which is no more than its
 /// sender's promise.

@@ -20,9 +20,9 @@ use Rattle.am_headline.proofs.Fitted.{views_fit}
 use Rattle.am_headline.proofs.Holds.{headline_holds, prefix_whole}
 use Rattle.am_replicated.proofs.Sends.{delivered_end}
 use Rattle.am_replicated.proofs.Holding.{replicas_hold}
-use Rattle.am_runs.proofs.SentDataRuns.{sent_holds}
+use Rattle.am_runs.proofs.SentRuns.{sent_holds}
 use Rattle.am_runs.proofs.Holds.{unballoted_holds}
-use Rattle.am_headline.proofs.RepairedRunsSettled.{settled_is_repaired}
+use Rattle.am_headline.proofs.RepairedSettled.{settled_is_repaired}
 use Rattle.am_pump.specs.Generating.{generated_rules, events_of_seed}
 use Rattle.am_pump.proofs.Rules.{may_found}
 use Rattle.am_words.specs.declared.form.Numbers.{Numbers}

@@ -1,6 +1,6 @@
 -- Which letters go to every life of their places: that of a joiner that asks, in every run.
-use Rattle.am_stands.proofs.StepsMoveWords.{◌≡◌, All, All-nil, All-append, All-weaker, Rules, List, Letter, goes_to_any, Event, World, start, with_record, with_step}
-use Rattle.am_stands.proofs.StepsMoveWords.{run, actor, steps, EachKeeps, runs_keep}
+use Rattle.am_stands.proofs.StepWords.{◌≡◌, All, All-nil, All-append, All-weaker, Rules, List, Letter, goes_to_any, Event, World, start, with_record, with_step}
+use Rattle.am_stands.proofs.StepWords.{run, actor, steps, EachKeeps, runs_keep}
 use Rattle.am_laws.specs.Letters.{LetterSays}
 
 abbrev pub GoesSo : Letter → Type 0

@@ -1,9 +1,9 @@
 -- How far a name is told, and gives out, along plain changes of its step.
-use Rattle.am_stands.proofs.StepsMoveWords.{same_stamp, ◌≡◌, ℕ, ◌<◌, ◌≤◌, ◌==◌, ◌&&◌, nat_lt, true, false, length, refl, sym, ap, ◌∙◌, arith, nat_tests, Stamp, Outcome}
-use Rattle.am_stands.proofs.StepsMoveWords.{Rules, stamp_eq, Packet, key, Group, Node, Ballot, view, acts, is_member, has_departed, Verdict, hears_member}
-use Rattle.am_stands.proofs.StepsMoveWords.{hears_in_view, hears_sequencer, with_noted, World, split, and_both, Cause, hears, BringsFronts, with_entry, with_number}
-use Rattle.am_stands.proofs.StepsMoveWords.{alone, Looks, finds_itself_out, Change, refreshes, settles, notes, begins_list, departs, looks, asks_to_join, closes}
-use Rattle.am_stands.proofs.StepsMoveWords.{settle_is, nothing, of_sequencer, Grows, SequencerSays, FrontsStay, FrontsAfter, HeardSo, Stepping, old}
+use Rattle.am_stands.proofs.StepWords.{same_stamp, ◌≡◌, ℕ, ◌<◌, ◌≤◌, ◌==◌, ◌&&◌, nat_lt, true, false, length, refl, sym, ap, ◌∙◌, arith, nat_tests, Stamp, Outcome}
+use Rattle.am_stands.proofs.StepWords.{Rules, stamp_eq, Packet, key, Group, Node, Ballot, view, acts, is_member, has_departed, Verdict, hears_member}
+use Rattle.am_stands.proofs.StepWords.{hears_in_view, hears_sequencer, with_noted, World, split, and_both, Cause, hears, BringsFronts, with_entry, with_number}
+use Rattle.am_stands.proofs.StepWords.{alone, Looks, finds_itself_out, Change, refreshes, settles, notes, begins_list, departs, looks, asks_to_join, closes}
+use Rattle.am_stands.proofs.StepWords.{settle_is, nothing, of_sequencer, Grows, SequencerSays, FrontsStay, FrontsAfter, HeardSo, Stepping, old}
 use Rattle.am_stands.specs.Keeping.{IsPlain}
 use Rattle.am_packet.specs.declared.packet.Packet.TheVariants as packet
 use Rattle.am_stands.proofs.Refreshed.{Fronted, word_stays}

@@ -1,7 +1,7 @@
 -- What a sequencer's step makes of the group list, in two parts.
-use Rattle.am_stands.proofs.StepsMoveWords.{◌≡◌, ℕ, ◌+◌, ◌-◌, ◌<◌, ◌≤◌, nat_lt, true, false, List, [], ◌∷◌, ◌++◌, length, take, drop, sym, ap, ◌∙◌, arith, append_assoc}
-use Rattle.am_stands.proofs.StepsMoveWords.{length-append, take-add, nat_tests, length-take, length-drop, drop-drop, drop-append-le, take-append-le, Entry, top_of}
-use Rattle.am_stands.proofs.StepsMoveWords.{CoreState, is_view, Node, is_sequencer, push_entry, group_with, group_after, split, leads_pushed, same_by}
+use Rattle.am_stands.proofs.StepWords.{◌≡◌, ℕ, ◌+◌, ◌-◌, ◌<◌, ◌≤◌, nat_lt, true, false, List, [], ◌∷◌, ◌++◌, length, take, drop, sym, ap, ◌∙◌, arith, append_assoc}
+use Rattle.am_stands.proofs.StepWords.{length-append, take-add, nat_tests, length-take, length-drop, drop-drop, drop-append-le, take-append-le, Entry, top_of}
+use Rattle.am_stands.proofs.StepWords.{CoreState, is_view, Node, is_sequencer, push_entry, group_with, group_after, split, leads_pushed, same_by}
 use Rattle.am_stands.proofs.Learning.{same_group}
 use Rattle.am_base.specs.Lists.{with_entry}
 

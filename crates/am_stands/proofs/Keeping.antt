@@ -11,7 +11,7 @@ use Rattle.am_stands.proofs.Words.{BallotStands, LastStands, Stepping}
 use Rattle.am_laws.specs.Changes.{numbers, stores, fetches, closes}
 use Rattle.am_packet.specs.declared.packet.Packet.TheVariants as packet
 use Rattle.am_model.specs.declared.status.Status.TheVariants as status
-use Rattle.am_runs.proofs.SentDataKept as sent
+use Rattle.am_runs.proofs.SentKept as sent
 use Rattle.am_stands.specs.Letters as says
 use Rattle.am_stands.proofs.{Changes.looked_open, Changes.own_name, Changes.is_up, Changes.told_whole, ChainNames.front_named, ChainNames.members_named}
 use Rattle.am_stands.proofs.{Entries.is_leading, Entries.view_whole, Heard.bcast_needs, Heard.order_needs, Heard.result_needs, Heard.number_needs}

@@ -1,11 +1,11 @@
 -- Where a step's moves lead: a group that stands for the world after it, and each node keeps what it keeps.
-use Rattle.am_stands.proofs.StepsMoveWords.{◌≡◌, ℕ, suc, ◌<◌, ◌==◌, true, false, List, [], ◌∷◌, ◌++◌, slice_get, Some, refl, sym, ◌∙◌, subst, arith, All, nat_tests}
-use Rattle.am_stands.proofs.StepsMoveWords.{All-nil, All-cons, All-append, Rules, Event, Begins, begins_refl, Group, set_at, lowest_or_first, has_departed, Step}
-use Rattle.am_stands.proofs.StepsMoveWords.{is_unfinished, World, group_after, views_after, with_step, split, Cause, all_get, after_step, NameStands, FrontsStand}
-use Rattle.am_stands.proofs.StepsMoveWords.{ViewsStand, StandsBut, Stands, within, Grows, Moves, GroupFor, NodeKeeps, Stepping, Following, Follows, ShowsMore}
-use Rattle.am_stands.proofs.StepsMoveWords.{LetterSays, then_moves, letters_stay, name_in, views_in, goes_on, grows_trans, keeps_in, others_keep}
+use Rattle.am_stands.proofs.StepWords.{◌≡◌, ℕ, suc, ◌<◌, ◌==◌, true, false, List, [], ◌∷◌, ◌++◌, slice_get, Some, refl, sym, ◌∙◌, subst, arith, All, nat_tests}
+use Rattle.am_stands.proofs.StepWords.{All-nil, All-cons, All-append, Rules, Event, Begins, begins_refl, Group, set_at, lowest_or_first, has_departed, Step}
+use Rattle.am_stands.proofs.StepWords.{is_unfinished, World, group_after, views_after, with_step, split, Cause, all_get, after_step, NameStands, FrontsStand}
+use Rattle.am_stands.proofs.StepWords.{ViewsStand, StandsBut, Stands, within, Grows, Moves, GroupFor, NodeKeeps, Stepping, Following, Follows, ShowsMore}
+use Rattle.am_stands.proofs.StepWords.{LetterSays, then_moves, letters_stay, name_in, views_in, goes_on, grows_trans, keeps_in, others_keep}
 use Rattle.am_chain.specs.Group as groups
-use Rattle.am_stands.proofs.{Starting.recorded, Deeds.further, StepsMoveLetters.Told}
+use Rattle.am_stands.proofs.{Starting.recorded, Deeds.further, StepLetters.Told}
 
 -- all that follows at the group that moves led to, but for the letters
 pub record Landed (rules : Rules) (v : World) (s t : Group) : Type 0 where

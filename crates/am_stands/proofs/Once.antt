@@ -1,9 +1,9 @@
 -- A request of a name stands for one body, in every run.
-use Rattle.am_stands.proofs.StepsMoveWords.{idle_queues, ◌≡◌, ⊎_elim, ℕ, ◌+◌, ◌≤◌, List, [], refl, sym, ap, subst, arith, Outcome, Rules, Act, Event, Node, Ballot}
-use Rattle.am_stands.proofs.StepsMoveWords.{set_at, Verdict, Step, World, start, record_of, with_record, with_step, run, split, Cause, calls, Looks, finds_itself_out}
-use Rattle.am_stands.proofs.StepsMoveWords.{Change, refreshes, settles, looks, queues, collects, closes, Answers, WasQueued, AnswersAsk, Effect, actor, IsCall, IsCause}
-use Rattle.am_stands.proofs.StepsMoveWords.{idles, stops, returns, steps, rests_refresh, rests_closed, settle_is, along, EachKeeps, runs_keep, after_step, AskedOk}
-use Rattle.am_stands.proofs.StepsMoveWords.{asked_more, asked_other, unique, SendsOnce}
+use Rattle.am_stands.proofs.StepWords.{idle_queues, ◌≡◌, ⊎_elim, ℕ, ◌+◌, ◌≤◌, List, [], refl, sym, ap, subst, arith, Outcome, Rules, Act, Event, Node, Ballot}
+use Rattle.am_stands.proofs.StepWords.{set_at, Verdict, Step, World, start, record_of, with_record, with_step, run, split, Cause, calls, Looks, finds_itself_out}
+use Rattle.am_stands.proofs.StepWords.{Change, refreshes, settles, looks, queues, collects, closes, Answers, WasQueued, AnswersAsk, Effect, actor, IsCall, IsCause}
+use Rattle.am_stands.proofs.StepWords.{idles, stops, returns, steps, rests_refresh, rests_closed, settle_is, along, EachKeeps, runs_keep, after_step, AskedOk}
+use Rattle.am_stands.proofs.StepWords.{asked_more, asked_other, unique, SendsOnce}
 use Rattle.am_base.specs.declared.outcome.Outcome.TheVariants as said
 use Rattle.am_base.specs.declared.event.NodeEvent.TheVariants as does
 use Rattle.am_sender.specs.Sends as own

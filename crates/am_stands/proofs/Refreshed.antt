@@ -1,11 +1,11 @@
 -- A refresh within a step: the group accepts what it accepts, and the name learns of it; and then all is known again.
-use Rattle.am_stands.proofs.StepsMoveWords.{same_group, member_stays, ◌≡◌, ℕ, ◌≤◌, max, true, false, List, [], length, refl, sym, ap, ◌∙◌, subst, arith, append-nil}
-use Rattle.am_stands.proofs.StepsMoveWords.{Entry, Rules, top_of, Begins, begins_refl, Group, chain_of, with_node, Kept, put_same, Node, is_member, is_sequencer}
-use Rattle.am_stands.proofs.StepsMoveWords.{lowest_or_first, has_departed, refresh, World, group_after, split, Cause, refreshes, unchanged, changed, rests_refresh}
-use Rattle.am_stands.proofs.StepsMoveWords.{stamp_of, Along, along_changes, leads_member, kept_refresh, NameStands, StandsBut, within, MayCount, Word, nothing}
-use Rattle.am_stands.proofs.StepsMoveWords.{of_sequencer, ComesTo, AcceptsAndLearns, Grows, Moves, none, moves, Stepping, own_name, is_up, unmoved_refresh, front_named}
-use Rattle.am_stands.proofs.StepsMoveWords.{counts_names, accept_moves, then_moves, kept, old, refresh_learns, advanced, letters_stay, sequencer_stays, grows_trans}
-use Rattle.am_stands.proofs.StepsMoveWords.{goes_on, grows_same, refreshes_keep, keeps_in}
+use Rattle.am_stands.proofs.StepWords.{same_group, member_stays, ◌≡◌, ℕ, ◌≤◌, max, true, false, List, [], length, refl, sym, ap, ◌∙◌, subst, arith, append-nil}
+use Rattle.am_stands.proofs.StepWords.{Entry, Rules, top_of, Begins, begins_refl, Group, chain_of, with_node, Kept, put_same, Node, is_member, is_sequencer}
+use Rattle.am_stands.proofs.StepWords.{lowest_or_first, has_departed, refresh, World, group_after, split, Cause, refreshes, unchanged, changed, rests_refresh}
+use Rattle.am_stands.proofs.StepWords.{stamp_of, Along, along_changes, leads_member, kept_refresh, NameStands, StandsBut, within, MayCount, Word, nothing}
+use Rattle.am_stands.proofs.StepWords.{of_sequencer, ComesTo, AcceptsAndLearns, Grows, Moves, none, moves, Stepping, own_name, is_up, unmoved_refresh, front_named}
+use Rattle.am_stands.proofs.StepWords.{counts_names, accept_moves, then_moves, kept, old, refresh_learns, advanced, letters_stay, sequencer_stays, grows_trans}
+use Rattle.am_stands.proofs.StepWords.{goes_on, grows_same, refreshes_keep, keeps_in}
 use Rattle.am_base.specs.declared.outcome.Outcome.TheVariants as said
 use Rattle.am_chain.specs.Group as groups
 use Rattle.am_chain.specs.Moves as group

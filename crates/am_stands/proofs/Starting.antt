@@ -1,13 +1,13 @@
 -- What is known where a step begins: what the run keeps, with the step's record.
-use Rattle.am_stands.proofs.StepsMoveWords.{◌≡◌, ⊎_elim, ℕ, zero, suc, ◌<◌, ◌≤◌, ◌==◌, true, false, List, Some, slice_get, slice_index, get_or-set_same, refl, sym, ap}
-use Rattle.am_stands.proofs.StepsMoveWords.{◌∙◌, subst, arith, All, nat_tests, Stamp, NodeEvent, GiveUp, Rules, MayFound, place_of, life_of, nobody, with_name, has}
-use Rattle.am_stands.proofs.StepsMoveWords.{no_stamp, Packet, Letter, goes_to_any, Act, Event, Record, item_at, key, begins_refl, Group, Node, set_at, has_departed}
-use Rattle.am_stands.proofs.StepsMoveWords.{Step, World, start, is_stopped, run, heard_by, split, Cause, calls, hears, Effect, actor, WasSentTo, IsCall, IsCause}
-use Rattle.am_stands.proofs.StepsMoveWords.{all_get, all_item, runs_keep, stamp_of, few_names, numbers_hold, IsNoted, heard_names, AllOwned, run_owned, each_along}
-use Rattle.am_stands.proofs.StepsMoveWords.{heard_used, kept_more, AllSent, after_step, sent_start, AtMost, IsBegun, StampOk, NameStands, StandsBut, Stands, within}
-use Rattle.am_stands.proofs.StepsMoveWords.{PacketSays, LetterSays, WasBegun, HeardSo, Stepping, Following, letters_stay, name_in, views_in, grows_same, others_keep}
-use Rattle.am_stands.proofs.StepsMoveWords.{not_above_key}
-use Rattle.am_runs.proofs.SentDataRuns.{each_keeps}
+use Rattle.am_stands.proofs.StepWords.{◌≡◌, ⊎_elim, ℕ, zero, suc, ◌<◌, ◌≤◌, ◌==◌, true, false, List, Some, slice_get, slice_index, get_or-set_same, refl, sym, ap}
+use Rattle.am_stands.proofs.StepWords.{◌∙◌, subst, arith, All, nat_tests, Stamp, NodeEvent, GiveUp, Rules, MayFound, place_of, life_of, nobody, with_name, has}
+use Rattle.am_stands.proofs.StepWords.{no_stamp, Packet, Letter, goes_to_any, Act, Event, Record, item_at, key, begins_refl, Group, Node, set_at, has_departed}
+use Rattle.am_stands.proofs.StepWords.{Step, World, start, is_stopped, run, heard_by, split, Cause, calls, hears, Effect, actor, WasSentTo, IsCall, IsCause}
+use Rattle.am_stands.proofs.StepWords.{all_get, all_item, runs_keep, stamp_of, few_names, numbers_hold, IsNoted, heard_names, AllOwned, run_owned, each_along}
+use Rattle.am_stands.proofs.StepWords.{heard_used, kept_more, AllSent, after_step, sent_start, AtMost, IsBegun, StampOk, NameStands, StandsBut, Stands, within}
+use Rattle.am_stands.proofs.StepWords.{PacketSays, LetterSays, WasBegun, HeardSo, Stepping, Following, letters_stay, name_in, views_in, grows_same, others_keep}
+use Rattle.am_stands.proofs.StepWords.{not_above_key}
+use Rattle.am_runs.proofs.SentRuns.{each_keeps}
 use Rattle.am_packet.specs.declared.packet.Packet.TheVariants as packet
 use Rattle.am_chain.specs.Group as groups
 use Rattle.am_laws.specs.Events as event

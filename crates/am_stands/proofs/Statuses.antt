@@ -1,5 +1,5 @@
 -- What a status says of who has it.
-use Rattle.am_stands.proofs.StepsMoveWords.{◌≡◌, ◌||◌, true, false, refl, Status, is_member, is_asking, has_log, has_departed}
+use Rattle.am_stands.proofs.StepWords.{◌≡◌, ◌||◌, true, false, refl, Status, is_member, is_asking, has_log, has_departed}
 use Rattle.am_model.specs.declared.status.Status.TheVariants as status
 
 -- who is no member, and hasn't departed, has no list

@@ -1,23 +1,23 @@
 -- Each step of a name of a run is moves of the group that stands for it.
-use Rattle.am_stands.proofs.StepsMoveWords.{same_group, member_stays, stamp_itself, same_stamp, ◌≡◌, ⊎_elim, Option, None, ℕ, ◌<◌, ◌≤◌, ◌==◌, not, nat_lt, true, false}
-use Rattle.am_stands.proofs.StepsMoveWords.{List, [], Some, slice_get, refl, sym, ap, ◌∙◌, subst, arith, All, nat_tests, Stamp, NodeEvent, Outcome, Entry, Leave, Rules}
-use Rattle.am_stands.proofs.StepsMoveWords.{MayFound, Log, told_by, size, stamp_lt, stamp_eq, Letter, Event, Group, Departed, Node, Ballot, view, acts, is_member}
-use Rattle.am_stands.proofs.StepsMoveWords.{others, is_sequencer, push_entry, has_departed, is_unfinished, Step, hears_member, refresh, settle, refresh_at_end, Decided}
-use Rattle.am_stands.proofs.StepsMoveWords.{World, is_stopped, group_after, views_after, run, with_step, happens, split, and_both, Cause, calls, hears, departs, Course}
-use Rattle.am_stands.proofs.StepsMoveWords.{nothing_yet, used_report, and_then, Deeds, plainly, looked, Ending, ends_so, let_go, closing, Effect, actor, IsCause, steps}
-use Rattle.am_stands.proofs.StepsMoveWords.{all_get, rests_refresh, rests_at_end, few_names, numbers_hold, not_above_itself, run_owned, Balloted, OpenBallot}
-use Rattle.am_stands.proofs.StepsMoveWords.{leads_member, changes_do, IsNoted, CauseSent, after_step, cause_sent, NameStands, StandsBut, within, nothing, none}
-use Rattle.am_stands.proofs.StepsMoveWords.{OwnDecided, Sender, ListBegins, began_before, just_begun, Stepping, Following, Follows, StepsMove, then_moves}
-use Rattle.am_stands.proofs.StepsMoveWords.{departed_silent}
+use Rattle.am_stands.proofs.StepWords.{same_group, member_stays, stamp_itself, same_stamp, ◌≡◌, ⊎_elim, Option, None, ℕ, ◌<◌, ◌≤◌, ◌==◌, not, nat_lt, true, false}
+use Rattle.am_stands.proofs.StepWords.{List, [], Some, slice_get, refl, sym, ap, ◌∙◌, subst, arith, All, nat_tests, Stamp, NodeEvent, Outcome, Entry, Leave, Rules}
+use Rattle.am_stands.proofs.StepWords.{MayFound, Log, told_by, size, stamp_lt, stamp_eq, Letter, Event, Group, Departed, Node, Ballot, view, acts, is_member}
+use Rattle.am_stands.proofs.StepWords.{others, is_sequencer, push_entry, has_departed, is_unfinished, Step, hears_member, refresh, settle, refresh_at_end, Decided}
+use Rattle.am_stands.proofs.StepWords.{World, is_stopped, group_after, views_after, run, with_step, happens, split, and_both, Cause, calls, hears, departs, Course}
+use Rattle.am_stands.proofs.StepWords.{nothing_yet, used_report, and_then, Deeds, plainly, looked, Ending, ends_so, let_go, closing, Effect, actor, IsCause, steps}
+use Rattle.am_stands.proofs.StepWords.{all_get, rests_refresh, rests_at_end, few_names, numbers_hold, not_above_itself, run_owned, Balloted, OpenBallot}
+use Rattle.am_stands.proofs.StepWords.{leads_member, changes_do, IsNoted, CauseSent, after_step, cause_sent, NameStands, StandsBut, within, nothing, none}
+use Rattle.am_stands.proofs.StepWords.{OwnDecided, Sender, ListBegins, began_before, just_begun, Stepping, Following, Follows, StepsMove, then_moves}
+use Rattle.am_stands.proofs.StepWords.{departed_silent}
 use Rattle.am_packet.specs.declared.packet.Packet.TheVariants as packet
 use Rattle.am_laws.specs.Letters as letters
 use Rattle.am_stands.proofs.Starting.{acting, recorded, stands_but, run_sent, stepping_begins}
 use Rattle.am_stands.proofs.{Statuses.departed_is, Owns.owns_next, Owns.run_owns, Worlds.growing, Worlds.same_stands, Refreshed.Fronted, Courses.brings_report}
-use Rattle.am_stands.proofs.{Courses.was_welcomed, Courses.both_ways, Courses.stays, Fronts.looked_fronts, StepsMoveGoing.Grown, StepsMoveGoing.as_before, StepsMoveGoing.by_reports}
-use Rattle.am_stands.proofs.{StepsMoveGoing.change_on, StepsMoveGoing.going_on, Deeds.further, Deeds.Seen, Deeds.none_new, Deeds.one_new, Deeds.Done, Deeds.deeds_on, StepsMoveEnds.AtEnd}
-use Rattle.am_stands.proofs.{StepsMoveEnds.ended_on, StepsMoveEnds.views_end, Based.Based, Based.as_it_was, Based.was_bare, Based.step_based, Based.bare_follows, StepsMoveLetters.Told}
-use Rattle.am_stands.proofs.{StepsMoveLetters.none_told, StepsMoveLetters.letters_told, Landing.at_end, Landing.landed, Landing.ended_stands, Landing.ended_keeps}
-use Rattle.am_stands.proofs.{Landing.landed_told, StepsMoveSilent.departed_quiet, Senders.sender, Departed.rests_course, Departed.rests_step, StepsMoveClosing.closes_on}
+use Rattle.am_stands.proofs.{Courses.was_welcomed, Courses.both_ways, Courses.stays, Fronts.looked_fronts, StepGoing.Grown, StepGoing.as_before, StepGoing.by_reports}
+use Rattle.am_stands.proofs.{StepGoing.change_on, StepGoing.going_on, Deeds.further, Deeds.Seen, Deeds.none_new, Deeds.one_new, Deeds.Done, Deeds.deeds_on, StepEnds.AtEnd}
+use Rattle.am_stands.proofs.{StepEnds.ended_on, StepEnds.views_end, Based.Based, Based.as_it_was, Based.was_bare, Based.step_based, Based.bare_follows, StepLetters.Told}
+use Rattle.am_stands.proofs.{StepLetters.none_told, StepLetters.letters_told, Landing.at_end, Landing.landed, Landing.ended_stands, Landing.ended_keeps}
+use Rattle.am_stands.proofs.{Landing.landed_told, StepSilent.departed_quiet, Senders.sender, Departed.rests_course, Departed.rests_step, StepClosing.closes_on}
 
 -- ---- by how a step ends
 

@@ -1,7 +1,7 @@
 -- Who has stopped is one of the 256 names.
-use Rattle.am_stands.proofs.StepsMoveWords.{◌≡◌, ℕ, ◌<◌, ◌==◌, ◌||◌, true, false, List, [], ◌∷◌, ◌++◌, sym, ◌∙◌, arith, list_any, nat_tests, list_any-append, Rules}
-use Rattle.am_stands.proofs.StepsMoveWords.{MayFound, Event, World, start, current, is_stopped, with_record, with_step, run, split, actor, idles, stops, returns, steps}
-use Rattle.am_stands.proofs.StepsMoveWords.{EachKeeps, runs_keep, AllNamed, each_named, few_names, start_named}
+use Rattle.am_stands.proofs.StepWords.{◌≡◌, ℕ, ◌<◌, ◌==◌, ◌||◌, true, false, List, [], ◌∷◌, ◌++◌, sym, ◌∙◌, arith, list_any, nat_tests, list_any-append, Rules}
+use Rattle.am_stands.proofs.StepWords.{MayFound, Event, World, start, current, is_stopped, with_record, with_step, run, split, actor, idles, stops, returns, steps}
+use Rattle.am_stands.proofs.StepWords.{EachKeeps, runs_keep, AllNamed, each_named, few_names, start_named}
 
 abbrev AllFew : List ℕ → Type 0
 AllFew names = (j : ℕ) → list_any (λ x. x == j) names ≡ true → j < 256

@@ -25,10 +25,10 @@ pub use Rattle.am_laws.proofs.Words.{order, hold, join_ask, welcome, gone, invit
 unfoldable pub use Rattle.am_laws.proofs.Words.{fold, after, fits, accept, pass_over, own_report, tell, go_on, let_go, those, lead, refresh, settle}
 unfoldable pub use Rattle.am_laws.proofs.Words.{refresh_at_end, send_row, take_row, join_row, state_row, leave_row, reset_row, ask_row, give_up_row, done_row}
 unfoldable pub use Rattle.am_laws.proofs.Words.{hear_row, best_of, finish, tick_row, row, step, hear, hear_refusal, with_step, with_record}
-pub use Rattle.am_laws.proofs.StepEffectsWords.{Ok, Err, is_some, not-true, eq-eqb, slice_get_within, without_name, fold_append, Read, reading, slice_get-drop}
-pub use Rattle.am_laws.proofs.StepEffectsWords.{item_at, has_departed, only_name, has_own_leave, is_waited_for, may_fetch, Departed, read_row, asks_to_leave}
-pub use Rattle.am_laws.proofs.StepEffectsWords.{MayStore, overtaken, MayReport, BringsReport, with_send, by_ack, by_nack, by_leave_ask, BringsFronts, with_entry}
-pub use Rattle.am_laws.proofs.StepEffectsWords.{with_number, alone, HasLearned, leads, decided, ack, nack, leave_ask}
+pub use Rattle.am_laws.proofs.EffectWords.{Ok, Err, is_some, not-true, eq-eqb, slice_get_within, without_name, fold_append, Read, reading, slice_get-drop}
+pub use Rattle.am_laws.proofs.EffectWords.{item_at, has_departed, only_name, has_own_leave, is_waited_for, may_fetch, Departed, read_row, asks_to_leave}
+pub use Rattle.am_laws.proofs.EffectWords.{MayStore, overtaken, MayReport, BringsReport, with_send, by_ack, by_nack, by_leave_ask, BringsFronts, with_entry}
+pub use Rattle.am_laws.proofs.EffectWords.{with_number, alone, HasLearned, leads, decided, ack, nack, leave_ask}
 pub use Rattle.std.{proofs.Common.count_by, proofs.Common.append-nil, proofs.Math.Bool.and-false, proofs.Math.Seq.take-append-add}
 pub use Rattle.std.{proofs.Math.Seq.drop-append-add, proofs.Math.Seq.drop-append_seam, proofs.lemmas.Bool.leb-true, proofs.lemmas.Bool.eqb-false}
 pub use Rattle.std.{proofs.lemmas.Bool.eqb-true, proofs.lemmas.Grind.flat_map-append, specs.List.list_all}
@@ -72,7 +72,7 @@ pub use Rattle.am_chain.proofs.{Start.start_kept, Puts.put_same, Puts.put_at, Pu
 pub use Rattle.am_chain.proofs.{Puts.put_cases, Nodes.own_above}
 pub use Rattle.am_chain.proofs.{Heart.ballot_ok, Heart.list_chain, Heart.departed_in, Decide.group_low, Runs.run_keeps}
 pub use Rattle.am_chain.proofs.Turns.{request_within, next_in}
-pub use Rattle.am_runs.proofs.SentDataChanges.{MaySend, body_of_sent, CauseSent, change_sent}
+pub use Rattle.am_runs.proofs.SentChanges.{MaySend, body_of_sent, CauseSent, change_sent}
 pub use Rattle.am_runs.proofs.{Turns.waiting_is, Turns.one_more, Turns.waiting_settled, Turns.collected_turn, Says.only_is}
 pub use Rattle.am_runs.proofs.{Actors.same_group as no_more_group, UnballotedChanges.found_at}
 unfoldable pub use Rattle.am_runs.proofs.Turns.{Turn}

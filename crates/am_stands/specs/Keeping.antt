@@ -21,8 +21,8 @@ use Rattle.am_laws.proofs.Taken.{HeardUsed}
 use Rattle.am_laws.proofs.TakenRuns.{Along}
 use Rattle.am_laws.proofs.ViewNames.{HeardNames}
 use Rattle.am_codec.specs.Spelling.{stamp_of}
-use Rattle.am_runs.proofs.SentDataKept as sent
-use Rattle.am_runs.proofs.SentDataChanges.{CauseSent}
+use Rattle.am_runs.proofs.SentKept as sent
+use Rattle.am_runs.proofs.SentChanges.{CauseSent}
 use Rattle.am_runs.proofs.Turns.{Turn}
 use Rattle.am_stands.specs.Standing.{NameStands, StandsBut, Stands, within}
 use Rattle.am_stands.specs.Letters.{Trimmed, PacketSays}

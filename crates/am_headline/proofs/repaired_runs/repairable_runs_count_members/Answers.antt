@@ -1,4 +1,4 @@
-use Rattle.am_headline.proofs.RepairedRunsSettled.{counts_members}
+use Rattle.am_headline.proofs.RepairedSettled.{counts_members}
 use Rattle.am_headline.proofs.repaired_runs.repairable_runs_count_members.Goals as goal
 
 pub returns : goal.returns

@@ -1,4 +1,4 @@
-use Rattle.am_runs.proofs.PromisesRuns.{promises_are_begun}
+use Rattle.am_runs.proofs.PromisedRuns.{promises_are_begun}
 use Rattle.am_runs.proofs.promises.promises_are_begun.Goals as goal
 
 pub returns : goal.returns

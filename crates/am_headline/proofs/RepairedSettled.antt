@@ -1,8 +1,8 @@
 -- What a run that may be repaired comes to by a lossless schedule.
-use Rattle.am_headline.proofs.RepairedRunsWords.{lawful_front, ◌≡◌, ℕ, ◌<◌, ◌≤◌, ◌==◌, List, ◌++◌, true, subst, sym, arith, nat_tests, Rules, MayFound}
-use Rattle.am_headline.proofs.RepairedRunsWords.{has, Event, is_member, top, members, World, start, current, run, settle_events, MayRepair}
-use Rattle.am_headline.proofs.RepairedRunsWords.{HasCaughtUp, Repairs, split, runs_go_on, taken_holds, steps_move, held, repairs_where_lists_agree}
-use Rattle.am_headline.proofs.RepairedRunsWords.{sequencers_trim_known, acting, one_list_agrees, RepairableTrims, RepairableCounts}
+use Rattle.am_headline.proofs.RepairedWords.{lawful_front, ◌≡◌, ℕ, ◌<◌, ◌≤◌, ◌==◌, List, ◌++◌, true, subst, sym, arith, nat_tests, Rules, MayFound}
+use Rattle.am_headline.proofs.RepairedWords.{has, Event, is_member, top, members, World, start, current, run, settle_events, MayRepair}
+use Rattle.am_headline.proofs.RepairedWords.{HasCaughtUp, Repairs, split, runs_go_on, taken_holds, steps_move, held, repairs_where_lists_agree}
+use Rattle.am_headline.proofs.RepairedWords.{sequencers_trim_known, acting, one_list_agrees, RepairableTrims, RepairableCounts}
 use Rattle.am_headline.proofs.{OneList.lawful_events, OneList.small_name, OneList.member_small, OneList.listed_runs}
 use Rattle.am_headline.proofs.{OneList.leader_runs, OneList.repairable_is_one_list, Counted.repairable_counts}
 use Rattle.am_headline.proofs.{Trims.Trims, Trims.settled_trims, Kept.trims_start, Kept.trims_keeps}

@@ -1,8 +1,8 @@
 -- A sequencer's step in its view keeps what is known of what was taken.
-use Rattle.am_headline.proofs.RepairedRunsWords.{eqb-true, ◌≡◌, ◌⊎◌, inl, inr, ⊎_elim, ℕ, ◌<◌, ◌≤◌, ◌==◌, max, true, false, List, Some, slice_get, refl, sym, ap, ◌∙◌}
-use Rattle.am_headline.proofs.RepairedRunsWords.{subst, arith, Join, Stamp, Rules, stamp_lt, fits, top_of, Letter, Event, Group, Node, image_of, view, acts, is_sequencer}
-use Rattle.am_headline.proofs.RepairedRunsWords.{has_log, Step, World, is_stopped, run, split, Cause, hears, actor, WasSentTo, IsCause, all_get, not_above_itself, GoesSo}
-use Rattle.am_headline.proofs.RepairedRunsWords.{run_goes, parts, plain, NoJoin, Rises, run_told, cause_taken}
+use Rattle.am_headline.proofs.RepairedWords.{eqb-true, ◌≡◌, ◌⊎◌, inl, inr, ⊎_elim, ℕ, ◌<◌, ◌≤◌, ◌==◌, max, true, false, List, Some, slice_get, refl, sym, ap, ◌∙◌}
+use Rattle.am_headline.proofs.RepairedWords.{subst, arith, Join, Stamp, Rules, stamp_lt, fits, top_of, Letter, Event, Group, Node, image_of, view, acts, is_sequencer}
+use Rattle.am_headline.proofs.RepairedWords.{has_log, Step, World, is_stopped, run, split, Cause, hears, actor, WasSentTo, IsCause, all_get, not_above_itself, GoesSo}
+use Rattle.am_headline.proofs.RepairedWords.{run_goes, parts, plain, NoJoin, Rises, run_told, cause_taken}
 use Rattle.am_packet.specs.declared.packet.Packet.TheVariants as packet
 use Rattle.am_headline.proofs.Trims.{LetterLow, Knows, took, joins, halts, Settles, TrimStep, Sent, before, now}
 use Rattle.am_headline.proofs.{Asked.Asked, Asked.as_before, Asked.admitted_, Asked.asked_event, Began.rises_along, Fresh.Welcomed, Fresh.no_list}

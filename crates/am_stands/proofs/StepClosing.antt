@@ -1,9 +1,9 @@
 -- The last member's end, which is one move.
-use Rattle.am_stands.proofs.StepsMoveWords.{member_stays, ◌≡◌, ℕ, nat_lt, true, false, List, refl, sym, subst, All-push, Leave, Rules, size, Event, Record, Group}
-use Rattle.am_stands.proofs.StepsMoveWords.{chain_of, longer, Kept, Node, view, others, is_member, is_sequencer, push_entry, Step, World, with_step, Cause}
-use Rattle.am_stands.proofs.StepsMoveWords.{leads_member, NameStands, StandsBut, Stands, within, CountsNames, ComesTo, NeedsClose, after_closing, NamesNamed, Leads}
-use Rattle.am_stands.proofs.StepsMoveWords.{MayMove, Stepping, is_up, front_named, counts_names, close_stands, name_longer, kept, old, may_move, closing_accepts}
-use Rattle.am_stands.proofs.StepsMoveWords.{name_in, views_in}
+use Rattle.am_stands.proofs.StepWords.{member_stays, ◌≡◌, ℕ, nat_lt, true, false, List, refl, sym, subst, All-push, Leave, Rules, size, Event, Record, Group}
+use Rattle.am_stands.proofs.StepWords.{chain_of, longer, Kept, Node, view, others, is_member, is_sequencer, push_entry, Step, World, with_step, Cause}
+use Rattle.am_stands.proofs.StepWords.{leads_member, NameStands, StandsBut, Stands, within, CountsNames, ComesTo, NeedsClose, after_closing, NamesNamed, Leads}
+use Rattle.am_stands.proofs.StepWords.{MayMove, Stepping, is_up, front_named, counts_names, close_stands, name_longer, kept, old, may_move, closing_accepts}
+use Rattle.am_stands.proofs.StepWords.{name_in, views_in}
 use Rattle.am_stands.proofs.{Starting.recorded, Refreshed.Fronted, Refreshed.comes}
 
 -- a world with other records

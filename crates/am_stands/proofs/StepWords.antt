@@ -40,11 +40,11 @@ pub use Rattle.am_laws.proofs.{ViewNames.HasNames, ViewNames.change_names, ViewN
 pub use Rattle.am_laws.proofs.{TakenRuns.each_along, TakenRuns.heard_used, Stamps.below, Stamps.not_above, Stamps.not_above_itself, ViewSteps.SameView}
 pub use Rattle.am_laws.proofs.{ViewSteps.Stood, ViewSteps.view_last, ViewSteps.Goes, Views.IsNoted, Views.AllViews, Views.each_views, Views.heard_names}
 pub use Rattle.am_laws.proofs.{Views.views_start, Named.few_names, Named.AllNamed, Named.each_named, Named.start_named, RunCounts.numbers_hold}
-pub use Rattle.am_runs.proofs.{SentDataRuns.after_step, SentDataRuns.AllSent, SentDataRuns.sent_start, SentDataRuns.cause_sent, SentDataKept.kept_refresh, SentDataKept.EntrySent, SentDataKept.SendSent}
-pub use Rattle.am_runs.proofs.{SentDataKept.WasSent, SentDataKept.kept_more}
-pub use Rattle.am_runs.specs.PromisesClaim.{AtMost, IsBegun, StampOk}
-pub use Rattle.am_runs.proofs.{Stamps.most_same, Stamps.most_through, PromisesChanges.CauseBegun, PromisesChanges.Promised, PromisesChanges.promise_change, PromisesRuns.AllBegun}
-pub use Rattle.am_runs.proofs.{PromisesRuns.cause_begun, PromisesRuns.each_keeps, PromisesRuns.start_begun}
+pub use Rattle.am_runs.proofs.{SentRuns.after_step, SentRuns.AllSent, SentRuns.sent_start, SentRuns.cause_sent, SentKept.kept_refresh, SentKept.EntrySent, SentKept.SendSent}
+pub use Rattle.am_runs.proofs.{SentKept.WasSent, SentKept.kept_more}
+pub use Rattle.am_runs.specs.PromisedClaim.{AtMost, IsBegun, StampOk}
+pub use Rattle.am_runs.proofs.{Stamps.most_same, Stamps.most_through, PromisedChanges.CauseBegun, PromisedChanges.Promised, PromisedChanges.promise_change, PromisedRuns.AllBegun}
+pub use Rattle.am_runs.proofs.{PromisedRuns.cause_begun, PromisedRuns.each_keeps, PromisedRuns.start_begun}
 pub use Rattle.am_runs.proofs.{Records.idle_queues, Worlds.AskedOk, Worlds.asked_more, Worlds.asked_other, Worlds.unique, Actors.same_group}
 pub use Rattle.am_runs.proofs.{Steps.nil_of}
 pub use Rattle.am_stands.proofs.{Parts.view_its, ChainNames.front_named, ChainNames.counts_names, ChainNames.rows_live, ChainNames.concerned_small}

@@ -1,7 +1,7 @@
 -- A step up to its end, as moves of the group.
-use Rattle.am_stands.proofs.StepsMoveWords.{◌≡◌, ℕ, ◌≤◌, true, List, length, refl, sym, ap, ◌∙◌, subst, arith, Entry, Outcome, Rules, Log, Group, Node, top}
-use Rattle.am_stands.proofs.StepsMoveWords.{is_sequencer, with_report, refresh, World, group_after, Cause, Change, takes_report, IsPlain, Course, nothing_yet}
-use Rattle.am_stands.proofs.StepsMoveWords.{used_report, and_then, rests_refresh, leads_rests, CauseSent, none, after_change, Stepping, old, grows_same, changes_go_on}
+use Rattle.am_stands.proofs.StepWords.{◌≡◌, ℕ, ◌≤◌, true, List, length, refl, sym, ap, ◌∙◌, subst, arith, Entry, Outcome, Rules, Log, Group, Node, top}
+use Rattle.am_stands.proofs.StepWords.{is_sequencer, with_report, refresh, World, group_after, Cause, Change, takes_report, IsPlain, Course, nothing_yet}
+use Rattle.am_stands.proofs.StepWords.{used_report, and_then, rests_refresh, leads_rests, CauseSent, none, after_change, Stepping, old, grows_same, changes_go_on}
 use Rattle.am_stands.specs.Keeping as plainly
 use Rattle.am_stands.proofs.{Worlds.growing, Refreshed.Changed, Refreshed.then_changed, Refreshed.Fronted, Refreshed.refresh_on, Courses.brings_report}
 use Rattle.am_stands.proofs.{Courses.brings_true, Courses.plain_too, Courses.none_noted, Courses.leads_on, Fronts.fronts_next}

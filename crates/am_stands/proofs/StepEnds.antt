@@ -1,12 +1,12 @@
 -- The end of a step: the refresh, what of it settles a send, and what the step noted.
-use Rattle.am_stands.proofs.StepsMoveWords.{nothing_viewed, member_stays, not-true, logged, stamp_itself, same_stamp, ◌≡◌, ◌≢◌, ⊎_elim, ℕ, ◌<◌, ◌≤◌, ◌==◌, ◌&&◌, not}
-use Rattle.am_stands.proofs.StepsMoveWords.{true, false, List, [], ◌∷◌, ◌++◌, slice_get, Some, refl, sym, ap, ◌∙◌, subst, arith, nat_tests, Stamp, Entry, Outcome}
-use Rattle.am_stands.proofs.StepsMoveWords.{Rules, Log, told_by, members_of, stamp_lt, stamp_eq, no_stamp, view_of, key, view_small, Group, IsUp, Node, top, view}
-use Rattle.am_stands.proofs.StepsMoveWords.{image_of, is_member, has_log, has_departed, refresh, settle, Decided, World, group_after, views_after, split, and_both}
-use Rattle.am_stands.proofs.StepsMoveWords.{Cause, settles, rests_refresh, leads_rests, settle_is, not_above_itself, IsNoted, SameView, Stood, Goes, CauseSent}
-use Rattle.am_stands.proofs.StepsMoveWords.{FrontsStand, Grows, Moves, Stepping, then_moves, key_stamp, view_whole, old, whole, grows_trans, list_opens, changes_go_on}
+use Rattle.am_stands.proofs.StepWords.{nothing_viewed, member_stays, not-true, logged, stamp_itself, same_stamp, ◌≡◌, ◌≢◌, ⊎_elim, ℕ, ◌<◌, ◌≤◌, ◌==◌, ◌&&◌, not}
+use Rattle.am_stands.proofs.StepWords.{true, false, List, [], ◌∷◌, ◌++◌, slice_get, Some, refl, sym, ap, ◌∙◌, subst, arith, nat_tests, Stamp, Entry, Outcome}
+use Rattle.am_stands.proofs.StepWords.{Rules, Log, told_by, members_of, stamp_lt, stamp_eq, no_stamp, view_of, key, view_small, Group, IsUp, Node, top, view}
+use Rattle.am_stands.proofs.StepWords.{image_of, is_member, has_log, has_departed, refresh, settle, Decided, World, group_after, views_after, split, and_both}
+use Rattle.am_stands.proofs.StepWords.{Cause, settles, rests_refresh, leads_rests, settle_is, not_above_itself, IsNoted, SameView, Stood, Goes, CauseSent}
+use Rattle.am_stands.proofs.StepWords.{FrontsStand, Grows, Moves, Stepping, then_moves, key_stamp, view_whole, old, whole, grows_trans, list_opens, changes_go_on}
 use Rattle.am_play.specs.World.{decides}
-use Rattle.am_stands.proofs.{Worlds.growing, Refreshed.refresh_on, Grown.accepted_twice, StepsMoveGoing.Grown, StepsMoveGoing.as_before, StepsMoveGoing.by_reports, Deeds.further}
+use Rattle.am_stands.proofs.{Worlds.growing, Refreshed.refresh_on, Grown.accepted_twice, StepGoing.Grown, StepGoing.as_before, StepGoing.by_reports, Deeds.further}
 use Rattle.am_stands.proofs.{Deeds.Seen, Deeds.none_new, Deeds.one_new, Deeds.Done}
 
 -- ---- the group list at the end

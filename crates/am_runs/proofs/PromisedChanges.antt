@@ -1,7 +1,7 @@
 -- What each change keeps of a promise, and the stamps of letters.
-use Rattle.am_runs.proofs.PromisesWords.{◌≡◌, ◌⊎◌, inl, inr, ℕ, List, refl, sym, ap, ◌∙◌, subst, Stamp, Outcome, Packet, sender_of, stamp_of, Node, Ballot}
-use Rattle.am_runs.proofs.PromisesWords.{Verdict, Cause, hears, Looks, finds_itself_out, Promises, invited, overtaken, told_result, Change, refreshes, settles}
-use Rattle.am_runs.proofs.PromisesWords.{begins_list, promises, opens, looks, closes, Says, request, rests_refresh, rests_closed, settle_is, AtMost, IsBegun}
+use Rattle.am_runs.proofs.PromisedWords.{◌≡◌, ◌⊎◌, inl, inr, ℕ, List, refl, sym, ap, ◌∙◌, subst, Stamp, Outcome, Packet, sender_of, stamp_of, Node, Ballot}
+use Rattle.am_runs.proofs.PromisedWords.{Verdict, Cause, hears, Looks, finds_itself_out, Promises, invited, overtaken, told_result, Change, refreshes, settles}
+use Rattle.am_runs.proofs.PromisedWords.{begins_list, promises, opens, looks, closes, Says, request, rests_refresh, rests_closed, settle_is, AtMost, IsBegun}
 use Rattle.am_runs.proofs.Stamps.{most_through, most_next}
 
 -- what is heard has a stamp that was begun

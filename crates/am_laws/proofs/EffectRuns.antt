@@ -1,6 +1,6 @@
 -- What is kept by each event is kept by each run.
-use Rattle.am_laws.proofs.StepEffectsWords.{◌≡◌, List, [], ◌∷◌, refl, Outcome, Event, Node, Step, World, with_record, with_step, happens, happen, Cause, Change}
-use Rattle.am_laws.proofs.StepEffectsWords.{Changes, no_change, changed, Effect, actor, IsCause, Happens, steps}
+use Rattle.am_laws.proofs.EffectWords.{◌≡◌, List, [], ◌∷◌, refl, Outcome, Event, Node, Step, World, with_record, with_step, happens, happen, Cause, Change}
+use Rattle.am_laws.proofs.EffectWords.{Changes, no_change, changed, Effect, actor, IsCause, Happens, steps}
 use Rattle.am_laws.proofs.Events.{events_have_effects}
 
 -- what each change keeps, some in turn keep

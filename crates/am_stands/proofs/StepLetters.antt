@@ -1,8 +1,8 @@
 -- The letters of a step are so, once a voter has shown what they tell, and served what it sends of it.
-use Rattle.am_stands.proofs.StepsMoveWords.{◌≡◌, ℕ, ◌≤◌, List, [], ◌∷◌, ◌++◌, refl, sym, ◌∙◌, subst, append-nil, All, All-nil, All-cons, All-head, All-tail, Rules}
-use Rattle.am_stands.proofs.StepsMoveWords.{Letter, Record, key, Group, IsThere, Node, lowest_or_first, World, Cause, NameStands, FrontsStand, ViewsStand, LetterSays}
-use Rattle.am_stands.proofs.StepsMoveWords.{Grows, Moves, none, Reporting, Sender, LeaderStands, ShowsMore, GroupFor, then_moves, letters_stay, trimmed_stays, all_stay}
-use Rattle.am_stands.proofs.StepsMoveWords.{goes_on, grows_same, grows_trans, group_whole, sent_says}
+use Rattle.am_stands.proofs.StepWords.{◌≡◌, ℕ, ◌≤◌, List, [], ◌∷◌, ◌++◌, refl, sym, ◌∙◌, subst, append-nil, All, All-nil, All-cons, All-head, All-tail, Rules}
+use Rattle.am_stands.proofs.StepWords.{Letter, Record, key, Group, IsThere, Node, lowest_or_first, World, Cause, NameStands, FrontsStand, ViewsStand, LetterSays}
+use Rattle.am_stands.proofs.StepWords.{Grows, Moves, none, Reporting, Sender, LeaderStands, ShowsMore, GroupFor, then_moves, letters_stay, trimmed_stays, all_stay}
+use Rattle.am_stands.proofs.StepWords.{goes_on, grows_same, grows_trans, group_whole, sent_says}
 use Rattle.am_packet.specs.declared.packet.Packet.TheVariants as packet
 use Rattle.am_chain.specs.Group as groups
 use Rattle.am_laws.specs.Letters as letters

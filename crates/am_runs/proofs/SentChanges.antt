@@ -29,9 +29,9 @@ use Rattle.am_laws.specs.Letters.{HasSend, Stands, Says, request, spread, bcast}
 use Rattle.am_laws.specs.Letters.{piece, LetterSays}
 use Rattle.am_laws.specs.Effects.{Effect}
 use Rattle.am_laws.proofs.Items.{all_get, all_find}
-use Rattle.am_laws.proofs.StepEffectsRuns.{along}
-use Rattle.am_runs.proofs.SentDataKept.{WasSent, EntrySent, PacketSent, LetterSent, SendSent, BodySent, Keeps, as_sent, kept_pushed, kept_queued, kept_collected}
-use Rattle.am_runs.proofs.SentDataKept.{kept_body, kept_refresh, kept_settle, kept_at_end, waiting_sent}
+use Rattle.am_laws.proofs.EffectRuns.{along}
+use Rattle.am_runs.proofs.SentKept.{WasSent, EntrySent, PacketSent, LetterSent, SendSent, BodySent, Keeps, as_sent, kept_pushed, kept_queued, kept_collected}
+use Rattle.am_runs.proofs.SentKept.{kept_body, kept_refresh, kept_settle, kept_at_end, waiting_sent}
 
 -- ---- what makes a node do a step
 

@@ -23,12 +23,12 @@ use Rattle.am_laws.specs.Causes.{Cause, calls, hears, refuses}
 use Rattle.am_laws.specs.Events as event
 use Rattle.am_laws.specs.Events.{actor, IsCall, IsCause, steps}
 use Rattle.am_laws.proofs.Items.{get_front, get_last, all_item}
-use Rattle.am_laws.proofs.StepEffectsRuns.{EachKeeps, runs_keep}
-use Rattle.am_runs.specs.SentDataClaim.{SentHolds}
+use Rattle.am_laws.proofs.EffectRuns.{EachKeeps, runs_keep}
+use Rattle.am_runs.specs.SentClaim.{SentHolds}
 use Rattle.am_play.proofs.Runs.{one_record_each}
 use Rattle.am_play.proofs.Beginnings.{runs_begin}
-use Rattle.am_runs.proofs.SentDataKept.{WasSent, EntrySent, PacketSent, LetterSent, Keeps, entry_more, letter_more, kept_more}
-use Rattle.am_runs.proofs.SentDataChanges.{CauseSent, StepSent, step_sent}
+use Rattle.am_runs.proofs.SentKept.{WasSent, EntrySent, PacketSent, LetterSent, Keeps, entry_more, letter_more, kept_more}
+use Rattle.am_runs.proofs.SentChanges.{CauseSent, StepSent, step_sent}
 
 -- ---- a world
 

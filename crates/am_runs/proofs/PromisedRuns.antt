@@ -1,9 +1,9 @@
 -- Each run keeps promises.
-use Rattle.am_runs.proofs.PromisesWords.{◌≡◌, ⊎_elim, inl, inr, ℕ, ◌==◌, true, refl, sym, ap, ◌∙◌, subst, arith, All, nat_tests, All-nil, All-append, All-weaker}
-use Rattle.am_runs.proofs.PromisesWords.{Stamp, no_stamp, Rules, MayFound, has, Letter, sender_of, stamp_of, Act, Node, set_at, founding_stamp, World, start}
-use Rattle.am_runs.proofs.PromisesWords.{with_record, with_step, run, heard_by, split, Cause, calls, hears, refuses, LetterSays, actor, IsCause, steps, all_get}
-use Rattle.am_runs.proofs.PromisesWords.{all_item, along, EachKeeps, runs_keep, first_founder, AtMost, IsBegun, StampOk, PromisesAreBegun}
-use Rattle.am_runs.proofs.{Stamps.most_same, Stamps.most_through, PromisesChanges.CauseBegun, PromisesChanges.Promised, PromisesChanges.promise_change, PromisesChanges.said_by}
+use Rattle.am_runs.proofs.PromisedWords.{◌≡◌, ⊎_elim, inl, inr, ℕ, ◌==◌, true, refl, sym, ap, ◌∙◌, subst, arith, All, nat_tests, All-nil, All-append, All-weaker}
+use Rattle.am_runs.proofs.PromisedWords.{Stamp, no_stamp, Rules, MayFound, has, Letter, sender_of, stamp_of, Act, Node, set_at, founding_stamp, World, start}
+use Rattle.am_runs.proofs.PromisedWords.{with_record, with_step, run, heard_by, split, Cause, calls, hears, refuses, LetterSays, actor, IsCause, steps, all_get}
+use Rattle.am_runs.proofs.PromisedWords.{all_item, along, EachKeeps, runs_keep, first_founder, AtMost, IsBegun, StampOk, PromisesAreBegun}
+use Rattle.am_runs.proofs.{Stamps.most_same, Stamps.most_through, PromisedChanges.CauseBegun, PromisedChanges.Promised, PromisedChanges.promise_change, PromisedChanges.said_by}
 
 pub record AllBegun (w : World) : Type 0 where
   pub who : (i : ℕ) → (w.nodes i).core.who ≡ i
