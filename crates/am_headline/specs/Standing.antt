@@ -78,7 +78,7 @@ OneListAgrees = (rules : Rules) (events : List Event) (place : ℕ) → MayFound
     → IsSettled (run rules events) ((run rules events).nodes (current (run rules events) place))
     → Agree (run rules events) ((run rules events).nodes (current (run rules events) place))
 
--- both of these are so at the end of each lawful run that may be repaired (am_repaired)
+-- both of these are so at the end of each lawful run that may be repaired (am_headline)
 abbrev pub RepairableIsOneList : Type 0
 RepairableIsOneList = (rules : Rules) (events : List Event) (place : ℕ) → MayFound rules → place < 16 → lawful_front rules events ≡ events
     → MayRepair (run rules events) place

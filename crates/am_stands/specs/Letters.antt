@@ -173,6 +173,6 @@ PacketSays w s to (Piece i v base number e) = Trimmed s base × PieceSays s i v 
 PacketSays w s to (Result i v base number names resilience) = Trimmed s base × (v.by ≡ i → ResultSays s i v number names resilience)
 PacketSays w s to (HandOver i v) = Unit {0}
 
--- and the stamp of each was begun, and isn't above its sender's promise (am_promises)
+-- and the stamp of each was begun, and isn't above its sender's promise (am_runs)
 abbrev pub LetterSays : World → Group → Letter → Type 0
 LetterSays w s letter = PacketSays w s letter.to letter.packet
