@@ -67,7 +67,7 @@ fn counting(alloc: Global, number: usize, size: usize) -> Result<SentBody, NoMem
 {
     let mut bytes = [0; MOST_DRAWN];
     let mut next = (number % 256) as u8;
-    for index in 0..MOST_DRAWN {
+    for index in 0..size {
         bytes[index] = next;
         next = next.wrapping_add(1);
     }
