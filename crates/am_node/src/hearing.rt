@@ -9,9 +9,9 @@ use am_handlers::parts::Parts;
 use am_letter::out_box::OutBox;
 use am_ordering::joining::on_join_ask;
 use am_ordering::leaving::on_leave_ask;
-use am_ordering::receiver::{on_accept, on_bcast, on_order};
-use am_ordering::sequencer::{on_ack, on_nack, on_request};
-use am_ordering::welcomed::on_welcome;
+use am_ordering::receiver::{Told, on_accept, on_bcast, on_order};
+use am_ordering::sequencer::{Request, on_ack, on_nack, on_request};
+use am_ordering::welcomed::{Welcome, on_welcome};
 use am_packet::packet::Packet;
 use am_resetting::catching::{on_piece, on_result};
 use am_resetting::serving::on_fetch;
@@ -33,7 +33,16 @@ pub fn heard_row(parts: &mut Parts, packet: &Packet, out: &mut OutBox) -> Outcom
             req,
             body,
             ..
-        } => on_request(parts, *sender, *report, *req, body, false, out),
+        } => {
+            let request = Request {
+                from: *sender,
+                report: *report,
+                req: *req,
+                body: body.again(),
+                by_order: false,
+            };
+            on_request(parts, &request, out)
+        }
         Packet::Spread {
             sender,
             report,
@@ -42,7 +51,14 @@ pub fn heard_row(parts: &mut Parts, packet: &Packet, out: &mut OutBox) -> Outcom
             ..
         } => {
             if parts.is_sequencer() {
-                return on_request(parts, *sender, *report, *req, body, true, out);
+                let request = Request {
+                    from: *sender,
+                    report: *report,
+                    req: *req,
+                    body: body.again(),
+                    by_order: true,
+                };
+                return on_request(parts, &request, out);
             }
             on_spread(parts, *sender, *req, body, out)
         }
@@ -53,7 +69,15 @@ pub fn heard_row(parts: &mut Parts, packet: &Packet, out: &mut OutBox) -> Outcom
             number,
             entry,
             ..
-        } => on_bcast(parts, *sender, *base, *acc, *number, entry, out),
+        } => {
+            let told = Told {
+                sender: *sender,
+                base: *base,
+                acc: *acc,
+                number: *number,
+            };
+            on_bcast(parts, told, entry, out)
+        }
         Packet::Order {
             sender,
             base,
@@ -62,7 +86,15 @@ pub fn heard_row(parts: &mut Parts, packet: &Packet, out: &mut OutBox) -> Outcom
             from,
             req,
             ..
-        } => on_order(parts, *sender, *base, *acc, *number, *from, *req, out),
+        } => {
+            let told = Told {
+                sender: *sender,
+                base: *base,
+                acc: *acc,
+                number: *number,
+            };
+            on_order(parts, told, *from, *req, out)
+        }
         Packet::Accept {
             sender,
             base,
@@ -70,7 +102,15 @@ pub fn heard_row(parts: &mut Parts, packet: &Packet, out: &mut OutBox) -> Outcom
             top,
             poll,
             ..
-        } => on_accept(parts, *base, *acc, *top, *poll, *sender, out),
+        } => {
+            let told = Told {
+                sender: *sender,
+                base: *base,
+                acc: *acc,
+                number: *top,
+            };
+            on_accept(parts, told, *poll, out)
+        }
         Packet::Ack { sender, report, .. } => on_ack(parts, *sender, *report, out),
         Packet::Nack { sender, report, .. } => on_nack(parts, *sender, *report, out),
         Packet::Hold { base, top, req, .. } => on_hold(parts, *base, *top, *req, out),
@@ -81,7 +121,15 @@ pub fn heard_row(parts: &mut Parts, packet: &Packet, out: &mut OutBox) -> Outcom
             base,
             join,
             image,
-        } => on_welcome(parts, *sender, *stamp, *base, *join, image, out),
+        } => {
+            let told = Welcome {
+                sender: *sender,
+                stamp: *stamp,
+                base: *base,
+                join: *join,
+            };
+            on_welcome(parts, &told, image, out)
+        }
         Packet::LeaveAsk {
             sender,
             stamp,

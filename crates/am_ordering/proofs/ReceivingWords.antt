@@ -1,5 +1,5 @@
 -- The words of this crate's proofs, of the crates and definitions that they come from.
-pub use Rattle.std.{proofs.lemmas.Bool.Decides.nat_tests, specs.List.list_any, specs.Option.option_copied}
+pub use Rattle.std.{proofs.lemmas.Bool.Decides.nat_tests, specs.List.list_any}
 pub use Rattle.std.proofs.Common.{◌≡◌, ℕ, List, [], Bool, if◌then◌else◌, take, ◌==◌, sym, ap, ◌∙◌, zero, suc, ◌+◌, ◌<◌, ◌≤◌, ◌∷◌, length, slice_index, refl}
 pub use Rattle.std.proofs.Common.{true, false, ◌&&◌, nat_lt, count_by, arith, Option, ◌-◌, not, ◌||◌, nat_le, Some, subst}
 pub use Rattle.am_base.specs.{declared.entry.Entry.Entry, declared.outcome.Outcome.Outcome, Lists.Log, Lists.fits, Lists.top_of}

@@ -4,7 +4,7 @@ ghost use Rattle.am_model.specs.Emit.{polling, and_telling, hold_of};
 ghost use Rattle.am_base.specs.declared.outcome.Outcome.TheVariants as said;
 ghost use Rattle.am_ordering.specs.Sequencing.{data_packet, request_refusal};
 
-use am_base::body::BodyRef;
+use crate::sequencer::Request;
 use am_base::entry::{EntryParts, EntryRef};
 use am_base::image::Row;
 use am_base::name::Name;
@@ -51,27 +51,21 @@ pub fn put_off(parts: &mut Parts, before: u32, to: Name, req: u32, out: &mut Out
     answer
 }
 
-/// A numbered Data: an Order where its body was spread, else a Bcast.
-pub fn data_packet<'a, L: Log>(
-    core: &Core<L>,
-    number: u32,
-    from: Name,
-    req: u32,
-    body: &BodyRef<'a>,
-    by_order: bool,
-) -> Packet<'a>
+/// The packet of a send that has a number: an Order where its body was spread, else a Bcast.
+pub fn data_packet<'a, L: Log>(core: &Core<L>, number: u32, request: &Request<'a>) -> Packet<'a>
     requires number { IsNumber number }
-    requires req { IsNumber req }
-    ensures value { CoreTells (data_packet number from req body.now by_order) core.now result }
+    requires req { IsNumber request.now.req }
+    ensures value { CoreTells (data_packet number request.now.from request.now.req request.now.body
+        request.now.by_order) core.now result }
     ensures within { IsWithin result }
 {
-    if by_order {
-        return order(core, number, from, req);
+    if request.by_order {
+        return order(core, number, request.from, request.req);
     }
     let entry = EntryRef::of(EntryParts::Data {
-        from,
-        req,
-        body: body.again(),
+        from: request.from,
+        req: request.req,
+        body: request.body.again(),
     });
     bcast(core, number, entry)
 }

@@ -17,6 +17,28 @@ use am_handlers::packets::{ack, only};
 use am_handlers::parts::Parts;
 use am_letter::out_box::OutBox;
 
+/// What a packet of the sequencer tells of its list.
+#[derive(Clone, Copy, Debug)]
+pub struct Told {
+    /// The sequencer.
+    pub sender: Name,
+    /// Up to where it has trimmed its list.
+    pub base: u32,
+    /// Up to where its list is accepted.
+    pub acc: u32,
+    /// The number of the entry that it tells; where it tells none, that of its last one.
+    pub number: u32,
+}
+
+/// What the node has of an entry that is numbered.
+#[derive(Drop, Debug)]
+struct Found<'a> {
+    /// The entry; None where the node has no body for it.
+    known: Option<EntryRef<'a>>,
+    /// The answer where there is none, and it would be stored next.
+    missing: Outcome,
+}
+
 /// A core notes what the sequencer's packet tells of its fronts.
 fn note_fronts<L: Log>(core: &mut Core<L>, base: u32, acc: u32)
     ensures { Keeps (note base acc) core.old core.new }
@@ -91,67 +113,57 @@ fn finish_accepting(
 }
 
 /// The sequencer tells how far the list goes and is accepted (docs/PROTOCOL.md, "Numbered entries, at a member").
-/// Gap, with a Nack, where an entry up to `high` isn't stored and the node's own Leave doesn't stand in its list.
+/// Gap, with a Nack, where an entry up to the number isn't stored and the node's own Leave doesn't stand in its list.
 /// Else Advanced where what is accepted rose, and Known where it didn't; an Ack goes out where `poll` asks for it.
-pub fn on_accept(
-    parts: &mut Parts,
-    base: u32,
-    acc: u32,
-    high: u32,
-    poll: bool,
-    from: Name,
-    out: &mut OutBox,
-) -> Outcome
+pub fn on_accept(parts: &mut Parts, told: Told, poll: bool, out: &mut OutBox) -> Outcome
     requires { out.old ≡ [] }
-    ensures { Performs (λ m. accept_row m from base acc high poll) parts.old
+    ensures { Performs (λ m. accept_row m told.sender told.base told.acc told.number poll) parts.old
         result out.new parts.new }
 {
     let before = parts.accept_front();
     let stored = parts.core.log.top();
-    let short = is_short_of(parts, high);
-    note(parts, base, acc);
+    let short = is_short_of(parts, told.number);
+    note(parts, told.base, told.acc);
     if short {
         let answer = Outcome::Gap { want: stored + 1 };
-        return finish_telling(parts, before, from, OneLetter::Nack, answer, out);
+        return finish_telling(parts, before, told.sender, OneLetter::Nack, answer, out);
     }
-    finish_accepting(parts, before, poll, from, out)
+    finish_accepting(parts, before, poll, told.sender, out)
 }
 
 /// Does what a numbered entry asks for, once its fronts are noted.
 fn receive_entry(
     parts: &mut Parts,
     before: u32,
-    from: Name,
-    base: u32,
-    number: u32,
-    found: Option<&EntryRef>,
-    missing: Outcome,
+    told: Told,
+    found: Found,
     out: &mut OutBox,
 ) -> Outcome
     requires follows { Follows (node_of parts.old) }
-    requires number { IsNumber number }
-    requires entry { IfSome found (λ e. IsEntry e.now) }
+    requires number { IsNumber told.number }
+    requires entry { IfSome found.known (λ e. IsEntry e) }
     requires empty { out.old ≡ [] }
-    ensures { Finishes before (receive_entry (node_of parts.old) from base number
-        (option_copied found.entry) missing) result out.new parts.new }
+    ensures { Finishes before (receive_entry (node_of parts.old) told.sender told.base told.number
+        found.entry.known found.entry.missing) result out.new parts.new }
 {
     let top = parts.core.log.top();
-    if number <= top {
+    if told.number <= top {
         return finish_quietly(parts, before, Outcome::Known, out);
     }
     if has_left(parts) {
         return finish_quietly(parts, before, Outcome::Behind, out);
     }
-    if top + 1 < number {
+    if top + 1 < told.number {
         let answer = Outcome::Gap { want: top + 1 };
-        return finish_telling(parts, before, from, OneLetter::Nack, answer, out);
+        return finish_telling(parts, before, told.sender, OneLetter::Nack, answer, out);
     }
-    if parts.core.taken < base {
+    if parts.core.taken < told.base {
         return finish_quietly(parts, before, Outcome::Behind, out);
     }
-    match found {
-        Some(entry) => store(parts, before, from, number, entry, out),
-        None => finish_telling(parts, before, from, OneLetter::Nack, missing, out),
+    let Found { known, missing } = found;
+    match known {
+        Some(entry) => store(parts, before, told, &entry, out),
+        None => finish_telling(parts, before, told.sender, OneLetter::Nack, missing, out),
     }
 }
 
@@ -160,34 +172,21 @@ fn receive_entry(
 /// with a Nack, where an earlier entry isn't stored. Unfit where the entry is a View, doesn't fit the list, or
 /// isn't within the bound. Else Stored; as many of the lowest members as the resilience says send an Ack at once. The
 /// node must be a member that isn't the sequencer.
-pub fn on_bcast(
-    parts: &mut Parts,
-    from: Name,
-    base: u32,
-    acc: u32,
-    number: u32,
-    entry: &EntryRef,
-    out: &mut OutBox,
-) -> Outcome
+pub fn on_bcast(parts: &mut Parts, told: Told, entry: &EntryRef, out: &mut OutBox) -> Outcome
     requires follows { Follows (node_of parts.old) }
-    requires number { IsNumber number }
+    requires number { IsNumber told.number }
     requires entry { IsEntry entry.now }
     requires empty { out.old ≡ [] }
-    ensures { Performs (λ m. bcast_row m from base acc number entry.now) parts.old
-        result out.new parts.new }
+    ensures { Performs (λ m. bcast_row m told.sender told.base told.acc told.number entry.now)
+        parts.old result out.new parts.new }
 {
     let before = parts.accept_front();
-    note(parts, base, acc);
-    receive_entry(
-        parts,
-        before,
-        from,
-        base,
-        number,
-        Some(entry),
-        Outcome::Known,
-        out,
-    )
+    note(parts, told.base, told.acc);
+    let found = Found {
+        known: Some(entry.again()),
+        missing: Outcome::Known,
+    };
+    receive_entry(parts, before, told, found, out)
 }
 
 /// The body of the waiting send, where that is this send of the node's own.
@@ -229,35 +228,20 @@ fn standing(entry: &Option<Entry>) -> Option<EntryRef<'_>>
 /// The sequencer tells the number of a send that was spread: its body is that of the node's waiting send where that is
 /// the send, and else a kept one. NoBody, with a Nack, where there is none and the entry would be stored next. The
 /// other answers are those of `on_bcast`, and so are the premises.
-pub fn on_order(
-    parts: &mut Parts,
-    sequencer: Name,
-    base: u32,
-    acc: u32,
-    number: u32,
-    from: Name,
-    req: u32,
-    out: &mut OutBox,
-) -> Outcome
+pub fn on_order(parts: &mut Parts, told: Told, from: Name, req: u32, out: &mut OutBox) -> Outcome
     requires follows { Follows (node_of parts.old) }
-    requires number { IsNumber number }
+    requires number { IsNumber told.number }
     requires req { IsNumber req }
     requires empty { out.old ≡ [] }
-    ensures { Performs (λ m. order_row m sequencer base acc number from req) parts.old
-        result out.new parts.new }
+    ensures { Performs (λ m. order_row m told.sender told.base told.acc told.number from req)
+        parts.old result out.new parts.new }
 {
     let before = parts.accept_front();
-    let missing = Outcome::NoBody { from, req };
-    let found = data_of(parts, from, req);
-    note(parts, base, acc);
-    receive_entry(
-        parts,
-        before,
-        sequencer,
-        base,
-        number,
-        standing(&found).as_ref(),
-        missing,
-        out,
-    )
+    let data = data_of(parts, from, req);
+    note(parts, told.base, told.acc);
+    let found = Found {
+        known: standing(&data),
+        missing: Outcome::NoBody { from, req },
+    };
+    receive_entry(parts, before, told, found, out)
 }

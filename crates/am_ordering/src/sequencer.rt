@@ -15,6 +15,21 @@ use am_handlers::finishing::finish_quietly;
 use am_handlers::parts::Parts;
 use am_letter::out_box::OutBox;
 
+/// A send of another name, as its packet tells it.
+#[derive(Drop, Debug)]
+pub struct Request<'a> {
+    /// Whose send it is.
+    pub from: Name,
+    /// What its sender reports.
+    pub report: Report,
+    /// Which of its sender's sends it is.
+    pub req: u32,
+    /// What is sent.
+    pub body: BodyRef<'a>,
+    /// Whether the body was spread.
+    pub by_order: bool,
+}
+
 /// What is told of a report that isn't taken; None where a Join of its sender stands in the list, and it is one of this
 /// list.
 fn report_refusal(parts: &Parts, from: Name, report: Report) -> Option<Outcome>
@@ -77,47 +92,39 @@ pub fn on_nack(parts: &mut Parts, from: Name, report: Report, out: &mut OutBox) 
     serve_again(parts, before, from, report.stored, out)
 }
 
-/// Takes a send of another name, with its report; `by_order` where its body was spread. Stranger: no Join of its
-/// sender stands in the list, or it has left. Unfit: the report isn't one of this list. Again: the send is numbered
-/// already. Early: it isn't its sender's next one. Held: there is no room, and the members are polled. Else the send is
-/// Numbered. The out box must be empty, the node the sequencer, and its last number not the greatest.
-pub fn on_request(
-    parts: &mut Parts,
-    from: Name,
-    report: Report,
-    req: u32,
-    body: &BodyRef,
-    by_order: bool,
-    out: &mut OutBox,
-) -> Outcome
-    requires serves { MayServe (node_of parts.old) from }
-    requires req { IsNumber req }
+/// Takes a send of another name, with its report. Stranger: no Join of its sender stands in the list, or it has left.
+/// Unfit: the report isn't one of this list. Again: the send is numbered already. Early: it isn't its sender's next one.
+/// Held: there is no room, and the members are polled. Else the send is Numbered. The out box must be empty, the node the
+/// sequencer, and its last number not the greatest.
+pub fn on_request(parts: &mut Parts, request: &Request, out: &mut OutBox) -> Outcome
+    requires serves { MayServe (node_of parts.old) request.now.from }
+    requires req { IsNumber request.now.req }
     requires empty { out.old ≡ [] }
-    ensures { Performs (λ m. request_row m from report req body.now by_order) parts.old
-        result out.new parts.new }
+    ensures { Performs (λ m. request_row m request.now.from request.now.report request.now.req
+        request.now.body request.now.by_order) parts.old result out.new parts.new }
 {
     let before = parts.accept_front();
-    if let Some(answer) = report_refusal(parts, from, report) {
+    if let Some(answer) = report_refusal(parts, request.from, request.report) {
         return finish_quietly(parts, before, answer, out);
     }
-    parts.take_report(from, report);
-    let row = row(parts, from);
-    if let Some(answer) = request_refusal(row, req) {
+    parts.take_report(request.from, request.report);
+    let row = row(parts, request.from);
+    if let Some(answer) = request_refusal(row, request.req) {
         return finish_quietly(parts, before, answer, out);
     }
     if !has_room(parts) {
-        return put_off(parts, before, from, req, out);
+        return put_off(parts, before, request.from, request.req, out);
     }
     let number = next_number(parts);
     let others = parts.others();
     let entry = EntryRef::of(EntryParts::Data {
-        from,
-        req,
-        body: body.again(),
+        from: request.from,
+        req: request.req,
+        body: request.body.again(),
     });
     parts.push(&entry);
     parts.end();
-    let packet = data_packet(&parts.core, number, from, req, body, by_order);
+    let packet = data_packet(&parts.core, number, request);
     out.put(others, &packet);
     Outcome::Numbered { number }
 }

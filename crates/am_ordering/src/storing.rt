@@ -5,7 +5,7 @@ ghost use Rattle.am_base.specs.declared.outcome.Outcome.{Outcome};
 ghost use Rattle.am_model.specs.Receiving.{is_view, bodies_after, acknowledges, store};
 ghost use Rattle.am_ordering.specs.Receiving.{Follows};
 
-use crate::receiver::send_ack_where;
+use crate::receiver::{Told, send_ack_where};
 use am_base::entry::{EntryParts, EntryRef};
 use am_base::name::Name;
 use am_base::names::Names;
@@ -99,28 +99,29 @@ fn acknowledges(parts: &Parts, sequencer: Name) -> bool
 pub fn store(
     parts: &mut Parts,
     before: u32,
-    from: Name,
-    number: u32,
+    told: Told,
     entry: &EntryRef,
     out: &mut OutBox,
 ) -> Outcome
     requires entry { IsEntry entry.now }
-    requires number { IsNumber number }
-    requires next { number ≡ top (node_of parts.old) + 1 }
+    requires number { IsNumber told.number }
+    requires next { told.number ≡ top (node_of parts.old) + 1 }
     requires follows { Follows (node_of parts.old) }
     requires empty { out.old ≡ [] }
-    ensures { (missing : Outcome) → Finishes before (store
-        (node_of parts.old) from number (Some entry.now) missing) result out.new parts.new }
+    ensures { (missing : Outcome) → Finishes before (store (node_of parts.old) told.sender
+        told.number (Some entry.now) missing) result out.new parts.new }
 {
-    if is_unfit(parts, number, entry) {
+    if is_unfit(parts, told.number, entry) {
         return finish_quietly(parts, before, Outcome::Unfit, out);
     }
     let _before = parts.accept_front();
     parts.push(entry);
     drop_bodies(parts, entry);
-    let is_due = acknowledges(parts, from);
+    let is_due = acknowledges(parts, told.sender);
     parts.end();
-    send_ack_where(is_due, &parts.core, from, out);
+    send_ack_where(is_due, &parts.core, told.sender, out);
     parts.tell_accepted(before, false, false, out);
-    Outcome::Stored { number }
+    Outcome::Stored {
+        number: told.number,
+    }
 }

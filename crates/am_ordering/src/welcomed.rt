@@ -15,6 +15,19 @@ use am_letter::out_box::OutBox;
 use am_model::status::Status;
 use am_packet::image_ref::ImageRef;
 
+/// What a Welcome tells, but for its image.
+#[derive(Clone, Copy, Debug)]
+pub struct Welcome {
+    /// The sequencer that sent it.
+    pub sender: Name,
+    /// The sequencer's view.
+    pub stamp: Stamp,
+    /// The number at which the list begins.
+    pub base: u32,
+    /// The number of the name's Join.
+    pub join: u32,
+}
+
 /// Whether the node is a member.
 fn is_member(parts: &Parts) -> bool
     ensures { result ≡ is_member (node_of parts.now).status }
@@ -38,43 +51,46 @@ fn has_joined(image: &Image, name: Name) -> bool
 }
 
 /// Whether a Welcome can't be this node's.
-fn is_unfit(parts: &Parts, stamp: &Stamp, base: u32, join: u32, image: &Image) -> bool
-    ensures { result ≡ is_unfit (node_of parts.now) stamp.now base join image.now }
+fn is_unfit(parts: &Parts, told: &Welcome, image: &Image) -> bool
+    ensures { result ≡ is_unfit (node_of parts.now) told.now.stamp told.now.base told.now.join
+        image.now }
 {
-    if join <= base || u32::from(parts.core.rules.window()) + 15 < join - base {
+    if told.join <= told.base || u32::from(parts.core.rules.window()) + 15 < told.join - told.base {
         return true;
     }
-    stamp.is_below(image.view) || has_joined(image, parts.core.who)
+    told.stamp.is_below(image.view) || has_joined(image, parts.core.who)
 }
 
 /// A core's list begins at the base, with what was told up to there.
-fn begin_core<L: Log>(core: &mut Core<L>, stamp: Stamp, base: u32, join: u32, image: &Image)
+fn begin_core<L: Log>(core: &mut Core<L>, told: &Welcome, image: &Image)
     requires blank { top_of core.old.log ≡ 0 }
-    requires stamp { IsStamp stamp }
-    requires base { IsNumber base }
+    requires stamp { IsStamp told.now.stamp }
+    requires base { IsNumber told.now.base }
     requires image { IsImage image.now }
-    ensures { core.new ≡ begun_core core.old stamp base join image.now }
+    ensures { core.new ≡ begun_core core.old told.now.stamp told.now.base told.now.join image.now }
 {
-    core.log.begin(base, image);
-    core.promise = stamp;
-    core.told = base;
-    core.acc = base;
-    core.taken = base;
-    core.start = join;
+    core.log.begin(told.base, image);
+    core.promise = told.stamp;
+    core.told = told.base;
+    core.acc = told.base;
+    core.taken = told.base;
+    core.start = told.join;
 }
 
 /// The list begins at the base, with what was told up to there, and the node is a member.
-fn begin(parts: &mut Parts, stamp: Stamp, base: u32, join: u32, image: &Image)
+fn begin(parts: &mut Parts, told: &Welcome, image: &Image)
     requires asking { is_asking (node_of parts.old).status ≡ true }
-    requires other { stamp.by ≢ parts.old.core.who }
-    requires fits { is_unfit (node_of parts.old) stamp base join image.now ≡ false }
-    requires stamp { IsStamp stamp }
-    requires base { IsNumber base }
+    requires other { told.now.stamp.by ≢ parts.old.core.who }
+    requires fits { is_unfit (node_of parts.old) told.now.stamp told.now.base told.now.join
+        image.now ≡ false }
+    requires stamp { IsStamp told.now.stamp }
+    requires base { IsNumber told.now.base }
     requires image { IsImage image.now }
-    ensures { node_of parts.new ≡ begin_list (node_of parts.old) stamp base join image.now }
+    ensures { node_of parts.new ≡ begin_list (node_of parts.old) told.now.stamp told.now.base
+        told.now.join image.now }
 {
     let _before = parts.accept_front();
-    begin_core(&mut parts.core, stamp, base, join, image);
+    begin_core(&mut parts.core, told, image);
     parts.status = Status::Member;
 }
 
@@ -87,59 +103,44 @@ fn has_view(parts: &Parts, stamp: Stamp) -> bool
 }
 
 /// A joiner whose list has begun asks for what comes next.
-fn ask_on(
-    parts: &mut Parts,
-    before: u32,
-    from: Name,
-    stamp: Stamp,
-    join: u32,
-    out: &mut OutBox,
-) -> Outcome
+fn ask_on(parts: &mut Parts, before: u32, told: &Welcome, out: &mut OutBox) -> Outcome
     requires { out.old ≡ [] }
-    ensures { Finishes before (ask_next (node_of parts.old) from stamp join)
-        result out.new parts.new }
+    ensures { Finishes before (ask_next (node_of parts.old) told.now.sender told.now.stamp
+        told.now.join) result out.new parts.new }
 {
-    let answer = Outcome::Welcomed { number: join };
-    if has_view(parts, stamp) {
-        return finish_telling(parts, before, from, OneLetter::Nack, answer, out);
+    let answer = Outcome::Welcomed { number: told.join };
+    if has_view(parts, told.stamp) {
+        return finish_telling(parts, before, told.sender, OneLetter::Nack, answer, out);
     }
-    finish_telling(parts, before, from, OneLetter::Fetch, answer, out)
+    finish_telling(parts, before, told.sender, OneLetter::Fetch, answer, out)
 }
 
 /// Takes a Welcome of the sequencer of a view, at a node that has asked to join or is a member. Known: it is a member.
 /// Elsewhere: the node has promised to more. Unfit: the Join is out of bounds, the image is of a later view, or the name
 /// stands in it. Else the list begins at the base and the node asks for what comes next: Welcomed. The out box must be empty.
 #[inline(never)]
-pub fn on_welcome(
-    parts: &mut Parts,
-    from: Name,
-    stamp: Stamp,
-    base: u32,
-    join: u32,
-    image: &ImageRef,
-    out: &mut OutBox,
-) -> Outcome
+pub fn on_welcome(parts: &mut Parts, told: &Welcome, image: &ImageRef, out: &mut OutBox) -> Outcome
     requires hears { (is_member (node_of parts.old).status || is_asking (node_of parts.old).status)
         ≡ true }
-    requires other { stamp.by ≢ parts.old.core.who }
-    requires stamp { IsStamp stamp }
-    requires base { IsNumber base }
+    requires other { told.now.stamp.by ≢ parts.old.core.who }
+    requires stamp { IsStamp told.now.stamp }
+    requires base { IsNumber told.now.base }
     requires image { IsImage image.now }
     requires empty { out.old ≡ [] }
-    ensures { Performs (λ m. welcome_row m from stamp base join image.now) parts.old
-        result out.new parts.new }
+    ensures { Performs (λ m. welcome_row m told.now.sender told.now.stamp told.now.base
+        told.now.join image.now) parts.old result out.new parts.new }
 {
     let before = parts.accept_front();
     if is_member(parts) {
         return finish_quietly(parts, before, Outcome::Known, out);
     }
-    if has_promised_more(parts, stamp) {
+    if has_promised_more(parts, told.stamp) {
         return finish_quietly(parts, before, Outcome::Elsewhere, out);
     }
     let image = image.to_image();
-    if is_unfit(parts, &stamp, base, join, &image) {
+    if is_unfit(parts, told, &image) {
         return finish_quietly(parts, before, Outcome::Unfit, out);
     }
-    begin(parts, stamp, base, join, &image);
-    ask_on(parts, before, from, stamp, join, out)
+    begin(parts, told, &image);
+    ask_on(parts, before, told, out)
 }

@@ -7,10 +7,11 @@ begin_core-requires-clause-blank c = c.args.parts.now.keeps.blank (asking_log (n
 
 pub invariant_of-parts : goal.invariant_of-parts
 invariant_of-parts c =
+    let told = c.args.told.now in
     let old = node_of c.args.parts.now in
     record {
       keeps = subst (λ (x : CoreState). NodeKeeps (record old { core = x; status = Member })) (sym c.begin_core.ensures)
-          (begun_keeps old c.args.stamp c.args.base c.args.join c.args.image.now c.requires.asking c.requires.other c.requires.fits
+          (begun_keeps old told.stamp told.base told.join c.args.image.now c.requires.asking c.requires.other c.requires.fits
           c.accept_front-before.ensures.order c.args.parts.now.keeps);
     }
 
