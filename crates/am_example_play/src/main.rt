@@ -9,6 +9,7 @@ use am_io::whole::{read_all, write_all};
 use am_report::play::play_text;
 use am_script::key::Key;
 use am_script::read::read_script;
+use am_script::refusal::ScriptRefusal;
 use am_script::script::Script;
 use am_settle::settle::settle;
 use am_world::world::World;
@@ -19,11 +20,30 @@ use std::process::ExitCode;
 /// The most bytes of a script.
 const MOST_BYTES: u32 = 16_777_216;
 
-/// The script that standard input is; None where it is none, or can't be read.
-fn script_of_input(alloc: Global, input: Stdin) -> Option<Script> {
+/// Why no text was written.
+#[derive(Clone, Copy)]
+enum Unplayed {
+    /// Standard input is no script, by this cause.
+    BadScript(ScriptRefusal),
+    /// It couldn't be read or written, was too long, had more events than a run, or there was no memory.
+    Other,
+}
+
+/// The script that standard input is.
+fn script_of_input(alloc: Global, input: Stdin) -> Result<Script, Unplayed> {
     let mut source = StdSource::new(input);
-    let bytes = read_all(alloc, &mut source, MOST_BYTES).ok()?;
-    read_script(alloc, Key::Play, bytes.as_slice()).ok()
+    let Ok(bytes) = read_all(alloc, &mut source, MOST_BYTES) else {
+        return Err(Unplayed::Other);
+    };
+    match read_script(alloc, Key::Play, bytes.as_slice()) {
+        Ok(script) => Ok(script),
+        Err(cause) => {
+            if cause == ScriptRefusal::NoMemory {
+                return Err(Unplayed::Other);
+            }
+            Err(Unplayed::BadScript(cause))
+        }
+    }
 }
 
 /// The group after a script's events, and after those that settle it where that is asked for; None where there are more than
@@ -76,22 +96,29 @@ fn text_of(alloc: Global, script: &Script) -> Option<String> {
     .ok()
 }
 
-/// Whether the text of the script of standard input was written to standard output.
-fn is_played(rt: &HostRuntime) -> bool {
-    let Some(script) = script_of_input(rt.alloc(), rt.stdin()) else {
-        return false;
-    };
+/// Writes the text of the script of standard input to standard output.
+fn play_input(rt: &HostRuntime) -> Result<(), Unplayed> {
+    let script = script_of_input(rt.alloc(), rt.stdin())?;
     let Some(text) = text_of(rt.alloc(), &script) else {
-        return false;
+        return Err(Unplayed::Other);
     };
     let mut sink = StdSink::new(rt.stdout());
-    write_all(&mut sink, text.as_bytes()).is_ok()
+    match write_all(&mut sink, text.as_bytes()) {
+        Ok(()) => Ok(()),
+        Err(_) => Err(Unplayed::Other),
+    }
 }
 
-/// Ends with 0 where it wrote the text, and else with 1.
+/// Ends with 0 where it wrote the text, with 2 where standard input is no script, which it tells, and else with 1.
 fn main(rt: HostRuntime) -> ExitCode {
-    if is_played(&rt) {
-        return ExitCode::SUCCESS;
+    match play_input(&rt) {
+        Ok(()) => ExitCode::SUCCESS,
+        Err(Unplayed::BadScript(cause)) => {
+            let number = cause.number();
+            let place = cause.place();
+            let _ = eprintln!(&rt; "bad script {number} at {place}");
+            ExitCode::from(2)
+        }
+        Err(Unplayed::Other) => ExitCode::FAILURE,
     }
-    ExitCode::FAILURE
 }
