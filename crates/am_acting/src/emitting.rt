@@ -9,7 +9,7 @@ ghost use Rattle.am_acting.specs.Notes.{IsNoteWithin};
 ghost use Rattle.am_acting.specs.Forms.{own_send};
 
 use crate::finishing::finish_noting;
-use crate::note::Note;
+use crate::note::{Note, Notice};
 use am_base::body::Body;
 use am_base::entry::{EntryParts, EntryRef};
 use am_base::name::Name;
@@ -104,26 +104,20 @@ fn hand_in(
     let body = send.body.as_ref();
     if is_short(parts, &send.body) {
         let to = only(leader(parts));
-        return finish_noting(
-            parts,
-            before,
-            false,
-            answer,
+        let notice = Notice {
             to,
-            &Note::Request { req, body },
-            out,
-        );
+            note: Note::Request { req, body },
+            numbers: false,
+        };
+        return finish_noting(parts, before, answer, &notice, out);
     }
     let to = others(parts);
-    finish_noting(
-        parts,
-        before,
-        false,
-        answer,
+    let notice = Notice {
         to,
-        &Note::Spread { req, body },
-        out,
-    )
+        note: Note::Spread { req, body },
+        numbers: false,
+    };
+    finish_noting(parts, before, answer, &notice, out)
 }
 
 /// Numbers the node's own send, and gives what is to be told of it.
@@ -174,5 +168,10 @@ pub fn emit(parts: &mut Parts, before: u32, answer: Outcome, out: &mut OutBox) -
     }
     let to = others(parts);
     let note = number_send(parts, &send);
-    finish_noting(parts, before, true, answer, to, &note, out)
+    let notice = Notice {
+        to,
+        note,
+        numbers: true,
+    };
+    finish_noting(parts, before, answer, &notice, out)
 }

@@ -3,7 +3,7 @@ ghost use Rattle.am_handlers.specs.Prelude.{with_letter, Tells, node_of, Finishe
 ghost use Rattle.am_acting.specs.Notes.{packet_of, IsNoteWithin};
 ghost use Rattle.am_acting.specs.Forms.{noting};
 
-use crate::note::{Note, packet};
+use crate::note::{Note, Notice, packet};
 use am_base::names::Names;
 use am_base::outcome::Outcome;
 use am_handlers::parts::Parts;
@@ -25,20 +25,18 @@ pub fn tell(parts: &Parts, to: Names, note: &Note, out: &mut OutBox)
 pub fn finish_noting(
     parts: &mut Parts,
     before: u32,
-    numbers: bool,
     answer: Outcome,
-    to: Names,
-    note: &Note,
+    notice: &Notice,
     out: &mut OutBox,
 ) -> Outcome
     requires empty { out.old ≡ [] }
-    requires within { IsNoteWithin note.now }
-    ensures { Finishes before (noting numbers (node_of parts.old) answer to note.now)
-        result out.new parts.new }
+    requires within { IsNoteWithin notice.now.note }
+    ensures { Finishes before (noting notice.now.numbers (node_of parts.old) answer notice.now.to
+        notice.now.note) result out.new parts.new }
 {
     let _before = parts.accept_front();
     parts.end();
-    tell(parts, to, note, out);
-    parts.tell_accepted(before, false, numbers, out);
+    tell(parts, notice.to, &notice.note, out);
+    parts.tell_accepted(before, false, notice.numbers, out);
     answer
 }

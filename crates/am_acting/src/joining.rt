@@ -7,7 +7,7 @@ ghost use Rattle.am_model.specs.Emit.{quiet};
 
 use crate::changing::{is_leaving, set_status, status};
 use crate::finishing::finish_noting;
-use crate::note::Note;
+use crate::note::{Note, Notice};
 use am_base::name::Name;
 use am_base::names::Names;
 use am_base::outcome::Outcome;
@@ -48,7 +48,12 @@ pub fn ask_to_join(parts: &mut Parts, before: u32, answer: Outcome, out: &mut Ou
     ensures { Finishes before (ask_to_join (node_of parts.old) answer) result out.new parts.new }
 {
     let to = everywhere_else(parts);
-    finish_noting(parts, before, false, answer, to, &Note::JoinAsk, out)
+    let notice = Notice {
+        to,
+        note: Note::JoinAsk,
+        numbers: false,
+    };
+    finish_noting(parts, before, answer, &notice, out)
 }
 
 /// What a node is told that would join; None where it can ask.

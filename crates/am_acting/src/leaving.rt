@@ -11,7 +11,7 @@ ghost use Rattle.am_model.specs.Calls.{go, is_unfinished, leave_now, leave_row};
 use crate::changing::{begin_leaving, is_leaving, is_member, set_status, status};
 use crate::emitting::{others, who};
 use crate::finishing::finish_noting;
-use crate::note::Note;
+use crate::note::{Note, Notice};
 use am_base::entry::EntryRef;
 use am_base::name::Name;
 use am_base::names::Names;
@@ -100,11 +100,21 @@ pub fn go_on_leaving(parts: &mut Parts, before: u32, answer: Outcome, out: &mut 
 {
     let others = others(parts);
     if !parts.is_sequencer() {
-        return finish_noting(parts, before, false, answer, others, &Note::LeaveAsk, out);
+        let notice = Notice {
+            to: others,
+            note: Note::LeaveAsk,
+            numbers: false,
+        };
+        return finish_noting(parts, before, answer, &notice, out);
     }
     if 0 < others.len() {
         let to = only(lowest_or_first(others));
-        return finish_noting(parts, before, false, answer, to, &Note::HandOver, out);
+        let notice = Notice {
+            to,
+            note: Note::HandOver,
+            numbers: false,
+        };
+        return finish_noting(parts, before, answer, &notice, out);
     }
     if !has_room(parts) {
         let answer = held_answer(parts);

@@ -3,6 +3,7 @@ ghost use Rattle.am_acting.specs.Notes.{packet_of, IsNoteWithin};
 
 use am_base::body::BodyRef;
 use am_base::entry::EntryRef;
+use am_base::names::Names;
 use am_core::log::Log;
 use am_core::state::Core;
 use am_handlers::packet_from;
@@ -30,6 +31,17 @@ pub enum Note<'a> {
     Fetch,
     /// The sequencer leaves.
     HandOver,
+}
+
+/// A note and whom it is for.
+#[derive(Drop, Debug)]
+pub struct Notice<'a> {
+    /// Whom it is for.
+    pub to: Names,
+    /// The note.
+    pub note: Note<'a>,
+    /// Whether it tells an entry that the step numbered.
+    pub numbers: bool,
 }
 
 /// The packet that a node makes of a note.

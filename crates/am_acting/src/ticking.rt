@@ -11,7 +11,7 @@ use crate::emitting::{emit, has_waiting, leader, next_send, number_send, others,
 use crate::finishing::{finish_noting, tell};
 use crate::joining::ask_to_join;
 use crate::leaving::{depart, go_on_leaving, lowest_or_first};
-use crate::note::Note;
+use crate::note::{Note, Notice};
 use crate::viewing::tell_view;
 use am_base::name::Name;
 use am_base::names::Names;
@@ -74,25 +74,19 @@ fn ask_again(parts: &mut Parts, before: u32, again: Option<Again>, out: &mut Out
         return finish_quietly(parts, before, Outcome::Ticked, out);
     };
     if again.fetches {
-        return finish_noting(
-            parts,
-            before,
-            false,
-            Outcome::Ticked,
-            again.to,
-            &Note::Fetch,
-            out,
-        );
+        let notice = Notice {
+            to: again.to,
+            note: Note::Fetch,
+            numbers: false,
+        };
+        return finish_noting(parts, before, Outcome::Ticked, &notice, out);
     }
-    finish_noting(
-        parts,
-        before,
-        false,
-        Outcome::Ticked,
-        again.to,
-        &Note::Invite,
-        out,
-    )
+    let notice = Notice {
+        to: again.to,
+        note: Note::Invite,
+        numbers: false,
+    };
+    finish_noting(parts, before, Outcome::Ticked, &notice, out)
 }
 
 /// Whose stamp the node has promised.
@@ -118,7 +112,12 @@ fn tick_promised(parts: &mut Parts, before: u32, out: &mut OutBox) -> Outcome
         return finish_quietly(parts, before, Outcome::Ticked, out);
     }
     let to = only(promised_to(parts));
-    finish_noting(parts, before, false, Outcome::Ticked, to, &Note::Fetch, out)
+    let notice = Notice {
+        to,
+        note: Note::Fetch,
+        numbers: false,
+    };
+    finish_noting(parts, before, Outcome::Ticked, &notice, out)
 }
 
 /// Whether the waiting send would go out.
@@ -144,7 +143,12 @@ fn tick_member(parts: &mut Parts, before: u32, out: &mut OutBox) -> Outcome
         return emit(parts, before, Outcome::Ticked, out);
     }
     let to = only(leader(parts));
-    finish_noting(parts, before, false, Outcome::Ticked, to, &Note::Ack, out)
+    let notice = Notice {
+        to,
+        note: Note::Ack,
+        numbers: false,
+    };
+    finish_noting(parts, before, Outcome::Ticked, &notice, out)
 }
 
 /// The end of a step that polls the members, and tells the last View again to those that haven't stored it.

@@ -13,7 +13,7 @@ use am_ordering::receiver::{Told, on_accept, on_bcast, on_order};
 use am_ordering::sequencer::{Request, on_ack, on_nack, on_request};
 use am_ordering::welcomed::{Welcome, on_welcome};
 use am_packet::packet::Packet;
-use am_resetting::catching::{on_piece, on_result};
+use am_resetting::catching::{Arrival, Decided, on_piece, on_result};
 use am_resetting::serving::on_fetch;
 use am_resetting::voting::{on_hand_over, on_invite, on_vote};
 
@@ -153,7 +153,17 @@ pub fn heard_row(parts: &mut Parts, packet: &Packet, out: &mut OutBox) -> Outcom
             base,
             number,
             entry,
-        } => on_piece(parts, *sender, *stamp, *base, *number, entry, out),
+        } => on_piece(
+            parts,
+            &Arrival {
+                from: *sender,
+                stamp: *stamp,
+                base: *base,
+                number: *number,
+            },
+            entry,
+            out,
+        ),
         Packet::Result {
             sender,
             stamp,
@@ -163,12 +173,16 @@ pub fn heard_row(parts: &mut Parts, packet: &Packet, out: &mut OutBox) -> Outcom
             resilience,
         } => on_result(
             parts,
-            *sender,
-            *stamp,
-            *base,
-            *number,
-            *members,
-            *resilience,
+            &Arrival {
+                from: *sender,
+                stamp: *stamp,
+                base: *base,
+                number: *number,
+            },
+            &Decided {
+                members: *members,
+                resilience: *resilience,
+            },
             out,
         ),
         Packet::HandOver { .. } => on_hand_over(parts, out),

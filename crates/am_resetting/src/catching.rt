@@ -25,6 +25,28 @@ use am_core::log::Log;
 use am_handlers::parts::Parts;
 use am_letter::out_box::OutBox;
 
+/// What a packet tells of an entry of a view's list beside the entry.
+#[derive(Clone, Copy, Debug)]
+pub struct Arrival {
+    /// The packet's sender.
+    pub from: Name,
+    /// The view's stamp.
+    pub stamp: Stamp,
+    /// The number up to which the sender's list is trimmed.
+    pub base: u32,
+    /// The entry's number.
+    pub number: u32,
+}
+
+/// What a ballot decided of its view.
+#[derive(Clone, Copy, Debug)]
+pub struct Decided {
+    /// The view's members.
+    pub members: Names,
+    /// Its resilience.
+    pub resilience: u8,
+}
+
 /// Whether a view's stamp is above another, or in a ballot is that.
 fn is_past(stamp: &Stamp, in_ballot: bool, view: &Stamp) -> bool
     ensures value { result ≡ (stamp_lt stamp.now view.now
@@ -56,36 +78,32 @@ fn fits(parts: &Parts, entry: &EntryRef) -> bool
 }
 
 /// Why a fetched entry isn't stored; None where it is the next one and nothing is against it.
-fn refusal(
-    parts: &Parts,
-    stamp: &Stamp,
-    base: u32,
-    number: u32,
-    entry: &EntryRef,
-    in_ballot: bool,
-) -> Option<Outcome>
+fn refusal(parts: &Parts, arrival: &Arrival, entry: &EntryRef, in_ballot: bool) -> Option<Outcome>
     ensures value { (x : Option node.Ballot) (then_ : Node → Plan)
-        → push_fetched (with_ballot (node_of parts.now) x) stamp.now base number entry.now in_ballot
-        then_ ≡ unless result (with_ballot (node_of parts.now) x)
-        (then_ (push_entry (trim_up_to (with_ballot (node_of parts.now) x) base) entry.now)) }
-    ensures next { IfNone result (ComesNext
-        (node_of parts.now) stamp.now base number entry.now in_ballot) }
+        → push_fetched (with_ballot (node_of parts.now) x) arrival.now.stamp arrival.now.base
+        arrival.now.number entry.now in_ballot then_
+        ≡ unless result (with_ballot (node_of parts.now) x)
+        (then_ (push_entry (trim_up_to (with_ballot (node_of parts.now) x) arrival.now.base)
+        entry.now)) }
+    ensures next { IfNone result (ComesNext (node_of parts.now)
+        arrival.now.stamp arrival.now.base arrival.now.number entry.now in_ballot) }
 {
     let top = last_of(parts);
-    if number <= top {
+    if arrival.number <= top {
         return Some(Outcome::Known);
     }
     if has_own_leave(parts) {
         return Some(Outcome::Behind);
     }
-    if top + 1 < number {
+    if top + 1 < arrival.number {
         return Some(Outcome::Gap { want: top + 1 });
     }
-    if taken_of(parts) < base {
+    if taken_of(parts) < arrival.base {
         return Some(Outcome::Behind);
     }
     if !fits(parts, entry)
-        || (is_view_past(stamp, in_ballot, entry) || is_beyond(parts, base, number))
+        || (is_view_past(&arrival.stamp, in_ballot, entry)
+            || is_beyond(parts, arrival.base, arrival.number))
     {
         return Some(Outcome::Unfit);
     }
@@ -101,37 +119,33 @@ fn is_apart(parts: &Parts, stamp: &Stamp) -> bool
 }
 
 /// What a node that has no unfinished ballot does with an entry of the view that it has promised.
-fn piece_promised(
-    parts: &mut Parts,
-    from: Name,
-    stamp: Stamp,
-    base: u32,
-    number: u32,
-    entry: &EntryRef,
-) -> Reply
+fn piece_promised(parts: &mut Parts, arrival: &Arrival, entry: &EntryRef) -> Reply
     requires order { IsInOrder parts.old.core }
     requires logged { has_log parts.old.status ≡ true }
-    requires promise { stamp ≡ parts.old.core.promise }
-    requires view { stamp_eq (view (node_of parts.old)) stamp ≡ false }
+    requires promise { arrival.now.stamp ≡ parts.old.core.promise }
+    requires view { stamp_eq (view (node_of parts.old)) arrival.now.stamp ≡ false }
     requires over { (b : node.Ballot) → (node_of parts.old).ballot ≡ Some b → b.is_over ≡ true }
     requires entry { IsEntry entry.now }
     requires number { top_of parts.old.core.log < most_number }
-    ensures replies { Replies (piece_promised (node_of parts.old) from stamp base number entry.now)
-        result.outcome result.telling (node_of parts.new) }
+    ensures replies { Replies (piece_promised (node_of parts.old) arrival.now.from arrival.now.stamp
+        arrival.now.base arrival.now.number entry.now) result.outcome result.telling
+        (node_of parts.new) }
     ensures told { MayTell result.telling result.outcome }
 {
-    if stamp.by != from {
+    if arrival.stamp.by != arrival.from {
         return quiet(Outcome::Elsewhere);
     }
-    match refusal(parts, &stamp, base, number, entry, false) {
+    match refusal(parts, arrival, entry, false) {
         Some(outcome) => quiet(outcome),
         None => {
-            store(parts, base, entry);
+            store(parts, arrival.base, entry);
             Reply {
-                outcome: Outcome::Stored { number },
+                outcome: Outcome::Stored {
+                    number: arrival.number,
+                },
                 telling: Telling::AckIn {
-                    view: stamp,
-                    to: from,
+                    view: arrival.stamp,
+                    to: arrival.from,
                 },
             }
         }
@@ -139,30 +153,23 @@ fn piece_promised(
 }
 
 /// What a coordinator does with an entry that its unfinished ballot fetches; the ballot was taken out of the parts.
-fn piece_in_ballot(
-    parts: &mut Parts,
-    stamp: &Stamp,
-    base: u32,
-    number: u32,
-    entry: &EntryRef,
-    ballot: Ballot,
-) -> Reply
+fn piece_in_ballot(parts: &mut Parts, arrival: &Arrival, entry: &EntryRef, ballot: Ballot) -> Reply
     requires ballot { IsTakenOut (node_of parts.old) (ballot_of ballot) }
-    requires promise { stamp.now ≡ parts.old.core.promise }
+    requires promise { arrival.now.stamp ≡ parts.old.core.promise }
     requires entry { IsEntry entry.now }
     requires number { top_of parts.old.core.log + 1 < most_number }
     ensures replies { Replies (push_fetched (with_ballot (node_of parts.old)
-        (Some (ballot_of ballot))) stamp.now base number entry.now true
-        (decide_anew (ballot_of ballot))) result.outcome result.telling (node_of parts.new) }
+        (Some (ballot_of ballot))) arrival.now.stamp arrival.now.base arrival.now.number entry.now
+        true (decide_anew (ballot_of ballot))) result.outcome result.telling (node_of parts.new) }
     ensures told { MayTell result.telling result.outcome }
 {
-    match refusal(parts, stamp, base, number, entry, true) {
+    match refusal(parts, arrival, entry, true) {
         Some(outcome) => {
             put_back(parts, ballot);
             quiet(outcome)
         }
         None => {
-            store(parts, base, entry);
+            store(parts, arrival.base, entry);
             let outcome = decide(parts, ballot);
             Reply {
                 outcome,
@@ -176,97 +183,75 @@ fn piece_in_ballot(
 }
 
 /// What becomes of an entry of a promised view where a ballot was taken out of the parts.
-fn piece_for(
-    parts: &mut Parts,
-    from: Name,
-    stamp: Stamp,
-    base: u32,
-    number: u32,
-    entry: &EntryRef,
-    ballot: Ballot,
-) -> Reply
+fn piece_for(parts: &mut Parts, arrival: &Arrival, entry: &EntryRef, ballot: Ballot) -> Reply
     requires order { IsInOrder parts.old.core }
     requires out { (node_of parts.old).ballot ≡ None }
     requires own { IsOwnBallot (node_of parts.old) (ballot_of ballot) }
     requires logged { has_log parts.old.status ≡ true }
-    requires promise { stamp ≡ parts.old.core.promise }
-    requires view { stamp_eq (view (node_of parts.old)) stamp ≡ false }
+    requires promise { arrival.now.stamp ≡ parts.old.core.promise }
+    requires view { stamp_eq (view (node_of parts.old)) arrival.now.stamp ≡ false }
     requires entry { IsEntry entry.now }
     requires number { top_of parts.old.core.log + 1 < most_number }
     ensures replies { Replies (piece_for (with_ballot (node_of parts.old) (Some (ballot_of ballot)))
-        from stamp base number entry.now (Some (ballot_of ballot))) result.outcome result.telling
-        (node_of parts.new) }
+        arrival.now.from arrival.now.stamp arrival.now.base arrival.now.number entry.now
+        (Some (ballot_of ballot))) result.outcome result.telling (node_of parts.new) }
     ensures told { MayTell result.telling result.outcome }
 {
     if ballot.is_over() {
         put_back(parts, ballot);
-        return piece_promised(parts, from, stamp, base, number, entry);
+        return piece_promised(parts, arrival, entry);
     }
-    if !ballot.fetches_from(from) {
+    if !ballot.fetches_from(arrival.from) {
         put_back(parts, ballot);
         return quiet(Outcome::Elsewhere);
     }
-    piece_in_ballot(parts, &stamp, base, number, entry, ballot)
+    piece_in_ballot(parts, arrival, entry, ballot)
 }
 
 /// What becomes of a fetched entry.
-fn piece(
-    parts: &mut Parts,
-    from: Name,
-    stamp: Stamp,
-    base: u32,
-    number: u32,
-    entry: &EntryRef,
-) -> Reply
+fn piece(parts: &mut Parts, arrival: &Arrival, entry: &EntryRef) -> Reply
     requires order { IsInOrder parts.old.core }
     requires logged { has_log parts.old.status ≡ true }
     requires entry { IsEntry entry.now }
     requires number { top_of parts.old.core.log + 1 < most_number }
-    ensures replies { Replies (piece_row (node_of parts.old) from stamp base number entry.now)
-        result.outcome result.telling (node_of parts.new) }
+    ensures replies { Replies (piece_row (node_of parts.old) arrival.now.from arrival.now.stamp
+        arrival.now.base arrival.now.number entry.now) result.outcome result.telling
+        (node_of parts.new) }
     ensures told { MayTell result.telling result.outcome }
 {
-    if is_apart(parts, &stamp) {
+    if is_apart(parts, &arrival.stamp) {
         return quiet(Outcome::Elsewhere);
     }
     match take_ballot(parts) {
-        None => piece_promised(parts, from, stamp, base, number, entry),
-        Some(ballot) => piece_for(parts, from, stamp, base, number, entry, ballot),
+        None => piece_promised(parts, arrival, entry),
+        Some(ballot) => piece_for(parts, arrival, entry, ballot),
     }
 }
 
 /// A fetched entry comes (docs/PROTOCOL.md, "Ballots and views"). Elsewhere where it isn't of the promised view's list; the
 /// first refusal where it can't be stored; else what the unfinished ballot comes to, or without one Stored, with an Ack where
 /// the view is reached. The node must have a list.
-pub fn on_piece(
-    parts: &mut Parts,
-    from: Name,
-    stamp: Stamp,
-    base: u32,
-    number: u32,
-    entry: &EntryRef,
-    out: &mut OutBox,
-) -> Outcome
+pub fn on_piece(parts: &mut Parts, arrival: &Arrival, entry: &EntryRef, out: &mut OutBox) -> Outcome
     requires empty { out.old ≡ [] }
     requires logged { has_log parts.old.status ≡ true }
     requires entry { IsEntry entry.now }
     requires number { top_of parts.old.core.log + 1 < most_number }
-    ensures { Performs (λ m. piece_row m from stamp base number entry.now) parts.old
-        result out.new parts.new }
+    ensures { Performs (λ m. piece_row m arrival.now.from arrival.now.stamp arrival.now.base
+        arrival.now.number entry.now) parts.old result out.new parts.new }
 {
     let before = parts.accept_front();
-    let reply = piece(parts, from, stamp, base, number, entry);
+    let reply = piece(parts, arrival, entry);
     finish(parts, before, reply, out)
 }
 
 /// The View of a decided view.
-fn view_entry<'a>(stamp: &Stamp, members: Names, resilience: u8) -> EntryRef<'a>
-    ensures { result ≡ View stamp.now members resilience }
+fn view_entry<'a>(stamp: &Stamp, decided: &Decided) -> EntryRef<'a>
+    ensures { result ≡ View stamp.now decided.now.members decided.now.resilience }
 {
     EntryRef::of(EntryParts::View {
         stamp: copy_of(stamp),
-        members,
-        resilience,
+        members: decided.members,
+        resilience: decided.resilience,
     })
 }
 
@@ -279,80 +264,68 @@ fn is_unfit(parts: &Parts, entry: &EntryRef, base: u32, number: u32) -> bool
 }
 
 /// What is replied where a decided view isn't stored; None where it comes next and nothing is against it.
-fn result_refusal(
-    parts: &Parts,
-    from: Name,
-    stamp: &Stamp,
-    base: u32,
-    number: u32,
-    members: Names,
-    resilience: u8,
-) -> Option<Reply>
-    ensures value { hears_result (node_of parts.now) from stamp.now base number members resilience
+fn result_refusal(parts: &Parts, arrival: &Arrival, decided: &Decided) -> Option<Reply>
+    ensures value { hears_result (node_of parts.now) arrival.now.from arrival.now.stamp
+        arrival.now.base arrival.now.number decided.now.members decided.now.resilience
         ≡ unless_reply result (node_of parts.now)
-        (telling (push_entry (trim_up_to (node_of parts.now) base)
-        (View stamp.now members resilience)) (Outcome.Stored number)
-        (only_name from) ack_of) }
-    ensures next { IfNone result (FollowsAsView
-        (node_of parts.now) stamp.now base number members resilience) }
+        (telling (push_entry (trim_up_to (node_of parts.now) arrival.now.base)
+        (View arrival.now.stamp decided.now.members decided.now.resilience))
+        (Outcome.Stored arrival.now.number) (only_name arrival.now.from) ack_of) }
+    ensures next { IfNone result (FollowsAsView (node_of parts.now) arrival.now.stamp
+        arrival.now.base arrival.now.number decided.now.members decided.now.resilience) }
     ensures told { IfSome result (λ reply. MayTell reply.telling reply.outcome) }
 {
-    if is_view(parts, stamp) {
+    if is_view(parts, &arrival.stamp) {
         return Some(Reply {
             outcome: Outcome::Known,
-            telling: Telling::Ack(from),
+            telling: Telling::Ack(arrival.from),
         });
     }
     let top = last_of(parts);
-    if number <= top {
+    if arrival.number <= top {
         return Some(quiet(Outcome::Unfit));
     }
     if has_own_leave(parts) {
         return Some(quiet(Outcome::Behind));
     }
-    if top + 1 < number {
+    if top + 1 < arrival.number {
         return Some(Reply {
             outcome: Outcome::Catching { want: top + 1 },
-            telling: Telling::Fetch(from),
+            telling: Telling::Fetch(arrival.from),
         });
     }
-    if taken_of(parts) < base {
+    if taken_of(parts) < arrival.base {
         return Some(quiet(Outcome::Behind));
     }
-    if is_unfit(parts, &view_entry(stamp, members, resilience), base, number) {
+    let entry = view_entry(&arrival.stamp, decided);
+    if is_unfit(parts, &entry, arrival.base, arrival.number) {
         return Some(quiet(Outcome::Unfit));
     }
     None
 }
 
 /// What a node does with a decided view that it has promised.
-fn hears_result(
-    parts: &mut Parts,
-    from: Name,
-    stamp: &Stamp,
-    base: u32,
-    number: u32,
-    members: Names,
-    resilience: u8,
-) -> Reply
+fn hears_result(parts: &mut Parts, arrival: &Arrival, decided: &Decided) -> Reply
     requires order { IsInOrder parts.old.core }
     requires logged { has_log parts.old.status ≡ true }
-    requires promise { stamp.now ≡ parts.old.core.promise }
-    requires other { stamp.now.by ≢ parts.old.core.who }
-    requires within { IsEntry (View stamp.now members resilience) }
+    requires promise { arrival.now.stamp ≡ parts.old.core.promise }
+    requires other { arrival.now.stamp.by ≢ parts.old.core.who }
+    requires within { IsEntry (View arrival.now.stamp decided.now.members decided.now.resilience) }
     requires number { top_of parts.old.core.log < most_number }
-    ensures replies { Replies (hears_result
-        (node_of parts.old) from stamp.now base number members resilience) result.outcome
-        result.telling (node_of parts.new) }
+    ensures replies { Replies (hears_result (node_of parts.old) arrival.now.from arrival.now.stamp
+        arrival.now.base arrival.now.number decided.now.members decided.now.resilience)
+        result.outcome result.telling (node_of parts.new) }
     ensures told { MayTell result.telling result.outcome }
 {
-    match result_refusal(parts, from, stamp, base, number, members, resilience) {
+    match result_refusal(parts, arrival, decided) {
         Some(reply) => reply,
         None => {
-            store(parts, base, &view_entry(stamp, members, resilience));
+            store(parts, arrival.base, &view_entry(&arrival.stamp, decided));
             Reply {
-                outcome: Outcome::Stored { number },
-                telling: Telling::Ack(from),
+                outcome: Outcome::Stored {
+                    number: arrival.number,
+                },
+                telling: Telling::Ack(arrival.from),
             }
         }
     }
@@ -367,30 +340,22 @@ fn is_passed(parts: &Parts, stamp: &Stamp) -> bool
 }
 
 /// What becomes of a decided view.
-fn result_row(
-    parts: &mut Parts,
-    from: Name,
-    stamp: Stamp,
-    base: u32,
-    number: u32,
-    members: Names,
-    resilience: u8,
-) -> Reply
+fn result_row(parts: &mut Parts, arrival: &Arrival, decided: &Decided) -> Reply
     requires order { IsInOrder parts.old.core }
     requires logged { has_log parts.old.status ≡ true }
-    requires within { IsStamp stamp }
-    requires resilience { resilience ≤ 15 }
+    requires within { IsStamp arrival.now.stamp }
+    requires resilience { decided.now.resilience ≤ 15 }
     requires number { top_of parts.old.core.log < most_number }
-    ensures replies { Replies (result_row
-        (node_of parts.old) from stamp base number members resilience) result.outcome result.telling
-        (node_of parts.new) }
+    ensures replies { Replies (result_row (node_of parts.old) arrival.now.from arrival.now.stamp
+        arrival.now.base arrival.now.number decided.now.members decided.now.resilience)
+        result.outcome result.telling (node_of parts.new) }
     ensures told { MayTell result.telling result.outcome }
 {
-    if is_passed(parts, &stamp) {
+    if is_passed(parts, &arrival.stamp) {
         return quiet(Outcome::Elsewhere);
     }
-    raise_promise(parts, copy_of(&stamp));
-    hears_result(parts, from, &stamp, base, number, members, resilience)
+    raise_promise(parts, copy_of(&arrival.stamp));
+    hears_result(parts, arrival, decided)
 }
 
 /// A view was decided (docs/PROTOCOL.md, "Ballots and views"). Elsewhere where it is the node's own or below the promise, else it
@@ -398,23 +363,20 @@ fn result_row(
 /// stored; else Stored, with an Ack. The node must have a list.
 pub fn on_result(
     parts: &mut Parts,
-    from: Name,
-    stamp: Stamp,
-    base: u32,
-    number: u32,
-    members: Names,
-    resilience: u8,
+    arrival: &Arrival,
+    decided: &Decided,
     out: &mut OutBox,
 ) -> Outcome
     requires empty { out.old ≡ [] }
     requires logged { has_log parts.old.status ≡ true }
-    requires within { IsStamp stamp }
-    requires resilience { resilience ≤ 15 }
+    requires within { IsStamp arrival.now.stamp }
+    requires resilience { decided.now.resilience ≤ 15 }
     requires number { top_of parts.old.core.log < most_number }
-    ensures { Performs (λ m. result_row m from stamp base number members resilience) parts.old
+    ensures { Performs (λ m. result_row m arrival.now.from arrival.now.stamp arrival.now.base
+        arrival.now.number decided.now.members decided.now.resilience) parts.old
         result out.new parts.new }
 {
     let before = parts.accept_front();
-    let reply = result_row(parts, from, stamp, base, number, members, resilience);
+    let reply = result_row(parts, arrival, decided);
     finish(parts, before, reply, out)
 }

@@ -3,5 +3,5 @@ use Rattle.am_resetting.proofs.catching.on_piece.Goals as goal
 
 pub returns : goal.returns
 returns c = c.finish.ensures (node_of c.args.parts.now) (piece_row
-    (node_of c.args.parts.now) c.args.from c.args.stamp c.args.base c.args.number c.args.entry.now)
+    (node_of c.args.parts.now) c.args.arrival.now.from c.args.arrival.now.stamp c.args.arrival.now.base c.args.arrival.now.number c.args.entry.now)
     (sym c.accept_front-before.ensures.value) c.piece-reply.ensures.replies
