@@ -2,5 +2,6 @@ pub mod Agreement
 pub mod Fields
 pub mod Keeping
 pub mod Lines
+pub mod Parts
 pub mod Verdicts
 pub mod Views

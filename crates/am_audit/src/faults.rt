@@ -18,13 +18,16 @@ use std::collections::BTreeMap;
 fn gap_at(last: Option<u32>, line: &TextLine) -> Option<Verdict>
     ensures { result ≡ gap_at last (line_of line.now) }
 {
-    match last {
-        Some(last) if u64::from(last) + 1 != u64::from(line.number) => Some(Verdict::Gap {
-            node: Name::of_byte(line.name),
-            number: line.number,
-        }),
-        _ => None,
+    let Some(last) = last else {
+        return None;
+    };
+    if u64::from(last) + 1 == u64::from(line.number) {
+        return None;
     }
+    Some(Verdict::Gap {
+        node: Name::of_byte(line.name),
+        number: line.number,
+    })
 }
 
 /// Whether a line's entry isn't that of the first line with its number.
