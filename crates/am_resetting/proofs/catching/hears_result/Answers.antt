@@ -7,32 +7,38 @@ use Rattle.am_resetting.proofs.catching.hears_result.Goals as goal
 
 pub returns-in-Some-clause-replies : goal.returns-in-Some-clause-replies
 returns-in-Some-clause-replies c =
+    let arrival = c.args.arrival.now in
+    let decided = c.args.decided.now in
     let old = node_of c.args.parts.now in
     let r = c.in-Some.reply in
-    let rest = telling (push_entry (trim_up_to old c.args.arrival.now.base) (View c.args.arrival.now.stamp c.args.decided.now.members c.args.decided.now.resilience)) (said.Stored c.args.arrival.now.number)
-    (only_name c.args.arrival.now.from) ack_of in
-    by_plan (hears_result old c.args.arrival.now.from c.args.arrival.now.stamp c.args.arrival.now.base c.args.arrival.now.number c.args.decided.now.members c.args.decided.now.resilience)
+    let rest = telling (push_entry (trim_up_to old arrival.base) (View arrival.stamp decided.members decided.resilience)) (said.Stored arrival.number)
+    (only_name arrival.from) ack_of in
+    by_plan (hears_result old arrival.from arrival.stamp arrival.base arrival.number decided.members decided.resilience)
     (plan_of old r.outcome r.telling) r.outcome r.telling old
     (c.result_refusal.ensures.value ∙ ap (λ (x : Option Reply). unless_reply x old rest) c.in-Some.is)
     (replies_plan old old r.outcome r.telling (end_self old c.requires.order.kept))
 
 pub returns-in-None-clause-replies : goal.returns-in-None-clause-replies
 returns-in-None-clause-replies c =
+    let arrival = c.args.arrival.now in
+    let decided = c.args.decided.now in
     let old = node_of c.args.parts.now in
     let new = node_of c.store.new.parts in
-    let e = View c.args.arrival.now.stamp c.args.decided.now.members c.args.decided.now.resilience in
-    let w = push_entry (trim_up_to old c.args.arrival.now.base) e in
-    let rest = telling w (said.Stored c.args.arrival.now.number) (only_name c.args.arrival.now.from) ack_of in
-    by_plan (hears_result old c.args.arrival.now.from c.args.arrival.now.stamp c.args.arrival.now.base c.args.arrival.now.number c.args.decided.now.members c.args.decided.now.resilience) rest (said.Stored c.args.arrival.now.number)
-    (tell.Ack c.args.arrival.now.from) new
+    let e = View arrival.stamp decided.members decided.resilience in
+    let w = push_entry (trim_up_to old arrival.base) e in
+    let rest = telling w (said.Stored arrival.number) (only_name arrival.from) ack_of in
+    by_plan (hears_result old arrival.from arrival.stamp arrival.base arrival.number decided.members decided.resilience) rest (said.Stored arrival.number)
+    (tell.Ack arrival.from) new
     (c.result_refusal.ensures.value ∙ ap (λ (x : Option Reply). unless_reply x old rest) c.in-None.is)
-    (replies_ack w new (said.Stored c.args.arrival.now.number) c.args.arrival.now.from
-    (subst (λ (x : Entry). IsEndOf (push_entry (trim_up_to old c.args.arrival.now.base) x) new) c.view_entry.ensures
+    (replies_ack w new (said.Stored arrival.number) arrival.from
+    (subst (λ (x : Entry). IsEndOf (push_entry (trim_up_to old arrival.base) x) new) c.view_entry.ensures
     (c.store.ensures.changes old (end_self old c.requires.order.kept))))
 
 pub store-requires : goal.store-requires
 store-requires c =
+    let arrival = c.args.arrival.now in
+    let decided = c.args.decided.now in
     let old = node_of c.args.parts.now in
-    subst (λ (x : Entry). MayStore old c.args.arrival.now.base x) (sym c.view_entry.ensures)
-    (may_view old c.args.arrival.now.stamp c.args.arrival.now.base c.args.arrival.now.number c.args.decided.now.members c.args.decided.now.resilience c.requires.order c.requires.logged c.requires.promise
-    (none_open old c.args.arrival.now.stamp c.args.parts.now.keeps c.requires.promise c.requires.other) c.requires.within c.requires.number c.in-None.ensures.next)
+    subst (λ (x : Entry). MayStore old arrival.base x) (sym c.view_entry.ensures)
+    (may_view old arrival.stamp arrival.base arrival.number decided.members decided.resilience c.requires.order c.requires.logged c.requires.promise
+    (none_open old arrival.stamp c.args.parts.now.keeps c.requires.promise c.requires.other) c.requires.within c.requires.number c.in-None.ensures.next)

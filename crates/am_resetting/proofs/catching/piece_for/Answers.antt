@@ -6,11 +6,12 @@ use Rattle.am_resetting.proofs.catching.piece_for.Goals as goal
 
 pub returns-then-not-fetches_from-clause-replies : goal.returns-then-not-fetches_from-clause-replies
 returns-then-not-fetches_from-clause-replies c =
+    let arrival = c.args.arrival.now in
     let b = ballot_of c.args.ballot in
     let m = with_ballot (node_of c.args.parts.now) (Some b) in
     let new = node_of c.put_back-then-not-fetches_from.new.parts in
-    by_reply (piece_for m c.args.arrival.now.from c.args.arrival.now.stamp c.args.arrival.now.base c.args.arrival.now.number c.args.entry.now (Some b)) c.quiet.result said.Elsewhere tell.Nothing new
+    by_reply (piece_for m arrival.from arrival.stamp arrival.base arrival.number c.args.entry.now (Some b)) c.quiet.result said.Elsewhere tell.Nothing new
     c.quiet.ensures
-    (piece_elsewhere m new c.args.arrival.now.from c.args.arrival.now.stamp c.args.arrival.now.base c.args.arrival.now.number c.args.entry.now b (sym c.is_over.ensures
+    (piece_elsewhere m new arrival.from arrival.stamp arrival.base arrival.number c.args.entry.now b (sym c.is_over.ensures
     ∙ c.if-is_over.false) (sym c.fetches_from.ensures ∙ c.if-not-fetches_from.true)
     (end_as m new c.requires.order.kept c.put_back-then-not-fetches_from.ensures))

@@ -6,42 +6,46 @@ use Rattle.am_resetting.proofs.catching.piece_in_ballot.Goals as goal
 
 pub returns-in-Some-clause-replies : goal.returns-in-Some-clause-replies
 returns-in-Some-clause-replies c =
+    let arrival = c.args.arrival.now in
     let b = ballot_of c.args.ballot in
     let m = with_ballot (node_of c.args.parts.now) (Some b) in
     let new = node_of c.put_back.new.parts in
     let e = c.args.entry.now in
-    by_reply (push_fetched m c.args.arrival.now.stamp c.args.arrival.now.base c.args.arrival.now.number e true (decide_anew b)) c.quiet.result c.in-Some.outcome tell.Nothing new
-    c.quiet.ensures (fetched_unless m new c.args.arrival.now.stamp c.args.arrival.now.base c.args.arrival.now.number e true (decide_anew b) c.refusal.result c.in-Some.outcome
+    by_reply (push_fetched m arrival.stamp arrival.base arrival.number e true (decide_anew b)) c.quiet.result c.in-Some.outcome tell.Nothing new
+    c.quiet.ensures (fetched_unless m new arrival.stamp arrival.base arrival.number e true (decide_anew b) c.refusal.result c.in-Some.outcome
     (c.refusal.ensures.value (Some b) (decide_anew b)) c.in-Some.is (end_as m new c.requires.ballot.order.kept c.put_back.ensures))
 
 pub returns-in-None-clause-replies : goal.returns-in-None-clause-replies
 returns-in-None-clause-replies c =
+    let arrival = c.args.arrival.now in
     let b = ballot_of c.args.ballot in
     let old = node_of c.args.parts.now in
     let m = with_ballot old (Some b) in
     let new = node_of c.decide-outcome.new.parts in
     let e = c.args.entry.now in
-    let comes = c.decide-outcome.ensures.comes (push_entry (trim_up_to old c.args.arrival.now.base) e)
+    let comes = c.decide-outcome.ensures.comes (push_entry (trim_up_to old arrival.base) e)
     (c.store.ensures.changes old (end_self old c.requires.ballot.order.kept)) in
-    fetched_then m new c.args.arrival.now.stamp c.args.arrival.now.base c.args.arrival.now.number e true (decide_anew b) c.refusal.result c.decide-outcome.result
+    fetched_then m new arrival.stamp arrival.base arrival.number e true (decide_anew b) c.refusal.result c.decide-outcome.result
     (tell.Ballot c.empty.result false) (c.refusal.ensures.value (Some b) (decide_anew b)) c.in-None.is
-    (replies_fetched old new b (Some b) c.args.arrival.now.base e c.decide-outcome.result c.empty.result comes c.empty.ensures)
+    (replies_fetched old new b (Some b) arrival.base e c.decide-outcome.result c.empty.result comes c.empty.ensures)
 
 pub store-requires : goal.store-requires
 store-requires c =
+    let arrival = c.args.arrival.now in
     let old = node_of c.args.parts.now in
     let b = ballot_of c.args.ballot in
-    may_store old c.args.arrival.now.stamp c.args.arrival.now.base c.args.arrival.now.number c.args.entry.now true c.requires.ballot.order
+    may_store old arrival.stamp arrival.base arrival.number c.args.entry.now true c.requires.ballot.order
     ((c.requires.ballot.own).logged c.requires.ballot.is_open) c.requires.promise (taken_idle old b c.requires.ballot)
     (λ other there. absurd (let x = sym c.requires.ballot.out ∙ there in cc)) c.requires.entry c.requires.ballot.number
     (c.in-None.ensures.next)
 
 pub decide-outcome-requires : goal.decide-outcome-requires
 decide-outcome-requires c =
+    let arrival = c.args.arrival.now in
     let old = node_of c.args.parts.now in
     let new = node_of c.store.new.parts in
     let e = c.args.entry.now in
     let top = c.store.ensures.steady.top in
     let more = top_push old.core.log e in
-    taken_pushed old new (ballot_of c.args.ballot) c.args.arrival.now.stamp e c.requires.promise c.requires.ballot
+    taken_pushed old new (ballot_of c.args.ballot) arrival.stamp e c.requires.promise c.requires.ballot
     (c.in-None.ensures.next.below refl) c.store.ensures.order (let n = c.requires.number in omega arith) c.store.ensures.steady

@@ -7,39 +7,43 @@ use Rattle.am_resetting.proofs.catching.piece_promised.Goals as goal
 
 pub returns-then-ne-clause-replies : goal.returns-then-ne-clause-replies
 returns-then-ne-clause-replies c =
+    let arrival = c.args.arrival.now in
     let old = node_of c.args.parts.now in
-    by_reply (piece_promised old c.args.arrival.now.from c.args.arrival.now.stamp c.args.arrival.now.base c.args.arrival.now.number c.args.entry.now) c.quiet.result said.Elsewhere tell.Nothing old
+    by_reply (piece_promised old arrival.from arrival.stamp arrival.base arrival.number c.args.entry.now) c.quiet.result said.Elsewhere tell.Nothing old
     c.quiet.ensures
-    (promised_other old old c.args.arrival.now.from c.args.arrival.now.stamp c.args.arrival.now.base c.args.arrival.now.number c.args.entry.now
-    (not-true (c.args.arrival.now.stamp.by == c.args.arrival.now.from) (sym c.ne.ensures ∙ c.if-ne.true)) (end_self old c.requires.order.kept))
+    (promised_other old old arrival.from arrival.stamp arrival.base arrival.number c.args.entry.now
+    (not-true (arrival.stamp.by == arrival.from) (sym c.ne.ensures ∙ c.if-ne.true)) (end_self old c.requires.order.kept))
 
 pub returns-in-Some-clause-replies : goal.returns-in-Some-clause-replies
 returns-in-Some-clause-replies c =
+    let arrival = c.args.arrival.now in
     let old = node_of c.args.parts.now in
     let e = c.args.entry.now in
-    by_reply (piece_promised old c.args.arrival.now.from c.args.arrival.now.stamp c.args.arrival.now.base c.args.arrival.now.number e) c.quiet-in-Some.result c.in-Some.outcome tell.Nothing old
+    by_reply (piece_promised old arrival.from arrival.stamp arrival.base arrival.number e) c.quiet-in-Some.result c.in-Some.outcome tell.Nothing old
     c.quiet-in-Some.ensures
-    (promised_own old old c.args.arrival.now.from c.args.arrival.now.stamp c.args.arrival.now.base c.args.arrival.now.number e c.in-Some.outcome tell.Nothing
-    (not-false (c.args.arrival.now.stamp.by == c.args.arrival.now.from) (sym c.ne.ensures ∙ c.if-ne.false))
-    (fetched_unless old old c.args.arrival.now.stamp c.args.arrival.now.base c.args.arrival.now.number e false (catch_up c.args.arrival.now.from c.args.arrival.now.stamp c.args.arrival.now.number) c.refusal.result c.in-Some.outcome
-    (c.refusal.ensures.value old.ballot (catch_up c.args.arrival.now.from c.args.arrival.now.stamp c.args.arrival.now.number)) c.in-Some.is (end_self old c.requires.order.kept)))
+    (promised_own old old arrival.from arrival.stamp arrival.base arrival.number e c.in-Some.outcome tell.Nothing
+    (not-false (arrival.stamp.by == arrival.from) (sym c.ne.ensures ∙ c.if-ne.false))
+    (fetched_unless old old arrival.stamp arrival.base arrival.number e false (catch_up arrival.from arrival.stamp arrival.number) c.refusal.result c.in-Some.outcome
+    (c.refusal.ensures.value old.ballot (catch_up arrival.from arrival.stamp arrival.number)) c.in-Some.is (end_self old c.requires.order.kept)))
 
 pub returns-in-None-clause-replies : goal.returns-in-None-clause-replies
 returns-in-None-clause-replies c =
+    let arrival = c.args.arrival.now in
     let old = node_of c.args.parts.now in
     let new = node_of c.store.new.parts in
     let e = c.args.entry.now in
-    promised_own old new c.args.arrival.now.from c.args.arrival.now.stamp c.args.arrival.now.base c.args.arrival.now.number e (said.Stored c.args.arrival.now.number) (tell.AckIn c.args.arrival.now.stamp c.args.arrival.now.from)
-    (not-false (c.args.arrival.now.stamp.by == c.args.arrival.now.from) (sym c.ne.ensures ∙ c.if-ne.false))
-    (fetched_then old new c.args.arrival.now.stamp c.args.arrival.now.base c.args.arrival.now.number e false (catch_up c.args.arrival.now.from c.args.arrival.now.stamp c.args.arrival.now.number) c.refusal.result
-    (said.Stored c.args.arrival.now.number) (tell.AckIn c.args.arrival.now.stamp c.args.arrival.now.from)
-    (c.refusal.ensures.value old.ballot (catch_up c.args.arrival.now.from c.args.arrival.now.stamp c.args.arrival.now.number)) c.in-None.is
-    (replies_caught (push_entry (trim_up_to old c.args.arrival.now.base) e) new c.args.arrival.now.from c.args.arrival.now.stamp c.args.arrival.now.number
+    promised_own old new arrival.from arrival.stamp arrival.base arrival.number e (said.Stored arrival.number) (tell.AckIn arrival.stamp arrival.from)
+    (not-false (arrival.stamp.by == arrival.from) (sym c.ne.ensures ∙ c.if-ne.false))
+    (fetched_then old new arrival.stamp arrival.base arrival.number e false (catch_up arrival.from arrival.stamp arrival.number) c.refusal.result
+    (said.Stored arrival.number) (tell.AckIn arrival.stamp arrival.from)
+    (c.refusal.ensures.value old.ballot (catch_up arrival.from arrival.stamp arrival.number)) c.in-None.is
+    (replies_caught (push_entry (trim_up_to old arrival.base) e) new arrival.from arrival.stamp arrival.number
     (c.store.ensures.changes old (end_self old c.requires.order.kept))))
 
 pub store-requires : goal.store-requires
 store-requires c =
+    let arrival = c.args.arrival.now in
     let old = node_of c.args.parts.now in
-    may_store old c.args.arrival.now.stamp c.args.arrival.now.base c.args.arrival.now.number c.args.entry.now false c.requires.order c.requires.logged c.requires.promise
-    (other_view old c.args.arrival.now.stamp c.requires.promise c.requires.view) c.requires.over c.requires.entry c.requires.number
+    may_store old arrival.stamp arrival.base arrival.number c.args.entry.now false c.requires.order c.requires.logged c.requires.promise
+    (other_view old arrival.stamp c.requires.promise c.requires.view) c.requires.over c.requires.entry c.requires.number
     (c.in-None.ensures.next)

@@ -6,16 +6,20 @@ use Rattle.am_resetting.proofs.catching.result_row.Goals as goal
 
 pub returns-then-is_passed-clause-replies : goal.returns-then-is_passed-clause-replies
 returns-then-is_passed-clause-replies c =
+    let arrival = c.args.arrival.now in
+    let decided = c.args.decided.now in
     let old = node_of c.args.parts.now in
-    by_reply (result_row old c.args.arrival.now.from c.args.arrival.now.stamp c.args.arrival.now.base c.args.arrival.now.number c.args.decided.now.members c.args.decided.now.resilience) c.quiet.result said.Elsewhere tell.Nothing old
+    by_reply (result_row old arrival.from arrival.stamp arrival.base arrival.number decided.members decided.resilience) c.quiet.result said.Elsewhere tell.Nothing old
     c.quiet.ensures
-    (result_elsewhere old old c.args.arrival.now.from c.args.arrival.now.stamp c.args.arrival.now.base c.args.arrival.now.number c.args.decided.now.members c.args.decided.now.resilience (sym c.is_passed.ensures
+    (result_elsewhere old old arrival.from arrival.stamp arrival.base arrival.number decided.members decided.resilience (sym c.is_passed.ensures
     ∙ c.if-is_passed.true) (end_self old c.requires.order.kept))
 
 pub returns-clause-replies : goal.returns-clause-replies
 returns-clause-replies c =
+    let arrival = c.args.arrival.now in
+    let decided = c.args.decided.now in
     let old = node_of c.args.parts.now in
     let mid = node_of c.raise_promise.new.parts in
-    result_heard old mid (node_of c.hears_result.new.parts) c.args.arrival.now.from c.args.arrival.now.stamp c.args.arrival.now.base c.args.arrival.now.number c.args.decided.now.members c.args.decided.now.resilience
+    result_heard old mid (node_of c.hears_result.new.parts) arrival.from arrival.stamp arrival.base arrival.number decided.members decided.resilience
     c.hears_result.result.outcome c.hears_result.result.telling (sym c.is_passed.ensures ∙ c.if-is_passed.false)
     (c.raise_promise.ensures ∙ ap (with_promise old) c.copy_of.ensures) c.hears_result.ensures.replies
