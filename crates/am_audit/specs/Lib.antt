@@ -2,6 +2,5 @@ pub mod Agreement
 pub mod Fields
 pub mod Keeping
 pub mod Lines
-pub mod Parts
 pub mod Verdicts
 pub mod Views

@@ -18,16 +18,13 @@ use std::collections::BTreeMap;
 fn gap_at(last: Option<u32>, line: &TextLine) -> Option<Verdict>
     ensures { result ≡ gap_at last (line_of line.now) }
 {
-    let Some(last) = last else {
-        return None;
-    };
-    if u64::from(last) + 1 == u64::from(line.number) {
-        return None;
+    match last {
+        Some(last) if u64::from(last) + 1 != u64::from(line.number) => Some(Verdict::Gap {
+            node: Name::of_byte(line.name),
+            number: line.number,
+        }),
+        _ => None,
     }
-    Some(Verdict::Gap {
-        node: Name::of_byte(line.name),
-        number: line.number,
-    })
 }
 
 /// Whether a line's entry isn't that of the first line with its number.

@@ -1,9 +1,8 @@
-ghost use Rattle.std.specs.Prelude.{◌≡◌, ◌≤◌, ◌<◌, IfOk, codes, option_map};
+ghost use Rattle.std.specs.Prelude.{◌≡◌, ◌≤◌, ◌<◌, IfOk, codes};
 ghost use Rattle.am_base.specs.Most.{most_number};
 ghost use Rattle.am_fields.specs.Fields.{same};
 ghost use Rattle.am_audit.specs.Fields.{Gives, two_of, expect, is_body, data_parts, data_of, resilience_of, view_of, outline_of, data_in};
-ghost use Rattle.am_audit.specs.Fields.{told_number, send_of, answer_of, take_of, return_of, resilience_in};
-ghost use Rattle.am_audit.specs.Parts.{data_behind, send_behind, number_behind, answer_behind, take_behind, life_behind};
+ghost use Rattle.am_audit.specs.Fields.{told_number, send_of, answer_of, take_of, return_of};
 
 use crate::outline::Outline;
 use am_base::limits::MOST_BODY;
@@ -35,15 +34,6 @@ pub fn expect(text: &[u8], word: &[u8]) -> Result<(), FieldFault>
     Err(FieldFault::Form)
 }
 
-/// The request and the body behind a sender.
-fn data_behind(from: Name, text: &[u8]) -> Result<(Name, u32, &[u8]), FieldFault>
-    ensures { Gives (λ x. (x.0, x.1, x.2.now)) result (data_behind from text.entry.now) }
-{
-    let (req, body) = two(text)?;
-    let req = number(req)?;
-    Ok((from, req, body))
-}
-
 /// The sender, the request and the body of what stands behind the word data.
 #[tactic(auto, unfolding(crate::specs::Fields::data_parts))]
 fn data_parts(text: &[u8]) -> Result<(Name, u32, &[u8]), FieldFault>
@@ -51,7 +41,9 @@ fn data_parts(text: &[u8]) -> Result<(Name, u32, &[u8]), FieldFault>
 {
     let (from, rest) = two(text)?;
     let from = name(from)?;
-    data_behind(from, rest)
+    let (req, body) = two(rest)?;
+    let req = number(req)?;
+    Ok((from, req, body))
 }
 
 /// Data, behind that word.
@@ -83,16 +75,6 @@ fn lettered_resilience(word: &[u8]) -> Result<u8, FieldFault>
     Ok(resilience)
 }
 
-/// The resilience of a view, which is 0 where none is written.
-fn resilience_in(word: Option<&[u8]>) -> Result<u8, FieldFault>
-    ensures { result ≡ resilience_in (option_map (λ word. word.now) word.entry) }
-{
-    match word {
-        Some(word) => lettered_resilience(word),
-        None => Ok(0),
-    }
-}
-
 /// A view, behind that word.
 #[tactic(auto, unfolding(crate::specs::Fields::view_of))]
 fn view(text: &[u8]) -> Result<Outline, FieldFault>
@@ -102,7 +84,10 @@ fn view(text: &[u8]) -> Result<Outline, FieldFault>
     let stamp = stamp(first)?;
     let (set, last) = cut(rest, b' ');
     let members = names(set)?;
-    let resilience = resilience_in(last)?;
+    let resilience = match last {
+        Some(word) => lettered_resilience(word)?,
+        None => 0,
+    };
     Ok(Outline::View {
         stamp,
         members,
@@ -151,21 +136,6 @@ fn told_number(outcome: &[u8], word: &[u8]) -> Result<u32, FieldFault>
     number(rest)
 }
 
-/// A send at a place, with a body.
-fn send_behind<'a>(
-    place: u8,
-    body: &'a [u8],
-    outcome: &[u8],
-) -> Result<(u8, u32, &'a [u8]), FieldFault>
-    requires { place ≤ 15 }
-    ensures value { Gives (λ x. (x.0, x.1, x.2.now)) result (send_behind place body.entry.now outcome.now) }
-    ensures within { IfOk result (λ x. x.0 ≤ 15) }
-{
-    is_body(body, MOST_BODY)?;
-    let req = told_number(outcome, b"queued".as_slice())?;
-    Ok((place, req, body))
-}
-
 /// A send: its place, its request and its body.
 #[tactic(auto, unfolding(crate::specs::Fields::send_of))]
 pub fn send<'a>(rest: &'a [u8], outcome: &[u8]) -> Result<(u8, u32, &'a [u8]), FieldFault>
@@ -174,40 +144,9 @@ pub fn send<'a>(rest: &'a [u8], outcome: &[u8]) -> Result<(u8, u32, &'a [u8]), F
 {
     let (at, body) = two(rest)?;
     let place = place(at)?;
-    send_behind(place, body, outcome)
-}
-
-/// An answer at a place, where what was told says the request again.
-fn number_behind(
-    place: u8,
-    asked: u32,
-    req: &[u8],
-    told: &[u8],
-) -> Result<(u8, u32, u32), FieldFault>
-    requires { place ≤ 15 }
-    ensures value { result ≡ number_behind place asked req.now told.now }
-    ensures within { IfOk result (λ x. x.0 ≤ 15) }
-{
-    let (again, last) = two(told)?;
-    expect(again, req)?;
-    let number = number(last)?;
-    Ok((place, asked, number))
-}
-
-/// An answer at a place, to a request.
-fn answer_behind(
-    place: u8,
-    asked: u32,
-    req: &[u8],
-    outcome: &[u8],
-) -> Result<(u8, u32, u32), FieldFault>
-    requires { place ≤ 15 }
-    ensures value { result ≡ answer_behind place asked req.now outcome.now }
-    ensures within { IfOk result (λ x. x.0 ≤ 15) }
-{
-    let (word, told) = two(outcome)?;
-    expect(word, b"sent".as_slice())?;
-    number_behind(place, asked, req, told)
+    is_body(body, MOST_BODY)?;
+    let req = told_number(outcome, b"queued".as_slice())?;
+    Ok((place, req, body))
 }
 
 /// An answer: its place, its request, and the number of the send.
@@ -219,19 +158,12 @@ pub fn answer(rest: &[u8], outcome: &[u8]) -> Result<(u8, u32, u32), FieldFault>
     let (at, req) = two(rest)?;
     let place = place(at)?;
     let asked = number(req)?;
-    answer_behind(place, asked, req, outcome)
-}
-
-/// A take at a place: its number and its entry.
-fn take_behind(place: u8, told: &[u8]) -> Result<(u8, u32, &[u8]), FieldFault>
-    requires { place ≤ 15 }
-    ensures value { Gives (λ x. (x.0, x.1, x.2.now)) result (take_behind place told.entry.now) }
-    ensures within { IfOk result (λ x. x.0 ≤ 15) }
-{
-    let (first, entry) = two(told)?;
-    let number = number(first)?;
-    let _ = outline(entry)?;
-    Ok((place, number, entry))
+    let (word, told) = two(outcome)?;
+    expect(word, b"sent".as_slice())?;
+    let (again, last) = two(told)?;
+    expect(again, req)?;
+    let number = number(last)?;
+    Ok((place, asked, number))
 }
 
 /// A take: its place, its number and its entry.
@@ -243,20 +175,10 @@ pub fn take<'a>(rest: &[u8], outcome: &'a [u8]) -> Result<(u8, u32, &'a [u8]), F
     let place = place(rest)?;
     let (word, told) = two(outcome)?;
     expect(word, b"took".as_slice())?;
-    take_behind(place, told)
-}
-
-/// A return at a place: the name of its life.
-fn life_behind(place: u8, told: &[u8]) -> Result<(u8, Name), FieldFault>
-    requires { place ≤ 15 }
-    ensures value { result ≡ life_behind place told.now }
-    ensures within { IfOk result (λ x. x.0 ≤ 15) }
-{
-    let life = number_up_to(told, 16)?;
-    match Name::of(place, life as u8) {
-        Some(name) => Ok((place, name)),
-        None => Err(FieldFault::Form),
-    }
+    let (first, entry) = two(told)?;
+    let number = number(first)?;
+    let _ = outline(entry)?;
+    Ok((place, number, entry))
 }
 
 /// A return: its place, and the name that goes on there.
@@ -268,5 +190,9 @@ pub fn return_of(rest: &[u8], outcome: &[u8]) -> Result<(u8, Name), FieldFault>
     let place = place(rest)?;
     let (word, told) = two(outcome)?;
     expect(word, b"returned".as_slice())?;
-    life_behind(place, told)
+    let life = number_up_to(told, 16)?;
+    match Name::of(place, life as u8) {
+        Some(name) => Ok((place, name)),
+        None => Err(FieldFault::Form),
+    }
 }

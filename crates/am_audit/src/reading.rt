@@ -46,7 +46,7 @@ fn may_list(stage: Stage) -> bool
 {
     match stage {
         Stage::Events | Stage::List => true,
-        Stage::Logs | Stage::End => false,
+        _ => false,
     }
 }
 
@@ -56,7 +56,7 @@ fn may_log(stage: Stage) -> bool
 {
     match stage {
         Stage::List | Stage::Logs => true,
-        Stage::Events | Stage::End => false,
+        _ => false,
     }
 }
 

@@ -19,7 +19,11 @@ use std::collections::BTreeMap;
 fn skipped_at(last: Option<u32>, send: &TextLine) -> Option<Verdict>
     ensures { result ≡ skipped_at last (line_of send.now) }
 {
-    if u64::from(send.number) == u64::from(last.unwrap_or(0)) + 1 {
+    let before = match last {
+        Some(last) => last,
+        None => 0,
+    };
+    if u64::from(send.number) == u64::from(before) + 1 {
         return None;
     }
     Some(Verdict::Skipped {
