@@ -42,7 +42,7 @@ impl Node {
     ghost use Rattle.am_node.specs.Stands.{state_of};
 
     /// Does one step: answer, letters and next state are those of the table of steps (docs/PROTOCOL.md, "Steps of a
-    /// node"), for any event and any bytes. Bytes that spell no packet are refused by their cause. It takes no memory: an
+    /// node"), for any event and any bytes. Bytes that spell no packet are refused by their cause. It needs no memory: an
     /// entry that is taken goes into the spare room, which only a Take wants that finds one. The out box must be empty,
     /// and no number of the node at its end. A packet that isn't heard by its kind is Elsewhere.
     pub fn step(&mut self, event: &NodeEvent, spare: Option<EntryRoom>, out: &mut OutBox) -> Outcome

@@ -56,8 +56,8 @@ fn bytes_in<'a>(within: &'a [u8], apart: &'a Option<Vec<u8>>) -> &'a [u8]
 
 impl Letter {
     /// The packet that these bytes spell, for the names of a set, or, where it is a request to join, for every life of their places.
-    /// Where the bytes are many, as much memory is taken as they need, and the room in which they stand where there is none. Else that
-    /// goes to the rooms.
+    /// Where the bytes are many, as much memory is taken as they need, and where there is none the room in which they stand. In all
+    /// other cases that room goes to the rooms.
     #[tactic(auto, using(crate::proofs::Read::header))]
     pub fn with_bytes(
         alloc: Global,
