@@ -1,4 +1,4 @@
-ghost use Rattle.std.specs.Prelude.{◌≡◌, ◌==◌, ◌<◌, ◌≤◌, [], length, vec_len, IfOk, OnOk};
+ghost use Rattle.std.specs.Prelude.{◌≡◌, ◌==◌, ◌<◌, ◌≤◌, ◌+◌, [], ◌++◌, length, vec_len, vec_capacity, IfOk, OnOk};
 ghost use Rattle.am_base.specs.Names.{size};
 ghost use Rattle.am_packet.specs.Boxes.{with_letter, place_for};
 ghost use Rattle.am_codec.specs.Limits.{IsWithin};
@@ -140,6 +140,22 @@ impl OutBox {
             letters.push_reserved(letter);
         }
         (Items::of(letters), Rooms { kept: Some(kept) })
+    }
+
+    /// Moves the letters, in their order, to the end of a list that has room for them, and gives the rooms that they don't take. It
+    /// takes no memory.
+    #[inline(always)]
+    pub fn append_to(self, letters: &mut Vec<Letter>) -> Rooms
+        requires room { vec_len letters.old + length self ≤ vec_capacity letters.old }
+        ensures items { letters.new.items ≡ letters.old.items ++ self }
+        ensures capacity { vec_capacity letters.old ≤ vec_capacity letters.new }
+    {
+        let mut kept = self.kept;
+        match letters.append(&mut kept.letters) {
+            Ok(()) => {}
+            Err(_) => unreachable!(),
+        }
+        Rooms { kept: Some(kept) }
     }
 
     /// How many letters are of this kind or a lower one, which come first.
