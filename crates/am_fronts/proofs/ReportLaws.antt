@@ -1,5 +1,5 @@
 -- Reports by the names' bytes, and the least of them.
-use Rattle.std.proofs.Common.{◌≡◌, ℕ, zero, suc, ◌+◌, ◌<◌, ◌≤◌, List, [], ◌∷◌, length, drop, replicate, refl, sym, ◌∙◌, ap, Bool, true, nat_lt, ◌&&◌}
+use Rattle.std.proofs.Common.{◌≡◌, ℕ, zero, suc, ◌+◌, ◌<◌, ◌≤◌, List, [], ◌∷◌, length, drop, replicate, refl, sym, ◌∙◌, ap, Bool, true, false, min, nat_lt, ◌&&◌}
 use Rattle.std.proofs.Common.{if◌then◌else◌, Option, Some, None, slice_index, count_by, zero-add, arith}
 use Rattle.std.proofs.lemmas.List.{get_or-replicate, get_or_past, length-replicate, drop_more, drop_all}
 use Rattle.std.proofs.lemmas.List.Sums.{sum_by-cons}
@@ -66,6 +66,30 @@ pub least_end : (f : ℕ → ℕ) (least : Option ℕ) (set : List ℕ) (place :
     → lesser least (least_of f (names_from place (drop place set))) ≡ least
 unfolding least_of
 least_end f least set place h = ap (λ names. lesser least (least_of f names)) (names_end set place h) ∙ lesser_none least
+
+-- the least found up to a place, where anything is
+abbrev pub so_far : Bool → ℕ → Option ℕ
+so_far found least = if found then Some least else None
+
+-- a place where nobody is adds nothing to what is found
+pub least_past : (f : ℕ → ℕ) (least : Option ℕ) (set : List ℕ) (place : ℕ) → place < length set → slice_index set place ≡ 0
+    → lesser least (least_of f (names_from place (drop place set))) ≡ lesser least (least_of f (names_from (place + 1) (drop (place + 1) set)))
+least_past f least set place h nobody =
+    let t : nat_lt 0 (slice_index set place) ≡ false = grind (arith, nat_tests) in
+    rw t at (least_more f least set place h) ∙ ap (λ l. lesser l (least_of f (names_from (place + 1) (drop (place + 1) set)))) (lesser_none least)
+
+-- a name adds its number, where the most stands for no number yet
+pub least_found : (f : ℕ → ℕ) (found : Bool) (least : ℕ) (set : List ℕ) (place number most : ℕ) → place < length set → 0 < slice_index set place
+    → (found ≡ false → least ≡ most) → f (name_at place (slice_index set place)) ≡ number → number ≤ most
+    → lesser (so_far found least) (least_of f (names_from place (drop place set)))
+    ≡ lesser (so_far true (min least number)) (least_of f (names_from (place + 1) (drop (place + 1) set)))
+least_found f found least set place number most h there none is fits =
+    let t : nat_lt 0 (slice_index set place) ≡ true = grind (arith, nat_tests) in
+    let rest = least_of f (names_from (place + 1) (drop (place + 1) set)) in
+    let both : lesser (so_far found least) (Some number) ≡ so_far true (min least number) = split found
+    (λ e. rw e refl)
+    (λ e. let m = none e in rw e (ap Some (omega arith))) in
+    rw (t, is) at (least_more f (so_far found least) set place h) ∙ ap (λ l. lesser l rest) both
 
 -- how many pass, from a place on
 pub count_cons : (p : ℕ → Bool) (x : ℕ) (xs : List ℕ) → count_by p (x ∷ xs) ≡ (if p x then 1 else 0) + count_by p xs

@@ -1,4 +1,4 @@
-ghost use Rattle.std.specs.Prelude.{◌≡◌, ℕ, ◌+◌, ◌-◌, ◌≤◌, ◌<◌, nat_le, count_by, Some, None, true, false, nat_lt, ◌&&◌, if◌then◌else◌};
+ghost use Rattle.std.specs.Prelude.{◌≡◌, ℕ, ◌+◌, ◌≤◌, ◌<◌, nat_le, count_by, true, false};
 ghost use Rattle.am_base.specs.Names.{names_of, name_at, size};
 ghost use Rattle.am_base.specs.Lists.{top_of, told_by};
 ghost use Rattle.am_base.specs.Fronts.{accept_front, is_held, counted_at};
@@ -82,21 +82,12 @@ impl Fronts {
         self.reports[usize::from(name.get())]
     }
 
-    /// What the name of a place and a life has stored, and what it has taken, where there is such a name.
-    fn numbers_at(&self, place: u8, life: u8) -> (Option<u32>, Option<u32>)
-        requires { (place < 16) × (life ≤ 16) }
-        ensures stored { result.0 ≡ (if nat_lt 0 life then Some
-            ((reports_of self.now (name_at place life)).stored) else None) }
-        ensures taken { result.1 ≡ (if nat_lt 0 life then Some
-            ((reports_of self.now (name_at place life)).taken) else None) }
+    /// What the name of a place and a life, which isn't 0, has reported.
+    fn at(&self, place: usize, life: u8) -> Report
+        requires { (place < 16) × (0 < life) × (life ≤ 16) }
+        ensures { result ≡ reports_of self.now (name_at place life) }
     {
-        match Name::of(place, life) {
-            Some(name) => {
-                let report = self.of(name);
-                (Some(report.stored), Some(report.taken))
-            }
-            None => (None, None),
-        }
+        self.reports[place + 16 * usize::from(life - 1)]
     }
 
     /// A name reports: each number is raised, and none falls.
@@ -130,48 +121,40 @@ impl Fronts {
         }; 256];
     }
 
-    /// The least that the names of a set have stored, and the least that they have taken.
-    #[tactic(auto, using(crate::proofs::ReportLaws::least_laws))]
-    #[inline(always)]
-    fn least(&self, set: Names) -> (Option<u32>, Option<u32>)
-        ensures stored { result.0 ≡ least_stored (reports_of self.now) set }
-        ensures taken { result.1 ≡ least_taken (reports_of self.now) set }
-    {
-        let lives = set.each_life();
-        let mut least_stored = None;
-        let mut least_taken = None;
-        for place in 0..16u8 {
-            let (stored, taken) = self.numbers_at(place, lives[usize::from(place)]);
-            least_stored = lesser(least_stored, stored);
-            least_taken = lesser(least_taken, taken);
-        }
-        (least_stored, least_taken)
-    }
-
     /// The least that the names of a set have taken; None exactly where the set is empty.
+    #[tactic(auto, using(crate::proofs::ReportLaws::least_end))]
     pub fn least_taken(&self, set: Names) -> Option<u32>
         ensures { result ≡ least_taken (reports_of self.now) set }
     {
-        self.least(set).1
+        let lives = set.each_life();
+        let mut found = false;
+        let mut least = u32::MAX;
+        for place in 0..16usize {
+            let life = lives[place];
+            if 0 < life {
+                found = true;
+                least = least.min(self.at(place, life).taken);
+            }
+        }
+        if found { Some(least) } else { None }
     }
 
     /// The least that the names of a set have stored; None exactly where the set is empty.
+    #[tactic(auto, using(crate::proofs::ReportLaws::least_end))]
     pub fn least_stored(&self, set: Names) -> Option<u32>
         ensures { result ≡ least_stored (reports_of self.now) set }
     {
-        self.least(set).0
-    }
-
-    /// Whether the name of a place and a life has stored up to a number.
-    fn has_stored(&self, place: u8, life: u8, number: u32) -> bool
-        requires { (place < 16) × (life ≤ 16) }
-        ensures { result ≡ (nat_lt 0 life
-            && nat_le number (reports_of self.now (name_at place life)).stored) }
-    {
-        if life == 0 {
-            return false;
+        let lives = set.each_life();
+        let mut found = false;
+        let mut least = u32::MAX;
+        for place in 0..16usize {
+            let life = lives[place];
+            if 0 < life {
+                found = true;
+                least = least.min(self.at(place, life).stored);
+            }
         }
-        number <= self.reports[usize::from(place) + 16 * usize::from(life - 1)].stored
+        if found { Some(least) } else { None }
     }
 
     /// How many names a set has, and how many of them have stored up to a number.
@@ -184,10 +167,12 @@ impl Fronts {
         let lives = counted.each_life();
         let mut names = 0;
         let mut held = 0;
-        for place in 0..16u8 {
-            let life = lives[usize::from(place)];
-            names += u32::from(0 < life);
-            held += u32::from(self.has_stored(place, life, number));
+        for place in 0..16usize {
+            let life = lives[place];
+            if 0 < life {
+                names += 1;
+                held += u32::from(number <= self.at(place, life).stored);
+            }
         }
         (names, held)
     }
