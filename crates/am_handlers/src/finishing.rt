@@ -27,6 +27,15 @@ pub enum OneLetter {
     Welcome,
 }
 
+/// Such a letter, with the name that it goes to.
+#[derive(Clone, Copy, Debug)]
+pub struct Telling {
+    /// Who gets it.
+    pub to: Name,
+    /// What it is.
+    pub letter: OneLetter,
+}
+
 /// The end of a step that sends nothing of its own, once so much was accepted before. It gives the answer back. The out
 /// box must be empty.
 pub fn finish_quietly(parts: &mut Parts, before: u32, answer: Outcome, out: &mut OutBox) -> Outcome
@@ -50,16 +59,16 @@ pub fn finish_polling(parts: &mut Parts, before: u32, answer: Outcome, out: &mut
     answer
 }
 
-/// The packet of such a letter to a name.
+/// The packet of such a letter.
 #[tactic(auto, unfolding(am_codec::specs::Limits::IsWithin))]
-fn packet<'a, L: Log>(core: &'a Core<L>, letter: OneLetter, to: Name) -> Packet<'a>
-    ensures value { CoreTells (λ n. letter_of letter to n) core.now result }
+fn packet<'a, L: Log>(core: &'a Core<L>, told: Telling) -> Packet<'a>
+    ensures value { CoreTells (λ n. letter_of told.letter told.to n) core.now result }
     ensures within { IsWithin result }
 {
-    match letter {
+    match told.letter {
         OneLetter::Nack => packet_from!(core => Nack { report: report(core) }),
         OneLetter::Fetch => packet_from!(core => Fetch { stored: core.log.top() }),
-        OneLetter::Welcome => welcome(core, to),
+        OneLetter::Welcome => welcome(core, told.to),
     }
 }
 
@@ -67,18 +76,17 @@ fn packet<'a, L: Log>(core: &'a Core<L>, letter: OneLetter, to: Name) -> Packet<
 pub fn finish_telling(
     parts: &mut Parts,
     before: u32,
-    to: Name,
-    letter: OneLetter,
+    told: Telling,
     answer: Outcome,
     out: &mut OutBox,
 ) -> Outcome
     requires { out.old ≡ [] }
-    ensures { Finishes before (telling (node_of parts.old) answer (only_name to)
-        (λ n. letter_of letter to n)) result out.new parts.new }
+    ensures { Finishes before (telling (node_of parts.old) answer (only_name told.to)
+        (λ n. letter_of told.letter told.to n)) result out.new parts.new }
 {
     let _before = parts.accept_front();
     parts.end();
-    out.put(only(to), &packet(&parts.core, letter, to));
+    out.put(only(told.to), &packet(&parts.core, told));
     parts.tell_accepted(before, false, false, out);
     answer
 }

@@ -11,7 +11,7 @@ use am_base::outcome::Outcome;
 use am_core::log::Log;
 use am_core::state::Core;
 use am_handlers::asking::{has_room, held_answer, next_number};
-use am_handlers::finishing::{OneLetter, finish_polling, finish_quietly, finish_telling};
+use am_handlers::finishing::{OneLetter, Telling, finish_polling, finish_quietly, finish_telling};
 use am_handlers::packets::{bcast, only, welcome};
 use am_handlers::parts::Parts;
 use am_letter::out_box::OutBox;
@@ -117,7 +117,11 @@ fn welcome_again(
         return finish_quietly(parts, before, Outcome::Again, out);
     }
     let answer = Outcome::Welcomed { number: joined };
-    finish_telling(parts, before, from, OneLetter::Welcome, answer, out)
+    let letter = Telling {
+        to: from,
+        letter: OneLetter::Welcome,
+    };
+    finish_telling(parts, before, letter, answer, out)
 }
 
 /// Takes a request to join. Stranger: the name's life is over. Occupied: another life holds its place. Held: there is no

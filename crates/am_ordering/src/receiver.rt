@@ -12,7 +12,7 @@ use am_base::name::Name;
 use am_base::outcome::Outcome;
 use am_core::log::Log;
 use am_core::state::Core;
-use am_handlers::finishing::{OneLetter, finish_quietly, finish_telling};
+use am_handlers::finishing::{OneLetter, Telling, finish_quietly, finish_telling};
 use am_handlers::packets::{ack, only};
 use am_handlers::parts::Parts;
 use am_letter::out_box::OutBox;
@@ -126,7 +126,11 @@ pub fn on_accept(parts: &mut Parts, told: Told, poll: bool, out: &mut OutBox) ->
     note(parts, told.base, told.acc);
     if short {
         let answer = Outcome::Gap { want: stored + 1 };
-        return finish_telling(parts, before, told.sender, OneLetter::Nack, answer, out);
+        let nack = Telling {
+            to: told.sender,
+            letter: OneLetter::Nack,
+        };
+        return finish_telling(parts, before, nack, answer, out);
     }
     finish_accepting(parts, before, poll, told.sender, out)
 }
@@ -153,9 +157,13 @@ fn receive_entry(
     if has_left(parts) {
         return finish_quietly(parts, before, Outcome::Behind, out);
     }
+    let nack = Telling {
+        to: told.sender,
+        letter: OneLetter::Nack,
+    };
     if top + 1 < told.number {
         let answer = Outcome::Gap { want: top + 1 };
-        return finish_telling(parts, before, told.sender, OneLetter::Nack, answer, out);
+        return finish_telling(parts, before, nack, answer, out);
     }
     if parts.core.taken < told.base {
         return finish_quietly(parts, before, Outcome::Behind, out);
@@ -163,7 +171,7 @@ fn receive_entry(
     let Found { known, missing } = found;
     match known {
         Some(entry) => store(parts, before, told, &entry, out),
-        None => finish_telling(parts, before, told.sender, OneLetter::Nack, missing, out),
+        None => finish_telling(parts, before, nack, missing, out),
     }
 }
 

@@ -9,7 +9,7 @@ use am_base::name::{Name, Stamp};
 use am_base::outcome::Outcome;
 use am_core::log::Log;
 use am_core::state::Core;
-use am_handlers::finishing::{OneLetter, finish_quietly, finish_telling};
+use am_handlers::finishing::{OneLetter, Telling, finish_quietly, finish_telling};
 use am_handlers::parts::Parts;
 use am_letter::out_box::OutBox;
 use am_model::status::Status;
@@ -110,9 +110,17 @@ fn ask_on(parts: &mut Parts, before: u32, told: &Welcome, out: &mut OutBox) -> O
 {
     let answer = Outcome::Welcomed { number: told.join };
     if has_view(parts, told.stamp) {
-        return finish_telling(parts, before, told.sender, OneLetter::Nack, answer, out);
+        let nack = Telling {
+            to: told.sender,
+            letter: OneLetter::Nack,
+        };
+        return finish_telling(parts, before, nack, answer, out);
     }
-    finish_telling(parts, before, told.sender, OneLetter::Fetch, answer, out)
+    let fetch = Telling {
+        to: told.sender,
+        letter: OneLetter::Fetch,
+    };
+    finish_telling(parts, before, fetch, answer, out)
 }
 
 /// Takes a Welcome of the sequencer of a view, at a node that has asked to join or is a member. Known: it is a member.
