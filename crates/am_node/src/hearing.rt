@@ -4,6 +4,7 @@ ghost use Rattle.am_node.specs.Heard.{is_heard, heard_row};
 ghost use Rattle.am_info.specs.Nodes.{HasNumbersLeft};
 
 use am_acting::hearing::{on_gone, on_hold, on_spread};
+use am_base::name::{Name, Stamp};
 use am_base::outcome::Outcome;
 use am_handlers::parts::Parts;
 use am_letter::out_box::OutBox;
@@ -16,6 +17,30 @@ use am_packet::packet::Packet;
 use am_resetting::catching::{Arrival, Decided, on_piece, on_result};
 use am_resetting::serving::on_fetch;
 use am_resetting::voting::{on_hand_over, on_invite, on_vote};
+
+/// What a packet of the sequencer tells of its list.
+fn told(sender: Name, base: u32, acc: u32, number: u32) -> Told
+    ensures { result ≡ record { sender = sender; base = base; acc = acc; number = number } }
+{
+    Told {
+        sender,
+        base,
+        acc,
+        number,
+    }
+}
+
+/// What a packet tells of an entry of a view's list beside the entry.
+fn arrival(from: Name, stamp: Stamp, base: u32, number: u32) -> Arrival
+    ensures { result ≡ record { from = from; stamp = stamp; base = base; number = number } }
+{
+    Arrival {
+        from,
+        stamp,
+        base,
+        number,
+    }
+}
 
 /// Does the row of a packet of the view in which the node acts, or that names join and leave by. A body that its sender spread
 /// is numbered by the sequencer, and kept by another member.
@@ -69,15 +94,7 @@ pub fn heard_row(parts: &mut Parts, packet: &Packet, out: &mut OutBox) -> Outcom
             number,
             entry,
             ..
-        } => {
-            let told = Told {
-                sender: *sender,
-                base: *base,
-                acc: *acc,
-                number: *number,
-            };
-            on_bcast(parts, told, entry, out)
-        }
+        } => on_bcast(parts, told(*sender, *base, *acc, *number), entry, out),
         Packet::Order {
             sender,
             base,
@@ -86,15 +103,7 @@ pub fn heard_row(parts: &mut Parts, packet: &Packet, out: &mut OutBox) -> Outcom
             from,
             req,
             ..
-        } => {
-            let told = Told {
-                sender: *sender,
-                base: *base,
-                acc: *acc,
-                number: *number,
-            };
-            on_order(parts, told, *from, *req, out)
-        }
+        } => on_order(parts, told(*sender, *base, *acc, *number), *from, *req, out),
         Packet::Accept {
             sender,
             base,
@@ -102,15 +111,7 @@ pub fn heard_row(parts: &mut Parts, packet: &Packet, out: &mut OutBox) -> Outcom
             top,
             poll,
             ..
-        } => {
-            let told = Told {
-                sender: *sender,
-                base: *base,
-                acc: *acc,
-                number: *top,
-            };
-            on_accept(parts, told, *poll, out)
-        }
+        } => on_accept(parts, told(*sender, *base, *acc, *top), *poll, out),
         Packet::Ack { sender, report, .. } => on_ack(parts, *sender, *report, out),
         Packet::Nack { sender, report, .. } => on_nack(parts, *sender, *report, out),
         Packet::Hold { base, top, req, .. } => on_hold(parts, *base, *top, *req, out),
@@ -153,17 +154,10 @@ pub fn heard_row(parts: &mut Parts, packet: &Packet, out: &mut OutBox) -> Outcom
             base,
             number,
             entry,
-        } => on_piece(
-            parts,
-            &Arrival {
-                from: *sender,
-                stamp: *stamp,
-                base: *base,
-                number: *number,
-            },
-            entry,
-            out,
-        ),
+        } => {
+            let piece = arrival(*sender, *stamp, *base, *number);
+            on_piece(parts, &piece, entry, out)
+        }
         Packet::Result {
             sender,
             stamp,
@@ -171,20 +165,14 @@ pub fn heard_row(parts: &mut Parts, packet: &Packet, out: &mut OutBox) -> Outcom
             number,
             members,
             resilience,
-        } => on_result(
-            parts,
-            &Arrival {
-                from: *sender,
-                stamp: *stamp,
-                base: *base,
-                number: *number,
-            },
-            &Decided {
+        } => {
+            let last = arrival(*sender, *stamp, *base, *number);
+            let decided = Decided {
                 members: *members,
                 resilience: *resilience,
-            },
-            out,
-        ),
+            };
+            on_result(parts, &last, &decided, out)
+        }
         Packet::HandOver { .. } => on_hand_over(parts, out),
     }
 }

@@ -12,16 +12,16 @@ on_request-requires-then-is_sequencer-clause-req c = spread_req c.in-Spread.send
     (subst IsWithin c.in-Spread.is c.requires.within)
 
 pub on_bcast-requires-clause-number : goal.on_bcast-requires-clause-number
-on_bcast-requires-clause-number c = (bcast_number c.in-Bcast.sender c.in-Bcast.stamp c.in-Bcast.base c.in-Bcast.acc c.in-Bcast.number c.in-Bcast.entry
-    (subst IsWithin c.in-Bcast.is c.requires.within)).0
+on_bcast-requires-clause-number c = rw c.told.ensures (bcast_number c.in-Bcast.sender c.in-Bcast.stamp c.in-Bcast.base c.in-Bcast.acc c.in-Bcast.number
+    c.in-Bcast.entry (subst IsWithin c.in-Bcast.is c.requires.within)).0
 
 pub on_bcast-requires-clause-entry : goal.on_bcast-requires-clause-entry
 on_bcast-requires-clause-entry c = (bcast_number c.in-Bcast.sender c.in-Bcast.stamp c.in-Bcast.base c.in-Bcast.acc c.in-Bcast.number c.in-Bcast.entry
     (subst IsWithin c.in-Bcast.is c.requires.within)).1
 
 pub on_order-requires-clause-number : goal.on_order-requires-clause-number
-on_order-requires-clause-number c = (order_number c.in-Order.sender c.in-Order.stamp c.in-Order.base c.in-Order.acc c.in-Order.number c.in-Order.from
-    c.in-Order.req (subst IsWithin c.in-Order.is c.requires.within)).0
+on_order-requires-clause-number c = rw c.told-in-Order.ensures (order_number c.in-Order.sender c.in-Order.stamp c.in-Order.base c.in-Order.acc
+    c.in-Order.number c.in-Order.from c.in-Order.req (subst IsWithin c.in-Order.is c.requires.within)).0
 
 pub on_order-requires-clause-req : goal.on_order-requires-clause-req
 on_order-requires-clause-req c = (order_number c.in-Order.sender c.in-Order.stamp c.in-Order.base c.in-Order.acc c.in-Order.number c.in-Order.from
@@ -50,8 +50,8 @@ on_piece-requires-clause-entry c = piece_entry c.in-Piece.sender c.in-Piece.stam
     (subst IsWithin c.in-Piece.is c.requires.within)
 
 pub on_result-requires-clause-within : goal.on_result-requires-clause-within
-on_result-requires-clause-within c = (result_numbers c.in-Result.sender c.in-Result.stamp c.in-Result.base c.in-Result.number c.in-Result.members
-    c.in-Result.resilience (subst IsWithin c.in-Result.is c.requires.within)).0
+on_result-requires-clause-within c = rw c.arrival-last.ensures (result_numbers c.in-Result.sender c.in-Result.stamp c.in-Result.base c.in-Result.number
+    c.in-Result.members c.in-Result.resilience (subst IsWithin c.in-Result.is c.requires.within)).0
 
 pub on_result-requires-clause-resilience : goal.on_result-requires-clause-resilience
 on_result-requires-clause-resilience c = (result_numbers c.in-Result.sender c.in-Result.stamp c.in-Result.base c.in-Result.number c.in-Result.members
