@@ -1,6 +1,4 @@
 mod Answered
-mod Done
-mod Names
 mod Raced
 mod Scripts
 mod Spoken

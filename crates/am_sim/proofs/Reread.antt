@@ -29,7 +29,7 @@ use Rattle.am_scripted.proofs.Scripts.{races_have_scripts}
 use Rattle.am_audited.specs.Claims.{ReadsAs, AgreesAs, IsOfOneList}
 use Rattle.am_audited.proofs.Agree.{runs_have_their_texts, lawful_texts_agree}
 use Rattle.am_audited.proofs.Scripts.{scripts_are_passed_over}
-use Rattle.am_sim.specs.Playing.{done_of}
+use Rattle.am_player.specs.Runs.{done_of}
 use Rattle.am_sim.specs.Racing.{events_of, race_text, IsRaced, IsReadAgain}
 
 -- ---- bodies

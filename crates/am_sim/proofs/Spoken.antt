@@ -7,9 +7,10 @@ use Rattle.am_words.specs.declared.node.NodeWords.{NodeWords}
 use Rattle.am_lines.specs.declared.ending.SpokenEnd.{SpokenEnd}
 use Rattle.am_lines.specs.declared.ending.SpokenEnd.TheVariants as ends
 use Rattle.am_lines.specs.Speaking as speaking
-use Rattle.am_sim.specs.declared.status.Status.{Status}
-use Rattle.am_sim.specs.declared.status.Status.TheVariants.{Done, ReadFault, WriteFault, NoMemory}
-use Rattle.am_sim.specs.Simulation.{reads_after, writes_after, OnDone, IsAnswer}
+use Rattle.am_player.specs.declared.status.Status.{Status}
+use Rattle.am_player.specs.declared.status.Status.TheVariants.{Done, ReadFault, WriteFault, NoMemory}
+use Rattle.am_player.specs.Statuses.{reads_after, writes_after, OnDone}
+use Rattle.am_sim.specs.Simulation.{IsAnswer}
 use Rattle.am_sim.specs.Speaking.{node_in, status_of, Spoken, IfNode, IsNode}
 
 -- ---- faults

@@ -1,15 +1,13 @@
--- What a world's text is, and a script's.
-use Rattle.std.proofs.Common.{◌≡◌, ℕ, List, ◌++◌, length, filter, count_by, codes, Option, refl, sym, ap, ◌∙◌}
+-- What is shown of a world, and its summary.
+use Rattle.std.proofs.Common.{◌≡◌, ℕ, List, ◌++◌, length, count_by, codes, Option, refl, sym, ap, ◌∙◌}
 use Rattle.am_base.specs.Founding.{Rules}
 use Rattle.am_base.specs.declared.entry.Entry.{Entry}
-use Rattle.am_base.specs.Votes.{all_names}
 use Rattle.am_group.specs.declared.event.Record.{Record}
 use Rattle.am_play.specs.World.{World}
-use Rattle.am_play.specs.Group.{logs}
 use Rattle.am_play.specs.Lawful.{watch_run, broken_at}
-use Rattle.am_play.specs.Text.{play_text, mark_line}
+use Rattle.am_play.specs.Text.{mark_line}
 use Rattle.am_base.specs.Outcomes.{is_took, is_sent, is_held}
-use Rattle.am_play.specs.Play.{count_line, summary_text_of}
+use Rattle.am_play.specs.Play.{watched_text, count_line, summary_text_of}
 use Rattle.am_services.specs.Texts.{messages_text, directories_text, snapshots_text}
 use Rattle.am_words.specs.declared.form.Shown.TheVariants as shown
 use Rattle.am_sim.specs.Playing.{shown_text}
@@ -17,41 +15,25 @@ use Rattle.am_play.proofs.Runs.{watched_is_run}
 use Rattle.am_group.specs.Journals.{letters_of}
 use Rattle.am_report.specs.Logs.{logs_for}
 use Rattle.am_report.specs.Summaries.{summary_for}
-use Rattle.am_report.proofs.Logs.{logs_are}
 use Rattle.am_world.specs.Runs as worlds
 use Rattle.am_world.specs.Runs.{replay}
-use Rattle.am_sim.proofs.Names.{has_log_in}
+use Rattle.am_player.specs.Runs.{logged_in}
+use Rattle.am_player.proofs.Texts.{told_of}
 
--- what is written of a founding, records, a group list, the names with a list, and what broke, is that of the watched run
-told_of : (T : Rules → List Record → List Entry → List (ℕ × List (ℕ × Entry)) → Option ℕ → List ℕ)
-    (p : worlds.Play) (text : List ℕ) (founding : Rules) (records : List Record) (group : List Entry) (each : List ℕ) (broken : Option ℕ)
-    → founding ≡ p.rules → records ≡ (replay p).records → group ≡ (replay p).group → each ≡ filter (has_log_in (replay p)) all_names
-    → broken ≡ broken_at p.rules p.events → text ≡ T founding records group (logs_for records each) broken
-    → text ≡ T p.rules (watch_run p.rules p.events).world.records (watch_run p.rules p.events).world.group (logs (watch_run p.rules p.events).world)
-    (broken_at p.rules p.events)
-told_of T p text founding records group each broken rules recorded agreed named mark is =
-    is
-    ∙ (λ k. T (rules k) (recorded k) (agreed k) (logs_for (recorded k) (named k)) (mark k))
-    ∙ ap (λ ls. T p.rules (replay p).records (replay p).group ls (broken_at p.rules p.events)) (sym (logs_are (replay p)))
-    ∙ ap (λ (w : World). T p.rules w.records w.group (logs w) (broken_at p.rules p.events)) (sym (watched_is_run p.rules p.events))
-
-pub world_text : (p : worlds.Play) (text : List ℕ) (founding : Rules) (records : List Record) (group : List Entry) (each : List ℕ) (broken : Option ℕ)
-    → founding ≡ p.rules → records ≡ (replay p).records → group ≡ (replay p).group → each ≡ filter (has_log_in (replay p)) all_names
-    → broken ≡ broken_at p.rules p.events → text ≡ play_text founding records group (logs_for records each) broken
+pub world_text : (p : worlds.Play) (text : List ℕ) → text ≡ watched_text p.rules (watch_run p.rules p.events)
     → text ≡ shown_text shown.Text p.rules (watch_run p.rules p.events)
 unfolding shown_text
-world_text p text founding records group each broken rules recorded agreed named mark is =
-    told_of play_text p text founding records group each broken rules recorded agreed named mark is
+world_text p text is = is
 
 pub world_messages : (p : worlds.Play) (text : List ℕ) (records : List Record) (each : List ℕ) (broken : Option ℕ)
-    → records ≡ (replay p).records → each ≡ filter (has_log_in (replay p)) all_names → broken ≡ broken_at p.rules p.events
+    → records ≡ (replay p).records → each ≡ logged_in (replay p) → broken ≡ broken_at p.rules p.events
     → text ≡ messages_text (logs_for records each) broken → text ≡ shown_text shown.Messages p.rules (watch_run p.rules p.events)
 unfolding shown_text
 world_messages p text records each broken recorded named mark is =
     told_of (λ rules records group logs broken. messages_text logs broken) p text p.rules records (replay p).group each broken refl recorded refl named mark is
 
 pub world_directories : (p : worlds.Play) (text : List ℕ) (founding : Rules) (records : List Record) (each : List ℕ) (broken : Option ℕ)
-    → founding ≡ p.rules → records ≡ (replay p).records → each ≡ filter (has_log_in (replay p)) all_names → broken ≡ broken_at p.rules p.events
+    → founding ≡ p.rules → records ≡ (replay p).records → each ≡ logged_in (replay p) → broken ≡ broken_at p.rules p.events
     → text ≡ directories_text founding (logs_for records each) broken → text ≡ shown_text shown.Directories p.rules (watch_run p.rules p.events)
 unfolding shown_text
 world_directories p text founding records each broken rules recorded named mark is =
@@ -59,7 +41,7 @@ world_directories p text founding records each broken rules recorded named mark 
     named mark is
 
 pub world_snapshots : (p : worlds.Play) (text : List ℕ) (founding : Rules) (records : List Record) (each : List ℕ) (broken : Option ℕ)
-    → founding ≡ p.rules → records ≡ (replay p).records → each ≡ filter (has_log_in (replay p)) all_names → broken ≡ broken_at p.rules p.events
+    → founding ≡ p.rules → records ≡ (replay p).records → each ≡ logged_in (replay p) → broken ≡ broken_at p.rules p.events
     → text ≡ snapshots_text founding (logs_for records each) broken → text ≡ shown_text shown.Snapshots p.rules (watch_run p.rules p.events)
 unfolding shown_text
 world_snapshots p text founding records each broken rules recorded named mark is =

@@ -1,5 +1,4 @@
 pub mod Playing
 pub mod Racing
 pub mod Simulation
-pub mod Telling
 pub mod Speaking

@@ -1,31 +1,27 @@
 -- What a call of the program did.
-use Rattle.std.specs.Prelude.{◌≡◌, ◌≢◌, ℕ, ◌<◌, ◌≤◌, true, false, List, [], ◌++◌, length, map, take, Option, Some, Ok, Err, Bool, if◌then◌else◌}
+use Rattle.std.specs.Prelude.{◌≡◌, ◌≢◌, ℕ, ◌≤◌, true, false, List, [], ◌++◌, length, map, take, Option, Some, Ok, Err, Bool}
 use Rattle.std.specs.Borrow.{Bor}
-use Rattle.std.specs.Io.KnownBytes.{Appends}
 use Rattle.am_base.specs.Most.{most_events}
 use Rattle.am_base.specs.Founding.{Rules}
-use Rattle.am_base.specs.Names.{has}
 use Rattle.am_group.specs.declared.event.Event.{Event}
 use Rattle.am_group.specs.declared.event.Record.{Record}
 use Rattle.am_group.specs.declared.plan.RacePlan.{RacePlan}
 use Rattle.am_group.specs.Deliveries.{deliveries}
-use Rattle.am_model.specs.Node.{top, members, has_log}
-use Rattle.am_play.specs.World.{current, run}
-use Rattle.am_play.specs.Play.{settle_run, summary_text_of}
+use Rattle.am_model.specs.Node.{has_log}
+use Rattle.am_play.specs.World.{run}
+use Rattle.am_play.specs.Play.{summary_text_of}
 use Rattle.am_play.specs.Text.{newline}
 use Rattle.am_play.specs.Claims.{Headline, FitsView, Sent, NoBallot, HoldsUnballoted}
-use Rattle.am_play.specs.Lawful.{Watch, watch_run, lawful_front}
+use Rattle.am_play.specs.Lawful.{lawful_front}
 use Rattle.am_script.specs.Scripts.{reading}
 use Rattle.am_script.specs.declared.key.Key.{Key}
 use Rattle.am_script.specs.declared.key.Key.TheVariants as key
-use Rattle.am_script.specs.declared.refusal.ScriptRefusal.{ScriptRefusal}
-use Rattle.am_sim.specs.declared.alone.Unplayed.{Unplayed}
-use Rattle.am_sim.specs.declared.alone.Unplayed.TheVariants as unplayed
-use Rattle.am_world.specs.declared.world.WorldRefusal.{WorldRefusal}
-use Rattle.am_world.specs.declared.world.WorldRefusal.TheVariants as refusals
-use Rattle.am_sim.specs.Playing.{done_of, shown_text, IsRunText, IsLong}
+use Rattle.am_player.specs.Runs.{done_of, run_watch}
+use Rattle.am_player.specs.Plays.{Repaired}
+use Rattle.am_player.specs.Statuses.{most_input}
+use Rattle.am_sim.specs.Playing.{shown_text}
 use Rattle.am_sim.specs.Racing.{events_of, race_text, IsRaced}
-use Rattle.am_io.specs.Outside.{next, ReadToEnd}
+use Rattle.am_io.specs.Outside.{ReadToEnd}
 use Rattle.am_pump.specs.Generating.{generated_rules, events_of_seed}
 use Rattle.am_audit.specs.declared.fault.TextRefusal.{TextRefusal}
 use Rattle.am_audit.specs.declared.fault.TextRefusal.TheVariants as texts
@@ -35,7 +31,6 @@ use Rattle.am_audit.specs.Lines.{Reading, read_text}
 use Rattle.am_audit.specs.Verdicts.{verdict_of, verdict_line, is_right}
 use Rattle.am_replicated.specs.AssembledClaims.{front_of, Delivered}
 use Rattle.am_replicated.specs.Claims.{ReplicaHolds}
-use Rattle.am_headline.specs.Claim.{MayRepair, HasCaughtUp}
 use Rattle.am_audited.specs.Claims.{ReadsAs, AgreesAs, IsOfOneList}
 use Rattle.am_lines.specs.Speaking.{spoken}
 use Rattle.am_words.specs.Forms.{form_of}
@@ -47,14 +42,9 @@ use Rattle.am_words.specs.declared.form.Shown.TheVariants as shown
 use Rattle.am_seg.specs.Parts.{most_message}
 use Rattle.am_services.specs.Texts.{parts_text}
 use Rattle.am_report.specs.Schedules.{script_text}
-use Rattle.am_script.specs.declared.script.Script.{Script}
 use Rattle.am_script.specs.declared.script.Script.TheVariants.{Play, Race}
-use Rattle.am_sim.specs.declared.status.Status.{Status}
-use Rattle.am_sim.specs.declared.status.Status.TheVariants.{Done, Usage, BadScript, TooLong, ReadFault, WriteFault, NoMemory, Spent, BadText, Disagrees}
-
--- the most bytes of an input
-abbrev pub most_input : ℕ
-most_input = 16777216
+use Rattle.am_player.specs.declared.status.Status.{Status}
+use Rattle.am_player.specs.declared.status.Status.TheVariants.{Done, WriteFault, NoMemory, BadText, Disagrees}
 
 -- the most that is read for a form
 abbrev pub most_of : Option Form → ℕ
@@ -64,10 +54,6 @@ most_of _ = most_input
 -- the form of words
 abbrev pub form_of_words : List (Bor (List ℕ)) → Option Form
 form_of_words words = form_of (map (λ word. word.now) words)
-
--- a script's run as it is watched, and settled behind its own events where that is asked for
-abbrev pub run_watch : Rules → List Event → Bool → Watch
-run_watch rules events settles = if settles then settle_run rules (watch_run rules events) else watch_run rules events
 
 -- What is claimed of every run: the headline, which is up to its lawful front, and that no node ever kept more than it may; and that at each moment up
 -- to there a View which leaves somebody out fits each node. Up to there, too, a message that ends in what a name was given ends in the group's list, and
@@ -80,13 +66,6 @@ pub record Keeps (rules : Rules) (events : List Event) : Type 0 where
   pub unballoted : NoBallot (run rules events) → HoldsUnballoted rules events
   pub messages : (name : ℕ) → deliveries (front_of rules events).records name ≢ [] → (start : ℕ) × Delivered rules (front_of rules events) name start
   pub replicas : (name : ℕ) → has_log ((front_of rules events).nodes name).status ≡ true → ReplicaHolds rules (front_of rules events) name
-
--- Where a run is lawful and its group may be repaired, the events that settle the run bring each member of the sequencer's list to where the sequencer
--- stood: it has stored all up to there, and knows it to be accepted.
-abbrev pub Repaired : Rules → List Event → Type 0
-Repaired rules events = (place : ℕ) → place < 16 → lawful_front rules events ≡ events → MayRepair (run rules events) place
-    → (name : ℕ) → has (members ((run rules events).nodes (current (run rules events) place))) name ≡ true
-    → HasCaughtUp ((run rules (done_of rules events true)).nodes name) (top ((run rules events).nodes (current (run rules events) place)))
 
 -- what was read is a script, what was written is shown of its run, which has at most 100,000 events, and that run keeps what is claimed; where it is
 -- settled, it is repaired. Where the run's text was written, an audit reads it as that run; and where the run is lawful, or nobody began a ballot, its
@@ -202,97 +181,10 @@ EndsGen WriteFault = Unit {0}
 EndsGen NoMemory = Unit {0}
 EndsGen _ = ⊥
 
--- the statuses that come with writing
-abbrev pub Writes : Status → Type 0
-Writes Done = Unit {0}
-Writes WriteFault = Unit {0}
-Writes Disagrees = Unit {0}
-Writes _ = ⊥
-
--- the statuses that come of an audit alone
-abbrev pub IsOfAudit : Status → Type 0
-IsOfAudit (BadText line) = Unit {0}
-IsOfAudit Disagrees = Unit {0}
-IsOfAudit _ = ⊥
-
--- the numbers of the statuses
-abbrev pub number_of : Status → ℕ
-number_of Done = 0
-number_of Usage = 1
-number_of (BadScript cause) = 2
-number_of TooLong = 3
-number_of ReadFault = 4
-number_of WriteFault = 5
-number_of NoMemory = 6
-number_of Spent = 7
-number_of (BadText line) = 8
-number_of Disagrees = 9
-
--- what holds where all was done and written
-abbrev pub OnDone : Status → Type 0 → Type 0
-OnDone Done claim = claim
-OnDone Disagrees claim = claim
-OnDone _ claim = Unit {0}
-
--- what holds where a write failed
-abbrev pub OnWriteFault : Status → Type 0 → Type 0
-OnWriteFault WriteFault claim = claim
-OnWriteFault _ claim = Unit {0}
-
--- what holds of the cause where the input is no script
-abbrev pub IfBadScript : Status → (ScriptRefusal → Type 0) → Type 0
-IfBadScript (BadScript cause) claim = claim cause
-IfBadScript _ claim = Unit {0}
-
 -- what holds of the first bad line where the input is no text
 abbrev pub IfBadText : Status → (ℕ → Type 0) → Type 0
 IfBadText (BadText line) claim = claim line
 IfBadText _ claim = Unit {0}
-
--- a beginning of the text was appended
-abbrev pub WrotePart : Option (List ℕ) → Option (List ℕ) → List ℕ → Type 0
-WrotePart before after text = (count : ℕ) × Appends before after (take count text)
-
--- the bytes are a script of which this holds
-abbrev pub IsScript : List ℕ → (Rules → List Event → Bool → Type 0) → Type 0
-IsScript bytes claim = (founding : Rules) × (events : List Event) × (settle : Bool) × (reading key.Play bytes ≡ Ok (Play founding events settle))
-    × claim founding events settle
-
--- a script whose run would have more events than a run may have
-abbrev pub IsSpent : List ℕ → Type 0
-IsSpent bytes = IsScript bytes IsLong
-
--- a text is shown of what a play's run does
-abbrev pub IsText : Shown → Script → List ℕ → Type 0
-IsText what (Play founding events settles) text = IsRunText what founding events settles text
-IsText what (Race plan) text = ⊥
-
--- why a play isn't run
-abbrev pub IsUnrun : Script → Unplayed → Type 0
-IsUnrun (Race plan) e = ⊥
-IsUnrun (Play founding events settles) (unplayed.BadScript cause) = ⊥
-IsUnrun (Play founding events settles) unplayed.Spent = IsLong founding events settles
-IsUnrun (Play founding events settles) unplayed.NoMemory = Unit {0}
-
--- why bytes have no text
-abbrev pub IsUnplayed : List ℕ → Unplayed → Type 0
-IsUnplayed bytes (unplayed.BadScript cause) = reading key.Play bytes ≡ Err cause
-IsUnplayed bytes unplayed.Spent = IsSpent bytes
-IsUnplayed bytes unplayed.NoMemory = Unit {0}
-
--- the cause by a world's
-abbrev pub unplayed_for : WorldRefusal → Unplayed
-unplayed_for refusals.NoMemory = unplayed.NoMemory
-unplayed_for refusals.Spent = unplayed.Spent
-
--- how a call counts the faults of its source and of its sink
-abbrev pub reads_after : Status → ℕ → ℕ
-reads_after ReadFault before = next before
-reads_after _ before = before
-
-abbrev pub writes_after : Status → ℕ → ℕ
-writes_after WriteFault before = next before
-writes_after _ before = before
 
 -- what was read is a race, what was written is what was done in it as a script, in one line, and the text of the run of that;
 -- that line is read as this script; and that run keeps what is claimed; an audit tells of the whole text what it tells of a play's

@@ -6,8 +6,8 @@ use Rattle.am_words.specs.declared.node.NodeWords.{NodeWords}
 use Rattle.am_lines.specs.declared.ending.SpokenEnd.{SpokenEnd}
 use Rattle.am_lines.specs.declared.ending.SpokenEnd.TheVariants as ends
 use Rattle.am_lines.specs.Speaking.{Spoke}
-use Rattle.am_sim.specs.declared.status.Status.{Status}
-use Rattle.am_sim.specs.declared.status.Status.TheVariants.{Done, ReadFault, WriteFault, NoMemory}
+use Rattle.am_player.specs.declared.status.Status.{Status}
+use Rattle.am_player.specs.declared.status.Status.TheVariants.{Done, ReadFault, WriteFault, NoMemory}
 
 -- the node that words of a form ask for
 abbrev pub node_in : Option Form → Option NodeWords

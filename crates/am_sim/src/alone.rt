@@ -1,32 +1,26 @@
-ghost use Rattle.std.specs.Prelude.{◌≡◌, ◌≢◌, ◌↔◌, ℕ, List, None, Some, Err, IfOk, IfErr, IfSome, string_bytes};
+ghost use Rattle.std.specs.Prelude.{◌≡◌, ◌≢◌, ◌↔◌, ℕ, List, None, Some, Err, IfOk, IfSome, string_bytes};
 ghost use Rattle.std.specs.Io.KnownBytes.{Appends};
 ghost use Rattle.am_io.specs.Outside.{ReadToEnd, GaveMore, GaveAtMost};
 ghost use Rattle.am_script.specs.declared.key.Key.TheVariants as key;
-ghost use Rattle.am_script.specs.Scripts.{IsOfKind, reading};
+ghost use Rattle.am_script.specs.Scripts.{reading};
 ghost use Rattle.am_words.specs.Forms.{IsGen, Generates};
 ghost use Rattle.am_words.specs.declared.form.Form.TheVariants as form;
 ghost use Rattle.am_audit.specs.Lines.{read_text};
-ghost use Rattle.am_sim.specs.Simulation.{form_of_words, most_input, most_of, Reads, Waits, key_for, EndsGen, IsAnswerAlone, IsPlayed, IsSummary, OnDone, OnWriteFault, IfBadScript, Writes, IfBadText, IfAudit, Judges, IsOfAudit, Played, WrotePart, IsSpent, IsText, IsUnrun, IsUnplayed, unplayed_for, reads_after, writes_after};
+ghost use Rattle.am_player.specs.Plays.{IsSpent};
+ghost use Rattle.am_player.specs.Statuses.{most_input, OnDone, OnWriteFault, IfBadScript, Writes, IsOfAudit, WrotePart, reads_after, writes_after};
+ghost use Rattle.am_sim.specs.Simulation.{form_of_words, most_of, Reads, Waits, key_for, EndsGen, IsAnswerAlone, IsPlayed, IsSummary, IfBadText, IfAudit, Judges};
 
 use crate::auditing::audit_text;
 use crate::generating::{generate_script, summary_of_run};
 use crate::parting::write_parts;
-use crate::playing::text_of_run;
-use crate::status::Status;
+use crate::playing::ShownRun;
 use am_base::NoMemory;
 use am_io::outside::{Sink, Source};
-use am_io::whole::{ReadRefusal, read_all, write_all};
-use am_script::key::Key;
-use am_script::read::read_script;
-use am_script::refusal::ScriptRefusal;
-use am_script::script::Script;
+use am_io::whole::write_all;
+use am_player::status::Status;
 use am_words::form::{Form, Shown, form_of};
 use am_words::options::gen_numbers;
-use am_world::world::WorldRefusal;
 use std::alloc::Global;
-
-/// The most bytes of an input that is no message.
-pub const INPUT_MOST: u32 = 16_777_216;
 
 /// Does what the words ask for, as `simulate` does, but for the one word `race` and for `node`, and waits for nobody. None exactly
 /// where the words are these; then nothing is read or written.
@@ -113,7 +107,6 @@ fn summary_of(alloc: Global, words: &[&str]) -> Result<String, NoMemory>
 }
 
 /// Reads a script to its end, runs it, and writes this of its run.
-#[tactic(auto, using(crate::proofs::Answered::gave_whole))]
 fn play<S: Source, K: Sink>(alloc: Global, shown: Shown, source: &mut S, sink: &mut K) -> Status
     ensures not_usage { result ≢ Status.Usage }
     ensures not_of_audit { IsOfAudit result → ⊥ }
@@ -136,77 +129,5 @@ fn play<S: Source, K: Sink>(alloc: Global, shown: Shown, source: &mut S, sink: &
         × Appends (K.contents sink.old) (K.contents sink.new) text) }
     ensures unwritten { (Writes result → ⊥) → sink.new ≡ sink.old }
 {
-    let bytes = match read_all(alloc, source, INPUT_MOST) {
-        Ok(bytes) => bytes,
-        Err(ReadRefusal::Fault) => return Status::ReadFault,
-        Err(ReadRefusal::TooLong) => return Status::TooLong,
-        Err(ReadRefusal::NoMemory) => return Status::NoMemory,
-    };
-    let text = match answer(alloc, shown, bytes.as_slice()) {
-        Ok(text) => text,
-        Err(Unplayed::BadScript(cause)) => return Status::BadScript(cause),
-        Err(Unplayed::Spent) => return Status::Spent,
-        Err(Unplayed::NoMemory) => return Status::NoMemory,
-    };
-    match write_all(sink, text.as_bytes()) {
-        Ok(()) => Status::Done,
-        Err(_) => Status::WriteFault,
-    }
-}
-
-/// Why there is no text of a script's run.
-#[derive(Clone, Copy)]
-enum Unplayed {
-    BadScript(ScriptRefusal),
-    Spent,
-    NoMemory,
-}
-
-impl From<WorldRefusal> for Unplayed {
-    ghost from_gives = { λ refusal e. e ≡ unplayed_for refusal };
-
-    fn from(refusal: WorldRefusal) -> Unplayed {
-        match refusal {
-            WorldRefusal::NoMemory => Unplayed::NoMemory,
-            WorldRefusal::Spent => Unplayed::Spent,
-        }
-    }
-}
-
-/// What is shown of a play's run.
-fn text_of_script(alloc: Global, shown: Shown, script: &Script) -> Result<String, Unplayed>
-    requires { IsOfKind key.Play script.now }
-    ensures text { IfOk result (λ text. IsText shown script.now (string_bytes text)) }
-    ensures unrun { IfErr result (λ e. IsUnrun script.now e) }
-{
-    match script {
-        Script::Play {
-            founding,
-            events,
-            settle,
-        } => {
-            let text = text_of_run(alloc, shown, founding, events.as_slice(), *settle)?;
-            Ok(text)
-        }
-        Script::Race(_) => unreachable!(),
-    }
-}
-
-/// What is shown of the run of a script's bytes.
-#[tactic(auto, using(crate::proofs::Answered::played_by))]
-fn answer(alloc: Global, shown: Shown, bytes: &[u8]) -> Result<String, Unplayed>
-    ensures played { IfOk result (λ text. Played shown bytes.now (string_bytes text)) }
-    ensures unplayed { IfErr result (λ e. IsUnplayed bytes.now e) }
-{
-    let script = match read_script(alloc, Key::Play, bytes) {
-        Ok(script) => script,
-        Err(cause) => {
-            if cause == ScriptRefusal::NoMemory {
-                return Err(Unplayed::NoMemory);
-            }
-            return Err(Unplayed::BadScript(cause));
-        }
-    };
-    let text = text_of_script(alloc, shown, &script)?;
-    Ok(text)
+    am_player::play::play(alloc, &ShownRun { shown }, source, sink)
 }

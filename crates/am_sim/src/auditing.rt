@@ -2,15 +2,16 @@ ghost use Rattle.std.specs.Prelude.{◌≡◌, ◌≢◌, ◌≤◌, length, Lis
 ghost use Rattle.std.specs.Io.KnownBytes.{Appends};
 ghost use Rattle.am_io.specs.Outside.{ReadToEnd, GaveMore, GaveAtMost};
 ghost use Rattle.am_audit.specs.Lines.{read_text};
-ghost use Rattle.am_sim.specs.Simulation.{most_input, IsAudited, Audited, HasVerdict, Judges, OnDone, OnWriteFault, IfBadScript, IfBadText, Writes, WrotePart, IsUnaudited, reads_after, writes_after};
+ghost use Rattle.am_player.specs.Statuses.{most_input, OnDone, OnWriteFault, IfBadScript, Writes, WrotePart, reads_after, writes_after};
+ghost use Rattle.am_sim.specs.Simulation.{IsAudited, Audited, HasVerdict, Judges, IfBadText, IsUnaudited};
 
-use crate::alone::INPUT_MOST;
-use crate::status::Status;
 use am_audit::audit::audit;
 use am_audit::fault::TextRefusal;
 use am_audit::telling::push_audit;
 use am_io::outside::{Sink, Source};
 use am_io::whole::{ReadRefusal, read_all, write_all};
+use am_player::play::INPUT_MOST;
+use am_player::status::Status;
 use std::alloc::Global;
 
 /// The line of the verdict on a text, and whether that agrees.
@@ -29,7 +30,7 @@ fn verdict_line(alloc: Global, bytes: &[u8]) -> Result<(String, bool), TextRefus
 }
 
 /// Reads a text to its end, and writes the line of its verdict.
-#[tactic(auto, using(crate::proofs::Answered::gave_whole))]
+#[tactic(auto, using(am_player::proofs::Given::gave_whole))]
 pub fn audit_text<S: Source, K: Sink>(alloc: Global, source: &mut S, sink: &mut K) -> Status
     ensures not_usage { result ≢ Status.Usage }
     ensures not_spent { result ≢ Status.Spent }

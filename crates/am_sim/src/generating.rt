@@ -2,13 +2,14 @@ ghost use Rattle.std.specs.Prelude.{◌≡◌, ◌≤◌, ℕ, List, IfOk, lengt
 ghost use Rattle.std.specs.Io.KnownBytes.{Appends};
 ghost use Rattle.am_base.specs.Most.{most_events};
 ghost use Rattle.am_pump.specs.Generating.{generated_rules, events_of_seed};
-ghost use Rattle.am_sim.specs.Simulation.{Generated, GeneratedScript, EndsGen, OnDone, OnWriteFault, Writes, WrotePart, writes_after};
+ghost use Rattle.am_player.specs.Statuses.{OnDone, OnWriteFault, Writes, WrotePart, writes_after};
+ghost use Rattle.am_sim.specs.Simulation.{Generated, GeneratedScript, EndsGen};
 
 use crate::racing::events_of;
-use crate::status::Status;
 use am_base::NoMemory;
 use am_io::outside::Sink;
 use am_io::whole::write_all;
+use am_player::status::Status;
 use am_pump::generate::generate;
 use am_report::script::script_text;
 use am_report::summary::summary_text;

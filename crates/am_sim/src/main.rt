@@ -11,19 +11,17 @@ mod playing;
 mod racing;
 pub mod simulate;
 mod speaking;
-pub mod status;
-mod telling;
 
 use am_calls::gate::NoGate;
 use am_io::standard::{StdSink, StdSource};
+use am_player::status::Status;
+use am_player::telling::tell;
 use simulate::simulate;
-use status::Status;
 use std::alloc::Global;
 use std::process::ExitCode;
 use std::sync::Wait;
 use std::thread::Threads;
 use std::{env, io};
-use telling::line_of;
 
 /// The process's words; None where there was no memory for them.
 fn words_of(rt: &HostRuntime) -> Option<Vec<String>> {
@@ -48,15 +46,6 @@ fn answer<R: Threads + Wait + Sync>(
     let mut source = StdSource::new(input);
     let mut sink = StdSink::new(output);
     simulate(rt, alloc, &NoGate, words.as_slice(), &mut source, &mut sink)
-}
-
-/// Tells of a status, but of Done and Disagrees, whose lines are empty.
-fn tell(rt: &impl Eprint, status: Status) -> io::Result<()> {
-    let line = line_of(status);
-    if line.is_empty() {
-        return Ok(());
-    }
-    eprintln!(rt; "{line}")
 }
 
 /// Does what the process's words ask for, from standard input to standard output.

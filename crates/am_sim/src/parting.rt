@@ -3,17 +3,18 @@ ghost use Rattle.std.specs.Io.KnownBytes.{Appends};
 ghost use Rattle.am_io.specs.Outside.{ReadToEnd, GaveMore, GaveAtMost};
 ghost use Rattle.am_seg.specs.Parts.{most_message};
 ghost use Rattle.am_services.specs.Texts.{parts_text};
-ghost use Rattle.am_sim.specs.Simulation.{IsParted, Parted, OnDone, OnWriteFault, IfBadScript, IsOfAudit, Writes, WrotePart, reads_after, writes_after};
+ghost use Rattle.am_player.specs.Statuses.{OnDone, OnWriteFault, IfBadScript, IsOfAudit, Writes, WrotePart, reads_after, writes_after};
+ghost use Rattle.am_sim.specs.Simulation.{IsParted, Parted};
 
-use crate::status::Status;
 use am_io::outside::{Sink, Source};
 use am_io::whole::{ReadRefusal, read_all, write_all};
+use am_player::status::Status;
 use am_seg::parts::MOST_MESSAGE;
 use am_services::messages::parts_text;
 use std::alloc::Global;
 
 /// Reads a message to its end, and writes its parts, a line each.
-#[tactic(auto, using(crate::proofs::Answered::gave_whole))]
+#[tactic(auto, using(am_player::proofs::Given::gave_whole))]
 pub fn write_parts<S: Source, K: Sink>(alloc: Global, source: &mut S, sink: &mut K) -> Status
     ensures not_usage { result ≢ Status.Usage }
     ensures not_spent { result ≢ Status.Spent }

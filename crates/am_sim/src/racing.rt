@@ -6,7 +6,6 @@ ghost use Rattle.am_report.specs.Schedules.{script_text};
 ghost use Rattle.am_script.specs.Limits.{RaceWithin};
 ghost use Rattle.am_sim.specs.Racing.{events_of, race_text, IsRaced, IsReadAgain, IsRaceText};
 
-use crate::playing::text_of_run;
 use am_base::NoMemory;
 use am_base::founding::Founding;
 use am_base::items::Items;
@@ -14,8 +13,9 @@ use am_calls::gate::Gate;
 use am_calls::race::race;
 use am_group::event::{Event, Record};
 use am_group::plan::RacePlan;
+use am_player::run::text_of_run;
+use am_player::shows::PlayText;
 use am_report::script::script_text;
-use am_words::form::Shown;
 use am_world::world::WorldRefusal;
 use std::alloc::Global;
 use std::sync::Wait;
@@ -50,12 +50,12 @@ fn events_of_race<R: Threads + Wait + Sync, G: Gate + Sync>(
 }
 
 /// The text of the run of at most 100,000 events.
-#[tactic(auto, unfolding(crate::specs::Playing::IsRunText, crate::specs::Playing::IsLong))]
+#[tactic(auto, unfolding(am_player::specs::Runs::IsRunText, am_player::specs::Runs::IsLong))]
 fn text_of_events(alloc: Global, founding: &Founding, events: &[Event]) -> Result<String, NoMemory>
     requires { length events.now ≤ most_events }
     ensures { IfOk result (λ text. string_bytes text ≡ text_of founding.now events.now) }
 {
-    match text_of_run(alloc, Shown::Text, founding, events, false) {
+    match text_of_run(alloc, &PlayText, founding, events, false) {
         Ok(text) => Ok(text),
         Err(WorldRefusal::NoMemory) => Err(NoMemory),
         Err(WorldRefusal::Spent) => unreachable!(),

@@ -9,16 +9,19 @@ ghost use Rattle.am_words.specs.declared.form.Form.TheVariants as form;
 ghost use Rattle.am_words.specs.Forms.{Generates};
 ghost use Rattle.am_sim.specs.Speaking.{Spoken, IfNode, IsNode};
 ghost use Rattle.am_audit.specs.Lines.{read_text};
-ghost use Rattle.am_sim.specs.Simulation.{form_of_words, most_input, most_of, Reads, key_for, EndsGen, IsAnswer, IsRacedText, OnDone, OnWriteFault, IfBadScript, Writes, IfBadText, IfAudit, Judges, IsOfAudit, Raced, WrotePart, IsSpent, reads_after, writes_after};
+ghost use Rattle.am_player.specs.Plays.{IsSpent};
+ghost use Rattle.am_player.specs.Statuses.{most_input, OnDone, OnWriteFault, IfBadScript, Writes, IsOfAudit, WrotePart, reads_after, writes_after};
+ghost use Rattle.am_sim.specs.Simulation.{form_of_words, most_of, Reads, key_for, EndsGen, IsAnswer, IsRacedText, IfBadText, IfAudit, Judges, Raced};
 
-use crate::alone::{INPUT_MOST, simulate_alone};
+use crate::alone::simulate_alone;
 use crate::racing::text_of_race;
 use crate::speaking::{node_in, speak_node};
-use crate::status::Status;
 use am_calls::gate::Gate;
 use am_group::plan::RacePlan;
 use am_io::outside::{Sink, Source};
 use am_io::whole::{ReadRefusal, read_all, write_all};
+use am_player::play::INPUT_MOST;
+use am_player::status::Status;
 use am_script::key::Key;
 use am_script::read::read_script;
 use am_script::refusal::ScriptRefusal;
@@ -103,7 +106,7 @@ fn is_race(words: &[&str]) -> bool
 }
 
 /// Reads a race to its end, lets its threads make their calls, and writes what was done, and the text of its run.
-#[tactic(auto, using(crate::proofs::Answered::gave_whole))]
+#[tactic(auto, using(am_player::proofs::Given::gave_whole))]
 fn race_script<R: Threads + Wait + Sync, S: Source, K: Sink, G: Gate + Sync>(
     rt: &R,
     alloc: Global,

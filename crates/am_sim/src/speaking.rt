@@ -1,11 +1,12 @@
 ghost use Rattle.std.specs.Prelude.{◌≡◌};
-ghost use Rattle.am_sim.specs.Simulation.{form_of_words, reads_after, writes_after};
+ghost use Rattle.am_player.specs.Statuses.{reads_after, writes_after};
+ghost use Rattle.am_sim.specs.Simulation.{form_of_words};
 ghost use Rattle.am_sim.specs.Speaking.{node_in, status_of, Spoken};
 
-use crate::status::Status;
 use am_io::outside::{Sink, Source};
 use am_lines::ending::SpokenEnd;
 use am_lines::speaking::speak;
+use am_player::status::Status;
 use am_words::form::{Form, form_of};
 use am_words::node::NodeWords;
 use std::alloc::Global;

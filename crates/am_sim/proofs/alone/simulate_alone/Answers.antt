@@ -4,7 +4,8 @@ use Rattle.am_io.specs.Outside.{ReadToEnd, GaveAtMost}
 use Rattle.am_words.specs.declared.form.Form.{Form}
 use Rattle.am_words.specs.declared.form.Form.TheVariants as form
 use Rattle.am_script.specs.Scripts.{reading}
-use Rattle.am_sim.specs.Simulation.{form_of_words, most_of, key_for, IsAnswerAlone, IfBadScript, OnDone, OnWriteFault, WrotePart}
+use Rattle.am_player.specs.Statuses.{IfBadScript, OnDone, OnWriteFault, WrotePart}
+use Rattle.am_sim.specs.Simulation.{form_of_words, most_of, key_for, IsAnswerAlone}
 use Rattle.am_sim.proofs.alone.simulate_alone.Goals as goal
 
 pub returns-in-Some-Play-clause-bad_script : goal.returns-in-Some-Play-clause-bad_script

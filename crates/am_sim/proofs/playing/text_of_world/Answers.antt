@@ -8,18 +8,14 @@ use Rattle.am_sim.proofs.playing.text_of_world.Goals as goal
 pub returns-in-Text : goal.returns-in-Text
 returns-in-Text c =
     let p = c.args.world.now in
-    let j = c.journal-journal in
-    IfOk-weaker c.play_text.result _ _ (λ text is. world_text p (string_bytes text) j.result.now.founding j.result.now.records c.group.result.now
-    c.as_slice-names.result.now c.broken_at-broken.result j.ensures.founding j.ensures.records c.group.ensures.value
-    (c.as_slice-names.ensures.value ∙ c.in_ok-each.ensures) c.broken_at-broken.ensures is
-    ∙ ap (λ shown. shown_text shown p.rules (watch_run p.rules p.events)) (sym c.in-Text.is)) c.play_text.ensures
+    IfOk-weaker c.text_of.result _ _ (λ text is. world_text p (string_bytes text) is
+    ∙ ap (λ shown. shown_text shown p.rules (watch_run p.rules p.events)) (sym c.in-Text.is)) c.text_of.ensures
 
 pub returns-in-Messages : goal.returns-in-Messages
 returns-in-Messages c =
     let p = c.args.world.now in
-    IfOk-weaker c.messages_text.result _ _ (λ text is. world_messages p (string_bytes text) c.records.result.now c.as_slice-names.result.now
-    c.broken_at-broken.result (c.records.ensures.value ∙ c.journal-journal.ensures.records)
-    (c.as_slice-names.ensures.value ∙ c.in_ok-each.ensures) c.broken_at-broken.ensures is
+    IfOk-weaker c.messages_text.result _ _ (λ text is. world_messages p (string_bytes text) c.records.result.now c.args.names.now
+    c.broken_at-broken.result (c.records.ensures.value ∙ c.journal-journal.ensures.records) c.requires c.broken_at-broken.ensures is
     ∙ ap (λ shown. shown_text shown p.rules (watch_run p.rules p.events)) (sym c.in-Messages.is)) c.messages_text.ensures
 
 pub returns-in-Directories : goal.returns-in-Directories
@@ -27,15 +23,13 @@ returns-in-Directories c =
     let p = c.args.world.now in
     let j = c.journal-journal in
     IfOk-weaker c.directories_text.result _ _ (λ text is. world_directories p (string_bytes text) j.result.now.founding j.result.now.records
-    c.as_slice-names.result.now c.broken_at-broken.result j.ensures.founding j.ensures.records
-    (c.as_slice-names.ensures.value ∙ c.in_ok-each.ensures) c.broken_at-broken.ensures is
+    c.args.names.now c.broken_at-broken.result j.ensures.founding j.ensures.records c.requires c.broken_at-broken.ensures is
     ∙ ap (λ shown. shown_text shown p.rules (watch_run p.rules p.events)) (sym c.in-Directories.is)) c.directories_text.ensures
 
-pub returns : goal.returns
-returns c =
+pub returns-in-Snapshots : goal.returns-in-Snapshots
+returns-in-Snapshots c =
     let p = c.args.world.now in
     let j = c.journal-journal in
     IfOk-weaker c.snapshots_text.result _ _ (λ text is. world_snapshots p (string_bytes text) j.result.now.founding j.result.now.records
-    c.as_slice-names.result.now c.broken_at-broken.result j.ensures.founding j.ensures.records
-    (c.as_slice-names.ensures.value ∙ c.in_ok-each.ensures) c.broken_at-broken.ensures is
+    c.args.names.now c.broken_at-broken.result j.ensures.founding j.ensures.records c.requires c.broken_at-broken.ensures is
     ∙ ap (λ shown. shown_text shown p.rules (watch_run p.rules p.events)) (sym c.in-Snapshots.is)) c.snapshots_text.ensures

@@ -1,6 +1,7 @@
 use Rattle.std.specs.Io.KnownBytes.{Appends}
-use Rattle.am_sim.specs.Simulation.{Raced, WrotePart}
-use Rattle.am_sim.proofs.Answered.{gave_whole, written_of}
+use Rattle.am_player.specs.Statuses.{WrotePart}
+use Rattle.am_player.proofs.Given.{gave_whole, written_of}
+use Rattle.am_sim.specs.Simulation.{Raced}
 use Rattle.am_sim.proofs.simulate.race_script.Goals as goal
 
 pub returns-in-Ok-write_all-clause-done : goal.returns-in-Ok-write_all-clause-done

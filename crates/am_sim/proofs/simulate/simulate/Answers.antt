@@ -5,7 +5,8 @@ use Rattle.am_words.specs.declared.form.Form.{Form}
 use Rattle.am_words.specs.declared.form.Form.TheVariants as form
 use Rattle.am_words.specs.Forms.{Generates}
 use Rattle.am_script.specs.Scripts.{reading}
-use Rattle.am_sim.specs.Simulation.{form_of_words, most_of, Reads, key_for, IsAnswer, IfBadScript, OnDone, OnWriteFault, WrotePart}
+use Rattle.am_player.specs.Statuses.{IfBadScript, OnDone, OnWriteFault, WrotePart}
+use Rattle.am_sim.specs.Simulation.{form_of_words, most_of, Reads, key_for, IsAnswer}
 use Rattle.am_sim.proofs.simulate.simulate.Given.{Over}
 use Rattle.am_sim.proofs.simulate.simulate.Goals as goal
 

@@ -1,5 +1,5 @@
 use Rattle.std.proofs.Common.{ap, sym, ◌∙◌}
-use Rattle.am_sim.specs.Simulation.{reads_after, writes_after}
+use Rattle.am_player.specs.Statuses.{reads_after, writes_after}
 use Rattle.am_sim.proofs.Spoken.{reads_same, writes_same}
 use Rattle.am_sim.proofs.speaking.speak_node.Goals as goal
 

@@ -1,11 +1,12 @@
 ghost use Rattle.std.specs.Prelude.{◌≡◌, ◌≤◌, ◌++◌, codes, decimal, length};
 ghost use Rattle.am_script.specs.Refusals as refusals;
-ghost use Rattle.am_sim.specs.Telling.{line_of, bad_script_line, bad_text_line};
+ghost use Rattle.am_player.specs.Telling.{line_of, bad_script_line, bad_text_line};
 
 use crate::status::Status;
 use am_script::refusal::ScriptRefusal;
 use arrayvec::ArrayString;
 use itoa::Buffer;
+use std::io;
 
 /// A line that tells of a status.
 pub type Line = ArrayString<160>;
@@ -61,4 +62,13 @@ pub fn line_of(status: Status) -> Line
         Status::BadText { line } => bad_text_line(line),
         Status::Disagrees => ArrayString::new(),
     }
+}
+
+/// Tells of a status on standard error, but of Done and Disagrees, whose lines are empty.
+pub fn tell(rt: &impl Eprint, status: Status) -> io::Result<()> {
+    let line = line_of(status);
+    if line.is_empty() {
+        return Ok(());
+    }
+    eprintln!(rt; "{line}")
 }

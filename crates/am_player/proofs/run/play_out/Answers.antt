@@ -4,8 +4,8 @@ use Rattle.am_base.specs.Most.{most_events}
 use Rattle.am_world.specs.Runs.{Play, replay}
 use Rattle.am_play.specs.Settle.{settle_events}
 use Rattle.am_settle.proofs.Going.{stuck_long}
-use Rattle.am_sim.proofs.Done.{does_events, does_settling}
-use Rattle.am_sim.proofs.playing.play_out.Goals as goal
+use Rattle.am_player.proofs.Done.{does_events, does_settling}
+use Rattle.am_player.proofs.run.play_out.Goals as goal
 
 pub returns-in_err-do_events-clause-err : goal.returns-in_err-do_events-clause-err
 returns-in_err-do_events-clause-err c =

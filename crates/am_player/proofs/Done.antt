@@ -5,7 +5,7 @@ use Rattle.am_base.specs.Founding.{Rules}
 use Rattle.am_group.specs.declared.event.Event.{Event}
 use Rattle.am_play.specs.World.{run}
 use Rattle.am_play.specs.Settle.{settle_events}
-use Rattle.am_sim.specs.Playing.{done_of}
+use Rattle.am_player.specs.Runs.{done_of}
 
 -- its own at least
 pub does_events : (rules : Rules) (events : List Event) (settles : Bool) → length events ≤ length (done_of rules events settles)

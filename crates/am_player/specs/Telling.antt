@@ -2,8 +2,8 @@
 use Rattle.std.specs.Prelude.{ℕ, List, [], ◌++◌, codes, decimal}
 use Rattle.am_script.specs.declared.refusal.ScriptRefusal.{ScriptRefusal}
 use Rattle.am_script.specs.Refusals.{number_of, place_of}
-use Rattle.am_sim.specs.declared.status.Status.{Status}
-use Rattle.am_sim.specs.declared.status.Status.TheVariants.{Done, Usage, BadScript, TooLong, ReadFault, WriteFault, NoMemory, Spent, BadText, Disagrees}
+use Rattle.am_player.specs.declared.status.Status.{Status}
+use Rattle.am_player.specs.declared.status.Status.TheVariants.{Done, Usage, BadScript, TooLong, ReadFault, WriteFault, NoMemory, Spent, BadText, Disagrees}
 
 abbrev pub bad_script_line : ScriptRefusal → List ℕ
 bad_script_line cause = codes "bad script " ++ decimal (number_of cause) ++ codes " at " ++ decimal (place_of cause)

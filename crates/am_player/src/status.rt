@@ -27,7 +27,7 @@ pub enum Status {
 
 impl Status {
     ghost use Rattle.std.specs.Prelude.{◌≡◌};
-    ghost use Rattle.am_sim.specs.Simulation.{number_of};
+    ghost use Rattle.am_player.specs.Statuses.{number_of};
 
     /// Its number, which a process ends with: 0 to 9.
     pub fn number(self) -> u8

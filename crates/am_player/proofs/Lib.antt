@@ -1,0 +1,5 @@
+mod Done
+mod Names
+pub mod Given
+pub mod Played
+pub mod Texts

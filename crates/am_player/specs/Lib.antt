@@ -1,0 +1,4 @@
+pub mod Plays
+pub mod Runs
+pub mod Statuses
+pub mod Telling

@@ -1,0 +1,66 @@
+-- The statuses that a call ends with: their numbers, and what holds of the source and the sink at each.
+use Rattle.std.specs.Prelude.{ℕ, List, take, Option}
+use Rattle.std.specs.Io.KnownBytes.{Appends}
+use Rattle.am_io.specs.Outside.{next}
+use Rattle.am_script.specs.declared.refusal.ScriptRefusal.{ScriptRefusal}
+use Rattle.am_player.specs.declared.status.Status.{Status}
+use Rattle.am_player.specs.declared.status.Status.TheVariants.{Done, Usage, BadScript, TooLong, ReadFault, WriteFault, NoMemory, Spent, BadText, Disagrees}
+
+-- the most bytes of an input
+abbrev pub most_input : ℕ
+most_input = 16777216
+
+-- the numbers of the statuses
+abbrev pub number_of : Status → ℕ
+number_of Done = 0
+number_of Usage = 1
+number_of (BadScript cause) = 2
+number_of TooLong = 3
+number_of ReadFault = 4
+number_of WriteFault = 5
+number_of NoMemory = 6
+number_of Spent = 7
+number_of (BadText line) = 8
+number_of Disagrees = 9
+
+-- the statuses that come with writing
+abbrev pub Writes : Status → Type 0
+Writes Done = Unit {0}
+Writes WriteFault = Unit {0}
+Writes Disagrees = Unit {0}
+Writes _ = ⊥
+
+-- the statuses that come of an audit alone
+abbrev pub IsOfAudit : Status → Type 0
+IsOfAudit (BadText line) = Unit {0}
+IsOfAudit Disagrees = Unit {0}
+IsOfAudit _ = ⊥
+
+-- what holds where all was done and written
+abbrev pub OnDone : Status → Type 0 → Type 0
+OnDone Done claim = claim
+OnDone Disagrees claim = claim
+OnDone _ claim = Unit {0}
+
+-- what holds where a write failed
+abbrev pub OnWriteFault : Status → Type 0 → Type 0
+OnWriteFault WriteFault claim = claim
+OnWriteFault _ claim = Unit {0}
+
+-- what holds of the cause where the input is no script
+abbrev pub IfBadScript : Status → (ScriptRefusal → Type 0) → Type 0
+IfBadScript (BadScript cause) claim = claim cause
+IfBadScript _ claim = Unit {0}
+
+-- a beginning of the text was appended
+abbrev pub WrotePart : Option (List ℕ) → Option (List ℕ) → List ℕ → Type 0
+WrotePart before after text = (count : ℕ) × Appends before after (take count text)
+
+-- how a call counts the faults of its source and of its sink
+abbrev pub reads_after : Status → ℕ → ℕ
+reads_after ReadFault before = next before
+reads_after _ before = before
+
+abbrev pub writes_after : Status → ℕ → ℕ
+writes_after WriteFault before = next before
+writes_after _ before = before

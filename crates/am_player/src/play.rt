@@ -1,0 +1,129 @@
+ghost use Rattle.std.specs.Prelude.{◌≡◌, ◌≢◌, ℕ, List, Err, IfOk, IfErr, string_bytes};
+ghost use Rattle.std.specs.Io.KnownBytes.{Appends};
+ghost use Rattle.am_io.specs.Outside.{ReadToEnd, GaveMore, GaveAtMost};
+ghost use Rattle.am_script.specs.declared.key.Key.TheVariants as key;
+ghost use Rattle.am_script.specs.Scripts.{IsOfKind, reading};
+ghost use Rattle.am_player.specs.Plays.{PlayedBy, IsPlayedBy, IsSpent, IsText, IsUnrun, IsUnplayed, unplayed_for};
+ghost use Rattle.am_player.specs.Statuses.{most_input, OnDone, OnWriteFault, IfBadScript, IsOfAudit, Writes, WrotePart, reads_after, writes_after};
+
+use crate::run::text_of_run;
+use crate::shows::Shows;
+use crate::status::Status;
+use am_io::outside::{Sink, Source};
+use am_io::whole::{ReadRefusal, read_all, write_all};
+use am_script::key::Key;
+use am_script::read::read_script;
+use am_script::refusal::ScriptRefusal;
+use am_script::script::Script;
+use am_world::world::WorldRefusal;
+use std::alloc::Global;
+
+/// The most bytes of an input that is no message.
+pub const INPUT_MOST: u32 = 16_777_216;
+
+/// Reads a script of at most 16,777,216 bytes to its end, runs it, and writes what is shown of its run. On every status but Done and
+/// WriteFault nothing is written.
+#[tactic(auto, using(crate::proofs::Given::gave_whole))]
+pub fn play<T: Shows, S: Source, K: Sink>(
+    alloc: Global,
+    shows: &T,
+    source: &mut S,
+    sink: &mut K,
+) -> Status
+    ensures not_usage { result ≢ Status.Usage }
+    ensures not_of_audit { IsOfAudit result → ⊥ }
+    ensures reads { S.count source.new ≡ reads_after result (S.count source.old) }
+    ensures writes { K.count sink.new ≡ writes_after result (K.count sink.old) }
+    ensures too_long { result ≡ Status.TooLong
+        → GaveMore most_input (S.left source.old) (S.left source.new) }
+    ensures within { result ≢ Status.TooLong
+        → GaveAtMost most_input (S.left source.old) (S.left source.new) }
+    ensures bad_script { IfBadScript result (λ cause. (bytes : List ℕ)
+        × ReadToEnd (S.left source.old) (S.left source.new) bytes
+        × (reading key.Play bytes ≡ Err cause)) }
+    ensures spent { result ≡ Status.Spent → (bytes : List ℕ)
+        × ReadToEnd (S.left source.old) (S.left source.new) bytes × IsSpent bytes }
+    ensures part { OnWriteFault result ((text : List ℕ)
+        × IsPlayedBy (T.text shows.now) (S.left source.old) (S.left source.new) text
+        × WrotePart (K.contents sink.old) (K.contents sink.new) text) }
+    ensures done { OnDone result ((text : List ℕ)
+        × IsPlayedBy (T.text shows.now) (S.left source.old) (S.left source.new) text
+        × Appends (K.contents sink.old) (K.contents sink.new) text) }
+    ensures unwritten { (Writes result → ⊥) → sink.new ≡ sink.old }
+{
+    let bytes = match read_all(alloc, source, INPUT_MOST) {
+        Ok(bytes) => bytes,
+        Err(ReadRefusal::Fault) => return Status::ReadFault,
+        Err(ReadRefusal::TooLong) => return Status::TooLong,
+        Err(ReadRefusal::NoMemory) => return Status::NoMemory,
+    };
+    let text = match answer(alloc, shows, bytes.as_slice()) {
+        Ok(text) => text,
+        Err(Unplayed::BadScript(cause)) => return Status::BadScript(cause),
+        Err(Unplayed::Spent) => return Status::Spent,
+        Err(Unplayed::NoMemory) => return Status::NoMemory,
+    };
+    match write_all(sink, text.as_bytes()) {
+        Ok(()) => Status::Done,
+        Err(_) => Status::WriteFault,
+    }
+}
+
+/// Why there is no text of a script's run.
+#[derive(Clone, Copy)]
+enum Unplayed {
+    BadScript(ScriptRefusal),
+    Spent,
+    NoMemory,
+}
+
+impl From<WorldRefusal> for Unplayed {
+    ghost from_gives = { λ refusal e. e ≡ unplayed_for refusal };
+
+    fn from(refusal: WorldRefusal) -> Unplayed {
+        match refusal {
+            WorldRefusal::NoMemory => Unplayed::NoMemory,
+            WorldRefusal::Spent => Unplayed::Spent,
+        }
+    }
+}
+
+/// What is shown of a play's run.
+fn text_of_script<T: Shows>(alloc: Global, shows: &T, script: &Script) -> Result<String, Unplayed>
+    requires { IsOfKind key.Play script.now }
+    ensures text { IfOk result (λ bytes. IsText (T.text shows.now) script.now
+        (string_bytes bytes)) }
+    ensures unrun { IfErr result (λ e. IsUnrun script.now e) }
+{
+    match script {
+        Script::Play {
+            founding,
+            events,
+            settle,
+        } => {
+            let text = text_of_run(alloc, shows, founding, events.as_slice(), *settle)?;
+            Ok(text)
+        }
+        Script::Race(_) => unreachable!(),
+    }
+}
+
+/// What is shown of the run of a script's bytes.
+#[tactic(auto, using(crate::proofs::Played::played_by))]
+fn answer<T: Shows>(alloc: Global, shows: &T, bytes: &[u8]) -> Result<String, Unplayed>
+    ensures played { IfOk result (λ text. PlayedBy (T.text shows.now) bytes.now
+        (string_bytes text)) }
+    ensures unplayed { IfErr result (λ e. IsUnplayed bytes.now e) }
+{
+    let script = match read_script(alloc, Key::Play, bytes) {
+        Ok(script) => script,
+        Err(cause) => {
+            if cause == ScriptRefusal::NoMemory {
+                return Err(Unplayed::NoMemory);
+            }
+            return Err(Unplayed::BadScript(cause));
+        }
+    };
+    let text = text_of_script(alloc, shows, &script)?;
+    Ok(text)
+}
