@@ -430,7 +430,7 @@ def main():
     if word not in (None, *SCRIPTS, "audit"):
         sys.exit(f"{word} isn't play, race or audit")
     if not pathlib.Path(program).is_file():
-        sys.exit(f"there is no program {program}: ./muoswyld play builds it")
+        sys.exit(f"there is no program {program}: ./muoswyld gen --seed 1 --count 1 builds it")
     data = sys.stdin.buffer.read()
     print(answer(Asked(program, word or word_of(data)), data))
 

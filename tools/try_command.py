@@ -84,9 +84,10 @@ def main() -> int:
     source = pathlib.Path(words(__doc__, 1, 1)[0])
     with tempfile.TemporaryDirectory() as folder:
         top = pathlib.Path(folder)
-        (top / "crates" / "am_sim").mkdir(parents=True)
+        for name in ("am_play_only", "am_sim"):
+            (top / "crates" / name).mkdir(parents=True)
         (top / "tools").mkdir()
-        (top / "crates.txt").write_text("am_sim:\n")
+        (top / "crates.txt").write_text("am_play_only:\nam_sim:\n")
         shutil.copy(source / "muoswyld", top)
         shutil.copy(source / "tools" / "prove.bash", top / "tools")
         wrong = list(faults(top))
