@@ -1,8 +1,13 @@
 -- Generated runs, event by event.
 use Rattle.am_pump.proofs.Words.{◌≡◌, ℕ, zero, suc, ◌+◌, ◌≤◌, ◌==◌, [], ◌∷◌, length, ◌&&◌, refl, ap, ◌∙◌, arith, length-append, count_by-le-length, Rules}
-use Rattle.am_pump.proofs.Words.{Lcg, Act, World, is_sent, event_at, Play, after, draw, after_draw, GeneratedRun, generated_rules, sent_by, first_drive}
-use Rattle.am_pump.proofs.Words.{turn_of, act_at, after_turn, do_turn, drive_once, drive, events_of_seed, Turn}
+use Rattle.am_pump.proofs.Words.{World, is_sent, Play, after, GeneratedRun, generated_rules, sent_by, first_drive}
+use Rattle.am_pump.proofs.Words.{after_turn, drive_once, drive, events_of_seed, Turn}
+use Rattle.am_pump.proofs.Words.{◌++◌, sym, subst, Event, Choice, IsDriven, IsCalm, drawn, next_place, next_turn, next_event}
+use Rattle.am_chooser.specs.declared.chooser.Choice.TheVariants as choice
+use Rattle.am_chooser.specs.Choices.{act_of}
+use Rattle.am_pump.specs.declared.generator.Generator.{Generator}
 use Rattle.am_pump.specs.declared.generator.Turn.TheVariants as turn
+use Rattle.am_pump.specs.Generating.{act_at, choice_at}
 
 -- ---- how often a place was told that a send of its own stands in the list
 
@@ -18,29 +23,6 @@ turned_play d place turn.Done = refl
 turned_play d place turn.Take = refl
 turned_play d place turn.Tick = refl
 turned_play d place turn.Choose = refl
-
--- two words are drawn
-pub drawn_twice : {d inside : GeneratedRun} {first second : Lcg} → inside ≡ d → first ≡ after_draw inside.words → second ≡ after_draw first
-    → record inside { words = second } ≡ record d { words = after_draw (after_draw d.words) }
-drawn_twice {d} {inside} {first} {second} same one two =
-    ap (λ (w : Lcg). record inside { words = w }) (two ∙ ap after_draw one)
-    ∙ ap (λ (x : GeneratedRun). record x { words = after_draw (after_draw x.words) }) same
-
--- all is drawn, a place turns, and its act happens
-pub step_is : (d mid next new : GeneratedRun) (place : ℕ) (t : Turn) (a : Act) → mid ≡ record d { words = after_draw (after_draw d.words) }
-    → place ≡ draw d.words 4 → t ≡ turn_of (draw (after_draw d.words) 16)
-    → a ≡ act_at mid place t → next ≡ after_turn mid place t → new ≡ record next { play = after next.play (event_at place a) } → new ≡ drive_once d
-unfolding drive_once
-step_is d mid next new place t a words at turns acts goes is =
-    let done : Play → GeneratedRun = λ p. record (after_turn mid place t) { play = after p (event_at place (act_at mid place t)) } in
-    is
-    ∙ (λ k. record (goes k) { play = after (goes k).play (event_at place (acts k)) })
-    ∙ ap done (turned_play mid place t)
-    ∙ (λ k. do_turn (words k) (at k) (turns k))
-
-pub same_play : (d mid next : GeneratedRun) (place : ℕ) (t : Turn) → mid ≡ record d { words = after_draw (after_draw d.words) } → next ≡ after_turn mid place t
-    → next.play ≡ d.play
-same_play d mid next place t words goes = ap (λ x. x.play) goes ∙ turned_play mid place t ∙ ap (λ x. x.play) words
 
 -- ---- how many events there are
 
@@ -70,3 +52,42 @@ drive_next count d = let next : count + 1 ≡ suc count = omega arith in ap (λ 
 pub play_is : (seed count : ℕ) → (drive count (first_drive seed)).play ≡ record { rules = generated_rules; events = events_of_seed seed count }
 unfolding events_of_seed
 play_is seed count = ap (λ (r : Rules). record { rules = r; events = (drive count (first_drive seed)).play.events }) (same_rules count (first_drive seed))
+
+pub many_events : (seed count : ℕ) → length (events_of_seed seed count) ≡ count
+unfolding events_of_seed
+many_events seed count = let all = so_many count (first_drive seed) in omega arith
+
+-- ---- what is drawn happens
+
+chosen_calm : (c : Choice) → IsCalm (act_of c)
+chosen_calm choice.Tick = tt
+chosen_calm (choice.Lose number) = tt
+chosen_calm (choice.Hear number) = tt
+chosen_calm (choice.Repeat number) = tt
+
+turn_calm : (d : GeneratedRun) (place : ℕ) (t : Turn) → IsCalm (act_at d place t)
+unfolding act_at
+turn_calm d place turn.Send = tt
+turn_calm d place turn.Done = tt
+turn_calm d place turn.Take = tt
+turn_calm d place turn.Tick = tt
+turn_calm d place turn.Choose = chosen_calm (choice_at d place)
+
+pub next_calm : (d : GeneratedRun) (e : Event) → e ≡ next_event d → IsCalm e.act
+next_calm d e is = subst (λ (x : Event). IsCalm x.act) (sym is) (turn_calm (drawn d) (next_place d) (next_turn d))
+
+-- what is drawn for the next event
+abbrev pub drawn_for : GeneratedRun → GeneratedRun
+drawn_for d = after_turn (drawn d) (next_place d) (next_turn d)
+
+pub drawn_play : (d : GeneratedRun) → (drawn_for d).play ≡ d.play
+drawn_play d = turned_play (drawn d) (next_place d) (next_turn d)
+
+pub drove : (d : GeneratedRun) (g : Generator) (e : Event) → e ≡ next_event d → IsDriven (record (drawn_for d) { play = after (drawn_for d).play e }) g
+    → IsDriven (drive_once d) g
+unfolding drive_once
+drove d g e is h = subst (λ p. IsDriven (record (drawn_for d) { play = p }) g) (λ k. after (drawn_play d k) (is k)) h
+
+pub one_event : (d : GeneratedRun) → (drive_once d).play.events ≡ d.play.events ++ next_event d ∷ []
+unfolding drive_once
+one_event d = refl

@@ -1,18 +1,7 @@
 -- How often each place was told that a send of its own stands in the list, with one record more.
-use Rattle.am_pump.proofs.Words.{and-false, and-true, ◌≡◌, ◌≢◌, ℕ, ◌+◌, ◌-◌, ◌<◌, ◌==◌, Bool, true, false, ◌&&◌, List, [], ◌∷◌, ◌++◌, length, Some, cond}
-use Rattle.am_pump.proofs.Words.{sum_by, slice_get, slice_set, slice_index, refl, sym, ap, ◌∙◌, arith, nat_tests, length-append, length-set, get_or-set_same}
-use Rattle.am_pump.proofs.Words.{get_or-set_other, sum_by-append, bool_byte, is_sent, Record, World, AreSent, is_sent_in, ends_sent, sent_by}
-
--- the last of a list
-at_end : {A : Type 0} (xs : List A) (x : A) → slice_get (xs ++ x ∷ []) (length xs) ≡ Some x
-at_end [] x = refl
-at_end (y ∷ ys) x = at_end ys x
-
-last_is : (records : List Record) (r : Record) → ends_sent (records ++ r ∷ []) ≡ is_sent r.outcome
-last_is records r =
-    let more = length-append records (r ∷ []) in
-    let long : length (records ++ r ∷ []) - 1 ≡ length records = omega (arith, more) in
-    ap (λ k. is_sent_in (slice_get (records ++ r ∷ []) k)) long ∙ ap is_sent_in (at_end records r)
+use Rattle.am_pump.proofs.Words.{and-false, and-true, ◌≡◌, ◌≢◌, ℕ, ◌+◌, ◌<◌, ◌==◌, Bool, true, false, ◌&&◌, List, [], ◌∷◌, ◌++◌, cond}
+use Rattle.am_pump.proofs.Words.{sum_by, slice_set, slice_index, refl, sym, ap, ◌∙◌, arith, nat_tests, length-set, get_or-set_same}
+use Rattle.am_pump.proofs.Words.{get_or-set_other, sum_by-append, bool_byte, is_sent, Record, World, AreSent, sent_by}
 
 bit_of : (b : Bool) → 0 + cond b 1 0 ≡ bool_byte b
 bit_of true = refl
@@ -30,13 +19,11 @@ sent_push w v r place more =
 
 -- a place's count goes up where its own record tells it
 pub more_sent : (sent : List ℕ) (w v : World) (r : Record) (place b : ℕ) → AreSent sent w → place < 4 → v.records ≡ w.records ++ r ∷ []
-    → r.event.node ≡ place → b ≡ bool_byte (ends_sent v.records) → AreSent (slice_set sent place (sent_by w place + b)) v
-more_sent sent w v r place b h within more node told =
-    let bit : b ≡ bool_byte (is_sent r.outcome) = told ∙ ap (λ rs. bool_byte (ends_sent rs)) more ∙ ap bool_byte (last_is w.records r) in
-    record {
-      count = length-set sent place (sent_by w place + b) ∙ h.count;
-      each = λ k low. at k low bit (k == place) refl;
-    }
+    → r.event.node ≡ place → b ≡ bool_byte (is_sent r.outcome) → AreSent (slice_set sent place (sent_by w place + b)) v
+more_sent sent w v r place b h within more node bit = record {
+  count = length-set sent place (sent_by w place + b) ∙ h.count;
+  each = λ k low. at k low bit (k == place) refl;
+}
   where
     at : (k : ℕ) → k < 4 → b ≡ bool_byte (is_sent r.outcome) → (same : Bool) → (k == place) ≡ same
         → slice_index (slice_set sent place (sent_by w place + b)) k ≡ sent_by v k

@@ -12,7 +12,7 @@ pub use Rattle.am_base.specs.{Founding.Rules, Founding.MayFound, Outcomes.is_sen
 unfoldable pub use Rattle.am_base.specs.Names.{places_of}
 pub use Rattle.am_base.proofs.Greatest.{split}
 pub use Rattle.am_packet.specs.Boxes.{Letter}
-pub use Rattle.am_group.specs.{declared.event.Act.Act, Addressed.IsSeen, declared.event.Record.Record, Journals.letters_of}
+pub use Rattle.am_group.specs.{declared.event.Event.Event, declared.event.Act.Act, Addressed.IsSeen, declared.event.Record.Record, Journals.letters_of}
 unfoldable pub use Rattle.am_group.specs.Addressed.{next_for}
 pub use Rattle.am_group.proofs.Places.{letters_more}
 pub use Rattle.am_group.proofs.Seen.{seen_more, seen_to, seen_all, few}
@@ -21,8 +21,10 @@ pub use Rattle.am_world.specs.Runs.{Play, after, replay}
 pub use Rattle.am_chooser.specs.{Choices.draw, Choices.after_draw, Choices.Luck, Choices.choice_of, Choices.again, Choices.progress_after}
 pub use Rattle.am_chooser.specs.{declared.chooser.Choice.Choice, declared.progress.Progress.Progress}
 pub use Rattle.rand_pcg.specs.Lcg.{Lcg}
-pub use Rattle.am_pump.specs.{declared.generator.Turn.Turn, Counts.AreSeen, Counts.seen_after, Counts.AreSent, Counts.is_sent_in}
-pub use Rattle.am_pump.specs.{Counts.ends_sent}
+pub use Rattle.am_pump.specs.{declared.generator.Turn.Turn, Counts.AreSeen, Counts.seen_after, Counts.AreSent, Counts.IsDriven}
+pub use Rattle.am_pump.specs.{Counts.Turned, Counts.Drew, Generating.drawn, Generating.next_place, Generating.next_turn, Generating.next_event}
+pub use Rattle.am_world.specs.Courses.{IsCourse, IsCalm}
+pub use Rattle.am_base.specs.Most.{most_events}
 pub use Rattle.am_pump.specs.Generating.{most_drawn, counting, GeneratedRun, generated_rules, sent_by, first_drive, turn_of, act_at, do_turn, no_progress}
 pub use Rattle.am_pump.specs.Generating.{progress_at}
 unfoldable pub use Rattle.am_pump.specs.Generating.{after_turn, drive_once, drive, events_of_seed}

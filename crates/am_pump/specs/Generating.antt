@@ -98,8 +98,20 @@ abbrev pub do_turn : GeneratedRun → ℕ → Turn → GeneratedRun
 do_turn d place t = record (after_turn d place t) { play = after d.play (event_at place (act_at d place t)) }
 
 -- one event more: the first word says which place it is, and the second what it does
+abbrev pub drawn : GeneratedRun → GeneratedRun
+drawn d = record d { words = after_draw (after_draw d.words) }
+
+abbrev pub next_place : GeneratedRun → ℕ
+next_place d = draw d.words 4
+
+abbrev pub next_turn : GeneratedRun → Turn
+next_turn d = turn_of (draw (after_draw d.words) 16)
+
+abbrev pub next_event : GeneratedRun → Event
+next_event d = event_at (next_place d) (act_at (drawn d) (next_place d) (next_turn d))
+
 unfoldable pub drive_once : GeneratedRun → GeneratedRun
-drive_once d = do_turn (record d { words = after_draw (after_draw d.words) }) (draw d.words 4) (turn_of (draw (after_draw d.words) 16))
+drive_once d = do_turn (drawn d) (next_place d) (next_turn d)
 
 -- so many events more
 unfoldable pub drive : ℕ → GeneratedRun → GeneratedRun

@@ -1,23 +1,21 @@
-ghost use Rattle.std.specs.Prelude.{◌≡◌, ◌+◌, ◌<◌, ◌≤◌, IfOk};
+ghost use Rattle.std.specs.Prelude.{◌≡◌, ◌+◌, ◌<◌, ◌≤◌, length, IfOk};
 ghost use Rattle.am_base.specs.Most.{most_events};
 ghost use Rattle.am_chooser.specs.Choices.{draw, after_draw};
-ghost use Rattle.am_pump.specs.Counts.{ends_sent, seen_after};
-ghost use Rattle.am_pump.specs.Generating.{generated_rules, most_drawn, turn_of, counting};
+ghost use Rattle.am_pump.specs.Counts.{seen_after};
+ghost use Rattle.am_pump.specs.Generating.{most_drawn, turn_of, counting};
 
+use crate::generate::founding;
 use am_base::NoMemory;
 use am_base::body::SentBody;
-use am_base::founding::Founding;
 use am_base::name::Name;
-use am_base::names::Names;
-use am_base::outcome::Outcome;
 use am_chooser::chooser::{Choice, Chooser};
 use am_chooser::progress::Progress;
-use am_group::event::{Act, Event, Record};
-use am_world::world::{World, WorldRefusal};
+use am_group::event::{Act, Event};
+use am_world::course::{Course, is_sent};
+use am_world::world::WorldRefusal;
 use rand_pcg::Lcg64Xsh32;
 use rand_pcg::rand_core::utils::NextWord;
 use std::alloc::Global;
-use std::marker::Model;
 
 /// The most bytes of a body that is drawn.
 const MOST_DRAWN: usize = 512;
@@ -74,16 +72,6 @@ fn counting(alloc: Global, number: usize, size: usize) -> Result<SentBody, NoMem
     Ok(SentBody::of_bytes(alloc, &bytes[..size])?)
 }
 
-/// Whether the last of the records tells that a send stands in the list.
-fn ends_sent(records: &[Record]) -> bool
-    ensures { result ≡ ends_sent records.now }
-{
-    match records.last() {
-        Some(record) => matches!(record.outcome, Outcome::Sent { .. }),
-        None => false,
-    }
-}
-
 /// Up to which number a place has looked through the letters after a choice, where there are so many.
 fn seen_after(choice: Choice, seen: u32, many: u32) -> u32
     ensures { result ≡ seen_after choice seen many }
@@ -95,23 +83,12 @@ fn seen_after(choice: Choice, seen: u32, many: u32) -> u32
     }
 }
 
-/// Places 0 to 3 found the group of a generated run.
-#[tactic(auto, using(crate::proofs::Rules::may_found))]
-fn founding() -> Founding
-    ensures { result ≡ generated_rules }
-{
-    match Founding::new(Names::of_mask(15), 1, 16, 256) {
-        Some(founding) => founding,
-        None => unreachable!(),
-    }
-}
-
 /// A run that goes on by the words of a seed. Beside that it keeps how often each place was told that a send of its own
-/// stands in the list, and up to which letter it was looked whether one is for it.
+/// stands in the list, and up to which letter it was looked whether one is for it. Contracts say which run it is on.
 #[derive(Drop)]
 pub struct Generator {
     alloc: Global,
-    world: World,
+    course: Course,
     words: Lcg64Xsh32,
     chooser: Chooser,
     progress: [Progress; 4],
@@ -119,34 +96,23 @@ pub struct Generator {
     seen: [u32; 4],
 }
 
-impl Model for Generator {
-    ghost use Rattle.am_pump.specs.Generating.{GeneratedRun};
-    ghost use Rattle.am_pump.specs.Counts.{AreCounts};
-    ghost use Rattle.am_world.specs.Runs.{replay};
-
-    ghost Value = { GeneratedRun };
-
-    ghost view = { λ g. record { play = g.world; words = g.words; luck = g.chooser; progress = g.progress } };
-
-    ghost invariant = { λ g. AreCounts g.sent g.seen g.progress (replay g.world) };
-}
-
 impl Generator {
-    ghost use Rattle.std.specs.Prelude.{OnOk, OnErr, IfOk, IfErr, length};
-    ghost use Rattle.am_play.specs.Settle.{event_at};
+    ghost use Rattle.std.specs.Prelude.{OnOk, IfErr};
     ghost use Rattle.am_group.specs.Addressed.{next_for};
-    ghost use Rattle.am_pump.specs.Generating.{first_drive, progress_at, act_at, sent_by, after_turn, drive_once};
     ghost use Rattle.am_world.specs.Runs.{after, replay};
+    ghost use Rattle.am_world.specs.Courses.{IsCalm, IsCourse, events_done};
+    ghost use Rattle.am_pump.specs.Generating.{GeneratedRun, first_drive, progress_at, sent_by, drive_once};
+    ghost use Rattle.am_pump.specs.Counts.{IsDriven, Turned, Drew};
     ghost use Rattle.am_world.specs.declared.world.WorldRefusal.TheVariants as refusals;
 
-    /// The run of a seed, to which nothing has happened, with room for so many events.
-    pub fn new(alloc: Global, seed: u64, count: u32) -> Result<Generator, NoMemory>
-        ensures { IfOk result (λ g. g ≡ first_drive seed) }
+    /// The run of a seed, to which nothing has happened.
+    pub fn new(alloc: Global, seed: u64) -> Result<Generator, NoMemory>
+        ensures { IfOk result (IsDriven (first_drive seed)) }
     {
-        let world = World::with_room(alloc, &founding(), count as usize)?;
+        let course = Course::new(alloc, &founding())?;
         Ok(Generator {
             alloc,
-            world,
+            course,
             words: Lcg64Xsh32::new(seed, 1000),
             chooser: Chooser::new(seed, 1001, 10, 5),
             progress: [Progress::new(); 4],
@@ -156,60 +122,59 @@ impl Generator {
     }
 
     /// How often a place was told that a send of its own stands in the list.
-    #[tactic(auto, using(crate::proofs::Drives::few_sent))]
     fn sent_by(&self, place: u8) -> u32
-        requires { place < 4 }
-        ensures value { result ≡ sent_by (replay self.now.play) place }
+        requires place { place < 4 }
+        requires driven { (d : GeneratedRun) × IsDriven d self.now }
+        ensures value { (d : GeneratedRun) → IsDriven d self.now → result ≡ sent_by (replay d.play) place }
         ensures few { result ≤ most_events }
     {
-        let _few = self.world.journal().records().len();
         self.sent[usize::from(place)]
     }
 
     /// The least letter above a place's cursor that is for it. It is looked for above what was looked through.
     fn ahead(&self, place: u8) -> Option<u32>
-        requires { place < 4 }
-        ensures { result ≡ next_for (replay self.now.play).letters place
-            (progress_at self.now place).cursor }
+        requires place { place < 4 }
+        requires driven { (d : GeneratedRun) × IsDriven d self.now }
+        ensures { (d : GeneratedRun) → IsDriven d self.now → result
+            ≡ next_for (replay d.play).letters place (progress_at d place).cursor }
     {
         let seen = self.seen[usize::from(place)];
-        self.world.journal().next_for(Name::of_byte(place), seen)
+        self.course.next_for(Name::of_byte(place), seen)
     }
 
     /// What the chooser says for a place.
-    #[tactic(auto, unfolding(crate::specs::Generating::act_at, crate::specs::Generating::after_turn))]
     fn choose(&mut self, place: u8) -> Act
-        requires { place < 4 }
-        ensures act { result ≡ act_at self.old place Turn.Choose }
-        ensures turned { self.new ≡ after_turn self.old place Turn.Choose }
+        requires place { place < 4 }
+        requires driven { (d : GeneratedRun) × IsDriven d self.old }
+        ensures { (d : GeneratedRun) → IsDriven d self.old
+            → Turned d place Turn.Choose self.new result }
     {
         let at = usize::from(place);
         let progress = self.progress[at];
         let ahead = self.ahead(place);
+        let many = self.course.packets() as u32;
         let choice = self.chooser.choose(ahead, progress.last);
         self.progress[at] = progress.after(choice);
-        self.seen[at] = seen_after(choice, self.seen[at], self.world.journal().packets());
+        self.seen[at] = seen_after(choice, self.seen[at], many);
         choice.act()
     }
 
     /// A place sends a body of a drawn size.
-    #[tactic(auto, unfolding(crate::specs::Generating::act_at, crate::specs::Generating::after_turn))]
     fn send(&mut self, place: u8) -> Result<Act, NoMemory>
-        ensures act { IfOk result (λ a. a ≡ act_at self.old place Turn.Send) }
-        ensures turned { self.new ≡ after_turn self.old place Turn.Send }
+        requires driven { (d : GeneratedRun) × IsDriven d self.old }
+        ensures { (d : GeneratedRun) → IsDriven d self.old
+            → IfOk result (Turned d place Turn.Send self.new) }
     {
-        let number = self.world.journal().records().len() + 1;
+        let number = self.course.counts().events as usize + 1;
         let size = draw(&mut self.words, MOST_DRAWN as u32 + 1) as usize;
         Ok(Act::Send(counting(self.alloc, number, size)?))
     }
 
     /// What a place does at its turn, where all is drawn that is to be drawn for it.
-    #[tactic(auto, unfolding(crate::specs::Generating::act_at, crate::specs::Generating::after_turn))]
     fn act(&mut self, place: u8, turn: Turn) -> Result<Act, NoMemory>
-        requires { place < 4 }
-        ensures act { IfOk result (λ a. a ≡ act_at self.old place turn) }
-        ensures turned { self.new ≡ after_turn self.old place turn }
-        ensures play { self.new.play ≡ self.old.play }
+        requires place { place < 4 }
+        requires driven { (d : GeneratedRun) × IsDriven d self.old }
+        ensures { (d : GeneratedRun) → IsDriven d self.old → IfOk result (Turned d place turn self.new) }
     {
         match turn {
             Turn::Send => self.send(place),
@@ -220,42 +185,39 @@ impl Generator {
         }
     }
 
-    /// A place does an act.
-    fn happen(&mut self, place: u8, act: Act) -> Result<(), WorldRefusal>
-        requires { place < 4 }
-        ensures ok { OnOk result (self.new
-            ≡ record self.old { play = after self.old.play (event_at place act) }) }
-        ensures err { OnErr result (self.new.play ≡ self.old.play) }
-        ensures spent { IfErr result (λ refusal. refusal ≡ refusals.Spent
-            → length self.old.play.events ≡ most_events) }
-    {
-        let sent = self.sent_by(place);
-        let node = Name::of_byte(place);
-        self.world.step(&Event { node, act })?;
-        let is_sent = ends_sent(self.world.journal().records());
-        self.sent[usize::from(place)] = sent + u32::from(is_sent);
-        Ok(())
-    }
-
-    /// Does the next event. After a refusal the group is as it was, but words may have been drawn, so that nothing more is to be
-    /// done: NoMemory where there is no memory for it, and Spent only where 100,000 events were done.
-    #[tactic(auto, unfolding(crate::specs::Generating::drive_once))]
-    pub fn step(&mut self) -> Result<(), WorldRefusal>
-        ensures ok { OnOk result (self.new ≡ drive_once self.old) }
-        ensures err { OnErr result (self.new.play ≡ self.old.play) }
-        ensures spent { IfErr result (λ refusal. refusal ≡ refusals.Spent
-            → length self.old.play.events ≡ most_events) }
+    /// Draws the next event, which is then to happen. It is an error where there is no memory for it; then words may have been drawn,
+    /// so that nothing more is to be done.
+    pub fn draw_event(&mut self) -> Result<Event, NoMemory>
+        requires driven { (d : GeneratedRun) × IsDriven d self.old }
+        ensures { (d : GeneratedRun) → IsDriven d self.old → IfOk result (Drew d self.new) }
     {
         let place = draw(&mut self.words, 4) as u8;
         let turn = turn_of(draw(&mut self.words, 16));
         let act = self.act(place, turn)?;
-        self.happen(place, act)
+        Ok(Event::at(place, act))
     }
 
-    /// The group, after all that was done.
-    pub fn into_world(self) -> World
-        ensures { result ≡ self.play }
+    /// An event happens. NoMemory where there is no memory for it, and Spent only where 100,000 events were done.
+    pub fn happen(&mut self, event: Event) -> Result<(), WorldRefusal>
+        requires place { event.node < 4 }
+        requires calm { IsCalm event.act }
+        requires driven { (d : GeneratedRun) × IsDriven d self.old }
+        ensures ok { (d : GeneratedRun) → IsDriven d self.old
+            → OnOk result (IsDriven (record d { play = after d.play event }) self.new) }
+        ensures spent { (d : GeneratedRun) → IsDriven d self.old → IfErr result (λ refusal. refusal
+            ≡ refusals.Spent → length d.play.events ≡ most_events) }
     {
-        self.world
+        let place = event.node.get();
+        let sent = self.sent_by(place);
+        let outcome = self.course.step(event)?;
+        self.sent[usize::from(place)] = sent + u32::from(is_sent(&outcome));
+        Ok(())
+    }
+
+    /// The course, after all that was done.
+    pub fn into_course(self) -> Course
+        ensures { (d : GeneratedRun) → IsDriven d self → IsCourse d.play result }
+    {
+        self.course
     }
 }

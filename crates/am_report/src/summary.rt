@@ -1,60 +1,28 @@
-ghost use Rattle.std.specs.Prelude.{◌≡◌, ◌++◌, OnOk, IfOk, count_by, string_bytes};
-ghost use Rattle.am_base.specs.Outcomes.{is_took, is_sent, is_held};
+ghost use Rattle.std.specs.Prelude.{◌≡◌, ◌++◌, OnOk, IfOk, string_bytes};
 ghost use Rattle.am_play.specs.Play.{count_line};
 ghost use Rattle.am_report.specs.Summaries.{summary_for};
 
 use crate::lines::push_mark;
 use am_base::NoMemory;
-use am_base::entry::Entry;
-use am_base::outcome::Outcome;
-use am_group::event::Record;
-use am_group::journal::Journal;
 use std::alloc::Global;
 
-fn is_took(item: &Record) -> bool
-    ensures { result ≡ is_took item.now.outcome }
-{
-    matches!(item.outcome, Outcome::Took { .. })
-}
-
-fn is_sent(item: &Record) -> bool
-    ensures { result ≡ is_sent item.now.outcome }
-{
-    matches!(item.outcome, Outcome::Sent { .. })
-}
-
-fn is_held(item: &Record) -> bool
-    ensures { result ≡ is_held item.now.outcome }
-{
-    matches!(item.outcome, Outcome::Held { .. })
-}
-
-/// How many events took, were sent and were held.
-#[derive(Clone, Copy)]
-struct Tally {
-    took: usize,
-    sent: usize,
-    held: usize,
-}
-
-// Counts what came of the events.
-fn counts(records: &[Record]) -> Tally
-    ensures took { result.took ≡ count_by (λ r. is_took r.outcome) records.now }
-    ensures sent { result.sent ≡ count_by (λ r. is_sent r.outcome) records.now }
-    ensures held { result.held ≡ count_by (λ r. is_held r.outcome) records.now }
-{
-    let mut counts = Tally {
-        took: 0,
-        sent: 0,
-        held: 0,
-    };
-    for at in 0..records.len() {
-        let item = &records[at];
-        counts.took += usize::from(is_took(item));
-        counts.sent += usize::from(is_sent(item));
-        counts.held += usize::from(is_held(item));
-    }
-    counts
+/// What a summary tells of a run (docs/PROTOCOL.md, "Play text").
+#[derive(Clone, Copy, PartialEq, Eq, Debug)]
+pub struct Summary {
+    /// How many events were done.
+    pub events: usize,
+    /// How many packets were sent.
+    pub packets: usize,
+    /// How many entries the group list has.
+    pub entries: usize,
+    /// How many events took an entry.
+    pub took: usize,
+    /// How many events told that a send stands in the list.
+    pub sent: usize,
+    /// How many events found no room.
+    pub held: usize,
+    /// Which event broke the run, if one did.
+    pub broken: Option<u32>,
 }
 
 // Adds a word and a number as a line.
@@ -65,27 +33,18 @@ fn push_count(out: &mut String, word: &str, count: usize) -> Result<(), NoMemory
     writeln!(out, "{word} {count}")
 }
 
-/// The summary of a run: how many events, packets and entries of the group list there are, how many events took, were sent
-/// and were held, and which event broke the run, if one did (docs/PROTOCOL.md, "Play text").
+/// A summary as text, a line for each number, and for whether the run is lawful.
 #[tactic(auto, unfolding(crate::specs::Summaries::summary_for))]
-pub fn summary_text(
-    alloc: Global,
-    journal: &Journal,
-    group: &[Entry],
-    broken: Option<u32>,
-) -> Result<String, NoMemory>
-    ensures { IfOk result (λ text. string_bytes text
-        ≡ summary_for journal.now.records group.now broken) }
+pub fn summary_text(alloc: Global, summary: &Summary) -> Result<String, NoMemory>
+    ensures { IfOk result (λ text. string_bytes text ≡ summary_for summary.now) }
 {
-    let records = journal.records();
     let mut out = String::new(alloc);
-    push_count(&mut out, "events", records.len())?;
-    push_count(&mut out, "packets", journal.packets() as usize)?;
-    push_count(&mut out, "entries", group.len())?;
-    let counts = counts(records);
-    push_count(&mut out, "took", counts.took)?;
-    push_count(&mut out, "sent", counts.sent)?;
-    push_count(&mut out, "held", counts.held)?;
-    push_mark(&mut out, broken)?;
+    push_count(&mut out, "events", summary.events)?;
+    push_count(&mut out, "packets", summary.packets)?;
+    push_count(&mut out, "entries", summary.entries)?;
+    push_count(&mut out, "took", summary.took)?;
+    push_count(&mut out, "sent", summary.sent)?;
+    push_count(&mut out, "held", summary.held)?;
+    push_mark(&mut out, summary.broken)?;
     Ok(out)
 }

@@ -1,6 +1,5 @@
 mod Answered
 mod Raced
-mod Scripts
 mod Spoken
 mod Texts
 pub mod Reread

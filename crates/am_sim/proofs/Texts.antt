@@ -1,20 +1,19 @@
 -- What is shown of a world, and its summary.
-use Rattle.std.proofs.Common.{◌≡◌, ℕ, List, ◌++◌, length, count_by, codes, Option, refl, sym, ap, ◌∙◌}
+use Rattle.std.proofs.Common.{◌≡◌, ℕ, List, length, Option, refl, sym, ap, ◌∙◌}
 use Rattle.am_base.specs.Founding.{Rules}
-use Rattle.am_base.specs.declared.entry.Entry.{Entry}
 use Rattle.am_group.specs.declared.event.Record.{Record}
 use Rattle.am_play.specs.World.{World}
 use Rattle.am_play.specs.Lawful.{watch_run, broken_at}
-use Rattle.am_play.specs.Text.{mark_line}
-use Rattle.am_base.specs.Outcomes.{is_took, is_sent, is_held}
-use Rattle.am_play.specs.Play.{watched_text, count_line, summary_text_of}
+use Rattle.am_play.specs.Play.{watched_text, summary_of, summary_text_of}
 use Rattle.am_services.specs.Texts.{messages_text, directories_text, snapshots_text}
 use Rattle.am_words.specs.declared.form.Shown.TheVariants as shown
 use Rattle.am_sim.specs.Playing.{shown_text}
-use Rattle.am_play.proofs.Runs.{watched_is_run}
-use Rattle.am_group.specs.Journals.{letters_of}
+use Rattle.am_play.proofs.Runs.{watched_is_run, one_record_each}
 use Rattle.am_report.specs.Logs.{logs_for}
+use Rattle.am_report.specs.declared.summary.Summary.{Summary}
 use Rattle.am_report.specs.Summaries.{summary_for}
+use Rattle.am_world.specs.declared.course.Course.{Course}
+use Rattle.am_world.specs.Courses.{IsCourse, letters_sent, entries_of}
 use Rattle.am_world.specs.Runs as worlds
 use Rattle.am_world.specs.Runs.{replay}
 use Rattle.am_player.specs.Runs.{logged_in}
@@ -50,26 +49,24 @@ world_snapshots p text founding records each broken rules recorded named mark is
 
 -- ---- a summary
 
-abbrev summary_with : List Record → ℕ → List Entry → Option ℕ → List ℕ
-summary_with records letters group broken =
-    count_line (codes "events") (length records)
-    ++ (count_line (codes "packets") letters
-    ++ (count_line (codes "entries") (length group)
-    ++ (count_line (codes "took") (count_by (λ r. is_took r.outcome) records)
-    ++ (count_line (codes "sent") (count_by (λ r. is_sent r.outcome) records)
-    ++ (count_line (codes "held") (count_by (λ r. is_held r.outcome) records)
-    ++ mark_line broken)))))
-
-summary_of_records : (records : List Record) (group : List Entry) (broken : Option ℕ)
-    → summary_for records group broken ≡ summary_with records (length (letters_of records)) group broken
+-- what is told of a course is what its run gives
+pub course_summary : (p : worlds.Play) (c : Course) (s : Summary) → IsCourse p c → s.events ≡ c.counts.events → s.packets ≡ length (letters_sent c)
+    → s.entries ≡ entries_of c → s.took ≡ c.counts.took → s.sent ≡ c.counts.sent → s.held ≡ c.counts.held → s.broken ≡ broken_at p.rules p.events
+    → summary_for s ≡ summary_text_of p.rules p.events
 unfolding summary_for
-summary_of_records records group broken = refl
-
-pub world_summary : (p : worlds.Play) (text : List ℕ) (records : List Record) (group : List Entry) (broken : Option ℕ)
-    → records ≡ (replay p).records → letters_of records ≡ (replay p).letters → group ≡ (replay p).group → broken ≡ broken_at p.rules p.events
-    → text ≡ summary_for records group broken → text ≡ summary_text_of p.rules p.events
-world_summary p text records group broken recorded sent agreed mark is =
-    is
-    ∙ summary_of_records records group broken
-    ∙ (λ k. summary_with (recorded k) (length (sent k)) (agreed k) (mark k))
-    ∙ ap (λ (w : World). summary_with w.records (length w.letters) w.group (broken_at p.rules p.events)) (sym (watched_is_run p.rules p.events))
+course_summary p c s is events packets entries took sent held broken =
+    let w = replay p in
+    let counted = is.counted in
+    let many : s.events ≡ length w.records = events ∙ counted.events ∙ sym (one_record_each p.rules p.events) in
+    let letters : s.packets ≡ length w.letters = packets ∙ ap length is.stands.sent in
+    let listed : s.entries ≡ length w.group = entries ∙ ap length is.stands.runs.shows.agreed in
+    (λ k. summary_for (record {
+      events = many k;
+      packets = letters k;
+      entries = listed k;
+      took = (took ∙ counted.took) k;
+      sent = (sent ∙ counted.sent) k;
+      held = (held ∙ counted.held) k;
+      broken = broken k;
+    }))
+    ∙ ap (λ (v : World). summary_of (record (watch_run p.rules p.events) { world = v })) (sym (watched_is_run p.rules p.events))

@@ -1,33 +1,52 @@
-ghost use Rattle.std.specs.Prelude.{◌≡◌, ◌≤◌, ℕ, List, IfOk, length, string_bytes};
+ghost use Rattle.std.specs.Prelude.{◌≡◌, ◌<◌, ◌≤◌, ℕ, List, Ok, IfOk, IfErr, string_bytes};
 ghost use Rattle.std.specs.Io.KnownBytes.{Appends};
 ghost use Rattle.am_base.specs.Most.{most_events};
-ghost use Rattle.am_pump.specs.Generating.{generated_rules, events_of_seed};
+ghost use Rattle.am_play.specs.Play.{summary_text_of};
+ghost use Rattle.am_report.specs.Summaries.{summary_for};
+ghost use Rattle.am_world.specs.Courses.{IsCourse};
+ghost use Rattle.am_world.specs.Runs.{Play};
+ghost use Rattle.am_world.specs.declared.world.WorldRefusal.TheVariants as refusals;
 ghost use Rattle.am_player.specs.Statuses.{OnDone, OnWriteFault, Writes, WrotePart, writes_after};
 ghost use Rattle.am_sim.specs.Simulation.{Generated, GeneratedScript, EndsGen};
 
-use crate::racing::events_of;
 use am_base::NoMemory;
 use am_io::outside::Sink;
 use am_io::whole::write_all;
 use am_player::status::Status;
-use am_pump::generate::generate;
+use am_pump::generate::{founding, generate, generate_events};
 use am_report::script::script_text;
-use am_report::summary::summary_text;
+use am_report::summary::{Summary, summary_text};
 use am_words::form::Numbers;
-use am_world::world::{World, WorldRefusal};
+use am_world::course::Course;
+use am_world::world::WorldRefusal;
 use std::alloc::Global;
 
-/// The group of two numbers, of which the second is at most 100,000.
-fn generated_world(alloc: Global, numbers: Numbers) -> Result<World, NoMemory>
-    requires { numbers.count ≤ most_events }
-    ensures world { IfOk result (λ world. world
-        ≡ record { rules = generated_rules; events = events_of_seed numbers.seed numbers.count }) }
-    ensures count { IfOk result (λ world. length world.events ≡ numbers.count) }
+/// What was made of two numbers, of which the second is at most 100,000, or that there was no memory for it.
+fn made_of<T>(count: u32, made: Result<T, WorldRefusal>) -> Result<T, NoMemory>
+    requires few { count ≤ most_events }
+    requires spent { IfErr made (λ refusal. refusal ≡ refusals.Spent → most_events < count) }
+    ensures { IfOk result (λ value. made ≡ Ok value) }
 {
-    match generate(alloc, numbers.seed, numbers.count) {
-        Ok(world) => Ok(world),
+    match made {
+        Ok(value) => Ok(value),
         Err(WorldRefusal::NoMemory) => Err(NoMemory),
         Err(WorldRefusal::Spent) => unreachable!(),
+    }
+}
+
+/// What a summary tells of a course.
+fn summary_of(course: &Course) -> Summary
+    ensures { (p : Play) → IsCourse p course.now → summary_for result ≡ summary_text_of p.rules p.events }
+{
+    let counts = course.counts();
+    Summary {
+        events: counts.events as usize,
+        packets: course.packets(),
+        entries: course.entries(),
+        took: counts.took as usize,
+        sent: counts.sent as usize,
+        held: counts.held as usize,
+        broken: course.broken_at(),
     }
 }
 
@@ -36,9 +55,10 @@ pub fn summary_of_run(alloc: Global, numbers: Numbers) -> Result<String, NoMemor
     requires { numbers.count ≤ most_events }
     ensures { IfOk result (λ text. Generated numbers (string_bytes text)) }
 {
-    let world = generated_world(alloc, numbers)?;
-    let broken = world.broken_at();
-    let text = summary_text(alloc, world.journal(), world.group(), broken)?;
+    let made = generate(alloc, numbers.seed, numbers.count);
+    let course = made_of(numbers.count, made)?;
+    let summary = summary_of(&course);
+    let text = summary_text(alloc, &summary)?;
     Ok(text)
 }
 
@@ -47,10 +67,10 @@ pub fn script_of_run(alloc: Global, numbers: Numbers) -> Result<String, NoMemory
     requires { numbers.count ≤ most_events }
     ensures { IfOk result (λ text. GeneratedScript numbers (string_bytes text)) }
 {
-    let world = generated_world(alloc, numbers)?;
-    let journal = world.journal();
-    let events = events_of(alloc, journal.records())?;
-    let mut text = script_text(alloc, journal.founding(), events.as_slice())?;
+    let made = generate_events(alloc, numbers.seed, numbers.count);
+    let events = made_of(numbers.count, made)?;
+    let founding = founding();
+    let mut text = script_text(alloc, &founding, events.as_slice())?;
     text.push_str("\n")?;
     Ok(text)
 }

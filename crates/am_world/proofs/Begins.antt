@@ -42,12 +42,12 @@ first_more rules many nodes n h is = record {
 pub first_none : (rules : Rules) → AreFirst 0 [] (start rules)
 first_none rules = record { count = refl; each = λ i n h. absurd (cc) }
 
-lives_at : (n place : ℕ) → place < n → slice_index (replicate n 1) place ≡ 1
+pub lives_at : (n place : ℕ) → place < n → slice_index (replicate n 1) place ≡ 1
 lives_at zero place h = absurd (omega arith)
 lives_at (suc n) zero h = refl
 lives_at (suc n) (suc place) h = lives_at n place (omega arith)
 
-none_at : (n name : ℕ) → slice_index_or (replicate n false) name false ≡ false
+pub none_at : (n name : ℕ) → slice_index_or (replicate n false) name false ≡ false
 none_at zero name = refl
 none_at (suc n) zero = refl
 none_at (suc n) (suc name) = none_at n name

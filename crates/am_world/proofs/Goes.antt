@@ -19,7 +19,7 @@ unfolding happen
 replay_after p event = runs_go_on (start p.rules) p.events (event ∷ [])
 
 -- what one record more was made by
-play_more : (rules : Rules) (records : List Record) (r : Record) → play_of rules (records ++ r ∷ []) ≡ after (play_of rules records) r.event
+pub play_more : (rules : Rules) (records : List Record) (r : Record) → play_of rules (records ++ r ∷ []) ≡ after (play_of rules records) r.event
 play_more rules records r = ap (λ es. record { rules = rules; events = es }) (map_push (λ (x : Record). x.event) records r)
 
 -- what a journal's record is, and that it stands last

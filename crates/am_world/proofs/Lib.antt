@@ -10,6 +10,7 @@ pub mod Heard
 pub mod Stops
 pub mod Returns
 pub mod Acts
+pub mod Courses
 pub mod Watches
 pub mod Start
 pub mod StoredViews

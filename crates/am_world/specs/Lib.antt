@@ -3,3 +3,5 @@ pub mod Asked
 pub mod Moves
 pub mod Watched
 pub mod Watchers
+pub mod Places
+pub mod Courses

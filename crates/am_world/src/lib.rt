@@ -3,7 +3,9 @@
 #![tactic(auto)]
 
 pub mod asked;
+pub mod course;
 pub mod nodes;
+mod places;
 pub mod records;
 pub mod run;
 pub mod using;

@@ -44,7 +44,7 @@ fn first_node(room: Room, name: Name, founding: &Founding) -> Node
 
 /// The sixteen nodes of a group to which nothing has happened. Each goes where it stays: nodes are large.
 #[tactic(auto, using(crate::proofs::Begins::begins))]
-fn sixteen(alloc: Global, founding: &Founding) -> Result<Vec<Node>, NoMemory>
+pub(crate) fn sixteen(alloc: Global, founding: &Founding) -> Result<Vec<Node>, NoMemory>
     ensures { IfOk result (λ v. AreNodes v.items (start founding.now)) }
 {
     let mut nodes = Vec::with_capacity(alloc, 16)?;

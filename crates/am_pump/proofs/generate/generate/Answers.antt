@@ -1,30 +1,40 @@
-use Rattle.am_pump.proofs.Words.{◌≡◌, length, sym, ap, ◌∙◌, arith, err_from_is_err_and, Play, GeneratedRun, first_drive, drive, drive_once}
-use Rattle.am_pump.proofs.Drives.{drive_next, so_many, play_is}
+use Rattle.am_pump.proofs.Words.{◌≡◌, length, sym, ap, ◌∙◌, subst, arith, err_from_is_err_and, Play, GeneratedRun, first_drive, drive, drive_once, IsCourse, IsDriven}
+use Rattle.am_pump.proofs.Drives.{drive_next, so_many, play_is, next_calm, drawn_for, drawn_play, drove}
 use Rattle.am_pump.proofs.generate.generate.Goals as goal
 
 pub loop-done-init : goal.loop-done-init
 unfolding drive
 loop-done-init c = c.in_ok-generator.ensures
 
-pub loop-done-preserved : goal.loop-done-preserved
-loop-done-preserved c = c.in_ok-step.ensures.ok ∙ ap drive_once c.loop-done.invariant ∙ sym (drive_next c.loop-done._done (first_drive c.args.seed))
+pub happen-requires-clause-calm : goal.happen-requires-clause-calm
+happen-requires-clause-calm c =
+    let d = drive c.loop-done._done (first_drive c.args.seed) in
+    next_calm d c.in_ok-event.event (c.in_ok-event.ensures d c.loop-done.invariant).is
 
-pub returns-in_err-step-clause-spent : goal.returns-in_err-step-clause-spent
-returns-in_err-step-clause-spent c =
-    let p = err_from_is_err_and c.from_residual-in_err-step.result c.from_residual-in_err-step.ensures.1 in
+pub happen-requires-clause-driven : goal.happen-requires-clause-driven
+happen-requires-clause-driven c =
+    let d = drive c.loop-done._done (first_drive c.args.seed) in
+    (drawn_for d, (c.in_ok-event.ensures d c.loop-done.invariant).driven)
+
+pub returns-in_err-happen-clause-spent : goal.returns-in_err-happen-clause-spent
+returns-in_err-happen-clause-spent c =
+    let d = drive c.loop-done._done (first_drive c.args.seed) in
+    let p = err_from_is_err_and c.from_residual-in_err-happen.result c.from_residual-in_err-happen.ensures.1 in
     rw (p.1, p.2) (λ is.
-    let many = ap (λ (d : GeneratedRun). length d.play.events) c.loop-done.invariant ∙ so_many c.loop-done._done (first_drive c.args.seed) in
-    let full = c.in_err-step.ensures.spent is in
+    let many = so_many c.loop-done._done (first_drive c.args.seed) in
+    let same = ap (λ (q : Play). length q.events) (drawn_play d) in
+    let full = c.in_err-happen.ensures.spent (drawn_for d) (c.in_ok-event.ensures d c.loop-done.invariant).driven is in
     omega (arith, c.loop-done-test.true))
 
-pub returns-clause-world : goal.returns-clause-world
-returns-clause-world c =
-    let all : c.loop-done._done ≡ c.args.count = omega (arith, c.loop-done-test.false, c.loop-done.auto._done-end) in
-    c.into_world.ensures ∙ ap (λ (d : GeneratedRun). d.play) (c.loop-done.invariant ∙ ap (λ n. drive n (first_drive c.args.seed)) all)
-    ∙ play_is c.args.seed c.args.count
+pub loop-done-preserved : goal.loop-done-preserved
+loop-done-preserved c =
+    let d = drive c.loop-done._done (first_drive c.args.seed) in
+    let drew = c.in_ok-event.ensures d c.loop-done.invariant in
+    subst (λ r. IsDriven r c.happen.new.self) (sym (drive_next c.loop-done._done (first_drive c.args.seed)))
+    (drove d c.happen.new.self c.in_ok-event.event drew.is (c.in_ok-happen.ensures.ok (drawn_for d) drew.driven))
 
-pub returns-clause-count : goal.returns-clause-count
-returns-clause-count c =
-    let many = ap (λ (p : Play). length p.events) c.into_world.ensures ∙ ap (λ (d : GeneratedRun). length d.play.events) c.loop-done.invariant
-    ∙ so_many c.loop-done._done (first_drive c.args.seed) in
-    omega (arith, c.loop-done-test.false, c.loop-done.auto._done-end)
+pub returns-clause-course : goal.returns-clause-course
+returns-clause-course c =
+    let all : c.loop-done._done ≡ c.args.count = omega (arith, c.loop-done-test.false, c.loop-done.auto._done-end) in
+    subst (λ p. IsCourse p c.into_course.result) (ap (λ n. (drive n (first_drive c.args.seed)).play) all ∙ play_is c.args.seed c.args.count)
+    (c.into_course.ensures (drive c.loop-done._done (first_drive c.args.seed)) c.loop-done.invariant)

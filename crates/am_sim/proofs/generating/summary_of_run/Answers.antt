@@ -1,14 +1,13 @@
-use Rattle.std.proofs.Common.{◌∙◌, sym, ap, length, string_bytes}
-use Rattle.am_play.specs.Play.{summary_text_of}
-use Rattle.am_world.specs.Runs.{Play}
+use Rattle.std.proofs.Common.{◌∙◌, string_bytes}
+use Rattle.am_pump.proofs.Drives.{many_events}
+use Rattle.am_pump.specs.Generating.{generated_rules, events_of_seed}
 use Rattle.am_sim.proofs.Answered.{generated_by}
-use Rattle.am_sim.proofs.Texts.{world_summary}
 use Rattle.am_sim.proofs.generating.summary_of_run.Goals as goal
 
 pub returns : goal.returns
 returns c =
-    let text = string_bytes c.in_ok-text.text in
-    let summary = world_summary c.in_ok-world.world text c.journal.result.now.records c.group.result.now c.broken_at-broken.result
-    c.journal.ensures.records c.journal.ensures.letters c.group.ensures.value c.broken_at-broken.ensures c.in_ok-text.ensures in
-    generated_by c.args.numbers text (summary ∙ ap (λ (p : Play). summary_text_of p.rules p.events) c.in_ok-world.ensures.world)
-    (ap (λ (p : Play). length p.events) (sym c.in_ok-world.ensures.world) ∙ c.in_ok-world.ensures.count)
+    let seed = c.args.numbers.seed in
+    let count = c.args.numbers.count in
+    let is = rw c.in_ok-course.ensures at c.generate-made.ensures.course in
+    let told = c.summary_of-summary.ensures (record { rules = generated_rules; events = events_of_seed seed count }) is in
+    generated_by c.args.numbers (string_bytes c.in_ok-text.text) (c.in_ok-text.ensures ∙ told) (many_events seed count)

@@ -1,21 +1,39 @@
-use Rattle.am_pump.proofs.Words.{◌≡◌, length, slice_index, slice_index_or, sym, ap, ◌∙◌, next_for, letters_of, replay, seen_after, GeneratedRun, no_progress}
-use Rattle.am_pump.proofs.Words.{progress_at}
+use Rattle.am_pump.proofs.Words.{◌≡◌, ◌+◌, length, slice_index, slice_index_or, slice_set, sym, ap, ◌∙◌, subst, arith, next_for, replay, GeneratedRun, no_progress, progress_at, AreSeen}
+use Rattle.am_pump.proofs.Words.{Choice, choice_of, progress_after, seen_after}
+use Rattle.am_chooser.specs.Choices.{luck_after, act_of}
 use Rattle.am_pump.proofs.Seen.{seen_on}
+use Rattle.am_pump.specs.Generating.{act_at, after_turn, choice_at}
 use Rattle.am_pump.proofs.generator.Generator.choose.Goals as goal
 
-pub invariant_of-self : goal.invariant_of-self
-invariant_of-self c =
+pub returns : goal.returns
+unfolding act_at after_turn
+returns c = λ d h.
+    let g = c.args.self.now in
     let place = c.args.place in
-    let w = replay c.self.inside.world in
-    let at = c.from-at.result in
-    let letters : w.letters ≡ letters_of w.records = sym c.journal.ensures.letters ∙ ap letters_of c.journal.ensures.records in
-    let ahead = c.ahead-ahead.ensures ∙ ap (λ (d : GeneratedRun). next_for (replay d.play).letters place (progress_at d place).cursor) (sym c.self.view_is)
-    ∙ ap (λ ls. next_for ls place (slice_index_or c.self.inside.progress place no_progress).cursor) letters in
-    let number = c.seen_after.ensures ∙ ap (seen_after c.choose-choice.result (slice_index c.self.inside.seen at))
-    (c.packets.ensures ∙ ap (λ rs. length (letters_of rs)) c.journal.ensures.records) in
+    let at = c.from-at.ensures in
+    let letters = (replay d.play).letters in
+    let ahead : c.ahead-ahead.result ≡ next_for letters place (progress_at d place).cursor = c.ahead-ahead.ensures d h in
+    let chooses : c.choose-choice.result ≡ choice_of d.luck c.ahead-ahead.result (slice_index_or d.progress c.from-at.result no_progress).last =
+    c.choose-choice.ensures.choice ∙ (λ k. choice_of (h.luck k) c.ahead-ahead.result (slice_index_or (h.progress k) c.from-at.result no_progress).last) in
+    let chosen : c.choose-choice.result ≡ choice_at d place =
+    chooses ∙ (λ k. choice_of d.luck (ahead k) (slice_index_or d.progress (at k) no_progress).last) in
+    let goes : c.after.result ≡ progress_after (slice_index_or d.progress c.from-at.result no_progress) c.choose-choice.result =
+    c.after.ensures ∙ ap (λ ps. progress_after (slice_index_or ps c.from-at.result no_progress) c.choose-choice.result) h.progress in
+    let many : c.packets-many.result ≡ length letters = c.packets-many.ensures ∙ ap length h.course.stands.sent in
+    let sees : c.seen_after.result ≡ seen_after c.choose-choice.result (slice_index g.seen c.from-at.result) (length letters) =
+    c.seen_after.ensures ∙ ap (seen_after c.choose-choice.result (slice_index g.seen c.from-at.result)) many in
+    let looked = seen_on g.seen d.progress letters place c.from-at.result c.seen_after.result d.luck c.ahead-ahead.result c.choose-choice.result c.after.result
+    h.looked c.requires.place at ahead chooses goes sees in
+    let progress : slice_set d.progress c.from-at.result c.after.result ≡ slice_set d.progress place (progress_after (progress_at d place) (choice_at d place)) =
+    (λ k. slice_set d.progress (at k) (goes k)) ∙ (λ k. slice_set d.progress place (progress_after (slice_index_or d.progress (at k) no_progress) (chosen k))) in
     record {
-      counted = c.self.invariant.counted;
-      looked = seen_on c.self.inside.seen c.self.inside.progress (letters_of w.records) place at c.seen_after.result c.self.inside.chooser
-          c.ahead-ahead.result c.choose-choice.result c.after.result c.self.invariant.looked c.requires c.from-at.ensures ahead c.choose-choice.ensures.choice
-          c.after.ensures number;
+      does = c.act.ensures ∙ ap act_of chosen;
+      driven = record {
+        course = h.course;
+        words = h.words;
+        luck = c.choose-choice.ensures.drawn ∙ (λ k. luck_after (h.luck k) (ahead k));
+        progress = ap (λ ps. slice_set ps c.from-at.result c.after.result) h.progress ∙ progress;
+        counted = h.counted;
+        looked = subst (λ ps. AreSeen (slice_set g.seen c.from-at.result c.seen_after.result) ps letters) progress looked;
+      };
     }

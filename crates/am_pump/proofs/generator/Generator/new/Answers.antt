@@ -1,11 +1,17 @@
-use Rattle.am_pump.proofs.Words.{rules, letters_of, replay}
+use Rattle.am_pump.proofs.Words.{rules, ◌≡◌, [], ◌∷◌, refl, ap, subst, Rules, Progress, no_progress, IsCourse}
 use Rattle.am_play.specs.World as world
 use Rattle.am_pump.proofs.Seen.{none_seen}
 use Rattle.am_pump.proofs.generator.Generator.new.Goals as goal
 
-pub invariant_of-result : goal.invariant_of-result
+pub returns : goal.returns
 unfolding world.happen
-invariant_of-result c = record {
-  counted = search rules;
-  looked = none_seen c.new-3.result (letters_of (replay c.in_ok-world.world).records) c.new-3.ensures.cursor;
-}
+returns c =
+    let blank : c.new-4.result ≡ no_progress = λ k. record { cursor = c.new-4.ensures.cursor k; last = c.new-4.ensures.last k } in
+    record {
+      course = subst (λ (r : Rules). IsCourse (record { rules = r; events = [] }) c.in_ok-course.course) c.founding.ensures c.in_ok-course.ensures;
+      words = c.new-2.ensures;
+      luck = c.new-3.ensures;
+      progress = ap (λ p. p ∷ p ∷ p ∷ p ∷ []) blank;
+      counted = search rules;
+      looked = none_seen no_progress [] refl;
+    }

@@ -1,0 +1,46 @@
+use Rattle.am_pump.proofs.Words.{◌≡◌, length, sym, ap, ◌∙◌, subst, arith, err_from_is_err_and, Play, GeneratedRun, first_drive, drive, drive_once, IsCourse, IsDriven}
+use Rattle.am_pump.proofs.Words.{[], ◌∷◌, ◌++◌, refl, events_of_seed}
+use Rattle.am_pump.proofs.Drives.{drive_next, so_many, next_calm, drawn_for, drawn_play, drove, one_event}
+use Rattle.am_pump.proofs.generate.generate_events.Goals as goal
+
+pub loop-done-init : goal.loop-done-init
+unfolding drive
+loop-done-init c = record { driven = c.in_ok-generator.ensures; made = c.new-events.ensures }
+
+pub happen-requires-clause-calm : goal.happen-requires-clause-calm
+happen-requires-clause-calm c =
+    let d = drive c.loop-done._done (first_drive c.args.seed) in
+    next_calm d c.in_ok-event.event (c.in_ok-event.ensures d c.loop-done.invariant.driven).is
+
+pub happen-requires-clause-driven : goal.happen-requires-clause-driven
+happen-requires-clause-driven c =
+    let d = drive c.loop-done._done (first_drive c.args.seed) in
+    (drawn_for d, (c.in_ok-event.ensures d c.loop-done.invariant.driven).driven)
+
+pub returns-in_err-happen-clause-spent : goal.returns-in_err-happen-clause-spent
+returns-in_err-happen-clause-spent c =
+    let d = drive c.loop-done._done (first_drive c.args.seed) in
+    let p = err_from_is_err_and c.from_residual-in_err-happen.result c.from_residual-in_err-happen.ensures.1 in
+    rw (p.1, p.2) (λ is.
+    let many = so_many c.loop-done._done (first_drive c.args.seed) in
+    let same = ap (λ (q : Play). length q.events) (drawn_play d) in
+    let full = c.in_err-happen.ensures.spent (drawn_for d) (c.in_ok-event.ensures d c.loop-done.invariant.driven).driven is in
+    omega (arith, c.loop-done-test.true))
+
+pub loop-done-preserved : goal.loop-done-preserved
+loop-done-preserved c =
+    let d = drive c.loop-done._done (first_drive c.args.seed) in
+    let drew = c.in_ok-event.ensures d c.loop-done.invariant.driven in
+    let next = sym (drive_next c.loop-done._done (first_drive c.args.seed)) in
+    record {
+      driven = subst (λ r. IsDriven r c.happen.new.self) next
+          (drove d c.happen.new.self c.in_ok-event.event drew.is (c.in_ok-happen.ensures.ok (drawn_for d) drew.driven));
+      made = c.in_ok-push.ensures.ok ∙ (λ k. c.loop-done.invariant.made k ++ (c.in_ok-try_copy.ensures ∙ drew.is) k ∷ []) ∙ sym (one_event d)
+          ∙ ap (λ (r : GeneratedRun). r.play.events) next;
+    }
+
+pub returns-clause-events : goal.returns-clause-events
+unfolding events_of_seed
+returns-clause-events c =
+    let all : c.loop-done._done ≡ c.args.count = omega (arith, c.loop-done-test.false, c.loop-done.auto._done-end) in
+    c.loop-done.invariant.made ∙ ap (λ n. (drive n (first_drive c.args.seed)).play.events) all

@@ -1,0 +1,17 @@
+use Rattle.am_pump.proofs.Words.{◌∙◌, ap, arith, slice_index, GeneratedRun, replay, most_events}
+use Rattle.am_play.proofs.Runs.{one_record_each}
+use Rattle.am_pump.proofs.Drives.{few_sent}
+use Rattle.am_pump.proofs.generator.Generator.sent_by.Goals as goal
+
+pub returns-clause-value : goal.returns-clause-value
+returns-clause-value c = λ d h. ap (slice_index c.args.self.now.sent) c.from.ensures ∙ h.counted.each c.args.place c.requires.place
+
+pub returns-clause-few : goal.returns-clause-few
+returns-clause-few c =
+    let d = c.requires.driven.0 in
+    let h = c.requires.driven.1 in
+    let value = ap (slice_index c.args.self.now.sent) c.from.ensures ∙ h.counted.each c.args.place c.requires.place in
+    let low = few_sent (replay d.play) c.args.place in
+    let each = one_record_each d.play.rules d.play.events in
+    let few = h.course.stands.runs.few in
+    omega arith
