@@ -1,5 +1,5 @@
 -- Reads and writes one after the other.
-use Rattle.std.proofs.Common.{◌≡◌, ℕ, ◌+◌, ◌-◌, ◌<◌, ◌≤◌, List, ◌++◌, Option, Some, None, length, sym, ap, ◌∙◌, append_assoc, take, drop, subst, length-drop}
+use Rattle.std.proofs.Common.{◌≡◌, ℕ, ◌+◌, ◌-◌, ◌<◌, ◌≤◌, List, [], ◌++◌, Option, Some, None, length, sym, ap, ◌∙◌, append_assoc, append-nil, take, drop, subst, length-drop}
 use Rattle.std.proofs.Common.{take_all, arith}
 use Rattle.std.specs.Io.KnownBytes.{Consumes, Appends}
 use Rattle.std.proofs.Math.Seq.{take-add}
@@ -17,6 +17,10 @@ appends_then (Some a) (Some b) (Some c) xs ys h k = k ∙ (ap (λ (l : List ℕ)
 appends_then (Some a) (Some b) None xs ys h k = k
 appends_then (Some a) None c xs ys h k = absurd h
 appends_then None b c xs ys h k = tt
+
+pub appends_none : (a : Option (List ℕ)) → Appends a a []
+appends_none (Some a) = sym (append-nil a)
+appends_none None = tt
 
 pub gave_more : (limit n : ℕ) (a b c : Option (List ℕ)) (xs into : List ℕ) → Consumes a b xs → Consumes b c (take n into) → n ≤ length into
     → limit - length xs < n → length xs ≤ limit → GaveMore limit a c

@@ -12,9 +12,7 @@ use am_base::outcome::Outcome;
 use am_info::info::{Info, Role};
 use am_node::node::Node;
 use am_post::letter::Letter;
-use am_report::entry::push_bytes;
-use am_report::name::{push_names, push_stamp};
-use am_report::outcome::push_outcome;
+use am_report::text::{push_bytes, push_names, push_outcome, push_stamp};
 
 /// Adds a letter's addressees, exactly: its names, with a star before them where it is for any life of their places.
 #[tactic(auto, unfolding(crate::specs::Answers::to_text))]

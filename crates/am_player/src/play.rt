@@ -1,16 +1,18 @@
-ghost use Rattle.std.specs.Prelude.{◌≡◌, ◌≢◌, ℕ, List, Err, IfOk, IfErr, string_bytes};
+ghost use Rattle.std.specs.Prelude.{◌≡◌, ◌≢◌, ℕ, List, Err, OnOk, OnErr, IfErr};
 ghost use Rattle.std.specs.Io.KnownBytes.{Appends};
+ghost use Rattle.am_io.specs.Buffers.{Goes};
 ghost use Rattle.am_io.specs.Outside.{ReadToEnd, GaveMore, GaveAtMost};
 ghost use Rattle.am_script.specs.declared.key.Key.TheVariants as key;
 ghost use Rattle.am_script.specs.Scripts.{IsOfKind, reading};
 ghost use Rattle.am_player.specs.Plays.{PlayedBy, IsPlayedBy, IsSpent, IsText, IsUnrun, IsUnplayed, unplayed_for};
 ghost use Rattle.am_player.specs.Statuses.{most_input, OnDone, OnWriteFault, IfBadScript, IsOfAudit, Writes, WrotePart, reads_after, writes_after};
 
-use crate::run::text_of_run;
+use crate::run::{play_out, show_run};
 use crate::shows::Shows;
 use crate::status::Status;
+use am_io::buffered::Buffered;
 use am_io::outside::{Sink, Source};
-use am_io::whole::{ReadRefusal, read_all, write_all};
+use am_io::whole::{ReadRefusal, read_all};
 use am_script::key::Key;
 use am_script::read::read_script;
 use am_script::refusal::ScriptRefusal;
@@ -21,8 +23,8 @@ use std::alloc::Global;
 /// The most bytes of an input that is no message.
 pub const INPUT_MOST: u32 = 16_777_216;
 
-/// Reads a script of at most 16,777,216 bytes to its end, runs it, and writes what is shown of its run. On every status but Done and
-/// WriteFault nothing is written.
+/// Reads a script of at most 16,777,216 bytes to its end, runs it, and writes what is shown of its run, piece by piece as it is made. On
+/// every status but Done and WriteFault nothing is written.
 #[tactic(auto, using(crate::proofs::Given::gave_whole))]
 pub fn play<T: Shows, S: Source, K: Sink>(
     alloc: Global,
@@ -57,13 +59,14 @@ pub fn play<T: Shows, S: Source, K: Sink>(
         Err(ReadRefusal::TooLong) => return Status::TooLong,
         Err(ReadRefusal::NoMemory) => return Status::NoMemory,
     };
-    let text = match answer(alloc, shows, bytes.as_slice()) {
-        Ok(text) => text,
+    let mut out = Buffered::new(sink);
+    match answer(alloc, shows, bytes.as_slice(), &mut out) {
+        Ok(()) => {}
         Err(Unplayed::BadScript(cause)) => return Status::BadScript(cause),
         Err(Unplayed::Spent) => return Status::Spent,
         Err(Unplayed::NoMemory) => return Status::NoMemory,
-    };
-    match write_all(sink, text.as_bytes()) {
+    }
+    match out.finish() {
         Ok(()) => Status::Done,
         Err(_) => Status::WriteFault,
     }
@@ -88,12 +91,19 @@ impl From<WorldRefusal> for Unplayed {
     }
 }
 
-/// What is shown of a play's run.
-fn text_of_script<T: Shows>(alloc: Global, shows: &T, script: &Script) -> Result<String, Unplayed>
+/// Writes what is shown of a play's run. After an error nothing was written.
+#[tactic(auto, unfolding(crate::specs::Runs::IsRunText, crate::specs::Runs::IsLong))]
+fn show_script<T: Shows, K: Sink>(
+    alloc: Global,
+    shows: &T,
+    script: &Script,
+    out: &mut Buffered<'_, K>,
+) -> Result<(), Unplayed>
     requires { IsOfKind key.Play script.now }
-    ensures text { IfOk result (λ bytes. IsText (T.text shows.now) script.now
-        (string_bytes bytes)) }
+    ensures shown { OnOk result ((text : List ℕ) × IsText (T.text shows.now) script.now text
+        × Goes K.contents K.count out.old text out.new) }
     ensures unrun { IfErr result (λ e. IsUnrun script.now e) }
+    ensures unwritten { OnErr result (out.new ≡ out.old) }
 {
     match script {
         Script::Play {
@@ -101,19 +111,28 @@ fn text_of_script<T: Shows>(alloc: Global, shows: &T, script: &Script) -> Result
             events,
             settle,
         } => {
-            let text = text_of_run(alloc, shows, founding, events.as_slice(), *settle)?;
-            Ok(text)
+            let world = play_out(alloc, founding, events.as_slice(), *settle)?;
+            match show_run(alloc, shows, &world, out) {
+                Ok(()) => Ok(()),
+                Err(_) => Err(Unplayed::NoMemory),
+            }
         }
         Script::Race(_) => unreachable!(),
     }
 }
 
-/// What is shown of the run of a script's bytes.
+/// Writes what is shown of the run of a script's bytes. After an error nothing was written.
 #[tactic(auto, using(crate::proofs::Played::played_by))]
-fn answer<T: Shows>(alloc: Global, shows: &T, bytes: &[u8]) -> Result<String, Unplayed>
-    ensures played { IfOk result (λ text. PlayedBy (T.text shows.now) bytes.now
-        (string_bytes text)) }
+fn answer<T: Shows, K: Sink>(
+    alloc: Global,
+    shows: &T,
+    bytes: &[u8],
+    out: &mut Buffered<'_, K>,
+) -> Result<(), Unplayed>
+    ensures played { OnOk result ((text : List ℕ) × PlayedBy (T.text shows.now) bytes.now text
+        × Goes K.contents K.count out.old text out.new) }
     ensures unplayed { IfErr result (λ e. IsUnplayed bytes.now e) }
+    ensures unwritten { OnErr result (out.new ≡ out.old) }
 {
     let script = match read_script(alloc, Key::Play, bytes) {
         Ok(script) => script,
@@ -124,6 +143,5 @@ fn answer<T: Shows>(alloc: Global, shows: &T, bytes: &[u8]) -> Result<String, Un
             return Err(Unplayed::BadScript(cause));
         }
     };
-    let text = text_of_script(alloc, shows, &script)?;
-    Ok(text)
+    show_script(alloc, shows, &script, out)
 }

@@ -1,14 +1,18 @@
-ghost use Rattle.std.specs.Prelude.{◌≡◌, ◌<◌, ◌≤◌, ◌+◌, ◌++◌, [], ◌∷◌, length, if◌then◌else◌, OnOk, IfOk, IfErr, string_bytes};
+ghost use Rattle.std.specs.Prelude.{◌≡◌, ◌<◌, ◌≤◌, ◌+◌, ◌++◌, [], ◌∷◌, length, if◌then◌else◌, OnOk, OnErr, IfOk, IfErr};
 ghost use Rattle.am_base.specs.Most.{most_events};
+ghost use Rattle.am_io.specs.Buffers.{Goes};
+ghost use Rattle.am_play.specs.Lawful.{watch_run};
 ghost use Rattle.am_world.specs.declared.world.WorldRefusal.TheVariants as refusals;
 ghost use Rattle.am_world.specs.Runs.{replay};
-ghost use Rattle.am_player.specs.Runs.{done_of, logged_in, IsRunText, IsLong};
+ghost use Rattle.am_player.specs.Runs.{done_of, logged_in};
 
 use crate::shows::Shows;
 use am_base::NoMemory;
 use am_base::founding::Founding;
 use am_base::name::Name;
 use am_group::event::Event;
+use am_io::buffered::Buffered;
+use am_io::outside::Sink;
 use am_settle::settle::settle;
 use am_world::world::{World, WorldRefusal};
 use std::alloc::Global;
@@ -25,7 +29,7 @@ fn push_where(each: &mut Vec<Name>, name: Name, is_due: bool) -> Result<(), NoMe
 
 /// The names that have or had a list, in their places' order.
 #[tactic(auto, using(crate::proofs::Names::logged_laws))]
-fn logged_names(alloc: Global, world: &World) -> Result<Vec<Name>, NoMemory>
+pub fn logged_names(alloc: Global, world: &World) -> Result<Vec<Name>, NoMemory>
     ensures { IfOk result (λ each. each.items ≡ logged_in (replay world.now)) }
 {
     let mut each = Vec::new(alloc);
@@ -52,7 +56,7 @@ fn do_events(world: &mut World, events: &[Event]) -> Result<(), WorldRefusal>
 /// The world after a script's events, and those that settle it where that is asked for. It is Spent where these are more than
 /// 100,000.
 #[tactic(auto, using(am_play::proofs::Runs::one_record_each))]
-fn play_out(
+pub fn play_out(
     alloc: Global,
     founding: &Founding,
     events: &[Event],
@@ -74,21 +78,17 @@ fn play_out(
     Ok(world)
 }
 
-/// What is shown of a script's run. It is Spent where that would have more than 100,000 events.
-#[tactic(auto, unfolding(crate::specs::Runs::IsRunText, crate::specs::Runs::IsLong))]
-pub fn text_of_run<T: Shows>(
+/// Writes what is shown of what a world did. After an error nothing of it was written.
+pub fn show_run<T: Shows, K: Sink>(
     alloc: Global,
     shows: &T,
-    founding: &Founding,
-    events: &[Event],
-    settles: bool,
-) -> Result<String, WorldRefusal>
-    ensures text { IfOk result (λ bytes. IsRunText (T.text shows.now) founding.now events.now settles
-        (string_bytes bytes)) }
-    ensures spent { IfErr result (λ e. e ≡ refusals.Spent
-        → IsLong founding.now events.now settles) }
+    world: &World,
+    out: &mut Buffered<'_, K>,
+) -> Result<(), NoMemory>
+    ensures ok { OnOk result (Goes K.contents K.count out.old
+        (T.text shows.now world.now.rules (watch_run world.now.rules world.now.events)) out.new) }
+    ensures err { OnErr result (out.new ≡ out.old) }
 {
-    let world = play_out(alloc, founding, events, settles)?;
-    let names = logged_names(alloc, &world)?;
-    Ok(shows.text_of(alloc, &world, names.as_slice())?)
+    let names = logged_names(alloc, world)?;
+    shows.show(alloc, world, names.as_slice(), out)
 }

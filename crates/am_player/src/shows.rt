@@ -1,5 +1,7 @@
-ghost use Rattle.std.specs.Prelude.{◌≡◌, ℕ, List, IfOk, string_bytes};
+ghost use Rattle.std.specs.Prelude.{◌≡◌, ℕ, List, OnOk, OnErr};
+ghost use Rattle.std.specs.Fmt.{WritesInCalls};
 ghost use Rattle.am_base.specs.Founding.{Rules};
+ghost use Rattle.am_io.specs.Buffers.{Goes};
 ghost use Rattle.am_play.specs.Lawful.{Watch, watch_run};
 ghost use Rattle.am_play.specs.Play.{watched_text};
 ghost use Rattle.am_world.specs.Runs.{replay};
@@ -7,7 +9,10 @@ ghost use Rattle.am_player.specs.Runs.{logged_in};
 
 use am_base::NoMemory;
 use am_base::name::Name;
-use am_report::play::play_text;
+use am_io::buffered::Buffered;
+use am_io::outside::Sink;
+use am_io::writer::Writer;
+use am_report::play::push_play;
 use am_world::world::World;
 use std::alloc::Global;
 
@@ -16,11 +21,35 @@ pub trait Shows {
     // What it is, of a run that was watched.
     ghost text: { Self → Rules → Watch → List ℕ };
 
-    /// What is shown of what a world did. The names are those that have or had a list, in their places' order.
-    fn text_of(&self, alloc: Global, world: &World, names: &[Name]) -> Result<String, NoMemory>
+    /// Writes what is shown of what a world did. The names are those that have or had a list, in their places' order. After an error
+    /// nothing of it was written.
+    fn show<K: Sink>(
+        &self,
+        alloc: Global,
+        world: &World,
+        names: &[Name],
+        out: &mut Buffered<'_, K>,
+    ) -> Result<(), NoMemory>
         requires { names.now ≡ logged_in (replay world.now) }
-        ensures { IfOk result (λ bytes. string_bytes bytes
-            ≡ text self.now world.now.rules (watch_run world.now.rules world.now.events)) };
+        ensures ok { OnOk result (Goes K.contents K.count out.old
+            (text self.now world.now.rules (watch_run world.now.rules world.now.events)) out.new) }
+        ensures err { OnErr result (out.new ≡ out.old) };
+}
+
+/// Adds all that is printed of what a world did (docs/PROTOCOL.md, "Play text"). The names are those that have or had a list, in their
+/// places' order. After an error a part of it may have been added.
+pub fn push_run<O: Writer>(out: &mut O, world: &World, names: &[Name]) -> Result<(), O::Fault>
+    requires { names.now ≡ logged_in (replay world.now) }
+    ensures { OnOk result (WritesInCalls O.writes out.old
+        (watched_text world.now.rules (watch_run world.now.rules world.now.events)) out.new) }
+{
+    push_play(
+        out,
+        world.journal(),
+        world.group(),
+        names,
+        world.broken_at(),
+    )
 }
 
 /// All that is printed of a run (docs/PROTOCOL.md, "Play text").
@@ -30,13 +59,16 @@ pub struct PlayText;
 impl Shows for PlayText {
     ghost text = { λ _. watched_text };
 
-    fn text_of(&self, alloc: Global, world: &World, names: &[Name]) -> Result<String, NoMemory> {
-        play_text(
-            alloc,
-            world.journal(),
-            world.group(),
-            names,
-            world.broken_at(),
-        )
+    fn show<K: Sink>(
+        &self,
+        _alloc: Global,
+        world: &World,
+        names: &[Name],
+        out: &mut Buffered<'_, K>,
+    ) -> Result<(), NoMemory> {
+        match push_run(out, world, names) {
+            Ok(()) => Ok(()),
+            Err(never) => match never {},
+        }
     }
 }

@@ -1,5 +1,5 @@
 -- The value of a script is read as that script.
-use Rattle.std.proofs.Common.{◌≡◌, ℕ, zero, suc, ◌<◌, ◌≤◌, ◌==◌, ◌+◌, ◌-◌, ◌*◌, ◌/◌, ◌%◌, List, [], ◌∷◌, ◌++◌, Bool, true, false, if◌then◌else◌, cond, Option, Some, None, Ok, Err, codes, refl, sym, ap, ◌∙◌, arith, length, slice_index, slice_set, All, EachIndex, append_assoc, append-nil, nat_le, nat_lt, ◌&&◌, String, string_bytes, subst}
+use Rattle.std.proofs.Common.{◌≡◌, ℕ, zero, suc, ◌<◌, ◌≤◌, ◌==◌, ◌+◌, ◌-◌, ◌*◌, ◌/◌, ◌%◌, List, [], ◌∷◌, ◌++◌, Bool, true, false, if◌then◌else◌, Ok, codes, refl, sym, ap, ◌∙◌, arith, length, slice_index, All, EachIndex, append_assoc, nat_le, nat_lt, ◌&&◌, String, string_bytes, subst}
 use Rattle.std.proofs.Math.ListN.{replicate}
 use Rattle.std.proofs.Math.Seq.{set-append_seam, get_or-append_seam}
 use Rattle.std.specs.List.{flat_map, list_all}
@@ -9,13 +9,13 @@ use Rattle.std.proofs.lemmas.Bool.{le-leb, eqb-true, ltb-true, ltb-false}
 use Rattle.std.proofs.Math.Bool.{or-true}
 use Rattle.std.proofs.lemmas.List.{length-append}
 use Rattle.std.proofs.lemmas.List.Elements.{All-head, All-tail}
-use Rattle.hex.specs.Hex.{IsBytes, encode_lower, decode_of, lower_digits}
+use Rattle.hex.specs.Hex.{IsBytes, decode_of, lower_digits}
 use Rattle.hex.proofs.HexLemmas.{decode_of-encode_lower, length-encode_with}
 use Rattle.am_report.proofs.Digits.{encoded}
 use Rattle.std.proofs.lemmas.Str.{is_utf8-from_IsUtf8, IsUtf8-string_bytes}
 use Rattle.std.proofs.lemmas.List.Sums.{count_by-le-length}
 use Rattle.serde_json.specs.Events.{items_len}
-use Rattle.serde_json.specs.Data.{Data, object, array, string, Items, no_items, item, Members, no_members, member}
+use Rattle.serde_json.specs.Data.{object, array, string, no_members, member}
 use Rattle.am_base.specs.Most.{most_number, most_body, most_packet, most_window}
 use Rattle.am_base.specs.Founding.{Rules, MayFound}
 use Rattle.am_base.specs.Names.{place_of, life_of, name_at, names_from, names_of, nobody, has, with_name, size}
@@ -30,7 +30,7 @@ use Rattle.am_script.specs.Founders.{each_founder, founders_from, founding_in}
 use Rattle.am_script.specs.Scripts.{play_from, parts_of_play, document_from, document_in, reading}
 use Rattle.am_script.specs.declared.script.Script.TheVariants.{Play}
 use Rattle.am_script.specs.Limits.{IsWithin, EventWithin, ActWithin}
-use Rattle.am_script.specs.Values.{each_from, number_from, body_from, are_pairs, is_digit}
+use Rattle.am_script.specs.Values.{each_from, number_from, body_from, is_digit}
 use Rattle.am_report.proofs.Documents.{count, event_data, events_items, places_items, play_data, document}
 use Rattle.am_report.specs.Schedules.{IsOfBytes, AreOfBytes, script_text}
 use Rattle.am_report.proofs.Written.{some_from}

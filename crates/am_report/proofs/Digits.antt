@@ -1,8 +1,11 @@
 -- The digits of bytes, by the table of the library and by the definition.
-use Rattle.std.proofs.Common.{◌≡◌, ℕ, zero, suc, ◌+◌, ◌/◌, ◌%◌, ◌<◌, List, [], ◌∷◌, ◌++◌, false, refl, ap, ◌∙◌, slice_index, arith}
-use Rattle.std.proofs.Common.{Result, Ok, Err, OnOk, is_ok, if◌then◌else◌}
-use Rattle.std.specs.declared.alloc.AllocError.{AllocError}
+use Rattle.std.proofs.Common.{◌≡◌, ℕ, zero, suc, ◌/◌, ◌%◌, ◌<◌, List, [], ◌∷◌, ◌++◌, false, refl, ap, ◌∙◌, slice_index, arith}
+use Rattle.std.proofs.Common.{sym, subst, rules}
+use Rattle.std.specs.Str.{IsUtf8}
+use Rattle.std.proofs.lemmas.Str.{IsUtf8-from_ascii}
+use Rattle.hex.proofs.HexLemmas.{IsAscii-encode_with}
 use Rattle.std.specs.List.{flat_map}
+use Rattle.std.proofs.lemmas.Grind.{flat_map-append}
 use Rattle.std.specs.Fmt.{digit_glyph}
 use Rattle.hex.specs.Hex.{encode_lower, encode_with, lower_digits}
 use Rattle.am_play.specs.Text.{hex_byte}
@@ -37,8 +40,13 @@ encoded (b ∷ bytes) h =
     ∙ ap (λ (d : ℕ). digit_glyph false (b / 16) ∷ d ∷ encode_lower bytes) (digit_is (b % 16) (omega arith))
     ∙ ap (λ (ds : List ℕ). digit_glyph false (b / 16) ∷ digit_glyph false (b % 16) ∷ ds) rest
 
--- a text that was pushed, where there was memory for it
-pub pushed : (r : Result (Unit {0}) AllocError) (new old text wanted : List ℕ) → new ≡ (if is_ok r then old ++ text else old) → text ≡ wanted
-    → OnOk r (new ≡ old ++ wanted)
-pushed (Ok done) new old text wanted is same = is ∙ ap (λ (xs : List ℕ). old ++ xs) same
-pushed (Err lack) new old text wanted is same = tt
+-- they are ASCII
+digits_low : (i : ℕ) → slice_index lower_digits i < 128
+digits_low i = search rules
+
+pub digits_are_text : (bytes text : List ℕ) → text ≡ encode_lower bytes → IsUtf8 text
+digits_are_text bytes text is = subst IsUtf8 (sym is) (IsUtf8-from_ascii (encode_lower bytes) (IsAscii-encode_with lower_digits bytes digits_low))
+
+-- a first part and the others
+pub split_bytes : (bytes first others : List ℕ) → bytes ≡ first ++ others → flat_map hex_byte bytes ≡ flat_map hex_byte first ++ flat_map hex_byte others
+split_bytes bytes first others is = ap (flat_map hex_byte) is ∙ flat_map-append hex_byte first others

@@ -1,7 +1,9 @@
 -- What names were given, record by record and name by name.
-use Rattle.std.proofs.Common.{◌≡◌, ℕ, ◌+◌, ◌<◌, ◌≤◌, List, [], ◌∷◌, ◌++◌, length, drop, slice_index_or, Bool, true, false, cond, filter, refl, sym, ap, ◌∙◌}
-use Rattle.std.proofs.Common.{append-nil, append_assoc, arith}
+use Rattle.std.proofs.Common.{◌≡◌, ℕ, ◌+◌, ◌<◌, ◌≤◌, List, [], ◌∷◌, ◌++◌, length, drop, slice_index_or, ◌||◌, nat_lt, Bool, true, false, cond, filter, refl, sym, ap, ◌∙◌}
+use Rattle.std.proofs.Common.{length-append, arith}
 use Rattle.std.specs.List.{flat_map}
+use Rattle.std.proofs.lemmas.Bool.Decides.{nat_tests}
+use Rattle.std.proofs.lemmas.Grind.{flat_map-append}
 use Rattle.std.proofs.lemmas.List.{drop_more, drop_all}
 use Rattle.am_base.specs.declared.entry.Entry.{Entry}
 use Rattle.am_base.specs.Founding.{Rules}
@@ -11,7 +13,7 @@ use Rattle.am_group.specs.Deliveries.{deliveries, given_to}
 use Rattle.am_model.specs.Node.{has_log}
 use Rattle.am_play.specs.Group.{logs}
 use Rattle.am_play.specs.World.{World}
-use Rattle.am_play.specs.Text.{log_text, logs_text, empty_log_line}
+use Rattle.am_play.specs.Text.{log_line, log_text, logs_text, empty_log_line}
 use Rattle.am_report.specs.Logs.{logs_for, given_lines}
 
 -- what is left to be given
@@ -19,8 +21,48 @@ pub given_more : (records : List Record) (name i : ℕ) (d : Record) → i < len
     → deliveries (drop i records) name ≡ given_to name (slice_index_or records i d) ++ deliveries (drop (i + 1) records) name
 given_more records name i d h = ap (λ rs. deliveries rs name) (drop_more records i d h)
 
+-- the same by the record that comes next
+given_next : (records : List Record) (name i : ℕ) (item : Record) → i < length records → item ≡ slice_index_or records i item
+    → deliveries (drop i records) name ≡ given_to name item ++ deliveries (drop (i + 1) records) name
+given_next records name i item h is =
+    given_more records name i item h ∙ ap (λ r. given_to name r ++ deliveries (drop (i + 1) records) name) (sym is)
+
+pub lines_more : (rules : Rules) (name : ℕ) (records : List Record) (i : ℕ) (item : Record) → i < length records → item ≡ slice_index_or records i item
+    → given_lines rules name (deliveries (drop i records) name)
+    ≡ given_lines rules name (given_to name item) ++ given_lines rules name (deliveries (drop (i + 1) records) name)
+lines_more rules name records i item h is =
+    ap (λ given. given_lines rules name given) (given_next records name i item h is)
+    ∙ flat_map-append (λ pair. log_line rules name pair.0 pair.1) (given_to name item) (deliveries (drop (i + 1) records) name)
+
 pub given_end : (records : List Record) (name i : ℕ) → length records ≤ i → deliveries (drop i records) name ≡ []
 given_end records name i h = ap (λ rs. deliveries rs name) (drop_all i records h)
+
+-- whether something was given so far, one record later
+none_given : (given : List (ℕ × Entry)) → false ≡ nat_lt 0 (length given) → given ≡ []
+none_given [] is = refl
+none_given (pair ∷ pairs) is = absurd (grind (arith, nat_tests))
+
+some_given : (given : List (ℕ × Entry)) → true ≡ nat_lt 0 (length given) → 0 < length given
+some_given [] is = absurd (grind (arith, nat_tests))
+some_given (pair ∷ pairs) is = omega arith
+
+pub none_behind : (records : List Record) (name i : ℕ) (item : Record) (some given : Bool) → i < length records → item ≡ slice_index_or records i item
+    → given ≡ nat_lt 0 (length (given_to name item)) → (some ≡ false → deliveries (drop i records) name ≡ deliveries records name)
+    → (some || given) ≡ false → deliveries (drop (i + 1) records) name ≡ deliveries records name
+none_behind records name i item true given within at is before none = absurd (cc none)
+none_behind records name i item false true within at is before none = absurd (cc none)
+none_behind records name i item false false within at is before none =
+    ap (λ given. given ++ deliveries (drop (i + 1) records) name) (sym (none_given _ is)) ∙ sym (given_next records name i item within at) ∙ before refl
+
+pub some_behind : (records : List Record) (name i : ℕ) (item : Record) (some given : Bool) → i < length records → item ≡ slice_index_or records i item
+    → given ≡ nat_lt 0 (length (given_to name item)) → (some ≡ false → deliveries (drop i records) name ≡ deliveries records name)
+    → (some ≡ true → 0 < length (deliveries records name)) → (some || given) ≡ true → 0 < length (deliveries records name)
+some_behind records name i item true given within at is before some now = some refl
+some_behind records name i item false false within at is before some now = absurd (cc now)
+some_behind records name i item false true within at is before some now =
+    let first = some_given _ is in
+    let all = ap length (sym (before refl) ∙ given_next records name i item within at) ∙ length-append (given_to name item) _ in
+    omega arith
 
 -- a log with lines, and one without
 pub log_some : (rules : Rules) (name : ℕ) (given : List (ℕ × Entry)) → 0 < length given → log_text rules name given ≡ given_lines rules name given
@@ -33,44 +75,18 @@ unfolding log_text
 log_none rules name [] h = refl
 log_none rules name (pair ∷ pairs) h = absurd (omega arith)
 
--- where all records were looked at, a log with lines is whole, and one without wants its line
-pub log_ends : (out start : List ℕ) (rules : Rules) (name : ℕ) (records : List Record) (i : ℕ) → length records ≤ i → 0 < length (deliveries records name)
-    → out ++ given_lines rules name (deliveries (drop i records) name) ≡ start ++ given_lines rules name (deliveries records name)
-    → out ≡ start ++ log_text rules name (deliveries records name)
-log_ends out start rules name records i over some h =
-    sym (append-nil out)
-    ∙ ap (λ given. out ++ given_lines rules name given) (sym (given_end records name i over))
-    ∙ h
-    ∙ ap (λ lines. start ++ lines) (sym (log_some rules name (deliveries records name) some))
-
-pub log_is_empty : (out last start : List ℕ) (rules : Rules) (name : ℕ) (records : List Record) (i : ℕ) → length records ≤ i
-    → deliveries (drop i records) name ≡ deliveries records name
-    → out ++ given_lines rules name (deliveries (drop i records) name) ≡ start ++ given_lines rules name (deliveries records name)
-    → last ≡ out ++ empty_log_line name → last ≡ start ++ log_text rules name (deliveries records name)
-log_is_empty out last start rules name records i over same h line =
-    let none : deliveries records name ≡ [] = sym same ∙ given_end records name i over in
-    let begun : out ≡ start =
-    sym (append-nil out) ∙ ap (λ given. out ++ given_lines rules name given) (sym (given_end records name i over)) ∙ h
-    ∙ ap (λ given. start ++ given_lines rules name given) none ∙ append-nil start in
-    line ∙ ap (λ x. x ++ empty_log_line name) begun ∙ ap (λ lines. start ++ lines) (sym (log_none rules name (deliveries records name) (ap length none)))
-
--- one log more of those of names
-pub logs_go_on : (out next start whole : List ℕ) (rules : Rules) (records : List Record) (names : List ℕ) (i name : ℕ) → i < length names
-    → name ≡ slice_index_or names i name → next ≡ out ++ log_text rules name (deliveries records name)
-    → out ++ logs_text rules (logs_for records (drop i names)) ≡ start ++ whole
-    → next ++ logs_text rules (logs_for records (drop (i + 1) names)) ≡ start ++ whole
+-- what is left of logs
+pub logs_more : (rules : Rules) (records : List Record) (names : List ℕ) (i name : ℕ) → i < length names → name ≡ slice_index_or names i name
+    → logs_text rules (logs_for records (drop i names))
+    ≡ log_text rules name (deliveries records name) ++ logs_text rules (logs_for records (drop (i + 1) names))
 unfolding logs_text
-logs_go_on out next start whole rules records names i name within is line h =
+logs_more rules records names i name within is =
     let rest = logs_text rules (logs_for records (drop (i + 1) names)) in
-    let more = ap (λ ns. logs_text rules (logs_for records ns)) (drop_more names i name within) in
-    let this = ap (λ n. log_text rules n (deliveries records n) ++ rest) is in
-    ap (λ x. x ++ rest) line ∙ append_assoc out (log_text rules name (deliveries records name)) rest ∙ ap (λ x. out ++ x) (this ∙ sym more) ∙ h
+    ap (λ ns. logs_text rules (logs_for records ns)) (drop_more names i name within) ∙ sym (ap (λ n. log_text rules n (deliveries records n) ++ rest) is)
 
-pub logs_end : (out start whole : List ℕ) (rules : Rules) (records : List Record) (names : List ℕ) (i : ℕ) → length names ≤ i
-    → out ++ logs_text rules (logs_for records (drop i names)) ≡ start ++ whole → out ≡ start ++ whole
+pub logs_end : (rules : Rules) (records : List Record) (names : List ℕ) (i : ℕ) → length names ≤ i → logs_text rules (logs_for records (drop i names)) ≡ []
 unfolding logs_text
-logs_end out start whole rules records names i over h =
-    sym (append-nil out) ∙ ap (λ ns. out ++ logs_text rules (logs_for records ns)) (sym (drop_all i names over)) ∙ h
+logs_end rules records names i over = ap (λ ns. logs_text rules (logs_for records ns)) (drop_all i names over)
 
 -- the logs of a world are those of the names that have or had a list
 among_next : (w : World) (name : ℕ) (names : List ℕ) (b : Bool)

@@ -1,14 +1,31 @@
 -- Sets of names, place by place.
-use Rattle.std.proofs.Common.{◌≡◌, ℕ, suc, ◌≤◌, List, [], ◌∷◌, length, drop, slice_index, Bool, true, false, IsTrue, ◌↔◌, EachIndex, nat_le, refl, sym, arith}
+use Rattle.std.proofs.Common.{◌≡◌, ℕ, zero, suc, ◌+◌, ◌<◌, ◌≤◌, List, [], ◌∷◌, ◌++◌, length, drop, slice_index, Bool, true, false, IsTrue, ◌↔◌, EachIndex, nat_le, refl, sym, ap, ◌∙◌, arith}
 use Rattle.std.specs.List.{list_all}
-use Rattle.std.proofs.lemmas.List.{at_drop_all}
+use Rattle.std.proofs.lemmas.List.{at_drop_all, drop_more}
 use Rattle.std.proofs.lemmas.List.Folds.{list_all_at}
 use Rattle.std.proofs.lemmas.Bool.Decides.{nat_tests}
 use Rattle.am_base.specs.Names.{names_from}
+use Rattle.am_report.specs.Names.{rest_text, place_text, first_behind}
 
 -- behind the last place nobody is left
 pub names_from_none : (set : List ℕ) (place : ℕ) → length set ≤ place → names_from place (drop place set) ≡ []
 names_from_none set place h = at_drop_all (λ lives. names_from place lives) set place h
+
+-- the place that comes next, and those behind it
+by_life : (first : Bool) (place life : ℕ) (later : List ℕ) → rest_text first (names_from place (life ∷ later))
+    ≡ place_text first place life ++ rest_text (first_behind first life) (names_from (place + 1) later)
+by_life true place zero later = refl
+by_life true place (suc before) later = refl
+by_life false place zero later = refl
+by_life false place (suc before) later = refl
+
+pub places_left : (set : List ℕ) (place : ℕ) (first still : Bool) → place < length set → still ≡ first_behind first (slice_index set place)
+    → rest_text first (names_from place (drop place set))
+    ≡ place_text first place (slice_index set place) ++ rest_text still (names_from (place + 1) (drop (place + 1) set))
+places_left set place first still within is =
+    ap (λ lives. rest_text first (names_from place lives)) (drop_more set place 0 within)
+    ∙ by_life first place (slice_index set place) (drop (place + 1) set)
+    ∙ ap (λ b. place_text first place (slice_index set place) ++ rest_text b (names_from (place + 1) (drop (place + 1) set))) (sym is)
 
 from_each : (set : List ℕ) → EachIndex set (λ place. slice_index set place ≤ 1) → list_all (λ life. nat_le life 1) set ≡ true
 from_each [] each = refl

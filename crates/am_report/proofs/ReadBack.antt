@@ -1,24 +1,22 @@
 -- The text of a script reads as its value.
-use Rattle.std.proofs.Common.{◌≡◌, ℕ, ◌<◌, ◌≤◌, ◌==◌, ◌+◌, ◌*◌, ◌^◌, ◌%◌, max, List, [], ◌∷◌, ◌++◌, Bool, true, false, if◌then◌else◌, cond, Option, Some, None, option_map, option_and_then, codes, refl, sym, ap, ◌∙◌, arith, decimal, length, slice_index, All, append-nil}
-use Rattle.std.specs.List.{flat_map}
+use Rattle.std.proofs.Common.{◌≡◌, ℕ, ◌<◌, ◌≤◌, ◌==◌, ◌^◌, ◌%◌, List, [], ◌∷◌, Bool, true, false, if◌then◌else◌, Option, Some, option_and_then, codes, refl, sym, ap, ◌∙◌, arith, All, append-nil}
 use Rattle.std.proofs.lemmas.List.Elements.{All-head, All-tail}
 use Rattle.json.specs.Json as json
 use Rattle.json.specs.Tree.{HasNumbers, ItemsHaveNumbers, MembersHaveNumbers, json_tokens}
 use Rattle.json.specs.Tree as tree
-use Rattle.json.specs.Print.{print}
 use Rattle.json.specs.Lex.{tokens}
 use Rattle.json.proofs.Printed.Trees.{value-json_tokens, ArePrintable-json_tokens}
 use Rattle.json.proofs.Printed.Tokens.{tokens-print}
 use Rattle.json.specs.Token.{Token}
 use Rattle.json.proofs.Printed.Decimals.{IsNumber-decimal}
 use Rattle.json.proofs.OnLiterals.{json_on_literals}
-use Rattle.serde_json.specs.Data.{Data, unsigned, number, string, array, object, Items, no_items, item, Members, no_members, member, put}
-use Rattle.serde_json.specs.Read.{read, max_depth, number_of, of_json, of_items, of_members}
-use Rattle.serde_json.specs.Written.{compact_text, outline, items_outline, members_outline}
+use Rattle.serde_json.specs.Data.{Data, string, object, no_members, member, put}
+use Rattle.serde_json.specs.Read.{read, max_depth, of_json, of_items}
+use Rattle.serde_json.specs.Written.{compact_text, outline, items_outline}
 use Rattle.serde_json.proofs.Numbers.{number_of-decimal}
 use Rattle.serde_json.proofs.Texts.{print-outline}
 use Rattle.am_base.specs.Most.{most_number}
-use Rattle.am_base.specs.Founding.{Rules, MayFound}
+use Rattle.am_base.specs.Founding.{Rules}
 use Rattle.am_base.specs.Names.{place_of, life_of, names_of}
 use Rattle.am_group.specs.declared.event.Act.{Act}
 use Rattle.am_group.specs.declared.event.Act.TheVariants as acts
@@ -26,7 +24,7 @@ use Rattle.am_group.specs.declared.event.Event.{Event}
 use Rattle.am_play.specs.Text.{act_word}
 use Rattle.am_report.specs.Schedules.{script_text}
 use Rattle.am_script.specs.Limits.{IsWithin, EventWithin, ActWithin}
-use Rattle.am_report.proofs.Documents.{count, event_data, life_then, resilience_of, body_then, before_node, behind_node, events_items, places_items, play_data, document}
+use Rattle.am_report.proofs.Documents.{count, event_data, events_items, places_items, document}
 use Rattle.am_report.proofs.Written.{written}
 
 -- ---- any value whose numbers read back

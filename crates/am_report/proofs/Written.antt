@@ -1,5 +1,5 @@
 -- The text of a script is that of its value.
-use Rattle.std.proofs.Common.{◌≡◌, ℕ, zero, suc, ◌<◌, ◌≤◌, ◌==◌, ◌+◌, ◌/◌, ◌%◌, List, [], ◌∷◌, ◌++◌, Bool, true, false, if◌then◌else◌, cond, codes, refl, sym, ap, ◌∙◌, arith, decimal, append_assoc, append-nil, nat_lt, slice_index, length, All, EachIndex}
+use Rattle.std.proofs.Common.{◌≡◌, ℕ, zero, suc, ◌<◌, ◌≤◌, ◌==◌, ◌+◌, ◌/◌, ◌%◌, List, [], ◌∷◌, ◌++◌, Bool, true, false, if◌then◌else◌, cond, codes, refl, sym, ap, ◌∙◌, arith, decimal, append_assoc, nat_lt, slice_index, length, EachIndex}
 use Rattle.std.proofs.lemmas.List.Sums.{sum_by-cons}
 use Rattle.std.proofs.lemmas.Bool.{ltb-true, ltb-false, lt-ltb}
 use Rattle.std.specs.List.{flat_map}
@@ -7,7 +7,7 @@ use Rattle.std.specs.Fmt.{digit_glyph}
 use Rattle.json.specs.Print.{escape_byte, escape, quoted}
 use Rattle.json.proofs.Printed.Strings.{escape_byte_plain}
 use Rattle.json.proofs.OnLiterals.{json_on_literals}
-use Rattle.serde_json.specs.Data.{Data, string, array, Items, Members, no_members, member}
+use Rattle.serde_json.specs.Data.{string, array, Members, no_members, member}
 use Rattle.serde_json.specs.Written.{compact_text, items_text, members_text}
 use Rattle.am_base.specs.Founding.{Rules, MayFound}
 use Rattle.am_base.specs.Names.{place_of, life_of, names_from, names_of, size}
@@ -16,7 +16,7 @@ use Rattle.am_group.specs.declared.event.Act.TheVariants as acts
 use Rattle.am_group.specs.declared.event.Event.{Event}
 use Rattle.am_play.specs.Text.{hex_byte, act_word, list_text, names_text, name_text}
 use Rattle.am_report.specs.Schedules.{life_json, resilience_json, body_json, keys_before, word_json, keys_behind, event_json, others_json, list_json, events_json, founders_json, numbers_json, script_text}
-use Rattle.am_report.proofs.Documents.{count, event_data, body_then, before_node, behind_node, life_then, resilience_of, events_items, places_items, play_data, document}
+use Rattle.am_report.proofs.Documents.{count, event_data, body_then, before_node, behind_node, events_items, places_items, document}
 
 -- ---- digits need no escape
 

@@ -1,5 +1,5 @@
 -- Sets of names, printed place by place.
-use Rattle.std.specs.Prelude.{ℕ, zero, suc, Bool, true, false, List, ◌∷◌, ◌++◌, codes}
+use Rattle.std.specs.Prelude.{ℕ, zero, suc, Bool, true, false, List, [], ◌++◌, codes}
 use Rattle.std.specs.List.{flat_map}
 use Rattle.am_base.specs.Names.{name_at}
 use Rattle.am_play.specs.Text.{name_text, list_text}
@@ -9,7 +9,13 @@ abbrev pub rest_text : Bool → List ℕ → List ℕ
 rest_text true names = list_text names
 rest_text false names = flat_map (λ name. codes "," ++ name_text name) names
 
--- names behind the one of a place, where there is a life
-abbrev pub with_life : ℕ → ℕ → List ℕ → List ℕ
-with_life place zero names = names
-with_life place (suc before) names = name_at place (suc before) ∷ names
+-- what is printed for the life at a place, where nobody was printed before it or somebody was
+abbrev pub place_text : Bool → ℕ → ℕ → List ℕ
+place_text first place zero = []
+place_text true place (suc before) = name_text (name_at place (suc before))
+place_text false place (suc before) = codes "," ++ name_text (name_at place (suc before))
+
+-- whether the next is the first behind that
+abbrev pub first_behind : Bool → ℕ → Bool
+first_behind first zero = first
+first_behind first (suc before) = false

@@ -1,42 +1,64 @@
-ghost use Rattle.std.specs.Prelude.{◌≡◌, ◌++◌, OnOk, string_bytes};
+ghost use Rattle.std.specs.Prelude.{◌≤◌, length, OnOk};
+ghost use Rattle.std.specs.Fmt.{WritesInCalls};
 ghost use Rattle.std.specs.List.{flat_map};
 ghost use Rattle.am_play.specs.Text.{hex_byte, body_text, resilience_text, entry_text};
 
 use crate::name::{push_name, push_names, push_stamp};
 use crate::number::push_behind;
-use am_base::NoMemory;
 use am_base::entry::{EntryParts, EntryRef};
 use am_base::founding::Founding;
+use am_io::writer::Writer;
+use std::str;
+
+/// How many bytes are made digits at once.
+const CHUNK: usize = 64;
+
+// Adds two lower-case hexadecimal digits for each of a few bytes.
+fn push_chunk<O: Writer>(out: &mut O, bytes: &[u8]) -> Result<(), O::Fault>
+    requires { length bytes.now ≤ 64 }
+    ensures { OnOk result (WritesInCalls O.writes out.old (flat_map hex_byte bytes.now) out.new) }
+{
+    let mut room = [0u8; 2 * CHUNK];
+    let digits = &mut room[..2 * bytes.len()];
+    hex::encode_to_slice(bytes, digits).unwrap();
+    let Ok(words) = str::from_utf8(digits) else {
+        unreachable!()
+    };
+    out.put(words)
+}
 
 /// Adds two lower-case hexadecimal digits for each byte. After an error a part of it may have been added.
-pub fn push_bytes(out: &mut String, bytes: &[u8]) -> Result<(), NoMemory>
-    ensures { OnOk result (string_bytes out.new
-        ≡ string_bytes out.old ++ flat_map hex_byte bytes.now) }
+pub fn push_bytes<O: Writer>(out: &mut O, bytes: &[u8]) -> Result<(), O::Fault>
+    ensures { OnOk result (WritesInCalls O.writes out.old (flat_map hex_byte bytes.now) out.new) }
 {
-    let digits = hex::encode(*out.allocator(), bytes)?;
-    out.push_str(digits.as_str())
+    let mut rest = bytes;
+    'chunks: while CHUNK < rest.len() {
+        let (chunk, more) = rest.split_at(CHUNK);
+        push_chunk(out, chunk)?;
+        rest = more;
+    }
+    push_chunk(out, rest)
 }
 
 /// Adds a body: its bytes, or a dash where there are none. After an error a part of it may have been added.
-#[tactic(auto, unfolding(am_play::specs::Text::body_text))]
-pub fn push_body(out: &mut String, bytes: &[u8]) -> Result<(), NoMemory>
-    ensures { OnOk result (string_bytes out.new ≡ string_bytes out.old ++ body_text bytes.now) }
+#[tactic(auto, using(am_io::proofs::Writers::in_turn), unfolding(am_play::specs::Text::body_text))]
+pub fn push_body<O: Writer>(out: &mut O, bytes: &[u8]) -> Result<(), O::Fault>
+    ensures { OnOk result (WritesInCalls O.writes out.old (body_text bytes.now) out.new) }
 {
     if bytes.is_empty() {
-        return out.push_str("-");
+        return out.put("-");
     }
     push_bytes(out, bytes)
 }
 
 /// Adds a resilience, where it isn't the founding's. After an error a part of it may have been added.
-#[tactic(auto, unfolding(am_play::specs::Text::resilience_text))]
-pub fn push_resilience(
-    out: &mut String,
+#[tactic(auto, using(am_io::proofs::Writers::in_turn), unfolding(am_play::specs::Text::resilience_text))]
+pub fn push_resilience<O: Writer>(
+    out: &mut O,
     founding: &Founding,
     resilience: u8,
-) -> Result<(), NoMemory>
-    ensures { OnOk result (string_bytes out.new
-        ≡ string_bytes out.old ++ resilience_text founding.now resilience) }
+) -> Result<(), O::Fault>
+    ensures { OnOk result (WritesInCalls O.writes out.old (resilience_text founding.now resilience) out.new) }
 {
     if resilience == founding.resilience() {
         return Ok(());
@@ -45,29 +67,28 @@ pub fn push_resilience(
 }
 
 /// Adds an entry. After an error a part of it may have been added.
-#[tactic(auto, unfolding(am_play::specs::Text::entry_text))]
-pub fn push_entry(
-    out: &mut String,
+#[tactic(auto, using(am_io::proofs::Writers::in_turn), unfolding(am_play::specs::Text::entry_text))]
+pub fn push_entry<O: Writer>(
+    out: &mut O,
     founding: &Founding,
     entry: &EntryRef<'_>,
-) -> Result<(), NoMemory>
-    ensures { OnOk result (string_bytes out.new
-        ≡ string_bytes out.old ++ entry_text founding.now entry.now) }
+) -> Result<(), O::Fault>
+    ensures { OnOk result (WritesInCalls O.writes out.old (entry_text founding.now entry.now) out.new) }
 {
     match entry.parts() {
         EntryParts::Data { from, req, body } => {
-            out.push_str("data ")?;
+            out.put("data ")?;
             push_name(out, *from)?;
             push_behind(out, " ", u64::from(*req))?;
-            out.push_str(" ")?;
+            out.put(" ")?;
             push_body(out, body.bytes())
         }
         EntryParts::Join(name) => {
-            out.push_str("join ")?;
+            out.put("join ")?;
             push_name(out, *name)
         }
         EntryParts::Leave(name) => {
-            out.push_str("leave ")?;
+            out.put("leave ")?;
             push_name(out, *name)
         }
         EntryParts::View {
@@ -75,9 +96,9 @@ pub fn push_entry(
             members,
             resilience,
         } => {
-            out.push_str("view ")?;
+            out.put("view ")?;
             push_stamp(out, *stamp)?;
-            out.push_str(" ")?;
+            out.put(" ")?;
             push_names(out, *members)?;
             push_resilience(out, founding, *resilience)
         }

@@ -1,12 +1,13 @@
-ghost use Rattle.std.specs.Prelude.{◌≡◌, ◌++◌, OnOk, string_bytes};
+ghost use Rattle.std.specs.Prelude.{◌≡◌, ◌++◌, OnOk};
+ghost use Rattle.std.specs.Fmt.{WritesInCalls};
 ghost use Rattle.am_play.specs.Text.{act_word, act_parts, event_text};
 
 use crate::entry::{push_body, push_resilience};
 use crate::name::push_name;
 use crate::number::push_behind;
-use am_base::NoMemory;
 use am_base::founding::Founding;
 use am_group::event::{Act, Event};
+use am_io::writer::Writer;
 
 /// An act's word.
 #[tactic(auto, unfolding(am_play::specs::Text::act_word))]
@@ -32,14 +33,13 @@ pub fn act_word(act: &Act) -> &'static str
 }
 
 // Adds what stands behind an act's node, with a blank before each part.
-#[tactic(auto, unfolding(am_play::specs::Text::act_parts))]
-fn push_parts(out: &mut String, founding: &Founding, act: &Act) -> Result<(), NoMemory>
-    ensures { OnOk result (string_bytes out.new
-        ≡ string_bytes out.old ++ act_parts founding.now act.now) }
+#[tactic(auto, using(am_io::proofs::Writers::in_turn), unfolding(am_play::specs::Text::act_parts))]
+fn push_parts<O: Writer>(out: &mut O, founding: &Founding, act: &Act) -> Result<(), O::Fault>
+    ensures { OnOk result (WritesInCalls O.writes out.old (act_parts founding.now act.now) out.new) }
 {
     match act {
         Act::Send(body) => {
-            out.push_str(" ")?;
+            out.put(" ")?;
             push_body(out, body.bytes())
         }
         Act::Done(req) => push_behind(out, " ", u64::from(*req)),
@@ -49,7 +49,7 @@ fn push_parts(out: &mut String, founding: &Founding, act: &Act) -> Result<(), No
         }
         Act::Ask(round) => push_behind(out, " ", u64::from(*round)),
         Act::GiveUp(name) => {
-            out.push_str(" ")?;
+            out.put(" ")?;
             push_name(out, *name)
         }
         Act::Hear(packet) => push_behind(out, " ", u64::from(*packet)),
@@ -64,12 +64,15 @@ fn push_parts(out: &mut String, founding: &Founding, act: &Act) -> Result<(), No
 }
 
 /// Adds an event: its act's word, the place of its node, and the rest. After an error a part of it may have been added.
-#[tactic(auto, unfolding(am_play::specs::Text::event_text))]
-pub fn push_event(out: &mut String, founding: &Founding, event: &Event) -> Result<(), NoMemory>
-    ensures { OnOk result (string_bytes out.new
-        ≡ string_bytes out.old ++ event_text founding.now event.now) }
+#[tactic(auto, using(am_io::proofs::Writers::in_turn), unfolding(am_play::specs::Text::event_text))]
+pub fn push_event<O: Writer>(
+    out: &mut O,
+    founding: &Founding,
+    event: &Event,
+) -> Result<(), O::Fault>
+    ensures { OnOk result (WritesInCalls O.writes out.old (event_text founding.now event.now) out.new) }
 {
-    out.push_str(act_word(&event.act))?;
+    out.put(act_word(&event.act))?;
     push_behind(out, " ", u64::from(event.node.place()))?;
     push_parts(out, founding, &event.act)
 }

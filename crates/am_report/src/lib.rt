@@ -1,5 +1,5 @@
-//! What is printed of a run, part by part, at the end of a text.
-#![tactic(auto)]
+//! What is printed of a run, part by part, behind what was written before.
+#![tactic(auto, using(am_io::proofs::Writers::in_turn))]
 
 pub mod entry;
 pub mod event;
@@ -11,3 +11,4 @@ pub mod outcome;
 pub mod play;
 pub mod script;
 pub mod summary;
+pub mod text;

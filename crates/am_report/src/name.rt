@@ -1,18 +1,19 @@
-ghost use Rattle.std.specs.Prelude.{◌≡◌, ℕ, List, ◌++◌, ◌<◌, IfOk, OnOk, string_bytes, slice_index, nat_le};
+ghost use Rattle.std.specs.Prelude.{◌≡◌, ◌<◌, IfOk, OnOk, slice_index, nat_le};
+ghost use Rattle.std.specs.Fmt.{WritesInCalls};
 ghost use Rattle.std.specs.List.{list_all};
 ghost use Rattle.am_play.specs.Text.{name_text, stamp_text, names_text, is_everybody_else};
-ghost use Rattle.am_report.specs.Names.{rest_text, with_life};
+ghost use Rattle.am_report.specs.Names.{place_text, first_behind};
 
 use crate::number::{push_behind, push_number};
-use am_base::NoMemory;
 use am_base::name::{Name, Stamp};
 use am_base::names::Names;
+use am_io::writer::Writer;
 
 /// Adds a name: its place, and a life other than the first behind a slash.
 /// After an error a part of it may have been added.
-#[tactic(auto, unfolding(am_play::specs::Text::name_text))]
-pub fn push_name(out: &mut String, name: Name) -> Result<(), NoMemory>
-    ensures { OnOk result (string_bytes out.new ≡ string_bytes out.old ++ name_text name) }
+#[tactic(auto, using(am_io::proofs::Writers::in_turn), unfolding(am_play::specs::Text::name_text))]
+pub fn push_name<O: Writer>(out: &mut O, name: Name) -> Result<(), O::Fault>
+    ensures { OnOk result (WritesInCalls O.writes out.old (name_text name) out.new) }
 {
     let place = name.place();
     let life = name.life();
@@ -24,28 +25,33 @@ pub fn push_name(out: &mut String, name: Name) -> Result<(), NoMemory>
 }
 
 /// Adds a stamp. After an error a part of it may have been added.
-#[tactic(auto, unfolding(am_play::specs::Text::stamp_text))]
-pub fn push_stamp(out: &mut String, stamp: Stamp) -> Result<(), NoMemory>
-    ensures { OnOk result (string_bytes out.new ≡ string_bytes out.old ++ stamp_text stamp) }
+#[tactic(auto, using(am_io::proofs::Writers::in_turn), unfolding(am_play::specs::Text::stamp_text))]
+pub fn push_stamp<O: Writer>(out: &mut O, stamp: Stamp) -> Result<(), O::Fault>
+    ensures { OnOk result (WritesInCalls O.writes out.old (stamp_text stamp) out.new) }
 {
     let round = stamp.round;
     push_number(out, u64::from(round))?;
-    out.push_str(".")?;
+    out.put(".")?;
     push_name(out, stamp.by)
 }
 
 // Adds the name of a place, where there is one, behind a comma if it isn't the first; whether the next is the first.
-fn push_place(out: &mut String, first: bool, names: Names, place: u8) -> Result<bool, NoMemory>
+fn push_place<O: Writer>(
+    out: &mut O,
+    first: bool,
+    names: Names,
+    place: u8,
+) -> Result<bool, O::Fault>
     requires { place < 16 }
-    ensures { (rest : List ℕ) → IfOk result (λ still. string_bytes out.new ++ rest_text still rest
-        ≡ string_bytes out.old ++ rest_text first
-        (with_life place (slice_index names place) rest)) }
+    ensures text { OnOk result (WritesInCalls O.writes out.old
+        (place_text first place (slice_index names place)) out.new) }
+    ensures first { IfOk result (λ still. still ≡ first_behind first (slice_index names place)) }
 {
     let Some(name) = Name::of(place, names.life_at(place)) else {
         return Ok(first);
     };
     if !first {
-        out.push_str(",")?;
+        out.put(",")?;
     }
     push_name(out, name)?;
     Ok(false)
@@ -53,15 +59,15 @@ fn push_place(out: &mut String, first: bool, names: Names, place: u8) -> Result<
 
 /// Adds the names of a set, ascending, with commas between them, or a dash.
 /// After an error a part of it may have been added.
-pub fn push_names(out: &mut String, names: Names) -> Result<(), NoMemory>
-    ensures { OnOk result (string_bytes out.new ≡ string_bytes out.old ++ names_text names) }
+pub fn push_names<O: Writer>(out: &mut O, names: Names) -> Result<(), O::Fault>
+    ensures { OnOk result (WritesInCalls O.writes out.old (names_text names) out.new) }
 {
     let mut first = true;
     for place in 0..16u8 {
         first = push_place(out, first, names, place)?;
     }
     if first {
-        return out.push_str("-");
+        return out.put("-");
     }
     Ok(())
 }

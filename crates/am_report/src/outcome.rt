@@ -1,13 +1,14 @@
-ghost use Rattle.std.specs.Prelude.{◌≡◌, ◌++◌, OnOk, string_bytes};
+ghost use Rattle.std.specs.Prelude.{◌≡◌, ◌++◌, OnOk};
+ghost use Rattle.std.specs.Fmt.{WritesInCalls};
 ghost use Rattle.am_play.specs.Text.{outcome_word, numbers_text, outcome_numbers, outcome_parts, outcome_text};
 ghost use Rattle.am_report.specs.Outcomes.{numbers_in};
 
 use crate::entry::push_entry;
 use crate::name::{push_name, push_names, push_stamp};
 use crate::number::push_behind;
-use am_base::NoMemory;
 use am_base::founding::Founding;
 use am_base::outcome::Outcome;
+use am_io::writer::Writer;
 
 /// An outcome's word.
 #[tactic(auto, unfolding(am_play::specs::Text::outcome_word))]
@@ -114,10 +115,9 @@ fn numbers_of(outcome: &Outcome) -> Numbers
 }
 
 // Adds the numbers of an outcome that has nothing but numbers, with a blank before each.
-#[tactic(auto, unfolding(crate::specs::Outcomes::numbers_in))]
-fn push_numbers(out: &mut String, outcome: &Outcome) -> Result<(), NoMemory>
-    ensures { OnOk result (string_bytes out.new
-        ≡ string_bytes out.old ++ numbers_text (outcome_numbers outcome.now)) }
+#[tactic(auto, using(am_io::proofs::Writers::in_turn), unfolding(crate::specs::Outcomes::numbers_in))]
+fn push_numbers<O: Writer>(out: &mut O, outcome: &Outcome) -> Result<(), O::Fault>
+    ensures { OnOk result (WritesInCalls O.writes out.old (numbers_text (outcome_numbers outcome.now)) out.new) }
 {
     match numbers_of(outcome) {
         Numbers::Nothing => Ok(()),
@@ -135,39 +135,42 @@ fn push_numbers(out: &mut String, outcome: &Outcome) -> Result<(), NoMemory>
 }
 
 // Adds what stands behind an outcome's word, with a blank before each part.
-#[tactic(auto, unfolding(am_play::specs::Text::outcome_parts))]
-fn push_parts(out: &mut String, founding: &Founding, outcome: &Outcome) -> Result<(), NoMemory>
-    ensures { OnOk result (string_bytes out.new
-        ≡ string_bytes out.old ++ outcome_parts founding.now outcome.now) }
+#[tactic(auto, using(am_io::proofs::Writers::in_turn), unfolding(am_play::specs::Text::outcome_parts))]
+fn push_parts<O: Writer>(
+    out: &mut O,
+    founding: &Founding,
+    outcome: &Outcome,
+) -> Result<(), O::Fault>
+    ensures { OnOk result (WritesInCalls O.writes out.old (outcome_parts founding.now outcome.now) out.new) }
 {
     match outcome {
         Outcome::Took { number, entry } => {
             push_behind(out, " ", u64::from(*number))?;
-            out.push_str(" ")?;
+            out.put(" ")?;
             push_entry(out, founding, &entry.as_ref())
         }
         Outcome::NoBody { from, req: number } | Outcome::Fetching { from, want: number } => {
-            out.push_str(" ")?;
+            out.put(" ")?;
             push_name(out, *from)?;
             push_behind(out, " ", u64::from(*number))
         }
         Outcome::Newer { promise: stamp }
         | Outcome::Overtaken { by: stamp }
         | Outcome::NotIn { best: stamp } => {
-            out.push_str(" ")?;
+            out.put(" ")?;
             push_stamp(out, *stamp)
         }
         Outcome::Waiting { names } => {
-            out.push_str(" ")?;
+            out.put(" ")?;
             push_names(out, *names)
         }
         Outcome::Decided { number, members } => {
             push_behind(out, " ", u64::from(*number))?;
-            out.push_str(" ")?;
+            out.put(" ")?;
             push_names(out, *members)
         }
         Outcome::Occupied { name } => {
-            out.push_str(" ")?;
+            out.put(" ")?;
             push_name(out, *name)
         }
         _ => push_numbers(out, outcome),
@@ -175,15 +178,14 @@ fn push_parts(out: &mut String, founding: &Founding, outcome: &Outcome) -> Resul
 }
 
 /// Adds an outcome: its word and its parts. After an error a part of it may have been added.
-#[tactic(auto, unfolding(am_play::specs::Text::outcome_text))]
-pub fn push_outcome(
-    out: &mut String,
+#[tactic(auto, using(am_io::proofs::Writers::in_turn), unfolding(am_play::specs::Text::outcome_text))]
+pub fn push_outcome<O: Writer>(
+    out: &mut O,
     founding: &Founding,
     outcome: &Outcome,
-) -> Result<(), NoMemory>
-    ensures { OnOk result (string_bytes out.new
-        ≡ string_bytes out.old ++ outcome_text founding.now outcome.now) }
+) -> Result<(), O::Fault>
+    ensures { OnOk result (WritesInCalls O.writes out.old (outcome_text founding.now outcome.now) out.new) }
 {
-    out.push_str(outcome_word(outcome))?;
+    out.put(outcome_word(outcome))?;
     push_parts(out, founding, outcome)
 }

@@ -5,9 +5,8 @@ ghost use Rattle.am_script.specs.Limits.{IsWithin};
 ghost use Rattle.am_script.specs.Scripts.{reading};
 ghost use Rattle.am_report.specs.Schedules.{life_json, resilience_json, body_json, keys_before, keys_behind, word_json, event_json, others_json, list_json, events_json, founders_json, numbers_json, script_text, AreOfBytes};
 
-use crate::entry::push_bytes;
 use crate::event::act_word;
-use crate::name::push_names;
+use crate::text::{push_bytes, push_names};
 use am_base::NoMemory;
 use am_base::founding::Founding;
 use am_base::name::Name;

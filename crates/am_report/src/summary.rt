@@ -2,7 +2,7 @@ ghost use Rattle.std.specs.Prelude.{◌≡◌, ◌++◌, OnOk, IfOk, string_byte
 ghost use Rattle.am_play.specs.Play.{count_line};
 ghost use Rattle.am_report.specs.Summaries.{summary_for};
 
-use crate::lines::push_mark;
+use crate::text::push_mark;
 use am_base::NoMemory;
 use std::alloc::Global;
 

@@ -16,9 +16,7 @@ use am_dir::replica::Replica;
 use am_group::delivered::given_to;
 use am_group::event::Record;
 use am_group::journal::Journal;
-use am_report::entry::push_body;
-use am_report::lines::push_mark;
-use am_report::name::push_name;
+use am_report::text::{push_body, push_mark, push_name};
 use am_seg::parts::{part_count, part_of};
 use std::alloc::Global;
 

@@ -1,4 +1,4 @@
-ghost use Rattle.std.specs.Prelude.{◌≡◌, IfOk, string_bytes};
+ghost use Rattle.std.specs.Prelude.{◌≡◌, ◌≢◌, IfOk, string_bytes};
 ghost use Rattle.am_play.specs.Lawful.{watch_run};
 ghost use Rattle.am_world.specs.Runs.{replay};
 ghost use Rattle.am_player.specs.Runs.{logged_in};
@@ -6,6 +6,8 @@ ghost use Rattle.am_sim.specs.Playing.{shown_text};
 
 use am_base::NoMemory;
 use am_base::name::Name;
+use am_io::buffered::Buffered;
+use am_io::outside::Sink;
 use am_player::shows::{PlayText, Shows};
 use am_services::directories::directories_text;
 use am_services::messages::messages_text;
@@ -14,21 +16,22 @@ use am_words::form::Shown;
 use am_world::world::World;
 use std::alloc::Global;
 
-/// What is shown of what a world did. The names are those that have or had a list.
+/// What is shown of what a world did, but for its text, made whole. The names are those that have or had a list.
 fn text_of_world(
     alloc: Global,
     shown: Shown,
     world: &World,
     names: &[Name],
 ) -> Result<String, NoMemory>
-    requires { names.now ≡ logged_in (replay world.now) }
+    requires named { names.now ≡ logged_in (replay world.now) }
+    requires other { shown ≢ Shown.Text }
     ensures { IfOk result (λ text. string_bytes text
         ≡ shown_text shown world.now.rules (watch_run world.now.rules world.now.events)) }
 {
     let broken = world.broken_at();
     let journal = world.journal();
     match shown {
-        Shown::Text => PlayText.text_of(alloc, world, names),
+        Shown::Text => unreachable!(),
         Shown::Messages => messages_text(alloc, journal.records(), names, broken),
         Shown::Directories => directories_text(alloc, journal, names, broken),
         Shown::Snapshots => snapshots_text(alloc, journal, names, broken),
@@ -45,7 +48,20 @@ pub struct ShownRun {
 impl Shows for ShownRun {
     ghost text = { λ it. shown_text it.shown };
 
-    fn text_of(&self, alloc: Global, world: &World, names: &[Name]) -> Result<String, NoMemory> {
-        text_of_world(alloc, self.shown, world, names)
+    fn show<K: Sink>(
+        &self,
+        alloc: Global,
+        world: &World,
+        names: &[Name],
+        out: &mut Buffered<'_, K>,
+    ) -> Result<(), NoMemory> {
+        match self.shown {
+            Shown::Text => PlayText.show(alloc, world, names, out),
+            shown => {
+                let text = text_of_world(alloc, shown, world, names)?;
+                out.write(text.as_bytes());
+                Ok(())
+            }
+        }
     }
 }

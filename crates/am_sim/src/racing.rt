@@ -1,9 +1,13 @@
-ghost use Rattle.std.specs.Prelude.{◌≡◌, ◌≤◌, ◌++◌, List, length, IfOk, OnOk, string_bytes};
+ghost use Rattle.std.specs.Prelude.{◌≡◌, ◌≤◌, ◌++◌, ℕ, List, length, IfOk, OnOk, OnErr};
+ghost use Rattle.std.specs.Fmt.{WritesInCalls};
 ghost use Rattle.am_base.specs.Most.{most_events};
 ghost use Rattle.am_group.specs.declared.event.Record.{Record};
+ghost use Rattle.am_io.specs.Buffers.{Goes};
 ghost use Rattle.am_play.specs.Play.{text_of};
-ghost use Rattle.am_report.specs.Schedules.{script_text};
+ghost use Rattle.am_play.specs.Text.{newline};
+ghost use Rattle.am_player.specs.Runs.{logged_in};
 ghost use Rattle.am_script.specs.Limits.{RaceWithin};
+ghost use Rattle.am_world.specs.Runs.{replay};
 ghost use Rattle.am_sim.specs.Racing.{events_of, race_text, IsRaced, IsReadAgain, IsRaceText};
 
 use am_base::NoMemory;
@@ -13,10 +17,13 @@ use am_calls::gate::Gate;
 use am_calls::race::race;
 use am_group::event::{Event, Record};
 use am_group::plan::RacePlan;
-use am_player::run::text_of_run;
-use am_player::shows::PlayText;
+use am_io::buffered::Buffered;
+use am_io::outside::Sink;
+use am_io::writer::Writer;
+use am_player::run::{logged_names, play_out};
+use am_player::shows::push_run;
 use am_report::script::script_text;
-use am_world::world::WorldRefusal;
+use am_world::world::{World, WorldRefusal};
 use std::alloc::Global;
 use std::sync::Wait;
 use std::thread::Threads;
@@ -49,47 +56,72 @@ fn events_of_race<R: Threads + Wait + Sync, G: Gate + Sync>(
     Ok(events)
 }
 
-/// The text of the run of at most 100,000 events.
-#[tactic(auto, unfolding(am_player::specs::Runs::IsRunText, am_player::specs::Runs::IsLong))]
-fn text_of_events(alloc: Global, founding: &Founding, events: &[Event]) -> Result<String, NoMemory>
+/// The world after at most 100,000 events.
+#[tactic(auto, unfolding(am_player::specs::Runs::IsLong))]
+fn world_of_events(alloc: Global, founding: &Founding, events: &[Event]) -> Result<World, NoMemory>
     requires { length events.now ≤ most_events }
-    ensures { IfOk result (λ text. string_bytes text ≡ text_of founding.now events.now) }
+    ensures { IfOk result (λ world. world ≡ record { rules = founding.now; events = events.now }) }
 {
-    match text_of_run(alloc, &PlayText, founding, events, false) {
-        Ok(text) => Ok(text),
+    match play_out(alloc, founding, events, false) {
+        Ok(world) => Ok(world),
         Err(WorldRefusal::NoMemory) => Err(NoMemory),
         Err(WorldRefusal::Spent) => unreachable!(),
     }
 }
 
-/// What was done as a script, in one line, and the text of the run of that.
-fn text_with_script(
+/// Adds a script in one line, and the text of what a world did.
+#[tactic(auto, using(am_io::proofs::Writers::in_turn))]
+fn push_race<O: Writer>(
+    out: &mut O,
+    script: &str,
+    world: &World,
+    names: &[Name],
+) -> Result<(), O::Fault>
+    requires { names.now ≡ logged_in (replay world.now) }
+    ensures { OnOk result (WritesInCalls O.writes out.old
+        (script.now ++ (newline ++ text_of world.now.rules world.now.events)) out.new) }
+{
+    out.put(script)?;
+    out.put("\n")?;
+    push_run(out, world, names)
+}
+
+/// Writes what was done as a script, in one line, and the text of the run of that. After an error nothing was written.
+fn write_events<K: Sink>(
     alloc: Global,
     founding: &Founding,
     events: &[Event],
-) -> Result<String, NoMemory>
+    out: &mut Buffered<'_, K>,
+) -> Result<(), NoMemory>
     requires { length events.now ≤ most_events }
-    ensures text { IfOk result (λ text. string_bytes text ≡ race_text founding.now events.now) }
+    ensures text { OnOk result (Goes K.contents K.count out.old (race_text founding.now events.now)
+        out.new) }
     ensures again { OnOk result (IsReadAgain founding.now events.now) }
+    ensures unwritten { OnErr result (out.new ≡ out.old) }
 {
-    let mut text = script_text(alloc, founding, events)?;
-    text.push_str("\n")?;
-    let run = text_of_events(alloc, founding, events)?;
-    text.push_str(run.as_str())?;
-    Ok(text)
+    let script = script_text(alloc, founding, events)?;
+    let world = world_of_events(alloc, founding, events)?;
+    let names = logged_names(alloc, &world)?;
+    match push_race(out, script.as_str(), &world, names.as_slice()) {
+        Ok(()) => Ok(()),
+        Err(never) => match never {},
+    }
 }
 
-/// The text of a race: what was done as a script, in one line, and the text of the run of that.
-pub fn text_of_race<R: Threads + Wait + Sync, G: Gate + Sync>(
+/// Writes the text of a race: what was done as a script, in one line, and the text of the run of that. After an error nothing was
+/// written.
+pub fn write_race<R: Threads + Wait + Sync, G: Gate + Sync, K: Sink>(
     rt: &R,
     alloc: Global,
     gate: &G,
     plan: &RacePlan,
-) -> Result<String, NoMemory>
+    out: &mut Buffered<'_, K>,
+) -> Result<(), NoMemory>
     requires { RaceWithin plan.now }
-    ensures { IfOk result (λ text. IsRaceText plan.now (string_bytes text)) }
+    ensures raced { OnOk result ((text : List ℕ) × IsRaceText plan.now text
+        × Goes K.contents K.count out.old text out.new) }
+    ensures unwritten { OnErr result (out.new ≡ out.old) }
 {
     let events = events_of_race(rt, alloc, gate, plan)?;
-    let text = text_with_script(alloc, &plan.founding, events.as_slice())?;
-    Ok(text)
+    write_events(alloc, &plan.founding, events.as_slice(), out)
 }

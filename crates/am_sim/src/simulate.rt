@@ -1,5 +1,6 @@
-ghost use Rattle.std.specs.Prelude.{◌≡◌, ◌≢◌, ◌↔◌, ℕ, List, None, Some, Err, IfOk, IfErr, Ok, string_bytes, true};
+ghost use Rattle.std.specs.Prelude.{◌≡◌, ◌≢◌, ◌↔◌, ℕ, List, None, Some, Err, IfOk, IfErr, OnOk, OnErr, Ok, true};
 ghost use Rattle.std.specs.Io.KnownBytes.{Appends};
+ghost use Rattle.am_io.specs.Buffers.{Goes};
 ghost use Rattle.am_io.specs.Outside.{ReadToEnd, GaveMore, GaveAtMost};
 ghost use Rattle.am_script.specs.declared.key.Key.TheVariants as key;
 ghost use Rattle.am_script.specs.declared.script.Script.TheVariants as scripts;
@@ -14,12 +15,13 @@ ghost use Rattle.am_player.specs.Statuses.{most_input, OnDone, OnWriteFault, IfB
 ghost use Rattle.am_sim.specs.Simulation.{form_of_words, most_of, Reads, key_for, EndsGen, IsAnswer, IsRacedText, IfBadText, IfAudit, Judges, Raced};
 
 use crate::alone::simulate_alone;
-use crate::racing::text_of_race;
+use crate::racing::write_race;
 use crate::speaking::{node_in, speak_node};
 use am_calls::gate::Gate;
 use am_group::plan::RacePlan;
+use am_io::buffered::Buffered;
 use am_io::outside::{Sink, Source};
-use am_io::whole::{ReadRefusal, read_all, write_all};
+use am_io::whole::{ReadRefusal, read_all};
 use am_player::play::INPUT_MOST;
 use am_player::status::Status;
 use am_script::key::Key;
@@ -140,16 +142,14 @@ fn race_script<R: Threads + Wait + Sync, S: Source, K: Sink, G: Gate + Sync>(
         Err(ReadRefusal::TooLong) => return Status::TooLong,
         Err(ReadRefusal::NoMemory) => return Status::NoMemory,
     };
-    let text = match race_answer(rt, alloc, gate, bytes.as_slice()) {
-        Ok(text) => text,
-        Err(cause) => {
-            if cause == ScriptRefusal::NoMemory {
-                return Status::NoMemory;
-            }
-            return Status::BadScript(cause);
+    let mut out = Buffered::new(sink);
+    if let Err(cause) = race_answer(rt, alloc, gate, bytes.as_slice(), &mut out) {
+        if cause == ScriptRefusal::NoMemory {
+            return Status::NoMemory;
         }
-    };
-    match write_all(sink, text.as_bytes()) {
+        return Status::BadScript(cause);
+    }
+    match out.finish() {
         Ok(()) => Status::Done,
         Err(_) => Status::WriteFault,
     }
@@ -169,18 +169,21 @@ fn plan_of(alloc: Global, bytes: &[u8]) -> Result<RacePlan, ScriptRefusal>
     }
 }
 
-/// The text of the race that bytes are.
-fn race_answer<R: Threads + Wait + Sync, G: Gate + Sync>(
+/// Writes the text of the race that bytes are. After an error nothing was written.
+fn race_answer<R: Threads + Wait + Sync, G: Gate + Sync, K: Sink>(
     rt: &R,
     alloc: Global,
     gate: &G,
     bytes: &[u8],
-) -> Result<String, ScriptRefusal>
-    ensures raced { IfOk result (λ text. Raced bytes.now (string_bytes text)) }
+    out: &mut Buffered<'_, K>,
+) -> Result<(), ScriptRefusal>
+    ensures raced { OnOk result ((text : List ℕ) × Raced bytes.now text
+        × Goes K.contents K.count out.old text out.new) }
     ensures refused { IfErr result (λ e. e ≢ ScriptRefusal.NoMemory
         → reading key.Race bytes.now ≡ Err e) }
+    ensures unwritten { OnErr result (out.new ≡ out.old) }
 {
     let plan = plan_of(alloc, bytes)?;
-    let text = text_of_race(rt, alloc, gate, &plan)?;
-    Ok(text)
+    write_race(rt, alloc, gate, &plan, out)?;
+    Ok(())
 }

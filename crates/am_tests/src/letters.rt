@@ -9,7 +9,7 @@ use am_letter::reader::decode;
 use am_packet::packet::Packet;
 use std::test::*;
 
-/// A Request of 65 bytes, one more than stand within a letter.
+/// A Request of 65 bytes, which don't stand within a letter.
 const LONG: &[u8] =
     b"AG\x03\x01\x01\x00\x00\x00\x02\x00\x00\x41\x00\x00\x00\x05\x00\x00\x00\x04\x00\x00\x00\x0301234567890123456789012345678901234567890";
 

@@ -1,3 +1,4 @@
+use am_io::buffered::Buffered;
 use am_io::memory::{MemSink, MemSource};
 use am_io::outside::{Sink, Source};
 use am_io::whole::{ReadRefusal, read_all, write_all};
@@ -18,6 +19,15 @@ const WRITES: [(&[u64], usize, usize, u64); 4] = [
     (&[2], 250, 100, 1),
     (&[4], 250, 250, 0),
     (&[], 249, 200, 1),
+];
+
+/// 400 pieces of 100 bytes and one of 20,000, through a room of 16,384: writes that fail, how many bytes the sink takes, and the faults.
+const TEXTS: [(&[u64], usize, u64); 5] = [
+    (&[], 60_000, 0),
+    (&[1], 0, 1),
+    (&[2], 16_300, 1),
+    (&[4], 40_000, 1),
+    (&[5], 60_000, 0),
 ];
 
 #[test]
@@ -41,6 +51,31 @@ fn a_fault_ends_a_write(rt: HostRuntime) -> Result<(), Fail> {
         assert_eq!(rt; fault.is_none(), taken == 250);
         assert_eq!(rt; sink.bytes().len(), taken);
         assert_eq!(rt; sink.faults(), faults);
+    }
+    Ok(())
+}
+
+/// Whether pieces, the last of which is longer than the room, all go to the sink.
+fn goes_through(sink: &mut MemSink<'_>) -> bool {
+    let mut out = Buffered::new(sink);
+    for _ in 0..400 {
+        out.write(&[1; 100]);
+    }
+    out.write(&[2; 20_000]);
+    out.finish().is_ok()
+}
+
+#[test]
+fn a_fault_ends_a_text(rt: HostRuntime) -> Result<(), Fail> {
+    for (fail, taken, faults) in TEXTS {
+        let mut sink = MemSink::new(rt.alloc(), fail, 100_000, 60_000)?;
+        assert_eq!(rt; goes_through(&mut sink), taken == 60_000);
+        assert_eq!(rt; sink.faults(), faults);
+        let bytes = sink.bytes();
+        assert_eq!(rt; bytes.len(), taken);
+        let first = taken.min(40_000);
+        assert!(rt; bytes[..first].iter().all(|byte| *byte == 1));
+        assert!(rt; bytes[first..].iter().all(|byte| *byte == 2));
     }
     Ok(())
 }

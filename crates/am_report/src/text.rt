@@ -1,0 +1,65 @@
+//! Parts of what is printed, at the end of a text in memory.
+
+ghost use Rattle.std.specs.Prelude.{◌≡◌, ◌++◌, OnOk, string_bytes};
+ghost use Rattle.std.specs.List.{flat_map};
+ghost use Rattle.am_play.specs.Text.{name_text, stamp_text, names_text, hex_byte, body_text, outcome_text, mark_line};
+
+use crate::{entry, lines, name, outcome};
+use am_base::NoMemory;
+use am_base::founding::Founding;
+use am_base::name::{Name, Stamp};
+use am_base::names::Names;
+use am_base::outcome::Outcome;
+
+/// Adds a name: its place, and a life other than the first behind a slash. After an error a part of it may have been added.
+pub fn push_name(out: &mut String, name: Name) -> Result<(), NoMemory>
+    ensures { OnOk result (string_bytes out.new ≡ string_bytes out.old ++ name_text name) }
+{
+    name::push_name(out, name)
+}
+
+/// Adds a stamp. After an error a part of it may have been added.
+pub fn push_stamp(out: &mut String, stamp: Stamp) -> Result<(), NoMemory>
+    ensures { OnOk result (string_bytes out.new ≡ string_bytes out.old ++ stamp_text stamp) }
+{
+    name::push_stamp(out, stamp)
+}
+
+/// Adds the names of a set, ascending, with commas between them, or a dash. After an error a part of it may have been added.
+pub fn push_names(out: &mut String, names: Names) -> Result<(), NoMemory>
+    ensures { OnOk result (string_bytes out.new ≡ string_bytes out.old ++ names_text names) }
+{
+    name::push_names(out, names)
+}
+
+/// Adds two lower-case hexadecimal digits for each byte. After an error a part of it may have been added.
+pub fn push_bytes(out: &mut String, bytes: &[u8]) -> Result<(), NoMemory>
+    ensures { OnOk result (string_bytes out.new ≡ string_bytes out.old ++ flat_map hex_byte bytes.now) }
+{
+    entry::push_bytes(out, bytes)
+}
+
+/// Adds a body: its bytes, or a dash where there are none. After an error a part of it may have been added.
+pub fn push_body(out: &mut String, bytes: &[u8]) -> Result<(), NoMemory>
+    ensures { OnOk result (string_bytes out.new ≡ string_bytes out.old ++ body_text bytes.now) }
+{
+    entry::push_body(out, bytes)
+}
+
+/// Adds an outcome: its word and its parts. After an error a part of it may have been added.
+pub fn push_outcome(
+    out: &mut String,
+    founding: &Founding,
+    outcome: &Outcome,
+) -> Result<(), NoMemory>
+    ensures { OnOk result (string_bytes out.new ≡ string_bytes out.old ++ outcome_text founding.now outcome.now) }
+{
+    outcome::push_outcome(out, founding, outcome)
+}
+
+/// Adds the last line: `lawful`, or which event broke the run. After an error a part of it may have been added.
+pub fn push_mark(out: &mut String, broken: Option<u32>) -> Result<(), NoMemory>
+    ensures { OnOk result (string_bytes out.new ≡ string_bytes out.old ++ mark_line broken) }
+{
+    lines::push_mark(out, broken)
+}
