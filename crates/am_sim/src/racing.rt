@@ -13,6 +13,7 @@ ghost use Rattle.am_sim.specs.Racing.{events_of, race_text, IsRaced, IsReadAgain
 use am_base::NoMemory;
 use am_base::founding::Founding;
 use am_base::items::Items;
+use am_base::name::Name;
 use am_calls::gate::Gate;
 use am_calls::race::race;
 use am_group::event::{Event, Record};
@@ -123,5 +124,6 @@ pub fn write_race<R: Threads + Wait + Sync, G: Gate + Sync, K: Sink>(
     ensures unwritten { OnErr result (out.new ≡ out.old) }
 {
     let events = events_of_race(rt, alloc, gate, plan)?;
-    write_events(alloc, &plan.founding, events.as_slice(), out)
+    write_events(alloc, &plan.founding, events.as_slice(), out)?;
+    Ok(())
 }

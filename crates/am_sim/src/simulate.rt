@@ -143,11 +143,14 @@ fn race_script<R: Threads + Wait + Sync, S: Source, K: Sink, G: Gate + Sync>(
         Err(ReadRefusal::NoMemory) => return Status::NoMemory,
     };
     let mut out = Buffered::new(sink);
-    if let Err(cause) = race_answer(rt, alloc, gate, bytes.as_slice(), &mut out) {
-        if cause == ScriptRefusal::NoMemory {
-            return Status::NoMemory;
+    match race_answer(rt, alloc, gate, bytes.as_slice(), &mut out) {
+        Ok(()) => {}
+        Err(cause) => {
+            if cause == ScriptRefusal::NoMemory {
+                return Status::NoMemory;
+            }
+            return Status::BadScript(cause);
         }
-        return Status::BadScript(cause);
     }
     match out.finish() {
         Ok(()) => Status::Done,
