@@ -124,7 +124,7 @@ def refusals(tried: Tried) -> list[str]:
 
 
 def no_memory(tried: Tried) -> list[str]:
-    """With each allocation failing in turn a driver answers all, or a beginning of it and says that there was no memory."""
+    """With each allocation failing in turn a driver answers all, or a beginning of it and says that there was no memory, as mostly."""
     if tried.sanitize:
         return []
     library = tried.folder / "fail_malloc.so"
@@ -141,7 +141,7 @@ def no_memory(tried: Tried) -> list[str]:
             wrong.append(f"where allocation {at} fails the driver ended with {ran.returncode} and {ran.stdout!r}")
         if int(ran.stderr.split()[-2]) < at:
             break
-    return wrong or ([] if failed > 50 else [f"want of memory was told {failed} times in {at} runs"])
+    return wrong or ([] if failed > at * 4 // 5 else [f"want of memory was told {failed} times in {at} runs"])
 
 
 def crash(tried: Tried) -> list[str]:
