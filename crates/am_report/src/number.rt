@@ -4,7 +4,7 @@ ghost use Rattle.std.specs.Fmt.{WritesInCalls};
 use am_io::writer::Writer;
 use itoa::Buffer;
 
-/// Adds a number in decimal. After an error nothing of it has been added.
+/// Adds a number in decimal. After an error a part of it may have been added.
 pub fn push_number<O: Writer>(out: &mut O, number: u64) -> Result<(), O::Fault>
     ensures { OnOk result (WritesInCalls O.writes out.old (decimal number) out.new) }
 {
