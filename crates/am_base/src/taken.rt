@@ -57,24 +57,24 @@ impl TakenEntry {
     pub fn as_ref(&self) -> EntryRef<'_>
         ensures { result ≡ self.now }
     {
-        EntryRef::of(match &self.parts {
-            TakenParts::Data { from, req, body } => EntryParts::Data {
+        match &self.parts {
+            TakenParts::Data { from, req, body } => EntryRef::of(EntryParts::Data {
                 from: *from,
                 req: *req,
                 body: body.as_ref(),
-            },
-            TakenParts::Join(name) => EntryParts::Join(*name),
-            TakenParts::Leave(name) => EntryParts::Leave(*name),
+            }),
+            TakenParts::Join(name) => EntryRef::of(EntryParts::Join(*name)),
+            TakenParts::Leave(name) => EntryRef::of(EntryParts::Leave(*name)),
             TakenParts::View {
                 stamp,
                 members,
                 resilience,
-            } => EntryParts::View {
+            } => EntryRef::of(EntryParts::View {
                 stamp: *stamp,
                 members: *members,
                 resilience: *resilience,
-            },
-        })
+            }),
+        }
     }
 }
 
