@@ -31,37 +31,40 @@ pub enum Key {
     Keep,
 }
 
+/// The words of the keys, in the order of `Key`.
+const WORDS: [&str; 25] = [
+    "",
+    "play",
+    "race",
+    "founders",
+    "resilience",
+    "window",
+    "pb_up_to",
+    "settle",
+    "events",
+    "seed",
+    "loss",
+    "repeat",
+    "turns",
+    "threads",
+    "node",
+    "calls",
+    "do",
+    "body",
+    "req",
+    "least",
+    "round",
+    "name",
+    "life",
+    "packet",
+    "keep",
+];
+
 impl Key {
     /// Its word in a script.
     pub fn word(self) -> &'static str
         ensures { result.now ≡ word_of self }
     {
-        match self {
-            Key::Top => "",
-            Key::Play => "play",
-            Key::Race => "race",
-            Key::Founders => "founders",
-            Key::Resilience => "resilience",
-            Key::Window => "window",
-            Key::PbUpTo => "pb_up_to",
-            Key::Settle => "settle",
-            Key::Events => "events",
-            Key::Seed => "seed",
-            Key::Loss => "loss",
-            Key::Repeat => "repeat",
-            Key::Turns => "turns",
-            Key::Threads => "threads",
-            Key::Node => "node",
-            Key::Calls => "calls",
-            Key::Do => "do",
-            Key::Body => "body",
-            Key::Req => "req",
-            Key::Least => "least",
-            Key::Round => "round",
-            Key::Name => "name",
-            Key::Life => "life",
-            Key::Packet => "packet",
-            Key::Keep => "keep",
-        }
+        WORDS[self as usize]
     }
 }
