@@ -1,5 +1,5 @@
 -- The statuses that a call ends with: their numbers, and what holds of the source and the sink at each.
-use Rattle.std.specs.Prelude.{ℕ, List, take, Option}
+use Rattle.std.specs.Prelude.{ℕ, List, take, Option, Bool, true, false}
 use Rattle.std.specs.Io.KnownBytes.{Appends}
 use Rattle.am_io.specs.Outside.{next}
 use Rattle.am_script.specs.declared.refusal.ScriptRefusal.{ScriptRefusal}
@@ -55,6 +55,11 @@ IfBadScript _ claim = Unit {0}
 -- a beginning of the text was appended
 abbrev pub WrotePart : Option (List ℕ) → Option (List ℕ) → List ℕ → Type 0
 WrotePart before after text = (count : ℕ) × Appends before after (take count text)
+
+-- all of the text was appended, or a beginning of it
+abbrev pub WroteUpTo : Bool → Option (List ℕ) → Option (List ℕ) → List ℕ → Type 0
+WroteUpTo true before after text = Appends before after text
+WroteUpTo false before after text = WrotePart before after text
 
 -- how a call counts the faults of its source and of its sink
 abbrev pub reads_after : Status → ℕ → ℕ

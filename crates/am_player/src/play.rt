@@ -1,11 +1,11 @@
-ghost use Rattle.std.specs.Prelude.{◌≡◌, ◌≢◌, ℕ, List, Err, OnOk, OnErr, IfErr};
+ghost use Rattle.std.specs.Prelude.{◌≡◌, ◌≢◌, ℕ, List, Err, if◌then◌else◌, OnOk, OnErr, IfOk, IfErr};
 ghost use Rattle.std.specs.Io.KnownBytes.{Appends};
 ghost use Rattle.am_io.specs.Buffers.{Goes};
-ghost use Rattle.am_io.specs.Outside.{ReadToEnd, GaveMore, GaveAtMost};
+ghost use Rattle.am_io.specs.Outside.{ReadToEnd, GaveMore, GaveAtMost, next};
 ghost use Rattle.am_script.specs.declared.key.Key.TheVariants as key;
 ghost use Rattle.am_script.specs.Scripts.{IsOfKind, reading};
 ghost use Rattle.am_player.specs.Plays.{PlayedBy, IsPlayedBy, IsSpent, IsText, IsUnrun, IsUnplayed, unplayed_for};
-ghost use Rattle.am_player.specs.Statuses.{most_input, OnDone, OnWriteFault, IfBadScript, IsOfAudit, Writes, WrotePart, reads_after, writes_after};
+ghost use Rattle.am_player.specs.Statuses.{most_input, OnDone, OnWriteFault, IfBadScript, IsOfAudit, Writes, WrotePart, WroteUpTo, reads_after, writes_after};
 
 use crate::run::{play_out, show_run};
 use crate::shows::Shows;
@@ -59,16 +59,52 @@ pub fn play<T: Shows, S: Source, K: Sink>(
         Err(ReadRefusal::TooLong) => return Status::TooLong,
         Err(ReadRefusal::NoMemory) => return Status::NoMemory,
     };
-    let mut out = Buffered::new(sink);
-    match answer(alloc, shows, bytes.as_slice(), &mut out) {
-        Ok(()) => {}
-        Err(Unplayed::BadScript(cause)) => return Status::BadScript(cause),
-        Err(Unplayed::Spent) => return Status::Spent,
-        Err(Unplayed::NoMemory) => return Status::NoMemory,
+    play_bytes(alloc, shows, bytes.as_slice(), sink)
+}
+
+/// Runs a script's bytes, and writes what is shown of its run.
+fn play_bytes<T: Shows, K: Sink>(alloc: Global, shows: &T, bytes: &[u8], sink: &mut K) -> Status
+    ensures not_usage { result ≢ Status.Usage }
+    ensures not_of_audit { IsOfAudit result → ⊥ }
+    ensures not_too_long { result ≢ Status.TooLong }
+    ensures reads { (n : ℕ) → reads_after result n ≡ n }
+    ensures writes { K.count sink.new ≡ writes_after result (K.count sink.old) }
+    ensures bad_script { IfBadScript result (λ cause. reading key.Play bytes.now ≡ Err cause) }
+    ensures spent { result ≡ Status.Spent → IsSpent bytes.now }
+    ensures part { OnWriteFault result ((text : List ℕ) × PlayedBy (T.text shows.now) bytes.now text
+        × WrotePart (K.contents sink.old) (K.contents sink.new) text) }
+    ensures done { OnDone result ((text : List ℕ) × PlayedBy (T.text shows.now) bytes.now text
+        × Appends (K.contents sink.old) (K.contents sink.new) text) }
+    ensures unwritten { (Writes result → ⊥) → sink.new ≡ sink.old }
+{
+    match write_run(alloc, shows, bytes, sink) {
+        Ok(true) => Status::Done,
+        Ok(false) => Status::WriteFault,
+        Err(Unplayed::BadScript(cause)) => Status::BadScript(cause),
+        Err(Unplayed::Spent) => Status::Spent,
+        Err(Unplayed::NoMemory) => Status::NoMemory,
     }
+}
+
+/// Writes what is shown of the run of a script's bytes, and says whether no write failed. After an error nothing was written.
+fn write_run<T: Shows, K: Sink>(
+    alloc: Global,
+    shows: &T,
+    bytes: &[u8],
+    sink: &mut K,
+) -> Result<bool, Unplayed>
+    ensures played { IfOk result (λ is_whole. (text : List ℕ) × PlayedBy (T.text shows.now) bytes.now text
+        × WroteUpTo is_whole (K.contents sink.old) (K.contents sink.new) text) }
+    ensures counts { IfOk result (λ is_whole. K.count sink.new
+        ≡ (if is_whole then K.count sink.old else next (K.count sink.old))) }
+    ensures unplayed { IfErr result (λ e. IsUnplayed bytes.now e) }
+    ensures unwritten { OnErr result (sink.new ≡ sink.old) }
+{
+    let mut out = Buffered::new(sink);
+    answer(alloc, shows, bytes, &mut out)?;
     match out.finish() {
-        Ok(()) => Status::Done,
-        Err(_) => Status::WriteFault,
+        Ok(()) => Ok(true),
+        Err(_) => Ok(false),
     }
 }
 
