@@ -41,5 +41,3 @@ pub logged_end : (w : World) (each : List ℕ) (rank : ℕ) → 256 ≤ rank →
 logged_end w each rank high h =
     let none : 256 - rank ≡ 0 = omega arith in
     sym (append-nil each) ∙ ap (λ n. each ++ filter (has_log_in w) (map named (range_with_len rank n))) (sym none) ∙ h
-
-pub ruleset logged_laws = (logged_more, logged_end)

@@ -28,7 +28,6 @@ fn push_where(each: &mut Vec<Name>, name: Name, is_due: bool) -> Result<(), NoMe
 }
 
 /// The names that have or had a list, in their places' order.
-#[tactic(auto, using(crate::proofs::Names::logged_laws))]
 pub fn logged_names(alloc: Global, world: &World) -> Result<Vec<Name>, NoMemory>
     ensures { IfOk result (λ each. each.items ≡ logged_in (replay world.now)) }
 {
