@@ -4,7 +4,7 @@ use Rattle.am_acting.proofs.Words.{◌∙◌, ap, arith, slice_index, nat_tests,
 use Rattle.am_acting.proofs.Words.{member_life, members_of, fits, IsKept, split, OwnSend, waiting_next, members_pushed, Node, top, image_of, view, others}
 use Rattle.am_acting.proofs.Words.{only_name, own_row, acts, has_room, is_sequencer, waiting, push_entry, quiet, emit, hand_in, NodeKeeps, keeps_pushed}
 use Rattle.am_acting.proofs.Words.{leading_log, Note, noting, own_send}
-use Rattle.am_sender.specs.Sends as own
+use Rattle.am_parts.specs.Sends as own
 use Rattle.am_acting.specs.declared.note.Note.TheVariants as note
 
 -- ---- a member hands its send in

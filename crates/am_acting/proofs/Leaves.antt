@@ -8,8 +8,8 @@ use Rattle.am_acting.proofs.Words.{lowest_or_first, waiting, unsettled_count, ha
 use Rattle.am_acting.proofs.Words.{refresh, lead, settle, settle_waiting, refresh_at_end, led_of, with_led, go, is_unfinished, leave_now, leave_row, leave_by}
 use Rattle.am_acting.proofs.Words.{IsEndOf, NodeKeeps, IsSteady, Done, end_made, keeps_pushed, leads_pushed, long_fold, refresh_steady, noting}
 use Rattle.am_base.specs.declared.outcome.Outcome.TheVariants as said
-use Rattle.am_fronts.specs.Refresh as fronts
-use Rattle.am_sender.specs.Sends as own
+use Rattle.am_parts.specs.Refresh as fronts
+use Rattle.am_parts.specs.Sends as own
 use Rattle.am_model.specs.declared.status.Status.TheVariants as status
 use Rattle.am_acting.specs.declared.note.Note.TheVariants as note
 use Rattle.am_acting.proofs.Emits.{member_row}

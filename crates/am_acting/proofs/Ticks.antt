@@ -6,7 +6,7 @@ use Rattle.am_acting.proofs.Words.{Plan, quiet, finish, with_accept, accept_of, 
 use Rattle.am_acting.proofs.Words.{tick_sequencer, tick_acting, tick_with, tick_by, tick_row, put_off, IsEndOf, Tells, Changes, with_told, Done, end_self}
 use Rattle.am_acting.proofs.Words.{done, Note, Again, packet_of, noting, and_poll, handing, and_view, again_of, again_of_ballot, by_again, own_send}
 use Rattle.am_base.specs.declared.outcome.Outcome.TheVariants as said
-use Rattle.am_sender.specs.Sends as own
+use Rattle.am_parts.specs.Sends as own
 use Rattle.am_model.specs.declared.status.Status.TheVariants as status
 use Rattle.am_acting.specs.declared.note.Note.TheVariants as note
 use Rattle.am_acting.proofs.{Emits.waits_is, Emits.waits_none, Emits.emit_stays, Emits.emit_full, Emits.emit_numbers, Leaves.departed}

@@ -12,13 +12,13 @@ pub use Rattle.am_base.specs.Lists.{at_place, blank_row, member_life, members_of
 unfoldable pub use Rattle.am_base.specs.Lists.{fits, after}
 pub use Rattle.am_base.proofs.Places.{by_place_all}
 pub use Rattle.am_packet.specs.{Boxes.Letter, Boxes.with_letter, declared.packet.Packet.Packet}
-pub use Rattle.am_core.proofs.{Folds.split, Members.members_pushed, Ends.told-push, Ends.end-entry, CoreLaws.stands_self}
-pub use Rattle.am_core.specs.{Kept.IsKept, Cores.CoreState}
-pub use Rattle.am_table.proofs.Rows.{leaves_member}
-pub use Rattle.am_fronts.specs.{Refresh.Led, Refresh.LeadsBy, Refresh.MayLead, Refresh.core_and_reports, Reports.reports_of}
-pub use Rattle.am_bodies.specs.Bodies.{is_of, keep_body}
-pub use Rattle.am_sender.specs.declared.OwnSend.{OwnSend}
-pub use Rattle.am_sender.proofs.Lines.{waiting_next}
+pub use Rattle.am_parts.proofs.{Folds.split, Members.members_pushed, Ends.told-push, Ends.end-entry, CoreLaws.stands_self}
+pub use Rattle.am_parts.specs.{Kept.IsKept, Cores.CoreState}
+pub use Rattle.am_parts.proofs.Rows.{leaves_member}
+pub use Rattle.am_parts.specs.{Refresh.Led, Refresh.LeadsBy, Refresh.MayLead, Refresh.core_and_reports, Reports.reports_of}
+pub use Rattle.am_parts.specs.Bodies.{is_of, keep_body}
+pub use Rattle.am_parts.specs.declared.sender.OwnSend.{OwnSend}
+pub use Rattle.am_parts.proofs.Lines.{waiting_next}
 pub use Rattle.am_model.specs.{declared.status.Status.Status, Emit.quiet, Emit.Plan, Emit.with_accept, Emit.accept_of, Emit.result_of, Emit.bcast_of}
 pub use Rattle.am_model.specs.{Refresh.settle_waiting, Refresh.led_of, Refresh.with_led, Ends.IsEndOf, Ends.Tells, Ends.Changes, Ends.ComesTo, Ends.Does}
 pub use Rattle.am_model.specs.{Ends.with_log, Receiving.answer_hold, Sequencing.row_at}

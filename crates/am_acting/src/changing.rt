@@ -1,14 +1,14 @@
 ghost use Rattle.std.specs.Prelude.{◌≡◌, ◌<◌, ◌≤◌, ◌+◌, length, true, false, None, IfOk, IfErr, IsOk, OnOk, OnErr, ◌↔◌};
 ghost use Rattle.am_handlers.specs.Prelude.{most_number, has_log, is_member, waiting, node_of};
-ghost use Rattle.am_sender.specs.Sends.{submit, collect, collect_outcome};
-ghost use Rattle.am_bodies.specs.Bodies.{keep_body};
+ghost use Rattle.am_parts.specs.Sends.{submit, collect, collect_outcome};
+ghost use Rattle.am_parts.specs.Bodies.{keep_body};
 
 use am_base::body::{BodyRef, SentBody};
 use am_base::name::Name;
 use am_base::outcome::Outcome;
 use am_handlers::parts::Parts;
 use am_model::status::Status;
-use am_sender::Busy;
+use am_parts::sender::Busy;
 
 /// How the node stands to its group.
 pub fn status(parts: &Parts) -> Status

@@ -1,7 +1,7 @@
 ghost use Rattle.std.specs.Prelude.{◌≡◌, ◌<◌, ◌+◌, ◌&&◌, nat_lt, nat_le, [], length, true, Some, IfSome, is_some, option_map};
 ghost use Rattle.am_handlers.specs.Prelude.{most_number, IsNumber, top_of, acts, is_sequencer, others, push_entry, top, view, waiting, node_of, Finishes};
 ghost use Rattle.am_base.specs.declared.entry.Entry.TheVariants.{Data};
-ghost use Rattle.am_sender.specs.Sends.{waiting_send};
+ghost use Rattle.am_parts.specs.Sends.{waiting_send};
 ghost use Rattle.am_model.specs.Node.{own_row};
 ghost use Rattle.am_model.specs.Calls.{hand_in, emit};
 ghost use Rattle.am_acting.specs.declared.note.Note.TheVariants as note;
@@ -15,12 +15,12 @@ use am_base::entry::{EntryParts, EntryRef};
 use am_base::name::Name;
 use am_base::names::Names;
 use am_base::outcome::Outcome;
-use am_core::log::Log;
 use am_handlers::asking::{has_room, next_number};
 use am_handlers::finishing::finish_quietly;
 use am_handlers::packets::only;
 use am_handlers::parts::Parts;
 use am_letter::out_box::OutBox;
+use am_parts::log::Log;
 
 /// A send of the node's own: its request and its body.
 #[derive(Drop, Debug)]

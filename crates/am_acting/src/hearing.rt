@@ -1,7 +1,7 @@
 ghost use Rattle.std.specs.Prelude.{◌≡◌, [], ◌||◌, nat_le};
 ghost use Rattle.std.specs.List.{list_any};
 ghost use Rattle.am_handlers.specs.Prelude.{waiting, node_of, Performs};
-ghost use Rattle.am_bodies.specs.Bodies.{is_of};
+ghost use Rattle.am_parts.specs.Bodies.{is_of};
 ghost use Rattle.am_model.specs.Sequencing.{row_at};
 ghost use Rattle.am_model.specs.Receiving.{spread_row, hold_row};
 ghost use Rattle.am_model.specs.Joining.{gone_row};
@@ -11,11 +11,11 @@ use crate::changing::{is_leaving, keep_body, set_status};
 use am_base::body::BodyRef;
 use am_base::name::Name;
 use am_base::outcome::Outcome;
-use am_core::log::Log;
 use am_handlers::finishing::finish_quietly;
 use am_handlers::parts::Parts;
 use am_letter::out_box::OutBox;
 use am_model::status::Status;
+use am_parts::log::Log;
 
 /// Whether a send is numbered, or its body is kept.
 fn is_known(parts: &Parts, from: Name, req: u32) -> bool

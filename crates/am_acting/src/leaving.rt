@@ -1,7 +1,7 @@
 ghost use Rattle.std.specs.Prelude.{◌≡◌, ◌<◌, ◌≤◌, ◌+◌, ◌||◌, nat_lt, [], true, false, length, None};
 ghost use Rattle.am_handlers.specs.Prelude.{most_number, top_of, size, is_member, is_sequencer, others, push_entry, waiting, IsEndOf, node_of, Finishes, Performs};
 ghost use Rattle.am_base.specs.declared.entry.Entry.TheVariants.{Leave};
-ghost use Rattle.am_fronts.specs.Refresh.{MayLead};
+ghost use Rattle.am_parts.specs.Refresh.{MayLead};
 ghost use Rattle.am_model.specs.declared.status.Status.TheVariants as status;
 ghost use Rattle.am_model.specs.Node.{unsettled_count, lowest_or_first};
 ghost use Rattle.am_model.specs.Emit.{quiet};
@@ -16,13 +16,13 @@ use am_base::entry::EntryRef;
 use am_base::name::Name;
 use am_base::names::Names;
 use am_base::outcome::Outcome;
-use am_core::log::Log;
 use am_handlers::asking::{has_room, held_answer};
 use am_handlers::finishing::finish_quietly;
 use am_handlers::packets::only;
 use am_handlers::parts::Parts;
 use am_letter::out_box::OutBox;
 use am_model::status::Status;
+use am_parts::log::Log;
 
 /// Whether there is a ballot that isn't over.
 pub fn is_unfinished(parts: &Parts) -> bool

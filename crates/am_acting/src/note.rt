@@ -4,11 +4,11 @@ ghost use Rattle.am_acting.specs.Notes.{packet_of, IsNoteWithin};
 use am_base::body::BodyRef;
 use am_base::entry::EntryRef;
 use am_base::names::Names;
-use am_core::log::Log;
-use am_core::state::Core;
 use am_handlers::packet_from;
 use am_handlers::packets::{ack, bcast, report};
 use am_packet::packet::Packet;
+use am_parts::log::Log;
+use am_parts::state::Core;
 
 /// What a letter is to tell: a packet without the values that its sender has after the step.
 #[derive(Drop, Debug)]
@@ -45,7 +45,7 @@ pub struct Notice<'a> {
 }
 
 /// The packet that a node makes of a note.
-#[tactic(auto, unfolding(am_codec::specs::Limits::IsWithin))]
+#[tactic(auto, unfolding(am_packet::specs::Limits::IsWithin))]
 pub fn packet<'a, L: Log>(note: &Note<'a>, core: &Core<L>) -> Packet<'a>
     requires { IsNoteWithin note.now }
     ensures value { CoreTells (packet_of note.now) core.now result }

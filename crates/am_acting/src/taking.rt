@@ -6,10 +6,10 @@ ghost use Rattle.am_model.specs.Calls.{take_row};
 use crate::changing::{is_member, set_taken};
 use am_base::outcome::Outcome;
 use am_base::taken::{EntryRoom, TakenEntry};
-use am_core::log::Log;
 use am_handlers::finishing::finish_quietly;
 use am_handlers::parts::Parts;
 use am_letter::out_box::OutBox;
+use am_parts::log::Log;
 
 /// The entry after those that the application has taken, with its number; None exactly where all that is accepted is taken.
 /// It is put into the spare room.

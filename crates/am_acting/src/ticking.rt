@@ -16,13 +16,13 @@ use crate::viewing::tell_view;
 use am_base::name::Name;
 use am_base::names::Names;
 use am_base::outcome::Outcome;
-use am_core::log::Log;
 use am_handlers::asking::{has_room, held_answer};
 use am_handlers::finishing::finish_quietly;
 use am_handlers::packets::only;
 use am_handlers::parts::Parts;
 use am_letter::out_box::OutBox;
 use am_model::status::Status;
+use am_parts::log::Log;
 
 /// What a ballot asks for again.
 #[derive(Drop, Debug)]

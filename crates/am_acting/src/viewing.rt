@@ -1,7 +1,7 @@
 ghost use Rattle.std.specs.Prelude.{◌≡◌, ◌<◌, ◌≤◌, ◌+◌, nat_lt, length};
 ghost use Rattle.std.specs.Option.{option_copied};
 ghost use Rattle.am_handlers.specs.Prelude.{most_number, entry_at, others, image_of, Tells, node_of};
-ghost use Rattle.am_fronts.specs.Reports.{reports_of};
+ghost use Rattle.am_parts.specs.Reports.{reports_of};
 ghost use Rattle.am_model.specs.Node.{name_where, those};
 ghost use Rattle.am_model.specs.Ticks.{viewed_by};
 ghost use Rattle.am_acting.specs.Forms.{and_view};
@@ -10,10 +10,10 @@ use crate::emitting::others;
 use am_base::entry::Entry;
 use am_base::name::Name;
 use am_base::names::Names;
-use am_core::log::Log;
 use am_handlers::packets;
 use am_handlers::parts::Parts;
 use am_letter::out_box::OutBox;
+use am_parts::log::Log;
 
 /// A life of a place that has reported less than a number as stored, else 0.
 fn behind_life(parts: &Parts, number: u32, place: u8, life: u8) -> u8

@@ -19,7 +19,7 @@ use am_base::outcome::Outcome;
 use am_base::taken::EntryRoom;
 use am_group::event::{Act, By, Event, Part, Record};
 use am_letter::out_box::{OutBox, Rooms};
-use am_post::letter::LetterCopy;
+use am_packet::letter::LetterCopy;
 use std::alloc::Global;
 
 /// What an act asks of a node that runs, with the letter that it hears; None where it is no step of one.

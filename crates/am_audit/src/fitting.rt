@@ -10,8 +10,8 @@ use crate::verdict::Verdict;
 use am_base::body::Body;
 use am_base::entry::Entry;
 use am_base::limits::MOST_NUMBER;
+use am_parts::table::Table;
 use am_report::name::are_first;
-use am_table::table::Table;
 
 /// The entry, with nothing as a body.
 fn bare_entry(outline: &Outline) -> Entry

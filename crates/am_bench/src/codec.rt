@@ -1,4 +1,4 @@
-ghost use Rattle.am_codec.specs.Limits.{IsWithin};
+ghost use Rattle.am_packet.specs.Limits.{IsWithin};
 
 use am_base::body::PacketBytes;
 use am_base::founding::Founding;
@@ -9,10 +9,10 @@ use am_base::outcome::Outcome;
 use am_group::event::{Act, By, Event, Part, Record};
 use am_group::journal::Journal;
 use am_letter::letter::letter_of;
-use am_letter::reader::decode;
 use am_letter::writer::encode;
+use am_packet::letter::Letter;
 use am_packet::packet::Packet;
-use am_post::letter::Letter;
+use am_reader::reader::decode;
 use std::alloc::{AllocError, Global};
 use std::io;
 use std::rt::Clock;
@@ -65,7 +65,7 @@ fn encode_many(
 }
 
 /// A letter for these names.
-#[tactic(auto, unfolding(am_codec::specs::Limits::IsWithin))]
+#[tactic(auto, unfolding(am_packet::specs::Limits::IsWithin))]
 fn letter_to(alloc: Global, to: Names) -> Result<Letter, AllocError> {
     let invite = Packet::Invite {
         sender: Name::of_byte(0),

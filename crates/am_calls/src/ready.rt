@@ -6,13 +6,13 @@ ghost use Rattle.am_races.specs.Ready.{invite_round, round_in, is_ended, is_sent
 use am_answers::outcomes::ballot_answer;
 use am_base::outcome::Outcome;
 use am_group::event::Act;
-use am_info::info::BallotEnd;
-use am_letter::letter::packet_of;
+use am_model::info::BallotEnd;
 use am_model::status::Status;
 use am_node::node::Node;
+use am_packet::letter::Letter;
 use am_packet::packet::Packet;
-use am_post::letter::Letter;
 use am_races::call::Came;
+use am_reader::reader::packet_of;
 
 /// The round of a packet that is an Invite.
 fn invite_round(packet: &Packet) -> Option<u32>

@@ -1,6 +1,6 @@
 ghost use Rattle.std.specs.Prelude.{◌≡◌, ◌≤◌, [], length};
 ghost use Rattle.am_base.specs.Most.{most_body};
-ghost use Rattle.am_info.specs.Nodes.{HasNumbersLeft};
+ghost use Rattle.am_model.specs.Nodes.{HasNumbersLeft};
 ghost use Rattle.am_node.specs.Stands.{state_of};
 ghost use Rattle.am_races.specs.Boxes.{Steps};
 

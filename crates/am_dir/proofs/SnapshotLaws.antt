@@ -14,8 +14,8 @@ use Rattle.byteorder.specs.Endian.{big_bytes, big_number}
 use Rattle.byteorder.specs.Numbers.{big_number-reads_back, length-bytes_high_first}
 use Rattle.am_base.specs.Most.{most_number}
 use Rattle.am_base.specs.Limits.{IsNumber}
-use Rattle.am_codec.specs.Laws.{IsBytes}
-use Rattle.am_codec.proofs.Numbers.{IsBytes-drop, big_number-lt, front}
+use Rattle.am_packet.specs.Laws.{IsBytes}
+use Rattle.am_packet.proofs.Numbers.{IsBytes-drop, big_number-lt, front}
 use Rattle.am_dir.specs.declared.setting.Setting.{Setting}
 use Rattle.am_dir.specs.Values.{IsKey, IsValue}
 use Rattle.am_dir.specs.Fields.{◌>>=◌, Cut, Numbered, field_bytes, field_in, number_in}

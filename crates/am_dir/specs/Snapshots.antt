@@ -7,7 +7,7 @@ use Rattle.std.specs.Ordering.{is_lt}
 use Rattle.byteorder.specs.Endian.{big_bytes}
 use Rattle.am_base.specs.Most.{most_number}
 use Rattle.am_base.specs.Limits.{IsNumber}
-use Rattle.am_codec.specs.Laws.{IsBytes}
+use Rattle.am_packet.specs.Laws.{IsBytes}
 use Rattle.am_dir.specs.declared.setting.Setting.{Setting}
 use Rattle.am_dir.specs.Fields.{◌>>=◌, Cut, Numbered, field_bytes, field_in, number_in}
 use Rattle.am_dir.specs.Commands.{is_empty}

@@ -3,7 +3,7 @@ use Rattle.std.specs.Prelude.{◌≡◌, ℕ, List, Bool, is_ok}
 use Rattle.am_base.specs.declared.event.NodeEvent.{NodeEvent}
 use Rattle.am_base.specs.declared.outcome.Outcome.{Outcome}
 use Rattle.am_packet.specs.Boxes.{Letter}
-use Rattle.am_codec.specs.Reading.{reading}
+use Rattle.am_packet.specs.Reading.{reading}
 use Rattle.am_model.specs.Node as model
 use Rattle.am_model.specs.Ends.{IsEndOf}
 use Rattle.am_model.specs.Step.{step}

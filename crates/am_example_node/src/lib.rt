@@ -3,7 +3,7 @@
 
 ghost use Rattle.std.specs.Prelude.{◌≡◌, ◌≢◌, ◌++◌, [], List, IfOk, IfErr, OnErr, OnOk, IsTrue, ◌↔◌, Ok, true};
 ghost use Rattle.am_base.specs.declared.event.NodeEvent.TheVariants as does;
-ghost use Rattle.am_info.specs.Nodes.{HasNumbersLeft};
+ghost use Rattle.am_model.specs.Nodes.{HasNumbersLeft};
 ghost use Rattle.am_play.specs.World.{first_node};
 ghost use Rattle.am_example_node.specs.Members.{kept_by, StepsBy, is_read};
 
@@ -14,9 +14,9 @@ use am_base::items::Items;
 use am_base::name::Name;
 use am_base::outcome::Outcome;
 use am_letter::out_box::{OutBox, Rooms};
-use am_letter::reader::decode;
 use am_node::node::Node;
-use am_post::letter::Letter;
+use am_packet::letter::Letter;
+use am_reader::reader::decode;
 use std::alloc::Global;
 use std::mem;
 

@@ -2,7 +2,7 @@ use am_base::body::Body;
 use am_base::founding::Founding;
 use am_base::name::Name;
 use am_group::event::{Act, Event};
-use am_settle::settle::hear_all;
+use am_world::settle::hear_all;
 use am_world::world::{World, WorldRefusal};
 use std::alloc::Global;
 

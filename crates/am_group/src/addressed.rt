@@ -4,7 +4,7 @@ ghost use Rattle.am_group.specs.Addressed.{is_for, next_for};
 
 use crate::journal::Journal;
 use am_base::name::Name;
-use am_post::letter::Letter;
+use am_packet::letter::Letter;
 
 /// Whether a letter is for a name: for exactly this name, or for any life of its place.
 pub fn is_for(letter: &Letter, name: Name) -> bool

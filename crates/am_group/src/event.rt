@@ -6,7 +6,7 @@ use am_base::body::{Body, SentBody};
 use am_base::items::Items;
 use am_base::name::Name;
 use am_base::outcome::Outcome;
-use am_post::letter::Letter;
+use am_packet::letter::Letter;
 use std::alloc::Global;
 
 /// What is done at a node (docs/PROTOCOL.md, "Events").

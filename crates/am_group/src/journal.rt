@@ -6,7 +6,7 @@ ghost use Rattle.am_group.specs.Journals.{letters_of, letter_at, letter_of, item
 use crate::event::Record;
 use am_base::NoMemory;
 use am_base::founding::Founding;
-use am_post::letter::Letter;
+use am_packet::letter::Letter;
 use std::alloc::Global;
 use std::marker::Model;
 

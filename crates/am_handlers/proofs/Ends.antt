@@ -4,7 +4,7 @@ use Rattle.am_handlers.proofs.Words.{Image, stamp_eq, without_name, Log, top_of,
 use Rattle.am_handlers.proofs.Words.{pass_over, end-top, end-told, image-top, stands_self, Led, LeadsBy, StaysAt, whole_led, own_report, tell, go_on, let_go}
 use Rattle.am_handlers.proofs.Words.{nat_tests, split, keeps_end, refresh_end, Node, others, is_member, is_sequencer, refresh, lead, advance, settle}
 use Rattle.am_handlers.proofs.Words.{refresh_at_end, led_of, with_led, with_log, IsEndOf, Tells, Changes}
-use Rattle.am_fronts.specs.Refresh as fronts
+use Rattle.am_parts.specs.Refresh as fronts
 
 pub end_self : (m : Node) → m.core.base ≡ m.core.log.start → IsEndOf m m
 end_self m e = record { stands = stands_self m.core e; same = refl }

@@ -12,11 +12,11 @@ pub use Rattle.std.proofs.Common.{⊎_elim, zero, suc, slice_get, ◌≢◌, inl
 pub use Rattle.std.proofs.lemmas.List.{length-take-le, take_more, take_all, get_or-drop, get_or-take, length-take}
 pub use Rattle.am_base.specs.{Names.place_of, Lists.request_in, Lists.top_of, Lists.members_at}
 unfoldable pub use Rattle.am_base.specs.Lists.{after, fold, AllFit}
-pub use Rattle.am_core.specs.{Cores.Keeps, Cores.Stands, Kept.IsKept}
-pub use Rattle.am_core.proofs.{Ends.image-top, Ends.told-push, CoreLaws.stands_self}
-pub use Rattle.am_fronts.specs.{Refresh.LeadsBy, Refresh.StaysAt, Refresh.MayLead, Refresh.core_and_reports, Reports.after_report}
-pub use Rattle.am_bodies.specs.declared.KeptBody.{KeptBody}
-pub use Rattle.am_sender.specs.Sends.{Sends, next_request}
+pub use Rattle.am_parts.specs.{Cores.Keeps, Cores.Stands, Kept.IsKept}
+pub use Rattle.am_parts.proofs.{Ends.image-top, Ends.told-push, CoreLaws.stands_self}
+pub use Rattle.am_parts.specs.{Refresh.LeadsBy, Refresh.StaysAt, Refresh.MayLead, Refresh.core_and_reports, Reports.after_report}
+pub use Rattle.am_parts.specs.declared.bodies.KeptBody.{KeptBody}
+pub use Rattle.am_parts.specs.Sends.{Sends, next_request}
 pub use Rattle.am_model.specs.{Node.has_log, Node.members, Refresh.with_led, Ends.Tells, Ends.Changes, declared.status.Status.TheVariants.Member}
 pub use Rattle.am_model.specs.{Ballots.own_vote}
 unfoldable pub use Rattle.am_model.specs.Emit.{put_all}

@@ -1,7 +1,7 @@
 -- What every node with a core tells.
 use Rattle.std.specs.Prelude.{◌≡◌}
 use Rattle.am_base.specs.Lists.{Log}
-use Rattle.am_core.specs.Cores.{CoreState, Stands, whole}
+use Rattle.am_parts.specs.Cores.{CoreState, Stands, whole}
 use Rattle.am_model.specs.Node.{Node}
 
 -- the node with this core and all of its list

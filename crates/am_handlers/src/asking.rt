@@ -1,7 +1,7 @@
 ghost use Rattle.std.specs.Prelude.{◌≡◌, ◌==◌, ◌≤◌, ◌<◌, ◌+◌, length, IsTrue};
 ghost use Rattle.am_handlers.specs.Prelude.{most_number, IsNumber, IsRow, IsInOrder, top, node_of};
 ghost use Rattle.am_base.specs.declared.outcome.Outcome.TheVariants as said;
-ghost use Rattle.am_core.specs.Kept.{IsKept};
+ghost use Rattle.am_parts.specs.Kept.{IsKept};
 ghost use Rattle.am_model.specs.Node.{has_room, report_fits};
 ghost use Rattle.am_model.specs.Sequencing.{row_at, is_unknown};
 
@@ -9,7 +9,7 @@ use crate::parts::Parts;
 use am_base::image::{Report, Row};
 use am_base::name::Name;
 use am_base::outcome::Outcome;
-use am_core::log::Log;
+use am_parts::log::Log;
 
 /// Whether another entry may be numbered.
 pub fn has_room(parts: &Parts) -> bool

@@ -1,5 +1,5 @@
 ghost use Rattle.std.specs.Prelude.{◌≡◌, [], true, false};
-ghost use Rattle.am_codec.specs.Limits.{IsWithin};
+ghost use Rattle.am_packet.specs.Limits.{IsWithin};
 ghost use Rattle.am_model.specs.Node.{only_name};
 ghost use Rattle.am_model.specs.Emit.{quiet, polling, telling};
 ghost use Rattle.am_handlers.specs.Cores.{CoreTells};
@@ -11,10 +11,10 @@ use crate::packets::{only, report, welcome};
 use crate::parts::Parts;
 use am_base::name::Name;
 use am_base::outcome::Outcome;
-use am_core::log::Log;
-use am_core::state::Core;
 use am_letter::out_box::OutBox;
 use am_packet::packet::Packet;
+use am_parts::log::Log;
+use am_parts::state::Core;
 
 /// The letter of a step that tells one name.
 #[derive(Clone, Copy, Debug)]
@@ -60,7 +60,7 @@ pub fn finish_polling(parts: &mut Parts, before: u32, answer: Outcome, out: &mut
 }
 
 /// The packet of such a letter.
-#[tactic(auto, unfolding(am_codec::specs::Limits::IsWithin))]
+#[tactic(auto, unfolding(am_packet::specs::Limits::IsWithin))]
 fn packet<'a, L: Log>(core: &'a Core<L>, told: Telling) -> Packet<'a>
     ensures value { CoreTells (λ n. letter_of told.letter told.to n) core.now result }
     ensures within { IsWithin result }

@@ -1,8 +1,8 @@
-#![tactic(auto, unfolding(am_codec::specs::Limits::IsWithin))]
+#![tactic(auto, unfolding(am_packet::specs::Limits::IsWithin))]
 
 ghost use Rattle.std.specs.Prelude.{◌≡◌, ◌≤◌};
 ghost use Rattle.am_base.specs.Limits.{IsNumber, IsEntry, IsReport};
-ghost use Rattle.am_codec.specs.Limits.{IsWithin};
+ghost use Rattle.am_packet.specs.Limits.{IsWithin};
 ghost use Rattle.am_model.specs.Node.{only_name, report_of};
 ghost use Rattle.am_model.specs.Emit.{bcast_of, order_of, hold_of, welcome_of, gone_of, ack_of, result_of};
 ghost use Rattle.am_handlers.specs.Cores.{CoreTells};
@@ -11,10 +11,10 @@ use am_base::entry::EntryRef;
 use am_base::image::Report;
 use am_base::name::Name;
 use am_base::names::Names;
-use am_core::log::Log;
-use am_core::state::Core;
 use am_packet::image_ref::ImageRef;
 use am_packet::packet::Packet;
+use am_parts::log::Log;
+use am_parts::state::Core;
 
 /// The packet of a kind that the node with a core sends now: with its name, its promise, and these fields.
 #[macro_export]

@@ -10,15 +10,15 @@ use am_base::entry::{Entry, EntryRef};
 use am_base::image::Report;
 use am_base::name::Name;
 use am_base::names::Names;
-use am_bodies::Pool;
-use am_core::log::Log;
-use am_core::state::Core;
-use am_fronts::fronts::Fronts;
-use am_history::history::History;
 use am_letter::out_box::OutBox;
 use am_model::status::Status;
 use am_packet::packet::Packet;
-use am_sender::Sender;
+use am_parts::bodies::Pool;
+use am_parts::fronts::Fronts;
+use am_parts::history::History;
+use am_parts::log::Log;
+use am_parts::sender::Sender;
+use am_parts::state::Core;
 
 /// All parts of a node (docs/PROTOCOL.md, "A node").
 #[derive(Drop)]
@@ -57,9 +57,9 @@ impl Parts {
     ghost use Rattle.am_base.specs.Names.{life_of};
     ghost use Rattle.am_base.specs.Limits.{IsEntry};
     ghost use Rattle.am_base.specs.Lists.{entry_at, at_place, fits};
-    ghost use Rattle.am_codec.specs.Limits.{IsWithin};
-    ghost use Rattle.am_core.specs.Kept.{IsKept};
-    ghost use Rattle.am_core.specs.Cores.{IsInOrder};
+    ghost use Rattle.am_packet.specs.Limits.{IsWithin};
+    ghost use Rattle.am_parts.specs.Kept.{IsKept};
+    ghost use Rattle.am_parts.specs.Cores.{IsInOrder};
     ghost use Rattle.am_model.specs.Node.{Node, acts, is_sequencer, others, push_entry, image_of, top, waiting, with_report};
     ghost use Rattle.am_model.specs.Sequencing.{take_report};
     ghost use Rattle.am_model.specs.Emit.{accept_of};
@@ -233,7 +233,7 @@ impl Parts {
     }
 
     /// An Accept.
-    #[tactic(auto, unfolding(am_codec::specs::Limits::IsWithin))]
+    #[tactic(auto, unfolding(am_packet::specs::Limits::IsWithin))]
     fn accept(&self, polls: bool) -> Packet<'_>
         ensures value { Tells (λ n. accept_of n polls) (node_of self.now) result }
         ensures within { IsWithin result }

@@ -4,7 +4,7 @@ ghost use Rattle.am_model.specs.Ballots.{own_vote};
 
 use crate::parts::Parts;
 use am_base::image::Vote;
-use am_core::log::Log;
+use am_parts::log::Log;
 
 /// What the node itself shows in a ballot.
 pub fn own_vote(parts: &Parts) -> Vote

@@ -39,20 +39,20 @@ pub use Rattle.am_base.specs.{Fronts.accept_front, Most.most_body, Most.most_num
 pub use Rattle.am_base.specs.{Votes.Shown, Votes.vote_lt, Votes.all_names, Votes.better_of}
 pub use Rattle.am_base.specs.Lists.{blank, blank_row, is_blank, row_after_view, image_at, members_at, with_entry}
 unfoldable pub use Rattle.am_base.specs.{Names.by_place, Votes.best_from}
-pub use Rattle.am_codec.specs.{Limits.IsPacket, Limits.HasEntryParts, Spelling.stamp_of, Spelling.sender_of}
-unfoldable pub use Rattle.am_codec.specs.Limits.{IsWithin, HasParts}
-pub use Rattle.am_codec.proofs.Again.{spelling_again}
-pub use Rattle.am_core.specs.Cores.{CoreState, since_accepted}
-unfoldable pub use Rattle.am_core.specs.Cores.{accept, unions}
-pub use Rattle.am_core.proofs.Lives.{JoinFits, IsUsed, row_at, used_after, used_fold, life_fold, member_at, unions_most, unions_least, unions_long, any_fits}
-pub use Rattle.am_core.proofs.Lives.{member_row, leave_life}
-pub use Rattle.am_core.proofs.Ends.{image-top, image-push}
-unfoldable pub use Rattle.am_core.proofs.Lives.{JoinsFit}
-pub use Rattle.am_fronts.specs.Reports.{lesser, least_taken}
-unfoldable pub use Rattle.am_fronts.specs.{Reports.least_of, Refresh.let_go}
-pub use Rattle.am_fronts.proofs.{Leaders.least_reported, Leaders.least_in, ReportLaws.count_cons}
-pub use Rattle.am_bodies.specs.{declared.KeptBody.KeptBody, Bodies.find_body}
-pub use Rattle.am_sender.specs.Sends.{Sends, is_unsettled}
+pub use Rattle.am_packet.specs.{Limits.IsPacket, Limits.HasEntryParts, Spelling.stamp_of, Spelling.sender_of}
+unfoldable pub use Rattle.am_packet.specs.Limits.{IsWithin, HasParts}
+pub use Rattle.am_packet.proofs.Again.{spelling_again}
+pub use Rattle.am_parts.specs.Cores.{CoreState, since_accepted}
+unfoldable pub use Rattle.am_parts.specs.Cores.{accept, unions}
+pub use Rattle.am_parts.proofs.Lives.{JoinFits, IsUsed, row_at, used_after, used_fold, life_fold, member_at, unions_most, unions_least, unions_long, any_fits}
+pub use Rattle.am_parts.proofs.Lives.{member_row, leave_life}
+pub use Rattle.am_parts.proofs.Ends.{image-top, image-push}
+unfoldable pub use Rattle.am_parts.proofs.Lives.{JoinsFit}
+pub use Rattle.am_parts.specs.Reports.{lesser, least_taken}
+unfoldable pub use Rattle.am_parts.specs.{Reports.least_of, Refresh.let_go}
+pub use Rattle.am_parts.proofs.{Leaders.least_reported, Leaders.least_in, ReportLaws.count_cons}
+pub use Rattle.am_parts.specs.{declared.bodies.KeptBody.KeptBody, Bodies.find_body}
+pub use Rattle.am_parts.specs.Sends.{Sends, is_unsettled}
 pub use Rattle.am_model.specs.{Node.set_at, Node.founders_view, Node.founding_stamp, Receiving.own_body, Receiving.first_body, Sequencing.number_data}
 pub use Rattle.am_model.specs.{Joining.asks_to_leave}
 pub use Rattle.am_model.specs.Ballots.{taken_by, goes_on, ends as ended, decide_view, restart_reports, overtake, own_vote}

@@ -7,7 +7,7 @@ use Rattle.am_base.specs.declared.event.NodeEvent.{NodeEvent}
 use Rattle.am_base.specs.declared.event.NodeEvent.TheVariants as does
 use Rattle.am_packet.specs.declared.packet.Packet.{Packet}
 use Rattle.am_packet.specs.declared.packet.Packet.TheVariants.{Request, Spread, Bcast, Order, Accept, Ack, Nack, LeaveAsk}
-use Rattle.am_codec.specs.Reading.{Read, reading}
+use Rattle.am_packet.specs.Reading.{Read, reading}
 
 -- a call or the tick, a packet that is heard, or bytes that are no packet
 pub data Cause : Type 0 where

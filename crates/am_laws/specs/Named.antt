@@ -7,7 +7,7 @@ use Rattle.am_group.specs.declared.event.Event.{Event}
 use Rattle.am_group.specs.Journals.{letter_at}
 use Rattle.am_model.specs.Node.{stranger}
 use Rattle.am_play.specs.World.{World, run}
-use Rattle.am_codec.specs.Spelling.{sender_of}
+use Rattle.am_packet.specs.Spelling.{sender_of}
 
 pub record Named (rules : Rules) (w : World) : Type 0 where
   pub who : (name : ℕ) → (w.nodes name).core.who ≡ name

@@ -1,4 +1,2 @@
-pub mod Images
 pub mod Nobody
 pub mod Pieces
-pub mod Rows

@@ -3,8 +3,8 @@ use Rattle.std.proofs.Common.{◌≡◌, ℕ, ◌+◌, ◌*◌, ◌<◌, ◌≤�
 use Rattle.std.proofs.lemmas.List.{append-nil, length-take, take_more}
 use Rattle.am_base.specs.Most.{most_packet}
 use Rattle.am_base.specs.declared.image.Row.{Row}
-use Rattle.am_codec.specs.Spelling.{row_bytes, rows_bytes}
-use Rattle.am_codec.proofs.Lengths.{length-rows_bytes}
+use Rattle.am_packet.specs.Spelling.{row_bytes, rows_bytes}
+use Rattle.am_packet.proofs.Lengths.{length-rows_bytes}
 
 -- one piece after what was written
 pub after : (old middle new a b : List ℕ) → new ≡ middle ++ b → middle ≡ old ++ a → new ≡ old ++ (a ++ b)

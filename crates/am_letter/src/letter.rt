@@ -1,19 +1,18 @@
 ghost use Rattle.std.specs.Prelude.{◌≡◌, IfOk};
 ghost use Rattle.am_packet.specs.Boxes.{letter_to};
-ghost use Rattle.am_codec.specs.Limits.{IsWithin};
+ghost use Rattle.am_packet.specs.Limits.{IsWithin};
 
-use crate::reader::decode;
 use crate::writer::encode;
 use am_base::NoMemory;
 use am_base::body::PacketBytes;
 use am_base::names::Names;
+use am_packet::letter::Letter;
 use am_packet::packet::Packet;
-use am_post::letter::Letter;
 use std::alloc::Global;
 
 /// A letter of a packet for the names of a set, or, where it is a request to join, for every life of their places. It is an error
 /// where there is no memory for its bytes.
-#[tactic(auto, using(am_post::proofs::Read::spelled))]
+#[tactic(auto, using(am_packet::proofs::Read::spelled))]
 pub fn letter_of(alloc: Global, to: Names, packet: &Packet) -> Result<Letter, NoMemory>
     requires { IsWithin packet.now }
     ensures { IfOk result (λ l. l ≡ letter_to to packet.now) }
@@ -22,14 +21,4 @@ pub fn letter_of(alloc: Global, to: Names, packet: &Packet) -> Result<Letter, No
     let mut written = PacketBytes::new(alloc)?;
     encode(packet, &mut written);
     Ok(Letter::with_bytes(alloc, to, written, &mut rooms))
-}
-
-/// The packet that a letter's bytes spell.
-pub fn packet_of(letter: &Letter) -> Packet<'_>
-    ensures { result ≡ letter.now.packet }
-{
-    match decode(letter.bytes()) {
-        Ok(packet) => packet,
-        Err(_) => unreachable!(),
-    }
 }

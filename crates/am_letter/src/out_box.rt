@@ -1,15 +1,15 @@
 ghost use Rattle.std.specs.Prelude.{◌≡◌, ◌==◌, ◌<◌, ◌≤◌, ◌+◌, [], ◌++◌, length, vec_len, vec_capacity, IfOk, OnOk};
 ghost use Rattle.am_base.specs.Names.{size};
 ghost use Rattle.am_packet.specs.Boxes.{with_letter, place_for};
-ghost use Rattle.am_codec.specs.Limits.{IsWithin};
+ghost use Rattle.am_packet.specs.Limits.{IsWithin};
 
 use crate::writer::encode;
 use am_base::NoMemory;
 use am_base::body::PacketBytes;
 use am_base::items::Items;
 use am_base::names::Names;
+use am_packet::letter::Letter;
 use am_packet::packet::Packet;
-use am_post::letter::Letter;
 use std::alloc::Global;
 use std::marker::Model;
 use std::mem;
@@ -173,7 +173,7 @@ impl OutBox {
 
     /// Adds a letter behind those of its own kind and of lower ones; nothing where it is for nobody. Where there is no memory for its
     /// bytes, it takes room that is there.
-    #[tactic(auto, using(am_post::proofs::Read::spelled))]
+    #[tactic(auto, using(am_packet::proofs::Read::spelled))]
     pub fn put(&mut self, to: Names, packet: &Packet)
         requires room { length self.old < 24 }
         requires within { IsWithin packet.now }

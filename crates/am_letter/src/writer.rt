@@ -3,9 +3,9 @@ ghost use Rattle.am_base.specs.Most.{most_body, most_packet};
 ghost use Rattle.byteorder.specs.Endian.{big_bytes};
 ghost use Rattle.am_base.specs.Names.{IsSet};
 ghost use Rattle.am_packet.specs.Images.{rows_length, image_length};
-ghost use Rattle.am_codec.specs.Kinds.{most_entry};
-ghost use Rattle.am_codec.specs.Limits.{IsWithin, IsPacket, HasParts, HasEntryParts};
-ghost use Rattle.am_codec.specs.Spelling.{spelling, header, fields_of, two_bytes, entry_bytes, image_bytes, vote_bytes, rows_bytes, row_bytes, set_bytes, report_bytes, stamp_bytes, flag_byte, sender_of, stamp_of};
+ghost use Rattle.am_packet.specs.KindNumbers.{most_entry};
+ghost use Rattle.am_packet.specs.Limits.{IsWithin, IsPacket, HasParts, HasEntryParts};
+ghost use Rattle.am_packet.specs.Spelling.{spelling, header, fields_of, two_bytes, entry_bytes, image_bytes, vote_bytes, rows_bytes, row_bytes, set_bytes, report_bytes, stamp_bytes, flag_byte, sender_of, stamp_of};
 
 use am_base::body::{BodyRef, PacketBytes};
 use am_base::entry::{EntryParts, EntryRef};
@@ -157,7 +157,7 @@ fn set_len(set: Names) -> usize
 }
 
 /// How many bytes an entry takes.
-#[tactic(auto, unfolding(am_codec::specs::Spelling::entry_bytes))]
+#[tactic(auto, unfolding(am_packet::specs::Spelling::entry_bytes))]
 fn entry_len(entry: &EntryRef) -> usize
     ensures value { result ≡ length (entry_bytes entry.now) }
     ensures fits { result ≤ most_entry }
@@ -172,7 +172,7 @@ fn entry_len(entry: &EntryRef) -> usize
 }
 
 /// Writes an entry's tag, and then its fields.
-#[tactic(auto, unfolding(am_codec::specs::Spelling::entry_bytes))]
+#[tactic(auto, unfolding(am_packet::specs::Spelling::entry_bytes))]
 fn put_entry(into: &mut PacketBytes, entry: &EntryRef)
     requires { length into.old ≤ 24 }
     ensures { into.new ≡ into.old ++ entry_bytes entry.now }
@@ -214,7 +214,7 @@ fn body_len(body: &BodyRef) -> usize
 }
 
 /// How many bytes a packet's fields take.
-#[tactic(auto, unfolding(am_codec::specs::Spelling::fields_of, am_codec::specs::Limits::HasParts))]
+#[tactic(auto, unfolding(am_packet::specs::Spelling::fields_of, am_packet::specs::Limits::HasParts))]
 fn fields_len(packet: &Packet) -> usize
     ensures value { result ≡ length (fields_of packet.now) }
     ensures fits { result ≤ 1100 }
@@ -308,7 +308,7 @@ fn put_welcome(into: &mut PacketBytes, base: u32, join: u32, image: &ImageRef)
 }
 
 /// Writes what stands behind a packet's header.
-#[tactic(auto, using(crate::proofs::Pieces::nothing), unfolding(am_codec::specs::Spelling::fields_of))]
+#[tactic(auto, using(crate::proofs::Pieces::nothing), unfolding(am_packet::specs::Spelling::fields_of))]
 fn put_fields(into: &mut PacketBytes, packet: &Packet)
     requires { length into.old ≤ 12 }
     ensures { into.new ≡ into.old ++ fields_of packet.now }
@@ -424,7 +424,7 @@ fn put_header(into: &mut PacketBytes, kind: u8, sender: Name, stamp: Stamp, tota
 }
 
 /// Leaves in `into` exactly the packet's spelling.
-#[tactic(auto, unfolding(am_codec::specs::Spelling::spelling))]
+#[tactic(auto, unfolding(am_packet::specs::Spelling::spelling))]
 pub fn encode(packet: &Packet, into: &mut PacketBytes)
     requires { IsWithin packet.now }
     ensures spelled { into.new ≡ spelling packet.now }

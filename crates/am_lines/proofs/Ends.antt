@@ -9,17 +9,17 @@ use Rattle.am_base.specs.declared.event.NodeEvent.{NodeEvent}
 use Rattle.am_base.specs.declared.name.Stamp.{Stamp}
 use Rattle.am_base.specs.declared.image.Image.{Image}
 use Rattle.am_base.specs.declared.outcome.Outcome.{Outcome}
-use Rattle.am_core.specs.Cores.{IsInOrder}
+use Rattle.am_parts.specs.Cores.{IsInOrder}
 use Rattle.am_packet.specs.Boxes.{Letter}
-use Rattle.am_sender.specs.Sends.{Sends}
+use Rattle.am_parts.specs.Sends.{Sends}
 use Rattle.am_model.specs.Node.{Node, top, image_of}
 use Rattle.am_model.specs.Step.{row, step}
 use Rattle.am_model.specs.Ends.{IsEndOf, Does}
 use Rattle.am_ends.proofs.Hearing.{ends_step_alike}
 use Rattle.am_handlers.proofs.Plans.{top_end, told_end}
-use Rattle.am_info.specs.Info.{info_of, waited_for}
-use Rattle.am_info.specs.Nodes.{HasNumbersLeft}
-use Rattle.am_info.specs.declared.info.Info.{Info}
+use Rattle.am_model.specs.Info.{info_of, waited_for}
+use Rattle.am_model.specs.Nodes.{HasNumbersLeft}
+use Rattle.am_model.specs.declared.info.Info.{Info}
 use Rattle.am_node.proofs.Told.{info_at_end}
 use Rattle.am_play.specs.Text.{outcome_text, stamp_text, names_text}
 use Rattle.am_lines.specs.declared.line.Line.{Line}

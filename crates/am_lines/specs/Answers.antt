@@ -6,13 +6,13 @@ use Rattle.am_base.specs.Most.{most_number}
 use Rattle.am_base.specs.Names.{place_of, has}
 use Rattle.am_base.specs.declared.event.NodeEvent.TheVariants as does
 use Rattle.am_packet.specs.Boxes.{Letter}
-use Rattle.am_codec.specs.Spelling.{spelling}
+use Rattle.am_packet.specs.Spelling.{spelling}
 use Rattle.am_model.specs.Node.{Node, top, view, members, image_of}
 use Rattle.am_model.specs.Emit.{Step}
 use Rattle.am_model.specs.Step.{step}
-use Rattle.am_info.specs.Info.{role_of, waited_for}
-use Rattle.am_info.specs.declared.info.Role.{Role}
-use Rattle.am_info.specs.declared.info.Role.TheVariants as role
+use Rattle.am_model.specs.Info.{role_of, waited_for}
+use Rattle.am_model.specs.declared.info.Role.{Role}
+use Rattle.am_model.specs.declared.info.Role.TheVariants as role
 use Rattle.am_play.specs.Text.{stamp_text, names_text, hex_byte, outcome_text}
 use Rattle.am_lines.specs.declared.line.Line.{Line}
 use Rattle.am_lines.specs.declared.line.Line.TheVariants as line

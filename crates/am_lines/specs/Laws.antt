@@ -5,7 +5,7 @@ use Rattle.am_base.specs.Founding.{Rules}
 use Rattle.am_base.specs.Most.{most_packet}
 use Rattle.am_base.specs.Names.{IsSet}
 use Rattle.am_packet.specs.Boxes.{Letter}
-use Rattle.am_codec.specs.Laws.{IsBytes}
+use Rattle.am_packet.specs.Laws.{IsBytes}
 use Rattle.am_play.specs.Text.{hex_byte}
 use Rattle.am_lines.specs.declared.line.Line.TheVariants as line
 use Rattle.am_lines.specs.Lines.{line_of}

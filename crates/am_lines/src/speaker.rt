@@ -1,5 +1,5 @@
 ghost use Rattle.std.specs.Prelude.{◌≡◌, true, false, OnOk, OnErr, IfOk, IsErr, string_bytes};
-ghost use Rattle.am_info.specs.Nodes.{HasNumbersLeft};
+ghost use Rattle.am_model.specs.Nodes.{HasNumbersLeft};
 ghost use Rattle.am_lines.specs.Answers.{is_addressed, is_info, info_text, unchanged};
 
 use crate::line::{BadLine, Line};

@@ -1,7 +1,7 @@
 ghost use Rattle.std.specs.Prelude.{◌≡◌, ◌++◌, OnOk, codes, decimal, string_bytes};
 ghost use Rattle.std.specs.List.{flat_map};
 ghost use Rattle.am_model.specs.Node.{image_of, top};
-ghost use Rattle.am_info.specs.Info.{info_of};
+ghost use Rattle.am_model.specs.Info.{info_of};
 ghost use Rattle.am_node.specs.Stands.{state_of};
 ghost use Rattle.am_play.specs.Text.{outcome_text};
 ghost use Rattle.am_lines.specs.Answers.{to_text, letter_text, role_word, numbers_text, info_text};
@@ -9,9 +9,9 @@ ghost use Rattle.am_lines.specs.Answers.{to_text, letter_text, role_word, number
 use am_base::NoMemory;
 use am_base::founding::Founding;
 use am_base::outcome::Outcome;
-use am_info::info::{Info, Role};
+use am_model::info::{Info, Role};
 use am_node::node::Node;
-use am_post::letter::Letter;
+use am_packet::letter::Letter;
 use am_report::text::{push_bytes, push_names, push_outcome, push_stamp};
 
 /// Adds a letter's addressees, exactly: its names, with a star before them where it is for any life of their places.

@@ -7,13 +7,13 @@ use Rattle.am_base.specs.declared.entry.Entry.TheVariants.{Data}
 use Rattle.am_base.specs.declared.event.NodeEvent.TheVariants.{Hear}
 use Rattle.am_packet.specs.declared.packet.Packet.{Packet}
 use Rattle.am_packet.specs.declared.packet.Packet.TheVariants as packets
-use Rattle.am_codec.specs.declared.refusal.PacketRefusal.TheVariants.{Short, BadLength}
-use Rattle.am_codec.specs.Limits.{IsPacket, HasParts}
-use Rattle.am_codec.specs.Spelling.{spelling, fields_of, entry_bytes}
-use Rattle.am_codec.specs.Reading.{Read, reading}
-use Rattle.am_codec.proofs.Lengths.{length-rows_bytes}
-use Rattle.am_codec.proofs.Again.{length-spelling, spelling_again}
-use Rattle.am_codec.proofs.Whole.{part_refused}
+use Rattle.am_packet.specs.declared.refusal.PacketRefusal.TheVariants.{Short, BadLength}
+use Rattle.am_packet.specs.Limits.{IsPacket, HasParts}
+use Rattle.am_packet.specs.Spelling.{spelling, fields_of, entry_bytes}
+use Rattle.am_packet.specs.Reading.{Read, reading}
+use Rattle.am_packet.proofs.Lengths.{length-rows_bytes}
+use Rattle.am_packet.proofs.Again.{length-spelling, spelling_again}
+use Rattle.am_packet.proofs.Whole.{part_refused}
 use Rattle.am_model.specs.Node.{Node}
 use Rattle.am_model.specs.Emit.{finish}
 use Rattle.am_model.specs.Step.{read_row, row, step, hear, hear_refusal}

@@ -16,8 +16,8 @@ use Rattle.am_base.specs.declared.event.NodeEvent.{NodeEvent}
 use Rattle.am_base.specs.declared.event.NodeEvent.TheVariants.{Hear}
 use Rattle.am_packet.specs.declared.packet.Packet.{Packet}
 use Rattle.am_packet.specs.declared.packet.Packet.TheVariants as packet
-use Rattle.am_codec.specs.Limits.{IsPacket}
-use Rattle.am_codec.specs.Spelling.{spelling}
+use Rattle.am_packet.specs.Limits.{IsPacket}
+use Rattle.am_packet.specs.Spelling.{spelling}
 use Rattle.am_model.specs.Node.{Node, top, image_of, report_fits, has_room, is_sequencer}
 use Rattle.am_model.specs.Emit.{Step}
 use Rattle.am_model.specs.Sequencing.{take_report}

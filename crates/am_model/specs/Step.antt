@@ -5,7 +5,7 @@ use Rattle.am_base.specs.declared.outcome.Outcome.TheVariants as said
 use Rattle.am_base.specs.declared.event.NodeEvent.{NodeEvent}
 use Rattle.am_base.specs.declared.event.NodeEvent.TheVariants.{Send, Done, Take, Join, State, Leave, Reset, Ask, GiveUp, Tick, Hear}
 use Rattle.am_packet.specs.declared.packet.Packet.{Packet}
-use Rattle.am_codec.specs.Reading.{Read, reading, cause_of}
+use Rattle.am_packet.specs.Reading.{Read, reading, cause_of}
 use Rattle.am_model.specs.Node.{Node}
 use Rattle.am_model.specs.Emit.{Plan, Step, quiet, finish}
 use Rattle.am_model.specs.Calls.{send_row, done_row, take_row, join_row, state_row, leave_row, reset_row, ask_row, give_up_row}

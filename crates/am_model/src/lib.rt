@@ -1,4 +1,5 @@
 //! The definitions of a node: its state, and the table of its steps, one function for each row.
 #![tactic(auto)]
 
+pub mod info;
 pub mod status;

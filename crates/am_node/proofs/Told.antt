@@ -6,9 +6,9 @@ use Rattle.am_base.specs.Stamps.{stamp_eq}
 use Rattle.am_model.specs.Node.{Node, top, image_of, is_member}
 use Rattle.am_model.specs.Ends.{IsEndOf}
 use Rattle.am_handlers.proofs.Plans.{told_end, top_end}
-use Rattle.am_info.specs.declared.info.Info.{Info}
-use Rattle.am_info.specs.declared.info.Role.TheVariants as role
-use Rattle.am_info.specs.Info.{info_of, coordinates, role_by}
+use Rattle.am_model.specs.declared.info.Info.{Info}
+use Rattle.am_model.specs.declared.info.Role.TheVariants as role
+use Rattle.am_model.specs.Info.{info_of, coordinates, role_by}
 
 -- by what the list tells, and by its top
 abbrev info_with : Node → Image → ℕ → Info

@@ -7,7 +7,7 @@ use Rattle.am_base.specs.declared.image.Vote.{Vote}
 use Rattle.am_base.specs.declared.name.Stamp.{Stamp}
 use Rattle.am_base.specs.Limits.{IsNumber, IsEntry, IsImage}
 use Rattle.am_packet.specs.declared.packet.Packet.TheVariants as packets
-use Rattle.am_codec.specs.Limits.{IsWithin}
+use Rattle.am_packet.specs.Limits.{IsWithin}
 
 pub request_req : (s : ℕ) (v : Stamp) (report : Report) (req : ℕ) (body : List ℕ) → IsWithin (packets.Request s v report req body) → IsNumber req
 unfolding IsWithin

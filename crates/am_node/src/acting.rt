@@ -1,6 +1,6 @@
 ghost use Rattle.am_handlers.specs.Prelude.{node_of, Performs};
 ghost use Rattle.am_model.specs.Step.{row};
-ghost use Rattle.am_info.specs.Nodes.{HasNumbersLeft, MayStep};
+ghost use Rattle.am_model.specs.Nodes.{HasNumbersLeft, MayStep};
 
 use am_acting::joining::{on_join, on_state};
 use am_acting::leaving::on_leave;

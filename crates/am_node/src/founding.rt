@@ -2,7 +2,7 @@ ghost use Rattle.std.specs.Prelude.{◌≡◌, ◌+◌, ◌≤◌, [], EachIndex
 ghost use Rattle.am_base.specs.Lists.{blank};
 ghost use Rattle.am_handlers.specs.Prelude.{has, node_of};
 ghost use Rattle.am_base.specs.Founding.{MayFound};
-ghost use Rattle.am_fronts.specs.Reports.{reports_of, after_report, no_report};
+ghost use Rattle.am_parts.specs.Reports.{reports_of, after_report, no_report};
 ghost use Rattle.am_model.specs.Node.{founder, stranger, founders_view, founding_stamp};
 
 use am_base::entry::Entry;
@@ -10,14 +10,14 @@ use am_base::founding::Founding;
 use am_base::image::Report;
 use am_base::name::{Name, Stamp};
 use am_base::names::Names;
-use am_bodies::Pool;
-use am_core::log::Log;
-use am_core::state::Core;
-use am_fronts::fronts::Fronts;
 use am_handlers::parts::Parts;
-use am_history::history::History;
 use am_model::status::Status;
-use am_sender::Sender;
+use am_parts::bodies::Pool;
+use am_parts::fronts::Fronts;
+use am_parts::history::History;
+use am_parts::log::Log;
+use am_parts::sender::Sender;
+use am_parts::state::Core;
 use std::alloc::{AllocError, Global};
 use std::marker::Model;
 

@@ -4,10 +4,10 @@ ghost use Rattle.am_model.specs.Hearing.{hears_member, hears_asking, hears_in_vi
 ghost use Rattle.am_node.specs.Heard.{is_heard};
 
 use am_base::name::{Name, Stamp};
-use am_core::log::Log;
 use am_handlers::parts::Parts;
 use am_model::status::Status;
 use am_packet::packet::Packet;
+use am_parts::log::Log;
 
 /// Whether a member hears another name's packet.
 fn hears_member(parts: &Parts, from: Name) -> bool

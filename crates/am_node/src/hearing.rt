@@ -1,7 +1,7 @@
 ghost use Rattle.std.specs.Prelude.{◌≡◌, [], true};
 ghost use Rattle.am_handlers.specs.Prelude.{IsWithin, node_of, Performs};
 ghost use Rattle.am_node.specs.Heard.{is_heard, heard_row};
-ghost use Rattle.am_info.specs.Nodes.{HasNumbersLeft};
+ghost use Rattle.am_model.specs.Nodes.{HasNumbersLeft};
 
 use am_acting::hearing::{on_gone, on_hold, on_spread};
 use am_base::name::{Name, Stamp};

@@ -14,13 +14,13 @@ use am_base::name::{Name, Stamp};
 use am_base::names::Names;
 use am_base::outcome::Outcome;
 use am_base::taken::EntryRoom;
-use am_core::log::Log;
 use am_handlers::finishing::finish_quietly;
 use am_handlers::parts::Parts;
-use am_info::info::{BallotEnd, Info};
 use am_letter::out_box::OutBox;
-use am_letter::reader::decode;
+use am_model::info::{BallotEnd, Info};
 use am_model::status::Status;
+use am_parts::log::Log;
+use am_reader::reader::decode;
 use std::alloc::{AllocError, Global};
 
 /// One node of a group. Its state is that of the protocol's node, but that it keeps only the end of its list, from the
@@ -36,9 +36,9 @@ impl Node {
     ghost use Rattle.am_handlers.specs.Prelude.{entry_at, has, IsInOrder, members, image_of, top, view, Does, Tells};
     ghost use Rattle.am_model.specs.Node.{founder, stranger};
     ghost use Rattle.am_model.specs.Step.{row};
-    ghost use Rattle.am_sender.specs.Sends.{is_settled};
-    ghost use Rattle.am_info.specs.Info.{info_of, ballot_end, waited_for};
-    ghost use Rattle.am_info.specs.Nodes.{HasNumbersLeft, HasPlace, next_len};
+    ghost use Rattle.am_parts.specs.Sends.{is_settled};
+    ghost use Rattle.am_model.specs.Info.{info_of, ballot_end, waited_for};
+    ghost use Rattle.am_model.specs.Nodes.{HasNumbersLeft, HasPlace, next_len};
     ghost use Rattle.am_node.specs.Stands.{state_of};
 
     /// Does one step: answer, letters and next state are those of the table of steps (docs/PROTOCOL.md, "Steps of a

@@ -10,9 +10,9 @@ pub use Rattle.std.{proofs.Common.◌≢◌, proofs.Common.slice_index, proofs.C
 pub use Rattle.std.{proofs.lemmas.List.get_or-set_other}
 pub use Rattle.am_base.specs.{Lists.blank_row, Lists.member_life, Lists.with_row, Names.place_of}
 unfoldable pub use Rattle.am_base.specs.Lists.{fold, fits, after}
-pub use Rattle.am_core.specs.Cores.{Sends}
-pub use Rattle.am_core.proofs.Ends.{told-push}
-pub use Rattle.am_fronts.specs.Reports.{with_admitted, reports_of}
+pub use Rattle.am_parts.specs.Cores.{Sends}
+pub use Rattle.am_parts.proofs.Ends.{told-push}
+pub use Rattle.am_parts.specs.Reports.{with_admitted, reports_of}
 pub use Rattle.am_model.specs.{declared.status.Status.TheVariants.Asking, declared.status.Status.TheVariants.Member, Node.has_log, Node.is_asking}
 pub use Rattle.am_model.specs.{Joining.let_go, Joining.counts_report, Ends.Tells}
 pub use Rattle.am_ends.proofs.Sequencing.{alike_asks_to_leave}

@@ -10,7 +10,7 @@ pub use Rattle.std.{proofs.Common.slice_index, proofs.Common.slice_index_or, pro
 pub use Rattle.std.{proofs.lemmas.List.length-take}
 pub use Rattle.am_base.specs.{Names.place_of, Lists.blank_row, Lists.member_life, Lists.top_of}
 unfoldable pub use Rattle.am_base.specs.Lists.{fits}
-pub use Rattle.am_core.proofs.{CoreLaws.stands_self, Members.members_pushed}
+pub use Rattle.am_parts.proofs.{CoreLaws.stands_self, Members.members_pushed}
 pub use Rattle.am_model.specs.{Node.stranger, Ends.Tells}
 pub use Rattle.am_model.proofs.Letters.{one_more}
 pub use Rattle.am_ends.proofs.{Nodes.keeps_end, Sequencing.same_served, Sequencing.alike_requested, Sequencing.alike_asked_again}

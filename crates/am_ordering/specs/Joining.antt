@@ -10,7 +10,7 @@ use Rattle.am_base.specs.Names.{place_of, life_of, name_at}
 use Rattle.am_base.specs.Stamps.{stamp_lt}
 use Rattle.am_base.specs.Lists.{row_of}
 use Rattle.am_base.specs.declared.entry.Entry.TheVariants.{Leave}
-use Rattle.am_fronts.specs.Reports.{least_stored}
+use Rattle.am_parts.specs.Reports.{least_stored}
 use Rattle.am_packet.specs.Boxes.{Letter, with_letter}
 use Rattle.am_model.specs.Node.{Node, top, only_name, is_within_bound}
 use Rattle.am_model.specs.Emit.{Plan, quiet, telling, numbering, bcast_of, welcome_of, gone_of}

@@ -1,7 +1,7 @@
 -- Pieces of a member's rows.
 use Rattle.std.specs.Prelude.{◌≡◌, ℕ, List, [], Bool, true, false, max, nat_lt, nat_le, if◌then◌else◌}
 use Rattle.am_base.specs.declared.outcome.Outcome.TheVariants as said
-use Rattle.am_core.specs.Cores.{CoreState}
+use Rattle.am_parts.specs.Cores.{CoreState}
 use Rattle.am_packet.specs.Boxes.{Letter, with_letter}
 use Rattle.am_model.specs.Node.{Node, only_name, is_member, is_sequencer}
 use Rattle.am_model.specs.Emit.{Plan, quiet, and_where, ack_of}

@@ -8,7 +8,7 @@ use Rattle.am_base.specs.declared.outcome.Outcome.{Outcome}
 use Rattle.am_base.specs.declared.outcome.Outcome.TheVariants as said
 use Rattle.am_packet.specs.declared.packet.Packet.{Packet}
 use Rattle.am_packet.specs.declared.packet.Packet.TheVariants.{Bcast}
-use Rattle.am_core.specs.Cores.{CoreState}
+use Rattle.am_parts.specs.Cores.{CoreState}
 use Rattle.am_model.specs.Node.{Node, report_fits}
 use Rattle.am_model.specs.Sequencing.{is_unknown}
 use Rattle.am_model.specs.Emit.{Plan, quiet, bcast_of, order_of}

@@ -8,13 +8,13 @@ use am_base::entry::EntryRef;
 use am_base::image::Row;
 use am_base::name::Name;
 use am_base::outcome::Outcome;
-use am_core::log::Log;
-use am_core::state::Core;
 use am_handlers::asking::{has_room, held_answer, next_number};
 use am_handlers::finishing::{OneLetter, Telling, finish_polling, finish_quietly, finish_telling};
 use am_handlers::packets::{bcast, only, welcome};
 use am_handlers::parts::Parts;
 use am_letter::out_box::OutBox;
+use am_parts::log::Log;
+use am_parts::state::Core;
 
 /// The row of a name's place.
 fn at_place(parts: &Parts, name: Name) -> Row

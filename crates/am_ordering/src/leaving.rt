@@ -1,6 +1,6 @@
 ghost use Rattle.std.specs.Prelude.{◌≡◌, ◌≢◌, ◌<◌, ◌≤◌, ◌+◌, [], length, true, false};
 ghost use Rattle.am_handlers.specs.Prelude.{members_of, has, is_sequencer, image_of, Tells, node_of, Finishes, Performs, HasRoomLeft, MayServe};
-ghost use Rattle.am_fronts.specs.Reports.{reports_of};
+ghost use Rattle.am_parts.specs.Reports.{reports_of};
 ghost use Rattle.am_model.specs.Sequencing.{is_unknown};
 ghost use Rattle.am_model.specs.Joining.{may_go, counts_report, asks_to_leave, leave_ask_row};
 ghost use Rattle.am_ordering.specs.Joining.{is_stored, and_let_go, number_leave, leave_again};
@@ -10,13 +10,13 @@ use am_base::image::Report;
 use am_base::name::{Name, Stamp};
 use am_base::names::Names;
 use am_base::outcome::Outcome;
-use am_core::log::Log;
-use am_fronts::fronts::Fronts;
 use am_handlers::asking::{has_room, held_answer, is_unknown, next_number, report_fits, row};
 use am_handlers::finishing::{finish_polling, finish_quietly};
 use am_handlers::packets::{bcast, gone_packet, only};
 use am_handlers::parts::Parts;
 use am_letter::out_box::OutBox;
+use am_parts::fronts::Fronts;
+use am_parts::log::Log;
 
 /// Whether a report is one of this view, and its sender could have made it of the list.
 fn counts_report(parts: &Parts, stamp: Stamp, report: Report) -> bool

@@ -9,13 +9,13 @@ use am_base::entry::{EntryParts, EntryRef};
 use am_base::image::Row;
 use am_base::name::Name;
 use am_base::outcome::Outcome;
-use am_core::log::Log;
-use am_core::state::Core;
 use am_handlers::asking::held_answer;
 use am_handlers::packets::{bcast, hold, only, order};
 use am_handlers::parts::Parts;
 use am_letter::out_box::OutBox;
 use am_packet::packet::Packet;
+use am_parts::log::Log;
+use am_parts::state::Core;
 
 /// What is told of a send that isn't its sender's next one, or whose sender has left; None where it may be numbered.
 pub fn request_refusal(row: Row, req: u32) -> Option<Outcome>

@@ -1,7 +1,7 @@
 ghost use Rattle.std.specs.Prelude.{◌≡◌, ◌+◌, ◌≤◌, ◌<◌, [], Some, false, nat_lt, ◌&&◌, not, length, IfSome};
 ghost use Rattle.std.specs.Option.{option_copied};
 ghost use Rattle.am_handlers.specs.Prelude.{IsNumber, IsEntry, IsInOrder, has_own_leave, is_sequencer, top, waiting, IsEndOf, CoreTells, IsSteady, node_of, Finishes, Performs};
-ghost use Rattle.am_core.specs.Cores.{Keeps};
+ghost use Rattle.am_parts.specs.Cores.{Keeps};
 ghost use Rattle.am_model.specs.Receiving.{with_noted, accept_row, bcast_row, order_row, receive_entry, own_body, body_of, data_of};
 ghost use Rattle.am_ordering.specs.Receiving.{note, ack_where, accepting, Follows};
 
@@ -10,12 +10,12 @@ use am_base::body::Body;
 use am_base::entry::{Entry, EntryRef};
 use am_base::name::Name;
 use am_base::outcome::Outcome;
-use am_core::log::Log;
-use am_core::state::Core;
 use am_handlers::finishing::{OneLetter, Telling, finish_quietly, finish_telling};
 use am_handlers::packets::{ack, only};
 use am_handlers::parts::Parts;
 use am_letter::out_box::OutBox;
+use am_parts::log::Log;
+use am_parts::state::Core;
 
 /// What a packet of the sequencer tells of its list.
 #[derive(Clone, Copy, Debug)]

@@ -8,12 +8,12 @@ ghost use Rattle.am_ordering.specs.Sequencing.{bcast_from};
 
 use am_base::name::Name;
 use am_base::outcome::Outcome;
-use am_core::log::Log;
-use am_core::state::Core;
 use am_handlers::finishing::finish_quietly;
 use am_handlers::packets::{bcast, only};
 use am_handlers::parts::Parts;
 use am_letter::out_box::OutBox;
+use am_parts::log::Log;
+use am_parts::state::Core;
 
 /// The most entries that are sent again for one request.
 const MOST_SERVED: u32 = 8;

@@ -10,11 +10,11 @@ use am_base::entry::{EntryParts, EntryRef};
 use am_base::name::Name;
 use am_base::names::Names;
 use am_base::outcome::Outcome;
-use am_bodies::Pool;
-use am_core::log::Log;
 use am_handlers::finishing::finish_quietly;
 use am_handlers::parts::Parts;
 use am_letter::out_box::OutBox;
+use am_parts::bodies::Pool;
+use am_parts::log::Log;
 
 /// Whether an entry is a View.
 fn is_view(entry: &EntryRef) -> bool
@@ -82,7 +82,7 @@ fn is_among_lowest(set: Names, count: u8, name: Name) -> bool
 }
 
 /// Whether the node is among so many lowest members other than the sequencer.
-#[tactic(auto, using(am_core::proofs::Ends::top_laws))]
+#[tactic(auto, using(am_parts::proofs::Ends::top_laws))]
 fn acknowledges(parts: &Parts, sequencer: Name) -> bool
     ensures { result ≡ acknowledges (node_of parts.now) sequencer (node_of parts.now) }
 {

@@ -7,13 +7,13 @@ ghost use Rattle.am_ordering.specs.Joining.{is_unfit};
 use am_base::image::Image;
 use am_base::name::{Name, Stamp};
 use am_base::outcome::Outcome;
-use am_core::log::Log;
-use am_core::state::Core;
 use am_handlers::finishing::{OneLetter, Telling, finish_quietly, finish_telling};
 use am_handlers::parts::Parts;
 use am_letter::out_box::OutBox;
 use am_model::status::Status;
 use am_packet::image_ref::ImageRef;
+use am_parts::log::Log;
+use am_parts::state::Core;
 
 /// What a Welcome tells, but for its image.
 #[derive(Clone, Copy, Debug)]

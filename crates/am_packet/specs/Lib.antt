@@ -1,3 +1,11 @@
 pub mod Images
 pub mod Kinds
 pub mod Boxes
+pub mod Causes
+pub mod Faults
+pub mod KindNumbers
+pub mod Laws
+pub mod Limits
+pub mod Reading
+pub mod Spelling
+pub mod Letters

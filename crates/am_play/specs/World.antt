@@ -19,7 +19,7 @@ use Rattle.am_group.specs.declared.event.Event.{Event}
 use Rattle.am_group.specs.declared.event.Record.{Record}
 use Rattle.am_group.specs.declared.event.By.{By}
 use Rattle.am_group.specs.declared.event.Part.TheVariants.{Call}
-use Rattle.am_core.specs.Cores.{CoreState}
+use Rattle.am_parts.specs.Cores.{CoreState}
 use Rattle.am_group.specs.Journals.{letter_at}
 use Rattle.am_group.specs.Addressed.{is_for}
 use Rattle.am_model.specs.Node.{Node, is_member, has_departed, image_of, view, members, set_at, founder, stranger, founding_stamp, founders_view}

@@ -13,7 +13,7 @@ use am_base::name::Name;
 use am_group::event::Event;
 use am_io::buffered::Buffered;
 use am_io::outside::Sink;
-use am_settle::settle::settle;
+use am_world::settle::settle;
 use am_world::world::{World, WorldRefusal};
 use std::alloc::Global;
 

@@ -4,3 +4,4 @@ pub mod Drives
 pub mod Rules
 pub mod Seen
 pub mod Sends
+pub mod Courses

@@ -23,7 +23,7 @@ pub use Rattle.am_chooser.specs.{declared.chooser.Choice.Choice, declared.progre
 pub use Rattle.rand_pcg.specs.Lcg.{Lcg}
 pub use Rattle.am_pump.specs.{declared.generator.Turn.Turn, Counts.AreSeen, Counts.seen_after, Counts.AreSent, Counts.IsDriven}
 pub use Rattle.am_pump.specs.{Counts.Turned, Counts.Drew, Generating.drawn, Generating.next_place, Generating.next_turn, Generating.next_event}
-pub use Rattle.am_world.specs.Courses.{IsCourse, IsCalm}
+pub use Rattle.am_pump.specs.Courses.{IsCourse, IsCalm}
 pub use Rattle.am_base.specs.Most.{most_events}
 pub use Rattle.am_pump.specs.Generating.{most_drawn, counting, GeneratedRun, generated_rules, sent_by, first_drive, turn_of, act_at, do_turn, no_progress}
 pub use Rattle.am_pump.specs.Generating.{progress_at}

@@ -9,7 +9,7 @@ use Rattle.am_chooser.specs.declared.progress.Progress.{Progress}
 use Rattle.am_group.specs.declared.event.Act.{Act}
 use Rattle.am_group.specs.declared.event.Event.{Event}
 use Rattle.am_world.specs.Runs.{replay}
-use Rattle.am_world.specs.Courses.{IsCourse}
+use Rattle.am_pump.specs.Courses.{IsCourse}
 use Rattle.am_pump.specs.declared.generator.Generator.{Generator}
 use Rattle.am_pump.specs.declared.generator.Turn.{Turn}
 use Rattle.am_pump.specs.Generating.{GeneratedRun, sent_by, no_progress, act_at, after_turn, drawn, next_place, next_turn, next_event}

@@ -1,15 +1,15 @@
 ghost use Rattle.std.specs.Prelude.{◌≡◌, ◌<◌, IfOk, IfErr};
 ghost use Rattle.am_base.specs.Most.{most_events};
 ghost use Rattle.am_pump.specs.Generating.{generated_rules, events_of_seed};
-ghost use Rattle.am_world.specs.Courses.{IsCourse};
+ghost use Rattle.am_pump.specs.Courses.{IsCourse};
 ghost use Rattle.am_world.specs.declared.world.WorldRefusal.TheVariants as refusals;
 
+use crate::course::Course;
 use crate::generator::Generator;
 use am_base::founding::Founding;
 use am_base::items::Items;
 use am_base::names::Names;
 use am_group::event::Event;
-use am_world::course::Course;
 use am_world::world::WorldRefusal;
 use std::alloc::Global;
 

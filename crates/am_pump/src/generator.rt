@@ -4,6 +4,7 @@ ghost use Rattle.am_chooser.specs.Choices.{draw, after_draw};
 ghost use Rattle.am_pump.specs.Counts.{seen_after};
 ghost use Rattle.am_pump.specs.Generating.{most_drawn, turn_of, counting};
 
+use crate::course::{Course, is_sent};
 use crate::generate::founding;
 use am_base::NoMemory;
 use am_base::body::SentBody;
@@ -11,7 +12,6 @@ use am_base::name::Name;
 use am_chooser::chooser::{Choice, Chooser};
 use am_chooser::progress::Progress;
 use am_group::event::{Act, Event};
-use am_world::course::{Course, is_sent};
 use am_world::world::WorldRefusal;
 use rand_pcg::Lcg64Xsh32;
 use rand_pcg::rand_core::utils::NextWord;
@@ -100,7 +100,7 @@ impl Generator {
     ghost use Rattle.std.specs.Prelude.{OnOk, IfErr};
     ghost use Rattle.am_group.specs.Addressed.{next_for};
     ghost use Rattle.am_world.specs.Runs.{after, replay};
-    ghost use Rattle.am_world.specs.Courses.{IsCalm, IsCourse, events_done};
+    ghost use Rattle.am_pump.specs.Courses.{IsCalm, IsCourse, events_done};
     ghost use Rattle.am_pump.specs.Generating.{GeneratedRun, first_drive, progress_at, sent_by, drive_once};
     ghost use Rattle.am_pump.specs.Counts.{IsDriven, Turned, Drew};
     ghost use Rattle.am_world.specs.declared.world.WorldRefusal.TheVariants as refusals;

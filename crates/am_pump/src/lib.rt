@@ -1,5 +1,6 @@
 //! Runs from a seed: a generator of events.
 #![tactic(auto)]
 
+pub mod course;
 pub mod generate;
 mod generator;

@@ -11,9 +11,9 @@ use Rattle.am_base.specs.declared.event.NodeEvent.{NodeEvent}
 use Rattle.am_base.specs.declared.event.NodeEvent.TheVariants as does
 use Rattle.am_base.specs.Founding.{Rules}
 use Rattle.am_base.specs.Names.{place_of, name_at}
-use Rattle.am_codec.specs.Limits.{IsPacket}
-use Rattle.am_codec.specs.Spelling.{spelling}
-use Rattle.am_core.specs.Cores.{IsInOrder}
+use Rattle.am_packet.specs.Limits.{IsPacket}
+use Rattle.am_packet.specs.Spelling.{spelling}
+use Rattle.am_parts.specs.Cores.{IsInOrder}
 use Rattle.am_packet.specs.Boxes.{Letter}
 use Rattle.am_group.specs.declared.event.Act.{Act}
 use Rattle.am_group.specs.declared.event.Act.TheVariants as act
@@ -29,7 +29,7 @@ use Rattle.am_model.specs.Node.{Node}
 use Rattle.am_play.specs.Group.{with_tag}
 use Rattle.am_model.specs.Ends.{IsEndOf, Does}
 use Rattle.am_meaning.proofs.Bytes.{spelling_is_heard}
-use Rattle.am_info.specs.Nodes.{HasNumbersLeft}
+use Rattle.am_model.specs.Nodes.{HasNumbersLeft}
 use Rattle.am_ends.proofs.Steps.{step_end, end_high}
 use Rattle.am_play.proofs.Runs.{runs_go_on}
 use Rattle.am_laws.proofs.RunCounts.{numbers_hold}

@@ -13,7 +13,7 @@ use Rattle.am_base.specs.declared.outcome.Outcome.{Outcome}
 use Rattle.am_base.specs.declared.outcome.Outcome.TheVariants as said
 use Rattle.am_base.specs.declared.event.NodeEvent.{NodeEvent}
 use Rattle.am_base.specs.Names.{place_of, name_at}
-use Rattle.am_core.specs.Cores.{IsInOrder}
+use Rattle.am_parts.specs.Cores.{IsInOrder}
 use Rattle.am_packet.specs.Boxes.{Letter}
 use Rattle.am_group.specs.declared.event.Act.{Act}
 use Rattle.am_group.specs.declared.event.Act.TheVariants as act
@@ -27,7 +27,7 @@ use Rattle.am_group.specs.Journals.{letters_of, letter_at}
 use Rattle.std.proofs.lemmas.List.Concat.{flat_map-append}
 use Rattle.am_play.specs.Claims.{heard_by}
 use Rattle.am_model.specs.Node.{Node}
-use Rattle.am_info.specs.Nodes.{HasNumbersLeft}
+use Rattle.am_model.specs.Nodes.{HasNumbersLeft}
 use Rattle.am_play.specs.World.{World, is_stopped, with_record, acts_as, happens, current, no_caller, record_of}
 use Rattle.am_play.specs.Group.{with_tag}
 use Rattle.am_model.specs.Ends.{IsEndOf}

@@ -18,7 +18,7 @@ use Rattle.am_group.specs.Addressed.{next_for}
 use Rattle.am_group.specs.Journals.{letters_of}
 use Rattle.am_model.specs.Node.{Node}
 use Rattle.am_play.specs.World.{World, current}
-use Rattle.am_info.specs.Info.{waited_for}
+use Rattle.am_model.specs.Info.{waited_for}
 use Rattle.am_chooser.specs.declared.chooser.Choice.{Choice}
 use Rattle.am_chooser.specs.declared.chooser.Choice.TheVariants as choice
 use Rattle.am_chooser.specs.Choices.{Luck, again, choice_of, act_of}

@@ -10,10 +10,10 @@ use Rattle.am_base.specs.declared.outcome.Outcome.TheVariants as said
 use Rattle.am_base.specs.declared.event.NodeEvent.{NodeEvent}
 use Rattle.am_base.specs.declared.event.NodeEvent.TheVariants as does
 use Rattle.am_base.specs.Lists.{entry_at}
-use Rattle.am_core.specs.Cores.{IsInOrder}
-use Rattle.am_core.proofs.Ends.{end-entry}
+use Rattle.am_parts.specs.Cores.{IsInOrder}
+use Rattle.am_parts.proofs.Ends.{end-entry}
 use Rattle.am_laws.proofs.Ballots.{entry_is}
-use Rattle.am_sender.specs.Sends.{Sends, collected_of, outcome_of, collect_outcome, is_settled}
+use Rattle.am_parts.specs.Sends.{Sends, collected_of, outcome_of, collect_outcome, is_settled}
 use Rattle.am_group.specs.declared.event.Act.{Act}
 use Rattle.am_group.specs.declared.event.Act.TheVariants as act
 use Rattle.am_model.specs.declared.status.Status.{Status}
@@ -25,8 +25,8 @@ use Rattle.am_model.specs.Calls.{done_row, take_row, give_out, state_by, state_r
 use Rattle.am_model.specs.Step.{row, step}
 use Rattle.am_model.specs.Ends.{IsEndOf}
 use Rattle.am_base.proofs.Greatest.{and_both}
-use Rattle.am_info.specs.Info.{ballot_end, end_of}
-use Rattle.am_info.specs.declared.info.BallotEnd.TheVariants.{Going, Ended}
+use Rattle.am_model.specs.Info.{ballot_end, end_of}
+use Rattle.am_model.specs.declared.info.BallotEnd.TheVariants.{Going, Ended}
 use Rattle.am_races.specs.declared.call.Came.{Came}
 use Rattle.am_races.specs.Answers.{own_answer, end_answer, ballot_answer, request_in, is_take}
 use Rattle.am_races.specs.Ready.{is_sent, is_ended, is_ready_after, may_take}

@@ -18,11 +18,11 @@ use Rattle.am_group.specs.declared.plan.RacePlan.{RacePlan}
 use Rattle.am_group.specs.Addressed.{is_for, first_for, next_for}
 use Rattle.am_group.specs.Deliveries.{name_of}
 use Rattle.am_group.specs.Journals.{letters_of, letter_at}
-use Rattle.am_core.proofs.Folds.{slice_get-drop}
+use Rattle.am_parts.proofs.Folds.{slice_get-drop}
 use Rattle.am_play.specs.Claims.{heard_by}
 use Rattle.am_model.specs.Ends.{IsEndOf}
 use Rattle.am_model.specs.Node.{Node}
-use Rattle.am_info.specs.Info.{waited_for}
+use Rattle.am_model.specs.Info.{waited_for}
 use Rattle.am_wire.specs.declared.rule.Terms.{Terms}
 use Rattle.am_wire.specs.Seats.{Follows, StartsWith, GoesOn}
 use Rattle.am_wire.specs.Stops.{stopped_names, has_stopped}
@@ -34,7 +34,7 @@ use Rattle.am_chooser.specs.declared.chooser.Choice.{Choice}
 use Rattle.am_chooser.specs.declared.chooser.Choice.TheVariants as choice
 use Rattle.am_chooser.specs.Choices.{Luck, again, choice_of}
 use Rattle.am_wire.specs.declared.rule.Key.TheVariants.{Place}
-use Rattle.am_codec.specs.Limits.{IsPacket}
+use Rattle.am_packet.specs.Limits.{IsPacket}
 use Rattle.am_wire.proofs.Views.{rest_of, goes_through}
 use Rattle.std.proofs.lemmas.List.Elements.{filter-append}
 use Rattle.am_races.proofs.Knows.{each_keeps}

@@ -2,13 +2,13 @@
 use Rattle.std.specs.Prelude.{◌≡◌, ◌⊎◌, ℕ, ◌<◌, List, [], ◌∷◌, ◌++◌, length, Option, Some, None, Bool, true, false, slice_index}
 use Rattle.am_base.specs.Most.{most_events}
 use Rattle.atomic_table.specs.Seated.{TableId}
-use Rattle.am_core.specs.Cores.{IsInOrder}
+use Rattle.am_parts.specs.Cores.{IsInOrder}
 use Rattle.am_base.specs.declared.outcome.Outcome.{Outcome}
 use Rattle.am_base.specs.declared.outcome.Outcome.TheVariants as said
 use Rattle.am_base.specs.declared.event.NodeEvent.{NodeEvent}
 use Rattle.am_base.specs.declared.event.NodeEvent.TheVariants as does
-use Rattle.am_codec.specs.Limits.{IsPacket}
-use Rattle.am_codec.specs.Spelling.{spelling}
+use Rattle.am_packet.specs.Limits.{IsPacket}
+use Rattle.am_packet.specs.Spelling.{spelling}
 use Rattle.am_group.specs.declared.event.Act.{Act}
 use Rattle.am_group.specs.declared.event.Act.TheVariants as act
 use Rattle.am_group.specs.declared.event.By.{By}

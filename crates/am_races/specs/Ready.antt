@@ -5,14 +5,14 @@ use Rattle.am_base.specs.declared.outcome.Outcome.TheVariants as said
 use Rattle.am_packet.specs.declared.packet.Packet.{Packet}
 use Rattle.am_packet.specs.declared.packet.Packet.TheVariants as packets
 use Rattle.am_packet.specs.Boxes.{Letter}
-use Rattle.am_sender.specs.Sends.{is_settled}
+use Rattle.am_parts.specs.Sends.{is_settled}
 use Rattle.am_group.specs.declared.event.Act.{Act}
 use Rattle.am_group.specs.declared.event.Act.TheVariants as act
 use Rattle.am_group.specs.declared.event.Record.{Record}
 use Rattle.am_model.specs.Node.{Node, is_member, has_departed, has_log}
-use Rattle.am_info.specs.declared.info.BallotEnd.{BallotEnd}
-use Rattle.am_info.specs.declared.info.BallotEnd.TheVariants.{Going, Ended}
-use Rattle.am_info.specs.Info.{ballot_end}
+use Rattle.am_model.specs.declared.info.BallotEnd.{BallotEnd}
+use Rattle.am_model.specs.declared.info.BallotEnd.TheVariants.{Going, Ended}
+use Rattle.am_model.specs.Info.{ballot_end}
 use Rattle.am_races.specs.Answers.{ballot_answer}
 
 -- the round of an Invite

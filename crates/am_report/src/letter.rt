@@ -6,7 +6,7 @@ ghost use Rattle.am_play.specs.Text.{kind_word, addressees_text, letter_text, le
 use crate::name::{is_everybody_else, push_names};
 use crate::number::push_behind;
 use am_io::writer::Writer;
-use am_post::letter::Letter;
+use am_packet::letter::Letter;
 
 /// The name of a kind by its number.
 fn word_at(kind: u8) -> &'static str

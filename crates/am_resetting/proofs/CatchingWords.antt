@@ -8,8 +8,8 @@ pub use Rattle.am_base.specs.{declared.outcome.Outcome.Outcome, Limits.IsEntry, 
 pub use Rattle.am_base.specs.{Lists.entry_at}
 pub use Rattle.am_base.specs.declared.entry.Entry.TheVariants.{Data, Join, Leave, View}
 pub use Rattle.am_packet.specs.{declared.packet.Packet.Packet, Boxes.Letter, Boxes.with_letter}
-pub use Rattle.am_core.specs.Cores.{IsInOrder}
-pub use Rattle.am_core.proofs.{Ends.told-push, Folds.split}
+pub use Rattle.am_parts.specs.Cores.{IsInOrder}
+pub use Rattle.am_parts.proofs.{Ends.told-push, Folds.split}
 pub use Rattle.am_model.specs.{Emit.Plan, Emit.quiet, Emit.entries_to_serve, Emit.put_all, Emit.piece_of, Emit.finish, Emit.telling, Emit.ack_of}
 pub use Rattle.am_model.specs.{Ballots.Verdict, Ballots.with_promise, Ballots.decide, Ends.IsEndOf, Ends.Changes, Ends.Tells, Refresh.refresh_at_end}
 pub use Rattle.am_model.specs.Node.{has_log, Node, Ballot, top, image_of, view, acts, is_member, push_entry, trim_up_to, only_name}

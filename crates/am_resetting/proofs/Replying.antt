@@ -7,7 +7,7 @@ use Rattle.am_base.specs.declared.outcome.Outcome.TheVariants.{Decided, Fetching
 use Rattle.am_base.specs.Lists.{Log}
 use Rattle.am_base.specs.Names.{nobody, without_name}
 use Rattle.am_base.specs.Stamps.{stamp_eq}
-use Rattle.am_core.specs.Cores.{Stands}
+use Rattle.am_parts.specs.Cores.{Stands}
 use Rattle.am_packet.specs.declared.packet.Packet.{Packet}
 use Rattle.am_packet.specs.declared.packet.Packet.TheVariants as packet
 use Rattle.am_packet.specs.Boxes.{Letter, with_letter}

@@ -21,9 +21,9 @@ use am_base::entry::{EntryParts, EntryRef};
 use am_base::name::{Name, Stamp};
 use am_base::names::Names;
 use am_base::outcome::Outcome;
-use am_core::log::Log;
 use am_handlers::parts::Parts;
 use am_letter::out_box::OutBox;
+use am_parts::log::Log;
 
 /// What a packet tells of an entry of a view's list beside the entry.
 #[derive(Clone, Copy, Debug)]

@@ -3,7 +3,7 @@ ghost use Rattle.am_handlers.specs.Prelude.{most_number, IsEntry, fits, told_by,
 ghost use Rattle.am_base.specs.Outcomes.{is_took};
 ghost use Rattle.am_base.specs.declared.entry.Entry.TheVariants.{View};
 ghost use Rattle.am_model.specs.Ballots.{with_end, with_answer, decide, decide_view, trim_for, taken_by};
-ghost use Rattle.am_fronts.specs.Reports.{reports_from, least_of};
+ghost use Rattle.am_parts.specs.Reports.{reports_from, least_of};
 ghost use Rattle.am_ballots.specs.Kept.{ballot_of};
 ghost use Rattle.am_resetting.specs.Deciding.{Answered, IsTakenOut, MayBeView, MayStore};
 ghost use Rattle.am_handlers.specs.Verdicts.{ComesTo, IsTold};
@@ -13,9 +13,9 @@ use am_ballots::ballot::Ballot;
 use am_base::entry::{EntryParts, EntryRef};
 use am_base::names::Names;
 use am_base::outcome::Outcome;
-use am_core::log::Log;
 use am_handlers::parts::Parts;
 use am_handlers::votes::own_vote;
+use am_parts::log::Log;
 
 /// Trims the list up to a base, where that is greater.
 pub fn trim(parts: &mut Parts, base: u32)

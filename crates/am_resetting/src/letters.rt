@@ -1,4 +1,4 @@
-#![tactic(auto, using(am_model::proofs::Letters::one_more), unfolding(am_codec::specs::Limits::IsWithin))]
+#![tactic(auto, using(am_model::proofs::Letters::one_more), unfolding(am_packet::specs::Limits::IsWithin))]
 
 ghost use Rattle.std.specs.Prelude.{◌≡◌, ◌<◌, ◌≤◌, ◌+◌, length, []};
 ghost use Rattle.am_handlers.specs.Prelude.{IsNumber, IsWithin, image_of, view, node_of};
@@ -12,13 +12,13 @@ use am_base::image::{Report, Vote};
 use am_base::name::{Name, Stamp};
 use am_base::names::Names;
 use am_base::outcome::Outcome;
-use am_core::log::Log;
 use am_handlers::packet_from;
 use am_handlers::packets::only;
 use am_handlers::parts::Parts;
 use am_handlers::votes::own_vote;
 use am_letter::out_box::OutBox;
 use am_packet::packet::Packet;
+use am_parts::log::Log;
 
 /// An Ack.
 fn ack(parts: &Parts) -> Packet<'_>

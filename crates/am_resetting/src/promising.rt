@@ -6,9 +6,9 @@ ghost use Rattle.am_model.specs.Ballots.{with_promise, overtake};
 use crate::reading::{is_same, promise_of};
 use am_ballots::ballot::Ballot;
 use am_base::name::Stamp;
-use am_core::state::Core;
 use am_handlers::parts::Parts;
-use am_history::history::History;
+use am_parts::history::History;
+use am_parts::state::Core;
 
 /// An unfinished ballot of a lower stamp is overtaken.
 fn overtake(ballot: &mut Option<Ballot>, by: &Stamp)

@@ -11,12 +11,12 @@ use am_base::entry::Entry;
 use am_base::name::{Name, Stamp};
 use am_base::names::Names;
 use am_base::outcome::Outcome;
-use am_core::log::Log;
 use am_handlers::packet_from;
 use am_handlers::packets::only;
 use am_handlers::parts::Parts;
 use am_letter::out_box::OutBox;
 use am_packet::packet::Packet;
+use am_parts::log::Log;
 use arrayvec::ArrayVec;
 
 /// The most entries that are sent for one Fetch.
@@ -63,7 +63,7 @@ fn copies(parts: &Parts, stored: u32) -> ArrayVec<Entry, 8>
 }
 
 /// A Piece to a name.
-#[tactic(auto, using(am_model::proofs::Letters::one_more), unfolding(am_codec::specs::Limits::IsWithin))]
+#[tactic(auto, using(am_model::proofs::Letters::one_more), unfolding(am_packet::specs::Limits::IsWithin))]
 fn tell_piece(parts: &Parts, to: Name, number: u32, entry: &Entry, out: &mut OutBox)
     requires room { length out.old < 24 }
     requires number { IsNumber number }

@@ -18,11 +18,11 @@ use am_base::limits::MOST_RESILIENCE;
 use am_base::name::{Name, Stamp};
 use am_base::names::Names;
 use am_base::outcome::Outcome;
-use am_core::log::Log;
 use am_handlers::parts::Parts;
 use am_handlers::votes::own_vote;
 use am_letter::out_box::OutBox;
 use am_model::status::Status;
+use am_parts::log::Log;
 
 /// The members without the node itself.
 fn others_of(parts: &Parts) -> Names

@@ -9,7 +9,7 @@ pub use Rattle.am_laws.proofs.EffectWords.{Says, request, LetterSays}
 unfoldable pub use Rattle.am_laws.proofs.EffectWords.{with_record, with_step}
 pub use Rattle.std.{proofs.Common.⊎_elim, proofs.lemmas.List.Elements.All-weaker, proofs.lemmas.List.Folds.list_any-append}
 pub use Rattle.am_base.specs.{Stamps.no_stamp, Founding.MayFound, Names.rank_of}
-pub use Rattle.am_codec.specs.Spelling.{sender_of, stamp_of}
+pub use Rattle.am_packet.specs.Spelling.{sender_of, stamp_of}
 pub use Rattle.am_model.specs.{Node.set_at, Node.founding_stamp, Ballots.overtake}
 pub use Rattle.am_model.proofs.Founders.{first_founder}
 pub use Rattle.am_laws.specs.Changes.{Promises}

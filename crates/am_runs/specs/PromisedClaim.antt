@@ -4,7 +4,7 @@ use Rattle.am_base.specs.declared.name.Stamp.{Stamp}
 use Rattle.am_base.specs.Stamps.{stamp_lt, no_stamp}
 use Rattle.am_base.specs.Founding.{Rules, MayFound}
 use Rattle.am_packet.specs.Boxes.{Letter}
-use Rattle.am_codec.specs.Spelling.{sender_of, stamp_of}
+use Rattle.am_packet.specs.Spelling.{sender_of, stamp_of}
 use Rattle.am_group.specs.declared.event.Event.{Event}
 use Rattle.am_model.specs.Node.{Node}
 use Rattle.am_play.specs.World.{World, run}

@@ -12,8 +12,8 @@ use Rattle.am_base.specs.declared.event.NodeEvent.{NodeEvent}
 use Rattle.am_base.specs.declared.event.NodeEvent.TheVariants as does
 use Rattle.am_base.specs.declared.outcome.Outcome.{Outcome}
 use Rattle.am_packet.specs.Boxes.{Letter}
-use Rattle.am_codec.specs.Limits.{IsPacket}
-use Rattle.am_codec.specs.Spelling.{spelling}
+use Rattle.am_packet.specs.Limits.{IsPacket}
+use Rattle.am_packet.specs.Spelling.{spelling}
 use Rattle.am_group.specs.Addressed.{is_for}
 use Rattle.am_group.specs.Journals.{letters_of, letter_at}
 use Rattle.am_group.specs.declared.event.Act.{Act}

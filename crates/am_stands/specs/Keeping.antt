@@ -8,7 +8,7 @@ use Rattle.am_base.specs.Founding.{Rules}
 use Rattle.am_base.specs.Names.{has}
 use Rattle.am_packet.specs.declared.packet.Packet.{Packet}
 use Rattle.am_base.specs.Lists.{requests_of}
-use Rattle.am_sender.specs.Sends as own
+use Rattle.am_parts.specs.Sends as own
 use Rattle.am_chain_lists.specs.Whole.{Begins, IsGood}
 use Rattle.am_chain.specs.Group.{Group}
 use Rattle.am_chain.specs.Runs.{Run}
@@ -20,7 +20,7 @@ use Rattle.am_laws.specs.Changes.{Change, refreshes, closes}
 use Rattle.am_laws.proofs.Taken.{HeardUsed}
 use Rattle.am_laws.proofs.TakenRuns.{Along}
 use Rattle.am_laws.proofs.ViewNames.{HeardNames}
-use Rattle.am_codec.specs.Spelling.{stamp_of}
+use Rattle.am_packet.specs.Spelling.{stamp_of}
 use Rattle.am_runs.proofs.SentKept as sent
 use Rattle.am_runs.proofs.SentChanges.{CauseSent}
 use Rattle.am_runs.proofs.Turns.{Turn}

@@ -8,7 +8,7 @@ use am_group::event::{Act, By, Event, Record};
 use am_group::group::Group;
 use am_group::journal::Journal;
 use am_letter::letter::letter_of;
-use am_letter::reader::decode;
+use am_reader::reader::decode;
 use std::alloc::Global;
 use std::test::*;
 

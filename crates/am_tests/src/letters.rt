@@ -1,12 +1,11 @@
 ghost use Rattle.std.specs.Prelude.{IfOk};
-ghost use Rattle.am_codec.specs.Limits.{IsWithin};
+ghost use Rattle.am_packet.specs.Limits.{IsWithin};
 
 use am_base::names::Names;
-use am_codec::vectors::{ACK, NACK};
-use am_letter::letter::packet_of;
 use am_letter::out_box::OutBox;
-use am_letter::reader::decode;
 use am_packet::packet::Packet;
+use am_packet::vectors::{ACK, NACK};
+use am_reader::reader::{decode, packet_of};
 use std::test::*;
 
 /// A Request of 65 bytes, which don't stand within a letter.

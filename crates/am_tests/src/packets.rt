@@ -1,13 +1,13 @@
 use crate::wrong_fields::FAULTS;
 use am_base::names::Names;
-use am_codec::PacketRefusal;
-use am_codec::vectors::{
+use am_letter::letter::letter_of;
+use am_packet::PacketRefusal;
+use am_packet::vectors::{
     ACCEPT, ACK, BCAST_DATA, BCAST_JOIN, BCAST_LEAVE, BCAST_VIEW, FETCH, GONE, HAND_OVER, HOLD,
     INVITE, JOIN_ASK, LEAVE_ASK, NACK, ORDER, PIECE_DATA, PIECE_JOIN, PIECE_LEAVE, PIECE_VIEW,
     REQUEST, RESULT, SPREAD, VOTE, WELCOME,
 };
-use am_letter::letter::letter_of;
-use am_letter::reader::decode;
+use am_reader::reader::decode;
 use std::alloc::Global;
 use std::test::*;
 

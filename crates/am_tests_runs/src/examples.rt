@@ -9,7 +9,7 @@ use am_examples::one_send::one_send;
 use am_examples::send_and_take::send_and_take;
 use am_examples::store;
 use am_group::event::{Act, Event};
-use am_settle::settle::settle;
+use am_world::settle::settle;
 use am_world::world::World;
 use std::test::*;
 

@@ -2,7 +2,7 @@ use am_base::founding::Founding;
 use am_base::name::Name;
 use am_base::names::Names;
 use am_group::event::{Act, Event};
-use am_settle::settle::settle;
+use am_world::settle::settle;
 use am_world::world::World;
 use std::test::*;
 

@@ -10,7 +10,6 @@ pub mod Heard
 pub mod Stops
 pub mod Returns
 pub mod Acts
-pub mod Courses
 pub mod Watches
 pub mod Start
 pub mod StoredViews
@@ -19,5 +18,8 @@ pub mod StoredSteps
 pub mod Stored
 pub mod Kept
 pub mod Latest
-pub mod WatchWords
-pub mod Accepts
+pub mod SettlingActs
+pub mod Going
+pub mod Names
+pub mod Rounds
+pub mod Ways

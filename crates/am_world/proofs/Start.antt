@@ -8,7 +8,7 @@ use Rattle.am_world.proofs.Words.{finds_no_room, whole_entry, by_number, Promise
 use Rattle.am_world.proofs.Words.{numbers, notes, stores, begins_list, departs, promises, opens, looks, fetches, stores_view, asks_to_join, closes, Changes}
 use Rattle.am_world.proofs.Words.{actor, Happens, steps, events_have_effects, rests_refresh, settle_is, along, IsBlank, blank_holds, leads_member, member_of}
 use Rattle.am_world.proofs.Words.{standing_of, HeardLow, change_begins, lists_go_on, begins}
-use Rattle.am_core.specs.Cores.{accept}
+use Rattle.am_parts.specs.Cores.{accept}
 use Rattle.am_model.specs.Node.{Node}
 use Rattle.am_laws.specs.Looks.{decides}
 use Rattle.am_packet.specs.declared.packet.Packet.TheVariants as packet

@@ -25,14 +25,14 @@ pub use Rattle.std.proofs.lemmas.List.{drop-drop, length-replicate, map_push, ta
 pub use Rattle.std.proofs.lemmas.Option.{slice_get_within, get_or_from_slice_get, none-some, same_Some, slice_get_read}
 pub use Rattle.am_base.specs.Most.{most_events}
 pub use Rattle.am_packet.specs.declared.packet.Packet.TheVariants.{Piece}
-pub use Rattle.am_codec.specs.{Spelling.spelling, Reading.Read, Reading.reading, Reading.cause_of}
-pub use Rattle.am_core.specs.Cores.{IsInOrder}
-pub use Rattle.am_core.proofs.{Ends.end-told, Ends.entry-get, Folds.slice_get-drop}
+pub use Rattle.am_packet.specs.{Spelling.spelling, Reading.Read, Reading.reading, Reading.cause_of}
+pub use Rattle.am_parts.specs.Cores.{IsInOrder}
+pub use Rattle.am_parts.proofs.{Ends.end-told, Ends.entry-get, Folds.slice_get-drop}
 pub use Rattle.am_group.specs.{declared.event.Record.Record, Journals.letters_of}
 pub use Rattle.am_group.proofs.Places.{get_some, letters_more}
 pub use Rattle.am_model.specs.{Node.has_departed, Node.has_own_leave, Step.read_row, Ends.IsEndOf, Ballots.is_waited_for, Ballots.ends, Resets.is_view_past}
 pub use Rattle.am_model.specs.{Resets.fetches_from}
-pub use Rattle.am_info.specs.Nodes.{HasNumbersLeft, HasPlace}
+pub use Rattle.am_model.specs.Nodes.{HasNumbersLeft, HasPlace}
 pub use Rattle.am_play.specs.{World.record_of, World.comes_back, World.does_event, Lawful.Watch, Lawful.watch_start, Lawful.watch_run, Lawful.is_view_of}
 pub use Rattle.am_play.proofs.Runs.{runs_go_on, watched_is_run}
 unfoldable pub use Rattle.am_play.specs.Lawful.{watch, watch_all}
@@ -55,7 +55,7 @@ pub use Rattle.am_laws.proofs.{Stamps.not_above}
 pub use Rattle.am_laws.proofs.ViewChanges.{leads_member, member_of, IsOpen, OpenBallot, Balloted, next_above, welcomed_none, numbers_plain}
 pub use Rattle.am_laws.proofs.{Chains.HeardLow, Chains.change_begins, Lists.lists_go_on, Lists.run_lists, Lists.IsBare, New.decided_are_new}
 pub use Rattle.am_laws.proofs.Watched.{watch_push, stop_is_watched, pass_is_watched, return_is_watched, beginning_is_kept}
-pub use Rattle.am_world.specs.Watchers.{watching_of}
+pub use Rattle.am_watcher.specs.Watchers.{watching_of}
 pub use Rattle.am_world.specs.{Moves.IsReadyAt, Moves.StepsAt, Moves.HasPlaceAt, Moves.IsReady, declared.asked.Heard.Heard}
 pub use Rattle.am_world.specs.Runs.{Play, replay, after, AreNodes, AreLives, AreFlags, IsRun, play_of, Answers, AreFirst, Shows, the_record}
 pub use Rattle.am_world.specs.Asked.{comes, flag_of, if_running, first_bytes, gives_up, stops, returns, event_or_answer, SpellsPacket, after_answer, heard_of}

@@ -2,6 +2,5 @@ pub mod Runs
 pub mod Asked
 pub mod Moves
 pub mod Watched
-pub mod Watchers
 pub mod Places
-pub mod Courses
+pub mod Settling

@@ -4,14 +4,14 @@ use Rattle.am_base.specs.declared.entry.Entry.{Entry}
 use Rattle.am_base.specs.declared.outcome.Outcome.{Outcome}
 use Rattle.am_base.specs.declared.event.NodeEvent.{NodeEvent}
 use Rattle.am_packet.specs.Boxes.{Letter}
-use Rattle.am_core.specs.Cores.{IsInOrder}
+use Rattle.am_parts.specs.Cores.{IsInOrder}
 use Rattle.am_model.specs.Node as model
 use Rattle.am_model.specs.Step.{row}
 use Rattle.am_play.specs.World.{group_after}
 use Rattle.am_model.specs.Ends.{Does}
 use Rattle.am_node.specs.declared.node.Node.{Node}
 use Rattle.am_node.specs.Stands.{state_of}
-use Rattle.am_info.specs.Nodes.{HasNumbersLeft, HasPlace}
+use Rattle.am_model.specs.Nodes.{HasNumbersLeft, HasPlace}
 
 -- whatever a step comes to, the node has trimmed nothing that the group list lacks, and knows no more to be accepted than
 -- there is room for

@@ -9,7 +9,7 @@ use Rattle.am_base.specs.declared.outcome.Outcome.TheVariants as said
 use Rattle.am_base.specs.Stamps.{stamp_eq}
 use Rattle.am_packet.specs.declared.packet.Packet.{Packet}
 use Rattle.am_packet.specs.declared.packet.Packet.TheVariants.{Piece}
-use Rattle.am_codec.specs.Reading.{Read, reading}
+use Rattle.am_packet.specs.Reading.{Read, reading}
 use Rattle.am_model.specs.declared.status.Status.{Status}
 use Rattle.am_model.specs.Node.{Node, view, is_member, has_log}
 use Rattle.am_play.specs.Lawful.{watch_run}

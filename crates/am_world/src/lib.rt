@@ -3,13 +3,11 @@
 #![tactic(auto)]
 
 pub mod asked;
-pub mod course;
 pub mod nodes;
-mod places;
+pub mod places;
 pub mod records;
 pub mod run;
+pub mod settle;
 pub mod using;
-pub mod views;
-pub mod watcher;
-mod watching;
+pub mod watching;
 pub mod world;

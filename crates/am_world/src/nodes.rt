@@ -13,7 +13,7 @@ use am_base::outcome::Outcome;
 use am_base::taken::EntryRoom;
 use am_letter::out_box::{OutBox, Rooms};
 use am_node::node::Node;
-use am_post::letter::Letter;
+use am_packet::letter::Letter;
 use std::alloc::Global;
 use std::mem;
 

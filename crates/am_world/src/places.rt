@@ -16,7 +16,7 @@ use am_base::outcome::Outcome;
 use am_letter::out_box::Rooms;
 use am_node::founding::founders_view;
 use am_node::node::Node;
-use am_post::letter::Letter;
+use am_packet::letter::Letter;
 use std::alloc::Global;
 
 /// The most letters of a node's step.

@@ -26,7 +26,7 @@ use am_letter::out_box::Rooms;
 use am_model::status::Status;
 use am_node::founding::{Room, founders_view};
 use am_node::node::Node;
-use am_post::letter::Letter;
+use am_packet::letter::Letter;
 use std::alloc::Global;
 use std::marker::Model;
 use std::mem;

@@ -5,18 +5,18 @@ ghost use Rattle.am_model.specs.Node.{has_log, is_member};
 ghost use Rattle.am_node.specs.Stands.{state_of};
 ghost use Rattle.am_watching.specs.Watches.{view_of};
 ghost use Rattle.am_watching.specs.Watching.{standing, accept, pass, stop, with_entries};
-ghost use Rattle.am_world.specs.Watchers.{watching_of, HasRoom};
+ghost use Rattle.am_watcher.specs.Watchers.{watching_of, HasRoom};
 ghost use Rattle.am_world.specs.Watched.{entry_in, begins, standing_after, one_of, stored_of, last_view, with_views, told_step};
 
-use crate::views::decides;
-use crate::watcher::Watcher;
 use am_base::entry::Entry;
 use am_base::event::NodeEvent;
 use am_base::name::{Name, Stamp};
-use am_letter::reader::decode;
 use am_model::status::Status;
 use am_node::node::Node;
 use am_packet::packet::Packet;
+use am_reader::reader::decode;
+use am_watcher::views::decides;
+use am_watcher::watcher::Watcher;
 use am_watching::views::{DecidedView, Standing};
 
 /// Whether a name of this status has or had a list.

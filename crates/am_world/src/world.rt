@@ -7,7 +7,6 @@ ghost use Rattle.am_base.specs.Names.{place_of};
 
 use crate::asked::keep_room;
 use crate::run::Run;
-use crate::watcher::Watcher;
 use crate::watching::{has_log, note_answer, note_step};
 use am_base::NoMemory;
 use am_base::entry::Entry;
@@ -17,8 +16,9 @@ use am_base::name::Name;
 use am_base::outcome::Outcome;
 use am_group::event::Event;
 use am_group::journal::Journal;
-use am_info::info::Info;
+use am_model::info::Info;
 use am_node::node::Node;
+use am_watcher::watcher::Watcher;
 use std::alloc::Global;
 use std::marker::Model;
 
@@ -63,7 +63,7 @@ pub struct World {
 }
 
 impl Model for World {
-    ghost use Rattle.am_world.specs.Watchers.{watching_of};
+    ghost use Rattle.am_watcher.specs.Watchers.{watching_of};
     ghost use Rattle.am_world.specs.Runs.{Play};
     ghost use Rattle.am_world.specs.Watched.{IsWatched};
 
@@ -79,7 +79,7 @@ impl World {
     ghost use Rattle.am_group.specs.Journals.{letters_of};
     ghost use Rattle.am_play.specs.World.{current, is_stopped, happens};
     ghost use Rattle.am_model.specs.Node.{has_log};
-    ghost use Rattle.am_info.specs.Info.{info_of};
+    ghost use Rattle.am_model.specs.Info.{info_of};
     ghost use Rattle.am_node.specs.Stands.{state_of};
     ghost use Rattle.am_world.specs.Runs.{after, replay, IsOneMore};
     ghost use Rattle.am_world.specs.Asked.{after_answer, IsNextLife};

@@ -17,7 +17,7 @@ use am_answers::acts::least_of_both;
 use am_base::name::Name;
 use am_chooser::chooser::{Choice, Chooser};
 use am_group::event::Act;
-use am_post::letter::LetterCopy;
+use am_packet::letter::LetterCopy;
 use am_races::call::{Came, Tag};
 use am_wire::wire::{Share, Wire};
 use std::sync::Wait;

@@ -1,5 +1,5 @@
 use Rattle.am_acting.proofs.Words.{sym, ap, ◌∙◌, quiet, node_of, done_row}
-use Rattle.am_sender.specs.Sends as own
+use Rattle.am_parts.specs.Sends as own
 use Rattle.am_acting.proofs.{Plans.does_rest, Rows.done_is}
 use Rattle.am_acting.proofs.sending.on_done.Goals as goal
 

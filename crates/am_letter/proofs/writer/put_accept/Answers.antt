@@ -1,6 +1,6 @@
 use Rattle.std.proofs.Common.{[], ◌∷◌, ◌++◌}
 use Rattle.byteorder.specs.Endian.{big_bytes}
-use Rattle.am_codec.specs.Spelling.{flag_byte}
+use Rattle.am_packet.specs.Spelling.{flag_byte}
 use Rattle.am_letter.proofs.Pieces.{after}
 use Rattle.am_letter.proofs.writer.put_accept.Goals as goal
 

@@ -1,7 +1,7 @@
 use Rattle.std.proofs.Common.{◌≡◌, [], ◌∷◌, ◌++◌, sym, ap, ◌∙◌, subst}
 use Rattle.am_base.specs.declared.entry.Entry.{Entry}
 use Rattle.am_base.specs.Entries.{entry_of}
-use Rattle.am_codec.specs.Spelling.{entry_bytes, stamp_bytes, set_bytes}
+use Rattle.am_packet.specs.Spelling.{entry_bytes, stamp_bytes, set_bytes}
 use Rattle.am_letter.proofs.Pieces.{four}
 use Rattle.am_letter.proofs.writer.put_entry.Goals as goal
 

@@ -1,5 +1,5 @@
 use Rattle.std.proofs.Common.{[], ◌∷◌}
-use Rattle.am_codec.specs.Spelling.{fields_of, two_bytes, entry_bytes, set_bytes}
+use Rattle.am_packet.specs.Spelling.{fields_of, two_bytes, entry_bytes, set_bytes}
 use Rattle.am_letter.proofs.Pieces.{after, three}
 use Rattle.am_letter.proofs.writer.put_fields.Goals as goal
 

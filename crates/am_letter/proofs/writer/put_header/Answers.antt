@@ -1,6 +1,6 @@
 use Rattle.std.proofs.Common.{[], ◌∷◌}
 use Rattle.byteorder.specs.Endian.{big_bytes}
-use Rattle.am_codec.specs.Spelling.{stamp_bytes}
+use Rattle.am_packet.specs.Spelling.{stamp_bytes}
 use Rattle.am_letter.proofs.Pieces.{three}
 use Rattle.am_letter.proofs.writer.put_header.Goals as goal
 

@@ -1,5 +1,5 @@
 use Rattle.std.proofs.Common.{◌≡◌, ◌++◌, take}
-use Rattle.am_codec.specs.Spelling.{rows_bytes}
+use Rattle.am_packet.specs.Spelling.{rows_bytes}
 use Rattle.am_letter.proofs.writer.put_rows.Given as goal
 
 abbrev pub invariant-loop-row : goal.invariant-loop-row

@@ -1,5 +1,5 @@
 use Rattle.byteorder.specs.Endian.{big_bytes}
-use Rattle.am_codec.specs.Spelling.{report_bytes}
+use Rattle.am_packet.specs.Spelling.{report_bytes}
 use Rattle.am_letter.proofs.Pieces.{three}
 use Rattle.am_letter.proofs.writer.put_send.Goals as goal
 

@@ -1,5 +1,5 @@
 use Rattle.byteorder.specs.Endian.{big_bytes}
-use Rattle.am_codec.specs.Spelling.{stamp_bytes, set_bytes}
+use Rattle.am_packet.specs.Spelling.{stamp_bytes, set_bytes}
 use Rattle.am_letter.proofs.Pieces.{four}
 use Rattle.am_letter.proofs.writer.put_vote.Goals as goal
 

@@ -1,4 +1,4 @@
-use Rattle.am_codec.specs.Spelling.{two_bytes, image_bytes}
+use Rattle.am_packet.specs.Spelling.{two_bytes, image_bytes}
 use Rattle.am_letter.proofs.Pieces.{after}
 use Rattle.am_letter.proofs.writer.put_welcome.Goals as goal
 

@@ -1,5 +1,5 @@
 use Rattle.std.proofs.Common.{subst}
-use Rattle.am_codec.specs.Limits.{IsWithin}
+use Rattle.am_packet.specs.Limits.{IsWithin}
 use Rattle.am_node.proofs.Within.{request_req, spread_req, bcast_number, order_number, welcome_numbers, invite_round, vote_round, piece_entry, result_numbers}
 use Rattle.am_node.proofs.hearing.heard_row.Goals as goal
 

@@ -3,7 +3,7 @@ use Rattle.std.proofs.lemmas.Result.{err_from_is_err_and}
 use Rattle.am_base.specs.Most.{most_events}
 use Rattle.am_world.specs.Runs.{Play, replay}
 use Rattle.am_play.specs.Settle.{settle_events}
-use Rattle.am_settle.proofs.Going.{stuck_long}
+use Rattle.am_world.proofs.Going.{stuck_long}
 use Rattle.am_player.proofs.Done.{does_events, does_settling}
 use Rattle.am_player.proofs.run.play_out.Goals as goal
 

@@ -4,7 +4,7 @@ use Rattle.am_base.specs.declared.outcome.Outcome.{Outcome}
 use Rattle.am_base.specs.declared.outcome.Outcome.TheVariants as said
 use Rattle.am_base.specs.declared.event.NodeEvent.{NodeEvent}
 use Rattle.am_base.specs.declared.event.NodeEvent.TheVariants as does
-use Rattle.am_codec.specs.Reading.{Read, reading}
+use Rattle.am_packet.specs.Reading.{Read, reading}
 use Rattle.am_packet.specs.declared.packet.Packet.{Packet}
 use Rattle.am_packet.specs.Boxes.{Letter}
 use Rattle.am_model.specs.Node.{Node}

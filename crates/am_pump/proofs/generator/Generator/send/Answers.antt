@@ -1,7 +1,7 @@
 use Rattle.am_pump.proofs.Words.{◌≡◌, ◌+◌, ◌∙◌, sym, ap, length, replay, draw, after_draw, counting, most_drawn}
 use Rattle.am_group.specs.declared.event.Act.TheVariants as act
 use Rattle.am_play.proofs.Runs.{one_record_each}
-use Rattle.am_world.specs.declared.course.Counts.{Counts}
+use Rattle.am_pump.specs.declared.course.Counts.{Counts}
 use Rattle.am_pump.specs.Generating.{act_at, after_turn}
 use Rattle.am_pump.proofs.generator.Generator.send.Goals as goal
 

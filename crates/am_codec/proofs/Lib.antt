@@ -1,9 +1,0 @@
-pub mod Lengths
-pub mod Numbers
-pub mod Fields
-pub mod Parts
-pub mod Found
-pub mod Again
-pub mod Faults
-pub mod Causes
-pub mod Whole

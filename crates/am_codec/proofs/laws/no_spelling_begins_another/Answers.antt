@@ -1,5 +1,0 @@
-use Rattle.am_codec.proofs.Whole.{no_other}
-use Rattle.am_codec.proofs.laws.no_spelling_begins_another.Goals as goal
-
-pub returns : goal.returns
-returns c = no_other

@@ -1,5 +1,0 @@
-use Rattle.am_codec.proofs.Whole.{part_refused}
-use Rattle.am_codec.proofs.laws.parts_are_refused.Goals as goal
-
-pub returns : goal.returns
-returns c = part_refused

@@ -1,5 +1,0 @@
-use Rattle.am_codec.proofs.Again.{spelling_again}
-use Rattle.am_codec.proofs.laws.spellings_are_read.Goals as goal
-
-pub returns : goal.returns
-returns c = spelling_again

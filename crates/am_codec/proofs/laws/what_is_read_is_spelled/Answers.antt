@@ -1,5 +1,0 @@
-use Rattle.am_codec.proofs.Whole.{spelled}
-use Rattle.am_codec.proofs.laws.what_is_read_is_spelled.Goals as goal
-
-pub returns : goal.returns
-returns c = spelled

@@ -1,5 +1,0 @@
-use Rattle.am_fronts.proofs.ReportLaws.{none_reported}
-use Rattle.am_fronts.proofs.fronts.Fronts.new.Goals as goal
-
-pub returns : goal.returns
-returns c = none_reported 256

@@ -1,2 +1,0 @@
-pub mod Info
-pub mod Nodes

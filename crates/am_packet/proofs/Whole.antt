@@ -1,0 +1,178 @@
+-- What is read is spelled so, no spelling begins another, and a part of one is refused.
+use Rattle.std.proofs.Common.{◌≡◌, ◌≢◌, ℕ, ◌+◌, ◌-◌, ◌<◌, ◌≤◌, true, cond, eqb, List, [], ◌∷◌, ◌++◌, length, take, drop, slice_index, Option, Some, Ok, Err}
+use Rattle.std.proofs.Common.{inl, inr, refl, sym, ap, subst, ◌∙◌, length-append, arith}
+use Rattle.std.specs.Prelude.{IfOk, if◌then◌else◌, nat_lt, nat_le, ◌&&◌}
+use Rattle.std.proofs.lemmas.Bool.{cases_lt, cases_Bool, and_parts, leb-true, cond-true, cond-false, eqb-true, le-ltb, lt-ltb}
+use Rattle.std.proofs.lemmas.List.{append-nil, length-drop, length-take-le, drop-take, drop-append-le, get_or-take, nil_from_length}
+use Rattle.byteorder.specs.Endian.{big_bytes, big_number}
+use Rattle.byteorder.specs.Numbers.{big_from-take, big_from-append}
+use Rattle.am_base.specs.declared.name.Stamp.{Stamp}
+use Rattle.am_packet.specs.declared.packet.Packet.{Packet}
+use Rattle.am_packet.specs.Kinds.{kind_of}
+use Rattle.am_packet.specs.declared.refusal.PacketRefusal.TheVariants.{Short, BadLength, BadField}
+use Rattle.am_packet.specs.declared.kind.Kind.{Kind}
+use Rattle.am_packet.specs.declared.kind.Kind.TheVariants as kinds
+use Rattle.am_packet.specs.KindNumbers.{number_of, kind_at, is_total, least_total, most_total}
+use Rattle.am_packet.specs.Limits.{IsPacket}
+use Rattle.am_packet.specs.Spelling.{spelling, fields_of, sender_of, stamp_of, stamp_bytes}
+use Rattle.am_packet.specs.Reading.{Read, version_in, kind_in, total_in, found_in, stamp_at, packet_at, fields_at, reading}
+use Rattle.am_packet.specs.Causes.{HasKind, HasTotal}
+use Rattle.am_packet.specs.Laws.{IsBytes}
+use Rattle.am_packet.proofs.Numbers.{number_front}
+use Rattle.am_packet.proofs.Fields.{bind_ok, passed, ok_is, and_then, byte_takes, stamp_takes}
+use Rattle.am_packet.proofs.Found.{packet_found}
+use Rattle.am_packet.proofs.Again.{fields_short, length-spelling, spelling_again}
+use Rattle.am_packet.proofs.Causes.{Tells, tells, headed, some_kind, is_short, is_long}
+
+-- the number of a kind that is found for it
+numbered : (n m : ℕ) (k kind : Kind) (o : Option Kind) → number_of k ≡ m → (o ≡ Some kind → n ≡ number_of kind) → cond (eqb n m) (Some k) o ≡ Some kind
+    → n ≡ number_of kind
+numbered n m k kind o is rest e =
+    elim (cases_Bool (eqb n m)) [
+      | inl same_number ↦
+          let same : Some k ≡ Some kind = sym (cond-true (eqb n m) (Some k) o same_number) ∙ e in
+          let kind-is : k ≡ kind = cc in
+          eqb-true n m same_number ∙ sym is ∙ ap (λ x. number_of x) kind-is
+      | inr other ↦ rest (sym (cond-false (eqb n m) (Some k) o other) ∙ e)
+    ]
+
+kind_number : (n : ℕ) (kind : Kind) → kind_at n ≡ Some kind → n ≡ number_of kind
+unfolding kind_at
+kind_number n kind =
+    numbered n 1 kinds.Request kind _ refl
+    (numbered n 2 kinds.Spread kind _ refl
+    (numbered n 3 kinds.Bcast kind _ refl
+    (numbered n 4 kinds.Order kind _ refl
+    (numbered n 5 kinds.Accept kind _ refl
+    (numbered n 6 kinds.Ack kind _ refl
+    (numbered n 7 kinds.Nack kind _ refl
+    (numbered n 8 kinds.Hold kind _ refl
+    (numbered n 9 kinds.JoinAsk kind _ refl
+    (numbered n 10 kinds.Welcome kind _ refl
+    (numbered n 11 kinds.LeaveAsk kind _ refl
+    (numbered n 12 kinds.Gone kind _ refl
+    (numbered n 13 kinds.Invite kind _ refl
+    (numbered n 14 kinds.Vote kind _ refl
+    (numbered n 15 kinds.Fetch kind _ refl
+    (numbered n 16 kinds.Piece kind _ refl
+    (numbered n 17 kinds.Result kind _ refl
+    (numbered n 18 kinds.HandOver kind _ refl
+    (λ none. absurd cc))))))))))))))))))
+
+-- ---- what is read is spelled so
+
+mark_is : (a b : ℕ) → (eqb a 65 && eqb b 71) ≡ true → (a ≡ 65) × (b ≡ 71)
+mark_is a b h = let both = and_parts (eqb a 65) (eqb b 71) h in (eqb-true _ _ both.0, eqb-true _ _ both.1)
+
+-- a header and fields are a spelling
+put_together : (packet : Packet) (bytes rest : List ℕ) (a b version kind sender total : ℕ) (stamp : Stamp)
+    → bytes ≡ (a ∷ b ∷ version ∷ kind ∷ sender ∷ [] ++ stamp_bytes stamp ++ big_bytes 2 total) ++ rest
+    → (a ≡ 65) × (b ≡ 71) → version ≡ 3 → kind ≡ kind_of packet → sender_of packet ≡ sender → stamp_of packet ≡ stamp → total ≡ 12 + length (fields_of packet)
+    → rest ≡ fields_of packet
+    → bytes ≡ spelling packet
+unfolding spelling
+put_together packet bytes rest a b version kind sender total stamp whole mark version-is kind-is sender-is stamp-is total-is rest-is =
+    whole ∙ rw (mark.0, mark.1, version-is, kind-is, sender-is, stamp-is, total-is, rest-is) refl
+
+pub spelled : (bytes : List ℕ) (packet : Packet) → IsBytes bytes → reading bytes ≡ Ok packet → IsPacket packet × (bytes ≡ spelling packet)
+unfolding fields_at
+spelled bytes packet fits read =
+    let has : HasTotal bytes = subst (λ r. Tells r bytes) read (tells bytes) in
+    let kind = some_kind (kind_at (kind_in bytes)) has.0.1 in
+    let fields : fields_at kind.0 bytes ≡ Ok packet = sym (headed bytes kind.0 has kind.1) ∙ read in
+    let stamp = bind_ok (stamp_at bytes 5) (λ stamp. cond (is_total kind.0 (length bytes)) (packet_at kind.0 (slice_index bytes 4) stamp bytes)
+    (Err (BadField 10))) packet fields in
+    let total = passed (is_total kind.0 (length bytes)) (packet_at kind.0 (slice_index bytes 4) stamp.0 bytes) (BadField 10) packet stamp.2 in
+    let limits = and_parts (nat_le (least_total kind.0) (length bytes)) (nat_le (length bytes) (most_total kind.0)) total.0 in
+    let found = packet_found kind.0 (slice_index bytes 4) stamp.0 bytes packet fits (leb-true _ _ limits.0) (leb-true _ _ limits.1) total.1 in
+    let long : 12 ≤ length bytes = has.0.0.0.0 in
+    let mark = mark_is (slice_index bytes 0) (slice_index bytes 1) has.0.0.0.1 in
+    let t5 = stamp_takes bytes 5 10 stamp.0 refl fits (omega arith) stamp.1 in
+    let t10 : drop 10 bytes ≡ big_bytes 2 (total_in bytes) ++ drop 12 bytes = number_front 2 10 bytes long fits in
+    let t01 = and_then bytes 0 1 2 (slice_index bytes 0 ∷ []) (slice_index bytes 1 ∷ []) (byte_takes bytes 0 1 refl (omega arith))
+    (byte_takes bytes 1 2 refl (omega arith)) in
+    let t03 = and_then bytes 0 2 3 (slice_index bytes 0 ∷ slice_index bytes 1 ∷ []) (version_in bytes ∷ []) t01 (byte_takes bytes 2 3 refl (omega arith)) in
+    let t04 = and_then bytes 0 3 4 (slice_index bytes 0 ∷ slice_index bytes 1 ∷ version_in bytes ∷ []) (kind_in bytes ∷ []) t03
+    (byte_takes bytes 3 4 refl (omega arith)) in
+    let t05 = and_then bytes 0 4 5 (slice_index bytes 0 ∷ slice_index bytes 1 ∷ version_in bytes ∷ kind_in bytes ∷ []) (slice_index bytes 4 ∷ []) t04
+    (byte_takes bytes 4 5 refl (omega arith)) in
+    let t06 = and_then bytes 0 5 10 (slice_index bytes 0 ∷ slice_index bytes 1 ∷ version_in bytes ∷ kind_in bytes ∷ slice_index bytes 4 ∷ [])
+    (stamp_bytes stamp.0) t05 t5.0 in
+    let t07 = and_then bytes 0 10 12 (slice_index bytes 0 ∷ slice_index bytes 1 ∷ version_in bytes ∷ kind_in bytes ∷ slice_index bytes 4 ∷ []
+    ++ stamp_bytes stamp.0) (big_bytes 2 (total_in bytes)) t06 (record { here = t10 }) in
+    let kind-is : kind_in bytes ≡ kind_of packet = kind_number (kind_in bytes) kind.0 kind.1 ∙ sym found.kind_is in
+    let count : length (fields_of packet) ≡ length bytes - 12 = ap length (sym found.fields_are) ∙ length-drop 12 bytes in
+    let total-is : total_in bytes ≡ 12 + length (fields_of packet) = has.1 ∙ (let sum : length bytes ≡ 12 + length (fields_of packet) = omega arith in sum) in (
+      record { within = found.within t5.1; parts = found.parts },
+      put_together packet bytes (drop 12 bytes) (slice_index bytes 0) (slice_index bytes 1) (version_in bytes) (kind_in bytes) (slice_index bytes 4)
+          (total_in bytes) stamp.0
+          t07.here mark has.0.0.1 kind-is found.sender_is found.stamp_is total-is found.fields_are,
+    )
+
+-- ---- prefixes
+
+-- a spelling's header is right
+header_has : (packet : Packet) → IsPacket packet → HasTotal (spelling packet)
+header_has packet is = subst (λ r. Tells r (spelling packet)) (spelling_again packet is) (tells (spelling packet))
+
+total_append : (bytes more : List ℕ) → 12 ≤ length bytes → total_in (bytes ++ more) ≡ total_in bytes
+total_append bytes more long =
+    ap (λ xs. big_number 2 xs) (drop-append-le 10 bytes more (omega arith)) ∙ big_from-append 2 (drop 10 bytes) more (omega (arith, length-drop 10 bytes))
+
+-- how the first bytes of a longer list look
+first_bytes : (bytes : List ℕ) (found k : ℕ) → k < found → slice_index (take found bytes) k ≡ slice_index bytes k
+first_bytes bytes found k lt = get_or-take found bytes k 0 lt
+
+first_total : (bytes : List ℕ) (found : ℕ) → 12 ≤ found → total_in (take found bytes) ≡ total_in bytes
+first_total bytes found long =
+    let split : found ≡ 10 + (found - 10) = omega arith in
+    let rest : drop 10 (take found bytes) ≡ take (found - 10) (drop 10 bytes) = ap (λ n. drop 10 (take n bytes)) split ∙ drop-take 10 (found - 10) bytes in
+    ap (λ xs. big_number 2 xs) rest ∙ big_from-take 0 2 (found - 10) (drop 10 bytes) (omega arith)
+
+kind_part : (bytes : List ℕ) (found : ℕ) → 12 ≤ found → HasKind bytes → length (take found bytes) ≡ found → HasKind (take found bytes)
+kind_part bytes found long has count =
+    let same : (k : ℕ) → k < 12 → slice_index (take found bytes) k ≡ slice_index bytes k = λ k lt. first_bytes bytes found k (omega arith) in (
+      (
+        (
+          rw count long,
+          rw (same 0 (omega arith), same 1 (omega arith)) has.0.0.1,
+        ),
+        rw (same 2 (omega arith)) has.0.1,
+      ),
+      rw (same 3 (omega arith)) has.1,
+    )
+
+pub part_refused : (packet : Packet) (found : ℕ) → IsPacket packet → found < length (spelling packet)
+    → reading (take found (spelling packet)) ≡ (if nat_lt found 12 then Err Short else Err (BadLength (length (spelling packet)) found))
+part_refused packet found is lt =
+    let bytes = spelling packet in
+    let count : length (take found bytes) ≡ found = length-take-le found bytes (omega (arith, lt)) in
+    elim (cases_lt found 12) [
+      | inl short ↦ rw (lt-ltb found 12 short) (is_short (take found bytes) (rw count short))
+      | inr long ↦
+          let has = header_has packet is in
+          let total : total_in (take found bytes) ≡ length bytes = first_total bytes found long ∙ has.1 in
+          let few : length bytes ≤ 4294967295 = omega (arith, length-spelling packet, fields_short packet is.parts) in
+          let found-is : found_in (take found bytes) ≡ found = rw count (omega (arith, few, lt)) in
+          let other : length bytes ≢ length (take found bytes) = rw count (omega (arith, lt)) in
+          rw (le-ltb found 12 long) (is_long (take found bytes) (length bytes) found (kind_part bytes found long has.0 count) total found-is other)
+    ]
+
+-- a spelling that begins another is that other
+pub no_other : (packet other : Packet) (more : List ℕ) → IsPacket packet → IsPacket other → spelling packet ++ more ≡ spelling other → (packet ≡ other)
+    × (more ≡ [])
+no_other packet other more is is-other e =
+    let has = header_has packet is in
+    let has-other = header_has other is-other in
+    let long = has.0.0.0.0 in
+    let same_total : total_in (spelling packet ++ more) ≡ total_in (spelling packet) = total_append (spelling packet) more long in
+    let lengths : length (spelling packet) ≡ length (spelling other) = sym has.1 ∙ sym same_total ∙ ap (λ bytes. total_in bytes) e ∙ has-other.1 in
+    let none : more ≡ [] = nil_from_length more (let whole : length (spelling packet) + length more ≡ length (spelling other) =
+    sym (length-append (spelling packet) more) ∙ ap length e in omega (arith, whole, lengths)) in
+    let spellings : spelling packet ≡ spelling other = sym (append-nil (spelling packet)) ∙ ap (λ xs. spelling packet ++ xs) (sym none) ∙ e in
+    let answers : Ok packet ≡ Ok other = sym (spelling_again packet is) ∙ ap (λ bytes. reading bytes) spellings ∙ spelling_again other is-other in
+    (ok_is packet other answers, none)
+
+pub found_in_grammar : (r : Read Packet) (bytes : List ℕ) → IsBytes bytes → r ≡ reading bytes → IfOk r (λ packet. IsPacket packet × (bytes ≡ spelling packet))
+found_in_grammar (Ok packet) bytes fits read = spelled bytes packet fits (sym read)
+found_in_grammar (Err e) bytes fits read = tt

@@ -1,0 +1,26 @@
+-- A Data leaves the members as they were.
+use Rattle.std.proofs.Common.{◌≡◌, ℕ, ◌+◌, ◌-◌, ◌<◌, List, ◌==◌, Some, refl, sym, ap, ◌∙◌, arith}
+use Rattle.std.proofs.Math.Seq.{map-set_same}
+use Rattle.am_base.specs.declared.image.Image.{Image}
+use Rattle.am_base.specs.declared.entry.Entry.TheVariants.{Data}
+use Rattle.am_base.specs.Names.{place_of, life_of}
+use Rattle.am_base.specs.Lists.{at_place, blank_row, member_life, members_of, members_at, image_at, entry_at, after, told_by, top_of, Log, with_entry}
+use Rattle.am_parts.proofs.Folds.{split}
+use Rattle.am_parts.proofs.Ends.{told-push, image-next}
+
+pub members_data : (image : Image) (number from req : ℕ) (body : List ℕ) → members_of (after image number (Data from req body)) ≡ members_of image
+unfolding after
+members_data image number from req body = split ((at_place image from).life == life_of from)
+    (λ t. rw t (map-set_same member_life image.rows (place_of from) (record (at_place image from) { last = req }) blank_row refl))
+    (λ f. rw f refl)
+
+pub members_pushed : (log : Log) (from req : ℕ) (body : List ℕ) → members_of (told_by (with_entry log (Data from req body))) ≡ members_of (told_by log)
+members_pushed log from req body = ap members_of (told-push log (Data from req body)) ∙ members_data (told_by log) (top_of log + 1) from req body
+
+-- the members after a Data of a list are those before it
+pub members_stay : (log : Log) (number from req : ℕ) (body : List ℕ) → log.start < number → entry_at log number ≡ Some (Data from req body)
+    → members_at log number ≡ members_at log (number - 1)
+members_stay log number from req body low is =
+    let at : number - 1 + 1 ≡ number = omega arith in
+    ap (members_at log) (sym at) ∙ ap members_of (image-next log (number - 1) (Data from req body) (omega arith) (ap (entry_at log) at ∙ is))
+    ∙ members_data (image_at log (number - 1)) (number - 1 + 1) from req body

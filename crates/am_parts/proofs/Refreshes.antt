@@ -1,0 +1,264 @@
+-- A refresh, on the end of a list and on all of it, once and twice.
+use Rattle.std.proofs.Common.{◌≡◌, ℕ, ◌-◌, ◌<◌, ◌≤◌, max, min, List, refl, sym, ◌∙◌, ap, subst, true, ◌==◌, nat_lt, if◌then◌else◌, Option, Some, None, arith}
+use Rattle.std.proofs.lemmas.Bool.Decides.{nat_tests}
+use Rattle.am_base.specs.declared.image.Report.{Report}
+use Rattle.am_base.specs.Lists.{Log, top_of, told_by}
+use Rattle.am_base.specs.Fronts.{accept_front, is_held}
+use Rattle.am_parts.specs.Kept.{IsKept}
+use Rattle.am_parts.specs.Cores.{CoreState, Stands, Keeps, whole, accept, pass_over, advance, trim_to, trim_list, unions, since_accepted}
+use Rattle.am_parts.proofs.Folds.{split}
+use Rattle.am_parts.proofs.Ends.{end-top}
+use Rattle.am_parts.proofs.CoreLaws.{advance_whole, since_whole}
+use Rattle.am_parts.specs.Reports.{reports_of, raise_report, after_report, least_taken}
+use Rattle.am_parts.specs.Refresh.{Led, report_of, own_report, tell, go_on, let_go, base_after, go_up, refresh, whole_led, core_and_reports, LeadsBy, StaysAt}
+use Rattle.am_parts.specs.Refresh.{MayLead}
+use Rattle.am_parts.proofs.Leaders.{let_go_within}
+use Rattle.am_parts.proofs.Again.{greatest_low, accept_front_again}
+use Rattle.am_parts.proofs.Walks.{front_by}
+use Rattle.am_parts.proofs.Same.{front_same}
+
+-- reports of a name
+pub reported_self : (reports : ℕ → Report) (name : ℕ) (report : Report) → after_report reports name report name ≡ raise_report (reports name) report
+reported_self reports name report = let t : (name == name) ≡ true = grind (arith, nat_tests) in rw t refl
+
+raised_below : (old report : Report) → report.stored ≤ old.stored → report.taken ≤ old.taken → raise_report old report ≡ old
+raised_below old report s t =
+    let a : max old.stored report.stored ≡ old.stored = omega arith in
+    let b : max old.taken report.taken ≡ old.taken = omega arith in
+    λ i. record { stored = a i; taken = b i }
+
+reported_below : (reports : ℕ → Report) (name : ℕ) (report : Report) → report.stored ≤ (reports name).stored → report.taken ≤ (reports name).taken
+    → after_report reports name report ≡ reports
+reported_below reports name report s t = λ i other. (each other) i
+  where
+    each : (other : ℕ) → after_report reports name report other ≡ reports other
+    each other = split (other == name)
+        (λ u. let e : other ≡ name = grind (arith, nat_tests) in rw u (raised_below (reports name) report s t ∙ ap reports (sym e)))
+        (λ u. rw u refl)
+
+-- what a refresh leaves
+pub record IsRefreshed (s : Led) : Type 0 where
+  pub stored : top_of s.core.log ≤ (s.reports s.core.who).stored
+  pub taken : s.core.taken ≤ (s.reports s.core.who).taken
+  pub told : s.core.told ≡ accept_front s.reports s.core.log s.core.acc
+  pub acc : min s.core.told (top_of s.core.log) ≤ s.core.acc
+  pub passed : s.core.taken < s.core.start - 1 → min s.core.acc (s.core.start - 1) ≤ s.core.taken
+  pub trimmed : base_after (least_taken s.reports (since_accepted s.core)) s.core.base ≡ s.core.base
+
+own_stays : (s : Led) → IsRefreshed s → own_report s ≡ s
+unfolding own_report
+own_stays s is = ap (λ r. let l : Led = record { core = s.core; reports = r } in l) (reported_below s.reports s.core.who (report_of s.core) is.stored is.taken)
+
+tell_stays : (s : Led) → IsRefreshed s → tell s ≡ s
+unfolding tell
+tell_stays s is = ap (λ (t : ℕ). record s { core = record s.core { told = t } }) (sym is.told)
+
+go_stays : (s : Led) → IsRefreshed s → go_on s ≡ s
+unfolding go_on accept pass_over
+go_stays s is =
+    let c = s.core in
+    let a : max c.acc (min c.told (top_of c.log)) ≡ c.acc = let h = is.acc in omega arith in
+    let t : (if nat_lt c.taken (c.start - 1) then max c.taken (min c.acc (c.start - 1)) else c.taken) ≡ c.taken =
+    split (nat_lt c.taken (c.start - 1)) (λ u. let l : c.taken < c.start - 1 = grind (arith, nat_tests) in let p = is.passed l in
+    rw u (omega arith)) (λ u. rw u refl) in
+    rw a (ap (λ (k : ℕ). record s { core = record s.core { taken = k } }) t)
+
+let_go_stays : (s : Led) → IsRefreshed s → let_go s ≡ s
+unfolding let_go
+let_go_stays s is = ap (λ (b : ℕ). record s { core = record s.core { base = b } }) is.trimmed
+
+pub refresh_stays : (s : Led) → IsRefreshed s → refresh s ≡ s
+refresh_stays s is =
+    ap (λ x. let_go (own_report (go_on (tell x)))) (own_stays s is)
+    ∙ ap (λ x. let_go (own_report (go_on x))) (tell_stays s is)
+    ∙ ap (λ x. let_go (own_report x)) (go_stays s is)
+    ∙ ap let_go (own_stays s is)
+    ∙ let_go_stays s is
+
+-- the accept front goes by what is stored alone
+front_stored : (reports others : ℕ → Report) (log : Log) (acc : ℕ) → ((name : ℕ) → (reports name).stored ≡ (others name).stored)
+    → accept_front reports log acc ≡ accept_front others log acc
+front_stored reports others log acc each =
+    let e : (λ name. (reports name).stored) ≡ (λ name. (others name).stored) = λ i name. each name i in
+    ap (λ (stored : ℕ → ℕ). accept_front (λ name. record { stored = stored name; taken = 0 }) log acc) e
+
+same_stored : (reports : ℕ → Report) (name : ℕ) (report : Report) → report.stored ≤ (reports name).stored → (other : ℕ)
+    → (after_report reports name report other).stored ≡ (reports other).stored
+same_stored reports name report h other = split (other == name)
+    (λ u. let e : other ≡ name = grind (arith, nat_tests) in let s = ap (λ n. (reports n).stored) e in rw u (omega arith))
+    (λ u. rw u refl)
+
+base_again : (o : Option ℕ) (base : ℕ) → base_after o (base_after o base) ≡ base_after o base
+base_again None base = refl
+base_again (Some to) base = omega arith
+
+passed_over : (taken acc start : ℕ) → (if nat_lt taken (start - 1) then max taken (min acc (start - 1)) else taken) < start - 1
+    → min acc (start - 1) ≤ (if nat_lt taken (start - 1) then max taken (min acc (start - 1)) else taken)
+passed_over taken acc start = split (nat_lt taken (start - 1))
+    (λ u. rw u (λ h. omega arith))
+    (λ u. let l : start - 1 ≤ taken = grind (arith, nat_tests) in rw u (λ h. absurd (omega arith)))
+
+taken_grows : (taken acc start : ℕ) → taken ≤ (if nat_lt taken (start - 1) then max taken (min acc (start - 1)) else taken)
+taken_grows taken acc start = split (nat_lt taken (start - 1)) (λ u. rw u (omega arith)) (λ u. rw u (omega arith))
+
+-- where the front is, within the list
+front_within : (reports : ℕ → Report) (log : Log) (acc : ℕ) → acc ≤ top_of log → (acc ≤ accept_front reports log acc)
+    × (accept_front reports log acc ≤ top_of log)
+front_within reports log acc high =
+    let low = greatest_low (front_by (is_held reports log) (told_by log).view_number acc) acc (top_of log - acc) in
+    let a = low.0 in
+    let b = low.1 in
+    (a, omega arith)
+
+pub is_refreshed : (s : Led) → s.core.acc ≤ top_of s.core.log → IsRefreshed (refresh s)
+unfolding own_report tell go_on let_go accept pass_over
+is_refreshed s high =
+    let c = s.core in
+    let t = top_of c.log in
+    let first = after_report s.reports c.who (report_of c) in
+    let front = accept_front first c.log c.acc in
+    let acc = max c.acc (min front t) in
+    let taken = if nat_lt c.taken (c.start - 1) then max c.taken (min acc (c.start - 1)) else c.taken in
+    let report : Report = record { stored = t; taken = taken } in
+    let second = after_report first c.who report in
+    let within = front_within first c.log c.acc high in
+    let at : acc ≡ front = let a = within.0 in let b = within.1 in omega arith in
+    let one = ap (λ (r : Report). r.stored) (reported_self s.reports c.who (report_of c)) in
+    let stored = ap (λ (r : Report). r.stored) (reported_self first c.who report) in
+    let given = ap (λ (r : Report). r.taken) (reported_self first c.who report) in
+    let told : accept_front second c.log acc ≡ front = ap (accept_front second c.log) at
+    ∙ front_stored second first c.log front (same_stored first c.who report (omega arith)) ∙ accept_front_again first c.log c.acc high in
+    record {
+      stored = omega arith;
+      taken = omega arith;
+      told = sym told;
+      acc = omega arith;
+      passed = passed_over c.taken acc c.start;
+      trimmed = base_again (least_taken second (unions c.log acc (t - acc))) c.base;
+    }
+
+-- doing it again changes nothing
+pub refresh_again : (s : Led) → s.core.acc ≤ top_of s.core.log → refresh (refresh s) ≡ refresh s
+refresh_again s high = refresh_stays (refresh s) (is_refreshed s high)
+
+-- on all of the list as on its end
+own_whole : (all : Log) (s : Led) → Stands all s.core → own_report (whole_led all s) ≡ whole_led all (own_report s)
+unfolding own_report
+own_whole all s st = ap (λ (t : ℕ). let l : Led = record {
+  core = whole all s.core;
+  reports =
+      after_report s.reports s.core.who (record { stored = t; taken = s.core.taken });
+} in l) (sym (end-top all s.core.log st.kept))
+
+tell_whole : (all : Log) (s : Led) → Stands all s.core → s.core.base ≤ s.core.acc → tell (whole_led all s) ≡ whole_led all (tell s)
+unfolding tell
+tell_whole all s st h =
+    let b = st.base in
+    ap (λ (t : ℕ). let l : Led = record { core = record (whole all s.core) { told = t }; reports = s.reports } in
+    l) (sym (front_same s.reports all s.core.log s.core.acc st.kept (omega arith)))
+
+go_whole : (all : Log) (s : Led) → Stands all s.core → go_on (whole_led all s) ≡ whole_led all (go_on s)
+unfolding go_on
+go_whole all s st = ap (λ (c : CoreState). let l : Led = record { core = c; reports = s.reports } in l) (sym (advance_whole all s.core st))
+
+pub go_up_whole : (all : Log) (s : Led) → Stands all s.core → s.core.base ≤ s.core.acc → go_up (whole_led all s) ≡ whole_led all (go_up s)
+unfolding own_report tell go_on accept pass_over
+go_up_whole all s st h =
+    let s1 = own_report s in
+    let s2 = tell s1 in
+    let s3 = go_on s2 in
+    let st2 : Stands all s2.core = record { base = st.base; kept = st.kept } in
+    let st3 : Stands all s3.core = record { base = st.base; kept = st.kept } in
+    ap (λ x. own_report (go_on (tell x))) (own_whole all s st)
+    ∙ ap (λ x. own_report (go_on x)) (tell_whole all s1 st h)
+    ∙ ap own_report (go_whole all s2 st2)
+    ∙ own_whole all s3 st3
+
+pub go_up_stands : (all : Log) (s : Led) → Stands all s.core → Stands all (go_up s).core
+unfolding own_report tell go_on accept pass_over
+go_up_stands all s st = record { base = st.base; kept = st.kept }
+
+-- after the trim, or without one
+let_go_whole : (all : Log) (s : Led) (o : Option ℕ) → Stands all s.core → s.core.base ≤ s.core.acc → least_taken s.reports (since_accepted s.core) ≡ o
+    → let_go (whole_led all s) ≡ record { core = record (whole all s.core) { base = base_after o s.core.base }; reports = s.reports }
+unfolding let_go
+let_go_whole all s o st h is =
+    let since = since_whole s.core h all st in
+    ap (λ (o : Option ℕ). let l : Led = record { core = record (whole all s.core) { base = base_after o s.core.base }; reports = s.reports } in
+    l) (ap (least_taken s.reports) (sym since) ∙ is)
+
+pub leads_some : (old now : Led) (to : ℕ) (core : CoreState) → now ≡ go_up old → old.core.base ≤ old.core.acc → now.core.base ≤ now.core.acc
+    → least_taken now.reports (since_accepted now.core) ≡ Some to → Keeps (trim_to to) now.core core
+    → LeadsBy refresh old (record { core = core; reports = now.reports })
+leads_some old now to core e low high is keeps = λ all st.
+    let P : Led → Type 0 = λ s. Stands all s.core in
+    let here : Stands all now.core = subst P (sym e) (go_up_stands all old st) in
+    let kept = keeps all here in
+    let whole_now : go_up (whole_led all old) ≡ whole_led all now = go_up_whole all old st low ∙ ap (whole_led all) (sym e) in
+    let gone = ap let_go whole_now ∙ let_go_whole all now (Some to) here high is in
+    (kept.0, ap (λ (c : CoreState). let l : Led = record { core = c; reports = now.reports } in l) kept.1 ∙ sym gone)
+
+pub leads_none : (old now : Led) → now ≡ go_up old → old.core.base ≤ old.core.acc → now.core.base ≤ now.core.acc
+    → least_taken now.reports (since_accepted now.core) ≡ None → LeadsBy refresh old now
+leads_none old now e low high is = λ all st.
+    let P : Led → Type 0 = λ s. Stands all s.core in
+    let here : Stands all now.core = subst P (sym e) (go_up_stands all old st) in
+    let whole_now : go_up (whole_led all old) ≡ whole_led all now = go_up_whole all old st low ∙ ap (whole_led all) (sym e) in
+    let gone = ap let_go whole_now ∙ let_go_whole all now None here high is in
+    (here, sym gone)
+
+pub leads_again : (old new : Led) → LeadsBy refresh old new → old.core.acc ≤ top_of old.core.log → StaysAt refresh old new
+leads_again old new leads high = λ all st.
+    let e = (leads all st).1 in
+    let t = end-top all old.core.log st.kept in
+    ap refresh e ∙ refresh_again (whole_led all old) (omega arith) ∙ sym e
+
+-- its own report has what it has taken
+pub go_up_own : (s : Led) → (s.reports s.core.who).taken ≤ s.core.taken → ((go_up s).reports (go_up s).core.who).taken ≡ (go_up s).core.taken
+unfolding own_report tell go_on accept pass_over
+go_up_own s own =
+    let c = s.core in
+    let first = after_report s.reports c.who (report_of c) in
+    let acc = max c.acc (min (accept_front first c.log c.acc) (top_of c.log)) in
+    let taken = if nat_lt c.taken (c.start - 1) then max c.taken (min acc (c.start - 1)) else c.taken in
+    let report : Report = record { stored = top_of c.log; taken = taken } in
+    let one = ap (λ (r : Report). r.taken) (reported_self s.reports c.who (report_of c)) in
+    let two = ap (λ (r : Report). r.taken) (reported_self first c.who report) in
+    let grows = taken_grows c.taken acc c.start in
+    omega arith
+
+pub go_up_leads : (s : Led) → MayLead s.core → MayLead (go_up s).core
+unfolding own_report tell go_on accept pass_over
+go_up_leads s leads = leads
+
+pub leads_up : (old now : Led) → now ≡ go_up old → MayLead old.core → MayLead now.core
+leads_up old now e leads = let P : Led → Type 0 = λ s. MayLead s.core in subst P (sym e) (go_up_leads old leads)
+
+-- the steps of the code
+pub go_up_is : (c0 core c3 : CoreState) (r0 r1 r4 : List Report) (front : ℕ) → core ≡ c0 → core_and_reports c0 r1 ≡ own_report (core_and_reports c0 r0)
+    → front ≡ accept_front (reports_of r1) core.log core.acc → c3 ≡ advance (record core { told = front }) → core_and_reports c3 r4
+    ≡ own_report (core_and_reports c3 r1) → core_and_reports c3 r4 ≡ go_up (core_and_reports c0 r0)
+unfolding tell go_on
+go_up_is c0 core c3 r0 r1 r4 front is first told next last =
+    last
+    ∙ ap (λ x. own_report (core_and_reports x r1)) next
+    ∙ ap (λ (t : ℕ). own_report (core_and_reports (advance (record core { told = t })) r1)) told
+    ∙ ap (λ (x : CoreState). own_report (go_on (tell (core_and_reports x r1)))) is
+    ∙ ap (λ s. own_report (go_on (tell s))) first
+
+-- no more is let go than it has taken
+pub trims_within : (old now : Led) (capacity to : ℕ) → now ≡ go_up old → MayLead old.core → (old.reports old.core.who).taken ≤ old.core.taken
+    → IsKept now.core.log capacity → now.core.log.start ≤ now.core.acc → now.core.acc ≤ top_of now.core.log
+    → least_taken now.reports (since_accepted now.core) ≡ Some to → to ≤ now.core.taken
+trims_within old now capacity to e leads own kept low high least =
+    let P : Led → Type 0 = λ s. MayLead s.core in
+    let Q : Led → Type 0 = λ s. (s.reports s.core.who).taken ≡ s.core.taken in
+    let has = subst Q (sym e) (go_up_own old own) in
+    let_go_within now.reports now.core capacity to kept low high (subst P (sym e) (go_up_leads old leads)) (omega arith) least
+
+pub own_stays_taken : (old now : Led) → now ≡ go_up old → (old.reports old.core.who).taken ≤ old.core.taken → (now.reports now.core.who).taken ≡ now.core.taken
+own_stays_taken old now e own = let Q : Led → Type 0 = λ s. (s.reports s.core.who).taken ≡ s.core.taken in subst Q (sym e) (go_up_own old own)
+
+pub trimmed_own : (reports : ℕ → Report) (c : CoreState) (to : ℕ) → (reports c.who).taken ≡ c.taken → (reports (trim_list to c).who).taken
+    ≡ (trim_list to c).taken
+trimmed_own reports c to h = split (nat_lt c.base to) (λ t. rw t h) (λ t. rw t h)

@@ -1,0 +1,47 @@
+-- The end of a list has the accept front of all of it.
+use Rattle.std.proofs.Common.{◌≡◌, ⊎_elim, ℕ, zero, suc, ◌+◌, ◌-◌, ◌<◌, ◌≤◌, min, refl, sym, ◌∙◌, ap, Bool, ◌&&◌, nat_le, List, count_by, arith}
+use Rattle.std.proofs.lemmas.Bool.{cases_lt}
+use Rattle.am_base.specs.declared.image.Report.{Report}
+use Rattle.am_base.specs.declared.image.Image.{Image}
+use Rattle.am_base.specs.Names.{size, names_of}
+use Rattle.am_base.specs.Lists.{Log, top_of, told_by, image_at, members_of, members_at, entry_at}
+use Rattle.am_base.specs.Fronts.{counted_of, counted_at, holders_at, is_held, is_satisfied, is_front, greatest, accept_front}
+use Rattle.am_parts.specs.Kept.{IsEnd}
+use Rattle.am_parts.proofs.Ranges.{all_same}
+use Rattle.am_parts.proofs.Walks.{satisfied_by, satisfied_high, satisfied_low}
+use Rattle.am_parts.proofs.Ends.{end-top, end-told, end-image, end-entry}
+
+pub greatest_same : (p q : ℕ → Bool) (from more : ℕ) → ((g : ℕ) → from < g → g ≤ from + more → p g ≡ q g) → greatest p from more ≡ greatest q from more
+unfolding greatest
+greatest_same p q from zero each = refl
+greatest_same p q from (suc more) each =
+    let e = each (from + suc more) (omega arith) (omega arith) in
+    rw (e, greatest_same p q from more (λ g l h. each g l (omega arith))) refl
+
+pub held_same : (reports : ℕ → Report) (all kept : Log) (number : ℕ) → IsEnd all kept → kept.start < number
+    → is_held reports kept number ≡ is_held reports all number
+held_same reports all kept number is low =
+    let entry = end-entry all kept number is low in
+    let before = ap members_of (end-image all kept (number - 1) is (omega arith)) in
+    let resilience = ap (λ (i : Image). i.resilience) (end-image all kept number is (omega arith)) in
+    let counted : counted_at kept number ≡ counted_at all number = ap (λ e. counted_of e (members_at kept (number - 1))) entry
+    ∙ ap (counted_of (entry_at all number)) before in
+    ap (λ r. nat_le (min (r + 1) (size (counted_at kept number))) (holders_at reports kept number)) resilience
+    ∙ ap (λ (set : List ℕ). nat_le (min ((image_at all number).resilience + 1) (size set))
+    (count_by (λ name. nat_le number (reports name).stored) (names_of set))) counted
+
+satisfied_same : (p q : ℕ → Bool) (v w g k : ℕ) → v ≡ w → (v ≤ k → p k ≡ q k) → (k < v → p v ≡ q v) → satisfied_by p v g k ≡ satisfied_by q w g k
+satisfied_same p q v w g k e high low = ⊎_elim
+    (λ (l : k < v). satisfied_low p v g k l ∙ ap (λ b. nat_le v g && b) (low l) ∙ sym (satisfied_low q v g k l))
+    (λ (u : v ≤ k). satisfied_high p v g k u ∙ high u ∙ sym (satisfied_high q v g k u))
+    (cases_lt k v) ∙ ap (λ n. satisfied_by q n g k) e
+
+pub front_same : (reports : ℕ → Report) (all kept : Log) (acc : ℕ) → IsEnd all kept → kept.start ≤ acc
+    → accept_front reports kept acc ≡ accept_front reports all acc
+front_same reports all kept acc is low =
+    let view = ap (λ (i : Image). i.view_number) (end-told all kept is) in
+    ap (λ t. greatest (is_front reports kept acc) acc (t - acc)) (end-top all kept is)
+    ∙ greatest_same (is_front reports kept acc) (is_front reports all acc) acc (top_of all - acc)
+    (λ g l u. all_same (is_satisfied reports kept g) (is_satisfied reports all g) (acc + 1) (g - acc)
+    (λ k a b. satisfied_same (is_held reports kept) (is_held reports all) (told_by kept).view_number (told_by all).view_number g k view
+    (λ h. held_same reports all kept k is (omega arith)) (λ h. held_same reports all kept (told_by kept).view_number is (omega arith) ∙ refl)))

@@ -1,0 +1,46 @@
+-- The last view and its resilience.
+use Rattle.std.proofs.Common.{◌≡◌, ◌⊎◌, ⊎_elim, inl, inr, ℕ, ◌+◌, ◌-◌, ◌<◌, ◌≤◌, List, [], ◌∷◌, drop, refl, sym, ◌∙◌, ap, ◌==◌, arith}
+use Rattle.am_base.specs.declared.image.Image.{Image}
+use Rattle.am_base.specs.declared.entry.Entry.{Entry}
+use Rattle.am_base.specs.declared.entry.Entry.TheVariants.{Data, Join, Leave, View}
+use Rattle.am_base.specs.Names.{life_of}
+use Rattle.am_base.specs.Lists.{Log, fold, after, at_place, image_at, told_by, top_of}
+use Rattle.am_parts.specs.Kept.{above}
+use Rattle.am_parts.proofs.Folds.{split}
+use Rattle.am_parts.proofs.Ends.{end-self, end-above, end-told}
+
+-- what one entry does to the last view
+same_view : (image : Image) (number : ℕ) (e : Entry) → (((after image number e).view_number ≡ image.view_number)
+    × ((after image number e).resilience ≡ image.resilience)) ⊎ ((after image number e).view_number ≡ number)
+unfolding after
+same_view image number (Data from req body) = split ((at_place image from).life == life_of from) (λ t. rw t (inl (refl, refl))) (λ t. rw t (inl (refl, refl)))
+same_view image number (Join name) = inl (refl, refl)
+same_view image number (Leave name) = split ((at_place image name).life == life_of name) (λ t. rw t (inl (refl, refl))) (λ t. rw t (inl (refl, refl)))
+same_view image number (View stamp members resilience) = inr refl
+
+-- the last view's number never falls
+pub view_grows : (image : Image) (number : ℕ) (es : List Entry) → image.view_number < number → image.view_number ≤ (fold image number es).view_number
+unfolding fold
+view_grows image number [] h = omega arith
+view_grows image number (e ∷ es) h = ⊎_elim
+    (λ same. let v = same.0 in let more = view_grows (after image number e) (number + 1) es (omega arith) in omega arith)
+    (λ now. let more = view_grows (after image number e) (number + 1) es (omega arith) in omega arith)
+    (same_view image number e)
+
+-- no View from a number on: the resilience is as before it
+pub resilience_kept : (image : Image) (number : ℕ) (es : List Entry) → (fold image number es).view_number < number
+    → (fold image number es).resilience ≡ image.resilience
+unfolding fold
+resilience_kept image number [] h = refl
+resilience_kept image number (e ∷ es) h = ⊎_elim
+    (λ same. resilience_kept (after image number e) (number + 1) es (omega arith) ∙ same.1)
+    (λ now. let more = view_grows (after image number e) (number + 1) es (omega arith) in absurd (omega arith))
+    (same_view image number e)
+
+pub resilience_at : (log : Log) (number : ℕ) → log.start ≤ number → number ≤ top_of log → (told_by log).view_number ≤ number
+    → (image_at log number).resilience ≡ (told_by log).resilience
+resilience_at log number low high view =
+    let end = end-above log log number (end-self log) low high in
+    let e = end-told log (above log number) end in
+    let v = ap (λ (i : Image). i.view_number) e in
+    sym (resilience_kept (image_at log number) (number + 1) (drop (number - log.start) log.entries) (omega arith)) ∙ ap (λ (i : Image). i.resilience) e

@@ -1,0 +1,31 @@
+use Rattle.std.proofs.Common.{ℕ, sym, ◌∙◌, ap, arith}
+use Rattle.am_base.specs.declared.image.Report.{Report}
+use Rattle.am_parts.specs.Reports.{reports_of}
+use Rattle.am_parts.proofs.ReportLaws.{so_far, least_past, least_found}
+use Rattle.am_parts.proofs.fronts.Fronts.least_stored.Goals.{then-life-gt0, else-life-gt0}
+use Rattle.am_parts.proofs.fronts.Fronts.least_stored.Goals as goal
+
+pub loop-place-preserved : goal.loop-place-preserved
+loop-place-preserved c =
+    let number : ℕ → ℕ = λ name. (reports_of c.args.self.now name).stored in
+    let lives = c.each_life-lives.result in
+    let place = c.loop-place.place in
+    let found = c.loop-place.found in
+    let least = c.loop-place.least in
+    let set = c.each_life-lives.ensures.set in
+    elim c.if-life-gt0.branch [
+      | then-life-gt0 w ↦
+          let is = ap (λ (r : Report). r.stored) (sym w.at.ensures) in
+          let more = least_found number found least lives place w.at.result.stored 4294967295 (omega arith) w.if-life-gt0.true c.loop-place.invariant.none is
+          (omega arith) in
+          rw (w.found-is, w.least-is, w.min-least.ensures) (record {
+            rest = sym more ∙ c.loop-place.invariant.rest;
+            none = λ e. absurd (cc);
+          })
+      | else-life-gt0 w ↦
+          let same = least_past number (so_far found least) lives place (omega arith) (omega arith) in
+          rw (w.found-is, w.least-is) (record {
+            rest = sym same ∙ c.loop-place.invariant.rest;
+            none = c.loop-place.invariant.none;
+          })
+    ]

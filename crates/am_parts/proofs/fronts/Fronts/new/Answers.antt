@@ -1,0 +1,5 @@
+use Rattle.am_parts.proofs.ReportLaws.{none_reported}
+use Rattle.am_parts.proofs.fronts.Fronts.new.Goals as goal
+
+pub returns : goal.returns
+returns c = none_reported 256

@@ -1,0 +1,58 @@
+use Rattle.am_world.proofs.Words.{◌≡◌, ◌+◌, ◌<◌, length, refl, sym, ap, ◌∙◌, subst, arith, length-append, place_of, NodeEvent, Event, Outcome, current, IsEndOf, Node, state_of, Watching}
+use Rattle.am_world.proofs.Words.{watching_of, Play, replay, after, most_events}
+use Rattle.am_world.proofs.{Courses.ready_now, Courses.step_gone, Courses.stands_on, Courses.grown_short, Courses.step_watched, Courses.counted_more, Courses.counted_low, Kept.count_of}
+use Rattle.am_pump.specs.Courses.{Counted}
+use Rattle.am_pump.proofs.course.Course.act.Goals as goal
+
+pub act-requires-clause-ready : goal.act-requires-clause-ready
+act-requires-clause-ready c =
+    let a = c.requires.run.1.1 in
+    let s = c.args.self.now in
+    ready_now c.requires.run.0 c.requires.run.1.0 s.places s.watcher c.args.name s.counts.events c.args.what a.course.stands a.few a.named a.comes_
+    a.course.counted.events
+
+pub note_step-requires-clause-few : goal.note_step-requires-clause-few
+note_step-requires-clause-few c =
+    let p = c.requires.run.0 in
+    let a = c.requires.run.1.1 in
+    let count = ap (λ (k : Watching). k.count) c.reserve.ensures.same in
+    let events = count_of p (watching_of c.args.self.now.watcher) a.course.stands.watched in
+    let few = a.few in
+    omega arith
+
+pub note_step-requires-clause-short : goal.note_step-requires-clause-short
+note_step-requires-clause-short c =
+    let p = c.requires.run.0 in
+    let e = c.requires.run.1.0 in
+    let a = c.requires.run.1.1 in
+    let s = c.args.self.now in
+    let moves = c.in_ok-outcome.ensures.moves in
+    let g = step_gone p e s.places c.act.new.self s.watcher c.args.name c.args.what c.in_ok-outcome.outcome a.course.stands a.few a.named a.comes_ moves in
+    let short = grown_short p e c.in_ok-outcome.outcome moves.sent c.act.new.self g in
+    let long = ap length c.group.ensures in
+    let few = a.few in
+    omega arith
+
+pub returns-clause-ok : goal.returns-clause-ok
+returns-clause-ok c = λ p e a.
+    let s = c.args.self.now in
+    let outcome = c.in_ok-outcome.outcome in
+    let new = c.act.new.self in
+    let moves = c.in_ok-outcome.ensures.moves in
+    let g = step_gone p e s.places new s.watcher c.args.name c.args.what outcome a.course.stands a.few a.named a.comes_ moves in
+    let watched = step_watched p e outcome moves.sent s.places new s.watcher c.reserve.new.self c.note_step.new.watcher c.args.name c.args.what c.node.result.now
+    (length c.group-known.result.now) c.group.result.now a.course.stands g a.named a.comes_ c.reserve.ensures.same (ap length c.group-known.ensures)
+    c.group.ensures c.node.ensures c.note_step.ensures in (
+      record {
+        stands = stands_on p e outcome moves.sent s.places new s.watcher c.note_step.new.watcher a.course.stands g moves.few moves.letters watched;
+        counted = subst (Counted (after p e)) (sym c.add.ensures) (counted_more p e s.counts outcome a.course.counted g.answers);
+      },
+      g.answers,
+    )
+
+pub add-requires : goal.add-requires
+add-requires c =
+    let a = c.requires.run.1.1 in
+    let many = a.course.counted.events in
+    let few = a.few in
+    counted_low c.requires.run.0 c.args.self.now.counts most_events a.course.counted (omega arith)

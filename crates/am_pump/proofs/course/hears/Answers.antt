@@ -1,0 +1,27 @@
+use Rattle.am_world.proofs.Words.{◌≡◌, ◌++◌, Ok, Err, Some, None, sym, ap, ◌∙◌, option_copied, letter_at, flag_of, first_bytes, OnOk, Letter, Act, SpellsPacket, Heard, heard_of, IsPacket}
+use Rattle.am_base.specs.declared.event.NodeEvent.TheVariants as does
+use Rattle.am_base.specs.declared.outcome.Outcome.TheVariants as said
+use Rattle.am_pump.specs.Courses.{no_flags}
+use Rattle.am_pump.proofs.Courses.{no_flag, spells_one}
+use Rattle.am_world.proofs.Heard.{no_packet, not_addressed, is_heard}
+use Rattle.am_pump.proofs.course.hears.Goals as goal
+
+pub returns-in_default-clause-asks : goal.returns-in_default-clause-asks
+returns-in_default-clause-asks c = no_packet None c.args.name (flag_of no_flags c.args.name) (letter_at c.args.letters.now c.args.number) (sym c.letter_at.ensures ∙ ap option_copied c.in_default.is)
+
+pub returns-then-not-is_for-clause-asks : goal.returns-then-not-is_for-clause-asks
+returns-then-not-is_for-clause-asks c =
+    let there = sym c.letter_at.ensures ∙ ap option_copied c.in-Some.is in
+    not_addressed None c.args.name (flag_of no_flags c.args.name) (letter_at c.args.letters.now c.args.number) c.in-Some.letter.now there (sym c.is_for.ensures ∙ c.if-not-is_for.true)
+
+pub returns-clause-asks : goal.returns-clause-asks
+returns-clause-asks c =
+    let there = sym c.letter_at.ensures ∙ ap option_copied c.in-Some.is in
+    let bytes = c.of.ensures ∙ c.in_ok-extend_from_slice.ensures.items ∙ ap (λ xs. xs ++ c.bytes.result.now) c.clear.ensures.items
+    ∙ c.bytes.ensures.value in
+    is_heard None c.args.name (flag_of no_flags c.args.name) (letter_at c.args.letters.now c.args.number) c.in-Some.letter.now c.of.result there
+    (sym c.is_for.ensures ∙ c.if-not-is_for.false) (no_flag c.args.name) bytes
+
+pub returns-clause-spells : goal.returns-clause-spells
+returns-clause-spells c =
+    spells_one c.args.letters.now c.args.number c.in-Some.letter.now (sym c.letter_at.ensures ∙ ap option_copied c.in-Some.is) c.bytes.ensures.packet

@@ -1,0 +1,200 @@
+//! Each kind is read by a function of its own: a function clears its large locals whenever it is entered.
+#![tactic(auto, unfolding(am_packet::specs::Reading::packet_at))]
+
+ghost use Rattle.std.specs.Prelude.{◌≡◌, ◌≤◌, ◌+◌, length, Ok};
+ghost use Rattle.am_packet.specs.Images.{image_length};
+ghost use Rattle.am_packet.specs.declared.packet.Packet.TheVariants as packets;
+ghost use Rattle.am_packet.specs.declared.kind.Kind.TheVariants as kinds;
+ghost use Rattle.am_packet.specs.KindNumbers.{least_total, most_total, most_request};
+ghost use Rattle.am_packet.specs.Reading.{packet_at};
+
+use crate::field_reader::{body, entry, flag, image, name, number, report, resilience, set, vote};
+use am_base::name::{Name, Stamp};
+use am_packet::PacketRefusal;
+use am_packet::kind::Kind;
+use am_packet::packet::Packet;
+
+#[inline(never)]
+fn request(sender: Name, stamp: Stamp, bytes: &[u8]) -> Result<Packet<'_>, PacketRefusal>
+    requires least { 24 ≤ length bytes.now }
+    requires most { length bytes.now ≤ most_request }
+    ensures { result ≡ packet_at kinds.Request sender stamp bytes.now }
+{
+    let body = body(bytes, 24);
+    read!(bytes, Packet::Request { report: report @ 12, req: number @ 20 }, sender, stamp, body)
+}
+
+#[inline(never)]
+fn spread(sender: Name, stamp: Stamp, bytes: &[u8]) -> Result<Packet<'_>, PacketRefusal>
+    requires least { 24 ≤ length bytes.now }
+    requires most { length bytes.now ≤ most_request }
+    ensures { result ≡ packet_at kinds.Spread sender stamp bytes.now }
+{
+    let body = body(bytes, 24);
+    read!(bytes, Packet::Spread { report: report @ 12, req: number @ 20 }, sender, stamp, body)
+}
+
+#[inline(never)]
+fn bcast(sender: Name, stamp: Stamp, bytes: &[u8]) -> Result<Packet<'_>, PacketRefusal>
+    requires { 25 ≤ length bytes.now }
+    ensures { result ≡ packet_at kinds.Bcast sender stamp bytes.now }
+{
+    read!(bytes, Packet::Bcast {
+        base: number @ 12, acc: number @ 16, number: number @ 20, entry: entry @ 24
+    }, sender, stamp)
+}
+
+#[inline(never)]
+fn order(sender: Name, stamp: Stamp, bytes: &[u8]) -> Result<Packet<'_>, PacketRefusal>
+    requires { 29 ≤ length bytes.now }
+    ensures { result ≡ packet_at kinds.Order sender stamp bytes.now }
+{
+    let from = name(bytes, 24);
+    read!(bytes, Packet::Order {
+        base: number @ 12, acc: number @ 16, number: number @ 20, req: number @ 25
+    }, sender, stamp, from)
+}
+
+#[inline(never)]
+fn accept(sender: Name, stamp: Stamp, bytes: &[u8]) -> Result<Packet<'_>, PacketRefusal>
+    requires { 25 ≤ length bytes.now }
+    ensures { result ≡ packet_at kinds.Accept sender stamp bytes.now }
+{
+    read!(bytes, Packet::Accept { base: number @ 12, acc: number @ 16, top: number @ 20, poll: flag @ 24 }, sender, stamp)
+}
+
+#[inline(never)]
+fn ack(sender: Name, stamp: Stamp, bytes: &[u8]) -> Result<Packet<'_>, PacketRefusal>
+    requires { 20 ≤ length bytes.now }
+    ensures { result ≡ packet_at kinds.Ack sender stamp bytes.now }
+{
+    read!(bytes, Packet::Ack { report: report @ 12 }, sender, stamp)
+}
+
+#[inline(never)]
+fn nack(sender: Name, stamp: Stamp, bytes: &[u8]) -> Result<Packet<'_>, PacketRefusal>
+    requires { 20 ≤ length bytes.now }
+    ensures { result ≡ packet_at kinds.Nack sender stamp bytes.now }
+{
+    read!(bytes, Packet::Nack { report: report @ 12 }, sender, stamp)
+}
+
+#[inline(never)]
+fn hold(sender: Name, stamp: Stamp, bytes: &[u8]) -> Result<Packet<'_>, PacketRefusal>
+    requires { 24 ≤ length bytes.now }
+    ensures { result ≡ packet_at kinds.Hold sender stamp bytes.now }
+{
+    read!(bytes, Packet::Hold { base: number @ 12, top: number @ 16, req: number @ 20 }, sender, stamp)
+}
+
+#[inline(never)]
+fn welcome(sender: Name, stamp: Stamp, bytes: &[u8]) -> Result<Packet<'_>, PacketRefusal>
+    requires { 20 + image_length ≤ length bytes.now }
+    ensures { result ≡ packet_at kinds.Welcome sender stamp bytes.now }
+{
+    read!(bytes, Packet::Welcome { base: number @ 12, join: number @ 16, image: image @ 20 }, sender, stamp)
+}
+
+#[inline(never)]
+fn leave_ask(sender: Name, stamp: Stamp, bytes: &[u8]) -> Result<Packet<'_>, PacketRefusal>
+    requires { 20 ≤ length bytes.now }
+    ensures { result ≡ packet_at kinds.LeaveAsk sender stamp bytes.now }
+{
+    read!(bytes, Packet::LeaveAsk { report: report @ 12 }, sender, stamp)
+}
+
+#[inline(never)]
+fn gone(sender: Name, stamp: Stamp, bytes: &[u8]) -> Result<Packet<'_>, PacketRefusal>
+    requires { 16 ≤ length bytes.now }
+    ensures { result ≡ packet_at kinds.Gone sender stamp bytes.now }
+{
+    read!(bytes, Packet::Gone { number: number @ 12 }, sender, stamp)
+}
+
+#[inline(never)]
+fn vote_of(sender: Name, stamp: Stamp, bytes: &[u8]) -> Result<Packet<'_>, PacketRefusal>
+    requires { 35 ≤ length bytes.now }
+    ensures { result ≡ packet_at kinds.Vote sender stamp bytes.now }
+{
+    read!(bytes, Packet::Vote { vote: vote @ 12 }, sender, stamp)
+}
+
+#[inline(never)]
+fn fetch(sender: Name, stamp: Stamp, bytes: &[u8]) -> Result<Packet<'_>, PacketRefusal>
+    requires { 16 ≤ length bytes.now }
+    ensures { result ≡ packet_at kinds.Fetch sender stamp bytes.now }
+{
+    read!(bytes, Packet::Fetch { stored: number @ 12 }, sender, stamp)
+}
+
+#[inline(never)]
+fn piece(sender: Name, stamp: Stamp, bytes: &[u8]) -> Result<Packet<'_>, PacketRefusal>
+    requires { 21 ≤ length bytes.now }
+    ensures { result ≡ packet_at kinds.Piece sender stamp bytes.now }
+{
+    read!(bytes, Packet::Piece { base: number @ 12, number: number @ 16, entry: entry @ 20 }, sender, stamp)
+}
+
+#[inline(never)]
+fn result_of(sender: Name, stamp: Stamp, bytes: &[u8]) -> Result<Packet<'_>, PacketRefusal>
+    requires { 31 ≤ length bytes.now }
+    ensures { result ≡ packet_at kinds.Result sender stamp bytes.now }
+{
+    read!(bytes, Packet::Result {
+        base: number @ 12, number: number @ 16, members: set @ 20, resilience: resilience @ 30
+    }, sender, stamp)
+}
+
+#[inline(never)]
+fn join_ask<'a>(sender: Name, stamp: Stamp) -> Result<Packet<'a>, PacketRefusal>
+    ensures { result ≡ Ok (packets.JoinAsk sender stamp) }
+{
+    Ok(Packet::JoinAsk { sender, stamp })
+}
+
+#[inline(never)]
+fn invite<'a>(sender: Name, stamp: Stamp) -> Result<Packet<'a>, PacketRefusal>
+    ensures { result ≡ Ok (packets.Invite sender stamp) }
+{
+    Ok(Packet::Invite { sender, stamp })
+}
+
+#[inline(never)]
+fn hand_over<'a>(sender: Name, stamp: Stamp) -> Result<Packet<'a>, PacketRefusal>
+    ensures { result ≡ Ok (packets.HandOver sender stamp) }
+{
+    Ok(Packet::HandOver { sender, stamp })
+}
+
+/// The packet of a kind, a sender and a stamp, whose fields stand after the header.
+pub fn packet(
+    kind: Kind,
+    sender: Name,
+    stamp: Stamp,
+    bytes: &[u8],
+) -> Result<Packet<'_>, PacketRefusal>
+    requires least { least_total kind ≤ length bytes.now }
+    requires most { length bytes.now ≤ most_total kind }
+    ensures { result ≡ packet_at kind sender stamp bytes.now }
+{
+    match kind {
+        Kind::Request => request(sender, stamp, bytes),
+        Kind::Spread => spread(sender, stamp, bytes),
+        Kind::Bcast => bcast(sender, stamp, bytes),
+        Kind::Order => order(sender, stamp, bytes),
+        Kind::Accept => accept(sender, stamp, bytes),
+        Kind::Ack => ack(sender, stamp, bytes),
+        Kind::Nack => nack(sender, stamp, bytes),
+        Kind::Hold => hold(sender, stamp, bytes),
+        Kind::JoinAsk => join_ask(sender, stamp),
+        Kind::Welcome => welcome(sender, stamp, bytes),
+        Kind::LeaveAsk => leave_ask(sender, stamp, bytes),
+        Kind::Gone => gone(sender, stamp, bytes),
+        Kind::Invite => invite(sender, stamp),
+        Kind::Vote => vote_of(sender, stamp, bytes),
+        Kind::Fetch => fetch(sender, stamp, bytes),
+        Kind::Piece => piece(sender, stamp, bytes),
+        Kind::Result => result_of(sender, stamp, bytes),
+        Kind::HandOver => hand_over(sender, stamp),
+    }
+}

@@ -1,9 +1,0 @@
-use Rattle.std.proofs.Common.{◌≡◌, Some}
-use Rattle.am_packet.specs.Boxes.{Letter}
-use Rattle.am_group.specs.Journals.{letter_at}
-use Rattle.am_world.specs.Runs.{replay}
-use Rattle.am_settle.proofs.Ways.{Hearing}
-use Rattle.am_settle.proofs.settle.hear_letter.Given as goal
-
-abbrev pub invariant-loop-place : goal.invariant-loop-place
-invariant-loop-place l = (letter : Letter) → letter_at (replay l.fn.world).letters l.number ≡ Some letter → Hearing l.number letter l.place l.fn.world l.world

@@ -1,5 +1,0 @@
-use Rattle.am_settle.proofs.Rounds.{Rounding}
-use Rattle.am_settle.proofs.settle.round.Given as goal
-
-abbrev pub invariant-loop-wave : goal.invariant-loop-wave
-invariant-loop-wave l = Rounding l._wave l.after l.fn.world l.world

@@ -1,5 +1,0 @@
-use Rattle.am_settle.proofs.Rounds.{Settles}
-use Rattle.am_settle.proofs.settle.settle.Given as goal
-
-abbrev pub invariant-loop-round : goal.invariant-loop-round
-invariant-loop-round l = Settles l.rounds l._round l.fn.world l.world

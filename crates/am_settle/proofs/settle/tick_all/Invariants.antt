@@ -1,5 +1,0 @@
-use Rattle.am_settle.proofs.Ways.{Ticking}
-use Rattle.am_settle.proofs.settle.tick_all.Given as goal
-
-abbrev pub invariant-loop-place : goal.invariant-loop-place
-invariant-loop-place l = Ticking l.place l.fn.world l.world

@@ -1,4 +1,0 @@
-//! What a list tells, changed with each entry.
-#![tactic(auto)]
-
-pub mod table;

@@ -1,0 +1,39 @@
+-- What an entry of the group list makes of what is kept.
+use Rattle.am_watcher.proofs.WatchWords.{◌≡◌, ℕ, List, [], ◌∷◌, map, Option, Some, None, refl, ap, ◌∙◌, Stamp, Entry, Data, Join, Leave, View, Pending, Watching}
+use Rattle.am_watcher.proofs.WatchWords.{number_of, or_else, place_among, place_view, accept}
+
+or_none : (o : Option ℕ) → or_else o None ≡ o
+or_none None = refl
+or_none (Some n) = refl
+
+same_each : {A : Type 0} (f : A → A) → ((x : A) → f x ≡ x) → (xs : List A) → map f xs ≡ xs
+same_each f h [] = refl
+same_each f h (x ∷ xs) = ap (λ y. y ∷ map f xs) (h x) ∙ ap (λ ys. x ∷ ys) (same_each f h xs)
+
+both_each : {A : Type 0} (f g : A → A) → ((x : A) → f x ≡ g x) → (xs : List A) → map f xs ≡ map g xs
+both_each f g h [] = refl
+both_each f g h (x ∷ xs) = ap (λ y. y ∷ map f xs) (h x) ∙ ap (λ ys. g x ∷ ys) (both_each f g h xs)
+
+none_placed : (k : Watching) (number : ℕ) (e : Entry) → ((s : Stamp) → number_of s number (e ∷ []) ≡ None) → accept k number (e ∷ []) ≡ k
+none_placed k number e h =
+    let none : (v : Pending) → place_among number (e ∷ []) v ≡ v =
+    λ v. ap (λ o. record v { number_in_group = o }) (ap (or_else v.number_in_group) (h v.view.stamp) ∙ or_none v.number_in_group) in
+    ap (λ ps. record k { pending = ps }) (same_each (place_among number (e ∷ [])) none k.pending)
+
+pub accepts_data : (k : Watching) (number from req : ℕ) (body : List ℕ) → accept k number (Data from req body ∷ []) ≡ k
+unfolding number_of
+accepts_data k number from req body = none_placed k number (Data from req body) (λ s. refl)
+
+pub accepts_join : (k : Watching) (number name : ℕ) → accept k number (Join name ∷ []) ≡ k
+unfolding number_of
+accepts_join k number name = none_placed k number (Join name) (λ s. refl)
+
+pub accepts_leave : (k : Watching) (number name : ℕ) → accept k number (Leave name ∷ []) ≡ k
+unfolding number_of
+accepts_leave k number name = none_placed k number (Leave name) (λ s. refl)
+
+pub accepts_view : (k : Watching) (number : ℕ) (stamp : Stamp) (members : List ℕ) (resilience : ℕ)
+    → accept k number (View stamp members resilience ∷ []) ≡ record k { pending = map (place_view number stamp) k.pending }
+unfolding number_of
+accepts_view k number stamp members resilience = ap (λ ps. record k { pending = ps })
+    (both_each (place_among number (View stamp members resilience ∷ [])) (place_view number stamp) (λ v. refl) k.pending)

@@ -1,0 +1,2 @@
+pub mod WatchWords
+pub mod Accepts

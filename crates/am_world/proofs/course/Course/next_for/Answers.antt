@@ -1,8 +1,0 @@
-use Rattle.am_world.proofs.Words.{◌≡◌, ◌+◌, ◌≤◌, ◌∙◌, List, Letter, drop, length, Some, slice_get, slice_index_or, sym, ap, subst, arith}
-use Rattle.am_group.specs.Addressed.{first_for, next_for}
-use Rattle.am_group.proofs.Search.{begins}
-use Rattle.am_world.specs.Courses.{letters_sent}
-use Rattle.am_world.proofs.course.Course.next_for.Goals as goal
-
-pub loop-index-init : goal.loop-index-init
-loop-index-init c = begins (letters_sent c.args.self.now) c.args.node c.args.after
