@@ -9,6 +9,11 @@ abbrev pub rest_text : Bool → List ℕ → List ℕ
 rest_text true names = list_text names
 rest_text false names = flat_map (λ name. codes "," ++ name_text name) names
 
+-- a name, behind a comma where it isn't the first
+abbrev pub listed_text : Bool → ℕ → List ℕ
+listed_text true name = name_text name
+listed_text false name = codes "," ++ name_text name
+
 -- what is printed for the life at a place, where nobody was printed before it or somebody was
 abbrev pub place_text : Bool → ℕ → ℕ → List ℕ
 place_text first place zero = []

@@ -3,8 +3,8 @@ ghost use Rattle.std.specs.Fmt.{WritesInCalls};
 ghost use Rattle.std.specs.List.{flat_map};
 ghost use Rattle.am_play.specs.Text.{hex_byte, body_text, resilience_text, entry_text};
 
-use crate::name::{push_name, push_names, push_stamp};
 use crate::number::push_behind;
+use crate::piece::{Piece, push_pieces};
 use am_base::entry::{EntryParts, EntryRef};
 use am_base::founding::Founding;
 use am_io::writer::Writer;
@@ -67,7 +67,7 @@ pub fn push_resilience<O: Writer>(
 }
 
 /// Adds an entry. After an error a part of it may have been added.
-#[tactic(auto, using(am_io::proofs::Writers::in_turn), unfolding(am_play::specs::Text::entry_text))]
+#[tactic(auto, unfolding(am_play::specs::Text::entry_text, crate::specs::Pieces::pieces_text))]
 pub fn push_entry<O: Writer>(
     out: &mut O,
     founding: &Founding,
@@ -76,30 +76,33 @@ pub fn push_entry<O: Writer>(
     ensures { OnOk result (WritesInCalls O.writes out.old (entry_text founding.now entry.now) out.new) }
 {
     match entry.parts() {
-        EntryParts::Data { from, req, body } => {
-            out.put("data ")?;
-            push_name(out, *from)?;
-            push_behind(out, " ", u64::from(*req))?;
-            out.put(" ")?;
-            push_body(out, body.bytes())
-        }
-        EntryParts::Join(name) => {
-            out.put("join ")?;
-            push_name(out, *name)
-        }
-        EntryParts::Leave(name) => {
-            out.put("leave ")?;
-            push_name(out, *name)
-        }
+        EntryParts::Data { from, req, body } => push_pieces(
+            out,
+            &[
+                Piece::Words("data "),
+                Piece::Name(*from),
+                Piece::Words(" "),
+                Piece::Number(u64::from(*req)),
+                Piece::Words(" "),
+                Piece::Body(body.bytes()),
+            ],
+        ),
+        EntryParts::Join(name) => push_pieces(out, &[Piece::Words("join "), Piece::Name(*name)]),
+        EntryParts::Leave(name) => push_pieces(out, &[Piece::Words("leave "), Piece::Name(*name)]),
         EntryParts::View {
             stamp,
             members,
             resilience,
         } => {
-            out.put("view ")?;
-            push_stamp(out, *stamp)?;
-            out.put(" ")?;
-            push_names(out, *members)?;
+            push_pieces(
+                out,
+                &[
+                    Piece::Words("view "),
+                    Piece::Stamp(*stamp),
+                    Piece::Words(" "),
+                    Piece::Names(*members),
+                ],
+            )?;
             push_resilience(out, founding, *resilience)
         }
     }

@@ -4,7 +4,7 @@ ghost use Rattle.am_report.specs.Kinds.{word_at};
 ghost use Rattle.am_play.specs.Text.{kind_word, addressees_text, letter_text, letters_text};
 
 use crate::name::{is_everybody_else, push_names};
-use crate::number::push_behind;
+use crate::piece::{Piece, push_pieces};
 use am_io::writer::Writer;
 use am_packet::letter::Letter;
 
@@ -55,7 +55,6 @@ fn push_addressees<O: Writer>(out: &mut O, place: u8, letter: &Letter) -> Result
 }
 
 // Adds a letter of a node at this place: its number, its kind and for whom it is.
-#[tactic(auto, using(am_io::proofs::Writers::in_turn), unfolding(am_play::specs::Text::letter_text))]
 fn push_letter<O: Writer>(
     out: &mut O,
     place: u8,
@@ -65,10 +64,16 @@ fn push_letter<O: Writer>(
     requires { place < 16 }
     ensures { OnOk result (WritesInCalls O.writes out.old (letter_text place number letter.now) out.new) }
 {
-    push_behind(out, " | ", number)?;
-    out.put(" ")?;
-    out.put(kind_word(letter))?;
-    out.put(" to ")?;
+    push_pieces(
+        out,
+        &[
+            Piece::Words(" | "),
+            Piece::Number(number),
+            Piece::Words(" "),
+            Piece::Words(kind_word(letter)),
+            Piece::Words(" to "),
+        ],
+    )?;
     push_addressees(out, place, letter)
 }
 

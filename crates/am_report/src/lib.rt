@@ -8,6 +8,7 @@ pub mod lines;
 pub mod name;
 pub mod number;
 pub mod outcome;
+mod piece;
 pub mod play;
 pub mod script;
 pub mod summary;

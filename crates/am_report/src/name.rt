@@ -2,7 +2,7 @@ ghost use Rattle.std.specs.Prelude.{◌≡◌, ◌<◌, IfOk, OnOk, slice_index,
 ghost use Rattle.std.specs.Fmt.{WritesInCalls};
 ghost use Rattle.std.specs.List.{list_all};
 ghost use Rattle.am_play.specs.Text.{name_text, stamp_text, names_text, is_everybody_else};
-ghost use Rattle.am_report.specs.Names.{place_text, first_behind};
+ghost use Rattle.am_report.specs.Names.{listed_text, place_text, first_behind};
 
 use crate::number::{push_behind, push_number};
 use am_base::name::{Name, Stamp};
@@ -35,6 +35,17 @@ pub fn push_stamp<O: Writer>(out: &mut O, stamp: Stamp) -> Result<(), O::Fault>
     push_name(out, stamp.by)
 }
 
+// Adds a name, behind a comma if it isn't the first.
+fn push_listed<O: Writer>(out: &mut O, first: bool, name: Name) -> Result<(), O::Fault>
+    ensures { OnOk result (WritesInCalls O.writes out.old (listed_text first name) out.new) }
+{
+    if first {
+        return push_name(out, name);
+    }
+    out.put(",")?;
+    push_name(out, name)
+}
+
 // Adds the name of a place, where there is one, behind a comma if it isn't the first; whether the next is the first.
 fn push_place<O: Writer>(
     out: &mut O,
@@ -50,10 +61,7 @@ fn push_place<O: Writer>(
     let Some(name) = Name::of(place, names.life_at(place)) else {
         return Ok(first);
     };
-    if !first {
-        out.put(",")?;
-    }
-    push_name(out, name)?;
+    push_listed(out, first, name)?;
     Ok(false)
 }
 

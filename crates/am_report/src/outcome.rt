@@ -4,8 +4,8 @@ ghost use Rattle.am_play.specs.Text.{outcome_word, numbers_text, outcome_numbers
 ghost use Rattle.am_report.specs.Outcomes.{numbers_in};
 
 use crate::entry::push_entry;
-use crate::name::{push_name, push_names, push_stamp};
 use crate::number::push_behind;
+use crate::piece::{Piece, push_pieces};
 use am_base::founding::Founding;
 use am_base::outcome::Outcome;
 use am_io::writer::Writer;
@@ -88,54 +88,77 @@ fn numbers_of(outcome: &Outcome) -> Numbers
     ensures { numbers_in result ≡ outcome_numbers outcome.now }
 {
     match outcome {
-        Outcome::Queued { req } => Numbers::One(*req),
-        Outcome::Busy { queued } => Numbers::One(u32::from(*queued)),
-        Outcome::Pending { req } => Numbers::One(*req),
-        Outcome::Sent { req, number } => Numbers::Two(*req, *number),
-        Outcome::Joined { number } => Numbers::One(*number),
+        Outcome::Queued { req: number }
+        | Outcome::Pending { req: number }
+        | Outcome::Joined { number }
+        | Outcome::Numbered { number }
+        | Outcome::Early { last: number }
+        | Outcome::Stored { number }
+        | Outcome::Gap { want: number }
+        | Outcome::Advanced { acc: number }
+        | Outcome::Accepted { acc: number }
+        | Outcome::Served { count: number }
+        | Outcome::Welcomed { number }
+        | Outcome::LetGo { number }
+        | Outcome::Catching { want: number } => Numbers::One(*number),
+        Outcome::Busy { queued: number }
+        | Outcome::Refused { cause: number }
+        | Outcome::Running { life: number }
+        | Outcome::Returned { life: number } => Numbers::One(u32::from(*number)),
+        Outcome::Sent {
+            req: first,
+            number: second,
+        }
+        | Outcome::Held {
+            base: first,
+            top: second,
+        }
+        | Outcome::TooFew {
+            got: first,
+            least: second,
+        }
+        | Outcome::Crowded {
+            base: first,
+            top: second,
+        } => Numbers::Two(*first, *second),
         Outcome::PutOff { req, base, top } => Numbers::Three(*req, *base, *top),
-        Outcome::Numbered { number } => Numbers::One(*number),
-        Outcome::Early { last } => Numbers::One(*last),
-        Outcome::Held { base, top } => Numbers::Two(*base, *top),
-        Outcome::Stored { number } => Numbers::One(*number),
-        Outcome::Gap { want } => Numbers::One(*want),
-        Outcome::Advanced { acc } => Numbers::One(*acc),
-        Outcome::Accepted { acc } => Numbers::One(*acc),
-        Outcome::Served { count } => Numbers::One(*count),
-        Outcome::Welcomed { number } => Numbers::One(*number),
-        Outcome::LetGo { number } => Numbers::One(*number),
-        Outcome::Refused { cause } => Numbers::One(u32::from(*cause)),
-        Outcome::Catching { want } => Numbers::One(*want),
-        Outcome::TooFew { got, least } => Numbers::Two(u32::from(*got), u32::from(*least)),
-        Outcome::Crowded { base, top } => Numbers::Two(*base, *top),
-        Outcome::Running { life } => Numbers::One(u32::from(*life)),
-        Outcome::Returned { life } => Numbers::One(u32::from(*life)),
         _ => Numbers::Nothing,
     }
 }
 
 // Adds the numbers of an outcome that has nothing but numbers, with a blank before each.
-#[tactic(auto, using(am_io::proofs::Writers::in_turn), unfolding(crate::specs::Outcomes::numbers_in))]
+#[tactic(auto, unfolding(crate::specs::Outcomes::numbers_in, crate::specs::Pieces::pieces_text))]
 fn push_numbers<O: Writer>(out: &mut O, outcome: &Outcome) -> Result<(), O::Fault>
     ensures { OnOk result (WritesInCalls O.writes out.old (numbers_text (outcome_numbers outcome.now)) out.new) }
 {
     match numbers_of(outcome) {
         Numbers::Nothing => Ok(()),
         Numbers::One(first) => push_behind(out, " ", u64::from(first)),
-        Numbers::Two(first, second) => {
-            push_behind(out, " ", u64::from(first))?;
-            push_behind(out, " ", u64::from(second))
-        }
-        Numbers::Three(first, second, third) => {
-            push_behind(out, " ", u64::from(first))?;
-            push_behind(out, " ", u64::from(second))?;
-            push_behind(out, " ", u64::from(third))
-        }
+        Numbers::Two(first, second) => push_pieces(
+            out,
+            &[
+                Piece::Words(" "),
+                Piece::Number(u64::from(first)),
+                Piece::Words(" "),
+                Piece::Number(u64::from(second)),
+            ],
+        ),
+        Numbers::Three(first, second, third) => push_pieces(
+            out,
+            &[
+                Piece::Words(" "),
+                Piece::Number(u64::from(first)),
+                Piece::Words(" "),
+                Piece::Number(u64::from(second)),
+                Piece::Words(" "),
+                Piece::Number(u64::from(third)),
+            ],
+        ),
     }
 }
 
 // Adds what stands behind an outcome's word, with a blank before each part.
-#[tactic(auto, using(am_io::proofs::Writers::in_turn), unfolding(am_play::specs::Text::outcome_parts))]
+#[tactic(auto, unfolding(am_play::specs::Text::outcome_parts, crate::specs::Pieces::pieces_text))]
 fn push_parts<O: Writer>(
     out: &mut O,
     founding: &Founding,
@@ -145,34 +168,45 @@ fn push_parts<O: Writer>(
 {
     match outcome {
         Outcome::Took { number, entry } => {
-            push_behind(out, " ", u64::from(*number))?;
-            out.put(" ")?;
+            push_pieces(
+                out,
+                &[
+                    Piece::Words(" "),
+                    Piece::Number(u64::from(*number)),
+                    Piece::Words(" "),
+                ],
+            )?;
             push_entry(out, founding, &entry.as_ref())
         }
         Outcome::NoBody { from, req: number } | Outcome::Fetching { from, want: number } => {
-            out.put(" ")?;
-            push_name(out, *from)?;
-            push_behind(out, " ", u64::from(*number))
+            push_pieces(
+                out,
+                &[
+                    Piece::Words(" "),
+                    Piece::Name(*from),
+                    Piece::Words(" "),
+                    Piece::Number(u64::from(*number)),
+                ],
+            )
         }
         Outcome::Newer { promise: stamp }
         | Outcome::Overtaken { by: stamp }
         | Outcome::NotIn { best: stamp } => {
-            out.put(" ")?;
-            push_stamp(out, *stamp)
+            push_pieces(out, &[Piece::Words(" "), Piece::Stamp(*stamp)])
         }
         Outcome::Waiting { names } => {
-            out.put(" ")?;
-            push_names(out, *names)
+            push_pieces(out, &[Piece::Words(" "), Piece::Names(*names)])
         }
-        Outcome::Decided { number, members } => {
-            push_behind(out, " ", u64::from(*number))?;
-            out.put(" ")?;
-            push_names(out, *members)
-        }
-        Outcome::Occupied { name } => {
-            out.put(" ")?;
-            push_name(out, *name)
-        }
+        Outcome::Decided { number, members } => push_pieces(
+            out,
+            &[
+                Piece::Words(" "),
+                Piece::Number(u64::from(*number)),
+                Piece::Words(" "),
+                Piece::Names(*members),
+            ],
+        ),
+        Outcome::Occupied { name } => { push_pieces(out, &[Piece::Words(" "), Piece::Name(*name)]) }
         _ => push_numbers(out, outcome),
     }
 }
