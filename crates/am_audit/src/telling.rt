@@ -7,7 +7,7 @@ ghost use Rattle.am_audit.specs.Verdicts.{named, verdict_text, void_text, verdic
 use crate::verdict::{Audit, Verdict};
 use am_base::NoMemory;
 use am_base::name::Name;
-use am_report::text::push_name;
+use am_texts::text::push_name;
 
 /// Adds a word, a name and a number.
 fn push_named(out: &mut String, word: &str, name: Name, number: u32) -> Result<(), NoMemory>

@@ -22,7 +22,7 @@ use Rattle.am_play.specs.Play.{text_of}
 use Rattle.am_play.specs.Claims.{NoBallot, Segment, Once, Sent}
 use Rattle.am_play.specs.Lawful.{broken_at, watch_run, lawful_front, before_break}
 use Rattle.am_play.proofs.Runs.{watched_is_run, one_record_each}
-use Rattle.am_report.specs.Schedules.{IsOfBytes, AreOfBytes}
+use Rattle.am_texts.specs.Schedules.{IsOfBytes, AreOfBytes}
 use Rattle.am_laws.specs.Bytes.{IsShort, BodyWithin}
 use Rattle.am_laws.proofs.Named.{run_named}
 use Rattle.am_laws.proofs.RunCounts.{numbers_hold}

@@ -21,7 +21,7 @@ use Rattle.am_fields.specs.Fields.{onto_cut}
 use Rattle.am_play.specs.Text.{name_text, stamp_text, names_text, body_text, resilience_text, entry_text, outcome_word, numbers_text, outcome_numbers}
 use Rattle.am_play.specs.Text.{outcome_parts, outcome_text, act_word, act_parts, event_text, kind_word, is_everybody_else, addressees_text, letter_text}
 use Rattle.am_play.specs.Text.{letters_text}
-use Rattle.am_report.specs.Schedules.{IsOfBytes}
+use Rattle.am_texts.specs.Schedules.{IsOfBytes}
 use Rattle.am_audit.specs.Lines.{begins_mark, mark_cut}
 use Rattle.am_audit.specs.Agreement.{IsLine}
 use Rattle.am_printed.proofs.Words.{is_plain_byte, IsWord, IsPlain, both, all_append, all_weaker, word_plain, plains, decimal_word, name_word}

@@ -17,7 +17,7 @@ use Rattle.am_fields.specs.declared.fault.FieldFault.TheVariants.{Form}
 use Rattle.am_fields.specs.Fields.{same, and_then, number_up_to, number_of, parts_of}
 use Rattle.am_play.specs.Text.{name_text, entry_text, outcome_text, act_word, act_parts, event_text, letters_text, record_line, lines_from}
 use Rattle.am_play.specs.Text.{group_line, group_from, log_line, empty_log_line, log_text, logs_text, mark_line}
-use Rattle.am_report.specs.Schedules.{IsOfBytes}
+use Rattle.am_texts.specs.Schedules.{IsOfBytes}
 use Rattle.am_audit.specs.declared.line.Stage.{Stage}
 use Rattle.am_audit.specs.declared.line.Stage.TheVariants as stages
 use Rattle.am_audit.specs.Fields.{two_of}

@@ -24,7 +24,7 @@ use Rattle.am_play.specs.Play.{text_of}
 use Rattle.am_play.specs.Text.{play_text}
 use Rattle.am_play.proofs.Runs.{watched_is_run, one_record_each}
 use Rattle.am_play.proofs.Beginnings.{runs_begin}
-use Rattle.am_report.specs.Schedules.{IsOfBytes}
+use Rattle.am_texts.specs.Schedules.{IsOfBytes}
 use Rattle.am_audit.specs.Lines.{Reading, read_text}
 use Rattle.am_laws.specs.Bytes.{IsShort}
 use Rattle.am_laws.proofs.RunCounts.{numbers_hold}

@@ -11,8 +11,8 @@ use Rattle.am_group.specs.declared.event.Event.{Event}
 use Rattle.am_fields.specs.declared.fault.FieldFault.{FieldFault}
 use Rattle.am_fields.specs.Fields.{cut_of, parts_of}
 use Rattle.am_play.specs.Text.{newline, hex_byte, act_word, names_text}
-use Rattle.am_report.specs.Schedules.{life_json, resilience_json, body_json, keys_before, keys_behind, word_json, event_json, others_json, list_json, events_json}
-use Rattle.am_report.specs.Schedules.{founders_json, numbers_json, script_text, IsOfBytes, AreOfBytes}
+use Rattle.am_texts.specs.Schedules.{life_json, resilience_json, body_json, keys_before, keys_behind, word_json, event_json, others_json, list_json, events_json}
+use Rattle.am_texts.specs.Schedules.{founders_json, numbers_json, script_text, IsOfBytes, AreOfBytes}
 use Rattle.am_audit.specs.Lines.{Reading, nothing_read, is_end, add_line, read_on, read_lines, read_behind, read_text}
 use Rattle.am_audit.specs.Agreement.{IsLine}
 use Rattle.am_audit.proofs.Beginnings.{line_cut}

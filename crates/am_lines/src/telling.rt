@@ -12,7 +12,7 @@ use am_base::outcome::Outcome;
 use am_model::info::{Info, Role};
 use am_node::node::Node;
 use am_packet::letter::Letter;
-use am_report::text::{push_bytes, push_names, push_outcome, push_stamp};
+use am_texts::text::{push_bytes, push_names, push_outcome, push_stamp};
 
 /// Adds a letter's addressees, exactly: its names, with a star before them where it is for any life of their places.
 #[tactic(auto, unfolding(crate::specs::Answers::to_text))]

@@ -10,6 +10,3 @@ pub mod number;
 pub mod outcome;
 mod piece;
 pub mod play;
-pub mod script;
-pub mod summary;
-pub mod text;

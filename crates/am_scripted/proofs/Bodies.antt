@@ -32,7 +32,7 @@ use Rattle.am_script.specs.Races.{race_from}
 use Rattle.am_script.specs.Scripts.{play_keys, parts_of_play, play_from, script_from, document_from, document_in, reading}
 use Rattle.am_script.proofs.Steps.{same_ok, ok_then, if_ok, object_ok, each_from_within}
 use Rattle.am_base.specs.Names.{name_at}
-use Rattle.am_report.specs.Schedules.{IsOfBytes, AreOfBytes}
+use Rattle.am_texts.specs.Schedules.{IsOfBytes, AreOfBytes}
 use Rattle.am_scripted.specs.Bodies.{PlaysAreOfBytes, ThreadOfBytes, RacesAreOfBytes}
 
 -- ---- acts

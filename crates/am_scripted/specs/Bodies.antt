@@ -8,7 +8,7 @@ use Rattle.am_group.specs.declared.plan.ThreadPlan.{ThreadPlan}
 use Rattle.am_script.specs.declared.key.Key.TheVariants as key
 use Rattle.am_script.specs.declared.script.Script.TheVariants.{Play, Race}
 use Rattle.am_script.specs.Scripts.{reading}
-use Rattle.am_report.specs.Schedules.{IsOfBytes, AreOfBytes}
+use Rattle.am_texts.specs.Schedules.{IsOfBytes, AreOfBytes}
 
 -- of a play's events
 abbrev pub PlaysAreOfBytes : Type 0

@@ -14,7 +14,7 @@ use am_dir::setting::Setting;
 use am_group::delivered::given_to;
 use am_group::event::Record;
 use am_group::journal::Journal;
-use am_report::text::{push_body, push_mark, push_name};
+use am_texts::text::{push_body, push_mark, push_name};
 use std::alloc::Global;
 
 /// The number from which a name's list begins, by what it was given.

@@ -10,10 +10,10 @@ use am_base::NoMemory;
 use am_base::name::Name;
 use am_group::delivered::given_to;
 use am_group::event::Record;
-use am_report::text::{push_body, push_mark, push_name};
 use am_seg::assembler::Assembler;
 use am_seg::fed::Fed;
 use am_seg::parts::{part_count, part_of};
+use am_texts::text::{push_body, push_mark, push_name};
 use std::alloc::Global;
 
 /// The parts of a message, a line of hexadecimal digits each.

@@ -16,8 +16,8 @@ use am_dir::replica::Replica;
 use am_group::delivered::given_to;
 use am_group::event::Record;
 use am_group::journal::Journal;
-use am_report::text::{push_body, push_mark, push_name};
 use am_seg::parts::{part_count, part_of};
+use am_texts::text::{push_body, push_mark, push_name};
 use std::alloc::Global;
 
 /// Adds the line of a part of a node's snapshot for the Join of this number.

@@ -8,7 +8,7 @@ use Rattle.am_play.specs.Play.{watched_text, text_of, summary_text_of}
 use Rattle.am_audited.specs.Claims.{ReadsAs, AgreesAs}
 use Rattle.am_words.specs.declared.form.Shown.TheVariants as shown
 use Rattle.am_play.specs.Text.{newline}
-use Rattle.am_report.specs.Schedules.{script_text}
+use Rattle.am_texts.specs.Schedules.{script_text}
 use Rattle.am_words.specs.declared.form.Shown.{Shown}
 use Rattle.am_replicated.proofs.Sends.{delivered_end}
 use Rattle.am_replicated.proofs.Holding.{replicas_hold}

@@ -16,7 +16,7 @@ use Rattle.am_play.specs.World.{World, run}
 use Rattle.am_play.specs.Settle.{Settling, and_then, event_at, ticks, hearings_of, hearings_from, hearings, waves, round, rounds, round_count, settle_events}
 use Rattle.am_play.specs.Play.{text_of}
 use Rattle.am_laws.specs.Bytes.{BodyWithin, IsShort}
-use Rattle.am_report.specs.Schedules.{script_text, IsOfBytes, AreOfBytes}
+use Rattle.am_texts.specs.Schedules.{script_text, IsOfBytes, AreOfBytes}
 use Rattle.am_script.specs.declared.key.Key.TheVariants as key
 use Rattle.am_script.specs.declared.script.Script.TheVariants.{Play, Race}
 use Rattle.am_script.specs.Scripts.{reading}

@@ -10,8 +10,8 @@ use Rattle.am_words.specs.declared.form.Shown.TheVariants as shown
 use Rattle.am_sim.specs.Playing.{shown_text}
 use Rattle.am_play.proofs.Runs.{watched_is_run, one_record_each}
 use Rattle.am_report.specs.Logs.{logs_for}
-use Rattle.am_report.specs.declared.summary.Summary.{Summary}
-use Rattle.am_report.specs.Summaries.{summary_for}
+use Rattle.am_texts.specs.declared.summary.Summary.{Summary}
+use Rattle.am_texts.specs.Summaries.{summary_for}
 use Rattle.am_pump.specs.declared.course.Course.{Course}
 use Rattle.am_pump.specs.Courses.{IsCourse, letters_sent, entries_of}
 use Rattle.am_world.specs.Runs as worlds

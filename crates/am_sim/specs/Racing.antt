@@ -11,7 +11,7 @@ use Rattle.am_script.specs.declared.key.Key.TheVariants as key
 use Rattle.am_script.specs.declared.script.Script.TheVariants.{Play}
 use Rattle.am_script.specs.Limits.{IsWithin}
 use Rattle.am_script.specs.Scripts.{reading}
-use Rattle.am_report.specs.Schedules.{script_text, AreOfBytes}
+use Rattle.am_texts.specs.Schedules.{script_text, AreOfBytes}
 use Rattle.am_races.specs.Legal.{IsLegalWithTags}
 use Rattle.am_races.specs.Plans.{calls_of, ArePlayed}
 

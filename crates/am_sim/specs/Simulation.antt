@@ -41,7 +41,7 @@ use Rattle.am_words.specs.declared.form.Shown.{Shown}
 use Rattle.am_words.specs.declared.form.Shown.TheVariants as shown
 use Rattle.am_seg.specs.Parts.{most_message}
 use Rattle.am_services.specs.Texts.{parts_text}
-use Rattle.am_report.specs.Schedules.{script_text}
+use Rattle.am_texts.specs.Schedules.{script_text}
 use Rattle.am_script.specs.declared.script.Script.TheVariants.{Play, Race}
 use Rattle.am_player.specs.declared.status.Status.{Status}
 use Rattle.am_player.specs.declared.status.Status.TheVariants.{Done, WriteFault, NoMemory, BadText, Disagrees}

@@ -23,7 +23,7 @@ use am_io::outside::Sink;
 use am_io::writer::Writer;
 use am_player::run::{logged_names, play_out};
 use am_player::shows::push_run;
-use am_report::script::script_text;
+use am_texts::script::script_text;
 use am_world::world::{World, WorldRefusal};
 use std::alloc::Global;
 use std::sync::Wait;

@@ -3,7 +3,7 @@ use am_base::founding::Founding;
 use am_base::name::Name;
 use am_base::names::Names;
 use am_group::event::{Act, Event};
-use am_report::script::script_text;
+use am_texts::script::script_text;
 use std::test::Fail;
 
 /// What is done at a name, and what stands of it in a script of a group whose resilience is 2.

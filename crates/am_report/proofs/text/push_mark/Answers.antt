@@ -1,6 +1,0 @@
-use Rattle.std.proofs.lemmas.Result.{on_ok_weaker}
-use Rattle.am_io.proofs.Writers.{text_after}
-use Rattle.am_report.proofs.text.push_mark.Goals as goal
-
-pub returns : goal.returns
-returns c = on_ok_weaker c.push_mark.result (text_after _ _ _) c.push_mark.ensures

@@ -1,0 +1,5 @@
+mod Documents
+mod Written
+mod ReadBack
+mod Again
+pub mod Summaries

@@ -1,0 +1,6 @@
+use Rattle.std.proofs.lemmas.Result.{on_ok_weaker}
+use Rattle.am_io.proofs.Writers.{text_after}
+use Rattle.am_texts.proofs.text.push_body.Goals as goal
+
+pub returns : goal.returns
+returns c = on_ok_weaker c.push_body.result (text_after _ _ _) c.push_body.ensures
