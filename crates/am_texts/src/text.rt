@@ -4,12 +4,12 @@ ghost use Rattle.std.specs.Prelude.{◌≡◌, ◌++◌, OnOk, string_bytes};
 ghost use Rattle.std.specs.List.{flat_map};
 ghost use Rattle.am_play.specs.Text.{name_text, stamp_text, names_text, hex_byte, body_text, outcome_text, mark_line};
 
-use crate::{entry, lines, name, outcome};
 use am_base::NoMemory;
 use am_base::founding::Founding;
 use am_base::name::{Name, Stamp};
 use am_base::names::Names;
 use am_base::outcome::Outcome;
+use am_report::{entry, lines, name, outcome};
 
 /// Adds a name: its place, and a life other than the first behind a slash. After an error a part of it may have been added.
 pub fn push_name(out: &mut String, name: Name) -> Result<(), NoMemory>
