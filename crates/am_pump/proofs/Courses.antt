@@ -19,7 +19,8 @@ use Rattle.am_watcher.specs.declared.watcher.Watcher.{Watcher}
 use Rattle.am_world.specs.Places.{Begins, Moves}
 use Rattle.am_pump.specs.Courses.{first_lives, no_flags, Stands, Counted, counts_after, bit, IsBelow, IsCalm}
 use Rattle.am_world.proofs.{Begins.first_run, Begins.lives_at, Begins.none_at, Comes.gone_now, Comes.place_now, Comes.happens_comes, Goes.play_more, Goes.pass_goes_on, Acts.act_goes_on, Acts.ready_at}
-use Rattle.am_world.proofs.Words.{Heard, IsPacket, same_Some}
+use Rattle.am_world.specs.declared.asked.Heard.{Heard}
+use Rattle.am_world.proofs.Words.{IsPacket, same_Some}
 use Rattle.am_world.proofs.Heard.{found_packet}
 use Rattle.am_world.proofs.Words.{drop, slice_get, Entry, IsEndOf, state_of, told_step}
 use Rattle.am_world.proofs.Kept.{begin_is_watched, act_is_watched}

@@ -1,6 +1,7 @@
 use Rattle.am_world.proofs.Words.{◌≡◌, ◌+◌, ◌<◌, length, refl, sym, ap, ◌∙◌, subst, arith, length-append, place_of, NodeEvent, Event, Outcome, current, IsEndOf, Node, state_of, Watching}
 use Rattle.am_world.proofs.Words.{watching_of, Play, replay, after, most_events}
-use Rattle.am_world.proofs.{Courses.ready_now, Courses.step_gone, Courses.stands_on, Courses.grown_short, Courses.step_watched, Courses.counted_more, Courses.counted_low, Kept.count_of}
+use Rattle.am_pump.proofs.Courses.{ready_now, step_gone, stands_on, grown_short, step_watched, counted_more, counted_low}
+use Rattle.am_world.proofs.{Kept.count_of}
 use Rattle.am_pump.specs.Courses.{Counted}
 use Rattle.am_pump.proofs.course.Course.act.Goals as goal
 

@@ -2,7 +2,8 @@ use Rattle.am_world.proofs.Words.{◌≡◌, ◌<◌, ◌≤◌, ℕ, length, Ok
 use Rattle.am_pump.specs.Courses.{IsCourse, Counted, Stands, IsBelow, counts_after}
 use Rattle.am_pump.specs.declared.course.Counts.{Counts}
 use Rattle.am_pump.specs.declared.course.Course.{Course}
-use Rattle.am_world.proofs.{Courses.asked_comes_to, Courses.passed_on, Courses.counted_low, Courses.counted_more, Kept.count_of}
+use Rattle.am_pump.proofs.Courses.{asked_comes_to, passed_on, counted_low, counted_more}
+use Rattle.am_world.proofs.{Kept.count_of}
 use Rattle.am_pump.proofs.course.Course.step.Goals as goal
 
 -- so many events are fewer than a run may have
