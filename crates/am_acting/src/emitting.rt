@@ -23,7 +23,7 @@ use am_letter::out_box::OutBox;
 use am_parts::log::Log;
 
 /// A send of the node's own: its request and its body.
-#[derive(Drop, Debug)]
+#[derive(Drop)]
 pub struct WaitingSend {
     /// Its request.
     pub req: u32,

@@ -11,7 +11,7 @@ use am_parts::log::Log;
 use am_parts::state::Core;
 
 /// What a letter is to tell: a packet without the values that its sender has after the step.
-#[derive(Drop, Debug)]
+#[derive(Drop)]
 pub enum Note<'a> {
     /// A send for the sequencer to number.
     Request { req: u32, body: BodyRef<'a> },
@@ -34,7 +34,7 @@ pub enum Note<'a> {
 }
 
 /// A note and whom it is for.
-#[derive(Drop, Debug)]
+#[derive(Drop)]
 pub struct Notice<'a> {
     /// Whom it is for.
     pub to: Names,

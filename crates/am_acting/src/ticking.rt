@@ -25,7 +25,7 @@ use am_model::status::Status;
 use am_parts::log::Log;
 
 /// What a ballot asks for again.
-#[derive(Drop, Debug)]
+#[derive(Drop)]
 pub struct Again {
     /// Whom it asks.
     pub to: Names,

@@ -43,7 +43,7 @@ fn copy_of(vote: &Vote) -> Vote
 }
 
 /// A vote with the name that showed it.
-#[derive(Drop, Debug)]
+#[derive(Drop)]
 pub struct Best {
     by: Name,
     vote: Vote,
@@ -82,7 +82,7 @@ impl Best {
 
 /// A node's last ballot (docs/PROTOCOL.md, "A ballot"): its stamp, the least size and the resilience asked for, what each
 /// of the 256 names voted, who was given up, and what was last decided on it, or how it ended.
-#[derive(Drop, Debug)]
+#[derive(Drop)]
 pub struct Ballot {
     stamp: Stamp,
     least: u8,

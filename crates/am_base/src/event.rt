@@ -3,7 +3,7 @@ use crate::items::Items;
 use crate::name::Name;
 
 /// What a node is asked to do, or hears (docs/PROTOCOL.md, "Steps of a node").
-#[derive(Drop, Debug)]
+#[derive(Drop)]
 pub enum NodeEvent {
     /// Sends a body to the group.
     Send(SentBody),

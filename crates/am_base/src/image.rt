@@ -1,7 +1,7 @@
 use crate::name::Stamp;
 
 /// What a list tells of a place's last name. All is 0 where nobody joined there. Numbers are at most `MOST_NUMBER`.
-#[derive(Clone, Copy, PartialEq, Eq, Debug, Default)]
+#[derive(Clone, Copy, Debug, Default)]
 pub struct Row {
     /// The life, 1 to 16, or 0.
     pub life: u8,
@@ -14,7 +14,7 @@ pub struct Row {
 }
 
 /// What a list up to some number tells: its last view, and a row for each place (docs/PROTOCOL.md, "The list").
-#[derive(Clone, Copy, PartialEq, Eq, Debug)]
+#[derive(Clone, Copy, Debug)]
 pub struct Image {
     /// The stamp of the last View, or round 0 and name 0.
     pub view: Stamp,
@@ -43,7 +43,7 @@ impl Default for Image {
 }
 
 /// What a member tells of itself.
-#[derive(Clone, Copy, PartialEq, Eq, Debug, Default)]
+#[derive(Clone, Copy, Debug, Default)]
 pub struct Report {
     /// The number up to which it has stored the list.
     pub stored: u32,
@@ -52,7 +52,7 @@ pub struct Report {
 }
 
 /// What a voter shows of its log.
-#[derive(Clone, Copy, PartialEq, Eq, Debug, Default)]
+#[derive(Clone, Copy, Debug, Default)]
 pub struct Vote {
     /// The log's view.
     pub view: Stamp,

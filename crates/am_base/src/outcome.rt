@@ -5,7 +5,7 @@ use crate::names::Names;
 use crate::taken::TakenEntry;
 
 /// What came of a call, a tick, a hearing, or of an event of the world (docs/PROTOCOL.md, "Outcomes").
-#[derive(Drop, Debug)]
+#[derive(Drop)]
 pub enum Outcome {
     /// The send has this request number.
     Queued { req: u32 },

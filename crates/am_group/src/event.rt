@@ -10,7 +10,7 @@ use am_packet::letter::Letter;
 use std::alloc::Global;
 
 /// What is done at a node (docs/PROTOCOL.md, "Events").
-#[derive(Drop, Clone, Debug)]
+#[derive(Drop, Clone)]
 pub enum Act {
     /// Sends a body to the group.
     Send(SentBody),
@@ -59,7 +59,7 @@ impl Act {
 }
 
 /// An act of a place: the place of `node` counts.
-#[derive(Drop, Clone, Debug)]
+#[derive(Drop, Clone)]
 pub struct Event {
     pub node: Name,
     pub act: Act,
@@ -85,7 +85,7 @@ impl Event {
 }
 
 /// Which part of a blocking call an event is.
-#[derive(Clone, Copy, PartialEq, Eq, Debug)]
+#[derive(Clone, Copy, PartialEq, Eq)]
 pub enum Part {
     /// The call's own act.
     Call,
@@ -96,7 +96,7 @@ pub enum Part {
 }
 
 /// Whose event it is: a caller, the number of its call, and the part.
-#[derive(Clone, Copy, PartialEq, Eq, Debug)]
+#[derive(Clone, Copy, PartialEq, Eq)]
 pub struct By {
     pub caller: u32,
     pub call: u32,

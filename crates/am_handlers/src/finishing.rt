@@ -17,7 +17,7 @@ use am_parts::log::Log;
 use am_parts::state::Core;
 
 /// The letter of a step that tells one name.
-#[derive(Clone, Copy, Debug)]
+#[derive(Clone, Copy)]
 pub enum OneLetter {
     /// A Nack: the node asks for what comes next.
     Nack,
@@ -28,7 +28,7 @@ pub enum OneLetter {
 }
 
 /// Such a letter, with the name that it goes to.
-#[derive(Clone, Copy, Debug)]
+#[derive(Clone, Copy)]
 pub struct Telling {
     /// Who gets it.
     pub to: Name,

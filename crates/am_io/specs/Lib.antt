@@ -1,5 +1,4 @@
 pub mod Buffers
 pub mod Faults
-pub mod Memory
 pub mod Outside
 pub mod Writers

@@ -2,7 +2,6 @@
 #![tactic(auto)]
 
 pub mod buffered;
-pub mod memory;
 pub mod outside;
 pub mod standard;
 pub mod whole;

@@ -3,7 +3,7 @@ ghost use Rattle.std.specs.Io.KnownBytes.{Consumes, Appends, Keeps};
 ghost use Rattle.am_io.specs.Outside.{ReadToEnd, IfTook, OnEnd, OnFailed, IfPut, OnRefused, faults_after, refusals_after};
 
 /// What a read gave.
-#[derive(Clone, Copy, PartialEq, Eq, Debug)]
+#[derive(Clone, Copy)]
 pub enum Got {
     /// The next bytes, so many.
     Took(usize),
@@ -14,7 +14,7 @@ pub enum Got {
 }
 
 /// What a write did.
-#[derive(Clone, Copy, PartialEq, Eq, Debug)]
+#[derive(Clone, Copy)]
 pub enum Put {
     /// It appended so many bytes of the piece's front.
     Took(usize),

@@ -44,7 +44,7 @@ impl BadLine {
 }
 
 /// What a line says.
-#[derive(Drop, Debug)]
+#[derive(Drop)]
 pub enum Line {
     /// The node is to do this, and hears nothing.
     Does(NodeEvent),

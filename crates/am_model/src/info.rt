@@ -41,7 +41,7 @@ pub struct Info {
 }
 
 /// How a ballot stands.
-#[derive(Drop, Debug)]
+#[derive(Drop)]
 pub enum BallotEnd {
     /// It isn't over; this was last decided on it.
     Going(Outcome),

@@ -18,7 +18,7 @@ use am_parts::log::Log;
 use am_parts::state::Core;
 
 /// What a packet of the sequencer tells of its list.
-#[derive(Clone, Copy, Debug)]
+#[derive(Clone, Copy)]
 pub struct Told {
     /// The sequencer.
     pub sender: Name,
@@ -31,7 +31,7 @@ pub struct Told {
 }
 
 /// What the node has of an entry that is numbered.
-#[derive(Drop, Debug)]
+#[derive(Drop)]
 struct Found<'a> {
     /// The entry; None where the node has no body for it.
     known: Option<EntryRef<'a>>,

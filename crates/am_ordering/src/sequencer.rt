@@ -16,7 +16,7 @@ use am_handlers::parts::Parts;
 use am_letter::out_box::OutBox;
 
 /// A send of another name, as its packet tells it.
-#[derive(Drop, Debug)]
+#[derive(Drop)]
 pub struct Request<'a> {
     /// Whose send it is.
     pub from: Name,

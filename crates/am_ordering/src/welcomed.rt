@@ -16,7 +16,7 @@ use am_parts::log::Log;
 use am_parts::state::Core;
 
 /// What a Welcome tells, but for its image.
-#[derive(Clone, Copy, Debug)]
+#[derive(Clone, Copy)]
 pub struct Welcome {
     /// The sequencer that sent it.
     pub sender: Name,

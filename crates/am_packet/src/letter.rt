@@ -151,7 +151,7 @@ impl Letter {
 }
 
 /// A letter in a place of fixed size, for which no memory is taken. Contracts see it as the letter.
-#[derive(Drop, Debug)]
+#[derive(Drop)]
 pub struct LetterCopy {
     to: Names,
     any: bool,

@@ -10,7 +10,7 @@ use am_base::names::Names;
 
 /// What nodes tell each other (docs/PROTOCOL.md, "Packets"). Each has its sender and a stamp. Numbers, rounds and
 /// requests are at most `MOST_NUMBER`. Bodies, entries and images stand elsewhere: among a packet's bytes, or in what a node keeps.
-#[derive(Drop, Debug)]
+#[derive(Drop)]
 pub enum Packet<'a> {
     /// A send for the sequencer to number.
     Request {

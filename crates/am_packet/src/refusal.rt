@@ -1,7 +1,9 @@
 ghost use Rattle.std.specs.Prelude.{◌≡◌};
 
+use std::fmt;
+
 /// Why bytes are no packet: the first cause, in this order.
-#[derive(Clone, Copy, PartialEq, Eq, Debug)]
+#[derive(Clone, Copy, PartialEq, Eq)]
 pub enum PacketRefusal {
     /// There are fewer than 12 bytes.
     Short,
@@ -15,6 +17,13 @@ pub enum PacketRefusal {
     BadLength { said: u32, found: u32 },
     /// The field at this offset has a value that it can't have.
     BadField { at: u32 },
+}
+
+impl fmt::Debug for PacketRefusal {
+    // Tells the number of its cause.
+    fn fmt<W: fmt::Write>(&self, f: &mut fmt::Formatter<W>) -> fmt::Result {
+        f.debug_tuple("PacketRefusal").field(&self.cause()).finish()
+    }
 }
 
 impl PacketRefusal {

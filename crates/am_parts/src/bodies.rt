@@ -8,7 +8,7 @@ use arrayvec::ArrayVec;
 use std::marker::Model;
 
 /// A kept body, with the send that it belongs to.
-#[derive(Drop, Debug)]
+#[derive(Drop)]
 pub struct KeptBody {
     /// Whose send it is.
     pub from: Name,
@@ -31,7 +31,7 @@ impl Default for KeptBody {
 }
 
 /// At most sixteen kept bodies, the oldest first. Contracts see it as their list.
-#[derive(Drop, Debug)]
+#[derive(Drop)]
 pub struct Pool {
     bodies: ArrayVec<KeptBody, 16>,
 }

@@ -19,7 +19,7 @@ const NO_REPORT: Report = Report {
 };
 
 /// What each of the 256 names has reported. Contracts see it as the list of the reports, by the names' bytes.
-#[derive(Drop, Debug)]
+#[derive(Drop)]
 pub struct Fronts {
     reports: [Report; 256],
 }

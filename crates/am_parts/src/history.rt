@@ -15,7 +15,7 @@ use std::alloc::{AllocError, Global};
 use std::marker::Model;
 
 /// An entry with the members after it.
-#[derive(Drop, Debug)]
+#[derive(Drop)]
 pub struct Slot {
     /// The entry.
     pub entry: Entry,

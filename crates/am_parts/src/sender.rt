@@ -9,7 +9,7 @@ use arrayvec::ArrayVec;
 use std::marker::Model;
 
 /// A send of this node: its request number, its body, and the number of its entry once that is known.
-#[derive(Drop, Debug)]
+#[derive(Drop)]
 pub struct OwnSend {
     /// Its request number, from 1.
     pub req: u32,
@@ -52,7 +52,7 @@ pub struct Busy {
 }
 
 /// A node's sends that aren't collected, at most four, and the last request number that it gave out.
-#[derive(Drop, Debug)]
+#[derive(Drop)]
 pub struct Sender {
     last: u32,
     queue: ArrayVec<OwnSend, 4>,

@@ -20,7 +20,7 @@ const BLANK_ROW: Row = Row {
 };
 
 /// What a list tells: its last view, and a row for each place. Contracts see it as an image.
-#[derive(Drop, Debug)]
+#[derive(Drop)]
 pub struct Table {
     image: Image,
     members: Names,

@@ -53,7 +53,7 @@ pub fn push_run<O: Writer>(out: &mut O, world: &World, names: &[Name]) -> Result
 }
 
 /// All that is printed of a run (docs/PROTOCOL.md, "Play text").
-#[derive(Clone, Copy, PartialEq, Eq, Debug)]
+#[derive(Clone, Copy)]
 pub struct PlayText;
 
 impl Shows for PlayText {

@@ -26,7 +26,7 @@ use am_letter::out_box::OutBox;
 use am_parts::log::Log;
 
 /// What a packet tells of an entry of a view's list beside the entry.
-#[derive(Clone, Copy, Debug)]
+#[derive(Clone, Copy)]
 pub struct Arrival {
     /// The packet's sender.
     pub from: Name,
@@ -39,7 +39,7 @@ pub struct Arrival {
 }
 
 /// What a ballot decided of its view.
-#[derive(Clone, Copy, Debug)]
+#[derive(Clone, Copy)]
 pub struct Decided {
     /// The view's members.
     pub members: Names,

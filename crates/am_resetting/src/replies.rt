@@ -12,7 +12,7 @@ use am_handlers::parts::Parts;
 use am_letter::out_box::OutBox;
 
 /// What goes out beside an answer once the step has ended.
-#[derive(Drop, Debug)]
+#[derive(Drop)]
 pub enum Telling {
     /// No letter.
     Nothing,
@@ -30,7 +30,7 @@ pub enum Telling {
 }
 
 /// What a row answers, and what goes out beside it.
-#[derive(Drop, Debug)]
+#[derive(Drop)]
 pub struct Reply {
     /// The answer.
     pub outcome: Outcome,

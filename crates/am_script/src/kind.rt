@@ -5,7 +5,7 @@ ghost use Rattle.am_script.specs.Races.{is_call, call_keys_of};
 use crate::key::Key;
 
 /// The kinds of events, one for each act.
-#[derive(Clone, Copy, PartialEq, Eq, Debug)]
+#[derive(Clone, Copy, PartialEq, Eq)]
 pub enum Kind {
     Send,
     Done,

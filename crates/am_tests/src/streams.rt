@@ -1,7 +1,7 @@
 use am_io::buffered::Buffered;
-use am_io::memory::{MemSink, MemSource};
 use am_io::outside::{Sink, Source};
 use am_io::whole::{ReadRefusal, read_all, write_all};
+use am_texts::memory::{MemSink, MemSource};
 use std::test::*;
 
 /// Five bytes, at most two a read: reads that fail, the limit, why not all is read, and the faults.

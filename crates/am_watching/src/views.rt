@@ -3,7 +3,7 @@ use am_base::names::Names;
 use am_model::status::Status;
 
 /// A view that a name decided.
-#[derive(Clone, Copy, Debug)]
+#[derive(Clone, Copy)]
 pub struct DecidedView {
     /// The number of its View in the list of the name that decided it.
     pub number: u32,
@@ -16,7 +16,7 @@ pub struct DecidedView {
 }
 
 /// What a name's node shows.
-#[derive(Clone, Copy, Debug)]
+#[derive(Clone, Copy)]
 pub struct Standing {
     /// How it stands to the group.
     pub status: Status,
@@ -29,7 +29,7 @@ pub struct Standing {
 }
 
 /// A view that isn't complete: who stored its View in a list of its own, and where that stands in the group list.
-#[derive(Drop, Debug)]
+#[derive(Drop)]
 pub struct Pending {
     /// The view.
     pub view: DecidedView,

@@ -1,9 +1,9 @@
 ghost use Rattle.std.specs.Prelude.{◌≡◌, ◌⊎◌, ◌↔◌, ◌+◌, ◌++◌, ◌<◌, ◌≤◌, [], length, take, min, Some, IfOk, Contains};
 ghost use Rattle.std.specs.Io.KnownBytes.{Consumes, Appends, Keeps};
 ghost use Rattle.am_io.specs.Outside.{ReadToEnd, IfTook, OnEnd, OnFailed, IfPut, OnRefused, next, faults_after, refusals_after};
-ghost use Rattle.am_io.specs.Memory.{Supply, Store, new_supply, new_store};
+ghost use Rattle.am_texts.specs.Memory.{Supply, Store, new_supply, new_store};
 
-use crate::outside::{Got, Put, Sink, Source};
+use am_io::outside::{Got, Put, Sink, Source};
 use std::alloc::{AllocError, Global};
 use std::marker::Model;
 
@@ -66,7 +66,7 @@ pub struct MemSource<'a> {
 
 impl<'a> Model for MemSource<'a> {
     ghost use Rattle.std.specs.Prelude.{◌<◌};
-    ghost use Rattle.am_io.specs.Memory.{Supply};
+    ghost use Rattle.am_texts.specs.Memory.{Supply};
 
     ghost Value = { Supply };
 
@@ -142,7 +142,7 @@ pub struct MemSink<'a> {
 
 impl<'a> Model for MemSink<'a> {
     ghost use Rattle.std.specs.Prelude.{◌<◌, ◌≤◌, length, vec_capacity};
-    ghost use Rattle.am_io.specs.Memory.{Store};
+    ghost use Rattle.am_texts.specs.Memory.{Store};
 
     ghost Value = { Store };
 
