@@ -1,4 +1,3 @@
 pub mod Places
 pub mod Search
-pub mod Fronts
 pub mod Seen

@@ -1,7 +1,7 @@
 use Rattle.std.proofs.Common.{◌≡◌, ℕ, ◌<◌, length, Some, None, get_or}
 use Rattle.std.specs.Prelude.{if◌then◌else◌}
 use Rattle.am_base.specs.Names.{has}
-use Rattle.am_group.proofs.group.founders_fronts.Given as goal
+use Rattle.am_list.proofs.group.founders_fronts.Given as goal
 
 abbrev pub invariant-loop-name : goal.invariant-loop-name
 invariant-loop-name l = record {

@@ -1,6 +1,6 @@
 use Rattle.std.proofs.Common.{◌∷◌, ◌++◌, [], length, ap, ◌∙◌}
-use Rattle.am_group.proofs.Fronts.{new_fronts}
-use Rattle.am_group.proofs.group.Group.new.Goals as goal
+use Rattle.am_list.proofs.Fronts.{new_fronts}
+use Rattle.am_list.proofs.group.Group.new.Goals as goal
 
 pub invariant_of-result : goal.invariant_of-result
 invariant_of-result c = rw c.founders_fronts-fronts.ensures (new_fronts c.push.new.self.items _ (ap length c.in_ok-push.ensures.items
