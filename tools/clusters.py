@@ -31,6 +31,9 @@ def options_of(seed: int) -> list[str]:
 def main() -> int:
     """Runs the clusters."""
     program, *ends = words(__doc__, 1, 3)
+    if len(ends) == 1 or not all(end.isdecimal() for end in ends):
+        print(__doc__.strip(), file=sys.stderr)
+        return 2
     first, last = map(int, ends or (1, 100))
     passed = 0
     for seed in range(first, last + 1):

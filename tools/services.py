@@ -16,6 +16,8 @@ from collections import defaultdict
 from collections.abc import Iterator
 from dataclasses import dataclass, field
 
+from words import words
+
 MOST_MESSAGE = 65_535
 SHARE = 1_019
 MOST_KEY = 32
@@ -239,7 +241,7 @@ def snapshots(text: list[str]) -> Iterator[str]:
 
 def main() -> int:
     """Writes what is asked for; ends in 2 where that is nothing it knows."""
-    match sys.argv[1:]:
+    match words(__doc__):
         case ["parts"]:
             message = sys.stdin.buffer.read()
             if len(message) > MOST_MESSAGE:
@@ -252,7 +254,7 @@ def main() -> int:
             for line in made(sys.stdin.read().splitlines()):
                 print(line)
         case _:
-            print(__doc__, file=sys.stderr)
+            print(__doc__.strip(), file=sys.stderr)
             return 2
     return 0
 

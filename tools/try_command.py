@@ -3,7 +3,8 @@
     python3 tools/try_command.py TOP
 
 It copies the command into a folder without sources, so that whatever would build anything fails with status 70: help, versions and
-words that have no form must be answered there. It prints what fails, and how many passed.
+words that have no form must be answered there. Then it asks each tool for its page, and calls it with words that have no form. It prints
+what fails, and how many passed.
 """
 
 import pathlib
@@ -79,9 +80,25 @@ def faults(top: pathlib.Path):
                 yield f"{way + words}: {status}, {said!r}, {told!r}"
 
 
+def tools_of(source: pathlib.Path) -> list[pathlib.Path]:
+    """The tools, programs of nets and examples that are called by themselves."""
+    files = (path for folder in ("tools", "net", "examples") for path in sorted((source / folder).glob("*.py")))
+    return [path for path in files if "__main__" in path.read_text()]
+
+
+def tool_faults(tools: list[pathlib.Path]):
+    """What is wrong with the pages of tools, and with what they say to words that have no form."""
+    for tool in tools:
+        for words, is_help in ((["--help"], True), (["--no-such-word"], False), (["no", "such", "words", "at", "all", "7"], False)):
+            done = subprocess.run([sys.executable, tool, *words], stdin=subprocess.DEVNULL, capture_output=True, text=True, timeout=60, check=False)
+            if is_help != (done.returncode == 0) or "Traceback" in done.stderr or len(done.stdout) > 4_000 or is_help and not done.stdout:
+                yield f"{tool.name} {words}: {done.returncode}, {done.stdout[:200]!r}, {done.stderr[-200:]!r}"
+
+
 def main() -> int:
-    """Tries the command of the folder that is named."""
+    """Tries the command of the folder that is named, and the pages of its tools."""
     source = pathlib.Path(words(__doc__, 1, 1)[0])
+    tools = tools_of(source)
     with tempfile.TemporaryDirectory() as folder:
         top = pathlib.Path(folder)
         for name in ("am_play_only", "am_sim"):
@@ -90,10 +107,10 @@ def main() -> int:
         (top / "crates.txt").write_text("am_play_only:\nam_sim:\n")
         shutil.copy(source / "muoswyld", top)
         shutil.copy(source / "tools" / "prove.bash", top / "tools")
-        wrong = list(faults(top))
+        wrong = [*faults(top), *tool_faults(tools)]
     for line in wrong:
         print(f"refused: {line}")
-    print(f"tools/try_command.py: {4 + len(WITHOUT_FORM) + 3 * len(WITH_FORM) - len(wrong)} passed, {len(wrong)} failed")
+    print(f"tools/try_command.py: {4 + len(WITHOUT_FORM) + 3 * (len(WITH_FORM) + len(tools)) - len(wrong)} passed, {len(wrong)} failed")
     return 1 if wrong else 0
 
 

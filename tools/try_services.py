@@ -104,6 +104,8 @@ def main() -> int:
     asked = reads.parse_args()
     draw = random.Random(asked.seed)
     scripts = scripts_of(asked.folders)
+    if not scripts:
+        reads.error("there is no script of a play in these folders")
     seen: collections.Counter = collections.Counter()
     failed = 0
     for number in range(asked.count):

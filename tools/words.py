@@ -4,12 +4,14 @@ import sys
 
 
 def words(doc: str, least: int = 0, most: int | None = None) -> list[str]:
-    """The words behind the tool's name, of which there are so many; the tool's page where it is asked for, or where there aren't."""
+    """The words behind the tool's name, of which there are so many, and no option that its page doesn't name; the page where it is asked
+    for, or where they aren't so."""
     given = sys.argv[1:]
     if given[:1] in (["-h"], ["--help"]):
         print(doc.strip())
         sys.exit(0)
-    if len(given) < least or (most is not None and most < len(given)):
+    is_option = any(word.startswith("-") and word not in doc for word in given)
+    if is_option or len(given) < least or (most is not None and most < len(given)):
         print(doc.strip(), file=sys.stderr)
         sys.exit(2)
     return given
