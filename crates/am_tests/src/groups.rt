@@ -1,13 +1,15 @@
-use am_base::entry::Entry;
+use am_base::entry::{Entry, EntryParts};
 use am_base::founding::Founding;
 use am_base::items::Items;
-use am_base::name::{Name, Stamp};
+use am_base::name::Name;
 use am_base::names::Names;
 use am_base::outcome::Outcome;
 use am_group::event::{Act, By, Event, Record};
 use am_group::journal::Journal;
 use am_letter::letter::letter_of;
 use am_list::group::Group;
+use am_packet::letter::Letter;
+use am_packet::vectors::INVITE;
 use am_reader::reader::decode;
 use std::alloc::Global;
 use std::test::*;
@@ -16,15 +18,39 @@ fn founding_of(founders: u16) -> Result<Founding, Fail> {
     Ok(Founding::new(Names::of_mask(founders), 0, 64, 256).ok_or("a founding")?)
 }
 
-/// An Invite of round 2 by the node 0.
-const INVITE: &[u8] = b"AG\x03\x0d\x00\x00\x00\x00\x02\x00\x00\x0c";
+/// For whom the letters of three records are.
+const RECORDS: [&[u16]; 3] = [&[2, 4], &[], &[2, 6, 1]];
+
+/// Numbers, and for whom the letters of these are, or 0 where there is none.
+const LETTERS: [(u32, u16); 7] = [(0, 0), (1, 2), (2, 4), (3, 2), (4, 6), (5, 1), (6, 0)];
+
+/// Numbers, and the next letter for place 1 behind each, or 0.
+const NEXT: [(u32, u32); 5] = [(0, 1), (1, 3), (3, 4), (4, 0), (9, 0)];
+
+/// Names, and the number of the entry that each of them takes in turn, or 0.
+const TAKES: [(u8, u32); 9] = [
+    (0, 1),
+    (0, 2),
+    (0, 0),
+    (2, 2),
+    (2, 0),
+    (2, 0),
+    (3, 0),
+    (3, 0),
+    (3, 0),
+];
+
+/// An Invite for these names.
+fn invite_for(alloc: Global, mask: u16) -> Result<Letter, Fail> {
+    let invite = decode(INVITE).ok().ok_or("an Invite")?;
+    Ok(letter_of(alloc, Names::of_mask(mask), &invite)?)
+}
 
 /// A record whose letters are for these names.
 fn record_of(alloc: Global, to: &[u16]) -> Result<Record, Fail> {
     let mut packets = Items::new(alloc);
     for mask in to {
-        let invite = decode(INVITE).ok().ok_or("an Invite")?;
-        packets.push(letter_of(alloc, Names::of_mask(*mask), &invite)?)?;
+        packets.push(invite_for(alloc, *mask)?)?;
     }
     Ok(Record {
         event: Event::at(0, Act::Take),
@@ -35,41 +61,45 @@ fn record_of(alloc: Global, to: &[u16]) -> Result<Record, Fail> {
     })
 }
 
-#[test]
-fn letters_have_their_numbers(rt: HostRuntime) -> Result<(), Fail> {
-    let alloc = rt.alloc();
+/// A journal of the three records.
+fn three_records(alloc: Global) -> Result<Journal, Fail> {
     let mut journal = Journal::new(alloc, &founding_of(7)?);
-    for to in [[2u16, 4].as_slice(), [].as_slice(), [2, 6, 1].as_slice()] {
+    for to in &RECORDS {
         journal.reserve()?;
         let item = record_of(alloc, to)?;
         if item.packets.as_slice().len() <= 24 && journal.records().len() < 100000 {
             journal.push(item);
         }
     }
-    assert_eq!(rt; journal.packets(), 5);
-    assert!(rt; journal.packet(0).is_none());
-    assert!(rt; journal.packet(6).is_none());
-    for (number, mask) in [(1, 2), (2, 4), (3, 2), (4, 6), (5, 1)] {
-        let letter = journal.packet(number).ok_or("a letter")?;
-        assert_eq!(rt; letter.to().mask(), mask, "of {number}");
+    Ok(journal)
+}
+
+/// For whom a letter is; 0 where there is none.
+fn mask_of(journal: &Journal, number: u32) -> u16 {
+    match journal.packet(number) {
+        Some(letter) => letter.to().mask(),
+        None => 0,
     }
-    let second = Name::of_byte(1);
-    for (after, next) in [
-        (0, Some(1)),
-        (1, Some(3)),
-        (3, Some(4)),
-        (4, None),
-        (9, None),
-    ] {
-        assert_eq!(rt; journal.next_for(second, after), next, "after {after}");
+}
+
+#[test]
+fn letters_have_their_numbers(rt: HostRuntime) -> Result<(), Fail> {
+    let journal = three_records(rt.alloc())?;
+    assert!(rt; journal.packets() == 5);
+    for (number, mask) in &LETTERS {
+        assert!(rt; mask_of(&journal, *number) == *mask, "of {number}");
+    }
+    for (after, next) in &NEXT {
+        let found = journal.next_for(Name::of_byte(1), *after).unwrap_or(0);
+        assert!(rt; found == *next, "after {after}");
     }
     assert!(rt; journal.next_for(Name::of_byte(17), 0).is_none());
     Ok(())
 }
 
-#[test]
-fn a_group_gives_its_entries(rt: HostRuntime) -> Result<(), Fail> {
-    let mut group = Group::new(rt.alloc(), &founding_of(3)?)?;
+/// A group of two founders, to whom a third has joined.
+fn joined(alloc: Global) -> Result<Group, Fail> {
+    let mut group = Group::new(alloc, &founding_of(3)?)?;
     group.reserve(1)?;
     if group.entries().len() < 2 {
         group.append(Entry::Join(Name::of_byte(2)))?;
@@ -77,30 +107,37 @@ fn a_group_gives_its_entries(rt: HostRuntime) -> Result<(), Fail> {
     if group.entries().len() == 2 {
         group.admit(Name::of_byte(2), 2);
     }
-    for (name, numbers) in [
-        (0, [Some(1), Some(2), None]),
-        (2, [Some(2), None, None]),
-        (3, [None, None, None]),
-    ] {
-        for number in numbers {
-            let taken = group.take(Name::of_byte(name));
-            assert_eq!(rt; taken.map(|taken| taken.0), number, "of {name}");
-        }
+    Ok(group)
+}
+
+/// The number of the entry that a name takes, or 0.
+fn number_taken(group: &mut Group, name: Name) -> u32 {
+    match group.take(name) {
+        Some((number, _)) => number,
+        None => 0,
     }
-    let view = Stamp {
-        round: 1,
-        by: Name::of_byte(0),
-    };
-    let begins = match group.entries().first() {
-        Some(
-            Entry::View {
-                stamp,
-                members,
-                resilience,
-            },
-        ) => *stamp == view && members.mask() == 3 && *resilience == 0,
+}
+
+/// Whether an entry is the View of two founders.
+fn is_founders_view(entry: &Entry) -> bool {
+    match entry.as_ref().parts() {
+        EntryParts::View {
+            stamp,
+            members,
+            resilience,
+        } => stamp.round == 1 && stamp.by.get() == 0 && members.mask() == 3 && *resilience == 0,
         _ => false,
-    };
-    assert!(rt; begins);
+    }
+}
+
+#[test]
+fn a_group_gives_its_entries(rt: HostRuntime) -> Result<(), Fail> {
+    let mut group = joined(rt.alloc())?;
+    for (name, number) in &TAKES {
+        let taken = number_taken(&mut group, Name::of_byte(*name));
+        assert!(rt; taken == *number, "of {name}");
+    }
+    let first = group.entries().first().ok_or("an entry")?;
+    assert!(rt; is_founders_view(first));
     Ok(())
 }

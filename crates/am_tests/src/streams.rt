@@ -2,15 +2,17 @@ use am_io::buffered::Buffered;
 use am_io::outside::{Sink, Source};
 use am_io::whole::{ReadRefusal, read_all, write_all};
 use am_texts::memory::{MemSink, MemSource};
+use std::alloc::Global;
 use std::test::*;
 
-/// Five bytes, at most two a read: reads that fail, the limit, why not all is read, and the faults.
-const READS: [(&[u64], u32, Option<ReadRefusal>, u64); 5] = [
-    (&[], 5, None, 0),
-    (&[9], 6, None, 0),
-    (&[], 4, Some(ReadRefusal::TooLong), 0),
-    (&[2], 5, Some(ReadRefusal::Fault), 1),
-    (&[4], 5, Some(ReadRefusal::Fault), 1),
+/// Five bytes, at most two a read: reads that fail, the limit, whether all is read (0), it was too long (1) or a read failed (2), and the
+/// faults.
+const READS: [(&[u64], u32, u8, u64); 5] = [
+    (&[], 5, 0, 0),
+    (&[9], 6, 0, 0),
+    (&[], 4, 1, 0),
+    (&[2], 5, 2, 1),
+    (&[4], 5, 2, 1),
 ];
 
 /// 250 bytes, at most 100 a write: writes that fail, the sink's size, how many bytes it takes, and the faults.
@@ -30,27 +32,40 @@ const TEXTS: [(&[u64], usize, u64); 5] = [
     (&[5], 60_000, 0),
 ];
 
-#[test]
-fn a_fault_ends_a_read(rt: HostRuntime) -> Result<(), Fail> {
-    for (fail, limit, wanted, faults) in READS {
-        let mut source = MemSource::new(b"abcde", fail, 2);
-        let refused = read_all(rt.alloc(), &mut source, limit).err();
-        assert_eq!(rt; refused, wanted);
-        assert_eq!(rt; source.faults(), faults);
+/// What came of reading a source, as the table has it; 3 where there was no memory.
+fn read_from(alloc: Global, source: &mut MemSource<'_>, limit: u32) -> u8 {
+    match read_all(alloc, source, limit) {
+        Ok(_bytes) => 0,
+        Err(ReadRefusal::TooLong) => 1,
+        Err(ReadRefusal::Fault) => 2,
+        Err(ReadRefusal::NoMemory) => 3,
     }
-    Ok(())
+}
+
+#[test]
+fn a_fault_ends_a_read(rt: HostRuntime) {
+    for (fail, limit, wanted, faults) in &READS {
+        let mut source = MemSource::new(b"abcde", fail, 2);
+        assert!(rt; read_from(rt.alloc(), &mut source, *limit) == *wanted);
+        assert!(rt; source.faults() == *faults);
+    }
+}
+
+/// How many of 250 bytes a sink was told to have taken.
+fn written_to(sink: &mut MemSink<'_>) -> u64 {
+    match write_all(sink, &[7; 250]) {
+        Ok(()) => 250,
+        Err(fault) => fault.written,
+    }
 }
 
 #[test]
 fn a_fault_ends_a_write(rt: HostRuntime) -> Result<(), Fail> {
-    let bytes = [7; 250];
-    for (fail, size, taken, faults) in WRITES {
-        let mut sink = MemSink::new(rt.alloc(), fail, 100, size)?;
-        let fault = write_all(&mut sink, &bytes).err();
-        assert!(rt; fault.is_none_or(|fault| fault.written == taken as u64));
-        assert_eq!(rt; fault.is_none(), taken == 250);
-        assert_eq!(rt; sink.bytes().len(), taken);
-        assert_eq!(rt; sink.faults(), faults);
+    for (fail, size, taken, faults) in &WRITES {
+        let mut sink = MemSink::new(rt.alloc(), fail, 100, *size)?;
+        assert!(rt; written_to(&mut sink) == *taken as u64);
+        assert!(rt; sink.bytes().len() == *taken);
+        assert!(rt; sink.faults() == *faults);
     }
     Ok(())
 }
@@ -65,17 +80,20 @@ fn goes_through(sink: &mut MemSink<'_>) -> bool {
     out.finish().is_ok()
 }
 
+/// Whether bytes are those of the pieces, as many as there are.
+fn are_of_pieces(bytes: &[u8]) -> bool {
+    let (first, second) = bytes.split_at(bytes.len().min(40_000));
+    first.iter().all(|byte| *byte == 1) && second.iter().all(|byte| *byte == 2)
+}
+
 #[test]
 fn a_fault_ends_a_text(rt: HostRuntime) -> Result<(), Fail> {
-    for (fail, taken, faults) in TEXTS {
+    for (fail, taken, faults) in &TEXTS {
         let mut sink = MemSink::new(rt.alloc(), fail, 100_000, 60_000)?;
-        assert_eq!(rt; goes_through(&mut sink), taken == 60_000);
-        assert_eq!(rt; sink.faults(), faults);
-        let bytes = sink.bytes();
-        assert_eq!(rt; bytes.len(), taken);
-        let first = taken.min(40_000);
-        assert!(rt; bytes[..first].iter().all(|byte| *byte == 1));
-        assert!(rt; bytes[first..].iter().all(|byte| *byte == 2));
+        assert!(rt; goes_through(&mut sink) == (*taken == 60_000));
+        assert!(rt; sink.faults() == *faults);
+        assert!(rt; sink.bytes().len() == *taken);
+        assert!(rt; are_of_pieces(sink.bytes()));
     }
     Ok(())
 }
