@@ -12,10 +12,10 @@ An edit is a file crates/NAME/edits/WORDS.edit of such lines:
 The function is named as a check prints it behind `fn NAME::`. Further pairs of `old:` and `new:`, and further files, apply to what the
 earlier ones made. It stands on what `rt ci` has proved: the crates below, as it or `rt lib` has left them, and the crate itself. All
 edits of a crate that change different functions are tried together, in one check of these functions alone; for what else of the crate
-they call, a hole stands in place of the proof, as `rt ci` has proved that. An edit is refused where its function isn't proved, for a
-cause at its own lines or in its own proof; that a proof names what is gone is no such cause. What isn't refused is tried again without
-the others, and last alone. Given --only, the crates that it names are tried. It prints what fails, and how many edits
-were refused.
+they call, a hole stands in place of the proof and `unreachable!()` in place of the body, as `rt ci` has proved that. An edit is refused
+where its function isn't proved, for a cause at its own lines or in its own proof; that a proof names what is gone is no such cause. What
+isn't refused is tried again without the others, and last alone. Given --only, the crates that it names are tried. It prints what fails,
+and how many edits were refused.
 """
 
 import concurrent.futures
@@ -200,13 +200,74 @@ def proof_of(function: str) -> pathlib.PurePath:
     return pathlib.PurePath("proofs", *function.split("::"))
 
 
-def hollow(crate: str, folder: pathlib.Path, functions: list[str]) -> None:
-    """Puts a hole in place of each proof of a crate's functions, but for these ones and for those that call themselves."""
+def module_of(file: pathlib.Path, source: pathlib.Path) -> tuple[str, ...]:
+    """The module that a file of a crate's sources holds."""
+    parts = file.relative_to(source).with_suffix("").parts
+    return parts[:-1] if parts[-1] in ("lib", "main", "mod") else parts
+
+
+def body_of(lines: list[str], at: int, margin: str) -> tuple[int, int] | None:
+    """The braces of a function's body, by their lines, in the layout of `rt fmt`; nothing, where it has no lines between them."""
+    for first in range(at, len(lines)):
+        is_end = first == at or lines[first].startswith(f"{margin})")
+        if lines[first] == f"{margin}{{" or is_end and lines[first].endswith(" {"):
+            return first, lines.index(f"{margin}}}", first)
+        if is_end and lines[first].endswith(("{}", ";")):
+            return None
+    return None
+
+
+def without_bodies(text: str, kept: set[tuple[str, str]]) -> tuple[str, list[tuple[str, str]]]:
+    """A text with `unreachable!()` for the bodies of its functions, but for these and for what a trait says, and the functions whose bodies
+    went. Each is named by its owner, where it is of an `impl`, and its name."""
+    lines, gone, owner, at = text.split("\n"), [], "", 0
+    while at < len(lines):
+        line = lines[at]
+        if line.startswith(("impl", "trait ", "pub trait ", "}")):
+            owner = owner_of(line) if line.startswith("impl") else line[:-1]
+        margin = "    " if owner else ""
+        found = re.match(rf"{margin}(?:pub(?:\([a-z]*\))? )?fn (\w+)\b", line)
+        body = body_of(lines, at, margin) if found and re.fullmatch(r"\w*", owner) else None
+        if found and body:
+            head = " ".join(lines[at : body[0] + 1])
+            if (owner, found[1]) not in kept and "impl " not in head.partition("->")[2]:
+                lines[body[0] + 1 : body[1]] = [f"{margin}    unreachable!()"]
+                gone.append((owner, found[1]))
+            at = body[0]
+        at += 1
+    return "\n".join(lines), gone
+
+
+def take_bodies(folder: pathlib.Path, functions: list[str]) -> set[pathlib.Path]:
+    """Takes the bodies of a crate's functions away, but for these ones and for those that call themselves; the folders of their proofs."""
+    source = folder / "src"
+    kept = {(owner if owner[:1].isupper() else "", name) for *_, owner, name in (["", *it.split("::")] for it in functions)}
+    kept |= {(owner, at.name[1:]) for at in folder.glob("proofs/**/+*") for owner in ("", at.parent.name)}
+    texts = {file: file.read_text() for file in sorted(source.glob("**/*.rt"))}
+    is_type = re.compile(r"^(?:pub(?:\([a-z]*\))? )?(?:struct|enum) (\w+)", re.M)
+    types = {name: module_of(file, source) for file, text in texts.items() for name in is_type.findall(text)}
+    taken = set()
+    for file, text in texts.items():
+        changed, gone = without_bodies(text, kept)
+        file.write_text(changed)
+        for owner, name in gone:
+            own = max((it for it in types if owner.startswith(it)), key=len, default="") if owner else ""
+            path = types[own] if own else module_of(file, source)
+            taken.add(folder.joinpath("proofs", *path, *([owner] if owner else []), name))
+    return taken
+
+
+def hollow(crate: str, folder: pathlib.Path, functions: list[str], keeps_bodies: bool) -> None:
+    """Puts a hole in place of each proof of a crate's functions, but for these ones and for those that call themselves. Their bodies go
+    too, unless they are to be kept: what they call in turn is then not looked at."""
     kept = {folder / proof_of(function) for function in functions}
-    for at in {file.parent for file in folder.glob("proofs/**/*.antt") if file.name in PROOFS} - kept:
+    hollowed = {file.parent for file in folder.glob("proofs/**/*.antt") if file.name in PROOFS}
+    hollowed |= set() if keeps_bodies else take_bodies(folder, functions)
+    for at in hollowed - kept:
         path = at.relative_to(folder / "proofs").parts
         if not path or not all(re.fullmatch(r"\w+", it) for it in path):
             continue
+        at.mkdir(parents=True, exist_ok=True)
         for file in PROOFS:
             (at / file).unlink(missing_ok=True)
         statement = f"use Rattle.{crate}.proofs.{'.'.join(path)}.Statement.{{statement}}"
@@ -248,8 +309,9 @@ def check(crate, folder: pathlib.Path, functions: list[str], kept: pathlib.Path,
         return said.read().decode(errors="replace"), started.returncode, usage.ru_utime + usage.ru_stime
 
 
-def try_together(crate, edits: list[Edit], room: pathlib.Path, guard: list[str]) -> Tried:
-    """Tries edits in one check, over what earlier checks in the room proved; what isn't refused is left out of both lists."""
+def try_together(crate, edits: list[Edit], room: pathlib.Path, guard: list[str], keeps_bodies: bool = False) -> Tried:
+    """Tries edits in one check, over what earlier checks in the room proved; what isn't refused is left out of both lists. What can't be
+    read without the other functions' bodies is tried with them."""
     folder = pathlib.Path(tempfile.mkdtemp(dir=room))
     for part in toolchain().PARTS:
         if os.path.isdir(f"{crate.folder}/{part}"):
@@ -259,7 +321,7 @@ def try_together(crate, edits: list[Edit], room: pathlib.Path, guard: list[str])
         if why or not place(edit.function, folder):
             return Tried(failed=[f"{edit.name}: {why or f'there is no function {edit.function}'}"])
     functions = [edit.function for edit in edits]
-    hollow(crate.name, folder, functions)
+    hollow(crate.name, folder, functions, keeps_bodies)
     call = crate, folder, functions, room / "kept", guard
     said, status, seconds = check(*call)
     if status == -signal.SIGKILL:  # most likely for memory
@@ -267,6 +329,9 @@ def try_together(crate, edits: list[Edit], room: pathlib.Path, guard: list[str])
         seconds += more
     names = ", ".join(edit.name for edit in edits)
     why = unread(said, {change.file for edit in edits for change in edit.changes})
+    if (status not in (0, 1, 3) or why) and not keeps_bodies:
+        again = try_together(crate, edits, room, guard, True)
+        return dataclasses.replace(again, seconds=again.seconds + seconds)
     if status not in (0, 1, 3) or why:
         return Tried(failed=[f"{names}: the check ended with {status}: {why or said[-300:]}"], seconds=seconds)
     refused = {edit.name for edit in edits if is_refused(edit, said, crate.name, folder)}

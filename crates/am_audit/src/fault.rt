@@ -3,7 +3,7 @@ use am_fields::fault::FieldFault;
 use std::alloc::AllocFailed;
 
 /// Why a line isn't taken.
-#[derive(Clone, Copy, Debug)]
+#[derive(Clone, Copy)]
 pub enum LineFault {
     /// There was no memory.
     Memory,

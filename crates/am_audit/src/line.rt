@@ -1,7 +1,7 @@
 use am_base::name::Name;
 
 /// Which lines of a text may come next.
-#[derive(Clone, Copy, Debug)]
+#[derive(Clone, Copy)]
 pub enum Stage {
     /// Events, or the group list.
     Events,
@@ -14,7 +14,7 @@ pub enum Stage {
 }
 
 /// A send that was answered as sent: whose it is, its request, and the number at which it stands.
-#[derive(Clone, Copy, Debug)]
+#[derive(Clone, Copy)]
 pub struct Answer {
     pub name: Name,
     pub req: u32,
@@ -22,7 +22,7 @@ pub struct Answer {
 }
 
 /// A name's number with a piece of the text: a send's request and body, or an entry's number and the entry, in a log or as it was taken.
-#[derive(Clone, Copy, Debug)]
+#[derive(Clone, Copy)]
 pub struct TextLine<'a> {
     /// The name's byte.
     pub name: u8,
@@ -31,7 +31,7 @@ pub struct TextLine<'a> {
 }
 
 /// An entry of the group list as it is printed.
-#[derive(Clone, Copy, Debug)]
+#[derive(Clone, Copy)]
 pub struct Piece<'a> {
     pub text: &'a [u8],
 }

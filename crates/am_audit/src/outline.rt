@@ -2,7 +2,7 @@ use am_base::name::{Name, Stamp};
 use am_base::names::Names;
 
 /// What an entry's text says, but for a body.
-#[derive(Clone, Copy, Debug)]
+#[derive(Clone, Copy)]
 pub enum Outline {
     /// A send of a member: its request number.
     Data {

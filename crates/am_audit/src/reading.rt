@@ -16,7 +16,7 @@ use am_fields::number::number;
 use std::alloc::Global;
 
 /// What was read of a text so far: its list, its logs, and its events that count.
-#[derive(Drop, Debug)]
+#[derive(Drop)]
 pub struct Lines<'a> {
     pub stage: Stage,
     /// The byte of the name at each place.

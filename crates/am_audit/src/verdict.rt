@@ -1,7 +1,7 @@
 use am_base::name::Name;
 
 /// What an audit of a text comes to (docs/AUDIT.md, "Verdicts").
-#[derive(Clone, Copy, PartialEq, Eq, Debug)]
+#[derive(Clone, Copy)]
 pub enum Verdict {
     /// A log line's number isn't the one behind its name's last.
     Gap {
@@ -80,7 +80,7 @@ impl Verdict {
 }
 
 /// What an audit of a text tells: its verdict, and the event from which on its run is void, where its last line says one.
-#[derive(Clone, Copy, PartialEq, Eq, Debug)]
+#[derive(Clone, Copy)]
 pub struct Audit {
     pub verdict: Verdict,
     pub void_from: Option<u32>,

@@ -8,14 +8,14 @@ use crate::node::{NodeWords, node_of};
 use am_base::limits::MOST_EVENTS;
 
 /// The numbers of `gen`: the seed, and how many events there are, 1 to 100,000.
-#[derive(Clone, Copy, PartialEq, Eq, Debug)]
+#[derive(Clone, Copy)]
 pub struct Numbers {
     pub seed: u64,
     pub count: u32,
 }
 
 /// What is written of a script's run, each by the word that asks for it.
-#[derive(Clone, Copy, PartialEq, Eq, Debug)]
+#[derive(Clone, Copy)]
 pub enum Shown {
     /// `play`: its events, the one list and each node's log.
     Text,
@@ -28,7 +28,7 @@ pub enum Shown {
 }
 
 /// What the program's words ask for.
-#[derive(Clone, Copy, PartialEq, Eq, Debug)]
+#[derive(Clone, Copy)]
 pub enum Form {
     /// To run a script, and to write this of its run.
     Play(Shown),

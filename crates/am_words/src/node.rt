@@ -8,14 +8,14 @@ use am_fields::name::{name, names};
 use am_fields::number::number_up_to;
 
 /// A node's name, and the founding of its group.
-#[derive(Clone, Copy, PartialEq, Eq, Debug)]
+#[derive(Clone, Copy)]
 pub struct NodeWords {
     pub name: Name,
     pub founding: Founding,
 }
 
 /// The options of `node` that were read, each at most once.
-#[derive(Clone, Copy, PartialEq, Eq, Debug)]
+#[derive(Clone, Copy)]
 pub struct Options {
     pub name: Option<Name>,
     pub founders: Option<Names>,
