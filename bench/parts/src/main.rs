@@ -1,4 +1,4 @@
-//! The parts that a node calls most, in plain Rust on a `VecDeque`, timed as `am_bench time` times ours.
+//! The parts that a node calls most, in plain Rust on a `VecDeque`, timed as `am_bench parts` times ours.
 
 use std::collections::VecDeque;
 use std::hint::black_box;
@@ -259,78 +259,92 @@ fn accept_front(reports: &[Report; 256], history: &History, acc: u32) -> u32 {
     front
 }
 
-const ROUNDS: u32 = 400;
-const FRONTS: u32 = 20_000;
+/// A history that is full but for what was tried, with its last request.
+struct Ring {
+    history: History,
+    room: u32,
+    last: u32,
+    reports: [Report; 256],
+}
 
-fn measure(window: u32) {
-    let room = window + 15;
-    let mut history = History::founded(window);
-    history.trim(1);
-    let mut req = 0;
-    for line in 0..4 {
-        let mut spent = [0u128; 4];
-        for _ in 0..ROUNDS {
-            let start = Instant::now();
-            for _ in 0..room {
-                let entry = Entry::Data {
-                    from: 0,
-                    req: req + 1,
-                    body: Body::of(&[]),
-                };
-                if history.top() - history.base < room && history.above.fits(&entry) {
-                    history.push(entry);
-                    req += 1;
-                }
-            }
-            spent[0] += start.elapsed().as_nanos();
-            let start = Instant::now();
-            let mut sum = 0u64;
-            for number in history.base..history.top() {
-                if let Some(Entry::Data { req, .. }) = history.entry(black_box(number + 1)) {
-                    sum += u64::from(*req);
-                }
-            }
-            black_box(sum);
-            spent[1] += start.elapsed().as_nanos();
-            let start = Instant::now();
-            let mut sum = 0u64;
-            for number in history.base..history.top() {
-                sum += u64::from(history.members_after(black_box(number))[3]);
-            }
-            black_box(sum);
-            spent[2] += start.elapsed().as_nanos();
-            let start = Instant::now();
-            for _ in 0..room {
-                history.trim(history.base + 1);
-            }
-            spent[3] += start.elapsed().as_nanos();
+impl Ring {
+    fn new(window: u32) -> Ring {
+        let mut reports = [Report::default(); 256];
+        for report in &mut reports[..16] {
+            report.stored = 2_000_000_000;
         }
-        let [push, entry, members, trim] = spent.map(|nanos| nanos / u128::from(ROUNDS * room));
-        println!("plain {window} {line} push {push} entry {entry} members_after {members} trim {trim}");
+        let mut ring = Ring {
+            history: History::founded(window),
+            room: window + 15,
+            last: 0,
+            reports,
+        };
+        ring.fill();
+        ring
+    }
+
+    fn fill(&mut self) {
+        for _ in 0..self.room {
+            let entry = Entry::Data {
+                from: 0,
+                req: self.last + 1,
+                body: Body::of(&[]),
+            };
+            if self.history.top() - self.history.base < self.room && self.history.above.fits(&entry) {
+                self.history.push(entry);
+                self.last += 1;
+            }
+        }
+    }
+
+    fn refill(&mut self) -> u64 {
+        for _ in 0..self.room {
+            self.history.trim(self.history.base + 1);
+        }
+        self.fill();
+        u64::from(self.last)
+    }
+
+    fn requests(&self) -> u64 {
+        let mut sum = 0;
+        for number in self.history.base..self.history.top() {
+            if let Some(Entry::Data { req, .. }) = self.history.entry(black_box(number + 1)) {
+                sum += u64::from(*req);
+            }
+        }
+        sum
+    }
+
+    fn memberships(&self) -> u64 {
+        (self.history.base..self.history.top()).map(|number| u64::from(self.history.members_after(black_box(number + 1))[3])).sum()
+    }
+
+    fn front(&self) -> u64 {
+        u64::from(accept_front(black_box(&self.reports), black_box(&self.history), self.history.base))
     }
 }
 
-fn main() {
-    measure(112);
-    measure(1008);
-    let mut history = History::founded(112);
-    for req in 1..127 {
-        history.push(Entry::Data {
-            from: 0,
-            req,
-            body: Body::of(&[]),
-        });
-    }
-    let mut reports = [Report::default(); 256];
-    for report in &mut reports[..16] {
-        report.stored = 127;
-    }
+/// Does this so many times, and prints how long each of its calls took.
+fn time(name: &str, window: u32, count: u32, calls: u32, once: impl Fn(&mut Ring) -> u64) {
+    let mut ring = Ring::new(window);
     let start = Instant::now();
     let mut sum = 0u64;
-    for _ in 0..FRONTS {
-        sum += u64::from(accept_front(black_box(&reports), black_box(&history), 0));
+    for _ in 0..count {
+        sum = sum.wrapping_add(once(black_box(&mut ring)));
     }
-    let front = start.elapsed().as_nanos() / u128::from(FRONTS);
-    assert_eq!(black_box(sum), 127 * u64::from(FRONTS));
-    println!("plain accept_front {front}");
+    let nanos = start.elapsed().as_nanos() / u128::from(count.max(1)) / u128::from(calls);
+    println!("plain {window} {name}: {nanos} ns ({sum})");
+}
+
+fn main() {
+    let count = std::env::args().nth(1).and_then(|word| word.parse().ok()).unwrap_or(0);
+    for window in [112, 1008] {
+        let room = window + 15;
+        time("push and trim", window, count, room, Ring::refill);
+        time("entry", window, count, room, |ring| ring.requests());
+        time("members_after", window, count, room, |ring| ring.memberships());
+        if window == 112 {
+            time("accept_front", window, count, 1, |ring| ring.front());
+        }
+    }
 }

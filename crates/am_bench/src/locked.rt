@@ -1,4 +1,3 @@
-use am_base::name::Name;
 use am_base::outcome::Outcome;
 use am_calls::ready::may_take;
 use am_chooser::chooser::Chooser;
@@ -19,9 +18,11 @@ struct Whole {
     progress: [Progress; 16],
 }
 
-/// What a call waits for.
+/// What a thread waits for.
 #[derive(Clone, Copy)]
 enum Wanted {
+    /// Its next call.
+    Call,
     /// An entry to take.
     Entry,
     /// That the send of this number is settled.
@@ -32,6 +33,7 @@ impl Wanted {
     /// Whether it has come.
     fn has_come(self, node: &Node) -> bool {
         match self {
+            Wanted::Call => true,
             Wanted::Entry => may_take(node),
             Wanted::Settled(req) => node.is_settled(req),
         }
@@ -40,80 +42,83 @@ impl Wanted {
     /// The act that ends the call.
     fn end(self) -> Act {
         match self {
+            Wanted::Call => Act::Tick,
             Wanted::Entry => Act::Take,
             Wanted::Settled(req) => Act::Done(req),
         }
     }
 }
 
+/// A thread: its calls, how many of them it began, what it waits for, and the turns that are left to the call.
+#[derive(Drop)]
+struct Caller<'a> {
+    thread: &'a ThreadPlan,
+    chooser: Chooser,
+    begun: usize,
+    wanted: Wanted,
+    turns: u32,
+    left: u32,
+}
+
 impl Whole {
-    /// A place does what the chooser says.
-    fn turn(&mut self, chooser: &mut Chooser, node: Name) -> Result<(), WorldRefusal> {
-        let place = usize::from(node.place());
-        let progress = self.progress[place];
-        let ahead = progress.ahead(self.world.journal(), node);
-        let choice = chooser.choose(ahead, progress.last);
-        let act = choice.act();
+    /// The place of a caller does this.
+    fn act(&mut self, caller: &Caller<'_>, act: Act) -> Result<(), WorldRefusal> {
+        let node = caller.thread.node;
         self.world.step(&Event { node, act })?;
-        self.progress[place] = progress.after(choice);
         Ok(())
     }
 
-    /// The number of the send that was queued last; None where the last event was none.
-    fn queued_request(&self) -> Option<u32> {
-        match self.world.journal().records().last()?.outcome {
-            Outcome::Queued { req } => Some(req),
-            _ => None,
+    /// The place of a caller does what its chooser says.
+    fn turn(&mut self, caller: &mut Caller<'_>) -> Result<(), WorldRefusal> {
+        let node = caller.thread.node;
+        let progress = self.progress[usize::from(node.place())];
+        let ahead = progress.ahead(self.world.journal(), node);
+        let choice = caller.chooser.choose(ahead, progress.last);
+        self.act(caller, choice.act())?;
+        self.progress[usize::from(node.place())] = progress.after(choice);
+        Ok(())
+    }
+
+    /// What a caller waits for behind its own act.
+    fn wanted(&self) -> Wanted {
+        match self.world.journal().records().last() {
+            Some(record) => match record.outcome {
+                Outcome::Queued { req } => Wanted::Settled(req),
+                _ => Wanted::Call,
+            },
+            None => Wanted::Call,
         }
     }
 
-    /// What a call waits for, behind its own act; None where it has its answer.
-    fn begin(&mut self, node: Name, act: &Act) -> Result<Option<Wanted>, WorldRefusal> {
-        if let Act::Take = act {
-            return Ok(Some(Wanted::Entry));
-        }
-        let act = act.try_copy()?;
-        self.world.step(&Event { node, act })?;
-        Ok(self.queued_request().map(Wanted::Settled))
-    }
-
-    /// One look: a turn, or the end of the call. Whether it was the end.
-    fn look(
-        &mut self,
-        chooser: &mut Chooser,
-        node: Name,
-        wanted: Wanted,
-        has_turn: bool,
-    ) -> Result<bool, WorldRefusal> {
-        if has_turn && !wanted.has_come(self.world.node(node)) {
-            self.turn(chooser, node)?;
+    /// The first act of a caller's next call; whether there is one.
+    fn begin(&mut self, caller: &mut Caller<'_>) -> Result<bool, WorldRefusal> {
+        let Some(act) = caller.thread.calls.as_slice().get(caller.begun) else {
             return Ok(false);
+        };
+        caller.begun += 1;
+        caller.left = caller.turns;
+        caller.wanted = Wanted::Entry;
+        if !matches!(act, Act::Take) {
+            self.act(caller, act.try_copy()?)?;
+            caller.wanted = self.wanted();
         }
-        let act = wanted.end();
-        self.world.step(&Event { node, act })?;
         Ok(true)
     }
-}
 
-/// A call, with so many turns at most; whether it came to its end before they were used.
-fn call<R: Wait>(
-    rt: &R,
-    whole: &Mutex<Whole>,
-    chooser: &mut Chooser,
-    node: Name,
-    act: &Act,
-    turns: u32,
-) -> Result<bool, WorldRefusal> {
-    let Some(wanted) = whole.lock(rt).begin(node, act)? else {
-        return Ok(true);
-    };
-    for _turn in 0..turns {
-        if whole.lock(rt).look(chooser, node, wanted, true)? {
+    /// A caller goes on by one act, or begins to wait for an entry; whether it has more to do. It hasn't behind a call that used its turns.
+    fn go_on(&mut self, caller: &mut Caller<'_>) -> Result<bool, WorldRefusal> {
+        if let Wanted::Call = caller.wanted {
+            return self.begin(caller);
+        }
+        if 0 < caller.left && !caller.wanted.has_come(self.world.node(caller.thread.node)) {
+            caller.left -= 1;
+            self.turn(caller)?;
             return Ok(true);
         }
+        self.act(caller, caller.wanted.end())?;
+        caller.wanted = Wanted::Call;
+        Ok(0 < caller.left)
     }
-    whole.lock(rt).look(chooser, node, wanted, false)?;
-    Ok(false)
 }
 
 /// A thread makes its calls, up to one that uses its turns.
@@ -126,13 +131,20 @@ fn make<R: Wait>(
     let Some(thread) = plan.threads.as_slice().get(number) else {
         return Ok(());
     };
-    let mut chooser = Chooser::new(plan.seed_number, number as u64, plan.loss, plan.repeat);
-    for act in thread.calls.as_slice() {
-        if !call(rt, whole, &mut chooser, thread.node, act, plan.turns)? {
+    let mut caller = Caller {
+        thread,
+        chooser: Chooser::new(plan.seed_number, number as u64, plan.loss, plan.repeat),
+        begun: 0,
+        wanted: Wanted::Call,
+        turns: plan.turns,
+        left: 0,
+    };
+    for _ in rt.forever() {
+        if !whole.lock(rt).go_on(&mut caller)? {
             return Ok(());
         }
     }
-    Ok(())
+    unreachable!()
 }
 
 /// How many records a race leaves over one lock round a whole group; 0 where there was no memory, or too many events.

@@ -76,60 +76,49 @@ enum Lock {
     Group,
 }
 
-/// How many records a race leaves, with locks round nodes or round the group.
-fn records<R: Threads + Wait + Sync>(rt: &R, alloc: Global, plan: &RacePlan, lock: Lock) -> usize {
-    match lock {
-        Lock::Node => race_in_boxes(rt, alloc, plan),
-        Lock::Group => race_in_one(rt, alloc, plan),
-    }
-}
-
-/// How many events so many races do in a second.
-fn rate<R: Clock + Threads + Wait + Sync>(
+/// How many records so many races leave, with locks round nodes or round the group.
+fn records<R: Threads + Wait + Sync>(
     rt: &R,
     alloc: Global,
     plan: &RacePlan,
     lock: Lock,
     rounds: u32,
-) -> io::Result<u128> {
-    let start = Instant::now(rt)?;
-    let mut events = 0u64;
+) -> u64 {
+    let mut sum = 0u64;
     for _ in 0..rounds {
-        events = events.wrapping_add(records(rt, alloc, plan, lock) as u64);
+        let more = match lock {
+            Lock::Node => race_in_boxes(rt, alloc, plan),
+            Lock::Group => race_in_one(rt, alloc, plan),
+        };
+        sum = sum.wrapping_add(more as u64);
     }
-    let spent = start.elapsed(rt)?.as_micros().max(1);
-    Ok(u128::from(events) * 1_000_000 / spent)
+    sum
 }
 
-/// The race of so many threads, at a founder each.
-fn plan_for(alloc: Global, threads: u8) -> io::Result<Option<RacePlan>> {
-    let founders = Names::of_mask(u16::MAX >> (16 - threads.clamp(1, 16)));
-    let Some(founding) = Founding::new(founders, 0, 64, 256) else {
-        return Ok(None);
-    };
-    Ok(Some(plan_of(alloc, founding, threads)?))
-}
-
-/// Prints how many records one thread leaves over nodes, and over one lock round the group.
-pub fn compare<R: Print + AllocGlobal + Threads + Wait + Sync>(rt: &R) -> io::Result<()> {
-    let Some(plan) = plan_for(rt.alloc(), 1)? else {
-        return Ok(());
-    };
-    let nodes = records(rt, rt.alloc(), &plan, Lock::Node);
-    let group = records(rt, rt.alloc(), &plan, Lock::Group);
-    println!(rt; "{nodes} {group}")
-}
-
-/// Prints how many events a second so many races of so many threads do, over nodes and over one lock round the group.
+/// Does so many races of so many threads, over nodes and over one lock round the group, and prints how many events a second both did;
+/// where they aren't timed, how many in all.
 pub fn time<R: Clock + Print + AllocGlobal + Threads + Wait + Sync>(
     rt: &R,
     threads: u8,
     rounds: u32,
+    is_timed: bool,
 ) -> io::Result<()> {
-    let Some(plan) = plan_for(rt.alloc(), threads)? else {
+    let founders = Names::of_mask(u16::MAX >> (16 - threads.clamp(1, 16)));
+    let Some(founding) = Founding::new(founders, 0, 64, 256) else {
         return Ok(());
     };
-    let nodes = rate(rt, rt.alloc(), &plan, Lock::Node, rounds)?;
-    let group = rate(rt, rt.alloc(), &plan, Lock::Group, rounds)?;
+    let plan = plan_of(rt.alloc(), founding, threads)?;
+    let mut told = [0u128; 2];
+    for (lock, told) in [Lock::Node, Lock::Group].iter().zip(&mut told) {
+        let start = Instant::now(rt)?;
+        let events = u128::from(records(rt, rt.alloc(), &plan, *lock, rounds));
+        let spent = start.elapsed(rt)?.as_micros().max(1);
+        *told = if is_timed {
+            events * 1_000_000 / spent
+        } else {
+            events
+        };
+    }
+    let [nodes, group] = told;
     println!(rt; "{threads} {nodes} {group}")
 }

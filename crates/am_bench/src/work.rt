@@ -1,12 +1,11 @@
-ghost use Rattle.am_packet.specs.Limits.{IsWithin};
-
+use crate::ring::Ring;
 use am_base::body::PacketBytes;
 use am_base::founding::Founding;
 use am_base::items::Items;
 use am_base::name::{Name, Stamp};
 use am_base::names::Names;
 use am_base::outcome::Outcome;
-use am_group::event::{Act, By, Event, Part, Record};
+use am_group::event::{Act, By, Event, Record};
 use am_group::journal::Journal;
 use am_letter::letter::letter_of;
 use am_letter::writer::encode;
@@ -25,43 +24,94 @@ const ACK: &[u8] = b"AG\x03\x06\x01\x00\x00\x00\x02\x00\x00\x14\x00\x00\x00\x05\
 const REQUEST: &[u8] =
     b"AG\x03\x01\x01\x00\x00\x00\x02\x00\x04\x18\x00\x00\x00\x05\x00\x00\x00\x04\x00\x00\x00\x03";
 
-/// Decodes so many times, with another last byte each time.
-fn decode_many(bytes: &mut [u8], count: u32) -> u64 {
-    let mut sum = 0u64;
-    for i in 0..count {
-        if let Some(last) = bytes.last_mut() {
-            *last = (i % 256) as u8;
-        }
-        if let Ok(packet) = &decode(bytes) {
-            sum = sum.wrapping_add(u64::from(packet.kind()));
-        }
-    }
-    sum
+/// What is done again and again.
+#[derive(Clone, Copy)]
+pub enum Kind {
+    /// A packet is read, with another last byte each time.
+    Decode,
+    /// A packet is written.
+    Encode,
+    /// A letter is looked up, one of the last hundred.
+    LookUp,
+    /// A history is emptied and filled, entry by entry.
+    Refill,
+    /// Each entry of a history is looked up.
+    Entry,
+    /// The members after each entry are looked up.
+    Members,
+    /// An accept front is found over all entries.
+    Front,
 }
 
-/// Encodes two packets in turn, so many times.
-fn encode_many(
-    alloc: Global,
-    first: &Packet,
-    second: &Packet,
-    count: u32,
-) -> Result<u64, AllocError>
-    requires first { IsWithin first.now }
-    requires second { IsWithin second.now }
-{
-    let mut written = PacketBytes::new(alloc)?;
-    let mut sum = 0u64;
-    for i in 0..count {
-        if i % 2 == 0 {
-            encode(first, &mut written);
-        } else {
-            encode(second, &mut written);
-        }
-        if let Some(last) = written.bytes().last() {
-            sum = sum.wrapping_add(u64::from(*last));
-        }
+/// What is timed: its name in a line, what is done, and with what. That is a packet, of which these are the first bytes and so many
+/// there are in all, a journal of so many records, and a history with this window.
+#[derive(Clone, Copy)]
+pub struct Work {
+    name: &'static str,
+    kind: Kind,
+    bytes: &'static [u8],
+    total: usize,
+    records: u32,
+    window: u16,
+}
+
+/// The work on a packet.
+fn packet(name: &'static str, kind: Kind, bytes: &'static [u8], total: usize) -> Work {
+    Work {
+        name,
+        kind,
+        bytes,
+        total,
+        records: 0,
+        window: 112,
     }
-    Ok(sum)
+}
+
+/// The work on a journal or on a history.
+fn list(name: &'static str, kind: Kind, records: u32, window: u16) -> Work {
+    Work {
+        name,
+        kind,
+        bytes: ACK,
+        total: 20,
+        records,
+        window,
+    }
+}
+
+/// The works on packets and journals.
+pub fn codec() -> [Work; 6] {
+    [
+        packet("proved   decode 20-byte Ack", Kind::Decode, ACK, 20),
+        packet("proved   encode 20-byte Ack", Kind::Encode, ACK, 20),
+        packet(
+            "proved   decode 1,024-byte Request",
+            Kind::Decode,
+            REQUEST,
+            1048,
+        ),
+        packet(
+            "proved   encode 1,024-byte Request",
+            Kind::Encode,
+            REQUEST,
+            1048,
+        ),
+        list("Journal::packet among 100", Kind::LookUp, 100, 112),
+        list("Journal::packet among 10000", Kind::LookUp, 10_000, 112),
+    ]
+}
+
+/// The works on histories.
+pub fn parts() -> [Work; 7] {
+    [
+        list("ours 112 push and trim", Kind::Refill, 0, 112),
+        list("ours 112 entry", Kind::Entry, 0, 112),
+        list("ours 112 members_after", Kind::Members, 0, 112),
+        list("ours 112 accept_front", Kind::Front, 0, 112),
+        list("ours 1008 push and trim", Kind::Refill, 0, 1008),
+        list("ours 1008 entry", Kind::Entry, 0, 1008),
+        list("ours 1008 members_after", Kind::Members, 0, 1008),
+    ]
 }
 
 /// A letter for these names.
@@ -77,27 +127,25 @@ fn letter_to(alloc: Global, to: Names) -> Result<Letter, AllocError> {
     letter_of(alloc, to, &invite)
 }
 
+/// A Tick with one letter.
+fn record_to(alloc: Global, to: Names) -> Result<Record, AllocError> {
+    let mut packets = Items::new(alloc);
+    packets.push(letter_to(alloc, to)?)?;
+    Ok(Record {
+        event: Event::at(0, Act::Tick),
+        life: 1,
+        by: By::call(0, 0),
+        outcome: Outcome::Ticked,
+        packets,
+    })
+}
+
 /// A journal of so many records with one letter each.
 fn journal_of(alloc: Global, founding: &Founding, records: u32) -> Result<Journal, AllocError> {
     let mut journal = Journal::new(alloc, founding);
     for _ in 0..records {
-        let mut packets = Items::new(alloc);
-        packets.push(letter_to(alloc, founding.founders())?)?;
         journal.reserve()?;
-        let item = Record {
-            event: Event {
-                node: Name::of_byte(0),
-                act: Act::Tick,
-            },
-            life: 1,
-            by: By {
-                caller: 0,
-                call: 0,
-                part: Part::Call,
-            },
-            outcome: Outcome::Ticked,
-            packets,
-        };
+        let item = record_to(alloc, founding.founders())?;
         if journal.records().len() < 100000 && item.packets.as_slice().len() <= 24 {
             journal.push(item);
         }
@@ -105,60 +153,125 @@ fn journal_of(alloc: Global, founding: &Founding, records: u32) -> Result<Journa
     Ok(journal)
 }
 
-/// Looks up so many packets, spread over the last hundred.
-fn look_up_many(journal: &Journal, count: u32) -> u64 {
-    let mut sum = 0u64;
-    let first = journal.packets().saturating_sub(100);
-    for i in 0..count {
-        if let Some(letter) = journal.packet(first.wrapping_add(i % 100 + 1)) {
-            sum = sum.wrapping_add(u64::from(letter.kind()));
+/// So many bytes of a packet, of which the first are these.
+fn bytes_of(alloc: Global, first: &[u8], total: usize) -> Result<Vec<u8>, AllocError> {
+    let mut bytes = Vec::from_slice(alloc, first)?;
+    bytes.resize(total, 7)?;
+    Ok(bytes)
+}
+
+/// What a work is done with.
+#[derive(Drop)]
+struct Ready {
+    kind: Kind,
+    bytes: Vec<u8>,
+    written: PacketBytes,
+    journal: Journal,
+    ring: Ring,
+}
+
+impl Ready {
+    /// All that a work wants.
+    fn new(alloc: Global, founding: &Founding, work: &Work) -> Result<Ready, AllocError> {
+        Ok(Ready {
+            kind: work.kind,
+            bytes: bytes_of(alloc, work.bytes, work.total)?,
+            written: PacketBytes::new(alloc)?,
+            journal: journal_of(alloc, founding, work.records)?,
+            ring: Ring::new(alloc, work.window.clamp(1, 1008))?,
+        })
+    }
+
+    /// Reads the packet, with this last byte.
+    fn read(&mut self, last: u8) -> u64 {
+        if let Some(byte) = self.bytes.last_mut() {
+            *byte = last;
+        }
+        match &decode(&self.bytes) {
+            Ok(packet) => u64::from(packet.kind()),
+            Err(_) => 0,
         }
     }
-    sum
-}
 
-/// The nanoseconds that each of so many calls took since a start.
-fn each(rt: &impl Clock, start: &Instant, count: u32) -> io::Result<u128> {
-    Ok(start.elapsed(rt)?.as_nanos() / u128::from(count.max(1)))
-}
-
-/// Decodes and encodes a packet of a total length so many times.
-fn time_packet(
-    rt: &(impl Clock + Print + AllocGlobal),
-    what: &str,
-    front: &[u8],
-    total: usize,
-    count: u32,
-) -> io::Result<()> {
-    let mut bytes = Vec::from_slice(rt.alloc(), front)?;
-    bytes.resize(total, 7)?;
-    let start = Instant::now(rt)?;
-    let read = decode_many(&mut bytes, count);
-    let decoding = each(rt, &start, count)?;
-    println!(rt; "proved   decode {what}: {decoding} ns ({read})")?;
-    bytes.truncate(total);
-    if let (Ok(first), Ok(second)) = (decode(&bytes), decode(&bytes)) {
-        let start = Instant::now(rt)?;
-        let written = encode_many(rt.alloc(), &first, &second, count)?;
-        let encoding = each(rt, &start, count)?;
-        println!(rt; "proved   encode {what}: {encoding} ns ({written})")?;
+    /// Writes the packet so many times.
+    fn write(&mut self, count: u32) -> u64 {
+        let Ok(packet) = &decode(&self.bytes) else {
+            return 0;
+        };
+        let mut sum = 0u64;
+        for _ in 0..count {
+            encode(packet, &mut self.written);
+            sum = sum.wrapping_add(self.written.bytes().len() as u64);
+        }
+        sum
     }
-    Ok(())
+
+    /// Looks up a letter, one of the last hundred.
+    fn look_up(&self, turn: u32) -> u64 {
+        let first = self.journal.packets().saturating_sub(100);
+        match self.journal.packet(first.wrapping_add(turn % 100 + 1)) {
+            Some(letter) => u64::from(letter.kind()),
+            None => 0,
+        }
+    }
+
+    /// Does the work once, in this turn; a number that comes of it.
+    fn once(&mut self, turn: u32) -> u64 {
+        match self.kind {
+            Kind::Decode => self.read((turn % 256) as u8),
+            Kind::Encode => 0,
+            Kind::LookUp => self.look_up(turn),
+            Kind::Refill => self.ring.refill(),
+            Kind::Entry => self.ring.requests(),
+            Kind::Members => self.ring.memberships(),
+            Kind::Front => self.ring.front(),
+        }
+    }
+
+    /// Does the work so many times; the sum of what came of it.
+    fn again(&mut self, count: u32) -> u64 {
+        if let Kind::Encode = self.kind {
+            return self.write(count);
+        }
+        let mut sum = 0u64;
+        for turn in 0..count {
+            sum = sum.wrapping_add(self.once(turn));
+        }
+        sum
+    }
+
+    /// How many calls are made at a time.
+    fn calls(&self) -> u32 {
+        match self.kind {
+            Kind::Refill | Kind::Entry | Kind::Members => self.ring.room(),
+            Kind::Decode | Kind::Encode | Kind::LookUp | Kind::Front => 1,
+        }
+    }
 }
 
-/// Times packets and the look-up of letters, each so many times.
-pub fn time(rt: &(impl Clock + Print + AllocGlobal), count: u32) -> io::Result<()> {
-    time_packet(rt, "20-byte Ack", ACK, 20, count)?;
-    time_packet(rt, "1,024-byte Request", REQUEST, 1048, count)?;
+/// Does each of some works so many times, and prints what came of it; behind how many nanoseconds a call took, where it is timed.
+pub fn time(
+    rt: &(impl Clock + Print + AllocGlobal),
+    works: &[Work],
+    count: u32,
+    is_timed: bool,
+) -> io::Result<()> {
     let Some(founding) = Founding::new(Names::of_mask(1), 0, 64, 256) else {
         return Ok(());
     };
-    for records in [100u32, 10000] {
-        let journal = journal_of(rt.alloc(), &founding, records)?;
+    for work in works {
+        let mut ready = Ready::new(rt.alloc(), &founding, work)?;
+        let name = work.name;
         let start = Instant::now(rt)?;
-        let found = look_up_many(&journal, count);
-        let looking = each(rt, &start, count)?;
-        println!(rt; "Journal::packet among {records}: {looking} ns ({found})")?;
+        let sum = ready.again(count);
+        let spent = start.elapsed(rt)?;
+        let calls = u128::from(count.max(1)) * u128::from(ready.calls().max(1));
+        let nanos = if is_timed {
+            spent.as_nanos() / calls
+        } else {
+            0
+        };
+        println!(rt; "{name}: {nanos} ns ({sum})")?;
     }
     Ok(())
 }
