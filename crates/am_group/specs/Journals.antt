@@ -3,9 +3,21 @@ use Rattle.std.specs.Prelude.{◌≡◌, ℕ, zero, suc, ◌+◌, ◌*◌, ◌<�
 use Rattle.std.specs.List.{flat_map, range_with_len}
 use Rattle.am_base.specs.Most.{most_events}
 use Rattle.am_base.specs.Founding.{Rules}
+use Rattle.am_base.specs.declared.outcome.Outcome.{Outcome}
 use Rattle.am_packet.specs.Boxes.{Letter}
+use Rattle.am_group.specs.declared.event.By.{By}
+use Rattle.am_group.specs.declared.event.Event.{Event}
+use Rattle.am_group.specs.declared.event.Part.TheVariants.{Call}
 use Rattle.am_group.specs.declared.event.Record.{Record}
 use Rattle.am_group.specs.declared.journal.Place.{Place}
+
+-- whose event it is that no caller did
+abbrev pub no_caller : By
+no_caller = record { caller = 0; call = 0; part = Call }
+
+-- the record of an event that no caller did
+abbrev pub the_record : Event → ℕ → Outcome → List Letter → Record
+the_record e life outcome letters = record { event = e; life = life; by = no_caller; outcome = outcome; packets = letters }
 
 -- all letters that the records sent, in order
 abbrev pub letters_of : List Record → List Letter

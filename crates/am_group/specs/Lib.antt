@@ -2,3 +2,4 @@ pub mod Journals
 pub mod Addressed
 pub mod Deliveries
 pub mod Groups
+pub mod Asked

@@ -1,11 +1,13 @@
 ghost use Rattle.std.specs.Prelude.{◌≡◌, ◌+◌, ◌*◌, ◌<◌, ◌≤◌, ◌++◌, ◌∷◌, [], length, OnOk, IfOk, true, vec_len, vec_capacity, slice_get};
 ghost use Rattle.std.specs.Option.{option_copied};
 ghost use Rattle.am_base.specs.Most.{most_events};
-ghost use Rattle.am_group.specs.Journals.{letters_of, letter_at, letter_of, item_at, places_of};
+ghost use Rattle.am_group.specs.Journals.{letters_of, letter_at, letter_of, item_at, places_of, the_record};
 
-use crate::event::Record;
+use crate::event::{By, Event, Part, Record};
 use am_base::NoMemory;
 use am_base::founding::Founding;
+use am_base::items::Items;
+use am_base::outcome::Outcome;
 use am_packet::letter::Letter;
 use std::alloc::Global;
 use std::marker::Model;
@@ -90,6 +92,34 @@ impl Journal {
         self.places.reserve(24)
     }
 
+    /// A copy of an event for its record, for which there then is room.
+    pub fn copy_for(&mut self, event: &Event) -> Result<Event, NoMemory>
+        ensures copy { IfOk result (λ done. done ≡ event.now) }
+        ensures room { OnOk result (self.new.has_room ≡ true) }
+        ensures founding { self.new.founding ≡ self.old.founding }
+        ensures records { self.new.records ≡ self.old.records }
+    {
+        self.reserve()?;
+        event.try_copy()
+    }
+
+    /// The record of an event of which this outcome came, and no letter. There then is room for it.
+    pub fn record_for(
+        &mut self,
+        alloc: Global,
+        event: &Event,
+        life: u8,
+        outcome: Outcome,
+    ) -> Result<Record, NoMemory>
+        ensures value { IfOk result (λ r. r ≡ the_record event.now life outcome []) }
+        ensures room { OnOk result (self.new.has_room ≡ true) }
+        ensures founding { self.new.founding ≡ self.old.founding }
+        ensures records { self.new.records ≡ self.old.records }
+    {
+        let done = self.copy_for(event)?;
+        Ok(record_of(done, life, outcome, Items::new(alloc)))
+    }
+
     /// Adds a record at the end. It takes no memory.
     #[inline(always)]
     pub fn push(&mut self, item: Record)
@@ -120,6 +150,23 @@ impl Journal {
             Some(place) => letter_in(self.records.as_slice(), place),
             None => None,
         }
+    }
+}
+
+/// The record of an event that no caller did, of which this outcome and these letters came.
+pub fn record_of(event: Event, life: u8, outcome: Outcome, packets: Items<Letter>) -> Record
+    ensures { result ≡ the_record event life outcome packets }
+{
+    Record {
+        event,
+        life,
+        by: By {
+            caller: 0,
+            call: 0,
+            part: Part::Call,
+        },
+        outcome,
+        packets,
     }
 }
 

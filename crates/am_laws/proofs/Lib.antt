@@ -55,3 +55,10 @@ pub mod New
 pub mod Members
 pub mod MembersRuns
 pub mod Watched
+pub mod StoredWords
+pub mod Fresh
+pub mod Start
+pub mod StoredViews
+pub mod StoredPieces
+pub mod StoredSteps
+pub mod Stored

@@ -17,10 +17,9 @@ use Rattle.am_group.specs.declared.event.Act.{Act}
 use Rattle.am_group.specs.declared.event.Act.TheVariants as act
 use Rattle.am_group.specs.declared.event.Event.{Event}
 use Rattle.am_group.specs.declared.event.Record.{Record}
-use Rattle.am_group.specs.declared.event.By.{By}
-use Rattle.am_group.specs.declared.event.Part.TheVariants.{Call}
 use Rattle.am_parts.specs.Cores.{CoreState}
-use Rattle.am_group.specs.Journals.{letter_at}
+use Rattle.am_group.specs.Journals.{letter_at, the_record}
+pub use Rattle.am_group.specs.Journals.{no_caller}
 use Rattle.am_group.specs.Addressed.{is_for}
 use Rattle.am_model.specs.Node.{Node, is_member, has_departed, image_of, view, members, set_at, founder, stranger, founding_stamp, founders_view}
 use Rattle.am_model.specs.Emit.{Step}
@@ -100,13 +99,9 @@ views_after views m n = if decides m n then views ++ last_view n ∷ [] else vie
 
 -- ---- events
 
--- a run on its own has no callers
-abbrev pub no_caller : By
-no_caller = record { caller = 0; call = 0; part = Call }
-
 -- what came of an event, done by the current life of its place
 abbrev pub record_of : World → Event → Outcome → List Letter → Record
-record_of w e outcome letters = record { event = e; life = w.lives (place_of e.node); by = no_caller; outcome = outcome; packets = letters }
+record_of w e outcome letters = the_record e (w.lives (place_of e.node)) outcome letters
 
 -- an event that changes no node
 unfoldable pub with_record : World → Event → Outcome → World

@@ -12,17 +12,17 @@ use Rattle.am_group.specs.declared.event.Act.TheVariants as act
 use Rattle.am_play.specs.World as model
 use Rattle.am_play.specs.Play.{count_outcomes}
 use Rattle.am_play.proofs.Runs.{one_record_each}
-use Rattle.am_world.specs.Asked.{hears}
+use Rattle.am_group.specs.Asked.{hears}
 use Rattle.am_pump.specs.declared.course.Counts.{Counts}
-use Rattle.am_world.specs.declared.places.Places.{Places}
+use Rattle.am_pump.specs.declared.places.Places.{Places}
 use Rattle.am_watcher.specs.declared.watcher.Watcher.{Watcher}
-use Rattle.am_world.specs.Places.{Begins, Moves}
+use Rattle.am_pump.specs.Places.{Begins, Moves}
 use Rattle.am_pump.specs.Courses.{first_lives, no_flags, Stands, Counted, counts_after, bit, IsBelow, IsCalm}
 use Rattle.am_world.proofs.{Begins.first_run, Begins.lives_at, Begins.none_at, Comes.gone_now, Comes.place_now, Comes.happens_comes, Goes.play_more, Goes.pass_goes_on, Acts.act_goes_on, Acts.ready_at}
-use Rattle.am_world.specs.declared.asked.Heard.{Heard}
+use Rattle.am_group.specs.declared.asked.Heard.{Heard}
 use Rattle.am_world.proofs.Words.{IsPacket, same_Some}
 use Rattle.am_world.proofs.Heard.{found_packet}
-use Rattle.am_world.proofs.Words.{drop, slice_get, Entry, IsEndOf, state_of, told_step}
+use Rattle.am_world.proofs.Words.{drop, slice_get, Entry, IsEndOf, state_of, shown_of, told_step}
 use Rattle.am_world.proofs.Kept.{begin_is_watched, act_is_watched}
 
 -- ---- before anything happened
@@ -265,7 +265,7 @@ pub step_watched : (p : Play) (e : Event) (outcome : Outcome) (letters : List Le
     → name ≡ current (replay p) (place_of e.node) → happens (replay p) e ≡ comes (replay p) e (Ok what)
     → watching_of reserved ≡ watching_of watcher → known ≡ length places.group.items → group ≡ new.group.items
     → slice_get new.nodes.items (place_of name) ≡ Some n
-    → watching_of next ≡ told_step (watching_of reserved) name (state_of n) what (known + 1) (drop known group) → IsWatched (after p e) (watching_of next)
+    → watching_of next ≡ told_step (watching_of reserved) name (shown_of (state_of n)) what (known + 1) (drop known group) → IsWatched (after p e) (watching_of next)
 step_watched p e outcome letters places new watcher reserved next name what n known group s g here is same long grown at told =
     let end = shown_end p e outcome letters new name n g (placed_at p e places watcher name s here) at in
     subst (IsWatched (after p e)) (sym told)

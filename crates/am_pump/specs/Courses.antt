@@ -13,7 +13,7 @@ use Rattle.am_play.specs.World.{World, current, happens}
 use Rattle.am_play.specs.Play.{count_outcomes}
 use Rattle.am_pump.specs.declared.course.Course.{Course}
 use Rattle.am_pump.specs.declared.course.Counts.{Counts}
-use Rattle.am_world.specs.declared.places.Places.{Places}
+use Rattle.am_pump.specs.declared.places.Places.{Places}
 use Rattle.am_watcher.specs.declared.watcher.Watcher.{Watcher}
 use Rattle.am_world.specs.Asked.{comes}
 use Rattle.am_world.specs.Runs.{Play, replay, after, play_of, IsRun, Answers}

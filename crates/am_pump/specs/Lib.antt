@@ -1,3 +1,4 @@
 pub mod Generating
 pub mod Counts
+pub mod Places
 pub mod Courses

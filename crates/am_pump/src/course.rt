@@ -7,11 +7,12 @@ ghost use Rattle.am_group.specs.declared.event.Event.{Event};
 ghost use Rattle.am_group.specs.Addressed.{next_for};
 ghost use Rattle.am_group.specs.Journals.{letter_at};
 ghost use Rattle.am_play.specs.Lawful.{broken_at};
-ghost use Rattle.am_world.specs.Asked as asks;
-ghost use Rattle.am_world.specs.Asked.{SpellsPacket};
+ghost use Rattle.am_group.specs.Asked as asks;
+ghost use Rattle.am_group.specs.Asked.{SpellsPacket};
 ghost use Rattle.am_world.specs.Runs.{Play, after, replay, Answers};
 ghost use Rattle.am_pump.specs.Courses.{no_flags, counts_after, Acts, IsCalm, IsCourse, IsBelow, entries_of, events_done, letters_sent};
 
+use crate::places::Places;
 use am_base::NoMemory;
 use am_base::event::NodeEvent;
 use am_base::founding::Founding;
@@ -20,12 +21,11 @@ use am_base::limits::MOST_EVENTS;
 use am_base::name::Name;
 use am_base::outcome::Outcome;
 use am_group::addressed::is_for;
+use am_group::asked::keep_room;
 use am_group::event::{Act, Event};
 use am_packet::letter::Letter;
 use am_watcher::watcher::Watcher;
-use am_world::asked::keep_room;
-use am_world::places::Places;
-use am_world::watching::note_step;
+use am_world::watching::shown_by;
 use am_world::world::WorldRefusal;
 use std::alloc::Global;
 use std::mem;
@@ -224,14 +224,9 @@ impl Course {
         self.watcher.reserve()?;
         let known = self.places.group().len();
         let outcome = self.places.act(name, &what, self.counts.events as usize)?;
-        note_step(
-            &mut self.watcher,
-            name,
-            self.places.node(name),
-            &what,
-            self.places.group(),
-            known,
-        );
+        let shown = shown_by(self.places.node(name));
+        self.watcher
+            .note_step(name, &shown, &what, self.places.group(), known);
         keep_room(&mut self.heard, what);
         self.counts.add(&outcome);
         Ok(outcome)

@@ -4,3 +4,4 @@
 pub mod course;
 pub mod generate;
 mod generator;
+pub mod places;

@@ -1,2 +1,3 @@
 pub mod WatchWords
 pub mod Accepts
+pub mod Tellings

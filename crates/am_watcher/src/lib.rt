@@ -2,5 +2,6 @@
 //! known whether the run is lawful.
 #![tactic(auto)]
 
+pub mod telling;
 pub mod views;
 pub mod watcher;

@@ -8,7 +8,8 @@ use am_base::name::{Name, Stamp};
 use am_model::status::Status;
 use am_watching::views::{DecidedView, Pending, Standing};
 
-fn is_member(status: Status) -> bool
+/// Whether a name of this status is a member.
+pub fn is_member(status: Status) -> bool
     ensures { result ≡ is_member status }
 {
     match status {
@@ -37,7 +38,8 @@ fn is_same_flag(a: bool, b: bool) -> bool
     if a { b } else { !b }
 }
 
-fn is_same_stamp(a: &Stamp, b: &Stamp) -> bool
+/// Whether two stamps are the same.
+pub fn is_same_stamp(a: &Stamp, b: &Stamp) -> bool
     ensures { result ≡ stamp_eq a.now b.now }
 {
     a.round == b.round && a.by == b.by

@@ -28,6 +28,19 @@ pub struct Standing {
     pub from: u32,
 }
 
+/// What a watcher is told of a node, once it did a step.
+#[derive(Clone, Copy)]
+pub struct Shown {
+    /// How it stands to the group.
+    pub status: Status,
+    /// The number of its own Join, 1 for a founder, 0 where it has no list.
+    pub start: u32,
+    /// The number up to which its list is trimmed.
+    pub base: u32,
+    /// The view in which its list ends.
+    pub view: DecidedView,
+}
+
 /// A view that isn't complete: who stored its View in a list of its own, and where that stands in the group list.
 #[derive(Drop)]
 pub struct Pending {

@@ -7,7 +7,8 @@ use Rattle.am_world.proofs.Words.{HasNumbersLeft, Play, replay, after, AreNodes,
 use Rattle.am_world.proofs.Words.{end_high, step_end, NodeNumbers, get_some}
 use Rattle.am_model.specs.Node as protocol
 use Rattle.am_play.specs.World as model
-use Rattle.am_world.proofs.{Numbers.low, Numbers.trimmed_low, Spots.get_set_here, Spots.get_set_other, Comes.place_now, Begins.Keeps, Goes.IsRecorded}
+use Rattle.am_laws.proofs.Fresh.{place_now}
+use Rattle.am_world.proofs.{Numbers.low, Numbers.trimmed_low, Spots.get_set_here, Spots.get_set_other, Begins.Keeps, Goes.IsRecorded}
 use Rattle.am_world.proofs.{Goes.Follows, Goes.goes_on, Goes.shows_at, Goes.replay_after}
 
 -- ---- the end of a node

@@ -4,18 +4,11 @@ use Rattle.am_world.proofs.Words.{refl, sym, ap, ◌∙◌, subst, arith, OnOk, 
 use Rattle.am_world.proofs.Words.{IsPacket, spelling, Act, Event, letter_at, is_for, Step, step, hear, World, current, is_stopped, with_record, with_step}
 use Rattle.am_world.proofs.Words.{hears_letter, hear_cut, comes_back, lives_on, acts_as, happens, has_departed, spelling_is_heard, cut_is_heard, flag_of}
 use Rattle.am_world.proofs.Words.{if_running, first_bytes, gives_up, stops, returns, event_or_answer, SpellsPacket, after_answer, comes}
-use Rattle.am_world.specs.Asked.{hears}
+use Rattle.am_laws.proofs.Fresh.{place_now, life_now}
+use Rattle.am_group.specs.Asked.{hears}
 use Rattle.am_base.specs.declared.outcome.Outcome.TheVariants as said
 use Rattle.am_base.specs.declared.event.NodeEvent.TheVariants as does
 use Rattle.am_group.specs.declared.event.Act.TheVariants as act
-
--- ---- names of places
-
-pub place_now : (place life : ℕ) → place < 16 → place_of (name_at place life) ≡ place
-place_now place life h = omega arith
-
-pub life_now : (place life : ℕ) → place < 16 → 0 < life → life_of (name_at place life) ≡ life
-life_now place life h l = omega arith
 
 -- ---- acts
 

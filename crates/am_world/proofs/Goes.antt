@@ -6,7 +6,8 @@ use Rattle.am_world.proofs.Words.{Err, OnOk, IfOk, runs_go_on, Node, Play, repla
 use Rattle.am_world.proofs.Words.{Answers, event_or_answer, comes, SpellsPacket}
 use Rattle.am_play.specs.World as model
 use Rattle.am_model.specs.Node as protocol
-use Rattle.am_world.proofs.Comes.{life_now, happens_comes}
+use Rattle.am_laws.proofs.Fresh.{life_now}
+use Rattle.am_world.proofs.Comes.{happens_comes}
 
 -- what holds of a value by two facts of it
 pub if_both : {A E : Type 0} (r : Result A E) (P Q S : A → Type 0) → ((x : A) → P x → Q x → S x) → IfOk r P → IfOk r Q → IfOk r S

@@ -5,14 +5,15 @@ use Rattle.am_world.proofs.Words.{members_of, end-told, view, set_at, step, run,
 use Rattle.am_world.proofs.Words.{watch_all, watch_run, IsEndOf, watched_is_run, Standing, Watching, first_watching, standing, watched_step, stop, pass}
 use Rattle.am_world.proofs.Words.{accept, Watches, Steps, SteppedTo, standing_of, view_of, additions, IsNew, watched_after, stepped_to, steps_are_watched}
 use Rattle.am_world.proofs.Words.{stop_is_watched, pass_is_watched, return_is_watched, beginning_is_kept, Play, replay, after_answer, comes, begins}
-use Rattle.am_world.proofs.Words.{standing_after, stored_of, told_step, stops_by, IsWatched, actor, few_names, run_named}
+use Rattle.am_world.proofs.Words.{standing_after, shown_of, stored_of, told_step, stops_by, IsWatched, actor, few_names, run_named}
 use Rattle.am_play.specs.World.{decides}
 use Rattle.am_watching.specs.Watches.{after}
 use Rattle.am_base.specs.declared.outcome.Outcome.TheVariants as said
 use Rattle.am_model.specs.Node as protocol
 use Rattle.am_play.specs.World as model
 use Rattle.am_world.specs.Runs as runs
-use Rattle.am_world.proofs.{Goes.replay_after, Acts.end_base, Stored.step_facts, Stored.begins_at, Stored.stores}
+use Rattle.am_laws.proofs.Stored.{step_facts, begins_at, stores}
+use Rattle.am_world.proofs.{Goes.replay_after, Acts.end_base}
 
 -- ---- how many events there were
 
@@ -40,7 +41,7 @@ end_view_of all m is = ap (λ (i : Image). record { number = i.view_number; stam
     (end-told all.core.log m.core.log is.stands.kept)
 
 end_standing : (before : Standing) (all m : protocol.Node) → IsEndOf all m
-    → all.core.log.start ≡ (if begins before all.status then all.core.base else before.from) → standing_after before m ≡ standing_of all
+    → all.core.log.start ≡ (if begins before all.status then all.core.base else before.from) → standing_after before (shown_of m) ≡ standing_of all
 end_standing before all m is from =
     let status = ap (λ (n : protocol.Node). n.status) is.same in
     let start = ap (λ (n : protocol.Node). n.core.start) is.same in
@@ -57,12 +58,12 @@ drop_known (x ∷ group) more = drop_known group more
 -- ---- a name's step
 
 told_as : (k : Watching) (name : ℕ) (what : NodeEvent) (m n : protocol.Node) (number count : ℕ) (group more : List Entry) (before : Standing)
-    → standing k name ≡ before → standing_after before m ≡ standing_of n → view_of m ≡ view_of n → number ≡ count → group ≡ more
-    → told_step k name m what number group ≡ accept (watched_step k name (standing_of n) (view_of n) (stored_of name before (standing_of n) (view_of n) what))
+    → standing k name ≡ before → standing_after before (shown_of m) ≡ standing_of n → view_of m ≡ view_of n → number ≡ count → group ≡ more
+    → told_step k name (shown_of m) what number group ≡ accept (watched_step k name (standing_of n) (view_of n) (stored_of name before (standing_of n) (view_of n) what))
     count more
 unfolding told_step
 told_as k name what m n number count group more before was stands ends counted grown =
-    ap (λ b. accept (watched_step k name (standing_after b m) (view_of m) (stored_of name b (standing_after b m) (view_of m) what)) number group) was
+    ap (λ b. accept (watched_step k name (standing_after b (shown_of m)) (view_of m) (stored_of name b (standing_after b (shown_of m)) (view_of m) what)) number group) was
     ∙ ap (λ a. accept (watched_step k name a (view_of m) (stored_of name before a (view_of m) what)) number group) stands
     ∙ ap (λ v. accept (watched_step k name (standing_of n) v (stored_of name before (standing_of n) v what)) number group) ends
     ∙ ap (λ c. accept (watched_step k name (standing_of n) (view_of n) (stored_of name before (standing_of n) (view_of n) what)) c group) counted
@@ -75,7 +76,7 @@ lives_stay w e what = refl
 act_at : (p : Play) (k : Watching) (e : Event) (what : NodeEvent) (m : protocol.Node) (known : ℕ) (group : List Entry)
     → MayFound p.rules → IsWatched p k → actor (replay p) e < 256 → happens (replay p) e ≡ comes (replay p) e (Ok what)
     → IsEndOf ((replay (runs.after p e)).nodes (actor (replay p) e)) m → known ≡ length (replay p).group → group ≡ (replay (runs.after p e)).group
-    → IsWatched (runs.after p e) (told_step k (actor (replay p) e) m what (known + 1) (drop known group))
+    → IsWatched (runs.after p e) (told_step k (actor (replay p) e) (shown_of m) what (known + 1) (drop known group))
 act_at p k e what m known group may kept within is end known_is group_is =
     let w = replay p in
     let s = watch_run p.rules p.events in
@@ -115,14 +116,14 @@ act_at p k e what m known group may kept within is end known_is group_is =
 pub act_is_watched : (p : Play) (k : Watching) (e : Event) (name : ℕ) (what : NodeEvent) (m : protocol.Node) (known : ℕ) (group : List Entry)
     → MayFound p.rules → IsWatched p k → name ≡ current (replay p) (place_of e.node) → happens (replay p) e ≡ comes (replay p) e (Ok what)
     → IsEndOf ((replay (runs.after p e)).nodes (current (replay (runs.after p e)) (place_of e.node))) m → known ≡ length (replay p).group
-    → group ≡ (replay (runs.after p e)).group → IsWatched (runs.after p e) (told_step k name m what (known + 1) (drop known group))
+    → group ≡ (replay (runs.after p e)).group → IsWatched (runs.after p e) (told_step k name (shown_of m) what (known + 1) (drop known group))
 act_is_watched p k e name what m known group may kept here is end known_is group_is =
     let w = replay p in
     let now : replay (runs.after p e) ≡ comes w e (Ok what) = replay_after p e ∙ is in
     let stays : current (replay (runs.after p e)) (place_of e.node) ≡ actor w e = ap (λ (x : model.World). current x (place_of e.node)) now
     ∙ lives_stay w e what in
     let end_at : IsEndOf ((replay (runs.after p e)).nodes (actor w e)) m = subst (λ j. IsEndOf ((replay (runs.after p e)).nodes j) m) stays end in
-    subst (λ j. IsWatched (runs.after p e) (told_step k j m what (known + 1) (drop known group))) (sym here)
+    subst (λ j. IsWatched (runs.after p e) (told_step k j (shown_of m) what (known + 1) (drop known group))) (sym here)
     (act_at p k e what m known group may kept (few_names p.rules w e (run_named p.rules p.events may)) is end_at known_is group_is)
 
 -- ---- an event that is no step

@@ -6,7 +6,8 @@ use Rattle.am_world.proofs.Words.{state_of, Play, replay, AreNodes, AreLives, Ar
 use Rattle.am_world.proofs.Words.{get_or-set_other}
 use Rattle.am_base.specs.declared.outcome.Outcome.TheVariants as said
 use Rattle.am_play.specs.World as model
-use Rattle.am_world.proofs.{Fresh.fresh, Spots.get_set_here, Spots.get_set_other, Comes.place_now, Comes.life_now, Begins.Keeps, Begins.stranger_keeps}
+use Rattle.am_laws.proofs.Fresh.{fresh, place_now, life_now}
+use Rattle.am_world.proofs.{Spots.get_set_here, Spots.get_set_other, Begins.Keeps, Begins.stranger_keeps}
 use Rattle.am_world.proofs.{Goes.IsRecorded, Goes.goes_on, Goes.shows_at, Stops.flags_more, Stops.flags_again, Stops.name_within}
 
 lives_more : (w : model.World) (lives : List ℕ) (place life : ℕ) → place < 16 → life ≡ w.lives place + 1 → life ≤ 16 → AreLives lives w

@@ -2,5 +2,4 @@ pub mod Runs
 pub mod Asked
 pub mod Moves
 pub mod Watched
-pub mod Places
 pub mod Settling

@@ -10,7 +10,7 @@ use Rattle.am_group.specs.declared.event.Event.{Event}
 use Rattle.am_group.specs.declared.event.Record.{Record}
 use Rattle.am_group.specs.Journals.{letters_of}
 use Rattle.am_play.specs.World as model
-use Rattle.am_play.specs.World.{run, record_of, current, is_stopped, no_caller}
+use Rattle.am_play.specs.World.{run, record_of, current, is_stopped}
 use Rattle.am_model.specs.Ends.{IsEndOf}
 use Rattle.am_node.specs.declared.node.Node.{Node}
 use Rattle.am_node.specs.Stands.{state_of}
@@ -66,10 +66,6 @@ pub record IsRun (p : Play) (nodes : List Node) (lives : List ℕ) (flags : List
 -- what the records were made by
 abbrev pub play_of : Rules → List Record → Play
 play_of rules records = record { rules = rules; events = map (λ r. r.event) records }
-
--- a record without a caller
-abbrev pub the_record : Event → ℕ → Outcome → List Letter → Record
-the_record e life outcome letters = record { event = e; life = life; by = no_caller; outcome = outcome; packets = letters }
 
 -- the event's record has this outcome
 abbrev pub Answers : Play → Event → Outcome → Type 0

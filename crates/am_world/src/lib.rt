@@ -2,9 +2,7 @@
 //! event by event.
 #![tactic(auto)]
 
-pub mod asked;
 pub mod nodes;
-pub mod places;
 pub mod records;
 pub mod run;
 pub mod settle;

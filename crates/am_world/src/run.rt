@@ -3,13 +3,13 @@ ghost use Rattle.am_base.specs.declared.outcome.Outcome.TheVariants as said;
 ghost use Rattle.am_base.specs.Most.{most_events};
 ghost use Rattle.am_base.specs.Founding.{MayFound};
 ghost use Rattle.am_base.specs.Names.{has, name_at, life_of};
-ghost use Rattle.am_play.specs.World.{first_node, record_of, start};
+ghost use Rattle.am_play.specs.World.{first_node, start};
 ghost use Rattle.am_model.specs.Node.{has_departed};
 ghost use Rattle.am_model.specs.Ends.{IsEndOf};
 ghost use Rattle.am_node.specs.Stands.{state_of};
-ghost use Rattle.am_world.specs.Runs.{AreNodes, AreFirst, the_record};
+ghost use Rattle.am_group.specs.Journals.{the_record};
+ghost use Rattle.am_world.specs.Runs.{AreNodes, AreFirst};
 
-use crate::asked::{call_or_answer, first_bytes, heard_by, is_stopped};
 use crate::nodes::{grow, make_room, packets_of, room_at};
 use am_base::NoMemory;
 use am_base::entry::Entry;
@@ -20,8 +20,9 @@ use am_base::limits::MOST_EVENTS;
 use am_base::name::Name;
 use am_base::outcome::Outcome;
 use am_group::addressed::is_for;
-use am_group::event::{By, Event, Part, Record};
-use am_group::journal::Journal;
+use am_group::asked::{call_or_answer, first_bytes, heard_by, is_stopped};
+use am_group::event::{Event, Record};
+use am_group::journal::{Journal, record_of};
 use am_letter::out_box::Rooms;
 use am_model::status::Status;
 use am_node::founding::{Room, founders_view};
@@ -44,7 +45,7 @@ fn first_node(room: Room, name: Name, founding: &Founding) -> Node
 
 /// The sixteen nodes of a group to which nothing has happened. Each goes where it stays: nodes are large.
 #[tactic(auto, using(crate::proofs::Begins::begins))]
-pub(crate) fn sixteen(alloc: Global, founding: &Founding) -> Result<Vec<Node>, NoMemory>
+pub fn sixteen(alloc: Global, founding: &Founding) -> Result<Vec<Node>, NoMemory>
     ensures { IfOk result (λ v. AreNodes v.items (start founding.now)) }
 {
     let mut nodes = Vec::with_capacity(alloc, 16)?;
@@ -54,51 +55,6 @@ pub(crate) fn sixteen(alloc: Global, founding: &Founding) -> Result<Vec<Node>, N
         nodes.push_reserved(node);
     }
     Ok(nodes)
-}
-
-/// The record of an event of which this outcome and these letters came.
-fn record_of(event: Event, life: u8, outcome: Outcome, packets: Items<Letter>) -> Record
-    ensures { result ≡ the_record event life outcome packets }
-{
-    Record {
-        event,
-        life,
-        by: By {
-            caller: 0,
-            call: 0,
-            part: Part::Call,
-        },
-        outcome,
-        packets,
-    }
-}
-
-/// A copy of an event for its record, for which the journal then has room.
-fn copied(journal: &mut Journal, event: &Event) -> Result<Event, NoMemory>
-    ensures copy { IfOk result (λ done. done ≡ event.now) }
-    ensures room { OnOk result (journal.new.has_room ≡ true) }
-    ensures founding { journal.new.founding ≡ journal.old.founding }
-    ensures records { journal.new.records ≡ journal.old.records }
-{
-    journal.reserve()?;
-    event.try_copy()
-}
-
-/// The record of an event of which this outcome came, and no letter. The journal then has room for it.
-fn new_record(
-    alloc: Global,
-    journal: &mut Journal,
-    event: &Event,
-    life: u8,
-    outcome: Outcome,
-) -> Result<Record, NoMemory>
-    ensures value { IfOk result (λ r. r ≡ the_record event.now life outcome []) }
-    ensures room { OnOk result (journal.new.has_room ≡ true) }
-    ensures founding { journal.new.founding ≡ journal.old.founding }
-    ensures records { journal.new.records ≡ journal.old.records }
-{
-    let done = copied(journal, event)?;
-    Ok(record_of(done, life, outcome, Items::new(alloc)))
 }
 
 /// The record of a return to life, and room for the node of that life. The journal then has room for the record.
@@ -116,13 +72,7 @@ fn new_life(
     ensures founding { journal.new.founding ≡ journal.old.founding }
     ensures records { journal.new.records ≡ journal.old.records }
 {
-    let record = new_record(
-        alloc,
-        journal,
-        event,
-        name.life(),
-        Outcome::Returned { life },
-    )?;
+    let record = journal.record_for(alloc, event, name.life(), Outcome::Returned { life })?;
     let room = Room::new(alloc, journal.founding())?;
     Ok((record, room))
 }
@@ -250,7 +200,9 @@ impl Run {
         ensures one { OnOk result (IsOneMore self.old event.now) }
         ensures err { OnErr result (self.new ≡ self.old) }
     {
-        let record = new_record(self.alloc, &mut self.journal, event, name.life(), outcome)?;
+        let record = self
+            .journal
+            .record_for(self.alloc, event, name.life(), outcome)?;
         self.journal.push(record);
         Ok(())
     }
@@ -265,13 +217,9 @@ impl Run {
         ensures one { OnOk result (IsOneMore self.old event.now) }
         ensures err { OnErr result (self.new ≡ self.old) }
     {
-        let record = new_record(
-            self.alloc,
-            &mut self.journal,
-            event,
-            name.life(),
-            Outcome::Stopped,
-        )?;
+        let record = self
+            .journal
+            .record_for(self.alloc, event, name.life(), Outcome::Stopped)?;
         self.stopped[usize::from(name.get())] = true;
         self.journal.push(record);
         Ok(())
@@ -328,7 +276,7 @@ impl Run {
         ensures err { OnErr result (self.new ≡ self.old) }
     {
         make_room(&mut self.group, self.journal.records().len() + 2)?;
-        let done = copied(&mut self.journal, event)?;
+        let done = self.journal.copy_for(event)?;
         let (spare, mut out) = room_at(self.alloc, &self.nodes, name, what, &mut self.rooms)?;
         let node = &mut self.nodes[usize::from(name.place())];
         let outcome = node.step(what, spare, &mut out);

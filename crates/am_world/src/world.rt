@@ -2,22 +2,22 @@ ghost use Rattle.std.specs.Prelude.{◌≡◌, ◌+◌, ◌≤◌, [], length, I
 ghost use Rattle.am_base.specs.Most.{most_events};
 ghost use Rattle.am_model.specs.Ends.{IsEndOf};
 ghost use Rattle.am_play.specs.Lawful.{broken_at};
-ghost use Rattle.am_world.specs.Watched.{stops_by};
 ghost use Rattle.am_base.specs.Names.{place_of};
 
-use crate::asked::keep_room;
 use crate::run::Run;
-use crate::watching::{has_log, note_answer, note_step};
+use crate::watching::shown_by;
 use am_base::NoMemory;
 use am_base::entry::Entry;
 use am_base::founding::Founding;
 use am_base::limits::MOST_EVENTS;
 use am_base::name::Name;
 use am_base::outcome::Outcome;
+use am_group::asked::keep_room;
 use am_group::event::Event;
 use am_group::journal::Journal;
 use am_model::info::Info;
 use am_node::node::Node;
+use am_watcher::telling::{has_log, stops_by};
 use am_watcher::watcher::Watcher;
 use std::alloc::Global;
 use std::marker::Model;
@@ -38,17 +38,6 @@ impl From<NoMemory> for WorldRefusal {
 
     fn from(_error: NoMemory) -> WorldRefusal {
         WorldRefusal::NoMemory
-    }
-}
-
-/// Whether a name that has or hasn't stopped stops by an answer: by its own event, or because its place returns.
-fn stops_by(has_stopped: bool, outcome: &Outcome) -> bool
-    ensures { result ≡ stops_by has_stopped outcome.now }
-{
-    match outcome {
-        Outcome::Stopped => true,
-        Outcome::Returned { .. } => !has_stopped,
-        _ => false,
     }
 }
 
@@ -188,7 +177,7 @@ impl World {
         self.watcher.reserve()?;
         let stops = stops_by(self.run.is_stopped(name), &outcome);
         self.run.answer(event, name, outcome)?;
-        note_answer(&mut self.watcher, name, stops);
+        self.watcher.note_answer(name, stops);
         Ok(())
     }
 
@@ -208,14 +197,9 @@ impl World {
                 self.watcher.reserve()?;
                 let known = self.run.group().len();
                 self.run.act(event, name, &what)?;
-                note_step(
-                    &mut self.watcher,
-                    name,
-                    self.run.node(event.node),
-                    &what,
-                    self.run.group(),
-                    known,
-                );
+                let shown = shown_by(self.run.node(event.node));
+                self.watcher
+                    .note_step(name, &shown, &what, self.run.group(), known);
                 keep_room(&mut self.heard, what);
             }
             Err(outcome) => self.answer(event, name, outcome)?,

@@ -1,5 +1,5 @@
 use Rattle.am_world.proofs.Words.{◌≡◌, ◌++◌, Ok, Err, Some, None, sym, ap, ◌∙◌, option_copied, letter_at, flag_of, first_bytes, OnOk, Letter, Act, SpellsPacket, heard_of, IsPacket}
-use Rattle.am_world.specs.declared.asked.Heard.{Heard}
+use Rattle.am_group.specs.declared.asked.Heard.{Heard}
 use Rattle.am_base.specs.declared.event.NodeEvent.TheVariants as does
 use Rattle.am_base.specs.declared.outcome.Outcome.TheVariants as said
 use Rattle.am_pump.specs.Courses.{no_flags}

@@ -1,5 +1,5 @@
 use Rattle.am_world.proofs.Words.{◌≡◌, ◌+◌, ◌<◌, length, refl, sym, ap, ◌∙◌, subst, arith, length-append, place_of, NodeEvent, Event, Outcome, current, IsEndOf, Node, state_of, Watching}
-use Rattle.am_world.proofs.Words.{watching_of, Play, replay, after, most_events}
+use Rattle.am_world.proofs.Words.{drop, told_step, watching_of, Play, replay, after, most_events}
 use Rattle.am_pump.proofs.Courses.{ready_now, step_gone, stands_on, grown_short, step_watched, counted_more, counted_low}
 use Rattle.am_world.proofs.{Kept.count_of}
 use Rattle.am_pump.specs.Courses.{Counted}
@@ -41,11 +41,12 @@ returns-clause-ok c = λ p e a.
     let new = c.act.new.self in
     let moves = c.in_ok-outcome.ensures.moves in
     let g = step_gone p e s.places new s.watcher c.args.name c.args.what outcome a.course.stands a.few a.named a.comes_ moves in
-    let watched = step_watched p e outcome moves.sent s.places new s.watcher c.reserve.new.self c.note_step.new.watcher c.args.name c.args.what c.node.result.now
+    let watched = step_watched p e outcome moves.sent s.places new s.watcher c.reserve.new.self c.note_step.new.self c.args.name c.args.what c.node.result.now
     (length c.group-known.result.now) c.group.result.now a.course.stands g a.named a.comes_ c.reserve.ensures.same (ap length c.group-known.ensures)
-    c.group.ensures c.node.ensures c.note_step.ensures in (
+    c.group.ensures c.node.ensures (c.note_step.ensures ∙ ap (λ n. told_step (watching_of c.reserve.new.self) c.args.name n c.args.what
+    (length c.group-known.result.now + 1) (drop (length c.group-known.result.now) c.group.result.now)) c.shown_by-shown.ensures) in (
       record {
-        stands = stands_on p e outcome moves.sent s.places new s.watcher c.note_step.new.watcher a.course.stands g moves.few moves.letters watched;
+        stands = stands_on p e outcome moves.sent s.places new s.watcher c.note_step.new.self a.course.stands g moves.few moves.letters watched;
         counted = subst (Counted (after p e)) (sym c.add.ensures) (counted_more p e s.counts outcome a.course.counted g.answers);
       },
       g.answers,

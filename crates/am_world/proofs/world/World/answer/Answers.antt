@@ -21,4 +21,4 @@ invariant_of-self-2 c =
     let is = subst (λ (q : Play). happens (replay q) e ≡ after_answer (replay q) e c.args.outcome) (sym c.self.view_is) c.requires.comes in
     let done = answer_is_watched p k e c.args.name c.args.outcome c.stops_by-stops.result kept here is (c.stops_by-stops.ensures
     ∙ ap (λ b. stops_by b c.args.outcome) c.is_stopped.ensures) in
-    subst (λ q. IsWatched q (watching_of c.note_answer.new.watcher)) (sym made) (subst (IsWatched (after p e)) (sym c.note_answer.ensures) done)
+    subst (λ q. IsWatched q (watching_of c.note_answer.new.self)) (sym made) (subst (IsWatched (after p e)) (sym c.note_answer.ensures) done)

@@ -1,5 +1,5 @@
 use Rattle.am_world.proofs.Words.{◌≡◌, Ok, length, sym, ap, ◌∙◌, subst, arith, place_of, current, happens, IsEndOf, state_of, Watching, watching_of, comes}
-use Rattle.am_world.proofs.Words.{Play, after, replay, IsWatched}
+use Rattle.am_world.proofs.Words.{◌+◌, drop, told_step, Play, after, replay, IsWatched}
 use Rattle.am_world.proofs.Kept.{count_of, act_is_watched, group_longer}
 use Rattle.am_world.proofs.world.World.step.Goals as goal
 
@@ -31,6 +31,9 @@ invariant_of-self-in-Ok c =
     let is : happens (replay p) e ≡ comes (replay p) e (Ok c.in-Ok.what) = c.in_ok-what.ensures.comes ∙ ap (comes (replay p) e) c.in-Ok.is in
     let end = subst (λ (q : Play). IsEndOf ((replay q).nodes (current (replay q) (place_of e.node))) m) made c.node.ensures in
     let group = c.group.ensures.value ∙ ap (λ (q : Play). (replay q).group) made in
-    let done = act_is_watched p k e c.name_at-name.result c.in-Ok.what m (length c.group-known.result.now) c.group.result.now
+    let known = length c.group-known.result.now in
+    let told = c.note_step.ensures
+    ∙ ap (λ n. told_step k c.name_at-name.result n c.in-Ok.what (known + 1) (drop known c.group.result.now)) c.shown_by-shown.ensures in
+    let done = act_is_watched p k e c.name_at-name.result c.in-Ok.what m known c.group.result.now
     c.group-known.ensures.founded kept c.name_at-name.ensures is end (ap length c.group-known.ensures.value) group in
-    subst (λ q. IsWatched q (watching_of c.note_step.new.watcher)) (sym made) (subst (IsWatched (after p e)) (sym c.note_step.ensures) done)
+    subst (λ q. IsWatched q (watching_of c.note_step.new.self)) (sym made) (subst (IsWatched (after p e)) (sym told) done)

@@ -1,6 +1,6 @@
-use Rattle.am_world.proofs.Words.{sym, ap, ◌∙◌, with_entries, watching_of, one_of}
-use Rattle.am_world.proofs.Watches.{entries_none, entries_one}
-use Rattle.am_world.proofs.watching.store_one.Goals as goal
+use Rattle.am_watcher.proofs.WatchWords.{sym, ap, ◌∙◌, with_entries, watching_of, one_of}
+use Rattle.am_watcher.proofs.Tellings.{entries_none, entries_one}
+use Rattle.am_watcher.proofs.telling.store_one.Goals as goal
 
 pub returns-in-Some : goal.returns-in-Some
 returns-in-Some c =

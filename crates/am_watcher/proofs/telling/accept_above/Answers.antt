@@ -1,6 +1,6 @@
-use Rattle.am_world.proofs.Words.{◌+◌, ◌∙◌, arith, watching_of}
-use Rattle.am_world.proofs.Watches.{accepted_start, accepted_next, accepted_all}
-use Rattle.am_world.proofs.watching.accept_above.Goals as goal
+use Rattle.am_watcher.proofs.WatchWords.{◌+◌, ◌∙◌, arith, watching_of}
+use Rattle.am_watcher.proofs.Tellings.{accepted_start, accepted_next, accepted_all}
+use Rattle.am_watcher.proofs.telling.accept_above.Goals as goal
 
 pub loop-index-init : goal.loop-index-init
 loop-index-init c = accepted_start (watching_of c.args.watcher.now) (c.args.known + 1) c.args.group.now c.args.known

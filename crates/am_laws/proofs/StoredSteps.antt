@@ -1,15 +1,15 @@
 -- Which Views a step of any cause adds to a node's list, and that these are what a watcher is told.
-use Rattle.am_world.proofs.Words.{or_right, or_left, or-false, logged, stamp_itself, ◌≡◌, ℕ, ◌&&◌, ◌||◌, not, if◌then◌else◌, Bool, true, false, List, [], ◌∷◌}
-use Rattle.am_world.proofs.Words.{◌++◌, Option, Some, None, Ok, Err, refl, sym, ap, ◌∙◌, list_any, list_any-append, Outcome, Stamp, Entry, NodeEvent}
-use Rattle.am_world.proofs.Words.{stamp_eq, Packet, Piece, Read, reading, cause_of, Ballot, view, is_member, has_log, Step, finish, hear_row, read_row, step}
-use Rattle.am_world.proofs.Words.{row, hear, hear_refusal, is_view_of, split, Cause, hears, refuses, Effect, steps_have_effects, hearing_has_effects}
-use Rattle.am_world.proofs.Words.{refusing_has_effects, Balloted, OpenBallot, decides, standing_of, view_of, IsBare, begins, one_of, piece_in, fetched_from}
-use Rattle.am_world.proofs.Words.{entry_in, last_view, stored_of}
+use Rattle.am_laws.proofs.Words.{logged, stamp_itself, ◌≡◌, ℕ, ◌&&◌, ◌||◌, not, if◌then◌else◌, Bool, true, false, List, [], ◌∷◌, ◌++◌, Option, Some, None}
+use Rattle.am_laws.proofs.Words.{refl, sym, ap, ◌∙◌, list_any, list_any-append, Outcome, Stamp, Entry, NodeEvent, stamp_eq, Packet, Ballot, view, is_member}
+use Rattle.am_laws.proofs.Words.{has_log, Step, finish, hear_row, step, row, hear, hear_refusal, split, Cause, hears, Effect}
+use Rattle.am_laws.proofs.StoredWords.{or_right, or_left, or-false, Ok, Err, Piece, Read, reading, cause_of, read_row, is_view_of, refuses}
+use Rattle.am_laws.proofs.StoredWords.{steps_have_effects, hearing_has_effects, refusing_has_effects, Balloted, OpenBallot, decides, standing_of, view_of}
+use Rattle.am_laws.proofs.StoredWords.{IsBare, begins, one_of, piece_in, fetched_from, entry_in, last_view, stored_of}
 use Rattle.am_packet.specs.declared.packet.Packet.TheVariants.{Result}
 use Rattle.am_model.specs.Node.{Node}
 use Rattle.am_base.specs.declared.event.NodeEvent.TheVariants as does
-use Rattle.am_world.proofs.StoredViews.{has_view, IsAbove, BringsNone, Walked, still, more, new, walked}
-use Rattle.am_world.proofs.StoredPieces.{any_of, Adds, none, last, began, StepAdds, finish_adds, differs, piece_adds, result_adds}
+use Rattle.am_laws.proofs.StoredViews.{has_view, IsAbove, BringsNone, Walked, still, more, new, walked}
+use Rattle.am_laws.proofs.StoredPieces.{any_of, Adds, none, last, began, StepAdds, finish_adds, differs, piece_adds, result_adds}
 
 -- ---- what brings no View
 

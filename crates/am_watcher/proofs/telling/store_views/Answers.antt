@@ -1,8 +1,8 @@
-use Rattle.am_world.proofs.Words.{[], ◌∷◌, ◌++◌, ◌||◌, if◌then◌else◌, sym, ap, ◌∙◌, stamp_eq, decides, with_entries, watching_of, begins, entry_in, one_of}
-use Rattle.am_world.proofs.Words.{last_view}
-use Rattle.am_world.proofs.watching.store_views.Goals.{then-begins-via-then-begins, then-begins-via-else-begins+then-is_same_stamp}
-use Rattle.am_world.proofs.Watches.{views_new, views_none}
-use Rattle.am_world.proofs.watching.store_views.Goals as goal
+use Rattle.am_watcher.proofs.WatchWords.{[], ◌∷◌, ◌++◌, ◌||◌, if◌then◌else◌, sym, ap, ◌∙◌, stamp_eq, decides, with_entries, watching_of, begins, entry_in, one_of}
+use Rattle.am_watcher.proofs.WatchWords.{last_view}
+use Rattle.am_watcher.proofs.telling.store_views.Goals.{then-begins-via-then-begins, then-begins-via-else-begins+then-is_same_stamp}
+use Rattle.am_watcher.proofs.Tellings.{views_new, views_none}
+use Rattle.am_watcher.proofs.telling.store_views.Goals as goal
 
 pub returns : goal.returns
 returns c =

@@ -1,7 +1,7 @@
 use Rattle.am_world.proofs.Words.{◌≡◌, ◌+◌, ◌<◌, ◌≤◌, ◌++◌, List, Some, max, length, slice_get, slice_index_or, slice_set, vec_len, vec_capacity, ap, ◌∙◌, subst, arith, place_of, ℕ}
 use Rattle.am_world.proofs.Words.{Node, state_of, HasPlaceAt}
-use Rattle.am_world.proofs.{Spots.read_here}
-use Rattle.am_world.proofs.places.Places.act.Goals as goal
+use Rattle.am_world.proofs.Spots.{read_here}
+use Rattle.am_pump.proofs.places.Places.act.Goals as goal
 
 -- the node of an index that is a name's place
 there : (nodes : List Node) (name i : ℕ) (n : Node) → length nodes ≡ 16 → i ≡ place_of name → n ≡ slice_index_or nodes i n

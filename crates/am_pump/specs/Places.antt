@@ -8,7 +8,7 @@ use Rattle.am_model.specs.Node.{founders_view}
 use Rattle.am_play.specs.World.{start}
 use Rattle.am_world.specs.Moves.{StepsAt}
 use Rattle.am_world.specs.Runs.{AreNodes}
-use Rattle.am_world.specs.declared.places.Places.{Places}
+use Rattle.am_pump.specs.declared.places.Places.{Places}
 
 -- those of a group to which nothing has happened
 pub record Begins (rules : Rules) (places : Places) : Type 0 where

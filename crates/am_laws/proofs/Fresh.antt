@@ -1,14 +1,21 @@
 -- A life that hasn't begun is a stranger that no one has seen.
-use Rattle.am_world.proofs.Words.{◌≡◌, ℕ, ◌+◌, ◌<◌, ◌≤◌, ◌==◌, ◌||◌, not, Bool, true, false, if◌then◌else◌, List, [], ◌∷◌, ◌++◌, Option, Some, None, refl}
-use Rattle.am_world.proofs.Words.{sym, ap, ◌∙◌, subst, arith, slice_index, nat_tests, Outcome, NodeEvent, Rules, MayFound, place_of, life_of, name_at, has}
-use Rattle.am_world.proofs.Words.{Packet, Letter, Act, Event, letter_at, is_for, stranger, has_departed, Step, step, hear, World, start, run, current}
-use Rattle.am_world.proofs.Words.{is_stopped, with_record, with_step, does_event, hears_letter, hear_cut, comes_back, lives_on, acts_as, happens, happen}
+use Rattle.am_laws.proofs.Words.{◌≡◌, ℕ, ◌+◌, ◌<◌, ◌≤◌, ◌==◌, ◌||◌, not, Bool, true, false, if◌then◌else◌, List, [], ◌∷◌, ◌++◌, Option, Some, None, refl, sym}
+use Rattle.am_laws.proofs.Words.{ap, ◌∙◌, subst, arith, slice_index, nat_tests, Outcome, NodeEvent, Rules, MayFound, place_of, life_of, name_at, has, Packet}
+use Rattle.am_laws.proofs.Words.{Letter, Act, Event, letter_at, is_for, stranger, Step, step, hear, World, start, run, current, is_stopped, with_record}
+use Rattle.am_laws.proofs.Words.{with_step, hears_letter, hear_cut, lives_on, acts_as, happens, happen}
+use Rattle.am_laws.proofs.StoredWords.{has_departed, does_event, comes_back}
 use Rattle.am_model.specs.Node.{Node}
 use Rattle.am_play.specs.World.{gives_up, stops}
 use Rattle.am_base.specs.declared.outcome.Outcome.TheVariants as said
 use Rattle.am_base.specs.declared.event.NodeEvent.TheVariants as does
 use Rattle.am_group.specs.declared.event.Act.TheVariants as act
-use Rattle.am_world.proofs.Comes.{place_now, life_now}
+
+-- a name's place and life
+pub place_now : (place life : ℕ) → place < 16 → place_of (name_at place life) ≡ place
+place_now place life h = omega arith
+
+pub life_now : (place life : ℕ) → place < 16 → 0 < life → life_of (name_at place life) ≡ life
+life_now place life h l = omega arith
 
 -- every place has a life, and the names of greater ones are strangers
 pub record AreFresh (rules : Rules) (lives : ℕ → ℕ) (nodes : ℕ → Node) : Type 0 where

@@ -1,12 +1,10 @@
 -- What a watcher is told, one after another.
-use Rattle.am_world.proofs.Words.{or-true, or-false, ◌≡◌, ℕ, ◌+◌, ◌-◌, ◌<◌, ◌≤◌, ◌&&◌, ◌||◌, ◌==◌, not, Bool, true, false, List, [], ◌∷◌, ◌++◌, length, take}
-use Rattle.am_world.proofs.Words.{drop, map, get_or, if◌then◌else◌, Option, Some, None, refl, sym, ap, ◌∙◌, arith, get_or-drop, length-take, take_more}
-use Rattle.am_world.proofs.Words.{take_all, length-drop, Entry, Pending, stamp_eq, stamp_lt, Watching, note_entries, with_entries, with_decided, decides}
-use Rattle.am_world.proofs.Words.{new_pending, standing, accept, place_among, number_of, or_else, NodeEvent, is_member, DecidedView, Standing, view_of}
-use Rattle.am_world.proofs.Words.{begins, standing_after, stored_of, with_views, told_step, entries_go_on, accepted_goes_on}
-use Rattle.std.proofs.lemmas.List.{append-nil}
-use Rattle.am_watching.specs.Watching.{with_entry, finish}
-use Rattle.am_model.specs.Node.{Node}
+use Rattle.am_watcher.proofs.WatchWords.{or-true, or-false, ◌≡◌, ℕ, ◌+◌, ◌-◌, ◌<◌, ◌≤◌, ◌&&◌, ◌||◌, ◌==◌, not, Bool, true, false, List, [], ◌∷◌, ◌++◌, length}
+use Rattle.am_watcher.proofs.WatchWords.{take, drop, map, get_or, if◌then◌else◌, Option, Some, None, refl, sym, ap, ◌∙◌, arith, get_or-drop, length-take}
+use Rattle.am_watcher.proofs.WatchWords.{take_more, take_all, length-drop, append-nil, Entry, Pending, stamp_eq, stamp_lt, Watching, note_entries, with_entry}
+use Rattle.am_watcher.proofs.WatchWords.{with_entries, with_decided, decides, new_pending, standing, accept, place_among, number_of, or_else, finish}
+use Rattle.am_watcher.proofs.WatchWords.{NodeEvent, is_member, DecidedView, Shown, Standing, begins, standing_after, stored_of, with_views, told_step}
+use Rattle.am_watcher.proofs.WatchWords.{entries_go_on, accepted_goes_on}
 
 -- nothing was stored, or one entry
 pub entries_none : (k : Watching) (name : ℕ) → with_entries k name [] ≡ k
@@ -100,11 +98,11 @@ views_stay k name before after v what was same =
     views_none k name (begins before after.status || stamp_eq before.view after.view) _ stays
     ∙ ap (λ q. with_entries q name (stored_of name before after v what)) (sym still)
 
-abbrev told : Watching → ℕ → Node → NodeEvent → ℕ → List Entry → Standing → Standing → Watching
-told k name n what number more before after = accept (finish (with_views k name before after (view_of n) what) name after) number more
+abbrev told : Watching → ℕ → Shown → NodeEvent → ℕ → List Entry → Standing → Standing → Watching
+told k name n what number more before after = accept (finish (with_views k name before after n.view what) name after) number more
 
-pub noted_is : (k views_ finished_ new : Watching) (name : ℕ) (n : Node) (what : NodeEvent) (number : ℕ) (more : List Entry) (before after : Standing)
-    → before ≡ standing k name → after ≡ standing_after before n → views_ ≡ with_views k name before after (view_of n) what
+pub noted_is : (k views_ finished_ new : Watching) (name : ℕ) (n : Shown) (what : NodeEvent) (number : ℕ) (more : List Entry) (before after : Standing)
+    → before ≡ standing k name → after ≡ standing_after before n → views_ ≡ with_views k name before after n.view what
     → finished_ ≡ finish views_ name after → new ≡ accept finished_ number more → new ≡ told_step k name n what number more
 unfolding told_step
 noted_is k views_ finished_ new name n what number more before after was stands s f a =

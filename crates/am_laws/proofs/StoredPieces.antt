@@ -1,17 +1,17 @@
 -- Which Views a Piece and a Result add to a node's list.
-use Rattle.am_world.proofs.Words.{or-false, eq-eqb, view_last, not-false, same_stamp, ◌≡◌, ℕ, ◌+◌, ◌-◌, max, ◌==◌, ◌&&◌, ◌||◌, not, nat_lt, nat_le}
-use Rattle.am_world.proofs.Words.{if◌then◌else◌, Bool, true, false, List, [], ◌∷◌, Option, Some, None, refl, sym, ap, ◌∙◌, subst, list_any, Outcome, Stamp}
-use Rattle.am_world.proofs.Words.{Image, Entry, View, has, size, stamp_lt, stamp_eq, Log, fits, Status, has_log, Ballot, top, image_of, view, those}
-use Rattle.am_world.proofs.Words.{is_member, has_own_leave, is_within_bound, push_entry, trim_up_to, Plan, Step, quiet, finish, Verdict, with_promise}
-use Rattle.am_world.proofs.Words.{need_of, best_of, is_waited_for, left_in, trim_for, decide, decide_view, ends, restart_reports, refresh_at_end}
-use Rattle.am_world.proofs.Words.{is_view_past, push_fetched, catch_up, decide_anew, fetches_from, piece_promised, piece_for, piece_row, hears_result}
-use Rattle.am_world.proofs.Words.{result_row, hears_member, hear_row, is_view_of, split, and_both, or_first, rests_at_end, view_pushed, not_above_itself}
-use Rattle.am_world.proofs.Words.{IsOpen, OpenBallot, Balloted}
+use Rattle.am_laws.proofs.Words.{same_stamp, ◌≡◌, ℕ, ◌+◌, ◌-◌, max, ◌==◌, ◌&&◌, ◌||◌, not, nat_lt, nat_le, if◌then◌else◌, Bool, true, false, List, [], ◌∷◌}
+use Rattle.am_laws.proofs.Words.{Option, Some, None, refl, sym, ap, ◌∙◌, subst, list_any, Outcome, Stamp, Image, Entry, View, has, size, stamp_lt, stamp_eq}
+use Rattle.am_laws.proofs.Words.{Log, fits, Status, has_log, Ballot, top, image_of, view, those, is_member, is_within_bound, push_entry, trim_up_to, Plan}
+use Rattle.am_laws.proofs.Words.{Step, quiet, finish, Verdict, with_promise, need_of, best_of, left_in, trim_for, decide, decide_view, restart_reports}
+use Rattle.am_laws.proofs.Words.{refresh_at_end, push_fetched, catch_up, decide_anew, piece_promised, piece_for, piece_row, hears_result, result_row}
+use Rattle.am_laws.proofs.Words.{hears_member, hear_row, split, and_both, or_first, rests_at_end, view_pushed}
+use Rattle.am_laws.proofs.StoredWords.{or-false, eq-eqb, view_last, not-false, has_own_leave, is_waited_for, ends, is_view_past, fetches_from, is_view_of}
+use Rattle.am_laws.proofs.StoredWords.{not_above_itself, IsOpen, OpenBallot, Balloted}
 use Rattle.am_base.specs.Lists.{with_entry}
 use Rattle.am_model.specs.Node.{Node}
 use Rattle.am_base.specs.declared.outcome.Outcome.TheVariants as said
 use Rattle.am_packet.specs.declared.packet.Packet.TheVariants as packet
-use Rattle.am_world.proofs.StoredViews.{has_view, view_in, or_swaps, has_view_more, has_view_plain}
+use Rattle.am_laws.proofs.StoredViews.{has_view, view_in, or_swaps, has_view_more, has_view_plain}
 
 -- the name decided a view of its own, as its list tells
 abbrev pub has_decided : ℕ → Node → Log → Bool

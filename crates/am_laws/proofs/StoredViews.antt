@@ -1,14 +1,14 @@
 -- Which Views the changes of a step add to a node's list.
-use Rattle.am_world.proofs.Words.{view_one, or-false, view_last, next_above, welcomed_none, numbers_plain, not-true, same_stamp, ◌≡◌, ℕ, ◌+◌, ◌≤◌, ◌==◌, ◌&&◌}
-use Rattle.am_world.proofs.Words.{◌||◌, not, Bool, true, false, List, [], ◌∷◌, length, Option, Some, None, refl, sym, ap, ◌∙◌, subst, arith, length-append}
-use Rattle.am_world.proofs.Words.{list_any, nat_tests, list_any-append, Outcome, Stamp, Image, Entry, Leave, stamp_lt, stamp_eq, Log, told_by, Ballot, top}
-use Rattle.am_world.proofs.Words.{view, acts, is_sequencer, is_member, push_entry, has_log, Verdict, overtake, need_of, left_in, trim_for, next_stamp}
-use Rattle.am_world.proofs.Words.{refresh, settle, refresh_at_end, is_view, begin_list, is_view_of, split, and_both, Cause, hears, HasOpen, Balloting}
-use Rattle.am_world.proofs.Words.{with_more, without_one, as_it_is, Looks, finds_itself_out, waits, fetches_from_best, finds_too_few, finds_no_room, BeginsBy}
-use Rattle.am_world.proofs.Words.{by_reset, by_hand_over, Promises, invited, overtaken_by, told_result, MayBeWelcomed, Change, refreshes, settles}
-use Rattle.am_world.proofs.Words.{takes_report, admits, numbers, keeps_body, notes, stores, begins_list, departs, promises, opens, looks, fetches}
-use Rattle.am_world.proofs.Words.{stores_view, queues, collects, takes, asks_to_join, asks_to_leave, closes, Changes, rests_refresh, rests_at_end, settle_is}
-use Rattle.am_world.proofs.Words.{view_pushed, along, at_most, at_most_below, not_above}
+use Rattle.am_laws.proofs.Words.{same_stamp, ◌≡◌, ℕ, ◌+◌, ◌≤◌, ◌==◌, ◌&&◌, ◌||◌, not, Bool, true, false, List, [], ◌∷◌, length, Option, Some, None, refl, sym}
+use Rattle.am_laws.proofs.Words.{ap, ◌∙◌, subst, arith, length-append, list_any, nat_tests, list_any-append, Outcome, Stamp, Image, Entry, Leave, stamp_lt}
+use Rattle.am_laws.proofs.Words.{stamp_eq, Log, told_by, Ballot, top, view, acts, is_sequencer, is_member, push_entry, has_log, Verdict, overtake, need_of}
+use Rattle.am_laws.proofs.Words.{left_in, trim_for, next_stamp, refresh, settle, refresh_at_end, is_view, begin_list, split, and_both, Cause, hears, HasOpen}
+use Rattle.am_laws.proofs.Words.{Balloting, with_more, without_one, as_it_is, Looks, finds_itself_out, waits, fetches_from_best, finds_too_few, finds_no_room}
+use Rattle.am_laws.proofs.Words.{Promises, invited, overtaken_by, told_result, MayBeWelcomed, Change, refreshes, settles, takes_report, admits, numbers}
+use Rattle.am_laws.proofs.Words.{keeps_body, notes, stores, begins_list, departs, promises, opens, looks, fetches, stores_view, queues, collects, takes}
+use Rattle.am_laws.proofs.Words.{asks_to_join, closes, Changes, rests_refresh, rests_at_end, settle_is, view_pushed, along}
+use Rattle.am_laws.proofs.StoredWords.{view_one, or-false, view_last, next_above, welcomed_none, numbers_plain, not-true, is_view_of, BeginsBy, by_reset}
+use Rattle.am_laws.proofs.StoredWords.{by_hand_over, asks_to_leave, at_most, at_most_below, not_above}
 use Rattle.am_model.specs.Node.{Node}
 use Rattle.am_laws.specs.Looks.{decides}
 use Rattle.am_base.specs.declared.outcome.Outcome.TheVariants as said

@@ -1,6 +1,6 @@
-use Rattle.am_world.proofs.Words.{[], if◌then◌else◌, false, refl, ◌∙◌, watching_of, entry_in, one_of, last_view}
-use Rattle.am_world.proofs.Watches.{views_more}
-use Rattle.am_world.proofs.watching.store_new_views.Goals as goal
+use Rattle.am_watcher.proofs.WatchWords.{[], if◌then◌else◌, false, refl, ◌∙◌, watching_of, entry_in, one_of, last_view}
+use Rattle.am_watcher.proofs.Tellings.{views_more}
+use Rattle.am_watcher.proofs.telling.store_new_views.Goals as goal
 
 pub returns : goal.returns
 returns c =

@@ -1,12 +1,13 @@
 -- What is so of a name's step in every run, as the world tells its watcher of it.
-use Rattle.am_world.proofs.Words.{equals_itself, stamp_itself, ◌≡◌, ℕ, ◌≤◌, ◌&&◌, ◌||◌, not, Bool, true, false, if◌then◌else◌, List, length, refl, sym, ap}
-use Rattle.am_world.proofs.Words.{subst, arith, list_any, Stamp, NodeEvent, Rules, MayFound, Event, view, step, World, run, happens, with_step, with_record}
-use Rattle.am_world.proofs.Words.{is_view_of, actor, Happens, idles, steps, events_have_effects, few_names, names_hold, numbers_hold, IsNew, standing_of}
-use Rattle.am_world.proofs.Words.{view_of, run_lists, lists_go_on, decided_are_new, begins, stored_of}
+use Rattle.am_laws.proofs.Words.{equals_itself, stamp_itself, ◌≡◌, ℕ, ◌≤◌, ◌&&◌, ◌||◌, not, Bool, true, false, if◌then◌else◌, List, length, refl, sym, ap}
+use Rattle.am_laws.proofs.Words.{subst, arith, list_any, Stamp, NodeEvent, Rules, MayFound, Event, view, step, World, run, happens, with_step, with_record}
+use Rattle.am_laws.proofs.Words.{actor, Happens, idles, steps, events_have_effects}
+use Rattle.am_laws.proofs.StoredWords.{is_view_of, few_names, names_hold, numbers_hold, IsNew, standing_of, view_of, run_lists, lists_go_on, decided_are_new}
+use Rattle.am_laws.proofs.StoredWords.{begins, stored_of}
 use Rattle.am_model.specs.Node.{Node}
 use Rattle.am_play.specs.World.{decides}
 use Rattle.am_laws.specs.Events.{stops, returns}
-use Rattle.am_world.proofs.{Start.step_begins, StoredSteps.step_adds, StoredSteps.told_is}
+use Rattle.am_laws.proofs.{Start.step_begins, StoredSteps.step_adds, StoredSteps.told_is}
 
 -- where the list of a name's node begins after a step
 pub begins_at : (rules : Rules) (events : List Event) (e : Event) (what : NodeEvent) → MayFound rules

@@ -3,10 +3,8 @@ ghost use Rattle.am_base.specs.Most.{most_events};
 ghost use Rattle.am_base.specs.Founding.{MayFound};
 ghost use Rattle.am_base.specs.Names.{place_of};
 ghost use Rattle.am_world.specs.Moves.{IsReadyAt};
-ghost use Rattle.am_world.specs.Places.{Moves, StaysAs, Begins};
+ghost use Rattle.am_pump.specs.Places.{Moves, StaysAs, Begins};
 
-use crate::nodes::{grow, make_room, room_at};
-use crate::run::sixteen;
 use am_base::NoMemory;
 use am_base::entry::Entry;
 use am_base::event::NodeEvent;
@@ -17,6 +15,8 @@ use am_letter::out_box::Rooms;
 use am_node::founding::founders_view;
 use am_node::node::Node;
 use am_packet::letter::Letter;
+use am_world::nodes::{grow, make_room, room_at};
+use am_world::run::sixteen;
 use std::alloc::Global;
 
 /// The most letters of a node's step.
