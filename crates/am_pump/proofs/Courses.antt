@@ -1,10 +1,10 @@
 -- A run of which no records are kept goes on as its run.
-use Rattle.am_world.proofs.Words.{◌≡◌, ℕ, zero, suc, ◌+◌, ◌-◌, ◌<◌, ◌≤◌, Bool, true, false, if◌then◌else◌, List, [], ◌∷◌, ◌++◌, length, Option, Some, None, Result, Ok, Err}
-use Rattle.am_world.proofs.Words.{slice_index, max, replicate, refl, append-nil, sym, ap, ◌∙◌, subst, arith, length-append, OnOk, IfOk, most_events, Outcome, NodeEvent, Rules, MayFound, place_of}
-use Rattle.am_world.proofs.Words.{name_at, Letter, Act, Event, Record, letter_at, letters_of, letters_more, is_for, founders_view, start, happens, current, with_record, record_of}
-use Rattle.am_world.proofs.Words.{Node, Watching, watching_of, Play, replay, after, AreNodes, IsRun, Shows, play_of, Answers, comes, flag_of, if_running, event_or_answer, SpellsPacket}
-use Rattle.am_world.proofs.Words.{after_answer, IsWatched, IsReadyAt, first_watching, pass, pass_is_watched, happen, on_ok_weaker}
-use Rattle.std.proofs.Common.{◌*◌, sum_by, cond, count_by}
+use Rattle.am_world.proofs.Words.{◌≡◌, ℕ, ◌+◌, ◌<◌, ◌≤◌, Bool, true, false, if◌then◌else◌, List, [], ◌∷◌, ◌++◌, length, Option, Some, None, Result, Ok, Err}
+use Rattle.am_world.proofs.Words.{max, refl, append-nil, sym, ap, ◌∙◌, subst, arith, length-append, OnOk, most_events, Outcome, NodeEvent, Rules, MayFound, place_of}
+use Rattle.am_world.proofs.Words.{name_at, Letter, Act, Event, Record, letter_at, letters_more, is_for, happens, current, with_record, record_of}
+use Rattle.am_world.proofs.Words.{Node, watching_of, Play, replay, after, IsRun, play_of, Answers, comes, flag_of, if_running, event_or_answer, SpellsPacket}
+use Rattle.am_world.proofs.Words.{after_answer, IsWatched, IsReadyAt, first_watching, pass, pass_is_watched, happen}
+use Rattle.std.proofs.Common.{sum_by, cond}
 use Rattle.std.proofs.lemmas.List.Sums.{sum_by-append, count_by-le-length}
 use Rattle.am_base.specs.Outcomes.{is_took, is_sent, is_held}
 use Rattle.am_base.specs.declared.outcome.Outcome.TheVariants as said
@@ -18,7 +18,8 @@ use Rattle.am_pump.specs.declared.places.Places.{Places}
 use Rattle.am_watcher.specs.declared.watcher.Watcher.{Watcher}
 use Rattle.am_pump.specs.Places.{Begins, Moves}
 use Rattle.am_pump.specs.Courses.{first_lives, no_flags, Stands, Counted, counts_after, bit, IsBelow, IsCalm}
-use Rattle.am_world.proofs.{Begins.first_run, Begins.lives_at, Begins.none_at, Comes.gone_now, Comes.place_now, Comes.happens_comes, Goes.play_more, Goes.pass_goes_on, Acts.act_goes_on, Acts.ready_at}
+use Rattle.am_world.proofs.{Begins.first_run, Begins.lives_at, Begins.none_at, Comes.gone_now, Comes.happens_comes, Goes.play_more, Goes.pass_goes_on, Acts.act_goes_on, Acts.ready_at}
+use Rattle.am_laws.proofs.Fresh.{place_now}
 use Rattle.am_group.specs.declared.asked.Heard.{Heard}
 use Rattle.am_world.proofs.Words.{IsPacket, same_Some}
 use Rattle.am_world.proofs.Heard.{found_packet}

@@ -1,6 +1,6 @@
 -- Generated runs, event by event.
 use Rattle.am_pump.proofs.Words.{◌≡◌, ℕ, zero, suc, ◌+◌, ◌≤◌, ◌==◌, [], ◌∷◌, length, ◌&&◌, refl, ap, ◌∙◌, arith, length-append, count_by-le-length, Rules}
-use Rattle.am_pump.proofs.Words.{World, is_sent, Play, after, GeneratedRun, generated_rules, sent_by, first_drive}
+use Rattle.am_pump.proofs.Words.{World, is_sent, after, GeneratedRun, generated_rules, sent_by, first_drive}
 use Rattle.am_pump.proofs.Words.{after_turn, drive_once, drive, events_of_seed, Turn}
 use Rattle.am_pump.proofs.Words.{◌++◌, sym, subst, Event, Choice, IsDriven, IsCalm, drawn, next_place, next_turn, next_event}
 use Rattle.am_chooser.specs.declared.chooser.Choice.TheVariants as choice

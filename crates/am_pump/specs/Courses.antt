@@ -1,5 +1,5 @@
 -- A run of which no records are kept.
-use Rattle.std.specs.Prelude.{◌≡◌, ℕ, ◌+◌, ◌*◌, ◌<◌, ◌≤◌, List, ◌++◌, length, replicate, count_by, cond, Bool, true, false, Ok}
+use Rattle.std.specs.Prelude.{◌≡◌, ℕ, ◌+◌, ◌*◌, ◌<◌, ◌≤◌, List, length, replicate, cond, Bool, false, Ok}
 use Rattle.am_base.specs.Most.{most_events}
 use Rattle.am_base.specs.Names.{place_of}
 use Rattle.am_base.specs.Outcomes.{is_took, is_sent, is_held}
@@ -9,14 +9,14 @@ use Rattle.am_packet.specs.Boxes.{Letter}
 use Rattle.am_group.specs.declared.event.Act.{Act}
 use Rattle.am_group.specs.declared.event.Act.TheVariants as act
 use Rattle.am_group.specs.declared.event.Event.{Event}
-use Rattle.am_play.specs.World.{World, current, happens}
+use Rattle.am_play.specs.World.{current, happens}
 use Rattle.am_play.specs.Play.{count_outcomes}
 use Rattle.am_pump.specs.declared.course.Course.{Course}
 use Rattle.am_pump.specs.declared.course.Counts.{Counts}
 use Rattle.am_pump.specs.declared.places.Places.{Places}
 use Rattle.am_watcher.specs.declared.watcher.Watcher.{Watcher}
 use Rattle.am_world.specs.Asked.{comes}
-use Rattle.am_world.specs.Runs.{Play, replay, after, play_of, IsRun, Answers}
+use Rattle.am_world.specs.Runs.{Play, replay, play_of, IsRun}
 use Rattle.am_watcher.specs.Watchers.{watching_of}
 use Rattle.am_world.specs.Watched.{IsWatched}
 

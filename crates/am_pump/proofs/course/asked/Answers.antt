@@ -1,4 +1,4 @@
-use Rattle.am_world.proofs.Words.{◌≡◌, IfOk, OnOk, ap, sym, ◌∙◌, subst, Act, Bool, false, List, ℕ, Result, Ok, NodeEvent, Outcome, Letter, if_running, flag_of, event_or_answer, SpellsPacket}
+use Rattle.am_world.proofs.Words.{◌≡◌, IfOk, OnOk, ap, sym, ◌∙◌, subst, Act, false, ℕ, Result, Ok, NodeEvent, Outcome, if_running, flag_of, event_or_answer, SpellsPacket}
 use Rattle.am_pump.specs.Courses.{no_flags}
 use Rattle.am_pump.proofs.Courses.{no_flag}
 use Rattle.am_pump.proofs.course.asked.Goals.{in-Send, in-Done, in-Take, in-Tick}

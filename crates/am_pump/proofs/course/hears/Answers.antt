@@ -1,7 +1,4 @@
-use Rattle.am_world.proofs.Words.{◌≡◌, ◌++◌, Ok, Err, Some, None, sym, ap, ◌∙◌, option_copied, letter_at, flag_of, first_bytes, OnOk, Letter, Act, SpellsPacket, heard_of, IsPacket}
-use Rattle.am_group.specs.declared.asked.Heard.{Heard}
-use Rattle.am_base.specs.declared.event.NodeEvent.TheVariants as does
-use Rattle.am_base.specs.declared.outcome.Outcome.TheVariants as said
+use Rattle.am_world.proofs.Words.{◌++◌, None, sym, ap, ◌∙◌, option_copied, letter_at, flag_of}
 use Rattle.am_pump.specs.Courses.{no_flags}
 use Rattle.am_pump.proofs.Courses.{no_flag, spells_one}
 use Rattle.am_world.proofs.Heard.{no_packet, not_addressed, is_heard}

@@ -1,4 +1,4 @@
-use Rattle.am_pump.proofs.Words.{◌≡◌, length, sym, ap, ◌∙◌, subst, arith, err_from_is_err_and, Play, GeneratedRun, first_drive, drive, drive_once, IsCourse, IsDriven}
+use Rattle.am_pump.proofs.Words.{◌≡◌, length, sym, ap, ◌∙◌, subst, arith, err_from_is_err_and, Play, first_drive, drive, IsCourse, IsDriven}
 use Rattle.am_pump.proofs.Drives.{drive_next, so_many, play_is, next_calm, drawn_for, drawn_play, drove}
 use Rattle.am_pump.proofs.generate.generate.Goals as goal
 

@@ -1,5 +1,5 @@
-use Rattle.am_pump.proofs.Words.{◌≡◌, length, sym, ap, ◌∙◌, subst, arith, err_from_is_err_and, Play, GeneratedRun, first_drive, drive, drive_once, IsCourse, IsDriven}
-use Rattle.am_pump.proofs.Words.{[], ◌∷◌, ◌++◌, refl, events_of_seed}
+use Rattle.am_pump.proofs.Words.{◌≡◌, length, sym, ap, ◌∙◌, subst, arith, err_from_is_err_and, Play, GeneratedRun, first_drive, drive, IsDriven}
+use Rattle.am_pump.proofs.Words.{[], ◌∷◌, ◌++◌, events_of_seed}
 use Rattle.am_pump.proofs.Drives.{drive_next, so_many, next_calm, drawn_for, drawn_play, drove, one_event}
 use Rattle.am_pump.proofs.generate.generate_events.Goals as goal
 

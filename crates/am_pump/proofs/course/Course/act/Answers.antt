@@ -1,5 +1,5 @@
-use Rattle.am_world.proofs.Words.{◌≡◌, ◌+◌, ◌<◌, length, refl, sym, ap, ◌∙◌, subst, arith, length-append, place_of, NodeEvent, Event, Outcome, current, IsEndOf, Node, state_of, Watching}
-use Rattle.am_world.proofs.Words.{drop, told_step, watching_of, Play, replay, after, most_events}
+use Rattle.am_world.proofs.Words.{◌+◌, length, sym, ap, ◌∙◌, subst, arith, Watching}
+use Rattle.am_world.proofs.Words.{drop, told_step, watching_of, after, most_events}
 use Rattle.am_pump.proofs.Courses.{ready_now, step_gone, stands_on, grown_short, step_watched, counted_more, counted_low}
 use Rattle.am_world.proofs.{Kept.count_of}
 use Rattle.am_pump.specs.Courses.{Counted}

@@ -1,6 +1,4 @@
-use Rattle.am_world.proofs.Words.{watching_of}
 use Rattle.am_pump.proofs.Courses.{stands_first, counted_first}
-use Rattle.am_pump.specs.Courses.{Counted}
 use Rattle.am_pump.proofs.course.Course.new.Goals as goal
 
 pub returns : goal.returns

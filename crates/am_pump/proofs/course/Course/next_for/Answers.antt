@@ -1,5 +1,3 @@
-use Rattle.am_world.proofs.Words.{◌≡◌, ◌+◌, ◌≤◌, ◌∙◌, List, Letter, drop, length, Some, slice_get, slice_index_or, sym, ap, subst, arith}
-use Rattle.am_group.specs.Addressed.{first_for, next_for}
 use Rattle.am_group.proofs.Search.{begins}
 use Rattle.am_pump.specs.Courses.{letters_sent}
 use Rattle.am_pump.proofs.course.Course.next_for.Goals as goal

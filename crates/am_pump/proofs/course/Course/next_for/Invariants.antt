@@ -1,4 +1,4 @@
-use Rattle.am_world.proofs.Words.{◌≡◌, ◌+◌, ◌≤◌, drop}
+use Rattle.am_world.proofs.Words.{◌≡◌, ◌+◌, drop}
 use Rattle.am_group.specs.Addressed.{first_for, next_for}
 use Rattle.am_pump.specs.Courses.{letters_sent}
 use Rattle.am_pump.proofs.course.Course.next_for.Given as goal

@@ -1,6 +1,5 @@
-use Rattle.am_world.proofs.Words.{◌≡◌, ◌<◌, ◌≤◌, ℕ, length, Ok, Err, refl, sym, ap, ◌∙◌, subst, arith, nat_tests, most_events, Watching, watching_of, Play, replay, after, comes, Answers}
-use Rattle.am_pump.specs.Courses.{IsCourse, Counted, Stands, IsBelow, counts_after}
-use Rattle.am_pump.specs.declared.course.Counts.{Counts}
+use Rattle.am_world.proofs.Words.{◌≡◌, ◌<◌, length, sym, ap, ◌∙◌, subst, arith, nat_tests, most_events, watching_of, Play, replay, after, comes}
+use Rattle.am_pump.specs.Courses.{IsCourse, Counted}
 use Rattle.am_pump.specs.declared.course.Course.{Course}
 use Rattle.am_pump.proofs.Courses.{asked_comes_to, passed_on, counted_low, counted_more}
 use Rattle.am_world.proofs.{Kept.count_of}

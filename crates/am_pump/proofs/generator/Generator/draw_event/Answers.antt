@@ -1,4 +1,4 @@
-use Rattle.am_pump.proofs.Words.{◌≡◌, ◌∙◌, ap, refl, subst, draw, after_draw, turn_of, act_at, after_turn, event_at, IsDriven, GeneratedRun, drawn, next_place, next_turn, Turn, Act}
+use Rattle.am_pump.proofs.Words.{◌≡◌, ◌∙◌, ap, refl, subst, draw, after_draw, turn_of, act_at, after_turn, event_at, IsDriven, drawn, next_place, next_turn}
 use Rattle.am_pump.proofs.generator.Generator.draw_event.Goals as goal
 
 pub act-requires-clause-driven : goal.act-requires-clause-driven

@@ -1,4 +1,4 @@
-use Rattle.am_pump.proofs.Words.{◌≡◌, ◌+◌, ◌++◌, [], ◌∷◌, ◌∙◌, slice_set, sym, ap, subst, bool_byte, record_of, letters_of, letters_more, AreSent, AreSeen, sent_by, after, replay, is_sent, refl}
+use Rattle.am_pump.proofs.Words.{◌≡◌, ◌+◌, ◌++◌, ◌∙◌, slice_set, sym, ap, subst, bool_byte, record_of, letters_of, letters_more, AreSent, AreSeen, sent_by, after, replay, is_sent, refl}
 use Rattle.am_pump.proofs.{Seen.seen_grown, Sends.more_sent}
 use Rattle.am_pump.proofs.generator.Generator.happen.Goals as goal
 

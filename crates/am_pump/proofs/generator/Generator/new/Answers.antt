@@ -1,4 +1,4 @@
-use Rattle.am_pump.proofs.Words.{rules, ◌≡◌, [], ◌∷◌, refl, ap, subst, Rules, Progress, no_progress, IsCourse}
+use Rattle.am_pump.proofs.Words.{rules, ◌≡◌, [], ◌∷◌, refl, ap, subst, Rules, no_progress, IsCourse}
 use Rattle.am_play.specs.World as world
 use Rattle.am_pump.proofs.Seen.{none_seen}
 use Rattle.am_pump.proofs.generator.Generator.new.Goals as goal

@@ -1,4 +1,4 @@
-use Rattle.am_pump.proofs.Words.{◌∙◌, ap, arith, slice_index, GeneratedRun, replay, most_events}
+use Rattle.am_pump.proofs.Words.{◌∙◌, ap, arith, slice_index, replay}
 use Rattle.am_play.proofs.Runs.{one_record_each}
 use Rattle.am_pump.proofs.Drives.{few_sent}
 use Rattle.am_pump.proofs.generator.Generator.sent_by.Goals as goal

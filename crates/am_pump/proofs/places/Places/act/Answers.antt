@@ -1,4 +1,4 @@
-use Rattle.am_world.proofs.Words.{◌≡◌, ◌+◌, ◌<◌, ◌≤◌, ◌++◌, List, Some, max, length, slice_get, slice_index_or, slice_set, vec_len, vec_capacity, ap, ◌∙◌, subst, arith, place_of, ℕ}
+use Rattle.am_world.proofs.Words.{◌≡◌, ◌++◌, List, Some, length, slice_get, slice_index_or, slice_set, ap, ◌∙◌, subst, arith, place_of, ℕ}
 use Rattle.am_world.proofs.Words.{Node, state_of, HasPlaceAt}
 use Rattle.am_world.proofs.Spots.{read_here}
 use Rattle.am_pump.proofs.places.Places.act.Goals as goal
