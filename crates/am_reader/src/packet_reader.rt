@@ -1,18 +1,37 @@
 //! Each kind is read by a function of its own: a function clears its large locals whenever it is entered.
 #![tactic(auto, unfolding(am_packet::specs::Reading::packet_at))]
 
-ghost use Rattle.std.specs.Prelude.{◌≡◌, ◌≤◌, ◌+◌, length, Ok};
+ghost use Rattle.std.specs.Prelude.{◌≡◌, ◌≤◌, ◌+◌, ℕ, length, Ok, Err, IfOk, IfErr};
+ghost use Rattle.am_packet.specs.declared.packet.Packet.{Packet};
 ghost use Rattle.am_packet.specs.Images.{image_length};
 ghost use Rattle.am_packet.specs.declared.packet.Packet.TheVariants as packets;
 ghost use Rattle.am_packet.specs.declared.kind.Kind.TheVariants as kinds;
 ghost use Rattle.am_packet.specs.KindNumbers.{least_total, most_total, most_request};
-ghost use Rattle.am_packet.specs.Reading.{packet_at};
+ghost use Rattle.am_packet.specs.Reading.{Read, number_at, three_at, packet_at};
 
 use crate::field_reader::{body, entry, flag, image, name, number, report, resilience, set, vote};
 use am_base::name::{Name, Stamp};
 use am_packet::PacketRefusal;
 use am_packet::kind::Kind;
 use am_packet::packet::Packet;
+
+/// The three numbers behind the header, of kinds that have so many there.
+#[derive(Clone, Copy)]
+struct ThreeNumbers {
+    first: u32,
+    second: u32,
+    third: u32,
+}
+
+#[inline(always)]
+fn three(bytes: &[u8]) -> Result<ThreeNumbers, PacketRefusal>
+    requires { 24 ≤ length bytes.now }
+    ensures ok { IfOk result (λ r. (number_at bytes.now 12 ≡ Ok r.first)
+        × (number_at bytes.now 16 ≡ Ok r.second) × (number_at bytes.now 20 ≡ Ok r.third)) }
+    ensures err { IfErr result (λ e. (make : ℕ → ℕ → ℕ → Read Packet) → three_at bytes.now make ≡ Err e) }
+{
+    read!(bytes, ThreeNumbers { first: number @ 12, second: number @ 16, third: number @ 20 })
+}
 
 #[inline(never)]
 fn request(sender: Name, stamp: Stamp, bytes: &[u8]) -> Result<Packet<'_>, PacketRefusal>
@@ -39,9 +58,15 @@ fn bcast(sender: Name, stamp: Stamp, bytes: &[u8]) -> Result<Packet<'_>, PacketR
     requires { 25 ≤ length bytes.now }
     ensures { result ≡ packet_at kinds.Bcast sender stamp bytes.now }
 {
-    read!(bytes, Packet::Bcast {
-        base: number @ 12, acc: number @ 16, number: number @ 20, entry: entry @ 24
-    }, sender, stamp)
+    let numbers = three(bytes)?;
+    Ok(Packet::Bcast {
+        sender,
+        stamp,
+        base: numbers.first,
+        acc: numbers.second,
+        number: numbers.third,
+        entry: entry(bytes, 24)?,
+    })
 }
 
 #[inline(never)]
@@ -49,10 +74,16 @@ fn order(sender: Name, stamp: Stamp, bytes: &[u8]) -> Result<Packet<'_>, PacketR
     requires { 29 ≤ length bytes.now }
     ensures { result ≡ packet_at kinds.Order sender stamp bytes.now }
 {
-    let from = name(bytes, 24);
-    read!(bytes, Packet::Order {
-        base: number @ 12, acc: number @ 16, number: number @ 20, req: number @ 25
-    }, sender, stamp, from)
+    let numbers = three(bytes)?;
+    Ok(Packet::Order {
+        sender,
+        stamp,
+        base: numbers.first,
+        acc: numbers.second,
+        number: numbers.third,
+        from: name(bytes, 24),
+        req: number(bytes, 25)?,
+    })
 }
 
 #[inline(never)]
@@ -60,7 +91,15 @@ fn accept(sender: Name, stamp: Stamp, bytes: &[u8]) -> Result<Packet<'_>, Packet
     requires { 25 ≤ length bytes.now }
     ensures { result ≡ packet_at kinds.Accept sender stamp bytes.now }
 {
-    read!(bytes, Packet::Accept { base: number @ 12, acc: number @ 16, top: number @ 20, poll: flag @ 24 }, sender, stamp)
+    let numbers = three(bytes)?;
+    Ok(Packet::Accept {
+        sender,
+        stamp,
+        base: numbers.first,
+        acc: numbers.second,
+        top: numbers.third,
+        poll: flag(bytes, 24)?,
+    })
 }
 
 #[inline(never)]
@@ -84,7 +123,14 @@ fn hold(sender: Name, stamp: Stamp, bytes: &[u8]) -> Result<Packet<'_>, PacketRe
     requires { 24 ≤ length bytes.now }
     ensures { result ≡ packet_at kinds.Hold sender stamp bytes.now }
 {
-    read!(bytes, Packet::Hold { base: number @ 12, top: number @ 16, req: number @ 20 }, sender, stamp)
+    let numbers = three(bytes)?;
+    Ok(Packet::Hold {
+        sender,
+        stamp,
+        base: numbers.first,
+        top: numbers.second,
+        req: numbers.third,
+    })
 }
 
 #[inline(never)]
