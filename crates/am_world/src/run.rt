@@ -72,8 +72,8 @@ fn new_life(
     ensures founding { journal.new.founding ≡ journal.old.founding }
     ensures records { journal.new.records ≡ journal.old.records }
 {
-    let record = journal.record_for(alloc, event, name.life(), Outcome::Returned { life })?;
     let room = Room::new(alloc, journal.founding())?;
+    let record = journal.record_for(alloc, event, name.life(), Outcome::Returned { life })?;
     Ok((record, room))
 }
 
