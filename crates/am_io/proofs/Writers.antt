@@ -1,8 +1,7 @@
 -- Words that are written one after the other, and what all of them are.
-use Rattle.std.proofs.Common.{◌≡◌, ℕ, List, [], ◌++◌, refl, sym, ap, ◌∙◌, subst, append_assoc, append-nil, string_bytes, String, Global}
+use Rattle.std.proofs.Common.{◌≡◌, ℕ, List, [], ◌++◌, refl, sym, ap, ◌∙◌, subst, append_assoc, append-nil}
 use Rattle.std.specs.Fmt.{WritesInCalls}
 use Rattle.std.proofs.Output.{writes_in_calls_nil, writes_in_calls_append}
-use Rattle.std.proofs.lemmas.Fmt.{contents_after_writes}
 use Rattle.am_io.specs.Writers.{IsLeft}
 
 module _ {W : Type 0} (writes : W → List ℕ → W → Type 0) where
@@ -57,12 +56,3 @@ module _ {W : Type 0} (writes : W → List ℕ → W → Type 0) where
       → WritesInCalls writes start all next
   left_last start now next all rest words left wrote is =
       left_none start next all [] (left_more start now next all rest words [] left wrote (is ∙ sym (append-nil words))) refl
-
--- up to seven writes in a row, and a loop that writes
-pub ruleset in_turn = (wrote_two, wrote_three, wrote_four, wrote_five, wrote_six, wrote_seven, left_all, left_more, left_none, left_last)
-
--- what stands in a text behind several writes
-pub text_after : (before after : String Global) (words : List ℕ)
-    → WritesInCalls (λ (w : String Global) bs v. string_bytes v ≡ string_bytes w ++ bs) before words after → string_bytes after ≡ string_bytes before ++ words
-text_after before after words calls =
-    contents_after_writes (λ w bs v. string_bytes v ≡ string_bytes w ++ bs) string_bytes (λ w bs v is. is) before words after calls

@@ -5,13 +5,12 @@ use crate::outside::Sink;
 use crate::whole::write_all;
 use crate::writer::Writer;
 use arrayvec::ArrayVec;
-use std::convert::Infallible;
 
 /// How many bytes are held before they go to the sink.
 const ROOM: usize = 16_384;
 
 /// A write failed, and only a beginning of what was written went to the sink.
-#[derive(Clone, Copy, PartialEq, Eq, Debug)]
+#[derive(Clone, Copy)]
 pub struct Unwritten;
 
 /// A sink behind a room. What is written goes to the sink in order, piece by piece, as the room fills, and the rest by `finish`, until a
@@ -105,12 +104,9 @@ impl<'a, K: Sink> Buffered<'a, K> {
 }
 
 impl<K: Sink> Writer for Buffered<'_, K> {
-    type Fault = Infallible;
-
     ghost writes = { Goes K.contents K.count };
 
-    fn write_words(&mut self, words: &str) -> Result<(), Infallible> {
+    fn write_words(&mut self, words: &str) {
         self.write(words.as_bytes());
-        Ok(())
     }
 }

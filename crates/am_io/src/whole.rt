@@ -10,7 +10,7 @@ use std::alloc::Global;
 const CHUNK: usize = 16384;
 
 /// Why a source wasn't read to its end.
-#[derive(Clone, Copy, PartialEq, Eq, Debug)]
+#[derive(Clone, Copy)]
 pub enum ReadRefusal {
     /// A read failed.
     Fault,
@@ -21,7 +21,7 @@ pub enum ReadRefusal {
 }
 
 /// A write failed.
-#[derive(Clone, Copy, PartialEq, Eq, Debug)]
+#[derive(Clone, Copy)]
 pub struct WriteFault {
     /// How many bytes had been appended.
     pub written: u64,

@@ -13,8 +13,6 @@ use Rattle.am_headline.proofs.RepairedSettled.{settled_is_repaired}
 use Rattle.am_runs.proofs.SentRuns.{sent_holds}
 use Rattle.am_runs.proofs.Holds.{unballoted_holds}
 use Rattle.am_script.specs.declared.script.Script.{Script}
-use Rattle.am_script.specs.declared.script.Script.TheVariants.{Play, Race}
-use Rattle.am_script.specs.declared.key.Key.TheVariants as key
 use Rattle.am_script.specs.Scripts.{reading}
 use Rattle.am_script.specs.Limits.{ScriptWithin}
 use Rattle.am_player.specs.Runs.{done_of, run_watch, IsRunText}
@@ -58,10 +56,13 @@ keeps_run rules events may = record {
 repaired : (rules : Rules) (events : List Event) → MayFound rules → Repaired rules events
 repaired rules events may place low lawful repair name member = settled_is_repaired rules events place may low lawful repair name member
 
-pub played_by : (what : Rules → Watch → List ℕ) (bytes text : List ℕ) (script : Script) → reading key.Play bytes ≡ Ok script → ScriptWithin script
+pub played_by : (what : Rules → Watch → List ℕ) (bytes text : List ℕ) (script : Script) → reading bytes ≡ Ok script → ScriptWithin script
     → IsText what script text → PlayedBy what bytes text
 unfolding IsRunText
-played_by what bytes text (Play founding events settles) is within same =
+played_by what bytes text script is within same =
+    let founding = script.founding in
+    let events = script.events in
+    let settles = script.settle in
     record {
       founding = founding;
       events = events;
@@ -73,4 +74,3 @@ played_by what bytes text (Play founding events settles) is within same =
       keeps = keeps_run founding (done_of founding events settles) within.may_found;
       repaired = λ _settled. repaired founding events within.may_found;
     }
-played_by what bytes text (Race plan) is within same = absurd same

@@ -10,11 +10,9 @@ use Rattle.am_play.specs.Claims.{Headline, FitsView, Sent, NoBallot, HoldsUnball
 use Rattle.am_play.specs.Lawful.{Watch, lawful_front}
 use Rattle.am_headline.specs.Claim.{MayRepair, HasCaughtUp}
 use Rattle.am_io.specs.Outside.{ReadToEnd}
-use Rattle.am_script.specs.declared.key.Key.TheVariants as key
 use Rattle.am_script.specs.declared.script.Script.{Script}
-use Rattle.am_script.specs.declared.script.Script.TheVariants.{Play, Race}
 use Rattle.am_script.specs.Limits.{IsWithin}
-use Rattle.am_script.specs.Scripts.{reading}
+use Rattle.am_script.specs.Scripts.{script_of, reading}
 use Rattle.am_world.specs.declared.world.WorldRefusal.{WorldRefusal}
 use Rattle.am_world.specs.declared.world.WorldRefusal.TheVariants as refusals
 use Rattle.am_player.specs.declared.play.Unplayed.{Unplayed}
@@ -43,7 +41,7 @@ pub record PlayedBy (what : Rules → Watch → List ℕ) (bytes text : List ℕ
   pub founding : Rules
   pub events : List Event
   pub settles : Bool
-  pub script : reading key.Play bytes ≡ Ok (Play founding events settles)
+  pub script : reading bytes ≡ Ok (script_of founding events settles)
   pub within : IsWithin founding events
   pub written : text ≡ what founding (run_watch founding events settles)
   pub few : length (done_of founding events settles) ≤ most_events
@@ -56,7 +54,7 @@ IsPlayedBy what before after text = (bytes : List ℕ) × ReadToEnd before after
 
 -- the bytes are a script of which this holds
 abbrev pub IsScript : List ℕ → (Rules → List Event → Bool → Type 0) → Type 0
-IsScript bytes claim = (founding : Rules) × (events : List Event) × (settle : Bool) × (reading key.Play bytes ≡ Ok (Play founding events settle))
+IsScript bytes claim = (founding : Rules) × (events : List Event) × (settle : Bool) × (reading bytes ≡ Ok (script_of founding events settle))
     × claim founding events settle
 
 -- a script whose run would have more events than a run may have
@@ -65,19 +63,17 @@ IsSpent bytes = IsScript bytes IsLong
 
 -- a text is shown of what a play's run does
 abbrev pub IsText : (Rules → Watch → List ℕ) → Script → List ℕ → Type 0
-IsText what (Play founding events settles) text = IsRunText what founding events settles text
-IsText what (Race plan) text = ⊥
+IsText what script text = IsRunText what script.founding script.events script.settle text
 
 -- why a play isn't run
 abbrev pub IsUnrun : Script → Unplayed → Type 0
-IsUnrun (Race plan) e = ⊥
-IsUnrun (Play founding events settles) (unplayed.BadScript cause) = ⊥
-IsUnrun (Play founding events settles) unplayed.Spent = IsLong founding events settles
-IsUnrun (Play founding events settles) unplayed.NoMemory = Unit {0}
+IsUnrun script (unplayed.BadScript cause) = ⊥
+IsUnrun script unplayed.Spent = IsLong script.founding script.events script.settle
+IsUnrun script unplayed.NoMemory = Unit {0}
 
 -- why bytes have no text
 abbrev pub IsUnplayed : List ℕ → Unplayed → Type 0
-IsUnplayed bytes (unplayed.BadScript cause) = reading key.Play bytes ≡ Err cause
+IsUnplayed bytes (unplayed.BadScript cause) = reading bytes ≡ Err cause
 IsUnplayed bytes unplayed.Spent = IsSpent bytes
 IsUnplayed bytes unplayed.NoMemory = Unit {0}
 

@@ -2,8 +2,7 @@ ghost use Rattle.std.specs.Prelude.{◌≡◌, ◌≢◌, ℕ, List, Err, if◌t
 ghost use Rattle.std.specs.Io.KnownBytes.{Appends};
 ghost use Rattle.am_io.specs.Buffers.{Goes};
 ghost use Rattle.am_io.specs.Outside.{ReadToEnd, GaveMore, GaveAtMost, next};
-ghost use Rattle.am_script.specs.declared.key.Key.TheVariants as key;
-ghost use Rattle.am_script.specs.Scripts.{IsOfKind, reading};
+ghost use Rattle.am_script.specs.Scripts.{reading};
 ghost use Rattle.am_player.specs.Plays.{PlayedBy, IsPlayedBy, IsSpent, IsText, IsUnrun, IsUnplayed, unplayed_for};
 ghost use Rattle.am_player.specs.Statuses.{most_input, OnDone, OnWriteFault, IfBadScript, IsOfAudit, Writes, WrotePart, WroteUpTo, reads_after, writes_after};
 
@@ -13,7 +12,6 @@ use crate::status::Status;
 use am_io::buffered::Buffered;
 use am_io::outside::{Sink, Source};
 use am_io::whole::{ReadRefusal, read_all};
-use am_script::key::Key;
 use am_script::read::read_script;
 use am_script::refusal::ScriptRefusal;
 use am_script::script::Script;
@@ -42,7 +40,7 @@ pub fn play<T: Shows, S: Source, K: Sink>(
         → GaveAtMost most_input (S.left source.old) (S.left source.new) }
     ensures bad_script { IfBadScript result (λ cause. (bytes : List ℕ)
         × ReadToEnd (S.left source.old) (S.left source.new) bytes
-        × (reading key.Play bytes ≡ Err cause)) }
+        × (reading bytes ≡ Err cause)) }
     ensures spent { result ≡ Status.Spent → (bytes : List ℕ)
         × ReadToEnd (S.left source.old) (S.left source.new) bytes × IsSpent bytes }
     ensures part { OnWriteFault result ((text : List ℕ)
@@ -69,7 +67,7 @@ fn play_bytes<T: Shows, K: Sink>(alloc: Global, shows: &T, bytes: &[u8], sink: &
     ensures not_too_long { result ≢ Status.TooLong }
     ensures reads { (n : ℕ) → reads_after result n ≡ n }
     ensures writes { K.count sink.new ≡ writes_after result (K.count sink.old) }
-    ensures bad_script { IfBadScript result (λ cause. reading key.Play bytes.now ≡ Err cause) }
+    ensures bad_script { IfBadScript result (λ cause. reading bytes.now ≡ Err cause) }
     ensures spent { result ≡ Status.Spent → IsSpent bytes.now }
     ensures part { OnWriteFault result ((text : List ℕ) × PlayedBy (T.text shows.now) bytes.now text
         × WrotePart (K.contents sink.old) (K.contents sink.new) text) }
@@ -135,25 +133,16 @@ fn show_script<T: Shows, K: Sink>(
     script: &Script,
     out: &mut Buffered<'_, K>,
 ) -> Result<(), Unplayed>
-    requires { IsOfKind key.Play script.now }
     ensures shown { OnOk result ((text : List ℕ) × IsText (T.text shows.now) script.now text
         × Goes K.contents K.count out.old text out.new) }
     ensures unrun { IfErr result (λ e. IsUnrun script.now e) }
     ensures unwritten { OnErr result (out.new ≡ out.old) }
 {
-    match script {
-        Script::Play {
-            founding,
-            events,
-            settle,
-        } => {
-            let world = play_out(alloc, founding, events.as_slice(), *settle)?;
-            match show_run(alloc, shows, &world, out) {
-                Ok(()) => Ok(()),
-                Err(_) => Err(Unplayed::NoMemory),
-            }
-        }
-        Script::Race(_) => unreachable!(),
+    let events = script.events.as_slice();
+    let world = play_out(alloc, &script.founding, events, script.settle)?;
+    match show_run(alloc, shows, &world, out) {
+        Ok(()) => Ok(()),
+        Err(_) => Err(Unplayed::NoMemory),
     }
 }
 
@@ -170,14 +159,10 @@ fn answer<T: Shows, K: Sink>(
     ensures unplayed { IfErr result (λ e. IsUnplayed bytes.now e) }
     ensures unwritten { OnErr result (out.new ≡ out.old) }
 {
-    let script = match read_script(alloc, Key::Play, bytes) {
+    let script = match read_script(alloc, bytes) {
         Ok(script) => script,
-        Err(cause) => {
-            if cause == ScriptRefusal::NoMemory {
-                return Err(Unplayed::NoMemory);
-            }
-            return Err(Unplayed::BadScript(cause));
-        }
+        Err(ScriptRefusal::NoMemory) => return Err(Unplayed::NoMemory),
+        Err(cause) => return Err(Unplayed::BadScript(cause)),
     };
     show_script(alloc, shows, &script, out)
 }

@@ -37,11 +37,11 @@ pub trait Shows {
 }
 
 /// Adds all that is printed of what a world did (docs/PROTOCOL.md, "Play text"). The names are those that have or had a list, in their
-/// places' order. After an error a part of it may have been added.
-pub fn push_run<O: Writer>(out: &mut O, world: &World, names: &[Name]) -> Result<(), O::Fault>
+/// places' order.
+pub fn push_run<O: Writer>(out: &mut O, world: &World, names: &[Name])
     requires { names.now ≡ logged_in (replay world.now) }
-    ensures { OnOk result (WritesInCalls O.writes out.old
-        (watched_text world.now.rules (watch_run world.now.rules world.now.events)) out.new) }
+    ensures { WritesInCalls O.writes out.old
+        (watched_text world.now.rules (watch_run world.now.rules world.now.events)) out.new }
 {
     push_play(
         out,
@@ -49,7 +49,7 @@ pub fn push_run<O: Writer>(out: &mut O, world: &World, names: &[Name]) -> Result
         world.group(),
         names,
         world.broken_at(),
-    )
+    );
 }
 
 /// All that is printed of a run (docs/PROTOCOL.md, "Play text").
@@ -66,9 +66,7 @@ impl Shows for PlayText {
         names: &[Name],
         out: &mut Buffered<'_, K>,
     ) -> Result<(), NoMemory> {
-        match push_run(out, world, names) {
-            Ok(()) => Ok(()),
-            Err(never) => match never {},
-        }
+        push_run(out, world, names);
+        Ok(())
     }
 }

@@ -1,7 +1,7 @@
 use am_script::refusal::ScriptRefusal;
 
 /// What came of a call of the program.
-#[derive(Clone, Copy, PartialEq, Eq, Debug)]
+#[derive(Clone, Copy)]
 pub enum Status {
     /// All was read, done and written.
     Done,

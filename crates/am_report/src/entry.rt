@@ -1,10 +1,10 @@
-ghost use Rattle.std.specs.Prelude.{◌≤◌, length, OnOk};
+ghost use Rattle.std.specs.Prelude.{◌≤◌, length};
 ghost use Rattle.std.specs.Fmt.{WritesInCalls};
 ghost use Rattle.std.specs.List.{flat_map};
 ghost use Rattle.am_play.specs.Text.{hex_byte, body_text, resilience_text, entry_text};
 
+use crate::name::{push_name, push_names, push_stamp};
 use crate::number::push_behind;
-use crate::piece::{Piece, push_pieces};
 use am_base::entry::{EntryParts, EntryRef};
 use am_base::founding::Founding;
 use am_io::writer::Writer;
@@ -14,9 +14,9 @@ use std::str;
 const CHUNK: usize = 64;
 
 // Adds two lower-case hexadecimal digits for each of a few bytes.
-fn push_chunk<O: Writer>(out: &mut O, bytes: &[u8]) -> Result<(), O::Fault>
+fn push_chunk<O: Writer>(out: &mut O, bytes: &[u8])
     requires { length bytes.now ≤ 64 }
-    ensures { OnOk result (WritesInCalls O.writes out.old (flat_map hex_byte bytes.now) out.new) }
+    ensures { WritesInCalls O.writes out.old (flat_map hex_byte bytes.now) out.new }
 {
     let mut room = [0u8; 2 * CHUNK];
     let digits = &mut room[..2 * bytes.len()];
@@ -24,86 +24,76 @@ fn push_chunk<O: Writer>(out: &mut O, bytes: &[u8]) -> Result<(), O::Fault>
     let Ok(words) = str::from_utf8(digits) else {
         unreachable!()
     };
-    out.put(words)
+    out.put(words);
 }
 
-/// Adds two lower-case hexadecimal digits for each byte. After an error a part of it may have been added.
-pub fn push_bytes<O: Writer>(out: &mut O, bytes: &[u8]) -> Result<(), O::Fault>
-    ensures { OnOk result (WritesInCalls O.writes out.old (flat_map hex_byte bytes.now) out.new) }
+/// Adds two lower-case hexadecimal digits for each byte.
+pub fn push_bytes<O: Writer>(out: &mut O, bytes: &[u8])
+    ensures { WritesInCalls O.writes out.old (flat_map hex_byte bytes.now) out.new }
 {
     let mut rest = bytes;
     'chunks: while CHUNK < rest.len() {
         let (chunk, more) = rest.split_at(CHUNK);
-        push_chunk(out, chunk)?;
+        push_chunk(out, chunk);
         rest = more;
     }
-    push_chunk(out, rest)
+    push_chunk(out, rest);
 }
 
-/// Adds a body: its bytes, or a dash where there are none. After an error a part of it may have been added.
-#[tactic(auto, using(am_io::proofs::Writers::in_turn), unfolding(am_play::specs::Text::body_text))]
-pub fn push_body<O: Writer>(out: &mut O, bytes: &[u8]) -> Result<(), O::Fault>
-    ensures { OnOk result (WritesInCalls O.writes out.old (body_text bytes.now) out.new) }
+/// Adds a body: its bytes, or a dash where there are none.
+#[tactic(auto, unfolding(am_play::specs::Text::body_text))]
+pub fn push_body<O: Writer>(out: &mut O, bytes: &[u8])
+    ensures { WritesInCalls O.writes out.old (body_text bytes.now) out.new }
 {
     if bytes.is_empty() {
-        return out.put("-");
+        out.put("-");
+        return;
     }
-    push_bytes(out, bytes)
+    push_bytes(out, bytes);
 }
 
-/// Adds a resilience, where it isn't the founding's. After an error a part of it may have been added.
-#[tactic(auto, using(am_io::proofs::Writers::in_turn), unfolding(am_play::specs::Text::resilience_text))]
-pub fn push_resilience<O: Writer>(
-    out: &mut O,
-    founding: &Founding,
-    resilience: u8,
-) -> Result<(), O::Fault>
-    ensures { OnOk result (WritesInCalls O.writes out.old (resilience_text founding.now resilience) out.new) }
+/// Adds a resilience, where it isn't the founding's.
+#[tactic(auto, unfolding(am_play::specs::Text::resilience_text))]
+pub fn push_resilience<O: Writer>(out: &mut O, founding: &Founding, resilience: u8)
+    ensures { WritesInCalls O.writes out.old (resilience_text founding.now resilience) out.new }
 {
     if resilience == founding.resilience() {
-        return Ok(());
+        return;
     }
-    push_behind(out, " r", u64::from(resilience))
+    push_behind(out, " r", u64::from(resilience));
 }
 
-/// Adds an entry. After an error a part of it may have been added.
-#[tactic(auto, unfolding(am_play::specs::Text::entry_text, crate::specs::Pieces::pieces_text))]
-pub fn push_entry<O: Writer>(
-    out: &mut O,
-    founding: &Founding,
-    entry: &EntryRef<'_>,
-) -> Result<(), O::Fault>
-    ensures { OnOk result (WritesInCalls O.writes out.old (entry_text founding.now entry.now) out.new) }
+/// Adds an entry.
+#[tactic(auto, using(am_io::proofs::Writers::wrote_two, am_io::proofs::Writers::wrote_five), unfolding(am_play::specs::Text::entry_text))]
+pub fn push_entry<O: Writer>(out: &mut O, founding: &Founding, entry: &EntryRef<'_>)
+    ensures { WritesInCalls O.writes out.old (entry_text founding.now entry.now) out.new }
 {
     match entry.parts() {
-        EntryParts::Data { from, req, body } => push_pieces(
-            out,
-            &[
-                Piece::Words("data "),
-                Piece::Name(*from),
-                Piece::Words(" "),
-                Piece::Number(u64::from(*req)),
-                Piece::Words(" "),
-                Piece::Body(body.bytes()),
-            ],
-        ),
-        EntryParts::Join(name) => push_pieces(out, &[Piece::Words("join "), Piece::Name(*name)]),
-        EntryParts::Leave(name) => push_pieces(out, &[Piece::Words("leave "), Piece::Name(*name)]),
+        EntryParts::Data { from, req, body } => {
+            out.put("data ");
+            push_name(out, *from);
+            push_behind(out, " ", u64::from(*req));
+            out.put(" ");
+            push_body(out, body.bytes());
+        }
+        EntryParts::Join(name) => {
+            out.put("join ");
+            push_name(out, *name);
+        }
+        EntryParts::Leave(name) => {
+            out.put("leave ");
+            push_name(out, *name);
+        }
         EntryParts::View {
             stamp,
             members,
             resilience,
         } => {
-            push_pieces(
-                out,
-                &[
-                    Piece::Words("view "),
-                    Piece::Stamp(*stamp),
-                    Piece::Words(" "),
-                    Piece::Names(*members),
-                ],
-            )?;
-            push_resilience(out, founding, *resilience)
+            out.put("view ");
+            push_stamp(out, *stamp);
+            out.put(" ");
+            push_names(out, *members);
+            push_resilience(out, founding, *resilience);
         }
     }
 }

@@ -1,10 +1,10 @@
-ghost use Rattle.std.specs.Prelude.{◌≡◌, ◌++◌, OnOk};
+ghost use Rattle.std.specs.Prelude.{◌≡◌, ◌++◌};
 ghost use Rattle.std.specs.Fmt.{WritesInCalls};
 ghost use Rattle.am_play.specs.Text.{act_word, act_parts, event_text};
 
-use crate::entry::push_resilience;
+use crate::entry::{push_body, push_resilience};
+use crate::name::push_name;
 use crate::number::push_behind;
-use crate::piece::{Piece, push_pieces};
 use am_base::founding::Founding;
 use am_group::event::{Act, Event};
 use am_io::writer::Writer;
@@ -33,45 +33,39 @@ pub fn act_word(act: &Act) -> &'static str
 }
 
 // Adds what stands behind an act's node, with a blank before each part.
-#[tactic(auto, using(am_io::proofs::Writers::wrote_two), unfolding(am_play::specs::Text::act_parts, crate::specs::Pieces::pieces_text))]
-fn push_parts<O: Writer>(out: &mut O, founding: &Founding, act: &Act) -> Result<(), O::Fault>
-    ensures { OnOk result (WritesInCalls O.writes out.old (act_parts founding.now act.now) out.new) }
+#[tactic(auto, using(am_io::proofs::Writers::wrote_two), unfolding(am_play::specs::Text::act_parts))]
+fn push_parts<O: Writer>(out: &mut O, founding: &Founding, act: &Act)
+    ensures { WritesInCalls O.writes out.old (act_parts founding.now act.now) out.new }
 {
     match act {
-        Act::Send(body) => push_pieces(out, &[Piece::Words(" "), Piece::Body(body.bytes())]),
+        Act::Send(body) => {
+            out.put(" ");
+            push_body(out, body.bytes());
+        }
         Act::Reset { least, resilience } => {
-            push_behind(out, " ", u64::from(*least))?;
-            push_resilience(out, founding, *resilience)
+            push_behind(out, " ", u64::from(*least));
+            push_resilience(out, founding, *resilience);
         }
-        Act::GiveUp(name) => push_pieces(out, &[Piece::Words(" "), Piece::Name(*name)]),
+        Act::GiveUp(name) => {
+            out.put(" ");
+            push_name(out, *name);
+        }
         Act::Done(number) | Act::Ask(number) | Act::Hear(number) => {
-            push_behind(out, " ", u64::from(*number))
+            push_behind(out, " ", u64::from(*number));
         }
-        Act::Cut { packet, keep } => push_pieces(
-            out,
-            &[
-                Piece::Words(" "),
-                Piece::Number(u64::from(*packet)),
-                Piece::Words(" "),
-                Piece::Number(u64::from(*keep)),
-            ],
-        ),
-        Act::Take | Act::Join | Act::State | Act::Leave | Act::Stop | Act::Tick | Act::Return => {
-            Ok(())
+        Act::Cut { packet, keep } => {
+            push_behind(out, " ", u64::from(*packet));
+            push_behind(out, " ", u64::from(*keep));
         }
+        Act::Take | Act::Join | Act::State | Act::Leave | Act::Stop | Act::Tick | Act::Return => {}
     }
 }
 
-/// Adds an event: its act's word, the place of its node, and the rest. After an error a part of it may have been added.
-#[tactic(auto, using(am_io::proofs::Writers::in_turn), unfolding(am_play::specs::Text::event_text))]
-pub fn push_event<O: Writer>(
-    out: &mut O,
-    founding: &Founding,
-    event: &Event,
-) -> Result<(), O::Fault>
-    ensures { OnOk result (WritesInCalls O.writes out.old (event_text founding.now event.now) out.new) }
+/// Adds an event: its act's word, the place of its node, and the rest.
+pub fn push_event<O: Writer>(out: &mut O, founding: &Founding, event: &Event)
+    ensures { WritesInCalls O.writes out.old (event_text founding.now event.now) out.new }
 {
-    out.put(act_word(&event.act))?;
-    push_behind(out, " ", u64::from(event.node.place()))?;
-    push_parts(out, founding, &event.act)
+    out.put(act_word(&event.act));
+    push_behind(out, " ", u64::from(event.node.place()));
+    push_parts(out, founding, &event.act);
 }

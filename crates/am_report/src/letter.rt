@@ -1,10 +1,10 @@
-ghost use Rattle.std.specs.Prelude.{◌≡◌, ◌+◌, ◌<◌, ◌++◌, OnOk};
+ghost use Rattle.std.specs.Prelude.{◌≡◌, ◌+◌, ◌<◌, ◌++◌};
 ghost use Rattle.std.specs.Fmt.{WritesInCalls};
 ghost use Rattle.am_report.specs.Kinds.{word_at};
 ghost use Rattle.am_play.specs.Text.{kind_word, addressees_text, letter_text, letters_text};
 
 use crate::name::{is_everybody_else, push_names};
-use crate::piece::{Piece, push_pieces};
+use crate::number::push_behind;
 use am_io::writer::Writer;
 use am_packet::letter::Letter;
 
@@ -43,54 +43,36 @@ pub fn kind_word(letter: &Letter) -> &'static str
 }
 
 // Adds for whom a letter of a node at this place is.
-#[tactic(auto, using(am_io::proofs::Writers::in_turn), unfolding(am_play::specs::Text::addressees_text))]
-fn push_addressees<O: Writer>(out: &mut O, place: u8, letter: &Letter) -> Result<(), O::Fault>
+#[tactic(auto, unfolding(am_play::specs::Text::addressees_text))]
+fn push_addressees<O: Writer>(out: &mut O, place: u8, letter: &Letter)
     requires { place < 16 }
-    ensures { OnOk result (WritesInCalls O.writes out.old (addressees_text place letter.now) out.new) }
+    ensures { WritesInCalls O.writes out.old (addressees_text place letter.now) out.new }
 {
     if letter.is_for_any() || is_everybody_else(letter.to(), place) {
-        return out.put("all");
+        out.put("all");
+        return;
     }
-    push_names(out, letter.to())
+    push_names(out, letter.to());
 }
 
 // Adds a letter of a node at this place: its number, its kind and for whom it is.
-fn push_letter<O: Writer>(
-    out: &mut O,
-    place: u8,
-    number: u64,
-    letter: &Letter,
-) -> Result<(), O::Fault>
+fn push_letter<O: Writer>(out: &mut O, place: u8, number: u64, letter: &Letter)
     requires { place < 16 }
-    ensures { OnOk result (WritesInCalls O.writes out.old (letter_text place number letter.now) out.new) }
+    ensures { WritesInCalls O.writes out.old (letter_text place number letter.now) out.new }
 {
-    push_pieces(
-        out,
-        &[
-            Piece::Words(" | "),
-            Piece::Number(number),
-            Piece::Words(" "),
-            Piece::Words(kind_word(letter)),
-            Piece::Words(" to "),
-        ],
-    )?;
-    push_addressees(out, place, letter)
+    push_behind(out, " | ", number);
+    out.put(" ");
+    out.put(kind_word(letter));
+    out.put(" to ");
+    push_addressees(out, place, letter);
 }
 
 /// Adds the letters of a node at this place, before which so many were sent.
-/// After an error a part of it may have been added.
-#[tactic(auto, using(am_io::proofs::Writers::in_turn, crate::proofs::Parts::letters_more))]
-pub fn push_letters<O: Writer>(
-    out: &mut O,
-    place: u8,
-    before: u32,
-    letters: &[Letter],
-) -> Result<(), O::Fault>
+pub fn push_letters<O: Writer>(out: &mut O, place: u8, before: u32, letters: &[Letter])
     requires { place < 16 }
-    ensures { OnOk result (WritesInCalls O.writes out.old (letters_text place (before + 1) letters.now) out.new) }
+    ensures { WritesInCalls O.writes out.old (letters_text place (before + 1) letters.now) out.new }
 {
     for at in 0..letters.len() {
-        push_letter(out, place, u64::from(before) + 1 + at as u64, &letters[at])?;
+        push_letter(out, place, u64::from(before) + 1 + at as u64, &letters[at]);
     }
-    Ok(())
 }

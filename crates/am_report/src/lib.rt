@@ -1,5 +1,5 @@
 //! What is printed of a run, part by part, behind what was written before.
-#![tactic(auto, using(am_io::proofs::Writers::in_turn))]
+#![tactic(auto)]
 
 pub mod entry;
 pub mod event;
@@ -8,5 +8,4 @@ pub mod lines;
 pub mod name;
 pub mod number;
 pub mod outcome;
-mod piece;
 pub mod play;

@@ -1,4 +1,4 @@
-ghost use Rattle.std.specs.Prelude.{◌≡◌, ◌<◌, IfOk, OnOk, slice_index, nat_le};
+ghost use Rattle.std.specs.Prelude.{◌≡◌, ◌<◌, IfOk, slice_index, nat_le};
 ghost use Rattle.std.specs.Fmt.{WritesInCalls};
 ghost use Rattle.std.specs.List.{list_all};
 ghost use Rattle.am_play.specs.Text.{name_text, stamp_text, names_text, is_everybody_else};
@@ -10,74 +10,64 @@ use am_base::names::Names;
 use am_io::writer::Writer;
 
 /// Adds a name: its place, and a life other than the first behind a slash.
-/// After an error a part of it may have been added.
-#[tactic(auto, using(am_io::proofs::Writers::in_turn), unfolding(am_play::specs::Text::name_text))]
-pub fn push_name<O: Writer>(out: &mut O, name: Name) -> Result<(), O::Fault>
-    ensures { OnOk result (WritesInCalls O.writes out.old (name_text name) out.new) }
+#[tactic(auto, using(am_io::proofs::Writers::wrote_two), unfolding(am_play::specs::Text::name_text))]
+pub fn push_name<O: Writer>(out: &mut O, name: Name)
+    ensures { WritesInCalls O.writes out.old (name_text name) out.new }
 {
-    let place = name.place();
+    push_number(out, u64::from(name.place()));
     let life = name.life();
     if life == 1 {
-        return push_number(out, u64::from(place));
+        return;
     }
-    push_number(out, u64::from(place))?;
-    push_behind(out, "/", u64::from(life))
+    push_behind(out, "/", u64::from(life));
 }
 
-/// Adds a stamp. After an error a part of it may have been added.
-#[tactic(auto, using(am_io::proofs::Writers::in_turn), unfolding(am_play::specs::Text::stamp_text))]
-pub fn push_stamp<O: Writer>(out: &mut O, stamp: Stamp) -> Result<(), O::Fault>
-    ensures { OnOk result (WritesInCalls O.writes out.old (stamp_text stamp) out.new) }
+/// Adds a stamp.
+pub fn push_stamp<O: Writer>(out: &mut O, stamp: Stamp)
+    ensures { WritesInCalls O.writes out.old (stamp_text stamp) out.new }
 {
-    let round = stamp.round;
-    push_number(out, u64::from(round))?;
-    out.put(".")?;
-    push_name(out, stamp.by)
+    push_number(out, u64::from(stamp.round));
+    out.put(".");
+    push_name(out, stamp.by);
 }
 
 // Adds a name, behind a comma if it isn't the first.
-fn push_listed<O: Writer>(out: &mut O, first: bool, name: Name) -> Result<(), O::Fault>
-    ensures { OnOk result (WritesInCalls O.writes out.old (listed_text first name) out.new) }
+fn push_listed<O: Writer>(out: &mut O, first: bool, name: Name)
+    ensures { WritesInCalls O.writes out.old (listed_text first name) out.new }
 {
     if first {
-        return push_name(out, name);
+        push_name(out, name);
+        return;
     }
-    out.put(",")?;
-    push_name(out, name)
+    out.put(",");
+    push_name(out, name);
 }
 
 // Adds the name of a place, where there is one, behind a comma if it isn't the first; whether the next is the first.
-fn push_place<O: Writer>(
-    out: &mut O,
-    first: bool,
-    names: Names,
-    place: u8,
-) -> Result<bool, O::Fault>
+fn push_place<O: Writer>(out: &mut O, first: bool, names: Names, place: u8) -> bool
     requires { place < 16 }
-    ensures text { OnOk result (WritesInCalls O.writes out.old
-        (place_text first place (slice_index names place)) out.new) }
-    ensures first { IfOk result (λ still. still ≡ first_behind first (slice_index names place)) }
+    ensures text { WritesInCalls O.writes out.old
+        (place_text first place (slice_index names place)) out.new }
+    ensures first { result ≡ first_behind first (slice_index names place) }
 {
     let Some(name) = Name::of(place, names.life_at(place)) else {
-        return Ok(first);
+        return first;
     };
-    push_listed(out, first, name)?;
-    Ok(false)
+    push_listed(out, first, name);
+    false
 }
 
 /// Adds the names of a set, ascending, with commas between them, or a dash.
-/// After an error a part of it may have been added.
-pub fn push_names<O: Writer>(out: &mut O, names: Names) -> Result<(), O::Fault>
-    ensures { OnOk result (WritesInCalls O.writes out.old (names_text names) out.new) }
+pub fn push_names<O: Writer>(out: &mut O, names: Names)
+    ensures { WritesInCalls O.writes out.old (names_text names) out.new }
 {
     let mut first = true;
     for place in 0..16u8 {
-        first = push_place(out, first, names, place)?;
+        first = push_place(out, first, names, place);
     }
     if first {
-        return out.put("-");
+        out.put("-");
     }
-    Ok(())
 }
 
 /// Whether everybody has the first life.

@@ -1,21 +1,21 @@
-ghost use Rattle.std.specs.Prelude.{◌≡◌, ◌++◌, decimal, OnOk};
+ghost use Rattle.std.specs.Prelude.{◌≡◌, ◌++◌, decimal};
 ghost use Rattle.std.specs.Fmt.{WritesInCalls};
 
 use am_io::writer::Writer;
 use itoa::Buffer;
 
-/// Adds a number in decimal. After an error a part of it may have been added.
-pub fn push_number<O: Writer>(out: &mut O, number: u64) -> Result<(), O::Fault>
-    ensures { OnOk result (WritesInCalls O.writes out.old (decimal number) out.new) }
+/// Adds a number in decimal.
+pub fn push_number<O: Writer>(out: &mut O, number: u64)
+    ensures { WritesInCalls O.writes out.old (decimal number) out.new }
 {
     let mut digits = Buffer::new();
-    out.put(digits.format(number))
+    out.put(digits.format(number));
 }
 
-/// Adds some words and a number behind them. After an error a part of it may have been added.
-pub fn push_behind<O: Writer>(out: &mut O, words: &str, number: u64) -> Result<(), O::Fault>
-    ensures { OnOk result (WritesInCalls O.writes out.old (words.now ++ decimal number) out.new) }
+/// Adds some words and a number behind them.
+pub fn push_behind<O: Writer>(out: &mut O, words: &str, number: u64)
+    ensures { WritesInCalls O.writes out.old (words.now ++ decimal number) out.new }
 {
-    out.put(words)?;
-    push_number(out, number)
+    out.put(words);
+    push_number(out, number);
 }

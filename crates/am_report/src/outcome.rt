@@ -1,11 +1,11 @@
-ghost use Rattle.std.specs.Prelude.{◌≡◌, ◌++◌, OnOk};
+ghost use Rattle.std.specs.Prelude.{◌≡◌, ◌++◌};
 ghost use Rattle.std.specs.Fmt.{WritesInCalls};
 ghost use Rattle.am_play.specs.Text.{outcome_word, numbers_text, outcome_numbers, outcome_parts, outcome_text};
 ghost use Rattle.am_report.specs.Outcomes.{numbers_in};
 
 use crate::entry::push_entry;
+use crate::name::{push_name, push_names, push_stamp};
 use crate::number::push_behind;
-use crate::piece::{Piece, push_pieces};
 use am_base::founding::Founding;
 use am_base::outcome::Outcome;
 use am_io::writer::Writer;
@@ -127,99 +127,68 @@ fn numbers_of(outcome: &Outcome) -> Numbers
 }
 
 // Adds the numbers of an outcome that has nothing but numbers, with a blank before each.
-#[tactic(auto, unfolding(crate::specs::Outcomes::numbers_in, crate::specs::Pieces::pieces_text))]
-fn push_numbers<O: Writer>(out: &mut O, outcome: &Outcome) -> Result<(), O::Fault>
-    ensures { OnOk result (WritesInCalls O.writes out.old (numbers_text (outcome_numbers outcome.now)) out.new) }
+#[tactic(auto, unfolding(crate::specs::Outcomes::numbers_in))]
+fn push_numbers<O: Writer>(out: &mut O, outcome: &Outcome)
+    ensures { WritesInCalls O.writes out.old (numbers_text (outcome_numbers outcome.now)) out.new }
 {
     match numbers_of(outcome) {
-        Numbers::Nothing => Ok(()),
+        Numbers::Nothing => {}
         Numbers::One(first) => push_behind(out, " ", u64::from(first)),
-        Numbers::Two(first, second) => push_pieces(
-            out,
-            &[
-                Piece::Words(" "),
-                Piece::Number(u64::from(first)),
-                Piece::Words(" "),
-                Piece::Number(u64::from(second)),
-            ],
-        ),
-        Numbers::Three(first, second, third) => push_pieces(
-            out,
-            &[
-                Piece::Words(" "),
-                Piece::Number(u64::from(first)),
-                Piece::Words(" "),
-                Piece::Number(u64::from(second)),
-                Piece::Words(" "),
-                Piece::Number(u64::from(third)),
-            ],
-        ),
+        Numbers::Two(first, second) => {
+            push_behind(out, " ", u64::from(first));
+            push_behind(out, " ", u64::from(second));
+        }
+        Numbers::Three(first, second, third) => {
+            push_behind(out, " ", u64::from(first));
+            push_behind(out, " ", u64::from(second));
+            push_behind(out, " ", u64::from(third));
+        }
     }
 }
 
 // Adds what stands behind an outcome's word, with a blank before each part.
-#[tactic(auto, unfolding(am_play::specs::Text::outcome_parts, crate::specs::Pieces::pieces_text))]
-fn push_parts<O: Writer>(
-    out: &mut O,
-    founding: &Founding,
-    outcome: &Outcome,
-) -> Result<(), O::Fault>
-    ensures { OnOk result (WritesInCalls O.writes out.old (outcome_parts founding.now outcome.now) out.new) }
+#[tactic(auto, using(am_io::proofs::Writers::wrote_two, am_io::proofs::Writers::wrote_three), unfolding(am_play::specs::Text::outcome_parts))]
+fn push_parts<O: Writer>(out: &mut O, founding: &Founding, outcome: &Outcome)
+    ensures { WritesInCalls O.writes out.old (outcome_parts founding.now outcome.now) out.new }
 {
     match outcome {
         Outcome::Took { number, entry } => {
-            push_pieces(
-                out,
-                &[
-                    Piece::Words(" "),
-                    Piece::Number(u64::from(*number)),
-                    Piece::Words(" "),
-                ],
-            )?;
-            push_entry(out, founding, &entry.as_ref())
+            push_behind(out, " ", u64::from(*number));
+            out.put(" ");
+            push_entry(out, founding, &entry.as_ref());
         }
         Outcome::NoBody { from, req: number } | Outcome::Fetching { from, want: number } => {
-            push_pieces(
-                out,
-                &[
-                    Piece::Words(" "),
-                    Piece::Name(*from),
-                    Piece::Words(" "),
-                    Piece::Number(u64::from(*number)),
-                ],
-            )
+            out.put(" ");
+            push_name(out, *from);
+            push_behind(out, " ", u64::from(*number));
         }
         Outcome::Newer { promise: stamp }
         | Outcome::Overtaken { by: stamp }
         | Outcome::NotIn { best: stamp } => {
-            push_pieces(out, &[Piece::Words(" "), Piece::Stamp(*stamp)])
+            out.put(" ");
+            push_stamp(out, *stamp);
         }
         Outcome::Waiting { names } => {
-            push_pieces(out, &[Piece::Words(" "), Piece::Names(*names)])
+            out.put(" ");
+            push_names(out, *names);
         }
-        Outcome::Decided { number, members } => push_pieces(
-            out,
-            &[
-                Piece::Words(" "),
-                Piece::Number(u64::from(*number)),
-                Piece::Words(" "),
-                Piece::Names(*members),
-            ],
-        ),
-        Outcome::Occupied { name } => { push_pieces(out, &[Piece::Words(" "), Piece::Name(*name)]) }
+        Outcome::Decided { number, members } => {
+            push_behind(out, " ", u64::from(*number));
+            out.put(" ");
+            push_names(out, *members);
+        }
+        Outcome::Occupied { name } => {
+            out.put(" ");
+            push_name(out, *name);
+        }
         _ => push_numbers(out, outcome),
     }
 }
 
-/// Adds an outcome: its word and its parts. After an error a part of it may have been added.
-#[tactic(auto, using(am_io::proofs::Writers::in_turn), unfolding(am_play::specs::Text::outcome_text))]
-pub fn push_outcome<O: Writer>(
-    out: &mut O,
-    founding: &Founding,
-    outcome: &Outcome,
-) -> Result<(), O::Fault>
-    ensures { OnOk result (WritesInCalls O.writes out.old (outcome_text founding.now outcome.now) out.new) }
+/// Adds an outcome: its word and its parts.
+pub fn push_outcome<O: Writer>(out: &mut O, founding: &Founding, outcome: &Outcome)
+    ensures { WritesInCalls O.writes out.old (outcome_text founding.now outcome.now) out.new }
 {
-    out.put(outcome_word(outcome))?;
-    push_parts(out, founding, outcome)
+    out.put(outcome_word(outcome));
+    push_parts(out, founding, outcome);
 }

@@ -1,4 +1,4 @@
-ghost use Rattle.std.specs.Prelude.{◌≡◌, ◌≤◌, ◌<◌, ◌++◌, length, nat_lt, OnOk, IfOk};
+ghost use Rattle.std.specs.Prelude.{◌≡◌, ◌≤◌, ◌<◌, ◌++◌, length, nat_lt, IfOk};
 ghost use Rattle.std.specs.Fmt.{WritesInCalls};
 ghost use Rattle.am_base.specs.Most.{most_events};
 ghost use Rattle.am_group.specs.Deliveries.{given_to, deliveries};
@@ -16,106 +16,82 @@ use am_group::journal::Journal;
 use am_io::writer::Writer;
 
 // Adds the lines of a run's events.
-#[tactic(auto, using(am_io::proofs::Writers::in_turn, crate::proofs::Parts::lines), unfolding(am_play::specs::Text::records_text))]
-fn push_records<O: Writer>(
-    out: &mut O,
-    founding: &Founding,
-    records: &[Record],
-) -> Result<(), O::Fault>
+#[tactic(auto, unfolding(am_play::specs::Text::records_text))]
+fn push_records<O: Writer>(out: &mut O, founding: &Founding, records: &[Record])
     requires events { length records.now ≤ most_events }
     requires letters { length (letters_of records.now) ≤ 2400000 }
-    ensures { OnOk result (WritesInCalls O.writes out.old (records_text founding.now records.now) out.new) }
+    ensures { WritesInCalls O.writes out.old (records_text founding.now records.now) out.new }
 {
     let mut before = 0;
     for at in 0..records.len() {
-        push_record(out, founding, at as u32 + 1, before, &records[at])?;
-        before += records[at].packets.as_slice().len() as u32;
+        let happened = &records[at];
+        push_record(out, founding, at as u32 + 1, before, happened);
+        before += happened.packets.as_slice().len() as u32;
     }
-    Ok(())
 }
 
 // Adds the lines of a group's list.
-#[tactic(auto, using(am_io::proofs::Writers::in_turn, crate::proofs::Parts::lines), unfolding(am_play::specs::Text::group_text))]
-fn push_group<O: Writer>(out: &mut O, founding: &Founding, group: &[Entry]) -> Result<(), O::Fault>
-    ensures { OnOk result (WritesInCalls O.writes out.old (group_text founding.now group.now) out.new) }
+#[tactic(auto, unfolding(am_play::specs::Text::group_text))]
+fn push_group<O: Writer>(out: &mut O, founding: &Founding, group: &[Entry])
+    ensures { WritesInCalls O.writes out.old (group_text founding.now group.now) out.new }
 {
     for at in 0..group.len() {
-        push_group_line(out, founding, at as u64 + 1, &group[at])?;
+        push_group_line(out, founding, at as u64 + 1, &group[at]);
     }
-    Ok(())
 }
 
 // Adds the line of what a record gave to a name, where it gave something; whether it did.
-fn push_given<O: Writer>(
-    out: &mut O,
-    founding: &Founding,
-    name: Name,
-    item: &Record,
-) -> Result<bool, O::Fault>
-    ensures text { OnOk result (WritesInCalls O.writes out.old (given_lines founding.now name (given_to name item.now)) out.new) }
-    ensures some { IfOk result (λ some. some ≡ nat_lt 0 (length (given_to name item.now))) }
+fn push_given<O: Writer>(out: &mut O, founding: &Founding, name: Name, item: &Record) -> bool
+    ensures text { WritesInCalls O.writes out.old (given_lines founding.now name (given_to name item.now)) out.new }
+    ensures some { result ≡ nat_lt 0 (length (given_to name item.now)) }
 {
     let Some(given) = given_to(item, name) else {
-        return Ok(false);
+        return false;
     };
-    push_log_line(out, founding, name, given)?;
-    Ok(true)
+    push_log_line(out, founding, name, given);
+    true
 }
 
 // Adds the lines of what records gave to a name, or the line that it was given nothing.
-fn push_log<O: Writer>(
-    out: &mut O,
-    founding: &Founding,
-    records: &[Record],
-    name: Name,
-) -> Result<(), O::Fault>
-    ensures { OnOk result (WritesInCalls O.writes out.old (log_text founding.now name (deliveries records.now name)) out.new) }
+fn push_log<O: Writer>(out: &mut O, founding: &Founding, records: &[Record], name: Name)
+    ensures { WritesInCalls O.writes out.old (log_text founding.now name (deliveries records.now name)) out.new }
 {
     let mut some = false;
     for item in records {
-        some |= push_given(out, founding, name, item)?;
+        some |= push_given(out, founding, name, item);
     }
     if some {
-        return Ok(());
+        return;
     }
-    push_empty_log(out, name)
+    push_empty_log(out, name);
 }
 
 // Adds the lines of each of these names in turn.
-#[tactic(auto, using(am_io::proofs::Writers::in_turn, crate::proofs::Logs::logs_more))]
-fn push_logs<O: Writer>(
-    out: &mut O,
-    founding: &Founding,
-    records: &[Record],
-    names: &[Name],
-) -> Result<(), O::Fault>
-    ensures { OnOk result (WritesInCalls O.writes out.old (logs_text founding.now (logs_for records.now names.now)) out.new) }
+fn push_logs<O: Writer>(out: &mut O, founding: &Founding, records: &[Record], names: &[Name])
+    ensures { WritesInCalls O.writes out.old (logs_text founding.now (logs_for records.now names.now)) out.new }
 {
     for at in 0..names.len() {
-        push_log(out, founding, records, names[at])?;
+        push_log(out, founding, records, names[at]);
     }
-    Ok(())
 }
 
 /// Adds all that is printed of a run: its events, the group's list, what each of these names was given, and which event broke
 /// it, if one did (docs/PROTOCOL.md, "Play text"). The names are those that have or had a list, ascending.
-/// After an error a part of it may have been added.
-#[tactic(auto, using(am_io::proofs::Writers::in_turn), unfolding(am_play::specs::Text::play_text))]
 pub fn push_play<O: Writer>(
     out: &mut O,
     journal: &Journal,
     group: &[Entry],
     names: &[Name],
     broken: Option<u32>,
-) -> Result<(), O::Fault>
-    ensures { OnOk result (WritesInCalls O.writes out.old
+)
+    ensures { WritesInCalls O.writes out.old
         (play_text journal.now.founding journal.now.records group.now
-        (logs_for journal.now.records names.now) broken) out.new) }
+        (logs_for journal.now.records names.now) broken) out.new }
 {
     let founding = journal.founding();
     let records = journal.records();
-    push_records(out, founding, records)?;
-    push_group(out, founding, group)?;
-    push_logs(out, founding, records, names)?;
-    push_mark(out, broken)
+    push_records(out, founding, records);
+    push_group(out, founding, group);
+    push_logs(out, founding, records, names);
+    push_mark(out, broken);
 }

@@ -2,7 +2,6 @@ pub mod Json
 pub mod Documents
 pub mod Steps
 pub mod Limits
-pub mod Races
 pub mod Answered
 pub mod Tokens
 pub mod Ranges

@@ -4,6 +4,5 @@ pub mod Refusals
 pub mod Values
 pub mod Founders
 pub mod Events
-pub mod Races
 pub mod Scripts
 pub mod Limits

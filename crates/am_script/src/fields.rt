@@ -3,6 +3,7 @@ ghost use Rattle.std.specs.Result.{result_map_both};
 ghost use Rattle.serde_json.specs.Find.{as_object};
 ghost use Rattle.am_script.specs.Keys.{has_only};
 ghost use Rattle.am_script.specs.Seen.{seen};
+ghost use Rattle.am_script.specs.Scripts.{behind};
 ghost use Rattle.am_script.specs.Values.{value_in, text_in, number_from, number_in, number_or, flag_or};
 
 use crate::key::Key;
@@ -43,6 +44,17 @@ pub fn value_in<'v, 'a>(object: &'v Value<'a>, key: Key, place: u64) -> Read<&'v
         Some(value) => Ok(value),
         None => Err(ScriptRefusal::Missing { key, place }),
     }
+}
+
+/// The value behind the key that is asked for, where that is the one key of a document.
+#[tactic(auto, unfolding(crate::specs::Scripts::behind))]
+pub fn behind<'v, 'a>(asked: Key, document: &'v Value<'a>) -> Read<&'v Value<'a>>
+    ensures { result_map_both (λ v. seen v.now) (λ e. e) result ≡ behind asked (seen document.now) }
+{
+    object(document, Key::Top, 0)?;
+    let value = value_in(document, asked, 0)?;
+    known(&[asked], document, 0)?;
+    Ok(value)
 }
 
 /// The text at a key of an object; BadValue where it is another value.

@@ -1,11 +1,10 @@
 ghost use Rattle.std.specs.Prelude.{◌≡◌};
 ghost use Rattle.am_script.specs.Events.{kind_of, keys_of};
-ghost use Rattle.am_script.specs.Races.{is_call, call_keys_of};
 
 use crate::key::Key;
 
 /// The kinds of events, one for each act.
-#[derive(Clone, Copy, PartialEq, Eq)]
+#[derive(Clone, Copy)]
 pub enum Kind {
     Send,
     Done,
@@ -67,26 +66,6 @@ impl Kind {
             Kind::Hear => &[Key::Do, Key::Node, Key::Packet],
             Kind::Cut => &[Key::Do, Key::Node, Key::Packet, Key::Keep],
             Kind::Return => &[Key::Do, Key::Node],
-        }
-    }
-    /// Whether a thread of a race can call for it.
-    pub fn is_call(self) -> bool
-        ensures { result ≡ is_call self }
-    {
-        match self {
-            Kind::Send | Kind::Take | Kind::Join | Kind::Leave | Kind::Reset | Kind::Stop => true,
-            _ => false,
-        }
-    }
-
-    /// The keys that its calls may have.
-    pub fn call_keys(self) -> &'static [Key]
-        ensures { result.now ≡ call_keys_of self }
-    {
-        match self {
-            Kind::Send => &[Key::Do, Key::Body],
-            Kind::Reset => &[Key::Do, Key::Least, Key::Resilience],
-            _ => &[Key::Do],
         }
     }
 }

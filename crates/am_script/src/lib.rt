@@ -1,15 +1,15 @@
-//! Scripts: how a group begins and what happens then, read from JSON.
+//! Scripts: how a group begins and what happens then, read from JSON. What reads them is open to crates that read other documents by
+//! the same keys.
 #![tactic(auto)]
 
-mod document;
-mod event;
-mod fields;
-mod founding;
+pub mod document;
+pub mod event;
+pub mod fields;
+pub mod founding;
 pub mod key;
-mod kind;
+pub mod kind;
 mod play;
-mod race;
 pub mod read;
 pub mod refusal;
 pub mod script;
-mod tree;
+pub mod tree;

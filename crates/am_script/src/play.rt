@@ -62,7 +62,7 @@ pub fn play(alloc: Global, value: &Value) -> Read<Script>
     let settle = flag_or(false, value, Key::Settle, 0)?;
     let list = value_in(value, Key::Events, 0)?;
     let events = events(alloc, list, founding.resilience())?;
-    Ok(Script::Play {
+    Ok(Script {
         founding,
         events,
         settle,

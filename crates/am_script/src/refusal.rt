@@ -7,7 +7,7 @@ use std::alloc::AllocError;
 
 /// Why bytes aren't a script, the first cause. A place is the number of an event, or of a call over all threads of a race,
 /// from 1, or 0 elsewhere.
-#[derive(Clone, Copy, PartialEq, Eq, Debug)]
+#[derive(Clone, Copy)]
 pub enum ScriptRefusal {
     /// The bytes aren't JSON.
     NotJson,
@@ -42,20 +42,14 @@ pub type Read<T> = Result<T, ScriptRefusal>;
 
 impl ScriptRefusal {
     /// BadValue at a key.
-    pub(crate) fn bad_value(key: Key, place: u64) -> ScriptRefusal
+    pub fn bad_value(key: Key, place: u64) -> ScriptRefusal
         ensures { result ≡ ScriptRefusal.BadValue key place }
     {
         ScriptRefusal::BadValue { key, place }
     }
 
     /// OutOfRange at a key, where there are limits.
-    pub(crate) fn out_of_range(
-        key: Key,
-        place: u64,
-        found: u64,
-        least: u64,
-        most: u64,
-    ) -> ScriptRefusal
+    pub fn out_of_range(key: Key, place: u64, found: u64, least: u64, most: u64) -> ScriptRefusal
         ensures { result ≡ ScriptRefusal.OutOfRange key place found least most }
     {
         ScriptRefusal::OutOfRange {

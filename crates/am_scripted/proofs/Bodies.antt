@@ -19,17 +19,16 @@ use Rattle.am_script.specs.declared.key.Key.TheVariants as key
 use Rattle.am_script.specs.declared.kind.Kind.{Kind}
 use Rattle.am_script.specs.declared.kind.Kind.TheVariants.{Send, Done, Take, Join, State, Leave, Reset, Ask, GiveUp, Stop, Tick, Hear, Cut, Return}
 use Rattle.am_script.specs.declared.script.Script.{Script}
-use Rattle.am_script.specs.declared.script.Script.TheVariants.{Play, Race}
 use Rattle.am_script.specs.declared.refusal.ScriptRefusal.TheVariants.{BadValue}
 use Rattle.am_script.specs.Keys.{has_only}
 use Rattle.am_script.specs.Refusals.{Read, ◌>>=◌}
 use Rattle.am_script.specs.Values.{value_in, text_in, number_from, number_in, number_or, flag_or, are_pairs, bytes_in, body_from}
 use Rattle.am_script.specs.Events.{keys_of, kind_in, send_in, reset_in, give_up_in, cut_in, act_in, event_as, event_from, events_from}
 use Rattle.am_script.specs.Founders.{founding_in}
-use Rattle.am_script.specs.Races.{is_call, call_keys_of, call_kind_in, call_as, call_from, calls_from, thread_keys, parts_of_thread, thread_from, each_thread}
-use Rattle.am_script.specs.Races.{threads_from, of_right_size, most_lost, most_repeated, most_turns, most_calls, calls_of, records_of, race_keys, parts_of_race}
-use Rattle.am_script.specs.Races.{race_from}
-use Rattle.am_script.specs.Scripts.{play_keys, parts_of_play, play_from, script_from, document_from, document_in, reading}
+use Rattle.am_race_script.specs.Races.{is_call, call_keys_of, call_kind_in, call_as, call_from, calls_from, thread_keys, parts_of_thread, thread_from, each_thread}
+use Rattle.am_race_script.specs.Races.{threads_from, of_right_size, most_lost, most_repeated, most_turns, most_calls, calls_of, records_of, race_keys, parts_of_race}
+use Rattle.am_race_script.specs.Races.{race_from, race_document_from, race_reading}
+use Rattle.am_script.specs.Scripts.{script_of, play_keys, parts_of_play, play_from, behind, document_from, document_in, reading}
 use Rattle.am_script.proofs.Steps.{same_ok, ok_then, if_ok, object_ok, each_from_within}
 use Rattle.am_base.specs.Names.{name_at}
 use Rattle.am_texts.specs.Schedules.{IsOfBytes, AreOfBytes}
@@ -153,41 +152,34 @@ race_of_bytes d plan h = object_ok race_keys key.Race d _ plan h (λ told.
     ok_then (value_in key.Threads 0 d) _ plan r5 (λ v there r6. ok_then (threads_from founding.resilience v) _ plan r6 (λ threads listed last.
     subst (λ (x : RacePlan). All ThreadOfBytes x.threads) (sized _ plan last) (threads_of_bytes founding.resilience v threads listed)))))))))
 
--- ---- scripts
+-- ---- documents
 
--- what holds of what a script's bodies are in
-abbrev ScriptOfBytes : Script → Type 0
-ScriptOfBytes (Play founding events settles) = AreOfBytes events
-ScriptOfBytes (Race plan) = All ThreadOfBytes plan.threads
+by_document : {A : Type 0} (from : Data → Read A) (Has : A → Type 0) → ((d : Data) (x : A) → from d ≡ Ok x → Has x)
+    → (o : Option Data) (x : A) (otherwise : Read A) → (otherwise ≡ Ok x → ⊥) → option_map_or from o otherwise ≡ Ok x → Has x
+by_document from Has told None x otherwise never h = absurd (never h)
+by_document from Has told (Some d) x otherwise never h = told d x h
 
-play_of_bytes : (d : Data) (s : Script) → play_from d ≡ Ok s → ScriptOfBytes s
+play_of_bytes : (d : Data) (s : Script) → play_from d ≡ Ok s → AreOfBytes s.events
 unfolding play_from parts_of_play
 play_of_bytes d s h = object_ok play_keys key.Play d _ s h (λ whole.
     ok_then (founding_in d) _ s whole (λ founding founded rest. ok_then (flag_or false key.Settle 0 d) _ s rest (λ settle told more.
     ok_then (value_in key.Events 0 d) _ s more (λ v there later. ok_then (events_from founding.resilience v) _ s later (λ events listed is.
-    subst (λ (x : Script). ScriptOfBytes x) (same_ok _ s is) (events_of_bytes founding.resilience v events listed))))))
+    subst (λ (x : Script). AreOfBytes x.events) (same_ok _ s is) (events_of_bytes founding.resilience v events listed))))))
 
-script_of_bytes : (k : Key) (d : Data) (s : Script) → script_from k d ≡ Ok s → ScriptOfBytes s
-script_of_bytes key.Race d s h = ok_then (race_from d) _ s h (λ plan told is.
-    subst (λ (x : Script). ScriptOfBytes x) (same_ok _ s is) (race_of_bytes d plan told))
-script_of_bytes _ d s h = play_of_bytes d s h
-
-document_of_bytes : (k : Key) (d : Data) (s : Script) → document_from k d ≡ Ok s → ScriptOfBytes s
+script_of_bytes : (d : Data) (s : Script) → document_from d ≡ Ok s → AreOfBytes s.events
 unfolding document_from
-document_of_bytes k d s h = if_ok (is_some (as_object d)) _ _ s h (λ there inner. ok_then (value_in k 0 d) _ s inner (λ v found rest.
-    if_ok (has_only (k ∷ []) d) _ _ s rest (λ only told. script_of_bytes k v s told)))
-
-by_document : (k : Key) (o : Option Data) (s : Script) (otherwise : Read Script) → (otherwise ≡ Ok s → ⊥)
-    → option_map_or (document_from k) o otherwise ≡ Ok s → ScriptOfBytes s
-by_document k None s otherwise never h = absurd (never h)
-by_document k (Some d) s otherwise never h = document_of_bytes k d s h
-
-reading_of_bytes : (k : Key) (bytes : List ℕ) (s : Script) → reading k bytes ≡ Ok s → ScriptOfBytes s
-unfolding reading
-reading_of_bytes k bytes s h = by_document k (document_in bytes) s _ (λ is. cc) h
+script_of_bytes d s h = ok_then (behind key.Play d) play_from s h (λ v there told. play_of_bytes v s told)
 
 pub plays_are_of_bytes : PlaysAreOfBytes
-plays_are_of_bytes bytes founding events settles is = reading_of_bytes key.Play bytes (Play founding events settles) is
+unfolding reading
+plays_are_of_bytes bytes founding events settles is =
+    by_document document_from (λ (s : Script). AreOfBytes s.events) script_of_bytes (document_in bytes) (script_of founding events settles) _ (λ never. cc) is
+
+plan_of_bytes : (d : Data) (plan : RacePlan) → race_document_from d ≡ Ok plan → All ThreadOfBytes plan.threads
+unfolding race_document_from
+plan_of_bytes d plan h = ok_then (behind key.Race d) race_from plan h (λ v there told. race_of_bytes v plan told)
 
 pub races_are_of_bytes : RacesAreOfBytes
-races_are_of_bytes bytes plan is = reading_of_bytes key.Race bytes (Race plan) is
+unfolding race_reading
+races_are_of_bytes bytes plan is =
+    by_document race_document_from (λ (p : RacePlan). All ThreadOfBytes p.threads) plan_of_bytes (document_in bytes) plan _ (λ never. cc) is

@@ -23,7 +23,8 @@ use Rattle.am_play.specs.World.{World, current, acts_as, run}
 use Rattle.am_laws.specs.Bytes.{BodyWithin}
 use Rattle.am_laws.specs.Numbers.{NodeNumbers}
 use Rattle.am_laws.proofs.RunCounts.{numbers_hold}
-use Rattle.am_script.specs.Limits.{IsCount, ActWithin, EventWithin, CallWithin, ThreadWithin, RaceWithin}
+use Rattle.am_script.specs.Limits.{IsCount, ActWithin, EventWithin}
+use Rattle.am_race_script.specs.Limits.{CallWithin, ThreadWithin, RaceWithin}
 use Rattle.am_wire.specs.Seats.{Follows}
 use Rattle.am_wire.specs.Stops.{has_stopped}
 use Rattle.am_races.specs.Answers.{own_answer, send_answer, ballot_answer, request_in}

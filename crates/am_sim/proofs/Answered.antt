@@ -15,10 +15,8 @@ use Rattle.am_replicated.proofs.Holding.{replicas_hold}
 use Rattle.am_pump.specs.Generating.{generated_rules, events_of_seed}
 use Rattle.am_pump.proofs.Rules.{may_found}
 use Rattle.am_words.specs.declared.form.Numbers.{Numbers}
-use Rattle.am_script.specs.declared.script.Script.TheVariants.{Race}
-use Rattle.am_script.specs.declared.key.Key.TheVariants as key
-use Rattle.am_script.specs.Scripts.{reading}
-use Rattle.am_script.specs.Limits.{RaceWithin}
+use Rattle.am_race_script.specs.Races.{race_reading}
+use Rattle.am_race_script.specs.Limits.{RaceWithin}
 use Rattle.am_audit.specs.Lines.{Reading, read_text}
 use Rattle.am_audit.specs.Verdicts.{verdict_of, verdict_line}
 use Rattle.am_audit.proofs.Wrongs.{agrees_means, lists_agree_means}
@@ -137,7 +135,7 @@ pub gave_none : (limit : ℕ) (left : Option (List ℕ)) → GaveAtMost limit le
 gave_none limit (Some left) = ([], refl, omega arith)
 gave_none limit None = ([], tt, omega arith)
 
-pub raced_by : (bytes text : List ℕ) (plan : RacePlan) → reading key.Race bytes ≡ Ok (Race plan) → RaceWithin plan → IsRaceText plan text → Raced bytes text
+pub raced_by : (bytes text : List ℕ) (plan : RacePlan) → race_reading bytes ≡ Ok plan → RaceWithin plan → IsRaceText plan text → Raced bytes text
 raced_by bytes text plan is within (journal, raced, same, again) = record {
   plan = plan;
   script = is;

@@ -17,10 +17,10 @@ use Rattle.am_play.specs.Settle.{Settling, and_then, event_at, ticks, hearings_o
 use Rattle.am_play.specs.Play.{text_of}
 use Rattle.am_laws.specs.Bytes.{BodyWithin, IsShort}
 use Rattle.am_texts.specs.Schedules.{script_text, IsOfBytes, AreOfBytes}
-use Rattle.am_script.specs.declared.key.Key.TheVariants as key
-use Rattle.am_script.specs.declared.script.Script.TheVariants.{Play, Race}
-use Rattle.am_script.specs.Scripts.{reading}
-use Rattle.am_script.specs.Limits.{ActWithin, EventWithin, IsWithin, CallWithin, ThreadWithin, RaceWithin}
+use Rattle.am_script.specs.Scripts.{script_of, reading}
+use Rattle.am_race_script.specs.Races.{race_reading}
+use Rattle.am_script.specs.Limits.{ActWithin, EventWithin, IsWithin}
+use Rattle.am_race_script.specs.Limits.{CallWithin, ThreadWithin, RaceWithin}
 use Rattle.am_scripted.specs.Bodies.{ThreadOfBytes}
 use Rattle.am_scripted.proofs.Bodies.{plays_are_of_bytes, races_are_of_bytes}
 use Rattle.am_scripted.specs.RacedBodies.{HasBody, ThreadHasBodies}
@@ -98,12 +98,12 @@ short rules events founds has few = record {
 of_bytes : (events : List Event) → All Has events → AreOfBytes events
 of_bytes events has = All-weaker Has (λ (e : Event). IsOfBytes e.act) (λ e h. h.bytes) events has
 
-play_has : (bytes : List ℕ) (founding : Rules) (events : List Event) (settles : Bool) → reading key.Play bytes ≡ Ok (Play founding events settles)
+play_has : (bytes : List ℕ) (founding : Rules) (events : List Event) (settles : Bool) → reading bytes ≡ Ok (script_of founding events settles)
     → IsWithin founding events → All Has (done_of founding events settles)
 play_has bytes founding events settles is within =
     done_have founding events settles (events_have events within.each (plays_are_of_bytes bytes founding events settles is))
 
-pub play_reads : (bytes : List ℕ) (founding : Rules) (events : List Event) (settles : Bool) → reading key.Play bytes ≡ Ok (Play founding events settles)
+pub play_reads : (bytes : List ℕ) (founding : Rules) (events : List Event) (settles : Bool) → reading bytes ≡ Ok (script_of founding events settles)
     → IsWithin founding events → length (done_of founding events settles) ≤ most_events
     → ReadsAs founding (done_of founding events settles) (text_of founding (done_of founding events settles))
 play_reads bytes founding events settles is within few =
@@ -111,7 +111,7 @@ play_reads bytes founding events settles is within few =
     let has = play_has bytes founding events settles is within in
     runs_have_their_texts founding done (short founding done within.may_found has few) (of_bytes done has)
 
-pub play_agrees : (bytes : List ℕ) (founding : Rules) (events : List Event) (settles : Bool) → reading key.Play bytes ≡ Ok (Play founding events settles)
+pub play_agrees : (bytes : List ℕ) (founding : Rules) (events : List Event) (settles : Bool) → reading bytes ≡ Ok (script_of founding events settles)
     → IsWithin founding events → length (done_of founding events settles) ≤ most_events → IsOfOneList founding (done_of founding events settles)
     → AgreesAs founding (done_of founding events settles) (text_of founding (done_of founding events settles))
 play_agrees bytes founding events settles is within few one =
@@ -136,18 +136,18 @@ threads_have (t ∷ threads) within bytes = All-cons ThreadHasBodies t threads
     (calls_have t.calls (All-head ThreadWithin t threads within).calls (All-head ThreadOfBytes t threads bytes))
     (threads_have threads (All-tail ThreadWithin t threads within) (All-tail ThreadOfBytes t threads bytes))
 
-race_threads : (bytes : List ℕ) (plan : RacePlan) → reading key.Race bytes ≡ Ok (Race plan) → RaceWithin plan → All ThreadHasBodies plan.threads
+race_threads : (bytes : List ℕ) (plan : RacePlan) → race_reading bytes ≡ Ok plan → RaceWithin plan → All ThreadHasBodies plan.threads
 race_threads bytes plan is within = threads_have plan.threads within.each (races_are_of_bytes bytes plan is)
 
-race_has : (bytes : List ℕ) (plan : RacePlan) (journal : List Record) → reading key.Race bytes ≡ Ok (Race plan) → RaceWithin plan → IsRaced plan journal
+race_has : (bytes : List ℕ) (plan : RacePlan) (journal : List Record) → race_reading bytes ≡ Ok plan → RaceWithin plan → IsRaced plan journal
     → All Has (events_of journal)
 race_has bytes plan journal is within raced =
     All-map Has (λ (r : Record). r.event) journal (races_have_planned_bodies plan journal (race_threads bytes plan is within) raced.legal)
 
 -- what was done is read as a script
-pub race_again : (bytes : List ℕ) (plan : RacePlan) (journal : List Record) → reading key.Race bytes ≡ Ok (Race plan) → RaceWithin plan → IsRaced plan journal
+pub race_again : (bytes : List ℕ) (plan : RacePlan) (journal : List Record) → race_reading bytes ≡ Ok plan → RaceWithin plan → IsRaced plan journal
     → IsReadAgain plan.founding (events_of journal)
-    → reading key.Play (script_text plan.founding (events_of journal)) ≡ Ok (Play plan.founding (events_of journal) false)
+    → reading (script_text plan.founding (events_of journal)) ≡ Ok (script_of plan.founding (events_of journal) false)
 race_again bytes plan journal is within raced again =
     again (races_have_scripts plan journal within (race_threads bytes plan is within) raced.few raced.legal)
     (of_bytes (events_of journal) (race_has bytes plan journal is within raced))
@@ -155,7 +155,7 @@ race_again bytes plan journal is within raced again =
 race_few : (plan : RacePlan) (journal : List Record) → IsRaced plan journal → length (events_of journal) ≤ most_events
 race_few plan journal raced = let few = raced.few in omega (arith, length-map journal (λ (r : Record). r.event), few)
 
-pub race_reads : (bytes : List ℕ) (plan : RacePlan) (journal : List Record) → reading key.Race bytes ≡ Ok (Race plan) → RaceWithin plan → IsRaced plan journal
+pub race_reads : (bytes : List ℕ) (plan : RacePlan) (journal : List Record) → race_reading bytes ≡ Ok plan → RaceWithin plan → IsRaced plan journal
     → ReadsAs plan.founding (events_of journal) (race_text plan.founding (events_of journal))
 race_reads bytes plan journal is within raced =
     let done = events_of journal in
@@ -163,7 +163,7 @@ race_reads bytes plan journal is within raced =
     scripts_are_passed_over plan.founding done (of_bytes done has)
     (runs_have_their_texts plan.founding done (short plan.founding done within.may_found has (race_few plan journal raced)) (of_bytes done has))
 
-pub race_agrees : (bytes : List ℕ) (plan : RacePlan) (journal : List Record) → reading key.Race bytes ≡ Ok (Race plan) → RaceWithin plan → IsRaced plan journal
+pub race_agrees : (bytes : List ℕ) (plan : RacePlan) (journal : List Record) → race_reading bytes ≡ Ok plan → RaceWithin plan → IsRaced plan journal
     → IsOfOneList plan.founding (events_of journal) → AgreesAs plan.founding (events_of journal) (race_text plan.founding (events_of journal))
 race_agrees bytes plan journal is within raced one =
     let done = events_of journal in

@@ -7,10 +7,8 @@ use Rattle.am_group.specs.declared.event.Record.{Record}
 use Rattle.am_group.specs.declared.plan.RacePlan.{RacePlan}
 use Rattle.am_play.specs.Text.{newline}
 use Rattle.am_play.specs.Play.{text_of}
-use Rattle.am_script.specs.declared.key.Key.TheVariants as key
-use Rattle.am_script.specs.declared.script.Script.TheVariants.{Play}
 use Rattle.am_script.specs.Limits.{IsWithin}
-use Rattle.am_script.specs.Scripts.{reading}
+use Rattle.am_script.specs.Scripts.{script_of, reading}
 use Rattle.am_texts.specs.Schedules.{script_text, AreOfBytes}
 use Rattle.am_races.specs.Legal.{IsLegalWithTags}
 use Rattle.am_races.specs.Plans.{calls_of, ArePlayed}
@@ -31,7 +29,7 @@ pub record IsRaced (plan : RacePlan) (journal : List Record) : Type 0 where
 
 -- events within the limits of scripts are read again as their script
 abbrev pub IsReadAgain : Rules → List Event → Type 0
-IsReadAgain rules events = IsWithin rules events → AreOfBytes events → reading key.Play (script_text rules events) ≡ Ok (Play rules events false)
+IsReadAgain rules events = IsWithin rules events → AreOfBytes events → reading (script_text rules events) ≡ Ok (script_of rules events false)
 
 -- a text is that of a journal of a race, whose script is read again
 abbrev pub IsRaceText : RacePlan → List ℕ → Type 0

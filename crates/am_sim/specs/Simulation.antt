@@ -13,9 +13,9 @@ use Rattle.am_play.specs.Play.{summary_text_of}
 use Rattle.am_play.specs.Text.{newline}
 use Rattle.am_play.specs.Claims.{Headline, FitsView, Sent, NoBallot, HoldsUnballoted}
 use Rattle.am_play.specs.Lawful.{lawful_front}
-use Rattle.am_script.specs.Scripts.{reading}
-use Rattle.am_script.specs.declared.key.Key.{Key}
-use Rattle.am_script.specs.declared.key.Key.TheVariants as key
+use Rattle.am_script.specs.Scripts.{script_of, reading}
+use Rattle.am_script.specs.declared.refusal.ScriptRefusal.{ScriptRefusal}
+use Rattle.am_race_script.specs.Races.{race_reading}
 use Rattle.am_player.specs.Runs.{done_of, run_watch}
 use Rattle.am_player.specs.Plays.{Repaired}
 use Rattle.am_player.specs.Statuses.{most_input}
@@ -42,7 +42,6 @@ use Rattle.am_words.specs.declared.form.Shown.TheVariants as shown
 use Rattle.am_seg.specs.Parts.{most_message}
 use Rattle.am_services.specs.Texts.{parts_text}
 use Rattle.am_texts.specs.Schedules.{script_text}
-use Rattle.am_script.specs.declared.script.Script.TheVariants.{Play, Race}
 use Rattle.am_player.specs.declared.status.Status.{Status}
 use Rattle.am_player.specs.declared.status.Status.TheVariants.{Done, WriteFault, NoMemory, BadText, Disagrees}
 
@@ -74,7 +73,7 @@ pub record Played (what : Shown) (bytes text : List ℕ) : Type 0 where
   pub founding : Rules
   pub events : List Event
   pub settles : Bool
-  pub script : reading key.Play bytes ≡ Ok (Play founding events settles)
+  pub script : reading bytes ≡ Ok (script_of founding events settles)
   pub written : text ≡ shown_text what founding (run_watch founding events settles)
   pub few : length (done_of founding events settles) ≤ most_events
   pub keeps : Keeps founding (done_of founding events settles)
@@ -169,10 +168,10 @@ Waits (Some form.Race) = Unit {0}
 Waits (Some (form.Node node)) = Unit {0}
 Waits _ = ⊥
 
--- the key of the script that is read
-abbrev pub key_for : Option Form → Key
-key_for (Some form.Race) = key.Race
-key_for _ = key.Play
+-- by this first cause the bytes are no race, or no play where that is read
+abbrev pub IsRefused : Option Form → List ℕ → ScriptRefusal → Type 0
+IsRefused (Some form.Race) bytes cause = race_reading bytes ≡ Err cause
+IsRefused _ bytes cause = reading bytes ≡ Err cause
 
 -- how gen ends
 abbrev pub EndsGen : Status → Type 0
@@ -190,11 +189,11 @@ IfBadText _ claim = Unit {0}
 -- that line is read as this script; and that run keeps what is claimed; an audit tells of the whole text what it tells of a play's
 pub record Raced (bytes text : List ℕ) : Type 0 where
   pub plan : RacePlan
-  pub script : reading key.Race bytes ≡ Ok (Race plan)
+  pub script : race_reading bytes ≡ Ok plan
   pub journal : List Record
   pub raced : IsRaced plan journal
   pub written : text ≡ race_text plan.founding (events_of journal)
-  pub again : reading key.Play (script_text plan.founding (events_of journal)) ≡ Ok (Play plan.founding (events_of journal) false)
+  pub again : reading (script_text plan.founding (events_of journal)) ≡ Ok (script_of plan.founding (events_of journal) false)
   pub keeps : Keeps plan.founding (events_of journal)
   pub reads : ReadsAs plan.founding (events_of journal) text
   pub agrees : IsOfOneList plan.founding (events_of journal) → AgreesAs plan.founding (events_of journal) text

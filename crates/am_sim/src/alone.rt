@@ -1,14 +1,13 @@
 ghost use Rattle.std.specs.Prelude.{◌≡◌, ◌≢◌, ◌↔◌, ℕ, List, None, Some, Err, IfOk, IfSome, string_bytes};
 ghost use Rattle.std.specs.Io.KnownBytes.{Appends};
 ghost use Rattle.am_io.specs.Outside.{ReadToEnd, GaveMore, GaveAtMost};
-ghost use Rattle.am_script.specs.declared.key.Key.TheVariants as key;
 ghost use Rattle.am_script.specs.Scripts.{reading};
 ghost use Rattle.am_words.specs.Forms.{IsGen, Generates};
 ghost use Rattle.am_words.specs.declared.form.Form.TheVariants as form;
 ghost use Rattle.am_audit.specs.Lines.{read_text};
 ghost use Rattle.am_player.specs.Plays.{IsSpent};
 ghost use Rattle.am_player.specs.Statuses.{most_input, OnDone, OnWriteFault, IfBadScript, Writes, IsOfAudit, WrotePart, reads_after, writes_after};
-ghost use Rattle.am_sim.specs.Simulation.{form_of_words, most_of, Reads, Waits, key_for, EndsGen, IsAnswerAlone, IsPlayed, IsSummary, IfBadText, IfAudit, Judges};
+ghost use Rattle.am_sim.specs.Simulation.{form_of_words, most_of, Reads, Waits, IsRefused, EndsGen, IsAnswerAlone, IsPlayed, IsSummary, IfBadText, IfAudit, Judges};
 
 use crate::auditing::audit_text;
 use crate::generating::{generate_script, summary_of_run};
@@ -48,7 +47,7 @@ pub fn simulate_alone<S: Source, K: Sink>(
         → GaveAtMost (most_of (form_of_words words.now)) (S.left source.old) (S.left source.new)) }
     ensures bad_script { IfSome result (λ status. IfBadScript status (λ cause. (bytes : List ℕ)
         × ReadToEnd (S.left source.old) (S.left source.new) bytes
-        × (reading (key_for (form_of_words words.now)) bytes ≡ Err cause))) }
+        × IsRefused (form_of_words words.now) bytes cause)) }
     ensures spent { IfSome result (λ status. status ≡ Status.Spent → (bytes : List ℕ)
         × ReadToEnd (S.left source.old) (S.left source.new) bytes × IsSpent bytes) }
     ensures part { IfSome result (λ status. OnWriteFault status ((text : List ℕ)
@@ -118,7 +117,7 @@ fn play<S: Source, K: Sink>(alloc: Global, shown: Shown, source: &mut S, sink: &
         → GaveAtMost most_input (S.left source.old) (S.left source.new) }
     ensures bad_script { IfBadScript result (λ cause. (bytes : List ℕ)
         × ReadToEnd (S.left source.old) (S.left source.new) bytes
-        × (reading key.Play bytes ≡ Err cause)) }
+        × (reading bytes ≡ Err cause)) }
     ensures spent { result ≡ Status.Spent → (bytes : List ℕ)
         × ReadToEnd (S.left source.old) (S.left source.new) bytes × IsSpent bytes }
     ensures part { OnWriteFault result ((text : List ℕ)

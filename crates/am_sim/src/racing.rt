@@ -6,7 +6,7 @@ ghost use Rattle.am_io.specs.Buffers.{Goes};
 ghost use Rattle.am_play.specs.Play.{text_of};
 ghost use Rattle.am_play.specs.Text.{newline};
 ghost use Rattle.am_player.specs.Runs.{logged_in};
-ghost use Rattle.am_script.specs.Limits.{RaceWithin};
+ghost use Rattle.am_race_script.specs.Limits.{RaceWithin};
 ghost use Rattle.am_world.specs.Runs.{replay};
 ghost use Rattle.am_sim.specs.Racing.{events_of, race_text, IsRaced, IsReadAgain, IsRaceText};
 
@@ -71,20 +71,14 @@ fn world_of_events(alloc: Global, founding: &Founding, events: &[Event]) -> Resu
 }
 
 /// Adds a script in one line, and the text of what a world did.
-#[tactic(auto, using(am_io::proofs::Writers::in_turn))]
-fn push_race<O: Writer>(
-    out: &mut O,
-    script: &str,
-    world: &World,
-    names: &[Name],
-) -> Result<(), O::Fault>
+fn push_race<O: Writer>(out: &mut O, script: &str, world: &World, names: &[Name])
     requires { names.now ≡ logged_in (replay world.now) }
-    ensures { OnOk result (WritesInCalls O.writes out.old
-        (script.now ++ (newline ++ text_of world.now.rules world.now.events)) out.new) }
+    ensures { WritesInCalls O.writes out.old
+        (script.now ++ (newline ++ text_of world.now.rules world.now.events)) out.new }
 {
-    out.put(script)?;
-    out.put("\n")?;
-    push_run(out, world, names)
+    out.put(script);
+    out.put("\n");
+    push_run(out, world, names);
 }
 
 /// Writes what was done as a script, in one line, and the text of the run of that. After an error nothing was written.
@@ -103,10 +97,8 @@ fn write_events<K: Sink>(
     let script = script_text(alloc, founding, events)?;
     let world = world_of_events(alloc, founding, events)?;
     let names = logged_names(alloc, &world)?;
-    match push_race(out, script.as_str(), &world, names.as_slice()) {
-        Ok(()) => Ok(()),
-        Err(never) => match never {},
-    }
+    push_race(out, script.as_str(), &world, names.as_slice());
+    Ok(())
 }
 
 /// Writes the text of a race: what was done as a script, in one line, and the text of the run of that. After an error nothing was

@@ -2,32 +2,26 @@ ghost use Rattle.std.specs.Prelude.{◌≡◌, ◌≢◌, ◌↔◌, ℕ, List, 
 ghost use Rattle.std.specs.Io.KnownBytes.{Appends};
 ghost use Rattle.am_io.specs.Buffers.{Goes};
 ghost use Rattle.am_io.specs.Outside.{ReadToEnd, GaveMore, GaveAtMost};
-ghost use Rattle.am_script.specs.declared.key.Key.TheVariants as key;
-ghost use Rattle.am_script.specs.declared.script.Script.TheVariants as scripts;
-ghost use Rattle.am_script.specs.Limits.{RaceWithin};
-ghost use Rattle.am_script.specs.Scripts.{reading};
+ghost use Rattle.am_race_script.specs.Races.{race_reading};
 ghost use Rattle.am_words.specs.declared.form.Form.TheVariants as form;
 ghost use Rattle.am_words.specs.Forms.{Generates};
 ghost use Rattle.am_sim.specs.Speaking.{Spoken, IfNode, IsNode};
 ghost use Rattle.am_audit.specs.Lines.{read_text};
 ghost use Rattle.am_player.specs.Plays.{IsSpent};
 ghost use Rattle.am_player.specs.Statuses.{most_input, OnDone, OnWriteFault, IfBadScript, Writes, IsOfAudit, WrotePart, reads_after, writes_after};
-ghost use Rattle.am_sim.specs.Simulation.{form_of_words, most_of, Reads, key_for, EndsGen, IsAnswer, IsRacedText, IfBadText, IfAudit, Judges, Raced};
+ghost use Rattle.am_sim.specs.Simulation.{form_of_words, most_of, Reads, IsRefused, EndsGen, IsAnswer, IsRacedText, IfBadText, IfAudit, Judges, Raced};
 
 use crate::alone::simulate_alone;
 use crate::racing::write_race;
 use crate::speaking::{node_in, speak_node};
 use am_calls::gate::Gate;
-use am_group::plan::RacePlan;
 use am_io::buffered::Buffered;
 use am_io::outside::{Sink, Source};
 use am_io::whole::{ReadRefusal, read_all};
 use am_player::play::INPUT_MOST;
 use am_player::status::Status;
-use am_script::key::Key;
-use am_script::read::read_script;
+use am_race_script::read::read_race;
 use am_script::refusal::ScriptRefusal;
-use am_script::script::Script;
 use am_words::form::{Form, form_of};
 use std::alloc::Global;
 use std::sync::Wait;
@@ -60,7 +54,7 @@ pub fn simulate<R: Threads + Wait + Sync, S: Source, K: Sink, G: Gate + Sync>(
         → GaveAtMost (most_of (form_of_words words.now)) (S.left source.old) (S.left source.new) }
     ensures bad_script { IfBadScript result (λ cause. (bytes : List ℕ)
         × ReadToEnd (S.left source.old) (S.left source.new) bytes
-        × (reading (key_for (form_of_words words.now)) bytes ≡ Err cause)) }
+        × IsRefused (form_of_words words.now) bytes cause) }
     ensures spent { result ≡ Status.Spent → (bytes : List ℕ)
         × ReadToEnd (S.left source.old) (S.left source.new) bytes × IsSpent bytes }
     ensures spoken { IfNode (form_of_words words.now) (λ node. Spoken node result
@@ -127,7 +121,7 @@ fn race_script<R: Threads + Wait + Sync, S: Source, K: Sink, G: Gate + Sync>(
         → GaveAtMost most_input (S.left source.old) (S.left source.new) }
     ensures bad_script { IfBadScript result (λ cause. (bytes : List ℕ)
         × ReadToEnd (S.left source.old) (S.left source.new) bytes
-        × (reading key.Race bytes ≡ Err cause)) }
+        × (race_reading bytes ≡ Err cause)) }
     ensures part { OnWriteFault result ((text : List ℕ)
         × IsRacedText (S.left source.old) (S.left source.new) text
         × WrotePart (K.contents sink.old) (K.contents sink.new) text) }
@@ -145,30 +139,12 @@ fn race_script<R: Threads + Wait + Sync, S: Source, K: Sink, G: Gate + Sync>(
     let mut out = Buffered::new(sink);
     match race_answer(rt, alloc, gate, bytes.as_slice(), &mut out) {
         Ok(()) => {}
-        Err(cause) => {
-            if cause == ScriptRefusal::NoMemory {
-                return Status::NoMemory;
-            }
-            return Status::BadScript(cause);
-        }
+        Err(ScriptRefusal::NoMemory) => return Status::NoMemory,
+        Err(cause) => return Status::BadScript(cause),
     }
     match out.finish() {
         Ok(()) => Status::Done,
         Err(_) => Status::WriteFault,
-    }
-}
-
-/// The plan of the race that bytes are.
-fn plan_of(alloc: Global, bytes: &[u8]) -> Result<RacePlan, ScriptRefusal>
-    ensures plan { IfOk result (λ plan. reading key.Race bytes.now ≡ Ok (scripts.Race plan)) }
-    ensures within { IfOk result RaceWithin }
-    ensures refused { IfErr result (λ e. e ≢ ScriptRefusal.NoMemory
-        → reading key.Race bytes.now ≡ Err e) }
-{
-    let script = read_script(alloc, Key::Race, bytes)?;
-    match script {
-        Script::Race(plan) => Ok(plan),
-        Script::Play { .. } => unreachable!(),
     }
 }
 
@@ -183,10 +159,10 @@ fn race_answer<R: Threads + Wait + Sync, G: Gate + Sync, K: Sink>(
     ensures raced { OnOk result ((text : List ℕ) × Raced bytes.now text
         × Goes K.contents K.count out.old text out.new) }
     ensures refused { IfErr result (λ e. e ≢ ScriptRefusal.NoMemory
-        → reading key.Race bytes.now ≡ Err e) }
+        → race_reading bytes.now ≡ Err e) }
     ensures unwritten { OnErr result (out.new ≡ out.old) }
 {
-    let plan = plan_of(alloc, bytes)?;
+    let plan = read_race(alloc, bytes)?;
     write_race(rt, alloc, gate, &plan, out)?;
     Ok(())
 }

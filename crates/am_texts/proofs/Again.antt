@@ -27,8 +27,7 @@ use Rattle.am_script.specs.declared.key.Key.{Key}
 use Rattle.am_script.specs.declared.key.Key.TheVariants as key
 use Rattle.am_script.specs.Events.{kind_of, kind_in, event_as, event_from, events_from, send_in, reset_in, give_up_in, cut_in, act_in}
 use Rattle.am_script.specs.Founders.{each_founder, founders_from, founding_in}
-use Rattle.am_script.specs.Scripts.{play_from, parts_of_play, document_from, document_in, reading}
-use Rattle.am_script.specs.declared.script.Script.TheVariants.{Play}
+use Rattle.am_script.specs.Scripts.{script_of, play_from, parts_of_play, behind, document_from, document_in, reading}
 use Rattle.am_script.specs.Limits.{IsWithin, EventWithin, ActWithin}
 use Rattle.am_script.specs.Values.{each_from, number_from, body_from, is_digit}
 use Rattle.am_texts.proofs.Documents.{count, event_data, events_items, places_items, play_data, document}
@@ -179,7 +178,7 @@ some_founders rules may =
 -- ---- the whole
 
 play_again : (rules : Rules) (events : List Event) → IsWithin rules events → AreOfBytes events
-    → play_from (play_data rules events) ≡ Ok (Play rules events false)
+    → play_from (play_data rules events) ≡ Ok (script_of rules events false)
 unfolding play_from parts_of_play founding_in events_from
 play_again rules events w bytes =
     let may = w.may_found in
@@ -192,12 +191,12 @@ play_again rules events w bytes =
     ) refl
 
 pub again : (rules : Rules) (events : List Event) → IsWithin rules events → AreOfBytes events → IsUtf8 (script_text rules events)
-    → reading key.Play (script_text rules events) ≡ Ok (Play rules events false)
-unfolding reading document_from document_in document
+    → reading (script_text rules events) ≡ Ok (script_of rules events false)
+unfolding reading document_from behind document_in document
 again rules events w bytes utf8 =
     rw (is_utf8-from_IsUtf8 (script_text rules events) utf8, reread rules events w) (rw (play_again rules events w bytes) refl)
 
 pub text_again : {Z : Type 0} (text : String Z) (rules : Rules) (events : List Event) → string_bytes text ≡ script_text rules events
-    → IsWithin rules events → AreOfBytes events → reading key.Play (string_bytes text) ≡ Ok (Play rules events false)
+    → IsWithin rules events → AreOfBytes events → reading (string_bytes text) ≡ Ok (script_of rules events false)
 text_again text rules events same w bytes =
-    ap (reading key.Play) same ∙ again rules events w bytes (subst IsUtf8 same (IsUtf8-string_bytes text))
+    ap reading same ∙ again rules events w bytes (subst IsUtf8 same (IsUtf8-string_bytes text))

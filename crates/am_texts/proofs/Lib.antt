@@ -1,4 +1,5 @@
 mod Documents
+pub mod Holding
 mod Written
 mod ReadBack
 mod Again

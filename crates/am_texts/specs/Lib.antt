@@ -1,3 +1,4 @@
+pub mod Holding
 pub mod Memory
 pub mod Schedules
 pub mod Summaries

@@ -1,7 +1,8 @@
 //! What was done, written as a script that is read again; the summary of a run; the parts of a report as texts in memory; and sources
 //! and sinks in memory, with faults where a test wants them.
-#![tactic(auto, using(am_io::proofs::Writers::in_turn))]
+#![tactic(auto)]
 
+pub mod held;
 pub mod memory;
 pub mod script;
 pub mod summary;

@@ -1,8 +1,6 @@
 ghost use Rattle.std.specs.Prelude.{◌≡◌, ◌++◌, OnOk, IfOk, Ok, false, string_bytes};
-ghost use Rattle.am_script.specs.declared.key.Key.TheVariants as key;
-ghost use Rattle.am_script.specs.declared.script.Script.TheVariants.{Play};
 ghost use Rattle.am_script.specs.Limits.{IsWithin};
-ghost use Rattle.am_script.specs.Scripts.{reading};
+ghost use Rattle.am_script.specs.Scripts.{script_of, reading};
 ghost use Rattle.am_texts.specs.Schedules.{life_json, resilience_json, body_json, keys_before, keys_behind, word_json, event_json, others_json, list_json, events_json, founders_json, numbers_json, script_text, AreOfBytes};
 
 use crate::text::{push_bytes, push_names};
@@ -196,7 +194,7 @@ pub fn script_text(alloc: Global, founding: &Founding, events: &[Event]) -> Resu
     ensures text { IfOk result (λ text. string_bytes text ≡ script_text founding.now events.now) }
     ensures again { IfOk result (λ text. IsWithin founding.now events.now
         → AreOfBytes events.now
-        → reading key.Play (string_bytes text) ≡ Ok (Play founding.now events.now false)) }
+        → reading (string_bytes text) ≡ Ok (script_of founding.now events.now false)) }
 {
     let text = written(alloc, founding, events)?;
     Ok(text)

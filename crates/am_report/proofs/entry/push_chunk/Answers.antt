@@ -1,7 +1,6 @@
 use Rattle.std.proofs.Common.{◌∙◌, arith}
 use Rattle.std.specs.Fmt.{WritesInCalls}
 use Rattle.std.proofs.Common.{subst}
-use Rattle.std.proofs.lemmas.Result.{on_ok_weaker}
 use Rattle.am_report.proofs.Digits.{encoded, digits_are_text}
 use Rattle.am_report.proofs.entry.push_chunk.Goals as goal
 
@@ -11,4 +10,4 @@ unreachable-requires g c = (c.in_default.ensures.cases).0 (digits_are_text c.arg
 pub returns : goal.returns
 returns g c =
     let digits = (c.in-Ok.ensures.cases).0 ∙ (rw c.unwrap.ensures at c.encode_to_slice.ensures.written) ∙ encoded c.args.bytes.now (λ i. omega (arith, c.type_inv.bytes i)) in
-    on_ok_weaker c.put.result (subst (λ words. WritesInCalls g.O.Writer.writes c.args.out.now words c.put.new.self) digits) c.put.ensures
+    subst (λ words. WritesInCalls g.O.Writer.writes c.args.out.now words c.put.new.self) digits c.put.ensures

@@ -11,4 +11,4 @@ returns-clause-text g c =
     let world = c.in_ok-world.ensures in
     subst (λ text. Goes g.K.Sink.contents g.K.Sink.count c.args.out.now text c.push_race.new.out)
     (λ k. script k ++ (newline ++ text_of (world k).rules (world k).events))
-    (goes_in_calls g.K.Sink.contents g.K.Sink.count _ _ _ c.in-Ok.ensures)
+    (goes_in_calls g.K.Sink.contents g.K.Sink.count _ _ _ c.push_race.ensures)

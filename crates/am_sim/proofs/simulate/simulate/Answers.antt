@@ -4,9 +4,8 @@ use Rattle.am_io.specs.Outside.{ReadToEnd, GaveAtMost}
 use Rattle.am_words.specs.declared.form.Form.{Form}
 use Rattle.am_words.specs.declared.form.Form.TheVariants as form
 use Rattle.am_words.specs.Forms.{Generates}
-use Rattle.am_script.specs.Scripts.{reading}
 use Rattle.am_player.specs.Statuses.{IfBadScript, OnDone, OnWriteFault, WrotePart}
-use Rattle.am_sim.specs.Simulation.{form_of_words, most_of, Reads, key_for, IsAnswer}
+use Rattle.am_sim.specs.Simulation.{form_of_words, most_of, Reads, IsRefused, IsAnswer}
 use Rattle.am_sim.proofs.simulate.simulate.Given.{Over}
 use Rattle.am_sim.proofs.simulate.simulate.Goals as goal
 
@@ -28,7 +27,7 @@ pub returns-then-is_race-clause-bad_script : goal.returns-then-is_race-clause-ba
 returns-then-is_race-clause-bad_script g c =
     subst (λ (a : Option Form). IfBadScript c.race_script.result (λ cause. (x : List ℕ)
     × ReadToEnd (g.S.Source.left c.args.source.now) (g.S.Source.left c.race_script.new.source) x
-    × (reading (key_for a) x ≡ Err cause))) (sym (is_asked g c)) c.race_script.ensures.bad_script
+    × IsRefused a x cause)) (sym (is_asked g c)) c.race_script.ensures.bad_script
 
 pub returns-then-is_race-clause-part : goal.returns-then-is_race-clause-part
 returns-then-is_race-clause-part g c = λ not_node.

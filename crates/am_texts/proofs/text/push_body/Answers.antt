@@ -1,6 +1,12 @@
+use Rattle.std.proofs.Common.{◌≡◌, ◌++◌, ◌∙◌, arith, subst, string_bytes}
+use Rattle.std.proofs.lemmas.Grind.{common_steps}
 use Rattle.std.proofs.lemmas.Result.{on_ok_weaker}
-use Rattle.am_io.proofs.Writers.{text_after}
+use Rattle.am_play.specs.Text.{body_text}
+use Rattle.am_texts.proofs.Holding.{text_after, text_behind}
 use Rattle.am_texts.proofs.text.push_body.Goals as goal
 
 pub returns : goal.returns
-returns c = on_ok_weaker c.push_body.result (text_after _ _ _) c.push_body.ensures
+returns c =
+    let named = (text_after _ _ _ c.push_body.ensures).named ∙ c.new-held.ensures.named in
+    on_ok_weaker c.finish.result (λ sound. subst (λ t. t ≡ string_bytes c.args.out.now ++ body_text c.args.bytes.now)
+    (grind (arith, common_steps, named)) (text_behind _ _ _ _ c.new-held.ensures.text c.push_body.ensures sound)) c.finish.ensures

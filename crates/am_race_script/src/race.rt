@@ -2,20 +2,19 @@ ghost use Rattle.std.specs.Prelude.{◌≡◌, ◌≤◌, ◌<◌, ◌+◌, ◌*
 ghost use Rattle.am_script.specs.Seen.{seen, items_seen};
 ghost use Rattle.am_script.specs.Refusals.{Answers};
 ghost use Rattle.am_script.specs.Values.{each_from};
-ghost use Rattle.am_script.specs.Races.{most_turns, call_kind_in, call_as, call_from, calls_from, parts_of_thread, thread_from, each_thread, threads_from, calls_of, of_right_size, parts_of_race, race_from};
+ghost use Rattle.am_race_script.specs.Races.{most_turns, call_from, calls_from, parts_of_thread, thread_from, each_thread, threads_from, calls_of, of_right_size, parts_of_race, race_from};
 
-use crate::event::{act, kind};
-use crate::fields::{known, number_in, number_or, object, value_in};
-use crate::founding::founding;
-use crate::key::Key;
-use crate::kind::Kind;
-use crate::refusal::{Read, ScriptRefusal};
-use crate::tree::items;
+use crate::call::call;
 use am_base::items::Items;
 use am_base::limits::MOST_EVENTS;
 use am_base::name::Name;
 use am_group::event::Act;
 use am_group::plan::{RacePlan, ThreadPlan};
+use am_script::fields::{known, number_in, number_or, object, value_in};
+use am_script::founding::founding;
+use am_script::key::Key;
+use am_script::refusal::{Read, ScriptRefusal};
+use am_script::tree::items;
 use json::Value;
 use std::alloc::Global;
 
@@ -46,39 +45,6 @@ const MOST_TURNS: u64 = 10_000;
 
 /// The most calls of a race.
 const MOST_CALLS: u64 = 1_000;
-
-/// The kind of a call.
-#[tactic(auto, unfolding(crate::specs::Races::call_kind_in))]
-fn call_kind(call: &Value, place: u64) -> Read<Kind>
-    ensures { result ≡ call_kind_in place (seen call.now) }
-{
-    let kind = kind(call, place)?;
-    if !kind.is_call() {
-        return Err(ScriptRefusal::bad_value(Key::Do, place));
-    }
-    Ok(kind)
-}
-
-/// The act of a call of a kind.
-#[tactic(auto, unfolding(crate::specs::Races::call_as))]
-fn call_of_kind(alloc: Global, kind: Kind, call: &Value, place: u64, founding: u8) -> Read<Act>
-    requires { founding ≤ 15 }
-    ensures { Answers (call_as kind founding place (seen call.now)) result }
-{
-    known(kind.call_keys(), call, place)?;
-    act(alloc, kind, call, place, founding)
-}
-
-/// The act that a call tells, by its number over all threads and the founding's resilience.
-#[tactic(auto, unfolding(crate::specs::Races::call_from))]
-fn call(alloc: Global, value: &Value, place: u64, founding: u8) -> Read<Act>
-    requires { founding ≤ 15 }
-    ensures { Answers (call_from founding place (seen value.now)) result }
-{
-    object(value, Key::Calls, place)?;
-    let kind = call_kind(value, place)?;
-    call_of_kind(alloc, kind, value, place, founding)
-}
 
 /// The calls that values tell, in order, of which the first has this number.
 fn each_call(alloc: Global, list: &[Value], first: u64, founding: u8) -> Read<Items<Act>>
@@ -151,7 +117,7 @@ fn each_thread(alloc: Global, list: &[Value], founding: u8) -> Read<Items<Thread
 }
 
 /// The threads of a race: 1 to 16.
-#[tactic(auto, using(crate::proofs::Json::items_len_seen), unfolding(crate::specs::Races::threads_from))]
+#[tactic(auto, using(am_script::proofs::Json::items_len_seen), unfolding(crate::specs::Races::threads_from))]
 fn threads(alloc: Global, value: &Value, founding: u8) -> Read<Items<ThreadPlan>>
     requires { founding ≤ 15 }
     ensures { Answers (threads_from founding (seen value.now)) result }

@@ -1,8 +1,8 @@
 use Rattle.std.proofs.Common.{◌≡◌, ◌+◌, ◌*◌, ◌^◌, ◌≤◌, ◌++◌, drop, Ok}
 use Rattle.am_script.specs.Seen.{items_seen}
 use Rattle.am_script.specs.Refusals.{◌>>=◌}
-use Rattle.am_script.specs.Races.{each_thread}
-use Rattle.am_script.proofs.race.each_thread.Given as goal
+use Rattle.am_race_script.specs.Races.{each_thread}
+use Rattle.am_race_script.proofs.race.each_thread.Given as goal
 
 abbrev pub invariant-loop-value : goal.invariant-loop-value
 invariant-loop-value l = record {

@@ -1,6 +1,6 @@
 -- Races of scripts: threads, each with the calls that it makes at its node.
 use Rattle.std.specs.Prelude.{ℕ, ◌+◌, ◌*◌, ◌&&◌, nat_le, List, [], ◌∷◌, length, sum_by, Bool, true, false, if◌then◌else◌, is_some, Ok, Err}
-use Rattle.std.specs.Option.{ok_or}
+use Rattle.std.specs.Option.{ok_or, option_map_or}
 use Rattle.am_base.specs.Most.{most_events}
 use Rattle.serde_json.specs.Data.{Data, Items, no_items, item}
 use Rattle.serde_json.specs.Events.{items_len}
@@ -13,12 +13,13 @@ use Rattle.am_script.specs.declared.key.Key.{Key}
 use Rattle.am_script.specs.declared.key.Key.TheVariants as key
 use Rattle.am_script.specs.declared.kind.Kind.{Kind}
 use Rattle.am_script.specs.declared.kind.Kind.TheVariants.{Send, Take, Join, Leave, Reset, Stop}
-use Rattle.am_script.specs.declared.refusal.ScriptRefusal.TheVariants.{Unknown, BadValue, OutOfRange}
+use Rattle.am_script.specs.declared.refusal.ScriptRefusal.TheVariants.{NotJson, Unknown, BadValue, OutOfRange}
 use Rattle.am_script.specs.Keys.{has_only}
 use Rattle.am_script.specs.Refusals.{Read, ◌>>=◌}
 use Rattle.am_script.specs.Values.{of_object, object_with, each_from, value_in, number_in, number_or}
 use Rattle.am_script.specs.Events.{kind_in, act_in}
 use Rattle.am_script.specs.Founders.{founding_in}
+use Rattle.am_script.specs.Scripts.{behind, document_in}
 
 -- ---- limits
 
@@ -138,3 +139,11 @@ parts_of_race d = do
 -- a race: an object, with no other key
 unfoldable pub race_from : Data → Read RacePlan
 race_from d = object_with race_keys key.Race d (parts_of_race d)
+
+-- the race of a document
+unfoldable pub race_document_from : Data → Read RacePlan
+race_document_from d = behind key.Race d >>= race_from
+
+-- the race that bytes are, or the first cause that they are none
+unfoldable pub race_reading : List ℕ → Read RacePlan
+race_reading bytes = option_map_or race_document_from (document_in bytes) (Err NotJson)

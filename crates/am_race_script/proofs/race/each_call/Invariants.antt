@@ -2,8 +2,8 @@ use Rattle.std.proofs.Common.{◌≡◌, ◌+◌, ◌++◌, drop, Ok}
 use Rattle.am_script.specs.Seen.{items_seen}
 use Rattle.am_script.specs.Refusals.{◌>>=◌}
 use Rattle.am_script.specs.Values.{each_from}
-use Rattle.am_script.specs.Races.{call_from}
-use Rattle.am_script.proofs.race.each_call.Given as goal
+use Rattle.am_race_script.specs.Races.{call_from}
+use Rattle.am_race_script.proofs.race.each_call.Given as goal
 
 abbrev pub invariant-loop-before : goal.invariant-loop-before
 invariant-loop-before l = each_from (call_from l.fn.founding) l.first (items_seen l.list)

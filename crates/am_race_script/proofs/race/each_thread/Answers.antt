@@ -1,6 +1,6 @@
 use Rattle.std.proofs.Common.{arith, ap, length}
-use Rattle.am_script.proofs.Races.{threads_go_on}
-use Rattle.am_script.proofs.race.each_thread.Goals as goal
+use Rattle.am_race_script.proofs.Races.{threads_go_on}
+use Rattle.am_race_script.proofs.race.each_thread.Goals as goal
 
 pub loop-value-preserved : goal.loop-value-preserved
 loop-value-preserved c = record {

@@ -1,0 +1,67 @@
+ghost use Rattle.std.specs.Prelude.{◌≡◌, ◌≤◌};
+ghost use Rattle.am_script.specs.Seen.{seen};
+ghost use Rattle.am_script.specs.Refusals.{Answers};
+ghost use Rattle.am_race_script.specs.Races.{is_call, call_keys_of, call_kind_in, call_as, call_from};
+
+use am_group::event::Act;
+use am_script::event::{act, kind};
+use am_script::fields::{known, object};
+use am_script::key::Key;
+use am_script::kind::Kind;
+use am_script::refusal::{Read, ScriptRefusal};
+use json::Value;
+use std::alloc::Global;
+
+/// Whether a thread of a race can call for a kind of events.
+fn is_call(kind: Kind) -> bool
+    ensures { result ≡ is_call kind }
+{
+    match kind {
+        Kind::Send | Kind::Take | Kind::Join | Kind::Leave | Kind::Reset | Kind::Stop => true,
+        _ => false,
+    }
+}
+
+/// The keys that calls of a kind may have.
+fn call_keys(kind: Kind) -> &'static [Key]
+    ensures { result.now ≡ call_keys_of kind }
+{
+    match kind {
+        Kind::Send => &[Key::Do, Key::Body],
+        Kind::Reset => &[Key::Do, Key::Least, Key::Resilience],
+        _ => &[Key::Do],
+    }
+}
+
+/// The kind of a call.
+#[tactic(auto, unfolding(crate::specs::Races::call_kind_in))]
+fn call_kind(call: &Value, place: u64) -> Read<Kind>
+    ensures { result ≡ call_kind_in place (seen call.now) }
+{
+    let kind = kind(call, place)?;
+    if !is_call(kind) {
+        return Err(ScriptRefusal::bad_value(Key::Do, place));
+    }
+    Ok(kind)
+}
+
+/// The act of a call of a kind.
+#[tactic(auto, unfolding(crate::specs::Races::call_as))]
+fn call_of_kind(alloc: Global, kind: Kind, call: &Value, place: u64, founding: u8) -> Read<Act>
+    requires { founding ≤ 15 }
+    ensures { Answers (call_as kind founding place (seen call.now)) result }
+{
+    known(call_keys(kind), call, place)?;
+    act(alloc, kind, call, place, founding)
+}
+
+/// The act that a call tells, by its number over all threads and the founding's resilience.
+#[tactic(auto, unfolding(crate::specs::Races::call_from))]
+pub fn call(alloc: Global, value: &Value, place: u64, founding: u8) -> Read<Act>
+    requires { founding ≤ 15 }
+    ensures { Answers (call_from founding place (seen value.now)) result }
+{
+    object(value, Key::Calls, place)?;
+    let kind = call_kind(value, place)?;
+    call_of_kind(alloc, kind, value, place, founding)
+}
