@@ -1,35 +1,13 @@
 -- What a node keeps, as it changes.
-use Rattle.am_acting.proofs.Words.{◌≡◌, ℕ, ◌≤◌, List, [], ◌∷◌, filter, find, Bool, true, false, not, ◌&&◌, ◌==◌, None, refl, sym, ◌∙◌, ap, subst, arith}
-use Rattle.am_acting.proofs.Words.{life_of, stamp_eq, at_place, split, OwnSend, Status, Stranger, Asking, Member, Departed, has_log, Node, image_of, view}
-use Rattle.am_acting.proofs.Words.{is_member, NodeKeeps, IsDue, keeps_steady, own_for, member_log, MaySend}
+use Rattle.am_acting.proofs.Words.{◌≡◌, ℕ, ◌≤◌, List, [], ◌∷◌, filter, find, Bool, true, false, not, None, refl, sym, ◌∙◌, ap, subst, arith}
+use Rattle.am_acting.proofs.Words.{life_of, at_place, split, OwnSend, Node, image_of}
+use Rattle.am_acting.proofs.Words.{is_member, NodeKeeps, IsDue, keeps_steady, member_log, MaySend}
 use Rattle.am_parts.specs.Sends as own
 
 pub keeps_taken : (m : Node) (number : ℕ) → m.core.taken ≤ number → NodeKeeps m → NodeKeeps (record m { core = record (m.core) { taken = number } })
 keeps_taken m number more keeps = keeps_steady m (record m { core = record (m.core) { taken = number } })
     (record { who = refl; promise = refl; told = refl; top = refl; status = refl; ballot = refl; leaving = refl; sends = refl }) keeps (let old = keeps.own in
     omega arith)
-
-log_stays : (s : Status) (old : Bool) → (has_log s ≡ false → old ≡ false) → old ≡ true → has_log s ≡ true
-log_stays Stranger old f t = absurd (let e = f refl in cc)
-log_stays Asking old f t = absurd (let e = f refl in cc)
-log_stays Member old f t = refl
-log_stays Departed old f t = refl
-
-no_member : (s : Status) (a b : Bool) → is_member s ≡ false → ((is_member s && a) && b) ≡ true → ⊥
-no_member s a b none is = let e = rw none at is in cc
-
-pub keeps_status : (m : Node) (s : Status) → is_member s ≡ false → (has_log s ≡ false → has_log m.status ≡ false) → NodeKeeps m
-    → NodeKeeps (record m { status = s })
-keeps_status m s outside log keeps = record {
-  own = keeps.own;
-  leads = λ is. absurd (no_member s (stamp_eq m.core.promise (view m)) ((view m).by == m.core.who) outside is);
-  promised = keeps.promised;
-  blank = λ none. keeps.blank (log none);
-  ballot = λ b is. own_for m (record m { status = s }) b refl refl refl (log_stays s (has_log m.status) log) (keeps.ballot b is);
-  settled = keeps.settled;
-  due = keeps.due;
-  unsent = λ none. keeps.unsent (log none);
-}
 
 -- ---- sends
 

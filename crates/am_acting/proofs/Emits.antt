@@ -1,21 +1,26 @@
 -- What a node emits, by what its tests say.
 use Rattle.am_acting.proofs.Words.{◌≡◌, ℕ, ◌+◌, ◌<◌, List, [], length, true, false, ◌&&◌, ◌==◌, nat_lt, nat_le, Option, Some, None, option_map, refl, sym}
-use Rattle.am_acting.proofs.Words.{◌∙◌, ap, arith, slice_index, nat_tests, get_or-map, Row, Image, Data, Outcome, place_of, life_of, has, at_place, blank_row}
-use Rattle.am_acting.proofs.Words.{member_life, members_of, fits, IsKept, split, OwnSend, waiting_next, members_pushed, Node, top, image_of, view, others}
-use Rattle.am_acting.proofs.Words.{only_name, own_row, acts, has_room, is_sequencer, waiting, push_entry, quiet, emit, hand_in, NodeKeeps, keeps_pushed}
-use Rattle.am_acting.proofs.Words.{leading_log, Note, noting, own_send}
+use Rattle.am_acting.proofs.Words.{◌∙◌, ap, subst, arith, nat_tests, Data, Outcome, life_of, has, at_place, fits, IsKept, OwnSend, waiting_next, members_pushed}
+use Rattle.am_acting.proofs.Words.{Node, top, image_of, view, others, only_name, own_row, acts, has_room, is_sequencer, waiting, push_entry, Plan, quiet, telling, emit}
+use Rattle.am_acting.proofs.Words.{hand_in, NodeKeeps, keeps_pushed, leading_log, noting, own_send, with_letter, refresh_at_end, end_self, bcast_of}
+use Rattle.am_acting.proofs.Words.{Reply, Replies, saying_of, replies_as, says}
+use Rattle.am_base.specs.Limits.{IsNumber}
 use Rattle.am_parts.specs.Sends as own
-use Rattle.am_acting.specs.declared.note.Note.TheVariants as note
+use Rattle.am_model.specs.Emit.{request_of, spread_of}
+use Rattle.am_handlers.specs.Replies.{early}
+use Rattle.am_handlers.specs.declared.reply.OwnLetter.TheVariants as own_letter
+use Rattle.am_handlers.specs.declared.reply.Telling.TheVariants as tell
+use Rattle.am_handlers.proofs.{LastMember.member_row, Replying.own_numbered}
 
 -- ---- a member hands its send in
 
 pub hand_short : (m : Node) (req : ℕ) (body : List ℕ) (answer : Outcome) (to : List ℕ) → nat_le (length body) m.core.rules.pb_up_to ≡ true
-    → to ≡ only_name (view m).by → hand_in m (own_send req body) answer ≡ noting false m answer to (note.Request req body)
-hand_short m req body answer to test is = rw test (ap (λ set. noting false m answer set (note.Request req body)) (sym is))
+    → to ≡ only_name (view m).by → hand_in m (own_send req body) answer ≡ telling m answer to (λ n. request_of n req body)
+hand_short m req body answer to test is = rw test (ap (λ set. telling m answer set (λ n. request_of n req body)) (sym is))
 
 pub hand_spread : (m : Node) (req : ℕ) (body : List ℕ) (answer : Outcome) (to : List ℕ) → nat_le (length body) m.core.rules.pb_up_to ≡ false → to ≡ others m
-    → hand_in m (own_send req body) answer ≡ noting false m answer to (note.Spread req body)
-hand_spread m req body answer to test is = rw test (ap (λ set. noting false m answer set (note.Spread req body)) (sym is))
+    → hand_in m (own_send req body) answer ≡ telling m answer to (λ n. spread_of n req body)
+hand_spread m req body answer to test is = rw test (ap (λ set. telling m answer set (λ n. spread_of n req body)) (sym is))
 
 -- ---- the waiting send
 
@@ -65,28 +70,41 @@ pub emit_full : (m : Node) (answer : Outcome) (req : ℕ) (body : List ℕ) → 
     → (acts m && nat_lt (own_row m).last req) ≡ true → is_sequencer m ≡ true → has_room m ≡ false → emit m (waiting m) answer ≡ quiet m answer
 emit_full m answer req body is test leads room = emit_some m answer req body is ∙ rw (test, leads, room) refl
 
-pub emit_numbers : (m mid : Node) (answer : Outcome) (req : ℕ) (body to : List ℕ) (told_it : Note) → own.waiting_send m.sends ≡ Some (req, body)
-    → (acts m && nat_lt (own_row m).last req) ≡ true → is_sequencer m ≡ true → has_room m ≡ true
-    → to ≡ others m → told_it ≡ note.Bcast (top m + 1) (Data m.core.who req body) → mid ≡ push_entry m (Data m.core.who req body)
-    → emit m (waiting m) answer ≡ noting true mid answer to told_it
-emit_numbers m mid answer req body to told_it is test leads room set tells node =
-    emit_some m answer req body is ∙ rw (test, leads, room) (λ k. noting true (sym node k) answer (sym set k) (sym tells k))
+-- the sequencer's send goes out with its number
+abbrev pub numbers : Node → Node → Outcome → ℕ → List ℕ → Plan
+numbers m mid answer req body = noting true mid answer (others m) (λ n. bcast_of n (top m + 1) (Data m.core.who req body))
+
+pub emit_numbers : (m mid : Node) (answer : Outcome) (req : ℕ) (body : List ℕ) → own.waiting_send m.sends ≡ Some (req, body)
+    → (acts m && nat_lt (own_row m).last req) ≡ true → is_sequencer m ≡ true → has_room m ≡ true → mid ≡ push_entry m (Data m.core.who req body)
+    → emit m (waiting m) answer ≡ numbers m mid answer req body
+emit_numbers m mid answer req body is test leads room node =
+    emit_some m answer req body is ∙ rw (test, leads, room) (λ k. numbers m (sym node k) answer req body)
+
+-- what goes out of it
+pub sent_early : (m mid : Node) (req : ℕ) (body : List ℕ) → own.waiting_send m.sends ≡ Some (req, body) → mid ≡ push_entry m (Data m.core.who req body)
+    → with_letter (others m) (bcast_of (refresh_at_end mid) (top m + 1) (Data m.core.who req body)) []
+    ≡ early mid (tell.Own (others m) (own_letter.Bcast (top m + 1))) (refresh_at_end mid)
+sent_early m mid req body waits node =
+    let n = refresh_at_end mid in
+    let still : own.waiting_send mid.sends ≡ Some (req, body) = ap (λ (x : Node). own.waiting_send x.sends) node ∙ waits in
+    let who : mid.core.who ≡ m.core.who = ap (λ (x : Node). x.core.who) node in
+    sym (own_numbered mid (others m) (top m + 1) (req, body) still ∙ ap (λ w. with_letter (others m) (bcast_of n (top m + 1) (Data w req body)) []) who)
+
+pub own_reply : (m mid : Node) (answer : Outcome) (req number : ℕ) (body to : List ℕ) → own.waiting_send m.sends ≡ Some (req, body)
+    → mid ≡ push_entry m (Data m.core.who req body) → number ≡ top m + 1 → IsNumber number → to ≡ others m
+    → Replies (numbers m mid answer req body) (record (saying_of answer (tell.Own to (own_letter.Bcast number))) { numbers = true }) mid
+own_reply m mid answer req number body to waits node is within set =
+    let at : Reply = record (saying_of answer (tell.Own (others m) (own_letter.Bcast (top m + 1)))) { numbers = true } in
+    replies_as refl (λ k. record (saying_of answer (tell.Own (set k) (own_letter.Bcast (is k)))) { numbers = true })
+    (says (numbers m mid answer req body) at mid refl (end_self mid) refl (record {
+      answer = refl;
+      letters = sent_early m mid req body waits node;
+      polls = refl;
+      numbers = refl;
+      may = record { there = subst IsNumber is within; first = λ x. tt; second = λ x. tt };
+    }))
 
 -- ---- the sequencer's own send may be numbered
-
-pub record HasRow (r : Row) (life : ℕ) : Type 0 where
-  pub joined : 0 < r.joined
-  pub same : r.life ≡ life
-
-row_by_life : (r : Row) (life : ℕ) → 0 < life → (member_life r == life) ≡ true → HasRow r life
-row_by_life r life up is = split (nat_lt 0 r.joined && (r.left == 0))
-    (λ t. let here = rw t at is in record { joined = grind (arith, nat_tests); same = grind (arith, nat_tests) })
-    (λ f. let none = rw f at is in absurd (let z : ⊥ = grind (arith, nat_tests) in z))
-
-pub member_row : (image : Image) (who : ℕ) → has (members_of image) who ≡ true → HasRow (at_place image who) (life_of who)
-member_row image who is =
-    let there : slice_index (members_of image) (place_of who) ≡ member_life (at_place image who) = get_or-map member_life image.rows (place_of who) blank_row in
-    row_by_life (at_place image who) (life_of who) (omega arith) (ap (λ k. k == life_of who) (sym there) ∙ is)
 
 pub may_number : (m : Node) (req : ℕ) (body : List ℕ) → NodeKeeps m → is_sequencer m ≡ true → own.waiting_send m.sends ≡ Some (req, body)
     → (own_row m).last < req → fits (image_of m) (Data m.core.who req body) ≡ true

@@ -1,26 +1,34 @@
 -- The rows of the tick, by what their tests say.
-use Rattle.am_acting.proofs.Words.{◌≡◌, ◌≢◌, ℕ, ◌+◌, ◌<◌, List, [], Bool, true, false, not, ◌&&◌, ◌==◌, nat_lt, if◌then◌else◌, Option, Some, None, refl, sym}
-use Rattle.am_acting.proofs.Words.{option_map, is_some, ◌∙◌, ap, arith, nat_tests, Data, Leave, Outcome, size, split, Letter, with_letter, OwnSend, Status}
+use Rattle.am_acting.proofs.Words.{◌≡◌, ◌≢◌, ℕ, ◌+◌, ◌<◌, List, [], true, false, not, ◌&&◌, ◌==◌, nat_lt, if◌then◌else◌, Option, Some, None, refl, sym}
+use Rattle.am_acting.proofs.Words.{option_map, is_some, ◌∙◌, ap, subst, arith, nat_tests, Data, Leave, Outcome, size, split, OwnSend, Status}
 use Rattle.am_acting.proofs.Words.{Node, Ballot, top, view, others, only_name, lowest_or_first, acts, own_row, has_room, is_sequencer, waiting, push_entry}
-use Rattle.am_acting.proofs.Words.{Plan, quiet, finish, with_accept, accept_of, refresh_at_end, would_emit, emit, go, tick_ballot, tick_promised, tick_member}
-use Rattle.am_acting.proofs.Words.{tick_sequencer, tick_acting, tick_with, tick_by, tick_row, put_off, IsEndOf, Tells, Changes, with_told, Done, end_self}
-use Rattle.am_acting.proofs.Words.{done, Note, Again, packet_of, noting, and_poll, handing, and_view, again_of, again_of_ballot, by_again, own_send}
+use Rattle.am_acting.proofs.Words.{Plan, quiet, telling, finish, would_emit, emit, go, tick_ballot, tick_promised, tick_member}
+use Rattle.am_acting.proofs.Words.{tick_sequencer, tick_acting, tick_with, tick_by, tick_row, put_off, end_self, Telling, Reply, Replies, Ends, saying_of}
+use Rattle.am_acting.proofs.Words.{replies_quiet, replies_telling, replies_as, says, same_step, refresh_at_end, and_poll, handing, again_of, again_of_ballot, own_send}
 use Rattle.am_base.specs.declared.outcome.Outcome.TheVariants as said
 use Rattle.am_parts.specs.Sends as own
+use Rattle.am_model.specs.Emit.{ack_of, fetch_of}
 use Rattle.am_model.specs.declared.status.Status.TheVariants as status
-use Rattle.am_acting.specs.declared.note.Note.TheVariants as note
-use Rattle.am_acting.proofs.{Emits.waits_is, Emits.waits_none, Emits.emit_stays, Emits.emit_full, Emits.emit_numbers, Leaves.departed}
+use Rattle.am_handlers.specs.Replies.{and_told, and_view, polled_of, MayDepart}
+use Rattle.am_base.specs.Limits.{IsNumber}
+use Rattle.am_handlers.specs.declared.reply.OwnLetter.TheVariants as own_letter
+use Rattle.am_handlers.specs.declared.reply.Note.TheVariants as note
+use Rattle.am_handlers.specs.declared.reply.Telling.TheVariants as tell
+use Rattle.am_acting.proofs.Emits.{waits_is, waits_none, emit_stays, emit_full, emit_numbers, numbers, sent_early}
 
 -- ---- ballots
+
+abbrev pub by_again : Node → Telling → Plan
+by_again m t = record (quiet m said.Ticked) { letters = λ n. and_told said.Ticked t n [] }
 
 pub ballot_again : (m : Node) (answer : Outcome) → tick_ballot m answer ≡ by_again m (again_of answer)
 ballot_again m (said.Waiting names) = refl
 ballot_again m (said.Fetching from want) = refl
 ballot_again m _ = refl
 
-abbrev pub acts_or_asks : Node → Option (Option Again) → Plan
+abbrev pub acts_or_asks : Node → Option Telling → Plan
 acts_or_asks m None = tick_acting m
-acts_or_asks m (Some a) = by_again m a
+acts_or_asks m (Some again) = by_again m again
 
 pub tick_unfinished : (m : Node) (b : Option Ballot) → tick_with m b ≡ acts_or_asks m (again_of_ballot b)
 tick_unfinished m None = refl
@@ -28,32 +36,43 @@ tick_unfinished m (Some b) = split b.is_over
     (λ t. rw t refl)
     (λ f. rw f (ballot_again m b.answer))
 
-pub again_fetches : (m : Node) (a : Again) → a.fetches ≡ true → by_again m (Some a) ≡ noting false m said.Ticked a.to note.Fetch
-again_fetches m a is = ap (λ b. noting false m said.Ticked a.to (if b then note.Fetch else note.Invite)) is
+-- it asks with a packet, or not at all
+abbrev pub IsAgain : Telling → Type 0
+IsAgain t = (m : Node) → Replies (by_again m t) (saying_of said.Ticked t) m
 
-pub again_invites : (m : Node) (a : Again) → a.fetches ≡ false → by_again m (Some a) ≡ noting false m said.Ticked a.to note.Invite
-again_invites m a is = ap (λ b. noting false m said.Ticked a.to (if b then note.Fetch else note.Invite)) is
+asks_again : (answer : Outcome) → IsAgain (again_of answer)
+asks_again (said.Waiting names) = λ m. replies_telling m m said.Ticked names note.Invite tt (end_self m)
+asks_again (said.Fetching from want) = λ m. replies_telling m m said.Ticked (only_name from) note.Fetch tt (end_self m)
+asks_again _ = λ m. replies_quiet m m said.Ticked (end_self m)
+
+pub again_plain : (b : Option Ballot) (t : Telling) → again_of_ballot b ≡ Some t → IsAgain t
+again_plain None t is = absurd (cc)
+again_plain (Some b) t is = split b.is_over
+    (λ over. absurd (let e = rw over at is in cc))
+    (λ open_. let e = rw open_ at is in let same : again_of b.answer ≡ t = cc in subst IsAgain same (asks_again b.answer))
+
+pub again_reply : (m : Node) (t : Telling) → IsAgain t → Replies (by_again m t) (saying_of said.Ticked t) m
+again_reply m t again = again m
 
 -- ---- members
 
 pub promised_own : (m : Node) → (m.core.promise.by == m.core.who) ≡ true → tick_promised m ≡ quiet m said.Ticked
 promised_own m test = rw test refl
 
-pub promised_other : (m : Node) (to : List ℕ) → (m.core.promise.by == m.core.who) ≡ false → to ≡ only_name m.core.promise.by
-    → tick_promised m ≡ noting false m said.Ticked to note.Fetch
-promised_other m to test is = rw test (ap (λ set. noting false m said.Ticked set note.Fetch) (sym is))
+pub promised_other : (m : Node) → (m.core.promise.by == m.core.who) ≡ false
+    → tick_promised m ≡ telling m said.Ticked (only_name m.core.promise.by) fetch_of
+promised_other m test = rw test refl
 
 pub member_leaves : (m : Node) → m.leaving ≡ true → tick_member m ≡ go (quiet m said.Ticked)
 member_leaves m is = rw is refl
 
 pub member_emits : (m : Node) → m.leaving ≡ false → would_emit m (waiting m) ≡ true → tick_member m ≡ emit m (waiting m) said.Ticked
-member_emits m is test = λ k. if is k then go (quiet m said.Ticked) else if test k then emit m (waiting m) said.Ticked else noting false m said.Ticked
-    (only_name (view m).by) note.Ack
+member_emits m is test = λ k. if is k then go (quiet m said.Ticked) else if test k then emit m (waiting m) said.Ticked else telling m said.Ticked
+    (only_name (view m).by) ack_of
 
-pub member_reports : (m : Node) (to : List ℕ) → m.leaving ≡ false → would_emit m (waiting m) ≡ false → to ≡ only_name (view m).by
-    → tick_member m ≡ noting false m said.Ticked to note.Ack
-member_reports m to is test set = λ k. if is k then go (quiet m said.Ticked) else if test k then emit m (waiting m) said.Ticked else noting false m said.Ticked
-    (sym set k) note.Ack
+pub member_reports : (m : Node) → m.leaving ≡ false → would_emit m (waiting m) ≡ false → tick_member m ≡ telling m said.Ticked (only_name (view m).by) ack_of
+member_reports m is test = λ k. if is k then go (quiet m said.Ticked) else if test k then emit m (waiting m) said.Ticked else telling m said.Ticked
+    (only_name (view m).by) ack_of
 
 -- ---- the sequencer
 
@@ -91,28 +110,65 @@ leads_full m req body answer is waits test leads room says =
     let off : put_off m (waiting m) ≡ answer = put_off_some m req body waits ∙ rw (test, room) (sym says) in
     leads_stays m is ∙ ap (λ o. and_poll (emit m (waiting m) o)) off ∙ ap and_poll (emit_full m answer req body waits test leads room)
 
-pub leads_numbers : (m mid : Node) (req : ℕ) (body to : List ℕ) (told_it : Note) → m.leaving ≡ false → own.waiting_send m.sends ≡ Some (req, body)
-    → (acts m && nat_lt (own_row m).last req) ≡ true → is_sequencer m ≡ true → has_room m ≡ true
-    → to ≡ others m → told_it ≡ note.Bcast (top m + 1) (Data m.core.who req body) → mid ≡ push_entry m (Data m.core.who req body)
-    → tick_sequencer m ≡ and_poll (noting true mid said.Ticked to told_it)
-leads_numbers m mid req body to told_it is waits test leads room set tells node =
+pub leads_numbers : (m mid : Node) (req : ℕ) (body : List ℕ) → m.leaving ≡ false → own.waiting_send m.sends ≡ Some (req, body)
+    → (acts m && nat_lt (own_row m).last req) ≡ true → is_sequencer m ≡ true → has_room m ≡ true → mid ≡ push_entry m (Data m.core.who req body)
+    → tick_sequencer m ≡ and_poll (numbers m mid said.Ticked req body)
+leads_numbers m mid req body is waits test leads room node =
     let off : put_off m (waiting m) ≡ said.Ticked = put_off_some m req body waits ∙ rw (test, room) refl in
     leads_stays m is ∙ ap (λ o. and_poll (emit m (waiting m) o)) off
-    ∙ ap and_poll (emit_numbers m mid said.Ticked req body to told_it waits test leads room set tells node)
+    ∙ ap and_poll (emit_numbers m mid said.Ticked req body waits test leads room node)
+
+pub sending_reply : (m mid : Node) (req number : ℕ) (body to : List ℕ) → own.waiting_send m.sends ≡ Some (req, body)
+    → mid ≡ push_entry m (Data m.core.who req body) → number ≡ top m + 1 → IsNumber number → to ≡ others m
+    → Replies (and_poll (numbers m mid said.Ticked req body))
+    (record (saying_of said.Ticked (tell.Own to (own_letter.Bcast number))) { second = tell.View; polls = true; numbers = true }) mid
+sending_reply m mid req number body to waits node is within set =
+    let sends : List ℕ → ℕ → Reply = λ names k. record (saying_of said.Ticked (tell.Own names (own_letter.Bcast k))) {
+      second = tell.View;
+      polls = true;
+      numbers = true;
+    } in
+    replies_as refl (λ k. sends (set k) (is k)) (says (and_poll (numbers m mid said.Ticked req body)) (sends (others m) (top m + 1)) mid refl (end_self mid) refl
+    (record {
+      answer = refl;
+      letters = ap (λ ls. and_view ls (refresh_at_end mid)) (sent_early m mid req body waits node);
+      polls = refl;
+      numbers = refl;
+      may = record { there = subst IsNumber is within; first = λ x. tt; second = λ x. tt };
+    }))
+
+pub polled_reply : (m n : Node) (o : Outcome) → Ends m n → Replies (and_poll (quiet m o)) (polled_of o) n
+polled_reply m n o e = says (and_poll (quiet m o)) _ n refl e refl (record {
+  answer = refl;
+  letters = refl;
+  polls = refl;
+  numbers = refl;
+  may = record { there = tt; first = λ x. tt; second = λ x. tt };
+})
 
 -- ---- the sequencer goes on leaving
 
-pub polls_hands : (m : Node) (to : List ℕ) → is_sequencer m ≡ true → 0 < size (others m) → to ≡ only_name (lowest_or_first (others m))
-    → go (and_poll (quiet m said.Ticked)) ≡ handing m to
-polls_hands m to leads some is =
+pub polls_hands : (m : Node) → is_sequencer m ≡ true → 0 < size (others m)
+    → go (and_poll (quiet m said.Ticked)) ≡ handing m (only_name (lowest_or_first (others m)))
+polls_hands m leads some =
     let test : nat_lt 0 (size (others m)) ≡ true = grind (arith, nat_tests) in
-    rw (leads, test) (ap (handing m) (sym is))
+    rw (leads, test) refl
 
-pub polls_held : (m : Node) (o : Outcome) → is_sequencer m ≡ true → size (others m) ≡ 0 → has_room m ≡ false → o ≡ said.Held m.core.base (top m)
-    → go (and_poll (quiet m said.Ticked)) ≡ and_poll (quiet m o)
-polls_held m o leads none room is =
+pub handing_reply : (m : Node) (to : ℕ)
+    → Replies (handing m (only_name to)) (record (polled_of said.Ticked) { second = tell.Note (only_name to) note.HandOver }) m
+handing_reply m to = says (handing m (only_name to)) _ m refl (end_self m) refl (record {
+  answer = refl;
+  letters = refl;
+  polls = refl;
+  numbers = refl;
+  may = record { there = tt; first = λ x. tt; second = λ x. tt };
+})
+
+pub polls_held : (m : Node) → is_sequencer m ≡ true → size (others m) ≡ 0 → has_room m ≡ false
+    → go (and_poll (quiet m said.Ticked)) ≡ and_poll (quiet m (said.Held m.core.base (top m)))
+polls_held m leads none room =
     let test : nat_lt 0 (size (others m)) ≡ false = grind (arith, nat_tests) in
-    rw (leads, test, room) (ap (λ x. and_poll (quiet m x)) (sym is))
+    rw (leads, test, room) refl
 
 abbrev pub polling_last : Node → Plan
 polling_last m = record (and_poll (quiet m said.Ticked)) {
@@ -127,65 +183,23 @@ polls_departs m leads none room =
     let test : nat_lt 0 (size (others m)) ≡ false = grind (arith, nat_tests) in
     rw (leads, test, room) refl
 
--- ---- letters, one after the other
-
-pub tells_then : (f : Node → List Letter) (g : List Letter → Node → List Letter) (m : Node) (x y : List Letter) → Tells f m x → Tells (g x) m y
-    → Tells (λ n. g (f n) n) m y
-tells_then f g m x y first next = λ n e. next n e ∙ ap (λ ls. g ls n) (first n e)
-
-pub box_tells : (m : Node) (box : List Letter) → box ≡ [] → Tells (λ n. []) m box
-box_tells m box empty = λ n e. empty
-
-abbrev pub and_note : List ℕ → Note → List Letter → Node → List Letter
-and_note to note letters n = with_letter to (packet_of note n) letters
-
-pub polled_done : (before : ℕ) (m new : Node) (answer : Outcome) (box sent letters : List Letter) → box ≡ [] → m.core.base ≡ m.core.log.start
-    → Changes refresh_at_end m new
-    → Tells (and_view box) new sent → Tells (with_told before true false sent) new letters → Done before (and_poll (quiet m answer)) answer letters new
-polled_done before m new answer box sent letters empty kept end views told_it =
-    done before (and_poll (quiet m answer)) m new answer sent letters refl (end_self m kept) end (λ n e. refl)
-    (tells_then (λ n. []) and_view new box sent (box_tells new box empty) views) told_it
-
-pub numbered_done : (before : ℕ) (m new : Node) (to : List ℕ) (note : Note) (box first sent letters : List Letter) → box ≡ [] → m.core.base ≡ m.core.log.start
-    → Changes refresh_at_end m new
-    → Tells (λ n. with_letter to (packet_of note n) box) new first → Tells (and_view first) new sent → Tells (with_told before true true sent) new letters
-    → Done before (and_poll (noting true m said.Ticked to note)) said.Ticked letters new
-numbered_done before m new to note box first sent letters empty kept end puts views told_it =
-    done before (and_poll (noting true m said.Ticked to note)) m new said.Ticked sent letters refl (end_self m kept) end (λ n e. refl)
-    (tells_then (and_note to note []) and_view new first sent (tells_then (λ n. []) (and_note to note) new box first (box_tells new box empty) puts) views)
-    told_it
-
-pub handed_done : (before : ℕ) (m new : Node) (to : List ℕ) (box first sent letters : List Letter) → box ≡ [] → m.core.base ≡ m.core.log.start
-    → Changes refresh_at_end m new → Tells (and_view box) new first → Tells (λ n. with_letter to (packet_of note.HandOver n) first) new sent
-    → Tells (with_told before true false sent) new letters → Done before (handing m to) said.Ticked letters new
-handed_done before m new to box first sent letters empty kept end views puts told_it =
-    done before (handing m to) m new said.Ticked sent letters refl (end_self m kept) end (λ n e. refl)
-    (tells_then (and_view []) (and_note to note.HandOver) new first sent (tells_then (λ n. []) and_view new box first (box_tells new box empty) views) puts)
-    told_it
-
--- ---- the last member departs
-
-no_letter : (a : Bool) (to : List ℕ) (p : Node → List Letter → List Letter) (n : Node) (ls : List Letter) → p n ls ≡ ls
-    → (if a && true then p n ls else ls) ≡ ls
-no_letter true to p n ls is = is
-no_letter false to p n ls is = refl
-
-pub departs_polling : (before : ℕ) (m new : Node) (box letters : List Letter) → box ≡ [] → size (others (refresh_at_end (push_entry m (Leave m.core.who)))) ≡ 0
-    → IsEndOf (departed (refresh_at_end (push_entry m (Leave m.core.who)))) new
-    → Tells (and_view box) new letters → Done before (polling_last m) said.Departed letters new
-unfolding finish
-departs_polling before m new box letters empty alone end views = λ first acc. record {
-  node = end;
-  answer = refl;
-  sent = views (departed (refresh_at_end (push_entry m (Leave m.core.who)))) end
-      ∙ ap (λ ls. and_view ls (refresh_at_end (push_entry m (Leave m.core.who)))) empty
-      ∙ sym (told_it first (refresh_at_end (push_entry m (Leave m.core.who))) alone);
+-- it departs, and tells the last View to nobody
+pub last_reply : (m : Node) → MayDepart m
+    → Replies (polling_last m) (record (saying_of said.Departed tell.Departs) { second = tell.View; polls = true; numbers = true }) m
+last_reply m may = record {
+  plan = polling_last m;
+  same = λ x. same_step (finish x (polling_last m));
+  says = record {
+    node = record { node = refl; departs = refl; last = tt };
+    tells = record {
+      answer = refl;
+      letters = refl;
+      polls = refl;
+      numbers = refl;
+      may = record { there = may; first = λ x. tt; second = λ x. tt };
+    };
+  };
 }
-  where
-    told_it : (first n : Node) → size (others n) ≡ 0 → with_accept first (polling_last m) n (and_view [] n) ≡ and_view [] n
-    told_it first n none =
-        let test : (size (others n) == 0) ≡ true = grind (arith, nat_tests) in
-        no_letter (is_sequencer n) (others n) (λ x ls. with_letter (others x) (accept_of x true) ls) n (and_view [] n) (rw test refl)
 
 -- ---- the whole tick
 

@@ -1,5 +1,5 @@
 ghost use Rattle.std.specs.Prelude.{◌≡◌, ◌<◌, ◌≤◌, ◌+◌, length, true, false, None, IfOk, IfErr, IsOk, OnOk, OnErr, ◌↔◌};
-ghost use Rattle.am_handlers.specs.Prelude.{most_number, has_log, is_member, waiting, node_of};
+ghost use Rattle.am_handlers.specs.Prelude.{most_number, is_member, waiting, node_of};
 ghost use Rattle.am_parts.specs.Sends.{submit, collect, collect_outcome};
 ghost use Rattle.am_parts.specs.Bodies.{keep_body};
 
@@ -29,15 +29,6 @@ pub fn is_leaving(parts: &Parts) -> bool
     ensures { result ≡ parts.now.leaving }
 {
     parts.leaving
-}
-
-/// The node stands to its group in another way, in which it is no member.
-pub fn set_status(parts: &mut Parts, status: Status)
-    requires outside { is_member status ≡ false }
-    requires log { has_log status ≡ false → has_log parts.old.status ≡ false }
-    ensures { node_of parts.new ≡ record (node_of parts.old) { status = status } }
-{
-    parts.status = status;
 }
 
 /// The node begins to leave; no send of its own waits.

@@ -1,19 +1,20 @@
-ghost use Rattle.std.specs.Prelude.{◌≡◌, [], ◌||◌, nat_le};
+ghost use Rattle.std.specs.Prelude.{◌≡◌, ◌||◌, nat_le};
 ghost use Rattle.std.specs.List.{list_any};
-ghost use Rattle.am_handlers.specs.Prelude.{waiting, node_of, Performs};
+ghost use Rattle.am_handlers.specs.Prelude.{waiting, node_of};
+ghost use Rattle.am_handlers.specs.Replies.{Replies};
 ghost use Rattle.am_parts.specs.Bodies.{is_of};
 ghost use Rattle.am_model.specs.Sequencing.{row_at};
 ghost use Rattle.am_model.specs.Receiving.{spread_row, hold_row};
 ghost use Rattle.am_model.specs.Joining.{gone_row};
 ghost use Rattle.am_acting.specs.Forms.{waits_for};
 
-use crate::changing::{is_leaving, keep_body, set_status};
+use crate::changing::{is_leaving, keep_body};
 use am_base::body::BodyRef;
 use am_base::name::Name;
 use am_base::outcome::Outcome;
-use am_handlers::finishing::finish_quietly;
+use am_handlers::departing::set_status;
 use am_handlers::parts::Parts;
-use am_letter::out_box::OutBox;
+use am_handlers::reply::{Reply, quiet};
 use am_model::status::Status;
 use am_parts::log::Log;
 
@@ -27,22 +28,15 @@ fn is_known(parts: &Parts, from: Name, req: u32) -> bool
 
 /// A name spreads a body, at a member that isn't the sequencer (docs/PROTOCOL.md, "Spread"). Known where the send is numbered
 /// or its body is kept already; else Kept.
-pub fn on_spread(
-    parts: &mut Parts,
-    from: Name,
-    req: u32,
-    body: &BodyRef,
-    out: &mut OutBox,
-) -> Outcome
-    requires { out.old ≡ [] }
-    ensures { Performs (λ m. spread_row m from req body.now) parts.old result out.new parts.new }
+pub fn on_spread<'a>(parts: &mut Parts, from: Name, req: u32, body: &BodyRef) -> Reply<'a>
+    ensures { Replies (spread_row (node_of parts.old) from req body.now) result
+        (node_of parts.new) }
 {
-    let before = parts.accept_front();
     if is_known(parts, from, req) {
-        return finish_quietly(parts, before, Outcome::Known, out);
+        return quiet(Outcome::Known);
     }
     keep_body(parts, from, req, body);
-    finish_quietly(parts, before, Outcome::Kept, out)
+    quiet(Outcome::Kept)
 }
 
 /// Whether the waiting send has this request.
@@ -56,26 +50,22 @@ fn waits_for(parts: &Parts, req: u32) -> bool
 }
 
 /// The sequencer has no room for a send: PutOff where that is the waiting send, else Known.
-pub fn on_hold(parts: &mut Parts, base: u32, top: u32, req: u32, out: &mut OutBox) -> Outcome
-    requires { out.old ≡ [] }
-    ensures { Performs (λ m. hold_row m base top req) parts.old result out.new parts.new }
+pub fn on_hold<'a>(parts: &Parts, base: u32, top: u32, req: u32) -> Reply<'a>
+    ensures { Replies (hold_row (node_of parts.now) base top req) result (node_of parts.now) }
 {
-    let before = parts.accept_front();
     if waits_for(parts, req) {
-        return finish_quietly(parts, before, Outcome::PutOff { req, base, top }, out);
+        return quiet(Outcome::PutOff { req, base, top });
     }
-    finish_quietly(parts, before, Outcome::Known, out)
+    quiet(Outcome::Known)
 }
 
 /// The node may go: Departed where it is leaving, else Known.
-pub fn on_gone(parts: &mut Parts, out: &mut OutBox) -> Outcome
-    requires { out.old ≡ [] }
-    ensures { Performs gone_row parts.old result out.new parts.new }
+pub fn on_gone<'a>(parts: &mut Parts) -> Reply<'a>
+    ensures { Replies (gone_row (node_of parts.old)) result (node_of parts.new) }
 {
-    let before = parts.accept_front();
     if is_leaving(parts) {
         set_status(parts, Status::Departed);
-        return finish_quietly(parts, before, Outcome::Departed, out);
+        return quiet(Outcome::Departed);
     }
-    finish_quietly(parts, before, Outcome::Known, out)
+    quiet(Outcome::Known)
 }

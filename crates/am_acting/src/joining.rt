@@ -1,19 +1,18 @@
-ghost use Rattle.std.specs.Prelude.{◌≡◌, ◌==◌, ◌<◌, if◌then◌else◌, [], IfSome, IfNone};
-ghost use Rattle.am_handlers.specs.Prelude.{node_of, Finishes, Performs};
+ghost use Rattle.std.specs.Prelude.{◌≡◌, ◌==◌, ◌<◌, if◌then◌else◌, IfSome, IfNone};
+ghost use Rattle.am_handlers.specs.Prelude.{node_of};
+ghost use Rattle.am_handlers.specs.Replies.{Replies};
 ghost use Rattle.am_base.specs.Names.{by_place};
 ghost use Rattle.am_model.specs.Calls.{everywhere_else, ask_to_join, join_row, state_row};
 ghost use Rattle.am_model.specs.declared.status.Status.TheVariants as status;
 ghost use Rattle.am_model.specs.Emit.{quiet};
 
-use crate::changing::{is_leaving, set_status, status};
-use crate::finishing::finish_noting;
-use crate::note::{Note, Notice};
+use crate::changing::{is_leaving, status};
 use am_base::name::Name;
 use am_base::names::Names;
 use am_base::outcome::Outcome;
-use am_handlers::finishing::finish_quietly;
+use am_handlers::departing::set_status;
 use am_handlers::parts::Parts;
-use am_letter::out_box::OutBox;
+use am_handlers::reply::{Note, Reply, Telling, quiet, saying};
 use am_model::status::Status;
 
 /// Life 1 of all places but one.
@@ -43,17 +42,14 @@ fn start(parts: &Parts) -> u32
 }
 
 /// Asks everybody else to be let in.
-pub fn ask_to_join(parts: &mut Parts, before: u32, answer: Outcome, out: &mut OutBox) -> Outcome
-    requires { out.old ≡ [] }
-    ensures { Finishes before (ask_to_join (node_of parts.old) answer) result out.new parts.new }
+pub fn ask_to_join<'a>(parts: &Parts, answer: Outcome) -> Reply<'a>
+    ensures { Replies (ask_to_join (node_of parts.now) answer) result (node_of parts.now) }
 {
-    let to = everywhere_else(parts);
-    let notice = Notice {
-        to,
+    let ask = Telling::Note {
+        to: everywhere_else(parts),
         note: Note::JoinAsk,
-        numbers: false,
     };
-    finish_noting(parts, before, answer, &notice, out)
+    saying(answer, ask)
 }
 
 /// What a node is told that would join; None where it can ask.
@@ -75,16 +71,14 @@ fn join_answer(parts: &Parts) -> Option<Outcome>
 
 /// The application would join (docs/PROTOCOL.md, "Calls"). A Stranger asks: Asked. Asked again; Joined with its number;
 /// NotMember once it has departed.
-pub fn on_join(parts: &mut Parts, out: &mut OutBox) -> Outcome
-    requires { out.old ≡ [] }
-    ensures { Performs join_row parts.old result out.new parts.new }
+pub fn on_join<'a>(parts: &mut Parts) -> Reply<'a>
+    ensures { Replies (join_row (node_of parts.old)) result (node_of parts.new) }
 {
-    let before = parts.accept_front();
     match join_answer(parts) {
-        Some(answer) => finish_quietly(parts, before, answer, out),
+        Some(answer) => quiet(answer),
         None => {
             set_status(parts, Status::Asking);
-            ask_to_join(parts, before, Outcome::Asked, out)
+            ask_to_join(parts, Outcome::Asked)
         }
     }
 }
@@ -110,11 +104,8 @@ fn standing(parts: &Parts) -> Outcome
 }
 
 /// The application asks how the node stands to its group: Stranger, Asked, Leaving, Joined with its number, or Departed.
-pub fn on_state(parts: &mut Parts, out: &mut OutBox) -> Outcome
-    requires { out.old ≡ [] }
-    ensures { Performs state_row parts.old result out.new parts.new }
+pub fn on_state<'a>(parts: &Parts) -> Reply<'a>
+    ensures { Replies (state_row (node_of parts.now)) result (node_of parts.now) }
 {
-    let before = parts.accept_front();
-    let answer = standing(parts);
-    finish_quietly(parts, before, answer, out)
+    quiet(standing(parts))
 }

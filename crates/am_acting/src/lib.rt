@@ -3,12 +3,9 @@
 
 mod changing;
 pub mod emitting;
-pub mod finishing;
 pub mod hearing;
 pub mod joining;
 pub mod leaving;
-pub mod note;
 pub mod sending;
 pub mod taking;
 pub mod ticking;
-mod viewing;

@@ -1,14 +1,14 @@
-ghost use Rattle.std.specs.Prelude.{◌≡◌, ◌≢◌, ◌≤◌, ◌+◌, [], Some, IsNone, IfSome, ◌↔◌};
+ghost use Rattle.std.specs.Prelude.{◌≡◌, ◌≢◌, ◌≤◌, ◌+◌, Some, IsNone, IfSome, ◌↔◌};
 ghost use Rattle.am_base.specs.Entries.{HasRoom, len_of};
-ghost use Rattle.am_handlers.specs.Prelude.{entry_at, Performs};
+ghost use Rattle.am_handlers.specs.Prelude.{entry_at, node_of};
+ghost use Rattle.am_handlers.specs.Replies.{Replies};
 ghost use Rattle.am_model.specs.Calls.{take_row};
 
 use crate::changing::{is_member, set_taken};
 use am_base::outcome::Outcome;
 use am_base::taken::{EntryRoom, TakenEntry};
-use am_handlers::finishing::finish_quietly;
 use am_handlers::parts::Parts;
-use am_letter::out_box::OutBox;
+use am_handlers::reply::{Reply, quiet};
 use am_parts::log::Log;
 
 /// The entry after those that the application has taken, with its number; None exactly where all that is accepted is taken.
@@ -33,19 +33,17 @@ fn next(parts: &Parts, spare: Option<EntryRoom>) -> Option<(u32, TakenEntry)>
 
 /// The application takes the next entry (docs/PROTOCOL.md, "Calls"). NotMember where the node is none; Empty where all that
 /// is accepted is taken; else Took, with the entry in the spare room.
-pub fn on_take(parts: &mut Parts, spare: Option<EntryRoom>, out: &mut OutBox) -> Outcome
-    requires place { parts.old.core.taken ≢ parts.old.core.acc
+pub fn on_take<'a>(parts: &mut Parts, spare: Option<EntryRoom>) -> Reply<'a>
+    requires { parts.old.core.taken ≢ parts.old.core.acc
         → HasRoom (len_of (entry_at parts.old.core.log (parts.old.core.taken + 1))) spare }
-    requires empty { out.old ≡ [] }
-    ensures { Performs take_row parts.old result out.new parts.new }
+    ensures { Replies (take_row (node_of parts.old)) result (node_of parts.new) }
 {
-    let before = parts.accept_front();
     if !is_member(parts) {
-        return finish_quietly(parts, before, Outcome::NotMember, out);
+        return quiet(Outcome::NotMember);
     }
     let Some((number, entry)) = next(parts, spare) else {
-        return finish_quietly(parts, before, Outcome::Empty, out);
+        return quiet(Outcome::Empty);
     };
     set_taken(parts, number);
-    finish_quietly(parts, before, Outcome::Took { number, entry }, out)
+    quiet(Outcome::Took { number, entry })
 }

@@ -1,57 +1,42 @@
-ghost use Rattle.std.specs.Prelude.{◌≡◌, ◌==◌, ◌<◌, [], true, false, None};
-ghost use Rattle.am_handlers.specs.Prelude.{most_number, top_of, is_sequencer, top, waiting, node_of, Finishes, Performs};
+ghost use Rattle.std.specs.Prelude.{◌≡◌, ◌==◌, ◌<◌, true, false, None};
+ghost use Rattle.am_handlers.specs.Prelude.{most_number, top_of, is_sequencer, top, waiting, node_of};
 ghost use Rattle.am_base.specs.declared.outcome.Outcome.TheVariants as said;
 ghost use Rattle.am_model.specs.Emit.{quiet};
 ghost use Rattle.am_model.specs.Calls.{would_emit, go};
 ghost use Rattle.am_model.specs.Ticks.{tick_promised, tick_member, tick_sequencer, tick_acting, tick_with, tick_row};
-ghost use Rattle.am_acting.specs.Forms.{and_poll, handing, again_of, again_of_ballot, by_again};
+ghost use Rattle.am_handlers.specs.Replies.{Replies, polled_of};
+ghost use Rattle.am_acting.specs.Forms.{and_poll, again_of, again_of_ballot};
 
 use crate::changing::{is_leaving, status};
-use crate::emitting::{emit, has_waiting, leader, next_send, number_send, others, would_emit};
-use crate::finishing::{finish_noting, tell};
+use crate::emitting::{emit, has_waiting, leader, number_send, would_emit};
 use crate::joining::ask_to_join;
-use crate::leaving::{depart, go_on_leaving, lowest_or_first};
-use crate::note::{Note, Notice};
-use crate::viewing::tell_view;
+use crate::leaving::{go_on_leaving, lowest_or_first};
 use am_base::name::Name;
 use am_base::names::Names;
 use am_base::outcome::Outcome;
-use am_handlers::asking::{has_room, held_answer};
-use am_handlers::finishing::finish_quietly;
-use am_handlers::packets::only;
+use am_handlers::asking::{has_room, held_answer, others};
+use am_handlers::owning::next_send;
 use am_handlers::parts::Parts;
-use am_letter::out_box::OutBox;
+use am_handlers::reply::{Note, OwnLetter, Reply, Telling, note_to, quiet, saying};
 use am_model::status::Status;
 use am_parts::log::Log;
 
-/// What a ballot asks for again.
-#[derive(Drop)]
-pub struct Again {
-    /// Whom it asks.
-    pub to: Names,
-    /// Whether it fetches, or else invites.
-    pub fetches: bool,
-}
-
-/// What a ballot asks for again that came to this; None where it waits for nothing.
-fn again_of(answer: &Outcome) -> Option<Again>
+/// What a ballot asks for again that came to this.
+fn again_of<'a>(answer: &Outcome) -> Telling<'a>
     ensures { result ≡ again_of answer.now }
 {
     match answer {
-        Outcome::Waiting { names } => Some(Again {
+        Outcome::Waiting { names } => Telling::Note {
             to: *names,
-            fetches: false,
-        }),
-        Outcome::Fetching { from, .. } => Some(Again {
-            to: only(*from),
-            fetches: true,
-        }),
-        _ => None,
+            note: Note::Invite,
+        },
+        Outcome::Fetching { from, .. } => note_to(*from, Note::Fetch),
+        _ => Telling::Nothing,
     }
 }
 
 /// What the node's unfinished ballot asks for again; None where there is no such ballot.
-fn again_of_ballot(parts: &Parts) -> Option<Option<Again>>
+fn again_of_ballot<'a>(parts: &Parts) -> Option<Telling<'a>>
     ensures { result ≡ again_of_ballot (node_of parts.now).ballot }
 {
     match &parts.ballot {
@@ -63,30 +48,6 @@ fn again_of_ballot(parts: &Parts) -> Option<Option<Again>>
             Some(again_of(ballot.answer()))
         }
     }
-}
-
-/// A coordinator asks again for what its ballot waits for.
-fn ask_again(parts: &mut Parts, before: u32, again: Option<Again>, out: &mut OutBox) -> Outcome
-    requires { out.old ≡ [] }
-    ensures { Finishes before (by_again (node_of parts.old) again) result out.new parts.new }
-{
-    let Some(again) = again else {
-        return finish_quietly(parts, before, Outcome::Ticked, out);
-    };
-    if again.fetches {
-        let notice = Notice {
-            to: again.to,
-            note: Note::Fetch,
-            numbers: false,
-        };
-        return finish_noting(parts, before, Outcome::Ticked, &notice, out);
-    }
-    let notice = Notice {
-        to: again.to,
-        note: Note::Invite,
-        numbers: false,
-    };
-    finish_noting(parts, before, Outcome::Ticked, &notice, out)
 }
 
 /// Whose stamp the node has promised.
@@ -104,20 +65,13 @@ fn has_promised_itself(parts: &Parts) -> bool
 }
 
 /// A member that doesn't act fetches from the name that it promised.
-fn tick_promised(parts: &mut Parts, before: u32, out: &mut OutBox) -> Outcome
-    requires { out.old ≡ [] }
-    ensures { Finishes before (tick_promised (node_of parts.old)) result out.new parts.new }
+fn tick_promised<'a>(parts: &Parts) -> Reply<'a>
+    ensures { Replies (tick_promised (node_of parts.now)) result (node_of parts.now) }
 {
     if has_promised_itself(parts) {
-        return finish_quietly(parts, before, Outcome::Ticked, out);
+        return quiet(Outcome::Ticked);
     }
-    let to = only(promised_to(parts));
-    let notice = Notice {
-        to,
-        note: Note::Fetch,
-        numbers: false,
-    };
-    finish_noting(parts, before, Outcome::Ticked, &notice, out)
+    saying(Outcome::Ticked, note_to(promised_to(parts), Note::Fetch))
 }
 
 /// Whether the waiting send would go out.
@@ -131,73 +85,44 @@ fn would_emit_waiting(parts: &Parts) -> bool
 }
 
 /// An acting member goes on leaving, or hands in its send, or reports.
-fn tick_member(parts: &mut Parts, before: u32, out: &mut OutBox) -> Outcome
-    requires empty { out.old ≡ [] }
-    requires number { top_of parts.old.core.log < most_number }
-    ensures { Finishes before (tick_member (node_of parts.old)) result out.new parts.new }
+fn tick_member<'a>(parts: &mut Parts) -> Reply<'a>
+    requires { top_of parts.old.core.log < most_number }
+    ensures { Replies (tick_member (node_of parts.old)) result (node_of parts.new) }
 {
     if is_leaving(parts) {
-        return go_on_leaving(parts, before, Outcome::Ticked, out);
+        return go_on_leaving(parts, Outcome::Ticked);
     }
     if would_emit_waiting(parts) {
-        return emit(parts, before, Outcome::Ticked, out);
+        return emit(parts, Outcome::Ticked);
     }
-    let to = only(leader(parts));
-    let notice = Notice {
-        to,
-        note: Note::Ack,
-        numbers: false,
-    };
-    finish_noting(parts, before, Outcome::Ticked, &notice, out)
+    saying(Outcome::Ticked, note_to(leader(parts), Note::Ack))
 }
 
-/// The end of a step that polls the members, and tells the last View again to those that haven't stored it.
-fn finish_polling(parts: &mut Parts, before: u32, answer: Outcome, out: &mut OutBox) -> Outcome
-    requires { out.old ≡ [] }
-    ensures { Finishes before (and_poll (quiet (node_of parts.old) answer))
-        result out.new parts.new }
+/// An answer of the sequencer, which polls the members, and tells the last View again to those that haven't stored it.
+fn polled<'a>(answer: Outcome) -> Reply<'a>
+    ensures { result ≡ polled_of answer }
 {
-    let _before = parts.accept_front();
-    parts.end();
-    tell_view(parts, out);
-    parts.tell_accepted(before, true, false, out);
-    answer
-}
-
-/// The same for a sequencer that hands over.
-fn finish_handing(parts: &mut Parts, before: u32, to: Names, out: &mut OutBox) -> Outcome
-    requires { out.old ≡ [] }
-    ensures { Finishes before (handing (node_of parts.old) to) result out.new parts.new }
-{
-    let _before = parts.accept_front();
-    parts.end();
-    tell_view(parts, out);
-    tell(parts, to, &Note::HandOver, out);
-    parts.tell_accepted(before, true, false, out);
-    Outcome::Ticked
+    saying(answer, Telling::View).polling()
 }
 
 /// The sequencer polls, and goes on leaving.
-fn poll_leaving(parts: &mut Parts, before: u32, out: &mut OutBox) -> Outcome
-    requires empty { out.old ≡ [] }
-    requires leads { is_sequencer (node_of parts.old) ≡ true }
-    requires idle { waiting (node_of parts.old) ≡ None }
-    requires number { top_of parts.old.core.log < most_number }
-    ensures { Finishes before (go (and_poll (quiet (node_of parts.old) said.Ticked)))
-        result out.new parts.new }
+fn poll_leaving<'a>(parts: &Parts) -> Reply<'a>
+    requires leads { is_sequencer (node_of parts.now) ≡ true }
+    requires idle { waiting (node_of parts.now) ≡ None }
+    requires number { top_of parts.now.core.log < most_number }
+    ensures { Replies (go (and_poll (quiet (node_of parts.now) said.Ticked))) result
+        (node_of parts.now) }
 {
     let others = others(parts);
     if 0 < others.len() {
-        let to = only(lowest_or_first(others));
-        return finish_handing(parts, before, to, out);
+        let hand_over = note_to(lowest_or_first(others), Note::HandOver);
+        return polled(Outcome::Ticked).and(hand_over);
     }
     if !has_room(parts) {
-        let answer = held_answer(parts);
-        return finish_polling(parts, before, answer, out);
+        return polled(held_answer(parts));
     }
-    depart(parts);
-    tell_view(parts, out);
-    Outcome::Departed
+    let departs = saying(Outcome::Departed, Telling::Departs);
+    departs.and(Telling::View).polling().numbering()
 }
 
 /// The answer where there is no room for the node's own send.
@@ -213,90 +138,80 @@ fn put_off(parts: &Parts, req: u32) -> Outcome
 
 /// The sequencer numbers its own send where that would go out, polls, and tells its View again.
 #[inline(never)]
-fn tick_sending(parts: &mut Parts, before: u32, out: &mut OutBox) -> Outcome
-    requires empty { out.old ≡ [] }
+fn tick_sending<'a>(parts: &mut Parts) -> Reply<'a>
     requires stays { parts.old.leaving ≡ false }
     requires leads { is_sequencer (node_of parts.old) ≡ true }
     requires number { top_of parts.old.core.log < most_number }
-    ensures { Finishes before (tick_sequencer (node_of parts.old)) result out.new parts.new }
+    ensures { Replies (tick_sequencer (node_of parts.old)) result (node_of parts.new) }
 {
     let Some(send) = next_send(parts) else {
-        return finish_polling(parts, before, Outcome::Ticked, out);
+        return polled(Outcome::Ticked);
     };
     if !would_emit(parts, send.req) {
-        return finish_polling(parts, before, Outcome::Ticked, out);
+        return polled(Outcome::Ticked);
     }
     if !has_room(parts) {
-        let answer = put_off(parts, send.req);
-        return finish_polling(parts, before, answer, out);
+        return polled(put_off(parts, send.req));
     }
     let to = others(parts);
-    let note = number_send(parts, &send);
-    let _before = parts.accept_front();
-    parts.end();
-    tell(parts, to, &note, out);
-    tell_view(parts, out);
-    parts.tell_accepted(before, true, true, out);
-    Outcome::Ticked
+    let number = number_send(parts, &send);
+    let letter = OwnLetter::Bcast { number };
+    let sent = saying(Outcome::Ticked, Telling::Own { to, letter });
+    sent.and(Telling::View).polling().numbering()
 }
 
 /// The sequencer numbers its own send, polls, tells its View again, and goes on leaving.
-fn tick_sequencer(parts: &mut Parts, before: u32, out: &mut OutBox) -> Outcome
-    requires empty { out.old ≡ [] }
+fn tick_sequencer<'a>(parts: &mut Parts) -> Reply<'a>
     requires leads { is_sequencer (node_of parts.old) ≡ true }
     requires number { top_of parts.old.core.log < most_number }
-    ensures { Finishes before (tick_sequencer (node_of parts.old)) result out.new parts.new }
+    ensures { Replies (tick_sequencer (node_of parts.old)) result (node_of parts.new) }
 {
     if is_leaving(parts) {
-        return poll_leaving(parts, before, out);
+        return poll_leaving(parts);
     }
     if !has_waiting(parts) {
-        return finish_polling(parts, before, Outcome::Ticked, out);
+        return polled(Outcome::Ticked);
     }
-    tick_sending(parts, before, out)
+    tick_sending(parts)
 }
 
 /// The tick of a member without an unfinished ballot.
-fn tick_acting(parts: &mut Parts, before: u32, out: &mut OutBox) -> Outcome
-    requires empty { out.old ≡ [] }
-    requires number { top_of parts.old.core.log < most_number }
-    ensures { Finishes before (tick_acting (node_of parts.old)) result out.new parts.new }
+fn tick_acting<'a>(parts: &mut Parts) -> Reply<'a>
+    requires { top_of parts.old.core.log < most_number }
+    ensures { Replies (tick_acting (node_of parts.old)) result (node_of parts.new) }
 {
     if !parts.acts() {
-        return tick_promised(parts, before, out);
+        return tick_promised(parts);
     }
     if parts.is_sequencer() {
-        return tick_sequencer(parts, before, out);
+        return tick_sequencer(parts);
     }
-    tick_member(parts, before, out)
+    tick_member(parts)
 }
 
 /// The tick of a member.
-fn tick_with(parts: &mut Parts, before: u32, out: &mut OutBox) -> Outcome
-    requires empty { out.old ≡ [] }
-    requires number { top_of parts.old.core.log < most_number }
-    ensures { Finishes before (tick_with (node_of parts.old) (node_of parts.old).ballot)
-        result out.new parts.new }
+fn tick_with<'a>(parts: &mut Parts) -> Reply<'a>
+    requires { top_of parts.old.core.log < most_number }
+    ensures { Replies (tick_with (node_of parts.old) (node_of parts.old).ballot) result
+        (node_of parts.new) }
 {
-    let Some(again) = again_of_ballot(parts) else {
-        return tick_acting(parts, before, out);
-    };
-    ask_again(parts, before, again, out)
+    match again_of_ballot(parts) {
+        Some(again) => saying(Outcome::Ticked, again),
+        None => tick_acting(parts),
+    }
 }
 
 /// The tick (docs/PROTOCOL.md, "Calls"). A Stranger and who has departed: Idle. Who asks to join asks again. A member asks
 /// again for what its unfinished ballot waits for; or fetches, where it doesn't act; or goes on leaving, hands its send in,
 /// or reports. The sequencer numbers its send, polls, tells its View again, and goes on leaving. Ticked, unless leaving or
 /// the send says otherwise.
-pub fn on_tick(parts: &mut Parts, out: &mut OutBox) -> Outcome
-    requires empty { out.old ≡ [] }
-    requires number { top_of parts.old.core.log < most_number }
-    ensures { Performs tick_row parts.old result out.new parts.new }
+pub fn on_tick<'a>(parts: &mut Parts) -> Reply<'a>
+    requires { top_of parts.old.core.log < most_number }
+    ensures { Replies (tick_row (node_of parts.old)) result (node_of parts.new) }
 {
-    let before = parts.accept_front();
     match status(parts) {
-        Status::Asking => ask_to_join(parts, before, Outcome::Ticked, out),
-        Status::Member => tick_with(parts, before, out),
-        _ => finish_quietly(parts, before, Outcome::Idle, out),
+        Status::Asking => ask_to_join(parts, Outcome::Ticked),
+        Status::Member => tick_with(parts),
+        _ => quiet(Outcome::Idle),
     }
 }

@@ -2,8 +2,9 @@
 use Rattle.am_handlers.proofs.Words.{◌≡◌, ℕ, ◌-◌, max, min, nat_lt, if◌then◌else◌, arith, List, Bool, true, false, ◌&&◌, ◌==◌, refl, sym, ◌∙◌, ap, subst}
 use Rattle.am_handlers.proofs.Words.{Image, stamp_eq, without_name, Log, top_of, told_by, members_of, members_at, CoreState, Stands, IsInOrder, accept}
 use Rattle.am_handlers.proofs.Words.{pass_over, end-top, end-told, image-top, stands_self, Led, LeadsBy, StaysAt, whole_led, own_report, tell, go_on, let_go}
-use Rattle.am_handlers.proofs.Words.{nat_tests, split, keeps_end, refresh_end, Node, others, is_member, is_sequencer, refresh, lead, advance, settle}
-use Rattle.am_handlers.proofs.Words.{refresh_at_end, led_of, with_led, with_log, IsEndOf, Tells, Changes}
+use Rattle.am_handlers.proofs.Words.{nat_tests, split, keeps_end, refresh_end, Node, others, is_member, is_sequencer, refresh, lead, advance}
+use Rattle.am_handlers.proofs.Words.{led_of, with_led, with_log, IsEndOf, Tells, Changes}
+use Rattle.am_handlers.proofs.Words.{top, image_of, Keeps}
 use Rattle.am_parts.specs.Refresh as fronts
 
 pub end_self : (m : Node) → m.core.base ≡ m.core.log.start → IsEndOf m m
@@ -119,9 +120,16 @@ refreshed x m end order again =
     let both : with_log (refresh m) all ≡ with_log m all = sym (refresh_end all m keeps) ∙ ap refresh end.same ∙ again ∙ sym end.same in
     sym (refresh_log m) ∙ ap (λ (n : Node). with_log n m.core.log) both
 
-pub settled_end : (m n : Node) → IsInOrder m.core → refresh m ≡ m → Changes settle m n → Changes refresh_at_end m n
-unfolding refresh_at_end
-settled_end m n order again settles = λ all end.
-    let keeps = keeps_end all m end order in
-    let same : refresh all ≡ all = ap refresh (sym end.same) ∙ refresh_end all.core.log m keeps ∙ ap (λ (x : Node). with_log x all.core.log) again ∙ end.same in
-    subst (λ (x : Node). IsEndOf (settle x) n) (sym same) (settles all end)
+-- a core that changes as the whole list's
+pub core_changes : (f : CoreState → CoreState) (m : Node) (core : CoreState) → Keeps f m.core core
+    → Changes (λ x. record x { core = f x.core }) m (record m { core = core })
+core_changes f m core keeps = changes (λ (x : Node). record x { core = f x.core }) m (record m { core = core }) (λ all s.
+    let one = keeps all s in
+    (all, one.0, ap (λ (c : CoreState). record m { core = c }) (sym one.1)))
+
+-- what all of a node tells, its end tells
+pub told_end : (x m : Node) → IsEndOf x m → image_of m ≡ image_of x
+told_end x m end = end-told x.core.log m.core.log end.stands.kept
+
+pub top_end : (x m : Node) → IsEndOf x m → top m ≡ top x
+top_end x m end = end-top x.core.log m.core.log end.stands.kept

@@ -2,9 +2,10 @@ pub mod Words
 pub mod Ends
 pub mod Keeping
 pub mod Settling
-pub mod Doing
-pub mod Telling
 pub mod Due
-pub mod Plans
 pub mod Served
 pub mod Shown
+mod Serves
+mod LastView
+pub mod LastMember
+pub mod Replying

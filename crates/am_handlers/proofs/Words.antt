@@ -23,6 +23,19 @@ unfoldable pub use Rattle.am_model.specs.Emit.{put_all}
 pub use Rattle.am_model.proofs.Sends.{own_data}
 pub use Rattle.am_chain_lists.proofs.{Rows.row_at, Rows.long_after, Rows.and_left, Requests.IsNext, Requests.entry_goes_on, Requests.own_request}
 pub use Rattle.am_ends.proofs.{Nodes.keeps_end, Nodes.refresh_end, Plans.Alike, Plans.finish_alike, Plans.comes_whole}
-pub use Rattle.am_handlers.specs.{Cores.CoreTells, Cores.with_core, Parts.with_told, Parts.passes, Parts.accepted_number, Parts.node_of, Keeps.IsDue}
-pub use Rattle.am_handlers.specs.{Keeps.NodeKeeps, Keeps.IsOwnBallot, Keeps.IsSteady, Keeps.MayServe, Finishing.Done, Finishing.letter_of}
-pub use Rattle.am_handlers.specs.{declared.finishing.OneLetter.OneLetter, declared.parts.Parts.Parts}
+pub use Rattle.am_handlers.specs.{Parts.with_told, Parts.passes, Parts.accepted_number, Parts.node_of, Keeps.IsDue}
+pub use Rattle.am_handlers.specs.{Keeps.NodeKeeps, Keeps.IsOwnBallot, Keeps.IsSteady, Keeps.MayServe}
+pub use Rattle.am_handlers.specs.{declared.parts.Parts.Parts}
+pub use Rattle.std.specs.Prelude.{All}
+pub use Rattle.std.proofs.Common.{length-drop}
+pub use Rattle.std.proofs.lemmas.List.Elements.{All-drop, All-take}
+pub use Rattle.am_base.specs.Limits.{IsEntry}
+pub use Rattle.am_model.specs.{Emit.entries_to_serve}
+pub use Rattle.am_model.proofs.Letters.{one_more}
+pub use Rattle.am_handlers.specs.Replies.{entry_of}
+pub use Rattle.std.{proofs.Math.ListN.get_or-map, proofs.lemmas.List.map-set, proofs.lemmas.List.Sums.sum_by-cons}
+pub use Rattle.std.proofs.Common.{inr, length-append, slice_index}
+pub use Rattle.am_base.specs.{Names.size, Lists.blank_row, Lists.member_life, Lists.with_entry}
+pub use Rattle.am_parts.proofs.Rows.{leaves_member}
+pub use Rattle.am_parts.specs.Reports.{reports_of}
+pub use Rattle.am_model.specs.Node.{those, name_where}

@@ -1,6 +1,6 @@
 pub mod Keeps
 pub mod Parts
-pub mod Cores
-pub mod Finishing
 pub mod Prelude
 pub mod Verdicts
+pub mod Going
+pub mod Replies

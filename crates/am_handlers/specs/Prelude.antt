@@ -11,7 +11,5 @@ pub use Rattle.am_model.specs.Node.{has_log}
 pub use Rattle.am_model.specs.Node.{Node, acts, has_own_leave, is_member, is_sequencer, is_within_bound, members, only_name, others, push_entry, image_of, top}
 pub use Rattle.am_model.specs.Node.{trim_up_to, view, waiting}
 pub use Rattle.am_model.specs.Ends.{Changes, Does, IsEndOf, Tells}
-pub use Rattle.am_handlers.specs.Cores.{CoreTells}
 pub use Rattle.am_handlers.specs.Keeps.{HasRoomLeft, IsOwnBallot, IsSteady, MayServe, NodeKeeps}
 pub use Rattle.am_handlers.specs.Parts.{node_of}
-pub use Rattle.am_handlers.specs.Finishing.{Done, Finishes, Performs}

@@ -2,12 +2,13 @@ ghost use Rattle.std.specs.Prelude.{◌≡◌, ◌==◌, ◌≤◌, ◌<◌, ◌
 ghost use Rattle.am_handlers.specs.Prelude.{most_number, IsNumber, IsRow, IsInOrder, top, node_of};
 ghost use Rattle.am_base.specs.declared.outcome.Outcome.TheVariants as said;
 ghost use Rattle.am_parts.specs.Kept.{IsKept};
-ghost use Rattle.am_model.specs.Node.{has_room, report_fits};
+ghost use Rattle.am_model.specs.Node.{has_room, others, report_fits};
 ghost use Rattle.am_model.specs.Sequencing.{row_at, is_unknown};
 
 use crate::parts::Parts;
 use am_base::image::{Report, Row};
 use am_base::name::Name;
+use am_base::names::Names;
 use am_base::outcome::Outcome;
 use am_parts::log::Log;
 
@@ -39,6 +40,14 @@ pub fn next_number(parts: &Parts) -> u32
     ensures kept { IsKept parts.now.core.log (parts.now.core.rules.window + 15) }
 {
     parts.core.log.top() + 1
+}
+
+/// The members without the node itself.
+pub fn others(parts: &Parts) -> Names
+    ensures { result ≡ others (node_of parts.now) }
+{
+    let _acts = parts.acts();
+    parts.others()
 }
 
 /// The row of a name.

@@ -2,7 +2,15 @@
 #![tactic(auto)]
 
 pub mod asking;
-pub mod finishing;
+pub mod departing;
+pub mod ending;
+mod going;
+mod letters;
+mod notes;
+pub mod owning;
 pub mod packets;
 pub mod parts;
+pub mod reply;
+pub mod serving;
+mod viewing;
 pub mod votes;

@@ -16,7 +16,7 @@ use Rattle.am_model.specs.Node.{Node, top, image_of}
 use Rattle.am_model.specs.Step.{row, step}
 use Rattle.am_model.specs.Ends.{IsEndOf, Does}
 use Rattle.am_ends.proofs.Hearing.{ends_step_alike}
-use Rattle.am_handlers.proofs.Plans.{top_end, told_end}
+use Rattle.am_handlers.proofs.Ends.{top_end, told_end}
 use Rattle.am_model.specs.Info.{info_of, waited_for}
 use Rattle.am_model.specs.Nodes.{HasNumbersLeft}
 use Rattle.am_model.specs.declared.info.Info.{Info}

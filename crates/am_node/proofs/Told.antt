@@ -5,7 +5,7 @@ use Rattle.am_base.specs.Lists.{members_of}
 use Rattle.am_base.specs.Stamps.{stamp_eq}
 use Rattle.am_model.specs.Node.{Node, top, image_of, is_member}
 use Rattle.am_model.specs.Ends.{IsEndOf}
-use Rattle.am_handlers.proofs.Plans.{told_end, top_end}
+use Rattle.am_handlers.proofs.Ends.{told_end, top_end}
 use Rattle.am_model.specs.declared.info.Info.{Info}
 use Rattle.am_model.specs.declared.info.Role.TheVariants as role
 use Rattle.am_model.specs.Info.{info_of, coordinates, role_by}

@@ -1,19 +1,25 @@
-ghost use Rattle.std.specs.Prelude.{◌≡◌, [], true};
-ghost use Rattle.am_handlers.specs.Prelude.{IsWithin, node_of, Performs};
-ghost use Rattle.am_node.specs.Heard.{is_heard, heard_row};
+ghost use Rattle.std.specs.Prelude.{◌≡◌, true};
+ghost use Rattle.am_packet.specs.Reading.{reading};
+ghost use Rattle.am_handlers.specs.Prelude.{IsWithin, node_of};
+ghost use Rattle.am_handlers.specs.Replies.{Replies};
+ghost use Rattle.am_model.specs.Hearing.{hear_row};
 ghost use Rattle.am_model.specs.Nodes.{HasNumbersLeft};
+ghost use Rattle.am_model.specs.Step.{read_row};
+ghost use Rattle.am_node.specs.Heard.{is_heard, heard_row};
 
+use crate::gate::is_heard;
 use am_acting::hearing::{on_gone, on_hold, on_spread};
 use am_base::name::{Name, Stamp};
 use am_base::outcome::Outcome;
 use am_handlers::parts::Parts;
-use am_letter::out_box::OutBox;
+use am_handlers::reply::{Reply, quiet};
 use am_ordering::joining::on_join_ask;
 use am_ordering::leaving::on_leave_ask;
 use am_ordering::receiver::{Told, on_accept, on_bcast, on_order};
 use am_ordering::sequencer::{Request, on_ack, on_nack, on_request};
 use am_ordering::welcomed::{Welcome, on_welcome};
 use am_packet::packet::Packet;
+use am_reader::reader::decode;
 use am_resetting::catching::{Arrival, Decided, on_piece, on_result};
 use am_resetting::serving::on_fetch;
 use am_resetting::voting::{on_hand_over, on_invite, on_vote};
@@ -44,12 +50,11 @@ fn arrival(from: Name, stamp: Stamp, base: u32, number: u32) -> Arrival
 
 /// Does the row of a packet of the view in which the node acts, or that names join and leave by. A body that its sender spread
 /// is numbered by the sequencer, and kept by another member.
-pub fn heard_row(parts: &mut Parts, packet: &Packet, out: &mut OutBox) -> Outcome
+fn heard_row<'a>(parts: &mut Parts, packet: &Packet<'a>) -> Reply<'a>
     requires heard { is_heard (node_of parts.old) packet.now ≡ true }
     requires within { IsWithin packet.now }
     requires numbers { HasNumbersLeft (node_of parts.old) }
-    requires empty { out.old ≡ [] }
-    ensures { Performs (λ m. heard_row m packet.now) parts.old result out.new parts.new }
+    ensures { Replies (heard_row (node_of parts.old) packet.now) result (node_of parts.new) }
 {
     match packet {
         Packet::Request {
@@ -66,7 +71,7 @@ pub fn heard_row(parts: &mut Parts, packet: &Packet, out: &mut OutBox) -> Outcom
                 body: body.again(),
                 by_order: false,
             };
-            on_request(parts, &request, out)
+            on_request(parts, &request)
         }
         Packet::Spread {
             sender,
@@ -83,9 +88,9 @@ pub fn heard_row(parts: &mut Parts, packet: &Packet, out: &mut OutBox) -> Outcom
                     body: body.again(),
                     by_order: true,
                 };
-                return on_request(parts, &request, out);
+                return on_request(parts, &request);
             }
-            on_spread(parts, *sender, *req, body, out)
+            on_spread(parts, *sender, *req, body)
         }
         Packet::Bcast {
             sender,
@@ -94,7 +99,7 @@ pub fn heard_row(parts: &mut Parts, packet: &Packet, out: &mut OutBox) -> Outcom
             number,
             entry,
             ..
-        } => on_bcast(parts, told(*sender, *base, *acc, *number), entry, out),
+        } => on_bcast(parts, told(*sender, *base, *acc, *number), entry),
         Packet::Order {
             sender,
             base,
@@ -103,7 +108,7 @@ pub fn heard_row(parts: &mut Parts, packet: &Packet, out: &mut OutBox) -> Outcom
             from,
             req,
             ..
-        } => on_order(parts, told(*sender, *base, *acc, *number), *from, *req, out),
+        } => on_order(parts, told(*sender, *base, *acc, *number), *from, *req),
         Packet::Accept {
             sender,
             base,
@@ -111,11 +116,11 @@ pub fn heard_row(parts: &mut Parts, packet: &Packet, out: &mut OutBox) -> Outcom
             top,
             poll,
             ..
-        } => on_accept(parts, told(*sender, *base, *acc, *top), *poll, out),
-        Packet::Ack { sender, report, .. } => on_ack(parts, *sender, *report, out),
-        Packet::Nack { sender, report, .. } => on_nack(parts, *sender, *report, out),
-        Packet::Hold { base, top, req, .. } => on_hold(parts, *base, *top, *req, out),
-        Packet::JoinAsk { sender, .. } => on_join_ask(parts, *sender, out),
+        } => on_accept(parts, told(*sender, *base, *acc, *top), *poll),
+        Packet::Ack { sender, report, .. } => on_ack(parts, *sender, *report),
+        Packet::Nack { sender, report, .. } => on_nack(parts, *sender, *report),
+        Packet::Hold { base, top, req, .. } => on_hold(parts, *base, *top, *req),
+        Packet::JoinAsk { sender, .. } => on_join_ask(parts, *sender),
         Packet::Welcome {
             sender,
             stamp,
@@ -129,25 +134,25 @@ pub fn heard_row(parts: &mut Parts, packet: &Packet, out: &mut OutBox) -> Outcom
                 base: *base,
                 join: *join,
             };
-            on_welcome(parts, &told, image, out)
+            on_welcome(parts, &told, image)
         }
         Packet::LeaveAsk {
             sender,
             stamp,
             report,
-        } => on_leave_ask(parts, *sender, *stamp, *report, out),
-        Packet::Gone { .. } => on_gone(parts, out),
-        Packet::Invite { sender, stamp } => on_invite(parts, *sender, *stamp, out),
+        } => on_leave_ask(parts, *sender, *stamp, *report),
+        Packet::Gone { .. } => on_gone(parts),
+        Packet::Invite { sender, stamp } => on_invite(parts, *sender, *stamp),
         Packet::Vote {
             sender,
             stamp,
             vote,
-        } => on_vote(parts, *sender, *stamp, vote, out),
+        } => on_vote(parts, *sender, *stamp, vote),
         Packet::Fetch {
             sender,
             stamp,
             stored,
-        } => on_fetch(parts, *sender, *stamp, *stored, out),
+        } => on_fetch(parts, *sender, *stamp, *stored),
         Packet::Piece {
             sender,
             stamp,
@@ -156,7 +161,7 @@ pub fn heard_row(parts: &mut Parts, packet: &Packet, out: &mut OutBox) -> Outcom
             entry,
         } => {
             let piece = arrival(*sender, *stamp, *base, *number);
-            on_piece(parts, &piece, entry, out)
+            on_piece(parts, &piece, entry)
         }
         Packet::Result {
             sender,
@@ -171,8 +176,34 @@ pub fn heard_row(parts: &mut Parts, packet: &Packet, out: &mut OutBox) -> Outcom
                 members: *members,
                 resilience: *resilience,
             };
-            on_result(parts, &last, &decided, out)
+            on_result(parts, &last, &decided)
         }
-        Packet::HandOver { .. } => on_hand_over(parts, out),
+        Packet::HandOver { .. } => on_hand_over(parts),
+    }
+}
+
+/// Hears a packet: Elsewhere where it isn't heard by its kind.
+fn hear<'a>(parts: &mut Parts, packet: &Packet<'a>) -> Reply<'a>
+    requires within { IsWithin packet.now }
+    requires numbers { HasNumbersLeft (node_of parts.old) }
+    ensures { Replies (hear_row (node_of parts.old) packet.now) result (node_of parts.new) }
+{
+    if is_heard(parts, packet) {
+        return heard_row(parts, packet);
+    }
+    quiet(Outcome::Elsewhere)
+}
+
+/// Hears bytes. Those that spell no packet are refused by their cause.
+pub fn hear_bytes<'a>(parts: &mut Parts, bytes: &'a [u8]) -> Reply<'a>
+    requires { HasNumbersLeft (node_of parts.old) }
+    ensures { Replies (read_row (node_of parts.old) (reading bytes.now)) result
+        (node_of parts.new) }
+{
+    match &decode(bytes) {
+        Ok(packet) => hear(parts, packet),
+        Err(refusal) => quiet(Outcome::Refused {
+            cause: refusal.cause(),
+        }),
     }
 }

@@ -1,10 +1,8 @@
 ghost use Rattle.am_base.specs.Most.{most_body};
 ghost use Rattle.am_handlers.specs.Prelude.{most_number};
 
-use crate::acting::on_call;
+use crate::acting::reply_to;
 use crate::founding::Room;
-use crate::gate::is_heard;
-use crate::hearing::heard_row;
 use crate::{founding, info};
 use am_base::entry::Entry;
 use am_base::event::NodeEvent;
@@ -14,13 +12,12 @@ use am_base::name::{Name, Stamp};
 use am_base::names::Names;
 use am_base::outcome::Outcome;
 use am_base::taken::EntryRoom;
-use am_handlers::finishing::finish_quietly;
+use am_handlers::ending::finish;
 use am_handlers::parts::Parts;
 use am_letter::out_box::OutBox;
 use am_model::info::{BallotEnd, Info};
 use am_model::status::Status;
 use am_parts::log::Log;
-use am_reader::reader::decode;
 use std::alloc::{AllocError, Global};
 
 /// One node of a group. Its state is that of the protocol's node, but that it keeps only the end of its list, from the
@@ -53,23 +50,9 @@ impl Node {
             (state_of self.new) }
         ensures few { length out.new ≤ 9 }
     {
-        match event {
-            NodeEvent::Hear(bytes) => match &decode(bytes.as_slice()) {
-                Ok(packet) => {
-                    if is_heard(&self.parts, packet) {
-                        return heard_row(&mut self.parts, packet, out);
-                    }
-                    let before = self.parts.accept_front();
-                    finish_quietly(&mut self.parts, before, Outcome::Elsewhere, out)
-                }
-                Err(refusal) => {
-                    let before = self.parts.accept_front();
-                    let cause = refusal.cause();
-                    finish_quietly(&mut self.parts, before, Outcome::Refused { cause }, out)
-                }
-            },
-            _ => on_call(&mut self.parts, event, spare, out),
-        }
+        let before = self.parts.accept_front();
+        let reply = reply_to(&mut self.parts, event, spare);
+        finish(&mut self.parts, before, reply, out)
     }
 
     /// Whether none of its numbers is at its end, as `step` wants it: those of entries and of rounds, and of its own requests.

@@ -1,10 +1,13 @@
 -- The row of a request to join, by what its tests say.
-use Rattle.am_ordering.proofs.JoiningWords.{◌≡◌, ◌≢◌, ℕ, ◌+◌, List, [], true, false, not, ◌&&◌, ◌||◌, ◌==◌, nat_lt, if◌then◌else◌, Option, Some, None, refl, sym, ap}
-use Rattle.am_ordering.proofs.JoiningWords.{◌∙◌, arith, nat_tests, Row, Report, Outcome, Join, life_of, at_place, fits, split, with_admitted, Letter, with_letter}
-use Rattle.am_ordering.proofs.JoiningWords.{Packet, Node, top, image_of, others, only_name, has_room, Plan, quiet, telling, polling, bcast_of, welcome_of}
-use Rattle.am_ordering.proofs.JoiningWords.{asks_to_join, number_join, join_ask_row, Tells, CoreTells, NodeKeeps, core_tells, keeps_steady, refusal_of, needs_none}
-use Rattle.am_ordering.proofs.JoiningWords.{welcome_again, and_welcome}
+use Rattle.am_ordering.proofs.JoiningWords.{◌≡◌, ◌≢◌, ℕ, ◌+◌, true, false, not, ◌&&◌, ◌||◌, ◌==◌, nat_lt, if◌then◌else◌, Option, Some, None, refl, sym, ap}
+use Rattle.am_ordering.proofs.JoiningWords.{◌∙◌, arith, nat_tests, Row, Report, Outcome, Join, life_of, at_place, fits, split, with_admitted, subst}
+use Rattle.am_ordering.proofs.JoiningWords.{Node, top, image_of, others, only_name, has_room, Plan, push_entry, quiet, telling, polling, welcome_of, numbered_of}
+use Rattle.am_ordering.proofs.JoiningWords.{asks_to_join, number_join, join_ask_row, NodeKeeps, keeps_steady, Replies, replies_as, says, ends_as, refusal_of, needs_none}
+use Rattle.am_ordering.proofs.JoiningWords.{welcome_again}
+use Rattle.am_base.specs.Limits.{IsNumber, IsEntry}
+use Rattle.am_model.specs.Joining as joining
 use Rattle.am_base.specs.declared.outcome.Outcome.TheVariants as said
+use Rattle.am_handlers.specs.declared.reply.Telling.TheVariants as tell
 
 -- ---- the reports of a joiner
 
@@ -65,11 +68,14 @@ pub again_welcome : (m : Node) (from joined : ℕ) → needs_none m from joined 
     → welcome_again m from joined ≡ telling m (said.Welcomed joined) (only_name from) (λ n. welcome_of n from)
 again_welcome m from joined due = rw due refl
 
--- the letters of a Join that is numbered
-pub join_letters : (m new : Node) (from number : ℕ) (packet : Packet) (letters : List Letter) → number ≡ top m + 1
-    → CoreTells (λ n. bcast_of n number (Join from)) new.core packet
-    → CoreTells (and_welcome number from (with_letter (others m) packet [])) new.core letters → Tells (number_join m from).letters new letters
-join_letters m new from number packet letters is told welcomes = λ n end.
-    core_tells (and_welcome number from (with_letter (others m) packet [])) new letters welcomes n end
-    ∙ ap (λ p. and_welcome number from (with_letter (others m) p []) n) (core_tells (λ x. bcast_of x number (Join from)) new packet told n end)
-    ∙ ap (λ k. and_welcome k from (with_letter (others m) (bcast_of n k (Join from)) []) n) is
+-- a Join that is numbered
+pub join_reply : (m mid : Node) (s number : ℕ) → mid ≡ push_entry (joining.with_admitted m s) (Join s) → number ≡ top m + 1 → IsNumber number → IsEntry (Join s)
+    → Replies (number_join m s) (record (numbered_of number (others m) (Join s)) { second = tell.Welcome number s }) mid
+join_reply m mid s number node is number_within entry_within =
+    replies_as refl (ap (λ k. record (numbered_of k (others m) (Join s)) { second = tell.Welcome k s }) is) (says (number_join m s) _ mid refl (ends_as (push_entry (joining.with_admitted m s) (Join s)) mid node) refl (record {
+      answer = refl;
+      letters = refl;
+      polls = refl;
+      numbers = refl;
+      may = record { there = tt; first = λ x. (subst IsNumber is number_within, entry_within); second = λ x. tt };
+    }))

@@ -1,59 +1,36 @@
 -- The row of a request to leave, by what its tests say.
-use Rattle.am_ordering.proofs.JoiningWords.{◌≡◌, ℕ, ◌+◌, ◌<◌, ◌≤◌, List, [], Bool, true, false, ◌==◌, refl, sym, ap, subst, ◌∙◌, arith, nat_tests, Report, Row, Image}
-use Rattle.am_ordering.proofs.JoiningWords.{Stamp, Leave, without_name, row_of, Packet, Letter, with_letter, Sends, since_accepted, Node, top, others, only_name}
-use Rattle.am_ordering.proofs.JoiningWords.{has_room, quiet, polling, bcast_of, gone_of, row_at, is_unknown, take_report, may_go, let_go, counts_report}
-use Rattle.am_ordering.proofs.JoiningWords.{asks_to_leave, leave_ask_row, with_log, Tells, CoreTells, core_tells, tells, told_same, is_stored, and_let_go}
-use Rattle.am_ordering.proofs.JoiningWords.{number_leave, leave_again}
+use Rattle.am_ordering.proofs.JoiningWords.{◌≡◌, ℕ, ◌+◌, ◌<◌, ◌≤◌, true, false, ◌==◌, refl, ap, subst, arith, nat_tests, Report, Row}
+use Rattle.am_ordering.proofs.JoiningWords.{Stamp, Leave, Node, top, others, push_entry, end_self}
+use Rattle.am_ordering.proofs.JoiningWords.{has_room, quiet, polling, row_at, is_unknown, take_report, counts_report}
+use Rattle.am_ordering.proofs.JoiningWords.{asks_to_leave, leave_ask_row, number_leave, leave_again, Replies, numbered_of, replying, replies_as, says, ends_as}
+use Rattle.am_base.specs.Limits.{IsNumber, IsEntry}
 use Rattle.am_base.specs.declared.outcome.Outcome.TheVariants as said
+use Rattle.am_handlers.specs.declared.reply.Answer.TheVariants as answer
+use Rattle.am_handlers.specs.declared.reply.Telling.TheVariants as tell
 
--- a leaver may go, by its row and who is concerned
-pub goes_tells : (m : Node) (name : ℕ) (r : Row) (all_of set : List ℕ) (result : Bool) → r ≡ row_at m name → Sends since_accepted m.core all_of
-    → set ≡ without_name all_of name → result ≡ is_stored m.reports m.core.acc r.left set → Tells (λ n. may_go n name) m result
-goes_tells m name r all_of set result row concerned less is = tells (λ n. may_go n name) m result (λ all s.
-    is
-    ∙ ap (is_stored m.reports m.core.acc r.left) less
-    ∙ ap (λ xs. is_stored m.reports m.core.acc r.left (without_name xs name)) (concerned all s)
-    ∙ ap (λ (q : Row). is_stored m.reports m.core.acc q.left (without_name (since_accepted (with_log m all).core) name)) (row
-    ∙ ap (λ (i : Image). row_of i name) (sym (told_same m all s))))
+-- a Leave that is numbered
+pub leave_reply : (m mid : Node) (s number : ℕ) → mid ≡ push_entry m (Leave s) → number ≡ top m + 1 → IsNumber number → IsEntry (Leave s)
+    → Replies (number_leave m s) (record (numbered_of number (others m) (Leave s)) { second = tell.Gone s }) mid
+leave_reply m mid s number node is number_within entry_within =
+    replies_as refl (ap (λ k. record (numbered_of k (others m) (Leave s)) { second = tell.Gone s }) is) (says (number_leave m s) _ mid refl (ends_as (push_entry m (Leave s)) mid node) refl (record {
+      answer = refl;
+      letters = refl;
+      polls = refl;
+      numbers = refl;
+      may = record { there = tt; first = λ x. (subst IsNumber is number_within, entry_within); second = λ x. tt };
+    }))
 
-pub row_tells : (m : Node) (name : ℕ) (r : Row) → r ≡ row_at m name → Tells (λ n. row_at n name) m r
-row_tells m name r is = tells (λ n. row_at n name) m r (λ all s. is ∙ ap (λ (i : Image). row_of i name) (sym (told_same m all s)))
-
--- what was tested is told, and what was put goes into an empty box
-pub told_so : (m : Node) (name : ℕ) {goes answer : Bool} → goes ≡ answer → Tells (λ n. may_go n name) m goes → Tells (λ n. may_go n name) m answer
-told_so m name is told = subst (λ (b : Bool). Tells (λ n. may_go n name) m b) is told
-
-pub let_go_from : (m : Node) (name : ℕ) {box letters : List Letter} → box ≡ [] → Tells (and_let_go name box) m letters → Tells (and_let_go name []) m letters
-let_go_from m name {box} {letters} empty told = subst (λ (ls : List Letter). Tells (and_let_go name ls) m letters) empty told
-
-pub stays_here : (m : Node) (name : ℕ) (letters : List Letter) → Tells (λ n. may_go n name) m false → Tells (and_let_go name letters) m letters
-stays_here m name letters stays = λ n end. rw (sym (stays n end)) refl
-
-pub goes_away : (m : Node) (name : ℕ) (r : Row) (packet : Packet) (letters : List Letter) → r ≡ row_at m name → Tells (λ n. may_go n name) m true
-    → CoreTells (λ n. gone_of n r.left) m.core packet → Tells (and_let_go name letters) m (with_letter (only_name name) packet letters)
-goes_away m name r packet letters row goes told = λ n end.
-    let there = row_tells m name r row n end in
-    let sent = core_tells (λ x. gone_of x r.left) m packet told n end in
-    rw (sym (goes n end)) (ap (λ p. with_letter (only_name name) p letters) sent
-    ∙ ap (λ (q : Row). with_letter (only_name name) (gone_of n q.left) letters) there)
-
--- the letters of a Leave that is numbered
-pub leave_letters : (m new : Node) (from number : ℕ) (packet : Packet) (put letters : List Letter) → number ≡ top m + 1
-    → CoreTells (λ n. bcast_of n number (Leave from)) new.core packet → put ≡ with_letter (others m) packet [] → Tells (and_let_go from put) new letters
-    → Tells (number_leave m from).letters new letters
-leave_letters m new from number packet put letters is told puts goes = λ n end.
-    goes n end
-    ∙ ap (λ ls. and_let_go from ls n) (puts ∙ ap (λ p. with_letter (others m) p []) (core_tells (λ x. bcast_of x number (Leave from)) new packet told n end
-    ∙ ap (λ k. bcast_of n k (Leave from)) is))
+-- one that stands in the list
+pub again_reply : (m : Node) (s : ℕ) → Replies (leave_again m s) (replying (answer.LetGo s (row_at m s).left) (tell.Gone s)) m
+again_reply m s = says (leave_again m s) _ m refl (end_self m) refl (record {
+  answer = refl;
+  letters = refl;
+  polls = refl;
+  numbers = refl;
+  may = record { there = tt; first = λ x. tt; second = λ x. tt };
+})
 
 -- ---- the row
-
-pub again_goes : (m new : Node) (from left : ℕ) → left ≡ (row_at m from).left → Tells (λ n. may_go n from) new true
-    → Tells (let_go m from) new (said.LetGo left)
-again_goes m new from left is goes = λ n end. rw (sym (goes n end)) (ap said.LetGo is)
-
-pub again_stays : (m new : Node) (from : ℕ) → Tells (λ n. may_go n from) new false → Tells (let_go m from) new said.Again
-again_stays m new from stays = λ n end. rw (sym (stays n end)) refl
 
 pub asks_again : (m : Node) (from : ℕ) (r : Row) → r ≡ row_at m from → 0 < r.left → asks_to_leave m from ≡ leave_again m from
 asks_again m from r is left =

@@ -5,9 +5,7 @@ pub mod ReceivingRows
 pub mod Kept
 pub mod SequencingWords
 pub mod Numbers
-pub mod Served
 pub mod SequencingRows
-pub mod Again
 pub mod JoiningWords
 pub mod Members
 pub mod Joins

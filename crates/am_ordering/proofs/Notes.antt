@@ -1,5 +1,5 @@
 -- What a member notes of the sequencer's fronts, and what stays.
-use Rattle.am_ordering.proofs.ReceivingWords.{◌≡◌, ℕ, List, Option, refl, Entry, Outcome, Letter, alike_received, Done, done_whole, CoreState, Keeps, IsInOrder, Node}
+use Rattle.am_ordering.proofs.ReceivingWords.{◌≡◌, ℕ, Option, refl, Entry, Outcome, alike_received, Reply, Replies, replies_whole, CoreState, Keeps, IsInOrder, Node}
 use Rattle.am_ordering.proofs.ReceivingWords.{with_noted, receive_entry, IsEndOf, NodeKeeps, IsSteady, core_changes, end_self, keeps_steady, end_steady, end_keeps}
 use Rattle.am_ordering.proofs.ReceivingWords.{steady_then, note}
 
@@ -17,10 +17,10 @@ pub end_noted_keeps : (m n : Node) (base acc : ℕ) → IsEndOf (with_noted m ba
 end_noted_keeps m n base acc end keeps = end_keeps (with_noted m base acc) n end
     (keeps_steady m (with_noted m base acc) (noted_steady m base acc) keeps keeps.own)
 
--- what is done of an entry with the noted fronts, the whole node does
-pub noted_done : (before : ℕ) (m mid new : Node) (base acc from number : ℕ) (found : Option Entry) (missing answer : Outcome) (letters : List Letter)
-    → IsEndOf (with_noted m base acc) mid → IsInOrder mid.core → Done before (receive_entry mid from base number found missing) answer letters new
-    → Done before (receive_entry (with_noted m base acc) from base number found missing) answer letters new
-noted_done before m mid new base acc from number found missing answer letters end order did =
-    done_whole before (λ n. receive_entry n from base number found missing) (with_noted m base acc) mid new answer letters end order
-    (λ all keeps. alike_received all mid from base number found missing keeps) did
+-- what is replied to an entry with the noted fronts, the whole node replies
+pub noted_replies : (m mid new : Node) (base acc from number : ℕ) (found : Option Entry) (missing : Outcome) (r : Reply)
+    → IsEndOf (with_noted m base acc) mid → IsInOrder mid.core → Replies (receive_entry mid from base number found missing) r new
+    → Replies (receive_entry (with_noted m base acc) from base number found missing) r new
+noted_replies m mid new base acc from number found missing r end order replies =
+    replies_whole (λ n. receive_entry n from base number found missing) (with_noted m base acc) mid new r end order
+    (λ all keeps. alike_received all mid from base number found missing keeps) replies

@@ -1,10 +1,13 @@
 -- The rows of a member, by what their tests say.
-use Rattle.am_ordering.proofs.ReceivingWords.{◌≡◌, ℕ, ◌+◌, ◌-◌, ◌<◌, ◌≤◌, Bool, true, false, not, ◌&&◌, ◌||◌, nat_lt, nat_le, if◌then◌else◌, Option, Some, refl, sym}
-use Rattle.am_ordering.proofs.ReceivingWords.{ap, arith, nat_tests, Entry, Outcome, Log, fits, Node, top, image_of, only_name, has_own_leave, is_within_bound, quiet}
-use Rattle.am_ordering.proofs.ReceivingWords.{telling, ack_of, nack_of, with_noted, accept_row, receive_entry, is_view, store_fitting, store, with_log, Tells, Alike}
-use Rattle.am_ordering.proofs.ReceivingWords.{says_ack, says_nack, alike_saying, alike_telling, alike_where, tells, accepting}
-use Rattle.am_ends.proofs.Nodes.{Keeps}
+use Rattle.am_ordering.proofs.ReceivingWords.{◌≡◌, ℕ, ◌+◌, ◌-◌, ◌<◌, ◌≤◌, List, [], Bool, true, false, not, ◌&&◌, ◌||◌, nat_lt, nat_le, if◌then◌else◌, Option, Some, refl}
+use Rattle.am_ordering.proofs.ReceivingWords.{sym, ◌∙◌, ap, arith, nat_tests, Entry, Outcome, fits, Node, top, image_of, only_name, has_own_leave, is_within_bound}
+use Rattle.am_ordering.proofs.ReceivingWords.{Plan, quiet, telling, ack_of, nack_of, with_noted, accept_row, receive_entry, is_view, store_fitting, store}
+use Rattle.am_ordering.proofs.ReceivingWords.{refresh_at_end, Letter, with_letter, ack_where, Replies, Ends, replying, answer_of, says}
 use Rattle.am_base.specs.declared.outcome.Outcome.TheVariants as said
+use Rattle.am_model.specs.Emit.{and_where}
+use Rattle.am_handlers.specs.Replies.{early, and_told, is_departure, MayEnd}
+use Rattle.am_handlers.specs.declared.reply.Answer.{Answer}
+use Rattle.am_handlers.specs.declared.reply.Answer.TheVariants as answer
 
 -- ---- an Accept
 
@@ -14,33 +17,48 @@ unfolding accept_row
 accept_short m from base acc high stored poll is short = rw short
     (ap (λ k. telling (with_noted m base acc) (said.Gap (k + 1)) (only_name from) nack_of) (sym is))
 
+-- the end of a step that noted how far the list is accepted, and before which so much was
+abbrev pub accepting : ℕ → Bool → ℕ → Node → Plan
+accepting since poll to m =
+    and_where (λ n. poll) (record (quiet m said.Known) { outcome = λ n. if nat_lt since n.core.acc then said.Advanced n.core.acc else said.Known })
+    (only_name to) ack_of
+
 pub accept_all : (m : Node) (from base acc high : ℕ) (poll : Bool) → (nat_lt (top m) high && not (has_own_leave m)) ≡ false
     → accept_row m from base acc high poll ≡ accepting m.core.acc poll from (with_noted m base acc)
 unfolding accept_row
 accept_all m from base acc high poll none = rw none refl
 
-pub alike_asking : (o : Outcome) (to : ℕ) (all : Log) (m : Node) → Keeps all m
-    → Alike (telling (with_log m all) o (only_name to) nack_of) (telling m o (only_name to) nack_of)
-alike_asking o to all m keeps = alike_telling all m o o (only_name to) (only_name to) nack_of nack_of keeps refl refl says_nack
+-- what an Ack is that is due, or isn't
+pub ack_letters : (o : Outcome) (is_due : Bool) (to : ℕ) (n : Node) (letters : List Letter)
+    → and_told o (ack_where is_due to) n letters ≡ (if is_due then with_letter (only_name to) (ack_of n) letters else letters)
+ack_letters o true to n letters = refl
+ack_letters o false to n letters = refl
 
-pub alike_accepting : (before : ℕ) (poll : Bool) (to : ℕ) (all : Log) (m : Node) → Keeps all m
-    → Alike (accepting before poll to (with_log m all)) (accepting before poll to m)
-alike_accepting before poll to all m keeps =
-    let rose : Node → Outcome = λ n. if nat_lt before n.core.acc then said.Advanced n.core.acc else said.Known in
-    alike_where (λ n. poll) (λ n. poll) _ _ (only_name to) (only_name to) ack_of ack_of (λ a n k. refl)
-    (alike_saying all m said.Known said.Known rose rose keeps (λ a n k. refl)) refl says_ack
+pub ack_early : (old : Node) (is_due : Bool) (to : ℕ) (n : Node) → early old (ack_where is_due to) n ≡ []
+ack_early old true to n = refl
+ack_early old false to n = refl
 
-pub accept_risen : (before acc : ℕ) (poll : Bool) (to : ℕ) (n m : Node) → acc ≡ n.core.acc → before < acc
-    → Tells (accepting before poll to m).outcome n (said.Advanced acc)
-accept_risen before acc poll to n m is rose =
-    let test : nat_lt before n.core.acc ≡ true = grind (arith, nat_tests) in
-    tells (accepting before poll to m).outcome n (said.Advanced acc) (λ all s. rw test (ap said.Advanced is))
+pub ack_stays : (is_due : Bool) (to : ℕ) → is_departure (ack_where is_due to) ≡ false
+ack_stays true to = refl
+ack_stays false to = refl
 
-pub accept_same : (before acc : ℕ) (poll : Bool) (to : ℕ) (n m : Node) → acc ≡ n.core.acc → acc ≤ before
-    → Tells (accepting before poll to m).outcome n said.Known
-accept_same before acc poll to n m is same =
-    let test : nat_lt before n.core.acc ≡ false = grind (arith, nat_tests) in
-    tells (accepting before poll to m).outcome n said.Known (λ all s. rw test refl)
+-- it may always be told
+pub ack_may : (a : Answer) (is_due : Bool) (to : ℕ) (m : Node) → MayEnd (replying a (ack_where is_due to)) m
+ack_may a true to m = record { there = tt; first = λ n. tt; second = λ n. tt }
+ack_may a false to m = record { there = tt; first = λ n. tt; second = λ n. tt }
+
+pub accepts_reply : (since : ℕ) (poll : Bool) (to : ℕ) (m n : Node) → Ends m n
+    → Replies (accepting since poll to m) (replying (answer.Advanced since) (ack_where poll to)) n
+accepts_reply since poll to m n end =
+    let x = refresh_at_end m in
+    let o = answer_of (answer.Advanced since) x in
+    says (accepting since poll to m) _ n (ack_stays poll to) end refl (record {
+      answer = refl;
+      letters = sym (ap (and_told o (ack_where poll to) x) (ack_early n poll to x) ∙ ack_letters o poll to x []);
+      polls = refl;
+      numbers = refl;
+      may = ack_may (answer.Advanced since) poll to n;
+    })
 
 -- ---- a numbered entry
 

@@ -1,10 +1,17 @@
 -- The rows of the sequencer, by what their tests say.
-use Rattle.am_ordering.proofs.SequencingWords.{◌≡◌, ℕ, ◌+◌, ◌<◌, ◌≤◌, List, Bool, true, false, not, nat_lt, nat_le, if◌then◌else◌, Option, Some, None, refl, sym, ◌∙◌}
-use Rattle.am_ordering.proofs.SequencingWords.{ap, arith, nat_tests, Report, Outcome, Node, top, only_name, has_room, report_fits, with_report, Plan, quiet, polling}
-use Rattle.am_ordering.proofs.SequencingWords.{and_telling, hold_of, Letter, IsInOrder, alike_requested, IsEndOf, Does, Tells, row_at, is_unknown, take_report}
-use Rattle.am_ordering.proofs.SequencingWords.{ack_row, serve_again, serve, nack_row, answer_request, number_data, request_row, tells, does_now, done_whole, Done}
-use Rattle.am_ordering.proofs.SequencingWords.{unless, following, report_refusal, request_refusal}
+use Rattle.am_ordering.proofs.SequencingWords.{◌≡◌, ℕ, ◌+◌, ◌<◌, ◌≤◌, List, Bool, true, false, not, nat_lt, nat_le, if◌then◌else◌, Option, Some, None, refl, ◌∙◌}
+use Rattle.am_ordering.proofs.SequencingWords.{sym, ap, subst, arith, nat_tests, Report, Outcome, Data, Node, top, others, only_name, has_room, report_fits, with_report}
+use Rattle.am_ordering.proofs.SequencingWords.{push_entry, Plan, quiet, polling, and_telling, hold_of, IsInOrder, alike_requested, IsEndOf, row_at, is_unknown}
+use Rattle.am_ordering.proofs.SequencingWords.{take_report, ack_row, serve_again, serve, nack_row, answer_request, number_data, request_row, end_self}
+use Rattle.am_ordering.proofs.SequencingWords.{unless, report_refusal, request_refusal, data_note, Reply, Replies, Ends, saying_of, replying, letters_of}
+use Rattle.am_ordering.proofs.SequencingWords.{replies_as, replies_whole, says, ends_as}
+use Rattle.am_base.specs.Limits.{IsNumber}
 use Rattle.am_base.specs.declared.outcome.Outcome.TheVariants as said
+use Rattle.am_model.specs.Refresh.{refresh_at_end}
+use Rattle.am_handlers.specs.Replies.{IsNoteWithin}
+use Rattle.am_handlers.specs.declared.reply.Answer.TheVariants as answer
+use Rattle.am_handlers.specs.declared.reply.Note.TheVariants as note
+use Rattle.am_handlers.specs.declared.reply.Telling.TheVariants as tell
 
 -- ---- a report
 
@@ -20,11 +27,6 @@ by_refusal : (m : Node) (from : ℕ) (report : Report) (refusal : Option Outcome
 by_refusal m from report refusal plan is =
     by_tests (is_unknown m from) (report_fits m report) m plan ∙ ap (λ (o : Option Outcome). unless o m plan) (sym is)
 
-pub ack_by : (m : Node) (from : ℕ) (report : Report) (refusal : Option Outcome) → refusal ≡ report_refusal m from report
-    → ack_row m from report ≡ unless refusal m (following m.core.acc (with_report m from report))
-unfolding ack_row
-ack_by m from report refusal is = by_refusal m from report refusal (following m.core.acc (with_report m from report)) is
-
 pub nack_by : (m : Node) (from : ℕ) (report : Report) (refusal : Option Outcome) → refusal ≡ report_refusal m from report
     → nack_row m from report ≡ unless refusal m (serve_again (take_report m from report) from report.stored)
 unfolding nack_row
@@ -39,15 +41,23 @@ request_by m from report req body by_order refusal is =
 
 -- ---- an Ack
 
-pub follow_risen : (before acc : ℕ) (n : Node) → acc ≡ n.core.acc → before < acc → Tells (following before n).outcome n (said.Accepted acc)
-follow_risen before acc n is rose =
-    let test : nat_lt before n.core.acc ≡ true = grind (arith, nat_tests) in
-    tells (following before n).outcome n (said.Accepted acc) (λ all s. rw test (ap said.Accepted is))
+-- the end of a step whose report is taken, and before which so much was accepted
+abbrev pub following : ℕ → Node → Plan
+following since m = record (quiet m said.Noted) { outcome = λ n. if nat_lt since n.core.acc then said.Accepted n.core.acc else said.Noted }
 
-pub follow_same : (before acc : ℕ) (n : Node) → acc ≡ n.core.acc → acc ≤ before → Tells (following before n).outcome n said.Noted
-follow_same before acc n is same =
-    let test : nat_lt before n.core.acc ≡ false = grind (arith, nat_tests) in
-    tells (following before n).outcome n said.Noted (λ all s. rw test refl)
+pub follows_reply : (since : ℕ) (m n : Node) → Ends m n → Replies (following since m) (replying (answer.Accepted since) tell.Nothing) n
+follows_reply since m n end = says (following since m) _ n refl end refl (record {
+  answer = refl;
+  letters = refl;
+  polls = refl;
+  numbers = refl;
+  may = record { there = tt; first = λ x. tt; second = λ x. tt };
+})
+
+pub ack_by : (m : Node) (from : ℕ) (report : Report) (refusal : Option Outcome) → refusal ≡ report_refusal m from report
+    → ack_row m from report ≡ unless refusal m (following m.core.acc (with_report m from report))
+unfolding ack_row
+ack_by m from report refusal is = by_refusal m from report refusal (following m.core.acc (with_report m from report)) is
 
 -- ---- a Nack
 
@@ -63,15 +73,25 @@ again_served m to stored low =
 
 -- ---- a send
 
--- once the report is taken, what is done is what the row asks for
-pub after_report : (before : ℕ) (old mid new : Node) (from : ℕ) (report : Report) (req : ℕ) (body : List ℕ) (by_order : Bool) (answer : Outcome)
-    (letters : List Letter) → before ≡ old.core.acc → None ≡ report_refusal old from report → IsEndOf (take_report old from report) mid
-    → IsInOrder mid.core → Done before (answer_request mid from req body by_order) answer letters new
-    → Does (λ m. request_row m from report req body by_order) old answer letters new
-after_report before old mid new from report req body by_order answer letters acc none end order does =
-    does_now (λ m. request_row m from report req body by_order) old acc (request_by old from report req body by_order None none)
-    (done_whole before (λ m. answer_request m from req body by_order) (take_report old from report) mid new answer letters end order
-    (λ all keeps. alike_requested all mid from req body by_order keeps) does)
+-- once the report is taken, what is replied is what the row asks for
+pub after_report : (old mid new : Node) (from : ℕ) (report : Report) (req : ℕ) (body : List ℕ) (by_order : Bool) (r : Reply)
+    → None ≡ report_refusal old from report → IsEndOf (take_report old from report) mid → IsInOrder mid.core
+    → Replies (answer_request mid from req body by_order) r new → Replies (request_row old from report req body by_order) r new
+after_report old mid new from report req body by_order r none end order replies =
+    replies_as (request_by old from report req body by_order None none) refl
+    (replies_whole (λ m. answer_request m from req body by_order) (take_report old from report) mid new r end order
+    (λ all keeps. alike_requested all mid from req body by_order keeps) replies)
+
+pub held_reply : (m : Node) (to req : ℕ) → IsNumber req
+    → Replies (and_telling (polling m (said.Held m.core.base (top m))) (only_name to) (λ n. hold_of n req))
+    (record (saying_of (said.Held m.core.base (top m)) (tell.Note (only_name to) (note.Hold req))) { polls = true }) m
+held_reply m to req within = says _ _ m refl (end_self m) refl (record {
+  answer = refl;
+  letters = refl;
+  polls = refl;
+  numbers = refl;
+  may = record { there = tt; first = λ x. within; second = λ x. tt };
+})
 
 -- a row that goes on with a look at its sender's row
 by_row : (left last early : Bool) (m : Node) (at : ℕ) (plan : Plan)
@@ -109,3 +129,30 @@ pub request_numbered : (m : Node) (from req : ℕ) (body : List ℕ) (by_order :
     → answer_request m from req body by_order ≡ number_data m from req body by_order
 unfolding next_send
 request_numbered m from req body by_order is room = request_next m from req body by_order None is ∙ rw room refl
+
+-- a send that is numbered, by its note
+pub number_reply : (m mid : Node) (from req number : ℕ) (body : List ℕ) (by_order : Bool) → mid ≡ push_entry m (Data from req body) → number ≡ top m + 1
+    → IsNumber number → IsNumber req
+    → Replies (number_data m from req body by_order) (record (saying_of (said.Numbered number) (tell.Note (others m) (data_note number from req body by_order)))
+    { numbers = true }) mid
+number_reply m mid from req number body by_order node is number_within req_within =
+    let at = top m + 1 in
+    let low : IsNumber at = subst IsNumber is number_within in
+    let sends : Bool → Reply = λ b. record (saying_of (said.Numbered at) (tell.Note (others m) (data_note at from req body b))) { numbers = true } in
+    replies_as refl (ap (λ k. record (saying_of (said.Numbered k) (tell.Note (others m) (data_note k from req body by_order))) { numbers = true }) is)
+    (says (number_data m from req body by_order) (sends by_order) mid refl (ends_as (push_entry m (Data from req body)) mid node) refl (record {
+      answer = refl;
+      letters = letters by_order (refresh_at_end (push_entry m (Data from req body)));
+      polls = refl;
+      numbers = refl;
+      may = record { there = tt; first = λ x. within by_order low; second = λ x. tt };
+    }))
+  where
+    letters : (b : Bool) (n : Node) → (number_data m from req body b).letters n
+        ≡ letters_of (record (saying_of (said.Numbered (top m + 1)) (tell.Note (others m) (data_note (top m + 1) from req body b))) { numbers = true }) mid n
+    letters true n = refl
+    letters false n = refl
+
+    within : (b : Bool) → IsNumber (top m + 1) → IsNoteWithin (data_note (top m + 1) from req body b)
+    within true low = (low, req_within)
+    within false low = (low, req_within)

@@ -1,8 +1,7 @@
 -- Pieces of the rows of joining and leaving.
-use Rattle.std.specs.Prelude.{ℕ, ◌+◌, List, Bool, true, not, ◌&&◌, ◌||◌, ◌==◌, nat_lt, nat_le, if◌then◌else◌, Option, Some, None}
+use Rattle.std.specs.Prelude.{ℕ, ◌+◌, Bool, not, ◌&&◌, ◌||◌, ◌==◌, nat_lt, nat_le, if◌then◌else◌, Option, Some, None}
 use Rattle.am_base.specs.declared.image.Row.{Row}
 use Rattle.am_base.specs.declared.image.Image.{Image}
-use Rattle.am_base.specs.declared.image.Report.{Report}
 use Rattle.am_base.specs.declared.name.Stamp.{Stamp}
 use Rattle.am_base.specs.declared.outcome.Outcome.{Outcome}
 use Rattle.am_base.specs.declared.outcome.Outcome.TheVariants as said
@@ -10,12 +9,9 @@ use Rattle.am_base.specs.Names.{place_of, life_of, name_at}
 use Rattle.am_base.specs.Stamps.{stamp_lt}
 use Rattle.am_base.specs.Lists.{row_of}
 use Rattle.am_base.specs.declared.entry.Entry.TheVariants.{Leave}
-use Rattle.am_parts.specs.Reports.{least_stored}
-use Rattle.am_packet.specs.Boxes.{Letter, with_letter}
 use Rattle.am_model.specs.Node.{Node, top, only_name, is_within_bound}
-use Rattle.am_model.specs.Emit.{Plan, quiet, telling, numbering, bcast_of, welcome_of, gone_of}
-use Rattle.am_model.specs.Sequencing.{row_at}
-use Rattle.am_model.specs.Joining.{may_go, let_go, and_gone}
+use Rattle.am_model.specs.Emit.{Plan, quiet, telling, numbering, bcast_of, welcome_of}
+use Rattle.am_model.specs.Joining.{let_go, and_gone}
 
 -- why a name may not join, where the row of its place is this and so much is accepted
 abbrev pub refusal_of : ℕ → ℕ → Row → Option Outcome
@@ -35,22 +31,6 @@ abbrev pub welcome_again : Node → ℕ → ℕ → Plan
 welcome_again m name joined =
     if needs_none m name joined then quiet m said.Again
     else telling m (said.Welcomed joined) (only_name name) (λ n. welcome_of n name)
-
--- the letters with a Welcome, where so much is accepted
-abbrev pub and_welcome : ℕ → ℕ → List Letter → Node → List Letter
-and_welcome number name letters n = if nat_le number n.core.acc then with_letter (only_name name) (welcome_of n name) letters else letters
-
--- the letters with a Gone, where the leaver may go
-abbrev pub and_let_go : ℕ → List Letter → Node → List Letter
-and_let_go name letters n = if may_go n name then with_letter (only_name name) (gone_of n (row_at n name).left) letters else letters
-
--- a number isn't above the least of some, where there is one
-abbrev pub all_hold : Option ℕ → ℕ → Bool
-all_hold least number = elim least [ None ↦ true | Some stored ↦ nat_le number stored ]
-
--- there is a Leave of this number that is accepted, and that all of these have stored
-abbrev pub is_stored : (ℕ → Report) → ℕ → ℕ → List ℕ → Bool
-is_stored reports accepted left names = nat_lt 0 left && (nat_le left accepted && all_hold (least_stored reports names) left)
 
 -- the Leave of a name is numbered, or stands in the list already
 abbrev pub number_leave : Node → ℕ → Plan

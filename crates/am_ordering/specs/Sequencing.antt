@@ -2,20 +2,13 @@
 use Rattle.std.specs.Prelude.{ℕ, ◌+◌, List, Bool, not, nat_lt, nat_le, if◌then◌else◌, Option, Some, None}
 use Rattle.am_base.specs.declared.image.Report.{Report}
 use Rattle.am_base.specs.declared.image.Row.{Row}
-use Rattle.am_base.specs.declared.entry.Entry.{Entry}
 use Rattle.am_base.specs.declared.entry.Entry.TheVariants.{Data}
 use Rattle.am_base.specs.declared.outcome.Outcome.{Outcome}
 use Rattle.am_base.specs.declared.outcome.Outcome.TheVariants as said
-use Rattle.am_packet.specs.declared.packet.Packet.{Packet}
-use Rattle.am_packet.specs.declared.packet.Packet.TheVariants.{Bcast}
-use Rattle.am_parts.specs.Cores.{CoreState}
 use Rattle.am_model.specs.Node.{Node, report_fits}
 use Rattle.am_model.specs.Sequencing.{is_unknown}
-use Rattle.am_model.specs.Emit.{Plan, quiet, bcast_of, order_of}
-
--- the end of a step whose report is taken, and before which so much was accepted
-abbrev pub following : ℕ → Node → Plan
-following before m = record (quiet m said.Noted) { outcome = λ n. if nat_lt before n.core.acc then said.Accepted n.core.acc else said.Noted }
+use Rattle.am_handlers.specs.declared.reply.Note.{Note}
+use Rattle.am_handlers.specs.declared.reply.Note.TheVariants as note
 
 -- what is told of a report that isn't taken
 abbrev pub report_refusal : Node → ℕ → Report → Option Outcome
@@ -29,10 +22,6 @@ request_refusal r req =
     else if nat_lt (r.last + 1) req then Some (said.Early r.last)
     else None
 
--- the packet of a numbered send: its number alone where everybody has its body
-abbrev pub data_packet : ℕ → ℕ → ℕ → List ℕ → Bool → Node → Packet
-data_packet number from req body by_order n = if by_order then order_of n number from req else bcast_of n number (Data from req body)
-
--- a numbered entry, with the fronts of a core
-abbrev pub bcast_from : CoreState → ℕ → Entry → Packet
-bcast_from c number e = Bcast c.who c.promise c.base c.acc number e
+-- what is told of a numbered send: its number alone where everybody has its body
+abbrev pub data_note : ℕ → ℕ → ℕ → List ℕ → Bool → Note
+data_note number from req body by_order = if by_order then note.Order number from req else note.Bcast number (Data from req body)

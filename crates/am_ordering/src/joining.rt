@@ -1,20 +1,18 @@
-ghost use Rattle.std.specs.Prelude.{◌≡◌, ◌≢◌, ◌<◌, ◌+◌, [], length, true};
-ghost use Rattle.am_handlers.specs.Prelude.{IsRow, at_place, fits, is_sequencer, image_of, CoreTells, node_of, Finishes, Performs, HasRoomLeft, MayServe};
+ghost use Rattle.std.specs.Prelude.{◌≡◌, ◌≢◌, ◌<◌, ◌+◌, length, true};
+ghost use Rattle.am_handlers.specs.Prelude.{IsRow, at_place, fits, is_sequencer, image_of, node_of, HasRoomLeft, MayServe};
 ghost use Rattle.am_base.specs.declared.entry.Entry.TheVariants.{Join};
 ghost use Rattle.am_model.specs.Joining.{with_admitted, number_join, join_ask_row};
-ghost use Rattle.am_ordering.specs.Joining.{refusal_of, needs_none, welcome_again, and_welcome};
+ghost use Rattle.am_handlers.specs.Replies.{Replies};
+ghost use Rattle.am_ordering.specs.Joining.{refusal_of, needs_none, welcome_again};
 
 use am_base::entry::EntryRef;
 use am_base::image::Row;
 use am_base::name::Name;
 use am_base::outcome::Outcome;
-use am_handlers::asking::{has_room, held_answer, next_number};
-use am_handlers::finishing::{OneLetter, Telling, finish_polling, finish_quietly, finish_telling};
-use am_handlers::packets::{bcast, only, welcome};
+use am_handlers::asking::{has_room, held_answer, next_number, others};
 use am_handlers::parts::Parts;
-use am_letter::out_box::OutBox;
+use am_handlers::reply::{Note, Reply, Telling, note_to, numbered, polling, quiet, saying};
 use am_parts::log::Log;
-use am_parts::state::Core;
 
 /// The row of a name's place.
 fn at_place(parts: &Parts, name: Name) -> Row
@@ -49,16 +47,6 @@ fn may_join(parts: &Parts, name: Name) -> bool
     parts.core.log.fits(&EntryRef::join(name))
 }
 
-/// Welcomes a name whose Join has a number, where that is accepted.
-fn welcome_accepted<L: Log>(core: &Core<L>, number: u32, name: Name, out: &mut OutBox)
-    requires { length out.old < 24 }
-    ensures { CoreTells (and_welcome number name out.old) core.now out.new }
-{
-    if number <= core.acc {
-        out.put(only(name), &welcome(core, name));
-    }
-}
-
 /// Up to where the list is trimmed.
 fn base_of(parts: &Parts) -> u32
     ensures { result ≡ parts.now.core.base }
@@ -76,22 +64,18 @@ fn admit(parts: &mut Parts, name: Name)
 }
 
 /// Numbers the Join of a name, and welcomes it where that is accepted at once.
-fn number_join(parts: &mut Parts, before: u32, from: Name, out: &mut OutBox) -> Outcome
+fn number_join<'a>(parts: &mut Parts, from: Name) -> Reply<'a>
     requires leads { is_sequencer (node_of parts.old) ≡ true }
     requires other { from ≢ parts.old.core.who }
     requires fits { fits (image_of (node_of parts.old)) (Join from) ≡ true }
     requires room { HasRoomLeft (node_of parts.old) }
-    requires empty { out.old ≡ [] }
-    ensures { Finishes before (number_join (node_of parts.old) from) result out.new parts.new }
+    ensures { Replies (number_join (node_of parts.old) from) result (node_of parts.new) }
 {
     let number = next_number(parts);
-    let others = parts.others();
+    let others = others(parts);
     admit(parts, from);
     parts.push(&EntryRef::join(from));
-    parts.end();
-    out.put(others, &bcast(&parts.core, number, EntryRef::join(from)));
-    welcome_accepted(&parts.core, number, from, out);
-    Outcome::Numbered { number }
+    numbered(number, others, EntryRef::join(from)).and(Telling::Welcome { number, to: from })
 }
 
 /// Whether a name whose Join has a number has begun already, or its Join isn't accepted.
@@ -102,49 +86,34 @@ fn needs_none(parts: &Parts, name: Name, joined: u32) -> bool
 }
 
 /// Welcomes a name again whose Join has a number.
-fn welcome_again(
-    parts: &mut Parts,
-    before: u32,
-    from: Name,
-    joined: u32,
-    out: &mut OutBox,
-) -> Outcome
-    requires { out.old ≡ [] }
-    ensures { Finishes before (welcome_again (node_of parts.old) from joined)
-        result out.new parts.new }
+fn welcome_again<'a>(parts: &Parts, from: Name, joined: u32) -> Reply<'a>
+    ensures { Replies (welcome_again (node_of parts.now) from joined) result (node_of parts.now) }
 {
     if needs_none(parts, from, joined) {
-        return finish_quietly(parts, before, Outcome::Again, out);
+        return quiet(Outcome::Again);
     }
-    let answer = Outcome::Welcomed { number: joined };
-    let letter = Telling {
-        to: from,
-        letter: OneLetter::Welcome,
-    };
-    finish_telling(parts, before, letter, answer, out)
+    let welcome = note_to(from, Note::Welcome(from));
+    saying(Outcome::Welcomed { number: joined }, welcome)
 }
 
 /// Takes a request to join. Stranger: the name's life is over. Occupied: another life holds its place. Held: there is no
 /// room, and the members are polled. Numbered: its Join is, and it is welcomed once that is accepted. Again: it has begun
-/// already, or its Join isn't accepted. Else it is Welcomed once more. The out box must be empty, the node the sequencer,
-/// and its last number not the greatest.
-pub fn on_join_ask(parts: &mut Parts, from: Name, out: &mut OutBox) -> Outcome
-    requires serves { MayServe (node_of parts.old) from }
-    requires empty { out.old ≡ [] }
-    ensures { Performs (λ m. join_ask_row m from) parts.old result out.new parts.new }
+/// already, or its Join isn't accepted. Else it is Welcomed once more. The node must be the sequencer, and its last number
+/// not the greatest.
+pub fn on_join_ask<'a>(parts: &mut Parts, from: Name) -> Reply<'a>
+    requires { MayServe (node_of parts.old) from }
+    ensures { Replies (join_ask_row (node_of parts.old) from) result (node_of parts.new) }
 {
-    let before = parts.accept_front();
     let row = at_place(parts, from);
-    let turned = refusal_of(before, from, row);
+    let turned = refusal_of(parts.accept_front(), from, row);
     if let Some(answer) = turned {
-        return finish_quietly(parts, before, answer, out);
+        return quiet(answer);
     }
     if !may_join(parts, from) {
-        return welcome_again(parts, before, from, row.joined, out);
+        return welcome_again(parts, from, row.joined);
     }
     if !has_room(parts) {
-        let answer = held_answer(parts);
-        return finish_polling(parts, before, answer, out);
+        return polling(held_answer(parts));
     }
-    number_join(parts, before, from, out)
+    number_join(parts, from)
 }

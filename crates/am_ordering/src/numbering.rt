@@ -1,8 +1,10 @@
-ghost use Rattle.std.specs.Prelude.{◌≡◌, ◌+◌, [], IfNone};
-ghost use Rattle.am_handlers.specs.Prelude.{IsNumber, IsWithin, only_name, top, CoreTells, node_of, Finishes};
+ghost use Rattle.std.specs.Prelude.{◌≡◌, ◌+◌, IfNone};
+ghost use Rattle.am_handlers.specs.Prelude.{IsNumber, only_name, top, node_of};
+ghost use Rattle.am_base.specs.declared.entry.Entry.TheVariants.{Data};
 ghost use Rattle.am_model.specs.Emit.{polling, and_telling, hold_of};
 ghost use Rattle.am_base.specs.declared.outcome.Outcome.TheVariants as said;
-ghost use Rattle.am_ordering.specs.Sequencing.{data_packet, request_refusal};
+ghost use Rattle.am_handlers.specs.Replies.{Replies};
+ghost use Rattle.am_ordering.specs.Sequencing.{data_note, request_refusal};
 
 use crate::sequencer::Request;
 use am_base::entry::{EntryParts, EntryRef};
@@ -10,12 +12,8 @@ use am_base::image::Row;
 use am_base::name::Name;
 use am_base::outcome::Outcome;
 use am_handlers::asking::held_answer;
-use am_handlers::packets::{bcast, hold, only, order};
 use am_handlers::parts::Parts;
-use am_letter::out_box::OutBox;
-use am_packet::packet::Packet;
-use am_parts::log::Log;
-use am_parts::state::Core;
+use am_handlers::reply::{Note, Reply, note_to, saying};
 
 /// What is told of a send that isn't its sender's next one, or whose sender has left; None where it may be numbered.
 pub fn request_refusal(row: Row, req: u32) -> Option<Outcome>
@@ -36,36 +34,37 @@ pub fn request_refusal(row: Row, req: u32) -> Option<Outcome>
 }
 
 /// Tells a name that there is no room for its send, and polls the members.
-pub fn put_off(parts: &mut Parts, before: u32, to: Name, req: u32, out: &mut OutBox) -> Outcome
-    requires req { IsNumber req }
-    requires empty { out.old ≡ [] }
-    ensures { Finishes before (and_telling (polling (node_of parts.old)
-        (said.Held parts.old.core.base (top (node_of parts.old)))) (only_name to)
-        (λ n. hold_of n req)) result out.new parts.new }
+pub fn put_off<'a>(parts: &Parts, to: Name, req: u32) -> Reply<'a>
+    requires { IsNumber req }
+    ensures { Replies (and_telling (polling (node_of parts.now)
+        (said.Held parts.now.core.base (top (node_of parts.now)))) (only_name to)
+        (λ n. hold_of n req)) result (node_of parts.now) }
 {
-    let _before = parts.accept_front();
-    let answer = held_answer(parts);
-    parts.end();
-    out.put(only(to), &hold(&parts.core, req));
-    parts.tell_accepted(before, true, false, out);
-    answer
+    saying(held_answer(parts), note_to(to, Note::Hold { req })).polling()
 }
 
-/// The packet of a send that has a number: an Order where its body was spread, else a Bcast.
-pub fn data_packet<'a, L: Log>(core: &Core<L>, number: u32, request: &Request<'a>) -> Packet<'a>
-    requires number { IsNumber number }
-    requires req { IsNumber request.now.req }
-    ensures value { CoreTells (data_packet number request.now.from request.now.req request.now.body
-        request.now.by_order) core.now result }
-    ensures within { IsWithin result }
+/// What is told of a send that has a number: that alone where its body was spread, else the entry.
+pub fn data_note<'a>(number: u32, request: &Request<'a>) -> Note<'a>
+    ensures { result ≡ data_note number request.now.from request.now.req request.now.body
+        request.now.by_order }
 {
+    let (from, req) = (request.from, request.req);
     if request.by_order {
-        return order(core, number, request.from, request.req);
+        return Note::Order { number, from, req };
     }
-    let entry = EntryRef::of(EntryParts::Data {
+    Note::Bcast {
+        number,
+        entry: data_of(request),
+    }
+}
+
+/// The Data of a send.
+pub fn data_of<'a>(request: &Request<'a>) -> EntryRef<'a>
+    ensures { result ≡ Data request.now.from request.now.req request.now.body }
+{
+    EntryRef::of(EntryParts::Data {
         from: request.from,
         req: request.req,
         body: request.body.again(),
-    });
-    bcast(core, number, entry)
+    })
 }

@@ -1,19 +1,18 @@
-ghost use Rattle.std.specs.Prelude.{◌≡◌, ◌+◌, ◌≤◌, ◌<◌, [], Some, false, nat_lt, ◌&&◌, not, length, IfSome};
+ghost use Rattle.std.specs.Prelude.{◌≡◌, ◌+◌, ◌≤◌, ◌<◌, Some, false, nat_lt, ◌&&◌, not, IfSome};
 ghost use Rattle.std.specs.Option.{option_copied};
-ghost use Rattle.am_handlers.specs.Prelude.{IsNumber, IsEntry, IsInOrder, has_own_leave, is_sequencer, top, waiting, IsEndOf, CoreTells, IsSteady, node_of, Finishes, Performs};
+ghost use Rattle.am_handlers.specs.Prelude.{IsNumber, IsEntry, IsInOrder, has_own_leave, is_sequencer, top, waiting, IsEndOf, IsSteady, node_of};
 ghost use Rattle.am_parts.specs.Cores.{Keeps};
 ghost use Rattle.am_model.specs.Receiving.{with_noted, accept_row, bcast_row, order_row, receive_entry, own_body, body_of, data_of};
-ghost use Rattle.am_ordering.specs.Receiving.{note, ack_where, accepting, Follows};
+ghost use Rattle.am_handlers.specs.Replies.{Replies};
+ghost use Rattle.am_ordering.specs.Receiving.{note, ack_where, Follows};
 
 use crate::storing::store;
 use am_base::body::Body;
 use am_base::entry::{Entry, EntryRef};
 use am_base::name::Name;
 use am_base::outcome::Outcome;
-use am_handlers::finishing::{OneLetter, Telling, finish_quietly, finish_telling};
-use am_handlers::packets::{ack, only};
 use am_handlers::parts::Parts;
-use am_letter::out_box::OutBox;
+use am_handlers::reply::{Answer, Note, Reply, Telling, answering, note_to, quiet, saying};
 use am_parts::log::Log;
 use am_parts::state::Core;
 
@@ -77,101 +76,60 @@ fn is_short_of(parts: &Parts, high: u32) -> bool
     parts.core.log.top() < high && !has_left(parts)
 }
 
-/// Sends a name an Ack, where it is due.
-#[tactic(auto, using(am_model::proofs::Letters::one_more))]
-pub fn send_ack_where<L: Log>(is_due: bool, core: &Core<L>, to: Name, out: &mut OutBox)
-    requires { out.old ≡ [] }
-    ensures letters { CoreTells (ack_where is_due to) core.now out.new }
-    ensures few { length out.new ≤ 1 }
+/// An Ack to a name, where it is due.
+pub fn ack_where<'a>(is_due: bool, to: Name) -> Telling<'a>
+    ensures { result ≡ ack_where is_due to }
 {
     if is_due {
-        out.put(only(to), &ack(core));
+        return note_to(to, Note::Ack);
     }
-}
-
-/// The end of a step that noted how far the list is accepted. It tells whether that rose.
-fn finish_accepting(
-    parts: &mut Parts,
-    before: u32,
-    poll: bool,
-    from: Name,
-    out: &mut OutBox,
-) -> Outcome
-    requires { out.old ≡ [] }
-    ensures { Finishes before (accepting before poll from (node_of parts.old))
-        result out.new parts.new }
-{
-    let _before = parts.accept_front();
-    parts.end();
-    send_ack_where(poll, &parts.core, from, out);
-    parts.tell_accepted(before, false, false, out);
-    let acc = parts.accept_front();
-    if before < acc {
-        return Outcome::Advanced { acc };
-    }
-    Outcome::Known
+    Telling::Nothing
 }
 
 /// The sequencer tells how far the list goes and is accepted (docs/PROTOCOL.md, "Numbered entries, at a member").
 /// Gap, with a Nack, where an entry up to the number isn't stored and the node's own Leave doesn't stand in its list.
 /// Else Advanced where what is accepted rose, and Known where it didn't; an Ack goes out where `poll` asks for it.
-pub fn on_accept(parts: &mut Parts, told: Told, poll: bool, out: &mut OutBox) -> Outcome
-    requires { out.old ≡ [] }
-    ensures { Performs (λ m. accept_row m told.sender told.base told.acc told.number poll) parts.old
-        result out.new parts.new }
+pub fn on_accept<'a>(parts: &mut Parts, told: Told, poll: bool) -> Reply<'a>
+    ensures { Replies (accept_row (node_of parts.old) told.sender told.base told.acc told.number
+        poll) result (node_of parts.new) }
 {
-    let before = parts.accept_front();
+    let since = parts.accept_front();
     let stored = parts.core.log.top();
     let short = is_short_of(parts, told.number);
     note(parts, told.base, told.acc);
     if short {
-        let answer = Outcome::Gap { want: stored + 1 };
-        let nack = Telling {
-            to: told.sender,
-            letter: OneLetter::Nack,
-        };
-        return finish_telling(parts, before, nack, answer, out);
+        let nack = note_to(told.sender, Note::Nack);
+        return saying(Outcome::Gap { want: stored + 1 }, nack);
     }
-    finish_accepting(parts, before, poll, told.sender, out)
+    answering(Answer::Advanced { since }, ack_where(poll, told.sender))
 }
 
 /// Does what a numbered entry asks for, once its fronts are noted.
-fn receive_entry(
-    parts: &mut Parts,
-    before: u32,
-    told: Told,
-    found: Found,
-    out: &mut OutBox,
-) -> Outcome
+fn receive_entry<'a>(parts: &mut Parts, told: Told, found: Found) -> Reply<'a>
     requires follows { Follows (node_of parts.old) }
     requires number { IsNumber told.number }
     requires entry { IfSome found.known (λ e. IsEntry e) }
-    requires empty { out.old ≡ [] }
-    ensures { Finishes before (receive_entry (node_of parts.old) told.sender told.base told.number
-        found.entry.known found.entry.missing) result out.new parts.new }
+    ensures { Replies (receive_entry (node_of parts.old) told.sender told.base told.number
+        found.entry.known found.entry.missing) result (node_of parts.new) }
 {
     let top = parts.core.log.top();
     if told.number <= top {
-        return finish_quietly(parts, before, Outcome::Known, out);
+        return quiet(Outcome::Known);
     }
     if has_left(parts) {
-        return finish_quietly(parts, before, Outcome::Behind, out);
+        return quiet(Outcome::Behind);
     }
-    let nack = Telling {
-        to: told.sender,
-        letter: OneLetter::Nack,
-    };
     if top + 1 < told.number {
-        let answer = Outcome::Gap { want: top + 1 };
-        return finish_telling(parts, before, nack, answer, out);
+        let nack = note_to(told.sender, Note::Nack);
+        return saying(Outcome::Gap { want: top + 1 }, nack);
     }
     if parts.core.taken < told.base {
-        return finish_quietly(parts, before, Outcome::Behind, out);
+        return quiet(Outcome::Behind);
     }
     let Found { known, missing } = found;
     match known {
-        Some(entry) => store(parts, before, told, &entry, out),
-        None => finish_telling(parts, before, nack, missing, out),
+        Some(entry) => store(parts, told, &entry),
+        None => saying(missing, note_to(told.sender, Note::Nack)),
     }
 }
 
@@ -180,21 +138,19 @@ fn receive_entry(
 /// with a Nack, where an earlier entry isn't stored. Unfit where the entry is a View, doesn't fit the list, or
 /// isn't within the bound. Else Stored; as many of the lowest members as the resilience says send an Ack at once. The
 /// node must be a member that isn't the sequencer.
-pub fn on_bcast(parts: &mut Parts, told: Told, entry: &EntryRef, out: &mut OutBox) -> Outcome
+pub fn on_bcast<'a>(parts: &mut Parts, told: Told, entry: &EntryRef) -> Reply<'a>
     requires follows { Follows (node_of parts.old) }
     requires number { IsNumber told.number }
     requires entry { IsEntry entry.now }
-    requires empty { out.old ≡ [] }
-    ensures { Performs (λ m. bcast_row m told.sender told.base told.acc told.number entry.now)
-        parts.old result out.new parts.new }
+    ensures { Replies (bcast_row (node_of parts.old) told.sender told.base told.acc told.number
+        entry.now) result (node_of parts.new) }
 {
-    let before = parts.accept_front();
     note(parts, told.base, told.acc);
     let found = Found {
         known: Some(entry.again()),
         missing: Outcome::Known,
     };
-    receive_entry(parts, before, told, found, out)
+    receive_entry(parts, told, found)
 }
 
 /// The body of the waiting send, where that is this send of the node's own.
@@ -236,20 +192,18 @@ fn standing(entry: &Option<Entry>) -> Option<EntryRef<'_>>
 /// The sequencer tells the number of a send that was spread: its body is that of the node's waiting send where that is
 /// the send, and else a kept one. NoBody, with a Nack, where there is none and the entry would be stored next. The
 /// other answers are those of `on_bcast`, and so are the premises.
-pub fn on_order(parts: &mut Parts, told: Told, from: Name, req: u32, out: &mut OutBox) -> Outcome
+pub fn on_order<'a>(parts: &mut Parts, told: Told, from: Name, req: u32) -> Reply<'a>
     requires follows { Follows (node_of parts.old) }
     requires number { IsNumber told.number }
     requires req { IsNumber req }
-    requires empty { out.old ≡ [] }
-    ensures { Performs (λ m. order_row m told.sender told.base told.acc told.number from req)
-        parts.old result out.new parts.new }
+    ensures { Replies (order_row (node_of parts.old) told.sender told.base told.acc told.number from
+        req) result (node_of parts.new) }
 {
-    let before = parts.accept_front();
     let data = data_of(parts, from, req);
     note(parts, told.base, told.acc);
     let found = Found {
         known: standing(&data),
         missing: Outcome::NoBody { from, req },
     };
-    receive_entry(parts, before, told, found, out)
+    receive_entry(parts, told, found)
 }

@@ -1,19 +1,18 @@
-ghost use Rattle.std.specs.Prelude.{◌≡◌, ◌≢◌, ◌<◌, ◌≤◌, [], false, IfNone};
-ghost use Rattle.am_handlers.specs.Prelude.{IsNumber, top, node_of, Finishes, Performs, MayServe};
-ghost use Rattle.am_model.specs.Sequencing.{is_unknown, ack_row, nack_row, request_row};
-ghost use Rattle.am_ordering.specs.Sequencing.{following, report_refusal};
+ghost use Rattle.std.specs.Prelude.{◌≡◌, ◌≢◌, ◌<◌, ◌≤◌, true, false, IfNone};
+ghost use Rattle.am_handlers.specs.Prelude.{most_number, IsNumber, is_sequencer, top, node_of, MayServe};
+ghost use Rattle.am_model.specs.Sequencing.{is_unknown, ack_row, nack_row, request_row, answer_request};
+ghost use Rattle.am_handlers.specs.Replies.{Replies};
+ghost use Rattle.am_ordering.specs.Sequencing.{report_refusal};
 
-use crate::numbering::{data_packet, put_off, request_refusal};
+use crate::numbering::{data_note, data_of, put_off, request_refusal};
 use crate::serving::serve_again;
 use am_base::body::BodyRef;
-use am_base::entry::{EntryParts, EntryRef};
 use am_base::image::Report;
 use am_base::name::Name;
 use am_base::outcome::Outcome;
-use am_handlers::asking::{has_room, is_unknown, next_number, report_fits, row};
-use am_handlers::finishing::finish_quietly;
+use am_handlers::asking::{has_room, is_unknown, next_number, others, report_fits, row};
 use am_handlers::parts::Parts;
-use am_letter::out_box::OutBox;
+use am_handlers::reply::{Answer, Reply, Telling, answering, quiet, saying};
 
 /// A send of another name, as its packet tells it.
 #[derive(Drop)]
@@ -46,85 +45,70 @@ fn report_refusal(parts: &Parts, from: Name, report: Report) -> Option<Outcome>
     None
 }
 
-/// The end of a step whose report is taken, and before which so much was accepted. It tells whether that rose.
-fn follow(parts: &mut Parts, before: u32, out: &mut OutBox) -> Outcome
-    requires { out.old ≡ [] }
-    ensures { Finishes before (following before (node_of parts.old)) result out.new parts.new }
-{
-    let _before = parts.accept_front();
-    parts.end();
-    parts.tell_accepted(before, false, false, out);
-    let acc = parts.accept_front();
-    if before < acc {
-        return Outcome::Accepted { acc };
-    }
-    Outcome::Noted
-}
-
 /// Takes a report of another name. Stranger: no Join of its sender stands in the list. Unfit: it isn't one of this list.
-/// Else Accepted where what is accepted rises, and Noted. The out box must be empty.
-pub fn on_ack(parts: &mut Parts, from: Name, report: Report, out: &mut OutBox) -> Outcome
-    requires other { from ≢ parts.old.core.who }
-    requires empty { out.old ≡ [] }
-    ensures { Performs (λ m. ack_row m from report) parts.old result out.new parts.new }
+/// Else Accepted where what is accepted rises, and Noted.
+pub fn on_ack<'a>(parts: &mut Parts, from: Name, report: Report) -> Reply<'a>
+    requires { from ≢ parts.old.core.who }
+    ensures { Replies (ack_row (node_of parts.old) from report) result (node_of parts.new) }
 {
-    let before = parts.accept_front();
+    let since = parts.accept_front();
     if let Some(answer) = report_refusal(parts, from, report) {
-        return finish_quietly(parts, before, answer, out);
+        return quiet(answer);
     }
     parts.report(from, report);
-    follow(parts, before, out)
+    answering(Answer::Accepted { since }, Telling::Nothing)
 }
 
 /// Takes a report of another name that asks for what comes next. Stranger: no Join of its sender stands in the list.
 /// Unfit: it isn't one of this list. Behind: what its sender stored is trimmed. Else the entries above that go to it,
-/// eight at most: Served. The out box must be empty.
-pub fn on_nack(parts: &mut Parts, from: Name, report: Report, out: &mut OutBox) -> Outcome
-    requires other { from ≢ parts.old.core.who }
-    requires empty { out.old ≡ [] }
-    ensures { Performs (λ m. nack_row m from report) parts.old result out.new parts.new }
+/// eight at most: Served.
+pub fn on_nack<'a>(parts: &mut Parts, from: Name, report: Report) -> Reply<'a>
+    requires { from ≢ parts.old.core.who }
+    ensures { Replies (nack_row (node_of parts.old) from report) result (node_of parts.new) }
 {
-    let before = parts.accept_front();
     if let Some(answer) = report_refusal(parts, from, report) {
-        return finish_quietly(parts, before, answer, out);
+        return quiet(answer);
     }
     parts.take_report(from, report);
-    serve_again(parts, before, from, report.stored, out)
+    serve_again(parts, from, report.stored)
+}
+
+/// Does what a send asks for whose report is taken.
+fn answer_request<'a>(parts: &mut Parts, request: &Request<'a>) -> Reply<'a>
+    requires leads { is_sequencer (node_of parts.old) ≡ true }
+    requires known { is_unknown (node_of parts.old) request.now.from ≡ false }
+    requires top { top (node_of parts.old) < most_number }
+    requires req { IsNumber request.now.req }
+    ensures { Replies (answer_request (node_of parts.old) request.now.from request.now.req
+        request.now.body request.now.by_order) result (node_of parts.new) }
+{
+    let row = row(parts, request.from);
+    if let Some(answer) = request_refusal(row, request.req) {
+        return quiet(answer);
+    }
+    if !has_room(parts) {
+        return put_off(parts, request.from, request.req);
+    }
+    let number = next_number(parts);
+    let to = others(parts);
+    parts.push(&data_of(request));
+    let note = data_note(number, request);
+    saying(Outcome::Numbered { number }, Telling::Note { to, note }).numbering()
 }
 
 /// Takes a send of another name, with its report. Stranger: no Join of its sender stands in the list, or it has left.
 /// Unfit: the report isn't one of this list. Again: the send is numbered already. Early: it isn't its sender's next one.
-/// Held: there is no room, and the members are polled. Else the send is Numbered. The out box must be empty, the node the
-/// sequencer, and its last number not the greatest.
-pub fn on_request(parts: &mut Parts, request: &Request, out: &mut OutBox) -> Outcome
+/// Held: there is no room, and the members are polled. Else the send is Numbered. The node must be the sequencer, and its
+/// last number not the greatest.
+pub fn on_request<'a>(parts: &mut Parts, request: &Request<'a>) -> Reply<'a>
     requires serves { MayServe (node_of parts.old) request.now.from }
     requires req { IsNumber request.now.req }
-    requires empty { out.old ≡ [] }
-    ensures { Performs (λ m. request_row m request.now.from request.now.report request.now.req
-        request.now.body request.now.by_order) parts.old result out.new parts.new }
+    ensures { Replies (request_row (node_of parts.old) request.now.from request.now.report
+        request.now.req request.now.body request.now.by_order) result (node_of parts.new) }
 {
-    let before = parts.accept_front();
     if let Some(answer) = report_refusal(parts, request.from, request.report) {
-        return finish_quietly(parts, before, answer, out);
+        return quiet(answer);
     }
     parts.take_report(request.from, request.report);
-    let row = row(parts, request.from);
-    if let Some(answer) = request_refusal(row, request.req) {
-        return finish_quietly(parts, before, answer, out);
-    }
-    if !has_room(parts) {
-        return put_off(parts, before, request.from, request.req, out);
-    }
-    let number = next_number(parts);
-    let others = parts.others();
-    let entry = EntryRef::of(EntryParts::Data {
-        from: request.from,
-        req: request.req,
-        body: request.body.again(),
-    });
-    parts.push(&entry);
-    parts.end();
-    let packet = data_packet(&parts.core, number, request);
-    out.put(others, &packet);
-    Outcome::Numbered { number }
+    answer_request(parts, request)
 }

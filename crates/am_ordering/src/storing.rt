@@ -1,18 +1,18 @@
-ghost use Rattle.std.specs.Prelude.{◌≡◌, ◌+◌, ◌-◌, ◌<◌, ◌==◌, [], Some, true, false, nat_lt, take, count_by, ◌||◌, not};
+ghost use Rattle.std.specs.Prelude.{◌≡◌, ◌+◌, ◌-◌, ◌<◌, ◌==◌, Some, true, false, nat_lt, take, count_by, ◌||◌, not};
 ghost use Rattle.std.specs.List.{list_any};
-ghost use Rattle.am_handlers.specs.Prelude.{IsNumber, IsEntry, fits, IsSet, names_of, is_within_bound, image_of, top, node_of, Finishes};
+ghost use Rattle.am_handlers.specs.Prelude.{IsNumber, IsEntry, fits, IsSet, names_of, is_within_bound, image_of, top, node_of};
 ghost use Rattle.am_base.specs.declared.outcome.Outcome.{Outcome};
 ghost use Rattle.am_model.specs.Receiving.{is_view, bodies_after, acknowledges, store};
+ghost use Rattle.am_handlers.specs.Replies.{Replies};
 ghost use Rattle.am_ordering.specs.Receiving.{Follows};
 
-use crate::receiver::{Told, send_ack_where};
+use crate::receiver::{Told, ack_where};
 use am_base::entry::{EntryParts, EntryRef};
 use am_base::name::Name;
 use am_base::names::Names;
 use am_base::outcome::Outcome;
-use am_handlers::finishing::finish_quietly;
 use am_handlers::parts::Parts;
-use am_letter::out_box::OutBox;
+use am_handlers::reply::{Reply, quiet, saying};
 use am_parts::bodies::Pool;
 use am_parts::log::Log;
 
@@ -96,32 +96,21 @@ fn acknowledges(parts: &Parts, sequencer: Name) -> bool
 
 /// Stores the entry that is told next, where it fits, and acknowledges it where that is due. Unfit where it doesn't fit, else
 /// Stored.
-pub fn store(
-    parts: &mut Parts,
-    before: u32,
-    told: Told,
-    entry: &EntryRef,
-    out: &mut OutBox,
-) -> Outcome
+pub fn store<'a>(parts: &mut Parts, told: Told, entry: &EntryRef) -> Reply<'a>
     requires entry { IsEntry entry.now }
     requires number { IsNumber told.number }
     requires next { told.number ≡ top (node_of parts.old) + 1 }
     requires follows { Follows (node_of parts.old) }
-    requires empty { out.old ≡ [] }
-    ensures { (missing : Outcome) → Finishes before (store (node_of parts.old) told.sender
-        told.number (Some entry.now) missing) result out.new parts.new }
+    ensures { (missing : Outcome) → Replies (store (node_of parts.old) told.sender told.number
+        (Some entry.now) missing) result (node_of parts.new) }
 {
     if is_unfit(parts, told.number, entry) {
-        return finish_quietly(parts, before, Outcome::Unfit, out);
+        return quiet(Outcome::Unfit);
     }
     let _before = parts.accept_front();
     parts.push(entry);
     drop_bodies(parts, entry);
-    let is_due = acknowledges(parts, told.sender);
-    parts.end();
-    send_ack_where(is_due, &parts.core, told.sender, out);
-    parts.tell_accepted(before, false, false, out);
-    Outcome::Stored {
-        number: told.number,
-    }
+    let ack = ack_where(acknowledges(parts, told.sender), told.sender);
+    let number = told.number;
+    saying(Outcome::Stored { number }, ack)
 }

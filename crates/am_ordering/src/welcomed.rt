@@ -1,15 +1,15 @@
-ghost use Rattle.std.specs.Prelude.{◌≡◌, ◌≢◌, ◌||◌, [], true, false, nat_lt};
-ghost use Rattle.am_handlers.specs.Prelude.{IsNumber, IsStamp, IsImage, row_of, top_of, stamp_eq, stamp_lt, is_member, view, node_of, Finishes, Performs};
+ghost use Rattle.std.specs.Prelude.{◌≡◌, ◌≢◌, ◌||◌, true, false, nat_lt};
+ghost use Rattle.am_handlers.specs.Prelude.{IsNumber, IsStamp, IsImage, row_of, top_of, stamp_eq, stamp_lt, is_member, view, node_of};
 ghost use Rattle.am_model.specs.Node.{is_asking};
 ghost use Rattle.am_model.specs.Joining.{begin_list, begun_core, ask_next, welcome_row};
+ghost use Rattle.am_handlers.specs.Replies.{Replies};
 ghost use Rattle.am_ordering.specs.Joining.{is_unfit};
 
 use am_base::image::Image;
 use am_base::name::{Name, Stamp};
 use am_base::outcome::Outcome;
-use am_handlers::finishing::{OneLetter, Telling, finish_quietly, finish_telling};
 use am_handlers::parts::Parts;
-use am_letter::out_box::OutBox;
+use am_handlers::reply::{Note, Reply, note_to, quiet, saying};
 use am_model::status::Status;
 use am_packet::image_ref::ImageRef;
 use am_parts::log::Log;
@@ -103,52 +103,41 @@ fn has_view(parts: &Parts, stamp: Stamp) -> bool
 }
 
 /// A joiner whose list has begun asks for what comes next.
-fn ask_on(parts: &mut Parts, before: u32, told: &Welcome, out: &mut OutBox) -> Outcome
-    requires { out.old ≡ [] }
-    ensures { Finishes before (ask_next (node_of parts.old) told.now.sender told.now.stamp
-        told.now.join) result out.new parts.new }
+fn ask_on<'a>(parts: &Parts, told: &Welcome) -> Reply<'a>
+    ensures { Replies (ask_next (node_of parts.now) told.now.sender told.now.stamp told.now.join)
+        result (node_of parts.now) }
 {
     let answer = Outcome::Welcomed { number: told.join };
     if has_view(parts, told.stamp) {
-        let nack = Telling {
-            to: told.sender,
-            letter: OneLetter::Nack,
-        };
-        return finish_telling(parts, before, nack, answer, out);
+        return saying(answer, note_to(told.sender, Note::Nack));
     }
-    let fetch = Telling {
-        to: told.sender,
-        letter: OneLetter::Fetch,
-    };
-    finish_telling(parts, before, fetch, answer, out)
+    saying(answer, note_to(told.sender, Note::Fetch))
 }
 
 /// Takes a Welcome of the sequencer of a view, at a node that has asked to join or is a member. Known: it is a member.
 /// Elsewhere: the node has promised to more. Unfit: the Join is out of bounds, the image is of a later view, or the name
-/// stands in it. Else the list begins at the base and the node asks for what comes next: Welcomed. The out box must be empty.
+/// stands in it. Else the list begins at the base and the node asks for what comes next: Welcomed.
 #[inline(never)]
-pub fn on_welcome(parts: &mut Parts, told: &Welcome, image: &ImageRef, out: &mut OutBox) -> Outcome
+pub fn on_welcome<'a>(parts: &mut Parts, told: &Welcome, image: &ImageRef) -> Reply<'a>
     requires hears { (is_member (node_of parts.old).status || is_asking (node_of parts.old).status)
         ≡ true }
     requires other { told.now.stamp.by ≢ parts.old.core.who }
     requires stamp { IsStamp told.now.stamp }
     requires base { IsNumber told.now.base }
     requires image { IsImage image.now }
-    requires empty { out.old ≡ [] }
-    ensures { Performs (λ m. welcome_row m told.now.sender told.now.stamp told.now.base
-        told.now.join image.now) parts.old result out.new parts.new }
+    ensures { Replies (welcome_row (node_of parts.old) told.now.sender told.now.stamp told.now.base
+        told.now.join image.now) result (node_of parts.new) }
 {
-    let before = parts.accept_front();
     if is_member(parts) {
-        return finish_quietly(parts, before, Outcome::Known, out);
+        return quiet(Outcome::Known);
     }
     if has_promised_more(parts, told.stamp) {
-        return finish_quietly(parts, before, Outcome::Elsewhere, out);
+        return quiet(Outcome::Elsewhere);
     }
     let image = image.to_image();
     if is_unfit(parts, told, &image) {
-        return finish_quietly(parts, before, Outcome::Unfit, out);
+        return quiet(Outcome::Unfit);
     }
     begin(parts, told, &image);
-    ask_on(parts, before, told, out)
+    ask_on(parts, told)
 }

@@ -1,4 +1,3 @@
-pub mod Replying
 pub mod Plans
 pub mod DecidingWords
 pub mod Orders

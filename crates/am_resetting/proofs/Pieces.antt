@@ -4,11 +4,11 @@ use Rattle.am_resetting.proofs.CatchingWords.{refl, sym, ap, subst, ◌∙◌, a
 use Rattle.am_resetting.proofs.CatchingWords.{nobody, stamp_lt, stamp_eq, IsInOrder, told-push, split, has_log, Node, Ballot, top, image_of, view, acts, is_member}
 use Rattle.am_resetting.proofs.CatchingWords.{push_entry, trim_up_to, Plan, quiet, Verdict, with_promise, decide, is_view_past, push_fetched, catch_up, decide_anew}
 use Rattle.am_resetting.proofs.CatchingWords.{fetches_from, piece_promised, piece_for, piece_row, hears_result, result_row, IsEndOf, NodeKeeps, IsOwnBallot, IsSteady}
-use Rattle.am_resetting.proofs.CatchingWords.{unless, plan_of, FollowsAsView, ComesNext, IsBelow, IsUpTo, MayStore, IsTakenOut, Telling, ComesTo, Replies, own_steady}
+use Rattle.am_resetting.proofs.CatchingWords.{unless, plan_of, FollowsAsView, ComesNext, IsBelow, IsUpTo, MayStore, IsTakenOut, Telling, ComesTo, Reply, Replies, own_steady}
 use Rattle.am_resetting.proofs.CatchingWords.{view_is, view_stays_data, view_stays_join, view_stays_leave, by_plan, if_no, lt_self, same_stamp, not-false}
-use Rattle.am_resetting.proofs.CatchingWords.{replies_quiet, replies_looked, decide_with}
+use Rattle.am_resetting.proofs.CatchingWords.{replies_quiet, replies_looked, replies_telling, replies_saying, quiet_of, saying_of, asking_of, IsPlain, IsTold, decide_with}
 use Rattle.am_base.specs.declared.outcome.Outcome.TheVariants as said
-use Rattle.am_resetting.specs.declared.replies.Telling.TheVariants as tell
+use Rattle.am_handlers.specs.declared.reply.Telling.TheVariants as tell
 
 or_left : (a b : Bool) → (a || b) ≡ false → a ≡ false
 or_left true b h = absurd (cc)
@@ -55,29 +55,36 @@ may_store m v base number e in_ballot order logged is idle over within room next
 
 pub fetched_unless : (m n : Node) (v : Stamp) (base number : ℕ) (e : Entry) (in_ballot : Bool) (then_ : Node → Plan) (x : Option Outcome) (o : Outcome)
     → push_fetched m v base number e in_ballot then_ ≡ unless x m (then_ (push_entry (trim_up_to m base) e)) → x ≡ Some o → IsEndOf m n
-    → Replies (push_fetched m v base number e in_ballot then_) o tell.Nothing n
+    → Replies (push_fetched m v base number e in_ballot then_) (quiet_of o) n
 fetched_unless m n v base number e in_ballot then_ x o is some end =
-    by_plan (push_fetched m v base number e in_ballot then_) (quiet m o) o tell.Nothing n (is
-    ∙ ap (λ (y : Option Outcome). unless y m (then_ (push_entry (trim_up_to m base) e))) some) (replies_quiet m n o end)
+    by_plan (push_fetched m v base number e in_ballot then_) (quiet m o) (quiet_of o) n (is
+    ∙ ap (λ (y : Option Outcome). unless y m (then_ (push_entry (trim_up_to m base) e))) some) (replies_quiet m n o (λ k. end))
 
 pub fetched_then : (m n : Node) (v : Stamp) (base number : ℕ) (e : Entry) (in_ballot : Bool) (then_ : Node
-    → Plan) (x : Option Outcome) (o : Outcome) (t : Telling)
+    → Plan) (x : Option Outcome) (y : Reply)
     → push_fetched m v base number e in_ballot then_ ≡ unless x m (then_ (push_entry (trim_up_to m base) e)) → x ≡ None
-    → Replies (then_ (push_entry (trim_up_to m base) e)) o t n → Replies (push_fetched m v base number e in_ballot then_) o t n
-fetched_then m n v base number e in_ballot then_ x o t is none r =
-    by_plan (push_fetched m v base number e in_ballot then_) (then_ (push_entry (trim_up_to m base) e)) o t n (is
+    → Replies (then_ (push_entry (trim_up_to m base) e)) y n → Replies (push_fetched m v base number e in_ballot then_) y n
+fetched_then m n v base number e in_ballot then_ x y is none r =
+    by_plan (push_fetched m v base number e in_ballot then_) (then_ (push_entry (trim_up_to m base) e)) y n (is
     ∙ ap (λ (y : Option Outcome). unless y m (then_ (push_entry (trim_up_to m base) e))) none) r
 
-pub replies_caught : (m n : Node) (s : ℕ) (v : Stamp) (number : ℕ) → IsEndOf m n → Replies (catch_up s v number m) (said.Stored number) (tell.AckIn v s) n
-replies_caught m n s v number e = record { node = e; answer = λ x. refl; letters = λ x. refl; polls = refl; numbers = refl; departs = refl }
+pub replies_caught : (m n : Node) (s : ℕ) (v : Stamp) (number : ℕ) → IsEndOf m n
+    → Replies (catch_up s v number m) (saying_of (said.Stored number) (tell.AckIn v s)) n
+replies_caught m n s v number e = replies_saying m n (said.Stored number) (tell.AckIn v s) refl tt tt (λ k. e)
+
+-- a plan with this answer and this packet
+pub replies_plan : (m n : Node) (o : Outcome) (t : Telling) → IsPlain t → IsEndOf m n → Replies (plan_of m o t) (saying_of o t) n
+replies_plan m n o tell.Nothing plain e = replies_quiet m n o (λ k. e)
+replies_plan m n o (tell.Note to what) plain e = replies_telling m n o to what plain (λ k. e)
+replies_plan m n o _ plain e = absurd plain
 
 pub promised_other : (m n : Node) (s : ℕ) (v : Stamp) (base number : ℕ) (e : Entry) → (v.by == s) ≡ false → IsEndOf m n
-    → Replies (piece_promised m s v base number e) said.Elsewhere tell.Nothing n
-promised_other m n s v base number e f end = rw f (replies_quiet m n said.Elsewhere end)
+    → Replies (piece_promised m s v base number e) (quiet_of said.Elsewhere) n
+promised_other m n s v base number e f end = rw f (replies_quiet m n said.Elsewhere (λ k. end))
 
-pub promised_own : (m n : Node) (s : ℕ) (v : Stamp) (base number : ℕ) (e : Entry) (o : Outcome) (t : Telling) → (v.by == s) ≡ true
-    → Replies (push_fetched m v base number e false (catch_up s v number)) o t n → Replies (piece_promised m s v base number e) o t n
-promised_own m n s v base number e o t is r = rw is r
+pub promised_own : (m n : Node) (s : ℕ) (v : Stamp) (base number : ℕ) (e : Entry) (y : Reply) → (v.by == s) ≡ true
+    → Replies (push_fetched m v base number e false (catch_up s v number)) y n → Replies (piece_promised m s v base number e) y n
+promised_own m n s v base number e y is r = rw is r
 
 -- ---- a ballot that fetches
 
@@ -109,31 +116,31 @@ taken_pushed m n b v e is taken below order room s =
     record { order = order; out = s.ballot ∙ taken.out; own = own_steady (push_entry m e) n b s pushed_own; is_open = taken.is_open; number = room }
 
 pub replies_fetched : (m n : Node) (b : Ballot) (x : Option Ballot) (base : ℕ) (e : Entry) (o : Outcome) (set : List ℕ)
-    → ComesTo (decide (push_entry (trim_up_to m base) e) b) o n → set ≡ nobody
-    → Replies (decide_anew b (push_entry (trim_up_to (record m { ballot = x }) base) e)) o (tell.Ballot set false) n
-replies_fetched m n b x base e o set c is =
+    → ComesTo (decide (push_entry (trim_up_to m base) e) b) o n → IsTold o → set ≡ nobody
+    → Replies (decide_anew b (push_entry (trim_up_to (record m { ballot = x }) base) e)) (asking_of o set false) n
+replies_fetched m n b x base e o set c told is =
     let w : Node = push_entry (trim_up_to m base) e in
-    replies_looked (decide (record w { ballot = x }) b) n o set (subst (λ (v : Verdict). ComesTo v o n) (sym (decide_with w x b)) c) is
+    replies_looked (decide (record w { ballot = x }) b) n o set (subst (λ (v : Verdict). ComesTo v o n) (sym (decide_with w x b)) c) told is
 
 pub piece_elsewhere : (m n : Node) (s : ℕ) (v : Stamp) (base number : ℕ) (e : Entry) (b : Ballot) → b.is_over ≡ false → fetches_from b.answer s ≡ false
-    → IsEndOf m n → Replies (piece_for m s v base number e (Some b)) said.Elsewhere tell.Nothing n
+    → IsEndOf m n → Replies (piece_for m s v base number e (Some b)) (quiet_of said.Elsewhere) n
 piece_elsewhere m n s v base number e b f g end =
-    by_plan (piece_for m s v base number e (Some b)) (quiet m said.Elsewhere) said.Elsewhere tell.Nothing n
+    by_plan (piece_for m s v base number e (Some b)) (quiet m said.Elsewhere) (quiet_of said.Elsewhere) n
     (if_no b.is_over (piece_promised m s v base number e) (if not (fetches_from b.answer s) then quiet m said.Elsewhere else push_fetched m v base number e true
     (decide_anew b)) f
     ∙ ap (λ (x : Bool). if not x then quiet m said.Elsewhere else push_fetched m v base number e true (decide_anew b)) g)
-    (replies_quiet m n said.Elsewhere end)
+    (replies_quiet m n said.Elsewhere (λ k. end))
 
 pub piece_apart : (m n : Node) (s : ℕ) (v : Stamp) (base number : ℕ) (e : Entry) → (not (stamp_eq v m.core.promise) || stamp_eq (view m) v) ≡ true → IsEndOf m n
-    → Replies (piece_row m s v base number e) said.Elsewhere tell.Nothing n
+    → Replies (piece_row m s v base number e) (quiet_of said.Elsewhere) n
 unfolding piece_row
-piece_apart m n s v base number e t end = rw t (replies_quiet m n said.Elsewhere end)
+piece_apart m n s v base number e t end = rw t (replies_quiet m n said.Elsewhere (λ k. end))
 
-pub piece_by : (m n : Node) (s : ℕ) (v : Stamp) (base number : ℕ) (e : Entry) (o : Outcome) (t : Telling) (b : Option Ballot)
-    → (not (stamp_eq v m.core.promise) || stamp_eq (view m) v) ≡ false → m.ballot ≡ b → Replies (piece_for m s v base number e b) o t n
-    → Replies (piece_row m s v base number e) o t n
+pub piece_by : (m n : Node) (s : ℕ) (v : Stamp) (base number : ℕ) (e : Entry) (y : Reply) (b : Option Ballot)
+    → (not (stamp_eq v m.core.promise) || stamp_eq (view m) v) ≡ false → m.ballot ≡ b → Replies (piece_for m s v base number e b) y n
+    → Replies (piece_row m s v base number e) y n
 unfolding piece_row
-piece_by m n s v base number e o t b f is r = rw f (subst (λ (x : Option Ballot). Replies (piece_for m s v base number e x) o t n) (sym is) r)
+piece_by m n s v base number e y b f is r = rw f (subst (λ (x : Option Ballot). Replies (piece_for m s v base number e x) y n) (sym is) r)
 
 -- what isn't apart
 pub not_apart : (m : Node) (v : Stamp) → (not (stamp_eq v m.core.promise) || stamp_eq (view m) v) ≡ false → (v ≡ m.core.promise) × (stamp_eq (view m) v ≡ false)
@@ -147,10 +154,6 @@ not_apart m v h = (
     or_right false b h = h
 
 -- ---- results
-
--- a plan with this answer and these letters
-pub replies_plan : (m n : Node) (o : Outcome) (t : Telling) → IsEndOf m n → Replies (plan_of m o t) o t n
-replies_plan m n o t e = record { node = e; answer = λ x. refl; letters = λ x. refl; polls = refl; numbers = refl; departs = refl }
 
 pub may_view : (m : Node) (v : Stamp) (base number : ℕ) (names : List ℕ) (resilience : ℕ) → IsInOrder m.core → has_log m.status ≡ true → v ≡ m.core.promise
     → ((b : Ballot) → m.ballot ≡ Some b → b.is_over ≡ true)
@@ -178,13 +181,13 @@ none_open m v keeps is other b there = split b.is_over (λ t. t) (λ f. absurd (
 
 pub result_elsewhere : (m n : Node) (s : ℕ) (v : Stamp) (base number : ℕ) (names : List ℕ) (resilience : ℕ)
     → ((v.by == m.core.who) || stamp_lt v m.core.promise) ≡ true → IsEndOf m n
-    → Replies (result_row m s v base number names resilience) said.Elsewhere tell.Nothing n
+    → Replies (result_row m s v base number names resilience) (quiet_of said.Elsewhere) n
 unfolding result_row
-result_elsewhere m n s v base number names resilience t end = rw t (replies_quiet m n said.Elsewhere end)
+result_elsewhere m n s v base number names resilience t end = rw t (replies_quiet m n said.Elsewhere (λ k. end))
 
-pub result_heard : (m mid n : Node) (s : ℕ) (v : Stamp) (base number : ℕ) (names : List ℕ) (resilience : ℕ) (o : Outcome) (t : Telling)
-    → ((v.by == m.core.who) || stamp_lt v m.core.promise) ≡ false → mid ≡ with_promise m v → Replies (hears_result mid s v base number names resilience) o t n
-    → Replies (result_row m s v base number names resilience) o t n
+pub result_heard : (m mid n : Node) (s : ℕ) (v : Stamp) (base number : ℕ) (names : List ℕ) (resilience : ℕ) (y : Reply)
+    → ((v.by == m.core.who) || stamp_lt v m.core.promise) ≡ false → mid ≡ with_promise m v → Replies (hears_result mid s v base number names resilience) y n
+    → Replies (result_row m s v base number names resilience) y n
 unfolding result_row
-result_heard m mid n s v base number names resilience o t f is r =
-    rw f (subst (λ (x : Node). Replies (hears_result x s v base number names resilience) o t n) is r)
+result_heard m mid n s v base number names resilience y f is r =
+    rw f (subst (λ (x : Node). Replies (hears_result x s v base number names resilience) y n) is r)

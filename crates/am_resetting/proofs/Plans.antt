@@ -1,19 +1,12 @@
--- The same plan, the same node, the same reply.
+-- The same plan, the same node.
 use Rattle.std.proofs.Common.{◌≡◌, Bool, true, false, if◌then◌else◌, Option, None, refl, sym, ap, subst, ◌∙◌}
 use Rattle.am_base.specs.declared.name.Stamp.{Stamp}
-use Rattle.am_base.specs.declared.outcome.Outcome.{Outcome}
 use Rattle.am_model.specs.Node.{Node, Ballot}
 use Rattle.am_model.specs.Emit.{Plan}
 use Rattle.am_model.specs.Ballots.{with_promise}
+unfoldable use Rattle.am_model.specs.Ballots.{decide, best_of}
 use Rattle.am_model.specs.Ends.{IsEndOf}
 use Rattle.am_handlers.proofs.Ends.{end_self}
-use Rattle.am_resetting.specs.declared.replies.Telling.{Telling}
-use Rattle.am_resetting.specs.declared.replies.Reply.{Reply}
-use Rattle.am_resetting.specs.Replies.{Replies}
-
--- the same plan
-pub by_plan : (p q : Plan) (o : Outcome) (t : Telling) (n : Node) → p ≡ q → Replies q o t n → Replies p o t n
-by_plan p q o t n e r = subst (λ (x : Plan). Replies x o t n) (sym e) r
 
 -- a node of the same list
 pub end_as : (m n : Node) → m.core.base ≡ m.core.log.start → n ≡ m → IsEndOf m n
@@ -34,7 +27,7 @@ pub if_no : (b : Bool) (p q : Plan) → b ≡ false → (if b then p else q) ≡
 if_no true p q e = absurd (cc)
 if_no false p q e = refl
 
--- a reply with this answer and no letter
-pub by_reply : (p : Plan) (r : Reply) (o : Outcome) (t : Telling) (n : Node) → r ≡ record { outcome = o; telling = t } → Replies p o t n
-    → Replies p r.outcome r.telling n
-by_reply p r o t n e is = subst (λ (x : Reply). Replies p x.outcome x.telling n) (sym e) is
+-- the ballot of the node itself isn't looked at
+pub decide_with : (m : Node) (o : Option Ballot) (b : Ballot) → decide (record m { ballot = o }) b ≡ decide m b
+unfolding decide best_of
+decide_with m o b = refl

@@ -1,10 +1,11 @@
 -- What the rows of votes come to, by their tests.
 use Rattle.am_resetting.proofs.VotingWords.{◌≡◌, ℕ, Bool, true, false, not, ◌||◌, ◌&&◌, ◌==◌, if◌then◌else◌, Option, Some, sym, ap, subst, ◌∙◌, Vote, Stamp, Outcome}
 use Rattle.am_resetting.proofs.VotingWords.{stamp_lt, Node, Ballot, only_name, members, is_member, quiet, telling, with_promise, vote_of, keep_vote, give_up, begin}
-use Rattle.am_resetting.proofs.VotingWords.{invite_row, vote_row, take_vote, is_open, reset_row, give_up_row, give_up_of, has, IsEndOf, Telling, Replies, by_plan}
-use Rattle.am_resetting.proofs.VotingWords.{if_yes, if_no, replies_quiet, replies_vote}
+use Rattle.am_resetting.proofs.VotingWords.{invite_row, vote_row, take_vote, is_open, reset_row, give_up_row, give_up_of, has, IsEndOf, Reply, Replies, by_plan}
+use Rattle.am_resetting.proofs.VotingWords.{if_yes, if_no, replies_quiet, replies_telling, quiet_of, saying_of}
 use Rattle.am_base.specs.declared.outcome.Outcome.TheVariants as said
-use Rattle.am_resetting.specs.declared.replies.Telling.TheVariants as tell
+use Rattle.am_handlers.specs.declared.reply.Telling.TheVariants as tell
+use Rattle.am_handlers.specs.declared.reply.Note.TheVariants as note
 use Rattle.am_resetting.proofs.Ballots.{keep_with, give_with}
 
 -- whether a stamp is above the promise, by what was read
@@ -14,90 +15,94 @@ above_is m v promise_is copy_is test is = (λ k. stamp_lt (sym promise_is k) (sy
 
 -- ---- invitations
 
+-- a Vote back
+abbrev pub vote_to : Outcome → ℕ → Reply
+vote_to o s = saying_of o (tell.Note (only_name s) note.Vote)
+
 pub invite_newer : (m n : Node) (s : ℕ) (v p : Stamp) → p ≡ m.core.promise → stamp_lt v p ≡ true → IsEndOf m n
-    → Replies (invite_row m s v) (said.Newer p) (tell.Vote s) n
+    → Replies (invite_row m s v) (vote_to (said.Newer p) s) n
 unfolding invite_row
 invite_newer m n s v p e below end =
     let t : stamp_lt v m.core.promise ≡ true = ap (stamp_lt v) (sym e) ∙ below in
-    rw t (subst (λ (x : Stamp). Replies (telling m (said.Newer m.core.promise) (only_name s) vote_of) (said.Newer x) (tell.Vote s) n) (sym e)
-    (replies_vote m n (said.Newer m.core.promise) s end))
+    rw t (subst (λ (x : Stamp). Replies (telling m (said.Newer m.core.promise) (only_name s) vote_of) (vote_to (said.Newer x) s) n) (sym e)
+    (replies_telling m n (said.Newer m.core.promise) (only_name s) note.Vote tt (λ k. end)))
 
 pub invite_voted : (m n : Node) (s : ℕ) (v p : Stamp) → p ≡ m.core.promise → stamp_lt v p ≡ false → IsEndOf (with_promise m v) n
-    → Replies (invite_row m s v) said.Voted (tell.Vote s) n
+    → Replies (invite_row m s v) (vote_to said.Voted s) n
 unfolding invite_row
 invite_voted m n s v p e below end =
     let t : stamp_lt v m.core.promise ≡ false = ap (stamp_lt v) (sym e) ∙ below in
-    rw t (replies_vote (with_promise m v) n said.Voted s end)
+    rw t (replies_telling (with_promise m v) n said.Voted (only_name s) note.Vote tt (λ k. end))
 
 -- ---- votes
 
 pub vote_overtaken : (m n : Node) (s : ℕ) (v : Stamp) (vote : Vote) → stamp_lt m.core.promise v ≡ true → IsEndOf (with_promise m v) n
-    → Replies (vote_row m s v vote) (said.Overtaken v) tell.Nothing n
+    → Replies (vote_row m s v vote) (quiet_of (said.Overtaken v)) n
 unfolding vote_row
-vote_overtaken m n s v vote t end = rw t (replies_quiet (with_promise m v) n (said.Overtaken v) end)
+vote_overtaken m n s v vote t end = rw t (replies_quiet (with_promise m v) n (said.Overtaken v) (λ k. end))
 
-pub vote_by : (m n : Node) (s : ℕ) (v : Stamp) (vote : Vote) (o : Outcome) (t : Telling) (b : Option Ballot) → stamp_lt m.core.promise v ≡ false → m.ballot ≡ b
-    → Replies (take_vote m s v vote b) o t n → Replies (vote_row m s v vote) o t n
+pub vote_by : (m n : Node) (s : ℕ) (v : Stamp) (vote : Vote) (y : Reply) (b : Option Ballot) → stamp_lt m.core.promise v ≡ false → m.ballot ≡ b
+    → Replies (take_vote m s v vote b) y n → Replies (vote_row m s v vote) y n
 unfolding vote_row
-vote_by m n s v vote o t b f is r = rw f (subst (λ (x : Option Ballot). Replies (take_vote m s v vote x) o t n) (sym is) r)
+vote_by m n s v vote y b f is r = rw f (subst (λ (x : Option Ballot). Replies (take_vote m s v vote x) y n) (sym is) r)
 
 pub voted_elsewhere : (m n : Node) (s : ℕ) (v : Stamp) (vote : Vote) (b : Ballot) → (stamp_lt v m.core.promise || not (is_open v b)) ≡ true → IsEndOf m n
-    → Replies (take_vote m s v vote (Some b)) said.Elsewhere tell.Nothing n
-voted_elsewhere m n s v vote b t end = rw t (replies_quiet m n said.Elsewhere end)
+    → Replies (take_vote m s v vote (Some b)) (quiet_of said.Elsewhere) n
+voted_elsewhere m n s v vote b t end = rw t (replies_quiet m n said.Elsewhere (λ k. end))
 
 pub voted_known : (m n : Node) (s : ℕ) (v : Stamp) (vote : Vote) (b : Ballot) → (stamp_lt v m.core.promise || not (is_open v b)) ≡ false → b.given_up s ≡ true
-    → IsEndOf m n → Replies (take_vote m s v vote (Some b)) said.Known tell.Nothing n
-voted_known m n s v vote b f t end = rw (f, t) (replies_quiet m n said.Known end)
+    → IsEndOf m n → Replies (take_vote m s v vote (Some b)) (quiet_of said.Known) n
+voted_known m n s v vote b f t end = rw (f, t) (replies_quiet m n said.Known (λ k. end))
 
-pub voted_kept : (m n : Node) (s : ℕ) (v : Stamp) (vote : Vote) (b : Ballot) (x : Option Ballot) (o : Outcome) (t : Telling)
-    → (stamp_lt v m.core.promise || not (is_open v b)) ≡ false → b.given_up s ≡ false → Replies (keep_vote m b s vote) o t n
-    → Replies (take_vote (record m { ballot = x }) s v vote (Some b)) o t n
-voted_kept m n s v vote b x o t f g r = rw (f, g) (by_plan _ (keep_vote m b s vote) o t n (keep_with m x b s vote) r)
+pub voted_kept : (m n : Node) (s : ℕ) (v : Stamp) (vote : Vote) (b : Ballot) (x : Option Ballot) (y : Reply)
+    → (stamp_lt v m.core.promise || not (is_open v b)) ≡ false → b.given_up s ≡ false → Replies (keep_vote m b s vote) y n
+    → Replies (take_vote (record m { ballot = x }) s v vote (Some b)) y n
+voted_kept m n s v vote b x y f g r = rw (f, g) (by_plan _ (keep_vote m b s vote) y n (keep_with m x b s vote) r)
 
 -- ---- names given up
 
-pub give_by : (m n : Node) (name : ℕ) (o : Outcome) (t : Telling) (b : Option Ballot) → m.ballot ≡ b → Replies (give_up_of m name b) o t n
-    → Replies (give_up_row m name) o t n
+pub give_by : (m n : Node) (name : ℕ) (y : Reply) (b : Option Ballot) → m.ballot ≡ b → Replies (give_up_of m name b) y n
+    → Replies (give_up_row m name) y n
 unfolding give_up_row
-give_by m n name o t b is r = subst (λ (x : Option Ballot). Replies (give_up_of m name x) o t n) (sym is) r
+give_by m n name y b is r = subst (λ (x : Option Ballot). Replies (give_up_of m name x) y n) (sym is) r
 
-pub given_over : (m n : Node) (name : ℕ) (b : Ballot) → b.is_over ≡ true → IsEndOf m n → Replies (give_up_of m name (Some b)) said.NotCoordinator tell.Nothing n
-given_over m n name b t end = rw t (replies_quiet m n said.NotCoordinator end)
+pub given_over : (m n : Node) (name : ℕ) (b : Ballot) → b.is_over ≡ true → IsEndOf m n → Replies (give_up_of m name (Some b)) (quiet_of said.NotCoordinator) n
+given_over m n name b t end = rw t (replies_quiet m n said.NotCoordinator (λ k. end))
 
 pub given_itself : (m n : Node) (name : ℕ) (b : Ballot) → b.is_over ≡ false → (name == m.core.who) ≡ true → IsEndOf m n
-    → Replies (give_up_of m name (Some b)) said.Unfit tell.Nothing n
-given_itself m n name b f t end = rw (f, t) (replies_quiet m n said.Unfit end)
+    → Replies (give_up_of m name (Some b)) (quiet_of said.Unfit) n
+given_itself m n name b f t end = rw (f, t) (replies_quiet m n said.Unfit (λ k. end))
 
-pub given_up : (m n : Node) (name : ℕ) (b : Ballot) (x : Option Ballot) (o : Outcome) (t : Telling) → b.is_over ≡ false → (name == m.core.who) ≡ false
-    → Replies (give_up m b name) o t n → Replies (give_up_of (record m { ballot = x }) name (Some b)) o t n
-given_up m n name b x o t f g r =
+pub given_up : (m n : Node) (name : ℕ) (b : Ballot) (x : Option Ballot) (y : Reply) → b.is_over ≡ false → (name == m.core.who) ≡ false
+    → Replies (give_up m b name) y n → Replies (give_up_of (record m { ballot = x }) name (Some b)) y n
+given_up m n name b x y f g r =
     let w : Node = record m { ballot = x } in
     let e : give_up_of w name (Some b) ≡ give_up m b name = if_no b.is_over (quiet w said.NotCoordinator)
     (if name == m.core.who then quiet w said.Unfit else give_up w b name) f ∙ if_no (name == m.core.who) (quiet w said.Unfit) (give_up w b name) g
     ∙ give_with m x b name in
-    by_plan (give_up_of w name (Some b)) (give_up m b name) o t n e r
+    by_plan (give_up_of w name (Some b)) (give_up m b name) y n e r
 
 -- ---- resets
 
 pub reset_outside : (m n : Node) (least resilience : ℕ) → (is_member m.status && has (members m) m.core.who) ≡ false → IsEndOf m n
-    → Replies (reset_row m least resilience) said.NotMember tell.Nothing n
+    → Replies (reset_row m least resilience) (quiet_of said.NotMember) n
 unfolding reset_row
-reset_outside m n least resilience f end = rw f (replies_quiet m n said.NotMember end)
+reset_outside m n least resilience f end = rw f (replies_quiet m n said.NotMember (λ k. end))
 
 pub reset_leaving : (m n : Node) (least resilience : ℕ) → (is_member m.status && has (members m) m.core.who) ≡ true → m.leaving ≡ true → IsEndOf m n
-    → Replies (reset_row m least resilience) said.Leaving tell.Nothing n
+    → Replies (reset_row m least resilience) (quiet_of said.Leaving) n
 unfolding reset_row
 reset_leaving m n least resilience is l end =
-    by_plan (reset_row m least resilience) (quiet m said.Leaving) said.Leaving tell.Nothing n
+    by_plan (reset_row m least resilience) (quiet m said.Leaving) (quiet_of said.Leaving) n
     (ap (λ (b : Bool). if not b then quiet m said.NotMember else if m.leaving then quiet m said.Leaving else begin m least resilience) is
     ∙ if_yes m.leaving (quiet m said.Leaving) (begin m least resilience) l)
-    (replies_quiet m n said.Leaving end)
+    (replies_quiet m n said.Leaving (λ k. end))
 
-pub reset_begins : (m n : Node) (least resilience : ℕ) (o : Outcome) (t : Telling) → (is_member m.status && has (members m) m.core.who) ≡ true
-    → m.leaving ≡ false → Replies (begin m least resilience) o t n → Replies (reset_row m least resilience) o t n
+pub reset_begins : (m n : Node) (least resilience : ℕ) (y : Reply) → (is_member m.status && has (members m) m.core.who) ≡ true
+    → m.leaving ≡ false → Replies (begin m least resilience) y n → Replies (reset_row m least resilience) y n
 unfolding reset_row
-reset_begins m n least resilience o t is l r =
-    by_plan (reset_row m least resilience) (begin m least resilience) o t n
+reset_begins m n least resilience y is l r =
+    by_plan (reset_row m least resilience) (begin m least resilience) y n
     (ap (λ (b : Bool). if not b then quiet m said.NotMember else if m.leaving then quiet m said.Leaving else begin m least resilience) is
     ∙ if_no m.leaving (quiet m said.Leaving) (begin m least resilience) l)
     r

@@ -15,8 +15,8 @@ unfoldable pub use Rattle.am_model.specs.{Resets.vote_row, Resets.hand_over_row,
 pub use Rattle.am_ballots.specs.Kept.{ballot_of}
 pub use Rattle.am_handlers.specs.{Keeps.NodeKeeps, Parts.node_of, Verdicts.ComesTo, declared.parts.Parts.Parts}
 pub use Rattle.am_handlers.proofs.{Ends.end_self, Keeping.member_log}
-pub use Rattle.am_resetting.specs.{declared.replies.Telling.Telling, Replies.Replies}
-pub use Rattle.am_resetting.proofs.Plans.{by_plan, if_yes, if_no, end_as, by_reply, end_promised}
-pub use Rattle.am_resetting.proofs.Replying.{replies_quiet, replies_vote, replies_ballot, decide_with, replies_silent, replies_asking}
+pub use Rattle.am_handlers.specs.{declared.reply.Reply.Reply, Replies.Replies, Replies.quiet_of, Replies.saying_of, Replies.asking_of}
+pub use Rattle.am_resetting.proofs.Plans.{if_yes, if_no, end_as, end_promised, decide_with}
+pub use Rattle.am_handlers.proofs.Replying.{replies_quiet, replies_telling, replies_ballot, replies_silent, replies_asking, by_plan, by_reply}
 pub use Rattle.am_resetting.specs.Deciding.{IsTakenOut}
 pub use Rattle.am_resetting.proofs.{Orders.lt_next, Promises.none_taken, Promises.one_taken}

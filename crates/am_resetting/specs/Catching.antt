@@ -1,5 +1,5 @@
 -- What is refused of a fetched entry.
-use Rattle.std.specs.Prelude.{◌≡◌, ℕ, ◌+◌, ◌≤◌, max, List, Option, Some, None, Bool, false, true}
+use Rattle.std.specs.Prelude.{◌≡◌, ℕ, ◌+◌, ◌≤◌, max, List, [], Option, Some, None, Bool, false, true}
 use Rattle.am_base.specs.declared.entry.Entry.{Entry}
 use Rattle.am_base.specs.declared.entry.Entry.TheVariants.{Data, Join, Leave, View}
 use Rattle.am_base.specs.declared.name.Stamp.{Stamp}
@@ -9,9 +9,10 @@ use Rattle.am_base.specs.Lists.{fits}
 use Rattle.am_model.specs.Node.{Node, Ballot, top, view, image_of, is_within_bound}
 use Rattle.am_model.specs.Emit.{Plan, quiet}
 use Rattle.am_model.specs.Resets.{is_view_past}
-use Rattle.am_resetting.specs.declared.replies.Reply.{Reply}
-use Rattle.am_resetting.specs.declared.replies.Telling.{Telling}
-use Rattle.am_resetting.specs.Replies.{letters_of}
+use Rattle.am_handlers.specs.declared.reply.Telling.{Telling}
+use Rattle.am_handlers.specs.declared.reply.Telling.TheVariants as tell
+use Rattle.am_handlers.specs.Replies.{and_told, IsNoteWithin}
+use Rattle.am_resetting.specs.declared.catching.Denial.{Denial}
 
 -- the node with this ballot
 abbrev pub with_ballot : Node → Option Ballot → Node
@@ -33,14 +34,20 @@ pub record ComesNext (m : Node) (v : Stamp) (base number : ℕ) (e : Entry) (in_
   pub below : in_ballot ≡ true → IsBelow v e
   pub bound : is_within_bound m (max m.core.base base) number ≡ true
 
+-- a packet, or nothing
+abbrev pub IsPlain : Telling → Type 0
+IsPlain tell.Nothing = Unit {0}
+IsPlain (tell.Note to what) = IsNoteWithin what
+IsPlain _ = ⊥
+
 -- a plan that answers this and sends that
 abbrev pub plan_of : Node → Outcome → Telling → Plan
-plan_of m outcome telling = record (quiet m outcome) { letters = λ n. letters_of outcome telling n }
+plan_of m outcome telling = record (quiet m outcome) { letters = λ n. and_told outcome telling n [] }
 
--- a reply at once, or else the plan
-abbrev pub unless_reply : Option Reply → Node → Plan → Plan
-unless_reply None m plan = plan
-unless_reply (Some reply) m plan = plan_of m reply.outcome reply.telling
+-- a refusal, or else the plan
+abbrev pub unless_denied : Option Denial → Node → Plan → Plan
+unless_denied None m plan = plan
+unless_denied (Some refusal) m plan = plan_of m refusal.outcome refusal.telling
 
 -- a decided view that comes next and isn't refused above this base
 pub record FollowsAsView (m : Node) (v : Stamp) (base number : ℕ) (names : List ℕ) (resilience : ℕ) : Type 0 where

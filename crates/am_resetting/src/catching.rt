@@ -1,28 +1,26 @@
 ghost use Rattle.std.specs.Prelude.{◌≡◌, ◌≢◌, ◌<◌, ◌≤◌, ◌+◌, ◌==◌, ◌||◌, ◌&&◌, max, not, Option, Some, None, IfNone, IfSome, true, false, []};
-ghost use Rattle.am_handlers.specs.Prelude.{most_number, IsEntry, IsStamp, fits, top_of, stamp_eq, stamp_lt, IsInOrder, has_log, Node, only_name, push_entry, image_of, trim_up_to, view, is_within_bound, IsOwnBallot, node_of, Performs};
+ghost use Rattle.am_handlers.specs.Prelude.{most_number, IsEntry, IsStamp, fits, top_of, stamp_eq, stamp_lt, IsInOrder, has_log, Node, only_name, push_entry, image_of, trim_up_to, view, is_within_bound, IsOwnBallot, node_of};
 ghost use Rattle.am_base.specs.declared.entry.Entry.TheVariants.{View};
 ghost use Rattle.am_ballots.specs.Kept.{ballot_of};
 ghost use Rattle.am_model.specs.Node as node;
 ghost use Rattle.am_model.specs.Emit.{Plan, telling, ack_of};
 ghost use Rattle.am_model.specs.Resets.{piece_row, result_row, hears_result, push_fetched, is_view_past, decide_anew, piece_promised, piece_for};
-ghost use Rattle.am_handlers.specs.Finishing.{unless};
-ghost use Rattle.am_resetting.specs.Catching.{unless_reply, with_ballot, ComesNext, FollowsAsView, IsBelow};
+ghost use Rattle.am_resetting.specs.Catching.{unless_denied, IsPlain, with_ballot, ComesNext, FollowsAsView, IsBelow};
 ghost use Rattle.am_resetting.specs.Deciding.{IsTakenOut};
-ghost use Rattle.am_resetting.specs.Replies.{Replies, MayTell};
+ghost use Rattle.am_handlers.specs.Replies.{Replies, unless};
 
 use crate::deciding::{decide, store};
 use crate::promising::{put_back, raise_promise, take_ballot};
 use crate::reading::{
     copy_of, has_own_leave, is_beyond, is_same, is_view, last_of, name_of, promise_of, taken_of,
 };
-use crate::replies::{Reply, Telling, finish, quiet};
 use am_ballots::ballot::Ballot;
 use am_base::entry::{EntryParts, EntryRef};
 use am_base::name::{Name, Stamp};
 use am_base::names::Names;
 use am_base::outcome::Outcome;
 use am_handlers::parts::Parts;
-use am_letter::out_box::OutBox;
+use am_handlers::reply::{Note, Reply, Telling, asking, note_to, quiet, saying};
 use am_parts::log::Log;
 
 /// What a packet tells of an entry of a view's list beside the entry.
@@ -45,6 +43,25 @@ pub struct Decided {
     pub members: Names,
     /// Its resilience.
     pub resilience: u8,
+}
+
+/// Why a decided view isn't stored: the answer, and what goes out beside it.
+#[derive(Drop)]
+struct Denial<'a> {
+    outcome: Outcome,
+    telling: Telling<'a>,
+}
+
+impl<'a> Denial<'a> {
+    /// An answer alone.
+    fn of(outcome: Outcome) -> Denial<'a>
+        ensures { result ≡ record { outcome = outcome; telling = Telling.Nothing } }
+    {
+        Denial {
+            outcome,
+            telling: Telling::Nothing,
+        }
+    }
 }
 
 /// Whether a view's stamp is above another, or in a ballot is that.
@@ -119,7 +136,7 @@ fn is_apart(parts: &Parts, stamp: &Stamp) -> bool
 }
 
 /// What a node that has no unfinished ballot does with an entry of the view that it has promised.
-fn piece_promised(parts: &mut Parts, arrival: &Arrival, entry: &EntryRef) -> Reply
+fn piece_promised<'a>(parts: &mut Parts, arrival: &Arrival, entry: &EntryRef) -> Reply<'a>
     requires order { IsInOrder parts.old.core }
     requires logged { has_log parts.old.status ≡ true }
     requires promise { arrival.now.stamp ≡ parts.old.core.promise }
@@ -127,10 +144,9 @@ fn piece_promised(parts: &mut Parts, arrival: &Arrival, entry: &EntryRef) -> Rep
     requires over { (b : node.Ballot) → (node_of parts.old).ballot ≡ Some b → b.is_over ≡ true }
     requires entry { IsEntry entry.now }
     requires number { top_of parts.old.core.log < most_number }
-    ensures replies { Replies (piece_promised (node_of parts.old) arrival.now.from arrival.now.stamp
-        arrival.now.base arrival.now.number entry.now) result.outcome result.telling
+    ensures { Replies (piece_promised (node_of parts.old) arrival.now.from arrival.now.stamp
+        arrival.now.base arrival.now.number entry.now) result
         (node_of parts.new) }
-    ensures told { MayTell result.telling result.outcome }
 {
     if arrival.stamp.by != arrival.from {
         return quiet(Outcome::Elsewhere);
@@ -139,29 +155,30 @@ fn piece_promised(parts: &mut Parts, arrival: &Arrival, entry: &EntryRef) -> Rep
         Some(outcome) => quiet(outcome),
         None => {
             store(parts, arrival.base, entry);
-            Reply {
-                outcome: Outcome::Stored {
-                    number: arrival.number,
-                },
-                telling: Telling::AckIn {
-                    view: arrival.stamp,
-                    to: arrival.from,
-                },
-            }
+            let number = arrival.number;
+            let ack = Telling::AckIn {
+                view: arrival.stamp,
+                to: arrival.from,
+            };
+            saying(Outcome::Stored { number }, ack)
         }
     }
 }
 
 /// What a coordinator does with an entry that its unfinished ballot fetches; the ballot was taken out of the parts.
-fn piece_in_ballot(parts: &mut Parts, arrival: &Arrival, entry: &EntryRef, ballot: Ballot) -> Reply
+fn piece_in_ballot<'a>(
+    parts: &mut Parts,
+    arrival: &Arrival,
+    entry: &EntryRef,
+    ballot: Ballot,
+) -> Reply<'a>
     requires ballot { IsTakenOut (node_of parts.old) (ballot_of ballot) }
     requires promise { arrival.now.stamp ≡ parts.old.core.promise }
     requires entry { IsEntry entry.now }
     requires number { top_of parts.old.core.log + 1 < most_number }
-    ensures replies { Replies (push_fetched (with_ballot (node_of parts.old)
+    ensures { Replies (push_fetched (with_ballot (node_of parts.old)
         (Some (ballot_of ballot))) arrival.now.stamp arrival.now.base arrival.now.number entry.now
-        true (decide_anew (ballot_of ballot))) result.outcome result.telling (node_of parts.new) }
-    ensures told { MayTell result.telling result.outcome }
+        true (decide_anew (ballot_of ballot))) result (node_of parts.new) }
 {
     match refusal(parts, arrival, entry, true) {
         Some(outcome) => {
@@ -171,19 +188,18 @@ fn piece_in_ballot(parts: &mut Parts, arrival: &Arrival, entry: &EntryRef, ballo
         None => {
             store(parts, arrival.base, entry);
             let outcome = decide(parts, ballot);
-            Reply {
-                outcome,
-                telling: Telling::Ballot {
-                    invited: Names::empty(),
-                    fetches: false,
-                },
-            }
+            asking(outcome, Names::empty(), false)
         }
     }
 }
 
 /// What becomes of an entry of a promised view where a ballot was taken out of the parts.
-fn piece_for(parts: &mut Parts, arrival: &Arrival, entry: &EntryRef, ballot: Ballot) -> Reply
+fn piece_for<'a>(
+    parts: &mut Parts,
+    arrival: &Arrival,
+    entry: &EntryRef,
+    ballot: Ballot,
+) -> Reply<'a>
     requires order { IsInOrder parts.old.core }
     requires out { (node_of parts.old).ballot ≡ None }
     requires own { IsOwnBallot (node_of parts.old) (ballot_of ballot) }
@@ -192,10 +208,9 @@ fn piece_for(parts: &mut Parts, arrival: &Arrival, entry: &EntryRef, ballot: Bal
     requires view { stamp_eq (view (node_of parts.old)) arrival.now.stamp ≡ false }
     requires entry { IsEntry entry.now }
     requires number { top_of parts.old.core.log + 1 < most_number }
-    ensures replies { Replies (piece_for (with_ballot (node_of parts.old) (Some (ballot_of ballot)))
+    ensures { Replies (piece_for (with_ballot (node_of parts.old) (Some (ballot_of ballot)))
         arrival.now.from arrival.now.stamp arrival.now.base arrival.now.number entry.now
-        (Some (ballot_of ballot))) result.outcome result.telling (node_of parts.new) }
-    ensures told { MayTell result.telling result.outcome }
+        (Some (ballot_of ballot))) result (node_of parts.new) }
 {
     if ballot.is_over() {
         put_back(parts, ballot);
@@ -208,17 +223,18 @@ fn piece_for(parts: &mut Parts, arrival: &Arrival, entry: &EntryRef, ballot: Bal
     piece_in_ballot(parts, arrival, entry, ballot)
 }
 
-/// What becomes of a fetched entry.
-fn piece(parts: &mut Parts, arrival: &Arrival, entry: &EntryRef) -> Reply
-    requires order { IsInOrder parts.old.core }
+/// A fetched entry comes (docs/PROTOCOL.md, "Ballots and views"). Elsewhere where it isn't of the promised view's list; the
+/// first refusal where it can't be stored; else what the unfinished ballot comes to, or without one Stored, with an Ack where
+/// the view is reached. The node must have a list.
+pub fn on_piece<'a>(parts: &mut Parts, arrival: &Arrival, entry: &EntryRef) -> Reply<'a>
     requires logged { has_log parts.old.status ≡ true }
     requires entry { IsEntry entry.now }
     requires number { top_of parts.old.core.log + 1 < most_number }
-    ensures replies { Replies (piece_row (node_of parts.old) arrival.now.from arrival.now.stamp
-        arrival.now.base arrival.now.number entry.now) result.outcome result.telling
+    ensures { Replies (piece_row (node_of parts.old) arrival.now.from arrival.now.stamp
+        arrival.now.base arrival.now.number entry.now) result
         (node_of parts.new) }
-    ensures told { MayTell result.telling result.outcome }
 {
+    let _front = parts.accept_front();
     if is_apart(parts, &arrival.stamp) {
         return quiet(Outcome::Elsewhere);
     }
@@ -226,22 +242,6 @@ fn piece(parts: &mut Parts, arrival: &Arrival, entry: &EntryRef) -> Reply
         None => piece_promised(parts, arrival, entry),
         Some(ballot) => piece_for(parts, arrival, entry, ballot),
     }
-}
-
-/// A fetched entry comes (docs/PROTOCOL.md, "Ballots and views"). Elsewhere where it isn't of the promised view's list; the
-/// first refusal where it can't be stored; else what the unfinished ballot comes to, or without one Stored, with an Ack where
-/// the view is reached. The node must have a list.
-pub fn on_piece(parts: &mut Parts, arrival: &Arrival, entry: &EntryRef, out: &mut OutBox) -> Outcome
-    requires empty { out.old ≡ [] }
-    requires logged { has_log parts.old.status ≡ true }
-    requires entry { IsEntry entry.now }
-    requires number { top_of parts.old.core.log + 1 < most_number }
-    ensures { Performs (λ m. piece_row m arrival.now.from arrival.now.stamp arrival.now.base
-        arrival.now.number entry.now) parts.old result out.new parts.new }
-{
-    let before = parts.accept_front();
-    let reply = piece(parts, arrival, entry);
-    finish(parts, before, reply, out)
 }
 
 /// The View of a decided view.
@@ -264,69 +264,64 @@ fn is_unfit(parts: &Parts, entry: &EntryRef, base: u32, number: u32) -> bool
 }
 
 /// What is replied where a decided view isn't stored; None where it comes next and nothing is against it.
-fn result_refusal(parts: &Parts, arrival: &Arrival, decided: &Decided) -> Option<Reply>
+fn result_refusal<'a>(parts: &Parts, arrival: &Arrival, decided: &Decided) -> Option<Denial<'a>>
     ensures value { hears_result (node_of parts.now) arrival.now.from arrival.now.stamp
         arrival.now.base arrival.now.number decided.now.members decided.now.resilience
-        ≡ unless_reply result (node_of parts.now)
+        ≡ unless_denied result (node_of parts.now)
         (telling (push_entry (trim_up_to (node_of parts.now) arrival.now.base)
         (View arrival.now.stamp decided.now.members decided.now.resilience))
         (Outcome.Stored arrival.now.number) (only_name arrival.now.from) ack_of) }
     ensures next { IfNone result (FollowsAsView (node_of parts.now) arrival.now.stamp
         arrival.now.base arrival.now.number decided.now.members decided.now.resilience) }
-    ensures told { IfSome result (λ reply. MayTell reply.telling reply.outcome) }
+    ensures plain { IfSome result (λ refusal. IsPlain refusal.telling) }
 {
     if is_view(parts, &arrival.stamp) {
-        return Some(Reply {
+        return Some(Denial {
             outcome: Outcome::Known,
-            telling: Telling::Ack(arrival.from),
+            telling: note_to(arrival.from, Note::Ack),
         });
     }
     let top = last_of(parts);
     if arrival.number <= top {
-        return Some(quiet(Outcome::Unfit));
+        return Some(Denial::of(Outcome::Unfit));
     }
     if has_own_leave(parts) {
-        return Some(quiet(Outcome::Behind));
+        return Some(Denial::of(Outcome::Behind));
     }
     if top + 1 < arrival.number {
-        return Some(Reply {
+        return Some(Denial {
             outcome: Outcome::Catching { want: top + 1 },
-            telling: Telling::Fetch(arrival.from),
+            telling: note_to(arrival.from, Note::Fetch),
         });
     }
     if taken_of(parts) < arrival.base {
-        return Some(quiet(Outcome::Behind));
+        return Some(Denial::of(Outcome::Behind));
     }
     let entry = view_entry(&arrival.stamp, decided);
     if is_unfit(parts, &entry, arrival.base, arrival.number) {
-        return Some(quiet(Outcome::Unfit));
+        return Some(Denial::of(Outcome::Unfit));
     }
     None
 }
 
 /// What a node does with a decided view that it has promised.
-fn hears_result(parts: &mut Parts, arrival: &Arrival, decided: &Decided) -> Reply
+fn hears_result<'a>(parts: &mut Parts, arrival: &Arrival, decided: &Decided) -> Reply<'a>
     requires order { IsInOrder parts.old.core }
     requires logged { has_log parts.old.status ≡ true }
     requires promise { arrival.now.stamp ≡ parts.old.core.promise }
     requires other { arrival.now.stamp.by ≢ parts.old.core.who }
     requires within { IsEntry (View arrival.now.stamp decided.now.members decided.now.resilience) }
     requires number { top_of parts.old.core.log < most_number }
-    ensures replies { Replies (hears_result (node_of parts.old) arrival.now.from arrival.now.stamp
+    ensures { Replies (hears_result (node_of parts.old) arrival.now.from arrival.now.stamp
         arrival.now.base arrival.now.number decided.now.members decided.now.resilience)
-        result.outcome result.telling (node_of parts.new) }
-    ensures told { MayTell result.telling result.outcome }
+        result (node_of parts.new) }
 {
     match result_refusal(parts, arrival, decided) {
-        Some(reply) => reply,
+        Some(refusal) => saying(refusal.outcome, refusal.telling),
         None => {
             store(parts, arrival.base, &view_entry(&arrival.stamp, decided));
-            Reply {
-                outcome: Outcome::Stored {
-                    number: arrival.number,
-                },
-                telling: Telling::Ack(arrival.from),
-            }
+            let number = arrival.number;
+            saying(Outcome::Stored { number }, note_to(arrival.from, Note::Ack))
         }
     }
 }
@@ -339,44 +334,22 @@ fn is_passed(parts: &Parts, stamp: &Stamp) -> bool
     stamp.by == name_of(parts) || copy_of(stamp).is_below(promise_of(parts))
 }
 
-/// What becomes of a decided view.
-fn result_row(parts: &mut Parts, arrival: &Arrival, decided: &Decided) -> Reply
-    requires order { IsInOrder parts.old.core }
+/// A view was decided (docs/PROTOCOL.md, "Ballots and views"). Elsewhere where it is the node's own or below the promise, else it
+/// is promised; Known where it is the view; Unfit, Behind or Catching, with a Fetch, where it isn't the next entry or can't be
+/// stored; else Stored, with an Ack. The node must have a list.
+pub fn on_result<'a>(parts: &mut Parts, arrival: &Arrival, decided: &Decided) -> Reply<'a>
     requires logged { has_log parts.old.status ≡ true }
     requires within { IsStamp arrival.now.stamp }
     requires resilience { decided.now.resilience ≤ 15 }
     requires number { top_of parts.old.core.log < most_number }
-    ensures replies { Replies (result_row (node_of parts.old) arrival.now.from arrival.now.stamp
+    ensures { Replies (result_row (node_of parts.old) arrival.now.from arrival.now.stamp
         arrival.now.base arrival.now.number decided.now.members decided.now.resilience)
-        result.outcome result.telling (node_of parts.new) }
-    ensures told { MayTell result.telling result.outcome }
+        result (node_of parts.new) }
 {
+    let _front = parts.accept_front();
     if is_passed(parts, &arrival.stamp) {
         return quiet(Outcome::Elsewhere);
     }
     raise_promise(parts, copy_of(&arrival.stamp));
     hears_result(parts, arrival, decided)
-}
-
-/// A view was decided (docs/PROTOCOL.md, "Ballots and views"). Elsewhere where it is the node's own or below the promise, else it
-/// is promised; Known where it is the view; Unfit, Behind or Catching, with a Fetch, where it isn't the next entry or can't be
-/// stored; else Stored, with an Ack. The node must have a list.
-pub fn on_result(
-    parts: &mut Parts,
-    arrival: &Arrival,
-    decided: &Decided,
-    out: &mut OutBox,
-) -> Outcome
-    requires empty { out.old ≡ [] }
-    requires logged { has_log parts.old.status ≡ true }
-    requires within { IsStamp arrival.now.stamp }
-    requires resilience { decided.now.resilience ≤ 15 }
-    requires number { top_of parts.old.core.log < most_number }
-    ensures { Performs (λ m. result_row m arrival.now.from arrival.now.stamp arrival.now.base
-        arrival.now.number decided.now.members decided.now.resilience) parts.old
-        result out.new parts.new }
-{
-    let before = parts.accept_front();
-    let reply = result_row(parts, arrival, decided);
-    finish(parts, before, reply, out)
 }

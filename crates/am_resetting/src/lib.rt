@@ -3,9 +3,7 @@
 
 pub mod catching;
 pub mod deciding;
-mod letters;
 pub mod promising;
 pub mod reading;
-pub mod replies;
 pub mod serving;
 pub mod voting;

@@ -1,17 +1,16 @@
-ghost use Rattle.std.specs.Prelude.{◌≡◌, ◌≢◌, ◌<◌, ◌+◌, Some, None, true, false, not, ◌&&◌, ◌||◌, []};
-ghost use Rattle.am_handlers.specs.Prelude.{most_number, IsStamp, top_of, has, stamp_lt, IsInOrder, has_log, is_member, members, others, Node, IsOwnBallot, node_of, Performs};
+ghost use Rattle.std.specs.Prelude.{◌≡◌, ◌≢◌, ◌<◌, ◌+◌, Some, None, true, false, not, ◌&&◌, ◌||◌};
+ghost use Rattle.am_handlers.specs.Prelude.{most_number, IsStamp, top_of, has, stamp_lt, IsInOrder, has_log, is_member, members, others, Node, IsOwnBallot, node_of};
 ghost use Rattle.am_ballots.specs.Kept.{ballot_of};
 ghost use Rattle.am_model.specs.Emit as emit;
 ghost use Rattle.am_model.specs.Ballots.{keep_vote, give_up, begin, next_stamp};
 ghost use Rattle.am_model.specs.Resets.{invite_row, vote_row, take_vote, is_open, hand_over_row};
 ghost use Rattle.am_model.specs.Calls.{reset_row, ask_row, ask_of, give_up_row, give_up_of};
 ghost use Rattle.am_resetting.specs.Deciding.{IsTakenOut};
-ghost use Rattle.am_resetting.specs.Replies.{Replies, MayTell};
+ghost use Rattle.am_handlers.specs.Replies.{Replies};
 
 use crate::deciding::decide;
 use crate::promising::{put_back, raise_promise, take_ballot};
 use crate::reading::{copy_of, name_of, promise_of};
-use crate::replies::{Reply, Telling, finish, quiet};
 use am_ballots::ballot::Ballot;
 use am_base::image::Vote;
 use am_base::limits::MOST_RESILIENCE;
@@ -19,8 +18,8 @@ use am_base::name::{Name, Stamp};
 use am_base::names::Names;
 use am_base::outcome::Outcome;
 use am_handlers::parts::Parts;
+use am_handlers::reply::{Note, Reply, asking, note_to, quiet, saying};
 use am_handlers::votes::own_vote;
-use am_letter::out_box::OutBox;
 use am_model::status::Status;
 use am_parts::log::Log;
 
@@ -41,12 +40,11 @@ fn is_member(parts: &Parts) -> bool
 }
 
 /// A vote is kept, and the ballot looked at; it was taken out of the parts.
-fn keep_vote(parts: &mut Parts, from: Name, vote: &Vote, ballot: Ballot) -> Reply
+fn keep_vote<'a>(parts: &mut Parts, from: Name, vote: &Vote, ballot: Ballot) -> Reply<'a>
     requires ballot { IsTakenOut (node_of parts.old) (ballot_of ballot) }
     requires other { from ≢ parts.old.core.who }
-    ensures replies { Replies (keep_vote (node_of parts.old) (ballot_of ballot) from vote.now)
-        result.outcome result.telling (node_of parts.new) }
-    ensures told { MayTell result.telling result.outcome }
+    ensures { Replies (keep_vote (node_of parts.old) (ballot_of ballot) from vote.now)
+        result (node_of parts.new) }
 {
     let own = own_vote(parts);
     let who = name_of(parts);
@@ -56,33 +54,19 @@ fn keep_vote(parts: &mut Parts, from: Name, vote: &Vote, ballot: Ballot) -> Repl
     let needed = ballot.best(who, &own).members();
     let invited = ballot.newly_needed(who, needed, before);
     let outcome = decide(parts, ballot);
-    Reply {
-        outcome,
-        telling: Telling::Ballot {
-            invited,
-            fetches: true,
-        },
-    }
+    asking(outcome, invited, true)
 }
 
 /// A name is given up, and the ballot looked at; it was taken out of the parts.
-fn give_up(parts: &mut Parts, name: Name, ballot: Ballot) -> Reply
+fn give_up<'a>(parts: &mut Parts, name: Name, ballot: Ballot) -> Reply<'a>
     requires ballot { IsTakenOut (node_of parts.old) (ballot_of ballot) }
     requires other { name ≢ parts.old.core.who }
-    ensures replies { Replies (give_up (node_of parts.old) (ballot_of ballot) name) result.outcome
-        result.telling (node_of parts.new) }
-    ensures told { MayTell result.telling result.outcome }
+    ensures { Replies (give_up (node_of parts.old) (ballot_of ballot) name) result (node_of parts.new) }
 {
     let mut ballot = ballot;
     ballot.give_up(name);
     let outcome = decide(parts, ballot);
-    Reply {
-        outcome,
-        telling: Telling::Ballot {
-            invited: Names::empty(),
-            fetches: true,
-        },
-    }
+    asking(outcome, Names::empty(), true)
 }
 
 /// Whether a vote of this stamp is none for an unfinished ballot.
@@ -94,16 +78,21 @@ fn is_stale(parts: &Parts, stamp: &Stamp, ballot: &Ballot) -> bool
 }
 
 /// What a vote does to a ballot that was taken out of the parts.
-fn take_vote(parts: &mut Parts, from: Name, stamp: Stamp, vote: &Vote, ballot: Ballot) -> Reply
+fn take_vote<'a>(
+    parts: &mut Parts,
+    from: Name,
+    stamp: Stamp,
+    vote: &Vote,
+    ballot: Ballot,
+) -> Reply<'a>
     requires order { IsInOrder parts.old.core }
     requires out { (node_of parts.old).ballot ≡ None }
     requires own { IsOwnBallot (node_of parts.old) (ballot_of ballot) }
     requires number { top_of parts.old.core.log < most_number }
     requires other { from ≢ parts.old.core.who }
-    ensures replies { Replies (take_vote (record (node_of parts.old)
+    ensures { Replies (take_vote (record (node_of parts.old)
         { ballot = Some (ballot_of ballot) }) from stamp vote.now (Some (ballot_of ballot)))
-        result.outcome result.telling (node_of parts.new) }
-    ensures told { MayTell result.telling result.outcome }
+        result (node_of parts.new) }
 {
     if is_stale(parts, &stamp, &ballot) {
         put_back(parts, ballot);
@@ -116,14 +105,13 @@ fn take_vote(parts: &mut Parts, from: Name, stamp: Stamp, vote: &Vote, ballot: B
     keep_vote(parts, from, vote, ballot)
 }
 
-/// What becomes of a vote.
-fn vote(parts: &mut Parts, from: Name, stamp: Stamp, vote: &Vote) -> Reply
+/// Another name votes: Overtaken where its stamp is above the promise; Elsewhere where no unfinished ballot has it; Known where
+/// the name was given up; else what the ballot comes to.
+pub fn on_vote<'a>(parts: &mut Parts, from: Name, stamp: Stamp, vote: &Vote) -> Reply<'a>
     requires within { IsStamp stamp }
     requires number { top_of parts.old.core.log < most_number }
     requires other { from ≢ parts.old.core.who }
-    ensures replies { Replies (vote_row (node_of parts.old) from stamp vote.now) result.outcome
-        result.telling (node_of parts.new) }
-    ensures told { MayTell result.telling result.outcome }
+    ensures { Replies (vote_row (node_of parts.old) from stamp vote.now) result (node_of parts.new) }
 {
     if promise_of(parts).is_below(copy_of(&stamp)) {
         let by = copy_of(&stamp);
@@ -136,38 +124,29 @@ fn vote(parts: &mut Parts, from: Name, stamp: Stamp, vote: &Vote) -> Reply
     }
 }
 
-/// What becomes of an invitation.
-fn invite(parts: &mut Parts, from: Name, stamp: Stamp) -> Reply
-    requires within { IsStamp stamp }
-    ensures replies { Replies (invite_row (node_of parts.old) from stamp) result.outcome
-        result.telling (node_of parts.new) }
-    ensures told { MayTell result.telling result.outcome }
+/// Somebody asks for a vote (docs/PROTOCOL.md, "Ballots and views"): Newer where more is promised, else Voted. Either way a Vote
+/// goes back.
+pub fn on_invite<'a>(parts: &mut Parts, from: Name, stamp: Stamp) -> Reply<'a>
+    requires { IsStamp stamp }
+    ensures { Replies (invite_row (node_of parts.old) from stamp) result (node_of parts.new) }
 {
-    let telling = Telling::Vote(from);
     let promise = promise_of(parts);
+    let vote = note_to(from, Note::Vote);
     if copy_of(&stamp).is_below(copy_of(&promise)) {
-        return Reply {
-            outcome: Outcome::Newer { promise },
-            telling,
-        };
+        return saying(Outcome::Newer { promise }, vote);
     }
     raise_promise(parts, stamp);
-    Reply {
-        outcome: Outcome::Voted,
-        telling,
-    }
+    saying(Outcome::Voted, vote)
 }
 
 /// What giving up a name does to a ballot that was taken out of the parts.
-fn give_up_of(parts: &mut Parts, name: Name, ballot: Ballot) -> Reply
+fn give_up_of<'a>(parts: &mut Parts, name: Name, ballot: Ballot) -> Reply<'a>
     requires order { IsInOrder parts.old.core }
     requires out { (node_of parts.old).ballot ≡ None }
     requires own { IsOwnBallot (node_of parts.old) (ballot_of ballot) }
     requires number { top_of parts.old.core.log < most_number }
-    ensures replies { Replies (give_up_of (record (node_of parts.old)
-        { ballot = Some (ballot_of ballot) }) name (Some (ballot_of ballot))) result.outcome
-        result.telling (node_of parts.new) }
-    ensures told { MayTell result.telling result.outcome }
+    ensures { Replies (give_up_of (record (node_of parts.old)
+        { ballot = Some (ballot_of ballot) }) name (Some (ballot_of ballot))) result (node_of parts.new) }
 {
     if ballot.is_over() {
         put_back(parts, ballot);
@@ -180,14 +159,14 @@ fn give_up_of(parts: &mut Parts, name: Name, ballot: Ballot) -> Reply
     give_up(parts, name, ballot)
 }
 
-/// What becomes of a call to give up a name.
-fn give_up_row(parts: &mut Parts, name: Name) -> Reply
-    requires order { IsInOrder parts.old.core }
+/// A stopped name is given up: NotCoordinator where there is no unfinished ballot, Unfit for the node itself, else what the
+/// ballot comes to.
+pub fn on_give_up<'a>(parts: &mut Parts, name: Name) -> Reply<'a>
     requires number { top_of parts.old.core.log < most_number }
-    ensures replies { Replies (give_up_row (node_of parts.old) name) result.outcome result.telling
+    ensures { Replies (give_up_row (node_of parts.old) name) result
         (node_of parts.new) }
-    ensures told { MayTell result.telling result.outcome }
 {
+    let _front = parts.accept_front();
     match take_ballot(parts) {
         None => quiet(Outcome::NotCoordinator),
         Some(ballot) => give_up_of(parts, name, ballot),
@@ -216,14 +195,12 @@ fn drop_ballot(parts: &mut Parts)
 }
 
 /// A ballot begins in place of the last one.
-fn begin(parts: &mut Parts, least: u8, resilience: u8) -> Reply
+fn begin<'a>(parts: &mut Parts, least: u8, resilience: u8) -> Reply<'a>
     requires order { IsInOrder parts.old.core }
     requires round { parts.old.core.promise.round < most_number }
     requires number { top_of parts.old.core.log < most_number }
     requires logged { has_log parts.old.status ≡ true }
-    ensures replies { Replies (begin (node_of parts.old) least resilience) result.outcome
-        result.telling (node_of parts.new) }
-    ensures told { MayTell result.telling result.outcome }
+    ensures { Replies (begin (node_of parts.old) least resilience) result (node_of parts.new) }
 {
     let stamp = next_stamp(parts);
     let invited = others_of(parts);
@@ -231,24 +208,16 @@ fn begin(parts: &mut Parts, least: u8, resilience: u8) -> Reply
     drop_ballot(parts);
     raise_promise(parts, stamp);
     let outcome = decide(parts, ballot);
-    Reply {
-        outcome,
-        telling: Telling::Ballot {
-            invited,
-            fetches: false,
-        },
-    }
+    asking(outcome, invited, false)
 }
 
-/// What becomes of a call for a ballot.
-fn reset(parts: &mut Parts, least: u8, resilience: u8) -> Reply
-    requires order { IsInOrder parts.old.core }
+/// A ballot is to begin for a view of at least so many members: NotMember or Leaving where it may not, else what it comes to.
+pub fn on_reset<'a>(parts: &mut Parts, least: u8, resilience: u8) -> Reply<'a>
     requires round { parts.old.core.promise.round < most_number }
     requires number { top_of parts.old.core.log < most_number }
-    ensures replies { Replies (reset_row (node_of parts.old) least resilience) result.outcome
-        result.telling (node_of parts.new) }
-    ensures told { MayTell result.telling result.outcome }
+    ensures { Replies (reset_row (node_of parts.old) least resilience) result (node_of parts.new) }
 {
+    let _front = parts.accept_front();
     if !is_member(parts) {
         return quiet(Outcome::NotMember);
     }
@@ -283,81 +252,19 @@ fn ask(parts: &Parts, round: u32) -> Outcome
     }
 }
 
-/// Somebody asks for a vote (docs/PROTOCOL.md, "Ballots and views"): Newer where more is promised, else Voted. Either way a Vote
-/// goes back.
-pub fn on_invite(parts: &mut Parts, from: Name, stamp: Stamp, out: &mut OutBox) -> Outcome
-    requires empty { out.old ≡ [] }
-    requires within { IsStamp stamp }
-    ensures { Performs (λ m. invite_row m from stamp) parts.old result out.new parts.new }
-{
-    let before = parts.accept_front();
-    let reply = invite(parts, from, stamp);
-    finish(parts, before, reply, out)
-}
-
-/// Another name votes: Overtaken where its stamp is above the promise; Elsewhere where no unfinished ballot has it; Known where
-/// the name was given up; else what the ballot comes to.
-pub fn on_vote(
-    parts: &mut Parts,
-    from: Name,
-    stamp: Stamp,
-    shown: &Vote,
-    out: &mut OutBox,
-) -> Outcome
-    requires empty { out.old ≡ [] }
-    requires within { IsStamp stamp }
-    requires other { from ≢ parts.old.core.who }
-    requires number { top_of parts.old.core.log < most_number }
-    ensures { Performs (λ m. vote_row m from stamp shown.now) parts.old result out.new parts.new }
-{
-    let before = parts.accept_front();
-    let reply = vote(parts, from, stamp, shown);
-    finish(parts, before, reply, out)
-}
-
-/// A stopped name is given up: NotCoordinator where there is no unfinished ballot, Unfit for the node itself, else what the
-/// ballot comes to.
-pub fn on_give_up(parts: &mut Parts, name: Name, out: &mut OutBox) -> Outcome
-    requires empty { out.old ≡ [] }
-    requires number { top_of parts.old.core.log < most_number }
-    ensures { Performs (λ m. give_up_row m name) parts.old result out.new parts.new }
-{
-    let before = parts.accept_front();
-    let reply = give_up_row(parts, name);
-    finish(parts, before, reply, out)
-}
-
-/// A ballot is to begin for a view of at least so many members: NotMember or Leaving where it may not, else what it comes to.
-pub fn on_reset(parts: &mut Parts, least: u8, resilience: u8, out: &mut OutBox) -> Outcome
-    requires empty { out.old ≡ [] }
-    requires round { parts.old.core.promise.round < most_number }
-    requires number { top_of parts.old.core.log < most_number }
-    ensures { Performs (λ m. reset_row m least resilience) parts.old result out.new parts.new }
-{
-    let before = parts.accept_front();
-    let reply = reset(parts, least, resilience);
-    finish(parts, before, reply, out)
-}
-
 /// The sequencer hands over: as a reset with least size 1 and the list's resilience.
-pub fn on_hand_over(parts: &mut Parts, out: &mut OutBox) -> Outcome
-    requires empty { out.old ≡ [] }
+pub fn on_hand_over<'a>(parts: &mut Parts) -> Reply<'a>
     requires round { parts.old.core.promise.round < most_number }
     requires number { top_of parts.old.core.log < most_number }
-    ensures { Performs (λ m. hand_over_row m) parts.old result out.new parts.new }
+    ensures { Replies (hand_over_row (node_of parts.old)) result (node_of parts.new) }
 {
-    let before = parts.accept_front();
     let resilience = parts.core.log.resilience();
-    let reply = reset(parts, 1, resilience);
-    finish(parts, before, reply, out)
+    on_reset(parts, 1, resilience)
 }
 
 /// The application asks how the ballot of a round stands: Unknown, Overtaken by a later one, or what was last decided on it.
-pub fn on_ask(parts: &mut Parts, round: u32, out: &mut OutBox) -> Outcome
-    requires empty { out.old ≡ [] }
-    ensures { Performs (λ m. ask_row m round) parts.old result out.new parts.new }
+pub fn on_ask<'a>(parts: &mut Parts, round: u32) -> Reply<'a>
+    ensures { Replies (ask_row (node_of parts.old) round) result (node_of parts.new) }
 {
-    let before = parts.accept_front();
-    let reply = quiet(ask(parts, round));
-    finish(parts, before, reply, out)
+    quiet(ask(parts, round))
 }

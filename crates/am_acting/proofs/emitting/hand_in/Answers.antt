@@ -1,20 +1,20 @@
-use Rattle.am_acting.proofs.Words.{ℕ, List, false, sym, ap, ◌∙◌, only_name, node_of, noting}
-use Rattle.am_acting.specs.declared.note.Note.TheVariants as note
-use Rattle.am_acting.proofs.{Plans.done_as, Emits.hand_short, Emits.hand_spread}
+use Rattle.am_acting.proofs.Words.{sym, ap, ◌∙◌, only_name, others, node_of, replies_as}
+use Rattle.am_handlers.specs.declared.reply.OwnLetter.TheVariants as own_letter
+use Rattle.am_handlers.proofs.Replying.{replies_own}
+use Rattle.am_acting.proofs.Emits.{hand_short, hand_spread}
 use Rattle.am_acting.proofs.emitting.hand_in.Goals as goal
 
 pub returns-then-is_short : goal.returns-then-is_short
 returns-then-is_short c =
-    done_as
-    (hand_short (node_of c.args.parts.now) c.args.send.now.req c.args.send.now.body c.args.answer c.only-to.result (sym c.is_short.ensures ∙ c.if-is_short.true)
-    (c.only-to.ensures ∙ ap (λ by. only_name by) c.leader.ensures)
-    ∙ ap (λ (b : List ℕ). noting false (node_of c.args.parts.now) c.args.answer c.only-to.result (note.Request c.args.send.now.req b))
-    (sym c.as_ref-body.ensures)) c.finish_noting.ensures
+    let m = node_of c.args.parts.now in
+    let send = c.args.send.now in
+    replies_as (hand_short m send.req send.body c.args.answer c.only.result (sym c.is_short.ensures ∙ c.if-is_short.true)
+    (c.only.ensures ∙ ap (λ by. only_name by) c.leader.ensures)) c.saying.ensures
+    (replies_own m c.args.answer c.only.result own_letter.Request (send.req, send.body) c.requires tt)
 
 pub returns : goal.returns
 returns c =
-    done_as
-    (hand_spread (node_of c.args.parts.now) c.args.send.now.req c.args.send.now.body c.args.answer c.others-to.result
-    (sym c.is_short.ensures ∙ c.if-is_short.false) c.others-to.ensures
-    ∙ ap (λ (b : List ℕ). noting false (node_of c.args.parts.now) c.args.answer c.others-to.result (note.Spread c.args.send.now.req b))
-    (sym c.as_ref-body.ensures)) c.finish_noting-2.ensures
+    let m = node_of c.args.parts.now in
+    let send = c.args.send.now in
+    replies_as (hand_spread m send.req send.body c.args.answer c.others.result (sym c.is_short.ensures ∙ c.if-is_short.false) c.others.ensures)
+    c.saying-2.ensures (replies_own m c.args.answer c.others.result own_letter.Spread (send.req, send.body) c.requires tt)

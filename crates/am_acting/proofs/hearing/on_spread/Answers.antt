@@ -1,17 +1,14 @@
-use Rattle.am_acting.proofs.Words.{sym, ◌∙◌, quiet, node_of, does_now, spread_row}
-use Rattle.am_base.specs.declared.outcome.Outcome.TheVariants as said
-use Rattle.am_acting.proofs.{Plans.does_rest, Rows.spread_known, Rows.spread_kept}
+use Rattle.am_acting.proofs.Words.{sym, ◌∙◌, node_of, end_self, replies_as, replies_quiet, ends_as}
+use Rattle.am_acting.proofs.Rows.{spread_known, spread_kept}
 use Rattle.am_acting.proofs.hearing.on_spread.Goals as goal
 
 pub returns-then-is_known : goal.returns-then-is_known
 returns-then-is_known c =
-    does_now (λ m. spread_row m c.args.from c.args.req c.args.body.now) (node_of c.args.parts.now) c.accept_front-before.ensures.value
-    (spread_known (node_of c.args.parts.now) c.args.from c.args.req c.args.body.now (sym c.is_known.ensures ∙ c.if-is_known.true))
-    c.finish_quietly.ensures
+    let old = node_of c.args.parts.now in
+    replies_as (spread_known old c.args.from c.args.req c.args.body.now (sym c.is_known.ensures ∙ c.if-is_known.true)) c.quiet.ensures
+    (replies_quiet old old _ (end_self old))
 
 pub returns : goal.returns
 returns c =
-    does_rest (λ m. spread_row m c.args.from c.args.req c.args.body.now) (λ m. quiet m said.Kept) (node_of c.args.parts.now)
-    c.accept_front-before.ensures.value c.keep_body.ensures
-    (spread_kept (node_of c.args.parts.now) c.args.from c.args.req c.args.body.now (sym c.is_known.ensures ∙ c.if-is_known.false))
-    c.finish_quietly-2.ensures
+    replies_as (spread_kept (node_of c.args.parts.now) c.args.from c.args.req c.args.body.now (sym c.is_known.ensures ∙ c.if-is_known.false))
+    c.quiet-2.ensures (replies_quiet _ _ _ (ends_as _ _ c.keep_body.ensures))

@@ -1,25 +1,27 @@
-use Rattle.am_acting.proofs.Words.{sym, ap, ◌∙◌, Node, waiting, quiet, go, node_of}
+use Rattle.am_acting.proofs.Words.{refl, sym, ap, ◌∙◌, Node, waiting, quiet, go, node_of, end_self, replies_as, replies_quiet}
 use Rattle.am_base.specs.declared.outcome.Outcome.TheVariants as said
-use Rattle.am_acting.proofs.{Plans.done_as, Leaves.leave_leaving, Leaves.leave_busy, Leaves.leave_goes, Leaves.idle_none}
+use Rattle.am_acting.proofs.{Leaves.leave_leaving, Leaves.leave_busy, Leaves.leave_goes, Leaves.idle_none}
 use Rattle.am_acting.proofs.leaving.leave_now.Goals as goal
 
 pub returns-then-is_leaving : goal.returns-then-is_leaving
 returns-then-is_leaving c =
-    done_as (leave_leaving (node_of c.args.parts.now) (sym c.is_leaving.ensures ∙ c.if-is_leaving.true)) c.finish_quietly.ensures
+    let old = node_of c.args.parts.now in
+    replies_as (leave_leaving old (sym c.is_leaving.ensures ∙ c.if-is_leaving.true)) c.quiet.ensures (replies_quiet old old _ (end_self old))
 
 pub returns-then-is_busy : goal.returns-then-is_busy
 returns-then-is_busy c =
-    done_as
-    (leave_busy (node_of c.args.parts.now) c.unsettled_count-queued.result (sym c.is_leaving.ensures ∙ c.if-is_leaving.false)
+    let old = node_of c.args.parts.now in
+    replies_as
+    (leave_busy old c.unsettled_count-queued.result (sym c.is_leaving.ensures ∙ c.if-is_leaving.false)
     (sym c.is_busy.ensures ∙ c.if-is_busy.true) c.unsettled_count-queued.ensures.value)
-    c.finish_quietly-then-is_busy.ensures
+    c.quiet-then-is_busy.ensures (replies_quiet old old _ (end_self old))
 
 pub returns : goal.returns
 returns c =
-    done_as
+    replies_as
     (leave_goes (node_of c.args.parts.now) (sym c.is_leaving.ensures ∙ c.if-is_leaving.false) (sym c.is_busy.ensures ∙ c.if-is_busy.false) ∙ ap
     (λ (x : Node). go (quiet x said.Asked)) (sym c.begin_leaving.ensures))
-    c.go_on_leaving.ensures
+    refl c.go_on_leaving.ensures
 
 pub begin_leaving-requires : goal.begin_leaving-requires
 begin_leaving-requires c =

@@ -1,31 +1,41 @@
-use Rattle.am_acting.proofs.Words.{sym, ap, ◌∙◌, only_name, lowest_or_first, node_of}
-use Rattle.am_acting.proofs.{Plans.done_as, Leaves.some_others, Leaves.no_others}
+use Rattle.am_acting.proofs.Words.{sym, ap, ◌∙◌, only_name, lowest_or_first, others, node_of, end_self, Reply, replies_as, true}
+use Rattle.am_handlers.specs.Replies.{polled_of}
+use Rattle.am_handlers.specs.declared.reply.Note.TheVariants as note
+use Rattle.am_handlers.specs.declared.reply.Telling.TheVariants as tell
+use Rattle.am_acting.proofs.{Leaves.some_others, Leaves.no_others}
 use Rattle.am_acting.proofs.Ticks as ticks
 use Rattle.am_acting.proofs.ticking.poll_leaving.Goals as goal
 
 pub returns-then-len-gt0 : goal.returns-then-len-gt0
 returns-then-len-gt0 c =
-    let some = some_others (node_of c.args.parts.now) c.len.ensures.value c.others-others.ensures c.if-len-gt0.true in
-    done_as
-    (ticks.polls_hands (node_of c.args.parts.now) c.only-to.result c.requires.leads some
-    (c.only-to.ensures ∙ ap (λ k. only_name k) c.lowest_or_first.ensures ∙ ap (λ set. only_name (lowest_or_first set)) c.others-others.ensures))
-    c.finish_handing.ensures
+    let m = node_of c.args.parts.now in
+    let some = some_others m c.len.ensures.value c.others-others.ensures c.if-len-gt0.true in
+    let to = lowest_or_first (others m) in
+    replies_as (ticks.polls_hands m c.requires.leads some)
+    (c.and.ensures ∙ (λ k. let x : Reply = record (c.polled.ensures k) {
+      second = (c.note_to-hand_over.ensures
+          ∙ ap (λ name. tell.Note (only_name name) note.HandOver) (c.lowest_or_first.ensures ∙ ap (λ set. lowest_or_first set) c.others-others.ensures)) k;
+    } in x))
+    (ticks.handing_reply m to)
 
 pub returns-then-not-has_room : goal.returns-then-not-has_room
 returns-then-not-has_room c =
-    let none = no_others (node_of c.args.parts.now) c.len.ensures.value c.others-others.ensures c.if-len-gt0.false in
-    done_as
-    (ticks.polls_held (node_of c.args.parts.now) c.held_answer-answer.result c.requires.leads none (sym c.has_room.ensures.value ∙ c.if-not-has_room.true)
-    c.held_answer-answer.ensures)
-    c.finish_polling.ensures
-
-pub depart-requires-clause-alone : goal.depart-requires-clause-alone
-depart-requires-clause-alone c =
-    no_others (node_of c.args.parts.now) c.len.ensures.value c.others-others.ensures c.if-len-gt0.false
+    let m = node_of c.args.parts.now in
+    let none = no_others m c.len.ensures.value c.others-others.ensures c.if-len-gt0.false in
+    replies_as (ticks.polls_held m c.requires.leads none (sym c.has_room.ensures.value ∙ c.if-not-has_room.true))
+    (c.polled-then-not-has_room.ensures ∙ ap polled_of c.held_answer.ensures) (ticks.polled_reply m m _ (end_self m))
 
 pub returns : goal.returns
 returns c =
-    let none = no_others (node_of c.args.parts.now) c.len.ensures.value c.others-others.ensures c.if-len-gt0.false in
-    done_as (ticks.polls_departs (node_of c.args.parts.now) c.requires.leads none (sym c.has_room.ensures.value ∙ c.if-not-has_room.false))
-    (ticks.departs_polling c.args.before (node_of c.args.parts.now) (node_of c.depart.new.parts) c.args.out.now c.tell_view.new.out c.requires.empty
-    c.depart.ensures.alone c.depart.ensures.end c.tell_view.ensures.letters)
+    let m = node_of c.args.parts.now in
+    let none = no_others m c.len.ensures.value c.others-others.ensures c.if-len-gt0.false in
+    replies_as (ticks.polls_departs m c.requires.leads none (sym c.has_room.ensures.value ∙ c.if-not-has_room.false))
+    (c.numbering.ensures ∙ ap (λ (r : Reply). let x : Reply = record r { numbers = true } in x) (c.polling.ensures
+    ∙ ap (λ (r : Reply). let x : Reply = record r { polls = true } in x) (c.and-2.ensures
+    ∙ ap (λ (r : Reply). let x : Reply = record r { second = tell.View } in x) c.saying-departs.ensures)))
+    (ticks.last_reply m (record {
+      leads = c.requires.leads;
+      alone = none;
+      idle = c.requires.idle;
+      room = record { room = c.has_room.ensures.room c.if-not-has_room.false; number = c.requires.number };
+    }))

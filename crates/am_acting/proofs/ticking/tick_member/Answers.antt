@@ -1,11 +1,13 @@
-use Rattle.am_acting.proofs.Words.{sym, ap, ◌∙◌, only_name, node_of}
-use Rattle.am_acting.proofs.Plans.{done_as}
+use Rattle.am_acting.proofs.Words.{refl, sym, ap, ◌∙◌, only_name, view, node_of, end_self, saying_of, replies_as, replies_telling}
+use Rattle.am_base.specs.declared.outcome.Outcome.TheVariants as said
+use Rattle.am_handlers.specs.declared.reply.Note.TheVariants as note
+use Rattle.am_handlers.specs.declared.reply.Telling.TheVariants as tell
 use Rattle.am_acting.proofs.Ticks as ticks
 use Rattle.am_acting.proofs.ticking.tick_member.Goals as goal
 
 pub returns-then-is_leaving : goal.returns-then-is_leaving
 returns-then-is_leaving c =
-    done_as (ticks.member_leaves (node_of c.args.parts.now) (sym c.is_leaving.ensures ∙ c.if-is_leaving.true)) c.go_on_leaving.ensures
+    replies_as (ticks.member_leaves (node_of c.args.parts.now) (sym c.is_leaving.ensures ∙ c.if-is_leaving.true)) refl c.go_on_leaving.ensures
 
 pub go_on_leaving-requires-clause-idle : goal.go_on_leaving-requires-clause-idle
 go_on_leaving-requires-clause-idle c =
@@ -13,14 +15,15 @@ go_on_leaving-requires-clause-idle c =
 
 pub returns-then-would_emit_waiting : goal.returns-then-would_emit_waiting
 returns-then-would_emit_waiting c =
-    done_as
+    replies_as
     (ticks.member_emits (node_of c.args.parts.now) (sym c.is_leaving.ensures ∙ c.if-is_leaving.false)
     (sym c.would_emit_waiting.ensures ∙ c.if-would_emit_waiting.true))
-    c.emit.ensures
+    refl c.emit.ensures
 
 pub returns : goal.returns
 returns c =
-    done_as
-    (ticks.member_reports (node_of c.args.parts.now) c.only-to.result (sym c.is_leaving.ensures ∙ c.if-is_leaving.false)
-    (sym c.would_emit_waiting.ensures ∙ c.if-would_emit_waiting.false) (c.only-to.ensures ∙ ap (λ k. only_name k) c.leader.ensures))
-    c.finish_noting.ensures
+    let m = node_of c.args.parts.now in
+    replies_as
+    (ticks.member_reports m (sym c.is_leaving.ensures ∙ c.if-is_leaving.false) (sym c.would_emit_waiting.ensures ∙ c.if-would_emit_waiting.false))
+    (c.saying.ensures ∙ ap (saying_of said.Ticked) (c.note_to.ensures ∙ ap (λ k. tell.Note (only_name k) note.Ack) c.leader.ensures))
+    (replies_telling m m _ (only_name (view m).by) note.Ack tt (end_self m))

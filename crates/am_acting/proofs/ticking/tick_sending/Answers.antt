@@ -1,35 +1,42 @@
-use Rattle.am_acting.proofs.Words.{sym, ◌∙◌, node_of}
-use Rattle.am_acting.proofs.Plans.{done_as}
+use Rattle.am_acting.proofs.Words.{sym, ap, ◌∙◌, node_of, end_self, Reply, replies_as, true}
+use Rattle.am_handlers.specs.declared.reply.Telling.TheVariants as tell
 use Rattle.am_acting.proofs.Ticks as ticks
 use Rattle.am_acting.proofs.ticking.tick_sending.Goals as goal
 
 pub returns-in_default : goal.returns-in_default
 returns-in_default c =
-    done_as (ticks.leads_idle (node_of c.args.parts.now) c.requires.stays (sym c.in_default.ensures.value))
-    c.finish_polling.ensures
+    let old = node_of c.args.parts.now in
+    replies_as (ticks.leads_idle old c.requires.stays (sym c.in_default.ensures.value)) c.polled.ensures (ticks.polled_reply old old _ (end_self old))
 
 pub returns-then-not-would_emit : goal.returns-then-not-would_emit
 returns-then-not-would_emit c =
-    done_as
-    (ticks.leads_numbered (node_of c.args.parts.now) c.in-Some.send.req c.in-Some.send.body c.requires.stays
+    let old = node_of c.args.parts.now in
+    replies_as
+    (ticks.leads_numbered old c.in-Some.send.req c.in-Some.send.body c.requires.stays
     (sym c.in-Some.ensures.value) (sym c.would_emit.ensures ∙ c.if-not-would_emit.true))
-    c.finish_polling-then-not-would_emit.ensures
+    c.polled-then-not-would_emit.ensures (ticks.polled_reply old old _ (end_self old))
 
 pub returns-then-not-has_room : goal.returns-then-not-has_room
 returns-then-not-has_room c =
-    done_as
-    (ticks.leads_full (node_of c.args.parts.now) c.in-Some.send.req c.in-Some.send.body c.put_off-answer.result
+    let old = node_of c.args.parts.now in
+    replies_as
+    (ticks.leads_full old c.in-Some.send.req c.in-Some.send.body c.put_off.result
     c.requires.stays (sym c.in-Some.ensures.value) (sym c.would_emit.ensures ∙ c.if-not-would_emit.false) c.requires.leads
-    (sym c.has_room.ensures.value ∙ c.if-not-has_room.true) c.put_off-answer.ensures)
-    c.finish_polling-then-not-has_room.ensures
+    (sym c.has_room.ensures.value ∙ c.if-not-has_room.true) c.put_off.ensures)
+    c.polled-then-not-has_room.ensures (ticks.polled_reply old old _ (end_self old))
 
 pub returns : goal.returns
 returns c =
-    done_as
-    (ticks.leads_numbers (node_of c.args.parts.now) (node_of c.number_send-note.new.parts) c.in-Some.send.req c.in-Some.send.body c.others-to.result
-    c.number_send-note.result c.requires.stays (sym c.in-Some.ensures.value)
-    (sym c.would_emit.ensures ∙ c.if-not-would_emit.false) c.requires.leads (sym c.has_room.ensures.value ∙ c.if-not-has_room.false) c.others-to.ensures
-    c.number_send-note.ensures.note c.number_send-note.ensures.node)
-    (ticks.numbered_done c.args.before (node_of c.number_send-note.new.parts)
-    (node_of c.end.new.self) c.others-to.result c.number_send-note.result c.args.out.now _ _ _ c.requires.empty c.accept_front-before.ensures.order.kept
-    c.end.ensures c.tell.ensures.letters c.tell_view.ensures.letters c.tell_accepted.ensures)
+    let old = node_of c.args.parts.now in
+    let mid = node_of c.number_send-number.new.parts in
+    let send = c.in-Some.send in
+    let waits = sym c.in-Some.ensures.value in
+    let numbered = c.number_send-number.ensures in
+    replies_as
+    (ticks.leads_numbers old mid send.req send.body c.requires.stays waits (sym c.would_emit.ensures ∙ c.if-not-would_emit.false) c.requires.leads
+    (sym c.has_room.ensures.value ∙ c.if-not-has_room.false) numbered.node)
+    (c.numbering.ensures ∙ ap (λ (r : Reply). let x : Reply = record r { numbers = true } in x) (c.polling.ensures
+    ∙ ap (λ (r : Reply). let x : Reply = record r { polls = true } in x) (c.and.ensures
+    ∙ ap (λ (r : Reply). let x : Reply = record r { second = tell.View } in x) c.saying-sent.ensures)))
+    (ticks.sending_reply old mid send.req c.number_send-number.result send.body c.others-to.result waits numbered.node numbered.number numbered.within
+    c.others-to.ensures)

@@ -1,14 +1,13 @@
-use Rattle.am_acting.proofs.Words.{sym, ◌∙◌, node_of}
-use Rattle.am_acting.proofs.Plans.{done_as}
+use Rattle.am_acting.proofs.Words.{refl, sym, ◌∙◌, node_of, end_self, replies_as}
 use Rattle.am_acting.proofs.Ticks as ticks
 use Rattle.am_acting.proofs.ticking.tick_sequencer.Goals as goal
 
 pub returns-then-is_leaving : goal.returns-then-is_leaving
 returns-then-is_leaving c =
-    done_as
+    replies_as
     (ticks.leads_leaving (node_of c.args.parts.now) (sym c.is_leaving.ensures ∙ c.if-is_leaving.true)
     (c.args.parts.now.keeps.settled (sym c.is_leaving.ensures ∙ c.if-is_leaving.true)))
-    c.poll_leaving.ensures
+    refl c.poll_leaving.ensures
 
 pub poll_leaving-requires-clause-idle : goal.poll_leaving-requires-clause-idle
 poll_leaving-requires-clause-idle c =
@@ -16,6 +15,7 @@ poll_leaving-requires-clause-idle c =
 
 pub returns-then-not-has_waiting : goal.returns-then-not-has_waiting
 returns-then-not-has_waiting c =
-    done_as
-    (ticks.leads_none (node_of c.args.parts.now) (sym c.is_leaving.ensures ∙ c.if-is_leaving.false) (sym c.has_waiting.ensures ∙ c.if-not-has_waiting.true))
-    c.finish_polling.ensures
+    let old = node_of c.args.parts.now in
+    replies_as
+    (ticks.leads_none old (sym c.is_leaving.ensures ∙ c.if-is_leaving.false) (sym c.has_waiting.ensures ∙ c.if-not-has_waiting.true))
+    c.polled.ensures (ticks.polled_reply old old _ (end_self old))

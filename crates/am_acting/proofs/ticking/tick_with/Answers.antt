@@ -1,18 +1,15 @@
-use Rattle.am_acting.proofs.Words.{sym, ap, ◌∙◌, node_of}
-use Rattle.am_acting.proofs.Plans.{done_as}
+use Rattle.am_acting.proofs.Words.{refl, sym, ap, ◌∙◌, node_of, replies_as}
 use Rattle.am_acting.proofs.Ticks as ticks
 use Rattle.am_acting.proofs.ticking.tick_with.Goals as goal
 
-pub returns-in_default : goal.returns-in_default
-returns-in_default c =
-    done_as
-    (ticks.tick_unfinished (node_of c.args.parts.now) ((node_of c.args.parts.now).ballot) ∙ ap (ticks.acts_or_asks (node_of c.args.parts.now))
-    (sym c.again_of_ballot.ensures ∙ c.in_default.is))
-    c.tick_acting.ensures
+pub returns-in-None : goal.returns-in-None
+returns-in-None c =
+    let old = node_of c.args.parts.now in
+    replies_as (ticks.tick_unfinished old old.ballot ∙ ap (ticks.acts_or_asks old) (sym c.again_of_ballot.ensures ∙ c.in-None.is)) refl c.tick_acting.ensures
 
-pub returns : goal.returns
-returns c =
-    done_as
-    (ticks.tick_unfinished (node_of c.args.parts.now) ((node_of c.args.parts.now).ballot) ∙ ap (ticks.acts_or_asks (node_of c.args.parts.now))
-    (sym c.again_of_ballot.ensures ∙ c.in-Some.is))
-    c.ask_again.ensures
+pub returns-in-Some : goal.returns-in-Some
+returns-in-Some c =
+    let old = node_of c.args.parts.now in
+    let again = sym c.again_of_ballot.ensures ∙ c.in-Some.is in
+    replies_as (ticks.tick_unfinished old old.ballot ∙ ap (ticks.acts_or_asks old) again) c.saying.ensures
+    (ticks.again_reply old c.in-Some.again (ticks.again_plain old.ballot c.in-Some.again again))

@@ -39,8 +39,8 @@ pub on_welcome-requires-clause-image : goal.on_welcome-requires-clause-image
 on_welcome-requires-clause-image c = (welcome_numbers c.in-Welcome.sender c.in-Welcome.stamp c.in-Welcome.base c.in-Welcome.join c.in-Welcome.image
     (subst IsWithin c.in-Welcome.is c.requires.within)).2
 
-pub on_invite-requires-clause-within : goal.on_invite-requires-clause-within
-on_invite-requires-clause-within c = invite_round c.in-Invite.sender c.in-Invite.stamp (subst IsWithin c.in-Invite.is c.requires.within)
+pub on_invite-requires : goal.on_invite-requires
+on_invite-requires c = invite_round c.in-Invite.sender c.in-Invite.stamp (subst IsWithin c.in-Invite.is c.requires.within)
 
 pub on_vote-requires-clause-within : goal.on_vote-requires-clause-within
 on_vote-requires-clause-within c = vote_round c.in-Vote.sender c.in-Vote.stamp c.in-Vote.vote (subst IsWithin c.in-Vote.is c.requires.within)

@@ -1,11 +1,11 @@
-use Rattle.am_ordering.proofs.JoiningWords.{◌≡◌, ◌+◌, refl, sym, ap, ◌∙◌, subst, Image, Leave, has, members_of, told-push, with_letter, Node, top, image_of, others}
-use Rattle.am_ordering.proofs.JoiningWords.{push_entry, IsEndOf, bcast_of, with_core, node_of, end_self, keeps_pushed, leading_log, done, end_tells, told_numbered}
-use Rattle.am_ordering.proofs.JoiningWords.{number_leave}
-use Rattle.am_base.specs.declared.outcome.Outcome.TheVariants as said
+use Rattle.am_ordering.proofs.JoiningWords.{◌+◌, refl, sym, ap, ◌∙◌, subst, Image, Leave, has, members_of, told-push, top, image_of}
+use Rattle.am_ordering.proofs.JoiningWords.{push_entry, node_of, keeps_pushed, leading_log, numbered_of, replies_as}
 use Rattle.am_base.specs.declared.entry.Entry.{Entry}
 use Rattle.am_base.specs.Lists.{fits}
 use Rattle.am_handlers.specs.Keeps.{NodeKeeps}
-use Rattle.am_ordering.proofs.{Leaves.leave_letters, Members.stays_by_leave, Members.fits_leave}
+use Rattle.am_handlers.specs.declared.reply.Reply.{Reply}
+use Rattle.am_handlers.specs.declared.reply.Telling.TheVariants as tell
+use Rattle.am_ordering.proofs.{Leaves.leave_reply, Members.stays_by_leave, Members.fits_leave}
 use Rattle.am_ordering.proofs.leaving.number_leave.Goals as goal
 
 pub push-requires-clause-fits : goal.push-requires-clause-fits
@@ -25,18 +25,10 @@ push-requires-clause-keeps c =
 pub returns : goal.returns
 returns c =
     let old = node_of c.args.parts.now in
-    let mid = node_of c.push.new.self in
-    let new = node_of c.end.new.self in
-    let end : IsEndOf (push_entry old (Leave c.args.from)) mid = subst (λ (x : Node). IsEndOf x mid)
-    (c.push.ensures.node ∙ ap (push_entry old) c.leave.ensures)
-    (end_self mid c.push.ensures.order.kept) in
-    let to : c.others-others.result ≡ others old = end_tells others old c.others-others.result c.next_number-number.ensures.order.kept c.others-others.ensures
-    in
-    let number : c.next_number-number.result ≡ top old + 1 = c.next_number-number.ensures.value in
-    let put = c.put.ensures ∙ ap (λ set. with_letter set c.bcast.result c.args.out.now) to ∙ ap (with_letter (others old) c.bcast.result) c.requires.empty in
-    done c.args.before (number_leave old c.args.from) mid new _ c.let_go-goes.new.out c.let_go-goes.new.out refl end c.end.ensures
-    (λ n is. ap said.Numbered number)
-    (leave_letters old new c.args.from c.next_number-number.result c.bcast.result c.put.new.self c.let_go-goes.new.out number
-    (λ m all s. c.bcast.ensures.value m all s ∙ ap (bcast_of (with_core m all new.core) c.next_number-number.result) c.leave-2.ensures) put
-    c.let_go-goes.ensures.letters)
-    (told_numbered c.args.before c.let_go-goes.new.out new)
+    let s = c.args.from in
+    let number = c.next_number-number.result in
+    replies_as refl
+    (c.and.ensures ∙ ap (λ (r : Reply). let x : Reply = record r { second = tell.Gone s } in x) (c.numbered.ensures
+    ∙ (λ k. numbered_of number (c.others-others.ensures k) (c.leave-2.ensures k))))
+    (leave_reply old (node_of c.push.new.self) s number (c.push.ensures.node ∙ ap (push_entry old) c.leave.ensures)
+    c.next_number-number.ensures.value c.next_number-number.ensures.within tt)

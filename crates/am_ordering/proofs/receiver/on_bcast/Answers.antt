@@ -1,6 +1,6 @@
-use Rattle.am_ordering.proofs.ReceivingWords.{refl, ap, ◌∙◌, subst, Some, Entry, with_noted, receive_entry, bcast_row, is_member, node_of, Done, does_now}
+use Rattle.am_ordering.proofs.ReceivingWords.{ap, ◌∙◌, subst, Some, Entry, with_noted, receive_entry, bcast_row, is_member, node_of, Replies}
 use Rattle.am_base.specs.declared.outcome.Outcome.TheVariants as said
-use Rattle.am_ordering.proofs.Notes.{noted_done}
+use Rattle.am_ordering.proofs.Notes.{noted_replies}
 use Rattle.am_ordering.proofs.receiver.on_bcast.Goals as goal
 
 pub returns : goal.returns
@@ -8,13 +8,10 @@ unfolding bcast_row
 returns c =
     let told = c.args.told in
     let old = node_of c.args.parts.now in
-    let P : Entry → Type 0 = λ e. Done c.accept_front-before.result
-    (receive_entry (with_noted old told.base told.acc) told.sender told.base told.number (Some e) said.Known)
-    c.receive_entry.result c.receive_entry.new.out (node_of c.receive_entry.new.parts) in
-    does_now (λ m. bcast_row m told.sender told.base told.acc told.number c.args.entry.now) old
-    c.accept_front-before.ensures.value refl
-    (subst P c.again.ensures (noted_done c.accept_front-before.result old (node_of c.note.new.parts) _ told.base told.acc told.sender told.number
-    (Some c.again.result) said.Known _ _ c.note.ensures.end c.note.ensures.order c.receive_entry.ensures))
+    let P : Entry → Type 0 = λ e. Replies (receive_entry (with_noted old told.base told.acc) told.sender told.base told.number (Some e) said.Known)
+    c.receive_entry.result (node_of c.receive_entry.new.parts) in
+    subst P c.again.ensures (noted_replies old (node_of c.note.new.parts) _ told.base told.acc told.sender told.number
+    (Some c.again.result) said.Known _ c.note.ensures.end c.note.ensures.order c.receive_entry.ensures)
 
 pub receive_entry-requires-clause-follows : goal.receive_entry-requires-clause-follows
 receive_entry-requires-clause-follows c =

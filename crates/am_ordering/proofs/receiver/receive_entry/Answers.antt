@@ -1,4 +1,7 @@
-use Rattle.am_ordering.proofs.ReceivingWords.{sym, ap, ◌∙◌, subst, Option, arith, Entry, top_of, Parts, Plan, store, node_of, Done}
+use Rattle.am_ordering.proofs.ReceivingWords.{refl, sym, ap, ◌∙◌, arith, top_of, Parts, only_name, store, node_of, end_self, saying_of}
+use Rattle.am_ordering.proofs.ReceivingWords.{replies_as, replies_quiet, replies_telling}
+use Rattle.am_base.specs.declared.outcome.Outcome.TheVariants as said
+use Rattle.am_handlers.specs.declared.reply.Note.TheVariants as note
 use Rattle.am_ordering.proofs.ReceivingRows.{received_known, received_left, received_gap, received_past, received_next}
 use Rattle.am_ordering.proofs.receiver.receive_entry.Goals as goal
 
@@ -8,8 +11,7 @@ returns-then-told-top c =
     let found = c.args.found in
     let old = node_of c.args.parts.now in
     let top = c.top-top.ensures.value ∙ ap (λ (p : Parts). top_of p.core.log) c.parts.view_is in
-    let P : Plan → Type 0 = λ p. Done c.args.before p c.finish_quietly.result c.finish_quietly.new.out (node_of c.finish_quietly.new.parts) in
-    subst P (sym (received_known old told.sender told.base told.number found.known found.missing (omega arith))) c.finish_quietly.ensures
+    replies_as (received_known old told.sender told.base told.number found.known found.missing (omega arith)) c.quiet.ensures (replies_quiet old old _ (end_self old))
 
 pub returns-then-has_left : goal.returns-then-has_left
 returns-then-has_left c =
@@ -17,10 +19,8 @@ returns-then-has_left c =
     let found = c.args.found in
     let old = node_of c.args.parts.now in
     let top = c.top-top.ensures.value ∙ ap (λ (p : Parts). top_of p.core.log) c.parts.view_is in
-    let P : Plan → Type 0 = λ p. Done c.args.before p c.finish_quietly-then-has_left.result c.finish_quietly-then-has_left.new.out
-    (node_of c.finish_quietly-then-has_left.new.parts) in
-    subst P (sym (received_left old told.sender told.base told.number found.known found.missing (omega arith) (sym c.has_left.ensures
-    ∙ c.if-has_left.true))) c.finish_quietly-then-has_left.ensures
+    replies_as (received_left old told.sender told.base told.number found.known found.missing (omega arith) (sym c.has_left.ensures
+    ∙ c.if-has_left.true)) c.quiet-then-has_left.ensures (replies_quiet old old _ (end_self old))
 
 pub returns-then-top-told : goal.returns-then-top-told
 returns-then-top-told c =
@@ -28,9 +28,9 @@ returns-then-top-told c =
     let found = c.args.found in
     let old = node_of c.args.parts.now in
     let top = c.top-top.ensures.value ∙ ap (λ (p : Parts). top_of p.core.log) c.parts.view_is in
-    let P : Plan → Type 0 = λ p. Done c.args.before p c.finish_telling.result c.finish_telling.new.out (node_of c.finish_telling.new.parts) in
-    subst P (sym (received_gap old told.sender told.base told.number c.top-top.result found.known found.missing top c.if-top-told.true
-    (sym c.has_left.ensures ∙ c.if-has_left.false))) c.finish_telling.ensures
+    replies_as (received_gap old told.sender told.base told.number c.top-top.result found.known found.missing top c.if-top-told.true
+    (sym c.has_left.ensures ∙ c.if-has_left.false)) (c.saying.ensures ∙ ap (saying_of (said.Gap _)) c.note_to-nack.ensures)
+    (replies_telling old old _ (only_name told.sender) note.Nack tt (end_self old))
 
 pub returns-then-parts-told : goal.returns-then-parts-told
 returns-then-parts-told c =
@@ -39,10 +39,8 @@ returns-then-parts-told c =
     let old = node_of c.args.parts.now in
     let top = c.top-top.ensures.value ∙ ap (λ (p : Parts). top_of p.core.log) c.parts.view_is in
     let taken = ap (λ (p : Parts). p.core.taken) c.parts.view_is in
-    let P : Plan → Type 0 = λ p. Done c.args.before p c.finish_quietly-then-parts-told.result c.finish_quietly-then-parts-told.new.out
-    (node_of c.finish_quietly-then-parts-told.new.parts) in
-    subst P (sym (received_past old told.sender told.base told.number found.known found.missing (omega arith) (sym c.has_left.ensures
-    ∙ c.if-has_left.false) (omega arith))) c.finish_quietly-then-parts-told.ensures
+    replies_as (received_past old told.sender told.base told.number found.known found.missing (omega arith) (sym c.has_left.ensures
+    ∙ c.if-has_left.false) (omega arith)) c.quiet-then-parts-told.ensures (replies_quiet old old _ (end_self old))
 
 pub returns-in-Some : goal.returns-in-Some
 returns-in-Some c =
@@ -51,10 +49,9 @@ returns-in-Some c =
     let old = node_of c.args.parts.now in
     let top = c.top-top.ensures.value ∙ ap (λ (p : Parts). top_of p.core.log) c.parts.view_is in
     let taken = ap (λ (p : Parts). p.core.taken) c.parts.view_is in
-    let P : Plan → Type 0 = λ p. Done c.args.before p c.store.result c.store.new.out (node_of c.store.new.parts) in
-    let Q : Option Entry → Type 0 = λ e. P (store old told.sender told.number e found.missing) in
-    subst P (sym (received_next old told.sender told.base told.number found.known found.missing (omega arith) (sym c.has_left.ensures
-    ∙ c.if-has_left.false) (omega arith))) (subst Q (sym c.in-Some.is) (c.store.ensures found.missing))
+    replies_as (received_next old told.sender told.base told.number found.known found.missing (omega arith) (sym c.has_left.ensures
+    ∙ c.if-has_left.false) (omega arith) ∙ ap (λ e. store old told.sender told.number e found.missing) c.in-Some.is) refl
+    (c.store.ensures found.missing)
 
 pub returns-in-None : goal.returns-in-None
 returns-in-None c =
@@ -63,8 +60,7 @@ returns-in-None c =
     let old = node_of c.args.parts.now in
     let top = c.top-top.ensures.value ∙ ap (λ (p : Parts). top_of p.core.log) c.parts.view_is in
     let taken = ap (λ (p : Parts). p.core.taken) c.parts.view_is in
-    let P : Plan → Type 0 = λ p. Done c.args.before p c.finish_telling-in-None.result c.finish_telling-in-None.new.out
-    (node_of c.finish_telling-in-None.new.parts) in
-    let Q : Option Entry → Type 0 = λ e. P (store old told.sender told.number e found.missing) in
-    subst P (sym (received_next old told.sender told.base told.number found.known found.missing (omega arith) (sym c.has_left.ensures
-    ∙ c.if-has_left.false) (omega arith))) (subst Q (sym c.in-None.is) c.finish_telling-in-None.ensures)
+    replies_as (received_next old told.sender told.base told.number found.known found.missing (omega arith) (sym c.has_left.ensures
+    ∙ c.if-has_left.false) (omega arith) ∙ ap (λ e. store old told.sender told.number e found.missing) c.in-None.is)
+    (c.saying-in-None.ensures ∙ ap (saying_of found.missing) c.note_to.ensures)
+    (replies_telling old old _ (only_name told.sender) note.Nack tt (end_self old))

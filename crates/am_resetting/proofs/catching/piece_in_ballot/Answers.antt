@@ -1,22 +1,21 @@
-use Rattle.am_resetting.proofs.CatchingWords.{true, false, Some, refl, sym, ◌∙◌, arith, ballot_of, node_of, end_self, push_entry, trim_up_to, push_fetched}
+use Rattle.am_resetting.proofs.CatchingWords.{true, false, Some, refl, sym, ◌∙◌, arith, ballot_of, node_of, end_self, push_entry, trim_up_to, push_fetched, quiet_of, asking_of}
 use Rattle.am_resetting.proofs.CatchingWords.{decide_anew, with_ballot, end_as, by_reply, taken_idle, top_push}
-use Rattle.am_resetting.specs.declared.replies.Telling.TheVariants as tell
 use Rattle.am_resetting.proofs.Pieces.{may_store, taken_pushed, fetched_unless, fetched_then, replies_fetched}
 use Rattle.am_resetting.proofs.catching.piece_in_ballot.Goals as goal
 
-pub returns-in-Some-clause-replies : goal.returns-in-Some-clause-replies
-returns-in-Some-clause-replies c =
+pub returns-in-Some : goal.returns-in-Some
+returns-in-Some c =
     let arrival = c.args.arrival.now in
     let b = ballot_of c.args.ballot in
     let m = with_ballot (node_of c.args.parts.now) (Some b) in
     let new = node_of c.put_back.new.parts in
     let e = c.args.entry.now in
-    by_reply (push_fetched m arrival.stamp arrival.base arrival.number e true (decide_anew b)) c.quiet.result c.in-Some.outcome tell.Nothing new
+    by_reply (push_fetched m arrival.stamp arrival.base arrival.number e true (decide_anew b)) c.quiet.result (quiet_of c.in-Some.outcome) new
     c.quiet.ensures (fetched_unless m new arrival.stamp arrival.base arrival.number e true (decide_anew b) c.refusal.result c.in-Some.outcome
     (c.refusal.ensures.value (Some b) (decide_anew b)) c.in-Some.is (end_as m new c.requires.ballot.order.kept c.put_back.ensures))
 
-pub returns-in-None-clause-replies : goal.returns-in-None-clause-replies
-returns-in-None-clause-replies c =
+pub returns-in-None : goal.returns-in-None
+returns-in-None c =
     let arrival = c.args.arrival.now in
     let b = ballot_of c.args.ballot in
     let old = node_of c.args.parts.now in
@@ -25,9 +24,11 @@ returns-in-None-clause-replies c =
     let e = c.args.entry.now in
     let comes = c.decide-outcome.ensures.comes (push_entry (trim_up_to old arrival.base) e)
     (c.store.ensures.changes old (end_self old c.requires.ballot.order.kept)) in
-    fetched_then m new arrival.stamp arrival.base arrival.number e true (decide_anew b) c.refusal.result c.decide-outcome.result
-    (tell.Ballot c.empty.result false) (c.refusal.ensures.value (Some b) (decide_anew b)) c.in-None.is
-    (replies_fetched old new b (Some b) arrival.base e c.decide-outcome.result c.empty.result comes c.empty.ensures)
+    by_reply (push_fetched m arrival.stamp arrival.base arrival.number e true (decide_anew b)) c.asking.result
+    (asking_of c.decide-outcome.result c.empty.result false) new c.asking.ensures
+    (fetched_then m new arrival.stamp arrival.base arrival.number e true (decide_anew b) c.refusal.result
+    (asking_of c.decide-outcome.result c.empty.result false) (c.refusal.ensures.value (Some b) (decide_anew b)) c.in-None.is
+    (replies_fetched old new b (Some b) arrival.base e c.decide-outcome.result c.empty.result comes c.decide-outcome.ensures.told c.empty.ensures))
 
 pub store-requires : goal.store-requires
 store-requires c =

@@ -1,5 +1,5 @@
-use Rattle.am_resetting.proofs.VotingWords.{◌≡◌, min, None, sym, subst, ◌∙◌, ballot_of, node_of, end_self, Node, Ballot, others, with_promise, next_stamp, new_ballot}
-use Rattle.am_resetting.proofs.VotingWords.{begin, decide, IsTakenOut, ComesTo, replies_ballot, decide_with}
+use Rattle.am_resetting.proofs.VotingWords.{◌≡◌, min, None, sym, subst, ◌∙◌, ballot_of, node_of, end_self, Node, Ballot, others, with_promise, next_stamp, new_ballot, false}
+use Rattle.am_resetting.proofs.VotingWords.{begin, decide, IsTakenOut, ComesTo, replies_ballot, asking_of, by_reply, decide_with}
 use Rattle.am_resetting.proofs.Ballots.{begins, next_node}
 use Rattle.am_resetting.proofs.voting.begin.Goals as goal
 
@@ -15,9 +15,9 @@ decide-outcome-requires c =
     (subst (λ (b : Ballot). IsTakenOut (next_node old) b) (sym ballot)
     (begins old c.args.least c.args.resilience c.requires.order c.args.parts.now.keeps c.requires.logged c.requires.number))
 
-pub returns-clause-replies : goal.returns-clause-replies
+pub returns : goal.returns
 unfolding begin
-returns-clause-replies c =
+returns c =
     let old = node_of c.args.parts.now in
     let mid = node_of c.raise_promise.new.parts in
     let new = node_of c.decide-outcome.new.parts in
@@ -30,5 +30,6 @@ returns-clause-replies c =
     ∙ decide_with (with_promise old (next_stamp old)) None b in
     let comes : ComesTo (decide (with_promise old (next_stamp old)) b) c.decide-outcome.result new =
     subst (λ v. ComesTo v c.decide-outcome.result new) same (c.decide-outcome.ensures.comes mid (end_self mid kept)) in
-    replies_ballot (decide (with_promise old (next_stamp old)) b) new c.decide-outcome.result
-    (others old) c.others_of-invited.result comes c.others_of-invited.ensures
+    by_reply (begin old c.args.least c.args.resilience) c.asking.result (asking_of c.decide-outcome.result c.others_of-invited.result false) new c.asking.ensures
+    (replies_ballot (decide (with_promise old (next_stamp old)) b) new c.decide-outcome.result
+    (others old) c.others_of-invited.result comes c.decide-outcome.ensures.told c.others_of-invited.ensures)

@@ -1,29 +1,28 @@
-use Rattle.am_resetting.proofs.VotingWords.{◌==◌, Some, sym, ap, ◌∙◌, ballot_of, node_of, Node, give_up_of, end_as, by_reply}
+use Rattle.am_resetting.proofs.VotingWords.{◌==◌, Some, sym, ap, ◌∙◌, ballot_of, node_of, Node, give_up_of, end_as, by_reply, quiet_of}
 use Rattle.am_base.specs.declared.outcome.Outcome.TheVariants as said
-use Rattle.am_resetting.specs.declared.replies.Telling.TheVariants as tell
 use Rattle.am_resetting.proofs.VoteRows.{given_over, given_itself, given_up}
 use Rattle.am_resetting.proofs.voting.give_up_of.Goals as goal
 
-pub returns-then-is_over-clause-replies : goal.returns-then-is_over-clause-replies
-returns-then-is_over-clause-replies c =
+pub returns-then-is_over : goal.returns-then-is_over
+returns-then-is_over c =
     let b = ballot_of c.args.ballot in
     let m : Node = record (node_of c.args.parts.now) { ballot = Some b } in
     let new = node_of c.put_back.new.parts in
-    by_reply (give_up_of m c.args.name (Some b)) c.quiet.result said.NotCoordinator tell.Nothing new c.quiet.ensures
+    by_reply (give_up_of m c.args.name (Some b)) c.quiet.result (quiet_of said.NotCoordinator) new c.quiet.ensures
     (given_over m new c.args.name b (sym c.is_over.ensures ∙ c.if-is_over.true) (end_as m new c.requires.order.kept c.put_back.ensures))
 
-pub returns-then-eq-clause-replies : goal.returns-then-eq-clause-replies
-returns-then-eq-clause-replies c =
+pub returns-then-eq : goal.returns-then-eq
+returns-then-eq c =
     let b = ballot_of c.args.ballot in
     let m : Node = record (node_of c.args.parts.now) { ballot = Some b } in
     let new = node_of c.put_back-then-eq.new.parts in
-    by_reply (give_up_of m c.args.name (Some b)) c.quiet-then-eq.result said.Unfit tell.Nothing new c.quiet-then-eq.ensures
+    by_reply (give_up_of m c.args.name (Some b)) c.quiet-then-eq.result (quiet_of said.Unfit) new c.quiet-then-eq.ensures
     (given_itself m new c.args.name b (sym c.is_over.ensures ∙ c.if-is_over.false) (ap (λ who. c.args.name == who) (sym c.name_of.ensures) ∙ sym c.eq.ensures
     ∙ c.if-eq.true) (end_as m new c.requires.order.kept c.put_back-then-eq.ensures))
 
-pub returns-clause-replies : goal.returns-clause-replies
-returns-clause-replies c =
+pub returns : goal.returns
+returns c =
     let b = ballot_of c.args.ballot in
     let m = node_of c.args.parts.now in
-    given_up m (node_of c.give_up.new.parts) c.args.name b (Some b) c.give_up.result.outcome c.give_up.result.telling (sym c.is_over.ensures
-    ∙ c.if-is_over.false) (ap (λ who. c.args.name == who) (sym c.name_of.ensures) ∙ sym c.eq.ensures ∙ c.if-eq.false) c.give_up.ensures.replies
+    given_up m (node_of c.give_up.new.parts) c.args.name b (Some b) c.give_up.result (sym c.is_over.ensures
+    ∙ c.if-is_over.false) (ap (λ who. c.args.name == who) (sym c.name_of.ensures) ∙ sym c.eq.ensures ∙ c.if-eq.false) c.give_up.ensures

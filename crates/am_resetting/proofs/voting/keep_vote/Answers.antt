@@ -1,5 +1,5 @@
-use Rattle.am_resetting.proofs.VotingWords.{◌≡◌, sym, subst, node_of, ballot_of, end_self, Ballot, with_vote, newly_needed, keep_vote, decide, IsTakenOut, ComesTo}
-use Rattle.am_resetting.proofs.VotingWords.{replies_asking}
+use Rattle.am_resetting.proofs.VotingWords.{◌≡◌, sym, subst, node_of, ballot_of, end_self, Ballot, with_vote, newly_needed, keep_vote, decide, IsTakenOut, ComesTo, true}
+use Rattle.am_resetting.proofs.VotingWords.{replies_asking, asking_of, by_reply}
 use Rattle.am_resetting.proofs.Ballots.{taken_voted, newly_is}
 use Rattle.am_resetting.proofs.voting.keep_vote.Goals as goal
 
@@ -9,9 +9,9 @@ decide-outcome-requires c =
     subst (λ (b : Ballot). IsTakenOut old b) (sym c.keep.ensures)
     (taken_voted old (ballot_of c.args.ballot) c.args.from c.args.vote.now c.requires.other c.requires.ballot)
 
-pub returns-clause-replies : goal.returns-clause-replies
+pub returns : goal.returns
 unfolding keep_vote
-returns-clause-replies c =
+returns c =
     let old = node_of c.args.parts.now in
     let new = with_vote (ballot_of c.args.ballot) c.args.from c.args.vote.now in
     let invited : c.newly_needed-invited.result ≡ newly_needed old (ballot_of c.args.ballot) new =
@@ -21,5 +21,6 @@ returns-clause-replies c =
     let comes : ComesTo (decide old new) c.decide-outcome.result (node_of c.decide-outcome.new.parts) =
     subst (λ (b : Ballot). ComesTo (decide old b) c.decide-outcome.result (node_of c.decide-outcome.new.parts)) c.keep.ensures
     (c.decide-outcome.ensures.comes old (end_self old c.requires.ballot.order.kept)) in
-    replies_asking (decide old new) (node_of c.decide-outcome.new.parts) c.decide-outcome.result
-    (newly_needed old (ballot_of c.args.ballot) new) c.newly_needed-invited.result comes invited
+    by_reply (keep_vote old (ballot_of c.args.ballot) c.args.from c.args.vote.now) c.asking.result (asking_of c.decide-outcome.result c.newly_needed-invited.result true) (node_of c.decide-outcome.new.parts) c.asking.ensures
+    (replies_asking (decide old new) (node_of c.decide-outcome.new.parts) c.decide-outcome.result
+    (newly_needed old (ballot_of c.args.ballot) new) c.newly_needed-invited.result comes c.decide-outcome.ensures.told invited)

@@ -1,10 +1,10 @@
-use Rattle.am_resetting.proofs.VotingWords.{ℕ, ap, sym, ◌∙◌, subst, told_by, Parts, node_of, reset_row, hand_over_row, Replies}
+use Rattle.am_resetting.proofs.VotingWords.{ℕ, ap, ◌∙◌, subst, told_by, Parts, node_of, reset_row, hand_over_row, Replies}
 use Rattle.am_resetting.proofs.voting.on_hand_over.Goals as goal
 
 pub returns : goal.returns
 unfolding hand_over_row
 returns c =
     let old = node_of c.args.parts.now in
-    let P : ℕ → Type 0 = λ r. Replies (reset_row old 1 r) c.reset-reply.result.outcome c.reset-reply.result.telling (node_of c.reset-reply.new.parts) in
+    let P : ℕ → Type 0 = λ r. Replies (reset_row old 1 r) c.on_reset.result (node_of c.on_reset.new.parts) in
     let told = c.resilience-resilience.ensures.value ∙ ap (λ (p : Parts). (told_by p.core.log).resilience) c.parts.view_is in
-    c.finish.ensures old (hand_over_row old) (sym c.accept_front-before.ensures.value) (subst P told c.reset-reply.ensures.replies)
+    subst P told c.on_reset.ensures

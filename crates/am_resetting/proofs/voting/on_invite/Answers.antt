@@ -1,6 +1,25 @@
-use Rattle.am_resetting.proofs.VotingWords.{sym, node_of, invite_row}
+use Rattle.am_resetting.proofs.VotingWords.{◌≡◌, true, false, sym, ap, ◌∙◌, stamp_lt, node_of, end_self, end_promised, invite_row, saying_of, by_reply}
+use Rattle.am_base.specs.declared.outcome.Outcome.TheVariants as said
+use Rattle.am_resetting.proofs.VoteRows.{vote_to, invite_newer, invite_voted}
 use Rattle.am_resetting.proofs.voting.on_invite.Goals as goal
 
+pub returns-then-is_below : goal.returns-then-is_below
+returns-then-is_below c =
+    let old = node_of c.args.parts.now in
+    let below : stamp_lt c.args.stamp c.promise_of-promise.result ≡ true = (λ k. stamp_lt (sym c.copy_of.ensures k) (sym c.copy_of-2.ensures k))
+    ∙ sym c.is_below.ensures ∙ c.if-is_below.true in
+    by_reply (invite_row old c.args.from c.args.stamp) c.saying.result (vote_to (said.Newer c.promise_of-promise.result) c.args.from) old
+    (c.saying.ensures ∙ ap (saying_of (said.Newer c.promise_of-promise.result)) c.note_to-vote.ensures)
+    (invite_newer old old c.args.from c.args.stamp c.promise_of-promise.result c.promise_of-promise.ensures.value below
+    (end_self old c.promise_of-promise.ensures.order.kept))
+
 pub returns : goal.returns
-returns c = c.finish.ensures (node_of c.args.parts.now) (invite_row (node_of c.args.parts.now) c.args.from c.args.stamp)
-    (sym c.accept_front-before.ensures.value) c.invite-reply.ensures.replies
+returns c =
+    let old = node_of c.args.parts.now in
+    let below : stamp_lt c.args.stamp c.promise_of-promise.result ≡ false = (λ k. stamp_lt (sym c.copy_of.ensures k) (sym c.copy_of-2.ensures k))
+    ∙ sym c.is_below.ensures ∙ c.if-is_below.false in
+    let new = node_of c.raise_promise.new.parts in
+    by_reply (invite_row old c.args.from c.args.stamp) c.saying-2.result (vote_to said.Voted c.args.from) new
+    (c.saying-2.ensures ∙ ap (saying_of said.Voted) c.note_to-vote.ensures)
+    (invite_voted old new c.args.from c.args.stamp c.promise_of-promise.result c.promise_of-promise.ensures.value below
+    (end_promised old new c.args.stamp c.promise_of-promise.ensures.order.kept c.raise_promise.ensures))

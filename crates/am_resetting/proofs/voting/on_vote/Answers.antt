@@ -1,6 +1,36 @@
-use Rattle.am_resetting.proofs.VotingWords.{sym, node_of, vote_row}
+use Rattle.am_resetting.proofs.VotingWords.{Some, None, subst, ◌∙◌, ballot_of, node_of, Node, take_vote, vote_row, Replies, replies_quiet, none_taken, one_taken, quiet_of}
+use Rattle.am_resetting.proofs.VotingWords.{end_as, end_promised, by_reply}
+use Rattle.am_base.specs.declared.outcome.Outcome.TheVariants as said
+use Rattle.am_resetting.proofs.VoteRows.{above_is, vote_overtaken, vote_by}
 use Rattle.am_resetting.proofs.voting.on_vote.Goals as goal
 
-pub returns : goal.returns
-returns c = c.finish.ensures (node_of c.args.parts.now) (vote_row (node_of c.args.parts.now) c.args.from c.args.stamp c.args.shown.now)
-    (sym c.accept_front-before.ensures.value) c.vote-reply.ensures.replies
+pub returns-then-is_below : goal.returns-then-is_below
+returns-then-is_below c =
+    let old = node_of c.args.parts.now in
+    let new = node_of c.raise_promise.new.parts in
+    let above = above_is old c.args.stamp c.promise_of.ensures.value c.copy_of.ensures c.is_below.ensures c.if-is_below.true in
+    by_reply (vote_row old c.args.from c.args.stamp c.args.vote.now) c.quiet.result (quiet_of (said.Overtaken c.args.stamp)) new
+    (c.quiet.ensures ∙ (λ k. quiet_of (said.Overtaken (c.copy_of-by.ensures k))))
+    (vote_overtaken old new c.args.from c.args.stamp c.args.vote.now above
+    (end_promised old new c.args.stamp c.promise_of.ensures.order.kept c.raise_promise.ensures))
+
+pub returns-in-None : goal.returns-in-None
+returns-in-None c =
+    let old = node_of c.args.parts.now in
+    let new = node_of c.take_ballot.new.parts in
+    let above = above_is old c.args.stamp c.promise_of.ensures.value c.copy_of.ensures c.is_below.ensures c.if-is_below.false in
+    let taken = none_taken old new c.take_ballot.ensures.ballot c.take_ballot.ensures.rest c.in-None.is in
+    by_reply (vote_row old c.args.from c.args.stamp c.args.vote.now) c.quiet-in-None.result (quiet_of said.Elsewhere) new c.quiet-in-None.ensures
+    (vote_by old new c.args.from c.args.stamp c.args.vote.now (quiet_of said.Elsewhere) None above taken.0
+    (replies_quiet old new said.Elsewhere (λ k. end_as old new c.promise_of.ensures.order.kept taken.1)))
+
+pub returns-in-Some : goal.returns-in-Some
+returns-in-Some c =
+    let old = node_of c.args.parts.now in
+    let new = node_of c.take_vote.new.parts in
+    let b = ballot_of c.in-Some.ballot in
+    let above = above_is old c.args.stamp c.promise_of.ensures.value c.copy_of.ensures c.is_below.ensures c.if-is_below.false in
+    let taken = one_taken old (node_of c.take_ballot.new.parts) c.take_ballot.ensures.ballot c.take_ballot.ensures.rest c.in-Some.is in
+    vote_by old new c.args.from c.args.stamp c.args.vote.now c.take_vote.result (Some b) above taken.0
+    (subst (λ (x : Node). Replies (take_vote x c.args.from c.args.stamp c.args.vote.now (Some b)) c.take_vote.result new)
+    taken.1 c.take_vote.ensures)

@@ -1,7 +1,6 @@
-use Rattle.am_resetting.proofs.VotingWords.{◌≡◌, true, false, not, ◌||◌, Bool, Some, sym, ◌∙◌, stamp_lt, stamp_eq, ballot_of, node_of, Node, take_vote, is_open}
+use Rattle.am_resetting.proofs.VotingWords.{◌≡◌, true, false, not, ◌||◌, Bool, Some, sym, ◌∙◌, stamp_lt, stamp_eq, ballot_of, node_of, Node, take_vote, is_open, quiet_of}
 use Rattle.am_resetting.proofs.VotingWords.{end_as, by_reply, and_both, not-true, not-false}
 use Rattle.am_base.specs.declared.outcome.Outcome.TheVariants as said
-use Rattle.am_resetting.specs.declared.replies.Telling.TheVariants as tell
 use Rattle.am_resetting.proofs.VoteRows.{voted_elsewhere, voted_known, voted_kept}
 use Rattle.am_resetting.proofs.voting.take_vote.Goals as goal
 
@@ -9,32 +8,32 @@ or_right : (a b : Bool) → (a || b) ≡ false → b ≡ false
 or_right true b h = absurd (cc)
 or_right false b h = h
 
-pub returns-then-is_stale-clause-replies : goal.returns-then-is_stale-clause-replies
-returns-then-is_stale-clause-replies c =
+pub returns-then-is_stale : goal.returns-then-is_stale
+returns-then-is_stale c =
     let b = ballot_of c.args.ballot in
     let m : Node = record (node_of c.args.parts.now) { ballot = Some b } in
     let new = node_of c.put_back.new.parts in
-    by_reply (take_vote m c.args.from c.args.stamp c.args.vote.now (Some b)) c.quiet.result said.Elsewhere tell.Nothing new c.quiet.ensures
+    by_reply (take_vote m c.args.from c.args.stamp c.args.vote.now (Some b)) c.quiet.result (quiet_of said.Elsewhere) new c.quiet.ensures
     (voted_elsewhere m new c.args.from c.args.stamp c.args.vote.now b (sym c.is_stale.ensures
     ∙ c.if-is_stale.true) (end_as m new c.requires.order.kept c.put_back.ensures))
 
-pub returns-then-has_given_up-clause-replies : goal.returns-then-has_given_up-clause-replies
-returns-then-has_given_up-clause-replies c =
+pub returns-then-has_given_up : goal.returns-then-has_given_up
+returns-then-has_given_up c =
     let b = ballot_of c.args.ballot in
     let m : Node = record (node_of c.args.parts.now) { ballot = Some b } in
     let new = node_of c.put_back-then-has_given_up.new.parts in
-    by_reply (take_vote m c.args.from c.args.stamp c.args.vote.now (Some b)) c.quiet-then-has_given_up.result said.Known tell.Nothing new
+    by_reply (take_vote m c.args.from c.args.stamp c.args.vote.now (Some b)) c.quiet-then-has_given_up.result (quiet_of said.Known) new
     c.quiet-then-has_given_up.ensures
     (voted_known m new c.args.from c.args.stamp c.args.vote.now b (sym c.is_stale.ensures ∙ c.if-is_stale.false) (sym c.has_given_up.ensures
     ∙ c.if-has_given_up.true) (end_as m new c.requires.order.kept c.put_back-then-has_given_up.ensures))
 
-pub returns-clause-replies : goal.returns-clause-replies
-returns-clause-replies c =
+pub returns : goal.returns
+returns c =
     let b = ballot_of c.args.ballot in
     let m = node_of c.args.parts.now in
     let new = node_of c.keep_vote.new.parts in
-    voted_kept m new c.args.from c.args.stamp c.args.vote.now b (Some b) c.keep_vote.result.outcome c.keep_vote.result.telling (sym c.is_stale.ensures
-    ∙ c.if-is_stale.false) (sym c.has_given_up.ensures ∙ c.if-has_given_up.false) c.keep_vote.ensures.replies
+    voted_kept m new c.args.from c.args.stamp c.args.vote.now b (Some b) c.keep_vote.result (sym c.is_stale.ensures
+    ∙ c.if-is_stale.false) (sym c.has_given_up.ensures ∙ c.if-has_given_up.false) c.keep_vote.ensures
 
 pub keep_vote-requires-clause-ballot : goal.keep_vote-requires-clause-ballot
 keep_vote-requires-clause-ballot c =

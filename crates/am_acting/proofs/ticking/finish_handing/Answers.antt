@@ -1,9 +1,0 @@
-use Rattle.am_acting.proofs.Words.{node_of}
-use Rattle.am_acting.proofs.Ticks as ticks
-use Rattle.am_acting.proofs.ticking.finish_handing.Goals as goal
-
-pub returns : goal.returns
-returns c =
-    ticks.handed_done c.args.before (node_of c.args.parts.now)
-    (node_of c.end.new.self) c.args.to c.args.out.now _ _ _ c.requires c.accept_front-before.ensures.order.kept c.end.ensures c.tell_view.ensures.letters
-    c.tell.ensures.letters c.tell_accepted.ensures
