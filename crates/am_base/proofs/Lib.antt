@@ -2,3 +2,9 @@ pub mod Places
 pub mod Masks
 pub mod Greatest
 pub mod Folds
+pub mod ChainWords
+pub mod Prefixes
+pub mod Rows
+pub mod Members
+pub mod Order
+pub mod Requests

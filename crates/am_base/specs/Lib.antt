@@ -8,3 +8,5 @@ pub mod Votes
 pub mod Limits
 pub mod Outcomes
 pub mod Entries
+pub mod Whole
+pub mod Claims

@@ -7,6 +7,7 @@ pub mod event;
 pub mod founding;
 pub mod image;
 pub mod items;
+pub mod laws;
 pub mod limits;
 pub mod name;
 pub mod names;

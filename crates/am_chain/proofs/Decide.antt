@@ -1,16 +1,16 @@
 -- A decision keeps what is kept.
-use Rattle.am_chain_lists.proofs.Rows.{low_or_above}
+use Rattle.am_base.proofs.Rows.{low_or_above}
 use Rattle.am_base.proofs.Greatest.{split}
 use Rattle.std.proofs.Common.{◌≡◌, ◌≢◌, ◌⊎◌, ⊎_elim, inl, inr, ℕ, ◌+◌, ◌<◌, ◌≤◌, min, Bool, true, false, List, [], ◌∷◌, ◌++◌, length, take, Some, refl, sym, ap}
 use Rattle.std.proofs.Common.{◌∙◌, subst, arith}
 use Rattle.am_base.specs.declared.entry.Entry.{Entry}
 use Rattle.am_base.specs.declared.entry.Entry.TheVariants.{View}
 use Rattle.am_base.specs.Names.{has}
-use Rattle.am_chain_lists.specs.Whole.{Begins, IsGood, mem, view_of, key}
-use Rattle.am_chain_lists.proofs.Prefixes.{begins_refl, begins_more, begins_trans, begins_length, begins_both, length_push, below_begins, below_of}
-use Rattle.am_chain_lists.proofs.Prefixes.{begins_pushed, begins_take}
-use Rattle.am_chain_lists.proofs.Members.{mem_between, mem_viewed, viewed_mem, good_begins, good_push, Ends, ends_of}
-use Rattle.am_chain_lists.proofs.Order.{view_viewed, view_fits, key_by, resilience_viewed}
+use Rattle.am_base.specs.Whole.{Begins, IsGood, mem, view_of, key}
+use Rattle.am_base.proofs.Prefixes.{begins_refl, begins_more, begins_trans, begins_length, begins_both, length_push, below_begins, below_of}
+use Rattle.am_base.proofs.Prefixes.{begins_pushed, begins_take}
+use Rattle.am_base.proofs.Members.{mem_between, mem_viewed, viewed_mem, good_begins, good_push, Ends, ends_of}
+use Rattle.am_base.proofs.Order.{view_viewed, view_fits, key_by, resilience_viewed}
 use Rattle.am_chain.specs.Group.{put, how_many, Node, Chosen, opening, Views, Group, chain_of, current_of, IsThere, IsUp}
 use Rattle.am_chain.specs.Moves.{MayDecide, choice_of, with_choice}
 use Rattle.am_chain.specs.Runs.{IsLawful}

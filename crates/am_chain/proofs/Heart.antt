@@ -1,5 +1,5 @@
 -- A coordinator that decides has all that was accepted.
-use Rattle.am_chain_lists.proofs.Rows.{low_or_above}
+use Rattle.am_base.proofs.Rows.{low_or_above}
 use Rattle.am_base.proofs.Greatest.{split}
 use Rattle.std.proofs.Common.{◌≡◌, ◌⊎◌, ⊎_elim, ℕ, zero, suc, ◌+◌, ◌-◌, ◌<◌, ◌≤◌, ◌&&◌, ◌||◌, not, nat_lt, min, Bool, true, false, List, [], ◌∷◌, ◌++◌, length}
 use Rattle.std.proofs.Common.{take, Option, Some, None, slice_get, refl, sym, ap, ◌∙◌, subst, arith}
@@ -8,11 +8,11 @@ use Rattle.std.proofs.lemmas.Option.{slice_get_within}
 use Rattle.am_base.specs.declared.entry.Entry.{Entry}
 use Rattle.am_base.specs.declared.entry.Entry.TheVariants.{Leave, View}
 use Rattle.am_base.specs.Names.{has}
-use Rattle.am_chain_lists.specs.Whole.{Begins, IsGood, mem, view_of, key, resilience_of}
-use Rattle.am_chain_lists.proofs.Prefixes.{begins_refl, begins_nil, begins_more, begins_trans, begins_length, begins_both, begins_same, begins_push}
-use Rattle.am_chain_lists.proofs.Prefixes.{length_push, begins_take, length_take, take_begins}
-use Rattle.am_chain_lists.proofs.Members.{mem_between, mem_nil, mem_viewed, viewed_mem, good_begins, leaver_in, leaver_out}
-use Rattle.am_chain_lists.proofs.Order.{view_up, resilience_up, resilience_viewed}
+use Rattle.am_base.specs.Whole.{Begins, IsGood, mem, view_of, key, resilience_of}
+use Rattle.am_base.proofs.Prefixes.{begins_refl, begins_nil, begins_more, begins_trans, begins_length, begins_both, begins_same, begins_push}
+use Rattle.am_base.proofs.Prefixes.{length_push, begins_take, length_take, take_begins}
+use Rattle.am_base.proofs.Members.{mem_between, mem_nil, mem_viewed, viewed_mem, good_begins, leaver_in, leaver_out}
+use Rattle.am_base.proofs.Order.{view_up, resilience_up, resilience_viewed}
 use Rattle.am_chain.specs.Group.{how_many, counted_in, opening, Group, chain_of, IsThere, IsUp, NoBetter}
 use Rattle.am_chain.specs.Moves.{MayDecide, Voted}
 use Rattle.am_chain.specs.Runs.{counts_for, IsLawful}

@@ -1,14 +1,14 @@
 -- A view that completes stands in the chain.
-use Rattle.am_chain_lists.proofs.Rows.{low_or_above}
+use Rattle.am_base.proofs.Rows.{low_or_above}
 use Rattle.am_base.proofs.Greatest.{split}
 use Rattle.std.proofs.Common.{◌≡◌, ◌⊎◌, ⊎_elim, ℕ, ◌<◌, ◌≤◌, Bool, true, [], ◌∷◌, length, refl, ap, arith}
 use Rattle.am_base.specs.declared.entry.Entry.TheVariants.{View}
 use Rattle.am_base.specs.Names.{has}
 use Rattle.am_base.specs.Lists.{fold}
-use Rattle.am_chain_lists.specs.Whole.{Begins, view_of, key}
-use Rattle.am_chain_lists.proofs.Prefixes.{begins_more, begins_both, length_push}
-use Rattle.am_chain_lists.proofs.Members.{good_begins}
-use Rattle.am_chain_lists.proofs.Order.{view_up, view_below}
+use Rattle.am_base.specs.Whole.{Begins, view_of, key}
+use Rattle.am_base.proofs.Prefixes.{begins_more, begins_both, length_push}
+use Rattle.am_base.proofs.Members.{good_begins}
+use Rattle.am_base.proofs.Order.{view_up, view_below}
 use Rattle.am_chain.specs.Group.{opening, Views, Group, chain_of, IsThere}
 use Rattle.am_chain.specs.Runs.{Completes}
 use Rattle.am_chain.specs.Kept.{NodeOk, Kept}

@@ -2,8 +2,8 @@
 use Rattle.std.proofs.Common.{◌≡◌, ℕ, zero, suc, ◌&&◌, not, Bool, true, false, List, [], ◌∷◌, ◌++◌, length, take, refl, sym, ◌∙◌, subst, arith}
 use Rattle.am_base.specs.declared.entry.Entry.{Entry}
 use Rattle.am_base.specs.declared.entry.Entry.TheVariants.{Leave}
-use Rattle.am_chain_lists.specs.Whole.{Begins}
-use Rattle.am_chain_lists.proofs.Prefixes.{begins_refl, begins_trans, begins_take, begins_both, length_take}
+use Rattle.am_base.specs.Whole.{Begins}
+use Rattle.am_base.proofs.Prefixes.{begins_refl, begins_trans, begins_take, begins_both, length_take}
 use Rattle.am_chain.specs.Group.{count, Node, opening, Group, chain_of, MayAccept, put}
 use Rattle.am_chain.specs.Moves.{Move, numbers, stores, accepts, learns, begins, raises, shows, serves, fetches, decides, gives_over, welcomes, asks}
 use Rattle.am_chain.specs.Moves.{departs, closes, stops, longer}
@@ -14,8 +14,8 @@ use Rattle.am_chain.proofs.Start.{start_kept}
 use Rattle.am_chain.proofs.Steps.{quiet_keeps}
 use Rattle.am_chain.proofs.Decide.{decides_keeps, chosen_old, decided_old, group_low}
 use Rattle.am_chain.proofs.Marks.{marks_keep}
-use Rattle.am_chain_lists.specs.Whole.{image_of}
-use Rattle.am_chain_lists.proofs.Prefixes.{begins_more}
+use Rattle.am_base.specs.Whole.{image_of}
+use Rattle.am_base.proofs.Prefixes.{begins_more}
 
 -- what grows along a run
 record Grows (s t : Group) : Type 0 where

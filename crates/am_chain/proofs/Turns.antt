@@ -8,9 +8,9 @@ use Rattle.am_base.specs.declared.entry.Entry.{Entry}
 use Rattle.am_base.specs.declared.entry.Entry.TheVariants.{Data}
 use Rattle.am_base.specs.Names.{place_of, life_of}
 use Rattle.am_base.specs.Lists.{blank, after, fold, AllFit, request_in, requests_of}
-use Rattle.am_chain_lists.proofs.Rows.{row_at, long_after}
+use Rattle.am_base.proofs.Rows.{row_at, long_after}
 use Rattle.am_chain.specs.OrdersClaims.{InTurn, RequestsInTurn, NoSendTwice, SendersInOrder, SendStandsOnce}
-use Rattle.am_chain_lists.proofs.Requests.{IsNext, own_request, entry_goes_on, next_at_first}
+use Rattle.am_base.proofs.Requests.{IsNext, own_request, entry_goes_on, next_at_first}
 
 -- ---- one entry before a list
 

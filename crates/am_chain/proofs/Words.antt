@@ -7,12 +7,12 @@ pub use Rattle.am_base.specs.{declared.name.Stamp.Stamp, Stamps.no_stamp}
 pub use Rattle.am_base.specs.declared.entry.Entry.TheVariants.{View, Data, Join, Leave}
 pub use Rattle.am_base.proofs.Greatest.{split}
 unfoldable pub use Rattle.am_base.specs.Lists.{fits, fold}
-pub use Rattle.am_chain_lists.specs.Whole.{Begins, IsGood, NotView, SmallName, image_of, view_of, resilience_of}
-unfoldable pub use Rattle.am_chain_lists.specs.Whole.{mem, key}
-pub use Rattle.am_chain_lists.proofs.{Order.key_by, Order.view_push, Order.view_up, Order.view_viewed, Rows.low_or_above, Rows.Spares}
-pub use Rattle.am_chain_lists.proofs.Prefixes.{begins_refl, begins_trans, begins_length, begins_more, begins_both, begins_pushed, begins_take, length_take}
-pub use Rattle.am_chain_lists.proofs.Prefixes.{begins_same, begins_push, length_push, below_begins, below_length, below_of, begins_nil}
-pub use Rattle.am_chain_lists.proofs.Members.{mem_push, good_push, mem_between, good_nil, mem_nil, mem_viewed, viewed_mem}
+pub use Rattle.am_base.specs.Whole.{Begins, IsGood, NotView, SmallName, image_of, view_of, resilience_of}
+unfoldable pub use Rattle.am_base.specs.Whole.{mem, key}
+pub use Rattle.am_base.proofs.{Order.key_by, Order.view_push, Order.view_up, Order.view_viewed, Rows.low_or_above, Rows.Spares}
+pub use Rattle.am_base.proofs.Prefixes.{begins_refl, begins_trans, begins_length, begins_more, begins_both, begins_pushed, begins_take, length_take}
+pub use Rattle.am_base.proofs.Prefixes.{begins_same, begins_push, length_push, below_begins, below_length, below_of, begins_nil}
+pub use Rattle.am_base.proofs.Members.{mem_push, good_push, mem_between, good_nil, mem_nil, mem_viewed, viewed_mem}
 pub use Rattle.am_chain.specs.{Runs.MayBegin, Runs.first_stamp, Runs.first_choice, Runs.start, Runs.IsNoDecision, Runs.quiet, Runs.quietly}
 pub use Rattle.am_chain.specs.{MovesClaims.QuietRunsKeep}
 pub use Rattle.am_chain.specs.Group.{Group, IsThere, IsUp, Node, opening, Views, how_many, counted_in, need_of, chain_of, Leads, MayAccept, current_of}

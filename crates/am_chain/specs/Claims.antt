@@ -1,6 +1,6 @@
 -- What is claimed of every run.
 use Rattle.std.specs.Prelude.{◌≡◌, ℕ, true, List}
-use Rattle.am_chain_lists.specs.Whole.{Begins}
+use Rattle.am_base.specs.Whole.{Begins}
 use Rattle.am_chain.specs.Group.{opening, Group, chain_of}
 use Rattle.am_chain.specs.Moves.{MayDecide, choice_of}
 use Rattle.am_chain.specs.Runs.{Run, Onward}

@@ -7,7 +7,7 @@ use Rattle.am_base.specs.declared.entry.Entry.TheVariants.{View}
 use Rattle.am_base.specs.Names.{has}
 use Rattle.am_base.specs.Lists.{members_of}
 use Rattle.am_base.specs.Fronts.{counted_of}
-use Rattle.am_chain_lists.specs.Whole.{Begins, image_of, mem, view_of, resilience_of, key}
+use Rattle.am_base.specs.Whole.{Begins, image_of, mem, view_of, resilience_of, key}
 
 -- a function with one value changed
 unfoldable pub put : {A : Type 0} → (ℕ → A) → ℕ → A → ℕ → A

@@ -4,7 +4,7 @@ use Rattle.am_base.specs.declared.name.Stamp.{Stamp}
 use Rattle.am_base.specs.declared.entry.Entry.{Entry}
 use Rattle.am_base.specs.declared.entry.Entry.TheVariants.{Leave}
 use Rattle.am_base.specs.Names.{has}
-use Rattle.am_chain_lists.specs.Whole.{Begins, BeginsBelow, IsGood, mem, view_of, key}
+use Rattle.am_base.specs.Whole.{Begins, BeginsBelow, IsGood, mem, view_of, key}
 use Rattle.am_chain.specs.Group.{how_many, counted_in, need_of, Node, opening, Views, Group, chain_of, current_of, IsThere, IsUp, Leads}
 
 -- what it was told is accepted, and what it gave out or may give out is what was accepted

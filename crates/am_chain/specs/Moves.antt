@@ -5,7 +5,7 @@ use Rattle.am_base.specs.declared.entry.Entry.{Entry}
 use Rattle.am_base.specs.declared.entry.Entry.TheVariants.{Data, Join, Leave, View}
 use Rattle.am_base.specs.Names.{has, is_within}
 use Rattle.am_base.specs.Lists.{members_of, fits}
-use Rattle.am_chain_lists.specs.Whole.{Begins, image_of, mem, view_of, resilience_of, key}
+use Rattle.am_base.specs.Whole.{Begins, image_of, mem, view_of, resilience_of, key}
 use Rattle.am_chain.specs.Group.{put, put2, Node, Chosen, opening, Group, IsThere, IsUp, Leads, IsOngoing, MayAccept, NoBetter}
 
 -- a sequencer numbers sends, Joins, and Leaves that others asked for

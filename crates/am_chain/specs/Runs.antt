@@ -3,7 +3,7 @@ use Rattle.std.specs.Prelude.{◌≡◌, ◌⊎◌, ℕ, ◌+◌, ◌<◌, ◌�
 use Rattle.am_base.specs.declared.name.Stamp.{Stamp}
 use Rattle.am_base.specs.Names.{has}
 use Rattle.am_base.specs.Stamps.{no_stamp}
-use Rattle.am_chain_lists.specs.Whole.{Begins, view_of, key}
+use Rattle.am_base.specs.Whole.{Begins, view_of, key}
 use Rattle.am_chain.specs.Group.{how_many, Node, Chosen, opening, Group, IsThere}
 use Rattle.am_chain.specs.Moves.{Move, decides}
 

@@ -40,8 +40,8 @@ use Rattle.am_handlers.specs.declared.reply.Reply.{Reply}
 use Rattle.am_handlers.specs.Replies.{packet_of, own_packet, own_letters, early, and_told, answer_of, letters_of, IsNoteWithin, IsOwnWithin, IsThere, MayPut}
 use Rattle.am_handlers.specs.Replies.{Ends, Replied, Leaves, Reaches, IsLast, Replies, Ended, is_departure, departed, quiet_of, polling_of, saying_of}
 use Rattle.am_handlers.specs.Replies.{asking_of}
-use Rattle.am_ends.proofs.Nodes.{Keeps, keeps_end}
-use Rattle.am_ends.proofs.Plans.{Alike, finish_alike, comes_whole}
+use Rattle.am_model.proofs.Nodes.{Keeps, keeps_end}
+use Rattle.am_model.proofs.Plans.{Alike, finish_alike, comes_whole}
 use Rattle.am_handlers.proofs.Ends.{told_same, top_same, end_self}
 use Rattle.am_handlers.proofs.Shown.{own_vote_same}
 use Rattle.am_handlers.proofs.{Keeping.at_end_who, LastView.view_same}

@@ -7,11 +7,11 @@ use Rattle.am_headline.proofs.RepairedWords.{ends_of, Group, Leads, counted_in, 
 use Rattle.am_headline.proofs.RepairedWords.{lowest_or_first, MayRepair, lawful_front, has_departed, take, World, current, run, fold_append, split}
 use Rattle.am_headline.proofs.RepairedWords.{names_hold, numbers_hold, taken_holds, after_view, NameStands, NamesNamed, Following, told_all, long_all}
 use Rattle.am_headline.proofs.RepairedWords.{counts_names, name_small, group_kept, stood, counted_whole, steps_move, held}
-use Rattle.am_chain_lists.specs.Whole.{image_of}
+use Rattle.am_base.specs.Whole.{image_of}
 use Rattle.am_headline.proofs.{Left.AllLeft, Left.GoneBy, Left.accepted, Left.last, Left.once, Left.runs_left, OneList.lawful_events, OneList.small_name}
 use Rattle.am_headline.proofs.OneList.{leader_runs}
 use Rattle.am_stands.proofs.Parts.{image_whole}
-use Rattle.am_chain_lists.proofs.Prefixes.{take_begins}
+use Rattle.am_base.proofs.Prefixes.{take_begins}
 use Rattle.am_base.specs.Lists.{image_at, members_at}
 use Rattle.am_headline.proofs.{OneList.leading, Upheld.Upheld, Upheld.upheld_start, Upheld.upheld_keeps}
 

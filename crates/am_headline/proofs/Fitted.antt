@@ -9,7 +9,7 @@ use Rattle.am_headline.proofs.Words.{lawful_front, World, start, with_step, run,
 use Rattle.am_headline.proofs.Words.{result, LetterSays, IsCause, WasSentTo, all_get, logged, numbers_hold, each_along, heard_used, run_owned, heard_names}
 use Rattle.am_headline.proofs.Words.{lists_go_on, item_get, item_within, PacketSays, PieceSays, told_all, long_all, number_low, departed_silent}
 use Rattle.am_headline.proofs.Words.{departed_quiet, departed_is, steps_move}
-use Rattle.am_chain_lists.specs.Whole.{image_of}
+use Rattle.am_base.specs.Whole.{image_of}
 use Rattle.am_packet.specs.declared.packet.Packet.TheVariants as packet
 use Rattle.am_model.specs.declared.status.Status.TheVariants as status
 use Rattle.am_model.specs.Node as nodes

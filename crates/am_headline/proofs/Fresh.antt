@@ -6,7 +6,7 @@ use Rattle.am_headline.proofs.RepairedWords.{is_member, is_sequencer, has_log, h
 use Rattle.am_headline.proofs.RepairedWords.{PacketSays, WelcomeTo, has_begun, has_gone, has_left, is_leaving, may_begin, Following, told_all, leading, GoesSo}
 use Rattle.am_packet.specs.Kinds.{kind_of}
 use Rattle.am_packet.specs.declared.packet.Packet.TheVariants as packet
-use Rattle.am_chain_lists.specs.Whole as whole
+use Rattle.am_base.specs.Whole as whole
 use Rattle.am_model.specs.declared.status.Status.TheVariants as status
 
 -- a name's Join fits no member's place, nor a past one's of its life

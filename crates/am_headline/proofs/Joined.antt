@@ -5,7 +5,7 @@ use Rattle.am_headline.proofs.Words.{is_for, item_at, Begins, IsGood, mem, In, r
 use Rattle.am_headline.proofs.Words.{in_mem, mem_viewed, Group, is_asking, founders_view, World, is_stopped, all_get, asking_log, PacketSays, WelcomeSays}
 use Rattle.am_headline.proofs.Words.{WelcomeTo, has_begun, has_gone, has_left, is_leaving, may_begin, Becomes, stayed, joins, founds, became, blank_nil}
 use Rattle.am_headline.proofs.Words.{Following}
-use Rattle.am_chain_lists.specs.Whole.{image_of}
+use Rattle.am_base.specs.Whole.{image_of}
 use Rattle.am_packet.specs.declared.packet.Packet.TheVariants as packet
 use Rattle.am_headline.proofs.{Inside.asking_stays, Fitted.letter_there}
 

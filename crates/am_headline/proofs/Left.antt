@@ -5,7 +5,7 @@ use Rattle.am_headline.proofs.RepairedWords.{begins_refl, begins_more, begins_tr
 use Rattle.am_headline.proofs.RepairedWords.{told_push, long_told, mem_in, in_mem, mem_between, leaver_in, leaver_out, Group, put, opening, Leads, chain_of, Move}
 use Rattle.am_headline.proofs.RepairedWords.{MayNumber, choice_of, longer, accepts, learns, begins, raises, shows, serves, gives_over, welcomes, asks, stops, Kept}
 use Rattle.am_headline.proofs.RepairedWords.{Run, founded, more, first_stamp, put_same, put_at, run_keeps, moves_grow, Becomes, stayed, joins, founds, became}
-use Rattle.am_chain_lists.specs.Whole.{image_of}
+use Rattle.am_base.specs.Whole.{image_of}
 use Rattle.am_chain.specs.Moves.{numbers, stores, fetches, decides, departs, closes}
 use Rattle.am_chain.specs.Group as groups
 

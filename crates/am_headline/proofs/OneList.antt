@@ -10,7 +10,7 @@ use Rattle.am_stands.proofs.Results.{tells_leads}
 use Rattle.am_stands.proofs.Owns.{run_owns}
 use Rattle.am_headline.specs.Calm.{is_past}
 use Rattle.am_headline.proofs.{RepairLists.is_past_by, Beginning.member_runs}
-use Rattle.am_chain_lists.specs.Whole.{image_of}
+use Rattle.am_base.specs.Whole.{image_of}
 use Rattle.am_headline.proofs.One.{one_sequencer}
 
 -- ---- a group that follows

@@ -7,7 +7,7 @@ use Rattle.am_headline.proofs.RepairWords.{begins_push, view_up, view_below, get
 use Rattle.am_headline.proofs.RepairWords.{slice_get_within, Fronts, run_owned, false, false_from_ne_true, is_member, is_stopped, Rules, MayFound, Event}
 use Rattle.am_headline.proofs.RepairWords.{MayRepair, is_past, after_same, IsBeginning, Agrees, HasLeft, OneListAgrees}
 use Rattle.am_headline.specs.Standing.{IsOneList}
-use Rattle.am_chain_lists.specs.Whole as whole
+use Rattle.am_base.specs.Whole as whole
 use Rattle.am_play.specs.Lawful as lists
 use Rattle.am_headline.proofs.{Nodes.acting, Nodes.leading, ReportedRuns.known_is_taken, Beginning.few_acting, Beginning.out_at_top}
 use Rattle.am_headline.proofs.{Beginning.member_runs, Going.member_there, RepairLists.entry_within}

@@ -4,7 +4,7 @@ use Rattle.am_headline.proofs.RepairWords.{length-append, nat_tests, slice_get_w
 use Rattle.am_headline.proofs.RepairWords.{members_of, after, fits, with_entry, counted_of, counted_at, get_before, image-push, long_after, in_after, is_view}
 use Rattle.am_headline.proofs.RepairWords.{split, in_is, data_member, inl, inr, ⊎_elim, ◌&&◌, ◌||◌, ◌==◌, nat_lt, Bool, Row, place_of, life_of, at_place}
 use Rattle.am_headline.proofs.RepairWords.{row_of, row_at, Past, past_after, is_past, mod16}
-use Rattle.am_chain_lists.proofs.Rows.{set_keeps}
+use Rattle.am_base.proofs.Rows.{set_keeps}
 
 -- ---- a list that goes on
 

@@ -46,11 +46,11 @@ pub use Rattle.am_play.specs.{World.does_event}
 pub use Rattle.am_play.specs.Settle.{event_at, Settling, hearings, and_then, ticks, round, round_count, hearings_of}
 unfoldable pub use Rattle.am_play.specs.{Settle.running, Settle.waves, Settle.rounds, Settle.settle_events, Settle.hearings_from}
 pub use Rattle.am_play.proofs.{Runs.runs_go_on, Beginnings.happens_begins, Beginnings.happen_begins}
-pub use Rattle.am_chain_lists.proofs.{Rows.row_at, Rows.row_set, Rows.Past, Rows.past_after, Rows.not_both, Members.fold_append, Members.good_begins}
-pub use Rattle.am_chain_lists.proofs.{Order.view_up, Order.view_below}
-pub use Rattle.am_chain_lists.proofs.Prefixes.{begins_length, begins_take, length_take, take_begins, begins_both, begins_push}
-pub use Rattle.am_chain_lists.specs.Whole.{IsGood, key}
-unfoldable pub use Rattle.am_chain_lists.specs.Whole.{mem, view_of}
+pub use Rattle.am_base.proofs.{Rows.row_at, Rows.row_set, Rows.Past, Rows.past_after, Rows.not_both, Members.fold_append, Members.good_begins}
+pub use Rattle.am_base.proofs.{Order.view_up, Order.view_below}
+pub use Rattle.am_base.proofs.Prefixes.{begins_length, begins_take, length_take, take_begins, begins_both, begins_push}
+pub use Rattle.am_base.specs.Whole.{IsGood, key}
+unfoldable pub use Rattle.am_base.specs.Whole.{mem, view_of}
 pub use Rattle.am_meaning.proofs.{Held.end_core, AcceptFronts.above_view, AcceptFronts.below_view}
 pub use Rattle.am_meaning.specs.Laws.{AllSatisfied}
 pub use Rattle.am_laws.proofs.{Calls.node_if, Says.acts_pushed, Says.leads_pushed, Rests.leads_rests, Rests.SameStanding, Rests.with_sends, Items.get_take}

@@ -33,7 +33,7 @@ pub use Rattle.am_model.specs.{Node.image_of as told_at, Joining.with_admitted}
 unfoldable pub use Rattle.am_model.specs.Joining.{join_ask_row}
 pub use Rattle.am_play.specs.{Lawful.lawful_front, Settle.settle_events}
 pub use Rattle.am_headline.specs.Claim.{MayRepair, HasCaughtUp, Repairs}
-pub use Rattle.am_chain_lists.proofs.Members.{ends_of}
+pub use Rattle.am_base.proofs.Members.{ends_of}
 pub use Rattle.am_laws.proofs.{Hearing.other_heard, Rests.rests_closed}
 pub use Rattle.am_laws.specs.Changes.{for_ballot, departs}
 pub use Rattle.am_laws.proofs.{Taken.stamp_by, Taken.other_asks, TakenRuns.taken_holds, TakenRuns.AllOwned, TakenRuns.each_owned, ViewChanges.next_above}

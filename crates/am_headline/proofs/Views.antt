@@ -3,7 +3,7 @@ use Rattle.am_headline.proofs.Words.{◌≡◌, ◌≢◌, ◌⊎◌, ⊎_elim, 
 use Rattle.am_headline.proofs.Words.{append_assoc, arith, Entry, Image, Stamp, Rules, size, members_of, Packet, item_at, Begins, view_of, key, begins_trans}
 use Rattle.am_headline.proofs.Words.{begins_length, length_push, Group, IsUp, Kept, Node, top, World, NameStands, LinesOpen, Grows, long_all, taken_more}
 use Rattle.am_headline.proofs.Words.{image_whole}
-use Rattle.am_chain_lists.specs.Whole.{image_of}
+use Rattle.am_base.specs.Whole.{image_of}
 use Rattle.am_packet.specs.declared.packet.Packet.TheVariants as packet
 use Rattle.am_chain.specs.Group as groups
 use Rattle.am_headline.proofs.{Lists.item_begins, Shapes.Shaped, Fits.FitsAt, Rows.Stores}

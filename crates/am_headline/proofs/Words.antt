@@ -50,7 +50,7 @@ unfoldable pub use Rattle.am_play.specs.{World.happen, Lawful.watch_all, Lawful.
 pub use Rattle.am_play.specs.Lawful.{Watch, watch_run, watch_start, broken_at, lawful_front, greater_complete, broken_now, counts, is_lost, has_stored, lags}
 pub use Rattle.am_play.specs.Claims.{BecameComplete, FitsView, ViewsFit, Segment, KeepsView, Holds, HeadlineHolds}
 pub use Rattle.am_play.proofs.{Runs.front_is_lawful, Runs.watched_is_run, Runs.one_record_each, Runs.runs_go_on, Beginnings.runs_begin}
-pub use Rattle.am_chain_lists.proofs.{Rows.in_viewed, Order.lt_key}
+pub use Rattle.am_base.proofs.{Rows.in_viewed, Order.lt_key}
 pub use Rattle.am_laws.specs.Courses.{at_end}
 pub use Rattle.am_laws.proofs.Tests.{or_first}
 pub use Rattle.am_laws.proofs.Changes.{kept_change}

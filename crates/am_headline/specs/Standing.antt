@@ -9,7 +9,7 @@ use Rattle.am_group.specs.declared.event.Event.{Event}
 use Rattle.am_model.specs.Node.{Node, top, image_of, members, is_member}
 use Rattle.am_play.specs.Settle.{settle_events}
 use Rattle.am_play.specs.World.{World, current, is_stopped, happen, run}
-use Rattle.am_chain_lists.specs.Whole as whole
+use Rattle.am_base.specs.Whole as whole
 use Rattle.am_play.specs.Lawful as lists
 use Rattle.am_play.specs.Lawful.{lawful_front}
 use Rattle.am_laws.specs.Letters.{MayTell}

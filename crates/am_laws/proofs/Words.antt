@@ -60,8 +60,8 @@ pub use Rattle.am_model.proofs.Founders.{first_founder}
 pub use Rattle.am_play.specs.{Claims.Begins, Lawful.broken_at, Lawful.before_break}
 pub use Rattle.am_play.specs.World.{lives_on, group_with, group_after, Decided, founders_decided, last_view, views_after}
 pub use Rattle.am_play.proofs.Beginnings.{runs_begin}
-pub use Rattle.am_chain_lists.proofs.{Requests.has_in, Order.rank_same, Members.index_members}
-pub use Rattle.am_chain_lists.proofs.Rows.{and_right, In, mod16, long_after, set_keeps, row_view, Spares, in_after, and_left, blank_joined}
+pub use Rattle.am_base.proofs.{Requests.has_in, Order.rank_same, Members.index_members}
+pub use Rattle.am_base.proofs.Rows.{and_right, In, mod16, long_after, set_keeps, row_view, Spares, in_after, and_left, blank_joined}
 pub use Rattle.am_meaning.proofs.{AcceptFronts.accept_front_is, Bytes.spelling_is_heard, Bytes.cut_is_heard}
 pub use Rattle.am_laws.proofs.{Nodes.Each, Nodes.each_node_keeps, Nodes.first_has, Statuses.logged, Statuses.asking_log, Rests.rests_refresh}
 pub use Rattle.am_laws.proofs.{Rests.settle_is, Rests.rests_at_end, Rests.with_fronts, Rests.refresh_is, Rests.passed, EffectRuns.EachKeeps, EffectRuns.runs_keep}

@@ -15,7 +15,7 @@ use Rattle.am_parts.specs.Sends.{Sends}
 use Rattle.am_model.specs.Node.{Node, top, image_of}
 use Rattle.am_model.specs.Step.{row, step}
 use Rattle.am_model.specs.Ends.{IsEndOf, Does}
-use Rattle.am_ends.proofs.Hearing.{ends_step_alike}
+use Rattle.am_model.proofs.Hearing.{ends_step_alike}
 use Rattle.am_handlers.proofs.Ends.{top_end, told_end}
 use Rattle.am_model.specs.Info.{info_of, waited_for}
 use Rattle.am_model.specs.Nodes.{HasNumbersLeft}

@@ -3,3 +3,11 @@ pub mod Letters
 pub mod LettersHeard
 pub mod Sends
 pub mod Founders
+pub mod EndWords
+pub mod Nodes
+pub mod Plans
+pub mod Ballots
+pub mod Calls
+pub mod Sequencing
+pub mod Hearing
+pub mod Steps

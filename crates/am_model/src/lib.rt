@@ -2,4 +2,5 @@
 #![tactic(auto)]
 
 pub mod info;
+pub mod laws;
 pub mod status;

@@ -1,20 +1,21 @@
 -- The words of this crate's proofs, of the crates and definitions that they come from.
-pub use Rattle.am_ends.proofs.Words.{◌≡◌, ℕ, Bool, true, false, not, ◌&&◌, ◌||◌, ◌==◌, nat_lt, nat_le, refl, sym, ◌∙◌, arith, ◌+◌, List, if◌then◌else◌}
-pub use Rattle.am_ends.proofs.Words.{Option, Some, None, ap, ◌<◌, ◌≤◌, subst, nat_tests, Stamp, Image, stamp_lt, stamp_eq, row_of, at_place, members_of, Row}
-pub use Rattle.am_ends.proofs.Words.{Report, Outcome, Join, Leave, life_of, has, IsInOrder}
-pub use Rattle.am_ends.proofs.Words.{CoreState, split, Status, Node, view, is_member, only_name, is_within_bound, top, image_of, others, has_room, push_entry}
-pub use Rattle.am_ends.proofs.Words.{quiet, telling, nack_of, fetch_of, Plan, polling, welcome_of, begin_list, ask_next, asks_to_join}
-pub use Rattle.am_ends.proofs.Words.{number_join, asks_to_leave, row_at, is_unknown, take_report}
-unfoldable pub use Rattle.am_ends.proofs.Words.{welcome_row, join_ask_row, leave_ask_row}
+pub use Rattle.am_model.proofs.EndWords.{◌≡◌, ℕ, Bool, true, false, not, ◌&&◌, ◌||◌, ◌==◌, nat_lt, nat_le, refl, sym, ◌∙◌, arith, ◌+◌, List, if◌then◌else◌}
+pub use Rattle.am_model.proofs.EndWords.{Option, Some, None, ap, ◌<◌, ◌≤◌, subst, nat_tests, Stamp, Image, stamp_lt, stamp_eq, row_of, at_place, members_of, Row}
+pub use Rattle.am_model.proofs.EndWords.{Report, Outcome, Join, Leave, life_of, has, IsInOrder}
+pub use Rattle.am_model.proofs.EndWords.{CoreState, split, Node, view, is_member, only_name, is_within_bound, top, image_of, others, has_room, push_entry}
+pub use Rattle.am_model.specs.declared.status.Status.{Status}
+pub use Rattle.am_model.proofs.EndWords.{quiet, telling, nack_of, fetch_of, Plan, polling, welcome_of, begin_list, ask_next, asks_to_join}
+pub use Rattle.am_model.proofs.EndWords.{number_join, asks_to_leave, row_at, is_unknown, take_report}
+unfoldable pub use Rattle.am_model.proofs.EndWords.{welcome_row, join_ask_row, leave_ask_row}
 pub use Rattle.std.{proofs.Common.◌≢◌, proofs.Common.slice_index, proofs.Common.slice_index_or, proofs.Math.ListN.get_or-map}
 pub use Rattle.std.{proofs.lemmas.List.get_or-set_other}
 pub use Rattle.am_base.specs.{Lists.blank_row, Lists.member_life, Lists.with_row, Names.place_of}
 unfoldable pub use Rattle.am_base.specs.Lists.{fold, fits, after}
-pub use Rattle.am_parts.proofs.Ends.{told-push}
-pub use Rattle.am_parts.specs.Reports.{with_admitted, reports_of}
+pub use Rattle.am_state.proofs.Ends.{told-push}
+pub use Rattle.am_state.specs.Reports.{with_admitted, reports_of}
 pub use Rattle.am_model.specs.{declared.status.Status.TheVariants.Asking, declared.status.Status.TheVariants.Member, Node.has_log, Node.is_asking}
 pub use Rattle.am_model.specs.{Joining.counts_report}
-pub use Rattle.am_ends.proofs.Sequencing.{alike_asks_to_leave}
+pub use Rattle.am_model.proofs.Sequencing.{alike_asks_to_leave}
 pub use Rattle.am_handlers.specs.{Keeps.NodeKeeps, Parts.node_of}
 pub use Rattle.am_handlers.proofs.{Keeping.keeps_steady, Keeping.keeps_pushed, Keeping.leading_log, Keeping.steady_serves}
 pub use Rattle.am_handlers.proofs.{Ends.end_self}

@@ -12,7 +12,7 @@ pub use Rattle.am_model.specs.{Emit.ack_of, Emit.quiet, Emit.telling, Emit.nack_
 pub use Rattle.am_model.specs.Node.{Node, image_of, members, only_name, push_entry, top, has_own_leave, is_within_bound, is_member}
 pub use Rattle.am_model.specs.Receiving.{bodies_after, acknowledges, store_fitting, with_noted, receive_entry, is_view, store}
 unfoldable pub use Rattle.am_model.specs.Receiving.{accept_row, bcast_row, order_row}
-pub use Rattle.am_ends.proofs.{Hearing.alike_received}
+pub use Rattle.am_model.proofs.{Hearing.alike_received}
 pub use Rattle.am_handlers.proofs.{Ends.core_changes, Ends.end_self}
 pub use Rattle.am_handlers.proofs.Keeping.{at_end_who, keeps_steady, end_steady, end_keeps, steady_then, steady_leads, keeps_bodies, keeps_pushed, member_log}
 pub use Rattle.am_handlers.specs.{Keeps.NodeKeeps, Keeps.IsSteady, Parts.node_of, declared.parts.Parts.Parts}

@@ -30,7 +30,7 @@ use Rattle.am_play.specs.Group.{with_tag}
 use Rattle.am_model.specs.Ends.{IsEndOf, Does}
 use Rattle.am_meaning.proofs.Bytes.{spelling_is_heard}
 use Rattle.am_model.specs.Nodes.{HasNumbersLeft}
-use Rattle.am_ends.proofs.Steps.{step_end, end_high}
+use Rattle.am_model.proofs.Steps.{step_end, end_high}
 use Rattle.am_play.proofs.Runs.{runs_go_on}
 use Rattle.am_laws.proofs.RunCounts.{numbers_hold}
 use Rattle.am_wire.specs.declared.rule.Terms.{Terms}

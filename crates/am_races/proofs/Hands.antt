@@ -25,7 +25,7 @@ use Rattle.am_chooser.specs.declared.chooser.Choice.{Choice}
 use Rattle.am_chooser.specs.declared.chooser.Choice.TheVariants as choice
 use Rattle.am_chooser.specs.Choices.{Luck, again, draw, after_draw, choice_of, act_of}
 use Rattle.am_chooser.specs.Choices as pump
-use Rattle.am_ends.proofs.Steps.{step_end}
+use Rattle.am_model.proofs.Steps.{step_end}
 use Rattle.am_wire.specs.declared.rule.Key.TheVariants.{Caller}
 use Rattle.am_wire.specs.declared.wire.WireRefusal.{WireRefusal}
 use Rattle.am_wire.specs.Passes.{Known}

@@ -11,7 +11,7 @@ use Rattle.am_group.specs.declared.plan.RacePlan.{RacePlan}
 use Rattle.am_model.specs.Node.{Node, founder, stranger}
 use Rattle.am_play.specs.World.{first_node}
 use Rattle.am_model.specs.Ends.{IsEndOf}
-use Rattle.am_ends.proofs.Steps.{own_end}
+use Rattle.am_model.proofs.Steps.{own_end}
 use Rattle.am_wire.specs.declared.rule.Key.TheVariants.{Place}
 use Rattle.am_wire.specs.Passes.{Known, fresh}
 use Rattle.am_wire.specs.Seats.{Follows}

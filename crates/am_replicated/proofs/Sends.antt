@@ -13,9 +13,9 @@ use Rattle.am_group.specs.Deliveries.{deliveries}
 use Rattle.am_play.specs.World.{World, run}
 use Rattle.am_play.specs.Claims.{IsSegment, BeginsAt, IsSend}
 use Rattle.am_play.specs.Lawful.{lawful_front}
-use Rattle.am_chain_lists.specs.Whole.{IsGood}
-use Rattle.am_chain_lists.proofs.Prefixes.{begins_take}
-use Rattle.am_chain_lists.proofs.Members.{good_begins}
+use Rattle.am_base.specs.Whole.{IsGood}
+use Rattle.am_base.proofs.Prefixes.{begins_take}
+use Rattle.am_base.proofs.Members.{good_begins}
 use Rattle.am_laws.proofs.Items.{get_take}
 use Rattle.am_headline.proofs.Holds.{headline_holds}
 use Rattle.am_seg.specs.Parts.{part_count, part_of}

@@ -11,11 +11,11 @@ use Rattle.am_base.specs.Names.{place_of, life_of}
 use Rattle.am_base.specs.declared.entry.Entry.{Entry}
 use Rattle.am_base.specs.declared.entry.Entry.TheVariants.{Data, Join, Leave, View}
 use Rattle.am_base.specs.Lists.{members_of, fits, request_in, requests_of}
-use Rattle.am_chain_lists.specs.Whole.{Begins, IsGood, image_of, mem}
-use Rattle.am_chain_lists.proofs.Prefixes.{begins_refl, begins_more, begins_trans, push_next, next_of}
-use Rattle.am_chain_lists.proofs.Members.{good_begins, last_fits, mem_between}
-use Rattle.am_chain_lists.proofs.Requests.{own_request}
-use Rattle.am_chain_lists.proofs.Rows.{and_left, same_name, low_or_above}
+use Rattle.am_base.specs.Whole.{Begins, IsGood, image_of, mem}
+use Rattle.am_base.proofs.Prefixes.{begins_refl, begins_more, begins_trans, push_next, next_of}
+use Rattle.am_base.proofs.Members.{good_begins, last_fits, mem_between}
+use Rattle.am_base.proofs.Requests.{own_request}
+use Rattle.am_base.proofs.Rows.{and_left, same_name, low_or_above}
 use Rattle.am_chain.proofs.Turns.{requests_in_turn}
 use Rattle.am_seg.specs.Parts.{part_count, part_of}
 use Rattle.am_seg.specs.Messages.{sent_from, from_place, parts_from}

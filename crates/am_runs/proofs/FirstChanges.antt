@@ -11,7 +11,7 @@ use Rattle.am_runs.proofs.UnballotedWords.{queues, collects, takes, asks_to_join
 use Rattle.am_parts.specs.Sends as own
 use Rattle.am_model.specs.declared.status.Status.TheVariants as status
 use Rattle.am_model.specs.Node as nodes
-use Rattle.am_chain_lists.proofs.Rows as rows
+use Rattle.am_base.proofs.Rows as rows
 use Rattle.am_runs.proofs.{UnballotedKept.first_of, UnballotedKept.NodeOk, UnballotedKept.CauseOk, UnballotedKept.node_more, UnballotedChanges.found_at, UnballotedChanges.settle_ok, UnballotedChanges.queued_ok}
 use Rattle.am_runs.proofs.{UnballotedChanges.collected_ok, Others.same_node, Others.looks_leave, Others.promised_first, Others.with_status, Others.with_promise}
 use Rattle.am_runs.proofs.{Others.taken_ok, Turns.Turn, Turns.waiting_is, Turns.one_more, Turns.waiting_settled, Turns.collected_turn, First.group_view}

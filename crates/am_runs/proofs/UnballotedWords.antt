@@ -39,11 +39,11 @@ pub use Rattle.am_model.proofs.{Sends.own_data, Founders.first_founder}
 pub use Rattle.am_play.specs.{World.record_of, World.group_after, Group.accepted_sends, Group.Accepted, Group.sent_in}
 pub use Rattle.am_play.specs.Claims.{welcomes, BeginsAt, UnballotedHolds, NoBallot, MovesOn, UnballotedMoves, is_welcome, welcomed_in, IsSend}
 pub use Rattle.am_play.specs.AbstractGroup.{Group, Move, append, Grows, none, more, next_of, admit, GivesOut, front_of, group_of}
-pub use Rattle.am_chain_lists.specs.Whole.{IsGood, image_of, SmallName, Begins}
-unfoldable pub use Rattle.am_chain_lists.specs.Whole.{mem, AllSmall}
-pub use Rattle.am_chain_lists.proofs.{Prefixes.begins_take, Prefixes.begins_push, Prefixes.length_take, Prefixes.begins_same, Prefixes.length_push}
-pub use Rattle.am_chain_lists.proofs.{Rows.same_name, Rows.row_at, Rows.row_set, Rows.row_view}
-pub use Rattle.am_chain_lists.proofs.Members.{good_push, mem_in, in_mem, mem_push, good_begins, told_push, long_told, viewed_mem}
+pub use Rattle.am_base.specs.Whole.{IsGood, image_of, SmallName, Begins}
+unfoldable pub use Rattle.am_base.specs.Whole.{mem, AllSmall}
+pub use Rattle.am_base.proofs.{Prefixes.begins_take, Prefixes.begins_push, Prefixes.length_take, Prefixes.begins_same, Prefixes.length_push}
+pub use Rattle.am_base.proofs.{Rows.same_name, Rows.row_at, Rows.row_set, Rows.row_view}
+pub use Rattle.am_base.proofs.Members.{good_push, mem_in, in_mem, mem_push, good_begins, told_push, long_told, viewed_mem}
 pub use Rattle.am_laws.specs.{Changes.Numbers, Changes.Promises, Letters.MayWelcome, Effects.WasQueued, Effects.AnswersAsk, Effects.HasTaken}
 pub use Rattle.am_laws.specs.{Effects.WasSettled, Effects.HasBegun, Events.IsIdle}
 pub use Rattle.am_laws.proofs.{Items.all_item, Items.get_take, Items.get_last, Items.all_get, Items.get_front, Items.get_push, Rests.rests_refresh}

@@ -3,7 +3,7 @@ use Rattle.am_stands.proofs.Words.{◌≡◌, ℕ, suc, ◌+◌, ◌-◌, ◌<�
 use Rattle.am_stands.proofs.Words.{arith, list_any, nat_tests, Entry, View, Image, Stamp, stamp_eq, after, fold, entry_at, item_at, Begins, IsGood, image_of}
 use Rattle.am_stands.proofs.Words.{view_of, key, next_of, told_push, view_viewed, Group, opening, Node, view, is_member, is_sequencer, is_view, viewed_by}
 use Rattle.am_stands.proofs.Words.{World, split, MayTell, leads, decided, after_same, after_view, ResultSays, OwnDecided}
-use Rattle.am_chain_lists.proofs.Members.{fold_append}
+use Rattle.am_base.proofs.Members.{fold_append}
 use Rattle.am_model.specs.Node as nodes
 use Rattle.am_stands.proofs.{Changes.told_all, Pieces.none_after, Sent.Speaks, Sent.leading, Parts.entry_whole}
 

@@ -46,14 +46,14 @@ pub use Rattle.am_model.specs.{Refresh.concerned_names, Ballots.with_end, Ballot
 pub use Rattle.am_model.proofs.Sets.{some_size, has_size, has_those}
 pub use Rattle.am_play.specs.{Claims.line_of, Lawful.whole, Lawful.is_view_of}
 unfoldable pub use Rattle.am_play.specs.Claims.{up_to_next, up_to_view}
-pub use Rattle.am_chain_lists.specs.Whole.{Begins, image_of, IsGood, BeginsBelow, NotView}
-unfoldable pub use Rattle.am_chain_lists.specs.Whole.{mem, view_of, key, resilience_of}
-pub use Rattle.am_chain_lists.proofs.Prefixes.{begins_take, begins_trans, begins_both, begins_length, length_take, begins_refl, begins_nil, begins_more}
-pub use Rattle.am_chain_lists.proofs.Prefixes.{below_of, below_length, length_push, begins_pushed, take_begins, begins_same, begins_push, next_of}
-pub use Rattle.am_chain_lists.proofs.Members.{good_begins, mem_between, mem_viewed, long_told, told_push, mem_in, in_mem, leaver_out, last_fits, mem_nil}
-pub use Rattle.am_chain_lists.proofs.Members.{viewed_mem, was_begins, good_push, leaver_in, mem_push}
-pub use Rattle.am_chain_lists.proofs.Rows.{low_or_above, row_at, row_set, same_name, Past, Was, past_after, not_both, view_parts}
-pub use Rattle.am_chain_lists.proofs.Order.{key_by, view_up, key_lt, view_small, view_viewed, view_push, view_below}
+pub use Rattle.am_base.specs.Whole.{Begins, image_of, IsGood, BeginsBelow, NotView}
+unfoldable pub use Rattle.am_base.specs.Whole.{mem, view_of, key, resilience_of}
+pub use Rattle.am_base.proofs.Prefixes.{begins_take, begins_trans, begins_both, begins_length, length_take, begins_refl, begins_nil, begins_more}
+pub use Rattle.am_base.proofs.Prefixes.{below_of, below_length, length_push, begins_pushed, take_begins, begins_same, begins_push, next_of}
+pub use Rattle.am_base.proofs.Members.{good_begins, mem_between, mem_viewed, long_told, told_push, mem_in, in_mem, leaver_out, last_fits, mem_nil}
+pub use Rattle.am_base.proofs.Members.{viewed_mem, was_begins, good_push, leaver_in, mem_push}
+pub use Rattle.am_base.proofs.Rows.{low_or_above, row_at, row_set, same_name, Past, Was, past_after, not_both, view_parts}
+pub use Rattle.am_base.proofs.Order.{key_by, view_up, key_lt, view_small, view_viewed, view_push, view_below}
 pub use Rattle.am_meaning.proofs.BestVotes.{best_vote_is}
 pub use Rattle.am_laws.proofs.{Resets.member_heard, Rests.leads_rests, Items.get_push, Says.leads_pushed}
 pub use Rattle.am_laws.specs.Letters.{MayTell, MayFetch}

@@ -5,7 +5,7 @@ use Rattle.am_base.specs.declared.entry.Entry.TheVariants.{Leave}
 use Rattle.am_base.specs.Names.{IsSet, size}
 use Rattle.am_base.specs.Fronts.{counted_at}
 use Rattle.am_base.specs.declared.name.Stamp.{Stamp}
-use Rattle.am_chain_lists.specs.Whole.{Begins, IsGood, key}
+use Rattle.am_base.specs.Whole.{Begins, IsGood, key}
 use Rattle.am_chain.specs.Group as groups
 use Rattle.am_chain.specs.Group.{Group, MayAccept}
 use Rattle.am_chain.specs.Kept.{Kept}

@@ -4,7 +4,7 @@ use Rattle.am_base.specs.declared.name.Stamp.{Stamp}
 use Rattle.am_base.specs.declared.entry.Entry.{Entry}
 use Rattle.am_base.specs.declared.entry.Entry.TheVariants.{View}
 use Rattle.am_base.specs.Names.{has}
-use Rattle.am_chain_lists.specs.Whole.{Begins, BeginsBelow, IsGood, mem, key}
+use Rattle.am_base.specs.Whole.{Begins, BeginsBelow, IsGood, mem, key}
 use Rattle.am_chain.specs.Group.{Group, IsUp, chain_of}
 use Rattle.am_chain.specs.Moves.{Move}
 use Rattle.am_chain.specs.Kept.{Kept}

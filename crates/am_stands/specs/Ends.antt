@@ -3,7 +3,7 @@ use Rattle.std.specs.Prelude.{◌≡◌, ℕ, ◌<◌, ◌≤◌, max, List, [],
 use Rattle.am_base.specs.declared.entry.Entry.{Entry}
 use Rattle.am_group.specs.declared.event.Event.{Event}
 use Rattle.am_base.specs.declared.entry.Entry.TheVariants.{Leave}
-use Rattle.am_chain_lists.specs.Whole.{Begins, mem, view_of, key}
+use Rattle.am_base.specs.Whole.{Begins, mem, view_of, key}
 use Rattle.am_chain.specs.Group as groups
 use Rattle.am_chain.specs.Group.{Group, IsUp, MayAccept, put}
 use Rattle.am_chain.specs.Moves.{longer}

@@ -4,7 +4,7 @@ use Rattle.am_base.specs.declared.entry.Entry.{Entry}
 use Rattle.am_base.specs.Names.{has}
 use Rattle.am_packet.specs.declared.packet.Packet.{Packet}
 use Rattle.am_group.specs.declared.event.Record.{Record}
-use Rattle.am_chain_lists.specs.Whole.{Begins, key}
+use Rattle.am_base.specs.Whole.{Begins, key}
 use Rattle.am_chain.specs.Group as groups
 use Rattle.am_chain.specs.Group.{Group}
 use Rattle.am_chain.specs.Moves.{Move, decides}

@@ -9,7 +9,7 @@ use Rattle.am_base.specs.Names.{has}
 use Rattle.am_packet.specs.declared.packet.Packet.{Packet}
 use Rattle.am_base.specs.Lists.{requests_of}
 use Rattle.am_parts.specs.Sends as own
-use Rattle.am_chain_lists.specs.Whole.{Begins, IsGood}
+use Rattle.am_base.specs.Whole.{Begins, IsGood}
 use Rattle.am_chain.specs.Group.{Group}
 use Rattle.am_chain.specs.Runs.{Run}
 use Rattle.am_model.specs.Node.{Node, Ballot, lowest_or_first, has_log}

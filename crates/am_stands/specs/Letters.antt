@@ -14,7 +14,7 @@ use Rattle.am_packet.specs.declared.packet.Packet.TheVariants.{Invite, Vote as V
 use Rattle.am_packet.specs.Boxes.{Letter}
 use Rattle.am_group.specs.Journals.{item_at}
 use Rattle.am_group.specs.declared.event.Record.{Record}
-use Rattle.am_chain_lists.specs.Whole.{Begins, image_of, mem, view_of, key}
+use Rattle.am_base.specs.Whole.{Begins, image_of, mem, view_of, key}
 use Rattle.am_chain.specs.Group.{Group, IsThere}
 use Rattle.am_play.specs.World.{World}
 use Rattle.am_play.specs.Claims.{IsSend}

@@ -3,7 +3,7 @@ use Rattle.std.specs.Prelude.{◌≡◌, ◌⊎◌, ℕ, ◌<◌, true}
 use Rattle.am_base.specs.declared.entry.Entry.{Entry}
 use Rattle.am_base.specs.declared.entry.Entry.TheVariants.{Data, Join, Leave, View}
 use Rattle.am_base.specs.Names.{IsSet, has}
-use Rattle.am_chain_lists.specs.Whole.{key}
+use Rattle.am_base.specs.Whole.{key}
 use Rattle.am_chain.specs.Group.{Group}
 use Rattle.am_chain.specs.Moves.{Move, Voted, decides, numbers, stops}
 

@@ -8,7 +8,7 @@ use Rattle.am_base.specs.Names.{has}
 use Rattle.am_base.specs.Lists.{at_place}
 use Rattle.am_packet.specs.declared.packet.Packet.{Packet}
 use Rattle.am_packet.specs.declared.packet.Packet.TheVariants as packet
-use Rattle.am_chain_lists.specs.Whole.{key}
+use Rattle.am_base.specs.Whole.{key}
 use Rattle.am_chain.specs.Group.{Group, IsThere}
 use Rattle.am_chain.specs.Kept.{Kept}
 use Rattle.am_model.specs.Node.{Node, Ballot, top, image_of, is_sequencer, has_log}

@@ -1,7 +1,7 @@
 -- What stands for what: a world of the definitions, and a group of whole lists.
 use Rattle.std.specs.Prelude.{◌≡◌, ◌≢◌, ℕ, ◌+◌, ◌<◌, ◌≤◌, List, [], ◌∷◌, ◌++◌, length, take, Some, Bool, true, false, slice_get}
 use Rattle.am_base.specs.Lists.{Log}
-use Rattle.am_chain_lists.specs.Whole.{Begins, image_of, key}
+use Rattle.am_base.specs.Whole.{Begins, image_of, key}
 use Rattle.am_chain.specs.Group as groups
 use Rattle.am_chain.specs.Group.{Chosen, Group, Views, opening}
 use Rattle.am_chain.specs.Runs as begun

@@ -9,7 +9,7 @@ use Rattle.am_base.specs.declared.outcome.Outcome.TheVariants as said
 use Rattle.am_base.specs.declared.image.Image.{Image}
 use Rattle.am_base.specs.Names.{life_of, has}
 use Rattle.am_base.specs.Lists.{at_place}
-use Rattle.am_chain_lists.specs.Whole.{Begins, image_of, mem, view_of, key}
+use Rattle.am_base.specs.Whole.{Begins, image_of, mem, view_of, key}
 use Rattle.am_chain.specs.Group as groups
 use Rattle.am_chain.specs.Group.{Group, opening, chain_of}
 use Rattle.am_model.specs.Node as nodes

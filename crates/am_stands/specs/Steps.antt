@@ -10,8 +10,8 @@ use Rattle.am_base.specs.Names.{IsSet, has}
 use Rattle.am_base.specs.Lists.{fits}
 use Rattle.am_packet.specs.declared.packet.Packet.TheVariants as packet
 use Rattle.am_group.specs.declared.event.Event.{Event}
-use Rattle.am_chain_lists.specs.Whole as whole
-use Rattle.am_chain_lists.specs.Whole.{view_of, key}
+use Rattle.am_base.specs.Whole as whole
+use Rattle.am_base.specs.Whole.{view_of, key}
 use Rattle.am_chain.specs.Group.{Group, IsOngoing}
 use Rattle.am_chain.specs.Moves.{with_node, MayNumber, MayWelcome, MayDecide}
 use Rattle.am_model.specs.Node.{Node, Ballot, image_of, view, members}

@@ -32,7 +32,7 @@ pub use Rattle.am_watching.specs.{declared.views.Standing.Standing}
 pub use Rattle.am_watching.specs.Watching.{Watching, first_watching, standing, watch_step as watched_step, stop, pass, accept}
 pub use Rattle.am_watching.specs.Watches.{Watches, Steps, SteppedTo, standing_of, view_of, additions, IsNew}
 pub use Rattle.am_watching.proofs.{Events.watched_after, Events.stepped_to, Steps.steps_are_watched}
-pub use Rattle.am_ends.proofs.Steps.{end_high, step_end, own_end}
+pub use Rattle.am_model.proofs.Steps.{end_high, step_end, own_end}
 pub use Rattle.am_node.specs.{declared.node.Node.Node, Stands.state_of}
 pub use Rattle.am_laws.proofs.{Items.get_push}
 pub use Rattle.am_laws.specs.{Numbers.NodeNumbers}

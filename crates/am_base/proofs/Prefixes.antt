@@ -1,6 +1,6 @@
 -- Lists that begin one another.
-use Rattle.am_chain_lists.proofs.Words.{◌≡◌, ◌⊎◌, ⊎_elim, inl, inr, ℕ, zero, suc, ◌+◌, ◌<◌, ◌≤◌, List, [], ◌∷◌, ◌++◌, length, take, Some, slice_get, refl}
-use Rattle.am_chain_lists.proofs.Words.{sym, ap, ◌∙◌, arith, append_assoc, append-nil, length-append, Entry, Begins, BeginsBelow}
+use Rattle.am_base.proofs.ChainWords.{◌≡◌, ◌⊎◌, ⊎_elim, inl, inr, ℕ, zero, suc, ◌+◌, ◌<◌, ◌≤◌, List, [], ◌∷◌, ◌++◌, length, take, Some, slice_get, refl}
+use Rattle.am_base.proofs.ChainWords.{sym, ap, ◌∙◌, arith, append_assoc, append-nil, length-append, Entry, Begins, BeginsBelow}
 
 pub begins_refl : (a : List Entry) → Begins a a
 begins_refl a = record { rest = []; same = append-nil a }

@@ -1,8 +1,5 @@
-//! A step reads nothing below the base, proved on the definitions alone.
-#![tactic(auto)]
-
 ghost use Rattle.am_model.specs.Ends.{EndsStepAlike};
-ghost use Rattle.am_ends.specs.Order.{StepsKeepOrder};
+ghost use Rattle.am_model.specs.Order.{StepsKeepOrder};
 
 /// Whatever a node does, the kept end of it does too: with the same answer and letters, and it comes to the end of the same node.
 #[tactic(auto, using(crate::proofs::Hearing::ends_step_alike))]

@@ -1,11 +1,11 @@
 -- Plans that are alike: the first comes to the node of the second with all of a list, and both say and send the same.
-use Rattle.am_ends.proofs.Words.{◌≡◌, ℕ, Bool, true, false, not, ◌&&◌, ◌||◌, nat_lt, if◌then◌else◌, List, [], refl, sym, ◌∙◌, ap, subst, Entry, Outcome}
-use Rattle.am_ends.proofs.Words.{without_name, Log, image_at, members_of, row_of, with_entry, IsEnd, Packet, Letter, with_letter, Departed, Node, image_of}
-use Rattle.am_ends.proofs.Words.{others, refresh_at_end, Step, Plan, quiet, telling, polling, and_telling, and_where, numbering, request_of, spread_of}
-use Rattle.am_ends.proofs.Words.{ack_of, nack_of, hold_of, welcome_of, leave_ask_of, fetch_of, with_accept, finish, vote_of, with_log, IsEndOf, ComesTo}
-use Rattle.am_ends.proofs.Words.{StepsAlike, IsOrdered}
+use Rattle.am_model.proofs.EndWords.{◌≡◌, ℕ, Bool, true, false, not, ◌&&◌, ◌||◌, nat_lt, if◌then◌else◌, List, [], refl, sym, ◌∙◌, ap, subst, Entry, Outcome}
+use Rattle.am_model.proofs.EndWords.{without_name, Log, image_at, members_of, row_of, with_entry, IsEnd, Packet, Letter, with_letter, Departed, Node, image_of}
+use Rattle.am_model.proofs.EndWords.{others, refresh_at_end, Step, Plan, quiet, telling, polling, and_telling, and_where, numbering, request_of, spread_of}
+use Rattle.am_model.proofs.EndWords.{ack_of, nack_of, hold_of, welcome_of, leave_ask_of, fetch_of, with_accept, finish, vote_of, with_log, IsEndOf, ComesTo}
+use Rattle.am_model.proofs.EndWords.{StepsAlike, IsOrdered}
 use Rattle.am_packet.specs.declared.packet.Packet.TheVariants as packet
-use Rattle.am_ends.proofs.Nodes.{Keeps, Whole, reads, end_trans, same_base, keeps_pushed, same_sequencer, at_end, keeps_at_end}
+use Rattle.am_model.proofs.Nodes.{Keeps, Whole, reads, end_trans, same_base, keeps_pushed, same_sequencer, at_end, keeps_at_end}
 
 -- the first says of a node with all of a list what the second says of the node
 abbrev pub Says : {X : Type 0} → (Node → X) → (Node → X) → Type 0

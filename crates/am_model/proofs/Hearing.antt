@@ -1,23 +1,23 @@
 -- What a member does with packets, and a whole step, on the kept end of a list as on all of it.
-use Rattle.am_ends.proofs.Words.{◌≡◌, ℕ, ◌+◌, ◌≤◌, max, Bool, true, false, not, ◌&&◌, ◌||◌, ◌==◌, nat_lt, nat_le, List, [], length, take, Option, Some, None}
-use Rattle.am_ends.proofs.Words.{refl, sym, ap, subst, arith, Ok, Err, list_any, nat_tests, Vote, Stamp, Entry, View, Outcome, NodeEvent, without_name}
-use Rattle.am_ends.proofs.Words.{names_of, stamp_lt, stamp_eq, Log, fits, row_of, members_of, with_entry, end-self, Packet, Read, reading, OwnSend, is_of}
-use Rattle.am_ends.proofs.Words.{keep_body, Node, Ballot, image_of, view, only_name, is_member, has_own_leave, is_within_bound, waiting, push_entry}
-use Rattle.am_ends.proofs.Words.{trim_up_to, Plan, ack_of, nack_of, fetch_of, piece_of, put_all, if_risen, spread_row, body_of, bodies_after, is_view}
-use Rattle.am_ends.proofs.Words.{with_noted, acknowledges, store_fitting, store, receive_entry, bcast_row, data_of, order_row, accept_row, answer_hold}
-use Rattle.am_ends.proofs.Words.{hold_row, with_promise, vote_of, invite_row, take_vote, vote_row, serve_pieces, fetch_row, is_view_past, push_fetched}
-use Rattle.am_ends.proofs.Words.{catch_up, decide_anew, fetches_from, piece_promised, piece_for, piece_row, hears_result, result_row, hand_over_row}
-use Rattle.am_ends.proofs.Words.{reset_row, hears_member, hears_in_view, hears_as_sequencer, hears_sequencer, where_heard, hear_row, read_row, row, step}
-use Rattle.am_ends.proofs.Words.{with_log, StepsAlike, EndsStepAlike, StepsKeepOrder}
+use Rattle.am_model.proofs.EndWords.{◌≡◌, ℕ, ◌+◌, ◌≤◌, max, Bool, true, false, not, ◌&&◌, ◌||◌, ◌==◌, nat_lt, nat_le, List, [], length, take, Option, Some, None}
+use Rattle.am_model.proofs.EndWords.{refl, sym, ap, subst, arith, Ok, Err, list_any, nat_tests, Vote, Stamp, Entry, View, Outcome, NodeEvent, without_name}
+use Rattle.am_model.proofs.EndWords.{names_of, stamp_lt, stamp_eq, Log, fits, row_of, members_of, with_entry, end-self, Packet, Read, reading, OwnSend, is_of}
+use Rattle.am_model.proofs.EndWords.{keep_body, Node, Ballot, image_of, view, only_name, is_member, has_own_leave, is_within_bound, waiting, push_entry}
+use Rattle.am_model.proofs.EndWords.{trim_up_to, Plan, ack_of, nack_of, fetch_of, piece_of, put_all, if_risen, spread_row, body_of, bodies_after, is_view}
+use Rattle.am_model.proofs.EndWords.{with_noted, acknowledges, store_fitting, store, receive_entry, bcast_row, data_of, order_row, accept_row, answer_hold}
+use Rattle.am_model.proofs.EndWords.{hold_row, with_promise, vote_of, invite_row, take_vote, vote_row, serve_pieces, fetch_row, is_view_past, push_fetched}
+use Rattle.am_model.proofs.EndWords.{catch_up, decide_anew, fetches_from, piece_promised, piece_for, piece_row, hears_result, result_row, hand_over_row}
+use Rattle.am_model.proofs.EndWords.{reset_row, hears_member, hears_in_view, hears_as_sequencer, hears_sequencer, where_heard, hear_row, read_row, row, step}
+use Rattle.am_model.proofs.EndWords.{with_log, StepsAlike, EndsStepAlike, StepsKeepOrder}
 use Rattle.am_base.specs.declared.outcome.Outcome.TheVariants as said
 use Rattle.am_base.specs.declared.event.NodeEvent.TheVariants as does
 use Rattle.am_packet.specs.declared.packet.Packet.TheVariants as packet
-use Rattle.am_ends.proofs.Plans.{alike, Alike, says_ack, says_nack, says_fetch, says_vote, alike_if, alike_case, alike_quiet, alike_saying, alike_sending}
-use Rattle.am_ends.proofs.Plans.{alike_telling, alike_where, finish_alike, finish_ordered}
-use Rattle.am_ends.proofs.Calls.{alike_send, alike_done, alike_take, alike_join, alike_state, alike_leave, alike_ask, alike_tick}
-use Rattle.am_ends.proofs.Sequencing.{same_served, alike_request, alike_ack, alike_nack, alike_join_ask, alike_welcome, alike_leave_ask, alike_gone_row}
-use Rattle.am_ends.proofs.{Nodes.Keeps, Nodes.keeps_end, Nodes.reads, Nodes.same_sequencer, Nodes.keeps_pushed, Nodes.keeps_trimmed, Ballots.keeps_promised}
-use Rattle.am_ends.proofs.{Ballots.alike_keep_vote, Ballots.alike_fetched_for, Ballots.alike_reset, Ballots.alike_give_up_row}
+use Rattle.am_model.proofs.Plans.{alike, Alike, says_ack, says_nack, says_fetch, says_vote, alike_if, alike_case, alike_quiet, alike_saying, alike_sending}
+use Rattle.am_model.proofs.Plans.{alike_telling, alike_where, finish_alike, finish_ordered}
+use Rattle.am_model.proofs.Calls.{alike_send, alike_done, alike_take, alike_join, alike_state, alike_leave, alike_ask, alike_tick}
+use Rattle.am_model.proofs.Sequencing.{same_served, alike_request, alike_ack, alike_nack, alike_join_ask, alike_welcome, alike_leave_ask, alike_gone_row}
+use Rattle.am_model.proofs.{Nodes.Keeps, Nodes.keeps_end, Nodes.reads, Nodes.same_sequencer, Nodes.keeps_pushed, Nodes.keeps_trimmed, Ballots.keeps_promised}
+use Rattle.am_model.proofs.{Ballots.alike_keep_vote, Ballots.alike_fetched_for, Ballots.alike_reset, Ballots.alike_give_up_row}
 
 -- ---- bodies and entries
 

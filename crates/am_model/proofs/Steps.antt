@@ -1,7 +1,7 @@
 -- What the kept end of a node tells of the node, and what its steps are.
-use Rattle.am_ends.proofs.Words.{◌≡◌, List, refl, sym, ◌∙◌, Outcome, NodeEvent, Letter, IsInOrder, end-self, end-top, top, step, row, IsEndOf, ComesTo, Does}
+use Rattle.am_model.proofs.EndWords.{◌≡◌, List, refl, sym, ◌∙◌, Outcome, NodeEvent, Letter, IsInOrder, end-self, end-top, top, step, row, IsEndOf, ComesTo, Does}
 use Rattle.am_model.specs.Node as protocol
-use Rattle.am_ends.proofs.Hearing.{ends_step_alike}
+use Rattle.am_model.proofs.Hearing.{ends_step_alike}
 
 -- a node of which nothing is trimmed is its own end
 pub own_end : (m : protocol.Node) → m.core.base ≡ m.core.log.start → IsEndOf m m

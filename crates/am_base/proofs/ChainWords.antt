@@ -9,5 +9,5 @@ pub use Rattle.am_base.specs.{Names.place_of, Names.life_of, Names.rank_of, Name
 pub use Rattle.am_base.specs.declared.entry.Entry.TheVariants.{Leave, View, Data, Join}
 pub use Rattle.am_base.specs.Lists.{blank_row, blank, members_of, member_life, at_place, is_blank, row_of, with_row, row_after_view, request_in, is_blank_row}
 unfoldable pub use Rattle.am_base.specs.Lists.{after, fits, fold, AllFit}
-pub use Rattle.am_chain_lists.specs.Whole.{Begins, IsGood, SmallName, image_of, NotView, BeginsBelow}
-unfoldable pub use Rattle.am_chain_lists.specs.Whole.{AllSmall, mem, view_of, resilience_of, key}
+pub use Rattle.am_base.specs.Whole.{Begins, IsGood, SmallName, image_of, NotView, BeginsBelow}
+unfoldable pub use Rattle.am_base.specs.Whole.{AllSmall, mem, view_of, resilience_of, key}

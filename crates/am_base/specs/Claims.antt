@@ -1,7 +1,7 @@
 -- What is claimed of whole lists.
 use Rattle.std.specs.Prelude.{◌≡◌, ◌≤◌, ℕ, true, List}
 use Rattle.am_base.specs.declared.entry.Entry.{Entry}
-use Rattle.am_chain_lists.specs.Whole.{Begins, IsGood, mem, key, view_of, resilience_of}
+use Rattle.am_base.specs.Whole.{Begins, IsGood, mem, key, view_of, resilience_of}
 
 abbrev pub MembersStayBetween : Type 0
 MembersStayBetween = (a b c : List Entry) (name : ℕ) → IsGood c → Begins a b → Begins b c → mem a name ≡ true → mem c name ≡ true → mem b name ≡ true

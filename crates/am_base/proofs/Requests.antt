@@ -1,10 +1,10 @@
 -- Which request of a name comes next, by the row of its place.
-use Rattle.am_chain_lists.proofs.Words.{split, ◌≡◌, ◌≢◌, ◌⊎◌, ⊎_elim, inl, inr, ℕ, ◌+◌, ◌<◌, ◌==◌, ◌&&◌, nat_lt, true, false, not, List, [], ◌∷◌, length}
-use Rattle.am_chain_lists.proofs.Words.{slice_index, refl, sym, ap, ◌∙◌, subst, arith, nat_tests, get_or-map, Stamp, Image, Row, Entry, Data, Join, Leave}
-use Rattle.am_chain_lists.proofs.Words.{View, has, place_of, life_of, blank_row, blank, is_blank, row_of, member_life, members_of, with_row, row_after_view}
-use Rattle.am_chain_lists.proofs.Words.{after, fits, request_in}
-use Rattle.am_chain_lists.proofs.{Rows.same_name, Rows.row_at, Rows.In, Rows.and_left, Rows.and_right, Rows.mod16, Rows.row_set, Rows.row_view}
-use Rattle.am_chain_lists.proofs.{Rows.blank_joined, Members.member_in}
+use Rattle.am_base.proofs.ChainWords.{split, ◌≡◌, ◌≢◌, ◌⊎◌, ⊎_elim, inl, inr, ℕ, ◌+◌, ◌<◌, ◌==◌, ◌&&◌, nat_lt, true, false, not, List, [], ◌∷◌, length}
+use Rattle.am_base.proofs.ChainWords.{slice_index, refl, sym, ap, ◌∙◌, subst, arith, nat_tests, get_or-map, Stamp, Image, Row, Entry, Data, Join, Leave}
+use Rattle.am_base.proofs.ChainWords.{View, has, place_of, life_of, blank_row, blank, is_blank, row_of, member_life, members_of, with_row, row_after_view}
+use Rattle.am_base.proofs.ChainWords.{after, fits, request_in}
+use Rattle.am_base.proofs.{Rows.same_name, Rows.row_at, Rows.In, Rows.and_left, Rows.and_right, Rows.mod16, Rows.row_set, Rows.row_view}
+use Rattle.am_base.proofs.{Rows.blank_joined, Members.member_in}
 
 -- the next request of this life of a place: the first as long as the life has not joined, else the one after its last; where
 -- a greater life has joined there is none, and any number will do

@@ -47,4 +47,4 @@ unfoldable pub use Rattle.am_model.specs.{Refresh.refresh, Refresh.settle, Refre
 unfoldable pub use Rattle.am_model.specs.{Joining.leave_ask_row, Joining.gone_row}
 unfoldable pub use Rattle.am_model.specs.Calls.{reset_row, give_up_row, everywhere_else, send_row, done_row, take_row, join_row, state_row, leave_row}
 unfoldable pub use Rattle.am_model.specs.Calls.{ask_row}
-pub use Rattle.am_ends.specs.Order.{StepsKeepOrder, IsOrdered}
+pub use Rattle.am_model.specs.Order.{StepsKeepOrder, IsOrdered}

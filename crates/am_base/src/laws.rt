@@ -1,7 +1,4 @@
-//! Whole lists of a group: which of them begins which, and what of it tells their order.
-#![tactic(auto)]
-
-ghost use Rattle.am_chain_lists.specs.Claims.{MembersStayBetween, ViewsRise};
+ghost use Rattle.am_base.specs.Claims.{MembersStayBetween, ViewsRise};
 
 /// A member of a list who is a member of a longer one too is a member all the way between.
 pub fn members_stay_between()

@@ -1,5 +1,0 @@
-use Rattle.am_chain_lists.proofs.Members.{mem_between}
-use Rattle.am_chain_lists.proofs.members_stay_between.Goals as goal
-
-pub returns : goal.returns
-returns c = λ a b c name g h k x y. mem_between name g h k x y
