@@ -2,7 +2,7 @@
 use Rattle.am_acting.proofs.Words.{◌≡◌, ℕ, ◌≤◌, List, [], ◌∷◌, filter, find, Bool, true, false, not, None, refl, sym, ◌∙◌, ap, subst, arith}
 use Rattle.am_acting.proofs.Words.{life_of, at_place, split, OwnSend, Node, image_of}
 use Rattle.am_acting.proofs.Words.{is_member, NodeKeeps, IsDue, keeps_steady, member_log, MaySend}
-use Rattle.am_parts.specs.Sends as own
+use Rattle.am_state.specs.Sends as own
 
 pub keeps_taken : (m : Node) (number : ℕ) → m.core.taken ≤ number → NodeKeeps m → NodeKeeps (record m { core = record (m.core) { taken = number } })
 keeps_taken m number more keeps = keeps_steady m (record m { core = record (m.core) { taken = number } })

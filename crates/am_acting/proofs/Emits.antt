@@ -5,7 +5,7 @@ use Rattle.am_acting.proofs.Words.{Node, top, image_of, view, others, only_name,
 use Rattle.am_acting.proofs.Words.{hand_in, NodeKeeps, keeps_pushed, leading_log, noting, own_send, with_letter, refresh_at_end, end_self, bcast_of}
 use Rattle.am_acting.proofs.Words.{Reply, Replies, saying_of, replies_as, says}
 use Rattle.am_base.specs.Limits.{IsNumber}
-use Rattle.am_parts.specs.Sends as own
+use Rattle.am_state.specs.Sends as own
 use Rattle.am_model.specs.Emit.{request_of, spread_of}
 use Rattle.am_handlers.specs.Replies.{early}
 use Rattle.am_handlers.specs.declared.reply.OwnLetter.TheVariants as own_letter

@@ -4,7 +4,7 @@ use Rattle.am_acting.proofs.Words.{count_by, nat_tests, Leave, Outcome, size, sp
 use Rattle.am_acting.proofs.Words.{waiting, unsettled_count, has_room, is_member, is_sequencer, push_entry, Plan, quiet, telling, finish, go, is_unfinished}
 use Rattle.am_acting.proofs.Words.{leave_now, leave_row, leave_by, Replies, saying_of, same_step}
 use Rattle.am_base.specs.declared.outcome.Outcome.TheVariants as said
-use Rattle.am_parts.specs.Sends as own
+use Rattle.am_state.specs.Sends as own
 use Rattle.am_model.specs.Emit.{leave_ask_of, hand_over_of}
 use Rattle.am_model.specs.declared.status.Status.TheVariants as status
 use Rattle.am_handlers.specs.Replies.{MayDepart}

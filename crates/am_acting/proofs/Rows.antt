@@ -4,7 +4,7 @@ use Rattle.am_acting.proofs.Words.{ap, arith, list_any, nat_tests, Entry, entry_
 use Rattle.am_acting.proofs.Words.{send_row, done_row, take_row, give_out, join_row, join_by, queue, with_queued, emit, spread_row, hold_row, answer_hold}
 use Rattle.am_acting.proofs.Words.{row_at, gone_row, waits_for}
 use Rattle.am_base.specs.declared.outcome.Outcome.TheVariants as said
-use Rattle.am_parts.specs.Sends as own
+use Rattle.am_state.specs.Sends as own
 use Rattle.am_model.specs.declared.status.Status.TheVariants as status
 
 -- what isn't below

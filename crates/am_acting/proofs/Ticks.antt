@@ -6,7 +6,7 @@ use Rattle.am_acting.proofs.Words.{Plan, quiet, telling, finish, would_emit, emi
 use Rattle.am_acting.proofs.Words.{tick_sequencer, tick_acting, tick_with, tick_by, tick_row, put_off, end_self, Telling, Reply, Replies, Ends, saying_of}
 use Rattle.am_acting.proofs.Words.{replies_quiet, replies_telling, replies_as, says, same_step, refresh_at_end, and_poll, handing, again_of, again_of_ballot, own_send}
 use Rattle.am_base.specs.declared.outcome.Outcome.TheVariants as said
-use Rattle.am_parts.specs.Sends as own
+use Rattle.am_state.specs.Sends as own
 use Rattle.am_model.specs.Emit.{ack_of, fetch_of}
 use Rattle.am_model.specs.declared.status.Status.TheVariants as status
 use Rattle.am_handlers.specs.Replies.{and_told, and_view, polled_of, MayDepart}

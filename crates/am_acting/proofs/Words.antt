@@ -11,11 +11,11 @@ pub use Rattle.am_base.specs.Lists.{at_place, entry_at}
 unfoldable pub use Rattle.am_base.specs.Lists.{fits}
 pub use Rattle.am_base.proofs.Places.{by_place_all}
 pub use Rattle.am_packet.specs.{Boxes.with_letter}
-pub use Rattle.am_parts.proofs.{Folds.split, Members.members_pushed}
-pub use Rattle.am_parts.specs.{Kept.IsKept}
-pub use Rattle.am_parts.specs.Bodies.{is_of, keep_body}
-pub use Rattle.am_parts.specs.declared.sender.OwnSend.{OwnSend}
-pub use Rattle.am_parts.proofs.Lines.{waiting_next}
+pub use Rattle.am_state.proofs.{Folds.split, Members.members_pushed}
+pub use Rattle.am_state.specs.{Kept.IsKept}
+pub use Rattle.am_state.specs.Bodies.{is_of, keep_body}
+pub use Rattle.am_state.specs.declared.sender.OwnSend.{OwnSend}
+pub use Rattle.am_state.proofs.Lines.{waiting_next}
 pub use Rattle.am_model.specs.{declared.status.Status.Status, Emit.quiet, Emit.Plan, Emit.bcast_of}
 pub use Rattle.am_model.specs.{Receiving.answer_hold, Sequencing.row_at}
 pub use Rattle.am_model.specs.Node.{Node, image_of, view, is_member, top, others, only_name, own_row, acts, has_room, is_sequencer, waiting}

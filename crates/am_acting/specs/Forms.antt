@@ -3,7 +3,7 @@ use Rattle.std.specs.Prelude.{◌==◌, ℕ, List, Option, Some, None, Bool, tru
 use Rattle.am_base.specs.declared.outcome.Outcome.{Outcome}
 use Rattle.am_base.specs.declared.outcome.Outcome.TheVariants as said
 use Rattle.am_packet.specs.declared.packet.Packet.{Packet}
-use Rattle.am_parts.specs.declared.sender.OwnSend.{OwnSend}
+use Rattle.am_state.specs.declared.sender.OwnSend.{OwnSend}
 use Rattle.am_model.specs.Node.{Node, Ballot, only_name}
 use Rattle.am_model.specs.Emit.{Plan, quiet, telling, and_telling, hand_over_of}
 use Rattle.am_model.specs.Ticks.{and_result}

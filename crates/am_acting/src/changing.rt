@@ -1,7 +1,7 @@
 ghost use Rattle.std.specs.Prelude.{◌≡◌, ◌<◌, ◌≤◌, ◌+◌, length, true, false, None, IfOk, IfErr, IsOk, OnOk, OnErr, ◌↔◌};
 ghost use Rattle.am_handlers.specs.Prelude.{most_number, is_member, waiting, node_of};
-ghost use Rattle.am_parts.specs.Sends.{submit, collect, collect_outcome};
-ghost use Rattle.am_parts.specs.Bodies.{keep_body};
+ghost use Rattle.am_state.specs.Sends.{submit, collect, collect_outcome};
+ghost use Rattle.am_state.specs.Bodies.{keep_body};
 
 use am_base::body::{BodyRef, SentBody};
 use am_base::name::Name;

@@ -2,7 +2,7 @@ ghost use Rattle.std.specs.Prelude.{◌≡◌, ◌<◌, ◌+◌, ◌&&◌, nat_l
 ghost use Rattle.am_handlers.specs.Prelude.{most_number, IsNumber, top_of, acts, is_sequencer, push_entry, top, view, waiting, node_of};
 ghost use Rattle.am_handlers.specs.Replies.{Replies};
 ghost use Rattle.am_base.specs.declared.entry.Entry.TheVariants.{Data};
-ghost use Rattle.am_parts.specs.Sends.{waiting_send};
+ghost use Rattle.am_state.specs.Sends.{waiting_send};
 ghost use Rattle.am_model.specs.Node.{own_row};
 ghost use Rattle.am_model.specs.Calls.{hand_in, emit};
 ghost use Rattle.am_acting.specs.Forms.{own_send};

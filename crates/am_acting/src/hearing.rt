@@ -2,7 +2,7 @@ ghost use Rattle.std.specs.Prelude.{◌≡◌, ◌||◌, nat_le};
 ghost use Rattle.std.specs.List.{list_any};
 ghost use Rattle.am_handlers.specs.Prelude.{waiting, node_of};
 ghost use Rattle.am_handlers.specs.Replies.{Replies};
-ghost use Rattle.am_parts.specs.Bodies.{is_of};
+ghost use Rattle.am_state.specs.Bodies.{is_of};
 ghost use Rattle.am_model.specs.Sequencing.{row_at};
 ghost use Rattle.am_model.specs.Receiving.{spread_row, hold_row};
 ghost use Rattle.am_model.specs.Joining.{gone_row};

@@ -7,8 +7,8 @@ pub use Rattle.am_base.specs.{declared.image.Vote.Vote, Names.IsSet, Names.place
 pub use Rattle.am_base.specs.{Names.names_from, Votes.Shown, Votes.better_of, Votes.best_vote}
 pub use Rattle.am_base.proofs.Places.{by_place_all, slice_index-by_place, length-by_place}
 unfoldable pub use Rattle.am_base.specs.Votes.{best_from}
-pub use Rattle.am_parts.specs.Reports.{least_of, lesser}
-pub use Rattle.am_parts.proofs.{Leaders.least_in, ReportLaws.least_end}
+pub use Rattle.am_state.specs.Reports.{least_of, lesser}
+pub use Rattle.am_state.proofs.{Leaders.least_in, ReportLaws.least_end}
 pub use Rattle.am_model.specs.{Node.Ballot, Node.name_where, Ballots.taken_by, Ballots.new_ballot, Ballots.has_voted, Ballots.left_in}
 unfoldable pub use Rattle.am_model.specs.Node.{those}
 pub use Rattle.am_ballots.specs.Kept.{votes_of, ballot_of, marks_of}

@@ -1,7 +1,7 @@
 ghost use Rattle.std.specs.Prelude.{◌≡◌, ◌<◌, ◌≤◌, ◌+◌, Some, None, IfSome, true, not, nat_lt, if◌then◌else◌};
 ghost use Rattle.am_base.specs.Stamps.{stamp_lt};
 ghost use Rattle.am_base.specs.Votes.{vote_lt};
-ghost use Rattle.am_parts.specs.Reports.{lesser};
+ghost use Rattle.am_state.specs.Reports.{lesser};
 
 use am_base::image::Vote;
 use am_base::name::{Name, Stamp};
@@ -118,7 +118,7 @@ impl Ballot {
     ghost use Rattle.am_base.specs.Names.{has, name_at, names_of, minus};
     ghost use Rattle.am_base.specs.Outcomes.{is_took};
     ghost use Rattle.am_base.specs.Votes.{better_of, best_vote};
-    ghost use Rattle.am_parts.specs.Reports.{least_of};
+    ghost use Rattle.am_state.specs.Reports.{least_of};
     ghost use Rattle.am_model.specs.Node.{those, name_where};
     ghost use Rattle.am_model.specs.Ballots.{overtake, has_voted, is_waited_for, left_in, taken_by, with_answer, with_end, new_ballot, with_vote, without_voter};
     ghost use Rattle.am_model.specs.Resets.{is_open, fetches_from};
@@ -382,7 +382,7 @@ impl Ballot {
     }
 
     /// The least that the names of a set have taken, the coordinator this much; None exactly where the set is empty.
-    #[tactic(auto, using(am_parts::proofs::ReportLaws::least_laws))]
+    #[tactic(auto, using(am_state::proofs::ReportLaws::least_laws))]
     pub fn least_taken(&self, coordinator: Name, taken: u32, names: Names) -> Option<u32>
         ensures value { result ≡ least_of (taken_by coordinator taken (ballot_of self.now))
             (names_of names) }

@@ -3,7 +3,7 @@ use Rattle.std.proofs.Common.{◌≡◌, List, sym, ◌∙◌}
 use Rattle.am_base.specs.declared.event.NodeEvent.{NodeEvent}
 use Rattle.am_base.specs.declared.outcome.Outcome.{Outcome}
 use Rattle.am_packet.specs.Boxes.{Letter}
-use Rattle.am_parts.specs.Cores.{IsInOrder}
+use Rattle.am_state.specs.Cores.{IsInOrder}
 use Rattle.am_model.specs.Node.{Node}
 use Rattle.am_model.specs.Step.{row, step}
 use Rattle.am_model.specs.Ends.{Does}

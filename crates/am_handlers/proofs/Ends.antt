@@ -5,7 +5,7 @@ use Rattle.am_handlers.proofs.Words.{pass_over, end-top, end-told, image-top, st
 use Rattle.am_handlers.proofs.Words.{nat_tests, split, keeps_end, refresh_end, Node, others, is_member, is_sequencer, refresh, lead, advance}
 use Rattle.am_handlers.proofs.Words.{led_of, with_led, with_log, IsEndOf, Tells, Changes}
 use Rattle.am_handlers.proofs.Words.{top, image_of, Keeps}
-use Rattle.am_parts.specs.Refresh as fronts
+use Rattle.am_state.specs.Refresh as fronts
 
 pub end_self : (m : Node) → m.core.base ≡ m.core.log.start → IsEndOf m m
 end_self m e = record { stands = stands_self m.core e; same = refl }

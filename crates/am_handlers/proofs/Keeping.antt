@@ -7,9 +7,9 @@ use Rattle.am_handlers.proofs.Words.{let_go, KeptBody, OwnSend, Sends, next_requ
 use Rattle.am_handlers.proofs.Words.{is_member, is_sequencer, push_entry, with_report, after_report, Status, Member, is_view, refresh, lead, led_of, with_led}
 use Rattle.am_handlers.proofs.Words.{accepted_at, settle_at, settle_waiting, settle, refresh_at_end, IsEndOf, long_after, NodeKeeps, IsOwnBallot, IsSteady}
 use Rattle.am_handlers.proofs.Words.{IsDue, MayServe}
-use Rattle.am_parts.specs.Cores.{advance}
-use Rattle.am_parts.specs.Refresh as fronts
-use Rattle.am_parts.specs.Sends as sending
+use Rattle.am_state.specs.Cores.{advance}
+use Rattle.am_state.specs.Refresh as fronts
+use Rattle.am_state.specs.Sends as sending
 use Rattle.am_handlers.proofs.Due.{due_after}
 
 pub steady_leads : (m n : Node) → IsSteady m n → is_sequencer n ≡ is_sequencer m

@@ -7,7 +7,7 @@ use Rattle.am_handlers.proofs.Words.{leaves_member, Led, LeadsBy, MayLead, sum_b
 use Rattle.am_handlers.proofs.Words.{waiting, is_member, is_sequencer, push_entry, refresh, lead, settle, settle_waiting, refresh_at_end, led_of, with_led}
 use Rattle.am_handlers.proofs.Words.{IsEndOf, NodeKeeps, IsSteady}
 use Rattle.am_base.specs.Lists.{fits}
-use Rattle.am_parts.specs.Refresh as fronts
+use Rattle.am_state.specs.Refresh as fronts
 use Rattle.am_model.specs.declared.status.Status.TheVariants.{Stranger, Asking, Member, Departed}
 use Rattle.am_handlers.specs.Replies.{departed}
 use Rattle.am_handlers.proofs.{Ends.end_made, Keeping.keeps_pushed, Keeping.leads_pushed, Keeping.long_fold, Keeping.refresh_steady, Keeping.own_for}

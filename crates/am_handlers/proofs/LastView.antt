@@ -2,7 +2,7 @@
 use Rattle.am_handlers.proofs.Words.{◌≡◌, ℕ, ◌<◌, ◌≤◌, List, true, false, nat_lt, sym, ◌∙◌, ap, arith, nat_tests, Image, Log, Letter, with_letter}
 use Rattle.am_handlers.proofs.Words.{members_of, without_name, entry_at, Stands, Packet, Node, image_of, others, those, with_log, refl, split, if◌then◌else◌, Option, Entry}
 use Rattle.am_base.specs.Names.{nobody}
-use Rattle.am_parts.proofs.Ends.{end-entry}
+use Rattle.am_state.proofs.Ends.{end-entry}
 use Rattle.am_model.specs.Emit.{result_of}
 use Rattle.am_model.specs.Ticks.{viewed_by}
 use Rattle.am_handlers.specs.Replies.{and_view}

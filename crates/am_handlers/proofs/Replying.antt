@@ -12,15 +12,15 @@ use Rattle.am_base.specs.declared.outcome.Outcome.TheVariants as said
 use Rattle.am_base.specs.Lists.{Log, image_at, row_of, told_by}
 use Rattle.am_base.specs.Names.{nobody, without_name, size}
 use Rattle.am_base.specs.Stamps.{stamp_eq}
-use Rattle.am_parts.specs.Cores.{Stands, IsInOrder}
-use Rattle.am_parts.proofs.Ends.{end-image}
-use Rattle.am_parts.proofs.CoreLaws.{since_whole}
+use Rattle.am_state.specs.Cores.{Stands, IsInOrder}
+use Rattle.am_state.proofs.Ends.{end-image}
+use Rattle.am_state.proofs.CoreLaws.{since_whole}
 use Rattle.am_packet.specs.declared.packet.Packet.{Packet}
 use Rattle.am_packet.specs.declared.packet.Packet.TheVariants as packet
 use Rattle.am_packet.specs.Boxes.{Letter, with_letter}
 use Rattle.am_model.specs.Node.{Node, only_name, others, push_entry, report_of}
 use Rattle.am_model.specs.Emit.{Plan, Step, quiet, polling, telling, ack_of, welcome_of, fetch_of, invite_of, bcast_of, result_of, finish, accept_of, tells_accepted, with_accept}
-use Rattle.am_parts.specs.Sends.{waiting_send}
+use Rattle.am_state.specs.Sends.{waiting_send}
 use Rattle.am_model.specs.Refresh.{refresh_at_end}
 use Rattle.am_model.specs.Joining.{may_go, all_stored}
 use Rattle.am_model.specs.Ballots.{Verdict, vote_of, with_result, with_fetch, verdict_plan}

@@ -3,7 +3,7 @@ use Rattle.am_handlers.proofs.Words.{◌≡◌, ℕ, suc, ◌+◌, ◌-◌, ◌<
 use Rattle.am_handlers.proofs.Words.{Some, None, refl, sym, ◌∙◌, ap, option_map, arith, slice_get, position, position_or_len, nat_tests, slice_get-get_or}
 use Rattle.am_handlers.proofs.Words.{get_or-take, length-take, position_or_len_is, Entry, Log, entry_at, CoreState, Stands, IsInOrder, OwnSend, Node, waiting}
 use Rattle.am_handlers.proofs.Words.{is_data_of, accepted_at, settle_at, settle_waiting, settle, with_log, Tells, Changes, passes, accepted_number}
-use Rattle.am_parts.specs.Sends as own
+use Rattle.am_state.specs.Sends as own
 use Rattle.am_handlers.proofs.Ends.{tells, changes}
 
 -- ---- the first of a list that passes

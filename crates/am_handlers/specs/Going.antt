@@ -1,7 +1,7 @@
 -- Whether a leaver may go, by what is read of a node.
 use Rattle.std.specs.Prelude.{ℕ, List, Bool, true, ◌&&◌, nat_lt, nat_le, Option, Some, None}
 use Rattle.am_base.specs.declared.image.Report.{Report}
-use Rattle.am_parts.specs.Reports.{least_stored}
+use Rattle.am_state.specs.Reports.{least_stored}
 
 -- a number isn't above the least of some, where there is one
 abbrev pub all_hold : Option ℕ → ℕ → Bool

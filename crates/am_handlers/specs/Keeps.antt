@@ -6,10 +6,10 @@ use Rattle.am_base.specs.Most.{most_number}
 use Rattle.am_base.specs.Names.{has, life_of}
 use Rattle.am_base.specs.Lists.{at_place}
 use Rattle.am_base.specs.Stamps.{stamp_lt}
-use Rattle.am_parts.specs.Cores.{CoreState}
-use Rattle.am_parts.specs.Reports.{reports_of}
-use Rattle.am_parts.specs.Sends.{Sends, next_request}
-use Rattle.am_parts.specs.declared.bodies.KeptBody.{KeptBody}
+use Rattle.am_state.specs.Cores.{CoreState}
+use Rattle.am_state.specs.Reports.{reports_of}
+use Rattle.am_state.specs.Sends.{Sends, next_request}
+use Rattle.am_state.specs.declared.bodies.KeptBody.{KeptBody}
 use Rattle.am_ballots.specs.Kept.{Kept, ballot_of}
 use Rattle.am_model.specs.declared.status.Status.{Status}
 use Rattle.am_model.specs.Node.{has_log, Node, Ballot, top, image_of, view, members, waiting, is_sequencer}

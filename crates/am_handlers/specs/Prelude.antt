@@ -4,7 +4,7 @@ pub use Rattle.am_base.specs.Limits.{IsNumber, IsEntry, IsRow, IsVote, IsStamp, 
 pub use Rattle.am_base.specs.Lists.{at_place, entry_at, fits, members_of, row_of, told_by, top_of}
 pub use Rattle.am_base.specs.Names.{IsSet, has, names_of, size}
 pub use Rattle.am_base.specs.Stamps.{stamp_eq, stamp_lt}
-pub use Rattle.am_parts.specs.Cores.{IsInOrder}
+pub use Rattle.am_state.specs.Cores.{IsInOrder}
 pub use Rattle.am_packet.specs.Boxes.{with_letter}
 pub use Rattle.am_packet.specs.Limits.{IsWithin}
 pub use Rattle.am_model.specs.Node.{has_log}

@@ -4,7 +4,7 @@ use Rattle.am_base.specs.declared.entry.Entry.{Entry}
 use Rattle.am_base.specs.declared.entry.Entry.TheVariants.{Data, Leave}
 use Rattle.am_base.specs.Lists.{entry_at}
 use Rattle.am_base.specs.Names.{size}
-use Rattle.am_parts.specs.Sends.{waiting_send}
+use Rattle.am_state.specs.Sends.{waiting_send}
 use Rattle.am_base.specs.declared.outcome.Outcome.{Outcome}
 use Rattle.am_base.specs.declared.outcome.Outcome.TheVariants as said
 use Rattle.am_base.specs.Limits.{IsNumber, IsEntry}

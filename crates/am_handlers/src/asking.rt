@@ -1,7 +1,7 @@
 ghost use Rattle.std.specs.Prelude.{◌≡◌, ◌==◌, ◌≤◌, ◌<◌, ◌+◌, length, IsTrue};
 ghost use Rattle.am_handlers.specs.Prelude.{most_number, IsNumber, IsRow, IsInOrder, top, node_of};
 ghost use Rattle.am_base.specs.declared.outcome.Outcome.TheVariants as said;
-ghost use Rattle.am_parts.specs.Kept.{IsKept};
+ghost use Rattle.am_state.specs.Kept.{IsKept};
 ghost use Rattle.am_model.specs.Node.{has_room, others, report_fits};
 ghost use Rattle.am_model.specs.Sequencing.{row_at, is_unknown};
 

@@ -1,7 +1,7 @@
 ghost use Rattle.std.specs.Prelude.{◌≡◌, false};
 ghost use Rattle.am_handlers.specs.Prelude.{size, has_log, is_member, others, push_entry, IsEndOf, node_of};
 ghost use Rattle.am_base.specs.declared.entry.Entry.TheVariants.{Leave};
-ghost use Rattle.am_parts.specs.Refresh.{MayLead};
+ghost use Rattle.am_state.specs.Refresh.{MayLead};
 ghost use Rattle.am_model.specs.Refresh.{lead, refresh_at_end};
 ghost use Rattle.am_handlers.specs.Replies.{departed, MayDepart};
 

@@ -1,5 +1,5 @@
 ghost use Rattle.std.specs.Prelude.{◌≡◌};
-ghost use Rattle.am_parts.specs.Reports.{reports_of};
+ghost use Rattle.am_state.specs.Reports.{reports_of};
 ghost use Rattle.am_model.specs.Joining.{may_go};
 ghost use Rattle.am_handlers.specs.Prelude.{node_of};
 ghost use Rattle.am_handlers.specs.Going.{is_stored};

@@ -1,6 +1,6 @@
 ghost use Rattle.std.specs.Prelude.{◌≡◌, ◌≤◌, [], length, IfSome, option_map};
 ghost use Rattle.am_handlers.specs.Prelude.{IsNumber, Changes, node_of};
-ghost use Rattle.am_parts.specs.Sends.{waiting_send};
+ghost use Rattle.am_state.specs.Sends.{waiting_send};
 ghost use Rattle.am_model.specs.Refresh.{refresh_at_end};
 ghost use Rattle.am_handlers.specs.Replies.{own_letters, IsOwnWithin};
 

@@ -58,8 +58,8 @@ impl Parts {
     ghost use Rattle.am_base.specs.Limits.{IsEntry};
     ghost use Rattle.am_base.specs.Lists.{entry_at, at_place, fits};
     ghost use Rattle.am_packet.specs.Limits.{IsWithin};
-    ghost use Rattle.am_parts.specs.Kept.{IsKept};
-    ghost use Rattle.am_parts.specs.Cores.{IsInOrder};
+    ghost use Rattle.am_state.specs.Kept.{IsKept};
+    ghost use Rattle.am_state.specs.Cores.{IsInOrder};
     ghost use Rattle.am_model.specs.Node.{Node, acts, is_sequencer, others, push_entry, image_of, top, waiting, with_report};
     ghost use Rattle.am_model.specs.Sequencing.{take_report};
     ghost use Rattle.am_model.specs.Emit.{accept_of};

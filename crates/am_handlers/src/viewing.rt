@@ -1,7 +1,7 @@
 ghost use Rattle.std.specs.Prelude.{◌≡◌, ◌<◌, ◌≤◌, ◌+◌, nat_lt, length};
 ghost use Rattle.std.specs.Option.{option_copied};
 ghost use Rattle.am_handlers.specs.Prelude.{most_number, entry_at, others, image_of, node_of};
-ghost use Rattle.am_parts.specs.Reports.{reports_of};
+ghost use Rattle.am_state.specs.Reports.{reports_of};
 ghost use Rattle.am_model.specs.Node.{name_where, those};
 ghost use Rattle.am_model.specs.Ticks.{viewed_by};
 ghost use Rattle.am_handlers.specs.Replies.{and_view};

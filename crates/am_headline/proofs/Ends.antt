@@ -5,7 +5,7 @@ use Rattle.am_headline.proofs.RepairWords.{is_held, accept_front, Packet, letter
 use Rattle.am_headline.proofs.RepairWords.{image_of, view, acts, is_member, is_sequencer, report_of, lead, refresh, refresh_at_end, telling, finish, hears_member}
 use Rattle.am_headline.proofs.RepairWords.{hears_in_view, hears_sequencer, AllSatisfied, split, and_both, accept_front_is, above_view, below_view, settle_is}
 use Rattle.am_headline.proofs.RepairWords.{rests_at_end, leads_rests, HasReported, HasReports, FrontsRise}
-use Rattle.am_parts.specs.Reports as reports
+use Rattle.am_state.specs.Reports as reports
 use Rattle.am_headline.proofs.Sets.{count_named}
 
 -- ---- who follows

@@ -7,10 +7,10 @@ use Rattle.am_headline.proofs.Words.{OwnSend, Status, Node, is_member, is_asking
 use Rattle.am_headline.proofs.Words.{begin_list, advance, lead, refresh, settle, settle_waiting, settle_at, accepted_at, refresh_at_end, split, and_both}
 use Rattle.am_headline.proofs.Words.{item_at, Cause, hears, MayBeWelcomed, get_front, rests_refresh, refresh_is, settle_is, asking, logged, asking_log, front}
 use Rattle.am_headline.proofs.Words.{Gave, nothing, took, began, at_least, gave_begun, still_log, found_at}
-use Rattle.am_parts.specs.Refresh.{let_go}
+use Rattle.am_state.specs.Refresh.{let_go}
 use Rattle.am_base.specs.declared.outcome.Outcome.TheVariants as said
 use Rattle.am_packet.specs.declared.packet.Packet.TheVariants as packet
-use Rattle.am_parts.specs.Sends as own
+use Rattle.am_state.specs.Sends as own
 use Rattle.am_model.specs.declared.status.Status.TheVariants as status
 use Rattle.am_headline.proofs.Ways.{Alike, Kind, pushed_alike}
 use Rattle.am_headline.proofs.Ways as kinds

@@ -9,7 +9,7 @@ use Rattle.am_laws.proofs.Words.{queues, collects, closes, departs, asks_to_join
 use Rattle.am_laws.proofs.Words.{refresh_is, rests_refresh, logged, asking_log}
 use Rattle.std.proofs.Common.{cond, map}
 use Rattle.std.specs.List.{position, position_or_len}
-use Rattle.am_parts.specs.Sends as own
+use Rattle.am_state.specs.Sends as own
 use Rattle.am_model.specs.Node.{entries_above}
 use Rattle.am_model.specs.Refresh.{is_data_of}
 use Rattle.am_laws.proofs.Nodes.{IsOwn, nodes_keep}

@@ -33,7 +33,7 @@ pub use Rattle.am_base.specs.{Names.without_name, Fronts.counted_at, Fronts.is_h
 pub use Rattle.am_packet.specs.{Boxes.letter_to, Boxes.place_for, Boxes.with_letter, Kinds.kind_of}
 pub use Rattle.am_packet.specs.declared.packet.Packet.TheVariants.{Request, Spread, Bcast, Order, Accept, Ack, Nack, Hold, JoinAsk, Welcome, LeaveAsk, Gone}
 pub use Rattle.am_packet.specs.declared.packet.Packet.TheVariants.{Invite, Vote, Fetch, Piece, Result, HandOver}
-pub use Rattle.am_parts.proofs.{Ends.image-next, Ends.entry-get, Lives.fit_at, Folds.slice_get-drop}
+pub use Rattle.am_state.proofs.{Ends.image-next, Ends.entry-get, Lives.fit_at, Folds.slice_get-drop}
 pub use Rattle.am_group.proofs.Places.{get_behind, get_before}
 pub use Rattle.am_model.specs.{Node.has_room, Node.has_departed, Node.report_of, Node.only_name, Node.report_fits, Node.has_own_leave, Calls.would_emit}
 pub use Rattle.am_model.specs.{Calls.everywhere_else, Calls.hand_in, Ticks.behind_view, Ticks.going, Hearing.where_heard, Hearing.hears_as_sequencer}

@@ -9,7 +9,7 @@ use Rattle.am_laws.specs.Changes.{departs}
 use Rattle.am_model.specs.Ballots.{goes_on}
 use Rattle.am_base.specs.declared.outcome.Outcome.TheVariants as said
 use Rattle.am_packet.specs.declared.packet.Packet.TheVariants as packet
-use Rattle.am_parts.specs.Sends as own
+use Rattle.am_state.specs.Sends as own
 use Rattle.am_model.specs.declared.status.Status.TheVariants as status
 
 -- nothing of that changes; the list may get more

@@ -4,7 +4,7 @@ use Rattle.am_laws.proofs.Words.{refl, ap, arith, Vote, View, Outcome, names_of,
 use Rattle.am_laws.proofs.Words.{taken_by, goes_on, ended, decide_view, trim_for, restart_reports, decide, next_stamp, new_ballot, begin, with_vote}
 use Rattle.am_laws.proofs.Words.{keep_vote, without_voter, give_up, give_up_of, give_up_row, reset_row, split, Bounds, up}
 use Rattle.am_base.specs.declared.outcome.Outcome.TheVariants as said
-use Rattle.am_parts.specs.Reports as reports
+use Rattle.am_state.specs.Reports as reports
 use Rattle.am_laws.proofs.Counts.{Low, Behind, VotesKnown, low_more, low_viewed, low_trimmed, low_promised, least_low, Ends, ends_next, ends as plans}
 
 -- a verdict whose node has at most one more

@@ -5,7 +5,7 @@ use Rattle.am_laws.proofs.Words.{push_entry, waiting, unsettled_count, Plan, qui
 use Rattle.am_laws.proofs.Words.{is_unfinished, leave_now, leave_by, ask_of, send_row, done_row, take_row, join_row, state_row, leave_row, ask_row, is_view}
 use Rattle.am_laws.proofs.Words.{tick_ballot, tick_member, put_off, and_result, tick_sequencer, tick_acting, tick_with, tick_by, tick_row, split, Bounds, up}
 use Rattle.am_base.specs.declared.outcome.Outcome.TheVariants as said
-use Rattle.am_parts.specs.Sends as own
+use Rattle.am_state.specs.Sends as own
 use Rattle.am_model.specs.declared.status.Status.TheVariants as status
 use Rattle.am_laws.proofs.Counts.{Low, Behind, Ends, ends_if, ends_at, ends_next, ends, low_pushed, none_waits}
 

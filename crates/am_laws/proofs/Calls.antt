@@ -9,7 +9,7 @@ use Rattle.am_laws.proofs.EffectWords.{take_row, join_row, state_row, leave_row,
 use Rattle.am_laws.proofs.EffectWords.{asks_to_join, asks_to_leave, Course, nothing_yet, and_then, HasSend, join_ask, leave_ask, hand_over, Answers}
 use Rattle.am_base.specs.declared.outcome.Outcome.TheVariants as said
 use Rattle.am_base.specs.declared.event.NodeEvent.TheVariants as does
-use Rattle.am_parts.specs.Sends as own
+use Rattle.am_state.specs.Sends as own
 use Rattle.am_model.specs.declared.status.Status.TheVariants as status
 use Rattle.am_laws.proofs.Plans.{Comes, Does, HasEffect, effect_if, effect_of, row_closing, does_if, does_quiet, does_telling, does_and, does_numbering}
 use Rattle.am_laws.proofs.Plans.{tightly, rows}

@@ -7,7 +7,7 @@ use Rattle.am_base.specs.declared.entry.Entry.TheVariants.{Leave, View}
 use Rattle.am_base.specs.declared.outcome.Outcome.{Outcome}
 use Rattle.am_base.specs.Founding.{Rules}
 use Rattle.am_base.specs.Names.{size, names_of}
-use Rattle.am_parts.specs.Reports.{least_of}
+use Rattle.am_state.specs.Reports.{least_of}
 use Rattle.am_model.specs.Node.{Node, Ballot, top, image_of, push_entry, trim_up_to}
 use Rattle.am_model.specs.Ballots.{Verdict, need_of, left_in, taken_by, trim_for}
 use Rattle.am_model.proofs.Sets.{has_size, has_those}

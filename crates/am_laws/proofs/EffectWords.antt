@@ -16,12 +16,12 @@ unfoldable pub use Rattle.am_base.specs.Lists.{after, fits, fold}
 pub use Rattle.am_base.proofs.{Places.slice_index-by_place, Places.length-by_place, Greatest.split, Greatest.and_both, Folds.fold_append}
 pub use Rattle.am_packet.specs.{Boxes.Letter, Boxes.with_letter, Boxes.letter_to, Boxes.place_for, declared.packet.Packet.Packet, Kinds.kind_of}
 pub use Rattle.am_packet.specs.Reading.{Read, reading}
-pub use Rattle.am_parts.proofs.{Members.members_data, Folds.slice_get-drop}
-unfoldable pub use Rattle.am_parts.specs.Cores.{pass_over}
-pub use Rattle.am_parts.specs.Refresh.{base_after}
-unfoldable pub use Rattle.am_parts.specs.Refresh.{own_report, tell, go_on}
-pub use Rattle.am_parts.specs.Bodies.{is_of, keep_body}
-pub use Rattle.am_parts.specs.declared.sender.OwnSend.{OwnSend}
+pub use Rattle.am_state.proofs.{Members.members_data, Folds.slice_get-drop}
+unfoldable pub use Rattle.am_state.specs.Cores.{pass_over}
+pub use Rattle.am_state.specs.Refresh.{base_after}
+unfoldable pub use Rattle.am_state.specs.Refresh.{own_report, tell, go_on}
+pub use Rattle.am_state.specs.Bodies.{is_of, keep_body}
+pub use Rattle.am_state.specs.declared.sender.OwnSend.{OwnSend}
 pub use Rattle.am_group.specs.{declared.event.Act.Act, declared.event.Event.Event, Addressed.is_for, Journals.letter_at, Journals.item_at}
 pub use Rattle.am_model.specs.{Refresh.advance, Refresh.accepted_at, Refresh.settle_at, Refresh.settle_waiting, declared.status.Status.Status, Step.read_row}
 pub use Rattle.am_model.specs.{Step.refuse, Lengths.packet_length, Hearing.hears_member, Hearing.hears_asking, Hearing.hears_in_view, Hearing.hears_sequencer}

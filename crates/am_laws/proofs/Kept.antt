@@ -5,9 +5,9 @@ use Rattle.am_base.specs.declared.entry.Entry.{Entry}
 use Rattle.am_base.specs.declared.name.Stamp.{Stamp}
 use Rattle.am_base.specs.Stamps.{stamp_lt}
 use Rattle.am_base.specs.Founding.{Rules}
-use Rattle.am_parts.specs.Cores.{accept, pass_over}
-use Rattle.am_parts.specs.Refresh.{base_after, own_report, tell, go_on, let_go}
-use Rattle.am_parts.specs.declared.sender.OwnSend.{OwnSend}
+use Rattle.am_state.specs.Cores.{accept, pass_over}
+use Rattle.am_state.specs.Refresh.{base_after, own_report, tell, go_on, let_go}
+use Rattle.am_state.specs.declared.sender.OwnSend.{OwnSend}
 use Rattle.am_model.specs.Node.{Node, Ballot, top, has_room, is_sequencer, push_entry, trim_up_to, waiting}
 use Rattle.am_model.specs.Refresh.{advance, lead, refresh, accepted_at, settle_at, settle_waiting, settle, refresh_at_end}
 use Rattle.am_model.specs.Ballots.{overtake, with_promise}

@@ -11,7 +11,7 @@ use Rattle.am_laws.proofs.Words.{numbers, keeps_body, stores, begins_list, promi
 use Rattle.am_laws.proofs.Words.{with_fronts, refresh_is, rests_refresh, rests_at_end, settle_is, sender_of, Bounds, up}
 use Rattle.am_base.specs.declared.event.NodeEvent.TheVariants as does
 use Rattle.am_packet.specs.declared.packet.Packet.TheVariants as packet
-use Rattle.am_parts.specs.Sends as own
+use Rattle.am_state.specs.Sends as own
 use Rattle.am_laws.proofs.Limits.{ImageWithin, EntryWithin, image_more, entry_more, members_within, told_within, set_those}
 
 -- ---- what a node has

@@ -4,7 +4,7 @@ use Rattle.am_laws.proofs.EffectWords.{◌∙◌, arith, length-append, slice_ge
 use Rattle.am_laws.proofs.EffectWords.{after, fold, Packet, Letter, with_letter, slice_get-drop, OwnSend, Node, top, image_of, view, acts, is_member}
 use Rattle.am_laws.proofs.EffectWords.{is_sequencer, push_entry, waiting, entries_to_serve, put_all, request_of, spread_of, bcast_of, ack_of, nack_of, is_view}
 use Rattle.am_laws.proofs.EffectWords.{fold_append, split, Cause, HasSend, Stands, Says, request, spread, bcast, ack, nack}
-use Rattle.am_parts.specs.Sends as own
+use Rattle.am_state.specs.Sends as own
 use Rattle.am_laws.proofs.{Items.find_get, Items.get_last, Items.get_take, Rests.Rests, Rests.RestsWhole, Rests.acts_rests, Rests.leads_rests}
 use Rattle.am_laws.proofs.{Rests.stands_rests, Plans.AllSay, Plans.none_says, Plans.and_says, Plans.Tells}
 

@@ -8,7 +8,7 @@ use Rattle.am_laws.proofs.Words.{settles, admits, numbers, notes, stores, begins
 use Rattle.am_laws.proofs.Words.{closes, Changes, actor, Happens, steps, events_have_effects, rests_refresh, settle_is, along}
 use Rattle.am_laws.proofs.StoredWords.{refuses, BringsFronts, with_entry, with_number, alone, BeginsBy, by_reset, by_hand_over, overtaken, IsBlank}
 use Rattle.am_laws.proofs.StoredWords.{blank_holds, leads_member, member_of, standing_of, HeardLow, change_begins, lists_go_on, begins}
-use Rattle.am_parts.specs.Cores.{accept}
+use Rattle.am_state.specs.Cores.{accept}
 use Rattle.am_model.specs.Node.{Node}
 use Rattle.am_laws.specs.Looks.{decides}
 use Rattle.am_packet.specs.declared.packet.Packet.TheVariants as packet

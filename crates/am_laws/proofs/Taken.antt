@@ -13,7 +13,7 @@ use Rattle.am_laws.proofs.Words.{settles, takes_report, admits, numbers, notes, 
 use Rattle.am_laws.proofs.Words.{takes, asks_to_join, closes, rests_refresh, rests_at_end, settle_is, asking_log, told_pushed, view_pushed, HasItself, itself}
 use Rattle.am_laws.proofs.Words.{JoinFits, any_fits, JoinsFit}
 use Rattle.am_packet.specs.declared.packet.Packet.TheVariants as packet
-use Rattle.am_parts.specs.Reports as reports
+use Rattle.am_state.specs.Reports as reports
 use Rattle.am_model.specs.Sequencing as sequencing
 use Rattle.am_laws.proofs.Trims.{Fronts, NoOwnVote, Owned, WelcomeUsed, told_used, pushed_fronts, trimmed_fronts, member_leads, refresh_fronts, closed_fronts}
 use Rattle.am_laws.proofs.Trims.{closed_leads, reporting}

@@ -42,17 +42,17 @@ unfoldable pub use Rattle.am_base.specs.{Names.by_place, Votes.best_from}
 pub use Rattle.am_packet.specs.{Limits.IsPacket, Limits.HasEntryParts, Spelling.stamp_of, Spelling.sender_of}
 unfoldable pub use Rattle.am_packet.specs.Limits.{IsWithin, HasParts}
 pub use Rattle.am_packet.proofs.Again.{spelling_again}
-pub use Rattle.am_parts.specs.Cores.{CoreState, since_accepted}
-unfoldable pub use Rattle.am_parts.specs.Cores.{accept, unions}
-pub use Rattle.am_parts.proofs.Lives.{JoinFits, IsUsed, row_at, used_after, used_fold, life_fold, member_at, unions_most, unions_least, unions_long, any_fits}
-pub use Rattle.am_parts.proofs.Lives.{member_row, leave_life}
-pub use Rattle.am_parts.proofs.Ends.{image-top, image-push}
-unfoldable pub use Rattle.am_parts.proofs.Lives.{JoinsFit}
-pub use Rattle.am_parts.specs.Reports.{lesser, least_taken}
-unfoldable pub use Rattle.am_parts.specs.{Reports.least_of, Refresh.let_go}
-pub use Rattle.am_parts.proofs.{Leaders.least_reported, Leaders.least_in, ReportLaws.count_cons}
-pub use Rattle.am_parts.specs.{declared.bodies.KeptBody.KeptBody, Bodies.find_body}
-pub use Rattle.am_parts.specs.Sends.{Sends, is_unsettled}
+pub use Rattle.am_state.specs.Cores.{CoreState, since_accepted}
+unfoldable pub use Rattle.am_state.specs.Cores.{accept, unions}
+pub use Rattle.am_state.proofs.Lives.{JoinFits, IsUsed, row_at, used_after, used_fold, life_fold, member_at, unions_most, unions_least, unions_long, any_fits}
+pub use Rattle.am_state.proofs.Lives.{member_row, leave_life}
+pub use Rattle.am_state.proofs.Ends.{image-top, image-push}
+unfoldable pub use Rattle.am_state.proofs.Lives.{JoinsFit}
+pub use Rattle.am_state.specs.Reports.{lesser, least_taken}
+unfoldable pub use Rattle.am_state.specs.{Reports.least_of, Refresh.let_go}
+pub use Rattle.am_state.proofs.{Leaders.least_reported, Leaders.least_in, ReportLaws.count_cons}
+pub use Rattle.am_state.specs.{declared.bodies.KeptBody.KeptBody, Bodies.find_body}
+pub use Rattle.am_state.specs.Sends.{Sends, is_unsettled}
 pub use Rattle.am_model.specs.{Node.set_at, Node.founders_view, Node.founding_stamp, Receiving.own_body, Receiving.first_body, Sequencing.number_data}
 pub use Rattle.am_model.specs.{Joining.asks_to_leave}
 pub use Rattle.am_model.specs.Ballots.{taken_by, goes_on, ends as ended, decide_view, restart_reports, overtake, own_vote}

@@ -13,9 +13,9 @@ use Rattle.am_base.specs.Names.{size}
 use Rattle.am_base.specs.Stamps.{stamp_lt, stamp_eq}
 use Rattle.am_base.specs.Lists.{fits, entry_at, row_of}
 use Rattle.am_packet.specs.declared.packet.Packet.TheVariants as packet
-use Rattle.am_parts.specs.declared.sender.OwnSend.{OwnSend}
-use Rattle.am_parts.specs.Sends as own
-use Rattle.am_parts.specs.Bodies.{keep_body}
+use Rattle.am_state.specs.declared.sender.OwnSend.{OwnSend}
+use Rattle.am_state.specs.Sends as own
+use Rattle.am_state.specs.Bodies.{keep_body}
 use Rattle.am_model.specs.declared.status.Status.TheVariants as status
 use Rattle.am_model.specs.Node.{Node, Ballot, top, image_of, view, own_row, others, is_member, is_sequencer, has_room, has_own_leave, is_within_bound}
 use Rattle.am_model.specs.Node.{report_fits}

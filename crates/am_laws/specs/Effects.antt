@@ -8,7 +8,7 @@ use Rattle.am_base.specs.declared.event.NodeEvent.TheVariants as does
 use Rattle.am_base.specs.Lists.{entry_at}
 use Rattle.am_packet.specs.declared.packet.Packet.{Packet}
 use Rattle.am_packet.specs.declared.packet.Packet.TheVariants as packet
-use Rattle.am_parts.specs.declared.sender.OwnSend.{OwnSend}
+use Rattle.am_state.specs.declared.sender.OwnSend.{OwnSend}
 use Rattle.am_model.specs.declared.status.Status.TheVariants.{Member, Departed}
 use Rattle.am_model.specs.Node.{Node, Ballot, is_member, is_asking}
 use Rattle.am_model.specs.Emit.{Step}

@@ -11,7 +11,7 @@ use Rattle.am_packet.specs.declared.packet.Packet.{Packet}
 use Rattle.am_packet.specs.declared.packet.Packet.TheVariants as packet
 use Rattle.am_packet.specs.Boxes.{Letter}
 use Rattle.am_packet.specs.Kinds.{goes_to_any}
-use Rattle.am_parts.specs.declared.sender.OwnSend.{OwnSend}
+use Rattle.am_state.specs.declared.sender.OwnSend.{OwnSend}
 use Rattle.am_model.specs.Node.{Node, Ballot, top, image_of, view, only_name, acts, is_sequencer, is_member, is_asking}
 use Rattle.am_model.specs.Emit as emits
 use Rattle.am_model.specs.Ballots.{vote_of, next_stamp}

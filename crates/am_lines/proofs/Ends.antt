@@ -9,9 +9,9 @@ use Rattle.am_base.specs.declared.event.NodeEvent.{NodeEvent}
 use Rattle.am_base.specs.declared.name.Stamp.{Stamp}
 use Rattle.am_base.specs.declared.image.Image.{Image}
 use Rattle.am_base.specs.declared.outcome.Outcome.{Outcome}
-use Rattle.am_parts.specs.Cores.{IsInOrder}
+use Rattle.am_state.specs.Cores.{IsInOrder}
 use Rattle.am_packet.specs.Boxes.{Letter}
-use Rattle.am_parts.specs.Sends.{Sends}
+use Rattle.am_state.specs.Sends.{Sends}
 use Rattle.am_model.specs.Node.{Node, top, image_of}
 use Rattle.am_model.specs.Step.{row, step}
 use Rattle.am_model.specs.Ends.{IsEndOf, Does}

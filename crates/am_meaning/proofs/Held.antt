@@ -8,9 +8,9 @@ use Rattle.am_base.specs.declared.entry.Entry.TheVariants.{Data}
 use Rattle.am_base.specs.declared.outcome.Outcome.{Outcome}
 use Rattle.am_base.specs.declared.outcome.Outcome.TheVariants as said
 use Rattle.am_base.specs.Lists.{Log, row_of, told_by, top_of, with_entry}
-use Rattle.am_parts.specs.Cores.{CoreState, accept, pass_over}
-use Rattle.am_parts.specs.Refresh.{own_report, tell, go_on, let_go}
-use Rattle.am_parts.specs.declared.sender.OwnSend.{OwnSend}
+use Rattle.am_state.specs.Cores.{CoreState, accept, pass_over}
+use Rattle.am_state.specs.Refresh.{own_report, tell, go_on, let_go}
+use Rattle.am_state.specs.declared.sender.OwnSend.{OwnSend}
 use Rattle.am_model.specs.Node.{Node, top, report_fits, has_room, is_sequencer, only_name, waiting, push_entry, with_report}
 use Rattle.am_model.specs.Emit.{Plan, quiet, polling, and_telling, hold_of, finish}
 use Rattle.am_model.specs.Refresh.{refresh, lead, advance, accepted_at, settle_at, settle_waiting, settle, refresh_at_end}

@@ -6,10 +6,10 @@ use Rattle.std.proofs.lemmas.Bool.Decides.{nat_tests}
 use Rattle.am_base.specs.declared.image.Report.{Report}
 use Rattle.am_base.specs.Lists.{Log, top_of, told_by}
 use Rattle.am_base.specs.Fronts.{is_held, is_satisfied, accept_front}
-use Rattle.am_parts.specs.Cores as cores
-use Rattle.am_parts.specs.Cores.{CoreState, accept, pass_over}
-use Rattle.am_parts.specs.Reports.{raise_report, least_taken}
-use Rattle.am_parts.specs.Refresh.{base_after, own_report, tell, go_on, let_go}
+use Rattle.am_state.specs.Cores as cores
+use Rattle.am_state.specs.Cores.{CoreState, accept, pass_over}
+use Rattle.am_state.specs.Reports.{raise_report, least_taken}
+use Rattle.am_state.specs.Refresh.{base_after, own_report, tell, go_on, let_go}
 use Rattle.am_model.specs.Node.{Node, top, is_sequencer, report_of, set_at, with_report}
 use Rattle.am_model.specs.Refresh.{concerned_names, advance, lead, refresh}
 use Rattle.am_meaning.specs.Laws.{IsGreatestFront, RefreshOnce}

@@ -8,7 +8,7 @@ use Rattle.am_model.proofs.EndWords.{number_send, emit, with_queued, queue, send
 use Rattle.am_model.proofs.EndWords.{state_row, go, is_unfinished, leave_now, leave_by, leave_row, ask_of, ask_row, tick_ballot, tick_promised, tick_member}
 use Rattle.am_model.proofs.EndWords.{put_off, behind_view, viewed_by, and_result, tick_sequencer, tick_acting, tick_with, tick_by, tick_row, with_log}
 use Rattle.am_base.specs.declared.outcome.Outcome.TheVariants as said
-use Rattle.am_parts.specs.Sends as own
+use Rattle.am_state.specs.Sends as own
 use Rattle.am_model.specs.declared.status.Status.TheVariants as status
 use Rattle.am_model.proofs.Plans.{Alike, same_others, says_request, says_spread, says_ack, says_leave_ask, says_fetch, alike_if, alike_case, alike_quiet}
 use Rattle.am_model.proofs.Plans.{alike, alike_with, alike_telling, alike_and, alike_numbering}

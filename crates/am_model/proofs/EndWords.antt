@@ -11,14 +11,14 @@ pub use Rattle.am_base.specs.declared.entry.Entry.TheVariants.{View, Data, Leave
 pub use Rattle.am_base.specs.Lists.{Log, members_of, with_entry, row_of, entry_at, fits, told_by, image_at, at_place}
 pub use Rattle.am_packet.specs.{Boxes.Letter, Boxes.with_letter, declared.packet.Packet.Packet}
 pub use Rattle.am_packet.specs.Reading.{Read, reading}
-pub use Rattle.am_parts.proofs.{Folds.split, Ends.end-self, Ends.end-top, Ends.end-told, Ends.end-image, Ends.end-entry, Ends.end-push, CoreLaws.since_whole}
-pub use Rattle.am_parts.specs.{Kept.IsEnd, Cores.IsInOrder, Cores.CoreState, Cores.whole, Cores.since_accepted}
-unfoldable pub use Rattle.am_parts.specs.Cores.{accept, pass_over}
-pub use Rattle.am_parts.specs.{Reports.least_of, Reports.least_taken, Refresh.Led, Refresh.base_after, Refresh.go_up, Refresh.whole_led}
-unfoldable pub use Rattle.am_parts.specs.Refresh.{own_report, tell, go_on, let_go}
-pub use Rattle.am_parts.proofs.Refreshes.{go_up_whole}
-pub use Rattle.am_parts.specs.Bodies.{is_of, keep_body}
-pub use Rattle.am_parts.specs.declared.sender.OwnSend.{OwnSend}
+pub use Rattle.am_state.proofs.{Folds.split, Ends.end-self, Ends.end-top, Ends.end-told, Ends.end-image, Ends.end-entry, Ends.end-push, CoreLaws.since_whole}
+pub use Rattle.am_state.specs.{Kept.IsEnd, Cores.IsInOrder, Cores.CoreState, Cores.whole, Cores.since_accepted}
+unfoldable pub use Rattle.am_state.specs.Cores.{accept, pass_over}
+pub use Rattle.am_state.specs.{Reports.least_of, Reports.least_taken, Refresh.Led, Refresh.base_after, Refresh.go_up, Refresh.whole_led}
+unfoldable pub use Rattle.am_state.specs.Refresh.{own_report, tell, go_on, let_go}
+pub use Rattle.am_state.proofs.Refreshes.{go_up_whole}
+pub use Rattle.am_state.specs.Bodies.{is_of, keep_body}
+pub use Rattle.am_state.specs.declared.sender.OwnSend.{OwnSend}
 pub use Rattle.am_model.specs.{Ends.with_log, Ends.StepsAlike, Ends.EndsStepAlike, Ends.IsEndOf, Ends.ComesTo, Ends.Does, declared.status.Status.Status}
 pub use Rattle.am_model.specs.{Hearing.hears_member, Hearing.hears_in_view, Hearing.hears_as_sequencer, Hearing.hears_sequencer, Hearing.where_heard}
 pub use Rattle.am_model.specs.{Step.read_row, Refresh.advance, Refresh.led_of, Refresh.is_data_of, Refresh.accepted_at, Refresh.settle_at}

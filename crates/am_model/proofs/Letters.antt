@@ -15,7 +15,7 @@ use Rattle.am_packet.specs.declared.packet.Packet.{Packet}
 use Rattle.am_packet.specs.Boxes.{Letter}
 use Rattle.am_packet.specs.Kinds.{kind_of}
 use Rattle.am_packet.specs.Boxes.{letter_to, place_for, with_letter}
-use Rattle.am_parts.specs.declared.sender.OwnSend.{OwnSend}
+use Rattle.am_state.specs.declared.sender.OwnSend.{OwnSend}
 use Rattle.am_model.specs.Node.{Node, Ballot, image_of, others, only_name, lowest_or_first, waiting, is_sequencer, has_room}
 use Rattle.am_model.specs.Emit.{Plan, quiet, telling, and_telling, and_where, numbering, polling, leave_ask_of, hand_over_of, invite_of, fetch_of, result_of}
 use Rattle.am_model.specs.Emit.{put_all}

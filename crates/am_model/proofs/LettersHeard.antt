@@ -17,7 +17,7 @@ use Rattle.am_packet.specs.Boxes.{Letter}
 use Rattle.am_base.specs.declared.event.NodeEvent.{NodeEvent}
 use Rattle.am_base.specs.declared.event.NodeEvent.TheVariants as does
 use Rattle.am_packet.specs.Reading.{Read, reading}
-use Rattle.am_parts.specs.declared.sender.OwnSend.{OwnSend}
+use Rattle.am_state.specs.declared.sender.OwnSend.{OwnSend}
 use Rattle.am_model.specs.Node.{Node, Ballot, top, image_of, others, only_name, push_entry, trim_up_to, waiting}
 use Rattle.am_model.specs.Refresh.{refresh_at_end}
 use Rattle.am_model.specs.Emit.{Plan, quiet, polling, numbering, tells_accepted, accept_of, ack_of, bcast_of, hold_of, piece_of, welcome_of, gone_of}

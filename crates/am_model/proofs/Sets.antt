@@ -3,7 +3,7 @@ use Rattle.std.proofs.Common.{◌≡◌, ℕ, zero, suc, ◌+◌, ◌<◌, List,
 use Rattle.std.proofs.lemmas.Bool.Decides.{nat_tests}
 use Rattle.am_base.specs.Names.{place_of, life_of, name_at, has, size, by_place}
 use Rattle.am_base.proofs.Places.{slice_index-by_place}
-use Rattle.am_parts.proofs.ReportLaws.{count_cons}
+use Rattle.am_state.proofs.ReportLaws.{count_cons}
 use Rattle.am_model.specs.Node.{name_where, those}
 
 pub size_cons : (life : ℕ) (lives : List ℕ) → size (life ∷ lives) ≡ (if nat_lt 0 life then 1 else 0) + size lives

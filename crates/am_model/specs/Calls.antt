@@ -7,8 +7,8 @@ use Rattle.am_base.specs.declared.outcome.Outcome.{Outcome}
 use Rattle.am_base.specs.declared.outcome.Outcome.TheVariants as said
 use Rattle.am_base.specs.Names.{place_of, by_place, has, size}
 use Rattle.am_base.specs.Lists.{entry_at}
-use Rattle.am_parts.specs.declared.sender.OwnSend.{OwnSend}
-use Rattle.am_parts.specs.Sends as own
+use Rattle.am_state.specs.declared.sender.OwnSend.{OwnSend}
+use Rattle.am_state.specs.Sends as own
 use Rattle.am_model.specs.declared.status.Status.{Status}
 use Rattle.am_model.specs.declared.status.Status.TheVariants as status
 use Rattle.am_model.specs.Node.{Node, Ballot, top, view, members, own_row, others, only_name, lowest_or_first, acts, is_sequencer, is_member, has_room, waiting}

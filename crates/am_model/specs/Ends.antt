@@ -4,7 +4,7 @@ use Rattle.am_base.specs.declared.outcome.Outcome.{Outcome}
 use Rattle.am_base.specs.Lists.{Log}
 use Rattle.am_base.specs.declared.event.NodeEvent.{NodeEvent}
 use Rattle.am_packet.specs.Boxes.{Letter}
-use Rattle.am_parts.specs.Cores.{Stands, IsInOrder, whole}
+use Rattle.am_state.specs.Cores.{Stands, IsInOrder, whole}
 use Rattle.am_model.specs.Node.{Node}
 use Rattle.am_model.specs.Emit.{Plan, Step, finish}
 use Rattle.am_model.specs.Step.{step}

@@ -10,8 +10,8 @@ use Rattle.am_base.specs.declared.outcome.Outcome.TheVariants as said
 use Rattle.am_base.specs.Names.{place_of, life_of, name_at, without_name}
 use Rattle.am_base.specs.Stamps.{stamp_lt, stamp_eq}
 use Rattle.am_base.specs.Lists.{fits, at_place, row_of}
-use Rattle.am_parts.specs.Cores.{CoreState}
-use Rattle.am_parts.specs.Reports as reports
+use Rattle.am_state.specs.Cores.{CoreState}
+use Rattle.am_state.specs.Reports as reports
 use Rattle.am_model.specs.declared.status.Status.TheVariants as status
 use Rattle.am_model.specs.Node.{Node, top, image_of, view, only_name, has_room, is_member, is_within_bound, report_fits}
 use Rattle.am_model.specs.Refresh.{concerned_names, least_stored}

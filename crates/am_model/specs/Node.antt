@@ -13,11 +13,11 @@ use Rattle.am_base.specs.Names.{nobody, by_place, name_at, has, with_name, witho
 use Rattle.am_base.specs.Stamps.{stamp_eq, no_stamp}
 use Rattle.am_base.specs.Founding.{Rules}
 use Rattle.am_base.specs.Lists.{blank, top_of, told_by, members_of, row_of}
-use Rattle.am_parts.specs.Cores.{CoreState}
-use Rattle.am_parts.specs.Reports.{no_report, no_reports, after_report}
-use Rattle.am_parts.specs.declared.sender.OwnSend.{OwnSend}
-use Rattle.am_parts.specs.Sends as own
-use Rattle.am_parts.specs.declared.bodies.KeptBody.{KeptBody}
+use Rattle.am_state.specs.Cores.{CoreState}
+use Rattle.am_state.specs.Reports.{no_report, no_reports, after_report}
+use Rattle.am_state.specs.declared.sender.OwnSend.{OwnSend}
+use Rattle.am_state.specs.Sends as own
+use Rattle.am_state.specs.declared.bodies.KeptBody.{KeptBody}
 use Rattle.am_model.specs.declared.status.Status.{Status}
 use Rattle.am_model.specs.declared.status.Status.TheVariants.{Stranger, Asking, Member, Departed}
 

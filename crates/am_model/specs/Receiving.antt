@@ -8,9 +8,9 @@ use Rattle.am_base.specs.declared.outcome.Outcome.{Outcome}
 use Rattle.am_base.specs.declared.outcome.Outcome.TheVariants as said
 use Rattle.am_base.specs.Names.{without_name, names_of}
 use Rattle.am_base.specs.Lists.{fits}
-use Rattle.am_parts.specs.declared.sender.OwnSend.{OwnSend}
-use Rattle.am_parts.specs.declared.bodies.KeptBody.{KeptBody}
-use Rattle.am_parts.specs.Bodies.{is_of, find_body, keep_body, drop_bodies}
+use Rattle.am_state.specs.declared.sender.OwnSend.{OwnSend}
+use Rattle.am_state.specs.declared.bodies.KeptBody.{KeptBody}
+use Rattle.am_state.specs.Bodies.{is_of, find_body, keep_body, drop_bodies}
 use Rattle.am_model.specs.Node.{Node, top, image_of, members, only_name, has_own_leave, is_within_bound, waiting, push_entry, trim_up_to}
 use Rattle.am_model.specs.Emit.{Plan, quiet, telling, and_where, ack_of, nack_of}
 use Rattle.am_model.specs.Sequencing.{row_at, if_risen}

@@ -2,13 +2,13 @@
 use Rattle.std.specs.Prelude.{ℕ, ◌+◌, ◌-◌, List, take, Option, Some, None, Bool, false, ◌&&◌, ◌==◌, if◌then◌else◌, position}
 use Rattle.am_base.specs.declared.entry.Entry.{Entry}
 use Rattle.am_base.specs.declared.entry.Entry.TheVariants.{Data, Join, Leave, View}
-use Rattle.am_parts.specs.Cores as cores
-use Rattle.am_parts.specs.Cores.{since_accepted}
-use Rattle.am_parts.specs.Reports as reports
-use Rattle.am_parts.specs.Refresh as fronts
-use Rattle.am_parts.specs.Refresh.{Led}
-use Rattle.am_parts.specs.declared.sender.OwnSend.{OwnSend}
-use Rattle.am_parts.specs.Sends as own
+use Rattle.am_state.specs.Cores as cores
+use Rattle.am_state.specs.Cores.{since_accepted}
+use Rattle.am_state.specs.Reports as reports
+use Rattle.am_state.specs.Refresh as fronts
+use Rattle.am_state.specs.Refresh.{Led}
+use Rattle.am_state.specs.declared.sender.OwnSend.{OwnSend}
+use Rattle.am_state.specs.Sends as own
 use Rattle.am_model.specs.Node.{Node, is_sequencer, entries_above, waiting}
 
 -- whose reports hold back the base: whoever is a member after some number from what is accepted up to the top

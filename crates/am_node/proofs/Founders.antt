@@ -11,9 +11,9 @@ use Rattle.am_base.specs.Founding.{Rules, MayFound}
 use Rattle.am_base.specs.Names.{place_of, has, by_place}
 use Rattle.am_base.specs.Lists.{top_of, told_by, blank, blank_row, member_life, row_after_view, fold, after, fits}
 use Rattle.am_base.proofs.Places.{by_place_all, get_or-by_place, length-by_place}
-use Rattle.am_parts.specs.Cores.{CoreState}
-use Rattle.am_parts.proofs.Folds.{split}
-use Rattle.am_parts.specs.Reports.{no_report, no_reports, after_report}
+use Rattle.am_state.specs.Cores.{CoreState}
+use Rattle.am_state.proofs.Folds.{split}
+use Rattle.am_state.specs.Reports.{no_report, no_reports, after_report}
 use Rattle.am_model.specs.Node.{Node, members, stranger, founder, founders_view}
 use Rattle.am_model.proofs.Founders.{first_founder}
 use Rattle.am_handlers.specs.Keeps.{NodeKeeps}

@@ -2,7 +2,7 @@ ghost use Rattle.std.specs.Prelude.{◌≡◌, ◌+◌, ◌≤◌, [], EachIndex
 ghost use Rattle.am_base.specs.Lists.{blank};
 ghost use Rattle.am_handlers.specs.Prelude.{has, node_of};
 ghost use Rattle.am_base.specs.Founding.{MayFound};
-ghost use Rattle.am_parts.specs.Reports.{reports_of, after_report, no_report};
+ghost use Rattle.am_state.specs.Reports.{reports_of, after_report, no_report};
 ghost use Rattle.am_model.specs.Node.{founder, stranger, founders_view, founding_stamp};
 
 use am_base::entry::Entry;

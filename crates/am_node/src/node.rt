@@ -33,7 +33,7 @@ impl Node {
     ghost use Rattle.am_handlers.specs.Prelude.{entry_at, has, IsInOrder, members, image_of, top, view, Does, Tells};
     ghost use Rattle.am_model.specs.Node.{founder, stranger};
     ghost use Rattle.am_model.specs.Step.{row};
-    ghost use Rattle.am_parts.specs.Sends.{is_settled};
+    ghost use Rattle.am_state.specs.Sends.{is_settled};
     ghost use Rattle.am_model.specs.Info.{info_of, ballot_end, waited_for};
     ghost use Rattle.am_model.specs.Nodes.{HasNumbersLeft, HasPlace, next_len};
     ghost use Rattle.am_node.specs.Stands.{state_of};

@@ -5,9 +5,9 @@ pub use Rattle.std.proofs.Common.{true, false, ◌&&◌, nat_lt, count_by, arith
 pub use Rattle.am_base.specs.{declared.entry.Entry.Entry, declared.outcome.Outcome.Outcome, Lists.fits, Lists.top_of}
 pub use Rattle.am_base.specs.Names.{names_of, without_name, IsSet, has, place_of, life_of, name_at, names_from}
 pub use Rattle.am_packet.specs.{Boxes.Letter, Boxes.with_letter}
-pub use Rattle.am_parts.specs.Cores.{CoreState, Keeps, IsInOrder}
-pub use Rattle.am_parts.proofs.ReportLaws.{count_cons}
-pub use Rattle.am_parts.specs.declared.bodies.KeptBody.{KeptBody}
+pub use Rattle.am_state.specs.Cores.{CoreState, Keeps, IsInOrder}
+pub use Rattle.am_state.proofs.ReportLaws.{count_cons}
+pub use Rattle.am_state.specs.declared.bodies.KeptBody.{KeptBody}
 pub use Rattle.am_model.specs.{Emit.ack_of, Emit.quiet, Emit.telling, Emit.nack_of, Emit.Plan, Refresh.refresh_at_end, Ends.IsEndOf}
 pub use Rattle.am_model.specs.Node.{Node, image_of, members, only_name, push_entry, top, has_own_leave, is_within_bound, is_member}
 pub use Rattle.am_model.specs.Receiving.{bodies_after, acknowledges, store_fitting, with_noted, receive_entry, is_view, store}

@@ -9,7 +9,7 @@ unfoldable pub use Rattle.am_model.proofs.EndWords.{ack_row, nack_row, request_r
 pub use Rattle.std.{proofs.Common.slice_index, proofs.Math.ListN.get_or-map}
 pub use Rattle.am_base.specs.{Names.place_of, Lists.blank_row, Lists.member_life}
 unfoldable pub use Rattle.am_base.specs.Lists.{fits}
-pub use Rattle.am_parts.proofs.{Members.members_pushed}
+pub use Rattle.am_state.proofs.{Members.members_pushed}
 pub use Rattle.am_model.proofs.{Sequencing.alike_requested, Sequencing.alike_asked_again}
 pub use Rattle.am_handlers.specs.{Replies.unless, Parts.node_of}
 pub use Rattle.am_handlers.specs.{declared.parts.Parts.Parts}

@@ -1,6 +1,6 @@
 -- Pieces of a member's rows.
 use Rattle.std.specs.Prelude.{◌≡◌, ℕ, Bool, true, false, max, nat_le, if◌then◌else◌}
-use Rattle.am_parts.specs.Cores.{CoreState}
+use Rattle.am_state.specs.Cores.{CoreState}
 use Rattle.am_model.specs.Node.{Node, only_name, is_member, is_sequencer}
 use Rattle.am_handlers.specs.declared.reply.Note.TheVariants as notes
 use Rattle.am_handlers.specs.declared.reply.Telling.{Telling}

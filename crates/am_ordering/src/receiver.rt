@@ -1,7 +1,7 @@
 ghost use Rattle.std.specs.Prelude.{◌≡◌, ◌+◌, ◌≤◌, ◌<◌, Some, false, nat_lt, ◌&&◌, not, IfSome};
 ghost use Rattle.std.specs.Option.{option_copied};
 ghost use Rattle.am_handlers.specs.Prelude.{IsNumber, IsEntry, IsInOrder, has_own_leave, is_sequencer, top, waiting, IsEndOf, IsSteady, node_of};
-ghost use Rattle.am_parts.specs.Cores.{Keeps};
+ghost use Rattle.am_state.specs.Cores.{Keeps};
 ghost use Rattle.am_model.specs.Receiving.{with_noted, accept_row, bcast_row, order_row, receive_entry, own_body, body_of, data_of};
 ghost use Rattle.am_handlers.specs.Replies.{Replies};
 ghost use Rattle.am_ordering.specs.Receiving.{note, ack_where, Follows};

@@ -82,7 +82,7 @@ fn is_among_lowest(set: Names, count: u8, name: Name) -> bool
 }
 
 /// Whether the node is among so many lowest members other than the sequencer.
-#[tactic(auto, using(am_parts::proofs::Ends::top_laws))]
+#[tactic(auto, using(am_state::proofs::Ends::top_laws))]
 fn acknowledges(parts: &Parts, sequencer: Name) -> bool
     ensures { result ≡ acknowledges (node_of parts.now) sequencer (node_of parts.now) }
 {

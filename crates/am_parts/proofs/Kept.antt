@@ -2,7 +2,7 @@
 use Rattle.std.proofs.Common.{◌≡◌, List, [], ◌∷◌, filter, cond, Bool, true, refl, ap, ◌∙◌}
 use Rattle.std.specs.List.{list_all}
 use Rattle.std.proofs.lemmas.Bool.{and_parts}
-use Rattle.am_parts.specs.declared.bodies.KeptBody.{KeptBody}
+use Rattle.am_state.specs.declared.bodies.KeptBody.{KeptBody}
 
 pub all_kept : (p : KeptBody → Bool) (xs : List KeptBody) → list_all p xs ≡ true → filter p xs ≡ xs
 all_kept p [] is = refl

@@ -12,10 +12,10 @@ use Rattle.am_base.specs.declared.entry.Entry.{Entry}
 use Rattle.am_base.specs.declared.image.Image.{Image}
 use Rattle.am_base.specs.Lists.{Log, fold, after, fits, AllFit, members_of, members_at, image_at, entry_at, told_by, top_of, with_entry}
 use Rattle.am_base.specs.Limits.{IsImage, IsEntry}
-use Rattle.am_parts.specs.Kept.{IsKept, above}
-use Rattle.am_parts.proofs.Folds.{slice_get-drop}
-use Rattle.am_parts.proofs.Ends.{kept-push, kept-above, end-self, end-above, end-told, end-image, told-push, image-push, image-top, image-start, image-next}
-use Rattle.am_parts.proofs.Ends.{above-above}
+use Rattle.am_state.specs.Kept.{IsKept, above}
+use Rattle.am_state.proofs.Folds.{slice_get-drop}
+use Rattle.am_state.proofs.Ends.{kept-push, kept-above, end-self, end-above, end-told, end-image, told-push, image-push, image-top, image-start, image-next}
+use Rattle.am_state.proofs.Ends.{above-above}
 use Rattle.am_parts.specs.declared.history.Slot.{Slot}
 use Rattle.am_parts.specs.Histories.{entries_of, list_of, HaveMembers, IsRing}
 

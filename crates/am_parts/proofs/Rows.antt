@@ -15,7 +15,7 @@ use Rattle.am_base.specs.Names.{place_of, life_of, has, with_name, without_name,
 use Rattle.am_base.specs.Lists.{blank_row, at_place, members_of, member_life, row_after_view, with_row, is_blank, after}
 use Rattle.am_base.proofs.Places.{by_place_all}
 use Rattle.std.proofs.Math.Seq.{map-set_same}
-use Rattle.am_parts.proofs.Folds.{split}
+use Rattle.am_state.proofs.Folds.{split}
 use Rattle.am_base.specs.Limits.{IsNumber, IsStamp, IsRow, IsImage}
 use Rattle.am_parts.specs.Tables.{IsTable}
 

@@ -3,7 +3,7 @@ use Rattle.std.specs.Prelude.{◌≡◌, ℕ, ◌+◌, List, map, slice_get, Som
 use Rattle.am_base.specs.declared.image.Image.{Image}
 use Rattle.am_base.specs.declared.entry.Entry.{Entry}
 use Rattle.am_base.specs.Lists.{Log, members_at, told_by}
-use Rattle.am_parts.specs.Kept.{IsKept}
+use Rattle.am_state.specs.Kept.{IsKept}
 use Rattle.am_parts.specs.declared.history.Slot.{Slot}
 
 -- a list from its base on, and how many entries may be kept

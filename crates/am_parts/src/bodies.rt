@@ -1,34 +1,12 @@
 ghost use Rattle.std.specs.Prelude.{◌≡◌, ◌≤◌, ◌==◌, ◌&&◌, [], length, option_map, not, nat_le};
 ghost use Rattle.std.specs.List.{list_any, list_all};
-ghost use Rattle.am_parts.specs.Bodies.{is_of, find_body, keep_body, drop_bodies};
+ghost use Rattle.am_state.specs.Bodies.{is_of, find_body, keep_body, drop_bodies};
 
 use am_base::body::{Body, BodyRef};
 use am_base::name::Name;
+use am_state::bodies::KeptBody;
 use arrayvec::ArrayVec;
 use std::marker::Model;
-
-/// A kept body, with the send that it belongs to.
-#[derive(Drop)]
-pub struct KeptBody {
-    /// Whose send it is.
-    pub from: Name,
-    /// The send's request number.
-    pub req: u32,
-    /// The body.
-    pub body: Body,
-}
-
-impl Default for KeptBody {
-    ghost is_default = { λ kept. kept ≡ record { from = 0; req = 0; body = [] } };
-
-    fn default() -> KeptBody {
-        KeptBody {
-            from: Name::default(),
-            req: 0,
-            body: Body::default(),
-        }
-    }
-}
 
 /// At most sixteen kept bodies, the oldest first. Contracts see it as their list.
 #[derive(Drop)]
@@ -38,7 +16,7 @@ pub struct Pool {
 
 impl Model for Pool {
     ghost use Rattle.std.specs.Prelude.{List, ◌≤◌, length};
-    ghost use Rattle.am_parts.specs.declared.bodies.KeptBody.{KeptBody};
+    ghost use Rattle.am_state.specs.declared.bodies.KeptBody.{KeptBody};
 
     ghost Value = { List KeptBody };
 

@@ -2,7 +2,7 @@ ghost use Rattle.std.specs.Prelude.{◌≡◌, ℕ, ◌+◌, ◌≤◌, ◌<◌,
 ghost use Rattle.am_base.specs.Names.{names_of, name_at, size};
 ghost use Rattle.am_base.specs.Lists.{top_of, told_by};
 ghost use Rattle.am_base.specs.Fronts.{accept_front, is_held, counted_at};
-ghost use Rattle.am_parts.specs.Reports.{reports_of, no_reports, after_report, with_admitted, reports_from, lesser, least_stored, least_taken};
+ghost use Rattle.am_state.specs.Reports.{reports_of, no_reports, after_report, with_admitted, reports_from, lesser, least_stored, least_taken};
 
 use crate::log::Log;
 use crate::state::Core;
@@ -62,9 +62,9 @@ fn counted_at<L: Log>(log: &L, number: u32) -> Names
 }
 
 impl Fronts {
-    ghost use Rattle.am_parts.specs.Kept.{IsKept};
-    ghost use Rattle.am_parts.specs.Cores.{IsInOrder};
-    ghost use Rattle.am_parts.specs.Refresh.{core_and_reports, own_report, go_up, refresh, LeadsBy, StaysAt, MayLead};
+    ghost use Rattle.am_state.specs.Kept.{IsKept};
+    ghost use Rattle.am_state.specs.Cores.{IsInOrder};
+    ghost use Rattle.am_state.specs.Refresh.{core_and_reports, own_report, go_up, refresh, LeadsBy, StaysAt, MayLead};
 
     /// Nobody has reported anything.
     pub fn new() -> Fronts
@@ -122,7 +122,7 @@ impl Fronts {
     }
 
     /// The least that the names of a set have taken; None exactly where the set is empty.
-    #[tactic(auto, using(crate::proofs::ReportLaws::least_end))]
+    #[tactic(auto, using(am_state::proofs::ReportLaws::least_end))]
     pub fn least_taken(&self, set: Names) -> Option<u32>
         ensures { result ≡ least_taken (reports_of self.now) set }
     {
@@ -140,7 +140,7 @@ impl Fronts {
     }
 
     /// The least that the names of a set have stored; None exactly where the set is empty.
-    #[tactic(auto, using(crate::proofs::ReportLaws::least_end))]
+    #[tactic(auto, using(am_state::proofs::ReportLaws::least_end))]
     pub fn least_stored(&self, set: Names) -> Option<u32>
         ensures { result ≡ least_stored (reports_of self.now) set }
     {
@@ -158,7 +158,7 @@ impl Fronts {
     }
 
     /// How many names a set has, and how many of them have stored up to a number.
-    #[tactic(auto, using(crate::proofs::ReportLaws::count_laws))]
+    #[tactic(auto, using(am_state::proofs::ReportLaws::count_laws))]
     fn holders(&self, counted: Names, number: u32) -> (u32, u32)
         ensures names { result.0 ≡ size counted }
         ensures held { result.1 ≡ count_by (λ name. nat_le number (reports_of self.now name).stored)
@@ -178,7 +178,7 @@ impl Fronts {
     }
 
     /// Whether as many have stored the entry at a number as it needs.
-    #[tactic(auto, using(crate::proofs::Views::resilience_at))]
+    #[tactic(auto, using(am_state::proofs::Views::resilience_at))]
     fn is_held<L: Log>(&self, log: &L, number: u32) -> bool
         requires low { (L.list log.now).start < number }
         requires high { number ≤ top_of (L.list log.now) }
@@ -234,7 +234,7 @@ impl Fronts {
     }
 
     /// Reports what the node itself has.
-    #[tactic(auto, unfolding(crate::specs::Refresh::own_report))]
+    #[tactic(auto, unfolding(am_state::specs::Refresh::own_report))]
     fn report_own<L: Log>(&mut self, core: &Core<L>)
         ensures { core_and_reports core.now self.new
             ≡ own_report (core_and_reports core.now self.old) }

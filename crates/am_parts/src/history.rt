@@ -48,7 +48,7 @@ impl Model for History {
 
 impl History {
     ghost use Rattle.std.specs.Prelude.{length};
-    ghost use Rattle.am_parts.specs.Kept.{above};
+    ghost use Rattle.am_state.specs.Kept.{above};
     ghost use Rattle.am_parts.specs.Histories.{HaveMembers, entries_of};
 
     /// A blank history with room for what the window asks for.

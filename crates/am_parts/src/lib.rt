@@ -5,7 +5,6 @@
 pub mod bodies;
 pub mod fronts;
 pub mod history;
-pub mod laws;
 pub mod log;
 pub mod sender;
 pub mod state;

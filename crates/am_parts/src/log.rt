@@ -4,7 +4,7 @@ ghost use Rattle.am_base.specs.Most.{most_number};
 ghost use Rattle.am_base.specs.Lists as lists;
 ghost use Rattle.am_base.specs.Lists.{top_of, entry_at, members_at, told_by, with_entry, fits, at_place, row_of};
 ghost use Rattle.am_base.specs.Limits.{IsStamp, IsNumber, IsRow, IsImage, IsEntry};
-ghost use Rattle.am_parts.specs.Kept.{IsKept, above};
+ghost use Rattle.am_state.specs.Kept.{IsKept, above};
 
 use am_base::entry::{Entry, EntryRef};
 use am_base::image::{Image, Row};

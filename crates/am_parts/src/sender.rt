@@ -1,46 +1,21 @@
 ghost use Rattle.std.specs.Prelude.{ℕ, List, find, map, IsTrue, ◌≡◌, ◌<◌, ◌≤◌, ◌+◌, length, OnOk, OnErr, IfOk, IfErr, IsOk, ◌↔◌, Some, IfSome, option_map};
 ghost use Rattle.std.specs.Option.{option_copied};
 ghost use Rattle.am_base.specs.Most.{most_number};
-ghost use Rattle.am_parts.specs.Sends.{no_sends, without_request, is_request, waiting_send, collected_of, unsettled_count, is_settled, settle_send, submit, settle, collect, collect_outcome, next_request, AreKept};
+ghost use Rattle.am_state.specs.Sends.{no_sends, without_request, is_request, waiting_send, collected_of, unsettled_count, is_settled, settle_send, submit, settle, collect, collect_outcome, next_request, AreKept};
 
 use am_base::body::{Body, SentBody};
 use am_base::outcome::Outcome;
+use am_state::sender::OwnSend;
 use arrayvec::ArrayVec;
 use std::marker::Model;
 
-/// A send of this node: its request number, its body, and the number of its entry once that is known.
-#[derive(Drop)]
-pub struct OwnSend {
-    /// Its request number, from 1.
-    pub req: u32,
-    /// Its body.
-    pub body: Body,
-    /// The number at which it stands in the list, once it is settled.
-    pub number: Option<u32>,
-}
-
-impl Default for OwnSend {
-    ghost use Rattle.std.specs.Prelude.{[], None};
-
-    ghost is_default = { λ send. send ≡ record { req = 0; body = []; number = None } };
-
-    fn default() -> OwnSend {
-        OwnSend {
-            req: 0,
-            body: Body::default(),
-            number: None,
-        }
-    }
-}
-
-impl OwnSend {
-    fn outcome(&self, req: u32) -> Outcome
-        ensures { result ≡ collected_of req self.now.number }
-    {
-        match self.number {
-            None => Outcome::Pending { req },
-            Some(number) => Outcome::Sent { req, number },
-        }
+/// What a send of this request answers.
+fn outcome_of(send: &OwnSend, req: u32) -> Outcome
+    ensures { result ≡ collected_of req send.now.number }
+{
+    match send.number {
+        None => Outcome::Pending { req },
+        Some(number) => Outcome::Sent { req, number },
     }
 }
 
@@ -59,7 +34,7 @@ pub struct Sender {
 }
 
 impl Model for Sender {
-    ghost use Rattle.am_parts.specs.Sends.{Sends, AreKept};
+    ghost use Rattle.am_state.specs.Sends.{Sends, AreKept};
 
     ghost Value = { Sends };
 
@@ -210,7 +185,7 @@ impl Sender {
     {
         match self.find(req) {
             None => Outcome::Unknown,
-            Some(send) => send.outcome(req),
+            Some(send) => outcome_of(send, req),
         }
     }
 

@@ -33,7 +33,7 @@ pub struct Core<L: Log> {
 
 impl<L: Log> Model for Core<L> {
     ghost use Rattle.std.specs.Prelude.{◌≡◌, ◌+◌};
-    ghost use Rattle.am_parts.specs.Cores.{CoreState, CoreKeeps};
+    ghost use Rattle.am_state.specs.Cores.{CoreState, CoreKeeps};
 
     ghost Value = { CoreState };
 
@@ -53,7 +53,7 @@ impl<L: Log> Model for Core<L> {
 }
 
 /// Whether the entry of a number is a Data, which changes no member.
-#[tactic(auto, using(crate::proofs::Members::members_stay))]
+#[tactic(auto, using(am_state::proofs::Members::members_stay))]
 fn is_data<L: Log>(log: &L, number: u32) -> bool
     requires low { (L.list log.now).start < number }
     requires high { number ≤ top_of (L.list log.now) }
@@ -68,11 +68,11 @@ impl<L: Log> Core<L> {
     ghost use Rattle.am_base.specs.Names.{has};
     ghost use Rattle.am_base.specs.Limits.{IsEntry};
     ghost use Rattle.am_base.specs.Lists.{told_by, members_of, fits, with_entry};
-    ghost use Rattle.am_parts.specs.Cores.{Keeps, Adds, Sends, advance, since_accepted, trim_to, trim_list, IsInOrder};
+    ghost use Rattle.am_state.specs.Cores.{Keeps, Adds, Sends, advance, since_accepted, trim_to, trim_list, IsInOrder};
 
     /// What is accepted goes on to what is told, as far as the list is stored; and who joined passes over what is
     /// accepted below its Join.
-    #[tactic(auto, using(crate::proofs::CoreLaws::core_laws), unfolding(crate::specs::Cores::accept, crate::specs::Cores::pass_over))]
+    #[tactic(auto, using(am_state::proofs::CoreLaws::core_laws), unfolding(am_state::specs::Cores::accept, am_state::specs::Cores::pass_over))]
     pub fn advance(&mut self)
         ensures value { self.new ≡ advance self.old }
         ensures keeps { Keeps advance self.old self.new }
@@ -86,7 +86,7 @@ impl<L: Log> Core<L> {
     }
 
     /// Trims the log up to a number, where that is above its base.
-    #[tactic(auto, using(crate::proofs::CoreLaws::core_laws))]
+    #[tactic(auto, using(am_state::proofs::CoreLaws::core_laws))]
     pub fn trim_to(&mut self, base: u32)
         requires { base ≤ self.old.taken }
         ensures value { self.new ≡ trim_list base self.old }
@@ -99,7 +99,7 @@ impl<L: Log> Core<L> {
     }
 
     /// Adds an entry at the end.
-    #[tactic(auto, using(crate::proofs::CoreLaws::core_laws))]
+    #[tactic(auto, using(am_state::proofs::CoreLaws::core_laws))]
     pub fn push(&mut self, entry: &EntryRef)
         requires fits { fits (told_by self.old.log) entry.now ≡ true }
         requires room { length self.old.log.entries < self.old.rules.window + 15 }
@@ -113,7 +113,7 @@ impl<L: Log> Core<L> {
     }
 
     /// All who are members after some number from what is accepted on.
-    #[tactic(auto, using(crate::proofs::CoreLaws::union_laws))]
+    #[tactic(auto, using(am_state::proofs::CoreLaws::union_laws))]
     pub fn since_accepted(&self) -> Names
         ensures value { result ≡ since_accepted self.now }
         ensures model { Sends since_accepted self.now result }
@@ -128,7 +128,7 @@ impl<L: Log> Core<L> {
     }
 
     /// Whether the node is a member after the last entry.
-    #[tactic(auto, using(crate::proofs::Ends::top_laws))]
+    #[tactic(auto, using(am_state::proofs::Ends::top_laws))]
     pub fn is_member(&self) -> bool
         ensures { result ≡ has (members_of (told_by self.now.log)) self.now.who }
     {

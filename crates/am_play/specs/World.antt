@@ -17,7 +17,7 @@ use Rattle.am_group.specs.declared.event.Act.{Act}
 use Rattle.am_group.specs.declared.event.Act.TheVariants as act
 use Rattle.am_group.specs.declared.event.Event.{Event}
 use Rattle.am_group.specs.declared.event.Record.{Record}
-use Rattle.am_parts.specs.Cores.{CoreState}
+use Rattle.am_state.specs.Cores.{CoreState}
 use Rattle.am_group.specs.Journals.{letter_at, the_record}
 pub use Rattle.am_group.specs.Journals.{no_caller}
 use Rattle.am_group.specs.Addressed.{is_for}

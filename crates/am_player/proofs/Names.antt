@@ -5,7 +5,7 @@ use Rattle.std.specs.List.{range_with_len}
 use Rattle.am_base.specs.Votes.{all_names}
 use Rattle.am_play.specs.World.{World}
 use Rattle.am_model.specs.Node.{has_log}
-use Rattle.am_parts.proofs.Folds.{split}
+use Rattle.am_state.proofs.Folds.{split}
 use Rattle.am_ballots.proofs.Votes.{named}
 
 abbrev pub has_log_in : World → ℕ → Bool

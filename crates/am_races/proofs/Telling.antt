@@ -10,10 +10,10 @@ use Rattle.am_base.specs.declared.outcome.Outcome.TheVariants as said
 use Rattle.am_base.specs.declared.event.NodeEvent.{NodeEvent}
 use Rattle.am_base.specs.declared.event.NodeEvent.TheVariants as does
 use Rattle.am_base.specs.Lists.{entry_at}
-use Rattle.am_parts.specs.Cores.{IsInOrder}
-use Rattle.am_parts.proofs.Ends.{end-entry}
+use Rattle.am_state.specs.Cores.{IsInOrder}
+use Rattle.am_state.proofs.Ends.{end-entry}
 use Rattle.am_laws.proofs.Ballots.{entry_is}
-use Rattle.am_parts.specs.Sends.{Sends, collected_of, outcome_of, collect_outcome, is_settled}
+use Rattle.am_state.specs.Sends.{Sends, collected_of, outcome_of, collect_outcome, is_settled}
 use Rattle.am_group.specs.declared.event.Act.{Act}
 use Rattle.am_group.specs.declared.event.Act.TheVariants as act
 use Rattle.am_model.specs.declared.status.Status.{Status}

@@ -18,7 +18,7 @@ use Rattle.am_group.specs.declared.plan.RacePlan.{RacePlan}
 use Rattle.am_group.specs.Addressed.{is_for, first_for, next_for}
 use Rattle.am_group.specs.Deliveries.{name_of}
 use Rattle.am_group.specs.Journals.{letters_of, letter_at}
-use Rattle.am_parts.proofs.Folds.{slice_get-drop}
+use Rattle.am_state.proofs.Folds.{slice_get-drop}
 use Rattle.am_play.specs.Claims.{heard_by}
 use Rattle.am_model.specs.Ends.{IsEndOf}
 use Rattle.am_model.specs.Node.{Node}

@@ -5,8 +5,8 @@ pub use Rattle.std.proofs.Common.{refl, sym, ap, subst, ◌∙◌, arith, length
 pub use Rattle.am_base.specs.{Most.most_number, declared.name.Stamp.Stamp, declared.entry.Entry.Entry, declared.image.Image.Image}
 pub use Rattle.am_base.specs.{declared.outcome.Outcome.Outcome, Limits.IsEntry, Names.nobody, Stamps.stamp_lt, Stamps.stamp_eq}
 pub use Rattle.am_base.specs.declared.entry.Entry.TheVariants.{Data, Join, Leave, View}
-pub use Rattle.am_parts.specs.Cores.{IsInOrder}
-pub use Rattle.am_parts.proofs.{Ends.told-push, Folds.split}
+pub use Rattle.am_state.specs.Cores.{IsInOrder}
+pub use Rattle.am_state.proofs.{Ends.told-push, Folds.split}
 pub use Rattle.am_model.specs.{Emit.Plan, Emit.quiet, Emit.entries_to_serve, Emit.telling, Emit.ack_of}
 pub use Rattle.am_model.specs.{Ballots.Verdict, Ballots.with_promise, Ballots.decide, Ends.IsEndOf}
 pub use Rattle.am_model.specs.Node.{has_log, Node, Ballot, top, image_of, view, acts, is_member, push_entry, trim_up_to, only_name}

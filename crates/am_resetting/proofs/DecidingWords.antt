@@ -13,11 +13,11 @@ pub use Rattle.am_base.specs.declared.entry.Entry.TheVariants.{Data, Join, Leave
 pub use Rattle.am_base.specs.Lists.{Log, top_of, with_entry, members_of, blank_row, is_blank, at_place, member_life, row_after_view}
 unfoldable pub use Rattle.am_base.specs.{Votes.best_from, Lists.after, Lists.fits}
 pub use Rattle.am_base.proofs.{Places.slice_index-by_place, Places.get_or-by_place, Places.length-by_place, Greatest.and_both}
-pub use Rattle.am_parts.specs.{Cores.CoreState, Cores.Keeps, Cores.trim_to, Cores.Stands, Kept.IsKept}
-pub use Rattle.am_parts.proofs.{Ends.end-top, Ends.end-told, Ends.told-push, CoreLaws.stands_self, Folds.split, Lives.row_at, Lives.member_at}
+pub use Rattle.am_state.specs.{Cores.CoreState, Cores.Keeps, Cores.trim_to, Cores.Stands, Kept.IsKept}
+pub use Rattle.am_state.proofs.{Ends.end-top, Ends.end-told, Ends.told-push, CoreLaws.stands_self, Folds.split, Lives.row_at, Lives.member_at}
 pub use Rattle.am_parts.proofs.Rows.{within_all, within_none}
-pub use Rattle.am_parts.specs.Reports.{least_of, reports_from}
-pub use Rattle.am_parts.specs.Sends.{next_request}
+pub use Rattle.am_state.specs.Reports.{least_of, reports_from}
+pub use Rattle.am_state.specs.Sends.{next_request}
 pub use Rattle.am_model.specs.Node.{Node, Ballot, has_log, top, image_of, view, members, acts, is_member, is_sequencer, push_entry, name_where, trim_up_to}
 pub use Rattle.am_model.specs.Ballots.{own_vote, is_waited_for, left_in, overtake, with_promise, Verdict, taken_by, with_answer, with_end, goes_on, ends}
 pub use Rattle.am_model.specs.Ballots.{decide_view, trim_for}

@@ -4,7 +4,7 @@ use Rattle.am_resetting.proofs.DecidingWords.{length-append, arith, nat_tests, I
 use Rattle.am_resetting.proofs.DecidingWords.{with_entry, after, fits, members_of, CoreState, Keeps, trim_to, end-top, end-told, told-push, stands_self, split}
 use Rattle.am_resetting.proofs.DecidingWords.{has_log, Node, Ballot, top, image_of, view, members, acts, is_member, is_sequencer, push_entry, IsKept, next_request}
 use Rattle.am_resetting.proofs.DecidingWords.{NodeKeeps, IsSteady, due_pushed, keeps_steady, over_own, IsTakenOut, IsUpTo, MayStore}
-use Rattle.am_parts.specs.Reports as reports
+use Rattle.am_state.specs.Reports as reports
 use Rattle.am_resetting.proofs.{Orders.lt_not_eq, Views.view_has, Views.view_is, Views.view_stays_data, Views.view_stays_join, Views.view_stays_leave}
 
 -- who doesn't act doesn't lead

@@ -5,7 +5,7 @@ use Rattle.am_resetting.proofs.DecidingWords.{better_of, best_from, best_vote, a
 use Rattle.am_resetting.proofs.DecidingWords.{those, push_entry, trim_up_to, Verdict, own_vote, best_of, is_waited_for, left_in, taken_by, with_answer, with_end}
 use Rattle.am_resetting.proofs.DecidingWords.{goes_on, ends, decide_view, trim_for, decide, IsEndOf, with_log, told_same, top_same, own_vote_same, ComesTo}
 use Rattle.am_base.specs.declared.outcome.Outcome.TheVariants as said
-use Rattle.am_parts.specs.Reports as reports
+use Rattle.am_state.specs.Reports as reports
 use Rattle.am_resetting.proofs.Looked.{Looked, Waited, Idle, Counted, some_waited, few, enough}
 
 -- it is enough to look at the same node with another list

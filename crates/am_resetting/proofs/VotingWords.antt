@@ -5,8 +5,8 @@ pub use Rattle.std.proofs.Common.{if◌then◌else◌, Some, sym, subst}
 pub use Rattle.am_base.specs.{Most.most_number, Names.minus, Names.has, Stamps.stamp_lt, Stamps.stamp_eq, Votes.Shown, Votes.best_vote}
 pub use Rattle.am_base.specs.{declared.image.Vote.Vote, declared.name.Stamp.Stamp, declared.outcome.Outcome.Outcome, Lists.told_by}
 pub use Rattle.am_base.proofs.Greatest.{and_both}
-pub use Rattle.am_parts.proofs.Folds.{split}
-pub use Rattle.am_parts.specs.Cores.{IsInOrder}
+pub use Rattle.am_state.proofs.Folds.{split}
+pub use Rattle.am_state.specs.Cores.{IsInOrder}
 pub use Rattle.am_model.specs.{Emit.quiet, Emit.telling, Resets.take_vote, Resets.is_open, Calls.give_up_of, Calls.ask_row, Ends.IsEndOf}
 pub use Rattle.am_model.specs.Node.{Node, Ballot, those, top, view, has_log, only_name, members, is_member, others}
 pub use Rattle.am_model.specs.Ballots.{with_vote, without_voter, next_stamp, new_ballot, own_vote, has_voted, newly_needed, with_promise, vote_of}

@@ -9,7 +9,7 @@ use Rattle.am_base.specs.Limits.{IsEntry}
 use Rattle.am_base.specs.Lists.{fits}
 use Rattle.am_base.specs.Names.{has, is_within}
 use Rattle.am_base.specs.Stamps.{stamp_lt}
-use Rattle.am_parts.specs.Cores.{IsInOrder}
+use Rattle.am_state.specs.Cores.{IsInOrder}
 use Rattle.am_model.specs.Node.{has_log, Node, Ballot, top, image_of, members, acts}
 use Rattle.am_handlers.specs.declared.parts.Parts.{Parts}
 use Rattle.am_handlers.specs.Keeps.{IsOwnBallot}

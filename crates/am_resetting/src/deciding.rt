@@ -3,7 +3,7 @@ ghost use Rattle.am_handlers.specs.Prelude.{most_number, IsEntry, fits, told_by,
 ghost use Rattle.am_base.specs.Outcomes.{is_took};
 ghost use Rattle.am_base.specs.declared.entry.Entry.TheVariants.{View};
 ghost use Rattle.am_model.specs.Ballots.{with_end, with_answer, decide, decide_view, trim_for, taken_by};
-ghost use Rattle.am_parts.specs.Reports.{reports_from, least_of};
+ghost use Rattle.am_state.specs.Reports.{reports_from, least_of};
 ghost use Rattle.am_ballots.specs.Kept.{ballot_of};
 ghost use Rattle.am_resetting.specs.Deciding.{Answered, IsTakenOut, MayBeView, MayStore};
 ghost use Rattle.am_handlers.specs.Verdicts.{ComesTo, IsTold};

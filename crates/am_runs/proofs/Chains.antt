@@ -7,7 +7,7 @@ use Rattle.am_runs.proofs.UnballotedWords.{refreshes, settles, begins_list, depa
 use Rattle.am_runs.proofs.UnballotedWords.{Changes, unchanged, changed, rests_refresh, rests_closed, settle_is, logged, asking_log, asking}
 use Rattle.am_base.specs.declared.outcome.Outcome.TheVariants as said
 use Rattle.am_packet.specs.declared.packet.Packet.TheVariants as packet
-use Rattle.am_parts.specs.Sends as own
+use Rattle.am_state.specs.Sends as own
 use Rattle.am_model.specs.declared.status.Status.TheVariants as status
 use Rattle.am_runs.proofs.{UnballotedKept.NodeOk, Others.looks_leave}
 

@@ -3,7 +3,7 @@ use Rattle.am_runs.proofs.UnballotedWords.{◌≡◌, ℕ, ◌+◌, ◌≤◌, �
 use Rattle.am_runs.proofs.UnballotedWords.{length-append, arith, All, flat_map-append, All-push, All-head, All-tail, Image, Entry, Data, Join, Leave, View, Rules}
 use Rattle.am_runs.proofs.UnballotedWords.{life_of, Log, blank, fold, after, fits, at_place, requests_of, request_in, Node, top, is_member, push_entry}
 use Rattle.am_runs.proofs.UnballotedWords.{founders_view, founding_stamp, has_log, is_view, split, IsGood, image_of, mem, SmallName, good_push, get_last}
-use Rattle.am_parts.specs.Sends as own
+use Rattle.am_state.specs.Sends as own
 use Rattle.am_model.specs.Node as nodes
 use Rattle.am_runs.proofs.{UnballotedKept.first_of, UnballotedKept.NodeOk, UnballotedKept.node_more, Others.pushed_ok, Turns.Turn}
 

@@ -8,7 +8,7 @@ use Rattle.am_runs.proofs.UnballotedWords.{refresh_at_end, is_view, hears_member
 use Rattle.am_runs.proofs.UnballotedWords.{mem_push, request_within, next_in, Cause, Numbers, asked_send, own_send, asked_join, asked_leave, MayBeWelcomed}
 use Rattle.am_runs.proofs.UnballotedWords.{Change, refreshes, settles, numbers, notes, stores, begins_list, departs, promises, opens, looks, fetches, stores_view}
 use Rattle.am_runs.proofs.UnballotedWords.{queues, collects, takes, asks_to_join, closes, base_up, rests_refresh, settle_is, logged}
-use Rattle.am_parts.specs.Sends as own
+use Rattle.am_state.specs.Sends as own
 use Rattle.am_model.specs.declared.status.Status.TheVariants as status
 use Rattle.am_model.specs.Node as nodes
 use Rattle.am_base.proofs.Rows as rows

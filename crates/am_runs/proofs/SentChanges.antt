@@ -12,9 +12,9 @@ use Rattle.am_base.specs.declared.outcome.Outcome.TheVariants as said
 use Rattle.am_base.specs.declared.event.NodeEvent.TheVariants as does
 use Rattle.am_packet.specs.declared.packet.Packet.{Packet}
 use Rattle.am_group.specs.declared.event.Record.{Record}
-use Rattle.am_parts.specs.declared.sender.OwnSend.{OwnSend}
-use Rattle.am_parts.specs.declared.bodies.KeptBody.{KeptBody}
-use Rattle.am_parts.specs.Bodies.{is_of, find_body}
+use Rattle.am_state.specs.declared.sender.OwnSend.{OwnSend}
+use Rattle.am_state.specs.declared.bodies.KeptBody.{KeptBody}
+use Rattle.am_state.specs.Bodies.{is_of, find_body}
 use Rattle.am_model.specs.Node.{Node, Ballot, push_entry, trim_up_to, waiting}
 use Rattle.am_model.specs.Receiving.{own_body, first_body, body_of, bodies_after}
 use Rattle.am_model.specs.Ballots.{Verdict}

@@ -8,13 +8,13 @@ use Rattle.am_base.specs.declared.entry.Entry.TheVariants.{Data}
 use Rattle.am_packet.specs.declared.packet.Packet.{Packet}
 use Rattle.am_packet.specs.declared.packet.Packet.TheVariants.{Request, Spread, Bcast, Piece}
 use Rattle.am_packet.specs.Boxes.{Letter}
-use Rattle.am_parts.specs.Cores.{accept, pass_over}
-use Rattle.am_parts.specs.Refresh.{own_report, tell, go_on, let_go}
+use Rattle.am_state.specs.Cores.{accept, pass_over}
+use Rattle.am_state.specs.Refresh.{own_report, tell, go_on, let_go}
 use Rattle.am_group.specs.declared.event.Record.{Record}
-use Rattle.am_parts.specs.declared.sender.OwnSend.{OwnSend}
-use Rattle.am_parts.specs.Sends as own
-use Rattle.am_parts.specs.declared.bodies.KeptBody.{KeptBody}
-use Rattle.am_parts.specs.Bodies.{is_of, with_body, keep_body}
+use Rattle.am_state.specs.declared.sender.OwnSend.{OwnSend}
+use Rattle.am_state.specs.Sends as own
+use Rattle.am_state.specs.declared.bodies.KeptBody.{KeptBody}
+use Rattle.am_state.specs.Bodies.{is_of, with_body, keep_body}
 use Rattle.am_model.specs.Node.{Node, is_sequencer, push_entry, waiting}
 use Rattle.am_model.specs.Refresh.{advance, lead, refresh, accepted_at, settle_at, settle_waiting, settle, refresh_at_end}
 use Rattle.am_model.specs.Calls.{with_queued}

@@ -1,7 +1,7 @@
 -- The requests of a node's own sends that aren't settled are some number, the next one, and so on.
 use Rattle.am_runs.proofs.UnballotedWords.{◌≡◌, ℕ, ◌+◌, ◌<◌, ◌≤◌, ◌==◌, ◌&&◌, ◌||◌, Bool, true, false, not, List, [], ◌∷◌, ◌++◌, map, filter, find, Option, Some}
 use Rattle.am_runs.proofs.UnballotedWords.{None, is_some, is_none, refl, sym, ap, ◌∙◌, arith, list_any, nat_tests, OwnSend, split}
-use Rattle.am_parts.specs.Sends as own
+use Rattle.am_state.specs.Sends as own
 
 -- those that aren't settled are the next requests up to the last, and those that are lie below a number
 unfoldable pub Turn : ℕ → ℕ → List OwnSend → ℕ → Type 0

@@ -4,7 +4,7 @@ use Rattle.am_runs.proofs.UnballotedWords.{◌∙◌, subst, arith, All, nat_tes
 use Rattle.am_runs.proofs.UnballotedWords.{All-weaker, Stamp, Entry, Data, Join, Rules, stamp_eq, CoreState, accept, pass_over, slice_get-drop, OwnSend, item_at}
 use Rattle.am_runs.proofs.UnballotedWords.{Node, view, is_member, acts, is_sequencer, entries_above, waiting, is_data_of, accepted_at, settle_at, settle_waiting}
 use Rattle.am_runs.proofs.UnballotedWords.{settle, split, and_both, own_data, logged, get_take}
-use Rattle.am_parts.specs.Sends as own
+use Rattle.am_state.specs.Sends as own
 use Rattle.am_runs.proofs.{Lists.get_item, Lists.within_get, UnballotedKept.first_of, UnballotedKept.At, UnballotedKept.FrontsOk, UnballotedKept.SendOk, UnballotedKept.NodeOk}
 
 -- ---- who leads

@@ -27,10 +27,10 @@ pub use Rattle.am_base.specs.{Names.nobody}
 unfoldable pub use Rattle.am_base.specs.Lists.{AllFit}
 pub use Rattle.am_packet.specs.declared.packet.Packet.TheVariants.{Bcast, Order, Accept, Welcome, Invite, Vote, Piece, Result}
 pub use Rattle.am_packet.specs.Kinds.{goes_to_any}
-pub use Rattle.am_parts.specs.Cores.{CoreState}
-unfoldable pub use Rattle.am_parts.specs.Cores.{accept}
-pub use Rattle.am_parts.proofs.Ends.{entry-get}
-unfoldable pub use Rattle.am_parts.specs.Refresh.{let_go}
+pub use Rattle.am_state.specs.Cores.{CoreState}
+unfoldable pub use Rattle.am_state.specs.Cores.{accept}
+pub use Rattle.am_state.proofs.Ends.{entry-get}
+unfoldable pub use Rattle.am_state.specs.Refresh.{let_go}
 pub use Rattle.am_group.specs.{declared.event.Record.Record, Deliveries.name_of, Deliveries.taken_in, Deliveries.given_to, Deliveries.deliveries}
 pub use Rattle.am_group.specs.{Groups.above, Groups.numbered_entry, Groups.with_admitted}
 pub use Rattle.am_group.proofs.Places.{get_behind, get_before}

@@ -13,7 +13,7 @@ use Rattle.am_base.specs.Names.{place_of, life_of, name_at, has, size, by_place,
 use Rattle.am_base.specs.Votes.{Shown, best_from, best_vote, all_names}
 use Rattle.am_packet.specs.Boxes.{Letter, place_for, with_letter, letter_to}
 use Rattle.am_packet.specs.Kinds.{kind_of}
-use Rattle.am_parts.specs.declared.sender.OwnSend.{OwnSend}
+use Rattle.am_state.specs.declared.sender.OwnSend.{OwnSend}
 use Rattle.am_model.specs.Node.{Node, Ballot, top, image_of, members, others, name_where, those, push_entry, is_member, is_sequencer, has_room, waiting}
 use Rattle.am_model.specs.Emit.{Plan, quiet, invite_of, accept_of, tells_accepted, with_accept, finish}
 use Rattle.am_model.specs.Refresh.{refresh_at_end}

@@ -6,7 +6,7 @@ use Rattle.am_stands.proofs.StepWords.{idles, stops, returns, steps, rests_refre
 use Rattle.am_stands.proofs.StepWords.{asked_more, asked_other, unique, SendsOnce}
 use Rattle.am_base.specs.declared.outcome.Outcome.TheVariants as said
 use Rattle.am_base.specs.declared.event.NodeEvent.TheVariants as does
-use Rattle.am_parts.specs.Sends as own
+use Rattle.am_state.specs.Sends as own
 use Rattle.am_group.specs.declared.event.Act.TheVariants as act
 
 -- ---- a node's last request number only rises

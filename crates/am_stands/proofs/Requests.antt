@@ -5,7 +5,7 @@ use Rattle.am_stands.proofs.Words.{request_in, Begins, IsGood, image_of, mem, ro
 use Rattle.am_stands.proofs.Words.{settle, World, split, request_within, next_in, found_at, Turn, waiting_is, one_more, waiting_settled, collected_turn}
 use Rattle.am_stands.proofs.Words.{NameStands, OwnTurn}
 use Rattle.am_chain.specs.Group as groups
-use Rattle.am_parts.specs.Sends as own
+use Rattle.am_state.specs.Sends as own
 use Rattle.am_model.specs.Node as nodes
 use Rattle.am_stands.proofs.{Changes.told_all, Heard.OwnFits, Heard.fits_data, Parts.part_get, Welcoming.member_row}
 

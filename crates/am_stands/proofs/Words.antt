@@ -38,9 +38,9 @@ pub use Rattle.am_base.specs.Fronts.{counted_at, need_at, holders_at, is_held, i
 pub use Rattle.am_base.specs.declared.event.NodeEvent.TheVariants.{Done, State, Ask, GiveUp, Tick, Hear}
 pub use Rattle.am_packet.specs.declared.packet.Packet.TheVariants.{Request, Spread, Bcast, Order, Accept, Ack, Nack, Welcome, LeaveAsk, Gone, Vote as VoteOf}
 pub use Rattle.am_packet.specs.declared.packet.Packet.TheVariants.{Fetch, Piece, Result}
-pub use Rattle.am_parts.proofs.Ranges.{all_at}
-pub use Rattle.am_parts.specs.Reports.{after_report, with_admitted, reports_from}
-pub use Rattle.am_parts.proofs.{Again.greatest_low, Again.greatest_there, Views.view_grows}
+pub use Rattle.am_state.proofs.Ranges.{all_at}
+pub use Rattle.am_state.specs.Reports.{after_report, with_admitted, reports_from}
+pub use Rattle.am_state.proofs.{Again.greatest_low, Again.greatest_there, Views.view_grows}
 pub use Rattle.am_group.specs.declared.event.Record.{Record}
 pub use Rattle.am_model.specs.{Refresh.concerned_names, Ballots.with_end, Ballots.has_voted, Joining.all_stored}
 pub use Rattle.am_model.proofs.Sets.{some_size, has_size, has_those}

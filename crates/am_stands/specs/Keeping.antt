@@ -8,7 +8,7 @@ use Rattle.am_base.specs.Founding.{Rules}
 use Rattle.am_base.specs.Names.{has}
 use Rattle.am_packet.specs.declared.packet.Packet.{Packet}
 use Rattle.am_base.specs.Lists.{requests_of}
-use Rattle.am_parts.specs.Sends as own
+use Rattle.am_state.specs.Sends as own
 use Rattle.am_base.specs.Whole.{Begins, IsGood}
 use Rattle.am_chain.specs.Group.{Group}
 use Rattle.am_chain.specs.Runs.{Run}

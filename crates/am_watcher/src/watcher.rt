@@ -170,7 +170,7 @@ impl Watcher {
     }
 
     /// How many of a view's members have stored it.
-    #[tactic(auto, using(am_parts::proofs::ReportLaws::count_laws))]
+    #[tactic(auto, using(am_state::proofs::ReportLaws::count_laws))]
     fn holders(&self, v: &Pending) -> u32
         ensures { result ≡ count_by (has_stored (watching_of self.now) v.now)
             (names_of v.now.view.members) }

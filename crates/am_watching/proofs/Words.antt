@@ -14,7 +14,7 @@ pub use Rattle.am_base.specs.{declared.outcome.Outcome.Outcome}
 pub use Rattle.am_base.specs.declared.entry.Entry.TheVariants.{Data, Join, Leave, View}
 unfoldable pub use Rattle.am_base.specs.Lists.{fold}
 pub use Rattle.am_base.proofs.Greatest.{split, and_both}
-pub use Rattle.am_parts.proofs.ReportLaws.{names_more, names_end}
+pub use Rattle.am_state.proofs.ReportLaws.{names_more, names_end}
 pub use Rattle.am_group.specs.declared.event.Event.{Event}
 pub use Rattle.am_model.specs.{declared.status.Status.TheVariants.Member, Emit.Step}
 pub use Rattle.am_model.specs.Node.{founder, stranger, founding_stamp, has_departed, Node, view, is_member, set_at}

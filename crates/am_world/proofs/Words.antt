@@ -19,8 +19,8 @@ pub use Rattle.std.proofs.lemmas.List.{drop-drop, length-replicate, map_push, ta
 pub use Rattle.std.proofs.lemmas.Option.{slice_get_within, get_or_from_slice_get, none-some, same_Some, slice_get_read}
 pub use Rattle.am_base.specs.Most.{most_events}
 pub use Rattle.am_packet.specs.{Spelling.spelling}
-pub use Rattle.am_parts.specs.Cores.{IsInOrder}
-pub use Rattle.am_parts.proofs.{Ends.end-told, Ends.entry-get, Folds.slice_get-drop}
+pub use Rattle.am_state.specs.Cores.{IsInOrder}
+pub use Rattle.am_state.proofs.{Ends.end-told, Ends.entry-get, Folds.slice_get-drop}
 pub use Rattle.am_group.specs.{declared.event.Record.Record, Journals.letters_of, Journals.the_record}
 pub use Rattle.am_group.proofs.Places.{get_some, letters_more}
 pub use Rattle.am_model.specs.{Node.has_departed, Ends.IsEndOf}

@@ -4,7 +4,7 @@ use Rattle.am_base.specs.declared.entry.Entry.{Entry}
 use Rattle.am_base.specs.declared.outcome.Outcome.{Outcome}
 use Rattle.am_base.specs.declared.event.NodeEvent.{NodeEvent}
 use Rattle.am_packet.specs.Boxes.{Letter}
-use Rattle.am_parts.specs.Cores.{IsInOrder}
+use Rattle.am_state.specs.Cores.{IsInOrder}
 use Rattle.am_model.specs.Node as model
 use Rattle.am_model.specs.Step.{row}
 use Rattle.am_play.specs.World.{group_after}

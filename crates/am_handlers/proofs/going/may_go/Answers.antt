@@ -1,5 +1,5 @@
 use Rattle.am_handlers.proofs.Words.{ap, ◌∙◌, without_name, stands_self}
-use Rattle.am_parts.specs.Reports.{reports_of}
+use Rattle.am_state.specs.Reports.{reports_of}
 use Rattle.am_handlers.specs.Going.{is_stored}
 use Rattle.am_handlers.proofs.going.may_go.Goals as goal
 

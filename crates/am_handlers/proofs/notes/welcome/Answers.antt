@@ -1,6 +1,6 @@
 use Rattle.am_handlers.proofs.Words.{refl, sym, ap, subst, ◌≡◌, ◌∙◌, CoreState, Parts, told_by, row_of, image_at}
 use Rattle.am_packet.specs.declared.packet.Packet.TheVariants as packet
-use Rattle.am_parts.proofs.Ends.{image-start}
+use Rattle.am_state.proofs.Ends.{image-start}
 use Rattle.am_handlers.proofs.notes.welcome.Goals as goal
 
 pub returns-clause-value : goal.returns-clause-value

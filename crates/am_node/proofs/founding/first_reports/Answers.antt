@@ -1,6 +1,6 @@
 use Rattle.std.proofs.Common.{◌≡◌, ℕ, subst, if◌then◌else◌, arith}
 use Rattle.am_base.specs.Names.{has}
-use Rattle.am_parts.specs.Reports.{reports_of, after_report}
+use Rattle.am_state.specs.Reports.{reports_of, after_report}
 use Rattle.am_node.proofs.Founders.{first_none, first_more, first_all}
 use Rattle.am_node.proofs.founding.first_reports.Goals as goal
 

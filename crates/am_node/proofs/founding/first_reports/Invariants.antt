@@ -1,4 +1,4 @@
-use Rattle.am_parts.specs.Reports.{reports_of}
+use Rattle.am_state.specs.Reports.{reports_of}
 use Rattle.am_node.proofs.Founders.{FirstReports}
 use Rattle.am_node.proofs.founding.first_reports.Given as goal
 

@@ -1,7 +1,7 @@
 use Rattle.std.proofs.Common.{◌≡◌, refl, ℕ, List, true, ap, sym, ◌∙◌, subst, if◌then◌else◌}
 use Rattle.am_base.specs.Founding.{Rules}
 use Rattle.am_base.specs.Names.{has}
-use Rattle.am_parts.specs.Reports.{reports_of, no_report}
+use Rattle.am_state.specs.Reports.{reports_of, no_report}
 use Rattle.am_model.specs.Node.{founder}
 use Rattle.am_node.proofs.Founders.{founder_keeps, keeps_as, own_first}
 use Rattle.am_node.proofs.founding.founder.Goals as goal

@@ -1,6 +1,6 @@
 use Rattle.std.proofs.Common.{ap, ◌∙◌}
 use Rattle.am_base.specs.Lists.{told_by, blank, fold, fits}
-use Rattle.am_parts.specs.Cores.{CoreState}
+use Rattle.am_state.specs.Cores.{CoreState}
 use Rattle.am_node.proofs.Founders.{founders_fit}
 use Rattle.am_node.proofs.founding.founder_core.Goals as goal
 

@@ -1,5 +1,5 @@
 use Rattle.std.proofs.Common.{◌≡◌, ◌++◌, take, drop, map}
-use Rattle.am_parts.specs.Sends.{settle_send}
+use Rattle.am_state.specs.Sends.{settle_send}
 use Rattle.am_parts.proofs.sender.settle_in.Given as goal
 
 abbrev pub invariant-loop-send : goal.invariant-loop-send

@@ -1,6 +1,6 @@
 use Rattle.std.proofs.Common.{◌==◌, ◌&&◌, not, nat_le, rules, sym, ◌∙◌}
 use Rattle.arrayvec.proofs.ArrayVecLemmas.{filter-from_retain}
-use Rattle.am_parts.specs.declared.bodies.KeptBody.{KeptBody}
+use Rattle.am_state.specs.declared.bodies.KeptBody.{KeptBody}
 use Rattle.am_parts.proofs.Kept.{all_kept}
 use Rattle.am_parts.proofs.bodies.Pool.drop_upto.Goals as goal
 

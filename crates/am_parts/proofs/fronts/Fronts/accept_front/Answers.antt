@@ -1,8 +1,8 @@
 use Rattle.std.proofs.Common.{◌≡◌, ◌<◌, ⊎_elim, ap, sym, ◌∙◌, arith}
 use Rattle.std.proofs.Math.Nat.{eq-or-lt_of_le}
 use Rattle.am_base.specs.Fronts.{is_held}
-use Rattle.am_parts.specs.Reports.{reports_of}
-use Rattle.am_parts.proofs.Walks.{front_is, front_stays}
+use Rattle.am_state.specs.Reports.{reports_of}
+use Rattle.am_state.proofs.Walks.{front_is, front_stays}
 use Rattle.am_parts.proofs.fronts.Fronts.accept_front.Goals as goal
 
 pub returns-then-view-acc-clause-value : goal.returns-then-view-acc-clause-value

@@ -1,4 +1,4 @@
-use Rattle.am_parts.proofs.Refreshes.{go_up_is}
+use Rattle.am_state.proofs.Refreshes.{go_up_is}
 use Rattle.am_parts.proofs.fronts.Fronts.go_up.Goals as goal
 
 pub returns-clause-value : goal.returns-clause-value

@@ -1,6 +1,6 @@
 use Rattle.std.proofs.Common.{◌≡◌, ◌+◌, ◌≤◌, drop, count_by, nat_le}
 use Rattle.am_base.specs.Names.{names_of, names_from, size}
-use Rattle.am_parts.specs.Reports.{reports_of}
+use Rattle.am_state.specs.Reports.{reports_of}
 use Rattle.am_parts.proofs.fronts.Fronts.holders.Given as goal
 
 abbrev pub invariant-loop-place : goal.invariant-loop-place

@@ -1,7 +1,7 @@
 use Rattle.std.proofs.Common.{ℕ, sym, ◌∙◌, ap, arith}
 use Rattle.am_base.specs.declared.image.Report.{Report}
-use Rattle.am_parts.specs.Reports.{reports_of}
-use Rattle.am_parts.proofs.ReportLaws.{so_far, least_past, least_found}
+use Rattle.am_state.specs.Reports.{reports_of}
+use Rattle.am_state.proofs.ReportLaws.{so_far, least_past, least_found}
 use Rattle.am_parts.proofs.fronts.Fronts.least_stored.Goals.{then-life-gt0, else-life-gt0}
 use Rattle.am_parts.proofs.fronts.Fronts.least_stored.Goals as goal
 

@@ -1,7 +1,7 @@
 use Rattle.std.proofs.Common.{◌≡◌, false, drop}
 use Rattle.am_base.specs.Names.{names_from}
-use Rattle.am_parts.specs.Reports.{reports_of, lesser, least_of, least_taken}
-use Rattle.am_parts.proofs.ReportLaws.{so_far}
+use Rattle.am_state.specs.Reports.{reports_of, lesser, least_of, least_taken}
+use Rattle.am_state.proofs.ReportLaws.{so_far}
 use Rattle.am_parts.proofs.fronts.Fronts.least_taken.Given as goal
 
 abbrev pub invariant-loop-place : goal.invariant-loop-place

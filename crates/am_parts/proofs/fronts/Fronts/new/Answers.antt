@@ -1,4 +1,4 @@
-use Rattle.am_parts.proofs.ReportLaws.{none_reported}
+use Rattle.am_state.proofs.ReportLaws.{none_reported}
 use Rattle.am_parts.proofs.fronts.Fronts.new.Goals as goal
 
 pub returns : goal.returns

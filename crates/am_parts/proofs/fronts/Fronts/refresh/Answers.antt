@@ -1,9 +1,9 @@
 use Rattle.std.proofs.Common.{◌≡◌, Some, None, ap, sym, ◌∙◌, arith}
-use Rattle.am_parts.specs.Cores.{since_accepted}
-use Rattle.am_parts.specs.Reports.{reports_of, least_taken}
-use Rattle.am_parts.specs.Refresh.{core_and_reports}
-use Rattle.am_parts.proofs.Refreshes.{leads_some, leads_none, leads_again, trims_within, own_stays_taken, trimmed_own, leads_up}
-use Rattle.am_parts.proofs.Leaders.{leads_trimmed}
+use Rattle.am_state.specs.Cores.{since_accepted}
+use Rattle.am_state.specs.Reports.{reports_of, least_taken}
+use Rattle.am_state.specs.Refresh.{core_and_reports}
+use Rattle.am_state.proofs.Refreshes.{leads_some, leads_none, leads_again, trims_within, own_stays_taken, trimmed_own, leads_up}
+use Rattle.am_state.proofs.Leaders.{leads_trimmed}
 use Rattle.am_parts.proofs.fronts.Fronts.refresh.Goals as goal
 
 pub trim_to-requires : goal.trim_to-requires

@@ -1,4 +1,4 @@
-use Rattle.am_parts.proofs.ReportLaws.{all_restarted}
+use Rattle.am_state.proofs.ReportLaws.{all_restarted}
 use Rattle.am_parts.proofs.fronts.Fronts.restart.Goals as goal
 
 pub returns : goal.returns

@@ -1,7 +1,7 @@
 use Rattle.std.proofs.Common.{◌≡◌, ◌+◌, ◌<◌, ⊎_elim, ap, sym, ◌∙◌, arith}
 use Rattle.std.proofs.Math.Nat.{eq-or-lt_of_le}
 use Rattle.am_base.specs.Fronts.{is_held}
-use Rattle.am_parts.specs.Reports.{reports_of}
+use Rattle.am_state.specs.Reports.{reports_of}
 use Rattle.am_parts.proofs.fronts.Fronts.walk.Goals as goal
 
 pub loop-number-preserved : goal.loop-number-preserved

@@ -1,6 +1,6 @@
 use Rattle.std.proofs.Common.{◌≡◌, ℕ, ◌<◌, ◌≤◌, true}
 use Rattle.am_base.specs.Fronts.{is_held}
-use Rattle.am_parts.specs.Reports.{reports_of}
+use Rattle.am_state.specs.Reports.{reports_of}
 use Rattle.am_parts.proofs.fronts.Fronts.walk.Given as goal
 
 abbrev pub invariant-loop-number : goal.invariant-loop-number

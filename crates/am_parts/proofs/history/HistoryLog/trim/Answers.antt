@@ -1,6 +1,6 @@
 use Rattle.std.proofs.Common.{refl, ap, sym, ◌∙◌, arith}
-use Rattle.am_parts.specs.Kept.{above}
-use Rattle.am_parts.proofs.Ends.{above-self}
+use Rattle.am_state.specs.Kept.{above}
+use Rattle.am_state.proofs.Ends.{above-self}
 use Rattle.am_parts.specs.Histories.{HistoryState}
 use Rattle.am_parts.proofs.Rings.{trim_more}
 use Rattle.am_parts.proofs.history.HistoryLog.trim.Goals as goal

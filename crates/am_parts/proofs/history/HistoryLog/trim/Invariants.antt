@@ -1,5 +1,5 @@
 use Rattle.std.proofs.Common.{◌≡◌}
-use Rattle.am_parts.specs.Kept.{above}
+use Rattle.am_state.specs.Kept.{above}
 use Rattle.am_parts.proofs.history.HistoryLog.trim.Given as goal
 
 abbrev pub invariant-loop-number : goal.invariant-loop-number

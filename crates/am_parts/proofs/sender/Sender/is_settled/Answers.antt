@@ -1,5 +1,5 @@
 use Rattle.std.proofs.Common.{rules, sym, ◌∙◌, ◌≡◌, true}
-use Rattle.am_parts.proofs.Lines.{settled_low}
+use Rattle.am_state.proofs.Lines.{settled_low}
 use Rattle.am_parts.proofs.sender.Sender.is_settled.Goals as goal
 
 pub returns-clause-low : goal.returns-clause-low

@@ -1,7 +1,7 @@
 use Rattle.std.proofs.Common.{rules, ◌≡◌, ◌<◌, ap, sym, ◌∙◌, not, filter, arith}
 use Rattle.arrayvec.proofs.ArrayVecLemmas.{filter-from_retain}
-use Rattle.am_parts.specs.Sends.{Sends, is_request, next_in, next_request}
-use Rattle.am_parts.proofs.Lines.{kept_remove}
+use Rattle.am_state.specs.Sends.{Sends, is_request, next_in, next_request}
+use Rattle.am_state.proofs.Lines.{kept_remove}
 use Rattle.am_parts.proofs.sender.Sender.remove.Goals as goal
 
 pub invariant_of-self : goal.invariant_of-self

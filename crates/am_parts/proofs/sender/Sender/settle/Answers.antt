@@ -1,9 +1,9 @@
 use Rattle.std.proofs.Common.{◌≡◌, ℕ, ◌+◌, List, map, length, option_map, ap, ◌∙◌, Some}
 use Rattle.std.specs.List.{refill}
 use Rattle.std.proofs.lemmas.List.{length-map}
-use Rattle.am_parts.specs.declared.sender.OwnSend.{OwnSend}
-use Rattle.am_parts.specs.Sends.{Sends, AreKept, waiting_send, settle_send, next_in}
-use Rattle.am_parts.proofs.Lines.{kept_settle, refill_all}
+use Rattle.am_state.specs.declared.sender.OwnSend.{OwnSend}
+use Rattle.am_state.specs.Sends.{Sends, AreKept, waiting_send, settle_send, next_in}
+use Rattle.am_state.proofs.Lines.{kept_settle, refill_all}
 use Rattle.am_parts.proofs.sender.Sender.settle.Goals as goal
 
 -- the queue with its waiting send settled

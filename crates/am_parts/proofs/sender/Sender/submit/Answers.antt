@@ -1,7 +1,7 @@
 use Rattle.std.proofs.Common.{rules, refl, sym, ap, ◌∙◌, ◌<◌, length, arith}
 use Rattle.am_base.specs.Most.{most_number}
-use Rattle.am_parts.specs.Sends.{Sends, next_request}
-use Rattle.am_parts.proofs.Lines.{kept_push}
+use Rattle.am_state.specs.Sends.{Sends, next_request}
+use Rattle.am_state.proofs.Lines.{kept_push}
 use Rattle.am_parts.proofs.sender.Sender.submit.Goals as goal
 
 pub invariant_of-self : goal.invariant_of-self

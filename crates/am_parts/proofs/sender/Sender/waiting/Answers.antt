@@ -1,4 +1,4 @@
-use Rattle.am_parts.proofs.Lines.{waiting_within}
+use Rattle.am_state.proofs.Lines.{waiting_within}
 use Rattle.am_parts.proofs.sender.Sender.waiting.Goals as goal
 
 pub returns-clause-within : goal.returns-clause-within

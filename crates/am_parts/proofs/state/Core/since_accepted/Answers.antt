@@ -1,8 +1,8 @@
 use Rattle.std.proofs.Common.{◌≡◌, ◌+◌, ◌-◌, sym, ◌∙◌, ap, arith}
 use Rattle.am_base.specs.Names.{union_of}
 use Rattle.am_base.specs.Lists.{members_at}
-use Rattle.am_parts.proofs.CoreLaws.{unions_more}
-use Rattle.am_parts.proofs.Lives.{unions_stay}
+use Rattle.am_state.proofs.CoreLaws.{unions_more}
+use Rattle.am_state.proofs.Lives.{unions_stay}
 use Rattle.am_parts.proofs.state.Core.since_accepted.Goals.{then-not-is_data, else-not-is_data}
 use Rattle.am_parts.proofs.state.Core.since_accepted.Goals as goal
 

@@ -1,5 +1,5 @@
 use Rattle.std.proofs.Common.{◌≡◌, ◌-◌}
-use Rattle.am_parts.specs.Cores.{unions}
+use Rattle.am_state.specs.Cores.{unions}
 use Rattle.am_parts.proofs.state.Core.since_accepted.Given as goal
 
 abbrev pub invariant-loop-number : goal.invariant-loop-number

@@ -1,6 +1,6 @@
 use Rattle.std.proofs.Common.{arith, ap}
-use Rattle.am_parts.specs.Cores.{CoreState}
-use Rattle.am_parts.proofs.CoreLaws.{cut_keeps}
+use Rattle.am_state.specs.Cores.{CoreState}
+use Rattle.am_state.proofs.CoreLaws.{cut_keeps}
 use Rattle.am_parts.proofs.state.Core.trim_to.Goals as goal
 
 pub returns-then-base-clause-keeps : goal.returns-then-base-clause-keeps

@@ -2,7 +2,7 @@
 use Rattle.std.specs.Prelude.{◌≡◌, ℕ, ◌<◌, ◌≤◌}
 use Rattle.am_base.specs.declared.entry.Entry.{Entry}
 use Rattle.am_base.specs.Lists.{Log, top_of, image_at, entry_at, told_by, with_entry}
-use Rattle.am_parts.specs.Kept.{IsEnd, above}
+use Rattle.am_state.specs.Kept.{IsEnd, above}
 
 -- what the end tells is what all of it tells
 pub record TellsTheSame (all kept : Log) : Type 0 where

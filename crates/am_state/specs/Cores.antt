@@ -6,7 +6,7 @@ use Rattle.am_base.specs.Founding.{Rules}
 use Rattle.am_base.specs.Limits.{IsStamp}
 use Rattle.am_base.specs.Lists.{Log, top_of, members_at, with_entry}
 use Rattle.am_base.specs.Names.{union_of}
-use Rattle.am_parts.specs.Kept.{IsEnd, above}
+use Rattle.am_state.specs.Kept.{IsEnd, above}
 
 -- the list is trimmed up to the base; a core of the code keeps its end from there on, and one of the protocol all of it
 pub record CoreState : Type 0 where

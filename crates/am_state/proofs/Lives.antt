@@ -17,11 +17,11 @@ use Rattle.am_base.specs.Lists.{fold}
 use Rattle.am_base.specs.Lists.{AllFit, image_at, told_by, top_of}
 use Rattle.am_base.proofs.Places.{get_or-by_place, slice_index-by_place, length-by_place, by_place_all}
 use Rattle.am_base.specs.Limits.{IsImage}
-use Rattle.am_parts.specs.Kept.{IsKept, above}
-use Rattle.am_parts.specs.Cores.{unions}
-use Rattle.am_parts.proofs.Folds.{split, AllFit-drop}
-use Rattle.am_parts.proofs.Ends.{end-self, end-above, end-told}
-use Rattle.am_parts.proofs.CoreLaws.{unions_more}
+use Rattle.am_state.specs.Kept.{IsKept, above}
+use Rattle.am_state.specs.Cores.{unions}
+use Rattle.am_state.proofs.Folds.{split, AllFit-drop}
+use Rattle.am_state.proofs.Ends.{end-self, end-above, end-told}
+use Rattle.am_state.proofs.CoreLaws.{unions_more}
 
 abbrev pub row_at : Image → ℕ → Row
 row_at image place = slice_index_or image.rows place blank_row

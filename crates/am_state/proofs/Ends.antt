@@ -11,9 +11,9 @@ use Rattle.am_base.specs.Most.{most_number}
 use Rattle.am_base.specs.declared.entry.Entry.{Entry}
 use Rattle.am_base.specs.Lists.{fold, after, fits, AllFit, Log, top_of, image_at, entry_at, told_by, with_entry}
 use Rattle.am_base.specs.Limits.{IsImage, IsEntry}
-use Rattle.am_parts.specs.Kept.{IsEnd, IsKept, above}
-use Rattle.am_parts.specs.Laws.{EndsTellTheSame, EndsStay}
-use Rattle.am_parts.proofs.Folds.{fold-append, fold-push, AllFit-push, AllFit-drop, slice_get-drop}
+use Rattle.am_state.specs.Kept.{IsEnd, IsKept, above}
+use Rattle.am_state.specs.Laws.{EndsTellTheSame, EndsStay}
+use Rattle.am_state.proofs.Folds.{fold-append, fold-push, AllFit-push, AllFit-drop, slice_get-drop}
 
 -- how many entries all of it has more
 abbrev pub gone : Log → Log → ℕ

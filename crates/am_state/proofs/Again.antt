@@ -6,9 +6,9 @@ use Rattle.std.proofs.Math.Nat.{eq-or-lt_of_le}
 use Rattle.am_base.specs.declared.image.Report.{Report}
 use Rattle.am_base.specs.Lists.{Log, top_of, told_by}
 use Rattle.am_base.specs.Fronts.{greatest, is_held, accept_front}
-use Rattle.am_parts.proofs.Folds.{split}
-use Rattle.am_parts.proofs.Ranges.{all_true, all_at}
-use Rattle.am_parts.proofs.Walks.{greatest_is, satisfied_by, front_by, satisfied_high, satisfied_low}
+use Rattle.am_state.proofs.Folds.{split}
+use Rattle.am_state.proofs.Ranges.{all_true, all_at}
+use Rattle.am_state.proofs.Walks.{greatest_is, satisfied_by, front_by, satisfied_high, satisfied_low}
 
 pub greatest_low : (passes : ℕ → Bool) (from more : ℕ) → (from ≤ greatest passes from more) × (greatest passes from more ≤ from + more)
 unfolding greatest

@@ -4,10 +4,10 @@ use Rattle.std.proofs.Math.Nat.{sub_self}
 use Rattle.am_base.specs.Names.{union_of}
 use Rattle.am_base.specs.declared.entry.Entry.{Entry}
 use Rattle.am_base.specs.Lists.{Log, top_of, members_of, members_at, with_entry}
-use Rattle.am_parts.specs.Kept.{IsEnd, above}
-use Rattle.am_parts.specs.Cores.{CoreState, Stands, Keeps, Adds, Sends, Makes, whole, accept, pass_over, advance, trim_to, unions, since_accepted}
-use Rattle.am_parts.specs.Laws.{TellsTheSame}
-use Rattle.am_parts.proofs.Ends.{end-same, end-top, end-image, end-push, end-above, end-self}
+use Rattle.am_state.specs.Kept.{IsEnd, above}
+use Rattle.am_state.specs.Cores.{CoreState, Stands, Keeps, Adds, Sends, Makes, whole, accept, pass_over, advance, trim_to, unions, since_accepted}
+use Rattle.am_state.specs.Laws.{TellsTheSame}
+use Rattle.am_state.proofs.Ends.{end-same, end-top, end-image, end-push, end-above, end-self}
 
 pub stands_same : (all : Log) (c : CoreState) → Stands all c → TellsTheSame all c.log
 stands_same all c s = end-same all c.log s.kept

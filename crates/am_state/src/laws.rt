@@ -1,6 +1,6 @@
 //! What holds of the end of a list that a history keeps.
 
-ghost use Rattle.am_parts.specs.Laws.{EndsTellTheSame, EndsStay};
+ghost use Rattle.am_state.specs.Laws.{EndsTellTheSame, EndsStay};
 
 /// The end of a list tells of its numbers what all of it tells.
 #[tactic(auto, using(crate::proofs::Ends::end_laws))]

@@ -5,9 +5,9 @@ use Rattle.am_base.specs.declared.entry.Entry.{Entry}
 use Rattle.am_base.specs.declared.entry.Entry.TheVariants.{Data, Join, Leave, View}
 use Rattle.am_base.specs.Names.{life_of}
 use Rattle.am_base.specs.Lists.{Log, fold, after, at_place, image_at, told_by, top_of}
-use Rattle.am_parts.specs.Kept.{above}
-use Rattle.am_parts.proofs.Folds.{split}
-use Rattle.am_parts.proofs.Ends.{end-self, end-above, end-told}
+use Rattle.am_state.specs.Kept.{above}
+use Rattle.am_state.proofs.Folds.{split}
+use Rattle.am_state.proofs.Ends.{end-self, end-above, end-told}
 
 -- what one entry does to the last view
 same_view : (image : Image) (number : ℕ) (e : Entry) → (((after image number e).view_number ≡ image.view_number)

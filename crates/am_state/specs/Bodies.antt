@@ -1,7 +1,7 @@
 -- Bodies that are kept until they are numbered, the oldest first.
 use Rattle.std.specs.Prelude.{ℕ, List, [], ◌∷◌, ◌++◌, length, drop, filter, find, Option, option_map, Bool, not, ◌==◌, ◌&&◌, nat_le, if◌then◌else◌}
 use Rattle.std.specs.List.{list_any}
-use Rattle.am_parts.specs.declared.bodies.KeptBody.{KeptBody}
+use Rattle.am_state.specs.declared.bodies.KeptBody.{KeptBody}
 
 -- the body is that of this name's send with this request
 abbrev pub is_of : ℕ → ℕ → KeptBody → Bool

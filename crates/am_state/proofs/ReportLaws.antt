@@ -6,8 +6,8 @@ use Rattle.std.proofs.lemmas.List.Sums.{sum_by-cons}
 use Rattle.std.proofs.lemmas.Bool.Decides.{nat_tests}
 use Rattle.am_base.specs.declared.image.Report.{Report}
 use Rattle.am_base.specs.Names.{names_from, name_at, size}
-use Rattle.am_parts.proofs.Folds.{split}
-use Rattle.am_parts.specs.Reports.{no_report, no_reports, reports_of, all_up_to, lesser, least_of}
+use Rattle.am_state.proofs.Folds.{split}
+use Rattle.am_state.specs.Reports.{no_report, no_reports, reports_of, all_up_to, lesser, least_of}
 
 -- the same report for so many names
 pub all_same : (n : ℕ) (report : Report) (name : ℕ) → reports_of (replicate n report) name ≡ (if nat_lt name n then report else no_report)

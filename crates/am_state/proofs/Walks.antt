@@ -7,7 +7,7 @@ use Rattle.std.proofs.Math.Nat.{eq-or-lt_of_le}
 use Rattle.am_base.specs.declared.image.Report.{Report}
 use Rattle.am_base.specs.Lists.{Log, top_of, told_by}
 use Rattle.am_base.specs.Fronts.{greatest, is_held, accept_front}
-use Rattle.am_parts.proofs.Ranges.{all_true, one_false}
+use Rattle.am_state.proofs.Ranges.{all_true, one_false}
 
 pub greatest_is : (passes : ℕ → Bool) (from more front : ℕ) → from ≤ front → front ≤ from + more → (from < front → passes front ≡ true)
     → ((g : ℕ) → front < g → g ≤ from + more → passes g ≡ false) → greatest passes from more ≡ front

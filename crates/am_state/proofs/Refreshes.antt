@@ -4,18 +4,18 @@ use Rattle.std.proofs.lemmas.Bool.Decides.{nat_tests}
 use Rattle.am_base.specs.declared.image.Report.{Report}
 use Rattle.am_base.specs.Lists.{Log, top_of, told_by}
 use Rattle.am_base.specs.Fronts.{accept_front, is_held}
-use Rattle.am_parts.specs.Kept.{IsKept}
-use Rattle.am_parts.specs.Cores.{CoreState, Stands, Keeps, whole, accept, pass_over, advance, trim_to, trim_list, unions, since_accepted}
-use Rattle.am_parts.proofs.Folds.{split}
-use Rattle.am_parts.proofs.Ends.{end-top}
-use Rattle.am_parts.proofs.CoreLaws.{advance_whole, since_whole}
-use Rattle.am_parts.specs.Reports.{reports_of, raise_report, after_report, least_taken}
-use Rattle.am_parts.specs.Refresh.{Led, report_of, own_report, tell, go_on, let_go, base_after, go_up, refresh, whole_led, core_and_reports, LeadsBy, StaysAt}
-use Rattle.am_parts.specs.Refresh.{MayLead}
-use Rattle.am_parts.proofs.Leaders.{let_go_within}
-use Rattle.am_parts.proofs.Again.{greatest_low, accept_front_again}
-use Rattle.am_parts.proofs.Walks.{front_by}
-use Rattle.am_parts.proofs.Same.{front_same}
+use Rattle.am_state.specs.Kept.{IsKept}
+use Rattle.am_state.specs.Cores.{CoreState, Stands, Keeps, whole, accept, pass_over, advance, trim_to, trim_list, unions, since_accepted}
+use Rattle.am_state.proofs.Folds.{split}
+use Rattle.am_state.proofs.Ends.{end-top}
+use Rattle.am_state.proofs.CoreLaws.{advance_whole, since_whole}
+use Rattle.am_state.specs.Reports.{reports_of, raise_report, after_report, least_taken}
+use Rattle.am_state.specs.Refresh.{Led, report_of, own_report, tell, go_on, let_go, base_after, go_up, refresh, whole_led, core_and_reports, LeadsBy, StaysAt}
+use Rattle.am_state.specs.Refresh.{MayLead}
+use Rattle.am_state.proofs.Leaders.{let_go_within}
+use Rattle.am_state.proofs.Again.{greatest_low, accept_front_again}
+use Rattle.am_state.proofs.Walks.{front_by}
+use Rattle.am_state.proofs.Same.{front_same}
 
 -- reports of a name
 pub reported_self : (reports : ℕ → Report) (name : ℕ) (report : Report) → after_report reports name report name ≡ raise_report (reports name) report

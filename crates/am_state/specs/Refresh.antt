@@ -5,8 +5,8 @@ use Rattle.am_base.specs.declared.entry.Entry.TheVariants.{Leave}
 use Rattle.am_base.specs.Names.{has, size}
 use Rattle.am_base.specs.Lists.{Log, top_of, told_by, entry_at, members_of}
 use Rattle.am_base.specs.Fronts.{accept_front}
-use Rattle.am_parts.specs.Cores.{CoreState, Stands, whole, advance, since_accepted}
-use Rattle.am_parts.specs.Reports.{reports_of, after_report, least_taken}
+use Rattle.am_state.specs.Cores.{CoreState, Stands, whole, advance, since_accepted}
+use Rattle.am_state.specs.Reports.{reports_of, after_report, least_taken}
 
 -- a core with what each name has reported
 pub record Led : Type 0 where

@@ -8,14 +8,14 @@ use Rattle.am_base.specs.declared.image.Image.{Image}
 use Rattle.am_base.specs.declared.entry.Entry.TheVariants.{Leave}
 use Rattle.am_base.specs.Names.{place_of, life_of, name_at, names_from, has, size}
 use Rattle.am_base.specs.Lists.{top_of, told_by, image_at, members_of, members_at, entry_at, fits}
-use Rattle.am_parts.specs.Kept.{IsKept, above}
-use Rattle.am_parts.specs.Cores.{CoreState, unions, since_accepted, trim_list}
-use Rattle.am_parts.proofs.Folds.{split}
-use Rattle.am_parts.proofs.Ends.{end-self, end-above, end-told, end-top, end-entry, image-top, image-next, entry-get}
-use Rattle.am_parts.proofs.Lives.{member_most, member_row, row_at, image_used, unions_most, unions_least, unions_long, fit_at, leave_life}
-use Rattle.am_parts.specs.Reports.{lesser, least_of, least_taken}
-use Rattle.am_parts.specs.Refresh.{MayLead}
-use Rattle.am_parts.proofs.ReportLaws.{count_cons}
+use Rattle.am_state.specs.Kept.{IsKept, above}
+use Rattle.am_state.specs.Cores.{CoreState, unions, since_accepted, trim_list}
+use Rattle.am_state.proofs.Folds.{split}
+use Rattle.am_state.proofs.Ends.{end-self, end-above, end-told, end-top, end-entry, image-top, image-next, entry-get}
+use Rattle.am_state.proofs.Lives.{member_most, member_row, row_at, image_used, unions_most, unions_least, unions_long, fit_at, leave_life}
+use Rattle.am_state.specs.Reports.{lesser, least_of, least_taken}
+use Rattle.am_state.specs.Refresh.{MayLead}
+use Rattle.am_state.proofs.ReportLaws.{count_cons}
 
 lesser_some : (a y : ℕ) → (x : ℕ) × (lesser (Some a) (Some y) ≡ Some x) × (x ≤ y)
 lesser_some a y = (min a y, refl, omega arith)

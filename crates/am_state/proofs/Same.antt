@@ -6,10 +6,10 @@ use Rattle.am_base.specs.declared.image.Image.{Image}
 use Rattle.am_base.specs.Names.{size, names_of}
 use Rattle.am_base.specs.Lists.{Log, top_of, told_by, image_at, members_of, members_at, entry_at}
 use Rattle.am_base.specs.Fronts.{counted_of, counted_at, holders_at, is_held, is_satisfied, is_front, greatest, accept_front}
-use Rattle.am_parts.specs.Kept.{IsEnd}
-use Rattle.am_parts.proofs.Ranges.{all_same}
-use Rattle.am_parts.proofs.Walks.{satisfied_by, satisfied_high, satisfied_low}
-use Rattle.am_parts.proofs.Ends.{end-top, end-told, end-image, end-entry}
+use Rattle.am_state.specs.Kept.{IsEnd}
+use Rattle.am_state.proofs.Ranges.{all_same}
+use Rattle.am_state.proofs.Walks.{satisfied_by, satisfied_high, satisfied_low}
+use Rattle.am_state.proofs.Ends.{end-top, end-told, end-image, end-entry}
 
 pub greatest_same : (p q : ℕ → Bool) (from more : ℕ) → ((g : ℕ) → from < g → g ≤ from + more → p g ≡ q g) → greatest p from more ≡ greatest q from more
 unfolding greatest

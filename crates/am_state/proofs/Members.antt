@@ -5,8 +5,8 @@ use Rattle.am_base.specs.declared.image.Image.{Image}
 use Rattle.am_base.specs.declared.entry.Entry.TheVariants.{Data}
 use Rattle.am_base.specs.Names.{place_of, life_of}
 use Rattle.am_base.specs.Lists.{at_place, blank_row, member_life, members_of, members_at, image_at, entry_at, after, told_by, top_of, Log, with_entry}
-use Rattle.am_parts.proofs.Folds.{split}
-use Rattle.am_parts.proofs.Ends.{told-push, image-next}
+use Rattle.am_state.proofs.Folds.{split}
+use Rattle.am_state.proofs.Ends.{told-push, image-next}
 
 pub members_data : (image : Image) (number from req : ℕ) (body : List ℕ) → members_of (after image number (Data from req body)) ≡ members_of image
 unfolding after

@@ -7,8 +7,8 @@ use Rattle.std.proofs.lemmas.Bool.Decides.{nat_tests}
 use Rattle.std.proofs.lemmas.List.{length-map, take-append-le}
 use Rattle.std.proofs.Math.Seq.{take-length}
 use Rattle.am_base.specs.Most.{most_number}
-use Rattle.am_parts.specs.declared.sender.OwnSend.{OwnSend}
-use Rattle.am_parts.specs.Sends.{is_request, is_unsettled, settle_send, next_in, are_in_line, AreKept}
+use Rattle.am_state.specs.declared.sender.OwnSend.{OwnSend}
+use Rattle.am_state.specs.Sends.{is_request, is_unsettled, settle_send, next_in, are_in_line, AreKept}
 
 -- by what a test says
 split : {G : Type 0} (b : Bool) → (b ≡ true → G) → (b ≡ false → G) → G

@@ -1,0 +1,14 @@
+pub mod CoreLaws
+pub mod Ends
+pub mod Folds
+pub mod Lives
+pub mod Members
+pub mod Ranges
+pub mod Again
+pub mod Leaders
+pub mod Refreshes
+pub mod ReportLaws
+pub mod Same
+pub mod Views
+pub mod Walks
+pub mod Lines
