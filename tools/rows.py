@@ -24,9 +24,9 @@ use Rattle.am_base.specs.Lists.{after, fits, fold}
 use Rattle.am_base.specs.Fronts.{greatest}
 use Rattle.am_base.specs.Votes.{best_from}
 use Rattle.am_model.specs.Node.{those}
-use Rattle.am_parts.specs.Cores.{accept, pass_over, unions}
-use Rattle.am_parts.specs.Reports.{least_of}
-use Rattle.am_parts.specs.Refresh.{own_report, tell, go_on, let_go}
+use Rattle.am_state.specs.Cores.{accept, pass_over, unions}
+use Rattle.am_state.specs.Reports.{least_of}
+use Rattle.am_state.specs.Refresh.{own_report, tell, go_on, let_go}
 use Rattle.am_model.specs.Refresh.{lead, refresh, settle, refresh_at_end}
 use Rattle.am_model.specs.Emit.{put_all, finish}
 use Rattle.am_model.specs.Ballots.{best_of, decide, begin, keep_vote, give_up}
