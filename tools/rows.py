@@ -35,7 +35,7 @@ use Rattle.am_model.specs.Ticks.{tick_row}
 use Rattle.am_model.specs.Sequencing.{request_row, ack_row, nack_row}
 use Rattle.am_model.specs.Receiving.{spread_row, bcast_row, order_row, accept_row, hold_row}
 use Rattle.am_model.specs.Joining.{join_ask_row, welcome_row, leave_ask_row, gone_row}
-use Rattle.am_model.specs.Resets.{invite_row, vote_row, fetch_row, piece_row, result_row, hand_over_row}
+use Rattle.am_model.specs.Resets.{invite_row, vote_row, fetch_row, piece_row, result_row}
 use Rattle.am_model.specs.Hearing.{hear_row}
 use Rattle.am_model.specs.Step.{row, step, hear, hear_refusal}
 use Rattle.am_play.specs.World.{with_record, with_step, happens, happen}

@@ -5,7 +5,8 @@ use Rattle.am_acting.proofs.Words.{waiting, unsettled_count, has_room, is_member
 use Rattle.am_acting.proofs.Words.{leave_now, leave_row, leave_by, Replies, saying_of, same_step}
 use Rattle.am_base.specs.declared.outcome.Outcome.TheVariants as said
 use Rattle.am_state.specs.Sends as own
-use Rattle.am_model.specs.Emit.{leave_ask_of, hand_over_of}
+use Rattle.am_model.specs.Emit.{leave_ask_of}
+use Rattle.am_acting.specs.Forms.{handing}
 use Rattle.am_model.specs.declared.status.Status.TheVariants as status
 use Rattle.am_handlers.specs.Replies.{MayDepart}
 use Rattle.am_handlers.specs.declared.reply.Telling.TheVariants as tell
@@ -16,7 +17,7 @@ pub go_asks : (m : Node) (answer : Outcome) → is_sequencer m ≡ false → go 
 go_asks m answer leads = rw leads refl
 
 pub go_hands : (m : Node) (answer : Outcome) → is_sequencer m ≡ true → 0 < size (others m)
-    → go (quiet m answer) ≡ telling m answer (only_name (lowest_or_first (others m))) hand_over_of
+    → go (quiet m answer) ≡ handing (quiet m answer) (others m)
 go_hands m answer leads some =
     let test : nat_lt 0 (size (others m)) ≡ true = grind (arith, nat_tests) in
     rw (leads, test) refl

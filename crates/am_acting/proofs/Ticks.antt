@@ -4,7 +4,7 @@ use Rattle.am_acting.proofs.Words.{option_map, is_some, ◌∙◌, ap, subst, ar
 use Rattle.am_acting.proofs.Words.{Node, Ballot, top, view, others, only_name, lowest_or_first, acts, own_row, has_room, is_sequencer, waiting, push_entry}
 use Rattle.am_acting.proofs.Words.{Plan, quiet, telling, finish, would_emit, emit, go, tick_ballot, tick_promised, tick_member}
 use Rattle.am_acting.proofs.Words.{tick_sequencer, tick_acting, tick_with, tick_by, tick_row, put_off, end_self, Telling, Reply, Replies, Ends, saying_of}
-use Rattle.am_acting.proofs.Words.{replies_quiet, replies_telling, replies_as, says, same_step, refresh_at_end, and_poll, handing, again_of, again_of_ballot, own_send}
+use Rattle.am_acting.proofs.Words.{replies_quiet, replies_telling, replies_as, says, same_step, refresh_at_end, and_poll, handing, hands_over, again_of, again_of_ballot, own_send}
 use Rattle.am_base.specs.declared.outcome.Outcome.TheVariants as said
 use Rattle.am_state.specs.Sends as own
 use Rattle.am_model.specs.Emit.{ack_of, fetch_of}
@@ -149,14 +149,14 @@ polled_reply m n o e = says (and_poll (quiet m o)) _ n refl e refl (record {
 -- ---- the sequencer goes on leaving
 
 pub polls_hands : (m : Node) → is_sequencer m ≡ true → 0 < size (others m)
-    → go (and_poll (quiet m said.Ticked)) ≡ handing m (only_name (lowest_or_first (others m)))
+    → go (and_poll (quiet m said.Ticked)) ≡ handing (and_poll (quiet m said.Ticked)) (others m)
 polls_hands m leads some =
     let test : nat_lt 0 (size (others m)) ≡ true = grind (arith, nat_tests) in
     rw (leads, test) refl
 
-pub handing_reply : (m : Node) (to : ℕ)
-    → Replies (handing m (only_name to)) (record (polled_of said.Ticked) { second = tell.Note (only_name to) note.HandOver }) m
-handing_reply m to = says (handing m (only_name to)) _ m refl (end_self m) refl (record {
+pub handing_reply : (m : Node) (names : List ℕ)
+    → Replies (handing (and_poll (quiet m said.Ticked)) names) (record (polled_of said.Ticked) { second = hands_over names }) m
+handing_reply m names = says (handing (and_poll (quiet m said.Ticked)) names) _ m refl (end_self m) refl (record {
   answer = refl;
   letters = refl;
   polls = refl;

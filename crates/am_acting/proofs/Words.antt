@@ -33,4 +33,4 @@ pub use Rattle.am_handlers.proofs.Keeping.{keeps_leaving, keeps_sends, keeps_bod
 pub use Rattle.am_handlers.specs.{declared.reply.Reply.Reply, declared.reply.Telling.Telling, Replies.Replies, Replies.Ends, Replies.quiet_of, Replies.saying_of}
 pub use Rattle.am_handlers.proofs.Replying.{replies_as, replies_quiet, replies_telling, says, same_step, ends_as}
 pub use Rattle.am_model.specs.Emit.{telling}
-pub use Rattle.am_acting.specs.Forms.{noting, own_send, waits_for, and_poll, handing, again_of, again_of_ballot}
+pub use Rattle.am_acting.specs.Forms.{noting, own_send, waits_for, and_poll, handing, hands_over, again_of, again_of_ballot}

@@ -4,7 +4,7 @@ use Rattle.am_base.specs.declared.outcome.Outcome.{Outcome}
 use Rattle.am_base.specs.declared.outcome.Outcome.TheVariants as said
 use Rattle.am_packet.specs.declared.packet.Packet.{Packet}
 use Rattle.am_state.specs.declared.sender.OwnSend.{OwnSend}
-use Rattle.am_model.specs.Node.{Node, Ballot, only_name}
+use Rattle.am_model.specs.Node.{Node, Ballot, only_name, lowest_or_first}
 use Rattle.am_model.specs.Emit.{Plan, quiet, telling, and_telling, hand_over_of}
 use Rattle.am_model.specs.Ticks.{and_result}
 use Rattle.am_handlers.specs.declared.reply.Note.TheVariants as note
@@ -24,15 +24,21 @@ abbrev pub waits_for : Option OwnSend → ℕ → Bool
 waits_for None req = false
 waits_for (Some send) req = send.req == req
 
+-- ---- leaving
+
+-- the sequencer hands over to the lowest of some names
+abbrev pub handing : Plan → List ℕ → Plan
+handing p names = and_telling p (only_name (lowest_or_first names)) hand_over_of
+
+-- and so its letter
+abbrev pub hands_over : List ℕ → Telling
+hands_over names = tell.Note (only_name (lowest_or_first names)) note.HandOver
+
 -- ---- ticks
 
 -- a plan that polls, and tells the last View again
 abbrev pub and_poll : Plan → Plan
 and_poll p = and_result (record p { polls = true })
-
--- the same, which hands over to some names
-abbrev pub handing : Node → List ℕ → Plan
-handing m to = and_telling (and_poll (quiet m said.Ticked)) to hand_over_of
 
 -- what a ballot asks for again that came to this
 abbrev pub again_of : Outcome → Telling

@@ -4,6 +4,7 @@ ghost use Rattle.am_model.specs.Node.{unsettled_count, lowest_or_first};
 ghost use Rattle.am_model.specs.Emit.{quiet};
 ghost use Rattle.am_model.specs.Calls.{go, is_unfinished, leave_now, leave_row};
 ghost use Rattle.am_handlers.specs.Replies.{Replies};
+ghost use Rattle.am_acting.specs.Forms.{hands_over};
 
 use crate::changing::{begin_leaving, is_leaving, is_member, status};
 use am_base::name::Name;
@@ -41,13 +42,20 @@ fn is_busy(parts: &Parts) -> bool
 }
 
 /// The lowest of some names; the first of all where there is none.
-pub fn lowest_or_first(names: Names) -> Name
+fn lowest_or_first(names: Names) -> Name
     ensures { result ≡ lowest_or_first names }
 {
     match names.lowest() {
         Some(name) => name,
         None => Name::of_byte(0),
     }
+}
+
+/// The lowest of some names is to begin a ballot.
+pub fn handing_over<'a>(names: Names) -> Telling<'a>
+    ensures { result ≡ hands_over names }
+{
+    note_to(lowest_or_first(names), Note::HandOver)
 }
 
 /// A leaving node goes on: a member asks the others; the sequencer hands over to the lowest other member; the last member
@@ -66,8 +74,7 @@ pub fn go_on_leaving<'a>(parts: &Parts, answer: Outcome) -> Reply<'a>
         return saying(answer, ask);
     }
     if 0 < others.len() {
-        let hand_over = note_to(lowest_or_first(others), Note::HandOver);
-        return saying(answer, hand_over);
+        return saying(answer, handing_over(others));
     }
     if !has_room(parts) {
         return quiet(held_answer(parts));

@@ -10,7 +10,7 @@ ghost use Rattle.am_acting.specs.Forms.{and_poll, again_of, again_of_ballot};
 use crate::changing::{is_leaving, status};
 use crate::emitting::{emit, has_waiting, leader, number_send, would_emit};
 use crate::joining::ask_to_join;
-use crate::leaving::{go_on_leaving, lowest_or_first};
+use crate::leaving::{go_on_leaving, handing_over};
 use am_base::name::Name;
 use am_base::names::Names;
 use am_base::outcome::Outcome;
@@ -115,8 +115,7 @@ fn poll_leaving<'a>(parts: &Parts) -> Reply<'a>
 {
     let others = others(parts);
     if 0 < others.len() {
-        let hand_over = note_to(lowest_or_first(others), Note::HandOver);
-        return polled(Outcome::Ticked).and(hand_over);
+        return polled(Outcome::Ticked).and(handing_over(others));
     }
     if !has_room(parts) {
         return polled(held_answer(parts));

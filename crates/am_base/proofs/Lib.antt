@@ -8,3 +8,4 @@ pub mod Rows
 pub mod Members
 pub mod Order
 pub mod Requests
+pub mod Found

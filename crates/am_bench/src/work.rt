@@ -188,7 +188,7 @@ impl Ready {
             *byte = last;
         }
         match &decode(&self.bytes) {
-            Ok(packet) => u64::from(packet.kind()),
+            Ok(packet) => u64::from(packet.kind().number()),
             Err(_) => 0,
         }
     }

@@ -65,19 +65,15 @@ welcome_same m name all s =
     (sym (end-image all m.core.log m.core.base s.kept (omega arith)))
 
 note_same : (what : Note) (m : Node) (all : Log) → Stands all m.core → packet_of what (with_log m all) ≡ packet_of what m
-note_same (note.Bcast number entry) m all s = refl
-note_same (note.Order number from req) m all s = refl
 note_same note.Ack m all s = ack_same m all s
 note_same note.Nack m all s = ap (λ (t : ℕ). packet.Nack m.core.who m.core.promise (record { stored = t; taken = m.core.taken })) (top_same m all s)
 note_same (note.Hold req) m all s = ap (λ (t : ℕ). packet.Hold m.core.who m.core.promise m.core.base t req) (top_same m all s)
-note_same note.JoinAsk m all s = refl
 note_same (note.Welcome name) m all s = welcome_same m name all s
 note_same note.LeaveAsk m all s =
     ap (λ (t : ℕ). packet.LeaveAsk m.core.who m.core.promise (record { stored = t; taken = m.core.taken })) (top_same m all s)
-note_same note.Invite m all s = refl
 note_same note.Vote m all s = vote_same m all s
 note_same note.Fetch m all s = fetch_same m all s
-note_same note.HandOver m all s = refl
+note_same _ m all s = refl
 
 result_same : (o : Outcome) (m : Node) (all : Log) (letters : List Letter) → Stands all m.core
     → with_result o (with_log m all) letters ≡ with_result o m letters

@@ -5,7 +5,7 @@ use Rattle.am_headline.proofs.RepairWords.{cases_lt, Join, nat_tests, Stamp, Ima
 use Rattle.am_headline.proofs.RepairWords.{members_of, members_at, entry_at, fits, image_at, counted_at, CoreState, accept, pass_over, since_accepted}
 use Rattle.am_headline.proofs.RepairWords.{image-top, IsUsed, used_fold, member_row, least_taken, own_report, tell, go_on, let_go, Node, Ballot, top}
 use Rattle.am_headline.proofs.RepairWords.{image_of, view, members, acts, is_member, push_entry, with_report, lead, refresh, settle, with_admitted, World}
-use Rattle.am_headline.proofs.RepairWords.{split, and_both, Cause, BringsReport, HasOpen, BeginsBy, by_reset, by_hand_over, Balloting, with_more, without_one}
+use Rattle.am_headline.proofs.RepairWords.{split, and_both, Cause, BringsReport, HasOpen, BeginsBy, by_reset, Balloting, with_more, without_one}
 use Rattle.am_headline.proofs.RepairWords.{as_it_is, Promises, invited, overtaken, told_result, Numbers, asked_send, own_send, asked_join, asked_leave}
 use Rattle.am_headline.proofs.RepairWords.{Change, refreshes, settles, takes_report, admits, numbers, keeps_body, notes, stores, begins_list, departs}
 use Rattle.am_headline.proofs.RepairWords.{promises, opens, looks, fetches, stores_view, queues, collects, takes, asks_to_join, asks_to_leave, closes}
@@ -246,7 +246,7 @@ no_promise r w c m v by h (told_result s v_ base number names resilience is hear
 
 pub no_ballot_begun : (r : Repair) (w : World) (c : Cause) (m : Node) → CalmCause r w c → BeginsBy m c → ⊥
 no_ballot_begun r w c m h (by_reset least resilience) = h
-no_ballot_begun r w c m h (by_hand_over s v heard) = h
+no_ballot_begun r w c m h _ = h
 
 pub looked_open : (c : Cause) (m : Node) (b : Ballot) → Balloting c m b → (old : Ballot) × HasOpen m old
 looked_open c m b (with_more old s v vote is heard low high open_ same stays) = (old, open_)

@@ -20,7 +20,7 @@ pub use Rattle.am_laws.proofs.Words.{whole_entry, by_number, stores, fetches, st
 pub use Rattle.am_laws.proofs.Words.{asked_join, asked_leave, notes, keeps_body, rests_at_end, settle_is, rests_refresh, same_stamp, stamp_itself, get_front}
 pub use Rattle.am_laws.proofs.Words.{all_item, all_get, events_have_effects, IsCause, actor, Happens, steps, idles, stops, returns, WasSentTo, Effect}
 pub use Rattle.am_laws.proofs.Words.{other_heard, EachKeeps, runs_keep, StepsKeep, SameParts, law_keeps, Says, LetterSays, bcast, order, welcome, invite}
-pub use Rattle.am_laws.proofs.Words.{vote, result, hand_over, equals_itself}
+pub use Rattle.am_laws.proofs.Words.{vote, result, equals_itself}
 unfoldable pub use Rattle.am_laws.proofs.Words.{after, fits, fold, accept, pass_over, own_report, tell, go_on, let_go, finish, step, row, hear, hear_refusal}
 unfoldable pub use Rattle.am_laws.proofs.Words.{tick_row, refresh_at_end, lead, refresh, hear_row, request_row, ack_row, nack_row, accept_row, bcast_row}
 unfoldable pub use Rattle.am_laws.proofs.Words.{join_ask_row, happens, happen, with_step, with_record}
@@ -32,7 +32,7 @@ pub use Rattle.std.proofs.lemmas.Bool.{false_from_ne_true, not-true, and_from, n
 pub use Rattle.am_base.specs.{Names.without_name, Fronts.counted_at, Fronts.is_held, Fronts.counted_of, Lists.with_row}
 pub use Rattle.am_packet.specs.{Boxes.letter_to, Boxes.place_for, Boxes.with_letter, Kinds.kind_of}
 pub use Rattle.am_packet.specs.declared.packet.Packet.TheVariants.{Request, Spread, Bcast, Order, Accept, Ack, Nack, Hold, JoinAsk, Welcome, LeaveAsk, Gone}
-pub use Rattle.am_packet.specs.declared.packet.Packet.TheVariants.{Invite, Vote, Fetch, Piece, Result, HandOver}
+pub use Rattle.am_packet.specs.declared.packet.Packet.TheVariants.{Invite, Vote, Fetch, Piece, Result}
 pub use Rattle.am_state.proofs.{Ends.image-next, Ends.entry-get, Lives.fit_at, Folds.slice_get-drop}
 pub use Rattle.am_group.proofs.Places.{get_behind, get_before}
 pub use Rattle.am_model.specs.{Node.has_room, Node.has_departed, Node.report_of, Node.only_name, Node.report_fits, Node.has_own_leave, Calls.would_emit}
@@ -56,7 +56,7 @@ pub use Rattle.am_meaning.specs.Laws.{AllSatisfied}
 pub use Rattle.am_laws.proofs.{Calls.node_if, Says.acts_pushed, Says.leads_pushed, Rests.leads_rests, Rests.SameStanding, Rests.with_sends, Items.get_take}
 pub use Rattle.am_laws.proofs.{Items.all_letter, Hearing.steps_have_effects, Hearing.hearing_has_effects}
 pub use Rattle.am_laws.specs.{Causes.refuses, Causes.with_send, Causes.by_ack, Causes.by_nack, Causes.by_leave_ask, Causes.BringsReport, Looks.BeginsBy}
-pub use Rattle.am_laws.specs.{Looks.by_reset, Looks.by_hand_over, Changes.asks_to_leave, Changes.overtaken, Events.tick}
+pub use Rattle.am_laws.specs.{Looks.by_reset, Changes.asks_to_leave, Changes.overtaken, Events.tick}
 pub use Rattle.am_laws.specs.Letters.{leave_ask, MayInvite, has_begun, goes_on, MayTell, leads, decided}
 pub use Rattle.am_laws.proofs.{ViewSteps.after_same, ViewSteps.view_last, Trims.told_used, Trims.Fronts, Trims.reporting, Trims.pushed_fronts}
 pub use Rattle.am_laws.proofs.{ViewNames.HeardNames, Counts.base_low, LeaderRows.in_is, LeaderRows.least_within, LeaderRows.data_member, Stamps.at_most_below}

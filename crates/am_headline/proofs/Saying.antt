@@ -2,8 +2,8 @@
 use Rattle.am_headline.proofs.RepairWords.{◌≡◌, ℕ, suc, ◌+◌, ◌-◌, ◌≤◌, nat_le, true, false, List, Some, slice_get, sym, ap, ◌∙◌, subst, arith, nat_tests}
 use Rattle.am_headline.proofs.RepairWords.{Report, Entry, Data, has, Log, entry_at, Packet, Node, Ballot, top, is_sequencer, report_of, is_unfinished}
 use Rattle.am_headline.proofs.RepairWords.{next_stamp, World, Cause, MayInvite, has_begun, goes_on, MayTell, Says, bcast, order, welcome, leave_ask, invite}
-use Rattle.am_headline.proofs.RepairWords.{vote, result, hand_over, Repair, ReportIs, Stands, IsCalm}
-use Rattle.am_laws.specs.Letters.{request, spread, ack, nack}
+use Rattle.am_headline.proofs.RepairWords.{vote, result, Repair, ReportIs, Stands, IsCalm}
+use Rattle.am_laws.specs.Letters.{request, spread, ack, nack, hand_over}
 use Rattle.am_packet.specs.declared.packet.Packet.TheVariants as packet
 use Rattle.am_laws.specs.Letters as letters
 use Rattle.am_headline.proofs.{RepairLists.LogGrows, RepairLists.entry_stays, Nodes.CalmCause, Nodes.not_open}
@@ -35,13 +35,8 @@ calm_stays r w v (packet.Bcast s v_ base acc number e) g h = stands_stays r w v 
 calm_stays r w v (packet.Order s v_ base acc number from req) g h = (h.0, stands_stays r w v number (Data from req h.0) g h.1)
 calm_stays r w v (packet.Ack s v_ report) g h = report_stays r w v s report g h
 calm_stays r w v (packet.Nack s v_ report) g h = report_stays r w v s report g h
-calm_stays r w v (packet.Welcome s v_ base join image) g h = h
 calm_stays r w v (packet.LeaveAsk s v_ report) g h = (h.0, report_stays r w v s report g h.1)
-calm_stays r w v (packet.Invite s v_) g h = h
-calm_stays r w v (packet.Vote s v_ vote_) g h = h
-calm_stays r w v (packet.Result s v_ base number names resilience) g h = h
-calm_stays r w v (packet.HandOver s v_) g h = h
-calm_stays r w v _ g h = tt
+calm_stays r w v _ g h = h
 
 -- ---- what is sent is so
 

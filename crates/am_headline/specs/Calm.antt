@@ -9,8 +9,8 @@ use Rattle.am_base.specs.Names.{place_of, life_of, has, names_of}
 use Rattle.am_base.specs.Lists.{at_place, image_at, entry_at, members_at, fits}
 use Rattle.am_base.specs.Fronts.{counted_at}
 use Rattle.am_packet.specs.declared.packet.Packet.{Packet}
-use Rattle.am_packet.specs.declared.packet.Packet.TheVariants.{Request, Spread, Bcast, Order, Accept, Ack, Nack, Hold, JoinAsk, Welcome, LeaveAsk, Gone, Invite}
-use Rattle.am_packet.specs.declared.packet.Packet.TheVariants.{Vote, Fetch, Piece, Result, HandOver}
+use Rattle.am_packet.specs.declared.packet.Packet.TheVariants.{Request, Spread, Bcast, Order, Accept, Ack, Nack, Hold, JoinAsk, Welcome, LeaveAsk, Gone}
+use Rattle.am_packet.specs.declared.packet.Packet.TheVariants.{Fetch, Piece, Result}
 use Rattle.am_packet.specs.Boxes.{Letter}
 use Rattle.am_group.specs.Journals.{letter_at}
 use Rattle.am_model.specs.Node.{Node, top, image_of, view, acts, is_member, is_sequencer, has_log, has_departed}
@@ -110,12 +110,11 @@ IsCalm r w (JoinAsk s v) = Unit {0}
 IsCalm r w (Welcome s v base join image) = v ≡ r.view
 IsCalm r w (LeaveAsk s v report) = (r.gone s ≡ true) × ReportIs r w s report
 IsCalm r w (Gone s v number) = Unit {0}
-IsCalm r w (Invite s v) = ⊥
-IsCalm r w (Vote s v vote) = ⊥
 IsCalm r w (Fetch s v stored) = Unit {0}
 IsCalm r w (Piece s v base number e) = Unit {0}
 IsCalm r w (Result s v base number names resilience) = v.by ≡ s → v ≡ r.view
-IsCalm r w (HandOver s v) = ⊥
+-- and none of a ballot
+IsCalm r w _ = ⊥
 
 -- ---- the whole
 

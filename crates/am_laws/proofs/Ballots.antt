@@ -6,7 +6,8 @@ use Rattle.am_laws.proofs.EffectWords.{members, others, only_name, those, is_mem
 use Rattle.am_laws.proofs.EffectWords.{best_of, is_waited_for, left_in, trim_for, decide, with_result, with_fetch, verdict_plan, next_stamp, new_ballot, begin}
 use Rattle.am_laws.proofs.EffectWords.{with_vote, newly_needed, keep_vote, without_voter, give_up, viewed_by, reset_row, give_up_of, give_up_row, and_both}
 use Rattle.am_laws.proofs.EffectWords.{Cause, calls, HasLearned, Looks, finds_itself_out, waits, fetches_from_best, finds_too_few, finds_no_room, decides}
-use Rattle.am_laws.proofs.EffectWords.{MayBegin, BeginsBy, by_reset, by_hand_over, MayLook, was_reset, was_handed, HasOpen, Balloting, as_it_is, without_one}
+use Rattle.am_laws.proofs.EffectWords.{MayBegin, BeginsBy, by_reset, MayLook, was_reset, HasOpen, Balloting, as_it_is, without_one}
+use Rattle.am_laws.specs.Looks.{by_hand_over, was_handed}
 use Rattle.am_laws.proofs.EffectWords.{opens, nothing_yet, and_then, looked, invite, fetch, result, has_begun, for_ballot, decided, Answers}
 use Rattle.am_base.specs.declared.outcome.Outcome.TheVariants as said
 use Rattle.am_base.specs.declared.event.NodeEvent.TheVariants as does

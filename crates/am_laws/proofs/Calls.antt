@@ -3,17 +3,20 @@ use Rattle.am_laws.proofs.EffectWords.{not-true, not-false, ◌≡◌, ℕ, ◌+
 use Rattle.am_laws.proofs.EffectWords.{Option, Some, None, find, is_some, inl, inr, refl, ap, ◌∙◌, arith, nat_tests, Entry, Data, Outcome, NodeEvent, size}
 use Rattle.am_laws.proofs.EffectWords.{entry_at, OwnSend, Status, Node, Ballot, top, view, own_row, others, only_name, lowest_or_first, acts, has_room}
 use Rattle.am_laws.proofs.EffectWords.{is_member, is_asking, is_sequencer, waiting, unsettled_count, push_entry, Plan, quiet, join_ask_of, leave_ask_of}
-use Rattle.am_laws.proofs.EffectWords.{hand_over_of, request_of, spread_of, bcast_of, everywhere_else, would_emit, hand_in, number_send, emit, with_queued}
+use Rattle.am_laws.proofs.EffectWords.{request_of, spread_of, bcast_of, everywhere_else, would_emit, hand_in, number_send, emit, with_queued}
 use Rattle.am_laws.proofs.EffectWords.{queue, give_out, ask_to_join, join_by, state_by, go, leave_now, leave_by, is_unfinished, ask_of, send_row, done_row}
 use Rattle.am_laws.proofs.EffectWords.{take_row, join_row, state_row, leave_row, ask_row, and_both, Cause, calls, numbers, own_send, queues, collects, takes}
-use Rattle.am_laws.proofs.EffectWords.{asks_to_join, asks_to_leave, Course, nothing_yet, and_then, HasSend, join_ask, leave_ask, hand_over, Answers}
+use Rattle.am_laws.proofs.EffectWords.{asks_to_join, asks_to_leave, Course, nothing_yet, and_then, HasSend, join_ask, leave_ask, Answers}
 use Rattle.am_base.specs.declared.outcome.Outcome.TheVariants as said
 use Rattle.am_base.specs.declared.event.NodeEvent.TheVariants as does
+use Rattle.am_base.proofs.Found.{find_test}
 use Rattle.am_state.specs.Sends as own
+use Rattle.am_model.specs.Emit.{hand_over_of}
+use Rattle.am_laws.specs.Letters.{hand_over}
 use Rattle.am_model.specs.declared.status.Status.TheVariants as status
 use Rattle.am_laws.proofs.Plans.{Comes, Does, HasEffect, effect_if, effect_of, row_closing, does_if, does_quiet, does_telling, does_and, does_numbering}
 use Rattle.am_laws.proofs.Plans.{tightly, rows}
-use Rattle.am_laws.proofs.{Items.find_get, Items.find_test, Rests.Rests, Rests.RestsWhole, Rests.leads_rests, Alone.IsAlone, Alone.gone, Alone.alone_after}
+use Rattle.am_laws.proofs.{Items.find_get, Rests.Rests, Rests.RestsWhole, Rests.leads_rests, Alone.IsAlone, Alone.gone, Alone.alone_after}
 use Rattle.am_laws.proofs.{Says.waiting_stands, Says.tells_request, Says.tells_spread, Says.tells_bcast}
 
 -- ---- sends

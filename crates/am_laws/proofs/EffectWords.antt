@@ -29,7 +29,7 @@ pub use Rattle.am_model.specs.{Hearing.where_heard, declared.status.Status.TheVa
 pub use Rattle.am_model.specs.Node.{Node, top, image_of, name_where, others, push_entry, Ballot, view, members, only_name, is_member, own_row}
 pub use Rattle.am_model.specs.Node.{lowest_or_first, acts, has_room, is_asking, is_sequencer, waiting, unsettled_count, has_departed, founder, stranger}
 pub use Rattle.am_model.specs.Node.{with_report, has_own_leave, is_within_bound, trim_up_to, report_fits, has_log}
-pub use Rattle.am_model.specs.Emit.{invite_of, fetch_of, result_of, Plan, quiet, join_ask_of, leave_ask_of, hand_over_of, request_of, spread_of, bcast_of}
+pub use Rattle.am_model.specs.Emit.{invite_of, fetch_of, result_of, Plan, quiet, join_ask_of, leave_ask_of, request_of, spread_of, bcast_of}
 pub use Rattle.am_model.specs.Emit.{Step, telling, polling, and_telling, and_where, numbering, accept_of, tells_accepted, with_accept, ack_of, nack_of}
 pub use Rattle.am_model.specs.Emit.{piece_of, entries_to_serve, hold_of, welcome_of, gone_of}
 pub use Rattle.am_model.specs.Ballots.{with_promise, Verdict, need_of, is_waited_for, left_in, trim_for, with_result, with_fetch, verdict_plan, next_stamp}
@@ -47,7 +47,7 @@ unfoldable pub use Rattle.am_model.specs.{Node.those, Refresh.refresh_at_end, Re
 unfoldable pub use Rattle.am_model.specs.{Ballots.best_of, Ballots.decide, Ballots.begin, Ballots.keep_vote, Ballots.give_up, Ticks.tick_row, Step.step}
 unfoldable pub use Rattle.am_model.specs.{Step.hear, Step.hear_refusal, Step.row, Sequencing.request_row, Sequencing.ack_row, Sequencing.nack_row}
 unfoldable pub use Rattle.am_model.specs.{Receiving.spread_row, Receiving.bcast_row, Receiving.order_row, Receiving.accept_row, Receiving.hold_row}
-unfoldable pub use Rattle.am_model.specs.{Resets.hand_over_row, Resets.invite_row, Resets.vote_row, Resets.fetch_row, Resets.piece_row, Resets.result_row}
+unfoldable pub use Rattle.am_model.specs.{Resets.invite_row, Resets.vote_row, Resets.fetch_row, Resets.piece_row, Resets.result_row}
 unfoldable pub use Rattle.am_model.specs.{Hearing.hear_row, Joining.welcome_row, Joining.gone_row, Joining.join_ask_row, Joining.leave_ask_row}
 unfoldable pub use Rattle.am_model.specs.Calls.{reset_row, give_up_row, send_row, done_row, take_row, join_row, state_row, leave_row, ask_row}
 pub use Rattle.am_model.proofs.Sets.{size_cons}
@@ -57,14 +57,14 @@ unfoldable pub use Rattle.am_play.specs.World.{happens, with_record, with_step, 
 pub use Rattle.am_laws.specs.Causes.{Cause, calls, hears, refuses, by_request, by_spread, cause_of_read, cause_of, BringsFronts, with_entry, with_number}
 pub use Rattle.am_laws.specs.Causes.{alone, BringsSend, BringsReport, with_send, by_ack, by_nack, by_leave_ask}
 pub use Rattle.am_laws.specs.Looks.{HasLearned, Looks, finds_itself_out, waits, fetches_from_best, finds_too_few, finds_no_room, decides, MayBegin}
-pub use Rattle.am_laws.specs.Looks.{BeginsBy, by_reset, by_hand_over, MayLook, was_reset, was_handed, HasOpen, Balloting, as_it_is, without_one, with_more}
+pub use Rattle.am_laws.specs.Looks.{BeginsBy, by_reset, MayLook, was_reset, HasOpen, Balloting, as_it_is, without_one, with_more}
 pub use Rattle.am_laws.specs.Looks.{was_fetched}
 pub use Rattle.am_laws.specs.Changes.{opens, numbers, own_send, queues, collects, takes, asks_to_join, asks_to_leave, Change, refreshes, settles}
 pub use Rattle.am_laws.specs.Changes.{takes_report, departs, looks, closes, Changes, unchanged, changed, MayStore, Carries, whole_entry, by_number}
 pub use Rattle.am_laws.specs.Changes.{MayBeWelcomed, keeps_body, notes, stores, begins_list, without_ballot, invited, overtaken, told_result, promises}
 pub use Rattle.am_laws.specs.Changes.{fetches, stores_view, unchanged as no_change, MayReport, admits, asked_send, asked_join, asked_leave}
 pub use Rattle.am_laws.specs.Courses.{nothing_yet, and_then, looked, Course, used_report, Deeds, plainly, at_end, let_go, closing}
-pub use Rattle.am_laws.specs.Letters.{invite, fetch, result, has_begun, for_ballot, decided, HasSend, join_ask, leave_ask, hand_over, Says, accept}
+pub use Rattle.am_laws.specs.Letters.{invite, fetch, result, has_begun, for_ballot, decided, HasSend, join_ask, leave_ask, Says, accept}
 pub use Rattle.am_laws.specs.Letters.{LetterSays, of_promise, vote, piece, ack, Stands, request, spread, bcast, nack, order, hold, welcome, gone}
 pub use Rattle.am_laws.specs.Letters.{just_joined, asks_again, goes_on, leads}
 pub use Rattle.am_laws.specs.Effects.{Answers, Effect, StepsHaveEffects, HearingHasEffects, RefusingHasEffects}

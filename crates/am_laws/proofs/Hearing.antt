@@ -1,11 +1,12 @@
 -- Each row has its effect.
 use Rattle.am_laws.proofs.EffectWords.{not-true, ◌≡◌, ℕ, ◌==◌, ◌&&◌, Bool, true, false, not, if◌then◌else◌, List, Ok, Err, refl, Stamp, Report, NodeEvent}
-use Rattle.am_laws.proofs.EffectWords.{stamp_eq, Packet, Read, reading, Node, image_of, view, acts, is_sequencer, Plan, request_row, spread_row, hand_over_row}
-use Rattle.am_laws.proofs.EffectWords.{hears_member, hears_asking, hears_in_view, hears_sequencer, where_heard, hear_row, read_row, row, step, hear, refuse}
-use Rattle.am_laws.proofs.EffectWords.{hear_refusal, and_both, Cause, hears, refuses, by_request, by_spread, cause_of_read, cause_of, by_reset, by_hand_over}
+use Rattle.am_laws.proofs.EffectWords.{stamp_eq, Packet, Read, reading, Node, image_of, view, acts, is_sequencer, Plan, request_row, spread_row}
+use Rattle.am_laws.proofs.EffectWords.{hears_member, hears_asking, hears_in_view, where_heard, hear_row, read_row, row, step, hear, refuse}
+use Rattle.am_laws.proofs.EffectWords.{hear_refusal, and_both, Cause, hears, refuses, by_request, by_spread, cause_of_read, cause_of, by_reset}
 use Rattle.am_laws.proofs.EffectWords.{StepsHaveEffects, HearingHasEffects, RefusingHasEffects}
 use Rattle.am_base.specs.declared.event.NodeEvent.TheVariants as does
 use Rattle.am_packet.specs.declared.packet.Packet.TheVariants as packet
+use Rattle.am_laws.specs.Looks.{by_hand_over}
 use Rattle.am_laws.proofs.Sequencing.{FromMember, row_request, row_ack, row_nack, row_join_ask, row_leave_ask}
 use Rattle.am_laws.proofs.Receiving.{row_spread, row_bcast, row_order, row_accept, row_hold, row_welcome, row_gone}
 use Rattle.am_laws.proofs.{Plans.HasEffect, Plans.effect_if, Plans.rows, Calls.row_send, Calls.row_done, Calls.row_take, Calls.row_join, Calls.row_state}
@@ -32,10 +33,6 @@ row_heard_spread m s v report req body t =
     let c = hears (packet.Spread s v report req body) in
     effect_if m c (is_sequencer m) _ _ (λ l. row_request m c s v report req body true (from_member m s v t l) (by_spread s v report req body) (λ e. refl))
     (λ f. row_spread m s v report req body t)
-
-row_hand_over : (m : Node) (s : ℕ) (v : Stamp) → hears_sequencer m s v ≡ true → HasEffect m (hears (packet.HandOver s v)) (hand_over_row m)
-unfolding hand_over_row
-row_hand_over m s v t = row_reset m (hears (packet.HandOver s v)) 1 (image_of m).resilience (by_hand_over s v t)
 
 row_hear : (m : Node) (p : Packet) → HasEffect m (hears p) (hear_row m p)
 unfolding hear_row
@@ -64,7 +61,7 @@ row_hear m (packet.Fetch s v low) = where_it_is_heard m _ _ _ (λ t. row_fetch m
 row_hear m (packet.Piece s v base number e) = where_it_is_heard m _ _ _ (λ t. row_piece m s v base number e t)
 row_hear m (packet.Result s v base number names resilience) =
     where_it_is_heard m _ _ _ (λ t. let both = and_both (hears_member m s) (v.by == s) t in row_result m s v base number names resilience both.0 both.1)
-row_hear m (packet.HandOver s v) = where_it_is_heard m _ _ _ (λ t. row_hand_over m s v t)
+row_hear m (packet.HandOver s v) = where_it_is_heard m _ _ _ (λ t. row_reset m _ 1 (image_of m).resilience (by_hand_over s v t))
 
 -- ---- steps
 

@@ -6,7 +6,7 @@ use Rattle.am_laws.proofs.Words.{with_report, waiting, Plan, take_report, number
 use Rattle.am_laws.proofs.Words.{spread_row, is_view, store_fitting, store, with_noted, receive_entry, bcast_row, data_of, body_of, order_row, accept_row}
 use Rattle.am_laws.proofs.Words.{answer_hold, hold_row, with_admitted, number_join, join_ask_row, begin_list, welcome_row, leave_ask_row, gone_row}
 use Rattle.am_laws.proofs.Words.{with_promise, invite_row, take_vote, vote_row, fetch_row, push_fetched, catch_up, decide_anew, piece_promised, piece_for}
-use Rattle.am_laws.proofs.Words.{piece_row, hears_result, result_row, hand_over_row, hear_row, row, step, hear, hear_refusal, refuse, split, or_first, Bounds}
+use Rattle.am_laws.proofs.Words.{piece_row, hears_result, result_row, hear_row, row, step, hear, hear_refusal, refuse, split, or_first, Bounds}
 use Rattle.am_laws.proofs.Words.{up, UpTo, asks_to_leave}
 use Rattle.am_model.specs.Joining.{asks_to_join}
 use Rattle.am_base.specs.declared.outcome.Outcome.TheVariants as said
@@ -246,10 +246,6 @@ ends_result most g m s v base number names resilience round from k h =
     (low_promised most g m v round h) in
     search (ends, l)
 
-ends_hand_over : (most : Bounds) (g : ℕ) (m : Node) → Behind g m → Low most g m → Ends most g (hand_over_row m)
-unfolding hand_over_row
-ends_hand_over most g m k h = ends_reset most g m 1 (image_of m).resilience k h
-
 -- ---- a step
 
 -- the first of what a packet tells as accepted, and the second
@@ -258,6 +254,9 @@ first_low g x rest h = All-head (λ n. n ≤ g) x rest h
 
 second_low : (g x y : ℕ) (rest : List ℕ) → All (λ n. n ≤ g) (x ∷ y ∷ rest) → y ≤ g
 second_low g x y rest h = first_low g y rest (All-tail (λ n. n ≤ g) x (y ∷ rest) h)
+
+-- the rows that ask nothing of what a packet tells
+ruleset rows = (ends_hold, ends_join_ask, ends_gone, ends_fetch, ends_reset)
 
 ends_hear : (most : Bounds) (g : ℕ) (m : Node) (p : Packet) → UpTo most g p → Behind g m → Low most g m → Ends most g (hear_row m p)
 unfolding hear_row
@@ -268,24 +267,20 @@ ends_hear most g m (packet.Order s v base acc number from req) u k h = let a = f
 ends_hear most g m (packet.Accept s v base acc high poll) u k h = let a = first_low g acc [] u.accepted in search (ends, ends_accept)
 ends_hear most g m (packet.Ack s v report) u k h = let a = first_low g report.taken [] u.accepted in search (ends, ends_ack)
 ends_hear most g m (packet.Nack s v report) u k h = let a = first_low g report.taken [] u.accepted in search (ends, ends_nack)
-ends_hear most g m (packet.Hold s v base high req) u k h = search (ends, ends_hold)
-ends_hear most g m (packet.JoinAsk s v) u k h = search (ends, ends_join_ask)
 ends_hear most g m (packet.Welcome s v base join image) u k h =
     let l = ends_welcome most g m s v base join image u.round (first_low most.lists base (join ∷ []) u.numbers) (first_low g base (join ∷ []) u.accepted)
     (second_low g base join [] u.accepted) h in
     search (ends, l)
 ends_hear most g m (packet.LeaveAsk s v report) u k h = let a = first_low g report.taken [] u.accepted in search (ends, ends_leave_ask)
-ends_hear most g m (packet.Gone s v number) u k h = search (ends, ends_gone)
 ends_hear most g m (packet.Invite s v) u k h = let l = ends_invite most g m s v u.round h in search (ends, l)
 ends_hear most g m (packet.Vote s v vote) u k h = let l = ends_vote most g m s v vote u.round (first_low g vote.taken [] u.accepted) k h in search (ends, l)
-ends_hear most g m (packet.Fetch s v stored) u k h = search (ends, ends_fetch)
 ends_hear most g m (packet.Piece s v base number e) u k h =
     let l = ends_piece most g m s v base number e (second_low most.lists base number [] u.numbers) (first_low g base [] u.accepted) k h in
     search (ends, l)
 ends_hear most g m (packet.Result s v base number names resilience) u k h =
     let l = ends_result most g m s v base number names resilience u.round (first_low g base [] u.accepted) k h in
     search (ends, l)
-ends_hear most g m (packet.HandOver s v) u k h = let l = ends_hand_over most g m k h in search (ends, l)
+ends_hear most g m _ u k h = search (ends, rows)
 
 -- any event but bytes
 abbrev pub IsDone : NodeEvent → Type 0

@@ -36,13 +36,6 @@ find_get p (z ∷ xs) x g = split (p z)
     (λ t. (0, rw t at g))
     (λ f. let h = find_get p xs x (rw f at g) in (suc h.0, h.1))
 
--- and passes it
-pub find_test : {A : Type 0} (p : A → Bool) (xs : List A) (x : A) → find p xs ≡ Some x → p x ≡ true
-find_test p [] x g = absurd (cc)
-find_test p (z ∷ xs) x g = split (p z)
-    (λ t. let found = rw t at g in let same : z ≡ x = cc in ap p (sym same) ∙ t)
-    (λ f. find_test p xs x (rw f at g))
-
 -- ---- what holds of each item
 
 pub all_get : {A : Type 0} (P : A → Type 0) (xs : List A) (k : ℕ) (x : A) → All P xs → slice_get xs k ≡ Some x → P x

@@ -1,9 +1,11 @@
 -- How high the numbers of the letters are that a node sends.
 use Rattle.am_laws.proofs.Words.{◌≡◌, ℕ, ◌≤◌, ◌==◌, nat_lt, nat_le, true, List, [], ◌∷◌, ap, arith, All, nat_tests, All-nil, All-cons, life_of, Log, at_place}
 use Rattle.am_laws.proofs.Words.{row_of, told_by, Packet, Node, top, image_of, may_go, split, Cause, MayWelcome, just_joined, asks_again, Says, bcast, order}
-use Rattle.am_laws.proofs.Words.{hold, join_ask, welcome, gone, invite, fetch, piece, result, hand_over, Bounds, UpTo}
+use Rattle.am_laws.proofs.Words.{refl, hold, welcome, gone, fetch, piece, result, request, spread, vote, Bounds, UpTo}
 use Rattle.am_model.specs.Sequencing.{row_at}
-use Rattle.am_laws.specs.Letters.{accept}
+use Rattle.am_packet.specs.Spelling.{stamp_of}
+use Rattle.am_laws.specs.Packets.{numbers_of, accepted_of}
+use Rattle.am_laws.specs.Letters.{accept, ack, nack, leave_ask}
 use Rattle.am_laws.proofs.{Counts.Low, Counts.Behind, Images.ImageUp, Images.told_up, Images.row_up}
 
 one_low : (g x : ℕ) → x ≤ g → All (λ n. n ≤ g) (x ∷ [])
@@ -60,6 +62,15 @@ told_of b g c m n h =
       trims = trims;
     }
 
+-- a packet that reports
+told_low : (b : Bounds) (g : ℕ) (n : Node) (p : Packet) → Told b g n → (stamp_of p).round ≡ n.core.promise.round → numbers_of p ≡ top n ∷ n.core.taken ∷ []
+    → accepted_of p ≡ n.core.taken ∷ [] → UpTo b g p
+told_low b g n p t round numbers accepted = record {
+  round = rw round t.round;
+  numbers = rw numbers (two_low b.lists (top n) n.core.taken t.high t.taken);
+  accepted = rw accepted (one_low g n.core.taken t.took);
+}
+
 pub says_low : (b : Bounds) (g : ℕ) (m n : Node) (c : Cause) (to : List ℕ) (p : Packet) → Sends b g c m n → Says m c n to p → UpTo b g p
 says_low b g m n c to p h (bcast _ number e l s) =
     let t = told_of b g c m n h in
@@ -73,7 +84,6 @@ says_low b g m n c to p h (accept _ poll l) =
 says_low b g m n c to p h (hold _ s v report req body by l) =
     let t = told_of b g c m n h in
     record { round = t.round; numbers = two_low b.lists n.core.base (top n) t.base t.high; accepted = none_low g }
-says_low b g m n c to p h (join_ask _ a) = record { round = h.low.rounds; numbers = none_low b.lists; accepted = none_low g }
 says_low b g m n c to p h (welcome s l may) =
     let t = told_of b g c m n h in
     let join = h.next s may in
@@ -86,7 +96,6 @@ says_low b g m n c to p h (gone s l may) =
     let t = told_of b g c m n h in
     let low = gone_low n s may in
     record { round = t.round; numbers = one_low b.lists (row_at n s).left (omega arith); accepted = none_low g }
-says_low b g m n c to p h (invite _ may) = record { round = h.low.rounds; numbers = none_low b.lists; accepted = none_low g }
 says_low b g m n c to p h (fetch _ may) =
     let t = told_of b g c m n h in
     record { round = t.round; numbers = one_low b.lists (top n) t.high; accepted = none_low g }
@@ -96,10 +105,13 @@ says_low b g m n c to p h (piece s v stored number e is may at) =
 says_low b g m n c to p h (result _ number names is viewed may) =
     let t = told_of b g c m n h in
     record { round = t.round; numbers = one_low b.lists n.core.base t.base; accepted = one_low g n.core.base t.trims }
-says_low b g m n c to p h (hand_over _ l leaves) = record { round = h.low.rounds; numbers = none_low b.lists; accepted = none_low g }
-says_low b g m n c to p h _ =
-    let t = told_of b g c m n h in
-    record { round = t.round; numbers = two_low b.lists (top n) n.core.taken t.high t.taken; accepted = one_low g n.core.taken t.took }
+says_low b g m n c to p h (request _ req body a f s) = told_low b g n p (told_of b g c m n h) refl refl refl
+says_low b g m n c to p h (spread _ req body a f s) = told_low b g n p (told_of b g c m n h) refl refl refl
+says_low b g m n c to p h (ack _ a) = told_low b g n p (told_of b g c m n h) refl refl refl
+says_low b g m n c to p h (nack _ a) = told_low b g n p (told_of b g c m n h) refl refl refl
+says_low b g m n c to p h (leave_ask _ member leaves) = told_low b g n p (told_of b g c m n h) refl refl refl
+says_low b g m n c to p h (vote s v is) = told_low b g n p (told_of b g c m n h) refl refl refl
+says_low b g m n c to p h _ = record { round = h.low.rounds; numbers = none_low b.lists; accepted = none_low g }
 
 -- ---- who is welcomed
 

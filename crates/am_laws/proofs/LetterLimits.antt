@@ -75,23 +75,23 @@ unfolding IsWithin HasParts
 is_packet b g (packet.Request s v report req body) n h =
     let round = is_round b g (packet.Request s v report req body) n h.up_to in
     let report_ = is_report b report n h.up_to.numbers in
-    record { within = (round, report_, is_request b req n h.within.0); parts = h.within.1 }
+    record { within = (round, (report_, is_request b req n h.within.0)); parts = h.within.1 }
 is_packet b g (packet.Spread s v report req body) n h =
     let round = is_round b g (packet.Spread s v report req body) n h.up_to in
     let report_ = is_report b report n h.up_to.numbers in
-    record { within = (round, report_, is_request b req n h.within.0); parts = h.within.1 }
+    record { within = (round, (report_, is_request b req n h.within.0)); parts = h.within.1 }
 is_packet b g (packet.Bcast s v base acc number e) n h =
     let round = is_round b g (packet.Bcast s v base acc number e) n h.up_to in
     let k = three_of b base acc number n h.up_to.numbers in let x = is_entry b e n h.within in
-    record { within = (round, k.0, k.1, k.2, x.0); parts = x.1 }
+    record { within = (round, (k.0, k.1, k.2, x.0)); parts = x.1 }
 is_packet b g (packet.Order s v base acc number from req) n h =
     let round = is_round b g (packet.Order s v base acc number from req) n h.up_to in
     let k = three_of b base acc number n h.up_to.numbers in
-    record { within = (round, k.0, k.1, k.2, is_request b req n h.within); parts = tt }
+    record { within = (round, (k.0, k.1, k.2, is_request b req n h.within)); parts = tt }
 is_packet b g (packet.Accept s v base acc high poll) n h =
     let round = is_round b g (packet.Accept s v base acc high poll) n h.up_to in
     let k = three_of b base acc high n h.up_to.numbers in
-    record { within = (round, k.0, k.1, k.2); parts = tt }
+    record { within = (round, (k.0, k.1, k.2)); parts = tt }
 is_packet b g (packet.Ack s v report) n h =
     record { within = (is_round b g (packet.Ack s v report) n h.up_to, is_report b report n h.up_to.numbers); parts = tt }
 is_packet b g (packet.Nack s v report) n h =
@@ -99,15 +99,12 @@ is_packet b g (packet.Nack s v report) n h =
 is_packet b g (packet.Hold s v base high req) n h =
     let round = is_round b g (packet.Hold s v base high req) n h.up_to in
     let k = two_of b base high n h.up_to.numbers in
-    record { within = (round, k.0, k.1, is_request b req n h.within); parts = tt }
-is_packet b g (packet.JoinAsk s v) n h =
-    let round = is_round b g (packet.JoinAsk s v) n h.up_to in
-    record { within = round; parts = tt }
+    record { within = (round, (k.0, k.1, is_request b req n h.within)); parts = tt }
 is_packet b g (packet.Welcome s v base join image) n h =
     let round = is_round b g (packet.Welcome s v base join image) n h.up_to in
     let k = two_of b base join n h.up_to.numbers in
     record {
-      within = (round, k.0, k.1, is_image b base image n (All-head (λ n. n ≤ b.lists) base (join ∷ []) h.up_to.numbers) h.welcome h.within);
+      within = (round, (k.0, k.1, is_image b base image n (All-head (λ n. n ≤ b.lists) base (join ∷ []) h.up_to.numbers) h.welcome h.within));
       parts = h.within.places;
     }
 is_packet b g (packet.LeaveAsk s v report) n h =
@@ -115,9 +112,6 @@ is_packet b g (packet.LeaveAsk s v report) n h =
 is_packet b g (packet.Gone s v number) n h =
     let round = is_round b g (packet.Gone s v number) n h.up_to in
     record { within = (round, first_of b number [] n h.up_to.numbers); parts = tt }
-is_packet b g (packet.Invite s v) n h =
-    let round = is_round b g (packet.Invite s v) n h.up_to in
-    record { within = round; parts = tt }
 is_packet b g (packet.Vote s v shown) n h =
     let round = is_round b g (packet.Vote s v shown) n h.up_to in
     let k = two_of b shown.top shown.taken n h.up_to.numbers in
@@ -128,11 +122,9 @@ is_packet b g (packet.Fetch s v stored) n h =
 is_packet b g (packet.Piece s v base number e) n h =
     let round = is_round b g (packet.Piece s v base number e) n h.up_to in
     let k = two_of b base number n h.up_to.numbers in let x = is_entry b e n h.within in
-    record { within = (round, k.0, k.1, x.0); parts = x.1 }
+    record { within = (round, (k.0, k.1, x.0)); parts = x.1 }
 is_packet b g (packet.Result s v base number names resilience) n h =
     let round = is_round b g (packet.Result s v base number names resilience) n h.up_to in
     let w = h.within in
-    record { within = (round, first_of b base [] n h.up_to.numbers, omega arith, w.2); parts = w.1 }
-is_packet b g (packet.HandOver s v) n h =
-    let round = is_round b g (packet.HandOver s v) n h.up_to in
-    record { within = round; parts = tt }
+    record { within = (round, (first_of b base [] n h.up_to.numbers, omega arith, w.2)); parts = w.1 }
+is_packet b g p n h = record { within = (is_round b g p n h.up_to, tt); parts = tt }

@@ -4,12 +4,13 @@ use Rattle.am_laws.proofs.WatchedWords.{not, max, nat_lt, Bool, true, false, Lis
 use Rattle.am_laws.proofs.WatchedWords.{nat_tests, Entry, Data, Join, Leave, View, Vote, Image, Stamp, Outcome, stamp_lt, stamp_eq, Log, members_of, fits}
 use Rattle.am_laws.proofs.WatchedWords.{entry_at, told_by, Node, Ballot, top, image_of, view, members, unsettled_count, push_entry, trim_up_to, has_log, Verdict}
 use Rattle.am_laws.proofs.WatchedWords.{overtake, need_of, left_in, trim_for, is_unfinished, is_view, refresh, split, and_both, Cause, calls, hears, was_reset}
-use Rattle.am_laws.proofs.WatchedWords.{was_handed, was_fetched, HasOpen, Balloting, with_more, without_one, as_it_is, Looks, finds_itself_out, decides, Numbers}
+use Rattle.am_laws.proofs.WatchedWords.{was_fetched, HasOpen, Balloting, with_more, without_one, as_it_is, Looks, finds_itself_out, decides, Numbers}
 use Rattle.am_laws.proofs.WatchedWords.{asked_send, own_send, asked_join, asked_leave, Carries, whole_entry, by_number, Change, refreshes, settles, numbers}
 use Rattle.am_laws.proofs.WatchedWords.{stores, begins_list, promises, opens, looks, fetches, stores_view, asks_to_leave, closes, rests_refresh, rests_at_end}
 use Rattle.am_laws.proofs.WatchedWords.{settle_is, told_pushed, view_pushed, at_most_below, entry_stays, after_same, view_last, view_there, Balloted}
 use Rattle.am_laws.proofs.WatchedWords.{data_members, viewed_members, those_some, those_long, NoOwnVote, own_need, looked_vote}
 use Rattle.am_base.specs.declared.event.NodeEvent.TheVariants as does
+use Rattle.am_laws.specs.Looks.{was_handed}
 use Rattle.am_packet.specs.declared.packet.Packet.TheVariants as packet
 use Rattle.am_laws.proofs.Own.{Known, HeardOwn, looked_open}
 

@@ -6,7 +6,7 @@ use Rattle.am_laws.proofs.Words.{split, and_both, Cause, calls, hears, Balloting
 use Rattle.am_laws.proofs.Words.{fetches_from_best, finds_too_few, finds_no_room, whole_entry, by_number, Promises, invited, told_result, Change, refreshes}
 use Rattle.am_laws.proofs.Words.{settles, admits, numbers, notes, stores, begins_list, departs, promises, opens, looks, fetches, stores_view, asks_to_join}
 use Rattle.am_laws.proofs.Words.{closes, Changes, actor, Happens, steps, events_have_effects, rests_refresh, settle_is, along}
-use Rattle.am_laws.proofs.StoredWords.{refuses, BringsFronts, with_entry, with_number, alone, BeginsBy, by_reset, by_hand_over, overtaken, IsBlank}
+use Rattle.am_laws.proofs.StoredWords.{refuses, BringsFronts, with_entry, with_number, alone, BeginsBy, by_reset, overtaken, IsBlank}
 use Rattle.am_laws.proofs.StoredWords.{blank_holds, leads_member, member_of, standing_of, HeardLow, change_begins, lists_go_on, begins}
 use Rattle.am_state.specs.Cores.{accept}
 use Rattle.am_model.specs.Node.{Node}
@@ -58,7 +58,7 @@ module _ (s : ℕ) (v : Stamp) (base join : ℕ) (image : Image) where
 
   no_ballot : {c : Cause} {m : Node} → BeginsBy m c → c ≡ welcome_ → ⊥
   no_ballot (by_reset _ _) h = cc
-  no_ballot (by_hand_over _ _ _) h = cc
+  no_ballot _ h = cc
 
   no_look : {c : Cause} {m : Node} {b : Ballot} → Balloting c m b → c ≡ welcome_ → m.ballot ≡ None → ⊥
   no_look (with_more _ _ _ _ is _ _ _ _ _ _) h none = cc

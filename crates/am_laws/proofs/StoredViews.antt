@@ -8,7 +8,7 @@ use Rattle.am_laws.proofs.Words.{Promises, invited, overtaken_by, told_result, M
 use Rattle.am_laws.proofs.Words.{keeps_body, notes, stores, begins_list, departs, promises, opens, looks, fetches, stores_view, queues, collects, takes}
 use Rattle.am_laws.proofs.Words.{asks_to_join, closes, Changes, rests_refresh, rests_at_end, settle_is, view_pushed, along}
 use Rattle.am_laws.proofs.StoredWords.{view_one, or-false, view_last, next_above, welcomed_none, numbers_plain, not-true, is_view_of, BeginsBy, by_reset}
-use Rattle.am_laws.proofs.StoredWords.{by_hand_over, asks_to_leave, at_most, at_most_below, not_above}
+use Rattle.am_laws.proofs.StoredWords.{asks_to_leave, at_most, at_most_below, not_above}
 use Rattle.am_model.specs.Node.{Node}
 use Rattle.am_laws.specs.Looks.{decides}
 use Rattle.am_base.specs.declared.outcome.Outcome.TheVariants as said
@@ -316,7 +316,7 @@ promises_new c o m x v (told_result s u base number names resilience is by own o
 
 opens_new : {A : Type 0} (c : Cause) (o : Outcome) (m x : Node) → BeginsBy x c → Begun c o m x → A
 opens_new c o m x (by_reset least resilience) h = absurd (let first = h.heard in cc)
-opens_new c o m x (by_hand_over s v from) h = absurd (let first = h.heard in cc)
+opens_new c o m x _ h = absurd (let first = h.heard in cc)
 
 -- it doesn't lead
 leads_new : {A : Type 0} (c : Cause) (o : Outcome) (m x : Node) → is_sequencer x ≡ true → Begun c o m x → A

@@ -12,7 +12,7 @@ pub use Rattle.am_laws.proofs.ViewSteps.{view_last}
 pub use Rattle.am_laws.specs.Blank.{IsBlank}
 pub use Rattle.am_laws.specs.Causes.{refuses, BringsFronts, with_entry, with_number, alone}
 pub use Rattle.am_laws.specs.Changes.{overtaken, asks_to_leave}
-pub use Rattle.am_laws.specs.Looks.{BeginsBy, by_reset, by_hand_over}
+pub use Rattle.am_laws.specs.Looks.{BeginsBy, by_reset}
 pub use Rattle.am_model.specs.Ballots.{is_waited_for, ends}
 pub use Rattle.am_model.specs.Node.{has_departed, has_own_leave}
 pub use Rattle.am_model.specs.Resets.{is_view_past, fetches_from}

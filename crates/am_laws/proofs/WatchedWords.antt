@@ -25,7 +25,7 @@ pub use Rattle.am_watching.proofs.{Folds.not_both, Begins.beginning_is_watched, 
 pub use Rattle.am_watching.proofs.{Events.watched_after, Events.same_unchanged, Events.same_stopped, Events.same_lives, Events.stepped_to}
 pub use Rattle.am_watching.specs.Watching.{Watching, watch_step, stop, pass, accept}
 pub use Rattle.am_watching.specs.Watches.{Watches, standing_of, view_of, additions, IsNew, Steps, SteppedTo, SameBut}
-pub use Rattle.am_laws.specs.{Looks.was_reset, Looks.was_handed, Looks.was_fetched, Changes.asks_to_leave, Letters.MayTell, Letters.leads, Letters.decided}
+pub use Rattle.am_laws.specs.{Looks.was_reset, Looks.was_fetched, Changes.asks_to_leave, Letters.MayTell, Letters.leads, Letters.decided}
 pub use Rattle.am_laws.proofs.{ViewNames.HasNames, ViewNames.HeardNames, Named.AllNamed, Named.few_names, Named.each_named, Named.change_named}
 pub use Rattle.am_laws.proofs.{RunCounts.numbers_hold, Views.AllViews, Views.heard_names, Views.each_views, Views.views_start, Views.view_rises}
 pub use Rattle.am_laws.proofs.{Views.says_stamp, Stamps.at_most_below, Stamps.at_most, Stamps.not_above_itself, Stamps.not_above, ViewMembers.data_members}

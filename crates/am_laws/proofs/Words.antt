@@ -22,12 +22,12 @@ pub use Rattle.am_laws.proofs.EffectWords.{asked_leave, Carries, whole_entry, by
 pub use Rattle.am_laws.proofs.EffectWords.{without_ballot, takes_report, admits, takes, MayBeWelcomed, actor, IsCall, IsCause, idles, stops, returns, steps}
 pub use Rattle.am_laws.proofs.EffectWords.{WasSentTo, Happens, Looks, finds_itself_out, HasOpen, Balloting, with_more, without_one, as_it_is, decides}
 pub use Rattle.am_laws.proofs.EffectWords.{finds_no_room, waits, fetches_from_best, finds_too_few, just_joined, asks_again, Says, bcast, order, hold, join_ask}
-pub use Rattle.am_laws.proofs.EffectWords.{welcome, gone, invite, fetch, piece, result, hand_over, HasSend, request, spread, vote, LetterSays, Effect}
+pub use Rattle.am_laws.proofs.EffectWords.{welcome, gone, invite, fetch, piece, result, HasSend, request, spread, vote, LetterSays, Effect}
 unfoldable pub use Rattle.am_laws.proofs.EffectWords.{fits, after, fold, pass_over, own_report, tell, go_on, those, decide, begin, keep_vote, give_up, best_of}
 unfoldable pub use Rattle.am_laws.proofs.EffectWords.{give_up_row, reset_row, send_row, done_row, take_row, join_row, state_row, leave_row, ask_row, refresh}
 unfoldable pub use Rattle.am_laws.proofs.EffectWords.{lead, settle, refresh_at_end, finish, spread_row, bcast_row, order_row, accept_row, hold_row, tick_row}
 unfoldable pub use Rattle.am_laws.proofs.EffectWords.{step, hear, hear_refusal, row, request_row, ack_row, nack_row, join_ask_row, welcome_row, leave_ask_row}
-unfoldable pub use Rattle.am_laws.proofs.EffectWords.{gone_row, invite_row, vote_row, fetch_row, piece_row, result_row, hand_over_row, hear_row, with_record}
+unfoldable pub use Rattle.am_laws.proofs.EffectWords.{gone_row, invite_row, vote_row, fetch_row, piece_row, result_row, hear_row, with_record}
 unfoldable pub use Rattle.am_laws.proofs.EffectWords.{with_step, happens, happen}
 pub use Rattle.std.{proofs.Math.Seq.take-length, proofs.lemmas.Bool.cases_lt, proofs.lemmas.List.Folds.list_any-append, proofs.lemmas.List.Sums.sum_by-cons}
 pub use Rattle.std.{specs.List.count_by, specs.List.range_with_len}

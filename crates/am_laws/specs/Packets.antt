@@ -2,8 +2,8 @@
 use Rattle.std.specs.Prelude.{ℕ, ◌+◌, ◌≤◌, List, [], ◌∷◌, All}
 use Rattle.am_packet.specs.Spelling.{stamp_of}
 use Rattle.am_packet.specs.declared.packet.Packet.{Packet}
-use Rattle.am_packet.specs.declared.packet.Packet.TheVariants.{Request, Spread, Bcast, Order, Accept, Ack, Nack, Hold, JoinAsk, Welcome, LeaveAsk, Gone, Invite}
-use Rattle.am_packet.specs.declared.packet.Packet.TheVariants.{Vote, Fetch, Piece, Result, HandOver}
+use Rattle.am_packet.specs.declared.packet.Packet.TheVariants.{Request, Spread, Bcast, Order, Accept, Ack, Nack, Hold, Welcome, LeaveAsk, Gone, Vote}
+use Rattle.am_packet.specs.declared.packet.Packet.TheVariants.{Fetch, Piece, Result}
 
 -- the numbers of entries that it tells, but for that of a View
 abbrev pub numbers_of : Packet → List ℕ
@@ -15,16 +15,14 @@ numbers_of (Accept s v base acc high poll) = base ∷ acc ∷ high ∷ []
 numbers_of (Ack s v report) = report.stored ∷ report.taken ∷ []
 numbers_of (Nack s v report) = report.stored ∷ report.taken ∷ []
 numbers_of (Hold s v base high req) = base ∷ high ∷ []
-numbers_of (JoinAsk s v) = []
 numbers_of (Welcome s v base join image) = base ∷ join ∷ []
 numbers_of (LeaveAsk s v report) = report.stored ∷ report.taken ∷ []
 numbers_of (Gone s v number) = number ∷ []
-numbers_of (Invite s v) = []
 numbers_of (Vote s v vote) = vote.top ∷ vote.taken ∷ []
 numbers_of (Fetch s v stored) = stored ∷ []
 numbers_of (Piece s v base number e) = base ∷ number ∷ []
 numbers_of (Result s v base number names resilience) = base ∷ []
-numbers_of (HandOver s v) = []
+numbers_of _ = []
 
 -- those of its numbers that tell what is accepted, or was taken
 abbrev pub accepted_of : Packet → List ℕ
@@ -35,17 +33,12 @@ accepted_of (Order s v base acc number from req) = acc ∷ []
 accepted_of (Accept s v base acc high poll) = acc ∷ []
 accepted_of (Ack s v report) = report.taken ∷ []
 accepted_of (Nack s v report) = report.taken ∷ []
-accepted_of (Hold s v base high req) = []
-accepted_of (JoinAsk s v) = []
 accepted_of (Welcome s v base join image) = base ∷ join ∷ []
 accepted_of (LeaveAsk s v report) = report.taken ∷ []
-accepted_of (Gone s v number) = []
-accepted_of (Invite s v) = []
 accepted_of (Vote s v vote) = vote.taken ∷ []
-accepted_of (Fetch s v stored) = []
 accepted_of (Piece s v base number e) = base ∷ []
 accepted_of (Result s v base number names resilience) = base ∷ []
-accepted_of (HandOver s v) = []
+accepted_of _ = []
 
 -- how many entries lists have at most, how high rounds are, and how many sends a node queues
 pub record Bounds : Type 0 where

@@ -182,7 +182,7 @@ impl OutBox {
         if has_nobody(to) {
             return;
         }
-        let at = self.place_for(packet.kind());
+        let at = self.place_for(packet.kind().number());
         let mut written = self.kept.rooms.pop().unwrap();
         encode(packet, &mut written);
         let letter = Letter::with_bytes(self.alloc, to, written, &mut self.kept.rooms);

@@ -3,9 +3,9 @@ ghost use Rattle.am_base.specs.Most.{most_body, most_packet};
 ghost use Rattle.byteorder.specs.Endian.{big_bytes};
 ghost use Rattle.am_base.specs.Names.{IsSet};
 ghost use Rattle.am_packet.specs.Images.{rows_length, image_length};
-ghost use Rattle.am_packet.specs.KindNumbers.{most_entry};
+ghost use Rattle.am_packet.specs.Kinds.{most_entry};
 ghost use Rattle.am_packet.specs.Limits.{IsWithin, IsPacket, HasParts, HasEntryParts};
-ghost use Rattle.am_packet.specs.Spelling.{spelling, header, fields_of, two_bytes, entry_bytes, image_bytes, vote_bytes, rows_bytes, row_bytes, set_bytes, report_bytes, stamp_bytes, flag_byte, sender_of, stamp_of};
+ghost use Rattle.am_packet.specs.Spelling.{spelling, header, fields_of, two_bytes, entry_bytes, image_bytes, vote_bytes, rows_bytes, row_bytes, set_bytes, report_bytes, stamp_bytes, flag_byte};
 
 use am_base::body::{BodyRef, PacketBytes};
 use am_base::entry::{EntryParts, EntryRef};
@@ -227,12 +227,12 @@ fn fields_len(packet: &Packet) -> usize
         Packet::Accept { .. } => 13,
         Packet::Ack { .. } | Packet::Nack { .. } | Packet::LeaveAsk { .. } => 8,
         Packet::Hold { .. } => 12,
-        Packet::JoinAsk { .. } | Packet::Invite { .. } | Packet::HandOver { .. } => 0,
         Packet::Welcome { image, .. } => 8 + image_len(image),
         Packet::Gone { .. } | Packet::Fetch { .. } => 4,
         Packet::Vote { vote, .. } => 13 + set_len(vote.members),
         Packet::Piece { entry, .. } => 8 + entry_len(entry),
         Packet::Result { members, .. } => 9 + set_len(*members),
+        _ => 0,
     }
 }
 
@@ -274,17 +274,6 @@ fn put_bcast(into: &mut PacketBytes, base: u32, acc: u32, number: u32, entry: &E
 {
     put_numbers(into, base, acc, number);
     put_entry(into, entry);
-}
-
-/// Writes what an Order tells.
-fn put_order(into: &mut PacketBytes, base: u32, acc: u32, number: u32, from: Name, req: u32)
-    requires { length into.old ≤ 12 }
-    ensures { into.new ≡ into.old ++ (big_bytes 4 base ++ big_bytes 4 acc ++ big_bytes 4 number
-        ++ from ∷ [] ++ big_bytes 4 req) }
-{
-    put_numbers(into, base, acc, number);
-    put_byte(into, from.get());
-    put_number(into, req);
 }
 
 /// Writes what an Accept tells.
@@ -340,7 +329,11 @@ fn put_fields(into: &mut PacketBytes, packet: &Packet)
             from,
             req,
             ..
-        } => put_order(into, *base, *acc, *number, *from, *req),
+        } => {
+            put_numbers(into, *base, *acc, *number);
+            put_byte(into, from.get());
+            put_number(into, *req);
+        }
         Packet::Accept {
             base,
             acc,
@@ -352,7 +345,6 @@ fn put_fields(into: &mut PacketBytes, packet: &Packet)
         | Packet::Nack { report, .. }
         | Packet::LeaveAsk { report, .. } => put_report(into, *report),
         Packet::Hold { base, top, req, .. } => put_numbers(into, *base, *top, *req),
-        Packet::JoinAsk { .. } | Packet::Invite { .. } | Packet::HandOver { .. } => {}
         Packet::Welcome {
             base,
             join,
@@ -383,33 +375,7 @@ fn put_fields(into: &mut PacketBytes, packet: &Packet)
             put_set(into, *members);
             put_byte(into, *resilience);
         }
-    }
-}
-
-/// Who sent a packet, and its stamp.
-fn signature(packet: &Packet) -> (Name, Stamp)
-    ensures sender { result.0 ≡ sender_of packet.now }
-    ensures stamp { result.1 ≡ stamp_of packet.now }
-{
-    match packet {
-        Packet::Request { sender, stamp, .. } => (*sender, *stamp),
-        Packet::Spread { sender, stamp, .. } => (*sender, *stamp),
-        Packet::Bcast { sender, stamp, .. } => (*sender, *stamp),
-        Packet::Order { sender, stamp, .. } => (*sender, *stamp),
-        Packet::Accept { sender, stamp, .. } => (*sender, *stamp),
-        Packet::Ack { sender, stamp, .. } => (*sender, *stamp),
-        Packet::Nack { sender, stamp, .. } => (*sender, *stamp),
-        Packet::Hold { sender, stamp, .. } => (*sender, *stamp),
-        Packet::JoinAsk { sender, stamp, .. } => (*sender, *stamp),
-        Packet::Welcome { sender, stamp, .. } => (*sender, *stamp),
-        Packet::LeaveAsk { sender, stamp, .. } => (*sender, *stamp),
-        Packet::Gone { sender, stamp, .. } => (*sender, *stamp),
-        Packet::Invite { sender, stamp, .. } => (*sender, *stamp),
-        Packet::Vote { sender, stamp, .. } => (*sender, *stamp),
-        Packet::Fetch { sender, stamp, .. } => (*sender, *stamp),
-        Packet::Piece { sender, stamp, .. } => (*sender, *stamp),
-        Packet::Result { sender, stamp, .. } => (*sender, *stamp),
-        Packet::HandOver { sender, stamp, .. } => (*sender, *stamp),
+        _ => {}
     }
 }
 
@@ -431,8 +397,8 @@ pub fn encode(packet: &Packet, into: &mut PacketBytes)
     ensures packet { IsPacket packet.now }
 {
     let total = 12 + fields_len(packet) as u16;
-    let (sender, stamp) = signature(packet);
+    let (sender, stamp) = packet.signature();
     into.clear();
-    put_header(into, packet.kind(), sender, stamp, total);
+    put_header(into, packet.kind().number(), sender, stamp, total);
     put_fields(into, packet);
 }

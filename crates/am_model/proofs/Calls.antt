@@ -3,10 +3,11 @@ use Rattle.am_model.proofs.EndWords.{◌≡◌, ℕ, ◌+◌, ◌-◌, ◌<◌, 
 use Rattle.am_model.proofs.EndWords.{ap, subst, arith, is_some, nat_tests, Entry, Data, Leave, Outcome, without_name, size, nobody, stamp_eq, Log, members_of}
 use Rattle.am_model.proofs.EndWords.{row_of, entry_at, with_entry, split, Packet, Letter, with_letter, OwnSend, Status, Node, Ballot, top, image_of, view, others}
 use Rattle.am_model.proofs.EndWords.{only_name, lowest_or_first, those, acts, is_member, is_sequencer, has_room, waiting, unsettled_count, push_entry, Plan}
-use Rattle.am_model.proofs.EndWords.{bcast_of, join_ask_of, leave_ask_of, hand_over_of, invite_of, fetch_of, result_of, everywhere_else, would_emit, hand_in}
+use Rattle.am_model.proofs.EndWords.{bcast_of, join_ask_of, leave_ask_of, invite_of, fetch_of, result_of, everywhere_else, would_emit, hand_in}
 use Rattle.am_model.proofs.EndWords.{number_send, emit, with_queued, queue, send_row, done_row, give_out, take_row, ask_to_join, join_by, join_row, state_by}
 use Rattle.am_model.proofs.EndWords.{state_row, go, is_unfinished, leave_now, leave_by, leave_row, ask_of, ask_row, tick_ballot, tick_promised, tick_member}
 use Rattle.am_model.proofs.EndWords.{put_off, behind_view, viewed_by, and_result, tick_sequencer, tick_acting, tick_with, tick_by, tick_row, with_log}
+use Rattle.am_model.specs.Emit.{hand_over_of}
 use Rattle.am_base.specs.declared.outcome.Outcome.TheVariants as said
 use Rattle.am_state.specs.Sends as own
 use Rattle.am_model.specs.declared.status.Status.TheVariants as status

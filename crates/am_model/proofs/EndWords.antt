@@ -20,12 +20,13 @@ pub use Rattle.am_state.proofs.Refreshes.{go_up_whole}
 pub use Rattle.am_state.specs.Bodies.{is_of, keep_body}
 pub use Rattle.am_state.specs.declared.sender.OwnSend.{OwnSend}
 pub use Rattle.am_model.specs.{Ends.with_log, Ends.StepsAlike, Ends.EndsStepAlike, Ends.IsEndOf, Ends.ComesTo, Ends.Does, declared.status.Status.Status}
-pub use Rattle.am_model.specs.{Hearing.hears_member, Hearing.hears_in_view, Hearing.hears_as_sequencer, Hearing.hears_sequencer, Hearing.where_heard}
+pub use Rattle.am_model.specs.{Hearing.hears_member, Hearing.hears_in_view, Hearing.hears_as_sequencer, Hearing.hears_sequencer, Hearing.where_heard, Hearing.passes}
+pub use Rattle.am_model.specs.{Hearing.heard_row}
 pub use Rattle.am_model.specs.{Step.read_row, Refresh.advance, Refresh.led_of, Refresh.is_data_of, Refresh.accepted_at, Refresh.settle_at}
 pub use Rattle.am_model.specs.{Refresh.settle_waiting, declared.status.Status.TheVariants.Departed}
 pub use Rattle.am_model.specs.Node.{Node, Ballot, top, image_of, those, is_member, push_entry, only_name, view, others, lowest_or_first, acts, is_sequencer}
 pub use Rattle.am_model.specs.Node.{has_room, waiting, unsettled_count, has_own_leave, is_within_bound, trim_up_to, entries_above, report_fits, with_report}
-pub use Rattle.am_model.specs.Emit.{invite_of, result_of, Plan, bcast_of, join_ask_of, leave_ask_of, hand_over_of, fetch_of, ack_of, nack_of, piece_of}
+pub use Rattle.am_model.specs.Emit.{invite_of, result_of, Plan, bcast_of, join_ask_of, leave_ask_of, fetch_of, ack_of, nack_of, piece_of}
 pub use Rattle.am_model.specs.Emit.{put_all, Step, quiet, telling, polling, and_telling, and_where, numbering, request_of, spread_of, hold_of, welcome_of}
 pub use Rattle.am_model.specs.Emit.{with_accept, order_of, gone_of, entries_to_serve}
 pub use Rattle.am_model.specs.Ballots.{Verdict, with_promise, has_voted, is_waited_for, left_in, taken_by, ends, restart_reports, decide_view, trim_for}
@@ -40,7 +41,7 @@ pub use Rattle.am_model.specs.Sequencing.{if_risen, row_at, is_unknown, take_rep
 pub use Rattle.am_model.specs.Receiving.{body_of, bodies_after, is_view, with_noted, acknowledges, store_fitting, store, receive_entry, data_of, answer_hold}
 pub use Rattle.am_model.specs.Joining.{with_admitted, number_join, asks_to_join, begin_list, ask_next, all_stored, may_go, and_gone, asks_to_leave}
 unfoldable pub use Rattle.am_model.specs.{Emit.finish, Ballots.best_of, Ballots.decide, Ballots.begin, Ballots.keep_vote, Ballots.give_up, Resets.invite_row}
-unfoldable pub use Rattle.am_model.specs.{Resets.vote_row, Resets.fetch_row, Resets.piece_row, Resets.result_row, Resets.hand_over_row, Ticks.tick_row}
+unfoldable pub use Rattle.am_model.specs.{Resets.vote_row, Resets.fetch_row, Resets.piece_row, Resets.result_row, Ticks.tick_row}
 unfoldable pub use Rattle.am_model.specs.{Sequencing.request_row, Sequencing.ack_row, Sequencing.nack_row, Receiving.spread_row, Receiving.bcast_row}
 unfoldable pub use Rattle.am_model.specs.{Receiving.order_row, Receiving.accept_row, Receiving.hold_row, Hearing.hear_row, Step.row, Step.step, Refresh.lead}
 unfoldable pub use Rattle.am_model.specs.{Refresh.refresh, Refresh.settle, Refresh.refresh_at_end, Joining.join_ask_row, Joining.welcome_row}

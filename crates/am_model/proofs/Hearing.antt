@@ -6,12 +6,15 @@ use Rattle.am_model.proofs.EndWords.{keep_body, Node, Ballot, image_of, view, on
 use Rattle.am_model.proofs.EndWords.{trim_up_to, Plan, ack_of, nack_of, fetch_of, piece_of, put_all, if_risen, spread_row, body_of, bodies_after, is_view}
 use Rattle.am_model.proofs.EndWords.{with_noted, acknowledges, store_fitting, store, receive_entry, bcast_row, data_of, order_row, accept_row, answer_hold}
 use Rattle.am_model.proofs.EndWords.{hold_row, with_promise, vote_of, invite_row, take_vote, vote_row, serve_pieces, fetch_row, is_view_past, push_fetched}
-use Rattle.am_model.proofs.EndWords.{catch_up, decide_anew, fetches_from, piece_promised, piece_for, piece_row, hears_result, result_row, hand_over_row}
-use Rattle.am_model.proofs.EndWords.{reset_row, hears_member, hears_in_view, hears_as_sequencer, hears_sequencer, where_heard, hear_row, read_row, row, step}
+use Rattle.am_model.proofs.EndWords.{catch_up, decide_anew, fetches_from, piece_promised, piece_for, piece_row, hears_result, result_row}
+use Rattle.am_model.proofs.EndWords.{reset_row, hears_member, hears_in_view, hears_as_sequencer, hears_sequencer, where_heard, passes, heard_row, hear_row, read_row, row, step}
 use Rattle.am_model.proofs.EndWords.{with_log, StepsAlike, EndsStepAlike, StepsKeepOrder}
 use Rattle.am_base.specs.declared.outcome.Outcome.TheVariants as said
 use Rattle.am_base.specs.declared.event.NodeEvent.TheVariants as does
+use Rattle.am_packet.specs.declared.kind.Gate.{Gate}
+use Rattle.am_packet.specs.declared.kind.Gate.TheVariants as gates
 use Rattle.am_packet.specs.declared.packet.Packet.TheVariants as packet
+use Rattle.am_packet.specs.{Kinds.table, Kinds.head_of, Spelling.sender_of, Spelling.stamp_of}
 use Rattle.am_model.proofs.Plans.{alike, Alike, says_ack, says_nack, says_fetch, says_vote, alike_if, alike_case, alike_quiet, alike_saying, alike_sending}
 use Rattle.am_model.proofs.Plans.{alike_telling, alike_where, finish_alike, finish_ordered}
 use Rattle.am_model.proofs.Calls.{alike_send, alike_done, alike_take, alike_join, alike_state, alike_leave, alike_ask, alike_tick}
@@ -203,11 +206,12 @@ alike_result_row all m s v base number names resilience h =
     alike_case ((v.by == m.core.who) || stamp_lt v m.core.promise) _ _ _ _ (λ t. alike_quiet all m _ _ h refl)
     (λ f. alike_hears_result all (with_promise m v) s v base number names resilience (keeps_promised all m v h))
 
-pub alike_hand_over : (all : Log) (m : Node) → Keeps all m → Alike (hand_over_row (with_log m all)) (hand_over_row m)
-unfolding hand_over_row
-alike_hand_over all m h =
-    subst (λ r. Alike (reset_row (with_log m all) 1 r) (reset_row m 1 (image_of m).resilience)) (sym (reads all m (λ i t. i.resilience) h))
-    (alike_reset all m 1 (image_of m).resilience h)
+-- a reset with the list's resilience
+alike_reset_so : (all : Log) (m : Node) (least : ℕ) → Keeps all m
+    → Alike (reset_row (with_log m all) least (image_of (with_log m all)).resilience) (reset_row m least (image_of m).resilience)
+alike_reset_so all m least h =
+    subst (λ r. Alike (reset_row (with_log m all) least r) (reset_row m least (image_of m).resilience)) (sym (reads all m (λ i t. i.resilience) h))
+    (alike_reset all m least (image_of m).resilience h)
 
 -- ---- hearing
 
@@ -220,30 +224,46 @@ same_as_sequencer all m s v h = λ i. same_in_view all m s v h i && same_sequenc
 same_of_sequencer : (all : Log) (m : Node) (s : ℕ) (v : Stamp) → Keeps all m → hears_sequencer (with_log m all) s v ≡ hears_sequencer m s v
 same_of_sequencer all m s v h = λ i. same_in_view all m s v h i && (v.by == s)
 
-pub alike_heard : (all : Log) (m : Node) (b c : Bool) (p q : Plan) → Keeps all m → b ≡ c → Alike p q
+same_passes : (all : Log) (m : Node) (g : Gate) (s : ℕ) (v : Stamp) → Keeps all m → passes g (with_log m all) s v ≡ passes g m s v
+same_passes all m gates.Leading s v h = ap (λ b. hears_member m s && b) (same_sequencer all m h)
+same_passes all m gates.InView s v h = same_in_view all m s v h
+same_passes all m gates.AsSequencer s v h = same_as_sequencer all m s v h
+same_passes all m gates.OfSequencer s v h = same_of_sequencer all m s v h
+same_passes all m _ s v h = refl
+
+alike_heard : (all : Log) (m : Node) (b c : Bool) (p q : Plan) → Keeps all m → b ≡ c → Alike p q
     → Alike (where_heard b (with_log m all) p) (where_heard c m q)
 alike_heard all m b c p q h e a = alike_if b c p q _ _ e (λ t. a) (λ f. alike_quiet all m _ _ h refl)
 
+-- the rows that packets are heard by
+ruleset rows = (
+  alike_request,
+  alike_bcast,
+  alike_order,
+  alike_accept,
+  alike_ack,
+  alike_nack,
+  alike_hold,
+  alike_join_ask,
+  alike_welcome,
+  alike_leave_ask,
+  alike_gone_row,
+  alike_invite,
+  alike_vote,
+  alike_fetch,
+  alike_piece,
+  alike_result_row,
+  alike_reset_so,
+)
+
+alike_heard_row : (all : Log) (m : Node) (p : Packet) → Keeps all m → Alike (heard_row (with_log m all) p) (heard_row m p)
+alike_heard_row all m (packet.Spread s v report req body) h = search (alike, same_sequencer, alike_request, alike_spread)
+alike_heard_row all m _ h = search (alike, rows)
+
 pub alike_hear : (all : Log) (m : Node) (p : Packet) → Keeps all m → Alike (hear_row (with_log m all) p) (hear_row m p)
 unfolding hear_row
-alike_hear all m (packet.Request s v report req body) h = search (alike, alike_heard, same_as_sequencer, alike_request)
-alike_hear all m (packet.Spread s v report req body) h = search (alike, alike_heard, same_in_view, same_sequencer, alike_request, alike_spread)
-alike_hear all m (packet.Bcast s v base acc number e) h = alike_heard all m _ _ _ _ h (same_of_sequencer all m s v h) (alike_bcast all m s base acc number e h)
-alike_hear all m (packet.Order s v base acc number from req) h = search (alike, alike_heard, same_of_sequencer, alike_order)
-alike_hear all m (packet.Accept s v base acc high poll) h = search (alike, alike_heard, same_of_sequencer, alike_accept)
-alike_hear all m (packet.Ack s v report) h = alike_heard all m _ _ _ _ h (same_as_sequencer all m s v h) (alike_ack all m s report h)
-alike_hear all m (packet.Nack s v report) h = alike_heard all m _ _ _ _ h (same_as_sequencer all m s v h) (alike_nack all m s report h)
-alike_hear all m (packet.Hold s v base high req) h = alike_heard all m _ _ _ _ h (same_of_sequencer all m s v h) (alike_hold all m base high req h)
-alike_hear all m (packet.JoinAsk s v) h = alike_heard all m _ _ _ _ h (ap (λ b. hears_member m s && b) (same_sequencer all m h)) (alike_join_ask all m s h)
-alike_hear all m (packet.Welcome s v base join image) h = search (alike, alike_heard, alike_welcome)
-alike_hear all m (packet.LeaveAsk s v report) h = search (alike, alike_heard, same_sequencer, alike_leave_ask)
-alike_hear all m (packet.Gone s v number) h = alike_heard all m (hears_member m s) (hears_member m s) _ _ h refl (alike_gone_row all m h)
-alike_hear all m (packet.Invite s v) h = search (alike, alike_heard, alike_invite)
-alike_hear all m (packet.Vote s v vote) h = alike_heard all m (hears_member m s) (hears_member m s) _ _ h refl (alike_vote all m s v vote h)
-alike_hear all m (packet.Fetch s v stored) h = alike_heard all m (hears_member m s) (hears_member m s) _ _ h refl (alike_fetch all m s v stored h)
-alike_hear all m (packet.Piece s v base number e) h = alike_heard all m (hears_member m s) (hears_member m s) _ _ h refl (alike_piece all m s v base number e h)
-alike_hear all m (packet.Result s v base number names resilience) h = search (alike, alike_heard, alike_result_row)
-alike_hear all m (packet.HandOver s v) h = alike_heard all m _ _ _ _ h (same_of_sequencer all m s v h) (alike_hand_over all m h)
+alike_hear all m p h =
+    alike_heard all m _ _ _ _ h (same_passes all m (table (head_of p).kind).gate (sender_of p) (stamp_of p) h) (alike_heard_row all m p h)
 
 pub alike_read : (all : Log) (m : Node) (r : Read Packet) → Keeps all m → Alike (read_row (with_log m all) r) (read_row m r)
 alike_read all m (Ok p) h = alike_hear all m p h

@@ -31,7 +31,7 @@ use Rattle.am_model.specs.Joining.{with_admitted, number_join, asks_to_join, joi
 use Rattle.am_model.specs.Joining.{leave_ask_row, gone_row}
 use Rattle.am_model.specs.Ballots.{decide}
 use Rattle.am_model.specs.Resets.{invite_row, take_vote, vote_row, fetch_row, push_fetched, catch_up, decide_anew, piece_promised, piece_for, piece_row}
-use Rattle.am_model.specs.Resets.{hears_result, result_row, hand_over_row}
+use Rattle.am_model.specs.Resets.{hears_result, result_row}
 use Rattle.am_model.specs.Hearing.{hear_row}
 use Rattle.am_model.specs.Step.{row, step, read_row}
 use Rattle.am_base.proofs.Greatest.{split}
@@ -209,32 +209,33 @@ few_result_row : (m : Node) (s : ℕ) (v : Stamp) (base number : ℕ) (names : L
 unfolding result_row
 few_result_row m s v base number names resilience = search (few, few_hears_result)
 
-few_hand_over : (m : Node) → Few 8 (hand_over_row m)
-unfolding hand_over_row
-few_hand_over m = few_reset m 1 (image_of m).resilience
-
 -- ---- a step
+
+-- the rows that packets are heard by
+ruleset rows = (
+  few_request,
+  few_bcast,
+  few_order,
+  few_accept,
+  few_ack,
+  few_nack,
+  few_hold,
+  few_join_ask,
+  few_welcome,
+  few_leave_ask,
+  few_gone_row,
+  few_invite,
+  few_vote,
+  few_fetch,
+  few_piece,
+  few_result_row,
+  few_reset,
+)
 
 few_hear : (m : Node) (p : Packet) → Few 8 (hear_row m p)
 unfolding hear_row
-few_hear m (packet.Request s v report req body) = search (few, few_request)
 few_hear m (packet.Spread s v report req body) = search (few, few_request, few_spread)
-few_hear m (packet.Bcast s v base acc number e) = search (few, few_bcast)
-few_hear m (packet.Order s v base acc number from req) = search (few, few_order)
-few_hear m (packet.Accept s v base acc high poll) = search (few, few_accept)
-few_hear m (packet.Ack s v report) = search (few, few_ack)
-few_hear m (packet.Nack s v report) = search (few, few_nack)
-few_hear m (packet.Hold s v base high req) = search (few, few_hold)
-few_hear m (packet.JoinAsk s v) = search (few, few_join_ask)
-few_hear m (packet.Welcome s v base join image) = search (few, few_welcome)
-few_hear m (packet.LeaveAsk s v report) = search (few, few_leave_ask)
-few_hear m (packet.Gone s v number) = search (few, few_gone_row)
-few_hear m (packet.Invite s v) = search (few, few_invite)
-few_hear m (packet.Vote s v vote) = search (few, few_vote)
-few_hear m (packet.Fetch s v k) = search (few, few_fetch)
-few_hear m (packet.Piece s v base number e) = search (few, few_piece)
-few_hear m (packet.Result s v base number names resilience) = search (few, few_result_row)
-few_hear m (packet.HandOver s v) = search (few, few_hand_over)
+few_hear m _ = search (few, rows)
 
 few_read : (m : Node) (read : Read Packet) → Few 8 (read_row m read)
 few_read m (Ok p) = few_hear m p

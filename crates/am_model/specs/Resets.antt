@@ -11,7 +11,6 @@ use Rattle.am_base.specs.Lists.{fits}
 use Rattle.am_model.specs.Node.{Node, Ballot, top, image_of, view, has_own_leave, only_name, is_within_bound, push_entry, trim_up_to}
 use Rattle.am_model.specs.Emit.{Plan, quiet, telling, and_where, ack_of, fetch_of, piece_of, entries_to_serve, put_all}
 use Rattle.am_model.specs.Ballots.{with_promise, vote_of, decide, verdict_plan, keep_vote}
-use Rattle.am_model.specs.Calls.{reset_row}
 
 -- ---- votes
 
@@ -118,7 +117,3 @@ unfoldable pub result_row : Node → ℕ → Stamp → ℕ → ℕ → List ℕ 
 result_row m s v base number names resilience =
     if (v.by == m.core.who) || stamp_lt v m.core.promise then quiet m said.Elsewhere
     else hears_result (with_promise m v) s v base number names resilience
-
--- the sequencer hands over
-unfoldable pub hand_over_row : Node → Plan
-hand_over_row m = reset_row m 1 (image_of m).resilience

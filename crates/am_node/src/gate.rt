@@ -1,11 +1,11 @@
 ghost use Rattle.std.specs.Prelude.{◌≡◌};
 ghost use Rattle.am_handlers.specs.Prelude.{node_of};
-ghost use Rattle.am_model.specs.Hearing.{hears_member, hears_asking, hears_in_view, hears_as_sequencer, hears_sequencer};
-ghost use Rattle.am_node.specs.Heard.{is_heard};
+ghost use Rattle.am_model.specs.Hearing.{hears_member, hears_asking, hears_in_view, hears_as_sequencer, hears_sequencer, is_heard};
 
 use am_base::name::{Name, Stamp};
 use am_handlers::parts::Parts;
 use am_model::status::Status;
+use am_packet::kind::Gate;
 use am_packet::packet::Packet;
 use am_parts::log::Log;
 
@@ -45,32 +45,18 @@ fn hears_sequencer(parts: &Parts, from: Name, stamp: Stamp) -> bool
     hears_in_view(parts, from, stamp) && stamp.by == from
 }
 
-/// Whether a packet is heard, by its kind.
+/// Whether a packet is heard, by the gate of its kind.
 pub fn is_heard(parts: &Parts, packet: &Packet) -> bool
     ensures { result ≡ is_heard (node_of parts.now) packet.now }
 {
-    match packet {
-        Packet::Request { sender, stamp, .. }
-        | Packet::Ack { sender, stamp, .. }
-        | Packet::Nack { sender, stamp, .. } => hears_as_sequencer(parts, *sender, *stamp),
-        Packet::Spread { sender, stamp, .. } => hears_in_view(parts, *sender, *stamp),
-        Packet::Bcast { sender, stamp, .. }
-        | Packet::Order { sender, stamp, .. }
-        | Packet::Accept { sender, stamp, .. }
-        | Packet::Hold { sender, stamp, .. }
-        | Packet::HandOver { sender, stamp } => hears_sequencer(parts, *sender, *stamp),
-        Packet::JoinAsk { sender, .. } | Packet::LeaveAsk { sender, .. } => {
-            hears_member(parts, *sender) && parts.is_sequencer()
-        }
-        Packet::Welcome { sender, stamp, .. } | Packet::Invite { sender, stamp } => {
-            hears_asking(parts, *sender) && stamp.by == *sender
-        }
-        Packet::Result { sender, stamp, .. } => {
-            hears_member(parts, *sender) && stamp.by == *sender
-        }
-        Packet::Gone { sender, .. }
-        | Packet::Vote { sender, .. }
-        | Packet::Fetch { sender, .. }
-        | Packet::Piece { sender, .. } => hears_member(parts, *sender),
+    let (sender, stamp) = packet.signature();
+    match packet.kind().gate() {
+        Gate::Member => hears_member(parts, sender),
+        Gate::Leading => hears_member(parts, sender) && parts.is_sequencer(),
+        Gate::OfBeginner => hears_member(parts, sender) && stamp.by == sender,
+        Gate::Early => hears_asking(parts, sender) && stamp.by == sender,
+        Gate::InView => hears_in_view(parts, sender, stamp),
+        Gate::AsSequencer => hears_as_sequencer(parts, sender, stamp),
+        Gate::OfSequencer => hears_sequencer(parts, sender, stamp),
     }
 }

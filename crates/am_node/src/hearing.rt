@@ -2,10 +2,9 @@ ghost use Rattle.std.specs.Prelude.{◌≡◌, true};
 ghost use Rattle.am_packet.specs.Reading.{reading};
 ghost use Rattle.am_handlers.specs.Prelude.{IsWithin, node_of};
 ghost use Rattle.am_handlers.specs.Replies.{Replies};
-ghost use Rattle.am_model.specs.Hearing.{hear_row};
+ghost use Rattle.am_model.specs.Hearing.{is_heard, heard_row, hear_row};
 ghost use Rattle.am_model.specs.Nodes.{HasNumbersLeft};
 ghost use Rattle.am_model.specs.Step.{read_row};
-ghost use Rattle.am_node.specs.Heard.{is_heard, heard_row};
 
 use crate::gate::is_heard;
 use am_acting::hearing::{on_gone, on_hold, on_spread};

@@ -8,10 +8,9 @@ use Rattle.am_base.specs.declared.entry.Entry.{Entry}
 use Rattle.am_base.specs.declared.entry.Entry.TheVariants.{Data, Join, Leave, View}
 use Rattle.am_packet.specs.declared.packet.Packet.{Packet}
 use Rattle.am_packet.specs.declared.packet.Packet.TheVariants as packets
-use Rattle.am_packet.specs.Kinds.{kind_of}
 use Rattle.am_packet.specs.declared.kind.Kind.{Kind}
 use Rattle.am_packet.specs.declared.kind.Kind.TheVariants as kinds
-use Rattle.am_packet.specs.KindNumbers.{kind_at, is_total, most_request, most_counted, most_entry}
+use Rattle.am_packet.specs.Kinds.{head_of, number_of, kind_at, is_total, most_request, most_counted, most_entry}
 use Rattle.am_base.specs.Limits.{IsNumber}
 use Rattle.am_packet.specs.Limits.{IsWithin, HasParts, HasEntryParts, IsPacket}
 use Rattle.am_packet.specs.Spelling.{spelling, fields_of, sender_of, stamp_of, entry_bytes}
@@ -20,37 +19,14 @@ use Rattle.am_packet.proofs.Lengths.{length-rows_bytes}
 use Rattle.am_packet.proofs.Fields.{later, peek, number_again, report_again, stamp_again, set_again, resilience_again, flag_again}
 use Rattle.am_packet.proofs.Parts.{image_again, vote_again, entry_again}
 
-abbrev pub kind_for : Packet → Kind
-kind_for (packets.Request sender stamp report req body) = kinds.Request
-kind_for (packets.Spread sender stamp report req body) = kinds.Spread
-kind_for (packets.Bcast sender stamp base acc number entry) = kinds.Bcast
-kind_for (packets.Order sender stamp base acc number from req) = kinds.Order
-kind_for (packets.Accept sender stamp base acc top poll) = kinds.Accept
-kind_for (packets.Ack sender stamp report) = kinds.Ack
-kind_for (packets.Nack sender stamp report) = kinds.Nack
-kind_for (packets.Hold sender stamp base top req) = kinds.Hold
-kind_for (packets.JoinAsk sender stamp) = kinds.JoinAsk
-kind_for (packets.Welcome sender stamp base join image) = kinds.Welcome
-kind_for (packets.LeaveAsk sender stamp report) = kinds.LeaveAsk
-kind_for (packets.Gone sender stamp number) = kinds.Gone
-kind_for (packets.Invite sender stamp) = kinds.Invite
-kind_for (packets.Vote sender stamp vote) = kinds.Vote
-kind_for (packets.Fetch sender stamp stored) = kinds.Fetch
-kind_for (packets.Piece sender stamp base number entry) = kinds.Piece
-kind_for (packets.Result sender stamp base number members resilience) = kinds.Result
-kind_for (packets.HandOver sender stamp) = kinds.HandOver
-
-pub kind_back : (packet : Packet) → kind_at (kind_of packet) ≡ Some (kind_for packet)
+pub kind_back : (kind : Kind) → kind_at (number_of kind) ≡ Some kind
 unfolding kind_at
-kind_back (packets.Request sender stamp report req body) = refl
+kind_back kinds.Request = refl
 kind_back _ = refl
 
 round_within : (packet : Packet) → IsWithin packet → IsNumber (stamp_of packet).round
 unfolding IsWithin
-round_within (packets.JoinAsk sender stamp) within = within
-round_within (packets.Invite sender stamp) within = within
-round_within (packets.HandOver sender stamp) within = within
-round_within _ within = within.0
+round_within packet within = within.0
 
 -- ---- how long fields are
 
@@ -71,7 +47,7 @@ entry_some (View stamp members resilience) = omega arith
 within_total : (n least most : ℕ) → least ≤ n → n ≤ most → (nat_le least n && nat_le n most) ≡ true
 within_total n least most low high = and_from (nat_le least n) (nat_le n most) (le-leb least n low) (le-leb n most high)
 
-total_fits : (packet : Packet) → HasParts packet → is_total (kind_for packet) (12 + length (fields_of packet)) ≡ true
+total_fits : (packet : Packet) → HasParts packet → is_total (head_of packet).kind (12 + length (fields_of packet)) ≡ true
 unfolding HasParts fields_of
 total_fits (packets.Request sender stamp report req body) parts =
     within_total (12 + length (fields_of (packets.Request sender stamp report req body))) 24 most_request (omega arith) (omega (arith, parts))
@@ -115,58 +91,56 @@ three_again bytes rest a b c h is-a is-b is-c = record {
 
 packet_again : (packet : Packet) (bytes : List ℕ) → drop 12 bytes ≡ fields_of packet → length bytes ≡ 12 + length (fields_of packet) → IsWithin packet
     → HasParts packet
-    → packet_at (kind_for packet) (sender_of packet) (stamp_of packet) bytes ≡ Ok packet
+    → packet_at (head_of packet).kind (sender_of packet) (stamp_of packet) bytes ≡ Ok packet
 unfolding packet_at fields_of IsWithin HasParts
 packet_again (packets.Request sender stamp report req body) bytes h long within parts =
-    rw (report_again bytes _ 12 report h within.1, number_again bytes _ 20 req (later bytes _ 12 8 h) within.2, later bytes _ 12 12 h) refl
+    rw (report_again bytes _ 12 report h within.1.0, number_again bytes _ 20 req (later bytes _ 12 8 h) within.1.1, later bytes _ 12 12 h) refl
 packet_again (packets.Spread sender stamp report req body) bytes h long within parts =
-    rw (report_again bytes _ 12 report h within.1, number_again bytes _ 20 req (later bytes _ 12 8 h) within.2, later bytes _ 12 12 h) refl
+    rw (report_again bytes _ 12 report h within.1.0, number_again bytes _ 20 req (later bytes _ 12 8 h) within.1.1, later bytes _ 12 12 h) refl
 packet_again (packets.Bcast sender stamp base acc number entry) bytes h long within parts =
-    let n = three_again bytes _ base acc number h within.1 within.2 within.3 in
-    rw (n.first, n.second, n.third, entry_again bytes 24 entry (later bytes _ 12 12 h) (omega (arith, long)) within.4 parts) refl
+    let n = three_again bytes _ base acc number h within.1.0 within.1.1 within.1.2 in
+    rw (n.first, n.second, n.third, entry_again bytes 24 entry (later bytes _ 12 12 h) (omega (arith, long)) within.1.3 parts) refl
 packet_again (packets.Order sender stamp base acc number from req) bytes h long within parts =
-    let n = three_again bytes _ base acc number h within.1 within.2 within.3 in
-    rw (n.first, n.second, n.third, number_again bytes _ 25 req (later bytes _ 12 13 h) within.4, peek bytes _ 12 12 h) refl
+    let n = three_again bytes _ base acc number h within.1.0 within.1.1 within.1.2 in
+    rw (n.first, n.second, n.third, number_again bytes _ 25 req (later bytes _ 12 13 h) within.1.3, peek bytes _ 12 12 h) refl
 packet_again (packets.Accept sender stamp base acc top poll) bytes h long within parts =
-    let n = three_again bytes _ base acc top h within.1 within.2 within.3 in
+    let n = three_again bytes _ base acc top h within.1.0 within.1.1 within.1.2 in
     rw (n.first, n.second, n.third, flag_again bytes 24 poll (peek bytes _ 12 12 h)) refl
 packet_again (packets.Ack sender stamp report) bytes h long within parts =
     rw (report_again bytes _ 12 report h within.1) refl
 packet_again (packets.Nack sender stamp report) bytes h long within parts =
     rw (report_again bytes _ 12 report h within.1) refl
 packet_again (packets.Hold sender stamp base top req) bytes h long within parts =
-    let n = three_again bytes [] base top req h within.1 within.2 within.3 in
+    let n = three_again bytes [] base top req h within.1.0 within.1.1 within.1.2 in
     rw (n.first, n.second, n.third) refl
-packet_again (packets.JoinAsk sender stamp) bytes h long within parts = refl
 packet_again (packets.Welcome sender stamp base join image) bytes h long within parts =
     rw (
-      number_again bytes _ 12 base h within.1,
-      number_again bytes _ 16 join (later bytes _ 12 4 h) within.2,
-      image_again bytes 20 image (later bytes _ 12 8 h) within.3,
+      number_again bytes _ 12 base h within.1.0,
+      number_again bytes _ 16 join (later bytes _ 12 4 h) within.1.1,
+      image_again bytes 20 image (later bytes _ 12 8 h) within.1.2,
     ) refl
 packet_again (packets.LeaveAsk sender stamp report) bytes h long within parts =
     rw (report_again bytes _ 12 report h within.1) refl
 packet_again (packets.Gone sender stamp number) bytes h long within parts =
     rw (number_again bytes _ 12 number h within.1) refl
-packet_again (packets.Invite sender stamp) bytes h long within parts = refl
 packet_again (packets.Vote sender stamp vote) bytes h long within parts =
     rw (vote_again bytes 12 vote h within.1 parts) refl
 packet_again (packets.Fetch sender stamp stored) bytes h long within parts =
     rw (number_again bytes _ 12 stored h within.1) refl
 packet_again (packets.Piece sender stamp base number entry) bytes h long within parts =
     rw (
-      number_again bytes _ 12 base h within.1,
-      number_again bytes _ 16 number (later bytes _ 12 4 h) within.2,
-      entry_again bytes 20 entry (later bytes _ 12 8 h) (omega (arith, long)) within.3,
+      number_again bytes _ 12 base h within.1.0,
+      number_again bytes _ 16 number (later bytes _ 12 4 h) within.1.1,
+      entry_again bytes 20 entry (later bytes _ 12 8 h) (omega (arith, long)) within.1.2,
     ) refl
 packet_again (packets.Result sender stamp base number members resilience) bytes h long within parts =
     rw (
-      number_again bytes _ 12 base h within.1,
-      number_again bytes _ 16 number (later bytes _ 12 4 h) within.2,
+      number_again bytes _ 12 base h within.1.0,
+      number_again bytes _ 16 number (later bytes _ 12 4 h) within.1.1,
       set_again bytes _ 20 members (later bytes _ 12 8 h) parts,
-      resilience_again bytes 30 resilience (peek bytes _ 12 18 h) within.3,
+      resilience_again bytes 30 resilience (peek bytes _ 12 18 h) within.1.2,
     ) refl
-packet_again (packets.HandOver sender stamp) bytes h long within parts = refl
+packet_again _ bytes h long within parts = refl
 
 -- ---- all of a spelling
 
@@ -186,7 +160,7 @@ spelling_again packet is =
     let same : total_in bytes ≡ length bytes = total-spelling packet is.parts ∙ sym long in
     rw (
       le-ltb (length bytes) 12 (omega arith),
-      kind_back packet,
+      kind_back (head_of packet).kind,
       eq-eqb (total_in bytes) (length bytes) same,
       stamp_again bytes _ 5 (stamp_of packet) refl (round_within packet is.within),
       long,

@@ -4,7 +4,7 @@ use Rattle.std.proofs.lemmas.Bool.{cond_both, ltb-true, ltb-false, lt-ltb, le-lt
 use Rattle.am_packet.specs.declared.packet.Packet.{Packet}
 use Rattle.am_packet.specs.declared.refusal.PacketRefusal.TheVariants.{Short, BadMark, BadVersion, BadKind, BadLength, BadField}
 use Rattle.am_packet.specs.declared.kind.Kind.{Kind}
-use Rattle.am_packet.specs.KindNumbers.{kind_at}
+use Rattle.am_packet.specs.Kinds.{kind_at}
 use Rattle.am_packet.specs.Reading.{Read, has_mark, version_in, kind_in, total_in, found_in, fields_at, of_kind_at, reading}
 use Rattle.am_packet.specs.Faults.{Field, first_wrong, packet_fields, wrong_in}
 use Rattle.am_packet.specs.Causes.{HasMark, HasVersion, HasKind, HasTotal}

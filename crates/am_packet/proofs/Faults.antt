@@ -9,7 +9,7 @@ use Rattle.am_packet.specs.declared.packet.Packet.TheVariants as packets
 use Rattle.am_packet.specs.declared.refusal.PacketRefusal.TheVariants.{BadField}
 use Rattle.am_packet.specs.declared.kind.Kind.{Kind}
 use Rattle.am_packet.specs.declared.kind.Kind.TheVariants as kinds
-use Rattle.am_packet.specs.KindNumbers.{is_total}
+use Rattle.am_packet.specs.Kinds.{is_total}
 use Rattle.am_packet.specs.Reading.{Read, ◌>>=◌, number_at, report_at, stamp_at, set_at, resilience_at, flag_at, life_at, row_at, rows_at, image_at, vote_at}
 use Rattle.am_packet.specs.Reading.{entry_at, data_at, join_at, leave_at, view_at, view_fields_at, packet_at, fields_at}
 use Rattle.am_packet.specs.Faults.{Field, field, first_wrong, number_field, report_fields, set_field, resilience_field, flag_field, is_life, life_field}
@@ -224,7 +224,6 @@ kind_fails kinds.Nack sender stamp bytes =
     last (report_at bytes 12) (λ report. packets.Nack sender stamp report) (report_fields bytes 12) (report_fails bytes 12)
 kind_fails kinds.Hold sender stamp bytes =
     three_fail bytes (λ base top req. Ok (packets.Hold sender stamp base top req)) [] (λ base top req. refl)
-kind_fails kinds.JoinAsk sender stamp bytes = refl
 kind_fails kinds.Welcome sender stamp bytes =
     two_fail bytes (λ base join. image_at bytes 20 >>= λ image. Ok (packets.Welcome sender stamp base join image)) _ (λ base join.
     last (image_at bytes 20) (λ image. packets.Welcome sender stamp base join image) (image_fields bytes 20) (image_fails bytes 20))
@@ -232,7 +231,6 @@ kind_fails kinds.LeaveAsk sender stamp bytes =
     last (report_at bytes 12) (λ report. packets.LeaveAsk sender stamp report) (report_fields bytes 12) (report_fails bytes 12)
 kind_fails kinds.Gone sender stamp bytes =
     last (number_at bytes 12) (λ number. packets.Gone sender stamp number) (number_field bytes 12 ∷ []) (number_fails bytes 12)
-kind_fails kinds.Invite sender stamp bytes = refl
 kind_fails kinds.Vote sender stamp bytes =
     last (vote_at bytes 12) (λ vote. packets.Vote sender stamp vote) (vote_fields bytes 12) (vote_fails bytes 12)
 kind_fails kinds.Fetch sender stamp bytes =
@@ -247,7 +245,7 @@ kind_fails kinds.Result sender stamp bytes =
     (set_field bytes 20 ∷ []) _ (set_fails bytes 20) (λ members members-is.
     last (resilience_at bytes 30) (λ resilience. packets.Result sender stamp base number members resilience) (resilience_field bytes 30 ∷ [])
     (resilience_fails bytes 30)))
-kind_fails kinds.HandOver sender stamp bytes = refl
+kind_fails _ sender stamp bytes = refl
 
 pub packet_fails : (kind : Kind) (bytes : List ℕ) → Fails (fields_at kind bytes) (packet_fields kind bytes)
 unfolding fields_at

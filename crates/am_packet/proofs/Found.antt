@@ -6,89 +6,74 @@ use Rattle.am_base.specs.declared.name.Stamp.{Stamp}
 use Rattle.am_base.specs.declared.image.Report.{Report}
 use Rattle.am_packet.specs.declared.packet.Packet.{Packet}
 use Rattle.am_packet.specs.declared.packet.Packet.TheVariants as packets
-use Rattle.am_packet.specs.Kinds.{kind_of}
 use Rattle.am_packet.specs.declared.kind.Kind.{Kind}
 use Rattle.am_packet.specs.declared.kind.Kind.TheVariants as kinds
-use Rattle.am_packet.specs.KindNumbers.{number_of, least_total, most_total}
+use Rattle.am_packet.specs.Kinds.{Head, head, head_of, least_total, most_total}
 use Rattle.am_base.specs.Limits.{IsNumber, IsReport}
-use Rattle.am_packet.specs.Limits.{IsWithin, HasParts}
-use Rattle.am_packet.specs.Spelling.{fields_of, sender_of, stamp_of, report_bytes, set_bytes, image_bytes, vote_bytes, flag_byte}
+use Rattle.am_packet.specs.Limits.{FieldsWithin, HasParts}
+use Rattle.am_packet.specs.Spelling.{fields_of, report_bytes, set_bytes, image_bytes, vote_bytes, flag_byte}
 use Rattle.am_packet.specs.Reading.{Read, ◌>>=◌, number_at, report_at, set_at, resilience_at, flag_at, image_at, vote_at, entry_at, packet_at}
 use Rattle.am_packet.specs.Laws.{IsBytes}
 use Rattle.am_packet.proofs.Fields.{Takes, done, bind_ok, ok_is, and_then, to_end, byte_takes, number_takes, report_takes, set_takes, resilience_takes}
 use Rattle.am_packet.proofs.Fields.{flag_takes}
 use Rattle.am_packet.proofs.Parts.{image_takes, vote_takes, entry_ends}
 
--- the packet has this kind, sender and stamp, and its fields stand after the header
-pub record Spells (kind : Kind) (sender : ℕ) (stamp : Stamp) (bytes : List ℕ) (packet : Packet) : Type 0 where
-  pub kind_is : kind_of packet ≡ number_of kind
-  pub sender_is : sender_of packet ≡ sender
-  pub stamp_is : stamp_of packet ≡ stamp
+-- the packet has this head, and its fields stand after the header
+pub record Spells (h : Head) (bytes : List ℕ) (packet : Packet) : Type 0 where
+  pub head_is : head_of packet ≡ h
   pub fields_are : drop 12 bytes ≡ fields_of packet
-  pub within : IsNumber stamp.round → IsWithin packet
+  pub within : FieldsWithin packet
   pub parts : HasParts packet
 
--- what is made of fields that were read
-record Made (kind : Kind) (sender : ℕ) (stamp : Stamp) (fields : List ℕ) (limits : Type 0) (made : Packet) : Type 0 where
-  kind_is : kind_of made ≡ number_of kind
-  sender_is : sender_of made ≡ sender
-  stamp_is : stamp_of made ≡ stamp
-  fields_are : fields_of made ≡ fields
-  within : limits → IsWithin made
-  parts : HasParts made
-
-makes : {kind : Kind} {sender : ℕ} {stamp : Stamp} {fields : List ℕ} {limits : Type 0} {made : Packet} → kind_of made ≡ number_of kind → sender_of made ≡ sender
-    → stamp_of made ≡ stamp → fields_of made ≡ fields → (limits → IsWithin made) → HasParts made → Made kind sender stamp fields limits made
-makes kind_is sender_is stamp_is fields_are within parts =
-    record { kind_is = kind_is; sender_is = sender_is; stamp_is = stamp_is; fields_are = fields_are; within = within; parts = parts }
-
-spelled : {kind : Kind} {sender : ℕ} {stamp : Stamp} {fields : List ℕ} {limits : Type 0} (bytes : List ℕ) (made packet : Packet)
-    → Made kind sender stamp fields limits made → drop 12 bytes ≡ fields → (IsNumber stamp.round → limits) → done made ≡ done packet
-    → Spells kind sender stamp bytes packet
-spelled {kind} {sender} {stamp} bytes made packet is here limits read =
-    subst (λ (p : Packet). Spells kind sender stamp bytes p) (ok_is made packet read)
-    (record {
-      kind_is = is.kind_is;
-      sender_is = is.sender_is;
-      stamp_is = is.stamp_is;
-      fields_are = here ∙ sym is.fields_are;
-      within = λ h. is.within (limits h);
-      parts = is.parts;
-    })
+spelled : (h : Head) (bytes : List ℕ) (made packet : Packet) → done made ≡ done packet → head_of made ≡ h → drop 12 bytes ≡ fields_of made → FieldsWithin made
+    → HasParts made → Spells h bytes packet
+spelled h bytes made packet read head_is fields_are within parts =
+    subst (λ (p : Packet). Spells h bytes p) (ok_is made packet read)
+    (record { head_is = head_is; fields_are = fields_are; within = within; parts = parts })
 
 -- ---- fields that several kinds have
 
-nothing_found : {kind : Kind} {sender : ℕ} {stamp : Stamp} {bytes : List ℕ} {packet : Packet} (made : Packet)
-    → Made kind sender stamp [] (IsNumber stamp.round) made → length bytes ≤ 12 → done made ≡ done packet → Spells kind sender stamp bytes packet
-nothing_found {bytes = bytes} {packet = packet} made is most read = spelled bytes made packet is (drop_all 12 bytes most) (λ h. h) read
+-- what is made of fields that were read
+record Made (h : Head) (fields : List ℕ) (limits : Type 0) (made : Packet) : Type 0 where
+  head_is : head_of made ≡ h
+  fields_are : fields_of made ≡ fields
+  within : limits → FieldsWithin made
+  parts : HasParts made
 
-number_found : {kind : Kind} {sender : ℕ} {stamp : Stamp} {bytes : List ℕ} {packet : Packet} (make : ℕ → Packet)
-    → ((n : ℕ) → Made kind sender stamp (big_bytes 4 n) (IsNumber stamp.round × IsNumber n) (make n)) → IsBytes bytes → 16 ≤ length bytes
-    → length bytes ≤ 16 → (number_at bytes 12 >>= λ n. done (make n)) ≡ done packet → Spells kind sender stamp bytes packet
-number_found {bytes = bytes} {packet = packet} make is fits least most read =
+made_found : {fields : List ℕ} {limits : Type 0} (h : Head) (bytes : List ℕ) (made packet : Packet) → done made ≡ done packet → Made h fields limits made
+    → drop 12 bytes ≡ fields → limits → Spells h bytes packet
+made_found h bytes made packet read is here limits =
+    spelled h bytes made packet read is.head_is (here ∙ sym is.fields_are) (is.within limits) is.parts
+
+nothing_found : (h : Head) (bytes : List ℕ) (made packet : Packet) → done made ≡ done packet → head_of made ≡ h → length bytes ≤ 12 → [] ≡ fields_of made
+    → FieldsWithin made → HasParts made → Spells h bytes packet
+nothing_found h bytes made packet read head_is most none within parts =
+    spelled h bytes made packet read head_is (drop_all 12 bytes most ∙ none) within parts
+
+number_found : {bytes : List ℕ} {packet : Packet} (h : Head) (make : ℕ → Packet) → ((n : ℕ) → Made h (big_bytes 4 n) (IsNumber n) (make n)) → IsBytes bytes
+    → 16 ≤ length bytes → length bytes ≤ 16 → (number_at bytes 12 >>= λ n. done (make n)) ≡ done packet → Spells h bytes packet
+number_found {bytes = bytes} {packet = packet} h make is fits least most read =
     let n = bind_ok (number_at bytes 12) (λ n. done (make n)) packet read in
     let here = number_takes bytes 12 16 n.0 refl fits least n.1 in
-    spelled bytes (make n.0) packet (is n.0) (to_end bytes 12 16 (big_bytes 4 n.0) here.0 most) (λ h. (h, here.1)) n.2
+    made_found h bytes (make n.0) packet n.2 (is n.0) (to_end bytes 12 16 (big_bytes 4 n.0) here.0 most) here.1
 
-report_found : {kind : Kind} {sender : ℕ} {stamp : Stamp} {bytes : List ℕ} {packet : Packet} (make : Report → Packet)
-    → ((r : Report) → Made kind sender stamp (report_bytes r) (IsNumber stamp.round × IsReport r) (make r)) → IsBytes bytes → 20 ≤ length bytes
-    → length bytes ≤ 20 → (report_at bytes 12 >>= λ r. done (make r)) ≡ done packet → Spells kind sender stamp bytes packet
-report_found {bytes = bytes} {packet = packet} make is fits least most read =
+report_found : {bytes : List ℕ} {packet : Packet} (h : Head) (make : Report → Packet) → ((r : Report) → Made h (report_bytes r) (IsReport r) (make r))
+    → IsBytes bytes → 20 ≤ length bytes → length bytes ≤ 20 → (report_at bytes 12 >>= λ r. done (make r)) ≡ done packet → Spells h bytes packet
+report_found {bytes = bytes} {packet = packet} h make is fits least most read =
     let r = bind_ok (report_at bytes 12) (λ r. done (make r)) packet read in
     let here = report_takes bytes 12 20 r.0 refl fits least r.1 in
-    spelled bytes (make r.0) packet (is r.0) (to_end bytes 12 20 (report_bytes r.0) here.0 most) (λ h. (h, here.1)) r.2
+    made_found h bytes (make r.0) packet r.2 (is r.0) (to_end bytes 12 20 (report_bytes r.0) here.0 most) here.1
 
-send_found : {kind : Kind} {sender : ℕ} {stamp : Stamp} {bytes : List ℕ} {packet : Packet} (make : Report → ℕ → Packet)
-    → ((r : Report) (n : ℕ) → Made kind sender stamp (report_bytes r ++ big_bytes 4 n ++ drop 24 bytes)
-    (IsNumber stamp.round × IsReport r × IsNumber n) (make r n)) → IsBytes bytes → 24 ≤ length bytes
-    → (report_at bytes 12 >>= λ r. number_at bytes 20 >>= λ n. done (make r n)) ≡ done packet → Spells kind sender stamp bytes packet
-send_found {bytes = bytes} {packet = packet} make is fits least read =
+send_found : {bytes : List ℕ} {packet : Packet} (h : Head) (make : Report → ℕ → Packet)
+    → ((r : Report) (n : ℕ) → Made h (report_bytes r ++ big_bytes 4 n ++ drop 24 bytes) (IsReport r × IsNumber n) (make r n)) → IsBytes bytes
+    → 24 ≤ length bytes → (report_at bytes 12 >>= λ r. number_at bytes 20 >>= λ n. done (make r n)) ≡ done packet → Spells h bytes packet
+send_found {bytes = bytes} {packet = packet} h make is fits least read =
     let r = bind_ok (report_at bytes 12) (λ r. number_at bytes 20 >>= λ n. done (make r n)) packet read in
     let n = bind_ok (number_at bytes 20) (λ n. done (make r.0 n)) packet r.2 in
     let r-here = report_takes bytes 12 20 r.0 refl fits (omega arith) r.1 in
     let n-here = number_takes bytes 20 24 n.0 refl fits least n.1 in
-    spelled bytes (make r.0 n.0) packet (is r.0 n.0) (and_then bytes 12 20 24 (report_bytes r.0) (big_bytes 4 n.0) r-here.0 n-here.0).here
-    (λ h. (h, r-here.1, n-here.1)) n.2
+    made_found h bytes (make r.0 n.0) packet n.2 (is r.0 n.0) (and_then bytes 12 20 24 (report_bytes r.0) (big_bytes 4 n.0) r-here.0 n-here.0).here
+    (r-here.1, n-here.1)
 
 -- two numbers, and then the rest
 record Two (bytes : List ℕ) (rest : ℕ → ℕ → Read Packet) (packet : Packet) : Type 0 where
@@ -140,22 +125,23 @@ three_found bytes rest packet fits least read =
 -- ---- the kinds
 
 pub packet_found : (kind : Kind) (sender : ℕ) (stamp : Stamp) (bytes : List ℕ) (packet : Packet) → IsBytes bytes → least_total kind ≤ length bytes
-    → length bytes ≤ most_total kind → packet_at kind sender stamp bytes ≡ Ok packet → Spells kind sender stamp bytes packet
-unfolding packet_at fields_of IsWithin HasParts
+    → length bytes ≤ most_total kind → packet_at kind sender stamp bytes ≡ Ok packet
+    → Spells (head kind sender stamp) bytes packet
+unfolding packet_at fields_of HasParts
 packet_found kinds.Request sender stamp bytes packet fits least most read =
-    send_found (λ report req. packets.Request sender stamp report req (drop 24 bytes))
-    (λ report req. makes refl refl refl refl (λ h. h) (omega (arith, length-drop 24 bytes))) fits least read
+    send_found (head kinds.Request sender stamp) (λ report req. packets.Request sender stamp report req (drop 24 bytes))
+    (λ report req. record { head_is = refl; fields_are = refl; within = λ k. k; parts = omega (arith, length-drop 24 bytes) }) fits least read
 packet_found kinds.Spread sender stamp bytes packet fits least most read =
-    send_found (λ report req. packets.Spread sender stamp report req (drop 24 bytes))
-    (λ report req. makes refl refl refl refl (λ h. h) (omega (arith, length-drop 24 bytes))) fits least read
+    send_found (head kinds.Spread sender stamp) (λ report req. packets.Spread sender stamp report req (drop 24 bytes))
+    (λ report req. record { head_is = refl; fields_are = refl; within = λ k. k; parts = omega (arith, length-drop 24 bytes) }) fits least read
 packet_found kinds.Bcast sender stamp bytes packet fits least most read =
     let n = three_found bytes (λ base acc number. entry_at bytes 24 >>= λ entry. Ok (packets.Bcast sender stamp base acc number entry)) packet fits
     (omega arith) read in
     let entry = bind_ok (entry_at bytes 24) (λ entry. Ok (packets.Bcast sender stamp n.a n.b n.c entry)) packet n.read in
     let here = entry_ends bytes 24 entry.0 fits (omega arith) entry.1 in
-    spelled bytes (packets.Bcast sender stamp n.a n.b n.c entry.0) packet (makes refl refl refl refl (λ h. h) here.parts)
+    spelled (head kinds.Bcast sender stamp) bytes (packets.Bcast sender stamp n.a n.b n.c entry.0) packet entry.2 refl
     (n.takes.here ∙ ap (λ xs. (big_bytes 4 n.a ++ big_bytes 4 n.b ++ big_bytes 4 n.c) ++ xs) here.here)
-    (λ h. (h, n.a_is, n.b_is, n.c_is, here.within)) entry.2
+    (n.a_is, n.b_is, n.c_is, here.within) here.parts
 packet_found kinds.Order sender stamp bytes packet fits least most read =
     let n = three_found bytes (λ base acc number. number_at bytes 25 >>= λ req. Ok (packets.Order sender stamp base acc number (slice_index bytes 24) req))
     packet fits (omega arith) read in
@@ -164,8 +150,9 @@ packet_found kinds.Order sender stamp bytes packet fits least most read =
     let numbers = big_bytes 4 n.a ++ big_bytes 4 n.b ++ big_bytes 4 n.c in
     let to-25 = and_then bytes 12 24 25 numbers (slice_index bytes 24 ∷ []) n.takes (byte_takes bytes 24 25 refl (omega arith)) in
     let to-29 = and_then bytes 12 25 29 (numbers ++ slice_index bytes 24 ∷ []) (big_bytes 4 req.0) to-25 req-here.0 in
-    spelled bytes (packets.Order sender stamp n.a n.b n.c (slice_index bytes 24) req.0) packet (makes refl refl refl refl (λ h. h) tt)
-    (to_end bytes 12 29 (numbers ++ slice_index bytes 24 ∷ [] ++ big_bytes 4 req.0) to-29 most) (λ h. (h, n.a_is, n.b_is, n.c_is, req-here.1)) req.2
+    spelled (head kinds.Order sender stamp) bytes (packets.Order sender stamp n.a n.b n.c (slice_index bytes 24) req.0) packet req.2 refl
+    (to_end bytes 12 29 (numbers ++ slice_index bytes 24 ∷ [] ++ big_bytes 4 req.0) to-29 most)
+    (n.a_is, n.b_is, n.c_is, req-here.1) tt
 packet_found kinds.Accept sender stamp bytes packet fits least most read =
     let n = three_found bytes (λ base acc top. flag_at bytes 24 >>= λ poll. Ok (packets.Accept sender stamp base acc top poll)) packet fits
     (omega arith) read in
@@ -173,44 +160,45 @@ packet_found kinds.Accept sender stamp bytes packet fits least most read =
     let here = flag_takes bytes 24 25 poll.0 refl (omega arith) poll.1 in
     let numbers = big_bytes 4 n.a ++ big_bytes 4 n.b ++ big_bytes 4 n.c in
     let to-25 = and_then bytes 12 24 25 numbers (flag_byte poll.0 ∷ []) n.takes here in
-    spelled bytes (packets.Accept sender stamp n.a n.b n.c poll.0) packet (makes refl refl refl refl (λ h. h) tt)
-    (to_end bytes 12 25 (numbers ++ flag_byte poll.0 ∷ []) to-25 most) (λ h. (h, n.a_is, n.b_is, n.c_is)) poll.2
+    spelled (head kinds.Accept sender stamp) bytes (packets.Accept sender stamp n.a n.b n.c poll.0) packet poll.2 refl
+    (to_end bytes 12 25 (numbers ++ flag_byte poll.0 ∷ []) to-25 most)
+    (n.a_is, n.b_is, n.c_is) tt
 packet_found kinds.Ack sender stamp bytes packet fits least most read =
-    report_found (λ report. packets.Ack sender stamp report) (λ report. makes refl refl refl refl (λ h. h) tt) fits least most read
+    report_found (head kinds.Ack sender stamp) (λ report. packets.Ack sender stamp report) (λ report. record { head_is = refl; fields_are = refl; within = λ k. k; parts = tt }) fits least most read
 packet_found kinds.Nack sender stamp bytes packet fits least most read =
-    report_found (λ report. packets.Nack sender stamp report) (λ report. makes refl refl refl refl (λ h. h) tt) fits least most read
+    report_found (head kinds.Nack sender stamp) (λ report. packets.Nack sender stamp report) (λ report. record { head_is = refl; fields_are = refl; within = λ k. k; parts = tt }) fits least most read
 packet_found kinds.Hold sender stamp bytes packet fits least most read =
     let n = three_found bytes (λ base top req. Ok (packets.Hold sender stamp base top req)) packet fits least read in
-    spelled bytes (packets.Hold sender stamp n.a n.b n.c) packet (makes refl refl refl refl (λ h. h) tt)
-    (to_end bytes 12 24 (big_bytes 4 n.a ++ big_bytes 4 n.b ++ big_bytes 4 n.c) n.takes most) (λ h. (h, n.a_is, n.b_is, n.c_is)) n.read
-packet_found kinds.JoinAsk sender stamp bytes packet fits least most read =
-    nothing_found (packets.JoinAsk sender stamp) (makes refl refl refl refl (λ h. h) tt) most read
+    spelled (head kinds.Hold sender stamp) bytes (packets.Hold sender stamp n.a n.b n.c) packet n.read refl
+    (to_end bytes 12 24 (big_bytes 4 n.a ++ big_bytes 4 n.b ++ big_bytes 4 n.c) n.takes most)
+    (n.a_is, n.b_is, n.c_is) tt
 packet_found kinds.Welcome sender stamp bytes packet fits least most read =
     let n = two_found bytes (λ base join. image_at bytes 20 >>= λ image. Ok (packets.Welcome sender stamp base join image)) packet fits (omega arith) read in
     let image = bind_ok (image_at bytes 20) (λ image. Ok (packets.Welcome sender stamp n.a n.b image)) packet n.read in
     let here = image_takes bytes 20 238 image.0 refl fits (omega arith) image.1 in
     let to-238 = and_then bytes 12 20 238 (big_bytes 4 n.a ++ big_bytes 4 n.b) (image_bytes image.0) n.takes here.takes in
-    spelled bytes (packets.Welcome sender stamp n.a n.b image.0) packet (makes refl refl refl refl (λ h. h) (here.within).places)
-    (to_end bytes 12 238 (big_bytes 4 n.a ++ big_bytes 4 n.b ++ image_bytes image.0) to-238 most) (λ h. (h, n.a_is, n.b_is, here.within)) image.2
+    spelled (head kinds.Welcome sender stamp) bytes (packets.Welcome sender stamp n.a n.b image.0) packet image.2 refl
+    (to_end bytes 12 238 (big_bytes 4 n.a ++ big_bytes 4 n.b ++ image_bytes image.0) to-238 most)
+    (n.a_is, n.b_is, here.within) (here.within).places
 packet_found kinds.LeaveAsk sender stamp bytes packet fits least most read =
-    report_found (λ report. packets.LeaveAsk sender stamp report) (λ report. makes refl refl refl refl (λ h. h) tt) fits least most read
+    report_found (head kinds.LeaveAsk sender stamp) (λ report. packets.LeaveAsk sender stamp report) (λ report. record { head_is = refl; fields_are = refl; within = λ k. k; parts = tt }) fits least most read
 packet_found kinds.Gone sender stamp bytes packet fits least most read =
-    number_found (λ number. packets.Gone sender stamp number) (λ number. makes refl refl refl refl (λ h. h) tt) fits least most read
-packet_found kinds.Invite sender stamp bytes packet fits least most read =
-    nothing_found (packets.Invite sender stamp) (makes refl refl refl refl (λ h. h) tt) most read
+    number_found (head kinds.Gone sender stamp) (λ number. packets.Gone sender stamp number) (λ number. record { head_is = refl; fields_are = refl; within = λ k. k; parts = tt }) fits least most read
 packet_found kinds.Vote sender stamp bytes packet fits least most read =
     let vote = bind_ok (vote_at bytes 12) (λ vote. Ok (packets.Vote sender stamp vote)) packet read in
     let here = vote_takes bytes 12 35 vote.0 refl fits least vote.1 in
-    spelled bytes (packets.Vote sender stamp vote.0) packet (makes refl refl refl refl (λ h. h) here.set)
-    (to_end bytes 12 35 (vote_bytes vote.0) here.takes most) (λ h. (h, here.within)) vote.2
+    spelled (head kinds.Vote sender stamp) bytes (packets.Vote sender stamp vote.0) packet vote.2 refl
+    (to_end bytes 12 35 (vote_bytes vote.0) here.takes most)
+    (here.within) here.set
 packet_found kinds.Fetch sender stamp bytes packet fits least most read =
-    number_found (λ stored. packets.Fetch sender stamp stored) (λ stored. makes refl refl refl refl (λ h. h) tt) fits least most read
+    number_found (head kinds.Fetch sender stamp) (λ stored. packets.Fetch sender stamp stored) (λ stored. record { head_is = refl; fields_are = refl; within = λ k. k; parts = tt }) fits least most read
 packet_found kinds.Piece sender stamp bytes packet fits least most read =
     let n = two_found bytes (λ base number. entry_at bytes 20 >>= λ entry. Ok (packets.Piece sender stamp base number entry)) packet fits (omega arith) read in
     let entry = bind_ok (entry_at bytes 20) (λ entry. Ok (packets.Piece sender stamp n.a n.b entry)) packet n.read in
     let here = entry_ends bytes 20 entry.0 fits (omega arith) entry.1 in
-    spelled bytes (packets.Piece sender stamp n.a n.b entry.0) packet (makes refl refl refl refl (λ h. h) here.parts)
-    (n.takes.here ∙ ap (λ xs. (big_bytes 4 n.a ++ big_bytes 4 n.b) ++ xs) here.here) (λ h. (h, n.a_is, n.b_is, here.within)) entry.2
+    spelled (head kinds.Piece sender stamp) bytes (packets.Piece sender stamp n.a n.b entry.0) packet entry.2 refl
+    (n.takes.here ∙ ap (λ xs. (big_bytes 4 n.a ++ big_bytes 4 n.b) ++ xs) here.here)
+    (n.a_is, n.b_is, here.within) here.parts
 packet_found kinds.Result sender stamp bytes packet fits least most read =
     let n = two_found bytes (λ base number. set_at bytes 20 >>= λ members. resilience_at bytes 30 >>= λ resilience. Ok
     (packets.Result sender stamp base number members resilience)) packet fits (omega arith) read in
@@ -222,7 +210,7 @@ packet_found kinds.Result sender stamp bytes packet fits least most read =
     let numbers = big_bytes 4 n.a ++ big_bytes 4 n.b in
     let to-30 = and_then bytes 12 20 30 numbers (set_bytes members.0) n.takes set-here.0 in
     let to-31 = and_then bytes 12 30 31 (numbers ++ set_bytes members.0) (resilience.0 ∷ []) to-30 last-here.0 in
-    spelled bytes (packets.Result sender stamp n.a n.b members.0 resilience.0) packet (makes refl refl refl refl (λ h. h) set-here.1)
-    (to_end bytes 12 31 (numbers ++ set_bytes members.0 ++ resilience.0 ∷ []) to-31 most) (λ h. (h, n.a_is, n.b_is, last-here.1)) resilience.2
-packet_found kinds.HandOver sender stamp bytes packet fits least most read =
-    nothing_found (packets.HandOver sender stamp) (makes refl refl refl refl (λ h. h) tt) most read
+    spelled (head kinds.Result sender stamp) bytes (packets.Result sender stamp n.a n.b members.0 resilience.0) packet resilience.2 refl
+    (to_end bytes 12 31 (numbers ++ set_bytes members.0 ++ resilience.0 ∷ []) to-31 most)
+    (n.a_is, n.b_is, last-here.1) set-here.1
+packet_found kind sender stamp bytes packet fits least most read = nothing_found (head kind sender stamp) bytes _ packet read refl most refl tt tt

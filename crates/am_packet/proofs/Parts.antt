@@ -17,7 +17,7 @@ use Rattle.am_packet.specs.declared.refusal.PacketRefusal.TheVariants.{BadField}
 use Rattle.am_base.specs.Limits.{IsRow, IsImage, IsVote, IsEntry}
 use Rattle.am_base.specs.Lists.{blank_row}
 use Rattle.am_packet.specs.Limits.{HasEntryParts}
-use Rattle.am_packet.specs.KindNumbers.{most_entry}
+use Rattle.am_packet.specs.Kinds.{most_entry}
 use Rattle.am_packet.specs.Spelling.{stamp_bytes, set_bytes, row_bytes, rows_bytes, image_bytes, vote_bytes, entry_bytes}
 use Rattle.am_packet.specs.Reading.{◌>>=◌, number_at, stamp_at, set_at, resilience_at, life_at, row_at, rows_at, image_at, vote_at, data_at, join_at, leave_at}
 use Rattle.am_packet.specs.Reading.{view_at, view_fields_at, entry_at}

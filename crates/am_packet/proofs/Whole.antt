@@ -1,19 +1,19 @@
 -- What is read is spelled so, no spelling begins another, and a part of one is refused.
-use Rattle.std.proofs.Common.{◌≡◌, ◌≢◌, ℕ, ◌+◌, ◌-◌, ◌<◌, ◌≤◌, true, cond, eqb, List, [], ◌∷◌, ◌++◌, length, take, drop, slice_index, Option, Some, Ok, Err}
+use Rattle.std.proofs.Common.{◌≡◌, ◌≢◌, ℕ, ◌+◌, ◌-◌, ◌<◌, ◌≤◌, true, cond, eqb, List, [], ◌∷◌, ◌++◌, length, take, drop, slice_index, Some, Ok, Err}
 use Rattle.std.proofs.Common.{inl, inr, refl, sym, ap, subst, ◌∙◌, length-append, arith}
-use Rattle.std.specs.Prelude.{IfOk, if◌then◌else◌, nat_lt, nat_le, ◌&&◌}
-use Rattle.std.proofs.lemmas.Bool.{cases_lt, cases_Bool, and_parts, leb-true, cond-true, cond-false, eqb-true, le-ltb, lt-ltb}
+use Rattle.std.specs.Prelude.{IfOk, if◌then◌else◌, nat_lt, nat_le, ◌&&◌, ◌==◌}
+use Rattle.std.proofs.lemmas.Bool.{cases_lt, and_parts, leb-true, eqb-true, le-ltb, lt-ltb}
 use Rattle.std.proofs.lemmas.List.{append-nil, length-drop, length-take-le, drop-take, drop-append-le, get_or-take, nil_from_length}
 use Rattle.byteorder.specs.Endian.{big_bytes, big_number}
 use Rattle.byteorder.specs.Numbers.{big_from-take, big_from-append}
 use Rattle.am_base.specs.declared.name.Stamp.{Stamp}
+use Rattle.am_base.proofs.Found.{find_test}
 use Rattle.am_packet.specs.declared.packet.Packet.{Packet}
-use Rattle.am_packet.specs.Kinds.{kind_of}
 use Rattle.am_packet.specs.declared.refusal.PacketRefusal.TheVariants.{Short, BadLength, BadField}
 use Rattle.am_packet.specs.declared.kind.Kind.{Kind}
-use Rattle.am_packet.specs.declared.kind.Kind.TheVariants as kinds
-use Rattle.am_packet.specs.KindNumbers.{number_of, kind_at, is_total, least_total, most_total}
-use Rattle.am_packet.specs.Limits.{IsPacket}
+use Rattle.am_packet.specs.Kinds.{Head, kind_of, number_of, all_kinds, kind_at, is_total, least_total, most_total}
+use Rattle.am_base.specs.Limits.{IsNumber}
+use Rattle.am_packet.specs.Limits.{IsWithin, IsPacket}
 use Rattle.am_packet.specs.Spelling.{spelling, fields_of, sender_of, stamp_of, stamp_bytes}
 use Rattle.am_packet.specs.Reading.{Read, version_in, kind_in, total_in, found_in, stamp_at, packet_at, fields_at, reading}
 use Rattle.am_packet.specs.Causes.{HasKind, HasTotal}
@@ -24,40 +24,10 @@ use Rattle.am_packet.proofs.Found.{packet_found}
 use Rattle.am_packet.proofs.Again.{fields_short, length-spelling, spelling_again}
 use Rattle.am_packet.proofs.Causes.{Tells, tells, headed, some_kind, is_short, is_long}
 
--- the number of a kind that is found for it
-numbered : (n m : ℕ) (k kind : Kind) (o : Option Kind) → number_of k ≡ m → (o ≡ Some kind → n ≡ number_of kind) → cond (eqb n m) (Some k) o ≡ Some kind
-    → n ≡ number_of kind
-numbered n m k kind o is rest e =
-    elim (cases_Bool (eqb n m)) [
-      | inl same_number ↦
-          let same : Some k ≡ Some kind = sym (cond-true (eqb n m) (Some k) o same_number) ∙ e in
-          let kind-is : k ≡ kind = cc in
-          eqb-true n m same_number ∙ sym is ∙ ap (λ x. number_of x) kind-is
-      | inr other ↦ rest (sym (cond-false (eqb n m) (Some k) o other) ∙ e)
-    ]
-
+-- the kind that is found for a number has it
 kind_number : (n : ℕ) (kind : Kind) → kind_at n ≡ Some kind → n ≡ number_of kind
 unfolding kind_at
-kind_number n kind =
-    numbered n 1 kinds.Request kind _ refl
-    (numbered n 2 kinds.Spread kind _ refl
-    (numbered n 3 kinds.Bcast kind _ refl
-    (numbered n 4 kinds.Order kind _ refl
-    (numbered n 5 kinds.Accept kind _ refl
-    (numbered n 6 kinds.Ack kind _ refl
-    (numbered n 7 kinds.Nack kind _ refl
-    (numbered n 8 kinds.Hold kind _ refl
-    (numbered n 9 kinds.JoinAsk kind _ refl
-    (numbered n 10 kinds.Welcome kind _ refl
-    (numbered n 11 kinds.LeaveAsk kind _ refl
-    (numbered n 12 kinds.Gone kind _ refl
-    (numbered n 13 kinds.Invite kind _ refl
-    (numbered n 14 kinds.Vote kind _ refl
-    (numbered n 15 kinds.Fetch kind _ refl
-    (numbered n 16 kinds.Piece kind _ refl
-    (numbered n 17 kinds.Result kind _ refl
-    (numbered n 18 kinds.HandOver kind _ refl
-    (λ none. absurd cc))))))))))))))))))
+kind_number n kind found = eqb-true n (number_of kind) (find_test (λ k. n == number_of k) all_kinds kind found)
 
 -- ---- what is read is spelled so
 
@@ -75,7 +45,7 @@ put_together packet bytes rest a b version kind sender total stamp whole mark ve
     whole ∙ rw (mark.0, mark.1, version-is, kind-is, sender-is, stamp-is, total-is, rest-is) refl
 
 pub spelled : (bytes : List ℕ) (packet : Packet) → IsBytes bytes → reading bytes ≡ Ok packet → IsPacket packet × (bytes ≡ spelling packet)
-unfolding fields_at
+unfolding fields_at IsWithin
 spelled bytes packet fits read =
     let has : HasTotal bytes = subst (λ r. Tells r bytes) read (tells bytes) in
     let kind = some_kind (kind_at (kind_in bytes)) has.0.1 in
@@ -100,13 +70,13 @@ spelled bytes packet fits read =
     (stamp_bytes stamp.0) t05 t5.0 in
     let t07 = and_then bytes 0 10 12 (slice_index bytes 0 ∷ slice_index bytes 1 ∷ version_in bytes ∷ kind_in bytes ∷ slice_index bytes 4 ∷ []
     ++ stamp_bytes stamp.0) (big_bytes 2 (total_in bytes)) t06 (record { here = t10 }) in
-    let kind-is : kind_in bytes ≡ kind_of packet = kind_number (kind_in bytes) kind.0 kind.1 ∙ sym found.kind_is in
+    let kind-is : kind_in bytes ≡ kind_of packet = kind_number (kind_in bytes) kind.0 kind.1 ∙ ap (λ h. number_of h.kind) (sym found.head_is) in
     let count : length (fields_of packet) ≡ length bytes - 12 = ap length (sym found.fields_are) ∙ length-drop 12 bytes in
     let total-is : total_in bytes ≡ 12 + length (fields_of packet) = has.1 ∙ (let sum : length bytes ≡ 12 + length (fields_of packet) = omega arith in sum) in (
-      record { within = found.within t5.1; parts = found.parts },
+      record { within = (subst (λ (h : Head). IsNumber h.stamp.round) (sym found.head_is) t5.1, found.within); parts = found.parts },
       put_together packet bytes (drop 12 bytes) (slice_index bytes 0) (slice_index bytes 1) (version_in bytes) (kind_in bytes) (slice_index bytes 4)
           (total_in bytes) stamp.0
-          t07.here mark has.0.0.1 kind-is found.sender_is found.stamp_is total-is found.fields_are,
+          t07.here mark has.0.0.1 kind-is (ap (λ h. h.sender) found.head_is) (ap (λ h. h.stamp) found.head_is) total-is found.fields_are,
     )
 
 -- ---- prefixes

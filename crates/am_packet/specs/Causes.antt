@@ -1,6 +1,6 @@
 -- How far a header is right.
 use Rattle.std.specs.Prelude.{◌≡◌, ◌≢◌, ℕ, ◌≤◌, List, length, None, true}
-use Rattle.am_packet.specs.KindNumbers.{kind_at}
+use Rattle.am_packet.specs.Kinds.{kind_at}
 use Rattle.am_packet.specs.Reading.{has_mark, version_in, kind_in, total_in}
 
 abbrev pub HasMark : List ℕ → Type 0

@@ -6,7 +6,7 @@ use Rattle.byteorder.specs.Endian.{big_number}
 use Rattle.am_base.specs.Names.{are_parts}
 use Rattle.am_packet.specs.declared.kind.Kind.{Kind}
 use Rattle.am_packet.specs.declared.kind.Kind.TheVariants as kinds
-use Rattle.am_packet.specs.KindNumbers.{is_total, most_entry}
+use Rattle.am_packet.specs.Kinds.{is_total, most_entry}
 
 -- a field's offset, and whether its value may stand there
 pub record Field : Type 0 where
@@ -77,16 +77,14 @@ kind_fields kinds.Accept bytes = number_field bytes 12 ∷ number_field bytes 16
 kind_fields kinds.Ack bytes = report_fields bytes 12
 kind_fields kinds.Nack bytes = report_fields bytes 12
 kind_fields kinds.Hold bytes = number_field bytes 12 ∷ number_field bytes 16 ∷ number_field bytes 20 ∷ []
-kind_fields kinds.JoinAsk bytes = []
 kind_fields kinds.Welcome bytes = number_field bytes 12 ∷ number_field bytes 16 ∷ image_fields bytes 20
 kind_fields kinds.LeaveAsk bytes = report_fields bytes 12
 kind_fields kinds.Gone bytes = number_field bytes 12 ∷ []
-kind_fields kinds.Invite bytes = []
 kind_fields kinds.Vote bytes = vote_fields bytes 12
 kind_fields kinds.Fetch bytes = number_field bytes 12 ∷ []
 kind_fields kinds.Piece bytes = number_field bytes 12 ∷ number_field bytes 16 ∷ entry_fields bytes 20
 kind_fields kinds.Result bytes = number_field bytes 12 ∷ number_field bytes 16 ∷ set_field bytes 20 ∷ resilience_field bytes 30 ∷ []
-kind_fields kinds.HandOver bytes = []
+kind_fields _ bytes = []
 
 -- the stamp's round, then the total, then the kind's fields
 abbrev pub packet_fields : Kind → List ℕ → List Field

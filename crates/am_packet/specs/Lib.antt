@@ -3,7 +3,6 @@ pub mod Kinds
 pub mod Boxes
 pub mod Causes
 pub mod Faults
-pub mod KindNumbers
 pub mod Laws
 pub mod Limits
 pub mod Reading

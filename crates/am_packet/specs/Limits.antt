@@ -7,27 +7,30 @@ use Rattle.am_base.specs.Limits.{IsNumber, IsReport, IsImage, IsVote, IsEntry}
 use Rattle.am_base.specs.Names.{IsSet}
 use Rattle.am_packet.specs.declared.packet.Packet.{Packet}
 use Rattle.am_packet.specs.declared.packet.Packet.TheVariants as packets
+use Rattle.am_packet.specs.Spelling.{stamp_of}
 
--- the numbers of a packet are within their limits
+-- the numbers of a packet's fields are within their limits
+abbrev pub FieldsWithin : Packet → Type 0
+FieldsWithin (packets.Request sender stamp report req body) = IsReport report × IsNumber req
+FieldsWithin (packets.Spread sender stamp report req body) = IsReport report × IsNumber req
+FieldsWithin (packets.Bcast sender stamp base acc number entry) = IsNumber base × IsNumber acc × IsNumber number × IsEntry entry
+FieldsWithin (packets.Order sender stamp base acc number from req) = IsNumber base × IsNumber acc × IsNumber number × IsNumber req
+FieldsWithin (packets.Accept sender stamp base acc top poll) = IsNumber base × IsNumber acc × IsNumber top
+FieldsWithin (packets.Ack sender stamp report) = IsReport report
+FieldsWithin (packets.Nack sender stamp report) = IsReport report
+FieldsWithin (packets.Hold sender stamp base top req) = IsNumber base × IsNumber top × IsNumber req
+FieldsWithin (packets.Welcome sender stamp base join image) = IsNumber base × IsNumber join × IsImage image
+FieldsWithin (packets.LeaveAsk sender stamp report) = IsReport report
+FieldsWithin (packets.Gone sender stamp number) = IsNumber number
+FieldsWithin (packets.Vote sender stamp vote) = IsVote vote
+FieldsWithin (packets.Fetch sender stamp stored) = IsNumber stored
+FieldsWithin (packets.Piece sender stamp base number entry) = IsNumber base × IsNumber number × IsEntry entry
+FieldsWithin (packets.Result sender stamp base number members resilience) = IsNumber base × IsNumber number × (resilience ≤ 15)
+FieldsWithin _ = Unit {0}
+
+-- and so is the round of its stamp
 unfoldable pub IsWithin : Packet → Type 0
-IsWithin (packets.Request sender stamp report req body) = IsNumber stamp.round × IsReport report × IsNumber req
-IsWithin (packets.Spread sender stamp report req body) = IsNumber stamp.round × IsReport report × IsNumber req
-IsWithin (packets.Bcast sender stamp base acc number entry) = IsNumber stamp.round × IsNumber base × IsNumber acc × IsNumber number × IsEntry entry
-IsWithin (packets.Order sender stamp base acc number from req) = IsNumber stamp.round × IsNumber base × IsNumber acc × IsNumber number × IsNumber req
-IsWithin (packets.Accept sender stamp base acc top poll) = IsNumber stamp.round × IsNumber base × IsNumber acc × IsNumber top
-IsWithin (packets.Ack sender stamp report) = IsNumber stamp.round × IsReport report
-IsWithin (packets.Nack sender stamp report) = IsNumber stamp.round × IsReport report
-IsWithin (packets.Hold sender stamp base top req) = IsNumber stamp.round × IsNumber base × IsNumber top × IsNumber req
-IsWithin (packets.JoinAsk sender stamp) = IsNumber stamp.round
-IsWithin (packets.Welcome sender stamp base join image) = IsNumber stamp.round × IsNumber base × IsNumber join × IsImage image
-IsWithin (packets.LeaveAsk sender stamp report) = IsNumber stamp.round × IsReport report
-IsWithin (packets.Gone sender stamp number) = IsNumber stamp.round × IsNumber number
-IsWithin (packets.Invite sender stamp) = IsNumber stamp.round
-IsWithin (packets.Vote sender stamp vote) = IsNumber stamp.round × IsVote vote
-IsWithin (packets.Fetch sender stamp stored) = IsNumber stamp.round × IsNumber stored
-IsWithin (packets.Piece sender stamp base number entry) = IsNumber stamp.round × IsNumber base × IsNumber number × IsEntry entry
-IsWithin (packets.Result sender stamp base number members resilience) = IsNumber stamp.round × IsNumber base × IsNumber number × (resilience ≤ 15)
-IsWithin (packets.HandOver sender stamp) = IsNumber stamp.round
+IsWithin packet = IsNumber (stamp_of packet).round × FieldsWithin packet
 
 -- what the parts' types keep: a body has at most 1,024 bytes, a set has a life or 0 for each of sixteen places, and an
 -- image sixteen rows

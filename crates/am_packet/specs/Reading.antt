@@ -17,7 +17,7 @@ use Rattle.am_packet.specs.declared.refusal.PacketRefusal.{PacketRefusal}
 use Rattle.am_packet.specs.declared.refusal.PacketRefusal.TheVariants.{Short, BadMark, BadVersion, BadKind, BadLength, BadField}
 use Rattle.am_packet.specs.declared.kind.Kind.{Kind}
 use Rattle.am_packet.specs.declared.kind.Kind.TheVariants as kinds
-use Rattle.am_packet.specs.KindNumbers.{kind_at, is_total, most_entry}
+use Rattle.am_packet.specs.Kinds.{kind_at, is_total, most_entry}
 
 abbrev pub Read : Type 0 → Type 0
 Read A = Result A PacketRefusal

@@ -11,38 +11,13 @@ use Rattle.am_base.specs.declared.entry.Entry.TheVariants.{Data, Join, Leave, Vi
 use Rattle.am_base.specs.Names.{mask_of, lives_of}
 use Rattle.am_packet.specs.declared.packet.Packet.{Packet}
 use Rattle.am_packet.specs.declared.packet.Packet.TheVariants as packets
-use Rattle.am_packet.specs.Kinds.{kind_of}
-
--- who sent a packet, and its stamp
-pub record Signature : Type 0 where
-  pub sender : ℕ
-  pub stamp : Stamp
-
-abbrev pub signature_of : Packet → Signature
-signature_of (packets.Request sender stamp report req body) = record { sender = sender; stamp = stamp }
-signature_of (packets.Spread sender stamp report req body) = record { sender = sender; stamp = stamp }
-signature_of (packets.Bcast sender stamp base acc number entry) = record { sender = sender; stamp = stamp }
-signature_of (packets.Order sender stamp base acc number from req) = record { sender = sender; stamp = stamp }
-signature_of (packets.Accept sender stamp base acc top poll) = record { sender = sender; stamp = stamp }
-signature_of (packets.Ack sender stamp report) = record { sender = sender; stamp = stamp }
-signature_of (packets.Nack sender stamp report) = record { sender = sender; stamp = stamp }
-signature_of (packets.Hold sender stamp base top req) = record { sender = sender; stamp = stamp }
-signature_of (packets.JoinAsk sender stamp) = record { sender = sender; stamp = stamp }
-signature_of (packets.Welcome sender stamp base join image) = record { sender = sender; stamp = stamp }
-signature_of (packets.LeaveAsk sender stamp report) = record { sender = sender; stamp = stamp }
-signature_of (packets.Gone sender stamp number) = record { sender = sender; stamp = stamp }
-signature_of (packets.Invite sender stamp) = record { sender = sender; stamp = stamp }
-signature_of (packets.Vote sender stamp vote) = record { sender = sender; stamp = stamp }
-signature_of (packets.Fetch sender stamp stored) = record { sender = sender; stamp = stamp }
-signature_of (packets.Piece sender stamp base number entry) = record { sender = sender; stamp = stamp }
-signature_of (packets.Result sender stamp base number members resilience) = record { sender = sender; stamp = stamp }
-signature_of (packets.HandOver sender stamp) = record { sender = sender; stamp = stamp }
+use Rattle.am_packet.specs.Kinds.{head_of, kind_of}
 
 abbrev pub sender_of : Packet → ℕ
-sender_of packet = (signature_of packet).sender
+sender_of packet = (head_of packet).sender
 
 abbrev pub stamp_of : Packet → Stamp
-stamp_of packet = (signature_of packet).stamp
+stamp_of packet = (head_of packet).stamp
 
 abbrev pub stamp_bytes : Stamp → List ℕ
 stamp_bytes stamp = big_bytes 4 stamp.round ++ stamp.by ∷ []
@@ -92,16 +67,14 @@ fields_of (packets.Accept sender stamp base acc top poll) = big_bytes 4 base ++ 
 fields_of (packets.Ack sender stamp report) = report_bytes report
 fields_of (packets.Nack sender stamp report) = report_bytes report
 fields_of (packets.Hold sender stamp base top req) = big_bytes 4 base ++ big_bytes 4 top ++ big_bytes 4 req
-fields_of (packets.JoinAsk sender stamp) = []
 fields_of (packets.Welcome sender stamp base join image) = big_bytes 4 base ++ big_bytes 4 join ++ image_bytes image
 fields_of (packets.LeaveAsk sender stamp report) = report_bytes report
 fields_of (packets.Gone sender stamp number) = big_bytes 4 number
-fields_of (packets.Invite sender stamp) = []
 fields_of (packets.Vote sender stamp vote) = vote_bytes vote
 fields_of (packets.Fetch sender stamp stored) = big_bytes 4 stored
 fields_of (packets.Piece sender stamp base number entry) = big_bytes 4 base ++ big_bytes 4 number ++ entry_bytes entry
 fields_of (packets.Result sender stamp base number members resilience) = big_bytes 4 base ++ big_bytes 4 number ++ set_bytes members ++ resilience ∷ []
-fields_of (packets.HandOver sender stamp) = []
+fields_of _ = []
 
 -- the mark AG, the version 3, the kind, the sender, the stamp, and the number of all bytes
 abbrev pub header : ℕ → ℕ → Stamp → ℕ → List ℕ

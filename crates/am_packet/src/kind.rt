@@ -1,11 +1,30 @@
 ghost use Rattle.std.specs.Prelude.{◌≡◌};
-ghost use Rattle.am_packet.specs.KindNumbers.{kind_at, totals, is_total};
+ghost use Rattle.am_packet.specs.Kinds.{table, number_of, kind_at, is_total};
 
 /// The most bytes of a Request and of a Spread: 24 before a body's.
 const MOST_REQUEST: usize = 1_048;
 
 /// The most bytes that the count in a packet can tell.
 const MOST_COUNTED: usize = 65_535;
+
+/// Who hears a packet. Nobody hears one of its own name.
+#[derive(Clone, Copy)]
+pub enum Gate {
+    /// A member.
+    Member,
+    /// The sequencer, whatever view the packet tells.
+    Leading,
+    /// A member, of who began what the stamp tells.
+    OfBeginner,
+    /// The same, and a node that asks to join too.
+    Early,
+    /// Who acts in the packet's view.
+    InView,
+    /// The sequencer of the packet's view.
+    AsSequencer,
+    /// Who acts in the packet's view, of its sequencer.
+    OfSequencer,
+}
 
 /// The kinds of packets.
 #[derive(Clone, Copy)]
@@ -30,9 +49,37 @@ pub enum Kind {
     HandOver,
 }
 
+/// What the table of kinds has of one.
+#[derive(Drop)]
+struct Row {
+    number: u8,
+    word: &'static str,
+    least: usize,
+    most: usize,
+    gate: Gate,
+}
+
+/// A row of the table.
+#[inline(always)]
+fn row_with(number: u8, word: &'static str, least: usize, most: usize, gate: Gate) -> Row
+    ensures number { result.number ≡ number }
+    ensures word { result.word.now ≡ word.now }
+    ensures least { result.least ≡ least }
+    ensures most { result.most ≡ most }
+    ensures gate { result.gate ≡ gate }
+{
+    Row {
+        number,
+        word,
+        least,
+        most,
+        gate,
+    }
+}
+
 impl Kind {
     /// The kind of a number, 1 to 18.
-    #[tactic(auto, unfolding(crate::specs::KindNumbers::kind_at))]
+    #[tactic(auto, unfolding(crate::specs::Kinds::kind_at))]
     pub fn of_byte(byte: u8) -> Option<Kind>
         ensures { result ≡ kind_at byte }
     {
@@ -59,31 +106,63 @@ impl Kind {
         }
     }
 
-    /// The least and the greatest number of bytes that its packets have.
-    fn totals(self) -> (usize, usize)
-        ensures { result ≡ totals self }
+    /// Its row in the table of kinds.
+    #[inline(always)]
+    fn row(self) -> Row
+        ensures number { result.number ≡ (table self).number }
+        ensures word { result.word.now ≡ (table self).word }
+        ensures least { result.least ≡ (table self).least }
+        ensures most { result.most ≡ (table self).most }
+        ensures gate { result.gate ≡ (table self).gate }
     {
         match self {
-            Kind::Request | Kind::Spread => (24, MOST_REQUEST),
-            Kind::Bcast => (25, MOST_COUNTED),
-            Kind::Order => (29, 29),
-            Kind::Accept => (25, 25),
-            Kind::Ack | Kind::Nack | Kind::LeaveAsk => (20, 20),
-            Kind::Hold => (24, 24),
-            Kind::JoinAsk | Kind::Invite | Kind::HandOver => (12, 12),
-            Kind::Welcome => (238, 238),
-            Kind::Gone | Kind::Fetch => (16, 16),
-            Kind::Vote => (35, 35),
-            Kind::Piece => (21, MOST_COUNTED),
-            Kind::Result => (31, 31),
+            Kind::Request => row_with(1, "Request", 24, MOST_REQUEST, Gate::AsSequencer),
+            Kind::Spread => row_with(2, "Spread", 24, MOST_REQUEST, Gate::InView),
+            Kind::Bcast => row_with(3, "Bcast", 25, MOST_COUNTED, Gate::OfSequencer),
+            Kind::Order => row_with(4, "Order", 29, 29, Gate::OfSequencer),
+            Kind::Accept => row_with(5, "Accept", 25, 25, Gate::OfSequencer),
+            Kind::Ack => row_with(6, "Ack", 20, 20, Gate::AsSequencer),
+            Kind::Nack => row_with(7, "Nack", 20, 20, Gate::AsSequencer),
+            Kind::Hold => row_with(8, "Hold", 24, 24, Gate::OfSequencer),
+            Kind::JoinAsk => row_with(9, "JoinAsk", 12, 12, Gate::Leading),
+            Kind::Welcome => row_with(10, "Welcome", 238, 238, Gate::Early),
+            Kind::LeaveAsk => row_with(11, "LeaveAsk", 20, 20, Gate::Leading),
+            Kind::Gone => row_with(12, "Gone", 16, 16, Gate::Member),
+            Kind::Invite => row_with(13, "Invite", 12, 12, Gate::Early),
+            Kind::Vote => row_with(14, "Vote", 35, 35, Gate::Member),
+            Kind::Fetch => row_with(15, "Fetch", 16, 16, Gate::Member),
+            Kind::Piece => row_with(16, "Piece", 21, MOST_COUNTED, Gate::Member),
+            Kind::Result => row_with(17, "Result", 31, 31, Gate::OfBeginner),
+            Kind::HandOver => row_with(18, "HandOver", 12, 12, Gate::OfSequencer),
         }
+    }
+
+    /// Its number, 1 to 18.
+    pub fn number(self) -> u8
+        ensures { result ≡ number_of self }
+    {
+        self.row().number
+    }
+
+    /// Its name in texts.
+    pub fn word(self) -> &'static str
+        ensures { result.now ≡ (table self).word }
+    {
+        self.row().word
+    }
+
+    /// Who hears its packets.
+    pub fn gate(self) -> Gate
+        ensures { result ≡ (table self).gate }
+    {
+        self.row().gate
     }
 
     /// Whether a packet of this kind can have so many bytes.
     pub fn is_total(self, total: usize) -> bool
         ensures { result ≡ is_total self total }
     {
-        let (least, most) = self.totals();
-        least <= total && total <= most
+        let row = self.row();
+        row.least <= total && total <= row.most
     }
 }

@@ -1,7 +1,8 @@
 ghost use Rattle.std.specs.Prelude.{◌≡◌};
-ghost use Rattle.am_packet.specs.Kinds.{kind_of};
+ghost use Rattle.am_packet.specs.Kinds.{head_of};
 
 use crate::image_ref::ImageRef;
+use crate::kind::Kind;
 use am_base::body::BodyRef;
 use am_base::entry::EntryRef;
 use am_base::image::{Report, Vote};
@@ -143,29 +144,56 @@ pub enum Packet<'a> {
 }
 
 impl<'a> Packet<'a> {
-    /// The number of its kind, 1 to 18.
-    pub fn kind(&self) -> u8
-        ensures value { result ≡ kind_of self.now }
+    /// Its kind.
+    pub fn kind(&self) -> Kind
+        ensures value { result ≡ (head_of self.now).kind }
     {
         match self {
-            Packet::Request { .. } => 1,
-            Packet::Spread { .. } => 2,
-            Packet::Bcast { .. } => 3,
-            Packet::Order { .. } => 4,
-            Packet::Accept { .. } => 5,
-            Packet::Ack { .. } => 6,
-            Packet::Nack { .. } => 7,
-            Packet::Hold { .. } => 8,
-            Packet::JoinAsk { .. } => 9,
-            Packet::Welcome { .. } => 10,
-            Packet::LeaveAsk { .. } => 11,
-            Packet::Gone { .. } => 12,
-            Packet::Invite { .. } => 13,
-            Packet::Vote { .. } => 14,
-            Packet::Fetch { .. } => 15,
-            Packet::Piece { .. } => 16,
-            Packet::Result { .. } => 17,
-            Packet::HandOver { .. } => 18,
+            Packet::Request { .. } => Kind::Request,
+            Packet::Spread { .. } => Kind::Spread,
+            Packet::Bcast { .. } => Kind::Bcast,
+            Packet::Order { .. } => Kind::Order,
+            Packet::Accept { .. } => Kind::Accept,
+            Packet::Ack { .. } => Kind::Ack,
+            Packet::Nack { .. } => Kind::Nack,
+            Packet::Hold { .. } => Kind::Hold,
+            Packet::JoinAsk { .. } => Kind::JoinAsk,
+            Packet::Welcome { .. } => Kind::Welcome,
+            Packet::LeaveAsk { .. } => Kind::LeaveAsk,
+            Packet::Gone { .. } => Kind::Gone,
+            Packet::Invite { .. } => Kind::Invite,
+            Packet::Vote { .. } => Kind::Vote,
+            Packet::Fetch { .. } => Kind::Fetch,
+            Packet::Piece { .. } => Kind::Piece,
+            Packet::Result { .. } => Kind::Result,
+            Packet::HandOver { .. } => Kind::HandOver,
+        }
+    }
+
+    /// Who sent it, and its stamp.
+    pub fn signature(&self) -> (Name, Stamp)
+        ensures sender { result.0 ≡ (head_of self.now).sender }
+        ensures stamp { result.1 ≡ (head_of self.now).stamp }
+    {
+        match self {
+            Packet::Request { sender, stamp, .. }
+            | Packet::Spread { sender, stamp, .. }
+            | Packet::Bcast { sender, stamp, .. }
+            | Packet::Order { sender, stamp, .. }
+            | Packet::Accept { sender, stamp, .. }
+            | Packet::Ack { sender, stamp, .. }
+            | Packet::Nack { sender, stamp, .. }
+            | Packet::Hold { sender, stamp, .. }
+            | Packet::JoinAsk { sender, stamp, .. }
+            | Packet::Welcome { sender, stamp, .. }
+            | Packet::LeaveAsk { sender, stamp, .. }
+            | Packet::Gone { sender, stamp, .. }
+            | Packet::Invite { sender, stamp, .. }
+            | Packet::Vote { sender, stamp, .. }
+            | Packet::Fetch { sender, stamp, .. }
+            | Packet::Piece { sender, stamp, .. }
+            | Packet::Result { sender, stamp, .. }
+            | Packet::HandOver { sender, stamp, .. } => (*sender, *stamp),
         }
     }
 }

@@ -12,7 +12,7 @@ use Rattle.am_base.specs.declared.outcome.Outcome.{Outcome}
 use Rattle.am_base.specs.declared.outcome.Outcome.TheVariants as said
 use Rattle.am_packet.specs.Boxes.{Letter}
 use Rattle.am_packet.specs.declared.packet.Packet.{Packet}
-use Rattle.am_packet.specs.declared.packet.Packet.TheVariants as packets
+use Rattle.am_packet.specs.Kinds.{table, head_of}
 use Rattle.am_group.specs.declared.event.Act.{Act}
 use Rattle.am_group.specs.declared.event.Act.TheVariants as acts
 use Rattle.am_group.specs.declared.event.Event.{Event}
@@ -203,24 +203,7 @@ event_text rules event = act_word event.act ++ (codes " " ++ (decimal (place_of 
 
 -- the name of a packet's kind
 unfoldable pub kind_word : Packet → List ℕ
-kind_word (packets.Request sender stamp report req body) = codes "Request"
-kind_word (packets.Spread sender stamp report req body) = codes "Spread"
-kind_word (packets.Bcast sender stamp base acc number entry) = codes "Bcast"
-kind_word (packets.Order sender stamp base acc number from req) = codes "Order"
-kind_word (packets.Accept sender stamp base acc top poll) = codes "Accept"
-kind_word (packets.Ack sender stamp report) = codes "Ack"
-kind_word (packets.Nack sender stamp report) = codes "Nack"
-kind_word (packets.Hold sender stamp base top req) = codes "Hold"
-kind_word (packets.JoinAsk sender stamp) = codes "JoinAsk"
-kind_word (packets.Welcome sender stamp base join image) = codes "Welcome"
-kind_word (packets.LeaveAsk sender stamp report) = codes "LeaveAsk"
-kind_word (packets.Gone sender stamp number) = codes "Gone"
-kind_word (packets.Invite sender stamp) = codes "Invite"
-kind_word (packets.Vote sender stamp vote) = codes "Vote"
-kind_word (packets.Fetch sender stamp stored) = codes "Fetch"
-kind_word (packets.Piece sender stamp base number entry) = codes "Piece"
-kind_word (packets.Result sender stamp base number members resilience) = codes "Result"
-kind_word (packets.HandOver sender stamp) = codes "HandOver"
+kind_word packet = (table (head_of packet).kind).word
 
 -- exactly the fifteen other places' names of life 1: fifteen names, none of a later life, none of this place
 abbrev pub is_everybody_else : ℕ → List ℕ → Bool

@@ -1,4 +1,4 @@
-//! Each kind is read by a function of its own: a function clears its large locals whenever it is entered.
+//! Each kind that has fields is read by a function of its own: a function clears its large locals whenever it is entered.
 #![tactic(auto, unfolding(am_packet::specs::Reading::packet_at))]
 
 ghost use Rattle.std.specs.Prelude.{◌≡◌, ◌≤◌, ◌+◌, ℕ, length, Ok, Err, IfOk, IfErr};
@@ -6,7 +6,7 @@ ghost use Rattle.am_packet.specs.declared.packet.Packet.{Packet};
 ghost use Rattle.am_packet.specs.Images.{image_length};
 ghost use Rattle.am_packet.specs.declared.packet.Packet.TheVariants as packets;
 ghost use Rattle.am_packet.specs.declared.kind.Kind.TheVariants as kinds;
-ghost use Rattle.am_packet.specs.KindNumbers.{least_total, most_total, most_request};
+ghost use Rattle.am_packet.specs.Kinds.{least_total, most_total, most_request};
 ghost use Rattle.am_packet.specs.Reading.{Read, number_at, three_at, packet_at};
 
 use crate::field_reader::{body, entry, flag, image, name, number, report, resilience, set, vote};
@@ -191,27 +191,6 @@ fn result_of(sender: Name, stamp: Stamp, bytes: &[u8]) -> Result<Packet<'_>, Pac
     }, sender, stamp)
 }
 
-#[inline(never)]
-fn join_ask<'a>(sender: Name, stamp: Stamp) -> Result<Packet<'a>, PacketRefusal>
-    ensures { result ≡ Ok (packets.JoinAsk sender stamp) }
-{
-    Ok(Packet::JoinAsk { sender, stamp })
-}
-
-#[inline(never)]
-fn invite<'a>(sender: Name, stamp: Stamp) -> Result<Packet<'a>, PacketRefusal>
-    ensures { result ≡ Ok (packets.Invite sender stamp) }
-{
-    Ok(Packet::Invite { sender, stamp })
-}
-
-#[inline(never)]
-fn hand_over<'a>(sender: Name, stamp: Stamp) -> Result<Packet<'a>, PacketRefusal>
-    ensures { result ≡ Ok (packets.HandOver sender stamp) }
-{
-    Ok(Packet::HandOver { sender, stamp })
-}
-
 /// The packet of a kind, a sender and a stamp, whose fields stand after the header.
 pub fn packet(
     kind: Kind,
@@ -232,15 +211,15 @@ pub fn packet(
         Kind::Ack => ack(sender, stamp, bytes),
         Kind::Nack => nack(sender, stamp, bytes),
         Kind::Hold => hold(sender, stamp, bytes),
-        Kind::JoinAsk => join_ask(sender, stamp),
+        Kind::JoinAsk => Ok(Packet::JoinAsk { sender, stamp }),
         Kind::Welcome => welcome(sender, stamp, bytes),
         Kind::LeaveAsk => leave_ask(sender, stamp, bytes),
         Kind::Gone => gone(sender, stamp, bytes),
-        Kind::Invite => invite(sender, stamp),
+        Kind::Invite => Ok(Packet::Invite { sender, stamp }),
         Kind::Vote => vote_of(sender, stamp, bytes),
         Kind::Fetch => fetch(sender, stamp, bytes),
         Kind::Piece => piece(sender, stamp, bytes),
         Kind::Result => result_of(sender, stamp, bytes),
-        Kind::HandOver => hand_over(sender, stamp),
+        Kind::HandOver => Ok(Packet::HandOver { sender, stamp }),
     }
 }

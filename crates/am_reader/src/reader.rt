@@ -3,7 +3,7 @@ ghost use Rattle.am_packet.specs.declared.packet.Packet.{Packet};
 ghost use Rattle.am_packet.specs.declared.refusal.PacketRefusal.TheVariants.{Short, BadMark, BadVersion, BadKind, BadLength, BadField};
 ghost use Rattle.am_packet.specs.Causes.{HasMark, HasVersion, HasKind, HasTotal};
 ghost use Rattle.am_packet.specs.Faults.{wrong_in};
-ghost use Rattle.am_packet.specs.KindNumbers.{kind_at, least_total, most_total};
+ghost use Rattle.am_packet.specs.Kinds.{kind_at, least_total, most_total};
 ghost use Rattle.am_packet.specs.Limits.{IsPacket};
 ghost use Rattle.am_packet.specs.Spelling.{spelling};
 ghost use Rattle.am_packet.specs.Reading.{reading, of_kind_at, has_mark, version_in, kind_in, total_in, found_in, fields_at, packet_at};

@@ -1,45 +1,22 @@
 ghost use Rattle.std.specs.Prelude.{◌≡◌, ◌+◌, ◌<◌, ◌++◌};
 ghost use Rattle.std.specs.Fmt.{WritesInCalls};
-ghost use Rattle.am_report.specs.Kinds.{word_at};
 ghost use Rattle.am_play.specs.Text.{kind_word, addressees_text, letter_text, letters_text};
 
 use crate::name::{is_everybody_else, push_names};
 use crate::number::push_behind;
 use am_io::writer::Writer;
+use am_packet::kind::Kind;
 use am_packet::letter::Letter;
 
-/// The name of a kind by its number.
-fn word_at(kind: u8) -> &'static str
-    ensures { result.now ≡ word_at kind }
-{
-    match kind {
-        1 => "Request",
-        2 => "Spread",
-        3 => "Bcast",
-        4 => "Order",
-        5 => "Accept",
-        6 => "Ack",
-        7 => "Nack",
-        8 => "Hold",
-        9 => "JoinAsk",
-        10 => "Welcome",
-        11 => "LeaveAsk",
-        12 => "Gone",
-        13 => "Invite",
-        14 => "Vote",
-        15 => "Fetch",
-        16 => "Piece",
-        17 => "Result",
-        _ => "HandOver",
-    }
-}
-
 /// The name of a letter's kind. The packet isn't read for it.
-#[tactic(auto, using(crate::proofs::Words::word_of_kind))]
+#[tactic(auto, using(am_packet::proofs::Again::kind_back), unfolding(am_play::specs::Text::kind_word))]
 pub fn kind_word(letter: &Letter) -> &'static str
     ensures { result.now ≡ kind_word letter.now.packet }
 {
-    word_at(letter.kind())
+    match Kind::of_byte(letter.kind()) {
+        Some(kind) => kind.word(),
+        None => unreachable!(),
+    }
 }
 
 // Adds for whom a letter of a node at this place is.

@@ -11,7 +11,7 @@ pub use Rattle.am_model.specs.{Emit.quiet, Emit.telling, Resets.take_vote, Reset
 pub use Rattle.am_model.specs.Node.{Node, Ballot, those, top, view, has_log, only_name, members, is_member, others}
 pub use Rattle.am_model.specs.Ballots.{with_vote, without_voter, next_stamp, new_ballot, own_vote, has_voted, newly_needed, with_promise, vote_of}
 unfoldable pub use Rattle.am_model.specs.{Ballots.keep_vote, Ballots.give_up, Ballots.decide, Ballots.best_of, Ballots.begin, Resets.invite_row}
-unfoldable pub use Rattle.am_model.specs.{Resets.vote_row, Resets.hand_over_row, Calls.reset_row, Calls.give_up_row}
+unfoldable pub use Rattle.am_model.specs.{Resets.vote_row, Calls.reset_row, Calls.give_up_row}
 pub use Rattle.am_ballots.specs.Kept.{ballot_of}
 pub use Rattle.am_handlers.specs.{Keeps.NodeKeeps, Parts.node_of, Verdicts.ComesTo, declared.parts.Parts.Parts}
 pub use Rattle.am_handlers.proofs.{Ends.end_self, Keeping.member_log}

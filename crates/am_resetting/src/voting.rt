@@ -3,7 +3,7 @@ ghost use Rattle.am_handlers.specs.Prelude.{most_number, IsStamp, top_of, has, s
 ghost use Rattle.am_ballots.specs.Kept.{ballot_of};
 ghost use Rattle.am_model.specs.Emit as emit;
 ghost use Rattle.am_model.specs.Ballots.{keep_vote, give_up, begin, next_stamp};
-ghost use Rattle.am_model.specs.Resets.{invite_row, vote_row, take_vote, is_open, hand_over_row};
+ghost use Rattle.am_model.specs.Resets.{invite_row, vote_row, take_vote, is_open};
 ghost use Rattle.am_model.specs.Calls.{reset_row, ask_row, ask_of, give_up_row, give_up_of};
 ghost use Rattle.am_resetting.specs.Deciding.{IsTakenOut};
 ghost use Rattle.am_handlers.specs.Replies.{Replies};
@@ -256,7 +256,8 @@ fn ask(parts: &Parts, round: u32) -> Outcome
 pub fn on_hand_over<'a>(parts: &mut Parts) -> Reply<'a>
     requires round { parts.old.core.promise.round < most_number }
     requires number { top_of parts.old.core.log < most_number }
-    ensures { Replies (hand_over_row (node_of parts.old)) result (node_of parts.new) }
+    ensures { Replies (reset_row (node_of parts.old) 1 (image_of (node_of parts.old)).resilience)
+        result (node_of parts.new) }
 {
     let resilience = parts.core.log.resilience();
     on_reset(parts, 1, resilience)

@@ -48,22 +48,7 @@ begun_log m n p o log kind answer = by_packet p o kind answer
     by_packet : (p : Packet) (o : Outcome) → (kind_of p == 10) ≡ true → Answers m (hears p) n o → welcomed_in o ≡ []
     by_packet (packet.Welcome s v base join image) (said.Welcomed number) k h = begins number h
     by_packet (packet.JoinAsk s v) (said.Welcomed number) k h = absurd (cc)
-    by_packet (packet.Request s v report req body) (said.Welcomed number) k h = absurd h
-    by_packet (packet.Spread s v report req body) (said.Welcomed number) k h = absurd h
-    by_packet (packet.Bcast s v base a number_ e) (said.Welcomed number) k h = absurd h
-    by_packet (packet.Order s v base a number_ from req) (said.Welcomed number) k h = absurd h
-    by_packet (packet.Accept s v base a high poll) (said.Welcomed number) k h = absurd h
-    by_packet (packet.Ack s v report) (said.Welcomed number) k h = absurd h
-    by_packet (packet.Nack s v report) (said.Welcomed number) k h = absurd h
-    by_packet (packet.Hold s v base high req) (said.Welcomed number) k h = absurd h
-    by_packet (packet.LeaveAsk s v report) (said.Welcomed number) k h = absurd h
-    by_packet (packet.Gone s v number_) (said.Welcomed number) k h = absurd h
-    by_packet (packet.Invite s v) (said.Welcomed number) k h = absurd h
-    by_packet (packet.Vote s v shown) (said.Welcomed number) k h = absurd h
-    by_packet (packet.Fetch s v stored) (said.Welcomed number) k h = absurd h
-    by_packet (packet.Piece s v base number_ e) (said.Welcomed number) k h = absurd h
-    by_packet (packet.Result s v base number_ names resilience) (said.Welcomed number) k h = absurd h
-    by_packet (packet.HandOver s v) (said.Welcomed number) k h = absurd h
+    by_packet _ (said.Welcomed number) k h = absurd h
     by_packet p _ k h = refl
 
 -- where nothing begins, nothing is told

@@ -2,11 +2,12 @@
 use Rattle.am_stands.proofs.StepWords.{numbers_plain, ◌≡◌, ℕ, ◌≤◌, ◌==◌, ◌||◌, not, nat_lt, Bool, true, false, List, length, refl, sym, ap, ◌∙◌, subst, Report}
 use Rattle.am_stands.proofs.StepWords.{Stamp, Entry, Outcome, kind_of, Status, Node, Ballot, top, is_member, is_asking, is_sequencer, has_departed, World}
 use Rattle.am_stands.proofs.StepWords.{group_after, and_both, Cause, hears, by_request, BringsReport, with_send, BringsFronts, by_entry, with_number, alone}
-use Rattle.am_stands.proofs.StepWords.{MayLook, was_reset, was_handed, was_fetched, Balloting, with_more, without_one, as_it_is, BeginsBy, by_reset, by_hand_over}
+use Rattle.am_stands.proofs.StepWords.{MayLook, was_reset, was_fetched, Balloting, with_more, without_one, as_it_is, BeginsBy, by_reset}
 use Rattle.am_stands.proofs.StepWords.{Promises, invited, overtaken, told_result, Carries, whole_entry, by_number, Change, refreshes, settles, takes_report}
 use Rattle.am_stands.proofs.StepWords.{admits, numbers, keeps_body, notes, stores, begins_list, departs, promises, opens, looks, fetches, stores_view, queues}
 use Rattle.am_stands.proofs.StepWords.{collects, takes, asks_to_join, asks_to_leave, closes, IsPlain, settle_is, leads_pushed, after_change}
 use Rattle.am_model.specs.declared.status.Status.TheVariants as status
+use Rattle.am_laws.specs.Looks.{was_handed}
 use Rattle.am_stands.specs.Keeping as plainly
 use Rattle.am_stands.proofs.{Grown.pushed_group, Statuses.asking_stays}
 
@@ -46,7 +47,7 @@ promise_brings v (told_result s u base number names resilience is heard own othe
 
 pub begin_brings : {c : Cause} {m : Node} → BeginsBy m c → BringsNothing c
 begin_brings (by_reset least resilience) = record { brings = refl; welcomes = refl }
-begin_brings (by_hand_over s v heard) = record { brings = refl; welcomes = refl }
+begin_brings _ = record { brings = refl; welcomes = refl }
 
 may_look_brings : {c : Cause} {m : Node} → MayLook c m → BringsNothing c
 may_look_brings (was_reset least resilience is) = record { brings = ap brings_report is; welcomes = ap was_welcomed is }

@@ -4,7 +4,7 @@ use Rattle.am_stands.proofs.Words.{take, refl, sym, ap, ◌∙◌, subst, arith,
 use Rattle.am_stands.proofs.Words.{row_of, entry_at, image_at, fold, Packet, Begins, mem, view_of, key, good_begins, key_by, view_small, Group, IsThere}
 use Rattle.am_stands.proofs.Words.{opening, Status, Node, view, is_member, acts, is_sequencer, only_name, has_log, has_departed, own_vote, may_fetch}
 use Rattle.am_stands.proofs.Words.{viewed_by, World, split, and_both, Cause, hears, MayFetch, MayTell, leads, decided, request, spread, bcast, order, ack}
-use Rattle.am_stands.proofs.Words.{nack, hold, join_ask, welcome, leave_ask, gone, invite, vote, fetch, piece, result, hand_over, logged, IsDecided, AllShown}
+use Rattle.am_stands.proofs.Words.{nack, hold, join_ask, welcome, leave_ask, gone, invite, vote, fetch, piece, result, logged, IsDecided, AllShown}
 use Rattle.am_stands.proofs.Words.{FetchSays, PacketSays, ResultSays, none, Leads, KeptWhole, ListBegins, as_before, just_begun, Sender, ShowsMore, SaysSo}
 use Rattle.am_stands.proofs.Words.{SentSays}
 use Rattle.am_laws.specs.Letters.{for_ballot, of_promise, accept}
@@ -219,8 +219,6 @@ sent_says v i c m n s to p h (ack _ a) = so v i c m n s h to _
     (subst (λ j. says.ReportSays s j n.core.promise (nodes.report_of n)) (sym h.who) (reports v i c m n s h a))
 sent_says v i c m n s to p h (nack _ a) = so v i c m n s h to _
     (subst (λ j. says.ReportSays s j n.core.promise (nodes.report_of n)) (sym h.who) (reports v i c m n s h a))
-sent_says v i c m n s to p h (hold _ from u report req body by t) = so v i c m n s h to _ tt
-sent_says v i c m n s to p h (join_ask _ a) = so v i c m n s h to _ tt
 sent_says v i c m n s to p h (welcome name t may) =
     let good = good_begins ((h.group.kept.each i).list (speaks_leading v i c m n s h t).up) h.group.kept.views.good in
     let base = h.numbers.base in
@@ -248,7 +246,6 @@ sent_says v i c m n s to p h (gone name t may) =
       trimmed = h.trimmed;
       left_out = h.group.left_out;
     }) may)
-sent_says v i c m n s to p h (invite _ may) = so v i c m n s h to _ tt
 sent_says v i c m n s to p h (vote from u is) =
     let taken = h.numbers.taken in
     let r = vote_said v i n s (record { kept = h.group.kept; stands = h.stands; there = h.there; small = h.small; begun = h.begun; taken = omega arith }) in
@@ -277,4 +274,4 @@ sent_says v i c m n s to p h (result _ number names is viewed may) = so v i c m 
   λ mine. subst (λ j. ResultSays s j n.core.promise number names (nodes.image_of n).resilience) (sym h.who)
       (told_result v i c m n s h number names is viewed may (mine ∙ h.who)),
 )
-sent_says v i c m n s to p h (hand_over _ t leaves) = so v i c m n s h to _ tt
+sent_says v i c m n s to p h _ = so v i c m n s h to p tt

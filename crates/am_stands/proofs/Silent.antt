@@ -6,7 +6,11 @@ use Rattle.am_stands.proofs.Words.{give_up_of, done_row, tick_row, tick_by, hear
 use Rattle.am_stands.proofs.Words.{read_row, step, hear, hear_refusal, split, rests_at_end, DepartedSilent}
 use Rattle.am_base.specs.declared.event.NodeEvent.TheVariants.{Join, Leave}
 use Rattle.am_base.specs.declared.outcome.Outcome.TheVariants as said
-use Rattle.am_packet.specs.declared.packet.Packet.TheVariants as packet
+use Rattle.am_base.specs.declared.name.Stamp.{Stamp}
+use Rattle.am_packet.specs.declared.kind.Gate.{Gate}
+use Rattle.am_packet.specs.declared.kind.Gate.TheVariants as gates
+use Rattle.am_packet.specs.{Kinds.table, Kinds.head_of, Spelling.sender_of, Spelling.stamp_of}
+use Rattle.am_model.specs.Hearing.{passes}
 
 -- a plan of who has departed, with no letter
 record Quiet (p : Plan) : Type 0 where
@@ -38,26 +42,14 @@ no_hearing m s h = rw h (and-false (not (s == m.core.who)))
 no_asking : (m : Node) (s : ℕ) → m.status ≡ Departed → hears_asking m s ≡ false
 no_asking m s h = rw h (and-false (not (s == m.core.who)))
 
+-- no gate is open
+pub none_pass : (g : Gate) (m : Node) (s : ℕ) (v : Stamp) → m.status ≡ Departed → passes g m s v ≡ false
+none_pass gates.Early m s v h = rw (no_asking m s h) refl
+none_pass _ m s v h = rw (no_hearing m s h) refl
+
 hear_quiet : (m : Node) (p : Packet) → m.status ≡ Departed → Quiet (hear_row m p)
 unfolding hear_row
-hear_quiet m (packet.Request s v report req body) h = rw (no_hearing m s h) (quiet_is m _ h)
-hear_quiet m (packet.Spread s v report req body) h = rw (no_hearing m s h) (quiet_is m _ h)
-hear_quiet m (packet.Bcast s v base acc number e) h = rw (no_hearing m s h) (quiet_is m _ h)
-hear_quiet m (packet.Order s v base acc number from req) h = rw (no_hearing m s h) (quiet_is m _ h)
-hear_quiet m (packet.Accept s v base acc high poll) h = rw (no_hearing m s h) (quiet_is m _ h)
-hear_quiet m (packet.Ack s v report) h = rw (no_hearing m s h) (quiet_is m _ h)
-hear_quiet m (packet.Nack s v report) h = rw (no_hearing m s h) (quiet_is m _ h)
-hear_quiet m (packet.Hold s v base high req) h = rw (no_hearing m s h) (quiet_is m _ h)
-hear_quiet m (packet.JoinAsk s v) h = rw (no_hearing m s h) (quiet_is m _ h)
-hear_quiet m (packet.Welcome s v base join image) h = rw (no_asking m s h) (quiet_is m _ h)
-hear_quiet m (packet.LeaveAsk s v report) h = rw (no_hearing m s h) (quiet_is m _ h)
-hear_quiet m (packet.Gone s v number) h = rw (no_hearing m s h) (quiet_is m _ h)
-hear_quiet m (packet.Invite s v) h = rw (no_asking m s h) (quiet_is m _ h)
-hear_quiet m (packet.Vote s v vote) h = rw (no_hearing m s h) (quiet_is m _ h)
-hear_quiet m (packet.Fetch s v stored) h = rw (no_hearing m s h) (quiet_is m _ h)
-hear_quiet m (packet.Piece s v base number e) h = rw (no_hearing m s h) (quiet_is m _ h)
-hear_quiet m (packet.Result s v base number names resilience) h = rw (no_hearing m s h) (quiet_is m _ h)
-hear_quiet m (packet.HandOver s v) h = rw (no_hearing m s h) (quiet_is m _ h)
+hear_quiet m p h = rw (none_pass (table (head_of p).kind).gate m (sender_of p) (stamp_of p) h) (quiet_is m _ h)
 
 read_quiet : (m : Node) (r : Read Packet) → m.status ≡ Departed → Quiet (read_row m r)
 read_quiet m (Ok p) h = hear_quiet m p h

@@ -31,7 +31,7 @@ pub use Rattle.am_base.specs.Names.{with_name}
 pub use Rattle.am_packet.specs.Kinds.{goes_to_any, kind_of}
 pub use Rattle.am_play.specs.World.{record_of, does_event, gives_up, comes_back}
 pub use Rattle.am_laws.specs.{Causes.with_entry as by_entry, Effects.Answers, Effects.WasQueued, Effects.AnswersAsk}
-pub use Rattle.am_laws.specs.Looks.{MayLook, was_reset, was_handed, was_fetched, BeginsBy, by_reset, by_hand_over}
+pub use Rattle.am_laws.specs.Looks.{MayLook, was_reset, was_fetched, BeginsBy, by_reset}
 pub use Rattle.am_laws.specs.Courses.{IsPlain, Course, nothing_yet, used_report, and_then, Deeds, plainly, looked, Ending, at_end as ends_so, let_go}
 pub use Rattle.am_laws.specs.Courses.{closing}
 pub use Rattle.am_laws.proofs.{Rests.rests_closed, Rests.with_sends, Plans.course_changes}

@@ -21,7 +21,7 @@ pub use Rattle.am_laws.proofs.Words.{takes_report, admits, keeps_body, notes, qu
 pub use Rattle.am_laws.proofs.Words.{settle_is, rests_at_end, refresh_is, Cause, hears, BringsSend, by_request, by_spread, Balloting, Looks, finds_itself_out}
 pub use Rattle.am_laws.proofs.Words.{waits, fetches_from_best, finds_too_few, finds_no_room, decides, with_more, without_one, as_it_is, HasOpen, all_get}
 pub use Rattle.am_laws.proofs.Words.{get_front, get_last, logged, told_pushed, view_pushed, actor, idles, returns, steps, entry_is, request, spread, bcast}
-pub use Rattle.am_laws.proofs.Words.{order, hold, join_ask, welcome, gone, invite, vote, fetch, piece, result, hand_over, MayWelcome, just_joined, asks_again}
+pub use Rattle.am_laws.proofs.Words.{order, hold, join_ask, welcome, gone, invite, vote, fetch, piece, result, MayWelcome, just_joined, asks_again}
 unfoldable pub use Rattle.am_laws.proofs.Words.{fold, after, fits, accept, pass_over, own_report, tell, go_on, let_go, those, lead, refresh, settle}
 unfoldable pub use Rattle.am_laws.proofs.Words.{refresh_at_end, send_row, take_row, join_row, state_row, leave_row, reset_row, ask_row, give_up_row, done_row}
 unfoldable pub use Rattle.am_laws.proofs.Words.{hear_row, best_of, finish, tick_row, row, step, hear, hear_refusal, with_step, with_record}

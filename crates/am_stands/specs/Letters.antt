@@ -10,7 +10,7 @@ use Rattle.am_base.specs.Names.{has}
 use Rattle.am_base.specs.Lists.{members_of}
 use Rattle.am_packet.specs.declared.packet.Packet.{Packet}
 use Rattle.am_packet.specs.declared.packet.Packet.TheVariants.{Request, Spread, Bcast, Order, Accept, Ack, Nack, Hold, JoinAsk, Welcome, LeaveAsk, Gone}
-use Rattle.am_packet.specs.declared.packet.Packet.TheVariants.{Invite, Vote as VoteOf, Fetch, Piece, Result, HandOver}
+use Rattle.am_packet.specs.declared.packet.Packet.TheVariants.{Vote as VoteOf, Fetch, Piece, Result}
 use Rattle.am_packet.specs.Boxes.{Letter}
 use Rattle.am_group.specs.Journals.{item_at}
 use Rattle.am_group.specs.declared.event.Record.{Record}
@@ -161,17 +161,14 @@ PacketSays w s to (Order i v base acc number from req) = Trimmed s base × Order
 PacketSays w s to (Accept i v base acc high poll) = Trimmed s base × SequencerSays s i v acc
 PacketSays w s to (Ack i v report) = ReportSays s i v report
 PacketSays w s to (Nack i v report) = ReportSays s i v report
-PacketSays w s to (Hold i v base high req) = Unit {0}
-PacketSays w s to (JoinAsk i v) = Unit {0}
 PacketSays w s to (Welcome i v base join image) = Trimmed s base × ((name : ℕ) → has to name ≡ true → WelcomeTo s i v base join image name)
 PacketSays w s to (LeaveAsk i v report) = LeaverSays s i v report
 PacketSays w s to (Gone i v number) = (name : ℕ) → has to name ≡ true → GoneSays s number name
-PacketSays w s to (Invite i v) = Unit {0}
 PacketSays w s to (VoteOf i v vote) = (vote.view.by < 256) × VoteSays s i v vote
 PacketSays w s to (Fetch i v stored) = FetchSays s i v to
 PacketSays w s to (Piece i v base number e) = Trimmed s base × PieceSays s i v number e
 PacketSays w s to (Result i v base number names resilience) = Trimmed s base × (v.by ≡ i → ResultSays s i v number names resilience)
-PacketSays w s to (HandOver i v) = Unit {0}
+PacketSays w s to _ = Unit {0}
 
 -- and the stamp of each was begun, and isn't above its sender's promise (am_runs)
 abbrev pub LetterSays : World → Group → Letter → Type 0

@@ -1,6 +1,5 @@
 use crate::wrong_fields::FAULTS;
 use am_base::entry::{EntryParts, EntryRef};
-use am_base::name::{Name, Stamp};
 use am_base::names::Names;
 use am_letter::letter::letter_of;
 use am_packet::PacketRefusal;
@@ -252,37 +251,13 @@ fn numbers_of_views(packet: &Packet) -> [u32; 8] {
     }
 }
 
-/// Who sent a packet, and its stamp.
-fn header_of(packet: &Packet) -> (Name, Stamp) {
-    let (sender, stamp) = match packet {
-        Packet::Request { sender, stamp, .. }
-        | Packet::Spread { sender, stamp, .. }
-        | Packet::Bcast { sender, stamp, .. }
-        | Packet::Order { sender, stamp, .. }
-        | Packet::Accept { sender, stamp, .. }
-        | Packet::Ack { sender, stamp, .. }
-        | Packet::Nack { sender, stamp, .. }
-        | Packet::Hold { sender, stamp, .. }
-        | Packet::JoinAsk { sender, stamp, .. }
-        | Packet::Welcome { sender, stamp, .. }
-        | Packet::LeaveAsk { sender, stamp, .. }
-        | Packet::Gone { sender, stamp, .. }
-        | Packet::Invite { sender, stamp, .. }
-        | Packet::Vote { sender, stamp, .. }
-        | Packet::Fetch { sender, stamp, .. }
-        | Packet::Piece { sender, stamp, .. }
-        | Packet::Result { sender, stamp, .. }
-        | Packet::HandOver { sender, stamp, .. } => (sender, stamp),
-    };
-    (*sender, *stamp)
-}
-
 #[test]
 fn each_kind_is_read(rt: HostRuntime) -> Result<(), Fail> {
     for (bytes, numbers) in &VECTORS {
         let packet = decode(bytes).ok().ok_or("the bytes are a packet")?;
-        let (sender, stamp) = header_of(&packet);
+        let (sender, stamp) = packet.signature();
         assert!(rt; sender.get() == 1 && stamp.round == 2 && stamp.by.get() == 0);
+        assert!(rt; packet.kind().number() == bytes[3]);
         assert!(rt; numbers_of(&packet) == *numbers);
     }
     Ok(())

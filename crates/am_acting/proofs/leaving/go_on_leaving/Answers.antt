@@ -2,6 +2,7 @@ use Rattle.am_acting.proofs.Words.{sym, ap, ◌∙◌, only_name, lowest_or_firs
 use Rattle.am_acting.proofs.Words.{replies_as, replies_quiet, replies_telling}
 use Rattle.am_handlers.specs.declared.reply.Note.TheVariants as note
 use Rattle.am_handlers.specs.declared.reply.Telling.TheVariants as tell
+use Rattle.am_acting.specs.Forms.{hands_over}
 use Rattle.am_acting.proofs.Leaves.{some_others, no_others, go_asks, go_hands, go_held, go_departs, departs_reply}
 use Rattle.am_acting.proofs.leaving.go_on_leaving.Goals as goal
 
@@ -17,9 +18,8 @@ returns-then-len-gt0 c =
     let m = node_of c.args.parts.now in
     let some = some_others m c.len.ensures.value c.others-others.ensures c.if-len-gt0.true in
     replies_as (go_hands m c.args.answer (sym c.is_sequencer.ensures.value ∙ c.if-not-is_sequencer.false) some)
-    (c.saying-then-len-gt0.ensures ∙ ap (saying_of c.args.answer) (c.note_to-hand_over.ensures
-    ∙ ap (λ k. tell.Note (only_name k) note.HandOver) (c.lowest_or_first.ensures ∙ ap (λ set. lowest_or_first set) c.others-others.ensures)))
-    (replies_telling m m c.args.answer (only_name (lowest_or_first (others m))) note.HandOver tt (end_self m))
+    (c.saying-then-len-gt0.ensures ∙ ap (saying_of c.args.answer) (c.handing_over.ensures ∙ ap hands_over c.others-others.ensures))
+    (replies_telling m m c.args.answer _ _ tt (end_self m))
 
 pub returns-then-not-has_room : goal.returns-then-not-has_room
 returns-then-not-has_room c =

@@ -2,6 +2,7 @@ use Rattle.am_acting.proofs.Words.{sym, ap, ◌∙◌, only_name, lowest_or_firs
 use Rattle.am_handlers.specs.Replies.{polled_of}
 use Rattle.am_handlers.specs.declared.reply.Note.TheVariants as note
 use Rattle.am_handlers.specs.declared.reply.Telling.TheVariants as tell
+use Rattle.am_acting.specs.Forms.{hands_over}
 use Rattle.am_acting.proofs.{Leaves.some_others, Leaves.no_others}
 use Rattle.am_acting.proofs.Ticks as ticks
 use Rattle.am_acting.proofs.ticking.poll_leaving.Goals as goal
@@ -10,13 +11,11 @@ pub returns-then-len-gt0 : goal.returns-then-len-gt0
 returns-then-len-gt0 c =
     let m = node_of c.args.parts.now in
     let some = some_others m c.len.ensures.value c.others-others.ensures c.if-len-gt0.true in
-    let to = lowest_or_first (others m) in
     replies_as (ticks.polls_hands m c.requires.leads some)
     (c.and.ensures ∙ (λ k. let x : Reply = record (c.polled.ensures k) {
-      second = (c.note_to-hand_over.ensures
-          ∙ ap (λ name. tell.Note (only_name name) note.HandOver) (c.lowest_or_first.ensures ∙ ap (λ set. lowest_or_first set) c.others-others.ensures)) k;
+      second = (c.handing_over.ensures ∙ ap hands_over c.others-others.ensures) k;
     } in x))
-    (ticks.handing_reply m to)
+    (ticks.handing_reply m (others m))
 
 pub returns-then-not-has_room : goal.returns-then-not-has_room
 returns-then-not-has_room c =

@@ -1,8 +1,7 @@
-use Rattle.am_resetting.proofs.VotingWords.{ℕ, ap, ◌∙◌, subst, told_by, Parts, node_of, reset_row, hand_over_row, Replies}
+use Rattle.am_resetting.proofs.VotingWords.{ℕ, ap, ◌∙◌, subst, told_by, Parts, node_of, reset_row, Replies}
 use Rattle.am_resetting.proofs.voting.on_hand_over.Goals as goal
 
 pub returns : goal.returns
-unfolding hand_over_row
 returns c =
     let old = node_of c.args.parts.now in
     let P : ℕ → Type 0 = λ r. Replies (reset_row old 1 r) c.on_reset.result (node_of c.on_reset.new.parts) in
