@@ -13,7 +13,7 @@ import subprocess
 import sys
 import tempfile
 
-from words import words
+from words import end, words
 
 USAGE = "usage: play | race | gen --seed N --count N [--script] | audit | parts | messages | directory | snapshots | node --name N --founders N,N\n"
 GEN = ["gen", "--seed", "1", "--count", "50"]
@@ -115,4 +115,4 @@ def main() -> int:
 
 
 if __name__ == "__main__":
-    sys.exit(main())
+    end(main)

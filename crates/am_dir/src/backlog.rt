@@ -14,13 +14,6 @@ use am_base::entry::Entry;
 use am_seg::assembler::Assembler;
 use std::alloc::Global;
 
-/// A command that is held, with the number of its entry.
-#[derive(Drop)]
-pub struct HeldCommand {
-    pub number: u32,
-    pub body: SentBody,
-}
-
 /// Applies an entry, of which the body counts where it is a send.
 pub fn apply_entry(directory: &mut Directory, number: u32, entry: &Entry) -> Result<Step, NoMemory>
     ensures step { IfOk result (λ step. step ≡ step_ready directory.old entry.now) }
@@ -31,6 +24,13 @@ pub fn apply_entry(directory: &mut Directory, number: u32, entry: &Entry) -> Res
         Entry::Data { body, .. } => Ok(Step::Applied(directory.apply(number, body.bytes())?)),
         Entry::Join(_) | Entry::Leave(_) | Entry::View { .. } => Ok(Step::Noted),
     }
+}
+
+/// A command that is held, with the number of its entry.
+#[derive(Drop)]
+pub struct HeldCommand {
+    pub number: u32,
+    pub body: SentBody,
 }
 
 /// Applies all commands that were held.

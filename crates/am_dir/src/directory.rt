@@ -2,9 +2,9 @@ ghost use Rattle.std.specs.Prelude.{◌≡◌, ◌≤◌, [], length, IfOk, OnOk
 ghost use Rattle.std.specs.Option.{option_copied};
 ghost use Rattle.std.specs.Map.Iter.{ShowsInOrder, deref_pair};
 ghost use Rattle.am_dir.specs.declared.setting.Setting.{Setting};
-ghost use Rattle.am_dir.specs.Contents.{most_keys, applied, answer_of, after_command, answer_to, setting_of, has_key, has_room, with_setting, without_key};
+ghost use Rattle.am_dir.specs.Contents.{most_keys, applied, answer_of, setting_of, has_key, has_room, with_setting, without_key};
 ghost use Rattle.am_dir.specs.Commands.{Put, Claim, command_from, IsCommand};
-ghost use Rattle.am_dir.specs.Kept.{contents_in, IsDirectory};
+ghost use Rattle.am_dir.specs.Kept.{contents_in, IsDirectory, Obeys};
 ghost use Rattle.am_dir.specs.Values.{IsKey, IsValue};
 
 use crate::applied::Applied;
@@ -110,13 +110,8 @@ impl Directory {
 
     /// A Put of a command that is within its limits.
     fn put(&mut self, number: u32, key: &[u8], value: &[u8]) -> Result<Applied, NoMemory>
-        requires key { IsKey key.now }
-        requires value { IsValue value.now }
-        ensures answer { IfOk result (λ answer. answer
-            ≡ answer_to self.old (Put key.now value.now)) }
-        ensures applied { OnOk result (self.new
-            ≡ after_command self.old number (Put key.now value.now)) }
-        ensures err { OnErr result (self.new ≡ self.old) }
+        requires { IsCommand (Put key.now value.now) }
+        ensures { Obeys self.old number (Put key.now value.now) result self.new }
     {
         let was_there = self.has_key(key);
         if !was_there && !self.has_room() {
@@ -133,13 +128,8 @@ impl Directory {
 
     /// A Claim of a command that is within its limits.
     fn claim(&mut self, number: u32, key: &[u8], value: &[u8]) -> Result<Applied, NoMemory>
-        requires key { IsKey key.now }
-        requires value { IsValue value.now }
-        ensures answer { IfOk result (λ answer. answer
-            ≡ answer_to self.old (Claim key.now value.now)) }
-        ensures applied { OnOk result (self.new
-            ≡ after_command self.old number (Claim key.now value.now)) }
-        ensures err { OnErr result (self.new ≡ self.old) }
+        requires { IsCommand (Claim key.now value.now) }
+        ensures { Obeys self.old number (Claim key.now value.now) result self.new }
     {
         if self.has_key(key) {
             return Ok(Applied::Kept);
@@ -155,11 +145,7 @@ impl Directory {
     /// Applies a command that is within its limits.
     fn apply_command(&mut self, number: u32, command: &Command) -> Result<Applied, NoMemory>
         requires { IsCommand (command_from command.now) }
-        ensures answer { IfOk result (λ answer. answer
-            ≡ answer_to self.old (command_from command.now)) }
-        ensures applied { OnOk result (self.new
-            ≡ after_command self.old number (command_from command.now)) }
-        ensures err { OnErr result (self.new ≡ self.old) }
+        ensures { Obeys self.old number (command_from command.now) result self.new }
     {
         match command {
             Command::Put { key, value } => self.put(number, key, value),

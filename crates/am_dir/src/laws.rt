@@ -1,6 +1,4 @@
-ghost use Rattle.am_dir.specs.Replicas.{ReplicasShow};
-ghost use Rattle.am_dir.specs.Commands.{CommandsAreTheirBytes};
-ghost use Rattle.am_dir.specs.Snapshots.{SnapshotsAreTheirBytes, ContentsStayWithin};
+ghost use Rattle.am_dir.specs.{Commands.CommandsAreTheirBytes, Replicas.ReplicasShow, Snapshots.SnapshotsAreTheirBytes, Snapshots.ContentsStayWithin};
 
 /// A body is read as a command exactly where it is that command's bytes, and the command is within its limits.
 pub fn commands_are_their_bytes()

@@ -21,65 +21,39 @@ use Rattle.am_script.specs.declared.key.Key.{Key}
 use Rattle.am_script.specs.Keys.{words_of, is_among, has_only}
 use Rattle.am_script.specs.Seen.{data_of, items_of, members_of, whole_of, seen}
 
-number_str : (found : Option Num) → as_str (option_map_or number found null) ≡ None
-number_str None = refl
-number_str (Some n) = refl
+number_seen : {A : Type 0} (f : Data → A) (end : A) (found : Option Num) → (found ≡ None → f null ≡ end) → ((n : Num) → found ≡ Some n → f (number n) ≡ end)
+    → f (option_map_or number found null) ≡ end
+number_seen f end None no_number fits = no_number refl
+number_seen f end (Some n) no_number fits = fits n refl
+
+-- what is seen of data is seen of a tree, where that is so of each kind of tree, and of a number that fits and one that doesn't
+seen_of : {A : Type 0} (f : Data → A) (g : json.Json → A) → f null ≡ g json.null → ((b : Bool) → f (data_of (json.boolean b)) ≡ g (json.boolean b))
+    → ((s : List ℕ) → number_of s ≡ None → f null ≡ g (json.number s)) → ((s : List ℕ) (n : Num) → number_of s ≡ Some n → f (number n) ≡ g (json.number s))
+    → ((s : List ℕ) → f (data_of (json.string s)) ≡ g (json.string s)) → ((js : json.Items) → f (data_of (json.array js)) ≡ g (json.array js))
+    → ((ms : json.Members) → f (data_of (json.object ms)) ≡ g (json.object ms)) → (j : json.Json) → f (data_of j) ≡ g j
+seen_of f g none flag no_number fits text list object json.null = none
+seen_of f g none flag no_number fits text list object (json.boolean b) = flag b
+seen_of f g none flag no_number fits text list object (json.number s) = number_seen f (g (json.number s)) (number_of s) (no_number s) (fits s)
+seen_of f g none flag no_number fits text list object (json.string s) = text s
+seen_of f g none flag no_number fits text list object (json.array js) = list js
+seen_of f g none flag no_number fits text list object (json.object ms) = object ms
 
 pub text_seen : (j : json.Json) → as_str (data_of j) ≡ finds.as_str j
-text_seen json.null = refl
-text_seen (json.boolean b) = refl
-text_seen (json.number s) = number_str (number_of s)
-text_seen (json.string s) = refl
-text_seen (json.array js) = refl
-text_seen (json.object ms) = refl
-
-number_bool : (found : Option Num) → as_bool (option_map_or number found null) ≡ None
-number_bool None = refl
-number_bool (Some n) = refl
+text_seen = seen_of as_str finds.as_str refl (λ b. refl) (λ s is. refl) (λ s n is. refl) (λ s. refl) (λ js. refl) (λ ms. refl)
 
 pub flag_seen : (j : json.Json) → as_bool (data_of j) ≡ finds.as_bool j
-flag_seen json.null = refl
-flag_seen (json.boolean b) = refl
-flag_seen (json.number s) = number_bool (number_of s)
-flag_seen (json.string s) = refl
-flag_seen (json.array js) = refl
-flag_seen (json.object ms) = refl
-
-number_whole : (found : Option Num) → option_and_then as_u64 (as_number (option_map_or number found null)) ≡ option_and_then as_u64 found
-number_whole None = refl
-number_whole (Some n) = refl
+flag_seen = seen_of as_bool finds.as_bool refl (λ b. refl) (λ s is. refl) (λ s n is. refl) (λ s. refl) (λ js. refl) (λ ms. refl)
 
 pub whole_seen : (j : json.Json) → option_and_then as_u64 (as_number (data_of j)) ≡ option_and_then whole_of (finds.as_number j)
-whole_seen json.null = refl
-whole_seen (json.boolean b) = refl
-whole_seen (json.number s) = number_whole (number_of s)
-whole_seen (json.string s) = refl
-whole_seen (json.array js) = refl
-whole_seen (json.object ms) = refl
-
-number_array : (found : Option Num) → as_array (option_map_or number found null) ≡ None
-number_array None = refl
-number_array (Some n) = refl
+whole_seen = seen_of (λ d. option_and_then as_u64 (as_number d)) (λ j. option_and_then whole_of (finds.as_number j)) refl (λ b. refl)
+    (λ s is. ap (option_and_then as_u64) (sym is)) (λ s n is. ap (option_and_then as_u64) (sym is)) (λ s. refl) (λ js. refl) (λ ms. refl)
 
 pub array_seen : (j : json.Json) → as_array (data_of j) ≡ option_map items_of (finds.as_array j)
-array_seen json.null = refl
-array_seen (json.boolean b) = refl
-array_seen (json.number s) = number_array (number_of s)
-array_seen (json.string s) = refl
-array_seen (json.array js) = refl
-array_seen (json.object ms) = refl
-
-number_object : (found : Option Num) → as_object (option_map_or number found null) ≡ None
-number_object None = refl
-number_object (Some n) = refl
+array_seen = seen_of as_array (λ j. option_map items_of (finds.as_array j)) refl (λ b. refl) (λ s is. refl) (λ s n is. refl) (λ s. refl) (λ js. refl) (λ ms. refl)
 
 pub object_seen : (j : json.Json) → as_object (data_of j) ≡ option_map (λ ms. members_of ms no_members) (finds.as_object j)
-object_seen json.null = refl
-object_seen (json.boolean b) = refl
-object_seen (json.number s) = number_object (number_of s)
-object_seen (json.string s) = refl
-object_seen (json.array js) = refl
-object_seen (json.object ms) = refl
+object_seen = seen_of as_object (λ j. option_map (λ ms. members_of ms no_members) (finds.as_object j)) refl (λ b. refl) (λ s is. refl) (λ s n is. refl)
+    (λ s. refl) (λ js. refl) (λ ms. refl)
 
 -- ---- members
 
@@ -105,17 +79,9 @@ members_get : (k : List ℕ) (ms : json.Members) (found : Members)
 members_get k json.no_members found = refl
 members_get k (json.member l j ms) found = members_get k ms (put l (data_of j) found) ∙ put_found (finds.get_member k ms) (bytes_eq l k) k l j found refl
 
-number_get : (k : List ℕ) (found : Option Num) → get k (option_map_or number found null) ≡ None
-number_get k None = refl
-number_get k (Some n) = refl
-
 pub member_seen : (k : List ℕ) (j : json.Json) → get k (data_of j) ≡ option_map data_of (finds.get k j)
-member_seen k json.null = refl
-member_seen k (json.boolean b) = refl
-member_seen k (json.number s) = number_get k (number_of s)
-member_seen k (json.string s) = refl
-member_seen k (json.array js) = refl
-member_seen k (json.object ms) = members_get k ms no_members ∙ or_none (option_map data_of (finds.get_member k ms))
+member_seen k = seen_of (get k) (λ j. option_map data_of (finds.get k j)) refl (λ b. refl) (λ s is. refl) (λ s n is. refl) (λ s. refl) (λ js. refl)
+    (λ ms. members_get k ms no_members ∙ or_none (option_map data_of (finds.get_member k ms)))
 
 -- ---- their words
 

@@ -3,10 +3,7 @@
 ghost use Rattle.std.specs.Prelude.{◌≡◌, ◌≢◌, ◌<◌, [], length, Some, None, IfOk, IfErr, OnOk, is_some};
 ghost use Rattle.std.specs.List.{list_all};
 ghost use Rattle.serde_json.specs.Read.{number_of, number_from, read};
-ghost use Rattle.json.specs.Json.{value};
-ghost use Rattle.json.specs.Lex.{tokens};
-ghost use Rattle.json.specs.Reads.{token_of};
-ghost use Rattle.json.specs.Value.{value_view};
+ghost use Rattle.json.specs.{Json.value, Lex.tokens, Reads.token_of, Value.value_view};
 ghost use Rattle.am_script.specs.Scripts.{document_in};
 ghost use Rattle.am_script.specs.Seen.{is_whole, whole_of, is_in_range, most_depth, seen};
 

@@ -1,6 +1,5 @@
 ghost use Rattle.am_seg.specs.Assembling.{MessagesAssemble};
-ghost use Rattle.am_seg.specs.Messages.{MessagesEnd};
-ghost use Rattle.am_seg.specs.Parts.{PartsAreRead};
+ghost use Rattle.am_seg.specs.{Messages.MessagesEnd, Parts.PartsAreRead};
 
 /// What is read as a part is a part of some message, and each part of a message is read as what it is.
 pub fn parts_are_read()

@@ -123,19 +123,13 @@ fn form_of_six(words: &[&str]) -> Option<Form>
 fn shown_of(word: &str) -> Option<Shown>
     ensures { result ≡ shown_of word.now }
 {
-    if word == "play" {
-        return Some(Shown::Text);
+    match word {
+        "play" => Some(Shown::Text),
+        "messages" => Some(Shown::Messages),
+        "directory" => Some(Shown::Directories),
+        "snapshots" => Some(Shown::Snapshots),
+        _ => None,
     }
-    if word == "messages" {
-        return Some(Shown::Messages);
-    }
-    if word == "directory" {
-        return Some(Shown::Directories);
-    }
-    if word == "snapshots" {
-        return Some(Shown::Snapshots);
-    }
-    None
 }
 
 /// The form of one word.

@@ -7,13 +7,6 @@ use am_base::names::Names;
 use am_fields::name::{name, names};
 use am_fields::number::number_up_to;
 
-/// A node's name, and the founding of its group.
-#[derive(Clone, Copy)]
-pub struct NodeWords {
-    pub name: Name,
-    pub founding: Founding,
-}
-
 /// The options of `node` that were read, each at most once.
 #[derive(Clone, Copy)]
 pub struct Options {
@@ -128,6 +121,13 @@ fn options_from(options: Options, words: &[&str]) -> Option<Options>
     }
     let more = put_option(options, words[0], words[1])?;
     options_from(more, &words[2..])
+}
+
+/// A node's name, and the founding of its group.
+#[derive(Clone, Copy)]
+pub struct NodeWords {
+    pub name: Name,
+    pub founding: Founding,
 }
 
 /// A founding, where the numbers are within their limits and the founders may be.

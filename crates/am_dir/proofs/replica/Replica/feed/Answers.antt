@@ -9,6 +9,7 @@ use Rattle.am_dir.specs.Holding.{waiting_in, state_of}
 use Rattle.am_dir.proofs.Limits.{mapped}
 use Rattle.am_dir.proofs.Feeding.{on_ok, fed_ready, step_is_ready, fed_on, step_on, held_none}
 use Rattle.std.specs.Option.{option_map}
+use Rattle.am_dir.proofs.replica.Replica.feed.Goals.{After-take}
 use Rattle.am_dir.proofs.replica.Replica.feed.Goals as goal
 
 pub returns-in_default-clause-step : goal.returns-in_default-clause-step
@@ -29,26 +30,24 @@ returns-in_default-clause-fed c =
     ∙ sym (fed_ready (state_of c.self.inside) c.args.number c.args.entry.now none)
     ∙ ap (λ (s : ReplicaState). fed s c.args.number c.args.entry.now) c.self.view_is) c.apply_entry.ensures.applied
 
+-- where no snapshot comes with the entry, the replica waits on
+waits : (c : After-take) → (state_of c.self.inside).waiting ≡ Some (waiting_in c.in-Some.backlog)
+waits c = ap (λ (b : Option Backlog). option_map waiting_in b) c.in-Some.is
+
+none : (c : After-take) → snapshot_for c.self.inside.start (after_entry (waiting_in c.in-Some.backlog).assembly c.args.entry.now).ended ≡ None
+none c = held_none (held_with (waiting_in c.in-Some.backlog).held c.args.number c.args.entry.now) (snapshot_for c.self.inside.start (after_entry
+    (waiting_in c.in-Some.backlog).assembly c.args.entry.now).ended) (sym c.in_ok-restored.ensures ∙ c.in-None.is)
+
 pub returns-in-None-clause-step : goal.returns-in-None-clause-step
 returns-in-None-clause-step c =
-    let w : Waiting = waiting_in c.in-Some.backlog in
-    let waits : (state_of c.self.inside).waiting ≡ Some w = ap (λ (b : Option Backlog). option_map waiting_in b) c.in-Some.is in
-    let none : snapshot_for c.self.inside.start (after_entry w.assembly c.args.entry.now).ended ≡ None
-    = held_none (held_with w.held c.args.number c.args.entry.now) (snapshot_for c.self.inside.start (after_entry w.assembly c.args.entry.now).ended) (sym
-    c.in_ok-restored.ensures ∙ c.in-None.is) in
     let e : step_held c.args.entry.now ≡ step_of c.args.self.now c.args.entry.now
-    = sym (step_on (state_of c.self.inside) c.args.entry.now w None waits none) ∙ ap (λ (s : ReplicaState). step_of s c.args.entry.now) c.self.view_is in
+    = sym (step_on (state_of c.self.inside) c.args.entry.now (waiting_in c.in-Some.backlog) None (waits c) (none c)) ∙ ap (λ (s : ReplicaState). step_of s c.args.entry.now) c.self.view_is in
     subst (λ (x : Step). IfOk c.take.result (λ step. step ≡ x)) e c.take.ensures.step
 
 pub returns-in-None-clause-fed : goal.returns-in-None-clause-fed
 returns-in-None-clause-fed c =
-    let w : Waiting = waiting_in c.in-Some.backlog in
-    let waits : (state_of c.self.inside).waiting ≡ Some w = ap (λ (b : Option Backlog). option_map waiting_in b) c.in-Some.is in
-    let none : snapshot_for c.self.inside.start (after_entry w.assembly c.args.entry.now).ended ≡ None
-    = held_none (held_with w.held c.args.number c.args.entry.now) (snapshot_for c.self.inside.start (after_entry w.assembly c.args.entry.now).ended) (sym
-    c.in_ok-restored.ensures ∙ c.in-None.is) in
     on_ok c.take.result (λ is. ap (λ (x : Waiting). record { start = c.self.inside.start; waiting = Some x; contents = c.self.inside.directory }) is
-    ∙ sym (fed_on (state_of c.self.inside) c.args.number c.args.entry.now w None waits none)
+    ∙ sym (fed_on (state_of c.self.inside) c.args.number c.args.entry.now (waiting_in c.in-Some.backlog) None (waits c) (none c))
     ∙ ap (λ (s : ReplicaState). fed s c.args.number c.args.entry.now) c.self.view_is) c.take.ensures.taken
 
 pub returns-in-Some-2-clause-step : goal.returns-in-Some-2-clause-step
@@ -62,11 +61,10 @@ returns-in-Some-2-clause-step c =
 
 pub returns-in-Some-2-clause-fed : goal.returns-in-Some-2-clause-fed
 returns-in-Some-2-clause-fed c =
-    let w : Waiting = waiting_in c.in-Some.backlog in
-    let waits : (state_of c.self.inside).waiting ≡ Some w = ap (λ (b : Option Backlog). option_map waiting_in b) c.in-Some.is in
-    let m = mapped (snapshot_for c.self.inside.start (after_entry w.assembly c.args.entry.now).ended) (λ d. apply_held d (held_with w.held c.args.number
+    let waits : (state_of c.self.inside).waiting ≡ Some (waiting_in c.in-Some.backlog) = ap (λ (b : Option Backlog). option_map waiting_in b) c.in-Some.is in
+    let m = mapped (snapshot_for c.self.inside.start (after_entry (waiting_in c.in-Some.backlog).assembly c.args.entry.now).ended) (λ d. apply_held d (held_with (waiting_in c.in-Some.backlog).held c.args.number
     c.args.entry.now)) c.in-Some-2.directory
     (sym c.in_ok-restored.ensures ∙ c.in-Some-2.is) in
     ap (λ (d : Contents). record { start = c.self.inside.start; waiting = None; contents = d }) (sym m.2)
-    ∙ sym (fed_on (state_of c.self.inside) c.args.number c.args.entry.now w (Some m.0) waits m.1)
+    ∙ sym (fed_on (state_of c.self.inside) c.args.number c.args.entry.now (waiting_in c.in-Some.backlog) (Some m.0) waits m.1)
     ∙ ap (λ (s : ReplicaState). fed s c.args.number c.args.entry.now) c.self.view_is
