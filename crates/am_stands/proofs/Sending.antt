@@ -4,7 +4,7 @@ use Rattle.am_stands.proofs.Words.{take, refl, sym, ap, ◌∙◌, subst, arith,
 use Rattle.am_stands.proofs.Words.{row_of, entry_at, image_at, fold, Packet, Begins, mem, view_of, key, good_begins, key_by, view_small, Group, IsThere}
 use Rattle.am_stands.proofs.Words.{opening, Status, Node, view, is_member, acts, is_sequencer, only_name, has_log, has_departed, own_vote, may_fetch}
 use Rattle.am_stands.proofs.Words.{viewed_by, World, split, and_both, Cause, hears, MayFetch, MayTell, leads, decided, request, spread, bcast, order, ack}
-use Rattle.am_stands.proofs.Words.{nack, hold, join_ask, welcome, leave_ask, gone, invite, vote, fetch, piece, result, logged, IsDecided, AllShown}
+use Rattle.am_stands.proofs.Words.{nack, welcome, leave_ask, gone, vote, fetch, piece, result, logged, IsDecided, AllShown}
 use Rattle.am_stands.proofs.Words.{FetchSays, PacketSays, ResultSays, none, Leads, KeptWhole, ListBegins, as_before, just_begun, Sender, ShowsMore, SaysSo}
 use Rattle.am_stands.proofs.Words.{SentSays}
 use Rattle.am_laws.specs.Letters.{for_ballot, of_promise, accept}

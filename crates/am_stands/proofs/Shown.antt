@@ -2,7 +2,7 @@
 use Rattle.am_stands.proofs.Words.{◌≡◌, ◌≢◌, ◌⊎◌, ⊎_elim, ℕ, ◌<◌, ◌≤◌, ◌==◌, not, List, true, false, Option, Some, None, refl, sym, ap, ◌∙◌, subst, arith}
 use Rattle.am_stands.proofs.Words.{nat_tests, Entry, Vote, Image, Stamp, has, members_of, item_at, mem, view_of, key, Group, IsThere, put2, Kept, put2_cases}
 use Rattle.am_stands.proofs.Words.{Node, Ballot, is_member, own_vote, World, split, and_both, Cause, hears, HasOpen, Balloting, with_more, without_one}
-use Rattle.am_stands.proofs.Words.{as_it_is, NameStands, Stands, VoteTells, VoteSays, FetchSays, PieceSays, own, tells, over, for_ballot, of_promise}
+use Rattle.am_stands.proofs.Words.{as_it_is, NameStands, VoteTells, VoteSays, FetchSays, PieceSays, own, tells, over, for_ballot, of_promise}
 use Rattle.am_stands.proofs.Words.{of_shown, Moves, none, moves, Leads, VotesStand, Grows, ShowsMore}
 use Rattle.am_packet.specs.declared.packet.Packet.TheVariants as packet
 use Rattle.am_chain.specs.Moves as group
